@@ -1,0 +1,243 @@
+//! What the program writes for its input.
+
+use crate::devices::FrameSink;
+use crate::memory::{MemorySink, MemorySource};
+use crate::run::run;
+use std::alloc::Global;
+use std::process::Abort;
+
+// Runs over an input, and compares what is written.
+fn compare(rt: &impl Abort, alloc: Global, input: &[u8], output: &[u8]) {
+    let mut room = [0; 1024];
+    let mut source = MemorySource::new(input);
+    let mut sink = MemorySink::new(&mut room);
+    assert_eq!(rt; run(alloc, &mut source, &mut sink), Ok(()));
+    assert_eq!(rt; sink.written(), output);
+    assert!(rt; sink.flushed());
+}
+
+#[test]
+fn lines(rt: HostRuntime) {
+    let cases: [(&[u8], &[u8]); 8] = [
+        (b"", b""),
+        (b"\n0g\n", b"EthernetII (wire::Error)\n\nnot hex\n\n"),
+        (b"abc\n01 02\n\xff\n", b"not hex\n\nnot hex\n\nnot hex\n\n"),
+        (b"0102", b"EthernetII (wire::Error)\n\n"),
+        (b"0102\r", b"not hex\n\n"),
+        (b"0102\r\n", b"EthernetII (wire::Error)\n\n"),
+        (b"\r\r\n", b"not hex\n\n"),
+        (
+            b"\r\n\n",
+            b"EthernetII (wire::Error)\n\nEthernetII (wire::Error)\n\n",
+        ),
+    ];
+    for (input, output) in cases {
+        compare(&rt, rt.alloc(), input, output);
+    }
+}
+
+#[test]
+fn frames_of_other_types(rt: HostRuntime) {
+    let cases: [(&[u8], &[u8]); 5] = [
+        (
+            b"01020304050611121314151608",
+            b"EthernetII (wire::Error)\n\n",
+        ),
+        (
+            b"FFffFFffFFff0aB0c0D0e0F088A8",
+            b"EthernetII src=0a-b0-c0-d0-e0-f0 dst=ff-ff-ff-ff-ff-ff type=0x88a8\n\
+                again ffffffffffff0ab0c0d0e0f088a8\n\n",
+        ),
+        (
+            b"01020304050611121314151605dc0102",
+            b"EthernetII src=11-12-13-14-15-16 dst=01-02-03-04-05-06 type=0x05dc\n\
+                again 01020304050611121314151605dc0102\n\n",
+        ),
+        (
+            b"010203040506111213141516080600010800060400011112131415162122232431323334353641424344",
+            b"EthernetII src=11-12-13-14-15-16 dst=01-02-03-04-05-06 type=ARP\n\
+                again 010203040506111213141516080600010800060400011112131415162122232431323334353641424344\n\n",
+        ),
+        (
+            b"01020304050611121314151686dd60",
+            b"EthernetII src=11-12-13-14-15-16 dst=01-02-03-04-05-06 type=IPv6\n\
+                again 01020304050611121314151686dd60\n\n",
+        ),
+    ];
+    for (input, output) in cases {
+        compare(&rt, rt.alloc(), input, output);
+    }
+}
+
+#[test]
+fn packets_that_are_read(rt: HostRuntime) {
+    let cases: [(&[u8], &[u8]); 4] = [
+        // Padding is dropped.
+        (
+            b"010203040506111213141516080045000018000040004001d2791112131421222324aa0000ff000000",
+            b"EthernetII src=11-12-13-14-15-16 dst=01-02-03-04-05-06 type=IPv4\n\
+                IPv4 src=17.18.19.20 dst=33.34.35.36 proto=ICMP\n\
+                again 010203040506111213141516080045000018000040004001d2791112131421222324aa0000ff\n\n",
+        ),
+        // So are options, service bits and the identification, and the sum is made anew.
+        (
+            b"010203040506111213141516080046ff001c0102000007fe99df0a0000010a00000201010101deadbeef0000",
+            b"EthernetII src=11-12-13-14-15-16 dst=01-02-03-04-05-06 type=IPv4\n\
+                IPv4 src=10.0.0.1 dst=10.0.0.2 proto=0xfe\n\
+                again 0102030405061112131415160800450000180000400007fe5ee60a0000010a000002deadbeef\n\n",
+        ),
+        // The longest header, with nothing behind it.
+        (
+            b"01020304050611121314151608004f00003c0000000040115caf0a0000010a00000200000000000000000000000000000000000000000000000000000000000000000000000000000000",
+            b"EthernetII src=11-12-13-14-15-16 dst=01-02-03-04-05-06 type=IPv4\n\
+                IPv4 src=10.0.0.1 dst=10.0.0.2 proto=UDP\n\
+                again 01020304050611121314151608004500001400004000401126d70a0000010a000002\n\n",
+        ),
+        (
+            b"01020304050611121314151608004500002c000040004006b778c0a80101c0a80102bf0000500123456700000000500201237a8d0000aa0000ff",
+            b"EthernetII src=11-12-13-14-15-16 dst=01-02-03-04-05-06 type=IPv4\n\
+                IPv4 src=192.168.1.1 dst=192.168.1.2 proto=TCP\n\
+                again 01020304050611121314151608004500002c000040004006b778c0a80101c0a80102bf0000500123456700000000500201237a8d0000aa0000ff\n\n",
+        ),
+    ];
+    for (input, output) in cases {
+        compare(&rt, rt.alloc(), input, output);
+    }
+}
+
+// Whatever is wrong with a datagram of UDP, it is copied as it stands.
+#[test]
+fn datagrams(rt: HostRuntime) {
+    let cases: [(&[u8], &[u8]); 4] = [
+        (
+            b"010203040506111213141516080045000020000040004011b779c0a80101c0a80102bf000035000c124daa0000ff0000000000000000000000000000",
+            b"EthernetII src=11-12-13-14-15-16 dst=01-02-03-04-05-06 type=IPv4\n\
+                IPv4 src=192.168.1.1 dst=192.168.1.2 proto=UDP\n\
+                again 010203040506111213141516080045000020000040004011b779c0a80101c0a80102bf000035000c124daa0000ff\n\n",
+        ),
+        (
+            b"010203040506111213141516080045000020000040004011b779c0a80101c0a80102bf000035000c124eaa0000ff0000000000000000000000000000",
+            b"EthernetII src=11-12-13-14-15-16 dst=01-02-03-04-05-06 type=IPv4\n\
+                IPv4 src=192.168.1.1 dst=192.168.1.2 proto=UDP\n\
+                again 010203040506111213141516080045000020000040004011b779c0a80101c0a80102bf000035000c124eaa0000ff\n\n",
+        ),
+        (
+            b"010203040506111213141516080045000020000040004011b779c0a80101c0a80102bf000035000c8371aa0000ff0000000000000000000000000000",
+            b"EthernetII src=11-12-13-14-15-16 dst=01-02-03-04-05-06 type=IPv4\n\
+                IPv4 src=192.168.1.1 dst=192.168.1.2 proto=UDP\n\
+                again 010203040506111213141516080045000020000040004011b779c0a80101c0a80102bf000035000c8371aa0000ff\n\n",
+        ),
+        (
+            b"010203040506111213141516080045000020000040004011b779c0a80101c0a80102bf000000000c124daa0000ff0000000000000000000000000000",
+            b"EthernetII src=11-12-13-14-15-16 dst=01-02-03-04-05-06 type=IPv4\n\
+                IPv4 src=192.168.1.1 dst=192.168.1.2 proto=UDP\n\
+                again 010203040506111213141516080045000020000040004011b779c0a80101c0a80102bf000000000c124daa0000ff\n\n",
+        ),
+    ];
+    for (input, output) in cases {
+        compare(&rt, rt.alloc(), input, output);
+    }
+}
+
+#[test]
+fn fragments(rt: HostRuntime) {
+    let cases: [(&[u8], &[u8]); 3] = [
+        (
+            b"01020304050611121314151608004500001e010262031a01d56e1112131421222324aa0000000000000000ff",
+            b"EthernetII src=11-12-13-14-15-16 dst=01-02-03-04-05-06 type=IPv4\n\
+                IPv4 src=17.18.19.20 dst=33.34.35.36 proto=ICMP\n\
+                fragment offset=4120 more=true id=258\n\
+                again 01020304050611121314151608004500001e010262031a01d56e1112131421222324aa0000000000000000ff\n\n",
+        ),
+        // The first one, with padding, which stays.
+        (
+            b"010203040506111213141516080045000018000720004001f2721112131421222324aa0000ff00",
+            b"EthernetII src=11-12-13-14-15-16 dst=01-02-03-04-05-06 type=IPv4\n\
+                IPv4 src=17.18.19.20 dst=33.34.35.36 proto=ICMP\n\
+                fragment offset=0 more=true id=7\n\
+                again 010203040506111213141516080045000018000720004001f2721112131421222324aa0000ff00\n\n",
+        ),
+        (
+            b"010203040506111213141516080045000018ffff1fff4001f27a1112131421222324aa0000ff",
+            b"EthernetII src=11-12-13-14-15-16 dst=01-02-03-04-05-06 type=IPv4\n\
+                IPv4 src=17.18.19.20 dst=33.34.35.36 proto=ICMP\n\
+                fragment offset=65528 more=false id=65535\n\
+                again 010203040506111213141516080045000018ffff1fff4001f27a1112131421222324aa0000ff\n\n",
+        ),
+    ];
+    for (input, output) in cases {
+        compare(&rt, rt.alloc(), input, output);
+    }
+}
+
+#[test]
+fn packets_that_are_refused(rt: HostRuntime) {
+    let cases: [(&[u8], &[u8]); 6] = [
+        (
+            b"0102030405061112131415160800",
+            b"EthernetII src=11-12-13-14-15-16 dst=01-02-03-04-05-06 type=IPv4\n\
+                IPv4 (wire::Error)\n\
+                again 0102030405061112131415160800\n\n",
+        ),
+        // One byte short of a header.
+        (
+            b"010203040506111213141516080045000018000040004001d27911121314212223",
+            b"EthernetII src=11-12-13-14-15-16 dst=01-02-03-04-05-06 type=IPv4\n\
+                IPv4 (wire::Error)\n\
+                again 010203040506111213141516080045000018000040004001d27911121314212223\n\n",
+        ),
+        // One byte short of the total length.
+        (
+            b"010203040506111213141516080045000018000040004001d2791112131421222324aa0000",
+            b"EthernetII src=11-12-13-14-15-16 dst=01-02-03-04-05-06 type=IPv4\n\
+                IPv4 (wire::Error) src=17.18.19.20 dst=33.34.35.36 proto=ICMP hop_limit=64 tlen=24 df\n\
+                again 010203040506111213141516080045000018000040004001d2791112131421222324aa0000\n\n",
+        ),
+        // Version 6.
+        (
+            b"010203040506111213141516080065000018000040004001d2791112131421222324aa0000ff",
+            b"EthernetII src=11-12-13-14-15-16 dst=01-02-03-04-05-06 type=IPv4\n\
+                IPv4 (wire::Error) src=17.18.19.20 dst=33.34.35.36 proto=ICMP hop_limit=64 ver=6 tlen=24 df\n\
+                again 010203040506111213141516080065000018000040004001d2791112131421222324aa0000ff\n\n",
+        ),
+        // A header of 16 bytes.
+        (
+            b"010203040506111213141516080044000018000040004001d2791112131421222324aa0000ff",
+            b"EthernetII src=11-12-13-14-15-16 dst=01-02-03-04-05-06 type=IPv4\n\
+                IPv4 (wire::Error) src=17.18.19.20 dst=33.34.35.36 proto=ICMP hop_limit=64 hlen=16 tlen=24 df\n\
+                again 010203040506111213141516080044000018000040004001d2791112131421222324aa0000ff\n\n",
+        ),
+        // A header longer than the packet.
+        (
+            b"010203040506111213141516080047000018000040004001d2791112131421222324aa0000ff",
+            b"EthernetII src=11-12-13-14-15-16 dst=01-02-03-04-05-06 type=IPv4\n\
+                IPv4 (wire::Error) src=17.18.19.20 dst=33.34.35.36 proto=ICMP hop_limit=64 hlen=28 tlen=24 df\n\
+                again 010203040506111213141516080047000018000040004001d2791112131421222324aa0000ff\n\n",
+        ),
+    ];
+    for (input, output) in cases {
+        compare(&rt, rt.alloc(), input, output);
+    }
+}
+
+// The note stands alone: nothing is said of fragments, and nothing is built again.
+#[test]
+fn packets_with_another_checksum(rt: HostRuntime) {
+    let cases: [(&[u8], &[u8]); 2] = [
+        (
+            b"010203040506111213141516080045000020000040004011b778c0a80101c0a80102bf000035000c124daa0000ff0000000000000000000000000000",
+            b"EthernetII src=11-12-13-14-15-16 dst=01-02-03-04-05-06 type=IPv4\n\
+                IPv4 src=192.168.1.1 dst=192.168.1.2 proto=UDP (checksum incorrect)\n\
+                again 010203040506111213141516080045000020000040004011b778c0a80101c0a80102bf000035000c124daa0000ff0000000000000000000000000000\n\n",
+        ),
+        (
+            b"010203040506111213141516080045000018ffff1fff4001f37a1112131421222324aa0000ff",
+            b"EthernetII src=11-12-13-14-15-16 dst=01-02-03-04-05-06 type=IPv4\n\
+                IPv4 src=17.18.19.20 dst=33.34.35.36 proto=ICMP (checksum incorrect)\n\
+                again 010203040506111213141516080045000018ffff1fff4001f37a1112131421222324aa0000ff\n\n",
+        ),
+    ];
+    for (input, output) in cases {
+        compare(&rt, rt.alloc(), input, output);
+    }
+}

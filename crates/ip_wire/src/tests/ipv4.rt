@@ -1,0 +1,187 @@
+//! Views of IPv4 packets.
+
+use super::{FRAGMENT, PACKET, packet_dst, packet_src};
+use crate::{Error, IpProtocol, Ipv4FragKey, Ipv4Packet, Ipv4PacketMut, Ipv4Repr};
+use net_base::ChecksumCapabilities;
+use std::test::Fail;
+
+#[test]
+fn reads_every_field(rt: HostRuntime) -> Result<(), Fail> {
+    let packet = Ipv4Packet::new_checked(&FRAGMENT)?;
+    assert_eq!(rt; packet.version(), 4);
+    assert_eq!(rt; packet.header_len(), 20);
+    assert_eq!(rt; packet.dscp(), 0);
+    assert_eq!(rt; packet.ecn(), 0);
+    assert_eq!(rt; packet.total_len(), 30);
+    assert_eq!(rt; packet.ident(), 0x102);
+    assert!(rt; packet.more_frags());
+    assert!(rt; packet.dont_frag());
+    assert_eq!(rt; packet.frag_offset(), 0x203 * 8);
+    assert_eq!(rt; packet.hop_limit(), 0x1a);
+    assert_eq!(rt; packet.next_header(), IpProtocol::Icmp);
+    assert_eq!(rt; packet.checksum(), 0xd56e);
+    assert_eq!(rt; packet.src_addr(), packet_src());
+    assert_eq!(rt; packet.dst_addr(), packet_dst());
+    assert!(rt; packet.verify_checksum());
+    assert_eq!(rt; packet.payload(), &FRAGMENT[20..]);
+    assert_eq!(rt; packet.as_bytes(), FRAGMENT.as_slice());
+    let copy = packet;
+    assert!(rt; copy.clone()? == Ipv4Packet::new_unchecked(&FRAGMENT));
+    assert_eq!(rt; copy.into_inner(), FRAGMENT.as_slice());
+    Ok(())
+}
+
+#[test]
+fn writes_every_field(rt: HostRuntime) -> Result<(), Fail> {
+    let mut buffer = [0xa5; 30];
+    let mut packet = Ipv4PacketMut::new_unchecked(&mut buffer);
+    packet.set_version(4);
+    packet.set_header_len(20);
+    packet.clear_flags();
+    packet.set_dscp(0);
+    packet.set_ecn(0);
+    packet.set_total_len(30);
+    packet.set_ident(0x102);
+    packet.set_more_frags(true);
+    packet.set_dont_frag(true);
+    packet.set_frag_offset(0x203 * 8);
+    packet.set_hop_limit(0x1a);
+    packet.set_next_header(IpProtocol::Icmp);
+    packet.set_src_addr(packet_src());
+    packet.set_dst_addr(packet_dst());
+    packet.check_len()?;
+    packet.fill_checksum();
+    let payload = packet.payload_mut();
+    assert_eq!(rt; payload.len(), 10);
+    payload.copy_from_slice(&FRAGMENT[20..]);
+    let written: &[u8] = packet.into_inner();
+    assert_eq!(rt; written, FRAGMENT.as_slice());
+    Ok(())
+}
+
+#[test]
+fn reads_what_it_writes(rt: HostRuntime) -> Result<(), Fail> {
+    let mut buffer = FRAGMENT;
+    let mut packet = Ipv4PacketMut::new_checked(&mut buffer)?;
+    packet.set_dscp(0x2e);
+    packet.set_ecn(3);
+    packet.set_more_frags(false);
+    packet.set_checksum(0x1234);
+    assert_eq!(rt; packet.version(), 4);
+    assert_eq!(rt; packet.header_len(), 20);
+    assert_eq!(rt; packet.dscp(), 0x2e);
+    assert_eq!(rt; packet.ecn(), 3);
+    assert_eq!(rt; packet.total_len(), 30);
+    assert_eq!(rt; packet.ident(), 0x102);
+    assert!(rt; !packet.more_frags());
+    assert!(rt; packet.dont_frag());
+    assert_eq!(rt; packet.frag_offset(), 4120);
+    assert_eq!(rt; packet.hop_limit(), 0x1a);
+    assert_eq!(rt; packet.next_header(), IpProtocol::Icmp);
+    assert_eq!(rt; packet.checksum(), 0x1234);
+    assert_eq!(rt; packet.src_addr(), packet_src());
+    assert_eq!(rt; packet.dst_addr(), packet_dst());
+    assert_eq!(rt; packet.get_key().id, 0x102);
+    packet.check_len()?;
+    assert!(rt; !packet.verify_checksum());
+    assert_eq!(rt; packet.as_view().as_bytes(), packet.as_bytes());
+    Ok(())
+}
+
+#[test]
+fn padding_is_no_payload(rt: HostRuntime) -> Result<(), Fail> {
+    let mut buffer = [0; 31];
+    buffer[..30].copy_from_slice(&FRAGMENT);
+    let packet = Ipv4Packet::new_checked(&buffer)?;
+    assert_eq!(rt; packet.payload(), &FRAGMENT[20..]);
+    assert!(rt; packet.more_frags());
+    assert_eq!(rt; packet.frag_offset(), 4120);
+    assert_eq!(rt; packet.ident(), 258);
+    let mut packet = Ipv4PacketMut::new_checked(&mut buffer)?;
+    assert_eq!(rt; packet.payload_mut().len(), 10);
+    Ok(())
+}
+
+#[test]
+fn refuses_less_than_the_packet(rt: HostRuntime) {
+    let mut buffer = FRAGMENT;
+    for len in 0..=30 {
+        let want = if len < 30 { Err(Error) } else { Ok(()) };
+        let bytes = &mut buffer[..len];
+        assert_eq!(rt; Ipv4Packet::new_unchecked(bytes).check_len(), want);
+        assert_eq!(rt; Ipv4Packet::new_checked(bytes).is_ok(), want.is_ok());
+        assert_eq!(rt; Ipv4PacketMut::new_unchecked(bytes).check_len(), want);
+        assert_eq!(rt; Ipv4PacketMut::new_checked(bytes).is_ok(), want.is_ok());
+    }
+}
+
+#[test]
+fn refuses_impossible_lengths(rt: HostRuntime) {
+    for (header, total_len, is_possible) in [
+        (0x45, 30, true),
+        (0x45, 31, false),
+        (0x45, 128, false),
+        (0x45, 20, true),
+        (0x45, 19, false),
+        (0x45, 0, false),
+        (0x47, 28, true),
+        (0x48, 28, false),
+        (0x44, 30, false),
+        (0x40, 30, false),
+    ] {
+        let mut buffer = FRAGMENT;
+        buffer[0] = header;
+        Ipv4PacketMut::new_unchecked(&mut buffer).set_total_len(total_len);
+        assert_eq!(rt; Ipv4Packet::new_checked(&buffer).is_ok(), is_possible);
+    }
+    let mut zeros = [0; 40];
+    zeros[0] = 0x09;
+    assert_eq!(rt; Ipv4Packet::new_unchecked(&zeros).check_len(), Err(Error));
+}
+
+#[test]
+fn keys_tell_packets_apart(rt: HostRuntime) {
+    let key = Ipv4FragKey {
+        id: 0x102,
+        src_addr: packet_src(),
+        dst_addr: packet_dst(),
+        protocol: IpProtocol::Icmp,
+    };
+    assert_eq!(rt; Ipv4Packet::new_unchecked(&FRAGMENT).get_key(), key);
+    let mut buffer = FRAGMENT;
+    let mut packet = Ipv4PacketMut::new_unchecked(&mut buffer);
+    packet.set_src_addr(packet_dst());
+    assert!(rt; key < packet.get_key());
+    packet.set_ident(0x101);
+    assert!(rt; packet.get_key() < key);
+}
+
+#[test]
+fn prints_the_header(rt: HostRuntime) -> Result<(), Fail> {
+    let mut version_6 = PACKET;
+    version_6[0] = 0x65;
+    for (bytes, text) in [
+        (
+            PACKET.as_slice(),
+            "IPv4 src=17.18.19.20 dst=33.34.35.36 proto=ICMP",
+        ),
+        (
+            version_6.as_slice(),
+            "IPv4 (wire::Error) src=17.18.19.20 dst=33.34.35.36 proto=ICMP hop_limit=64 ver=6 tlen=24 df",
+        ),
+        (
+            &PACKET[..23],
+            "IPv4 (wire::Error) src=17.18.19.20 dst=33.34.35.36 proto=ICMP hop_limit=64 tlen=24 df",
+        ),
+        (
+            &FRAGMENT[..29],
+            "IPv4 (wire::Error) src=17.18.19.20 dst=33.34.35.36 proto=ICMP hop_limit=26 tlen=30 df mf off=4120 id=258",
+        ),
+        (&PACKET[..19], "IPv4 (wire::Error)"),
+        (&[], "IPv4 (wire::Error)"),
+    ] {
+        let packet = Ipv4Packet::new_unchecked(bytes);
+        assert_eq!(rt; format!(in rt.alloc(); "{packet}")?.as_str(), text);
+    }
+    Ok(())
+}

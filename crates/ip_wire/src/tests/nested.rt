@@ -1,0 +1,57 @@
+//! Views on what other views lend.
+
+use super::{FRAME_DST, FRAME_SRC, PACKET, packet_dst, packet_src};
+use crate::{
+    EthernetFrame, EthernetFrameMut, EthernetProtocol, EthernetRepr, IpProtocol, Ipv4Packet,
+    Ipv4PacketMut, Ipv4Repr, Result,
+};
+use net_base::ChecksumCapabilities;
+use std::test::Fail;
+
+/// A packet in a frame, with two bytes of padding behind it.
+const FRAME: [u8; 40] = [
+    0x01, 0x02, 0x03, 0x04, 0x05, 0x06, 0x11, 0x12, 0x13, 0x14, 0x15, 0x16, 0x08, 0x00, 0x45, 0x00,
+    0x00, 0x18, 0x00, 0x00, 0x40, 0x00, 0x40, 0x01, 0xd2, 0x79, 0x11, 0x12, 0x13, 0x14, 0x21, 0x22,
+    0x23, 0x24, 0xaa, 0x00, 0x00, 0xff, 0xa5, 0xa5,
+];
+
+#[test]
+fn a_frame_is_written_view_by_view(rt: HostRuntime) -> std::result::Result<(), Fail> {
+    let mut buffer = [0xa5; 40];
+    let mut frame = EthernetFrameMut::new_unchecked(&mut buffer);
+    let header = EthernetRepr {
+        src_addr: FRAME_SRC,
+        dst_addr: FRAME_DST,
+        ethertype: EthernetProtocol::Ipv4,
+    };
+    header.emit(&mut frame);
+    let mut packet = Ipv4PacketMut::new_unchecked(frame.payload_mut());
+    let header = Ipv4Repr {
+        src_addr: packet_src(),
+        dst_addr: packet_dst(),
+        next_header: IpProtocol::Icmp,
+        payload_len: 4,
+        hop_limit: 64,
+    };
+    header.emit(&mut packet, &ChecksumCapabilities::default());
+    packet.check_len()?;
+    let payload = packet.payload_mut();
+    assert_eq!(rt; payload.len(), 4);
+    payload.copy_from_slice(&[0xaa, 0x00, 0x00, 0xff]);
+    assert_eq!(rt; buffer, FRAME);
+    Ok(())
+}
+
+/// What a packet in a frame carries. Both views are gone when it is used.
+fn payload(bytes: &[u8]) -> Result<&[u8]> {
+    let frame = EthernetFrame::new_checked(bytes)?;
+    let packet = Ipv4Packet::new_checked(frame.payload())?;
+    Ok(packet.payload())
+}
+
+#[test]
+fn a_payload_outlives_its_views(rt: HostRuntime) {
+    assert_eq!(rt; payload(&FRAME), Ok(&PACKET[20..]));
+    assert!(rt; payload(&FRAME[..37]).is_err());
+    assert!(rt; payload(&FRAME[..13]).is_err());
+}

@@ -1,0 +1,68 @@
+//! The error, the addresses, and which checksums are left to the library.
+
+use super::{FRAME_DST, FRAME_SRC};
+use crate::{Error, EthernetAddress, IPV4_MIN_MTU, Ipv4Address};
+use net_base::{Checksum, ChecksumCapabilities, Medium};
+use std::alloc::{AllocError, Global};
+use std::error::Error as StdError;
+use std::test::Fail;
+
+/// The text of any error.
+fn printed<E: StdError>(alloc: Global, error: &E) -> Result<String, AllocError> {
+    format!(in alloc; "{error}")
+}
+
+#[test]
+fn the_error_prints_its_path(rt: HostRuntime) -> Result<(), Fail> {
+    assert_eq!(rt; printed(rt.alloc(), &Error)?.as_str(), "wire::Error");
+    Ok(())
+}
+
+#[test]
+fn addresses_are_octets(rt: HostRuntime) -> Result<(), Fail> {
+    let ethernet = EthernetAddress::from_bytes(&[0x02, 0, 0, 0, 0, 0xaf]);
+    assert_eq!(rt; ethernet.as_bytes(), [0x02, 0, 0, 0, 0, 0xaf].as_slice());
+    assert_eq!(rt;
+        format!(in rt.alloc(); "{ethernet}")?.as_str(),
+        "02-00-00-00-00-af"
+    );
+    let ipv4 = Ipv4Address::from_octets([192, 168, 1, 10]);
+    assert_eq!(rt; ipv4, Ipv4Address::new(192, 168, 1, 10));
+    assert_eq!(rt; ipv4.octets(), [192, 168, 1, 10]);
+    assert_eq!(rt; format!(in rt.alloc(); "{ipv4}")?.as_str(), "192.168.1.10");
+    Ok(())
+}
+
+#[test]
+fn addresses_are_ordered_by_octets(rt: HostRuntime) -> Result<(), Fail> {
+    assert!(rt; FRAME_DST < FRAME_SRC);
+    assert!(rt; FRAME_DST == FRAME_DST.clone()?);
+    assert!(rt; Ipv4Address::new(9, 255, 255, 255) < Ipv4Address::new(10, 0, 0, 0));
+    Ok(())
+}
+
+#[test]
+fn checksums_are_left_to_the_library_by_the_table(rt: HostRuntime) {
+    for (checksum, rx, tx) in [
+        (Checksum::Both, true, true),
+        (Checksum::Rx, true, false),
+        (Checksum::Tx, false, true),
+        (Checksum::None, false, false),
+    ] {
+        assert_eq!(rt; checksum.rx(), rx);
+        assert_eq!(rt; checksum.tx(), tx);
+    }
+    assert_eq!(rt; Checksum::default(), Checksum::Both);
+    let all = ChecksumCapabilities::default();
+    let none = ChecksumCapabilities::ignored();
+    assert_eq!(rt;
+        [all.ipv4, all.udp, all.tcp, all.icmpv4, all.icmpv6],
+        [Checksum::Both; 5]
+    );
+    assert_eq!(rt;
+        [none.ipv4, none.udp, none.tcp, none.icmpv4, none.icmpv6],
+        [Checksum::None; 5]
+    );
+    assert!(rt; Medium::Ethernet != Medium::Ip);
+    assert_eq!(rt; IPV4_MIN_MTU, 576);
+}

@@ -1,0 +1,32 @@
+//! Parts of a slice that are lent to be written.
+
+ghost use Rattle.std.specs.Borrow.{sem};
+ghost use Rattle.std.specs.Prelude.{◌≡◌, ◌≤◌, length, slice_range};
+ghost use Rattle.wire_field.specs.Loan.{LendsPart};
+
+use std::slice::from_raw_parts_mut;
+
+/// Bytes, and a range of them: those from `start` up to, but without, `end`.
+#[derive(Drop)]
+pub struct Located<'a> {
+    pub bytes: &'a mut [u8],
+    pub start: usize,
+    pub end: usize,
+}
+
+impl<'a> Located<'a> {
+    /// The bytes of the range, to write to. What is left in them stands there afterwards, and the bytes around them stay.
+    pub fn lend(self) -> &'a mut [u8]
+        requires order { self.start ≤ self.end }
+        requires in_bounds { self.end ≤ length self.bytes.now }
+        ensures* writes_back { sem 𝓛 (LendsPart self.entry.bytes self.entry.start self.entry.end result) }
+        ensures value { result.now ≡ slice_range self.entry.bytes.now self.entry.start self.entry.end }
+    {
+        unsafe {
+            from_raw_parts_mut(
+                self.bytes.as_mut_ptr().add(self.start),
+                self.end - self.start,
+            )
+        }
+    }
+}

@@ -1,0 +1,34 @@
+-- `payload_mut` lends what follows the header. Assumes `Logic`.
+use mathlib.Core.Path.{refl}
+use mathlib.Core.List.{[], ◌∷◌}
+use Prim.Native.Nat.{◌≤◌}
+use lib.ListN.{length}
+use denote.Signature.{static_lft}
+use Rattle.wire_field.proofs.Views.{View, Place, between, lends_located}
+use Rattle.wire_ipv4.specs.Ipv4.{header_len, total_len}
+use Rattle.wire_ipv4.specs.declared.ipv4.packet_mut.Ipv4PacketMut.{Ipv4PacketMut}
+use Rattle.wire_ipv4.specs.contracts.ipv4.packet_mut.Ipv4PacketMut as T
+use Rattle.wire_ipv4.proofs.ipv4.packet_mut.locate_payload.Symbol as locate
+use Rattle.wire_ipv4.proofs.ipv4.packet_mut.locate_payload.Met.{met}
+use Rattle.wire_ipv4.specs.contracts.ipv4.packet_mut.Ipv4PacketMut.payload_mut.Key as key
+use Rattle.wire_ipv4.proofs.ipv4.packet_mut.Ipv4PacketMut.payload_mut.Statement.{statement}
+use Rattle.wire_ipv4.proofs.ipv4.packet_mut.Ipv4PacketMut.payload_mut.Code as code
+
+abbrev view : View
+view = record {
+  name = (T.struct static_lft).name;
+  D = Ipv4PacketMut;
+  buffer = λ packet. packet.buffer;
+  make = λ buffer. record { buffer = buffer };
+  eta = λ packet. refl;
+  beta = λ buffer. refl;
+  propositions = T.the_propositions;
+}
+
+abbrev payload : Place
+payload = between (λ bytes. (4 ≤ length bytes) ∷ (header_len bytes ≤ total_len bytes) ∷ (total_len bytes ≤ length bytes) ∷ []) header_len total_len (λ bytes h. h.1.0) (λ bytes h. h.1.1)
+
+pub payload_mut_spec : {M : Type 1} → statement M
+payload_mut_spec 𝓤 𝓛 𝓜 𝓡 wired =
+    lends_located view payload 𝓛 𝓜 𝓡 locate.name (met 𝓤 𝓛 𝓜 𝓡 (code.calls-wire_ipv4::ipv4::packet_mut::locate_payload 𝓡.env wired))
+    (code.calls-wire_field::lend::Located::lend 𝓡.env wired) key.name (code.unfolded 𝓤 𝓛.H 𝓜 𝓡 wired)

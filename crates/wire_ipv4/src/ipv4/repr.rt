@@ -1,0 +1,101 @@
+//! The values of an IPv4 header.
+
+ghost use Rattle.std.specs.Prelude.{◌≡◌, ◌↔◌, ◌≤◌, ◌++◌, MatchResult, None, Ok, Some, drop, length};
+ghost use Rattle.net_base.specs.Checksum.{computes, verifies};
+ghost use Rattle.wire_ipv4.specs.Ipv4.{Becomes, Reads, bytes_of, header_with, ipv4_of, packet_bytes, packet_bytes_mut};
+ghost use Rattle.wire_ipv4.specs.Ipv4Text.{value_text};
+ghost use Rattle.wire_ipv4.specs.declared.ipv4.repr.Ipv4Repr.{Ipv4Repr};
+
+use super::{IPV4_HEADER_LEN, Ipv4Packet, Ipv4PacketMut};
+use crate::ip_protocol::IpProtocol;
+use net_base::ChecksumCapabilities;
+use std::fmt;
+use wire_addr::{Error, Ipv4Address, Result};
+
+/// The values of a packet's header that are more than its layout: no options, no service bits, no
+/// fragments.
+#[derive(Debug, Clone, Copy, PartialEq, Eq)]
+pub struct Ipv4Repr {
+    pub src_addr: Ipv4Address,
+    pub dst_addr: Ipv4Address,
+    pub next_header: IpProtocol,
+    /// In octets.
+    pub payload_len: usize,
+    pub hop_limit: u8,
+}
+
+impl Ipv4Repr {
+    /// The values of a packet's header. Options are read over, and a fragment is read as any packet.
+    /// The header's checksum is verified where `caps` says so.
+    pub fn parse(packet: &Ipv4Packet<'_>, caps: &ChecksumCapabilities) -> Result<Ipv4Repr>
+        ensures reads { (v : Ipv4Repr) → (result ≡ Ok v) ↔ Reads (packet_bytes packet.now) (verifies caps.now.ipv4) v }
+        ensures value { MatchResult result (λ v. ipv4_of (verifies caps.now.ipv4) (packet_bytes packet.now) ≡ Some v)
+            (λ _. ipv4_of (verifies caps.now.ipv4) (packet_bytes packet.now) ≡ None) }
+    {
+        packet.check_len()?;
+        if packet.version() != 4 {
+            return Err(Error);
+        }
+        if caps.ipv4.rx() && !packet.verify_checksum() {
+            return Err(Error);
+        }
+        Ok(Ipv4Repr {
+            src_addr: packet.src_addr(),
+            dst_addr: packet.dst_addr(),
+            next_header: packet.next_header(),
+            payload_len: usize::from(packet.total_len()) - usize::from(packet.header_len()),
+            hop_limit: packet.hop_limit(),
+        })
+    }
+
+    /// The length of the header that `emit` writes, in octets.
+    pub fn buffer_len(&self) -> usize
+        ensures { result ≡ 20 }
+    {
+        IPV4_HEADER_LEN
+    }
+
+    /// Writes the header, and leaves what follows it. The flag "don't fragment" is set, and the
+    /// checksum is computed where `caps` says so, else 0.
+    pub fn emit(&self, packet: &mut Ipv4PacketMut<'_>, caps: &ChecksumCapabilities)
+        requires room { 20 ≤ length (packet_bytes_mut packet.old) }
+        requires payload_len { self.now.payload_len ≤ 65515 }
+        ensures { Becomes packet.old packet.new (bytes_of self.now (computes caps.now.ipv4) ++ drop 20 (packet_bytes_mut packet.old)) }
+    {
+        self.emit_unsummed(packet);
+        if caps.ipv4.tx() {
+            packet.fill_checksum();
+        }
+    }
+
+    // Writes the header with a checksum of 0.
+    fn emit_unsummed(self, packet: &mut Ipv4PacketMut<'_>)
+        requires room { 20 ≤ length (packet_bytes_mut packet.old) }
+        requires payload_len { self.payload_len ≤ 65515 }
+        ensures { Becomes packet.old packet.new (header_with self 0 ++ drop 20 (packet_bytes_mut packet.old)) }
+    {
+        packet.set_version(4);
+        packet.set_header_len(20);
+        packet.set_dscp(0);
+        packet.set_ecn(0);
+        packet.set_total_len((IPV4_HEADER_LEN + self.payload_len) as u16);
+        packet.set_ident(0);
+        packet.set_frag_offset(0);
+        packet.clear_flags();
+        packet.set_dont_frag(true);
+        packet.set_hop_limit(self.hop_limit);
+        packet.set_next_header(self.next_header);
+        packet.set_src_addr(self.src_addr);
+        packet.set_dst_addr(self.dst_addr);
+        packet.set_checksum(0);
+    }
+}
+
+impl fmt::Display for Ipv4Repr {
+    ghost output = { λ v. Some (value_text v) };
+
+    fn fmt<W: fmt::Write>(&self, f: &mut fmt::Formatter<W>) -> fmt::Result {
+        let (src, dst, protocol) = (self.src_addr, self.dst_addr, self.next_header);
+        write!(f, "IPv4 src={src} dst={dst} proto={protocol}")
+    }
+}
