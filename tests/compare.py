@@ -1,0 +1,91 @@
+#!/usr/bin/env python3
+"""Feeds generated lines to two programs and shows the first difference.
+
+tests/compare.py PROGRAM SEED LINES REFERENCE [WORD..]
+
+The lines are made of the recorded frames and of random ones, with fields, bytes and
+lengths changed. Each seed gives its own lines, the same in each run.
+"""
+import random
+import subprocess
+import sys
+
+import record
+
+BLOCKS = 10000
+
+
+def changed(rng, frame):
+    """The frame with a few bytes changed, cut off or put behind."""
+    frame = bytearray(frame)
+    for _ in range(rng.choice([0, 1, 1, 2, 5])):
+        if frame:
+            frame[rng.randrange(len(frame))] = rng.choice([0, 1, 0xFF, rng.randrange(256)])
+    if rng.random() < 0.2:
+        del frame[rng.randrange(len(frame) + 1) :]
+    if rng.random() < 0.2:
+        frame += rng.randbytes(rng.randrange(20))
+    return bytes(frame)
+
+
+def random_packet(rng):
+    """An IPv4 packet with random fields, mostly a right one."""
+    options = rng.randbytes(4 * rng.choice([0, 0, 0, 1, 2, 10]))
+    fields = dict(options=options, hop_limit=rng.randrange(256), protocol=rng.choice([1, 6, 17, rng.randrange(256)]),
+                  ident=rng.randrange(65536), service=rng.choice([0, rng.randrange(256)]),
+                  flags=rng.choice([0, 0x4000, 0x4000, 0x2000, rng.randrange(65536)]),
+                  src=rng.randbytes(4), dst=rng.randbytes(4))
+    if rng.random() < 0.1:
+        fields["checksum"] = rng.randrange(65536)
+    if rng.random() < 0.1:
+        fields["total"] = rng.randrange(100)
+    payload = rng.randbytes(rng.choice([0, 1, 2, 3, 20, 46, rng.randrange(300)]))
+    return record.packet(payload, padding=rng.randbytes(rng.choice([0, 0, 1, 14])), **fields)
+
+
+def corpus(seed, lines):
+    rng = random.Random(seed)
+    known = [frame for make in record.FILES for frame in make() if len(frame) < 300]
+    odd = list(record.bytes_lines())
+    for _ in range(lines):
+        kind = rng.random()
+        if kind < 0.01:
+            yield rng.choice(odd)
+        elif kind < 0.03:
+            yield rng.randbytes(rng.randrange(40)).replace(b"\n", b"")
+        else:
+            frame = random_packet(rng) if kind < 0.6 else rng.choice(known)
+            text = (frame if kind < 0.3 else changed(rng, frame)).hex().encode()
+            yield (text.upper() if rng.random() < 0.05 else text) + (b"\r" if rng.random() < 0.05 else b"")
+
+
+def blocks(command, text):
+    try:
+        output = subprocess.run(command, input=text, stdout=subprocess.PIPE, check=True).stdout
+    except (OSError, subprocess.CalledProcessError) as error:
+        sys.exit(f"compare: {command[0]} fails: {error}")
+    return output.split(b"\n\n")
+
+
+def main():
+    try:
+        program, seed, lines, reference = sys.argv[1], int(sys.argv[2]), int(sys.argv[3]), sys.argv[4:]
+    except (IndexError, ValueError):
+        sys.exit(__doc__.strip())
+    if not reference:
+        sys.exit("compare: no reference program is named")
+    made = list(corpus(seed, lines))
+    for at in range(0, len(made), BLOCKS):
+        part = made[at : at + BLOCKS]
+        text = b"".join(line + b"\n" for line in part)
+        ours, theirs = blocks([program], text), blocks(reference, text)
+        for line, one, other in zip(part, ours, theirs):
+            if one != other:
+                sys.exit(f"line\n{line!r}\n{program} prints\n{one.decode()}\nthe reference prints\n{other.decode()}")
+        if ours != theirs:
+            sys.exit(f"the outputs differ in length: {len(ours)} and {len(theirs)} blocks")
+    print(f"{len(made)} lines, no difference")
+
+
+if __name__ == "__main__":
+    main()

@@ -1,0 +1,205 @@
+#!/usr/bin/env python3
+"""Makes the recorded cases anew: tests/record.py REFERENCE [WORD..]
+
+Writes tests/cases/NAME.hex, the frames as hex lines, and beside each NAME.txt, what the
+program REFERENCE (given the WORDs) prints for them. The frames are the same in each run.
+"""
+import os
+import subprocess
+import sys
+
+CASES = os.path.join(os.path.dirname(os.path.abspath(__file__)), "cases")
+
+DST = bytes.fromhex("020000000002")
+SRC = bytes.fromhex("020000000001")
+IPV4 = 0x0800
+HOST_A = bytes([192, 0, 2, 1])
+HOST_B = bytes([192, 0, 2, 2])
+
+
+def word_sum(data):
+    """The one's complement sum of 16-bit words (RFC 1071)."""
+    data += b"\0" * (len(data) % 2)
+    total = sum(int.from_bytes(data[i : i + 2], "big") for i in range(0, len(data), 2))
+    while total >> 16:
+        total = (total & 0xFFFF) + (total >> 16)
+    return total
+
+
+def ethernet(ethertype, payload=b"", dst=DST, src=SRC):
+    return dst + src + ethertype.to_bytes(2, "big") + payload
+
+
+def header(payload_len=4, version=4, words=None, service=0, total=None, ident=0, flags=0x4000,
+           hop_limit=64, protocol=1, checksum=None, src=HOST_A, dst=HOST_B, options=b""):
+    """An IPv4 header (RFC 791, section 3.1), right where nothing else is asked for."""
+    words = 5 + len(options) // 4 if words is None else words
+    total = 20 + len(options) + payload_len if total is None else total
+    front = bytes([version << 4 | words, service]) + total.to_bytes(2, "big") + ident.to_bytes(2, "big")
+    front += flags.to_bytes(2, "big") + bytes([hop_limit, protocol])
+    if checksum is None:
+        checksum = 0xFFFF - word_sum(front + b"\0\0" + src + dst + options)
+    return front + checksum.to_bytes(2, "big") + src + dst + options
+
+
+DATA = bytes.fromhex("aa0000ff")
+
+
+def packet(payload=DATA, padding=b"", **fields):
+    return ethernet(IPV4, header(len(payload), **fields) + payload + padding)
+
+
+def octets(n, start=0):
+    return bytes((start + 7 * i) % 256 for i in range(n))
+
+
+def shapes():
+    yield packet()
+    for n in [0, 1, 2, 3, 8, 26, 46, 64, 100, 255, 256]:
+        yield packet(octets(n))
+    yield packet(octets(1480))
+    for protocol in range(256):
+        yield packet(protocol=protocol)
+    for service in [1, 2, 3, 4, 0x10, 0xB8, 0xFC, 0xFF]:
+        yield packet(service=service)
+    for hop_limit in [0, 1, 2, 128, 255]:
+        yield packet(hop_limit=hop_limit)
+    for ident in [1, 0xFF, 0x100, 0xFFFF]:
+        yield packet(ident=ident)
+    for address in ["00000000", "ffffffff", "7f000001", "e0000001", "0a000001", "01020304", "64c8ff09"]:
+        yield packet(src=bytes.fromhex(address))
+        yield packet(dst=bytes.fromhex(address))
+    for address in ["ffffffffffff", "000000000000", "01005e000001", "abcdef012345"]:
+        yield ethernet(IPV4, header() + DATA, dst=bytes.fromhex(address))
+        yield ethernet(IPV4, header() + DATA, src=bytes.fromhex(address))
+
+
+def truncations():
+    for frame in [packet(), packet(octets(10), ident=258, flags=0x2203, hop_limit=26),
+                  packet(options=bytes.fromhex("94040000"), padding=b"\0" * 6), packet(octets(26), version=6),
+                  packet(octets(26), options=octets(40, 7)), packet(octets(8), service=3, checksum=0),
+                  ethernet(0x0806, octets(28)), ethernet(0x86DD, octets(48))]:
+        for n in range(len(frame)):
+            yield frame[:n]
+
+
+def versions_and_lengths():
+    for version in range(16):
+        yield packet(version=version)
+    for words in range(16):
+        yield packet(words=words)
+        yield packet(octets(60), words=words)
+        yield packet(octets(60), words=words, checksum=0)
+    for total in list(range(32)) + [0x1800, 0x7FFF, 0x8000, 0xFFFF]:
+        yield packet(total=total)
+    for total in range(18, 44):
+        yield packet(options=octets(12, 1), payload=octets(8), total=total)
+
+
+def options():
+    for n in range(4, 44, 4):
+        yield packet(options=octets(n, 7))
+        yield packet(options=octets(n, 7), payload=b"")
+        yield packet(options=octets(n, 7), padding=octets(5))
+        yield packet(options=octets(n, 7), checksum=0x1234)
+    for option in ["01010101", "00000000", "94040000", "8304017f", "07030400", "83ffffff"]:
+        yield packet(options=bytes.fromhex(option))
+
+
+def fragments():
+    for flags in range(0, 0x10000, 0x2000):
+        for offset in [0, 1, 2, 0x203, 0xFFF, 0x1000, 0x1FFE, 0x1FFF]:
+            yield packet(octets(16), flags=flags | offset, ident=258)
+    for ident in [0, 1, 0x8000, 0xFFFF]:
+        yield packet(flags=0x2000, ident=ident)
+        yield packet(flags=0x0001, ident=ident, options=bytes.fromhex("94040000"), padding=b"\0\0")
+    yield packet(flags=0x2000, checksum=0)
+    yield packet(flags=0x2001, version=5)
+
+
+def checksums():
+    right = packet()
+    for bit in range(160):
+        frame = bytearray(right)
+        frame[14 + bit // 8] ^= 0x80 >> bit % 8
+        yield bytes(frame)
+    for checksum in [0, 1, 0x00FF, 0xFF00, 0xFFFE, 0xFFFF]:
+        yield packet(checksum=checksum)
+    for protocol in [6, 17]:
+        yield packet(protocol=protocol, checksum=0)
+    # The sum of these headers without their checksum is ffff, so the checksum is 0 or ffff.
+    for low in range(0x10000):
+        if word_sum(header(ident=low, checksum=0)) == 0xFFFF:
+            for checksum in [0, 0xFFFF, 1]:
+                yield packet(ident=low, checksum=checksum)
+    for n in range(64):
+        yield packet(octets(n), ident=1009 * n % 65536, hop_limit=n, src=octets(4, n), dst=octets(4, 3 * n))
+
+
+def bits():
+    """Each bit of a frame turned, with the checksum as it was."""
+    for frame in [packet(options=bytes.fromhex("94040000")), packet(flags=0x2010)[:34]]:
+        for bit in range(8 * len(frame)):
+            turned = bytearray(frame)
+            turned[bit // 8] ^= 0x80 >> bit % 8
+            yield bytes(turned)
+
+
+def padding():
+    for n in range(48):
+        yield packet(padding=b"\0" * n)
+        yield packet(octets(3), padding=octets(n, 200))
+    for n in [1, 6, 18]:
+        yield packet(b"", padding=octets(n))
+        yield packet(flags=0x2000, padding=octets(n))
+        yield packet(checksum=0, padding=octets(n))
+
+
+def types():
+    inner = header() + DATA
+    for ethertype in [0, 1, 46, 1500, 0x0600, 0x07FF, 0x0801, 0x0805, 0x0807, 0x0842, 0x8035, 0x8100, 0x8137,
+                      0x86DC, 0x86DE, 0x8808, 0x8847, 0x8863, 0x8864, 0x888E, 0x88A8, 0x88CC, 0x9100, 0xFFFF]:
+        yield ethernet(ethertype)
+        yield ethernet(ethertype, inner)
+    for bit in range(16):
+        yield ethernet(IPV4 ^ 1 << bit, inner)
+    # 802.1Q: the tag is not taken apart.
+    yield ethernet(0x8100, bytes.fromhex("00050800") + inner)
+    for n in range(16):
+        yield octets(n, 3)
+
+
+def bytes_lines():
+    """Lines that are no hex, or hex of another look. The line feeds are part of the case."""
+    frame = packet().hex().encode()
+    yield from [b"", b"0", b"0g", b"g0", b"abc", b"01 02", b"0x01", b"\xff", b"\xc3\xa9", b"01,02", b"-1", b"\t"]
+    yield from [frame.upper(), frame[:20].upper() + frame[20:], frame + b"0", frame + b" ", b" " + frame, frame[:-1]]
+    yield from [frame + b"\r", b"\r", b"\r\r", frame + b"\r\r", b"01\r02", frame[:28] + b"\r", b"\0\0", b"00" * 14]
+    yield from [b"00" * 13, b"00" * 15, b"ff" * 14, b"Ff" * 20, b"zz" * 14, b"0" * 2001, frame * 3]
+
+
+FILES = [shapes, truncations, versions_and_lengths, options, fragments, checksums, bits, padding, types]
+
+
+def main():
+    if len(sys.argv) < 2:
+        sys.exit(__doc__.strip())
+    os.makedirs(CASES, exist_ok=True)
+    files = {make.__name__: b"".join(frame.hex().encode() + b"\n" for frame in make()) for make in FILES}
+    files["lines"] = b"".join(line + b"\n" for line in bytes_lines())
+    files["no_last_line_feed"] = packet().hex().encode()
+    files["nothing"] = b""
+    for name, text in files.items():
+        try:
+            run = subprocess.run(sys.argv[1:], input=text, stdout=subprocess.PIPE, check=True)
+        except (OSError, subprocess.CalledProcessError) as error:
+            sys.exit(f"record: the reference fails: {error}")
+        with open(f"{CASES}/{name}.hex", "wb") as file:
+            file.write(text)
+        with open(f"{CASES}/{name}.txt", "wb") as file:
+            file.write(run.stdout)
+        print(f"{name}: {len(text.splitlines())} lines")
+
+
+if __name__ == "__main__":
+    main()
