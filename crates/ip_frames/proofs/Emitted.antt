@@ -2,23 +2,18 @@
 use Rattle.std.proofs.Common.{◌≡◌, ℕ, ◌+◌, ◌-◌, List, ◌++◌, drop, length, replicate, take, ap, refl, ◌∙◌, arith}
 use Rattle.std.proofs.lemmas.Grind.{common_steps}
 
+-- bytes with room for so many more
+pub take-replicate-room : (old : List ℕ) (start size count : ℕ) → start ≡ length old → start ≡ count
+    → take (start + size) old ++ replicate (start + size - count) 0 ≡ old ++ replicate size 0
+take-replicate-room old start size count s c =
+    let more : start + size - count ≡ size = omega arith in
+    let all : take (start + size) old ≡ old = grind (arith, common_steps) in
+    rw (more, all) refl
+
 -- the bytes from the room on, with a header in its place
 behind_room : (old room payload bytes : List ℕ) (start size : ℕ) → bytes ≡ (old ++ room) ++ payload → start ≡ length old
     → length room ≡ size → drop size (take (length bytes - start) (drop start bytes)) ≡ payload
 behind_room old room payload bytes start size e s l = grind (arith, common_steps)
-
--- bytes that were filled up with room, and then with a payload
-pub filled : (old grown bytes payload : List ℕ) (start len room : ℕ) → start ≡ length old → len ≡ length old
-    → grown ≡ take (start + room) old ++ replicate (start + room - len) 0 → bytes ≡ grown ++ payload → bytes ≡ (old ++ replicate room 0) ++ payload
-filled old grown bytes payload start len room s l g b =
-    let all : take (start + room) old ≡ old = grind (arith, common_steps) in
-    let more : start + room - len ≡ room = omega arith in
-    b ∙ ap (λ w. w ++ payload) (g ∙ rw (all, more) refl)
-
--- how much stands behind the room
-pub length-behind_room : (old room payload bytes : List ℕ) (start size n : ℕ) → bytes ≡ (old ++ room) ++ payload → start ≡ length old
-    → length room ≡ size → n ≡ length bytes → n - start - size ≡ length payload
-length-behind_room old room payload bytes start size n e s l h = grind (arith, common_steps)
 
 -- bytes whose end was written over, with whatever lies behind them
 take-written_over : (bytes new past : List ℕ) (start len : ℕ) → len ≡ length bytes → start + length new ≡ len
