@@ -112,13 +112,13 @@ module _ (V : View) where
     beta = λ v g. ap (λ (h : MutBor (List ℕ)). (h, tt)) (V.beta v.0);
   }
 
-  abbrev type : NamedLft → Declared
+  abbrev pub type : NamedLft → Declared
   type a = declared (struct a) V.propositions
 
   abbrev pub row : NamedLft → RattleType
   row a = row_of (type a)
 
-  abbrev laws : (a : NamedLft) → LL.Laws (type a)
+  abbrev pub laws : (a : NamedLft) → LL.Laws (type a)
   laws a = (LL.mut_slice_laws a u8 tt, tt)
 
   abbrev loose : (a : NamedLft) → Looses (type a).parts
@@ -141,7 +141,7 @@ module _ (V : View) where
   stored x = stored_value x ∷ []
 
   -- the type at which the body sees a view
-  abbrev seen : Ty
+  abbrev pub seen : Ty
   seen = ty_struct V.name (tcons (slice_ty (ty_ref erased mut (ty_int w8))) tnil)
 
 -- Where a method's part stands in the slice, under the method's conditions: from first up to last. The method's contract speaks of the part as `part`, and of

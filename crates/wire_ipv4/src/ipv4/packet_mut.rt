@@ -3,7 +3,7 @@
 ghost use Rattle.std.specs.Prelude.{◌≡◌, ◌↔◌, ◌≤◌, ◌<◌, ◌-◌, ◌/◌, if◌then◌else◌, IfOk, IsOk, IsTrue, length, slice_range, take};
 ghost use Rattle.std.specs.Borrow.{sem};
 ghost use Rattle.wire_field.specs.Field.{field, with_field, with_range};
-ghost use Rattle.wire_field.specs.Loan.{Holds, Locates};
+ghost use Rattle.wire_field.specs.Loan.{Checks, Holds, Locates, StaysIfErr};
 ghost use Rattle.wire_ipv4.specs.Ipv4.{Becomes, HasLengths, fragment_offset, header_len, key_of, packet_bytes, packet_bytes_mut, packet_slice, total_len, with_checksum};
 ghost use Rattle.wire_ipv4.specs.Ipv4Loan.{LendsPayload};
 ghost use Rattle.wire_ipv4.specs.Protocol.{number_of, protocol_of};
@@ -13,8 +13,8 @@ use super::{Ipv4FragKey, Ipv4Packet};
 use crate::checksum;
 use crate::ip_protocol::IpProtocol;
 use byteorder::{ByteOrder, NetworkEndian};
-use wire_addr::{Ipv4Address, Result};
-use wire_field::{Located, replace_bits_u16, set_bits};
+use wire_addr::{Error, Ipv4Address, Result};
+use wire_field::{Checked, Located, replace_bits_u16, set_bits};
 
 /// A view of the bytes of a packet that writes to them. Its calls ask for the bytes that they use, and
 /// for no more.
@@ -33,11 +33,18 @@ impl<'a> Ipv4PacketMut<'a> {
 
     /// The view of bytes that `check_len` takes. An error leaves them as they are.
     pub fn new_checked(buffer: &'a mut [u8]) -> Result<Ipv4PacketMut<'a>>
+        ensures* refused { sem 𝓛 (StaysIfErr buffer.entry packet_slice result) }
         ensures ok { IsOk result ↔ HasLengths buffer.old }
         ensures bytes { IfOk result (λ packet. Holds buffer.entry (packet_slice packet) buffer.old) }
     {
-        Ipv4Packet::new_checked(buffer)?;
-        Ok(Ipv4PacketMut { buffer })
+        let checked = check(buffer);
+        if checked.ok {
+            Ok(Ipv4PacketMut {
+                buffer: checked.bytes,
+            })
+        } else {
+            Err(Error)
+        }
     }
 
     /// Whether the bytes hold a whole header, and as many bytes as it speaks of. Then each call of
@@ -343,6 +350,14 @@ impl<'a> Ipv4PacketMut<'a> {
         let sum = checksum::data(&self.as_bytes()[..header_len]);
         self.set_checksum(!sum);
     }
+}
+
+// Whether the bytes hold a whole header, and as many bytes as it speaks of.
+fn check(bytes: &mut [u8]) -> Checked<'_>
+    ensures { Checks bytes.entry (HasLengths bytes.old) result }
+{
+    let ok = Ipv4Packet::new_checked(bytes).is_ok();
+    Checked { bytes, ok }
 }
 
 // Where the payload stands in the bytes of a packet.

@@ -1,29 +1,15 @@
 -- `payload_mut` lends what follows the header. Assumes `Logic`.
-use mathlib.Core.Path.{refl}
 use mathlib.Core.List.{[], ◌∷◌}
 use Prim.Native.Nat.{◌≤◌}
 use lib.ListN.{length}
-use denote.Signature.{static_lft}
-use Rattle.wire_field.proofs.Views.{View, Place, between, lends_located}
+use Rattle.wire_field.proofs.Views.{Place, between, lends_located}
 use Rattle.wire_ipv4.specs.Ipv4.{header_len, total_len}
-use Rattle.wire_ipv4.specs.declared.ipv4.packet_mut.Ipv4PacketMut.{Ipv4PacketMut}
-use Rattle.wire_ipv4.specs.contracts.ipv4.packet_mut.Ipv4PacketMut as T
+use Rattle.wire_ipv4.proofs.Viewed.{view}
 use Rattle.wire_ipv4.proofs.ipv4.packet_mut.locate_payload.Symbol as locate
 use Rattle.wire_ipv4.proofs.ipv4.packet_mut.locate_payload.Met.{met}
 use Rattle.wire_ipv4.specs.contracts.ipv4.packet_mut.Ipv4PacketMut.payload_mut.Key as key
 use Rattle.wire_ipv4.proofs.ipv4.packet_mut.Ipv4PacketMut.payload_mut.Statement.{statement}
 use Rattle.wire_ipv4.proofs.ipv4.packet_mut.Ipv4PacketMut.payload_mut.Code as code
-
-abbrev view : View
-view = record {
-  name = (T.struct static_lft).name;
-  D = Ipv4PacketMut;
-  buffer = λ packet. packet.buffer;
-  make = λ buffer. record { buffer = buffer };
-  eta = λ packet. refl;
-  beta = λ buffer. refl;
-  propositions = T.the_propositions;
-}
 
 abbrev payload : Place
 payload = between (λ bytes. (4 ≤ length bytes) ∷ (header_len bytes ≤ total_len bytes) ∷ (total_len bytes ≤ length bytes) ∷ []) header_len total_len (λ bytes h. h.1.0) (λ bytes h. h.1.1)
