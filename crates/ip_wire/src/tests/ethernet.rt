@@ -1,8 +1,12 @@
 //! Frames of Ethernet.
 
+ghost use Rattle.std.specs.Prelude.{◌≡◌, ◌+◌, length};
+ghost use Rattle.wire_link.specs.Ethernet.{frame_bytes_mut};
+
 use super::{FRAME_DST, FRAME_SRC};
 use crate::{
-    ETHERNET_HEADER_LEN, Error, EthernetFrame, EthernetFrameMut, EthernetProtocol, EthernetRepr,
+    ETHERNET_HEADER_LEN, Error, EthernetAddress, EthernetFrame, EthernetFrameMut, EthernetProtocol,
+    EthernetRepr,
 };
 use std::test::Fail;
 
@@ -38,17 +42,30 @@ fn reads_every_field(rt: HostRuntime) -> Result<(), Fail> {
         (IPV6_FRAME.as_slice(), EthernetProtocol::Ipv6),
     ] {
         let frame = EthernetFrame::new_checked(bytes)?;
-        assert_eq!(rt; frame.dst_addr(), FRAME_DST);
-        assert_eq!(rt; frame.src_addr(), FRAME_SRC);
-        assert_eq!(rt; frame.ethertype(), ethertype);
+        let fields = (frame.dst_addr(), frame.src_addr(), frame.ethertype());
+        assert_eq!(rt; fields, (FRAME_DST, FRAME_SRC, ethertype));
         assert_eq!(rt; frame.payload(), &bytes[14..]);
-        assert_eq!(rt; frame.as_bytes(), bytes);
         assert_eq!(rt; EthernetRepr::parse(&frame), Ok(header(ethertype)));
-        let copy = frame;
-        assert!(rt; copy.clone()? == EthernetFrame::new_unchecked(bytes));
-        assert_eq!(rt; copy.into_inner(), bytes);
+        assert_eq!(rt; frame.as_bytes(), bytes);
+        assert_eq!(rt; frame.into_inner(), bytes);
     }
     Ok(())
+}
+
+/// Writes a frame, and gives what the getters say of it then.
+fn write(
+    frame: &mut EthernetFrameMut<'_>,
+    ethertype: EthernetProtocol,
+    payload: &[u8],
+) -> (EthernetAddress, EthernetAddress, EthernetProtocol)
+    requires { length (frame_bytes_mut frame.old) ≡ 14 + length payload.now }
+{
+    frame.set_dst_addr(FRAME_DST);
+    frame.set_src_addr(FRAME_SRC);
+    frame.set_ethertype(ethertype);
+    let fields = (frame.dst_addr(), frame.src_addr(), frame.ethertype());
+    frame.payload_mut().copy_from_slice(payload);
+    fields
 }
 
 #[test]
@@ -58,16 +75,11 @@ fn writes_every_field(rt: HostRuntime) -> Result<(), Fail> {
         (IPV6_FRAME.as_slice(), EthernetProtocol::Ipv6),
     ] {
         let mut buffer = [0xa5; 64];
-        assert!(rt; 14 <= bytes.len() && bytes.len() <= 64);
+        assert!(rt; bytes.len() <= 64);
         let mut frame = EthernetFrameMut::new_checked(&mut buffer[..bytes.len()])?;
-        frame.set_dst_addr(FRAME_DST);
-        frame.set_src_addr(FRAME_SRC);
-        frame.set_ethertype(ethertype);
-        assert_eq!(rt; frame.dst_addr(), FRAME_DST);
-        assert_eq!(rt; frame.src_addr(), FRAME_SRC);
-        assert_eq!(rt; frame.ethertype(), ethertype);
-        frame.payload_mut().copy_from_slice(&bytes[14..]);
-        assert_eq!(rt; frame.as_view(), EthernetFrame::new_unchecked(bytes));
+        let fields = write(&mut frame, ethertype, &bytes[14..]);
+        assert_eq!(rt; fields, (FRAME_DST, FRAME_SRC, ethertype));
+        assert!(rt; frame.as_view() == EthernetFrame::new_unchecked(bytes));
         assert_eq!(rt; frame.as_bytes(), bytes);
         let written: &[u8] = frame.into_inner();
         assert_eq!(rt; written, bytes);

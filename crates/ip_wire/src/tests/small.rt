@@ -30,13 +30,7 @@ fn addresses_are_octets(rt: HostRuntime) -> Result<(), Fail> {
     assert_eq!(rt; ipv4, Ipv4Address::new(192, 168, 1, 10));
     assert_eq!(rt; ipv4.octets(), [192, 168, 1, 10]);
     assert_eq!(rt; format!(in rt.alloc(); "{ipv4}")?.as_str(), "192.168.1.10");
-    Ok(())
-}
-
-#[test]
-fn addresses_are_ordered_by_octets(rt: HostRuntime) -> Result<(), Fail> {
     assert!(rt; FRAME_DST < FRAME_SRC);
-    assert!(rt; FRAME_DST == FRAME_DST.clone()?);
     assert!(rt; Ipv4Address::new(9, 255, 255, 255) < Ipv4Address::new(10, 0, 0, 0));
     Ok(())
 }

@@ -3,8 +3,8 @@ use Rattle.ip_wire.proofs.Settles.{value}
 use Rattle.ip_wire.specs.Frame.{meaning_of}
 use Rattle.ip_wire.proofs.laws.meaning_is_read.Goals as goal
 
-pub returns-clause-read : goal.returns-clause-read
-returns-clause-read c = meaning_of-read c.args.frame.now
+pub returns-clause-means : goal.returns-clause-means
+returns-clause-means c = meaning_of-read c.args.frame.now
 
 pub returns-clause-only : goal.returns-clause-only
 returns-clause-only c = λ whole.
