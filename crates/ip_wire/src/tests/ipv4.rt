@@ -97,8 +97,6 @@ fn writes_every_field(rt: HostRuntime) -> Result<(), Fail> {
     let payload = packet.payload_mut();
     assert_eq!(rt; payload.len(), 10);
     payload.copy_from_slice(&FRAGMENT[20..]);
-    assert_eq!(rt; packet.as_bytes(), FRAGMENT.as_slice());
-    assert!(rt; packet.as_view() == Ipv4Packet::new_unchecked(&FRAGMENT));
     let written: &[u8] = packet.into_inner();
     assert_eq!(rt; written, FRAGMENT.as_slice());
     Ok(())
@@ -132,9 +130,8 @@ fn padding_is_no_payload(rt: HostRuntime) -> Result<(), Fail> {
     buffer[..30].copy_from_slice(&FRAGMENT);
     let packet = Ipv4Packet::new_checked(&buffer)?;
     assert_eq!(rt; packet.payload(), &FRAGMENT[20..]);
-    assert!(rt; packet.more_frags());
-    assert_eq!(rt; packet.frag_offset(), 4120);
-    assert_eq!(rt; packet.ident(), 258);
+    let fragment = (packet.more_frags(), packet.frag_offset(), packet.ident());
+    assert_eq!(rt; fragment, (true, 4120, 258));
     let mut packet = Ipv4PacketMut::new_checked(&mut buffer)?;
     assert_eq!(rt; packet.payload_mut().len(), 10);
     Ok(())

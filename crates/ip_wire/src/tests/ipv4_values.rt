@@ -39,20 +39,13 @@ fn reads_what_no_version_and_no_checksum_forbids(rt: HostRuntime) {
 }
 
 #[test]
-fn writes_a_header_and_leaves_the_rest(rt: HostRuntime) -> Result<(), Fail> {
+fn writes_a_header_and_leaves_the_rest(rt: HostRuntime) {
     let caps = ChecksumCapabilities::default();
     let mut buffer = [0xa5; 24];
-    let mut packet = Ipv4PacketMut::new_unchecked(&mut buffer);
-    header().emit(&mut packet, &caps);
-    assert_eq!(rt; &packet.as_bytes()[..20], &PACKET[..20]);
-    assert_eq!(rt; &packet.as_bytes()[20..], [0xa5; 4].as_slice());
-    packet.check_len()?;
-    let payload = packet.payload_mut();
-    assert_eq!(rt; payload.len(), 4);
-    payload.copy_from_slice(&PACKET[20..]);
-    assert_eq!(rt; buffer, PACKET);
+    header().emit(&mut Ipv4PacketMut::new_unchecked(&mut buffer), &caps);
+    assert_eq!(rt; &buffer[..20], &PACKET[..20]);
+    assert_eq!(rt; &buffer[20..], [0xa5; 4].as_slice());
     assert_eq!(rt; header().buffer_len(), IPV4_HEADER_LEN);
-    Ok(())
 }
 
 #[test]

@@ -4,7 +4,9 @@ use super::{FRAME_DST, FRAME_SRC};
 use crate::{Error, EthernetAddress, IPV4_MIN_MTU, Ipv4Address};
 use net_base::{Checksum, ChecksumCapabilities, Medium};
 use std::alloc::{AllocError, Global};
+use std::collections::HashSet;
 use std::error::Error as StdError;
+use std::hash::Hash;
 use std::test::Fail;
 
 /// The text of any error.
@@ -30,8 +32,29 @@ fn addresses_are_octets(rt: HostRuntime) -> Result<(), Fail> {
     assert_eq!(rt; ipv4, Ipv4Address::new(192, 168, 1, 10));
     assert_eq!(rt; ipv4.octets(), [192, 168, 1, 10]);
     assert_eq!(rt; format!(in rt.alloc(); "{ipv4}")?.as_str(), "192.168.1.10");
+    Ok(())
+}
+
+/// How many different values there are.
+fn count_distinct<T: Copy + Eq + Hash>(alloc: Global, values: &[T]) -> Result<usize, AllocError> {
+    let mut seen = HashSet::new(alloc);
+    for value in values {
+        seen.insert(*value)?;
+    }
+    Ok(seen.len())
+}
+
+#[test]
+fn addresses_are_ordered_and_hashed_by_octets(rt: HostRuntime) -> Result<(), Fail> {
+    let low = Ipv4Address::new(9, 255, 255, 255);
+    let high = Ipv4Address::new(10, 0, 0, 0);
+    assert!(rt; low < high);
     assert!(rt; FRAME_DST < FRAME_SRC);
-    assert!(rt; Ipv4Address::new(9, 255, 255, 255) < Ipv4Address::new(10, 0, 0, 0));
+    assert_eq!(rt; count_distinct(rt.alloc(), &[low, high, low])?, 2);
+    assert_eq!(rt;
+        count_distinct(rt.alloc(), &[FRAME_DST, FRAME_DST, FRAME_SRC])?,
+        2
+    );
     Ok(())
 }
 
