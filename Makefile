@@ -1,16 +1,21 @@
 # make run    prints the frames of examples/frames.hex, or of FRAMES=file
 # make test   passes everything that has to pass
-# make build  proves the program and builds it as one executable
+# make build  proves the program and the C library, and builds each as one file
 # make compare REFERENCE=program [SEED=n] [LINES=n]
 #             feeds generated lines to the built program and to another, and shows the first difference
+# make bench [REFERENCE_BENCH=library.so] [REFERENCE=program]
+#             times the library's calls and the program; with a reference, how fast ours are beside it:
+#             a shared library with the same calls (bench/reference.rs has them over smoltcp), and a
+#             program that reads the same lines
 
 FRAMES ?= examples/frames.hex
 SEED ?= 1
 LINES ?= 100000
 PROGRAM := crates/ip_frames/out/ip_frames
+LIBRARY := crates/ip_wire_c/out/libip_wire_c.a
 SOURCES := crates.txt $(shell find crates -name out -prune -o -type f -print)
 
-.PHONY: run test build compare
+.PHONY: run test build compare bench
 
 run:
 	@test -f '$(FRAMES)' && test -r '$(FRAMES)' || { echo 'make run: cannot read $(FRAMES)' >&2; exit 1; }
@@ -24,16 +29,26 @@ run:
 test:
 	@tests/all
 
-build: $(PROGRAM)
+build: $(PROGRAM) $(LIBRARY)
 	@echo $(PROGRAM)
+	@echo $(LIBRARY)
 
 compare:
 	@test -n '$(REFERENCE)' || { echo 'make compare: name a program, as REFERENCE=program' >&2; exit 1; }
 	@$(MAKE) --no-print-directory $(PROGRAM)
 	@tests/compare.py $(PROGRAM) '$(SEED)' '$(LINES)' $(REFERENCE)
 
+bench: $(PROGRAM) $(LIBRARY)
+	@bench/bench.py $(if $(REFERENCE_BENCH),--calls '$(REFERENCE_BENCH)') $(if $(REFERENCE),--program $(REFERENCE))
+
 $(PROGRAM): $(SOURCES)
 	@echo 'proving the program'
 	@mkdir -p $(@D)
 	@cd crates/ip_frames && rt run < /dev/null > out/build.log 2>&1 || { cat out/build.log >&2; exit 1; }
+	@touch $@
+
+$(LIBRARY): $(SOURCES)
+	@echo 'proving the C library'
+	@mkdir -p $(@D)
+	@cd crates/ip_wire_c && rt lib > out/build.log 2>&1 || { cat out/build.log >&2; exit 1; }
 	@touch $@

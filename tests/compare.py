@@ -7,6 +7,7 @@ The lines are made of the recorded frames and of random ones, with fields, bytes
 lengths changed. Each seed gives its own lines, the same in each run.
 """
 import random
+import shutil
 import subprocess
 import sys
 
@@ -63,17 +64,19 @@ def blocks(command, text):
     try:
         output = subprocess.run(command, input=text, stdout=subprocess.PIPE, check=True).stdout
     except (OSError, subprocess.CalledProcessError) as error:
-        sys.exit(f"compare: {command[0]} fails: {error}")
+        sys.exit(f"make compare: {command[0]} fails: {error}")
     return output.split(b"\n\n")
 
 
 def main():
-    try:
-        program, seed, lines, reference = sys.argv[1], int(sys.argv[2]), int(sys.argv[3]), sys.argv[4:]
-    except (IndexError, ValueError):
+    if len(sys.argv) < 5:
         sys.exit(__doc__.strip())
-    if not reference:
-        sys.exit("compare: no reference program is named")
+    program, seed, lines, *reference = sys.argv[1:]
+    if not (seed.isdecimal() and lines.isdecimal()):
+        sys.exit(f"make compare: SEED and LINES are numbers, not {seed} and {lines}")
+    if not shutil.which(reference[0]):
+        sys.exit(f"make compare: there is no program {reference[0]}")
+    seed, lines = int(seed), int(lines)
     made = list(corpus(seed, lines))
     for at in range(0, len(made), BLOCKS):
         part = made[at : at + BLOCKS]

@@ -1,8 +1,8 @@
 //! The values of an IPv4 header.
 
-ghost use Rattle.std.specs.Prelude.{◌≡◌, ◌↔◌, ◌≤◌, ◌++◌, MatchResult, None, Ok, Some, drop, length};
+ghost use Rattle.std.specs.Prelude.{◌≡◌, ◌↔◌, ◌≤◌, ◌++◌, MatchResult, None, Ok, OnOk, Some, drop, length};
 ghost use Rattle.net_base.specs.Checksum.{computes, verifies};
-ghost use Rattle.wire_ipv4.specs.Ipv4.{Becomes, Reads, bytes_of, header_with, ipv4_of, packet_bytes, packet_bytes_mut};
+ghost use Rattle.wire_ipv4.specs.Ipv4.{Becomes, HasLengths, Reads, bytes_of, header_with, ipv4_of, packet_bytes, packet_bytes_mut};
 ghost use Rattle.wire_ipv4.specs.Ipv4Text.{value_text};
 ghost use Rattle.wire_ipv4.specs.declared.ipv4.repr.Ipv4Repr.{Ipv4Repr};
 
@@ -11,6 +11,9 @@ use crate::ip_protocol::IpProtocol;
 use net_base::ChecksumCapabilities;
 use std::fmt;
 use wire_addr::{Error, Ipv4Address, Result};
+
+// The flag "don't fragment" alone, before an offset of 0.
+const DONT_FRAG: u16 = 0x4000;
 
 /// The values of a packet's header that are more than its layout: no options, no service bits, no
 /// fragments.
@@ -31,6 +34,7 @@ impl Ipv4Repr {
         ensures reads { (v : Ipv4Repr) → (result ≡ Ok v) ↔ Reads (packet_bytes packet.now) (verifies caps.now.ipv4) v }
         ensures value { MatchResult result (λ v. ipv4_of (verifies caps.now.ipv4) (packet_bytes packet.now) ≡ Some v)
             (λ _. ipv4_of (verifies caps.now.ipv4) (packet_bytes packet.now) ≡ None) }
+        ensures lengths { OnOk result (HasLengths (packet_bytes packet.now)) }
     {
         packet.check_len()?;
         if packet.version() != 4 {
@@ -80,9 +84,7 @@ impl Ipv4Repr {
         packet.set_ecn(0);
         packet.set_total_len((IPV4_HEADER_LEN + self.payload_len) as u16);
         packet.set_ident(0);
-        packet.set_frag_offset(0);
-        packet.clear_flags();
-        packet.set_dont_frag(true);
+        packet.set_flags_and_offset(DONT_FRAG);
         packet.set_hop_limit(self.hop_limit);
         packet.set_next_header(self.next_header);
         packet.set_src_addr(self.src_addr);

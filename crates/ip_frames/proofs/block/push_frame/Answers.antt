@@ -8,9 +8,6 @@ use Rattle.ip_wire.specs.Ethernet.{bytes_of, ethernet_of}
 use Rattle.ip_wire.specs.Frame.{rebuilt_payload}
 use Rattle.ip_frames.proofs.block.push_frame.Goals as goal
 
-pub payload-requires : goal.payload-requires
-payload-requires c = ((c.in-Ok.ensures.reads c.in-Ok.header).0 refl).whole
-
 pub returns-in_default : goal.returns-in_default
 returns-in_default c =
     let frame = c.args.bytes.now in

@@ -9,24 +9,6 @@ use Rattle.ip_wire.specs.Ipv4.{header_len, ipv4_of, is_fragment, total_len}
 use Rattle.net_base.specs.Checksum.{verifies}
 use Rattle.ip_frames.proofs.ipv4.push_packet.Goals as goal
 
-pub is_fragment-requires : goal.is_fragment-requires
-is_fragment-requires c = omega (arith, ((c.in-Ok.ensures.reads c.in-Ok.header).0 refl).lengths.least)
-
-pub frag_offset-requires : goal.frag_offset-requires
-frag_offset-requires c = omega (arith, ((c.in-Ok.ensures.reads c.in-Ok.header).0 refl).lengths.least)
-
-pub more_frags-requires : goal.more_frags-requires
-more_frags-requires c = omega (arith, ((c.in-Ok.ensures.reads c.in-Ok.header).0 refl).lengths.least)
-
-pub payload-requires-clause-fields : goal.payload-requires-clause-fields
-payload-requires-clause-fields c = omega (arith, ((c.in-Ok.ensures.reads c.in-Ok.header).0 refl).lengths.least)
-
-pub payload-requires-clause-begins : goal.payload-requires-clause-begins
-payload-requires-clause-begins c = ((c.in-Ok.ensures.reads c.in-Ok.header).0 refl).lengths.within
-
-pub payload-requires-clause-ends : goal.payload-requires-clause-ends
-payload-requires-clause-ends c = ((c.in-Ok.ensures.reads c.in-Ok.header).0 refl).lengths.whole
-
 pub push_datagram-requires : goal.push_datagram-requires
 push_datagram-requires c =
     let read = (c.in-Ok.ensures.reads c.in-Ok.header).0 refl in

@@ -1,0 +1,117 @@
+#!/usr/bin/env python3
+"""Times the library's calls and the program.
+
+bench/bench.py [--calls LIBRARY.so] [--program PROGRAM [WORD..]]
+
+LIBRARY.so has the calls of c/ip_wire.h (bench/reference.rs has them over smoltcp): they are
+timed in one process with ours. PROGRAM is timed on the same lines as ours. Where there is
+one, "speed" is its time divided by ours, so that 1.00 is as fast and 2.00 twice as fast.
+"""
+import os
+import random
+import shutil
+import statistics
+import subprocess
+import sys
+import tempfile
+import time
+
+CALLS = "bench/calls.c"
+LIBRARY = "crates/ip_wire_c/out/libip_wire_c.a"
+PROGRAM = "crates/ip_frames/out/ip_frames"
+INPUTS = [(120, 1_000_000), (3000, 100_000)]  # digits of a line, lines
+ROUNDS = 7
+
+HEADERS = "0200000000020200000000010800" + "4500{:04x}0000400040fd{:04x}c0a80101c0a80102"
+
+
+def give_up(message):
+    sys.exit(f"make bench: {message}")
+
+
+def frame(digits, rng):
+    """The line of a right IPv4 frame with that many digits, and a random payload."""
+    payload = digits // 2 - 34
+    words = [0x4500, 20 + payload, 0x4000, 0x40FD, 0xC0A8, 0x0101, 0xC0A8, 0x0102]
+    total = sum(words)
+    checksum = 0xFFFF - ((total & 0xFFFF) + (total >> 16))
+    return HEADERS.format(20 + payload, checksum) + rng.randbytes(payload).hex() + "\n"
+
+
+def write_lines(path, digits, lines):
+    rng = random.Random(digits)
+    block = "".join(frame(digits, rng) for _ in range(1000)).encode()
+    with open(path, "wb") as file:
+        for _ in range(lines // 1000):
+            file.write(block)
+
+
+def seconds(command, path):
+    with open(path, "rb") as lines:
+        start = time.perf_counter()
+        try:
+            status = subprocess.run(command, stdin=lines, stdout=subprocess.DEVNULL).returncode
+        except OSError as error:
+            give_up(f"cannot run {command[0]}: {error.strerror}")
+        if status:
+            give_up(f"{command[0]} ends with status {status}")
+        return time.perf_counter() - start
+
+
+def time_calls(room, reference):
+    program = f"{room}/calls"
+    compiler = os.environ.get("CC", "cc")
+    try:
+        built = subprocess.run([compiler, "-std=c11", "-O2", "-o", program, CALLS, LIBRARY, "-ldl"]).returncode
+    except OSError as error:
+        give_up(f"cannot run {compiler}: {error.strerror}")
+    if built:
+        give_up(f"{compiler} refuses {CALLS}")
+    if subprocess.run([program] + reference).returncode:
+        sys.exit(1)  # it said why
+
+
+def time_programs(room, reference):
+    print(f"{'lines':>10} {'of digits':>9} {'seconds':>8} {'MB/s':>6}", end="")
+    print(f" {'reference s':>12} {'speed':>7}" if reference else "")
+    for digits, lines in INPUTS:
+        path = f"{room}/lines"
+        write_lines(path, digits, lines)
+        here, there = [], []
+        for _ in range(ROUNDS):
+            here.append(seconds([PROGRAM], path))
+            if reference:
+                there.append(seconds(reference, path))
+        ours = statistics.median(here)
+        print(f"{lines:10} {digits:9} {ours:8.2f} {os.path.getsize(path) / ours / 1e6:6.0f}", end="")
+        if reference:
+            theirs = statistics.median(there)
+            print(f" {theirs:12.2f} {theirs / ours:7.2f}", end="")
+        print(flush=True)
+
+
+def options(words):
+    library, program = [], []
+    if words[:1] == ["--calls"]:
+        library, words = words[1:2], words[2:]
+    if words[:1] == ["--program"]:
+        program, words = words[1:], []
+    if words:
+        give_up(f"odd option {words[0]}")
+    if library and not os.path.isfile(library[0]):
+        give_up(f"there is no library {library[0]}")
+    if program and not shutil.which(program[0]):
+        give_up(f"there is no program {program[0]}")
+    return [os.path.abspath(path) for path in library], program
+
+
+def main():
+    library, program = options(sys.argv[1:])
+    with tempfile.TemporaryDirectory() as room:
+        time_calls(room, library)
+        print()
+        time_programs(room, program)
+
+
+if __name__ == "__main__":
+    main()

@@ -1,0 +1,190 @@
+/* Times the calls of the C library, and those of another library with the same calls beside them.
+ *
+ * usage: calls [LIBRARY.so]
+ *
+ * Each row is the median of many rounds. A round times the two libraries in turn, so that what else
+ * the machine does meets both. */
+#define _POSIX_C_SOURCE 200809L
+#include <dlfcn.h>
+#include <stdio.h>
+#include <stdlib.h>
+#include <string.h>
+#include <time.h>
+#include "../c/ip_wire.h"
+
+enum { ROUNDS = 201, MOST_BYTES = 1 << 20, HEADERS_LEN = 34 };
+
+struct library {
+    uint16_t (*checksum)(const uint8_t *, size_t);
+    uint32_t (*parse)(const uint8_t *, size_t, uint8_t);
+    size_t (*emit_ipv4)(uint32_t, uint32_t, uint8_t, uint8_t, size_t, uint8_t, uint8_t *, size_t);
+    size_t (*rebuild)(const uint8_t *, size_t, uint8_t *, size_t);
+};
+
+/* One row: a call, its input, and whether checksums count. */
+struct row {
+    const char *name;
+    uint64_t (*call)(const struct library *, const struct row *);
+    size_t size;
+    uint8_t checked;
+    int is_rate;
+};
+
+static uint8_t bytes[MOST_BYTES];
+static uint8_t out[HEADERS_LEN + 1500];
+static volatile uint64_t sink;
+
+static uint64_t call_checksum(const struct library *library, const struct row *row)
+{
+    return library->checksum(bytes, row->size);
+}
+
+static uint64_t call_parse(const struct library *library, const struct row *row)
+{
+    return library->parse(bytes, HEADERS_LEN + row->size, row->checked);
+}
+
+static uint64_t call_emit(const struct library *library, const struct row *row)
+{
+    return library->emit_ipv4(0xc0a80101, 0xc0a80102, 1, 64, row->size, row->checked, out, sizeof out);
+}
+
+static uint64_t call_rebuild(const struct library *library, const struct row *row)
+{
+    return library->rebuild(bytes, HEADERS_LEN + row->size, out, sizeof out);
+}
+
+static const struct row rows[] = {
+    {"checksum", call_checksum, 20, 1, 1},
+    {"checksum", call_checksum, 64, 1, 1},
+    {"checksum", call_checksum, 1500, 1, 1},
+    {"checksum", call_checksum, 1 << 16, 1, 1},
+    {"checksum", call_checksum, 1 << 20, 1, 1},
+    {"parse, checked", call_parse, 0, 1, 0},
+    {"parse, checked", call_parse, 1500, 1, 0},
+    {"parse, unchecked", call_parse, 0, 0, 0},
+    {"parse, unchecked", call_parse, 1500, 0, 0},
+    {"emit, checked", call_emit, 0, 1, 0},
+    {"emit, checked", call_emit, 1500, 1, 0},
+    {"emit, unchecked", call_emit, 0, 0, 0},
+    {"emit, unchecked", call_emit, 1500, 0, 0},
+    {"rebuild", call_rebuild, 0, 1, 0},
+    {"rebuild", call_rebuild, 1500, 1, 0},
+};
+
+static _Noreturn void give_up(const char *what, const char *why)
+{
+    fprintf(stderr, "calls: %s: %s\n", what, why);
+    exit(1);
+}
+
+static void *symbol(void *handle, const char *path, const char *name)
+{
+    void *found = dlsym(handle, name);
+    if (!found) {
+        fprintf(stderr, "calls: %s: has no function %s\n", path, name);
+        exit(1);
+    }
+    return found;
+}
+
+static struct library load(const char *path)
+{
+    void *handle = dlopen(path, RTLD_NOW | RTLD_LOCAL);
+    if (!handle)
+        give_up("cannot load the reference", dlerror());
+    struct library library;
+    *(void **)&library.checksum = symbol(handle, path, "lk_checksum");
+    *(void **)&library.parse = symbol(handle, path, "lk_parse");
+    *(void **)&library.emit_ipv4 = symbol(handle, path, "lk_emit_ipv4");
+    *(void **)&library.rebuild = symbol(handle, path, "lk_rebuild");
+    return library;
+}
+
+/* Fills the bytes with a frame of that much payload, or with plain bytes for a checksum. */
+static void prepare(const struct row *row)
+{
+    static const uint8_t ethernet[14] = {2, 0, 0, 0, 0, 2, 2, 0, 0, 0, 0, 1, 8, 0};
+    for (size_t i = 0; i < MOST_BYTES; i++)
+        bytes[i] = (uint8_t)(i * 31 % 251);
+    if (row->is_rate)
+        return;
+    memcpy(bytes, ethernet, sizeof ethernet);
+    lk_emit_ipv4(0xc0a80101, 0xc0a80102, 1, 64, row->size, 1, bytes + sizeof ethernet, 20);
+}
+
+static double nanoseconds(const struct library *library, const struct row *row, uint64_t calls)
+{
+    struct timespec start, end;
+    uint64_t answers = 0;
+    clock_gettime(CLOCK_MONOTONIC, &start);
+    for (uint64_t i = 0; i < calls; i++)
+        answers += row->call(library, row);
+    clock_gettime(CLOCK_MONOTONIC, &end);
+    sink += answers;
+    return (double)(end.tv_sec - start.tv_sec) * 1e9 + (double)(end.tv_nsec - start.tv_nsec);
+}
+
+/* So many calls that a sample is long enough for the clock. */
+static uint64_t calls_of_a_sample(const struct library *library, const struct row *row)
+{
+    uint64_t calls = 1;
+    while (nanoseconds(library, row, calls) < 2e5)
+        calls *= 2;
+    return calls;
+}
+
+static int compare(const void *a, const void *b)
+{
+    double x = *(const double *)a, y = *(const double *)b;
+    return (x > y) - (x < y);
+}
+
+static double median(double samples[ROUNDS])
+{
+    qsort(samples, ROUNDS, sizeof samples[0], compare);
+    return samples[ROUNDS / 2];
+}
+
+static void run(const struct row *row, const struct library *ours, const struct library *reference)
+{
+    static double here[ROUNDS], there[ROUNDS];
+    prepare(row);
+    uint64_t calls = calls_of_a_sample(ours, row);
+    for (int round = 0; round < ROUNDS; round++) {
+        here[round] = nanoseconds(ours, row, calls) / (double)calls;
+        if (reference)
+            there[round] = nanoseconds(reference, row, calls) / (double)calls;
+    }
+    double ns = median(here);
+    printf("%-18s %8zu %10.1f", row->name, row->size, ns);
+    if (row->is_rate)
+        printf(" %7.2f", (double)row->size / ns);
+    else
+        printf(" %7s", "");
+    if (reference) {
+        double other = median(there);
+        printf(" %12.1f %7.2f", other, other / ns);
+        if (row->call(ours, row) != row->call(reference, row))
+            printf("  the answers differ");
+    }
+    printf("\n");
+    fflush(stdout);
+}
+
+int main(int argc, char **argv)
+{
+    static const struct library ours = {lk_checksum, lk_parse, lk_emit_ipv4, lk_rebuild};
+    struct library reference;
+    if (argc > 2)
+        give_up("usage", "calls [LIBRARY.so]");
+    if (argc == 2)
+        reference = load(argv[1]);
+    printf("%-18s %8s %10s %7s", "call", "bytes", "ns a call", "GB/s");
+    if (argc == 2)
+        printf(" %12s %7s", "reference ns", "speed");
+    printf("\n");
+    for (size_t i = 0; i < sizeof rows / sizeof rows[0]; i++)
+        run(&rows[i], &ours, argc == 2 ? &reference : NULL);
+    return 0;
+}

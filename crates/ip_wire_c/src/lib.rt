@@ -1,0 +1,93 @@
+//! The packet layer for programs in other languages. `c/ip_wire.h` declares these functions for C.
+#![tactic(auto)]
+
+ghost use Rattle.std.specs.Prelude.{◌≡◌, ◌==◌, ◌++◌, not, if◌then◌else◌, drop, length};
+ghost use Rattle.ip_wire.specs.Frame.{rebuilt};
+ghost use Rattle.ip_wire.specs.Ipv4.{bytes_of};
+ghost use Rattle.ip_wire.specs.WordSum.{sum_of_bytes};
+ghost use Rattle.net_base.specs.Checksum.{computes, verifies};
+ghost use Rattle.ip_wire_c.specs.Calls.{innermost_payload, ipv4_header, is_emitted, is_rebuilt, length_or_none};
+
+mod payload;
+mod rebuild;
+
+use ip_wire::{IPV4_HEADER_LEN, IpProtocol, Ipv4Address, Ipv4PacketMut, Ipv4Repr, checksum};
+use net_base::ChecksumCapabilities;
+
+/// The internet checksum of bytes, not complemented (`ip_wire::checksum::data`).
+#[unsafe(no_mangle)]
+pub extern "C" fn lk_checksum(bytes: &[u8]) -> u16
+    ensures { result ≡ sum_of_bytes bytes.now }
+{
+    checksum::data(bytes)
+}
+
+/// The length of the payload behind the headers of a frame and 1 more, or 0 where a header is refused
+/// or of a layer that is not there. Checksums are verified unless `checked` is 0.
+#[unsafe(no_mangle)]
+pub extern "C" fn lk_parse(frame: &[u8], checked: u8) -> u32
+    ensures { result ≡ length_or_none (innermost_payload (not (checked == 0)) frame.now) }
+{
+    match payload::innermost_payload(frame, &capabilities(checked)) {
+        Some(payload) => payload.len() as u32 + 1,
+        None => 0,
+    }
+}
+
+/// Writes an IPv4 header for so long a payload to the front of `out`, and answers its length: 0 where
+/// there is no room for it or the payload is longer than 65,515 octets, and then nothing is written. The
+/// checksum is computed unless `checked` is 0.
+#[unsafe(no_mangle)]
+pub extern "C" fn lk_emit_ipv4(
+    src_addr: u32,
+    dst_addr: u32,
+    protocol: u8,
+    hop_limit: u8,
+    payload_len: usize,
+    checked: u8,
+    out: &mut [u8],
+) -> usize
+    ensures length { result ≡ (if is_emitted payload_len (length out.old) then 20 else 0) }
+    ensures bytes { out.new ≡ (if is_emitted payload_len (length out.old)
+        then bytes_of (ipv4_header src_addr dst_addr protocol hop_limit payload_len) (not (checked == 0)) ++ drop 20 out.old
+        else out.old) }
+{
+    if payload_len > 65_515 || out.len() < IPV4_HEADER_LEN {
+        return 0;
+    }
+    let header = Ipv4Repr {
+        src_addr: Ipv4Address::from_octets(src_addr.to_be_bytes()),
+        dst_addr: Ipv4Address::from_octets(dst_addr.to_be_bytes()),
+        next_header: IpProtocol::Unknown(protocol),
+        payload_len,
+        hop_limit,
+    };
+    header.emit(
+        &mut Ipv4PacketMut::new_unchecked(out),
+        &capabilities(checked),
+    );
+    IPV4_HEADER_LEN
+}
+
+/// Writes a frame, built again from the values of its headers, to the front of `out`, and answers its
+/// length: 0 where it doesn't fit or the bytes hold no Ethernet header, and then nothing is written.
+#[unsafe(no_mangle)]
+pub extern "C" fn lk_rebuild(frame: &[u8], out: &mut [u8]) -> usize
+    ensures length { result ≡ (if is_rebuilt frame.now (length out.old) then length (rebuilt frame.now) else 0) }
+    ensures bytes { out.new ≡ (if is_rebuilt frame.now (length out.old)
+        then rebuilt frame.now ++ drop (length (rebuilt frame.now)) out.old else out.old) }
+{
+    rebuild::rebuild(frame, out).unwrap_or(0)
+}
+
+// All checksums, or none of them.
+fn capabilities(checked: u8) -> ChecksumCapabilities
+    ensures verifies { verifies result.ipv4 ≡ not (checked == 0) }
+    ensures computes { computes result.ipv4 ≡ not (checked == 0) }
+{
+    if checked == 0 {
+        ChecksumCapabilities::ignored()
+    } else {
+        ChecksumCapabilities::default()
+    }
+}
