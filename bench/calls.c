@@ -12,18 +12,28 @@
 #include <time.h>
 #include "../c/ip_wire.h"
 
-enum { ROUNDS = 201, MOST_BYTES = 1 << 20, HEADERS_LEN = 34 };
+enum {
+    ROUNDS = 201,
+    MOST_BYTES = 1 << 20,
+    IPV4_HEADERS_LEN = 34,
+    IPV6_HEADERS_LEN = 54,
+    ADDRESSES = 256,
+    MOST_TEXT = 39, /* of an address */
+};
 
 struct library {
     uint16_t (*checksum)(const uint8_t *, size_t);
     uint32_t (*parse)(const uint8_t *, size_t, uint8_t);
     size_t (*emit_ipv4)(uint32_t, uint32_t, uint8_t, uint8_t, size_t, uint8_t, uint8_t *, size_t);
+    size_t (*emit_ipv6)(const uint8_t *, const uint8_t *, uint8_t, uint8_t, size_t, uint8_t *, size_t);
+    size_t (*ipv6_print)(const uint8_t *, uint8_t *, size_t);
     size_t (*rebuild)(const uint8_t *, size_t, uint8_t *, size_t);
 };
 
-/* One row: a call, its input, and whether checksums count. */
+/* One row: its input, and what is timed, with so many bytes of payload or for a checksum. */
 struct row {
     const char *name;
+    void (*prepare)(const struct row *);
     uint64_t (*call)(const struct library *, const struct row *);
     size_t size;
     uint8_t checked;
@@ -31,8 +41,64 @@ struct row {
 };
 
 static uint8_t bytes[MOST_BYTES];
-static uint8_t out[HEADERS_LEN + 1500];
+static uint8_t out[ADDRESSES * MOST_TEXT];
 static volatile uint64_t sink;
+
+static const uint8_t ethernet_addresses[] = {2, 0, 0, 0, 0, 2, 2, 0, 0, 0, 0, 1};
+static const uint8_t src[16] = {0xfe, 0x80, [15] = 1}, dst[16] = {0xff, 0x02, [15] = 1};
+
+static void prepare_bytes(const struct row *row)
+{
+    (void)row;
+    for (size_t i = 0; i < MOST_BYTES; i++)
+        bytes[i] = (uint8_t)(i * 31 % 251);
+}
+
+static void prepare_type(uint8_t high, uint8_t low)
+{
+    memcpy(bytes, ethernet_addresses, sizeof ethernet_addresses);
+    bytes[12] = high;
+    bytes[13] = low;
+}
+
+static void prepare_ipv4(const struct row *row)
+{
+    prepare_bytes(row);
+    prepare_type(0x08, 0x00);
+    lk_emit_ipv4(0xc0a80101, 0xc0a80102, 1, 64, row->size, 1, bytes + 14, 20);
+}
+
+static void prepare_ipv6(const struct row *row)
+{
+    prepare_bytes(row);
+    prepare_type(0x86, 0xdd);
+    lk_emit_ipv6(src, dst, 17, 64, row->size, bytes + 14, 40);
+}
+
+/* Addresses of four kinds: eight groups of all lengths, zeros in one place and in two, and an IPv4
+ * address in the last four octets. */
+static void prepare_addresses(const struct row *row)
+{
+    static const uint16_t masks[] = {0xffff, 0xfff, 0xff, 0xf};
+    static const uint8_t mapped[12] = {[10] = 0xff, [11] = 0xff};
+    (void)row;
+    uint32_t random = 1;
+    for (size_t i = 0; i < ADDRESSES; i++) {
+        uint8_t *address = bytes + 16 * i;
+        for (size_t group = 0; group < 8; group++) {
+            random = random * 1664525 + 1013904223;
+            uint16_t value = (uint16_t)(random >> 16) & masks[random >> 14 & 3];
+            address[2 * group] = (uint8_t)(value >> 8);
+            address[2 * group + 1] = (uint8_t)value;
+        }
+        if (i % 4 == 1 || i % 4 == 2)
+            memset(address + 2 * (i / 4 % 4), 0, 4 + 2 * (i / 16 % 3));
+        if (i % 4 == 2)
+            memset(address + 12, 0, 4);
+        if (i % 4 == 3)
+            memcpy(address, mapped, sizeof mapped);
+    }
+}
 
 static uint64_t call_checksum(const struct library *library, const struct row *row)
 {
@@ -41,7 +107,12 @@ static uint64_t call_checksum(const struct library *library, const struct row *r
 
 static uint64_t call_parse(const struct library *library, const struct row *row)
 {
-    return library->parse(bytes, HEADERS_LEN + row->size, row->checked);
+    return library->parse(bytes, IPV4_HEADERS_LEN + row->size, row->checked);
+}
+
+static uint64_t call_parse_ipv6(const struct library *library, const struct row *row)
+{
+    return library->parse(bytes, IPV6_HEADERS_LEN + row->size, row->checked);
 }
 
 static uint64_t call_emit(const struct library *library, const struct row *row)
@@ -49,27 +120,52 @@ static uint64_t call_emit(const struct library *library, const struct row *row)
     return library->emit_ipv4(0xc0a80101, 0xc0a80102, 1, 64, row->size, row->checked, out, sizeof out);
 }
 
+static uint64_t call_emit_ipv6(const struct library *library, const struct row *row)
+{
+    return library->emit_ipv6(src, dst, 17, 64, row->size, out, sizeof out);
+}
+
 static uint64_t call_rebuild(const struct library *library, const struct row *row)
 {
-    return library->rebuild(bytes, HEADERS_LEN + row->size, out, sizeof out);
+    return library->rebuild(bytes, IPV4_HEADERS_LEN + row->size, out, sizeof out);
+}
+
+static uint64_t call_rebuild_ipv6(const struct library *library, const struct row *row)
+{
+    return library->rebuild(bytes, IPV6_HEADERS_LEN + row->size, out, sizeof out);
+}
+
+static uint64_t call_print(const struct library *library, const struct row *row)
+{
+    uint64_t written = 0;
+    for (size_t i = 0; i < row->size; i++)
+        written += library->ipv6_print(bytes + 16 * i, out + written, sizeof out - written);
+    return written;
 }
 
 static const struct row rows[] = {
-    {"checksum", call_checksum, 20, 1, 1},
-    {"checksum", call_checksum, 64, 1, 1},
-    {"checksum", call_checksum, 1500, 1, 1},
-    {"checksum", call_checksum, 1 << 16, 1, 1},
-    {"checksum", call_checksum, 1 << 20, 1, 1},
-    {"parse, checked", call_parse, 0, 1, 0},
-    {"parse, checked", call_parse, 1500, 1, 0},
-    {"parse, unchecked", call_parse, 0, 0, 0},
-    {"parse, unchecked", call_parse, 1500, 0, 0},
-    {"emit, checked", call_emit, 0, 1, 0},
-    {"emit, checked", call_emit, 1500, 1, 0},
-    {"emit, unchecked", call_emit, 0, 0, 0},
-    {"emit, unchecked", call_emit, 1500, 0, 0},
-    {"rebuild", call_rebuild, 0, 1, 0},
-    {"rebuild", call_rebuild, 1500, 1, 0},
+    {"checksum", prepare_bytes, call_checksum, 20, 1, 1},
+    {"checksum", prepare_bytes, call_checksum, 64, 1, 1},
+    {"checksum", prepare_bytes, call_checksum, 1500, 1, 1},
+    {"checksum", prepare_bytes, call_checksum, 1 << 16, 1, 1},
+    {"checksum", prepare_bytes, call_checksum, 1 << 20, 1, 1},
+    {"parse, checked", prepare_ipv4, call_parse, 0, 1, 0},
+    {"parse, checked", prepare_ipv4, call_parse, 1500, 1, 0},
+    {"parse, unchecked", prepare_ipv4, call_parse, 0, 0, 0},
+    {"parse, unchecked", prepare_ipv4, call_parse, 1500, 0, 0},
+    {"parse IPv6", prepare_ipv6, call_parse_ipv6, 0, 1, 0},
+    {"parse IPv6", prepare_ipv6, call_parse_ipv6, 1500, 1, 0},
+    {"emit, checked", prepare_ipv4, call_emit, 0, 1, 0},
+    {"emit, checked", prepare_ipv4, call_emit, 1500, 1, 0},
+    {"emit, unchecked", prepare_ipv4, call_emit, 0, 0, 0},
+    {"emit, unchecked", prepare_ipv4, call_emit, 1500, 0, 0},
+    {"emit IPv6", prepare_ipv6, call_emit_ipv6, 0, 1, 0},
+    {"emit IPv6", prepare_ipv6, call_emit_ipv6, 1500, 1, 0},
+    {"rebuild", prepare_ipv4, call_rebuild, 0, 1, 0},
+    {"rebuild", prepare_ipv4, call_rebuild, 1500, 1, 0},
+    {"rebuild IPv6", prepare_ipv6, call_rebuild_ipv6, 0, 1, 0},
+    {"rebuild IPv6", prepare_ipv6, call_rebuild_ipv6, 1500, 1, 0},
+    {"print addresses", prepare_addresses, call_print, ADDRESSES, 1, 0},
 };
 
 static _Noreturn void give_up(const char *what, const char *why)
@@ -97,20 +193,10 @@ static struct library load(const char *path)
     *(void **)&library.checksum = symbol(handle, path, "lk_checksum");
     *(void **)&library.parse = symbol(handle, path, "lk_parse");
     *(void **)&library.emit_ipv4 = symbol(handle, path, "lk_emit_ipv4");
+    *(void **)&library.emit_ipv6 = symbol(handle, path, "lk_emit_ipv6");
+    *(void **)&library.ipv6_print = symbol(handle, path, "lk_ipv6_print");
     *(void **)&library.rebuild = symbol(handle, path, "lk_rebuild");
     return library;
-}
-
-/* Fills the bytes with a frame of that much payload, or with plain bytes for a checksum. */
-static void prepare(const struct row *row)
-{
-    static const uint8_t ethernet[14] = {2, 0, 0, 0, 0, 2, 2, 0, 0, 0, 0, 1, 8, 0};
-    for (size_t i = 0; i < MOST_BYTES; i++)
-        bytes[i] = (uint8_t)(i * 31 % 251);
-    if (row->is_rate)
-        return;
-    memcpy(bytes, ethernet, sizeof ethernet);
-    lk_emit_ipv4(0xc0a80101, 0xc0a80102, 1, 64, row->size, 1, bytes + sizeof ethernet, 20);
 }
 
 static double nanoseconds(const struct library *library, const struct row *row, uint64_t calls)
@@ -146,10 +232,21 @@ static double median(double samples[ROUNDS])
     return samples[ROUNDS / 2];
 }
 
+/* Whether the two libraries answer and write the same. */
+static int agree(const struct row *row, const struct library *ours, const struct library *reference)
+{
+    static uint8_t written[sizeof out];
+    memset(out, 0, sizeof out);
+    uint64_t answer = row->call(ours, row);
+    memcpy(written, out, sizeof out);
+    memset(out, 0, sizeof out);
+    return row->call(reference, row) == answer && memcmp(written, out, sizeof out) == 0;
+}
+
 static void run(const struct row *row, const struct library *ours, const struct library *reference)
 {
     static double here[ROUNDS], there[ROUNDS];
-    prepare(row);
+    row->prepare(row);
     uint64_t calls = calls_of_a_sample(ours, row);
     for (int round = 0; round < ROUNDS; round++) {
         here[round] = nanoseconds(ours, row, calls) / (double)calls;
@@ -165,7 +262,7 @@ static void run(const struct row *row, const struct library *ours, const struct 
     if (reference) {
         double other = median(there);
         printf(" %12.1f %7.2f", other, other / ns);
-        if (row->call(ours, row) != row->call(reference, row))
+        if (!agree(row, ours, reference))
             printf("  the answers differ");
     }
     printf("\n");
@@ -174,7 +271,7 @@ static void run(const struct row *row, const struct library *ours, const struct 
 
 int main(int argc, char **argv)
 {
-    static const struct library ours = {lk_checksum, lk_parse, lk_emit_ipv4, lk_rebuild};
+    static const struct library ours = {lk_checksum, lk_parse, lk_emit_ipv4, lk_emit_ipv6, lk_ipv6_print, lk_rebuild};
     struct library reference;
     if (argc > 2)
         give_up("usage", "calls [LIBRARY.so]");

@@ -1,4 +1,5 @@
-/* A frame with padding is read, built again without the padding, and a header is written. */
+/* A frame with padding is read, built again without the padding, and a header is written: for IPv4, and
+ * for IPv6, whose addresses are printed too. */
 #include <stdio.h>
 #include "ip_wire.h"
 
@@ -10,6 +11,13 @@ static void print_bytes(const char *name, const uint8_t *ptr, size_t len)
     printf("\n");
 }
 
+static void print_address(const uint8_t *octets)
+{
+    uint8_t text[39];
+    size_t len = lk_ipv6_print(octets, text, sizeof text);
+    printf("address %.*s\n", (int)len, (const char *)text);
+}
+
 int main(void)
 {
     static const uint8_t frame[] = {
@@ -19,6 +27,18 @@ int main(void)
         0xaa, 0x00, 0x00, 0xff, /* the payload */
         0x00, 0x00,             /* padding */
     };
+    static const uint8_t ipv6_frame[] = {
+        0x33, 0x33, 0x00, 0x00, 0x00, 0x01, 0x11, 0x12, 0x13, 0x14, 0x15, 0x16, 0x86, 0xdd,
+        0x6a, 0x12, 0x34, 0x56, /* the version, a traffic class and a flow label */
+        0x00, 0x04, 0x11, 0x40,
+        0xfe, 0x80, 0, 0, 0, 0, 0, 0, 0, 0, 0, 0, 0, 0, 0, 0x01,
+        0xff, 0x02, 0, 0, 0, 0, 0, 0, 0, 0, 0, 0, 0, 0, 0, 0x01,
+        0xaa, 0x00, 0x00, 0xff, /* the payload */
+        0x00, 0x00,             /* padding */
+    };
+    static const uint8_t link_local[16] = {0xfe, 0x80, [15] = 0x01};
+    static const uint8_t all_nodes[16] = {0xff, 0x02, [15] = 0x01};
+    static const uint8_t mapped[16] = {[10] = 0xff, [11] = 0xff, 192, 168, 1, 1};
     uint8_t out[64];
 
     printf("checksum of the header %04x\n", (unsigned)lk_checksum(frame + 14, 20));
@@ -27,5 +47,14 @@ int main(void)
     printf("room for 37 octets: %zu\n", lk_rebuild(frame, sizeof frame, out, 37));
     print_bytes("header", out, lk_emit_ipv4(0x0a000001, 0x0a000002, 6, 64, 10, 1, out, sizeof out));
     printf("a payload too long: %zu\n", lk_emit_ipv4(0, 0, 6, 64, 65516, 1, out, sizeof out));
+
+    printf("IPv6 payload length %u\n", (unsigned)(lk_parse(ipv6_frame, sizeof ipv6_frame, 1) - 1));
+    print_bytes("again", out, lk_rebuild(ipv6_frame, sizeof ipv6_frame, out, sizeof out));
+    print_bytes("header", out, lk_emit_ipv6(link_local, all_nodes, 17, 64, 12, out, sizeof out));
+    printf("a payload too long: %zu\n",
+           lk_emit_ipv6(link_local, all_nodes, 17, 64, 65536, out, sizeof out));
+    print_address(link_local);
+    print_address(mapped);
+    printf("room for 6 octets: %zu\n", lk_ipv6_print(link_local, out, 6));
     return 0;
 }

@@ -13,10 +13,10 @@
  * only where every byte is 0. */
 uint16_t lk_checksum(const uint8_t *ptr, size_t len);
 
-/* Reads the headers of an Ethernet frame that carries IPv4, and answers the length of the IPv4
- * payload plus 1; 0 where a header is refused, or the frame is of another type. Options are read
- * over, and a fragment is read as any packet. The header's checksum is verified unless `checked`
- * is 0. */
+/* Reads the headers of an Ethernet frame that carries IPv4 or IPv6, and answers the length of the
+ * IP payload plus 1; 0 where a header is refused, or the frame is of another type. IPv4 options are
+ * read over, a fragment is read as any packet, and IPv6 extension headers belong to the payload. The
+ * checksum of an IPv4 header is verified unless `checked` is 0. */
 uint32_t lk_parse(const uint8_t *ptr, size_t len, uint8_t checked);
 
 /* Writes an IPv4 header of 20 octets, without options, for `payload_len` octets to the front of
@@ -26,10 +26,22 @@ uint32_t lk_parse(const uint8_t *ptr, size_t len, uint8_t checked);
 size_t lk_emit_ipv4(uint32_t src_addr, uint32_t dst_addr, uint8_t protocol, uint8_t hop_limit,
                     size_t payload_len, uint8_t checked, uint8_t *out, size_t cap);
 
+/* Writes an IPv6 header of 40 octets for `payload_len` octets to the front of `out`, and answers 40; 0
+ * where `cap` is less than 40 or `payload_len` more than 65535, and then nothing is written. An address
+ * is 16 octets; traffic class and flow label are 0. */
+size_t lk_emit_ipv6(const uint8_t *src_addr, const uint8_t *dst_addr, uint8_t next_header,
+                    uint8_t hop_limit, size_t payload_len, uint8_t *out, size_t cap);
+
+/* Writes the text of the IPv6 address of these 16 octets (RFC 5952) to the front of `out`, with no null
+ * behind it, and answers its length, which is never more than 39; 0 where it doesn't fit into `cap`
+ * octets, and then nothing is written. */
+size_t lk_ipv6_print(const uint8_t *octets, uint8_t *out, size_t cap);
+
 /* Builds an Ethernet frame again from the values of its headers and writes it to the front of `out`:
- * IPv4 options and padding are dropped, and what is not read as a packet whose checksum holds stays
- * as it stands. Answers the length, which is never more than `len`; 0 where it doesn't fit into `cap`
- * octets or `len` is less than 14, and then nothing is written. */
+ * IPv4 options, an IPv6 traffic class and flow label, and padding are dropped. What is not read as an
+ * IPv6 packet, or as an IPv4 packet whose checksum holds and that is no fragment, stays as it stands.
+ * Answers the length, which is never more than `len`; 0 where it doesn't fit into `cap` octets or
+ * `len` is less than 14, and then nothing is written. */
 size_t lk_rebuild(const uint8_t *ptr, size_t len, uint8_t *out, size_t cap);
 
 #endif

@@ -44,6 +44,20 @@ def random_packet(rng):
     return record.packet(payload, padding=rng.randbytes(rng.choice([0, 0, 1, 14])), **fields)
 
 
+def random_packet_ipv6(rng):
+    """An IPv6 packet with random fields, mostly a right one, with many zero groups in its addresses."""
+    def address():
+        return b"".join(rng.choice([b"\0\0", b"\0\0", b"\xff\xff", rng.randbytes(2)]) for _ in range(8))
+
+    payload = rng.randbytes(rng.choice([0, 1, 2, 7, 8, 20, rng.randrange(300)]))
+    fields = dict(service=rng.choice([0, rng.randrange(256)]), label=rng.choice([0, rng.randrange(1 << 20)]),
+                  next_header=rng.choice([44, 44, 6, 17, rng.randrange(256)]), hop_limit=rng.randrange(256),
+                  src=address(), dst=address())
+    if rng.random() < 0.1:
+        fields["payload_len"] = rng.randrange(100)
+    return record.packet_ipv6(payload, padding=rng.randbytes(rng.choice([0, 0, 1, 14])), **fields)
+
+
 def corpus(seed, lines):
     rng = random.Random(seed)
     known = [frame for make in record.FILES for frame in make() if len(frame) < 300]
@@ -55,7 +69,8 @@ def corpus(seed, lines):
         elif kind < 0.03:
             yield rng.randbytes(rng.randrange(40)).replace(b"\n", b"")
         else:
-            frame = random_packet(rng) if kind < 0.6 else rng.choice(known)
+            make = random_packet if rng.random() < 0.5 else random_packet_ipv6
+            frame = make(rng) if kind < 0.6 else rng.choice(known)
             text = (frame if kind < 0.3 else changed(rng, frame)).hex().encode()
             yield (text.upper() if rng.random() < 0.05 else text) + (b"\r" if rng.random() < 0.05 else b"")
 

@@ -13,6 +13,7 @@ CASES = os.path.join(os.path.dirname(os.path.abspath(__file__)), "cases")
 DST = bytes.fromhex("020000000002")
 SRC = bytes.fromhex("020000000001")
 IPV4 = 0x0800
+IPV6 = 0x86DD
 HOST_A = bytes([192, 0, 2, 1])
 HOST_B = bytes([192, 0, 2, 2])
 
@@ -49,6 +50,21 @@ def packet(payload=DATA, padding=b"", **fields):
     return ethernet(IPV4, header(len(payload), **fields) + payload + padding)
 
 
+HOST_C = bytes.fromhex("20010db8000000000000000000000001")
+HOST_D = bytes.fromhex("fe80000000000000020000fffe000002")
+
+
+def header_ipv6(payload_len=4, version=6, service=0, label=0, next_header=59, hop_limit=64, src=HOST_C, dst=HOST_D):
+    """An IPv6 header (RFC 8200, section 3), right where nothing else is asked for."""
+    front = (version << 28 | service << 20 | label).to_bytes(4, "big") + payload_len.to_bytes(2, "big")
+    return front + bytes([next_header, hop_limit]) + src + dst
+
+
+def packet_ipv6(payload=DATA, padding=b"", **fields):
+    fields.setdefault("payload_len", len(payload))
+    return ethernet(IPV6, header_ipv6(**fields) + payload + padding)
+
+
 def octets(n, start=0):
     return bytes((start + 7 * i) % 256 for i in range(n))
 
@@ -78,7 +94,7 @@ def truncations():
     for frame in [packet(), packet(octets(10), ident=258, flags=0x2203, hop_limit=26),
                   packet(options=bytes.fromhex("94040000"), padding=b"\0" * 6), packet(octets(26), version=6),
                   packet(octets(26), options=octets(40, 7)), packet(octets(8), service=3, checksum=0),
-                  ethernet(0x0806, octets(28)), ethernet(0x86DD, octets(48))]:
+                  ethernet(0x0806, octets(28)), ethernet(IPV6, octets(48))]:
         for n in range(len(frame)):
             yield frame[:n]
 
@@ -169,6 +185,79 @@ def types():
         yield octets(n, 3)
 
 
+def ipv6_shapes():
+    yield packet_ipv6()
+    for n in [0, 1, 2, 3, 8, 26, 64, 255, 256, 1460]:
+        yield packet_ipv6(octets(n))
+    for next_header in range(256):
+        yield packet_ipv6(next_header=next_header)
+    for service in [1, 2, 0x0F, 0x10, 0xB8, 0xF0, 0xFF]:
+        yield packet_ipv6(service=service)
+    for label in [1, 0xFF, 0x100, 0xFFFF, 0x10000, 0xFFFFF]:
+        yield packet_ipv6(label=label)
+        yield packet_ipv6(label=label, service=0xFF)
+    for hop_limit in [0, 1, 2, 128, 255]:
+        yield packet_ipv6(hop_limit=hop_limit)
+
+
+def ipv6_addresses():
+    """Runs of zero groups of every place and length, other groups, and mapped addresses."""
+    for first in range(8):
+        for last in range(first, 9):
+            yield packet_ipv6(src=groups(0 if first <= at < last else at + 1 for at in range(8)))
+    for zeros in range(256):
+        yield packet_ipv6(dst=groups(0 if zeros >> at & 1 else 0xA00 + at for at in range(8)))
+    for group in [1, 0xF, 0x10, 0xFF, 0x100, 0xFFF, 0x1000, 0xFFFF]:
+        yield packet_ipv6(src=groups([group] * 8), dst=groups([group, 0] * 4))
+    for front in [[0] * 5 + [0xFFFF], [0] * 6, [0] * 4 + [0xFFFF, 0], [0] * 5 + [0xFFFE], [1] + [0] * 4 + [0xFFFF]]:
+        for low in [0, 1, 0x7F000001, 0x01020304, 0xC0A80101, 0xFFFFFFFF]:
+            yield packet_ipv6(src=groups(front + [low >> 16, low & 0xFFFF]))
+
+
+def groups(numbers):
+    """The address of eight groups."""
+    return b"".join(number.to_bytes(2, "big") for number in numbers)
+
+
+def ipv6_truncations():
+    for frame in [packet_ipv6(), packet_ipv6(octets(10), next_header=44, padding=b"\0" * 6), packet_ipv6(version=4)]:
+        for n in range(14, len(frame)):
+            yield frame[:n]
+
+
+def ipv6_versions_and_lengths():
+    for version in range(16):
+        yield packet_ipv6(version=version)
+        yield ethernet(IPV4, header_ipv6(version=version) + DATA)
+        yield ethernet(IPV6, header(version=version) + DATA + octets(30))
+    for payload_len in list(range(32)) + [0x0400, 0x7FFF, 0x8000, 0xFFD7, 0xFFD8, 0xFFFF]:
+        yield packet_ipv6(octets(16), payload_len=payload_len)
+        yield packet_ipv6(octets(16), payload_len=payload_len, next_header=44)
+    for n in range(24):
+        yield packet_ipv6(padding=b"\0" * n)
+        yield packet_ipv6(octets(3), padding=octets(n, 200), next_header=44)
+
+
+def ipv6_fragments():
+    for fields in list(range(8)) + [0x08, 0x0A01, 0x7FF9, 0x8000, 0xFFF8, 0xFFFE, 0xFFFF]:
+        for ident in [0, 1, 67890, 0xFFFFFFFF]:
+            fragment = bytes([17, 0]) + fields.to_bytes(2, "big") + ident.to_bytes(4, "big")
+            yield packet_ipv6(fragment + DATA, next_header=44)
+    for n in range(10):
+        yield packet_ipv6(octets(n), next_header=44)
+    for reserved in [1, 0x80, 0xFF]:
+        yield packet_ipv6(bytes([6, reserved]) + octets(6, 9), next_header=44)
+
+
+def ipv6_bits():
+    """Each bit of a frame turned."""
+    frame = packet_ipv6(bytes([17, 0]) + octets(6, 5) + DATA, next_header=44, service=0xA5, label=0x12345)
+    for bit in range(96, 8 * len(frame)):
+        turned = bytearray(frame)
+        turned[bit // 8] ^= 0x80 >> bit % 8
+        yield bytes(turned)
+
+
 def bytes_lines():
     """Lines that are no hex, or hex of another look. The line feeds are part of the case."""
     frame = packet().hex().encode()
@@ -178,7 +267,8 @@ def bytes_lines():
     yield from [b"00" * 13, b"00" * 15, b"ff" * 14, b"Ff" * 20, b"zz" * 14, b"0" * 2001, frame * 3]
 
 
-FILES = [shapes, truncations, versions_and_lengths, options, fragments, checksums, bits, padding, types]
+FILES = [shapes, truncations, versions_and_lengths, options, fragments, checksums, bits, padding, types,
+         ipv6_shapes, ipv6_addresses, ipv6_truncations, ipv6_versions_and_lengths, ipv6_fragments, ipv6_bits]
 
 
 def main():

@@ -1,6 +1,14 @@
 -- A header that is written over the room in front of what it carries.
 use Rattle.std.proofs.Common.{◌≡◌, ℕ, ◌+◌, ◌-◌, List, ◌++◌, drop, length, replicate, take, ap, refl, ◌∙◌, arith}
 use Rattle.std.proofs.lemmas.Grind.{common_steps}
+use Rattle.ip_wire.specs.Ip.{header_len_of, with_payload_len}
+use Rattle.ip_wire.specs.declared.IpRepr.{IpRepr}
+use Rattle.ip_wire.specs.declared.IpRepr.TheVariants.{Ipv4, Ipv6}
+
+-- the header of a value is as long whatever the length of its payload
+pub header_len_of-with : (v : IpRepr) (n : ℕ) → header_len_of (with_payload_len v n) ≡ header_len_of v
+header_len_of-with (Ipv4 v) n = refl
+header_len_of-with (Ipv6 v) n = refl
 
 -- bytes with room for so many more
 pub take-replicate-room : (old : List ℕ) (start size count : ℕ) → start ≡ length old → start ≡ count

@@ -1,12 +1,13 @@
 //! The lines of an IPv4 packet, and the packet built again.
 
-ghost use Rattle.std.specs.Prelude.{◌≡◌, ◌≤◌, ◌++◌, OnOk, drop, false, length, string_bytes, true};
+ghost use Rattle.std.specs.Prelude.{◌≡◌, ◌≤◌, ◌++◌, OnOk, false, length, string_bytes, true};
 ghost use Rattle.ip_frames.specs.Output.{checksum_note, fragment_line, packet_lines};
-ghost use Rattle.ip_wire.specs.Frame.{ipv4, rebuilt_transport, with_len};
-ghost use Rattle.ip_wire.specs.Ipv4.{bytes_of, ipv4_of, is_fragment, packet_bytes};
-ghost use Rattle.ip_wire.specs.Layer.{rebuilt_by};
+ghost use Rattle.ip_wire.specs.Frame.{rebuilt_payload};
+ghost use Rattle.ip_wire.specs.Ipv4.{ipv4_of, is_fragment, packet_bytes};
+ghost use Rattle.ip_wire.specs.declared.EthernetProtocol.TheVariants.{Ipv4};
 
-use ip_wire::{IPV4_HEADER_LEN, Ipv4Packet, Ipv4PacketMut, Ipv4Repr};
+use crate::datagram::push_datagram;
+use ip_wire::{IpRepr, Ipv4Packet, Ipv4Repr};
 use net_base::ChecksumCapabilities;
 use std::alloc::AllocError;
 
@@ -14,7 +15,7 @@ use std::alloc::AllocError;
 pub fn push_packet(bytes: &[u8], text: &mut String, again: &mut Vec<u8>) -> Result<(), AllocError>
     ensures lines { OnOk result (string_bytes text.new
         ≡ string_bytes text.old ++ packet_lines (ipv4_of true bytes.now) (ipv4_of false bytes.now) bytes.now) }
-    ensures again { OnOk result (again.new.items ≡ again.old.items ++ rebuilt_by ipv4 rebuilt_transport bytes.now) }
+    ensures again { OnOk result (again.new.items ≡ again.old.items ++ rebuilt_payload Ipv4 bytes.now) }
 {
     let packet = Ipv4Packet::new_unchecked(bytes);
     write!(text, "{packet}")?;
@@ -30,7 +31,7 @@ pub fn push_packet(bytes: &[u8], text: &mut String, again: &mut Vec<u8>) -> Resu
                 )?;
                 again.extend_from_slice(bytes)
             } else {
-                push_datagram(header, packet.payload(), again)
+                push_datagram(IpRepr::Ipv4(header), packet.payload(), again)
             }
         }
         Err(_) => {
@@ -65,37 +66,4 @@ fn push_fragment_line(offset: u16, more: bool, id: u16, text: &mut String) -> Re
     ensures { OnOk result (string_bytes text.new ≡ string_bytes text.old ++ fragment_line offset more id) }
 {
     writeln!(text, "fragment offset={offset} more={more} id={id}")
-}
-
-// Appends a packet with these values and this payload. The header's own payload length is not
-// looked at.
-fn push_datagram(header: Ipv4Repr, payload: &[u8], again: &mut Vec<u8>) -> Result<(), AllocError>
-    requires { length payload.now ≤ 65515 }
-    ensures { OnOk result (again.new.items
-        ≡ again.old.items ++ (bytes_of (with_len header (length payload.now)) true ++ payload.now)) }
-{
-    let start = again.len();
-    again.resize(start + IPV4_HEADER_LEN, 0)?;
-    again.extend_from_slice(payload)?;
-    let payload_len = again.len() - start - IPV4_HEADER_LEN;
-    emit_header(
-        &Ipv4Repr {
-            payload_len,
-            ..header
-        },
-        &mut again[start..],
-    );
-    Ok(())
-}
-
-// Writes a header with its checksum over the front of `bytes`.
-fn emit_header(header: &Ipv4Repr, bytes: &mut [u8])
-    requires room { 20 ≤ length bytes.old }
-    requires payload_len { header.now.payload_len ≤ 65515 }
-    ensures { bytes.new ≡ bytes_of header.now true ++ drop 20 bytes.old }
-{
-    header.emit(
-        &mut Ipv4PacketMut::new_unchecked(bytes),
-        &ChecksumCapabilities::default(),
-    );
 }

@@ -1,6 +1,7 @@
 -- The definitions at worked frames.
 use Rattle.std.proofs.Common.{ℕ, ◌≡◌, List, [], ◌∷◌, ◌++◌, Some, None, refl}
-use Rattle.ip_wire.specs.Frame.{Carried, datagram, datagram_of, meaning_of, rebuilt}
+use Rattle.ip_wire.specs.Frame.{Carried, datagram_of, meaning_of, packet, rebuilt}
+use Rattle.wire_ip.specs.declared.IpRepr.TheVariants as ip
 use Rattle.wire_ipv4.specs.Ipv4.{ipv4_of}
 use Rattle.wire_ipv4.specs.WordSum.{residue, words}
 use Rattle.wire_ipv4.specs.declared.IpProtocol.TheVariants.{Icmp}
@@ -105,14 +106,14 @@ header = record {
 -- those of the packet's, with what it carries
 abbrev carried : Carried
 carried =
-    datagram
-    (record {
+    packet
+    (ip.Ipv4 (record {
       src_addr = 17 ∷ 18 ∷ 19 ∷ 20 ∷ [];
       dst_addr = 33 ∷ 34 ∷ 35 ∷ 36 ∷ [];
       next_header = Icmp;
       payload_len = 0;
       hop_limit = 64;
-    })
+    }))
     payload
 
 meaning_of-padded : meaning_of (frame ++ 0x00 ∷ 0x00 ∷ 0x00 ∷ []) ≡ Some (header, carried)

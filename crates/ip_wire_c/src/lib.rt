@@ -1,17 +1,21 @@
 //! The packet layer for programs in other languages. `c/ip_wire.h` declares these functions for C.
 #![tactic(auto)]
 
-ghost use Rattle.std.specs.Prelude.{◌≡◌, ◌==◌, ◌++◌, not, if◌then◌else◌, drop, length};
+ghost use Rattle.std.specs.Prelude.{◌≡◌, ◌==◌, ◌++◌, not, if◌then◌else◌, drop, length, true};
 ghost use Rattle.ip_wire.specs.Frame.{rebuilt};
-ghost use Rattle.ip_wire.specs.Ipv4.{bytes_of};
+ghost use Rattle.ip_wire.specs.Printed.{ipv6_text};
 ghost use Rattle.ip_wire.specs.WordSum.{sum_of_bytes};
 ghost use Rattle.net_base.specs.Checksum.{computes, verifies};
-ghost use Rattle.ip_wire_c.specs.Calls.{innermost_payload, ipv4_header, is_emitted, is_rebuilt, length_or_none};
+ghost use Rattle.ip_wire_c.specs.Calls.{emitted, emitted_len, innermost_payload, ipv4_header, ipv6_header, is_rebuilt, IsPrinted, length_or_none};
 
 mod payload;
 mod rebuild;
+mod text;
 
-use ip_wire::{IPV4_HEADER_LEN, IpProtocol, Ipv4Address, Ipv4PacketMut, Ipv4Repr, checksum};
+use ip_wire::{
+    IPV4_HEADER_LEN, IPV6_HEADER_LEN, IpProtocol, Ipv4Address, Ipv4PacketMut, Ipv4Repr,
+    Ipv6Address, Ipv6PacketMut, Ipv6Repr, checksum,
+};
 use net_base::ChecksumCapabilities;
 
 /// The internet checksum of bytes, not complemented (`ip_wire::checksum::data`).
@@ -47,10 +51,8 @@ pub extern "C" fn lk_emit_ipv4(
     checked: u8,
     out: &mut [u8],
 ) -> usize
-    ensures length { result ≡ (if is_emitted payload_len (length out.old) then 20 else 0) }
-    ensures bytes { out.new ≡ (if is_emitted payload_len (length out.old)
-        then bytes_of (ipv4_header src_addr dst_addr protocol hop_limit payload_len) (not (checked == 0)) ++ drop 20 out.old
-        else out.old) }
+    ensures length { result ≡ emitted_len (ipv4_header src_addr dst_addr protocol hop_limit payload_len) (length out.old) }
+    ensures bytes { out.new ≡ emitted (ipv4_header src_addr dst_addr protocol hop_limit payload_len) (not (checked == 0)) out.old }
 {
     if payload_len > 65_515 || out.len() < IPV4_HEADER_LEN {
         return 0;
@@ -67,6 +69,46 @@ pub extern "C" fn lk_emit_ipv4(
         &capabilities(checked),
     );
     IPV4_HEADER_LEN
+}
+
+/// Writes an IPv6 header for so long a payload to the front of `out`, and answers its length: 0 where
+/// there is no room for it or the payload is longer than 65,535 octets, and then nothing is written.
+#[unsafe(no_mangle)]
+pub extern "C" fn lk_emit_ipv6(
+    src_addr: &[u8; 16],
+    dst_addr: &[u8; 16],
+    next_header: u8,
+    hop_limit: u8,
+    payload_len: usize,
+    out: &mut [u8],
+) -> usize
+    ensures length { result ≡ emitted_len (ipv6_header src_addr.now dst_addr.now next_header hop_limit payload_len) (length out.old) }
+    ensures bytes { out.new ≡ emitted (ipv6_header src_addr.now dst_addr.now next_header hop_limit payload_len) true out.old }
+{
+    if payload_len > 65_535 || out.len() < IPV6_HEADER_LEN {
+        return 0;
+    }
+    let header = Ipv6Repr {
+        src_addr: Ipv6Address::from_octets(*src_addr),
+        dst_addr: Ipv6Address::from_octets(*dst_addr),
+        next_header: IpProtocol::Unknown(next_header),
+        payload_len,
+        hop_limit,
+    };
+    header.emit(&mut Ipv6PacketMut::new_unchecked(out));
+    IPV6_HEADER_LEN
+}
+
+/// Writes the text of the IPv6 address with these octets to the front of `out`, and answers its length,
+/// which is never more than 39: 0 where it doesn't fit, and then nothing is written.
+#[unsafe(no_mangle)]
+pub extern "C" fn lk_ipv6_print(octets: &[u8; 16], out: &mut [u8]) -> usize
+    ensures { IsPrinted (ipv6_text octets.now) out.old out.new result }
+{
+    match text::ipv6_text(Ipv6Address::from_octets(*octets)) {
+        Some(text) => rebuild::copy(text.as_str().as_bytes(), out).unwrap_or(0),
+        None => 0,
+    }
 }
 
 /// Writes a frame, built again from the values of its headers, to the front of `out`, and answers its

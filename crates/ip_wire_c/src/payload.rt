@@ -4,7 +4,9 @@ ghost use Rattle.std.specs.Prelude.{◌≡◌, ◌<◌, ◌^◌, IfSome, MatchOp
 ghost use Rattle.net_base.specs.Checksum.{verifies};
 ghost use Rattle.ip_wire_c.specs.Calls.{innermost_payload, packet_payload};
 
-use ip_wire::{EthernetFrame, EthernetProtocol, EthernetRepr, Ipv4Packet, Ipv4Repr};
+use ip_wire::{
+    EthernetFrame, EthernetProtocol, EthernetRepr, Ipv4Packet, Ipv4Repr, Ipv6Packet, Ipv6Repr,
+};
 use net_base::ChecksumCapabilities;
 
 /// The payload behind the headers of a frame, if each of them is read.
@@ -38,6 +40,13 @@ fn packet_payload<'a>(
                 Err(_) => None,
             }
         }
-        EthernetProtocol::Arp | EthernetProtocol::Ipv6 | EthernetProtocol::Unknown(_) => None,
+        EthernetProtocol::Ipv6 => {
+            let packet = Ipv6Packet::new_unchecked(bytes);
+            match Ipv6Repr::parse(&packet) {
+                Ok(_) => Some(packet.payload()),
+                Err(_) => None,
+            }
+        }
+        EthernetProtocol::Arp | EthernetProtocol::Unknown(_) => None,
     }
 }

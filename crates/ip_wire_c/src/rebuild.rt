@@ -1,14 +1,14 @@
 //! A whole frame built again in a slice.
 
 ghost use Rattle.std.specs.Prelude.{◌≡◌, ◌≤◌, ◌<◌, ◌++◌, None, length, true};
-ghost use Rattle.ip_wire.specs.Frame.{ethernet, ipv4, rebuilt, rebuilt_payload, rebuilt_transport, with_len};
-ghost use Rattle.ip_wire.specs.Ipv4.{bytes_of};
-ghost use Rattle.ip_wire.specs.Layer.{rebuilt_by};
+ghost use Rattle.ip_wire.specs.Frame.{ethernet, rebuilt, rebuilt_payload};
+ghost use Rattle.ip_wire.specs.Ip.{bytes_of, max_payload_len, with_payload_len};
+ghost use Rattle.ip_wire.specs.declared.EthernetProtocol.TheVariants.{Ipv4, Ipv6};
 ghost use Rattle.ip_wire_c.specs.Calls.{Fills};
 
 use ip_wire::{
-    ETHERNET_HEADER_LEN, EthernetFrame, EthernetFrameMut, EthernetProtocol, EthernetRepr,
-    IPV4_HEADER_LEN, Ipv4Packet, Ipv4PacketMut, Ipv4Repr,
+    ETHERNET_HEADER_LEN, EthernetFrame, EthernetFrameMut, EthernetProtocol, EthernetRepr, IpRepr,
+    Ipv4Packet, Ipv4Repr, Ipv6Packet, Ipv6Repr,
 };
 use net_base::ChecksumCapabilities;
 
@@ -47,53 +47,60 @@ fn rebuild_payload(ethertype: EthernetProtocol, bytes: &[u8], out: &mut [u8]) ->
     ensures { Fills (rebuilt_payload ethertype bytes.now) out.old out.new result }
 {
     match ethertype {
-        EthernetProtocol::Ipv4 => rebuild_packet(bytes, out),
-        EthernetProtocol::Arp | EthernetProtocol::Ipv6 | EthernetProtocol::Unknown(_) => {
-            copy(bytes, out)
-        }
+        EthernetProtocol::Ipv4 => rebuild_ipv4(bytes, out),
+        EthernetProtocol::Ipv6 => rebuild_ipv6(bytes, out),
+        EthernetProtocol::Arp | EthernetProtocol::Unknown(_) => copy(bytes, out),
     }
 }
 
 // An IPv4 packet, built again where it is read with its checksum and is no fragment.
-fn rebuild_packet(bytes: &[u8], out: &mut [u8]) -> Option<usize>
-    ensures { Fills (rebuilt_by ipv4 rebuilt_transport bytes.now) out.old out.new result }
+fn rebuild_ipv4(bytes: &[u8], out: &mut [u8]) -> Option<usize>
+    ensures { Fills (rebuilt_payload Ipv4 bytes.now) out.old out.new result }
 {
     let packet = Ipv4Packet::new_unchecked(bytes);
     match Ipv4Repr::parse(&packet, &ChecksumCapabilities::default()) {
         Ok(header) if !packet.more_frags() && packet.frag_offset() == 0 => {
-            rebuild_datagram(header, packet.payload(), out)
+            rebuild_packet(IpRepr::Ipv4(header), packet.payload(), out)
         }
         _ => copy(bytes, out),
     }
 }
 
-// A packet with these values, but for the length of the payload, and this payload.
-fn rebuild_datagram(header: Ipv4Repr, payload: &[u8], out: &mut [u8]) -> Option<usize>
-    requires { length payload.now ≤ 65515 }
-    ensures { Fills (bytes_of (with_len header (length payload.now)) true ++ payload.now) out.old out.new result }
+// An IPv6 packet, built again where it is read.
+fn rebuild_ipv6(bytes: &[u8], out: &mut [u8]) -> Option<usize>
+    ensures { Fills (rebuilt_payload Ipv6 bytes.now) out.old out.new result }
 {
-    if out.len() < IPV4_HEADER_LEN {
+    let packet = Ipv6Packet::new_unchecked(bytes);
+    match Ipv6Repr::parse(&packet) {
+        Ok(header) => rebuild_packet(IpRepr::Ipv6(header), packet.payload(), out),
+        Err(_) => copy(bytes, out),
+    }
+}
+
+// A packet with these values, but for the length of the payload, and this payload.
+#[inline(always)]
+fn rebuild_packet(header: IpRepr, payload: &[u8], out: &mut [u8]) -> Option<usize>
+    requires { length payload.now ≤ max_payload_len header }
+    ensures { Fills (bytes_of (with_payload_len header (length payload.now)) true ++ payload.now) out.old out.new result }
+{
+    let header_len = header.header_len();
+    if out.len() < header_len {
         return None;
     }
-    let (front, rest) = out.split_at_mut(IPV4_HEADER_LEN);
+    let (front, rest) = out.split_at_mut(header_len);
     match copy(payload, rest) {
         Some(payload_len) => {
-            let header = Ipv4Repr {
-                payload_len,
-                ..header
-            };
-            header.emit(
-                &mut Ipv4PacketMut::new_unchecked(front),
-                &ChecksumCapabilities::default(),
-            );
-            Some(IPV4_HEADER_LEN + payload_len)
+            let mut header = header;
+            header.set_payload_len(payload_len);
+            header.emit(front, &ChecksumCapabilities::default());
+            Some(header_len + payload_len)
         }
         None => None,
     }
 }
 
-// Bytes as they stand.
-fn copy(bytes: &[u8], out: &mut [u8]) -> Option<usize>
+/// Writes bytes as they stand to the front of `out`, and answers how many. None where they don't fit.
+pub fn copy(bytes: &[u8], out: &mut [u8]) -> Option<usize>
     ensures { Fills bytes.now out.old out.new result }
 {
     if out.len() < bytes.len() {

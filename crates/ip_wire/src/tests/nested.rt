@@ -3,7 +3,8 @@
 use super::{FRAME_DST, FRAME_SRC, PACKET, packet_dst, packet_src};
 use crate::{
     EthernetFrame, EthernetFrameMut, EthernetProtocol, EthernetRepr, IpProtocol, Ipv4Packet,
-    Ipv4PacketMut, Ipv4Repr, Result,
+    Ipv4PacketMut, Ipv4Repr, Ipv6Address, Ipv6FragmentHeaderMut, Ipv6FragmentRepr, Ipv6PacketMut,
+    Ipv6Repr, Result,
 };
 use net_base::ChecksumCapabilities;
 use std::test::Fail;
@@ -39,6 +40,43 @@ fn a_frame_is_written_view_by_view(rt: HostRuntime) -> std::result::Result<(), F
     assert_eq!(rt; payload.len(), 4);
     payload.copy_from_slice(&[0xaa, 0x00, 0x00, 0xff]);
     assert_eq!(rt; buffer, FRAME);
+    Ok(())
+}
+
+#[test]
+fn a_fragment_is_written_view_by_view(rt: HostRuntime) -> std::result::Result<(), Fail> {
+    let mut buffer = [0xa5; 64];
+    let mut frame = EthernetFrameMut::new_checked(&mut buffer)?;
+    frame.set_ethertype(EthernetProtocol::Ipv6);
+    let mut packet = Ipv6PacketMut::new_unchecked(frame.payload_mut());
+    let header = Ipv6Repr {
+        src_addr: Ipv6Address::LOCALHOST,
+        dst_addr: Ipv6Address::UNSPECIFIED,
+        next_header: IpProtocol::Ipv6Frag,
+        payload_len: 8,
+        hop_limit: 1,
+    };
+    header.emit(&mut packet);
+    packet.check_len()?;
+    let payload = packet.payload_mut();
+    assert_eq!(rt; payload.len(), 8);
+    payload[..2].copy_from_slice(&[17, 0]);
+    let fragment = Ipv6FragmentRepr {
+        frag_offset: 320,
+        more_frags: true,
+        ident: 67890,
+    };
+    fragment.emit(&mut Ipv6FragmentHeaderMut::new_unchecked(&mut payload[2..]));
+    assert_eq!(rt; &buffer[..12], [0xa5; 12].as_slice());
+    assert_eq!(rt;
+        &buffer[12..22],
+        [0x86, 0xdd, 0x60, 0, 0, 0, 0, 8, 44, 1].as_slice()
+    );
+    assert_eq!(rt; buffer[37], 1);
+    assert_eq!(rt;
+        &buffer[54..],
+        [17, 0, 0x0a, 0x01, 0, 1, 0x09, 0x32, 0xa5, 0xa5].as_slice()
+    );
     Ok(())
 }
 

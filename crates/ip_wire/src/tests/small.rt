@@ -1,7 +1,7 @@
 //! The error, the addresses, and which checksums are left to the library.
 
 use super::{FRAME_DST, FRAME_SRC};
-use crate::{Error, EthernetAddress, IPV4_MIN_MTU, Ipv4Address};
+use crate::{Error, IPV4_MIN_MTU, Ipv4Address};
 use net_base::{Checksum, ChecksumCapabilities, Medium};
 use std::alloc::{AllocError, Global};
 use std::collections::HashSet;
@@ -17,21 +17,6 @@ fn printed<E: StdError>(alloc: Global, error: &E) -> Result<String, AllocError> 
 #[test]
 fn the_error_prints_its_path(rt: HostRuntime) -> Result<(), Fail> {
     assert_eq!(rt; printed(rt.alloc(), &Error)?.as_str(), "wire::Error");
-    Ok(())
-}
-
-#[test]
-fn addresses_are_octets(rt: HostRuntime) -> Result<(), Fail> {
-    let ethernet = EthernetAddress::from_bytes(&[0x02, 0, 0, 0, 0, 0xaf]);
-    assert_eq!(rt; ethernet.as_bytes(), [0x02, 0, 0, 0, 0, 0xaf].as_slice());
-    assert_eq!(rt;
-        format!(in rt.alloc(); "{ethernet}")?.as_str(),
-        "02-00-00-00-00-af"
-    );
-    let ipv4 = Ipv4Address::from_octets([192, 168, 1, 10]);
-    assert_eq!(rt; ipv4, Ipv4Address::new(192, 168, 1, 10));
-    assert_eq!(rt; ipv4.octets(), [192, 168, 1, 10]);
-    assert_eq!(rt; format!(in rt.alloc(); "{ipv4}")?.as_str(), "192.168.1.10");
     Ok(())
 }
 

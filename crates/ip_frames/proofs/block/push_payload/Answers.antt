@@ -7,6 +7,10 @@ pub returns-in-Ipv4-clause-lines : goal.returns-in-Ipv4-clause-lines
 unfolding payload_lines
 returns-in-Ipv4-clause-lines c = search rules
 
+pub returns-in-Ipv6-clause-lines : goal.returns-in-Ipv6-clause-lines
+unfolding payload_lines
+returns-in-Ipv6-clause-lines c = search rules
+
 pub returns-in-Arp : goal.returns-in-Arp
 unfolding payload_lines
 returns-in-Arp c = grind (arith, common_steps)

@@ -1,10 +1,8 @@
 use Rattle.std.proofs.Common.{◌≡◌, ◌∙◌, Some, None, true, false, refl, sym, ap, slice_range, arith, rules}
 use Rattle.std.proofs.lemmas.Grind.{common_steps}
 use Rattle.ip_frames.proofs.Texts.{inner_lines-fragment, inner_lines-whole}
-use Rattle.ip_wire.proofs.Frames.{datagram_of-fragment, datagram_of-unread, datagram_of-whole, flag-test}
-use Rattle.ip_wire.proofs.Layers.{rebuilt_by-None, rebuilt_by-Some}
+use Rattle.ip_wire.proofs.Frames.{datagram_of-fragment, datagram_of-unread, flag-test, rebuilt-ipv4, rebuilt-ipv4-copied}
 use Rattle.ip_wire.specs.Field.{field}
-use Rattle.ip_wire.specs.Frame.{ipv4, rebuilt_transport, with_len}
 use Rattle.ip_wire.specs.Ipv4.{header_len, ipv4_of, is_fragment, total_len}
 use Rattle.net_base.specs.Checksum.{verifies}
 use Rattle.ip_frames.proofs.ipv4.push_packet.Goals as goal
@@ -29,7 +27,7 @@ pub returns-in_ok-push_fragment_line-in-Ok-clause-again : goal.returns-in_ok-pus
 returns-in_ok-push_fragment_line-in-Ok-clause-again c =
     let bytes = c.args.bytes.now in
     let part : is_fragment bytes ≡ true = ap is_fragment (sym c.new_unchecked-packet.ensures) ∙ sym c.is_fragment.ensures ∙ c.if-is_fragment.true in
-    rw (rebuilt_by-None ipv4 rebuilt_transport bytes (datagram_of-fragment bytes part)) (search rules)
+    rw (rebuilt-ipv4-copied bytes (datagram_of-fragment bytes part)) (search rules)
 
 pub returns-else-is_fragment-clause-lines : goal.returns-else-is_fragment-clause-lines
 returns-else-is_fragment-clause-lines c =
@@ -46,12 +44,11 @@ returns-else-is_fragment-clause-again c =
     let read : ipv4_of true bytes ≡ Some c.in-Ok.header = rw (caps, c.new_unchecked-packet.ensures) at c.in-Ok.ensures.value in
     let whole : is_fragment bytes ≡ false = ap is_fragment (sym c.new_unchecked-packet.ensures) ∙ sym c.is_fragment.ensures ∙ c.if-is_fragment.false in
     let payload : c.payload.result.now ≡ slice_range bytes (header_len bytes) (total_len bytes) = rw c.new_unchecked-packet.ensures at c.payload.ensures in
-    rw (rebuilt_by-Some ipv4 rebuilt_transport bytes (with_len c.in-Ok.header 0) c.payload.result.now
-    (datagram_of-whole bytes c.in-Ok.header read whole ∙ ap (λ p. Some (with_len c.in-Ok.header 0, p)) (sym payload))) c.push_datagram.ensures
+    rw (rebuilt-ipv4 bytes c.in-Ok.header read whole, ← payload) c.push_datagram.ensures
 
 pub returns-in_ok-push-in-Err-clause-again : goal.returns-in_ok-push-in-Err-clause-again
 returns-in_ok-push-in-Err-clause-again c =
     let bytes = c.args.bytes.now in
     let caps : verifies c.default.result.ipv4 ≡ true = search rules in
     let unread : ipv4_of true bytes ≡ None = rw (caps, c.new_unchecked-packet.ensures) at c.in-Err.ensures.value in
-    rw (rebuilt_by-None ipv4 rebuilt_transport bytes (datagram_of-unread bytes unread)) (search rules)
+    rw (rebuilt-ipv4-copied bytes (datagram_of-unread bytes unread)) (search rules)

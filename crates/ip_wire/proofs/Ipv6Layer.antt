@@ -1,0 +1,96 @@
+-- IPv6 is a layer.
+use Rattle.std.proofs.Common.{ℕ, ◌≡◌, ◌≤◌, ◌<◌, ◌+◌, ◌-◌, ◌^◌, List, ◌++◌, Option, Some, drop, length, slice_range, refl, sym, ap, ◌∙◌, arith}
+use Rattle.std.proofs.lemmas.Grind.{common_steps}
+use Rattle.ip_wire.proofs.Frames.{ipv6_packet_of-read}
+use Rattle.ip_wire.proofs.Layers.{IsLayer, length-part, option_map-Some}
+use Rattle.ip_wire.proofs.Numbers.{protocol_number}
+use Rattle.ip_wire.specs.Frame.{ipv6, ipv6_packet_of, with_len_ipv6}
+use Rattle.wire_field.proofs.Cells.{cells-all}
+use Rattle.wire_field.specs.Field.{field}
+use Rattle.wire_ip.proofs.Ipv6Computed.{ipv6_of-Reads}
+use Rattle.wire_ip.proofs.Ipv6Emitted.{IsInRange}
+use Rattle.wire_ip.proofs.Ipv6ReadsBack.{reads-bytes_of}
+use Rattle.wire_ip.specs.Ipv6.{Reads, bytes_of, ipv6_of, normal, payload_of, total_len}
+use Rattle.wire_ip.specs.declared.Ipv6Repr.{Ipv6Repr}
+use Rattle.wire_ipv4.specs.Protocol.{number_of, protocol_of}
+
+-- what reading says: a whole header, and the payload that it speaks of
+pub record IsPacket (bytes : List ℕ) (u v : Ipv6Repr) (p : List ℕ) : Type 0 where
+  pub reads : Reads bytes u
+  pub header : with_len_ipv6 u 0 ≡ v
+  pub payload : payload_of bytes ≡ p
+
+pub ipv6_packet_of-IsPacket : (bytes : List ℕ) (v : Ipv6Repr) (p : List ℕ) → ipv6_packet_of bytes ≡ Some (v, p) → (u : Ipv6Repr) × IsPacket bytes u v p
+unfolding ipv6_packet_of
+ipv6_packet_of-IsPacket bytes v p e =
+    let (u, is, named) = option_map-Some (λ (w : Ipv6Repr). (with_len_ipv6 w 0, payload_of bytes)) (ipv6_of bytes) (v, p) e in (
+      u,
+      record {
+        reads = (ipv6_of-Reads bytes u).0 is;
+        header = ap (λ (d : Ipv6Repr × List ℕ). d.0) named;
+        payload = ap (λ (d : Ipv6Repr × List ℕ). d.1) named;
+      },
+    )
+
+-- how long the payload is
+length-payload : (bytes : List ℕ) (u v : Ipv6Repr) (p : List ℕ) → IsPacket bytes u v p → length p ≡ total_len bytes - 40
+length-payload bytes u v p d = ap length (sym d.payload) ∙ length-part bytes 40 (total_len bytes) d.reads.lengths
+
+-- what was read has a header for any payload that is no longer
+in_range : (bytes : List ℕ) (u v : Ipv6Repr) (p q : List ℕ) → IsPacket bytes u v p → length q ≤ length p → IsInRange (with_len_ipv6 u (length q))
+in_range bytes u v p q d fits =
+    let r = d.reads in
+    let whole = r.lengths in
+    let len = length-payload bytes u v p d in
+    record {
+      src_addr = ap length r.src_addr ∙ length-part bytes 8 24 (omega (arith, whole));
+      dst_addr = ap length r.dst_addr ∙ length-part bytes 24 40 (omega (arith, whole));
+      next_header = rw (r.next_header, protocol_number (field bytes 48 8)) (omega arith);
+      payload_len = omega (arith, len, fits);
+      hop_limit = rw r.hop_limit (omega arith);
+    }
+
+-- ---- the written bytes
+
+written-payload : (w : Ipv6Repr) (q : List ℕ) → IsInRange w → w.payload_len ≡ length q → payload_of (bytes_of w ++ q) ≡ q
+written-payload w q h is =
+    let total : total_len (bytes_of w ++ q) ≡ 40 + length q = omega (arith, h.payload_len, is) in
+    let behind : drop 40 (bytes_of w ++ q) ≡ q = rw (cells-all 16 w.src_addr h.src_addr, cells-all 16 w.dst_addr h.dst_addr) refl in
+    rw total (rw behind (grind (arith, common_steps)))
+
+length-written : (w : Ipv6Repr) (q : List ℕ) → IsInRange w → length (bytes_of w ++ q) ≡ 40 + length q
+length-written w q h = rw (cells-all 16 w.src_addr h.src_addr, cells-all 16 w.dst_addr h.dst_addr) (omega arith)
+
+-- what was read is in its normal form
+normal-is : (bytes : List ℕ) (u : Ipv6Repr) → Reads bytes u → protocol_of (number_of u.next_header) ≡ u.next_header
+normal-is bytes u r =
+    ap (λ t. protocol_of (number_of t)) r.next_header ∙ ap protocol_of (protocol_number (field bytes 48 8)) ∙ sym r.next_header
+
+normal-read : (bytes : List ℕ) (v : Ipv6Repr) (p : List ℕ) → ipv6_packet_of bytes ≡ Some (v, p) → normal v ≡ v
+normal-read bytes v p e =
+    let (u, d) = ipv6_packet_of-IsPacket bytes v p e in
+    ap normal (sym d.header) ∙ ap (λ t. record u { next_header = t; payload_len = 0 }) (normal-is bytes u d.reads) ∙ d.header
+
+written-read : (bytes : List ℕ) (u v : Ipv6Repr) (p q : List ℕ) → IsPacket bytes u v p → length q ≤ length p
+    → ipv6_packet_of (bytes_of (with_len_ipv6 u (length q)) ++ q) ≡ Some (normal (with_len_ipv6 u 0), q)
+written-read bytes u v p q d fits =
+    let w = with_len_ipv6 u (length q) in
+    let h = in_range bytes u v p q d fits in
+    let back = (ipv6_of-Reads (bytes_of w ++ q) (normal w)).1 (reads-bytes_of w q h (omega arith)) in
+    ipv6_packet_of-read (bytes_of w ++ q) (normal w) back
+    ∙ ap (λ (rest : List ℕ). Some (normal (with_len_ipv6 u 0), rest)) (written-payload w q h refl)
+
+pub IsLayer-ipv6 : IsLayer ipv6
+IsLayer-ipv6 = record {
+  normal_read = normal-read;
+  reads_back = λ bytes v p q e fits.
+      let (u, d) = ipv6_packet_of-IsPacket bytes v p e in
+      let back : ipv6_packet_of (ipv6.write v q) ≡ Some (normal v, q) = rw (← d.header) (written-read bytes u v p q d fits) in
+      back ∙ ap (λ (w : Ipv6Repr). Some (w, q)) (normal-read bytes v p e);
+  no_longer = λ bytes v p q e fits.
+      let (u, d) = ipv6_packet_of-IsPacket bytes v p e in
+      let whole = d.reads.lengths in
+      let len = length-payload bytes u v p d in
+      let written : length (ipv6.write v q) ≡ 40 + length q = rw (← d.header) (length-written (with_len_ipv6 u (length q)) q (in_range bytes u v p q d fits)) in
+      omega (arith, written, len, whole);
+}

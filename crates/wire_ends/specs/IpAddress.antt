@@ -1,0 +1,17 @@
+-- Addresses of either version of the Internet Protocol.
+use Rattle.std.specs.Prelude.{ℕ, List}
+use Rattle.wire_addr.specs.Printed.{dotted, ipv6_text}
+use Rattle.wire_ends.specs.declared.ip_address.IpAddress.{IpAddress}
+use Rattle.wire_ends.specs.declared.ip_address.IpAddress.TheVariants.{Ipv4, Ipv6}
+use Rattle.wire_ends.specs.declared.ip_version.IpVersion.{IpVersion}
+use Rattle.wire_ends.specs.declared.ip_version.IpVersion.TheVariants as version
+
+-- the version of an address
+abbrev pub version_of : IpAddress → IpVersion
+version_of (Ipv4 octets) = version.Ipv4
+version_of (Ipv6 octets) = version.Ipv6
+
+-- the printed text of an address: that of the address that it holds
+abbrev pub address_text : IpAddress → List ℕ
+address_text (Ipv4 octets) = dotted octets
+address_text (Ipv6 octets) = ipv6_text octets

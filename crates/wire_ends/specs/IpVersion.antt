@@ -1,0 +1,31 @@
+-- Versions of the Internet Protocol (RFC 791, section 3.1; RFC 8200, section 3).
+use Rattle.std.specs.Prelude.{ℕ, ◌≡◌, ◌≤◌, ◌/◌, ◌^◌, ◌==◌, nat_le, if◌then◌else◌, Option, Some, None, List, codes, length, slice_index}
+use Rattle.wire_ends.specs.declared.ip_version.IpVersion.{IpVersion}
+use Rattle.wire_ends.specs.declared.ip_version.IpVersion.TheVariants.{Ipv4, Ipv6}
+
+-- the number of a version
+abbrev pub number_of : IpVersion → ℕ
+number_of Ipv4 = 4
+number_of Ipv6 = 6
+
+-- the number that the first four bits of the bytes spell
+abbrev pub version_number : List ℕ → ℕ
+version_number bytes = slice_index bytes 0 / 2 ^ 4
+
+-- the bytes begin a packet of this version
+pub record IsOfVersion (bytes : List ℕ) (v : IpVersion) : Type 0 where
+  pub some : 1 ≤ length bytes
+  pub number : version_number bytes ≡ number_of v
+
+-- the version that a number names, if it names one
+abbrev pub version_named : ℕ → Option IpVersion
+version_named n = if n == 4 then Some Ipv4 else (if n == 6 then Some Ipv6 else None)
+
+-- the one version whose packet the bytes begin, if there is one
+unfoldable pub packet_version : List ℕ → Option IpVersion
+packet_version bytes = if nat_le 1 (length bytes) then version_named (version_number bytes) else None
+
+-- the printed text of a version
+abbrev pub version_text : IpVersion → List ℕ
+version_text Ipv4 = codes "IPv4"
+version_text Ipv6 = codes "IPv6"

@@ -1,0 +1,2 @@
+pub mod IpAddress
+pub mod IpVersion

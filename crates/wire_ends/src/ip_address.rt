@@ -1,0 +1,141 @@
+//! Addresses of either version of the Internet Protocol.
+
+ghost use Rattle.std.specs.Prelude.{◌≡◌, ◌∷◌, [], Some};
+ghost use Rattle.wire_addr.specs.Octets.{octets_of};
+ghost use Rattle.wire_ends.specs.IpAddress.{address_text, version_of};
+ghost use Rattle.wire_ends.specs.declared.ip_address.IpAddress.TheVariants.{Ipv4, Ipv6};
+
+use crate::ip_version::IpVersion;
+use std::fmt;
+use wire_addr::{Ipv4Address, Ipv6Address};
+
+/// An address of either version.
+#[derive(Debug, Clone, Copy, PartialEq, Eq, PartialOrd, Ord, Hash)]
+pub enum IpAddress {
+    Ipv4(Ipv4Address),
+    Ipv6(Ipv6Address),
+}
+
+impl IpAddress {
+    /// The IPv4 address `a.b.c.d`.
+    pub fn v4(a: u8, b: u8, c: u8, d: u8) -> IpAddress
+        ensures { result ≡ Ipv4 (a ∷ b ∷ c ∷ d ∷ []) }
+    {
+        IpAddress::Ipv4(Ipv4Address::new(a, b, c, d))
+    }
+
+    /// The IPv6 address `a:b:c:d:e:f:g:h`.
+    #[allow(clippy::too_many_arguments)]
+    pub fn v6(a: u16, b: u16, c: u16, d: u16, e: u16, f: u16, g: u16, h: u16) -> IpAddress
+        ensures { result ≡ Ipv6 (octets_of (a ∷ b ∷ c ∷ d ∷ e ∷ f ∷ g ∷ h ∷ [])) }
+    {
+        IpAddress::Ipv6(Ipv6Address::new(a, b, c, d, e, f, g, h))
+    }
+
+    /// The version that the address belongs to.
+    pub fn version(&self) -> IpVersion
+        ensures { result ≡ version_of self.now }
+    {
+        match *self {
+            IpAddress::Ipv4(_) => IpVersion::Ipv4,
+            IpAddress::Ipv6(_) => IpVersion::Ipv6,
+        }
+    }
+}
+
+impl From<Ipv4Address> for IpAddress {
+    ghost from_gives = { λ octets address. address ≡ Ipv4 octets };
+
+    fn from(value: Ipv4Address) -> IpAddress {
+        IpAddress::Ipv4(value)
+    }
+}
+
+impl From<Ipv6Address> for IpAddress {
+    ghost from_gives = { λ octets address. address ≡ Ipv6 octets };
+
+    fn from(value: Ipv6Address) -> IpAddress {
+        IpAddress::Ipv6(value)
+    }
+}
+
+/// The text of the address that it holds.
+impl fmt::Display for IpAddress {
+    ghost output = { λ address. Some (address_text address) };
+
+    fn fmt<W: fmt::Write>(&self, f: &mut fmt::Formatter<W>) -> fmt::Result {
+        match *self {
+            IpAddress::Ipv4(address) => write!(f, "{address}"),
+            IpAddress::Ipv6(address) => write!(f, "{address}"),
+        }
+    }
+}
+
+#[cfg(test)]
+mod tests {
+    use super::*;
+    use std::alloc::{AllocError, Global};
+    use std::collections::HashSet;
+    use std::hash::Hash;
+    use std::test::Fail;
+
+    #[test]
+    fn prints_what_it_holds(rt: HostRuntime) -> Result<(), Fail> {
+        for (address, version, text) in [
+            (
+                IpAddress::v4(192, 168, 1, 1),
+                IpVersion::Ipv4,
+                "192.168.1.1",
+            ),
+            (
+                IpAddress::v6(0xfe80, 0, 0, 0, 0, 0, 0, 1),
+                IpVersion::Ipv6,
+                "fe80::1",
+            ),
+            (
+                IpAddress::v6(0, 0, 0, 0, 0, 0xffff, 0x102, 0x304),
+                IpVersion::Ipv6,
+                "::ffff:1.2.3.4",
+            ),
+        ] {
+            assert_eq!(rt; address.version(), version);
+            assert_eq!(rt; format!(in rt.alloc(); "{address}")?.as_str(), text);
+        }
+        Ok(())
+    }
+
+    #[test]
+    fn is_made_of_an_address(rt: HostRuntime) {
+        let ipv4 = IpAddress::from(Ipv4Address::new(1, 2, 3, 4));
+        assert!(rt; ipv4 == IpAddress::v4(1, 2, 3, 4));
+        let ipv6 = IpAddress::from(Ipv6Address::LOCALHOST);
+        assert!(rt; ipv6 == IpAddress::v6(0, 0, 0, 0, 0, 0, 0, 1));
+    }
+
+    /// How many different values there are.
+    fn count_distinct<T: Copy + Eq + Hash>(
+        alloc: Global,
+        values: &[T],
+    ) -> Result<usize, AllocError> {
+        let mut seen = HashSet::new(alloc);
+        for value in values {
+            seen.insert(*value)?;
+        }
+        Ok(seen.len())
+    }
+
+    #[test]
+    fn is_ordered_by_version_and_octets(rt: HostRuntime) -> Result<(), Fail> {
+        let low = IpAddress::v4(9, 255, 255, 255);
+        let high = IpAddress::v4(255, 255, 255, 255);
+        let other = IpAddress::v6(0, 0, 0, 0, 0, 0, 0, 0);
+        assert!(rt; low < high);
+        assert!(rt; high < other);
+        assert!(rt; other < IpAddress::v6(0, 0, 0, 0, 0, 0, 0, 1));
+        assert_eq!(rt;
+            count_distinct(rt.alloc(), &[low, high, low, other, other])?,
+            3
+        );
+        Ok(())
+    }
+}

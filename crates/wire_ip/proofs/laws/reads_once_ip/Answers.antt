@@ -1,0 +1,8 @@
+use Rattle.wire_ip.proofs.IpComputed.{Reads-ip_of}
+use Rattle.wire_ip.proofs.laws.reads_once_ip.Goals as goal
+
+pub returns : goal.returns
+returns c =
+    let value = Reads-ip_of c.args.checked c.args.bytes.now c.args.value c.requires.value in
+    let other = Reads-ip_of c.args.checked c.args.bytes.now c.args.other c.requires.other in
+    cc

@@ -1,0 +1,95 @@
+-- IP headers of either version (RFC 791, section 3.1; RFC 8200, section 3).
+use Rattle.std.specs.Prelude.{ℕ, Bool, Option, List, option_and_then, option_map}
+use Rattle.wire_ends.specs.IpVersion.{IsOfVersion, packet_version}
+use Rattle.wire_ends.specs.declared.ip_address.IpAddress.{IpAddress}
+use Rattle.wire_ends.specs.declared.ip_address.IpAddress.TheVariants as address
+use Rattle.wire_ends.specs.declared.ip_version.IpVersion.{IpVersion}
+use Rattle.wire_ends.specs.declared.ip_version.IpVersion.TheVariants as version
+use Rattle.wire_ipv4.specs.Ipv4 as ipv4
+use Rattle.wire_ipv4.specs.declared.ip_protocol.IpProtocol.{IpProtocol}
+use Rattle.wire_ip.specs.Ipv6 as ipv6
+use Rattle.wire_ip.specs.declared.ip.packet.IpPacket.{IpPacket}
+use Rattle.wire_ip.specs.declared.ip.repr.IpRepr.{IpRepr}
+use Rattle.wire_ip.specs.declared.ip.repr.IpRepr.TheVariants.{Ipv4, Ipv6}
+
+-- the bytes under a view
+abbrev pub packet_bytes : IpPacket → List ℕ
+packet_bytes p = p.buffer.now
+
+-- ---- the parts of a value
+
+-- its version
+abbrev pub version_of : IpRepr → IpVersion
+version_of (Ipv4 v) = version.Ipv4
+version_of (Ipv6 v) = version.Ipv6
+
+-- the address of its sender
+abbrev pub src_addr_of : IpRepr → IpAddress
+src_addr_of (Ipv4 v) = address.Ipv4 v.src_addr
+src_addr_of (Ipv6 v) = address.Ipv6 v.src_addr
+
+-- the address of its receiver
+abbrev pub dst_addr_of : IpRepr → IpAddress
+dst_addr_of (Ipv4 v) = address.Ipv4 v.dst_addr
+dst_addr_of (Ipv6 v) = address.Ipv6 v.dst_addr
+
+-- the protocol of its payload
+abbrev pub next_header_of : IpRepr → IpProtocol
+next_header_of (Ipv4 v) = v.next_header
+next_header_of (Ipv6 v) = v.next_header
+
+-- the length of its payload
+abbrev pub payload_len_of : IpRepr → ℕ
+payload_len_of (Ipv4 v) = v.payload_len
+payload_len_of (Ipv6 v) = v.payload_len
+
+-- its hop limit
+abbrev pub hop_limit_of : IpRepr → ℕ
+hop_limit_of (Ipv4 v) = v.hop_limit
+hop_limit_of (Ipv6 v) = v.hop_limit
+
+-- the value with another length of its payload
+abbrev pub with_payload_len : IpRepr → ℕ → IpRepr
+with_payload_len (Ipv4 v) len = Ipv4 (record v { payload_len = len })
+with_payload_len (Ipv6 v) len = Ipv6 (record v { payload_len = len })
+
+-- the length of its header
+abbrev pub header_len_of : IpRepr → ℕ
+header_len_of (Ipv4 v) = 20
+header_len_of (Ipv6 v) = 40
+
+-- the length of the longest payload that its header can say
+abbrev pub max_payload_len : IpRepr → ℕ
+max_payload_len (Ipv4 v) = 65515
+max_payload_len (Ipv6 v) = 65535
+
+-- ---- reading and writing
+
+-- the bytes are read as these values by the rules of their version
+abbrev pub ReadsHeader : List ℕ → Bool → IpRepr → Type 0
+ReadsHeader bytes checked (Ipv4 v) = ipv4.Reads bytes checked v
+ReadsHeader bytes checked (Ipv6 v) = ipv6.Reads bytes v
+
+-- the bytes begin with a packet whose header has these values
+pub record Reads (bytes : List ℕ) (checked : Bool) (v : IpRepr) : Type 0 where
+  pub version : IsOfVersion bytes (version_of v)
+  pub header : ReadsHeader bytes checked v
+
+-- the one value that the bytes are read as by the rules of a version, if there is one
+abbrev pub header_of_version : Bool → List ℕ → IpVersion → Option IpRepr
+header_of_version checked bytes version.Ipv4 = option_map Ipv4 (ipv4.ipv4_of checked bytes)
+header_of_version checked bytes version.Ipv6 = option_map Ipv6 (ipv6.ipv6_of bytes)
+
+-- the one value that the bytes are read as, if there is one
+unfoldable pub ip_of : Bool → List ℕ → Option IpRepr
+ip_of checked bytes = option_and_then (header_of_version checked bytes) (packet_version bytes)
+
+-- the header that has these values
+abbrev pub bytes_of : IpRepr → Bool → List ℕ
+bytes_of (Ipv4 v) written = ipv4.bytes_of v written
+bytes_of (Ipv6 v) written = ipv6.bytes_of v
+
+-- the value that is read of its header: a number of the table has its own name
+abbrev pub normal : IpRepr → IpRepr
+normal (Ipv4 v) = Ipv4 (ipv4.normal v)
+normal (Ipv6 v) = Ipv6 (ipv6.normal v)

@@ -1,0 +1,58 @@
+//! A view of the bytes of an IP packet, whose version is to be found out.
+
+ghost use Rattle.std.specs.Prelude.{◌≡◌, ◌↔◌, ◌≤◌, IfOk, IsOk, length};
+ghost use Rattle.wire_field.specs.Field.{field};
+ghost use Rattle.wire_ip.specs.Ip.{packet_bytes};
+
+use wire_addr::{Error, Result};
+
+/// A view of the bytes of a packet of either version.
+#[derive(Debug, Clone, Copy, PartialEq, Eq)]
+pub struct IpPacket<'a> {
+    buffer: &'a [u8],
+}
+
+impl<'a> IpPacket<'a> {
+    /// The view of any bytes.
+    pub fn new_unchecked(buffer: &'a [u8]) -> IpPacket<'a>
+        ensures { packet_bytes result ≡ buffer.now }
+    {
+        IpPacket { buffer }
+    }
+
+    /// The view of bytes that hold a version.
+    pub fn new_checked(buffer: &'a [u8]) -> Result<IpPacket<'a>>
+        ensures ok { IsOk result ↔ (1 ≤ length buffer.now) }
+        ensures bytes { IfOk result (λ packet. packet_bytes packet ≡ buffer.now) }
+    {
+        let packet = IpPacket::new_unchecked(buffer);
+        packet.check_len()?;
+        Ok(packet)
+    }
+
+    /// Ok exactly where there are bytes, and then `version` may be called.
+    pub fn check_len(&self) -> Result<()>
+        ensures { IsOk result ↔ (1 ≤ length (packet_bytes self.now)) }
+    {
+        if self.buffer.is_empty() {
+            Err(Error)
+        } else {
+            Ok(())
+        }
+    }
+
+    /// The bytes, for as long as they are lent to the view.
+    pub fn into_inner(self) -> &'a [u8]
+        ensures { result.now ≡ packet_bytes self.entry }
+    {
+        self.buffer
+    }
+
+    /// The version, of 4 bits, which need not be one of `IpVersion`.
+    pub fn version(&self) -> u8
+        requires { 1 ≤ length (packet_bytes self.now) }
+        ensures { result ≡ field (packet_bytes self.now) 0 4 }
+    {
+        self.buffer[0] >> 4
+    }
+}

@@ -1,0 +1,204 @@
+//! The values of an IP header of either version.
+
+ghost use Rattle.std.specs.Prelude.{◌≡◌, ◌↔◌, ◌≤◌, ◌<◌, ◌+◌, ◌^◌, ◌++◌, MatchResult, None, Ok, Some, drop, length};
+ghost use Rattle.net_base.specs.Checksum.{computes, verifies};
+ghost use Rattle.wire_ends.specs.IpAddress as address;
+ghost use Rattle.wire_ip.specs.Ip.{Reads, bytes_of, dst_addr_of, header_len_of, hop_limit_of, ip_of, max_payload_len, next_header_of, packet_bytes, payload_len_of, src_addr_of, version_of, with_payload_len};
+ghost use Rattle.wire_ip.specs.declared.ip.repr.IpRepr.{IpRepr};
+ghost use Rattle.wire_ip.specs.declared.ip.repr.IpRepr.TheVariants.{Ipv4, Ipv6};
+
+use super::IpPacket;
+use crate::ipv6::{Ipv6Packet, Ipv6PacketMut, Ipv6Repr};
+use net_base::ChecksumCapabilities;
+use wire_addr::Result;
+use wire_ends::{IpAddress, IpVersion};
+use wire_ipv4::{IpProtocol, Ipv4Packet, Ipv4PacketMut, Ipv4Repr};
+
+/// The values of a packet's header, whose version is that of its addresses.
+#[derive(Debug, Clone, Copy, PartialEq, Eq)]
+pub enum IpRepr {
+    Ipv4(Ipv4Repr),
+    Ipv6(Ipv6Repr),
+}
+
+impl From<Ipv4Repr> for IpRepr {
+    ghost from_gives = { λ v w. w ≡ Ipv4 v };
+
+    fn from(value: Ipv4Repr) -> IpRepr {
+        IpRepr::Ipv4(value)
+    }
+}
+
+impl From<Ipv6Repr> for IpRepr {
+    ghost from_gives = { λ v w. w ≡ Ipv6 v };
+
+    fn from(value: Ipv6Repr) -> IpRepr {
+        IpRepr::Ipv6(value)
+    }
+}
+
+impl IpRepr {
+    /// The values of a header between two addresses of one version.
+    pub fn new(
+        src_addr: IpAddress,
+        dst_addr: IpAddress,
+        next_header: IpProtocol,
+        payload_len: usize,
+        hop_limit: u8,
+    ) -> IpRepr
+        requires { address.version_of src_addr ≡ address.version_of dst_addr }
+        ensures src_addr { src_addr_of result ≡ src_addr }
+        ensures dst_addr { dst_addr_of result ≡ dst_addr }
+        ensures next_header { next_header_of result ≡ next_header }
+        ensures payload_len { payload_len_of result ≡ payload_len }
+        ensures hop_limit { hop_limit_of result ≡ hop_limit }
+    {
+        match src_addr {
+            IpAddress::Ipv4(src_addr) => {
+                let IpAddress::Ipv4(dst_addr) = dst_addr else {
+                    unreachable!()
+                };
+                IpRepr::Ipv4(Ipv4Repr {
+                    src_addr,
+                    dst_addr,
+                    next_header,
+                    payload_len,
+                    hop_limit,
+                })
+            }
+            IpAddress::Ipv6(src_addr) => {
+                let IpAddress::Ipv6(dst_addr) = dst_addr else {
+                    unreachable!()
+                };
+                IpRepr::Ipv6(Ipv6Repr {
+                    src_addr,
+                    dst_addr,
+                    next_header,
+                    payload_len,
+                    hop_limit,
+                })
+            }
+        }
+    }
+
+    /// The values of a packet's header, as those of the version that its first four bits number. The
+    /// checksum of an IPv4 header is verified where `caps` says so.
+    pub fn parse(packet: &IpPacket<'_>, caps: &ChecksumCapabilities) -> Result<IpRepr>
+        ensures reads { (v : IpRepr) → (result ≡ Ok v) ↔ Reads (packet_bytes packet.now) (verifies caps.now.ipv4) v }
+        ensures value { MatchResult result (λ v. ip_of (verifies caps.now.ipv4) (packet_bytes packet.now) ≡ Some v)
+            (λ _. ip_of (verifies caps.now.ipv4) (packet_bytes packet.now) ≡ None) }
+    {
+        let bytes = packet.into_inner();
+        match IpVersion::of_packet(bytes)? {
+            IpVersion::Ipv4 => {
+                let value = Ipv4Repr::parse(&Ipv4Packet::new_unchecked(bytes), caps)?;
+                Ok(IpRepr::Ipv4(value))
+            }
+            IpVersion::Ipv6 => {
+                let value = Ipv6Repr::parse(&Ipv6Packet::new_unchecked(bytes))?;
+                Ok(IpRepr::Ipv6(value))
+            }
+        }
+    }
+
+    /// The version of the header.
+    pub fn version(&self) -> IpVersion
+        ensures { result ≡ version_of self.now }
+    {
+        match self {
+            IpRepr::Ipv4(_) => IpVersion::Ipv4,
+            IpRepr::Ipv6(_) => IpVersion::Ipv6,
+        }
+    }
+
+    /// The address of the sender.
+    pub fn src_addr(&self) -> IpAddress
+        ensures { result ≡ src_addr_of self.now }
+    {
+        match self {
+            IpRepr::Ipv4(value) => IpAddress::Ipv4(value.src_addr),
+            IpRepr::Ipv6(value) => IpAddress::Ipv6(value.src_addr),
+        }
+    }
+
+    /// The address of the receiver.
+    pub fn dst_addr(&self) -> IpAddress
+        ensures { result ≡ dst_addr_of self.now }
+    {
+        match self {
+            IpRepr::Ipv4(value) => IpAddress::Ipv4(value.dst_addr),
+            IpRepr::Ipv6(value) => IpAddress::Ipv6(value.dst_addr),
+        }
+    }
+
+    /// The protocol of the payload.
+    pub fn next_header(&self) -> IpProtocol
+        ensures { result ≡ next_header_of self.now }
+    {
+        match self {
+            IpRepr::Ipv4(value) => value.next_header,
+            IpRepr::Ipv6(value) => value.next_header,
+        }
+    }
+
+    /// The length of the payload, in octets.
+    pub fn payload_len(&self) -> usize
+        ensures { result ≡ payload_len_of self.now }
+    {
+        match self {
+            IpRepr::Ipv4(value) => value.payload_len,
+            IpRepr::Ipv6(value) => value.payload_len,
+        }
+    }
+
+    /// Puts another length of the payload, in octets.
+    pub fn set_payload_len(&mut self, length: usize)
+        ensures { self.new ≡ with_payload_len self.old length }
+    {
+        match self {
+            IpRepr::Ipv4(value) => value.payload_len = length,
+            IpRepr::Ipv6(value) => value.payload_len = length,
+        }
+    }
+
+    /// How many more hops the packet may take.
+    pub fn hop_limit(&self) -> u8
+        ensures { result ≡ hop_limit_of self.now }
+    {
+        match self {
+            IpRepr::Ipv4(value) => value.hop_limit,
+            IpRepr::Ipv6(value) => value.hop_limit,
+        }
+    }
+
+    /// The length of the header that `emit` writes, in octets.
+    pub fn header_len(&self) -> usize
+        ensures { result ≡ header_len_of self.now }
+    {
+        match self {
+            IpRepr::Ipv4(value) => value.buffer_len(),
+            IpRepr::Ipv6(value) => value.buffer_len(),
+        }
+    }
+
+    /// The length of the packet, its header and its payload, in octets.
+    pub fn buffer_len(&self) -> usize
+        requires { header_len_of self.now + payload_len_of self.now < 2 ^ 64 }
+        ensures { result ≡ header_len_of self.now + payload_len_of self.now }
+    {
+        self.header_len() + self.payload_len()
+    }
+
+    /// Writes the header, and leaves what follows it. The checksum of an IPv4 header is computed where
+    /// `caps` says so, else 0.
+    pub fn emit(&self, buffer: &mut [u8], caps: &ChecksumCapabilities)
+        requires room { header_len_of self.now ≤ length buffer.old }
+        requires payload_len { payload_len_of self.now ≤ max_payload_len self.now }
+        ensures { buffer.new ≡ bytes_of self.now (computes caps.now.ipv4) ++ drop (header_len_of self.now) buffer.old }
+    {
+        match self {
+            IpRepr::Ipv4(value) => value.emit(&mut Ipv4PacketMut::new_unchecked(buffer), caps),
+            IpRepr::Ipv6(value) => value.emit(&mut Ipv6PacketMut::new_unchecked(buffer)),
+        }
+    }
+}

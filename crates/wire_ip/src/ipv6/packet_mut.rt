@@ -1,0 +1,251 @@
+//! A view that reads and writes the bytes of an IPv6 packet.
+
+ghost use Rattle.std.specs.Prelude.{◌≡◌, ◌↔◌, ◌≤◌, IfOk, IsOk, length, slice_range};
+ghost use Rattle.std.specs.Borrow.{sem};
+ghost use Rattle.wire_field.specs.Field.{field, with_field, with_range};
+ghost use Rattle.wire_field.specs.Loan.{Checks, Holds, Locates, StaysIfErr};
+ghost use Rattle.wire_ip.specs.Ipv6.{Becomes, HasLengths, packet_bytes, packet_bytes_mut, packet_slice, payload_of, total_len};
+ghost use Rattle.wire_ip.specs.Ipv6Loan.{LendsPayload};
+ghost use Rattle.wire_ipv4.specs.Protocol.{number_of, protocol_of};
+
+use super::{IPV6_HEADER_LEN, Ipv6Packet};
+use byteorder::{ByteOrder, NetworkEndian};
+use wire_addr::{Error, Ipv6Address, Result};
+use wire_field::{Checked, Located, replace_bits_u16, replace_bits_u24, set_bits};
+use wire_ipv4::IpProtocol;
+
+/// A view of the bytes of a packet that writes to them. Its calls ask for the bytes that they use, and
+/// for no more.
+#[derive(Debug, Drop)]
+pub struct Ipv6PacketMut<'a> {
+    buffer: &'a mut [u8],
+}
+
+impl<'a> Ipv6PacketMut<'a> {
+    /// The view of any bytes.
+    pub fn new_unchecked(buffer: &'a mut [u8]) -> Ipv6PacketMut<'a>
+        ensures { Holds buffer.entry (packet_slice result) buffer.old }
+    {
+        Ipv6PacketMut { buffer }
+    }
+
+    /// The view of bytes that `check_len` takes. An error leaves them as they are.
+    pub fn new_checked(buffer: &'a mut [u8]) -> Result<Ipv6PacketMut<'a>>
+        ensures* refused { sem 𝓛 (StaysIfErr buffer.entry packet_slice result) }
+        ensures ok { IsOk result ↔ HasLengths buffer.old }
+        ensures bytes { IfOk result (λ packet. Holds buffer.entry (packet_slice packet) buffer.old) }
+    {
+        let checked = check(buffer);
+        if checked.ok {
+            Ok(Ipv6PacketMut {
+                buffer: checked.bytes,
+            })
+        } else {
+            Err(Error)
+        }
+    }
+
+    /// Whether the bytes hold a whole header, and as many bytes as it speaks of. Then each call of
+    /// this view may be made, until the payload's length is written.
+    pub fn check_len(&self) -> Result<()>
+        ensures { IsOk result ↔ HasLengths (packet_bytes_mut self.now) }
+    {
+        self.as_view().check_len()
+    }
+
+    /// The bytes, for as long as they are lent to the view.
+    pub fn into_inner(self) -> &'a mut [u8]
+        ensures { Holds (packet_slice self.entry) result (packet_bytes_mut self.entry) }
+    {
+        self.buffer
+    }
+
+    /// The bytes.
+    pub fn as_bytes(&self) -> &[u8]
+        ensures { result.now ≡ packet_bytes_mut self.now }
+    {
+        self.buffer
+    }
+
+    /// A view that reads the same bytes.
+    pub fn as_view(&self) -> Ipv6Packet<'_>
+        ensures { packet_bytes result ≡ packet_bytes_mut self.now }
+    {
+        Ipv6Packet::new_unchecked(self.buffer)
+    }
+
+    /// The length of the header in octets, which is the same for every packet.
+    pub fn header_len(&self) -> usize
+        ensures { result ≡ 40 }
+    {
+        self.as_view().header_len()
+    }
+
+    /// The version, of 4 bits.
+    pub fn version(&self) -> u8
+        requires { 1 ≤ length (packet_bytes_mut self.now) }
+        ensures { result ≡ field (packet_bytes_mut self.now) 0 4 }
+    {
+        self.as_view().version()
+    }
+
+    /// The traffic class: the differentiated services code point and the explicit congestion
+    /// notification (RFC 8200, section 7).
+    pub fn traffic_class(&self) -> u8
+        requires { 2 ≤ length (packet_bytes_mut self.now) }
+        ensures { result ≡ field (packet_bytes_mut self.now) 4 8 }
+    {
+        self.as_view().traffic_class()
+    }
+
+    /// The flow label, of 20 bits (RFC 8200, section 6).
+    pub fn flow_label(&self) -> u32
+        requires { 4 ≤ length (packet_bytes_mut self.now) }
+        ensures { result ≡ field (packet_bytes_mut self.now) 12 20 }
+    {
+        self.as_view().flow_label()
+    }
+
+    /// The length of what follows the header, in octets. Extension headers are counted.
+    pub fn payload_len(&self) -> u16
+        requires { 6 ≤ length (packet_bytes_mut self.now) }
+        ensures { result ≡ field (packet_bytes_mut self.now) 32 16 }
+    {
+        self.as_view().payload_len()
+    }
+
+    /// The length of the packet in octets, its header included.
+    pub fn total_len(&self) -> usize
+        requires { 6 ≤ length (packet_bytes_mut self.now) }
+        ensures { result ≡ total_len (packet_bytes_mut self.now) }
+    {
+        self.as_view().total_len()
+    }
+
+    /// The protocol of the payload, or the kind of the extension header that it begins with.
+    pub fn next_header(&self) -> IpProtocol
+        requires { 7 ≤ length (packet_bytes_mut self.now) }
+        ensures { result ≡ protocol_of (field (packet_bytes_mut self.now) 48 8) }
+    {
+        self.as_view().next_header()
+    }
+
+    /// How many more hops the packet may take.
+    pub fn hop_limit(&self) -> u8
+        requires { 8 ≤ length (packet_bytes_mut self.now) }
+        ensures { result ≡ field (packet_bytes_mut self.now) 56 8 }
+    {
+        self.as_view().hop_limit()
+    }
+
+    /// The address of the sender.
+    pub fn src_addr(&self) -> Ipv6Address
+        requires { 24 ≤ length (packet_bytes_mut self.now) }
+        ensures { result ≡ slice_range (packet_bytes_mut self.now) 8 24 }
+    {
+        self.as_view().src_addr()
+    }
+
+    /// The address of the receiver.
+    pub fn dst_addr(&self) -> Ipv6Address
+        requires { 40 ≤ length (packet_bytes_mut self.now) }
+        ensures { result ≡ slice_range (packet_bytes_mut self.now) 24 40 }
+    {
+        self.as_view().dst_addr()
+    }
+
+    /// What follows the header, up to the packet's length, to write to. What is left in it stands in
+    /// the packet afterwards, and all other bytes stay.
+    pub fn payload_mut(&mut self) -> &mut [u8]
+        requires { HasLengths (packet_bytes_mut self.old) }
+        ensures* writes_back { sem 𝓛 (LendsPayload self.entry result) }
+        ensures value { result.now ≡ payload_of (packet_bytes_mut self.old) }
+    {
+        locate_payload(self.buffer).lend()
+    }
+
+    /// Writes the version, cut to 4 bits.
+    pub fn set_version(&mut self, value: u8)
+        requires { 1 ≤ length (packet_bytes_mut self.old) }
+        ensures { Becomes self.old self.new (with_field (packet_bytes_mut self.old) 0 4 value) }
+    {
+        set_bits(self.buffer, 0, 4, value);
+    }
+
+    /// Writes the traffic class.
+    pub fn set_traffic_class(&mut self, value: u8)
+        requires { 2 ≤ length (packet_bytes_mut self.old) }
+        ensures { Becomes self.old self.new (with_field (packet_bytes_mut self.old) 4 8 value) }
+    {
+        replace_bits_u16(&mut self.buffer[0..2], 4, 8, value.into());
+    }
+
+    /// Writes the flow label, cut to 20 bits.
+    pub fn set_flow_label(&mut self, value: u32)
+        requires { 4 ≤ length (packet_bytes_mut self.old) }
+        ensures { Becomes self.old self.new (with_field (packet_bytes_mut self.old) 12 20 value) }
+    {
+        replace_bits_u24(&mut self.buffer[1..4], 0, 20, value);
+    }
+
+    /// Writes the length of what follows the header, in octets.
+    pub fn set_payload_len(&mut self, value: u16)
+        requires { 6 ≤ length (packet_bytes_mut self.old) }
+        ensures { Becomes self.old self.new (with_field (packet_bytes_mut self.old) 32 16 value) }
+    {
+        NetworkEndian::write_u16(&mut self.buffer[4..6], value);
+    }
+
+    /// Writes the protocol of the payload.
+    pub fn set_next_header(&mut self, value: IpProtocol)
+        requires { 7 ≤ length (packet_bytes_mut self.old) }
+        ensures { Becomes self.old self.new (with_field (packet_bytes_mut self.old) 48 8 (number_of value)) }
+    {
+        self.buffer[6] = value.into();
+    }
+
+    /// Writes how many more hops the packet may take.
+    pub fn set_hop_limit(&mut self, value: u8)
+        requires { 8 ≤ length (packet_bytes_mut self.old) }
+        ensures { Becomes self.old self.new (with_field (packet_bytes_mut self.old) 56 8 value) }
+    {
+        self.buffer[7] = value;
+    }
+
+    /// Writes the address of the sender.
+    pub fn set_src_addr(&mut self, value: Ipv6Address)
+        requires { 24 ≤ length (packet_bytes_mut self.old) }
+        ensures { Becomes self.old self.new (with_range (packet_bytes_mut self.old) 8 24 value) }
+    {
+        self.buffer[8..24].copy_from_slice(&value.octets());
+    }
+
+    /// Writes the address of the receiver.
+    pub fn set_dst_addr(&mut self, value: Ipv6Address)
+        requires { 40 ≤ length (packet_bytes_mut self.old) }
+        ensures { Becomes self.old self.new (with_range (packet_bytes_mut self.old) 24 40 value) }
+    {
+        self.buffer[24..40].copy_from_slice(&value.octets());
+    }
+}
+
+// Whether the bytes hold a whole header, and as many bytes as it speaks of.
+fn check(bytes: &mut [u8]) -> Checked<'_>
+    ensures { Checks bytes.entry (HasLengths bytes.old) result }
+{
+    let ok = Ipv6Packet::new_checked(bytes).is_ok();
+    Checked { bytes, ok }
+}
+
+// Where the payload stands in the bytes of a packet.
+fn locate_payload(bytes: &mut [u8]) -> Located<'_>
+    requires { HasLengths bytes.old }
+    ensures { Locates bytes.entry 40 (total_len bytes.old) result }
+{
+    let end = Ipv6Packet::new_unchecked(bytes).total_len();
+    Located {
+        bytes,
+        start: IPV6_HEADER_LEN,
+        end,
+    }
+}
