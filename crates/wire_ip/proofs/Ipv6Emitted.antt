@@ -15,17 +15,17 @@ pub record IsInRange (v : Ipv6Repr) : Type 0 where
   pub hop_limit : v.hop_limit < 256
 
 -- what becomes of single bytes
-version_byte : (a n : ℕ) → with_part (with_part (a * 1 + 0) 4 4 6 % 256 * 256 + (with_part n 0 20 0 / 65536 % 256 * 1 + 0)) 4 8 0 / 256 % 256 ≡ 96
-version_byte a n = omega arith
+first_byte : (n : ℕ) → with_part n 0 32 0x60000000 / 16777216 % 256 ≡ 0x60
+first_byte n = omega arith
 
-class_byte : (a n : ℕ) → with_part (a * 256 + (with_part n 0 20 0 / 65536 % 256 * 1 + 0)) 4 8 0 % 256 ≡ 0
-class_byte a n = omega arith
+second_byte : (n : ℕ) → with_part n 0 32 0x60000000 / 65536 % 256 ≡ 0
+second_byte n = omega arith
 
-label_middle : (n : ℕ) → with_part n 0 20 0 / 256 % 256 ≡ 0
-label_middle n = omega arith
+third_byte : (n : ℕ) → with_part n 0 32 0x60000000 / 256 % 256 ≡ 0
+third_byte n = omega arith
 
-label_low : (n : ℕ) → with_part n 0 20 0 % 256 ≡ 0
-label_low n = omega arith
+fourth_byte : (n : ℕ) → with_part n 0 32 0x60000000 % 256 ≡ 0
+fourth_byte n = omega arith
 
 small_byte : (n x : ℕ) → x < 256 → with_part n 0 8 x % 256 ≡ x
 small_byte n x h = omega arith
@@ -33,7 +33,7 @@ small_byte n x h = omega arith
 -- the writes of `emit`, in turn
 abbrev pub written : List ℕ → Ipv6Repr → List ℕ
 written old v =
-    let a = with_field (with_field (with_field old 0 4 6) 12 20 0) 4 8 0 in
+    let a = with_field old 0 32 0x60000000 in
     let b = with_field (with_field (with_field a 32 16 v.payload_len) 56 8 v.hop_limit) 48 8 (number_of v.next_header) in
     with_range (with_range b 8 24 v.src_addr) 24 40 v.dst_addr
 
@@ -42,10 +42,10 @@ written-bytes_of old v room h = rw (
   cells-all 16 v.src_addr h.src_addr,
   cells-all 16 v.dst_addr h.dst_addr,
   cells-drop 40 old room,
-  version_byte,
-  class_byte,
-  label_middle,
-  label_low,
+  first_byte,
+  second_byte,
+  third_byte,
+  fourth_byte,
   word_high,
   word_low,
   small_byte _ v.hop_limit h.hop_limit,

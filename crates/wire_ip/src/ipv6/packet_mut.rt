@@ -164,6 +164,14 @@ impl<'a> Ipv6PacketMut<'a> {
         locate_payload(self.buffer).lend()
     }
 
+    // Writes the version, the traffic class and the flow label at once.
+    pub(super) fn set_first_word(&mut self, value: u32)
+        requires { 4 ≤ length (packet_bytes_mut self.old) }
+        ensures { Becomes self.old self.new (with_field (packet_bytes_mut self.old) 0 32 value) }
+    {
+        NetworkEndian::write_u32(&mut self.buffer[0..4], value);
+    }
+
     /// Writes the version, cut to 4 bits.
     pub fn set_version(&mut self, value: u8)
         requires { 1 ≤ length (packet_bytes_mut self.old) }

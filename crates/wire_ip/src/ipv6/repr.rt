@@ -10,6 +10,9 @@ use std::fmt;
 use wire_addr::{Error, Ipv6Address, Result};
 use wire_ipv4::IpProtocol;
 
+// Version 6 before a traffic class and a flow label of 0.
+const VERSION_6: u32 = 0x6000_0000;
+
 /// The values of a packet's header that are more than its layout: no traffic class, no flow label.
 #[derive(Debug, Clone, Copy, PartialEq, Eq)]
 pub struct Ipv6Repr {
@@ -56,9 +59,7 @@ impl Ipv6Repr {
         ensures { Becomes packet.old packet.new (bytes_of self.now ++ drop 40 (packet_bytes_mut packet.old)) }
     {
         let value = *self;
-        packet.set_version(6);
-        packet.set_flow_label(0);
-        packet.set_traffic_class(0);
+        packet.set_first_word(VERSION_6);
         packet.set_payload_len(value.payload_len as u16);
         packet.set_hop_limit(value.hop_limit);
         packet.set_next_header(value.next_header);

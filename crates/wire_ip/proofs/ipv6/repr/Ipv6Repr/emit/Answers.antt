@@ -30,8 +30,6 @@ returns c =
             c.set_next_header.ensures.holds,
             c.set_hop_limit.ensures.holds,
             c.set_payload_len.ensures.holds,
-            c.set_traffic_class.ensures.holds,
-            c.set_flow_label.ensures.holds,
-            c.set_version.ensures.holds,
+            c.set_first_word.ensures.holds,
           ) whole;
     }
