@@ -15,8 +15,7 @@
 enum {
     ROUNDS = 201,
     MOST_BYTES = 1 << 20,
-    IPV4_HEADERS_LEN = 34,
-    IPV6_HEADERS_LEN = 54,
+    MOST_PAYLOAD = 1472,
     ADDRESSES = 256,
     MOST_TEXT = 39, /* of an address */
 };
@@ -26,6 +25,9 @@ struct library {
     uint32_t (*parse)(const uint8_t *, size_t, uint8_t);
     size_t (*emit_ipv4)(uint32_t, uint32_t, uint8_t, uint8_t, size_t, uint8_t, uint8_t *, size_t);
     size_t (*emit_ipv6)(const uint8_t *, const uint8_t *, uint8_t, uint8_t, size_t, uint8_t *, size_t);
+    size_t (*emit_udp_ipv4)(uint32_t, uint32_t, uint16_t, uint16_t, const uint8_t *, size_t, uint8_t, uint8_t *, size_t);
+    size_t (*emit_udp_ipv6)(const uint8_t *, const uint8_t *, uint16_t, uint16_t, const uint8_t *, size_t, uint8_t,
+                            uint8_t *, size_t);
     size_t (*ipv6_print)(const uint8_t *, uint8_t *, size_t);
     size_t (*rebuild)(const uint8_t *, size_t, uint8_t *, size_t);
 };
@@ -41,10 +43,13 @@ struct row {
 };
 
 static uint8_t bytes[MOST_BYTES];
+static size_t frame_len; /* of the frame in them, where there is one */
+static uint8_t payload[MOST_PAYLOAD]; /* of a UDP packet */
 static uint8_t out[ADDRESSES * MOST_TEXT];
 static volatile uint64_t sink;
 
 static const uint8_t ethernet_addresses[] = {2, 0, 0, 0, 0, 2, 2, 0, 0, 0, 0, 1};
+static const uint32_t SRC = 0xc0a80101, DST = 0xc0a80102;
 static const uint8_t src[16] = {0xfe, 0x80, [15] = 1}, dst[16] = {0xff, 0x02, [15] = 1};
 
 static void prepare_bytes(const struct row *row)
@@ -52,6 +57,7 @@ static void prepare_bytes(const struct row *row)
     (void)row;
     for (size_t i = 0; i < MOST_BYTES; i++)
         bytes[i] = (uint8_t)(i * 31 % 251);
+    memcpy(payload, bytes, sizeof payload);
 }
 
 static void prepare_type(uint8_t high, uint8_t low)
@@ -65,14 +71,34 @@ static void prepare_ipv4(const struct row *row)
 {
     prepare_bytes(row);
     prepare_type(0x08, 0x00);
-    lk_emit_ipv4(0xc0a80101, 0xc0a80102, 1, 64, row->size, 1, bytes + 14, 20);
+    lk_emit_ipv4(SRC, DST, 1, 64, row->size, 1, bytes + 14, 20);
+    frame_len = 14 + 20 + row->size;
 }
 
 static void prepare_ipv6(const struct row *row)
 {
     prepare_bytes(row);
     prepare_type(0x86, 0xdd);
-    lk_emit_ipv6(src, dst, 17, 64, row->size, bytes + 14, 40);
+    lk_emit_ipv6(src, dst, 58, 64, row->size, bytes + 14, 40);
+    frame_len = 14 + 40 + row->size;
+}
+
+static void prepare_udp_ipv4(const struct row *row)
+{
+    uint8_t *packet = bytes + 14;
+    prepare_ipv4(row);
+    size_t len = lk_emit_udp_ipv4(SRC, DST, 48896, 53, payload, row->size, 1, packet + 20, MOST_BYTES - 34);
+    lk_emit_ipv4(SRC, DST, 17, 64, len, 1, packet, 20);
+    frame_len = 14 + 20 + len;
+}
+
+static void prepare_udp_ipv6(const struct row *row)
+{
+    uint8_t *packet = bytes + 14;
+    prepare_ipv6(row);
+    size_t len = lk_emit_udp_ipv6(src, dst, 48896, 53, payload, row->size, 1, packet + 40, MOST_BYTES - 54);
+    lk_emit_ipv6(src, dst, 17, 64, len, packet, 40);
+    frame_len = 14 + 40 + len;
 }
 
 /* Addresses of four kinds: eight groups of all lengths, zeros in one place and in two, and an IPv4
@@ -107,32 +133,32 @@ static uint64_t call_checksum(const struct library *library, const struct row *r
 
 static uint64_t call_parse(const struct library *library, const struct row *row)
 {
-    return library->parse(bytes, IPV4_HEADERS_LEN + row->size, row->checked);
-}
-
-static uint64_t call_parse_ipv6(const struct library *library, const struct row *row)
-{
-    return library->parse(bytes, IPV6_HEADERS_LEN + row->size, row->checked);
+    return library->parse(bytes, frame_len, row->checked);
 }
 
 static uint64_t call_emit(const struct library *library, const struct row *row)
 {
-    return library->emit_ipv4(0xc0a80101, 0xc0a80102, 1, 64, row->size, row->checked, out, sizeof out);
+    return library->emit_ipv4(SRC, DST, 1, 64, row->size, row->checked, out, sizeof out);
 }
 
 static uint64_t call_emit_ipv6(const struct library *library, const struct row *row)
 {
-    return library->emit_ipv6(src, dst, 17, 64, row->size, out, sizeof out);
+    return library->emit_ipv6(src, dst, 58, 64, row->size, out, sizeof out);
+}
+
+static uint64_t call_emit_udp(const struct library *library, const struct row *row)
+{
+    return library->emit_udp_ipv4(SRC, DST, 48896, 53, payload, row->size, row->checked, out, sizeof out);
+}
+
+static uint64_t call_emit_udp_ipv6(const struct library *library, const struct row *row)
+{
+    return library->emit_udp_ipv6(src, dst, 48896, 53, payload, row->size, row->checked, out, sizeof out);
 }
 
 static uint64_t call_rebuild(const struct library *library, const struct row *row)
 {
-    return library->rebuild(bytes, IPV4_HEADERS_LEN + row->size, out, sizeof out);
-}
-
-static uint64_t call_rebuild_ipv6(const struct library *library, const struct row *row)
-{
-    return library->rebuild(bytes, IPV6_HEADERS_LEN + row->size, out, sizeof out);
+    return library->rebuild(bytes, frame_len, out, sizeof out);
 }
 
 static uint64_t call_print(const struct library *library, const struct row *row)
@@ -153,8 +179,8 @@ static const struct row rows[] = {
     {"parse, checked", prepare_ipv4, call_parse, 1500, 1, 0},
     {"parse, unchecked", prepare_ipv4, call_parse, 0, 0, 0},
     {"parse, unchecked", prepare_ipv4, call_parse, 1500, 0, 0},
-    {"parse IPv6", prepare_ipv6, call_parse_ipv6, 0, 1, 0},
-    {"parse IPv6", prepare_ipv6, call_parse_ipv6, 1500, 1, 0},
+    {"parse IPv6", prepare_ipv6, call_parse, 0, 1, 0},
+    {"parse IPv6", prepare_ipv6, call_parse, 1500, 1, 0},
     {"emit, checked", prepare_ipv4, call_emit, 0, 1, 0},
     {"emit, checked", prepare_ipv4, call_emit, 1500, 1, 0},
     {"emit, unchecked", prepare_ipv4, call_emit, 0, 0, 0},
@@ -163,8 +189,32 @@ static const struct row rows[] = {
     {"emit IPv6", prepare_ipv6, call_emit_ipv6, 1500, 1, 0},
     {"rebuild", prepare_ipv4, call_rebuild, 0, 1, 0},
     {"rebuild", prepare_ipv4, call_rebuild, 1500, 1, 0},
-    {"rebuild IPv6", prepare_ipv6, call_rebuild_ipv6, 0, 1, 0},
-    {"rebuild IPv6", prepare_ipv6, call_rebuild_ipv6, 1500, 1, 0},
+    {"rebuild IPv6", prepare_ipv6, call_rebuild, 0, 1, 0},
+    {"rebuild IPv6", prepare_ipv6, call_rebuild, 1500, 1, 0},
+    {"parse UDP/IPv4", prepare_udp_ipv4, call_parse, 0, 1, 0},
+    {"parse UDP/IPv4", prepare_udp_ipv4, call_parse, 64, 1, 0},
+    {"parse UDP/IPv4", prepare_udp_ipv4, call_parse, 1472, 1, 0},
+    {"parse UDP/IPv6", prepare_udp_ipv6, call_parse, 0, 1, 0},
+    {"parse UDP/IPv6", prepare_udp_ipv6, call_parse, 64, 1, 0},
+    {"parse UDP/IPv6", prepare_udp_ipv6, call_parse, 1472, 1, 0},
+    {"unchecked UDP/IPv4", prepare_udp_ipv4, call_parse, 0, 0, 0},
+    {"unchecked UDP/IPv4", prepare_udp_ipv4, call_parse, 64, 0, 0},
+    {"unchecked UDP/IPv4", prepare_udp_ipv4, call_parse, 1472, 0, 0},
+    {"unchecked UDP/IPv6", prepare_udp_ipv6, call_parse, 0, 0, 0},
+    {"unchecked UDP/IPv6", prepare_udp_ipv6, call_parse, 64, 0, 0},
+    {"unchecked UDP/IPv6", prepare_udp_ipv6, call_parse, 1472, 0, 0},
+    {"emit UDP/IPv4", prepare_udp_ipv4, call_emit_udp, 0, 1, 0},
+    {"emit UDP/IPv4", prepare_udp_ipv4, call_emit_udp, 64, 1, 0},
+    {"emit UDP/IPv4", prepare_udp_ipv4, call_emit_udp, 1472, 1, 0},
+    {"emit UDP/IPv6", prepare_udp_ipv6, call_emit_udp_ipv6, 0, 1, 0},
+    {"emit UDP/IPv6", prepare_udp_ipv6, call_emit_udp_ipv6, 64, 1, 0},
+    {"emit UDP/IPv6", prepare_udp_ipv6, call_emit_udp_ipv6, 1472, 1, 0},
+    {"rebuild UDP/IPv4", prepare_udp_ipv4, call_rebuild, 0, 1, 0},
+    {"rebuild UDP/IPv4", prepare_udp_ipv4, call_rebuild, 64, 1, 0},
+    {"rebuild UDP/IPv4", prepare_udp_ipv4, call_rebuild, 1472, 1, 0},
+    {"rebuild UDP/IPv6", prepare_udp_ipv6, call_rebuild, 0, 1, 0},
+    {"rebuild UDP/IPv6", prepare_udp_ipv6, call_rebuild, 64, 1, 0},
+    {"rebuild UDP/IPv6", prepare_udp_ipv6, call_rebuild, 1472, 1, 0},
     {"print addresses", prepare_addresses, call_print, ADDRESSES, 1, 0},
 };
 
@@ -194,6 +244,8 @@ static struct library load(const char *path)
     *(void **)&library.parse = symbol(handle, path, "lk_parse");
     *(void **)&library.emit_ipv4 = symbol(handle, path, "lk_emit_ipv4");
     *(void **)&library.emit_ipv6 = symbol(handle, path, "lk_emit_ipv6");
+    *(void **)&library.emit_udp_ipv4 = symbol(handle, path, "lk_emit_udp_ipv4");
+    *(void **)&library.emit_udp_ipv6 = symbol(handle, path, "lk_emit_udp_ipv6");
     *(void **)&library.ipv6_print = symbol(handle, path, "lk_ipv6_print");
     *(void **)&library.rebuild = symbol(handle, path, "lk_rebuild");
     return library;
@@ -271,7 +323,9 @@ static void run(const struct row *row, const struct library *ours, const struct 
 
 int main(int argc, char **argv)
 {
-    static const struct library ours = {lk_checksum, lk_parse, lk_emit_ipv4, lk_emit_ipv6, lk_ipv6_print, lk_rebuild};
+    static const struct library ours = {
+        lk_checksum, lk_parse, lk_emit_ipv4, lk_emit_ipv6, lk_emit_udp_ipv4, lk_emit_udp_ipv6, lk_ipv6_print, lk_rebuild,
+    };
     struct library reference;
     if (argc > 2)
         give_up("usage", "calls [LIBRARY.so]");

@@ -1,8 +1,8 @@
 //! The calls of `c/ip_wire.h` over smoltcp 0.14, to be timed beside ours.
 //!
 //! Build it as a shared library: `rustc --edition 2024 --crate-type cdylib -C opt-level=3 -C panic=abort
-//! --extern smoltcp=libsmoltcp.rlib -L FOLDER bench/reference.rs`, with a smoltcp that has Ethernet, IPv4 and
-//! IPv6.
+//! --extern smoltcp=libsmoltcp.rlib -L FOLDER bench/reference.rs`, with a smoltcp that has Ethernet, IPv4,
+//! IPv6 and UDP.
 
 use smoltcp::phy::ChecksumCapabilities;
 use smoltcp::wire::*;
@@ -24,20 +24,44 @@ pub unsafe extern "C" fn lk_checksum(ptr: *const u8, len: usize) -> u16 {
     checksum::data(unsafe { from_raw_parts(ptr, len) })
 }
 
-fn payload_len(frame: &[u8], caps: &ChecksumCapabilities) -> Result<usize> {
-    let frame = EthernetFrame::new_checked(frame)?;
-    match EthernetRepr::parse(&frame)?.ethertype {
+/// The packet that a frame carries, and whether what that carries may be looked into: a fragment's may not.
+fn packet<'a>(
+    frame: &EthernetFrame<&'a [u8]>,
+    caps: &ChecksumCapabilities,
+) -> Result<(IpRepr, bool, &'a [u8])> {
+    match EthernetRepr::parse(frame)?.ethertype {
         EthernetProtocol::Ipv4 => {
             let packet = Ipv4Packet::new_checked(frame.payload())?;
-            Ipv4Repr::parse(&packet, caps)?;
-            Ok(packet.payload().len())
+            let header = Ipv4Repr::parse(&packet, caps)?;
+            let is_whole = !packet.more_frags() && packet.frag_offset() == 0;
+            Ok((header.into(), is_whole, packet.payload()))
         }
         EthernetProtocol::Ipv6 => {
             let packet = Ipv6Packet::new_checked(frame.payload())?;
-            Ipv6Repr::parse(&packet)?;
-            Ok(packet.payload().len())
+            Ok((Ipv6Repr::parse(&packet)?.into(), true, packet.payload()))
         }
         _ => Err(Error),
+    }
+}
+
+/// The UDP packet between the addresses of a header.
+fn datagram<'a>(
+    ip: &IpRepr,
+    bytes: &'a [u8],
+    caps: &ChecksumCapabilities,
+) -> Result<(UdpRepr, &'a [u8])> {
+    let packet = UdpPacket::new_checked(bytes)?;
+    let header = UdpRepr::parse(&packet, &ip.src_addr(), &ip.dst_addr(), caps)?;
+    Ok((header, packet.payload()))
+}
+
+fn payload_len(frame: &[u8], caps: &ChecksumCapabilities) -> Result<usize> {
+    let frame = EthernetFrame::new_checked(frame)?;
+    let (ip, is_whole, payload) = packet(&frame, caps)?;
+    if is_whole && ip.next_header() == IpProtocol::Udp {
+        datagram(&ip, payload, caps).map(|(_, payload)| payload.len())
+    } else {
+        Ok(payload.len())
     }
 }
 
@@ -102,6 +126,65 @@ pub unsafe extern "C" fn lk_emit_ipv6(
     header.buffer_len()
 }
 
+fn emit_datagram(
+    header: UdpRepr,
+    src_addr: IpAddress,
+    dst_addr: IpAddress,
+    payload: &[u8],
+    caps: &ChecksumCapabilities,
+    out: &mut [u8],
+) -> Result<usize> {
+    let len = header.header_len() + payload.len();
+    if payload.len() > 65_527 || out.len() < len {
+        return Err(Error);
+    }
+    header.emit(
+        &mut UdpPacket::new_unchecked(&mut out[..len]),
+        &src_addr,
+        &dst_addr,
+        payload.len(),
+        |room| room.copy_from_slice(payload),
+        caps,
+    );
+    Ok(len)
+}
+
+#[unsafe(no_mangle)]
+pub unsafe extern "C" fn lk_emit_udp_ipv4(
+    src_addr: u32,
+    dst_addr: u32,
+    src_port: u16,
+    dst_port: u16,
+    ptr: *const u8,
+    len: usize,
+    checked: u8,
+    out: *mut u8,
+    cap: usize,
+) -> usize {
+    let (payload, out) = unsafe { (from_raw_parts(ptr, len), from_raw_parts_mut(out, cap)) };
+    let (src, dst) = (Ipv4Address::from(src_addr), Ipv4Address::from(dst_addr));
+    let header = UdpRepr { src_port, dst_port };
+    emit_datagram(header, src.into(), dst.into(), payload, &capabilities(checked), out).unwrap_or(0)
+}
+
+#[unsafe(no_mangle)]
+pub unsafe extern "C" fn lk_emit_udp_ipv6(
+    src_addr: *const u8,
+    dst_addr: *const u8,
+    src_port: u16,
+    dst_port: u16,
+    ptr: *const u8,
+    len: usize,
+    checked: u8,
+    out: *mut u8,
+    cap: usize,
+) -> usize {
+    let (payload, out) = unsafe { (from_raw_parts(ptr, len), from_raw_parts_mut(out, cap)) };
+    let (src, dst) = unsafe { (address(src_addr), address(dst_addr)) };
+    let header = UdpRepr { src_port, dst_port };
+    emit_datagram(header, src.into(), dst.into(), payload, &capabilities(checked), out).unwrap_or(0)
+}
+
 /// The front of a slice that has been written.
 struct Front<'a> {
     slice: &'a mut [u8],
@@ -128,40 +211,38 @@ pub unsafe extern "C" fn lk_ipv6_print(octets: *const u8, out: *mut u8, cap: usi
     }
 }
 
-/// The packet that a frame carries: an IPv4 one is read with its checksum and is no fragment.
-fn packet<'a>(ethertype: EthernetProtocol, bytes: &'a [u8]) -> Option<(IpRepr, &'a [u8])> {
-    match ethertype {
-        EthernetProtocol::Ipv4 => {
-            let packet = Ipv4Packet::new_checked(bytes).ok()?;
-            let header = Ipv4Repr::parse(&packet, &ChecksumCapabilities::default()).ok()?;
-            let is_fragment = packet.more_frags() || packet.frag_offset() != 0;
-            (!is_fragment).then_some((IpRepr::Ipv4(header), packet.payload()))
-        }
-        EthernetProtocol::Ipv6 => {
-            let packet = Ipv6Packet::new_checked(bytes).ok()?;
-            let header = Ipv6Repr::parse(&packet).ok()?;
-            Some((IpRepr::Ipv6(header), packet.payload()))
-        }
-        _ => None,
+/// Writes what a packet with this header carries, built again, and answers its length.
+fn rebuild_transport(ip: &IpRepr, bytes: &[u8], room: &mut [u8]) -> Result<usize> {
+    let caps = ChecksumCapabilities::default();
+    if ip.next_header() == IpProtocol::Udp
+        && let Ok((header, payload)) = datagram(ip, bytes, &caps)
+    {
+        return emit_datagram(header, ip.src_addr(), ip.dst_addr(), payload, &caps, room);
     }
+    room.get_mut(..bytes.len()).ok_or(Error)?.copy_from_slice(bytes);
+    Ok(bytes.len())
 }
 
 fn rebuild(frame: &[u8], out: &mut [u8]) -> Result<usize> {
+    let caps = ChecksumCapabilities::default();
     let frame = EthernetFrame::new_checked(frame)?;
     let header = EthernetRepr::parse(&frame)?;
     let mut again = EthernetFrame::new_checked(out)?;
     header.emit(&mut again);
     let room = again.payload_mut();
-    let Some((mut packet, payload)) = packet(header.ethertype, frame.payload()) else {
-        let payload = frame.payload();
-        room.get_mut(..payload.len()).ok_or(Error)?.copy_from_slice(payload);
-        return Ok(14 + payload.len());
-    };
-    packet.set_payload_len(payload.len());
-    let room = room.get_mut(..packet.buffer_len()).ok_or(Error)?;
-    packet.emit(&mut *room, &ChecksumCapabilities::default());
-    room[packet.header_len()..].copy_from_slice(payload);
-    Ok(14 + packet.buffer_len())
+    match packet(&frame, &caps) {
+        Ok((mut ip, true, payload)) => {
+            let (front, rest) = room.split_at_mut_checked(ip.header_len()).ok_or(Error)?;
+            ip.set_payload_len(rebuild_transport(&ip, payload, rest)?);
+            ip.emit(front, &caps);
+            Ok(14 + ip.buffer_len())
+        }
+        _ => {
+            let payload = frame.payload();
+            room.get_mut(..payload.len()).ok_or(Error)?.copy_from_slice(payload);
+            Ok(14 + payload.len())
+        }
+    }
 }
 
 #[unsafe(no_mangle)]

@@ -1,5 +1,5 @@
 /* A frame with padding is read, built again without the padding, and a header is written: for IPv4, and
- * for IPv6, whose addresses are printed too. */
+ * for IPv6, whose addresses are printed too. Then a UDP packet is written. */
 #include <stdio.h>
 #include "ip_wire.h"
 
@@ -30,16 +30,18 @@ int main(void)
     static const uint8_t ipv6_frame[] = {
         0x33, 0x33, 0x00, 0x00, 0x00, 0x01, 0x11, 0x12, 0x13, 0x14, 0x15, 0x16, 0x86, 0xdd,
         0x6a, 0x12, 0x34, 0x56, /* the version, a traffic class and a flow label */
-        0x00, 0x04, 0x11, 0x40,
+        0x00, 0x0c, 0x11, 0x40,
         0xfe, 0x80, 0, 0, 0, 0, 0, 0, 0, 0, 0, 0, 0, 0, 0, 0x01,
         0xff, 0x02, 0, 0, 0, 0, 0, 0, 0, 0, 0, 0, 0, 0, 0, 0x01,
-        0xaa, 0x00, 0x00, 0xff, /* the payload */
-        0x00, 0x00,             /* padding */
+        0x00, 0x01, 0x00, 0x02, 0x00, 0x0c, 0x02, 0x4e, /* a UDP header */
+        0xff, 0xff, 0xff, 0xff,                         /* the payload */
+        0x00, 0x00,                                     /* padding */
     };
     static const uint8_t link_local[16] = {0xfe, 0x80, [15] = 0x01};
     static const uint8_t all_nodes[16] = {0xff, 0x02, [15] = 0x01};
     static const uint8_t mapped[16] = {[10] = 0xff, [11] = 0xff, 192, 168, 1, 1};
-    uint8_t out[64];
+    static const uint8_t payload[] = {0xaa, 0x00, 0x00, 0xff};
+    uint8_t out[80];
 
     printf("checksum of the header %04x\n", (unsigned)lk_checksum(frame + 14, 20));
     printf("payload length %u\n", (unsigned)(lk_parse(frame, sizeof frame, 1) - 1));
@@ -48,7 +50,7 @@ int main(void)
     print_bytes("header", out, lk_emit_ipv4(0x0a000001, 0x0a000002, 6, 64, 10, 1, out, sizeof out));
     printf("a payload too long: %zu\n", lk_emit_ipv4(0, 0, 6, 64, 65516, 1, out, sizeof out));
 
-    printf("IPv6 payload length %u\n", (unsigned)(lk_parse(ipv6_frame, sizeof ipv6_frame, 1) - 1));
+    printf("UDP payload length %u\n", (unsigned)(lk_parse(ipv6_frame, sizeof ipv6_frame, 1) - 1));
     print_bytes("again", out, lk_rebuild(ipv6_frame, sizeof ipv6_frame, out, sizeof out));
     print_bytes("header", out, lk_emit_ipv6(link_local, all_nodes, 17, 64, 12, out, sizeof out));
     printf("a payload too long: %zu\n",
@@ -56,5 +58,12 @@ int main(void)
     print_address(link_local);
     print_address(mapped);
     printf("room for 6 octets: %zu\n", lk_ipv6_print(link_local, out, 6));
+
+    size_t len = lk_emit_udp_ipv4(0xc0a80101, 0xc0a80102, 48896, 53, payload, 4, 1, out, sizeof out);
+    print_bytes("UDP over IPv4", out, len);
+    len = lk_emit_udp_ipv6(link_local, all_nodes, 1, 2, payload, 4, 1, out, sizeof out);
+    print_bytes("UDP over IPv6", out, len);
+    printf("room for 11 octets: %zu\n",
+           lk_emit_udp_ipv4(0xc0a80101, 0xc0a80102, 48896, 53, payload, 4, 1, out, 11));
     return 0;
 }

@@ -13,10 +13,11 @@
  * only where every byte is 0. */
 uint16_t lk_checksum(const uint8_t *ptr, size_t len);
 
-/* Reads the headers of an Ethernet frame that carries IPv4 or IPv6, and answers the length of the
- * IP payload plus 1; 0 where a header is refused, or the frame is of another type. IPv4 options are
- * read over, a fragment is read as any packet, and IPv6 extension headers belong to the payload. The
- * checksum of an IPv4 header is verified unless `checked` is 0. */
+/* Reads the headers of an Ethernet frame that carries IPv4 or IPv6, and of the UDP packet in that, and
+ * answers the length of the innermost payload plus 1; 0 where a header is refused, or the frame is of
+ * another type. The payload of a packet of another protocol, or of a fragment, is not looked into: it
+ * counts as it stands. IPv4 options are read over, and IPv6 extension headers belong to the payload.
+ * Checksums are verified unless `checked` is 0. */
 uint32_t lk_parse(const uint8_t *ptr, size_t len, uint8_t checked);
 
 /* Writes an IPv4 header of 20 octets, without options, for `payload_len` octets to the front of
@@ -32,6 +33,18 @@ size_t lk_emit_ipv4(uint32_t src_addr, uint32_t dst_addr, uint8_t protocol, uint
 size_t lk_emit_ipv6(const uint8_t *src_addr, const uint8_t *dst_addr, uint8_t next_header,
                     uint8_t hop_limit, size_t payload_len, uint8_t *out, size_t cap);
 
+/* Writes a UDP header and the `len` octets at `ptr` behind it, to be carried by IPv4 between these two
+ * addresses, to the front of `out`, and answers the length of both; 0 where they don't fit into `cap`
+ * octets or `len` is more than 65527, and then nothing is written. The checksum is computed unless
+ * `checked` is 0, and then it is 0. */
+size_t lk_emit_udp_ipv4(uint32_t src_addr, uint32_t dst_addr, uint16_t src_port, uint16_t dst_port,
+                        const uint8_t *ptr, size_t len, uint8_t checked, uint8_t *out, size_t cap);
+
+/* The same over IPv6, whose addresses are 16 octets each. A receiver refuses a checksum of 0 there. */
+size_t lk_emit_udp_ipv6(const uint8_t *src_addr, const uint8_t *dst_addr, uint16_t src_port,
+                        uint16_t dst_port, const uint8_t *ptr, size_t len, uint8_t checked,
+                        uint8_t *out, size_t cap);
+
 /* Writes the text of the IPv6 address of these 16 octets (RFC 5952) to the front of `out`, with no null
  * behind it, and answers its length, which is never more than 39; 0 where it doesn't fit into `cap`
  * octets, and then nothing is written. */
@@ -39,9 +52,10 @@ size_t lk_ipv6_print(const uint8_t *octets, uint8_t *out, size_t cap);
 
 /* Builds an Ethernet frame again from the values of its headers and writes it to the front of `out`:
  * IPv4 options, an IPv6 traffic class and flow label, and padding are dropped. What is not read as an
- * IPv6 packet, or as an IPv4 packet whose checksum holds and that is no fragment, stays as it stands.
- * Answers the length, which is never more than `len`; 0 where it doesn't fit into `cap` octets or
- * `len` is less than 14, and then nothing is written. */
+ * IPv6 packet, or as an IPv4 packet whose checksum holds and that is no fragment, stays as it stands; so
+ * does in a packet what is not read as a UDP packet whose checksum holds. Answers the length, which is
+ * never more than `len`; 0 where it doesn't fit into `cap` octets or `len` is less than 14, and then
+ * nothing is written. */
 size_t lk_rebuild(const uint8_t *ptr, size_t len, uint8_t *out, size_t cap);
 
 #endif

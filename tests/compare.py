@@ -58,6 +58,22 @@ def random_packet_ipv6(rng):
     return record.packet_ipv6(payload, padding=rng.randbytes(rng.choice([0, 0, 1, 14])), **fields)
 
 
+def random_datagram(rng):
+    """A UDP packet over IPv4 or IPv6, mostly a right one, with its checksum, none, a part of it or a wrong one."""
+    src, dst, carry = rng.choice(record.CARRIERS)
+    payload = rng.randbytes(rng.choice([0, 1, 2, 3, 8, 33, rng.randrange(300)]))
+    fields = dict(src_port=rng.randrange(65536), dst_port=rng.choice([0, 53, rng.randrange(65536)]))
+    if rng.random() < 0.2:
+        fields["length"] = rng.choice([0, 7, 8, 8 + len(payload) // 2, 9 + len(payload), rng.randrange(65536)])
+    kind = rng.random()
+    if kind < 0.1:
+        fields["checksum"] = record.word_sum(record.pseudo_header(src, dst, 17, fields.get("length", 8 + len(payload))))
+    elif kind < 0.3:
+        fields["checksum"] = rng.choice([0, 0xFFFF, rng.randrange(65536)])
+    datagram = record.udp(payload, src=src, dst=dst, **fields) + rng.randbytes(rng.choice([0, 0, 0, 5]))
+    return carry(datagram, padding=rng.randbytes(rng.choice([0, 0, 1, 14])))
+
+
 def corpus(seed, lines):
     rng = random.Random(seed)
     known = [frame for make in record.FILES for frame in make() if len(frame) < 300]
@@ -69,7 +85,7 @@ def corpus(seed, lines):
         elif kind < 0.03:
             yield rng.randbytes(rng.randrange(40)).replace(b"\n", b"")
         else:
-            make = random_packet if rng.random() < 0.5 else random_packet_ipv6
+            make = rng.choice([random_packet, random_packet_ipv6, random_datagram])
             frame = make(rng) if kind < 0.6 else rng.choice(known)
             text = (frame if kind < 0.3 else changed(rng, frame)).hex().encode()
             yield (text.upper() if rng.random() < 0.05 else text) + (b"\r" if rng.random() < 0.05 else b"")

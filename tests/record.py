@@ -65,6 +65,38 @@ def packet_ipv6(payload=DATA, padding=b"", **fields):
     return ethernet(IPV6, header_ipv6(**fields) + payload + padding)
 
 
+def pseudo_header(src, dst, protocol, length):
+    """What a transport's checksum covers besides (RFC 768; RFC 8200, section 8.1): a sum of words is the same for both."""
+    return src + dst + bytes([0, protocol]) + length.to_bytes(2, "big")
+
+
+def udp(payload=DATA, src_port=48896, dst_port=53, length=None, checksum=None, src=HOST_A, dst=HOST_B):
+    """A UDP packet (RFC 768) between two addresses, right where nothing else is asked for."""
+    length = 8 + len(payload) if length is None else length
+    front = src_port.to_bytes(2, "big") + dst_port.to_bytes(2, "big") + length.to_bytes(2, "big")
+    if checksum is None:
+        checksum = 0xFFFF - word_sum(pseudo_header(src, dst, 17, length) + front + b"\0\0" + payload) or 0xFFFF
+    return front + checksum.to_bytes(2, "big") + payload
+
+
+def in_ipv4(datagram, padding=b"", **fields):
+    return packet(datagram, padding, protocol=17, **fields)
+
+
+def in_ipv6(datagram, padding=b"", **fields):
+    return packet_ipv6(datagram, padding, next_header=17, **fields)
+
+
+# The hosts of both versions, and what carries a UDP packet between them.
+CARRIERS = [(HOST_A, HOST_B, in_ipv4), (HOST_C, HOST_D, in_ipv6)]
+
+
+def over_both(payload=DATA, behind=b"", padding=b"", **fields):
+    """A UDP packet over IPv4 and one over IPv6, with bytes behind it in the IP packet and padding behind that."""
+    for src, dst, carry in CARRIERS:
+        yield carry(udp(payload, src=src, dst=dst, **fields) + behind, padding)
+
+
 def octets(n, start=0):
     return bytes((start + 7 * i) % 256 for i in range(n))
 
@@ -258,6 +290,68 @@ def ipv6_bits():
         yield bytes(turned)
 
 
+def udp_shapes():
+    for n in list(range(20)) + [63, 64, 65, 255, 256]:
+        yield from over_both(octets(n, n))
+    yield from over_both(octets(1472))
+    for port in [0, 1, 53, 255, 256, 0x8000, 0xFFFF]:
+        yield from over_both(src_port=port)
+        yield from over_both(dst_port=port)
+        yield from over_both(dst_port=port, checksum=0)
+    for n in range(1, 20):
+        yield from over_both(behind=octets(n, 9))
+        yield from over_both(b"", padding=octets(n))
+        yield from over_both(octets(3), behind=octets(n), padding=octets(5))
+    for address in ["00000000", "ffffffff", "7f000001", "e0000001"]:
+        src = bytes.fromhex(address)
+        yield in_ipv4(udp(src=src), src=src)
+        yield in_ipv4(udp(), src=src)
+    for options in ["94040000", "0101010101010100"]:
+        yield in_ipv4(udp(), options=bytes.fromhex(options))
+    for flags in [0x2000, 1, 0x2001, 0x8000]:
+        yield in_ipv4(udp(), flags=flags)
+    yield packet_ipv6(bytes([17, 0, 0, 0, 0, 0, 0, 1]) + udp(src=HOST_C, dst=HOST_D), next_header=44)
+    yield in_ipv6(udp(src=HOST_C, dst=HOST_D), service=0xA5, label=0x12345)
+
+
+def udp_lengths():
+    for length in list(range(32)) + [0x0C00, 0x8000, 0x800C, 0xFFFF]:
+        yield from over_both(octets(12), length=length)
+        yield from over_both(octets(12), length=length, checksum=0)
+        yield from over_both(octets(12), length=length, behind=octets(4))
+    for n in range(9):
+        yield in_ipv4(octets(n, 1))
+        yield in_ipv6(octets(n, 1))
+
+
+def udp_truncations():
+    for frame in [*over_both(), *over_both(octets(7), behind=octets(3)), *over_both(dst_port=0)]:
+        for n in range(34, len(frame)):
+            yield frame[:n]
+
+
+def udp_checksums():
+    for checksum in [0, 1, 0x00FF, 0xFF00, 0xFFFE, 0xFFFF]:
+        yield from over_both(checksum=checksum)
+        yield from over_both(checksum=checksum, dst_port=0)
+        yield from over_both(checksum=checksum, behind=octets(2))
+    for src, dst, carry in CARRIERS:
+        # The sum of the pseudo header alone, as a device finds it that is to add the rest.
+        for n in range(8):
+            partial = word_sum(pseudo_header(src, dst, 17, 8 + n))
+            for checksum in [partial, 0xFFFF - partial, partial ^ 1]:
+                yield carry(udp(octets(n), checksum=checksum, src=src, dst=dst))
+        # A packet whose sum without a checksum is ffff, so that its checksum is ffff and not 0.
+        rest = 0xFFFF - word_sum(pseudo_header(src, dst, 17, 12) + udp(src_port=0, checksum=0, src=src, dst=dst))
+        for checksum in [None, 0, 0xFFFE]:
+            yield carry(udp(src_port=rest, checksum=checksum, src=src, dst=dst))
+    for frame in over_both():
+        for bit in range(8 * (len(frame) - 12), 8 * len(frame)):
+            turned = bytearray(frame)
+            turned[bit // 8] ^= 0x80 >> bit % 8
+            yield bytes(turned)
+
+
 def bytes_lines():
     """Lines that are no hex, or hex of another look. The line feeds are part of the case."""
     frame = packet().hex().encode()
@@ -268,7 +362,8 @@ def bytes_lines():
 
 
 FILES = [shapes, truncations, versions_and_lengths, options, fragments, checksums, bits, padding, types,
-         ipv6_shapes, ipv6_addresses, ipv6_truncations, ipv6_versions_and_lengths, ipv6_fragments, ipv6_bits]
+         ipv6_shapes, ipv6_addresses, ipv6_truncations, ipv6_versions_and_lengths, ipv6_fragments, ipv6_bits,
+         udp_shapes, udp_lengths, udp_truncations, udp_checksums]
 
 
 def main():

@@ -1,14 +1,6 @@
 -- A header that is written over the room in front of what it carries.
 use Rattle.std.proofs.Common.{◌≡◌, ℕ, ◌+◌, ◌-◌, List, ◌++◌, drop, length, replicate, take, ap, refl, ◌∙◌, arith}
 use Rattle.std.proofs.lemmas.Grind.{common_steps}
-use Rattle.ip_wire.specs.Ip.{header_len_of, with_payload_len}
-use Rattle.ip_wire.specs.declared.IpRepr.{IpRepr}
-use Rattle.ip_wire.specs.declared.IpRepr.TheVariants.{Ipv4, Ipv6}
-
--- the header of a value is as long whatever the length of its payload
-pub header_len_of-with : (v : IpRepr) (n : ℕ) → header_len_of (with_payload_len v n) ≡ header_len_of v
-header_len_of-with (Ipv4 v) n = refl
-header_len_of-with (Ipv6 v) n = refl
 
 -- bytes with room for so many more
 pub take-replicate-room : (old : List ℕ) (start size count : ℕ) → start ≡ length old → start ≡ count
@@ -17,6 +9,11 @@ take-replicate-room old start size count s c =
     let more : start + size - count ≡ size = omega arith in
     let all : take (start + size) old ≡ old = grind (arith, common_steps) in
     rw (more, all) refl
+
+-- how many bytes stand behind the room
+pub length-behind_room : (old room inner bytes : List ℕ) (start size len : ℕ) → start ≡ length old → bytes ≡ (old ++ room) ++ inner
+    → length room ≡ size → len ≡ length bytes → len - start - size ≡ length inner
+length-behind_room old room inner bytes start size len s e r l = grind (arith, common_steps)
 
 -- the bytes from the room on, with a header in its place
 behind_room : (old room payload bytes : List ℕ) (start size : ℕ) → bytes ≡ (old ++ room) ++ payload → start ≡ length old

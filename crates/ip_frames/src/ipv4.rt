@@ -6,7 +6,7 @@ ghost use Rattle.ip_wire.specs.Frame.{rebuilt_payload};
 ghost use Rattle.ip_wire.specs.Ipv4.{ipv4_of, is_fragment, packet_bytes};
 ghost use Rattle.ip_wire.specs.declared.EthernetProtocol.TheVariants.{Ipv4};
 
-use crate::datagram::push_datagram;
+use crate::ip::push_inner;
 use ip_wire::{IpRepr, Ipv4Packet, Ipv4Repr};
 use net_base::ChecksumCapabilities;
 use std::alloc::AllocError;
@@ -31,7 +31,7 @@ pub fn push_packet(bytes: &[u8], text: &mut String, again: &mut Vec<u8>) -> Resu
                 )?;
                 again.extend_from_slice(bytes)
             } else {
-                push_datagram(IpRepr::Ipv4(header), packet.payload(), again)
+                push_inner(IpRepr::Ipv4(header), packet.payload(), text, again)
             }
         }
         Err(_) => {

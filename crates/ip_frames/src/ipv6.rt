@@ -6,7 +6,7 @@ ghost use Rattle.ip_wire.specs.Frame.{rebuilt_payload};
 ghost use Rattle.ip_wire.specs.Ipv6.{ipv6_of};
 ghost use Rattle.ip_wire.specs.declared.EthernetProtocol.TheVariants.{Ipv6};
 
-use crate::datagram::push_datagram;
+use crate::ip::push_inner;
 use ip_wire::{IpProtocol, IpRepr, Ipv6FragmentHeader, Ipv6Packet, Ipv6Repr};
 use std::alloc::AllocError;
 
@@ -23,7 +23,7 @@ pub fn push_packet(bytes: &[u8], text: &mut String, again: &mut Vec<u8>) -> Resu
             if let IpProtocol::Ipv6Frag = header.next_header {
                 push_fragment_line(payload, text)?;
             }
-            push_datagram(IpRepr::Ipv6(header), payload, again)
+            push_inner(IpRepr::Ipv6(header), payload, text, again)
         }
         Err(_) => again.extend_from_slice(bytes),
     }

@@ -1,5 +1,5 @@
 -- IPv6 is a layer.
-use Rattle.std.proofs.Common.{ℕ, ◌≡◌, ◌≤◌, ◌<◌, ◌+◌, ◌-◌, ◌^◌, List, ◌++◌, Option, Some, drop, length, slice_range, refl, sym, ap, ◌∙◌, arith}
+use Rattle.std.proofs.Common.{ℕ, ◌≡◌, ◌≤◌, ◌+◌, ◌-◌, List, ◌++◌, Some, drop, length, refl, sym, ap, ◌∙◌, arith}
 use Rattle.std.proofs.lemmas.Grind.{common_steps}
 use Rattle.ip_wire.proofs.Frames.{ipv6_packet_of-read}
 use Rattle.ip_wire.proofs.Layers.{IsLayer, length-part, option_map-Some}
@@ -35,6 +35,14 @@ ipv6_packet_of-IsPacket bytes v p e =
 -- how long the payload is
 length-payload : (bytes : List ℕ) (u v : Ipv6Repr) (p : List ℕ) → IsPacket bytes u v p → length p ≡ total_len bytes - 40
 length-payload bytes u v p d = ap length (sym d.payload) ∙ length-part bytes 40 (total_len bytes) d.reads.lengths
+
+-- how long the addresses are
+pub length-addresses-ipv6 : (bytes : List ℕ) (u v : Ipv6Repr) (p : List ℕ) → IsPacket bytes u v p → (length v.src_addr ≡ 16) × (length v.dst_addr ≡ 16)
+length-addresses-ipv6 bytes u v p d =
+    let whole = d.reads.lengths in (
+      ap (λ (w : Ipv6Repr). length w.src_addr) (sym d.header) ∙ ap length d.reads.src_addr ∙ length-part bytes 8 24 (omega (arith, whole)),
+      ap (λ (w : Ipv6Repr). length w.dst_addr) (sym d.header) ∙ ap length d.reads.dst_addr ∙ length-part bytes 24 40 (omega (arith, whole)),
+    )
 
 -- what was read has a header for any payload that is no longer
 in_range : (bytes : List ℕ) (u v : Ipv6Repr) (p q : List ℕ) → IsPacket bytes u v p → length q ≤ length p → IsInRange (with_len_ipv6 u (length q))

@@ -1,52 +1,101 @@
 -- What a frame means, by what its bytes are read as.
-use Rattle.std.proofs.Common.{ℕ, ◌≡◌, true, false, List, Some, drop, refl}
+use Rattle.std.proofs.Common.{ℕ, ◌≡◌, ◌≢◌, ◌∙◌, true, List, Some, drop, refl, sym, ap, subst}
 use Rattle.ip_wire.proofs.EthernetLayer.{read-Reads}
 use Rattle.ip_wire.proofs.Frames.{datagram_of-whole, ipv6_packet_of-read}
 use Rattle.ip_wire.proofs.Ipv4Layer.{datagram_of-IsDatagram}
 use Rattle.ip_wire.proofs.Ipv6Layer.{ipv6_packet_of-IsPacket}
 use Rattle.ip_wire.proofs.Layers.{meaning_by-parts, option_map-Some}
-use Rattle.ip_wire.specs.Frame.{Carried, IsReadWhole, Meaning, ReadsPacket, ethernet, ipv4, ipv6, meaning_as, meaning_of, packet, payload_meaning, transport_meaning, type_of}
+use Rattle.ip_wire.proofs.UdpLayer.{Reads-udp_packet_of, udp_packet_of-Reads}
+use Rattle.ip_wire.specs.Frame.{Carried, IsReadWhole, Meaning, ReadsBetween, ReadsPacket, ReadsTransport, Transport, datagram, ethernet, ipv4, ipv4_payload, ipv6, meaning_as, meaning_between, meaning_of, other, packet, packet_payload, payload_meaning, transport_meaning, type_of, udp, with_len, with_len_ipv6}
 use Rattle.ip_wire.specs.Layer.{meaning_by}
+use Rattle.wire_ends.specs.declared.IpAddress.{IpAddress}
 use Rattle.wire_ip.proofs.Ipv6Computed.{ipv6_of-Reads}
+use Rattle.wire_ip.specs.Ipv6.{payload_of}
 use Rattle.wire_ip.specs.declared.IpRepr.{IpRepr}
 use Rattle.wire_ip.specs.declared.IpRepr.TheVariants.{Ipv4, Ipv6}
 use Rattle.wire_ipv4.proofs.Computed.{ipv4_of-Reads}
+use Rattle.wire_ipv4.specs.declared.IpProtocol.{IpProtocol}
+use Rattle.wire_ipv4.specs.declared.IpProtocol.TheVariants as protocol
 use Rattle.wire_link.proofs.Computed.{ethernet_of-Reads}
 use Rattle.wire_link.specs.declared.EthernetRepr.{EthernetRepr}
 use Rattle.wire_link.specs.declared.EthernetProtocol.{EthernetProtocol}
 use Rattle.wire_link.specs.declared.EthernetProtocol.TheVariants as ethertype
+use Rattle.wire_udp.specs.declared.UdpRepr.{UdpRepr}
 
-pub meaning_of-read : (frame : List ℕ) (v : EthernetRepr) (w : IpRepr) → IsReadWhole frame v w → meaning_of frame ≡ Some (meaning_as frame v w)
+-- ---- what a packet carries
+
+meaning_between-other : (t : IpProtocol) (src dst : IpAddress) (bytes : List ℕ) → t ≢ protocol.Udp → meaning_between t src dst bytes ≡ Some (other bytes)
+meaning_between-other protocol.Udp src dst bytes n = absurd (n refl)
+meaning_between-other _ src dst bytes n = refl
+
+-- it means what it is read as
+meaning_between-read : (t : IpProtocol) (src dst : IpAddress) (bytes : List ℕ) (m : Transport) → ReadsBetween t src dst bytes m → meaning_between t src dst bytes ≡ Some m
+meaning_between-read t src dst bytes (datagram u p) r =
+    let read = Reads-udp_packet_of src dst bytes u p r.1 in
+    rw (r.0, read) refl
+meaning_between-read t src dst bytes (other p) r = meaning_between-other t src dst bytes r.0 ∙ ap (λ q. Some (other q)) (sym r.1)
+
+-- and has a meaning only where it is read
+Some-one : (m n : Transport) → Some m ≡ Some n → m ≡ n
+Some-one m n e = cc
+
+bytes-one : (p q : List ℕ) → Some p ≡ Some q → p ≡ q
+bytes-one p q e = cc
+
+meaning_between-only : (t : IpProtocol) (src dst : IpAddress) (bytes : List ℕ) (m : Transport) → meaning_between t src dst bytes ≡ Some m → ReadsBetween t src dst bytes m
+meaning_between-only protocol.Udp src dst bytes m e =
+    let (n, is, named) = option_map-Some (λ (d : UdpRepr × List ℕ). datagram d.0 d.1) (meaning_by (udp src dst) (λ v payload. Some payload) bytes) m e in
+    let (v, p, q, read, same, pair) = meaning_by-parts (udp src dst) (λ v payload. Some payload) bytes n is in
+    let path : datagram v p ≡ m = ap (λ (d : UdpRepr × List ℕ). datagram d.0 d.1) (ap (λ r. (v, r)) (bytes-one p q same) ∙ pair) ∙ named in
+    subst (ReadsBetween protocol.Udp src dst bytes) path (refl, udp_packet_of-Reads src dst bytes v p read)
+meaning_between-only t src dst bytes m e =
+    subst (ReadsBetween t src dst bytes) (Some-one (other bytes) m e) ((λ is. absurd (cc)), refl)
+
+-- ---- whole frames
+
+pub meaning_of-read : (frame : List ℕ) (v : EthernetRepr) (w : IpRepr) (t : Transport) → IsReadWhole frame v w t → meaning_of frame ≡ Some (meaning_as v w t)
 unfolding meaning_of
-meaning_of-read frame v (Ipv4 w) r =
+meaning_of-read frame v (Ipv4 w) t r =
     let header = (ethernet_of-Reads frame v).1 r.reads_header in
     let inner = datagram_of-whole (drop 14 frame) w ((ipv4_of-Reads true (drop 14 frame) w).1 r.reads_packet.0) r.reads_packet.1 in
-    rw (header, r.type_names, inner) refl
-meaning_of-read frame v (Ipv6 w) r =
+    let carried = meaning_between-read _ _ _ _ t r.reads_transport in
+    rw (header, r.type_names, inner, carried) refl
+meaning_of-read frame v (Ipv6 w) t r =
     let header = (ethernet_of-Reads frame v).1 r.reads_header in
     let inner = ipv6_packet_of-read (drop 14 frame) w ((ipv6_of-Reads (drop 14 frame) w).1 r.reads_packet) in
-    rw (header, r.type_names, inner) refl
+    let carried = meaning_between-read _ _ _ _ t r.reads_transport in
+    rw (header, r.type_names, inner, carried) refl
+
+-- a payload with a meaning is read, whatever the values and the bytes are called
+carried-only : {V : Type 0} (name : V → IpRepr) (v w : V) (p q : List ℕ) (t : Transport) → v ≡ w → p ≡ q → transport_meaning (name w) q ≡ Some t
+    → ReadsTransport (name v) p t
+carried-only name v w p q t same rest e =
+    meaning_between-only _ _ _ _ t
+    (subst (λ x. transport_meaning (name x) p ≡ Some t) (sym same) (subst (λ x. transport_meaning (name w) x ≡ Some t) (sym rest) e))
 
 -- a payload with a meaning is a packet, by its type and by its bytes
 payload_meaning-Some : (t : EthernetProtocol) (bytes : List ℕ) (m : Carried) → payload_meaning t bytes ≡ Some m
-    → (w : IpRepr) × (t ≡ type_of w) × ReadsPacket bytes w
+    → (w : IpRepr) × (u : Transport) × (t ≡ type_of w) × ReadsPacket bytes w × ReadsTransport w (packet_payload w bytes) u
 payload_meaning-Some ethertype.Ipv4 bytes m e =
     let (n, is, _) = option_map-Some (λ d. packet (Ipv4 d.0) d.1) (meaning_by ipv4 (λ v. transport_meaning (Ipv4 v)) bytes) m e in
-    let (v, p, _, read, _, _) = meaning_by-parts ipv4 (λ v. transport_meaning (Ipv4 v)) bytes n is in
+    let (v, p, u, read, carried, _) = meaning_by-parts ipv4 (λ v. transport_meaning (Ipv4 v)) bytes n is in
     let (w, d) = datagram_of-IsDatagram bytes v p read in
-    (Ipv4 w, refl, (d.reads, d.whole))
+    let inner = carried-only Ipv4 (with_len w 0) v (ipv4_payload bytes) p u d.header d.payload carried in
+    (Ipv4 w, u, refl, (d.reads, d.whole), inner)
 payload_meaning-Some ethertype.Ipv6 bytes m e =
     let (n, is, _) = option_map-Some (λ d. packet (Ipv6 d.0) d.1) (meaning_by ipv6 (λ v. transport_meaning (Ipv6 v)) bytes) m e in
-    let (v, p, _, read, _, _) = meaning_by-parts ipv6 (λ v. transport_meaning (Ipv6 v)) bytes n is in
+    let (v, p, u, read, carried, _) = meaning_by-parts ipv6 (λ v. transport_meaning (Ipv6 v)) bytes n is in
     let (w, d) = ipv6_packet_of-IsPacket bytes v p read in
-    (Ipv6 w, refl, d.reads)
+    let inner = carried-only Ipv6 (with_len_ipv6 w 0) v (payload_of bytes) p u d.header d.payload carried in
+    (Ipv6 w, u, refl, d.reads, inner)
 payload_meaning-Some ethertype.Arp bytes m e = absurd (cc)
 payload_meaning-Some (ethertype.Unknown n) bytes m e = absurd (cc)
 
-pub meaning_of-only : (frame : List ℕ) (m : Meaning) → meaning_of frame ≡ Some m → (v : EthernetRepr) × (w : IpRepr) × IsReadWhole frame v w
+pub meaning_of-only : (frame : List ℕ) (m : Meaning) → meaning_of frame ≡ Some m
+    → (v : EthernetRepr) × (w : IpRepr) × (t : Transport) × IsReadWhole frame v w t
 unfolding meaning_of
 meaning_of-only frame m e =
     let (v, p, carried, read, is, _) = meaning_by-parts ethernet (λ v. payload_meaning v.ethertype) frame m e in
     let (header, rest) = read-Reads frame v p read in
-    let (w, names, inner) = payload_meaning-Some v.ethertype p carried is in
-    (v, w, record { reads_header = header; type_names = names; reads_packet = rw rest inner })
+    let (w, t, names, inner, transport) = payload_meaning-Some v.ethertype p carried is in
+    (v, w, t, record { reads_header = header; type_names = names; reads_packet = rw rest inner; reads_transport = rw rest transport })

@@ -1,6 +1,6 @@
 -- The definitions at worked frames.
 use Rattle.std.proofs.Common.{ℕ, ◌≡◌, List, [], ◌∷◌, ◌++◌, Some, None, refl}
-use Rattle.ip_wire.specs.Frame.{Carried, datagram_of, meaning_of, packet, rebuilt}
+use Rattle.ip_wire.specs.Frame.{Carried, datagram_of, meaning_of, other, packet, rebuilt}
 use Rattle.wire_ip.specs.declared.IpRepr.TheVariants as ip
 use Rattle.wire_ipv4.specs.Ipv4.{ipv4_of}
 use Rattle.wire_ipv4.specs.WordSum.{residue, words}
@@ -114,7 +114,7 @@ carried =
       payload_len = 0;
       hop_limit = 64;
     }))
-    payload
+    (other payload)
 
 meaning_of-padded : meaning_of (frame ++ 0x00 ∷ 0x00 ∷ 0x00 ∷ []) ≡ Some (header, carried)
 unfolding meaning_of datagram_of ethernet_of ipv4_of words residue

@@ -2,19 +2,22 @@
 #![tactic(auto)]
 
 ghost use Rattle.std.specs.Prelude.{◌≡◌, ◌==◌, ◌++◌, not, if◌then◌else◌, drop, length, true};
+ghost use Rattle.std.specs.Int.{to_be_bytes};
+ghost use mir.Syntax.{w32};
 ghost use Rattle.ip_wire.specs.Frame.{rebuilt};
 ghost use Rattle.ip_wire.specs.Printed.{ipv6_text};
 ghost use Rattle.ip_wire.specs.WordSum.{sum_of_bytes};
-ghost use Rattle.net_base.specs.Checksum.{computes, verifies};
-ghost use Rattle.ip_wire_c.specs.Calls.{emitted, emitted_len, innermost_payload, ipv4_header, ipv6_header, is_rebuilt, IsPrinted, length_or_none};
+ghost use Rattle.ip_wire.specs.declared.IpAddress.TheVariants.{Ipv4, Ipv6};
+ghost use Rattle.ip_wire_c.specs.Calls.{all_or_none, emitted, emitted_len, innermost_payload, ipv4_header, ipv6_header, is_rebuilt, IsPrinted, length_or_none, sent, sent_len, udp_header};
 
 mod payload;
 mod rebuild;
 mod text;
+mod udp;
 
 use ip_wire::{
-    IPV4_HEADER_LEN, IPV6_HEADER_LEN, IpProtocol, Ipv4Address, Ipv4PacketMut, Ipv4Repr,
-    Ipv6Address, Ipv6PacketMut, Ipv6Repr, checksum,
+    IPV4_HEADER_LEN, IPV6_HEADER_LEN, IpAddress, IpProtocol, Ipv4Address, Ipv4PacketMut, Ipv4Repr,
+    Ipv6Address, Ipv6PacketMut, Ipv6Repr, UdpRepr, checksum,
 };
 use net_base::ChecksumCapabilities;
 
@@ -30,7 +33,7 @@ pub extern "C" fn lk_checksum(bytes: &[u8]) -> u16
 /// or of a layer that is not there. Checksums are verified unless `checked` is 0.
 #[unsafe(no_mangle)]
 pub extern "C" fn lk_parse(frame: &[u8], checked: u8) -> u32
-    ensures { result ≡ length_or_none (innermost_payload (not (checked == 0)) frame.now) }
+    ensures { result ≡ length_or_none (innermost_payload (all_or_none (not (checked == 0))) frame.now) }
 {
     match payload::innermost_payload(frame, &capabilities(checked)) {
         Some(payload) => payload.len() as u32 + 1,
@@ -99,6 +102,62 @@ pub extern "C" fn lk_emit_ipv6(
     IPV6_HEADER_LEN
 }
 
+/// Writes a UDP packet with this payload, to be carried by IPv4 between two addresses, to the front of
+/// `out`, and answers its length: 0 where there is no room for it or the payload is longer than 65,527
+/// octets, and then nothing is written. The checksum is computed unless `checked` is 0.
+#[unsafe(no_mangle)]
+pub extern "C" fn lk_emit_udp_ipv4(
+    src_addr: u32,
+    dst_addr: u32,
+    src_port: u16,
+    dst_port: u16,
+    payload: &[u8],
+    checked: u8,
+    out: &mut [u8],
+) -> usize
+    ensures length { result ≡ sent_len (length payload.now) (length out.old) }
+    ensures bytes { let src = Ipv4 (to_be_bytes w32 src_addr) in let dst = Ipv4 (to_be_bytes w32 dst_addr) in
+        out.new ≡ sent (udp_header src_port dst_port) src dst payload.now (not (checked == 0)) out.old }
+{
+    let src_addr = IpAddress::Ipv4(Ipv4Address::from_octets(src_addr.to_be_bytes()));
+    let dst_addr = IpAddress::Ipv4(Ipv4Address::from_octets(dst_addr.to_be_bytes()));
+    udp::send(
+        UdpRepr { src_port, dst_port },
+        src_addr,
+        dst_addr,
+        payload,
+        &capabilities(checked),
+        out,
+    )
+}
+
+/// Writes a UDP packet with this payload, to be carried by IPv6 between two addresses, to the front of
+/// `out`, and answers its length, as `lk_emit_udp_ipv4` does.
+#[unsafe(no_mangle)]
+pub extern "C" fn lk_emit_udp_ipv6(
+    src_addr: &[u8; 16],
+    dst_addr: &[u8; 16],
+    src_port: u16,
+    dst_port: u16,
+    payload: &[u8],
+    checked: u8,
+    out: &mut [u8],
+) -> usize
+    ensures length { result ≡ sent_len (length payload.now) (length out.old) }
+    ensures bytes { out.new ≡ sent (udp_header src_port dst_port) (Ipv6 src_addr.now) (Ipv6 dst_addr.now) payload.now (not (checked == 0)) out.old }
+{
+    let src_addr = IpAddress::Ipv6(Ipv6Address::from_octets(*src_addr));
+    let dst_addr = IpAddress::Ipv6(Ipv6Address::from_octets(*dst_addr));
+    udp::send(
+        UdpRepr { src_port, dst_port },
+        src_addr,
+        dst_addr,
+        payload,
+        &capabilities(checked),
+        out,
+    )
+}
+
 /// Writes the text of the IPv6 address with these octets to the front of `out`, and answers its length,
 /// which is never more than 39: 0 where it doesn't fit, and then nothing is written.
 #[unsafe(no_mangle)]
@@ -124,8 +183,7 @@ pub extern "C" fn lk_rebuild(frame: &[u8], out: &mut [u8]) -> usize
 
 // All checksums, or none of them.
 fn capabilities(checked: u8) -> ChecksumCapabilities
-    ensures verifies { verifies result.ipv4 ≡ not (checked == 0) }
-    ensures computes { computes result.ipv4 ≡ not (checked == 0) }
+    ensures { result ≡ all_or_none (not (checked == 0)) }
 {
     if checked == 0 {
         ChecksumCapabilities::ignored()

@@ -1,14 +1,17 @@
 //! A whole frame built again in a slice.
 
-ghost use Rattle.std.specs.Prelude.{◌≡◌, ◌≤◌, ◌<◌, ◌++◌, None, length, true};
-ghost use Rattle.ip_wire.specs.Frame.{ethernet, rebuilt, rebuilt_payload};
-ghost use Rattle.ip_wire.specs.Ip.{bytes_of, max_payload_len, with_payload_len};
+ghost use Rattle.std.specs.Prelude.{◌≡◌, ◌≤◌, ◌<◌, None, length};
+ghost use Rattle.ip_wire.specs.Frame.{ethernet, rebuilt, rebuilt_between, rebuilt_packet, rebuilt_payload, rebuilt_transport};
+ghost use Rattle.ip_wire.specs.Ip.{max_payload_len};
+ghost use Rattle.ip_wire.specs.IpAddress.{version_of};
 ghost use Rattle.ip_wire.specs.declared.EthernetProtocol.TheVariants.{Ipv4, Ipv6};
+ghost use Rattle.ip_wire.specs.declared.IpProtocol.TheVariants.{Udp};
 ghost use Rattle.ip_wire_c.specs.Calls.{Fills};
 
+use crate::udp;
 use ip_wire::{
-    ETHERNET_HEADER_LEN, EthernetFrame, EthernetFrameMut, EthernetProtocol, EthernetRepr, IpRepr,
-    Ipv4Packet, Ipv4Repr, Ipv6Packet, Ipv6Repr,
+    ETHERNET_HEADER_LEN, EthernetFrame, EthernetFrameMut, EthernetProtocol, EthernetRepr,
+    IpAddress, IpProtocol, IpRepr, Ipv4Packet, Ipv4Repr, Ipv6Packet, Ipv6Repr, UdpPacket, UdpRepr,
 };
 use net_base::ChecksumCapabilities;
 
@@ -77,18 +80,18 @@ fn rebuild_ipv6(bytes: &[u8], out: &mut [u8]) -> Option<usize>
     }
 }
 
-// A packet with these values, but for the length of the payload, and this payload.
+// A packet with these values, but for the length of the payload, and what it carries built again.
 #[inline(always)]
 fn rebuild_packet(header: IpRepr, payload: &[u8], out: &mut [u8]) -> Option<usize>
     requires { length payload.now ≤ max_payload_len header }
-    ensures { Fills (bytes_of (with_payload_len header (length payload.now)) true ++ payload.now) out.old out.new result }
+    ensures { Fills (rebuilt_packet header payload.now) out.old out.new result }
 {
     let header_len = header.header_len();
     if out.len() < header_len {
         return None;
     }
     let (front, rest) = out.split_at_mut(header_len);
-    match copy(payload, rest) {
+    match rebuild_transport(&header, payload, rest) {
         Some(payload_len) => {
             let mut header = header;
             header.set_payload_len(payload_len);
@@ -96,6 +99,36 @@ fn rebuild_packet(header: IpRepr, payload: &[u8], out: &mut [u8]) -> Option<usiz
             Some(header_len + payload_len)
         }
         None => None,
+    }
+}
+
+// What a packet with this header carries, built again.
+#[inline(always)]
+fn rebuild_transport(header: &IpRepr, bytes: &[u8], out: &mut [u8]) -> Option<usize>
+    ensures { Fills (rebuilt_transport header.now bytes.now) out.old out.new result }
+{
+    match header.next_header() {
+        IpProtocol::Udp => rebuild_udp(header.src_addr(), header.dst_addr(), bytes, out),
+        _ => copy(bytes, out),
+    }
+}
+
+// A UDP packet, built again where it is read with its checksum.
+#[inline(always)]
+fn rebuild_udp(
+    src_addr: IpAddress,
+    dst_addr: IpAddress,
+    bytes: &[u8],
+    out: &mut [u8],
+) -> Option<usize>
+    requires { version_of src_addr ≡ version_of dst_addr }
+    ensures { Fills (rebuilt_between Udp src_addr dst_addr bytes.now) out.old out.new result }
+{
+    let caps = ChecksumCapabilities::default();
+    let packet = UdpPacket::new_unchecked(bytes);
+    match UdpRepr::parse(&packet, &src_addr, &dst_addr, &caps) {
+        Ok(header) => udp::emit(header, src_addr, dst_addr, packet.payload(), &caps, out),
+        Err(_) => copy(bytes, out),
     }
 }
 

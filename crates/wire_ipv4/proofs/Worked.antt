@@ -3,6 +3,7 @@ use Rattle.std.proofs.Common.{◌≡◌, ℕ, ◌++◌, true, false, List, [], �
 use Rattle.wire_field.specs.Field.{field}
 use Rattle.wire_ipv4.specs.Ipv4.{bytes_of, fragment_offset, ipv4_of, is_fragment}
 use Rattle.wire_ipv4.specs.Protocol.{known, number_of, protocol_text}
+use Rattle.wire_ipv4.specs.PseudoHeader.{pseudo_header_bytes}
 use Rattle.wire_ipv4.specs.WordSum.{residue, sum_of, sum_of_bytes, words}
 use Rattle.wire_ipv4.specs.declared.ip_protocol.IpProtocol.TheVariants.{Icmp, Tcp, Udp, Unknown}
 use Rattle.wire_ipv4.specs.declared.ipv4.repr.Ipv4Repr.{Ipv4Repr}
@@ -28,6 +29,22 @@ residue-full = refl
 residue-carry : sum_of (0xffff ∷ 1 ∷ []) ≡ 1
 unfolding residue
 residue-carry = refl
+
+-- ---- pseudo headers, of a datagram of 12 bytes
+
+pseudo_header-ipv4 : sum_of_bytes (pseudo_header_bytes (192 ∷ 168 ∷ 1 ∷ 1 ∷ []) (192 ∷ 168 ∷ 1 ∷ 2 ∷ []) Udp 12) ≡ 0x8371
+unfolding words residue
+pseudo_header-ipv4 = refl
+
+src : List ℕ
+src = 0xfe ∷ 0x80 ∷ 0 ∷ 0 ∷ 0 ∷ 0 ∷ 0 ∷ 0 ∷ 0 ∷ 0 ∷ 0 ∷ 0 ∷ 0 ∷ 0 ∷ 0 ∷ 1 ∷ []
+
+dst : List ℕ
+dst = 0xff ∷ 0x02 ∷ 0 ∷ 0 ∷ 0 ∷ 0 ∷ 0 ∷ 0 ∷ 0 ∷ 0 ∷ 0 ∷ 0 ∷ 0 ∷ 0 ∷ 0 ∷ 1 ∷ []
+
+pseudo_header-ipv6 : sum_of_bytes (pseudo_header_bytes src dst Udp 12) ≡ 0xfda2
+unfolding words residue src dst
+pseudo_header-ipv6 = refl
 
 -- ---- protocols
 

@@ -86,6 +86,7 @@ fn packets_that_are_read(rt: HostRuntime) {
             b"01020304050611121314151608004f00003c0000000040115caf0a0000010a00000200000000000000000000000000000000000000000000000000000000000000000000000000000000",
             b"EthernetII src=11-12-13-14-15-16 dst=01-02-03-04-05-06 type=IPv4\n\
                 IPv4 src=10.0.0.1 dst=10.0.0.2 proto=UDP\n\
+                UDP (wire::Error)\n\
                 again 01020304050611121314151608004500001400004000401126d70a0000010a000002\n\n",
         ),
         (
@@ -100,33 +101,45 @@ fn packets_that_are_read(rt: HostRuntime) {
     }
 }
 
-// Whatever is wrong with a datagram of UDP, it is copied as it stands.
+// The padding behind a packet is dropped, whatever is said of the datagram in it.
 #[test]
 fn datagrams(rt: HostRuntime) {
-    let cases: [(&[u8], &[u8]); 4] = [
+    let cases: [(&[u8], &[u8]); 5] = [
         (
             b"010203040506111213141516080045000020000040004011b779c0a80101c0a80102bf000035000c124daa0000ff0000000000000000000000000000",
             b"EthernetII src=11-12-13-14-15-16 dst=01-02-03-04-05-06 type=IPv4\n\
                 IPv4 src=192.168.1.1 dst=192.168.1.2 proto=UDP\n\
+                UDP src=48896 dst=53 len=4\n\
                 again 010203040506111213141516080045000020000040004011b779c0a80101c0a80102bf000035000c124daa0000ff\n\n",
         ),
         (
             b"010203040506111213141516080045000020000040004011b779c0a80101c0a80102bf000035000c124eaa0000ff0000000000000000000000000000",
             b"EthernetII src=11-12-13-14-15-16 dst=01-02-03-04-05-06 type=IPv4\n\
                 IPv4 src=192.168.1.1 dst=192.168.1.2 proto=UDP\n\
+                UDP src=48896 dst=53 len=4 (checksum incorrect)\n\
                 again 010203040506111213141516080045000020000040004011b779c0a80101c0a80102bf000035000c124eaa0000ff\n\n",
         ),
         (
             b"010203040506111213141516080045000020000040004011b779c0a80101c0a80102bf000035000c8371aa0000ff0000000000000000000000000000",
             b"EthernetII src=11-12-13-14-15-16 dst=01-02-03-04-05-06 type=IPv4\n\
                 IPv4 src=192.168.1.1 dst=192.168.1.2 proto=UDP\n\
+                UDP src=48896 dst=53 len=4 (partial checksum correct)\n\
                 again 010203040506111213141516080045000020000040004011b779c0a80101c0a80102bf000035000c8371aa0000ff\n\n",
         ),
         (
             b"010203040506111213141516080045000020000040004011b779c0a80101c0a80102bf000000000c124daa0000ff0000000000000000000000000000",
             b"EthernetII src=11-12-13-14-15-16 dst=01-02-03-04-05-06 type=IPv4\n\
                 IPv4 src=192.168.1.1 dst=192.168.1.2 proto=UDP\n\
+                UDP src=48896 dst=0 len=4 (refused)\n\
                 again 010203040506111213141516080045000020000040004011b779c0a80101c0a80102bf000000000c124daa0000ff\n\n",
+        ),
+        // One byte short of what its header speaks of.
+        (
+            b"010203040506111213141516080045000020000040004011b779c0a80101c0a80102bf000035000d124daa0000ff",
+            b"EthernetII src=11-12-13-14-15-16 dst=01-02-03-04-05-06 type=IPv4\n\
+                IPv4 src=192.168.1.1 dst=192.168.1.2 proto=UDP\n\
+                UDP (wire::Error)\n\
+                again 010203040506111213141516080045000020000040004011b779c0a80101c0a80102bf000035000d124daa0000ff\n\n",
         ),
     ];
     for (input, output) in cases {
@@ -244,6 +257,7 @@ fn packets_of_ipv6(rt: HostRuntime) {
             b"01020304050611121314151686dd60000000000c1140fe800000000000000000000000000001ff02000000000000000000000000000100010002000c024effffffff",
             b"EthernetII src=11-12-13-14-15-16 dst=01-02-03-04-05-06 type=IPv6\n\
                 IPv6 src=fe80::1 dst=ff02::1 nxt_hdr=UDP hop_limit=64\n\
+                UDP src=1 dst=2 len=4\n\
                 again 01020304050611121314151686dd60000000000c1140fe800000000000000000000000000001ff02000000000000000000000000000100010002000c024effffffff\n\n",
         ),
         // Padding, traffic class and flow label are dropped.

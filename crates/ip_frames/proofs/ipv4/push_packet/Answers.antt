@@ -7,8 +7,8 @@ use Rattle.ip_wire.specs.Ipv4.{header_len, ipv4_of, is_fragment, total_len}
 use Rattle.net_base.specs.Checksum.{verifies}
 use Rattle.ip_frames.proofs.ipv4.push_packet.Goals as goal
 
-pub push_datagram-requires : goal.push_datagram-requires
-push_datagram-requires c =
+pub push_inner-requires : goal.push_inner-requires
+push_inner-requires c =
     let read = (c.in-Ok.ensures.reads c.in-Ok.header).0 refl in
     rw c.payload.ensures (grind (arith, common_steps, read.lengths.header))
 
@@ -19,7 +19,7 @@ returns-in_ok-push_fragment_line-in-Ok-clause-lines c =
     let read : ipv4_of true bytes ≡ Some c.in-Ok.header = rw (caps, c.new_unchecked-packet.ensures) at c.in-Ok.ensures.value in
     let part : is_fragment bytes ≡ true = ap is_fragment (sym c.new_unchecked-packet.ensures) ∙ sym c.is_fragment.ensures ∙ c.if-is_fragment.true in
     let more = flag-test c.more_frags.result (field bytes 50 1) (rw c.new_unchecked-packet.ensures at c.more_frags.ensures) in
-    let line = inner_lines-fragment bytes c.frag_offset.result c.ident.result c.more_frags.result part
+    let line = inner_lines-fragment c.in-Ok.header bytes c.frag_offset.result c.ident.result c.more_frags.result part
     (rw c.new_unchecked-packet.ensures at c.frag_offset.ensures) more (rw c.new_unchecked-packet.ensures at c.ident.ensures) in
     rw (read, line) (grind (arith, common_steps))
 
@@ -35,7 +35,8 @@ returns-else-is_fragment-clause-lines c =
     let caps : verifies c.default.result.ipv4 ≡ true = search rules in
     let read : ipv4_of true bytes ≡ Some c.in-Ok.header = rw (caps, c.new_unchecked-packet.ensures) at c.in-Ok.ensures.value in
     let whole : is_fragment bytes ≡ false = ap is_fragment (sym c.new_unchecked-packet.ensures) ∙ sym c.is_fragment.ensures ∙ c.if-is_fragment.false in
-    rw (read, inner_lines-whole bytes whole) (grind (arith, common_steps))
+    let payload : c.payload.result.now ≡ slice_range bytes (header_len bytes) (total_len bytes) = rw c.new_unchecked-packet.ensures at c.payload.ensures in
+    rw (read, inner_lines-whole c.in-Ok.header bytes whole, ← payload) (grind (arith, common_steps))
 
 pub returns-else-is_fragment-clause-again : goal.returns-else-is_fragment-clause-again
 returns-else-is_fragment-clause-again c =
@@ -44,7 +45,7 @@ returns-else-is_fragment-clause-again c =
     let read : ipv4_of true bytes ≡ Some c.in-Ok.header = rw (caps, c.new_unchecked-packet.ensures) at c.in-Ok.ensures.value in
     let whole : is_fragment bytes ≡ false = ap is_fragment (sym c.new_unchecked-packet.ensures) ∙ sym c.is_fragment.ensures ∙ c.if-is_fragment.false in
     let payload : c.payload.result.now ≡ slice_range bytes (header_len bytes) (total_len bytes) = rw c.new_unchecked-packet.ensures at c.payload.ensures in
-    rw (rebuilt-ipv4 bytes c.in-Ok.header read whole, ← payload) c.push_datagram.ensures
+    rw (rebuilt-ipv4 bytes c.in-Ok.header read whole, ← payload) c.push_inner.ensures.again
 
 pub returns-in_ok-push-in-Err-clause-again : goal.returns-in_ok-push-in-Err-clause-again
 returns-in_ok-push-in-Err-clause-again c =

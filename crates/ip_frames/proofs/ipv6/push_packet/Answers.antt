@@ -17,11 +17,11 @@ returns-after-header-clause-lines c =
     let named : v.next_header ≡ protocol_of (field bytes 48 8) = rw c.new_unchecked-packet.ensures at ((c.in-Ok.ensures.reads v).0 refl).next_header in
     elim c.match-header.branch [
       | in-Ipv6Frag+in_ok-push_fragment_line-in-Ok w ↦
-          let inner = ipv6_inner_lines-fragment bytes (sym named ∙ w.in-Ipv6Frag.is) in
-          rw (read, inner, ← payload) (grind (arith, common_steps, w.text-is, w.in_ok-push_fragment_line-in-Ok.ensures))
+          let inner = ipv6_inner_lines-fragment v bytes (sym named ∙ w.in-Ipv6Frag.is) in
+          rw (read, inner, ← payload) (grind (arith, common_steps, w.text-is, c.push_inner.ensures.lines, w.in_ok-push_fragment_line-in-Ok.ensures))
       | in_default w ↦
-          let inner = ipv6_inner_lines-other bytes (λ is. w.in_default.not-Ipv6Frag (named ∙ is)) in
-          rw (read, inner) (grind (arith, common_steps, w.text-is))
+          let inner = ipv6_inner_lines-other v bytes (λ is. w.in_default.not-Ipv6Frag (named ∙ is)) in
+          rw (read, inner, ← payload) (grind (arith, common_steps, w.text-is, c.push_inner.ensures.lines))
     ]
 
 pub returns-after-header-clause-again : goal.returns-after-header-clause-again
@@ -29,7 +29,7 @@ returns-after-header-clause-again c =
     let bytes = c.args.bytes.now in
     let read : ipv6_of bytes ≡ Some c.in-Ok.header = rw c.new_unchecked-packet.ensures at c.in-Ok.ensures.value in
     let payload : c.payload-payload.result.now ≡ payload_of bytes = rw c.new_unchecked-packet.ensures at c.payload-payload.ensures in
-    rw (rebuilt-ipv6 bytes c.in-Ok.header read, ← payload) c.push_datagram.ensures
+    rw (rebuilt-ipv6 bytes c.in-Ok.header read, ← payload) c.push_inner.ensures.again
 
 pub returns-in-Err-clause-again : goal.returns-in-Err-clause-again
 returns-in-Err-clause-again c =

@@ -1,0 +1,50 @@
+//! What an IP packet of either version carries, and the packet built again.
+
+ghost use Rattle.std.specs.Prelude.{◌≡◌, ◌≤◌, ◌++◌, OnOk, length, string_bytes};
+ghost use Rattle.ip_frames.specs.Output.{transport_lines};
+ghost use Rattle.ip_wire.specs.Frame.{rebuilt_packet, rebuilt_transport};
+ghost use Rattle.ip_wire.specs.Ip.{max_payload_len};
+
+use crate::udp;
+use ip_wire::{IpProtocol, IpRepr};
+use net_base::ChecksumCapabilities;
+use std::alloc::AllocError;
+
+/// Appends the lines of what a packet with these values carries to `text`, and the packet built again
+/// to `again`. The header's own payload length is not looked at.
+pub fn push_inner(
+    mut header: IpRepr,
+    payload: &[u8],
+    text: &mut String,
+    again: &mut Vec<u8>,
+) -> Result<(), AllocError>
+    requires { length payload.now ≤ max_payload_len header }
+    ensures lines { OnOk result (string_bytes text.new ≡ string_bytes text.old ++ transport_lines header payload.now) }
+    ensures again { OnOk result (again.new.items ≡ again.old.items ++ rebuilt_packet header payload.now) }
+{
+    let start = again.len();
+    again.resize(start + header.header_len(), 0)?;
+    push_transport(&header, payload, text, again)?;
+    header.set_payload_len(again.len() - start - header.header_len());
+    header.emit(&mut again[start..], &ChecksumCapabilities::default());
+    Ok(())
+}
+
+// Appends the lines of what a packet with this header carries to `text`, and its bytes built again to
+// `again`.
+fn push_transport(
+    header: &IpRepr,
+    payload: &[u8],
+    text: &mut String,
+    again: &mut Vec<u8>,
+) -> Result<(), AllocError>
+    ensures lines { OnOk result (string_bytes text.new ≡ string_bytes text.old ++ transport_lines header.now payload.now) }
+    ensures again { OnOk result (again.new.items ≡ again.old.items ++ rebuilt_transport header.now payload.now) }
+{
+    match header.next_header() {
+        IpProtocol::Udp => {
+            udp::push_packet(&header.src_addr(), &header.dst_addr(), payload, text, again)
+        }
+        _ => again.extend_from_slice(payload),
+    }
+}

@@ -1,0 +1,102 @@
+-- UDP is a layer.
+use Rattle.std.proofs.Common.{ℕ, ◌≡◌, ◌≤◌, ◌+◌, ◌-◌, ◌%◌, true, List, [], Option, Some, None, length, refl, ap, subst, ◌∙◌, append-nil, length-append, arith}
+use Rattle.ip_wire.proofs.Layers.{IsLayer, length-part, option_map-Some, rebuilt_by-None, rebuilt_by-Some}
+use Rattle.ip_wire.specs.Frame.{rebuilt_between, udp, udp_packet_of}
+use Rattle.wire_ends.specs.declared.IpAddress.{IpAddress}
+use Rattle.wire_ipv4.specs.PseudoHeader.{octets_of}
+use Rattle.wire_ipv4.specs.declared.IpProtocol.{IpProtocol}
+use Rattle.wire_ipv4.specs.declared.IpProtocol.TheVariants as protocol
+use Rattle.wire_udp.proofs.UdpComputed.{udp_of-Reads}
+use Rattle.wire_udp.proofs.UdpReadsBack.{IsInRange, reads-bytes_of}
+use Rattle.wire_udp.specs.Udp.{Reads, bytes_of, packet_len, payload_of, udp_of}
+use Rattle.wire_udp.specs.declared.UdpRepr.{UdpRepr}
+
+-- the octets of both addresses are whole words
+pub record AreWords (src dst : IpAddress) : Type 0 where
+  pub src_octets : length (octets_of src) % 2 ≡ 0
+  pub dst_octets : length (octets_of dst) % 2 ≡ 0
+
+-- what reading says
+pub udp_packet_of-Reads : (src dst : IpAddress) (bytes : List ℕ) (v : UdpRepr) (p : List ℕ) → udp_packet_of src dst bytes ≡ Some (v, p)
+    → Reads bytes src dst true v p
+unfolding udp_packet_of
+udp_packet_of-Reads src dst bytes v p e =
+    let (u, is, named) = option_map-Some (λ (w : UdpRepr). (w, payload_of bytes)) (udp_of src dst true bytes) (v, p) e in
+    let same : u ≡ v = ap (λ (d : UdpRepr × List ℕ). d.0) named in
+    let body : payload_of bytes ≡ p = ap (λ (d : UdpRepr × List ℕ). d.1) named in
+    subst (λ q. Reads bytes src dst true v q) body ((udp_of-Reads src dst true bytes v).0 (is ∙ ap Some same))
+
+pub Reads-udp_packet_of : (src dst : IpAddress) (bytes : List ℕ) (v : UdpRepr) (p : List ℕ) → Reads bytes src dst true v p
+    → udp_packet_of src dst bytes ≡ Some (v, p)
+unfolding udp_packet_of
+Reads-udp_packet_of src dst bytes v p r =
+    let read = (udp_of-Reads src dst true bytes v).1 (subst (λ q. Reads bytes src dst true v q) r.body r) in
+    rw (read, r.body) refl
+
+-- how long the payload is
+length-payload : (src dst : IpAddress) (bytes : List ℕ) (v : UdpRepr) (p : List ℕ) → Reads bytes src dst true v p → length p ≡ packet_len bytes - 8
+length-payload src dst bytes v p r = ap length r.body ∙ length-part bytes 8 (packet_len bytes) r.lengths.whole
+
+-- what was read has a packet with any payload that is no longer
+in_range : (src dst : IpAddress) (bytes : List ℕ) (v : UdpRepr) (p q : List ℕ) → AreWords src dst → Reads bytes src dst true v p → length q ≤ length p
+    → IsInRange v q src dst
+in_range src dst bytes v p q words r fits =
+    let len = length-payload src dst bytes v p r in
+    record {
+      src_port = rw r.src_port (omega arith);
+      dst_port = rw r.dst_port (omega arith);
+      receiver = rw r.dst_port r.receiver;
+      payload_len = omega (arith, len, fits);
+      src_octets = words.src_octets;
+      dst_octets = words.dst_octets;
+    }
+
+length-written : (src dst : IpAddress) (v : UdpRepr) (q : List ℕ) → length (bytes_of v q src dst true) ≡ 8 + length q
+length-written src dst v q = simp length-append (omega arith)
+
+written-read : (src dst : IpAddress) (bytes : List ℕ) (v : UdpRepr) (p q : List ℕ) → AreWords src dst → Reads bytes src dst true v p → length q ≤ length p
+    → udp_packet_of src dst (bytes_of v q src dst true) ≡ Some (v, q)
+written-read src dst bytes v p q words r fits =
+    let back = reads-bytes_of v src dst q [] true true (in_range src dst bytes v p q words r fits) (λ on. on) in
+    Reads-udp_packet_of src dst (bytes_of v q src dst true) v q (subst (λ written. Reads written src dst true v q) (append-nil (bytes_of v q src dst true)) back)
+
+pub IsLayer-udp : (src dst : IpAddress) → AreWords src dst → IsLayer (udp src dst)
+IsLayer-udp src dst words = record {
+  normal_read = λ bytes v p e. refl;
+  reads_back = λ bytes v p q e fits. written-read src dst bytes v p q words (udp_packet_of-Reads src dst bytes v p e) fits;
+  no_longer = λ bytes v p q e fits.
+      let r = udp_packet_of-Reads src dst bytes v p e in
+      let whole = r.lengths.whole in
+      let header = r.lengths.header in
+      let len = length-payload src dst bytes v p r in
+      let written = length-written src dst v q in
+      omega (arith, written, len, whole, header);
+}
+
+-- ---- what a packet carries, rebuilt
+
+pub rebuilt-udp : (src dst : IpAddress) (bytes : List ℕ) (v : UdpRepr) → udp_of src dst true bytes ≡ Some v
+    → rebuilt_between protocol.Udp src dst bytes ≡ bytes_of v (payload_of bytes) src dst true
+rebuilt-udp src dst bytes v e =
+    let read = (udp_of-Reads src dst true bytes v).0 e in
+    rebuilt_by-Some (udp src dst) (λ w payload. payload) bytes v (payload_of bytes) (Reads-udp_packet_of src dst bytes v (payload_of bytes) read)
+
+pub rebuilt-udp-copied : (src dst : IpAddress) (bytes : List ℕ) → udp_of src dst true bytes ≡ None → rebuilt_between protocol.Udp src dst bytes ≡ bytes
+unfolding udp_packet_of
+rebuilt-udp-copied src dst bytes e = rw e refl
+
+-- it is no longer
+length-rebuilt_by : (src dst : IpAddress) (bytes : List ℕ) (found : Option (UdpRepr × List ℕ)) → udp_packet_of src dst bytes ≡ found
+    → length (rebuilt_between protocol.Udp src dst bytes) ≤ length bytes
+length-rebuilt_by src dst bytes None e = rw (rebuilt_by-None (udp src dst) (λ w payload. payload) bytes e) (omega arith)
+length-rebuilt_by src dst bytes (Some (v, p)) e =
+    let r = udp_packet_of-Reads src dst bytes v p e in
+    let whole = r.lengths.whole in
+    let header = r.lengths.header in
+    let len = length-payload src dst bytes v p r in
+    let written = length-written src dst v p in
+    rw (rebuilt_by-Some (udp src dst) (λ w payload. payload) bytes v p e) (omega (arith, written, len, whole, header))
+
+pub length-rebuilt_between : (t : IpProtocol) (src dst : IpAddress) (bytes : List ℕ) → length (rebuilt_between t src dst bytes) ≤ length bytes
+length-rebuilt_between protocol.Udp src dst bytes = length-rebuilt_by src dst bytes (udp_packet_of src dst bytes) refl
+length-rebuilt_between _ src dst bytes = omega arith

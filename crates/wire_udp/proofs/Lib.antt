@@ -1,0 +1,5 @@
+pub mod UdpComputed
+pub mod UdpEmitted
+pub mod UdpReadsBack
+mod UdpViewed
+mod UdpWorked

@@ -1,0 +1,103 @@
+-- A UDP packet that was written is read as what it was written from.
+use Rattle.std.proofs.Common.{ℕ, ◌≡◌, ◌≢◌, ◌≤◌, ◌<◌, ◌+◌, ◌-◌, ◌%◌, ◌==◌, ◌⊎◌, inl, inr, Bool, true, false, IsTrue, List, ◌++◌, length, sum, take, refl, sym, ap, ◌∙◌, length-append, arith}
+use Rattle.std.proofs.Math.Seq.{take-append_seam}
+use Rattle.std.proofs.lemmas.Bool.{cases_lt}
+use Rattle.std.proofs.lemmas.Bool.Decides.{nat_tests}
+use Rattle.wire_ends.specs.declared.ip_address.IpAddress.{IpAddress}
+use Rattle.wire_ipv4.proofs.Residues.{residue-bound, residue-complement, residue-of_zero, residue-same}
+use Rattle.wire_ipv4.proofs.WordLists.{sum-words-append}
+use Rattle.wire_ipv4.specs.PseudoHeader.{octets_of, pseudo_header_bytes, with_pseudo_header}
+use Rattle.wire_ipv4.specs.WordSum.{residue, words}
+use Rattle.wire_ipv4.specs.declared.ip_protocol.IpProtocol.TheVariants as protocol
+use Rattle.wire_udp.proofs.UdpEmitted.{packet_len-packet_with, take-packet_with}
+use Rattle.wire_udp.specs.Udp.{Reads, bytes_of, checksum_for, header_bytes, packet_len, packet_sum, packet_with}
+use Rattle.wire_udp.specs.declared.udp.repr.UdpRepr.{UdpRepr}
+
+-- the value has a packet with this payload: its numbers fit their fields, and octets of addresses are whole words
+pub record IsInRange (v : UdpRepr) (payload : List ℕ) (src dst : IpAddress) : Type 0 where
+  pub src_port : v.src_port < 65536
+  pub dst_port : v.dst_port < 65536
+  pub receiver : v.dst_port ≢ 0
+  pub payload_len : length payload ≤ 65527
+  pub src_octets : length (octets_of src) % 2 ≡ 0
+  pub dst_octets : length (octets_of dst) % 2 ≡ 0
+
+-- the checksum that is written for a sum
+checksum_for-cases : (sum : ℕ) → sum ≤ 65535 → ((sum ≡ 65535) × (checksum_for sum ≡ 65535)) ⊎ ((sum < 65535) × (checksum_for sum ≡ 65535 - sum))
+checksum_for-cases sum h = elim (cases_lt sum 65535) [
+  | inl below ↦
+      let some : (65535 - sum == 0) ≡ false = grind (arith, nat_tests) in
+      inr (below, rw some refl)
+  | inr full ↦
+      let none : (65535 - sum == 0) ≡ true = grind (arith, nat_tests) in
+      inl (omega arith, rw none refl)
+]
+
+-- it is no 0
+checksum_for-bounds : (sum : ℕ) → sum ≤ 65535 → (1 ≤ checksum_for sum) × (checksum_for sum ≤ 65535)
+checksum_for-bounds sum h = elim (checksum_for-cases sum h) [ inl (full, is) ↦ (omega (arith, is), omega (arith, is)) | inr (below, is) ↦ (omega (arith, is), omega (arith, is)) ]
+
+-- a total and the checksum for its residue
+residue-checksum_for : (m : ℕ) → residue (m + checksum_for (residue m)) ≡ 65535
+residue-checksum_for m = elim (checksum_for-cases (residue m) (residue-bound m)) [
+  | inl (full, is) ↦
+      ap (λ (n : ℕ). residue (m + n)) is
+      ∙ residue-same (m + 65535) m 0 1 (omega arith) (λ z. absurd (omega arith)) (λ z. absurd (omega (arith, full, residue-of_zero m z)))
+      ∙ full
+  | inr (below, is) ↦ ap (λ (n : ℕ). residue (m + n)) is ∙ residue-complement m
+]
+
+-- a checksum adds itself to the words of the header, and so of the packet
+sum-words-header : (v : UdpRepr) (len checksum : ℕ) → checksum < 65536 → sum (words (header_bytes v len checksum)) ≡ sum (words (header_bytes v len 0)) + checksum
+unfolding words
+sum-words-header v len checksum fits = omega arith
+
+sum-words-checksum : (v : UdpRepr) (src dst : IpAddress) (payload : List ℕ) (checksum : ℕ) → length (octets_of src) % 2 ≡ 0 → length (octets_of dst) % 2 ≡ 0 → checksum < 65536
+    → sum (words (with_pseudo_header src dst protocol.Udp (packet_with v payload checksum))) ≡ sum (words (with_pseudo_header src dst protocol.Udp (packet_with v payload 0))) + checksum
+sum-words-checksum v src dst payload checksum s d fits =
+    let header = pseudo_header_bytes (octets_of src) (octets_of dst) protocol.Udp (length (packet_with v payload 0)) in
+    let even : length header % 2 ≡ 0 = simp length-append (omega arith) in
+    sum-words-append header (packet_with v payload checksum) even
+    ∙ omega (
+      arith,
+      sum-words-append header (packet_with v payload 0) even,
+      sum-words-append (header_bytes v (length payload) 0) payload refl,
+      sum-words-append (header_bytes v (length payload) checksum) payload refl,
+      sum-words-header v (length payload) checksum fits,
+    )
+
+-- the packet verifies
+verifies : (v : UdpRepr) (src dst : IpAddress) (payload : List ℕ) → length (octets_of src) % 2 ≡ 0 → length (octets_of dst) % 2 ≡ 0
+    → packet_sum src dst (bytes_of v payload src dst true) ≡ 65535
+verifies v src dst payload s d =
+    let total = sum (words (with_pseudo_header src dst protocol.Udp (packet_with v payload 0))) in
+    let bounds = checksum_for-bounds (residue total) (residue-bound total) in
+    ap residue (sum-words-checksum v src dst payload (checksum_for (residue total)) s d (omega arith)) ∙ residue-checksum_for total
+
+-- a packet with any checksum is read
+reads-packet_with : (v : UdpRepr) (src dst : IpAddress) (payload rest : List ℕ) (checksum : ℕ) (checked : Bool) → IsInRange v payload src dst
+    → (IsTrue checked → (checksum ≢ 0) × (checksum < 65536) × (packet_sum src dst (packet_with v payload checksum) ≡ 65535))
+    → Reads (packet_with v payload checksum ++ rest) src dst checked v payload
+reads-packet_with v src dst payload rest checksum checked h sound =
+    let long = packet_len-packet_with v payload rest checksum h.payload_len in
+    let body_len : packet_len (packet_with v payload checksum ++ rest) - 8 ≡ length payload = omega (arith, long) in
+    let whole : length (packet_with v payload checksum ++ rest) ≡ 8 + length payload + length rest = simp length-append (omega arith) in
+    record {
+      lengths = record { least = omega arith; header = omega (arith, long); whole = omega (arith, long) };
+      receiver = omega (arith, h.receiver, h.dst_port);
+      checksum = λ on.
+          let (some, fits, full) = sound on in
+          inr (omega (arith, some, fits), ap (packet_sum src dst) (take-packet_with v payload rest checksum h.payload_len) ∙ full);
+      src_port = omega (arith, h.src_port);
+      dst_port = omega (arith, h.dst_port);
+      body = sym (ap (λ (n : ℕ). take n (payload ++ rest)) body_len ∙ take-append_seam payload rest);
+    }
+
+pub reads-bytes_of : (v : UdpRepr) (src dst : IpAddress) (payload rest : List ℕ) (written checked : Bool) → IsInRange v payload src dst
+    → (IsTrue checked → IsTrue written) → Reads (bytes_of v payload src dst written ++ rest) src dst checked v payload
+reads-bytes_of v src dst payload rest true checked h sound =
+    let sum = packet_sum src dst (packet_with v payload 0) in
+    let bounds = checksum_for-bounds sum (residue-bound _) in
+    reads-packet_with v src dst payload rest (checksum_for sum) checked h (λ on. (omega arith, omega arith, verifies v src dst payload h.src_octets h.dst_octets))
+reads-bytes_of v src dst payload rest false checked h sound =
+    reads-packet_with v src dst payload rest 0 checked h (λ on. let no : IsTrue false = sound on in absurd (cc))

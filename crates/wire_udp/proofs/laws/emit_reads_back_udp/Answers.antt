@@ -1,0 +1,15 @@
+use Rattle.std.proofs.Common.{rules}
+use Rattle.wire_udp.proofs.UdpReadsBack.{IsInRange, reads-bytes_of}
+use Rattle.wire_udp.proofs.laws.emit_reads_back_udp.Goals as goal
+
+pub returns : goal.returns
+returns c =
+    let in_range : IsInRange c.args.value c.args.payload.now c.args.src_addr c.args.dst_addr = record {
+      src_port = search rules;
+      dst_port = search rules;
+      receiver = c.requires.receiver;
+      payload_len = c.requires.payload_len;
+      src_octets = search rules;
+      dst_octets = search rules;
+    } in
+    reads-bytes_of c.args.value c.args.src_addr c.args.dst_addr c.args.payload.now c.args.rest.now c.args.written c.args.checked in_range c.requires.checksum

@@ -1,0 +1,3 @@
+pub mod Udp
+pub mod UdpLoan
+pub mod UdpText

@@ -1,0 +1,122 @@
+-- UDP packets (RFC 768; over IPv6 RFC 8200, section 8.1).
+use Rattle.std.specs.Prelude.{ℕ, ◌≡◌, ◌≢◌, ◌≤◌, ◌+◌, ◌-◌, ◌⊎◌, ◌++◌, ◌==◌, ◌&&◌, ◌||◌, not, nat_le, if◌then◌else◌, Bool, true, false, IsTrue, Option, Some, None, List, length, slice_range, take}
+use Rattle.std.specs.Borrow.{MutBor}
+use Rattle.byteorder.specs.Endian.{big_bytes}
+use Rattle.wire_ends.specs.IpAddress.{version_of}
+use Rattle.wire_ends.specs.declared.ip_address.IpAddress.{IpAddress}
+use Rattle.wire_ends.specs.declared.ip_address.IpAddress.TheVariants as address
+use Rattle.wire_ends.specs.declared.ip_version.IpVersion.TheVariants as version
+use Rattle.wire_field.specs.Field.{field, with_field}
+use Rattle.wire_field.specs.Loan.{Holds}
+use Rattle.wire_ipv4.specs.PseudoHeader.{octets_of, pseudo_header_bytes, with_pseudo_header}
+use Rattle.wire_ipv4.specs.WordSum.{sum_of_bytes}
+use Rattle.wire_ipv4.specs.declared.ip_protocol.IpProtocol.TheVariants as protocol
+use Rattle.wire_udp.specs.declared.udp.packet.UdpPacket.{UdpPacket}
+use Rattle.wire_udp.specs.declared.udp.packet_mut.UdpPacketMut.{UdpPacketMut}
+use Rattle.wire_udp.specs.declared.udp.repr.UdpRepr.{UdpRepr}
+
+-- the bytes under a view
+abbrev pub packet_bytes : UdpPacket → List ℕ
+packet_bytes p = p.buffer.now
+
+-- the slice under a writing view
+abbrev pub packet_slice : UdpPacketMut → MutBor (List ℕ)
+packet_slice p = p.buffer
+
+-- the bytes under a writing view
+abbrev pub packet_bytes_mut : UdpPacketMut → List ℕ
+packet_bytes_mut p = (packet_slice p).now
+
+-- the view is still of the same slice, which holds these bytes now
+abbrev pub Becomes : UdpPacketMut → UdpPacketMut → List ℕ → Type 0
+Becomes old new bytes = Holds (packet_slice old) (packet_slice new) bytes
+
+-- the length of a packet in octets, its header included
+abbrev pub packet_len : List ℕ → ℕ
+packet_len bytes = field bytes 32 16
+
+-- what follows the header, up to the packet's length
+abbrev pub payload_of : List ℕ → List ℕ
+payload_of bytes = slice_range bytes 8 (packet_len bytes)
+
+-- the bytes hold a whole header and all that it speaks of
+pub record HasLengths (bytes : List ℕ) : Type 0 where
+  pub least : 8 ≤ length bytes
+  pub header : 8 ≤ packet_len bytes
+  pub whole : packet_len bytes ≤ length bytes
+
+-- ---- the checksum
+
+-- the sum of the pseudo header of a packet between two addresses
+abbrev pub pseudo_header_sum : IpAddress → IpAddress → List ℕ → ℕ
+pseudo_header_sum src dst bytes = sum_of_bytes (pseudo_header_bytes (octets_of src) (octets_of dst) protocol.Udp (packet_len bytes))
+
+-- the sum of a packet between two addresses, its pseudo header included
+abbrev pub packet_sum : IpAddress → IpAddress → List ℕ → ℕ
+packet_sum src dst packet = sum_of_bytes (with_pseudo_header src dst protocol.Udp packet)
+
+-- the sum of the packet that the bytes begin with has all 16 bits set
+abbrev pub Verifies : IpAddress → IpAddress → List ℕ → Type 0
+Verifies src dst bytes = packet_sum src dst (take (packet_len bytes) bytes) ≡ 65535
+
+-- the checksum is written and holds, or it is left out, as over IPv4 it may be
+abbrev pub HasChecksum : IpAddress → IpAddress → List ℕ → Type 0
+HasChecksum src dst bytes = ((field bytes 48 16 ≡ 0) × (version_of src ≡ version.Ipv4)) ⊎ ((field bytes 48 16 ≢ 0) × Verifies src dst bytes)
+
+-- the checksum that is written for a sum: its complement, and all 16 bits set in the place of 0, which says that there is none
+abbrev pub checksum_for : ℕ → ℕ
+checksum_for sum = if 65535 - sum == 0 then 65535 else 65535 - sum
+
+-- the bytes with the checksum of the packet that they begin with, which is summed with zeros in the checksum's place
+abbrev pub with_checksum : IpAddress → IpAddress → List ℕ → List ℕ
+with_checksum src dst bytes =
+    let zeroed = with_field bytes 48 16 0 in
+    with_field zeroed 48 16 (checksum_for (packet_sum src dst (take (packet_len bytes) zeroed)))
+
+-- ---- reading and writing
+
+-- the bytes begin with a packet between two addresses, whose header has these values, and with this payload
+pub record Reads (bytes : List ℕ) (src dst : IpAddress) (checked : Bool) (v : UdpRepr) (payload : List ℕ) : Type 0 where
+  pub lengths : HasLengths bytes
+  pub receiver : field bytes 16 16 ≢ 0
+  pub checksum : IsTrue checked → HasChecksum src dst bytes
+  pub src_port : v.src_port ≡ field bytes 0 16
+  pub dst_port : v.dst_port ≡ field bytes 16 16
+  pub body : payload ≡ payload_of bytes
+
+-- the values of the fields of a header
+abbrev pub header_of : List ℕ → UdpRepr
+header_of bytes = record { src_port = field bytes 0 16; dst_port = field bytes 16 16 }
+
+-- whether the bytes hold a whole header and all that it speaks of
+abbrev pub has_lengths : List ℕ → Bool
+has_lengths bytes = nat_le 8 (length bytes) && nat_le 8 (packet_len bytes) && nat_le (packet_len bytes) (length bytes)
+
+-- whether an address is of version 4
+abbrev pub is_ipv4 : IpAddress → Bool
+is_ipv4 (address.Ipv4 octets) = true
+is_ipv4 (address.Ipv6 octets) = false
+
+-- whether the checksum is as it has to be
+abbrev pub has_checksum : IpAddress → IpAddress → List ℕ → Bool
+has_checksum src dst bytes = if field bytes 48 16 == 0 then is_ipv4 src else packet_sum src dst (take (packet_len bytes) bytes) == 65535
+
+-- whether the bytes are read as a value
+abbrev pub is_read : IpAddress → IpAddress → Bool → List ℕ → Bool
+is_read src dst checked bytes = has_lengths bytes && not (field bytes 16 16 == 0) && (not checked || has_checksum src dst bytes)
+
+-- the one value that the bytes are read as, if there is one
+unfoldable pub udp_of : IpAddress → IpAddress → Bool → List ℕ → Option UdpRepr
+udp_of src dst checked bytes = if is_read src dst checked bytes then Some (header_of bytes) else None
+
+-- the header that has these values, for a payload of this length, and this checksum
+abbrev pub header_bytes : UdpRepr → ℕ → ℕ → List ℕ
+header_bytes v payload_len checksum = big_bytes 2 v.src_port ++ big_bytes 2 v.dst_port ++ big_bytes 2 (8 + payload_len) ++ big_bytes 2 checksum
+
+-- the header with this checksum, and the payload
+abbrev pub packet_with : UdpRepr → List ℕ → ℕ → List ℕ
+packet_with v payload checksum = header_bytes v (length payload) checksum ++ payload
+
+-- the header and the payload, with the checksum of both where that is written, else 0
+abbrev pub bytes_of : UdpRepr → List ℕ → IpAddress → IpAddress → Bool → List ℕ
+bytes_of v payload src dst written = packet_with v payload (if written then checksum_for (packet_sum src dst (packet_with v payload 0)) else 0)

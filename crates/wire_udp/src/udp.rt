@@ -1,0 +1,25 @@
+//! UDP packets (RFC 768).
+
+ghost use Rattle.std.specs.Prelude.{◌≡◌};
+ghost use Rattle.wire_udp.specs.Udp.{checksum_for};
+
+mod packet;
+mod packet_mut;
+mod repr;
+#[cfg(test)]
+mod tests;
+
+pub use packet::UdpPacket;
+pub use packet_mut::UdpPacketMut;
+pub use repr::UdpRepr;
+
+/// The length of a header, in octets.
+pub const UDP_HEADER_LEN: usize = 8;
+
+// The checksum of a packet with this sum: its complement, and 0xffff where that is 0, since 0 says that
+// there is none.
+fn checksum_for(sum: u16) -> u16
+    ensures { result ≡ checksum_for sum }
+{
+    if sum == 0xffff { 0xffff } else { !sum }
+}

@@ -1,0 +1,151 @@
+//! A view that reads the bytes of a UDP packet.
+
+ghost use Rattle.std.specs.Prelude.{◌≡◌, ◌↔◌, ◌≤◌, ◌⊎◌, IfOk, IsOk, IsTrue, Some, length};
+ghost use Rattle.wire_ends.specs.IpAddress.{version_of};
+ghost use Rattle.wire_field.specs.Field.{field};
+ghost use Rattle.wire_udp.specs.Udp.{HasLengths, Verifies, packet_bytes, packet_len, payload_of, pseudo_header_sum};
+ghost use Rattle.wire_udp.specs.UdpText.{packet_text};
+
+use super::UDP_HEADER_LEN;
+use byteorder::{ByteOrder, NetworkEndian};
+use std::fmt;
+use wire_addr::{Error, Result};
+use wire_ends::IpAddress;
+use wire_ipv4::{IpProtocol, checksum};
+
+/// A view of the bytes of a packet. Its calls ask for the bytes that they read, and for no more.
+#[derive(Debug, Clone, Copy, PartialEq, Eq)]
+pub struct UdpPacket<'a> {
+    buffer: &'a [u8],
+}
+
+#[allow(clippy::len_without_is_empty)]
+impl<'a> UdpPacket<'a> {
+    /// The view of any bytes.
+    pub fn new_unchecked(buffer: &'a [u8]) -> UdpPacket<'a>
+        ensures { packet_bytes result ≡ buffer.now }
+    {
+        UdpPacket { buffer }
+    }
+
+    /// The view of bytes that `check_len` takes.
+    pub fn new_checked(buffer: &'a [u8]) -> Result<UdpPacket<'a>>
+        ensures ok { IsOk result ↔ HasLengths buffer.now }
+        ensures bytes { IfOk result (λ packet. packet_bytes packet ≡ buffer.now) }
+    {
+        let packet = UdpPacket::new_unchecked(buffer);
+        packet.check_len()?;
+        Ok(packet)
+    }
+
+    /// Whether the bytes hold a whole header, and as many bytes as it speaks of. Then each call of
+    /// this view may be made.
+    pub fn check_len(&self) -> Result<()>
+        ensures { IsOk result ↔ HasLengths (packet_bytes self.now) }
+    {
+        let buffer_len = self.buffer.len();
+        if buffer_len < UDP_HEADER_LEN {
+            return Err(Error);
+        }
+        let len = usize::from(self.len());
+        if len < UDP_HEADER_LEN || buffer_len < len {
+            return Err(Error);
+        }
+        Ok(())
+    }
+
+    /// The bytes, for as long as they are lent to the view.
+    pub fn into_inner(self) -> &'a [u8]
+        ensures { result.now ≡ packet_bytes self.entry }
+    {
+        self.buffer
+    }
+
+    /// The bytes.
+    pub fn as_bytes(&self) -> &[u8]
+        ensures { result.now ≡ packet_bytes self.now }
+    {
+        self.buffer
+    }
+
+    /// The port of the sender, or 0 where it has none.
+    pub fn src_port(&self) -> u16
+        requires { 2 ≤ length (packet_bytes self.now) }
+        ensures { result ≡ field (packet_bytes self.now) 0 16 }
+    {
+        NetworkEndian::read_u16(&self.buffer[0..2])
+    }
+
+    /// The port of the receiver.
+    pub fn dst_port(&self) -> u16
+        requires { 4 ≤ length (packet_bytes self.now) }
+        ensures { result ≡ field (packet_bytes self.now) 16 16 }
+    {
+        NetworkEndian::read_u16(&self.buffer[2..4])
+    }
+
+    /// The length of the packet in octets, its header included.
+    pub fn len(&self) -> u16
+        requires { 6 ≤ length (packet_bytes self.now) }
+        ensures { result ≡ packet_len (packet_bytes self.now) }
+    {
+        NetworkEndian::read_u16(&self.buffer[4..6])
+    }
+
+    /// The checksum, or 0 where the sender computed none.
+    pub fn checksum(&self) -> u16
+        requires { 8 ≤ length (packet_bytes self.now) }
+        ensures { result ≡ field (packet_bytes self.now) 48 16 }
+    {
+        NetworkEndian::read_u16(&self.buffer[6..8])
+    }
+
+    /// Whether the field of the checksum holds the sum of the pseudo header alone, as it does where the
+    /// device is to add that of the packet.
+    pub fn verify_partial_checksum(&self, src_addr: &IpAddress, dst_addr: &IpAddress) -> bool
+        requires header { 8 ≤ length (packet_bytes self.now) }
+        requires family { version_of src_addr.now ≡ version_of dst_addr.now }
+        ensures { IsTrue result ↔ (field (packet_bytes self.now) 48 16 ≡ pseudo_header_sum src_addr.now dst_addr.now (packet_bytes self.now)) }
+    {
+        let len = u32::from(self.len());
+        self.checksum() == checksum::pseudo_header(src_addr, dst_addr, IpProtocol::Udp, len)
+    }
+
+    /// Whether no checksum was computed, or the sum of the packet with its pseudo header, the checksum
+    /// included, has all 16 bits set.
+    pub fn verify_checksum(&self, src_addr: &IpAddress, dst_addr: &IpAddress) -> bool
+        requires header { 8 ≤ length (packet_bytes self.now) }
+        requires whole { packet_len (packet_bytes self.now) ≤ length (packet_bytes self.now) }
+        requires family { version_of src_addr.now ≡ version_of dst_addr.now }
+        ensures { IsTrue result ↔ ((field (packet_bytes self.now) 48 16 ≡ 0) ⊎ Verifies src_addr.now dst_addr.now (packet_bytes self.now)) }
+    {
+        if self.checksum() == 0 {
+            return true;
+        }
+        let packet = &self.buffer[..usize::from(self.len())];
+        checksum::packet(*src_addr, *dst_addr, IpProtocol::Udp, packet) == 0xffff
+    }
+
+    /// What follows the header, up to the packet's length: what stands behind it is padding.
+    pub fn payload(&self) -> &'a [u8]
+        requires { HasLengths (packet_bytes self.now) }
+        ensures { result.now ≡ payload_of (packet_bytes self.now) }
+    {
+        &self.buffer[UDP_HEADER_LEN..usize::from(self.len())]
+    }
+}
+
+/// The ports and the length of the payload, or the error where `check_len` refuses the bytes.
+impl fmt::Display for UdpPacket<'_> {
+    ghost output = { λ packet. Some (packet_text (packet_bytes packet)) };
+
+    fn fmt<W: fmt::Write>(&self, f: &mut fmt::Formatter<W>) -> fmt::Result {
+        match self.check_len() {
+            Ok(()) => {
+                let (src, dst, len) = (self.src_port(), self.dst_port(), self.payload().len());
+                write!(f, "UDP src={src} dst={dst} len={len}")
+            }
+            Err(error) => write!(f, "UDP ({error})"),
+        }
+    }
+}

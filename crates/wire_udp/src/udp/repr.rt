@@ -1,0 +1,146 @@
+//! The values of a UDP header.
+
+ghost use Rattle.std.specs.Prelude.{◌≡◌, ◌↔◌, ◌≤◌, ◌+◌, ◌++◌, IsTrue, MatchResult, None, Ok, OnOk, Some, drop, length};
+ghost use Rattle.net_base.specs.Checksum.{computes, verifies};
+ghost use Rattle.wire_ends.specs.IpAddress.{version_of};
+ghost use Rattle.wire_udp.specs.Udp.{Becomes, HasChecksum, HasLengths, Reads, bytes_of, checksum_for, header_bytes, packet_bytes, packet_bytes_mut, packet_sum, packet_with, payload_of, udp_of};
+ghost use Rattle.wire_udp.specs.UdpText.{value_text};
+ghost use Rattle.wire_udp.specs.declared.udp.repr.UdpRepr.{UdpRepr};
+
+use super::{UDP_HEADER_LEN, UdpPacket, UdpPacketMut, checksum_for};
+use net_base::ChecksumCapabilities;
+use std::fmt;
+use wire_addr::{Error, Result};
+use wire_ends::IpAddress;
+use wire_ipv4::{IpProtocol, checksum};
+
+/// The values of a packet's header that are more than its layout.
+#[derive(Debug, Clone, Copy, PartialEq, Eq)]
+pub struct UdpRepr {
+    /// 0 where the sender has none.
+    pub src_port: u16,
+    pub dst_port: u16,
+}
+
+impl UdpRepr {
+    /// The values of the header of a packet between two addresses of one version. A destination port
+    /// of 0 is refused. The checksum is verified where `caps` says so: over IPv4 it may be left out.
+    pub fn parse(
+        packet: &UdpPacket<'_>,
+        src_addr: &IpAddress,
+        dst_addr: &IpAddress,
+        caps: &ChecksumCapabilities,
+    ) -> Result<UdpRepr>
+        requires { version_of src_addr.now ≡ version_of dst_addr.now }
+        ensures reads { let bytes = packet_bytes packet.now in
+            (v : UdpRepr) → (result ≡ Ok v) ↔ Reads bytes src_addr.now dst_addr.now (verifies caps.now.udp) v (payload_of bytes) }
+        ensures value { MatchResult result (λ v. udp_of src_addr.now dst_addr.now (verifies caps.now.udp) (packet_bytes packet.now) ≡ Some v)
+            (λ _. udp_of src_addr.now dst_addr.now (verifies caps.now.udp) (packet_bytes packet.now) ≡ None) }
+        ensures lengths { OnOk result (HasLengths (packet_bytes packet.now)) }
+    {
+        packet.check_len()?;
+        if packet.dst_port() == 0 {
+            return Err(Error);
+        }
+        if caps.udp.rx() && !has_checksum(packet, src_addr, dst_addr) {
+            return Err(Error);
+        }
+        Ok(UdpRepr {
+            src_port: packet.src_port(),
+            dst_port: packet.dst_port(),
+        })
+    }
+
+    /// The length of the header that `emit` writes, in octets.
+    pub fn header_len(&self) -> usize
+        ensures { result ≡ 8 }
+    {
+        UDP_HEADER_LEN
+    }
+
+    /// Writes the header for a payload of this length, in octets, without a checksum, and leaves what
+    /// follows it.
+    pub fn emit_header(&self, packet: &mut UdpPacketMut<'_>, payload_len: usize)
+        requires room { 8 ≤ length (packet_bytes_mut packet.old) }
+        requires payload_len { payload_len ≤ 65527 }
+        ensures { Becomes packet.old packet.new (header_bytes self.now payload_len 0 ++ drop 8 (packet_bytes_mut packet.old)) }
+    {
+        self.emit_fields(packet, payload_len, 0);
+    }
+
+    /// Writes the header and the payload of a packet between two addresses of one version, and leaves
+    /// what follows them. The checksum is computed where `caps` says so, else 0.
+    pub fn emit(
+        &self,
+        packet: &mut UdpPacketMut<'_>,
+        src_addr: &IpAddress,
+        dst_addr: &IpAddress,
+        payload: &[u8],
+        caps: &ChecksumCapabilities,
+    )
+        requires room { 8 + length payload.now ≤ length (packet_bytes_mut packet.old) }
+        requires payload_len { length payload.now ≤ 65527 }
+        requires family { version_of src_addr.now ≡ version_of dst_addr.now }
+        ensures { let rest = drop (8 + length payload.now) (packet_bytes_mut packet.old) in
+            Becomes packet.old packet.new (bytes_of self.now payload.now src_addr.now dst_addr.now (computes caps.now.udp) ++ rest) }
+    {
+        let checksum = if caps.udp.tx() {
+            self.checksum(*src_addr, *dst_addr, payload)
+        } else {
+            0
+        };
+        self.emit_fields(packet, payload.len(), checksum);
+        packet.set_payload(payload);
+    }
+
+    // Writes every field of the header.
+    fn emit_fields(&self, packet: &mut UdpPacketMut<'_>, payload_len: usize, checksum: u16)
+        requires room { 8 ≤ length (packet_bytes_mut packet.old) }
+        requires payload_len { payload_len ≤ 65527 }
+        ensures { Becomes packet.old packet.new (header_bytes self.now payload_len checksum ++ drop 8 (packet_bytes_mut packet.old)) }
+    {
+        packet.set_src_port(self.src_port);
+        packet.set_dst_port(self.dst_port);
+        packet.set_len((UDP_HEADER_LEN + payload_len) as u16);
+        packet.set_checksum(checksum);
+    }
+
+    // The checksum of the packet with this payload. It is computed from the values, since bytes that
+    // were just written are slow to read again.
+    fn checksum(&self, src_addr: IpAddress, dst_addr: IpAddress, payload: &[u8]) -> u16
+        requires payload_len { length payload.now ≤ 65527 }
+        requires family { version_of src_addr ≡ version_of dst_addr }
+        ensures { result ≡ checksum_for (packet_sum src_addr dst_addr (packet_with self.now payload.now 0)) }
+    {
+        let len = (UDP_HEADER_LEN + payload.len()) as u16;
+        checksum_for(checksum::combine(&[
+            checksum::pseudo_header(&src_addr, &dst_addr, IpProtocol::Udp, len.into()),
+            self.src_port,
+            self.dst_port,
+            len,
+            checksum::data(payload),
+        ]))
+    }
+}
+
+// Whether the checksum was computed and holds, or was left out, as over IPv4 it may be.
+fn has_checksum(packet: &UdpPacket<'_>, src_addr: &IpAddress, dst_addr: &IpAddress) -> bool
+    requires lengths { HasLengths (packet_bytes packet.now) }
+    requires family { version_of src_addr.now ≡ version_of dst_addr.now }
+    ensures { IsTrue result ↔ HasChecksum src_addr.now dst_addr.now (packet_bytes packet.now) }
+{
+    if packet.checksum() == 0 {
+        matches!(src_addr, IpAddress::Ipv4(_))
+    } else {
+        packet.verify_checksum(src_addr, dst_addr)
+    }
+}
+
+impl fmt::Display for UdpRepr {
+    ghost output = { λ v. Some (value_text v) };
+
+    fn fmt<W: fmt::Write>(&self, f: &mut fmt::Formatter<W>) -> fmt::Result {
+        let (src, dst) = (self.src_port, self.dst_port);
+        write!(f, "UDP src={src} dst={dst}")
+    }
+}
