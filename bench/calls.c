@@ -23,6 +23,7 @@ enum {
 struct library {
     uint16_t (*checksum)(const uint8_t *, size_t);
     uint32_t (*parse)(const uint8_t *, size_t, uint8_t);
+    size_t (*emit_arp)(uint16_t, const uint8_t *, uint32_t, const uint8_t *, uint32_t, uint8_t *, size_t);
     size_t (*emit_ipv4)(uint32_t, uint32_t, uint8_t, uint8_t, size_t, uint8_t, uint8_t *, size_t);
     size_t (*emit_ipv6)(const uint8_t *, const uint8_t *, uint8_t, uint8_t, size_t, uint8_t *, size_t);
     size_t (*emit_udp_ipv4)(uint32_t, uint32_t, uint16_t, uint16_t, const uint8_t *, size_t, uint8_t, uint8_t *, size_t);
@@ -65,6 +66,14 @@ static void prepare_type(uint8_t high, uint8_t low)
     memcpy(bytes, ethernet_addresses, sizeof ethernet_addresses);
     bytes[12] = high;
     bytes[13] = low;
+}
+
+static void prepare_arp(const struct row *row)
+{
+    prepare_bytes(row);
+    prepare_type(0x08, 0x06);
+    lk_emit_arp(2, ethernet_addresses + 6, SRC, ethernet_addresses, DST, bytes + 14, 28);
+    frame_len = 14 + 28 + row->size;
 }
 
 static void prepare_ipv4(const struct row *row)
@@ -136,6 +145,12 @@ static uint64_t call_parse(const struct library *library, const struct row *row)
     return library->parse(bytes, frame_len, row->checked);
 }
 
+static uint64_t call_emit_arp(const struct library *library, const struct row *row)
+{
+    (void)row;
+    return library->emit_arp(2, ethernet_addresses + 6, SRC, ethernet_addresses, DST, out, sizeof out);
+}
+
 static uint64_t call_emit(const struct library *library, const struct row *row)
 {
     return library->emit_ipv4(SRC, DST, 1, 64, row->size, row->checked, out, sizeof out);
@@ -158,6 +173,7 @@ static uint64_t call_emit_udp_ipv6(const struct library *library, const struct r
 
 static uint64_t call_rebuild(const struct library *library, const struct row *row)
 {
+    (void)row;
     return library->rebuild(bytes, frame_len, out, sizeof out);
 }
 
@@ -215,6 +231,10 @@ static const struct row rows[] = {
     {"rebuild UDP/IPv6", prepare_udp_ipv6, call_rebuild, 0, 1, 0},
     {"rebuild UDP/IPv6", prepare_udp_ipv6, call_rebuild, 64, 1, 0},
     {"rebuild UDP/IPv6", prepare_udp_ipv6, call_rebuild, 1472, 1, 0},
+    {"parse ARP", prepare_arp, call_parse, 0, 1, 0},
+    {"emit ARP", prepare_arp, call_emit_arp, 0, 1, 0},
+    {"rebuild ARP", prepare_arp, call_rebuild, 0, 1, 0},
+    {"rebuild ARP, padded", prepare_arp, call_rebuild, 18, 1, 0},
     {"print addresses", prepare_addresses, call_print, ADDRESSES, 1, 0},
 };
 
@@ -242,6 +262,7 @@ static struct library load(const char *path)
     struct library library;
     *(void **)&library.checksum = symbol(handle, path, "lk_checksum");
     *(void **)&library.parse = symbol(handle, path, "lk_parse");
+    *(void **)&library.emit_arp = symbol(handle, path, "lk_emit_arp");
     *(void **)&library.emit_ipv4 = symbol(handle, path, "lk_emit_ipv4");
     *(void **)&library.emit_ipv6 = symbol(handle, path, "lk_emit_ipv6");
     *(void **)&library.emit_udp_ipv4 = symbol(handle, path, "lk_emit_udp_ipv4");
@@ -324,7 +345,7 @@ static void run(const struct row *row, const struct library *ours, const struct 
 int main(int argc, char **argv)
 {
     static const struct library ours = {
-        lk_checksum, lk_parse, lk_emit_ipv4, lk_emit_ipv6, lk_emit_udp_ipv4, lk_emit_udp_ipv6, lk_ipv6_print, lk_rebuild,
+        lk_checksum, lk_parse, lk_emit_arp, lk_emit_ipv4, lk_emit_ipv6, lk_emit_udp_ipv4, lk_emit_udp_ipv6, lk_ipv6_print, lk_rebuild,
     };
     struct library reference;
     if (argc > 2)

@@ -1,7 +1,7 @@
 //! The calls of `c/ip_wire.h` over smoltcp 0.14, to be timed beside ours.
 //!
 //! Build it as a shared library: `rustc --edition 2024 --crate-type cdylib -C opt-level=3 -C panic=abort
-//! --extern smoltcp=libsmoltcp.rlib -L FOLDER bench/reference.rs`, with a smoltcp that has Ethernet, IPv4,
+//! --extern smoltcp=libsmoltcp.rlib -L FOLDER bench/reference.rs`, with a smoltcp that has Ethernet, ARP, IPv4,
 //! IPv6 and UDP.
 
 use smoltcp::phy::ChecksumCapabilities;
@@ -55,8 +55,16 @@ fn datagram<'a>(
     Ok((header, packet.payload()))
 }
 
+/// The ARP packet that a frame carries.
+fn message(frame: &EthernetFrame<&[u8]>) -> Result<ArpRepr> {
+    ArpRepr::parse(&ArpPacket::new_checked(frame.payload())?)
+}
+
 fn payload_len(frame: &[u8], caps: &ChecksumCapabilities) -> Result<usize> {
     let frame = EthernetFrame::new_checked(frame)?;
+    if frame.ethertype() == EthernetProtocol::Arp {
+        return message(&frame).map(|_| 0);
+    }
     let (ip, is_whole, payload) = packet(&frame, caps)?;
     if is_whole && ip.next_header() == IpProtocol::Udp {
         datagram(&ip, payload, caps).map(|(_, payload)| payload.len())
@@ -69,6 +77,34 @@ fn payload_len(frame: &[u8], caps: &ChecksumCapabilities) -> Result<usize> {
 pub unsafe extern "C" fn lk_parse(ptr: *const u8, len: usize, checked: u8) -> u32 {
     let frame = unsafe { from_raw_parts(ptr, len) };
     payload_len(frame, &capabilities(checked)).map_or(0, |len| len as u32 + 1)
+}
+
+#[unsafe(no_mangle)]
+pub unsafe extern "C" fn lk_emit_arp(
+    operation: u16,
+    source_hardware_addr: *const u8,
+    source_protocol_addr: u32,
+    target_hardware_addr: *const u8,
+    target_protocol_addr: u32,
+    out: *mut u8,
+    cap: usize,
+) -> usize {
+    let out = unsafe { from_raw_parts_mut(out, cap) };
+    let (source, target) = unsafe {
+        (*source_hardware_addr.cast::<[u8; 6]>(), *target_hardware_addr.cast::<[u8; 6]>())
+    };
+    let value = ArpRepr::EthernetIpv4 {
+        operation: operation.into(),
+        source_hardware_addr: EthernetAddress(source),
+        source_protocol_addr: source_protocol_addr.into(),
+        target_hardware_addr: EthernetAddress(target),
+        target_protocol_addr: target_protocol_addr.into(),
+    };
+    if cap < value.buffer_len() {
+        return 0;
+    }
+    value.emit(&mut ArpPacket::new_unchecked(out));
+    value.buffer_len()
 }
 
 #[unsafe(no_mangle)]
@@ -230,6 +266,13 @@ fn rebuild(frame: &[u8], out: &mut [u8]) -> Result<usize> {
     let mut again = EthernetFrame::new_checked(out)?;
     header.emit(&mut again);
     let room = again.payload_mut();
+    if header.ethertype == EthernetProtocol::Arp
+        && let Ok(value) = message(&frame)
+    {
+        let room = room.get_mut(..value.buffer_len()).ok_or(Error)?;
+        value.emit(&mut ArpPacket::new_unchecked(room));
+        return Ok(14 + value.buffer_len());
+    }
     match packet(&frame, &caps) {
         Ok((mut ip, true, payload)) => {
             let (front, rest) = room.split_at_mut_checked(ip.header_len()).ok_or(Error)?;

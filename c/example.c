@@ -1,5 +1,5 @@
 /* A frame with padding is read, built again without the padding, and a header is written: for IPv4, and
- * for IPv6, whose addresses are printed too. Then a UDP packet is written. */
+ * for IPv6, whose addresses are printed too. Then UDP packets and an ARP request are written. */
 #include <stdio.h>
 #include "ip_wire.h"
 
@@ -37,6 +37,7 @@ int main(void)
         0xff, 0xff, 0xff, 0xff,                         /* the payload */
         0x00, 0x00,                                     /* padding */
     };
+    static const uint8_t hardware[6] = {0x02, [5] = 0x01}, unknown[6] = {0};
     static const uint8_t link_local[16] = {0xfe, 0x80, [15] = 0x01};
     static const uint8_t all_nodes[16] = {0xff, 0x02, [15] = 0x01};
     static const uint8_t mapped[16] = {[10] = 0xff, [11] = 0xff, 192, 168, 1, 1};
@@ -65,5 +66,8 @@ int main(void)
     print_bytes("UDP over IPv6", out, len);
     printf("room for 11 octets: %zu\n",
            lk_emit_udp_ipv4(0xc0a80101, 0xc0a80102, 48896, 53, payload, 4, 1, out, 11));
+
+    len = lk_emit_arp(1, hardware, 0xc0000201, unknown, 0xc0000202, out, sizeof out);
+    print_bytes("ARP request", out, len);
     return 0;
 }

@@ -13,12 +13,19 @@
  * only where every byte is 0. */
 uint16_t lk_checksum(const uint8_t *ptr, size_t len);
 
-/* Reads the headers of an Ethernet frame that carries IPv4 or IPv6, and of the UDP packet in that, and
- * answers the length of the innermost payload plus 1; 0 where a header is refused, or the frame is of
- * another type. The payload of a packet of another protocol, or of a fragment, is not looked into: it
- * counts as it stands. IPv4 options are read over, and IPv6 extension headers belong to the payload.
- * Checksums are verified unless `checked` is 0. */
+/* Reads the headers of an Ethernet frame that carries ARP, IPv4 or IPv6, and of the UDP packet in one of
+ * those, and answers the length of the innermost payload plus 1; 0 where a header is refused, or the
+ * frame is of another type. The payload of a packet of another protocol, or of a fragment, is not looked
+ * into: it counts as it stands; an ARP packet has none. IPv4 options are read over, and IPv6 extension
+ * headers belong to the payload. Checksums are verified unless `checked` is 0. */
 uint32_t lk_parse(const uint8_t *ptr, size_t len, uint8_t checked);
+
+/* Writes an ARP packet of Ethernet and IPv4, 28 octets, to the front of `out`, and answers 28; 0 where
+ * `cap` is less, and then nothing is written. A request is operation 1, a reply 2; a hardware address is
+ * 6 octets, a protocol address a number: 192.168.1.1 is 0xc0a80101. */
+size_t lk_emit_arp(uint16_t operation, const uint8_t *source_hardware_addr,
+                   uint32_t source_protocol_addr, const uint8_t *target_hardware_addr,
+                   uint32_t target_protocol_addr, uint8_t *out, size_t cap);
 
 /* Writes an IPv4 header of 20 octets, without options, for `payload_len` octets to the front of
  * `out`, and answers 20; 0 where `cap` is less than 20 or `payload_len` more than 65515, and then
@@ -52,8 +59,9 @@ size_t lk_ipv6_print(const uint8_t *octets, uint8_t *out, size_t cap);
 
 /* Builds an Ethernet frame again from the values of its headers and writes it to the front of `out`:
  * IPv4 options, an IPv6 traffic class and flow label, and padding are dropped. What is not read as an
- * IPv6 packet, or as an IPv4 packet whose checksum holds and that is no fragment, stays as it stands; so
- * does in a packet what is not read as a UDP packet whose checksum holds. Answers the length, which is
+ * ARP packet of Ethernet and IPv4, as an IPv6 packet, or as an IPv4 packet whose checksum holds and that
+ * is no fragment, stays as it stands; so does in a packet what is not read as a UDP packet whose checksum
+ * holds. Answers the length, which is
  * never more than `len`; 0 where it doesn't fit into `cap` octets or `len` is less than 14, and then
  * nothing is written. */
 size_t lk_rebuild(const uint8_t *ptr, size_t len, uint8_t *out, size_t cap);

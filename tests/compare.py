@@ -74,6 +74,16 @@ def random_datagram(rng):
     return carry(datagram, padding=rng.randbytes(rng.choice([0, 0, 1, 14])))
 
 
+def random_arp(rng):
+    """An ARP packet, mostly of Ethernet and IPv4, whose addresses mostly have the lengths that it names."""
+    hardware_len, protocol_len = rng.choice([(6, 4), (6, 4), (6, 16), (8, 4), (rng.randrange(20), rng.randrange(20))])
+    message = record.arp(rng.choice([1, 2, rng.randrange(65536)]), rng.choice([1, 1, 1, rng.randrange(65536)]),
+                         rng.choice([record.IPV4, record.IPV4, record.IPV6, rng.randrange(65536)]), hardware_len, protocol_len,
+                         rng.randbytes(hardware_len), rng.randbytes(protocol_len),
+                         rng.randbytes(hardware_len), rng.randbytes(protocol_len))
+    return record.ethernet(record.ARP, message + b"\0" * rng.choice([0, 0, 1, 18]), dst=rng.randbytes(6))
+
+
 def corpus(seed, lines):
     rng = random.Random(seed)
     known = [frame for make in record.FILES for frame in make() if len(frame) < 300]
@@ -85,7 +95,7 @@ def corpus(seed, lines):
         elif kind < 0.03:
             yield rng.randbytes(rng.randrange(40)).replace(b"\n", b"")
         else:
-            make = rng.choice([random_packet, random_packet_ipv6, random_datagram])
+            make = rng.choice([random_packet, random_packet_ipv6, random_datagram, random_arp])
             frame = make(rng) if kind < 0.6 else rng.choice(known)
             text = (frame if kind < 0.3 else changed(rng, frame)).hex().encode()
             yield (text.upper() if rng.random() < 0.05 else text) + (b"\r" if rng.random() < 0.05 else b"")

@@ -352,6 +352,61 @@ def udp_checksums():
             yield bytes(turned)
 
 
+ARP = 0x0806
+
+
+def arp(operation=1, hardware=1, protocol=IPV4, hardware_len=6, protocol_len=4, sha=SRC, spa=HOST_A, tha=b"\0" * 6, tpa=HOST_B):
+    """An ARP packet (RFC 826): a request of one host for the other, where nothing else is asked for."""
+    front = hardware.to_bytes(2, "big") + protocol.to_bytes(2, "big") + bytes([hardware_len, protocol_len])
+    return front + operation.to_bytes(2, "big") + sha + spa + tha + tpa
+
+
+def arp_shapes():
+    nobody = b"\0" * 4
+    for message in [arp(), arp(2, tha=DST), arp(tpa=HOST_A), arp(2, tha=b"\xff" * 6, tpa=HOST_A), arp(2, tha=SRC, tpa=HOST_A),
+                    arp(spa=nobody), arp(spa=nobody, tpa=nobody), arp(sha=b"\xff" * 6, spa=b"\xff" * 4)]:
+        for padding in [b"", octets(1), b"\0" * 18, octets(60)]:
+            yield ethernet(ARP, message + padding, dst=b"\xff" * 6)
+    for operation in [0, 1, 2, 3, 4, 8, 9, 255, 256, 257, 512, 0xFFFF]:
+        yield ethernet(ARP, arp(operation))
+        yield ethernet(ARP, arp(operation, hardware=6))
+    for hardware in [0, 2, 6, 7, 15, 255, 256, 257, 0xFFFF]:
+        yield ethernet(ARP, arp(hardware=hardware) + octets(3))
+    for protocol in [0, 0x0801, 0x0806, IPV6, 0x86DC, 0x8808, 0xFFFF]:
+        yield ethernet(ARP, arp(protocol=protocol) + octets(3))
+        yield ethernet(protocol, arp())
+
+
+def arp_lengths():
+    """Addresses of other lengths, in packets that they just fit, and in those a byte shorter or longer."""
+    for hardware_len in [0, 1, 4, 5, 6, 7, 8, 16, 255]:
+        for protocol_len in [0, 1, 3, 4, 5, 6, 16, 255]:
+            h, p = octets(hardware_len, 1), octets(protocol_len, 100)
+            message = arp(hardware_len=hardware_len, protocol_len=protocol_len, sha=h, spa=p, tha=h[::-1], tpa=p[::-1])
+            yield ethernet(ARP, message)
+            yield ethernet(ARP, message[:-1])
+            yield ethernet(ARP, message + b"\0")
+    for hardware_len in range(16):
+        yield ethernet(ARP, arp(hardware_len=hardware_len))
+        yield ethernet(ARP, arp(protocol_len=hardware_len))
+        yield ethernet(ARP, arp(hardware_len=hardware_len, protocol_len=10 - hardware_len if hardware_len <= 10 else 0))
+
+
+def arp_truncations():
+    for message in [arp(), arp(2, hardware_len=1, protocol_len=1, sha=b"\n", spa=b"\v", tha=b"\f", tpa=b"\r")]:
+        for n in range(len(message)):
+            yield ethernet(ARP, message[:n])
+
+
+def arp_bits():
+    """Each bit of a packet turned."""
+    message = arp(2, tha=DST)
+    for bit in range(8 * len(message)):
+        turned = bytearray(message)
+        turned[bit // 8] ^= 0x80 >> bit % 8
+        yield ethernet(ARP, bytes(turned) + b"\0\0")
+
+
 def bytes_lines():
     """Lines that are no hex, or hex of another look. The line feeds are part of the case."""
     frame = packet().hex().encode()
@@ -363,7 +418,7 @@ def bytes_lines():
 
 FILES = [shapes, truncations, versions_and_lengths, options, fragments, checksums, bits, padding, types,
          ipv6_shapes, ipv6_addresses, ipv6_truncations, ipv6_versions_and_lengths, ipv6_fragments, ipv6_bits,
-         udp_shapes, udp_lengths, udp_truncations, udp_checksums]
+         udp_shapes, udp_lengths, udp_truncations, udp_checksums, arp_shapes, arp_lengths, arp_truncations, arp_bits]
 
 
 def main():

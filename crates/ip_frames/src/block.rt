@@ -5,7 +5,7 @@ ghost use Rattle.ip_frames.specs.Output.{again_line, block_of, frame_lines, payl
 ghost use Rattle.ip_wire.specs.Ethernet.{bytes_of};
 ghost use Rattle.ip_wire.specs.Frame.{rebuilt_payload};
 
-use crate::{ipv4, ipv6};
+use crate::{arp, ipv4, ipv6};
 use hex::FromHexError;
 use ip_wire::{
     ETHERNET_HEADER_LEN, EthernetFrame, EthernetFrameMut, EthernetProtocol, EthernetRepr,
@@ -72,6 +72,7 @@ fn push_payload(
     match ethertype {
         EthernetProtocol::Ipv4 => ipv4::push_packet(bytes, text, again),
         EthernetProtocol::Ipv6 => ipv6::push_packet(bytes, text, again),
-        EthernetProtocol::Arp | EthernetProtocol::Unknown(_) => again.extend_from_slice(bytes),
+        EthernetProtocol::Arp => arp::push_packet(bytes, text, again),
+        EthernetProtocol::Unknown(_) => again.extend_from_slice(bytes),
     }
 }

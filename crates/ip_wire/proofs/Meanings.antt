@@ -1,12 +1,14 @@
 -- What a frame means, by what its bytes are read as.
 use Rattle.std.proofs.Common.{ℕ, ◌≡◌, ◌≢◌, ◌∙◌, true, List, Some, drop, refl, sym, ap, subst}
+use Rattle.std.specs.Prelude.{⊤}
+use Rattle.ip_wire.proofs.ArpLayer as arp_layer
 use Rattle.ip_wire.proofs.EthernetLayer.{read-Reads}
 use Rattle.ip_wire.proofs.Frames.{datagram_of-whole, ipv6_packet_of-read}
 use Rattle.ip_wire.proofs.Ipv4Layer.{datagram_of-IsDatagram}
 use Rattle.ip_wire.proofs.Ipv6Layer.{ipv6_packet_of-IsPacket}
 use Rattle.ip_wire.proofs.Layers.{meaning_by-parts, option_map-Some}
 use Rattle.ip_wire.proofs.UdpLayer.{Reads-udp_packet_of, udp_packet_of-Reads}
-use Rattle.ip_wire.specs.Frame.{Carried, IsReadWhole, Meaning, ReadsBetween, ReadsPacket, ReadsTransport, Transport, datagram, ethernet, ipv4, ipv4_payload, ipv6, meaning_as, meaning_between, meaning_of, other, packet, packet_payload, payload_meaning, transport_meaning, type_of, udp, with_len, with_len_ipv6}
+use Rattle.ip_wire.specs.Frame.{Carried, IsReadWhole, Meaning, ReadsBetween, ReadsCarried, ReadsTransport, Transport, arp, datagram, ethernet, ipv4, ipv4_payload, ipv6, meaning_as, meaning_between, meaning_of, message, normal_carried, other, packet, payload_meaning, transport_meaning, udp, with_len, with_len_ipv6}
 use Rattle.ip_wire.specs.Layer.{meaning_by}
 use Rattle.wire_ends.specs.declared.IpAddress.{IpAddress}
 use Rattle.wire_ip.proofs.Ipv6Computed.{ipv6_of-Reads}
@@ -16,6 +18,7 @@ use Rattle.wire_ip.specs.declared.IpRepr.TheVariants.{Ipv4, Ipv6}
 use Rattle.wire_ipv4.proofs.Computed.{ipv4_of-Reads}
 use Rattle.wire_ipv4.specs.declared.IpProtocol.{IpProtocol}
 use Rattle.wire_ipv4.specs.declared.IpProtocol.TheVariants as protocol
+use Rattle.wire_link.proofs.ArpComputed.{arp_of-Reads}
 use Rattle.wire_link.proofs.Computed.{ethernet_of-Reads}
 use Rattle.wire_link.specs.declared.EthernetRepr.{EthernetRepr}
 use Rattle.wire_link.specs.declared.EthernetProtocol.{EthernetProtocol}
@@ -53,18 +56,24 @@ meaning_between-only t src dst bytes m e =
 
 -- ---- whole frames
 
-pub meaning_of-read : (frame : List ℕ) (v : EthernetRepr) (w : IpRepr) (t : Transport) → IsReadWhole frame v w t → meaning_of frame ≡ Some (meaning_as v w t)
+-- a payload means what it is read as
+payload_meaning-read : (t : EthernetProtocol) (bytes : List ℕ) (m : Carried) → ReadsCarried t bytes m → payload_meaning t bytes ≡ Some (normal_carried m)
+payload_meaning-read t bytes (message v) (type, read) =
+    let is = (arp_of-Reads bytes v).1 read in rw (type, is) refl
+payload_meaning-read t bytes (packet (Ipv4 w) u) (type, (read, whole), inner) =
+    let header = datagram_of-whole bytes w ((ipv4_of-Reads true bytes w).1 read) whole in
+    let carried = meaning_between-read _ _ _ _ u inner in
+    rw (type, header, carried) refl
+payload_meaning-read t bytes (packet (Ipv6 w) u) (type, read, inner) =
+    let header = ipv6_packet_of-read bytes w ((ipv6_of-Reads bytes w).1 read) in
+    let carried = meaning_between-read _ _ _ _ u inner in
+    rw (type, header, carried) refl
+
+pub meaning_of-read : (frame : List ℕ) (v : EthernetRepr) (m : Carried) → IsReadWhole frame v m → meaning_of frame ≡ Some (meaning_as v m)
 unfolding meaning_of
-meaning_of-read frame v (Ipv4 w) t r =
+meaning_of-read frame v m r =
     let header = (ethernet_of-Reads frame v).1 r.reads_header in
-    let inner = datagram_of-whole (drop 14 frame) w ((ipv4_of-Reads true (drop 14 frame) w).1 r.reads_packet.0) r.reads_packet.1 in
-    let carried = meaning_between-read _ _ _ _ t r.reads_transport in
-    rw (header, r.type_names, inner, carried) refl
-meaning_of-read frame v (Ipv6 w) t r =
-    let header = (ethernet_of-Reads frame v).1 r.reads_header in
-    let inner = ipv6_packet_of-read (drop 14 frame) w ((ipv6_of-Reads (drop 14 frame) w).1 r.reads_packet) in
-    let carried = meaning_between-read _ _ _ _ t r.reads_transport in
-    rw (header, r.type_names, inner, carried) refl
+    rw (header, payload_meaning-read v.ethertype (drop 14 frame) m r.reads_carried) refl
 
 -- a payload with a meaning is read, whatever the values and the bytes are called
 carried-only : {V : Type 0} (name : V → IpRepr) (v w : V) (p q : List ℕ) (t : Transport) → v ≡ w → p ≡ q → transport_meaning (name w) q ≡ Some t
@@ -73,29 +82,31 @@ carried-only name v w p q t same rest e =
     meaning_between-only _ _ _ _ t
     (subst (λ x. transport_meaning (name x) p ≡ Some t) (sym same) (subst (λ x. transport_meaning (name w) x ≡ Some t) (sym rest) e))
 
--- a payload with a meaning is a packet, by its type and by its bytes
-payload_meaning-Some : (t : EthernetProtocol) (bytes : List ℕ) (m : Carried) → payload_meaning t bytes ≡ Some m
-    → (w : IpRepr) × (u : Transport) × (t ≡ type_of w) × ReadsPacket bytes w × ReadsTransport w (packet_payload w bytes) u
-payload_meaning-Some ethertype.Ipv4 bytes m e =
+-- a payload with a meaning is read, by its type
+payload_meaning-only : (t : EthernetProtocol) (bytes : List ℕ) (m : Carried) → payload_meaning t bytes ≡ Some m
+    → (w : Carried) × ReadsCarried t bytes w
+payload_meaning-only ethertype.Ipv4 bytes m e =
     let (n, is, _) = option_map-Some (λ d. packet (Ipv4 d.0) d.1) (meaning_by ipv4 (λ v. transport_meaning (Ipv4 v)) bytes) m e in
     let (v, p, u, read, carried, _) = meaning_by-parts ipv4 (λ v. transport_meaning (Ipv4 v)) bytes n is in
     let (w, d) = datagram_of-IsDatagram bytes v p read in
     let inner = carried-only Ipv4 (with_len w 0) v (ipv4_payload bytes) p u d.header d.payload carried in
-    (Ipv4 w, u, refl, (d.reads, d.whole), inner)
-payload_meaning-Some ethertype.Ipv6 bytes m e =
+    (packet (Ipv4 w) u, (refl, (d.reads, d.whole), inner))
+payload_meaning-only ethertype.Ipv6 bytes m e =
     let (n, is, _) = option_map-Some (λ d. packet (Ipv6 d.0) d.1) (meaning_by ipv6 (λ v. transport_meaning (Ipv6 v)) bytes) m e in
     let (v, p, u, read, carried, _) = meaning_by-parts ipv6 (λ v. transport_meaning (Ipv6 v)) bytes n is in
     let (w, d) = ipv6_packet_of-IsPacket bytes v p read in
     let inner = carried-only Ipv6 (with_len_ipv6 w 0) v (payload_of bytes) p u d.header d.payload carried in
-    (Ipv6 w, u, refl, d.reads, inner)
-payload_meaning-Some ethertype.Arp bytes m e = absurd (cc)
-payload_meaning-Some (ethertype.Unknown n) bytes m e = absurd (cc)
+    (packet (Ipv6 w) u, (refl, d.reads, inner))
+payload_meaning-only ethertype.Arp bytes m e =
+    let (n, is, _) = option_map-Some (λ d. message d.0) (meaning_by {M = ⊤} arp (λ v rest. Some (record {})) bytes) m e in
+    let (v, p, u, read, _, _) = meaning_by-parts {M = ⊤} arp (λ v rest. Some (record {})) bytes n is in
+    (message v, (refl, (arp_layer.read-Reads bytes v p read).0))
+payload_meaning-only (ethertype.Unknown n) bytes m e = absurd (cc)
 
-pub meaning_of-only : (frame : List ℕ) (m : Meaning) → meaning_of frame ≡ Some m
-    → (v : EthernetRepr) × (w : IpRepr) × (t : Transport) × IsReadWhole frame v w t
+pub meaning_of-only : (frame : List ℕ) (m : Meaning) → meaning_of frame ≡ Some m → (v : EthernetRepr) × (w : Carried) × IsReadWhole frame v w
 unfolding meaning_of
 meaning_of-only frame m e =
     let (v, p, carried, read, is, _) = meaning_by-parts ethernet (λ v. payload_meaning v.ethertype) frame m e in
     let (header, rest) = read-Reads frame v p read in
-    let (w, t, names, inner, transport) = payload_meaning-Some v.ethertype p carried is in
-    (v, w, t, record { reads_header = header; type_names = names; reads_packet = rw rest inner; reads_transport = rw rest transport })
+    let (w, inner) = payload_meaning-only v.ethertype p carried is in
+    (v, w, record { reads_header = header; reads_carried = subst (λ bytes. ReadsCarried v.ethertype bytes w) (sym rest) inner })

@@ -5,6 +5,7 @@ use Rattle.wire_ip.specs.declared.IpRepr.TheVariants as ip
 use Rattle.wire_ipv4.specs.Ipv4.{ipv4_of}
 use Rattle.wire_ipv4.specs.WordSum.{residue, words}
 use Rattle.wire_ipv4.specs.declared.IpProtocol.TheVariants.{Icmp}
+use Rattle.wire_link.specs.Arp.{arp_of}
 use Rattle.wire_link.specs.Ethernet.{ethernet_of}
 use Rattle.wire_link.specs.declared.EthernetProtocol.TheVariants.{Ipv4}
 use Rattle.wire_link.specs.declared.EthernetRepr.{EthernetRepr}
@@ -80,15 +81,27 @@ rebuilt-fragment : rebuilt fragment ≡ fragment
 unfolding rebuilt datagram_of ethernet_of ipv4_of words residue
 rebuilt-fragment = refl
 
--- so does a frame of another type, whatever stands in it
+-- so does what is no ARP packet of Ethernet and IPv4, whatever it is
 abbrev other_type : List ℕ
 other_type = addresses ++ (0x08 ∷ 0x06 ∷ []) ++ packet_header ++ payload ++ (0x00 ∷ [])
 
 rebuilt-other_type : rebuilt other_type ≡ other_type
-unfolding rebuilt ethernet_of
+unfolding rebuilt ethernet_of arp_of
 rebuilt-other_type = refl
 
--- so does a frame that is too short for a header
+-- padding behind an ARP packet is dropped
+abbrev arp_frame : List ℕ
+arp_frame =
+    addresses
+    ++ (0x08 ∷ 0x06 ∷ 0x00 ∷ 0x01 ∷ 0x08 ∷ 0x00 ∷ 0x06 ∷ 0x04 ∷ 0x00 ∷ 0x01 ∷ [])
+    ++ (0x11 ∷ 0x12 ∷ 0x13 ∷ 0x14 ∷ 0x15 ∷ 0x16 ∷ 0x21 ∷ 0x22 ∷ 0x23 ∷ 0x24 ∷ [])
+    ++ (0x31 ∷ 0x32 ∷ 0x33 ∷ 0x34 ∷ 0x35 ∷ 0x36 ∷ 0x41 ∷ 0x42 ∷ 0x43 ∷ 0x44 ∷ [])
+
+rebuilt-arp_padded : rebuilt (arp_frame ++ 0x00 ∷ 0x00 ∷ []) ≡ arp_frame
+unfolding rebuilt ethernet_of arp_of
+rebuilt-arp_padded = refl
+
+-- a frame stays that is too short for a header
 rebuilt-short : rebuilt (addresses ++ (0x08 ∷ [])) ≡ addresses ++ (0x08 ∷ [])
 unfolding rebuilt ethernet_of
 rebuilt-short = refl

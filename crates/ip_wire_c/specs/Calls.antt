@@ -1,14 +1,17 @@
 -- What the calls for C answer, and what they write.
-use Rattle.std.specs.Prelude.{ℕ, ◌≡◌, ◌+◌, ◌≤◌, ◌<◌, ◌⊎◌, ◌&&◌, nat_le, if◌then◌else◌, ◌++◌, Bool, List, length, drop, Option, None, Some, MatchOption}
+use Rattle.std.specs.Prelude.{ℕ, ◌≡◌, ◌+◌, ◌≤◌, ◌<◌, ◌⊎◌, ◌&&◌, nat_le, if◌then◌else◌, ◌++◌, Bool, List, [], length, drop, Option, None, Some, MatchOption}
 use mir.Syntax.{w32}
 use Rattle.std.specs.Int.{to_be_bytes}
 use Rattle.std.specs.Option.{option_and_then, option_map, option_map_or}
+use Rattle.ip_wire.specs.Arp.{arp_of, operation_of}
 use Rattle.ip_wire.specs.Ethernet.{ethernet_of}
 use Rattle.ip_wire.specs.Frame.{ipv4_payload, rebuilt}
 use Rattle.ip_wire.specs.Ip.{bytes_of, dst_addr_of, header_len_of, max_payload_len, next_header_of, payload_len_of, src_addr_of}
 use Rattle.ip_wire.specs.Ipv4.{ipv4_of, is_fragment}
 use Rattle.ip_wire.specs.Ipv6.{ipv6_of, payload_of}
 use Rattle.ip_wire.specs.Udp as udp
+use Rattle.ip_wire.specs.declared.ArpRepr.{ArpRepr}
+use Rattle.ip_wire.specs.declared.ArpRepr.TheVariants.{EthernetIpv4}
 use Rattle.ip_wire.specs.declared.IpAddress.{IpAddress}
 use Rattle.ip_wire.specs.declared.IpProtocol.{IpProtocol}
 use Rattle.ip_wire.specs.declared.IpProtocol.TheVariants as protocol
@@ -26,6 +29,12 @@ abbrev pub Fills : List ℕ → List ℕ → List ℕ → Option ℕ → Type 0
 Fills bytes old new answer =
     MatchOption answer ((length old < length bytes) × (new ≡ old))
     (λ n. (n ≡ length bytes) × (n ≤ length old) × (new ≡ bytes ++ drop n old))
+
+-- the values of an ARP packet, by numbers and octets
+abbrev pub arp_value : ℕ → List ℕ → ℕ → List ℕ → ℕ → ArpRepr
+arp_value operation source_hardware source_protocol target_hardware target_protocol =
+    EthernetIpv4 (operation_of operation) (record { 0 = source_hardware }) (to_be_bytes w32 source_protocol)
+    (record { 0 = target_hardware }) (to_be_bytes w32 target_protocol)
 
 -- whether a header can say how long its payload is, and fits into so many bytes
 abbrev pub is_emitted : IpRepr → ℕ → Bool
@@ -105,7 +114,7 @@ packet_payload caps ethertype.Ipv4 bytes =
     option_and_then (λ v. if is_fragment bytes then Some (ipv4_payload bytes) else transport_payload caps (Ipv4 v) (ipv4_payload bytes))
     (ipv4_of (verifies caps.ipv4) bytes)
 packet_payload caps ethertype.Ipv6 bytes = option_and_then (λ v. transport_payload caps (Ipv6 v) (payload_of bytes)) (ipv6_of bytes)
-packet_payload caps ethertype.Arp bytes = None
+packet_payload caps ethertype.Arp bytes = option_map (λ v. []) (arp_of bytes)
 packet_payload caps (ethertype.Unknown n) bytes = None
 
 -- the payload behind the headers of a frame, if each of them is read

@@ -1,23 +1,25 @@
 //! The packet layer for programs in other languages. `c/ip_wire.h` declares these functions for C.
 #![tactic(auto)]
 
-ghost use Rattle.std.specs.Prelude.{◌≡◌, ◌==◌, ◌++◌, not, if◌then◌else◌, drop, length, true};
+ghost use Rattle.std.specs.Prelude.{◌≡◌, ◌==◌, ◌++◌, not, nat_le, if◌then◌else◌, drop, length, true};
 ghost use Rattle.std.specs.Int.{to_be_bytes};
 ghost use mir.Syntax.{w32};
+ghost use Rattle.ip_wire.specs.Arp.{bytes_of as arp_bytes};
 ghost use Rattle.ip_wire.specs.Frame.{rebuilt};
 ghost use Rattle.ip_wire.specs.Printed.{ipv6_text};
 ghost use Rattle.ip_wire.specs.WordSum.{sum_of_bytes};
 ghost use Rattle.ip_wire.specs.declared.IpAddress.TheVariants.{Ipv4, Ipv6};
-ghost use Rattle.ip_wire_c.specs.Calls.{all_or_none, emitted, emitted_len, innermost_payload, ipv4_header, ipv6_header, is_rebuilt, IsPrinted, length_or_none, sent, sent_len, udp_header};
+ghost use Rattle.ip_wire_c.specs.Calls.{all_or_none, arp_value, emitted, emitted_len, innermost_payload, ipv4_header, ipv6_header, is_rebuilt, IsPrinted, length_or_none, sent, sent_len, udp_header};
 
+mod arp;
 mod payload;
 mod rebuild;
 mod text;
 mod udp;
 
 use ip_wire::{
-    IPV4_HEADER_LEN, IPV6_HEADER_LEN, IpAddress, IpProtocol, Ipv4Address, Ipv4PacketMut, Ipv4Repr,
-    Ipv6Address, Ipv6PacketMut, Ipv6Repr, UdpRepr, checksum,
+    ArpRepr, EthernetAddress, IPV4_HEADER_LEN, IPV6_HEADER_LEN, IpAddress, IpProtocol, Ipv4Address,
+    Ipv4PacketMut, Ipv4Repr, Ipv6Address, Ipv6PacketMut, Ipv6Repr, UdpRepr, checksum,
 };
 use net_base::ChecksumCapabilities;
 
@@ -39,6 +41,31 @@ pub extern "C" fn lk_parse(frame: &[u8], checked: u8) -> u32
         Some(payload) => payload.len() as u32 + 1,
         None => 0,
     }
+}
+
+/// Writes an ARP packet of Ethernet and IPv4 to the front of `out`, and answers its length: 0 where
+/// there is no room for it, and then nothing is written.
+#[unsafe(no_mangle)]
+pub extern "C" fn lk_emit_arp(
+    operation: u16,
+    source_hardware_addr: &[u8; 6],
+    source_protocol_addr: u32,
+    target_hardware_addr: &[u8; 6],
+    target_protocol_addr: u32,
+    out: &mut [u8],
+) -> usize
+    ensures length { result ≡ (if nat_le 28 (length out.old) then 28 else 0) }
+    ensures bytes { let value = arp_value operation source_hardware_addr.now source_protocol_addr target_hardware_addr.now target_protocol_addr in
+        out.new ≡ (if nat_le 28 (length out.old) then arp_bytes value ++ drop 28 out.old else out.old) }
+{
+    let value = ArpRepr::EthernetIpv4 {
+        operation: operation.into(),
+        source_hardware_addr: EthernetAddress(*source_hardware_addr),
+        source_protocol_addr: Ipv4Address::from_octets(source_protocol_addr.to_be_bytes()),
+        target_hardware_addr: EthernetAddress(*target_hardware_addr),
+        target_protocol_addr: Ipv4Address::from_octets(target_protocol_addr.to_be_bytes()),
+    };
+    arp::emit(value, out).unwrap_or(0)
 }
 
 /// Writes an IPv4 header for so long a payload to the front of `out`, and answers its length: 0 where

@@ -5,8 +5,8 @@ ghost use Rattle.ip_wire_c.specs.Calls.{innermost_payload, packet_payload, trans
 ghost use Rattle.ip_wire.specs.declared.EthernetProtocol.TheVariants.{Ipv4, Ipv6};
 
 use ip_wire::{
-    EthernetFrame, EthernetProtocol, EthernetRepr, IpProtocol, IpRepr, Ipv4Packet, Ipv4Repr,
-    Ipv6Packet, Ipv6Repr, UdpPacket, UdpRepr,
+    ArpPacket, ArpRepr, EthernetFrame, EthernetProtocol, EthernetRepr, IpProtocol, IpRepr,
+    Ipv4Packet, Ipv4Repr, Ipv6Packet, Ipv6Repr, UdpPacket, UdpRepr,
 };
 use net_base::ChecksumCapabilities;
 
@@ -23,7 +23,8 @@ pub fn innermost_payload<'a>(bytes: &'a [u8], caps: &ChecksumCapabilities) -> Op
     }
 }
 
-// The payload of a packet of that type and of what it carries, if their headers are read.
+// The payload of a packet of that type and of what it carries, if their headers are read. That of an
+// ARP packet is empty.
 fn packet_payload<'a>(
     ethertype: EthernetProtocol,
     bytes: &'a [u8],
@@ -36,7 +37,11 @@ fn packet_payload<'a>(
     match ethertype {
         EthernetProtocol::Ipv4 => ipv4_payload(bytes, caps),
         EthernetProtocol::Ipv6 => ipv6_payload(bytes, caps),
-        EthernetProtocol::Arp | EthernetProtocol::Unknown(_) => None,
+        EthernetProtocol::Arp => match ArpRepr::parse(&ArpPacket::new_unchecked(bytes)) {
+            Ok(_) => Some(&[]),
+            Err(_) => None,
+        },
+        EthernetProtocol::Unknown(_) => None,
     }
 }
 

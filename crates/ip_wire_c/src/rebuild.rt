@@ -4,14 +4,15 @@ ghost use Rattle.std.specs.Prelude.{◌≡◌, ◌≤◌, ◌<◌, None, length}
 ghost use Rattle.ip_wire.specs.Frame.{ethernet, rebuilt, rebuilt_between, rebuilt_packet, rebuilt_payload, rebuilt_transport};
 ghost use Rattle.ip_wire.specs.Ip.{max_payload_len};
 ghost use Rattle.ip_wire.specs.IpAddress.{version_of};
-ghost use Rattle.ip_wire.specs.declared.EthernetProtocol.TheVariants.{Ipv4, Ipv6};
+ghost use Rattle.ip_wire.specs.declared.EthernetProtocol.TheVariants.{Arp, Ipv4, Ipv6};
 ghost use Rattle.ip_wire.specs.declared.IpProtocol.TheVariants.{Udp};
 ghost use Rattle.ip_wire_c.specs.Calls.{Fills};
 
-use crate::udp;
+use crate::{arp, udp};
 use ip_wire::{
-    ETHERNET_HEADER_LEN, EthernetFrame, EthernetFrameMut, EthernetProtocol, EthernetRepr,
-    IpAddress, IpProtocol, IpRepr, Ipv4Packet, Ipv4Repr, Ipv6Packet, Ipv6Repr, UdpPacket, UdpRepr,
+    ArpPacket, ArpRepr, ETHERNET_HEADER_LEN, EthernetFrame, EthernetFrameMut, EthernetProtocol,
+    EthernetRepr, IpAddress, IpProtocol, IpRepr, Ipv4Packet, Ipv4Repr, Ipv6Packet, Ipv6Repr,
+    UdpPacket, UdpRepr,
 };
 use net_base::ChecksumCapabilities;
 
@@ -52,7 +53,18 @@ fn rebuild_payload(ethertype: EthernetProtocol, bytes: &[u8], out: &mut [u8]) ->
     match ethertype {
         EthernetProtocol::Ipv4 => rebuild_ipv4(bytes, out),
         EthernetProtocol::Ipv6 => rebuild_ipv6(bytes, out),
-        EthernetProtocol::Arp | EthernetProtocol::Unknown(_) => copy(bytes, out),
+        EthernetProtocol::Arp => rebuild_arp(bytes, out),
+        EthernetProtocol::Unknown(_) => copy(bytes, out),
+    }
+}
+
+// An ARP packet, built again where it is read.
+fn rebuild_arp(bytes: &[u8], out: &mut [u8]) -> Option<usize>
+    ensures { Fills (rebuilt_payload Arp bytes.now) out.old out.new result }
+{
+    match ArpRepr::parse(&ArpPacket::new_unchecked(bytes)) {
+        Ok(value) => arp::emit(value, out),
+        Err(_) => copy(bytes, out),
     }
 }
 

@@ -1,8 +1,9 @@
 -- The texts of addresses, computed on worked examples.
 use Rattle.std.proofs.Common.{◌≡◌, ℕ, List, [], ◌∷◌, codes, refl}
 use Rattle.std.specs.Fmt.{digits}
+use Rattle.wire_addr.specs.Hardware.{eui_64}
 use Rattle.wire_addr.specs.Octets.{groups_of, octets_of}
-use Rattle.wire_addr.specs.Printed.{dashed, dotted, ipv6_text}
+use Rattle.wire_addr.specs.Printed.{coloned, dashed, dotted, ipv6_text}
 
 ethernet-printed : dashed (0xab ∷ 0xcd ∷ 0xef ∷ 0x0a ∷ 0xa0 ∷ 0xff ∷ []) ≡ codes "ab-cd-ef-0a-a0-ff"
 ethernet-printed = refl
@@ -46,3 +47,14 @@ not-mapped = refl
 
 groups-octets : groups_of (0xff ∷ 0x02 ∷ 0x00 ∷ 0x01 ∷ []) ≡ 0xff02 ∷ 1 ∷ []
 groups-octets = refl
+
+-- ---- hardware addresses
+
+raw-printed : coloned (0x02 ∷ 0 ∷ 0 ∷ 0 ∷ 0 ∷ 0x01 ∷ []) ≡ codes "02:00:00:00:00:01"
+raw-printed = refl
+
+local-identifier : eui_64 (0x02 ∷ 0 ∷ 0 ∷ 0 ∷ 0 ∷ 0x01 ∷ []) ≡ 0 ∷ 0 ∷ 0 ∷ 0xff ∷ 0xfe ∷ 0 ∷ 0 ∷ 0x01 ∷ []
+local-identifier = refl
+
+global-identifier : eui_64 (0x34 ∷ 0x56 ∷ 0x78 ∷ 0x9a ∷ 0xbc ∷ 0xde ∷ []) ≡ 0x36 ∷ 0x56 ∷ 0x78 ∷ 0xff ∷ 0xfe ∷ 0x9a ∷ 0xbc ∷ 0xde ∷ []
+global-identifier = refl

@@ -38,7 +38,7 @@ fn lines(rt: HostRuntime) {
 
 #[test]
 fn frames_of_other_types(rt: HostRuntime) {
-    let cases: [(&[u8], &[u8]); 4] = [
+    let cases: [(&[u8], &[u8]); 3] = [
         (
             b"01020304050611121314151608",
             b"EthernetII (wire::Error)\n\n",
@@ -53,10 +53,40 @@ fn frames_of_other_types(rt: HostRuntime) {
             b"EthernetII src=11-12-13-14-15-16 dst=01-02-03-04-05-06 type=0x05dc\n\
                 again 01020304050611121314151605dc0102\n\n",
         ),
+    ];
+    for (input, output) in cases {
+        compare(&rt, rt.alloc(), input, output);
+    }
+}
+
+#[test]
+fn packets_of_arp(rt: HostRuntime) {
+    let cases: [(&[u8], &[u8]); 4] = [
+        // Padding is dropped.
         (
-            b"010203040506111213141516080600010800060400011112131415162122232431323334353641424344",
+            b"010203040506111213141516080600010800060400011112131415162122232431323334353641424344000000000000000000000000000000000000",
             b"EthernetII src=11-12-13-14-15-16 dst=01-02-03-04-05-06 type=ARP\n\
+                ARP type=Ethernet+IPv4 src=11-12-13-14-15-16/33.34.35.36 tgt=31-32-33-34-35-36/65.66.67.68 op=Request\n\
                 again 010203040506111213141516080600010800060400011112131415162122232431323334353641424344\n\n",
+        ),
+        // What is not of Ethernet and IPv4 stays, and so does what is no packet.
+        (
+            b"0102030405061112131415160806000186dd010100020a0b0c0d",
+            b"EthernetII src=11-12-13-14-15-16 dst=01-02-03-04-05-06 type=ARP\n\
+                ARP (unrecognized) htype=Ethernet ptype=Ipv6 hlen=1 plen=1 op=Reply sha=[10] spa=[11] tha=[12] tpa=[13]\n\
+                again 0102030405061112131415160806000186dd010100020a0b0c0d\n\n",
+        ),
+        (
+            b"0102030405061112131415160806000108000604000111121314151621222324313233343536414243",
+            b"EthernetII src=11-12-13-14-15-16 dst=01-02-03-04-05-06 type=ARP\n\
+                ARP (wire::Error)\n\
+                again 0102030405061112131415160806000108000604000111121314151621222324313233343536414243\n\n",
+        ),
+        (
+            b"0102030405061112131415160806",
+            b"EthernetII src=11-12-13-14-15-16 dst=01-02-03-04-05-06 type=ARP\n\
+                ARP (wire::Error)\n\
+                again 0102030405061112131415160806\n\n",
         ),
     ];
     for (input, output) in cases {

@@ -11,6 +11,10 @@ pub returns-in-Ipv6-clause-lines : goal.returns-in-Ipv6-clause-lines
 unfolding payload_lines
 returns-in-Ipv6-clause-lines c = search rules
 
-pub returns-in-Arp : goal.returns-in-Arp
+pub returns-in-Arp-clause-lines : goal.returns-in-Arp-clause-lines
 unfolding payload_lines
-returns-in-Arp c = grind (arith, common_steps)
+returns-in-Arp-clause-lines c = search rules
+
+pub returns-in-Unknown-clause-lines : goal.returns-in-Unknown-clause-lines
+unfolding payload_lines
+returns-in-Unknown-clause-lines c = grind (arith, common_steps)

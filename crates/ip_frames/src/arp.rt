@@ -1,0 +1,42 @@
+//! The line of an ARP packet, and the packet built again.
+
+ghost use Rattle.std.specs.Prelude.{◌≡◌, ◌≤◌, ◌++◌, OnOk, drop, length, string_bytes};
+ghost use Rattle.ip_frames.specs.Output.{ended};
+ghost use Rattle.ip_wire.specs.Arp.{bytes_of};
+ghost use Rattle.ip_wire.specs.ArpText.{packet_text};
+ghost use Rattle.ip_wire.specs.Frame.{rebuilt_payload};
+ghost use Rattle.ip_wire.specs.declared.EthernetProtocol.TheVariants.{Arp};
+
+use ip_wire::{ArpPacket, ArpPacketMut, ArpRepr};
+use std::alloc::AllocError;
+
+/// Appends the line of a packet to `text`, and its bytes built again to `again`.
+pub fn push_packet(bytes: &[u8], text: &mut String, again: &mut Vec<u8>) -> Result<(), AllocError>
+    ensures lines { OnOk result (string_bytes text.new ≡ string_bytes text.old ++ ended (packet_text bytes.now)) }
+    ensures again { OnOk result (again.new.items ≡ again.old.items ++ rebuilt_payload Arp bytes.now) }
+{
+    let packet = ArpPacket::new_unchecked(bytes);
+    writeln!(text, "{packet}")?;
+    match ArpRepr::parse(&packet) {
+        Ok(value) => push_value(value, again),
+        Err(_) => again.extend_from_slice(bytes),
+    }
+}
+
+// Appends a packet with these values.
+fn push_value(value: ArpRepr, again: &mut Vec<u8>) -> Result<(), AllocError>
+    ensures { OnOk result (again.new.items ≡ again.old.items ++ bytes_of value) }
+{
+    let start = again.len();
+    again.resize(start + value.buffer_len(), 0)?;
+    emit(value, &mut again[start..]);
+    Ok(())
+}
+
+// Writes a packet over the front of `bytes`.
+fn emit(value: ArpRepr, bytes: &mut [u8])
+    requires { 28 ≤ length bytes.old }
+    ensures { bytes.new ≡ bytes_of value ++ drop 28 bytes.old }
+{
+    value.emit(&mut ArpPacketMut::new_unchecked(bytes));
+}

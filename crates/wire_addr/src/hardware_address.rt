@@ -1,0 +1,148 @@
+//! Addresses of the link layer, of whatever medium.
+
+ghost use Rattle.std.specs.Prelude.{◌≡◌, ◌≢◌, ◌↔◌, IfSome, IsTrue, Some, length};
+ghost use Rattle.wire_addr.specs.Hardware.{IsBroadcast, IsUnicast, address_text, eui_64_of, medium_of, octets_of};
+ghost use Rattle.wire_addr.specs.declared.hardware_address.HardwareAddress.TheVariants.{Ip, Ethernet};
+
+use crate::EthernetAddress;
+use net_base::Medium;
+use std::fmt;
+
+/// The address of a device on its medium.
+#[derive(Debug, Clone, Copy, PartialEq, Eq)]
+pub enum HardwareAddress {
+    /// Of a device whose packets have no hardware addresses.
+    Ip,
+    Ethernet(EthernetAddress),
+}
+
+impl HardwareAddress {
+    /// Its six octets.
+    pub fn as_bytes(&self) -> &[u8]
+        requires { self.now ≢ Ip }
+        ensures octets { octets_of self.now ≡ Some result.now }
+        ensures len { length result.now ≡ 6 }
+    {
+        match self {
+            HardwareAddress::Ip => unreachable!(),
+            HardwareAddress::Ethernet(address) => address.as_bytes(),
+        }
+    }
+
+    /// Whether it is the address of one station.
+    pub fn is_unicast(&self) -> bool
+        requires { self.now ≢ Ip }
+        ensures { IfSome (octets_of self.now) (λ octets. IsTrue result ↔ IsUnicast octets) }
+    {
+        match self {
+            HardwareAddress::Ip => unreachable!(),
+            HardwareAddress::Ethernet(address) => address.is_unicast(),
+        }
+    }
+
+    /// Whether it is the address of all stations.
+    pub fn is_broadcast(&self) -> bool
+        requires { self.now ≢ Ip }
+        ensures { IfSome (octets_of self.now) (λ octets. IsTrue result ↔ IsBroadcast octets) }
+    {
+        match self {
+            HardwareAddress::Ip => unreachable!(),
+            HardwareAddress::Ethernet(address) => address.is_broadcast(),
+        }
+    }
+
+    /// The Ethernet address that it is.
+    pub fn ethernet_or_panic(&self) -> EthernetAddress
+        requires { self.now ≢ Ip }
+        ensures { self.now ≡ Ethernet result }
+    {
+        match *self {
+            HardwareAddress::Ip => unreachable!(),
+            HardwareAddress::Ethernet(address) => address,
+        }
+    }
+
+    /// The medium that it is an address of.
+    pub fn medium(&self) -> Medium
+        ensures { result ≡ medium_of self.now }
+    {
+        match self {
+            HardwareAddress::Ip => Medium::Ip,
+            HardwareAddress::Ethernet(_) => Medium::Ethernet,
+        }
+    }
+
+    /// The identifier of its interface in IPv6 addresses, a modified EUI-64 (RFC 4291, appendix A).
+    /// `Ip` has none.
+    pub fn as_eui_64(&self) -> Option<[u8; 8]>
+        ensures { result ≡ eui_64_of self.now }
+    {
+        match self {
+            HardwareAddress::Ip => None,
+            HardwareAddress::Ethernet(address) => address.as_eui_64(),
+        }
+    }
+}
+
+/// The text of the Ethernet address; of `Ip` words that say that there is none.
+impl fmt::Display for HardwareAddress {
+    ghost output = { λ address. Some (address_text address) };
+
+    fn fmt<W: fmt::Write>(&self, f: &mut fmt::Formatter<W>) -> fmt::Result {
+        match *self {
+            HardwareAddress::Ip => write!(f, "no hardware addr"),
+            HardwareAddress::Ethernet(address) => write!(f, "{address}"),
+        }
+    }
+}
+
+impl From<EthernetAddress> for HardwareAddress {
+    ghost from_gives = { λ ethernet address. address ≡ Ethernet ethernet };
+
+    fn from(address: EthernetAddress) -> HardwareAddress {
+        HardwareAddress::Ethernet(address)
+    }
+}
+
+#[cfg(test)]
+mod tests {
+    use super::*;
+    use std::test::Fail;
+
+    #[test]
+    fn answers_what_its_address_does(rt: HostRuntime) -> Result<(), Fail> {
+        for (octets, is_unicast, is_broadcast) in [
+            ([0x02, 0x00, 0x00, 0x00, 0x00, 0x01], true, false),
+            ([0x33, 0x33, 0x00, 0x00, 0x00, 0x01], false, false),
+            ([0xff, 0xff, 0xff, 0xff, 0xff, 0xff], false, true),
+        ] {
+            let ethernet = EthernetAddress(octets);
+            let address = HardwareAddress::from(ethernet);
+            assert_eq!(rt; address, HardwareAddress::Ethernet(ethernet));
+            assert_eq!(rt; address.as_bytes(), octets.as_slice());
+            assert_eq!(rt; address.is_unicast(), is_unicast);
+            assert_eq!(rt; address.is_broadcast(), is_broadcast);
+            assert_eq!(rt; address.ethernet_or_panic(), ethernet);
+        }
+        Ok(())
+    }
+
+    #[test]
+    fn has_an_identifier_and_a_text_by_medium(rt: HostRuntime) -> Result<(), Fail> {
+        let ethernet = EthernetAddress([0x02, 0x00, 0x00, 0x00, 0x00, 0x01]);
+        for (address, medium, identifier, text) in [
+            (HardwareAddress::Ip, Medium::Ip, None, "no hardware addr"),
+            (
+                HardwareAddress::Ethernet(ethernet),
+                Medium::Ethernet,
+                Some([0x00, 0x00, 0x00, 0xff, 0xfe, 0x00, 0x00, 0x01]),
+                "02-00-00-00-00-01",
+            ),
+        ] {
+            assert_eq!(rt; address.medium(), medium);
+            assert_eq!(rt; address.as_eui_64(), identifier);
+            assert_eq!(rt; format!(in rt.alloc(); "{address}")?.as_str(), text);
+        }
+        Ok(())
+    }
+}

@@ -1,0 +1,197 @@
+//! Addresses of the link layer whose medium is not looked at yet.
+
+ghost use Rattle.std.specs.Prelude.{◌≡◌, ◌↔◌, ◌≤◌, [], IsTrue, Ok, Some, length};
+ghost use Rattle.wire_addr.specs.Hardware.{AreAddress, octets_of};
+ghost use Rattle.wire_addr.specs.Printed.{coloned};
+ghost use Rattle.wire_addr.specs.declared.hardware_address.HardwareAddress.{HardwareAddress};
+
+use crate::{Error, EthernetAddress, HardwareAddress, Result};
+use net_base::Medium;
+use std::fmt;
+use std::marker::Model;
+
+/// How many octets the longest hardware address has.
+pub const MAX_HARDWARE_ADDRESS_LEN: usize = 6;
+
+/// At most six octets that may be a hardware address. A clause sees the list of them. Zeros fill the
+/// rest of the array, so that the same octets are the same value.
+#[derive(Debug, Clone, Copy, PartialEq, Eq)]
+pub struct RawHardwareAddress {
+    len: u8,
+    octets: [u8; MAX_HARDWARE_ADDRESS_LEN],
+}
+
+impl Model for RawHardwareAddress {
+    ghost use Rattle.std.specs.Prelude.{ℕ, List, length, take};
+    ghost use Rattle.wire_addr.specs.Raw.{HasZerosBehind, with_zeros};
+
+    ghost Value = { List ℕ };
+
+    ghost view = { λ a. take a.len a.octets };
+
+    ghost invariant = { λ a. HasZerosBehind a.len a.octets };
+
+    ghost inverse = { λ octets. record { len = length octets; octets = with_zeros octets } };
+}
+
+impl RawHardwareAddress {
+    /// The address with the octets of a slice of at most six.
+    pub fn from_bytes(bytes: &[u8]) -> RawHardwareAddress
+        requires { length bytes.now ≤ 6 }
+        ensures { result ≡ bytes.now }
+    {
+        let mut octets = [0; MAX_HARDWARE_ADDRESS_LEN];
+        octets[..bytes.len()].copy_from_slice(bytes);
+        RawHardwareAddress {
+            len: bytes.len() as u8,
+            octets,
+        }
+    }
+
+    /// Its octets.
+    pub fn as_bytes(&self) -> &[u8]
+        ensures octets { result.now ≡ self.now }
+        ensures len { length result.now ≤ 6 }
+    {
+        &self.octets[..usize::from(self.len)]
+    }
+
+    /// How many octets it has.
+    pub fn len(&self) -> usize
+        ensures { result ≡ length self.now }
+    {
+        self.len.into()
+    }
+
+    /// Whether it has no octet.
+    pub fn is_empty(&self) -> bool
+        ensures { IsTrue result ↔ (self.now ≡ []) }
+    {
+        self.len == 0
+    }
+
+    /// The address with these octets on a medium. Only Ethernet has one, and only of six octets: all
+    /// else is refused.
+    pub fn parse(&self, medium: Medium) -> Result<HardwareAddress>
+        ensures { (address : HardwareAddress) → (result ≡ Ok address) ↔ AreAddress self.now medium address }
+    {
+        match medium {
+            Medium::Ethernet => {
+                if self.len() != 6 {
+                    return Err(Error);
+                }
+                Ok(EthernetAddress::from_bytes(self.as_bytes()).into())
+            }
+            Medium::Ip => Err(Error),
+        }
+    }
+
+    /// The octets of an address, of which `Ip` has none.
+    pub fn from_hardware(address: HardwareAddress) -> Option<RawHardwareAddress>
+        ensures { result ≡ octets_of address }
+    {
+        match address {
+            HardwareAddress::Ip => None,
+            HardwareAddress::Ethernet(address) => Some(address.into()),
+        }
+    }
+}
+
+/// Two lower-case hex digits an octet, joined by `:`.
+impl fmt::Display for RawHardwareAddress {
+    ghost output = { λ octets. Some (coloned octets) };
+
+    fn fmt<W: fmt::Write>(&self, f: &mut fmt::Formatter<W>) -> fmt::Result {
+        if let &[first, ref rest @ ..] = self.as_bytes() {
+            write!(f, "{first:02x}")?;
+            for &octet in rest {
+                write!(f, ":{octet:02x}")?;
+            }
+        }
+        Ok(())
+    }
+}
+
+impl From<EthernetAddress> for RawHardwareAddress {
+    ghost from_gives = { λ address octets. octets ≡ address.0 };
+
+    fn from(address: EthernetAddress) -> RawHardwareAddress {
+        RawHardwareAddress::from_bytes(address.as_bytes())
+    }
+}
+
+#[cfg(test)]
+mod tests {
+    use super::*;
+    use std::test::Fail;
+
+    /// Values are equal where their octets are.
+    fn are_equal(one: RawHardwareAddress, other: RawHardwareAddress) -> bool
+        ensures { IsTrue result ↔ (one ≡ other) }
+    {
+        one == other
+    }
+
+    #[test]
+    fn keeps_and_prints_octets(rt: HostRuntime) -> std::result::Result<(), Fail> {
+        for (octets, text) in [
+            ([].as_slice(), ""),
+            ([0x0a].as_slice(), "0a"),
+            ([0x01, 0x00].as_slice(), "01:00"),
+            (
+                [0x02, 0x00, 0x00, 0x00, 0x00, 0x01].as_slice(),
+                "02:00:00:00:00:01",
+            ),
+            (
+                [0xab, 0xcd, 0xef, 0x0a, 0xa0, 0xff].as_slice(),
+                "ab:cd:ef:0a:a0:ff",
+            ),
+        ] {
+            assert!(rt; octets.len() <= MAX_HARDWARE_ADDRESS_LEN);
+            let address = RawHardwareAddress::from_bytes(octets);
+            assert_eq!(rt; address.as_bytes(), octets);
+            assert_eq!(rt; address.len(), octets.len());
+            assert_eq!(rt; address.is_empty(), octets.is_empty());
+            assert_eq!(rt; format!(in rt.alloc(); "{address}")?.as_str(), text);
+        }
+        Ok(())
+    }
+
+    #[test]
+    fn is_read_on_a_medium(rt: HostRuntime) {
+        let zeros = HardwareAddress::Ethernet(EthernetAddress([0; 6]));
+        for (octets, on_ethernet) in [
+            ([0x00; 6].as_slice(), Ok(zeros)),
+            ([0x01; 5].as_slice(), Err(Error)),
+            ([].as_slice(), Err(Error)),
+        ] {
+            assert!(rt; octets.len() <= MAX_HARDWARE_ADDRESS_LEN);
+            let address = RawHardwareAddress::from_bytes(octets);
+            assert_eq!(rt; address.parse(Medium::Ethernet), on_ethernet);
+            assert_eq!(rt; address.parse(Medium::Ip), Err(Error));
+        }
+    }
+
+    #[test]
+    fn is_made_of_an_address(rt: HostRuntime) {
+        let ethernet = EthernetAddress([0x02, 0x00, 0x00, 0x00, 0x00, 0x01]);
+        let address = RawHardwareAddress::from(ethernet);
+        assert_eq!(rt; address.as_bytes(), ethernet.as_bytes());
+        assert_eq!(rt;
+            RawHardwareAddress::from_hardware(ethernet.into()),
+            Some(address)
+        );
+        assert_eq!(rt;
+            RawHardwareAddress::from_hardware(HardwareAddress::Ip),
+            None
+        );
+    }
+
+    #[test]
+    fn is_equal_by_octets(rt: HostRuntime) {
+        let octets = [0x01, 0x00, 0x00];
+        let one = RawHardwareAddress::from_bytes(&octets);
+        assert!(rt; are_equal(one, RawHardwareAddress::from_bytes(&octets)));
+        assert!(rt; !are_equal(one, RawHardwareAddress::from_bytes(&octets[..2])));
+    }
+}
