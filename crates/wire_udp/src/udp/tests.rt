@@ -6,7 +6,7 @@ ghost use Rattle.wire_ends.specs.IpAddress.{version_of};
 use super::*;
 use net_base::{Checksum, ChecksumCapabilities};
 use std::test::Fail;
-use wire_addr::{Error, Result};
+use wire_addr::{Error, Ipv4Address, Ipv6Address, Result};
 use wire_ends::IpAddress;
 use wire_ipv4::{IpProtocol, checksum};
 
@@ -231,16 +231,27 @@ fn verifies_whole_and_partial_checksums(rt: HostRuntime) -> std::result::Result<
 #[test]
 fn sums_pseudo_headers(rt: HostRuntime) {
     let (src, dst) = ipv4_ends();
-    let sum = checksum::pseudo_header(&src, &dst, IpProtocol::Udp, 12);
-    assert_eq!(rt; sum, 0x8371);
-    let sum = checksum::pseudo_header(&src, &dst, IpProtocol::Udp, 0x1_000c);
-    assert_eq!(rt; sum, 0x8371);
-    assert_eq!(rt;
-        checksum::packet(src, dst, IpProtocol::Udp, &PACKET),
-        0xffff
+    for length in [12, 0x1_000c] {
+        let sum = checksum::pseudo_header(&src, &dst, IpProtocol::Udp, length);
+        assert_eq!(rt; sum, 0x8371);
+    }
+    let sum = checksum::packet(src, dst, IpProtocol::Udp, &PACKET);
+    assert_eq!(rt; sum, 0xffff);
+    let (src, dst) = (
+        Ipv4Address::new(192, 168, 1, 1),
+        Ipv4Address::new(192, 168, 1, 2),
     );
+    let sum = checksum::pseudo_header_v4(&src, &dst, IpProtocol::Udp, 12);
+    assert_eq!(rt; sum, 0x8371);
+
     let (src, dst) = ipv6_ends();
     let sum = checksum::pseudo_header(&src, &dst, IpProtocol::Udp, 12);
+    assert_eq!(rt; sum, 0xfda2);
+    let (src, dst) = (
+        Ipv6Address::new(0xfe80, 0, 0, 0, 0, 0, 0, 1),
+        Ipv6Address::new(0xff02, 0, 0, 0, 0, 0, 0, 1),
+    );
+    let sum = checksum::pseudo_header_v6(&src, &dst, IpProtocol::Udp, 12);
     assert_eq!(rt; sum, 0xfda2);
 }
 
@@ -256,6 +267,10 @@ fn writes_no_checksum_of_0(rt: HostRuntime) -> std::result::Result<(), Fail> {
         dst_port: 31881,
     };
     assert_eq!(rt; parse_over_ipv4(&buffer, &udp(Checksum::Rx)), Ok(value));
+    let mut emitted = [0xa5; 8];
+    let mut packet = UdpPacketMut::new_unchecked(&mut emitted);
+    value.emit(&mut packet, &src, &dst, &[], &udp(Checksum::Both));
+    assert_eq!(rt; emitted, buffer);
     Ok(())
 }
 
@@ -268,12 +283,14 @@ fn writes_a_packet_and_leaves_the_rest(rt: HostRuntime) {
         (Checksum::Rx, UNSUMMED),
         (Checksum::None, UNSUMMED),
     ] {
-        let mut want = [0xa5; 14];
-        want[..12].copy_from_slice(&packet);
-        let mut buffer = [0xa5; 14];
-        let mut view = UdpPacketMut::new_unchecked(&mut buffer);
-        HEADER.emit(&mut view, &src, &dst, &PAYLOAD, &udp(when));
-        assert_eq!(rt; buffer, want);
+        for old in [0x00, 0xa5, 0xff] {
+            let mut want = [old; 14];
+            want[..12].copy_from_slice(&packet);
+            let mut buffer = [old; 14];
+            let mut view = UdpPacketMut::new_unchecked(&mut buffer);
+            HEADER.emit(&mut view, &src, &dst, &PAYLOAD, &udp(when));
+            assert_eq!(rt; buffer, want);
+        }
     }
     assert_eq!(rt; HEADER.header_len(), UDP_HEADER_LEN);
 }

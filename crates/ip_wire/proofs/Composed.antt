@@ -1,0 +1,112 @@
+-- Frames that are put together of layers that agree.
+use Rattle.std.proofs.Common.{ℕ, ◌≡◌, ◌≤◌, ◌<◌, ◌+◌, ◌-◌, ◌^◌, true, List, [], ◌++◌, drop, length, take, refl, sym, ap, subst, ◌∙◌, append-nil, append_assoc, length-append, arith}
+use Rattle.std.proofs.Math.Seq.{take-append_seam}
+use Rattle.ip_wire.proofs.EthernetLayer.{drop-bytes_of}
+use Rattle.ip_wire.specs.Frame.{IsReadWhole, ReadsCarried, ReadsPacket, ReadsTransport, Transport, datagram, packet, packet_payload, type_of}
+use Rattle.wire_field.proofs.Cells.{cells-all}
+use Rattle.wire_ip.proofs.IpReadsBack.{IsInRange}
+use Rattle.wire_ip.proofs.Ipv6ReadsBack as ipv6
+use Rattle.wire_ip.specs.Ipv6 as ipv6_header
+use Rattle.wire_ipv4.specs.Ipv4 as ipv4_header
+use Rattle.wire_udp.proofs.UdpReadsBack as udp
+use Rattle.wire_udp.specs.Udp as udp_header
+use Rattle.wire_udp.specs.declared.UdpRepr.{UdpRepr}
+use Rattle.wire_ip.specs.Ip.{bytes_of, dst_addr_of, next_header_of, normal, payload_len_of, src_addr_of}
+use Rattle.wire_ip.specs.declared.IpRepr.{IpRepr}
+use Rattle.wire_ip.specs.declared.IpRepr.TheVariants.{Ipv4, Ipv6}
+use Rattle.wire_ipv4.proofs.ReadsBack as ipv4
+use Rattle.wire_ipv4.specs.Protocol.{number_of, protocol_of}
+use Rattle.wire_link.proofs.Emitted as ethernet_header
+use Rattle.wire_link.specs.Ethernet as ethernet
+use Rattle.wire_link.specs.declared.EthernetRepr.{EthernetRepr}
+
+-- the part of so many bytes that stands behind a header
+part-behind : (bytes q rest : List ℕ) (from : ℕ) → drop from bytes ≡ q ++ rest → take (length q) (drop from bytes) ≡ q
+part-behind bytes q rest from e = ap (take (length q)) e ∙ take-append_seam q rest
+
+-- a packet that is written is read, whatever stands behind what it carries
+pub reads_packet : (w : IpRepr) (q rest : List ℕ) → IsInRange w → payload_len_of w ≡ length q → ReadsPacket (bytes_of w true ++ (q ++ rest)) (normal w)
+reads_packet (Ipv4 w) q rest h is =
+    let fits : w.payload_len ≤ length (q ++ rest) = simp length-append (omega (arith, is)) in
+    (ipv4.reads-bytes_of w (q ++ rest) true true h fits (λ on. on), refl)
+reads_packet (Ipv6 w) q rest h is =
+    let fits : w.payload_len ≤ length (q ++ rest) = simp length-append (omega (arith, is)) in
+    ipv6.reads-bytes_of w (q ++ rest) h fits
+
+-- and what it carries is found behind its header
+pub packet_payload-written : (w : IpRepr) (q rest : List ℕ) → IsInRange w → payload_len_of w ≡ length q
+    → packet_payload (normal w) (bytes_of w true ++ (q ++ rest)) ≡ q
+packet_payload-written (Ipv4 w) q rest h is =
+    let bytes = bytes_of (Ipv4 w) true ++ (q ++ rest) in
+    let total : ipv4_header.total_len bytes ≡ 20 + length q = omega (arith, h.payload_len, is) in
+    let count : 20 + length q - 20 ≡ length q = omega arith in
+    let behind : drop 20 bytes ≡ q ++ rest = rw (cells-all 4 w.src_addr h.src_addr, cells-all 4 w.dst_addr h.dst_addr) refl in
+    rw (total, count) (part-behind bytes q rest 20 behind)
+packet_payload-written (Ipv6 w) q rest h is =
+    let bytes = bytes_of (Ipv6 w) true ++ (q ++ rest) in
+    let total : ipv6_header.total_len bytes ≡ 40 + length q = omega (arith, h.payload_len, is) in
+    let count : 40 + length q - 40 ≡ length q = omega arith in
+    let behind : drop 40 bytes ≡ q ++ rest = rw (cells-all 16 w.src_addr h.src_addr, cells-all 16 w.dst_addr h.dst_addr) refl in
+    rw (total, count) (part-behind bytes q rest 40 behind)
+
+-- the protocol of a packet that is read
+normal-next_header : (w : IpRepr) → next_header_of (normal w) ≡ protocol_of (number_of (next_header_of w))
+normal-next_header (Ipv4 w) = refl
+normal-next_header (Ipv6 w) = refl
+
+normal-src_addr : (w : IpRepr) → src_addr_of (normal w) ≡ src_addr_of w
+normal-src_addr (Ipv4 w) = refl
+normal-src_addr (Ipv6 w) = refl
+
+normal-dst_addr : (w : IpRepr) → dst_addr_of (normal w) ≡ dst_addr_of w
+normal-dst_addr (Ipv4 w) = refl
+normal-dst_addr (Ipv6 w) = refl
+
+-- a UDP packet that is written is what a packet of its protocol carries
+pub reads_datagram : (w : IpRepr) (v : UdpRepr) (payload : List ℕ) → number_of (next_header_of w) ≡ 17
+    → udp.IsInRange v payload (src_addr_of w) (dst_addr_of w)
+    → ReadsTransport (normal w) (udp_header.bytes_of v payload (src_addr_of w) (dst_addr_of w) true) (datagram v payload)
+reads_datagram w v payload number h =
+    let src = src_addr_of w in
+    let dst = dst_addr_of w in
+    let segment = udp_header.bytes_of v payload src dst true in
+    let back = udp.reads-bytes_of v src dst payload [] true true h (λ on. on) in
+    let read : udp_header.Reads segment src dst true v payload = subst (λ bytes. udp_header.Reads bytes src dst true v payload) (append-nil segment) back in
+    (normal-next_header w ∙ ap protocol_of number, rw (normal-src_addr w, normal-dst_addr w) read)
+
+-- the type that names a packet
+type_of-normal : (w : IpRepr) → type_of (normal w) ≡ type_of w
+type_of-normal (Ipv4 w) = refl
+type_of-normal (Ipv6 w) = refl
+
+known-type_of : (w : IpRepr) → ethernet.known (type_of w) ≡ type_of w
+known-type_of (Ipv4 w) = refl
+known-type_of (Ipv6 w) = refl
+
+type_of-small : (w : IpRepr) → ethernet.number_of (type_of w) < 2 ^ 16
+type_of-small (Ipv4 w) = omega arith
+type_of-small (Ipv6 w) = omega arith
+
+-- a frame of a header that names the packet, of that packet and of padding is read whole
+pub reads_frame : (header : EthernetRepr) (w : IpRepr) (q padding : List ℕ) (t : Transport)
+    → length header.dst_addr.0 ≡ 6 → length header.src_addr.0 ≡ 6
+    → ethernet.number_of header.ethertype ≡ ethernet.number_of (type_of w) → IsInRange w → payload_len_of w ≡ length q → ReadsTransport (normal w) q t
+    → IsReadWhole (ethernet.bytes_of header ++ (bytes_of w true ++ q) ++ padding) (ethernet.normal header) (packet (normal w) t)
+reads_frame header w q padding t dst src names h is transport =
+    let number : ethernet.number_of header.ethertype < 2 ^ 16 = rw names (type_of-small w) in
+    let inner = bytes_of w true ++ (q ++ padding) in
+    let joined : ethernet.bytes_of header ++ (bytes_of w true ++ q) ++ padding ≡ ethernet.bytes_of header ++ inner =
+    append_assoc (ethernet.bytes_of header) (bytes_of w true ++ q) padding
+    ∙ ap (λ (rest : List ℕ). ethernet.bytes_of header ++ rest) (append_assoc (bytes_of w true) q padding)
+    in
+    let named : ethernet.known header.ethertype ≡ type_of (normal w) = ap ethernet.protocol_of names ∙ known-type_of w ∙ sym (type_of-normal w) in
+    let carried : ReadsCarried (ethernet.known header.ethertype) inner (packet (normal w) t) = (
+      named,
+      reads_packet w q padding h is,
+      rw (packet_payload-written w q padding h is) transport,
+    ) in
+    subst (λ (bytes : List ℕ). IsReadWhole bytes (ethernet.normal header) (packet (normal w) t)) (sym joined)
+    (record {
+      reads_header = ethernet_header.reads-bytes_of header inner dst src number;
+      reads_carried = subst (λ (bytes : List ℕ). ReadsCarried (ethernet.known header.ethertype) bytes (packet (normal w) t)) (sym (drop-bytes_of header inner dst src)) carried;
+    })
