@@ -1,13 +1,11 @@
 -- Frames that are put together of layers that agree.
-use Rattle.std.proofs.Common.{ℕ, ◌≡◌, ◌≤◌, ◌<◌, ◌+◌, ◌-◌, ◌^◌, true, List, [], ◌++◌, drop, length, take, refl, sym, ap, subst, ◌∙◌, append-nil, append_assoc, length-append, arith}
-use Rattle.std.proofs.Math.Seq.{take-append_seam}
+use Rattle.std.proofs.Common.{ℕ, ◌≡◌, ◌≤◌, ◌<◌, ◌^◌, true, List, [], ◌++◌, length, refl, sym, ap, subst, ◌∙◌, append-nil, append_assoc, length-append, arith}
 use Rattle.ip_wire.proofs.EthernetLayer.{drop-bytes_of}
+use Rattle.ip_wire.proofs.Ipv4Layer as ipv4_layer
+use Rattle.ip_wire.proofs.Ipv6Layer as ipv6_layer
 use Rattle.ip_wire.specs.Frame.{IsReadWhole, ReadsCarried, ReadsPacket, ReadsTransport, Transport, datagram, packet, packet_payload, type_of}
-use Rattle.wire_field.proofs.Cells.{cells-all}
 use Rattle.wire_ip.proofs.IpReadsBack.{IsInRange}
 use Rattle.wire_ip.proofs.Ipv6ReadsBack as ipv6
-use Rattle.wire_ip.specs.Ipv6 as ipv6_header
-use Rattle.wire_ipv4.specs.Ipv4 as ipv4_header
 use Rattle.wire_udp.proofs.UdpReadsBack as udp
 use Rattle.wire_udp.specs.Udp as udp_header
 use Rattle.wire_udp.specs.declared.UdpRepr.{UdpRepr}
@@ -19,10 +17,6 @@ use Rattle.wire_ipv4.specs.Protocol.{number_of, protocol_of}
 use Rattle.wire_link.proofs.Emitted as ethernet_header
 use Rattle.wire_link.specs.Ethernet as ethernet
 use Rattle.wire_link.specs.declared.EthernetRepr.{EthernetRepr}
-
--- the part of so many bytes that stands behind a header
-part-behind : (bytes q rest : List ℕ) (from : ℕ) → drop from bytes ≡ q ++ rest → take (length q) (drop from bytes) ≡ q
-part-behind bytes q rest from e = ap (take (length q)) e ∙ take-append_seam q rest
 
 -- a packet that is written is read, whatever stands behind what it carries
 pub reads_packet : (w : IpRepr) (q rest : List ℕ) → IsInRange w → payload_len_of w ≡ length q → ReadsPacket (bytes_of w true ++ (q ++ rest)) (normal w)
@@ -36,18 +30,8 @@ reads_packet (Ipv6 w) q rest h is =
 -- and what it carries is found behind its header
 pub packet_payload-written : (w : IpRepr) (q rest : List ℕ) → IsInRange w → payload_len_of w ≡ length q
     → packet_payload (normal w) (bytes_of w true ++ (q ++ rest)) ≡ q
-packet_payload-written (Ipv4 w) q rest h is =
-    let bytes = bytes_of (Ipv4 w) true ++ (q ++ rest) in
-    let total : ipv4_header.total_len bytes ≡ 20 + length q = omega (arith, h.payload_len, is) in
-    let count : 20 + length q - 20 ≡ length q = omega arith in
-    let behind : drop 20 bytes ≡ q ++ rest = rw (cells-all 4 w.src_addr h.src_addr, cells-all 4 w.dst_addr h.dst_addr) refl in
-    rw (total, count) (part-behind bytes q rest 20 behind)
-packet_payload-written (Ipv6 w) q rest h is =
-    let bytes = bytes_of (Ipv6 w) true ++ (q ++ rest) in
-    let total : ipv6_header.total_len bytes ≡ 40 + length q = omega (arith, h.payload_len, is) in
-    let count : 40 + length q - 40 ≡ length q = omega arith in
-    let behind : drop 40 bytes ≡ q ++ rest = rw (cells-all 16 w.src_addr h.src_addr, cells-all 16 w.dst_addr h.dst_addr) refl in
-    rw (total, count) (part-behind bytes q rest 40 behind)
+packet_payload-written (Ipv4 w) q rest h is = ipv4_layer.written-payload w q rest h is
+packet_payload-written (Ipv6 w) q rest h is = ipv6_layer.written-payload w q rest h is
 
 -- the protocol of a packet that is read
 normal-next_header : (w : IpRepr) → next_header_of (normal w) ≡ protocol_of (number_of (next_header_of w))

@@ -1,8 +1,7 @@
 -- IPv6 is a layer.
-use Rattle.std.proofs.Common.{ℕ, ◌≡◌, ◌≤◌, ◌+◌, ◌-◌, List, ◌++◌, Some, drop, length, refl, sym, ap, ◌∙◌, arith}
-use Rattle.std.proofs.lemmas.Grind.{common_steps}
+use Rattle.std.proofs.Common.{ℕ, ◌≡◌, ◌≤◌, ◌+◌, ◌-◌, List, [], ◌++◌, Some, drop, length, refl, sym, ap, ◌∙◌, append-nil, arith}
 use Rattle.ip_wire.proofs.Frames.{ipv6_packet_of-read}
-use Rattle.ip_wire.proofs.Layers.{IsLayer, length-part, option_map-Some}
+use Rattle.ip_wire.proofs.Layers.{IsLayer, length-part, option_map-Some, part-behind}
 use Rattle.ip_wire.proofs.Numbers.{protocol_number}
 use Rattle.ip_wire.specs.Frame.{ipv6, ipv6_packet_of, with_len_ipv6}
 use Rattle.wire_field.proofs.Cells.{cells-all}
@@ -60,11 +59,12 @@ in_range bytes u v p q d fits =
 
 -- ---- the written bytes
 
-written-payload : (w : Ipv6Repr) (q : List ℕ) → IsInRange w → w.payload_len ≡ length q → payload_of (bytes_of w ++ q) ≡ q
-written-payload w q h is =
-    let total : total_len (bytes_of w ++ q) ≡ 40 + length q = omega (arith, h.payload_len, is) in
-    let behind : drop 40 (bytes_of w ++ q) ≡ q = rw (cells-all 16 w.src_addr h.src_addr, cells-all 16 w.dst_addr h.dst_addr) refl in
-    rw total (rw behind (grind (arith, common_steps)))
+pub written-payload : (w : Ipv6Repr) (q rest : List ℕ) → IsInRange w → w.payload_len ≡ length q → payload_of (bytes_of w ++ (q ++ rest)) ≡ q
+written-payload w q rest h is =
+    let bytes = bytes_of w ++ (q ++ rest) in
+    let total : total_len bytes ≡ 40 + length q = omega (arith, h.payload_len, is) in
+    let behind : drop 40 bytes ≡ q ++ rest = rw (cells-all 16 w.src_addr h.src_addr, cells-all 16 w.dst_addr h.dst_addr) refl in
+    part-behind bytes q rest 40 (total_len bytes) total behind
 
 length-written : (w : Ipv6Repr) (q : List ℕ) → IsInRange w → length (bytes_of w ++ q) ≡ 40 + length q
 length-written w q h = rw (cells-all 16 w.src_addr h.src_addr, cells-all 16 w.dst_addr h.dst_addr) (omega arith)
@@ -86,7 +86,8 @@ written-read bytes u v p q d fits =
     let h = in_range bytes u v p q d fits in
     let back = (ipv6_of-Reads (bytes_of w ++ q) (normal w)).1 (reads-bytes_of w q h (omega arith)) in
     ipv6_packet_of-read (bytes_of w ++ q) (normal w) back
-    ∙ ap (λ (rest : List ℕ). Some (normal (with_len_ipv6 u 0), rest)) (written-payload w q h refl)
+    ∙ ap (λ (rest : List ℕ). Some (normal (with_len_ipv6 u 0), rest))
+    (ap (λ (rest : List ℕ). payload_of (bytes_of w ++ rest)) (sym (append-nil q)) ∙ written-payload w q [] h refl)
 
 pub IsLayer-ipv6 : IsLayer ipv6
 IsLayer-ipv6 = record {
