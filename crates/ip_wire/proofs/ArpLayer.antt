@@ -70,11 +70,3 @@ IsLayer-arp = record {
       let nothing = ap length none in
       omega (arith, written, whole, nothing);
 }
-
--- ---- what a frame carries, rebuilt
-
-pub rebuilt-arp : (bytes : List ℕ) (v : ArpRepr) → arp_of bytes ≡ Some v → rebuilt_payload ethertype.Arp bytes ≡ bytes_of v
-rebuilt-arp bytes v e = rw e refl
-
-pub rebuilt-arp-copied : (bytes : List ℕ) → arp_of bytes ≡ None → rebuilt_payload ethertype.Arp bytes ≡ bytes
-rebuilt-arp-copied bytes e = rw e refl

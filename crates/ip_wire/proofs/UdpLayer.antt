@@ -6,9 +6,10 @@ use Rattle.wire_ends.specs.declared.IpAddress.{IpAddress}
 use Rattle.wire_ipv4.specs.PseudoHeader.{octets_of}
 use Rattle.wire_ipv4.specs.declared.IpProtocol.{IpProtocol}
 use Rattle.wire_ipv4.specs.declared.IpProtocol.TheVariants as protocol
+use Rattle.wire_udp.proofs.UdpComputed as computed
 use Rattle.wire_udp.proofs.UdpComputed.{udp_of-Reads}
 use Rattle.wire_udp.proofs.UdpReadsBack.{IsInRange, reads-bytes_of}
-use Rattle.wire_udp.specs.Udp.{Reads, bytes_of, packet_len, payload_of, udp_of}
+use Rattle.wire_udp.specs.Udp.{HasLengths, Reads, bytes_of, has_lengths, packet_len, payload_of, udp_of}
 use Rattle.wire_udp.specs.declared.UdpRepr.{UdpRepr}
 
 -- the octets of both addresses are whole words
@@ -100,3 +101,10 @@ length-rebuilt_by src dst bytes (Some (v, p)) e =
 pub length-rebuilt_between : (t : IpProtocol) (src dst : IpAddress) (bytes : List ℕ) → length (rebuilt_between t src dst bytes) ≤ length bytes
 length-rebuilt_between protocol.Udp src dst bytes = length-rebuilt_by src dst bytes (udp_packet_of src dst bytes) refl
 length-rebuilt_between _ src dst bytes = omega arith
+
+-- the test of the lengths says what it is named for
+pub has_lengths-HasLengths : (bytes : List ℕ) → has_lengths bytes ≡ true → HasLengths bytes
+has_lengths-HasLengths = computed.has_lengths-HasLengths
+
+pub HasLengths-has_lengths : (bytes : List ℕ) → HasLengths bytes → has_lengths bytes ≡ true
+HasLengths-has_lengths = computed.HasLengths-has_lengths

@@ -13,7 +13,7 @@ use Rattle.wire_udp.specs.Udp.{HasChecksum, HasLengths, Reads, has_checksum, has
 use Rattle.wire_udp.specs.declared.udp.repr.UdpRepr.{UdpRepr}
 
 -- the tests say what they are named for
-has_lengths-HasLengths : (bytes : List ℕ) → has_lengths bytes ≡ true → HasLengths bytes
+pub has_lengths-HasLengths : (bytes : List ℕ) → has_lengths bytes ≡ true → HasLengths bytes
 has_lengths-HasLengths bytes h = record {
   least = grind (arith, nat_tests);
   header = grind (arith, nat_tests);
