@@ -8,6 +8,7 @@ ghost use Rattle.ip_wire.specs.declared.EthernetProtocol.TheVariants.{Arp, Ipv4,
 ghost use Rattle.ip_wire.specs.declared.IpProtocol.TheVariants.{Udp};
 ghost use Rattle.ip_wire_c.specs.Calls.{Fills};
 
+use crate::payload::is_fragment;
 use crate::{arp, udp};
 use ip_wire::{
     ArpPacket, ArpRepr, ETHERNET_HEADER_LEN, EthernetFrame, EthernetFrameMut, EthernetProtocol,
@@ -74,7 +75,7 @@ fn rebuild_ipv4(bytes: &[u8], out: &mut [u8]) -> Option<usize>
 {
     let packet = Ipv4Packet::new_unchecked(bytes);
     match Ipv4Repr::parse(&packet, &ChecksumCapabilities::default()) {
-        Ok(header) if !packet.more_frags() && packet.frag_offset() == 0 => {
+        Ok(header) if !is_fragment(&packet) => {
             rebuild_packet(IpRepr::Ipv4(header), packet.payload(), out)
         }
         _ => copy(bytes, out),
