@@ -61,9 +61,8 @@ size_t lk_ipv6_print(const uint8_t *octets, uint8_t *out, size_t cap);
  * IPv4 options, an IPv6 traffic class and flow label, and padding are dropped. What is not read as an
  * ARP packet of Ethernet and IPv4, as an IPv6 packet, or as an IPv4 packet whose checksum holds and that
  * is no fragment, stays as it stands; so does in a packet what is not read as a UDP packet whose checksum
- * holds. Answers the length, which is
- * never more than `len`; 0 where it doesn't fit into `cap` octets or `len` is less than 14, and then
- * nothing is written. */
+ * holds. Answers the length, which is never more than `len`; 0 where it doesn't fit into `cap` octets or
+ * `len` is less than 14, and then nothing is written. */
 size_t lk_rebuild(const uint8_t *ptr, size_t len, uint8_t *out, size_t cap);
 
 #endif
