@@ -17,8 +17,8 @@ uint16_t lk_checksum(const uint8_t *ptr, size_t len);
  * those, and answers the length of the innermost payload plus 1; 0 where a header is refused, or the
  * frame is of another type. The payload of a packet of another protocol, or of a fragment, is not looked
  * into: it counts as it stands; an ARP packet has none. IPv4 options are read over, and IPv6 extension
- * headers belong to the payload. Checksums are verified unless `checked` is 0. */
-uint32_t lk_parse(const uint8_t *ptr, size_t len, uint8_t checked);
+ * headers belong to the payload. Checksums are verified unless `verified` is 0. */
+uint32_t lk_parse(const uint8_t *ptr, size_t len, uint8_t verified);
 
 /* Writes an ARP packet of Ethernet and IPv4, 28 octets, to the front of `out`, and answers 28; 0 where
  * `cap` is less, and then nothing is written. A request is operation 1, a reply 2; a hardware address is
@@ -30,9 +30,9 @@ size_t lk_emit_arp(uint16_t operation, const uint8_t *source_hardware_addr,
 /* Writes an IPv4 header of 20 octets, without options, for `payload_len` octets to the front of
  * `out`, and answers 20; 0 where `cap` is less than 20 or `payload_len` more than 65515, and then
  * nothing is written. Addresses are numbers: 192.168.1.1 is 0xc0a80101. The flag "don't fragment" is
- * set; the checksum is computed unless `checked` is 0, and then it is 0. */
+ * set; the checksum is computed unless `computed` is 0, and then it is 0. */
 size_t lk_emit_ipv4(uint32_t src_addr, uint32_t dst_addr, uint8_t protocol, uint8_t hop_limit,
-                    size_t payload_len, uint8_t checked, uint8_t *out, size_t cap);
+                    size_t payload_len, uint8_t computed, uint8_t *out, size_t cap);
 
 /* Writes an IPv6 header of 40 octets for `payload_len` octets to the front of `out`, and answers 40; 0
  * where `cap` is less than 40 or `payload_len` more than 65535, and then nothing is written. An address
@@ -43,13 +43,13 @@ size_t lk_emit_ipv6(const uint8_t *src_addr, const uint8_t *dst_addr, uint8_t ne
 /* Writes a UDP header and the `len` octets at `ptr` behind it, to be carried by IPv4 between these two
  * addresses, to the front of `out`, and answers the length of both; 0 where they don't fit into `cap`
  * octets or `len` is more than 65527, and then nothing is written. The checksum is computed unless
- * `checked` is 0, and then it is 0. */
+ * `computed` is 0, and then it is 0. */
 size_t lk_emit_udp_ipv4(uint32_t src_addr, uint32_t dst_addr, uint16_t src_port, uint16_t dst_port,
-                        const uint8_t *ptr, size_t len, uint8_t checked, uint8_t *out, size_t cap);
+                        const uint8_t *ptr, size_t len, uint8_t computed, uint8_t *out, size_t cap);
 
 /* The same over IPv6, whose addresses are 16 octets each. A receiver refuses a checksum of 0 there. */
 size_t lk_emit_udp_ipv6(const uint8_t *src_addr, const uint8_t *dst_addr, uint16_t src_port,
-                        uint16_t dst_port, const uint8_t *ptr, size_t len, uint8_t checked,
+                        uint16_t dst_port, const uint8_t *ptr, size_t len, uint8_t computed,
                         uint8_t *out, size_t cap);
 
 /* Writes the text of the IPv6 address of these 16 octets (RFC 5952) to the front of `out`, with no null

@@ -1,9 +1,8 @@
 //! The line of an ARP packet, and the packet built again.
 
-ghost use Rattle.std.specs.Prelude.{◌≡◌, ◌≤◌, ◌++◌, OnOk, drop, length, string_bytes};
-ghost use Rattle.ip_frames.specs.Output.{ended};
+ghost use Rattle.std.specs.Prelude.{◌≡◌, ◌≤◌, ◌++◌, OnOk, drop, length};
+ghost use Rattle.ip_frames.specs.Output.{AddsBytes, AddsText, payload_lines};
 ghost use Rattle.ip_wire.specs.Arp.{bytes_of};
-ghost use Rattle.ip_wire.specs.ArpText.{packet_text};
 ghost use Rattle.ip_wire.specs.Frame.{rebuilt_payload};
 ghost use Rattle.ip_wire.specs.declared.EthernetProtocol.TheVariants.{Arp};
 
@@ -12,8 +11,8 @@ use std::alloc::AllocError;
 
 /// Appends the line of a packet to `text`, and its bytes built again to `again`.
 pub fn push_packet(bytes: &[u8], text: &mut String, again: &mut Vec<u8>) -> Result<(), AllocError>
-    ensures lines { OnOk result (string_bytes text.new ≡ string_bytes text.old ++ ended (packet_text bytes.now)) }
-    ensures again { OnOk result (again.new.items ≡ again.old.items ++ rebuilt_payload Arp bytes.now) }
+    ensures lines { OnOk result (AddsText text.old text.new (payload_lines Arp bytes.now)) }
+    ensures again { OnOk result (AddsBytes again.old again.new (rebuilt_payload Arp bytes.now)) }
 {
     let packet = ArpPacket::new_unchecked(bytes);
     writeln!(text, "{packet}")?;
@@ -25,7 +24,7 @@ pub fn push_packet(bytes: &[u8], text: &mut String, again: &mut Vec<u8>) -> Resu
 
 // Appends a packet with these values.
 fn push_value(value: ArpRepr, again: &mut Vec<u8>) -> Result<(), AllocError>
-    ensures { OnOk result (again.new.items ≡ again.old.items ++ bytes_of value) }
+    ensures { OnOk result (AddsBytes again.old again.new (bytes_of value)) }
 {
     let start = again.len();
     again.resize(start + value.buffer_len(), 0)?;

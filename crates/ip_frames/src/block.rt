@@ -1,7 +1,7 @@
 //! The block of output lines of one input line, and the frame built again.
 
-ghost use Rattle.std.specs.Prelude.{◌≡◌, ◌≤◌, ◌++◌, OnOk, drop, length, string_bytes};
-ghost use Rattle.ip_frames.specs.Output.{again_line, block_of, frame_lines, payload_lines};
+ghost use Rattle.std.specs.Prelude.{◌≡◌, ◌≤◌, ◌++◌, OnOk, drop, length};
+ghost use Rattle.ip_frames.specs.Output.{AddsBytes, AddsText, again_line, block_of, frame_lines, payload_lines};
 ghost use Rattle.ip_wire.specs.Ethernet.{bytes_of};
 ghost use Rattle.ip_wire.specs.Frame.{rebuilt_payload};
 
@@ -14,7 +14,7 @@ use std::alloc::{AllocError, Global};
 
 /// Appends the block of an input line to `text`.
 pub fn push_block(alloc: Global, line: &[u8], text: &mut String) -> Result<(), AllocError>
-    ensures { OnOk result (string_bytes text.new ≡ string_bytes text.old ++ block_of line.now) }
+    ensures { OnOk result (AddsText text.old text.new (block_of line.now)) }
 {
     match hex::decode(alloc, line) {
         Ok(frame) => push_frame(alloc, frame.as_slice(), text)?,
@@ -26,7 +26,7 @@ pub fn push_block(alloc: Global, line: &[u8], text: &mut String) -> Result<(), A
 
 // Appends the lines of a frame, the last of them with the frame built again.
 fn push_frame(alloc: Global, bytes: &[u8], text: &mut String) -> Result<(), AllocError>
-    ensures { OnOk result (string_bytes text.new ≡ string_bytes text.old ++ frame_lines bytes.now) }
+    ensures { OnOk result (AddsText text.old text.new (frame_lines bytes.now)) }
 {
     let frame = EthernetFrame::new_unchecked(bytes);
     writeln!(text, "{frame}")?;
@@ -43,8 +43,8 @@ fn push_frame(alloc: Global, bytes: &[u8], text: &mut String) -> Result<(), Allo
 
 // Writes a header over the front of `bytes`.
 fn emit_header(header: &EthernetRepr, bytes: &mut [u8])
-    requires { 14 ≤ length bytes.old }
-    ensures { bytes.new ≡ bytes_of header.now ++ drop 14 bytes.old }
+    requires { ETHERNET_HEADER_LEN ≤ length bytes.old }
+    ensures { bytes.new ≡ bytes_of header.now ++ drop ETHERNET_HEADER_LEN bytes.old }
 {
     header.emit(&mut EthernetFrameMut::new_unchecked(bytes));
 }
@@ -52,7 +52,7 @@ fn emit_header(header: &EthernetRepr, bytes: &mut [u8])
 // Appends the line with a frame built again.
 #[tactic(auto, unfolding(crate::specs::Output::again_line))]
 fn push_again(alloc: Global, again: &[u8], text: &mut String) -> Result<(), AllocError>
-    ensures { OnOk result (string_bytes text.new ≡ string_bytes text.old ++ again_line again.now) }
+    ensures { OnOk result (AddsText text.old text.new (again_line again.now)) }
 {
     let digits = hex::encode(alloc, again)?;
     writeln!(text, "again {digits}")
@@ -66,8 +66,8 @@ fn push_payload(
     text: &mut String,
     again: &mut Vec<u8>,
 ) -> Result<(), AllocError>
-    ensures lines { OnOk result (string_bytes text.new ≡ string_bytes text.old ++ payload_lines ethertype bytes.now) }
-    ensures again { OnOk result (again.new.items ≡ again.old.items ++ rebuilt_payload ethertype bytes.now) }
+    ensures lines { OnOk result (AddsText text.old text.new (payload_lines ethertype bytes.now)) }
+    ensures again { OnOk result (AddsBytes again.old again.new (rebuilt_payload ethertype bytes.now)) }
 {
     match ethertype {
         EthernetProtocol::Ipv4 => ipv4::push_packet(bytes, text, again),

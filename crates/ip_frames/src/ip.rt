@@ -1,7 +1,7 @@
 //! What an IP packet of either version carries, and the packet built again.
 
-ghost use Rattle.std.specs.Prelude.{◌≡◌, ◌≤◌, ◌++◌, OnOk, length, string_bytes};
-ghost use Rattle.ip_frames.specs.Output.{transport_lines};
+ghost use Rattle.std.specs.Prelude.{◌≤◌, OnOk, length};
+ghost use Rattle.ip_frames.specs.Output.{AddsBytes, AddsText, transport_lines};
 ghost use Rattle.ip_wire.specs.Frame.{rebuilt_packet, rebuilt_transport};
 ghost use Rattle.ip_wire.specs.Ip.{max_payload_len};
 
@@ -19,8 +19,8 @@ pub fn push_inner(
     again: &mut Vec<u8>,
 ) -> Result<(), AllocError>
     requires { length payload.now ≤ max_payload_len header }
-    ensures lines { OnOk result (string_bytes text.new ≡ string_bytes text.old ++ transport_lines header payload.now) }
-    ensures again { OnOk result (again.new.items ≡ again.old.items ++ rebuilt_packet header payload.now) }
+    ensures lines { OnOk result (AddsText text.old text.new (transport_lines header payload.now)) }
+    ensures again { OnOk result (AddsBytes again.old again.new (rebuilt_packet header payload.now)) }
 {
     let start = again.len();
     again.resize(start + header.header_len(), 0)?;
@@ -38,13 +38,11 @@ fn push_transport(
     text: &mut String,
     again: &mut Vec<u8>,
 ) -> Result<(), AllocError>
-    ensures lines { OnOk result (string_bytes text.new ≡ string_bytes text.old ++ transport_lines header.now payload.now) }
-    ensures again { OnOk result (again.new.items ≡ again.old.items ++ rebuilt_transport header.now payload.now) }
+    ensures lines { OnOk result (AddsText text.old text.new (transport_lines header.now payload.now)) }
+    ensures again { OnOk result (AddsBytes again.old again.new (rebuilt_transport header.now payload.now)) }
 {
     match header.next_header() {
-        IpProtocol::Udp => {
-            udp::push_packet(&header.src_addr(), &header.dst_addr(), payload, text, again)
-        }
+        IpProtocol::Udp => udp::push_packet(header, payload, text, again),
         _ => again.extend_from_slice(payload),
     }
 }

@@ -1,9 +1,9 @@
 //! The lines of an IPv4 packet, and the packet built again.
 
-ghost use Rattle.std.specs.Prelude.{◌≡◌, ◌≤◌, ◌++◌, OnOk, false, length, string_bytes, true};
-ghost use Rattle.ip_frames.specs.Output.{checksum_note, fragment_line, packet_lines};
+ghost use Rattle.std.specs.Prelude.{◌≡◌, OnOk, false};
+ghost use Rattle.ip_frames.specs.Output.{AddsBytes, AddsText, checksum_note, fragment_line, payload_lines};
 ghost use Rattle.ip_wire.specs.Frame.{rebuilt_payload};
-ghost use Rattle.ip_wire.specs.Ipv4.{ipv4_of, is_fragment, packet_bytes};
+ghost use Rattle.ip_wire.specs.Ipv4.{ipv4_of, packet_bytes};
 ghost use Rattle.ip_wire.specs.declared.EthernetProtocol.TheVariants.{Ipv4};
 
 use crate::ip::push_inner;
@@ -13,16 +13,15 @@ use std::alloc::AllocError;
 
 /// Appends the lines of a packet to `text`, and its bytes built again to `again`.
 pub fn push_packet(bytes: &[u8], text: &mut String, again: &mut Vec<u8>) -> Result<(), AllocError>
-    ensures lines { OnOk result (string_bytes text.new
-        ≡ string_bytes text.old ++ packet_lines (ipv4_of true bytes.now) (ipv4_of false bytes.now) bytes.now) }
-    ensures again { OnOk result (again.new.items ≡ again.old.items ++ rebuilt_payload Ipv4 bytes.now) }
+    ensures lines { OnOk result (AddsText text.old text.new (payload_lines Ipv4 bytes.now)) }
+    ensures again { OnOk result (AddsBytes again.old again.new (rebuilt_payload Ipv4 bytes.now)) }
 {
     let packet = Ipv4Packet::new_unchecked(bytes);
     write!(text, "{packet}")?;
     match Ipv4Repr::parse(&packet, &ChecksumCapabilities::default()) {
         Ok(header) => {
             text.push('\n')?;
-            if is_fragment(&packet) {
+            if packet.is_fragment() {
                 push_fragment_line(
                     packet.frag_offset(),
                     packet.more_frags(),
@@ -52,18 +51,10 @@ fn checksum_note(packet: &Ipv4Packet<'_>) -> &'static str
     }
 }
 
-// Whether a packet is a fragment: others follow it, or it isn't the first.
-fn is_fragment(packet: &Ipv4Packet<'_>) -> bool
-    requires { 8 ≤ length (packet_bytes packet.now) }
-    ensures { result ≡ is_fragment (packet_bytes packet.now) }
-{
-    packet.more_frags() || packet.frag_offset() != 0
-}
-
 // Appends the line on a fragment.
 #[tactic(auto, unfolding(crate::specs::Output::fragment_line))]
 fn push_fragment_line(offset: u16, more: bool, id: u16, text: &mut String) -> Result<(), AllocError>
-    ensures { OnOk result (string_bytes text.new ≡ string_bytes text.old ++ fragment_line offset more id) }
+    ensures { OnOk result (AddsText text.old text.new (fragment_line offset more id)) }
 {
     writeln!(text, "fragment offset={offset} more={more} id={id}")
 }

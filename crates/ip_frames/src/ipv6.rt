@@ -1,9 +1,8 @@
 //! The lines of an IPv6 packet, and the packet built again.
 
-ghost use Rattle.std.specs.Prelude.{◌≡◌, ◌++◌, OnOk, drop, string_bytes};
-ghost use Rattle.ip_frames.specs.Output.{fragment_header_line, ipv6_lines};
+ghost use Rattle.std.specs.Prelude.{◌≡◌, OnOk, drop};
+ghost use Rattle.ip_frames.specs.Output.{AddsBytes, AddsText, fragment_header_line, payload_lines};
 ghost use Rattle.ip_wire.specs.Frame.{rebuilt_payload};
-ghost use Rattle.ip_wire.specs.Ipv6.{ipv6_of};
 ghost use Rattle.ip_wire.specs.declared.EthernetProtocol.TheVariants.{Ipv6};
 
 use crate::ip::push_inner;
@@ -12,8 +11,8 @@ use std::alloc::AllocError;
 
 /// Appends the lines of a packet to `text`, and its bytes built again to `again`.
 pub fn push_packet(bytes: &[u8], text: &mut String, again: &mut Vec<u8>) -> Result<(), AllocError>
-    ensures lines { OnOk result (string_bytes text.new ≡ string_bytes text.old ++ ipv6_lines (ipv6_of bytes.now) bytes.now) }
-    ensures again { OnOk result (again.new.items ≡ again.old.items ++ rebuilt_payload Ipv6 bytes.now) }
+    ensures lines { OnOk result (AddsText text.old text.new (payload_lines Ipv6 bytes.now)) }
+    ensures again { OnOk result (AddsBytes again.old again.new (rebuilt_payload Ipv6 bytes.now)) }
 {
     let packet = Ipv6Packet::new_unchecked(bytes);
     writeln!(text, "{packet}")?;
@@ -33,7 +32,7 @@ pub fn push_packet(bytes: &[u8], text: &mut String, again: &mut Vec<u8>) -> Resu
 // two bytes, the next header and a reserved one.
 #[tactic(auto, unfolding(crate::specs::Output::fragment_header_line))]
 fn push_fragment_line(payload: &[u8], text: &mut String) -> Result<(), AllocError>
-    ensures { OnOk result (string_bytes text.new ≡ string_bytes text.old ++ fragment_header_line payload.now) }
+    ensures { OnOk result (AddsText text.old text.new (fragment_header_line payload.now)) }
 {
     let header = Ipv6FragmentHeader::new_unchecked(after_two(payload));
     writeln!(text, "{header}")

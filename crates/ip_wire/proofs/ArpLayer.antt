@@ -1,16 +1,15 @@
 -- ARP is a layer.
-use Rattle.std.proofs.Common.{ℕ, ◌≡◌, ◌≤◌, ◌^◌, ◌<◌, List, [], ◌∷◌, Some, None, length, refl, sym, ap, subst, ◌∙◌, append-nil, arith}
+use Rattle.std.proofs.Common.{ℕ, ◌≡◌, ◌≤◌, ◌^◌, ◌<◌, List, [], ◌∷◌, Some, length, refl, sym, ap, subst, ◌∙◌, append-nil, arith}
 use Rattle.ip_wire.proofs.Layers.{IsLayer, length-part, option_map-Some}
 use Rattle.ip_wire.proofs.Numbers.{operation_number-of}
-use Rattle.ip_wire.specs.Frame.{arp, rebuilt_payload}
+use Rattle.ip_wire.specs.Frame.{arp}
 use Rattle.wire_field.proofs.Cells.{cells-all}
 use Rattle.wire_field.specs.Field.{field}
-use Rattle.wire_link.proofs.ArpComputed.{arp_of-Reads}
-use Rattle.wire_link.proofs.ArpEmitted.{IsInRange, reads-bytes_of}
-use Rattle.wire_link.specs.Arp.{Reads, arp_of, bytes_of, known_operation, normal, operation_number, operation_of, value_of}
-use Rattle.wire_link.specs.declared.ArpRepr.{ArpRepr}
-use Rattle.wire_link.specs.declared.ArpRepr.TheVariants.{EthernetIpv4}
-use Rattle.wire_link.specs.declared.EthernetProtocol.TheVariants as ethertype
+use Rattle.wire_arp.proofs.ArpComputed.{arp_of-Reads}
+use Rattle.wire_arp.proofs.ArpEmitted.{IsInRange, reads-bytes_of}
+use Rattle.wire_arp.specs.Arp.{Reads, arp_of, bytes_of, known_operation, normal, operation_number, operation_of, value_of}
+use Rattle.wire_arp.specs.declared.ArpRepr.{ArpRepr}
+use Rattle.wire_arp.specs.declared.ArpRepr.TheVariants.{EthernetIpv4}
 
 -- what reading says
 pub read-Reads : (bytes : List ℕ) (v : ArpRepr) (p : List ℕ) → arp.read bytes ≡ Some (v, p) → Reads bytes v × (p ≡ [])

@@ -5,18 +5,18 @@ use Rattle.ip_wire.proofs.Ipv4Layer as ipv4_layer
 use Rattle.ip_wire.proofs.Ipv6Layer as ipv6_layer
 use Rattle.ip_wire.specs.Frame.{IsReadWhole, ReadsCarried, ReadsPacket, ReadsTransport, Transport, datagram, packet, packet_payload, type_of}
 use Rattle.wire_ip.proofs.IpReadsBack.{IsInRange}
-use Rattle.wire_ip.proofs.Ipv6ReadsBack as ipv6
+use Rattle.wire_ipv6.proofs.Ipv6ReadsBack as ipv6
 use Rattle.wire_udp.proofs.UdpReadsBack as udp
 use Rattle.wire_udp.specs.Udp as udp_header
 use Rattle.wire_udp.specs.declared.UdpRepr.{UdpRepr}
 use Rattle.wire_ip.specs.Ip.{bytes_of, dst_addr_of, next_header_of, normal, payload_len_of, src_addr_of}
 use Rattle.wire_ip.specs.declared.IpRepr.{IpRepr}
 use Rattle.wire_ip.specs.declared.IpRepr.TheVariants.{Ipv4, Ipv6}
-use Rattle.wire_ipv4.proofs.ReadsBack as ipv4
-use Rattle.wire_ipv4.specs.Protocol.{number_of, protocol_of}
-use Rattle.wire_link.proofs.Emitted as ethernet_header
-use Rattle.wire_link.specs.Ethernet as ethernet
-use Rattle.wire_link.specs.declared.EthernetRepr.{EthernetRepr}
+use Rattle.wire_ipv4.proofs.Ipv4ReadsBack as ipv4
+use Rattle.wire_ends.specs.Protocol.{number_of, protocol_of}
+use Rattle.wire_ethernet.proofs.EthernetEmitted as ethernet_header
+use Rattle.wire_ethernet.specs.Ethernet as ethernet
+use Rattle.wire_ethernet.specs.declared.EthernetRepr.{EthernetRepr}
 
 -- a packet that is written is read, whatever stands behind what it carries
 pub reads_packet : (w : IpRepr) (q rest : List ℕ) → IsInRange w → payload_len_of w ≡ length q → ReadsPacket (bytes_of w true ++ (q ++ rest)) (normal w)

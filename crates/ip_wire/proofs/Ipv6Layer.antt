@@ -6,12 +6,12 @@ use Rattle.ip_wire.proofs.Numbers.{protocol_number}
 use Rattle.ip_wire.specs.Frame.{ipv6, ipv6_packet_of, with_len_ipv6}
 use Rattle.wire_field.proofs.Cells.{cells-all}
 use Rattle.wire_field.specs.Field.{field}
-use Rattle.wire_ip.proofs.Ipv6Computed.{ipv6_of-Reads}
-use Rattle.wire_ip.proofs.Ipv6Emitted.{IsInRange}
-use Rattle.wire_ip.proofs.Ipv6ReadsBack.{reads-bytes_of}
-use Rattle.wire_ip.specs.Ipv6.{Reads, bytes_of, ipv6_of, normal, payload_of, total_len}
-use Rattle.wire_ip.specs.declared.Ipv6Repr.{Ipv6Repr}
-use Rattle.wire_ipv4.specs.Protocol.{number_of, protocol_of}
+use Rattle.wire_ipv6.proofs.Ipv6Computed.{ipv6_of-Reads}
+use Rattle.wire_ipv6.proofs.Ipv6Emitted.{IsInRange}
+use Rattle.wire_ipv6.proofs.Ipv6ReadsBack.{reads-bytes_of}
+use Rattle.wire_ipv6.specs.Ipv6.{Reads, bytes_of, ipv6_of, normal, payload_of, total_len}
+use Rattle.wire_ipv6.specs.declared.Ipv6Repr.{Ipv6Repr}
+use Rattle.wire_ends.specs.Protocol.{number_of, protocol_of}
 
 -- what reading says: a whole header, and the payload that it speaks of
 pub record IsPacket (bytes : List ℕ) (u v : Ipv6Repr) (p : List ℕ) : Type 0 where

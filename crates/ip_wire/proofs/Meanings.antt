@@ -3,26 +3,26 @@ use Rattle.std.proofs.Common.{ℕ, ◌≡◌, ◌≢◌, ◌∙◌, true, List, 
 use Rattle.std.specs.Prelude.{⊤}
 use Rattle.ip_wire.proofs.ArpLayer as arp_layer
 use Rattle.ip_wire.proofs.EthernetLayer.{read-Reads}
-use Rattle.ip_wire.proofs.Frames.{datagram_of-whole, ipv6_packet_of-read}
-use Rattle.ip_wire.proofs.Ipv4Layer.{datagram_of-IsDatagram}
+use Rattle.ip_wire.proofs.Frames.{ipv4_packet_of-whole, ipv6_packet_of-read}
+use Rattle.ip_wire.proofs.Ipv4Layer.{ipv4_packet_of-IsIpv4Packet}
 use Rattle.ip_wire.proofs.Ipv6Layer.{ipv6_packet_of-IsPacket}
 use Rattle.ip_wire.proofs.Layers.{meaning_by-parts, option_map-Some}
 use Rattle.ip_wire.proofs.UdpLayer.{Reads-udp_packet_of, udp_packet_of-Reads}
 use Rattle.ip_wire.specs.Frame.{Carried, IsReadWhole, Meaning, ReadsBetween, ReadsCarried, ReadsTransport, Transport, arp, datagram, ethernet, ipv4, ipv4_payload, ipv6, meaning_as, meaning_between, meaning_of, message, normal_carried, other, packet, payload_meaning, transport_meaning, udp, with_len, with_len_ipv6}
 use Rattle.ip_wire.specs.Layer.{meaning_by}
 use Rattle.wire_ends.specs.declared.IpAddress.{IpAddress}
-use Rattle.wire_ip.proofs.Ipv6Computed.{ipv6_of-Reads}
-use Rattle.wire_ip.specs.Ipv6.{payload_of}
+use Rattle.wire_ipv6.proofs.Ipv6Computed.{ipv6_of-Reads}
+use Rattle.wire_ipv6.specs.Ipv6.{payload_of}
 use Rattle.wire_ip.specs.declared.IpRepr.{IpRepr}
 use Rattle.wire_ip.specs.declared.IpRepr.TheVariants.{Ipv4, Ipv6}
-use Rattle.wire_ipv4.proofs.Computed.{ipv4_of-Reads}
-use Rattle.wire_ipv4.specs.declared.IpProtocol.{IpProtocol}
-use Rattle.wire_ipv4.specs.declared.IpProtocol.TheVariants as protocol
-use Rattle.wire_link.proofs.ArpComputed.{arp_of-Reads}
-use Rattle.wire_link.proofs.Computed.{ethernet_of-Reads}
-use Rattle.wire_link.specs.declared.EthernetRepr.{EthernetRepr}
-use Rattle.wire_link.specs.declared.EthernetProtocol.{EthernetProtocol}
-use Rattle.wire_link.specs.declared.EthernetProtocol.TheVariants as ethertype
+use Rattle.wire_ipv4.proofs.Ipv4Computed.{ipv4_of-Reads}
+use Rattle.wire_ends.specs.declared.IpProtocol.{IpProtocol}
+use Rattle.wire_ends.specs.declared.IpProtocol.TheVariants as protocol
+use Rattle.wire_arp.proofs.ArpComputed.{arp_of-Reads}
+use Rattle.wire_ethernet.proofs.EthernetComputed.{ethernet_of-Reads}
+use Rattle.wire_ethernet.specs.declared.EthernetRepr.{EthernetRepr}
+use Rattle.wire_ethernet.specs.declared.EthernetProtocol.{EthernetProtocol}
+use Rattle.wire_ethernet.specs.declared.EthernetProtocol.TheVariants as ethertype
 use Rattle.wire_udp.specs.declared.UdpRepr.{UdpRepr}
 
 -- ---- what a packet carries
@@ -61,7 +61,7 @@ payload_meaning-read : (t : EthernetProtocol) (bytes : List ℕ) (m : Carried) �
 payload_meaning-read t bytes (message v) (type, read) =
     let is = (arp_of-Reads bytes v).1 read in rw (type, is) refl
 payload_meaning-read t bytes (packet (Ipv4 w) u) (type, (read, whole), inner) =
-    let header = datagram_of-whole bytes w ((ipv4_of-Reads true bytes w).1 read) whole in
+    let header = ipv4_packet_of-whole bytes w ((ipv4_of-Reads true bytes w).1 read) whole in
     let carried = meaning_between-read _ _ _ _ u inner in
     rw (type, header, carried) refl
 payload_meaning-read t bytes (packet (Ipv6 w) u) (type, read, inner) =
@@ -88,7 +88,7 @@ payload_meaning-only : (t : EthernetProtocol) (bytes : List ℕ) (m : Carried) �
 payload_meaning-only ethertype.Ipv4 bytes m e =
     let (n, is, _) = option_map-Some (λ d. packet (Ipv4 d.0) d.1) (meaning_by ipv4 (λ v. transport_meaning (Ipv4 v)) bytes) m e in
     let (v, p, u, read, carried, _) = meaning_by-parts ipv4 (λ v. transport_meaning (Ipv4 v)) bytes n is in
-    let (w, d) = datagram_of-IsDatagram bytes v p read in
+    let (w, d) = ipv4_packet_of-IsIpv4Packet bytes v p read in
     let inner = carried-only Ipv4 (with_len w 0) v (ipv4_payload bytes) p u d.header d.payload carried in
     (packet (Ipv4 w) u, (refl, (d.reads, d.whole), inner))
 payload_meaning-only ethertype.Ipv6 bytes m e =

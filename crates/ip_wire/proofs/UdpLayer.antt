@@ -3,9 +3,9 @@ use Rattle.std.proofs.Common.{ℕ, ◌≡◌, ◌≤◌, ◌+◌, ◌-◌, ◌%�
 use Rattle.ip_wire.proofs.Layers.{IsLayer, length-part, option_map-Some, rebuilt_by-None, rebuilt_by-Some}
 use Rattle.ip_wire.specs.Frame.{rebuilt_between, udp, udp_packet_of}
 use Rattle.wire_ends.specs.declared.IpAddress.{IpAddress}
-use Rattle.wire_ipv4.specs.PseudoHeader.{octets_of}
-use Rattle.wire_ipv4.specs.declared.IpProtocol.{IpProtocol}
-use Rattle.wire_ipv4.specs.declared.IpProtocol.TheVariants as protocol
+use Rattle.wire_ends.specs.IpAddress.{octets_of}
+use Rattle.wire_ends.specs.declared.IpProtocol.{IpProtocol}
+use Rattle.wire_ends.specs.declared.IpProtocol.TheVariants as protocol
 use Rattle.wire_udp.proofs.UdpComputed as computed
 use Rattle.wire_udp.proofs.UdpComputed.{udp_of-Reads}
 use Rattle.wire_udp.proofs.UdpReadsBack.{IsInRange, reads-bytes_of}

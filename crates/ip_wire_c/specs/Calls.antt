@@ -46,8 +46,8 @@ emitted_len header room = if is_emitted header room then header_len_of header el
 
 -- the bytes with the header at their front, where it is written
 abbrev pub emitted : IpRepr → Bool → List ℕ → List ℕ
-emitted header checked old =
-    if is_emitted header (length old) then bytes_of header checked ++ drop (header_len_of header) old else old
+emitted header computed old =
+    if is_emitted header (length old) then bytes_of header computed ++ drop (header_len_of header) old else old
 
 -- the values of an IPv4 header, by numbers
 abbrev pub ipv4_header : ℕ → ℕ → ℕ → ℕ → ℕ → IpRepr
@@ -75,7 +75,7 @@ udp_header src_port dst_port = record { src_port = src_port; dst_port = dst_port
 
 -- whether UDP can carry a payload of this length, and the packet fits into so many bytes
 abbrev pub is_sent : ℕ → ℕ → Bool
-is_sent payload_len room = nat_le payload_len 65527 && nat_le (8 + payload_len) room
+is_sent payload_len room = nat_le payload_len udp.max_payload_len && nat_le (8 + payload_len) room
 
 -- the length of a packet that is written into so many bytes, and 0 where none is
 abbrev pub sent_len : ℕ → ℕ → ℕ
@@ -83,8 +83,8 @@ sent_len payload_len room = if is_sent payload_len room then 8 + payload_len els
 
 -- the bytes with a packet between two addresses at their front, where it is written
 abbrev pub sent : UdpRepr → IpAddress → IpAddress → List ℕ → Bool → List ℕ → List ℕ
-sent v src dst payload checked old =
-    if is_sent (length payload) (length old) then udp.bytes_of v payload src dst checked ++ drop (8 + length payload) old else old
+sent v src dst payload computed old =
+    if is_sent (length payload) (length old) then udp.bytes_of v payload src dst computed ++ drop (8 + length payload) old else old
 
 -- the text stands at the front of the slice and its length is answered, or the slice stays and 0 is answered
 abbrev pub IsPrinted : List ℕ → List ℕ → List ℕ → ℕ → Type 0

@@ -12,14 +12,15 @@ ghost use Rattle.ip_wire.specs.declared.IpAddress.TheVariants.{Ipv4, Ipv6};
 ghost use Rattle.ip_wire_c.specs.Calls.{all_or_none, arp_value, emitted, emitted_len, innermost_payload, ipv4_header, ipv6_header, is_rebuilt, IsPrinted, length_or_none, sent, sent_len, udp_header};
 
 mod arp;
+mod ip;
 mod payload;
 mod rebuild;
 mod text;
 mod udp;
 
 use ip_wire::{
-    ArpRepr, EthernetAddress, IPV4_HEADER_LEN, IPV6_HEADER_LEN, IpAddress, IpProtocol, Ipv4Address,
-    Ipv4PacketMut, Ipv4Repr, Ipv6Address, Ipv6PacketMut, Ipv6Repr, UdpRepr, checksum,
+    ArpRepr, EthernetAddress, IpAddress, IpProtocol, IpRepr, Ipv4Address, Ipv4Repr, Ipv6Address,
+    Ipv6Repr, UdpRepr, checksum,
 };
 use net_base::ChecksumCapabilities;
 
@@ -32,12 +33,12 @@ pub extern "C" fn lk_checksum(bytes: &[u8]) -> u16
 }
 
 /// The length of the payload behind the headers of a frame and 1 more, or 0 where a header is refused
-/// or of a layer that is not there. Checksums are verified unless `checked` is 0.
+/// or of a layer that is not there. Checksums are verified unless `verified` is 0.
 #[unsafe(no_mangle)]
-pub extern "C" fn lk_parse(frame: &[u8], checked: u8) -> u32
-    ensures { result ≡ length_or_none (innermost_payload (all_or_none (not (checked == 0))) frame.now) }
+pub extern "C" fn lk_parse(frame: &[u8], verified: u8) -> u32
+    ensures { result ≡ length_or_none (innermost_payload (all_or_none (not (verified == 0))) frame.now) }
 {
-    match payload::innermost_payload(frame, &capabilities(checked)) {
+    match payload::innermost_payload(frame, &capabilities(verified)) {
         Some(payload) => payload.len() as u32 + 1,
         None => 0,
     }
@@ -70,7 +71,7 @@ pub extern "C" fn lk_emit_arp(
 
 /// Writes an IPv4 header for so long a payload to the front of `out`, and answers its length: 0 where
 /// there is no room for it or the payload is longer than 65,515 octets, and then nothing is written. The
-/// checksum is computed unless `checked` is 0.
+/// checksum is computed unless `computed` is 0.
 #[unsafe(no_mangle)]
 pub extern "C" fn lk_emit_ipv4(
     src_addr: u32,
@@ -78,15 +79,12 @@ pub extern "C" fn lk_emit_ipv4(
     protocol: u8,
     hop_limit: u8,
     payload_len: usize,
-    checked: u8,
+    computed: u8,
     out: &mut [u8],
 ) -> usize
     ensures length { result ≡ emitted_len (ipv4_header src_addr dst_addr protocol hop_limit payload_len) (length out.old) }
-    ensures bytes { out.new ≡ emitted (ipv4_header src_addr dst_addr protocol hop_limit payload_len) (not (checked == 0)) out.old }
+    ensures bytes { out.new ≡ emitted (ipv4_header src_addr dst_addr protocol hop_limit payload_len) (not (computed == 0)) out.old }
 {
-    if payload_len > 65_515 || out.len() < IPV4_HEADER_LEN {
-        return 0;
-    }
     let header = Ipv4Repr {
         src_addr: Ipv4Address::from_octets(src_addr.to_be_bytes()),
         dst_addr: Ipv4Address::from_octets(dst_addr.to_be_bytes()),
@@ -94,11 +92,7 @@ pub extern "C" fn lk_emit_ipv4(
         payload_len,
         hop_limit,
     };
-    header.emit(
-        &mut Ipv4PacketMut::new_unchecked(out),
-        &capabilities(checked),
-    );
-    IPV4_HEADER_LEN
+    ip::send(IpRepr::Ipv4(header), &capabilities(computed), out)
 }
 
 /// Writes an IPv6 header for so long a payload to the front of `out`, and answers its length: 0 where
@@ -115,9 +109,6 @@ pub extern "C" fn lk_emit_ipv6(
     ensures length { result ≡ emitted_len (ipv6_header src_addr.now dst_addr.now next_header hop_limit payload_len) (length out.old) }
     ensures bytes { out.new ≡ emitted (ipv6_header src_addr.now dst_addr.now next_header hop_limit payload_len) true out.old }
 {
-    if payload_len > 65_535 || out.len() < IPV6_HEADER_LEN {
-        return 0;
-    }
     let header = Ipv6Repr {
         src_addr: Ipv6Address::from_octets(*src_addr),
         dst_addr: Ipv6Address::from_octets(*dst_addr),
@@ -125,13 +116,12 @@ pub extern "C" fn lk_emit_ipv6(
         payload_len,
         hop_limit,
     };
-    header.emit(&mut Ipv6PacketMut::new_unchecked(out));
-    IPV6_HEADER_LEN
+    ip::send(IpRepr::Ipv6(header), &ChecksumCapabilities::default(), out)
 }
 
 /// Writes a UDP packet with this payload, to be carried by IPv4 between two addresses, to the front of
 /// `out`, and answers its length: 0 where there is no room for it or the payload is longer than 65,527
-/// octets, and then nothing is written. The checksum is computed unless `checked` is 0.
+/// octets, and then nothing is written. The checksum is computed unless `computed` is 0.
 #[unsafe(no_mangle)]
 pub extern "C" fn lk_emit_udp_ipv4(
     src_addr: u32,
@@ -139,12 +129,12 @@ pub extern "C" fn lk_emit_udp_ipv4(
     src_port: u16,
     dst_port: u16,
     payload: &[u8],
-    checked: u8,
+    computed: u8,
     out: &mut [u8],
 ) -> usize
     ensures length { result ≡ sent_len (length payload.now) (length out.old) }
     ensures bytes { let src = Ipv4 (to_be_bytes w32 src_addr) in let dst = Ipv4 (to_be_bytes w32 dst_addr) in
-        out.new ≡ sent (udp_header src_port dst_port) src dst payload.now (not (checked == 0)) out.old }
+        out.new ≡ sent (udp_header src_port dst_port) src dst payload.now (not (computed == 0)) out.old }
 {
     let src_addr = IpAddress::Ipv4(Ipv4Address::from_octets(src_addr.to_be_bytes()));
     let dst_addr = IpAddress::Ipv4(Ipv4Address::from_octets(dst_addr.to_be_bytes()));
@@ -153,7 +143,7 @@ pub extern "C" fn lk_emit_udp_ipv4(
         src_addr,
         dst_addr,
         payload,
-        &capabilities(checked),
+        &capabilities(computed),
         out,
     )
 }
@@ -167,11 +157,11 @@ pub extern "C" fn lk_emit_udp_ipv6(
     src_port: u16,
     dst_port: u16,
     payload: &[u8],
-    checked: u8,
+    computed: u8,
     out: &mut [u8],
 ) -> usize
     ensures length { result ≡ sent_len (length payload.now) (length out.old) }
-    ensures bytes { out.new ≡ sent (udp_header src_port dst_port) (Ipv6 src_addr.now) (Ipv6 dst_addr.now) payload.now (not (checked == 0)) out.old }
+    ensures bytes { out.new ≡ sent (udp_header src_port dst_port) (Ipv6 src_addr.now) (Ipv6 dst_addr.now) payload.now (not (computed == 0)) out.old }
 {
     let src_addr = IpAddress::Ipv6(Ipv6Address::from_octets(*src_addr));
     let dst_addr = IpAddress::Ipv6(Ipv6Address::from_octets(*dst_addr));
@@ -180,7 +170,7 @@ pub extern "C" fn lk_emit_udp_ipv6(
         src_addr,
         dst_addr,
         payload,
-        &capabilities(checked),
+        &capabilities(computed),
         out,
     )
 }
@@ -209,10 +199,10 @@ pub extern "C" fn lk_rebuild(frame: &[u8], out: &mut [u8]) -> usize
 }
 
 // All checksums, or none of them.
-fn capabilities(checked: u8) -> ChecksumCapabilities
-    ensures { result ≡ all_or_none (not (checked == 0)) }
+fn capabilities(on: u8) -> ChecksumCapabilities
+    ensures { result ≡ all_or_none (not (on == 0)) }
 {
-    if checked == 0 {
+    if on == 0 {
         ChecksumCapabilities::ignored()
     } else {
         ChecksumCapabilities::default()

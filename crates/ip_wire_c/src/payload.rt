@@ -1,7 +1,6 @@
 //! The payload of a whole frame.
 
-ghost use Rattle.std.specs.Prelude.{◌≡◌, ◌≤◌, ◌<◌, ◌^◌, IfSome, MatchOption, None, Some, length};
-ghost use Rattle.ip_wire.specs.Ipv4.{is_fragment, packet_bytes};
+ghost use Rattle.std.specs.Prelude.{◌≡◌, ◌<◌, ◌^◌, IfSome, MatchOption, None, Some, length};
 ghost use Rattle.ip_wire_c.specs.Calls.{innermost_payload, packet_payload, transport_payload};
 ghost use Rattle.ip_wire.specs.declared.EthernetProtocol.TheVariants.{Ipv4, Ipv6};
 
@@ -54,7 +53,7 @@ fn ipv4_payload<'a>(bytes: &'a [u8], caps: &ChecksumCapabilities) -> Option<&'a 
 {
     let packet = Ipv4Packet::new_unchecked(bytes);
     match Ipv4Repr::parse(&packet, caps) {
-        Ok(_) if is_fragment(&packet) => Some(packet.payload()),
+        Ok(_) if packet.is_fragment() => Some(packet.payload()),
         Ok(header) => transport_payload(&IpRepr::Ipv4(header), packet.payload(), caps),
         Err(_) => None,
     }
@@ -94,12 +93,4 @@ fn transport_payload<'a>(
         }
         _ => Some(bytes),
     }
-}
-
-/// Whether a packet is a fragment: others follow it, or it isn't the first.
-pub fn is_fragment(packet: &Ipv4Packet<'_>) -> bool
-    requires { 8 ≤ length (packet_bytes packet.now) }
-    ensures { result ≡ is_fragment (packet_bytes packet.now) }
-{
-    packet.more_frags() || packet.frag_offset() != 0
 }

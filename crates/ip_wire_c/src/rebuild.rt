@@ -2,18 +2,16 @@
 
 ghost use Rattle.std.specs.Prelude.{◌≡◌, ◌≤◌, ◌<◌, None, length};
 ghost use Rattle.ip_wire.specs.Frame.{ethernet, rebuilt, rebuilt_between, rebuilt_packet, rebuilt_payload, rebuilt_transport};
-ghost use Rattle.ip_wire.specs.Ip.{max_payload_len};
-ghost use Rattle.ip_wire.specs.IpAddress.{version_of};
+ghost use Rattle.ip_wire.specs.Ip.{dst_addr_of, max_payload_len, src_addr_of};
 ghost use Rattle.ip_wire.specs.declared.EthernetProtocol.TheVariants.{Arp, Ipv4, Ipv6};
 ghost use Rattle.ip_wire.specs.declared.IpProtocol.TheVariants.{Udp};
 ghost use Rattle.ip_wire_c.specs.Calls.{Fills};
 
-use crate::payload::is_fragment;
 use crate::{arp, udp};
 use ip_wire::{
     ArpPacket, ArpRepr, ETHERNET_HEADER_LEN, EthernetFrame, EthernetFrameMut, EthernetProtocol,
-    EthernetRepr, IpAddress, IpProtocol, IpRepr, Ipv4Packet, Ipv4Repr, Ipv6Packet, Ipv6Repr,
-    UdpPacket, UdpRepr,
+    EthernetRepr, IpProtocol, IpRepr, Ipv4Packet, Ipv4Repr, Ipv6Packet, Ipv6Repr, UdpPacket,
+    UdpRepr,
 };
 use net_base::ChecksumCapabilities;
 
@@ -75,7 +73,7 @@ fn rebuild_ipv4(bytes: &[u8], out: &mut [u8]) -> Option<usize>
 {
     let packet = Ipv4Packet::new_unchecked(bytes);
     match Ipv4Repr::parse(&packet, &ChecksumCapabilities::default()) {
-        Ok(header) if !is_fragment(&packet) => {
+        Ok(header) if !packet.is_fragment() => {
             rebuild_packet(IpRepr::Ipv4(header), packet.payload(), out)
         }
         _ => copy(bytes, out),
@@ -121,22 +119,19 @@ fn rebuild_transport(header: &IpRepr, bytes: &[u8], out: &mut [u8]) -> Option<us
     ensures { Fills (rebuilt_transport header.now bytes.now) out.old out.new result }
 {
     match header.next_header() {
-        IpProtocol::Udp => rebuild_udp(header.src_addr(), header.dst_addr(), bytes, out),
+        IpProtocol::Udp => rebuild_udp(header, bytes, out),
         _ => copy(bytes, out),
     }
 }
 
 // A UDP packet, built again where it is read with its checksum.
 #[inline(always)]
-fn rebuild_udp(
-    src_addr: IpAddress,
-    dst_addr: IpAddress,
-    bytes: &[u8],
-    out: &mut [u8],
-) -> Option<usize>
-    requires { version_of src_addr ≡ version_of dst_addr }
-    ensures { Fills (rebuilt_between Udp src_addr dst_addr bytes.now) out.old out.new result }
+fn rebuild_udp(ip_header: &IpRepr, bytes: &[u8], out: &mut [u8]) -> Option<usize>
+    ensures { let src = src_addr_of ip_header.now in let dst = dst_addr_of ip_header.now in
+        Fills (rebuilt_between Udp src dst bytes.now) out.old out.new result }
 {
+    let src_addr = ip_header.src_addr();
+    let dst_addr = ip_header.dst_addr();
     let caps = ChecksumCapabilities::default();
     let packet = UdpPacket::new_unchecked(bytes);
     match UdpRepr::parse(&packet, &src_addr, &dst_addr, &caps) {

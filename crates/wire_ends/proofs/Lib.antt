@@ -1,1 +1,2 @@
+mod ProtocolWorked
 pub mod Versions

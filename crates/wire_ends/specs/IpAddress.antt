@@ -15,3 +15,8 @@ version_of (Ipv6 octets) = version.Ipv6
 abbrev pub address_text : IpAddress → List ℕ
 address_text (Ipv4 octets) = dotted octets
 address_text (Ipv6 octets) = ipv6_text octets
+
+-- the octets of an address of either version
+abbrev pub octets_of : IpAddress → List ℕ
+octets_of (Ipv4 octets) = octets
+octets_of (Ipv6 octets) = octets

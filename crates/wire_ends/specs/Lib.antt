@@ -1,2 +1,3 @@
 pub mod IpAddress
 pub mod IpVersion
+pub mod Protocol

@@ -52,6 +52,8 @@ use Rattle.std.proofs.mem.Facts.{says_two}
 use Rattle.std.proofs.result.Made.{Ok-of, Err-of}
 use Rattle.std.specs.contracts.result.Result as RS
 use Rattle.std.proofs.raw_atomic.Walks.{proved}
+use Rattle.net_base.specs.declared.error.Error.{Error}
+use Rattle.net_base.specs.contracts.error.Error as E
 use Rattle.wire_field.proofs.Views.{View, row, type, laws, seen}
 use Rattle.wire_field.specs.Loan.{Checks, Holds, StaysIfErr}
 use Rattle.wire_field.specs.declared.checked.Checked.{Checked}
@@ -66,8 +68,18 @@ pub record Refusal : Type 2 where
   pub eta : (d : D) → make ≡ d
   pub propositions : (v : Unit {0}) → IsProp Done
 
-abbrev error : Refusal → Declared
-error E = declared (record {
+-- the one error of all readers
+abbrev pub error : Refusal
+error = record {
+  name = E.struct.name;
+  D = Error;
+  make = record {};
+  eta = λ error. refl;
+  propositions = E.the_propositions;
+}
+
+abbrev refused : Refusal → Declared
+refused E = declared (record {
   name = E.name;
   args = [];
   types = [];
@@ -94,7 +106,7 @@ module _ {M : Type 1} {𝓤 : Ura M} (𝓛 : Logic 𝓤) (R : RattleType) (γ : 
 
 module _ (V : View) (E : Refusal) where
   abbrev result : NamedLft → RattleType
-  result a = RS.the_row (row V a) (row_of (error E))
+  result a = RS.the_row (row V a) (row_of (refused E))
 
   module _ {M : Type 1} {𝓤 : Ura M} (𝓛 : Logic 𝓤) (x h : MutBor (List ℕ)) (same_loan : h.ghost_name ≡ x.ghost_name) (same_bytes : h.now ≡ x.now) where
     open 𝓛 use {A}
@@ -234,7 +246,7 @@ module _ (V : View) (E : Refusal) (φ : List ℕ → Type 0) where
         let u : Val = vstruct (vcons (slice_val h.ref_ptr (length h.now)) vnil) in let d : V.D = V.make h in let B : RattleType = Struct (shape (type V life)) in
         nothing ! $ move ! (1 ∷ 0 ∷ []) $ fjoin ! $ use1 𝓛 (‵ (B.own_val (h, tt) (u ∷ []))) (own_shut 𝓛 (type V life) (laws V life) (h, tt)) $
         rewrite ! 0 (λ (k : MutBor (List ℕ)). ‵ (B.own_val (k, tt) (u ∷ []))) (sym (V.beta h)) refl $
-        use1 𝓛 (‵ ((result V E life).own_val (Ok d) (live 0 (vcons u vnil) ∷ []))) (Ok-of 𝓛 (row V life) (row_of (error E)) d u) $
+        use1 𝓛 (‵ ((result V E life).own_val (Ok d) (live 0 (vcons u vnil) ∷ []))) (Ok-of 𝓛 (row V life) (row_of (refused E)) d u) $
         use0 𝓛 (‵ (StaysIfErr {E = E.D} x V.buffer (Ok d))) (held V E 𝓛 x h is.same_loan is.same_bytes d (V.beta h)) $
         returns ! (look_at ! 0 refl) $ free_all ! refl $ keep ! (1 ∷ 0 ∷ 2 ∷ 3 ∷ []) $
         out (Ok d) (live 0 (vcons u vnil)) (
@@ -251,7 +263,7 @@ module _ (V : View) (E : Refusal) (φ : List ℕ → Type 0) where
         exec ! 𝓣.C 𝓣.Λ En then_6 (at_ret En Post) $
         sets ! (of_opd ! (get ! refl)) refl (tt, (record { fits = lit< tt }, (tt, tt))) $
         use1 𝓛 (‵ (StaysIfErr {V = V.D} x V.buffer (Err E.make))) (unchanged V E 𝓛 x h is.same_loan is.same_bytes E.make (named 0) κ (mut_slice_vals h)) $
-        nothing ! $ use1 𝓛 (‵ ((row_of (error E)).own_val E.make (vstruct vnil ∷ []))) (own_shut 𝓛 (error E) tt tt) $
-        use1 𝓛 (‵ ((result V E life).own_val (Err E.make) (live 1 (vcons (vstruct vnil) vnil) ∷ []))) (Err-of 𝓛 (row V life) (row_of (error E)) E.make (vstruct vnil)) $
+        nothing ! $ use1 𝓛 (‵ ((row_of (refused E)).own_val E.make (vstruct vnil ∷ []))) (own_shut 𝓛 (refused E) tt tt) $
+        use1 𝓛 (‵ ((result V E life).own_val (Err E.make) (live 1 (vcons (vstruct vnil) vnil) ∷ []))) (Err-of 𝓛 (row V life) (row_of (refused E)) E.make (vstruct vnil)) $
         returns ! (look_at ! 0 refl) $ free_all ! refl $ keep ! (0 ∷ 1 ∷ 2 ∷ 3 ∷ []) $
         out (Err E.make) (live 1 (vcons (vstruct vnil) vnil)) ((never_true, λ holds. absurd (subst (λ (b : Bool). T (not b)) (is.ok.1 holds) no)), tt))))))))))

@@ -38,7 +38,7 @@ use denote.Signature.{plain, mut_ref_to, named_lft}
 use denote.Slice.{MutSlice, slice_ty, Room, slice_val, mut_slice_vals}
 use denote.Steps.{opens, closes, peeks, nothing, heard, only}
 use denote.Struct.Declared.{Declared, row as row_of}
-use denote.Struct.Field.{mut_slice_field}
+use denote.Struct.Field.{mut_slice_field, row_field}
 use denote.Struct.Laws as LL
 use denote.Struct.Loose.{Looses, loosen}
 use denote.Struct.Record.{Record, Done, declared}
@@ -100,9 +100,9 @@ module _ (V : View) where
   abbrev struct : NamedLft → Record
   struct a = record {
     name = V.name;
-    args = a.mir ∷ [];
-    types = [];
-    parts = mut_slice_field a u8 tt ∷ [];
+    args = [];
+    types = MutSlice a.mir a.lft u8 ∷ [];
+    parts = row_field (MutSlice a.mir a.lft u8) ∷ [];
     D = V.D;
     as_values = λ d. (V.buffer d, tt);
     Ghost = λ v. Done;
@@ -230,7 +230,7 @@ module _ (V : View) (P : Place) where
       ty_params = [];
       givens = 0;
       params = 1;
-      locals = local (slice_ty (ty_ref (named 0) mut (ty_int w8))) value_local ∷ local (ty_ref (named 0) mut (ty_named (V.name, named 1 ∷ []) tnil)) value_local
+      locals = local (slice_ty (ty_ref (named 0) mut (ty_int w8))) value_local ∷ local (ty_ref (named 0) mut (ty_named (V.name, []) (tcons (slice_ty (ty_ref (named 1) mut (ty_int w8))) tnil))) value_local
           ∷ local (L'.mir erased) value_local ∷ local (ty_int w64) value_local ∷ local (ty_ref erased mut (ty_int w8)) value_local ∷ local (slice_ty (ty_ref erased mut (ty_int w8))) value_local ∷ [];
       body = seq (assign (place 3 []) (rv_opd (copy (place 1 (deref (seen V) ∷ field 0 ∷ field 1 ∷ [])))))
           (seq (assign (place 4 []) (addr_of (place 1 (deref (seen V) ∷ field 0 ∷ field 0 ∷ deref (ty_int w8) ∷ []))))

@@ -2,10 +2,10 @@
 use Rattle.std.proofs.Common.{ℕ, ◌≡◌, true, false, List, [], ◌∷◌, Some, None, refl}
 use Rattle.wire_ends.specs.IpVersion.{packet_version}
 use Rattle.wire_ipv4.specs.Ipv4.{ipv4_of}
-use Rattle.wire_ipv4.specs.WordSum.{residue, words}
-use Rattle.wire_ipv4.specs.declared.ip_protocol.IpProtocol.TheVariants.{Icmp, Udp}
+use Rattle.wire_checksum.specs.WordSum.{residue, words}
+use Rattle.wire_ends.specs.declared.ip_protocol.IpProtocol.TheVariants.{Icmp, Udp}
 use Rattle.wire_ip.specs.Ip.{bytes_of, ip_of}
-use Rattle.wire_ip.specs.Ipv6.{ipv6_of}
+use Rattle.wire_ipv6.specs.Ipv6.{ipv6_of}
 use Rattle.wire_ip.specs.declared.ip.repr.IpRepr.{IpRepr}
 use Rattle.wire_ip.specs.declared.ip.repr.IpRepr.TheVariants.{Ipv4, Ipv6}
 

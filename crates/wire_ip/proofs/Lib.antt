@@ -1,12 +1,3 @@
 pub mod IpComputed
 pub mod IpReadsBack
 mod IpWorked
-pub mod Ipv6Computed
-pub mod Ipv6Emitted
-pub mod Ipv6FragmentComputed
-pub mod Ipv6FragmentEmitted
-mod Ipv6FragmentViewed
-mod Ipv6FragmentWorked
-pub mod Ipv6ReadsBack
-mod Ipv6Viewed
-mod Ipv6Worked

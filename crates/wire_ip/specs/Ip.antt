@@ -6,8 +6,8 @@ use Rattle.wire_ends.specs.declared.ip_address.IpAddress.TheVariants as address
 use Rattle.wire_ends.specs.declared.ip_version.IpVersion.{IpVersion}
 use Rattle.wire_ends.specs.declared.ip_version.IpVersion.TheVariants as version
 use Rattle.wire_ipv4.specs.Ipv4 as ipv4
-use Rattle.wire_ipv4.specs.declared.ip_protocol.IpProtocol.{IpProtocol}
-use Rattle.wire_ip.specs.Ipv6 as ipv6
+use Rattle.wire_ends.specs.declared.ip_protocol.IpProtocol.{IpProtocol}
+use Rattle.wire_ipv6.specs.Ipv6 as ipv6
 use Rattle.wire_ip.specs.declared.ip.packet.IpPacket.{IpPacket}
 use Rattle.wire_ip.specs.declared.ip.repr.IpRepr.{IpRepr}
 use Rattle.wire_ip.specs.declared.ip.repr.IpRepr.TheVariants.{Ipv4, Ipv6}
@@ -60,34 +60,34 @@ header_len_of (Ipv6 v) = 40
 
 -- the length of the longest payload that its header can say
 abbrev pub max_payload_len : IpRepr → ℕ
-max_payload_len (Ipv4 v) = 65515
+max_payload_len (Ipv4 v) = ipv4.max_payload_len
 max_payload_len (Ipv6 v) = 65535
 
 -- ---- reading and writing
 
 -- the bytes are read as these values by the rules of their version
 abbrev pub ReadsHeader : List ℕ → Bool → IpRepr → Type 0
-ReadsHeader bytes checked (Ipv4 v) = ipv4.Reads bytes checked v
-ReadsHeader bytes checked (Ipv6 v) = ipv6.Reads bytes v
+ReadsHeader bytes verified (Ipv4 v) = ipv4.Reads bytes verified v
+ReadsHeader bytes verified (Ipv6 v) = ipv6.Reads bytes v
 
 -- the bytes begin with a packet whose header has these values
-pub record Reads (bytes : List ℕ) (checked : Bool) (v : IpRepr) : Type 0 where
+pub record Reads (bytes : List ℕ) (verified : Bool) (v : IpRepr) : Type 0 where
   pub version : IsOfVersion bytes (version_of v)
-  pub header : ReadsHeader bytes checked v
+  pub header : ReadsHeader bytes verified v
 
 -- the one value that the bytes are read as by the rules of a version, if there is one
 abbrev pub header_of_version : Bool → List ℕ → IpVersion → Option IpRepr
-header_of_version checked bytes version.Ipv4 = option_map Ipv4 (ipv4.ipv4_of checked bytes)
-header_of_version checked bytes version.Ipv6 = option_map Ipv6 (ipv6.ipv6_of bytes)
+header_of_version verified bytes version.Ipv4 = option_map Ipv4 (ipv4.ipv4_of verified bytes)
+header_of_version verified bytes version.Ipv6 = option_map Ipv6 (ipv6.ipv6_of bytes)
 
 -- the one value that the bytes are read as, if there is one
 unfoldable pub ip_of : Bool → List ℕ → Option IpRepr
-ip_of checked bytes = option_and_then (header_of_version checked bytes) (packet_version bytes)
+ip_of verified bytes = option_and_then (header_of_version verified bytes) (packet_version bytes)
 
 -- the header that has these values
 abbrev pub bytes_of : IpRepr → Bool → List ℕ
-bytes_of (Ipv4 v) written = ipv4.bytes_of v written
-bytes_of (Ipv6 v) written = ipv6.bytes_of v
+bytes_of (Ipv4 v) computed = ipv4.bytes_of v computed
+bytes_of (Ipv6 v) computed = ipv6.bytes_of v
 
 -- the value that is read of its header: a number of the table has its own name
 abbrev pub normal : IpRepr → IpRepr

@@ -1,5 +1,1 @@
 pub mod Ip
-pub mod Ipv6
-pub mod Ipv6Fragment
-pub mod Ipv6Loan
-pub mod Ipv6Text

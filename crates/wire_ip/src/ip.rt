@@ -2,8 +2,6 @@
 
 mod packet;
 mod repr;
-#[cfg(test)]
-mod tests;
 
 pub use packet::IpPacket;
 pub use repr::IpRepr;

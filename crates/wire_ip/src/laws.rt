@@ -1,68 +1,27 @@
 //! What holds by the definitions alone. The functions do nothing when they run.
 
 ghost use Rattle.std.specs.Prelude.{◌≡◌, ◌↔◌, ◌++◌, ◌≤◌, IsTrue, Some, length};
-ghost use Rattle.wire_ip.specs.Ip as ip;
-ghost use Rattle.wire_ip.specs.Ipv6 as ipv6;
-ghost use Rattle.wire_ip.specs.Ipv6Fragment as fragment;
+ghost use Rattle.wire_ip.specs.Ip.{Reads, bytes_of, ip_of, max_payload_len, normal, payload_len_of};
 
 use crate::ip::IpRepr;
-use crate::ipv6::Ipv6Repr;
-use crate::ipv6fragment::Ipv6FragmentRepr;
 
 /// The header of a value, with its payload and any bytes after it, is read as the value's normal
-/// form.
-pub fn emit_reads_back_ipv6(value: Ipv6Repr, rest: &[u8])
-    requires payload_len { value.payload_len ≤ 65535 }
-    requires payload { value.payload_len ≤ length rest.now }
-    ensures { ipv6.Reads (ipv6.bytes_of value ++ rest.now) (ipv6.normal value) }
+/// form, where a checksum that is verified was computed.
+pub fn emit_reads_back_ip(value: IpRepr, rest: &[u8], computed: bool, verified: bool)
+    requires payload_len { payload_len_of value ≤ max_payload_len value }
+    requires payload { payload_len_of value ≤ length rest.now }
+    requires checksum { IsTrue verified → IsTrue computed }
+    ensures { Reads (bytes_of value computed ++ rest.now) verified (normal value) }
 {}
 
 /// No bytes are read as two values.
-pub fn reads_once_ipv6(bytes: &[u8], value: Ipv6Repr, other: Ipv6Repr)
-    requires value { ipv6.Reads bytes.now value }
-    requires other { ipv6.Reads bytes.now other }
+pub fn reads_once_ip(bytes: &[u8], verified: bool, value: IpRepr, other: IpRepr)
+    requires value { Reads bytes.now verified value }
+    requires other { Reads bytes.now verified other }
     ensures { value ≡ other }
 {}
 
 /// The value that is computed of bytes is the one that they are read as.
-pub fn reading_is_computed_ipv6(bytes: &[u8], value: Ipv6Repr)
-    ensures { (ipv6.ipv6_of bytes.now ≡ Some value) ↔ ipv6.Reads bytes.now value }
-{}
-
-/// The header of a value, whatever follows it, is read as the value's normal form.
-pub fn emit_reads_back_ipv6_fragment(value: Ipv6FragmentRepr, rest: &[u8])
-    ensures { fragment.Reads (fragment.bytes_of value ++ rest.now) (fragment.normal value) }
-{}
-
-/// No bytes are read as two values.
-pub fn reads_once_ipv6_fragment(bytes: &[u8], value: Ipv6FragmentRepr, other: Ipv6FragmentRepr)
-    requires value { fragment.Reads bytes.now value }
-    requires other { fragment.Reads bytes.now other }
-    ensures { value ≡ other }
-{}
-
-/// The value that is computed of bytes is the one that they are read as.
-pub fn reading_is_computed_ipv6_fragment(bytes: &[u8], value: Ipv6FragmentRepr)
-    ensures { (fragment.ipv6_fragment_of bytes.now ≡ Some value) ↔ fragment.Reads bytes.now value }
-{}
-
-/// The header of a value, with its payload and any bytes after it, is read as the value's normal
-/// form, where a checksum that is verified was written.
-pub fn emit_reads_back_ip(value: IpRepr, rest: &[u8], written: bool, checked: bool)
-    requires payload_len { ip.payload_len_of value ≤ ip.max_payload_len value }
-    requires payload { ip.payload_len_of value ≤ length rest.now }
-    requires checksum { IsTrue checked → IsTrue written }
-    ensures { ip.Reads (ip.bytes_of value written ++ rest.now) checked (ip.normal value) }
-{}
-
-/// No bytes are read as two values.
-pub fn reads_once_ip(bytes: &[u8], checked: bool, value: IpRepr, other: IpRepr)
-    requires value { ip.Reads bytes.now checked value }
-    requires other { ip.Reads bytes.now checked other }
-    ensures { value ≡ other }
-{}
-
-/// The value that is computed of bytes is the one that they are read as.
-pub fn reading_is_computed_ip(bytes: &[u8], checked: bool, value: IpRepr)
-    ensures { (ip.ip_of checked bytes.now ≡ Some value) ↔ ip.Reads bytes.now checked value }
+pub fn reading_is_computed_ip(bytes: &[u8], verified: bool, value: IpRepr)
+    ensures { (ip_of verified bytes.now ≡ Some value) ↔ Reads bytes.now verified value }
 {}

@@ -1,14 +1,14 @@
 -- What a view of a packet lends of its bytes.
 use Rattle.std.specs.Prelude.{ℕ, List, []}
 use Rattle.std.specs.Borrow.{Lends, MutBor, Fml, Array, u8}
+use denote.Slice.{MutSlice}
 use mir.Syntax.{named}
 use Rattle.wire_field.specs.Field.{with_range}
-use Rattle.wire_ipv4.specs.Ipv4.{header_len, packet_bytes_mut, total_len}
-use Rattle.wire_ipv4.specs.declared.ipv4.packet_mut.Ipv4PacketMut.{Ipv4PacketMut}
-use Rattle.wire_ipv4.specs.contracts.ipv4.packet_mut.Ipv4PacketMut.{the_row}
+use Rattle.wire_ipv4.specs.Ipv4.{Writing, header_len, packet_bytes_mut, total_len}
+use Rattle.wire_ipv4.specs.contracts.ipv4.packet.Ipv4View.{the_row}
 
 -- the view with these bytes behind it, in the same loan
-abbrev pub with_bytes : Ipv4PacketMut → List ℕ → Ipv4PacketMut
+abbrev pub with_bytes : Writing → List ℕ → Writing
 with_bytes packet bytes = record packet { buffer = record packet.buffer { now = bytes } }
 
 -- the bytes with these in the place of the payload
@@ -16,5 +16,5 @@ abbrev pub with_payload : List ℕ → List ℕ → List ℕ
 with_payload bytes = with_range bytes (header_len bytes) (total_len bytes)
 
 -- the view ends with what was last left in the payload, and with its other bytes as they were
-abbrev pub LendsPayload : MutBor Ipv4PacketMut → MutBor (List ℕ) → Fml
-LendsPayload packet payload = Lends (the_row (record { mir = named 1; lft = [] })) (Array u8 0) packet payload (λ w. with_bytes packet.now (with_payload (packet_bytes_mut packet.now) w))
+abbrev pub LendsPayload : MutBor Writing → MutBor (List ℕ) → Fml
+LendsPayload packet payload = Lends (the_row (MutSlice (named 1) [] u8)) (Array u8 0) packet payload (λ w. with_bytes packet.now (with_payload (packet_bytes_mut packet.now) w))

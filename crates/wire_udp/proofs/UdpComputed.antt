@@ -1,14 +1,15 @@
 -- The computed value of a UDP packet is the one that it is read as.
-use Rattle.std.proofs.Common.{ℕ, zero, suc, ◌≡◌, ◌≢◌, ◌↔◌, ◌⊎◌, inl, inr, ◌==◌, ◌&&◌, ◌||◌, not, Bool, true, false, IsTrue, if◌then◌else◌, List, Some, None, Result, Ok, MatchResult, refl, subst, arith}
+use Rattle.std.proofs.Common.{ℕ, zero, suc, ◌≡◌, ◌≢◌, ◌↔◌, ◌⊎◌, inl, inr, ◌==◌, ◌&&◌, ◌||◌, not, Bool, true, false, IsTrue, if◌then◌else◌, List, Some, Result, Ok, refl, subst, arith}
 use Rattle.std.proofs.lemmas.Bool.Decides.{nat_tests}
-use Rattle.wire_addr.proofs.Readings.{answer-computed}
-use Rattle.wire_addr.specs.declared.error.Error.{Error}
+use Rattle.std.specs.Result.{result_ok}
+use Rattle.wire_field.proofs.Readings.{answer-computed}
+use Rattle.net_base.specs.declared.error.Error.{Error}
 use Rattle.wire_ends.specs.IpAddress.{version_of}
 use Rattle.wire_ends.specs.declared.ip_address.IpAddress.{IpAddress}
 use Rattle.wire_ends.specs.declared.ip_address.IpAddress.TheVariants as address
 use Rattle.wire_ends.specs.declared.ip_version.IpVersion.TheVariants as version
 use Rattle.wire_field.specs.Field.{field}
-use Rattle.wire_ipv4.proofs.Computed.{if-Some}
+use Rattle.wire_field.proofs.Readings.{if-Some}
 use Rattle.wire_udp.specs.Udp.{HasChecksum, HasLengths, Reads, has_checksum, has_lengths, header_of, is_ipv4, is_read, payload_of, udp_of}
 use Rattle.wire_udp.specs.declared.udp.repr.UdpRepr.{UdpRepr}
 
@@ -49,21 +50,21 @@ has_checksum-HasChecksum src dst bytes = (
 )
 
 -- the parts of the whole test
-parts : (lengths none checked holds : Bool) → (lengths && not none && (not checked || holds)) ≡ true → (lengths ≡ true) × (none ≡ false) × (IsTrue checked → holds ≡ true)
+parts : (lengths none verified holds : Bool) → (lengths && not none && (not verified || holds)) ≡ true → (lengths ≡ true) × (none ≡ false) × (IsTrue verified → holds ≡ true)
 parts true false true true e = (refl, refl, λ on. refl)
 parts true false true false e = absurd (cc)
 parts true false false holds e = (refl, refl, λ on. absurd (cc))
-parts true true checked holds e = absurd (cc)
-parts false none checked holds e = absurd (cc)
+parts true true verified holds e = absurd (cc)
+parts false none verified holds e = absurd (cc)
 
-together : (lengths none checked holds : Bool) → lengths ≡ true → none ≡ false → (IsTrue checked → holds ≡ true) → (lengths && not none && (not checked || holds)) ≡ true
+together : (lengths none verified holds : Bool) → lengths ≡ true → none ≡ false → (IsTrue verified → holds ≡ true) → (lengths && not none && (not verified || holds)) ≡ true
 together lengths none true holds l n h = rw (l, n, h refl) refl
 together lengths none false holds l n h = rw (l, n) refl
 
-is_read-Reads : (src dst : IpAddress) (checked : Bool) (bytes : List ℕ) → is_read src dst checked bytes ≡ true
-    → Reads bytes src dst checked (header_of bytes) (payload_of bytes)
-is_read-Reads src dst checked bytes h =
-    let (lengths, port, checksum) = parts (has_lengths bytes) (field bytes 16 16 == 0) checked (has_checksum src dst bytes) h in
+is_read-Reads : (src dst : IpAddress) (verified : Bool) (bytes : List ℕ) → is_read src dst verified bytes ≡ true
+    → Reads bytes src dst verified (header_of bytes) (payload_of bytes)
+is_read-Reads src dst verified bytes h =
+    let (lengths, port, checksum) = parts (has_lengths bytes) (field bytes 16 16 == 0) verified (has_checksum src dst bytes) h in
     record {
       lengths = has_lengths-HasLengths bytes lengths;
       receiver = grind (arith, nat_tests);
@@ -73,32 +74,32 @@ is_read-Reads src dst checked bytes h =
       body = refl;
     }
 
-Reads-is_read : (src dst : IpAddress) (checked : Bool) (bytes : List ℕ) (v : UdpRepr) (payload : List ℕ) → Reads bytes src dst checked v payload
-    → is_read src dst checked bytes ≡ true
-Reads-is_read src dst checked bytes v payload r =
+Reads-is_read : (src dst : IpAddress) (verified : Bool) (bytes : List ℕ) (v : UdpRepr) (payload : List ℕ) → Reads bytes src dst verified v payload
+    → is_read src dst verified bytes ≡ true
+Reads-is_read src dst verified bytes v payload r =
     let receiver = r.receiver in
     let port : (field bytes 16 16 == 0) ≡ false = grind (arith, nat_tests) in
-    together (has_lengths bytes) (field bytes 16 16 == 0) checked (has_checksum src dst bytes) (HasLengths-has_lengths bytes r.lengths) port
+    together (has_lengths bytes) (field bytes 16 16 == 0) verified (has_checksum src dst bytes) (HasLengths-has_lengths bytes r.lengths) port
     (λ on. (has_checksum-HasChecksum src dst bytes).1 (r.checksum on))
 
-pub Reads-is : (src dst : IpAddress) (checked : Bool) (bytes : List ℕ) (v : UdpRepr) (payload : List ℕ) → Reads bytes src dst checked v payload → v ≡ header_of bytes
-Reads-is src dst checked bytes v payload r = rw (← r.src_port, ← r.dst_port) refl
+pub Reads-is : (src dst : IpAddress) (verified : Bool) (bytes : List ℕ) (v : UdpRepr) (payload : List ℕ) → Reads bytes src dst verified v payload → v ≡ header_of bytes
+Reads-is src dst verified bytes v payload r = rw (← r.src_port, ← r.dst_port) refl
 
-pub udp_of-Reads : (src dst : IpAddress) (checked : Bool) (bytes : List ℕ) (v : UdpRepr)
-    → (udp_of src dst checked bytes ≡ Some v) ↔ Reads bytes src dst checked v (payload_of bytes)
+pub udp_of-Reads : (src dst : IpAddress) (verified : Bool) (bytes : List ℕ) (v : UdpRepr)
+    → (udp_of src dst verified bytes ≡ Some v) ↔ Reads bytes src dst verified v (payload_of bytes)
 unfolding udp_of
-udp_of-Reads src dst checked bytes v = (
+udp_of-Reads src dst verified bytes v = (
   λ e.
-      let (read, is) = (if-Some (is_read src dst checked bytes) (header_of bytes) v).0 e in
-      subst (λ w. Reads bytes src dst checked w (payload_of bytes)) is (is_read-Reads src dst checked bytes read),
+      let (read, is) = (if-Some (is_read src dst verified bytes) (header_of bytes) v).0 e in
+      subst (λ w. Reads bytes src dst verified w (payload_of bytes)) is (is_read-Reads src dst verified bytes read),
   λ r.
-      let is = Reads-is src dst checked bytes v (payload_of bytes) r in
-      (if-Some (is_read src dst checked bytes) (header_of bytes) v).1 (Reads-is_read src dst checked bytes v (payload_of bytes) r, cc),
+      let is = Reads-is src dst verified bytes v (payload_of bytes) r in
+      (if-Some (is_read src dst verified bytes) (header_of bytes) v).1 (Reads-is_read src dst verified bytes v (payload_of bytes) r, cc),
 )
 
 -- a reader's answer is the computed value, if there is one
-pub answer-udp_of : (src dst : IpAddress) (checked : Bool) (bytes : List ℕ) (answer : Result UdpRepr Error)
-    → ((v : UdpRepr) → (answer ≡ Ok v) ↔ Reads bytes src dst checked v (payload_of bytes))
-    → MatchResult answer (λ v. udp_of src dst checked bytes ≡ Some v) (λ _. udp_of src dst checked bytes ≡ None)
-answer-udp_of src dst checked bytes answer reads =
-    answer-computed (λ v. Reads bytes src dst checked v (payload_of bytes)) answer (udp_of src dst checked bytes) reads (udp_of-Reads src dst checked bytes)
+pub answer-udp_of : (src dst : IpAddress) (verified : Bool) (bytes : List ℕ) (answer : Result UdpRepr Error)
+    → ((v : UdpRepr) → (answer ≡ Ok v) ↔ Reads bytes src dst verified v (payload_of bytes))
+    → udp_of src dst verified bytes ≡ result_ok answer
+answer-udp_of src dst verified bytes answer reads =
+    answer-computed (λ v. Reads bytes src dst verified v (payload_of bytes)) answer (udp_of src dst verified bytes) reads (udp_of-Reads src dst verified bytes)

@@ -2,11 +2,12 @@
 use Rattle.std.proofs.Common.{ℕ, ◌≡◌, ◌≤◌, ◌<◌, ◌+◌, ◌%◌, List, [], ◌∷◌, ◌++◌, length, sum, take, sym, ap, ◌∙◌, arith, length-append}
 use Rattle.std.proofs.Math.Seq.{take-append_seam}
 use Rattle.wire_ends.specs.declared.ip_address.IpAddress.{IpAddress}
-use Rattle.wire_ipv4.proofs.Residues.{residue-quotient, residue-same}
-use Rattle.wire_ipv4.proofs.WordLists.{sum-words-append}
-use Rattle.wire_ipv4.specs.PseudoHeader.{octets_of, pseudo_header_bytes}
-use Rattle.wire_ipv4.specs.WordSum.{residue, sum_of, sum_of_bytes, words}
-use Rattle.wire_ipv4.specs.declared.ip_protocol.IpProtocol.TheVariants as protocol
+use Rattle.wire_checksum.proofs.Residues.{residue-quotient, residue-same}
+use Rattle.wire_checksum.proofs.WordLists.{sum-words-append}
+use Rattle.wire_checksum.specs.PseudoHeader.{pseudo_header_bytes}
+use Rattle.wire_ends.specs.IpAddress.{octets_of}
+use Rattle.wire_checksum.specs.WordSum.{residue, sum_of, sum_of_bytes, words}
+use Rattle.wire_ends.specs.declared.ip_protocol.IpProtocol.TheVariants as protocol
 use Rattle.wire_udp.specs.Udp.{header_bytes, packet_len, packet_sum, packet_with}
 use Rattle.wire_udp.specs.declared.udp.repr.UdpRepr.{UdpRepr}
 

@@ -4,11 +4,12 @@ use Rattle.std.proofs.Math.Seq.{take-append_seam}
 use Rattle.std.proofs.lemmas.Bool.{cases_lt}
 use Rattle.std.proofs.lemmas.Bool.Decides.{nat_tests}
 use Rattle.wire_ends.specs.declared.ip_address.IpAddress.{IpAddress}
-use Rattle.wire_ipv4.proofs.Residues.{residue-bound, residue-complement, residue-of_zero, residue-same}
-use Rattle.wire_ipv4.proofs.WordLists.{sum-words-append}
-use Rattle.wire_ipv4.specs.PseudoHeader.{octets_of, pseudo_header_bytes, with_pseudo_header}
-use Rattle.wire_ipv4.specs.WordSum.{residue, words}
-use Rattle.wire_ipv4.specs.declared.ip_protocol.IpProtocol.TheVariants as protocol
+use Rattle.wire_checksum.proofs.Residues.{residue-bound, residue-complement, residue-of_zero, residue-same}
+use Rattle.wire_checksum.proofs.WordLists.{sum-words-append}
+use Rattle.wire_checksum.specs.PseudoHeader.{pseudo_header_bytes, with_pseudo_header}
+use Rattle.wire_ends.specs.IpAddress.{octets_of}
+use Rattle.wire_checksum.specs.WordSum.{residue, words}
+use Rattle.wire_ends.specs.declared.ip_protocol.IpProtocol.TheVariants as protocol
 use Rattle.wire_udp.proofs.UdpEmitted.{packet_len-packet_with, take-packet_with}
 use Rattle.wire_udp.specs.Udp.{Reads, bytes_of, checksum_for, header_bytes, packet_len, packet_sum, packet_with}
 use Rattle.wire_udp.specs.declared.udp.repr.UdpRepr.{UdpRepr}
@@ -75,10 +76,10 @@ verifies v src dst payload s d =
     ap residue (sum-words-checksum v src dst payload (checksum_for (residue total)) s d (omega arith)) ∙ residue-checksum_for total
 
 -- a packet with any checksum is read
-reads-packet_with : (v : UdpRepr) (src dst : IpAddress) (payload rest : List ℕ) (checksum : ℕ) (checked : Bool) → IsInRange v payload src dst
-    → (IsTrue checked → (checksum ≢ 0) × (checksum < 65536) × (packet_sum src dst (packet_with v payload checksum) ≡ 65535))
-    → Reads (packet_with v payload checksum ++ rest) src dst checked v payload
-reads-packet_with v src dst payload rest checksum checked h sound =
+reads-packet_with : (v : UdpRepr) (src dst : IpAddress) (payload rest : List ℕ) (checksum : ℕ) (verified : Bool) → IsInRange v payload src dst
+    → (IsTrue verified → (checksum ≢ 0) × (checksum < 65536) × (packet_sum src dst (packet_with v payload checksum) ≡ 65535))
+    → Reads (packet_with v payload checksum ++ rest) src dst verified v payload
+reads-packet_with v src dst payload rest checksum verified h sound =
     let long = packet_len-packet_with v payload rest checksum h.payload_len in
     let body_len : packet_len (packet_with v payload checksum ++ rest) - 8 ≡ length payload = omega (arith, long) in
     let whole : length (packet_with v payload checksum ++ rest) ≡ 8 + length payload + length rest = simp length-append (omega arith) in
@@ -93,11 +94,11 @@ reads-packet_with v src dst payload rest checksum checked h sound =
       body = sym (ap (λ (n : ℕ). take n (payload ++ rest)) body_len ∙ take-append_seam payload rest);
     }
 
-pub reads-bytes_of : (v : UdpRepr) (src dst : IpAddress) (payload rest : List ℕ) (written checked : Bool) → IsInRange v payload src dst
-    → (IsTrue checked → IsTrue written) → Reads (bytes_of v payload src dst written ++ rest) src dst checked v payload
-reads-bytes_of v src dst payload rest true checked h sound =
+pub reads-bytes_of : (v : UdpRepr) (src dst : IpAddress) (payload rest : List ℕ) (computed verified : Bool) → IsInRange v payload src dst
+    → (IsTrue verified → IsTrue computed) → Reads (bytes_of v payload src dst computed ++ rest) src dst verified v payload
+reads-bytes_of v src dst payload rest true verified h sound =
     let sum = packet_sum src dst (packet_with v payload 0) in
     let bounds = checksum_for-bounds sum (residue-bound _) in
-    reads-packet_with v src dst payload rest (checksum_for sum) checked h (λ on. (omega arith, omega arith, verifies v src dst payload h.src_octets h.dst_octets))
-reads-bytes_of v src dst payload rest false checked h sound =
-    reads-packet_with v src dst payload rest 0 checked h (λ on. let no : IsTrue false = sound on in absurd (cc))
+    reads-packet_with v src dst payload rest (checksum_for sum) verified h (λ on. (omega arith, omega arith, verifies v src dst payload h.src_octets h.dst_octets))
+reads-bytes_of v src dst payload rest false verified h sound =
+    reads-packet_with v src dst payload rest 0 verified h (λ on. let no : IsTrue false = sound on in absurd (cc))

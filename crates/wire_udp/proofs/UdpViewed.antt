@@ -1,17 +1,20 @@
 -- The writing view of a packet, as the walks of all views take it. Assumes nothing.
 use mathlib.Core.Path.{refl}
-use denote.Signature.{static_lft}
+use mathlib.Core.List.{List}
+use Prim.Native.Nat.{ℕ}
+use denote.Builtin.{u8}
+use denote.Ref.{MutBor}
 use Rattle.wire_field.proofs.Views.{View}
-use Rattle.wire_udp.specs.declared.udp.packet_mut.UdpPacketMut.{UdpPacketMut}
-use Rattle.wire_udp.specs.contracts.udp.packet_mut.UdpPacketMut as T
+use Rattle.wire_udp.specs.Udp.{Writing}
+use Rattle.wire_udp.specs.contracts.udp.packet.UdpView as T
 
 abbrev pub view : View
 view = record {
-  name = (T.struct static_lft).name;
-  D = UdpPacketMut;
+  name = (T.struct u8).name;
+  D = Writing;
   buffer = λ packet. packet.buffer;
   make = λ buffer. record { buffer = buffer };
   eta = λ packet. refl;
   beta = λ buffer. refl;
-  propositions = T.the_propositions;
+  propositions = T.the_propositions (MutBor (List ℕ));
 }

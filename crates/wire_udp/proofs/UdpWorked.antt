@@ -4,7 +4,7 @@ use Rattle.std.specs.List.{list_all, range_with_len}
 use Rattle.std.specs.Fmt.{digits}
 use Rattle.wire_ends.specs.declared.ip_address.IpAddress.{IpAddress}
 use Rattle.wire_ends.specs.declared.ip_address.IpAddress.TheVariants.{Ipv4, Ipv6}
-use Rattle.wire_ipv4.specs.WordSum.{residue, words}
+use Rattle.wire_checksum.specs.WordSum.{residue, words}
 use Rattle.wire_udp.specs.Udp.{bytes_of, header_bytes, payload_of, pseudo_header_sum, udp_of, with_checksum}
 use Rattle.wire_udp.specs.UdpText.{packet_text, value_text}
 use Rattle.wire_udp.specs.declared.udp.repr.UdpRepr.{UdpRepr}

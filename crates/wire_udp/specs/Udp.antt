@@ -1,39 +1,49 @@
 -- UDP packets (RFC 768; over IPv6 RFC 8200, section 8.1).
 use Rattle.std.specs.Prelude.{ℕ, ◌≡◌, ◌≢◌, ◌≤◌, ◌+◌, ◌-◌, ◌⊎◌, ◌++◌, ◌==◌, ◌&&◌, ◌||◌, not, nat_le, if◌then◌else◌, Bool, true, false, IsTrue, Option, Some, None, List, length, slice_range, take}
-use Rattle.std.specs.Borrow.{MutBor}
+use Rattle.std.specs.Borrow.{Bor, MutBor}
 use Rattle.byteorder.specs.Endian.{big_bytes}
-use Rattle.wire_ends.specs.IpAddress.{version_of}
+use Rattle.wire_ends.specs.IpAddress.{octets_of, version_of}
 use Rattle.wire_ends.specs.declared.ip_address.IpAddress.{IpAddress}
 use Rattle.wire_ends.specs.declared.ip_address.IpAddress.TheVariants as address
 use Rattle.wire_ends.specs.declared.ip_version.IpVersion.TheVariants as version
 use Rattle.wire_field.specs.Field.{field, with_field}
 use Rattle.wire_field.specs.Loan.{Holds}
-use Rattle.wire_ipv4.specs.PseudoHeader.{octets_of, pseudo_header_bytes, with_pseudo_header}
-use Rattle.wire_ipv4.specs.WordSum.{sum_of_bytes}
-use Rattle.wire_ipv4.specs.declared.ip_protocol.IpProtocol.TheVariants as protocol
-use Rattle.wire_udp.specs.declared.udp.packet.UdpPacket.{UdpPacket}
-use Rattle.wire_udp.specs.declared.udp.packet_mut.UdpPacketMut.{UdpPacketMut}
+use Rattle.wire_checksum.specs.PseudoHeader.{pseudo_header_bytes, with_pseudo_header}
+use Rattle.wire_checksum.specs.WordSum.{sum_of_bytes}
+use Rattle.wire_ends.specs.declared.ip_protocol.IpProtocol.TheVariants as protocol
+use Rattle.wire_udp.specs.declared.udp.packet.UdpView.{UdpView}
 use Rattle.wire_udp.specs.declared.udp.repr.UdpRepr.{UdpRepr}
 
--- the bytes under a view
-abbrev pub packet_bytes : UdpPacket → List ℕ
-packet_bytes p = p.buffer.now
+-- a view that reads, and one that writes too
+abbrev pub Reading : Type 0
+Reading = UdpView (Bor (List ℕ))
 
--- the slice under a writing view
-abbrev pub packet_slice : UdpPacketMut → MutBor (List ℕ)
+abbrev pub Writing : Type 0
+Writing = UdpView (MutBor (List ℕ))
+
+-- the slice under a view
+abbrev pub packet_slice : {B : Type 0} → UdpView B → B
 packet_slice p = p.buffer
 
+-- the bytes under a reading view
+abbrev pub packet_bytes : Reading → List ℕ
+packet_bytes p = (packet_slice p).now
+
 -- the bytes under a writing view
-abbrev pub packet_bytes_mut : UdpPacketMut → List ℕ
+abbrev pub packet_bytes_mut : Writing → List ℕ
 packet_bytes_mut p = (packet_slice p).now
 
 -- the view is still of the same slice, which holds these bytes now
-abbrev pub Becomes : UdpPacketMut → UdpPacketMut → List ℕ → Type 0
+abbrev pub Becomes : Writing → Writing → List ℕ → Type 0
 Becomes old new bytes = Holds (packet_slice old) (packet_slice new) bytes
 
 -- the length of a packet in octets, its header included
 abbrev pub packet_len : List ℕ → ℕ
 packet_len bytes = field bytes 32 16
+
+-- the length of the longest payload, in octets: the packet's length counts a header of 8 too
+abbrev pub max_payload_len : ℕ
+max_payload_len = 65527
 
 -- what follows the header, up to the packet's length
 abbrev pub payload_of : List ℕ → List ℕ
@@ -76,10 +86,10 @@ with_checksum src dst bytes =
 -- ---- reading and writing
 
 -- the bytes begin with a packet between two addresses, whose header has these values, and with this payload
-pub record Reads (bytes : List ℕ) (src dst : IpAddress) (checked : Bool) (v : UdpRepr) (payload : List ℕ) : Type 0 where
+pub record Reads (bytes : List ℕ) (src dst : IpAddress) (verified : Bool) (v : UdpRepr) (payload : List ℕ) : Type 0 where
   pub lengths : HasLengths bytes
   pub receiver : field bytes 16 16 ≢ 0
-  pub checksum : IsTrue checked → HasChecksum src dst bytes
+  pub checksum : IsTrue verified → HasChecksum src dst bytes
   pub src_port : v.src_port ≡ field bytes 0 16
   pub dst_port : v.dst_port ≡ field bytes 16 16
   pub body : payload ≡ payload_of bytes
@@ -103,11 +113,11 @@ has_checksum src dst bytes = if field bytes 48 16 == 0 then is_ipv4 src else pac
 
 -- whether the bytes are read as a value
 abbrev pub is_read : IpAddress → IpAddress → Bool → List ℕ → Bool
-is_read src dst checked bytes = has_lengths bytes && not (field bytes 16 16 == 0) && (not checked || has_checksum src dst bytes)
+is_read src dst verified bytes = has_lengths bytes && not (field bytes 16 16 == 0) && (not verified || has_checksum src dst bytes)
 
 -- the one value that the bytes are read as, if there is one
 unfoldable pub udp_of : IpAddress → IpAddress → Bool → List ℕ → Option UdpRepr
-udp_of src dst checked bytes = if is_read src dst checked bytes then Some (header_of bytes) else None
+udp_of src dst verified bytes = if is_read src dst verified bytes then Some (header_of bytes) else None
 
 -- the header that has these values, for a payload of this length, and this checksum
 abbrev pub header_bytes : UdpRepr → ℕ → ℕ → List ℕ
@@ -117,6 +127,6 @@ header_bytes v payload_len checksum = big_bytes 2 v.src_port ++ big_bytes 2 v.ds
 abbrev pub packet_with : UdpRepr → List ℕ → ℕ → List ℕ
 packet_with v payload checksum = header_bytes v (length payload) checksum ++ payload
 
--- the header and the payload, with the checksum of both where that is written, else 0
+-- the header and the payload, with the checksum of both where that is computed, else 0
 abbrev pub bytes_of : UdpRepr → List ℕ → IpAddress → IpAddress → Bool → List ℕ
-bytes_of v payload src dst written = packet_with v payload (if written then checksum_for (packet_sum src dst (packet_with v payload 0)) else 0)
+bytes_of v payload src dst computed = packet_with v payload (if computed then checksum_for (packet_sum src dst (packet_with v payload 0)) else 0)

@@ -2,27 +2,27 @@
 
 ghost use Rattle.std.specs.Prelude.{◌≡◌, ◌≢◌, ◌↔◌, ◌++◌, ◌≤◌, IsTrue, Some, length};
 ghost use Rattle.wire_ends.specs.IpAddress.{version_of};
-ghost use Rattle.wire_udp.specs.Udp.{Reads, bytes_of, payload_of, udp_of};
+ghost use Rattle.wire_udp.specs.Udp.{Reads, bytes_of, max_payload_len, payload_of, udp_of};
 
 use crate::udp::UdpRepr;
 use wire_ends::IpAddress;
 
 /// The packet of a value and a payload, with any bytes after it, is read as that value and payload,
-/// where a checksum that is verified was written.
+/// where a checksum that is verified was computed.
 pub fn emit_reads_back_udp(
     value: UdpRepr,
     src_addr: IpAddress,
     dst_addr: IpAddress,
     payload: &[u8],
     rest: &[u8],
-    written: bool,
-    checked: bool,
+    computed: bool,
+    verified: bool,
 )
-    requires payload_len { length payload.now ≤ 65527 }
+    requires payload_len { length payload.now ≤ max_payload_len }
     requires receiver { value.dst_port ≢ 0 }
     requires family { version_of src_addr ≡ version_of dst_addr }
-    requires checksum { IsTrue checked → IsTrue written }
-    ensures { Reads (bytes_of value payload.now src_addr dst_addr written ++ rest.now) src_addr dst_addr checked value payload.now }
+    requires checksum { IsTrue verified → IsTrue computed }
+    ensures { Reads (bytes_of value payload.now src_addr dst_addr computed ++ rest.now) src_addr dst_addr verified value payload.now }
 {}
 
 /// No bytes are read as two values, or with two payloads.
@@ -30,14 +30,14 @@ pub fn reads_once_udp(
     bytes: &[u8],
     src_addr: IpAddress,
     dst_addr: IpAddress,
-    checked: bool,
+    verified: bool,
     value: UdpRepr,
     payload: &[u8],
     other: UdpRepr,
     other_payload: &[u8],
 )
-    requires value { Reads bytes.now src_addr dst_addr checked value payload.now }
-    requires other { Reads bytes.now src_addr dst_addr checked other other_payload.now }
+    requires value { Reads bytes.now src_addr dst_addr verified value payload.now }
+    requires other { Reads bytes.now src_addr dst_addr verified other other_payload.now }
     ensures value { value ≡ other }
     ensures payload { payload.now ≡ other_payload.now }
 {}
@@ -47,8 +47,8 @@ pub fn reading_is_computed_udp(
     bytes: &[u8],
     src_addr: IpAddress,
     dst_addr: IpAddress,
-    checked: bool,
+    verified: bool,
     value: UdpRepr,
 )
-    ensures { (udp_of src_addr dst_addr checked bytes.now ≡ Some value) ↔ Reads bytes.now src_addr dst_addr checked value (payload_of bytes.now) }
+    ensures { (udp_of src_addr dst_addr verified bytes.now ≡ Some value) ↔ Reads bytes.now src_addr dst_addr verified value (payload_of bytes.now) }
 {}

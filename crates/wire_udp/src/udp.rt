@@ -6,11 +6,8 @@ ghost use Rattle.wire_udp.specs.Udp.{checksum_for};
 mod packet;
 mod packet_mut;
 mod repr;
-#[cfg(test)]
-mod tests;
 
-pub use packet::UdpPacket;
-pub use packet_mut::UdpPacketMut;
+pub use packet::{UdpPacket, UdpPacketMut};
 pub use repr::UdpRepr;
 
 /// The length of a header, in octets.

@@ -4,7 +4,7 @@ ghost use Rattle.std.specs.Prelude.{◌≡◌, ◌↔◌, ◌≤◌, IfOk, IsOk,
 ghost use Rattle.wire_field.specs.Field.{field};
 ghost use Rattle.wire_ip.specs.Ip.{packet_bytes};
 
-use wire_addr::{Error, Result};
+use net_base::{Error, Result};
 
 /// A view of the bytes of a packet of either version.
 #[derive(Debug, Clone, Copy, PartialEq, Eq)]

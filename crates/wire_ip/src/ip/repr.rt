@@ -1,6 +1,7 @@
 //! The values of an IP header of either version.
 
-ghost use Rattle.std.specs.Prelude.{◌≡◌, ◌↔◌, ◌≤◌, ◌<◌, ◌+◌, ◌^◌, ◌++◌, MatchResult, None, Ok, Some, drop, length};
+ghost use Rattle.std.specs.Prelude.{◌≡◌, ◌↔◌, ◌≤◌, ◌<◌, ◌+◌, ◌^◌, ◌++◌, Ok, drop, length};
+ghost use Rattle.std.specs.Result.{result_ok};
 ghost use Rattle.net_base.specs.Checksum.{computes, verifies};
 ghost use Rattle.wire_ends.specs.IpAddress as address;
 ghost use Rattle.wire_ip.specs.Ip.{Reads, bytes_of, dst_addr_of, header_len_of, hop_limit_of, ip_of, max_payload_len, next_header_of, packet_bytes, payload_len_of, src_addr_of, version_of, with_payload_len};
@@ -8,11 +9,10 @@ ghost use Rattle.wire_ip.specs.declared.ip.repr.IpRepr.{IpRepr};
 ghost use Rattle.wire_ip.specs.declared.ip.repr.IpRepr.TheVariants.{Ipv4, Ipv6};
 
 use super::IpPacket;
-use crate::ipv6::{Ipv6Packet, Ipv6PacketMut, Ipv6Repr};
-use net_base::ChecksumCapabilities;
-use wire_addr::Result;
-use wire_ends::{IpAddress, IpVersion};
-use wire_ipv4::{IpProtocol, Ipv4Packet, Ipv4PacketMut, Ipv4Repr};
+use net_base::{ChecksumCapabilities, Result};
+use wire_ends::{IpAddress, IpProtocol, IpVersion};
+use wire_ipv4::{Ipv4Packet, Ipv4PacketMut, Ipv4Repr};
+use wire_ipv6::{Ipv6Packet, Ipv6PacketMut, Ipv6Repr};
 
 /// The values of a packet's header, whose version is that of its addresses.
 #[derive(Debug, Clone, Copy, PartialEq, Eq)]
@@ -53,31 +53,22 @@ impl IpRepr {
         ensures payload_len { payload_len_of result ≡ payload_len }
         ensures hop_limit { hop_limit_of result ≡ hop_limit }
     {
-        match src_addr {
-            IpAddress::Ipv4(src_addr) => {
-                let IpAddress::Ipv4(dst_addr) = dst_addr else {
-                    unreachable!()
-                };
-                IpRepr::Ipv4(Ipv4Repr {
-                    src_addr,
-                    dst_addr,
-                    next_header,
-                    payload_len,
-                    hop_limit,
-                })
-            }
-            IpAddress::Ipv6(src_addr) => {
-                let IpAddress::Ipv6(dst_addr) = dst_addr else {
-                    unreachable!()
-                };
-                IpRepr::Ipv6(Ipv6Repr {
-                    src_addr,
-                    dst_addr,
-                    next_header,
-                    payload_len,
-                    hop_limit,
-                })
-            }
+        match (&src_addr, &dst_addr) {
+            (IpAddress::Ipv4(src_addr), IpAddress::Ipv4(dst_addr)) => IpRepr::Ipv4(Ipv4Repr {
+                src_addr: *src_addr,
+                dst_addr: *dst_addr,
+                next_header,
+                payload_len,
+                hop_limit,
+            }),
+            (IpAddress::Ipv6(src_addr), IpAddress::Ipv6(dst_addr)) => IpRepr::Ipv6(Ipv6Repr {
+                src_addr: *src_addr,
+                dst_addr: *dst_addr,
+                next_header,
+                payload_len,
+                hop_limit,
+            }),
+            _ => unreachable!(),
         }
     }
 
@@ -85,8 +76,7 @@ impl IpRepr {
     /// checksum of an IPv4 header is verified where `caps` says so.
     pub fn parse(packet: &IpPacket<'_>, caps: &ChecksumCapabilities) -> Result<IpRepr>
         ensures reads { (v : IpRepr) → (result ≡ Ok v) ↔ Reads (packet_bytes packet.now) (verifies caps.now.ipv4) v }
-        ensures value { MatchResult result (λ v. ip_of (verifies caps.now.ipv4) (packet_bytes packet.now) ≡ Some v)
-            (λ _. ip_of (verifies caps.now.ipv4) (packet_bytes packet.now) ≡ None) }
+        ensures value { ip_of (verifies caps.now.ipv4) (packet_bytes packet.now) ≡ result_ok result }
     {
         let bytes = packet.into_inner();
         match IpVersion::of_packet(bytes)? {
@@ -191,6 +181,7 @@ impl IpRepr {
 
     /// Writes the header, and leaves what follows it. The checksum of an IPv4 header is computed where
     /// `caps` says so, else 0.
+    #[inline(always)]
     pub fn emit(&self, buffer: &mut [u8], caps: &ChecksumCapabilities)
         requires room { header_len_of self.now ≤ length buffer.old }
         requires payload_len { payload_len_of self.now ≤ max_payload_len self.now }

@@ -1,36 +1,23 @@
-//! A view that reads and writes the bytes of an IPv4 packet.
+//! What a view of an IPv4 packet writes.
 
-ghost use Rattle.std.specs.Prelude.{◌≡◌, ◌↔◌, ◌≤◌, ◌<◌, ◌-◌, ◌/◌, if◌then◌else◌, IfOk, IsOk, IsTrue, length, slice_range, take};
+ghost use Rattle.std.specs.Prelude.{◌≡◌, ◌↔◌, ◌≤◌, ◌<◌, ◌-◌, ◌/◌, if◌then◌else◌, IfOk, IsOk, length, slice_range};
 ghost use Rattle.std.specs.Borrow.{sem};
-ghost use Rattle.wire_field.specs.Field.{field, with_field, with_range};
+ghost use Rattle.wire_field.specs.Field.{with_field, with_range};
 ghost use Rattle.wire_field.specs.Loan.{Checks, Holds, Locates, StaysIfErr};
-ghost use Rattle.wire_ipv4.specs.Ipv4.{Becomes, HasLengths, fragment_offset, header_len, key_of, packet_bytes, packet_bytes_mut, packet_slice, total_len, with_checksum};
+ghost use Rattle.wire_ipv4.specs.Ipv4.{Becomes, HasLengths, header_len, packet_bytes_mut, packet_slice, total_len, with_checksum};
 ghost use Rattle.wire_ipv4.specs.Ipv4Loan.{LendsPayload};
-ghost use Rattle.wire_ipv4.specs.Protocol.{number_of, protocol_of};
-ghost use Rattle.wire_ipv4.specs.WordSum.{sum_of_bytes};
+ghost use Rattle.wire_ends.specs.Protocol.{number_of};
 
-use super::{Ipv4FragKey, Ipv4Packet};
-use crate::checksum;
-use crate::ip_protocol::IpProtocol;
+use super::packet::Ipv4View;
+use super::{Ipv4Packet, Ipv4PacketMut};
 use byteorder::{ByteOrder, NetworkEndian};
-use wire_addr::{Error, Ipv4Address, Result};
-use wire_field::{Checked, Located, replace_bits_u16, set_bits};
-
-/// A view of the bytes of a packet that writes to them. Its calls ask for the bytes that they use, and
-/// for no more.
-#[derive(Debug, Drop)]
-pub struct Ipv4PacketMut<'a> {
-    buffer: &'a mut [u8],
-}
+use net_base::{Error, Result};
+use wire_addr::Ipv4Address;
+use wire_checksum::checksum;
+use wire_ends::IpProtocol;
+use wire_field::{Checked, Located, set_bits, set_bits_u16};
 
 impl<'a> Ipv4PacketMut<'a> {
-    /// The view of any bytes.
-    pub fn new_unchecked(buffer: &'a mut [u8]) -> Ipv4PacketMut<'a>
-        ensures { Holds buffer.entry (packet_slice result) buffer.old }
-    {
-        Ipv4PacketMut { buffer }
-    }
-
     /// The view of bytes that `check_len` takes. An error leaves them as they are.
     pub fn new_checked(buffer: &'a mut [u8]) -> Result<Ipv4PacketMut<'a>>
         ensures* refused { sem 𝓛 (StaysIfErr buffer.entry packet_slice result) }
@@ -39,171 +26,12 @@ impl<'a> Ipv4PacketMut<'a> {
     {
         let checked = check(buffer);
         if checked.ok {
-            Ok(Ipv4PacketMut {
+            Ok(Ipv4View {
                 buffer: checked.bytes,
             })
         } else {
             Err(Error)
         }
-    }
-
-    /// Whether the bytes hold a whole header, and as many bytes as it speaks of. Then each call of
-    /// this view may be made, until the header's length or the packet's is written.
-    pub fn check_len(&self) -> Result<()>
-        ensures { IsOk result ↔ HasLengths (packet_bytes_mut self.now) }
-    {
-        self.as_view().check_len()
-    }
-
-    /// The bytes, for as long as they are lent to the view.
-    pub fn into_inner(self) -> &'a mut [u8]
-        ensures { Holds (packet_slice self.entry) result (packet_bytes_mut self.entry) }
-    {
-        self.buffer
-    }
-
-    /// The bytes.
-    pub fn as_bytes(&self) -> &[u8]
-        ensures { result.now ≡ packet_bytes_mut self.now }
-    {
-        self.buffer
-    }
-
-    /// A view that reads the same bytes.
-    pub fn as_view(&self) -> Ipv4Packet<'_>
-        ensures { packet_bytes result ≡ packet_bytes_mut self.now }
-    {
-        Ipv4Packet::new_unchecked(self.buffer)
-    }
-
-    /// The version, of 4 bits.
-    pub fn version(&self) -> u8
-        requires { 1 ≤ length (packet_bytes_mut self.now) }
-        ensures { result ≡ field (packet_bytes_mut self.now) 0 4 }
-    {
-        self.as_view().version()
-    }
-
-    /// The length of the header in octets, a multiple of 4 up to 60.
-    pub fn header_len(&self) -> u8
-        requires { 1 ≤ length (packet_bytes_mut self.now) }
-        ensures { result ≡ header_len (packet_bytes_mut self.now) }
-    {
-        self.as_view().header_len()
-    }
-
-    /// The differentiated services code point, of 6 bits (RFC 2474, section 3).
-    pub fn dscp(&self) -> u8
-        requires { 2 ≤ length (packet_bytes_mut self.now) }
-        ensures { result ≡ field (packet_bytes_mut self.now) 8 6 }
-    {
-        self.as_view().dscp()
-    }
-
-    /// The explicit congestion notification, of 2 bits (RFC 3168, section 5).
-    pub fn ecn(&self) -> u8
-        requires { 2 ≤ length (packet_bytes_mut self.now) }
-        ensures { result ≡ field (packet_bytes_mut self.now) 14 2 }
-    {
-        self.as_view().ecn()
-    }
-
-    /// The length of the packet in octets, its header included.
-    pub fn total_len(&self) -> u16
-        requires { 4 ≤ length (packet_bytes_mut self.now) }
-        ensures { result ≡ total_len (packet_bytes_mut self.now) }
-    {
-        self.as_view().total_len()
-    }
-
-    /// The number that the fragments of a packet share.
-    pub fn ident(&self) -> u16
-        requires { 6 ≤ length (packet_bytes_mut self.now) }
-        ensures { result ≡ field (packet_bytes_mut self.now) 32 16 }
-    {
-        self.as_view().ident()
-    }
-
-    /// Whether the packet may not be cut into fragments.
-    pub fn dont_frag(&self) -> bool
-        requires { 8 ≤ length (packet_bytes_mut self.now) }
-        ensures { IsTrue result ↔ (field (packet_bytes_mut self.now) 49 1 ≡ 1) }
-    {
-        self.as_view().dont_frag()
-    }
-
-    /// Whether more fragments follow this one.
-    pub fn more_frags(&self) -> bool
-        requires { 8 ≤ length (packet_bytes_mut self.now) }
-        ensures { IsTrue result ↔ (field (packet_bytes_mut self.now) 50 1 ≡ 1) }
-    {
-        self.as_view().more_frags()
-    }
-
-    /// Where the fragment begins in the payload of the whole packet, in octets: a multiple of 8.
-    pub fn frag_offset(&self) -> u16
-        requires { 8 ≤ length (packet_bytes_mut self.now) }
-        ensures { result ≡ fragment_offset (packet_bytes_mut self.now) }
-    {
-        self.as_view().frag_offset()
-    }
-
-    /// How many more hops the packet may take: the field "time to live".
-    pub fn hop_limit(&self) -> u8
-        requires { 9 ≤ length (packet_bytes_mut self.now) }
-        ensures { result ≡ field (packet_bytes_mut self.now) 64 8 }
-    {
-        self.as_view().hop_limit()
-    }
-
-    /// The protocol of the payload.
-    pub fn next_header(&self) -> IpProtocol
-        requires { 10 ≤ length (packet_bytes_mut self.now) }
-        ensures { result ≡ protocol_of (field (packet_bytes_mut self.now) 72 8) }
-    {
-        self.as_view().next_header()
-    }
-
-    /// The checksum of the header.
-    pub fn checksum(&self) -> u16
-        requires { 12 ≤ length (packet_bytes_mut self.now) }
-        ensures { result ≡ field (packet_bytes_mut self.now) 80 16 }
-    {
-        self.as_view().checksum()
-    }
-
-    /// The address of the sender.
-    pub fn src_addr(&self) -> Ipv4Address
-        requires { 16 ≤ length (packet_bytes_mut self.now) }
-        ensures { result ≡ slice_range (packet_bytes_mut self.now) 12 16 }
-    {
-        self.as_view().src_addr()
-    }
-
-    /// The address of the receiver.
-    pub fn dst_addr(&self) -> Ipv4Address
-        requires { 20 ≤ length (packet_bytes_mut self.now) }
-        ensures { result ≡ slice_range (packet_bytes_mut self.now) 16 20 }
-    {
-        self.as_view().dst_addr()
-    }
-
-    /// What the fragments of the packet have in common.
-    pub fn get_key(&self) -> Ipv4FragKey
-        requires { 20 ≤ length (packet_bytes_mut self.now) }
-        ensures { result ≡ key_of (packet_bytes_mut self.now) }
-    {
-        self.as_view().get_key()
-    }
-
-    /// Whether the sum of the header, its checksum included, has all 16 bits set.
-    pub fn verify_checksum(&self) -> bool
-        requires field { 1 ≤ length (packet_bytes_mut self.now) }
-        requires header { header_len (packet_bytes_mut self.now) ≤ length (packet_bytes_mut self.now) }
-        ensures { let bytes = packet_bytes_mut self.now in
-            IsTrue result ↔ (sum_of_bytes (take (header_len bytes) bytes) ≡ 65535) }
-    {
-        self.as_view().verify_checksum()
     }
 
     /// What follows the header, up to the packet's length, to write to. What is left in it stands in
@@ -296,7 +124,7 @@ impl<'a> Ipv4PacketMut<'a> {
         requires { 8 ≤ length (packet_bytes_mut self.old) }
         ensures { Becomes self.old self.new (with_field (packet_bytes_mut self.old) 51 13 (value / 8)) }
     {
-        replace_bits_u16(&mut self.buffer[6..8], 0, 13, value / 8);
+        set_bits_u16(&mut self.buffer[6..8], 3, 13, value / 8);
     }
 
     /// Writes how many more hops the packet may take.
@@ -353,7 +181,7 @@ impl<'a> Ipv4PacketMut<'a> {
         requires header { header_len (packet_bytes_mut self.old) ≤ length (packet_bytes_mut self.old) }
         ensures { Becomes self.old self.new (with_checksum (packet_bytes_mut self.old)) }
     {
-        let header_len = usize::from(self.as_view().header_len());
+        let header_len = usize::from(self.header_len());
         self.set_checksum(0);
         let sum = checksum::data(&self.as_bytes()[..header_len]);
         self.set_checksum(!sum);

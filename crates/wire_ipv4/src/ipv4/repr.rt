@@ -1,16 +1,17 @@
 //! The values of an IPv4 header.
 
-ghost use Rattle.std.specs.Prelude.{◌≡◌, ◌↔◌, ◌≤◌, ◌++◌, MatchResult, None, Ok, OnOk, Some, drop, length};
+ghost use Rattle.std.specs.Prelude.{◌≡◌, ◌↔◌, ◌≤◌, ◌++◌, Ok, OnOk, Some, drop, length};
+ghost use Rattle.std.specs.Result.{result_ok};
 ghost use Rattle.net_base.specs.Checksum.{computes, verifies};
-ghost use Rattle.wire_ipv4.specs.Ipv4.{Becomes, HasLengths, Reads, bytes_of, header_with, ipv4_of, packet_bytes, packet_bytes_mut};
+ghost use Rattle.wire_ipv4.specs.Ipv4.{Becomes, HasLengths, Reads, bytes_of, header_with, ipv4_of, max_payload_len, packet_bytes, packet_bytes_mut};
 ghost use Rattle.wire_ipv4.specs.Ipv4Text.{value_text};
 ghost use Rattle.wire_ipv4.specs.declared.ipv4.repr.Ipv4Repr.{Ipv4Repr};
 
 use super::{IPV4_HEADER_LEN, Ipv4Packet, Ipv4PacketMut};
-use crate::ip_protocol::IpProtocol;
-use net_base::ChecksumCapabilities;
+use net_base::{ChecksumCapabilities, Error, Result};
 use std::fmt;
-use wire_addr::{Error, Ipv4Address, Result};
+use wire_addr::Ipv4Address;
+use wire_ends::IpProtocol;
 
 // The flag "don't fragment" alone, before an offset of 0.
 const DONT_FRAG: u16 = 0x4000;
@@ -32,8 +33,7 @@ impl Ipv4Repr {
     /// The header's checksum is verified where `caps` says so.
     pub fn parse(packet: &Ipv4Packet<'_>, caps: &ChecksumCapabilities) -> Result<Ipv4Repr>
         ensures reads { (v : Ipv4Repr) → (result ≡ Ok v) ↔ Reads (packet_bytes packet.now) (verifies caps.now.ipv4) v }
-        ensures value { MatchResult result (λ v. ipv4_of (verifies caps.now.ipv4) (packet_bytes packet.now) ≡ Some v)
-            (λ _. ipv4_of (verifies caps.now.ipv4) (packet_bytes packet.now) ≡ None) }
+        ensures value { ipv4_of (verifies caps.now.ipv4) (packet_bytes packet.now) ≡ result_ok result }
         ensures lengths { OnOk result (HasLengths (packet_bytes packet.now)) }
     {
         packet.check_len()?;
@@ -54,7 +54,7 @@ impl Ipv4Repr {
 
     /// The length of the header that `emit` writes, in octets.
     pub fn buffer_len(&self) -> usize
-        ensures { result ≡ 20 }
+        ensures { result ≡ IPV4_HEADER_LEN }
     {
         IPV4_HEADER_LEN
     }
@@ -62,9 +62,9 @@ impl Ipv4Repr {
     /// Writes the header, and leaves what follows it. The flag "don't fragment" is set, and the
     /// checksum is computed where `caps` says so, else 0.
     pub fn emit(&self, packet: &mut Ipv4PacketMut<'_>, caps: &ChecksumCapabilities)
-        requires room { 20 ≤ length (packet_bytes_mut packet.old) }
-        requires payload_len { self.now.payload_len ≤ 65515 }
-        ensures { Becomes packet.old packet.new (bytes_of self.now (computes caps.now.ipv4) ++ drop 20 (packet_bytes_mut packet.old)) }
+        requires room { IPV4_HEADER_LEN ≤ length (packet_bytes_mut packet.old) }
+        requires payload_len { self.now.payload_len ≤ max_payload_len }
+        ensures { Becomes packet.old packet.new (bytes_of self.now (computes caps.now.ipv4) ++ drop IPV4_HEADER_LEN (packet_bytes_mut packet.old)) }
     {
         self.emit_unsummed(packet);
         if caps.ipv4.tx() {
@@ -74,9 +74,9 @@ impl Ipv4Repr {
 
     // Writes the header with a checksum of 0.
     fn emit_unsummed(self, packet: &mut Ipv4PacketMut<'_>)
-        requires room { 20 ≤ length (packet_bytes_mut packet.old) }
-        requires payload_len { self.payload_len ≤ 65515 }
-        ensures { Becomes packet.old packet.new (header_with self 0 ++ drop 20 (packet_bytes_mut packet.old)) }
+        requires room { IPV4_HEADER_LEN ≤ length (packet_bytes_mut packet.old) }
+        requires payload_len { self.payload_len ≤ max_payload_len }
+        ensures { Becomes packet.old packet.new (header_with self 0 ++ drop IPV4_HEADER_LEN (packet_bytes_mut packet.old)) }
     {
         packet.set_version(4);
         packet.set_header_len(20);

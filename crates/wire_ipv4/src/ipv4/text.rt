@@ -1,14 +1,14 @@
 //! The fields of an IPv4 header, printed one by one.
 
-ghost use Rattle.std.specs.Prelude.{◌≡◌, ◌≤◌, length};
+ghost use Rattle.std.specs.Prelude.{◌≤◌, length};
 ghost use Rattle.std.specs.Fmt.{WritesOnOk};
 ghost use Rattle.wire_ipv4.specs.Ipv4.{packet_bytes};
 ghost use Rattle.wire_ipv4.specs.Ipv4Text.{addresses_text, fields_text, fragments_text, header_fields_text, lengths_text, text_if, unless_usual};
 
 use super::{IPV4_HEADER_LEN, Ipv4Packet};
-use crate::ip_protocol::IpProtocol;
 use std::fmt;
 use wire_addr::Ipv4Address;
+use wire_ends::IpProtocol;
 
 /// Writes the fields of a header, where the bytes hold one without options.
 pub fn write_fields<W: fmt::Write>(

@@ -1,36 +1,22 @@
-//! A view that reads and writes the bytes of a UDP packet.
+//! What a view of a UDP packet writes.
 
-ghost use Rattle.std.specs.Prelude.{◌≡◌, ◌↔◌, ◌≤◌, ◌+◌, ◌⊎◌, IfOk, IsOk, IsTrue, length};
+ghost use Rattle.std.specs.Prelude.{◌≡◌, ◌↔◌, ◌≤◌, ◌+◌, IfOk, IsOk, length};
 ghost use Rattle.std.specs.Borrow.{sem};
 ghost use Rattle.wire_ends.specs.IpAddress.{version_of};
-ghost use Rattle.wire_field.specs.Field.{field, with_field, with_range};
+ghost use Rattle.wire_field.specs.Field.{with_field, with_range};
 ghost use Rattle.wire_field.specs.Loan.{Checks, Holds, Locates, StaysIfErr};
-ghost use Rattle.wire_udp.specs.Udp.{Becomes, HasLengths, Verifies, packet_bytes, packet_bytes_mut, packet_len, packet_slice, payload_of, pseudo_header_sum, with_checksum};
+ghost use Rattle.wire_udp.specs.Udp.{Becomes, HasLengths, packet_bytes_mut, packet_len, packet_slice, payload_of, with_checksum};
 ghost use Rattle.wire_udp.specs.UdpLoan.{LendsPayload};
 
-use super::{UDP_HEADER_LEN, UdpPacket, checksum_for};
+use super::packet::UdpView;
+use super::{UDP_HEADER_LEN, UdpPacket, UdpPacketMut, checksum_for};
 use byteorder::{ByteOrder, NetworkEndian};
-use wire_addr::{Error, Result};
-use wire_ends::IpAddress;
+use net_base::{Error, Result};
+use wire_checksum::checksum;
+use wire_ends::{IpAddress, IpProtocol};
 use wire_field::{Checked, Located};
-use wire_ipv4::{IpProtocol, checksum};
 
-/// A view of the bytes of a packet that writes to them. Its calls ask for the bytes that they use, and
-/// for no more.
-#[derive(Debug, Drop)]
-pub struct UdpPacketMut<'a> {
-    buffer: &'a mut [u8],
-}
-
-#[allow(clippy::len_without_is_empty)]
 impl<'a> UdpPacketMut<'a> {
-    /// The view of any bytes.
-    pub fn new_unchecked(buffer: &'a mut [u8]) -> UdpPacketMut<'a>
-        ensures { Holds buffer.entry (packet_slice result) buffer.old }
-    {
-        UdpPacketMut { buffer }
-    }
-
     /// The view of bytes that `check_len` takes. An error leaves them as they are.
     pub fn new_checked(buffer: &'a mut [u8]) -> Result<UdpPacketMut<'a>>
         ensures* refused { sem 𝓛 (StaysIfErr buffer.entry packet_slice result) }
@@ -39,94 +25,12 @@ impl<'a> UdpPacketMut<'a> {
     {
         let checked = check(buffer);
         if checked.ok {
-            Ok(UdpPacketMut {
+            Ok(UdpView {
                 buffer: checked.bytes,
             })
         } else {
             Err(Error)
         }
-    }
-
-    /// Whether the bytes hold a whole header, and as many bytes as it speaks of. Then each call of
-    /// this view may be made, until the packet's length is written.
-    pub fn check_len(&self) -> Result<()>
-        ensures { IsOk result ↔ HasLengths (packet_bytes_mut self.now) }
-    {
-        self.as_view().check_len()
-    }
-
-    /// The bytes, for as long as they are lent to the view.
-    pub fn into_inner(self) -> &'a mut [u8]
-        ensures { Holds (packet_slice self.entry) result (packet_bytes_mut self.entry) }
-    {
-        self.buffer
-    }
-
-    /// The bytes.
-    pub fn as_bytes(&self) -> &[u8]
-        ensures { result.now ≡ packet_bytes_mut self.now }
-    {
-        self.buffer
-    }
-
-    /// A view that reads the same bytes.
-    pub fn as_view(&self) -> UdpPacket<'_>
-        ensures { packet_bytes result ≡ packet_bytes_mut self.now }
-    {
-        UdpPacket::new_unchecked(self.buffer)
-    }
-
-    /// The port of the sender, or 0 where it has none.
-    pub fn src_port(&self) -> u16
-        requires { 2 ≤ length (packet_bytes_mut self.now) }
-        ensures { result ≡ field (packet_bytes_mut self.now) 0 16 }
-    {
-        self.as_view().src_port()
-    }
-
-    /// The port of the receiver.
-    pub fn dst_port(&self) -> u16
-        requires { 4 ≤ length (packet_bytes_mut self.now) }
-        ensures { result ≡ field (packet_bytes_mut self.now) 16 16 }
-    {
-        self.as_view().dst_port()
-    }
-
-    /// The length of the packet in octets, its header included.
-    pub fn len(&self) -> u16
-        requires { 6 ≤ length (packet_bytes_mut self.now) }
-        ensures { result ≡ packet_len (packet_bytes_mut self.now) }
-    {
-        self.as_view().len()
-    }
-
-    /// The checksum, or 0 where the sender computed none.
-    pub fn checksum(&self) -> u16
-        requires { 8 ≤ length (packet_bytes_mut self.now) }
-        ensures { result ≡ field (packet_bytes_mut self.now) 48 16 }
-    {
-        self.as_view().checksum()
-    }
-
-    /// Whether the field of the checksum holds the sum of the pseudo header alone, as it does where the
-    /// device is to add that of the packet.
-    pub fn verify_partial_checksum(&self, src_addr: &IpAddress, dst_addr: &IpAddress) -> bool
-        requires header { 8 ≤ length (packet_bytes_mut self.now) }
-        requires family { version_of src_addr.now ≡ version_of dst_addr.now }
-        ensures { IsTrue result ↔ (field (packet_bytes_mut self.now) 48 16 ≡ pseudo_header_sum src_addr.now dst_addr.now (packet_bytes_mut self.now)) }
-    {
-        self.as_view().verify_partial_checksum(src_addr, dst_addr)
-    }
-
-    /// Whether no checksum was computed, or the sum of the packet with its pseudo header, the checksum
-    /// included, has all 16 bits set.
-    pub fn verify_checksum(&self, src_addr: &IpAddress, dst_addr: &IpAddress) -> bool
-        requires header { 8 ≤ length (packet_bytes_mut self.now) }
-        requires whole { packet_len (packet_bytes_mut self.now) ≤ length (packet_bytes_mut self.now) }
-        requires family { version_of src_addr.now ≡ version_of dst_addr.now }
-        ensures { IsTrue result ↔ ((field (packet_bytes_mut self.now) 48 16 ≡ 0) ⊎ Verifies src_addr.now dst_addr.now (packet_bytes_mut self.now)) }
-    {
-        self.as_view().verify_checksum(src_addr, dst_addr)
     }
 
     /// What follows the header, up to the packet's length, to write to. What is left in it stands in
@@ -188,7 +92,7 @@ impl<'a> UdpPacketMut<'a> {
         requires family { version_of src_addr.now ≡ version_of dst_addr.now }
         ensures { Becomes self.old self.new (with_checksum src_addr.now dst_addr.now (packet_bytes_mut self.old)) }
     {
-        let len = usize::from(self.as_view().len());
+        let len = usize::from(self.len());
         self.set_checksum(0);
         let packet = &self.as_bytes()[..len];
         let sum = checksum::packet(*src_addr, *dst_addr, IpProtocol::Udp, packet);

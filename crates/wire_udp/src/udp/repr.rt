@@ -1,18 +1,18 @@
 //! The values of a UDP header.
 
-ghost use Rattle.std.specs.Prelude.{◌≡◌, ◌↔◌, ◌≤◌, ◌+◌, ◌++◌, IsTrue, MatchResult, None, Ok, OnOk, Some, drop, length};
+ghost use Rattle.std.specs.Prelude.{◌≡◌, ◌↔◌, ◌≤◌, ◌+◌, ◌++◌, IsTrue, Ok, OnOk, Some, drop, length};
+ghost use Rattle.std.specs.Result.{result_ok};
 ghost use Rattle.net_base.specs.Checksum.{computes, verifies};
 ghost use Rattle.wire_ends.specs.IpAddress.{version_of};
-ghost use Rattle.wire_udp.specs.Udp.{Becomes, HasChecksum, HasLengths, Reads, bytes_of, checksum_for, header_bytes, packet_bytes, packet_bytes_mut, packet_sum, packet_with, payload_of, udp_of};
+ghost use Rattle.wire_udp.specs.Udp.{Becomes, HasChecksum, HasLengths, Reads, bytes_of, checksum_for, header_bytes, max_payload_len, packet_bytes, packet_bytes_mut, packet_sum, packet_with, payload_of, udp_of};
 ghost use Rattle.wire_udp.specs.UdpText.{value_text};
 ghost use Rattle.wire_udp.specs.declared.udp.repr.UdpRepr.{UdpRepr};
 
 use super::{UDP_HEADER_LEN, UdpPacket, UdpPacketMut, checksum_for};
-use net_base::ChecksumCapabilities;
+use net_base::{ChecksumCapabilities, Error, Result};
 use std::fmt;
-use wire_addr::{Error, Result};
-use wire_ends::IpAddress;
-use wire_ipv4::{IpProtocol, checksum};
+use wire_checksum::checksum;
+use wire_ends::{IpAddress, IpProtocol};
 
 /// The values of a packet's header that are more than its layout.
 #[derive(Debug, Clone, Copy, PartialEq, Eq)]
@@ -34,8 +34,7 @@ impl UdpRepr {
         requires { version_of src_addr.now ≡ version_of dst_addr.now }
         ensures reads { let bytes = packet_bytes packet.now in
             (v : UdpRepr) → (result ≡ Ok v) ↔ Reads bytes src_addr.now dst_addr.now (verifies caps.now.udp) v (payload_of bytes) }
-        ensures value { MatchResult result (λ v. udp_of src_addr.now dst_addr.now (verifies caps.now.udp) (packet_bytes packet.now) ≡ Some v)
-            (λ _. udp_of src_addr.now dst_addr.now (verifies caps.now.udp) (packet_bytes packet.now) ≡ None) }
+        ensures value { udp_of src_addr.now dst_addr.now (verifies caps.now.udp) (packet_bytes packet.now) ≡ result_ok result }
         ensures lengths { OnOk result (HasLengths (packet_bytes packet.now)) }
     {
         packet.check_len()?;
@@ -53,7 +52,7 @@ impl UdpRepr {
 
     /// The length of the header that `emit` writes, in octets.
     pub fn header_len(&self) -> usize
-        ensures { result ≡ 8 }
+        ensures { result ≡ UDP_HEADER_LEN }
     {
         UDP_HEADER_LEN
     }
@@ -61,9 +60,9 @@ impl UdpRepr {
     /// Writes the header for a payload of this length, in octets, without a checksum, and leaves what
     /// follows it.
     pub fn emit_header(&self, packet: &mut UdpPacketMut<'_>, payload_len: usize)
-        requires room { 8 ≤ length (packet_bytes_mut packet.old) }
-        requires payload_len { payload_len ≤ 65527 }
-        ensures { Becomes packet.old packet.new (header_bytes self.now payload_len 0 ++ drop 8 (packet_bytes_mut packet.old)) }
+        requires room { UDP_HEADER_LEN ≤ length (packet_bytes_mut packet.old) }
+        requires payload_len { payload_len ≤ max_payload_len }
+        ensures { Becomes packet.old packet.new (header_bytes self.now payload_len 0 ++ drop UDP_HEADER_LEN (packet_bytes_mut packet.old)) }
     {
         self.emit_fields(packet, payload_len, 0);
     }
@@ -78,10 +77,10 @@ impl UdpRepr {
         payload: &[u8],
         caps: &ChecksumCapabilities,
     )
-        requires room { 8 + length payload.now ≤ length (packet_bytes_mut packet.old) }
-        requires payload_len { length payload.now ≤ 65527 }
+        requires room { UDP_HEADER_LEN + length payload.now ≤ length (packet_bytes_mut packet.old) }
+        requires payload_len { length payload.now ≤ max_payload_len }
         requires family { version_of src_addr.now ≡ version_of dst_addr.now }
-        ensures { let rest = drop (8 + length payload.now) (packet_bytes_mut packet.old) in
+        ensures { let rest = drop (UDP_HEADER_LEN + length payload.now) (packet_bytes_mut packet.old) in
             Becomes packet.old packet.new (bytes_of self.now payload.now src_addr.now dst_addr.now (computes caps.now.udp) ++ rest) }
     {
         let checksum = if caps.udp.tx() {
@@ -95,9 +94,9 @@ impl UdpRepr {
 
     // Writes every field of the header.
     fn emit_fields(&self, packet: &mut UdpPacketMut<'_>, payload_len: usize, checksum: u16)
-        requires room { 8 ≤ length (packet_bytes_mut packet.old) }
-        requires payload_len { payload_len ≤ 65527 }
-        ensures { Becomes packet.old packet.new (header_bytes self.now payload_len checksum ++ drop 8 (packet_bytes_mut packet.old)) }
+        requires room { UDP_HEADER_LEN ≤ length (packet_bytes_mut packet.old) }
+        requires payload_len { payload_len ≤ max_payload_len }
+        ensures { Becomes packet.old packet.new (header_bytes self.now payload_len checksum ++ drop UDP_HEADER_LEN (packet_bytes_mut packet.old)) }
     {
         packet.set_src_port(self.src_port);
         packet.set_dst_port(self.dst_port);
@@ -108,7 +107,7 @@ impl UdpRepr {
     // The checksum of the packet with this payload. It is computed from the values, since bytes that
     // were just written are slow to read again.
     fn checksum(&self, src_addr: IpAddress, dst_addr: IpAddress, payload: &[u8]) -> u16
-        requires payload_len { length payload.now ≤ 65527 }
+        requires payload_len { length payload.now ≤ max_payload_len }
         requires family { version_of src_addr ≡ version_of dst_addr }
         ensures { result ≡ checksum_for (packet_sum src_addr dst_addr (packet_with self.now payload.now 0)) }
     {

@@ -8,7 +8,7 @@ unfolding innermost_payload
 returns-in-Ok-clause-value c =
     let frame = c.args.bytes.now in
     let read : ethernet_of frame ≡ Some c.in-Ok.header = rw c.new_unchecked-frame.ensures at c.in-Ok.ensures.value in
-    let payload : c.payload.result.now ≡ drop 14 frame = c.payload.ensures ∙ ap (drop 14) c.new_unchecked-frame.ensures in
+    let payload : c.payload.result.now ≡ drop 14 frame = c.payload.ensures ∙ ap (λ slice. drop 14 slice.now) c.new_unchecked-frame.ensures in
     rw (read, ← payload) c.packet_payload.ensures.value
 
 pub returns-in-Err-clause-value : goal.returns-in-Err-clause-value

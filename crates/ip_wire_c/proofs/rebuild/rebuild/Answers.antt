@@ -9,7 +9,7 @@ returns-in-Ok-clause-frame c =
     let frame = c.args.bytes.now in
     let v = c.in-Ok.header in
     let read : ethernet_of frame ≡ Some v = rw c.new_unchecked-frame.ensures at c.in-Ok.ensures.value in
-    let payload : c.payload.result.now ≡ drop 14 frame = c.payload.ensures ∙ ap (drop 14) c.new_unchecked-frame.ensures in
+    let payload : c.payload.result.now ≡ drop 14 frame = c.payload.ensures ∙ ap (λ slice. drop 14 slice.now) c.new_unchecked-frame.ensures in
     λ whole. rw (rebuilt-read frame v read, ← payload) c.rebuild_frame.ensures
 
 pub returns-in-Err-clause-frame : goal.returns-in-Err-clause-frame

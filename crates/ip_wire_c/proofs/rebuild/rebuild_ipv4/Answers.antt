@@ -1,6 +1,6 @@
 use Rattle.std.proofs.Common.{◌≡◌, ◌∙◌, Some, None, true, false, ap, sym, slice_range, rules}
-use Rattle.ip_wire.proofs.Frames.{datagram_of-fragment, datagram_of-unread, rebuilt-ipv4, rebuilt-ipv4-copied}
-use Rattle.ip_wire.specs.Frame.{datagram_of}
+use Rattle.ip_wire.proofs.Frames.{ipv4_packet_of-fragment, ipv4_packet_of-unread, rebuilt-ipv4, rebuilt-ipv4-copied}
+use Rattle.ip_wire.specs.Frame.{ipv4_packet_of}
 use Rattle.ip_wire.specs.Ipv4.{header_len, ipv4_of, is_fragment, total_len}
 use Rattle.net_base.specs.Checksum.{verifies}
 use Rattle.ip_wire_c.proofs.rebuild.rebuild_ipv4.Goals.{in_default-via-in-Ok+else-not-is_fragment, in_default-via-in_default}
@@ -11,7 +11,7 @@ returns-in-Ok c =
     let bytes = c.args.bytes.now in
     let caps : verifies c.default.result.ipv4 ≡ true = search rules in
     let read : ipv4_of true bytes ≡ Some c.in-Ok.header = rw (caps, c.new_unchecked-packet.ensures) at c.in-Ok.ensures.value in
-    let whole : is_fragment bytes ≡ false = ap is_fragment (sym c.new_unchecked-packet.ensures) ∙ sym c.is_fragment.ensures ∙ c.if-not-is_fragment.true in
+    let whole : is_fragment bytes ≡ false = ap (λ slice. is_fragment slice.now) (sym c.new_unchecked-packet.ensures) ∙ sym c.is_fragment.ensures ∙ c.if-not-is_fragment.true in
     let payload : c.payload.result.now ≡ slice_range bytes (header_len bytes) (total_len bytes) = rw c.new_unchecked-packet.ensures at c.payload.ensures in
     rw (rebuilt-ipv4 bytes c.in-Ok.header read whole, ← payload) c.rebuild_packet.ensures
 
@@ -19,11 +19,11 @@ pub returns-in_default : goal.returns-in_default
 returns-in_default c =
     let bytes = c.args.bytes.now in
     let caps : verifies c.default.result.ipv4 ≡ true = search rules in
-    let copied : datagram_of bytes ≡ None = elim c.in_default.branch [
+    let copied : ipv4_packet_of bytes ≡ None = elim c.in_default.branch [
       | in_default-via-in-Ok+else-not-is_fragment w ↦
-          datagram_of-fragment bytes (ap is_fragment (sym c.new_unchecked-packet.ensures) ∙ sym w.is_fragment.ensures ∙ w.if-not-is_fragment.false)
+          ipv4_packet_of-fragment bytes (ap (λ slice. is_fragment slice.now) (sym c.new_unchecked-packet.ensures) ∙ sym w.is_fragment.ensures ∙ w.if-not-is_fragment.false)
       | in_default-via-in_default w ↦
           let unread : ipv4_of true bytes ≡ None = rw (caps, c.new_unchecked-packet.ensures) at w.in_default.ensures.value in
-          datagram_of-unread bytes unread
+          ipv4_packet_of-unread bytes unread
     ] in
     rw (rebuilt-ipv4-copied bytes copied) c.copy.ensures

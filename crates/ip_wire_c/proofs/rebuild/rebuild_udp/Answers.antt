@@ -1,25 +1,26 @@
 use Rattle.std.proofs.Common.{◌≡◌, Some, None, true, rules}
 use Rattle.ip_wire.proofs.UdpLayer.{rebuilt-udp, rebuilt-udp-copied}
+use Rattle.ip_wire.specs.Ip.{dst_addr_of, src_addr_of}
 use Rattle.ip_wire.specs.Udp.{payload_of, udp_of}
 use Rattle.net_base.specs.Checksum.{computes, verifies}
 use Rattle.ip_wire_c.proofs.rebuild.rebuild_udp.Goals as goal
 
 pub returns-in-Ok : goal.returns-in-Ok
 returns-in-Ok c =
-    let src = c.args.src_addr in
-    let dst = c.args.dst_addr in
+    let src = src_addr_of c.args.ip_header.now in
+    let dst = dst_addr_of c.args.ip_header.now in
     let bytes = c.args.bytes.now in
     let verified : verifies c.default-caps.result.udp ≡ true = search rules in
     let computed : computes c.default-caps.result.udp ≡ true = search rules in
-    let read : udp_of src dst true bytes ≡ Some c.in-Ok.header = rw (verified, c.new_unchecked-packet.ensures) at c.in-Ok.ensures.value in
+    let read : udp_of src dst true bytes ≡ Some c.in-Ok.header = rw (verified, c.new_unchecked-packet.ensures, c.src_addr-src_addr.ensures, c.dst_addr-dst_addr.ensures) at c.in-Ok.ensures.value in
     let payload : c.payload.result.now ≡ payload_of bytes = rw c.new_unchecked-packet.ensures at c.payload.ensures in
-    rw (rebuilt-udp src dst bytes c.in-Ok.header read, ← payload) (rw computed at c.emit.ensures)
+    rw (rebuilt-udp src dst bytes c.in-Ok.header read, ← payload) (rw (computed, c.src_addr-src_addr.ensures, c.dst_addr-dst_addr.ensures) at c.emit.ensures)
 
 pub returns-in-Err : goal.returns-in-Err
 returns-in-Err c =
-    let src = c.args.src_addr in
-    let dst = c.args.dst_addr in
+    let src = src_addr_of c.args.ip_header.now in
+    let dst = dst_addr_of c.args.ip_header.now in
     let bytes = c.args.bytes.now in
     let verified : verifies c.default-caps.result.udp ≡ true = search rules in
-    let unread : udp_of src dst true bytes ≡ None = rw (verified, c.new_unchecked-packet.ensures) at c.in-Err.ensures.value in
+    let unread : udp_of src dst true bytes ≡ None = rw (verified, c.new_unchecked-packet.ensures, c.src_addr-src_addr.ensures, c.dst_addr-dst_addr.ensures) at c.in-Err.ensures.value in
     rw (rebuilt-udp-copied src dst bytes unread) c.copy.ensures

@@ -5,4 +5,4 @@ use Rattle.wire_ip.proofs.laws.emit_reads_back_ip.Goals as goal
 pub returns : goal.returns
 returns c =
     let in_range : IsInRange c.args.value = search rules in
-    reads-bytes_of c.args.value c.args.rest.now c.args.written c.args.checked in_range c.requires.payload c.requires.checksum
+    reads-bytes_of c.args.value c.args.rest.now c.args.computed c.args.verified in_range c.requires.payload c.requires.checksum

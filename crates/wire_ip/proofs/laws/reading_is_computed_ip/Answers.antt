@@ -2,4 +2,4 @@ use Rattle.wire_ip.proofs.IpComputed.{ip_of-Reads}
 use Rattle.wire_ip.proofs.laws.reading_is_computed_ip.Goals as goal
 
 pub returns : goal.returns
-returns c = ip_of-Reads c.args.checked c.args.bytes.now c.args.value
+returns c = ip_of-Reads c.args.verified c.args.bytes.now c.args.value

@@ -12,4 +12,4 @@ returns c =
       src_octets = search rules;
       dst_octets = search rules;
     } in
-    reads-bytes_of c.args.value c.args.src_addr c.args.dst_addr c.args.payload.now c.args.rest.now c.args.written c.args.checked in_range c.requires.checksum
+    reads-bytes_of c.args.value c.args.src_addr c.args.dst_addr c.args.payload.now c.args.rest.now c.args.computed c.args.verified in_range c.requires.checksum

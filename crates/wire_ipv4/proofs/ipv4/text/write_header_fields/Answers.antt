@@ -1,7 +1,8 @@
 use Rattle.std.proofs.Common.{arith, rules}
 use Rattle.std.proofs.lemmas.Grind.{common_steps}
 use Rattle.wire_field.specs.Field.{field}
-use Rattle.wire_ipv4.proofs.Computed.{flag-test, header_fields_text-values}
+use Rattle.wire_field.proofs.Readings.{flag-test}
+use Rattle.wire_ipv4.proofs.Ipv4Computed.{header_fields_text-values}
 use Rattle.wire_ipv4.proofs.ipv4.text.write_header_fields.Goals as goal
 
 pub returns : goal.returns

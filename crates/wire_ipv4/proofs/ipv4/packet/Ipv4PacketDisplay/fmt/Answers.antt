@@ -1,6 +1,6 @@
 use Rattle.std.proofs.Common.{◌≡◌, false, None, Some, arith, rules}
 use Rattle.std.proofs.lemmas.Grind.{common_steps}
-use Rattle.wire_ipv4.proofs.Computed.{packet_text-None, packet_text-Some}
+use Rattle.wire_ipv4.proofs.Ipv4Computed.{packet_text-None, packet_text-Some}
 use Rattle.wire_ipv4.specs.Ipv4.{ipv4_of}
 use Rattle.wire_ipv4.proofs.ipv4.packet.Ipv4PacketDisplay.fmt.Goals as goal
 

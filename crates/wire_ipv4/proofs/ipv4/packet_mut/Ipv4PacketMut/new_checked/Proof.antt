@@ -1,7 +1,7 @@
 -- `new_checked` takes bytes that hold a whole header, and as many bytes as it speaks of. Assumes `Logic`.
-use Rattle.wire_field.proofs.Checks.{makes_checked}
+use Rattle.wire_field.proofs.Checks.{error, makes_checked}
 use Rattle.wire_ipv4.specs.Ipv4.{HasLengths}
-use Rattle.wire_ipv4.proofs.Viewed.{view, error}
+use Rattle.wire_ipv4.proofs.Ipv4Viewed.{view}
 use Rattle.wire_ipv4.proofs.ipv4.packet_mut.check.Symbol as check
 use Rattle.wire_ipv4.proofs.ipv4.packet_mut.check.Met.{met}
 use Rattle.wire_ipv4.specs.contracts.ipv4.packet_mut.Ipv4PacketMut.new_checked.Key as key

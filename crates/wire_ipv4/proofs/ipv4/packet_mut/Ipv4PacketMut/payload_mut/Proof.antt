@@ -4,7 +4,7 @@ use Prim.Native.Nat.{◌≤◌}
 use lib.ListN.{length}
 use Rattle.wire_field.proofs.Views.{Place, between, lends_located}
 use Rattle.wire_ipv4.specs.Ipv4.{header_len, total_len}
-use Rattle.wire_ipv4.proofs.Viewed.{view}
+use Rattle.wire_ipv4.proofs.Ipv4Viewed.{view}
 use Rattle.wire_ipv4.proofs.ipv4.packet_mut.locate_payload.Symbol as locate
 use Rattle.wire_ipv4.proofs.ipv4.packet_mut.locate_payload.Met.{met}
 use Rattle.wire_ipv4.specs.contracts.ipv4.packet_mut.Ipv4PacketMut.payload_mut.Key as key

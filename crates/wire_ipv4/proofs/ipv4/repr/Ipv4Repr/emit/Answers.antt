@@ -1,8 +1,8 @@
 use Rattle.std.proofs.Common.{ℕ, ◌≡◌, ◌≤◌, ◌+◌, ◌-◌, ◌∙◌, if◌then◌else◌, Bool, List, ◌++◌, ap, sym, drop, length, length-append, length-drop, arith}
-use Rattle.wire_ipv4.proofs.Emitted.{with_checksum-blank}
+use Rattle.wire_ipv4.proofs.Ipv4Emitted.{with_checksum-blank}
 use Rattle.wire_ipv4.specs.Ipv4.{header_with, with_checksum}
-use Rattle.wire_ipv4.specs.Protocol.{number_of}
-use Rattle.wire_ipv4.specs.WordSum.{sum_of_bytes}
+use Rattle.wire_ends.specs.Protocol.{number_of}
+use Rattle.wire_checksum.specs.WordSum.{sum_of_bytes}
 use Rattle.wire_ipv4.specs.declared.ipv4.repr.Ipv4Repr.{Ipv4Repr}
 use Rattle.wire_ipv4.proofs.ipv4.repr.Ipv4Repr.emit.Goals as goal
 

@@ -1,6 +1,6 @@
 use Rattle.std.proofs.Common.{◌≡◌, ◌<◌, ◌+◌, ◌∙◌, length, arith, rules}
-use Rattle.wire_ipv4.proofs.Emitted.{written-blank}
-use Rattle.wire_ipv4.specs.Protocol.{number_of}
+use Rattle.wire_ipv4.proofs.Ipv4Emitted.{written-blank}
+use Rattle.wire_ends.specs.Protocol.{number_of}
 use Rattle.wire_ipv4.proofs.ipv4.repr.Ipv4Repr.emit_unsummed.Goals as goal
 
 pub returns : goal.returns

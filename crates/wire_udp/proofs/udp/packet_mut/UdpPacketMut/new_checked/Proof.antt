@@ -1,7 +1,6 @@
 -- `new_checked` takes bytes that hold a whole header, and as many bytes as it speaks of. Assumes `Logic`.
-use Rattle.wire_field.proofs.Checks.{makes_checked}
+use Rattle.wire_field.proofs.Checks.{error, makes_checked}
 use Rattle.wire_udp.specs.Udp.{HasLengths}
-use Rattle.wire_ipv4.proofs.Viewed.{error}
 use Rattle.wire_udp.proofs.UdpViewed.{view}
 use Rattle.wire_udp.proofs.udp.packet_mut.check.Symbol as check
 use Rattle.wire_udp.proofs.udp.packet_mut.check.Met.{met}

@@ -1,5 +1,5 @@
 use Rattle.std.proofs.Common.{◌≡◌, ◌%◌, ◌∙◌, ap, length, rules}
-use Rattle.wire_ipv4.specs.PseudoHeader.{octets_of}
+use Rattle.wire_ends.specs.IpAddress.{octets_of}
 use Rattle.wire_udp.proofs.UdpEmitted.{sum-parts}
 use Rattle.wire_udp.specs.Udp.{checksum_for}
 use Rattle.wire_udp.proofs.udp.repr.UdpRepr.checksum.Goals as goal

@@ -1,0 +1,3 @@
+pub mod Answered
+pub mod Refused
+pub mod Stacked

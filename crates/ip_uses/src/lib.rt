@@ -1,0 +1,10 @@
+//! Uses of the library, each a short file that stands alone. `read_frame` is the first to read.
+#![tactic(auto)]
+
+pub mod answer_arp;
+pub mod over_ipv6;
+pub mod read_frame;
+pub mod refuse_checksum;
+#[cfg(test)]
+mod tests;
+pub mod write_frame;

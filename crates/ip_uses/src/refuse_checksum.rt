@@ -1,0 +1,46 @@
+//! A UDP packet with a wrong checksum, which is refused unless the device has verified it.
+
+ghost use Rattle.std.specs.Prelude.{◌≡◌, ◌≢◌, ◌↔◌, IsErr, IsTrue, Ok};
+ghost use Rattle.ip_wire.specs.Field.{field};
+ghost use Rattle.ip_wire.specs.Udp.{HasChecksum, HasLengths, Reads, payload_of};
+ghost use Rattle.ip_wire.specs.declared.UdpRepr.{UdpRepr};
+ghost use Rattle.net_base.specs.Checksum.{all_are, verifies};
+
+use ip_wire::{IpAddress, Ipv4Address, Result, UdpPacket, UdpRepr};
+use net_base::{Checksum, ChecksumCapabilities};
+
+/// The ports of a UDP packet between two addresses. Of whole packets that name a receiver exactly those
+/// are refused whose checksum is to be verified, as `caps` says, and does not hold. One that is 0 holds:
+/// over IPv4 the sender may compute none.
+pub fn udp_ports(
+    packet: &[u8],
+    src_addr: Ipv4Address,
+    dst_addr: Ipv4Address,
+    caps: &ChecksumCapabilities,
+) -> Result<UdpRepr>
+    ensures reads { let src = IpAddress.Ipv4 src_addr in let dst = IpAddress.Ipv4 dst_addr in
+        (ports : UdpRepr) → (result ≡ Ok ports)
+        ↔ Reads packet.now src dst (verifies caps.now.udp) ports (payload_of packet.now) }
+    ensures refused { let src = IpAddress.Ipv4 src_addr in let dst = IpAddress.Ipv4 dst_addr in
+        HasLengths packet.now → field packet.now 16 16 ≢ 0 → IsErr result
+        ↔ (IsTrue (verifies caps.now.udp) × ¬ HasChecksum src dst packet.now) }
+{
+    let packet = UdpPacket::new_unchecked(packet);
+    UdpRepr::parse(
+        &packet,
+        &IpAddress::Ipv4(src_addr),
+        &IpAddress::Ipv4(dst_addr),
+        caps,
+    )
+}
+
+/// The capabilities beside a device that verifies UDP's checksum of all that it receives and computes none:
+/// here it is computed, and not looked at.
+pub fn verified_by_the_device() -> ChecksumCapabilities
+    ensures { result ≡ record (all_are Checksum.Both) { udp = Checksum.Tx } }
+{
+    ChecksumCapabilities {
+        udp: Checksum::Tx,
+        ..ChecksumCapabilities::default()
+    }
+}

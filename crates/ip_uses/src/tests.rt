@@ -1,0 +1,160 @@
+//! Each use, on frames that are written out here byte by byte.
+
+ghost use Rattle.std.specs.Prelude.{◌≡◌, ◌≤◌, ◌+◌, length};
+
+use crate::answer_arp::answer;
+use crate::over_ipv6;
+use crate::read_frame::ipv4_packet;
+use crate::refuse_checksum::{udp_ports, verified_by_the_device};
+use crate::write_frame::write_udp;
+use ip_wire::{
+    ArpOperation, ArpRepr, EthernetAddress, EthernetProtocol, EthernetRepr, IpProtocol,
+    Ipv4Address, Ipv4Repr, Ipv6Address, Ipv6Repr, UdpRepr,
+};
+use net_base::ChecksumCapabilities;
+
+/// A frame from 192.168.1.1 to 192.168.1.2 over IPv4.
+const FRAME: [u8; 46] = [
+    0x01, 0x02, 0x03, 0x04, 0x05, 0x06, 0x11, 0x12, 0x13, 0x14, 0x15, 0x16, 0x08, 0x00, 0x45, 0x00,
+    0x00, 0x20, 0x00, 0x00, 0x40, 0x00, 0x40, 0x11, 0xb7, 0x79, 0xc0, 0xa8, 0x01, 0x01, 0xc0, 0xa8,
+    0x01, 0x02, 0xbf, 0x00, 0x00, 0x35, 0x00, 0x0c, 0x12, 0x4d, 0xaa, 0x00, 0x00, 0xff,
+];
+
+/// A frame from `fe80::1` to `ff02::1`.
+const IPV6_FRAME: [u8; 66] = [
+    0x01, 0x02, 0x03, 0x04, 0x05, 0x06, 0x11, 0x12, 0x13, 0x14, 0x15, 0x16, 0x86, 0xdd, 0x60, 0x00,
+    0x00, 0x00, 0x00, 0x0c, 0x11, 0x40, 0xfe, 0x80, 0x00, 0x00, 0x00, 0x00, 0x00, 0x00, 0x00, 0x00,
+    0x00, 0x00, 0x00, 0x00, 0x00, 0x01, 0xff, 0x02, 0x00, 0x00, 0x00, 0x00, 0x00, 0x00, 0x00, 0x00,
+    0x00, 0x00, 0x00, 0x00, 0x00, 0x01, 0x00, 0x01, 0x00, 0x02, 0x00, 0x0c, 0x02, 0x4e, 0xff, 0xff,
+    0xff, 0xff,
+];
+
+/// 33.34.35.36 asks for 65.66.67.68.
+const REQUEST: [u8; 28] = [
+    0x00, 0x01, 0x08, 0x00, 0x06, 0x04, 0x00, 0x01, 0x11, 0x12, 0x13, 0x14, 0x15, 0x16, 0x21, 0x22,
+    0x23, 0x24, 0x31, 0x32, 0x33, 0x34, 0x35, 0x36, 0x41, 0x42, 0x43, 0x44,
+];
+
+/// The header of both frames.
+fn link(ethertype: EthernetProtocol) -> EthernetRepr {
+    EthernetRepr {
+        src_addr: EthernetAddress([0x11, 0x12, 0x13, 0x14, 0x15, 0x16]),
+        dst_addr: EthernetAddress([0x01, 0x02, 0x03, 0x04, 0x05, 0x06]),
+        ethertype,
+    }
+}
+
+/// The header of the packet in the first frame.
+fn header() -> Ipv4Repr
+    ensures { result.payload_len ≡ 12 }
+{
+    Ipv4Repr {
+        src_addr: Ipv4Address::new(192, 168, 1, 1),
+        dst_addr: Ipv4Address::new(192, 168, 1, 2),
+        next_header: IpProtocol::Udp,
+        payload_len: 12,
+        hop_limit: 64,
+    }
+}
+
+/// That of the packet in the second.
+fn ipv6_header() -> Ipv6Repr
+    ensures { result.payload_len ≡ 12 }
+{
+    Ipv6Repr {
+        src_addr: Ipv6Address::new(0xfe80, 0, 0, 0, 0, 0, 0, 1),
+        dst_addr: Ipv6Address::new(0xff02, 0, 0, 0, 0, 0, 0, 1),
+        next_header: IpProtocol::Udp,
+        payload_len: 12,
+        hop_limit: 64,
+    }
+}
+
+#[test]
+fn reads_the_packet_of_a_frame(rt: HostRuntime) {
+    let mut padded = [0; 60];
+    padded[..46].copy_from_slice(&FRAME);
+    assert_eq!(rt; ipv4_packet(&padded), Ok((header(), &FRAME[34..])));
+    for (at, byte) in [(12, 0x86), (14, 0x65), (25, 0x78)] {
+        let mut other = FRAME;
+        other[at] = byte;
+        assert!(rt; ipv4_packet(&other).is_err(), "{at}");
+    }
+    for end in [0, 13, 14, 45] {
+        assert!(rt; ipv4_packet(&FRAME[..end]).is_err(), "{end}");
+    }
+}
+
+#[test]
+fn writes_a_frame(rt: HostRuntime) {
+    let mut expected = [0xa5; 48];
+    expected[..46].copy_from_slice(&FRAME);
+    let mut buffer = [0xa5; 48];
+    let ports = UdpRepr {
+        src_port: 48896,
+        dst_port: 53,
+    };
+    let link = link(EthernetProtocol::Ipv4);
+    write_udp(&mut buffer, &link, &header(), &ports, &FRAME[42..]);
+    assert_eq!(rt; buffer, expected);
+}
+
+#[test]
+fn answers_a_request(rt: HostRuntime) {
+    let ours = EthernetAddress([0x02, 0x00, 0x00, 0x00, 0x00, 0x01]);
+    let addr = Ipv4Address::new(65, 66, 67, 68);
+    let reply = ArpRepr::EthernetIpv4 {
+        operation: ArpOperation::Reply,
+        source_hardware_addr: ours,
+        source_protocol_addr: addr,
+        target_hardware_addr: EthernetAddress([0x11, 0x12, 0x13, 0x14, 0x15, 0x16]),
+        target_protocol_addr: Ipv4Address::new(33, 34, 35, 36),
+    };
+    assert_eq!(rt; answer(&REQUEST, ours, addr), Some(reply));
+    assert_eq!(rt;
+        answer(&REQUEST, ours, Ipv4Address::new(65, 66, 67, 69)),
+        None
+    );
+    assert_eq!(rt; answer(&REQUEST[..27], ours, addr), None);
+    let mut other = REQUEST;
+    other[7] = 2;
+    assert_eq!(rt; answer(&other, ours, addr), None);
+}
+
+#[test]
+fn refuses_a_wrong_checksum(rt: HostRuntime) {
+    let verify = ChecksumCapabilities::default();
+    let trust = verified_by_the_device();
+    for (checksum, verified, trusted) in [
+        ([0x12, 0x4d], true, true),
+        ([0x12, 0x4e], false, true),
+        ([0x00, 0x00], true, true),
+        ([0x83, 0x71], false, true),
+    ] {
+        let mut packet = [0; 12];
+        packet.copy_from_slice(&FRAME[34..]);
+        packet[6..8].copy_from_slice(&checksum);
+        let (src, dst) = (header().src_addr, header().dst_addr);
+        assert_eq!(rt; udp_ports(&packet, src, dst, &verify).is_ok(), verified);
+        assert_eq!(rt; udp_ports(&packet, src, dst, &trust).is_ok(), trusted);
+    }
+}
+
+#[test]
+fn does_the_same_over_ipv6(rt: HostRuntime) {
+    assert_eq!(rt;
+        over_ipv6::ipv6_packet(&IPV6_FRAME),
+        Ok((ipv6_header(), &IPV6_FRAME[54..]))
+    );
+    assert!(rt; over_ipv6::ipv6_packet(&FRAME).is_err());
+    let mut expected = [0xa5; 68];
+    expected[..66].copy_from_slice(&IPV6_FRAME);
+    let mut buffer = [0xa5; 68];
+    let ports = UdpRepr {
+        src_port: 1,
+        dst_port: 2,
+    };
+    let link = link(EthernetProtocol::Ipv6);
+    over_ipv6::write_udp(&mut buffer, &link, &ipv6_header(), &ports, &[0xff; 4]);
+    assert_eq!(rt; buffer, expected);
+}

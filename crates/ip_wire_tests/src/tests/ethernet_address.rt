@@ -1,0 +1,81 @@
+//! Ethernet addresses.
+
+use super::count_distinct;
+use ip_wire::EthernetAddress;
+use std::test::Fail;
+
+#[test]
+fn prints_octets_with_dashes(rt: HostRuntime) -> Result<(), Fail> {
+    for (octets, text) in [
+        ([0x02, 0, 0, 0, 0, 0x01], "02-00-00-00-00-01"),
+        ([0x11, 0x12, 0x13, 0x14, 0x15, 0x16], "11-12-13-14-15-16"),
+        ([0xab, 0xcd, 0xef, 0x0a, 0xa0, 0xff], "ab-cd-ef-0a-a0-ff"),
+    ] {
+        let address = EthernetAddress::from_bytes(&octets);
+        assert_eq!(rt; address.as_bytes(), octets.as_slice());
+        assert_eq!(rt; format!(in rt.alloc(); "{address}")?.as_str(), text);
+    }
+    Ok(())
+}
+
+#[test]
+fn tells_stations_from_groups(rt: HostRuntime) {
+    for (octets, is_unicast, is_multicast, is_local) in [
+        ([0x02, 0x00, 0x00, 0x00, 0x00, 0x01], true, false, true),
+        ([0x34, 0x56, 0x78, 0x9a, 0xbc, 0xde], true, false, false),
+        ([0xfe, 0xff, 0xff, 0xff, 0xff, 0xff], true, false, true),
+        ([0x01, 0x00, 0x5e, 0x00, 0x00, 0x01], false, true, false),
+        ([0x33, 0x33, 0x00, 0x00, 0x00, 0x01], false, true, true),
+        ([0xff, 0xff, 0xff, 0xff, 0xff, 0xfe], false, true, true),
+    ] {
+        let address = EthernetAddress(octets);
+        assert_eq!(rt; address.is_unicast(), is_unicast, "{address}");
+        assert_eq!(rt; address.is_multicast(), is_multicast, "{address}");
+        assert_eq!(rt; address.is_local(), is_local, "{address}");
+        assert!(rt; !address.is_broadcast(), "{address}");
+    }
+}
+
+#[test]
+fn names_all_stations(rt: HostRuntime) {
+    let address = EthernetAddress::BROADCAST;
+    assert_eq!(rt; address.as_bytes(), [0xff; 6].as_slice());
+    assert!(rt; address.is_broadcast());
+    assert!(rt; !address.is_unicast());
+    assert!(rt; address.is_multicast());
+    assert!(rt; address.is_local());
+}
+
+#[test]
+fn has_a_modified_eui_64(rt: HostRuntime) {
+    for (octets, identifier) in [
+        (
+            [0x02, 0x00, 0x00, 0x00, 0x00, 0x01],
+            [0x00, 0x00, 0x00, 0xff, 0xfe, 0x00, 0x00, 0x01],
+        ),
+        (
+            [0x34, 0x56, 0x78, 0x9a, 0xbc, 0xde],
+            [0x36, 0x56, 0x78, 0xff, 0xfe, 0x9a, 0xbc, 0xde],
+        ),
+        (
+            [0xaa, 0xbb, 0xcc, 0xdd, 0xee, 0xff],
+            [0xa8, 0xbb, 0xcc, 0xff, 0xfe, 0xdd, 0xee, 0xff],
+        ),
+    ] {
+        assert_eq!(rt; EthernetAddress(octets).as_eui_64(), Some(identifier));
+    }
+}
+
+#[test]
+fn is_zeros_by_default(rt: HostRuntime) {
+    assert!(rt; EthernetAddress::default() == EthernetAddress([0; 6]));
+}
+
+#[test]
+fn is_ordered_and_hashed_by_octets(rt: HostRuntime) -> Result<(), Fail> {
+    let low = EthernetAddress([1, 2, 3, 4, 5, 255]);
+    let high = EthernetAddress([1, 2, 3, 4, 6, 0]);
+    assert!(rt; low < high);
+    assert_eq!(rt; count_distinct(rt.alloc(), &[low, high, low])?, 2);
+    Ok(())
+}

@@ -1,0 +1,53 @@
+//! Addresses of either version.
+
+use super::count_distinct;
+use ip_wire::{IpAddress, IpVersion, Ipv4Address, Ipv6Address};
+use std::test::Fail;
+
+#[test]
+fn prints_what_it_holds(rt: HostRuntime) -> Result<(), Fail> {
+    for (address, version, text) in [
+        (
+            IpAddress::v4(192, 168, 1, 1),
+            IpVersion::Ipv4,
+            "192.168.1.1",
+        ),
+        (
+            IpAddress::v6(0xfe80, 0, 0, 0, 0, 0, 0, 1),
+            IpVersion::Ipv6,
+            "fe80::1",
+        ),
+        (
+            IpAddress::v6(0, 0, 0, 0, 0, 0xffff, 0x102, 0x304),
+            IpVersion::Ipv6,
+            "::ffff:1.2.3.4",
+        ),
+    ] {
+        assert_eq!(rt; address.version(), version);
+        assert_eq!(rt; format!(in rt.alloc(); "{address}")?.as_str(), text);
+    }
+    Ok(())
+}
+
+#[test]
+fn is_made_of_an_address(rt: HostRuntime) {
+    let ipv4 = IpAddress::from(Ipv4Address::new(1, 2, 3, 4));
+    assert!(rt; ipv4 == IpAddress::v4(1, 2, 3, 4));
+    let ipv6 = IpAddress::from(Ipv6Address::LOCALHOST);
+    assert!(rt; ipv6 == IpAddress::v6(0, 0, 0, 0, 0, 0, 0, 1));
+}
+
+#[test]
+fn is_ordered_by_version_and_octets(rt: HostRuntime) -> Result<(), Fail> {
+    let low = IpAddress::v4(9, 255, 255, 255);
+    let high = IpAddress::v4(255, 255, 255, 255);
+    let other = IpAddress::v6(0, 0, 0, 0, 0, 0, 0, 0);
+    assert!(rt; low < high);
+    assert!(rt; high < other);
+    assert!(rt; other < IpAddress::v6(0, 0, 0, 0, 0, 0, 0, 1));
+    assert_eq!(rt;
+        count_distinct(rt.alloc(), &[low, high, low, other, other])?,
+        3
+    );
+    Ok(())
+}

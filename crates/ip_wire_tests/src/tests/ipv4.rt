@@ -1,0 +1,359 @@
+//! IPv4 headers.
+
+ghost use Rattle.ip_wire.specs.Ipv4.{HasLengths, packet_bytes, packet_bytes_mut};
+
+use super::{IPV4_FRAGMENT, IPV4_PACKET, ipv4_header};
+use ip_wire::{
+    Error, IPV4_HEADER_LEN, IpProtocol, Ipv4Address, Ipv4FragKey, Ipv4Packet, Ipv4PacketMut,
+    Ipv4Repr, checksum,
+};
+use net_base::{Checksum, ChecksumCapabilities};
+use std::test::Fail;
+
+/// The fields of a header by their types, in their order, and whether the checksum holds.
+type Fields = ([u8; 5], [u16; 4], [bool; 3], IpProtocol, [Ipv4Address; 2]);
+
+/// What the getters of a view answer.
+macro_rules! fields {
+    ($packet:ident) => {
+        (
+            [
+                $packet.version(),
+                $packet.header_len(),
+                $packet.dscp(),
+                $packet.ecn(),
+                $packet.hop_limit(),
+            ],
+            [
+                $packet.total_len(),
+                $packet.ident(),
+                $packet.frag_offset(),
+                $packet.checksum(),
+            ],
+            [
+                $packet.dont_frag(),
+                $packet.more_frags(),
+                $packet.verify_checksum(),
+            ],
+            $packet.next_header(),
+            [$packet.src_addr(), $packet.dst_addr()],
+        )
+    };
+}
+
+/// Those of the reading view.
+fn fields_of(packet: &Ipv4Packet<'_>) -> Fields
+    requires { HasLengths (packet_bytes packet.now) }
+{
+    fields!(packet)
+}
+
+/// Those of the writing view.
+fn fields_of_mut(packet: &Ipv4PacketMut<'_>) -> Fields
+    requires { HasLengths (packet_bytes_mut packet.now) }
+{
+    fields!(packet)
+}
+
+/// The fields of the fragment.
+fn fragment_fields() -> Fields {
+    (
+        [4, 20, 0, 0, 0x1a],
+        [30, 0x102, 0x203 * 8, 0xd56e],
+        [true, true, true],
+        IpProtocol::Icmp,
+        [ipv4_header().src_addr, ipv4_header().dst_addr],
+    )
+}
+
+#[test]
+fn reads_every_field(rt: HostRuntime) -> Result<(), Fail> {
+    let packet = Ipv4Packet::new_checked(&IPV4_FRAGMENT)?;
+    assert_eq!(rt; fields_of(&packet), fragment_fields());
+    assert_eq!(rt; packet.payload(), &IPV4_FRAGMENT[20..]);
+    assert_eq!(rt; packet.as_bytes(), IPV4_FRAGMENT.as_slice());
+    assert_eq!(rt; packet.into_inner(), IPV4_FRAGMENT.as_slice());
+    Ok(())
+}
+
+#[test]
+fn writes_every_field(rt: HostRuntime) -> Result<(), Fail> {
+    let mut buffer = [0xa5; 30];
+    let mut packet = Ipv4PacketMut::new_unchecked(&mut buffer);
+    packet.set_version(4);
+    packet.set_header_len(20);
+    packet.clear_flags();
+    packet.set_dscp(0);
+    packet.set_ecn(0);
+    packet.set_total_len(30);
+    packet.set_ident(0x102);
+    packet.set_more_frags(true);
+    packet.set_dont_frag(true);
+    packet.set_frag_offset(0x203 * 8);
+    packet.set_hop_limit(0x1a);
+    packet.set_next_header(IpProtocol::Icmp);
+    packet.set_src_addr(ipv4_header().src_addr);
+    packet.set_dst_addr(ipv4_header().dst_addr);
+    packet.check_len()?;
+    packet.fill_checksum();
+    packet.check_len()?;
+    assert_eq!(rt; fields_of_mut(&packet), fragment_fields());
+    let payload = packet.payload_mut();
+    assert_eq!(rt; payload.len(), 10);
+    payload.copy_from_slice(&IPV4_FRAGMENT[20..]);
+    let written: &[u8] = packet.into_inner();
+    assert_eq!(rt; written, IPV4_FRAGMENT.as_slice());
+    Ok(())
+}
+
+#[test]
+fn a_written_field_leaves_the_others(rt: HostRuntime) -> Result<(), Fail> {
+    let mut buffer = IPV4_FRAGMENT;
+    let mut packet = Ipv4PacketMut::new_unchecked(&mut buffer);
+    packet.set_dscp(0x2e);
+    packet.set_ecn(3);
+    packet.set_more_frags(false);
+    packet.set_checksum(0x1234);
+    packet.check_len()?;
+    let (mut bytes, mut numbers, mut bits, protocol, addresses) = fragment_fields();
+    bytes[2] = 0x2e;
+    bytes[3] = 3;
+    numbers[3] = 0x1234;
+    bits[1] = false;
+    bits[2] = false;
+    assert_eq!(rt;
+        fields_of_mut(&packet),
+        (bytes, numbers, bits, protocol, addresses)
+    );
+    Ok(())
+}
+
+#[test]
+fn padding_is_no_payload(rt: HostRuntime) -> Result<(), Fail> {
+    let mut buffer = [0; 31];
+    buffer[..30].copy_from_slice(&IPV4_FRAGMENT);
+    let packet = Ipv4Packet::new_checked(&buffer)?;
+    assert_eq!(rt; packet.payload(), &IPV4_FRAGMENT[20..]);
+    let fragment = (packet.more_frags(), packet.frag_offset(), packet.ident());
+    assert_eq!(rt; fragment, (true, 4120, 258));
+    let mut packet = Ipv4PacketMut::new_checked(&mut buffer)?;
+    assert_eq!(rt; packet.payload_mut().len(), 10);
+    Ok(())
+}
+
+#[test]
+fn refuses_less_than_the_packet(rt: HostRuntime) {
+    let mut buffer = IPV4_FRAGMENT;
+    for len in 0..=30 {
+        let want = if len < 30 { Err(Error) } else { Ok(()) };
+        let bytes = &mut buffer[..len];
+        assert_eq!(rt; Ipv4Packet::new_unchecked(bytes).check_len(), want);
+        assert_eq!(rt; Ipv4Packet::new_checked(bytes).is_ok(), want.is_ok());
+        assert_eq!(rt; Ipv4PacketMut::new_unchecked(bytes).check_len(), want);
+        assert_eq!(rt; Ipv4PacketMut::new_checked(bytes).is_ok(), want.is_ok());
+    }
+}
+
+#[test]
+fn refuses_impossible_lengths(rt: HostRuntime) {
+    for (header, total_len, is_possible) in [
+        (0x45, 30, true),
+        (0x45, 31, false),
+        (0x45, 128, false),
+        (0x45, 20, true),
+        (0x45, 19, false),
+        (0x45, 0, false),
+        (0x47, 28, true),
+        (0x48, 28, false),
+        (0x44, 30, false),
+        (0x40, 30, false),
+    ] {
+        let mut buffer = IPV4_FRAGMENT;
+        buffer[0] = header;
+        Ipv4PacketMut::new_unchecked(&mut buffer).set_total_len(total_len);
+        assert_eq!(rt; Ipv4Packet::new_checked(&buffer).is_ok(), is_possible);
+    }
+    let mut zeros = [0; 40];
+    zeros[0] = 0x09;
+    assert_eq!(rt; Ipv4Packet::new_unchecked(&zeros).check_len(), Err(Error));
+}
+
+#[test]
+fn keys_tell_packets_apart(rt: HostRuntime) {
+    let key = Ipv4FragKey {
+        id: 0x102,
+        src_addr: ipv4_header().src_addr,
+        dst_addr: ipv4_header().dst_addr,
+        protocol: IpProtocol::Icmp,
+    };
+    assert_eq!(rt; Ipv4Packet::new_unchecked(&IPV4_FRAGMENT).get_key(), key);
+    let mut buffer = IPV4_FRAGMENT;
+    let mut packet = Ipv4PacketMut::new_unchecked(&mut buffer);
+    packet.set_src_addr(ipv4_header().dst_addr);
+    assert!(rt; key < packet.get_key());
+    packet.set_ident(0x101);
+    assert!(rt; packet.get_key() < key);
+}
+
+#[test]
+fn prints_the_header(rt: HostRuntime) -> Result<(), Fail> {
+    let mut version_6 = IPV4_PACKET;
+    version_6[0] = 0x65;
+    for (bytes, text) in [
+        (
+            IPV4_PACKET.as_slice(),
+            "IPv4 src=17.18.19.20 dst=33.34.35.36 proto=ICMP",
+        ),
+        (
+            version_6.as_slice(),
+            "IPv4 (wire::Error) src=17.18.19.20 dst=33.34.35.36 proto=ICMP hop_limit=64 ver=6 tlen=24 df",
+        ),
+        (
+            &IPV4_PACKET[..23],
+            "IPv4 (wire::Error) src=17.18.19.20 dst=33.34.35.36 proto=ICMP hop_limit=64 tlen=24 df",
+        ),
+        (
+            &IPV4_FRAGMENT[..29],
+            "IPv4 (wire::Error) src=17.18.19.20 dst=33.34.35.36 proto=ICMP hop_limit=26 tlen=30 df mf off=4120 id=258",
+        ),
+        (&IPV4_PACKET[..19], "IPv4 (wire::Error)"),
+        (&[], "IPv4 (wire::Error)"),
+    ] {
+        let packet = Ipv4Packet::new_unchecked(bytes);
+        assert_eq!(rt; format!(in rt.alloc(); "{packet}")?.as_str(), text);
+    }
+    Ok(())
+}
+
+#[test]
+fn reads_what_no_version_and_no_checksum_forbids(rt: HostRuntime) {
+    let caps = ChecksumCapabilities::default();
+    let ignored = ChecksumCapabilities::ignored();
+    let mut buffer = IPV4_PACKET;
+    let packet = Ipv4Packet::new_unchecked(&buffer);
+    assert_eq!(rt; Ipv4Repr::parse(&packet, &caps), Ok(ipv4_header()));
+    buffer[11] = 0x78;
+    let packet = Ipv4Packet::new_unchecked(&buffer);
+    assert_eq!(rt; Ipv4Repr::parse(&packet, &caps), Err(Error));
+    assert_eq!(rt; Ipv4Repr::parse(&packet, &ignored), Ok(ipv4_header()));
+    let mut packet = Ipv4PacketMut::new_unchecked(&mut buffer);
+    packet.set_version(6);
+    packet.fill_checksum();
+    assert_eq!(rt; Ipv4Repr::parse(&packet.as_view(), &caps), Err(Error));
+    assert_eq!(rt; Ipv4Repr::parse(&packet.as_view(), &ignored), Err(Error));
+}
+
+#[test]
+fn writes_a_header_and_leaves_the_rest(rt: HostRuntime) {
+    let caps = ChecksumCapabilities::default();
+    let mut buffer = [0xa5; 24];
+    ipv4_header().emit(&mut Ipv4PacketMut::new_unchecked(&mut buffer), &caps);
+    assert_eq!(rt; &buffer[..20], &IPV4_PACKET[..20]);
+    assert_eq!(rt; &buffer[20..], [0xa5; 4].as_slice());
+    assert_eq!(rt; ipv4_header().buffer_len(), IPV4_HEADER_LEN);
+}
+
+#[test]
+fn writes_a_header_over_zeros(rt: HostRuntime) {
+    let caps = ChecksumCapabilities::default();
+    let repr = Ipv4Repr {
+        src_addr: Ipv4Address::new(10, 0, 0, 1),
+        dst_addr: Ipv4Address::new(10, 0, 0, 2),
+        next_header: IpProtocol::Tcp,
+        payload_len: 10,
+        hop_limit: 64,
+    };
+    let mut buffer = [0; 30];
+    repr.emit(&mut Ipv4PacketMut::new_unchecked(&mut buffer), &caps);
+    let written = [
+        0x45, 0x00, 0x00, 0x1e, 0x00, 0x00, 0x40, 0x00, 0x40, 0x06, 0x26, 0xd8, 0x0a, 0x00, 0x00,
+        0x01, 0x0a, 0x00, 0x00, 0x02, 0, 0, 0, 0, 0, 0, 0, 0, 0, 0,
+    ];
+    assert_eq!(rt; buffer, written);
+    assert_eq!(rt;
+        Ipv4Repr::parse(&Ipv4Packet::new_unchecked(&buffer), &caps),
+        Ok(repr)
+    );
+}
+
+#[test]
+fn writes_the_largest_payload_length(rt: HostRuntime) {
+    let mut repr = ipv4_header();
+    repr.payload_len = 65515;
+    let mut buffer = [0xa5; 24];
+    let mut packet = Ipv4PacketMut::new_unchecked(&mut buffer);
+    repr.emit(&mut packet, &ChecksumCapabilities::default());
+    assert_eq!(rt; &packet.as_bytes()[2..4], [0xff, 0xff].as_slice());
+    assert_eq!(rt; packet.total_len(), 65535);
+}
+
+#[test]
+fn a_listed_number_is_read_by_its_name(rt: HostRuntime) {
+    let caps = ChecksumCapabilities::default();
+    let mut repr = ipv4_header();
+    repr.next_header = IpProtocol::Unknown(6);
+    let mut buffer = [0xa5; 24];
+    repr.emit(&mut Ipv4PacketMut::new_unchecked(&mut buffer), &caps);
+    assert_eq!(rt; buffer[9], 0x06);
+    repr.next_header = IpProtocol::Tcp;
+    assert_eq!(rt;
+        Ipv4Repr::parse(&Ipv4Packet::new_unchecked(&buffer), &caps),
+        Ok(repr)
+    );
+}
+
+#[test]
+fn writes_no_checksum_where_none_is_wanted(rt: HostRuntime) {
+    for (ipv4, sum) in [
+        (Checksum::Both, [0xd2, 0x79]),
+        (Checksum::Tx, [0xd2, 0x79]),
+        (Checksum::Rx, [0, 0]),
+        (Checksum::None, [0, 0]),
+    ] {
+        let caps = ChecksumCapabilities {
+            ipv4,
+            ..ChecksumCapabilities::ignored()
+        };
+        let mut buffer = [0xa5; 24];
+        ipv4_header().emit(&mut Ipv4PacketMut::new_unchecked(&mut buffer), &caps);
+        assert_eq!(rt; &buffer[10..12], sum.as_slice());
+        let parsed = Ipv4Repr::parse(&Ipv4Packet::new_unchecked(&buffer), &caps);
+        assert_eq!(rt; parsed.is_ok(), ipv4 != Checksum::Rx);
+    }
+}
+
+#[test]
+fn prints_addresses_and_protocol(rt: HostRuntime) -> Result<(), Fail> {
+    let text = format!(in rt.alloc(); "{}", ipv4_header())?;
+    assert_eq!(rt;
+        text.as_str(),
+        "IPv4 src=17.18.19.20 dst=33.34.35.36 proto=ICMP"
+    );
+    Ok(())
+}
+
+#[test]
+fn names_the_protocols_of_the_table(rt: HostRuntime) -> Result<(), Fail> {
+    for (number, name, text) in [
+        (0, IpProtocol::HopByHop, "Hop-by-Hop"),
+        (1, IpProtocol::Icmp, "ICMP"),
+        (2, IpProtocol::Igmp, "IGMP"),
+        (6, IpProtocol::Tcp, "TCP"),
+        (17, IpProtocol::Udp, "UDP"),
+        (43, IpProtocol::Ipv6Route, "IPv6-Route"),
+        (44, IpProtocol::Ipv6Frag, "IPv6-Frag"),
+        (50, IpProtocol::IpSecEsp, "IPsec-ESP"),
+        (51, IpProtocol::IpSecAh, "IPsec-AH"),
+        (58, IpProtocol::Icmpv6, "ICMPv6"),
+        (59, IpProtocol::Ipv6NoNxt, "IPv6-NoNxt"),
+        (60, IpProtocol::Ipv6Opts, "IPv6-Opts"),
+        (3, IpProtocol::Unknown(3), "0x03"),
+        (0xfe, IpProtocol::Unknown(0xfe), "0xfe"),
+    ] {
+        assert_eq!(rt; IpProtocol::from(number), name);
+        assert_eq!(rt; u8::from(name), number);
+        assert_eq!(rt; format!(in rt.alloc(); "{name}")?.as_str(), text);
+    }
+    assert!(rt; IpProtocol::Ipv6Opts < IpProtocol::Unknown(0));
+    Ok(())
+}

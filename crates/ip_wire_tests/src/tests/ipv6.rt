@@ -1,0 +1,199 @@
+//! IPv6 headers.
+
+ghost use Rattle.std.specs.Prelude.{◌≡◌};
+ghost use Rattle.ip_wire.specs.Ipv6.{HasLengths, packet_bytes, packet_bytes_mut};
+
+use super::{IPV6_PACKET, ipv6_header};
+use ip_wire::{
+    Error, IPV6_HEADER_LEN, IpProtocol, Ipv6Address, Ipv6Packet, Ipv6PacketMut, Ipv6Repr,
+};
+use std::test::Fail;
+
+/// The fields of a header by their types, in their order, and its lengths.
+type Fields = ([u8; 3], u32, u16, IpProtocol, [Ipv6Address; 2], [usize; 2]);
+
+/// What the getters of a view answer.
+macro_rules! fields {
+    ($packet:ident) => {
+        (
+            [
+                $packet.version(),
+                $packet.traffic_class(),
+                $packet.hop_limit(),
+            ],
+            $packet.flow_label(),
+            $packet.payload_len(),
+            $packet.next_header(),
+            [$packet.src_addr(), $packet.dst_addr()],
+            [$packet.header_len(), $packet.total_len()],
+        )
+    };
+}
+
+/// Those of the reading view.
+fn fields_of(packet: &Ipv6Packet<'_>) -> Fields
+    requires { HasLengths (packet_bytes packet.now) }
+{
+    fields!(packet)
+}
+
+/// Those of the writing view.
+fn fields_of_mut(packet: &Ipv6PacketMut<'_>) -> Fields
+    requires { HasLengths (packet_bytes_mut packet.now) }
+{
+    fields!(packet)
+}
+
+/// The fields of a header with this traffic class and flow label.
+fn packet_fields(traffic_class: u8, flow_label: u32) -> Fields {
+    (
+        [6, traffic_class, 64],
+        flow_label,
+        12,
+        IpProtocol::Udp,
+        [ipv6_header().src_addr, ipv6_header().dst_addr],
+        [40, 52],
+    )
+}
+
+#[test]
+fn reads_every_field(rt: HostRuntime) -> Result<(), Fail> {
+    let packet = Ipv6Packet::new_checked(&IPV6_PACKET)?;
+    assert_eq!(rt; fields_of(&packet), packet_fields(0, 0));
+    assert_eq!(rt; packet.payload(), &IPV6_PACKET[40..]);
+    assert_eq!(rt; packet.as_bytes(), IPV6_PACKET.as_slice());
+    assert_eq!(rt; packet.into_inner(), IPV6_PACKET.as_slice());
+    Ok(())
+}
+
+#[test]
+fn writes_every_field(rt: HostRuntime) -> Result<(), Fail> {
+    let mut want = IPV6_PACKET;
+    want[..4].copy_from_slice(&[0x6c, 0x3a, 0xbc, 0xde]);
+    let mut buffer = [0xa5; 52];
+    let mut packet = Ipv6PacketMut::new_unchecked(&mut buffer);
+    packet.set_version(6);
+    packet.set_traffic_class(0xc3);
+    packet.set_flow_label(0xfffa_bcde);
+    packet.set_payload_len(12);
+    packet.set_next_header(IpProtocol::Udp);
+    packet.set_hop_limit(64);
+    packet.set_src_addr(ipv6_header().src_addr);
+    packet.set_dst_addr(ipv6_header().dst_addr);
+    packet.check_len()?;
+    assert_eq!(rt; fields_of_mut(&packet), packet_fields(0xc3, 0xabcde));
+    let payload = packet.payload_mut();
+    assert_eq!(rt; payload.len(), 12);
+    payload.copy_from_slice(&IPV6_PACKET[40..]);
+    assert_eq!(rt; packet.as_bytes(), want.as_slice());
+    let written: &[u8] = packet.into_inner();
+    assert_eq!(rt; written, want.as_slice());
+    Ok(())
+}
+
+#[test]
+fn a_written_field_leaves_the_others(rt: HostRuntime) {
+    let mut buffer = [0xff; 40];
+    let mut packet = Ipv6PacketMut::new_unchecked(&mut buffer);
+    packet.set_flow_label(0);
+    assert_eq!(rt; packet.traffic_class(), 255);
+    assert_eq!(rt;
+        &packet.as_bytes()[..4],
+        [0xff, 0xf0, 0x00, 0x00].as_slice()
+    );
+    packet.set_traffic_class(0);
+    packet.set_flow_label(0xfffff);
+    assert_eq!(rt; packet.version(), 15);
+    assert_eq!(rt;
+        &packet.as_bytes()[..4],
+        [0xf0, 0x0f, 0xff, 0xff].as_slice()
+    );
+    packet.set_version(0);
+    assert_eq!(rt;
+        &packet.as_bytes()[..4],
+        [0x00, 0x0f, 0xff, 0xff].as_slice()
+    );
+    assert_eq!(rt; &packet.as_bytes()[4..], [0xff; 36].as_slice());
+}
+
+#[test]
+fn padding_is_no_payload(rt: HostRuntime) -> Result<(), Fail> {
+    let mut buffer = IPV6_PACKET;
+    buffer[5] = 10;
+    let mut want = buffer;
+    want[40..50].fill(0xaa);
+    assert_eq!(rt;
+        Ipv6Packet::new_checked(&buffer)?.payload(),
+        &IPV6_PACKET[40..50]
+    );
+    let mut packet = Ipv6PacketMut::new_checked(&mut buffer)?;
+    packet.payload_mut().fill(0xaa);
+    assert_eq!(rt; buffer, want);
+    Ok(())
+}
+
+#[test]
+fn refuses_less_than_the_packet(rt: HostRuntime) {
+    let mut buffer = IPV6_PACKET;
+    for len in 0..=52 {
+        let want = if len < 52 { Err(Error) } else { Ok(()) };
+        let bytes = &mut buffer[..len];
+        assert_eq!(rt; Ipv6Packet::new_unchecked(bytes).check_len(), want);
+        assert_eq!(rt; Ipv6Packet::new_checked(bytes).is_ok(), want.is_ok());
+        assert_eq!(rt; Ipv6PacketMut::new_unchecked(bytes).check_len(), want);
+        assert_eq!(rt; Ipv6PacketMut::new_checked(bytes).is_ok(), want.is_ok());
+    }
+}
+
+#[test]
+fn reads_what_its_length_and_version_allow(rt: HostRuntime) {
+    for (first, payload_len, want) in [
+        (0x60, 12, Ok(ipv6_header())),
+        (0x6f, 12, Ok(ipv6_header())),
+        (
+            0x60,
+            0,
+            Ok(Ipv6Repr {
+                payload_len: 0,
+                ..ipv6_header()
+            }),
+        ),
+        (0x60, 13, Err(Error)),
+        (0x40, 12, Err(Error)),
+        (0x70, 12, Err(Error)),
+    ] {
+        let mut buffer = IPV6_PACKET;
+        buffer[0] = first;
+        buffer[5] = payload_len;
+        assert_eq!(rt; Ipv6Repr::parse(&Ipv6Packet::new_unchecked(&buffer)), want);
+    }
+}
+
+#[test]
+fn writes_a_header_and_leaves_the_rest(rt: HostRuntime) {
+    let mut want = [0xff; 42];
+    want[..40].copy_from_slice(&IPV6_PACKET[..40]);
+    let mut buffer = [0xff; 42];
+    ipv6_header().emit(&mut Ipv6PacketMut::new_unchecked(&mut buffer));
+    assert_eq!(rt; buffer, want);
+    assert_eq!(rt; ipv6_header().buffer_len(), IPV6_HEADER_LEN);
+}
+
+#[test]
+fn prints_the_header(rt: HostRuntime) -> Result<(), Fail> {
+    let text = "IPv6 src=fe80::1 dst=ff02::1 nxt_hdr=UDP hop_limit=64";
+    let value = ipv6_header();
+    assert_eq!(rt; format!(in rt.alloc(); "{value}")?.as_str(), text);
+    let mut version_4 = IPV6_PACKET;
+    version_4[0] = 0x40;
+    for (bytes, text) in [
+        (IPV6_PACKET.as_slice(), text),
+        (version_4.as_slice(), "IPv6 (wire::Error)"),
+        (&IPV6_PACKET[..51], "IPv6 (wire::Error)"),
+        (&[], "IPv6 (wire::Error)"),
+    ] {
+        let packet = Ipv6Packet::new_unchecked(bytes);
+        assert_eq!(rt; format!(in rt.alloc(); "{packet}")?.as_str(), text);
+    }
+    Ok(())
+}

@@ -1,0 +1,95 @@
+//! Views on what other views lend.
+
+use super::{FRAME_DST, FRAME_SRC, IPV4_PACKET, ipv4_header};
+use ip_wire::{
+    EthernetFrame, EthernetFrameMut, EthernetProtocol, EthernetRepr, IpProtocol, Ipv4Packet,
+    Ipv4PacketMut, Ipv4Repr, Ipv6Address, Ipv6FragmentHeaderMut, Ipv6FragmentRepr, Ipv6PacketMut,
+    Ipv6Repr, Result,
+};
+use net_base::ChecksumCapabilities;
+use std::test::Fail;
+
+/// A packet in a frame, with two bytes of padding behind it.
+const FRAME: [u8; 40] = [
+    0x01, 0x02, 0x03, 0x04, 0x05, 0x06, 0x11, 0x12, 0x13, 0x14, 0x15, 0x16, 0x08, 0x00, 0x45, 0x00,
+    0x00, 0x18, 0x00, 0x00, 0x40, 0x00, 0x40, 0x01, 0xd2, 0x79, 0x11, 0x12, 0x13, 0x14, 0x21, 0x22,
+    0x23, 0x24, 0xaa, 0x00, 0x00, 0xff, 0xa5, 0xa5,
+];
+
+#[test]
+fn a_frame_is_written_view_by_view(rt: HostRuntime) -> std::result::Result<(), Fail> {
+    let mut buffer = [0xa5; 40];
+    let mut frame = EthernetFrameMut::new_unchecked(&mut buffer);
+    let header = EthernetRepr {
+        src_addr: FRAME_SRC,
+        dst_addr: FRAME_DST,
+        ethertype: EthernetProtocol::Ipv4,
+    };
+    header.emit(&mut frame);
+    let mut packet = Ipv4PacketMut::new_unchecked(frame.payload_mut());
+    let header = Ipv4Repr {
+        src_addr: ipv4_header().src_addr,
+        dst_addr: ipv4_header().dst_addr,
+        next_header: IpProtocol::Icmp,
+        payload_len: 4,
+        hop_limit: 64,
+    };
+    header.emit(&mut packet, &ChecksumCapabilities::default());
+    packet.check_len()?;
+    let payload = packet.payload_mut();
+    assert_eq!(rt; payload.len(), 4);
+    payload.copy_from_slice(&[0xaa, 0x00, 0x00, 0xff]);
+    assert_eq!(rt; buffer, FRAME);
+    Ok(())
+}
+
+#[test]
+fn a_fragment_is_written_view_by_view(rt: HostRuntime) -> std::result::Result<(), Fail> {
+    let mut buffer = [0xa5; 64];
+    let mut frame = EthernetFrameMut::new_checked(&mut buffer)?;
+    frame.set_ethertype(EthernetProtocol::Ipv6);
+    let mut packet = Ipv6PacketMut::new_unchecked(frame.payload_mut());
+    let header = Ipv6Repr {
+        src_addr: Ipv6Address::LOCALHOST,
+        dst_addr: Ipv6Address::UNSPECIFIED,
+        next_header: IpProtocol::Ipv6Frag,
+        payload_len: 8,
+        hop_limit: 1,
+    };
+    header.emit(&mut packet);
+    packet.check_len()?;
+    let payload = packet.payload_mut();
+    assert_eq!(rt; payload.len(), 8);
+    payload[..2].copy_from_slice(&[17, 0]);
+    let fragment = Ipv6FragmentRepr {
+        frag_offset: 320,
+        more_frags: true,
+        ident: 67890,
+    };
+    fragment.emit(&mut Ipv6FragmentHeaderMut::new_unchecked(&mut payload[2..]));
+    assert_eq!(rt; &buffer[..12], [0xa5; 12].as_slice());
+    assert_eq!(rt;
+        &buffer[12..22],
+        [0x86, 0xdd, 0x60, 0, 0, 0, 0, 8, 44, 1].as_slice()
+    );
+    assert_eq!(rt; buffer[37], 1);
+    assert_eq!(rt;
+        &buffer[54..],
+        [17, 0, 0x0a, 0x01, 0, 1, 0x09, 0x32, 0xa5, 0xa5].as_slice()
+    );
+    Ok(())
+}
+
+/// What a packet in a frame carries. Both views are gone when it is used.
+fn payload(bytes: &[u8]) -> Result<&[u8]> {
+    let frame = EthernetFrame::new_checked(bytes)?;
+    let packet = Ipv4Packet::new_checked(frame.payload())?;
+    Ok(packet.payload())
+}
+
+#[test]
+fn a_payload_outlives_its_views(rt: HostRuntime) {
+    assert_eq!(rt; payload(&FRAME), Ok(&IPV4_PACKET[20..]));
+    assert!(rt; payload(&FRAME[..37]).is_err());
+    assert!(rt; payload(&FRAME[..13]).is_err());
+}

@@ -1,0 +1,5 @@
+pub mod ArpComputed
+pub mod ArpEmitted
+pub mod ArpTexts
+mod ArpViewed
+mod ArpWorked

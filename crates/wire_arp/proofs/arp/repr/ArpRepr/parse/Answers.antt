@@ -1,0 +1,21 @@
+use Rattle.std.proofs.Common.{rules, Result, Err}
+use Rattle.wire_field.proofs.Readings.{answer-computed}
+use Rattle.net_base.specs.declared.error.Error.{Error}
+use Rattle.wire_arp.proofs.ArpComputed.{arp_of-Reads}
+use Rattle.wire_arp.specs.Arp.{Reads, arp_of}
+use Rattle.wire_arp.specs.declared.arp.repr.ArpRepr.{ArpRepr}
+use Rattle.wire_arp.proofs.arp.repr.ArpRepr.parse.Goals as goal
+
+pub returns-in_err-check_len-clause-value : goal.returns-in_err-check_len-clause-value
+returns-in_err-check_len-clause-value c =
+    let bytes = c.args.packet.now.buffer.now in
+    answer-computed (Reads bytes) c.from_residual.result (arp_of bytes) (search rules) (arp_of-Reads bytes)
+
+pub returns-then-not-is_ethernet_ipv4-clause-value : goal.returns-then-not-is_ethernet_ipv4-clause-value
+returns-then-not-is_ethernet_ipv4-clause-value c =
+    let bytes = c.args.packet.now.buffer.now in
+    let refused : Result ArpRepr Error = Err (record {}) in
+    answer-computed (Reads bytes) refused (arp_of bytes) (search rules) (arp_of-Reads bytes)
+
+pub returns-clause-value : goal.returns-clause-value
+returns-clause-value c = (arp_of-Reads c.args.packet.now.buffer.now _).1 (search rules)

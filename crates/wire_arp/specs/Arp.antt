@@ -1,0 +1,138 @@
+-- ARP packets (RFC 826).
+use Rattle.std.specs.Prelude.{ℕ, ◌≡◌, ◌≤◌, ◌+◌, ◌*◌, ◌++◌, ◌==◌, ◌&&◌, nat_le, bytes_eq, if◌then◌else◌, Bool, Option, Some, None, List, [], ◌∷◌, length, slice_range, take}
+use Rattle.std.specs.Borrow.{Bor, MutBor}
+use Rattle.byteorder.specs.Endian.{big_bytes}
+use Rattle.wire_field.specs.Field.{field}
+use Rattle.wire_field.specs.Loan.{Holds}
+use Rattle.wire_arp.specs.declared.arp.ArpHardware.{ArpHardware}
+use Rattle.wire_arp.specs.declared.arp.ArpHardware.TheVariants as hardware
+use Rattle.wire_arp.specs.declared.arp.ArpOperation.{ArpOperation}
+use Rattle.wire_arp.specs.declared.arp.ArpOperation.TheVariants as operation
+use Rattle.wire_arp.specs.declared.arp.packet.ArpView.{ArpView}
+use Rattle.wire_arp.specs.declared.arp.repr.ArpRepr.{ArpRepr}
+use Rattle.wire_arp.specs.declared.arp.repr.ArpRepr.TheVariants.{EthernetIpv4}
+
+-- ---- numbers
+
+-- the kind of hardware address that a number names
+abbrev pub hardware_of : ℕ → ArpHardware
+hardware_of n = if n == 1 then hardware.Ethernet else hardware.Unknown n
+
+-- the number that names a kind of hardware address
+abbrev pub hardware_number : ArpHardware → ℕ
+hardware_number hardware.Ethernet = 1
+hardware_number (hardware.Unknown n) = n
+
+-- the operation that a number names
+abbrev pub operation_of : ℕ → ArpOperation
+operation_of n = if n == 1 then operation.Request else (if n == 2 then operation.Reply else operation.Unknown n)
+
+-- the number that names an operation
+abbrev pub operation_number : ArpOperation → ℕ
+operation_number operation.Request = 1
+operation_number operation.Reply = 2
+operation_number (operation.Unknown n) = n
+
+-- what is read of an operation's number: a number of the table has its own name
+abbrev pub known_operation : ArpOperation → ArpOperation
+known_operation o = operation_of (operation_number o)
+
+-- ---- views
+
+-- a view that reads, and one that writes too
+abbrev pub Reading : Type 0
+Reading = ArpView (Bor (List ℕ))
+
+abbrev pub Writing : Type 0
+Writing = ArpView (MutBor (List ℕ))
+
+-- the slice under a view
+abbrev pub packet_slice : {B : Type 0} → ArpView B → B
+packet_slice p = p.buffer
+
+-- the bytes under a view
+abbrev pub packet_bytes : Reading → List ℕ
+packet_bytes p = (packet_slice p).now
+
+-- the bytes under a writing view
+abbrev pub packet_bytes_mut : Writing → List ℕ
+packet_bytes_mut p = (packet_slice p).now
+
+-- the view is still of the same slice, which holds these bytes now
+abbrev pub Becomes : Writing → Writing → List ℕ → Type 0
+Becomes old new bytes = Holds (packet_slice old) (packet_slice new) bytes
+
+-- the length of a hardware address, in octets
+abbrev pub hardware_len : List ℕ → ℕ
+hardware_len bytes = field bytes 32 8
+
+-- the length of a protocol address, in octets
+abbrev pub protocol_len : List ℕ → ℕ
+protocol_len bytes = field bytes 40 8
+
+-- where the addresses end, which follow one another behind the first eight bytes
+abbrev pub source_hardware_end : List ℕ → ℕ
+source_hardware_end bytes = 8 + hardware_len bytes
+
+abbrev pub source_protocol_end : List ℕ → ℕ
+source_protocol_end bytes = 8 + hardware_len bytes + protocol_len bytes
+
+abbrev pub target_hardware_end : List ℕ → ℕ
+target_hardware_end bytes = 8 + 2 * hardware_len bytes + protocol_len bytes
+
+abbrev pub target_protocol_end : List ℕ → ℕ
+target_protocol_end bytes = 8 + 2 * hardware_len bytes + 2 * protocol_len bytes
+
+-- the addresses
+abbrev pub source_hardware_addr : List ℕ → List ℕ
+source_hardware_addr bytes = slice_range bytes 8 (source_hardware_end bytes)
+
+abbrev pub source_protocol_addr : List ℕ → List ℕ
+source_protocol_addr bytes = slice_range bytes (source_hardware_end bytes) (source_protocol_end bytes)
+
+abbrev pub target_hardware_addr : List ℕ → List ℕ
+target_hardware_addr bytes = slice_range bytes (source_protocol_end bytes) (target_hardware_end bytes)
+
+abbrev pub target_protocol_addr : List ℕ → List ℕ
+target_protocol_addr bytes = slice_range bytes (target_hardware_end bytes) (target_protocol_end bytes)
+
+-- the bytes hold what stands before the addresses, and addresses of the lengths that it names
+pub record HasLengths (bytes : List ℕ) : Type 0 where
+  pub least : 8 ≤ length bytes
+  pub whole : target_protocol_end bytes ≤ length bytes
+
+-- ---- reading and writing
+
+-- what a packet of Ethernet and IPv4 begins with: their numbers, and the lengths of their addresses
+abbrev pub ethernet_ipv4 : List ℕ
+ethernet_ipv4 = 0x00 ∷ 0x01 ∷ 0x08 ∷ 0x00 ∷ 0x06 ∷ 0x04 ∷ []
+
+-- the values of the fields of a packet of Ethernet and IPv4
+abbrev pub value_of : List ℕ → ArpRepr
+value_of bytes =
+    EthernetIpv4 (operation_of (field bytes 48 16)) (record { 0 = slice_range bytes 8 14 }) (slice_range bytes 14 18)
+    (record { 0 = slice_range bytes 18 24 }) (slice_range bytes 24 28)
+
+-- the bytes begin with a packet of Ethernet and IPv4, whose fields have these values
+pub record Reads (bytes : List ℕ) (v : ArpRepr) : Type 0 where
+  pub whole : 28 ≤ length bytes
+  pub kind : take 6 bytes ≡ ethernet_ipv4
+  pub fields : v ≡ value_of bytes
+
+-- whether the bytes hold a packet of Ethernet and IPv4
+abbrev pub is_read : List ℕ → Bool
+is_read bytes = nat_le 28 (length bytes) && bytes_eq (take 6 bytes) ethernet_ipv4
+
+-- the one value that the bytes are read as, if there is one
+unfoldable pub arp_of : List ℕ → Option ArpRepr
+arp_of bytes = if is_read bytes then Some (value_of bytes) else None
+
+-- the packet that has these values
+abbrev pub bytes_of : ArpRepr → List ℕ
+bytes_of (EthernetIpv4 operation source_hardware source_protocol target_hardware target_protocol) =
+    ethernet_ipv4 ++ big_bytes 2 (operation_number operation) ++ source_hardware.0 ++ source_protocol ++ target_hardware.0 ++ target_protocol
+
+-- the value that is read of the packet of a value
+abbrev pub normal : ArpRepr → ArpRepr
+normal (EthernetIpv4 operation source_hardware source_protocol target_hardware target_protocol) =
+    EthernetIpv4 (known_operation operation) source_hardware source_protocol target_hardware target_protocol

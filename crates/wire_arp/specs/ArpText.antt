@@ -1,0 +1,79 @@
+-- The texts that ARP packets print as.
+use Rattle.std.specs.Prelude.{ℕ, ◌++◌, ◌&&◌, nat_le, if◌then◌else◌, Bool, List, codes, decimal, length}
+use Rattle.std.specs.List.{join_by}
+use Rattle.std.specs.Option.{option_map_or}
+use Rattle.wire_addr.specs.Printed.{dashed, dotted}
+use Rattle.wire_field.specs.Field.{field}
+use Rattle.wire_arp.specs.Arp.{arp_of, hardware_len, hardware_of, operation_of, protocol_len, source_hardware_addr, source_protocol_addr, target_hardware_addr, target_protocol_addr, target_protocol_end}
+use Rattle.wire_ethernet.specs.Ethernet.{protocol_of}
+use Rattle.wire_arp.specs.declared.arp.ArpHardware.{ArpHardware}
+use Rattle.wire_arp.specs.declared.arp.ArpHardware.TheVariants as hardware
+use Rattle.wire_arp.specs.declared.arp.ArpOperation.{ArpOperation}
+use Rattle.wire_arp.specs.declared.arp.ArpOperation.TheVariants as operation
+use Rattle.wire_arp.specs.declared.arp.repr.ArpRepr.{ArpRepr}
+use Rattle.wire_arp.specs.declared.arp.repr.ArpRepr.TheVariants.{EthernetIpv4}
+use Rattle.wire_ethernet.specs.declared.ethernet.EthernetProtocol.{EthernetProtocol}
+use Rattle.wire_ethernet.specs.declared.ethernet.EthernetProtocol.TheVariants as protocol
+
+-- ---- words
+
+-- the word for a number that has none of its own
+abbrev pub unknown_word : ℕ → List ℕ
+unknown_word n = codes "Unknown(" ++ decimal n ++ codes ")"
+
+-- the word for a kind of hardware address
+abbrev pub hardware_word : ArpHardware → List ℕ
+hardware_word hardware.Ethernet = codes "Ethernet"
+hardware_word (hardware.Unknown n) = unknown_word n
+
+-- the word for the protocol whose addresses a packet has
+abbrev pub protocol_word : EthernetProtocol → List ℕ
+protocol_word protocol.Ipv4 = codes "Ipv4"
+protocol_word protocol.Arp = codes "Arp"
+protocol_word protocol.Ipv6 = codes "Ipv6"
+protocol_word (protocol.Unknown n) = unknown_word n
+
+-- the word for an operation
+abbrev pub operation_word : ArpOperation → List ℕ
+operation_word operation.Request = codes "Request"
+operation_word operation.Reply = codes "Reply"
+operation_word (operation.Unknown n) = unknown_word n
+
+-- the octets of an address in decimal, with `, ` between them, in brackets
+abbrev pub list_text : List ℕ → List ℕ
+list_text octets = codes "[" ++ join_by decimal (codes ", ") octets ++ codes "]"
+
+-- ---- texts
+
+-- the printed text of a packet's values
+unfoldable pub value_text : ArpRepr → List ℕ
+value_text (EthernetIpv4 operation source_hardware source_protocol target_hardware target_protocol) =
+    codes "ARP type=Ethernet+IPv4 src=" ++ dashed source_hardware.0 ++ codes "/" ++ dotted source_protocol
+    ++ codes " tgt=" ++ dashed target_hardware.0 ++ codes "/" ++ dotted target_protocol ++ codes " op=" ++ operation_word operation
+
+-- the numbers of a packet that is read as no value, and the lengths of its addresses
+unfoldable pub numbers_text : ArpHardware → EthernetProtocol → ℕ → ℕ → ArpOperation → List ℕ
+numbers_text hardware protocol hardware_len protocol_len operation =
+    codes "ARP (unrecognized) htype=" ++ hardware_word hardware ++ codes " ptype=" ++ protocol_word protocol
+    ++ codes " hlen=" ++ decimal hardware_len ++ codes " plen=" ++ decimal protocol_len ++ codes " op=" ++ operation_word operation
+
+-- its addresses, those of the source first
+unfoldable pub addresses_text : List ℕ → List ℕ
+addresses_text bytes =
+    codes " sha=" ++ list_text (source_hardware_addr bytes) ++ codes " spa=" ++ list_text (source_protocol_addr bytes)
+    ++ codes " tha=" ++ list_text (target_hardware_addr bytes) ++ codes " tpa=" ++ list_text (target_protocol_addr bytes)
+
+-- the fields of a packet, printed one by one
+unfoldable pub fields_text : List ℕ → List ℕ
+fields_text bytes =
+    numbers_text (hardware_of (field bytes 0 16)) (protocol_of (field bytes 16 16)) (hardware_len bytes) (protocol_len bytes) (operation_of (field bytes 48 16))
+    ++ addresses_text bytes
+
+-- whether the bytes hold what stands before the addresses, and addresses of the lengths that it names
+abbrev pub has_lengths : List ℕ → Bool
+has_lengths bytes = nat_le 8 (length bytes) && nat_le (target_protocol_end bytes) (length bytes)
+
+-- the printed text of a packet: that of its values, or of its fields where they make none, or that the bytes hold no packet
+unfoldable pub packet_text : List ℕ → List ℕ
+packet_text bytes =
+    option_map_or value_text (arp_of bytes) (if has_lengths bytes then fields_text bytes else codes "ARP (wire::Error)")

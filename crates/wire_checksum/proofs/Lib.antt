@@ -1,0 +1,4 @@
+mod ChecksumWorked
+pub mod Joined
+pub mod Residues
+pub mod WordLists

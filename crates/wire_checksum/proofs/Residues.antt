@@ -1,0 +1,112 @@
+-- Residues of totals.
+use Rattle.std.proofs.Common.{◌≡◌, ℕ, zero, suc, ◌+◌, ◌-◌, ◌*◌, ◌%◌, ◌/◌, ◌<◌, ◌≤◌, refl, sym, ◌∙◌, ap, arith}
+use Rattle.wire_checksum.specs.WordSum.{IsSum, residue}
+
+pub residue-same : (s t j k : ℕ) → s + 65535 * j ≡ t + 65535 * k → (s ≡ 0 → t ≡ 0) → (t ≡ 0 → s ≡ 0) → residue s ≡ residue t
+unfolding residue
+residue-same zero zero j k e f g = refl
+residue-same zero (suc t) j k e f g = absurd (omega (arith, f refl))
+residue-same (suc s) zero j k e f g = absurd (omega (arith, g refl))
+residue-same (suc s) (suc t) j k e f g = omega arith
+
+-- a total is its residue and a multiple of 65535
+pub residue-quotient : (t : ℕ) → (k : ℕ) × (t ≡ residue t + 65535 * k)
+unfolding residue
+residue-quotient zero = (0, refl)
+residue-quotient (suc n) = (n / 65535, omega arith)
+
+pub residue-bound : (t : ℕ) → residue t ≤ 65535
+unfolding residue
+residue-bound zero = omega arith
+residue-bound (suc n) = omega arith
+
+pub residue-zero : (t : ℕ) → residue t ≡ 0 → t ≡ 0
+unfolding residue
+residue-zero zero e = refl
+residue-zero (suc n) e = absurd (omega arith)
+
+pub residue-of_zero : (t : ℕ) → t ≡ 0 → residue t ≡ 0
+unfolding residue
+residue-of_zero zero e = refl
+residue-of_zero (suc n) e = absurd (omega arith)
+
+pub residue-small : (t : ℕ) → t ≤ 65535 → residue t ≡ t
+unfolding residue
+residue-small zero h = refl
+residue-small (suc n) h = omega arith
+
+pub residue-join : (a b : ℕ) → residue (a + b) ≡ residue (residue a + residue b)
+residue-join a b =
+    let p = residue-quotient a in
+    let q = residue-quotient b in
+    residue-same (a + b) (residue a + residue b) 0 (p.0 + q.0) (omega (arith, p.1, q.1))
+    (λ e. omega (arith, residue-of_zero a (omega arith), residue-of_zero b (omega arith)))
+    (λ e. omega (arith, residue-zero a (omega arith), residue-zero b (omega arith)))
+
+-- equal residues add up to equal residues
+pub residue-add : (a b c d : ℕ) → residue a ≡ residue b → residue c ≡ residue d → residue (a + c) ≡ residue (b + d)
+residue-add a b c d e f = residue-join a c ∙ ap (λ n. residue (n + residue c)) e ∙ ap (λ n. residue (residue b + n)) f ∙ sym (residue-join b d)
+
+-- the two bytes of a word change places where a total is multiplied by 256
+pub residue-swap : (t r : ℕ) → r ≡ residue t → residue (256 * t) ≡ 256 * (r % 256) + r / 256
+residue-swap t r e =
+    let p = residue-quotient t in
+    let bound = residue-bound t in
+    residue-same (256 * t) (256 * (r % 256) + r / 256) 0 (256 * p.0 + r / 256) (omega (arith, p.1))
+    (λ z. omega (arith, residue-of_zero t (omega arith)))
+    (λ z. omega (arith, residue-zero t (omega arith))) ∙ residue-small (256 * (r % 256) + r / 256) (omega arith)
+
+-- one more number, with an end-around carry
+pub residue-no_carry : (s t n : ℕ) → s ≡ residue t → s + n ≤ 65535 → s + n ≡ residue (t + n)
+residue-no_carry s t n e h =
+    sym (residue-join t n ∙ ap (λ m. residue (m + residue n)) (sym e) ∙ ap (λ m. residue (s + m)) (residue-small n (omega arith)) ∙ residue-small (s + n) h)
+
+pub residue-carry : (s t n : ℕ) → s ≡ residue t → s ≤ 65535 → n ≤ 65535 → 65535 < s + n → s + n - 65535 ≡ residue (t + n)
+residue-carry s t n e a b h =
+    sym (residue-join t n ∙ ap (λ m. residue (m + residue n)) (sym e) ∙ ap (λ m. residue (s + m)) (residue-small n b)
+    ∙ residue-same (s + n) (s + n - 65535) 0 1 (omega arith) (λ z. omega arith) (λ z. omega arith) ∙ residue-small (s + n - 65535) (omega arith))
+
+pub residue-positive : (t : ℕ) → (t ≡ 0 → ⊥) → residue t ≡ (t - 1) % 65535 + 1
+unfolding residue
+residue-positive zero h = absurd (h refl)
+residue-positive (suc n) h = omega arith
+
+-- the four parts of a number of 128 bits that are added up in 64
+pub residue-wide : (s : ℕ)
+    → residue (256 * (s / 18446744073709551616 + s % 18446744073709551616 / 4294967296 + s % 18446744073709551616 % 4294967296)) ≡ residue (256 * s)
+residue-wide s =
+    let high = s / 18446744073709551616 in
+    let low = s % 18446744073709551616 in
+    residue-same (256 * (high + low / 4294967296 + low % 4294967296)) (256 * s) (256 * (281479271743489 * high + 65537 * (low / 4294967296))) 0 (omega arith)
+    (λ z. omega arith) (λ z. omega arith)
+
+residue-least : (t : ℕ) → 0 < t → 1 ≤ residue t
+unfolding residue
+residue-least zero h = absurd (omega arith)
+residue-least (suc n) h = omega arith
+
+-- the residue is what a sum is
+pub residue-IsSum : (t : ℕ) → IsSum t (residue t)
+residue-IsSum t =
+    let p = residue-quotient t in
+    record { none = residue-of_zero t; least = residue-least t; most = residue-bound t; congruent = omega (arith, p.1) }
+
+-- and nothing else is
+pub IsSum-residue : (t r : ℕ) → IsSum t r → r ≡ residue t
+IsSum-residue zero r is = is.none refl ∙ sym (residue-of_zero zero refl)
+IsSum-residue (suc t) r is =
+    let p = residue-quotient (suc t) in
+    let least = residue-least (suc t) (omega arith) in
+    let positive = is.least (omega arith) in
+    omega (arith, positive, is.most, is.congruent, p.1, least, residue-bound (suc t))
+
+-- a total and the complement of its residue
+pub residue-complement : (m : ℕ) → residue (m + (65535 - residue m)) ≡ 65535
+residue-complement m =
+    let p = residue-quotient m in
+    let bound = residue-bound m in
+    residue-same (m + (65535 - residue m)) 65535 0 p.0 (omega (arith, p.1)) (λ z. absurd (omega (arith, residue-of_zero m (omega arith)))) (λ z. absurd (omega arith))
+    ∙ residue-small 65535 (omega arith)
+
+-- what the code computes of a total
+pub ruleset residues = (residue-of_zero, residue-positive)

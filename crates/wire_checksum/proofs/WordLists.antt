@@ -1,0 +1,102 @@
+-- Words of joined bytes, and of the chunks of a slice.
+use Rattle.std.proofs.Common.{◌≡◌, ℕ, zero, suc, ◌+◌, ◌*◌, ◌%◌, ◌<◌, ◌≤◌, List, [], ◌∷◌, ◌++◌, length, take, drop, get_or, sum, refl, sym, ◌∙◌, ap, zero-add, arith, w16, w64}
+use Rattle.std.specs.Int.{from_le_bytes}
+use Rattle.std.specs.Simd.{first_chunks}
+use Rattle.std.proofs.lemmas.List.{drop-drop, length-drop, length-take-le, take-append-drop}
+use Rattle.std.proofs.Math.Seq.{take-add}
+use Rattle.std.proofs.Math.Nat.{zero-mul, suc-mul, mul-add}
+use Rattle.std.proofs.lemmas.List.Sums.{sum_by-append}
+use Rattle.wire_checksum.specs.WordSum.{words, residue}
+use Rattle.wire_checksum.proofs.Residues.{residue-same, residue-add}
+
+pub words-append : (a b : List ℕ) → length a % 2 ≡ 0 → words (a ++ b) ≡ words a ++ words b
+unfolding words
+words-append [] b e = refl
+words-append (x ∷ []) b e = absurd (omega arith)
+words-append (x ∷ y ∷ a) b e = ap (λ ws. (256 * x + y) ∷ ws) (words-append a b (omega arith))
+
+pub sum-words-append : (a b : List ℕ) → length a % 2 ≡ 0 → sum (words (a ++ b)) ≡ sum (words a) + sum (words b)
+sum-words-append a b e = ap sum (words-append a b e) ∙ sum_by-append (λ x. x) (words a) (words b)
+
+-- eight bytes as one number, low byte first
+eight : (a b c d e f g h : ℕ) → residue (256 * (a + b * 256 + c * 65536 + d * 16777216 + e * 4294967296 + f * 1099511627776 + g * 281474976710656 + h * 72057594037927936))
+    ≡ residue (0 + (256 * a + b) + (256 * c + d) + (256 * e + f) + (256 * g + h))
+eight a b c d e f g h =
+    residue-same (256 * (a + b * 256 + c * 65536 + d * 16777216 + e * 4294967296 + f * 1099511627776 + g * 281474976710656 + h * 72057594037927936))
+    (0 + (256 * a + b) + (256 * c + d) + (256 * e + f) + (256 * g + h)) 0
+    (b + 256 * c + 65537 * d + 16777472 * e + 4295032833 * f + 1099528405248 * g + 281479271743489 * h)
+    (omega arith) (λ z. omega arith) (λ z. omega arith)
+
+pub words-of_8 : (xs : List ℕ) → length xs ≡ 8 → residue (256 * from_le_bytes w64 xs) ≡ residue (sum (words xs))
+unfolding words
+words-of_8 (a ∷ b ∷ c ∷ d ∷ e ∷ f ∷ g ∷ h ∷ []) l = eight a b c d e f g h
+words-of_8 [] l = absurd (omega arith)
+words-of_8 (a ∷ []) l = absurd (omega arith)
+words-of_8 (a ∷ b ∷ []) l = absurd (omega arith)
+words-of_8 (a ∷ b ∷ c ∷ []) l = absurd (omega arith)
+words-of_8 (a ∷ b ∷ c ∷ d ∷ []) l = absurd (omega arith)
+words-of_8 (a ∷ b ∷ c ∷ d ∷ e ∷ []) l = absurd (omega arith)
+words-of_8 (a ∷ b ∷ c ∷ d ∷ e ∷ f ∷ []) l = absurd (omega arith)
+words-of_8 (a ∷ b ∷ c ∷ d ∷ e ∷ f ∷ g ∷ []) l = absurd (omega arith)
+words-of_8 (a ∷ b ∷ c ∷ d ∷ e ∷ f ∷ g ∷ h ∷ x ∷ xs) l = absurd (omega arith)
+
+-- two bytes
+two : (a b : ℕ) → residue (256 * (a + b * 256)) ≡ residue (0 + (256 * a + b))
+two a b = residue-same (256 * (a + b * 256)) (0 + (256 * a + b)) 0 b (omega arith) (λ z. omega arith) (λ z. omega arith)
+
+pub words-of_2 : (xs : List ℕ) → length xs ≡ 2 → residue (256 * from_le_bytes w16 xs) ≡ residue (sum (words xs))
+unfolding words
+words-of_2 (a ∷ b ∷ []) l = two a b
+words-of_2 [] l = absurd (omega arith)
+words-of_2 (a ∷ []) l = absurd (omega arith)
+words-of_2 (a ∷ b ∷ c ∷ xs) l = absurd (omega arith)
+
+-- one byte is the high byte of a word
+pub words-of_1 : (xs : List ℕ) → length xs ≡ 1 → sum (words xs) ≡ 256 * get_or xs 0 0
+unfolding words
+words-of_1 (a ∷ []) l = zero-add (256 * a)
+words-of_1 [] l = absurd (omega arith)
+words-of_1 (a ∷ b ∷ xs) l = absurd (omega arith)
+
+pub chunk-at : (n k i : ℕ) (xs d : List ℕ) → i < k → get_or (first_chunks n k xs) i d ≡ take n (drop (i * n) xs)
+chunk-at n zero i xs d h = absurd (omega arith)
+chunk-at n (suc k) zero xs d h = ap (λ j. take n (drop j xs)) (sym (zero-mul n))
+chunk-at n (suc k) (suc i) xs d h = chunk-at n k i (drop n xs) d (omega arith) ∙ ap (take n) (drop-drop (i * n) n xs ∙ ap (λ j. drop j xs) (omega (arith, suc-mul i n)))
+
+-- the words of one more chunk of n bytes
+pub sum-words-chunk : (n i j : ℕ) (xs : List ℕ) → i % 2 ≡ 0 → j ≡ i + n → j ≤ length xs → sum (words (take j xs)) ≡ sum (words (take i xs)) + sum (words (take n (drop i xs)))
+sum-words-chunk n i j xs e is h =
+    ap (λ l. sum (words l)) (ap (λ m. take m xs) is ∙ take-add i n xs) ∙ sum-words-append (take i xs) (take n (drop i xs)) (rw (length-take-le i xs (omega arith)) e)
+
+-- the words up to i and from i on
+pub sum-words-split : (i : ℕ) (xs : List ℕ) → i % 2 ≡ 0 → i ≤ length xs → sum (words xs) ≡ sum (words (take i xs)) + sum (words (drop i xs))
+sum-words-split i xs e h = ap (λ l. sum (words l)) (sym (take-append-drop i xs)) ∙ sum-words-append (take i xs) (drop i xs) (rw (length-take-le i xs h) e)
+
+-- one more chunk of n bytes, read as the number w
+pub chunk-step : (n k : ℕ) (bytes : List ℕ) (chunks : List (List ℕ)) (number : List ℕ → ℕ) (i j s w : ℕ) → chunks ≡ first_chunks n k bytes → i < k → (i * n) % 2 ≡ 0 → j ≡ i * n + n → j ≤ length bytes
+    → ((xs : List ℕ) → length xs ≡ n → residue (256 * number xs) ≡ residue (sum (words xs)))
+    → w ≡ number (get_or chunks i [])
+    → residue (256 * s) ≡ residue (sum (words (take (i * n) bytes)))
+    → residue (256 * (s + w)) ≡ residue (sum (words (take j bytes)))
+chunk-step n k bytes chunks number i j s w cut below even next room reads is so_far =
+    let part = take n (drop (i * n) bytes) in
+    let at : get_or chunks i [] ≡ part = ap (λ cs. get_or cs i []) cut ∙ chunk-at n k i bytes [] below in
+    let long : length part ≡ n = length-take-le n (drop (i * n) bytes) (rw length-drop (omega arith)) in
+    let word : residue (256 * w) ≡ residue (sum (words part)) = ap (λ m. residue (256 * m)) (is ∙ ap number at) ∙ reads part long in
+    ap residue (mul-add 256 s w) ∙ residue-add (256 * s) (sum (words (take (i * n) bytes))) (256 * w) (sum (words part)) so_far word
+    ∙ ap residue (sym (sum-words-chunk n (i * n) j bytes even next room))
+
+pub words-of_0 : (xs : List ℕ) → length xs ≡ 0 → sum (words xs) ≡ 0
+unfolding words
+words-of_0 [] l = refl
+words-of_0 (a ∷ xs) l = absurd (omega arith)
+
+-- the whole sum, where i chunks of n bytes are in s and what is left is in w
+pub chunks-end : (n m i : ℕ) (bytes rest : List ℕ) (s w : ℕ) → i * n ≡ m → m % 2 ≡ 0 → m ≤ length bytes → rest ≡ drop m bytes
+    → residue (256 * s) ≡ residue (sum (words (take (i * n) bytes)))
+    → residue (256 * w) ≡ residue (sum (words rest))
+    → residue (256 * (s + w)) ≡ residue (sum (words bytes))
+chunks-end n m i bytes rest s w ends even room cut so_far left =
+    ap residue (mul-add 256 s w)
+    ∙ residue-add (256 * s) (sum (words (take m bytes))) (256 * w) (sum (words (drop m bytes))) (so_far ∙ ap (λ j. residue (sum (words (take j bytes)))) ends) (left ∙ ap (λ l. residue (sum (words l))) cut)
+    ∙ ap residue (sym (sum-words-split m bytes even room))

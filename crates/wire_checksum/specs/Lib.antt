@@ -1,0 +1,2 @@
+pub mod PseudoHeader
+pub mod WordSum

@@ -1,0 +1,5 @@
+//! The checksum of the internet protocols.
+#![tactic(auto)]
+
+pub mod checksum;
+pub mod laws;

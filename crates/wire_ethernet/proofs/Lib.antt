@@ -1,0 +1,4 @@
+pub mod EthernetComputed
+pub mod EthernetEmitted
+mod EthernetViewed
+mod EthernetWorked

@@ -1,0 +1,322 @@
+//! Frames of Ethernet II: what they carry, their views and the values of their header.
+
+ghost use Rattle.std.specs.Prelude.{◌≡◌, ◌↔◌, ◌≤◌, ◌+◌, ◌^◌, ◌<◌, ◌++◌, IfOk, IsOk, Ok, OnOk, Some, drop, length, slice_range};
+ghost use Rattle.std.specs.Result.{result_ok};
+ghost use Rattle.std.specs.Borrow.{sem};
+ghost use Rattle.wire_field.specs.Field.{field, with_field, with_range};
+ghost use Rattle.wire_field.specs.Loan.{Checks, Holds, Locates, StaysIfErr};
+ghost use Rattle.wire_ethernet.specs.EthernetLoan.{LendsPayload};
+ghost use Rattle.wire_ethernet.specs.Ethernet.{Becomes, Reads, bytes_of, ethernet_of, frame_bytes, frame_bytes_mut, frame_slice, frame_text, number_of, protocol_of, protocol_text};
+ghost use Rattle.wire_ethernet.specs.declared.ethernet.EthernetRepr.{EthernetRepr};
+
+use byteorder::{ByteOrder, NetworkEndian};
+use net_base::{Error, Result};
+use std::fmt;
+use wire_addr::EthernetAddress;
+use wire_field::{Checked, Located, Octets, debug_view};
+
+/// The length of a frame's header.
+pub const ETHERNET_HEADER_LEN: usize = 14;
+
+/// The protocol of a frame's payload, the EtherType of its header.
+#[derive(Debug, Clone, Copy, PartialEq, Eq, PartialOrd, Ord)]
+pub enum EthernetProtocol {
+    /// 0x0800 (RFC 894).
+    Ipv4,
+    /// 0x0806 (RFC 826).
+    Arp,
+    /// 0x86dd (RFC 2464).
+    Ipv6,
+    /// Any other number. The number of a named protocol is never read as this, but may be written.
+    Unknown(u16),
+}
+
+impl From<u16> for EthernetProtocol {
+    ghost from_gives = { λ n p. p ≡ protocol_of n };
+
+    fn from(value: u16) -> EthernetProtocol {
+        match value {
+            0x0800 => EthernetProtocol::Ipv4,
+            0x0806 => EthernetProtocol::Arp,
+            0x86dd => EthernetProtocol::Ipv6,
+            other => EthernetProtocol::Unknown(other),
+        }
+    }
+}
+
+impl From<EthernetProtocol> for u16 {
+    ghost from_gives = { λ p n. n ≡ number_of p };
+
+    fn from(value: EthernetProtocol) -> u16 {
+        match value {
+            EthernetProtocol::Ipv4 => 0x0800,
+            EthernetProtocol::Arp => 0x0806,
+            EthernetProtocol::Ipv6 => 0x86dd,
+            EthernetProtocol::Unknown(other) => other,
+        }
+    }
+}
+
+/// The name of the protocol, or `0x` and four hex digits.
+impl fmt::Display for EthernetProtocol {
+    ghost output = { λ p. Some (protocol_text p) };
+
+    fn fmt<W: fmt::Write>(&self, f: &mut fmt::Formatter<W>) -> fmt::Result {
+        match *self {
+            EthernetProtocol::Ipv4 => write!(f, "IPv4"),
+            EthernetProtocol::Arp => write!(f, "ARP"),
+            EthernetProtocol::Ipv6 => write!(f, "IPv6"),
+            EthernetProtocol::Unknown(id) => write!(f, "0x{id:04x}"),
+        }
+    }
+}
+
+/// A reading view of the bytes of a frame, which need not hold a whole header.
+#[derive(Clone, Copy, PartialEq, Eq, Drop)]
+pub struct EthernetView<B> {
+    buffer: B,
+}
+
+/// A view that reads.
+pub type EthernetFrame<'a> = EthernetView<&'a [u8]>;
+
+/// A view that reads and writes.
+pub type EthernetFrameMut<'a> = EthernetView<&'a mut [u8]>;
+
+impl<B: Octets> EthernetView<B> {
+    /// The view of any bytes.
+    pub fn new_unchecked(buffer: B) -> EthernetView<B>
+        ensures { frame_slice result ≡ buffer }
+    {
+        EthernetView { buffer }
+    }
+
+    /// Ok exactly where the bytes hold a header, and then every getter and setter may be called.
+    pub fn check_len(&self) -> Result<()>
+        ensures { IsOk result ↔ (14 ≤ length (B.octets (frame_slice self.now))) }
+    {
+        if self.as_bytes().len() < ETHERNET_HEADER_LEN {
+            Err(Error)
+        } else {
+            Ok(())
+        }
+    }
+
+    /// The bytes, for as long as they are lent.
+    pub fn into_inner(self) -> B
+        ensures { result ≡ frame_slice self }
+    {
+        self.buffer
+    }
+
+    /// The bytes.
+    pub fn as_bytes(&self) -> &[u8]
+        ensures { result.now ≡ B.octets (frame_slice self.now) }
+    {
+        self.buffer.octets()
+    }
+
+    /// A view that reads the same bytes.
+    pub fn as_view(&self) -> EthernetFrame<'_>
+        ensures { frame_bytes result ≡ B.octets (frame_slice self.now) }
+    {
+        EthernetView::new_unchecked(self.as_bytes())
+    }
+
+    /// The address of the receiver.
+    pub fn dst_addr(&self) -> EthernetAddress
+        requires { 6 ≤ length (B.octets (frame_slice self.now)) }
+        ensures { result.0 ≡ slice_range (B.octets (frame_slice self.now)) 0 6 }
+    {
+        EthernetAddress::from_bytes(&self.as_bytes()[0..6])
+    }
+
+    /// The address of the sender.
+    pub fn src_addr(&self) -> EthernetAddress
+        requires { 12 ≤ length (B.octets (frame_slice self.now)) }
+        ensures { result.0 ≡ slice_range (B.octets (frame_slice self.now)) 6 12 }
+    {
+        EthernetAddress::from_bytes(&self.as_bytes()[6..12])
+    }
+
+    /// The protocol of the payload. A tag of a virtual network is not looked for.
+    pub fn ethertype(&self) -> EthernetProtocol
+        requires { 14 ≤ length (B.octets (frame_slice self.now)) }
+        ensures { result ≡ protocol_of (field (B.octets (frame_slice self.now)) 96 16) }
+    {
+        EthernetProtocol::from(NetworkEndian::read_u16(&self.as_bytes()[12..14]))
+    }
+}
+
+impl<'a> EthernetFrame<'a> {
+    /// The view of bytes that hold a header.
+    pub fn new_checked(buffer: &'a [u8]) -> Result<EthernetFrame<'a>>
+        ensures ok { IsOk result ↔ (14 ≤ length buffer.now) }
+        ensures bytes { IfOk result (λ frame. frame_bytes frame ≡ buffer.now) }
+    {
+        let frame = EthernetView::new_unchecked(buffer);
+        frame.check_len()?;
+        Ok(frame)
+    }
+
+    /// The length of a header.
+    pub fn header_len() -> usize
+        ensures { result ≡ 14 }
+    {
+        ETHERNET_HEADER_LEN
+    }
+
+    /// The length of a frame with a payload of so many bytes.
+    pub fn buffer_len(payload_len: usize) -> usize
+        requires { 14 + payload_len < 2 ^ 64 }
+        ensures { result ≡ 14 + payload_len }
+    {
+        ETHERNET_HEADER_LEN + payload_len
+    }
+
+    /// What follows the header.
+    pub fn payload(&self) -> &'a [u8]
+        requires { 14 ≤ length (frame_bytes self.now) }
+        ensures { result.now ≡ drop 14 (frame_bytes self.now) }
+    {
+        &self.buffer[ETHERNET_HEADER_LEN..]
+    }
+}
+
+impl<B: Octets> fmt::Debug for EthernetView<B> {
+    fn fmt<W: fmt::Write>(&self, f: &mut fmt::Formatter<W>) -> fmt::Result {
+        debug_view(f, "EthernetFrame", &self.buffer)
+    }
+}
+
+/// The values of the header, or the error where the bytes hold none.
+impl fmt::Display for EthernetFrame<'_> {
+    ghost output = { λ frame. Some (frame_text (frame_bytes frame)) };
+
+    fn fmt<W: fmt::Write>(&self, f: &mut fmt::Formatter<W>) -> fmt::Result {
+        match EthernetRepr::parse(self) {
+            Ok(header) => {
+                let (src, dst, ethertype) = (header.src_addr, header.dst_addr, header.ethertype);
+                write!(f, "EthernetII src={src} dst={dst} type={ethertype}")
+            }
+            Err(error) => write!(f, "EthernetII ({error})"),
+        }
+    }
+}
+
+impl<'a> EthernetFrameMut<'a> {
+    /// The view of bytes that hold a header. An error leaves them as they are.
+    pub fn new_checked(buffer: &'a mut [u8]) -> Result<EthernetFrameMut<'a>>
+        ensures* refused { sem 𝓛 (StaysIfErr buffer.entry frame_slice result) }
+        ensures ok { IsOk result ↔ (14 ≤ length buffer.old) }
+        ensures frame { IfOk result (λ frame. Holds buffer.entry (frame_slice frame) buffer.old) }
+    {
+        let checked = check(buffer);
+        if checked.ok {
+            Ok(EthernetView {
+                buffer: checked.bytes,
+            })
+        } else {
+            Err(Error)
+        }
+    }
+
+    /// What follows the header, to write to. What is left in it stands there when the loan ends,
+    /// and the header stays.
+    pub fn payload_mut(&mut self) -> &mut [u8]
+        requires { 14 ≤ length (frame_bytes_mut self.old) }
+        ensures* writes_back { sem 𝓛 (LendsPayload self.entry result) }
+        ensures value { result.now ≡ drop 14 (frame_bytes_mut self.old) }
+    {
+        locate_payload(self.buffer).lend()
+    }
+
+    /// Writes the address of the receiver.
+    pub fn set_dst_addr(&mut self, value: EthernetAddress)
+        requires { 6 ≤ length (frame_bytes_mut self.old) }
+        ensures { Becomes self.old self.new (with_range (frame_bytes_mut self.old) 0 6 value.0) }
+    {
+        self.buffer[0..6].copy_from_slice(value.as_bytes());
+    }
+
+    /// Writes the address of the sender.
+    pub fn set_src_addr(&mut self, value: EthernetAddress)
+        requires { 12 ≤ length (frame_bytes_mut self.old) }
+        ensures { Becomes self.old self.new (with_range (frame_bytes_mut self.old) 6 12 value.0) }
+    {
+        self.buffer[6..12].copy_from_slice(value.as_bytes());
+    }
+
+    /// Writes the protocol of the payload.
+    pub fn set_ethertype(&mut self, value: EthernetProtocol)
+        requires { 14 ≤ length (frame_bytes_mut self.old) }
+        ensures { Becomes self.old self.new (with_field (frame_bytes_mut self.old) 96 16 (number_of value)) }
+    {
+        NetworkEndian::write_u16(&mut self.buffer[12..14], value.into());
+    }
+}
+
+// Whether the bytes hold a header.
+fn check(bytes: &mut [u8]) -> Checked<'_>
+    ensures { Checks bytes.entry (14 ≤ length bytes.old) result }
+{
+    let ok = EthernetFrame::new_checked(bytes).is_ok();
+    Checked { bytes, ok }
+}
+
+// Where the payload stands in the bytes of a frame.
+fn locate_payload(bytes: &mut [u8]) -> Located<'_>
+    requires { 14 ≤ length bytes.old }
+    ensures { Locates bytes.entry 14 (length bytes.old) result }
+{
+    let end = bytes.len();
+    Located {
+        bytes,
+        start: ETHERNET_HEADER_LEN,
+        end,
+    }
+}
+
+/// The values of a frame's header.
+#[derive(Debug, Clone, Copy, PartialEq, Eq)]
+pub struct EthernetRepr {
+    /// The address of the sender.
+    pub src_addr: EthernetAddress,
+    /// The address of the receiver.
+    pub dst_addr: EthernetAddress,
+    /// The protocol of the payload.
+    pub ethertype: EthernetProtocol,
+}
+
+impl EthernetRepr {
+    /// The values of a frame's header. Bytes that hold no header are refused.
+    pub fn parse(frame: &EthernetFrame<'_>) -> Result<EthernetRepr>
+        ensures reads { (v : EthernetRepr) → (result ≡ Ok v) ↔ Reads (frame_bytes frame.now) v }
+        ensures value { ethernet_of (frame_bytes frame.now) ≡ result_ok result }
+        ensures lengths { OnOk result (14 ≤ length (frame_bytes frame.now)) }
+    {
+        frame.check_len()?;
+        Ok(EthernetRepr {
+            src_addr: frame.src_addr(),
+            dst_addr: frame.dst_addr(),
+            ethertype: frame.ethertype(),
+        })
+    }
+
+    /// The length of the header.
+    pub fn buffer_len(&self) -> usize
+        ensures { result ≡ 14 }
+    {
+        ETHERNET_HEADER_LEN
+    }
+
+    /// Writes the header, and leaves what follows it.
+    pub fn emit(&self, frame: &mut EthernetFrameMut<'_>)
+        requires { 14 ≤ length (frame_bytes_mut frame.old) }
+        ensures { Becomes frame.old frame.new (bytes_of self.now ++ drop 14 (frame_bytes_mut frame.old)) }
+    {
+        frame.set_src_addr(self.src_addr);
+        frame.set_dst_addr(self.dst_addr);
+        frame.set_ethertype(self.ethertype);
+    }
+}

@@ -1,6 +1,0 @@
-use Rattle.std.proofs.Common.{rules}
-use Rattle.wire_ip.proofs.Ipv6FragmentEmitted.{reads-bytes_of}
-use Rattle.wire_ip.proofs.laws.emit_reads_back_ipv6_fragment.Goals as goal
-
-pub returns : goal.returns
-returns c = reads-bytes_of c.args.value c.args.rest.now (search rules)

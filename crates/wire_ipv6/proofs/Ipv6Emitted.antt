@@ -1,0 +1,53 @@
+-- What the setters leave of a header.
+use Rattle.std.proofs.Common.{ℕ, ◌≡◌, ◌≤◌, ◌<◌, ◌+◌, ◌*◌, ◌/◌, ◌%◌, List, ◌++◌, length, drop, refl, arith}
+use Rattle.wire_field.specs.Field.{with_field, with_part, with_range}
+use Rattle.wire_field.proofs.Cells.{cells-all, cells-drop, word_high, word_low}
+use Rattle.wire_ends.specs.Protocol.{number_of}
+use Rattle.wire_ipv6.specs.Ipv6.{bytes_of}
+use Rattle.wire_ipv6.specs.declared.ipv6.repr.Ipv6Repr.{Ipv6Repr}
+
+-- the value has a header: its numbers fit their fields, and an address has sixteen octets
+pub record IsInRange (v : Ipv6Repr) : Type 0 where
+  pub src_addr : length v.src_addr ≡ 16
+  pub dst_addr : length v.dst_addr ≡ 16
+  pub next_header : number_of v.next_header < 256
+  pub payload_len : v.payload_len ≤ 65535
+  pub hop_limit : v.hop_limit < 256
+
+-- what becomes of single bytes
+first_byte : (n : ℕ) → with_part n 0 32 0x60000000 / 16777216 % 256 ≡ 0x60
+first_byte n = omega arith
+
+second_byte : (n : ℕ) → with_part n 0 32 0x60000000 / 65536 % 256 ≡ 0
+second_byte n = omega arith
+
+third_byte : (n : ℕ) → with_part n 0 32 0x60000000 / 256 % 256 ≡ 0
+third_byte n = omega arith
+
+fourth_byte : (n : ℕ) → with_part n 0 32 0x60000000 % 256 ≡ 0
+fourth_byte n = omega arith
+
+small_byte : (n x : ℕ) → x < 256 → with_part n 0 8 x % 256 ≡ x
+small_byte n x h = omega arith
+
+-- the writes of `emit`, in turn
+abbrev pub written : List ℕ → Ipv6Repr → List ℕ
+written old v =
+    let a = with_field old 0 32 0x60000000 in
+    let b = with_field (with_field (with_field a 32 16 v.payload_len) 56 8 v.hop_limit) 48 8 (number_of v.next_header) in
+    with_range (with_range b 8 24 v.src_addr) 24 40 v.dst_addr
+
+pub written-bytes_of : (old : List ℕ) (v : Ipv6Repr) → 40 ≤ length old → IsInRange v → written old v ≡ bytes_of v ++ drop 40 old
+written-bytes_of old v room h = rw (
+  cells-all 16 v.src_addr h.src_addr,
+  cells-all 16 v.dst_addr h.dst_addr,
+  cells-drop 40 old room,
+  first_byte,
+  second_byte,
+  third_byte,
+  fourth_byte,
+  word_high,
+  word_low,
+  small_byte _ v.hop_limit h.hop_limit,
+  small_byte _ (number_of v.next_header) h.next_header,
+) refl

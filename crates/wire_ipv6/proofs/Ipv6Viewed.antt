@@ -1,0 +1,20 @@
+-- The writing view of a packet, as the walks of all views take it. Assumes nothing.
+use mathlib.Core.Path.{refl}
+use mathlib.Core.List.{List}
+use Prim.Native.Nat.{ℕ}
+use denote.Builtin.{u8}
+use denote.Ref.{MutBor}
+use Rattle.wire_field.proofs.Views.{View}
+use Rattle.wire_ipv6.specs.Ipv6.{Writing}
+use Rattle.wire_ipv6.specs.contracts.ipv6.packet.Ipv6View as T
+
+abbrev pub view : View
+view = record {
+  name = (T.struct u8).name;
+  D = Writing;
+  buffer = λ packet. packet.buffer;
+  make = λ buffer. record { buffer = buffer };
+  eta = λ packet. refl;
+  beta = λ buffer. refl;
+  propositions = T.the_propositions (MutBor (List ℕ));
+}

@@ -1,0 +1,9 @@
+pub mod Ipv6Computed
+pub mod Ipv6Emitted
+pub mod Ipv6FragmentComputed
+pub mod Ipv6FragmentEmitted
+mod Ipv6FragmentViewed
+mod Ipv6FragmentWorked
+pub mod Ipv6ReadsBack
+mod Ipv6Viewed
+mod Ipv6Worked

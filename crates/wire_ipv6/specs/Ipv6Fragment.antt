@@ -1,0 +1,76 @@
+-- IPv6 fragment headers (RFC 8200, section 4.5), without their first two bytes.
+use Rattle.std.specs.Prelude.{ℕ, ◌≡◌, ◌↔◌, ◌≤◌, ◌+◌, ◌*◌, ◌%◌, ◌^◌, ◌++◌, ◌==◌, nat_le, if◌then◌else◌, Bool, IsTrue, Option, Some, None, List, codes, decimal, length}
+use Rattle.std.specs.Borrow.{Bor, MutBor}
+use Rattle.std.specs.Option.{option_map_or}
+use Rattle.byteorder.specs.Endian.{big_bytes}
+use Rattle.wire_field.specs.Field.{field}
+use Rattle.wire_field.specs.Loan.{Holds}
+use Rattle.wire_ipv6.specs.declared.ipv6fragment.header.Ipv6FragmentView.{Ipv6FragmentView}
+use Rattle.wire_ipv6.specs.declared.ipv6fragment.repr.Ipv6FragmentRepr.{Ipv6FragmentRepr}
+
+-- a view that reads, and one that writes too
+abbrev pub Reading : Type 0
+Reading = Ipv6FragmentView (Bor (List ℕ))
+
+abbrev pub Writing : Type 0
+Writing = Ipv6FragmentView (MutBor (List ℕ))
+
+-- the slice under a view
+abbrev pub header_slice : {B : Type 0} → Ipv6FragmentView B → B
+header_slice h = h.buffer
+
+-- the bytes under a view
+abbrev pub header_bytes : Reading → List ℕ
+header_bytes h = (header_slice h).now
+
+-- the bytes under a writing view
+abbrev pub header_bytes_mut : Writing → List ℕ
+header_bytes_mut h = (header_slice h).now
+
+-- the view is still of the same slice, which holds these bytes now
+abbrev pub Becomes : Writing → Writing → List ℕ → Type 0
+Becomes old new bytes = Holds (header_slice old) (header_slice new) bytes
+
+-- the bytes begin with a header that has these values, whatever its two reserved bits are
+pub record Reads (bytes : List ℕ) (v : Ipv6FragmentRepr) : Type 0 where
+  pub whole : 6 ≤ length bytes
+  pub frag_offset : v.frag_offset ≡ field bytes 0 13
+  pub more_frags : IsTrue v.more_frags ↔ (field bytes 15 1 ≡ 1)
+  pub ident : v.ident ≡ field bytes 16 32
+
+-- the values of the fields of a header
+abbrev pub header_of : List ℕ → Ipv6FragmentRepr
+header_of bytes = record {
+  frag_offset = field bytes 0 13;
+  more_frags = field bytes 15 1 == 1;
+  ident = field bytes 16 32;
+}
+
+-- the one value that the bytes are read as, if there is one
+unfoldable pub ipv6_fragment_of : List ℕ → Option Ipv6FragmentRepr
+ipv6_fragment_of bytes = if nat_le 6 (length bytes) then Some (header_of bytes) else None
+
+-- the value that is read of the header of a value: its offset is cut to 13 bits
+abbrev pub normal : Ipv6FragmentRepr → Ipv6FragmentRepr
+normal v = record v { frag_offset = v.frag_offset % 2 ^ 13 }
+
+-- the number 1 for a flag that is set, else 0
+abbrev pub flag : Bool → ℕ
+flag set = if set then 1 else 0
+
+-- the header that has these values: its offset is cut to 13 bits, and the reserved bits are 0
+abbrev pub bytes_of : Ipv6FragmentRepr → List ℕ
+bytes_of v = big_bytes 2 (v.frag_offset % 2 ^ 13 * 8 + flag v.more_frags) ++ big_bytes 4 v.ident
+
+-- the printed text of a flag
+abbrev pub flag_text : Bool → List ℕ
+flag_text set = if set then codes "true" else codes "false"
+
+-- the printed text of a header's values
+unfoldable pub value_text : Ipv6FragmentRepr → List ℕ
+value_text v =
+    codes "IPv6 Fragment offset=" ++ decimal v.frag_offset ++ codes " more=" ++ flag_text v.more_frags ++ codes " ident=" ++ decimal v.ident
+
+-- the printed text of a header: that of its values, where it has any
+abbrev pub header_text : List ℕ → List ℕ
+header_text bytes = option_map_or value_text (ipv6_fragment_of bytes) (codes "IPv6 Fragment (wire::Error)")

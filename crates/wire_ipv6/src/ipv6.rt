@@ -1,0 +1,14 @@
+//! IPv6 headers (RFC 8200).
+
+mod packet;
+mod packet_mut;
+mod repr;
+
+pub use packet::{Ipv6Packet, Ipv6PacketMut};
+pub use repr::Ipv6Repr;
+
+/// The length of a header, in octets. What extends it is part of the payload.
+pub const IPV6_HEADER_LEN: usize = 40;
+
+/// The size of a packet that every link carries whole (RFC 8200, section 5).
+pub const IPV6_MIN_MTU: usize = 1280;

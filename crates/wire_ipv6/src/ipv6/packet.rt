@@ -1,0 +1,187 @@
+//! A view that reads the bytes of an IPv6 packet.
+
+ghost use Rattle.std.specs.Prelude.{◌≡◌, ◌↔◌, ◌≤◌, IfOk, IsOk, Some, length, slice_range};
+ghost use Rattle.wire_field.specs.Field.{field};
+ghost use Rattle.wire_ipv6.specs.Ipv6.{HasLengths, packet_bytes, packet_slice, payload_of, total_len};
+ghost use Rattle.wire_ipv6.specs.Ipv6Text.{packet_text};
+ghost use Rattle.wire_ends.specs.Protocol.{protocol_of};
+
+use super::{IPV6_HEADER_LEN, Ipv6Repr};
+use byteorder::{ByteOrder, NetworkEndian};
+use net_base::{Error, Result};
+use std::fmt;
+use wire_addr::Ipv6Address;
+use wire_ends::IpProtocol;
+use wire_field::{Octets, array_at, debug_view};
+
+/// A view of the bytes of a packet. Its calls ask for the bytes that they read, and for no more.
+#[derive(Clone, Copy, PartialEq, Eq, Drop)]
+pub struct Ipv6View<B> {
+    pub(super) buffer: B,
+}
+
+/// A view that reads.
+pub type Ipv6Packet<'a> = Ipv6View<&'a [u8]>;
+
+/// A view that reads and writes.
+pub type Ipv6PacketMut<'a> = Ipv6View<&'a mut [u8]>;
+
+impl<B: Octets> Ipv6View<B> {
+    /// The view of any bytes.
+    pub fn new_unchecked(buffer: B) -> Ipv6View<B>
+        ensures { packet_slice result ≡ buffer }
+    {
+        Ipv6View { buffer }
+    }
+
+    /// Whether the bytes hold a whole header, and as many bytes as it speaks of. Then each call of
+    /// this view may be made, until the payload's length is written.
+    pub fn check_len(&self) -> Result<()>
+        ensures { IsOk result ↔ HasLengths (B.octets (packet_slice self.now)) }
+    {
+        let len = self.as_bytes().len();
+        if len < IPV6_HEADER_LEN || len < self.total_len() {
+            Err(Error)
+        } else {
+            Ok(())
+        }
+    }
+
+    /// The bytes, for as long as they are lent to the view.
+    pub fn into_inner(self) -> B
+        ensures { result ≡ packet_slice self }
+    {
+        self.buffer
+    }
+
+    /// The bytes.
+    pub fn as_bytes(&self) -> &[u8]
+        ensures { result.now ≡ B.octets (packet_slice self.now) }
+    {
+        self.buffer.octets()
+    }
+
+    /// A view that reads the same bytes.
+    pub fn as_view(&self) -> Ipv6Packet<'_>
+        ensures { packet_bytes result ≡ B.octets (packet_slice self.now) }
+    {
+        Ipv6View::new_unchecked(self.as_bytes())
+    }
+
+    /// The length of the header in octets, which is the same for every packet.
+    pub fn header_len(&self) -> usize
+        ensures { result ≡ 40 }
+    {
+        IPV6_HEADER_LEN
+    }
+
+    /// The version, of 4 bits.
+    pub fn version(&self) -> u8
+        requires { 1 ≤ length (B.octets (packet_slice self.now)) }
+        ensures { result ≡ field (B.octets (packet_slice self.now)) 0 4 }
+    {
+        self.as_bytes()[0] >> 4
+    }
+
+    /// The traffic class: the differentiated services code point and the explicit congestion
+    /// notification (RFC 8200, section 7).
+    pub fn traffic_class(&self) -> u8
+        requires { 2 ≤ length (B.octets (packet_slice self.now)) }
+        ensures { result ≡ field (B.octets (packet_slice self.now)) 4 8 }
+    {
+        (NetworkEndian::read_u16(&self.as_bytes()[0..2]) >> 4 & 0xff) as u8
+    }
+
+    /// The flow label, of 20 bits (RFC 8200, section 6).
+    pub fn flow_label(&self) -> u32
+        requires { 4 ≤ length (B.octets (packet_slice self.now)) }
+        ensures { result ≡ field (B.octets (packet_slice self.now)) 12 20 }
+    {
+        NetworkEndian::read_u24(&self.as_bytes()[1..4]) & 0x000f_ffff
+    }
+
+    /// The length of what follows the header, in octets. Extension headers are counted.
+    pub fn payload_len(&self) -> u16
+        requires { 6 ≤ length (B.octets (packet_slice self.now)) }
+        ensures { result ≡ field (B.octets (packet_slice self.now)) 32 16 }
+    {
+        NetworkEndian::read_u16(&self.as_bytes()[4..6])
+    }
+
+    /// The length of the packet in octets, its header included.
+    pub fn total_len(&self) -> usize
+        requires { 6 ≤ length (B.octets (packet_slice self.now)) }
+        ensures { result ≡ total_len (B.octets (packet_slice self.now)) }
+    {
+        IPV6_HEADER_LEN + usize::from(self.payload_len())
+    }
+
+    /// The protocol of the payload, or the kind of the extension header that it begins with.
+    pub fn next_header(&self) -> IpProtocol
+        requires { 7 ≤ length (B.octets (packet_slice self.now)) }
+        ensures { result ≡ protocol_of (field (B.octets (packet_slice self.now)) 48 8) }
+    {
+        IpProtocol::from(self.as_bytes()[6])
+    }
+
+    /// How many more hops the packet may take.
+    pub fn hop_limit(&self) -> u8
+        requires { 8 ≤ length (B.octets (packet_slice self.now)) }
+        ensures { result ≡ field (B.octets (packet_slice self.now)) 56 8 }
+    {
+        self.as_bytes()[7]
+    }
+
+    /// The address of the sender.
+    pub fn src_addr(&self) -> Ipv6Address
+        requires { 24 ≤ length (B.octets (packet_slice self.now)) }
+        ensures { result ≡ slice_range (B.octets (packet_slice self.now)) 8 24 }
+    {
+        Ipv6Address::from_octets(array_at(self.as_bytes(), 8))
+    }
+
+    /// The address of the receiver.
+    pub fn dst_addr(&self) -> Ipv6Address
+        requires { 40 ≤ length (B.octets (packet_slice self.now)) }
+        ensures { result ≡ slice_range (B.octets (packet_slice self.now)) 24 40 }
+    {
+        Ipv6Address::from_octets(array_at(self.as_bytes(), 24))
+    }
+}
+
+impl<'a> Ipv6Packet<'a> {
+    /// The view of bytes that `check_len` takes.
+    pub fn new_checked(buffer: &'a [u8]) -> Result<Ipv6Packet<'a>>
+        ensures ok { IsOk result ↔ HasLengths buffer.now }
+        ensures bytes { IfOk result (λ packet. packet_bytes packet ≡ buffer.now) }
+    {
+        let packet = Ipv6View::new_unchecked(buffer);
+        packet.check_len()?;
+        Ok(packet)
+    }
+
+    /// What follows the header, up to the packet's length: what stands behind it is padding.
+    pub fn payload(&self) -> &'a [u8]
+        requires { HasLengths (packet_bytes self.now) }
+        ensures { result.now ≡ payload_of (packet_bytes self.now) }
+    {
+        &self.buffer[IPV6_HEADER_LEN..self.total_len()]
+    }
+}
+
+impl<B: Octets> fmt::Debug for Ipv6View<B> {
+    fn fmt<W: fmt::Write>(&self, f: &mut fmt::Formatter<W>) -> fmt::Result {
+        debug_view(f, "Ipv6Packet", &self.buffer)
+    }
+}
+
+impl fmt::Display for Ipv6Packet<'_> {
+    ghost output = { λ packet. Some (packet_text (packet_bytes packet)) };
+
+    fn fmt<W: fmt::Write>(&self, f: &mut fmt::Formatter<W>) -> fmt::Result {
+        match Ipv6Repr::parse(self) {
+            Ok(value) => write!(f, "{value}"),
+            Err(error) => write!(f, "IPv6 ({error})"),
+        }
+    }
+}

@@ -1,0 +1,71 @@
+//! A view that reads and writes the bytes of an IPv6 fragment header.
+
+ghost use Rattle.std.specs.Prelude.{◌↔◌, ◌≤◌, if◌then◌else◌, IfOk, IsOk, length};
+ghost use Rattle.std.specs.Borrow.{sem};
+ghost use Rattle.wire_field.specs.Field.{with_field};
+ghost use Rattle.wire_field.specs.Loan.{Checks, Holds, StaysIfErr};
+ghost use Rattle.wire_ipv6.specs.Ipv6Fragment.{Becomes, header_bytes_mut, header_slice};
+
+use super::header::Ipv6FragmentView;
+use super::{Ipv6FragmentHeader, Ipv6FragmentHeaderMut};
+use byteorder::{ByteOrder, NetworkEndian};
+use net_base::{Error, Result};
+use wire_field::{Checked, set_bits, set_bits_u16};
+
+impl<'a> Ipv6FragmentHeaderMut<'a> {
+    /// The view of bytes that hold a header. An error leaves them as they are.
+    pub fn new_checked(buffer: &'a mut [u8]) -> Result<Ipv6FragmentHeaderMut<'a>>
+        ensures* refused { sem 𝓛 (StaysIfErr buffer.entry header_slice result) }
+        ensures ok { IsOk result ↔ (6 ≤ length buffer.old) }
+        ensures bytes { IfOk result (λ header. Holds buffer.entry (header_slice header) buffer.old) }
+    {
+        let checked = check(buffer);
+        if checked.ok {
+            Ok(Ipv6FragmentView {
+                buffer: checked.bytes,
+            })
+        } else {
+            Err(Error)
+        }
+    }
+
+    /// Writes where the fragment begins in units of 8 octets, cut to 13 bits.
+    pub fn set_frag_offset(&mut self, value: u16)
+        requires { 2 ≤ length (header_bytes_mut self.old) }
+        ensures { Becomes self.old self.new (with_field (header_bytes_mut self.old) 0 13 value) }
+    {
+        set_bits_u16(&mut self.buffer[0..2], 0, 13, value);
+    }
+
+    /// Writes whether more fragments follow this one.
+    pub fn set_more_frags(&mut self, value: bool)
+        requires { 2 ≤ length (header_bytes_mut self.old) }
+        ensures { Becomes self.old self.new (with_field (header_bytes_mut self.old) 15 1 (if value then 1 else 0)) }
+    {
+        set_bits(self.buffer, 15, 1, value.into());
+    }
+
+    /// Writes the number that the fragments of a packet share.
+    pub fn set_ident(&mut self, value: u32)
+        requires { 6 ≤ length (header_bytes_mut self.old) }
+        ensures { Becomes self.old self.new (with_field (header_bytes_mut self.old) 16 32 value) }
+    {
+        NetworkEndian::write_u32(&mut self.buffer[2..6], value);
+    }
+
+    /// Zeroes the two reserved bits between the offset and the flag.
+    pub fn clear_reserved(&mut self)
+        requires { 2 ≤ length (header_bytes_mut self.old) }
+        ensures { Becomes self.old self.new (with_field (header_bytes_mut self.old) 13 2 0) }
+    {
+        set_bits(self.buffer, 13, 2, 0);
+    }
+}
+
+// Whether the bytes hold a header.
+fn check(bytes: &mut [u8]) -> Checked<'_>
+    ensures { Checks bytes.entry (6 ≤ length bytes.old) result }
+{
+    let ok = Ipv6FragmentHeader::new_checked(bytes).is_ok();
+    Checked { bytes, ok }
+}

@@ -1,0 +1,45 @@
+//! What holds by the definitions alone. The functions do nothing when they run.
+
+ghost use Rattle.std.specs.Prelude.{◌≡◌, ◌↔◌, ◌++◌, ◌≤◌, Some, length};
+ghost use Rattle.wire_ipv6.specs.Ipv6 as ipv6;
+ghost use Rattle.wire_ipv6.specs.Ipv6Fragment as fragment;
+
+use crate::ipv6::Ipv6Repr;
+use crate::ipv6fragment::Ipv6FragmentRepr;
+
+/// The header of a value, with its payload and any bytes after it, is read as the value's normal
+/// form.
+pub fn emit_reads_back_ipv6(value: Ipv6Repr, rest: &[u8])
+    requires payload_len { value.payload_len ≤ 65535 }
+    requires payload { value.payload_len ≤ length rest.now }
+    ensures { ipv6.Reads (ipv6.bytes_of value ++ rest.now) (ipv6.normal value) }
+{}
+
+/// No bytes are read as two values.
+pub fn reads_once_ipv6(bytes: &[u8], value: Ipv6Repr, other: Ipv6Repr)
+    requires value { ipv6.Reads bytes.now value }
+    requires other { ipv6.Reads bytes.now other }
+    ensures { value ≡ other }
+{}
+
+/// The value that is computed of bytes is the one that they are read as.
+pub fn reading_is_computed_ipv6(bytes: &[u8], value: Ipv6Repr)
+    ensures { (ipv6.ipv6_of bytes.now ≡ Some value) ↔ ipv6.Reads bytes.now value }
+{}
+
+/// The header of a value, whatever follows it, is read as the value's normal form.
+pub fn emit_reads_back_ipv6_fragment(value: Ipv6FragmentRepr, rest: &[u8])
+    ensures { fragment.Reads (fragment.bytes_of value ++ rest.now) (fragment.normal value) }
+{}
+
+/// No bytes are read as two values.
+pub fn reads_once_ipv6_fragment(bytes: &[u8], value: Ipv6FragmentRepr, other: Ipv6FragmentRepr)
+    requires value { fragment.Reads bytes.now value }
+    requires other { fragment.Reads bytes.now other }
+    ensures { value ≡ other }
+{}
+
+/// The value that is computed of bytes is the one that they are read as.
+pub fn reading_is_computed_ipv6_fragment(bytes: &[u8], value: Ipv6FragmentRepr)
+    ensures { (fragment.ipv6_fragment_of bytes.now ≡ Some value) ↔ fragment.Reads bytes.now value }
+{}

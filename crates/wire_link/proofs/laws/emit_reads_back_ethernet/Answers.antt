@@ -1,6 +1,0 @@
-use Rattle.std.proofs.Common.{rules}
-use Rattle.wire_link.proofs.Emitted.{reads-bytes_of}
-use Rattle.wire_link.proofs.laws.emit_reads_back_ethernet.Goals as goal
-
-pub returns : goal.returns
-returns c = reads-bytes_of c.args.value c.args.rest.now (search rules) (search rules) (search rules)

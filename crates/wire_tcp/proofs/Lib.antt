@@ -1,0 +1,9 @@
+mod Items
+mod OptionLists
+mod Prefixes
+mod Ranges
+mod Summaries
+mod Sums
+mod TcpViewed
+mod TcpWorked
+mod Walks

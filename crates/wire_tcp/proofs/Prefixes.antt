@@ -1,0 +1,52 @@
+-- Texts of which none begins another, joined: of two lists of them that begin the same bytes one begins the other.
+use Rattle.std.proofs.Common.{ℕ, ◌≡◌, ◌⊎◌, inl, inr, List, [], ◌∷◌, ◌++◌, refl, sym, ap, subst, ◌∙◌, append_assoc}
+use Rattle.std.specs.List.{AllByRecursion, flat_map}
+use Rattle.std.proofs.lemmas.Grind.{flat_map-append}
+
+module _ {X : Type 0} (text : X → List ℕ) (Is : X → Type 0) where
+  abbrev pub joined : List X → List ℕ
+  joined xs = flat_map text xs
+
+  -- the bytes are the texts of these, and then a rest
+  pub record Walked (bytes : List ℕ) (xs : List X) (rest : List ℕ) : Type 0 where
+    pub each : AllByRecursion Is xs
+    pub joined_is : bytes ≡ joined xs ++ rest
+
+  all-append : (xs ys : List X) → AllByRecursion Is xs → AllByRecursion Is ys → AllByRecursion Is (xs ++ ys)
+  all-append [] ys xa ya = ya
+  all-append (x ∷ xs) ys xa ya = (xa.0, all-append xs ys xa.1 ya)
+
+  -- a walk, and one over what it leaves
+  pub walk_on : (bytes : List ℕ) (xs ys : List X) (r s : List ℕ) → Walked bytes xs r → Walked r ys s → Walked bytes (xs ++ ys) s
+  walk_on bytes xs ys r s a b = record {
+    each = all-append xs ys a.each b.each;
+    joined_is = a.joined_is ∙ ap (λ (l : List ℕ). joined xs ++ l) b.joined_is ∙ sym (append_assoc (joined xs) (joined ys) s)
+        ∙ ap (λ (l : List ℕ). l ++ s) (sym (flat_map-append text xs ys));
+  }
+
+  -- what one list has more than the other begins what the other leaves
+  pub record Goes (xs ys : List X) (r t : List ℕ) : Type 0 where
+    pub more : List X
+    pub each : AllByRecursion Is more
+    pub longer : ys ≡ xs ++ more
+    pub left : r ≡ joined more ++ t
+
+  one_more : (x : X) (xs ys : List X) (r t : List ℕ) → Goes xs ys r t → Goes (x ∷ xs) (x ∷ ys) r t
+  one_more x xs ys r t g = record {
+    more = g.more;
+    each = g.each;
+    longer = ap (λ (l : List X). x ∷ l) g.longer;
+    left = g.left;
+  }
+
+  module _ (apart : (x y : X) (a b : List ℕ) → Is x → Is y → text x ++ a ≡ text y ++ b → (x ≡ y) × (a ≡ b)) where
+    compared : (xs ys : List X) (r t : List ℕ) → AllByRecursion Is xs → AllByRecursion Is ys → joined xs ++ r ≡ joined ys ++ t → Goes xs ys r t ⊎ Goes ys xs t r
+    compared [] ys r t xa ya e = inl (record { more = ys; each = ya; longer = refl; left = e })
+    compared (x ∷ xs) [] r t xa ya e = inr (record { more = x ∷ xs; each = xa; longer = refl; left = sym e })
+    compared (x ∷ xs) (y ∷ ys) r t xa ya e =
+        let p = apart x y (joined xs ++ r) (joined ys ++ t) xa.0 ya.0 (sym (append_assoc (text x) (joined xs) r) ∙ e ∙ append_assoc (text y) (joined ys) t) in
+        let P : X → Type 0 = λ z. Goes (x ∷ xs) (z ∷ ys) r t ⊎ Goes (z ∷ ys) (x ∷ xs) t r in
+        subst P p.0 (elim (compared xs ys r t xa.1 ya.1 p.1) [ inl g ↦ inl (one_more x xs ys r t g) | inr g ↦ inr (one_more x ys xs t r g) ])
+
+    pub walks_compared : (bytes : List ℕ) (xs ys : List X) (r t : List ℕ) → Walked bytes xs r → Walked bytes ys t → Goes xs ys r t ⊎ Goes ys xs t r
+    walks_compared bytes xs ys r t a b = compared xs ys r t a.each b.each (sym a.joined_is ∙ b.joined_is)

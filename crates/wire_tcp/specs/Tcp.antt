@@ -1,0 +1,80 @@
+-- TCP segments (RFC 9293, section 3.1).
+use Rattle.std.specs.Prelude.{ℕ, Bool, if◌then◌else◌, ◌≡◌, ◌≤◌, ◌+◌, ◌-◌, ◌*◌, List, drop, length, slice_range}
+use Rattle.std.specs.Borrow.{Bor, MutBor}
+use Rattle.wire_ends.specs.declared.ip_address.IpAddress.{IpAddress}
+use Rattle.wire_field.specs.Field.{field, with_field}
+use Rattle.wire_field.specs.Loan.{Holds}
+use Rattle.wire_checksum.specs.PseudoHeader.{pseudo_header_bytes, with_pseudo_header}
+use Rattle.wire_ends.specs.IpAddress.{octets_of}
+use Rattle.wire_checksum.specs.WordSum.{sum_of_bytes}
+use Rattle.wire_ends.specs.declared.ip_protocol.IpProtocol.TheVariants as protocol
+use Rattle.wire_tcp.specs.declared.tcp.packet.TcpView.{TcpView}
+
+-- the slice under a view
+abbrev pub packet_slice : {B : Type 0} → TcpView B → B
+packet_slice p = p.buffer
+
+-- a view that reads, and one that writes too
+abbrev pub Reading : Type 0
+Reading = TcpView (Bor (List ℕ))
+
+abbrev pub Writing : Type 0
+Writing = TcpView (MutBor (List ℕ))
+
+-- the bytes under a reading view
+abbrev pub packet_bytes : Reading → List ℕ
+packet_bytes p = (packet_slice p).now
+
+-- the bytes under a writing view
+abbrev pub packet_bytes_mut : Writing → List ℕ
+packet_bytes_mut p = (packet_slice p).now
+
+-- the view is still of the same slice, which holds these bytes now
+abbrev pub Becomes : Writing → Writing → List ℕ → Type 0
+Becomes old new bytes = Holds (packet_slice old) (packet_slice new) bytes
+
+-- the length of a segment's header in octets: the field "data offset" counts words of 4
+abbrev pub header_len : List ℕ → ℕ
+header_len bytes = 4 * field bytes 96 4
+
+-- the bytes of the options, up to the header's length
+abbrev pub options_of : List ℕ → List ℕ
+options_of bytes = slice_range bytes 20 (header_len bytes)
+
+-- what follows the header
+abbrev pub payload_of : List ℕ → List ℕ
+payload_of bytes = drop (header_len bytes) bytes
+
+-- how many sequence numbers a segment takes: one for each octet of its payload, for SYN and for FIN
+abbrev pub segment_len : List ℕ → ℕ
+segment_len bytes = length bytes - header_len bytes + field bytes 110 1 + field bytes 111 1
+
+-- the bytes with a flag set or cleared
+abbrev pub with_flag : List ℕ → ℕ → Bool → List ℕ
+with_flag bytes place value = with_field bytes place 1 (if value then 1 else 0)
+
+-- the bytes hold a whole header
+pub record HasLengths (bytes : List ℕ) : Type 0 where
+  pub least : 20 ≤ length bytes
+  pub header : 20 ≤ header_len bytes
+  pub whole : header_len bytes ≤ length bytes
+
+-- ---- the checksum
+
+-- the sum of the pseudo header of a segment between two addresses
+abbrev pub pseudo_header_sum : IpAddress → IpAddress → List ℕ → ℕ
+pseudo_header_sum src dst bytes = sum_of_bytes (pseudo_header_bytes (octets_of src) (octets_of dst) protocol.Tcp (length bytes))
+
+-- the sum of a segment between two addresses, its pseudo header included
+abbrev pub segment_sum : IpAddress → IpAddress → List ℕ → ℕ
+segment_sum src dst bytes = sum_of_bytes (with_pseudo_header src dst protocol.Tcp bytes)
+
+-- that sum has all 16 bits set
+abbrev pub Verifies : IpAddress → IpAddress → List ℕ → Type 0
+Verifies src dst bytes = segment_sum src dst bytes ≡ 65535
+
+-- the bytes with their checksum: the complement of their sum with zeros in the checksum's place
+abbrev pub with_checksum : IpAddress → IpAddress → List ℕ → List ℕ
+with_checksum src dst bytes =
+    let zeroed = with_field bytes 128 16 0 in
+    with_field zeroed 128 16 (65535 - segment_sum src dst zeroed)

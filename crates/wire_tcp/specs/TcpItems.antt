@@ -1,0 +1,86 @@
+-- The options of a TCP header as a list of items (RFC 9293, section 3.1; RFC 2018; RFC 7323).
+use Rattle.std.specs.Prelude.{ℕ, ◌≡◌, ◌==◌, ◌&&◌, ◌<◌, ◌≤◌, ◌+◌, ◌*◌, nat_lt, if◌then◌else◌, Bool, is_some, List, [], ◌∷◌, ◌++◌, length, map, drop, Option, Some, None}
+use Rattle.std.specs.List.{AllByRecursion, flat_map, range_with_len}
+use Rattle.std.specs.Option.{option_map, option_map_or, option_or}
+use Rattle.byteorder.specs.Endian.{big_number}
+use Rattle.wire_tcp.specs.declared.tcp.TheConstants.{SACK_BLOCKS}
+
+-- a kind with its data
+pub record Item : Type 0 where
+  pub kind : ℕ
+  pub content : List ℕ
+
+abbrev pub item : ℕ → List ℕ → Item
+item kind content = record { kind = kind; content = content }
+
+-- A kind is 1 to 255. No operation has no data; the data of the kinds 2 to 4 have 2, 1 and 0 bytes, those of kind 5 one or more blocks of 8.
+pub record IsItem (i : Item) : Type 0 where
+  pub above : 0 < i.kind
+  pub below : i.kind < 256
+  pub size : length i.content ≤ 253
+  pub no_operation : i.kind ≡ 1 → i.content ≡ []
+  pub segment_size : i.kind ≡ 2 → length i.content ≡ 2
+  pub window_scale : i.kind ≡ 3 → length i.content ≡ 1
+  pub sack_permitted : i.kind ≡ 4 → i.content ≡ []
+  pub sack_ranges : i.kind ≡ 5 → (n : ℕ) × (0 < n) × (length i.content ≡ 8 * n)
+
+-- the bytes of an item: its kind, the length of it all, its data; of no operation the kind alone
+abbrev pub text : Item → List ℕ
+text i = if i.kind == 1 then 1 ∷ [] else i.kind ∷ (2 + length i.content) ∷ i.content
+
+abbrev pub texts : List Item → List ℕ
+texts items = flat_map text items
+
+-- nothing, or an end mark and whatever follows it
+abbrev pub IsTail : List ℕ → Type 0
+IsTail [] = Unit {0}
+IsTail (b ∷ bs) = b ≡ 0
+
+-- the bytes are the texts of these items, and then this tail
+pub record IsOptionList (bytes : List ℕ) (items : List Item) (tail : List ℕ) : Type 0 where
+  pub each : AllByRecursion IsItem items
+  pub joined : bytes ≡ texts items ++ tail
+  pub ended : IsTail tail
+
+-- ---- what items say
+
+-- block k of the data of kind 5, its left and its right edge, where there is one
+abbrev pub block_at : List ℕ → ℕ → Option (ℕ × ℕ)
+block_at content k =
+    if nat_lt (8 * k) (length content) then Some (big_number 4 (drop (8 * k) content), big_number 4 (drop (8 * k + 4) content)) else None
+
+-- the first blocks, as many as are kept, and None where there is none
+abbrev pub first_blocks : List ℕ → List (Option (ℕ × ℕ))
+first_blocks content = map (block_at content) (range_with_len 0 SACK_BLOCKS)
+
+-- the two numbers of the data of kind 8: the timestamp, and the one that it replies to
+abbrev pub stamps : List ℕ → ℕ × ℕ
+stamps content = (big_number 4 content, big_number 4 (drop 4 content))
+
+abbrev pub is_of : ℕ → Item → Bool
+is_of kind i = i.kind == kind
+
+-- of kind 8 and with data of 8 bytes
+abbrev pub is_timestamp : Item → Bool
+is_timestamp i = i.kind == 8 && length i.content == 8
+
+-- the last item that passes a test
+abbrev pub last_of : (Item → Bool) → List Item → Option Item
+last_of p [] = None
+last_of p (i ∷ items) = option_or (last_of p items) (if p i then Some i else None)
+
+-- what the last items of the kinds say
+abbrev pub segment_size_of : List Item → Option ℕ
+segment_size_of items = option_map (λ i. big_number 2 i.content) (last_of (is_of 2) items)
+
+abbrev pub window_scale_of : List Item → Option ℕ
+window_scale_of items = option_map (λ i. big_number 1 i.content) (last_of (is_of 3) items)
+
+abbrev pub sack_permitted_of : List Item → Bool
+sack_permitted_of items = is_some (last_of (is_of 4) items)
+
+abbrev pub sack_ranges_of : List Item → List (Option (ℕ × ℕ))
+sack_ranges_of items = first_blocks (option_map_or (λ i. i.content) (last_of (is_of 5) items) [])
+
+abbrev pub timestamp_of : List Item → Option (ℕ × ℕ)
+timestamp_of items = option_map (λ i. stamps i.content) (last_of is_timestamp items)

@@ -1,0 +1,40 @@
+-- What a view of a segment, and an option that is written, lend of their bytes.
+use Rattle.std.specs.Prelude.{ℕ, ◌≡◌, ◌++◌, List, [], length, take}
+use Rattle.std.specs.Borrow.{Lends, MutBor, Fml, Array, u8}
+use denote.Slice.{MutSlice}
+use mir.Syntax.{named}
+use Rattle.wire_field.specs.Field.{with_range}
+use Rattle.wire_field.specs.declared.lend.Located.{Located}
+use Rattle.wire_tcp.specs.Tcp.{Writing, header_len, packet_bytes_mut}
+use Rattle.wire_tcp.specs.contracts.tcp.packet.TcpView.{the_row}
+
+-- the view with these bytes behind it, in the same loan
+abbrev pub with_bytes : Writing → List ℕ → Writing
+with_bytes packet bytes = record packet { buffer = record packet.buffer { now = bytes } }
+
+-- the bytes with these in the place of the options
+abbrev pub with_options : List ℕ → List ℕ → List ℕ
+with_options bytes = with_range bytes 20 (header_len bytes)
+
+-- the bytes with these in the place of the payload
+abbrev pub with_payload : List ℕ → List ℕ → List ℕ
+with_payload bytes payload = take (header_len bytes) bytes ++ payload
+
+-- the view ends with what was last left in the options, and with its other bytes as they were
+abbrev pub LendsOptions : MutBor Writing → MutBor (List ℕ) → Fml
+LendsOptions packet options = Lends (the_row (MutSlice (named 1) [] u8)) (Array u8 0) packet options (λ w. with_bytes packet.now (with_options (packet_bytes_mut packet.now) w))
+
+-- the view ends with what was last left in the payload, and with its header as it was
+abbrev pub LendsPayload : MutBor Writing → MutBor (List ℕ) → Fml
+LendsPayload packet payload = Lends (the_row (MutSlice (named 1) [] u8)) (Array u8 0) packet payload (λ w. with_bytes packet.now (with_payload (packet_bytes_mut packet.now) w))
+
+-- The slice ends with these bytes in front, and behind them what was last left in the rest.
+abbrev pub LendsRest : MutBor (List ℕ) → List ℕ → MutBor (List ℕ) → Fml
+LendsRest buffer front rest = Lends (Array u8 0) (Array u8 0) buffer rest (λ w. front ++ w)
+
+-- The bytes behind a front are located in a slice: it is still the same loan, and holds the front and this rest now.
+pub record LocatesRest (buffer : MutBor (List ℕ)) (front rest : List ℕ) (located : Located) : Type 0 where
+  pub same_loan : located.bytes.ghost_name ≡ buffer.ghost_name
+  pub holds : located.bytes.now ≡ front ++ rest
+  pub start : located.start ≡ length front
+  pub end : located.end ≡ length located.bytes.now

@@ -1,0 +1,10 @@
+//! The transmission control protocol (RFC 9293; options by RFC 2018 and RFC 7323).
+#![tactic(auto)]
+
+pub mod laws;
+mod tcp;
+
+pub use tcp::{
+    SACK_BLOCKS, TCP_HEADER_LEN, TcpControl, TcpOption, TcpOptionSummary, TcpPacket, TcpPacketMut,
+    TcpSeqNumber, TcpTimestampGenerator, TcpTimestampRepr,
+};

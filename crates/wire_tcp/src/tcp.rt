@@ -1,0 +1,23 @@
+//! TCP segments (RFC 9293, section 3.1).
+
+mod control;
+mod option;
+mod packet;
+mod packet_mut;
+mod seq_number;
+mod summary;
+mod timestamp;
+mod walk;
+
+pub use control::TcpControl;
+pub use option::TcpOption;
+pub use packet::{TcpPacket, TcpPacketMut};
+pub use seq_number::TcpSeqNumber;
+pub use summary::TcpOptionSummary;
+pub use timestamp::{TcpTimestampGenerator, TcpTimestampRepr};
+
+/// The length of a header without options, in octets.
+pub const TCP_HEADER_LEN: usize = 20;
+
+/// How many blocks of a selective acknowledgement are kept, from the first on.
+pub const SACK_BLOCKS: usize = 3;

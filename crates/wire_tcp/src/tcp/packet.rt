@@ -1,0 +1,321 @@
+//! A view of the bytes of a TCP segment, and what every view reads.
+
+ghost use Rattle.std.specs.Prelude.{◌≡◌, ◌↔◌, ◌≤◌, [], IfOk, IsOk, IsTrue, OnErr, false, length, true};
+ghost use Rattle.wire_ends.specs.IpAddress.{version_of};
+ghost use Rattle.wire_field.specs.Field.{field};
+ghost use Rattle.wire_tcp.specs.Tcp.{HasLengths, Verifies, header_len, options_of, packet_bytes, packet_slice, payload_of, pseudo_header_sum, segment_len};
+ghost use Rattle.wire_tcp.specs.TcpItems.{first_blocks};
+ghost use Rattle.wire_tcp.specs.TcpSeq.{number};
+ghost use Rattle.wire_tcp.specs.TcpSummary.{HasNoList, Summarizes};
+ghost use Rattle.wire_tcp.specs.TcpWalk.{Answers};
+
+use super::{SACK_BLOCKS, TCP_HEADER_LEN, TcpOptionSummary, TcpSeqNumber, walk};
+use byteorder::{ByteOrder, NetworkEndian};
+use net_base::{Error, Result};
+use std::fmt;
+use wire_checksum::checksum;
+use wire_ends::{IpAddress, IpProtocol};
+use wire_field::{Octets, debug_view, is_bit_set};
+
+/// A view of the bytes of a segment, which are lent to be read or to be written. Its calls ask for the
+/// bytes that they use, and for no more.
+#[derive(Clone, Copy, PartialEq, Eq, Drop)]
+pub struct TcpView<B> {
+    pub(super) buffer: B,
+}
+
+/// A view that reads.
+pub type TcpPacket<'a> = TcpView<&'a [u8]>;
+
+/// A view that reads and writes.
+pub type TcpPacketMut<'a> = TcpView<&'a mut [u8]>;
+
+impl<B: Octets> TcpView<B> {
+    /// The view of any bytes.
+    pub fn new_unchecked(buffer: B) -> TcpView<B>
+        ensures { packet_slice result ≡ buffer }
+    {
+        TcpView { buffer }
+    }
+
+    /// Whether the bytes hold a whole header. Then each call of this view may be made, until the
+    /// header's length is written.
+    pub fn check_len(&self) -> Result<()>
+        ensures { IsOk result ↔ HasLengths (B.octets (packet_slice self.now)) }
+    {
+        let len = self.as_bytes().len();
+        if len < TCP_HEADER_LEN {
+            return Err(Error);
+        }
+        let header_len = usize::from(self.header_len());
+        if header_len < TCP_HEADER_LEN || len < header_len {
+            return Err(Error);
+        }
+        Ok(())
+    }
+
+    /// The bytes, for as long as they are lent to the view.
+    pub fn into_inner(self) -> B
+        ensures { result ≡ packet_slice self }
+    {
+        self.buffer
+    }
+
+    /// The bytes.
+    pub fn as_bytes(&self) -> &[u8]
+        ensures { result.now ≡ B.octets (packet_slice self.now) }
+    {
+        self.buffer.octets()
+    }
+
+    /// A view that reads the same bytes.
+    pub fn as_view(&self) -> TcpPacket<'_>
+        ensures { packet_bytes result ≡ B.octets (packet_slice self.now) }
+    {
+        TcpView::new_unchecked(self.as_bytes())
+    }
+
+    /// The port of the sender.
+    pub fn src_port(&self) -> u16
+        requires { 2 ≤ length (B.octets (packet_slice self.now)) }
+        ensures { result ≡ field (B.octets (packet_slice self.now)) 0 16 }
+    {
+        NetworkEndian::read_u16(&self.as_bytes()[0..2])
+    }
+
+    /// The port of the receiver.
+    pub fn dst_port(&self) -> u16
+        requires { 4 ≤ length (B.octets (packet_slice self.now)) }
+        ensures { result ≡ field (B.octets (packet_slice self.now)) 16 16 }
+    {
+        NetworkEndian::read_u16(&self.as_bytes()[2..4])
+    }
+
+    /// The number of the first octet of the payload, or of SYN.
+    pub fn seq_number(&self) -> TcpSeqNumber
+        requires { 8 ≤ length (B.octets (packet_slice self.now)) }
+        ensures { number result ≡ field (B.octets (packet_slice self.now)) 32 32 }
+    {
+        TcpSeqNumber::from_bits(NetworkEndian::read_u32(&self.as_bytes()[4..8]))
+    }
+
+    /// The number that the sender expects next, where ACK is set.
+    pub fn ack_number(&self) -> TcpSeqNumber
+        requires { 12 ≤ length (B.octets (packet_slice self.now)) }
+        ensures { number result ≡ field (B.octets (packet_slice self.now)) 64 32 }
+    {
+        TcpSeqNumber::from_bits(NetworkEndian::read_u32(&self.as_bytes()[8..12]))
+    }
+
+    /// The length of the header in octets, a multiple of 4 up to 60: the field "data offset".
+    pub fn header_len(&self) -> u8
+        requires { 13 ≤ length (B.octets (packet_slice self.now)) }
+        ensures { result ≡ header_len (B.octets (packet_slice self.now)) }
+    {
+        (self.as_bytes()[12] >> 4) * 4
+    }
+
+    /// NS, a sum that protects the notification of congestion (RFC 3540).
+    pub fn ns(&self) -> bool
+        requires { 13 ≤ length (B.octets (packet_slice self.now)) }
+        ensures { IsTrue result ↔ (field (B.octets (packet_slice self.now)) 103 1 ≡ 1) }
+    {
+        is_bit_set(self.as_bytes(), 103)
+    }
+
+    /// CWR, congestion window reduced (RFC 3168).
+    pub fn cwr(&self) -> bool
+        requires { 14 ≤ length (B.octets (packet_slice self.now)) }
+        ensures { IsTrue result ↔ (field (B.octets (packet_slice self.now)) 104 1 ≡ 1) }
+    {
+        is_bit_set(self.as_bytes(), 104)
+    }
+
+    /// ECE, the echo of a notification of congestion (RFC 3168).
+    pub fn ece(&self) -> bool
+        requires { 14 ≤ length (B.octets (packet_slice self.now)) }
+        ensures { IsTrue result ↔ (field (B.octets (packet_slice self.now)) 105 1 ≡ 1) }
+    {
+        is_bit_set(self.as_bytes(), 105)
+    }
+
+    /// URG, whether the urgent pointer counts.
+    pub fn urg(&self) -> bool
+        requires { 14 ≤ length (B.octets (packet_slice self.now)) }
+        ensures { IsTrue result ↔ (field (B.octets (packet_slice self.now)) 106 1 ≡ 1) }
+    {
+        is_bit_set(self.as_bytes(), 106)
+    }
+
+    /// ACK, whether the acknowledgement number counts.
+    pub fn ack(&self) -> bool
+        requires { 14 ≤ length (B.octets (packet_slice self.now)) }
+        ensures { IsTrue result ↔ (field (B.octets (packet_slice self.now)) 107 1 ≡ 1) }
+    {
+        is_bit_set(self.as_bytes(), 107)
+    }
+
+    /// PSH, whether the data are to be handed on at once.
+    pub fn psh(&self) -> bool
+        requires { 14 ≤ length (B.octets (packet_slice self.now)) }
+        ensures { IsTrue result ↔ (field (B.octets (packet_slice self.now)) 108 1 ≡ 1) }
+    {
+        is_bit_set(self.as_bytes(), 108)
+    }
+
+    /// RST, whether the connection is reset.
+    pub fn rst(&self) -> bool
+        requires { 14 ≤ length (B.octets (packet_slice self.now)) }
+        ensures { IsTrue result ↔ (field (B.octets (packet_slice self.now)) 109 1 ≡ 1) }
+    {
+        is_bit_set(self.as_bytes(), 109)
+    }
+
+    /// SYN, whether the sequence numbers are to be synchronized.
+    pub fn syn(&self) -> bool
+        requires { 14 ≤ length (B.octets (packet_slice self.now)) }
+        ensures { IsTrue result ↔ (field (B.octets (packet_slice self.now)) 110 1 ≡ 1) }
+    {
+        is_bit_set(self.as_bytes(), 110)
+    }
+
+    /// FIN, whether no data will follow.
+    pub fn fin(&self) -> bool
+        requires { 14 ≤ length (B.octets (packet_slice self.now)) }
+        ensures { IsTrue result ↔ (field (B.octets (packet_slice self.now)) 111 1 ≡ 1) }
+    {
+        is_bit_set(self.as_bytes(), 111)
+    }
+
+    /// How many octets the sender takes, before any scaling.
+    pub fn window_len(&self) -> u16
+        requires { 16 ≤ length (B.octets (packet_slice self.now)) }
+        ensures { result ≡ field (B.octets (packet_slice self.now)) 112 16 }
+    {
+        NetworkEndian::read_u16(&self.as_bytes()[14..16])
+    }
+
+    /// The checksum.
+    pub fn checksum(&self) -> u16
+        requires { 18 ≤ length (B.octets (packet_slice self.now)) }
+        ensures { result ≡ field (B.octets (packet_slice self.now)) 128 16 }
+    {
+        NetworkEndian::read_u16(&self.as_bytes()[16..18])
+    }
+
+    /// The urgent pointer: how far behind the sequence number the urgent data end.
+    pub fn urgent_at(&self) -> u16
+        requires { 20 ≤ length (B.octets (packet_slice self.now)) }
+        ensures { result ≡ field (B.octets (packet_slice self.now)) 144 16 }
+    {
+        NetworkEndian::read_u16(&self.as_bytes()[18..20])
+    }
+
+    /// How many sequence numbers the segment takes: the octets of its payload, SYN and FIN.
+    pub fn segment_len(&self) -> usize
+        requires fields { 14 ≤ length (B.octets (packet_slice self.now)) }
+        requires header { let bytes = B.octets (packet_slice self.now) in header_len bytes ≤ length bytes }
+        ensures { result ≡ segment_len (B.octets (packet_slice self.now)) }
+    {
+        let payload_len = self.as_bytes().len() - usize::from(self.header_len());
+        payload_len + usize::from(self.syn()) + usize::from(self.fin())
+    }
+
+    /// Whether selective acknowledgements are permitted, also by an option behind an end mark. It is
+    /// an error where such an option isn't found before a malformed one.
+    pub fn selective_ack_permitted(&self) -> Result<bool>
+        requires begins { 20 ≤ header_len (B.octets (packet_slice self.now)) }
+        requires ends { let bytes = B.octets (packet_slice self.now) in header_len bytes ≤ length bytes }
+        ensures { Answers (options_of (B.octets (packet_slice self.now))) 4 (λ i. true) false result }
+    {
+        walk::sack_permitted(self.option_bytes())
+    }
+
+    /// The ranges of the first selective acknowledgement, also behind an end mark, or none. It is an
+    /// error where it isn't found before a malformed option.
+    pub fn selective_ack_ranges(&self) -> Result<[Option<(u32, u32)>; SACK_BLOCKS]>
+        requires begins { 20 ≤ header_len (B.octets (packet_slice self.now)) }
+        requires ends { let bytes = B.octets (packet_slice self.now) in header_len bytes ≤ length bytes }
+        ensures { let options = options_of (B.octets (packet_slice self.now)) in
+            Answers options 5 (λ i. first_blocks i.content) (first_blocks []) result }
+    {
+        walk::sack_ranges(self.option_bytes())
+    }
+
+    /// What the options up to an end mark say. It is an error where one of them is malformed.
+    pub fn options_summary(&self) -> Result<TcpOptionSummary>
+        requires begins { 20 ≤ header_len (B.octets (packet_slice self.now)) }
+        requires ends { let bytes = B.octets (packet_slice self.now) in header_len bytes ≤ length bytes }
+        ensures ok { IfOk result (Summarizes (options_of (B.octets (packet_slice self.now)))) }
+        ensures err { OnErr result (HasNoList (options_of (B.octets (packet_slice self.now)))) }
+    {
+        TcpOptionSummary::of_options(self.option_bytes())
+    }
+
+    // The bytes of the options.
+    fn option_bytes(&self) -> &[u8]
+        requires begins { 20 ≤ header_len (B.octets (packet_slice self.now)) }
+        requires ends { let bytes = B.octets (packet_slice self.now) in header_len bytes ≤ length bytes }
+        ensures { result.now ≡ options_of (B.octets (packet_slice self.now)) }
+    {
+        &self.as_bytes()[TCP_HEADER_LEN..usize::from(self.header_len())]
+    }
+
+    /// Whether the field of the checksum holds the sum of the pseudo header alone, as it does where the
+    /// device is to add that of the segment.
+    pub fn verify_partial_checksum(&self, src_addr: &IpAddress, dst_addr: &IpAddress) -> bool
+        requires header { 18 ≤ length (B.octets (packet_slice self.now)) }
+        requires family { version_of src_addr.now ≡ version_of dst_addr.now }
+        ensures { let bytes = B.octets (packet_slice self.now) in
+            IsTrue result ↔ (field bytes 128 16 ≡ pseudo_header_sum src_addr.now dst_addr.now bytes) }
+    {
+        let len = (self.as_bytes().len() % (1 << 16)) as u32;
+        self.checksum() == checksum::pseudo_header(src_addr, dst_addr, IpProtocol::Tcp, len)
+    }
+
+    /// Whether the sum of all bytes with their pseudo header, the checksum included, has all 16 bits
+    /// set.
+    pub fn verify_checksum(&self, src_addr: &IpAddress, dst_addr: &IpAddress) -> bool
+        requires { version_of src_addr.now ≡ version_of dst_addr.now }
+        ensures { let bytes = B.octets (packet_slice self.now) in
+            IsTrue result ↔ Verifies src_addr.now dst_addr.now bytes }
+    {
+        checksum::packet(*src_addr, *dst_addr, IpProtocol::Tcp, self.as_bytes()) == 0xffff
+    }
+}
+
+impl<'a> TcpPacket<'a> {
+    /// The view of bytes that `check_len` takes.
+    pub fn new_checked(buffer: &'a [u8]) -> Result<TcpPacket<'a>>
+        ensures ok { IsOk result ↔ HasLengths buffer.now }
+        ensures bytes { IfOk result (λ packet. packet_bytes packet ≡ buffer.now) }
+    {
+        let packet = TcpView::new_unchecked(buffer);
+        packet.check_len()?;
+        Ok(packet)
+    }
+
+    /// The bytes of the options, up to the header's length.
+    pub fn options(&self) -> &'a [u8]
+        requires begins { 20 ≤ header_len (packet_bytes self.now) }
+        requires ends { header_len (packet_bytes self.now) ≤ length (packet_bytes self.now) }
+        ensures { result.now ≡ options_of (packet_bytes self.now) }
+    {
+        &self.buffer[TCP_HEADER_LEN..usize::from(self.header_len())]
+    }
+
+    /// What follows the header, up to the end of the bytes.
+    pub fn payload(&self) -> &'a [u8]
+        requires field { 13 ≤ length (packet_bytes self.now) }
+        requires begins { header_len (packet_bytes self.now) ≤ length (packet_bytes self.now) }
+        ensures { result.now ≡ payload_of (packet_bytes self.now) }
+    {
+        &self.buffer[usize::from(self.header_len())..]
+    }
+}
+
+impl<B: Octets> fmt::Debug for TcpView<B> {
+    fn fmt<W: fmt::Write>(&self, f: &mut fmt::Formatter<W>) -> fmt::Result {
+        debug_view(f, "TcpPacket", &self.buffer)
+    }
+}

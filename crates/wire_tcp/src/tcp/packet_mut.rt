@@ -1,0 +1,248 @@
+//! What a view of a TCP segment writes.
+
+ghost use Rattle.std.specs.Prelude.{◌≡◌, ◌↔◌, ◌≤◌, ◌/◌, IfOk, IsOk, length};
+ghost use Rattle.std.specs.Borrow.{sem};
+ghost use Rattle.wire_ends.specs.IpAddress.{version_of};
+ghost use Rattle.wire_field.specs.Field.{with_field};
+ghost use Rattle.wire_field.specs.Loan.{Checks, Holds, Locates, StaysIfErr};
+ghost use Rattle.wire_tcp.specs.Tcp.{Becomes, HasLengths, header_len, options_of, packet_bytes_mut, packet_slice, payload_of, with_checksum, with_flag};
+ghost use Rattle.wire_tcp.specs.TcpLoan.{LendsOptions, LendsPayload};
+ghost use Rattle.wire_tcp.specs.TcpSeq.{number};
+
+use super::packet::TcpView;
+use super::{TCP_HEADER_LEN, TcpPacket, TcpPacketMut, TcpSeqNumber};
+use byteorder::{ByteOrder, NetworkEndian};
+use net_base::{Error, Result};
+use wire_checksum::checksum;
+use wire_ends::{IpAddress, IpProtocol};
+use wire_field::{Checked, Located, set_bits, set_bits_u16};
+
+impl<'a> TcpPacketMut<'a> {
+    /// The view of bytes that `check_len` takes. An error leaves them as they are.
+    pub fn new_checked(buffer: &'a mut [u8]) -> Result<TcpPacketMut<'a>>
+        ensures* refused { sem 𝓛 (StaysIfErr buffer.entry packet_slice result) }
+        ensures ok { IsOk result ↔ HasLengths buffer.old }
+        ensures bytes { IfOk result (λ packet. Holds buffer.entry (packet_slice packet) buffer.old) }
+    {
+        let checked = check(buffer);
+        if checked.ok {
+            Ok(TcpView {
+                buffer: checked.bytes,
+            })
+        } else {
+            Err(Error)
+        }
+    }
+
+    /// The bytes of the options, up to the header's length, to write to. What is left in them stands in
+    /// the segment afterwards, and all other bytes stay.
+    pub fn options_mut(&mut self) -> &mut [u8]
+        requires begins { 20 ≤ header_len (packet_bytes_mut self.old) }
+        requires ends { header_len (packet_bytes_mut self.old) ≤ length (packet_bytes_mut self.old) }
+        ensures* writes_back { sem 𝓛 (LendsOptions self.entry result) }
+        ensures value { result.now ≡ options_of (packet_bytes_mut self.old) }
+    {
+        locate_options(self.buffer).lend()
+    }
+
+    /// What follows the header, up to the end of the bytes, to write to. What is left in it stands in
+    /// the segment afterwards, and all other bytes stay.
+    pub fn payload_mut(&mut self) -> &mut [u8]
+        requires field { 13 ≤ length (packet_bytes_mut self.old) }
+        requires begins { header_len (packet_bytes_mut self.old) ≤ length (packet_bytes_mut self.old) }
+        ensures* writes_back { sem 𝓛 (LendsPayload self.entry result) }
+        ensures value { result.now ≡ payload_of (packet_bytes_mut self.old) }
+    {
+        locate_payload(self.buffer).lend()
+    }
+
+    /// Writes the port of the sender.
+    pub fn set_src_port(&mut self, value: u16)
+        requires { 2 ≤ length (packet_bytes_mut self.old) }
+        ensures { Becomes self.old self.new (with_field (packet_bytes_mut self.old) 0 16 value) }
+    {
+        NetworkEndian::write_u16(&mut self.buffer[0..2], value);
+    }
+
+    /// Writes the port of the receiver.
+    pub fn set_dst_port(&mut self, value: u16)
+        requires { 4 ≤ length (packet_bytes_mut self.old) }
+        ensures { Becomes self.old self.new (with_field (packet_bytes_mut self.old) 16 16 value) }
+    {
+        NetworkEndian::write_u16(&mut self.buffer[2..4], value);
+    }
+
+    /// Writes the number of the first octet of the payload, or of SYN.
+    pub fn set_seq_number(&mut self, value: TcpSeqNumber)
+        requires { 8 ≤ length (packet_bytes_mut self.old) }
+        ensures { Becomes self.old self.new (with_field (packet_bytes_mut self.old) 32 32 (number value)) }
+    {
+        NetworkEndian::write_i32(&mut self.buffer[4..8], value.0);
+    }
+
+    /// Writes the number that the sender expects next.
+    pub fn set_ack_number(&mut self, value: TcpSeqNumber)
+        requires { 12 ≤ length (packet_bytes_mut self.old) }
+        ensures { Becomes self.old self.new (with_field (packet_bytes_mut self.old) 64 32 (number value)) }
+    {
+        NetworkEndian::write_i32(&mut self.buffer[8..12], value.0);
+    }
+
+    /// Writes the length of the header in octets, cut to a multiple of 4 below 64.
+    pub fn set_header_len(&mut self, value: u8)
+        requires { 13 ≤ length (packet_bytes_mut self.old) }
+        ensures { Becomes self.old self.new (with_field (packet_bytes_mut self.old) 96 4 (value / 4)) }
+    {
+        set_bits(self.buffer, 96, 4, value / 4);
+    }
+
+    /// Zeroes the nine flags, and the three reserved bits before them.
+    pub fn clear_flags(&mut self)
+        requires { 14 ≤ length (packet_bytes_mut self.old) }
+        ensures { Becomes self.old self.new (with_field (packet_bytes_mut self.old) 100 12 0) }
+    {
+        set_bits_u16(&mut self.buffer[12..14], 4, 12, 0);
+    }
+
+    /// Writes NS.
+    pub fn set_ns(&mut self, value: bool)
+        requires { 13 ≤ length (packet_bytes_mut self.old) }
+        ensures { Becomes self.old self.new (with_flag (packet_bytes_mut self.old) 103 value) }
+    {
+        set_bits(self.buffer, 103, 1, value.into());
+    }
+
+    /// Writes CWR.
+    pub fn set_cwr(&mut self, value: bool)
+        requires { 14 ≤ length (packet_bytes_mut self.old) }
+        ensures { Becomes self.old self.new (with_flag (packet_bytes_mut self.old) 104 value) }
+    {
+        set_bits(self.buffer, 104, 1, value.into());
+    }
+
+    /// Writes ECE.
+    pub fn set_ece(&mut self, value: bool)
+        requires { 14 ≤ length (packet_bytes_mut self.old) }
+        ensures { Becomes self.old self.new (with_flag (packet_bytes_mut self.old) 105 value) }
+    {
+        set_bits(self.buffer, 105, 1, value.into());
+    }
+
+    /// Writes URG.
+    pub fn set_urg(&mut self, value: bool)
+        requires { 14 ≤ length (packet_bytes_mut self.old) }
+        ensures { Becomes self.old self.new (with_flag (packet_bytes_mut self.old) 106 value) }
+    {
+        set_bits(self.buffer, 106, 1, value.into());
+    }
+
+    /// Writes ACK.
+    pub fn set_ack(&mut self, value: bool)
+        requires { 14 ≤ length (packet_bytes_mut self.old) }
+        ensures { Becomes self.old self.new (with_flag (packet_bytes_mut self.old) 107 value) }
+    {
+        set_bits(self.buffer, 107, 1, value.into());
+    }
+
+    /// Writes PSH.
+    pub fn set_psh(&mut self, value: bool)
+        requires { 14 ≤ length (packet_bytes_mut self.old) }
+        ensures { Becomes self.old self.new (with_flag (packet_bytes_mut self.old) 108 value) }
+    {
+        set_bits(self.buffer, 108, 1, value.into());
+    }
+
+    /// Writes RST.
+    pub fn set_rst(&mut self, value: bool)
+        requires { 14 ≤ length (packet_bytes_mut self.old) }
+        ensures { Becomes self.old self.new (with_flag (packet_bytes_mut self.old) 109 value) }
+    {
+        set_bits(self.buffer, 109, 1, value.into());
+    }
+
+    /// Writes SYN.
+    pub fn set_syn(&mut self, value: bool)
+        requires { 14 ≤ length (packet_bytes_mut self.old) }
+        ensures { Becomes self.old self.new (with_flag (packet_bytes_mut self.old) 110 value) }
+    {
+        set_bits(self.buffer, 110, 1, value.into());
+    }
+
+    /// Writes FIN.
+    pub fn set_fin(&mut self, value: bool)
+        requires { 14 ≤ length (packet_bytes_mut self.old) }
+        ensures { Becomes self.old self.new (with_flag (packet_bytes_mut self.old) 111 value) }
+    {
+        set_bits(self.buffer, 111, 1, value.into());
+    }
+
+    /// Writes how many octets the sender takes, before any scaling.
+    pub fn set_window_len(&mut self, value: u16)
+        requires { 16 ≤ length (packet_bytes_mut self.old) }
+        ensures { Becomes self.old self.new (with_field (packet_bytes_mut self.old) 112 16 value) }
+    {
+        NetworkEndian::write_u16(&mut self.buffer[14..16], value);
+    }
+
+    /// Writes the field of the checksum.
+    pub fn set_checksum(&mut self, value: u16)
+        requires { 18 ≤ length (packet_bytes_mut self.old) }
+        ensures { Becomes self.old self.new (with_field (packet_bytes_mut self.old) 128 16 value) }
+    {
+        NetworkEndian::write_u16(&mut self.buffer[16..18], value);
+    }
+
+    /// Writes the urgent pointer.
+    pub fn set_urgent_at(&mut self, value: u16)
+        requires { 20 ≤ length (packet_bytes_mut self.old) }
+        ensures { Becomes self.old self.new (with_field (packet_bytes_mut self.old) 144 16 value) }
+    {
+        NetworkEndian::write_u16(&mut self.buffer[18..20], value);
+    }
+
+    /// Writes the checksum of all bytes as they stand: the complement of the sum of their other words
+    /// and their pseudo header.
+    pub fn fill_checksum(&mut self, src_addr: &IpAddress, dst_addr: &IpAddress)
+        requires header { 18 ≤ length (packet_bytes_mut self.old) }
+        requires family { version_of src_addr.now ≡ version_of dst_addr.now }
+        ensures { let bytes = packet_bytes_mut self.old in
+            Becomes self.old self.new (with_checksum src_addr.now dst_addr.now bytes) }
+    {
+        self.set_checksum(0);
+        let sum = checksum::packet(*src_addr, *dst_addr, IpProtocol::Tcp, self.as_bytes());
+        self.set_checksum(!sum);
+    }
+}
+
+// Whether the bytes hold a whole header.
+fn check(bytes: &mut [u8]) -> Checked<'_>
+    ensures { Checks bytes.entry (HasLengths bytes.old) result }
+{
+    let ok = TcpPacket::new_checked(bytes).is_ok();
+    Checked { bytes, ok }
+}
+
+// Where the options stand in the bytes of a segment.
+fn locate_options(bytes: &mut [u8]) -> Located<'_>
+    requires begins { 20 ≤ header_len bytes.old }
+    requires ends { header_len bytes.old ≤ length bytes.old }
+    ensures { Locates bytes.entry 20 (header_len bytes.old) result }
+{
+    let end = usize::from(TcpPacket::new_unchecked(bytes).header_len());
+    Located {
+        bytes,
+        start: TCP_HEADER_LEN,
+        end,
+    }
+}
+
+// Where the payload stands in the bytes of a segment.
+fn locate_payload(bytes: &mut [u8]) -> Located<'_>
+    requires field { 13 ≤ length bytes.old }
+    requires begins { header_len bytes.old ≤ length bytes.old }
+    ensures { Locates bytes.entry (header_len bytes.old) (length bytes.old) result }
+{
+    let start = usize::from(TcpPacket::new_unchecked(bytes).header_len());
+    let end = bytes.len();
+    Located { bytes, start, end }
+}

@@ -1,0 +1,135 @@
+//! Sequence numbers (RFC 9293, section 3.4).
+
+ghost use Rattle.std.specs.Prelude.{◌≡◌, ◌↔◌, ◌+◌, ◌-◌, ◌%◌, ◌^◌, ◌<◌, IsTrue, Some, decimal};
+ghost use Rattle.wire_tcp.specs.TcpSeq.{IsAfter, IsBefore, distance, number};
+
+use std::cmp::Ordering;
+use std::fmt;
+use std::ops::{Add, AddAssign, Sub};
+
+/// A number of the sequence space, which counts modulo 2<sup>32</sup>: an `i32` of the same bits.
+///
+/// Of two numbers that one comes before the other to which the way forward is shorter. Where both
+/// ways are 2<sup>31</sup> long, each comes before the other, so that this is no order.
+#[derive(Debug, Clone, Copy, PartialEq, Eq, Default)]
+pub struct TcpSeqNumber(pub i32);
+
+impl TcpSeqNumber {
+    // The number that has these bits.
+    pub(super) fn from_bits(bits: u32) -> TcpSeqNumber
+        ensures { number result ≡ bits }
+    {
+        TcpSeqNumber(bits.cast_signed())
+    }
+
+    /// This number where it comes after the other, else the other.
+    pub fn max(self, rhs: TcpSeqNumber) -> TcpSeqNumber
+        ensures after { IsAfter self rhs → result ≡ self }
+        ensures other { ¬ IsAfter self rhs → result ≡ rhs }
+    {
+        if self.seq_gt(rhs) { self } else { rhs }
+    }
+
+    /// This number where it comes before the other, else the other.
+    pub fn min(self, rhs: TcpSeqNumber) -> TcpSeqNumber
+        ensures before { IsBefore self rhs → result ≡ self }
+        ensures other { ¬ IsBefore self rhs → result ≡ rhs }
+    {
+        if self.seq_lt(rhs) { self } else { rhs }
+    }
+
+    /// Whether this number comes before the other.
+    pub fn seq_lt(self, rhs: TcpSeqNumber) -> bool
+        ensures { IsTrue result ↔ IsBefore self rhs }
+    {
+        self.0.wrapping_sub(rhs.0) < 0
+    }
+
+    /// Whether this number comes before the other, or is the same.
+    pub fn seq_le(self, rhs: TcpSeqNumber) -> bool
+        ensures { IsTrue result ↔ ¬ IsAfter self rhs }
+    {
+        self.0.wrapping_sub(rhs.0) <= 0
+    }
+
+    /// Whether this number comes after the other.
+    pub fn seq_gt(self, rhs: TcpSeqNumber) -> bool
+        ensures { IsTrue result ↔ IsAfter self rhs }
+    {
+        self.0.wrapping_sub(rhs.0) > 0
+    }
+
+    /// Whether this number comes after the other, or is the same.
+    pub fn seq_ge(self, rhs: TcpSeqNumber) -> bool
+        ensures { IsTrue result ↔ ¬ IsBefore self rhs }
+    {
+        self.0.wrapping_sub(rhs.0) >= 0
+    }
+
+    /// `Less` where this number comes before the other, `Greater` where it comes after it.
+    pub fn seq_cmp(self, rhs: TcpSeqNumber) -> Ordering
+        ensures before { (result ≡ Ordering.Less) ↔ IsBefore self rhs }
+        ensures same { (result ≡ Ordering.Equal) ↔ (self ≡ rhs) }
+        ensures after { (result ≡ Ordering.Greater) ↔ IsAfter self rhs }
+    {
+        self.0.wrapping_sub(rhs.0).cmp(&0)
+    }
+}
+
+impl fmt::Display for TcpSeqNumber {
+    ghost output = { λ s. Some (decimal (number s)) };
+
+    fn fmt<W: fmt::Write>(&self, f: &mut fmt::Formatter<W>) -> fmt::Result {
+        write!(f, "{}", self.0.cast_unsigned())
+    }
+}
+
+/// The number that so many steps forward lead to, at most 2<sup>31</sup> - 1.
+impl Add<usize> for TcpSeqNumber {
+    type Output = TcpSeqNumber;
+
+    ghost can_add = { λ a n. n < 2 ^ 31 };
+
+    ghost add_gives = { λ a n r. number r ≡ (number a + n) % 2 ^ 32 };
+
+    fn add(self, rhs: usize) -> TcpSeqNumber {
+        TcpSeqNumber(self.0.wrapping_add(rhs as i32))
+    }
+}
+
+/// The number that so many steps back lead to, at most 2<sup>31</sup> - 1.
+impl Sub<usize> for TcpSeqNumber {
+    type Output = TcpSeqNumber;
+
+    ghost can_sub = { λ a n. n < 2 ^ 31 };
+
+    ghost sub_gives = { λ a n r. number r ≡ (number a + (2 ^ 32 - n)) % 2 ^ 32 };
+
+    fn sub(self, rhs: usize) -> TcpSeqNumber {
+        TcpSeqNumber(self.0.wrapping_sub(rhs as i32))
+    }
+}
+
+/// Goes so many steps forward, at most 2<sup>31</sup> - 1.
+impl AddAssign<usize> for TcpSeqNumber {
+    ghost can_add_assign = { λ a n. n < 2 ^ 31 };
+
+    ghost add_assign_gives = { λ a n r. number r ≡ (number a + n) % 2 ^ 32 };
+
+    fn add_assign(&mut self, rhs: usize) {
+        *self = *self + rhs;
+    }
+}
+
+/// How many steps forward lead from a number to this one, which does not come before it.
+impl Sub for TcpSeqNumber {
+    type Output = usize;
+
+    ghost can_sub = { λ a b. ¬ IsBefore a b };
+
+    ghost sub_gives = { λ a b n. n ≡ distance a b };
+
+    fn sub(self, rhs: TcpSeqNumber) -> usize {
+        self.0.wrapping_sub(rhs.0) as usize
+    }
+}

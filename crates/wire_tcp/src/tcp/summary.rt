@@ -1,0 +1,75 @@
+//! All options of a header at once.
+
+ghost use Rattle.std.specs.Prelude.{◌≡◌, [], ◌∷◌, ◌++◌, List, IfOk, OnErr};
+ghost use Rattle.wire_tcp.specs.TcpItems.{IsItem, Item};
+ghost use Rattle.wire_tcp.specs.TcpOption.{IsReading};
+ghost use Rattle.wire_tcp.specs.TcpSummary.{HasNoList, Summarizes, summary_of};
+
+use super::{SACK_BLOCKS, TcpOption};
+use net_base::Result;
+
+/// What the options of a header say: of each kind the last one.
+#[derive(Debug, Clone, Copy, PartialEq, Eq)]
+pub struct TcpOptionSummary {
+    /// The largest segment that the sender receives, in octets.
+    pub max_segment_size: Option<u16>,
+    /// By how many bits windows are shifted, as it stands: also above 14.
+    pub window_scale: Option<u8>,
+    pub sack_permitted: bool,
+    pub sack_ranges: [Option<(u32, u32)>; SACK_BLOCKS],
+    /// The timestamp, and the one that it replies to.
+    pub timestamp: Option<(u32, u32)>,
+}
+
+/// That there are no options.
+impl Default for TcpOptionSummary {
+    ghost is_default = { λ summary. summary ≡ summary_of [] };
+
+    fn default() -> TcpOptionSummary {
+        TcpOptionSummary {
+            max_segment_size: None,
+            window_scale: None,
+            sack_permitted: false,
+            sack_ranges: [None; SACK_BLOCKS],
+            timestamp: None,
+        }
+    }
+}
+
+impl TcpOptionSummary {
+    // What the options say up to an end mark.
+    pub(super) fn of_options(options: &[u8]) -> Result<TcpOptionSummary>
+        ensures ok { IfOk result (Summarizes options.now) }
+        ensures err { OnErr result (HasNoList options.now) }
+    {
+        let mut summary = TcpOptionSummary::default();
+        let mut rest = options;
+        while !rest.is_empty() {
+            let (next, option) = TcpOption::parse(rest)?;
+            if let TcpOption::EndOfList = option {
+                break;
+            }
+            summary.note(&option);
+            rest = next;
+        }
+        Ok(summary)
+    }
+
+    // Takes the next option in.
+    fn note(&mut self, option: &TcpOption<'_>)
+        ensures { (items : List Item) (i : Item) →
+            self.old ≡ summary_of items → IsItem i → IsReading option.now i →
+            self.new ≡ summary_of (items ++ i ∷ []) }
+    {
+        match option {
+            TcpOption::EndOfList => {}
+            TcpOption::NoOperation => {}
+            TcpOption::MaxSegmentSize(size) => self.max_segment_size = Some(*size),
+            TcpOption::WindowScale(scale) => self.window_scale = Some(*scale),
+            TcpOption::SackPermitted => self.sack_permitted = true,
+            TcpOption::SackRange(ranges) => self.sack_ranges = *ranges,
+            TcpOption::TimeStamp { tsval, tsecr } => self.timestamp = Some((*tsval, *tsecr)),
+            TcpOption::Unknown { .. } => {}
+        }
+    }
+}
