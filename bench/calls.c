@@ -29,11 +29,15 @@ struct library {
     size_t (*emit_udp_ipv4)(uint32_t, uint32_t, uint16_t, uint16_t, const uint8_t *, size_t, uint8_t, uint8_t *, size_t);
     size_t (*emit_udp_ipv6)(const uint8_t *, const uint8_t *, uint16_t, uint16_t, const uint8_t *, size_t, uint8_t,
                             uint8_t *, size_t);
+    size_t (*emit_tcp_ipv4)(uint32_t, uint32_t, const struct lk_tcp *, const uint8_t *, size_t, uint8_t, uint8_t *, size_t);
+    size_t (*emit_tcp_ipv6)(const uint8_t *, const uint8_t *, const struct lk_tcp *, const uint8_t *, size_t, uint8_t,
+                            uint8_t *, size_t);
     size_t (*ipv6_print)(const uint8_t *, uint8_t *, size_t);
     size_t (*rebuild)(const uint8_t *, size_t, uint8_t *, size_t);
 };
 
-/* One row: its input, and what is timed, with so many bytes of payload or for a checksum. */
+/* One row: its input, and what is timed, with so many bytes of payload or for a checksum, and with a TCP
+ * header. */
 struct row {
     const char *name;
     void (*prepare)(const struct row *);
@@ -41,11 +45,12 @@ struct row {
     size_t size;
     uint8_t checked;
     int is_rate;
+    const struct lk_tcp *header;
 };
 
 static uint8_t bytes[MOST_BYTES];
 static size_t frame_len; /* of the frame in them, where there is one */
-static uint8_t payload[MOST_PAYLOAD]; /* of a UDP packet */
+static uint8_t payload[MOST_PAYLOAD]; /* of a UDP packet or a TCP segment */
 static uint8_t out[ADDRESSES * MOST_TEXT];
 static volatile uint64_t sink;
 
@@ -110,6 +115,24 @@ static void prepare_udp_ipv6(const struct row *row)
     frame_len = 14 + 40 + len;
 }
 
+static void prepare_tcp_ipv4(const struct row *row)
+{
+    uint8_t *packet = bytes + 14;
+    prepare_ipv4(row);
+    size_t len = lk_emit_tcp_ipv4(SRC, DST, row->header, payload, row->size, 1, packet + 20, MOST_BYTES - 34);
+    lk_emit_ipv4(SRC, DST, 6, 64, len, 1, packet, 20);
+    frame_len = 14 + 20 + len;
+}
+
+static void prepare_tcp_ipv6(const struct row *row)
+{
+    uint8_t *packet = bytes + 14;
+    prepare_ipv6(row);
+    size_t len = lk_emit_tcp_ipv6(src, dst, row->header, payload, row->size, 1, packet + 40, MOST_BYTES - 54);
+    lk_emit_ipv6(src, dst, 6, 64, len, packet, 40);
+    frame_len = 14 + 40 + len;
+}
+
 /* Addresses of four kinds: eight groups of all lengths, zeros in one place and in two, and an IPv4
  * address in the last four octets. */
 static void prepare_addresses(const struct row *row)
@@ -169,6 +192,16 @@ static uint64_t call_emit_udp(const struct library *library, const struct row *r
 static uint64_t call_emit_udp_ipv6(const struct library *library, const struct row *row)
 {
     return library->emit_udp_ipv6(src, dst, 48896, 53, payload, row->size, row->checked, out, sizeof out);
+}
+
+static uint64_t call_emit_tcp(const struct library *library, const struct row *row)
+{
+    return library->emit_tcp_ipv4(SRC, DST, row->header, payload, row->size, row->checked, out, sizeof out);
+}
+
+static uint64_t call_emit_tcp_ipv6(const struct library *library, const struct row *row)
+{
+    return library->emit_tcp_ipv6(src, dst, row->header, payload, row->size, row->checked, out, sizeof out);
 }
 
 static uint64_t call_rebuild(const struct library *library, const struct row *row)
@@ -238,6 +271,31 @@ static const struct row rows[] = {
     {"print addresses", prepare_addresses, call_print, ADDRESSES, 1, 0},
 };
 
+/* TCP headers by their options: none, those of a SYN, of data, and of a duplicate acknowledgement. */
+static const struct {
+    const char *name;
+    struct lk_tcp header;
+} headers[] = {
+    {"bare", {.src_port = 48896, .dst_port = 80, .has_ack_number = 1, .window_len = 502}},
+    {"SYN", {.src_port = 48896, .dst_port = 80, .control = LK_TCP_SYN, .window_len = 64240,
+             .has_max_seg_size = 1, .max_seg_size = 1460, .has_window_scale = 1, .window_scale = 7,
+             .sack_permitted = 1, .has_timestamp = 1, .tsval = 0x12345678}},
+    {"data", {.src_port = 48896, .dst_port = 80, .control = LK_TCP_PSH, .has_ack_number = 1, .window_len = 502,
+              .has_timestamp = 1, .tsval = 0x12345678, .tsecr = 0x23456789}},
+    {"SACK", {.src_port = 48896, .dst_port = 80, .has_ack_number = 1, .window_len = 502,
+              .has_timestamp = 1, .tsval = 0x12345678, .tsecr = 0x23456789, .sack_range_count = 3,
+              .sack_ranges = {{1460, 2920}, {4380, 5840}, {7300, 8760}}}},
+};
+
+static const struct row tcp_rows[] = {
+    {"parse TCP/IPv4", prepare_tcp_ipv4, call_parse, 0, 1, 0, NULL},
+    {"parse TCP/IPv6", prepare_tcp_ipv6, call_parse, 0, 1, 0, NULL},
+    {"emit TCP/IPv4", prepare_tcp_ipv4, call_emit_tcp, 0, 1, 0, NULL},
+    {"emit TCP/IPv6", prepare_tcp_ipv6, call_emit_tcp_ipv6, 0, 1, 0, NULL},
+    {"rebuild TCP/IPv4", prepare_tcp_ipv4, call_rebuild, 0, 1, 0, NULL},
+    {"rebuild TCP/IPv6", prepare_tcp_ipv6, call_rebuild, 0, 1, 0, NULL},
+};
+
 static _Noreturn void give_up(const char *what, const char *why)
 {
     fprintf(stderr, "calls: %s: %s\n", what, why);
@@ -267,6 +325,8 @@ static struct library load(const char *path)
     *(void **)&library.emit_ipv6 = symbol(handle, path, "lk_emit_ipv6");
     *(void **)&library.emit_udp_ipv4 = symbol(handle, path, "lk_emit_udp_ipv4");
     *(void **)&library.emit_udp_ipv6 = symbol(handle, path, "lk_emit_udp_ipv6");
+    *(void **)&library.emit_tcp_ipv4 = symbol(handle, path, "lk_emit_tcp_ipv4");
+    *(void **)&library.emit_tcp_ipv6 = symbol(handle, path, "lk_emit_tcp_ipv6");
     *(void **)&library.ipv6_print = symbol(handle, path, "lk_ipv6_print");
     *(void **)&library.rebuild = symbol(handle, path, "lk_rebuild");
     return library;
@@ -327,7 +387,7 @@ static void run(const struct row *row, const struct library *ours, const struct 
             there[round] = nanoseconds(reference, row, calls) / (double)calls;
     }
     double ns = median(here);
-    printf("%-18s %8zu %10.1f", row->name, row->size, ns);
+    printf("%-22s %8zu %10.1f", row->name, row->size, ns);
     if (row->is_rate)
         printf(" %7.2f", (double)row->size / ns);
     else
@@ -342,21 +402,40 @@ static void run(const struct row *row, const struct library *ours, const struct 
     fflush(stdout);
 }
 
+/* Each of the rows with each header and size. */
+static void run_tcp(const struct library *ours, const struct library *reference)
+{
+    static const size_t sizes[] = {0, 64, 1460};
+    for (size_t i = 0; i < sizeof tcp_rows / sizeof tcp_rows[0]; i++)
+        for (size_t j = 0; j < sizeof headers / sizeof headers[0]; j++)
+            for (size_t k = 0; k < sizeof sizes / sizeof sizes[0]; k++) {
+                char name[32];
+                struct row row = tcp_rows[i];
+                snprintf(name, sizeof name, "%s %s", row.name, headers[j].name);
+                row.name = name;
+                row.size = sizes[k];
+                row.header = &headers[j].header;
+                run(&row, ours, reference);
+            }
+}
+
 int main(int argc, char **argv)
 {
     static const struct library ours = {
-        lk_checksum, lk_parse, lk_emit_arp, lk_emit_ipv4, lk_emit_ipv6, lk_emit_udp_ipv4, lk_emit_udp_ipv6, lk_ipv6_print, lk_rebuild,
+        lk_checksum, lk_parse, lk_emit_arp, lk_emit_ipv4, lk_emit_ipv6, lk_emit_udp_ipv4, lk_emit_udp_ipv6,
+        lk_emit_tcp_ipv4, lk_emit_tcp_ipv6, lk_ipv6_print, lk_rebuild,
     };
     struct library reference;
     if (argc > 2)
         give_up("usage", "calls [LIBRARY.so]");
     if (argc == 2)
         reference = load(argv[1]);
-    printf("%-18s %8s %10s %7s", "call", "bytes", "ns a call", "GB/s");
+    printf("%-22s %8s %10s %7s", "call", "bytes", "ns a call", "GB/s");
     if (argc == 2)
         printf(" %12s %7s", "reference ns", "speed");
     printf("\n");
     for (size_t i = 0; i < sizeof rows / sizeof rows[0]; i++)
         run(&rows[i], &ours, argc == 2 ? &reference : NULL);
+    run_tcp(&ours, argc == 2 ? &reference : NULL);
     return 0;
 }

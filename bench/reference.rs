@@ -2,7 +2,7 @@
 //!
 //! Build it as a shared library: `rustc --edition 2024 --crate-type cdylib -C opt-level=3 -C panic=abort
 //! --extern smoltcp=libsmoltcp.rlib -L FOLDER bench/reference.rs`, with a smoltcp that has Ethernet, ARP, IPv4,
-//! IPv6 and UDP.
+//! IPv6, UDP and TCP.
 
 use smoltcp::phy::ChecksumCapabilities;
 use smoltcp::wire::*;
@@ -55,6 +55,12 @@ fn datagram<'a>(
     Ok((header, packet.payload()))
 }
 
+/// The TCP segment between the addresses of a header.
+fn segment<'a>(ip: &IpRepr, bytes: &'a [u8], caps: &ChecksumCapabilities) -> Result<TcpRepr<'a>> {
+    let packet = TcpPacket::new_checked(bytes)?;
+    TcpRepr::parse(&packet, &ip.src_addr(), &ip.dst_addr(), caps)
+}
+
 /// The ARP packet that a frame carries.
 fn message(frame: &EthernetFrame<&[u8]>) -> Result<ArpRepr> {
     ArpRepr::parse(&ArpPacket::new_checked(frame.payload())?)
@@ -66,10 +72,14 @@ fn payload_len(frame: &[u8], caps: &ChecksumCapabilities) -> Result<usize> {
         return message(&frame).map(|_| 0);
     }
     let (ip, is_whole, payload) = packet(&frame, caps)?;
-    if is_whole && ip.next_header() == IpProtocol::Udp {
-        datagram(&ip, payload, caps).map(|(_, payload)| payload.len())
-    } else {
-        Ok(payload.len())
+    match ip.next_header() {
+        IpProtocol::Udp if is_whole => {
+            datagram(&ip, payload, caps).map(|(_, payload)| payload.len())
+        }
+        IpProtocol::Tcp if is_whole => {
+            segment(&ip, payload, caps).map(|segment| segment.payload.len())
+        }
+        _ => Ok(payload.len()),
     }
 }
 
@@ -221,6 +231,128 @@ pub unsafe extern "C" fn lk_emit_udp_ipv6(
     emit_datagram(header, src.into(), dst.into(), payload, &capabilities(checked), out).unwrap_or(0)
 }
 
+#[repr(C)]
+#[derive(Clone, Copy)]
+pub struct SackRange {
+    left: u32,
+    right: u32,
+}
+
+/// `struct lk_tcp` of `c/ip_wire.h`.
+#[repr(C)]
+pub struct TcpFields {
+    src_port: u16,
+    dst_port: u16,
+    seq_number: u32,
+    ack_number: u32,
+    window_len: u16,
+    max_seg_size: u16,
+    tsval: u32,
+    tsecr: u32,
+    sack_ranges: [SackRange; 3],
+    control: u8,
+    window_scale: u8,
+    sack_permitted: u8,
+    sack_range_count: u8,
+    has_ack_number: u8,
+    has_max_seg_size: u8,
+    has_window_scale: u8,
+    has_timestamp: u8,
+}
+
+impl TcpFields {
+    fn segment<'a>(&self, payload: &'a [u8]) -> Result<TcpRepr<'a>> {
+        let mut sack_ranges = [None; 3];
+        let given = self.sack_ranges.get(..self.sack_range_count.into()).ok_or(Error)?;
+        for (range, given) in sack_ranges.iter_mut().zip(given) {
+            *range = Some((given.left, given.right));
+        }
+        Ok(TcpRepr {
+            src_port: self.src_port,
+            dst_port: self.dst_port,
+            control: match self.control {
+                0 => TcpControl::None,
+                1 => TcpControl::Psh,
+                2 => TcpControl::Syn,
+                3 => TcpControl::Fin,
+                4 => TcpControl::Rst,
+                _ => return Err(Error),
+            },
+            seq_number: TcpSeqNumber(self.seq_number as i32),
+            ack_number: (self.has_ack_number != 0).then_some(TcpSeqNumber(self.ack_number as i32)),
+            window_len: self.window_len,
+            window_scale: (self.has_window_scale != 0).then_some(self.window_scale),
+            max_seg_size: (self.has_max_seg_size != 0).then_some(self.max_seg_size),
+            sack_permitted: self.sack_permitted != 0,
+            sack_ranges,
+            timestamp: (self.has_timestamp != 0)
+                .then_some(TcpTimestampRepr { tsval: self.tsval, tsecr: self.tsecr }),
+            payload,
+        })
+    }
+}
+
+fn emit_segment(
+    segment: &TcpRepr,
+    src_addr: IpAddress,
+    dst_addr: IpAddress,
+    caps: &ChecksumCapabilities,
+    out: &mut [u8],
+) -> Result<usize> {
+    let len = segment.buffer_len();
+    if segment.header_len() > 60 || out.len() < len {
+        return Err(Error);
+    }
+    segment.emit(&mut TcpPacket::new_unchecked(&mut out[..len]), &src_addr, &dst_addr, caps);
+    Ok(len)
+}
+
+fn send_segment(
+    header: &TcpFields,
+    src_addr: IpAddress,
+    dst_addr: IpAddress,
+    payload: &[u8],
+    checked: u8,
+    out: &mut [u8],
+) -> usize {
+    header
+        .segment(payload)
+        .and_then(|segment| emit_segment(&segment, src_addr, dst_addr, &capabilities(checked), out))
+        .unwrap_or(0)
+}
+
+#[unsafe(no_mangle)]
+pub unsafe extern "C" fn lk_emit_tcp_ipv4(
+    src_addr: u32,
+    dst_addr: u32,
+    header: *const TcpFields,
+    ptr: *const u8,
+    len: usize,
+    checked: u8,
+    out: *mut u8,
+    cap: usize,
+) -> usize {
+    let (payload, out) = unsafe { (from_raw_parts(ptr, len), from_raw_parts_mut(out, cap)) };
+    let (src, dst) = (Ipv4Address::from(src_addr), Ipv4Address::from(dst_addr));
+    send_segment(unsafe { &*header }, src.into(), dst.into(), payload, checked, out)
+}
+
+#[unsafe(no_mangle)]
+pub unsafe extern "C" fn lk_emit_tcp_ipv6(
+    src_addr: *const u8,
+    dst_addr: *const u8,
+    header: *const TcpFields,
+    ptr: *const u8,
+    len: usize,
+    checked: u8,
+    out: *mut u8,
+    cap: usize,
+) -> usize {
+    let (payload, out) = unsafe { (from_raw_parts(ptr, len), from_raw_parts_mut(out, cap)) };
+    let (src, dst) = unsafe { (address(src_addr), address(dst_addr)) };
+    send_segment(unsafe { &*header }, src.into(), dst.into(), payload, checked, out)
+}
+
 /// The front of a slice that has been written.
 struct Front<'a> {
     slice: &'a mut [u8],
@@ -254,6 +386,11 @@ fn rebuild_transport(ip: &IpRepr, bytes: &[u8], room: &mut [u8]) -> Result<usize
         && let Ok((header, payload)) = datagram(ip, bytes, &caps)
     {
         return emit_datagram(header, ip.src_addr(), ip.dst_addr(), payload, &caps, room);
+    }
+    if ip.next_header() == IpProtocol::Tcp
+        && let Ok(segment) = segment(ip, bytes, &caps)
+    {
+        return emit_segment(&segment, ip.src_addr(), ip.dst_addr(), &caps, room);
     }
     room.get_mut(..bytes.len()).ok_or(Error)?.copy_from_slice(bytes);
     Ok(bytes.len())

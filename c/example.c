@@ -1,5 +1,6 @@
 /* A frame with padding is read, built again without the padding, and a header is written: for IPv4, and
- * for IPv6, whose addresses are printed too. Then UDP packets and an ARP request are written. */
+ * for IPv6, whose addresses are printed too. Then UDP packets, TCP segments and an ARP request are
+ * written. */
 #include <stdio.h>
 #include "ip_wire.h"
 
@@ -66,6 +67,19 @@ int main(void)
     print_bytes("UDP over IPv6", out, len);
     printf("room for 11 octets: %zu\n",
            lk_emit_udp_ipv4(0xc0a80101, 0xc0a80102, 48896, 53, payload, 4, 1, out, 11));
+
+    struct lk_tcp syn = {
+        .src_port = 48896, .dst_port = 80, .seq_number = 0x01234567, .window_len = 0x0123,
+        .control = LK_TCP_SYN, .has_max_seg_size = 1, .max_seg_size = 1460,
+        .has_window_scale = 1, .window_scale = 14, .sack_permitted = 1,
+    };
+    len = lk_emit_tcp_ipv4(0xc0a80101, 0xc0a80102, &syn, payload, 0, 1, out, sizeof out);
+    print_bytes("SYN over IPv4", out, len);
+    len = lk_emit_tcp_ipv6(link_local, all_nodes, &syn, payload, 0, 1, out, sizeof out);
+    print_bytes("SYN over IPv6", out, len);
+    syn.control = 5;
+    printf("no such control: %zu\n",
+           lk_emit_tcp_ipv4(0xc0a80101, 0xc0a80102, &syn, payload, 0, 1, out, sizeof out));
 
     len = lk_emit_arp(1, hardware, 0xc0000201, unknown, 0xc0000202, out, sizeof out);
     print_bytes("ARP request", out, len);

@@ -13,11 +13,13 @@
  * only where every byte is 0. */
 uint16_t lk_checksum(const uint8_t *ptr, size_t len);
 
-/* Reads the headers of an Ethernet frame that carries ARP, IPv4 or IPv6, and of the UDP packet in one of
- * those, and answers the length of the innermost payload plus 1; 0 where a header is refused, or the
- * frame is of another type. The payload of a packet of another protocol, or of a fragment, is not looked
- * into: it counts as it stands; an ARP packet has none. IPv4 options are read over, and IPv6 extension
- * headers belong to the payload. Checksums are verified unless `verified` is 0. */
+/* Reads the headers of an Ethernet frame that carries ARP, IPv4 or IPv6, and of the UDP packet or
+ * TCP segment in one of those, and answers the length of the innermost payload plus 1; 0 where a
+ * header is refused, or the frame is of another type. The payload of a packet of another
+ * protocol, or of a fragment, is not looked into: it counts as it stands; an ARP packet has none.
+ * IPv4 options are read over, and IPv6 extension headers belong to the payload. Of a TCP header a
+ * port of 0, more than one of SYN, FIN and RST, and a malformed option before an end mark are
+ * refused. Checksums are verified unless `verified` is 0. */
 uint32_t lk_parse(const uint8_t *ptr, size_t len, uint8_t verified);
 
 /* Writes an ARP packet of Ethernet and IPv4, 28 octets, to the front of `out`, and answers 28; 0 where
@@ -52,17 +54,66 @@ size_t lk_emit_udp_ipv6(const uint8_t *src_addr, const uint8_t *dst_addr, uint16
                         uint16_t dst_port, const uint8_t *ptr, size_t len, uint8_t computed,
                         uint8_t *out, size_t cap);
 
+/* What a TCP segment asks for: at most one flag beside ACK. */
+enum lk_tcp_control { LK_TCP_NONE, LK_TCP_PSH, LK_TCP_SYN, LK_TCP_FIN, LK_TCP_RST };
+
+/* A block of data that were received, from the left edge up to, but without, the right one (RFC
+ * 2018). */
+struct lk_sack_range {
+    uint32_t left;
+    uint32_t right;
+};
+
+/* The values of a TCP header (RFC 9293; options by RFC 2018 and RFC 7323). A value that has a
+ * field `has_..` is there unless that is 0, so that all that is not named in an initializer is
+ * left out. */
+struct lk_tcp {
+    uint16_t src_port;
+    uint16_t dst_port;
+    uint32_t seq_number;                 /* of the first octet of the payload, or of SYN */
+    uint32_t ack_number;                 /* that is expected next */
+    uint16_t window_len;                 /* in octets, before any scaling */
+    uint16_t max_seg_size;               /* in octets */
+    uint32_t tsval;                      /* the timestamp */
+    uint32_t tsecr;                      /* the timestamp that it replies to */
+    struct lk_sack_range sack_ranges[3]; /* the first `sack_range_count` of them are there */
+    uint8_t control;                     /* an `lk_tcp_control` */
+    uint8_t window_scale;                /* in bits; a receiver takes more than 14 for 14 */
+    uint8_t sack_permitted;              /* unless it is 0 */
+    uint8_t sack_range_count;            /* at most 3 */
+    uint8_t has_ack_number;
+    uint8_t has_max_seg_size;
+    uint8_t has_window_scale;
+    uint8_t has_timestamp;
+};
+
+/* Writes a TCP header and the `len` octets at `ptr` behind it, to be carried by IPv4 between
+ * these two addresses, to the front of `out`, and answers the length of both; 0 where they don't
+ * fit into `cap` octets, the options take more than 40, or `control` or `sack_range_count` is out
+ * of range, and then nothing is written. Ranges are written only with an acknowledgement and
+ * without `sack_permitted`, but the header has room for them in any case. The checksum is
+ * computed unless `computed` is 0, and then it is 0. A receiver refuses a port of 0. */
+size_t lk_emit_tcp_ipv4(uint32_t src_addr, uint32_t dst_addr, const struct lk_tcp *header,
+                        const uint8_t *ptr, size_t len, uint8_t computed, uint8_t *out, size_t cap);
+
+/* The same over IPv6, whose addresses are 16 octets each. */
+size_t lk_emit_tcp_ipv6(const uint8_t *src_addr, const uint8_t *dst_addr,
+                        const struct lk_tcp *header, const uint8_t *ptr, size_t len,
+                        uint8_t computed, uint8_t *out, size_t cap);
+
 /* Writes the text of the IPv6 address of these 16 octets (RFC 5952) to the front of `out`, with no null
  * behind it, and answers its length, which is never more than 39; 0 where it doesn't fit into `cap`
  * octets, and then nothing is written. */
 size_t lk_ipv6_print(const uint8_t *octets, uint8_t *out, size_t cap);
 
-/* Builds an Ethernet frame again from the values of its headers and writes it to the front of `out`:
- * IPv4 options, an IPv6 traffic class and flow label, and padding are dropped. What is not read as an
- * ARP packet of Ethernet and IPv4, as an IPv6 packet, or as an IPv4 packet whose checksum holds and that
- * is no fragment, stays as it stands; so does in a packet what is not read as a UDP packet whose checksum
- * holds. Answers the length, which is never more than `len`; 0 where it doesn't fit into `cap` octets or
- * `len` is less than 14, and then nothing is written. */
+/* Builds an Ethernet frame again from the values of its headers and writes it to the front of
+ * `out`: IPv4 options, an IPv6 traffic class and flow label, and padding are dropped. A TCP
+ * header keeps ACK and one other flag, no urgent pointer, and of each kind in `struct lk_tcp` its
+ * last option. What is not read as an ARP packet of Ethernet and IPv4, as an IPv6 packet, or as
+ * an IPv4 packet whose checksum holds and that is no fragment, stays as it stands; so does in a
+ * packet what is not read as a UDP packet or a TCP segment whose checksum holds. Answers the
+ * length, which is never more than `len`; 0 where it doesn't fit into `cap` octets or `len` is
+ * less than 14, and then nothing is written. */
 size_t lk_rebuild(const uint8_t *ptr, size_t len, uint8_t *out, size_t cap);
 
 #endif

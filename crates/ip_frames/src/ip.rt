@@ -5,7 +5,7 @@ ghost use Rattle.ip_frames.specs.Output.{AddsBytes, AddsText, transport_lines};
 ghost use Rattle.ip_wire.specs.Frame.{rebuilt_packet, rebuilt_transport};
 ghost use Rattle.ip_wire.specs.Ip.{max_payload_len};
 
-use crate::udp;
+use crate::{tcp, udp};
 use ip_wire::{IpProtocol, IpRepr};
 use net_base::ChecksumCapabilities;
 use std::alloc::AllocError;
@@ -38,10 +38,12 @@ fn push_transport(
     text: &mut String,
     again: &mut Vec<u8>,
 ) -> Result<(), AllocError>
+    requires { length payload.now ≤ max_payload_len header.now }
     ensures lines { OnOk result (AddsText text.old text.new (transport_lines header.now payload.now)) }
     ensures again { OnOk result (AddsBytes again.old again.new (rebuilt_transport header.now payload.now)) }
 {
     match header.next_header() {
+        IpProtocol::Tcp => tcp::push_packet(header, payload, text, again),
         IpProtocol::Udp => udp::push_packet(header, payload, text, again),
         _ => again.extend_from_slice(payload),
     }

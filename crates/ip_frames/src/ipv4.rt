@@ -7,6 +7,7 @@ ghost use Rattle.ip_wire.specs.Ipv4.{ipv4_of, packet_bytes};
 ghost use Rattle.ip_wire.specs.declared.EthernetProtocol.TheVariants.{Ipv4};
 
 use crate::ip::push_inner;
+use crate::unread::push_unread;
 use ip_wire::{IpRepr, Ipv4Packet, Ipv4Repr};
 use net_base::ChecksumCapabilities;
 use std::alloc::AllocError;
@@ -33,11 +34,7 @@ pub fn push_packet(bytes: &[u8], text: &mut String, again: &mut Vec<u8>) -> Resu
                 push_inner(IpRepr::Ipv4(header), packet.payload(), text, again)
             }
         }
-        Err(_) => {
-            text.push_str(checksum_note(&packet))?;
-            text.push('\n')?;
-            again.extend_from_slice(bytes)
-        }
+        Err(_) => push_unread(checksum_note(&packet), bytes, text, again),
     }
 }
 

@@ -1,9 +1,13 @@
 //! The line of a UDP packet, and the packet built again.
 
 ghost use Rattle.std.specs.Prelude.{◌≡◌, ◌≤◌, ◌+◌, ◌++◌, OnOk, drop, length};
-ghost use Rattle.ip_frames.specs.Output.{AddsBytes, AddsText, rebuilt_udp, udp_bytes, udp_lines, udp_verdict};
+ghost use Rattle.ip_frames.specs.Output.{AddsBytes, AddsText, udp_bytes, udp_lines, udp_verdict};
+ghost use Rattle.ip_wire.specs.Frame.{rebuilt_between};
+ghost use Rattle.ip_wire.specs.Ip.{dst_addr_of, src_addr_of};
 ghost use Rattle.ip_wire.specs.Udp.{max_payload_len, packet_bytes};
+ghost use Rattle.ip_wire.specs.declared.IpProtocol.TheVariants.{Udp};
 
+use crate::unread::{push_unread, unread_verdict};
 use ip_wire::{IpRepr, UDP_HEADER_LEN, UdpPacket, UdpPacketMut, UdpRepr};
 use net_base::ChecksumCapabilities;
 use std::alloc::AllocError;
@@ -16,7 +20,8 @@ pub fn push_packet(
     again: &mut Vec<u8>,
 ) -> Result<(), AllocError>
     ensures lines { OnOk result (AddsText text.old text.new (udp_lines ip_header.now bytes.now)) }
-    ensures again { OnOk result (AddsBytes again.old again.new (rebuilt_udp ip_header.now bytes.now)) }
+    ensures again { let src = src_addr_of ip_header.now in let dst = dst_addr_of ip_header.now in
+        OnOk result (AddsBytes again.old again.new (rebuilt_between Udp src dst bytes.now)) }
 {
     let packet = UdpPacket::new_unchecked(bytes);
     write!(text, "{packet}")?;
@@ -26,11 +31,7 @@ pub fn push_packet(
             text.push('\n')?;
             push_datagram(header, ip_header, packet.payload(), again)
         }
-        Err(_) => {
-            text.push_str(verdict(&packet, ip_header))?;
-            text.push('\n')?;
-            again.extend_from_slice(bytes)
-        }
+        Err(_) => push_unread(verdict(&packet, ip_header), bytes, text, again),
     }
 }
 
@@ -41,16 +42,13 @@ fn verdict(packet: &UdpPacket<'_>, ip_header: &IpRepr) -> &'static str
     if packet.check_len().is_err() {
         return "";
     }
-    let src_addr = ip_header.src_addr();
-    let dst_addr = ip_header.dst_addr();
+    let (src_addr, dst_addr) = (ip_header.src_addr(), ip_header.dst_addr());
     let caps = ChecksumCapabilities::ignored();
-    match UdpRepr::parse(packet, &src_addr, &dst_addr, &caps) {
-        Ok(_) if packet.verify_partial_checksum(&src_addr, &dst_addr) => {
-            " (partial checksum correct)"
-        }
-        Ok(_) => " (checksum incorrect)",
-        Err(_) => " (refused)",
-    }
+    let is_read = UdpRepr::parse(packet, &src_addr, &dst_addr, &caps).is_ok();
+    unread_verdict(
+        is_read,
+        packet.verify_partial_checksum(&src_addr, &dst_addr),
+    )
 }
 
 // Appends a packet with this header and this payload.

@@ -1,13 +1,16 @@
 -- ARP is a layer.
-use Rattle.std.proofs.Common.{ℕ, ◌≡◌, ◌≤◌, ◌^◌, ◌<◌, List, [], ◌∷◌, Some, length, refl, sym, ap, subst, ◌∙◌, append-nil, arith}
-use Rattle.ip_wire.proofs.Layers.{IsLayer, length-part, option_map-Some}
-use Rattle.ip_wire.proofs.Numbers.{operation_number-of}
+use Rattle.std.proofs.Common.{ℕ, ◌≡◌, ◌≤◌, ◌^◌, ◌<◌, List, [], ◌∷◌, ◌++◌, Some, length, slice_range, refl, sym, ap, subst, ◌∙◌, append-nil, arith}
+use Rattle.ip_wire.proofs.Layers.{HasForms-normal, IsLayer, ReadsNormal, length-part, option_map-Some}
 use Rattle.ip_wire.specs.Frame.{arp}
+use Rattle.wire_field.proofs.ByteLists.{AreBytes-append, AreBytes-bytes_high_first, AreBytes-slice_range, AreBytes-tested}
 use Rattle.wire_field.proofs.Cells.{cells-all}
+use Rattle.wire_field.proofs.Spelled.{AreBytes}
 use Rattle.wire_field.specs.Field.{field}
 use Rattle.wire_arp.proofs.ArpComputed.{arp_of-Reads}
 use Rattle.wire_arp.proofs.ArpEmitted.{IsInRange, reads-bytes_of}
-use Rattle.wire_arp.specs.Arp.{Reads, arp_of, bytes_of, known_operation, normal, operation_number, operation_of, value_of}
+use Rattle.wire_arp.proofs.ArpNormal.{normal-read, operation_number-of}
+use Rattle.std.specs.Int.{bytes_high_first}
+use Rattle.wire_arp.specs.Arp.{Reads, arp_of, bytes_of, ethernet_ipv4, normal, operation_number, operation_of}
 use Rattle.wire_arp.specs.declared.ArpRepr.{ArpRepr}
 use Rattle.wire_arp.specs.declared.ArpRepr.TheVariants.{EthernetIpv4}
 
@@ -38,28 +41,37 @@ length-bytes_of : (v : ArpRepr) → IsInRange v → length (bytes_of v) ≡ 28
 length-bytes_of (EthernetIpv4 operation sha spa tha tpa) (small, h) =
     rw (cells-all 6 sha.0 h.source_hardware, cells-all 4 spa h.source_protocol, cells-all 6 tha.0 h.target_hardware, cells-all 4 tpa h.target_protocol) (omega arith)
 
--- and is in its normal form
-normal-read : (bytes : List ℕ) (v : ArpRepr) → Reads bytes v → normal v ≡ v
-normal-read bytes v r =
-    let known : known_operation (operation_of (field bytes 48 16)) ≡ operation_of (field bytes 48 16) = ap operation_of (operation_number-of (field bytes 48 16)) in
-    let same : normal (value_of bytes) ≡ value_of bytes = rw known refl in
-    ap normal r.fields ∙ same ∙ sym r.fields
-
--- its packet is read as itself
-written-read : (bytes : List ℕ) (v : ArpRepr) → Reads bytes v → arp_of (bytes_of v) ≡ Some v
+-- its packet is read as its normal form
+written-read : (bytes : List ℕ) (v : ArpRepr) → Reads bytes v → arp_of (bytes_of v) ≡ Some (normal v)
 written-read bytes v r =
     let back = subst (λ written. Reads written (normal v)) (append-nil (bytes_of v)) (reads-bytes_of v [] (in_range bytes v r)) in
-    (arp_of-Reads (bytes_of v) (normal v)).1 back ∙ ap Some (normal-read bytes v r)
+    (arp_of-Reads (bytes_of v) (normal v)).1 back
 
 -- of no bytes there are no fewer
 none-longer : (p q : List ℕ) → p ≡ [] → length q ≤ length p → q ≡ []
 none-longer p [] e fits = refl
 none-longer p (x ∷ q) e fits = absurd (omega (arith, ap length e, fits))
 
+pub ReadsNormal-arp : ReadsNormal arp
+ReadsNormal-arp bytes v p e = normal-read bytes v (read-Reads bytes v p e).0
+
+AreBytes-written : (bytes : List ℕ) (v : ArpRepr) → AreBytes bytes → Reads bytes v → AreBytes (bytes_of v)
+AreBytes-written bytes v h r =
+    let with_part = λ (front : List ℕ) (from to : ℕ) (is : AreBytes front). AreBytes-append front (slice_range bytes from to) is (AreBytes-slice_range bytes from to h) in
+    let number = operation_number (operation_of (field bytes 48 16)) in
+    let fixed = ethernet_ipv4 ++ bytes_high_first 2 number in
+    let source = fixed ++ slice_range bytes 8 14 ++ slice_range bytes 14 18 in
+    let operation = AreBytes-append ethernet_ipv4 (bytes_high_first 2 number) (AreBytes-tested ethernet_ipv4 refl) (AreBytes-bytes_high_first 2 number) in
+    let written = with_part (source ++ slice_range bytes 18 24) 24 28 (with_part source 18 24
+    (with_part (fixed ++ slice_range bytes 8 14) 14 18 (with_part fixed 8 14 operation)))
+    in
+    subst (λ w. AreBytes (bytes_of w)) (sym r.fields) written
+
 pub IsLayer-arp : IsLayer arp
 IsLayer-arp = record {
-  normal_read = λ bytes v p e. normal-read bytes v (read-Reads bytes v p e).0;
-  reads_back = λ bytes v p q e fits.
+  payload_bytes = λ bytes v p h e. subst AreBytes (sym (read-Reads bytes v p e).1) (λ i. omega arith);
+  written_bytes = λ bytes v p q h e k. AreBytes-written bytes v h (read-Reads bytes v p e).0;
+  reads_back = λ bytes v p q h e fits.
       let (r, none) = read-Reads bytes v p e in
       rw (written-read bytes v r, none-longer p q none fits) refl;
   no_longer = λ bytes v p q e fits.
@@ -68,4 +80,5 @@ IsLayer-arp = record {
       let written = length-bytes_of v (in_range bytes v r) in
       let nothing = ap length none in
       omega (arith, written, whole, nothing);
+  forms = HasForms-normal arp ReadsNormal-arp;
 }

@@ -1,15 +1,22 @@
 -- Frames that are put together of layers that agree.
-use Rattle.std.proofs.Common.{ℕ, ◌≡◌, ◌≤◌, ◌<◌, ◌^◌, true, List, [], ◌++◌, length, refl, sym, ap, subst, ◌∙◌, append-nil, append_assoc, length-append, arith}
+use Rattle.std.proofs.Common.{ℕ, ◌≡◌, ◌≤◌, ◌<◌, ◌%◌, ◌^◌, Bool, IsTrue, List, [], ◌++◌, length, refl, sym, ap, subst, ◌∙◌, append-nil, append_assoc, length-append, arith}
 use Rattle.ip_wire.proofs.EthernetLayer.{drop-bytes_of}
 use Rattle.ip_wire.proofs.Ipv4Layer as ipv4_layer
 use Rattle.ip_wire.proofs.Ipv6Layer as ipv6_layer
-use Rattle.ip_wire.specs.Frame.{IsReadWhole, ReadsCarried, ReadsPacket, ReadsTransport, Transport, datagram, packet, packet_payload, type_of}
+use Rattle.ip_wire.specs.Frame.{ReadsCarried, ReadsFrame, ReadsPacket, ReadsTransport, Transport, datagram, packet, packet_payload, segment, type_of}
+use Rattle.net_base.specs.Checksum.{verifies}
+use Rattle.net_base.specs.declared.ChecksumCapabilities.{ChecksumCapabilities}
+use Rattle.wire_ends.specs.IpAddress.{octets_of}
 use Rattle.wire_ip.proofs.IpReadsBack.{IsInRange}
+use Rattle.wire_tcp_repr.proofs.TcpReadsBack as tcp
+use Rattle.wire_tcp_repr.specs.TcpRepr as tcp_header
+use Rattle.wire_tcp_repr.specs.TcpRepr.{TcpHeader}
 use Rattle.wire_ipv6.proofs.Ipv6ReadsBack as ipv6
 use Rattle.wire_udp.proofs.UdpReadsBack as udp
 use Rattle.wire_udp.specs.Udp as udp_header
 use Rattle.wire_udp.specs.declared.UdpRepr.{UdpRepr}
-use Rattle.wire_ip.specs.Ip.{bytes_of, dst_addr_of, next_header_of, normal, payload_len_of, src_addr_of}
+use Rattle.wire_ends.specs.declared.IpVersion.TheVariants as version
+use Rattle.wire_ip.specs.Ip.{bytes_of, dst_addr_of, next_header_of, normal, payload_len_of, src_addr_of, version_of}
 use Rattle.wire_ip.specs.declared.IpRepr.{IpRepr}
 use Rattle.wire_ip.specs.declared.IpRepr.TheVariants.{Ipv4, Ipv6}
 use Rattle.wire_ipv4.proofs.Ipv4ReadsBack as ipv4
@@ -19,19 +26,20 @@ use Rattle.wire_ethernet.specs.Ethernet as ethernet
 use Rattle.wire_ethernet.specs.declared.EthernetRepr.{EthernetRepr}
 
 -- a packet that is written is read, whatever stands behind what it carries
-pub reads_packet : (w : IpRepr) (q rest : List ℕ) → IsInRange w → payload_len_of w ≡ length q → ReadsPacket (bytes_of w true ++ (q ++ rest)) (normal w)
-reads_packet (Ipv4 w) q rest h is =
+pub reads_packet : (caps : ChecksumCapabilities) (computed : Bool) (w : IpRepr) (q rest : List ℕ) → IsInRange w → payload_len_of w ≡ length q
+    → (version_of w ≡ version.Ipv4 → IsTrue (verifies caps.ipv4) → IsTrue computed) → ReadsPacket caps (bytes_of w computed ++ (q ++ rest)) (normal w)
+reads_packet caps computed (Ipv4 w) q rest h is sound =
     let fits : w.payload_len ≤ length (q ++ rest) = simp length-append (omega (arith, is)) in
-    (ipv4.reads-bytes_of w (q ++ rest) true true h fits (λ on. on), refl)
-reads_packet (Ipv6 w) q rest h is =
+    (ipv4.reads-bytes_of w (q ++ rest) computed (verifies caps.ipv4) h fits (sound refl), refl)
+reads_packet caps computed (Ipv6 w) q rest h is sound =
     let fits : w.payload_len ≤ length (q ++ rest) = simp length-append (omega (arith, is)) in
     ipv6.reads-bytes_of w (q ++ rest) h fits
 
 -- and what it carries is found behind its header
-pub packet_payload-written : (w : IpRepr) (q rest : List ℕ) → IsInRange w → payload_len_of w ≡ length q
-    → packet_payload (normal w) (bytes_of w true ++ (q ++ rest)) ≡ q
-packet_payload-written (Ipv4 w) q rest h is = ipv4_layer.written-payload w q rest h is
-packet_payload-written (Ipv6 w) q rest h is = ipv6_layer.written-payload w q rest h is
+pub packet_payload-written : (w : IpRepr) (q rest : List ℕ) (computed : Bool) → IsInRange w → payload_len_of w ≡ length q
+    → packet_payload (normal w) (bytes_of w computed ++ (q ++ rest)) ≡ q
+packet_payload-written (Ipv4 w) q rest computed h is = ipv4_layer.written-payload w q rest computed h is
+packet_payload-written (Ipv6 w) q rest computed h is = ipv6_layer.written-payload w q rest h is
 
 -- the protocol of a packet that is read
 normal-next_header : (w : IpRepr) → next_header_of (normal w) ≡ protocol_of (number_of (next_header_of w))
@@ -47,15 +55,23 @@ normal-dst_addr (Ipv4 w) = refl
 normal-dst_addr (Ipv6 w) = refl
 
 -- a UDP packet that is written is what a packet of its protocol carries
-pub reads_datagram : (w : IpRepr) (v : UdpRepr) (payload : List ℕ) → number_of (next_header_of w) ≡ 17
-    → udp.IsInRange v payload (src_addr_of w) (dst_addr_of w)
-    → ReadsTransport (normal w) (udp_header.bytes_of v payload (src_addr_of w) (dst_addr_of w) true) (datagram v payload)
-reads_datagram w v payload number h =
+pub reads_datagram : (caps : ChecksumCapabilities) (computed : Bool) (w : IpRepr) (v : UdpRepr) (payload : List ℕ) → number_of (next_header_of w) ≡ 17
+    → udp.IsInRange v payload (src_addr_of w) (dst_addr_of w) → (IsTrue (verifies caps.udp) → IsTrue computed)
+    → ReadsTransport caps (normal w) (udp_header.bytes_of v payload (src_addr_of w) (dst_addr_of w) computed) (datagram v payload)
+reads_datagram caps computed w v payload number h sound =
     let src = src_addr_of w in
     let dst = dst_addr_of w in
-    let segment = udp_header.bytes_of v payload src dst true in
-    let back = udp.reads-bytes_of v src dst payload [] true true h (λ on. on) in
-    let read : udp_header.Reads segment src dst true v payload = subst (λ bytes. udp_header.Reads bytes src dst true v payload) (append-nil segment) back in
+    let written = udp_header.bytes_of v payload src dst computed in
+    let back = udp.reads-bytes_of v src dst payload [] computed (verifies caps.udp) h sound in
+    let read = subst (λ bytes. udp_header.Reads bytes src dst (verifies caps.udp) v payload) (append-nil written) back in
+    (normal-next_header w ∙ ap protocol_of number, rw (normal-src_addr w, normal-dst_addr w) read)
+
+-- so is a TCP segment
+pub reads_segment : (caps : ChecksumCapabilities) (computed : Bool) (w : IpRepr) (v : TcpHeader) (payload : List ℕ) → number_of (next_header_of w) ≡ 6
+    → tcp.IsWritable v → length (octets_of (src_addr_of w)) % 2 ≡ 0 → length (octets_of (dst_addr_of w)) % 2 ≡ 0 → (IsTrue (verifies caps.tcp) → IsTrue computed)
+    → ReadsTransport caps (normal w) (tcp_header.bytes_of v payload (src_addr_of w) (dst_addr_of w) computed []) (segment (tcp_header.normal v) payload)
+reads_segment caps computed w v payload number writable src dst sound =
+    let read = tcp.reads-bytes_of v (src_addr_of w) (dst_addr_of w) payload computed (verifies caps.tcp) writable src dst sound in
     (normal-next_header w ∙ ap protocol_of number, rw (normal-src_addr w, normal-dst_addr w) read)
 
 -- the type that names a packet
@@ -72,25 +88,26 @@ type_of-small (Ipv4 w) = omega arith
 type_of-small (Ipv6 w) = omega arith
 
 -- a frame of a header that names the packet, of that packet and of padding is read whole
-pub reads_frame : (header : EthernetRepr) (w : IpRepr) (q padding : List ℕ) (t : Transport)
+pub reads_frame : (caps : ChecksumCapabilities) (computed : Bool) (header : EthernetRepr) (w : IpRepr) (q padding : List ℕ) (t : Transport)
     → length header.dst_addr.0 ≡ 6 → length header.src_addr.0 ≡ 6
-    → ethernet.number_of header.ethertype ≡ ethernet.number_of (type_of w) → IsInRange w → payload_len_of w ≡ length q → ReadsTransport (normal w) q t
-    → IsReadWhole (ethernet.bytes_of header ++ (bytes_of w true ++ q) ++ padding) (ethernet.normal header) (packet (normal w) t)
-reads_frame header w q padding t dst src names h is transport =
+    → ethernet.number_of header.ethertype ≡ ethernet.number_of (type_of w) → IsInRange w → payload_len_of w ≡ length q
+    → (version_of w ≡ version.Ipv4 → IsTrue (verifies caps.ipv4) → IsTrue computed) → ReadsTransport caps (normal w) q t
+    → ReadsFrame caps (ethernet.bytes_of header ++ (bytes_of w computed ++ q) ++ padding) (ethernet.normal header) (packet (normal w) t)
+reads_frame caps computed header w q padding t dst src names h is sound transport =
     let number : ethernet.number_of header.ethertype < 2 ^ 16 = rw names (type_of-small w) in
-    let inner = bytes_of w true ++ (q ++ padding) in
-    let joined : ethernet.bytes_of header ++ (bytes_of w true ++ q) ++ padding ≡ ethernet.bytes_of header ++ inner =
-    append_assoc (ethernet.bytes_of header) (bytes_of w true ++ q) padding
-    ∙ ap (λ (rest : List ℕ). ethernet.bytes_of header ++ rest) (append_assoc (bytes_of w true) q padding)
+    let inner = bytes_of w computed ++ (q ++ padding) in
+    let joined : ethernet.bytes_of header ++ (bytes_of w computed ++ q) ++ padding ≡ ethernet.bytes_of header ++ inner =
+    append_assoc (ethernet.bytes_of header) (bytes_of w computed ++ q) padding
+    ∙ ap (λ (rest : List ℕ). ethernet.bytes_of header ++ rest) (append_assoc (bytes_of w computed) q padding)
     in
     let named : ethernet.known header.ethertype ≡ type_of (normal w) = ap ethernet.protocol_of names ∙ known-type_of w ∙ sym (type_of-normal w) in
-    let carried : ReadsCarried (ethernet.known header.ethertype) inner (packet (normal w) t) = (
+    let carried : ReadsCarried caps (ethernet.known header.ethertype) inner (packet (normal w) t) = (
       named,
-      reads_packet w q padding h is,
-      rw (packet_payload-written w q padding h is) transport,
+      reads_packet caps computed w q padding h is sound,
+      rw (packet_payload-written w q padding computed h is) transport,
     ) in
-    subst (λ (bytes : List ℕ). IsReadWhole bytes (ethernet.normal header) (packet (normal w) t)) (sym joined)
+    subst (λ (bytes : List ℕ). ReadsFrame caps bytes (ethernet.normal header) (packet (normal w) t)) (sym joined)
     (record {
       reads_header = ethernet_header.reads-bytes_of header inner dst src number;
-      reads_carried = subst (λ (bytes : List ℕ). ReadsCarried (ethernet.known header.ethertype) bytes (packet (normal w) t)) (sym (drop-bytes_of header inner dst src)) carried;
+      reads_carried = subst (λ (bytes : List ℕ). ReadsCarried caps (ethernet.known header.ethertype) bytes (packet (normal w) t)) (sym (drop-bytes_of header inner dst src)) carried;
     })

@@ -7,8 +7,9 @@ use Rattle.ip_wire.proofs.Frames.{ipv4_packet_of-whole, ipv6_packet_of-read}
 use Rattle.ip_wire.proofs.Ipv4Layer.{ipv4_packet_of-IsIpv4Packet}
 use Rattle.ip_wire.proofs.Ipv6Layer.{ipv6_packet_of-IsPacket}
 use Rattle.ip_wire.proofs.Layers.{meaning_by-parts, option_map-Some}
+use Rattle.ip_wire.proofs.TcpLayer.{Reads-tcp_segment_of, tcp_segment_of-Reads}
 use Rattle.ip_wire.proofs.UdpLayer.{Reads-udp_packet_of, udp_packet_of-Reads}
-use Rattle.ip_wire.specs.Frame.{Carried, IsReadWhole, Meaning, ReadsBetween, ReadsCarried, ReadsTransport, Transport, arp, datagram, ethernet, ipv4, ipv4_payload, ipv6, meaning_as, meaning_between, meaning_of, message, normal_carried, other, packet, payload_meaning, transport_meaning, udp, with_len, with_len_ipv6}
+use Rattle.ip_wire.specs.Frame.{Carried, IsReadWhole, Meaning, ReadsBetween, ReadsCarried, ReadsTransport, Transport, all_checked, arp, datagram, ethernet, ipv4, ipv4_payload, ipv6, meaning_as, meaning_between, meaning_of, message, normal_carried, normal_transport, other, packet, payload_meaning, segment, tcp, transport_meaning, udp, with_len, with_len_ipv6}
 use Rattle.ip_wire.specs.Layer.{meaning_by}
 use Rattle.wire_ends.specs.declared.IpAddress.{IpAddress}
 use Rattle.wire_ipv6.proofs.Ipv6Computed.{ipv6_of-Reads}
@@ -23,41 +24,45 @@ use Rattle.wire_ethernet.proofs.EthernetComputed.{ethernet_of-Reads}
 use Rattle.wire_ethernet.specs.declared.EthernetRepr.{EthernetRepr}
 use Rattle.wire_ethernet.specs.declared.EthernetProtocol.{EthernetProtocol}
 use Rattle.wire_ethernet.specs.declared.EthernetProtocol.TheVariants as ethertype
+use Rattle.wire_tcp_repr.specs.TcpRepr.{TcpHeader}
 use Rattle.wire_udp.specs.declared.UdpRepr.{UdpRepr}
 
 -- ---- what a packet carries
 
-meaning_between-other : (t : IpProtocol) (src dst : IpAddress) (bytes : List ℕ) → t ≢ protocol.Udp → meaning_between t src dst bytes ≡ Some (other bytes)
-meaning_between-other protocol.Udp src dst bytes n = absurd (n refl)
-meaning_between-other _ src dst bytes n = refl
+meaning_between-other : (t : IpProtocol) (src dst : IpAddress) (bytes : List ℕ) → t ≢ protocol.Udp → t ≢ protocol.Tcp
+    → meaning_between t src dst bytes ≡ Some (other bytes)
+meaning_between-other protocol.Udp src dst bytes n k = absurd (n refl)
+meaning_between-other protocol.Tcp src dst bytes n k = absurd (k refl)
+meaning_between-other _ src dst bytes n k = refl
 
--- it means what it is read as
-meaning_between-read : (t : IpProtocol) (src dst : IpAddress) (bytes : List ℕ) (m : Transport) → ReadsBetween t src dst bytes m → meaning_between t src dst bytes ≡ Some m
+-- it means the normal form of what it is read as
+meaning_between-read : (t : IpProtocol) (src dst : IpAddress) (bytes : List ℕ) (m : Transport) → ReadsBetween all_checked t src dst bytes m
+    → meaning_between t src dst bytes ≡ Some (normal_transport m)
 meaning_between-read t src dst bytes (datagram u p) r =
     let read = Reads-udp_packet_of src dst bytes u p r.1 in
     rw (r.0, read) refl
-meaning_between-read t src dst bytes (other p) r = meaning_between-other t src dst bytes r.0 ∙ ap (λ q. Some (other q)) (sym r.1)
+meaning_between-read t src dst bytes (segment v p) r =
+    let read = Reads-tcp_segment_of src dst bytes v p r.1 in
+    rw (r.0, read) refl
+meaning_between-read t src dst bytes (other p) r = meaning_between-other t src dst bytes r.0 r.1 ∙ ap (λ q. Some (other q)) (sym r.2)
 
 -- and has a meaning only where it is read
-Some-one : (m n : Transport) → Some m ≡ Some n → m ≡ n
-Some-one m n e = cc
-
-bytes-one : (p q : List ℕ) → Some p ≡ Some q → p ≡ q
-bytes-one p q e = cc
-
-meaning_between-only : (t : IpProtocol) (src dst : IpAddress) (bytes : List ℕ) (m : Transport) → meaning_between t src dst bytes ≡ Some m → ReadsBetween t src dst bytes m
+meaning_between-only : (t : IpProtocol) (src dst : IpAddress) (bytes : List ℕ) (m : Transport) → meaning_between t src dst bytes ≡ Some m
+    → (w : Transport) × ReadsBetween all_checked t src dst bytes w
 meaning_between-only protocol.Udp src dst bytes m e =
     let (n, is, named) = option_map-Some (λ (d : UdpRepr × List ℕ). datagram d.0 d.1) (meaning_by (udp src dst) (λ v payload. Some payload) bytes) m e in
     let (v, p, q, read, same, pair) = meaning_by-parts (udp src dst) (λ v payload. Some payload) bytes n is in
-    let path : datagram v p ≡ m = ap (λ (d : UdpRepr × List ℕ). datagram d.0 d.1) (ap (λ r. (v, r)) (bytes-one p q same) ∙ pair) ∙ named in
-    subst (ReadsBetween protocol.Udp src dst bytes) path (refl, udp_packet_of-Reads src dst bytes v p read)
-meaning_between-only t src dst bytes m e =
-    subst (ReadsBetween t src dst bytes) (Some-one (other bytes) m e) ((λ is. absurd (cc)), refl)
+    (datagram v p, (refl, udp_packet_of-Reads src dst bytes v p read))
+meaning_between-only protocol.Tcp src dst bytes m e =
+    let (n, is, named) = option_map-Some (λ (d : TcpHeader × List ℕ). segment d.0 d.1) (meaning_by (tcp src dst) (λ v payload. Some payload) bytes) m e in
+    let (v, p, q, read, same, pair) = meaning_by-parts (tcp src dst) (λ v payload. Some payload) bytes n is in
+    (segment v p, (refl, tcp_segment_of-Reads src dst bytes v p read))
+meaning_between-only t src dst bytes m e = (other bytes, ((λ is. absurd (cc)), (λ is. absurd (cc)), refl))
 
 -- ---- whole frames
 
 -- a payload means what it is read as
-payload_meaning-read : (t : EthernetProtocol) (bytes : List ℕ) (m : Carried) → ReadsCarried t bytes m → payload_meaning t bytes ≡ Some (normal_carried m)
+payload_meaning-read : (t : EthernetProtocol) (bytes : List ℕ) (m : Carried) → ReadsCarried all_checked t bytes m → payload_meaning t bytes ≡ Some (normal_carried m)
 payload_meaning-read t bytes (message v) (type, read) =
     let is = (arp_of-Reads bytes v).1 read in rw (type, is) refl
 payload_meaning-read t bytes (packet (Ipv4 w) u) (type, (read, whole), inner) =
@@ -77,26 +82,26 @@ meaning_of-read frame v m r =
 
 -- a payload with a meaning is read, whatever the values and the bytes are called
 carried-only : {V : Type 0} (name : V → IpRepr) (v w : V) (p q : List ℕ) (t : Transport) → v ≡ w → p ≡ q → transport_meaning (name w) q ≡ Some t
-    → ReadsTransport (name v) p t
+    → (u : Transport) × ReadsTransport all_checked (name v) p u
 carried-only name v w p q t same rest e =
     meaning_between-only _ _ _ _ t
     (subst (λ x. transport_meaning (name x) p ≡ Some t) (sym same) (subst (λ x. transport_meaning (name w) x ≡ Some t) (sym rest) e))
 
 -- a payload with a meaning is read, by its type
 payload_meaning-only : (t : EthernetProtocol) (bytes : List ℕ) (m : Carried) → payload_meaning t bytes ≡ Some m
-    → (w : Carried) × ReadsCarried t bytes w
+    → (w : Carried) × ReadsCarried all_checked t bytes w
 payload_meaning-only ethertype.Ipv4 bytes m e =
     let (n, is, _) = option_map-Some (λ d. packet (Ipv4 d.0) d.1) (meaning_by ipv4 (λ v. transport_meaning (Ipv4 v)) bytes) m e in
     let (v, p, u, read, carried, _) = meaning_by-parts ipv4 (λ v. transport_meaning (Ipv4 v)) bytes n is in
     let (w, d) = ipv4_packet_of-IsIpv4Packet bytes v p read in
-    let inner = carried-only Ipv4 (with_len w 0) v (ipv4_payload bytes) p u d.header d.payload carried in
-    (packet (Ipv4 w) u, (refl, (d.reads, d.whole), inner))
+    let (k, inner) = carried-only Ipv4 (with_len w 0) v (ipv4_payload bytes) p u d.header d.payload carried in
+    (packet (Ipv4 w) k, (refl, (d.reads, d.whole), inner))
 payload_meaning-only ethertype.Ipv6 bytes m e =
     let (n, is, _) = option_map-Some (λ d. packet (Ipv6 d.0) d.1) (meaning_by ipv6 (λ v. transport_meaning (Ipv6 v)) bytes) m e in
     let (v, p, u, read, carried, _) = meaning_by-parts ipv6 (λ v. transport_meaning (Ipv6 v)) bytes n is in
     let (w, d) = ipv6_packet_of-IsPacket bytes v p read in
-    let inner = carried-only Ipv6 (with_len_ipv6 w 0) v (payload_of bytes) p u d.header d.payload carried in
-    (packet (Ipv6 w) u, (refl, d.reads, inner))
+    let (k, inner) = carried-only Ipv6 (with_len_ipv6 w 0) v (payload_of bytes) p u d.header d.payload carried in
+    (packet (Ipv6 w) k, (refl, d.reads, inner))
 payload_meaning-only ethertype.Arp bytes m e =
     let (n, is, _) = option_map-Some (λ d. message d.0) (meaning_by {M = ⊤} arp (λ v rest. Some (record {})) bytes) m e in
     let (v, p, u, read, _, _) = meaning_by-parts {M = ⊤} arp (λ v rest. Some (record {})) bytes n is in
@@ -109,4 +114,4 @@ meaning_of-only frame m e =
     let (v, p, carried, read, is, _) = meaning_by-parts ethernet (λ v. payload_meaning v.ethertype) frame m e in
     let (header, rest) = read-Reads frame v p read in
     let (w, inner) = payload_meaning-only v.ethertype p carried is in
-    (v, w, record { reads_header = header; reads_carried = subst (λ bytes. ReadsCarried v.ethertype bytes w) (sym rest) inner })
+    (v, w, record { reads_header = header; reads_carried = subst (λ bytes. ReadsCarried all_checked v.ethertype bytes w) (sym rest) inner })

@@ -1,15 +1,16 @@
 -- UDP is a layer.
-use Rattle.std.proofs.Common.{ℕ, ◌≡◌, ◌≤◌, ◌+◌, ◌-◌, ◌%◌, true, List, [], Option, Some, None, length, refl, ap, subst, ◌∙◌, append-nil, length-append, arith}
-use Rattle.ip_wire.proofs.Layers.{IsLayer, length-part, option_map-Some, rebuilt_by-None, rebuilt_by-Some}
+use Rattle.std.proofs.Common.{ℕ, ◌≡◌, ◌≤◌, ◌+◌, ◌-◌, ◌%◌, true, List, [], ◌++◌, Option, Some, None, length, refl, ap, subst, ◌∙◌, append-nil, length-append, arith}
+use Rattle.ip_wire.proofs.Layers.{HasForms-normal, IsLayer, ReadsNormal, length-part, option_map-Some, rebuilt_by-None, rebuilt_by-Some}
 use Rattle.ip_wire.specs.Frame.{rebuilt_between, udp, udp_packet_of}
 use Rattle.wire_ends.specs.declared.IpAddress.{IpAddress}
 use Rattle.wire_ends.specs.IpAddress.{octets_of}
-use Rattle.wire_ends.specs.declared.IpProtocol.{IpProtocol}
 use Rattle.wire_ends.specs.declared.IpProtocol.TheVariants as protocol
-use Rattle.wire_udp.proofs.UdpComputed as computed
+use Rattle.std.specs.Int.{bytes_high_first}
+use Rattle.wire_field.proofs.ByteLists.{AreBytes-append, AreBytes-bytes_high_first, AreBytes-part}
+use Rattle.wire_field.proofs.Spelled.{AreBytes}
 use Rattle.wire_udp.proofs.UdpComputed.{udp_of-Reads}
 use Rattle.wire_udp.proofs.UdpReadsBack.{IsInRange, reads-bytes_of}
-use Rattle.wire_udp.specs.Udp.{HasLengths, Reads, bytes_of, has_lengths, packet_len, payload_of, udp_of}
+use Rattle.wire_udp.specs.Udp.{Reads, bytes_of, header_bytes, packet_len, packet_with, payload_of, udp_of}
 use Rattle.wire_udp.specs.declared.UdpRepr.{UdpRepr}
 
 -- the octets of both addresses are whole words
@@ -61,10 +62,25 @@ written-read src dst bytes v p q words r fits =
     let back = reads-bytes_of v src dst q [] true true (in_range src dst bytes v p q words r fits) (λ on. on) in
     Reads-udp_packet_of src dst (bytes_of v q src dst true) v q (subst (λ written. Reads written src dst true v q) (append-nil (bytes_of v q src dst true)) back)
 
+pub ReadsNormal-udp : (src dst : IpAddress) → ReadsNormal (udp src dst)
+ReadsNormal-udp src dst bytes v p e = refl
+
+-- the packet with any checksum
+AreBytes-packet : (v : UdpRepr) (q : List ℕ) (sum : ℕ) → AreBytes q → AreBytes (packet_with v q sum)
+AreBytes-packet v q sum k =
+    let with_number = λ (front : List ℕ) (n : ℕ) (is : AreBytes front). AreBytes-append front (bytes_high_first 2 n) is (AreBytes-bytes_high_first 2 n) in
+    let src_port = bytes_high_first 2 v.src_port in
+    let ports = src_port ++ bytes_high_first 2 v.dst_port in
+    let header = with_number (ports ++ bytes_high_first 2 (8 + length q)) sum (with_number ports (8 + length q)
+    (with_number src_port v.dst_port (AreBytes-bytes_high_first 2 v.src_port)))
+    in
+    AreBytes-append (header_bytes v (length q) sum) q header k
+
 pub IsLayer-udp : (src dst : IpAddress) → AreWords src dst → IsLayer (udp src dst)
 IsLayer-udp src dst words = record {
-  normal_read = λ bytes v p e. refl;
-  reads_back = λ bytes v p q e fits. written-read src dst bytes v p q words (udp_packet_of-Reads src dst bytes v p e) fits;
+  payload_bytes = λ bytes v p h e. AreBytes-part bytes p 8 (packet_len bytes) h (udp_packet_of-Reads src dst bytes v p e).body;
+  written_bytes = λ bytes v p q h e k. AreBytes-packet v q _ k;
+  reads_back = λ bytes v p q h e fits. written-read src dst bytes v p q words (udp_packet_of-Reads src dst bytes v p e) fits;
   no_longer = λ bytes v p q e fits.
       let r = udp_packet_of-Reads src dst bytes v p e in
       let whole = r.lengths.whole in
@@ -72,6 +88,7 @@ IsLayer-udp src dst words = record {
       let len = length-payload src dst bytes v p r in
       let written = length-written src dst v q in
       omega (arith, written, len, whole, header);
+  forms = HasForms-normal (udp src dst) (ReadsNormal-udp src dst);
 }
 
 -- ---- what a packet carries, rebuilt
@@ -98,13 +115,5 @@ length-rebuilt_by src dst bytes (Some (v, p)) e =
     let written = length-written src dst v p in
     rw (rebuilt_by-Some (udp src dst) (λ w payload. payload) bytes v p e) (omega (arith, written, len, whole, header))
 
-pub length-rebuilt_between : (t : IpProtocol) (src dst : IpAddress) (bytes : List ℕ) → length (rebuilt_between t src dst bytes) ≤ length bytes
-length-rebuilt_between protocol.Udp src dst bytes = length-rebuilt_by src dst bytes (udp_packet_of src dst bytes) refl
-length-rebuilt_between _ src dst bytes = omega arith
-
--- the test of the lengths says what it is named for
-pub has_lengths-HasLengths : (bytes : List ℕ) → has_lengths bytes ≡ true → HasLengths bytes
-has_lengths-HasLengths = computed.has_lengths-HasLengths
-
-pub HasLengths-has_lengths : (bytes : List ℕ) → HasLengths bytes → has_lengths bytes ≡ true
-HasLengths-has_lengths = computed.HasLengths-has_lengths
+pub length-rebuilt-udp : (src dst : IpAddress) (bytes : List ℕ) → length (rebuilt_between protocol.Udp src dst bytes) ≤ length bytes
+length-rebuilt-udp src dst bytes = length-rebuilt_by src dst bytes (udp_packet_of src dst bytes) refl

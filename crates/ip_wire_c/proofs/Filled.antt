@@ -1,6 +1,11 @@
--- A header in front of what it carries, in one slice.
-use Rattle.std.proofs.Common.{◌≡◌, ◌∙◌, ℕ, ◌+◌, ◌≤◌, List, [], ◌++◌, drop, length, take, ap, arith}
+-- What fills the front of a slice.
+use Rattle.std.proofs.Common.{◌≡◌, ◌∙◌, ℕ, ◌+◌, ◌≤◌, List, [], ◌++◌, Option, Some, None, nat_le, if◌then◌else◌, drop, length, take, ap, sym, append-nil, arith}
+use Rattle.std.proofs.lemmas.Bool.Decides.{nat_tests}
 use Rattle.std.proofs.lemmas.Grind.{common_steps}
+use Rattle.std.specs.Option.{unwrap_or}
+use Rattle.ip_wire_c.specs.Calls.{Fills}
+
+-- ---- a header in front of what it carries
 
 -- a header that fills the front of a slice
 front_filled : (header old front : List ℕ) (size : ℕ) → size ≤ length old → front ≡ header ++ drop size (take size old) → front ≡ header
@@ -15,3 +20,26 @@ pub filled-behind : (header inner old front written new : List ℕ) (size len : 
 filled-behind header inner old front written new size len room f is is_written n fits is_new =
     let header_is = front_filled header old front size room (is ∙ is_written) in
     (grind (arith, common_steps), grind (arith, common_steps), grind (arith, common_steps))
+
+-- ---- a part of the slice
+
+-- what is written into as many bytes as it takes stands at the front of the slice, and nothing follows it there
+pub filled-part : (bytes : List ℕ → List ℕ) (old front written rest : List ℕ) (len : ℕ) → len ≤ length old → length (bytes []) ≡ len
+    → front ≡ written → written ≡ bytes (drop len (take len old)) ++ drop len (take len old) → rest ≡ drop len old
+    → (len ≡ length (bytes [])) × (len ≤ length old) × (front ++ rest ≡ bytes [] ++ drop len old)
+filled-part bytes old front written rest len room size is is_written behind =
+    let none : drop len (take len old) ≡ [] = grind (arith, common_steps) in
+    let whole : front ≡ bytes [] = is ∙ is_written ∙ ap (λ part. bytes part ++ part) none ∙ append-nil (bytes []) in
+    (sym size, room, ap (λ part. part ++ rest) whole ∙ ap (λ part. bytes [] ++ part) behind)
+
+-- ---- what is answered and written where there is a place for so many bytes
+
+pub filled-len : (bytes old new : List ℕ) (answer : Option ℕ) (len : ℕ) → length bytes ≡ len → Fills bytes old new answer
+    → unwrap_or answer 0 ≡ (if nat_le len (length old) then len else 0)
+filled-len bytes old new None len size (short, stays) = grind (arith, nat_tests, size, short)
+filled-len bytes old new (Some n) len size (is, fits, holds) = grind (arith, nat_tests, size, is, fits)
+
+pub filled-bytes : (bytes old new : List ℕ) (answer : Option ℕ) (len : ℕ) → length bytes ≡ len → Fills bytes old new answer
+    → new ≡ (if nat_le len (length old) then bytes ++ drop len old else old)
+filled-bytes bytes old new None len size (short, stays) = grind (arith, nat_tests, size, short, stays)
+filled-bytes bytes old new (Some n) len size (is, fits, holds) = grind (arith, nat_tests, size, is, fits, holds)

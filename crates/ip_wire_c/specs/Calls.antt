@@ -1,6 +1,7 @@
 -- What the calls for C answer, and what they write.
-use Rattle.std.specs.Prelude.{ℕ, ◌≡◌, ◌+◌, ◌≤◌, ◌<◌, ◌⊎◌, ◌&&◌, nat_le, if◌then◌else◌, ◌++◌, Bool, List, [], length, drop, Option, None, Some, MatchOption}
+use Rattle.std.specs.Prelude.{ℕ, ◌≡◌, ◌+◌, ◌-◌, ◌≤◌, ◌<◌, ◌⊎◌, ◌&&◌, ◌==◌, not, nat_le, if◌then◌else◌, ◌++◌, Bool, List, [], length, drop, map, replicate, take, Option, None, Some, MatchOption}
 use mir.Syntax.{w32}
+use Rattle.std.specs.Bool.{then_some}
 use Rattle.std.specs.Int.{to_be_bytes}
 use Rattle.std.specs.Option.{option_and_then, option_map, option_map_or}
 use Rattle.ip_wire.specs.Arp.{arp_of, operation_of}
@@ -9,6 +10,9 @@ use Rattle.ip_wire.specs.Frame.{ipv4_payload, rebuilt}
 use Rattle.ip_wire.specs.Ip.{bytes_of, dst_addr_of, header_len_of, max_payload_len, next_header_of, payload_len_of, src_addr_of}
 use Rattle.ip_wire.specs.Ipv4.{ipv4_of, is_fragment}
 use Rattle.ip_wire.specs.Ipv6.{ipv6_of, payload_of}
+use Rattle.ip_wire.specs.Tcp as tcp_bytes
+use Rattle.ip_wire.specs.TcpRepr as tcp
+use Rattle.ip_wire.specs.TcpRepr.{TcpHeader}
 use Rattle.ip_wire.specs.Udp as udp
 use Rattle.ip_wire.specs.declared.ArpRepr.{ArpRepr}
 use Rattle.ip_wire.specs.declared.ArpRepr.TheVariants.{EthernetIpv4}
@@ -19,7 +23,11 @@ use Rattle.ip_wire.specs.declared.IpRepr.{IpRepr}
 use Rattle.ip_wire.specs.declared.IpRepr.TheVariants.{Ipv4, Ipv6}
 use Rattle.ip_wire.specs.declared.EthernetProtocol.{EthernetProtocol}
 use Rattle.ip_wire.specs.declared.EthernetProtocol.TheVariants as ethertype
+use Rattle.ip_wire.specs.declared.TcpControl.{TcpControl}
+use Rattle.ip_wire.specs.declared.TcpControl.TheVariants as control
 use Rattle.ip_wire.specs.declared.UdpRepr.{UdpRepr}
+use Rattle.ip_wire_c.specs.declared.tcp_fields.SackRange.{SackRange}
+use Rattle.ip_wire_c.specs.declared.tcp_fields.TcpFields.{TcpFields}
 use Rattle.net_base.specs.Checksum.{all_are, verifies}
 use Rattle.net_base.specs.declared.ChecksumCapabilities.{ChecksumCapabilities}
 use Rattle.net_base.specs.declared.Checksum.TheVariants as when
@@ -86,6 +94,59 @@ abbrev pub sent : UdpRepr → IpAddress → IpAddress → List ℕ → Bool → 
 sent v src dst payload computed old =
     if is_sent (length payload) (length old) then udp.bytes_of v payload src dst computed ++ drop (8 + length payload) old else old
 
+-- what a TCP segment asks for, by its number
+abbrev pub control_of : ℕ → TcpControl
+control_of n =
+    if n == 1 then control.Psh else if n == 2 then control.Syn else if n == 3 then control.Fin else if n == 4 then control.Rst else control.None
+
+-- the first n ranges, and none in the other places
+abbrev pub first_ranges : ℕ → List SackRange → List (Option (ℕ × ℕ))
+first_ranges n ranges = map (λ r. Some (r.left, r.right)) (take n ranges) ++ replicate (length ranges - n) None
+
+-- a value where the number is not 0
+abbrev pub where_set : {T : Type 0} → ℕ → T → Option T
+where_set n x = then_some (not (n == 0)) x
+
+-- whether the fields name a control, and so many ranges as there are places for
+abbrev pub is_header : TcpFields → Bool
+is_header f = nat_le f.control 4 && nat_le f.sack_range_count 3
+
+-- the values of a TCP header that the fields say
+abbrev pub tcp_header : TcpFields → TcpHeader
+tcp_header f = record {
+  src_port = f.src_port;
+  dst_port = f.dst_port;
+  control = control_of f.control;
+  seq_number = tcp.seq_of f.seq_number;
+  ack_number = where_set f.has_ack_number (tcp.seq_of f.ack_number);
+  window_len = f.window_len;
+  window_scale = where_set f.has_window_scale f.window_scale;
+  max_seg_size = where_set f.has_max_seg_size f.max_seg_size;
+  sack_permitted = not (f.sack_permitted == 0);
+  sack_ranges = first_ranges f.sack_range_count f.sack_ranges;
+  timestamp = where_set f.has_timestamp (tcp.stamp_of (f.tsval, f.tsecr));
+}
+
+-- the length of a segment with these fields and so long a payload, in octets
+abbrev pub segment_len : TcpFields → ℕ → ℕ
+segment_len f payload_len = tcp.header_len_of (tcp_header f) + payload_len
+
+-- whether the fields say a header of at most 60 octets, and the segment fits into so many bytes
+abbrev pub is_segment_sent : TcpFields → ℕ → ℕ → Bool
+is_segment_sent f payload_len room =
+    is_header f && nat_le (tcp.header_len_of (tcp_header f)) 60 && nat_le (segment_len f payload_len) room
+
+-- the length of a segment that is written into so many bytes, and 0 where none is
+abbrev pub sent_segment_len : TcpFields → ℕ → ℕ → ℕ
+sent_segment_len f payload_len room = if is_segment_sent f payload_len room then segment_len f payload_len else 0
+
+-- the bytes with a segment between two addresses at their front, where it is written
+abbrev pub sent_segment : TcpFields → IpAddress → IpAddress → List ℕ → Bool → List ℕ → List ℕ
+sent_segment f src dst payload computed old =
+    if is_segment_sent f (length payload) (length old) then
+    tcp.bytes_of (tcp_header f) payload src dst computed [] ++ drop (segment_len f (length payload)) old
+    else old
+
 -- the text stands at the front of the slice and its length is answered, or the slice stays and 0 is answered
 abbrev pub IsPrinted : List ℕ → List ℕ → List ℕ → ℕ → Type 0
 IsPrinted text old new answer =
@@ -102,6 +163,7 @@ all_or_none on = all_are (if on then when.Both else when.None)
 -- the payload of a packet of this protocol between two addresses, if its header is read; of another protocol all that is carried
 abbrev pub payload_between : ChecksumCapabilities → IpProtocol → IpAddress → IpAddress → List ℕ → Option (List ℕ)
 payload_between caps protocol.Udp src dst bytes = option_map (λ v. udp.payload_of bytes) (udp.udp_of src dst (verifies caps.udp) bytes)
+payload_between caps protocol.Tcp src dst bytes = option_map (λ v. tcp_bytes.payload_of bytes) (tcp.tcp_of src dst (verifies caps.tcp) bytes)
 payload_between caps _ src dst bytes = Some bytes
 
 -- the payload of what a packet with this header carries

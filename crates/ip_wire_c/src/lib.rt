@@ -9,12 +9,14 @@ ghost use Rattle.ip_wire.specs.Frame.{rebuilt};
 ghost use Rattle.ip_wire.specs.Printed.{ipv6_text};
 ghost use Rattle.ip_wire.specs.WordSum.{sum_of_bytes};
 ghost use Rattle.ip_wire.specs.declared.IpAddress.TheVariants.{Ipv4, Ipv6};
-ghost use Rattle.ip_wire_c.specs.Calls.{all_or_none, arp_value, emitted, emitted_len, innermost_payload, ipv4_header, ipv6_header, is_rebuilt, IsPrinted, length_or_none, sent, sent_len, udp_header};
+ghost use Rattle.ip_wire_c.specs.Calls.{all_or_none, arp_value, emitted, emitted_len, innermost_payload, ipv4_header, ipv6_header, is_rebuilt, IsPrinted, length_or_none, sent, sent_len, sent_segment, sent_segment_len, udp_header};
 
 mod arp;
 mod ip;
 mod payload;
 mod rebuild;
+mod tcp;
+mod tcp_fields;
 mod text;
 mod udp;
 
@@ -23,6 +25,7 @@ use ip_wire::{
     Ipv6Repr, UdpRepr, checksum,
 };
 use net_base::ChecksumCapabilities;
+use tcp_fields::TcpFields;
 
 /// The internet checksum of bytes, not complemented (`ip_wire::checksum::data`).
 #[unsafe(no_mangle)]
@@ -136,16 +139,9 @@ pub extern "C" fn lk_emit_udp_ipv4(
     ensures bytes { let src = Ipv4 (to_be_bytes w32 src_addr) in let dst = Ipv4 (to_be_bytes w32 dst_addr) in
         out.new ≡ sent (udp_header src_port dst_port) src dst payload.now (not (computed == 0)) out.old }
 {
-    let src_addr = IpAddress::Ipv4(Ipv4Address::from_octets(src_addr.to_be_bytes()));
-    let dst_addr = IpAddress::Ipv4(Ipv4Address::from_octets(dst_addr.to_be_bytes()));
-    udp::send(
-        UdpRepr { src_port, dst_port },
-        src_addr,
-        dst_addr,
-        payload,
-        &capabilities(computed),
-        out,
-    )
+    let header = UdpRepr { src_port, dst_port };
+    let caps = capabilities(computed);
+    udp::send(header, ipv4(src_addr), ipv4(dst_addr), payload, &caps, out)
 }
 
 /// Writes a UDP packet with this payload, to be carried by IPv6 between two addresses, to the front of
@@ -163,16 +159,48 @@ pub extern "C" fn lk_emit_udp_ipv6(
     ensures length { result ≡ sent_len (length payload.now) (length out.old) }
     ensures bytes { out.new ≡ sent (udp_header src_port dst_port) (Ipv6 src_addr.now) (Ipv6 dst_addr.now) payload.now (not (computed == 0)) out.old }
 {
-    let src_addr = IpAddress::Ipv6(Ipv6Address::from_octets(*src_addr));
-    let dst_addr = IpAddress::Ipv6(Ipv6Address::from_octets(*dst_addr));
-    udp::send(
-        UdpRepr { src_port, dst_port },
-        src_addr,
-        dst_addr,
-        payload,
-        &capabilities(computed),
-        out,
-    )
+    let header = UdpRepr { src_port, dst_port };
+    let caps = capabilities(computed);
+    udp::send(header, ipv6(src_addr), ipv6(dst_addr), payload, &caps, out)
+}
+
+/// Writes a TCP segment with this header and payload, to be carried by IPv4 between two addresses, to the
+/// front of `out`, and answers its length: 0 where there is no room for it, the header is longer than 60
+/// octets, or its control or number of ranges is none, and then nothing is written. The checksum is
+/// computed unless `computed` is 0.
+#[unsafe(no_mangle)]
+pub extern "C" fn lk_emit_tcp_ipv4(
+    src_addr: u32,
+    dst_addr: u32,
+    header: &TcpFields,
+    payload: &[u8],
+    computed: u8,
+    out: &mut [u8],
+) -> usize
+    ensures length { result ≡ sent_segment_len header.now (length payload.now) (length out.old) }
+    ensures bytes { let src = Ipv4 (to_be_bytes w32 src_addr) in let dst = Ipv4 (to_be_bytes w32 dst_addr) in
+        out.new ≡ sent_segment header.now src dst payload.now (not (computed == 0)) out.old }
+{
+    let caps = capabilities(computed);
+    tcp::send(header, ipv4(src_addr), ipv4(dst_addr), payload, &caps, out)
+}
+
+/// Writes a TCP segment with this header and payload, to be carried by IPv6 between two addresses, to the
+/// front of `out`, and answers its length, as `lk_emit_tcp_ipv4` does.
+#[unsafe(no_mangle)]
+pub extern "C" fn lk_emit_tcp_ipv6(
+    src_addr: &[u8; 16],
+    dst_addr: &[u8; 16],
+    header: &TcpFields,
+    payload: &[u8],
+    computed: u8,
+    out: &mut [u8],
+) -> usize
+    ensures length { result ≡ sent_segment_len header.now (length payload.now) (length out.old) }
+    ensures bytes { out.new ≡ sent_segment header.now (Ipv6 src_addr.now) (Ipv6 dst_addr.now) payload.now (not (computed == 0)) out.old }
+{
+    let caps = capabilities(computed);
+    tcp::send(header, ipv6(src_addr), ipv6(dst_addr), payload, &caps, out)
 }
 
 /// Writes the text of the IPv6 address with these octets to the front of `out`, and answers its length,
@@ -196,6 +224,20 @@ pub extern "C" fn lk_rebuild(frame: &[u8], out: &mut [u8]) -> usize
         then rebuilt frame.now ++ drop (length (rebuilt frame.now)) out.old else out.old) }
 {
     rebuild::rebuild(frame, out).unwrap_or(0)
+}
+
+// The IPv4 address of this number.
+fn ipv4(number: u32) -> IpAddress
+    ensures { result ≡ Ipv4 (to_be_bytes w32 number) }
+{
+    IpAddress::Ipv4(Ipv4Address::from_octets(number.to_be_bytes()))
+}
+
+// The IPv6 address of these octets.
+fn ipv6(octets: &[u8; 16]) -> IpAddress
+    ensures { result ≡ Ipv6 octets.now }
+{
+    IpAddress::Ipv6(Ipv6Address::from_octets(*octets))
 }
 
 // All checksums, or none of them.

@@ -6,7 +6,7 @@ ghost use Rattle.ip_wire.specs.declared.EthernetProtocol.TheVariants.{Ipv4, Ipv6
 
 use ip_wire::{
     ArpPacket, ArpRepr, EthernetFrame, EthernetProtocol, EthernetRepr, IpProtocol, IpRepr,
-    Ipv4Packet, Ipv4Repr, Ipv6Packet, Ipv6Repr, UdpPacket, UdpRepr,
+    Ipv4Packet, Ipv4Repr, Ipv6Packet, Ipv6Repr, TcpPacket, TcpRepr, UdpPacket, UdpRepr,
 };
 use net_base::ChecksumCapabilities;
 
@@ -88,6 +88,13 @@ fn transport_payload<'a>(
             let packet = UdpPacket::new_unchecked(bytes);
             match UdpRepr::parse(&packet, &header.src_addr(), &header.dst_addr(), caps) {
                 Ok(_) => Some(packet.payload()),
+                Err(_) => None,
+            }
+        }
+        IpProtocol::Tcp => {
+            let packet = TcpPacket::new_unchecked(bytes);
+            match TcpRepr::parse(&packet, &header.src_addr(), &header.dst_addr(), caps) {
+                Ok(segment) => Some(segment.payload),
                 Err(_) => None,
             }
         }

@@ -4,14 +4,14 @@ ghost use Rattle.std.specs.Prelude.{◌≡◌, ◌≤◌, ◌<◌, None, length}
 ghost use Rattle.ip_wire.specs.Frame.{ethernet, rebuilt, rebuilt_between, rebuilt_packet, rebuilt_payload, rebuilt_transport};
 ghost use Rattle.ip_wire.specs.Ip.{dst_addr_of, max_payload_len, src_addr_of};
 ghost use Rattle.ip_wire.specs.declared.EthernetProtocol.TheVariants.{Arp, Ipv4, Ipv6};
-ghost use Rattle.ip_wire.specs.declared.IpProtocol.TheVariants.{Udp};
+ghost use Rattle.ip_wire.specs.declared.IpProtocol.TheVariants.{Tcp, Udp};
 ghost use Rattle.ip_wire_c.specs.Calls.{Fills};
 
-use crate::{arp, udp};
+use crate::{arp, tcp, udp};
 use ip_wire::{
     ArpPacket, ArpRepr, ETHERNET_HEADER_LEN, EthernetFrame, EthernetFrameMut, EthernetProtocol,
-    EthernetRepr, IpProtocol, IpRepr, Ipv4Packet, Ipv4Repr, Ipv6Packet, Ipv6Repr, UdpPacket,
-    UdpRepr,
+    EthernetRepr, IpProtocol, IpRepr, Ipv4Packet, Ipv4Repr, Ipv6Packet, Ipv6Repr, TcpPacket,
+    TcpRepr, UdpPacket, UdpRepr,
 };
 use net_base::ChecksumCapabilities;
 
@@ -120,6 +120,7 @@ fn rebuild_transport(header: &IpRepr, bytes: &[u8], out: &mut [u8]) -> Option<us
 {
     match header.next_header() {
         IpProtocol::Udp => rebuild_udp(header, bytes, out),
+        IpProtocol::Tcp => rebuild_tcp(header, bytes, out),
         _ => copy(bytes, out),
     }
 }
@@ -136,6 +137,22 @@ fn rebuild_udp(ip_header: &IpRepr, bytes: &[u8], out: &mut [u8]) -> Option<usize
     let packet = UdpPacket::new_unchecked(bytes);
     match UdpRepr::parse(&packet, &src_addr, &dst_addr, &caps) {
         Ok(header) => udp::emit(header, src_addr, dst_addr, packet.payload(), &caps, out),
+        Err(_) => copy(bytes, out),
+    }
+}
+
+// A TCP segment, built again where it is read with its checksum.
+#[inline(always)]
+fn rebuild_tcp(ip_header: &IpRepr, bytes: &[u8], out: &mut [u8]) -> Option<usize>
+    ensures { let src = src_addr_of ip_header.now in let dst = dst_addr_of ip_header.now in
+        Fills (rebuilt_between Tcp src dst bytes.now) out.old out.new result }
+{
+    let src_addr = ip_header.src_addr();
+    let dst_addr = ip_header.dst_addr();
+    let caps = ChecksumCapabilities::default();
+    let packet = TcpPacket::new_unchecked(bytes);
+    match TcpRepr::parse(&packet, &src_addr, &dst_addr, &caps) {
+        Ok(segment) => tcp::emit(&segment, src_addr, dst_addr, &caps, out),
         Err(_) => copy(bytes, out),
     }
 }

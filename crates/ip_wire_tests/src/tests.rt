@@ -19,6 +19,7 @@ mod ipv6fragment;
 mod nested;
 mod raw_hardware_address;
 mod tcp;
+mod tcp_repr;
 mod udp;
 
 use ip_wire::{EthernetAddress, IpProtocol, Ipv4Address, Ipv4Repr, Ipv6Address, Ipv6Repr};

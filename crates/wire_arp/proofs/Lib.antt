@@ -1,5 +1,6 @@
 pub mod ArpComputed
 pub mod ArpEmitted
+pub mod ArpNormal
 pub mod ArpTexts
 mod ArpViewed
 mod ArpWorked

@@ -1,2 +1,3 @@
 mod ProtocolWorked
+pub mod Protocols
 pub mod Versions

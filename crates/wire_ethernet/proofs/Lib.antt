@@ -1,4 +1,5 @@
 pub mod EthernetComputed
 pub mod EthernetEmitted
+pub mod EthernetNormal
 mod EthernetViewed
 mod EthernetWorked

@@ -21,3 +21,9 @@ pub fn reads_once_ethernet(bytes: &[u8], value: EthernetRepr, other: EthernetRep
 pub fn reading_is_computed_ethernet(bytes: &[u8], value: EthernetRepr)
     ensures { (ethernet_of bytes.now ≡ Some value) ↔ Reads bytes.now value }
 {}
+
+/// A normal form is its own, and a value that was read is in its normal form.
+pub fn normal_twice_ethernet(bytes: &[u8], value: EthernetRepr)
+    ensures twice { normal (normal value) ≡ normal value }
+    ensures read { Reads bytes.now value → normal value ≡ value }
+{}

@@ -1,3 +1,4 @@
 pub mod IpComputed
+pub mod IpNormal
 pub mod IpReadsBack
 mod IpWorked

@@ -25,3 +25,9 @@ pub fn reads_once_ip(bytes: &[u8], verified: bool, value: IpRepr, other: IpRepr)
 pub fn reading_is_computed_ip(bytes: &[u8], verified: bool, value: IpRepr)
     ensures { (ip_of verified bytes.now ≡ Some value) ↔ Reads bytes.now verified value }
 {}
+
+/// A normal form is its own, and a value that was read is in its normal form.
+pub fn normal_twice_ip(bytes: &[u8], verified: bool, value: IpRepr)
+    ensures twice { normal (normal value) ≡ normal value }
+    ensures read { Reads bytes.now verified value → normal value ≡ value }
+{}

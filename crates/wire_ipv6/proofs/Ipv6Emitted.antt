@@ -1,5 +1,5 @@
 -- What the setters leave of a header.
-use Rattle.std.proofs.Common.{ℕ, ◌≡◌, ◌≤◌, ◌<◌, ◌+◌, ◌*◌, ◌/◌, ◌%◌, List, ◌++◌, length, drop, refl, arith}
+use Rattle.std.proofs.Common.{ℕ, ◌≡◌, ◌≤◌, ◌<◌, ◌/◌, ◌%◌, List, ◌++◌, length, drop, refl, arith}
 use Rattle.wire_field.specs.Field.{with_field, with_part, with_range}
 use Rattle.wire_field.proofs.Cells.{cells-all, cells-drop, word_high, word_low}
 use Rattle.wire_ends.specs.Protocol.{number_of}

@@ -27,6 +27,12 @@ pub fn reading_is_computed_ipv6(bytes: &[u8], value: Ipv6Repr)
     ensures { (ipv6.ipv6_of bytes.now ≡ Some value) ↔ ipv6.Reads bytes.now value }
 {}
 
+/// A normal form is its own, and a value that was read is in its normal form.
+pub fn normal_twice_ipv6(bytes: &[u8], value: Ipv6Repr)
+    ensures twice { ipv6.normal (ipv6.normal value) ≡ ipv6.normal value }
+    ensures read { ipv6.Reads bytes.now value → ipv6.normal value ≡ value }
+{}
+
 /// The header of a value, whatever follows it, is read as the value's normal form.
 pub fn emit_reads_back_ipv6_fragment(value: Ipv6FragmentRepr, rest: &[u8])
     ensures { fragment.Reads (fragment.bytes_of value ++ rest.now) (fragment.normal value) }
@@ -42,4 +48,10 @@ pub fn reads_once_ipv6_fragment(bytes: &[u8], value: Ipv6FragmentRepr, other: Ip
 /// The value that is computed of bytes is the one that they are read as.
 pub fn reading_is_computed_ipv6_fragment(bytes: &[u8], value: Ipv6FragmentRepr)
     ensures { (fragment.ipv6_fragment_of bytes.now ≡ Some value) ↔ fragment.Reads bytes.now value }
+{}
+
+/// A normal form is its own, and a value that was read is in its normal form.
+pub fn normal_twice_ipv6_fragment(bytes: &[u8], value: Ipv6FragmentRepr)
+    ensures twice { fragment.normal (fragment.normal value) ≡ fragment.normal value }
+    ensures read { fragment.Reads bytes.now value → fragment.normal value ≡ value }
 {}

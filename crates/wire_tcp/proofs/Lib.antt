@@ -1,9 +1,12 @@
-mod Items
-mod OptionLists
+pub mod FirstItems
+pub mod Items
+pub mod OptionLists
+mod Pairs
 mod Prefixes
-mod Ranges
-mod Summaries
-mod Sums
+pub mod Ranges
+pub mod Summaries
+pub mod Sums
+pub mod TcpTexts
 mod TcpViewed
 mod TcpWorked
 mod Walks

@@ -2,6 +2,8 @@ pub mod Tcp
 pub mod TcpItems
 pub mod TcpLoan
 pub mod TcpOption
+pub mod TcpParts
 pub mod TcpSeq
 pub mod TcpSummary
+pub mod TcpText
 pub mod TcpWalk

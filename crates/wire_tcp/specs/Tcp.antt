@@ -1,5 +1,5 @@
 -- TCP segments (RFC 9293, section 3.1).
-use Rattle.std.specs.Prelude.{ℕ, Bool, if◌then◌else◌, ◌≡◌, ◌≤◌, ◌+◌, ◌-◌, ◌*◌, List, drop, length, slice_range}
+use Rattle.std.specs.Prelude.{ℕ, Bool, if◌then◌else◌, nat_le, ◌&&◌, ◌≡◌, ◌≤◌, ◌+◌, ◌-◌, ◌*◌, List, drop, length, slice_range}
 use Rattle.std.specs.Borrow.{Bor, MutBor}
 use Rattle.wire_ends.specs.declared.ip_address.IpAddress.{IpAddress}
 use Rattle.wire_field.specs.Field.{field, with_field}
@@ -58,6 +58,10 @@ pub record HasLengths (bytes : List ℕ) : Type 0 where
   pub least : 20 ≤ length bytes
   pub header : 20 ≤ header_len bytes
   pub whole : header_len bytes ≤ length bytes
+
+-- whether they do
+abbrev pub has_lengths : List ℕ → Bool
+has_lengths bytes = nat_le 20 (length bytes) && nat_le 20 (header_len bytes) && nat_le (header_len bytes) (length bytes)
 
 -- ---- the checksum
 

@@ -1,5 +1,5 @@
 -- The options of a TCP header as a list of items (RFC 9293, section 3.1; RFC 2018; RFC 7323).
-use Rattle.std.specs.Prelude.{ℕ, ◌≡◌, ◌==◌, ◌&&◌, ◌<◌, ◌≤◌, ◌+◌, ◌*◌, nat_lt, if◌then◌else◌, Bool, is_some, List, [], ◌∷◌, ◌++◌, length, map, drop, Option, Some, None}
+use Rattle.std.specs.Prelude.{ℕ, ◌≡◌, ◌==◌, ◌&&◌, ◌||◌, ◌<◌, ◌≤◌, ◌+◌, ◌-◌, ◌*◌, ◌%◌, nat_le, nat_lt, not, if◌then◌else◌, Bool, is_some, List, [], ◌∷◌, ◌++◌, length, map, drop, slice_index, take, Option, Some, None}
 use Rattle.std.specs.List.{AllByRecursion, flat_map, range_with_len}
 use Rattle.std.specs.Option.{option_map, option_map_or, option_or}
 use Rattle.byteorder.specs.Endian.{big_number}
@@ -41,6 +41,26 @@ pub record IsOptionList (bytes : List ℕ) (items : List Item) (tail : List ℕ)
   pub each : AllByRecursion IsItem items
   pub joined : bytes ≡ texts items ++ tail
   pub ended : IsTail tail
+
+-- ---- the first item, computed
+
+-- whether an item of this kind can have so many bytes of data
+abbrev pub is_sized : ℕ → ℕ → Bool
+is_sized kind size =
+    nat_lt kind 256 && nat_le size 253
+    && (not (kind == 2) || (size == 2)) && (not (kind == 3) || (size == 1)) && (not (kind == 4) || (size == 0))
+    && (not (kind == 5) || (nat_lt 0 size && (size % 8 == 0)))
+
+-- the item that the bytes begin with and what follows it, if they begin with one
+unfoldable pub first_item : List ℕ → Option (Item × List ℕ)
+first_item [] = None
+first_item (kind ∷ rest) =
+    let size = slice_index rest 0 - 2 in
+    let behind = drop 1 rest in
+    if kind == 0 then None
+    else if kind == 1 then Some (item 1 [], rest)
+    else if nat_le 2 (slice_index rest 0) && nat_le size (length behind) && is_sized kind size then Some (item kind (take size behind), drop size behind)
+    else None
 
 -- ---- what items say
 

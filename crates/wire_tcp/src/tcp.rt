@@ -4,8 +4,10 @@ mod control;
 mod option;
 mod packet;
 mod packet_mut;
+pub mod parts;
 mod seq_number;
 mod summary;
+mod text;
 mod timestamp;
 mod walk;
 

@@ -96,7 +96,7 @@ fn packets_of_arp(rt: HostRuntime) {
 
 #[test]
 fn packets_that_are_read(rt: HostRuntime) {
-    let cases: [(&[u8], &[u8]); 4] = [
+    let cases: [(&[u8], &[u8]); 3] = [
         // Padding is dropped.
         (
             b"010203040506111213141516080045000018000040004001d2791112131421222324aa0000ff000000",
@@ -118,12 +118,6 @@ fn packets_that_are_read(rt: HostRuntime) {
                 IPv4 src=10.0.0.1 dst=10.0.0.2 proto=UDP\n\
                 UDP (wire::Error)\n\
                 again 01020304050611121314151608004500001400004000401126d70a0000010a000002\n\n",
-        ),
-        (
-            b"01020304050611121314151608004500002c000040004006b778c0a80101c0a80102bf0000500123456700000000500201237a8d0000aa0000ff",
-            b"EthernetII src=11-12-13-14-15-16 dst=01-02-03-04-05-06 type=IPv4\n\
-                IPv4 src=192.168.1.1 dst=192.168.1.2 proto=TCP\n\
-                again 01020304050611121314151608004500002c000040004006b778c0a80101c0a80102bf0000500123456700000000500201237a8d0000aa0000ff\n\n",
         ),
     ];
     for (input, output) in cases {
@@ -170,6 +164,115 @@ fn datagrams(rt: HostRuntime) {
                 IPv4 src=192.168.1.1 dst=192.168.1.2 proto=UDP\n\
                 UDP (wire::Error)\n\
                 again 010203040506111213141516080045000020000040004011b779c0a80101c0a80102bf000035000d124daa0000ff\n\n",
+        ),
+    ];
+    for (input, output) in cases {
+        compare(&rt, rt.alloc(), input, output);
+    }
+}
+
+// The padding behind a packet is dropped, whatever is said of the segment in it.
+#[test]
+fn segments(rt: HostRuntime) {
+    let cases: [(&[u8], &[u8]); 9] = [
+        (
+            b"01020304050611121314151608004500002c000040004006b778c0a80101c0a80102bf0000500123456700000000500201237a8d0000aa0000ff",
+            b"EthernetII src=11-12-13-14-15-16 dst=01-02-03-04-05-06 type=IPv4\n\
+                IPv4 src=192.168.1.1 dst=192.168.1.2 proto=TCP\n\
+                TCP src=48896 dst=80 syn seq=19088743 win=291 len=4\n\
+                again 01020304050611121314151608004500002c000040004006b778c0a80101c0a80102bf0000500123456700000000500201237a8d0000aa0000ff\n\n",
+        ),
+        // FIN and RST at once. The padding behind the packet is dropped.
+        (
+            b"010203040506111213141516080045000030000040004006b774c0a80101c0a80102bf0000500123456789abcdef6035012301b6020103030c01aa0000ff0000000000000000000000000000",
+            b"EthernetII src=11-12-13-14-15-16 dst=01-02-03-04-05-06 type=IPv4\n\
+                IPv4 src=192.168.1.1 dst=192.168.1.2 proto=TCP\n\
+                TCP src=48896 dst=80 fin rst seq=19088743 ack=2309737967 win=291 urg=513 len=4 ws=12 (refused)\n\
+                again 010203040506111213141516080045000030000040004006b774c0a80101c0a80102bf0000500123456789abcdef6035012301b6020103030c01aa0000ff\n\n",
+        ),
+        (
+            b"010203040506111213141516080045000030000040004006b774c0a80101c0a80102bf0000500123456789abcdef6035012301b6020103030c01aa0000ff",
+            b"EthernetII src=11-12-13-14-15-16 dst=01-02-03-04-05-06 type=IPv4\n\
+                IPv4 src=192.168.1.1 dst=192.168.1.2 proto=TCP\n\
+                TCP src=48896 dst=80 fin rst seq=19088743 ack=2309737967 win=291 urg=513 len=4 ws=12 (refused)\n\
+                again 010203040506111213141516080045000030000040004006b774c0a80101c0a80102bf0000500123456789abcdef6035012301b6020103030c01aa0000ff\n\n",
+        ),
+        (
+            b"01020304050611121314151608004500002c000040004006b778c0a80101c0a80102bf0000500123456700000000500201237a8e0000aa0000ff",
+            b"EthernetII src=11-12-13-14-15-16 dst=01-02-03-04-05-06 type=IPv4\n\
+                IPv4 src=192.168.1.1 dst=192.168.1.2 proto=TCP\n\
+                TCP src=48896 dst=80 syn seq=19088743 win=291 len=4 (checksum incorrect)\n\
+                again 01020304050611121314151608004500002c000040004006b778c0a80101c0a80102bf0000500123456700000000500201237a8e0000aa0000ff\n\n",
+        ),
+        (
+            b"01020304050611121314151608004500002c000040004006b778c0a80101c0a80102bf00005001234567000000005002012383720000aa0000ff",
+            b"EthernetII src=11-12-13-14-15-16 dst=01-02-03-04-05-06 type=IPv4\n\
+                IPv4 src=192.168.1.1 dst=192.168.1.2 proto=TCP\n\
+                TCP src=48896 dst=80 syn seq=19088743 win=291 len=4 (partial checksum correct)\n\
+                again 01020304050611121314151608004500002c000040004006b778c0a80101c0a80102bf00005001234567000000005002012383720000aa0000ff\n\n",
+        ),
+        // A port of 0.
+        (
+            b"01020304050611121314151608004500002c000040004006b778c0a80101c0a80102bf0000000123456700000000500201237a8d0000aa0000ff",
+            b"EthernetII src=11-12-13-14-15-16 dst=01-02-03-04-05-06 type=IPv4\n\
+                IPv4 src=192.168.1.1 dst=192.168.1.2 proto=TCP\n\
+                TCP src=48896 dst=0 syn seq=19088743 win=291 len=4 (refused)\n\
+                again 01020304050611121314151608004500002c000040004006b778c0a80101c0a80102bf0000000123456700000000500201237a8d0000aa0000ff\n\n",
+        ),
+        // A header of 16 bytes.
+        (
+            b"01020304050611121314151608004500002c000040004006b778c0a80101c0a80102bf0000500123456700000000400201237a8d0000aa0000ff",
+            b"EthernetII src=11-12-13-14-15-16 dst=01-02-03-04-05-06 type=IPv4\n\
+                IPv4 src=192.168.1.1 dst=192.168.1.2 proto=TCP\n\
+                TCP (wire::Error)\n\
+                again 01020304050611121314151608004500002c000040004006b778c0a80101c0a80102bf0000500123456700000000400201237a8d0000aa0000ff\n\n",
+        ),
+        // A malformed option.
+        (
+            b"01020304050611121314151608004500002c000040004006b778c0a80101c0a80102bf0000500123456700000000600201237a8d0000aa0000ff",
+            b"EthernetII src=11-12-13-14-15-16 dst=01-02-03-04-05-06 type=IPv4\n\
+                IPv4 src=192.168.1.1 dst=192.168.1.2 proto=TCP\n\
+                TCP src=48896 dst=80 syn seq=19088743 win=291 len=0 (wire::Error) (refused)\n\
+                again 01020304050611121314151608004500002c000040004006b778c0a80101c0a80102bf0000500123456700000000600201237a8d0000aa0000ff\n\n",
+        ),
+        (
+            b"01020304050611121314151686dd6000000000180640fe800000000000000000000000000001fe800000000000000000000000000002bf00005001234567000000005002012300dd0000aa0000ff000000000000",
+            b"EthernetII src=11-12-13-14-15-16 dst=01-02-03-04-05-06 type=IPv6\n\
+                IPv6 src=fe80::1 dst=fe80::2 nxt_hdr=TCP hop_limit=64\n\
+                TCP src=48896 dst=80 syn seq=19088743 win=291 len=4\n\
+                again 01020304050611121314151686dd6000000000180640fe800000000000000000000000000001fe800000000000000000000000000002bf00005001234567000000005002012300dd0000aa0000ff\n\n",
+        ),
+    ];
+    for (input, output) in cases {
+        compare(&rt, rt.alloc(), input, output);
+    }
+}
+
+// What is read is built again, and not its normal form: a range beside SACK permitted has its room for
+// one time more.
+#[test]
+fn segments_settle(rt: HostRuntime) {
+    let cases: [(&[u8], &[u8]); 3] = [
+        (
+            b"010203040506111213141516080045000034000040004006b770c0a80101c0a80102bf0000500123456789abcdef8010012394cc00000402050a0000000100000002",
+            b"EthernetII src=11-12-13-14-15-16 dst=01-02-03-04-05-06 type=IPv4\n\
+                IPv4 src=192.168.1.1 dst=192.168.1.2 proto=TCP\n\
+                TCP src=48896 dst=80 seq=19088743 ack=2309737967 win=291 len=0 sACK sACKr[Some((1, 2)), None, None]\n\
+                again 010203040506111213141516080045000034000040004006b770c0a80101c0a80102bf0000500123456789abcdef8010012399d90000040200000000000000000000\n\n",
+        ),
+        (
+            b"010203040506111213141516080045000034000040004006b770c0a80101c0a80102bf0000500123456789abcdef8010012399d90000040200000000000000000000",
+            b"EthernetII src=11-12-13-14-15-16 dst=01-02-03-04-05-06 type=IPv4\n\
+                IPv4 src=192.168.1.1 dst=192.168.1.2 proto=TCP\n\
+                TCP src=48896 dst=80 seq=19088743 ack=2309737967 win=291 len=0 sACK\n\
+                again 01020304050611121314151608004500002c000040004006b778c0a80101c0a80102bf0000500123456789abcdef60100123b9e1000004020000\n\n",
+        ),
+        (
+            b"01020304050611121314151608004500002c000040004006b778c0a80101c0a80102bf0000500123456789abcdef60100123b9e1000004020000",
+            b"EthernetII src=11-12-13-14-15-16 dst=01-02-03-04-05-06 type=IPv4\n\
+                IPv4 src=192.168.1.1 dst=192.168.1.2 proto=TCP\n\
+                TCP src=48896 dst=80 seq=19088743 ack=2309737967 win=291 len=0 sACK\n\
+                again 01020304050611121314151608004500002c000040004006b778c0a80101c0a80102bf0000500123456789abcdef60100123b9e1000004020000\n\n",
         ),
     ];
     for (input, output) in cases {

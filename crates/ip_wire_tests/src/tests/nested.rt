@@ -1,10 +1,12 @@
 //! Views on what other views lend.
 
+use super::tcp::{SYN, ends};
+use super::tcp_repr::syn;
 use super::{FRAME_DST, FRAME_SRC, IPV4_PACKET, ipv4_header};
 use ip_wire::{
-    EthernetFrame, EthernetFrameMut, EthernetProtocol, EthernetRepr, IpProtocol, Ipv4Packet,
-    Ipv4PacketMut, Ipv4Repr, Ipv6Address, Ipv6FragmentHeaderMut, Ipv6FragmentRepr, Ipv6PacketMut,
-    Ipv6Repr, Result,
+    EthernetFrame, EthernetFrameMut, EthernetProtocol, EthernetRepr, IpProtocol, Ipv4Address,
+    Ipv4Packet, Ipv4PacketMut, Ipv4Repr, Ipv6Address, Ipv6FragmentHeaderMut, Ipv6FragmentRepr,
+    Ipv6PacketMut, Ipv6Repr, Result, TcpPacket, TcpPacketMut,
 };
 use net_base::ChecksumCapabilities;
 use std::test::Fail;
@@ -77,6 +79,56 @@ fn a_fragment_is_written_view_by_view(rt: HostRuntime) -> std::result::Result<()
         &buffer[54..],
         [17, 0, 0x0a, 0x01, 0, 1, 0x09, 0x32, 0xa5, 0xa5].as_slice()
     );
+    Ok(())
+}
+
+/// A segment in a packet in a frame, with two bytes of padding behind them.
+const SEGMENT_FRAME: [u8; 60] = [
+    0x01, 0x02, 0x03, 0x04, 0x05, 0x06, 0x11, 0x12, 0x13, 0x14, 0x15, 0x16, 0x08, 0x00, 0x45, 0x00,
+    0x00, 0x2c, 0x00, 0x00, 0x40, 0x00, 0x40, 0x06, 0xb7, 0x78, 0xc0, 0xa8, 0x01, 0x01, 0xc0, 0xa8,
+    0x01, 0x02, 0xbf, 0x00, 0x00, 0x50, 0x01, 0x23, 0x45, 0x67, 0x00, 0x00, 0x00, 0x00, 0x50, 0x02,
+    0x01, 0x23, 0x7a, 0x8d, 0x00, 0x00, 0xaa, 0x00, 0x00, 0xff, 0xa5, 0xa5,
+];
+
+/// Writes the segment with SYN, if the bytes are as many as it has.
+fn write_segment(bytes: &mut [u8]) {
+    let value = syn();
+    let (src, dst) = ends();
+    if value.header_len() == 20 && value.payload.len() == 4 && bytes.len() == SYN.len() {
+        let mut segment = TcpPacketMut::new_unchecked(bytes);
+        value.emit(&mut segment, &src, &dst, &ChecksumCapabilities::default());
+    }
+}
+
+/// What a segment in a packet in a frame carries. The three views are gone when it is used.
+fn segment_payload(bytes: &[u8]) -> Result<&[u8]> {
+    let segment = TcpPacket::new_checked(payload(bytes)?)?;
+    Ok(segment.payload())
+}
+
+#[test]
+fn a_segment_is_written_through_three_views(rt: HostRuntime) -> std::result::Result<(), Fail> {
+    let mut buffer = [0xa5; 60];
+    let mut frame = EthernetFrameMut::new_unchecked(&mut buffer);
+    let header = EthernetRepr {
+        src_addr: FRAME_SRC,
+        dst_addr: FRAME_DST,
+        ethertype: EthernetProtocol::Ipv4,
+    };
+    header.emit(&mut frame);
+    let mut packet = Ipv4PacketMut::new_unchecked(frame.payload_mut());
+    let header = Ipv4Repr {
+        src_addr: Ipv4Address::new(192, 168, 1, 1),
+        dst_addr: Ipv4Address::new(192, 168, 1, 2),
+        next_header: IpProtocol::Tcp,
+        payload_len: 24,
+        hop_limit: 64,
+    };
+    header.emit(&mut packet, &ChecksumCapabilities::default());
+    packet.check_len()?;
+    write_segment(packet.payload_mut());
+    assert_eq!(rt; buffer, SEGMENT_FRAME);
+    assert_eq!(rt; segment_payload(&buffer), Ok(&SYN[20..]));
     Ok(())
 }
 

@@ -137,7 +137,7 @@ impl<'a> TcpOption<'a> {
     }
 
     // Writes the option over all of the bytes.
-    fn write(&self, buffer: &mut [u8])
+    pub(super) fn write(&self, buffer: &mut [u8])
         requires len { length buffer.old ≡ option_len self.now }
         requires fits { IsEmittable self.now }
         ensures { buffer.new ≡ option_text self.now }
@@ -216,8 +216,8 @@ fn block_at(content: &[u8], i: usize) -> Option<(u32, u32)>
     }
 }
 
-// How many ranges there are.
-pub(super) fn count_ranges(ranges: &[Option<(u32, u32)>; SACK_BLOCKS]) -> usize
+/// How many ranges there are.
+pub fn count_ranges(ranges: &[Option<(u32, u32)>; SACK_BLOCKS]) -> usize
     ensures count { result ≡ count_by is_some ranges.now }
     ensures bound { result ≤ SACK_BLOCKS }
 {

@@ -1,34 +1,29 @@
-use Rattle.std.proofs.Common.{rules, sym, ◌≡◌, false, None, Some}
-use Rattle.ip_frames.proofs.Texts.{udp_verdict-incorrect, udp_verdict-partial, udp_verdict-refused, udp_verdict-short}
+use Rattle.std.proofs.Common.{rules, sym, ◌∙◌, ◌≡◌, false}
+use Rattle.std.specs.Prelude.{is_some}
+use Rattle.ip_frames.proofs.Texts.{equal-test, verdict-short, verdict-whole}
 use Rattle.ip_frames.specs.Output.{udp_behind}
-use Rattle.ip_wire.specs.Udp.{HasLengths, packet_bytes}
+use Rattle.ip_wire.proofs.UdpComputed.{HasLengths-has_lengths, has_lengths-HasLengths}
+use Rattle.ip_wire.specs.Field.{field}
+use Rattle.ip_wire.specs.Ip.{dst_addr_of, src_addr_of}
+use Rattle.ip_wire.specs.Udp.{HasLengths, has_lengths, packet_bytes, pseudo_header_sum}
 use Rattle.net_base.specs.Checksum.{verifies}
 use Rattle.ip_frames.proofs.udp.verdict.Goals as goal
 
 pub returns-then-is_err : goal.returns-then-is_err
-returns-then-is_err c = sym (udp_verdict-short c.args.ip_header.now (packet_bytes c.args.packet.now) (search rules))
+returns-then-is_err c =
+    let bytes = packet_bytes c.args.packet.now in
+    let none : HasLengths bytes → ⊥ = search rules in
+    sym (verdict-short (has_lengths bytes) _ _ (λ whole. none (has_lengths-HasLengths bytes whole)))
 
-pub returns-in-Ok : goal.returns-in-Ok
-returns-in-Ok c =
+pub returns : goal.returns
+returns c =
     let header = c.args.ip_header.now in
     let bytes = packet_bytes c.args.packet.now in
     let caps : verifies c.ignored-caps.result.udp ≡ false = search rules in
-    let read : udp_behind header false bytes ≡ Some c.in-Ok.field-0 = rw (caps, c.src_addr-src_addr.ensures, c.dst_addr-dst_addr.ensures) at c.in-Ok.ensures.value in
-    sym (udp_verdict-partial header bytes c.in-Ok.field-0 c.in-Ok.ensures.lengths read (search rules))
-
-pub returns-in-Ok-2 : goal.returns-in-Ok-2
-returns-in-Ok-2 c =
-    let header = c.args.ip_header.now in
-    let bytes = packet_bytes c.args.packet.now in
-    let caps : verifies c.ignored-caps.result.udp ≡ false = search rules in
-    let read : udp_behind header false bytes ≡ Some c.in-Ok-2.field-0 = rw (caps, c.src_addr-src_addr.ensures, c.dst_addr-dst_addr.ensures) at c.in-Ok-2.ensures.value in
-    sym (udp_verdict-incorrect header bytes c.in-Ok-2.field-0 c.in-Ok-2.ensures.lengths read (search rules))
-
-pub returns-in-Err : goal.returns-in-Err
-returns-in-Err c =
-    let header = c.args.ip_header.now in
-    let bytes = packet_bytes c.args.packet.now in
-    let caps : verifies c.ignored-caps.result.udp ≡ false = search rules in
-    let unread : udp_behind header false bytes ≡ None = rw (caps, c.src_addr-src_addr.ensures, c.dst_addr-dst_addr.ensures) at c.in-Err.ensures.value in
     let lengths : HasLengths bytes = search rules in
-    sym (udp_verdict-refused header bytes lengths unread)
+    let value = rw (caps, c.src_addr-src_addr.ensures, c.dst_addr-dst_addr.ensures) at c.parse.ensures.value in
+    let is_ok : c.is_ok-is_read.result ≡ is_some (udp_behind header false bytes) = rw value (search rules) in
+    let sum = pseudo_header_sum (src_addr_of header) (dst_addr_of header) bytes in
+    let is_partial = equal-test c.verify_partial_checksum.result (field bytes 48 16) sum
+    (rw (c.src_addr-src_addr.ensures, c.dst_addr-dst_addr.ensures) at c.verify_partial_checksum.ensures) in
+    c.unread_verdict.ensures ∙ verdict-whole (has_lengths bytes) _ _ _ _ (HasLengths-has_lengths bytes lengths) is_ok is_partial

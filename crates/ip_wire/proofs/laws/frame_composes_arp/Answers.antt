@@ -1,6 +1,6 @@
 use Rattle.std.proofs.Common.{ℕ, ◌≡◌, ◌<◌, ◌^◌, List, ◌++◌, ap, length, rules, subst, sym, append_assoc, arith}
 use Rattle.ip_wire.proofs.EthernetLayer.{drop-bytes_of}
-use Rattle.ip_wire.specs.Frame.{IsReadWhole, message}
+use Rattle.ip_wire.specs.Frame.{ReadsFrame, message}
 use Rattle.wire_arp.proofs.ArpEmitted as arp_packet
 use Rattle.wire_ethernet.proofs.EthernetEmitted as ethernet_header
 use Rattle.wire_arp.specs.Arp as arp
@@ -18,7 +18,7 @@ returns c =
     let in_range : arp_packet.IsInRange value = search rules in
     let read = arp_packet.reads-bytes_of value c.args.padding.now in_range in
     let inner = subst (λ (bytes : List ℕ). arp.Reads bytes (arp.normal value)) (sym (drop-bytes_of header carried dst src)) read in
-    subst (λ (bytes : List ℕ). IsReadWhole bytes (ethernet.normal header) (message (arp.normal value)))
+    subst (λ (bytes : List ℕ). ReadsFrame c.args.received bytes (ethernet.normal header) (message (arp.normal value)))
     (sym (append_assoc (ethernet.bytes_of header) (arp.bytes_of value) c.args.padding.now))
     (record {
       reads_header = ethernet_header.reads-bytes_of header carried dst src number;

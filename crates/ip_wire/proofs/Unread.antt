@@ -1,0 +1,128 @@
+-- What is not read stays.
+use Rattle.std.proofs.Common.{ℕ, ◌≡◌, ◌<◌, ◌/◌, ◌%◌, inl, inr, true, List, [], ◌∷◌, ◌++◌, Option, Some, None, drop, length, slice_range, refl, sym, ap, subst, ◌∙◌, arith}
+use Rattle.std.specs.Int.{bytes_high_first}
+use Rattle.std.specs.Option.{option_map}
+use Rattle.ip_wire.proofs.Frames.{ipv4_packet_of-fragment, ipv4_packet_of-unread, rebuilt-ipv4, rebuilt-ipv4-copied, rebuilt-ipv6, rebuilt-ipv6-copied, rebuilt-read}
+use Rattle.ip_wire.proofs.Layers.{length-part, rebuilt_by-None}
+use Rattle.ip_wire.proofs.TcpLayer.{rebuilt-tcp-copied}
+use Rattle.ip_wire.proofs.UdpLayer.{rebuilt-udp-copied}
+use Rattle.ip_wire.specs.Frame.{IsUnread, IsUnreadBetween, IsUnreadTransport, ReadsPacket, all_checked, arp, ethernet, ipv4_payload, packet_payload, rebuilt, rebuilt_between, rebuilt_packet, rebuilt_payload, type_of}
+use Rattle.wire_field.proofs.Cells.{cells-drop}
+use Rattle.wire_field.proofs.Spelled.{AreBytes}
+use Rattle.wire_field.specs.Field.{field}
+use Rattle.wire_ends.specs.declared.IpAddress.{IpAddress}
+use Rattle.wire_ends.specs.declared.IpProtocol.{IpProtocol}
+use Rattle.wire_ends.specs.declared.IpProtocol.TheVariants as protocol
+use Rattle.wire_ip.specs.Ip as ip
+use Rattle.wire_ip.specs.Ip.{payload_len_of, with_payload_len}
+use Rattle.wire_ip.specs.declared.IpRepr.{IpRepr}
+use Rattle.wire_ip.specs.declared.IpRepr.TheVariants.{Ipv4, Ipv6}
+use Rattle.wire_ipv6.proofs.Ipv6Computed.{ipv6_of-Reads}
+use Rattle.wire_ipv6.specs.Ipv6 as ipv6
+use Rattle.wire_ipv6.specs.Ipv6.{ipv6_of}
+use Rattle.wire_ipv4.proofs.Ipv4Computed.{ipv4_of-Reads}
+use Rattle.wire_ipv4.specs.Ipv4.{header_len, ipv4_of, total_len}
+use Rattle.wire_arp.proofs.ArpComputed.{arp_of-Reads}
+use Rattle.wire_arp.specs.Arp.{arp_of}
+use Rattle.wire_arp.specs.declared.ArpRepr.{ArpRepr}
+use Rattle.wire_ethernet.proofs.EthernetComputed.{ethernet_of-Reads, ethernet_of-Some}
+use Rattle.wire_ethernet.proofs.EthernetNormal.{number_of-protocol_of}
+use Rattle.wire_ethernet.specs.Ethernet.{Reads, bytes_of, ethernet_of, number_of}
+use Rattle.wire_ethernet.specs.declared.EthernetProtocol.{EthernetProtocol}
+use Rattle.wire_ethernet.specs.declared.EthernetProtocol.TheVariants as ethertype
+use Rattle.wire_ethernet.specs.declared.EthernetRepr.{EthernetRepr}
+use Rattle.wire_tcp_repr.proofs.TcpComputed.{tcp_of-Reads}
+use Rattle.wire_tcp_repr.specs.TcpRepr.{tcp_of}
+use Rattle.wire_udp.proofs.UdpComputed.{udp_of-Reads}
+use Rattle.wire_udp.specs.Udp.{udp_of}
+
+-- an option that is no value is none
+none_of : {A : Type 0} (o : Option A) → ((a : A) → ¬ (o ≡ Some a)) → o ≡ None
+none_of None h = refl
+none_of (Some a) h = absurd (h a refl)
+
+pub payload-stays : (t : EthernetProtocol) (bytes : List ℕ) → IsUnread t bytes → rebuilt_payload t bytes ≡ bytes
+payload-stays ethertype.Ipv4 bytes (inl h) =
+    rebuilt-ipv4-copied bytes (ipv4_packet_of-unread bytes (none_of (ipv4_of true bytes) (λ w e. h w ((ipv4_of-Reads true bytes w).0 e))))
+payload-stays ethertype.Ipv4 bytes (inr part) = rebuilt-ipv4-copied bytes (ipv4_packet_of-fragment bytes part)
+payload-stays ethertype.Ipv6 bytes h = rebuilt-ipv6-copied bytes (none_of (ipv6_of bytes) (λ w e. h w ((ipv6_of-Reads bytes w).0 e)))
+payload-stays ethertype.Arp bytes h =
+    let unread = none_of (arp_of bytes) (λ w e. h w ((arp_of-Reads bytes w).0 e)) in
+    rebuilt_by-None arp (λ v rest. []) bytes (ap (option_map (λ (v : ArpRepr). (v, []))) unread)
+payload-stays (ethertype.Unknown n) bytes h = refl
+
+-- the header that was read, written again
+header-again : (a b c d e f g h i j k l m n : ℕ) (rest : List ℕ) → m < 256 → n < 256
+    → let frame = a ∷ b ∷ c ∷ d ∷ e ∷ f ∷ g ∷ h ∷ i ∷ j ∷ k ∷ l ∷ m ∷ n ∷ rest in
+    (slice_range frame 0 6 ++ slice_range frame 6 12 ++ bytes_high_first 2 (field frame 96 16)) ++ drop 14 frame ≡ frame
+header-again a b c d e f g h i j k l m n rest high low =
+    let whole = a ∷ b ∷ c ∷ d ∷ e ∷ f ∷ g ∷ h ∷ i ∷ j ∷ k ∷ l ∷ m ∷ n ∷ rest in
+    let first : field whole 96 16 / 256 % 256 ≡ m = omega (arith, high, low) in
+    let second : field whole 96 16 % 256 ≡ n = omega (arith, high, low) in
+    ap (λ (x : ℕ). a ∷ b ∷ c ∷ d ∷ e ∷ f ∷ g ∷ h ∷ i ∷ j ∷ k ∷ l ∷ x ∷ (field whole 96 16 % 256) ∷ rest) first
+    ∙ ap (λ (x : ℕ). a ∷ b ∷ c ∷ d ∷ e ∷ f ∷ g ∷ h ∷ i ∷ j ∷ k ∷ l ∷ m ∷ x ∷ rest) second
+
+-- a header of bytes that is read is written as it stood
+header-stays : (frame : List ℕ) (v : EthernetRepr) → AreBytes frame → Reads frame v → bytes_of v ++ drop 14 frame ≡ frame
+header-stays frame v are r =
+    let parts = cells-drop 14 frame r.whole in
+    let are_cells = subst AreBytes parts are in
+    let number : number_of v.ethertype ≡ field frame 96 16 = ap number_of r.ethertype ∙ number_of-protocol_of (field frame 96 16) in
+    let written = λ (dst src : List ℕ) (n : ℕ). (dst ++ src ++ bytes_high_first 2 n) ++ drop 14 frame in
+    ap (λ dst. written dst v.src_addr.0 (number_of v.ethertype)) r.dst_addr
+    ∙ ap (λ src. written (slice_range frame 0 6) src (number_of v.ethertype)) r.src_addr
+    ∙ ap (λ n. written (slice_range frame 0 6) (slice_range frame 6 12) n) number
+    ∙ subst (λ f. (slice_range f 0 6 ++ slice_range f 6 12 ++ bytes_high_first 2 (field f 96 16)) ++ drop 14 f ≡ f) (sym parts)
+    (header-again _ _ _ _ _ _ _ _ _ _ _ _ _ _ (drop 14 frame) (are_cells 12) (are_cells 13))
+
+pub carried-stays : (frame : List ℕ) (v : EthernetRepr) → AreBytes frame → Reads frame v → IsUnread v.ethertype (drop 14 frame) → rebuilt frame ≡ frame
+carried-stays frame v are r h =
+    rebuilt-read frame v ((ethernet_of-Reads frame v).1 r)
+    ∙ ap (λ rest. bytes_of v ++ rest) (payload-stays v.ethertype (drop 14 frame) h)
+    ∙ header-stays frame v are r
+
+-- ---- what a packet carries
+
+between-stays : (t : IpProtocol) (src dst : IpAddress) (bytes : List ℕ) → IsUnreadBetween t src dst bytes → rebuilt_between t src dst bytes ≡ bytes
+between-stays protocol.Udp src dst bytes h =
+    rebuilt-udp-copied src dst bytes (none_of (udp_of src dst true bytes) (λ v e. h v _ ((udp_of-Reads src dst true bytes v).0 e)))
+between-stays protocol.Tcp src dst bytes h =
+    rebuilt-tcp-copied src dst bytes (none_of (tcp_of src dst true bytes) (λ v e. h v _ ((tcp_of-Reads src dst true bytes v).0 e)))
+between-stays _ src dst bytes h = refl
+
+-- a packet with the length that it has
+packet-stays : (w : IpRepr) (payload : List ℕ) → payload_len_of w ≡ length payload → IsUnreadTransport w payload
+    → rebuilt_packet w payload ≡ ip.bytes_of w true ++ payload
+packet-stays (Ipv4 w) payload is h =
+    let stays = between-stays _ _ _ payload h in
+    ap (λ inner. ip.bytes_of (with_payload_len (Ipv4 w) (length inner)) true ++ inner) stays
+    ∙ ap (λ n. ip.bytes_of (with_payload_len (Ipv4 w) n) true ++ payload) (sym is)
+packet-stays (Ipv6 w) payload is h =
+    let stays = between-stays _ _ _ payload h in
+    ap (λ inner. ip.bytes_of (with_payload_len (Ipv6 w) (length inner)) true ++ inner) stays
+    ∙ ap (λ n. ip.bytes_of (with_payload_len (Ipv6 w) n) true ++ payload) (sym is)
+
+transport-stays : (w : IpRepr) (bytes : List ℕ) → ReadsPacket all_checked bytes w → IsUnreadTransport w (packet_payload w bytes)
+    → rebuilt_payload (type_of w) bytes ≡ ip.bytes_of w true ++ packet_payload w bytes
+transport-stays (Ipv4 w) bytes (r, whole) h =
+    let len : w.payload_len ≡ length (ipv4_payload bytes) = r.payload_len ∙ sym (length-part bytes (header_len bytes) (total_len bytes) r.lengths.whole) in
+    rebuilt-ipv4 bytes w ((ipv4_of-Reads true bytes w).1 r) whole ∙ packet-stays (Ipv4 w) (ipv4_payload bytes) len h
+transport-stays (Ipv6 w) bytes r h =
+    let len : w.payload_len ≡ length (ipv6.payload_of bytes) = r.payload_len ∙ sym (length-part bytes 40 (ipv6.total_len bytes) r.lengths ∙ omega arith) in
+    rebuilt-ipv6 bytes w ((ipv6_of-Reads bytes w).1 r) ∙ packet-stays (Ipv6 w) (ipv6.payload_of bytes) len h
+
+pub payload-unread-stays : (frame : List ℕ) (v : EthernetRepr) (w : IpRepr) → Reads frame v → v.ethertype ≡ type_of w
+    → ReadsPacket all_checked (drop 14 frame) w → IsUnreadTransport w (packet_payload w (drop 14 frame))
+    → rebuilt frame ≡ bytes_of v ++ (ip.bytes_of w true ++ packet_payload w (drop 14 frame))
+payload-unread-stays frame v w r type read h =
+    rebuilt-read frame v ((ethernet_of-Reads frame v).1 r)
+    ∙ ap (λ t. bytes_of v ++ rebuilt_payload t (drop 14 frame)) type
+    ∙ ap (λ rest. bytes_of v ++ rest) (transport-stays w (drop 14 frame) read h)
+
+-- ---- a frame that is too short
+
+pub short-stays : (frame : List ℕ) → length frame < 14 → rebuilt frame ≡ frame
+unfolding rebuilt
+short-stays frame h =
+    let unread = none_of (ethernet_of frame) (λ v e. let long = ethernet_of-Some frame v e in omega (arith, long, h)) in
+    rebuilt_by-None ethernet (λ v. rebuilt_payload v.ethertype) frame (ap (option_map (λ (v : EthernetRepr). (v, drop 14 frame))) unread)

@@ -1,0 +1,284 @@
+//! The values of TCP segments.
+
+ghost use Rattle.std.specs.Prelude.{◌≤◌, length};
+
+use super::tcp::{SEGMENT, SYN, ends};
+use ip_wire::{
+    Error, SACK_BLOCKS, TCP_HEADER_LEN, TcpControl, TcpPacket, TcpPacketMut, TcpRepr, TcpSeqNumber,
+    TcpTimestampRepr,
+};
+use net_base::{Checksum, ChecksumCapabilities};
+use std::test::Fail;
+
+/// No ranges.
+const NO_RANGES: [Option<(u32, u32)>; SACK_BLOCKS] = [None; SACK_BLOCKS];
+
+/// The values of the segment with SYN and no option.
+pub(super) fn syn() -> TcpRepr<'static> {
+    TcpRepr {
+        src_port: 48896,
+        dst_port: 80,
+        control: TcpControl::Syn,
+        seq_number: TcpSeqNumber(0x01234567),
+        ack_number: None,
+        window_len: 0x0123,
+        window_scale: None,
+        max_seg_size: None,
+        sack_permitted: false,
+        sack_ranges: NO_RANGES,
+        timestamp: None,
+        payload: &[0xaa, 0x00, 0x00, 0xff],
+    }
+}
+
+/// The values of a segment without a payload that acknowledges what it got.
+fn ack() -> TcpRepr<'static> {
+    TcpRepr {
+        control: TcpControl::None,
+        ack_number: Some(TcpSeqNumber(0x09abcdef)),
+        payload: &[],
+        ..syn()
+    }
+}
+
+/// What a value is written as over bytes of this value, and its length: none where it has no room.
+fn emitted(value: &TcpRepr<'_>, fill: u8, caps: &ChecksumCapabilities) -> ([u8; 64], usize)
+    ensures { result.1 ≤ 64 }
+{
+    let (src, dst) = ends();
+    let mut buffer = [fill; 64];
+    let header_len = value.header_len();
+    if header_len > 60 || value.payload.len() > 4 {
+        return (buffer, 0);
+    }
+    let len = value.buffer_len();
+    let mut packet = TcpPacketMut::new_unchecked(&mut buffer[..len]);
+    value.emit(&mut packet, &src, &dst, caps);
+    (buffer, len)
+}
+
+#[test]
+fn writes_and_reads_a_segment(rt: HostRuntime) -> std::result::Result<(), Fail> {
+    let (src, dst) = ends();
+    let caps = ChecksumCapabilities::default();
+    for fill in [0x00, 0xa5, 0xff] {
+        let (bytes, len) = emitted(&syn(), fill, &caps);
+        assert_eq!(rt; &bytes[..len], SYN.as_slice());
+        assert_eq!(rt; &bytes[len..], [fill; 40].as_slice());
+    }
+    let packet = TcpPacket::new_checked(&SYN)?;
+    assert_eq!(rt; TcpRepr::parse(&packet, &src, &dst, &caps), Ok(syn()));
+    let packet = TcpPacket::new_checked(&SEGMENT)?;
+    let ignored = ChecksumCapabilities::ignored();
+    assert_eq!(rt; TcpRepr::parse(&packet, &src, &dst, &ignored), Err(Error));
+    let received = ChecksumCapabilities {
+        tcp: Checksum::Rx,
+        ..caps
+    };
+    let (bytes, len) = emitted(&syn(), 0xa5, &received);
+    let packet = TcpPacket::new_checked(&bytes[..len])?;
+    assert_eq!(rt; packet.checksum(), 0);
+    assert_eq!(rt; TcpRepr::parse(&packet, &src, &dst, &caps), Err(Error));
+    assert_eq!(rt; TcpRepr::parse(&packet, &src, &dst, &ignored), Ok(syn()));
+    Ok(())
+}
+
+#[test]
+fn reads_a_segment_that_was_cut(rt: HostRuntime) {
+    let (src, dst) = ends();
+    for len in 20..24 {
+        let packet = TcpPacket::new_unchecked(&SYN[..len]);
+        let caps = ChecksumCapabilities::default();
+        assert_eq!(rt; TcpRepr::parse(&packet, &src, &dst, &caps), Err(Error));
+        let read = TcpRepr::parse(&packet, &src, &dst, &ChecksumCapabilities::ignored());
+        assert_eq!(rt; read.map(|value| value.payload.len()), Ok(len - 20));
+    }
+}
+
+/// A segment with ACK and these options, and its length.
+fn segment(options: &[u8]) -> ([u8; 60], usize)
+    requires { length options.now ≤ 40 }
+    ensures { result.1 ≤ 60 }
+{
+    let len = TCP_HEADER_LEN + options.len().next_multiple_of(4);
+    let mut bytes = [0; 60];
+    bytes[..TCP_HEADER_LEN].copy_from_slice(&SYN[..TCP_HEADER_LEN]);
+    bytes[8..12].copy_from_slice(&[0x09, 0xab, 0xcd, 0xef]);
+    bytes[12] = (4 * len) as u8;
+    bytes[13] = 0x10;
+    bytes[TCP_HEADER_LEN..TCP_HEADER_LEN + options.len()].copy_from_slice(options);
+    (bytes, len)
+}
+
+#[test]
+fn reads_options(rt: HostRuntime) {
+    for (options, want) in [
+        (
+            [
+                0x02, 0x04, 0x05, 0xb4, 0x02, 0x04, 0x02, 0x18, 0x00, 0xff, 0xff, 0xff,
+            ]
+            .as_slice(),
+            Ok(TcpRepr {
+                max_seg_size: Some(536),
+                ..ack()
+            }),
+        ),
+        (
+            &[
+                0x05, 0x22, 0, 0, 0, 1, 0, 0, 0, 2, 0, 0, 0, 3, 0, 0, 0, 4, 0, 0, 0, 5, 0, 0, 0, 6,
+                0, 0, 0, 7, 0, 0, 0, 8, 0, 0,
+            ],
+            Ok(TcpRepr {
+                sack_ranges: [Some((1, 2)), Some((3, 4)), Some((5, 6))],
+                ..ack()
+            }),
+        ),
+        (
+            &[0x04, 0x02, 0x05, 0x0a, 0, 0, 0, 1, 0, 0, 0, 2],
+            Ok(TcpRepr {
+                sack_permitted: true,
+                sack_ranges: [Some((1, 2)), None, None],
+                ..ack()
+            }),
+        ),
+        (
+            &[0x03, 0x03, 0x0f],
+            Ok(TcpRepr {
+                window_scale: Some(14),
+                ..ack()
+            }),
+        ),
+        (&[0x08, 0x02, 0x01, 0x01], Ok(ack())),
+        (&[0x05, 0x02, 0x00, 0x00], Err(Error)),
+    ] {
+        assert!(rt; options.len() <= 40);
+        let (src, dst) = ends();
+        let (bytes, len) = segment(options);
+        let packet = TcpPacket::new_unchecked(&bytes[..len]);
+        let read = TcpRepr::parse(&packet, &src, &dst, &ChecksumCapabilities::ignored());
+        assert_eq!(rt; read, want);
+    }
+}
+
+#[test]
+fn writes_options(rt: HostRuntime) -> std::result::Result<(), Fail> {
+    for (value, options) in [
+        (
+            TcpRepr {
+                max_seg_size: Some(1460),
+                window_scale: Some(7),
+                sack_permitted: true,
+                timestamp: Some(TcpTimestampRepr::new(1, 2)),
+                ..syn()
+            },
+            [
+                0x02, 0x04, 0x05, 0xb4, 0x03, 0x03, 0x07, 0x04, 0x02, 0x08, 0x0a, 0, 0, 0, 1, 0, 0,
+                0, 2, 0,
+            ]
+            .as_slice(),
+        ),
+        (
+            TcpRepr {
+                max_seg_size: Some(536),
+                ..ack()
+            },
+            &[0x02, 0x04, 0x02, 0x18],
+        ),
+        (
+            TcpRepr {
+                sack_ranges: [Some((1, 2)), Some((3, 4)), Some((5, 6))],
+                ..ack()
+            },
+            &[
+                0x05, 0x1a, 0, 0, 0, 1, 0, 0, 0, 2, 0, 0, 0, 3, 0, 0, 0, 4, 0, 0, 0, 5, 0, 0, 0, 6,
+                0, 0,
+            ],
+        ),
+        (
+            TcpRepr {
+                sack_ranges: [None, Some((1, 2)), Some((3, 4))],
+                ..ack()
+            },
+            &[
+                0x05, 0x12, 0, 0, 0, 1, 0, 0, 0, 2, 0, 0, 0, 3, 0, 0, 0, 4, 0, 0,
+            ],
+        ),
+        (
+            TcpRepr {
+                sack_permitted: true,
+                sack_ranges: [None, Some((1, 2)), Some((3, 4))],
+                ..ack()
+            },
+            &[
+                0x04, 0x02, 0, 0, 0, 0, 0, 0, 0, 0, 0, 0, 0, 0, 0, 0, 0, 0, 0, 0,
+            ],
+        ),
+    ] {
+        for fill in [0x00, 0xa5, 0xff] {
+            let (bytes, len) = emitted(&value, fill, &ChecksumCapabilities::default());
+            assert_eq!(rt; value.header_len(), TCP_HEADER_LEN + options.len());
+            assert_eq!(rt; TcpPacket::new_checked(&bytes[..len])?.options(), options);
+        }
+    }
+    Ok(())
+}
+
+#[test]
+fn counts_octets_and_numbers(rt: HostRuntime) {
+    let long = TcpRepr {
+        max_seg_size: Some(1460),
+        window_scale: Some(7),
+        timestamp: Some(TcpTimestampRepr::new(1, 2)),
+        sack_ranges: [Some((1, 2)), Some((3, 4)), Some((5, 6))],
+        ..ack()
+    };
+    for (value, header_len, segment_len, is_empty) in [
+        (syn(), 20, 5, false),
+        (ack(), 20, 0, true),
+        (long, 64, 0, true),
+    ] {
+        assert!(rt; value.payload.len() <= 4);
+        assert_eq!(rt; value.header_len(), header_len);
+        assert_eq!(rt; value.segment_len(), segment_len);
+        assert_eq!(rt; value.is_empty(), is_empty);
+    }
+    assert_eq!(rt; syn().buffer_len(), 24);
+}
+
+#[test]
+fn prints_values_and_segments(rt: HostRuntime) -> std::result::Result<(), Fail> {
+    for (value, text) in [
+        (syn(), "TCP src=48896 dst=80 syn seq=19088743 win=291 len=4"),
+        (
+            TcpRepr {
+                control: TcpControl::Psh,
+                max_seg_size: Some(1460),
+                ..ack()
+            },
+            "TCP src=48896 dst=80 psh seq=19088743 ack=162254319 win=291 len=0 mss=1460",
+        ),
+    ] {
+        assert_eq!(rt; format!(in rt.alloc(); "{value}")?.as_str(), text);
+    }
+    let mut cut = SYN;
+    cut[12] = 0x60;
+    for (bytes, text) in [
+        (
+            SYN.as_slice(),
+            "TCP src=48896 dst=80 syn seq=19088743 win=291 len=4",
+        ),
+        (
+            &SEGMENT,
+            "TCP src=48896 dst=80 fin rst seq=19088743 ack=2309737967 win=291 urg=513 len=4 ws=12",
+        ),
+        (
+            &cut,
+            "TCP src=48896 dst=80 syn seq=19088743 win=291 len=0 (wire::Error)",
+        ),
+        (&SYN[..19], "TCP (wire::Error)"),
+    ] {
+        let packet = TcpPacket::new_unchecked(bytes);
+        assert_eq!(rt; format!(in rt.alloc(); "{packet}")?.as_str(), text);
+    }
+    Ok(())
+}

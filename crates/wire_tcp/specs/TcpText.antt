@@ -1,0 +1,111 @@
+-- The texts that TCP segments print as.
+use Rattle.std.specs.Prelude.{ℕ, zero, suc, ◌++◌, ◌==◌, ◌&&◌, ◌-◌, nat_le, if◌then◌else◌, Bool, List, [], ◌∷◌, codes, decimal, length, replicate, Option, Some, None}
+use Rattle.std.specs.List.{join_by}
+use Rattle.std.specs.Option.{option_map_or}
+use Rattle.byteorder.specs.Endian.{big_number}
+use Rattle.wire_addr.specs.Printed.{hex}
+use Rattle.wire_field.specs.Field.{field}
+use Rattle.wire_tcp.specs.Tcp.{has_lengths, header_len, options_of}
+use Rattle.wire_tcp.specs.TcpItems.{Item, first_blocks, first_item, is_timestamp, stamps}
+use Rattle.wire_tcp.specs.declared.tcp.option.TcpOption.{TcpOption}
+use Rattle.wire_tcp.specs.declared.tcp.option.TcpOption.TheVariants.{EndOfList, NoOperation, MaxSegmentSize, WindowScale, SackPermitted, SackRange, TimeStamp, Unknown}
+
+-- ---- the header
+
+-- the ports
+abbrev pub ports_text : ℕ → ℕ → List ℕ
+ports_text src dst = codes "TCP src=" ++ (decimal src ++ (codes " dst=" ++ decimal dst))
+
+-- a text where the flag at this bit is set, else nothing
+abbrev pub where_set : List ℕ → ℕ → List ℕ → List ℕ
+where_set bytes at text = if field bytes at 1 == 1 then text else []
+
+-- the flags that are set
+unfoldable pub flags_text : List ℕ → List ℕ
+flags_text bytes =
+    where_set bytes 110 (codes " syn") ++ where_set bytes 111 (codes " fin") ++ where_set bytes 109 (codes " rst")
+    ++ where_set bytes 108 (codes " psh") ++ where_set bytes 105 (codes " ece") ++ where_set bytes 104 (codes " cwr")
+    ++ where_set bytes 103 (codes " ns")
+
+-- a name and a number
+abbrev pub numbered : List ℕ → ℕ → List ℕ
+numbered name n = name ++ decimal n
+
+-- the same, where there is a number
+abbrev pub numbered_some : List ℕ → Option ℕ → List ℕ
+numbered_some name n = option_map_or (numbered name) n []
+
+-- the numbers of a header, and the length of the payload
+unfoldable pub numbers_text : ℕ → Option ℕ → ℕ → Option ℕ → ℕ → List ℕ
+numbers_text seq ack window urgent len =
+    numbered (codes " seq=") seq ++ numbered_some (codes " ack=") ack ++ numbered (codes " win=") window
+    ++ numbered_some (codes " urg=") urgent ++ numbered (codes " len=") len
+
+-- a number, where the flag at this bit is set
+abbrev pub number_where : List ℕ → ℕ → ℕ → Option ℕ
+number_where bytes at n = if field bytes at 1 == 1 then Some n else None
+
+-- the numbers of the header that the bytes begin with
+abbrev pub fields_text : List ℕ → List ℕ
+fields_text bytes =
+    numbers_text (field bytes 32 32) (number_where bytes 107 (field bytes 64 32)) (field bytes 112 16) (number_where bytes 106 (field bytes 144 16)) (length bytes - header_len bytes)
+
+-- ---- options
+
+-- the two edges of a block
+abbrev pub edges_text : ℕ × ℕ → List ℕ
+edges_text r = codes "(" ++ (decimal r.0 ++ (codes ", " ++ (decimal r.1 ++ codes ")")))
+
+-- a block, or that there is none
+abbrev pub range_text : Option (ℕ × ℕ) → List ℕ
+range_text None = codes "None"
+range_text (Some r) = codes "Some(" ++ edges_text r ++ codes ")"
+
+-- blocks with `, ` between them, in brackets
+abbrev pub ranges_text : List (Option (ℕ × ℕ)) → List ℕ
+ranges_text ranges = codes "[" ++ join_by range_text (codes ", ") ranges ++ codes "]"
+
+-- a number of 32 bits in eight hex digits
+abbrev pub hex_word : ℕ → List ℕ
+hex_word n = replicate (8 - length (hex n)) 48 ++ hex n
+
+-- the text of an option
+abbrev pub shown : TcpOption → List ℕ
+shown EndOfList = []
+shown NoOperation = []
+shown (MaxSegmentSize size) = codes " mss=" ++ decimal size
+shown (WindowScale scale) = codes " ws=" ++ decimal scale
+shown SackPermitted = codes " sACK"
+shown (SackRange ranges) = codes " sACKr" ++ ranges_text ranges
+shown (TimeStamp tsval tsecr) = codes " tsval " ++ hex_word tsval ++ codes " tsecr " ++ hex_word tsecr
+shown (Unknown kind bytes) = codes " opt(" ++ decimal kind ++ codes ")"
+
+-- the text of the option that an item is read as
+abbrev pub item_text : Item → List ℕ
+item_text i =
+    if i.kind == 1 then [] else if i.kind == 2 then shown (MaxSegmentSize (big_number 2 i.content))
+    else if i.kind == 3 then shown (WindowScale (big_number 1 i.content)) else if i.kind == 4 then shown SackPermitted
+    else if i.kind == 5 then shown (SackRange (first_blocks i.content))
+    else if is_timestamp i then shown (TimeStamp (stamps i.content).0 (stamps i.content).1)
+    else codes " opt(" ++ decimal i.kind ++ codes ")"
+
+-- the items of at most n bytes, up to an end mark or to what is malformed
+unfoldable pub options_text_within : ℕ → List ℕ → List ℕ
+options_text_within n [] = []
+options_text_within zero (kind ∷ rest) = []
+options_text_within (suc n) (kind ∷ rest) =
+    if kind == 0 then []
+    else option_map_or (λ d. item_text d.0 ++ options_text_within n d.1) (first_item (kind ∷ rest)) (codes " (wire::Error)")
+
+-- the items of the bytes, up to an end mark or to what is malformed
+abbrev pub options_text : List ℕ → List ℕ
+options_text bytes = options_text_within (length bytes) bytes
+
+-- ---- the segment
+
+-- the printed text of a segment: its fields and its options, or that the bytes hold no whole header
+unfoldable pub packet_text : List ℕ → List ℕ
+packet_text bytes =
+    if has_lengths bytes then
+    ports_text (field bytes 0 16) (field bytes 16 16) ++ (flags_text bytes ++ (fields_text bytes ++ options_text (options_of bytes)))
+    else codes "TCP (wire::Error)"

@@ -1,0 +1,84 @@
+//! Parts of a segment that the emission of a value writes, each at once.
+
+ghost use Rattle.std.specs.Prelude.{◌≡◌, ◌+◌, ◌-◌, ◌≤◌, ◌++◌, drop, length, replicate};
+ghost use Rattle.byteorder.specs.Endian.{big_bytes};
+ghost use Rattle.wire_field.specs.Field.{with_range};
+ghost use Rattle.wire_tcp.specs.Tcp.{Becomes, packet_bytes_mut};
+ghost use Rattle.wire_tcp.specs.TcpOption.{IsEmittable, option_len, option_text};
+ghost use Rattle.wire_tcp.specs.TcpParts.{fixed_bytes};
+
+pub use super::option::count_ranges;
+use super::{TcpOption, TcpPacketMut};
+use byteorder::{ByteOrder, NetworkEndian};
+
+/// Writes the header up to its options: the ports, the two numbers, the word that holds the
+/// header's length and the flags, the window, and 0 for the checksum and the urgent pointer.
+pub fn write_fixed(
+    packet: &mut TcpPacketMut<'_>,
+    src_port: u16,
+    dst_port: u16,
+    seq_number: u32,
+    ack_number: u32,
+    offset_and_flags: u16,
+    window_len: u16,
+)
+    requires { 20 ≤ length (packet_bytes_mut packet.old) }
+    ensures { let fixed = fixed_bytes src_port dst_port seq_number ack_number offset_and_flags window_len in
+        Becomes packet.old packet.new (fixed ++ drop 20 (packet_bytes_mut packet.old)) }
+{
+    write_pair(
+        &mut packet.buffer[0..8],
+        join(src_port, dst_port),
+        seq_number,
+    );
+    let flow = join(offset_and_flags, window_len);
+    write_pair(&mut packet.buffer[8..16], ack_number, flow);
+    NetworkEndian::write_u32(&mut packet.buffer[16..20], 0);
+}
+
+// Two numbers of 16 bits in one of 32.
+#[tactic(auto, using(crate::proofs::Pairs::joined))]
+fn join(high: u16, low: u16) -> u32
+    ensures { big_bytes 4 result ≡ big_bytes 2 high ++ big_bytes 2 low }
+{
+    (u32::from(high) << 16) + u32::from(low)
+}
+
+// Writes two numbers at once.
+#[tactic(auto, using(crate::proofs::Pairs::paired))]
+fn write_pair(buffer: &mut [u8], high: u32, low: u32)
+    requires { length buffer.old ≡ 8 }
+    ensures { buffer.new ≡ big_bytes 4 high ++ big_bytes 4 low }
+{
+    NetworkEndian::write_u64(buffer, (u64::from(high) << 32) + u64::from(low));
+}
+
+/// Writes an option at a place, and answers the place behind it.
+pub fn write_option(packet: &mut TcpPacketMut<'_>, at: usize, option: &TcpOption<'_>) -> usize
+    requires room { at + option_len option.now ≤ length (packet_bytes_mut packet.old) }
+    requires fits { IsEmittable option.now }
+    ensures end { result ≡ at + option_len option.now }
+    ensures written { Becomes packet.old packet.new (with_range (packet_bytes_mut packet.old) at result (option_text option.now)) }
+{
+    let end = at + option.buffer_len();
+    option.write(&mut packet.buffer[at..end]);
+    end
+}
+
+/// Writes zeros over the bytes from one place up to another.
+pub fn write_zeros(packet: &mut TcpPacketMut<'_>, start: usize, end: usize)
+    requires begins { start ≤ end }
+    requires ends { end ≤ length (packet_bytes_mut packet.old) }
+    ensures { Becomes packet.old packet.new (with_range (packet_bytes_mut packet.old) start end (replicate (end - start) 0)) }
+{
+    packet.buffer[start..end].fill(0);
+}
+
+/// Writes bytes at a place.
+pub fn write_bytes(packet: &mut TcpPacketMut<'_>, start: usize, bytes: &[u8])
+    requires { start + length bytes.now ≤ length (packet_bytes_mut packet.old) }
+    ensures { Becomes packet.old packet.new (with_range (packet_bytes_mut packet.old) start (start + length bytes.now) bytes.now) }
+{
+    let end = start + bytes.len();
+    packet.buffer[start..end].copy_from_slice(bytes);
+}

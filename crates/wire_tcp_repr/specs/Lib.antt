@@ -1,0 +1,2 @@
+pub mod TcpRepr
+pub mod TcpReprText

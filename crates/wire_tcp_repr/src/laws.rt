@@ -1,0 +1,119 @@
+//! What holds by the definitions alone. The functions do nothing when they run.
+
+ghost use Rattle.std.specs.Prelude.{◌≡◌, ◌≢◌, ◌⊎◌, ◌↔◌, ◌+◌, ◌*◌, ◌%◌, ◌<◌, ◌≤◌, ℕ, [], Bool, List, IsTrue, Some, true, length};
+ghost use Rattle.wire_ends.specs.IpAddress.{version_of};
+ghost use Rattle.wire_ends.specs.declared.ip_address.IpAddress.{IpAddress};
+ghost use Rattle.wire_field.specs.Field.{field, with_field};
+ghost use Rattle.wire_tcp.specs.Tcp.{Verifies, header_len, payload_of};
+ghost use Rattle.wire_tcp_repr.specs.TcpRepr.{HasIdleRanges, Reads, bytes_of, header_len_of, header_of, normal, tcp_of};
+
+use crate::tcp::TcpRepr;
+use wire_ends::IpAddress;
+
+/// What is written of a value, in a buffer that is just as long, is read as the value's normal form
+/// with the same payload, where a checksum that is verified was computed.
+pub fn emit_reads_back_tcp(
+    value: TcpRepr<'_>,
+    src_addr: IpAddress,
+    dst_addr: IpAddress,
+    computed: bool,
+    verified: bool,
+)
+    requires header_len { header_len_of (header_of value) ≤ 60 }
+    requires sender { value.src_port ≢ 0 }
+    requires receiver { value.dst_port ≢ 0 }
+    requires family { version_of src_addr ≡ version_of dst_addr }
+    requires checksum { IsTrue verified → IsTrue computed }
+    ensures { let v = header_of value.entry in let payload = value.entry.payload.now in
+        Reads (bytes_of v payload src_addr dst_addr computed []) src_addr dst_addr verified (normal v) payload }
+{}
+
+/// No bytes are read as two values, or with two payloads.
+pub fn reads_once_tcp(
+    bytes: &[u8],
+    src_addr: IpAddress,
+    dst_addr: IpAddress,
+    verified: bool,
+    value: TcpRepr<'_>,
+    other: TcpRepr<'_>,
+)
+    requires value { Reads bytes.now src_addr dst_addr verified (header_of value) value.payload.now }
+    requires other { Reads bytes.now src_addr dst_addr verified (header_of other) other.payload.now }
+    ensures value { header_of value.entry ≡ header_of other.entry }
+    ensures payload { value.entry.payload.now ≡ other.entry.payload.now }
+{}
+
+/// The value that is computed of bytes is the one that they are read as.
+pub fn reading_is_computed_tcp(
+    bytes: &[u8],
+    src_addr: IpAddress,
+    dst_addr: IpAddress,
+    verified: bool,
+    value: TcpRepr<'_>,
+)
+    ensures { let v = header_of value.entry in
+        (tcp_of src_addr dst_addr verified bytes.now ≡ Some v) ↔ Reads bytes.now src_addr dst_addr verified v (payload_of bytes.now) }
+{}
+
+/// The normal form of a normal form is itself. What was read is normal, unless it has ranges and
+/// either no acknowledgement or SACK permitted; then the header of its normal form is shorter.
+pub fn normal_twice_tcp(
+    bytes: &[u8],
+    src_addr: IpAddress,
+    dst_addr: IpAddress,
+    verified: bool,
+    value: TcpRepr<'_>,
+)
+    ensures twice { normal (normal (header_of value.entry)) ≡ normal (header_of value.entry) }
+    ensures read { let v = header_of value.entry in
+        Reads bytes.now src_addr dst_addr verified v value.entry.payload.now → (normal v ≡ v) ⊎ HasIdleRanges v }
+    ensures idle { HasIdleRanges (header_of value.entry) → header_len_of (normal (header_of value.entry)) < header_len_of (header_of value.entry) }
+{}
+
+/// Two normal values that are written as the same bytes, with their checksums, are the same.
+pub fn equal_bytes(value: TcpRepr<'_>, other: TcpRepr<'_>, src_addr: IpAddress, dst_addr: IpAddress)
+    requires value_normal { normal (header_of value) ≡ header_of value }
+    requires value_len { header_len_of (header_of value) ≤ 60 }
+    requires value_sender { value.src_port ≢ 0 }
+    requires value_receiver { value.dst_port ≢ 0 }
+    requires other_normal { normal (header_of other) ≡ header_of other }
+    requires other_len { header_len_of (header_of other) ≤ 60 }
+    requires other_sender { other.src_port ≢ 0 }
+    requires other_receiver { other.dst_port ≢ 0 }
+    requires family { version_of src_addr ≡ version_of dst_addr }
+    requires bytes { bytes_of (header_of value) value.payload.now src_addr dst_addr true [] ≡ bytes_of (header_of other) other.payload.now src_addr dst_addr true [] }
+    ensures value { header_of value.entry ≡ header_of other.entry }
+    ensures payload { value.entry.payload.now ≡ other.entry.payload.now }
+{}
+
+/// The header of a normal value is read as that value, and no header that is read as it, between
+/// any addresses and with a checksum that is verified or not, is shorter.
+pub fn shortest_header(
+    value: TcpRepr<'_>,
+    src_addr: IpAddress,
+    dst_addr: IpAddress,
+    computed: bool,
+    verified: bool,
+)
+    requires normal { normal (header_of value) ≡ header_of value }
+    requires header_len { header_len_of (header_of value) ≤ 60 }
+    requires sender { value.src_port ≢ 0 }
+    requires receiver { value.dst_port ≢ 0 }
+    requires family { version_of src_addr ≡ version_of dst_addr }
+    requires checksum { IsTrue verified → IsTrue computed }
+    ensures read { let v = header_of value.entry in let payload = value.entry.payload.now in
+        let bytes = bytes_of v payload src_addr dst_addr computed [] in
+        Reads bytes src_addr dst_addr verified v payload × (header_len bytes ≡ header_len_of v) }
+    ensures least { let v = header_of value.entry in
+        (bytes payload : List ℕ) (src dst : IpAddress) (checked : Bool) → Reads bytes src dst checked v payload → header_len_of v ≤ header_len bytes }
+{}
+
+/// Where a segment verifies it does not with one aligned word of 16 bits changed to a number that
+/// is not congruent to it modulo 65535.
+pub fn word_changed(bytes: &[u8], src_addr: IpAddress, dst_addr: IpAddress, index: usize, word: u16)
+    requires family { version_of src_addr ≡ version_of dst_addr }
+    requires holds { Verifies src_addr dst_addr bytes.now }
+    requires place { 2 * index + 2 ≤ length bytes.now }
+    requires changed { word % 65535 ≢ field bytes.now (16 * index) 16 % 65535 }
+    ensures { ¬ Verifies src_addr dst_addr (with_field bytes.now (16 * index) 16 word) }
+{}

@@ -1,0 +1,176 @@
+//! What a value of a segment is written as.
+
+ghost use Rattle.std.specs.Prelude.{◌≡◌, ◌+◌, ◌≤◌, ◌++◌, drop, length};
+ghost use Rattle.net_base.specs.Checksum.{computes};
+ghost use Rattle.wire_ends.specs.IpAddress.{version_of};
+ghost use Rattle.wire_field.specs.Field.{with_range};
+ghost use Rattle.wire_tcp.specs.Tcp.{Becomes, packet_bytes_mut};
+ghost use Rattle.wire_tcp.specs.TcpItems.{texts};
+ghost use Rattle.wire_tcp.specs.TcpSeq.{number};
+ghost use Rattle.wire_tcp_repr.specs.TcpRepr.{ack_bits, bytes_of, flag_of, header_bytes, header_len_of, header_of, offset_and_flags, option_bytes, sack_items, segment_size_items, timestamp_items, window_scale_items};
+
+use super::TcpRepr;
+use net_base::ChecksumCapabilities;
+use wire_ends::IpAddress;
+use wire_tcp::{
+    TCP_HEADER_LEN, TcpControl, TcpOption, TcpPacketMut, TcpSeqNumber, TcpTimestampRepr, parts,
+};
+
+// The flag ACK.
+const ACK: u16 = 0x010;
+
+impl TcpRepr<'_> {
+    /// Writes the header and the payload of a segment between two addresses of one version, and
+    /// leaves what follows them. Of the options SACK permitted stands in the place of ranges, which
+    /// are closed up, and written with an acknowledgement only. The checksum is that of the whole
+    /// slice where `caps` says so, else 0.
+    pub fn emit(
+        &self,
+        packet: &mut TcpPacketMut<'_>,
+        src_addr: &IpAddress,
+        dst_addr: &IpAddress,
+        caps: &ChecksumCapabilities,
+    )
+        requires header_len { header_len_of (header_of self.now) ≤ 60 }
+        requires room { header_len_of (header_of self.now) + length self.now.payload.now ≤ length (packet_bytes_mut packet.old) }
+        requires family { version_of src_addr.now ≡ version_of dst_addr.now }
+        ensures { let v = header_of self.now in let payload = self.now.payload.now in
+            let rest = drop (header_len_of v + length payload) (packet_bytes_mut packet.old) in
+            Becomes packet.old packet.new (bytes_of v payload src_addr.now dst_addr.now (computes caps.now.tcp) rest ++ rest) }
+    {
+        let header_len = self.header_len();
+        self.emit_header(packet, header_len);
+        parts::write_bytes(packet, header_len, self.payload);
+        if caps.tcp.tx() {
+            packet.fill_checksum(src_addr, dst_addr);
+        }
+    }
+
+    // Writes the header, without a checksum, and leaves what follows it.
+    fn emit_header(&self, packet: &mut TcpPacketMut<'_>, header_len: usize)
+        requires value { header_len ≡ header_len_of (header_of self.now) }
+        requires most { header_len ≤ 60 }
+        requires room { header_len ≤ length (packet_bytes_mut packet.old) }
+        ensures { Becomes packet.old packet.new (header_bytes (header_of self.now) 0 ++ drop header_len (packet_bytes_mut packet.old)) }
+    {
+        parts::write_fixed(
+            packet,
+            self.src_port,
+            self.dst_port,
+            bits_of(self.seq_number),
+            self.ack_bits(),
+            self.offset_and_flags(header_len),
+            self.window_len,
+        );
+        self.emit_options(packet, header_len);
+    }
+
+    // The acknowledgement number, 0 where there is none.
+    fn ack_bits(&self) -> u32
+        ensures { result ≡ ack_bits (header_of self.now) }
+    {
+        match self.ack_number {
+            Some(number) => bits_of(number),
+            None => 0,
+        }
+    }
+
+    // The header's length in words of 4 octets, above the flags.
+    fn offset_and_flags(&self, header_len: usize) -> u16
+        requires value { header_len ≡ header_len_of (header_of self.now) }
+        requires most { header_len ≤ 60 }
+        ensures { result ≡ offset_and_flags (header_of self.now) }
+    {
+        let offset = (header_len / 4 * 4096) as u16;
+        let ack = if self.ack_number.is_some() { ACK } else { 0 };
+        offset + ack + flag_of(self.control)
+    }
+
+    // Writes the options, and zeros up to the header's length.
+    fn emit_options(&self, packet: &mut TcpPacketMut<'_>, header_len: usize)
+        requires value { header_len ≡ header_len_of (header_of self.now) }
+        requires room { header_len ≤ length (packet_bytes_mut packet.old) }
+        ensures { Becomes packet.old packet.new (with_range (packet_bytes_mut packet.old) 20 header_len (option_bytes (header_of self.now))) }
+    {
+        let sized = self.emit_segment_size(packet, TCP_HEADER_LEN);
+        let scaled = self.emit_window_scale(packet, sized);
+        let acknowledged = self.emit_sack(packet, scaled);
+        let stamped = self.emit_timestamp(packet, acknowledged);
+        parts::write_zeros(packet, stamped, header_len);
+    }
+
+    // Writes the largest segment size at a place, if there is one, and answers the place behind it.
+    fn emit_segment_size(&self, packet: &mut TcpPacketMut<'_>, at: usize) -> usize
+        requires { at + length (texts (segment_size_items self.now.max_seg_size)) ≤ length (packet_bytes_mut packet.old) }
+        ensures end { result ≡ at + length (texts (segment_size_items self.now.max_seg_size)) }
+        ensures written { Becomes packet.old packet.new (with_range (packet_bytes_mut packet.old) at result (texts (segment_size_items self.now.max_seg_size))) }
+    {
+        match self.max_seg_size {
+            Some(size) => parts::write_option(packet, at, &TcpOption::MaxSegmentSize(size)),
+            None => at,
+        }
+    }
+
+    // Writes the window scale at a place, if there is one, and answers the place behind it.
+    fn emit_window_scale(&self, packet: &mut TcpPacketMut<'_>, at: usize) -> usize
+        requires { at + length (texts (window_scale_items self.now.window_scale)) ≤ length (packet_bytes_mut packet.old) }
+        ensures end { result ≡ at + length (texts (window_scale_items self.now.window_scale)) }
+        ensures written { Becomes packet.old packet.new (with_range (packet_bytes_mut packet.old) at result (texts (window_scale_items self.now.window_scale))) }
+    {
+        match self.window_scale {
+            Some(scale) => parts::write_option(packet, at, &TcpOption::WindowScale(scale)),
+            None => at,
+        }
+    }
+
+    // Writes at a place that SACK is permitted, or else the ranges, with an acknowledgement and a
+    // range, and answers the place behind it.
+    fn emit_sack(&self, packet: &mut TcpPacketMut<'_>, at: usize) -> usize
+        requires { at + length (texts (sack_items (header_of self.now))) ≤ length (packet_bytes_mut packet.old) }
+        ensures end { result ≡ at + length (texts (sack_items (header_of self.now))) }
+        ensures written { Becomes packet.old packet.new (with_range (packet_bytes_mut packet.old) at result (texts (sack_items (header_of self.now)))) }
+    {
+        if self.sack_permitted {
+            parts::write_option(packet, at, &TcpOption::SackPermitted)
+        } else if self.ack_number.is_some() && parts::count_ranges(&self.sack_ranges) != 0 {
+            let ranges = self.sack_ranges;
+            parts::write_option(packet, at, &TcpOption::SackRange(ranges))
+        } else {
+            at
+        }
+    }
+
+    // Writes the timestamp at a place, if there is one, and answers the place behind it.
+    fn emit_timestamp(&self, packet: &mut TcpPacketMut<'_>, at: usize) -> usize
+        requires { at + length (texts (timestamp_items self.now.timestamp)) ≤ length (packet_bytes_mut packet.old) }
+        ensures end { result ≡ at + length (texts (timestamp_items self.now.timestamp)) }
+        ensures written { Becomes packet.old packet.new (with_range (packet_bytes_mut packet.old) at result (texts (timestamp_items self.now.timestamp))) }
+    {
+        match self.timestamp {
+            Some(TcpTimestampRepr { tsval, tsecr }) => {
+                parts::write_option(packet, at, &TcpOption::TimeStamp { tsval, tsecr })
+            }
+            None => at,
+        }
+    }
+}
+
+// The number itself, from 0 to 2^32 - 1.
+fn bits_of(seq: TcpSeqNumber) -> u32
+    ensures { result ≡ number seq }
+{
+    seq.0.cast_unsigned()
+}
+
+// The flag that a control sets.
+fn flag_of(control: TcpControl) -> u16
+    ensures { result ≡ flag_of control }
+{
+    match control {
+        TcpControl::None => 0x000,
+        TcpControl::Fin => 0x001,
+        TcpControl::Syn => 0x002,
+        TcpControl::Rst => 0x004,
+        TcpControl::Psh => 0x008,
+    }
+}
