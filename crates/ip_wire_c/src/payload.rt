@@ -73,6 +73,7 @@ fn ipv6_payload<'a>(bytes: &'a [u8], caps: &ChecksumCapabilities) -> Option<&'a 
 }
 
 // The payload of what a packet with this header carries, if it is read; of another protocol all of it.
+#[inline(always)]
 fn transport_payload<'a>(
     header: &IpRepr,
     bytes: &'a [u8],
