@@ -1,12 +1,11 @@
 -- The texts that a segment prints as.
-use Rattle.std.proofs.Common.{ℕ, zero, suc, ◌≡◌, ◌≢◌, ◌+◌, ◌-◌, ◌^◌, ◌<◌, ◌≤◌, ◌==◌, ◌++◌, Bool, List, Option, [], ◌∷◌, Some, None, codes, decimal, drop, flat_map, length, replicate, refl, sym, ap, ◌∙◌, false, true, arith}
+use Rattle.std.proofs.Common.{ℕ, zero, suc, ◌≡◌, ◌≢◌, ◌-◌, ◌^◌, ◌<◌, ◌≤◌, ◌==◌, ◌++◌, Bool, List, Option, [], ◌∷◌, Some, None, codes, decimal, flat_map, length, replicate, refl, sym, ap, ◌∙◌, false, true, arith}
 use Rattle.std.specs.Fmt.{◌++?◌, char_count, comma_space, debug_items, debug_list, debug_option, digits, format_spec, padded_integral}
 use Rattle.std.specs.Option.{option_map_or}
 use Rattle.std.specs.Prelude.{if◌then◌else◌}
 use Rattle.std.proofs.lemmas.Bool.Decides.{nat_tests}
-use Rattle.std.proofs.lemmas.Bool.{eq-eqb, false_from_ne_true, eqb-true}
+use Rattle.std.proofs.lemmas.Bool.{false_from_ne_true, eqb-true}
 use Rattle.std.proofs.lemmas.List.{append-nil}
-use Rattle.byteorder.specs.Endian.{big_number}
 use Rattle.wire_field.specs.Field.{field}
 use Rattle.wire_tcp.specs.Tcp.{HasLengths, has_lengths, header_len, options_of}
 use Rattle.wire_tcp.specs.TcpItems.{IsItem, Item, first_item, is_timestamp, text}
@@ -14,7 +13,7 @@ use Rattle.wire_tcp.specs.TcpOption.{BeginsNothing, IsReading}
 use Rattle.wire_tcp.specs.TcpText.{fields_text, flags_text, hex_word, item_text, numbers_text, options_text, options_text_within, packet_text, ports_text, range_text, ranges_text, shown}
 use Rattle.wire_tcp.specs.declared.tcp.option.TcpOption.{TcpOption}
 use Rattle.wire_tcp.specs.declared.tcp.option.TcpOption.TheVariants.{EndOfList, NoOperation, MaxSegmentSize, WindowScale, SackPermitted, SackRange, TimeStamp, Unknown}
-use Rattle.wire_tcp.proofs.FirstItems.{Leads, Leads-first_item, first_item-Leads, first_item-None}
+use Rattle.wire_tcp.proofs.FirstItems.{Leads-first_item, first_item-Leads, first_item-None}
 use Rattle.wire_tcp.proofs.OptionLists.{head-text, nil-text, shorter}
 use Rattle.wire_tcp.proofs.Summaries.{and_left, and_right, scale_is}
 

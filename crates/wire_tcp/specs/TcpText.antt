@@ -1,5 +1,5 @@
 -- The texts that TCP segments print as.
-use Rattle.std.specs.Prelude.{ℕ, zero, suc, ◌++◌, ◌==◌, ◌&&◌, ◌-◌, nat_le, if◌then◌else◌, Bool, List, [], ◌∷◌, codes, decimal, length, replicate, Option, Some, None}
+use Rattle.std.specs.Prelude.{ℕ, zero, suc, ◌++◌, ◌==◌, ◌-◌, if◌then◌else◌, List, [], ◌∷◌, codes, decimal, length, replicate, Option, Some, None}
 use Rattle.std.specs.List.{join_by}
 use Rattle.std.specs.Option.{option_map_or}
 use Rattle.byteorder.specs.Endian.{big_number}

@@ -1,12 +1,12 @@
 -- The values of TCP segments (RFC 9293, section 3.1; options by RFC 2018 and RFC 7323).
-use Rattle.std.specs.Prelude.{ℕ, zero, suc, ◌≡◌, ◌≢◌, ◌⊎◌, ◌==◌, ◌&&◌, ◌||◌, not, nat_le, nat_lt, slice_index, if◌then◌else◌, Bool, IsTrue, is_none, is_some, IfSome, ◌+◌, ◌-◌, ◌*◌, ◌/◌, ◌^◌, ◌%◌, ◌<◌, FitsSigned, min, Option, Some, None, List, [], ◌∷◌, ◌++◌, count_by, drop, length, map, replicate, take}
+use Rattle.std.specs.Prelude.{ℕ, zero, suc, ◌≡◌, ◌≢◌, ◌⊎◌, ◌==◌, ◌&&◌, ◌||◌, not, if◌then◌else◌, Bool, IsTrue, is_none, is_some, IfSome, ◌+◌, ◌-◌, ◌*◌, ◌/◌, ◌^◌, ◌<◌, FitsSigned, min, Option, Some, None, List, [], ◌∷◌, ◌++◌, count_by, length, map, replicate}
 use Rattle.std.specs.Int.{cast_signed, w32}
 use Rattle.std.specs.List.{AllByRecursion, filter_map}
 use Rattle.std.specs.Option.{option_and_then, option_map, option_map_or}
 use Rattle.byteorder.specs.Endian.{big_bytes}
 use Rattle.wire_ends.specs.declared.ip_address.IpAddress.{IpAddress}
 use Rattle.wire_field.specs.Field.{field}
-use Rattle.wire_tcp.specs.Tcp.{HasLengths, Verifies, has_lengths, header_len, options_of, payload_of, segment_sum}
+use Rattle.wire_tcp.specs.Tcp.{HasLengths, Verifies, has_lengths, options_of, payload_of, segment_sum}
 use Rattle.wire_tcp.specs.TcpItems.{IsOptionList, Item, first_item, item, sack_permitted_of, sack_ranges_of, segment_size_of, texts, timestamp_of, window_scale_of}
 use Rattle.wire_tcp.specs.TcpOption.{range_bytes}
 use Rattle.wire_tcp.specs.TcpSeq.{number}

@@ -1,4 +1,4 @@
-use Rattle.std.proofs.Common.{ℕ, ◌≡◌, ◌<◌, ◌≤◌, ◌++◌, [], ◌∷◌, List, append_assoc, ap, codes, length, subst, sym, ◌∙◌, arith, rules}
+use Rattle.std.proofs.Common.{ℕ, ◌≡◌, ◌<◌, ◌≤◌, ◌++◌, ◌∷◌, List, append_assoc, ap, codes, length, subst, sym, ◌∙◌, arith, rules}
 use Rattle.std.proofs.lemmas.Grind.{common_steps, put_two}
 use Rattle.std.proofs.lemmas.List.{append-nil}
 use Rattle.std.specs.Fmt.{HasWritten}
@@ -8,7 +8,6 @@ use Rattle.wire_tcp.proofs.TcpTexts.{options_text-empty, options_text-item, opti
 use Rattle.wire_tcp.specs.TcpOption.{Begins}
 use Rattle.wire_tcp.specs.TcpText.{item_text, options_text, shown}
 use Rattle.wire_tcp.specs.declared.tcp.option.TcpOption.{TcpOption}
-use Rattle.wire_tcp.specs.declared.tcp.option.TcpOption.TheVariants.{EndOfList}
 use Rattle.wire_tcp.proofs.tcp.text.OptionsDisplay.fmt.Goals as goal
 
 pub loop-rest-preserved : goal.loop-rest-preserved

@@ -1,6 +1,6 @@
-use Rattle.std.proofs.Common.{◌≡◌, ℕ, ◌++◌, List, codes, ap, ap₂, subst, sym, ◌∙◌, rules}
+use Rattle.std.proofs.Common.{◌≡◌, ℕ, ◌++◌, List, ap, ap₂, subst, sym, ◌∙◌, rules}
 use Rattle.std.proofs.lemmas.Grind.{put_four}
-use Rattle.std.specs.Fmt.{HasWritten, WritesOnOk}
+use Rattle.std.specs.Fmt.{WritesOnOk}
 use Rattle.std.specs.Result.{IsOk}
 use Rattle.wire_field.specs.Field.{field}
 use Rattle.wire_tcp.proofs.TcpTexts.{packet_text-none, packet_text-some}
