@@ -1,8 +1,9 @@
 -- What the calls for C answer, and what they write.
-use Rattle.std.specs.Prelude.{ℕ, ◌≡◌, ◌+◌, ◌-◌, ◌≤◌, ◌<◌, ◌⊎◌, ◌&&◌, ◌==◌, not, nat_le, if◌then◌else◌, ◌++◌, Bool, List, [], length, drop, map, replicate, take, Option, None, Some, MatchOption}
+use Rattle.std.specs.Prelude.{ℕ, ◌≡◌, ◌+◌, ◌-◌, ◌≤◌, ◌<◌, ◌⊎◌, ◌&&◌, ◌==◌, not, nat_le, nat_lt, if◌then◌else◌, ◌++◌, Bool, List, [], length, drop, map, slice_get, Option, None, Some, MatchOption}
 use mir.Syntax.{w32}
 use Rattle.std.specs.Bool.{then_some}
 use Rattle.std.specs.Int.{to_be_bytes}
+use Rattle.std.specs.List.{range_with_len}
 use Rattle.std.specs.Option.{option_and_then, option_map, option_map_or}
 use Rattle.ip_wire.specs.Arp.{arp_of, operation_of}
 use Rattle.ip_wire.specs.Ethernet.{ethernet_of}
@@ -99,9 +100,13 @@ abbrev pub control_of : ℕ → TcpControl
 control_of n =
     if n == 1 then control.Psh else if n == 2 then control.Syn else if n == 3 then control.Fin else if n == 4 then control.Rst else control.None
 
+-- range k, where it is one of the first n
+abbrev pub range_at : ℕ → List SackRange → ℕ → Option (ℕ × ℕ)
+range_at n ranges k = if nat_lt k n then option_map (λ r. (r.left, r.right)) (slice_get ranges k) else None
+
 -- the first n ranges, and none in the other places
 abbrev pub first_ranges : ℕ → List SackRange → List (Option (ℕ × ℕ))
-first_ranges n ranges = map (λ r. Some (r.left, r.right)) (take n ranges) ++ replicate (length ranges - n) None
+first_ranges n ranges = map (range_at n ranges) (range_with_len 0 (length ranges))
 
 -- a value where the number is not 0
 abbrev pub where_set : {T : Type 0} → ℕ → T → Option T
@@ -109,7 +114,7 @@ where_set n x = then_some (not (n == 0)) x
 
 -- whether the fields name a control, and so many ranges as there are places for
 abbrev pub is_header : TcpFields → Bool
-is_header f = nat_le f.control 4 && nat_le f.sack_range_count 3
+is_header f = nat_le f.control 4 && nat_le f.sack_range_count (length f.sack_ranges)
 
 -- the values of a TCP header that the fields say
 abbrev pub tcp_header : TcpFields → TcpHeader

@@ -12,7 +12,6 @@ ghost use Rattle.ip_wire.specs.declared.IpAddress.TheVariants.{Ipv4, Ipv6};
 ghost use Rattle.ip_wire_c.specs.Calls.{all_or_none, arp_value, emitted, emitted_len, innermost_payload, ipv4_header, ipv6_header, is_rebuilt, IsPrinted, length_or_none, sent, sent_len, sent_segment, sent_segment_len, udp_header};
 
 mod arp;
-mod ip;
 mod payload;
 mod rebuild;
 mod tcp;
@@ -21,8 +20,8 @@ mod text;
 mod udp;
 
 use ip_wire::{
-    ArpRepr, EthernetAddress, IpAddress, IpProtocol, IpRepr, Ipv4Address, Ipv4Repr, Ipv6Address,
-    Ipv6Repr, UdpRepr, checksum,
+    ArpRepr, EthernetAddress, IPV4_HEADER_LEN, IPV6_HEADER_LEN, IpAddress, IpProtocol, Ipv4Address,
+    Ipv4PacketMut, Ipv4Repr, Ipv6Address, Ipv6PacketMut, Ipv6Repr, UdpRepr, checksum,
 };
 use net_base::ChecksumCapabilities;
 use tcp_fields::TcpFields;
@@ -88,6 +87,9 @@ pub extern "C" fn lk_emit_ipv4(
     ensures length { result ≡ emitted_len (ipv4_header src_addr dst_addr protocol hop_limit payload_len) (length out.old) }
     ensures bytes { out.new ≡ emitted (ipv4_header src_addr dst_addr protocol hop_limit payload_len) (not (computed == 0)) out.old }
 {
+    if payload_len > 65_515 || out.len() < IPV4_HEADER_LEN {
+        return 0;
+    }
     let header = Ipv4Repr {
         src_addr: Ipv4Address::from_octets(src_addr.to_be_bytes()),
         dst_addr: Ipv4Address::from_octets(dst_addr.to_be_bytes()),
@@ -95,7 +97,11 @@ pub extern "C" fn lk_emit_ipv4(
         payload_len,
         hop_limit,
     };
-    ip::send(IpRepr::Ipv4(header), &capabilities(computed), out)
+    header.emit(
+        &mut Ipv4PacketMut::new_unchecked(out),
+        &capabilities(computed),
+    );
+    IPV4_HEADER_LEN
 }
 
 /// Writes an IPv6 header for so long a payload to the front of `out`, and answers its length: 0 where
@@ -112,6 +118,9 @@ pub extern "C" fn lk_emit_ipv6(
     ensures length { result ≡ emitted_len (ipv6_header src_addr.now dst_addr.now next_header hop_limit payload_len) (length out.old) }
     ensures bytes { out.new ≡ emitted (ipv6_header src_addr.now dst_addr.now next_header hop_limit payload_len) true out.old }
 {
+    if payload_len > 65_535 || out.len() < IPV6_HEADER_LEN {
+        return 0;
+    }
     let header = Ipv6Repr {
         src_addr: Ipv6Address::from_octets(*src_addr),
         dst_addr: Ipv6Address::from_octets(*dst_addr),
@@ -119,7 +128,8 @@ pub extern "C" fn lk_emit_ipv6(
         payload_len,
         hop_limit,
     };
-    ip::send(IpRepr::Ipv6(header), &ChecksumCapabilities::default(), out)
+    header.emit(&mut Ipv6PacketMut::new_unchecked(out));
+    IPV6_HEADER_LEN
 }
 
 /// Writes a UDP packet with this payload, to be carried by IPv4 between two addresses, to the front of

@@ -15,6 +15,7 @@ const MAX_HEADER_LEN: usize = 60;
 
 /// Writes a segment between two addresses to the front of `out`, and answers its length: 0 where it
 /// doesn't fit, or there is no such header, and then nothing is written.
+#[inline(always)]
 pub fn send(
     header: &TcpFields,
     src_addr: IpAddress,
@@ -37,6 +38,7 @@ pub fn send(
 
 /// Writes a segment between two addresses to the front of `out`, and answers its length. None where it
 /// doesn't fit.
+#[inline(always)]
 pub fn emit(
     segment: &TcpRepr<'_>,
     src_addr: IpAddress,

@@ -1,8 +1,8 @@
 //! The header of a TCP segment as C gives it.
 
-ghost use Rattle.std.specs.Prelude.{◌≡◌, ◌≤◌, ◌<◌, MatchOption, false, true};
+ghost use Rattle.std.specs.Prelude.{◌≡◌, ◌≤◌, ◌<◌, MatchOption, false, length, true};
 ghost use Rattle.ip_wire.specs.TcpRepr.{header_of};
-ghost use Rattle.ip_wire_c.specs.Calls.{control_of, first_ranges, is_header, tcp_header, where_set};
+ghost use Rattle.ip_wire_c.specs.Calls.{control_of, first_ranges, is_header, range_at, tcp_header, where_set};
 
 use ip_wire::{SACK_BLOCKS, TcpControl, TcpRepr, TcpSeqNumber, TcpTimestampRepr};
 
@@ -86,19 +86,30 @@ impl TcpFields {
 
     // The ranges that are there, in front of the places without one.
     fn sack_ranges(&self) -> Option<[Option<(u32, u32)>; SACK_BLOCKS]>
-        ensures { MatchOption result (3 < self.now.sack_range_count)
-            (λ ranges. (self.now.sack_range_count ≤ 3) × (ranges ≡ first_ranges self.now.sack_range_count self.now.sack_ranges)) }
+        ensures { MatchOption result (length self.now.sack_ranges < self.now.sack_range_count)
+            (λ ranges. (self.now.sack_range_count ≤ length self.now.sack_ranges) × (ranges ≡ first_ranges self.now.sack_range_count self.now.sack_ranges)) }
     {
-        let [first, second, third] = self.sack_ranges;
-        let first = Some((first.left, first.right));
-        let second = Some((second.left, second.right));
-        let third = Some((third.left, third.right));
-        match self.sack_range_count {
-            0 => Some([None; SACK_BLOCKS]),
-            1 => Some([first, None, None]),
-            2 => Some([first, second, None]),
-            3 => Some([first, second, third]),
-            _ => None,
+        let count = usize::from(self.sack_range_count);
+        if count > SACK_BLOCKS {
+            return None;
+        }
+        let mut ranges = [None; SACK_BLOCKS];
+        for i in 0..SACK_BLOCKS {
+            ranges[i] = self.range_at(i);
+        }
+        Some(ranges)
+    }
+
+    // Range `i`, if it is there.
+    fn range_at(&self, i: usize) -> Option<(u32, u32)>
+        requires { i < length self.now.sack_ranges }
+        ensures { result ≡ range_at self.now.sack_range_count self.now.sack_ranges i }
+    {
+        if i < usize::from(self.sack_range_count) {
+            let range = self.sack_ranges[i];
+            Some((range.left, range.right))
+        } else {
+            None
         }
     }
 }

@@ -26,6 +26,7 @@ pub enum IpProtocol {
 impl From<u8> for IpProtocol {
     ghost from_gives = { λ n p. p ≡ protocol_of n };
 
+    #[inline(always)]
     fn from(value: u8) -> IpProtocol {
         match value {
             0 => IpProtocol::HopByHop,
@@ -48,6 +49,7 @@ impl From<u8> for IpProtocol {
 impl From<IpProtocol> for u8 {
     ghost from_gives = { λ p n. n ≡ number_of p };
 
+    #[inline(always)]
     fn from(value: IpProtocol) -> u8 {
         match value {
             IpProtocol::HopByHop => 0,

@@ -166,6 +166,7 @@ impl<B: Octets> Ipv4View<B> {
     }
 
     /// The protocol of the payload.
+    #[inline(always)]
     pub fn next_header(&self) -> IpProtocol
         requires { 10 ≤ length (B.octets (packet_slice self.now)) }
         ensures { result ≡ protocol_of (field (B.octets (packet_slice self.now)) 72 8) }

@@ -31,6 +31,7 @@ pub struct Ipv4Repr {
 impl Ipv4Repr {
     /// The values of a packet's header. Options are read over, and a fragment is read as any packet.
     /// The header's checksum is verified where `caps` says so.
+    #[inline(always)]
     pub fn parse(packet: &Ipv4Packet<'_>, caps: &ChecksumCapabilities) -> Result<Ipv4Repr>
         ensures reads { (v : Ipv4Repr) → (result ≡ Ok v) ↔ Reads (packet_bytes packet.now) (verifies caps.now.ipv4) v }
         ensures value { ipv4_of (verifies caps.now.ipv4) (packet_bytes packet.now) ≡ result_ok result }
@@ -61,6 +62,7 @@ impl Ipv4Repr {
 
     /// Writes the header, and leaves what follows it. The flag "don't fragment" is set, and the
     /// checksum is computed where `caps` says so, else 0.
+    #[inline(always)]
     pub fn emit(&self, packet: &mut Ipv4PacketMut<'_>, caps: &ChecksumCapabilities)
         requires room { IPV4_HEADER_LEN ≤ length (packet_bytes_mut packet.old) }
         requires payload_len { self.now.payload_len ≤ max_payload_len }

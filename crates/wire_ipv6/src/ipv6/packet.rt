@@ -117,6 +117,7 @@ impl<B: Octets> Ipv6View<B> {
     }
 
     /// The protocol of the payload, or the kind of the extension header that it begins with.
+    #[inline(always)]
     pub fn next_header(&self) -> IpProtocol
         requires { 7 ≤ length (B.octets (packet_slice self.now)) }
         ensures { result ≡ protocol_of (field (B.octets (packet_slice self.now)) 48 8) }

@@ -28,6 +28,7 @@ pub struct Ipv6Repr {
 
 impl Ipv6Repr {
     /// The values of a packet's header. Traffic class and flow label are read over.
+    #[inline(always)]
     pub fn parse(packet: &Ipv6Packet<'_>) -> Result<Ipv6Repr>
         ensures reads { (v : Ipv6Repr) → (result ≡ Ok v) ↔ Reads (packet_bytes packet.now) v }
         ensures value { ipv6_of (packet_bytes packet.now) ≡ result_ok result }

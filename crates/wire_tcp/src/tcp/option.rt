@@ -100,6 +100,7 @@ impl<'a> TcpOption<'a> {
     }
 
     /// How many octets the option is written as. Of the end mark it is 1, without padding.
+    #[inline(always)]
     pub fn buffer_len(&self) -> usize
         ensures { result ≡ option_len self.now }
     {
@@ -137,6 +138,7 @@ impl<'a> TcpOption<'a> {
     }
 
     // Writes the option over all of the bytes.
+    #[inline(always)]
     pub(super) fn write(&self, buffer: &mut [u8])
         requires len { length buffer.old ≡ option_len self.now }
         requires fits { IsEmittable self.now }
@@ -221,7 +223,11 @@ pub fn count_ranges(ranges: &[Option<(u32, u32)>; SACK_BLOCKS]) -> usize
     ensures count { result ≡ count_by is_some ranges.now }
     ensures bound { result ≤ SACK_BLOCKS }
 {
-    ranges.iter().filter(|range| range.is_some()).count()
+    let mut count = 0;
+    for range in ranges {
+        count += usize::from(range.is_some());
+    }
+    count
 }
 
 // The length of an option with these data.

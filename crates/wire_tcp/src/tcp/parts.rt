@@ -54,6 +54,7 @@ fn write_pair(buffer: &mut [u8], high: u32, low: u32)
 }
 
 /// Writes an option at a place, and answers the place behind it.
+#[inline(always)]
 pub fn write_option(packet: &mut TcpPacketMut<'_>, at: usize, option: &TcpOption<'_>) -> usize
     requires room { at + option_len option.now ≤ length (packet_bytes_mut packet.old) }
     requires fits { IsEmittable option.now }

@@ -49,6 +49,7 @@ impl<'a> TcpRepr<'a> {
     /// more than one of SYN, FIN and RST, and a malformed option before an end mark are refused. Of
     /// each kind the last option counts, a window scale above 14 is 14, and all other flags are
     /// read over. The checksum is verified where `caps` says so.
+    #[inline(always)]
     pub fn parse(
         packet: &TcpPacket<'a>,
         src_addr: &IpAddress,
@@ -148,6 +149,7 @@ impl<'a> TcpRepr<'a> {
 }
 
 // What the flags ask for.
+#[inline(always)]
 fn control_of(packet: &TcpPacket<'_>) -> Result<TcpControl>
     requires { 14 ≤ length (packet_bytes packet.now) }
     ensures ok { IfOk result (HasControl (packet_bytes packet.now)) }

@@ -25,6 +25,7 @@ pub struct UdpRepr {
 impl UdpRepr {
     /// The values of the header of a packet between two addresses of one version. A destination port
     /// of 0 is refused. The checksum is verified where `caps` says so: over IPv4 it may be left out.
+    #[inline(always)]
     pub fn parse(
         packet: &UdpPacket<'_>,
         src_addr: &IpAddress,
@@ -123,6 +124,7 @@ impl UdpRepr {
 }
 
 // Whether the checksum was computed and holds, or was left out, as over IPv4 it may be.
+#[inline(always)]
 fn has_checksum(packet: &UdpPacket<'_>, src_addr: &IpAddress, dst_addr: &IpAddress) -> bool
     requires lengths { HasLengths (packet_bytes packet.now) }
     requires family { version_of src_addr.now ≡ version_of dst_addr.now }
