@@ -26,7 +26,7 @@ total-joins a b s t even p q =
 -- the total of a pseudo header from those of its addresses
 pub total-pseudo_header : (src dst : List ℕ) (protocol : IpProtocol) (len s t number low : ℕ) → length src % 2 ≡ 0 → length dst % 2 ≡ 0
     → number ≡ number_of protocol → number < 256 → low ≡ len % 65536 → residue (256 * s) ≡ sum_of_bytes src → residue (256 * t) ≡ sum_of_bytes dst
-    → residue (256 * (s + t + (number % 256 * 256 + number / 256 % 256) + (low % 256 * 256 + low / 256 % 256))) ≡ sum_of_bytes (pseudo_header_bytes src dst protocol len)
+    → residue (256 * (s + t + ((number % 256 * 256 + number / 256 % 256) + (low % 256 * 256 + low / 256 % 256)))) ≡ sum_of_bytes (pseudo_header_bytes src dst protocol len)
 unfolding words
 total-pseudo_header src dst protocol len s t number low even_src even_dst n byte l p q =
     let tail = 0 ∷ number_of protocol ∷ len / 256 % 256 ∷ len % 256 ∷ [] in
@@ -36,8 +36,7 @@ total-pseudo_header src dst protocol len s t number low even_src even_dst n byte
     (residue-word number (omega arith)) (residue-word low (omega (arith, l))) ∙ ap residue (sym words_of_tail)
     in
     let even : length (src ++ dst) % 2 ≡ 0 = simp length-append (omega arith) in
-    ap residue (omega arith)
-    ∙ total-joins (src ++ dst) tail (s + t) ((number % 256 * 256 + number / 256 % 256) + (low % 256 * 256 + low / 256 % 256)) even (total-joins src dst s t even_src p q) last
+    total-joins (src ++ dst) tail (s + t) ((number % 256 * 256 + number / 256 % 256) + (low % 256 * 256 + low / 256 % 256)) even (total-joins src dst s t even_src p q) last
 
 -- of a length only the low 16 bits count
 pseudo_header-low : (src dst : List ℕ) (protocol : IpProtocol) (len : ℕ) → pseudo_header_bytes src dst protocol (len % 65536) ≡ pseudo_header_bytes src dst protocol len

@@ -1,5 +1,5 @@
 -- Words of joined bytes, and of the chunks of a slice.
-use Rattle.std.proofs.Common.{◌≡◌, ℕ, zero, suc, ◌+◌, ◌*◌, ◌%◌, ◌<◌, ◌≤◌, List, [], ◌∷◌, ◌++◌, length, take, drop, get_or, sum, refl, sym, ◌∙◌, ap, zero-add, arith, w16, w64}
+use Rattle.std.proofs.Common.{◌≡◌, ℕ, zero, suc, ◌+◌, ◌*◌, ◌%◌, ◌<◌, ◌≤◌, List, [], ◌∷◌, ◌++◌, length, take, drop, get_or, sum, refl, sym, ◌∙◌, ap, zero-add, arith, w16, w32, w64}
 use Rattle.std.specs.Int.{from_le_bytes}
 use Rattle.std.specs.Simd.{first_chunks}
 use Rattle.std.proofs.lemmas.List.{drop-drop, length-drop, length-take-le, take-append-drop}
@@ -19,7 +19,7 @@ pub sum-words-append : (a b : List ℕ) → length a % 2 ≡ 0 → sum (words (a
 sum-words-append a b e = ap sum (words-append a b e) ∙ sum_by-append (λ x. x) (words a) (words b)
 
 -- eight bytes as one number, low byte first
-eight : (a b c d e f g h : ℕ) → residue (256 * (a + b * 256 + c * 65536 + d * 16777216 + e * 4294967296 + f * 1099511627776 + g * 281474976710656 + h * 72057594037927936))
+pub eight : (a b c d e f g h : ℕ) → residue (256 * (a + b * 256 + c * 65536 + d * 16777216 + e * 4294967296 + f * 1099511627776 + g * 281474976710656 + h * 72057594037927936))
     ≡ residue (0 + (256 * a + b) + (256 * c + d) + (256 * e + f) + (256 * g + h))
 eight a b c d e f g h =
     residue-same (256 * (a + b * 256 + c * 65536 + d * 16777216 + e * 4294967296 + f * 1099511627776 + g * 281474976710656 + h * 72057594037927936))
@@ -39,6 +39,17 @@ words-of_8 (a ∷ b ∷ c ∷ d ∷ e ∷ []) l = absurd (omega arith)
 words-of_8 (a ∷ b ∷ c ∷ d ∷ e ∷ f ∷ []) l = absurd (omega arith)
 words-of_8 (a ∷ b ∷ c ∷ d ∷ e ∷ f ∷ g ∷ []) l = absurd (omega arith)
 words-of_8 (a ∷ b ∷ c ∷ d ∷ e ∷ f ∷ g ∷ h ∷ x ∷ xs) l = absurd (omega arith)
+
+-- four bytes
+pub words-of_4 : (xs : List ℕ) → length xs ≡ 4 → residue (256 * from_le_bytes w32 xs) ≡ residue (sum (words xs))
+unfolding words
+words-of_4 (a ∷ b ∷ c ∷ d ∷ []) l =
+    residue-same (256 * (a + b * 256 + c * 65536 + d * 16777216)) (0 + (256 * a + b) + (256 * c + d)) 0 (b + 256 * c + 65537 * d) (omega arith) (λ z. omega arith) (λ z. omega arith)
+words-of_4 [] l = absurd (omega arith)
+words-of_4 (a ∷ []) l = absurd (omega arith)
+words-of_4 (a ∷ b ∷ []) l = absurd (omega arith)
+words-of_4 (a ∷ b ∷ c ∷ []) l = absurd (omega arith)
+words-of_4 (a ∷ b ∷ c ∷ d ∷ e ∷ xs) l = absurd (omega arith)
 
 -- two bytes
 two : (a b : ℕ) → residue (256 * (a + b * 256)) ≡ residue (0 + (256 * a + b))

@@ -8,4 +8,5 @@ returns c =
     let src : length (octets_of c.args.src_addr) % 2 ≡ 0 = search rules in
     let dst : length (octets_of c.args.dst_addr) % 2 ≡ 0 = search rules in
     c.finish.ensures
-    ∙ total-with_pseudo_header c.args.src_addr c.args.dst_addr c.args.next_header c.args.packet.now _ _ src dst c.pseudo_header_total.ensures.value c.total.ensures.value
+    ∙ c.around.ensures
+    ∙ total-with_pseudo_header c.args.src_addr c.args.dst_addr c.args.next_header c.args.packet.now _ _ src dst c.pseudo_header_total-header.ensures c.total.ensures

@@ -1,6 +1,6 @@
 use Rattle.std.proofs.Common.{◌≡◌, ◌+◌, ◌*◌, ◌/◌, ◌%◌, sym, ◌∙◌, arith}
 use Rattle.wire_checksum.proofs.Residues.{residue-bound, residue-swap}
-use Rattle.wire_checksum.proofs.checksum.finish.Goals as goal
+use Rattle.wire_checksum.proofs.totals.finish.Goals as goal
 
 pub returns : goal.returns
 returns c =

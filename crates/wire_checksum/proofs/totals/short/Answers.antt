@@ -2,7 +2,7 @@ use Rattle.std.proofs.Common.{◌≡◌, ◌+◌, ◌*◌, ◌/◌, length, sum,
 use Rattle.std.specs.Int.{from_le_bytes}
 use Rattle.wire_checksum.specs.WordSum.{residue, words}
 use Rattle.wire_checksum.proofs.WordLists.{words-of_2, chunk-step, chunks-end, words-of_0, words-of_1}
-use Rattle.wire_checksum.proofs.checksum.tail.Goals as goal
+use Rattle.wire_checksum.proofs.totals.short.Goals as goal
 
 pub loop-pair-init : goal.loop-pair-init
 unfolding words
@@ -18,15 +18,15 @@ loop-pair-preserved c =
           (c.from-sum.ensures ∙ c.from_le_bytes.ensures) c.loop-pair.invariant.so_far;
     }
 
-pub returns-in-len1-clause-value : goal.returns-in-len1-clause-value
-returns-in-len1-clause-value c =
+pub returns-in-len1 : goal.returns-in-len1
+returns-in-len1 c =
     let bytes = c.args.bytes.now in
     let rest = c.as_chunks.result.1.now in
     let last : sum (words rest) ≡ 256 * c.from.result = words-of_1 rest (omega arith) ∙ ap (λ n. 256 * n) (sym c.from.ensures) in
     chunks-end 2 (length bytes / 2 * 2) c.loop-pair.pair-index bytes rest c.loop-pair.sum c.from.result (omega arith) (omega arith) (omega arith) c.as_chunks.ensures.back c.loop-pair.invariant.so_far (ap residue (sym last))
 
-pub returns-in_default-clause-value : goal.returns-in_default-clause-value
-returns-in_default-clause-value c =
+pub returns-in_default : goal.returns-in_default
+returns-in_default c =
     let bytes = c.args.bytes.now in
     let rest = c.as_chunks.result.1.now in
     ap (λ n. residue (256 * n)) (sym (add-zero c.loop-pair.sum)) ∙ chunks-end 2 (length bytes / 2 * 2) c.loop-pair.pair-index bytes rest c.loop-pair.sum 0 (omega arith) (omega arith) (omega arith) c.as_chunks.ensures.back c.loop-pair.invariant.so_far (ap residue (sym (words-of_0 rest (omega arith))))

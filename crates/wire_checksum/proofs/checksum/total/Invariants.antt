@@ -1,9 +1,0 @@
-use Rattle.std.proofs.Common.{◌≡◌, ◌≤◌, ◌*◌, take, sum}
-use Rattle.wire_checksum.specs.WordSum.{residue, words}
-use Rattle.wire_checksum.proofs.checksum.total.Given as goal
-
-abbrev pub invariant-loop-chunk : goal.invariant-loop-chunk
-invariant-loop-chunk l = record {
-  small : l.sum ≤ 18446744073709551615 * l.chunk-index;
-  so_far : residue (256 * l.sum) ≡ residue (sum (words (take (l.chunk-index * 8) l.bytes)));
-}
