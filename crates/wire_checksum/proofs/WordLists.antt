@@ -83,19 +83,29 @@ sum-words-chunk n i j xs e is h =
 pub sum-words-split : (i : ℕ) (xs : List ℕ) → i % 2 ≡ 0 → i ≤ length xs → sum (words xs) ≡ sum (words (take i xs)) + sum (words (drop i xs))
 sum-words-split i xs e h = ap (λ l. sum (words l)) (sym (take-append-drop i xs)) ∙ sum-words-append (take i xs) (drop i xs) (rw (length-take-le i xs h) e)
 
--- one more chunk of n bytes, read as the number w
+-- one more chunk of n bytes, read as the number w, where the total began with the sum z
+pub chunk-more : (n k : ℕ) (bytes : List ℕ) (chunks : List (List ℕ)) (number : List ℕ → ℕ) (z i j s w : ℕ) → chunks ≡ first_chunks n k bytes → i < k → (i * n) % 2 ≡ 0 → j ≡ i * n + n → j ≤ length bytes
+    → ((xs : List ℕ) → length xs ≡ n → residue (256 * number xs) ≡ residue (sum (words xs)))
+    → w ≡ number (get_or chunks i [])
+    → residue (256 * s) ≡ residue (z + sum (words (take (i * n) bytes)))
+    → residue (256 * (s + w)) ≡ residue (z + sum (words (take j bytes)))
+chunk-more n k bytes chunks number z i j s w cut below even next room reads is so_far =
+    let part = take n (drop (i * n) bytes) in
+    let at : get_or chunks i [] ≡ part = ap (λ cs. get_or cs i []) cut ∙ chunk-at n k i bytes [] below in
+    let long : length part ≡ n = length-take-le n (drop (i * n) bytes) (rw length-drop (omega arith)) in
+    let word : residue (256 * w) ≡ residue (sum (words part)) = ap (λ m. residue (256 * m)) (is ∙ ap number at) ∙ reads part long in
+    let more = sum-words-chunk n (i * n) j bytes even next room in
+    ap residue (mul-add 256 s w) ∙ residue-add (256 * s) (z + sum (words (take (i * n) bytes))) (256 * w) (sum (words part)) so_far word
+    ∙ ap residue (omega (arith, more))
+
+-- the same where it began with nothing
 pub chunk-step : (n k : ℕ) (bytes : List ℕ) (chunks : List (List ℕ)) (number : List ℕ → ℕ) (i j s w : ℕ) → chunks ≡ first_chunks n k bytes → i < k → (i * n) % 2 ≡ 0 → j ≡ i * n + n → j ≤ length bytes
     → ((xs : List ℕ) → length xs ≡ n → residue (256 * number xs) ≡ residue (sum (words xs)))
     → w ≡ number (get_or chunks i [])
     → residue (256 * s) ≡ residue (sum (words (take (i * n) bytes)))
     → residue (256 * (s + w)) ≡ residue (sum (words (take j bytes)))
 chunk-step n k bytes chunks number i j s w cut below even next room reads is so_far =
-    let part = take n (drop (i * n) bytes) in
-    let at : get_or chunks i [] ≡ part = ap (λ cs. get_or cs i []) cut ∙ chunk-at n k i bytes [] below in
-    let long : length part ≡ n = length-take-le n (drop (i * n) bytes) (rw length-drop (omega arith)) in
-    let word : residue (256 * w) ≡ residue (sum (words part)) = ap (λ m. residue (256 * m)) (is ∙ ap number at) ∙ reads part long in
-    ap residue (mul-add 256 s w) ∙ residue-add (256 * s) (sum (words (take (i * n) bytes))) (256 * w) (sum (words part)) so_far word
-    ∙ ap residue (sym (sum-words-chunk n (i * n) j bytes even next room))
+    chunk-more n k bytes chunks number 0 i j s w cut below even next room reads is (so_far ∙ ap residue (sym (zero-add (sum (words (take (i * n) bytes)))))) ∙ ap residue (zero-add (sum (words (take j bytes))))
 
 pub words-of_0 : (xs : List ℕ) → length xs ≡ 0 → sum (words xs) ≡ 0
 unfolding words

@@ -5,7 +5,7 @@ ghost use Rattle.wire_ends.specs.IpAddress.{octets_of, version_of};
 ghost use Rattle.wire_checksum.specs.PseudoHeader.{pseudo_header_bytes, with_pseudo_header};
 ghost use Rattle.wire_checksum.specs.WordSum.{residue, sum_of, sum_of_bytes};
 
-use crate::totals::{around, finish, total, total_of_4, total_of_16};
+use crate::totals::{around, finish, total, total_of_4, total_of_16, total_of_20};
 use wire_addr::{Ipv4Address, Ipv6Address};
 use wire_ends::{IpAddress, IpProtocol};
 
@@ -29,7 +29,10 @@ pub fn combine(sums: &[u16]) -> u16
 pub fn data(bytes: &[u8]) -> u16
     ensures { result ≡ sum_of_bytes bytes.now }
 {
-    finish(total(bytes))
+    match <&[u8; 20]>::try_from(bytes) {
+        Ok(header) => finish(total_of_20(header)),
+        Err(_) => finish(total(bytes)),
+    }
 }
 
 /// The sum of the pseudo header of a packet over IPv4 (RFC 768). Of its length, in octets, the low 16

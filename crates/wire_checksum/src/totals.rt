@@ -36,22 +36,29 @@ pub fn around(a: u64, b: u64) -> u64
     (sum % (1 << 64)) as u64 + (sum >> 64) as u64
 }
 
-/// The total of bytes. Totals of parts may be added where each part but the last ends at a whole word.
+/// The total of bytes.
 #[inline]
 pub fn total(bytes: &[u8]) -> u64
     ensures { residue (256 * result) ≡ sum_of_bytes bytes.now }
 {
-    if let Ok(header) = <&[u8; 20]>::try_from(bytes) {
-        return total_of_20(header);
-    }
-    let (front, rest) = bytes.split_at(bytes.len() / 32 * 32);
-    let last = around(whole_words(rest), tail(bytes));
-    if bytes.len() < 32 {
-        last
-    } else if bytes.len() < 256 {
-        around(one_chain(front), last)
+    if bytes.len() < 256 {
+        one_chain(bytes, tail(bytes))
     } else {
-        around(long(front), last)
+        long(bytes)
+    }
+}
+
+// The total of many bytes.
+#[inline(never)]
+fn long(bytes: &[u8]) -> u64
+    ensures { residue (256 * result) ≡ sum_of_bytes bytes.now }
+{
+    let (front, rest) = bytes.split_at(bytes.len() / 32 * 32);
+    let last = whole_words(rest, tail(bytes));
+    if bytes.len() < 2048 {
+        around(four_chains(front), last)
+    } else {
+        around(lanes(front), last)
     }
 }
 
@@ -68,24 +75,24 @@ pub fn total_of_4(bytes: &[u8; 4]) -> u64
 pub fn total_of_16(bytes: &[u8; 16]) -> u64
     ensures { residue (256 * result) ≡ sum_of_bytes bytes.now }
 {
-    whole_words(bytes)
+    whole_words(bytes, 0)
 }
 
-// The total of a header without options.
+/// The total of an IPv4 header without options.
 #[inline]
-fn total_of_20(bytes: &[u8; 20]) -> u64
+pub fn total_of_20(bytes: &[u8; 20]) -> u64
     ensures { residue (256 * result) ≡ sum_of_bytes bytes.now }
 {
-    around(whole_words(bytes), tail(bytes))
+    whole_words(bytes, tail(bytes))
 }
 
-// The total of all whole words of eight bytes.
+// A total and that of all whole words of eight bytes.
 #[inline]
-fn whole_words(bytes: &[u8]) -> u64
-    ensures { residue (256 * result) ≡ residue (sum (words (take (length bytes.now / 8 * 8) bytes.now))) }
+fn whole_words(bytes: &[u8], start: u64) -> u64
+    ensures { residue (256 * result) ≡ residue (256 * start + sum (words (take (length bytes.now / 8 * 8) bytes.now))) }
 {
     let (chunks, _) = bytes.as_chunks::<8>();
-    let mut sum: u64 = 0;
+    let mut sum = start;
     for chunk in chunks {
         sum = around(sum, u64::from_le_bytes(*chunk));
     }
@@ -133,15 +140,14 @@ fn add(number: u64, word: u64, carry: u64) -> (u64, u64)
     ((sum % (1 << 64)) as u64, (sum >> 64) as u64)
 }
 
-// The total of whole chunks of four words. Each word is added with the carry of the one before, and
-// the last carries are counted.
+// A total and that of all whole words of eight bytes. In a chunk of four words each is added with the
+// carry of the one before, and the last carries are counted.
 #[inline]
-fn one_chain(bytes: &[u8]) -> u64
-    requires { length bytes.now % 32 ≡ 0 }
-    ensures { residue (256 * result) ≡ sum_of_bytes bytes.now }
+fn one_chain(bytes: &[u8], start: u64) -> u64
+    ensures { residue (256 * result) ≡ residue (256 * start + sum (words (take (length bytes.now / 8 * 8) bytes.now))) }
 {
-    let (chunks, _) = bytes.as_chunks::<32>();
-    let mut total: u64 = 0;
+    let (chunks, rest) = bytes.as_chunks::<32>();
+    let mut total = start;
     let mut carries: u64 = 0;
     for chunk in chunks {
         let (words, _) = chunk.as_chunks::<8>();
@@ -152,20 +158,7 @@ fn one_chain(bytes: &[u8]) -> u64
         total = sum;
         carries += carry;
     }
-    around(total, carries)
-}
-
-// The total of many whole chunks of four words.
-#[inline(never)]
-fn long(bytes: &[u8]) -> u64
-    requires { length bytes.now % 32 ≡ 0 }
-    ensures { residue (256 * result) ≡ sum_of_bytes bytes.now }
-{
-    if bytes.len() < 2048 {
-        four_chains(bytes)
-    } else {
-        lanes(bytes)
-    }
+    whole_words(rest, around(total, carries))
 }
 
 // The total of whole chunks of four words. The words at each place of a chunk are added up in one

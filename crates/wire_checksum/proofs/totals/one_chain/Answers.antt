@@ -1,13 +1,14 @@
-use Rattle.std.proofs.Common.{◌+◌, ◌*◌, ◌/◌, [], get_or, length, sum, ◌∙◌, ap, refl, arith}
-use Rattle.std.proofs.lemmas.List.{take_all}
+use Rattle.std.proofs.Common.{ℕ, List, ◌≡◌, ◌-◌, ◌+◌, ◌*◌, ◌/◌, [], drop, take, get_or, length, sum, ◌∙◌, ap, refl, arith}
+use Rattle.std.proofs.lemmas.List.{length-drop}
 use Rattle.wire_checksum.specs.WordSum.{words, residue}
-use Rattle.wire_checksum.proofs.WordLists.{chunk-step}
+use Rattle.wire_checksum.proofs.WordLists.{chunk-more, sum-words-chunk}
+use Rattle.wire_checksum.proofs.Residues.{residue-add}
 use Rattle.wire_checksum.proofs.Fours.{four, words-of_32, word-is, chunk-long, chained}
 use Rattle.wire_checksum.proofs.totals.one_chain.Goals as goal
 
 pub loop-chunk-init : goal.loop-chunk-init
 unfolding words
-loop-chunk-init c = record { few = omega arith; so_far = refl }
+loop-chunk-init c = record { few = omega arith; so_far = ap residue (omega arith) }
 
 pub loop-chunk-preserved : goal.loop-chunk-preserved
 loop-chunk-preserved c =
@@ -27,10 +28,22 @@ loop-chunk-preserved c =
       so_far = chained l.total l.carries c.from_le_bytes.result c.from_le_bytes-in-loop-chunk.result c.from_le_bytes-in-loop-chunk-2.result c.from_le_bytes-in-loop-chunk-3.result
           c.add-sum.result.0 c.add-sum-in-loop-chunk.result.0 c.add-sum-in-loop-chunk-2.result.0 c.add-sum-in-loop-chunk-3.result.0 c.add-sum.result.1 c.add-sum-in-loop-chunk.result.1 c.add-sum-in-loop-chunk-2.result.1 c.add-sum-in-loop-chunk-3.result.1
           (four v) c.add-sum.ensures.value c.add-sum-in-loop-chunk.ensures.value c.add-sum-in-loop-chunk-2.ensures.value c.add-sum-in-loop-chunk-3.ensures.value (omega (arith, w0, w1, w2, w3))
-          ∙ chunk-step 32 (length bytes / 32) bytes c.as_chunks.result.0.now four i ((i + 1) * 32) (l.total + l.carries) (four v) c.as_chunks.ensures.front (omega arith) (omega arith) (omega arith) (omega arith) words-of_32 refl l.invariant.so_far;
+          ∙ chunk-more 32 (length bytes / 32) bytes c.as_chunks.result.0.now four (256 * c.args.start) i ((i + 1) * 32) (l.total + l.carries) (four v) c.as_chunks.ensures.front (omega arith) (omega arith) (omega arith) (omega arith) words-of_32 refl l.invariant.so_far;
     }
+
+-- the chunks and the words behind them
+ended : (bytes rest : List ℕ) (k z p a r : ℕ) → k ≡ length bytes / 32 → rest ≡ drop (length bytes / 32 * 32) bytes → residue (256 * p) ≡ residue (z + sum (words (take (k * 32) bytes)))
+    → residue (256 * a) ≡ residue (256 * p) → residue (256 * r) ≡ residue (256 * a + sum (words (take (length rest / 8 * 8) rest))) → residue (256 * r) ≡ residue (z + sum (words (take (length bytes / 8 * 8) bytes)))
+ended bytes rest k z p a r all is b c d =
+    let m = length rest / 8 * 8 in
+    let n = length bytes / 32 * 32 in
+    let long : length rest ≡ length bytes - n = ap length is ∙ length-drop n bytes in
+    let front : sum (words (take (k * 32) bytes)) ≡ sum (words (take n bytes)) = ap (λ j. sum (words (take (j * 32) bytes))) all in
+    let behind : sum (words (take m rest)) ≡ sum (words (take m (drop n bytes))) = ap (λ l. sum (words (take m l))) is in
+    let whole = sum-words-chunk m n (length bytes / 8 * 8) bytes (omega arith) (omega (arith, long)) (omega arith) in
+    d ∙ residue-add (256 * a) (z + sum (words (take (k * 32) bytes))) (sum (words (take m rest))) (sum (words (take m rest))) (c ∙ b) refl ∙ ap residue (omega (arith, front, behind, whole))
 
 pub returns : goal.returns
 returns c =
     let l = c.loop-chunk in
-    c.around.ensures ∙ l.invariant.so_far ∙ ap (λ b. residue (sum (words b))) (take_all (l.chunk-index * 32) c.args.bytes.now (omega arith))
+    ended c.args.bytes.now c.as_chunks.result.1.now l.chunk-index (256 * c.args.start) (l.total + l.carries) c.around.result c.whole_words.result (omega arith) c.as_chunks.ensures.back l.invariant.so_far c.around.ensures c.whole_words.ensures
