@@ -41,7 +41,9 @@ pub fn around(a: u64, b: u64) -> u64
 pub fn total(bytes: &[u8]) -> u64
     ensures { residue (256 * result) ≡ sum_of_bytes bytes.now }
 {
-    if bytes.len() < 256 {
+    if bytes.len() < 8 {
+        short(bytes)
+    } else if bytes.len() < 256 {
         one_chain(bytes, tail(bytes))
     } else {
         long(bytes)
@@ -51,6 +53,7 @@ pub fn total(bytes: &[u8]) -> u64
 // The total of many bytes.
 #[inline(never)]
 fn long(bytes: &[u8]) -> u64
+    requires { 256 ≤ length bytes.now }
     ensures { residue (256 * result) ≡ sum_of_bytes bytes.now }
 {
     let (front, rest) = bytes.split_at(bytes.len() / 32 * 32);
@@ -102,6 +105,7 @@ fn whole_words(bytes: &[u8], start: u64) -> u64
 // The total of the bytes behind the last whole word of eight bytes: the end of the last eight bytes.
 #[inline]
 fn tail(bytes: &[u8]) -> u64
+    requires { 8 ≤ length bytes.now }
     ensures { residue (256 * result) ≡ sum_of_bytes (drop (length bytes.now / 8 * 8) bytes.now) }
 {
     if bytes.len() % 8 == 0 {
@@ -109,11 +113,12 @@ fn tail(bytes: &[u8]) -> u64
     }
     match bytes.last_chunk::<8>() {
         Some(last) => u64::from_le_bytes(*last) >> (64 - 8 * (bytes.len() % 8)),
-        None => short(bytes),
+        None => unreachable!(),
     }
 }
 
 // The total of fewer than eight bytes.
+#[inline(never)]
 fn short(bytes: &[u8]) -> u64
     requires { length bytes.now < 8 }
     ensures { residue (256 * result) ≡ sum_of_bytes bytes.now }

@@ -10,5 +10,5 @@ returns-then-bytes-eq0 c =
     let n = length c.args.bytes.now / 8 * 8 in
     ap residue (sym (words-of_0 (drop n c.args.bytes.now) (rw length-drop (omega arith))))
 
-pub returns-in-Some : goal.returns-in-Some
-returns-in-Some c = end-of c.args.bytes.now c.in-Some.last.now c.from_le_bytes.result c.in-Some.ensures.cases.0 (omega arith) (c.in-Some.ensures.cases.1).same c.type_inv.bytes c.from_le_bytes.ensures
+pub returns : goal.returns
+returns c = end-of c.args.bytes.now c.in-Some.last.now c.from_le_bytes.result c.in-Some.ensures.cases.0 (omega arith) (c.in-Some.ensures.cases.1).same c.type_inv.bytes c.from_le_bytes.ensures
