@@ -3,4 +3,6 @@
 
 pub mod checksum;
 pub mod laws;
+#[cfg(test)]
+mod tests;
 mod totals;

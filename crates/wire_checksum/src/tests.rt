@@ -1,0 +1,70 @@
+//! Sums beside those of a plain loop over the words.
+
+use crate::checksum::{combine, data};
+use std::alloc::{AllocError, Global};
+use std::test::Fail;
+
+// The sum of bytes, word by word.
+fn plain(bytes: &[u8]) -> u16 {
+    let (words, rest) = bytes.as_chunks::<2>();
+    let mut sum = 0;
+    for word in words {
+        sum = combine(&[sum, u16::from_be_bytes(*word)]);
+    }
+    match rest {
+        [last] => combine(&[sum, u16::from(*last) << 8]),
+        _ => sum,
+    }
+}
+
+// Bytes that differ from place to place.
+fn counted() -> [u8; 2400] {
+    let mut bytes = [0; 2400];
+    for (i, byte) in bytes.iter_mut().enumerate() {
+        *byte = (i % 251) as u8;
+    }
+    bytes
+}
+
+#[test]
+fn sums_of_each_length(rt: HostRuntime) {
+    let bytes = counted();
+    for len in 0..=300 {
+        assert_eq!(rt; data(&bytes[..len]), plain(&bytes[..len]), "of {len} bytes");
+    }
+}
+
+#[test]
+fn sums_at_each_place(rt: HostRuntime) {
+    let bytes = counted();
+    for start in 0..32 {
+        for len in [1, 7, 8, 19, 20, 21, 64, 255, 256, 1500, 2047, 2048, 2303] {
+            let part = &bytes[start..start + len];
+            assert_eq!(rt; data(part), plain(part), "of {len} bytes from {start} on");
+        }
+    }
+}
+
+// So many bytes, by turns one and the other.
+fn by_turns(alloc: Global, one: u8, other: u8, len: usize) -> Result<Vec<u8>, AllocError> {
+    let mut bytes = vec![in alloc; one; len]?;
+    for (i, byte) in bytes.iter_mut().enumerate() {
+        if i % 2 == 1 {
+            *byte = other;
+        }
+    }
+    Ok(bytes)
+}
+
+#[test]
+fn sums_of_many_bytes(rt: HostRuntime) -> Result<(), Fail> {
+    for (one, other, len, sum) in [
+        (0xff, 0xff, 131_076, 0xffff),
+        (0xff, 0xff, 1_000_000, 0xffff),
+        (0xff, 0xfe, 262_144, 0xfffd),
+    ] {
+        let bytes = by_turns(rt.alloc(), one, other, len)?;
+        assert_eq!(rt; data(&bytes), sum);
+    }
+    Ok(())
+}
