@@ -78,6 +78,7 @@ pub fn pseudo_header(
 
 /// The sum of a packet of a transport with its pseudo header before it, in which the length is that of
 /// the packet.
+#[inline(always)]
 pub fn packet(
     src_addr: IpAddress,
     dst_addr: IpAddress,
