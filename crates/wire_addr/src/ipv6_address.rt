@@ -3,7 +3,8 @@
 ghost use Rattle.std.specs.Prelude.{◌≡◌, ◌≢◌, ◌+◌, ◌<◌, ◌≤◌, ◌∷◌, ◌++◌, [], MatchOption, Some, length, take};
 ghost use Rattle.std.specs.Net.Text.{leading_zero_digits, longest_zero_run};
 ghost use Rattle.std.specs.Char.{digit_char};
-ghost use Rattle.wire_addr.specs.Octets.{groups_of, mapped_prefix, octets_of};
+ghost use Rattle.wire_addr.specs.Octets.{AreOctets, groups_of, mapped_prefix, octets_of};
+ghost use Rattle.wire_addr.specs.Prefix.{number_of};
 ghost use Rattle.wire_addr.specs.Printed.{colon_hex, hex, ipv6_text};
 
 use crate::Ipv4Address;
@@ -62,6 +63,24 @@ impl Ipv6Address {
         ensures { result ≡ self.now }
     {
         self.0
+    }
+
+    /// The address whose octets spell this number, the one that is sent first the most significant.
+    #[inline]
+    pub fn from_bits(bits: u128) -> Ipv6Address
+        ensures value { number_of result ≡ bits }
+        ensures octets { AreOctets 16 result }
+    {
+        Ipv6Address(bits.to_be_bytes())
+    }
+
+    /// The number that its octets spell, the one that is sent first the most significant.
+    #[inline]
+    pub fn to_bits(self) -> u128
+        ensures value { result ≡ number_of self }
+        ensures octets { AreOctets 16 self }
+    {
+        u128::from_be_bytes(self.0)
     }
 
     /// Its eight groups of 16 bits, the one that is sent first standing first.

@@ -1,0 +1,251 @@
+-- Prefixes and blocks, by the numbers that the octets spell.
+use Rattle.std.proofs.Common.{◌≡◌, ◌↔◌, ℕ, suc, ◌+◌, ◌-◌, ◌*◌, ◌/◌, ◌%◌, ◌^◌, ◌<◌, ◌≤◌, inl, inr, Bool, IsTrue, List, nat_eq, bit_and, bit_or, arith, refl, sym, ◌∙◌, ap}
+use Rattle.std.specs.Int.{bit_at, bytes_high_first}
+use Rattle.std.specs.Int.Count.{count_leading_zeros, leading_unique}
+use Rattle.std.proofs.Math.Nat.{lt-div-mul-add, mod-eq_of_lt}
+use Rattle.std.proofs.Math.Pow.{pow_mono}
+use Rattle.std.proofs.lemmas.Bool.{cases_lt, eq-eqb, eqb-true}
+use Rattle.std.proofs.lemmas.List.{get_or_past}
+use Rattle.std.proofs.lemmas.Nat.{mul-add-lt, or_shifted, pow_pos, pow-add, shr-shr, shr_below, shr_high, shr_split, shl-shr}
+use Rattle.std.proofs.lemmas.Nat.Bits.{and_high_mask, bit_at_cat_low, bit_at_mask_below, bit_at_mask_inside, bit_at_ones, bit_at-zero, same_from_bits_below}
+use Rattle.wire_addr.specs.Octets.{AreOctets}
+use Rattle.wire_addr.specs.Prefix.{AgreeFirst, IsMasked, IsNetmask, bit_of, number_of}
+use Rattle.wire_addr.specs.Block.{IsWithin, IsLeast, IsGreatest}
+use Rattle.wire_addr.proofs.Numbers.{AreOctets-bytes, bit_at-number_of, number_of-bytes, number_of-lt}
+
+-- ---- the first n bits agree where the numbers without their other s bits are equal
+
+-- shifting right takes the lowest bits away
+bit_at-shifted : (x s i : ℕ) → bit_at (x / 2 ^ s) i ≡ bit_at x (s + i)
+bit_at-shifted x s i = ap (λ v. v % 2) (shr-shr x s i)
+
+-- two numbers whose parts above s are the same agree in each bit from s on
+agree_from_shifted : (s x y i : ℕ) → x / 2 ^ s ≡ y / 2 ^ s → s ≤ i → bit_at x i ≡ bit_at y i
+agree_from_shifted s x y i same above =
+    let e : i ≡ s + (i - s) = omega arith in
+    ap (λ p. bit_at x p) e ∙ sym (bit_at-shifted x s (i - s)) ∙ ap (λ v. bit_at v (i - s)) same
+    ∙ bit_at-shifted y s (i - s) ∙ sym (ap (λ p. bit_at y p) e)
+
+-- and the other way
+shifted_from_agree : (n s x y : ℕ) → x < 2 ^ (n + s) → y < 2 ^ (n + s)
+    → ((i : ℕ) → s ≤ i → i < n + s → bit_at x i ≡ bit_at y i)
+    → x / 2 ^ s ≡ y / 2 ^ s
+shifted_from_agree n s x y x_fits y_fits agree =
+    same_from_bits_below n (x / 2 ^ s) (y / 2 ^ s) (shr_below x n s x_fits) (shr_below y n s y_fits)
+    (λ i h. bit_at-shifted x s i ∙ agree (s + i) (omega arith) (omega arith) ∙ sym (bit_at-shifted y s i))
+
+pub agree_from_numbers : (m n s : ℕ) (xs ys : List ℕ) → AreOctets m xs → AreOctets m ys → n + s ≡ 8 * m
+    → number_of xs / 2 ^ s ≡ number_of ys / 2 ^ s → AgreeFirst n xs ys
+agree_from_numbers m n s xs ys are_xs are_ys e same k lt =
+    let place : suc (k + (8 * m - 1 - k)) ≡ 8 * m = omega arith in
+    sym (bit_at-number_of m k (8 * m - 1 - k) xs are_xs place)
+    ∙ agree_from_shifted s (number_of xs) (number_of ys) (8 * m - 1 - k) same (omega arith)
+    ∙ bit_at-number_of m k (8 * m - 1 - k) ys are_ys place
+
+pub numbers_from_agree : (m n s : ℕ) (xs ys : List ℕ) → AreOctets m xs → AreOctets m ys → n + s ≡ 8 * m
+    → AgreeFirst n xs ys → number_of xs / 2 ^ s ≡ number_of ys / 2 ^ s
+numbers_from_agree m n s xs ys are_xs are_ys e agree =
+    shifted_from_agree n s (number_of xs) (number_of ys)
+    (rw e (number_of-lt m xs are_xs)) (rw e (number_of-lt m ys are_ys))
+    (λ i above below.
+    let place : suc ((8 * m - 1 - i) + i) ≡ 8 * m = omega arith in
+    bit_at-number_of m (8 * m - 1 - i) i xs are_xs place ∙ agree (8 * m - 1 - i) (omega arith)
+    ∙ sym (bit_at-number_of m (8 * m - 1 - i) i ys are_ys place))
+
+-- a bit behind the octets is a zero
+behind : (m : ℕ) (xs : List ℕ) (k : ℕ) → AreOctets m xs → 8 * m ≤ k → bit_of xs k ≡ 0
+behind m xs k are past =
+    rw (get_or_past xs (k / 8) 0 (omega (arith, are.0))) (bit_at-zero (7 - k % 8))
+
+-- ---- masks
+
+pub IsMasked-number : (m n s : ℕ) (xs ys : List ℕ) → AreOctets m xs → AreOctets m ys → n + s ≡ 8 * m
+    → number_of ys ≡ number_of xs / 2 ^ s * 2 ^ s → IsMasked n xs ys
+IsMasked-number m n s xs ys are_xs are_ys e is = record {
+  kept = agree_from_numbers m n s xs ys are_xs are_ys e (sym (ap (λ v. v / 2 ^ s) is ∙ shl-shr (number_of xs / 2 ^ s) s));
+  zeros = λ k from. elim (cases_lt k (8 * m)) [
+    | inl inside ↦
+        let place : suc (k + (8 * m - 1 - k)) ≡ 8 * m = omega arith in
+        let whole : number_of ys ≡ number_of xs / 2 ^ s * 2 ^ s + 0 = omega (arith, is) in
+        sym (bit_at-number_of m k (8 * m - 1 - k) ys are_ys place)
+        ∙ ap (λ v. bit_at v (8 * m - 1 - k)) whole
+        ∙ bit_at_cat_low (number_of xs / 2 ^ s) s 0 (8 * m - 1 - k) (omega arith)
+        ∙ bit_at-zero (8 * m - 1 - k)
+    | inr past ↦ behind m ys k are_ys past
+  ];
+}
+
+pub IsNetmask-number : (m n s : ℕ) (xs : List ℕ) → AreOctets m xs → n + s ≡ 8 * m → number_of xs ≡ 2 ^ (8 * m) - 2 ^ s
+    → IsNetmask n xs
+IsNetmask-number m n s xs are e is = record {
+  ones = λ k before.
+      let place : suc (k + (8 * m - 1 - k)) ≡ 8 * m = omega arith in
+      sym (bit_at-number_of m k (8 * m - 1 - k) xs are place) ∙ ap (λ v. bit_at v (8 * m - 1 - k)) is
+      ∙ bit_at_mask_inside s (8 * m) (8 * m - 1 - k) (omega arith) (omega arith);
+  zeros = λ k from. elim (cases_lt k (8 * m)) [
+    | inl inside ↦
+        let place : suc (k + (8 * m - 1 - k)) ≡ 8 * m = omega arith in
+        sym (bit_at-number_of m k (8 * m - 1 - k) xs are place) ∙ ap (λ v. bit_at v (8 * m - 1 - k)) is
+        ∙ bit_at_mask_below s (8 * m) (8 * m - 1 - k) (omega arith)
+    | inr past ↦ behind m xs k are past
+  ];
+}
+
+-- a netmask has no more ones than bits
+pub IsNetmask-within : (m n : ℕ) (xs : List ℕ) → AreOctets m xs → IsNetmask n xs → n ≤ 8 * m
+IsNetmask-within m n xs are is =
+    elim (cases_lt (8 * m) n) [
+      | inl more ↦
+          let one : bit_of xs (8 * m) ≡ 1 = is.ones (8 * m) more in
+          let none : bit_of xs (8 * m) ≡ 0 = behind m xs (8 * m) are (omega arith) in
+          let no : ⊥ = omega (arith, one, none) in
+          absurd no
+      | inr fine ↦ fine
+    ]
+
+pub number-IsNetmask : (m n s : ℕ) (xs : List ℕ) → AreOctets m xs → n + s ≡ 8 * m → IsNetmask n xs
+    → number_of xs ≡ 2 ^ (8 * m) - 2 ^ s
+number-IsNetmask m n s xs are e is =
+    same_from_bits_below (8 * m) (number_of xs) (2 ^ (8 * m) - 2 ^ s) (number_of-lt m xs are)
+    (omega (arith, pow_pos s, pow_pos (8 * m)))
+    (λ i below.
+    let place : suc ((8 * m - 1 - i) + i) ≡ 8 * m = omega arith in
+    bit_at-number_of m (8 * m - 1 - i) i xs are place
+    ∙ elim (cases_lt i s) [
+      | inl low ↦ is.zeros (8 * m - 1 - i) (omega arith) ∙ sym (bit_at_mask_below s (8 * m) i low)
+      | inr high ↦ is.ones (8 * m - 1 - i) (omega arith) ∙ sym (bit_at_mask_inside s (8 * m) i high below)
+    ])
+
+-- the ones at the front of a netmask are counted
+pub leading_ones-mask : (w s : ℕ) → s ≤ w → count_leading_zeros w (2 ^ w - 1 - (2 ^ w - 2 ^ s)) ≡ w - s
+leading_ones-mask w s le =
+    let least : 2 ^ s ≤ 2 ^ w = pow_mono {i = s} {j = w} le in
+    sym (leading_unique w (2 ^ w - 1 - (2 ^ w - 2 ^ s)) (w - s) s (omega arith) (omega (arith, pow_pos s)) (omega (arith, pow_pos s)))
+
+-- ---- the least and the greatest address of a block
+
+pub IsLeast-number : (m n s : ℕ) (xs ys : List ℕ) → AreOctets m xs → AreOctets m ys → n + s ≡ 8 * m
+    → number_of ys ≡ number_of xs / 2 ^ s * 2 ^ s → IsLeast m (record { address = xs; prefix_len = n }) ys
+IsLeast-number m n s xs ys are_xs are_ys e is = record {
+  member = (IsMasked-number m n s xs ys are_xs are_ys e is).kept;
+  least = λ zs are_zs member.
+      let same : number_of xs / 2 ^ s ≡ number_of zs / 2 ^ s = numbers_from_agree m n s xs zs are_xs are_zs e member in
+      rw (is, same) (omega (arith, shr_split (number_of zs) s));
+}
+
+pub IsGreatest-number : (m n s : ℕ) (xs ys : List ℕ) → AreOctets m xs → AreOctets m ys → n + s ≡ 8 * m
+    → number_of ys ≡ number_of xs / 2 ^ s * 2 ^ s + (2 ^ s - 1) → IsGreatest m (record { address = xs; prefix_len = n }) ys
+IsGreatest-number m n s xs ys are_xs are_ys e is = record {
+  member = agree_from_numbers m n s xs ys are_xs are_ys e
+      (sym (ap (λ v. v / 2 ^ s) is ∙ shr_high (number_of xs / 2 ^ s) s (2 ^ s - 1) (omega (arith, pow_pos s))));
+  greatest = λ zs are_zs member.
+      let same : number_of xs / 2 ^ s ≡ number_of zs / 2 ^ s = numbers_from_agree m n s xs zs are_xs are_zs e member in
+      rw (is, same) (omega (arith, pow_pos s, lt-div-mul-add {a = number_of zs} {b = 2 ^ s} (pow_pos s)));
+}
+
+-- ---- a block within another
+
+-- the octets of the address that begins as xs does and whose last s bits are those of a number
+abbrev with_last : ℕ → ℕ → List ℕ → ℕ → List ℕ
+with_last m s xs r = bytes_high_first m (number_of xs / 2 ^ s * 2 ^ s + r)
+
+number_of-with_last : (m n s : ℕ) (xs : List ℕ) (r : ℕ) → AreOctets m xs → n + s ≡ 8 * m → r < 2 ^ s
+    → number_of (with_last m s xs r) ≡ number_of xs / 2 ^ s * 2 ^ s + r
+number_of-with_last m n s xs r are e small =
+    let q : ℕ = number_of xs / 2 ^ s in
+    let below : q < 2 ^ n = shr_below (number_of xs) n s (rw e (number_of-lt m xs are)) in
+    let size : 2 ^ s * 2 ^ n ≡ 2 ^ (8 * m) = sym (pow-add 2 s n) ∙ ap (λ k. 2 ^ k) (let turned : s + n ≡ 8 * m = omega arith in turned) in
+    let fits : q * 2 ^ s + r < 2 ^ (8 * m) = rw (← size) (mul-add-lt q (2 ^ s) r (2 ^ n) below small) in
+    number_of-bytes m (q * 2 ^ s + r) ∙ mod-eq_of_lt fits
+
+-- it is in the block, and the bits behind the prefix are those of the number
+with_last-member : (m n s : ℕ) (xs : List ℕ) (r : ℕ) → AreOctets m xs → n + s ≡ 8 * m → r < 2 ^ s
+    → AgreeFirst n xs (with_last m s xs r)
+with_last-member m n s xs r are e small =
+    agree_from_numbers m n s xs (with_last m s xs r) are (AreOctets-bytes m (number_of xs / 2 ^ s * 2 ^ s + r)) e
+    (sym (ap (λ v. v / 2 ^ s) (number_of-with_last m n s xs r are e small) ∙ shr_high (number_of xs / 2 ^ s) s r small))
+
+with_last-bit : (m n s k j : ℕ) (xs : List ℕ) (r : ℕ) → AreOctets m xs → n + s ≡ 8 * m → r < 2 ^ s → n ≤ k → suc (k + j) ≡ 8 * m
+    → bit_of (with_last m s xs r) k ≡ bit_at r j
+with_last-bit m n s k j xs r are e small from place =
+    sym (bit_at-number_of m k j (with_last m s xs r) (AreOctets-bytes m (number_of xs / 2 ^ s * 2 ^ s + r)) place)
+    ∙ ap (λ v. bit_at v j) (number_of-with_last m n s xs r are e small)
+    ∙ bit_at_cat_low (number_of xs / 2 ^ s) s r j (omega arith)
+
+-- a block that is within another has at least as many bits: else the addresses that end in zeros and in ones were both in the other
+pub prefix_from_within : (m p q : ℕ) (xs ys : List ℕ) → AreOctets m xs → q ≤ 8 * m
+    → IsWithin m (record { address = xs; prefix_len = p }) (record { address = ys; prefix_len = q }) → q ≤ p
+prefix_from_within m p q xs ys are bound within =
+    elim (cases_lt p q) [
+      | inl less ↦
+          let s : ℕ = 8 * m - p in
+          let e : p + s ≡ 8 * m = omega arith in
+          let j : ℕ = 8 * m - 1 - p in
+          let place : suc (p + j) ≡ 8 * m = omega arith in
+          let fits_0 : 0 < 2 ^ s = pow_pos s in
+          let fits_1 : 2 ^ s - 1 < 2 ^ s = omega (arith, pow_pos s) in
+          let zero_bit : bit_of ys p ≡ 0 =
+          within (with_last m s xs 0) (AreOctets-bytes m (number_of xs / 2 ^ s * 2 ^ s + 0)) (with_last-member m p s xs 0 are e fits_0) p less
+          ∙ with_last-bit m p s p j xs 0 are e fits_0 (omega arith) place ∙ bit_at-zero j in
+          let one_bit : bit_of ys p ≡ 1 =
+          within (with_last m s xs (2 ^ s - 1)) (AreOctets-bytes m (number_of xs / 2 ^ s * 2 ^ s + (2 ^ s - 1))) (with_last-member m p s xs (2 ^ s - 1) are e fits_1) p less
+          ∙ with_last-bit m p s p j xs (2 ^ s - 1) are e fits_1 (omega arith) place ∙ bit_at_ones s j (omega arith) in
+          let no : ⊥ = omega (arith, zero_bit, one_bit) in
+          absurd no
+      | inr fine ↦ fine
+    ]
+
+-- a block is within another exactly if it has at least as many bits and its own address is in the other
+pub IsWithin-member : (m p q : ℕ) (xs ys : List ℕ) → AreOctets m xs → q ≤ 8 * m
+    → ((q ≤ p) × AgreeFirst q ys xs) ↔ IsWithin m (record { address = xs; prefix_len = p }) (record { address = ys; prefix_len = q })
+IsWithin-member m p q xs ys are bound = (
+  (λ both zs are_zs member k lt. both.1 k lt ∙ member k (omega (arith, both.0))),
+  (λ within. (prefix_from_within m p q xs ys are bound within, within xs are (λ k lt. refl))),
+)
+
+-- ---- what the code computes
+
+-- a number under the mask of a prefix
+pub number-under_mask : (m s : ℕ) (xs : List ℕ) → AreOctets m xs → s ≤ 8 * m
+    → bit_and (number_of xs) (2 ^ (8 * m) - 2 ^ s) ≡ number_of xs / 2 ^ s * 2 ^ s
+number-under_mask m s xs are le = and_high_mask (8 * m) s le (number_of xs) (number_of-lt m xs are)
+
+-- the low bits are set where the mask has none
+pub number-over_mask : (m s : ℕ) (xs : List ℕ) → AreOctets m xs → s ≤ 8 * m
+    → bit_or (number_of xs / 2 ^ s * 2 ^ s) (2 ^ (8 * m) - 1 - (2 ^ (8 * m) - 2 ^ s)) ≡ number_of xs / 2 ^ s * 2 ^ s + (2 ^ s - 1)
+number-over_mask m s xs are le =
+    let least : 2 ^ s ≤ 2 ^ (8 * m) = pow_mono {i = s} {j = 8 * m} le in
+    let low : 2 ^ (8 * m) - 1 - (2 ^ (8 * m) - 2 ^ s) ≡ 2 ^ s - 1 = omega (arith, pow_pos s) in
+    ap (λ v. bit_or (number_of xs / 2 ^ s * 2 ^ s) v) low
+    ∙ or_shifted (number_of xs / 2 ^ s) s (2 ^ s - 1) (omega (arith, pow_pos s))
+
+-- two numbers that are equal under a mask have the same first bits
+pub member-test : (m n x y mask : ℕ) (xs ys : List ℕ) → AreOctets m xs → AreOctets m ys → n ≤ 8 * m
+    → x ≡ number_of xs → y ≡ number_of ys → mask ≡ 2 ^ (8 * m) - 2 ^ (8 * m - n)
+    → IsTrue (nat_eq (bit_and x mask) (bit_and y mask)) ↔ AgreeFirst n xs ys
+member-test m n x y mask xs ys are_xs are_ys within ex ey em =
+    let s : ℕ = 8 * m - n in
+    let e : n + s ≡ 8 * m = omega arith in
+    let le : s ≤ 8 * m = omega arith in
+    let x_is : bit_and x mask ≡ number_of xs / 2 ^ s * 2 ^ s = rw (ex, em) (number-under_mask m s xs are_xs le) in
+    let y_is : bit_and y mask ≡ number_of ys / 2 ^ s * 2 ^ s = rw (ey, em) (number-under_mask m s ys are_ys le) in (
+      λ t. agree_from_numbers m n s xs ys are_xs are_ys e
+          (sym (shl-shr (number_of xs / 2 ^ s) s) ∙ ap (λ v. v / 2 ^ s) (sym x_is ∙ eqb-true (bit_and x mask) (bit_and y mask) t ∙ y_is)
+          ∙ shl-shr (number_of ys / 2 ^ s) s),
+      λ agree. eq-eqb (bit_and x mask) (bit_and y mask)
+          (x_is ∙ ap (λ v. v * 2 ^ s) (numbers_from_agree m n s xs ys are_xs are_ys e agree) ∙ sym y_is),
+    )
+
+-- where the other block has bits enough, its own address decides; where it has not, some address of it is outside
+pub within-test : (m p q : ℕ) (xs ys : List ℕ) (test : Bool) → AreOctets m xs → q ≤ 8 * m → q ≤ p
+    → (IsTrue test ↔ AgreeFirst q ys xs)
+    → IsTrue test ↔ IsWithin m (record { address = xs; prefix_len = p }) (record { address = ys; prefix_len = q })
+within-test m p q xs ys test are bound enough member =
+    let both = IsWithin-member m p q xs ys are bound in
+    ((λ t. both.0 (enough, member.0 t)), (λ within. member.1 (both.1 within).1))
+
+pub not_within : (m p q : ℕ) (xs ys : List ℕ) → AreOctets m xs → q ≤ 8 * m → p < q
+    → ¬ (IsWithin m (record { address = xs; prefix_len = p }) (record { address = ys; prefix_len = q }))
+not_within m p q xs ys are bound less within =
+    let enough : q ≤ p = ((IsWithin-member m p q xs ys are bound).1 within).0 in
+    omega (arith, enough)

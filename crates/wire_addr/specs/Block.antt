@@ -1,0 +1,28 @@
+-- A block of addresses: all that have the first bits of one address (RFC 4632, section 3.1). An address is the list of
+-- its octets, four or sixteen of them.
+use Rattle.std.specs.Prelude.{ℕ, ◌≤◌, List}
+use Rattle.wire_addr.specs.Octets.{AreOctets}
+use Rattle.wire_addr.specs.Prefix.{AgreeFirst, number_of}
+
+-- what tells a block: the address that it was made of, and how many of its first bits all its addresses have
+pub record Block : Type 0 where
+  pub address : List ℕ
+  pub prefix_len : ℕ
+
+-- the address is in the block
+abbrev pub IsIn : Block → List ℕ → Type 0
+IsIn block address = AgreeFirst block.prefix_len block.address address
+
+-- each address of n octets that is in the one block is in the other
+abbrev pub IsWithin : ℕ → Block → Block → Type 0
+IsWithin n inner outer = (address : List ℕ) → AreOctets n address → IsIn inner address → IsIn outer address
+
+-- the least of the addresses of n octets that are in the block
+pub record IsLeast (n : ℕ) (block : Block) (address : List ℕ) : Type 0 where
+  pub member : IsIn block address
+  pub least : (other : List ℕ) → AreOctets n other → IsIn block other → number_of address ≤ number_of other
+
+-- the greatest of the addresses of n octets that are in the block
+pub record IsGreatest (n : ℕ) (block : Block) (address : List ℕ) : Type 0 where
+  pub member : IsIn block address
+  pub greatest : (other : List ℕ) → AreOctets n other → IsIn block other → number_of other ≤ number_of address

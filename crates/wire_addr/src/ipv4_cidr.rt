@@ -1,0 +1,121 @@
+//! Blocks of IPv4 addresses.
+
+ghost use Rattle.std.specs.Prelude.{◌≡◌, ◌↔◌, ◌≤◌, ◌<◌, IsTrue, MatchOption, Some};
+ghost use Rattle.wire_addr.specs.Block.{IsGreatest, IsIn, IsLeast, IsWithin};
+ghost use Rattle.wire_addr.specs.Prefix.{IsNetmask};
+ghost use Rattle.wire_addr.specs.Printed.{block_text, dotted};
+
+use crate::Ipv4Address;
+use crate::prefix::mask_32;
+use std::fmt;
+use std::marker::Model;
+
+/// A block of IPv4 addresses: all that have the first bits of one address (RFC 4632, section 3.1).
+#[derive(Debug, Clone, Copy, PartialEq, Eq, PartialOrd, Ord, Hash)]
+pub struct Ipv4Cidr {
+    address: Ipv4Address,
+    prefix_len: u8,
+}
+
+impl Model for Ipv4Cidr {
+    ghost use Rattle.std.specs.Prelude.{◌≤◌};
+    ghost use Rattle.wire_addr.specs.Block.{Block};
+    ghost use Rattle.wire_addr.specs.Octets.{AreOctets};
+
+    ghost Value = { Block };
+
+    ghost view = { λ block. record { address = block.address; prefix_len = block.prefix_len } };
+
+    ghost invariant = { λ block. AreOctets 4 block.address × (block.prefix_len ≤ 32) };
+
+    ghost inverse = { λ block. record { address = block.address; prefix_len = block.prefix_len } };
+}
+
+impl Ipv4Cidr {
+    /// The block of the addresses that have the first `prefix_len` bits of this one.
+    #[inline]
+    pub fn new(address: Ipv4Address, prefix_len: u8) -> Ipv4Cidr
+        requires { prefix_len ≤ 32 }
+        ensures { result ≡ record { address = address; prefix_len = prefix_len } }
+    {
+        Ipv4Cidr {
+            address,
+            prefix_len,
+        }
+    }
+
+    /// The address that it was made of.
+    #[inline]
+    pub fn address(&self) -> Ipv4Address
+        ensures { result ≡ self.now.address }
+    {
+        self.address
+    }
+
+    /// How many first bits its addresses have in common.
+    #[inline]
+    pub fn prefix_len(&self) -> u8
+        ensures value { result ≡ self.now.prefix_len }
+        ensures within { result ≤ 32 }
+    {
+        self.prefix_len
+    }
+
+    /// Its netmask: as many ones as the prefix is long, and zeros behind them.
+    #[inline]
+    pub fn netmask(&self) -> Ipv4Address
+        ensures { IsNetmask self.now.prefix_len result }
+    {
+        Ipv4Address::from_bits(mask_32(self.prefix_len))
+    }
+
+    /// The same block, made of its least address.
+    #[inline]
+    pub fn network(&self) -> Ipv4Cidr
+        ensures address { IsLeast 4 self.now result.address }
+        ensures prefix_len { result.prefix_len ≡ self.now.prefix_len }
+    {
+        let network = self.address.to_bits() & mask_32(self.prefix_len);
+        Ipv4Cidr::new(Ipv4Address::from_bits(network), self.prefix_len)
+    }
+
+    /// Its greatest address, by which all its hosts are reached (RFC 919, section 7). A block of one
+    /// or two addresses has none (RFC 3021, section 2.1).
+    #[inline]
+    pub fn broadcast(&self) -> Option<Ipv4Address>
+        ensures { MatchOption result (31 ≤ self.now.prefix_len)
+            (λ address. (self.now.prefix_len < 31) × IsGreatest 4 self.now address) }
+    {
+        if self.prefix_len >= 31 {
+            return None;
+        }
+        let mask = mask_32(self.prefix_len);
+        Some(Ipv4Address::from_bits(self.address.to_bits() & mask | !mask))
+    }
+
+    /// Whether the address is in the block.
+    #[inline]
+    pub fn contains_addr(&self, addr: &Ipv4Address) -> bool
+        ensures { IsTrue result ↔ IsIn self.now addr.now }
+    {
+        let mask = mask_32(self.prefix_len);
+        self.address.to_bits() & mask == addr.to_bits() & mask
+    }
+
+    /// Whether each address of the other block is in this one.
+    #[inline]
+    pub fn contains_subnet(&self, subnet: &Ipv4Cidr) -> bool
+        ensures { IsTrue result ↔ IsWithin 4 subnet.now self.now }
+    {
+        self.prefix_len <= subnet.prefix_len && self.contains_addr(&subnet.address)
+    }
+}
+
+/// The address, `/` and the length of the prefix.
+impl fmt::Display for Ipv4Cidr {
+    ghost output = { λ block. Some (block_text dotted block) };
+
+    fn fmt<W: fmt::Write>(&self, f: &mut fmt::Formatter<W>) -> fmt::Result {
+        write!(f, "{}/{}", self.address, self.prefix_len)
+    }
+}

@@ -1,0 +1,88 @@
+//! Blocks of IPv6 addresses.
+
+ghost use Rattle.std.specs.Prelude.{◌≡◌, ◌↔◌, ◌≤◌, IsTrue, Some};
+ghost use Rattle.wire_addr.specs.Block.{IsIn, IsWithin};
+ghost use Rattle.wire_addr.specs.Printed.{block_text, ipv6_text};
+
+use crate::Ipv6Address;
+use crate::prefix::mask_128;
+use std::fmt;
+use std::marker::Model;
+
+/// A block of IPv6 addresses: all that have the first bits of one address (RFC 4291, section 2.3).
+#[derive(Debug, Clone, Copy, PartialEq, Eq, PartialOrd, Ord, Hash)]
+pub struct Ipv6Cidr {
+    address: Ipv6Address,
+    prefix_len: u8,
+}
+
+impl Model for Ipv6Cidr {
+    ghost use Rattle.std.specs.Prelude.{◌≤◌};
+    ghost use Rattle.wire_addr.specs.Block.{Block};
+    ghost use Rattle.wire_addr.specs.Octets.{AreOctets};
+
+    ghost Value = { Block };
+
+    ghost view = { λ block. record { address = block.address; prefix_len = block.prefix_len } };
+
+    ghost invariant = { λ block. AreOctets 16 block.address × (block.prefix_len ≤ 128) };
+
+    ghost inverse = { λ block. record { address = block.address; prefix_len = block.prefix_len } };
+}
+
+impl Ipv6Cidr {
+    /// The block of the addresses that have the first `prefix_len` bits of this one.
+    #[inline]
+    pub fn new(address: Ipv6Address, prefix_len: u8) -> Ipv6Cidr
+        requires { prefix_len ≤ 128 }
+        ensures { result ≡ record { address = address; prefix_len = prefix_len } }
+    {
+        Ipv6Cidr {
+            address,
+            prefix_len,
+        }
+    }
+
+    /// The address that it was made of.
+    #[inline]
+    pub fn address(&self) -> Ipv6Address
+        ensures { result ≡ self.now.address }
+    {
+        self.address
+    }
+
+    /// How many first bits its addresses have in common.
+    #[inline]
+    pub fn prefix_len(&self) -> u8
+        ensures value { result ≡ self.now.prefix_len }
+        ensures within { result ≤ 128 }
+    {
+        self.prefix_len
+    }
+
+    /// Whether the address is in the block.
+    #[inline]
+    pub fn contains_addr(&self, addr: &Ipv6Address) -> bool
+        ensures { IsTrue result ↔ IsIn self.now addr.now }
+    {
+        let mask = mask_128(self.prefix_len);
+        self.address.to_bits() & mask == addr.to_bits() & mask
+    }
+
+    /// Whether each address of the other block is in this one.
+    #[inline]
+    pub fn contains_subnet(&self, subnet: &Ipv6Cidr) -> bool
+        ensures { IsTrue result ↔ IsWithin 16 subnet.now self.now }
+    {
+        self.prefix_len <= subnet.prefix_len && self.contains_addr(&subnet.address)
+    }
+}
+
+/// The address, `/` and the length of the prefix (RFC 4291, section 2.3).
+impl fmt::Display for Ipv6Cidr {
+    ghost output = { λ block. Some (block_text ipv6_text block) };
+
+    fn fmt<W: fmt::Write>(&self, f: &mut fmt::Formatter<W>) -> fmt::Result {
+        write!(f, "{}/{}", self.address, self.prefix_len)
+    }
+}

@@ -1,0 +1,29 @@
+//! Masks of prefixes: so many ones, and zeros behind them.
+
+ghost use Rattle.std.specs.Prelude.{◌≡◌, ◌-◌, ◌^◌, ◌≤◌};
+
+/// So many ones and zeros behind them, 32 bits in all.
+#[inline]
+pub(crate) fn mask_32(ones: u8) -> u32
+    requires { ones ≤ 32 }
+    ensures { result ≡ 2 ^ 32 - 2 ^ (32 - ones) }
+{
+    if ones == 0 {
+        0
+    } else {
+        u32::MAX << (32 - ones)
+    }
+}
+
+/// So many ones and zeros behind them, 128 bits in all.
+#[inline]
+pub(crate) fn mask_128(ones: u8) -> u128
+    requires { ones ≤ 128 }
+    ensures { result ≡ 2 ^ 128 - 2 ^ (128 - ones) }
+{
+    if ones == 0 {
+        0
+    } else {
+        u128::MAX << (128 - ones)
+    }
+}
