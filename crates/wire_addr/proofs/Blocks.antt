@@ -1,12 +1,16 @@
 -- Prefixes and blocks, by the numbers that the octets spell.
-use Rattle.std.proofs.Common.{◌≡◌, ◌↔◌, ℕ, suc, ◌+◌, ◌-◌, ◌*◌, ◌/◌, ◌%◌, ◌^◌, ◌<◌, ◌≤◌, inl, inr, Bool, IsTrue, List, nat_eq, bit_and, bit_or, arith, refl, sym, ◌∙◌, ap}
+use Rattle.std.proofs.Common.{◌≡◌, ◌↔◌, ℕ, suc, ◌+◌, ◌-◌, ◌*◌, ◌/◌, ◌%◌, ◌^◌, ◌<◌, ◌≤◌, inl, inr, Bool, true, false, IsTrue, Decides, List, nat_eq, bit_and, bit_or, arith, refl, sym, ◌∙◌, ap}
 use Rattle.std.specs.Int.{bit_at, bytes_high_first}
 use Rattle.std.specs.Int.Count.{count_leading_zeros, leading_unique}
 use Rattle.std.proofs.Math.Nat.{lt-div-mul-add, mod-eq_of_lt}
 use Rattle.std.proofs.Math.Pow.{pow_mono}
-use Rattle.std.proofs.lemmas.Bool.{cases_lt, eq-eqb, eqb-true}
+use Rattle.std.proofs.lemmas.Bool.{cases_lt, eq-eqb, eqb-true, false≢true}
+use Rattle.std.proofs.lemmas.Bool.Decides.{Decides-eqb}
+use Rattle.std.proofs.lemmas.Option.{none-some, same_Some}
+use Rattle.std.specs.Bool.{then_some}
+use Rattle.std.specs.Prelude.{Some}
 use Rattle.std.proofs.lemmas.List.{get_or_past}
-use Rattle.std.proofs.lemmas.Nat.{mul-add-lt, or_shifted, pow_pos, pow-add, shr-shr, shr_below, shr_high, shr_split, shl-shr}
+use Rattle.std.proofs.lemmas.Nat.{leading_le, mul-add-lt, or_shifted, pow_pos, pow-add, shr-shr, shr_below, shr_high, shr_split, shl-shr}
 use Rattle.std.proofs.lemmas.Nat.Bits.{and_high_mask, bit_at_cat_low, bit_at_mask_below, bit_at_mask_inside, bit_at_ones, bit_at-zero, same_from_bits_below}
 use Rattle.wire_addr.specs.Octets.{AreOctets}
 use Rattle.wire_addr.specs.Prefix.{AgreeFirst, IsMasked, IsNetmask, bit_of, number_of}
@@ -249,3 +253,46 @@ pub not_within : (m p q : ℕ) (xs ys : List ℕ) → AreOctets m xs → q ≤ 8
 not_within m p q xs ys are bound less within =
     let enough : q ≤ p = ((IsWithin-member m p q xs ys are bound).1 within).0 in
     omega (arith, enough)
+
+-- the ones at the front are the prefix exactly where the number is the mask with so many ones
+pub prefix-test : (m ones bits mask : ℕ) (xs : List ℕ) → AreOctets m xs → bits ≡ number_of xs
+    → ones ≡ count_leading_zeros (8 * m) (2 ^ (8 * m) - 1 - bits) → mask ≡ 2 ^ (8 * m) - 2 ^ (8 * m - ones)
+    → (n : ℕ) → (then_some (nat_eq bits mask) ones ≡ Some n) ↔ IsNetmask n xs
+prefix-test m ones bits mask xs are eb eo em n = by_test (nat_eq bits mask) (Decides-eqb bits mask)
+  where
+    within : ones ≤ 8 * m
+    within = rw eo (leading_le (8 * m) (2 ^ (8 * m) - 1 - bits))
+
+    counted : IsNetmask n xs → ones ≡ n
+    counted is =
+        let le : n ≤ 8 * m = IsNetmask-within m n xs are is in
+        let spelled : bits ≡ 2 ^ (8 * m) - 2 ^ (8 * m - n) = eb ∙ number-IsNetmask m n (8 * m - n) xs are (omega arith) is in
+        eo ∙ ap (λ v. count_leading_zeros (8 * m) (2 ^ (8 * m) - 1 - v)) spelled ∙ leading_ones-mask (8 * m) (8 * m - n) (omega arith) ∙ omega arith
+
+    masked : IsNetmask n xs → bits ≡ mask
+    masked is =
+        let same : ones ≡ n = counted is in
+        let le : n ≤ 8 * m = IsNetmask-within m n xs are is in
+        eb ∙ number-IsNetmask m n (8 * m - n) xs are (omega arith) is ∙ rw (em, same) refl
+
+    by_test : (test : Bool) → Decides test (bits ≡ mask) → (then_some test ones ≡ Some n) ↔ IsNetmask n xs
+    by_test true decides = (
+      (λ some.
+          let same : ones ≡ n = same_Some ones n some in
+          rw (← same) (IsNetmask-number m ones (8 * m - ones) xs are (omega (arith, within)) (sym eb ∙ decides.0 refl ∙ em))),
+      (λ is. ap Some (counted is)),
+    )
+    by_test false decides = (
+      (λ some. absurd (none-some n some)),
+      (λ is. absurd (false≢true (decides.1 (masked is)))),
+    )
+
+-- the octets of a number under a mask
+pub IsMasked-bytes : (m n x mask : ℕ) (xs : List ℕ) → AreOctets m xs → n ≤ 8 * m → x ≡ number_of xs → mask ≡ 2 ^ (8 * m) - 2 ^ (8 * m - n)
+    → IsMasked n xs (bytes_high_first m (bit_and x mask))
+IsMasked-bytes m n x mask xs are within ex em =
+    let s : ℕ = 8 * m - n in
+    let under : bit_and x mask ≡ number_of xs / 2 ^ s * 2 ^ s = rw (ex, em) (number-under_mask m s xs are (omega arith)) in
+    let fits : bit_and x mask < 2 ^ (8 * m) = rw under (omega (arith, shr_split (number_of xs) s, number_of-lt m xs are)) in
+    IsMasked-number m n s xs (bytes_high_first m (bit_and x mask)) are (AreOctets-bytes m (bit_and x mask)) (omega arith)
+    (number_of-bytes m (bit_and x mask) ∙ mod-eq_of_lt fits ∙ under)

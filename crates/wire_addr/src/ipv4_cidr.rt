@@ -1,12 +1,13 @@
 //! Blocks of IPv4 addresses.
 
-ghost use Rattle.std.specs.Prelude.{◌≡◌, ◌↔◌, ◌≤◌, ◌<◌, IsTrue, MatchOption, Some};
-ghost use Rattle.wire_addr.specs.Block.{IsGreatest, IsIn, IsLeast, IsWithin};
+ghost use Rattle.std.specs.Prelude.{◌≡◌, ◌↔◌, ◌≤◌, ◌<◌, IsTrue, MatchOption, Ok, Some};
+ghost use Rattle.wire_addr.specs.Block.{Block, IsGreatest, IsIn, IsLeast, IsWithin};
 ghost use Rattle.wire_addr.specs.Prefix.{IsNetmask};
 ghost use Rattle.wire_addr.specs.Printed.{block_text, dotted};
 
 use crate::Ipv4Address;
 use crate::prefix::mask_32;
+use net_base::{Error, Result};
 use std::fmt;
 use std::marker::Model;
 
@@ -41,6 +42,18 @@ impl Ipv4Cidr {
         Ipv4Cidr {
             address,
             prefix_len,
+        }
+    }
+
+    /// The block of an address and a netmask. Refused is what has a zero before a one, and what has no
+    /// one at all.
+    pub fn from_netmask(addr: Ipv4Address, netmask: Ipv4Address) -> Result<Ipv4Cidr>
+        ensures { (block : Block) → (result ≡ Ok block)
+            ↔ ((block.address ≡ addr) × IsNetmask block.prefix_len netmask × (1 ≤ block.prefix_len)) }
+    {
+        match netmask.prefix_len() {
+            Some(prefix_len) if prefix_len > 0 => Ok(Ipv4Cidr::new(addr, prefix_len)),
+            _ => Err(Error),
         }
     }
 

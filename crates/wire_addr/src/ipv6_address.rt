@@ -1,15 +1,41 @@
 //! Addresses of IPv6.
 
-ghost use Rattle.std.specs.Prelude.{◌≡◌, ◌≢◌, ◌+◌, ◌<◌, ◌≤◌, ◌∷◌, ◌++◌, [], MatchOption, Some, length, take};
+ghost use Rattle.std.specs.Prelude.{ℕ, ◌≡◌, ◌≢◌, ◌↔◌, ◌+◌, ◌<◌, ◌≤◌, ◌∷◌, ◌++◌, [], IfSome, IsTrue, MatchOption, Some, length, take};
 ghost use Rattle.std.specs.Net.Text.{leading_zero_digits, longest_zero_run};
 ghost use Rattle.std.specs.Char.{digit_char};
+ghost use Rattle.wire_addr.specs.Block.{IsIn};
+ghost use Rattle.wire_addr.specs.Class.{HasScope, IsIpv6Unicast, ipv6_global_unicast, ipv6_link_local, ipv6_loopback, ipv6_multicast, ipv6_solicited_node, ipv6_unique_local, ipv6_unspecified, link_address, solicited_node};
 ghost use Rattle.wire_addr.specs.Octets.{AreOctets, groups_of, mapped_prefix, octets_of};
-ghost use Rattle.wire_addr.specs.Prefix.{number_of};
+ghost use Rattle.wire_addr.specs.Prefix.{IsMasked, IsNetmask, number_of};
 ghost use Rattle.wire_addr.specs.Printed.{colon_hex, hex, ipv6_text};
 
-use crate::Ipv4Address;
+use crate::prefix::mask_128;
+use crate::{HardwareAddress, Ipv4Address, Ipv6Cidr, Ipv6MulticastScope};
 use std::fmt;
 use std::marker::Model;
+
+/// How many octets an address has.
+pub const IPV6_ADDR_SIZE: usize = 16;
+
+/// The group of all nodes of a link (RFC 4291, section 2.7.1).
+pub const IPV6_LINK_LOCAL_ALL_NODES: Ipv6Address = Ipv6Address([
+    0xff, 0x02, 0, 0, 0, 0, 0, 0, 0, 0, 0, 0, 0, 0, 0, 0x01,
+]);
+
+/// The group of all routers of a link (RFC 4291, section 2.7.1).
+pub const IPV6_LINK_LOCAL_ALL_ROUTERS: Ipv6Address = Ipv6Address([
+    0xff, 0x02, 0, 0, 0, 0, 0, 0, 0, 0, 0, 0, 0, 0, 0, 0x02,
+]);
+
+/// The group of all routers of a link that listen to reports of its listeners (RFC 3810, section 11).
+pub const IPV6_LINK_LOCAL_ALL_MLDV2_ROUTERS: Ipv6Address = Ipv6Address([
+    0xff, 0x02, 0, 0, 0, 0, 0, 0, 0, 0, 0, 0, 0, 0, 0, 0x16,
+]);
+
+/// The group of all nodes of a link that speak RPL (RFC 6550, section 20.19).
+pub const IPV6_LINK_LOCAL_ALL_RPL_NODES: Ipv6Address = Ipv6Address([
+    0xff, 0x02, 0, 0, 0, 0, 0, 0, 0, 0, 0, 0, 0, 0, 0, 0x1a,
+]);
 
 /// The first twelve octets of an address that stands for an IPv4 address (RFC 4291, section 2.5.5.2).
 const MAPPED_PREFIX: [u8; 12] = [0, 0, 0, 0, 0, 0, 0, 0, 0, 0, 0xff, 0xff];
@@ -20,10 +46,12 @@ const MIN_RUN: usize = 2;
 /// A sixteen-octet IPv6 address. A clause sees it as the list of its octets, the one that is sent
 /// first standing first.
 #[derive(Debug, Clone, Copy, PartialEq, Eq, PartialOrd, Ord, Hash)]
-pub struct Ipv6Address([u8; 16]);
+pub struct Ipv6Address(pub(crate) [u8; IPV6_ADDR_SIZE]);
 
 impl Model for Ipv6Address {
     ghost use Rattle.std.specs.Prelude.{ℕ, List};
+    ghost use Rattle.wire_addr.specs.Block.{IsIn};
+    ghost use Rattle.wire_addr.specs.Class.{HasScope, IsIpv6Unicast, ipv6_global_unicast, ipv6_link_local, ipv6_loopback, ipv6_multicast, ipv6_solicited_node, ipv6_unique_local, ipv6_unspecified, link_address, solicited_node};
     ghost use Rattle.wire_addr.specs.Octets.{AreOctets};
 
     ghost Value = { List ℕ };
@@ -98,6 +126,134 @@ impl Ipv6Address {
             u16::from_be_bytes([m, n]),
             u16::from_be_bytes([o, p]),
         ]
+    }
+
+    /// Whether it stands for no address.
+    #[inline]
+    pub fn is_unspecified(&self) -> bool
+        ensures { IsTrue result ↔ (self.now ≡ ipv6_unspecified) }
+    {
+        *self == Ipv6Address::UNSPECIFIED
+    }
+
+    /// Whether a host sends to itself by it.
+    #[inline]
+    pub fn is_loopback(&self) -> bool
+        ensures { IsTrue result ↔ (self.now ≡ ipv6_loopback) }
+    {
+        *self == Ipv6Address::LOCALHOST
+    }
+
+    /// Whether it is the address of a group, one of ff00::/8 (RFC 4291, section 2.7).
+    #[inline]
+    pub fn is_multicast(&self) -> bool
+        ensures { IsTrue result ↔ IsIn ipv6_multicast self.now }
+    {
+        Ipv6Cidr::new(Ipv6Address::new(0xff00, 0, 0, 0, 0, 0, 0, 0), 8).contains_addr(self)
+    }
+
+    /// Whether it is an address within one organization, one of fc00::/7 (RFC 4193, section 3.1).
+    #[inline]
+    pub fn is_unique_local(&self) -> bool
+        ensures { IsTrue result ↔ IsIn ipv6_unique_local self.now }
+    {
+        Ipv6Cidr::new(Ipv6Address::new(0xfc00, 0, 0, 0, 0, 0, 0, 0), 7).contains_addr(self)
+    }
+
+    /// Whether it is an address on one link alone: one of fe80::/64, as the ten bits of its prefix are
+    /// followed by 54 zeros (RFC 4291, section 2.5.6). `Ipv6Cidr::LINK_LOCAL_PREFIX` has all that begin
+    /// with these ten bits.
+    #[inline]
+    pub fn is_link_local(&self) -> bool
+        ensures { IsTrue result ↔ IsIn ipv6_link_local self.now }
+    {
+        Ipv6Cidr::new(Ipv6Address::new(0xfe80, 0, 0, 0, 0, 0, 0, 0), 64).contains_addr(self)
+    }
+
+    /// Whether it is a global address of one interface, one of 2000::/3 (RFC 3587, section 3).
+    #[inline]
+    pub fn is_global_unicast(&self) -> bool
+        ensures { IsTrue result ↔ IsIn ipv6_global_unicast self.now }
+    {
+        Ipv6Cidr::new(Ipv6Address::new(0x2000, 0, 0, 0, 0, 0, 0, 0), 3).contains_addr(self)
+    }
+
+    /// Whether it is the address of one interface: not that of a group or of none.
+    pub fn x_is_unicast(&self) -> bool
+        ensures { IsTrue result ↔ IsIpv6Unicast self.now }
+    {
+        !(self.is_multicast() || self.is_unspecified())
+    }
+
+    /// The address of an interface on the link with this prefix: the prefix and the identifier of the
+    /// interface (RFC 2464, section 4). There is none where the prefix has another length than 64 bits,
+    /// or the interface has no identifier.
+    pub fn from_link_prefix(
+        link_prefix: &Ipv6Cidr,
+        interface_identifier: HardwareAddress,
+    ) -> Option<Ipv6Address>
+        ensures { result ≡ link_address link_prefix.now interface_identifier }
+    {
+        if link_prefix.prefix_len() != 64 {
+            return None;
+        }
+        let mut octets = link_prefix.address().octets();
+        octets[8..].copy_from_slice(&interface_identifier.as_eui_64()?);
+        Some(Ipv6Address::from_octets(octets))
+    }
+
+    /// Its octets with zeros behind the first `mask` bits.
+    pub fn mask(&self, mask: u8) -> [u8; IPV6_ADDR_SIZE]
+        requires { mask ≤ 128 }
+        ensures { IsMasked mask self.now result }
+    {
+        (self.to_bits() & mask_128(mask)).to_be_bytes()
+    }
+
+    /// The group by which neighbours ask for the interface with this address (RFC 4291, section 2.7.1).
+    pub fn solicited_node(&self) -> Ipv6Address
+        requires { IsIpv6Unicast self.now }
+        ensures { result ≡ solicited_node self.now }
+    {
+        let mut octets = Ipv6Cidr::SOLICITED_NODE_PREFIX.address().octets();
+        octets[13..].copy_from_slice(&self.0[13..]);
+        Ipv6Address::from_octets(octets)
+    }
+
+    /// Whether it is a group by which neighbours ask for an interface, one of ff02::1:ff00:0/104 (RFC
+    /// 4291, section 2.7.1).
+    #[inline]
+    pub fn is_solicited_node_multicast(&self) -> bool
+        ensures { IsTrue result ↔ IsIn ipv6_solicited_node self.now }
+    {
+        Ipv6Cidr::SOLICITED_NODE_PREFIX.contains_addr(self)
+    }
+
+    /// How far packets to it reach. The address of one interface has a scope too, by which senders
+    /// choose their address (RFC 6724, section 3.1); that of a unique local one is global.
+    pub fn x_multicast_scope(&self) -> Ipv6MulticastScope
+        ensures { HasScope self.now result }
+    {
+        if self.is_multicast() {
+            (self.0[1] & 0x0f).into()
+        } else if self.is_link_local() {
+            Ipv6MulticastScope::LinkLocal
+        } else if self.is_unique_local() || self.is_global_unicast() {
+            Ipv6MulticastScope::Global
+        } else {
+            Ipv6MulticastScope::Unknown
+        }
+    }
+
+    /// The length of the prefix whose netmask it is: how many ones there are, where only zeros follow
+    /// them.
+    pub fn prefix_len(&self) -> Option<u8>
+        ensures value { (n : ℕ) → (result ≡ Some n) ↔ IsNetmask n self.now }
+        ensures within { IfSome result (λ n. n ≤ 128) }
+    {
+        let bits = self.to_bits();
+        let ones = bits.leading_ones() as u8;
+        (bits == mask_128(ones)).then_some(ones)
     }
 
     /// The IPv4 address that it stands for, if it is a mapped one.

@@ -1,11 +1,13 @@
 //! Blocks of IPv6 addresses.
 
 ghost use Rattle.std.specs.Prelude.{◌≡◌, ◌↔◌, ◌≤◌, IsTrue, Some};
+ghost use Rattle.std.specs.Option.{option_map};
 ghost use Rattle.wire_addr.specs.Block.{IsIn, IsWithin};
+ghost use Rattle.wire_addr.specs.Class.{link_address};
 ghost use Rattle.wire_addr.specs.Printed.{block_text, ipv6_text};
 
-use crate::Ipv6Address;
 use crate::prefix::mask_128;
+use crate::{HardwareAddress, Ipv6Address};
 use std::fmt;
 use std::marker::Model;
 
@@ -31,6 +33,19 @@ impl Model for Ipv6Cidr {
 }
 
 impl Ipv6Cidr {
+    /// The groups by which neighbours ask for an interface, ff02::1:ff00:0/104 (RFC 4291, section
+    /// 2.7.1).
+    pub const SOLICITED_NODE_PREFIX: Ipv6Cidr = Ipv6Cidr {
+        address: Ipv6Address([0xff, 0x02, 0, 0, 0, 0, 0, 0, 0, 0, 0, 0x01, 0xff, 0, 0, 0]),
+        prefix_len: 104,
+    };
+
+    /// The addresses that are set aside for single links, fe80::/10 (RFC 4291, section 2.4).
+    pub const LINK_LOCAL_PREFIX: Ipv6Cidr = Ipv6Cidr {
+        address: Ipv6Address([0xfe, 0x80, 0, 0, 0, 0, 0, 0, 0, 0, 0, 0, 0, 0, 0, 0]),
+        prefix_len: 10,
+    };
+
     /// The block of the addresses that have the first `prefix_len` bits of this one.
     #[inline]
     pub fn new(address: Ipv6Address, prefix_len: u8) -> Ipv6Cidr
@@ -41,6 +56,18 @@ impl Ipv6Cidr {
             address,
             prefix_len,
         }
+    }
+
+    /// The block of the address that `Ipv6Address::from_link_prefix` gives, with the prefix of the link.
+    pub fn from_link_prefix(
+        link_prefix: &Ipv6Cidr,
+        interface_identifier: HardwareAddress,
+    ) -> Option<Ipv6Cidr>
+        ensures { result ≡ option_map (λ address. record { address = address; prefix_len = 64 })
+            (link_address link_prefix.now interface_identifier) }
+    {
+        let address = Ipv6Address::from_link_prefix(link_prefix, interface_identifier)?;
+        Some(Ipv6Cidr::new(address, link_prefix.prefix_len()))
     }
 
     /// The address that it was made of.
