@@ -1,6 +1,9 @@
 -- A block of addresses: all that have the first bits of one address (RFC 4632, section 3.1). An address is the list of
 -- its octets, four or sixteen of them.
 use Rattle.std.specs.Prelude.{ℕ, ◌≤◌, List}
+use Rattle.std.specs.Cmp.Lexicographic.{slice_cmp}
+use Rattle.std.specs.Ordering.{nat_cmp, ordering_then}
+use Rattle.std.specs.declared.cmp.Ordering.{Ordering}
 use Rattle.wire_addr.specs.Octets.{AreOctets}
 use Rattle.wire_addr.specs.Prefix.{AgreeFirst, number_of}
 
@@ -26,3 +29,7 @@ pub record IsLeast (n : ℕ) (block : Block) (address : List ℕ) : Type 0 where
 pub record IsGreatest (n : ℕ) (block : Block) (address : List ℕ) : Type 0 where
   pub member : IsIn block address
   pub greatest : (other : List ℕ) → AreOctets n other → IsIn block other → number_of other ≤ number_of address
+
+-- how blocks compare: by their addresses, octet by octet, and then by the lengths of their prefixes
+abbrev pub block_cmp : Block → Block → Ordering
+block_cmp a b = ordering_then (slice_cmp nat_cmp a.address b.address) (nat_cmp a.prefix_len b.prefix_len)

@@ -1,12 +1,53 @@
-//! What holds by the definitions alone. The functions do nothing when they run.
+//! What holds by the definitions alone, and of what is derived. The functions that answer nothing do
+//! nothing when they run.
 
-ghost use Rattle.std.specs.Prelude.{◌≡◌};
+ghost use Rattle.std.specs.Prelude.{◌≡◌, ◌↔◌, true};
+ghost use Rattle.std.specs.Cmp.Lexicographic.{slice_cmp};
+ghost use Rattle.std.specs.Ordering.{nat_cmp};
+ghost use Rattle.std.specs.declared.cmp.Ordering.TheVariants.{Equal};
+ghost use Rattle.wire_addr.specs.Block.{block_cmp};
 ghost use Rattle.wire_addr.specs.Printed.{IsIpv6Print, ipv6_text};
 
-use crate::Ipv6Address;
+use crate::{Ipv4Address, Ipv4Cidr, Ipv6Address, Ipv6Cidr};
+use std::cmp::Ordering;
+use std::hash::Hash;
 
 /// The text of an address is the one that the rule for printing it asks for.
 pub fn ipv6_print_rule(address: Ipv6Address, other: &[u8])
     ensures is { IsIpv6Print address (ipv6_text address) }
     ensures only { IsIpv6Print address other.now → other.now ≡ ipv6_text address }
 {}
+
+/// Values are equal exactly where neither comes before the other, and equal ones are hashed alike.
+pub fn order_agrees<T: Ord + Hash>(a: &T, b: &T)
+    ensures order { (T.cmp a.now b.now ≡ Equal) ↔ (T.eq a.now b.now ≡ true) }
+    ensures hash { T.eq a.now b.now ≡ true → T.hash_input a.now ≡ T.hash_input b.now }
+{}
+
+/// IPv4 addresses are ordered by their octets.
+pub fn ipv4_address_order(a: Ipv4Address, b: Ipv4Address) -> Ordering
+    ensures { result ≡ slice_cmp nat_cmp a b }
+{
+    a.cmp(&b)
+}
+
+/// IPv6 addresses are ordered by their octets.
+pub fn ipv6_address_order(a: Ipv6Address, b: Ipv6Address) -> Ordering
+    ensures { result ≡ slice_cmp nat_cmp a b }
+{
+    a.cmp(&b)
+}
+
+/// IPv4 blocks are ordered by their addresses, and those of one address by the lengths of their prefixes.
+pub fn ipv4_block_order(a: Ipv4Cidr, b: Ipv4Cidr) -> Ordering
+    ensures { result ≡ block_cmp a b }
+{
+    a.cmp(&b)
+}
+
+/// IPv6 blocks are ordered by their addresses, and those of one address by the lengths of their prefixes.
+pub fn ipv6_block_order(a: Ipv6Cidr, b: Ipv6Cidr) -> Ordering
+    ensures { result ≡ block_cmp a b }
+{
+    a.cmp(&b)
+}
