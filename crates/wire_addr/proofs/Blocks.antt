@@ -1,10 +1,10 @@
 -- Prefixes and blocks, by the numbers that the octets spell.
-use Rattle.std.proofs.Common.{◌≡◌, ◌↔◌, ℕ, suc, ◌+◌, ◌-◌, ◌*◌, ◌/◌, ◌%◌, ◌^◌, ◌<◌, ◌≤◌, inl, inr, Bool, true, false, IsTrue, Decides, List, nat_eq, bit_and, bit_or, arith, refl, sym, ◌∙◌, ap}
+use Rattle.std.proofs.Common.{◌≡◌, ◌↔◌, ℕ, suc, ◌+◌, ◌-◌, ◌*◌, ◌/◌, ◌%◌, ◌^◌, ◌<◌, ◌≤◌, inl, inr, Bool, true, false, IsTrue, Decides, List, nat_eq, nat_le, bit_and, bit_or, arith, refl, sym, ◌∙◌, ap}
 use Rattle.std.specs.Int.{bit_at, bytes_high_first}
 use Rattle.std.specs.Int.Count.{count_leading_zeros, leading_unique}
 use Rattle.std.proofs.Math.Nat.{lt-div-mul-add, mod-eq_of_lt}
 use Rattle.std.proofs.Math.Pow.{pow_mono}
-use Rattle.std.proofs.lemmas.Bool.{cases_lt, eq-eqb, eqb-true, false≢true}
+use Rattle.std.proofs.lemmas.Bool.{cases_lt, eq-eqb, eqb-true, false≢true, le-leb, leb-true}
 use Rattle.std.proofs.lemmas.Bool.Decides.{Decides-eqb}
 use Rattle.std.proofs.lemmas.Option.{none-some, same_Some}
 use Rattle.std.specs.Bool.{then_some}
@@ -240,19 +240,16 @@ member-test m n x y mask xs ys are_xs are_ys within ex ey em =
           (x_is ∙ ap (λ v. v * 2 ^ s) (numbers_from_agree m n s xs ys are_xs are_ys e agree) ∙ sym y_is),
     )
 
--- where the other block has bits enough, its own address decides; where it has not, some address of it is outside
-pub within-test : (m p q : ℕ) (xs ys : List ℕ) (test : Bool) → AreOctets m xs → q ≤ 8 * m → q ≤ p
-    → (IsTrue test ↔ AgreeFirst q ys xs)
-    → IsTrue test ↔ IsWithin m (record { address = xs; prefix_len = p }) (record { address = ys; prefix_len = q })
-within-test m p q xs ys test are bound enough member =
+-- where its own address is in the other block, the lengths decide; where it is not, no more is needed
+pub within-test : (m p q : ℕ) (xs ys : List ℕ) → AreOctets m xs → q ≤ 8 * m → AgreeFirst q ys xs
+    → IsTrue (nat_le q p) ↔ IsWithin m (record { address = xs; prefix_len = p }) (record { address = ys; prefix_len = q })
+within-test m p q xs ys are bound member =
     let both = IsWithin-member m p q xs ys are bound in
-    ((λ t. both.0 (enough, member.0 t)), (λ within. member.1 (both.1 within).1))
+    ((λ t. both.0 (leb-true q p t, member)), (λ within. le-leb q p (both.1 within).0))
 
-pub not_within : (m p q : ℕ) (xs ys : List ℕ) → AreOctets m xs → q ≤ 8 * m → p < q
+pub not_within : (m p q : ℕ) (xs ys : List ℕ) → AreOctets m xs → q ≤ 8 * m → ¬ (AgreeFirst q ys xs)
     → ¬ (IsWithin m (record { address = xs; prefix_len = p }) (record { address = ys; prefix_len = q }))
-not_within m p q xs ys are bound less within =
-    let enough : q ≤ p = ((IsWithin-member m p q xs ys are bound).1 within).0 in
-    omega (arith, enough)
+not_within m p q xs ys are bound apart within = apart ((IsWithin-member m p q xs ys are bound).1 within).1
 
 -- the ones at the front are the prefix exactly where the number is the mask with so many ones
 pub prefix-test : (m ones bits mask : ℕ) (xs : List ℕ) → AreOctets m xs → bits ≡ number_of xs

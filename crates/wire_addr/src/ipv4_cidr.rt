@@ -120,7 +120,7 @@ impl Ipv4Cidr {
     pub fn contains_subnet(&self, subnet: &Ipv4Cidr) -> bool
         ensures { IsTrue result ↔ IsWithin 4 subnet.now self.now }
     {
-        self.prefix_len <= subnet.prefix_len && self.contains_addr(&subnet.address)
+        self.contains_addr(&subnet.address) && self.prefix_len <= subnet.prefix_len
     }
 }
 

@@ -235,7 +235,7 @@ impl Ipv6Address {
         ensures { HasScope self.now result }
     {
         if self.is_multicast() {
-            (self.0[1] & 0x0f).into()
+            (self.0[1] % 16).into()
         } else if self.is_link_local() {
             Ipv6MulticastScope::LinkLocal
         } else if self.is_unique_local() || self.is_global_unicast() {

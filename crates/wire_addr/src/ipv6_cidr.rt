@@ -101,7 +101,7 @@ impl Ipv6Cidr {
     pub fn contains_subnet(&self, subnet: &Ipv6Cidr) -> bool
         ensures { IsTrue result ↔ IsWithin 16 subnet.now self.now }
     {
-        self.prefix_len <= subnet.prefix_len && self.contains_addr(&subnet.address)
+        self.contains_addr(&subnet.address) && self.prefix_len <= subnet.prefix_len
     }
 }
 

@@ -8,11 +8,8 @@ pub(crate) fn mask_32(ones: u8) -> u32
     requires { ones ≤ 32 }
     ensures { result ≡ 2 ^ 32 - 2 ^ (32 - ones) }
 {
-    if ones == 0 {
-        0
-    } else {
-        u32::MAX << (32 - ones)
-    }
+    let zeros = 32 - ones;
+    if zeros == 32 { 0 } else { u32::MAX << zeros }
 }
 
 /// So many ones and zeros behind them, 128 bits in all.
@@ -21,9 +18,6 @@ pub(crate) fn mask_128(ones: u8) -> u128
     requires { ones ≤ 128 }
     ensures { result ≡ 2 ^ 128 - 2 ^ (128 - ones) }
 {
-    if ones == 0 {
-        0
-    } else {
-        u128::MAX << (128 - ones)
-    }
+    let zeros = 128 - ones;
+    if zeros == 128 { 0 } else { u128::MAX << zeros }
 }

@@ -1,4 +1,4 @@
-use Rattle.std.proofs.Common.{ℕ, ◌-◌, ◌≤◌, ◌∙◌, arith}
+use Rattle.std.proofs.Common.{ℕ, ◌-◌, ◌≤◌, ◌∙◌, arith, rules}
 use Rattle.wire_addr.proofs.Blocks.{IsGreatest-number, number-over_mask, number-under_mask}
 use Rattle.wire_addr.proofs.ipv4_cidr.Ipv4Cidr.broadcast.Goals as goal
 
@@ -8,7 +8,7 @@ returns c =
     let le : s ≤ 32 = omega arith in
     let address = c.self.inside.address in
     rw (← c.self.view_is) (
-      c.if-self-ge31.false,
+      search rules,
       IsGreatest-number 4 c.self.inside.prefix_len s address c.from_bits.result c.self.invariant.0 c.from_bits.ensures.octets
           (omega (arith, c.self.invariant.1))
           (c.from_bits.ensures.value

@@ -1,14 +1,12 @@
-use Rattle.std.proofs.Common.{get_or, refl, sym, ap, ◌∙◌}
+use Rattle.std.proofs.Common.{refl, rules, sym, ◌∙◌}
 use Rattle.std.proofs.lemmas.Bool.{false≢true}
-use Rattle.std.proofs.lemmas.Nat.{and_mask}
-use Rattle.wire_addr.specs.Class.{scope_of}
 use Rattle.wire_addr.proofs.ipv6_address.Ipv6Address.x_multicast_scope.Goals as goal
 
 pub returns-then-is_multicast : goal.returns-then-is_multicast
 returns-then-is_multicast c =
     let member = c.is_multicast.ensures.0 c.if-is_multicast.true in
     record {
-      multicast = λ _. rw (← c.self.view_is) (c.into.ensures ∙ ap scope_of (and_mask (get_or c.self.inside.0 1 0) 4));
+      multicast = λ _. rw (← c.self.view_is) (search rules);
       link_local = λ apart _. absurd (apart member);
       global = λ apart _ _. absurd (apart member);
       other = λ apart _ _ _. absurd (apart member);
