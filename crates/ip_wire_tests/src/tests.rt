@@ -10,6 +10,7 @@ mod ethernet_address;
 mod hardware_address;
 mod ip;
 mod ip_address;
+mod ip_endpoint;
 mod ip_version;
 mod ipv4;
 mod ipv4_address;

@@ -1,3 +1,4 @@
 mod ProtocolWorked
 pub mod Protocols
+pub mod StdNet
 pub mod Versions

@@ -1,5 +1,9 @@
 -- Addresses of either version of the Internet Protocol.
 use Rattle.std.specs.Prelude.{ℕ, List}
+use Rattle.std.specs.Cmp.Lexicographic.{slice_cmp}
+use Rattle.std.specs.Ordering.{nat_cmp}
+use Rattle.std.specs.declared.cmp.Ordering.{Ordering}
+use Rattle.std.specs.declared.cmp.Ordering.TheVariants.{Less, Greater}
 use Rattle.wire_addr.specs.Printed.{dotted, ipv6_text}
 use Rattle.wire_ends.specs.declared.ip_address.IpAddress.{IpAddress}
 use Rattle.wire_ends.specs.declared.ip_address.IpAddress.TheVariants.{Ipv4, Ipv6}
@@ -20,3 +24,10 @@ address_text (Ipv6 octets) = ipv6_text octets
 abbrev pub octets_of : IpAddress → List ℕ
 octets_of (Ipv4 octets) = octets
 octets_of (Ipv6 octets) = octets
+
+-- those of IPv4 before those of IPv6, and those of one version by their octets
+abbrev pub address_order : IpAddress → IpAddress → Ordering
+address_order (Ipv4 a) (Ipv4 b) = slice_cmp nat_cmp a b
+address_order (Ipv4 a) (Ipv6 b) = Less
+address_order (Ipv6 a) (Ipv4 b) = Greater
+address_order (Ipv6 a) (Ipv6 b) = slice_cmp nat_cmp a b

@@ -1,12 +1,15 @@
 //! Addresses of either version of the Internet Protocol.
 
 ghost use Rattle.std.specs.Prelude.{◌≡◌, ◌∷◌, [], Some};
+ghost use Rattle.std.specs.declared.net.ip_addr.IpAddr.TheVariants.{V4, V6};
 ghost use Rattle.wire_addr.specs.Octets.{octets_of};
 ghost use Rattle.wire_ends.specs.IpAddress.{address_text, version_of};
+ghost use Rattle.wire_ends.specs.StdNet.{address_of};
 ghost use Rattle.wire_ends.specs.declared.ip_address.IpAddress.TheVariants.{Ipv4, Ipv6};
 
 use crate::ip_version::IpVersion;
 use std::fmt;
+use std::net::{IpAddr, Ipv4Addr, Ipv6Addr};
 use wire_addr::{Ipv4Address, Ipv6Address};
 
 /// An address of either version.
@@ -56,6 +59,48 @@ impl From<Ipv6Address> for IpAddress {
 
     fn from(value: Ipv6Address) -> IpAddress {
         IpAddress::Ipv6(value)
+    }
+}
+
+/// The address with the same octets.
+impl From<IpAddr> for IpAddress {
+    ghost from_gives = { λ addr address. address ≡ address_of addr };
+
+    fn from(value: IpAddr) -> IpAddress {
+        match value {
+            IpAddr::V4(addr) => addr.into(),
+            IpAddr::V6(addr) => addr.into(),
+        }
+    }
+}
+
+/// The address with the same octets.
+impl From<Ipv4Addr> for IpAddress {
+    ghost from_gives = { λ addr address. address ≡ address_of (V4 addr) };
+
+    fn from(value: Ipv4Addr) -> IpAddress {
+        IpAddress::Ipv4(Ipv4Address::from_octets(value.octets()))
+    }
+}
+
+/// The address with the same octets.
+impl From<Ipv6Addr> for IpAddress {
+    ghost from_gives = { λ addr address. address ≡ address_of (V6 addr) };
+
+    fn from(value: Ipv6Addr) -> IpAddress {
+        IpAddress::Ipv6(Ipv6Address::from_octets(value.octets()))
+    }
+}
+
+/// The address with the same octets.
+impl From<IpAddress> for IpAddr {
+    ghost from_gives = { λ address addr. address_of addr ≡ address };
+
+    fn from(value: IpAddress) -> IpAddr {
+        match value {
+            IpAddress::Ipv4(address) => IpAddr::V4(Ipv4Addr::from_octets(address.octets())),
+            IpAddress::Ipv6(address) => IpAddr::V6(Ipv6Addr::from_octets(address.octets())),
+        }
     }
 }
 

@@ -1,11 +1,16 @@
-//! What names the ends of a packet's way: versions of the Internet Protocol, addresses of either, and the
-//! protocols that they carry.
+//! What names the ends of a packet's way: versions of the Internet Protocol, addresses of either, ports at
+//! these, and the protocols that packets carry.
 #![tactic(auto)]
 
 mod ip_address;
+mod ip_endpoint;
+mod ip_listen_endpoint;
 mod ip_protocol;
 mod ip_version;
+pub mod laws;
 
 pub use ip_address::IpAddress;
+pub use ip_endpoint::IpEndpoint;
+pub use ip_listen_endpoint::IpListenEndpoint;
 pub use ip_protocol::IpProtocol;
 pub use ip_version::IpVersion;

@@ -2,6 +2,7 @@
 
 use super::count_distinct;
 use ip_wire::{IpAddress, IpVersion, Ipv4Address, Ipv6Address};
+use std::net::{IpAddr, Ipv4Addr, Ipv6Addr};
 use std::test::Fail;
 
 #[test]
@@ -35,6 +36,25 @@ fn is_made_of_an_address(rt: HostRuntime) {
     assert!(rt; ipv4 == IpAddress::v4(1, 2, 3, 4));
     let ipv6 = IpAddress::from(Ipv6Address::LOCALHOST);
     assert!(rt; ipv6 == IpAddress::v6(0, 0, 0, 0, 0, 0, 0, 1));
+}
+
+#[test]
+fn converts_with_std(rt: HostRuntime) {
+    let octets = [
+        0, 0, 0, 0, 0, 0, 0, 0, 0, 0, 0xff, 0xff, 0x01, 0x02, 0x03, 0x04,
+    ];
+    let ipv4 = Ipv4Addr::new(192, 168, 1, 1);
+    let ipv6 = Ipv6Addr::from(octets);
+    let mapped = IpAddress::v6(0, 0, 0, 0, 0, 0xffff, 0x102, 0x304);
+    assert_eq!(rt; IpAddress::from(ipv4), IpAddress::v4(192, 168, 1, 1));
+    assert_eq!(rt; IpAddress::from(ipv6), mapped);
+    for (addr, address) in [
+        (IpAddr::V4(ipv4), IpAddress::v4(192, 168, 1, 1)),
+        (IpAddr::V6(ipv6), mapped),
+    ] {
+        assert_eq!(rt; IpAddress::from(addr), address);
+        assert!(rt; IpAddr::from(address) == addr);
+    }
 }
 
 #[test]

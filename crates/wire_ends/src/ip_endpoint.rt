@@ -1,0 +1,81 @@
+//! An address with a port.
+
+ghost use Rattle.std.specs.Prelude.{◌≡◌, Some};
+ghost use Rattle.std.specs.Net.Socket.{IsPlainSocket};
+ghost use Rattle.std.specs.declared.net.socket_addr.SocketAddr.TheVariants.{V4, V6};
+ghost use Rattle.wire_ends.specs.Endpoint.{IsAtPair, endpoint_at, endpoint_text};
+ghost use Rattle.wire_ends.specs.StdNet.{endpoint_of};
+
+use crate::IpAddress;
+use std::fmt;
+use std::net::{SocketAddr, SocketAddrV4, SocketAddrV6};
+
+/// An address and a port: one end of what UDP and TCP carry.
+#[derive(Debug, Clone, Copy, PartialEq, Eq, PartialOrd, Ord, Hash)]
+pub struct IpEndpoint {
+    pub addr: IpAddress,
+    pub port: u16,
+}
+
+impl IpEndpoint {
+    /// The endpoint at this address and port.
+    pub fn new(addr: IpAddress, port: u16) -> IpEndpoint
+        ensures { result ≡ endpoint_at addr port }
+    {
+        IpEndpoint { addr, port }
+    }
+}
+
+/// The endpoint at what converts to an address, and a port.
+impl<A: Into<IpAddress>> From<(A, u16)> for IpEndpoint {
+    ghost from_gives = { IsAtPair A.Into.converts };
+
+    fn from((addr, port): (A, u16)) -> IpEndpoint {
+        IpEndpoint::new(addr.into(), port)
+    }
+}
+
+/// The same address and port. The flow and the scope of an IPv6 one are left out.
+impl From<SocketAddr> for IpEndpoint {
+    ghost from_gives = { λ socket endpoint. endpoint ≡ endpoint_of socket };
+
+    fn from(value: SocketAddr) -> IpEndpoint {
+        IpEndpoint::new(value.ip().into(), value.port())
+    }
+}
+
+/// The same address and port.
+impl From<SocketAddrV4> for IpEndpoint {
+    ghost from_gives = { λ socket endpoint. endpoint ≡ endpoint_of (V4 socket) };
+
+    fn from(value: SocketAddrV4) -> IpEndpoint {
+        SocketAddr::V4(value).into()
+    }
+}
+
+/// The same address and port. Flow and scope are left out.
+impl From<SocketAddrV6> for IpEndpoint {
+    ghost from_gives = { λ socket endpoint. endpoint ≡ endpoint_of (V6 socket) };
+
+    fn from(value: SocketAddrV6) -> IpEndpoint {
+        SocketAddr::V6(value).into()
+    }
+}
+
+/// The same address and port. The flow and the scope of an IPv6 one are 0.
+impl From<IpEndpoint> for SocketAddr {
+    ghost from_gives = { λ endpoint socket. (endpoint_of socket ≡ endpoint) × IsPlainSocket socket endpoint.port };
+
+    fn from(value: IpEndpoint) -> SocketAddr {
+        SocketAddr::new(value.addr.into(), value.port)
+    }
+}
+
+/// The address, `:` and the port in decimal.
+impl fmt::Display for IpEndpoint {
+    ghost output = { λ endpoint. Some (endpoint_text endpoint) };
+
+    fn fmt<W: fmt::Write>(&self, f: &mut fmt::Formatter<W>) -> fmt::Result {
+        write!(f, "{}:{}", self.addr, self.port)
+    }
+}
