@@ -2,6 +2,7 @@
 
 ghost use Rattle.std.specs.Prelude.{◌≡◌, ◌↔◌, ◌≤◌, ◌<◌, IsTrue, MatchOption, Ok, Some};
 ghost use Rattle.wire_addr.specs.Block.{Block, IsGreatest, IsIn, IsLeast, IsWithin};
+ghost use Rattle.wire_addr.specs.Octets.{AreOctets};
 ghost use Rattle.wire_addr.specs.Prefix.{IsNetmask};
 ghost use Rattle.wire_addr.specs.Printed.{block_text, dotted};
 
@@ -60,7 +61,8 @@ impl Ipv4Cidr {
     /// The address that it was made of.
     #[inline]
     pub fn address(&self) -> Ipv4Address
-        ensures { result ≡ self.now.address }
+        ensures value { result ≡ self.now.address }
+        ensures octets { AreOctets 4 result }
     {
         self.address
     }

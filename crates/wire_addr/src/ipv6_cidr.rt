@@ -4,6 +4,7 @@ ghost use Rattle.std.specs.Prelude.{◌≡◌, ◌↔◌, ◌≤◌, IsTrue, Som
 ghost use Rattle.std.specs.Option.{option_map};
 ghost use Rattle.wire_addr.specs.Block.{IsIn, IsWithin};
 ghost use Rattle.wire_addr.specs.Class.{link_address};
+ghost use Rattle.wire_addr.specs.Octets.{AreOctets};
 ghost use Rattle.wire_addr.specs.Printed.{block_text, ipv6_text};
 
 use crate::prefix::mask_128;
@@ -73,7 +74,8 @@ impl Ipv6Cidr {
     /// The address that it was made of.
     #[inline]
     pub fn address(&self) -> Ipv6Address
-        ensures { result ≡ self.now.address }
+        ensures value { result ≡ self.now.address }
+        ensures octets { AreOctets 16 result }
     {
         self.address
     }
