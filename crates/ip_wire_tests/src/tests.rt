@@ -10,6 +10,7 @@ mod ethernet_address;
 mod hardware_address;
 mod ip;
 mod ip_address;
+mod ip_cidr;
 mod ip_endpoint;
 mod ip_version;
 mod ipv4;

@@ -1,3 +1,4 @@
+pub mod Cidrs
 mod ProtocolWorked
 pub mod Protocols
 pub mod StdNet

@@ -4,7 +4,7 @@ use Rattle.std.specs.Option.{option_cmp}
 use Rattle.std.specs.Ordering.{nat_cmp, ordering_then}
 use Rattle.std.specs.declared.cmp.Ordering.{Ordering}
 use Rattle.wire_addr.specs.Printed.{colon}
-use Rattle.wire_ends.specs.IpAddress.{address_order, address_text}
+use Rattle.wire_ends.specs.IpAddress.{address_cmp, address_text}
 use Rattle.wire_ends.specs.declared.ip_address.IpAddress.{IpAddress}
 use Rattle.wire_ends.specs.declared.ip_endpoint.IpEndpoint.{IpEndpoint}
 use Rattle.wire_ends.specs.declared.ip_listen_endpoint.IpListenEndpoint.{IpListenEndpoint}
@@ -47,9 +47,9 @@ listening_text None port = codes "*" ++ port_text port
 -- ---- in order
 
 -- by address, then by port
-abbrev pub endpoint_order : IpEndpoint → IpEndpoint → Ordering
-endpoint_order a b = ordering_then (address_order a.addr b.addr) (nat_cmp a.port b.port)
+abbrev pub endpoint_cmp : IpEndpoint → IpEndpoint → Ordering
+endpoint_cmp a b = ordering_then (address_cmp a.addr b.addr) (nat_cmp a.port b.port)
 
 -- by address, no address before each one, then by port
-abbrev pub listening_order : IpListenEndpoint → IpListenEndpoint → Ordering
-listening_order a b = ordering_then (option_cmp address_order a.addr b.addr) (nat_cmp a.port b.port)
+abbrev pub listening_cmp : IpListenEndpoint → IpListenEndpoint → Ordering
+listening_cmp a b = ordering_then (option_cmp address_cmp a.addr b.addr) (nat_cmp a.port b.port)

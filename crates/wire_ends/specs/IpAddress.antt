@@ -1,9 +1,12 @@
 -- Addresses of either version of the Internet Protocol.
-use Rattle.std.specs.Prelude.{ℕ, List}
+use Rattle.std.specs.Prelude.{ℕ, ◌≡◌, List}
 use Rattle.std.specs.Cmp.Lexicographic.{slice_cmp}
 use Rattle.std.specs.Ordering.{nat_cmp}
 use Rattle.std.specs.declared.cmp.Ordering.{Ordering}
 use Rattle.std.specs.declared.cmp.Ordering.TheVariants.{Less, Greater}
+use Rattle.wire_addr.specs.Block.{IsIn}
+use Rattle.wire_addr.specs.Class.{IsIpv4Unicast, IsIpv6Unicast, ipv4_broadcast, ipv4_multicast, ipv4_unspecified, ipv6_multicast, ipv6_unspecified}
+use Rattle.wire_addr.specs.Octets.{AreOctets}
 use Rattle.wire_addr.specs.Printed.{dotted, ipv6_text}
 use Rattle.wire_ends.specs.declared.ip_address.IpAddress.{IpAddress}
 use Rattle.wire_ends.specs.declared.ip_address.IpAddress.TheVariants.{Ipv4, Ipv6}
@@ -25,9 +28,43 @@ abbrev pub octets_of : IpAddress → List ℕ
 octets_of (Ipv4 octets) = octets
 octets_of (Ipv6 octets) = octets
 
+-- how many bits the addresses of a version have, told by one of them
+abbrev pub bits_of : IpAddress → ℕ
+bits_of (Ipv4 octets) = 32
+bits_of (Ipv6 octets) = 128
+
+-- they are the octets of an address: as many as its version has, of eight bits each
+abbrev pub IsAddress : IpAddress → Type 0
+IsAddress (Ipv4 octets) = AreOctets 4 octets
+IsAddress (Ipv6 octets) = AreOctets 16 octets
+
+-- ---- classes
+
+-- of one host or interface
+abbrev pub IsUnicast : IpAddress → Type 0
+IsUnicast (Ipv4 octets) = IsIpv4Unicast octets
+IsUnicast (Ipv6 octets) = IsIpv6Unicast octets
+
+-- of a group
+abbrev pub IsMulticast : IpAddress → Type 0
+IsMulticast (Ipv4 octets) = IsIn ipv4_multicast octets
+IsMulticast (Ipv6 octets) = IsIn ipv6_multicast octets
+
+-- of all hosts of the own link: IPv6 has none (RFC 4291, section 2)
+abbrev pub IsBroadcast : IpAddress → Type 0
+IsBroadcast (Ipv4 octets) = octets ≡ ipv4_broadcast
+IsBroadcast (Ipv6 octets) = ⊥
+
+-- the one of its version that stands for none
+abbrev pub IsUnspecified : IpAddress → Type 0
+IsUnspecified (Ipv4 octets) = octets ≡ ipv4_unspecified
+IsUnspecified (Ipv6 octets) = octets ≡ ipv6_unspecified
+
+-- ---- in order
+
 -- those of IPv4 before those of IPv6, and those of one version by their octets
-abbrev pub address_order : IpAddress → IpAddress → Ordering
-address_order (Ipv4 a) (Ipv4 b) = slice_cmp nat_cmp a b
-address_order (Ipv4 a) (Ipv6 b) = Less
-address_order (Ipv6 a) (Ipv4 b) = Greater
-address_order (Ipv6 a) (Ipv6 b) = slice_cmp nat_cmp a b
+abbrev pub address_cmp : IpAddress → IpAddress → Ordering
+address_cmp (Ipv4 a) (Ipv4 b) = slice_cmp nat_cmp a b
+address_cmp (Ipv4 a) (Ipv6 b) = Less
+address_cmp (Ipv6 a) (Ipv4 b) = Greater
+address_cmp (Ipv6 a) (Ipv6 b) = slice_cmp nat_cmp a b

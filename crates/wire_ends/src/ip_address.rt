@@ -1,9 +1,10 @@
 //! Addresses of either version of the Internet Protocol.
 
-ghost use Rattle.std.specs.Prelude.{◌≡◌, ◌∷◌, [], Some};
+ghost use Rattle.std.specs.Prelude.{◌≡◌, ◌↔◌, ◌≤◌, ◌∷◌, [], IfSome, IsTrue, Some, ℕ};
 ghost use Rattle.std.specs.declared.net.ip_addr.IpAddr.TheVariants.{V4, V6};
 ghost use Rattle.wire_addr.specs.Octets.{octets_of};
-ghost use Rattle.wire_ends.specs.IpAddress.{address_text, version_of};
+ghost use Rattle.wire_addr.specs.Prefix.{IsNetmask};
+ghost use Rattle.wire_ends.specs.IpAddress.{IsBroadcast, IsMulticast, IsUnicast, IsUnspecified, address_text, bits_of, octets_of as octets_in, version_of};
 ghost use Rattle.wire_ends.specs.StdNet.{address_of};
 ghost use Rattle.wire_ends.specs.declared.ip_address.IpAddress.TheVariants.{Ipv4, Ipv6};
 
@@ -42,6 +43,58 @@ impl IpAddress {
         match *self {
             IpAddress::Ipv4(_) => IpVersion::Ipv4,
             IpAddress::Ipv6(_) => IpVersion::Ipv6,
+        }
+    }
+
+    /// Whether it is the address of one host or interface.
+    pub fn is_unicast(&self) -> bool
+        ensures { IsTrue result ↔ IsUnicast self.now }
+    {
+        match self {
+            IpAddress::Ipv4(address) => address.x_is_unicast(),
+            IpAddress::Ipv6(address) => address.x_is_unicast(),
+        }
+    }
+
+    /// Whether it is the address of a group.
+    pub fn is_multicast(&self) -> bool
+        ensures { IsTrue result ↔ IsMulticast self.now }
+    {
+        match self {
+            IpAddress::Ipv4(address) => address.is_multicast(),
+            IpAddress::Ipv6(address) => address.is_multicast(),
+        }
+    }
+
+    /// Whether it is the address of all hosts of a link. None of IPv6 is.
+    pub fn is_broadcast(&self) -> bool
+        ensures { IsTrue result ↔ IsBroadcast self.now }
+    {
+        match self {
+            IpAddress::Ipv4(address) => address.is_broadcast(),
+            IpAddress::Ipv6(_) => false,
+        }
+    }
+
+    /// Whether it stands for no address.
+    pub fn is_unspecified(&self) -> bool
+        ensures { IsTrue result ↔ IsUnspecified self.now }
+    {
+        match self {
+            IpAddress::Ipv4(address) => address.is_unspecified(),
+            IpAddress::Ipv6(address) => address.is_unspecified(),
+        }
+    }
+
+    /// The length of the prefix whose netmask it is: how many ones there are, where only zeros follow
+    /// them.
+    pub fn prefix_len(&self) -> Option<u8>
+        ensures value { (n : ℕ) → (result ≡ Some n) ↔ IsNetmask n (octets_in self.now) }
+        ensures within { IfSome result (λ n. n ≤ bits_of self.now) }
+    {
+        match self {
+            IpAddress::Ipv4(address) => address.prefix_len(),
+            IpAddress::Ipv6(address) => address.prefix_len(),
         }
     }
 }

@@ -1,8 +1,9 @@
-//! What names the ends of a packet's way: versions of the Internet Protocol, addresses of either, ports at
-//! these, and the protocols that packets carry.
+//! What names the ends of a packet's way: versions of the Internet Protocol, addresses of either, blocks of
+//! these and ports at them, and the protocols that packets carry.
 #![tactic(auto)]
 
 mod ip_address;
+mod ip_cidr;
 mod ip_endpoint;
 mod ip_listen_endpoint;
 mod ip_protocol;
@@ -10,6 +11,7 @@ mod ip_version;
 pub mod laws;
 
 pub use ip_address::IpAddress;
+pub use ip_cidr::IpCidr;
 pub use ip_endpoint::IpEndpoint;
 pub use ip_listen_endpoint::IpListenEndpoint;
 pub use ip_protocol::IpProtocol;

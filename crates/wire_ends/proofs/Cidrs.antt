@@ -1,0 +1,37 @@
+-- Blocks of either version within one another.
+use Rattle.std.proofs.Common.{◌≤◌, ◌∙◌, refl, arith}
+use Rattle.wire_addr.proofs.Blocks.{prefix_from_within}
+use Rattle.wire_ends.specs.IpAddress.{IsAddress, bits_of}
+use Rattle.wire_ends.specs.IpCidr.{IsIn, IsWithin, block_address, block_prefix_len}
+use Rattle.wire_ends.specs.declared.ip_address.IpAddress.TheVariants as ip
+use Rattle.wire_ends.specs.declared.ip_cidr.IpCidr.{IpCidr}
+use Rattle.wire_ends.specs.declared.ip_cidr.IpCidr.TheVariants.{Ipv4, Ipv6}
+
+-- a block has the address that it was made of
+own_address : (block : IpCidr) → IsIn block (block_address block)
+own_address (Ipv4 block) = λ k below. refl
+own_address (Ipv6 block) = λ k below. refl
+
+-- so that one that is within another has its address there
+pub IsWithin-address : (inner outer : IpCidr) → IsAddress (block_address inner) → IsWithin inner outer → IsIn outer (block_address inner)
+IsWithin-address inner outer is within = within (block_address inner) is (own_address inner)
+
+-- and at least as many bits
+pub IsWithin-prefix_len : (inner outer : IpCidr) → IsAddress (block_address inner) → block_prefix_len outer ≤ bits_of (block_address outer)
+    → IsWithin inner outer → block_prefix_len outer ≤ block_prefix_len inner
+IsWithin-prefix_len (Ipv4 inner) (Ipv4 outer) is bound within =
+    prefix_from_within 4 inner.prefix_len outer.prefix_len inner.address outer.address is bound (λ octets. within (ip.Ipv4 octets))
+IsWithin-prefix_len (Ipv4 inner) (Ipv6 outer) is bound within = absurd (IsWithin-address (Ipv4 inner) (Ipv6 outer) is within)
+IsWithin-prefix_len (Ipv6 inner) (Ipv4 outer) is bound within = absurd (IsWithin-address (Ipv6 inner) (Ipv4 outer) is within)
+IsWithin-prefix_len (Ipv6 inner) (Ipv6 outer) is bound within =
+    prefix_from_within 16 inner.prefix_len outer.prefix_len inner.address outer.address is bound (λ octets. within (ip.Ipv6 octets))
+
+-- and both are enough
+pub address-IsWithin : (inner outer : IpCidr) → IsIn outer (block_address inner) → block_prefix_len outer ≤ block_prefix_len inner
+    → IsWithin inner outer
+address-IsWithin (Ipv4 inner) (Ipv4 outer) member enough (ip.Ipv4 octets) are is = λ k below. member k below ∙ is k (omega (arith, enough))
+address-IsWithin (Ipv4 inner) (Ipv4 outer) member enough (ip.Ipv6 octets) are is = absurd is
+address-IsWithin (Ipv4 inner) (Ipv6 outer) member enough addr are is = absurd member
+address-IsWithin (Ipv6 inner) (Ipv4 outer) member enough addr are is = absurd member
+address-IsWithin (Ipv6 inner) (Ipv6 outer) member enough (ip.Ipv4 octets) are is = absurd is
+address-IsWithin (Ipv6 inner) (Ipv6 outer) member enough (ip.Ipv6 octets) are is = λ k below. member k below ∙ is k (omega (arith, enough))

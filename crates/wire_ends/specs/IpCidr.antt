@@ -1,0 +1,49 @@
+-- Blocks of addresses of either version.
+use Rattle.std.specs.Prelude.{ℕ, List}
+use Rattle.std.specs.declared.cmp.Ordering.{Ordering}
+use Rattle.std.specs.declared.cmp.Ordering.TheVariants.{Less, Greater}
+use Rattle.wire_addr.specs.Block.{IsIn as IsInBlock, block_cmp}
+use Rattle.wire_addr.specs.Printed.{block_text, dotted, ipv6_text}
+use Rattle.wire_ends.specs.IpAddress.{IsAddress}
+use Rattle.wire_ends.specs.declared.ip_address.IpAddress.{IpAddress}
+use Rattle.wire_ends.specs.declared.ip_address.IpAddress.TheVariants as ip
+use Rattle.wire_ends.specs.declared.ip_cidr.IpCidr.{IpCidr}
+use Rattle.wire_ends.specs.declared.ip_cidr.IpCidr.TheVariants.{Ipv4, Ipv6}
+
+-- the block of the addresses with so many first bits of an address
+abbrev pub block_at : IpAddress → ℕ → IpCidr
+block_at (ip.Ipv4 octets) n = Ipv4 (record { address = octets; prefix_len = n })
+block_at (ip.Ipv6 octets) n = Ipv6 (record { address = octets; prefix_len = n })
+
+-- the address that a block was made of
+abbrev pub block_address : IpCidr → IpAddress
+block_address (Ipv4 block) = ip.Ipv4 block.address
+block_address (Ipv6 block) = ip.Ipv6 block.address
+
+-- how many first bits the addresses of a block have in common
+abbrev pub block_prefix_len : IpCidr → ℕ
+block_prefix_len (Ipv4 block) = block.prefix_len
+block_prefix_len (Ipv6 block) = block.prefix_len
+
+-- the address is in the block: it is of the block's version, and has its first bits
+abbrev pub IsIn : IpCidr → IpAddress → Type 0
+IsIn (Ipv4 block) (ip.Ipv4 octets) = IsInBlock block octets
+IsIn (Ipv4 block) (ip.Ipv6 octets) = ⊥
+IsIn (Ipv6 block) (ip.Ipv4 octets) = ⊥
+IsIn (Ipv6 block) (ip.Ipv6 octets) = IsInBlock block octets
+
+-- each address that is in the one block is in the other
+abbrev pub IsWithin : IpCidr → IpCidr → Type 0
+IsWithin inner outer = (addr : IpAddress) → IsAddress addr → IsIn inner addr → IsIn outer addr
+
+-- the printed text of a block: that of the block of its version
+abbrev pub cidr_text : IpCidr → List ℕ
+cidr_text (Ipv4 block) = block_text dotted block
+cidr_text (Ipv6 block) = block_text ipv6_text block
+
+-- those of IPv4 before those of IPv6, and those of one version in their order
+abbrev pub cidr_cmp : IpCidr → IpCidr → Ordering
+cidr_cmp (Ipv4 a) (Ipv4 b) = block_cmp a b
+cidr_cmp (Ipv4 a) (Ipv6 b) = Less
+cidr_cmp (Ipv6 a) (Ipv4 b) = Greater
+cidr_cmp (Ipv6 a) (Ipv6 b) = block_cmp a b

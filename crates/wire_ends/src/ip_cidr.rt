@@ -1,0 +1,100 @@
+//! Blocks of addresses of either version.
+
+ghost use Rattle.std.specs.Prelude.{◌≡◌, ◌↔◌, ◌≤◌, IsTrue, Some};
+ghost use Rattle.wire_ends.specs.IpAddress.{IsAddress, bits_of};
+ghost use Rattle.wire_ends.specs.IpCidr.{IsIn, IsWithin, block_address, block_at, block_prefix_len, cidr_text};
+ghost use Rattle.wire_ends.specs.declared.ip_cidr.IpCidr.TheVariants.{Ipv4, Ipv6};
+
+use crate::IpAddress;
+use std::fmt;
+use wire_addr::{Ipv4Cidr, Ipv6Cidr};
+
+/// A block of addresses of either version: all that have the first bits of one address.
+#[derive(Debug, Clone, Copy, PartialEq, Eq, PartialOrd, Ord, Hash)]
+pub enum IpCidr {
+    Ipv4(Ipv4Cidr),
+    Ipv6(Ipv6Cidr),
+}
+
+impl IpCidr {
+    /// The block of the addresses that have the first `prefix_len` bits of this one.
+    pub fn new(addr: IpAddress, prefix_len: u8) -> IpCidr
+        requires { prefix_len ≤ bits_of addr }
+        ensures { result ≡ block_at addr prefix_len }
+    {
+        match addr {
+            IpAddress::Ipv4(addr) => IpCidr::Ipv4(Ipv4Cidr::new(addr, prefix_len)),
+            IpAddress::Ipv6(addr) => IpCidr::Ipv6(Ipv6Cidr::new(addr, prefix_len)),
+        }
+    }
+
+    /// The address that it was made of.
+    pub fn address(&self) -> IpAddress
+        ensures value { result ≡ block_address self.now }
+        ensures octets { IsAddress result }
+    {
+        match self {
+            IpCidr::Ipv4(cidr) => IpAddress::Ipv4(cidr.address()),
+            IpCidr::Ipv6(cidr) => IpAddress::Ipv6(cidr.address()),
+        }
+    }
+
+    /// How many first bits its addresses have in common.
+    pub fn prefix_len(&self) -> u8
+        ensures value { result ≡ block_prefix_len self.now }
+        ensures within { result ≤ bits_of (block_address self.now) }
+    {
+        match self {
+            IpCidr::Ipv4(cidr) => cidr.prefix_len(),
+            IpCidr::Ipv6(cidr) => cidr.prefix_len(),
+        }
+    }
+
+    /// Whether the address is in the block. One of the other version never is.
+    #[inline]
+    pub fn contains_addr(&self, addr: &IpAddress) -> bool
+        ensures { IsTrue result ↔ IsIn self.now addr.now }
+    {
+        match (self, addr) {
+            (IpCidr::Ipv4(cidr), IpAddress::Ipv4(addr)) => cidr.contains_addr(addr),
+            (IpCidr::Ipv6(cidr), IpAddress::Ipv6(addr)) => cidr.contains_addr(addr),
+            _ => false,
+        }
+    }
+
+    /// Whether each address of the other block is in this one. No block of the other version is.
+    #[inline]
+    pub fn contains_subnet(&self, subnet: &IpCidr) -> bool
+        ensures { IsTrue result ↔ IsWithin subnet.now self.now }
+    {
+        self.contains_addr(&subnet.address()) && self.prefix_len() <= subnet.prefix_len()
+    }
+}
+
+impl From<Ipv4Cidr> for IpCidr {
+    ghost from_gives = { λ block cidr. cidr ≡ Ipv4 block };
+
+    fn from(value: Ipv4Cidr) -> IpCidr {
+        IpCidr::Ipv4(value)
+    }
+}
+
+impl From<Ipv6Cidr> for IpCidr {
+    ghost from_gives = { λ block cidr. cidr ≡ Ipv6 block };
+
+    fn from(value: Ipv6Cidr) -> IpCidr {
+        IpCidr::Ipv6(value)
+    }
+}
+
+/// The text of the block that it holds.
+impl fmt::Display for IpCidr {
+    ghost output = { λ cidr. Some (cidr_text cidr) };
+
+    fn fmt<W: fmt::Write>(&self, f: &mut fmt::Formatter<W>) -> fmt::Result {
+        match *self {
+            IpCidr::Ipv4(cidr) => write!(f, "{cidr}"),
+            IpCidr::Ipv6(cidr) => write!(f, "{cidr}"),
+        }
+    }
+}
