@@ -1,0 +1,82 @@
+//! The answers of lines.
+
+ghost use Rattle.std.specs.Prelude.{◌≡◌, ◌==◌, IfOk, length, map, vec_len};
+ghost use Rattle.std.specs.List.{slice_split};
+ghost use Rattle.ip_calls.specs.Lines.{lines};
+
+use crate::{checksum, fragment, header, options, tcp, udp};
+use std::alloc::{AllocError, Global};
+
+/// Why a line has no answer of the library.
+#[derive(Clone, Copy, Debug, PartialEq, Eq)]
+pub enum NoAnswer {
+    /// There is no call of that kind.
+    Unknown,
+    /// The operands are not those of the call.
+    Malformed,
+    /// Memory ran out.
+    Memory,
+}
+
+impl From<AllocError> for NoAnswer {
+    fn from(_e: AllocError) -> NoAnswer {
+        NoAnswer::Memory
+    }
+}
+
+/// An answer for each line of the input, in their order.
+pub fn answers(alloc: Global, input: &[u8]) -> Result<Vec<String>, AllocError>
+    ensures { IfOk result (λ texts. vec_len texts ≡ length (lines input.now)) }
+{
+    let lines = lines_of(alloc, input)?;
+    let mut texts = Vec::new(alloc);
+    for line in lines.as_slice() {
+        texts.push(answer(alloc, line)?)?;
+    }
+    Ok(texts)
+}
+
+// The lines of the input.
+fn lines_of(alloc: Global, input: &[u8]) -> Result<Vec<&[u8]>, AllocError>
+    ensures { IfOk result (λ found. map (λ x. x.now) found.items ≡ lines input.now) }
+{
+    match input {
+        [] => Ok(Vec::new(alloc)),
+        [body @ .., b'\n'] => parts(alloc, body),
+        _ => parts(alloc, input),
+    }
+}
+
+// What stands between line feeds.
+fn parts(alloc: Global, text: &[u8]) -> Result<Vec<&[u8]>, AllocError>
+    ensures { IfOk result (λ found. map (λ x. x.now) found.items ≡ slice_split (λ b. b == 10) text.now) }
+{
+    text.split(|b| *b == b'\n').collect(alloc)
+}
+
+// The answer of a line.
+fn answer(alloc: Global, line: &[u8]) -> Result<String, AllocError> {
+    match asked(alloc, line) {
+        Ok(text) => Ok(text),
+        Err(NoAnswer::Unknown) => String::from_str(alloc, "unknown"),
+        Err(NoAnswer::Malformed) => String::from_str(alloc, "malformed"),
+        Err(NoAnswer::Memory) => Err(AllocError),
+    }
+}
+
+// What the call that a line asks for answers.
+fn asked(alloc: Global, line: &[u8]) -> Result<String, NoAnswer> {
+    let Ok(line) = str::from_utf8(line) else {
+        return Err(NoAnswer::Unknown);
+    };
+    let words: Vec<&str> = line.split(' ').collect(alloc)?;
+    match words.as_slice() {
+        ["tcp", operands @ ..] => tcp::answer(alloc, operands),
+        ["udp", operands @ ..] => udp::answer(alloc, operands),
+        ["header", operands @ ..] => header::answer(alloc, operands),
+        ["frag", operands @ ..] => fragment::answer(alloc, operands),
+        ["walk", operands @ ..] => options::answer(alloc, operands),
+        ["sum", operands @ ..] => checksum::answer(alloc, operands),
+        _ => Err(NoAnswer::Unknown),
+    }
+}

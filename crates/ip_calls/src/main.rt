@@ -1,0 +1,46 @@
+//! Reads lines that ask one call of the library each, and prints the answer of each on one line: so
+//! other programs can compare the calls with their own.
+//!
+//! A line is all bytes up to a line feed. Its words stand between single spaces: the kind of call and
+//! its operands. Numbers are decimal, octets are hex digits, and `-` stands for none of them.
+//!
+//! - `tcp SRC DST SPORT DPORT CONTROL SEQ ACK WIN WS MSS SACKP R1 R2 R3 TS PAYLOAD TX OLD`: the length of
+//!   the header and, where a header can be so long, the octets of the segment. CONTROL is `none`, `psh`,
+//!   `syn`, `fin` or `rst`; R1 to R3 and TS are pairs `A,B`, and of R's there are as many as the library
+//!   keeps.
+//! - `udp SRC DST SPORT DPORT PAYLOAD TX OLD`, `header SRC DST PROTOCOL LEN HOPS TX OLD` and
+//!   `frag OFFSET MORE IDENT OLD`: the octets that are emitted.
+//! - `walk OPTIONS`: of the options of a TCP header the summary, whether SACK is permitted, and the ranges.
+//! - `sum OCTETS`: their Internet checksum, before its complement.
+//!
+//! TX is 1 where checksums are computed, MORE and SACKP are 1 for yes, and OLD is the octet that the
+//! buffer is full of before. A kind that is not there is answered `unknown`, operands that the call does
+//! not take `malformed`.
+//!
+//! It is tested and compared. What is proved is that each line has an answer, whatever it holds, and
+//! that the conditions of each call are met.
+#![tactic(auto)]
+
+mod answer;
+mod checksum;
+mod fragment;
+mod header;
+mod operands;
+mod options;
+mod tcp;
+mod udp;
+
+use crate::answer::answers;
+use std::io;
+use std::io::{BufWriter, Read, Write};
+
+fn main(rt: HostRuntime) -> io::Result<()> {
+    let mut input = Vec::new(rt.alloc());
+    rt.stdin().read_to_end(&mut input)?;
+    let texts = answers(rt.alloc(), input.as_slice())?;
+    let mut output = BufWriter::new(rt.alloc(), rt.stdout())?;
+    for text in &texts {
+        writeln!(output, "{text}")?;
+    }
+    output.flush()
+}

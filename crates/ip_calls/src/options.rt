@@ -1,0 +1,57 @@
+//! What the options of a TCP header say.
+
+use crate::answer::NoAnswer;
+use crate::operands::octets;
+use ip_wire::{SACK_BLOCKS, TCP_HEADER_LEN, TcpOptionSummary, TcpPacket};
+use net_base::Result as Parsed;
+use std::alloc::{AllocError, Global};
+use std::fmt::Debug;
+
+// How many octets of options a header has at most. They are whole words of 4.
+const MAX_OPTIONS_LEN: usize = 40;
+
+/// The summary of the options, whether selective acknowledgements are permitted, and the ranges of the
+/// first one.
+pub fn answer(alloc: Global, operands: &[&str]) -> Result<String, NoAnswer> {
+    let [word] = operands else {
+        return Err(NoAnswer::Malformed);
+    };
+    let options = octets(alloc, word)?;
+    if options.len() > MAX_OPTIONS_LEN || options.len() % 4 != 0 {
+        return Err(NoAnswer::Malformed);
+    }
+    let mut bytes = vec![in alloc; 0; TCP_HEADER_LEN]?;
+    bytes[12] = ((TCP_HEADER_LEN + options.len()) / 4 * 16) as u8;
+    bytes.extend_from_slice(options.as_slice())?;
+    let Ok(packet) = TcpPacket::new_checked(bytes.as_slice()) else {
+        return Err(NoAnswer::Malformed);
+    };
+    let summary = shown(alloc, packet.options_summary().map(fields))?;
+    let permitted = shown(alloc, packet.selective_ack_permitted())?;
+    let ranges = shown(alloc, packet.selective_ack_ranges())?;
+    Ok(format!(in alloc; "{summary} {permitted} {ranges}")?)
+}
+
+type Pair = Option<(u32, u32)>;
+
+type Fields = (Option<u16>, Option<u8>, bool, [Pair; SACK_BLOCKS], Pair);
+
+// The fields of a summary, without their names.
+fn fields(summary: TcpOptionSummary) -> Fields {
+    let ranges = summary.sack_ranges;
+    (
+        summary.max_segment_size,
+        summary.window_scale,
+        summary.sack_permitted,
+        ranges,
+        summary.timestamp,
+    )
+}
+
+// A value as it is shown for debugging, but for the spaces, or `err`.
+fn shown<T: Debug + Drop>(alloc: Global, value: Parsed<T>) -> Result<String, AllocError> {
+    match value {
+        Ok(value) => format!(in alloc; "{value:?}")?.replace(alloc, ' ', ""),
+        Err(_) => String::from_str(alloc, "err"),
+    }
+}

@@ -1,0 +1,34 @@
+//! Emission of UDP packets.
+
+use crate::answer::NoAnswer;
+use crate::operands::{addresses, capabilities, number, octets};
+use ip_wire::{UDP_HEADER_LEN, UdpPacketMut, UdpRepr};
+use std::alloc::Global;
+
+// The length of the longest payload, in octets.
+const MAX_PAYLOAD_LEN: usize = 65_527;
+
+/// The octets of a packet.
+pub fn answer(alloc: Global, operands: &[&str]) -> Result<String, NoAnswer> {
+    let [src_addr, dst_addr, src_port, dst_port, payload, tx, old] = operands else {
+        return Err(NoAnswer::Malformed);
+    };
+    let (src_addr, dst_addr) = addresses(src_addr, dst_addr)?;
+    let header = UdpRepr {
+        src_port: number(src_port)?,
+        dst_port: number(dst_port)?,
+    };
+    let payload = octets(alloc, payload)?;
+    if payload.len() > MAX_PAYLOAD_LEN {
+        return Err(NoAnswer::Malformed);
+    }
+    let mut out = vec![in alloc; number(old)?; UDP_HEADER_LEN + payload.len()]?;
+    header.emit(
+        &mut UdpPacketMut::new_unchecked(out.as_mut_slice()),
+        &src_addr,
+        &dst_addr,
+        payload.as_slice(),
+        &capabilities(tx),
+    );
+    Ok(hex::encode(alloc, out.as_slice())?)
+}
