@@ -13,7 +13,8 @@ import sys
 
 import record
 
-BLOCKS = 10000
+# How many lines a run of a program is given.
+AT_ONCE = 10000
 
 
 def changed(rng, frame):
@@ -101,35 +102,35 @@ def corpus(seed, lines):
             yield (text.upper() if rng.random() < 0.05 else text) + (b"\r" if rng.random() < 0.05 else b"")
 
 
-def blocks(command, text):
+def answers(target, command, text, end):
     try:
         output = subprocess.run(command, input=text, stdout=subprocess.PIPE, check=True).stdout
     except (OSError, subprocess.CalledProcessError) as error:
-        sys.exit(f"make compare: {command[0]} fails: {error}")
-    return output.split(b"\n\n")
+        sys.exit(f"{target}: {command[0]} fails: {error}")
+    return output.split(end)
 
 
-def main():
+def compare(target, usage, corpus, end):
+    """Compares the answers of two programs to the lines of a corpus, each of which has this at its end."""
     if len(sys.argv) < 5:
-        sys.exit(__doc__.strip())
+        sys.exit(usage.strip())
     program, seed, lines, *reference = sys.argv[1:]
     if not (seed.isdecimal() and lines.isdecimal()):
-        sys.exit(f"make compare: SEED and LINES are numbers, not {seed} and {lines}")
+        sys.exit(f"{target}: SEED and LINES are numbers, not {seed} and {lines}")
     if not shutil.which(reference[0]):
-        sys.exit(f"make compare: there is no program {reference[0]}")
-    seed, lines = int(seed), int(lines)
-    made = list(corpus(seed, lines))
-    for at in range(0, len(made), BLOCKS):
-        part = made[at : at + BLOCKS]
+        sys.exit(f"{target}: there is no program {reference[0]}")
+    made = list(corpus(int(seed), int(lines)))
+    for at in range(0, len(made), AT_ONCE):
+        part = made[at : at + AT_ONCE]
         text = b"".join(line + b"\n" for line in part)
-        ours, theirs = blocks([program], text), blocks(reference, text)
+        ours, theirs = answers(target, [program], text, end), answers(target, reference, text, end)
         for line, one, other in zip(part, ours, theirs):
             if one != other:
                 sys.exit(f"line\n{line!r}\n{program} prints\n{one.decode()}\nthe reference prints\n{other.decode()}")
-        if ours != theirs:
-            sys.exit(f"the outputs differ in length: {len(ours)} and {len(theirs)} blocks")
+        if len(ours) != len(theirs):
+            sys.exit(f"the outputs differ in length: {len(ours)} and {len(theirs)} answers")
     print(f"{len(made)} lines, no difference")
 
 
 if __name__ == "__main__":
-    main()
+    compare("make compare", __doc__, corpus, b"\n\n")

@@ -8,7 +8,7 @@ import os
 import subprocess
 import sys
 
-CASES = os.path.join(os.path.dirname(os.path.abspath(__file__)), "cases")
+TESTS = os.path.dirname(os.path.abspath(__file__))
 
 DST = bytes.fromhex("020000000002")
 SRC = bytes.fromhex("020000000001")
@@ -593,24 +593,29 @@ FILES = [shapes, truncations, versions_and_lengths, options, fragments, checksum
          tcp_checksums, tcp_bits, tcp_options, tcp_sack, arp_shapes, arp_lengths, arp_truncations, arp_bits]
 
 
+def record(folder, ending, files, reference):
+    """Writes each text into a file NAME.ending, and what the reference prints for it into NAME.txt beside it."""
+    os.makedirs(folder, exist_ok=True)
+    for name, text in files.items():
+        try:
+            run = subprocess.run(reference, input=text, stdout=subprocess.PIPE, check=True)
+        except (OSError, subprocess.CalledProcessError) as error:
+            sys.exit(f"record: the reference fails: {error}")
+        with open(f"{folder}/{name}.{ending}", "wb") as file:
+            file.write(text)
+        with open(f"{folder}/{name}.txt", "wb") as file:
+            file.write(run.stdout)
+        print(f"{name}: {len(text.splitlines())} lines")
+
+
 def main():
     if len(sys.argv) < 2:
         sys.exit(__doc__.strip())
-    os.makedirs(CASES, exist_ok=True)
     files = {make.__name__: b"".join(frame.hex().encode() + b"\n" for frame in make()) for make in FILES}
     files["lines"] = b"".join(line + b"\n" for line in bytes_lines())
     files["no_last_line_feed"] = packet().hex().encode()
     files["nothing"] = b""
-    for name, text in files.items():
-        try:
-            run = subprocess.run(sys.argv[1:], input=text, stdout=subprocess.PIPE, check=True)
-        except (OSError, subprocess.CalledProcessError) as error:
-            sys.exit(f"record: the reference fails: {error}")
-        with open(f"{CASES}/{name}.hex", "wb") as file:
-            file.write(text)
-        with open(f"{CASES}/{name}.txt", "wb") as file:
-            file.write(run.stdout)
-        print(f"{name}: {len(text.splitlines())} lines")
+    record(f"{TESTS}/cases", "hex", files, sys.argv[1:])
 
 
 if __name__ == "__main__":

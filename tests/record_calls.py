@@ -1,0 +1,30 @@
+#!/usr/bin/env python3
+"""Makes the recorded calls anew: tests/record_calls.py REFERENCE [WORD..]
+
+Writes tests/calls/KIND.call, lines that ask one call each, and beside each KIND.txt, what the program
+REFERENCE (given the WORDs) answers. The lines are the same in each run.
+"""
+import random
+import sys
+
+from call_lines import KINDS
+from record import TESTS, record
+
+# How many random lines of each kind are recorded, behind those at the edges.
+RANDOM_LINES = 300
+
+
+def lines(name, kind):
+    rng = random.Random(name)
+    return [*kind.edges(), *(kind.random(rng) for _ in range(RANDOM_LINES))]
+
+
+def main():
+    if len(sys.argv) < 2:
+        sys.exit(__doc__.strip())
+    files = {name: "".join(line + "\n" for line in lines(name, kind)).encode() for name, kind in KINDS.items()}
+    record(f"{TESTS}/calls", "call", files, sys.argv[1:])
+
+
+if __name__ == "__main__":
+    main()
