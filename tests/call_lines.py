@@ -192,14 +192,93 @@ def edges_walk():
         yield line("walk", bytes([kind, size]) + bytes(range(1, 39)))
 
 
+def printed(number, size):
+    return str(ipaddress.ip_address(number.to_bytes(size, "big")))
+
+
+def ones(n, size):
+    """The number of n ones and then zeros, as long as an address."""
+    return (1 << 8 * size) - (1 << 8 * size - n)
+
+
+def block(number, n, size):
+    return f"{printed(number, size)}/{n}"
+
+
+def random_block(rng):
+    """A block and another, which differs from it in a bit near the end of its prefix, or not at all, or altogether."""
+    size = rng.choice([4, 16])
+    first = int(ipaddress.ip_address(address(rng, size)))
+    n = rng.randrange(8 * size + 1)
+    turned = n + rng.choice([-9, -2, -1, 0, 1, 8])
+    second = first ^ (1 << 8 * size - 1 - turned if 0 <= turned < 8 * size else 0)
+    m = rng.choice([n, n, max(n - 1, 0), min(n + 1, 8 * size), rng.randrange(8 * size + 1)])
+    if rng.random() < 0.1:
+        size_of_second = rng.choice([4, 16])
+        return line("block", block(first, n, size), block(int(ipaddress.ip_address(address(rng, size_of_second))), 32, size_of_second))
+    return line("block", block(first, n, size), block(second, m, size))
+
+
+def edges_block():
+    some = {4: 0xC0A8_A5C3, 16: 0x2001_0DB8_A5A5_C3C3_5A5A_3C3C_0F0F_F0F1}
+    for size, number in some.items():
+        for n in range(8 * size + 1):
+            # The last bit that counts is turned, the first that does not, and none; with prefixes around this one.
+            for turned in [n - 1, n]:
+                if 0 <= turned < 8 * size:
+                    yield line("block", block(number, n, size), block(number ^ 1 << 8 * size - 1 - turned, n, size))
+            for m in [n - 1, n, n + 1]:
+                if 0 <= m <= 8 * size:
+                    yield line("block", block(number, n, size), block(number, m, size))
+        for n in [0, 1, 8 * size - 1, 8 * size]:
+            for other in [0, (1 << 8 * size) - 1, 1 << 8 * size - 1]:
+                yield line("block", block(other, n, size), block(number, n, size))
+    for first, second in itertools.permutations(["0.0.0.0/0", "::/0", "1.2.3.4/32", "::102:304/128", "::ffff:1.2.3.4/128"], 2):
+        yield line("block", first, second)
+
+
+def almost_mask(rng, size):
+    """Ones and then zeros, and at times a bit of it turned."""
+    number = ones(rng.randrange(8 * size + 1), size)
+    return number ^ (1 << rng.randrange(8 * size) if rng.random() < 0.4 else 0)
+
+
+def random_prefix(rng):
+    size = rng.choice([4, 16])
+    return line("prefix", rng.choice([printed(almost_mask(rng, size), size), address(rng, size)]))
+
+
+def edges_prefix():
+    for size in [4, 16]:
+        for n in range(8 * size + 1):
+            for bit in [None, 0, n - 2, n, n + 1, 8 * size - 1]:
+                if bit is None:
+                    yield line("prefix", printed(ones(n, size), size))
+                elif 0 <= bit < 8 * size:
+                    yield line("prefix", printed(ones(n, size) ^ 1 << 8 * size - 1 - bit, size))
+
+
+def random_netmask(rng):
+    return line("netmask", address(rng, 4), rng.choice([printed(almost_mask(rng, 4), 4), address(rng, 4)]))
+
+
+def edges_netmask():
+    for n, host in itertools.product(range(33), ["0.0.0.0", "192.168.1.2", "255.255.255.255"]):
+        yield line("netmask", host, printed(ones(n, 4), 4))
+        yield line("netmask", host, printed(ones(n, 4) ^ 0xFFFF_FFFF, 4))
+        yield line("netmask", host, printed(ones(n, 4) ^ 0x0100_0000, 4))
+
+
 # The lines of a kind at the edges, one made of a random generator, and how often of 100 generated ones it is asked.
 Kind = collections.namedtuple("Kind", "edges random share")
 
 KINDS = {
     "sum": Kind(edges_sum, random_sum, 5),
     "udp": Kind(edges_udp, random_udp, 15),
-    "header": Kind(edges_header, random_header, 15),
+    "header": Kind(edges_header, random_header, 10),
     "frag": Kind(edges_frag, random_frag, 5),
-    "tcp": Kind(edges_tcp, random_tcp, 35),
-    "walk": Kind(edges_walk, random_walk, 25),
+    "tcp": Kind(edges_tcp, random_tcp, 25),
+    "walk": Kind(edges_walk, random_walk, 20),
+    "prefix": Kind(edges_prefix, random_prefix, 5),
+    "netmask": Kind(edges_netmask, random_netmask, 5),
 }

@@ -16,7 +16,7 @@ RANDOM_LINES = 300
 
 def lines(name, kind):
     rng = random.Random(name)
-    return [*kind.edges(), *(kind.random(rng) for _ in range(RANDOM_LINES))]
+    return dict.fromkeys([*kind.edges(), *(kind.random(rng) for _ in range(RANDOM_LINES))])
 
 
 def main():

@@ -11,6 +11,8 @@
 //! - `udp SRC DST SPORT DPORT PAYLOAD TX OLD`, `header SRC DST PROTOCOL LEN HOPS TX OLD` and
 //!   `frag OFFSET MORE IDENT OLD`: the octets that are emitted.
 //! - `walk OPTIONS`: of the options of a TCP header the summary, whether SACK is permitted, and the ranges.
+//! - `prefix ADDRESS`: how many ones it is, where zeros alone follow them, else `-`. `netmask ADDRESS MASK`: the
+//!   block of both, or `err`.
 //! - `sum OCTETS`: their Internet checksum, before its complement.
 //!
 //! TX is 1 where checksums are computed, MORE and SACKP are 1 for yes, and OLD is the octet that the
@@ -25,6 +27,7 @@ mod answer;
 mod checksum;
 mod fragment;
 mod header;
+mod mask;
 mod operands;
 mod options;
 mod tcp;

@@ -11,8 +11,8 @@ use std::alloc::Global;
 use std::net::IpAddr;
 use std::str::FromStr;
 
-// What stands for nothing there.
-const NOTHING: &str = "-";
+/// What stands for nothing there.
+pub const NOTHING: &str = "-";
 
 /// A number.
 pub fn number<N: FromStr>(word: &str) -> Result<N, NoAnswer>
@@ -58,12 +58,20 @@ pub fn octets(alloc: Global, word: &str) -> Result<Vec<u8>, NoAnswer> {
     }
 }
 
-/// An address of either version, as the standard library reads it.
+/// An address of either version. The standard library reads it, since `ip_wire` reads no texts yet.
 pub fn address(word: &str) -> Result<IpAddress, NoAnswer> {
     match word.parse() {
         Ok(IpAddr::V4(address)) => Ok(Ipv4Address::from_octets(address.octets()).into()),
         Ok(IpAddr::V6(address)) => Ok(Ipv6Address::from_octets(address.octets()).into()),
         Err(_) => Err(NoAnswer::Malformed),
+    }
+}
+
+/// An IPv4 address.
+pub fn ipv4_address(word: &str) -> Result<Ipv4Address, NoAnswer> {
+    match address(word)? {
+        IpAddress::Ipv4(address) => Ok(address),
+        IpAddress::Ipv6(_) => Err(NoAnswer::Malformed),
     }
 }
 

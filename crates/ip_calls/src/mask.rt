@@ -1,0 +1,32 @@
+//! Prefixes that masks are of.
+
+use crate::answer::NoAnswer;
+use crate::operands::{NOTHING, address, ipv4_address};
+use ip_wire::{IpAddress, Ipv4Cidr};
+use std::alloc::Global;
+
+/// How many ones an address is, where zeros alone follow them.
+pub fn prefix_len(alloc: Global, operands: &[&str]) -> Result<String, NoAnswer> {
+    let [word] = operands else {
+        return Err(NoAnswer::Malformed);
+    };
+    let len = match address(word)? {
+        IpAddress::Ipv4(address) => address.prefix_len(),
+        IpAddress::Ipv6(address) => address.prefix_len(),
+    };
+    match len {
+        Some(len) => Ok(format!(in alloc; "{len}")?),
+        None => Ok(String::from_str(alloc, NOTHING)?),
+    }
+}
+
+/// The block of an address and a netmask, or `err`.
+pub fn from_netmask(alloc: Global, operands: &[&str]) -> Result<String, NoAnswer> {
+    let [addr, netmask] = operands else {
+        return Err(NoAnswer::Malformed);
+    };
+    match Ipv4Cidr::from_netmask(ipv4_address(addr)?, ipv4_address(netmask)?) {
+        Ok(block) => Ok(format!(in alloc; "{block}")?),
+        Err(_) => Ok(String::from_str(alloc, "err")?),
+    }
+}
