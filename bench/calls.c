@@ -32,6 +32,8 @@ struct library {
     size_t (*emit_tcp_ipv4)(uint32_t, uint32_t, const struct lk_tcp *, const uint8_t *, size_t, uint8_t, uint8_t *, size_t);
     size_t (*emit_tcp_ipv6)(const uint8_t *, const uint8_t *, const struct lk_tcp *, const uint8_t *, size_t, uint8_t,
                             uint8_t *, size_t);
+    uint8_t (*ipv4_contains)(uint32_t, uint8_t, uint32_t);
+    uint8_t (*ipv6_contains)(const uint8_t *, uint8_t, const uint8_t *);
     size_t (*ipv6_print)(const uint8_t *, uint8_t *, size_t);
     size_t (*rebuild)(const uint8_t *, size_t, uint8_t *, size_t);
 };
@@ -210,6 +212,18 @@ static uint64_t call_rebuild(const struct library *library, const struct row *ro
     return library->rebuild(bytes, frame_len, out, sizeof out);
 }
 
+static uint64_t call_contains_ipv4(const struct library *library, const struct row *row)
+{
+    (void)row;
+    return library->ipv4_contains(SRC, 24, DST);
+}
+
+static uint64_t call_contains_ipv6(const struct library *library, const struct row *row)
+{
+    (void)row;
+    return library->ipv6_contains(src, 64, dst);
+}
+
 static uint64_t call_print(const struct library *library, const struct row *row)
 {
     uint64_t written = 0;
@@ -268,6 +282,8 @@ static const struct row rows[] = {
     {"emit ARP", prepare_arp, call_emit_arp, 0, 1, 0},
     {"rebuild ARP", prepare_arp, call_rebuild, 0, 1, 0},
     {"rebuild ARP, padded", prepare_arp, call_rebuild, 18, 1, 0},
+    {"block contains IPv4", prepare_bytes, call_contains_ipv4, 0, 1, 0},
+    {"block contains IPv6", prepare_bytes, call_contains_ipv6, 0, 1, 0},
     {"print addresses", prepare_addresses, call_print, ADDRESSES, 1, 0},
 };
 
@@ -327,6 +343,8 @@ static struct library load(const char *path)
     *(void **)&library.emit_udp_ipv6 = symbol(handle, path, "lk_emit_udp_ipv6");
     *(void **)&library.emit_tcp_ipv4 = symbol(handle, path, "lk_emit_tcp_ipv4");
     *(void **)&library.emit_tcp_ipv6 = symbol(handle, path, "lk_emit_tcp_ipv6");
+    *(void **)&library.ipv4_contains = symbol(handle, path, "lk_ipv4_contains");
+    *(void **)&library.ipv6_contains = symbol(handle, path, "lk_ipv6_contains");
     *(void **)&library.ipv6_print = symbol(handle, path, "lk_ipv6_print");
     *(void **)&library.rebuild = symbol(handle, path, "lk_rebuild");
     return library;
@@ -423,7 +441,7 @@ int main(int argc, char **argv)
 {
     static const struct library ours = {
         lk_checksum, lk_parse, lk_emit_arp, lk_emit_ipv4, lk_emit_ipv6, lk_emit_udp_ipv4, lk_emit_udp_ipv6,
-        lk_emit_tcp_ipv4, lk_emit_tcp_ipv6, lk_ipv6_print, lk_rebuild,
+        lk_emit_tcp_ipv4, lk_emit_tcp_ipv6, lk_ipv4_contains, lk_ipv6_contains, lk_ipv6_print, lk_rebuild,
     };
     struct library reference;
     if (argc > 2)

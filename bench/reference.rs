@@ -370,6 +370,24 @@ impl fmt::Write for Front<'_> {
 }
 
 #[unsafe(no_mangle)]
+pub extern "C" fn lk_ipv4_contains(block: u32, prefix_len: u8, addr: u32) -> u8 {
+    if prefix_len > 32 {
+        return 0;
+    }
+    let block = Ipv4Cidr::new(Ipv4Address::from(block), prefix_len);
+    u8::from(block.contains_addr(&Ipv4Address::from(addr)))
+}
+
+#[unsafe(no_mangle)]
+pub unsafe extern "C" fn lk_ipv6_contains(block: *const u8, prefix_len: u8, addr: *const u8) -> u8 {
+    if prefix_len > 128 {
+        return 0;
+    }
+    let block = Ipv6Cidr::new(unsafe { address(block) }, prefix_len);
+    u8::from(block.contains_addr(&unsafe { address(addr) }))
+}
+
+#[unsafe(no_mangle)]
 pub unsafe extern "C" fn lk_ipv6_print(octets: *const u8, out: *mut u8, cap: usize) -> usize {
     let slice = unsafe { from_raw_parts_mut(out, cap) };
     let mut front = Front { slice, len: 0 };

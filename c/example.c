@@ -58,6 +58,8 @@ int main(void)
     printf("a payload too long: %zu\n",
            lk_emit_ipv6(link_local, all_nodes, 17, 64, 65536, out, sizeof out));
     print_address(link_local);
+    printf("in 192.168.0.0/16: %u\n", (unsigned)lk_ipv4_contains(0xc0a80000, 16, 0xc0a80101));
+    printf("in fe80::1/64: %u\n", (unsigned)lk_ipv6_contains(link_local, 64, all_nodes));
     print_address(mapped);
     printf("room for 6 octets: %zu\n", lk_ipv6_print(link_local, out, 6));
 

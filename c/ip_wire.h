@@ -101,6 +101,13 @@ size_t lk_emit_tcp_ipv6(const uint8_t *src_addr, const uint8_t *dst_addr,
                         const struct lk_tcp *header, const uint8_t *ptr, size_t len,
                         uint8_t computed, uint8_t *out, size_t cap);
 
+/* Answers 1 where an IPv4 address is in the block of all addresses that have the first `prefix_len`
+ * bits of `block`, else 0; none is where `prefix_len` is more than 32. */
+uint8_t lk_ipv4_contains(uint32_t block, uint8_t prefix_len, uint32_t addr);
+
+/* The same of IPv6, whose addresses are 16 octets each; `prefix_len` is at most 128. */
+uint8_t lk_ipv6_contains(const uint8_t *block, uint8_t prefix_len, const uint8_t *addr);
+
 /* Writes the text of the IPv6 address of these 16 octets (RFC 5952) to the front of `out`, with no null
  * behind it, and answers its length, which is never more than 39; 0 where it doesn't fit into `cap`
  * octets, and then nothing is written. */

@@ -6,6 +6,7 @@ use Rattle.std.specs.Int.{to_be_bytes}
 use Rattle.std.specs.List.{range_with_len}
 use Rattle.std.specs.Option.{option_and_then, option_map, option_map_or}
 use Rattle.ip_wire.specs.Arp.{arp_of, operation_of}
+use Rattle.ip_wire.specs.Block.{Block}
 use Rattle.ip_wire.specs.Ethernet.{ethernet_of}
 use Rattle.ip_wire.specs.Frame.{ipv4_payload, rebuilt}
 use Rattle.ip_wire.specs.Ip.{bytes_of, dst_addr_of, header_len_of, max_payload_len, next_header_of, payload_len_of, src_addr_of}
@@ -38,6 +39,10 @@ abbrev pub Fills : List ℕ → List ℕ → List ℕ → Option ℕ → Type 0
 Fills bytes old new answer =
     MatchOption answer ((length old < length bytes) × (new ≡ old))
     (λ n. (n ≡ length bytes) × (n ≤ length old) × (new ≡ bytes ++ drop n old))
+
+-- the block of the addresses that have the first bits of these octets, so many of them
+abbrev pub block_of : List ℕ → ℕ → Block
+block_of octets n = record { address = octets; prefix_len = n }
 
 -- the values of an ARP packet, by numbers and octets
 abbrev pub arp_value : ℕ → List ℕ → ℕ → List ℕ → ℕ → ArpRepr

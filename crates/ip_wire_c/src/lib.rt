@@ -1,15 +1,16 @@
 //! The packet layer for programs in other languages. `c/ip_wire.h` declares these functions for C.
 #![tactic(auto)]
 
-ghost use Rattle.std.specs.Prelude.{◌≡◌, ◌==◌, ◌++◌, not, nat_le, if◌then◌else◌, drop, length, true};
+ghost use Rattle.std.specs.Prelude.{◌≡◌, ◌↔◌, ◌≤◌, ◌==◌, ◌++◌, not, nat_le, if◌then◌else◌, drop, length, true};
 ghost use Rattle.std.specs.Int.{to_be_bytes};
 ghost use mir.Syntax.{w32};
 ghost use Rattle.ip_wire.specs.Arp.{bytes_of as arp_bytes};
+ghost use Rattle.ip_wire.specs.Block.{IsIn};
 ghost use Rattle.ip_wire.specs.Frame.{rebuilt};
 ghost use Rattle.ip_wire.specs.Printed.{ipv6_text};
 ghost use Rattle.ip_wire.specs.WordSum.{sum_of_bytes};
 ghost use Rattle.ip_wire.specs.declared.IpAddress.TheVariants.{Ipv4, Ipv6};
-ghost use Rattle.ip_wire_c.specs.Calls.{all_or_none, arp_value, emitted, emitted_len, innermost_payload, ipv4_header, ipv6_header, is_rebuilt, IsPrinted, length_or_none, sent, sent_len, sent_segment, sent_segment_len, udp_header};
+ghost use Rattle.ip_wire_c.specs.Calls.{all_or_none, arp_value, block_of, emitted, emitted_len, innermost_payload, ipv4_header, ipv6_header, is_rebuilt, IsPrinted, length_or_none, sent, sent_len, sent_segment, sent_segment_len, udp_header};
 
 mod arp;
 mod payload;
@@ -21,7 +22,8 @@ mod udp;
 
 use ip_wire::{
     ArpRepr, EthernetAddress, IPV4_HEADER_LEN, IPV6_HEADER_LEN, IpAddress, IpProtocol, Ipv4Address,
-    Ipv4PacketMut, Ipv4Repr, Ipv6Address, Ipv6PacketMut, Ipv6Repr, UdpRepr, checksum,
+    Ipv4Cidr, Ipv4PacketMut, Ipv4Repr, Ipv6Address, Ipv6Cidr, Ipv6PacketMut, Ipv6Repr, UdpRepr,
+    checksum,
 };
 use net_base::ChecksumCapabilities;
 use tcp_fields::TcpFields;
@@ -211,6 +213,35 @@ pub extern "C" fn lk_emit_tcp_ipv6(
 {
     let caps = capabilities(computed);
     tcp::send(header, ipv6(src_addr), ipv6(dst_addr), payload, &caps, out)
+}
+
+/// Answers 1 where an IPv4 address is in the block of all that have the first `prefix_len` bits of
+/// `block`, else 0. There is no block with a prefix of more than 32 bits.
+#[unsafe(no_mangle)]
+pub extern "C" fn lk_ipv4_contains(block: u32, prefix_len: u8, addr: u32) -> u8
+    ensures member { (result ≡ 1) ↔ ((prefix_len ≤ 32) × IsIn (block_of (to_be_bytes w32 block) prefix_len) (to_be_bytes w32 addr)) }
+    ensures answer { result ≤ 1 }
+{
+    if prefix_len > 32 {
+        return 0;
+    }
+    let block = Ipv4Cidr::new(Ipv4Address::from_octets(block.to_be_bytes()), prefix_len);
+    let addr = Ipv4Address::from_octets(addr.to_be_bytes());
+    u8::from(block.contains_addr(&addr))
+}
+
+/// Answers 1 where an IPv6 address is in the block of all that have the first `prefix_len` bits of
+/// `block`, else 0. There is no block with a prefix of more than 128 bits.
+#[unsafe(no_mangle)]
+pub extern "C" fn lk_ipv6_contains(block: &[u8; 16], prefix_len: u8, addr: &[u8; 16]) -> u8
+    ensures member { (result ≡ 1) ↔ ((prefix_len ≤ 128) × IsIn (block_of block.now prefix_len) addr.now) }
+    ensures answer { result ≤ 1 }
+{
+    if prefix_len > 128 {
+        return 0;
+    }
+    let block = Ipv6Cidr::new(Ipv6Address::from_octets(*block), prefix_len);
+    u8::from(block.contains_addr(&Ipv6Address::from_octets(*addr)))
 }
 
 /// Writes the text of the IPv6 address with these octets to the front of `out`, and answers its length,
