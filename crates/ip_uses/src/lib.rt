@@ -1,6 +1,7 @@
 //! Uses of the library, each a short file that stands alone. `read_frame` is the first to read.
 #![tactic(auto)]
 
+pub mod allow_list;
 pub mod answer_arp;
 pub mod over_ipv6;
 pub mod read_frame;

@@ -2,14 +2,15 @@
 
 ghost use Rattle.std.specs.Prelude.{◌≡◌, ◌≤◌, ◌+◌, length};
 
+use crate::allow_list::is_allowed;
 use crate::answer_arp::answer;
 use crate::over_ipv6;
 use crate::read_frame::ipv4_packet;
 use crate::refuse_checksum::{udp_ports, verified_by_the_device};
 use crate::write_frame::write_udp;
 use ip_wire::{
-    ArpOperation, ArpRepr, EthernetAddress, EthernetProtocol, EthernetRepr, IpProtocol,
-    Ipv4Address, Ipv4Repr, Ipv6Address, Ipv6Repr, UdpRepr,
+    ArpOperation, ArpRepr, EthernetAddress, EthernetProtocol, EthernetRepr, IpAddress, IpCidr,
+    IpProtocol, Ipv4Address, Ipv4Cidr, Ipv4Repr, Ipv6Address, Ipv6Cidr, Ipv6Repr, UdpRepr,
 };
 use net_base::ChecksumCapabilities;
 
@@ -157,4 +158,17 @@ fn does_the_same_over_ipv6(rt: HostRuntime) {
     let link = link(EthernetProtocol::Ipv6);
     over_ipv6::write_udp(&mut buffer, &link, &ipv6_header(), &ports, &[0xff; 4]);
     assert_eq!(rt; buffer, expected);
+}
+
+#[test]
+fn allows_the_addresses_of_its_blocks(rt: HostRuntime) {
+    let list = [
+        IpCidr::Ipv4(Ipv4Cidr::new(Ipv4Address::new(192, 168, 0, 0), 16)),
+        IpCidr::Ipv6(Ipv6Cidr::LINK_LOCAL_PREFIX),
+    ];
+    assert!(rt; is_allowed(&list, &IpAddress::v4(192, 168, 1, 1)));
+    assert!(rt; !is_allowed(&list, &IpAddress::v4(192, 169, 1, 1)));
+    assert!(rt; is_allowed(&list, &IpAddress::v6(0xfebf, 0, 0, 0, 0, 0, 0, 1)));
+    assert!(rt; !is_allowed(&list, &IpAddress::v6(0xfec0, 0, 0, 0, 0, 0, 0, 1)));
+    assert!(rt; !is_allowed(&[], &IpAddress::v4(192, 168, 1, 1)));
 }
