@@ -1,9 +1,16 @@
--- The texts of addresses, computed on worked examples.
+-- The texts of addresses, their blocks and classes, computed on worked examples.
 use Rattle.std.proofs.Common.{◌≡◌, ℕ, List, [], ◌∷◌, codes, refl}
 use Rattle.std.specs.Fmt.{digits}
+use Rattle.std.specs.Prelude.{None, Some}
+use Rattle.std.specs.declared.cmp.Ordering.TheVariants.{Less, Greater}
+use Rattle.wire_addr.specs.Block.{block_cmp}
+use Rattle.wire_addr.specs.Class.{ipv6_block, ipv6_link_local, link_address, scope_of, solicited_node}
 use Rattle.wire_addr.specs.Hardware.{eui_64}
 use Rattle.wire_addr.specs.Octets.{groups_of, octets_of}
-use Rattle.wire_addr.specs.Printed.{coloned, dashed, dotted, ipv6_text}
+use Rattle.wire_addr.specs.Prefix.{bit_of, number_of}
+use Rattle.wire_addr.specs.Printed.{block_text, coloned, dashed, dotted, ipv6_text}
+use Rattle.wire_addr.specs.declared.hardware_address.HardwareAddress.TheVariants.{Ethernet}
+use Rattle.wire_addr.specs.declared.ipv6_multicast_scope.Ipv6MulticastScope.TheVariants as scope
 
 ethernet-printed : dashed (0xab ∷ 0xcd ∷ 0xef ∷ 0x0a ∷ 0xa0 ∷ 0xff ∷ []) ≡ codes "ab-cd-ef-0a-a0-ff"
 ethernet-printed = refl
@@ -58,3 +65,42 @@ local-identifier = refl
 
 global-identifier : eui_64 (0x34 ∷ 0x56 ∷ 0x78 ∷ 0x9a ∷ 0xbc ∷ 0xde ∷ []) ≡ 0x36 ∷ 0x56 ∷ 0x78 ∷ 0xff ∷ 0xfe ∷ 0x9a ∷ 0xbc ∷ 0xde ∷ []
 global-identifier = refl
+
+-- ---- prefixes, blocks and classes
+
+highest-bit : bit_of (0x80 ∷ 0x01 ∷ []) 0 ≡ 1
+highest-bit = refl
+
+lowest-bit : bit_of (0x80 ∷ 0x01 ∷ []) 15 ≡ 1
+lowest-bit = refl
+
+bit-between : bit_of (0x80 ∷ 0x01 ∷ []) 8 ≡ 0
+bit-between = refl
+
+number-ipv4 : number_of (192 ∷ 168 ∷ 1 ∷ 2 ∷ []) ≡ 0xc0a80102
+number-ipv4 = refl
+
+block-printed : block_text dotted (record { address = 192 ∷ 168 ∷ 1 ∷ 10 ∷ []; prefix_len = 24 }) ≡ codes "192.168.1.10/24"
+unfolding digits
+block-printed = refl
+
+address-compared_first : block_cmp (record { address = 9 ∷ 255 ∷ 255 ∷ 255 ∷ []; prefix_len = 32 }) (record { address = 10 ∷ 0 ∷ 0 ∷ 0 ∷ []; prefix_len = 8 }) ≡ Less
+address-compared_first = refl
+
+prefix-compared_next : block_cmp (record { address = 10 ∷ 0 ∷ 0 ∷ 0 ∷ []; prefix_len = 9 }) (record { address = 10 ∷ 0 ∷ 0 ∷ 0 ∷ []; prefix_len = 8 }) ≡ Greater
+prefix-compared_next = refl
+
+link-address : link_address ipv6_link_local (Ethernet (record { 0 = 0x02 ∷ 0 ∷ 0 ∷ 0 ∷ 0 ∷ 0x01 ∷ [] })) ≡ Some (octets_of (0xfe80 ∷ 0 ∷ 0 ∷ 0 ∷ 0 ∷ 0xff ∷ 0xfe00 ∷ 1 ∷ []))
+link-address = refl
+
+link-longer_prefix : link_address (ipv6_block (0xfe80 ∷ 0 ∷ 0 ∷ 0 ∷ 0 ∷ 0 ∷ 0 ∷ 0 ∷ []) 63) (Ethernet (record { 0 = 0x02 ∷ 0 ∷ 0 ∷ 0 ∷ 0 ∷ 0x01 ∷ [] })) ≡ None
+link-longer_prefix = refl
+
+solicited-node : solicited_node (octets_of (0xfe80 ∷ 0 ∷ 0 ∷ 0 ∷ 0 ∷ 0 ∷ 0 ∷ 1 ∷ [])) ≡ octets_of (0xff02 ∷ 0 ∷ 0 ∷ 0 ∷ 0 ∷ 1 ∷ 0xff00 ∷ 1 ∷ [])
+solicited-node = refl
+
+scope-global : scope_of 14 ≡ scope.Global
+scope-global = refl
+
+scope-unnamed : scope_of 3 ≡ scope.Unknown
+scope-unnamed = refl
