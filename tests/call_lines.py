@@ -279,6 +279,7 @@ KINDS = {
     "frag": Kind(edges_frag, random_frag, 5),
     "tcp": Kind(edges_tcp, random_tcp, 25),
     "walk": Kind(edges_walk, random_walk, 20),
+    "block": Kind(edges_block, random_block, 10),
     "prefix": Kind(edges_prefix, random_prefix, 5),
     "netmask": Kind(edges_netmask, random_netmask, 5),
 }

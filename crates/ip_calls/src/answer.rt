@@ -4,7 +4,7 @@ ghost use Rattle.std.specs.Prelude.{◌≡◌, ◌==◌, IfOk, length, map, vec_
 ghost use Rattle.std.specs.List.{slice_split};
 ghost use Rattle.ip_calls.specs.Lines.{lines};
 
-use crate::{checksum, fragment, header, mask, options, tcp, udp};
+use crate::{block, checksum, fragment, header, mask, options, tcp, udp};
 use std::alloc::{AllocError, Global};
 
 /// Why a line has no answer of the library.
@@ -76,6 +76,7 @@ fn asked(alloc: Global, line: &[u8]) -> Result<String, NoAnswer> {
         ["header", operands @ ..] => header::answer(alloc, operands),
         ["frag", operands @ ..] => fragment::answer(alloc, operands),
         ["walk", operands @ ..] => options::answer(alloc, operands),
+        ["block", operands @ ..] => block::answer(alloc, operands),
         ["prefix", operands @ ..] => mask::prefix_len(alloc, operands),
         ["netmask", operands @ ..] => mask::from_netmask(alloc, operands),
         ["sum", operands @ ..] => checksum::answer(alloc, operands),

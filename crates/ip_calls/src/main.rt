@@ -11,6 +11,8 @@
 //! - `udp SRC DST SPORT DPORT PAYLOAD TX OLD`, `header SRC DST PROTOCOL LEN HOPS TX OLD` and
 //!   `frag OFFSET MORE IDENT OLD`: the octets that are emitted.
 //! - `walk OPTIONS`: of the options of a TCP header the summary, whether SACK is permitted, and the ranges.
+//! - `block A/N B/M`: whether the first block holds the address B, and all of the second block; of IPv4 also
+//!   its netmask, its network and its broadcast address.
 //! - `prefix ADDRESS`: how many ones it is, where zeros alone follow them, else `-`. `netmask ADDRESS MASK`: the
 //!   block of both, or `err`.
 //! - `sum OCTETS`: their Internet checksum, before its complement.
@@ -24,6 +26,7 @@
 #![tactic(auto)]
 
 mod answer;
+mod block;
 mod checksum;
 mod fragment;
 mod header;

@@ -2,7 +2,7 @@
 
 use crate::answer::NoAnswer;
 use crate::operands::{NOTHING, address, ipv4_address};
-use ip_wire::{IpAddress, Ipv4Cidr};
+use ip_wire::Ipv4Cidr;
 use std::alloc::Global;
 
 /// How many ones an address is, where zeros alone follow them.
@@ -10,11 +10,7 @@ pub fn prefix_len(alloc: Global, operands: &[&str]) -> Result<String, NoAnswer> 
     let [word] = operands else {
         return Err(NoAnswer::Malformed);
     };
-    let len = match address(word)? {
-        IpAddress::Ipv4(address) => address.prefix_len(),
-        IpAddress::Ipv6(address) => address.prefix_len(),
-    };
-    match len {
+    match address(word)?.prefix_len() {
         Some(len) => Ok(format!(in alloc; "{len}")?),
         None => Ok(String::from_str(alloc, NOTHING)?),
     }

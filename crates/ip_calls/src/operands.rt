@@ -5,7 +5,7 @@ ghost use Rattle.ip_wire.specs.IpAddress.{version_of};
 
 use crate::answer::NoAnswer;
 use hex::FromHexError;
-use ip_wire::{IpAddress, Ipv4Address, Ipv6Address};
+use ip_wire::{IpAddress, IpCidr, Ipv4Address, Ipv6Address};
 use net_base::{Checksum, ChecksumCapabilities};
 use std::alloc::Global;
 use std::net::IpAddr;
@@ -85,6 +85,20 @@ pub fn addresses(src: &str, dst: &str) -> Result<(IpAddress, IpAddress), NoAnswe
     } else {
         Err(NoAnswer::Malformed)
     }
+}
+
+/// A block: an address, `/` and how many of its first bits count.
+pub fn block(word: &str) -> Result<IpCidr, NoAnswer> {
+    let (addr, prefix_len) = word.split_once('/').ok_or(NoAnswer::Malformed)?;
+    let (addr, prefix_len) = (address(addr)?, number(prefix_len)?);
+    let bits: u8 = match addr {
+        IpAddress::Ipv4(_) => 32,
+        IpAddress::Ipv6(_) => 128,
+    };
+    if prefix_len > bits {
+        return Err(NoAnswer::Malformed);
+    }
+    Ok(IpCidr::new(addr, prefix_len))
 }
 
 /// Whether something is asked for.
