@@ -214,8 +214,8 @@ def random_block(rng):
     second = first ^ (1 << 8 * size - 1 - turned if 0 <= turned < 8 * size else 0)
     m = rng.choice([n, n, max(n - 1, 0), min(n + 1, 8 * size), rng.randrange(8 * size + 1)])
     if rng.random() < 0.1:
-        size_of_second = rng.choice([4, 16])
-        return line("block", block(first, n, size), block(int(ipaddress.ip_address(address(rng, size_of_second))), 32, size_of_second))
+        other = address(rng, rng.choice([4, 16]))
+        return line("block", block(first, n, size), f"{other}/32")
     return line("block", block(first, n, size), block(second, m, size))
 
 
