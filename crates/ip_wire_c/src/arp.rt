@@ -6,6 +6,7 @@ ghost use Rattle.ip_wire_c.specs.Calls.{Fills};
 use ip_wire::{ArpPacketMut, ArpRepr};
 
 /// Writes a packet to the front of `out`, and answers its length. None where it doesn't fit.
+#[inline(always)]
 pub fn emit(value: ArpRepr, out: &mut [u8]) -> Option<usize>
     ensures { Fills (bytes_of value) out.old out.new result }
 {

@@ -24,6 +24,7 @@ impl TcpRepr<'_> {
     /// leaves what follows them. Of the options SACK permitted stands in the place of ranges, which
     /// are closed up, and written with an acknowledgement only. The checksum is that of the whole
     /// slice where `caps` says so, else 0.
+    #[inline(always)]
     pub fn emit(
         &self,
         packet: &mut TcpPacketMut<'_>,
