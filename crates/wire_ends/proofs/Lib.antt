@@ -1,4 +1,5 @@
 pub mod Cidrs
+mod EndsWorked
 mod ProtocolWorked
 pub mod Protocols
 pub mod StdNet

@@ -1,0 +1,48 @@
+-- The texts and the order of addresses, blocks and endpoints, worked.
+use Rattle.std.proofs.Common.{◌≡◌, [], ◌∷◌, None, codes, refl}
+use Rattle.std.specs.Fmt.{digits}
+use Rattle.std.specs.declared.cmp.Ordering.TheVariants.{Less}
+use Rattle.wire_ends.specs.Endpoint.{endpoint_at, endpoint_cmp, endpoint_text, listening_at, listening_cmp, listening_on, listening_text}
+use Rattle.wire_ends.specs.IpAddress.{address_cmp}
+use Rattle.wire_ends.specs.IpCidr.{IsIn, block_at, cidr_cmp, cidr_text}
+use Rattle.wire_ends.specs.declared.ip_address.IpAddress.{IpAddress}
+use Rattle.wire_ends.specs.declared.ip_address.IpAddress.TheVariants.{Ipv4, Ipv6}
+
+localhost : IpAddress
+localhost = Ipv4 (127 ∷ 0 ∷ 0 ∷ 1 ∷ [])
+
+loopback : IpAddress
+loopback = Ipv6 (0 ∷ 0 ∷ 0 ∷ 0 ∷ 0 ∷ 0 ∷ 0 ∷ 0 ∷ 0 ∷ 0 ∷ 0 ∷ 0 ∷ 0 ∷ 0 ∷ 0 ∷ 1 ∷ [])
+
+endpoint-printed : endpoint_text (endpoint_at localhost 12345) ≡ codes "127.0.0.1:12345"
+unfolding digits localhost
+endpoint-printed = refl
+
+everywhere-printed : listening_text None 80 ≡ codes "*:80"
+unfolding digits
+everywhere-printed = refl
+
+block-printed : cidr_text (block_at localhost 8) ≡ codes "127.0.0.1/8"
+unfolding digits localhost
+block-printed = refl
+
+ipv4-before_ipv6 : address_cmp localhost loopback ≡ Less
+unfolding localhost loopback
+ipv4-before_ipv6 = refl
+
+no_address-first : listening_cmp (listening_on 65535) (listening_at (endpoint_at localhost 0)) ≡ Less
+unfolding localhost
+no_address-first = refl
+
+address-before_port : endpoint_cmp (endpoint_at localhost 65535) (endpoint_at (Ipv4 (127 ∷ 0 ∷ 0 ∷ 2 ∷ [])) 1) ≡ Less
+unfolding localhost
+address-before_port = refl
+
+address-before_prefix : cidr_cmp (block_at localhost 32) (block_at (Ipv4 (127 ∷ 0 ∷ 0 ∷ 2 ∷ [])) 8) ≡ Less
+unfolding localhost
+address-before_prefix = refl
+
+-- all of IPv4 has no address of IPv6
+other_version : ¬ (IsIn (block_at (Ipv4 (0 ∷ 0 ∷ 0 ∷ 0 ∷ [])) 0) loopback)
+unfolding loopback
+other_version is = is
