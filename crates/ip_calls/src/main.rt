@@ -4,9 +4,9 @@
 //! A line is all bytes up to a line feed. Its words stand between single spaces: the kind of call and
 //! its operands. Numbers are decimal, octets are hex digits, and `-` stands for none of them.
 //!
-//! - `tcp SRC DST SPORT DPORT CONTROL SEQ ACK WIN WS MSS SACKP R1 R2 R3 TS PAYLOAD TX OLD`: the length of
+//! - `tcp SRC DST SPORT DPORT CONTROL SEQ ACK WIN WS MSS SACKP RANGE.. TS PAYLOAD TX OLD`: the length of
 //!   the header and, where a header can be so long, the octets of the segment. CONTROL is `none`, `psh`,
-//!   `syn`, `fin` or `rst`; R1 to R3 and TS are pairs `A,B`, and of R's there are as many as the library
+//!   `syn`, `fin` or `rst`; each RANGE and TS are pairs `A,B`, and there are as many RANGEs as the library
 //!   keeps.
 //! - `udp SRC DST SPORT DPORT PAYLOAD TX OLD`, `header SRC DST PROTOCOL LEN HOPS TX OLD` and
 //!   `frag OFFSET MORE IDENT OLD`: the octets that are emitted.
