@@ -2,8 +2,8 @@
 use Rattle.std.proofs.Common.{◌≡◌, ℕ, zero, suc, ◌+◌, ◌-◌, ◌*◌, ◌/◌, ◌%◌, ◌^◌, ◌<◌, ◌≤◌, List, [], ◌∷◌, length, sum, Fits, w16, refl, ◌∙◌, ap, map, arith}
 use Rattle.std.specs.Simd.Lanes.{Each1, Each2, zip2, sum_l, number_l, digits_l}
 use Rattle.std.specs.Prelude.{replicate}
-use Rattle.std.proofs.lemmas.List.Sums.{sum_by-cons}
 use Rattle.wire_checksum.specs.WordSum.{words}
+use Rattle.wire_checksum.proofs.WordLists.{sum-words-cons}
 
 -- bytes al numbers of 16 bits, low byte first
 abbrev pub pairs : List ℕ → List ℕ
@@ -34,10 +34,6 @@ digits-pairs (suc n) (x ∷ y ∷ v) e h =
     let b : (x + 256 * (y + 256 * m)) / 65536 ≡ m = omega arith in
     ap (λ k. k ∷ digits_l 65536 n ((x + 256 * (y + 256 * m)) / 65536)) a ∙ ap (λ k. (x + 256 * y) ∷ digits_l 65536 n k) b
     ∙ ap (λ l. (x + 256 * y) ∷ l) (digits-pairs n v (omega arith) (h.1).1)
-
-sum-words-cons : (x y : ℕ) (v : List ℕ) → sum (words (x ∷ y ∷ v)) ≡ 256 * x + y + sum (words v)
-unfolding words
-sum-words-cons x y v = sum_by-cons (λ n. n) (256 * x + y) (words v)
 
 pub odd-bound : (b : ℕ) (os v : List ℕ) → Each1 (λ a. a ≤ b) os → Each1 (λ a. a < 256) v → Each1 (λ a. a ≤ b + 255) (next_odd os (pairs v))
 odd-bound b [] v h k = tt

@@ -66,20 +66,6 @@ residue-carry s t n e a b h =
     sym (residue-join t n ∙ ap (λ m. residue (m + residue n)) (sym e) ∙ ap (λ m. residue (s + m)) (residue-small n b)
     ∙ residue-same (s + n) (s + n - 65535) 0 1 (omega arith) (λ z. omega arith) (λ z. omega arith) ∙ residue-small (s + n - 65535) (omega arith))
 
-pub residue-positive : (t : ℕ) → (t ≡ 0 → ⊥) → residue t ≡ (t - 1) % 65535 + 1
-unfolding residue
-residue-positive zero h = absurd (h refl)
-residue-positive (suc n) h = omega arith
-
--- the four parts of a number of 128 bits that are added up in 64
-pub residue-wide : (s : ℕ)
-    → residue (256 * (s / 18446744073709551616 + s % 18446744073709551616 / 4294967296 + s % 18446744073709551616 % 4294967296)) ≡ residue (256 * s)
-residue-wide s =
-    let high = s / 18446744073709551616 in
-    let low = s % 18446744073709551616 in
-    residue-same (256 * (high + low / 4294967296 + low % 4294967296)) (256 * s) (256 * (281479271743489 * high + 65537 * (low / 4294967296))) 0 (omega arith)
-    (λ z. omega arith) (λ z. omega arith)
-
 residue-least : (t : ℕ) → 0 < t → 1 ≤ residue t
 unfolding residue
 residue-least zero h = absurd (omega arith)
@@ -107,6 +93,3 @@ residue-complement m =
     let bound = residue-bound m in
     residue-same (m + (65535 - residue m)) 65535 0 p.0 (omega (arith, p.1)) (λ z. absurd (omega (arith, residue-of_zero m (omega arith)))) (λ z. absurd (omega arith))
     ∙ residue-small 65535 (omega arith)
-
--- what the code computes of a total
-pub ruleset residues = (residue-of_zero, residue-positive)

@@ -2,10 +2,11 @@
 use Rattle.std.proofs.Common.{◌≡◌, ℕ, zero, suc, ◌+◌, ◌*◌, ◌%◌, ◌<◌, ◌≤◌, List, [], ◌∷◌, ◌++◌, length, take, drop, get_or, sum, refl, sym, ◌∙◌, ap, zero-add, arith, w16, w32, w64}
 use Rattle.std.specs.Int.{from_le_bytes}
 use Rattle.std.specs.Simd.{first_chunks}
+use Rattle.std.specs.Simd.Lanes.{number_l}
 use Rattle.std.proofs.lemmas.List.{drop-drop, length-drop, length-take-le, take-append-drop}
 use Rattle.std.proofs.Math.Seq.{take-add}
 use Rattle.std.proofs.Math.Nat.{zero-mul, suc-mul, mul-add}
-use Rattle.std.proofs.lemmas.List.Sums.{sum_by-append}
+use Rattle.std.proofs.lemmas.List.Sums.{sum_by-append, sum_by-cons}
 use Rattle.wire_checksum.specs.WordSum.{words, residue}
 use Rattle.wire_checksum.proofs.Residues.{residue-same, residue-add}
 
@@ -18,49 +19,55 @@ words-append (x ∷ y ∷ a) b e = ap (λ ws. (256 * x + y) ∷ ws) (words-appen
 pub sum-words-append : (a b : List ℕ) → length a % 2 ≡ 0 → sum (words (a ++ b)) ≡ sum (words a) + sum (words b)
 sum-words-append a b e = ap sum (words-append a b e) ∙ sum_by-append (λ x. x) (words a) (words b)
 
--- eight bytes as one number, low byte first
-pub eight : (a b c d e f g h : ℕ) → residue (256 * (a + b * 256 + c * 65536 + d * 16777216 + e * 4294967296 + f * 1099511627776 + g * 281474976710656 + h * 72057594037927936))
-    ≡ residue (0 + (256 * a + b) + (256 * c + d) + (256 * e + f) + (256 * g + h))
-eight a b c d e f g h =
-    residue-same (256 * (a + b * 256 + c * 65536 + d * 16777216 + e * 4294967296 + f * 1099511627776 + g * 281474976710656 + h * 72057594037927936))
-    (0 + (256 * a + b) + (256 * c + d) + (256 * e + f) + (256 * g + h)) 0
-    (b + 256 * c + 65537 * d + 16777472 * e + 4295032833 * f + 1099528405248 * g + 281479271743489 * h)
-    (omega arith) (λ z. omega arith) (λ z. omega arith)
+-- one more word
+pub sum-words-cons : (x y : ℕ) (xs : List ℕ) → sum (words (x ∷ y ∷ xs)) ≡ 256 * x + y + sum (words xs)
+unfolding words
+sum-words-cons x y xs = sum_by-cons (λ n. n) (256 * x + y) (words xs)
+
+-- bytes as one number, low byte first
+pub number-words : (xs : List ℕ) → residue (256 * number_l 256 xs) ≡ residue (sum (words xs))
+unfolding words
+number-words [] = refl
+number-words (x ∷ []) = ap residue (omega arith)
+number-words (x ∷ y ∷ xs) =
+    let m = number_l 256 xs in
+    residue-same (256 * (x + 256 * (y + 256 * m))) (256 * x + y + 256 * m) 0 (y + 256 * m) (omega arith) (λ z. omega arith) (λ z. omega arith)
+    ∙ residue-add (256 * x + y) (256 * x + y) (256 * m) (sum (words xs)) refl (number-words xs) ∙ ap residue (sym (sum-words-cons x y xs))
+
+pub number-of_8 : (xs : List ℕ) → length xs ≡ 8 → from_le_bytes w64 xs ≡ number_l 256 xs
+number-of_8 (a ∷ b ∷ c ∷ d ∷ e ∷ f ∷ g ∷ h ∷ []) l = omega arith
+number-of_8 [] l = absurd (omega arith)
+number-of_8 (a ∷ []) l = absurd (omega arith)
+number-of_8 (a ∷ b ∷ []) l = absurd (omega arith)
+number-of_8 (a ∷ b ∷ c ∷ []) l = absurd (omega arith)
+number-of_8 (a ∷ b ∷ c ∷ d ∷ []) l = absurd (omega arith)
+number-of_8 (a ∷ b ∷ c ∷ d ∷ e ∷ []) l = absurd (omega arith)
+number-of_8 (a ∷ b ∷ c ∷ d ∷ e ∷ f ∷ []) l = absurd (omega arith)
+number-of_8 (a ∷ b ∷ c ∷ d ∷ e ∷ f ∷ g ∷ []) l = absurd (omega arith)
+number-of_8 (a ∷ b ∷ c ∷ d ∷ e ∷ f ∷ g ∷ h ∷ x ∷ xs) l = absurd (omega arith)
+
+number-of_4 : (xs : List ℕ) → length xs ≡ 4 → from_le_bytes w32 xs ≡ number_l 256 xs
+number-of_4 (a ∷ b ∷ c ∷ d ∷ []) l = omega arith
+number-of_4 [] l = absurd (omega arith)
+number-of_4 (a ∷ []) l = absurd (omega arith)
+number-of_4 (a ∷ b ∷ []) l = absurd (omega arith)
+number-of_4 (a ∷ b ∷ c ∷ []) l = absurd (omega arith)
+number-of_4 (a ∷ b ∷ c ∷ d ∷ e ∷ xs) l = absurd (omega arith)
+
+number-of_2 : (xs : List ℕ) → length xs ≡ 2 → from_le_bytes w16 xs ≡ number_l 256 xs
+number-of_2 (a ∷ b ∷ []) l = omega arith
+number-of_2 [] l = absurd (omega arith)
+number-of_2 (a ∷ []) l = absurd (omega arith)
+number-of_2 (a ∷ b ∷ c ∷ xs) l = absurd (omega arith)
 
 pub words-of_8 : (xs : List ℕ) → length xs ≡ 8 → residue (256 * from_le_bytes w64 xs) ≡ residue (sum (words xs))
-unfolding words
-words-of_8 (a ∷ b ∷ c ∷ d ∷ e ∷ f ∷ g ∷ h ∷ []) l = eight a b c d e f g h
-words-of_8 [] l = absurd (omega arith)
-words-of_8 (a ∷ []) l = absurd (omega arith)
-words-of_8 (a ∷ b ∷ []) l = absurd (omega arith)
-words-of_8 (a ∷ b ∷ c ∷ []) l = absurd (omega arith)
-words-of_8 (a ∷ b ∷ c ∷ d ∷ []) l = absurd (omega arith)
-words-of_8 (a ∷ b ∷ c ∷ d ∷ e ∷ []) l = absurd (omega arith)
-words-of_8 (a ∷ b ∷ c ∷ d ∷ e ∷ f ∷ []) l = absurd (omega arith)
-words-of_8 (a ∷ b ∷ c ∷ d ∷ e ∷ f ∷ g ∷ []) l = absurd (omega arith)
-words-of_8 (a ∷ b ∷ c ∷ d ∷ e ∷ f ∷ g ∷ h ∷ x ∷ xs) l = absurd (omega arith)
+words-of_8 xs l = ap (λ n. residue (256 * n)) (number-of_8 xs l) ∙ number-words xs
 
--- four bytes
 pub words-of_4 : (xs : List ℕ) → length xs ≡ 4 → residue (256 * from_le_bytes w32 xs) ≡ residue (sum (words xs))
-unfolding words
-words-of_4 (a ∷ b ∷ c ∷ d ∷ []) l =
-    residue-same (256 * (a + b * 256 + c * 65536 + d * 16777216)) (0 + (256 * a + b) + (256 * c + d)) 0 (b + 256 * c + 65537 * d) (omega arith) (λ z. omega arith) (λ z. omega arith)
-words-of_4 [] l = absurd (omega arith)
-words-of_4 (a ∷ []) l = absurd (omega arith)
-words-of_4 (a ∷ b ∷ []) l = absurd (omega arith)
-words-of_4 (a ∷ b ∷ c ∷ []) l = absurd (omega arith)
-words-of_4 (a ∷ b ∷ c ∷ d ∷ e ∷ xs) l = absurd (omega arith)
-
--- two bytes
-two : (a b : ℕ) → residue (256 * (a + b * 256)) ≡ residue (0 + (256 * a + b))
-two a b = residue-same (256 * (a + b * 256)) (0 + (256 * a + b)) 0 b (omega arith) (λ z. omega arith) (λ z. omega arith)
+words-of_4 xs l = ap (λ n. residue (256 * n)) (number-of_4 xs l) ∙ number-words xs
 
 pub words-of_2 : (xs : List ℕ) → length xs ≡ 2 → residue (256 * from_le_bytes w16 xs) ≡ residue (sum (words xs))
-unfolding words
-words-of_2 (a ∷ b ∷ []) l = two a b
-words-of_2 [] l = absurd (omega arith)
-words-of_2 (a ∷ []) l = absurd (omega arith)
-words-of_2 (a ∷ b ∷ c ∷ xs) l = absurd (omega arith)
+words-of_2 xs l = ap (λ n. residue (256 * n)) (number-of_2 xs l) ∙ number-words xs
 
 -- one byte is the high byte of a word
 pub words-of_1 : (xs : List ℕ) → length xs ≡ 1 → sum (words xs) ≡ 256 * get_or xs 0 0
