@@ -1,0 +1,125 @@
+-- The texts of numbers and of lists of them, each beside what it is read as. A text is the list of its bytes.
+use Rattle.std.specs.Prelude.{◌≡◌, ℕ, ◌+◌, ◌-◌, ◌*◌, ◌≤◌, ◌⊎◌, List, [], ◌∷◌, ◌++◌, length, replicate, codes, Option, MatchOption}
+use Rattle.std.specs.List.{join_with_byte}
+use Rattle.std.specs.Str.Parse.{IsNumeral, digits_value}
+
+-- the result is what the text is read as, or there is no such value
+abbrev pub Reads : {A : Type 0} → (List ℕ → A → Type 0) → List ℕ → Option A → Type 0
+Reads {A} R text result = MatchOption result ((a : A) → ¬ (R text a)) (R text)
+
+-- `.`
+abbrev pub dot : ℕ
+dot = 46
+
+-- `-`
+abbrev pub dash : ℕ
+dash = 45
+
+-- `:`
+abbrev pub colon : ℕ
+colon = 58
+
+-- one digit of the radix or more, but at most `places`, the first of which may be 0; the number that they write
+-- is at most `most`
+pub record IsNumber (radix places most : ℕ) (text : List ℕ) (n : ℕ) : Type 0 where
+  pub digits : IsNumeral radix text
+  pub places_fit : length text ≤ places
+  pub value : digits_value radix text ≡ n
+  pub fits : n ≤ most
+
+-- each piece is read as the value at its place, and there are as many of both
+abbrev pub EachReads : (List ℕ → ℕ → Type 0) → List (List ℕ) → List ℕ → Type 0
+EachReads R [] [] = Unit {0}
+EachReads R (piece ∷ pieces) (x ∷ xs) = R piece x × EachReads R pieces xs
+EachReads R [] (x ∷ xs) = ⊥
+EachReads R (piece ∷ pieces) [] = ⊥
+
+-- the text is pieces joined by the mark, each read as one of the values
+pub record IsJoined (mark : ℕ) (R : List ℕ → ℕ → Type 0) (text values : List ℕ) : Type 0 where
+  pub pieces : List (List ℕ)
+  pub joined : text ≡ join_with_byte mark pieces
+  pub each : EachReads R pieces values
+
+-- ---- octets
+
+-- one to three decimal digits, at most 255
+abbrev pub IsOctet : List ℕ → ℕ → Type 0
+IsOctet text n = IsNumber 10 3 255 text n
+
+-- four such numbers joined by dots
+abbrev pub IsDotted : List ℕ → List ℕ → Type 0
+IsDotted text octets = IsJoined dot IsOctet text octets × (length octets ≡ 4)
+
+-- six groups of one or two hex digits joined by the mark
+abbrev pub IsHexOctets : ℕ → List ℕ → List ℕ → Type 0
+IsHexOctets mark text octets = IsJoined mark (IsNumber 16 2 255) text octets × (length octets ≡ 6)
+
+-- all marks are dashes, or all are colons
+abbrev pub IsHexText : List ℕ → List ℕ → Type 0
+IsHexText text octets = IsHexOctets dash text octets ⊎ IsHexOctets colon text octets
+
+-- ---- groups of 16 bits (RFC 4291, section 2.2)
+
+-- one to four hex digits of either case
+abbrev pub IsGroup : List ℕ → ℕ → Type 0
+IsGroup text n = IsNumber 16 4 0xffff text n
+
+-- groups joined by colons; no text for no groups
+abbrev pub AreGroupsText : List ℕ → List ℕ → Type 0
+AreGroupsText text groups = IsJoined colon IsGroup text groups
+
+-- eight groups joined by colons
+abbrev pub IsFullText : List ℕ → List ℕ → Type 0
+IsFullText text groups = AreGroupsText text groups × (length groups ≡ 8)
+
+-- a head, `::` and a tail, of seven groups at most together: zero groups stand between them
+pub record IsElidedText (text groups : List ℕ) : Type 0 where
+  pub head_text : List ℕ
+  pub tail_text : List ℕ
+  pub head : List ℕ
+  pub tail : List ℕ
+  pub spelled : text ≡ head_text ++ codes "::" ++ tail_text
+  pub head_groups : AreGroupsText head_text head
+  pub tail_groups : AreGroupsText tail_text tail
+  pub room : length head + length tail ≤ 7
+  pub value : groups ≡ head ++ replicate (8 - length head - length tail) 0 ++ tail
+
+-- the six groups before the dotted part
+abbrev pub mapped_groups : List ℕ
+mapped_groups = 0 ∷ 0 ∷ 0 ∷ 0 ∷ 0 ∷ 0xffff ∷ []
+
+-- each two octets as one group, the high octet first
+abbrev pub groups_of : List ℕ → List ℕ
+groups_of [] = []
+groups_of (a ∷ []) = []
+groups_of (a ∷ b ∷ octets) = (a * 256 + b) ∷ groups_of octets
+
+-- six groups of values 0, 0, 0, 0, 0, ffff, then a colon and a dotted part
+pub record IsMappedText (text groups : List ℕ) : Type 0 where
+  pub front_text : List ℕ
+  pub dotted_text : List ℕ
+  pub octets : List ℕ
+  pub spelled : text ≡ front_text ++ codes ":" ++ dotted_text
+  pub front : AreGroupsText front_text mapped_groups
+  pub last : IsDotted dotted_text octets
+  pub value : groups ≡ mapped_groups ++ groups_of octets
+
+-- at most four zero groups, `::`, a group of value ffff, a colon and a dotted part
+pub record IsElidedMappedText (text groups : List ℕ) : Type 0 where
+  pub head_text : List ℕ
+  pub mark_text : List ℕ
+  pub dotted_text : List ℕ
+  pub zeros : ℕ
+  pub octets : List ℕ
+  pub spelled : text ≡ head_text ++ codes "::" ++ mark_text ++ codes ":" ++ dotted_text
+  pub head : AreGroupsText head_text (replicate zeros 0)
+  pub few : zeros ≤ 4
+  pub mark : IsGroup mark_text 0xffff
+  pub last : IsDotted dotted_text octets
+  pub value : groups ≡ mapped_groups ++ groups_of octets
+
+-- one of the four forms of an IPv6 text
+abbrev pub IsIpv6Text : List ℕ → List ℕ → Type 0
+IsIpv6Text text groups =
+    IsFullText text groups
+    ⊎ (IsElidedText text groups ⊎ (IsMappedText text groups ⊎ IsElidedMappedText text groups))

@@ -1,0 +1,109 @@
+//! The eight groups of an IPv6 text.
+
+ghost use Rattle.std.specs.Prelude.{◌≡◌, ◌≤◌, ◌==◌, IfSome, length, option_copied};
+ghost use Rattle.std.specs.List.{list_all};
+ghost use Rattle.wire_text.specs.Grammar.{IsIpv6Text, Reads};
+ghost use Rattle.wire_text.specs.Reading.{inner_text, mapped_read};
+ghost use Rattle.wire_text.specs.Reading as Reading;
+
+use crate::number_text::first_piece;
+use crate::octets_text::octets;
+
+fn are_zeros(groups: &[u16]) -> bool
+    ensures { result ≡ list_all (λ g. g == 0) groups.now }
+{
+    groups.iter().all(|g| *g == 0)
+}
+
+/// Whether a dotted part may come behind these groups, so many of which stood before `::`.
+fn may_end_dotted(groups: &[u16], before: Option<usize>) -> bool
+    ensures { result ≡ Reading.may_end_dotted before groups.now }
+{
+    match (before, groups) {
+        (None, [0, 0, 0, 0, 0, 0xffff]) => true,
+        (Some(before), [zeros @ .., 0xffff]) => {
+            before <= 4 && zeros.len() == before && are_zeros(zeros)
+        }
+        _ => false,
+    }
+}
+
+/// The eight groups, from those that were read and how many of them stood before `::`.
+#[inline]
+fn all_groups(groups: &[u16], before: Option<usize>) -> Option<[u16; 8]>
+    requires few { length groups.now ≤ 8 }
+    requires within { IfSome before (λ n. n ≤ length groups.now) }
+    ensures { result ≡ Reading.all_groups before groups.now }
+{
+    let mut all = [0; 8];
+    match before {
+        None if groups.len() == 8 => {
+            all.copy_from_slice(groups);
+            Some(all)
+        }
+        Some(before) if groups.len() < 8 => {
+            let (head, tail) = groups.split_at(before);
+            all[..before].copy_from_slice(head);
+            all[8 - tail.len()..].copy_from_slice(tail);
+            Some(all)
+        }
+        _ => None,
+    }
+}
+
+/// The eight groups of an address that ends in this dotted part.
+fn mapped(text: &[u8]) -> Option<[u16; 8]>
+    ensures { result ≡ mapped_read text.now }
+{
+    let [a, b, c, d] = octets(text)?;
+    let high = u16::from_be_bytes([a, b]);
+    let low = u16::from_be_bytes([c, d]);
+    Some([0, 0, 0, 0, 0, 0xffff, high, low])
+}
+
+/// The text with one colon of a `::` at its start, so that a colon stands there for nothing else.
+#[inline]
+fn inner(text: &[u8]) -> Option<&[u8]>
+    ensures { option_copied result ≡ inner_text text.now }
+{
+    let (first, behind) = text.split_first()?;
+    if *first != b':' {
+        return Some(text);
+    }
+    if *behind.first()? == b':' {
+        Some(behind)
+    } else {
+        None
+    }
+}
+
+/// The eight groups of an IPv6 text.
+pub fn groups(text: &[u8]) -> Option<[u16; 8]>
+    ensures { Reads IsIpv6Text text.now result }
+{
+    let mut rest = Some(inner(text)?);
+    let mut groups = [0; 8];
+    let mut len = 0;
+    let mut before = None;
+    while let Some(more) = rest {
+        if let Some((group, behind)) = first_piece(more, b':', 16, 4, 0xffff) {
+            if len == 8 {
+                return None;
+            }
+            groups[len] = group as u16;
+            len += 1;
+            rest = behind;
+            continue;
+        }
+        match more {
+            // An empty piece is `::`, which stands once, and may be the end.
+            [b':', behind @ ..] if before.is_none() => {
+                before = Some(len);
+                rest = (!behind.is_empty()).then_some(behind);
+            }
+            _ if may_end_dotted(&groups[..len], before) => return mapped(more),
+            _ => return None,
+        }
+    }
+    all_groups(&groups[..len], before)
+}

@@ -1,0 +1,69 @@
+//! Numbers, and the first of several numbers that a mark joins.
+
+ghost use Rattle.std.specs.Prelude.{◌≡◌, ◌≤◌, ◌<◌, ◌⊎◌, IfSome, length, slice_index, take};
+ghost use Rattle.std.specs.Char.{digit_value};
+ghost use Rattle.std.specs.Str.Parse.{AllDigits, digits_value};
+ghost use Rattle.wire_text.specs.Grammar.{IsNumber, Reads};
+ghost use Rattle.wire_text.specs.Reading.{FirstPiece};
+
+/// The number that the first digits write, of which at most so many are read, and how many there are.
+#[inline]
+fn first_number(text: &[u8], radix: u32, places: usize) -> (u32, usize)
+    requires low { 2 ≤ radix }
+    requires high { radix ≤ 16 }
+    requires short { places ≤ 5 }
+    ensures digits { AllDigits radix (take result.1 text.now) }
+    ensures value { result.0 ≡ digits_value radix (take result.1 text.now) }
+    ensures within { result.1 ≤ length text.now }
+    ensures places { result.1 ≤ places }
+    ensures whole { (result.1 ≡ places) ⊎ ((result.1 ≡ length text.now) ⊎ (radix ≤ digit_value (slice_index text.now result.1))) }
+{
+    let most = places.min(text.len());
+    let mut value = 0;
+    for len in 0..most {
+        let Some(digit) = char::from(text[len]).to_digit(radix) else {
+            return (value, len)
+        };
+        value = value * radix + digit;
+    }
+    (value, most)
+}
+
+/// The number that a text of one digit to `places` digits writes, if it is at most `most`.
+#[inline]
+pub fn number(text: &[u8], radix: u32, places: usize, most: u32) -> Option<u32>
+    requires low { 2 ≤ radix }
+    requires high { radix ≤ 16 }
+    requires short { places ≤ 5 }
+    ensures value { Reads (IsNumber radix places most) text.now result }
+    ensures fits { IfSome result (λ n. n ≤ most) }
+{
+    let (value, len) = first_number(text, radix, places);
+    (0 < len && len == text.len() && value <= most).then_some(value)
+}
+
+/// The number before the first mark, or that of the whole text, and what follows the mark, if one comes.
+#[inline]
+pub(crate) fn first_piece(
+    text: &[u8],
+    mark: u8,
+    radix: u32,
+    places: usize,
+    most: u32,
+) -> Option<(u32, Option<&[u8]>)>
+    requires low { 2 ≤ radix }
+    requires high { radix ≤ 16 }
+    requires short { places ≤ 5 }
+    requires apart { radix ≤ digit_value mark }
+    ensures { FirstPiece mark radix places most text.now result }
+{
+    let (value, len) = first_number(text, radix, places);
+    if len == 0 || value > most {
+        return None;
+    }
+    match text[len..].split_first() {
+        None => Some((value, None)),
+        Some((byte, behind)) if *byte == mark => Some((value, Some(behind))),
+        _ => None,
+    }
+}
