@@ -1,8 +1,8 @@
 //! The eight groups of an IPv6 text.
 
-ghost use Rattle.std.specs.Prelude.{◌≡◌, ◌≤◌, ◌==◌, IfSome, length, option_copied};
+ghost use Rattle.std.specs.Prelude.{◌≡◌, ◌≢◌, ◌≤◌, ◌<◌, ◌==◌, ◌∷◌, IfSome, MatchOption, length, option_copied, slice_index};
 ghost use Rattle.std.specs.List.{list_all};
-ghost use Rattle.wire_text.specs.Grammar.{IsIpv6Text, Reads};
+ghost use Rattle.wire_text.specs.Grammar.{IsIpv6Text, Reads, colon};
 ghost use Rattle.wire_text.specs.Reading.{inner_text, mapped_read};
 ghost use Rattle.wire_text.specs.Reading as Reading;
 
@@ -77,6 +77,17 @@ fn inner(text: &[u8]) -> Option<&[u8]>
     }
 }
 
+/// What follows the colon that the text begins with, if it does.
+#[inline]
+fn after_colon(text: &[u8]) -> Option<&[u8]>
+    ensures { MatchOption result (0 < length text.now → slice_index text.now 0 ≢ colon) (λ behind. text.now ≡ colon ∷ behind.now) }
+{
+    match text.split_first() {
+        Some((first, behind)) if *first == b':' => Some(behind),
+        _ => None,
+    }
+}
+
 /// The eight groups of an IPv6 text.
 pub fn groups(text: &[u8]) -> Option<[u16; 8]>
     ensures { Reads IsIpv6Text text.now result }
@@ -95,9 +106,9 @@ pub fn groups(text: &[u8]) -> Option<[u16; 8]>
             rest = behind;
             continue;
         }
-        match more {
+        match after_colon(more) {
             // An empty piece is `::`, which stands once, and may be the end.
-            [b':', behind @ ..] if before.is_none() => {
+            Some(behind) if before.is_none() => {
                 before = Some(len);
                 rest = (!behind.is_empty()).then_some(behind);
             }

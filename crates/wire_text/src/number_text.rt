@@ -39,7 +39,10 @@ pub fn number(text: &[u8], radix: u32, places: usize, most: u32) -> Option<u32>
     ensures fits { IfSome result (λ n. n ≤ most) }
 {
     let (value, len) = first_number(text, radix, places);
-    (0 < len && len == text.len() && value <= most).then_some(value)
+    if len == 0 || len < text.len() || value > most {
+        return None;
+    }
+    Some(value)
 }
 
 /// The number before the first mark, or that of the whole text, and what follows the mark, if one comes.
@@ -55,7 +58,9 @@ pub(crate) fn first_piece(
     requires high { radix ≤ 16 }
     requires short { places ≤ 5 }
     requires apart { radix ≤ digit_value mark }
-    ensures { FirstPiece mark radix places most text.now result }
+    ensures reads { FirstPiece mark radix places most text.now result }
+    ensures fits { IfSome result (λ r. r.0 ≤ most) }
+    ensures shorter { IfSome result (λ r. IfSome r.1 (λ rest. length rest.now < length text.now)) }
 {
     let (value, len) = first_number(text, radix, places);
     if len == 0 || value > most {

@@ -1,0 +1,165 @@
+-- The digits that stand first, and the first of the pieces between marks.
+use Rattle.std.proofs.Common.{◌≡◌, ◌≢◌, ℕ, zero, suc, ◌-◌, ◌<◌, ◌≤◌, ◌⊎◌, List, [], ◌∷◌, ◌++◌, length, get_or, take, drop, Option, Some, None, Bor, refl, sym, ap, ap₂, ◌∙◌, subst, arith, inl, inr, append-nil, length-append, take_all, take_at, drop_at, length-take-le, length-drop, take-append-drop, eq-eqb}
+use Rattle.std.proofs.lemmas.List.{take_rest}
+use Rattle.std.proofs.lemmas.Bool.{cases_lt}
+use Rattle.std.proofs.lemmas.List.Splits.{join_with_byte-slice_split, slice_split_none, slice_split_at}
+use Rattle.std.specs.List.{join_with_byte}
+use Rattle.std.specs.Char.{digit_value}
+use Rattle.std.specs.Str.Parse.{AllDigits, digits_value}
+use Rattle.wire_text.specs.Grammar.{IsNumber}
+use Rattle.wire_text.specs.Reading.{number_of, pieces_of, FirstPiece}
+use Rattle.wire_text.proofs.Numbers.{number_complete, number_sound}
+use Rattle.wire_text.proofs.Pieces.{digits_piece, pieces_some}
+
+-- so many digits are read, which write this number: as many as may be, or all up to the end or another byte
+pub record IsFirst (radix places : ℕ) (text : List ℕ) (value count : ℕ) : Type 0 where
+  pub digits : AllDigits radix (take count text)
+  pub is : value ≡ digits_value radix (take count text)
+  pub within : count ≤ length text
+  pub few : count ≤ places
+  pub whole : (count ≡ places) ⊎ ((count ≡ length text) ⊎ (radix ≤ digit_value (get_or text count 0)))
+
+-- each digit of a front is one
+digit_within : (radix k : ℕ) (front more : List ℕ) → AllDigits radix front → k < length front → digit_value (get_or (front ++ more) k 0) < radix
+digit_within radix k [] more all within = absurd (omega arith)
+digit_within radix zero (c ∷ front) more all within = all.0
+digit_within radix (suc k) (c ∷ front) more all within = digit_within radix k front more all.1 (omega arith)
+
+-- digits that reach past a front have what follows it
+digit_behind : (radix k c : ℕ) (front more : List ℕ) → AllDigits radix (take k (front ++ c ∷ more)) → length front < k → digit_value c < radix
+digit_behind radix zero c front more all past = absurd (omega arith)
+digit_behind radix (suc k) c [] more all past = all.0
+digit_behind radix (suc k) c (d ∷ front) more all past = digit_behind radix k c front more all.1 (omega arith)
+
+-- what follows a piece: nothing, or the mark and more
+abbrev pub IsBehind : ℕ → List ℕ → Type 0
+IsBehind mark [] = Unit {0}
+IsBehind mark (c ∷ more) = c ≡ mark
+
+-- what is left behind so many bytes
+pub rest_none : (text : List ℕ) (n : ℕ) → length (take (length text - n) (drop n text)) ≡ 0 → length text ≤ n
+rest_none text n e = omega (arith, ap length (take_rest text n), length-drop n text)
+
+pub rest_some : (text : List ℕ) (n c : ℕ) (more : List ℕ) → take (length text - n) (drop n text) ≡ c ∷ more → drop n text ≡ c ∷ more
+rest_some text n c more e = sym (take_rest text n) ∙ e
+
+module _ {radix places : ℕ} {text : List ℕ} {value count : ℕ} (first : IsFirst radix places text value count) where
+  past_none : (mark : ℕ) (piece rest : List ℕ) → radix ≤ digit_value mark → text ≡ piece ++ rest → IsBehind mark rest → count ≤ length piece
+  past_none mark piece [] apart e behind = omega (arith, first.within, ap length (e ∙ append-nil piece))
+  past_none mark piece (c ∷ more) apart e same = elim (cases_lt (length piece) count) [
+    | inl past ↦ absurd (omega (arith, digit_behind radix count c piece more (rw e at first.digits) past, ap digit_value same))
+    | inr some ↦ some
+  ]
+
+  -- a number and a mark, that is no digit, are read up to the mark
+  first_count : (mark most n : ℕ) (piece rest : List ℕ) → radix ≤ digit_value mark → IsNumber radix places most piece n → text ≡ piece ++ rest → IsBehind mark rest → count ≡ length piece
+  first_count mark most n piece rest apart h e behind =
+      let some = past_none mark piece rest apart e behind in
+      let len = ap length e ∙ length-append piece rest in
+      elim (cases_lt count (length piece)) [
+        | inl short ↦
+            let inside = digit_within radix count piece rest h.digits.1 short in
+            elim first.whole [
+              | inl all ↦ absurd (omega (arith, h.places_fit))
+              | inr (inl all) ↦ absurd (omega (arith, len))
+              | inr (inr other) ↦ absurd (omega (arith, inside, ap (λ t. digit_value (get_or t count 0)) e))
+            ]
+        | inr long ↦ omega arith
+      ]
+
+  first_value : (most n : ℕ) (piece rest : List ℕ) → IsNumber radix places most piece n → text ≡ piece ++ rest → count ≡ length piece → value ≡ n
+  first_value most n piece rest h e same =
+      first.is ∙ ap (digits_value radix) (ap₂ take same e ∙ take_at piece rest (length piece) refl) ∙ h.value
+
+  -- the whole text is a number
+  pub is_number : (most : ℕ) → 0 < count → length text ≤ count → value ≤ most → IsNumber radix places most text value
+  is_number most some end fits =
+      let whole = take_all count text end in
+      record {
+        digits = (omega (arith, first.within), rw whole at first.digits);
+        places_fit = omega (arith, first.few);
+        value = ap (digits_value radix) (sym whole) ∙ sym first.is;
+        fits = fits;
+      }
+
+  -- and there is no other reason that it is none
+  pub no_number : (most n : ℕ) → ((count ≡ 0) ⊎ ((count < length text) ⊎ (most < value))) → ¬ (IsNumber radix places most text n)
+  no_number most n why h =
+      let e = sym (append-nil text) in
+      let whole : count ≡ length text = elim (cases_lt count (length text)) [
+        | inl short ↦ elim first.whole [
+          | inl all ↦ absurd (omega (arith, h.places_fit))
+          | inr (inl all) ↦ all
+          | inr (inr other) ↦ absurd (omega (arith, digit_within radix count text [] h.digits.1 short, ap (λ t. digit_value (get_or t count 0)) e))
+        ]
+        | inr long ↦ omega (arith, first.within)
+      ] in
+      let same = first_value most n text [] h e whole in
+      elim why [
+        | inl none ↦ omega (arith, h.digits.0)
+        | inr (inl short) ↦ omega arith
+        | inr (inr big) ↦ omega (arith, h.fits)
+      ]
+
+  -- ---- pieces
+
+  front_piece : (mark : ℕ) → radix ≤ digit_value mark → (most : ℕ) → 0 < count → value ≤ most → number_of radix places most (take count text) ≡ Some value
+  front_piece mark apart most some fits =
+      let len = length-take-le count text first.within in
+      number_complete radix places most (take count text) value (record {
+        digits = (omega arith, first.digits);
+        places_fit = omega (arith, first.few);
+        value = sym first.is;
+        fits = fits;
+      })
+
+  pub last_piece : (mark : ℕ) → radix ≤ digit_value mark → (most : ℕ) → count ≢ 0 → value ≤ most → length text ≤ count → FirstPiece mark radix places most text (Some (value, None))
+  last_piece mark apart most some fits end =
+      let whole = take_all count text end in
+      record {
+        piece = text;
+        others = [];
+        cut = slice_split_none _ text (digits_piece radix mark text apart (rw whole at first.digits));
+        read = (rw whole at (front_piece mark apart most (omega arith) fits), refl);
+      }
+
+  pub piece_and_more : (mark : ℕ) → radix ≤ digit_value mark → (most : ℕ) → count ≢ 0 → value ≤ most → (rest : Bor (List ℕ)) → drop count text ≡ mark ∷ rest.now → FirstPiece mark radix places most text (Some (value, Some rest))
+  piece_and_more mark apart most some fits rest e =
+      let split : text ≡ take count text ++ mark ∷ rest.now = sym (take-append-drop count text) ∙ ap (λ t. take count text ++ t) e in
+      record {
+        piece = take count text;
+        others = pieces_of mark rest.now;
+        cut = ap (pieces_of mark) split ∙ slice_split_at _ (take count text) mark rest.now (digits_piece radix mark (take count text) apart first.digits) (eq-eqb mark mark refl);
+        read = (front_piece mark apart most (omega arith) fits, refl);
+      }
+
+  pub no_piece : (mark : ℕ) → radix ≤ digit_value mark → (most : ℕ) → ((count ≡ 0) ⊎ ((most < value) ⊎ (¬ (IsBehind mark (drop count text))))) → FirstPiece mark radix places most text None
+  no_piece mark apart most why = by (pieces_of mark text) refl
+    where
+      joined : (piece : List ℕ) (others : List (List ℕ)) → (rest : List ℕ) × (join_with_byte mark (piece ∷ others) ≡ piece ++ rest) × IsBehind mark rest
+      joined piece [] = ([], sym (append-nil piece), tt)
+      joined piece (next ∷ others) = (mark ∷ join_with_byte mark (next ∷ others), refl, refl)
+
+      unread : (piece : List ℕ) (others : List (List ℕ)) → pieces_of mark text ≡ piece ∷ others → (n : ℕ) → ¬ (IsNumber radix places most piece n)
+      unread piece others e n h =
+          let (rest, shown, behind) = joined piece others in
+          let split : text ≡ piece ++ rest = sym (join_with_byte-slice_split mark text) ∙ ap (join_with_byte mark) e ∙ shown in
+          let same = first_count mark most n piece rest apart h split behind in
+          elim why [
+            | inl none ↦ omega (arith, h.digits.0)
+            | inr (inl big) ↦ omega (arith, h.fits, first_value most n piece rest h split same)
+            | inr (inr other) ↦ other (subst (IsBehind mark) (sym (ap₂ drop same split ∙ drop_at piece rest (length piece) refl)) behind)
+          ]
+
+      by : (pieces : List (List ℕ)) → pieces_of mark text ≡ pieces → FirstPiece mark radix places most text None
+      by [] e = absurd (omega (arith, pieces_some mark text, ap length e))
+      by (piece ∷ others) e = record {
+        piece = piece;
+        others = others;
+        cut = e;
+        read = none (number_of radix places most piece) refl;
+      }
+        where
+          none : (o : Option ℕ) → number_of radix places most piece ≡ o → number_of radix places most piece ≡ None
+          none None same = same
+          none (Some n) same = absurd (unread piece others e n (number_sound radix places most piece n same))

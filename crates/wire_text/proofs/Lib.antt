@@ -1,0 +1,7 @@
+pub mod First
+pub mod Ipv6
+pub mod Joined
+pub mod Numbers
+pub mod Pieces
+pub mod Readers
+pub mod Steps

@@ -1,0 +1,74 @@
+-- A number text is read as its number, and nothing else is read.
+use Rattle.std.proofs.Common.{◌≡◌, ℕ, ◌<◌, ◌≤◌, ◌⊎◌, Bool, true, false, cond, List, [], ◌∷◌, length, get_or, Option, Some, None, refl, arith, inl, inr, lt-ltb, le-leb, le-ltb, nat_lt, nat_le, ◌*◌, ◌+◌, ◌^◌, take, length-take-le, le_trans, lit≤, mul-le-mul}
+use Rattle.std.proofs.Math.Nat.{pow-le-pow_left, pow-le-pow_right}
+use Rattle.std.proofs.lemmas.Int.Digits.{digits_value-lt, digits_more, digits_value_more}
+use Rattle.std.proofs.lemmas.Bool.{and_right, ltb-true, leb-true, lt-leb, and_parts}
+use Rattle.std.proofs.lemmas.Option.{none-some}
+use Rattle.std.specs.List.{list_all}
+use Rattle.std.specs.Char.{is_digit, digit_value}
+use Rattle.std.specs.Str.Parse.{AllDigits, digits_value}
+use Rattle.std.proofs.NetLemmas.Options.{cond_some}
+use Rattle.wire_text.specs.Grammar.{IsNumber}
+use Rattle.wire_text.specs.Reading.{number_of}
+
+pub all_pass : (radix : ℕ) (text : List ℕ) → AllDigits radix text → list_all (λ c. is_digit c radix) text ≡ true
+all_pass radix [] h = refl
+all_pass radix (c ∷ text) h = rw (lt-ltb (digit_value c) radix h.0) (all_pass radix text h.1)
+
+pub all_digits : (radix : ℕ) (text : List ℕ) → list_all (λ c. is_digit c radix) text ≡ true → AllDigits radix text
+all_digits radix [] h = tt
+all_digits radix (c ∷ text) h =
+    let (first, others) = and_parts _ _ h in
+    (ltb-true (digit_value c) radix first, all_digits radix text others)
+
+pub number_wrong_length : (radix places most : ℕ) (text : List ℕ) → (length text ≡ 0) ⊎ (places < length text) → number_of radix places most text ≡ None
+unfolding number_of
+number_wrong_length radix places most text (inl none) = rw (le-ltb 0 (length text) (omega arith))
+number_wrong_length radix places most text (inr long) =
+    rw (and_right (nat_lt 0 (length text)) _ (lt-leb (length text) places long))
+
+pub number_not_digits : (radix places most : ℕ) (text : List ℕ) → 0 < length text → length text ≤ places → list_all (λ c. is_digit c radix) text ≡ false → number_of radix places most text ≡ None
+unfolding number_of
+number_not_digits radix places most text some short other = rw (lt-ltb _ _ some, le-leb _ _ short, other)
+
+pub number_digits : (radix places most : ℕ) (text : List ℕ) → 0 < length text → length text ≤ places → AllDigits radix text → number_of radix places most text ≡ cond (nat_le (digits_value radix text) most) (Some (digits_value radix text)) None
+unfolding number_of
+number_digits radix places most text some short all = rw (lt-ltb _ _ some, le-leb _ _ short, all_pass radix text all)
+
+pub number_complete : (radix places most : ℕ) (text : List ℕ) (n : ℕ) → IsNumber radix places most text n → number_of radix places most text ≡ Some n
+number_complete radix places most text n h =
+    rw (number_digits radix places most text h.digits.0 h.places_fit h.digits.1, h.value, le-leb n most h.fits)
+
+-- what each of two tests in a row let through
+two_tests : {A : Type 0} (a b : Bool) (o : Option A) (x : A) → cond a (cond b o None) None ≡ Some x → (a ≡ true) × (b ≡ true) × (o ≡ Some x)
+two_tests true true o x e = (refl, refl, e)
+two_tests true false o x e = absurd (none-some x e)
+two_tests false b o x e = absurd (none-some x e)
+
+pub number_sound : (radix places most : ℕ) (text : List ℕ) (n : ℕ) → number_of radix places most text ≡ Some n → IsNumber radix places most text n
+unfolding number_of
+number_sound radix places most text n e =
+    let (within, all, rest) = two_tests _ _ _ n e in
+    let (some, short) = and_parts _ _ within in
+    let (fits, value) = cond_some _ _ _ rest in
+    record {
+      digits = (ltb-true 0 _ some, all_digits radix text all);
+      places_fit = leb-true (length text) places short;
+      value = value;
+      fits = rw (← value) (leb-true _ most fits);
+    }
+
+-- one digit more still fits 32 bits, where at most five are read
+pub number_small : (radix i : ℕ) (text : List ℕ) → 2 ≤ radix → radix ≤ 16 → i ≤ 4 → i < length text → AllDigits radix (take i text) → digits_value radix (take i text) * radix < 2 ^ 21
+number_small radix i text low high few within all =
+    let len = length-take-le i text (omega arith) in
+    let below = digits_value-lt radix (take i text) all in
+    let few_more : length (take i text) ≤ 4 = omega arith in
+    let more : radix ^ length (take i text) ≤ 16 ^ 4 = le_trans (pow-le-pow_left high (length (take i text))) (pow-le-pow_right (lit≤ tt) few_more) in
+    let small : digits_value radix (take i text) ≤ 65536 = omega arith in
+    omega (arith, mul-le-mul small high)
+
+-- one more digit
+pub number_more : (radix i : ℕ) (text : List ℕ) (value byte digit : ℕ) → i < length text → AllDigits radix (take i text) → value ≡ digits_value radix (take i text) → byte ≡ get_or text i 0 → (digit_value byte < radix) × (digit ≡ digit_value byte) → AllDigits radix (take (i + 1) text) × (value * radix + digit ≡ digits_value radix (take (i + 1) text))
+number_more radix i text value byte digit within all is read h =
+    (digits_more radix text i within all (rw (← read) h.0), rw (digits_value_more radix text i within, ← read, ← is, h.1))

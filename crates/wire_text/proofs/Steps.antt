@@ -1,0 +1,208 @@
+-- Steps of the readers' proofs.
+use Rattle.std.proofs.Common.{◌≡◌, ◌≢◌, ℕ, ◌+◌, ◌-◌, ◌<◌, ◌≤◌, ◌==◌, nat_lt, Bool, true, false, ◌&&◌, cond, List, [], ◌∷◌, ◌++◌, length, get_or, take, drop, replicate, bytes_eq, Option, Some, None, refl, sym, ap, ap₂, ◌∙◌, arith, inl, inr, append-nil, length-append, le-leb, lt-ltb, ne_eqb, eq-eqb, eqb-true, not, ◌⊎◌, take_all, length-drop, length-take-le, Bor, is_some, IfSome, ◌*◌}
+use Rattle.std.proofs.lemmas.Bool.{cases_eq, true≢false, eqb-false}
+use Rattle.std.proofs.lemmas.List.Splits.{join_with_byte-slice_split, slice_split_at}
+use Rattle.std.proofs.NetLemmas.Arrays.{four_items}
+use Rattle.wire_text.specs.Grammar.{groups_of, mapped_groups, IsDotted}
+use Rattle.std.proofs.lemmas.List.{drop_all, length-replicate, drop-replicate, take-replicate, take_more}
+use Rattle.std.proofs.lemmas.Slice.{put_mid-paste}
+use Rattle.std.proofs.Math.Seq.{take-append-add}
+use borrow.Rule.Slice.PartMut.{put_mid}
+use Rattle.std.specs.List.{list_all, join_with_byte}
+use Rattle.std.specs.Bool.{then_some}
+use Rattle.wire_text.specs.Reading.{FilledFrom, ◌>>=◌, FirstPiece, octets_read, hex_octets_read, numbers_of, pieces_of, all_groups, may_end_dotted, groups_from, group_of, behind_elision, dotted_end, pieces_after, mapped_read, inner_text, groups_read}
+use Rattle.std.proofs.lemmas.List.Elements.{All-nil}
+use Rattle.wire_text.proofs.Numbers.{number_sound}
+use Rattle.wire_text.proofs.Joined.{octets_complete, octets_sound}
+use Rattle.wire_text.proofs.Ipv6.{dotted_by, dotted_piece}
+
+-- as many values as are wanted, or none
+counted : (count : ℕ) (read : Option (List ℕ)) (values : List ℕ) (done : Bool) → FilledFrom read values done → length values ≡ count → then_some done values ≡ read >>= (λ octets. cond (length octets == count) (Some octets) None)
+counted count read values true filled len = rw (filled, eq-eqb (length values) count len) refl
+counted count None values false filled len = refl
+counted count (Some ns) values false filled len = elim (cases_eq (length ns) count) [
+  | inl same ↦ absurd (filled ns refl (omega arith))
+  | inr other ↦ rw (ne_eqb (length ns) count other) refl
+]
+
+pub four_octets : (text values : List ℕ) (done : Bool) (r : Option (List ℕ)) → FilledFrom (numbers_of 10 3 255 (pieces_of 46 text)) values done → length values ≡ 4 → r ≡ then_some done values → r ≡ octets_read text
+unfolding octets_read
+four_octets text values done r filled len e = e ∙ counted 4 _ values done filled len
+
+pub six_octets : (mark : ℕ) (text values : List ℕ) (done : Bool) (r : Option (List ℕ)) → FilledFrom (numbers_of 16 2 255 (pieces_of mark text)) values done → length values ≡ 6 → r ≡ then_some done values → r ≡ hex_octets_read mark text
+unfolding hex_octets_read
+six_octets mark text values done r filled len e = e ∙ counted 6 _ values done filled len
+
+-- zeros and the mark
+zeros_test : (zeros : List ℕ) → list_all (λ g. g == 0) zeros ≡ bytes_eq (zeros ++ 0xffff ∷ []) (replicate (length zeros) 0 ++ 0xffff ∷ [])
+zeros_test [] = refl
+zeros_test (z ∷ zeros) = ap (λ b. (z == 0) && b) (zeros_test zeros)
+
+pub mark_test : (groups : List ℕ) (before : ℕ) (r : Bool) → 1 ≤ length groups → get_or groups (length groups - 1) 0 ≡ 0xffff → before ≤ 4 → length (take (length groups - 1) groups) ≡ before → r ≡ list_all (λ g. g == 0) (take (length groups - 1) groups) → r ≡ may_end_dotted (Some before) groups
+mark_test groups before r some last few len e =
+    let front = take (length groups - 1) groups in
+    let one : length groups - 1 + 1 ≡ length groups = omega arith in
+    let all : groups ≡ front ++ 0xffff ∷ [] = sym (take_all _ groups (omega arith)) ∙ ap (λ n. take n groups) (sym one) ∙ take_more groups (length groups - 1) 0 (omega arith) ∙ ap (λ g. front ++ g ∷ []) last in
+    rw (le-leb before 4 few) (e ∙ zeros_test front ∙ ap₂ (λ xs n. bytes_eq xs (replicate n 0 ++ 0xffff ∷ [])) (sym all) len)
+
+-- the tail lands at the end, and the zeros before it stay
+pub placed : (groups head tail all : List ℕ) (before : ℕ) → length groups < 8 → before ≤ length groups → head ≡ take before groups → tail ≡ drop before groups → all ≡ put_mid (8 - length tail) (8 - (8 - length tail)) (head ++ drop before (replicate 8 0)) tail → Some all ≡ all_groups (Some before) groups
+placed groups head tail all before few within is_head is_tail e =
+    let t = length tail in
+    let gap = 8 - length groups in
+    let lh : length head ≡ before = rw is_head (length-take-le before groups within) in
+    let lt : t ≡ length groups - before = rw is_tail (length-drop before groups) in
+    let zeros : drop before (replicate {A = ℕ} 8 0) ≡ replicate (8 - before) 0 = drop-replicate before 8 0 in
+    let pasted = put_mid-paste (8 - t) (8 - (8 - t)) (head ++ replicate (8 - before) 0) tail tail t refl (omega arith) refl in
+    let nothing = drop_all (8 - t + t) (head ++ replicate (8 - before) 0) (omega (arith, length-append head (replicate {A = ℕ} (8 - before) 0), length-replicate {A = ℕ} (8 - before) 0)) in
+    let split : 8 - t ≡ length head + gap = omega arith in
+    let front : take (8 - t) (head ++ replicate (8 - before) 0) ≡ head ++ replicate gap 0 = ap (λ n. take n (head ++ replicate (8 - before) 0)) split ∙ take-append-add head (replicate (8 - before) 0) gap ∙ ap (λ z. head ++ z) (take-replicate gap (8 - before) 0 (omega arith)) in
+    rw (lt-ltb (length groups) 8 few)
+    (ap Some (e ∙ ap (λ z. put_mid (8 - t) (8 - (8 - t)) (head ++ z) tail) zeros ∙ pasted ∙ rw (front, nothing, append-nil, take_all t tail (omega arith)) (ap₂ (λ h k. h ++ replicate gap 0 ++ k) is_head is_tail)))
+
+-- a turn of the loop, by what the piece is
+module _ (before : Option ℕ) (seen piece : List ℕ) (pieces : List (List ℕ)) where
+  pub at_empty : length piece ≡ 0 → groups_from before seen (piece ∷ pieces) ≡ behind_elision before seen pieces (groups_from (Some (length seen)) seen pieces)
+  unfolding groups_from
+  at_empty none = rw (eq-eqb (length piece) 0 none) refl
+
+  pub at_group : (g : ℕ) → length piece ≢ 0 → group_of piece ≡ Some g → groups_from before seen (piece ∷ pieces) ≡ cond (nat_lt (length seen) 8) (groups_from before (seen ++ g ∷ []) pieces) None
+  unfolding groups_from
+  at_group g some e = rw (ne_eqb (length piece) 0 some, e) refl
+
+  pub at_other : length piece ≢ 0 → group_of piece ≡ None → groups_from before seen (piece ∷ pieces) ≡ dotted_end before seen piece pieces
+  unfolding groups_from
+  at_other some e = rw (ne_eqb (length piece) 0 some, e) refl
+
+pub at_end : (before : Option ℕ) (seen : List ℕ) → groups_from before seen [] ≡ all_groups before seen
+unfolding groups_from
+at_end before seen = refl
+
+pub none_from : {A : Type 0} (o : Option A) → is_some o ≡ false → o ≡ None
+none_from None e = refl
+none_from (Some x) e = absurd (true≢false e)
+
+pub still_within : (before : Option ℕ) (len : ℕ) → IfSome before (λ n. n ≤ len) → IfSome before (λ n. n ≤ len + 1)
+still_within None len h = tt
+still_within (Some n) len h = omega arith
+
+pub behind_end : (seen rest : List ℕ) (later : Option (List ℕ)) → length rest ≡ 0 → behind_elision None seen (pieces_of 58 rest) later ≡ all_groups (Some (length seen)) seen
+behind_end seen [] later e = refl
+behind_end seen (c ∷ rest) later e = absurd (omega arith)
+
+behind_more : (seen rest : List ℕ) (pieces : List (List ℕ)) (later : Option (List ℕ)) → join_with_byte 58 pieces ≡ rest → 0 < length rest → behind_elision None seen pieces later ≡ later
+behind_more seen rest [] later e some = absurd (omega (arith, ap length e))
+behind_more seen rest ([] ∷ []) later e some = absurd (omega (arith, ap length e))
+behind_more seen rest ([] ∷ next ∷ pieces) later e some = refl
+behind_more seen rest ((c ∷ piece) ∷ pieces) later e some = refl
+
+pub behind_later : (seen rest : List ℕ) (later : Option (List ℕ)) → length rest ≢ 0 → behind_elision None seen (pieces_of 58 rest) later ≡ later
+behind_later seen rest later some = behind_more seen rest (pieces_of 58 rest) later (join_with_byte-slice_split 58 rest) (omega arith)
+
+-- the text has an inner text or none
+pub inner_none : (text : List ℕ) → None ≡ inner_text text → groups_read text ≡ None
+unfolding groups_read
+inner_none text e = rw (← e) refl
+
+pub inner_some : (text inner : List ℕ) → Some inner ≡ inner_text text → groups_read text ≡ groups_from None [] (pieces_of 58 inner)
+unfolding groups_read
+inner_some text inner e = rw (← e) refl
+
+-- ---- what is no dotted part
+
+pub mapped_none : (text : List ℕ) → ((octets : List ℕ) → ¬ (IsDotted text octets)) → mapped_read text ≡ None
+unfolding mapped_read
+mapped_none text none = by (octets_read text) refl
+  where
+    by : (o : Option (List ℕ)) → octets_read text ≡ o → (octets_read text >>= λ octets. Some (mapped_groups ++ groups_of octets)) ≡ None
+    by None e = rw e refl
+    by (Some octets) e = absurd (none octets (octets_sound text octets e))
+
+-- the groups of a mapped address
+pub mapped_is : (text octets : List ℕ) (g h : ℕ) → IsDotted text octets → length octets ≡ 4 → g ≡ get_or octets 0 0 * 256 + get_or octets 1 0 → h ≡ get_or octets 2 0 * 256 + get_or octets 3 0 → ◌≡◌ {A = Option (List ℕ)} (Some (0 ∷ 0 ∷ 0 ∷ 0 ∷ 0 ∷ 0xffff ∷ g ∷ h ∷ [])) (mapped_read text)
+unfolding mapped_read
+mapped_is text octets g h dotted four is_g is_h =
+    rw (octets_complete text octets dotted, is_g, is_h) (ap (λ o. Some (0 ∷ 0 ∷ 0 ∷ 0 ∷ 0 ∷ 0xffff ∷ groups_of o)) (sym (four_items octets four)))
+
+not_mapped : (text : List ℕ) → (length text ≡ 0) ⊎ (1 < length (pieces_of 58 text)) → mapped_read text ≡ None
+not_mapped text why = mapped_none text λ octets h. elim why [
+  | inl none ↦ omega (arith, (dotted_by text h.0.pieces octets h.0.each h.0.joined h.1).2)
+  | inr several ↦ omega (arith, ap length (dotted_piece text octets h))
+]
+
+behind_nothing : (before : Option ℕ) (seen : List ℕ) (later : Option (List ℕ)) → behind_elision before seen [] later ≡ None
+behind_nothing None seen later = refl
+behind_nothing (Some n) seen later = refl
+
+-- no `::` stands here: it stood before, or no colon comes
+pub in_apart : (before : Option ℕ) (text : List ℕ) → (is_some before ≡ true) ⊎ (0 < length text → get_or text 0 0 ≢ 58) → ¬ ((before ≡ None) × (0 < length text) × (get_or text 0 0 ≡ 58))
+in_apart before text (inl seen) h = true≢false (sym seen ∙ ap is_some h.0)
+in_apart before text (inr apart) h = apart h.1 h.2
+
+either_way : {A : Type 0} (b : Bool) (x : A) → x ≡ cond b x x
+either_way true x = refl
+either_way false x = refl
+
+-- ---- a turn of the loop
+
+-- where it stands, by the pieces of what is left
+module _ {read : Option (List ℕ)} (before : Option ℕ) (seen : List ℕ) {rest : Option (Bor (List ℕ))} {more : Bor (List ℕ)} (stands : read ≡ groups_from before seen (pieces_after 58 rest)) (is : rest ≡ Some more) where
+  at_pieces : (pieces : List (List ℕ)) → pieces_of 58 more.now ≡ pieces → read ≡ groups_from before seen pieces
+  at_pieces pieces cut = stands ∙ ap (λ r. groups_from before seen (pieces_after 58 r)) is ∙ ap (groups_from before seen) cut
+
+  -- a group, where there is room for it or not
+  module _ {g : ℕ} {after : Option (Bor (List ℕ))} (first : FirstPiece 58 16 4 0xffff more.now (Some (g, after))) where
+    some_piece : length first.piece ≢ 0
+    some_piece = omega (arith, (number_sound 16 4 0xffff first.piece g first.read.0).digits.0)
+
+    at_first : read ≡ cond (nat_lt (length seen) 8) (groups_from before (seen ++ g ∷ []) first.others) None
+    at_first = at_pieces (first.piece ∷ first.others) first.cut ∙ at_group before seen first.piece first.others g some_piece first.read.0
+
+    pub group_full : length seen ≡ 8 → read ≡ None
+    group_full full = at_first ∙ rw full refl
+
+    pub group_more : (now : List ℕ) → length seen < 8 → now ≡ seen ++ g ∷ [] → read ≡ groups_from before now (pieces_after 58 after)
+    group_more now room same = at_first ∙ rw (lt-ltb (length seen) 8 room, same, first.read.1) refl
+
+  -- `::`, and the end or more behind it
+  module _ (behind : Bor (List ℕ)) (none : before ≡ None) (colon_first : more.now ≡ 58 ∷ behind.now) where
+    at_elision : read ≡ behind_elision None seen (pieces_of 58 behind.now) (groups_from (Some (length seen)) seen (pieces_of 58 behind.now))
+    at_elision =
+        let cut = ap (pieces_of 58) colon_first ∙ slice_split_at (λ b. b == 58) [] 58 behind.now (All-nil (λ b. (b == 58) ≡ false)) refl in
+        at_pieces ([] ∷ pieces_of 58 behind.now) cut ∙ at_empty before seen [] (pieces_of 58 behind.now) refl
+        ∙ ap (λ b. behind_elision b seen (pieces_of 58 behind.now) (groups_from (Some (length seen)) seen (pieces_of 58 behind.now))) none
+
+    pub elided : (empty : Bool) → empty ≡ (length behind.now == 0) → read ≡ groups_from (Some (length seen)) seen (pieces_after 58 (then_some (not empty) behind))
+    elided true e = at_elision ∙ behind_end seen behind.now _ (eqb-true _ _ (sym e)) ∙ sym (at_end (Some (length seen)) seen)
+    elided false e = at_elision ∙ behind_later seen behind.now _ (eqb-false _ _ (sym e))
+
+  -- anything else is a dotted part, which is the last
+  pub at_last : FirstPiece 58 16 4 0xffff more.now None → ¬ ((before ≡ None) × (0 < length more.now) × (get_or more.now 0 0 ≡ 58)) → read ≡ cond (may_end_dotted before seen) (mapped_read more.now) None
+  at_last first apart = at_pieces (first.piece ∷ first.others) first.cut ∙ by first.piece first.others first.read first.cut
+    where
+      unread : mapped_read more.now ≡ None → None ≡ cond (may_end_dotted before seen) (mapped_read more.now) None
+      unread e = rw e (either_way (may_end_dotted before seen) None)
+
+      whole : (pieces : List (List ℕ)) → pieces_of 58 more.now ≡ pieces → more.now ≡ join_with_byte 58 pieces
+      whole pieces cut = sym (join_with_byte-slice_split 58 more.now) ∙ ap (join_with_byte 58) cut
+
+      once : (b : Option ℕ) (next : List ℕ) (others : List (List ℕ)) → before ≡ b → more.now ≡ 58 ∷ join_with_byte 58 (next ∷ others) → behind_elision b seen (next ∷ others) (groups_from (Some (length seen)) seen (next ∷ others)) ≡ None
+      once None next others none e = absurd (apart (none, omega (arith, ap length e), ap (λ t. get_or t 0 0) e))
+      once (Some n) next others none e = refl
+
+      by : (piece : List ℕ) (others : List (List ℕ)) → group_of piece ≡ None → pieces_of 58 more.now ≡ piece ∷ others → groups_from before seen (piece ∷ others) ≡ cond (may_end_dotted before seen) (mapped_read more.now) None
+      by [] [] none cut =
+          at_empty before seen [] [] refl ∙ behind_nothing before seen _
+          ∙ unread (not_mapped more.now (inl (omega (arith, ap length (whole ([] ∷ []) cut)))))
+      by [] (next ∷ others) none cut =
+          at_empty before seen [] (next ∷ others) refl
+          ∙ ap (λ b. behind_elision b seen (next ∷ others) (groups_from (Some (length seen)) seen (next ∷ others))) refl
+          ∙ once before next others refl (whole ([] ∷ next ∷ others) cut)
+          ∙ unread (not_mapped more.now (inr (omega (arith, ap length cut))))
+      by (c ∷ piece) [] none cut =
+          let some : length (c ∷ piece) ≢ 0 = omega arith in
+          at_other before seen (c ∷ piece) [] some none ∙ ap (λ t. cond (may_end_dotted before seen) (mapped_read t) None) (sym (whole ((c ∷ piece) ∷ []) cut))
+      by (c ∷ piece) (next ∷ others) none cut =
+          let some : length (c ∷ piece) ≢ 0 = omega arith in
+          at_other before seen (c ∷ piece) (next ∷ others) some none
+          ∙ unread (not_mapped more.now (inr (omega (arith, ap length cut))))
