@@ -50,8 +50,6 @@ pub struct Ipv6Address(pub(crate) [u8; IPV6_ADDR_SIZE]);
 
 impl Model for Ipv6Address {
     ghost use Rattle.std.specs.Prelude.{ℕ, List};
-    ghost use Rattle.wire_addr.specs.Block.{IsIn};
-    ghost use Rattle.wire_addr.specs.Class.{HasScope, IsIpv6Unicast, ipv6_global_unicast, ipv6_link_local, ipv6_loopback, ipv6_multicast, ipv6_solicited_node, ipv6_unique_local, ipv6_unspecified, link_address, solicited_node};
     ghost use Rattle.wire_addr.specs.Octets.{AreOctets};
 
     ghost Value = { List ℕ };

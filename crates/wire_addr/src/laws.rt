@@ -6,9 +6,10 @@ ghost use Rattle.std.specs.Cmp.Lexicographic.{slice_cmp};
 ghost use Rattle.std.specs.Ordering.{nat_cmp};
 ghost use Rattle.std.specs.declared.cmp.Ordering.TheVariants.{Equal};
 ghost use Rattle.wire_addr.specs.Block.{block_cmp};
-ghost use Rattle.wire_addr.specs.Printed.{IsIpv6Print, ipv6_text};
+ghost use Rattle.wire_addr.specs.Printed.{IsIpv6Print, dashed, dotted, ipv6_text};
+ghost use Rattle.wire_addr.specs.Read.{ReadsEthernet, ReadsIpv4, ReadsIpv6};
 
-use crate::{Ipv4Address, Ipv4Cidr, Ipv6Address, Ipv6Cidr};
+use crate::{EthernetAddress, Ipv4Address, Ipv4Cidr, Ipv6Address, Ipv6Cidr};
 use std::cmp::Ordering;
 use std::hash::Hash;
 
@@ -17,6 +18,32 @@ pub fn ipv6_print_rule(address: Ipv6Address, other: &[u8])
     ensures is { IsIpv6Print address (ipv6_text address) }
     ensures only { IsIpv6Print address other.now → other.now ≡ ipv6_text address }
 {}
+
+/// No text is read as two Ethernet addresses.
+pub fn ethernet_one_reading(text: &[u8], a: EthernetAddress, b: EthernetAddress)
+    ensures { ReadsEthernet text.now a → ReadsEthernet text.now b → a ≡ b }
+{}
+
+/// No text is read as two IPv4 addresses.
+pub fn ipv4_one_reading(text: &[u8], a: Ipv4Address, b: Ipv4Address)
+    ensures { ReadsIpv4 text.now a → ReadsIpv4 text.now b → a ≡ b }
+{}
+
+/// No text is read as two IPv6 addresses.
+pub fn ipv6_one_reading(text: &[u8], a: Ipv6Address, b: Ipv6Address)
+    ensures { ReadsIpv6 text.now a → ReadsIpv6 text.now b → a ≡ b }
+{}
+
+/// The text that an address prints as is read as that address.
+pub fn print_reads_back(ethernet: EthernetAddress, ipv4: Ipv4Address, ipv6: Ipv6Address)
+    ensures ethernet { ReadsEthernet (dashed ethernet.0) ethernet }
+    ensures ipv4 { ReadsIpv4 (dotted ipv4) ipv4 }
+    ensures ipv6 { ReadsIpv6 (ipv6_text ipv6) ipv6 }
+{
+    let _ethernet = ethernet.0;
+    let _ipv4 = ipv4.octets();
+    let _ipv6 = ipv6.octets();
+}
 
 /// Values are equal exactly where neither comes before the other, and equal ones are hashed alike.
 pub fn order_agrees<T: Ord + Hash>(a: &T, b: &T)

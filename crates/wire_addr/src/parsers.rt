@@ -1,0 +1,51 @@
+//! The addresses that texts are read as.
+
+ghost use Rattle.std.specs.Net.Grammar.{Parses};
+ghost use Rattle.wire_addr.specs.Read.{ReadsEthernet, ReadsIpv4, ReadsIpv6};
+
+use crate::{EthernetAddress, Ipv4Address, Ipv6Address};
+use std::str::FromStr;
+use wire_text::{groups, hex_octets, octets};
+
+/// Six groups of one or two hex digits, joined all by `-` or all by `:`.
+impl FromStr for EthernetAddress {
+    type Err = ();
+
+    ghost from_str_gives = { Parses ReadsEthernet };
+
+    fn from_str(s: &str) -> Result<EthernetAddress, ()> {
+        match hex_octets(s.as_bytes()) {
+            Some(octets) => Ok(EthernetAddress(octets)),
+            None => Err(()),
+        }
+    }
+}
+
+/// Four decimal numbers of one to three digits, joined by `.`.
+impl FromStr for Ipv4Address {
+    type Err = ();
+
+    ghost from_str_gives = { Parses ReadsIpv4 };
+
+    fn from_str(s: &str) -> Result<Ipv4Address, ()> {
+        match octets(s.as_bytes()) {
+            Some(octets) => Ok(Ipv4Address::from_octets(octets)),
+            None => Err(()),
+        }
+    }
+}
+
+/// The texts of RFC 4291, section 2.2, where a dotted part ends none but the address that stands for an
+/// IPv4 address.
+impl FromStr for Ipv6Address {
+    type Err = ();
+
+    ghost from_str_gives = { Parses ReadsIpv6 };
+
+    fn from_str(s: &str) -> Result<Ipv6Address, ()> {
+        match groups(s.as_bytes()) {
+            Some(groups) => Ok(Ipv6Address::from(groups)),
+            None => Err(()),
+        }
+    }
+}
