@@ -1,15 +1,10 @@
 -- Lists of octets, and of the groups that an IPv6 address is written in (RFC 4291, section 2.2).
-use Rattle.std.specs.Prelude.{ℕ, ◌≡◌, ◌<◌, ◌^◌, ◌+◌, ◌*◌, ◌/◌, ◌%◌, List, [], ◌∷◌, length, slice_index}
+use Rattle.std.specs.Prelude.{ℕ, ◌≡◌, ◌<◌, ◌^◌, ◌/◌, ◌%◌, List, [], ◌∷◌, length, slice_index}
+pub use Rattle.wire_text.specs.Grammar.{groups_of}
 
 -- the list has n elements, and each is a number of eight bits
 abbrev pub AreOctets : ℕ → List ℕ → Type 0
 AreOctets n octets = (length octets ≡ n) × ((k : ℕ) → slice_index octets k < 2 ^ 8)
-
--- each two octets as one group of 16 bits, the high octet first
-abbrev pub groups_of : List ℕ → List ℕ
-groups_of [] = []
-groups_of (a ∷ []) = []
-groups_of (a ∷ b ∷ octets) = (a * 256 + b) ∷ groups_of octets
 
 -- each group as two octets, the high octet first
 abbrev pub octets_of : List ℕ → List ℕ

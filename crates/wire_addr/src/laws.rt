@@ -40,7 +40,7 @@ pub fn print_reads_back(ethernet: EthernetAddress, ipv4: Ipv4Address, ipv6: Ipv6
     ensures ipv4 { ReadsIpv4 (dotted ipv4) ipv4 }
     ensures ipv6 { ReadsIpv6 (ipv6_text ipv6) ipv6 }
 {
-    let _ethernet = ethernet.0;
+    let _ethernet = ethernet.as_bytes();
     let _ipv4 = ipv4.octets();
     let _ipv6 = ipv6.octets();
 }

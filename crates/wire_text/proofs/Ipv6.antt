@@ -176,9 +176,6 @@ groups_complete text groups (inr (inl h)) = elided_complete text groups h
 groups_complete text groups (inr (inr (inl h))) = mapped_by text h.front_text h.dotted_text h.octets h.front.pieces h.front.each h.front.joined h.spelled h.last ∙ ap Some (sym h.value)
 groups_complete text groups (inr (inr (inr h))) = elided_mapped_complete text groups h
 
-pub groups_one_reading : (text groups others : List ℕ) → IsIpv6Text text groups → IsIpv6Text text others → groups ≡ others
-groups_one_reading text groups others h k = same_Some _ _ (sym (groups_complete text groups h) ∙ groups_complete text others k)
-
 -- ---- what is read is in the grammar
 
 -- what is left is nothing, or begins with a piece that is no group

@@ -26,7 +26,7 @@ module _ (radix places most : ℕ) where
   numbers_complete (piece ∷ pieces) (x ∷ xs) h =
       rw (number_complete radix places most piece x h.0, numbers_complete pieces xs h.1)
 
-  numbers_sound : (pieces : List (List ℕ)) (values : List ℕ) → numbers_of radix places most pieces ≡ Some values → EachReads (IsNumber radix places most) pieces values
+  pub numbers_sound : (pieces : List (List ℕ)) (values : List ℕ) → numbers_of radix places most pieces ≡ Some values → EachReads (IsNumber radix places most) pieces values
   numbers_sound [] values e = subst (EachReads (IsNumber radix places most) []) (same_Some _ _ e) tt
   numbers_sound (piece ∷ pieces) values e =
       and_then_some _ (number_of radix places most piece) values e λ n read rest.

@@ -1,10 +1,12 @@
 -- What a reader answers is what the grammar reads.
-use Rattle.std.proofs.Common.{◌≡◌, ℕ, ◌≤◌, List, Option, Some, None, sym, ◌∙◌}
-use Rattle.std.proofs.lemmas.Option.{none-some}
+use Rattle.std.proofs.Common.{◌≡◌, ◌≢◌, ℕ, ◌≤◌, List, [], ◌∷◌, length, Option, Some, None, sym, ap, ◌∙◌, subst, arith, inl, inr, lit≤}
+use Rattle.std.proofs.lemmas.Option.{none-some, same_Some}
+use Rattle.std.proofs.lemmas.List.Splits.{slice_split_none}
 use Rattle.std.specs.Char.{digit_value}
-use Rattle.wire_text.specs.Grammar.{Reads, IsDotted, IsHexOctets, IsIpv6Text}
-use Rattle.wire_text.specs.Reading.{octets_read, hex_octets_read, groups_read}
-use Rattle.wire_text.proofs.Joined.{octets_complete, octets_sound, hex_octets_complete, hex_octets_sound}
+use Rattle.wire_text.specs.Grammar.{Reads, IsDotted, IsHexOctets, IsHexText, IsIpv6Text}
+use Rattle.wire_text.specs.Reading.{pieces_of, octets_read, hex_octets_read, groups_read}
+use Rattle.wire_text.proofs.Pieces.{IsPiece, join-piece}
+use Rattle.wire_text.proofs.Joined.{EachReads-length, EachReads-pieces, numbers_sound, joined_complete, octets_complete, octets_sound, hex_octets_complete, hex_octets_sound}
 use Rattle.wire_text.proofs.Ipv6.{groups_complete, groups_sound}
 
 reads : {A : Type 0} (R : List ℕ → A → Type 0) (f : List ℕ → Option A) → ((text : List ℕ) (x : A) → R text x → f text ≡ Some x) → ((text : List ℕ) (x : A) → f text ≡ Some x → R text x)
@@ -20,3 +22,27 @@ reads_groups = reads IsIpv6Text groups_read groups_complete groups_sound
 
 pub reads_hex_octets : (mark : ℕ) → 16 ≤ digit_value mark → (text : List ℕ) (r : Option (List ℕ)) → r ≡ hex_octets_read mark text → Reads (IsHexOctets mark) text r
 reads_hex_octets mark apart = reads (IsHexOctets mark) (hex_octets_read mark) (λ text octets h. hex_octets_complete mark text octets apart h) (hex_octets_sound mark)
+
+-- ---- no text has two readings
+
+pub octets_once : (text octets others : List ℕ) → IsDotted text octets → IsDotted text others → octets ≡ others
+octets_once text octets others h k = same_Some _ _ (sym (octets_complete text octets h) ∙ octets_complete text others k)
+
+pub groups_once : (text groups others : List ℕ) → IsIpv6Text text groups → IsIpv6Text text others → groups ≡ others
+groups_once text groups others h k = same_Some _ _ (sym (groups_complete text groups h) ∙ groups_complete text others k)
+
+hex_octets_once : (mark : ℕ) → 16 ≤ digit_value mark → (text octets others : List ℕ) → IsHexOctets mark text octets → IsHexOctets mark text others → octets ≡ others
+hex_octets_once mark apart text octets others h k = same_Some _ _ (sym (hex_octets_complete mark text octets apart h) ∙ hex_octets_complete mark text others apart k)
+
+-- six joined by one mark are a single piece for another
+one_mark : (mark other : ℕ) → mark ≢ other → 16 ≤ digit_value mark → 16 ≤ digit_value other → (text octets others : List ℕ) → IsHexOctets mark text octets → ¬ (IsHexOctets other text others)
+one_mark mark other differ apart apart_too text octets others h k =
+    let whole : pieces_of other text ≡ text ∷ [] = slice_split_none _ text (subst (IsPiece other) (sym h.0.joined) (join-piece mark other h.0.pieces differ (EachReads-pieces 16 2 255 other apart_too h.0.pieces octets h.0.each))) in
+    let read = joined_complete 16 2 255 other text others apart_too (omega (arith, k.1)) k.0 in
+    omega (arith, k.1, ap length whole, EachReads-length 16 2 255 (pieces_of other text) others (numbers_sound 16 2 255 (pieces_of other text) others read))
+
+pub hex_text_once : (text octets others : List ℕ) → IsHexText text octets → IsHexText text others → octets ≡ others
+hex_text_once text octets others (inl h) (inl k) = hex_octets_once 45 (lit≤ tt) text octets others h k
+hex_text_once text octets others (inr h) (inr k) = hex_octets_once 58 (lit≤ tt) text octets others h k
+hex_text_once text octets others (inl h) (inr k) = absurd (one_mark 45 58 (omega arith) (lit≤ tt) (lit≤ tt) text octets others h k)
+hex_text_once text octets others (inr h) (inl k) = absurd (one_mark 58 45 (omega arith) (lit≤ tt) (lit≤ tt) text octets others h k)
