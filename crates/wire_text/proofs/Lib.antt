@@ -4,4 +4,5 @@ pub mod Joined
 pub mod Numbers
 pub mod Pieces
 pub mod Readers
+pub mod Spread
 pub mod Steps

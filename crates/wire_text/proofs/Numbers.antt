@@ -1,5 +1,5 @@
 -- A number text is read as its number, and nothing else is read.
-use Rattle.std.proofs.Common.{◌≡◌, ℕ, ◌<◌, ◌≤◌, ◌⊎◌, Bool, true, false, cond, List, [], ◌∷◌, length, get_or, Option, Some, None, refl, arith, inl, inr, lt-ltb, le-leb, le-ltb, nat_lt, nat_le, ◌*◌, ◌+◌, ◌^◌, take, length-take-le, le_trans, lit≤, mul-le-mul}
+use Rattle.std.proofs.Common.{◌≡◌, ℕ, ◌<◌, ◌≤◌, ◌⊎◌, Bool, true, false, cond, List, [], ◌∷◌, length, get_or, Option, Some, None, refl, arith, inl, inr, lt-ltb, le-leb, le-ltb, nat_lt, nat_le, ◌*◌, ◌+◌, ◌^◌, take, length-take-le, le_trans, lit≤, min, mul-le-mul}
 use Rattle.std.proofs.Math.Nat.{pow-le-pow_left, pow-le-pow_right}
 use Rattle.std.proofs.lemmas.Int.Digits.{digits_value-lt, digits_more, digits_value_more}
 use Rattle.std.proofs.lemmas.Bool.{and_right, ltb-true, leb-true, lt-leb, and_parts}
@@ -67,6 +67,10 @@ number_small radix i text low high few within all =
     let more : radix ^ length (take i text) ≤ 16 ^ 4 = le_trans (pow-le-pow_left high (length (take i text))) (pow-le-pow_right (lit≤ tt) few_more) in
     let small : digits_value radix (take i text) ≤ 65536 = omega arith in
     omega (arith, mul-le-mul small high)
+
+-- the value of a digit of the radix, where all past 16 count as 16
+pub digit_below : (radix digit value : ℕ) → radix ≤ 16 → digit ≡ min 16 value → digit < radix → (value < radix) × (digit ≡ value)
+digit_below radix digit value high e below = (omega arith, omega arith)
 
 -- one more digit
 pub number_more : (radix i : ℕ) (text : List ℕ) (value byte digit : ℕ) → i < length text → AllDigits radix (take i text) → value ≡ digits_value radix (take i text) → byte ≡ get_or text i 0 → (digit_value byte < radix) × (digit ≡ digit_value byte) → AllDigits radix (take (i + 1) text) × (value * radix + digit ≡ digits_value radix (take (i + 1) text))

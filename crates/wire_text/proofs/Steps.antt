@@ -1,13 +1,10 @@
 -- Steps of the readers' proofs.
-use Rattle.std.proofs.Common.{◌≡◌, ◌≢◌, ℕ, ◌+◌, ◌-◌, ◌<◌, ◌≤◌, ◌==◌, nat_lt, Bool, true, false, ◌&&◌, cond, List, [], ◌∷◌, ◌++◌, length, get_or, take, drop, replicate, bytes_eq, Option, Some, None, refl, sym, ap, ap₂, ◌∙◌, arith, inl, inr, append-nil, length-append, le-leb, lt-ltb, ne_eqb, eq-eqb, eqb-true, not, ◌⊎◌, take_all, length-drop, length-take-le, Bor, is_some, IfSome, ◌*◌}
+use Rattle.std.proofs.Common.{◌≡◌, ◌≢◌, ℕ, ◌+◌, ◌-◌, ◌<◌, ◌≤◌, ◌==◌, nat_lt, Bool, true, false, ◌&&◌, cond, List, [], ◌∷◌, ◌++◌, length, get_or, take, replicate, bytes_eq, Option, Some, None, refl, sym, ap, ap₂, ◌∙◌, arith, inl, inr, le-leb, lt-ltb, ne_eqb, eq-eqb, eqb-true, not, ◌⊎◌, take_all, Bor, is_some, IfSome, ◌*◌}
 use Rattle.std.proofs.lemmas.Bool.{cases_eq, true≢false, eqb-false}
 use Rattle.std.proofs.lemmas.List.Splits.{join_with_byte-slice_split, slice_split_at}
 use Rattle.std.proofs.NetLemmas.Arrays.{four_items}
 use Rattle.wire_text.specs.Grammar.{groups_of, mapped_groups, IsDotted}
-use Rattle.std.proofs.lemmas.List.{drop_all, length-replicate, drop-replicate, take-replicate, take_more}
-use Rattle.std.proofs.lemmas.Slice.{put_mid-paste}
-use Rattle.std.proofs.Math.Seq.{take-append-add}
-use borrow.Rule.Slice.PartMut.{put_mid}
+use Rattle.std.proofs.lemmas.List.{take_more}
 use Rattle.std.specs.List.{list_all, join_with_byte}
 use Rattle.std.specs.Bool.{then_some}
 use Rattle.wire_text.specs.Reading.{FilledFrom, ◌>>=◌, FirstPiece, octets_read, hex_octets_read, numbers_of, pieces_of, all_groups, may_end_dotted, groups_from, group_of, behind_elision, dotted_end, pieces_after, mapped_read, inner_text, groups_read}
@@ -44,21 +41,6 @@ mark_test groups before r some last few len e =
     let one : length groups - 1 + 1 ≡ length groups = omega arith in
     let all : groups ≡ front ++ 0xffff ∷ [] = sym (take_all _ groups (omega arith)) ∙ ap (λ n. take n groups) (sym one) ∙ take_more groups (length groups - 1) 0 (omega arith) ∙ ap (λ g. front ++ g ∷ []) last in
     rw (le-leb before 4 few) (e ∙ zeros_test front ∙ ap₂ (λ xs n. bytes_eq xs (replicate n 0 ++ 0xffff ∷ [])) (sym all) len)
-
--- the tail lands at the end, and the zeros before it stay
-pub placed : (groups head tail all : List ℕ) (before : ℕ) → length groups < 8 → before ≤ length groups → head ≡ take before groups → tail ≡ drop before groups → all ≡ put_mid (8 - length tail) (8 - (8 - length tail)) (head ++ drop before (replicate 8 0)) tail → Some all ≡ all_groups (Some before) groups
-placed groups head tail all before few within is_head is_tail e =
-    let t = length tail in
-    let gap = 8 - length groups in
-    let lh : length head ≡ before = rw is_head (length-take-le before groups within) in
-    let lt : t ≡ length groups - before = rw is_tail (length-drop before groups) in
-    let zeros : drop before (replicate {A = ℕ} 8 0) ≡ replicate (8 - before) 0 = drop-replicate before 8 0 in
-    let pasted = put_mid-paste (8 - t) (8 - (8 - t)) (head ++ replicate (8 - before) 0) tail tail t refl (omega arith) refl in
-    let nothing = drop_all (8 - t + t) (head ++ replicate (8 - before) 0) (omega (arith, length-append head (replicate {A = ℕ} (8 - before) 0), length-replicate {A = ℕ} (8 - before) 0)) in
-    let split : 8 - t ≡ length head + gap = omega arith in
-    let front : take (8 - t) (head ++ replicate (8 - before) 0) ≡ head ++ replicate gap 0 = ap (λ n. take n (head ++ replicate (8 - before) 0)) split ∙ take-append-add head (replicate (8 - before) 0) gap ∙ ap (λ z. head ++ z) (take-replicate gap (8 - before) 0 (omega arith)) in
-    rw (lt-ltb (length groups) 8 few)
-    (ap Some (e ∙ ap (λ z. put_mid (8 - t) (8 - (8 - t)) (head ++ z) tail) zeros ∙ pasted ∙ rw (front, nothing, append-nil, take_all t tail (omega arith)) (ap₂ (λ h k. h ++ replicate gap 0 ++ k) is_head is_tail)))
 
 -- a turn of the loop, by what the piece is
 module _ (before : Option ℕ) (seen piece : List ℕ) (pieces : List (List ℕ)) where

@@ -65,11 +65,15 @@ hex_octets_read mark text =
 abbrev pub group_of : List ℕ → Option ℕ
 group_of text = number_of 16 4 0xffff text
 
+-- the groups with zeros between those that stood before `::` and those that stood behind it
+abbrev pub spread : ℕ → List ℕ → List ℕ
+spread before seen = take before seen ++ replicate (8 - length seen) 0 ++ drop before seen
+
 -- the eight groups, from those that were read and how many of them stood before `::`
 abbrev pub all_groups : Option ℕ → List ℕ → Option (List ℕ)
 all_groups None seen = if length seen == 8 then Some seen else None
 all_groups (Some before) seen =
-    if nat_lt (length seen) 8 then Some (take before seen ++ replicate (8 - length seen) 0 ++ drop before seen)
+    if nat_lt (length seen) 8 then Some (spread before seen)
     else None
 
 -- a dotted part may come behind these groups

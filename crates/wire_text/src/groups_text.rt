@@ -1,9 +1,9 @@
 //! The eight groups of an IPv6 text.
 
-ghost use Rattle.std.specs.Prelude.{◌≡◌, ◌≢◌, ◌≤◌, ◌<◌, ◌==◌, ◌∷◌, IfSome, MatchOption, length, option_copied, slice_index};
+ghost use Rattle.std.specs.Prelude.{◌≡◌, ◌≢◌, ◌≤◌, ◌<◌, ◌==◌, ◌∷◌, IfSome, MatchOption, length, option_copied, slice_index, take};
 ghost use Rattle.std.specs.List.{list_all};
 ghost use Rattle.wire_text.specs.Grammar.{IsIpv6Text, Reads, colon};
-ghost use Rattle.wire_text.specs.Reading.{inner_text, mapped_read};
+ghost use Rattle.wire_text.specs.Reading.{inner_text, mapped_read, spread};
 ghost use Rattle.wire_text.specs.Reading as Reading;
 
 use crate::number_text::first_piece;
@@ -28,25 +28,37 @@ fn may_end_dotted(groups: &[u16], before: Option<usize>) -> bool
     }
 }
 
-/// The eight groups, from those that were read and how many of them stood before `::`.
+/// The groups with zeros between those that stood before `::` and those that stood behind it.
 #[inline]
-fn all_groups(groups: &[u16], before: Option<usize>) -> Option<[u16; 8]>
-    requires few { length groups.now ≤ 8 }
-    requires within { IfSome before (λ n. n ≤ length groups.now) }
-    ensures { result ≡ Reading.all_groups before groups.now }
+fn spread(groups: &[u16; 8], len: usize, before: usize) -> [u16; 8]
+    requires few { len < 8 }
+    requires within { before ≤ len }
+    ensures { result ≡ spread before (take len groups.now) }
 {
+    let zeros = 8 - len;
     let mut all = [0; 8];
+    for i in 0..8 {
+        all[i] = if i < before {
+            groups[i]
+        } else if i < before + zeros {
+            0
+        } else {
+            groups[i - zeros]
+        };
+    }
+    all
+}
+
+/// The eight groups, from as many as were read and how many of them stood before `::`.
+#[inline]
+fn all_groups(groups: &[u16; 8], len: usize, before: Option<usize>) -> Option<[u16; 8]>
+    requires few { len ≤ 8 }
+    requires within { IfSome before (λ n. n ≤ len) }
+    ensures { result ≡ Reading.all_groups before (take len groups.now) }
+{
     match before {
-        None if groups.len() == 8 => {
-            all.copy_from_slice(groups);
-            Some(all)
-        }
-        Some(before) if groups.len() < 8 => {
-            let (head, tail) = groups.split_at(before);
-            all[..before].copy_from_slice(head);
-            all[8 - tail.len()..].copy_from_slice(tail);
-            Some(all)
-        }
+        None if len == 8 => Some(*groups),
+        Some(before) if len < 8 => Some(spread(groups, len, before)),
         _ => None,
     }
 }
@@ -116,5 +128,5 @@ pub fn groups(text: &[u8]) -> Option<[u16; 8]>
             _ => return None,
         }
     }
-    all_groups(&groups[..len], before)
+    all_groups(&groups, len, before)
 }

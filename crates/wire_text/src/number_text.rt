@@ -1,10 +1,24 @@
 //! Numbers, and the first of several numbers that a mark joins.
 
-ghost use Rattle.std.specs.Prelude.{◌≡◌, ◌≤◌, ◌<◌, ◌⊎◌, IfSome, length, slice_index, take};
+ghost use Rattle.std.specs.Prelude.{◌≡◌, ◌≤◌, ◌<◌, ◌⊎◌, IfSome, length, min, slice_index, take};
 ghost use Rattle.std.specs.Char.{digit_value};
 ghost use Rattle.std.specs.Str.Parse.{AllDigits, digits_value};
 ghost use Rattle.wire_text.specs.Grammar.{IsNumber, Reads};
 ghost use Rattle.wire_text.specs.Reading.{FirstPiece};
+
+/// The value of a hex digit of either case, and 16 for any other byte: in fewer steps than by
+/// `char::to_digit`.
+#[inline]
+fn hex_digit(byte: u8) -> u32
+    ensures { result ≡ min 16 (digit_value byte) }
+{
+    match byte {
+        b'0'..=b'9' => (byte - b'0') as u32,
+        b'a'..=b'f' => (byte - b'a') as u32 + 10,
+        b'A'..=b'F' => (byte - b'A') as u32 + 10,
+        _ => 16,
+    }
+}
 
 /// The number that the first digits write, of which at most so many are read, and how many there are.
 #[inline]
@@ -21,9 +35,10 @@ fn first_number(text: &[u8], radix: u32, places: usize) -> (u32, usize)
     let most = places.min(text.len());
     let mut value = 0;
     for len in 0..most {
-        let Some(digit) = char::from(text[len]).to_digit(radix) else {
-            return (value, len)
-        };
+        let digit = hex_digit(text[len]);
+        if digit >= radix {
+            return (value, len);
+        }
         value = value * radix + digit;
     }
     (value, most)
