@@ -1,4 +1,5 @@
 pub mod First
+pub mod HexDigits
 pub mod Ipv6
 pub mod Joined
 pub mod Numbers
@@ -6,3 +7,4 @@ pub mod Pieces
 pub mod Readers
 pub mod Spread
 pub mod Steps
+mod Worked

@@ -3,7 +3,7 @@ use Rattle.std.proofs.Common.{◌≡◌, ℕ, ◌+◌, ◌-◌, ◌<◌, ◌≤�
 use Rattle.std.proofs.lemmas.List.{get_or_append_left, get_or-append_right, get_or-drop, get_or-replicate, get_or-take, length-replicate, take_more}
 use Rattle.wire_text.specs.Reading.{spread}
 
-module _ (groups : List ℕ) (len before i : ℕ) (few : len < 8) (within : before ≤ len) (size : length groups ≡ 8) where
+module _ (groups : List ℕ) (len before i : ℕ) (few : len ≤ 8) (within : before ≤ len) (size : length groups ≡ 8) where
   abbrev pub seen : List ℕ
   seen = take len groups
 

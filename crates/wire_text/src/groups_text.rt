@@ -31,7 +31,7 @@ fn may_end_dotted(groups: &[u16], before: Option<usize>) -> bool
 /// The groups with zeros between those that stood before `::` and those that stood behind it.
 #[inline]
 fn spread(groups: &[u16; 8], len: usize, before: usize) -> [u16; 8]
-    requires few { len < 8 }
+    requires few { len ≤ 8 }
     requires within { before ≤ len }
     ensures { result ≡ spread before (take len groups.now) }
 {
