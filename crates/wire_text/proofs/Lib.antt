@@ -1,3 +1,5 @@
+pub mod Apart
+pub mod Endings
 pub mod First
 pub mod HexDigits
 pub mod Ipv6
@@ -5,6 +7,7 @@ pub mod Joined
 pub mod Numbers
 pub mod Pieces
 pub mod Readers
+pub mod Refusals
 pub mod Spread
 pub mod Steps
 mod Worked
