@@ -1,7 +1,9 @@
 //! Blocks of IPv4 addresses.
 
 ghost use Rattle.std.specs.Prelude.{◌≡◌, ◌↔◌, ◌≤◌, ◌<◌, IsTrue, MatchOption, Ok, Some};
+ghost use Rattle.std.specs.Net.Grammar.{Parses};
 ghost use Rattle.wire_addr.specs.Block.{Block, IsGreatest, IsIn, IsLeast, IsWithin};
+ghost use Rattle.wire_addr.specs.BlockText.{ReadsIpv4Block};
 ghost use Rattle.wire_addr.specs.Octets.{AreOctets};
 ghost use Rattle.wire_addr.specs.Prefix.{IsNetmask};
 ghost use Rattle.wire_addr.specs.Printed.{block_text, dotted};
@@ -11,6 +13,8 @@ use crate::prefix::mask_32;
 use net_base::{Error, Result};
 use std::fmt;
 use std::marker::Model;
+use std::str::FromStr;
+use wire_text::number_behind;
 
 /// A block of IPv4 addresses: all that have the first bits of one address (RFC 4632, section 3.1).
 #[derive(Debug, Clone, Copy, PartialEq, Eq, PartialOrd, Ord, Hash)]
@@ -132,5 +136,17 @@ impl fmt::Display for Ipv4Cidr {
 
     fn fmt<W: fmt::Write>(&self, f: &mut fmt::Formatter<W>) -> fmt::Result {
         write!(f, "{}/{}", self.address, self.prefix_len)
+    }
+}
+
+/// An address, `/` and the length of a prefix in one or two digits. The address is kept as it stands.
+impl FromStr for Ipv4Cidr {
+    type Err = ();
+
+    ghost from_str_gives = { Parses ReadsIpv4Block };
+
+    fn from_str(s: &str) -> std::result::Result<Ipv4Cidr, ()> {
+        let (address, prefix_len) = number_behind(s, b'/', 2, 32).ok_or(())?;
+        Ok(Ipv4Cidr::new(address.parse()?, prefix_len as u8))
     }
 }

@@ -1,8 +1,10 @@
 //! Blocks of IPv6 addresses.
 
 ghost use Rattle.std.specs.Prelude.{◌≡◌, ◌↔◌, ◌≤◌, IsTrue, Some};
+ghost use Rattle.std.specs.Net.Grammar.{Parses};
 ghost use Rattle.std.specs.Option.{option_map};
 ghost use Rattle.wire_addr.specs.Block.{IsIn, IsWithin};
+ghost use Rattle.wire_addr.specs.BlockText.{ReadsIpv6Block};
 ghost use Rattle.wire_addr.specs.Class.{link_address};
 ghost use Rattle.wire_addr.specs.Octets.{AreOctets};
 ghost use Rattle.wire_addr.specs.Printed.{block_text, ipv6_text};
@@ -11,6 +13,8 @@ use crate::prefix::mask_128;
 use crate::{HardwareAddress, Ipv6Address};
 use std::fmt;
 use std::marker::Model;
+use std::str::FromStr;
+use wire_text::number_behind;
 
 /// A block of IPv6 addresses: all that have the first bits of one address (RFC 4291, section 2.3).
 #[derive(Debug, Clone, Copy, PartialEq, Eq, PartialOrd, Ord, Hash)]
@@ -113,5 +117,17 @@ impl fmt::Display for Ipv6Cidr {
 
     fn fmt<W: fmt::Write>(&self, f: &mut fmt::Formatter<W>) -> fmt::Result {
         write!(f, "{}/{}", self.address, self.prefix_len)
+    }
+}
+
+/// An address, `/` and the length of a prefix in one to three digits. The address is kept as it stands.
+impl FromStr for Ipv6Cidr {
+    type Err = ();
+
+    ghost from_str_gives = { Parses ReadsIpv6Block };
+
+    fn from_str(s: &str) -> Result<Ipv6Cidr, ()> {
+        let (address, prefix_len) = number_behind(s, b'/', 3, 128).ok_or(())?;
+        Ok(Ipv6Cidr::new(address.parse()?, prefix_len as u8))
     }
 }

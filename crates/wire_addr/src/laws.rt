@@ -6,7 +6,8 @@ ghost use Rattle.std.specs.Cmp.Lexicographic.{slice_cmp};
 ghost use Rattle.std.specs.Ordering.{nat_cmp};
 ghost use Rattle.std.specs.declared.cmp.Ordering.TheVariants.{Equal};
 ghost use Rattle.wire_addr.specs.Block.{block_cmp};
-ghost use Rattle.wire_addr.specs.Printed.{IsIpv6Print, dashed, dotted, ipv6_text};
+ghost use Rattle.wire_addr.specs.BlockText.{ReadsIpv4Block, ReadsIpv6Block};
+ghost use Rattle.wire_addr.specs.Printed.{IsIpv6Print, block_text, dashed, dotted, ipv6_text};
 ghost use Rattle.wire_addr.specs.Read.{ReadsEthernet, ReadsIpv4, ReadsIpv6};
 
 use crate::{EthernetAddress, Ipv4Address, Ipv4Cidr, Ipv6Address, Ipv6Cidr};
@@ -34,6 +35,16 @@ pub fn ipv6_one_reading(text: &[u8], a: Ipv6Address, b: Ipv6Address)
     ensures { ReadsIpv6 text.now a → ReadsIpv6 text.now b → a ≡ b }
 {}
 
+/// No text is read as two blocks of IPv4 addresses.
+pub fn ipv4_cidr_one_reading(text: &[u8], a: Ipv4Cidr, b: Ipv4Cidr)
+    ensures { ReadsIpv4Block text.now a → ReadsIpv4Block text.now b → a ≡ b }
+{}
+
+/// No text is read as two blocks of IPv6 addresses.
+pub fn ipv6_cidr_one_reading(text: &[u8], a: Ipv6Cidr, b: Ipv6Cidr)
+    ensures { ReadsIpv6Block text.now a → ReadsIpv6Block text.now b → a ≡ b }
+{}
+
 /// The text that an address prints as is read as that address.
 pub fn print_reads_back(ethernet: EthernetAddress, ipv4: Ipv4Address, ipv6: Ipv6Address)
     ensures ethernet { ReadsEthernet (dashed ethernet.0) ethernet }
@@ -43,6 +54,22 @@ pub fn print_reads_back(ethernet: EthernetAddress, ipv4: Ipv4Address, ipv6: Ipv6
     let _ethernet = ethernet.as_bytes();
     let _ipv4 = ipv4.octets();
     let _ipv6 = ipv6.octets();
+}
+
+/// The text that a block of IPv4 addresses prints as is read as that block.
+pub fn print_reads_back_ipv4_cidr(block: Ipv4Cidr)
+    ensures { ReadsIpv4Block (block_text dotted block) block }
+{
+    let _address = block.address();
+    let _prefix_len = block.prefix_len();
+}
+
+/// The text that a block of IPv6 addresses prints as is read as that block.
+pub fn print_reads_back_ipv6_cidr(block: Ipv6Cidr)
+    ensures { ReadsIpv6Block (block_text ipv6_text block) block }
+{
+    let _address = block.address();
+    let _prefix_len = block.prefix_len();
 }
 
 /// Values are equal exactly where neither comes before the other, and equal ones are hashed alike.
