@@ -1,13 +1,16 @@
 -- Addresses with a port.
-use Rattle.std.specs.Prelude.{ℕ, ◌≡◌, ◌≢◌, Option, Some, None, IsSome, List, ◌∷◌, ◌++◌, codes, decimal}
+use Rattle.std.specs.Prelude.{ℕ, ◌≡◌, ◌≢◌, ◌⊎◌, Option, Some, None, IsSome, List, ◌∷◌, ◌++◌, codes, decimal}
 use Rattle.std.specs.Option.{option_cmp}
 use Rattle.std.specs.Ordering.{nat_cmp, ordering_then}
 use Rattle.std.specs.declared.cmp.Ordering.{Ordering}
 use Rattle.wire_addr.specs.Printed.{colon}
-use Rattle.wire_ends.specs.IpAddress.{address_cmp, address_text}
+use Rattle.wire_addr.specs.Read.{ReadsIpv4, ReadsIpv6}
+use Rattle.wire_ends.specs.IpAddress.{ReadsAddress, address_cmp, address_text}
 use Rattle.wire_ends.specs.declared.ip_address.IpAddress.{IpAddress}
+use Rattle.wire_ends.specs.declared.ip_address.IpAddress.TheVariants.{Ipv4, Ipv6}
 use Rattle.wire_ends.specs.declared.ip_endpoint.IpEndpoint.{IpEndpoint}
 use Rattle.wire_ends.specs.declared.ip_listen_endpoint.IpListenEndpoint.{IpListenEndpoint}
+use Rattle.wire_text.specs.Ending.{EndsInNumber}
 
 -- the endpoint at an address and a port
 abbrev pub endpoint_at : IpAddress → ℕ → IpEndpoint
@@ -43,6 +46,23 @@ endpoint_text endpoint = address_text endpoint.addr ++ port_text endpoint.port
 abbrev pub listening_text : Option IpAddress → ℕ → List ℕ
 listening_text (Some addr) port = endpoint_text (endpoint_at addr port)
 listening_text None port = codes "*" ++ port_text port
+
+-- ---- read
+
+-- what stands before a port is read as this address: one of IPv6 is in brackets
+abbrev pub ReadsHost : List ℕ → IpAddress → Type 0
+ReadsHost text (Ipv4 octets) = ReadsIpv4 text octets
+ReadsHost text (Ipv6 octets) = (inner : List ℕ) × (text ≡ codes "[" ++ inner ++ codes "]") × ReadsIpv6 inner octets
+
+-- the text is an address, a colon and a port: one digit to five digits, at most 65535
+pub record IsWithPort (text : List ℕ) (endpoint : IpEndpoint) : Type 0 where
+  pub host_text : List ℕ
+  pub host : ReadsHost host_text endpoint.addr
+  pub port : EndsInNumber colon 5 65535 text host_text endpoint.port
+
+-- the text is read as this endpoint: an address alone has port 0
+abbrev pub ReadsEndpoint : List ℕ → IpEndpoint → Type 0
+ReadsEndpoint text endpoint = (ReadsAddress text endpoint.addr × (endpoint.port ≡ 0)) ⊎ IsWithPort text endpoint
 
 -- ---- in order
 

@@ -8,6 +8,7 @@ use Rattle.wire_addr.specs.Block.{IsIn}
 use Rattle.wire_addr.specs.Class.{IsIpv4Unicast, IsIpv6Unicast, ipv4_broadcast, ipv4_multicast, ipv4_unspecified, ipv6_multicast, ipv6_unspecified}
 use Rattle.wire_addr.specs.Octets.{AreOctets}
 use Rattle.wire_addr.specs.Printed.{dotted, ipv6_text}
+use Rattle.wire_addr.specs.Read.{ReadsIpv4, ReadsIpv6}
 use Rattle.wire_ends.specs.declared.ip_address.IpAddress.{IpAddress}
 use Rattle.wire_ends.specs.declared.ip_address.IpAddress.TheVariants.{Ipv4, Ipv6}
 use Rattle.wire_ends.specs.declared.ip_version.IpVersion.{IpVersion}
@@ -37,6 +38,11 @@ bits_of (Ipv6 octets) = 128
 abbrev pub IsAddress : IpAddress → Type 0
 IsAddress (Ipv4 octets) = AreOctets 4 octets
 IsAddress (Ipv6 octets) = AreOctets 16 octets
+
+-- the text is read as this address: as one of its version
+abbrev pub ReadsAddress : List ℕ → IpAddress → Type 0
+ReadsAddress text (Ipv4 octets) = ReadsIpv4 text octets
+ReadsAddress text (Ipv6 octets) = ReadsIpv6 text octets
 
 -- ---- classes
 

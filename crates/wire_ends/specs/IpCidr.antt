@@ -3,6 +3,7 @@ use Rattle.std.specs.Prelude.{ℕ, List}
 use Rattle.std.specs.declared.cmp.Ordering.{Ordering}
 use Rattle.std.specs.declared.cmp.Ordering.TheVariants.{Less, Greater}
 use Rattle.wire_addr.specs.Block.{IsIn as IsInBlock, block_cmp}
+use Rattle.wire_addr.specs.BlockText.{ReadsIpv4Block, ReadsIpv6Block}
 use Rattle.wire_addr.specs.Printed.{block_text, dotted, ipv6_text}
 use Rattle.wire_ends.specs.IpAddress.{IsAddress}
 use Rattle.wire_ends.specs.declared.ip_address.IpAddress.{IpAddress}
@@ -40,6 +41,11 @@ IsWithin inner outer = (addr : IpAddress) → IsAddress addr → IsIn inner addr
 abbrev pub cidr_text : IpCidr → List ℕ
 cidr_text (Ipv4 block) = block_text dotted block
 cidr_text (Ipv6 block) = block_text ipv6_text block
+
+-- the text is read as this block: as one of its version
+abbrev pub ReadsCidr : List ℕ → IpCidr → Type 0
+ReadsCidr text (Ipv4 block) = ReadsIpv4Block text block
+ReadsCidr text (Ipv6 block) = ReadsIpv6Block text block
 
 -- those of IPv4 before those of IPv6, and those of one version in their order
 abbrev pub cidr_cmp : IpCidr → IpCidr → Ordering

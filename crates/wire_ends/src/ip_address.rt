@@ -1,16 +1,18 @@
 //! Addresses of either version of the Internet Protocol.
 
 ghost use Rattle.std.specs.Prelude.{◌≡◌, ◌↔◌, ◌≤◌, ◌∷◌, [], IfSome, IsTrue, Some, ℕ};
+ghost use Rattle.std.specs.Net.Grammar.{Parses};
 ghost use Rattle.std.specs.declared.net.ip_addr.IpAddr.TheVariants.{V4, V6};
 ghost use Rattle.wire_addr.specs.Octets.{octets_of};
 ghost use Rattle.wire_addr.specs.Prefix.{IsNetmask};
-ghost use Rattle.wire_ends.specs.IpAddress.{IsBroadcast, IsMulticast, IsUnicast, IsUnspecified, address_text, bits_of, octets_of as octets_in, version_of};
+ghost use Rattle.wire_ends.specs.IpAddress.{IsBroadcast, IsMulticast, IsUnicast, IsUnspecified, ReadsAddress, address_text, bits_of, octets_of as octets_in, version_of};
 ghost use Rattle.wire_ends.specs.StdNet.{address_of};
 ghost use Rattle.wire_ends.specs.declared.ip_address.IpAddress.TheVariants.{Ipv4, Ipv6};
 
 use crate::ip_version::IpVersion;
 use std::fmt;
 use std::net::{IpAddr, Ipv4Addr, Ipv6Addr};
+use std::str::FromStr;
 use wire_addr::{Ipv4Address, Ipv6Address};
 
 /// An address of either version.
@@ -165,6 +167,20 @@ impl fmt::Display for IpAddress {
         match *self {
             IpAddress::Ipv4(address) => write!(f, "{address}"),
             IpAddress::Ipv6(address) => write!(f, "{address}"),
+        }
+    }
+}
+
+/// An address of either version: no text is one of both.
+impl FromStr for IpAddress {
+    type Err = ();
+
+    ghost from_str_gives = { Parses ReadsAddress };
+
+    fn from_str(s: &str) -> Result<IpAddress, ()> {
+        match s.parse() {
+            Ok(address) => Ok(IpAddress::Ipv4(address)),
+            Err(()) => Ok(IpAddress::Ipv6(s.parse()?)),
         }
     }
 }

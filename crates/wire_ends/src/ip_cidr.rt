@@ -1,12 +1,14 @@
 //! Blocks of addresses of either version.
 
 ghost use Rattle.std.specs.Prelude.{◌≡◌, ◌↔◌, ◌≤◌, IsTrue, Some};
+ghost use Rattle.std.specs.Net.Grammar.{Parses};
 ghost use Rattle.wire_ends.specs.IpAddress.{IsAddress, bits_of};
-ghost use Rattle.wire_ends.specs.IpCidr.{IsIn, IsWithin, block_address, block_at, block_prefix_len, cidr_text};
+ghost use Rattle.wire_ends.specs.IpCidr.{IsIn, IsWithin, ReadsCidr, block_address, block_at, block_prefix_len, cidr_text};
 ghost use Rattle.wire_ends.specs.declared.ip_cidr.IpCidr.TheVariants.{Ipv4, Ipv6};
 
 use crate::IpAddress;
 use std::fmt;
+use std::str::FromStr;
 use wire_addr::{Ipv4Cidr, Ipv6Cidr};
 
 /// A block of addresses of either version: all that have the first bits of one address.
@@ -95,6 +97,20 @@ impl fmt::Display for IpCidr {
         match *self {
             IpCidr::Ipv4(cidr) => write!(f, "{cidr}"),
             IpCidr::Ipv6(cidr) => write!(f, "{cidr}"),
+        }
+    }
+}
+
+/// A block of either version: no text is one of both.
+impl FromStr for IpCidr {
+    type Err = ();
+
+    ghost from_str_gives = { Parses ReadsCidr };
+
+    fn from_str(s: &str) -> Result<IpCidr, ()> {
+        match s.parse() {
+            Ok(cidr) => Ok(IpCidr::Ipv4(cidr)),
+            Err(()) => Ok(IpCidr::Ipv6(s.parse()?)),
         }
     }
 }

@@ -1,14 +1,17 @@
 //! An address with a port.
 
 ghost use Rattle.std.specs.Prelude.{◌≡◌, Some};
+ghost use Rattle.std.specs.Net.Grammar.{Parses};
 ghost use Rattle.std.specs.Net.Socket.{IsPlainSocket};
 ghost use Rattle.std.specs.declared.net.socket_addr.SocketAddr.TheVariants.{V4, V6};
-ghost use Rattle.wire_ends.specs.Endpoint.{IsAtPair, endpoint_at, endpoint_text};
+ghost use Rattle.wire_ends.specs.Endpoint.{IsAtPair, ReadsEndpoint, ReadsHost, endpoint_at, endpoint_text};
 ghost use Rattle.wire_ends.specs.StdNet.{endpoint_of};
 
 use crate::IpAddress;
 use std::fmt;
 use std::net::{SocketAddr, SocketAddrV4, SocketAddrV6};
+use std::str::FromStr;
+use wire_text::number_behind;
 
 /// An address and a port: one end of what UDP and TCP carry.
 #[derive(Debug, Clone, Copy, PartialEq, Eq, PartialOrd, Ord, Hash)]
@@ -77,5 +80,33 @@ impl fmt::Display for IpEndpoint {
 
     fn fmt<W: fmt::Write>(&self, f: &mut fmt::Formatter<W>) -> fmt::Result {
         write!(f, "{}:{}", self.addr, self.port)
+    }
+}
+
+/// The address before a port: one of IPv6 is in brackets.
+fn host(text: &str) -> Result<IpAddress, ()>
+    ensures { Parses ReadsHost text.now result }
+{
+    match text.strip_prefix('[') {
+        Some(rest) => {
+            let inner = rest.strip_suffix(']').ok_or(())?;
+            Ok(IpAddress::Ipv6(inner.parse()?))
+        }
+        None => Ok(IpAddress::Ipv4(text.parse()?)),
+    }
+}
+
+/// An address, whose port is 0 then, or an address, `:` and a port, where one of IPv6 is in brackets.
+impl FromStr for IpEndpoint {
+    type Err = ();
+
+    ghost from_str_gives = { Parses ReadsEndpoint };
+
+    fn from_str(s: &str) -> Result<IpEndpoint, ()> {
+        if let Ok(addr) = s.parse() {
+            return Ok(IpEndpoint::new(addr, 0));
+        }
+        let (address, port) = number_behind(s, b':', 5, 65535).ok_or(())?;
+        Ok(IpEndpoint::new(host(address)?, port as u16))
     }
 }

@@ -1,11 +1,60 @@
-//! What holds of the derived comparisons. The functions do nothing when they run.
+//! What holds of texts and of the derived comparisons. The functions do nothing when they run.
 
 ghost use Rattle.std.specs.Prelude.{◌≡◌, ◌↔◌, true};
-ghost use Rattle.wire_ends.specs.Endpoint.{endpoint_cmp, listening_cmp};
-ghost use Rattle.wire_ends.specs.IpAddress.{address_cmp};
-ghost use Rattle.wire_ends.specs.IpCidr.{cidr_cmp};
+ghost use Rattle.wire_ends.specs.Endpoint.{ReadsEndpoint, endpoint_at, endpoint_cmp, endpoint_text, listening_cmp};
+ghost use Rattle.wire_ends.specs.IpAddress.{ReadsAddress, address_cmp, address_text};
+ghost use Rattle.wire_ends.specs.IpCidr.{ReadsCidr, cidr_cmp, cidr_text};
+ghost use Rattle.wire_ends.specs.declared.ip_address.IpAddress.TheVariants.{Ipv4};
 
 use crate::{IpAddress, IpCidr, IpEndpoint, IpListenEndpoint};
+use wire_addr::Ipv4Address;
+use wire_addr::laws::{print_reads_back_ipv4_cidr, print_reads_back_ipv6_cidr};
+
+/// No text is read as two addresses.
+pub fn ip_address_one_reading(text: &[u8], a: IpAddress, b: IpAddress)
+    ensures { ReadsAddress text.now a → ReadsAddress text.now b → a ≡ b }
+{}
+
+/// No text is read as two blocks.
+pub fn ip_cidr_one_reading(text: &[u8], a: IpCidr, b: IpCidr)
+    ensures { ReadsCidr text.now a → ReadsCidr text.now b → a ≡ b }
+{}
+
+/// No text is read as two endpoints.
+pub fn ip_endpoint_one_reading(text: &[u8], a: IpEndpoint, b: IpEndpoint)
+    ensures { ReadsEndpoint text.now a → ReadsEndpoint text.now b → a ≡ b }
+{}
+
+/// The text that an address prints as is read as that address.
+pub fn print_reads_back_ip_address(address: IpAddress)
+    ensures { ReadsAddress (address_text address) address }
+{
+    match address {
+        IpAddress::Ipv4(address) => {
+            let _octets = address.octets();
+        }
+        IpAddress::Ipv6(address) => {
+            let _octets = address.octets();
+        }
+    }
+}
+
+/// The text that a block prints as is read as that block.
+pub fn print_reads_back_ip_cidr(cidr: IpCidr)
+    ensures { ReadsCidr (cidr_text cidr) cidr }
+{
+    match cidr {
+        IpCidr::Ipv4(cidr) => print_reads_back_ipv4_cidr(cidr),
+        IpCidr::Ipv6(cidr) => print_reads_back_ipv6_cidr(cidr),
+    }
+}
+
+/// The text that an endpoint of IPv4 prints as is read as that endpoint.
+pub fn print_reads_back_ipv4_endpoint(address: Ipv4Address, port: u16)
+    ensures { ReadsEndpoint (endpoint_text (endpoint_at (Ipv4 address) port)) (endpoint_at (Ipv4 address) port) }
+{
+    let _octets = address.octets();
+}
 
 /// Addresses are equal as values are, and their order is the defined one.
 pub fn ip_address_order(a: &IpAddress, b: &IpAddress)
