@@ -4,7 +4,8 @@ ghost use Rattle.std.specs.Prelude.{◌≡◌, ◌==◌, IfOk, length, map, vec_
 ghost use Rattle.std.specs.List.{slice_split};
 ghost use Rattle.ip_calls.specs.Lines.{lines};
 
-use crate::{block, checksum, fragment, header, mask, options, tcp, udp};
+use crate::{block, checksum, fragment, header, mask, options, tcp, text, udp};
+use ip_wire::{EthernetAddress, IpAddress, IpCidr, IpEndpoint, Ipv4Cidr, Ipv6Cidr};
 use std::alloc::{AllocError, Global};
 
 /// Why a line has no answer of the library.
@@ -64,8 +65,30 @@ fn answer(alloc: Global, line: &[u8]) -> Result<String, AllocError> {
     }
 }
 
-// What the call that a line asks for answers.
+// What the call that a line asks for answers. A text is whatever stands behind its kind and a space.
 fn asked(alloc: Global, line: &[u8]) -> Result<String, NoAnswer> {
+    let (kind, text) = split_kind(line);
+    match kind {
+        b"eth" => text::answer::<EthernetAddress>(alloc, text),
+        b"ip" => text::answer::<IpAddress>(alloc, text),
+        b"cidr4" => text::answer::<Ipv4Cidr>(alloc, text),
+        b"cidr6" => text::answer::<Ipv6Cidr>(alloc, text),
+        b"cidr" => text::answer::<IpCidr>(alloc, text),
+        b"endpoint" => text::answer::<IpEndpoint>(alloc, text),
+        _ => call(alloc, line),
+    }
+}
+
+// What stands in a line before its first space, and what behind it.
+fn split_kind(line: &[u8]) -> (&[u8], &[u8]) {
+    match line.iter().position(|b| *b == b' ') {
+        Some(at) => (&line[..at], &line[at + 1..]),
+        None => (line, &[]),
+    }
+}
+
+// What a call answers whose operands are words.
+fn call(alloc: Global, line: &[u8]) -> Result<String, NoAnswer> {
     let Ok(line) = str::from_utf8(line) else {
         return Err(NoAnswer::Unknown);
     };

@@ -1,7 +1,7 @@
 //! What blocks of addresses hold.
 
 use crate::answer::NoAnswer;
-use crate::operands::{NOTHING, block};
+use crate::operands::{NOTHING, read};
 use ip_wire::{IpCidr, Ipv4Cidr};
 use std::alloc::{AllocError, Global};
 
@@ -11,7 +11,7 @@ pub fn answer(alloc: Global, operands: &[&str]) -> Result<String, NoAnswer> {
     let [first, second] = operands else {
         return Err(NoAnswer::Malformed);
     };
-    let (first, second) = (block(first)?, block(second)?);
+    let (first, second): (IpCidr, IpCidr) = (read(first)?, read(second)?);
     let address = first.contains_addr(&second.address());
     let subnet = first.contains_subnet(&second);
     let mut text = format!(in alloc; "{address} {subnet}")?;

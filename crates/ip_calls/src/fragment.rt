@@ -1,7 +1,7 @@
 //! Emission of IPv6 fragment headers.
 
 use crate::answer::NoAnswer;
-use crate::operands::{flag, number};
+use crate::operands::{flag, read};
 use ip_wire::{Ipv6FragmentHeaderMut, Ipv6FragmentRepr};
 use std::alloc::Global;
 
@@ -11,11 +11,11 @@ pub fn answer(alloc: Global, operands: &[&str]) -> Result<String, NoAnswer> {
         return Err(NoAnswer::Malformed);
     };
     let header = Ipv6FragmentRepr {
-        frag_offset: number(frag_offset)?,
+        frag_offset: read(frag_offset)?,
         more_frags: flag(more_frags),
-        ident: number(ident)?,
+        ident: read(ident)?,
     };
-    let mut out = vec![in alloc; number(old)?; header.buffer_len()]?;
+    let mut out = vec![in alloc; read(old)?; header.buffer_len()]?;
     header.emit(&mut Ipv6FragmentHeaderMut::new_unchecked(out.as_mut_slice()));
     Ok(hex::encode(alloc, out.as_slice())?)
 }

@@ -4,7 +4,7 @@ ghost use Rattle.std.specs.Prelude.{◌≡◌};
 ghost use Rattle.ip_wire.specs.Ip.{max_payload_len};
 
 use crate::answer::NoAnswer;
-use crate::operands::{addresses, capabilities, number};
+use crate::operands::{addresses, capabilities, read};
 use ip_wire::{IpProtocol, IpRepr};
 use std::alloc::Global;
 
@@ -23,18 +23,18 @@ pub fn answer(alloc: Global, operands: &[&str]) -> Result<String, NoAnswer> {
         return Err(NoAnswer::Malformed);
     };
     let (src_addr, dst_addr) = addresses(src_addr, dst_addr)?;
-    let protocol = IpProtocol::from(number::<u8>(protocol)?);
+    let protocol = IpProtocol::from(read::<u8>(protocol)?);
     let header = IpRepr::new(
         src_addr,
         dst_addr,
         protocol,
-        number(payload_len)?,
-        number(hop_limit)?,
+        read(payload_len)?,
+        read(hop_limit)?,
     );
     if header.payload_len() > max_payload_len(&header) {
         return Err(NoAnswer::Malformed);
     }
-    let mut out = vec![in alloc; number(old)?; header.header_len()]?;
+    let mut out = vec![in alloc; read(old)?; header.header_len()]?;
     header.emit(out.as_mut_slice(), &capabilities(tx));
     Ok(hex::encode(alloc, out.as_slice())?)
 }

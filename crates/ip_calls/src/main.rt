@@ -16,6 +16,9 @@
 //! - `prefix ADDRESS`: how many ones it is, where zeros alone follow them, else `-`. `netmask ADDRESS MASK`: the
 //!   block of both, or `err`.
 //! - `sum OCTETS`: their Internet checksum, before its complement.
+//! - `eth TEXT`, `ip TEXT`, `cidr4 TEXT`, `cidr6 TEXT`, `cidr TEXT` and `endpoint TEXT`: `ok` and the printed
+//!   text of the Ethernet address, the IP address, the block of IPv4, of IPv6 or of either, or the endpoint that
+//!   TEXT is read as, or `err`. TEXT is all that stands behind the first space.
 //!
 //! TX is 1 where checksums are computed, MORE and SACKP are 1 for yes, and OLD is the octet that the
 //! buffer is full of before. A kind that is not there is answered `unknown`, operands that the call does
@@ -34,6 +37,7 @@ mod mask;
 mod operands;
 mod options;
 mod tcp;
+mod text;
 mod udp;
 
 use crate::answer::answers;

@@ -1,8 +1,8 @@
 //! Prefixes that masks are of.
 
 use crate::answer::NoAnswer;
-use crate::operands::{NOTHING, address, ipv4_address};
-use ip_wire::Ipv4Cidr;
+use crate::operands::{NOTHING, read};
+use ip_wire::{IpAddress, Ipv4Cidr};
 use std::alloc::Global;
 
 /// How many ones an address is, where zeros alone follow them.
@@ -10,7 +10,7 @@ pub fn prefix_len(alloc: Global, operands: &[&str]) -> Result<String, NoAnswer> 
     let [word] = operands else {
         return Err(NoAnswer::Malformed);
     };
-    match address(word)?.prefix_len() {
+    match read::<IpAddress>(word)?.prefix_len() {
         Some(len) => Ok(format!(in alloc; "{len}")?),
         None => Ok(String::from_str(alloc, NOTHING)?),
     }
@@ -21,7 +21,7 @@ pub fn from_netmask(alloc: Global, operands: &[&str]) -> Result<String, NoAnswer
     let [addr, netmask] = operands else {
         return Err(NoAnswer::Malformed);
     };
-    match Ipv4Cidr::from_netmask(ipv4_address(addr)?, ipv4_address(netmask)?) {
+    match Ipv4Cidr::from_netmask(read(addr)?, read(netmask)?) {
         Ok(block) => Ok(format!(in alloc; "{block}")?),
         Err(_) => Ok(String::from_str(alloc, "err")?),
     }

@@ -1,7 +1,7 @@
 //! Emission of TCP segments.
 
 use crate::answer::NoAnswer;
-use crate::operands::{addresses, capabilities, flag, maybe, number, octets, pair};
+use crate::operands::{addresses, capabilities, flag, maybe, octets, pair, read};
 use ip_wire::{
     IpAddress, SACK_BLOCKS, TcpControl, TcpPacketMut, TcpRepr, TcpSeqNumber, TcpTimestampRepr,
 };
@@ -24,7 +24,7 @@ pub fn answer(alloc: Global, operands: &[&str]) -> Result<String, NoAnswer> {
     if header_len > MAX_HEADER_LEN {
         return Ok(format!(in alloc; "{header_len}")?);
     }
-    let mut out = vec![in alloc; number(old)?; segment.buffer_len()]?;
+    let mut out = vec![in alloc; read(old)?; segment.buffer_len()]?;
     segment.emit(
         &mut TcpPacketMut::new_unchecked(out.as_mut_slice()),
         &src_addr,
@@ -54,12 +54,12 @@ fn segment<'a>(fields: &[&str], payload: &'a [u8]) -> Result<TcpRepr<'a>, NoAnsw
         return Err(NoAnswer::Malformed);
     };
     Ok(TcpRepr {
-        src_port: number(src_port)?,
-        dst_port: number(dst_port)?,
+        src_port: read(src_port)?,
+        dst_port: read(dst_port)?,
         control: control_of(control)?,
-        seq_number: seq_number_of(number(seq_number)?),
+        seq_number: seq_number_of(read(seq_number)?),
         ack_number: maybe(ack_number)?.map(seq_number_of),
-        window_len: number(window_len)?,
+        window_len: read(window_len)?,
         window_scale: maybe(window_scale)?,
         max_seg_size: maybe(max_seg_size)?,
         sack_permitted: flag(sack_permitted),

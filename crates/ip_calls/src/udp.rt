@@ -1,7 +1,7 @@
 //! Emission of UDP packets.
 
 use crate::answer::NoAnswer;
-use crate::operands::{addresses, capabilities, number, octets};
+use crate::operands::{addresses, capabilities, octets, read};
 use ip_wire::{UDP_HEADER_LEN, UdpPacketMut, UdpRepr};
 use std::alloc::Global;
 
@@ -15,14 +15,14 @@ pub fn answer(alloc: Global, operands: &[&str]) -> Result<String, NoAnswer> {
     };
     let (src_addr, dst_addr) = addresses(src_addr, dst_addr)?;
     let header = UdpRepr {
-        src_port: number(src_port)?,
-        dst_port: number(dst_port)?,
+        src_port: read(src_port)?,
+        dst_port: read(dst_port)?,
     };
     let payload = octets(alloc, payload)?;
     if payload.len() > MAX_PAYLOAD_LEN {
         return Err(NoAnswer::Malformed);
     }
-    let mut out = vec![in alloc; number(old)?; UDP_HEADER_LEN + payload.len()]?;
+    let mut out = vec![in alloc; read(old)?; UDP_HEADER_LEN + payload.len()]?;
     header.emit(
         &mut UdpPacketMut::new_unchecked(out.as_mut_slice()),
         &src_addr,
