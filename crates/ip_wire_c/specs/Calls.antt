@@ -1,5 +1,5 @@
 -- What the calls for C answer, and what they write.
-use Rattle.std.specs.Prelude.{ℕ, ◌≡◌, ◌+◌, ◌-◌, ◌≤◌, ◌<◌, ◌⊎◌, ◌&&◌, ◌==◌, not, nat_le, nat_lt, if◌then◌else◌, ◌++◌, Bool, List, [], length, drop, map, slice_get, Option, None, Some, MatchOption}
+use Rattle.std.specs.Prelude.{ℕ, ◌≡◌, ◌+◌, ◌≤◌, ◌<◌, ◌⊎◌, ◌&&◌, ◌==◌, not, nat_le, nat_lt, if◌then◌else◌, ◌++◌, Bool, List, [], length, drop, map, slice_get, Option, None, Some, MatchOption}
 use mir.Syntax.{w32}
 use Rattle.std.specs.Bool.{then_some}
 use Rattle.std.specs.Int.{to_be_bytes}

@@ -7,17 +7,16 @@ ghost use mir.Syntax.{w32};
 ghost use Rattle.ip_wire.specs.Arp.{bytes_of as arp_bytes};
 ghost use Rattle.ip_wire.specs.Block.{IsIn};
 ghost use Rattle.ip_wire.specs.Frame.{rebuilt};
-ghost use Rattle.ip_wire.specs.Printed.{ipv6_text};
 ghost use Rattle.ip_wire.specs.WordSum.{sum_of_bytes};
 ghost use Rattle.ip_wire.specs.declared.IpAddress.TheVariants.{Ipv4, Ipv6};
-ghost use Rattle.ip_wire_c.specs.Calls.{all_or_none, arp_value, block_of, emitted, emitted_len, innermost_payload, ipv4_header, ipv6_header, is_rebuilt, IsPrinted, length_or_none, sent, sent_len, sent_segment, sent_segment_len, udp_header};
+ghost use Rattle.ip_wire_c.specs.Calls.{all_or_none, arp_value, block_of, emitted, emitted_len, innermost_payload, ipv4_header, ipv6_header, is_rebuilt, length_or_none, sent, sent_len, sent_segment, sent_segment_len, udp_header};
 
 mod arp;
 mod payload;
+mod print;
 mod rebuild;
 mod tcp;
 mod tcp_fields;
-mod text;
 mod udp;
 
 use ip_wire::{
@@ -242,18 +241,6 @@ pub extern "C" fn lk_ipv6_contains(block: &[u8; 16], prefix_len: u8, addr: &[u8;
     }
     let block = Ipv6Cidr::new(Ipv6Address::from_octets(*block), prefix_len);
     u8::from(block.contains_addr(&Ipv6Address::from_octets(*addr)))
-}
-
-/// Writes the text of the IPv6 address with these octets to the front of `out`, and answers its length,
-/// which is never more than 39: 0 where it doesn't fit, and then nothing is written.
-#[unsafe(no_mangle)]
-pub extern "C" fn lk_ipv6_print(octets: &[u8; 16], out: &mut [u8]) -> usize
-    ensures { IsPrinted (ipv6_text octets.now) out.old out.new result }
-{
-    match text::ipv6_text(Ipv6Address::from_octets(*octets)) {
-        Some(text) => rebuild::copy(text.as_str().as_bytes(), out).unwrap_or(0),
-        None => 0,
-    }
 }
 
 /// Writes a frame, built again from the values of its headers, to the front of `out`, and answers its

@@ -1,0 +1,118 @@
+//! Texts that are written into a slice.
+
+ghost use Rattle.std.specs.Prelude.{ℕ, ◌≡◌, ◌<◌, IfSome, List, Some};
+ghost use Rattle.std.specs.Int.{to_be_bytes};
+ghost use mir.Syntax.{w32};
+ghost use Rattle.ip_wire.specs.Endpoint.{endpoint_at, endpoint_text};
+ghost use Rattle.ip_wire.specs.Printed.{block_text, dashed, dotted, ipv6_text};
+ghost use Rattle.ip_wire.specs.declared.IpAddress.TheVariants.{Ipv4, Ipv6};
+ghost use Rattle.ip_wire_c.specs.Calls.{block_of, IsPrinted};
+
+use crate::rebuild::copy;
+use arrayvec::ArrayString;
+use ip_wire::{
+    EthernetAddress, IpAddress, IpEndpoint, Ipv4Address, Ipv4Cidr, Ipv6Address, Ipv6Cidr,
+};
+use std::fmt::{Display, Write};
+
+/// Writes the text of the Ethernet address with these octets to the front of `out`, and answers its length,
+/// which is 17: 0 where it doesn't fit, and then nothing is written.
+#[unsafe(no_mangle)]
+pub extern "C" fn lk_ethernet_print(octets: &[u8; 6], out: &mut [u8]) -> usize
+    ensures { IsPrinted (dashed octets.now) out.old out.new result }
+{
+    print(EthernetAddress(*octets), out)
+}
+
+/// Writes the text of an IPv4 address to the front of `out`, and answers its length, which is never more
+/// than 15: 0 where it doesn't fit, and then nothing is written.
+#[unsafe(no_mangle)]
+pub extern "C" fn lk_ipv4_print(addr: u32, out: &mut [u8]) -> usize
+    ensures { IsPrinted (dotted (to_be_bytes w32 addr)) out.old out.new result }
+{
+    print(Ipv4Address::from_octets(addr.to_be_bytes()), out)
+}
+
+/// Writes the text of the IPv6 address with these octets to the front of `out`, and answers its length,
+/// which is never more than 39: 0 where it doesn't fit, and then nothing is written.
+#[unsafe(no_mangle)]
+pub extern "C" fn lk_ipv6_print(octets: &[u8; 16], out: &mut [u8]) -> usize
+    ensures { IsPrinted (ipv6_text octets.now) out.old out.new result }
+{
+    print(Ipv6Address::from_octets(*octets), out)
+}
+
+/// Writes the text of the block of an IPv4 address and so many of its first bits to the front of `out`, and
+/// answers its length, which is never more than 18: 0 where it doesn't fit or there is no such block, and
+/// then nothing is written.
+#[unsafe(no_mangle)]
+pub extern "C" fn lk_ipv4_cidr_print(addr: u32, prefix_len: u8, out: &mut [u8]) -> usize
+    ensures text { IsPrinted (block_text dotted (block_of (to_be_bytes w32 addr) prefix_len)) out.old out.new result }
+    ensures no_block { 32 < prefix_len → result ≡ 0 }
+{
+    if prefix_len > 32 {
+        return 0;
+    }
+    let addr = Ipv4Address::from_octets(addr.to_be_bytes());
+    print(Ipv4Cidr::new(addr, prefix_len), out)
+}
+
+/// Writes the text of the block of an IPv6 address and so many of its first bits to the front of `out`, and
+/// answers its length, which is never more than 43: 0 where it doesn't fit or there is no such block, and
+/// then nothing is written.
+#[unsafe(no_mangle)]
+pub extern "C" fn lk_ipv6_cidr_print(octets: &[u8; 16], prefix_len: u8, out: &mut [u8]) -> usize
+    ensures text { IsPrinted (block_text ipv6_text (block_of octets.now prefix_len)) out.old out.new result }
+    ensures no_block { 128 < prefix_len → result ≡ 0 }
+{
+    if prefix_len > 128 {
+        return 0;
+    }
+    let addr = Ipv6Address::from_octets(*octets);
+    print(Ipv6Cidr::new(addr, prefix_len), out)
+}
+
+/// Writes the text of a port at an IPv4 address to the front of `out`, and answers its length, which is
+/// never more than 21: 0 where it doesn't fit, and then nothing is written.
+#[unsafe(no_mangle)]
+pub extern "C" fn lk_ipv4_endpoint_print(addr: u32, port: u16, out: &mut [u8]) -> usize
+    ensures { IsPrinted (endpoint_text (endpoint_at (Ipv4 (to_be_bytes w32 addr)) port)) out.old out.new result }
+{
+    let addr = IpAddress::Ipv4(Ipv4Address::from_octets(addr.to_be_bytes()));
+    print(IpEndpoint::new(addr, port), out)
+}
+
+/// Writes the text of a port at an IPv6 address to the front of `out`, and answers its length, which is
+/// never more than 45: 0 where it doesn't fit, and then nothing is written.
+#[unsafe(no_mangle)]
+pub extern "C" fn lk_ipv6_endpoint_print(octets: &[u8; 16], port: u16, out: &mut [u8]) -> usize
+    ensures { IsPrinted (endpoint_text (endpoint_at (Ipv6 octets.now) port)) out.old out.new result }
+{
+    let addr = IpAddress::Ipv6(Ipv6Address::from_octets(*octets));
+    print(IpEndpoint::new(addr, port), out)
+}
+
+// How many bytes the longest of these texts has, that of a port at an IPv6 address.
+const MAX_LEN: usize = 45;
+
+// Writes the text of a value to the front of `out`, and answers its length: 0 where it doesn't fit, and
+// then nothing is written.
+fn print<T: Display + Drop>(value: T, out: &mut [u8]) -> usize
+    ensures { (text : List ℕ) → T.output value ≡ Some text → IsPrinted text out.old out.new result }
+{
+    match printed(value) {
+        Some(text) => copy(text.as_str().as_bytes(), out).unwrap_or(0),
+        None => 0,
+    }
+}
+
+// The text of a value, or None where writing it fails.
+fn printed<T: Display + Drop>(value: T) -> Option<ArrayString<MAX_LEN>>
+    ensures { IfSome result (λ written. (text : List ℕ) → T.output value ≡ Some text → written.bytes ≡ text) }
+{
+    let mut text = ArrayString::new();
+    match write!(text, "{value}") {
+        Ok(()) => Some(text),
+        Err(_) => None,
+    }
+}
