@@ -3,6 +3,8 @@ import collections
 import ipaddress
 import itertools
 
+from text_lines import TEXTS
+
 SACK_BLOCKS = 3
 EDGES = {width: [0, 1, (1 << width - 1) - 1, 1 << width - 1, (1 << width) - 1] for width in (8, 16, 32)}
 V4 = ("192.0.2.1", "192.0.2.2")
@@ -269,7 +271,7 @@ def edges_netmask():
         yield line("netmask", host, printed(ones(n, 4) ^ 0x0100_0000, 4))
 
 
-# The lines of a kind at the edges, one made of a random generator, and how often of 100 generated ones it is asked.
+# The lines of a kind at the edges, one made of a random generator, and how often it is asked beside the others.
 Kind = collections.namedtuple("Kind", "edges random share")
 
 KINDS = {
@@ -282,4 +284,5 @@ KINDS = {
     "block": Kind(edges_block, random_block, 10),
     "prefix": Kind(edges_prefix, random_prefix, 5),
     "netmask": Kind(edges_netmask, random_netmask, 5),
+    **{name: Kind(*kind) for name, kind in TEXTS.items()},
 }

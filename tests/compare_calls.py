@@ -15,7 +15,7 @@ def corpus(seed, lines):
     rng = random.Random(seed)
     kinds = list(KINDS.values())
     for kind in rng.choices(kinds, [kind.share for kind in kinds], k=lines):
-        yield kind.random(rng).encode()
+        yield kind.random(rng).encode(errors="surrogateescape")
 
 
 if __name__ == "__main__":

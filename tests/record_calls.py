@@ -22,7 +22,8 @@ def lines(name, kind):
 def main():
     if len(sys.argv) < 2:
         sys.exit(__doc__.strip())
-    files = {name: "".join(line + "\n" for line in lines(name, kind)).encode() for name, kind in KINDS.items()}
+    files = {name: "".join(line + "\n" for line in lines(name, kind)).encode(errors="surrogateescape")
+             for name, kind in KINDS.items()}
     record(f"{TESTS}/calls", "call", files, sys.argv[1:])
 
 
