@@ -34,12 +34,24 @@ struct library {
                             uint8_t *, size_t);
     uint8_t (*ipv4_contains)(uint32_t, uint8_t, uint32_t);
     uint8_t (*ipv6_contains)(const uint8_t *, uint8_t, const uint8_t *);
+    uint8_t (*ipv4_read)(const uint8_t *, size_t, uint32_t *);
+    uint8_t (*ipv6_read)(const uint8_t *, size_t, uint8_t *);
+    uint8_t (*ipv4_read_by_core)(const uint8_t *, size_t, uint32_t *); /* ours beside Rust's core::net */
+    uint8_t (*ipv6_read_by_core)(const uint8_t *, size_t, uint8_t *);
+    uint8_t (*ipv4_cidr_read)(const uint8_t *, size_t, uint32_t *, uint8_t *);
+    uint8_t (*ipv6_cidr_read)(const uint8_t *, size_t, uint8_t *, uint8_t *);
+    uint8_t (*endpoint_read)(const uint8_t *, size_t, uint8_t *, uint16_t *);
+    size_t (*ipv4_print)(uint32_t, uint8_t *, size_t);
     size_t (*ipv6_print)(const uint8_t *, uint8_t *, size_t);
+    size_t (*ipv4_cidr_print)(uint32_t, uint8_t, uint8_t *, size_t);
+    size_t (*ipv6_cidr_print)(const uint8_t *, uint8_t, uint8_t *, size_t);
+    size_t (*ipv4_endpoint_print)(uint32_t, uint16_t, uint8_t *, size_t);
+    size_t (*ipv6_endpoint_print)(const uint8_t *, uint16_t, uint8_t *, size_t);
     size_t (*rebuild)(const uint8_t *, size_t, uint8_t *, size_t);
 };
 
-/* One row: its input, and what is timed, with so many bytes of payload or for a checksum, and with a TCP
- * header. */
+/* One row: its input, and what is timed, with so many bytes of payload or for a checksum, with a TCP
+ * header, or on a text of so many bytes. */
 struct row {
     const char *name;
     void (*prepare)(const struct row *);
@@ -48,6 +60,7 @@ struct row {
     uint8_t checked;
     int is_rate;
     const struct lk_tcp *header;
+    const char *text;
 };
 
 static uint8_t bytes[MOST_BYTES];
@@ -160,6 +173,37 @@ static void prepare_addresses(const struct row *row)
     }
 }
 
+static uint8_t texts[ADDRESSES * MOST_TEXT]; /* of the addresses, without anything between them */
+static size_t text_ends[ADDRESSES];
+
+static void prepare_texts(const struct row *row)
+{
+    size_t end = 0;
+    prepare_addresses(row);
+    for (size_t i = 0; i < ADDRESSES; i++) {
+        end += lk_ipv6_print(bytes + 16 * i, texts + end, sizeof texts - end);
+        text_ends[i] = end;
+    }
+}
+
+/* What a text is read as, to be printed: an address in octets and as a number, and a port or the length of a
+ * prefix. */
+static uint8_t octets[16];
+static uint32_t number;
+static uint16_t port;
+static uint8_t prefix_len;
+
+static void prepare_text(const struct row *row)
+{
+    const uint8_t *text = (const uint8_t *)row->text;
+    lk_ipv4_read(text, row->size, &number);
+    lk_ipv6_read(text, row->size, octets);
+    lk_ipv4_cidr_read(text, row->size, &number, &prefix_len);
+    lk_ipv6_cidr_read(text, row->size, octets, &prefix_len);
+    if (lk_endpoint_read(text, row->size, octets, &port) == 4)
+        number = (uint32_t)octets[0] << 24 | (uint32_t)octets[1] << 16 | (uint32_t)octets[2] << 8 | octets[3];
+}
+
 static uint64_t call_checksum(const struct library *library, const struct row *row)
 {
     return library->checksum(bytes, row->size);
@@ -232,6 +276,53 @@ static uint64_t call_print(const struct library *library, const struct row *row)
     return written;
 }
 
+/* A call that reads the text of a row, and one that prints what it was read as. */
+#define READ(name, ...)                                                             \
+    static uint64_t read_##name(const struct library *library, const struct row *row) \
+    {                                                                               \
+        return library->name##_read(__VA_ARGS__);                                   \
+    }
+#define PRINT(name, ...)                                                             \
+    static uint64_t print_##name(const struct library *library, const struct row *row) \
+    {                                                                                \
+        (void)row;                                                                   \
+        return library->name##_print(__VA_ARGS__, out, sizeof out);                  \
+    }
+#define TEXT (const uint8_t *)row->text, row->size
+
+READ(ipv4, TEXT, &number)
+READ(ipv6, TEXT, octets)
+READ(ipv4_cidr, TEXT, &number, &prefix_len)
+READ(ipv6_cidr, TEXT, octets, &prefix_len)
+READ(endpoint, TEXT, octets, &port)
+PRINT(ipv4, number)
+PRINT(ipv6, octets)
+PRINT(ipv4_cidr, number, prefix_len)
+PRINT(ipv6_cidr, octets, prefix_len)
+PRINT(ipv4_endpoint, number, port)
+PRINT(ipv6_endpoint, octets, port)
+
+static uint64_t read_ipv4_by_core(const struct library *library, const struct row *row)
+{
+    return library->ipv4_read_by_core(TEXT, &number);
+}
+
+static uint64_t read_ipv6_by_core(const struct library *library, const struct row *row)
+{
+    return library->ipv6_read_by_core(TEXT, octets);
+}
+
+static uint64_t call_read(const struct library *library, const struct row *row)
+{
+    uint64_t found = 0;
+    size_t begin = 0;
+    for (size_t i = 0; i < row->size; i++) {
+        found += library->ipv6_read(texts + begin, text_ends[i] - begin, octets);
+        begin = text_ends[i];
+    }
+    return found;
+}
+
 static const struct row rows[] = {
     {"checksum", prepare_bytes, call_checksum, 20, 1, 1},
     {"checksum", prepare_bytes, call_checksum, 64, 1, 1},
@@ -285,6 +376,30 @@ static const struct row rows[] = {
     {"block contains IPv4", prepare_bytes, call_contains_ipv4, 0, 1, 0},
     {"block contains IPv6", prepare_bytes, call_contains_ipv6, 0, 1, 0},
     {"print addresses", prepare_addresses, call_print, ADDRESSES, 1, 0},
+    {"read addresses", prepare_texts, call_read, ADDRESSES, 1, 0},
+};
+
+/* Texts of all shapes, and how each is read and printed. */
+static const struct {
+    const char *text;
+    const char *name;
+    uint64_t (*read)(const struct library *, const struct row *);
+    uint64_t (*read_by_core)(const struct library *, const struct row *);
+    uint64_t (*print)(const struct library *, const struct row *);
+} text_rows[] = {
+    {"1.2.3.4", "IPv4 short", read_ipv4, read_ipv4_by_core, print_ipv4},
+    {"192.168.100.200", "IPv4 long", read_ipv4, read_ipv4_by_core, print_ipv4},
+    {"::", "IPv6 ::", read_ipv6, read_ipv6_by_core, print_ipv6},
+    {"::1", "IPv6 ::1", read_ipv6, read_ipv6_by_core, print_ipv6},
+    {"2001:db8::1:0:0:1", "IPv6 elided", read_ipv6, read_ipv6_by_core, print_ipv6},
+    {"fe80::1011:1213:1415:1617", "IPv6 link-local", read_ipv6, read_ipv6_by_core, print_ipv6},
+    {"2001:db8:1234:5678:9abc:def0:1234:5678", "IPv6 full", read_ipv6, read_ipv6_by_core, print_ipv6},
+    {"2001:DB8:ABCD:EF01:2345:6789:ABCD:EF01", "IPv6 upper case", read_ipv6, read_ipv6_by_core, print_ipv6},
+    {"::ffff:192.168.1.1", "IPv6 mapped", read_ipv6, read_ipv6_by_core, print_ipv6},
+    {"192.168.1.10/24", "IPv4 block", read_ipv4_cidr, NULL, print_ipv4_cidr},
+    {"2001:db8:1234::/48", "IPv6 block", read_ipv6_cidr, NULL, print_ipv6_cidr},
+    {"192.168.1.10:8080", "IPv4 endpoint", read_endpoint, NULL, print_ipv4_endpoint},
+    {"[2001:db8::1]:8080", "IPv6 endpoint", read_endpoint, NULL, print_ipv6_endpoint},
 };
 
 /* TCP headers by their options: none, those of a SYN, of data, and of a duplicate acknowledgement. */
@@ -345,7 +460,19 @@ static struct library load(const char *path)
     *(void **)&library.emit_tcp_ipv6 = symbol(handle, path, "lk_emit_tcp_ipv6");
     *(void **)&library.ipv4_contains = symbol(handle, path, "lk_ipv4_contains");
     *(void **)&library.ipv6_contains = symbol(handle, path, "lk_ipv6_contains");
+    *(void **)&library.ipv4_read = symbol(handle, path, "lk_ipv4_read");
+    *(void **)&library.ipv6_read = symbol(handle, path, "lk_ipv6_read");
+    *(void **)&library.ipv4_read_by_core = symbol(handle, path, "core_ipv4_read");
+    *(void **)&library.ipv6_read_by_core = symbol(handle, path, "core_ipv6_read");
+    *(void **)&library.ipv4_cidr_read = symbol(handle, path, "lk_ipv4_cidr_read");
+    *(void **)&library.ipv6_cidr_read = symbol(handle, path, "lk_ipv6_cidr_read");
+    *(void **)&library.endpoint_read = symbol(handle, path, "lk_endpoint_read");
+    *(void **)&library.ipv4_print = symbol(handle, path, "lk_ipv4_print");
     *(void **)&library.ipv6_print = symbol(handle, path, "lk_ipv6_print");
+    *(void **)&library.ipv4_cidr_print = symbol(handle, path, "lk_ipv4_cidr_print");
+    *(void **)&library.ipv6_cidr_print = symbol(handle, path, "lk_ipv6_cidr_print");
+    *(void **)&library.ipv4_endpoint_print = symbol(handle, path, "lk_ipv4_endpoint_print");
+    *(void **)&library.ipv6_endpoint_print = symbol(handle, path, "lk_ipv6_endpoint_print");
     *(void **)&library.rebuild = symbol(handle, path, "lk_rebuild");
     return library;
 }
@@ -437,11 +564,35 @@ static void run_tcp(const struct library *ours, const struct library *reference)
             }
 }
 
+/* Each text read, and what it is read as printed. */
+static void run_texts(const struct library *ours, const struct library *reference)
+{
+    for (size_t i = 0; i < sizeof text_rows / sizeof text_rows[0]; i++) {
+        char name[32];
+        struct row row = {.name = name, .prepare = prepare_text, .text = text_rows[i].text};
+        row.size = strlen(row.text);
+        snprintf(name, sizeof name, "read %s", text_rows[i].name);
+        row.call = text_rows[i].read;
+        run(&row, ours, reference);
+        if (text_rows[i].read_by_core) {
+            snprintf(name, sizeof name, "  by core::net");
+            row.call = text_rows[i].read_by_core;
+            run(&row, ours, reference);
+        }
+        snprintf(name, sizeof name, "print %s", text_rows[i].name);
+        row.call = text_rows[i].print;
+        run(&row, ours, reference);
+    }
+}
+
 int main(int argc, char **argv)
 {
     static const struct library ours = {
         lk_checksum, lk_parse, lk_emit_arp, lk_emit_ipv4, lk_emit_ipv6, lk_emit_udp_ipv4, lk_emit_udp_ipv6,
-        lk_emit_tcp_ipv4, lk_emit_tcp_ipv6, lk_ipv4_contains, lk_ipv6_contains, lk_ipv6_print, lk_rebuild,
+        lk_emit_tcp_ipv4, lk_emit_tcp_ipv6, lk_ipv4_contains, lk_ipv6_contains, lk_ipv4_read, lk_ipv6_read,
+        lk_ipv4_read, lk_ipv6_read, lk_ipv4_cidr_read, lk_ipv6_cidr_read, lk_endpoint_read, lk_ipv4_print,
+        lk_ipv6_print, lk_ipv4_cidr_print, lk_ipv6_cidr_print, lk_ipv4_endpoint_print, lk_ipv6_endpoint_print,
+        lk_rebuild,
     };
     struct library reference;
     if (argc > 2)
@@ -454,6 +605,7 @@ int main(int argc, char **argv)
     printf("\n");
     for (size_t i = 0; i < sizeof rows / sizeof rows[0]; i++)
         run(&rows[i], &ours, argc == 2 ? &reference : NULL);
+    run_texts(&ours, argc == 2 ? &reference : NULL);
     run_tcp(&ours, argc == 2 ? &reference : NULL);
     return 0;
 }

@@ -1,7 +1,8 @@
 /* A frame with padding is read, built again without the padding, and a header is written: for IPv4, and
  * for IPv6, whose addresses are printed too. Then UDP packets, TCP segments and an ARP request are
- * written. */
+ * written, and texts read. */
 #include <stdio.h>
+#include <string.h>
 #include "ip_wire.h"
 
 static void print_bytes(const char *name, const uint8_t *ptr, size_t len)
@@ -17,6 +18,36 @@ static void print_address(const uint8_t *octets)
     uint8_t text[39];
     size_t len = lk_ipv6_print(octets, text, sizeof text);
     printf("address %.*s\n", (int)len, (const char *)text);
+}
+
+/* Reads texts of addresses, a block and an endpoint, and writes some of them again. */
+static void read_texts(void)
+{
+    static const char hardware[] = "AB-cd-ef-0-0-1", zeros[] = "010.0.0.1", upper[] = "2001:DB8:0::1", zone[] = "fe80::1%eth0",
+                      block[] = "10.1.2.3/8", long_prefix[] = "10.1.2.3/33", endpoint[] = "[fe80::1]:80";
+    uint8_t octets[16], prefix_len, out[45];
+    uint16_t port;
+    uint32_t addr;
+    size_t len;
+
+    if (lk_ethernet_read((const uint8_t *)hardware, strlen(hardware), octets)) {
+        len = lk_ethernet_print(octets, out, sizeof out);
+        printf("%s is %.*s\n", hardware, (int)len, (const char *)out);
+    }
+    if (lk_ipv4_read((const uint8_t *)zeros, strlen(zeros), &addr))
+        printf("%s is %08x\n", zeros, (unsigned)addr);
+    if (lk_ipv6_read((const uint8_t *)upper, strlen(upper), octets))
+        print_address(octets);
+    printf("%s: %u\n", zone, (unsigned)lk_ipv6_read((const uint8_t *)zone, strlen(zone), octets));
+    if (lk_ipv4_cidr_read((const uint8_t *)block, strlen(block), &addr, &prefix_len)) {
+        len = lk_ipv4_cidr_print(addr, prefix_len, out, sizeof out);
+        printf("%.*s has 10.255.0.1: %u\n", (int)len, (const char *)out, (unsigned)lk_ipv4_contains(addr, prefix_len, 0x0aff0001));
+    }
+    printf("%s: %u\n", long_prefix,
+           (unsigned)lk_ipv4_cidr_read((const uint8_t *)long_prefix, strlen(long_prefix), &addr, &prefix_len));
+    printf("%s is of version %u", endpoint, (unsigned)lk_endpoint_read((const uint8_t *)endpoint, strlen(endpoint), octets, &port));
+    printf(", port %u\n", (unsigned)port);
+    print_address(octets);
 }
 
 int main(void)
@@ -85,5 +116,6 @@ int main(void)
 
     len = lk_emit_arp(1, hardware, 0xc0000201, unknown, 0xc0000202, out, sizeof out);
     print_bytes("ARP request", out, len);
+    read_texts();
     return 0;
 }

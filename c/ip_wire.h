@@ -108,10 +108,56 @@ uint8_t lk_ipv4_contains(uint32_t block, uint8_t prefix_len, uint32_t addr);
 /* The same of IPv6, whose addresses are 16 octets each; `prefix_len` is at most 128. */
 uint8_t lk_ipv6_contains(const uint8_t *block, uint8_t prefix_len, const uint8_t *addr);
 
-/* Writes the text of the IPv6 address of these 16 octets (RFC 5952) to the front of `out`, with no null
- * behind it, and answers its length, which is never more than 39; 0 where it doesn't fit into `cap`
- * octets, and then nothing is written. */
+/* Texts are read of the `len` bytes at `text`, with no null behind them. A reader answers 1 and stores
+ * what the text says; 0 where it is no such text as a whole, and then nothing is stored. Numbers are
+ * decimal or hex digits alone, of either case; leading zeros are decimal too. No scope of an IPv6
+ * address is read, and a dotted tail only of an address that stands for an IPv4 address
+ * (::ffff:192.168.1.1). */
+
+/* The 6 octets of an Ethernet address: six groups of 1 or 2 hex digits, joined all by '-' or all by ':'. */
+uint8_t lk_ethernet_read(const uint8_t *text, size_t len, uint8_t *octets);
+
+/* An IPv4 address as a number: four numbers of 1 to 3 digits, joined by '.'. */
+uint8_t lk_ipv4_read(const uint8_t *text, size_t len, uint32_t *addr);
+
+/* The 16 octets of an IPv6 address (RFC 4291, section 2.2). */
+uint8_t lk_ipv6_read(const uint8_t *text, size_t len, uint8_t *octets);
+
+/* A block: the address as it is written, '/' and how many of its first bits all its addresses have, in 1
+ * or 2 digits. */
+uint8_t lk_ipv4_cidr_read(const uint8_t *text, size_t len, uint32_t *addr, uint8_t *prefix_len);
+
+/* The same of IPv6, with 1 to 3 digits. */
+uint8_t lk_ipv6_cidr_read(const uint8_t *text, size_t len, uint8_t *octets, uint8_t *prefix_len);
+
+/* An address alone, whose port is 0; or an address, an IPv6 one in brackets, ':' and a port in 1 to 5
+ * digits. Answers the version of the address, 4 or 6. `octets` has room for 16 of them, of which the
+ * first 4 are stored where the version is 4. */
+uint8_t lk_endpoint_read(const uint8_t *text, size_t len, uint8_t *octets, uint16_t *port);
+
+/* Texts are written to the front of `out`, with no null behind them. A printer answers the length, of which
+ * each says the most; 0 where the text doesn't fit into `cap` octets, and then nothing is written. */
+
+/* At most 17 bytes: six pairs of hex digits, joined by '-'. */
+size_t lk_ethernet_print(const uint8_t *octets, uint8_t *out, size_t cap);
+
+/* At most 15 bytes. */
+size_t lk_ipv4_print(uint32_t addr, uint8_t *out, size_t cap);
+
+/* At most 39 bytes, by RFC 5952. */
 size_t lk_ipv6_print(const uint8_t *octets, uint8_t *out, size_t cap);
+
+/* At most 18 bytes: the address, '/' and `prefix_len`; 0 also where that is more than 32. */
+size_t lk_ipv4_cidr_print(uint32_t addr, uint8_t prefix_len, uint8_t *out, size_t cap);
+
+/* At most 43 bytes; `prefix_len` is at most 128. */
+size_t lk_ipv6_cidr_print(const uint8_t *octets, uint8_t prefix_len, uint8_t *out, size_t cap);
+
+/* At most 21 bytes: the address, ':' and the port. */
+size_t lk_ipv4_endpoint_print(uint32_t addr, uint16_t port, uint8_t *out, size_t cap);
+
+/* At most 45 bytes: the same without brackets, so that it is not read again as this endpoint. */
+size_t lk_ipv6_endpoint_print(const uint8_t *octets, uint16_t port, uint8_t *out, size_t cap);
 
 /* Builds an Ethernet frame again from the values of its headers and writes it to the front of
  * `out`: IPv4 options, an IPv6 traffic class and flow label, and padding are dropped. A TCP

@@ -24,8 +24,8 @@
 //! buffer is full of before. A kind that is not there is answered `unknown`, operands that the call does
 //! not take `malformed`.
 //!
-//! It is tested and compared. What is proved is that each line has an answer, whatever it holds, and
-//! that the conditions of each call are met.
+//! It is tested and compared. What is proved is that each line has an answer, whatever it holds, that
+//! the conditions of each call are met, and that a text is answered what its reader and its printer say.
 #![tactic(auto)]
 
 mod answer;

@@ -1,5 +1,9 @@
 //! The texts of addresses, blocks and endpoints.
 
+ghost use Rattle.std.specs.Prelude.{IfOk};
+ghost use Rattle.std.specs.String.{string_bytes};
+ghost use Rattle.ip_calls.specs.Answers.{IsAnswer};
+
 use crate::answer::NoAnswer;
 use std::alloc::Global;
 use std::fmt::Display;
@@ -10,6 +14,7 @@ use std::str::FromStr;
 pub fn answer<T: FromStr + Display + Drop>(alloc: Global, bytes: &[u8]) -> Result<String, NoAnswer>
 where
     T::Err: Drop,
+    ensures { IfOk result (λ answer. IsAnswer T.from_str_gives T.output bytes.now (string_bytes answer)) }
 {
     let Ok(text) = str::from_utf8(bytes) else {
         return Ok(String::from_str(alloc, "err")?);

@@ -24,6 +24,7 @@ mod nested;
 mod raw_hardware_address;
 mod tcp;
 mod tcp_repr;
+mod texts;
 mod udp;
 
 use ip_wire::{EthernetAddress, IpProtocol, Ipv4Address, Ipv4Repr, Ipv6Address, Ipv6Repr};

@@ -1,0 +1,124 @@
+//! Texts that are read.
+
+ghost use Rattle.std.specs.Prelude.{◌≡◌, Err, IsUtf8, MatchOption, Ok};
+ghost use Rattle.ip_wire.specs.Read.{ReadsIpv6};
+ghost use Rattle.wire_text.specs.Grammar.{IsHexText};
+ghost use Rattle.ip_wire_c.specs.Calls.{IsEndpointRead, IsRead, ReadsIpv4Number, ReadsIpv4Pair, ReadsIpv6Pair};
+
+use ip_wire::{IpAddress, IpEndpoint, Ipv4Cidr, Ipv6Address, Ipv6Cidr};
+use std::str::FromStr;
+
+/// Stores the octets that a text is read as, those of an Ethernet address, and answers 1: 0 where it is
+/// none, and then nothing is stored.
+#[unsafe(no_mangle)]
+pub extern "C" fn lk_ethernet_read(text: &[u8], octets: &mut [u8; 6]) -> u8
+    ensures { IsRead IsHexText text.now octets.old octets.new result }
+{
+    match wire_text::hex_octets(text) {
+        Some(read) => {
+            *octets = read;
+            1
+        }
+        None => 0,
+    }
+}
+
+/// Stores the IPv4 address that a text is read as, and answers 1: 0 where it is none, and then nothing is
+/// stored.
+#[unsafe(no_mangle)]
+pub extern "C" fn lk_ipv4_read(text: &[u8], addr: &mut u32) -> u8
+    ensures { IsRead ReadsIpv4Number text.now addr.old addr.new result }
+{
+    match wire_text::octets(text) {
+        Some(octets) => {
+            *addr = u32::from_be_bytes(octets);
+            1
+        }
+        None => 0,
+    }
+}
+
+/// Stores the octets of the IPv6 address that a text is read as, and answers 1: 0 where it is none, and
+/// then nothing is stored.
+#[unsafe(no_mangle)]
+pub extern "C" fn lk_ipv6_read(text: &[u8], octets: &mut [u8; 16]) -> u8
+    ensures { IsRead ReadsIpv6 text.now octets.old octets.new result }
+{
+    match wire_text::groups(text) {
+        Some(groups) => {
+            *octets = Ipv6Address::from(groups).octets();
+            1
+        }
+        None => 0,
+    }
+}
+
+/// Stores the address and the length of the prefix of the block of IPv4 addresses that a text is read as,
+/// and answers 1: 0 where it is none, and then nothing is stored.
+#[unsafe(no_mangle)]
+pub extern "C" fn lk_ipv4_cidr_read(text: &[u8], addr: &mut u32, prefix_len: &mut u8) -> u8
+    ensures { IsRead ReadsIpv4Pair text.now (addr.old, prefix_len.old) (addr.new, prefix_len.new) result }
+{
+    match read::<Ipv4Cidr>(text) {
+        Some(block) => {
+            *addr = u32::from_be_bytes(block.address().octets());
+            *prefix_len = block.prefix_len();
+            1
+        }
+        None => 0,
+    }
+}
+
+/// Stores the octets of the address and the length of the prefix of the block of IPv6 addresses that a text
+/// is read as, and answers 1: 0 where it is none, and then nothing is stored.
+#[unsafe(no_mangle)]
+pub extern "C" fn lk_ipv6_cidr_read(
+    text: &[u8],
+    octets: &mut [u8; 16],
+    prefix_len: &mut u8,
+) -> u8
+    ensures { IsRead ReadsIpv6Pair text.now (octets.old, prefix_len.old) (octets.new, prefix_len.new) result }
+{
+    match read::<Ipv6Cidr>(text) {
+        Some(block) => {
+            *octets = block.address().octets();
+            *prefix_len = block.prefix_len();
+            1
+        }
+        None => 0,
+    }
+}
+
+/// Stores the address and the port of the endpoint that a text is read as, and answers the version of the
+/// address: where it is 4 only the first four octets are stored. It answers 0 where the text is none, and
+/// then nothing is stored.
+#[unsafe(no_mangle)]
+pub extern "C" fn lk_endpoint_read(text: &[u8], octets: &mut [u8; 16], port: &mut u16) -> u8
+    ensures { IsEndpointRead text.now octets.old port.old octets.new port.new result }
+{
+    let Some(endpoint) = read::<IpEndpoint>(text) else {
+        return 0;
+    };
+    *port = endpoint.port;
+    match endpoint.addr {
+        IpAddress::Ipv4(addr) => {
+            octets[..4].copy_from_slice(&addr.octets());
+            4
+        }
+        IpAddress::Ipv6(addr) => {
+            *octets = addr.octets();
+            6
+        }
+    }
+}
+
+// The value that bytes are read as, if they are a text of one.
+fn read<T: FromStr>(bytes: &[u8]) -> Option<T>
+where
+    T::Err: Drop,
+    ensures { MatchOption result (IsUtf8 bytes.now → (e : T.Err) × T.from_str_gives bytes.now (Err e))
+        (λ value. IsUtf8 bytes.now × T.from_str_gives bytes.now (Ok value)) }
+{
+    let text = str::from_utf8(bytes).ok()?;
+    text.parse().ok()
+}
