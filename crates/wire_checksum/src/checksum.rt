@@ -1,11 +1,11 @@
 //! The internet checksum (RFC 1071), without the final complement.
 
-ghost use Rattle.std.specs.Prelude.{◌≡◌, ◌*◌};
+ghost use Rattle.std.specs.Prelude.{◌≡◌, ◌*◌, ◌++◌};
 ghost use Rattle.wire_ends.specs.IpAddress.{octets_of, version_of};
 ghost use Rattle.wire_checksum.specs.PseudoHeader.{pseudo_header_bytes, with_pseudo_header};
 ghost use Rattle.wire_checksum.specs.WordSum.{residue, sum_of, sum_of_bytes};
 
-use crate::totals::{around, finish, total, total_of_4, total_of_16, total_of_20};
+use crate::totals::{around, finish, total, total_of_4, total_of_8, total_of_16, total_of_20};
 use wire_addr::{Ipv4Address, Ipv6Address};
 use wire_ends::{IpAddress, IpProtocol};
 
@@ -91,6 +91,23 @@ pub fn packet(
     let length = (packet.len() % (1 << 16)) as u32;
     let header = pseudo_header_total(src_addr, dst_addr, next_header, length);
     finish(around(header, total(packet)))
+}
+
+/// The sum of a packet, as of `packet`, whose header of eight octets and payload lie apart.
+#[inline(always)]
+pub fn packet_parts(
+    src_addr: IpAddress,
+    dst_addr: IpAddress,
+    next_header: IpProtocol,
+    header: &[u8; 8],
+    payload: &[u8],
+) -> u16
+    requires { version_of src_addr ≡ version_of dst_addr }
+    ensures { result ≡ sum_of_bytes (with_pseudo_header src_addr dst_addr next_header (header.now ++ payload.now)) }
+{
+    let length = ((header.len() + payload.len()) % (1 << 16)) as u32;
+    let pseudo_header = pseudo_header_total(src_addr, dst_addr, next_header, length);
+    finish(around(around(pseudo_header, total_of_8(header)), total(payload)))
 }
 
 // The total of a pseudo header.

@@ -73,6 +73,14 @@ pub fn total_of_4(bytes: &[u8; 4]) -> u64
     u64::from(u32::from_le_bytes(*bytes))
 }
 
+/// The total of a UDP header.
+#[inline]
+pub fn total_of_8(bytes: &[u8; 8]) -> u64
+    ensures { residue (256 * result) ≡ sum_of_bytes bytes.now }
+{
+    u64::from_le_bytes(*bytes)
+}
+
 /// The total of an IPv6 address.
 #[inline]
 pub fn total_of_16(bytes: &[u8; 16]) -> u64

@@ -112,14 +112,11 @@ impl UdpRepr {
         requires family { version_of src_addr ≡ version_of dst_addr }
         ensures { result ≡ checksum_for (packet_sum src_addr dst_addr (packet_with self.now payload.now 0)) }
     {
-        let len = (UDP_HEADER_LEN + payload.len()) as u16;
-        checksum_for(checksum::combine(&[
-            checksum::pseudo_header(&src_addr, &dst_addr, IpProtocol::Udp, len.into()),
-            self.src_port,
-            self.dst_port,
-            len,
-            checksum::data(payload),
-        ]))
+        let [a, b] = self.src_port.to_be_bytes();
+        let [c, d] = self.dst_port.to_be_bytes();
+        let [e, f] = ((UDP_HEADER_LEN + payload.len()) as u16).to_be_bytes();
+        let header = [a, b, c, d, e, f, 0, 0];
+        checksum_for(checksum::packet_parts(src_addr, dst_addr, IpProtocol::Udp, &header, payload))
     }
 }
 
