@@ -1,16 +1,17 @@
 //! Addresses of IPv6.
 
 ghost use Rattle.std.specs.Prelude.{ℕ, ◌≡◌, ◌≢◌, ◌↔◌, ◌+◌, ◌<◌, ◌≤◌, ◌∷◌, ◌++◌, [], IfSome, IsTrue, MatchOption, Some, length, take};
-ghost use Rattle.std.specs.Net.Text.{leading_zero_digits, longest_zero_run};
-ghost use Rattle.std.specs.Char.{digit_char};
+ghost use Rattle.std.specs.Net.Text.{longest_zero_run};
 ghost use Rattle.wire_addr.specs.Block.{IsIn};
 ghost use Rattle.wire_addr.specs.Class.{HasScope, IsIpv6Unicast, ipv6_global_unicast, ipv6_link_local, ipv6_loopback, ipv6_multicast, ipv6_solicited_node, ipv6_unique_local, ipv6_unspecified, link_address, solicited_node};
 ghost use Rattle.wire_addr.specs.Octets.{AreOctets, groups_of, mapped_prefix, octets_of};
 ghost use Rattle.wire_addr.specs.Prefix.{IsMasked, IsNetmask, number_of};
-ghost use Rattle.wire_addr.specs.Printed.{colon_hex, hex, ipv6_text};
+ghost use Rattle.wire_addr.specs.Printed.{ipv6_text};
 
 use crate::prefix::mask_128;
+use crate::print::{push_dotted, push_groups};
 use crate::{HardwareAddress, Ipv4Address, Ipv6Cidr, Ipv6MulticastScope};
+use arrayvec::ArrayString;
 use std::fmt;
 use std::marker::Model;
 
@@ -254,6 +255,29 @@ impl Ipv6Address {
         (bits == mask_128(ones)).then_some(ones)
     }
 
+    /// Its text by RFC 5952, section 4; the last four octets are dotted where it stands for an IPv4
+    /// address.
+    pub fn text(&self) -> ArrayString<39>
+        ensures { result.bytes ≡ ipv6_text self.now }
+    {
+        let mut text = ArrayString::new();
+        if let Some(ipv4) = self.to_ipv4_mapped() {
+            text.push_str("::ffff:");
+            push_dotted(&mut text, ipv4.octets());
+            return text;
+        }
+        let groups = self.segments();
+        let (start, len) = longest_zero_run(&groups);
+        if len >= MIN_RUN {
+            push_groups(&mut text, &groups[..start]);
+            text.push_str("::");
+            push_groups(&mut text, &groups[start + len..]);
+        } else {
+            push_groups(&mut text, &groups);
+        }
+        text
+    }
+
     /// The IPv4 address that it stands for, if it is a mapped one.
     fn to_ipv4_mapped(&self) -> Option<Ipv4Address>
         ensures { MatchOption result (take 12 self.now ≢ mapped_prefix)
@@ -303,70 +327,6 @@ impl From<[u16; 8]> for Ipv6Address {
     }
 }
 
-/// A group in lower-case hex with no leading zeros: what `{:x}` writes too, in more steps.
-#[derive(Clone, Copy)]
-struct Hex(u16);
-
-/// The lower-case digit of a number.
-fn hex_digit(n: u16) -> u8
-    requires { n < 16 }
-    ensures value { result ≡ digit_char n }
-    ensures ascii { result < 128 }
-{
-    if n < 10 {
-        b'0' + n as u8
-    } else {
-        b'a' + (n - 10) as u8
-    }
-}
-
-/// How many of the four digits of a group are leading zeros, the last digit apart.
-fn leading_zeros(group: u16) -> usize
-    ensures value { result ≡ leading_zero_digits group }
-    ensures within { result < 4 }
-{
-    match group {
-        0x1000.. => 0,
-        0x100.. => 1,
-        0x10.. => 2,
-        _ => 3,
-    }
-}
-
-impl fmt::Display for Hex {
-    ghost output = { λ group. Some (hex group.0) };
-
-    fn fmt<W: fmt::Write>(&self, f: &mut fmt::Formatter<W>) -> fmt::Result {
-        let group = self.0;
-        let digits = [
-            hex_digit(group / 0x1000),
-            hex_digit(group / 0x100 % 16),
-            hex_digit(group / 0x10 % 16),
-            hex_digit(group % 16),
-        ];
-        let zeros = leading_zeros(group);
-        f.write_str(str::from_utf8(&digits[zeros..]).unwrap())
-    }
-}
-
-/// Groups in hex, joined by `:`.
-#[derive(Clone, Copy)]
-struct Groups<'a>(&'a [u16]);
-
-impl fmt::Display for Groups<'_> {
-    ghost output = { λ groups. Some (colon_hex groups.0.now) };
-
-    fn fmt<W: fmt::Write>(&self, f: &mut fmt::Formatter<W>) -> fmt::Result {
-        if let [first, rest @ ..] = self.0 {
-            write!(f, "{}", Hex(*first))?;
-            for group in rest {
-                write!(f, ":{}", Hex(*group))?;
-            }
-        }
-        Ok(())
-    }
-}
-
 /// Where the longest run of zeros begins, the first of several, and how long it is.
 fn longest_zero_run(groups: &[u16]) -> (usize, usize)
     ensures value { result ≡ longest_zero_run groups.now }
@@ -385,24 +345,11 @@ fn longest_zero_run(groups: &[u16]) -> (usize, usize)
     (start, len)
 }
 
-/// The text of RFC 5952, section 4; the last four octets are dotted where the address stands for
-/// an IPv4 address.
+/// The text alone, whatever width or precision the formatter has.
 impl fmt::Display for Ipv6Address {
     ghost output = { λ octets. Some (ipv6_text octets) };
 
     fn fmt<W: fmt::Write>(&self, f: &mut fmt::Formatter<W>) -> fmt::Result {
-        if let Some(ipv4) = self.to_ipv4_mapped() {
-            return write!(f, "::ffff:{ipv4}");
-        }
-        let groups = self.segments();
-        let (start, len) = longest_zero_run(&groups);
-        if len >= MIN_RUN {
-            let head = Groups(&groups[..start]);
-            let tail = Groups(&groups[start + len..]);
-            write!(f, "{head}::{tail}")
-        } else {
-            let all = Groups(&groups);
-            write!(f, "{all}")
-        }
+        f.write_str(self.text().as_str())
     }
 }

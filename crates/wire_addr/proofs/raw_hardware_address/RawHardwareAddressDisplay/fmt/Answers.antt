@@ -1,7 +1,7 @@
 use Rattle.std.proofs.Common.{◌≡◌, ◌-◌, get_or, take, drop, length, arith, rules}
 use Rattle.std.proofs.lemmas.Grind.{common_steps}
-use Rattle.wire_addr.proofs.Prints.{coloned-pairs, padded, padded-hex_byte}
-use Rattle.wire_addr.specs.Printed.{hex_byte}
+use Rattle.wire_addr.proofs.Prints.{hex_joined-pairs, padded, padded-hex_byte}
+use Rattle.wire_addr.specs.Printed.{colon, hex_byte}
 use Rattle.wire_addr.proofs.raw_hardware_address.RawHardwareAddressDisplay.fmt.Goals as goal
 
 pub loop-octet-init : goal.loop-octet-init
@@ -17,4 +17,4 @@ loop-octet-preserved g c =
     first_of (search rules, grind (arith, common_steps))
 
 pub returns-after-loop-octet-clause-writes : goal.returns-after-loop-octet-clause-writes
-returns-after-loop-octet-clause-writes g c = rw (coloned-pairs c.args.self.now) (first_of (search rules, grind (arith, common_steps)))
+returns-after-loop-octet-clause-writes g c = rw (hex_joined-pairs colon c.args.self.now) (first_of (search rules, grind (arith, common_steps)))
