@@ -7,6 +7,7 @@ ghost use Rattle.wire_addr.specs.Class.{HasScope, IsIpv6Unicast, ipv6_global_uni
 ghost use Rattle.wire_addr.specs.Octets.{AreOctets, groups_of, mapped_prefix, octets_of};
 ghost use Rattle.wire_addr.specs.Prefix.{IsMasked, IsNetmask, number_of};
 ghost use Rattle.wire_addr.specs.Printed.{ipv6_text};
+ghost use Rattle.arrayvec.specs.ArrayString.{array_string_len};
 
 use crate::prefix::mask_128;
 use crate::print::{push_dotted, push_groups};
@@ -38,8 +39,9 @@ pub const IPV6_LINK_LOCAL_ALL_RPL_NODES: Ipv6Address = Ipv6Address([
     0xff, 0x02, 0, 0, 0, 0, 0, 0, 0, 0, 0, 0, 0, 0, 0, 0x1a,
 ]);
 
-/// The first twelve octets of an address that stands for an IPv4 address (RFC 4291, section 2.5.5.2).
-const MAPPED_PREFIX: [u8; 12] = [0, 0, 0, 0, 0, 0, 0, 0, 0, 0, 0xff, 0xff];
+/// The number of the first 96 bits of an address that stands for an IPv4 address (RFC 4291, section
+/// 2.5.5.2).
+const MAPPED_PREFIX: u128 = 0xffff;
 
 /// The fewest zero groups that `::` stands for (RFC 5952, section 4.2.2).
 const MIN_RUN: usize = 2;
@@ -257,25 +259,33 @@ impl Ipv6Address {
 
     /// Its text by RFC 5952, section 4; the last four octets are dotted where it stands for an IPv4
     /// address.
+    #[inline(always)]
     pub fn text(&self) -> ArrayString<39>
         ensures { result.bytes ≡ ipv6_text self.now }
     {
         let mut text = ArrayString::new();
+        self.push_to(&mut text);
+        text
+    }
+
+    /// Appends its text. There must be room.
+    fn push_to<const CAP: usize>(&self, text: &mut ArrayString<CAP>)
+        requires { array_string_len text.old + 39 ≤ CAP }
+        ensures { text.new.bytes ≡ text.old.bytes ++ ipv6_text self.now }
+    {
         if let Some(ipv4) = self.to_ipv4_mapped() {
             text.push_str("::ffff:");
-            push_dotted(&mut text, ipv4.octets());
-            return text;
+            return push_dotted(text, ipv4.octets());
         }
         let groups = self.segments();
         let (start, len) = longest_zero_run(&groups);
         if len >= MIN_RUN {
-            push_groups(&mut text, &groups[..start]);
+            push_groups(text, &groups[..start]);
             text.push_str("::");
-            push_groups(&mut text, &groups[start + len..]);
+            push_groups(text, &groups[start + len..]);
         } else {
-            push_groups(&mut text, &groups);
+            push_groups(text, &groups);
         }
-        text
     }
 
     /// The IPv4 address that it stands for, if it is a mapped one.
@@ -284,7 +294,7 @@ impl Ipv6Address {
             (λ ipv4. self.now ≡ mapped_prefix ++ ipv4) }
     {
         let [.., a, b, c, d] = self.0;
-        let is_mapped = self.0[..12] == MAPPED_PREFIX[..];
+        let is_mapped = self.to_bits() >> 32 == MAPPED_PREFIX;
         is_mapped.then_some(Ipv4Address::new(a, b, c, d))
     }
 }
