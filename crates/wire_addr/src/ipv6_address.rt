@@ -338,21 +338,18 @@ impl From<[u16; 8]> for Ipv6Address {
 }
 
 /// Where the longest run of zeros begins, the first of several, and how long it is.
-fn longest_zero_run(groups: &[u16]) -> (usize, usize)
+fn longest_zero_run(groups: &[u16; 8]) -> (usize, usize)
     ensures value { result ≡ longest_zero_run groups.now }
-    ensures within { result.0 + result.1 ≤ length groups.now }
+    ensures within { result.0 + result.1 ≤ 8 }
 {
-    let mut start = groups.len();
-    let mut len = 0;
+    // A run as one number: the longer is the greater, and of two as long the one that begins first.
+    let mut longest = 0;
     let mut run = 0;
-    for i in (0..groups.len()).rev() {
+    for i in (0..8).rev() {
         run = if groups[i] == 0 { run + 1 } else { 0 };
-        if run >= len {
-            start = i;
-            len = run;
-        }
+        longest = longest.max(8 * run + 7 - i);
     }
-    (start, len)
+    (7 - longest % 8, longest / 8)
 }
 
 /// The text alone, whatever width or precision the formatter has.
