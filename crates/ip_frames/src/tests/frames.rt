@@ -3,6 +3,7 @@
 use crate::devices::FrameSink;
 use crate::memory::{MemorySink, MemorySource};
 use crate::run::run;
+use crate::tests::examples::EXAMPLES;
 use std::alloc::Global;
 use std::process::Abort;
 
@@ -17,10 +18,15 @@ fn compare(rt: &impl Abort, alloc: Global, input: &[u8], output: &[u8]) {
 }
 
 #[test]
+fn examples(rt: HostRuntime) {
+    for (input, output) in EXAMPLES {
+        compare(&rt, rt.alloc(), input, output);
+    }
+}
+
+#[test]
 fn lines(rt: HostRuntime) {
-    let cases: [(&[u8], &[u8]); 8] = [
-        (b"", b""),
-        (b"\n0g\n", b"EthernetII (wire::Error)\n\nnot hex\n\n"),
+    let cases: [(&[u8], &[u8]); 6] = [
         (b"abc\n01 02\n\xff\n", b"not hex\n\nnot hex\n\nnot hex\n\n"),
         (b"0102", b"EthernetII (wire::Error)\n\n"),
         (b"0102\r", b"not hex\n\n"),
@@ -125,73 +131,13 @@ fn packets_that_are_read(rt: HostRuntime) {
     }
 }
 
-// The padding behind a packet is dropped, whatever is said of the datagram in it.
-#[test]
-fn datagrams(rt: HostRuntime) {
-    let cases: [(&[u8], &[u8]); 5] = [
-        (
-            b"010203040506111213141516080045000020000040004011b779c0a80101c0a80102bf000035000c124daa0000ff0000000000000000000000000000",
-            b"EthernetII src=11-12-13-14-15-16 dst=01-02-03-04-05-06 type=IPv4\n\
-                IPv4 src=192.168.1.1 dst=192.168.1.2 proto=UDP\n\
-                UDP src=48896 dst=53 len=4\n\
-                again 010203040506111213141516080045000020000040004011b779c0a80101c0a80102bf000035000c124daa0000ff\n\n",
-        ),
-        (
-            b"010203040506111213141516080045000020000040004011b779c0a80101c0a80102bf000035000c124eaa0000ff0000000000000000000000000000",
-            b"EthernetII src=11-12-13-14-15-16 dst=01-02-03-04-05-06 type=IPv4\n\
-                IPv4 src=192.168.1.1 dst=192.168.1.2 proto=UDP\n\
-                UDP src=48896 dst=53 len=4 (checksum incorrect)\n\
-                again 010203040506111213141516080045000020000040004011b779c0a80101c0a80102bf000035000c124eaa0000ff\n\n",
-        ),
-        (
-            b"010203040506111213141516080045000020000040004011b779c0a80101c0a80102bf000035000c8371aa0000ff0000000000000000000000000000",
-            b"EthernetII src=11-12-13-14-15-16 dst=01-02-03-04-05-06 type=IPv4\n\
-                IPv4 src=192.168.1.1 dst=192.168.1.2 proto=UDP\n\
-                UDP src=48896 dst=53 len=4 (partial checksum correct)\n\
-                again 010203040506111213141516080045000020000040004011b779c0a80101c0a80102bf000035000c8371aa0000ff\n\n",
-        ),
-        (
-            b"010203040506111213141516080045000020000040004011b779c0a80101c0a80102bf000000000c124daa0000ff0000000000000000000000000000",
-            b"EthernetII src=11-12-13-14-15-16 dst=01-02-03-04-05-06 type=IPv4\n\
-                IPv4 src=192.168.1.1 dst=192.168.1.2 proto=UDP\n\
-                UDP src=48896 dst=0 len=4 (refused)\n\
-                again 010203040506111213141516080045000020000040004011b779c0a80101c0a80102bf000000000c124daa0000ff\n\n",
-        ),
-        // One byte short of what its header speaks of.
-        (
-            b"010203040506111213141516080045000020000040004011b779c0a80101c0a80102bf000035000d124daa0000ff",
-            b"EthernetII src=11-12-13-14-15-16 dst=01-02-03-04-05-06 type=IPv4\n\
-                IPv4 src=192.168.1.1 dst=192.168.1.2 proto=UDP\n\
-                UDP (wire::Error)\n\
-                again 010203040506111213141516080045000020000040004011b779c0a80101c0a80102bf000035000d124daa0000ff\n\n",
-        ),
-    ];
-    for (input, output) in cases {
-        compare(&rt, rt.alloc(), input, output);
-    }
-}
-
 // The padding behind a packet is dropped, whatever is said of the segment in it.
 #[test]
 fn segments(rt: HostRuntime) {
-    let cases: [(&[u8], &[u8]); 9] = [
-        (
-            b"01020304050611121314151608004500002c000040004006b778c0a80101c0a80102bf0000500123456700000000500201237a8d0000aa0000ff",
-            b"EthernetII src=11-12-13-14-15-16 dst=01-02-03-04-05-06 type=IPv4\n\
-                IPv4 src=192.168.1.1 dst=192.168.1.2 proto=TCP\n\
-                TCP src=48896 dst=80 syn seq=19088743 win=291 len=4\n\
-                again 01020304050611121314151608004500002c000040004006b778c0a80101c0a80102bf0000500123456700000000500201237a8d0000aa0000ff\n\n",
-        ),
+    let cases: [(&[u8], &[u8]); 7] = [
         // FIN and RST at once. The padding behind the packet is dropped.
         (
             b"010203040506111213141516080045000030000040004006b774c0a80101c0a80102bf0000500123456789abcdef6035012301b6020103030c01aa0000ff0000000000000000000000000000",
-            b"EthernetII src=11-12-13-14-15-16 dst=01-02-03-04-05-06 type=IPv4\n\
-                IPv4 src=192.168.1.1 dst=192.168.1.2 proto=TCP\n\
-                TCP src=48896 dst=80 fin rst seq=19088743 ack=2309737967 win=291 urg=513 len=4 ws=12 (refused)\n\
-                again 010203040506111213141516080045000030000040004006b774c0a80101c0a80102bf0000500123456789abcdef6035012301b6020103030c01aa0000ff\n\n",
-        ),
-        (
-            b"010203040506111213141516080045000030000040004006b774c0a80101c0a80102bf0000500123456789abcdef6035012301b6020103030c01aa0000ff",
             b"EthernetII src=11-12-13-14-15-16 dst=01-02-03-04-05-06 type=IPv4\n\
                 IPv4 src=192.168.1.1 dst=192.168.1.2 proto=TCP\n\
                 TCP src=48896 dst=80 fin rst seq=19088743 ack=2309737967 win=291 urg=513 len=4 ws=12 (refused)\n\
@@ -283,13 +229,6 @@ fn segments_settle(rt: HostRuntime) {
 #[test]
 fn fragments(rt: HostRuntime) {
     let cases: [(&[u8], &[u8]); 3] = [
-        (
-            b"01020304050611121314151608004500001e010262031a01d56e1112131421222324aa0000000000000000ff",
-            b"EthernetII src=11-12-13-14-15-16 dst=01-02-03-04-05-06 type=IPv4\n\
-                IPv4 src=17.18.19.20 dst=33.34.35.36 proto=ICMP\n\
-                fragment offset=4120 more=true id=258\n\
-                again 01020304050611121314151608004500001e010262031a01d56e1112131421222324aa0000000000000000ff\n\n",
-        ),
         // The first one, with padding, which stays.
         (
             b"010203040506111213141516080045000018000720004001f2721112131421222324aa0000ff00",
@@ -305,6 +244,13 @@ fn fragments(rt: HostRuntime) {
                 fragment offset=65528 more=false id=65535\n\
                 again 010203040506111213141516080045000018ffff1fff4001f27a1112131421222324aa0000ff\n\n",
         ),
+        // With another checksum. The note stands alone: nothing is said of the fragment, and nothing is built again.
+        (
+            b"010203040506111213141516080045000018ffff1fff4001f37a1112131421222324aa0000ff",
+            b"EthernetII src=11-12-13-14-15-16 dst=01-02-03-04-05-06 type=IPv4\n\
+                IPv4 src=17.18.19.20 dst=33.34.35.36 proto=ICMP (checksum incorrect)\n\
+                again 010203040506111213141516080045000018ffff1fff4001f37a1112131421222324aa0000ff\n\n",
+        ),
     ];
     for (input, output) in cases {
         compare(&rt, rt.alloc(), input, output);
@@ -314,12 +260,6 @@ fn fragments(rt: HostRuntime) {
 #[test]
 fn packets_that_are_refused(rt: HostRuntime) {
     let cases: [(&[u8], &[u8]); 6] = [
-        (
-            b"0102030405061112131415160800",
-            b"EthernetII src=11-12-13-14-15-16 dst=01-02-03-04-05-06 type=IPv4\n\
-                IPv4 (wire::Error)\n\
-                again 0102030405061112131415160800\n\n",
-        ),
         // One byte short of a header.
         (
             b"010203040506111213141516080045000018000040004001d27911121314212223",
@@ -355,27 +295,13 @@ fn packets_that_are_refused(rt: HostRuntime) {
                 IPv4 (wire::Error) src=17.18.19.20 dst=33.34.35.36 proto=ICMP hop_limit=64 hlen=28 tlen=24 df\n\
                 again 010203040506111213141516080047000018000040004001d2791112131421222324aa0000ff\n\n",
         ),
-    ];
-    for (input, output) in cases {
-        compare(&rt, rt.alloc(), input, output);
-    }
-}
-
-// The note stands alone: nothing is said of fragments, and nothing is built again.
-#[test]
-fn packets_with_another_checksum(rt: HostRuntime) {
-    let cases: [(&[u8], &[u8]); 2] = [
+        // A datagram one byte short of what its header speaks of.
         (
-            b"010203040506111213141516080045000020000040004011b778c0a80101c0a80102bf000035000c124daa0000ff0000000000000000000000000000",
+            b"010203040506111213141516080045000020000040004011b779c0a80101c0a80102bf000035000d124daa0000ff",
             b"EthernetII src=11-12-13-14-15-16 dst=01-02-03-04-05-06 type=IPv4\n\
-                IPv4 src=192.168.1.1 dst=192.168.1.2 proto=UDP (checksum incorrect)\n\
-                again 010203040506111213141516080045000020000040004011b778c0a80101c0a80102bf000035000c124daa0000ff0000000000000000000000000000\n\n",
-        ),
-        (
-            b"010203040506111213141516080045000018ffff1fff4001f37a1112131421222324aa0000ff",
-            b"EthernetII src=11-12-13-14-15-16 dst=01-02-03-04-05-06 type=IPv4\n\
-                IPv4 src=17.18.19.20 dst=33.34.35.36 proto=ICMP (checksum incorrect)\n\
-                again 010203040506111213141516080045000018ffff1fff4001f37a1112131421222324aa0000ff\n\n",
+                IPv4 src=192.168.1.1 dst=192.168.1.2 proto=UDP\n\
+                UDP (wire::Error)\n\
+                again 010203040506111213141516080045000020000040004011b779c0a80101c0a80102bf000035000d124daa0000ff\n\n",
         ),
     ];
     for (input, output) in cases {
@@ -385,28 +311,13 @@ fn packets_with_another_checksum(rt: HostRuntime) {
 
 #[test]
 fn packets_of_ipv6(rt: HostRuntime) {
-    let cases: [(&[u8], &[u8]); 8] = [
-        (
-            b"01020304050611121314151686dd60000000000c1140fe800000000000000000000000000001ff02000000000000000000000000000100010002000c024effffffff",
-            b"EthernetII src=11-12-13-14-15-16 dst=01-02-03-04-05-06 type=IPv6\n\
-                IPv6 src=fe80::1 dst=ff02::1 nxt_hdr=UDP hop_limit=64\n\
-                UDP src=1 dst=2 len=4\n\
-                again 01020304050611121314151686dd60000000000c1140fe800000000000000000000000000001ff02000000000000000000000000000100010002000c024effffffff\n\n",
-        ),
+    let cases: [(&[u8], &[u8]); 6] = [
         // Padding, traffic class and flow label are dropped.
         (
             b"01020304050611121314151686dd6abcdef000043b40fe800000000000000000000000000001ff020000000000000000000000000001aa0000ff0102",
             b"EthernetII src=11-12-13-14-15-16 dst=01-02-03-04-05-06 type=IPv6\n\
                 IPv6 src=fe80::1 dst=ff02::1 nxt_hdr=IPv6-NoNxt hop_limit=64\n\
                 again 01020304050611121314151686dd6000000000043b40fe800000000000000000000000000001ff020000000000000000000000000001aa0000ff\n\n",
-        ),
-        // The fragment header is read behind its first two bytes.
-        (
-            b"01020304050611121314151686dd6000000000082c40fe800000000000000000000000000001ff02000000000000000000000000000111000a0000010932",
-            b"EthernetII src=11-12-13-14-15-16 dst=01-02-03-04-05-06 type=IPv6\n\
-                IPv6 src=fe80::1 dst=ff02::1 nxt_hdr=IPv6-Frag hop_limit=64\n\
-                IPv6 Fragment offset=320 more=false ident=67890\n\
-                again 01020304050611121314151686dd6000000000082c40fe800000000000000000000000000001ff02000000000000000000000000000111000a0000010932\n\n",
         ),
         // One byte short of a fragment header, and none of it.
         (
