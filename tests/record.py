@@ -578,6 +578,26 @@ def arp_bits():
         yield ethernet(ARP, bytes(turned) + b"\0\0")
 
 
+def worked():
+    """A frame of each kind: whole, with wrong checksums, refused, a fragment, without a packet. Memory is refused in each."""
+    datagram, segment = "45000020 00004000 4011b779 c0a80101 c0a80102", "45000030 00004000 4006b774 c0a80101 c0a80102"
+    ends = "fe800000000000000000000000000001 ff020000000000000000000000000001"
+    for frame in [
+        "0800" + datagram + "bf000035 000c124d aa0000ff" + 14 * "00",
+        "0800" + datagram + "bf000035 000c124e aa0000ff" + 14 * "00",
+        "0800" + datagram + "bf000035 000c8371 aa0000ff" + 14 * "00",
+        "0800" + datagram + "bf000000 000c124d aa0000ff" + 14 * "00",
+        "0800" + datagram.replace("b779", "b778") + "bf000035 000c124d aa0000ff" + 14 * "00",
+        "0800 4500001e 01026203 1a01d56e 11121314 21222324 aa00000000 00000000ff",
+        "0800 4500002c 00004000 4006b778 c0a80101 c0a80102 bf000050 01234567 00000000 50020123 7a8d0000 aa0000ff",
+        "0800" + segment + "bf000050 01234567 89abcdef 60350123 01b60201 03030c01 aa0000ff",
+        "86dd 60000000 000c1140" + ends + "00010002 000c024e ffffffff",
+        "86dd 60000000 00082c40" + ends + "1100 0a0000010932",
+        "0800",
+    ]:
+        yield bytes.fromhex("010203040506 111213141516" + frame)
+
+
 def bytes_lines():
     """Lines that are no hex, or hex of another look. The line feeds are part of the case."""
     frame = packet().hex().encode()
@@ -590,7 +610,7 @@ def bytes_lines():
 FILES = [shapes, truncations, versions_and_lengths, options, fragments, checksums, bits, padding, types,
          ipv6_shapes, ipv6_addresses, ipv6_truncations, ipv6_versions_and_lengths, ipv6_fragments, ipv6_bits,
          udp_shapes, udp_lengths, udp_truncations, udp_checksums, tcp_shapes, tcp_lengths, tcp_truncations,
-         tcp_checksums, tcp_bits, tcp_options, tcp_sack, arp_shapes, arp_lengths, arp_truncations, arp_bits]
+         tcp_checksums, tcp_bits, tcp_options, tcp_sack, arp_shapes, arp_lengths, arp_truncations, arp_bits, worked]
 
 
 def record(folder, ending, files, reference):
