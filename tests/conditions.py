@@ -35,23 +35,24 @@ def clauses(head):
 
 
 def functions(text):
-    """Each function and operator with its type: rt fmt's layout tells where they begin and where a body does."""
-    owner = operators = None
+    """Each function and operator with its type. rt fmt's layout tells where they begin, and where a body does: by a brace at
+    the indent of its function, or at the end of a signature without clauses."""
+    owner = trait = None
     lines = text.split("\n")
     for at, line in enumerate(lines):
         block = re.match(r"impl(?:<.*?>)? (.* for )?(\w+)(<.*>)? {$", line)
         if block:
-            operators, owner = block.group(1), block.group(2)
+            trait, owner = block.group(1), block.group(2)
         elif line == "}":
-            operators = owner = None
-        found = re.match(r"( *)pub fn (\w+)", line)
-        member = operators and re.match(r"    ghost (can_\w+) =", line)
+            owner = trait = None
+        found = re.match(r"( *)pub fn (\w+)", line) or trait and re.match(r"(    )fn (\w+)", line)
+        member = trait and re.match(r"    ghost (can_\w+) =", line)
         if found:
             body = re.compile(found.group(1) + "{| *(?!requires|ensures)[^ ].* {}?$")
             end = next(n for n in range(at, len(lines)) if body.match(lines[n]))
             yield owner, found.group(2), "\n".join(lines[at : end + 1])
         elif member:
-            yield owner, OPERATORS[member.group(1)], line
+            yield owner, OPERATORS.get(member.group(1), member.group(1)), line
 
 
 def shown(clause):
