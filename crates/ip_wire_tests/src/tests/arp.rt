@@ -1,5 +1,6 @@
 //! ARP packets.
 
+use super::OLD;
 use ip_wire::{
     ArpHardware, ArpOperation, ArpPacket, ArpPacketMut, ArpRepr, Error, EthernetAddress,
     EthernetProtocol, Ipv4Address,
@@ -155,7 +156,7 @@ fn reads_ethernet_and_ipv4_alone(rt: HostRuntime) {
 #[test]
 fn writes_a_packet_and_leaves_the_rest(rt: HostRuntime) {
     for operation in [ArpOperation::Request, ArpOperation::Unknown(1)] {
-        for old in [0x00, 0xa5, 0xff] {
+        for old in OLD {
             let mut want = [old; 30];
             want[..28].copy_from_slice(&PACKET);
             let mut buffer = [old; 30];

@@ -3,7 +3,7 @@
 ghost use Rattle.std.specs.Prelude.{◌≡◌, ◌+◌, length};
 ghost use Rattle.ip_wire.specs.Ethernet.{frame_bytes_mut};
 
-use super::{FRAME_DST, FRAME_SRC};
+use super::{FRAME_DST, FRAME_SRC, OLD};
 use ip_wire::{
     ETHERNET_HEADER_LEN, Error, EthernetAddress, EthernetFrame, EthernetFrameMut, EthernetProtocol,
     EthernetRepr,
@@ -89,12 +89,22 @@ fn writes_every_field(rt: HostRuntime) -> Result<(), Fail> {
 
 #[test]
 fn writes_a_header_and_leaves_the_rest(rt: HostRuntime) {
-    let mut buffer = [0xa5; 16];
-    let repr = header(EthernetProtocol::Ipv4);
-    repr.emit(&mut EthernetFrameMut::new_unchecked(&mut buffer));
-    assert_eq!(rt; &buffer[..14], &IPV4_FRAME[..14]);
-    assert_eq!(rt; &buffer[14..], [0xa5, 0xa5].as_slice());
-    assert_eq!(rt; repr.buffer_len(), ETHERNET_HEADER_LEN);
+    for (ethertype, frame) in [
+        (EthernetProtocol::Ipv4, IPV4_FRAME.as_slice()),
+        (EthernetProtocol::Unknown(0x0800), &IPV4_FRAME),
+        (EthernetProtocol::Ipv6, &IPV6_FRAME),
+    ] {
+        let repr = header(ethertype);
+        assert!(rt; frame.len() >= 14);
+        for old in OLD {
+            let mut want = [old; 16];
+            want[..14].copy_from_slice(&frame[..14]);
+            let mut buffer = [old; 16];
+            repr.emit(&mut EthernetFrameMut::new_unchecked(&mut buffer));
+            assert_eq!(rt; buffer, want);
+        }
+        assert_eq!(rt; repr.buffer_len(), ETHERNET_HEADER_LEN);
+    }
     assert_eq!(rt; EthernetFrame::header_len(), 14);
     assert_eq!(rt; EthernetFrame::buffer_len(50), 64);
 }
@@ -130,6 +140,7 @@ fn prints_the_header(rt: HostRuntime) -> Result<(), Fail> {
             "EthernetII src=11-12-13-14-15-16 dst=01-02-03-04-05-06 type=0x0b00",
         ),
         (&IPV4_FRAME[..13], "EthernetII (wire::Error)"),
+        (&[], "EthernetII (wire::Error)"),
     ] {
         let frame = EthernetFrame::new_unchecked(bytes);
         assert_eq!(rt; format!(in rt.alloc(); "{frame}")?.as_str(), text);

@@ -3,7 +3,7 @@
 ghost use Rattle.std.specs.Prelude.{◌≡◌, ◌≤◌};
 ghost use Rattle.ip_wire.specs.Ip.{max_payload_len, payload_len_of};
 
-use super::{IPV4_FRAGMENT, IPV4_PACKET, IPV6_PACKET, ipv4_header, ipv6_header};
+use super::{IPV4_FRAGMENT, IPV4_PACKET, IPV6_PACKET, OLD, ipv4_header, ipv6_header};
 use ip_wire::{Error, IpAddress, IpPacket, IpProtocol, IpRepr, IpVersion};
 use net_base::{Checksum, ChecksumCapabilities};
 use std::test::Fail;
@@ -74,35 +74,41 @@ fn says_what_its_version_says(rt: HostRuntime) {
     assert_eq!(rt; (ipv6.header_len(), ipv6.payload_len()), (40, 12));
 }
 
-/// A buffer of `a5`, in which a header was written.
-fn emitted(value: IpRepr, caps: &ChecksumCapabilities) -> [u8; 41]
+/// A buffer of such bytes, in which a header was written.
+fn emitted(value: IpRepr, old: u8, caps: &ChecksumCapabilities) -> [u8; 41]
     requires { payload_len_of value ≤ max_payload_len value }
 {
-    let mut buffer = [0xa5; 41];
+    let mut buffer = [old; 41];
     value.emit(&mut buffer, caps);
     buffer
 }
 
 #[test]
 fn emits_an_ipv4_header_and_leaves_the_rest(rt: HostRuntime) {
-    let mut want = [0xa5; 41];
-    want[..20].copy_from_slice(&IPV4_PACKET[..20]);
-    let buffer = emitted(
-        IpRepr::Ipv4(ipv4_header()),
-        &ChecksumCapabilities::default(),
-    );
-    assert_eq!(rt; buffer, want);
+    for old in OLD {
+        let mut want = [old; 41];
+        want[..20].copy_from_slice(&IPV4_PACKET[..20]);
+        let buffer = emitted(
+            IpRepr::Ipv4(ipv4_header()),
+            old,
+            &ChecksumCapabilities::default(),
+        );
+        assert_eq!(rt; buffer, want);
+    }
 }
 
 #[test]
 fn emits_an_ipv6_header_and_leaves_the_rest(rt: HostRuntime) {
-    let mut want = [0xa5; 41];
-    want[..40].copy_from_slice(&IPV6_PACKET[..40]);
-    let buffer = emitted(
-        IpRepr::Ipv6(ipv6_header()),
-        &ChecksumCapabilities::default(),
-    );
-    assert_eq!(rt; buffer, want);
+    for old in OLD {
+        let mut want = [old; 41];
+        want[..40].copy_from_slice(&IPV6_PACKET[..40]);
+        let buffer = emitted(
+            IpRepr::Ipv6(ipv6_header()),
+            old,
+            &ChecksumCapabilities::default(),
+        );
+        assert_eq!(rt; buffer, want);
+    }
 }
 
 #[test]
@@ -111,6 +117,6 @@ fn emits_a_checksum_where_it_is_to_be_computed(rt: HostRuntime) {
         ipv4: Checksum::Rx,
         ..ChecksumCapabilities::default()
     };
-    let buffer = emitted(IpRepr::Ipv4(ipv4_header()), &caps);
+    let buffer = emitted(IpRepr::Ipv4(ipv4_header()), 0xa5, &caps);
     assert_eq!(rt; &buffer[10..12], [0, 0].as_slice());
 }

@@ -2,13 +2,41 @@
 
 ghost use Rattle.ip_wire.specs.Ipv4.{HasLengths, packet_bytes, packet_bytes_mut};
 
-use super::{IPV4_FRAGMENT, IPV4_PACKET, ipv4_header};
+use super::{IPV4_FRAGMENT, IPV4_PACKET, OLD, ipv4_header};
 use ip_wire::{
     Error, IPV4_HEADER_LEN, IpProtocol, Ipv4Address, Ipv4FragKey, Ipv4Packet, Ipv4PacketMut,
     Ipv4Repr, checksum,
 };
 use net_base::{Checksum, ChecksumCapabilities};
 use std::test::Fail;
+
+/// The header of the packet with the longest payload, and with TCP.
+const LONGEST_HEADER: [u8; 20] = [
+    0x45, 0x00, 0xff, 0xff, 0x00, 0x00, 0x40, 0x00, 0x40, 0x01, 0xd2, 0x91, 0x11, 0x12, 0x13, 0x14,
+    0x21, 0x22, 0x23, 0x24,
+];
+
+const TCP_HEADER: [u8; 20] = [
+    0x45, 0x00, 0x00, 0x18, 0x00, 0x00, 0x40, 0x00, 0x40, 0x06, 0xd2, 0x74, 0x11, 0x12, 0x13, 0x14,
+    0x21, 0x22, 0x23, 0x24,
+];
+
+/// A header between other hosts.
+const OTHER_HEADER: [u8; 20] = [
+    0x45, 0x00, 0x00, 0x1e, 0x00, 0x00, 0x40, 0x00, 0x40, 0x06, 0x26, 0xd8, 0x0a, 0x00, 0x00, 0x01,
+    0x0a, 0x00, 0x00, 0x02,
+];
+
+/// Its values.
+fn other_header() -> Ipv4Repr {
+    Ipv4Repr {
+        src_addr: Ipv4Address::new(10, 0, 0, 1),
+        dst_addr: Ipv4Address::new(10, 0, 0, 2),
+        next_header: IpProtocol::Tcp,
+        payload_len: 10,
+        hop_limit: 64,
+    }
+}
 
 /// The fields of a header by their types, in their order, and whether the checksum holds.
 type Fields = ([u8; 5], [u16; 4], [bool; 3], IpProtocol, [Ipv4Address; 2]);
@@ -143,35 +171,56 @@ fn padding_is_no_payload(rt: HostRuntime) -> Result<(), Fail> {
 
 #[test]
 fn refuses_less_than_the_packet(rt: HostRuntime) {
-    let mut buffer = IPV4_FRAGMENT;
-    for len in 0..=30 {
-        let want = if len < 30 { Err(Error) } else { Ok(()) };
-        let bytes = &mut buffer[..len];
-        assert_eq!(rt; Ipv4Packet::new_unchecked(bytes).check_len(), want);
-        assert_eq!(rt; Ipv4Packet::new_checked(bytes).is_ok(), want.is_ok());
-        assert_eq!(rt; Ipv4PacketMut::new_unchecked(bytes).check_len(), want);
-        assert_eq!(rt; Ipv4PacketMut::new_checked(bytes).is_ok(), want.is_ok());
+    let caps = ChecksumCapabilities::default();
+    let ignored = ChecksumCapabilities::ignored();
+    for packet in [IPV4_PACKET.as_slice(), &IPV4_FRAGMENT] {
+        let mut buffer = [0; 30];
+        assert!(rt; packet.len() <= 30);
+        buffer[..packet.len()].copy_from_slice(packet);
+        for len in 0..=packet.len() {
+            let want = if len < packet.len() {
+                Err(Error)
+            } else {
+                Ok(())
+            };
+            let bytes = &mut buffer[..len];
+            let view = Ipv4Packet::new_unchecked(bytes);
+            assert_eq!(rt; view.check_len(), want);
+            assert_eq!(rt; Ipv4Repr::parse(&view, &caps).map(|_| ()), want);
+            assert_eq!(rt; Ipv4Repr::parse(&view, &ignored).map(|_| ()), want);
+            assert_eq!(rt; Ipv4Packet::new_checked(bytes).is_ok(), want.is_ok());
+            assert_eq!(rt; Ipv4PacketMut::new_unchecked(bytes).check_len(), want);
+            assert_eq!(rt; Ipv4PacketMut::new_checked(bytes).is_ok(), want.is_ok());
+        }
     }
 }
 
 #[test]
 fn refuses_impossible_lengths(rt: HostRuntime) {
-    for (header, total_len, is_possible) in [
-        (0x45, 30, true),
-        (0x45, 31, false),
-        (0x45, 128, false),
-        (0x45, 20, true),
-        (0x45, 19, false),
-        (0x45, 0, false),
-        (0x47, 28, true),
-        (0x48, 28, false),
-        (0x44, 30, false),
-        (0x40, 30, false),
+    let caps = ChecksumCapabilities::default();
+    let ignored = ChecksumCapabilities::ignored();
+    for (header, total_len, payload_len) in [
+        (0x45, 24, Ok(4)),
+        (0x45, 0x0000, Err(Error)),
+        (0x45, 0x0013, Err(Error)),
+        (0x45, 0x0014, Ok(0)),
+        (0x45, 0x0019, Err(Error)),
+        (0x45, 0x0080, Err(Error)),
+        (0x40, 24, Err(Error)),
+        (0x44, 24, Err(Error)),
+        (0x46, 24, Ok(0)),
+        (0x47, 24, Err(Error)),
+        (0x4f, 24, Err(Error)),
     ] {
-        let mut buffer = IPV4_FRAGMENT;
+        let mut buffer = IPV4_PACKET;
         buffer[0] = header;
         Ipv4PacketMut::new_unchecked(&mut buffer).set_total_len(total_len);
-        assert_eq!(rt; Ipv4Packet::new_checked(&buffer).is_ok(), is_possible);
+        let packet = Ipv4Packet::new_unchecked(&buffer);
+        assert_eq!(rt; packet.check_len(), payload_len.map(|_| ()));
+        let read = Ipv4Repr::parse(&packet, &ignored);
+        assert_eq!(rt; read.map(|value| value.payload_len), payload_len);
+        let is_whole = buffer == IPV4_PACKET;
+        assert_eq!(rt; Ipv4Repr::parse(&packet, &caps).is_ok(), is_whole);
     }
     let mut zeros = [0; 40];
     zeros[0] = 0x09;
@@ -243,63 +292,58 @@ fn reads_what_no_version_and_no_checksum_forbids(rt: HostRuntime) {
     assert_eq!(rt; Ipv4Repr::parse(&packet.as_view(), &ignored), Err(Error));
 }
 
+/// What is written of a value over bytes of this value: nothing of a longer payload than a header can say.
+fn emitted(value: &Ipv4Repr, old: u8) -> [u8; 24] {
+    let mut buffer = [old; 24];
+    if value.payload_len <= 65515 {
+        let mut packet = Ipv4PacketMut::new_unchecked(&mut buffer);
+        value.emit(&mut packet, &ChecksumCapabilities::default());
+    }
+    buffer
+}
+
 #[test]
 fn writes_a_header_and_leaves_the_rest(rt: HostRuntime) {
-    let caps = ChecksumCapabilities::default();
-    let mut buffer = [0xa5; 24];
-    ipv4_header().emit(&mut Ipv4PacketMut::new_unchecked(&mut buffer), &caps);
-    assert_eq!(rt; &buffer[..20], &IPV4_PACKET[..20]);
-    assert_eq!(rt; &buffer[20..], [0xa5; 4].as_slice());
-    assert_eq!(rt; ipv4_header().buffer_len(), IPV4_HEADER_LEN);
-}
-
-#[test]
-fn writes_a_header_over_zeros(rt: HostRuntime) {
-    let caps = ChecksumCapabilities::default();
-    let repr = Ipv4Repr {
-        src_addr: Ipv4Address::new(10, 0, 0, 1),
-        dst_addr: Ipv4Address::new(10, 0, 0, 2),
-        next_header: IpProtocol::Tcp,
-        payload_len: 10,
-        hop_limit: 64,
+    let longest = Ipv4Repr {
+        payload_len: 65515,
+        ..ipv4_header()
     };
-    let mut buffer = [0; 30];
-    repr.emit(&mut Ipv4PacketMut::new_unchecked(&mut buffer), &caps);
-    let written = [
-        0x45, 0x00, 0x00, 0x1e, 0x00, 0x00, 0x40, 0x00, 0x40, 0x06, 0x26, 0xd8, 0x0a, 0x00, 0x00,
-        0x01, 0x0a, 0x00, 0x00, 0x02, 0, 0, 0, 0, 0, 0, 0, 0, 0, 0,
-    ];
-    assert_eq!(rt; buffer, written);
-    assert_eq!(rt;
-        Ipv4Repr::parse(&Ipv4Packet::new_unchecked(&buffer), &caps),
-        Ok(repr)
-    );
+    let by_number = Ipv4Repr {
+        next_header: IpProtocol::Unknown(6),
+        ..ipv4_header()
+    };
+    for (value, header) in [
+        (ipv4_header(), &IPV4_PACKET[..20]),
+        (longest, &LONGEST_HEADER),
+        (by_number, &TCP_HEADER),
+        (other_header(), &OTHER_HEADER),
+    ] {
+        assert!(rt; header.len() == 20);
+        for old in OLD {
+            let mut want = [old; 24];
+            want[..20].copy_from_slice(header);
+            assert_eq!(rt; emitted(&value, old), want);
+        }
+        assert_eq!(rt; value.buffer_len(), IPV4_HEADER_LEN);
+    }
 }
 
 #[test]
-fn writes_the_largest_payload_length(rt: HostRuntime) {
-    let mut repr = ipv4_header();
-    repr.payload_len = 65515;
-    let mut buffer = [0xa5; 24];
-    let mut packet = Ipv4PacketMut::new_unchecked(&mut buffer);
-    repr.emit(&mut packet, &ChecksumCapabilities::default());
-    assert_eq!(rt; &packet.as_bytes()[2..4], [0xff, 0xff].as_slice());
-    assert_eq!(rt; packet.total_len(), 65535);
-}
-
-#[test]
-fn a_listed_number_is_read_by_its_name(rt: HostRuntime) {
+fn reads_what_is_written(rt: HostRuntime) {
     let caps = ChecksumCapabilities::default();
-    let mut repr = ipv4_header();
-    repr.next_header = IpProtocol::Unknown(6);
-    let mut buffer = [0xa5; 24];
-    repr.emit(&mut Ipv4PacketMut::new_unchecked(&mut buffer), &caps);
-    assert_eq!(rt; buffer[9], 0x06);
-    repr.next_header = IpProtocol::Tcp;
-    assert_eq!(rt;
-        Ipv4Repr::parse(&Ipv4Packet::new_unchecked(&buffer), &caps),
-        Ok(repr)
-    );
+    let mut buffer = [0; 30];
+    buffer[..24].copy_from_slice(&emitted(&other_header(), 0));
+    let packet = Ipv4Packet::new_unchecked(&buffer);
+    assert_eq!(rt; Ipv4Repr::parse(&packet, &caps), Ok(other_header()));
+    // A listed number is read by its name.
+    let read = Ipv4Repr {
+        next_header: IpProtocol::Tcp,
+        ..ipv4_header()
+    };
+    let mut buffer = [0; 24];
+    buffer[..20].copy_from_slice(&TCP_HEADER);
+    let packet = Ipv4Packet::new_unchecked(&buffer);
+    assert_eq!(rt; Ipv4Repr::parse(&packet, &caps), Ok(read));
 }
 
 #[test]

@@ -3,7 +3,7 @@
 ghost use Rattle.std.specs.Prelude.{◌≡◌};
 ghost use Rattle.ip_wire.specs.Ipv6.{HasLengths, packet_bytes, packet_bytes_mut};
 
-use super::{IPV6_PACKET, ipv6_header};
+use super::{IPV6_FRAGMENT, IPV6_PACKET, OLD, ipv6_header};
 use ip_wire::{
     Error, IPV6_HEADER_LEN, IpProtocol, Ipv6Address, Ipv6Packet, Ipv6PacketMut, Ipv6Repr,
 };
@@ -134,48 +134,60 @@ fn padding_is_no_payload(rt: HostRuntime) -> Result<(), Fail> {
 
 #[test]
 fn refuses_less_than_the_packet(rt: HostRuntime) {
-    let mut buffer = IPV6_PACKET;
-    for len in 0..=52 {
-        let want = if len < 52 { Err(Error) } else { Ok(()) };
-        let bytes = &mut buffer[..len];
-        assert_eq!(rt; Ipv6Packet::new_unchecked(bytes).check_len(), want);
-        assert_eq!(rt; Ipv6Packet::new_checked(bytes).is_ok(), want.is_ok());
-        assert_eq!(rt; Ipv6PacketMut::new_unchecked(bytes).check_len(), want);
-        assert_eq!(rt; Ipv6PacketMut::new_checked(bytes).is_ok(), want.is_ok());
+    for packet in [IPV6_PACKET.as_slice(), &IPV6_FRAGMENT] {
+        let mut buffer = [0; 52];
+        assert!(rt; packet.len() <= 52);
+        buffer[..packet.len()].copy_from_slice(packet);
+        for len in 0..=packet.len() {
+            let want = if len < packet.len() {
+                Err(Error)
+            } else {
+                Ok(())
+            };
+            let bytes = &mut buffer[..len];
+            let view = Ipv6Packet::new_unchecked(bytes);
+            assert_eq!(rt; view.check_len(), want);
+            assert_eq!(rt; Ipv6Repr::parse(&view).map(|_| ()), want);
+            assert_eq!(rt; Ipv6Packet::new_checked(bytes).is_ok(), want.is_ok());
+            assert_eq!(rt; Ipv6PacketMut::new_unchecked(bytes).check_len(), want);
+            assert_eq!(rt; Ipv6PacketMut::new_checked(bytes).is_ok(), want.is_ok());
+        }
     }
 }
 
 #[test]
 fn reads_what_its_length_and_version_allow(rt: HostRuntime) {
-    for (first, payload_len, want) in [
-        (0x60, 12, Ok(ipv6_header())),
-        (0x6f, 12, Ok(ipv6_header())),
-        (
-            0x60,
-            0,
-            Ok(Ipv6Repr {
-                payload_len: 0,
-                ..ipv6_header()
-            }),
-        ),
-        (0x60, 13, Err(Error)),
-        (0x40, 12, Err(Error)),
-        (0x70, 12, Err(Error)),
+    let empty = Ipv6Repr {
+        payload_len: 0,
+        ..ipv6_header()
+    };
+    for (first, payload_len, check, read) in [
+        (0x60, 0x000c, Ok(()), Ok(ipv6_header())),
+        (0x6f, 0x000c, Ok(()), Ok(ipv6_header())),
+        (0x60, 0x0000, Ok(()), Ok(empty)),
+        (0x60, 0x000d, Err(Error), Err(Error)),
+        (0x60, 0x010c, Err(Error), Err(Error)),
+        (0x40, 0x000c, Ok(()), Err(Error)),
+        (0x70, 0x000c, Ok(()), Err(Error)),
     ] {
         let mut buffer = IPV6_PACKET;
         buffer[0] = first;
-        buffer[5] = payload_len;
-        assert_eq!(rt; Ipv6Repr::parse(&Ipv6Packet::new_unchecked(&buffer)), want);
+        Ipv6PacketMut::new_unchecked(&mut buffer).set_payload_len(payload_len);
+        let packet = Ipv6Packet::new_unchecked(&buffer);
+        assert_eq!(rt; packet.check_len(), check);
+        assert_eq!(rt; Ipv6Repr::parse(&packet), read);
     }
 }
 
 #[test]
 fn writes_a_header_and_leaves_the_rest(rt: HostRuntime) {
-    let mut want = [0xff; 42];
-    want[..40].copy_from_slice(&IPV6_PACKET[..40]);
-    let mut buffer = [0xff; 42];
-    ipv6_header().emit(&mut Ipv6PacketMut::new_unchecked(&mut buffer));
-    assert_eq!(rt; buffer, want);
+    for old in OLD {
+        let mut want = [old; 42];
+        want[..40].copy_from_slice(&IPV6_PACKET[..40]);
+        let mut buffer = [old; 42];
+        ipv6_header().emit(&mut Ipv6PacketMut::new_unchecked(&mut buffer));
+        assert_eq!(rt; buffer, want);
+    }
     assert_eq!(rt; ipv6_header().buffer_len(), IPV6_HEADER_LEN);
 }
 

@@ -1,5 +1,6 @@
 //! Headers of IPv6 fragments.
 
+use super::OLD;
 use ip_wire::{Error, Ipv6FragmentHeader, Ipv6FragmentHeaderMut, Ipv6FragmentRepr};
 use std::test::Fail;
 
@@ -41,15 +42,27 @@ fn reads_every_field(rt: HostRuntime) -> Result<(), Fail> {
 
 #[test]
 fn refuses_less_than_a_header(rt: HostRuntime) {
-    for len in 0..6 {
-        let mut buffer = LAST;
-        let header = Ipv6FragmentHeader::new_unchecked(&buffer[..len]);
-        assert_eq!(rt; header.check_len(), Err(Error));
-        assert_eq!(rt; Ipv6FragmentRepr::parse(&header), Err(Error));
-        assert!(rt; Ipv6FragmentHeader::new_checked(&buffer[..len]).is_err());
-        assert!(rt; Ipv6FragmentHeaderMut::new_checked(&mut buffer[..len]).is_err());
-        assert_eq!(rt; buffer, LAST);
+    let mut buffer = LAST;
+    for len in 0..=6 {
+        let want = if len < 6 { Err(Error) } else { Ok(()) };
+        let bytes = &mut buffer[..len];
+        let header = Ipv6FragmentHeader::new_unchecked(bytes);
+        assert_eq!(rt; header.check_len(), want);
+        assert_eq!(rt; Ipv6FragmentRepr::parse(&header), want.map(|_| last()));
+        assert_eq!(rt;
+            Ipv6FragmentHeader::new_checked(bytes).is_ok(),
+            want.is_ok()
+        );
+        assert_eq!(rt;
+            Ipv6FragmentHeaderMut::new_unchecked(bytes).check_len(),
+            want
+        );
+        assert_eq!(rt;
+            Ipv6FragmentHeaderMut::new_checked(bytes).is_ok(),
+            want.is_ok()
+        );
     }
+    assert_eq!(rt; buffer, LAST);
 }
 
 #[test]
@@ -104,18 +117,20 @@ fn emits_a_header_and_leaves_the_rest(rt: HostRuntime) {
         more_frags: false,
         ident: 1,
     };
-    let mut buffer = [0xff; 8];
-    let mut header = Ipv6FragmentHeaderMut::new_unchecked(&mut buffer);
-    far.emit(&mut header);
-    let read = Ipv6FragmentRepr::parse(&header.as_view());
-    assert_eq!(rt;
-        read,
-        Ok(Ipv6FragmentRepr {
-            frag_offset: 808,
-            ..far
-        })
-    );
-    assert_eq!(rt; buffer, [0x19, 0x40, 0x00, 0x00, 0x00, 0x01, 0xff, 0xff]);
+    for old in OLD {
+        let mut buffer = [old; 8];
+        let mut header = Ipv6FragmentHeaderMut::new_unchecked(&mut buffer);
+        far.emit(&mut header);
+        let read = Ipv6FragmentRepr::parse(&header.as_view());
+        assert_eq!(rt;
+            read,
+            Ok(Ipv6FragmentRepr {
+                frag_offset: 808,
+                ..far
+            })
+        );
+        assert_eq!(rt; buffer, [0x19, 0x40, 0x00, 0x00, 0x00, 0x01, old, old]);
+    }
 }
 
 #[test]
@@ -135,8 +150,10 @@ fn prints_its_values(rt: HostRuntime) -> Result<(), Fail> {
         let header = Ipv6FragmentHeader::new_unchecked(&buffer);
         assert_eq!(rt; format!(in rt.alloc(); "{header}")?.as_str(), text);
     }
-    let header = Ipv6FragmentHeader::new_unchecked(&LAST[..5]);
-    let text = format!(in rt.alloc(); "{header}")?;
-    assert_eq!(rt; text.as_str(), "IPv6 Fragment (wire::Error)");
+    for len in 0..6 {
+        let header = Ipv6FragmentHeader::new_unchecked(&LAST[..len]);
+        let text = format!(in rt.alloc(); "{header}")?;
+        assert_eq!(rt; text.as_str(), "IPv6 Fragment (wire::Error)");
+    }
     Ok(())
 }

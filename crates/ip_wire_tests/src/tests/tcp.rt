@@ -129,25 +129,30 @@ fn writes_flags_and_length_alone(rt: HostRuntime) {
 
 #[test]
 fn refuses_less_than_the_header(rt: HostRuntime) {
-    let mut buffer = SEGMENT;
-    for len in 0..=28 {
-        let want = if len < 24 { Err(Error) } else { Ok(()) };
-        let bytes = &mut buffer[..len];
-        assert_eq!(rt; TcpPacket::new_unchecked(bytes).check_len(), want);
-        assert_eq!(rt; TcpPacket::new_checked(bytes).is_ok(), want.is_ok());
-        assert_eq!(rt; TcpPacketMut::new_unchecked(bytes).check_len(), want);
-        assert_eq!(rt; TcpPacketMut::new_checked(bytes).is_ok(), want.is_ok());
+    for (segment, header_len) in [(SYN.as_slice(), 20), (&SEGMENT, 24)] {
+        let mut buffer = [0; 28];
+        assert!(rt; segment.len() <= 28);
+        buffer[..segment.len()].copy_from_slice(segment);
+        for len in 0..=segment.len() {
+            let want = if len < header_len { Err(Error) } else { Ok(()) };
+            let bytes = &mut buffer[..len];
+            assert_eq!(rt; TcpPacket::new_unchecked(bytes).check_len(), want);
+            assert_eq!(rt; TcpPacket::new_checked(bytes).is_ok(), want.is_ok());
+            assert_eq!(rt; TcpPacketMut::new_unchecked(bytes).check_len(), want);
+            assert_eq!(rt; TcpPacketMut::new_checked(bytes).is_ok(), want.is_ok());
+        }
     }
-    for (header_len, want) in [
-        (10, Err(Error)),
-        (19, Err(Error)),
-        (20, Ok(())),
-        (28, Ok(())),
-        (32, Err(Error)),
+    for (first, want) in [
+        (0x00, Err(Error)),
+        (0x40, Err(Error)),
+        (0x50, Ok(())),
+        (0x60, Ok(())),
+        (0x70, Err(Error)),
+        (0xf0, Err(Error)),
     ] {
-        let mut packet = TcpPacketMut::new_unchecked(&mut buffer);
-        packet.set_header_len(header_len);
-        assert_eq!(rt; packet.check_len(), want);
+        let mut buffer = SYN;
+        buffer[12] = first;
+        assert_eq!(rt; TcpPacket::new_unchecked(&buffer).check_len(), want);
     }
 }
 

@@ -2,10 +2,11 @@
 
 ghost use Rattle.std.specs.Prelude.{◌≤◌, length};
 
+use super::OLD;
 use super::tcp::{SEGMENT, SYN, ends};
 use ip_wire::{
-    Error, SACK_BLOCKS, TCP_HEADER_LEN, TcpControl, TcpPacket, TcpPacketMut, TcpRepr, TcpSeqNumber,
-    TcpTimestampRepr,
+    Error, Result, SACK_BLOCKS, TCP_HEADER_LEN, TcpControl, TcpPacket, TcpPacketMut, TcpRepr,
+    TcpSeqNumber, TcpTimestampRepr,
 };
 use net_base::{Checksum, ChecksumCapabilities};
 use std::test::Fail;
@@ -61,7 +62,7 @@ fn emitted(value: &TcpRepr<'_>, fill: u8, caps: &ChecksumCapabilities) -> ([u8; 
 fn writes_and_reads_a_segment(rt: HostRuntime) -> std::result::Result<(), Fail> {
     let (src, dst) = ends();
     let caps = ChecksumCapabilities::default();
-    for fill in [0x00, 0xa5, 0xff] {
+    for fill in OLD {
         let (bytes, len) = emitted(&syn(), fill, &caps);
         assert_eq!(rt; &bytes[..len], SYN.as_slice());
         assert_eq!(rt; &bytes[len..], [fill; 40].as_slice());
@@ -83,15 +84,47 @@ fn writes_and_reads_a_segment(rt: HostRuntime) -> std::result::Result<(), Fail> 
     Ok(())
 }
 
+/// How long the payload is that is read.
+fn payload_len(bytes: &[u8], caps: &ChecksumCapabilities) -> Result<usize> {
+    let (src, dst) = ends();
+    let packet = TcpPacket::new_unchecked(bytes);
+    TcpRepr::parse(&packet, &src, &dst, caps).map(|value| value.payload.len())
+}
+
 #[test]
 fn reads_a_segment_that_was_cut(rt: HostRuntime) {
-    let (src, dst) = ends();
-    for len in 20..24 {
-        let packet = TcpPacket::new_unchecked(&SYN[..len]);
-        let caps = ChecksumCapabilities::default();
-        assert_eq!(rt; TcpRepr::parse(&packet, &src, &dst, &caps), Err(Error));
-        let read = TcpRepr::parse(&packet, &src, &dst, &ChecksumCapabilities::ignored());
-        assert_eq!(rt; read.map(|value| value.payload.len()), Ok(len - 20));
+    for len in 0..=24 {
+        let verified = if len < 24 { Err(Error) } else { Ok(4) };
+        let unverified = if len < 20 { Err(Error) } else { Ok(len - 20) };
+        let bytes = &SYN[..len];
+        assert_eq!(rt;
+            payload_len(bytes, &ChecksumCapabilities::default()),
+            verified
+        );
+        assert_eq!(rt;
+            payload_len(bytes, &ChecksumCapabilities::ignored()),
+            unverified
+        );
+    }
+    // FIN and RST at once.
+    for len in 0..=28 {
+        let read = payload_len(&SEGMENT[..len], &ChecksumCapabilities::ignored());
+        assert_eq!(rt; read, Err(Error));
+    }
+}
+
+#[test]
+fn refuses_impossible_header_lengths(rt: HostRuntime) {
+    for (first, want) in [
+        (0x40, Err(Error)),
+        (0x50, Ok(4)),
+        // The payload is no option list.
+        (0x60, Err(Error)),
+        (0xf0, Err(Error)),
+    ] {
+        let mut bytes = SYN;
+        bytes[12] = first;
+        assert_eq!(rt; payload_len(&bytes, &ChecksumCapabilities::ignored()), want);
     }
 }
 
@@ -148,6 +181,7 @@ fn reads_options(rt: HostRuntime) {
                 ..ack()
             }),
         ),
+        (&[0x01, 0x01, 0x01, 0x01], Ok(ack())),
         (&[0x08, 0x02, 0x01, 0x01], Ok(ack())),
         (&[0x05, 0x02, 0x00, 0x00], Err(Error)),
     ] {
@@ -214,10 +248,13 @@ fn writes_options(rt: HostRuntime) -> std::result::Result<(), Fail> {
             ],
         ),
     ] {
-        for fill in [0x00, 0xa5, 0xff] {
+        let (want, _) = emitted(&value, 0x00, &ChecksumCapabilities::default());
+        for fill in OLD {
             let (bytes, len) = emitted(&value, fill, &ChecksumCapabilities::default());
             assert_eq!(rt; value.header_len(), TCP_HEADER_LEN + options.len());
             assert_eq!(rt; TcpPacket::new_checked(&bytes[..len])?.options(), options);
+            assert_eq!(rt; &bytes[..len], &want[..len]);
+            assert_eq!(rt; &bytes[len..], &[fill; 64][len..]);
         }
     }
     Ok(())
@@ -262,6 +299,10 @@ fn prints_values_and_segments(rt: HostRuntime) -> std::result::Result<(), Fail> 
     }
     let mut cut = SYN;
     cut[12] = 0x60;
+    let mut short = SYN;
+    short[12] = 0x40;
+    let mut long = SYN;
+    long[12] = 0xf0;
     for (bytes, text) in [
         (
             SYN.as_slice(),
@@ -275,7 +316,15 @@ fn prints_values_and_segments(rt: HostRuntime) -> std::result::Result<(), Fail> 
             &cut,
             "TCP src=48896 dst=80 syn seq=19088743 win=291 len=0 (wire::Error)",
         ),
+        (
+            &SYN[..20],
+            "TCP src=48896 dst=80 syn seq=19088743 win=291 len=0",
+        ),
+        (&short, "TCP (wire::Error)"),
+        (&long, "TCP (wire::Error)"),
         (&SYN[..19], "TCP (wire::Error)"),
+        (&SEGMENT[..23], "TCP (wire::Error)"),
+        (&[], "TCP (wire::Error)"),
     ] {
         let packet = TcpPacket::new_unchecked(bytes);
         assert_eq!(rt; format!(in rt.alloc(); "{packet}")?.as_str(), text);

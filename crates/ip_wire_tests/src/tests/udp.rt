@@ -3,6 +3,7 @@
 ghost use Rattle.std.specs.Prelude.{◌≡◌};
 ghost use Rattle.ip_wire.specs.IpAddress.{version_of};
 
+use super::OLD;
 use ip_wire::{
     Error, IpAddress, IpProtocol, Ipv4Address, Ipv6Address, Result, UDP_HEADER_LEN, UdpPacket,
     UdpPacketMut, UdpRepr, checksum,
@@ -144,6 +145,15 @@ fn refuses_less_than_the_packet(rt: HostRuntime) {
     for len in 0..=12 {
         let want = if len < 12 { Err(Error) } else { Ok(()) };
         let bytes = &mut buffer[..len];
+        let read = want.map(|_| HEADER);
+        assert_eq!(rt;
+            parse_over_ipv4(bytes, &ChecksumCapabilities::default()),
+            read
+        );
+        assert_eq!(rt;
+            parse_over_ipv4(bytes, &ChecksumCapabilities::ignored()),
+            read
+        );
         assert_eq!(rt; UdpPacket::new_unchecked(bytes).check_len(), want);
         assert_eq!(rt; UdpPacket::new_checked(bytes).is_ok(), want.is_ok());
         assert_eq!(rt; UdpPacketMut::new_unchecked(bytes).check_len(), want);
@@ -267,10 +277,12 @@ fn writes_no_checksum_of_0(rt: HostRuntime) -> std::result::Result<(), Fail> {
         dst_port: 31881,
     };
     assert_eq!(rt; parse_over_ipv4(&buffer, &udp(Checksum::Rx)), Ok(value));
-    let mut emitted = [0xa5; 8];
-    let mut packet = UdpPacketMut::new_unchecked(&mut emitted);
-    value.emit(&mut packet, &src, &dst, &[], &udp(Checksum::Both));
-    assert_eq!(rt; emitted, buffer);
+    for old in OLD {
+        let mut emitted = [old; 8];
+        let mut packet = UdpPacketMut::new_unchecked(&mut emitted);
+        value.emit(&mut packet, &src, &dst, &[], &udp(Checksum::Both));
+        assert_eq!(rt; emitted, buffer);
+    }
     Ok(())
 }
 
@@ -283,7 +295,7 @@ fn writes_a_packet_and_leaves_the_rest(rt: HostRuntime) {
         (Checksum::Rx, UNSUMMED),
         (Checksum::None, UNSUMMED),
     ] {
-        for old in [0x00, 0xa5, 0xff] {
+        for old in OLD {
             let mut want = [old; 14];
             want[..12].copy_from_slice(&packet);
             let mut buffer = [old; 14];
@@ -297,9 +309,13 @@ fn writes_a_packet_and_leaves_the_rest(rt: HostRuntime) {
 
 #[test]
 fn writes_a_header_alone(rt: HostRuntime) {
-    let mut buffer = [0xff; 8];
-    HEADER.emit_header(&mut UdpPacketMut::new_unchecked(&mut buffer), 4);
-    assert_eq!(rt; buffer.as_slice(), &UNSUMMED[..8]);
+    for old in OLD {
+        let mut want = [old; 10];
+        want[..8].copy_from_slice(&UNSUMMED[..8]);
+        let mut buffer = [old; 10];
+        HEADER.emit_header(&mut UdpPacketMut::new_unchecked(&mut buffer), 4);
+        assert_eq!(rt; buffer, want);
+    }
 }
 
 #[test]
