@@ -72,11 +72,7 @@ pub extern "C" fn lk_ipv4_cidr_read(text: &[u8], addr: &mut u32, prefix_len: &mu
 /// Stores the octets of the address and the length of the prefix of the block of IPv6 addresses that a text
 /// is read as, and answers 1: 0 where it is none, and then nothing is stored.
 #[unsafe(no_mangle)]
-pub extern "C" fn lk_ipv6_cidr_read(
-    text: &[u8],
-    octets: &mut [u8; 16],
-    prefix_len: &mut u8,
-) -> u8
+pub extern "C" fn lk_ipv6_cidr_read(text: &[u8], octets: &mut [u8; 16], prefix_len: &mut u8) -> u8
     ensures { IsRead ReadsIpv6Pair text.now (octets.old, prefix_len.old) (octets.new, prefix_len.new) result }
 {
     match read::<Ipv6Cidr>(text) {

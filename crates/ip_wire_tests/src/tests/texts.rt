@@ -154,11 +154,26 @@ fn reads_blocks(rt: HostRuntime) -> Result<(), Fail> {
 fn reads_endpoints(rt: HostRuntime) -> Result<(), Fail> {
     let link_local = IpAddress::v6(0xfe80, 0, 0, 0, 0, 0, 1, 0x80);
     for (text, endpoint) in [
-        ("127.0.0.1", Ok(IpEndpoint::new(IpAddress::v4(127, 0, 0, 1), 0))),
-        ("127.0.0.1:65535", Ok(IpEndpoint::new(IpAddress::v4(127, 0, 0, 1), 65535))),
-        ("1.2.3.4:00080", Ok(IpEndpoint::new(IpAddress::v4(1, 2, 3, 4), 80))),
-        ("[::]:12345", Ok(IpEndpoint::new(Ipv6Address::UNSPECIFIED.into(), 12345))),
-        ("[::1]:65535", Ok(IpEndpoint::new(Ipv6Address::LOCALHOST.into(), 65535))),
+        (
+            "127.0.0.1",
+            Ok(IpEndpoint::new(IpAddress::v4(127, 0, 0, 1), 0)),
+        ),
+        (
+            "127.0.0.1:65535",
+            Ok(IpEndpoint::new(IpAddress::v4(127, 0, 0, 1), 65535)),
+        ),
+        (
+            "1.2.3.4:00080",
+            Ok(IpEndpoint::new(IpAddress::v4(1, 2, 3, 4), 80)),
+        ),
+        (
+            "[::]:12345",
+            Ok(IpEndpoint::new(Ipv6Address::UNSPECIFIED.into(), 12345)),
+        ),
+        (
+            "[::1]:65535",
+            Ok(IpEndpoint::new(Ipv6Address::LOCALHOST.into(), 65535)),
+        ),
         ("fe80::1:80", Ok(IpEndpoint::new(link_local, 0))),
         ("127.0.0.1:65536", Err(())),
         ("1.2.3.4:99999", Err(())),
