@@ -466,27 +466,6 @@ pub unsafe extern "C" fn lk_ipv6_cidr_read(
     unsafe { store_ipv6(Some(block.address()), octets) }
 }
 
-#[unsafe(no_mangle)]
-pub unsafe extern "C" fn lk_endpoint_read(
-    text: *const u8,
-    len: usize,
-    octets: *mut u8,
-    port: *mut u16,
-) -> u8 {
-    let Some(endpoint) = (unsafe { read::<IpEndpoint>(text, len) }) else { return 0 };
-    unsafe { *port = endpoint.port };
-    match endpoint.addr {
-        IpAddress::Ipv4(addr) => {
-            unsafe { *octets.cast::<[u8; 4]>() = addr.octets() };
-            4
-        }
-        IpAddress::Ipv6(addr) => {
-            unsafe { store_ipv6(Some(addr), octets) };
-            6
-        }
-    }
-}
-
 /// Writes the text of a value to the front of a slice.
 unsafe fn print(value: impl fmt::Display, out: *mut u8, cap: usize) -> usize {
     let slice = unsafe { from_raw_parts_mut(out, cap) };

@@ -20,13 +20,12 @@ static void print_address(const uint8_t *octets)
     printf("address %.*s\n", (int)len, (const char *)text);
 }
 
-/* Reads texts of addresses, a block and an endpoint, and writes some of them again. */
+/* Reads texts of addresses, and blocks, and writes some of them again. */
 static void read_texts(void)
 {
     static const char hardware[] = "AB-cd-ef-0-0-1", zeros[] = "010.0.0.1", upper[] = "2001:DB8:0::1", zone[] = "fe80::1%eth0",
-                      block[] = "10.1.2.3/8", long_prefix[] = "10.1.2.3/33", endpoint[] = "[fe80::1]:80";
+                      block[] = "10.1.2.3/8", long_prefix[] = "10.1.2.3/33";
     uint8_t octets[16], prefix_len, out[45];
-    uint16_t port;
     uint32_t addr;
     size_t len;
 
@@ -45,9 +44,6 @@ static void read_texts(void)
     }
     printf("%s: %u\n", long_prefix,
            (unsigned)lk_ipv4_cidr_read((const uint8_t *)long_prefix, strlen(long_prefix), &addr, &prefix_len));
-    printf("%s is of version %u", endpoint, (unsigned)lk_endpoint_read((const uint8_t *)endpoint, strlen(endpoint), octets, &port));
-    printf(", port %u\n", (unsigned)port);
-    print_address(octets);
 }
 
 int main(void)

@@ -130,11 +130,6 @@ uint8_t lk_ipv4_cidr_read(const uint8_t *text, size_t len, uint32_t *addr, uint8
 /* The same of IPv6, with 1 to 3 digits. */
 uint8_t lk_ipv6_cidr_read(const uint8_t *text, size_t len, uint8_t *octets, uint8_t *prefix_len);
 
-/* An address alone, whose port is 0; or an address, an IPv6 one in brackets, ':' and a port in 1 to 5
- * digits. Answers the version of the address, 4 or 6. `octets` has room for 16 of them, of which the
- * first 4 are stored where the version is 4. */
-uint8_t lk_endpoint_read(const uint8_t *text, size_t len, uint8_t *octets, uint16_t *port);
-
 /* Texts are written to the front of `out`, with no null behind them. A printer answers the length, of which
  * each says the most; 0 where the text doesn't fit into `cap` octets, and then nothing is written. */
 

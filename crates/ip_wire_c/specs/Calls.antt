@@ -1,5 +1,5 @@
 -- What the calls for C answer, and what they write.
-use Rattle.std.specs.Prelude.{ℕ, ◌≡◌, ◌+◌, ◌≤◌, ◌<◌, ◌⊎◌, ◌&&◌, ◌==◌, not, nat_le, nat_lt, if◌then◌else◌, IsUtf8, ◌++◌, Bool, List, [], length, drop, take, map, slice_get, Option, None, Some, MatchOption}
+use Rattle.std.specs.Prelude.{ℕ, ◌≡◌, ◌+◌, ◌≤◌, ◌<◌, ◌⊎◌, ◌&&◌, ◌==◌, not, nat_le, nat_lt, if◌then◌else◌, IsUtf8, ◌++◌, Bool, List, [], length, drop, map, slice_get, Option, None, Some, MatchOption}
 use mir.Syntax.{w32}
 use Rattle.std.specs.Bool.{then_some}
 use Rattle.std.specs.Int.{to_be_bytes}
@@ -8,7 +8,6 @@ use Rattle.std.specs.Option.{option_and_then, option_map, option_map_or}
 use Rattle.ip_wire.specs.Arp.{arp_of, operation_of}
 use Rattle.ip_wire.specs.Block.{Block}
 use Rattle.ip_wire.specs.BlockText.{ReadsIpv4Block, ReadsIpv6Block}
-use Rattle.ip_wire.specs.Endpoint.{ReadsEndpoint, endpoint_at}
 use Rattle.ip_wire.specs.Ethernet.{ethernet_of}
 use Rattle.ip_wire.specs.Frame.{ipv4_payload, rebuilt}
 use Rattle.ip_wire.specs.Ip.{bytes_of, dst_addr_of, header_len_of, max_payload_len, next_header_of, payload_len_of, src_addr_of}
@@ -22,8 +21,6 @@ use Rattle.ip_wire.specs.Udp as udp
 use Rattle.ip_wire.specs.declared.ArpRepr.{ArpRepr}
 use Rattle.ip_wire.specs.declared.ArpRepr.TheVariants.{EthernetIpv4}
 use Rattle.ip_wire.specs.declared.IpAddress.{IpAddress}
-use Rattle.ip_wire.specs.declared.IpAddress.TheVariants as ip
-use Rattle.ip_wire.specs.declared.IpEndpoint.{IpEndpoint}
 use Rattle.ip_wire.specs.declared.IpProtocol.{IpProtocol}
 use Rattle.ip_wire.specs.declared.IpProtocol.TheVariants as protocol
 use Rattle.ip_wire.specs.declared.IpRepr.{IpRepr}
@@ -187,14 +184,6 @@ ReadsIpv4Pair text pair = IsTextOf ReadsIpv4Block text (block_of (to_be_bytes w3
 -- the text is read as the block of an IPv6 address, as octets, and the length of a prefix
 abbrev pub ReadsIpv6Pair : List ℕ → List ℕ × ℕ → Type 0
 ReadsIpv6Pair text pair = IsTextOf ReadsIpv6Block text (block_of pair.0 pair.1)
-
--- the version is answered, and the text is read as the endpoint that is stored now, its address in the first octets; or 0,
--- it is read as none, and what was stored stays
-abbrev pub IsEndpointRead : List ℕ → List ℕ → ℕ → List ℕ → ℕ → ℕ → Type 0
-IsEndpointRead text old_octets old_port octets port answer =
-    ((answer ≡ 4) × IsTextOf ReadsEndpoint text (endpoint_at (ip.Ipv4 (take 4 octets)) port) × (drop 4 octets ≡ drop 4 old_octets))
-    ⊎ (((answer ≡ 6) × IsTextOf ReadsEndpoint text (endpoint_at (ip.Ipv6 octets) port))
-    ⊎ ((answer ≡ 0) × (octets ≡ old_octets) × (port ≡ old_port) × ((endpoint : IpEndpoint) → ¬ (IsTextOf ReadsEndpoint text endpoint))))
 
 -- whether the frame holds an Ethernet header and, built again, fits into so many bytes
 abbrev pub is_rebuilt : List ℕ → ℕ → Bool

@@ -3,9 +3,9 @@
 ghost use Rattle.std.specs.Prelude.{◌≡◌, Err, IsUtf8, MatchOption, Ok};
 ghost use Rattle.ip_wire.specs.Read.{ReadsIpv6};
 ghost use Rattle.wire_text.specs.Grammar.{IsHexText};
-ghost use Rattle.ip_wire_c.specs.Calls.{IsEndpointRead, IsRead, ReadsIpv4Number, ReadsIpv4Pair, ReadsIpv6Pair};
+ghost use Rattle.ip_wire_c.specs.Calls.{IsRead, ReadsIpv4Number, ReadsIpv4Pair, ReadsIpv6Pair};
 
-use ip_wire::{IpAddress, IpEndpoint, Ipv4Cidr, Ipv6Address, Ipv6Cidr};
+use ip_wire::{Ipv4Cidr, Ipv6Address, Ipv6Cidr};
 use std::str::FromStr;
 
 /// Stores the octets that a text is read as, those of an Ethernet address, and answers 1: 0 where it is
@@ -82,29 +82,6 @@ pub extern "C" fn lk_ipv6_cidr_read(text: &[u8], octets: &mut [u8; 16], prefix_l
             1
         }
         None => 0,
-    }
-}
-
-/// Stores the address and the port of the endpoint that a text is read as, and answers the version of the
-/// address: where it is 4 only the first four octets are stored. It answers 0 where the text is none, and
-/// then nothing is stored.
-#[unsafe(no_mangle)]
-pub extern "C" fn lk_endpoint_read(text: &[u8], octets: &mut [u8; 16], port: &mut u16) -> u8
-    ensures { IsEndpointRead text.now octets.old port.old octets.new port.new result }
-{
-    let Some(endpoint) = read::<IpEndpoint>(text) else {
-        return 0;
-    };
-    *port = endpoint.port;
-    match endpoint.addr {
-        IpAddress::Ipv4(addr) => {
-            octets[..4].copy_from_slice(&addr.octets());
-            4
-        }
-        IpAddress::Ipv6(addr) => {
-            *octets = addr.octets();
-            6
-        }
     }
 }
 
