@@ -7,7 +7,7 @@ ghost use Rattle.wire_text.specs.Ending.{EndsInNumber};
 use crate::number_text::number;
 
 /// Where the byte stands last.
-#[inline]
+#[inline(always)]
 fn last_place(text: &[u8], byte: u8) -> Option<usize>
     ensures { MatchOption result ((k : ℕ) → k < length text.now → slice_index text.now k ≢ byte)
         (λ at. (at < length text.now) × (slice_index text.now at ≡ byte)
@@ -18,7 +18,7 @@ fn last_place(text: &[u8], byte: u8) -> Option<usize>
 
 /// What stands before the mark, and the decimal number of at most `places` digits behind it, if it is
 /// at most `most`. Only as much of the text is looked at as such an end may take.
-#[inline]
+#[inline(always)]
 pub fn number_behind(text: &str, mark: u8, places: usize, most: u32) -> Option<(&str, u32)>
     requires ascii { mark < 128 }
     requires apart { 10 ≤ digit_value mark }

@@ -29,7 +29,7 @@ fn may_end_dotted(groups: &[u16], before: Option<usize>) -> bool
 }
 
 /// The groups with zeros between those that stood before `::` and those that stood behind it.
-#[inline]
+#[inline(always)]
 fn spread(groups: &[u16; 8], len: usize, before: usize) -> [u16; 8]
     requires few { len ≤ 8 }
     requires within { before ≤ len }
@@ -50,7 +50,7 @@ fn spread(groups: &[u16; 8], len: usize, before: usize) -> [u16; 8]
 }
 
 /// The eight groups, from as many as were read and how many of them stood before `::`.
-#[inline]
+#[inline(always)]
 fn all_groups(groups: &[u16; 8], len: usize, before: Option<usize>) -> Option<[u16; 8]>
     requires few { len ≤ 8 }
     requires within { IfSome before (λ n. n ≤ len) }
@@ -74,7 +74,7 @@ fn mapped(text: &[u8]) -> Option<[u16; 8]>
 }
 
 /// The text with one colon of a `::` at its start, so that a colon stands there for nothing else.
-#[inline]
+#[inline(always)]
 fn inner(text: &[u8]) -> Option<&[u8]>
     ensures { option_copied result ≡ inner_text text.now }
 {
@@ -90,7 +90,7 @@ fn inner(text: &[u8]) -> Option<&[u8]>
 }
 
 /// What follows the colon that the text begins with, if it does.
-#[inline]
+#[inline(always)]
 fn after_colon(text: &[u8]) -> Option<&[u8]>
     ensures { MatchOption result (0 < length text.now → slice_index text.now 0 ≢ colon) (λ behind. text.now ≡ colon ∷ behind.now) }
 {

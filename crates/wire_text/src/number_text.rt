@@ -22,7 +22,7 @@ const HEX_DIGITS: [u8; 256] = [
 ];
 
 /// The value of a hex digit, and 16 for any other byte: in fewer steps than by `char::to_digit`.
-#[inline]
+#[inline(always)]
 fn hex_digit(byte: u8) -> u32
     ensures { result ≡ min 16 (digit_value byte) }
 {
@@ -30,7 +30,7 @@ fn hex_digit(byte: u8) -> u32
 }
 
 /// The number that the first digits write, of which at most so many are read, and how many there are.
-#[inline]
+#[inline(always)]
 fn first_number(text: &[u8], radix: u32, places: usize) -> (u32, usize)
     requires low { 2 ≤ radix }
     requires high { radix ≤ 16 }
@@ -54,7 +54,7 @@ fn first_number(text: &[u8], radix: u32, places: usize) -> (u32, usize)
 }
 
 /// The number that a text of one digit to `places` digits writes, if it is at most `most`.
-#[inline]
+#[inline(always)]
 pub fn number(text: &[u8], radix: u32, places: usize, most: u32) -> Option<u32>
     requires low { 2 ≤ radix }
     requires high { radix ≤ 16 }
@@ -70,7 +70,7 @@ pub fn number(text: &[u8], radix: u32, places: usize, most: u32) -> Option<u32>
 }
 
 /// The number before the first mark, or that of the whole text, and what follows the mark, if one comes.
-#[inline]
+#[inline(always)]
 pub(crate) fn first_piece(
     text: &[u8],
     mark: u8,

@@ -8,7 +8,7 @@ ghost use Rattle.wire_text.specs.Reading.{FilledFrom, numbers_of, octets_read, p
 use crate::number_text::first_piece;
 
 /// Fills `values` from numbers joined by the mark, and says whether there are exactly as many.
-#[inline]
+#[inline(always)]
 fn fill(text: &[u8], mark: u8, radix: u32, places: usize, values: &mut [u8]) -> bool
     requires low { 2 ≤ radix }
     requires high { radix ≤ 16 }
@@ -38,7 +38,7 @@ pub fn octets(text: &[u8]) -> Option<[u8; 4]>
 }
 
 /// The octets of six hex numbers joined by this mark.
-#[inline]
+#[inline(always)]
 fn hex_octets_joined(text: &[u8], mark: u8) -> Option<[u8; 6]>
     requires apart { 16 ≤ digit_value mark }
     ensures { Reads (IsHexOctets mark) text.now result }
