@@ -1,7 +1,7 @@
 //! Sums of words.
 
 use super::IPV4_PACKET;
-use ip_wire::{IpAddress, IpProtocol, checksum};
+use ip_wire::checksum;
 use std::alloc::{AllocError, Global};
 use std::test::Fail;
 
@@ -39,21 +39,4 @@ fn combines_sums(rt: HostRuntime) {
     ] {
         assert_eq!(rt; checksum::combine(sums), sum);
     }
-}
-
-#[test]
-fn sums_a_packet_with_its_pseudo_header(rt: HostRuntime) {
-    let (src, dst) = (IpAddress::v4(192, 168, 1, 1), IpAddress::v4(192, 168, 1, 2));
-    let packet = [
-        0xbf, 0x00, 0x00, 0x35, 0x00, 0x0c, 0x00, 0x00, 0xaa, 0x00, 0x00, 0xff,
-    ];
-    assert_eq!(rt;
-        checksum::packet(src, dst, IpProtocol::Udp, &packet),
-        0xedb2
-    );
-    let header = [0xbf, 0x00, 0x00, 0x35, 0x00, 0x0c, 0x00, 0x00];
-    assert_eq!(rt;
-        checksum::packet_parts(src, dst, IpProtocol::Udp, &header, &packet[8..]),
-        0xedb2
-    );
 }
