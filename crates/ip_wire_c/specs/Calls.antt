@@ -159,6 +159,11 @@ sent_segment f src dst payload computed old =
     tcp.bytes_of (tcp_header f) payload src dst computed [] ++ drop (segment_len f (length payload)) old
     else old
 
+-- the text stands at the front of the slice and its length is answered; where it doesn't fit, the slice stays and 0 is answered
+pub record IsWritten (text old new : List ℕ) (answer : ℕ) : Type 0 where
+  pub fits : length text ≤ length old → (answer ≡ length text) × (new ≡ text ++ drop (length text) old)
+  pub no_room : length old < length text → (answer ≡ 0) × (new ≡ old)
+
 -- the text stands at the front of the slice and its length is answered, or the slice stays and 0 is answered
 abbrev pub IsPrinted : List ℕ → List ℕ → List ℕ → ℕ → Type 0
 IsPrinted text old new answer =

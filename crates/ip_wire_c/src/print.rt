@@ -6,7 +6,7 @@ ghost use mir.Syntax.{w32};
 ghost use Rattle.ip_wire.specs.Endpoint.{endpoint_at, endpoint_text};
 ghost use Rattle.ip_wire.specs.Printed.{block_text, dashed, dotted, ipv6_text};
 ghost use Rattle.ip_wire.specs.declared.IpAddress.TheVariants.{Ipv4, Ipv6};
-ghost use Rattle.ip_wire_c.specs.Calls.{block_of, IsPrinted};
+ghost use Rattle.ip_wire_c.specs.Calls.{block_of, IsPrinted, IsWritten};
 
 use crate::rebuild::copy;
 use arrayvec::ArrayString;
@@ -19,27 +19,30 @@ use std::fmt::{Display, Write};
 /// which is 17: 0 where it doesn't fit, and then nothing is written.
 #[unsafe(no_mangle)]
 pub extern "C" fn lk_ethernet_print(octets: &[u8; 6], out: &mut [u8]) -> usize
-    ensures { IsPrinted (dashed octets.now) out.old out.new result }
+    ensures { IsWritten (dashed octets.now) out.old out.new result }
 {
-    print(EthernetAddress(*octets), out)
+    write(EthernetAddress(*octets).text().as_str(), out)
 }
 
 /// Writes the text of an IPv4 address to the front of `out`, and answers its length, which is never more
 /// than 15: 0 where it doesn't fit, and then nothing is written.
 #[unsafe(no_mangle)]
 pub extern "C" fn lk_ipv4_print(addr: u32, out: &mut [u8]) -> usize
-    ensures { IsPrinted (dotted (to_be_bytes w32 addr)) out.old out.new result }
+    ensures { IsWritten (dotted (to_be_bytes w32 addr)) out.old out.new result }
 {
-    print(Ipv4Address::from_octets(addr.to_be_bytes()), out)
+    write(
+        Ipv4Address::from_octets(addr.to_be_bytes()).text().as_str(),
+        out,
+    )
 }
 
 /// Writes the text of the IPv6 address with these octets to the front of `out`, and answers its length,
 /// which is never more than 39: 0 where it doesn't fit, and then nothing is written.
 #[unsafe(no_mangle)]
 pub extern "C" fn lk_ipv6_print(octets: &[u8; 16], out: &mut [u8]) -> usize
-    ensures { IsPrinted (ipv6_text octets.now) out.old out.new result }
+    ensures { IsWritten (ipv6_text octets.now) out.old out.new result }
 {
-    print(Ipv6Address::from_octets(*octets), out)
+    write(Ipv6Address::from_octets(*octets).text().as_str(), out)
 }
 
 /// Writes the text of the block of an IPv4 address and so many of its first bits to the front of `out`, and
@@ -92,6 +95,14 @@ pub extern "C" fn lk_ipv6_endpoint_print(octets: &[u8; 16], port: u16, out: &mut
     print(IpEndpoint::new(addr, port), out)
 }
 
+// Writes a text to the front of `out`, and answers its length: 0 where it doesn't fit, and then nothing
+// is written.
+fn write(text: &str, out: &mut [u8]) -> usize
+    ensures { IsWritten text.now out.old out.new result }
+{
+    copy(text.as_bytes(), out).unwrap_or(0)
+}
+
 // How many bytes the longest of these texts has, that of a port at an IPv6 address.
 const MAX_LEN: usize = 45;
 
@@ -101,7 +112,7 @@ fn print<T: Display + Drop>(value: T, out: &mut [u8]) -> usize
     ensures { (text : List ℕ) → T.output value ≡ Some text → IsPrinted text out.old out.new result }
 {
     match printed(value) {
-        Some(text) => copy(text.as_str().as_bytes(), out).unwrap_or(0),
+        Some(text) => write(text.as_str(), out),
         None => 0,
     }
 }
