@@ -1,0 +1,81 @@
+//! What the constants are. A clause names a constant that is a number or a plain struct; one whose type
+//! has a Model is handed out, and the clause is on the result.
+
+ghost use Rattle.std.specs.Prelude.{◌≡◌, ◌∷◌, []};
+ghost use Rattle.wire_addr.specs.Class.{ipv6_block};
+ghost use Rattle.wire_addr.specs.Octets.{octets_of};
+
+use wire_addr::{
+    EthernetAddress, IPV4_MULTICAST_ALL_ROUTERS, IPV4_MULTICAST_ALL_SYSTEMS, IPV6_ADDR_SIZE,
+    IPV6_LINK_LOCAL_ALL_MLDV2_ROUTERS, IPV6_LINK_LOCAL_ALL_NODES, IPV6_LINK_LOCAL_ALL_ROUTERS,
+    IPV6_LINK_LOCAL_ALL_RPL_NODES, Ipv4Address, Ipv6Address, Ipv6Cidr, MAX_HARDWARE_ADDRESS_LEN,
+};
+use wire_ethernet::ETHERNET_HEADER_LEN;
+use wire_ipv4::{IPV4_HEADER_LEN, IPV4_MIN_MTU};
+use wire_ipv6::{IPV6_HEADER_LEN, IPV6_MIN_MTU};
+use wire_tcp::TCP_HEADER_LEN;
+use wire_udp::UDP_HEADER_LEN;
+
+/// The lengths in octets: of headers without options, of addresses, and of the packet that every link
+/// of a version can carry.
+pub fn constant_lengths()
+    ensures ethernet { ETHERNET_HEADER_LEN ≡ 14 }
+    ensures hardware_address { MAX_HARDWARE_ADDRESS_LEN ≡ 6 }
+    ensures ipv4 { IPV4_HEADER_LEN ≡ 20 }
+    ensures ipv4_mtu { IPV4_MIN_MTU ≡ 576 }
+    ensures ipv6 { IPV6_HEADER_LEN ≡ 40 }
+    ensures ipv6_address { IPV6_ADDR_SIZE ≡ 16 }
+    ensures ipv6_mtu { IPV6_MIN_MTU ≡ 1280 }
+    ensures tcp { TCP_HEADER_LEN ≡ 20 }
+    ensures udp { UDP_HEADER_LEN ≡ 8 }
+{}
+
+/// The Ethernet address of all stations.
+pub fn constant_ethernet_address()
+    ensures { EthernetAddress.BROADCAST.0 ≡ 0xff ∷ 0xff ∷ 0xff ∷ 0xff ∷ 0xff ∷ 0xff ∷ [] }
+{}
+
+/// The constants among the IPv4 addresses: 0.0.0.0, 255.255.255.255, 224.0.0.1, 224.0.0.2.
+pub fn constant_ipv4_addresses() -> [Ipv4Address; 4]
+    ensures { result ≡ (0 ∷ 0 ∷ 0 ∷ 0 ∷ [])
+        ∷ (255 ∷ 255 ∷ 255 ∷ 255 ∷ [])
+        ∷ (224 ∷ 0 ∷ 0 ∷ 1 ∷ [])
+        ∷ (224 ∷ 0 ∷ 0 ∷ 2 ∷ [])
+        ∷ [] }
+{
+    [
+        Ipv4Address::UNSPECIFIED,
+        Ipv4Address::BROADCAST,
+        IPV4_MULTICAST_ALL_SYSTEMS,
+        IPV4_MULTICAST_ALL_ROUTERS,
+    ]
+}
+
+/// The constants among the IPv6 addresses: `::`, `::1`, `ff02::1`, `ff02::2`, `ff02::16`, `ff02::1a`.
+pub fn constant_ipv6_addresses() -> [Ipv6Address; 6]
+    ensures { result ≡ octets_of (0 ∷ 0 ∷ 0 ∷ 0 ∷ 0 ∷ 0 ∷ 0 ∷ 0 ∷ [])
+        ∷ octets_of (0 ∷ 0 ∷ 0 ∷ 0 ∷ 0 ∷ 0 ∷ 0 ∷ 1 ∷ [])
+        ∷ octets_of (0xff02 ∷ 0 ∷ 0 ∷ 0 ∷ 0 ∷ 0 ∷ 0 ∷ 1 ∷ [])
+        ∷ octets_of (0xff02 ∷ 0 ∷ 0 ∷ 0 ∷ 0 ∷ 0 ∷ 0 ∷ 2 ∷ [])
+        ∷ octets_of (0xff02 ∷ 0 ∷ 0 ∷ 0 ∷ 0 ∷ 0 ∷ 0 ∷ 0x16 ∷ [])
+        ∷ octets_of (0xff02 ∷ 0 ∷ 0 ∷ 0 ∷ 0 ∷ 0 ∷ 0 ∷ 0x1a ∷ [])
+        ∷ [] }
+{
+    [
+        Ipv6Address::UNSPECIFIED,
+        Ipv6Address::LOCALHOST,
+        IPV6_LINK_LOCAL_ALL_NODES,
+        IPV6_LINK_LOCAL_ALL_ROUTERS,
+        IPV6_LINK_LOCAL_ALL_MLDV2_ROUTERS,
+        IPV6_LINK_LOCAL_ALL_RPL_NODES,
+    ]
+}
+
+/// The constants among the blocks: `fe80::/10`, `ff02::1:ff00:0/104`.
+pub fn constant_blocks() -> [Ipv6Cidr; 2]
+    ensures { result ≡ ipv6_block (0xfe80 ∷ 0 ∷ 0 ∷ 0 ∷ 0 ∷ 0 ∷ 0 ∷ 0 ∷ []) 10
+        ∷ ipv6_block (0xff02 ∷ 0 ∷ 0 ∷ 0 ∷ 0 ∷ 1 ∷ 0xff00 ∷ 0 ∷ []) 104
+        ∷ [] }
+{
+    [Ipv6Cidr::LINK_LOCAL_PREFIX, Ipv6Cidr::SOLICITED_NODE_PREFIX]
+}
