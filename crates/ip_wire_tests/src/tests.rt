@@ -21,11 +21,13 @@ mod ipv6_address;
 mod ipv6_cidr;
 mod ipv6fragment;
 mod nested;
+mod orders;
 mod raw_hardware_address;
 mod tcp;
 mod tcp_repr;
 mod texts;
 mod udp;
+mod widths;
 
 use ip_wire::{EthernetAddress, IpProtocol, Ipv4Address, Ipv4Repr, Ipv6Address, Ipv6Repr};
 use std::alloc::{AllocError, Global};

@@ -1,7 +1,7 @@
 //! Sums of words.
 
 use super::IPV4_PACKET;
-use ip_wire::checksum;
+use ip_wire::{IpProtocol, Ipv6Address, checksum};
 use std::alloc::{AllocError, Global};
 use std::test::Fail;
 
@@ -39,4 +39,13 @@ fn combines_sums(rt: HostRuntime) {
     ] {
         assert_eq!(rt; checksum::combine(sums), sum);
     }
+}
+
+#[test]
+fn sums_the_pseudo_header_between_hosts_of_a_link(rt: HostRuntime) {
+    let src = Ipv6Address::new(0xfe80, 0, 0, 0, 0, 0, 0, 1);
+    let dst = Ipv6Address::new(0xfe80, 0, 0, 0, 0, 0, 0, 2);
+    // fe80 + 1 + fe80 + 2 + 11 + c is 1fd20.
+    let sum = checksum::pseudo_header_v6(&src, &dst, IpProtocol::Udp, 12);
+    assert_eq!(rt; sum, 0xfd21);
 }

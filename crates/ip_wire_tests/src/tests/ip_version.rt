@@ -13,6 +13,7 @@ fn is_read_of_the_first_four_bits(rt: HostRuntime) {
         ([0x54].as_slice(), Err(Error)),
         ([0x06].as_slice(), Err(Error)),
         ([0xc4].as_slice(), Err(Error)),
+        ([0xff].as_slice(), Err(Error)),
         ([].as_slice(), Err(Error)),
     ] {
         assert_eq!(rt; IpVersion::of_packet(packet), version);
