@@ -1,5 +1,5 @@
 # make run    prints the frames of examples/frames.hex, or of FRAMES=file
-# make test   passes everything that has to pass
+# make test   passes everything that has to pass; the gate's log is out/test.log
 # make build  proves the programs and the C library, and builds each as one file
 # make compare REFERENCE=program [SEED=n] [LINES=n]
 #             feeds generated lines to the built program and to another, and shows the first difference
@@ -48,14 +48,10 @@ compare compare-calls:
 bench: $(PROGRAM) $(LIBRARY)
 	@bench/bench.py $(if $(REFERENCE_BENCH),--calls '$(REFERENCE_BENCH)') $(if $(REFERENCE),--program $(REFERENCE))
 
-$(PROGRAM) $(CALLS): $(SOURCES)
+$(PROGRAM) $(CALLS): COMMAND := run
+$(LIBRARY): COMMAND := lib
+$(PROGRAM) $(CALLS) $(LIBRARY): $(SOURCES)
 	@echo 'proving $(@F)'
 	@mkdir -p $(@D)
-	@cd $(@D)/.. && rt run < /dev/null > out/build.log 2>&1 || { cat out/build.log >&2; exit 1; }
-	@touch $@
-
-$(LIBRARY): $(SOURCES)
-	@echo 'proving the C library'
-	@mkdir -p $(@D)
-	@cd crates/ip_wire_c && rt lib > out/build.log 2>&1 || { cat out/build.log >&2; exit 1; }
+	@cd $(@D)/.. && '$(CURDIR)/tests/progress.py' '$(CURDIR)/out/$(@F).log' rt $(COMMAND)
 	@touch $@
