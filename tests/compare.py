@@ -11,6 +11,7 @@ import shutil
 import subprocess
 import sys
 
+import packets
 import record
 
 # How many lines a run of a program is given.
@@ -42,7 +43,7 @@ def random_packet(rng):
     if rng.random() < 0.1:
         fields["total"] = rng.randrange(100)
     payload = rng.randbytes(rng.choice([0, 1, 2, 3, 20, 46, rng.randrange(300)]))
-    return record.packet(payload, padding=rng.randbytes(rng.choice([0, 0, 1, 14])), **fields)
+    return packets.packet(payload, padding=rng.randbytes(rng.choice([0, 0, 1, 14])), **fields)
 
 
 def random_packet_ipv6(rng):
@@ -56,33 +57,33 @@ def random_packet_ipv6(rng):
                   src=address(), dst=address())
     if rng.random() < 0.1:
         fields["payload_len"] = rng.randrange(100)
-    return record.packet_ipv6(payload, padding=rng.randbytes(rng.choice([0, 0, 1, 14])), **fields)
+    return packets.packet_ipv6(payload, padding=rng.randbytes(rng.choice([0, 0, 1, 14])), **fields)
 
 
 def random_datagram(rng):
     """A UDP packet over IPv4 or IPv6, mostly a right one, with its checksum, none, a part of it or a wrong one."""
-    src, dst, carry = rng.choice(record.CARRIERS)
+    src, dst, carry = rng.choice(packets.CARRIERS)
     payload = rng.randbytes(rng.choice([0, 1, 2, 3, 8, 33, rng.randrange(300)]))
     fields = dict(src_port=rng.randrange(65536), dst_port=rng.choice([0, 53, rng.randrange(65536)]))
     if rng.random() < 0.2:
         fields["length"] = rng.choice([0, 7, 8, 8 + len(payload) // 2, 9 + len(payload), rng.randrange(65536)])
     kind = rng.random()
     if kind < 0.1:
-        fields["checksum"] = record.word_sum(record.pseudo_header(src, dst, 17, fields.get("length", 8 + len(payload))))
+        fields["checksum"] = packets.word_sum(packets.pseudo_header(src, dst, 17, fields.get("length", 8 + len(payload))))
     elif kind < 0.3:
         fields["checksum"] = rng.choice([0, 0xFFFF, rng.randrange(65536)])
-    datagram = record.udp(payload, src=src, dst=dst, **fields) + rng.randbytes(rng.choice([0, 0, 0, 5]))
+    datagram = packets.udp(payload, src=src, dst=dst, **fields) + rng.randbytes(rng.choice([0, 0, 0, 5]))
     return carry(datagram, padding=rng.randbytes(rng.choice([0, 0, 1, 14])))
 
 
 def random_arp(rng):
     """An ARP packet, mostly of Ethernet and IPv4, whose addresses mostly have the lengths that it names."""
     hardware_len, protocol_len = rng.choice([(6, 4), (6, 4), (6, 16), (8, 4), (rng.randrange(20), rng.randrange(20))])
-    message = record.arp(rng.choice([1, 2, rng.randrange(65536)]), rng.choice([1, 1, 1, rng.randrange(65536)]),
-                         rng.choice([record.IPV4, record.IPV4, record.IPV6, rng.randrange(65536)]), hardware_len, protocol_len,
+    message = packets.arp(rng.choice([1, 2, rng.randrange(65536)]), rng.choice([1, 1, 1, rng.randrange(65536)]),
+                         rng.choice([packets.IPV4, packets.IPV4, packets.IPV6, rng.randrange(65536)]), hardware_len, protocol_len,
                          rng.randbytes(hardware_len), rng.randbytes(protocol_len),
                          rng.randbytes(hardware_len), rng.randbytes(protocol_len))
-    return record.ethernet(record.ARP, message + b"\0" * rng.choice([0, 0, 1, 18]), dst=rng.randbytes(6))
+    return packets.ethernet(packets.ARP, message + b"\0" * rng.choice([0, 0, 1, 18]), dst=rng.randbytes(6))
 
 
 def corpus(seed, lines):
