@@ -1,8 +1,10 @@
 -- The digits that stand first, and the first of the pieces between marks.
-use Rattle.std.proofs.Common.{◌≡◌, ◌≢◌, ℕ, zero, suc, ◌-◌, ◌<◌, ◌≤◌, ◌⊎◌, List, [], ◌∷◌, ◌++◌, length, get_or, take, drop, Option, Some, None, Bor, refl, sym, ap, ap₂, ◌∙◌, subst, arith, inl, inr, append-nil, length-append, take_all, take_at, drop_at, length-take-le, length-drop, take-append-drop, eq-eqb}
+use Rattle.std.proofs.Common.{◌≡◌, ◌≢◌, ℕ, zero, suc, ◌-◌, ◌^◌, lit≤, ◌<◌, ◌≤◌, ◌⊎◌, List, [], ◌∷◌, ◌++◌, length, get_or, take, drop, Option, Some, None, Bor, refl, sym, ap, ap₂, ◌∙◌, subst, arith, inl, inr, append-nil, length-append, take_all, take_at, drop_at, length-take-le, length-drop, take-append-drop, eq-eqb}
 use Rattle.std.proofs.lemmas.List.{take_rest}
 use Rattle.std.proofs.lemmas.Bool.{cases_lt}
 use Rattle.std.proofs.lemmas.List.Splits.{join_with_byte-slice_split, slice_split_none, slice_split_at}
+use Rattle.std.proofs.Math.Nat.{pow-le-pow_right}
+use Rattle.std.proofs.lemmas.Int.Digits.{digits_value-lt}
 use Rattle.std.specs.List.{join_with_byte}
 use Rattle.std.specs.Char.{digit_value}
 use Rattle.std.specs.Str.Parse.{AllDigits, digits_value}
@@ -163,3 +165,12 @@ module _ {radix places : ℕ} {text : List ℕ} {value count : ℕ} (first : IsF
           none : (o : Option ℕ) → number_of radix places most piece ≡ o → number_of radix places most piece ≡ None
           none None same = same
           none (Some n) same = absurd (unread piece others e n (number_sound radix places most piece n same))
+
+-- four hex digits write at most ffff
+pub group_small : {text : List ℕ} {value count : ℕ} → IsFirst 16 4 text value count → value ≤ 0xffff
+group_small {text} {value} {count} first =
+    let len = length-take-le count text first.within in
+    let below = digits_value-lt 16 (take count text) first.digits in
+    let short : length (take count text) ≤ 4 = omega (arith, first.few) in
+    let few : 16 ^ length (take count text) ≤ 16 ^ 4 = pow-le-pow_right (lit≤ tt) short in
+    omega (arith, first.is)

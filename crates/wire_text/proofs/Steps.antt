@@ -1,6 +1,6 @@
 -- Steps of the readers' proofs.
-use Rattle.std.proofs.Common.{◌≡◌, ◌≢◌, ℕ, ◌+◌, ◌-◌, ◌<◌, ◌≤◌, ◌==◌, nat_lt, Bool, true, false, ◌&&◌, cond, List, [], ◌∷◌, ◌++◌, length, get_or, take, replicate, bytes_eq, Option, Some, None, refl, sym, ap, ap₂, ◌∙◌, arith, inl, inr, le-leb, lt-ltb, ne_eqb, eq-eqb, eqb-true, not, ◌⊎◌, take_all, Bor, is_some, IfSome, ◌*◌}
-use Rattle.std.proofs.lemmas.Bool.{cases_eq, true≢false, eqb-false}
+use Rattle.std.proofs.Common.{◌≡◌, ◌≢◌, ℕ, zero, suc, ◌+◌, ◌-◌, ◌<◌, ◌≤◌, ◌==◌, nat_lt, nat_le, Bool, true, false, ◌&&◌, cond, List, [], ◌∷◌, ◌++◌, length, get_or, take, drop, replicate, bytes_eq, Option, Some, None, refl, sym, ap, ap₂, ◌∙◌, arith, inl, inr, le-leb, lit≤, length-append, lt-ltb, ne_eqb, eq-eqb, eqb-true, not, ◌⊎◌, take_all, Bor, is_some, IfSome, ◌*◌}
+use Rattle.std.proofs.lemmas.Bool.{cases_eq, true≢false, eqb-false, leb-true}
 use Rattle.std.proofs.lemmas.List.Splits.{join_with_byte-slice_split, slice_split_at}
 use Rattle.std.proofs.NetLemmas.Arrays.{four_items}
 use Rattle.wire_text.specs.Grammar.{groups_of, mapped_groups, IsDotted}
@@ -9,6 +9,11 @@ use Rattle.std.specs.List.{list_all, join_with_byte}
 use Rattle.std.specs.Bool.{then_some}
 use Rattle.wire_text.specs.Reading.{FilledFrom, ◌>>=◌, FirstPiece, octets_read, hex_octets_read, numbers_of, pieces_of, all_groups, may_end_dotted, groups_from, group_of, behind_elision, dotted_end, pieces_after, mapped_read, inner_text, groups_read}
 use Rattle.std.proofs.lemmas.List.Elements.{All-nil}
+use Rattle.std.proofs.lemmas.List.{length-replicate}
+use Rattle.std.proofs.lemmas.Slice.Eq.{bytes_eq-Decides}
+use Rattle.std.specs.Char.{digit_value}
+use Rattle.std.specs.Str.Parse.{AllDigits}
+use Rattle.wire_text.proofs.First.{IsBehind, IsFirst, no_piece}
 use Rattle.wire_text.proofs.Numbers.{number_sound}
 use Rattle.wire_text.proofs.Joined.{octets_complete, octets_sound}
 use Rattle.wire_text.proofs.Ipv6.{dotted_by, dotted_piece}
@@ -121,6 +126,35 @@ pub in_apart : (before : Option ℕ) (text : List ℕ) → (is_some before ≡ t
 in_apart before text (inl seen) h = true≢false (sym seen ∙ ap is_some h.0)
 in_apart before text (inr apart) h = apart h.1 h.2
 
+-- where eight groups were seen
+unlike : (xs ys : List ℕ) → length xs ≢ length ys → bytes_eq xs ys ≡ false
+unlike xs ys differ = by (bytes_eq xs ys) refl
+  where
+    by : (b : Bool) → bytes_eq xs ys ≡ b → bytes_eq xs ys ≡ false
+    by true e = absurd (differ (ap length ((bytes_eq-Decides xs ys).0 e)))
+    by false e = e
+
+full_apart : (before : Option ℕ) (seen : List ℕ) → length seen ≡ 8 → may_end_dotted before seen ≡ false
+full_apart None seen full = unlike seen mapped_groups (omega (arith, full))
+full_apart (Some n) seen full = by (nat_le n 4) refl
+  where
+    by : (b : Bool) → nat_le n 4 ≡ b → (b && bytes_eq seen (replicate n 0 ++ 0xffff ∷ [])) ≡ false
+    by false e = refl
+    by true e = unlike seen _ (omega (arith, leb-true n 4 e, full, length-append {A = ℕ} (replicate n 0) (0xffff ∷ []), length-replicate {A = ℕ} n 0))
+
+-- why the text begins neither with a group that has room nor with a `::` that may stand
+abbrev pub IsStop : Option ℕ → List ℕ → List ℕ → ℕ → Type 0
+IsStop before seen text count =
+    ((count ≡ 0) × ((is_some before ≡ true) ⊎ (length text ≡ 0)))
+    ⊎ ((¬ (IsBehind 58 (drop count text)))
+    ⊎ ((length seen ≡ 8) × ((g : ℕ) × ((after : Option (Bor (List ℕ))) × FirstPiece 58 16 4 0xffff text (Some (g, after))))))
+
+-- a colon comes first only behind no digits
+other_first : (text : List ℕ) (count : ℕ) → AllDigits 16 (take count text) → ¬ (IsBehind 58 (drop count text)) → 0 < length text → get_or text 0 0 ≢ 58
+other_first [] count digits other some = absurd (omega arith)
+other_first (c ∷ text) zero digits other some = other
+other_first (c ∷ text) (suc n) digits other some = λ same. omega (arith, digits.0, ap digit_value same)
+
 either_way : {A : Type 0} (b : Bool) (x : A) → x ≡ cond b x x
 either_way true x = refl
 either_way false x = refl
@@ -188,3 +222,10 @@ module _ {read : Option (List ℕ)} (before : Option ℕ) (seen : List ℕ) {res
           let some : length (c ∷ piece) ≢ 0 = omega arith in
           at_other before seen (c ∷ piece) (next ∷ others) some none
           ∙ unread (not_mapped more.now (inr (omega (arith, ap length cut))))
+
+  -- neither a group that has room nor a `::` that may stand
+  pub at_stop : {value count : ℕ} → IsFirst 16 4 more.now value count → IsStop before seen more.now count → read ≡ cond (may_end_dotted before seen) (mapped_read more.now) None
+  at_stop first (inl (none, inl some)) = at_last (no_piece first 58 (lit≤ tt) 0xffff (inl none)) (in_apart before more.now (inl some))
+  at_stop first (inl (none, inr empty)) = at_last (no_piece first 58 (lit≤ tt) 0xffff (inl none)) (in_apart before more.now (inr (λ some. absurd (omega arith))))
+  at_stop first (inr (inl other)) = at_last (no_piece first 58 (lit≤ tt) 0xffff (inr (inr other))) (in_apart before more.now (inr (other_first more.now _ first.digits other)))
+  at_stop first (inr (inr (full, (g, (after, piece))))) = group_full piece full ∙ rw (full_apart before seen full) refl

@@ -1,12 +1,12 @@
 //! The eight groups of an IPv6 text.
 
-ghost use Rattle.std.specs.Prelude.{◌≡◌, ◌≢◌, ◌≤◌, ◌<◌, ◌==◌, ◌∷◌, IfSome, MatchOption, length, option_copied, slice_index, take};
+ghost use Rattle.std.specs.Prelude.{◌≡◌, ◌≢◌, ◌≤◌, ◌<◌, ◌==◌, ◌∷◌, IfSome, length, option_copied, take};
 ghost use Rattle.std.specs.List.{list_all};
-ghost use Rattle.wire_text.specs.Grammar.{IsIpv6Text, Reads, colon};
+ghost use Rattle.wire_text.specs.Grammar.{IsIpv6Text, Reads};
 ghost use Rattle.wire_text.specs.Reading.{inner_text, mapped_read, spread};
 ghost use Rattle.wire_text.specs.Reading as Reading;
 
-use crate::number_text::first_piece;
+use crate::number_text::first_number;
 use crate::octets_text::octets;
 
 fn are_zeros(groups: &[u16]) -> bool
@@ -64,6 +64,7 @@ fn all_groups(groups: &[u16; 8], len: usize, before: Option<usize>) -> Option<[u
 }
 
 /// The eight groups of an address that ends in this dotted part.
+#[inline(always)]
 fn mapped(text: &[u8]) -> Option<[u16; 8]>
     ensures { result ≡ mapped_read text.now }
 {
@@ -89,18 +90,8 @@ fn inner(text: &[u8]) -> Option<&[u8]>
     }
 }
 
-/// What follows the colon that the text begins with, if it does.
-#[inline(always)]
-fn after_colon(text: &[u8]) -> Option<&[u8]>
-    ensures { MatchOption result (0 < length text.now → slice_index text.now 0 ≢ colon) (λ behind. text.now ≡ colon ∷ behind.now) }
-{
-    match text.split_first() {
-        Some((first, behind)) if *first == b':' => Some(behind),
-        _ => None,
-    }
-}
-
 /// The eight groups of an IPv6 text.
+#[inline(always)]
 pub fn groups(text: &[u8]) -> Option<[u16; 8]>
     ensures { Reads IsIpv6Text text.now result }
 {
@@ -109,24 +100,27 @@ pub fn groups(text: &[u8]) -> Option<[u16; 8]>
     let mut len = 0;
     let mut before = None;
     while let Some(more) = rest {
-        if let Some((group, behind)) = first_piece(more, b':', 16, 4, 0xffff) {
-            if len == 8 {
-                return None;
-            }
-            groups[len] = group as u16;
-            len += 1;
-            rest = behind;
-            continue;
-        }
-        match after_colon(more) {
-            // An empty piece is `::`, which stands once, and may be the end.
-            Some(behind) if before.is_none() => {
+        let (number, digits) = first_number(more, 16, 4);
+        let group = number as u16;
+        rest = match (digits, more[digits..].split_first()) {
+            // A colon behind no digits is `::`, which stands once, and may be the end.
+            (0, Some((byte, behind))) if *byte == b':' && before.is_none() => {
                 before = Some(len);
-                rest = (!behind.is_empty()).then_some(behind);
+                (!behind.is_empty()).then_some(behind)
+            }
+            (1.., Some((byte, behind))) if *byte == b':' && len < 8 => {
+                groups[len] = group;
+                len += 1;
+                Some(behind)
+            }
+            (1.., None) if len < 8 => {
+                groups[len] = group;
+                len += 1;
+                None
             }
             _ if may_end_dotted(&groups[..len], before) => return mapped(more),
             _ => return None,
-        }
+        };
     }
     all_groups(&groups, len, before)
 }

@@ -31,7 +31,7 @@ fn hex_digit(byte: u8) -> u32
 
 /// The number that the first digits write, of which at most so many are read, and how many there are.
 #[inline(always)]
-fn first_number(text: &[u8], radix: u32, places: usize) -> (u32, usize)
+pub(crate) fn first_number(text: &[u8], radix: u32, places: usize) -> (u32, usize)
     requires low { 2 ≤ radix }
     requires high { radix ≤ 16 }
     requires short { places ≤ 5 }
@@ -41,16 +41,18 @@ fn first_number(text: &[u8], radix: u32, places: usize) -> (u32, usize)
     ensures places { result.1 ≤ places }
     ensures whole { (result.1 ≡ places) ⊎ ((result.1 ≡ length text.now) ⊎ (radix ≤ digit_value (slice_index text.now result.1))) }
 {
-    let most = places.min(text.len());
     let mut value = 0;
-    for len in 0..most {
+    for len in 0..places {
+        if len == text.len() {
+            return (value, len);
+        }
         let digit = hex_digit(text[len]);
         if digit >= radix {
             return (value, len);
         }
         value = value * radix + digit;
     }
-    (value, most)
+    (value, places)
 }
 
 /// The number that a text of one digit to `places` digits writes, if it is at most `most`.

@@ -30,6 +30,7 @@ fn fill(text: &[u8], mark: u8, radix: u32, places: usize, values: &mut [u8]) -> 
 }
 
 /// The octets of four decimal numbers joined by dots.
+#[inline(always)]
 pub fn octets(text: &[u8]) -> Option<[u8; 4]>
     ensures { Reads IsDotted text.now result }
 {

@@ -1,9 +1,10 @@
-use Rattle.std.proofs.Common.{◌<◌, None, Some, length, take, sym, ap, ap₂, ◌∙◌, arith, rules, length-take-le, not, refl, inl, inr}
+use Rattle.std.proofs.Common.{◌<◌, None, Some, length, take, drop, subst, sym, ap, ap₂, ◌∙◌, arith, rules, length-take-le, not, refl, inl, inr, lit≤, ◌∷◌}
 use Rattle.std.proofs.lemmas.List.{take_more_set}
 use Rattle.wire_text.specs.Reading.{groups_from, pieces_after}
+use Rattle.wire_text.proofs.First.{IsBehind, IsFirst, group_small, last_piece, piece_and_more, rest_none, rest_some}
 use Rattle.wire_text.proofs.Readers.{reads_groups}
-use Rattle.wire_text.proofs.Steps.{inner_none, inner_some, group_full, group_more, elided, in_apart, none_from, at_last, at_end, still_within}
-use Rattle.wire_text.proofs.groups_text.groups.Goals.{in_default-after_colon-via-in-Some-after_colon+else-is_none, in_default-after_colon-via-in_default-after_colon}
+use Rattle.wire_text.proofs.Steps.{inner_none, inner_some, group_more, elided, none_from, at_stop, at_end, still_within}
+use Rattle.wire_text.proofs.groups_text.groups.Goals.{in_default-2-via-in-0-Some+then-byte-eq58+else-is_none, in_default-2-via-in-0-Some+else-byte-eq58, in_default-2-via-in-0+in-None, in_default-2-via-in-1-to-max-Some+then-byte-eq58-2+else-len-lt8, in_default-2-via-in-1-to-max-Some+else-byte-eq58-2, in_default-2-via-in-1-to-max-None+else-len-lt8-2}
 use Rattle.wire_text.proofs.groups_text.groups.Goals as goal
 
 pub returns-in_err-inner : goal.returns-in_err-inner
@@ -17,48 +18,81 @@ loop-rest-init c = record {
   within = tt;
 }
 
-pub returns-then-len-eq8 : goal.returns-then-len-eq8
-returns-then-len-eq8 c =
-    let len = length-take-le c.loop-rest.len c.loop-rest.groups (omega (arith, c.loop-rest.invariant.size)) in
-    reads_groups c.args.text.now None (sym (group_full c.loop-rest.before (take c.loop-rest.len c.loop-rest.groups) c.loop-rest.invariant.read c.in-Some.is c.in-Some-first_piece.ensures.reads (omega arith)))
+pub overflow_cast-group : goal.overflow_cast-group
+overflow_cast-group c =
+    let read = c.first_number-number.ensures in
+    let first : IsFirst 16 4 c.in-Some.more.now c.first_number-number.result.0 c.first_number-number.result.1 = record { digits = read.digits; is = read.value; within = read.within; few = read.places; whole = read.whole } in
+    omega (arith, group_small first)
 
-pub loop-rest-preserved-in-Some-first_piece : goal.loop-rest-preserved-in-Some-first_piece
-loop-rest-preserved-in-Some-first_piece c =
-    let len = length-take-le c.loop-rest.len c.loop-rest.groups (omega (arith, c.loop-rest.invariant.size)) in
-    let inside : c.loop-rest.len < length c.loop-rest.groups = omega (arith, c.loop-rest.invariant.size) in
-    record {
-      read = group_more c.loop-rest.before (take c.loop-rest.len c.loop-rest.groups) c.loop-rest.invariant.read c.in-Some.is c.in-Some-first_piece.ensures.reads _ (omega (arith, c.loop-rest.invariant.size)) (take_more_set c.loop-rest.groups c.loop-rest.len c.in-Some-first_piece.group inside);
-      size = search rules;
-      few = omega (arith, c.loop-rest.invariant.size);
-      within = still_within c.loop-rest.before c.loop-rest.len c.loop-rest.invariant.within;
-    }
-
-pub loop-rest-preserved : goal.loop-rest-preserved
-loop-rest-preserved c =
+pub loop-rest-preserved-in-0-Some : goal.loop-rest-preserved-in-0-Some
+loop-rest-preserved-in-0-Some c =
     let len = length-take-le c.loop-rest.len c.loop-rest.groups (omega (arith, c.loop-rest.invariant.size)) in
     let none = none_from c.loop-rest.before (c.is_none.ensures ∙ ap not c.if-is_none.true) in
+    let behind = ap (λ n. drop n c.in-Some.more.now) (sym c.in-0-Some.is-0) ∙ rest_some c.in-Some.more.now c.first_number-number.result.1 _ _ c.in-0-Some.ensures.cases.0 ∙ ap (λ b. b ∷ c.in-0-Some.behind.now) c.if-byte-eq58.true in
     record {
-      read = elided c.loop-rest.before (take c.loop-rest.len c.loop-rest.groups) c.loop-rest.invariant.read c.in-Some.is c.in-Some-after_colon.behind none c.in-Some-after_colon.ensures c.is_empty.result c.is_empty.ensures
+      read = elided c.loop-rest.before (take c.loop-rest.len c.loop-rest.groups) c.loop-rest.invariant.read c.in-Some.is c.in-0-Some.behind none behind c.is_empty.result c.is_empty.ensures
           ∙ ap₂ (λ n r. groups_from (Some n) (take c.loop-rest.len c.loop-rest.groups) (pieces_after 58 r)) len (sym c.then_some-rest.ensures);
       size = c.loop-rest.invariant.size;
       few = c.loop-rest.invariant.few;
       within = omega arith;
     }
 
-pub returns-in_default-after_colon : goal.returns-in_default-after_colon
-returns-in_default-after_colon c =
-    let last = at_last c.loop-rest.before (take c.loop-rest.len c.loop-rest.groups) c.loop-rest.invariant.read c.in-Some.is c.in_default-first_piece.ensures.reads (in_apart c.loop-rest.before c.in-Some.more.now (elim c.in_default-after_colon.branch [
-      | in_default-after_colon-via-in-Some-after_colon+else-is_none w ↦ inl (w.is_none.ensures ∙ ap not w.if-is_none.false)
-      | in_default-after_colon-via-in_default-after_colon w ↦ inr w.in_default-after_colon.ensures
-    ])) in
-    reads_groups c.args.text.now _ (c.mapped.ensures ∙ sym (rw (sym c.may_end_dotted.ensures ∙ c.if-may_end_dotted.true) at last))
+pub loop-rest-preserved-in-1-to-max-Some : goal.loop-rest-preserved-in-1-to-max-Some
+loop-rest-preserved-in-1-to-max-Some c =
+    let read = c.first_number-number.ensures in
+    let first : IsFirst 16 4 c.in-Some.more.now c.first_number-number.result.0 c.first_number-number.result.1 = record { digits = read.digits; is = read.value; within = read.within; few = read.places; whole = read.whole } in
+    let piece = piece_and_more first 58 (lit≤ tt) 0xffff c.in-1-to-max-Some.is-0.1 (group_small first) c.in-1-to-max-Some.behind (rest_some c.in-Some.more.now c.first_number-number.result.1 _ _ c.in-1-to-max-Some.ensures.cases.0 ∙ ap (λ b. b ∷ c.in-1-to-max-Some.behind.now) c.if-byte-eq58-2.true) in
+    let len = length-take-le c.loop-rest.len c.loop-rest.groups (omega (arith, c.loop-rest.invariant.size)) in
+    let inside : c.loop-rest.len < length c.loop-rest.groups = omega (arith, c.loop-rest.invariant.size, c.if-len-lt8.true) in
+    record {
+      read = group_more c.loop-rest.before (take c.loop-rest.len c.loop-rest.groups) c.loop-rest.invariant.read c.in-Some.is piece _ (omega (arith, c.if-len-lt8.true)) (take_more_set c.loop-rest.groups c.loop-rest.len c.first_number-number.result.0 inside);
+      size = search rules;
+      few = omega (arith, c.if-len-lt8.true);
+      within = still_within c.loop-rest.before c.loop-rest.len c.loop-rest.invariant.within;
+    }
+
+pub loop-rest-preserved : goal.loop-rest-preserved
+loop-rest-preserved c =
+    let read = c.first_number-number.ensures in
+    let first : IsFirst 16 4 c.in-Some.more.now c.first_number-number.result.0 c.first_number-number.result.1 = record { digits = read.digits; is = read.value; within = read.within; few = read.places; whole = read.whole } in
+    let piece = last_piece first 58 (lit≤ tt) 0xffff c.in-1-to-max-None.is-0.1 (group_small first) (rest_none c.in-Some.more.now c.first_number-number.result.1 c.in-1-to-max-None.ensures.cases) in
+    let len = length-take-le c.loop-rest.len c.loop-rest.groups (omega (arith, c.loop-rest.invariant.size)) in
+    let inside : c.loop-rest.len < length c.loop-rest.groups = omega (arith, c.loop-rest.invariant.size, c.if-len-lt8-2.true) in
+    record {
+      read = group_more c.loop-rest.before (take c.loop-rest.len c.loop-rest.groups) c.loop-rest.invariant.read c.in-Some.is piece _ (omega (arith, c.if-len-lt8-2.true)) (take_more_set c.loop-rest.groups c.loop-rest.len c.first_number-number.result.0 inside);
+      size = search rules;
+      few = omega (arith, c.if-len-lt8-2.true);
+      within = still_within c.loop-rest.before c.loop-rest.len c.loop-rest.invariant.within;
+    }
 
 pub returns-in_default-2 : goal.returns-in_default-2
 returns-in_default-2 c =
-    let last = at_last c.loop-rest.before (take c.loop-rest.len c.loop-rest.groups) c.loop-rest.invariant.read c.in-Some.is c.in_default-first_piece.ensures.reads (in_apart c.loop-rest.before c.in-Some.more.now (elim c.in_default-after_colon.branch [
-      | in_default-after_colon-via-in-Some-after_colon+else-is_none w ↦ inl (w.is_none.ensures ∙ ap not w.if-is_none.false)
-      | in_default-after_colon-via-in_default-after_colon w ↦ inr w.in_default-after_colon.ensures
-    ])) in
+    let read = c.first_number-number.ensures in
+    let first : IsFirst 16 4 c.in-Some.more.now c.first_number-number.result.0 c.first_number-number.result.1 = record { digits = read.digits; is = read.value; within = read.within; few = read.places; whole = read.whole } in
+    let len = length-take-le c.loop-rest.len c.loop-rest.groups (omega (arith, c.loop-rest.invariant.size)) in
+    let last = at_stop c.loop-rest.before (take c.loop-rest.len c.loop-rest.groups) c.loop-rest.invariant.read c.in-Some.is first (elim c.in_default-2.branch [
+      | in_default-2-via-in-0-Some+then-byte-eq58+else-is_none w ↦ inl (w.in-0-Some.is-0, inl (w.is_none.ensures ∙ ap not w.if-is_none.false))
+      | in_default-2-via-in-0-Some+else-byte-eq58 w ↦ inr (inl (λ marked. w.if-byte-eq58.false (subst (IsBehind 58) (rest_some c.in-Some.more.now c.first_number-number.result.1 _ _ w.in-0-Some.ensures.cases.0) marked)))
+      | in_default-2-via-in-0+in-None w ↦ inl (w.in_default-2.is-0, inr (omega (arith, w.in_default-2.is-0, rest_none c.in-Some.more.now c.first_number-number.result.1 w.in_default-2.ensures.cases)))
+      | in_default-2-via-in-1-to-max-Some+then-byte-eq58-2+else-len-lt8 w ↦ inr (inr (omega (arith, w.if-len-lt8.false, c.loop-rest.invariant.few), (_, (_, piece_and_more first 58 (lit≤ tt) 0xffff w.in-1-to-max-Some.is-0.1 (group_small first) w.in-1-to-max-Some.behind (rest_some c.in-Some.more.now c.first_number-number.result.1 _ _ w.in-1-to-max-Some.ensures.cases.0 ∙ ap (λ b. b ∷ w.in-1-to-max-Some.behind.now) w.if-byte-eq58-2.true)))))
+      | in_default-2-via-in-1-to-max-Some+else-byte-eq58-2 w ↦ inr (inl (λ marked. w.if-byte-eq58-2.false (subst (IsBehind 58) (rest_some c.in-Some.more.now c.first_number-number.result.1 _ _ w.in-1-to-max-Some.ensures.cases.0) marked)))
+      | in_default-2-via-in-1-to-max-None+else-len-lt8-2 w ↦ inr (inr (omega (arith, w.if-len-lt8-2.false, c.loop-rest.invariant.few), (_, (_, last_piece first 58 (lit≤ tt) 0xffff w.in-1-to-max-None.is-0.1 (group_small first) (rest_none c.in-Some.more.now c.first_number-number.result.1 w.in-1-to-max-None.ensures.cases)))))
+    ]) in
+    reads_groups c.args.text.now _ (c.mapped.ensures ∙ sym (rw (sym c.may_end_dotted.ensures ∙ c.if-may_end_dotted.true) at last))
+
+pub returns-in_default-2-2 : goal.returns-in_default-2-2
+returns-in_default-2-2 c =
+    let read = c.first_number-number.ensures in
+    let first : IsFirst 16 4 c.in-Some.more.now c.first_number-number.result.0 c.first_number-number.result.1 = record { digits = read.digits; is = read.value; within = read.within; few = read.places; whole = read.whole } in
+    let len = length-take-le c.loop-rest.len c.loop-rest.groups (omega (arith, c.loop-rest.invariant.size)) in
+    let last = at_stop c.loop-rest.before (take c.loop-rest.len c.loop-rest.groups) c.loop-rest.invariant.read c.in-Some.is first (elim c.in_default-2.branch [
+      | in_default-2-via-in-0-Some+then-byte-eq58+else-is_none w ↦ inl (w.in-0-Some.is-0, inl (w.is_none.ensures ∙ ap not w.if-is_none.false))
+      | in_default-2-via-in-0-Some+else-byte-eq58 w ↦ inr (inl (λ marked. w.if-byte-eq58.false (subst (IsBehind 58) (rest_some c.in-Some.more.now c.first_number-number.result.1 _ _ w.in-0-Some.ensures.cases.0) marked)))
+      | in_default-2-via-in-0+in-None w ↦ inl (w.in_default-2.is-0, inr (omega (arith, w.in_default-2.is-0, rest_none c.in-Some.more.now c.first_number-number.result.1 w.in_default-2.ensures.cases)))
+      | in_default-2-via-in-1-to-max-Some+then-byte-eq58-2+else-len-lt8 w ↦ inr (inr (omega (arith, w.if-len-lt8.false, c.loop-rest.invariant.few), (_, (_, piece_and_more first 58 (lit≤ tt) 0xffff w.in-1-to-max-Some.is-0.1 (group_small first) w.in-1-to-max-Some.behind (rest_some c.in-Some.more.now c.first_number-number.result.1 _ _ w.in-1-to-max-Some.ensures.cases.0 ∙ ap (λ b. b ∷ w.in-1-to-max-Some.behind.now) w.if-byte-eq58-2.true)))))
+      | in_default-2-via-in-1-to-max-Some+else-byte-eq58-2 w ↦ inr (inl (λ marked. w.if-byte-eq58-2.false (subst (IsBehind 58) (rest_some c.in-Some.more.now c.first_number-number.result.1 _ _ w.in-1-to-max-Some.ensures.cases.0) marked)))
+      | in_default-2-via-in-1-to-max-None+else-len-lt8-2 w ↦ inr (inr (omega (arith, w.if-len-lt8-2.false, c.loop-rest.invariant.few), (_, (_, last_piece first 58 (lit≤ tt) 0xffff w.in-1-to-max-None.is-0.1 (group_small first) (rest_none c.in-Some.more.now c.first_number-number.result.1 w.in-1-to-max-None.ensures.cases)))))
+    ]) in
     reads_groups c.args.text.now None (sym (rw (sym c.may_end_dotted.ensures ∙ c.if-may_end_dotted.false) at last))
 
 pub returns : goal.returns

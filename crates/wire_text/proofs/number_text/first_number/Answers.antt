@@ -15,4 +15,4 @@ overflow_add-value c =
 pub loop-len-preserved : goal.loop-len-preserved
 loop-len-preserved c =
     let h = number_more _ _ c.args.text.now _ _ _ (omega arith) c.loop-len.invariant.digits c.loop-len.invariant.value refl (digit_below c.args.radix _ _ c.requires.high c.hex_digit-digit.ensures c.if-digit-radix.false) in
-    record { digits = h.0; value = h.1 }
+    record { within = omega arith; digits = h.0; value = h.1 }
