@@ -1,9 +1,9 @@
 //! The eight groups of an IPv6 text.
 
-ghost use Rattle.std.specs.Prelude.{◌≡◌, ◌≢◌, ◌≤◌, ◌<◌, ◌==◌, ◌∷◌, IfSome, length, option_copied, take};
+ghost use Rattle.std.specs.Prelude.{◌≡◌, ◌≢◌, ◌≤◌, ◌<◌, ◌==◌, [], IfSome, length, option_copied, take};
 ghost use Rattle.std.specs.List.{list_all};
 ghost use Rattle.wire_text.specs.Grammar.{IsIpv6Text, Reads};
-ghost use Rattle.wire_text.specs.Reading.{inner_text, mapped_read, spread};
+ghost use Rattle.wire_text.specs.Reading.{inner_text, spread};
 ghost use Rattle.wire_text.specs.Reading as Reading;
 
 use crate::number_text::first_number;
@@ -63,11 +63,14 @@ fn all_groups(groups: &[u16; 8], len: usize, before: Option<usize>) -> Option<[u
     }
 }
 
-/// The eight groups of an address that ends in this dotted part.
+/// The eight groups of an address that ends in this dotted part, if one may come behind these groups.
 #[inline(always)]
-fn mapped(text: &[u8]) -> Option<[u16; 8]>
-    ensures { result ≡ mapped_read text.now }
+fn dotted_end(groups: &[u16], before: Option<usize>, text: &[u8]) -> Option<[u16; 8]>
+    ensures { result ≡ Reading.dotted_end before groups.now text.now [] }
 {
+    if !may_end_dotted(groups, before) {
+        return None;
+    }
     let [a, b, c, d] = octets(text)?;
     let high = u16::from_be_bytes([a, b]);
     let low = u16::from_be_bytes([c, d]);
@@ -118,8 +121,7 @@ pub fn groups(text: &[u8]) -> Option<[u16; 8]>
                 len += 1;
                 None
             }
-            _ if may_end_dotted(&groups[..len], before) => return mapped(more),
-            _ => return None,
+            _ => return dotted_end(&groups[..len], before, more),
         };
     }
     all_groups(&groups, len, before)

@@ -1,4 +1,4 @@
-use Rattle.std.proofs.Common.{◌<◌, None, Some, length, take, drop, subst, sym, ap, ap₂, ◌∙◌, arith, rules, length-take-le, not, refl, inl, inr, lit≤, ◌∷◌}
+use Rattle.std.proofs.Common.{◌<◌, Some, length, take, drop, subst, sym, ap, ap₂, ◌∙◌, arith, rules, length-take-le, not, refl, inl, inr, lit≤, ◌∷◌}
 use Rattle.std.proofs.lemmas.List.{take_more_set}
 use Rattle.wire_text.specs.Reading.{groups_from, pieces_after}
 use Rattle.wire_text.proofs.First.{IsBehind, IsFirst, group_small, last_piece, piece_and_more, rest_none, rest_some}
@@ -78,22 +78,7 @@ returns-in_default-2 c =
       | in_default-2-via-in-1-to-max-Some+else-byte-eq58-2 w ↦ inr (inl (λ marked. w.if-byte-eq58-2.false (subst (IsBehind 58) (rest_some c.in-Some.more.now c.first_number-number.result.1 _ _ w.in-1-to-max-Some.ensures.cases.0) marked)))
       | in_default-2-via-in-1-to-max-None+else-len-lt8-2 w ↦ inr (inr (omega (arith, w.if-len-lt8-2.false, c.loop-rest.invariant.few), (_, (_, last_piece first 58 (lit≤ tt) 0xffff w.in-1-to-max-None.is-0.1 (group_small first) (rest_none c.in-Some.more.now c.first_number-number.result.1 w.in-1-to-max-None.ensures.cases)))))
     ]) in
-    reads_groups c.args.text.now _ (c.mapped.ensures ∙ sym (rw (sym c.may_end_dotted.ensures ∙ c.if-may_end_dotted.true) at last))
-
-pub returns-in_default-2-2 : goal.returns-in_default-2-2
-returns-in_default-2-2 c =
-    let read = c.first_number-number.ensures in
-    let first : IsFirst 16 4 c.in-Some.more.now c.first_number-number.result.0 c.first_number-number.result.1 = record { digits = read.digits; is = read.value; within = read.within; few = read.places; whole = read.whole } in
-    let len = length-take-le c.loop-rest.len c.loop-rest.groups (omega (arith, c.loop-rest.invariant.size)) in
-    let last = at_stop c.loop-rest.before (take c.loop-rest.len c.loop-rest.groups) c.loop-rest.invariant.read c.in-Some.is first (elim c.in_default-2.branch [
-      | in_default-2-via-in-0-Some+then-byte-eq58+else-is_none w ↦ inl (w.in-0-Some.is-0, inl (w.is_none.ensures ∙ ap not w.if-is_none.false))
-      | in_default-2-via-in-0-Some+else-byte-eq58 w ↦ inr (inl (λ marked. w.if-byte-eq58.false (subst (IsBehind 58) (rest_some c.in-Some.more.now c.first_number-number.result.1 _ _ w.in-0-Some.ensures.cases.0) marked)))
-      | in_default-2-via-in-0+in-None w ↦ inl (w.in_default-2.is-0, inr (omega (arith, w.in_default-2.is-0, rest_none c.in-Some.more.now c.first_number-number.result.1 w.in_default-2.ensures.cases)))
-      | in_default-2-via-in-1-to-max-Some+then-byte-eq58-2+else-len-lt8 w ↦ inr (inr (omega (arith, w.if-len-lt8.false, c.loop-rest.invariant.few), (_, (_, piece_and_more first 58 (lit≤ tt) 0xffff w.in-1-to-max-Some.is-0.1 (group_small first) w.in-1-to-max-Some.behind (rest_some c.in-Some.more.now c.first_number-number.result.1 _ _ w.in-1-to-max-Some.ensures.cases.0 ∙ ap (λ b. b ∷ w.in-1-to-max-Some.behind.now) w.if-byte-eq58-2.true)))))
-      | in_default-2-via-in-1-to-max-Some+else-byte-eq58-2 w ↦ inr (inl (λ marked. w.if-byte-eq58-2.false (subst (IsBehind 58) (rest_some c.in-Some.more.now c.first_number-number.result.1 _ _ w.in-1-to-max-Some.ensures.cases.0) marked)))
-      | in_default-2-via-in-1-to-max-None+else-len-lt8-2 w ↦ inr (inr (omega (arith, w.if-len-lt8-2.false, c.loop-rest.invariant.few), (_, (_, last_piece first 58 (lit≤ tt) 0xffff w.in-1-to-max-None.is-0.1 (group_small first) (rest_none c.in-Some.more.now c.first_number-number.result.1 w.in-1-to-max-None.ensures.cases)))))
-    ]) in
-    reads_groups c.args.text.now None (sym (rw (sym c.may_end_dotted.ensures ∙ c.if-may_end_dotted.false) at last))
+    reads_groups c.args.text.now _ (c.dotted_end.ensures ∙ sym last)
 
 pub returns : goal.returns
 returns c = reads_groups c.args.text.now _ (c.all_groups.ensures ∙ sym (c.loop-rest.invariant.read ∙ ap (λ r. groups_from c.loop-rest.before (take c.loop-rest.len c.loop-rest.groups) (pieces_after 58 r)) c.in_default.is ∙ at_end c.loop-rest.before (take c.loop-rest.len c.loop-rest.groups)))
