@@ -1,11 +1,12 @@
 //! The internet checksum (RFC 1071), without the final complement.
 
-ghost use Rattle.std.specs.Prelude.{◌≡◌, ◌*◌, ◌++◌};
+ghost use Rattle.std.specs.Prelude.{◌≡◌, ◌*◌};
 ghost use Rattle.wire_ends.specs.IpAddress.{octets_of, version_of};
 ghost use Rattle.wire_checksum.specs.PseudoHeader.{pseudo_header_bytes, with_pseudo_header};
 ghost use Rattle.wire_checksum.specs.WordSum.{residue, sum_of, sum_of_bytes};
 
-use crate::totals::{around, finish, total, total_of_4, total_of_8, total_of_16, total_of_20};
+use crate::parts;
+use crate::totals::{around, finish, total, total_of_words};
 use wire_addr::{Ipv4Address, Ipv6Address};
 use wire_ends::{IpAddress, IpProtocol};
 
@@ -30,7 +31,7 @@ pub fn data(bytes: &[u8]) -> u16
     ensures { result ≡ sum_of_bytes bytes.now }
 {
     match <&[u8; 20]>::try_from(bytes) {
-        Ok(header) => finish(total_of_20(header)),
+        Ok(header) => parts::header(header),
         Err(_) => finish(total(bytes)),
     }
 }
@@ -93,26 +94,9 @@ pub fn packet(
     finish(around(header, total(packet)))
 }
 
-/// The sum of a packet, as of `packet`, whose header of eight octets and payload lie apart.
-#[inline(always)]
-pub fn packet_parts(
-    src_addr: IpAddress,
-    dst_addr: IpAddress,
-    next_header: IpProtocol,
-    header: &[u8; 8],
-    payload: &[u8],
-) -> u16
-    requires { version_of src_addr ≡ version_of dst_addr }
-    ensures { result ≡ sum_of_bytes (with_pseudo_header src_addr dst_addr next_header (header.now ++ payload.now)) }
-{
-    let length = ((header.len() + payload.len()) % (1 << 16)) as u32;
-    let pseudo_header = pseudo_header_total(src_addr, dst_addr, next_header, length);
-    finish(around(around(pseudo_header, total_of_8(header)), total(payload)))
-}
-
 // The total of a pseudo header.
 #[inline]
-fn pseudo_header_total(
+pub(crate) fn pseudo_header_total(
     src_addr: IpAddress,
     dst_addr: IpAddress,
     next_header: IpProtocol,
@@ -134,7 +118,7 @@ fn address_total(address: IpAddress) -> u64
     ensures { residue (256 * result) ≡ sum_of_bytes (octets_of address) }
 {
     match address {
-        IpAddress::Ipv4(address) => total_of_4(&address.octets()),
-        IpAddress::Ipv6(address) => total_of_16(&address.octets()),
+        IpAddress::Ipv4(address) => total_of_words(&address.octets()),
+        IpAddress::Ipv6(address) => total_of_words(&address.octets()),
     }
 }

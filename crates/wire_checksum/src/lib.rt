@@ -3,6 +3,7 @@
 
 pub mod checksum;
 pub mod laws;
+pub mod parts;
 #[cfg(test)]
 mod tests;
 mod totals;

@@ -65,36 +65,19 @@ fn long(bytes: &[u8]) -> u64
     }
 }
 
-/// The total of an IPv4 address.
-#[inline]
-pub fn total_of_4(bytes: &[u8; 4]) -> u64
+/// The total of a short header or of an address.
+#[inline(always)]
+pub fn total_of_words(bytes: &[u8]) -> u64
+    requires whole { length bytes.now % 4 ≡ 0 }
+    requires short { length bytes.now ≤ 60 }
     ensures { residue (256 * result) ≡ sum_of_bytes bytes.now }
 {
-    u64::from(u32::from_le_bytes(*bytes))
-}
-
-/// The total of a UDP header.
-#[inline]
-pub fn total_of_8(bytes: &[u8; 8]) -> u64
-    ensures { residue (256 * result) ≡ sum_of_bytes bytes.now }
-{
-    u64::from_le_bytes(*bytes)
-}
-
-/// The total of an IPv6 address.
-#[inline]
-pub fn total_of_16(bytes: &[u8; 16]) -> u64
-    ensures { residue (256 * result) ≡ sum_of_bytes bytes.now }
-{
-    whole_words(bytes, 0)
-}
-
-/// The total of an IPv4 header without options.
-#[inline]
-pub fn total_of_20(bytes: &[u8; 20]) -> u64
-    ensures { residue (256 * result) ≡ sum_of_bytes bytes.now }
-{
-    whole_words(bytes, tail(bytes))
+    let (words, _) = bytes.as_chunks::<4>();
+    let mut sum: u64 = 0;
+    for word in words {
+        sum += u64::from(u32::from_le_bytes(*word));
+    }
+    sum
 }
 
 // A total and that of all whole words of eight bytes.

@@ -3,7 +3,7 @@ use Rattle.std.proofs.Common.{ℕ, ◌≡◌, ◌≤◌, ◌<◌, ◌+◌, ◌-�
 use Rattle.std.proofs.Math.Seq.{take-append_seam}
 use Rattle.byteorder.specs.Endian.{big_bytes}
 use Rattle.wire_field.specs.Field.{with_field, with_part, with_range}
-use Rattle.wire_field.proofs.Cells.{cells-all, cells-drop, word_high, word_low}
+use Rattle.wire_field.proofs.Cells.{cells, cells-all, cells-drop, word_high, word_low}
 use Rattle.wire_ipv4.specs.Ipv4.{with_checksum}
 use Rattle.wire_checksum.specs.WordSum.{sum_of_bytes}
 
@@ -35,17 +35,17 @@ small_byte : (n x : ℕ) → x < 256 → with_part n 0 8 x % 256 ≡ x
 small_byte n x h = omega arith
 
 -- the writes of `emit`, in turn
-abbrev pub written : List ℕ → ℕ → ℕ → ℕ → List ℕ → List ℕ → List ℕ
-written old total hop number src dst =
+abbrev pub written : List ℕ → ℕ → ℕ → ℕ → List ℕ → List ℕ → ℕ → List ℕ
+written old total hop number src dst checksum =
     let a = with_field (with_field (with_field (with_field old 0 4 4) 4 4 5) 8 6 0) 14 2 0 in
     let b = with_field (with_field a 16 16 total) 32 16 0 in
     let c = with_field b 48 16 0x4000 in
     let d = with_field (with_field c 64 8 hop) 72 8 number in
-    with_field (with_range (with_range d 12 16 src) 16 20 dst) 80 16 0
+    with_field (with_range (with_range d 12 16 src) 16 20 dst) 80 16 checksum
 
-pub written-blank : (old : List ℕ) (total hop number : ℕ) (src dst : List ℕ) → 20 ≤ length old → length src ≡ 4 → length dst ≡ 4 → hop < 256 → number < 256
-    → written old total hop number src dst ≡ blank total hop number src dst 0 ++ drop 20 old
-written-blank old total hop number src dst h s d hs ns = rw (
+pub written-blank : (old : List ℕ) (total hop number : ℕ) (src dst : List ℕ) (checksum : ℕ) → 20 ≤ length old → length src ≡ 4 → length dst ≡ 4 → hop < 256 → number < 256
+    → written old total hop number src dst checksum ≡ blank total hop number src dst checksum ++ drop 20 old
+written-blank old total hop number src dst checksum h s d hs ns = rw (
   cells-all 4 src s,
   cells-all 4 dst d,
   cells-drop 20 old h,
@@ -59,14 +59,9 @@ written-blank old total hop number src dst h s d hs ns = rw (
   flags_low,
   small_byte,
   small_byte,
-  zero_high,
-  zero_low,
+  word_high,
+  word_low,
 ) refl
-
--- the checksum put into the header
-blank-checksum : (rest : List ℕ) (total hop number : ℕ) (src dst : List ℕ) (checksum : ℕ)
-    → with_field (blank total hop number src dst 0 ++ rest) 80 16 checksum ≡ blank total hop number src dst checksum ++ rest
-blank-checksum rest total hop number src dst checksum = rw (word_high, word_low) refl
 
 pub take-blank : (rest : List ℕ) (total hop number : ℕ) (src dst : List ℕ) (checksum : ℕ) → length src + length dst ≡ 8
     → take 20 (blank total hop number src dst checksum ++ rest) ≡ blank total hop number src dst checksum
@@ -75,13 +70,8 @@ take-blank rest total hop number src dst checksum octets =
     let long : length header ≡ 20 = simp length-append (omega arith) in
     ap (λ (n : ℕ). take n (header ++ rest)) (sym long) ∙ take-append_seam header rest
 
--- what `fill_checksum` makes of a header
-pub with_checksum-blank : (rest : List ℕ) (total hop number : ℕ) (src dst : List ℕ) → length src + length dst ≡ 8
-    → with_checksum (blank total hop number src dst 0 ++ rest)
-    ≡ blank total hop number src dst (65535 - sum_of_bytes (blank total hop number src dst 0)) ++ rest
-with_checksum-blank rest total hop number src dst octets =
-    let zeroed = blank-checksum rest total hop number src dst 0 in
-    let head = take-blank rest total hop number src dst 0 octets in
-    ap (λ (bytes : List ℕ). with_field bytes 80 16 (65535 - sum_of_bytes (take 20 bytes))) zeroed
-    ∙ ap (λ (bytes : List ℕ). with_field (blank total hop number src dst 0 ++ rest) 80 16 (65535 - sum_of_bytes bytes)) head
-    ∙ blank-checksum rest total hop number src dst (65535 - sum_of_bytes (blank total hop number src dst 0))
+-- the addresses octet by octet
+pub blank-spelled : (total hop number : ℕ) (src dst : List ℕ) (checksum : ℕ) → length src ≡ 4 → length dst ≡ 4
+    → blank total hop number (cells 4 src) (cells 4 dst) checksum ≡ blank total hop number src dst checksum
+blank-spelled total hop number src dst checksum s d =
+    ap (λ (l : List ℕ). blank total hop number l (cells 4 dst) checksum) (sym (cells-all 4 src s)) ∙ ap (λ (l : List ℕ). blank total hop number src l checksum) (sym (cells-all 4 dst d))

@@ -11,11 +11,13 @@ use Rattle.wire_field.specs.Loan.{Holds}
 use Rattle.wire_tcp.specs.Tcp.{segment_sum, with_checksum}
 use Rattle.wire_tcp.specs.TcpItems.{Item, item, text, texts}
 use Rattle.wire_tcp.specs.TcpOption.{range_bytes}
+use Rattle.wire_tcp.specs.TcpParts.{fixed_bytes}
+use Rattle.wire_tcp.specs.TcpSeq.{number}
 use Rattle.wire_tcp.proofs.Ranges.{length-range_bytes}
 use Rattle.wire_tcp.proofs.Sums.{field-word}
 use Rattle.wire_tcp.specs.declared.tcp.timestamp.TcpTimestampRepr.{TcpTimestampRepr}
 use Rattle.wire_tcp_repr.proofs.OptionLens.{sack_len-suc}
-use Rattle.wire_tcp_repr.specs.TcpRepr.{TcpHeader, bytes_of, header_bytes, header_len_of, items_of, len_if, option_bytes, sack_items, sack_len, segment_size_items, segment_with, timestamp_items, window_scale_items}
+use Rattle.wire_tcp_repr.specs.TcpRepr.{TcpHeader, ack_bits, bytes_of, header_bytes, header_len_of, items_of, len_if, offset_and_flags, option_bytes, sack_items, sack_len, segment_size_items, segment_with, timestamp_items, window_scale_items}
 
 -- ---- options
 
@@ -177,14 +179,34 @@ checksum_filled v src dst payload rest =
     ap (λ (z : List ℕ). with_field z 128 16 (65535 - segment_sum src dst z)) zeroed
     ∙ field-word bytes (65535 - segment_sum src dst bytes)
 
--- the header and the payload, one after the other
-pub segment_written : (v : TcpHeader) (payload : List ℕ) (old with_header whole : MutBor (List ℕ)) (len : ℕ) → len ≡ header_len_of v
-    → Holds old with_header (header_bytes v 0 ++ drop len old.now) → Holds with_header whole (with_range with_header.now len (len + length payload) payload)
+-- the header up to its options, without a checksum
+abbrev pub fixed_of : TcpHeader → List ℕ
+fixed_of v = fixed_bytes v.src_port v.dst_port (number v.seq_number) (ack_bits v) (offset_and_flags v) v.window_len
+
+-- a segment begins with it
+pub begins_fixed : (v : TcpHeader) (payload rest bytes fixed : List ℕ) → fixed ≡ fixed_of v → bytes ≡ segment_with v payload 0 ++ rest → bytes ≡ fixed ++ drop 20 bytes
+begins_fixed v payload rest bytes fixed is whole =
+    whole ∙ ap (λ (l : List ℕ). l ++ drop 20 (segment_with v payload 0 ++ rest)) (sym is) ∙ ap (λ (l : List ℕ). fixed ++ drop 20 l) (sym whole)
+
+-- it and the options, one after the other
+header_written : (v : TcpHeader) (old with_fixed with_options : MutBor (List ℕ)) (fixed : List ℕ) (len : ℕ) → len ≡ header_len_of v → fixed ≡ fixed_of v
+    → Holds old with_fixed (with_range old.now 0 (0 + length fixed) fixed) → Holds with_fixed with_options (with_range with_fixed.now 20 len (option_bytes v))
+    → Holds old with_options (header_bytes v 0 ++ drop len old.now)
+header_written v old with_fixed with_options fixed len size is first options =
+    let begins : with_fixed.now ≡ fixed_of v ++ drop 20 old.now = first.holds ∙ ap (λ (l : List ℕ). with_range old.now 0 (0 + length l) l) is in
+    holds_then old with_fixed with_options (with_range old.now 0 (0 + length fixed) fixed) (with_range with_fixed.now 20 len (option_bytes v)) (header_bytes v 0 ++ drop len old.now) first options
+    (part_behind old.now with_fixed.now (fixed_of v) (option_bytes v) 20 len begins refl (size ∙ sym (length-option_bytes v)))
+
+-- the header up to its options, the options and the payload, one after the other
+pub segment_written : (v : TcpHeader) (payload : List ℕ) (old with_fixed with_options whole : MutBor (List ℕ)) (fixed : List ℕ) (len : ℕ) → len ≡ header_len_of v → fixed ≡ fixed_of v
+    → Holds old with_fixed (with_range old.now 0 (0 + length fixed) fixed) → Holds with_fixed with_options (with_range with_fixed.now 20 len (option_bytes v))
+    → Holds with_options whole (with_range with_options.now len (len + length payload) payload)
     → Holds old whole (segment_with v payload 0 ++ drop (header_len_of v + length payload) old.now)
-segment_written v payload old with_header whole len is first body =
-    holds_then old with_header whole (header_bytes v 0 ++ drop len old.now) (with_range with_header.now len (len + length payload) payload) (segment_with v payload 0 ++ drop (header_len_of v + length payload) old.now) first body
-    (part_behind old.now with_header.now (header_bytes v 0) payload len (len + length payload) first.holds (is ∙ sym (length-header_bytes v 0)) refl
-    ∙ ap (λ (n : ℕ). segment_with v payload 0 ++ drop (n + length payload) old.now) is)
+segment_written v payload old with_fixed with_options whole fixed len size is first options body =
+    let header = header_written v old with_fixed with_options fixed len size is first options in
+    holds_then old with_options whole (header_bytes v 0 ++ drop len old.now) (with_range with_options.now len (len + length payload) payload) (segment_with v payload 0 ++ drop (header_len_of v + length payload) old.now) header body
+    (part_behind old.now with_options.now (header_bytes v 0) payload len (len + length payload) header.holds (size ∙ sym (length-header_bytes v 0)) refl
+    ∙ ap (λ (n : ℕ). segment_with v payload 0 ++ drop (n + length payload) old.now) size)
 
 -- without a checksum
 pub left_unsummed : (v : TcpHeader) (src dst : IpAddress) (payload rest : List ℕ) (old whole : MutBor (List ℕ)) (computed : Bool) → computed ≡ false
@@ -194,8 +216,9 @@ left_unsummed v src dst payload rest old whole false e h = h
 
 -- and with one
 pub then_summed : (v : TcpHeader) (src dst : IpAddress) (payload rest : List ℕ) (old whole summed : MutBor (List ℕ)) (computed : Bool) → computed ≡ true
-    → Holds old whole (segment_with v payload 0 ++ rest) → Holds whole summed (with_checksum src dst whole.now) → Holds old summed (bytes_of v payload src dst computed rest ++ rest)
+    → Holds old whole (segment_with v payload 0 ++ rest) → Holds whole summed (with_field whole.now 128 16 (65535 - segment_sum src dst whole.now)) → Holds old summed (bytes_of v payload src dst computed rest ++ rest)
 then_summed v src dst payload rest old whole summed false e h k = absurd (cc)
 then_summed v src dst payload rest old whole summed true e h k =
-    holds_then old whole summed (segment_with v payload 0 ++ rest) (with_checksum src dst whole.now) (bytes_of v payload src dst true rest ++ rest) h k
-    (ap (with_checksum src dst) h.holds ∙ checksum_filled v src dst payload rest)
+    let bytes = segment_with v payload 0 ++ rest in
+    holds_then old whole summed bytes (with_field whole.now 128 16 (65535 - segment_sum src dst whole.now)) (bytes_of v payload src dst true rest ++ rest) h k
+    (ap (λ (b : List ℕ). with_field b 128 16 (65535 - segment_sum src dst b)) h.holds ∙ field-word bytes (65535 - segment_sum src dst bytes))

@@ -1,8 +1,9 @@
 //! The values of an IPv4 header.
 
-ghost use Rattle.std.specs.Prelude.{◌≡◌, ◌↔◌, ◌≤◌, ◌++◌, Ok, OnOk, Some, drop, length};
+ghost use Rattle.std.specs.Prelude.{◌≡◌, ◌↔◌, ◌-◌, ◌≤◌, ◌++◌, Ok, OnOk, Some, drop, length};
 ghost use Rattle.std.specs.Result.{result_ok};
 ghost use Rattle.net_base.specs.Checksum.{computes, verifies};
+ghost use Rattle.wire_checksum.specs.WordSum.{sum_of_bytes};
 ghost use Rattle.wire_ipv4.specs.Ipv4.{Becomes, HasLengths, Reads, bytes_of, header_with, ipv4_of, max_payload_len, packet_bytes, packet_bytes_mut};
 ghost use Rattle.wire_ipv4.specs.Ipv4Text.{value_text};
 ghost use Rattle.wire_ipv4.specs.declared.ipv4.repr.Ipv4Repr.{Ipv4Repr};
@@ -11,6 +12,7 @@ use super::{IPV4_HEADER_LEN, Ipv4Packet, Ipv4PacketMut};
 use net_base::{ChecksumCapabilities, Error, Result};
 use std::fmt;
 use wire_addr::Ipv4Address;
+use wire_checksum::parts;
 use wire_ends::IpProtocol;
 
 // The flag "don't fragment" alone, before an offset of 0.
@@ -68,17 +70,15 @@ impl Ipv4Repr {
         requires payload_len { self.now.payload_len ≤ max_payload_len }
         ensures { Becomes packet.old packet.new (bytes_of self.now (computes caps.now.ipv4) ++ drop IPV4_HEADER_LEN (packet_bytes_mut packet.old)) }
     {
-        self.emit_unsummed(packet);
-        if caps.ipv4.tx() {
-            packet.fill_checksum();
-        }
+        let checksum = if caps.ipv4.tx() { self.checksum() } else { 0 };
+        self.emit_fields(packet, checksum);
     }
 
-    // Writes the header with a checksum of 0.
-    fn emit_unsummed(self, packet: &mut Ipv4PacketMut<'_>)
+    // Writes every field of the header.
+    fn emit_fields(self, packet: &mut Ipv4PacketMut<'_>, checksum: u16)
         requires room { IPV4_HEADER_LEN ≤ length (packet_bytes_mut packet.old) }
         requires payload_len { self.payload_len ≤ max_payload_len }
-        ensures { Becomes packet.old packet.new (header_with self 0 ++ drop IPV4_HEADER_LEN (packet_bytes_mut packet.old)) }
+        ensures { Becomes packet.old packet.new (header_with self checksum ++ drop IPV4_HEADER_LEN (packet_bytes_mut packet.old)) }
     {
         packet.set_version(4);
         packet.set_header_len(20);
@@ -91,7 +91,24 @@ impl Ipv4Repr {
         packet.set_next_header(self.next_header);
         packet.set_src_addr(self.src_addr);
         packet.set_dst_addr(self.dst_addr);
-        packet.set_checksum(0);
+        packet.set_checksum(checksum);
+    }
+
+    // The checksum of the header. It is computed from the values, since bytes that were just written
+    // are slow to read again.
+    #[inline(always)]
+    fn checksum(self) -> u16
+        requires { self.payload_len ≤ max_payload_len }
+        ensures { result ≡ 65535 - sum_of_bytes (header_with self 0) }
+    {
+        let [a, b] = ((IPV4_HEADER_LEN + self.payload_len) as u16).to_be_bytes();
+        let (hop_limit, protocol) = (self.hop_limit, u8::from(self.next_header));
+        let [c, d, e, f] = self.src_addr.octets();
+        let [g, h, i, j] = self.dst_addr.octets();
+        let header = [
+            0x45, 0, a, b, 0, 0, 0x40, 0, hop_limit, protocol, 0, 0, c, d, e, f, g, h, i, j,
+        ];
+        !parts::header(&header)
     }
 }
 

@@ -2,38 +2,55 @@
 
 ghost use Rattle.std.specs.Prelude.{◌≡◌, ◌+◌, ◌-◌, ◌≤◌, ◌++◌, drop, length, replicate};
 ghost use Rattle.byteorder.specs.Endian.{big_bytes};
-ghost use Rattle.wire_field.specs.Field.{with_range};
-ghost use Rattle.wire_tcp.specs.Tcp.{Becomes, packet_bytes_mut};
+ghost use Rattle.wire_ends.specs.IpAddress.{version_of};
+ghost use Rattle.wire_field.specs.Field.{with_field, with_range};
+ghost use Rattle.wire_tcp.specs.Tcp.{Becomes, packet_bytes_mut, segment_sum};
 ghost use Rattle.wire_tcp.specs.TcpOption.{IsEmittable, option_len, option_text};
 ghost use Rattle.wire_tcp.specs.TcpParts.{fixed_bytes};
 
 pub use super::option::count_ranges;
-use super::{TcpOption, TcpPacketMut};
+use super::{TCP_HEADER_LEN, TcpOption, TcpPacketMut};
 use byteorder::{ByteOrder, NetworkEndian};
+use wire_ends::{IpAddress, IpProtocol};
 
-/// Writes the header up to its options: the ports, the two numbers, the word that holds the
-/// header's length and the flags, the window, and 0 for the checksum and the urgent pointer.
-pub fn write_fixed(
-    packet: &mut TcpPacketMut<'_>,
+/// A header up to its options: the ports, the two numbers, the word that holds the header's length and
+/// the flags, the window, and 0 for the checksum and the urgent pointer.
+#[inline(always)]
+pub fn fixed(
     src_port: u16,
     dst_port: u16,
     seq_number: u32,
     ack_number: u32,
     offset_and_flags: u16,
     window_len: u16,
-)
-    requires { 20 ≤ length (packet_bytes_mut packet.old) }
-    ensures { let fixed = fixed_bytes src_port dst_port seq_number ack_number offset_and_flags window_len in
-        Becomes packet.old packet.new (fixed ++ drop 20 (packet_bytes_mut packet.old)) }
+) -> [u8; TCP_HEADER_LEN]
+    ensures { result ≡ fixed_bytes src_port dst_port seq_number ack_number offset_and_flags window_len }
 {
-    write_pair(
-        &mut packet.buffer[0..8],
-        join(src_port, dst_port),
-        seq_number,
-    );
+    let mut bytes = [0; TCP_HEADER_LEN];
+    write_pair(&mut bytes[0..8], join(src_port, dst_port), seq_number);
     let flow = join(offset_and_flags, window_len);
-    write_pair(&mut packet.buffer[8..16], ack_number, flow);
-    NetworkEndian::write_u32(&mut packet.buffer[16..20], 0);
+    write_pair(&mut bytes[8..16], ack_number, flow);
+    bytes
+}
+
+/// Writes the checksum of all bytes, which begin with these and have no checksum yet. These are not
+/// read from the segment: bytes that were just written are slow to read again.
+#[inline(always)]
+pub fn write_checksum(
+    packet: &mut TcpPacketMut<'_>,
+    fixed: &[u8; TCP_HEADER_LEN],
+    src_addr: &IpAddress,
+    dst_addr: &IpAddress,
+)
+    requires room { 20 ≤ length (packet_bytes_mut packet.old) }
+    requires front { packet_bytes_mut packet.old ≡ fixed.now ++ drop 20 (packet_bytes_mut packet.old) }
+    requires family { version_of src_addr.now ≡ version_of dst_addr.now }
+    ensures { let bytes = packet_bytes_mut packet.old in
+        Becomes packet.old packet.new (with_field bytes 128 16 (65535 - segment_sum src_addr.now dst_addr.now bytes)) }
+{
+    let (_, rest) = packet.as_bytes().split_at(TCP_HEADER_LEN);
+    let sum = wire_checksum::parts::packet(*src_addr, *dst_addr, IpProtocol::Tcp, fixed, rest);
+    packet.set_checksum(!sum);
 }
 
 // Two numbers of 16 bits in one of 32.

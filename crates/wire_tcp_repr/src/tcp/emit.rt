@@ -6,8 +6,9 @@ ghost use Rattle.wire_ends.specs.IpAddress.{version_of};
 ghost use Rattle.wire_field.specs.Field.{with_range};
 ghost use Rattle.wire_tcp.specs.Tcp.{Becomes, packet_bytes_mut};
 ghost use Rattle.wire_tcp.specs.TcpItems.{texts};
+ghost use Rattle.wire_tcp.specs.TcpParts.{fixed_bytes};
 ghost use Rattle.wire_tcp.specs.TcpSeq.{number};
-ghost use Rattle.wire_tcp_repr.specs.TcpRepr.{ack_bits, bytes_of, flag_of, header_bytes, header_len_of, header_of, offset_and_flags, option_bytes, sack_items, segment_size_items, timestamp_items, window_scale_items};
+ghost use Rattle.wire_tcp_repr.specs.TcpRepr.{ack_bits, bytes_of, flag_of, header_len_of, header_of, offset_and_flags, option_bytes, sack_items, segment_size_items, timestamp_items, window_scale_items};
 
 use super::TcpRepr;
 use net_base::ChecksumCapabilities;
@@ -40,30 +41,31 @@ impl TcpRepr<'_> {
             Becomes packet.old packet.new (bytes_of v payload src_addr.now dst_addr.now (computes caps.now.tcp) rest ++ rest) }
     {
         let header_len = self.header_len();
-        self.emit_header(packet, header_len);
+        let fixed = self.fixed(header_len);
+        parts::write_bytes(packet, 0, &fixed);
+        self.emit_options(packet, header_len);
         parts::write_bytes(packet, header_len, self.payload);
         if caps.tcp.tx() {
-            packet.fill_checksum(src_addr, dst_addr);
+            parts::write_checksum(packet, &fixed, src_addr, dst_addr);
         }
     }
 
-    // Writes the header, without a checksum, and leaves what follows it.
-    fn emit_header(&self, packet: &mut TcpPacketMut<'_>, header_len: usize)
+    // The header up to its options, without a checksum.
+    #[inline(always)]
+    fn fixed(&self, header_len: usize) -> [u8; TCP_HEADER_LEN]
         requires value { header_len ≡ header_len_of (header_of self.now) }
         requires most { header_len ≤ 60 }
-        requires room { header_len ≤ length (packet_bytes_mut packet.old) }
-        ensures { Becomes packet.old packet.new (header_bytes (header_of self.now) 0 ++ drop header_len (packet_bytes_mut packet.old)) }
+        ensures { let v = header_of self.now in
+            result ≡ fixed_bytes v.src_port v.dst_port (number v.seq_number) (ack_bits v) (offset_and_flags v) v.window_len }
     {
-        parts::write_fixed(
-            packet,
+        parts::fixed(
             self.src_port,
             self.dst_port,
             bits_of(self.seq_number),
             self.ack_bits(),
             self.offset_and_flags(header_len),
             self.window_len,
-        );
-        self.emit_options(packet, header_len);
+        )
     }
 
     // The acknowledgement number, 0 where there is none.

@@ -11,7 +11,7 @@ ghost use Rattle.wire_udp.specs.declared.udp.repr.UdpRepr.{UdpRepr};
 use super::{UDP_HEADER_LEN, UdpPacket, UdpPacketMut, checksum_for};
 use net_base::{ChecksumCapabilities, Error, Result};
 use std::fmt;
-use wire_checksum::checksum;
+use wire_checksum::parts;
 use wire_ends::{IpAddress, IpProtocol};
 
 /// The values of a packet's header that are more than its layout.
@@ -116,7 +116,7 @@ impl UdpRepr {
         let [c, d] = self.dst_port.to_be_bytes();
         let [e, f] = ((UDP_HEADER_LEN + payload.len()) as u16).to_be_bytes();
         let header = [a, b, c, d, e, f, 0, 0];
-        checksum_for(checksum::packet_parts(src_addr, dst_addr, IpProtocol::Udp, &header, payload))
+        checksum_for(parts::packet(src_addr, dst_addr, IpProtocol::Udp, &header, payload))
     }
 }
 

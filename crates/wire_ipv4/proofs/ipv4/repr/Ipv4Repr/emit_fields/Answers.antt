@@ -1,7 +1,7 @@
 use Rattle.std.proofs.Common.{◌≡◌, ◌<◌, ◌+◌, ◌∙◌, length, arith, rules}
 use Rattle.wire_ipv4.proofs.Ipv4Emitted.{written-blank}
 use Rattle.wire_ends.specs.Protocol.{number_of}
-use Rattle.wire_ipv4.proofs.ipv4.repr.Ipv4Repr.emit_unsummed.Goals as goal
+use Rattle.wire_ipv4.proofs.ipv4.repr.Ipv4Repr.emit_fields.Goals as goal
 
 pub returns : goal.returns
 returns c =
@@ -10,7 +10,7 @@ returns c =
     let dst : length v.dst_addr ≡ 4 = search rules in
     let hop : v.hop_limit < 256 = search rules in
     let number : number_of v.next_header < 256 = search rules in
-    let whole = written-blank c.args.packet.now.buffer.now (20 + v.payload_len) v.hop_limit (number_of v.next_header) v.src_addr v.dst_addr
+    let whole = written-blank c.args.packet.now.buffer.now (20 + v.payload_len) v.hop_limit (number_of v.next_header) v.src_addr v.dst_addr c.args.checksum
     c.requires.room src dst hop number in
     record {
       same_loan = cc;

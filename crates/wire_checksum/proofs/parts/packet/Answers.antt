@@ -4,22 +4,21 @@ use Rattle.wire_checksum.specs.PseudoHeader.{pseudo_header_bytes}
 use Rattle.wire_checksum.specs.WordSum.{residue, sum_of_bytes}
 use Rattle.wire_checksum.proofs.Fours.{and_more}
 use Rattle.wire_checksum.proofs.Joined.{total-joins, total-with_pseudo_header}
-use Rattle.wire_checksum.proofs.checksum.packet_parts.Goals as goal
+use Rattle.wire_checksum.proofs.parts.packet.Goals as goal
 
 pub returns : goal.returns
 returns c =
     let header = c.args.header.now in
-    let payload = c.args.payload.now in
+    let rest = c.args.rest.now in
     let src : length (octets_of c.args.src_addr) % 2 ≡ 0 = search rules in
     let dst : length (octets_of c.args.dst_addr) % 2 ≡ 0 = search rules in
-    let even : length header % 2 ≡ 0 = search rules in
-    let whole : 8 + length payload ≡ length (header ++ payload) = search rules ∙ sym (length-append header payload) in
+    let whole = sym (length-append header rest) in
     let front = c.pseudo_header_total-pseudo_header.ensures
     ∙ ap (λ n. sum_of_bytes (pseudo_header_bytes (octets_of c.args.src_addr) (octets_of c.args.dst_addr) c.args.next_header (n % 65536))) whole in
-    let both = total-joins header payload c.total_of_8.result c.total.result even c.total_of_8.ensures c.total.ensures in
+    let both = total-joins header rest c.total_of_words.result c.total.result (omega (arith, c.requires.whole)) c.total_of_words.ensures c.total.ensures in
     c.finish.ensures
     ∙ c.around-2.ensures
-    ∙ and_more c.around.result (c.pseudo_header_total-pseudo_header.result + c.total_of_8.result) c.total.result c.around.ensures
+    ∙ and_more c.around.result (c.pseudo_header_total-pseudo_header.result + c.total_of_words.result) c.total.result c.around.ensures
     ∙ ap (λ n. residue (256 * n)) (omega arith)
-    ∙ total-with_pseudo_header c.args.src_addr c.args.dst_addr c.args.next_header (header ++ payload) c.pseudo_header_total-pseudo_header.result
-    (c.total_of_8.result + c.total.result) src dst front both
+    ∙ total-with_pseudo_header c.args.src_addr c.args.dst_addr c.args.next_header (header ++ rest) c.pseudo_header_total-pseudo_header.result
+    (c.total_of_words.result + c.total.result) src dst front both

@@ -1,0 +1,39 @@
+//! Sums of what is going to be written, in parts that need not lie in one slice. They are computed of
+//! values, since bytes that were just written are slow to read again.
+
+ghost use Rattle.std.specs.Prelude.{◌≡◌, ◌%◌, ◌≤◌, ◌++◌, length};
+ghost use Rattle.wire_ends.specs.IpAddress.{version_of};
+ghost use Rattle.wire_checksum.specs.PseudoHeader.{with_pseudo_header};
+ghost use Rattle.wire_checksum.specs.WordSum.{sum_of_bytes};
+
+use crate::checksum::pseudo_header_total;
+use crate::totals::{around, finish, total, total_of_words};
+use wire_ends::{IpAddress, IpProtocol};
+
+/// The sum, as of `checksum::data`, of a header of 20 octets, such as one of IPv4 without options.
+#[inline(always)]
+pub fn header(bytes: &[u8; 20]) -> u16
+    ensures { result ≡ sum_of_bytes bytes.now }
+{
+    finish(total_of_words(bytes))
+}
+
+/// The sum, as of `checksum::packet`, of a packet whose header up to its options, of whole words of
+/// four octets, and the rest lie apart.
+#[inline(always)]
+pub fn packet(
+    src_addr: IpAddress,
+    dst_addr: IpAddress,
+    next_header: IpProtocol,
+    header: &[u8],
+    rest: &[u8],
+) -> u16
+    requires family { version_of src_addr ≡ version_of dst_addr }
+    requires whole { length header.now % 4 ≡ 0 }
+    requires short { length header.now ≤ 60 }
+    ensures { result ≡ sum_of_bytes (with_pseudo_header src_addr dst_addr next_header (header.now ++ rest.now)) }
+{
+    let length = ((header.len() + rest.len()) % (1 << 16)) as u32;
+    let pseudo_header = pseudo_header_total(src_addr, dst_addr, next_header, length);
+    finish(around(around(pseudo_header, total_of_words(header)), total(rest)))
+}
