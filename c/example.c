@@ -65,10 +65,10 @@ int main(void)
         0xff, 0xff, 0xff, 0xff,                         /* the payload */
         0x00, 0x00,                                     /* padding */
     };
-    static const uint8_t hardware[6] = {0x02, [5] = 0x01}, unknown[6] = {0};
-    static const uint8_t link_local[16] = {0xfe, 0x80, [15] = 0x01};
-    static const uint8_t all_nodes[16] = {0xff, 0x02, [15] = 0x01};
-    static const uint8_t mapped[16] = {[10] = 0xff, [11] = 0xff, 192, 168, 1, 1};
+    static const uint8_t hardware[6] = {0x02, 0, 0, 0, 0, 0x01}, unknown[6] = {0};
+    static const uint8_t link_local[16] = {0xfe, 0x80, 0, 0, 0, 0, 0, 0, 0, 0, 0, 0, 0, 0, 0, 0x01};
+    static const uint8_t all_nodes[16] = {0xff, 0x02, 0, 0, 0, 0, 0, 0, 0, 0, 0, 0, 0, 0, 0, 0x01};
+    static const uint8_t mapped[16] = {0, 0, 0, 0, 0, 0, 0, 0, 0, 0, 0xff, 0xff, 192, 168, 1, 1};
     static const uint8_t payload[] = {0xaa, 0x00, 0x00, 0xff};
     uint8_t out[80];
 
@@ -97,11 +97,18 @@ int main(void)
     printf("room for 11 octets: %zu\n",
            lk_emit_udp_ipv4(0xc0a80101, 0xc0a80102, 48896, 53, payload, 4, 1, out, 11));
 
-    struct lk_tcp syn = {
-        .src_port = 48896, .dst_port = 80, .seq_number = 0x01234567, .window_len = 0x0123,
-        .control = LK_TCP_SYN, .has_max_seg_size = 1, .max_seg_size = 1460,
-        .has_window_scale = 1, .window_scale = 14, .sack_permitted = 1,
-    };
+    struct lk_tcp syn;
+    memset(&syn, 0, sizeof syn);
+    syn.src_port = 48896;
+    syn.dst_port = 80;
+    syn.seq_number = 0x01234567;
+    syn.window_len = 0x0123;
+    syn.control = LK_TCP_SYN;
+    syn.has_max_seg_size = 1;
+    syn.max_seg_size = 1460;
+    syn.has_window_scale = 1;
+    syn.window_scale = 14;
+    syn.sack_permitted = 1;
     len = lk_emit_tcp_ipv4(0xc0a80101, 0xc0a80102, &syn, payload, 0, 1, out, sizeof out);
     print_bytes("SYN over IPv4", out, len);
     len = lk_emit_tcp_ipv6(link_local, all_nodes, &syn, payload, 0, 1, out, sizeof out);

@@ -1,12 +1,23 @@
-/* The packet layer for C: link with libip_wire_c.a.
+/* The packet layer for C and C++: link with libip_wire_c.a, which needs an x86-64-v2 processor (SSE4.2
+ * and POPCNT) and does not test for it.
  *
- * No call takes memory, keeps what it is given, or reads or writes outside of it. A pointer is never
- * null, not even where its length is 0, and `out` overlaps no other argument. */
+ * No call takes memory, keeps what it is given, has a state of its own, or reads or writes outside of
+ * its arguments; so calls may run in many threads at once, where none writes what another one uses.
+ * `out` and what else a call writes overlap no other argument. A pointer may be null where the length
+ * or `cap` behind it is 0, and nowhere else. `out` is written at its front alone: what lies behind the
+ * answered length stays, and where 0 is answered all of it does.
+ *
+ * A flag is true unless it is 0. As a `uint8_t` it has the low 8 bits alone of what is passed, which of
+ * 256 are 0: pass `x != 0`, not `x & 0x100`. */
 #ifndef IP_WIRE_H
 #define IP_WIRE_H
 
 #include <stddef.h>
 #include <stdint.h>
+
+#ifdef __cplusplus
+extern "C" {
+#endif
 
 /* The internet checksum (RFC 1071), not complemented: the one's complement sum of the 16-bit words
  * that the bytes spell in network order. An odd last byte is the high byte of a word. The sum is 0
@@ -160,8 +171,12 @@ size_t lk_ipv6_endpoint_print(const uint8_t *octets, uint16_t port, uint8_t *out
  * last option. What is not read as an ARP packet of Ethernet and IPv4, as an IPv6 packet, or as
  * an IPv4 packet whose checksum holds and that is no fragment, stays as it stands; so does in a
  * packet what is not read as a UDP packet or a TCP segment whose checksum holds. Answers the
- * length, which is never more than `len`; 0 where it doesn't fit into `cap` octets or `len` is
- * less than 14, and then nothing is written. */
+ * length, which is never more than `len`; 0 where `len` is less than 14, and where it doesn't fit into
+ * `cap` octets, as it always does where `cap` is at least `len`; then nothing is written. */
 size_t lk_rebuild(const uint8_t *ptr, size_t len, uint8_t *out, size_t cap);
+
+#ifdef __cplusplus
+}
+#endif
 
 #endif
