@@ -20,6 +20,19 @@ static void print_address(const uint8_t *octets)
     printf("address %.*s\n", (int)len, (const char *)text);
 }
 
+/* Says what a frame carries, and where its payload is. */
+static void print_frame(const uint8_t *ptr, size_t len)
+{
+    struct lk_frame frame;
+    if (lk_read_frame(ptr, len, &frame) == LK_REFUSED)
+        printf("a header is refused at octet %zu\n", frame.payload_offset);
+    else if (frame.transport != LK_NO_TRANSPORT)
+        printf("%s from port %u to %u, payload at %zu, checksum holds: %u\n", frame.transport == LK_TCP ? "TCP" : "UDP",
+               (unsigned)frame.src_port, (unsigned)frame.dst_port, frame.payload_offset, (unsigned)frame.transport_checksum_holds);
+    else
+        printf("type %04x, protocol %u, payload at %zu\n", (unsigned)frame.ethertype, (unsigned)frame.protocol, frame.payload_offset);
+}
+
 /* Reads texts of addresses, and blocks, and writes some of them again. */
 static void read_texts(void)
 {
@@ -74,12 +87,15 @@ int main(void)
 
     printf("checksum of the header %04x\n", (unsigned)lk_checksum(frame + 14, 20));
     printf("payload length %u\n", (unsigned)(lk_parse(frame, sizeof frame, 1) - 1));
+    print_frame(frame, sizeof frame);
+    print_frame(frame, 30);
     print_bytes("again", out, lk_rebuild(frame, sizeof frame, out, sizeof out));
     printf("room for 37 octets: %zu\n", lk_rebuild(frame, sizeof frame, out, 37));
     print_bytes("header", out, lk_emit_ipv4(0x0a000001, 0x0a000002, 6, 64, 10, 1, out, sizeof out));
     printf("a payload too long: %zu\n", lk_emit_ipv4(0, 0, 6, 64, 65516, 1, out, sizeof out));
 
     printf("UDP payload length %u\n", (unsigned)(lk_parse(ipv6_frame, sizeof ipv6_frame, 1) - 1));
+    print_frame(ipv6_frame, sizeof ipv6_frame);
     print_bytes("again", out, lk_rebuild(ipv6_frame, sizeof ipv6_frame, out, sizeof out));
     print_bytes("header", out, lk_emit_ipv6(link_local, all_nodes, 17, 64, 12, out, sizeof out));
     printf("a payload too long: %zu\n",

@@ -33,6 +33,50 @@ uint16_t lk_checksum(const uint8_t *ptr, size_t len);
  * refused. Checksums are verified unless `verified` is 0. */
 uint32_t lk_parse(const uint8_t *ptr, size_t len, uint8_t verified);
 
+/* What a frame carries, and what a packet does. */
+enum lk_network { LK_NO_NETWORK, LK_ARP, LK_IPV4, LK_IPV6 };
+enum lk_transport { LK_NO_TRANSPORT, LK_UDP, LK_TCP };
+
+/* Whether a header is refused, or each that is there was read. */
+enum lk_status { LK_REFUSED, LK_READ };
+
+/* What is read of a frame. The fields of a layer that is not there are 0. The payload is what follows the
+ * last header that was read, up to the length that this or one before it says. */
+struct lk_frame {
+    size_t payload_offset;  /* where it begins, counted from the frame's first octet */
+    size_t payload_len;
+    uint32_t src_ipv4;      /* of an ARP packet the source's; 192.168.1.1 is 0xc0a80101 */
+    uint32_t dst_ipv4;      /* of an ARP packet the target's */
+    uint32_t seq_number;    /* of TCP, as all to `window_len` but the ports */
+    uint32_t ack_number;    /* the field, whether ACK is set or not */
+    uint16_t ethertype;
+    uint16_t arp_operation; /* 1 a request, 2 a reply */
+    uint16_t src_port;      /* of UDP or TCP */
+    uint16_t dst_port;
+    uint16_t window_len;    /* in octets, before any scaling */
+    uint8_t src_ethernet[6];
+    uint8_t dst_ethernet[6];
+    uint8_t src_ipv6[16];
+    uint8_t dst_ipv6[16];
+    uint8_t status;         /* an `lk_status` */
+    uint8_t network;        /* an `lk_network` */
+    uint8_t transport;      /* an `lk_transport` */
+    uint8_t protocol;       /* that the IP header names: 6 TCP, 17 UDP */
+    uint8_t hop_limit;
+    uint8_t is_fragment;    /* of IPv4: 1 where it is one, and then the payload is not looked into */
+    uint8_t tcp_flags;      /* FIN is 1, SYN 2, RST 4, PSH 8, ACK 16, URG 32, ECE 64, CWR 128 */
+    uint8_t ipv4_checksum_holds;      /* 1 where it does */
+    uint8_t transport_checksum_holds; /* the same; so does one of UDP that is left out, over IPv4 */
+};
+
+/* Stores what is read of an Ethernet frame, and answers its `status`. At a header that is refused the
+ * headers before it are told, and the payload is all that follows them; a frame of less than 14 octets
+ * has none. What follows a header whose type or protocol is none of these is payload, and so are IPv6
+ * extension headers. No checksum is a reason to refuse. Of a UDP header a receiving port of 0 is, of a
+ * TCP header either port of 0, more than one of SYN, FIN and RST, and a malformed option before an end
+ * mark. */
+uint8_t lk_read_frame(const uint8_t *ptr, size_t len, struct lk_frame *frame);
+
 /* Writes an ARP packet of Ethernet and IPv4, 28 octets, to the front of `out`, and answers 28; 0 where
  * `cap` is less, and then nothing is written. A request is operation 1, a reply 2; a hardware address is
  * 6 octets, a protocol address a number: 192.168.1.1 is 0xc0a80101. */

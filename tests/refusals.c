@@ -1,5 +1,6 @@
 /* Calls of the C library that are refused, that have no room or just enough, and that are given null with
  * length 0. Each `out` is compared with what it held before. */
+#include <stddef.h>
 #include <stdio.h>
 #include <string.h>
 #include "../c/ip_wire.h"
@@ -92,6 +93,23 @@ static void read_texts(void)
     check(__LINE__, lk_ipv4_contains(0, 33, 0) == 0 && lk_ipv6_contains(zeros, 129, zeros) == 0);
 }
 
+/* At a header that is refused, a frame has what is in front of it. */
+static void read_frames(void)
+{
+    uint8_t bytes_of_frame[34] = {0};
+    struct lk_frame frame, nothing;
+    size_t used = offsetof(struct lk_frame, transport_checksum_holds) + 1;
+    memset(&nothing, 0, sizeof nothing);
+    memset(&frame, OLD, sizeof frame);
+    check(__LINE__, lk_read_frame(NULL, 0, &frame) == LK_REFUSED && frame.payload_len == 0);
+    nothing.payload_len = 13;
+    check(__LINE__, lk_read_frame(bytes_of_frame, 13, &frame) == LK_REFUSED && memcmp(&frame, &nothing, used) == 0);
+    check(__LINE__, lk_read_frame(bytes_of_frame, 34, &frame) == LK_READ && frame.payload_offset == 14 && frame.payload_len == 20);
+    bytes_of_frame[12] = 0x08;
+    check(__LINE__, lk_read_frame(bytes_of_frame, 34, &frame) == LK_REFUSED && frame.status == LK_REFUSED);
+    check(__LINE__, frame.ethertype == 0x0800 && frame.network == LK_NO_NETWORK && frame.payload_offset == 14 && frame.payload_len == 20);
+}
+
 static void rebuild(void)
 {
     uint8_t frame[14] = {0};
@@ -146,6 +164,7 @@ int main(void)
     emit();
     print();
     read_texts();
+    read_frames();
     rebuild();
     null();
     return failures != 0;

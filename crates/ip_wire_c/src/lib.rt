@@ -9,9 +9,11 @@ ghost use Rattle.ip_wire.specs.Block.{IsIn};
 ghost use Rattle.ip_wire.specs.Frame.{rebuilt};
 ghost use Rattle.ip_wire.specs.WordSum.{sum_of_bytes};
 ghost use Rattle.ip_wire.specs.declared.IpAddress.TheVariants.{Ipv4, Ipv6};
+ghost use Rattle.ip_wire_c.specs.FrameFields.{fields_of};
 ghost use Rattle.ip_wire_c.specs.Calls.{all_or_none, arp_value, block_of, emitted, emitted_len, innermost_payload, ipv4_header, ipv6_header, is_rebuilt, length_or_none, sent, sent_len, sent_segment, sent_segment_len, udp_header};
 
 mod arp;
+mod frame_fields;
 mod payload;
 mod print;
 mod read;
@@ -20,6 +22,7 @@ mod tcp;
 mod tcp_fields;
 mod udp;
 
+use frame_fields::FrameFields;
 use ip_wire::{
     ArpRepr, EthernetAddress, IPV4_HEADER_LEN, IPV6_HEADER_LEN, IpAddress, IpProtocol, Ipv4Address,
     Ipv4Cidr, Ipv4PacketMut, Ipv4Repr, Ipv6Address, Ipv6Cidr, Ipv6PacketMut, Ipv6Repr, UdpRepr,
@@ -46,6 +49,17 @@ pub extern "C" fn lk_parse(frame: &[u8], verified: u8) -> u32
         Some(payload) => payload.len() as u32 + 1,
         None => 0,
     }
+}
+
+/// Stores what is read of a frame up to a header that is refused, whatever its checksums, and answers 1
+/// where no header is, else 0.
+#[unsafe(no_mangle)]
+pub extern "C" fn lk_read_frame(frame: &[u8], fields: &mut FrameFields) -> u8
+    ensures fields { fields.new ≡ fields_of frame.now }
+    ensures status { result ≡ (fields_of frame.now).status }
+{
+    *fields = FrameFields::of(frame);
+    fields.status
 }
 
 /// Writes an ARP packet of Ethernet and IPv4 to the front of `out`, and answers its length: 0 where
