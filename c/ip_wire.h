@@ -44,7 +44,7 @@ enum lk_status { LK_REFUSED, LK_READ };
  * last header that was read, up to the length that this or one before it says. */
 struct lk_frame {
     size_t payload_offset;  /* where it begins, counted from the frame's first octet */
-    size_t payload_len;
+    size_t payload_len;     /* never past the frame's end */
     uint32_t src_ipv4;      /* of an ARP packet the source's; 192.168.1.1 is 0xc0a80101 */
     uint32_t dst_ipv4;      /* of an ARP packet the target's */
     uint32_t seq_number;    /* of TCP, as all to `window_len` but the ports */

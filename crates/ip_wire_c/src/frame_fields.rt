@@ -70,7 +70,8 @@ pub struct FrameFields {
 impl FrameFields {
     /// What is read of a frame, up to a header that is refused.
     pub fn of(bytes: &[u8]) -> FrameFields
-        ensures { result ≡ fields_of bytes.now }
+        ensures value { result ≡ fields_of bytes.now }
+        ensures within { result.payload_offset + result.payload_len ≤ length bytes.now }
     {
         let frame = EthernetFrame::new_unchecked(bytes);
         match EthernetRepr::parse(&frame) {
@@ -136,8 +137,9 @@ impl FrameFields {
 
     // An Ethernet header, and what follows it.
     fn with_frame(self, header: &EthernetRepr, payload: &[u8]) -> FrameFields
-        requires { self.payload_offset ≡ 0 }
-        ensures { result ≡ with_frame self header.now payload.now }
+        requires offset { self.payload_offset ≡ 0 }
+        ensures value { result ≡ with_frame self header.now payload.now }
+        ensures within { result.payload_offset + result.payload_len ≤ 14 + length payload.now }
     {
         let fields = FrameFields {
             src_ethernet: header.src_addr.0,
@@ -155,8 +157,10 @@ impl FrameFields {
 
     // An ARP packet, behind which there is nothing but padding.
     fn with_arp(self, bytes: &[u8]) -> FrameFields
-        requires { self.payload_offset ≤ 14 }
-        ensures { result ≡ with_arp self bytes.now }
+        requires offset { self.payload_offset ≤ 14 }
+        requires len { self.payload_len ≡ length bytes.now }
+        ensures value { result ≡ with_arp self bytes.now }
+        ensures within { result.payload_offset + result.payload_len ≤ self.payload_offset + length bytes.now }
     {
         match ArpRepr::parse(&ArpPacket::new_unchecked(bytes)) {
             Ok(_) => self.with_message(bytes),
@@ -168,7 +172,8 @@ impl FrameFields {
     fn with_message(self, bytes: &[u8]) -> FrameFields
         requires offset { self.payload_offset ≤ 14 }
         requires whole { 28 ≤ length bytes.now }
-        ensures { result ≡ with_message self bytes.now }
+        ensures value { result ≡ with_message self bytes.now }
+        ensures within { result.payload_offset + result.payload_len ≤ self.payload_offset + length bytes.now }
     {
         FrameFields {
             network: ARP,
@@ -181,8 +186,10 @@ impl FrameFields {
 
     // An IPv4 packet. What a fragment carries is not looked into.
     fn with_ipv4(self, bytes: &[u8]) -> FrameFields
-        requires { self.payload_offset ≤ 14 }
-        ensures { result ≡ with_ipv4 self bytes.now }
+        requires offset { self.payload_offset ≤ 14 }
+        requires len { self.payload_len ≡ length bytes.now }
+        ensures value { result ≡ with_ipv4 self bytes.now }
+        ensures within { result.payload_offset + result.payload_len ≤ self.payload_offset + length bytes.now }
     {
         let packet = Ipv4Packet::new_unchecked(bytes);
         match Ipv4Repr::parse(&packet, &ChecksumCapabilities::ignored()) {
@@ -210,8 +217,10 @@ impl FrameFields {
 
     // An IPv6 packet.
     fn with_ipv6(self, bytes: &[u8]) -> FrameFields
-        requires { self.payload_offset ≤ 14 }
-        ensures { result ≡ with_ipv6 self bytes.now }
+        requires offset { self.payload_offset ≤ 14 }
+        requires len { self.payload_len ≡ length bytes.now }
+        ensures value { result ≡ with_ipv6 self bytes.now }
+        ensures within { result.payload_offset + result.payload_len ≤ self.payload_offset + length bytes.now }
     {
         let packet = Ipv6Packet::new_unchecked(bytes);
         match Ipv6Repr::parse(&packet) {
@@ -233,8 +242,10 @@ impl FrameFields {
 
     // What a packet with this header carries.
     fn with_payload(self, header: &IpRepr, bytes: &[u8]) -> FrameFields
-        requires { self.payload_offset ≤ 74 }
-        ensures { result ≡ with_payload self header.now bytes.now }
+        requires offset { self.payload_offset ≤ 74 }
+        requires len { self.payload_len ≡ length bytes.now }
+        ensures value { result ≡ with_payload self header.now bytes.now }
+        ensures within { result.payload_offset + result.payload_len ≤ self.payload_offset + length bytes.now }
     {
         match header.next_header() {
             IpProtocol::Udp => self.with_udp(header, bytes),
@@ -245,8 +256,10 @@ impl FrameFields {
 
     // A UDP packet.
     fn with_udp(self, ip_header: &IpRepr, bytes: &[u8]) -> FrameFields
-        requires { self.payload_offset ≤ 74 }
-        ensures { result ≡ with_udp self (src_addr_of ip_header.now) (dst_addr_of ip_header.now) bytes.now }
+        requires offset { self.payload_offset ≤ 74 }
+        requires len { self.payload_len ≡ length bytes.now }
+        ensures value { result ≡ with_udp self (src_addr_of ip_header.now) (dst_addr_of ip_header.now) bytes.now }
+        ensures within { result.payload_offset + result.payload_len ≤ self.payload_offset + length bytes.now }
     {
         let (src_addr, dst_addr) = (ip_header.src_addr(), ip_header.dst_addr());
         let packet = UdpPacket::new_unchecked(bytes);
@@ -272,8 +285,10 @@ impl FrameFields {
 
     // A TCP segment.
     fn with_tcp(self, ip_header: &IpRepr, bytes: &[u8]) -> FrameFields
-        requires { self.payload_offset ≤ 74 }
-        ensures { result ≡ with_tcp self (src_addr_of ip_header.now) (dst_addr_of ip_header.now) bytes.now }
+        requires offset { self.payload_offset ≤ 74 }
+        requires len { self.payload_len ≡ length bytes.now }
+        ensures value { result ≡ with_tcp self (src_addr_of ip_header.now) (dst_addr_of ip_header.now) bytes.now }
+        ensures within { result.payload_offset + result.payload_len ≤ self.payload_offset + length bytes.now }
     {
         let (src_addr, dst_addr) = (ip_header.src_addr(), ip_header.dst_addr());
         let packet = TcpPacket::new_unchecked(bytes);

@@ -1,7 +1,7 @@
 //! The packet layer for programs in other languages. `c/ip_wire.h` declares these functions for C.
 #![tactic(auto)]
 
-ghost use Rattle.std.specs.Prelude.{◌≡◌, ◌↔◌, ◌≤◌, ◌==◌, ◌++◌, not, nat_le, if◌then◌else◌, drop, length, true};
+ghost use Rattle.std.specs.Prelude.{◌≡◌, ◌↔◌, ◌≤◌, ◌+◌, ◌==◌, ◌++◌, not, nat_le, if◌then◌else◌, drop, length, true};
 ghost use Rattle.std.specs.Int.{to_be_bytes};
 ghost use mir.Syntax.{w32};
 ghost use Rattle.ip_wire.specs.Arp.{bytes_of as arp_bytes};
@@ -56,6 +56,7 @@ pub extern "C" fn lk_parse(frame: &[u8], verified: u8) -> u32
 #[unsafe(no_mangle)]
 pub extern "C" fn lk_read_frame(frame: &[u8], fields: &mut FrameFields) -> u8
     ensures fields { fields.new ≡ fields_of frame.now }
+    ensures within { fields.new.payload_offset + fields.new.payload_len ≤ length frame.now }
     ensures status { result ≡ (fields_of frame.now).status }
 {
     *fields = FrameFields::of(frame);
@@ -265,6 +266,7 @@ pub extern "C" fn lk_rebuild(frame: &[u8], out: &mut [u8]) -> usize
     ensures length { result ≡ (if is_rebuilt frame.now (length out.old) then length (rebuilt frame.now) else 0) }
     ensures bytes { out.new ≡ (if is_rebuilt frame.now (length out.old)
         then rebuilt frame.now ++ drop (length (rebuilt frame.now)) out.old else out.old) }
+    ensures fits { 14 ≤ length frame.now → length frame.now ≤ length out.old → result ≡ length (rebuilt frame.now) }
 {
     rebuild::rebuild(frame, out).unwrap_or(0)
 }

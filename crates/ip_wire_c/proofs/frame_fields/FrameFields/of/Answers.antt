@@ -3,18 +3,18 @@ use Rattle.ip_wire.specs.Ethernet.{ethernet_of}
 use Rattle.ip_wire_c.specs.FrameFields.{fields_of, nothing_of, with_frame}
 use Rattle.ip_wire_c.proofs.frame_fields.FrameFields.of.Goals as goal
 
-pub returns-in-Ok : goal.returns-in-Ok
+pub returns-in-Ok-clause-value : goal.returns-in-Ok-clause-value
 unfolding fields_of
-returns-in-Ok c =
+returns-in-Ok-clause-value c =
     let frame = c.args.bytes.now in
     let v = c.in-Ok.header in
     let read : ethernet_of frame ≡ Some v = rw c.new_unchecked-frame.ensures at c.in-Ok.ensures.value in
     let payload : c.payload.result.now ≡ drop 14 frame = c.payload.ensures ∙ ap (λ slice. drop 14 slice.now) c.new_unchecked-frame.ensures in
     let said : with_frame (nothing_of (length frame)) v (drop 14 frame) ≡ fields_of frame = rw read refl in
-    c.with_frame.ensures ∙ ap (λ f. with_frame f v c.payload.result.now) c.nothing.ensures ∙ ap (with_frame (nothing_of (length frame)) v) payload ∙ said
+    c.with_frame.ensures.value ∙ ap (λ f. with_frame f v c.payload.result.now) c.nothing.ensures ∙ ap (with_frame (nothing_of (length frame)) v) payload ∙ said
 
-pub returns-in-Err : goal.returns-in-Err
+pub returns-in-Err-clause-value : goal.returns-in-Err-clause-value
 unfolding fields_of
-returns-in-Err c =
+returns-in-Err-clause-value c =
     let unread : ethernet_of c.args.bytes.now ≡ None = rw c.new_unchecked-frame.ensures at c.in-Err.ensures.value in
     rw unread c.nothing-in-Err.ensures
