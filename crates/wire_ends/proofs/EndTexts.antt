@@ -1,15 +1,16 @@
 -- Texts of addresses, blocks and endpoints of either version: which there are none of, and that each is read in one way.
-use Rattle.std.proofs.Common.{◌≡◌, ℕ, List, [], ◌∷◌, ◌++◌, Option, Some, Result, Err, MatchOption, Bor, length, take, drop, refl, sym, ap, ◌∙◌, subst, arith, lit≤, inl, inr, take_at, length-append}
+use Rattle.std.proofs.Common.{◌≡◌, ℕ, List, [], ◌∷◌, ◌++◌, ◌≤◌, Option, Some, Result, Err, MatchOption, Bor, length, take, drop, refl, sym, ap, ◌∙◌, subst, arith, lit≤, inl, inr, take_at, length-append}
 use Rattle.std.specs.Net.Grammar.{Parses}
 use Rattle.std.specs.Option.{ok_or}
 use Rattle.std.specs.Result.{IsErr}
 use Rattle.wire_addr.specs.Block.{Block}
 use Rattle.wire_addr.specs.BlockText.{ReadsIpv4Block, ReadsIpv6Block}
+use Rattle.wire_addr.specs.Printed.{ipv6_text}
 use Rattle.wire_addr.specs.Read.{ReadsIpv4, ReadsIpv6}
 use Rattle.wire_addr.proofs.BlockTexts.{one_block}
 use Rattle.wire_addr.proofs.Readings.{ipv4_once, ipv6_once, not_both}
-use Rattle.wire_ends.specs.Endpoint.{ReadsEndpoint, ReadsHost}
-use Rattle.wire_ends.specs.IpAddress.{ReadsAddress}
+use Rattle.wire_ends.specs.Endpoint.{ReadsEndpoint, ReadsHost, endpoint_text, host_text}
+use Rattle.wire_ends.specs.IpAddress.{ReadsAddress, address_text}
 use Rattle.wire_ends.specs.IpCidr.{ReadsCidr}
 use Rattle.wire_ends.specs.declared.ip_address.IpAddress.{IpAddress}
 use Rattle.wire_ends.specs.declared.ip_address.IpAddress.TheVariants as ip
@@ -18,7 +19,7 @@ use Rattle.wire_ends.specs.declared.ip_cidr.IpCidr.TheVariants as cidr
 use Rattle.wire_ends.specs.declared.ip_endpoint.IpEndpoint.{IpEndpoint}
 use Rattle.wire_text.specs.Ending.{EndsInNumber}
 use Rattle.wire_text.proofs.Apart.{IsFirstMark, dotted_first, ipv6_first, mark_before, no_port, same_mark}
-use Rattle.wire_text.proofs.Endings.{ends_once, ends_wider}
+use Rattle.wire_text.proofs.Endings.{ends_once, ends_printed, ends_wider}
 use Rattle.wire_text.proofs.Refusals.{refused, was_none, was_some}
 
 -- ---- none
@@ -86,6 +87,21 @@ no_host_text text found front n result same h alone none failed =
           let (here, _) = ends_once 58 5 65535 (lit≤ tt) text k.host_text front.now endpoint.port n k.port ends in
           none endpoint.addr (subst (λ t. ReadsHost t endpoint.addr) here k.host)
     ])
+
+-- ---- printed
+
+-- what is printed before a port is read as the address, if its text alone is
+printed_host : (addr : IpAddress) → ReadsAddress (address_text addr) addr → ReadsHost (host_text addr) addr
+printed_host (ip.Ipv4 octets) h = h
+printed_host (ip.Ipv6 octets) h = (ipv6_text octets, refl, h)
+
+pub printed_endpoint : (endpoint : IpEndpoint) → endpoint.port ≤ 65535 → ReadsAddress (address_text endpoint.addr) endpoint.addr → ReadsEndpoint (endpoint_text endpoint) endpoint
+printed_endpoint endpoint fits h =
+    inr (record {
+      host_text = host_text endpoint.addr;
+      host = printed_host endpoint.addr h;
+      port = ends_printed 58 5 65535 endpoint.port (host_text endpoint.addr) (lit≤ tt) (lit≤ tt) (lit≤ tt) fits;
+    })
 
 -- ---- in one way
 

@@ -1,7 +1,8 @@
 -- The texts and the order of addresses, blocks and endpoints, worked.
-use Rattle.std.proofs.Common.{◌≡◌, [], ◌∷◌, None, codes, refl}
+use Rattle.std.proofs.Common.{◌≡◌, [], ◌∷◌, None, Some, codes, refl}
 use Rattle.std.specs.Fmt.{digits}
 use Rattle.std.specs.declared.cmp.Ordering.TheVariants.{Less}
+use Rattle.wire_addr.specs.Printed.{ipv6_text}
 use Rattle.wire_ends.specs.Endpoint.{endpoint_at, endpoint_cmp, endpoint_text, listening_at, listening_cmp, listening_on, listening_text}
 use Rattle.wire_ends.specs.IpAddress.{address_cmp}
 use Rattle.wire_ends.specs.IpCidr.{IsIn, block_at, cidr_cmp, cidr_text}
@@ -14,9 +15,27 @@ localhost = Ipv4 (127 ∷ 0 ∷ 0 ∷ 1 ∷ [])
 loopback : IpAddress
 loopback = Ipv6 (0 ∷ 0 ∷ 0 ∷ 0 ∷ 0 ∷ 0 ∷ 0 ∷ 0 ∷ 0 ∷ 0 ∷ 0 ∷ 0 ∷ 0 ∷ 0 ∷ 0 ∷ 1 ∷ [])
 
-endpoint-printed : endpoint_text (endpoint_at localhost 12345) ≡ codes "127.0.0.1:12345"
+link_local : IpAddress
+link_local = Ipv6 (0xfe ∷ 0x80 ∷ 0 ∷ 0 ∷ 0 ∷ 0 ∷ 0 ∷ 0 ∷ 0 ∷ 0 ∷ 0 ∷ 0 ∷ 0 ∷ 0 ∷ 0 ∷ 1 ∷ [])
+
+mapped : IpAddress
+mapped = Ipv6 (0 ∷ 0 ∷ 0 ∷ 0 ∷ 0 ∷ 0 ∷ 0 ∷ 0 ∷ 0 ∷ 0 ∷ 0xff ∷ 0xff ∷ 1 ∷ 2 ∷ 3 ∷ 4 ∷ [])
+
+ipv4-printed : endpoint_text (endpoint_at localhost 80) ≡ codes "127.0.0.1:80"
 unfolding digits localhost
-endpoint-printed = refl
+ipv4-printed = refl
+
+ipv6-printed : endpoint_text (endpoint_at link_local 80) ≡ codes "[fe80::1]:80"
+unfolding digits ipv6_text link_local
+ipv6-printed = refl
+
+mapped-printed : endpoint_text (endpoint_at mapped 65535) ≡ codes "[::ffff:1.2.3.4]:65535"
+unfolding digits ipv6_text mapped
+mapped-printed = refl
+
+listening-printed : listening_text (Some link_local) 80 ≡ codes "[fe80::1]:80"
+unfolding digits ipv6_text link_local
+listening-printed = refl
 
 everywhere-printed : listening_text None 80 ≡ codes "*:80"
 unfolding digits

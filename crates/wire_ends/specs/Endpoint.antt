@@ -3,14 +3,15 @@ use Rattle.std.specs.Prelude.{ℕ, ◌≡◌, ◌≢◌, ◌⊎◌, Option, Some
 use Rattle.std.specs.Option.{option_cmp}
 use Rattle.std.specs.Ordering.{nat_cmp, ordering_then}
 use Rattle.std.specs.declared.cmp.Ordering.{Ordering}
-use Rattle.wire_addr.specs.Printed.{colon}
+use Rattle.wire_addr.specs.Printed.{dotted, ipv6_text}
 use Rattle.wire_addr.specs.Read.{ReadsIpv4, ReadsIpv6}
-use Rattle.wire_ends.specs.IpAddress.{ReadsAddress, address_cmp, address_text}
+use Rattle.wire_ends.specs.IpAddress.{ReadsAddress, address_cmp}
 use Rattle.wire_ends.specs.declared.ip_address.IpAddress.{IpAddress}
 use Rattle.wire_ends.specs.declared.ip_address.IpAddress.TheVariants.{Ipv4, Ipv6}
 use Rattle.wire_ends.specs.declared.ip_endpoint.IpEndpoint.{IpEndpoint}
 use Rattle.wire_ends.specs.declared.ip_listen_endpoint.IpListenEndpoint.{IpListenEndpoint}
 use Rattle.wire_text.specs.Ending.{EndsInNumber}
+use Rattle.wire_text.specs.Grammar.{colon}
 
 -- the endpoint at an address and a port
 abbrev pub endpoint_at : IpAddress → ℕ → IpEndpoint
@@ -32,15 +33,24 @@ listening_on port = record { addr = None; port = port }
 abbrev pub IsSpecified : IpListenEndpoint → Type 0
 IsSpecified endpoint = IsSome endpoint.addr × (endpoint.port ≢ 0)
 
+-- the text in brackets
+abbrev pub bracketed : List ℕ → List ℕ
+bracketed text = codes "[" ++ text ++ codes "]"
+
 -- ---- printed
 
--- what follows the address in the text of an endpoint
+-- what stands before the port in the text of an endpoint: an address of IPv6 in brackets, since it has colons of its own
+abbrev pub host_text : IpAddress → List ℕ
+host_text (Ipv4 octets) = dotted octets
+host_text (Ipv6 octets) = bracketed (ipv6_text octets)
+
+-- what follows the address there
 abbrev pub port_text : ℕ → List ℕ
 port_text port = colon ∷ decimal port
 
 -- the printed text of an endpoint
 abbrev pub endpoint_text : IpEndpoint → List ℕ
-endpoint_text endpoint = address_text endpoint.addr ++ port_text endpoint.port
+endpoint_text endpoint = host_text endpoint.addr ++ port_text endpoint.port
 
 -- the printed text of a port at the address, or at every one
 abbrev pub listening_text : Option IpAddress → ℕ → List ℕ
@@ -52,7 +62,7 @@ listening_text None port = codes "*" ++ port_text port
 -- what stands before a port is read as this address: one of IPv6 is in brackets
 abbrev pub ReadsHost : List ℕ → IpAddress → Type 0
 ReadsHost text (Ipv4 octets) = ReadsIpv4 text octets
-ReadsHost text (Ipv6 octets) = (inner : List ℕ) × (text ≡ codes "[" ++ inner ++ codes "]") × ReadsIpv6 inner octets
+ReadsHost text (Ipv6 octets) = (inner : List ℕ) × (text ≡ bracketed inner) × ReadsIpv6 inner octets
 
 -- the text is an address, a colon and a port: one digit to five digits, at most 65535
 pub record IsWithPort (text : List ℕ) (endpoint : IpEndpoint) : Type 0 where

@@ -74,12 +74,15 @@ impl From<IpEndpoint> for SocketAddr {
     }
 }
 
-/// The address, `:` and the port in decimal.
+/// The address, `:` and the port in decimal. An address of IPv6 is in brackets (RFC 5952, section 6).
 impl fmt::Display for IpEndpoint {
     ghost output = { λ endpoint. Some (endpoint_text endpoint) };
 
     fn fmt<W: fmt::Write>(&self, f: &mut fmt::Formatter<W>) -> fmt::Result {
-        write!(f, "{}:{}", self.addr, self.port)
+        match self.addr {
+            IpAddress::Ipv4(addr) => write!(f, "{addr}:{}", self.port),
+            IpAddress::Ipv6(addr) => write!(f, "[{addr}]:{}", self.port),
+        }
     }
 }
 

@@ -1,13 +1,11 @@
 //! What holds of texts and of the derived comparisons. The functions do nothing when they run.
 
 ghost use Rattle.std.specs.Prelude.{◌≡◌, ◌↔◌, true};
-ghost use Rattle.wire_ends.specs.Endpoint.{ReadsEndpoint, endpoint_at, endpoint_cmp, endpoint_text, listening_cmp};
+ghost use Rattle.wire_ends.specs.Endpoint.{ReadsEndpoint, endpoint_cmp, endpoint_text, listening_cmp};
 ghost use Rattle.wire_ends.specs.IpAddress.{ReadsAddress, address_cmp, address_text};
 ghost use Rattle.wire_ends.specs.IpCidr.{ReadsCidr, cidr_cmp, cidr_text};
-ghost use Rattle.wire_ends.specs.declared.ip_address.IpAddress.TheVariants.{Ipv4};
 
 use crate::{IpAddress, IpCidr, IpEndpoint, IpListenEndpoint};
-use wire_addr::Ipv4Address;
 use wire_addr::laws::{print_reads_back_ipv4_cidr, print_reads_back_ipv6_cidr};
 
 /// No text is read as two addresses.
@@ -49,11 +47,11 @@ pub fn print_reads_back_ip_cidr(cidr: IpCidr)
     }
 }
 
-/// The text that an endpoint of IPv4 prints as is read as that endpoint.
-pub fn print_reads_back_ipv4_endpoint(address: Ipv4Address, port: u16)
-    ensures { ReadsEndpoint (endpoint_text (endpoint_at (Ipv4 address) port)) (endpoint_at (Ipv4 address) port) }
+/// The text that an endpoint prints as is read as that endpoint.
+pub fn print_reads_back_ip_endpoint(endpoint: IpEndpoint)
+    ensures { ReadsEndpoint (endpoint_text endpoint) endpoint }
 {
-    let _octets = address.octets();
+    print_reads_back_ip_address(endpoint.addr);
 }
 
 /// Addresses are equal as values are, and their order is the defined one.

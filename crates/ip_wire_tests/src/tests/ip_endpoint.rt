@@ -8,15 +8,18 @@ use std::test::Fail;
 #[test]
 fn prints_address_and_port(rt: HostRuntime) -> Result<(), Fail> {
     let link_local = IpAddress::v6(0xfe80, 0, 0, 0, 0, 0, 0, 1);
+    let mapped = IpAddress::v6(0, 0, 0, 0, 0, 0xffff, 0x0102, 0x0304);
     for (addr, port, text) in [
-        (IpAddress::v4(127, 0, 0, 1), 12345, "127.0.0.1:12345"),
+        (IpAddress::v4(127, 0, 0, 1), 80, "127.0.0.1:80"),
         (IpAddress::v4(0, 0, 0, 0), 0, "0.0.0.0:0"),
-        (link_local, 80, "fe80::1:80"),
-        (link_local, 65535, "fe80::1:65535"),
+        (link_local, 80, "[fe80::1]:80"),
+        (Ipv6Address::UNSPECIFIED.into(), 0, "[::]:0"),
+        (mapped, 65535, "[::ffff:1.2.3.4]:65535"),
     ] {
         let endpoint = IpEndpoint::new(addr, port);
         assert_eq!(rt; endpoint, IpEndpoint { addr, port });
         assert_eq!(rt; format!(in rt.alloc(); "{endpoint}")?.as_str(), text);
+        assert!(rt; text.parse::<IpEndpoint>() == Ok(endpoint));
         let listening = IpListenEndpoint::from(endpoint);
         assert_eq!(rt; format!(in rt.alloc(); "{listening}")?.as_str(), text);
     }

@@ -1,5 +1,5 @@
 use Rattle.std.proofs.Common.{◌≡◌, ◌+◌, ◌*◌, ◌∷◌, get_or, length, take}
-use Rattle.wire_addr.specs.Printed.{dash}
+use Rattle.wire_text.specs.Grammar.{dash}
 use Rattle.wire_addr.proofs.Prints.{pairs_with}
 use Rattle.wire_addr.proofs.ethernet_address.EthernetAddress.text.Given as goal
 
