@@ -24,6 +24,7 @@ mod nested;
 mod orders;
 mod raw_hardware_address;
 mod tcp;
+mod tcp_options;
 mod tcp_repr;
 mod texts;
 mod udp;
