@@ -250,7 +250,7 @@ pub struct TcpFields {
     max_seg_size: u16,
     tsval: u32,
     tsecr: u32,
-    sack_ranges: [SackRange; 3],
+    sack_ranges: [SackRange; 4],
     control: u8,
     window_scale: u8,
     sack_permitted: u8,
@@ -263,9 +263,11 @@ pub struct TcpFields {
 
 impl TcpFields {
     fn segment<'a>(&self, payload: &'a [u8]) -> Result<TcpRepr<'a>> {
-        let mut sack_ranges = [None; 3];
         let given = self.sack_ranges.get(..self.sack_range_count.into()).ok_or(Error)?;
-        for (range, given) in sack_ranges.iter_mut().zip(given) {
+        // smoltcp has three places.
+        let mut sack_ranges = [None; 3];
+        let places = sack_ranges.get_mut(..given.len()).ok_or(Error)?;
+        for (range, given) in places.iter_mut().zip(given) {
             *range = Some((given.left, given.right));
         }
         Ok(TcpRepr {

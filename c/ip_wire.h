@@ -131,11 +131,11 @@ struct lk_tcp {
     uint16_t max_seg_size;               /* in octets */
     uint32_t tsval;                      /* the timestamp */
     uint32_t tsecr;                      /* the timestamp that it replies to */
-    struct lk_sack_range sack_ranges[3]; /* the first `sack_range_count` of them are there */
+    struct lk_sack_range sack_ranges[4]; /* the first `sack_range_count` of them are there */
     uint8_t control;                     /* an `lk_tcp_control` */
     uint8_t window_scale;                /* in bits; a receiver takes more than 14 for 14 */
     uint8_t sack_permitted;              /* unless it is 0 */
-    uint8_t sack_range_count;            /* at most 3 */
+    uint8_t sack_range_count;            /* at most 4 */
     uint8_t has_ack_number;
     uint8_t has_max_seg_size;
     uint8_t has_window_scale;

@@ -5,7 +5,7 @@ import itertools
 
 from text_lines import TEXTS
 
-SACK_BLOCKS = 3
+SACK_BLOCKS = 4
 EDGES = {width: [0, 1, (1 << width - 1) - 1, 1 << width - 1, (1 << width) - 1] for width in (8, 16, 32)}
 V4 = ("192.0.2.1", "192.0.2.2")
 V6 = ("2001:db8::1", "fe80::200:ff:fe00:2")
@@ -149,7 +149,7 @@ def edges_tcp():
             ranges = [(100 * i, 100 * i + 50) if there else None for i, there in enumerate(blocks)]
             yield tcp(ack=ack, mss=mss, ws=ws, sackp=sackp, ranges=ranges, ts=ts)
     for bits in EDGES[32]:
-        yield tcp(seq=bits, ack=bits, ts=(bits, 0xFFFFFFFF - bits), ranges=[(bits, 1), None, (1, bits)])
+        yield tcp(seq=bits, ack=bits, ts=(bits, 0xFFFFFFFF - bits), ranges=[(bits, 1), None, (1, bits), None])
     for bits in EDGES[16]:
         yield tcp(ports=(bits, 65535 - bits), win=bits, mss=bits, control="syn")
     for scale in [0, 1, 13, 14, 15, 16, 255]:
@@ -184,7 +184,8 @@ def edges_walk():
     for octets in itertools.product([0, 1, 2, 3, 4, 5], [0, 1, 2, 3, 4], [0, 1, 4], [0, 2]):
         yield line("walk", bytes(octets))
     whole = ["020405b4", "03030701", "04020101", "0101080a0000000100000002", "0101050a0000000a00000014",
-             "010105120000000a000000140000001e00000028", "0101051a0000000a000000140000001e000000280000003200000046"]
+             "010105120000000a000000140000001e00000028", "0101051a0000000a000000140000001e000000280000003200000046",
+             "010105220000000a000000140000001e0000002800000032000000460000005000000064"]
     ends = ["", "00000000", "00040200", "0004020000020400", "ff020000", "ff030000"]
     for first, second, end in itertools.product(whole, ["", *whole], ends):
         options = bytes.fromhex(first + second + end)

@@ -94,7 +94,7 @@ window_scale_of-high = refl
 timestamp_of-other : timestamp_of (item 8 (0 ∷ 0 ∷ 0 ∷ 1 ∷ 0 ∷ 0 ∷ 0 ∷ 2 ∷ []) ∷ item 8 (9 ∷ 9 ∷ []) ∷ []) ≡ Some (1, 2)
 timestamp_of-other = refl
 
-first_blocks-one : first_blocks (0 ∷ 0 ∷ 0 ∷ 1 ∷ 0 ∷ 0 ∷ 0 ∷ 2 ∷ []) ≡ Some (1, 2) ∷ None ∷ None ∷ []
+first_blocks-one : first_blocks (0 ∷ 0 ∷ 0 ∷ 1 ∷ 0 ∷ 0 ∷ 0 ∷ 2 ∷ []) ≡ Some (1, 2) ∷ None ∷ None ∷ None ∷ []
 first_blocks-one = refl
 
 -- ---- a walk past an end mark
@@ -116,10 +116,10 @@ first_of-marks-none = refl
 
 -- ---- options that are written
 
-gap-closed : option_text (SackRange (None ∷ Some (1, 2) ∷ Some (3, 4) ∷ [])) ≡ 0x05 ∷ 0x12 ∷ 0 ∷ 0 ∷ 0 ∷ 1 ∷ 0 ∷ 0 ∷ 0 ∷ 2 ∷ 0 ∷ 0 ∷ 0 ∷ 3 ∷ 0 ∷ 0 ∷ 0 ∷ 4 ∷ []
+gap-closed : option_text (SackRange (None ∷ Some (1, 2) ∷ Some (3, 4) ∷ None ∷ [])) ≡ 0x05 ∷ 0x12 ∷ 0 ∷ 0 ∷ 0 ∷ 1 ∷ 0 ∷ 0 ∷ 0 ∷ 2 ∷ 0 ∷ 0 ∷ 0 ∷ 3 ∷ 0 ∷ 0 ∷ 0 ∷ 4 ∷ []
 gap-closed = refl
 
-no_range : option_text (SackRange (None ∷ None ∷ None ∷ [])) ≡ 0x05 ∷ 0x02 ∷ []
+no_range : option_text (SackRange (None ∷ None ∷ None ∷ None ∷ [])) ≡ 0x05 ∷ 0x02 ∷ []
 no_range = refl
 
 end-padded : option_text EndOfList ++ rest_after EndOfList (0xff ∷ 0xff ∷ 0xff ∷ 0xff ∷ []) ≡ 0 ∷ 0 ∷ 0 ∷ 0 ∷ []

@@ -22,4 +22,4 @@ pub use timestamp::{TcpTimestampGenerator, TcpTimestampRepr};
 pub const TCP_HEADER_LEN: usize = 20;
 
 /// How many blocks of a selective acknowledgement are kept, from the first on.
-pub const SACK_BLOCKS: usize = 3;
+pub const SACK_BLOCKS: usize = 4;

@@ -203,7 +203,7 @@ fn segments_settle(rt: HostRuntime) {
             b"010203040506111213141516080045000034000040004006b770c0a80101c0a80102bf0000500123456789abcdef8010012394cc00000402050a0000000100000002",
             b"EthernetII src=11-12-13-14-15-16 dst=01-02-03-04-05-06 type=IPv4\n\
                 IPv4 src=192.168.1.1 dst=192.168.1.2 proto=TCP\n\
-                TCP src=48896 dst=80 seq=19088743 ack=2309737967 win=291 len=0 sACK sACKr[Some((1, 2)), None, None]\n\
+                TCP src=48896 dst=80 seq=19088743 ack=2309737967 win=291 len=0 sACK sACKr[Some((1, 2)), None, None, None]\n\
                 again 010203040506111213141516080045000034000040004006b770c0a80101c0a80102bf0000500123456789abcdef8010012399d90000040200000000000000000000\n\n",
         ),
         (
@@ -224,6 +224,18 @@ fn segments_settle(rt: HostRuntime) {
     for (input, output) in cases {
         compare(&rt, rt.alloc(), input, output);
     }
+}
+
+// Four ranges are built again as they were read.
+#[test]
+fn four_ranges(rt: HostRuntime) {
+    let input =
+        b"01020304050611121314151608004500004c000040004006b758c0a80101c0a80102bf0000500123456789abcdefe0100123387d0000052200000001000000020000000300000004000000050000000600000007000000080000";
+    let output = b"EthernetII src=11-12-13-14-15-16 dst=01-02-03-04-05-06 type=IPv4\n\
+        IPv4 src=192.168.1.1 dst=192.168.1.2 proto=TCP\n\
+        TCP src=48896 dst=80 seq=19088743 ack=2309737967 win=291 len=0 sACKr[Some((1, 2)), Some((3, 4)), Some((5, 6)), Some((7, 8))]\n\
+        again 01020304050611121314151608004500004c000040004006b758c0a80101c0a80102bf0000500123456789abcdefe0100123387d0000052200000001000000020000000300000004000000050000000600000007000000080000\n\n";
+    compare(&rt, rt.alloc(), input, output);
 }
 
 #[test]

@@ -7,7 +7,20 @@ use ip_wire::{Error, SACK_BLOCKS, TCP_HEADER_LEN, TcpOption, TcpOptionSummary, T
 use std::test::Fail;
 
 /// No ranges.
-const NO_RANGES: [Option<(u32, u32)>; SACK_BLOCKS] = [None; SACK_BLOCKS];
+pub(super) const NO_RANGES: [Option<(u32, u32)>; SACK_BLOCKS] = [None; SACK_BLOCKS];
+
+/// As many ranges as fit into a header, and their option, padded.
+pub(super) const FOUR_RANGES: [Option<(u32, u32)>; 4] = [
+    Some((1, 2)),
+    Some((3, 4)),
+    Some((5, 6)),
+    Some((7, 8)),
+];
+
+pub(super) const FOUR_BLOCKS: [u8; 36] = [
+    0x05, 0x22, 0, 0, 0, 1, 0, 0, 0, 2, 0, 0, 0, 3, 0, 0, 0, 4, 0, 0, 0, 5, 0, 0, 0, 6, 0, 0, 0, 7,
+    0, 0, 0, 8, 0, 0,
+];
 
 #[test]
 fn walks_past_end_marks(rt: HostRuntime) -> std::result::Result<(), Fail> {
@@ -44,7 +57,6 @@ fn segment(options: &[u8]) -> ([u8; 60], usize)
 #[test]
 fn sums_options_up(rt: HostRuntime) -> std::result::Result<(), Fail> {
     let none = TcpOptionSummary::default();
-    let three = [Some((1, 2)), Some((3, 4)), Some((5, 6))];
     for (options, want) in [
         (
             [
@@ -75,12 +87,9 @@ fn sums_options_up(rt: HostRuntime) -> std::result::Result<(), Fail> {
             }),
         ),
         (
-            &[
-                0x05, 0x22, 0, 0, 0, 1, 0, 0, 0, 2, 0, 0, 0, 3, 0, 0, 0, 4, 0, 0, 0, 5, 0, 0, 0, 6,
-                0, 0, 0, 7, 0, 0, 0, 8, 0, 0,
-            ],
+            &FOUR_BLOCKS,
             Ok(TcpOptionSummary {
-                sack_ranges: three,
+                sack_ranges: FOUR_RANGES,
                 ..none
             }),
         ),
@@ -111,11 +120,11 @@ fn finds_the_first_ranges(rt: HostRuntime) -> std::result::Result<(), Fail> {
                 0x05, 0x0a, 0, 0, 0, 1, 0, 0, 0, 2, 0x05, 0x0a, 0, 0, 0, 3, 0, 0, 0, 4,
             ]
             .as_slice(),
-            Ok([Some((1, 2)), None, None]),
+            Ok([Some((1, 2)), None, None, None]),
         ),
         (
             &[0x00, 0x05, 0x0a, 0, 0, 0, 1, 0, 0, 0, 2, 0x0c],
-            Ok([Some((1, 2)), None, None]),
+            Ok([Some((1, 2)), None, None, None]),
         ),
         (&[0x0c, 0x05, 0x0a, 0, 0], Ok(NO_RANGES)),
         (&[1, 1, 1, 0x05, 0x0a, 0, 0, 0, 1, 0, 0, 0], Err(Error)),
@@ -146,11 +155,11 @@ fn reads_and_writes_each_option(rt: HostRuntime) {
         (TcpOption::WindowScale(12), &[0x03, 0x03, 0x0c]),
         (TcpOption::SackPermitted, &[0x04, 0x02]),
         (
-            TcpOption::SackRange([Some((500, 1500)), None, None]),
+            TcpOption::SackRange([Some((500, 1500)), None, None, None]),
             &[0x05, 0x0a, 0x00, 0x00, 0x01, 0xf4, 0x00, 0x00, 0x05, 0xdc],
         ),
         (
-            TcpOption::SackRange([Some((875, 1225)), Some((1500, 2500)), None]),
+            TcpOption::SackRange([Some((875, 1225)), Some((1500, 2500)), None, None]),
             &[
                 0x05, 0x12, 0x00, 0x00, 0x03, 0x6b, 0x00, 0x00, 0x04, 0xc9, 0x00, 0x00, 0x05, 0xdc,
                 0x00, 0x00, 0x09, 0xc4,
@@ -161,12 +170,14 @@ fn reads_and_writes_each_option(rt: HostRuntime) {
                 Some((875000, 1225000)),
                 Some((1500000, 2500000)),
                 Some((876543210, 876654320)),
+                None,
             ]),
             &[
                 0x05, 0x1a, 0x00, 0x0d, 0x59, 0xf8, 0x00, 0x12, 0xb1, 0x28, 0x00, 0x16, 0xe3, 0x60,
                 0x00, 0x26, 0x25, 0xa0, 0x34, 0x3e, 0xfc, 0xea, 0x34, 0x40, 0xae, 0xf0,
             ],
         ),
+        (TcpOption::SackRange(FOUR_RANGES), &FOUR_BLOCKS[..34]),
         (
             TcpOption::TimeStamp {
                 tsval: 5000000,
@@ -200,8 +211,39 @@ fn reads_and_writes_each_option(rt: HostRuntime) {
 }
 
 #[test]
+fn keeps_four_of_five_blocks(rt: HostRuntime) {
+    let text = [
+        0x05, 0x2a, 0, 0, 0, 1, 0, 0, 0, 2, 0, 0, 0, 3, 0, 0, 0, 4, 0, 0, 0, 5, 0, 0, 0, 6, 0, 0,
+        0, 7, 0, 0, 0, 8, 0, 0, 0, 9, 0, 0, 0, 10,
+    ];
+    let end: &[u8] = &[];
+    let want = TcpOption::SackRange(FOUR_RANGES);
+    assert_eq!(rt; TcpOption::parse(&text), Ok((end, want)));
+}
+
+#[test]
+fn prints_four_places(rt: HostRuntime) -> std::result::Result<(), Fail> {
+    for (options, text) in [
+        (
+            [0x05, 0x0a, 0, 0, 0, 1, 0, 0, 0, 2].as_slice(),
+            "TCP src=0 dst=0 seq=0 win=0 len=0 sACKr[Some((1, 2)), None, None, None]",
+        ),
+        (
+            &FOUR_BLOCKS,
+            "TCP src=0 dst=0 seq=0 win=0 len=0 sACKr[Some((1, 2)), Some((3, 4)), Some((5, 6)), Some((7, 8))]",
+        ),
+    ] {
+        assert!(rt; options.len() <= 40);
+        let (bytes, len) = segment(options);
+        let packet = TcpPacket::new_checked(&bytes[..len])?;
+        assert_eq!(rt; format!(in rt.alloc(); "{packet}")?.as_str(), text);
+    }
+    Ok(())
+}
+
+#[test]
 fn writes_ranges_without_gaps(rt: HostRuntime) {
-    let gap = TcpOption::SackRange([None, Some((1, 2)), Some((3, 4))]);
+    let gap = TcpOption::SackRange([None, Some((1, 2)), Some((3, 4)), None]);
     let mut buffer = [0xff; 20];
     assert_eq!(rt; gap.buffer_len(), 18);
     if gap.buffer_len() <= buffer.len() {

@@ -4,15 +4,14 @@ ghost use Rattle.std.specs.Prelude.{◌≤◌, length};
 
 use super::OLD;
 use super::tcp::{SEGMENT, SYN, ends};
+use super::tcp_options::{FOUR_BLOCKS, FOUR_RANGES, NO_RANGES};
 use ip_wire::{
-    Error, Result, SACK_BLOCKS, TCP_HEADER_LEN, TcpControl, TcpPacket, TcpPacketMut, TcpRepr,
-    TcpSeqNumber, TcpTimestampRepr,
+    Error, Result, TCP_HEADER_LEN, TcpControl, TcpPacket, TcpPacketMut, TcpRepr, TcpSeqNumber,
+    TcpTimestampRepr,
 };
 use net_base::{Checksum, ChecksumCapabilities};
+use std::process::Abort;
 use std::test::Fail;
-
-/// No ranges.
-const NO_RANGES: [Option<(u32, u32)>; SACK_BLOCKS] = [None; SACK_BLOCKS];
 
 /// The values of the segment with SYN and no option.
 pub(super) fn syn() -> TcpRepr<'static> {
@@ -143,6 +142,16 @@ fn segment(options: &[u8]) -> ([u8; 60], usize)
     (bytes, len)
 }
 
+// These options are read as this value.
+fn are_read_as(rt: &impl Abort, options: &[u8], want: Result<TcpRepr<'_>>) {
+    assert!(rt; options.len() <= 40);
+    let (src, dst) = ends();
+    let (bytes, len) = segment(options);
+    let packet = TcpPacket::new_unchecked(&bytes[..len]);
+    let read = TcpRepr::parse(&packet, &src, &dst, &ChecksumCapabilities::ignored());
+    assert_eq!(rt; read, want);
+}
+
 #[test]
 fn reads_options(rt: HostRuntime) {
     for (options, want) in [
@@ -157,24 +166,6 @@ fn reads_options(rt: HostRuntime) {
             }),
         ),
         (
-            &[
-                0x05, 0x22, 0, 0, 0, 1, 0, 0, 0, 2, 0, 0, 0, 3, 0, 0, 0, 4, 0, 0, 0, 5, 0, 0, 0, 6,
-                0, 0, 0, 7, 0, 0, 0, 8, 0, 0,
-            ],
-            Ok(TcpRepr {
-                sack_ranges: [Some((1, 2)), Some((3, 4)), Some((5, 6))],
-                ..ack()
-            }),
-        ),
-        (
-            &[0x04, 0x02, 0x05, 0x0a, 0, 0, 0, 1, 0, 0, 0, 2],
-            Ok(TcpRepr {
-                sack_permitted: true,
-                sack_ranges: [Some((1, 2)), None, None],
-                ..ack()
-            }),
-        ),
-        (
             &[0x03, 0x03, 0x0f],
             Ok(TcpRepr {
                 window_scale: Some(14),
@@ -185,77 +176,119 @@ fn reads_options(rt: HostRuntime) {
         (&[0x08, 0x02, 0x01, 0x01], Ok(ack())),
         (&[0x05, 0x02, 0x00, 0x00], Err(Error)),
     ] {
-        assert!(rt; options.len() <= 40);
-        let (src, dst) = ends();
-        let (bytes, len) = segment(options);
-        let packet = TcpPacket::new_unchecked(&bytes[..len]);
-        let read = TcpRepr::parse(&packet, &src, &dst, &ChecksumCapabilities::ignored());
-        assert_eq!(rt; read, want);
+        are_read_as(&rt, options, want);
     }
 }
 
 #[test]
+fn reads_ranges(rt: HostRuntime) {
+    for (options, sack_permitted, sack_ranges) in [
+        (FOUR_BLOCKS.as_slice(), false, FOUR_RANGES),
+        (
+            &[
+                0x05, 0x12, 0, 0, 0, 1, 0, 0, 0, 2, 0, 0, 0, 3, 0, 0, 0, 4, 0, 0,
+            ],
+            false,
+            [Some((1, 2)), Some((3, 4)), None, None],
+        ),
+        (
+            &[0x04, 0x02, 0x05, 0x0a, 0, 0, 0, 1, 0, 0, 0, 2],
+            true,
+            [Some((1, 2)), None, None, None],
+        ),
+        (
+            &[
+                0x04, 0x02, 0, 0, 0, 0, 0, 0, 0, 0, 0, 0, 0, 0, 0, 0, 0, 0, 0, 0,
+            ],
+            true,
+            NO_RANGES,
+        ),
+    ] {
+        let want = TcpRepr {
+            sack_permitted,
+            sack_ranges,
+            ..ack()
+        };
+        are_read_as(&rt, options, Ok(want));
+    }
+}
+
+// The value has a header with these options, whatever stood in its place, and nothing else changes.
+fn is_written_as(
+    rt: &impl Abort,
+    value: &TcpRepr<'_>,
+    options: &[u8],
+) -> std::result::Result<(), Fail> {
+    let (want, _) = emitted(value, 0x00, &ChecksumCapabilities::default());
+    for fill in OLD {
+        let (bytes, len) = emitted(value, fill, &ChecksumCapabilities::default());
+        assert_eq!(rt; value.header_len(), TCP_HEADER_LEN + options.len());
+        assert_eq!(rt; TcpPacket::new_checked(&bytes[..len])?.options(), options);
+        assert_eq!(rt; &bytes[..len], &want[..len]);
+        assert_eq!(rt; &bytes[len..], &[fill; 64][len..]);
+    }
+    Ok(())
+}
+
+#[test]
 fn writes_options(rt: HostRuntime) -> std::result::Result<(), Fail> {
-    for (value, options) in [
+    let all = TcpRepr {
+        max_seg_size: Some(1460),
+        window_scale: Some(7),
+        sack_permitted: true,
+        timestamp: Some(TcpTimestampRepr::new(1, 2)),
+        ..syn()
+    };
+    let options = [
+        0x02, 0x04, 0x05, 0xb4, 0x03, 0x03, 0x07, 0x04, 0x02, 0x08, 0x0a, 0, 0, 0, 1, 0, 0, 0, 2, 0,
+    ];
+    is_written_as(&rt, &all, &options)?;
+    let size = TcpRepr {
+        max_seg_size: Some(536),
+        ..ack()
+    };
+    is_written_as(&rt, &size, &[0x02, 0x04, 0x02, 0x18])
+}
+
+#[test]
+fn writes_ranges(rt: HostRuntime) -> std::result::Result<(), Fail> {
+    let three = [Some((1, 2)), Some((3, 4)), Some((5, 6)), None];
+    let gap = [None, Some((1, 2)), Some((3, 4)), None];
+    let mut full = [0; 40];
+    full[..4].copy_from_slice(&[0x02, 0x04, 0x05, 0xb4]);
+    full[4..].copy_from_slice(&FOUR_BLOCKS);
+    let mut permitted = [0; 36];
+    permitted[..2].copy_from_slice(&[0x04, 0x02]);
+    for (max_seg_size, sack_permitted, sack_ranges, options) in [
+        (None, false, FOUR_RANGES, FOUR_BLOCKS.as_slice()),
+        (Some(1460), false, FOUR_RANGES, &full),
+        (None, true, FOUR_RANGES, &permitted),
         (
-            TcpRepr {
-                max_seg_size: Some(1460),
-                window_scale: Some(7),
-                sack_permitted: true,
-                timestamp: Some(TcpTimestampRepr::new(1, 2)),
-                ..syn()
-            },
-            [
-                0x02, 0x04, 0x05, 0xb4, 0x03, 0x03, 0x07, 0x04, 0x02, 0x08, 0x0a, 0, 0, 0, 1, 0, 0,
-                0, 2, 0,
-            ]
-            .as_slice(),
-        ),
-        (
-            TcpRepr {
-                max_seg_size: Some(536),
-                ..ack()
-            },
-            &[0x02, 0x04, 0x02, 0x18],
-        ),
-        (
-            TcpRepr {
-                sack_ranges: [Some((1, 2)), Some((3, 4)), Some((5, 6))],
-                ..ack()
-            },
+            None,
+            false,
+            three,
             &[
                 0x05, 0x1a, 0, 0, 0, 1, 0, 0, 0, 2, 0, 0, 0, 3, 0, 0, 0, 4, 0, 0, 0, 5, 0, 0, 0, 6,
                 0, 0,
             ],
         ),
         (
-            TcpRepr {
-                sack_ranges: [None, Some((1, 2)), Some((3, 4))],
-                ..ack()
-            },
+            None,
+            false,
+            gap,
             &[
                 0x05, 0x12, 0, 0, 0, 1, 0, 0, 0, 2, 0, 0, 0, 3, 0, 0, 0, 4, 0, 0,
             ],
         ),
-        (
-            TcpRepr {
-                sack_permitted: true,
-                sack_ranges: [None, Some((1, 2)), Some((3, 4))],
-                ..ack()
-            },
-            &[
-                0x04, 0x02, 0, 0, 0, 0, 0, 0, 0, 0, 0, 0, 0, 0, 0, 0, 0, 0, 0, 0,
-            ],
-        ),
+        (None, true, gap, &permitted[..20]),
     ] {
-        let (want, _) = emitted(&value, 0x00, &ChecksumCapabilities::default());
-        for fill in OLD {
-            let (bytes, len) = emitted(&value, fill, &ChecksumCapabilities::default());
-            assert_eq!(rt; value.header_len(), TCP_HEADER_LEN + options.len());
-            assert_eq!(rt; TcpPacket::new_checked(&bytes[..len])?.options(), options);
-            assert_eq!(rt; &bytes[..len], &want[..len]);
-            assert_eq!(rt; &bytes[len..], &[fill; 64][len..]);
-        }
+        let value = TcpRepr {
+            max_seg_size,
+            sack_permitted,
+            sack_ranges,
+            ..ack()
+        };
+        is_written_as(&rt, &value, options)?;
     }
     Ok(())
 }
@@ -266,13 +299,19 @@ fn counts_octets_and_numbers(rt: HostRuntime) {
         max_seg_size: Some(1460),
         window_scale: Some(7),
         timestamp: Some(TcpTimestampRepr::new(1, 2)),
-        sack_ranges: [Some((1, 2)), Some((3, 4)), Some((5, 6))],
+        sack_ranges: [Some((1, 2)), Some((3, 4)), Some((5, 6)), None],
+        ..ack()
+    };
+    let four = TcpRepr {
+        timestamp: Some(TcpTimestampRepr::new(1, 2)),
+        sack_ranges: FOUR_RANGES,
         ..ack()
     };
     for (value, header_len, segment_len, is_empty) in [
         (syn(), 20, 5, false),
         (ack(), 20, 0, true),
         (long, 64, 0, true),
+        (four, 64, 0, true),
     ] {
         assert!(rt; value.payload.len() <= 4);
         assert_eq!(rt; value.header_len(), header_len);
