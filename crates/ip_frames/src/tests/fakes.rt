@@ -1,6 +1,6 @@
 //! Devices that fail.
 
-ghost use Rattle.std.specs.Prelude.{◌≡◌, ◌≤◌, Some, length, take};
+ghost use Rattle.std.specs.Prelude.{[], ◌≡◌, ◌≤◌, Some, length, take};
 
 use crate::devices::{Failed, FrameSink, FrameSource};
 
@@ -60,6 +60,8 @@ impl FrameSink for StuckSink<'_> {
     ghost failures = { λ s. s.failures };
 
     ghost flushed = { λ s. s.flushed };
+
+    ghost kept = { λ _. [] };
 
     fn write(&mut self, bytes: &[u8]) -> Result<usize, Failed> {
         if bytes.is_empty() {

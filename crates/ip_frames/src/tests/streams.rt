@@ -5,8 +5,8 @@ ghost use Rattle.std.specs.Prelude.{Some};
 use crate::devices::{FrameSink, FrameSource};
 use crate::memory::{MemorySink, MemorySource};
 use crate::run::{RunError, run};
-use crate::streams::{StreamSink, StreamSource};
-use std::io::{self, ErrorKind, Read};
+use crate::streams::{StreamSink, StreamSource, run_streams};
+use std::io::{self, ErrorKind, Read, Write};
 
 const INPUT: &[u8] = b"\n0g\n";
 
@@ -33,6 +33,49 @@ impl Read for InterruptedReader<'_> {
         buf[..n].copy_from_slice(front);
         self.rest = rest;
         Ok(n)
+    }
+}
+
+/// A writer that is interrupted before each write, and takes some bytes at a time.
+#[derive(Drop)]
+struct InterruptedWriter<'a> {
+    taken: &'a mut Vec<u8>,
+    ready: bool,
+}
+
+impl Write for InterruptedWriter<'_> {
+    fn write(&mut self, buf: &[u8]) -> io::Result<usize> {
+        if !self.ready {
+            self.ready = true;
+            return Err(io::Error::from(ErrorKind::Interrupted));
+        }
+        self.ready = false;
+        self.taken.write(&buf[..buf.len().min(4096)])
+    }
+
+    fn flush(&mut self) -> io::Result<()> {
+        Ok(())
+    }
+}
+
+/// A writer whose first write fails.
+#[derive(Drop)]
+struct FailingWriter<'a> {
+    taken: &'a mut Vec<u8>,
+    failed: bool,
+}
+
+impl Write for FailingWriter<'_> {
+    fn write(&mut self, buf: &[u8]) -> io::Result<usize> {
+        if !self.failed {
+            self.failed = true;
+            return Err(io::Error::from(ErrorKind::StorageFull));
+        }
+        self.taken.write(buf)
+    }
+
+    fn flush(&mut self) -> io::Result<()> {
+        Ok(())
     }
 }
 
@@ -83,5 +126,53 @@ fn a_buffer_that_is_full_is_written(rt: HostRuntime) -> Result<(), RunError> {
     assert!(rt; sink.flushed());
     drop(sink);
     assert!(rt; written == output);
+    Ok(())
+}
+
+// The last block does not fit the buffer.
+#[test]
+fn a_writer_that_is_interrupted_takes_all(rt: HostRuntime) -> Result<(), RunError> {
+    let mut zeros = Vec::new(rt.alloc());
+    zeros.resize(80000, b'0')?;
+    let mut input = Vec::new(rt.alloc());
+    input.extend_from_slice(INPUT)?;
+    input.extend_from_slice(zeros.as_slice())?;
+    let mut output = Vec::new(rt.alloc());
+    output.extend_from_slice(OUTPUT)?;
+    output.extend_from_slice(
+        b"EthernetII src=00-00-00-00-00-00 dst=00-00-00-00-00-00 type=0x0000\nagain ",
+    )?;
+    output.extend_from_slice(zeros.as_slice())?;
+    output.extend_from_slice(b"\n\n")?;
+
+    let mut taken = Vec::new(rt.alloc());
+    let writer = InterruptedWriter {
+        taken: &mut taken,
+        ready: false,
+    };
+    let mut source = StreamSource::new(input.as_slice());
+    let mut sink = StreamSink::new(rt.alloc(), writer)?;
+    assert_eq!(rt; run_streams(rt.alloc(), &mut source, &mut sink), Ok(()));
+    assert_eq!(rt; sink.failures(), 0);
+    drop(sink);
+    assert!(rt; taken == output);
+    Ok(())
+}
+
+#[test]
+fn what_was_reported_as_failed_is_not_written_again(rt: HostRuntime) -> Result<(), RunError> {
+    let mut taken = Vec::new(rt.alloc());
+    let writer = FailingWriter {
+        taken: &mut taken,
+        failed: false,
+    };
+    let mut source = StreamSource::new(INPUT);
+    let mut sink = StreamSink::new(rt.alloc(), writer)?;
+    assert_eq!(rt;
+        run_streams(rt.alloc(), &mut source, &mut sink),
+        Err(RunError::Write)
+    );
+    drop(sink);
+    assert!(rt; taken.is_empty());
     Ok(())
 }
