@@ -155,6 +155,7 @@ pub unsafe extern "C" fn lk_ipv4_endpoint_print(
     unsafe { print(IpEndpoint::from((Ipv4Address::from(addr), port)), out, cap) }
 }
 
+/// With brackets, which smoltcp doesn't print.
 #[unsafe(no_mangle)]
 pub unsafe extern "C" fn lk_ipv6_endpoint_print(
     octets: *const u8,
@@ -162,5 +163,5 @@ pub unsafe extern "C" fn lk_ipv6_endpoint_print(
     out: *mut u8,
     cap: usize,
 ) -> usize {
-    unsafe { print(IpEndpoint::from((address(octets), port)), out, cap) }
+    unsafe { print(format_args!("[{}]:{port}", address(octets)), out, cap) }
 }

@@ -206,7 +206,7 @@ size_t lk_ipv6_cidr_print(const uint8_t *octets, uint8_t prefix_len, uint8_t *ou
 /* At most 21 bytes: the address, ':' and the port. */
 size_t lk_ipv4_endpoint_print(uint32_t addr, uint16_t port, uint8_t *out, size_t cap);
 
-/* At most 45 bytes: the same without brackets, so that it is not read again as this endpoint. */
+/* At most 47 bytes: the same, with the address in brackets. */
 size_t lk_ipv6_endpoint_print(const uint8_t *octets, uint16_t port, uint8_t *out, size_t cap);
 
 /* Builds an Ethernet frame again from the values of its headers and writes it to the front of

@@ -85,7 +85,7 @@ pub extern "C" fn lk_ipv4_endpoint_print(addr: u32, port: u16, out: &mut [u8]) -
 }
 
 /// Writes the text of a port at an IPv6 address to the front of `out`, and answers its length, which is
-/// never more than 45: 0 where it doesn't fit, and then nothing is written.
+/// never more than 47: 0 where it doesn't fit, and then nothing is written.
 #[unsafe(no_mangle)]
 pub extern "C" fn lk_ipv6_endpoint_print(octets: &[u8; 16], port: u16, out: &mut [u8]) -> usize
     ensures { IsPrinted (endpoint_text (endpoint_at (Ipv6 octets.now) port)) out.old out.new result }
@@ -116,7 +116,7 @@ fn write_block(addr: &str, prefix_len: u8, out: &mut [u8]) -> usize
 }
 
 // How many bytes the longest of these texts has, that of a port at an IPv6 address.
-const MAX_LEN: usize = 45;
+const MAX_LEN: usize = 47;
 
 // Writes the text of a value to the front of `out`, and answers its length: 0 where it doesn't fit, and
 // then nothing is written.
