@@ -70,11 +70,11 @@ struct lk_frame {
 };
 
 /* Stores what is read of an Ethernet frame, and answers its `status`. At a header that is refused the
- * headers before it are told, and the payload is all that follows them; a frame of less than 14 octets
- * has none. What follows a header whose type or protocol is none of these is payload, and so are IPv6
- * extension headers. No checksum is a reason to refuse. Of a UDP header a receiving port of 0 is, of a
- * TCP header either port of 0, more than one of SYN, FIN and RST, and a malformed option before an end
- * mark. */
+ * headers before it are told, and the payload is what follows them; of a frame of less than 14 octets
+ * no header is read, and all of it is payload. What follows a header whose type or protocol is none of
+ * these is payload, and so are IPv6 extension headers. No checksum is a reason to refuse. Of a UDP
+ * header a receiving port of 0 is, of a TCP header either port of 0, more than one of SYN, FIN and RST,
+ * and a malformed option before an end mark. */
 uint8_t lk_read_frame(const uint8_t *ptr, size_t len, struct lk_frame *frame);
 
 /* Writes an ARP packet of Ethernet and IPv4, 28 octets, to the front of `out`, and answers 28; 0 where

@@ -80,9 +80,9 @@ def random_arp(rng):
     """An ARP packet, mostly of Ethernet and IPv4, whose addresses mostly have the lengths that it names."""
     hardware_len, protocol_len = rng.choice([(6, 4), (6, 4), (6, 16), (8, 4), (rng.randrange(20), rng.randrange(20))])
     message = packets.arp(rng.choice([1, 2, rng.randrange(65536)]), rng.choice([1, 1, 1, rng.randrange(65536)]),
-                         rng.choice([packets.IPV4, packets.IPV4, packets.IPV6, rng.randrange(65536)]), hardware_len, protocol_len,
-                         rng.randbytes(hardware_len), rng.randbytes(protocol_len),
-                         rng.randbytes(hardware_len), rng.randbytes(protocol_len))
+                          rng.choice([packets.IPV4, packets.IPV4, packets.IPV6, rng.randrange(65536)]), hardware_len, protocol_len,
+                          rng.randbytes(hardware_len), rng.randbytes(protocol_len),
+                          rng.randbytes(hardware_len), rng.randbytes(protocol_len))
     return packets.ethernet(packets.ARP, message + b"\0" * rng.choice([0, 0, 1, 18]), dst=rng.randbytes(6))
 
 

@@ -50,7 +50,7 @@ class Gate:
     WELL = re.compile(r"rt: (\w+ ran\b.* wrote what|\w+: its tests passed|ok; )|\d+ passed, \d+ failed$")
 
     def __init__(self):
-        self.names, self.proved, self.tried, self.lines, self.inside = listed(), 0, {}, [], False
+        self.names, self.ended, self.tried, self.lines, self.inside = listed(), 0, {}, [], False
 
     def take(self, line):
         done, tried, refused = (it.match(line) for it in (self.DONE, self.TRIED, self.REFUSED))
@@ -75,8 +75,8 @@ class Gate:
         if tests:
             say(f"{crate}: its tests are {verdict}")
         else:
-            self.proved += 1
-            say(f"{self.proved} of {len(self.names)}: {crate} {verdict}, {clock(time.time() - begun(crate))}")
+            self.ended += 1
+            say(f"{self.ended} of {len(self.names)}: {crate} {verdict}, {clock(time.time() - begun(crate))}")
         if verdict != "proved":
             show(self.lines)
 
