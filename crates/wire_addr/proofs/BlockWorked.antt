@@ -1,10 +1,10 @@
 -- Texts of blocks, worked: what is read, and what is not.
-use Rattle.std.proofs.Common.{◌≡◌, ℕ, ◌<◌, ◌⊎◌, List, [], ◌∷◌, ◌++◌, ap, arith, codes, inl, inr, length, lit≤, refl}
+use Rattle.std.proofs.Common.{ℕ, ◌<◌, ◌⊎◌, List, [], ◌∷◌, ap, arith, codes, inl, inr, length, lit≤, refl}
 use Rattle.wire_addr.specs.Block.{Block}
 use Rattle.wire_addr.specs.BlockText.{ReadsIpv4Block, ReadsIpv6Block}
 use Rattle.wire_addr.specs.Octets.{octets_of}
 use Rattle.wire_text.specs.Ending.{EndsInNumber}
-use Rattle.wire_text.specs.Reading.{groups_from, groups_read, mapped_read, number_of, octets_read}
+use Rattle.wire_text.specs.Reading.{groups_from, groups_read, number_of, octets_read}
 use Rattle.wire_text.proofs.Endings.{ends_once, ends_wider, length_is}
 use Rattle.wire_text.proofs.Ipv6.{groups_sound}
 use Rattle.wire_text.proofs.Joined.{octets_sound}

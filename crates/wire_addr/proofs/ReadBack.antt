@@ -1,5 +1,5 @@
 -- The text that an address prints as is read as that address.
-use Rattle.std.proofs.Common.{◌≡◌, ℕ, zero, suc, ◌+◌, ◌-◌, ◌*◌, ◌/◌, ◌%◌, ◌^◌, ◌<◌, ◌≤◌, ◌==◌, true, false, List, [], ◌∷◌, ◌++◌, length, get_or, take, drop, map, flat_map, decimal, bytes_eq, nat_lt, cond, refl, sym, ap, ◌∙◌, arith, inl, inr, lt-ltb, le-ltb, take-add, take-append-drop, length-take-le, length-drop, eq-eqb, append-nil}
+use Rattle.std.proofs.Common.{◌≡◌, ℕ, zero, suc, ◌+◌, ◌-◌, ◌*◌, ◌/◌, ◌%◌, ◌^◌, ◌<◌, ◌≤◌, ◌==◌, true, false, List, [], ◌∷◌, ◌++◌, length, get_or, take, drop, map, flat_map, decimal, bytes_eq, refl, sym, ap, ◌∙◌, arith, inl, inr, lt-ltb, le-ltb, take-add, take-append-drop, length-take-le, length-drop, eq-eqb, append-nil}
 use Rattle.std.proofs.lemmas.Bool.{cases_lt, cond_both}
 use Rattle.std.proofs.lemmas.Slice.Eq.{bytes_eq-Decides}
 use Rattle.std.proofs.lemmas.Fmt.{decimal_is_IsNumeral, length-decimal-le, digits_is_IsNumeral}
@@ -11,7 +11,7 @@ use Rattle.std.specs.List.{join_with_byte}
 use Rattle.std.specs.Net.Text.{longest_zero_run}
 use Rattle.std.proofs.NetLemmas.Texts.{AllSegments, AllSegments-take, AllSegments-drop, IsZeroRun-longest_zero_run}
 use Rattle.wire_addr.specs.Octets.{AreOctets, octets_of, mapped_prefix}
-use Rattle.wire_addr.specs.Printed.{dotted, dashed, hex_byte, hex, colon_hex, shortened_text, groups_text, ipv6_text}
+use Rattle.wire_addr.specs.Printed.{dotted, dashed, hex_byte, hex, colon_hex, groups_text, ipv6_text}
 use Rattle.wire_addr.specs.Read.{ReadsIpv6}
 use Rattle.wire_text.specs.Grammar.{EachReads, IsNumber, IsOctet, IsDotted, IsHexOctets, IsGroup, AreGroupsText, IsElidedMappedText, IsIpv6Text, groups_of, mapped_groups}
 

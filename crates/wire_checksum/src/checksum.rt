@@ -5,7 +5,6 @@ ghost use Rattle.wire_ends.specs.IpAddress.{octets_of, version_of};
 ghost use Rattle.wire_checksum.specs.PseudoHeader.{pseudo_header_bytes, with_pseudo_header};
 ghost use Rattle.wire_checksum.specs.WordSum.{residue, sum_of, sum_of_bytes};
 
-use crate::parts;
 use crate::totals::{around, finish, total, total_of_words};
 use wire_addr::{Ipv4Address, Ipv6Address};
 use wire_ends::{IpAddress, IpProtocol};
@@ -31,7 +30,7 @@ pub fn data(bytes: &[u8]) -> u16
     ensures { result ≡ sum_of_bytes bytes.now }
 {
     match <&[u8; 20]>::try_from(bytes) {
-        Ok(header) => parts::header(header),
+        Ok(header) => finish(total_of_words(header)),
         Err(_) => finish(total(bytes)),
     }
 }

@@ -18,22 +18,22 @@ pub fn header(bytes: &[u8; 20]) -> u16
     finish(total_of_words(bytes))
 }
 
-/// The sum, as of `checksum::packet`, of a packet whose header up to its options, of whole words of
-/// four octets, and the rest lie apart.
+/// The sum, as of `checksum::packet`, of a packet in two parts: whole words of four octets, 60 octets
+/// at most, and the rest.
 #[inline(always)]
 pub fn packet(
     src_addr: IpAddress,
     dst_addr: IpAddress,
     next_header: IpProtocol,
-    header: &[u8],
+    front: &[u8],
     rest: &[u8],
 ) -> u16
     requires family { version_of src_addr ≡ version_of dst_addr }
-    requires whole { length header.now % 4 ≡ 0 }
-    requires short { length header.now ≤ 60 }
-    ensures { result ≡ sum_of_bytes (with_pseudo_header src_addr dst_addr next_header (header.now ++ rest.now)) }
+    requires whole { length front.now % 4 ≡ 0 }
+    requires short { length front.now ≤ 60 }
+    ensures { result ≡ sum_of_bytes (with_pseudo_header src_addr dst_addr next_header (front.now ++ rest.now)) }
 {
-    let length = ((header.len() + rest.len()) % (1 << 16)) as u32;
+    let length = ((front.len() + rest.len()) % (1 << 16)) as u32;
     let pseudo_header = pseudo_header_total(src_addr, dst_addr, next_header, length);
-    finish(around(around(pseudo_header, total_of_words(header)), total(rest)))
+    finish(around(around(pseudo_header, total_of_words(front)), total(rest)))
 }

@@ -1,11 +1,9 @@
 -- What the setters leave of a header, and what is read of it.
-use Rattle.std.proofs.Common.{ℕ, ◌≡◌, ◌≤◌, ◌<◌, ◌+◌, ◌-◌, ◌*◌, ◌/◌, ◌%◌, List, [], ◌∷◌, ◌++◌, length, take, drop, refl, sym, ap, ◌∙◌, length-append, arith}
+use Rattle.std.proofs.Common.{ℕ, ◌≡◌, ◌≤◌, ◌<◌, ◌+◌, ◌*◌, ◌/◌, ◌%◌, List, [], ◌∷◌, ◌++◌, length, take, drop, refl, sym, ap, ◌∙◌, length-append, arith}
 use Rattle.std.proofs.Math.Seq.{take-append_seam}
 use Rattle.byteorder.specs.Endian.{big_bytes}
 use Rattle.wire_field.specs.Field.{with_field, with_part, with_range}
 use Rattle.wire_field.proofs.Cells.{cells, cells-all, cells-drop, word_high, word_low}
-use Rattle.wire_ipv4.specs.Ipv4.{with_checksum}
-use Rattle.wire_checksum.specs.WordSum.{sum_of_bytes}
 
 -- a header from its parts
 abbrev pub blank : ℕ → ℕ → ℕ → List ℕ → List ℕ → ℕ → List ℕ

@@ -93,7 +93,7 @@ past_end = refl
 -- ranges are closed up, and zeros fill the header
 gap : TcpHeader
 unfolding value
-gap = record value { control = control.None; ack_number = Some (seq_of 0); sack_ranges = None ∷ Some (1, 2) ∷ Some (3, 4) ∷ [] }
+gap = record value { control = control.None; ack_number = Some (seq_of 0); sack_ranges = None ∷ Some (1, 2) ∷ Some (3, 4) ∷ None ∷ [] }
 
 gap-header_len : header_len_of gap ≡ 40
 unfolding value gap
@@ -103,7 +103,7 @@ gap-options : option_bytes gap ≡ 0x05 ∷ 0x12 ∷ 0 ∷ 0 ∷ 0 ∷ 1 ∷ 0 �
 unfolding value gap
 gap-options = refl
 
-gap-normal : (normal gap).sack_ranges ≡ Some (1, 2) ∷ Some (3, 4) ∷ None ∷ []
+gap-normal : (normal gap).sack_ranges ≡ Some (1, 2) ∷ Some (3, 4) ∷ None ∷ None ∷ []
 unfolding value gap
 gap-normal = refl
 
@@ -125,9 +125,26 @@ full-options : option_bytes full ≡ 0x02 ∷ 0x04 ∷ 0x05 ∷ 0xb4 ∷ 0x03 �
 unfolding value full
 full-options = refl
 
--- an option too many: no header is so long
-long-header_len : header_len_of (record full { sack_permitted = false; sack_ranges = Some (1, 2) ∷ Some (3, 4) ∷ Some (5, 6) ∷ [] }) ≡ 64
-unfolding value full
+-- as many ranges as a header holds
+four : TcpHeader
+unfolding value
+four = record value { control = control.None; ack_number = Some (seq_of 0); sack_ranges = Some (1, 2) ∷ Some (3, 4) ∷ Some (5, 6) ∷ Some (7, 8) ∷ [] }
+
+four-header_len : header_len_of four ≡ 56
+unfolding value four
+four-header_len = refl
+
+four-normal : normal four ≡ four
+unfolding value four
+four-normal = refl
+
+-- with the size of a segment they fill it, and with a timestamp no header is so long
+filled-header_len : header_len_of (record four { max_seg_size = Some 1460 }) ≡ 60
+unfolding value four
+filled-header_len = refl
+
+long-header_len : header_len_of (record four { timestamp = Some (record { tsval = 1; tsecr = 2 }) }) ≡ 64
+unfolding value four
 long-header_len = refl
 
 -- ---- texts

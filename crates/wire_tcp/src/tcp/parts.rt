@@ -1,4 +1,4 @@
-//! Parts of a segment that the emission of a value writes, each at once.
+//! What the emission of a value is made of.
 
 ghost use Rattle.std.specs.Prelude.{◌≡◌, ◌+◌, ◌-◌, ◌≤◌, ◌++◌, drop, length, replicate};
 ghost use Rattle.byteorder.specs.Endian.{big_bytes};

@@ -1,4 +1,4 @@
-use Rattle.std.proofs.Common.{◌+◌, ◌*◌, ◌/◌, length, take, sum, ap, ◌∙◌, refl, arith, w32}
+use Rattle.std.proofs.Common.{◌+◌, ◌*◌, ◌/◌, length, sum, ap, ◌∙◌, refl, arith, w32}
 use Rattle.std.proofs.lemmas.List.{take_all}
 use Rattle.std.specs.Int.{from_le_bytes}
 use Rattle.wire_checksum.specs.WordSum.{residue, words}

@@ -1,4 +1,3 @@
-use Rattle.std.proofs.Common.{◌≡◌}
 use Rattle.wire_addr.proofs.parsers.Ipv6AddressFromStr.from_str.Goals as goal
 
 pub returns-in-None : goal.returns-in-None
