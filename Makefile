@@ -6,9 +6,10 @@
 # make compare-calls REFERENCE=program [SEED=n] [LINES=n]
 #             the same for the program that answers lines which ask one call of the library each
 # make bench [REFERENCE_BENCH=library.so] [REFERENCE=program]
-#             times the library's calls and the program; with a reference, how fast ours are beside it:
-#             a shared library with the same calls (bench/reference.rs has them over smoltcp), and a
-#             program that reads the same lines
+#             times the library's calls, beside the same by hand (bench/floor.c), and the program, and
+#             prints the tables in Markdown; with a reference, how fast ours are beside it: a shared
+#             library with the same calls (bench/reference.rs has them over smoltcp), and a program
+#             that reads the same lines
 
 FRAMES ?= examples/frames.hex
 SEED ?= 1

@@ -4,8 +4,9 @@
 bench/bench.py [--calls LIBRARY.so] [--program PROGRAM [WORD..]]
 
 LIBRARY.so has the calls of c/ip_wire.h (bench/reference.rs has them over smoltcp): they are
-timed in one process with ours. PROGRAM is timed on the same lines as ours. Where there is
-one, "speed" is its time divided by ours, so that 1.00 is as fast and 2.00 twice as fast.
+timed in one process with ours, and with those of bench/floor.c. PROGRAM is timed on the same
+lines as ours. Where there is one, "speed" is its time divided by ours, so that 1.00 is as fast
+and 2.00 twice as fast. The tables are in Markdown.
 """
 import os
 import random
@@ -17,6 +18,10 @@ import tempfile
 import time
 
 CALLS = "bench/calls.c"
+FLOOR = "bench/floor.c"
+# Processors decode a jump across 32 bytes anew each time; the floor is not to be slow by its place.
+FLOOR_JUMPS = "-mbranches-within-32B-boundaries"
+COMPILER = os.environ.get("CC", "cc")
 LIBRARY = "crates/ip_wire_c/out/libip_wire_c.a"
 PROGRAM = "crates/ip_frames/out/ip_frames"
 INPUTS = [(120, 1_000_000), (3000, 100_000)]  # digits of a line, lines
@@ -58,22 +63,29 @@ def seconds(command, path):
         return time.perf_counter() - start
 
 
-def time_calls(room, reference):
-    program = f"{room}/calls"
-    compiler = os.environ.get("CC", "cc")
+def run_compiler(*words):
     try:
-        built = subprocess.run([compiler, "-std=c11", "-O2", "-o", program, CALLS, LIBRARY, "-ldl"]).returncode
+        return subprocess.run([COMPILER, *words], stdout=subprocess.PIPE, text=True)
     except OSError as error:
-        give_up(f"cannot run {compiler}: {error.strerror}")
-    if built:
-        give_up(f"{compiler} refuses {CALLS}")
-    if subprocess.run([program] + reference).returncode:
+        give_up(f"cannot run {COMPILER}: {error.strerror}")
+
+
+def compile_c(*words):
+    if run_compiler("-std=c11", "-march=x86-64-v2", *words).returncode:
+        give_up(f"{COMPILER} refuses {' '.join(words)}")
+
+
+def time_calls(room, reference):
+    program, floor = f"{room}/calls", f"{room}/floor.so"
+    jumps = FLOOR_JUMPS if "clang" in run_compiler("--version").stdout else f"-Wa,{FLOOR_JUMPS}"
+    compile_c("-O3", "-falign-functions=64", jumps, "-shared", "-fPIC", "-o", floor, FLOOR)
+    compile_c("-O2", "-o", program, CALLS, LIBRARY, "-ldl")
+    if subprocess.run([program, floor] + reference).returncode:
         sys.exit(1)  # it said why
 
 
 def time_programs(room, reference):
-    print(f"{'lines':>10} {'of digits':>9} {'seconds':>8} {'MB/s':>6}", end="")
-    print(f" {'reference s':>12} {'speed':>7}" if reference else "")
+    print("| Lines | Digits | seconds | MB/s | reference s | speed |\n|---|---|---|---|---|---|")
     for digits, lines in INPUTS:
         path = f"{room}/lines"
         write_lines(path, digits, lines)
@@ -83,11 +95,9 @@ def time_programs(room, reference):
             if reference:
                 there.append(seconds(reference, path))
         ours = statistics.median(here)
-        print(f"{lines:10} {digits:9} {ours:8.2f} {os.path.getsize(path) / ours / 1e6:6.0f}", end="")
-        if reference:
-            theirs = statistics.median(there)
-            print(f" {theirs:12.2f} {theirs / ours:7.2f}", end="")
-        print(flush=True)
+        rate = os.path.getsize(path) / ours / 1e6
+        beside = f"{statistics.median(there):.2f} | {statistics.median(there) / ours:.2f}" if there else "|"
+        print(f"| {lines} | {digits} | {ours:.2f} | {rate:.0f} | {beside} |", flush=True)
 
 
 def options(words):

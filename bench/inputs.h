@@ -10,33 +10,20 @@ enum {
     MOST_TEXT = 39, /* of an address */
 };
 
+/* The calls of a library: on packets, of which the floor has all, and of texts. */
+#define PACKET_CALLS(X)                                                                                     \
+    X(checksum) X(parse) X(rebuild) X(emit_arp) X(emit_ipv4) X(emit_ipv6) X(emit_udp_ipv4) X(emit_udp_ipv6) \
+    X(emit_tcp_ipv4) X(emit_tcp_ipv6) X(ipv4_contains) X(ipv6_contains)
+#define TEXT_CALLS(X)                                                                                       \
+    X(ipv4_read) X(ipv6_read) X(ipv4_cidr_read) X(ipv6_cidr_read) X(ipv4_print) X(ipv6_print)               \
+    X(ipv4_cidr_print) X(ipv6_cidr_print) X(ipv4_endpoint_print) X(ipv6_endpoint_print)
+#define CALL(name) __typeof__(lk_##name) *name;
+
 struct library {
-    uint16_t (*checksum)(const uint8_t *, size_t);
-    uint32_t (*parse)(const uint8_t *, size_t, uint8_t);
-    size_t (*emit_arp)(uint16_t, const uint8_t *, uint32_t, const uint8_t *, uint32_t, uint8_t *, size_t);
-    size_t (*emit_ipv4)(uint32_t, uint32_t, uint8_t, uint8_t, size_t, uint8_t, uint8_t *, size_t);
-    size_t (*emit_ipv6)(const uint8_t *, const uint8_t *, uint8_t, uint8_t, size_t, uint8_t *, size_t);
-    size_t (*emit_udp_ipv4)(uint32_t, uint32_t, uint16_t, uint16_t, const uint8_t *, size_t, uint8_t, uint8_t *, size_t);
-    size_t (*emit_udp_ipv6)(const uint8_t *, const uint8_t *, uint16_t, uint16_t, const uint8_t *, size_t, uint8_t,
-                            uint8_t *, size_t);
-    size_t (*emit_tcp_ipv4)(uint32_t, uint32_t, const struct lk_tcp *, const uint8_t *, size_t, uint8_t, uint8_t *, size_t);
-    size_t (*emit_tcp_ipv6)(const uint8_t *, const uint8_t *, const struct lk_tcp *, const uint8_t *, size_t, uint8_t,
-                            uint8_t *, size_t);
-    uint8_t (*ipv4_contains)(uint32_t, uint8_t, uint32_t);
-    uint8_t (*ipv6_contains)(const uint8_t *, uint8_t, const uint8_t *);
-    uint8_t (*ipv4_read)(const uint8_t *, size_t, uint32_t *);
-    uint8_t (*ipv6_read)(const uint8_t *, size_t, uint8_t *);
-    uint8_t (*ipv4_read_by_core)(const uint8_t *, size_t, uint32_t *); /* ours beside Rust's core::net */
-    uint8_t (*ipv6_read_by_core)(const uint8_t *, size_t, uint8_t *);
-    uint8_t (*ipv4_cidr_read)(const uint8_t *, size_t, uint32_t *, uint8_t *);
-    uint8_t (*ipv6_cidr_read)(const uint8_t *, size_t, uint8_t *, uint8_t *);
-    size_t (*ipv4_print)(uint32_t, uint8_t *, size_t);
-    size_t (*ipv6_print)(const uint8_t *, uint8_t *, size_t);
-    size_t (*ipv4_cidr_print)(uint32_t, uint8_t, uint8_t *, size_t);
-    size_t (*ipv6_cidr_print)(const uint8_t *, uint8_t, uint8_t *, size_t);
-    size_t (*ipv4_endpoint_print)(uint32_t, uint16_t, uint8_t *, size_t);
-    size_t (*ipv6_endpoint_print)(const uint8_t *, uint16_t, uint8_t *, size_t);
-    size_t (*rebuild)(const uint8_t *, size_t, uint8_t *, size_t);
+    PACKET_CALLS(CALL)
+    TEXT_CALLS(CALL)
+    __typeof__(lk_ipv4_read) *ipv4_read_by_core; /* ours beside Rust's core::net */
+    __typeof__(lk_ipv6_read) *ipv6_read_by_core;
 };
 
 /* One row: its input, and what is timed, with so many bytes of payload or for a checksum, with a TCP
@@ -47,7 +34,6 @@ struct row {
     uint64_t (*call)(const struct library *, const struct row *);
     size_t size;
     uint8_t checked;
-    int is_rate;
     const struct lk_tcp *header;
     const char *text;
 };
