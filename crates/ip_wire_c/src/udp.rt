@@ -14,6 +14,7 @@ const MAX_PAYLOAD_LEN: usize = 65_527;
 
 /// Writes a packet between two addresses to the front of `out`, and answers its length: 0 where it
 /// doesn't fit or UDP can't say how long the payload is, and then nothing is written.
+#[inline(always)]
 pub fn send(
     header: UdpRepr,
     src_addr: IpAddress,
@@ -34,6 +35,7 @@ pub fn send(
 
 /// Writes a packet between two addresses to the front of `out`, and answers its length. None where it
 /// doesn't fit.
+#[inline(always)]
 pub fn emit(
     header: UdpRepr,
     src_addr: IpAddress,

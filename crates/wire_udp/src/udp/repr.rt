@@ -70,6 +70,7 @@ impl UdpRepr {
 
     /// Writes the header and the payload of a packet between two addresses of one version, and leaves
     /// what follows them. The checksum is computed where `caps` says so, else 0.
+    #[inline(always)]
     pub fn emit(
         &self,
         packet: &mut UdpPacketMut<'_>,
