@@ -46,6 +46,7 @@ static int is_old_from(size_t first)
 
 static const uint8_t low[16] = {0xfe, 0x80, 0, 0, 0, 0, 0, 0, 0, 0, 0, 0, 0, 0, 0, 0x01};
 static const uint8_t zeros[16] = {0};
+static const uint8_t ones[16] = {255, 255, 255, 255, 255, 255, 255, 255, 255, 255, 255, 255, 255, 255, 255, 255};
 static const uint8_t bytes[4] = {1, 2, 3, 4};
 
 static void emit(void)
@@ -76,6 +77,8 @@ static void print(void)
     NEEDS(9, cap, lk_ipv4_cidr_print(0x01020304, 8, out, cap));
     NEEDS(10, cap, lk_ipv6_cidr_print(low, 64, out, cap));
     NEEDS(9, cap, lk_ipv4_endpoint_print(0x01020304, 8, out, cap));
+    NEEDS(11, cap, lk_ipv6_endpoint_print(low, 8, out, cap));
+    NEEDS(47, cap, lk_ipv6_endpoint_print(ones, 65535, out, cap));
     REFUSES(lk_ipv4_cidr_print(0x01020304, 33, out, ROOM));
     REFUSES(lk_ipv6_cidr_print(low, 129, out, ROOM));
 }
