@@ -8,6 +8,7 @@ import re
 import subprocess
 import sys
 import time
+from collections import Counter
 
 TOP = os.path.dirname(os.path.dirname(os.path.abspath(__file__)))
 # What a log says of what was loaded, proved or left for later.
@@ -50,7 +51,7 @@ class Gate:
     WELL = re.compile(r"rt: (\w+ ran\b.* wrote what|\w+: its tests passed|ok; )|\d+ passed, \d+ failed$")
 
     def __init__(self):
-        self.names, self.ended, self.tried, self.lines, self.inside = listed(), 0, {}, [], False
+        self.names, self.ended, self.tried, self.lines, self.inside = listed(), 0, Counter(), [], False
 
     def take(self, line):
         done, tried, refused = (it.match(line) for it in (self.DONE, self.TRIED, self.REFUSED))
@@ -81,6 +82,7 @@ class Gate:
             show(self.lines)
 
     def count(self, crate):
+        # Two lines of rt that come at once can stand in one, and then it was not read how many there are.
         self.tried[crate] -= 1
         if not self.tried[crate]:
             say(f"{crate}: its wrong bodies are refused")
