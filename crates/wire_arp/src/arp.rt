@@ -24,6 +24,7 @@ pub enum ArpHardware {
 impl From<u16> for ArpHardware {
     ghost from_gives = { λ n h. h ≡ hardware_of n };
 
+    #[inline(always)]
     fn from(value: u16) -> ArpHardware {
         match value {
             1 => ArpHardware::Ethernet,
@@ -35,6 +36,7 @@ impl From<u16> for ArpHardware {
 impl From<ArpHardware> for u16 {
     ghost from_gives = { λ h n. n ≡ hardware_number h };
 
+    #[inline(always)]
     fn from(value: ArpHardware) -> u16 {
         match value {
             ArpHardware::Ethernet => 1,
@@ -57,6 +59,7 @@ pub enum ArpOperation {
 impl From<u16> for ArpOperation {
     ghost from_gives = { λ n o. o ≡ operation_of n };
 
+    #[inline(always)]
     fn from(value: u16) -> ArpOperation {
         match value {
             1 => ArpOperation::Request,
@@ -69,6 +72,7 @@ impl From<u16> for ArpOperation {
 impl From<ArpOperation> for u16 {
     ghost from_gives = { λ o n. n ≡ operation_number o };
 
+    #[inline(always)]
     fn from(value: ArpOperation) -> u16 {
         match value {
             ArpOperation::Request => 1,

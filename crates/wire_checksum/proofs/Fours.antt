@@ -51,20 +51,14 @@ carried before after carries e none =
 pub word-is : (k n : ℕ) (ws : List (List ℕ)) (v : List ℕ) (r : ℕ) → ws ≡ first_chunks 8 n v → n ≡ 4 → r ≡ from_le_bytes w64 (get_or ws k []) → r ≡ word k v
 word-is k n ws v r cut four is = is ∙ ap (λ l. from_le_bytes w64 (get_or l k [])) (cut ∙ ap (λ m. first_chunks 8 m v) four)
 
-pub chunk-long : (i : ℕ) (bytes : List ℕ) (chunks : List (List ℕ)) → chunks ≡ first_chunks 32 (length bytes / 32) bytes → i < length bytes / 32 → length (get_or chunks i []) ≡ 32
+pub chunk-long : (i : ℕ) (bytes : List ℕ) (chunks : List (List ℕ)) → chunks ≡ first_chunks 64 (length bytes / 64) bytes → i < length bytes / 64 → length (get_or chunks i []) ≡ 64
 chunk-long i bytes chunks cut below =
-    ap (λ cs. length (get_or cs i [])) cut ∙ ap length (chunk-at 32 (length bytes / 32) i bytes [] below) ∙ length-take-le 32 (drop (i * 32) bytes) (rw length-drop (omega arith))
-
--- four words added, each with the carry of the one before
-pub handed_on : (a b c d k w0 w1 w2 w3 a' b' c' d' x y z u f : ℕ) → a' + 18446744073709551616 * x ≡ a + w0 + 0 → b' + 18446744073709551616 * y ≡ b + w1 + x → c' + 18446744073709551616 * z ≡ c + w2 + y → d' + 18446744073709551616 * u ≡ d + w3 + z
-    → f ≡ w0 + w1 + w2 + w3 → residue (256 * (a' + b' + c' + d' + (k + u))) ≡ residue (256 * (a + b + c + d + k + f))
-handed_on a b c d k w0 w1 w2 w3 a' b' c' d' x y z u f p q r s t =
-    carried (a + b + c + d + k + f) (a' + b' + c' + d' + (k + u)) (x + y + z + u) (omega (arith, p, q, r, s, t)) (λ e. omega (arith, e, p, q, r, s))
+    ap (λ cs. length (get_or cs i [])) cut ∙ ap length (chunk-at 64 (length bytes / 64) i bytes [] below) ∙ length-take-le 64 (drop (i * 64) bytes) (rw length-drop (omega arith))
 
 -- four words added to one number, each with the carry of the one before
-pub chained : (a k w0 w1 w2 w3 b c d e x y z u f : ℕ) → b + 18446744073709551616 * x ≡ a + w0 + 0 → c + 18446744073709551616 * y ≡ b + w1 + x → d + 18446744073709551616 * z ≡ c + w2 + y → e + 18446744073709551616 * u ≡ d + w3 + z
-    → f ≡ w0 + w1 + w2 + w3 → residue (256 * (e + (k + u))) ≡ residue (256 * (a + k + f))
-chained a k w0 w1 w2 w3 b c d e x y z u f p q r s t = carried (a + k + f) (e + (k + u)) (x + y + z + u) (omega (arith, p, q, r, s, t)) (λ n. omega (arith, n, p, q, r, s))
+pub chained : (a k w0 w1 w2 w3 b c d e x y z u f : ℕ) → b + 18446744073709551616 * x ≡ a + w0 + k → c + 18446744073709551616 * y ≡ b + w1 + x → d + 18446744073709551616 * z ≡ c + w2 + y → e + 18446744073709551616 * u ≡ d + w3 + z
+    → f ≡ w0 + w1 + w2 + w3 → residue (256 * (e + u)) ≡ residue (256 * (a + k + f))
+chained a k w0 w1 w2 w3 b c d e x y z u f p q r s t = carried (a + k + f) (e + u) (x + y + z + u) (omega (arith, p, q, r, s, t)) (λ n. omega (arith, n, p, q, r, s))
 
 -- more added to equal totals
 pub and_more : (s t k : ℕ) → residue (256 * s) ≡ residue (256 * t) → residue (256 * (s + k)) ≡ residue (256 * (t + k))

@@ -105,6 +105,17 @@ chunk-more n k bytes chunks number z i j s w cut below even next room reads is s
     ap residue (mul-add 256 s w) ∙ residue-add (256 * s) (z + sum (words (take (i * n) bytes))) (256 * w) (sum (words part)) so_far word
     ∙ ap residue (omega (arith, more))
 
+-- one more chunk, whose words were added as they stand
+pub chunk-added : (n k : ℕ) (bytes : List ℕ) (chunks : List (List ℕ)) (z i j s r : ℕ) → chunks ≡ first_chunks n k bytes → i < k → (i * n) % 2 ≡ 0 → j ≡ i * n + n → j ≤ length bytes
+    → residue (256 * r) ≡ residue (256 * s + sum (words (get_or chunks i [])))
+    → residue (256 * s) ≡ residue (z + sum (words (take (i * n) bytes)))
+    → residue (256 * r) ≡ residue (z + sum (words (take j bytes)))
+chunk-added n k bytes chunks z i j s r cut below even next room added so_far =
+    let w = sum (words (get_or chunks i [])) in
+    let at : w ≡ sum (words (take n (drop (i * n) bytes))) = ap (λ cs. sum (words (get_or cs i []))) cut ∙ ap (λ l. sum (words l)) (chunk-at n k i bytes [] below) in
+    let more = sum-words-chunk n (i * n) j bytes even next room in
+    added ∙ residue-add (256 * s) (z + sum (words (take (i * n) bytes))) w w so_far refl ∙ ap residue (omega (arith, more, at))
+
 -- the same where it began with nothing
 pub chunk-step : (n k : ℕ) (bytes : List ℕ) (chunks : List (List ℕ)) (number : List ℕ → ℕ) (i j s w : ℕ) → chunks ≡ first_chunks n k bytes → i < k → (i * n) % 2 ≡ 0 → j ≡ i * n + n → j ≤ length bytes
     → ((xs : List ℕ) → length xs ≡ n → residue (256 * number xs) ≡ residue (sum (words xs)))

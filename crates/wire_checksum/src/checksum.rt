@@ -5,7 +5,7 @@ ghost use Rattle.wire_ends.specs.IpAddress.{octets_of, version_of};
 ghost use Rattle.wire_checksum.specs.PseudoHeader.{pseudo_header_bytes, with_pseudo_header};
 ghost use Rattle.wire_checksum.specs.WordSum.{residue, sum_of, sum_of_bytes};
 
-use crate::totals::{around, finish, total, total_of_words};
+use crate::totals::{around, finish, total, total_here, total_of_words};
 use wire_addr::{Ipv4Address, Ipv6Address};
 use wire_ends::{IpAddress, IpProtocol};
 
@@ -26,12 +26,13 @@ pub fn combine(sums: &[u16]) -> u16
 
 /// The sum, as of `combine`, of the 16-bit words that the bytes spell in network order. An odd last
 /// byte is the high byte of a word.
+#[inline(always)]
 pub fn data(bytes: &[u8]) -> u16
     ensures { result ≡ sum_of_bytes bytes.now }
 {
     match <&[u8; 20]>::try_from(bytes) {
         Ok(header) => finish(total_of_words(header)),
-        Err(_) => finish(total(bytes)),
+        Err(_) => finish(total_here(bytes)),
     }
 }
 

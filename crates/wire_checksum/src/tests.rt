@@ -18,8 +18,8 @@ fn plain(bytes: &[u8]) -> u16 {
 }
 
 // Bytes that differ from place to place.
-fn counted() -> [u8; 2400] {
-    let mut bytes = [0; 2400];
+fn counted() -> [u8; 16500] {
+    let mut bytes = [0; 16500];
     for (i, byte) in bytes.iter_mut().enumerate() {
         *byte = (i % 251) as u8;
     }
@@ -29,7 +29,7 @@ fn counted() -> [u8; 2400] {
 #[test]
 fn sums_of_each_length(rt: HostRuntime) {
     let bytes = counted();
-    for len in 0..=300 {
+    for len in 0..=400 {
         assert_eq!(rt; data(&bytes[..len]), plain(&bytes[..len]), "of {len} bytes");
     }
 }
@@ -38,7 +38,7 @@ fn sums_of_each_length(rt: HostRuntime) {
 fn sums_at_each_place(rt: HostRuntime) {
     let bytes = counted();
     for start in 0..32 {
-        for len in [1, 7, 8, 19, 20, 21, 64, 255, 256, 1500, 2047, 2048, 2303] {
+        for len in [1, 7, 8, 19, 20, 21, 64, 319, 320, 1500, 16383, 16384, 16447] {
             let part = &bytes[start..start + len];
             assert_eq!(rt; data(part), plain(part), "of {len} bytes from {start} on");
         }

@@ -36,30 +36,48 @@ pub fn around(a: u64, b: u64) -> u64
     (sum % (1 << 64)) as u64 + (sum >> 64) as u64
 }
 
-/// The total of bytes.
-#[inline]
+/// The total of bytes, by a call, so that a caller stays small enough to be compiled into its own callers.
+#[inline(never)]
 pub fn total(bytes: &[u8]) -> u64
+    ensures { residue (256 * result) ≡ sum_of_bytes bytes.now }
+{
+    total_here(bytes)
+}
+
+/// The total of bytes, compiled into its caller.
+#[inline(always)]
+pub fn total_here(bytes: &[u8]) -> u64
+    ensures { residue (256 * result) ≡ sum_of_bytes bytes.now }
+{
+    if bytes.len() < 8 || bytes.len() >= 320 {
+        apart(bytes)
+    } else {
+        one_chain(bytes, tail(bytes))
+    }
+}
+
+// The total of bytes. It is called for a few and for many, so that what lies between is straight code.
+#[inline(never)]
+fn apart(bytes: &[u8]) -> u64
     ensures { residue (256 * result) ≡ sum_of_bytes bytes.now }
 {
     if bytes.len() < 8 {
         short(bytes)
-    } else if bytes.len() < 256 {
-        one_chain(bytes, tail(bytes))
     } else {
         long(bytes)
     }
 }
 
 // The total of many bytes.
-#[inline(never)]
+#[inline]
 fn long(bytes: &[u8]) -> u64
-    requires { 256 ≤ length bytes.now }
+    requires { 8 ≤ length bytes.now }
     ensures { residue (256 * result) ≡ sum_of_bytes bytes.now }
 {
-    let (front, rest) = bytes.split_at(bytes.len() / 32 * 32);
-    let last = whole_words(rest, tail(bytes));
-    if bytes.len() < 2048 {
-        around(four_chains(front), last)
+    let (front, rest) = bytes.split_at(bytes.len() / 64 * 64);
+    let last = one_chain(rest, tail(bytes));
+    if bytes.len() < 16384 {
+        two_chains(front, last)
     } else {
         around(lanes(front), last)
     }
@@ -80,36 +98,20 @@ pub fn total_of_words(bytes: &[u8]) -> u64
     sum
 }
 
-// A total and that of all whole words of eight bytes.
-#[inline]
-fn whole_words(bytes: &[u8], start: u64) -> u64
-    ensures { residue (256 * result) ≡ residue (256 * start + sum (words (take (length bytes.now / 8 * 8) bytes.now))) }
-{
-    let (chunks, _) = bytes.as_chunks::<8>();
-    let mut sum = start;
-    for chunk in chunks {
-        sum = around(sum, u64::from_le_bytes(*chunk));
-    }
-    sum
-}
-
 // The total of the bytes behind the last whole word of eight bytes: the end of the last eight bytes.
 #[inline]
 fn tail(bytes: &[u8]) -> u64
     requires { 8 ≤ length bytes.now }
     ensures { residue (256 * result) ≡ sum_of_bytes (drop (length bytes.now / 8 * 8) bytes.now) }
 {
-    if bytes.len() % 8 == 0 {
-        return 0;
-    }
     match bytes.last_chunk::<8>() {
-        Some(last) => u64::from_le_bytes(*last) >> (64 - 8 * (bytes.len() % 8)),
+        Some(last) => (u64::from_le_bytes(*last) >> 8) >> (56 - 8 * (bytes.len() % 8)),
         None => unreachable!(),
     }
 }
 
 // The total of fewer than eight bytes.
-#[inline(never)]
+#[inline]
 fn short(bytes: &[u8]) -> u64
     requires { length bytes.now < 8 }
     ensures { residue (256 * result) ≡ sum_of_bytes bytes.now }
@@ -136,56 +138,77 @@ fn add(number: u64, word: u64, carry: u64) -> (u64, u64)
     ((sum % (1 << 64)) as u64, (sum >> 64) as u64)
 }
 
-// A total and that of all whole words of eight bytes. In a chunk of four words each is added with the
-// carry of the one before, and the last carries are counted.
+// Four words and a carry added to a number, each word with the carry of the one before: what is left of
+// it, and the last carry.
+#[inline]
+fn add_four(number: u64, chunk: &[u8; 32], carry: u64) -> (u64, u64)
+    requires { carry ≤ 1 }
+    ensures value { residue (256 * (result.0 + result.1)) ≡ residue (256 * (number + carry) + sum (words chunk.now)) }
+    ensures carry { result.1 ≤ 1 }
+    ensures small { result.0 + result.1 < 2 ^ 64 + carry }
+{
+    let (words, _) = chunk.as_chunks::<8>();
+    let (sum, carry) = add(number, u64::from_le_bytes(words[0]), carry);
+    let (sum, carry) = add(sum, u64::from_le_bytes(words[1]), carry);
+    let (sum, carry) = add(sum, u64::from_le_bytes(words[2]), carry);
+    add(sum, u64::from_le_bytes(words[3]), carry)
+}
+
+// A total and that of all whole words of eight bytes. Those behind the chunks come first, which needs
+// fewer jumps.
 #[inline]
 fn one_chain(bytes: &[u8], start: u64) -> u64
     ensures { residue (256 * result) ≡ residue (256 * start + sum (words (take (length bytes.now / 8 * 8) bytes.now))) }
 {
     let (chunks, rest) = bytes.as_chunks::<32>();
-    let mut total = start;
-    let mut carries: u64 = 0;
+    let mut sum = last_words(rest, start);
     for chunk in chunks {
-        let (words, _) = chunk.as_chunks::<8>();
-        let (sum, carry) = add(total, u64::from_le_bytes(words[0]), 0);
-        let (sum, carry) = add(sum, u64::from_le_bytes(words[1]), carry);
-        let (sum, carry) = add(sum, u64::from_le_bytes(words[2]), carry);
-        let (sum, carry) = add(sum, u64::from_le_bytes(words[3]), carry);
-        total = sum;
-        carries += carry;
+        let (next, carry) = add_four(sum, chunk, 0);
+        sum = next + carry;
     }
-    whole_words(rest, around(total, carries))
+    sum
 }
 
-// The total of whole chunks of four words. The words at each place of a chunk are added up in one
-// number, with the carry handed on from place to place, and the last carries are counted.
-fn four_chains(bytes: &[u8]) -> u64
-    requires { length bytes.now % 32 ≡ 0 }
-    ensures { residue (256 * result) ≡ sum_of_bytes bytes.now }
+// A total and that of all whole words of eight bytes, three at most.
+#[inline]
+fn last_words(bytes: &[u8], start: u64) -> u64
+    requires { length bytes.now < 32 }
+    ensures { residue (256 * result) ≡ residue (256 * start + sum (words (take (length bytes.now / 8 * 8) bytes.now))) }
 {
-    let (chunks, _) = bytes.as_chunks::<32>();
-    let mut first: u64 = 0;
+    let (words, _) = bytes.as_chunks::<8>();
+    let mut sum = start;
+    if words.len() >= 2 {
+        sum = around(
+            around(sum, u64::from_le_bytes(words[0])),
+            u64::from_le_bytes(words[1]),
+        );
+    }
+    if words.len() % 2 == 1 {
+        sum = around(sum, u64::from_le_bytes(words[words.len() - 1]));
+    }
+    sum
+}
+
+// A total and that of whole chunks of eight words. The halves of the chunks are added up in two numbers,
+// so that one addition need not wait for the other; the carry of the first half goes into the second.
+#[inline]
+fn two_chains(bytes: &[u8], start: u64) -> u64
+    requires { length bytes.now % 64 ≡ 0 }
+    ensures { residue (256 * result) ≡ residue (256 * start + sum (words bytes.now)) }
+{
+    let (chunks, _) = bytes.as_chunks::<64>();
+    let mut first = start;
     let mut second: u64 = 0;
-    let mut third: u64 = 0;
-    let mut fourth: u64 = 0;
     let mut carries: u64 = 0;
     for chunk in chunks {
-        let (words, _) = chunk.as_chunks::<8>();
-        let (sum, carry) = add(first, u64::from_le_bytes(words[0]), 0);
+        let (halves, _) = chunk.as_chunks::<32>();
+        let (sum, carry) = add_four(first, &halves[0], 0);
         first = sum;
-        let (sum, carry) = add(second, u64::from_le_bytes(words[1]), carry);
+        let (sum, carry) = add_four(second, &halves[1], carry);
         second = sum;
-        let (sum, carry) = add(third, u64::from_le_bytes(words[2]), carry);
-        third = sum;
-        let (sum, carry) = add(fourth, u64::from_le_bytes(words[3]), carry);
-        fourth = sum;
         carries += carry;
     }
-    let (sum, carry) = add(first, second, 0);
-    let (sum, carry) = add(sum, third, carry);
-    let (sum, carry) = add(sum, fourth, carry);
-    let (sum, carry) = add(sum, carries, carry);
-    around(sum, carry)
+    around(around(first, second), carries)
 }
 
 // The total of whole vectors.

@@ -34,6 +34,7 @@ pub enum EthernetProtocol {
 impl From<u16> for EthernetProtocol {
     ghost from_gives = { λ n p. p ≡ protocol_of n };
 
+    #[inline(always)]
     fn from(value: u16) -> EthernetProtocol {
         match value {
             0x0800 => EthernetProtocol::Ipv4,
@@ -47,6 +48,7 @@ impl From<u16> for EthernetProtocol {
 impl From<EthernetProtocol> for u16 {
     ghost from_gives = { λ p n. n ≡ number_of p };
 
+    #[inline(always)]
     fn from(value: EthernetProtocol) -> u16 {
         match value {
             EthernetProtocol::Ipv4 => 0x0800,

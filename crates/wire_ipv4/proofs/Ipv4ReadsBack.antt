@@ -1,8 +1,7 @@
 -- A header that was written is read as what it was written from.
-use Rattle.std.proofs.Common.{ℕ, ◌≡◌, ◌≤◌, ◌<◌, ◌+◌, ◌-◌, Bool, true, false, IsTrue, List, ◌++◌, length, sum, refl, ap, ◌∙◌, arith}
+use Rattle.std.proofs.Common.{ℕ, ◌≡◌, ◌≤◌, ◌<◌, ◌+◌, ◌-◌, Bool, true, false, IsTrue, List, ◌++◌, length, take, sum, refl, ap, ◌∙◌, arith}
 use Rattle.wire_field.specs.Field.{field}
 use Rattle.wire_field.proofs.Cells.{cells-all}
-use Rattle.wire_ipv4.proofs.Ipv4Emitted.{take-blank}
 use Rattle.wire_checksum.proofs.Residues.{residue-complement}
 use Rattle.wire_ipv4.specs.Ipv4.{Reads, bytes_of, header_with, normal, total_len}
 use Rattle.wire_ends.specs.Protocol.{number_of, protocol_of}
@@ -28,6 +27,11 @@ header_verifies : (v : Ipv4Repr) → length v.src_addr ≡ 4 → length v.dst_ad
 header_verifies v s d =
     ap residue (words-header_with v (65535 - sum_of_bytes (header_with v 0)) s d (omega arith)) ∙ residue-complement (sum (words (header_with v 0)))
 
+-- a header is twenty octets long
+take-header : (v : Ipv4Repr) (rest : List ℕ) (checksum : ℕ) → length v.src_addr ≡ 4 → length v.dst_addr ≡ 4
+    → take 20 (header_with v checksum ++ rest) ≡ header_with v checksum
+take-header v rest checksum s d = rw (cells-all 4 v.src_addr s, cells-all 4 v.dst_addr d) refl
+
 -- a header with any checksum is read
 reads-header_with : (v : Ipv4Repr) (rest : List ℕ) (checksum : ℕ) (verified : Bool) → IsInRange v → v.payload_len ≤ length rest
     → (IsTrue verified → sum_of_bytes (header_with v checksum) ≡ 65535) → Reads (header_with v checksum ++ rest) verified (normal v)
@@ -38,7 +42,7 @@ reads-header_with v rest checksum verified h room sound =
     record {
       lengths = record { least = omega arith; header = omega arith; within = omega arith; whole = omega arith };
       version = refl;
-      checksum = λ on. ap sum_of_bytes (take-blank rest (20 + v.payload_len) v.hop_limit (number_of v.next_header) v.src_addr v.dst_addr checksum (omega (arith, h.src_addr, h.dst_addr))) ∙ sound on;
+      checksum = λ on. ap sum_of_bytes (take-header v rest checksum h.src_addr h.dst_addr) ∙ sound on;
       payload_len = omega (arith, total);
       hop_limit = omega (arith, h.hop_limit);
       next_header = ap protocol_of named;

@@ -6,20 +6,22 @@ ghost use Rattle.wire_arp.specs.Arp.{Becomes, HasLengths, Reads, arp_of, bytes_o
 ghost use Rattle.wire_arp.specs.ArpText.{value_text};
 ghost use Rattle.wire_arp.specs.declared.arp.repr.ArpRepr.{ArpRepr};
 
-use super::places::target_protocol_addr;
 use super::text::OperationWord;
 use super::{ArpHardware, ArpOperation, ArpPacket, ArpPacketMut};
 use net_base::{Error, Result};
 use std::fmt;
 use wire_addr::{EthernetAddress, Ipv4Address};
 use wire_ethernet::EthernetProtocol;
-use wire_field::array_at;
+use wire_field::{array_at, write_front};
 
 /// The length of an Ethernet address, in octets.
 const ETHERNET_ADDR_LEN: u8 = 6;
 
 /// The length of an IPv4 address, in octets.
 const IPV4_ADDR_LEN: u8 = 4;
+
+/// The length of a packet with such addresses, in octets.
+const ETHERNET_IPV4_LEN: usize = 28;
 
 /// The values of a packet that are more than its layout.
 #[derive(Debug, Clone, Copy, PartialEq, Eq)]
@@ -36,21 +38,22 @@ pub enum ArpRepr {
 
 impl ArpRepr {
     /// The values of a packet. Packets of other hardware or of another protocol are refused.
+    #[inline(always)]
     pub fn parse(packet: &ArpPacket<'_>) -> Result<ArpRepr>
         ensures reads { (v : ArpRepr) → (result ≡ Ok v) ↔ Reads (packet_bytes packet.now) v }
         ensures value { arp_of (packet_bytes packet.now) ≡ result_ok result }
         ensures lengths { OnOk result (HasLengths (packet_bytes packet.now)) }
     {
-        packet.check_len()?;
-        if !is_ethernet_ipv4(packet.as_bytes()) {
+        let bytes = packet.as_bytes();
+        if bytes.len() < ETHERNET_IPV4_LEN || !is_ethernet_ipv4(bytes) {
             return Err(Error);
         }
         Ok(ArpRepr::EthernetIpv4 {
             operation: packet.operation(),
-            source_hardware_addr: EthernetAddress::from_bytes(packet.source_hardware_addr()),
-            source_protocol_addr: ipv4_address(packet.source_protocol_addr()),
-            target_hardware_addr: EthernetAddress::from_bytes(packet.target_hardware_addr()),
-            target_protocol_addr: ipv4_address(packet.target_protocol_addr()),
+            source_hardware_addr: EthernetAddress(array_at(bytes, 8)),
+            source_protocol_addr: Ipv4Address::from_octets(array_at(bytes, 14)),
+            target_hardware_addr: EthernetAddress(array_at(bytes, 18)),
+            target_protocol_addr: Ipv4Address::from_octets(array_at(bytes, 24)),
         })
     }
 
@@ -59,13 +62,12 @@ impl ArpRepr {
         ensures { result ≡ 28 }
     {
         match *self {
-            ArpRepr::EthernetIpv4 { .. } => {
-                target_protocol_addr(ETHERNET_ADDR_LEN, IPV4_ADDR_LEN).end
-            }
+            ArpRepr::EthernetIpv4 { .. } => ETHERNET_IPV4_LEN,
         }
     }
 
     /// Writes the packet, and leaves what follows it.
+    #[inline(always)]
     pub fn emit(&self, packet: &mut ArpPacketMut<'_>)
         requires { 28 ≤ length (packet_bytes_mut packet.old) }
         ensures { Becomes packet.old packet.new (bytes_of self.now ++ drop 28 (packet_bytes_mut packet.old)) }
@@ -77,14 +79,16 @@ impl ArpRepr {
                 source_protocol_addr,
                 target_hardware_addr,
                 target_protocol_addr,
-            } => emit_ethernet_ipv4(
-                packet,
-                operation,
-                source_hardware_addr,
-                source_protocol_addr,
-                target_hardware_addr,
-                target_protocol_addr,
-            ),
+            } => {
+                let octets = ethernet_ipv4_octets(
+                    operation,
+                    source_hardware_addr,
+                    source_protocol_addr,
+                    target_hardware_addr,
+                    target_protocol_addr,
+                );
+                write_front(packet.buffer, &octets);
+            }
         }
     }
 }
@@ -111,36 +115,28 @@ fn is_ethernet_ipv4(bytes: &[u8]) -> bool
     )
 }
 
-// The address with the octets of a slice of four.
-fn ipv4_address(octets: &[u8]) -> Ipv4Address
-    requires { length octets.now ≡ 4 }
-    ensures { result ≡ octets.now }
-{
-    Ipv4Address::from_octets(array_at(octets, 0))
-}
-
-// Writes a packet of Ethernet and IPv4, and leaves what follows it.
-fn emit_ethernet_ipv4(
-    packet: &mut ArpPacketMut<'_>,
+// A packet of Ethernet and IPv4.
+#[inline(always)]
+fn ethernet_ipv4_octets(
     operation: ArpOperation,
     source_hardware_addr: EthernetAddress,
     source_protocol_addr: Ipv4Address,
     target_hardware_addr: EthernetAddress,
     target_protocol_addr: Ipv4Address,
-)
-    requires { 28 ≤ length (packet_bytes_mut packet.old) }
-    ensures { let value = ArpRepr.EthernetIpv4 operation source_hardware_addr source_protocol_addr target_hardware_addr target_protocol_addr in
-        Becomes packet.old packet.new (bytes_of value ++ drop 28 (packet_bytes_mut packet.old)) }
+) -> [u8; ETHERNET_IPV4_LEN]
+    ensures { result ≡ bytes_of (ArpRepr.EthernetIpv4 operation source_hardware_addr source_protocol_addr target_hardware_addr target_protocol_addr) }
 {
-    packet.set_hardware_type(ArpHardware::Ethernet);
-    packet.set_protocol_type(EthernetProtocol::Ipv4);
-    packet.set_hardware_len(ETHERNET_ADDR_LEN);
-    packet.set_protocol_len(IPV4_ADDR_LEN);
-    packet.set_operation(operation);
-    packet.set_source_hardware_addr(source_hardware_addr.as_bytes());
-    packet.set_source_protocol_addr(&source_protocol_addr.octets());
-    packet.set_target_hardware_addr(target_hardware_addr.as_bytes());
-    packet.set_target_protocol_addr(&target_protocol_addr.octets());
+    let [a, b] = u16::from(ArpHardware::Ethernet).to_be_bytes();
+    let [c, d] = u16::from(EthernetProtocol::Ipv4).to_be_bytes();
+    let (hln, pln) = (ETHERNET_ADDR_LEN, IPV4_ADDR_LEN);
+    let [e, f] = u16::from(operation).to_be_bytes();
+    let [g, h, i, j, k, l] = source_hardware_addr.0;
+    let [m, n, o, p] = source_protocol_addr.octets();
+    let [q, r, s, t, u, v] = target_hardware_addr.0;
+    let [w, x, y, z] = target_protocol_addr.octets();
+    [
+        a, b, c, d, hln, pln, e, f, g, h, i, j, k, l, m, n, o, p, q, r, s, t, u, v, w, x, y, z,
+    ]
 }
 
 /// The addresses and the operation.

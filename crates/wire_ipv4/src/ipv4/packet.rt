@@ -154,7 +154,7 @@ impl<B: Octets> Ipv4View<B> {
         requires { 8 ≤ length (B.octets (packet_slice self.now)) }
         ensures { result ≡ is_fragment (B.octets (packet_slice self.now)) }
     {
-        self.more_frags() || self.frag_offset() != 0
+        self.more_frags() | (self.frag_offset() != 0)
     }
 
     /// How many more hops the packet may take: the field "time to live".

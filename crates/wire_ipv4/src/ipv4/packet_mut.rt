@@ -95,14 +95,6 @@ impl<'a> Ipv4PacketMut<'a> {
         NetworkEndian::write_u16(&mut self.buffer[4..6], value);
     }
 
-    // Writes the flags and the offset of the fragment at once.
-    pub(super) fn set_flags_and_offset(&mut self, value: u16)
-        requires { 8 ≤ length (packet_bytes_mut self.old) }
-        ensures { Becomes self.old self.new (with_field (packet_bytes_mut self.old) 48 16 value) }
-    {
-        NetworkEndian::write_u16(&mut self.buffer[6..8], value);
-    }
-
     /// Writes whether the packet may not be cut into fragments.
     pub fn set_dont_frag(&mut self, value: bool)
         requires { 8 ≤ length (packet_bytes_mut self.old) }

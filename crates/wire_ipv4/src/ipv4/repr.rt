@@ -14,9 +14,10 @@ use std::fmt;
 use wire_addr::Ipv4Address;
 use wire_checksum::parts;
 use wire_ends::IpProtocol;
+use wire_field::write_front;
 
-// The flag "don't fragment" alone, before an offset of 0.
-const DONT_FRAG: u16 = 0x4000;
+// The flag "don't fragment" alone, before the first bits of an offset of 0.
+const DONT_FRAG: u8 = 0x40;
 
 /// The values of a packet's header that are more than its layout: no options, no service bits, no
 /// fragments.
@@ -71,27 +72,7 @@ impl Ipv4Repr {
         ensures { Becomes packet.old packet.new (bytes_of self.now (computes caps.now.ipv4) ++ drop IPV4_HEADER_LEN (packet_bytes_mut packet.old)) }
     {
         let checksum = if caps.ipv4.tx() { self.checksum() } else { 0 };
-        self.emit_fields(packet, checksum);
-    }
-
-    // Writes every field of the header.
-    fn emit_fields(self, packet: &mut Ipv4PacketMut<'_>, checksum: u16)
-        requires room { IPV4_HEADER_LEN ≤ length (packet_bytes_mut packet.old) }
-        requires payload_len { self.payload_len ≤ max_payload_len }
-        ensures { Becomes packet.old packet.new (header_with self checksum ++ drop IPV4_HEADER_LEN (packet_bytes_mut packet.old)) }
-    {
-        packet.set_version(4);
-        packet.set_header_len(20);
-        packet.set_dscp(0);
-        packet.set_ecn(0);
-        packet.set_total_len((IPV4_HEADER_LEN + self.payload_len) as u16);
-        packet.set_ident(0);
-        packet.set_flags_and_offset(DONT_FRAG);
-        packet.set_hop_limit(self.hop_limit);
-        packet.set_next_header(self.next_header);
-        packet.set_src_addr(self.src_addr);
-        packet.set_dst_addr(self.dst_addr);
-        packet.set_checksum(checksum);
+        write_front(packet.buffer, &self.header(checksum));
     }
 
     // The checksum of the header. It is computed from the values, since bytes that were just written
@@ -101,14 +82,23 @@ impl Ipv4Repr {
         requires { self.payload_len ≤ max_payload_len }
         ensures { result ≡ 65535 - sum_of_bytes (header_with self 0) }
     {
+        !parts::header(&self.header(0))
+    }
+
+    // The header with this checksum.
+    #[inline(always)]
+    fn header(self, checksum: u16) -> [u8; IPV4_HEADER_LEN]
+        requires { self.payload_len ≤ max_payload_len }
+        ensures { result ≡ header_with self checksum }
+    {
         let [a, b] = ((IPV4_HEADER_LEN + self.payload_len) as u16).to_be_bytes();
         let (hop_limit, protocol) = (self.hop_limit, u8::from(self.next_header));
-        let [c, d, e, f] = self.src_addr.octets();
-        let [g, h, i, j] = self.dst_addr.octets();
-        let header = [
-            0x45, 0, a, b, 0, 0, 0x40, 0, hop_limit, protocol, 0, 0, c, d, e, f, g, h, i, j,
-        ];
-        !parts::header(&header)
+        let [c, d] = checksum.to_be_bytes();
+        let [e, f, g, h] = self.src_addr.octets();
+        let [i, j, k, l] = self.dst_addr.octets();
+        [
+            0x45, 0, a, b, 0, 0, DONT_FRAG, 0, hop_limit, protocol, c, d, e, f, g, h, i, j, k, l,
+        ]
     }
 }
 

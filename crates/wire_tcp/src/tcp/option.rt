@@ -50,6 +50,7 @@ pub enum TcpOption<'a> {
 impl<'a> TcpOption<'a> {
     /// The first option of the bytes, or the end mark that they begin with, and the bytes behind it.
     /// An option whose length is wrong for its kind, or passes the end, is an error.
+    #[inline(always)]
     pub fn parse(buffer: &'a [u8]) -> Result<(&'a [u8], TcpOption<'a>)>
         ensures ok { IfOk result (λ read. Begins read.1 buffer.now read.0.now) }
         ensures err { OnErr result (BeginsNothing buffer.now) }
@@ -76,6 +77,7 @@ impl<'a> TcpOption<'a> {
     }
 
     // What an item with a length is read as.
+    #[inline(always)]
     fn from_item(kind: u8, bytes: &'a [u8]) -> Result<TcpOption<'a>>
         requires kind { 1 < kind }
         requires size { length bytes.now ≤ 253 }
@@ -191,6 +193,7 @@ fn locate_rest<'b>(buffer: &'b mut [u8], option: &TcpOption<'_>) -> Located<'b>
 }
 
 // The first blocks of the data of a selective acknowledgement.
+#[inline(always)]
 fn first_blocks(content: &[u8]) -> [Option<(u32, u32)>; SACK_BLOCKS]
     requires { length content.now % 8 ≡ 0 }
     ensures { result ≡ first_blocks content.now }

@@ -243,6 +243,7 @@ impl<B: Octets> TcpView<B> {
     }
 
     /// What the options up to an end mark say. It is an error where one of them is malformed.
+    #[inline(always)]
     pub fn options_summary(&self) -> Result<TcpOptionSummary>
         requires begins { 20 ≤ header_len (B.octets (packet_slice self.now)) }
         requires ends { let bytes = B.octets (packet_slice self.now) in header_len bytes ≤ length bytes }
@@ -275,6 +276,7 @@ impl<B: Octets> TcpView<B> {
 
     /// Whether the sum of all bytes with their pseudo header, the checksum included, has all 16 bits
     /// set.
+    #[inline(always)]
     pub fn verify_checksum(&self, src_addr: &IpAddress, dst_addr: &IpAddress) -> bool
         requires { version_of src_addr.now ≡ version_of dst_addr.now }
         ensures { let bytes = B.octets (packet_slice self.now) in

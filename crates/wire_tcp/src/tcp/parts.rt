@@ -92,11 +92,14 @@ pub fn write_zeros(packet: &mut TcpPacketMut<'_>, start: usize, end: usize)
     packet.buffer[start..end].fill(0);
 }
 
-/// Writes bytes at a place.
+/// Writes bytes at a place. A copy of none is not worth a call.
 pub fn write_bytes(packet: &mut TcpPacketMut<'_>, start: usize, bytes: &[u8])
     requires { start + length bytes.now ≤ length (packet_bytes_mut packet.old) }
     ensures { Becomes packet.old packet.new (with_range (packet_bytes_mut packet.old) start (start + length bytes.now) bytes.now) }
 {
+    if bytes.is_empty() {
+        return;
+    }
     let end = start + bytes.len();
     packet.buffer[start..end].copy_from_slice(bytes);
 }

@@ -38,6 +38,7 @@ impl Default for TcpOptionSummary {
 
 impl TcpOptionSummary {
     // What the options say up to an end mark.
+    #[inline(always)]
     pub(super) fn of_options(options: &[u8]) -> Result<TcpOptionSummary>
         ensures ok { IfOk result (Summarizes options.now) }
         ensures err { OnErr result (HasNoList options.now) }
@@ -56,6 +57,7 @@ impl TcpOptionSummary {
     }
 
     // Takes the next option in.
+    #[inline(always)]
     fn note(&mut self, option: &TcpOption<'_>)
         ensures { (items : List Item) (i : Item) →
             self.old ≡ summary_of items → IsItem i → IsReading option.now i →

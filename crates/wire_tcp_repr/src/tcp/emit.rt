@@ -90,6 +90,7 @@ impl TcpRepr<'_> {
     }
 
     // Writes the options, and zeros up to the header's length.
+    #[inline(always)]
     fn emit_options(&self, packet: &mut TcpPacketMut<'_>, header_len: usize)
         requires value { header_len ≡ header_len_of (header_of self.now) }
         requires room { header_len ≤ length (packet_bytes_mut packet.old) }

@@ -97,6 +97,7 @@ impl<'a> TcpRepr<'a> {
 
     /// The length of the header that `emit` writes, in octets. Ranges count also where `emit`
     /// leaves them out: beside `sack_permitted` and without an acknowledgement.
+    #[inline(always)]
     pub fn header_len(&self) -> usize
         ensures { result ≡ header_len_of (header_of self.now) }
     {
@@ -121,6 +122,7 @@ impl<'a> TcpRepr<'a> {
     }
 
     /// The length of the segment that `emit` writes, in octets.
+    #[inline(always)]
     pub fn buffer_len(&self) -> usize
         requires { header_len_of (header_of self.now) + length self.now.payload.now < 2 ^ 64 }
         ensures { result ≡ header_len_of (header_of self.now) + length self.now.payload.now }

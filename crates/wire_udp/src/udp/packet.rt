@@ -118,6 +118,7 @@ impl<B: Octets> UdpView<B> {
 
     /// Whether no checksum was computed, or the sum of the packet with its pseudo header, the checksum
     /// included, has all 16 bits set.
+    #[inline(always)]
     pub fn verify_checksum(&self, src_addr: &IpAddress, dst_addr: &IpAddress) -> bool
         requires header { 8 ≤ length (B.octets (packet_slice self.now)) }
         requires whole { packet_len (B.octets (packet_slice self.now)) ≤ length (B.octets (packet_slice self.now)) }

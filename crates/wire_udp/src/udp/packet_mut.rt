@@ -75,11 +75,14 @@ impl<'a> UdpPacketMut<'a> {
         NetworkEndian::write_u16(&mut self.buffer[6..8], value);
     }
 
-    // Writes the bytes that follow the header.
+    // Writes the bytes that follow the header. A copy of none is not worth a call.
     pub(super) fn set_payload(&mut self, payload: &[u8])
         requires { 8 + length payload.now ≤ length (packet_bytes_mut self.old) }
         ensures { Becomes self.old self.new (with_range (packet_bytes_mut self.old) 8 (8 + length payload.now) payload.now) }
     {
+        if payload.is_empty() {
+            return;
+        }
         let end = UDP_HEADER_LEN + payload.len();
         self.buffer[UDP_HEADER_LEN..end].copy_from_slice(payload);
     }

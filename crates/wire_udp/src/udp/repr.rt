@@ -108,6 +108,7 @@ impl UdpRepr {
 
     // The checksum of the packet with this payload. It is computed from the values, since bytes that
     // were just written are slow to read again.
+    #[inline(always)]
     fn checksum(&self, src_addr: IpAddress, dst_addr: IpAddress, payload: &[u8]) -> u16
         requires payload_len { length payload.now ≤ max_payload_len }
         requires family { version_of src_addr ≡ version_of dst_addr }

@@ -6,13 +6,8 @@ use Rattle.wire_arp.specs.Arp.{Reads, arp_of}
 use Rattle.wire_arp.specs.declared.arp.repr.ArpRepr.{ArpRepr}
 use Rattle.wire_arp.proofs.arp.repr.ArpRepr.parse.Goals as goal
 
-pub returns-in_err-check_len-clause-value : goal.returns-in_err-check_len-clause-value
-returns-in_err-check_len-clause-value c =
-    let bytes = c.args.packet.now.buffer.now in
-    answer-computed (Reads bytes) c.from_residual.result (arp_of bytes) (search rules) (arp_of-Reads bytes)
-
-pub returns-then-not-is_ethernet_ipv4-clause-value : goal.returns-then-not-is_ethernet_ipv4-clause-value
-returns-then-not-is_ethernet_ipv4-clause-value c =
+pub returns-then-bytes-lt-ETHERNET_IPV4_LEN-clause-value : goal.returns-then-bytes-lt-ETHERNET_IPV4_LEN-clause-value
+returns-then-bytes-lt-ETHERNET_IPV4_LEN-clause-value c =
     let bytes = c.args.packet.now.buffer.now in
     let refused : Result ArpRepr Error = Err (record {}) in
     answer-computed (Reads bytes) refused (arp_of bytes) (search rules) (arp_of-Reads bytes)

@@ -1,6 +1,0 @@
-use Rattle.std.proofs.Common.{◌≡◌, ◌+◌, ◌*◌, take, sum}
-use Rattle.wire_checksum.specs.WordSum.{residue, words}
-use Rattle.wire_checksum.proofs.totals.whole_words.Given as goal
-
-abbrev pub invariant-loop-chunk : goal.invariant-loop-chunk
-invariant-loop-chunk l = record { so_far : residue (256 * l.sum) ≡ residue (256 * l.start + sum (words (take (l.chunk-index * 8) l.bytes))) }
