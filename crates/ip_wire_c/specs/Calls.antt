@@ -1,5 +1,5 @@
 -- What the calls for C answer, and what they write.
-use Rattle.std.specs.Prelude.{ℕ, ◌≡◌, ◌+◌, ◌≤◌, ◌<◌, ◌⊎◌, ◌&&◌, ◌==◌, not, nat_le, nat_lt, if◌then◌else◌, IsUtf8, ◌++◌, Bool, List, [], length, drop, map, slice_get, Option, None, Some, MatchOption}
+use Rattle.std.specs.Prelude.{ℕ, ◌≡◌, ◌+◌, ◌≤◌, ◌<◌, ◌⊎◌, ◌&&◌, ◌==◌, not, nat_le, nat_lt, if◌then◌else◌, ◌++◌, Bool, List, [], length, drop, map, slice_get, Option, None, Some, MatchOption}
 use mir.Syntax.{w32}
 use Rattle.std.specs.Bool.{then_some}
 use Rattle.std.specs.Int.{to_be_bytes}
@@ -164,15 +164,6 @@ pub record IsWritten (text old new : List ℕ) (answer : ℕ) : Type 0 where
   pub fits : length text ≤ length old → (answer ≡ length text) × (new ≡ text ++ drop (length text) old)
   pub no_room : length old < length text → (answer ≡ 0) × (new ≡ old)
 
--- the text stands at the front of the slice and its length is answered, or the slice stays and 0 is answered
-abbrev pub IsPrinted : List ℕ → List ℕ → List ℕ → ℕ → Type 0
-IsPrinted text old new answer =
-    ((answer ≡ 0) × (new ≡ old)) ⊎ ((answer ≡ length text) × (length text ≤ length old) × (new ≡ text ++ drop (length text) old))
-
--- the bytes are UTF-8, and the text that they are is read as this
-abbrev pub IsTextOf : {A : Type 0} → (List ℕ → A → Type 0) → List ℕ → A → Type 0
-IsTextOf R bytes value = IsUtf8 bytes × R bytes value
-
 -- 1 is answered, and the text is read as what is stored now; or 0, it is read as nothing, and what was stored stays
 abbrev pub IsRead : {A : Type 0} → (List ℕ → A → Type 0) → List ℕ → A → A → ℕ → Type 0
 IsRead {A} R text old new answer =
@@ -184,11 +175,11 @@ ReadsIpv4Number text n = ReadsIpv4 text (to_be_bytes w32 n)
 
 -- the text is read as the block of an IPv4 address, as a number, and the length of a prefix
 abbrev pub ReadsIpv4Pair : List ℕ → ℕ × ℕ → Type 0
-ReadsIpv4Pair text pair = IsTextOf ReadsIpv4Block text (block_of (to_be_bytes w32 pair.0) pair.1)
+ReadsIpv4Pair text pair = ReadsIpv4Block text (block_of (to_be_bytes w32 pair.0) pair.1)
 
 -- the text is read as the block of an IPv6 address, as octets, and the length of a prefix
 abbrev pub ReadsIpv6Pair : List ℕ → List ℕ × ℕ → Type 0
-ReadsIpv6Pair text pair = IsTextOf ReadsIpv6Block text (block_of pair.0 pair.1)
+ReadsIpv6Pair text pair = ReadsIpv6Block text (block_of pair.0 pair.1)
 
 -- whether the frame holds an Ethernet header and, built again, fits into so many bytes
 abbrev pub is_rebuilt : List ℕ → ℕ → Bool

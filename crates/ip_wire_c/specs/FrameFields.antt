@@ -1,5 +1,5 @@
 -- What is read of a frame, as C takes it.
-use Rattle.std.specs.Prelude.{ℕ, ◌+◌, ◌==◌, if◌then◌else◌, Bool, true, false, is_some, List, drop, length, replicate, take}
+use Rattle.std.specs.Prelude.{ℕ, ◌+◌, ◌==◌, if◌then◌else◌, Bool, false, List, drop, length, replicate, take}
 use mir.Syntax.{w32}
 use Rattle.std.specs.Int.{from_be_bytes}
 use Rattle.std.specs.Option.{option_map_or}
@@ -79,7 +79,7 @@ with_udp f src dst bytes =
       transport = 1;
       src_port = v.src_port;
       dst_port = v.dst_port;
-      transport_checksum_holds = flag (is_some (udp_of src dst true bytes));
+      transport_checksum_holds = flag (udp.has_checksum src dst bytes);
     })
     (udp_of src dst false bytes) (refused f)
 

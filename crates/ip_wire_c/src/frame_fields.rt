@@ -5,6 +5,7 @@ ghost use Rattle.ip_wire.specs.Field.{field};
 ghost use Rattle.ip_wire.specs.IpAddress.{version_of};
 ghost use Rattle.ip_wire.specs.Ipv4 as ipv4;
 ghost use Rattle.ip_wire.specs.Tcp as tcp;
+ghost use Rattle.ip_wire.specs.Udp as udp;
 ghost use Rattle.ip_wire.specs.WordSum.{sum_of_bytes};
 ghost use Rattle.ip_wire.specs.Ip.{dst_addr_of, src_addr_of};
 ghost use Rattle.ip_wire_c.specs.FrameFields.{behind, fields_of, flag, nothing_of, refused, with_arp, with_frame, with_ipv4, with_ipv6, with_message, with_payload, with_tcp, with_udp};
@@ -263,7 +264,6 @@ impl FrameFields {
     {
         let (src_addr, dst_addr) = (ip_header.src_addr(), ip_header.dst_addr());
         let packet = UdpPacket::new_unchecked(bytes);
-        let verified = ChecksumCapabilities::default();
         match UdpRepr::parse(
             &packet,
             &src_addr,
@@ -274,9 +274,7 @@ impl FrameFields {
                 transport: UDP,
                 src_port: header.src_port,
                 dst_port: header.dst_port,
-                transport_checksum_holds: u8::from(UdpRepr::parse(
-                    &packet, &src_addr, &dst_addr, &verified,
-                ).is_ok()),
+                transport_checksum_holds: udp_checksum_holds(&packet, &src_addr, &dst_addr),
                 ..self.behind(UDP_HEADER_LEN, packet.payload().len())
             },
             Err(_) => self.refused(),
@@ -321,6 +319,19 @@ fn ipv4_checksum_holds(packet: &Ipv4Packet<'_>) -> u8
         result ≡ flag (sum_of_bytes (take (ipv4.header_len bytes) bytes) == 65535) }
 {
     u8::from(packet.verify_checksum())
+}
+
+// 1 where the checksum of a UDP packet between two addresses holds or is left out, as over IPv4 it may
+// be, else 0.
+fn udp_checksum_holds(packet: &UdpPacket<'_>, src_addr: &IpAddress, dst_addr: &IpAddress) -> u8
+    requires lengths { udp.HasLengths (udp.packet_bytes packet.now) }
+    requires family { version_of src_addr.now ≡ version_of dst_addr.now }
+    ensures { result ≡ flag (udp.has_checksum src_addr.now dst_addr.now (udp.packet_bytes packet.now)) }
+{
+    u8::from(match packet.checksum() {
+        0 => matches!(src_addr, IpAddress::Ipv4(_)),
+        _ => packet.verify_checksum(src_addr, dst_addr),
+    })
 }
 
 // 1 where the checksum of a segment between two addresses holds, else 0.

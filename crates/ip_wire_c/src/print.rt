@@ -6,13 +6,12 @@ ghost use mir.Syntax.{w32};
 ghost use Rattle.ip_wire.specs.Endpoint.{endpoint_at, endpoint_text};
 ghost use Rattle.ip_wire.specs.Printed.{block_text, dashed, dotted, ipv6_text, slash};
 ghost use Rattle.ip_wire.specs.declared.IpAddress.TheVariants.{Ipv4, Ipv6};
-ghost use Rattle.ip_wire_c.specs.Calls.{block_of, IsPrinted, IsWritten};
+ghost use Rattle.ip_wire_c.specs.Calls.{block_of, IsWritten};
 
 use crate::rebuild::copy;
 use arrayvec::ArrayString;
 use ip_wire::{EthernetAddress, IpAddress, IpEndpoint, Ipv4Address, Ipv6Address};
 use itoa::Buffer;
-use std::fmt::{Display, Write};
 
 /// Writes the text of the Ethernet address with these octets to the front of `out`, and answers its length,
 /// which is 17: 0 where it doesn't fit, and then nothing is written.
@@ -78,20 +77,20 @@ pub extern "C" fn lk_ipv6_cidr_print(octets: &[u8; 16], prefix_len: u8, out: &mu
 /// never more than 21: 0 where it doesn't fit, and then nothing is written.
 #[unsafe(no_mangle)]
 pub extern "C" fn lk_ipv4_endpoint_print(addr: u32, port: u16, out: &mut [u8]) -> usize
-    ensures { IsPrinted (endpoint_text (endpoint_at (Ipv4 (to_be_bytes w32 addr)) port)) out.old out.new result }
+    ensures { IsWritten (endpoint_text (endpoint_at (Ipv4 (to_be_bytes w32 addr)) port)) out.old out.new result }
 {
     let addr = IpAddress::Ipv4(Ipv4Address::from_octets(addr.to_be_bytes()));
-    print(IpEndpoint::new(addr, port), out)
+    write(IpEndpoint::new(addr, port).text().as_str(), out)
 }
 
 /// Writes the text of a port at an IPv6 address to the front of `out`, and answers its length, which is
 /// never more than 47: 0 where it doesn't fit, and then nothing is written.
 #[unsafe(no_mangle)]
 pub extern "C" fn lk_ipv6_endpoint_print(octets: &[u8; 16], port: u16, out: &mut [u8]) -> usize
-    ensures { IsPrinted (endpoint_text (endpoint_at (Ipv6 octets.now) port)) out.old out.new result }
+    ensures { IsWritten (endpoint_text (endpoint_at (Ipv6 octets.now) port)) out.old out.new result }
 {
     let addr = IpAddress::Ipv6(Ipv6Address::from_octets(*octets));
-    print(IpEndpoint::new(addr, port), out)
+    write(IpEndpoint::new(addr, port).text().as_str(), out)
 }
 
 // Writes a text to the front of `out`, and answers its length: 0 where it doesn't fit, and then nothing
@@ -108,34 +107,9 @@ fn write_block(addr: &str, prefix_len: u8, out: &mut [u8]) -> usize
     requires { length addr.now ≤ 39 }
     ensures { IsWritten (addr.now ++ slash ∷ decimal prefix_len) out.old out.new result }
 {
-    let mut text = ArrayString::<MAX_LEN>::new();
+    let mut text = ArrayString::<43>::new();
     text.push_str(addr);
     text.push_str("/");
     text.push_str(Buffer::new().format(prefix_len));
     write(text.as_str(), out)
-}
-
-// How many bytes the longest of these texts has, that of a port at an IPv6 address.
-const MAX_LEN: usize = 47;
-
-// Writes the text of a value to the front of `out`, and answers its length: 0 where it doesn't fit, and
-// then nothing is written.
-fn print<T: Display + Drop>(value: T, out: &mut [u8]) -> usize
-    ensures { (text : List ℕ) → T.output value ≡ Some text → IsPrinted text out.old out.new result }
-{
-    match printed(value) {
-        Some(text) => write(text.as_str(), out),
-        None => 0,
-    }
-}
-
-// The text of a value, or None where writing it fails.
-fn printed<T: Display + Drop>(value: T) -> Option<ArrayString<MAX_LEN>>
-    ensures { IfSome result (λ written. (text : List ℕ) → T.output value ≡ Some text → written.bytes ≡ text) }
-{
-    let mut text = ArrayString::new();
-    match write!(text, "{value}") {
-        Ok(()) => Some(text),
-        Err(_) => None,
-    }
 }

@@ -1,12 +1,10 @@
 //! Texts that are read.
 
-ghost use Rattle.std.specs.Prelude.{◌≡◌, Err, IsUtf8, MatchOption, Ok};
 ghost use Rattle.ip_wire.specs.Read.{ReadsIpv6};
 ghost use Rattle.wire_text.specs.Grammar.{IsHexText};
 ghost use Rattle.ip_wire_c.specs.Calls.{IsRead, ReadsIpv4Number, ReadsIpv4Pair, ReadsIpv6Pair};
 
 use ip_wire::{Ipv4Cidr, Ipv6Address, Ipv6Cidr};
-use std::str::FromStr;
 
 /// Stores the octets that a text is read as, those of an Ethernet address, and answers 1: 0 where it is
 /// none, and then nothing is stored.
@@ -59,13 +57,13 @@ pub extern "C" fn lk_ipv6_read(text: &[u8], octets: &mut [u8; 16]) -> u8
 pub extern "C" fn lk_ipv4_cidr_read(text: &[u8], addr: &mut u32, prefix_len: &mut u8) -> u8
     ensures { IsRead ReadsIpv4Pair text.now (addr.old, prefix_len.old) (addr.new, prefix_len.new) result }
 {
-    match read::<Ipv4Cidr>(text) {
-        Some(block) => {
+    match Ipv4Cidr::parse_ascii(text) {
+        Ok(block) => {
             *addr = u32::from_be_bytes(block.address().octets());
             *prefix_len = block.prefix_len();
             1
         }
-        None => 0,
+        Err(()) => 0,
     }
 }
 
@@ -75,23 +73,12 @@ pub extern "C" fn lk_ipv4_cidr_read(text: &[u8], addr: &mut u32, prefix_len: &mu
 pub extern "C" fn lk_ipv6_cidr_read(text: &[u8], octets: &mut [u8; 16], prefix_len: &mut u8) -> u8
     ensures { IsRead ReadsIpv6Pair text.now (octets.old, prefix_len.old) (octets.new, prefix_len.new) result }
 {
-    match read::<Ipv6Cidr>(text) {
-        Some(block) => {
+    match Ipv6Cidr::parse_ascii(text) {
+        Ok(block) => {
             *octets = block.address().octets();
             *prefix_len = block.prefix_len();
             1
         }
-        None => 0,
+        Err(()) => 0,
     }
-}
-
-// The value that bytes are read as, if they are a text of one.
-fn read<T: FromStr>(bytes: &[u8]) -> Option<T>
-where
-    T::Err: Drop,
-    ensures { MatchOption result (IsUtf8 bytes.now → (e : T.Err) × T.from_str_gives bytes.now (Err e))
-        (λ value. IsUtf8 bytes.now × T.from_str_gives bytes.now (Ok value)) }
-{
-    let text = str::from_utf8(bytes).ok()?;
-    text.parse().ok()
 }

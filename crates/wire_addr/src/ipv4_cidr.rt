@@ -62,6 +62,15 @@ impl Ipv4Cidr {
         }
     }
 
+    /// Reads a block as `from_str` does, from the bytes of its text.
+    #[inline]
+    pub fn parse_ascii(text: &[u8]) -> std::result::Result<Ipv4Cidr, ()>
+        ensures { Parses ReadsIpv4Block text.now result }
+    {
+        let (address, prefix_len) = number_behind(text, b'/', 2, 32).ok_or(())?;
+        Ok(Ipv4Cidr::new(Ipv4Address::parse_ascii(address)?, prefix_len as u8))
+    }
+
     /// The address that it was made of.
     #[inline]
     pub fn address(&self) -> Ipv4Address
@@ -146,7 +155,6 @@ impl FromStr for Ipv4Cidr {
     ghost from_str_gives = { Parses ReadsIpv4Block };
 
     fn from_str(s: &str) -> std::result::Result<Ipv4Cidr, ()> {
-        let (address, prefix_len) = number_behind(s, b'/', 2, 32).ok_or(())?;
-        Ok(Ipv4Cidr::new(address.parse()?, prefix_len as u8))
+        Ipv4Cidr::parse_ascii(s.as_bytes())
     }
 }

@@ -75,6 +75,15 @@ impl Ipv6Cidr {
         Some(Ipv6Cidr::new(address, link_prefix.prefix_len()))
     }
 
+    /// Reads a block as `from_str` does, from the bytes of its text.
+    #[inline]
+    pub fn parse_ascii(text: &[u8]) -> Result<Ipv6Cidr, ()>
+        ensures { Parses ReadsIpv6Block text.now result }
+    {
+        let (address, prefix_len) = number_behind(text, b'/', 3, 128).ok_or(())?;
+        Ok(Ipv6Cidr::new(Ipv6Address::parse_ascii(address)?, prefix_len as u8))
+    }
+
     /// The address that it was made of.
     #[inline]
     pub fn address(&self) -> Ipv6Address
@@ -127,7 +136,6 @@ impl FromStr for Ipv6Cidr {
     ghost from_str_gives = { Parses ReadsIpv6Block };
 
     fn from_str(s: &str) -> Result<Ipv6Cidr, ()> {
-        let (address, prefix_len) = number_behind(s, b'/', 3, 128).ok_or(())?;
-        Ok(Ipv6Cidr::new(address.parse()?, prefix_len as u8))
+        Ipv6Cidr::parse_ascii(s.as_bytes())
     }
 }

@@ -28,7 +28,17 @@ impl FromStr for Ipv4Address {
     ghost from_str_gives = { Parses ReadsIpv4 };
 
     fn from_str(s: &str) -> Result<Ipv4Address, ()> {
-        match octets(s.as_bytes()) {
+        Ipv4Address::parse_ascii(s.as_bytes())
+    }
+}
+
+impl Ipv4Address {
+    /// Reads an address as `from_str` does, from the bytes of its text.
+    #[inline]
+    pub fn parse_ascii(text: &[u8]) -> Result<Ipv4Address, ()>
+        ensures { Parses ReadsIpv4 text.now result }
+    {
+        match octets(text) {
             Some(octets) => Ok(Ipv4Address::from_octets(octets)),
             None => Err(()),
         }
@@ -43,7 +53,17 @@ impl FromStr for Ipv6Address {
     ghost from_str_gives = { Parses ReadsIpv6 };
 
     fn from_str(s: &str) -> Result<Ipv6Address, ()> {
-        match groups(s.as_bytes()) {
+        Ipv6Address::parse_ascii(s.as_bytes())
+    }
+}
+
+impl Ipv6Address {
+    /// Reads an address as `from_str` does, from the bytes of its text.
+    #[inline]
+    pub fn parse_ascii(text: &[u8]) -> Result<Ipv6Address, ()>
+        ensures { Parses ReadsIpv6 text.now result }
+    {
+        match groups(text) {
             Some(groups) => Ok(Ipv6Address::from(groups)),
             None => Err(()),
         }

@@ -1,5 +1,5 @@
 -- Texts of addresses, blocks and endpoints of either version: which there are none of, and that each is read in one way.
-use Rattle.std.proofs.Common.{◌≡◌, ℕ, List, [], ◌∷◌, ◌++◌, ◌≤◌, Option, Some, Result, Err, MatchOption, Bor, length, take, drop, refl, sym, ap, ◌∙◌, subst, arith, lit≤, inl, inr, take_at, length-append}
+use Rattle.std.proofs.Common.{◌≡◌, ◌≢◌, ℕ, List, [], ◌∷◌, ◌++◌, ◌≤◌, Option, Some, Result, Err, MatchOption, Bor, length, take, drop, refl, sym, ap, ◌∙◌, subst, arith, lit≤, inl, inr, take_at, length-append}
 use Rattle.std.specs.Net.Grammar.{Parses}
 use Rattle.std.specs.Option.{ok_or}
 use Rattle.std.specs.Result.{IsErr}
@@ -9,7 +9,7 @@ use Rattle.wire_addr.specs.Printed.{ipv6_text}
 use Rattle.wire_addr.specs.Read.{ReadsIpv4, ReadsIpv6}
 use Rattle.wire_addr.proofs.BlockTexts.{one_block}
 use Rattle.wire_addr.proofs.Readings.{ipv4_once, ipv6_once, not_both}
-use Rattle.wire_ends.specs.Endpoint.{ReadsEndpoint, ReadsHost, endpoint_text, host_text}
+use Rattle.wire_ends.specs.Endpoint.{ReadsEndpoint, ReadsHost, bracketed, endpoint_text, host_text}
 use Rattle.wire_ends.specs.IpAddress.{ReadsAddress, address_text}
 use Rattle.wire_ends.specs.IpCidr.{ReadsCidr}
 use Rattle.wire_ends.specs.declared.ip_address.IpAddress.{IpAddress}
@@ -49,21 +49,16 @@ ends_alike front other e =
     let long : length other ≡ length front = omega (arith, ap length e, length-append front (93 ∷ []), length-append other (93 ∷ [])) in
     sym (take_at front (93 ∷ []) (length front) refl) ∙ ap (take (length front)) e ∙ take_at other (93 ∷ []) (length front) long
 
--- no bracket before, and no IPv4 text
-pub no_plain_host : (text : List ℕ) → ((rest : List ℕ) → text ≡ 91 ∷ rest → ⊥) → ((octets : List ℕ) → ¬ (ReadsIpv4 text octets)) → (addr : IpAddress) → ¬ (ReadsHost text addr)
+-- no brackets, and no IPv4 text
+pub no_plain_host : (text : List ℕ) → ((inner : List ℕ) → text ≢ bracketed inner) → ((octets : List ℕ) → ¬ (ReadsIpv4 text octets)) → (addr : IpAddress) → ¬ (ReadsHost text addr)
 no_plain_host text none four (ip.Ipv4 octets) h = four octets h
-no_plain_host text none four (ip.Ipv6 octets) h = none (h.0 ++ 93 ∷ []) h.1
-
--- a bracket before, but none behind
-pub no_open_host : (text rest : List ℕ) → text ≡ 91 ∷ rest → ((front : List ℕ) → rest ≡ front ++ 93 ∷ [] → ⊥) → (addr : IpAddress) → ¬ (ReadsHost text addr)
-no_open_host text rest e none (ip.Ipv4 octets) h = no_bracket text octets rest e h
-no_open_host text rest e none (ip.Ipv6 octets) h = none h.0 (ap (drop 1) (sym e ∙ h.1))
+no_plain_host text none four (ip.Ipv6 octets) h = none h.0 h.1
 
 -- brackets round what is no IPv6 text
-pub no_inner_host : (text rest inner : List ℕ) → text ≡ 91 ∷ rest → rest ≡ inner ++ 93 ∷ [] → ((octets : List ℕ) → ¬ (ReadsIpv6 inner octets)) → (addr : IpAddress) → ¬ (ReadsHost text addr)
-no_inner_host text rest inner e f none (ip.Ipv4 octets) h = no_bracket text octets rest e h
-no_inner_host text rest inner e f none (ip.Ipv6 octets) h =
-    let same : h.0 ≡ inner = ends_alike h.0 inner (sym (ap (drop 1) (sym e ∙ h.1)) ∙ f) in
+pub no_inner_host : (text inner : List ℕ) → text ≡ bracketed inner → ((octets : List ℕ) → ¬ (ReadsIpv6 inner octets)) → (addr : IpAddress) → ¬ (ReadsHost text addr)
+no_inner_host text inner e none (ip.Ipv4 octets) h = no_bracket text octets (inner ++ 93 ∷ []) e h
+no_inner_host text inner e none (ip.Ipv6 octets) h =
+    let same : h.0 ≡ inner = ends_alike h.0 inner (ap (drop 1) (sym h.1 ∙ e)) in
     none octets (subst (λ t. ReadsIpv6 t octets) same h.2)
 
 -- ---- endpoints

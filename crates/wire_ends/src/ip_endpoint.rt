@@ -1,16 +1,19 @@
 //! An address with a port.
 
-ghost use Rattle.std.specs.Prelude.{◌≡◌, Some};
+ghost use Rattle.std.specs.Prelude.{◌≡◌, ◌≢◌, ℕ, List, MatchOption, Some};
 ghost use Rattle.std.specs.Net.Grammar.{Parses};
 ghost use Rattle.std.specs.Net.Socket.{IsPlainSocket};
 ghost use Rattle.std.specs.declared.net.socket_addr.SocketAddr.TheVariants.{V4, V6};
-ghost use Rattle.wire_ends.specs.Endpoint.{IsAtPair, ReadsEndpoint, ReadsHost, endpoint_at, endpoint_text};
+ghost use Rattle.wire_ends.specs.Endpoint.{IsAtPair, ReadsEndpoint, ReadsHost, bracketed, endpoint_at, endpoint_text};
 ghost use Rattle.wire_ends.specs.StdNet.{endpoint_of};
 
 use crate::IpAddress;
+use arrayvec::ArrayString;
+use itoa::Buffer;
 use std::fmt;
 use std::net::{SocketAddr, SocketAddrV4, SocketAddrV6};
 use std::str::FromStr;
+use wire_addr::{Ipv4Address, Ipv6Address};
 use wire_text::number_behind;
 
 /// An address and a port: one end of what UDP and TCP carry.
@@ -26,6 +29,25 @@ impl IpEndpoint {
         ensures { result ≡ endpoint_at addr port }
     {
         IpEndpoint { addr, port }
+    }
+
+    /// Its text: the address, `:` and the port in decimal. An address of IPv6 is in brackets (RFC 5952,
+    /// section 6).
+    pub fn text(&self) -> ArrayString<47>
+        ensures { result.bytes ≡ endpoint_text self.now }
+    {
+        let mut text = ArrayString::new();
+        match self.addr {
+            IpAddress::Ipv4(addr) => text.push_str(addr.text().as_str()),
+            IpAddress::Ipv6(addr) => {
+                text.push_str("[");
+                text.push_str(addr.text().as_str());
+                text.push_str("]");
+            }
+        }
+        text.push_str(":");
+        text.push_str(Buffer::new().format(self.port));
+        text
     }
 }
 
@@ -74,28 +96,32 @@ impl From<IpEndpoint> for SocketAddr {
     }
 }
 
-/// The address, `:` and the port in decimal. An address of IPv6 is in brackets (RFC 5952, section 6).
+/// The text alone, whatever width or precision the formatter has.
 impl fmt::Display for IpEndpoint {
     ghost output = { λ endpoint. Some (endpoint_text endpoint) };
 
     fn fmt<W: fmt::Write>(&self, f: &mut fmt::Formatter<W>) -> fmt::Result {
-        match self.addr {
-            IpAddress::Ipv4(addr) => write!(f, "{addr}:{}", self.port),
-            IpAddress::Ipv6(addr) => write!(f, "[{addr}]:{}", self.port),
-        }
+        f.write_str(self.text().as_str())
+    }
+}
+
+/// What stands between brackets, if the text has one at each end.
+fn in_brackets(text: &[u8]) -> Option<&[u8]>
+    ensures { MatchOption result ((inner : List ℕ) → text.now ≢ bracketed inner) (λ inner. text.now ≡ bracketed inner.now) }
+{
+    match text {
+        [b'[', inner @ .., b']'] => Some(inner),
+        _ => None,
     }
 }
 
 /// The address before a port: one of IPv6 is in brackets.
-fn host(text: &str) -> Result<IpAddress, ()>
+fn host(text: &[u8]) -> Result<IpAddress, ()>
     ensures { Parses ReadsHost text.now result }
 {
-    match text.strip_prefix('[') {
-        Some(rest) => {
-            let inner = rest.strip_suffix(']').ok_or(())?;
-            Ok(IpAddress::Ipv6(inner.parse()?))
-        }
-        None => Ok(IpAddress::Ipv4(text.parse()?)),
+    match in_brackets(text) {
+        Some(inner) => Ok(IpAddress::Ipv6(Ipv6Address::parse_ascii(inner)?)),
+        None => Ok(IpAddress::Ipv4(Ipv4Address::parse_ascii(text)?)),
     }
 }
 
@@ -109,7 +135,7 @@ impl FromStr for IpEndpoint {
         if let Ok(addr) = s.parse() {
             return Ok(IpEndpoint::new(addr, 0));
         }
-        let (address, port) = number_behind(s, b':', 5, 65535).ok_or(())?;
+        let (address, port) = number_behind(s.as_bytes(), b':', 5, 65535).ok_or(())?;
         Ok(IpEndpoint::new(host(address)?, port as u16))
     }
 }

@@ -100,12 +100,12 @@ ends_printed mark places most n front some wide small fits =
     }
 
 -- what is read behind the first bytes is read in the text
-module _ (text bytes : List ℕ) (first : ℕ) (same : bytes ≡ text) where
+module _ (text : List ℕ) (first : ℕ) where
   abbrev pub behind : List ℕ
-  behind = take (length bytes - first) (drop first bytes)
+  behind = take (length text - first) (drop first text)
 
   pub behind_is : behind ≡ drop first text
-  behind_is = take_rest bytes first ∙ ap (drop first) same
+  behind_is = take_rest text first
 
   read_in : (place : ℕ) → get_or behind place 0 ≡ get_or text (first + place) 0
   read_in place = ap (λ w. get_or w place 0) behind_is ∙ get_or-drop first text place 0

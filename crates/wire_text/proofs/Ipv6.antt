@@ -1,5 +1,5 @@
 -- `groups_read` reads the four forms of an IPv6 text, and nothing else.
-use Rattle.std.proofs.Common.{◌≡◌, ◌≢◌, ℕ, ◌+◌, ◌-◌, ◌<◌, ◌≤◌, ◌⊎◌, ◌==◌, Bool, true, false, cond, List, [], ◌∷◌, ◌++◌, length, get_or, take, drop, replicate, bytes_eq, Option, Some, None, refl, sym, ap, ap₂, ◌∙◌, subst, arith, inl, inr, append-nil, append_assoc, length-append, lit≤, le-leb, lt-ltb, ne_eqb, eq-eqb, eqb-true, drop_at, take_at}
+use Rattle.std.proofs.Common.{◌≡◌, ◌≢◌, ℕ, codes, ◌+◌, ◌-◌, ◌<◌, ◌≤◌, ◌⊎◌, ◌==◌, Bool, true, false, cond, List, [], ◌∷◌, ◌++◌, length, get_or, take, drop, replicate, bytes_eq, Option, Some, None, refl, sym, ap, ap₂, ◌∙◌, subst, arith, inl, inr, append-nil, append_assoc, length-append, lit≤, le-leb, lt-ltb, ne_eqb, eq-eqb, eqb-true, drop_at, take_at}
 use Rattle.std.proofs.lemmas.Bool.{cases_eq, ltb-true, leb-true, and_parts}
 use Rattle.std.proofs.lemmas.Option.{none-some, same_Some}
 use Rattle.std.proofs.lemmas.Slice.Eq.{bytes_eq-Decides}
@@ -169,6 +169,22 @@ elided_mapped_complete text groups h =
     let may : may_end_dotted (Some (length zeros)) (zeros ++ 0xffff ∷ []) ≡ true = rw (count, le-leb h.zeros 4 h.few) (same_bytes (replicate h.zeros 0 ++ 0xffff ∷ []) _ refl) in
     head ∙ ap (λ ps. groups_from None zeros ([] ∷ ps)) cut ∙ behind_group zeros h.mark_text (h.dotted_text ∷ []) _ h.mark.digits.0
     ∙ later ∙ dotted_last (Some (length zeros)) (zeros ++ 0xffff ∷ []) h.dotted_text h.octets h.last may ∙ ap Some (sym h.value)
+
+-- no zeros are written before the elision
+pub mapped_text : (text dotted octets groups : List ℕ) → text ≡ codes "::ffff:" ++ dotted → IsDotted dotted octets → groups ≡ mapped_groups ++ groups_of octets → IsElidedMappedText text groups
+mapped_text text dotted octets groups spelled last value = record {
+  head_text = [];
+  mark_text = codes "ffff";
+  dotted_text = dotted;
+  zeros = 0;
+  octets = octets;
+  spelled = spelled;
+  head = record { pieces = []; joined = refl; each = tt };
+  few = lit≤ tt;
+  mark = record { digits = (lit≤ tt, search arith); places_fit = lit≤ tt; value = refl; fits = lit≤ tt };
+  last = last;
+  value = value;
+}
 
 pub groups_complete : (text groups : List ℕ) → IsIpv6Text text groups → groups_read text ≡ Some groups
 groups_complete text groups (inl h) = full_complete text groups h

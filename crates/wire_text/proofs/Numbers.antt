@@ -1,5 +1,5 @@
 -- A number text is read as its number, and nothing else is read.
-use Rattle.std.proofs.Common.{◌≡◌, ℕ, ◌<◌, ◌≤◌, ◌⊎◌, Bool, true, false, cond, List, [], ◌∷◌, length, get_or, Option, Some, None, refl, arith, inl, inr, lt-ltb, le-leb, le-ltb, nat_lt, nat_le, ◌*◌, ◌+◌, ◌^◌, take, length-take-le, le_trans, lit≤, min, mul-le-mul}
+use Rattle.std.proofs.Common.{◌≡◌, ℕ, ◌<◌, ◌≤◌, ◌⊎◌, Bool, true, false, cond, List, [], ◌∷◌, length, get_or, Option, Some, None, refl, arith, inl, inr, lt-ltb, le-leb, le-ltb, nat_lt, nat_le, ◌*◌, ◌+◌, ◌^◌, take, length-take-le, le_trans, lit≤, min, mul-le-mul, ◌&&◌, subst, sym}
 use Rattle.std.proofs.Math.Nat.{pow-le-pow_left, pow-le-pow_right}
 use Rattle.std.proofs.lemmas.Int.Digits.{digits_value-lt, digits_more, digits_value_more}
 use Rattle.std.proofs.lemmas.Bool.{and_right, ltb-true, leb-true, lt-leb, and_parts}
@@ -8,6 +8,7 @@ use Rattle.std.specs.List.{list_all}
 use Rattle.std.specs.Char.{is_digit, digit_value}
 use Rattle.std.specs.Str.Parse.{AllDigits, digits_value}
 use Rattle.std.proofs.NetLemmas.Options.{cond_some}
+use Rattle.std.proofs.NetLemmas.Arrays.{four_items}
 use Rattle.wire_text.specs.Grammar.{IsNumber}
 use Rattle.wire_text.specs.Reading.{number_of}
 
@@ -76,3 +77,17 @@ digit_below radix digit value high e below = (omega arith, omega arith)
 pub number_more : (radix i : ℕ) (text : List ℕ) (value byte digit : ℕ) → i < length text → AllDigits radix (take i text) → value ≡ digits_value radix (take i text) → byte ≡ get_or text i 0 → (digit_value byte < radix) × (digit ≡ digit_value byte) → AllDigits radix (take (i + 1) text) × (value * radix + digit ≡ digits_value radix (take (i + 1) text))
 number_more radix i text value byte digit within all is read h =
     (digits_more radix text i within all (rw (← read) h.0), rw (digits_value_more radix text i within, ← read, ← is, h.1))
+
+-- four digits at once
+pub four_read : (text : List ℕ) (a b c d : ℕ) → length text ≡ 4 → a ≡ min 16 (digit_value (get_or text 0 0)) → b ≡ min 16 (digit_value (get_or text 1 0)) → c ≡ min 16 (digit_value (get_or text 2 0)) → d ≡ min 16 (digit_value (get_or text 3 0))
+    → (nat_lt a 16 && nat_lt b 16 && nat_lt c 16 && nat_lt d 16) ≡ true → AllDigits 16 text × (((a * 16 + b) * 16 + c) * 16 + d ≡ digits_value 16 text)
+four_read text a b c d four is_a is_b is_c is_d all =
+    let (three, d_below) = and_parts _ _ all in
+    let (two, c_below) = and_parts _ _ three in
+    let (a_below, b_below) = and_parts _ _ two in
+    let (a_digit, a_is) = digit_below 16 a _ (lit≤ tt) is_a (ltb-true a 16 a_below) in
+    let (b_digit, b_is) = digit_below 16 b _ (lit≤ tt) is_b (ltb-true b 16 b_below) in
+    let (c_digit, c_is) = digit_below 16 c _ (lit≤ tt) is_c (ltb-true c 16 c_below) in
+    let (d_digit, d_is) = digit_below 16 d _ (lit≤ tt) is_d (ltb-true d 16 d_below) in
+    subst (λ (t : List ℕ). AllDigits 16 t × (((a * 16 + b) * 16 + c) * 16 + d ≡ digits_value 16 t)) (sym (four_items text four))
+    ((a_digit, (b_digit, (c_digit, (d_digit, tt)))), omega (arith, a_is, b_is, c_is, d_is))

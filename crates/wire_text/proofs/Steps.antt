@@ -1,8 +1,7 @@
 -- Steps of the readers' proofs.
-use Rattle.std.proofs.Common.{◌≡◌, ◌≢◌, ℕ, zero, suc, ◌+◌, ◌-◌, ◌<◌, ◌≤◌, ◌==◌, nat_lt, nat_le, Bool, true, false, ◌&&◌, cond, List, [], ◌∷◌, ◌++◌, length, get_or, take, drop, replicate, bytes_eq, Option, Some, None, refl, sym, ap, ap₂, ◌∙◌, arith, inl, inr, le-leb, lit≤, length-append, lt-ltb, ne_eqb, eq-eqb, eqb-true, not, ◌⊎◌, take_all, Bor, is_some, IfSome, ◌*◌}
+use Rattle.std.proofs.Common.{◌≡◌, ◌≢◌, ℕ, zero, suc, ◌+◌, ◌-◌, ◌<◌, ◌≤◌, ◌==◌, nat_lt, nat_le, Bool, true, false, ◌&&◌, cond, List, [], ◌∷◌, ◌++◌, length, get_or, take, drop, replicate, bytes_eq, Option, Some, None, refl, sym, ap, ap₂, ◌∙◌, arith, inl, inr, le-leb, lit≤, length-append, lt-ltb, ne_eqb, eq-eqb, eqb-true, not, ◌⊎◌, take_all, Bor, is_some, IfSome}
 use Rattle.std.proofs.lemmas.Bool.{cases_eq, true≢false, eqb-false, leb-true}
 use Rattle.std.proofs.lemmas.List.Splits.{join_with_byte-slice_split, slice_split_at}
-use Rattle.std.proofs.NetLemmas.Arrays.{four_items}
 use Rattle.wire_text.specs.Grammar.{groups_of, mapped_groups, IsDotted}
 use Rattle.std.proofs.lemmas.List.{take_more}
 use Rattle.std.specs.List.{list_all, join_with_byte}
@@ -106,10 +105,9 @@ mapped_none text none = by (octets_read text) refl
     by (Some octets) e = absurd (none octets (octets_sound text octets e))
 
 -- the groups of a mapped address
-pub mapped_is : (text octets : List ℕ) (g h : ℕ) → IsDotted text octets → length octets ≡ 4 → g ≡ get_or octets 0 0 * 256 + get_or octets 1 0 → h ≡ get_or octets 2 0 * 256 + get_or octets 3 0 → ◌≡◌ {A = Option (List ℕ)} (Some (0 ∷ 0 ∷ 0 ∷ 0 ∷ 0 ∷ 0xffff ∷ g ∷ h ∷ [])) (mapped_read text)
+pub mapped_is : (text octets : List ℕ) → IsDotted text octets → mapped_read text ≡ Some (mapped_groups ++ groups_of octets)
 unfolding mapped_read
-mapped_is text octets g h dotted four is_g is_h =
-    rw (octets_complete text octets dotted, is_g, is_h) (ap (λ o. Some (0 ∷ 0 ∷ 0 ∷ 0 ∷ 0 ∷ 0xffff ∷ groups_of o)) (sym (four_items octets four)))
+mapped_is text octets dotted = rw (octets_complete text octets dotted) refl
 
 not_mapped : (text : List ℕ) → (length text ≡ 0) ⊎ (1 < length (pieces_of 58 text)) → mapped_read text ≡ None
 not_mapped text why = mapped_none text λ octets h. elim why [

@@ -19,17 +19,15 @@ fn last_place(text: &[u8], byte: u8) -> Option<usize>
 /// What stands before the mark, and the decimal number of at most `places` digits behind it, if it is
 /// at most `most`. Only as much of the text is looked at as such an end may take.
 #[inline(always)]
-pub fn number_behind(text: &str, mark: u8, places: usize, most: u32) -> Option<(&str, u32)>
-    requires ascii { mark < 128 }
+pub fn number_behind(text: &[u8], mark: u8, places: usize, most: u32) -> Option<(&[u8], u32)>
     requires apart { 10 ≤ digit_value mark }
     requires short { places ≤ 5 }
     ensures value { MatchOption result ((front : List ℕ) (n : ℕ) → ¬ (EndsInNumber mark places most text.now front n))
         (λ found. EndsInNumber mark places most text.now found.0.now found.1) }
     ensures fits { IfSome result (λ found. found.1 ≤ most) }
 {
-    let bytes = text.as_bytes();
-    let first = bytes.len().saturating_sub(places + 1);
-    let at = first + last_place(&bytes[first..], mark)?;
-    let number = number(&bytes[at + 1..], 10, places, most)?;
+    let first = text.len().saturating_sub(places + 1);
+    let at = first + last_place(&text[first..], mark)?;
+    let number = number(&text[at + 1..], 10, places, most)?;
     Some((&text[..at], number))
 }

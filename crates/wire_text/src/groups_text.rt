@@ -1,12 +1,12 @@
 //! The eight groups of an IPv6 text.
 
-ghost use Rattle.std.specs.Prelude.{◌≡◌, ◌≢◌, ◌≤◌, ◌<◌, ◌==◌, [], IfSome, length, option_copied, take};
+ghost use Rattle.std.specs.Prelude.{◌≡◌, ◌≢◌, ◌≤◌, ◌<◌, ◌==◌, ◌++◌, [], IfSome, length, option_copied, take};
 ghost use Rattle.std.specs.List.{list_all};
-ghost use Rattle.wire_text.specs.Grammar.{IsIpv6Text, Reads};
+ghost use Rattle.wire_text.specs.Grammar.{IsDotted, IsIpv6Text, Reads, groups_of, mapped_groups};
 ghost use Rattle.wire_text.specs.Reading.{inner_text, spread};
 ghost use Rattle.wire_text.specs.Reading as Reading;
 
-use crate::number_text::first_number;
+use crate::number_text::first_group;
 use crate::octets_text::octets;
 
 fn are_zeros(groups: &[u16]) -> bool
@@ -63,6 +63,17 @@ fn all_groups(groups: &[u16; 8], len: usize, before: Option<usize>) -> Option<[u
     }
 }
 
+/// The groups of the address that stands for an IPv4 address.
+#[inline(always)]
+fn mapped(octets: [u8; 4]) -> [u16; 8]
+    ensures { result ≡ mapped_groups ++ groups_of octets }
+{
+    let [a, b, c, d] = octets;
+    let high = u16::from_be_bytes([a, b]);
+    let low = u16::from_be_bytes([c, d]);
+    [0, 0, 0, 0, 0, 0xffff, high, low]
+}
+
 /// The eight groups of an address that ends in this dotted part, if one may come behind these groups.
 #[inline(always)]
 fn dotted_end(groups: &[u16], before: Option<usize>, text: &[u8]) -> Option<[u16; 8]>
@@ -71,10 +82,24 @@ fn dotted_end(groups: &[u16], before: Option<usize>, text: &[u8]) -> Option<[u16
     if !may_end_dotted(groups, before) {
         return None;
     }
-    let [a, b, c, d] = octets(text)?;
-    let high = u16::from_be_bytes([a, b]);
-    let low = u16::from_be_bytes([c, d]);
-    Some([0, 0, 0, 0, 0, 0xffff, high, low])
+    Some(mapped(dotted(text)?))
+}
+
+/// The octets of a dotted part. Out of line, the loop over groups has its values in registers.
+#[inline(never)]
+fn dotted(text: &[u8]) -> Option<[u8; 4]>
+    ensures { Reads IsDotted text.now result }
+{
+    octets(text)
+}
+
+/// The eight groups of a mapped address as it is mostly written (RFC 5952, section 5).
+#[inline(always)]
+fn mapped_as_printed(text: &[u8]) -> Option<[u16; 8]>
+    ensures { IfSome result (λ groups. IsIpv6Text text.now groups) }
+{
+    let part = text.strip_prefix(b"::ffff:")?;
+    Some(mapped(dotted(part)?))
 }
 
 /// The text with one colon of a `::` at its start, so that a colon stands there for nothing else.
@@ -98,12 +123,15 @@ fn inner(text: &[u8]) -> Option<&[u8]>
 pub fn groups(text: &[u8]) -> Option<[u16; 8]>
     ensures { Reads IsIpv6Text text.now result }
 {
+    if let Some(groups) = mapped_as_printed(text) {
+        return Some(groups);
+    }
     let mut rest = Some(inner(text)?);
     let mut groups = [0; 8];
     let mut len = 0;
     let mut before = None;
     while let Some(more) = rest {
-        let (number, digits) = first_number(more, 16, 4);
+        let (number, digits) = first_group(more);
         let group = number as u16;
         rest = match (digits, more[digits..].split_first()) {
             // A colon behind no digits is `::`, which stands once, and may be the end.

@@ -55,6 +55,33 @@ pub(crate) fn first_number(text: &[u8], radix: u32, places: usize) -> (u32, usiz
     (value, places)
 }
 
+/// The number that four hex digits write, if all are digits, found by one test for the four.
+#[inline(always)]
+fn four_digits(text: &[u8; 4]) -> Option<u32>
+    ensures { IfSome result (λ n. AllDigits 16 text.now × (n ≡ digits_value 16 text.now)) }
+{
+    let [a, b, c, d] = *text;
+    let (a, b, c, d) = (hex_digit(a), hex_digit(b), hex_digit(c), hex_digit(d));
+    let all = (a < 16) & (b < 16) & (c < 16) & (d < 16);
+    all.then_some(((a * 16 + b) * 16 + c) * 16 + d)
+}
+
+/// The number that the first hex digits write, of which at most four are read, and how many there are,
+/// which is mostly four.
+#[inline(always)]
+pub(crate) fn first_group(text: &[u8]) -> (u32, usize)
+    ensures digits { AllDigits 16 (take result.1 text.now) }
+    ensures value { result.0 ≡ digits_value 16 (take result.1 text.now) }
+    ensures within { result.1 ≤ length text.now }
+    ensures places { result.1 ≤ 4 }
+    ensures whole { (result.1 ≡ 4) ⊎ ((result.1 ≡ length text.now) ⊎ (16 ≤ digit_value (slice_index text.now result.1))) }
+{
+    match text.first_chunk::<4>().and_then(four_digits) {
+        Some(value) => (value, 4),
+        None => first_number(text, 16, 4),
+    }
+}
+
 /// The number that a text of one digit to `places` digits writes, if it is at most `most`.
 #[inline(always)]
 pub fn number(text: &[u8], radix: u32, places: usize, most: u32) -> Option<u32>

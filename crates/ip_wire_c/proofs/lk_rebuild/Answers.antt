@@ -1,4 +1,4 @@
-use Rattle.std.proofs.Common.{◌≡◌, ◌≤◌, ◌∙◌, refl, length, arith}
+use Rattle.std.proofs.Common.{◌≤◌, ◌∙◌, refl, length, arith}
 use Rattle.std.proofs.lemmas.Bool.Decides.{nat_tests}
 use Rattle.ip_wire.proofs.Settles.{Rebuilds-frame}
 use Rattle.ip_wire.specs.Frame.{rebuilt}

@@ -18,6 +18,7 @@ fn prints_address_and_port(rt: HostRuntime) -> Result<(), Fail> {
     ] {
         let endpoint = IpEndpoint::new(addr, port);
         assert_eq!(rt; endpoint, IpEndpoint { addr, port });
+        assert_eq!(rt; endpoint.text().as_str(), text);
         assert_eq!(rt; format!(in rt.alloc(); "{endpoint}")?.as_str(), text);
         assert!(rt; text.parse::<IpEndpoint>() == Ok(endpoint));
         let listening = IpListenEndpoint::from(endpoint);

@@ -31,6 +31,16 @@ fn reads_blocks(rt: HostRuntime) {
 }
 
 #[test]
+fn reads_bytes(rt: HostRuntime) {
+    let (ipv4, ipv6) = (Ipv4Address::new(192, 0, 2, 1), Ipv6Address::LOCALHOST);
+    assert!(rt; Ipv4Address::parse_ascii(b"192.0.2.1") == Ok(ipv4));
+    assert!(rt; Ipv6Address::parse_ascii(b"::1") == Ok(ipv6));
+    assert!(rt; Ipv4Cidr::parse_ascii(b"192.0.2.1/24") == Ok(Ipv4Cidr::new(ipv4, 24)));
+    assert!(rt; Ipv6Cidr::parse_ascii(b"::1/128") == Ok(Ipv6Cidr::new(ipv6, 128)));
+    assert!(rt; Ipv4Cidr::parse_ascii(b"192.0.2.1/24\xff") == Err(()));
+}
+
+#[test]
 fn reads_endpoints(rt: HostRuntime) {
     let link_local = IpAddress::v6(0xfe80, 0, 0, 0, 0, 0, 1, 0x80);
     for (text, endpoint) in [

@@ -20,17 +20,17 @@ loop-rest-init c = record {
 
 pub overflow_cast-group : goal.overflow_cast-group
 overflow_cast-group c =
-    let read = c.first_number-number.ensures in
-    let first : IsFirst 16 4 c.in-Some.more.now c.first_number-number.result.0 c.first_number-number.result.1 = record { digits = read.digits; is = read.value; within = read.within; few = read.places; whole = read.whole } in
+    let read = c.first_group-number.ensures in
+    let first : IsFirst 16 4 c.in-Some-rest.more.now c.first_group-number.result.0 c.first_group-number.result.1 = record { digits = read.digits; is = read.value; within = read.within; few = read.places; whole = read.whole } in
     omega (arith, group_small first)
 
 pub loop-rest-preserved-in-0-Some : goal.loop-rest-preserved-in-0-Some
 loop-rest-preserved-in-0-Some c =
     let len = length-take-le c.loop-rest.len c.loop-rest.groups (omega (arith, c.loop-rest.invariant.size)) in
     let none = none_from c.loop-rest.before (c.is_none.ensures ∙ ap not c.if-is_none.true) in
-    let behind = ap (λ n. drop n c.in-Some.more.now) (sym c.in-0-Some.is-0) ∙ rest_some c.in-Some.more.now c.first_number-number.result.1 _ _ c.in-0-Some.ensures.cases.0 ∙ ap (λ b. b ∷ c.in-0-Some.behind.now) c.if-byte-eq58.true in
+    let behind = ap (λ n. drop n c.in-Some-rest.more.now) (sym c.in-0-Some.is-0) ∙ rest_some c.in-Some-rest.more.now c.first_group-number.result.1 _ _ c.in-0-Some.ensures.cases.0 ∙ ap (λ b. b ∷ c.in-0-Some.behind.now) c.if-byte-eq58.true in
     record {
-      read = elided c.loop-rest.before (take c.loop-rest.len c.loop-rest.groups) c.loop-rest.invariant.read c.in-Some.is c.in-0-Some.behind none behind c.is_empty.result c.is_empty.ensures
+      read = elided c.loop-rest.before (take c.loop-rest.len c.loop-rest.groups) c.loop-rest.invariant.read c.in-Some-rest.is c.in-0-Some.behind none behind c.is_empty.result c.is_empty.ensures
           ∙ ap₂ (λ n r. groups_from (Some n) (take c.loop-rest.len c.loop-rest.groups) (pieces_after 58 r)) len (sym c.then_some-rest.ensures);
       size = c.loop-rest.invariant.size;
       few = c.loop-rest.invariant.few;
@@ -39,13 +39,13 @@ loop-rest-preserved-in-0-Some c =
 
 pub loop-rest-preserved-in-1-to-max-Some : goal.loop-rest-preserved-in-1-to-max-Some
 loop-rest-preserved-in-1-to-max-Some c =
-    let read = c.first_number-number.ensures in
-    let first : IsFirst 16 4 c.in-Some.more.now c.first_number-number.result.0 c.first_number-number.result.1 = record { digits = read.digits; is = read.value; within = read.within; few = read.places; whole = read.whole } in
-    let piece = piece_and_more first 58 (lit≤ tt) 0xffff c.in-1-to-max-Some.is-0.1 (group_small first) c.in-1-to-max-Some.behind (rest_some c.in-Some.more.now c.first_number-number.result.1 _ _ c.in-1-to-max-Some.ensures.cases.0 ∙ ap (λ b. b ∷ c.in-1-to-max-Some.behind.now) c.if-byte-eq58-2.true) in
+    let read = c.first_group-number.ensures in
+    let first : IsFirst 16 4 c.in-Some-rest.more.now c.first_group-number.result.0 c.first_group-number.result.1 = record { digits = read.digits; is = read.value; within = read.within; few = read.places; whole = read.whole } in
+    let piece = piece_and_more first 58 (lit≤ tt) 0xffff c.in-1-to-max-Some.is-0.1 (group_small first) c.in-1-to-max-Some.behind (rest_some c.in-Some-rest.more.now c.first_group-number.result.1 _ _ c.in-1-to-max-Some.ensures.cases.0 ∙ ap (λ b. b ∷ c.in-1-to-max-Some.behind.now) c.if-byte-eq58-2.true) in
     let len = length-take-le c.loop-rest.len c.loop-rest.groups (omega (arith, c.loop-rest.invariant.size)) in
     let inside : c.loop-rest.len < length c.loop-rest.groups = omega (arith, c.loop-rest.invariant.size, c.if-len-lt8.true) in
     record {
-      read = group_more c.loop-rest.before (take c.loop-rest.len c.loop-rest.groups) c.loop-rest.invariant.read c.in-Some.is piece _ (omega (arith, c.if-len-lt8.true)) (take_more_set c.loop-rest.groups c.loop-rest.len c.first_number-number.result.0 inside);
+      read = group_more c.loop-rest.before (take c.loop-rest.len c.loop-rest.groups) c.loop-rest.invariant.read c.in-Some-rest.is piece _ (omega (arith, c.if-len-lt8.true)) (take_more_set c.loop-rest.groups c.loop-rest.len c.first_group-number.result.0 inside);
       size = search rules;
       few = omega (arith, c.if-len-lt8.true);
       within = still_within c.loop-rest.before c.loop-rest.len c.loop-rest.invariant.within;
@@ -53,13 +53,13 @@ loop-rest-preserved-in-1-to-max-Some c =
 
 pub loop-rest-preserved : goal.loop-rest-preserved
 loop-rest-preserved c =
-    let read = c.first_number-number.ensures in
-    let first : IsFirst 16 4 c.in-Some.more.now c.first_number-number.result.0 c.first_number-number.result.1 = record { digits = read.digits; is = read.value; within = read.within; few = read.places; whole = read.whole } in
-    let piece = last_piece first 58 (lit≤ tt) 0xffff c.in-1-to-max-None.is-0.1 (group_small first) (rest_none c.in-Some.more.now c.first_number-number.result.1 c.in-1-to-max-None.ensures.cases) in
+    let read = c.first_group-number.ensures in
+    let first : IsFirst 16 4 c.in-Some-rest.more.now c.first_group-number.result.0 c.first_group-number.result.1 = record { digits = read.digits; is = read.value; within = read.within; few = read.places; whole = read.whole } in
+    let piece = last_piece first 58 (lit≤ tt) 0xffff c.in-1-to-max-None.is-0.1 (group_small first) (rest_none c.in-Some-rest.more.now c.first_group-number.result.1 c.in-1-to-max-None.ensures.cases) in
     let len = length-take-le c.loop-rest.len c.loop-rest.groups (omega (arith, c.loop-rest.invariant.size)) in
     let inside : c.loop-rest.len < length c.loop-rest.groups = omega (arith, c.loop-rest.invariant.size, c.if-len-lt8-2.true) in
     record {
-      read = group_more c.loop-rest.before (take c.loop-rest.len c.loop-rest.groups) c.loop-rest.invariant.read c.in-Some.is piece _ (omega (arith, c.if-len-lt8-2.true)) (take_more_set c.loop-rest.groups c.loop-rest.len c.first_number-number.result.0 inside);
+      read = group_more c.loop-rest.before (take c.loop-rest.len c.loop-rest.groups) c.loop-rest.invariant.read c.in-Some-rest.is piece _ (omega (arith, c.if-len-lt8-2.true)) (take_more_set c.loop-rest.groups c.loop-rest.len c.first_group-number.result.0 inside);
       size = search rules;
       few = omega (arith, c.if-len-lt8-2.true);
       within = still_within c.loop-rest.before c.loop-rest.len c.loop-rest.invariant.within;
@@ -67,18 +67,18 @@ loop-rest-preserved c =
 
 pub returns-in_default-2 : goal.returns-in_default-2
 returns-in_default-2 c =
-    let read = c.first_number-number.ensures in
-    let first : IsFirst 16 4 c.in-Some.more.now c.first_number-number.result.0 c.first_number-number.result.1 = record { digits = read.digits; is = read.value; within = read.within; few = read.places; whole = read.whole } in
+    let read = c.first_group-number.ensures in
+    let first : IsFirst 16 4 c.in-Some-rest.more.now c.first_group-number.result.0 c.first_group-number.result.1 = record { digits = read.digits; is = read.value; within = read.within; few = read.places; whole = read.whole } in
     let len = length-take-le c.loop-rest.len c.loop-rest.groups (omega (arith, c.loop-rest.invariant.size)) in
-    let last = at_stop c.loop-rest.before (take c.loop-rest.len c.loop-rest.groups) c.loop-rest.invariant.read c.in-Some.is first (elim c.in_default-2.branch [
+    let last = at_stop c.loop-rest.before (take c.loop-rest.len c.loop-rest.groups) c.loop-rest.invariant.read c.in-Some-rest.is first (elim c.in_default-2.branch [
       | in_default-2-via-in-0-Some+then-byte-eq58+else-is_none w ↦ inl (w.in-0-Some.is-0, inl (w.is_none.ensures ∙ ap not w.if-is_none.false))
-      | in_default-2-via-in-0-Some+else-byte-eq58 w ↦ inr (inl (λ marked. w.if-byte-eq58.false (subst (IsBehind 58) (rest_some c.in-Some.more.now c.first_number-number.result.1 _ _ w.in-0-Some.ensures.cases.0) marked)))
-      | in_default-2-via-in-0+in-None w ↦ inl (w.in_default-2.is-0, inr (omega (arith, w.in_default-2.is-0, rest_none c.in-Some.more.now c.first_number-number.result.1 w.in_default-2.ensures.cases)))
-      | in_default-2-via-in-1-to-max-Some+then-byte-eq58-2+else-len-lt8 w ↦ inr (inr (omega (arith, w.if-len-lt8.false, c.loop-rest.invariant.few), (_, (_, piece_and_more first 58 (lit≤ tt) 0xffff w.in-1-to-max-Some.is-0.1 (group_small first) w.in-1-to-max-Some.behind (rest_some c.in-Some.more.now c.first_number-number.result.1 _ _ w.in-1-to-max-Some.ensures.cases.0 ∙ ap (λ b. b ∷ w.in-1-to-max-Some.behind.now) w.if-byte-eq58-2.true)))))
-      | in_default-2-via-in-1-to-max-Some+else-byte-eq58-2 w ↦ inr (inl (λ marked. w.if-byte-eq58-2.false (subst (IsBehind 58) (rest_some c.in-Some.more.now c.first_number-number.result.1 _ _ w.in-1-to-max-Some.ensures.cases.0) marked)))
-      | in_default-2-via-in-1-to-max-None+else-len-lt8-2 w ↦ inr (inr (omega (arith, w.if-len-lt8-2.false, c.loop-rest.invariant.few), (_, (_, last_piece first 58 (lit≤ tt) 0xffff w.in-1-to-max-None.is-0.1 (group_small first) (rest_none c.in-Some.more.now c.first_number-number.result.1 w.in-1-to-max-None.ensures.cases)))))
+      | in_default-2-via-in-0-Some+else-byte-eq58 w ↦ inr (inl (λ marked. w.if-byte-eq58.false (subst (IsBehind 58) (rest_some c.in-Some-rest.more.now c.first_group-number.result.1 _ _ w.in-0-Some.ensures.cases.0) marked)))
+      | in_default-2-via-in-0+in-None w ↦ inl (w.in_default-2.is-0, inr (omega (arith, w.in_default-2.is-0, rest_none c.in-Some-rest.more.now c.first_group-number.result.1 w.in_default-2.ensures.cases)))
+      | in_default-2-via-in-1-to-max-Some+then-byte-eq58-2+else-len-lt8 w ↦ inr (inr (omega (arith, w.if-len-lt8.false, c.loop-rest.invariant.few), (_, (_, piece_and_more first 58 (lit≤ tt) 0xffff w.in-1-to-max-Some.is-0.1 (group_small first) w.in-1-to-max-Some.behind (rest_some c.in-Some-rest.more.now c.first_group-number.result.1 _ _ w.in-1-to-max-Some.ensures.cases.0 ∙ ap (λ b. b ∷ w.in-1-to-max-Some.behind.now) w.if-byte-eq58-2.true)))))
+      | in_default-2-via-in-1-to-max-Some+else-byte-eq58-2 w ↦ inr (inl (λ marked. w.if-byte-eq58-2.false (subst (IsBehind 58) (rest_some c.in-Some-rest.more.now c.first_group-number.result.1 _ _ w.in-1-to-max-Some.ensures.cases.0) marked)))
+      | in_default-2-via-in-1-to-max-None+else-len-lt8-2 w ↦ inr (inr (omega (arith, w.if-len-lt8-2.false, c.loop-rest.invariant.few), (_, (_, last_piece first 58 (lit≤ tt) 0xffff w.in-1-to-max-None.is-0.1 (group_small first) (rest_none c.in-Some-rest.more.now c.first_group-number.result.1 w.in-1-to-max-None.ensures.cases)))))
     ]) in
     reads_groups c.args.text.now _ (c.dotted_end.ensures ∙ sym last)
 
 pub returns : goal.returns
-returns c = reads_groups c.args.text.now _ (c.all_groups.ensures ∙ sym (c.loop-rest.invariant.read ∙ ap (λ r. groups_from c.loop-rest.before (take c.loop-rest.len c.loop-rest.groups) (pieces_after 58 r)) c.in_default.is ∙ at_end c.loop-rest.before (take c.loop-rest.len c.loop-rest.groups)))
+returns c = reads_groups c.args.text.now _ (c.all_groups.ensures ∙ sym (c.loop-rest.invariant.read ∙ ap (λ r. groups_from c.loop-rest.before (take c.loop-rest.len c.loop-rest.groups) (pieces_after 58 r)) c.in_default-rest.is ∙ at_end c.loop-rest.before (take c.loop-rest.len c.loop-rest.groups)))
