@@ -25,7 +25,9 @@ pub struct Room {
 
 impl Room {
     /// Room that has no memory yet.
-    pub fn new(alloc: Global) -> Room {
+    pub fn new(alloc: Global) -> Room
+        ensures { result.block.items ≡ [] }
+    {
         Room {
             frame: Vec::new(alloc),
             again: Vec::new(alloc),
