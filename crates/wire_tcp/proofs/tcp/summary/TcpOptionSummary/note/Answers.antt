@@ -9,7 +9,8 @@ returns-in-NoOperation c = λ xs i e is reading. let r = rw c.in-NoOperation.is 
 pub returns-in-MaxSegmentSize : goal.returns-in-MaxSegmentSize
 returns-in-MaxSegmentSize c = λ xs i e is reading.
     let r = rw c.in-MaxSegmentSize.is at reading in
-    ap (λ (n : ℕ). record c.args.self.now { max_segment_size = Some n }) r.1 ∙ noted _ xs i 2 e r.0
+    let last = ap (λ (n : ℕ). record c.args.self.now { max_segment_size = Some n }) r.1 ∙ noted _ xs i 2 e r.0 in
+    grind (arith, last)
 
 pub returns-in-SackPermitted : goal.returns-in-SackPermitted
 returns-in-SackPermitted c = λ xs i e is reading. let r = rw c.in-SackPermitted.is at reading in noted _ xs i 4 e r
