@@ -11,7 +11,7 @@ rotated_64 t h =
     let e : (t * 4294967296) % 18446744073709551616 ≡ (t % 4294967296) * 4294967296 = omega arith in
     ap (λ k. bit_or k (t / 4294967296)) e ∙ or_shifted (t % 4294967296) 32 (t / 4294967296) (omega arith)
 
-rotated_32 : (t : ℕ) → t < 4294967296 → rotate_left w32 t 16 ≡ (t % 65536) * 65536 + t / 65536
+pub rotated_32 : (t : ℕ) → t < 4294967296 → rotate_left w32 t 16 ≡ (t % 65536) * 65536 + t / 65536
 rotated_32 t h =
     let e : (t * 65536) % 4294967296 ≡ (t % 65536) * 65536 = omega arith in
     ap (λ k. bit_or k (t / 65536)) e ∙ or_shifted (t % 65536) 16 (t / 65536) (omega arith)
@@ -21,15 +21,8 @@ halves_64 : (t r c : ℕ) → t < 18446744073709551616 → r ≡ (t % 4294967296
     → (t + r) % 18446744073709551616 / 4294967296 + 4294967295 * c ≡ t / 4294967296 + t % 4294967296
 halves_64 t r c h e d = omega arith
 
-halves_32 : (t r c : ℕ) → t < 4294967296 → r ≡ (t % 65536) * 65536 + t / 65536 → c ≡ (t / 65536 + t % 65536) / 65536
-    → (t + r) % 4294967296 / 65536 + 65535 * c ≡ t / 65536 + t % 65536
-halves_32 t r c h e d = omega arith
-
 zero_64 : (t r : ℕ) → t < 18446744073709551616 → r ≡ (t % 4294967296) * 4294967296 + t / 4294967296 → (t + r) % 18446744073709551616 / 4294967296 ≡ 0 → t ≡ 0
 zero_64 t r h e z = omega arith
-
-zero_32 : (t r : ℕ) → t < 4294967296 → r ≡ (t % 65536) * 65536 + t / 65536 → (t + r) % 4294967296 / 65536 ≡ 0 → t ≡ 0
-zero_32 t r h e z = omega arith
 
 pub once_64 : (t r : ℕ) → t < 18446744073709551616 → r ≡ rotate_left w64 t 32 → residue ((t + r) % 18446744073709551616 / 4294967296) ≡ residue t
 once_64 t r h is =
@@ -38,10 +31,8 @@ once_64 t r h is =
     let s = halves_64 t r c h e refl in
     residue-same ((t + r) % 18446744073709551616 / 4294967296) t (65537 * (t / 4294967296) + 65537 * c) 0 (omega (arith, s)) (λ z. zero_64 t r h e z) (λ z. omega (arith, s))
 
-pub once_32 : (t r : ℕ) → t < 4294967296 → r ≡ rotate_left w32 t 16 → (t + r) % 4294967296 / 65536 ≡ residue t
-once_32 t r h is =
-    let e = is ∙ rotated_32 t h in
+-- the sum of a number's two words, with its carry brought round
+pub folded : (t s : ℕ) → t < 4294967296 → s + 65535 * ((t / 65536 + t % 65536) / 65536) ≡ t / 65536 + t % 65536 → s ≡ residue t
+folded t s h e =
     let c = (t / 65536 + t % 65536) / 65536 in
-    let s = halves_32 t r c h e refl in
-    sym (residue-small ((t + r) % 4294967296 / 65536) (omega arith))
-    ∙ residue-same ((t + r) % 4294967296 / 65536) t (t / 65536 + c) 0 (omega (arith, s)) (λ z. zero_32 t r h e z) (λ z. omega (arith, s))
+    sym (residue-small s (omega arith)) ∙ residue-same s t (t / 65536 + c) 0 (omega arith) (λ z. omega arith) (λ z. omega arith)

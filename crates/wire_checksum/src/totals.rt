@@ -15,15 +15,30 @@ pub fn finish(total: u64) -> u16
     reduce(total).swap_bytes()
 }
 
-// The sum of words that add up to a total. A number and the same with its halves changed add up to the
-// sum of the halves, with its carry brought round, in the upper half.
+// The sum of words that add up to a total.
 #[inline]
 fn reduce(total: u64) -> u16
     ensures { result ≡ residue total }
 {
+    fold_to_u16(fold_to_u32(total))
+}
+
+// A total of 32 bits that stands for the same sum. A number and the same with its halves exchanged add up
+// to the sum of the halves, with its carry brought round, in the upper half.
+#[inline]
+fn fold_to_u32(total: u64) -> u32
+    ensures { residue result ≡ residue total }
+{
     let twice = total.wrapping_add(total.rotate_left(32));
-    let half = (twice >> 32) as u32;
-    let twice = half.wrapping_add(half.rotate_left(16));
+    (twice >> 32) as u32
+}
+
+// The sum of the two words of a number, with its carry brought round in the same way.
+#[inline]
+fn fold_to_u16(number: u32) -> u16
+    ensures { result ≡ residue number }
+{
+    let twice = number.wrapping_add(number.rotate_left(16));
     (twice >> 16) as u16
 }
 
