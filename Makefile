@@ -1,58 +1,99 @@
-# make run    prints the frames of examples/frames.hex, or of FRAMES=file
-# make test   passes everything that has to pass; the gate's log is out/test.log
-# make build  proves the programs and the C library, and builds each as one file
+# make run        prints the frames of examples/frames.hex, or of FRAMES=file
+# make build      proves the programs and the C library, and builds each as one file
+# make quick      runs the tests and the program without proofs
+# make check CRATE=name
+#                 proves one crate and reuses earlier proofs
+# make test       runs the gate and all other tests; the gate's log is out/test.log
+# make test-all   runs make test, then the wrong bodies and controls that it leaves out (out/wrong.log)
 # make compare REFERENCE=program [SEED=n] [LINES=n]
-#             feeds generated lines to the built program and to another, and shows the first difference
+#                 feeds generated lines to the built program and to another one, and prints the first difference
 # make compare-calls REFERENCE=program [SEED=n] [LINES=n]
-#             the same for the program that answers lines which ask one call of the library each
+#                 the same for the program that makes one library call per line
 # make bench [REFERENCE_BENCH=library.so] [REFERENCE=program]
-#             times the library's calls, beside the same by hand (bench/floor.c), and the program, and
-#             prints the tables in Markdown; with a reference, how fast ours are beside it: a shared
-#             library with the same calls (bench/reference.rs has them over smoltcp), and a program
-#             that reads the same lines
+#                 times the library's calls beside hand-written C (bench/floor.c), and the program, and
+#                 prints the tables in Markdown; with a reference, also beside a shared library with the
+#                 same calls (bench/reference.rs wraps smoltcp), and beside a program for the same lines
 
 FRAMES ?= examples/frames.hex
+CRATE ?=
+REFERENCE ?=
+REFERENCE_BENCH ?=
 SEED ?= 1
 LINES ?= 100000
+# Recipes read these as environment variables, so that a value may contain any character.
+export FRAMES CRATE REFERENCE_BENCH SEED LINES
+
 PROGRAM := crates/ip_frames/out/ip_frames
 CALLS := crates/ip_calls/out/ip_calls
 LIBRARY := crates/ip_wire_c/out/libip_wire_c.a
-SOURCES := crates.txt $(shell find crates -name out -prune -o -type f -print)
+FIND_SOURCES := find crates.txt crates -name out -prune -o \( -name '*.rt' -o -name '*.antt' -o -name crates.txt \)
+SOURCES := $(shell $(FIND_SOURCES) -print)
 
-.PHONY: run test build compare compare-calls bench
+# fail MESSAGE: ends the recipe with one line
+fail = { echo "make $(or $(MAKECMDGOALS),run): $(1)" >&2; exit 1; }
+HAS_RT = command -v rt > /dev/null || $(call fail,rt is not on the path; it comes with the Rattle kit)
+CAN_WRITE = test -w . || $(call fail,this folder is not writable)
+
+ifneq ($(filter compare compare-calls,$(MAKECMDGOALS)),)
+ifeq ($(REFERENCE),)
+$(error make $(MAKECMDGOALS): name a program, as REFERENCE=program)
+endif
+endif
+
+.DELETE_ON_ERROR:
+.PHONY: run build quick check test test-all compare compare-calls bench
 
 run:
-	@test -f '$(FRAMES)' && test -r '$(FRAMES)' || { echo 'make run: cannot read $(FRAMES)' >&2; exit 1; }
-	@if $(MAKE) --no-print-directory --question $(PROGRAM); then \
-		$(PROGRAM) < '$(FRAMES)'; \
+	@test -r "$$FRAMES" && ! test -d "$$FRAMES" || $(call fail,cannot read $$FRAMES)
+	@if test -x $(PROGRAM) && test -z "$$($(FIND_SOURCES) -newer $(PROGRAM) -print)"; then \
+		$(PROGRAM) < "$$FRAMES"; \
 	else \
+		$(HAS_RT); \
 		echo 'not built yet, so run without proofs (make build proves first)' >&2; \
-		cd crates/ip_frames && rt try < '$(abspath $(FRAMES))'; \
+		exec < "$$FRAMES"; cd crates/ip_frames && rt try; \
 	fi
-
-test:
-	@tests/all
 
 build: $(PROGRAM) $(CALLS) $(LIBRARY)
 	@echo $(PROGRAM)
 	@echo $(CALLS)
 	@echo $(LIBRARY)
 
-compare: COMPARE := tests/compare.py $(PROGRAM)
-compare-calls: COMPARE := tests/compare_calls.py $(CALLS)
+quick check test test-all: ready
 
-compare compare-calls:
-	@test -n '$(REFERENCE)' || { echo 'make $@: name a program, as REFERENCE=program' >&2; exit 1; }
-	@$(MAKE) --no-print-directory $(lastword $(COMPARE))
-	@$(COMPARE) '$(SEED)' '$(LINES)' $(REFERENCE)
+.PHONY: ready
+ready:
+	@$(HAS_RT)
+	@$(CAN_WRITE)
+
+quick:
+	@tests/quick
+
+check:
+	@test -n "$$CRATE" && test -d "crates/$$CRATE/src" || $(call fail,name a crate of crates.txt as CRATE=name)
+	@cd "crates/$$CRATE" && rt check
+
+test:
+	@tests/all
+
+test-all:
+	@tests/all
+	@tests/wrong.py
+
+compare: $(PROGRAM)
+	@tests/compare.py $(PROGRAM) "$$SEED" "$$LINES" $(REFERENCE)
+
+compare-calls: $(CALLS)
+	@tests/compare_calls.py $(CALLS) "$$SEED" "$$LINES" $(REFERENCE)
 
 bench: $(PROGRAM) $(LIBRARY)
-	@bench/bench.py $(if $(REFERENCE_BENCH),--calls '$(REFERENCE_BENCH)') $(if $(REFERENCE),--program $(REFERENCE))
+	@bench/bench.py $${REFERENCE_BENCH:+--calls "$$REFERENCE_BENCH"} $(if $(REFERENCE),--program $(REFERENCE))
 
 $(PROGRAM) $(CALLS): COMMAND := run
 $(LIBRARY): COMMAND := lib
 $(PROGRAM) $(CALLS) $(LIBRARY): $(SOURCES)
+	@$(HAS_RT)
+	@$(CAN_WRITE)
 	@echo 'proving $(@F)'
 	@mkdir -p $(@D)
-	@cd $(@D)/.. && '$(CURDIR)/tests/progress.py' '$(CURDIR)/out/$(@F).log' rt $(COMMAND)
+	@cd $(@D)/.. && ../../tests/progress.py ../../out/$(@F).log rt $(COMMAND)
 	@touch $@

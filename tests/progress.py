@@ -119,7 +119,7 @@ def main():
     log, command = os.path.abspath(sys.argv[1]), sys.argv[2:]
     os.makedirs(os.path.dirname(log), exist_ok=True)
     teller = Gate() if command[1:] == ["ci"] else Build()
-    say(f"the log is {os.path.relpath(log, TOP)}")
+    say(f"the log is {log}")
     how = {"stdin": subprocess.DEVNULL, "stdout": subprocess.PIPE, "stderr": subprocess.STDOUT, "text": True, "errors": "replace"}
     with open(log, "w", encoding="utf-8") as file, subprocess.Popen(command, **how) as run:
         for line in run.stdout:
@@ -128,7 +128,7 @@ def main():
             teller.take(line.rstrip("\n"))
     if run.returncode:
         teller.end()
-        say(f"{' '.join(command)} failed: see {os.path.relpath(log, TOP)}")
+        say(f"{' '.join(command)} failed: see {log}")
     sys.exit(abs(run.returncode))
 
 
