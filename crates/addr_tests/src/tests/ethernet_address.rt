@@ -1,0 +1,95 @@
+//! Ethernet addresses.
+
+use super::count_distinct;
+use ip_wire::EthernetAddress;
+use std::test::Fail;
+
+/// Whether an address is unicast, multicast, locally administered and broadcast.
+fn classes(address: EthernetAddress) -> [bool; 4] {
+    [
+        address.is_unicast(),
+        address.is_multicast(),
+        address.is_local(),
+        address.is_broadcast(),
+    ]
+}
+
+#[test]
+fn prints_octets_with_dashes(rt: HostRuntime) -> Result<(), Fail> {
+    for (octets, text) in [
+        ([0x02, 0, 0, 0, 0, 0x01], "02-00-00-00-00-01"),
+        ([0x11, 0x12, 0x13, 0x14, 0x15, 0x16], "11-12-13-14-15-16"),
+        ([0xab, 0xcd, 0xef, 0x0a, 0xa0, 0xff], "ab-cd-ef-0a-a0-ff"),
+    ] {
+        let address = EthernetAddress::from_bytes(&octets);
+        let printed = format!(in rt.alloc(); "{address}")?;
+        let found = (address.as_bytes(), printed.as_str());
+        assert_eq!(rt; found, (octets.as_slice(), text));
+    }
+    Ok(())
+}
+
+#[test]
+fn distinguishes_unicast_from_multicast(rt: HostRuntime) {
+    for (octets, expected) in [
+        ([0x02, 0, 0, 0, 0, 0x01], [true, false, true, false]),
+        (
+            [0x34, 0x56, 0x78, 0x9a, 0xbc, 0xde],
+            [true, false, false, false],
+        ),
+        (
+            [0xfe, 0xff, 0xff, 0xff, 0xff, 0xff],
+            [true, false, true, false],
+        ),
+        ([0x01, 0, 0x5e, 0, 0, 0x01], [false, true, false, false]),
+        ([0x33, 0x33, 0, 0, 0, 0x01], [false, true, true, false]),
+        (
+            [0xff, 0xff, 0xff, 0xff, 0xff, 0xfe],
+            [false, true, true, false],
+        ),
+    ] {
+        let address = EthernetAddress(octets);
+        assert_eq!(rt; classes(address), expected, "{address}");
+    }
+}
+
+#[test]
+fn broadcast_is_all_ones(rt: HostRuntime) {
+    let address = EthernetAddress::BROADCAST;
+    let found = (address.as_bytes(), classes(address));
+    assert_eq!(rt; found, ([0xff; 6].as_slice(), [false, true, true, true]));
+}
+
+#[test]
+fn has_a_modified_eui_64(rt: HostRuntime) {
+    for (octets, identifier) in [
+        (
+            [0x02, 0x00, 0x00, 0x00, 0x00, 0x01],
+            [0x00, 0x00, 0x00, 0xff, 0xfe, 0x00, 0x00, 0x01],
+        ),
+        (
+            [0x34, 0x56, 0x78, 0x9a, 0xbc, 0xde],
+            [0x36, 0x56, 0x78, 0xff, 0xfe, 0x9a, 0xbc, 0xde],
+        ),
+        (
+            [0xaa, 0xbb, 0xcc, 0xdd, 0xee, 0xff],
+            [0xa8, 0xbb, 0xcc, 0xff, 0xfe, 0xdd, 0xee, 0xff],
+        ),
+    ] {
+        assert_eq!(rt; EthernetAddress(octets).as_eui_64(), Some(identifier));
+    }
+}
+
+#[test]
+fn is_zeros_by_default(rt: HostRuntime) {
+    assert_eq!(rt; EthernetAddress::default(), EthernetAddress([0; 6]));
+}
+
+#[test]
+fn is_ordered_and_hashed_by_octets(rt: HostRuntime) -> Result<(), Fail> {
+    let low = EthernetAddress([1, 2, 3, 4, 5, 255]);
+    let high = EthernetAddress([1, 2, 3, 4, 6, 0]);
+    let found = (low < high, count_distinct(rt.alloc(), &[low, high, low])?);
+    assert_eq!(rt; found, (true, 2));
+    Ok(())
+}

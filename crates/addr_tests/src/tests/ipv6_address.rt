@@ -1,0 +1,311 @@
+//! IPv6 addresses.
+
+use ip_wire::{
+    EthernetAddress, HardwareAddress, IPV6_ADDR_SIZE, IPV6_LINK_LOCAL_ALL_MLDV2_ROUTERS,
+    IPV6_LINK_LOCAL_ALL_NODES, IPV6_LINK_LOCAL_ALL_ROUTERS, IPV6_LINK_LOCAL_ALL_RPL_NODES,
+    Ipv6Address, Ipv6Cidr, Ipv6MulticastScope,
+};
+use std::test::Fail;
+
+#[test]
+fn prints_the_longest_run_of_zeros_as_two_colons(rt: HostRuntime) -> Result<(), Fail> {
+    for (groups, text) in [
+        ([0x2001, 0, 0, 1, 0, 0, 0, 1], "2001:0:0:1::1"),
+        ([0x2001, 0xdb8, 0, 0, 1, 0, 0, 1], "2001:db8::1:0:0:1"),
+        ([0x2001, 0xdb8, 0, 1, 1, 1, 1, 1], "2001:db8:0:1:1:1:1:1"),
+        ([0, 0, 0, 0, 0, 0xffff, 0x102, 0x304], "::ffff:1.2.3.4"),
+        ([0, 0, 0, 0, 0, 0, 0x102, 0x304], "::102:304"),
+        ([0, 0, 0, 0, 0, 0, 0, 0], "::"),
+        ([0, 0, 0, 0, 0, 0, 0, 1], "::1"),
+        ([0xfe80, 0, 0, 0, 0, 0, 0, 1], "fe80::1"),
+        ([0xff02, 0, 0, 0, 0, 0, 0, 1], "ff02::1"),
+        ([1, 2, 3, 4, 5, 6, 7, 8], "1:2:3:4:5:6:7:8"),
+        ([1, 0, 0, 0, 0, 0, 0, 0], "1::"),
+        (
+            [0xa, 0xbc, 0xdef, 0x1234, 0x10, 0x100, 0x1000, 0],
+            "a:bc:def:1234:10:100:1000:0",
+        ),
+        (
+            [
+                0xffff, 0xffff, 0xffff, 0xffff, 0xffff, 0xffff, 0xffff, 0xffff,
+            ],
+            "ffff:ffff:ffff:ffff:ffff:ffff:ffff:ffff",
+        ),
+    ] {
+        let address = Ipv6Address::from(groups);
+        let printed = format!(in rt.alloc(); "{address}")?;
+        let found = (address.segments(), printed.as_str());
+        assert_eq!(rt; found, (groups, text));
+    }
+    Ok(())
+}
+
+#[test]
+fn converts_from_octets_and_groups(rt: HostRuntime) {
+    let octets = [
+        0xfe, 0x80, 0, 0, 0, 0, 0, 0, 0x10, 0x11, 0x12, 0x13, 0x14, 0x15, 0x16, 0x17,
+    ];
+    let address = Ipv6Address::new(0xfe80, 0, 0, 0, 0x1011, 0x1213, 0x1415, 0x1617);
+    let found = (
+        [Ipv6Address::from_octets(octets), Ipv6Address::from(octets)],
+        address.octets(),
+        IPV6_ADDR_SIZE,
+    );
+    assert_eq!(rt; found, ([address, address], octets, 16));
+}
+
+#[test]
+fn is_ordered_by_octets(rt: HostRuntime) {
+    let localhost = Ipv6Address::LOCALHOST;
+    let found = (
+        localhost.octets(),
+        Ipv6Address::UNSPECIFIED < localhost,
+        Ipv6Address::new(1, 0, 0, 0, 0, 0, 0, 0) > localhost,
+    );
+    let octets = [0, 0, 0, 0, 0, 0, 0, 0, 0, 0, 0, 0, 0, 0, 0, 1];
+    assert_eq!(rt; found, (octets, true, true));
+}
+
+#[test]
+fn constants_print_as_their_standards_write_them(rt: HostRuntime) -> Result<(), Fail> {
+    for (address, text) in [
+        (Ipv6Address::UNSPECIFIED, "::"),
+        (Ipv6Address::LOCALHOST, "::1"),
+        (IPV6_LINK_LOCAL_ALL_NODES, "ff02::1"),
+        (IPV6_LINK_LOCAL_ALL_ROUTERS, "ff02::2"),
+        (IPV6_LINK_LOCAL_ALL_MLDV2_ROUTERS, "ff02::16"),
+        (IPV6_LINK_LOCAL_ALL_RPL_NODES, "ff02::1a"),
+    ] {
+        assert_eq!(rt; format!(in rt.alloc(); "{address}")?.as_str(), text);
+    }
+    Ok(())
+}
+
+#[test]
+fn converts_to_and_from_bits(rt: HostRuntime) {
+    for (address, bits) in [
+        (Ipv6Address::LOCALHOST, 1),
+        (
+            Ipv6Address::new(0x0123, 0x4567, 0x89ab, 0xcdef, 0, 0, 0xfedc, 0xba98),
+            0x0123_4567_89ab_cdef_0000_0000_fedc_ba98,
+        ),
+    ] {
+        let found = (address.to_bits(), Ipv6Address::from_bits(bits));
+        assert_eq!(rt; found, (bits, address));
+    }
+}
+
+#[test]
+fn has_classes(rt: HostRuntime) {
+    // Unspecified, loopback, multicast, unique local, link-local, global unicast,
+    // solicited-node multicast, unicast.
+    for (groups, classes) in [
+        (
+            [0, 0, 0, 0, 0, 0, 0, 0],
+            [true, false, false, false, false, false, false, false],
+        ),
+        (
+            [0, 0, 0, 0, 0, 0, 0, 1],
+            [false, true, false, false, false, false, false, true],
+        ),
+        (
+            [0xff02, 0, 0, 0, 0, 0, 0, 1],
+            [false, false, true, false, false, false, false, false],
+        ),
+        (
+            [0xff02, 0, 0, 0, 0, 0, 0, 2],
+            [false, false, true, false, false, false, false, false],
+        ),
+        (
+            [0xfe80, 0, 0, 0, 0, 0, 0, 1],
+            [false, false, false, false, true, false, false, true],
+        ),
+        (
+            [0xfe80, 0, 0, 1, 0, 0, 0, 1],
+            [false, false, false, false, false, false, false, true],
+        ),
+        (
+            [0xfeb0, 0, 0, 0, 0, 0, 0, 1],
+            [false, false, false, false, false, false, false, true],
+        ),
+        (
+            [0xfd00, 0, 0, 201, 1, 1, 1, 1],
+            [false, false, false, true, false, false, false, true],
+        ),
+        (
+            [0xfc00, 0, 0, 0, 0, 0, 0, 0],
+            [false, false, false, true, false, false, false, true],
+        ),
+        (
+            [0x2001, 0xdb8, 3, 0, 0, 0, 0, 1],
+            [false, false, false, false, false, true, false, true],
+        ),
+        (
+            [0x3fff, 0, 0, 0, 0, 0, 0, 1],
+            [false, false, false, false, false, true, false, true],
+        ),
+        (
+            [0x4000, 0, 0, 0, 0, 0, 0, 1],
+            [false, false, false, false, false, false, false, true],
+        ),
+        (
+            [0xff02, 0, 0, 0, 0, 1, 0xff01, 101],
+            [false, false, true, false, false, false, true, false],
+        ),
+        (
+            [0xff02, 0, 0, 0, 0, 1, 0xfe01, 101],
+            [false, false, true, false, false, false, false, false],
+        ),
+    ] {
+        let address = Ipv6Address::from(groups);
+        let found = [
+            address.is_unspecified(),
+            address.is_loopback(),
+            address.is_multicast(),
+            address.is_unique_local(),
+            address.is_link_local(),
+            address.is_global_unicast(),
+            address.is_solicited_node_multicast(),
+            address.x_is_unicast(),
+        ];
+        assert_eq!(rt; found, classes, "{address}");
+    }
+}
+
+#[test]
+fn has_a_scope(rt: HostRuntime) {
+    for (groups, scope) in [
+        (
+            [0xff01, 0, 0, 0, 0, 0, 0, 1],
+            Ipv6MulticastScope::InterfaceLocal,
+        ),
+        ([0xff02, 0, 0, 0, 0, 0, 0, 1], Ipv6MulticastScope::LinkLocal),
+        ([0xff03, 0, 0, 0, 0, 0, 0, 1], Ipv6MulticastScope::Unknown),
+        (
+            [0xff04, 0, 0, 0, 0, 0, 0, 1],
+            Ipv6MulticastScope::AdminLocal,
+        ),
+        ([0xff05, 0, 0, 0, 0, 0, 0, 1], Ipv6MulticastScope::SiteLocal),
+        (
+            [0xff08, 0, 0, 0, 0, 0, 0, 1],
+            Ipv6MulticastScope::OrganizationLocal,
+        ),
+        ([0xff0e, 0, 0, 0, 0, 0, 0, 1], Ipv6MulticastScope::Global),
+        ([0xff12, 0, 0, 0, 0, 0, 0, 1], Ipv6MulticastScope::LinkLocal),
+        ([0xfe80, 0, 0, 0, 0, 0, 0, 1], Ipv6MulticastScope::LinkLocal),
+        ([0xfd00, 0, 0, 201, 1, 1, 1, 1], Ipv6MulticastScope::Global),
+        (
+            [0x2001, 0xdb8, 3, 0, 0, 0, 0, 1],
+            Ipv6MulticastScope::Global,
+        ),
+        ([0, 0, 0, 0, 0, 0, 0, 0], Ipv6MulticastScope::Unknown),
+    ] {
+        assert_eq!(rt; Ipv6Address::from(groups).x_multicast_scope(), scope);
+    }
+}
+
+#[test]
+fn keeps_its_first_bits_under_a_mask(rt: HostRuntime) {
+    let address = Ipv6Address::new(0x0123, 0x4567, 0x89ab, 0, 0, 0, 0, 1);
+    let found = [
+        address.mask(0),
+        address.mask(11),
+        address.mask(15),
+        address.mask(26),
+        address.mask(127),
+        address.mask(128),
+    ];
+    let expected = [
+        [0; 16],
+        [0x01, 0x20, 0, 0, 0, 0, 0, 0, 0, 0, 0, 0, 0, 0, 0, 0],
+        [0x01, 0x22, 0, 0, 0, 0, 0, 0, 0, 0, 0, 0, 0, 0, 0, 0],
+        [0x01, 0x23, 0x45, 0x40, 0, 0, 0, 0, 0, 0, 0, 0, 0, 0, 0, 0],
+        [
+            0x01, 0x23, 0x45, 0x67, 0x89, 0xab, 0, 0, 0, 0, 0, 0, 0, 0, 0, 0,
+        ],
+        address.octets(),
+    ];
+    assert_eq!(rt; found, expected);
+}
+
+#[test]
+fn a_netmask_has_a_prefix_length(rt: HostRuntime) {
+    for (groups, len) in [
+        ([0, 0, 0, 0, 0, 0, 0, 0], Some(0)),
+        ([0x8000, 0, 0, 0, 0, 0, 0, 0], Some(1)),
+        ([0xffff, 0xffff, 0xffff, 0xffff, 0, 0, 0, 0], Some(64)),
+        ([0xffff, 0xffff, 0xffff, 0xffff, 0x8000, 0, 0, 0], Some(65)),
+        ([0xffff; 8], Some(128)),
+        ([0xffff, 0xffff, 0xffff, 0xffff, 0xffff, 0xffff, 0, 1], None),
+        ([0, 0, 0, 0, 0, 0, 0, 1], None),
+    ] {
+        assert_eq!(rt; Ipv6Address::from(groups).prefix_len(), len);
+    }
+}
+
+#[test]
+fn its_solicited_node_address_has_its_last_three_octets(rt: HostRuntime) -> Result<(), Fail> {
+    for (groups, text) in [
+        ([0xfe80, 0, 0, 0, 0, 0, 0, 1], "ff02::1:ff00:1"),
+        (
+            [0x2001, 0xdb8, 0, 0, 0, 0, 0x12ab, 0xcdef],
+            "ff02::1:ffab:cdef",
+        ),
+    ] {
+        let address = Ipv6Address::from(groups);
+        assert!(rt; address.x_is_unicast());
+        let group = address.solicited_node();
+        let printed = format!(in rt.alloc(); "{group}")?;
+        let found = (printed.as_str(), group.is_solicited_node_multicast());
+        assert_eq!(rt; found, (text, true));
+    }
+    Ok(())
+}
+
+#[test]
+fn an_interface_has_an_address_on_its_link(rt: HostRuntime) {
+    let link = Ipv6Cidr::new(Ipv6Address::new(0xfe80, 0, 0, 0, 0, 0, 0, 0), 64);
+    let network = Ipv6Cidr::new(Ipv6Address::new(0x2001, 0xdb8, 3, 0, 0, 0, 0, 0), 64);
+    for (prefix, octets, groups) in [
+        (
+            link,
+            [0x02, 0, 0, 0, 0, 0x01],
+            [0xfe80, 0, 0, 0, 0, 0xff, 0xfe00, 1],
+        ),
+        (
+            network,
+            [0xaa, 0xbb, 0xcc, 0xdd, 0xee, 0xff],
+            [0x2001, 0xdb8, 3, 0, 0xa8bb, 0xccff, 0xfedd, 0xeeff],
+        ),
+    ] {
+        let hardware = HardwareAddress::Ethernet(EthernetAddress(octets));
+        let address = Ipv6Address::from(groups);
+        let block = Ipv6Cidr::new(address, 64);
+        let found = (
+            Ipv6Address::from_link_prefix(&prefix, hardware),
+            Ipv6Cidr::from_link_prefix(&prefix, hardware),
+            [
+                prefix.contains_addr(&address),
+                prefix.contains_subnet(&block),
+            ],
+        );
+        assert_eq!(rt; found, (Some(address), Some(block), [true, true]));
+    }
+}
+
+#[test]
+fn an_interface_has_no_address_on_other_links(rt: HostRuntime) {
+    let ethernet = HardwareAddress::Ethernet(EthernetAddress([0x02, 0, 0, 0, 0, 0x01]));
+    let prefix = Ipv6Address::new(0xfe80, 0, 0, 0, 0, 0, 0, 0);
+    for (link, hardware) in [
+        (Ipv6Cidr::new(prefix, 63), ethernet),
+        (Ipv6Cidr::new(prefix, 72), ethernet),
+        (Ipv6Cidr::new(prefix, 64), HardwareAddress::Ip),
+    ] {
+        let found = (
+            Ipv6Address::from_link_prefix(&link, hardware),
+            Ipv6Cidr::from_link_prefix(&link, hardware),
+        );
+        assert_eq!(rt; found, (None, None));
+    }
+}
