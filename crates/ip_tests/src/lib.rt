@@ -1,0 +1,5 @@
+//! Tests of IPv4 and IPv6 headers.
+#![tactic(auto)]
+
+#[cfg(test)]
+mod tests;

@@ -1,0 +1,55 @@
+//! Sums of words.
+
+use super::IPV4_PACKET;
+use ip_wire::{IpProtocol, Ipv6Address, checksum};
+use std::alloc::{AllocError, Global};
+use std::test::Fail;
+
+/// So many copies of a byte.
+fn copies(alloc: Global, byte: u8, len: usize) -> Result<Vec<u8>, AllocError> {
+    vec![in alloc; byte; len]
+}
+
+#[test]
+fn sums_bytes(rt: HostRuntime) {
+    for (bytes, sum) in [
+        (&[][..], 0),
+        (&[0x00, 0x00, 0x00], 0),
+        (&[0x01], 0x0100),
+        (&[0x00, 0x01, 0xf2, 0x03, 0xf4, 0xf5, 0xf6, 0xf7], 0xddf2),
+        (&[0xff, 0xff], 0xffff),
+        (&[0xff, 0xfe, 0x00, 0x01], 0xffff),
+        (&IPV4_PACKET[..20], 0xffff),
+    ] {
+        assert_eq!(rt; checksum::data(bytes), sum);
+    }
+}
+
+#[test]
+fn sums_more_words_than_a_packet_has(rt: HostRuntime) -> Result<(), Fail> {
+    let ones = copies(rt.alloc(), 0xff, 131_076)?;
+    assert_eq!(rt; checksum::data(&ones), 0xffff);
+    Ok(())
+}
+
+#[test]
+fn combines_sums(rt: HostRuntime) {
+    for (sums, sum) in [
+        (&[][..], 0),
+        (&[0, 0], 0),
+        (&[0xffff, 0xffff], 0xffff),
+        (&[0xffff, 1], 1),
+        (&[0xc0a8, 0x0101, 0xc0a8, 0x0102, 0x0011, 0x000c], 0x8371),
+    ] {
+        assert_eq!(rt; checksum::combine(sums), sum);
+    }
+}
+
+#[test]
+fn sums_the_pseudo_header_between_hosts_of_a_link(rt: HostRuntime) {
+    let src = Ipv6Address::new(0xfe80, 0, 0, 0, 0, 0, 0, 1);
+    let dst = Ipv6Address::new(0xfe80, 0, 0, 0, 0, 0, 0, 2);
+    // fe80 + 1 + fe80 + 2 + 11 + c is 1fd20.
+    let sum = checksum::pseudo_header_v6(&src, &dst, IpProtocol::Udp, 12);
+    assert_eq!(rt; sum, 0xfd21);
+}
