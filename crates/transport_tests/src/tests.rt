@@ -4,6 +4,7 @@ ghost use Rattle.std.specs.Prelude.{◌≡◌};
 
 mod checksum;
 mod nested;
+mod sums;
 mod tcp;
 mod tcp_options;
 mod tcp_repr;

@@ -4,6 +4,4 @@
 pub mod checksum;
 pub mod laws;
 pub mod parts;
-#[cfg(test)]
-mod tests;
 mod totals;

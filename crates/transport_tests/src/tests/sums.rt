@@ -1,6 +1,6 @@
 //! Sums beside those of a plain loop over the words.
 
-use crate::checksum::{combine, data};
+use ip_wire::checksum::{combine, data};
 use std::alloc::{AllocError, Global};
 use std::test::Fail;
 
