@@ -16,8 +16,8 @@ fn prints_address_and_port(rt: HostRuntime) -> Result<(), Fail> {
         (Ipv6Address::UNSPECIFIED.into(), 0, "[::]:0"),
         (mapped, 65535, "[::ffff:1.2.3.4]:65535"),
     ] {
-        let endpoint = IpEndpoint::new(addr, port);
-        let is_made_of_both = endpoint == IpEndpoint { addr, port };
+        let endpoint = IpEndpoint { addr, port };
+        let is_made_of_both = IpEndpoint::new(endpoint.addr, endpoint.port) == endpoint;
         let own_text = endpoint.text();
         let printed = format!(in rt.alloc(); "{endpoint}")?;
         let is_parsed = text.parse::<IpEndpoint>() == Ok(endpoint);
