@@ -6,10 +6,12 @@ tests/compare.py PROGRAM SEED LINES REFERENCE [WORD..]
 The lines are made of the recorded frames and of random ones, with fields, bytes and
 lengths changed. Each seed gives its own lines, the same in each run.
 """
+import io
 import random
 import shutil
 import subprocess
 import sys
+from itertools import zip_longest
 
 import packets
 import record
@@ -104,11 +106,18 @@ def corpus(seed, lines):
 
 
 def answers(target, command, text, end):
+    """What a program prints for a text, split behind each end. The last answer may have no end."""
     try:
         output = subprocess.run(command, input=text, stdout=subprocess.PIPE, check=True).stdout
     except (OSError, subprocess.CalledProcessError) as error:
         sys.exit(f"{target}: {command[0]} fails: {error}")
-    return output.split(end)
+    *whole, rest = output.split(end)
+    return [answer + end for answer in whole] + [rest] * bool(rest)
+
+
+def shown(answer):
+    """An answer as bytes, line by line."""
+    return "\n".join(map(repr, io.BytesIO(answer))) or "nothing"
 
 
 def compare(target, usage, corpus, end):
@@ -122,14 +131,12 @@ def compare(target, usage, corpus, end):
         sys.exit(f"{target}: there is no program {reference[0]}")
     made = list(corpus(int(seed), int(lines)))
     for at in range(0, len(made), AT_ONCE):
-        part = made[at : at + AT_ONCE]
-        text = b"".join(line + b"\n" for line in part)
+        part = [line + b"\n" for line in made[at : at + AT_ONCE]]
+        text = b"".join(part)
         ours, theirs = answers(target, [program], text, end), answers(target, reference, text, end)
-        for line, one, other in zip(part, ours, theirs):
+        for line, one, other in zip_longest(part, ours, theirs, fillvalue=b""):
             if one != other:
-                sys.exit(f"line\n{line!r}\n{program} prints\n{one.decode()}\nthe reference prints\n{other.decode()}")
-        if len(ours) != len(theirs):
-            sys.exit(f"the outputs differ in length: {len(ours)} and {len(theirs)} answers")
+                sys.exit(f"line\n{shown(line)}\n{program} prints\n{shown(one)}\nthe reference prints\n{shown(other)}")
     print(f"{len(made)} lines, no difference")
 
 
