@@ -1,4 +1,4 @@
-//! Runs over devices that fail.
+//! Runs over devices that hold, and over devices that fail.
 
 use crate::devices::{FrameSink, FrameSource};
 use crate::memory::{MemorySink, MemorySource};
@@ -6,6 +6,18 @@ use crate::run::{RunError, run};
 use crate::tests::examples::EXAMPLES;
 use crate::tests::fakes::{FailingSource, StuckSink};
 use std::alloc::AllocError;
+
+#[test]
+fn a_line_has_a_block(rt: HostRuntime) {
+    for (input, output) in EXAMPLES {
+        let mut room = [0; 512];
+        let mut source = MemorySource::new(input);
+        let mut sink = MemorySink::new(&mut room);
+        assert_eq!(rt; run(rt.alloc(), &mut source, &mut sink), Ok(()));
+        assert_eq!(rt; sink.written(), output);
+        assert!(rt; sink.flushed());
+    }
+}
 
 #[test]
 fn a_source_that_fails_leaves_nothing_written(rt: HostRuntime) {
