@@ -1,12 +1,13 @@
 -- What is not read stays.
-use Rattle.std.proofs.Common.{ℕ, ◌≡◌, ◌<◌, ◌/◌, ◌%◌, inl, inr, true, List, [], ◌∷◌, ◌++◌, Option, Some, None, drop, length, slice_range, refl, sym, ap, subst, ◌∙◌, arith}
+use Rattle.std.proofs.Common.{ℕ, ◌≡◌, ◌<◌, ◌/◌, ◌%◌, ◌⊎◌, inl, inr, Bool, true, false, List, [], ◌∷◌, ◌++◌, Option, Some, None, drop, length, slice_range, refl, sym, ap, subst, ◌∙◌, arith}
+use Rattle.std.specs.Prelude.{⊤}
 use Rattle.std.specs.Int.{bytes_high_first}
 use Rattle.std.specs.Option.{option_map}
 use Rattle.ip_wire.proofs.Frames.{ipv4_packet_of-fragment, ipv4_packet_of-unread, rebuilt-ipv4, rebuilt-ipv4-copied, rebuilt-ipv6, rebuilt-ipv6-copied, rebuilt-read}
 use Rattle.ip_wire.proofs.Layers.{length-part, rebuilt_by-None}
 use Rattle.ip_wire.proofs.TcpLayer.{rebuilt-tcp-copied}
 use Rattle.ip_wire.proofs.UdpLayer.{rebuilt-udp-copied}
-use Rattle.ip_wire.specs.Frame.{IsUnread, IsUnreadBetween, IsUnreadTransport, ReadsPacket, all_checked, arp, ethernet, ipv4_payload, packet_payload, rebuilt, rebuilt_between, rebuilt_packet, rebuilt_payload, type_of}
+use Rattle.ip_wire.specs.Frame.{CarriesMessage, CarriesPacket, CarriesTransport, ReadsBetween, ReadsPacket, all_checked, arp, datagram, ethernet, segment, ipv4_payload, packet_payload, rebuilt, rebuilt_between, rebuilt_packet, rebuilt_payload, type_of}
 use Rattle.wire_field.proofs.Cells.{cells-drop}
 use Rattle.wire_field.proofs.Spelled.{AreBytes}
 use Rattle.wire_field.specs.Field.{field}
@@ -20,28 +21,40 @@ use Rattle.wire_ip.specs.declared.IpRepr.TheVariants.{Ipv4, Ipv6}
 use Rattle.wire_ipv6.proofs.Ipv6Computed.{ipv6_of-Reads}
 use Rattle.wire_ipv6.specs.Ipv6 as ipv6
 use Rattle.wire_ipv6.specs.Ipv6.{ipv6_of}
+use Rattle.wire_ipv6.specs.declared.Ipv6Repr.{Ipv6Repr}
 use Rattle.wire_ipv4.proofs.Ipv4Computed.{ipv4_of-Reads}
+use Rattle.wire_ipv4.specs.Ipv4 as ipv4
 use Rattle.wire_ipv4.specs.Ipv4.{header_len, ipv4_of, total_len}
+use Rattle.wire_ipv4.specs.declared.Ipv4Repr.{Ipv4Repr}
 use Rattle.wire_arp.proofs.ArpComputed.{arp_of-Reads}
+use Rattle.wire_arp.specs.Arp as arp_packet
 use Rattle.wire_arp.specs.Arp.{arp_of}
 use Rattle.wire_arp.specs.declared.ArpRepr.{ArpRepr}
-use Rattle.wire_ethernet.proofs.EthernetComputed.{ethernet_of-Reads, ethernet_of-Some}
+use Rattle.wire_ethernet.proofs.EthernetComputed.{ethernet_of-Reads}
 use Rattle.wire_ethernet.proofs.EthernetNormal.{number_of-protocol_of}
 use Rattle.wire_ethernet.specs.Ethernet.{Reads, bytes_of, ethernet_of, number_of}
 use Rattle.wire_ethernet.specs.declared.EthernetProtocol.{EthernetProtocol}
 use Rattle.wire_ethernet.specs.declared.EthernetProtocol.TheVariants as ethertype
 use Rattle.wire_ethernet.specs.declared.EthernetRepr.{EthernetRepr}
 use Rattle.wire_tcp_repr.proofs.TcpComputed.{tcp_of-Reads}
-use Rattle.wire_tcp_repr.specs.TcpRepr.{tcp_of}
+use Rattle.wire_tcp_repr.specs.TcpRepr.{TcpHeader, tcp_of}
 use Rattle.wire_udp.proofs.UdpComputed.{udp_of-Reads}
 use Rattle.wire_udp.specs.Udp.{udp_of}
+use Rattle.wire_udp.specs.declared.UdpRepr.{UdpRepr}
+
+-- what a frame of this type carries is not read: it is no packet with its checksum, or a fragment
+abbrev IsUnread : EthernetProtocol → List ℕ → Type 0
+IsUnread ethertype.Ipv4 bytes = ((w : Ipv4Repr) → ¬ ipv4.Reads bytes true w) ⊎ (ipv4.is_fragment bytes ≡ true)
+IsUnread ethertype.Ipv6 bytes = (w : Ipv6Repr) → ¬ ipv6.Reads bytes w
+IsUnread ethertype.Arp bytes = (w : ArpRepr) → ¬ arp_packet.Reads bytes w
+IsUnread (ethertype.Unknown n) bytes = ⊤
 
 -- an option that is no value is none
 none_of : {A : Type 0} (o : Option A) → ((a : A) → ¬ (o ≡ Some a)) → o ≡ None
 none_of None h = refl
 none_of (Some a) h = absurd (h a refl)
 
-pub payload-stays : (t : EthernetProtocol) (bytes : List ℕ) → IsUnread t bytes → rebuilt_payload t bytes ≡ bytes
+payload-stays : (t : EthernetProtocol) (bytes : List ℕ) → IsUnread t bytes → rebuilt_payload t bytes ≡ bytes
 payload-stays ethertype.Ipv4 bytes (inl h) =
     rebuilt-ipv4-copied bytes (ipv4_packet_of-unread bytes (none_of (ipv4_of true bytes) (λ w e. h w ((ipv4_of-Reads true bytes w).0 e))))
 payload-stays ethertype.Ipv4 bytes (inr part) = rebuilt-ipv4-copied bytes (ipv4_packet_of-fragment bytes part)
@@ -75,7 +88,21 @@ header-stays frame v are r =
     ∙ subst (λ f. (slice_range f 0 6 ++ slice_range f 6 12 ++ bytes_high_first 2 (field f 96 16)) ++ drop 14 f ≡ f) (sym parts)
     (header-again _ _ _ _ _ _ _ _ _ _ _ _ _ _ (drop 14 frame) (are_cells 12) (are_cells 13))
 
-pub carried-stays : (frame : List ℕ) (v : EthernetRepr) → AreBytes frame → Reads frame v → IsUnread v.ethertype (drop 14 frame) → rebuilt frame ≡ frame
+-- no packet of IPv4 is read of the bytes, whether they are a fragment or not
+ipv4-unread : (bytes : List ℕ) (part : Bool) → ipv4.is_fragment bytes ≡ part → ((w : Ipv4Repr) → ¬ ReadsPacket all_checked bytes (Ipv4 w))
+    → IsUnread ethertype.Ipv4 bytes
+ipv4-unread bytes true is h = inr is
+ipv4-unread bytes false is h = inl (λ w r. h w (r, is))
+
+-- what is read of no bytes of this type
+carried-unread : (t : EthernetProtocol) (bytes : List ℕ) → ((w : ArpRepr) → t ≡ ethertype.Arp → ¬ arp_packet.Reads bytes w)
+    → ((w : IpRepr) → t ≡ type_of w → ¬ ReadsPacket all_checked bytes w) → IsUnread t bytes
+carried-unread ethertype.Ipv4 bytes message packet = ipv4-unread bytes (ipv4.is_fragment bytes) refl (λ w. packet (Ipv4 w) refl)
+carried-unread ethertype.Ipv6 bytes message packet = λ w. packet (Ipv6 w) refl
+carried-unread ethertype.Arp bytes message packet = λ w. message w refl
+carried-unread (ethertype.Unknown n) bytes message packet = record {}
+
+carried-stays : (frame : List ℕ) (v : EthernetRepr) → AreBytes frame → Reads frame v → IsUnread v.ethertype (drop 14 frame) → rebuilt frame ≡ frame
 carried-stays frame v are r h =
     rebuilt-read frame v ((ethernet_of-Reads frame v).1 r)
     ∙ ap (λ rest. bytes_of v ++ rest) (payload-stays v.ethertype (drop 14 frame) h)
@@ -83,26 +110,29 @@ carried-stays frame v are r h =
 
 -- ---- what a packet carries
 
-between-stays : (t : IpProtocol) (src dst : IpAddress) (bytes : List ℕ) → IsUnreadBetween t src dst bytes → rebuilt_between t src dst bytes ≡ bytes
-between-stays protocol.Udp src dst bytes h =
-    rebuilt-udp-copied src dst bytes (none_of (udp_of src dst true bytes) (λ v e. h v _ ((udp_of-Reads src dst true bytes v).0 e)))
-between-stays protocol.Tcp src dst bytes h =
-    rebuilt-tcp-copied src dst bytes (none_of (tcp_of src dst true bytes) (λ v e. h v _ ((tcp_of-Reads src dst true bytes v).0 e)))
-between-stays _ src dst bytes h = refl
+between-stays : (t : IpProtocol) (src dst : IpAddress) (bytes : List ℕ)
+    → ((v : UdpRepr) (payload : List ℕ) → ¬ ReadsBetween all_checked t src dst bytes (datagram v payload))
+    → ((v : TcpHeader) (payload : List ℕ) → ¬ ReadsBetween all_checked t src dst bytes (segment v payload))
+    → rebuilt_between t src dst bytes ≡ bytes
+between-stays protocol.Udp src dst bytes h k =
+    rebuilt-udp-copied src dst bytes (none_of (udp_of src dst true bytes) (λ v e. h v _ (refl, (udp_of-Reads src dst true bytes v).0 e)))
+between-stays protocol.Tcp src dst bytes h k =
+    rebuilt-tcp-copied src dst bytes (none_of (tcp_of src dst true bytes) (λ v e. k v _ (refl, (tcp_of-Reads src dst true bytes v).0 e)))
+between-stays _ src dst bytes h k = refl
 
 -- a packet with the length that it has
-packet-stays : (w : IpRepr) (payload : List ℕ) → payload_len_of w ≡ length payload → IsUnreadTransport w payload
+packet-stays : (w : IpRepr) (payload : List ℕ) → payload_len_of w ≡ length payload → ¬ CarriesTransport w payload
     → rebuilt_packet w payload ≡ ip.bytes_of w true ++ payload
 packet-stays (Ipv4 w) payload is h =
-    let stays = between-stays _ _ _ payload h in
+    let stays = between-stays _ _ _ payload (λ v p r. h (inl (v, p, r))) (λ v p r. h (inr (v, p, r))) in
     ap (λ inner. ip.bytes_of (with_payload_len (Ipv4 w) (length inner)) true ++ inner) stays
     ∙ ap (λ n. ip.bytes_of (with_payload_len (Ipv4 w) n) true ++ payload) (sym is)
 packet-stays (Ipv6 w) payload is h =
-    let stays = between-stays _ _ _ payload h in
+    let stays = between-stays _ _ _ payload (λ v p r. h (inl (v, p, r))) (λ v p r. h (inr (v, p, r))) in
     ap (λ inner. ip.bytes_of (with_payload_len (Ipv6 w) (length inner)) true ++ inner) stays
     ∙ ap (λ n. ip.bytes_of (with_payload_len (Ipv6 w) n) true ++ payload) (sym is)
 
-transport-stays : (w : IpRepr) (bytes : List ℕ) → ReadsPacket all_checked bytes w → IsUnreadTransport w (packet_payload w bytes)
+transport-stays : (w : IpRepr) (bytes : List ℕ) → ReadsPacket all_checked bytes w → ¬ CarriesTransport w (packet_payload w bytes)
     → rebuilt_payload (type_of w) bytes ≡ ip.bytes_of w true ++ packet_payload w bytes
 transport-stays (Ipv4 w) bytes (r, whole) h =
     let len : w.payload_len ≡ length (ipv4_payload bytes) = r.payload_len ∙ sym (length-part bytes (header_len bytes) (total_len bytes) r.lengths.whole) in
@@ -112,17 +142,25 @@ transport-stays (Ipv6 w) bytes r h =
     rebuilt-ipv6 bytes w ((ipv6_of-Reads bytes w).1 r) ∙ packet-stays (Ipv6 w) (ipv6.payload_of bytes) len h
 
 pub payload-unread-stays : (frame : List ℕ) (v : EthernetRepr) (w : IpRepr) → Reads frame v → v.ethertype ≡ type_of w
-    → ReadsPacket all_checked (drop 14 frame) w → IsUnreadTransport w (packet_payload w (drop 14 frame))
+    → ReadsPacket all_checked (drop 14 frame) w → ¬ CarriesTransport w (packet_payload w (drop 14 frame))
     → rebuilt frame ≡ bytes_of v ++ (ip.bytes_of w true ++ packet_payload w (drop 14 frame))
 payload-unread-stays frame v w r type read h =
     rebuilt-read frame v ((ethernet_of-Reads frame v).1 r)
     ∙ ap (λ t. bytes_of v ++ rebuilt_payload t (drop 14 frame)) type
     ∙ ap (λ rest. bytes_of v ++ rest) (transport-stays w (drop 14 frame) read h)
 
--- ---- a frame that is too short
+-- ---- a frame
 
-pub short-stays : (frame : List ℕ) → length frame < 14 → rebuilt frame ≡ frame
+-- a frame of no header stays, and so does one that carries nothing that is read
+header-or-stays : (frame : List ℕ) (read : Option EthernetRepr) → ethernet_of frame ≡ read → AreBytes frame
+    → ¬ CarriesMessage frame → ¬ CarriesPacket frame → rebuilt frame ≡ frame
 unfolding rebuilt
-short-stays frame h =
-    let unread = none_of (ethernet_of frame) (λ v e. let long = ethernet_of-Some frame v e in omega (arith, long, h)) in
-    rebuilt_by-None ethernet (λ v. rebuilt_payload v.ethertype) frame (ap (option_map (λ (v : EthernetRepr). (v, drop 14 frame))) unread)
+header-or-stays frame None e are message packet =
+    rebuilt_by-None ethernet (λ v. rebuilt_payload v.ethertype) frame (ap (option_map (λ (v : EthernetRepr). (v, drop 14 frame))) e)
+header-or-stays frame (Some v) e are message packet =
+    let r = (ethernet_of-Reads frame v).0 e in
+    carried-stays frame v are r
+    (carried-unread v.ethertype (drop 14 frame) (λ w type read. message (v, w, r, type, read)) (λ w type read. packet (v, w, r, type, read)))
+
+pub frame-stays : (frame : List ℕ) → AreBytes frame → ¬ CarriesMessage frame → ¬ CarriesPacket frame → rebuilt frame ≡ frame
+frame-stays frame = header-or-stays frame (ethernet_of frame) refl

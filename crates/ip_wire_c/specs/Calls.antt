@@ -13,7 +13,7 @@ use Rattle.ip_wire.specs.Frame.{ipv4_payload, rebuilt}
 use Rattle.ip_wire.specs.Ip.{bytes_of, dst_addr_of, header_len_of, max_payload_len, next_header_of, payload_len_of, src_addr_of}
 use Rattle.ip_wire.specs.Ipv4.{ipv4_of, is_fragment}
 use Rattle.ip_wire.specs.Ipv6.{ipv6_of, payload_of}
-use Rattle.ip_wire.specs.Read.{ReadsIpv4}
+use Rattle.ip_wire.specs.Read.{ReadsEthernet, ReadsIpv4}
 use Rattle.ip_wire.specs.Tcp as tcp_bytes
 use Rattle.ip_wire.specs.TcpRepr as tcp
 use Rattle.ip_wire.specs.TcpRepr.{TcpHeader}
@@ -143,10 +143,11 @@ tcp_header f = record {
 abbrev pub segment_len : TcpFields → ℕ → ℕ
 segment_len f payload_len = tcp.header_len_of (tcp_header f) + payload_len
 
--- whether the fields say a header of at most 60 octets, and the segment fits into so many bytes
+-- whether the fields say a header of at most 60 octets, an IP packet can carry the segment, and it fits into so many bytes
 abbrev pub is_segment_sent : TcpFields → ℕ → ℕ → Bool
 is_segment_sent f payload_len room =
-    is_header f && nat_le (tcp.header_len_of (tcp_header f)) 60 && nat_le (segment_len f payload_len) room
+    is_header f && nat_le (tcp.header_len_of (tcp_header f)) 60
+    && nat_le (segment_len f payload_len) 65535 && nat_le (segment_len f payload_len) room
 
 -- the length of a segment that is written into so many bytes, and 0 where none is
 abbrev pub sent_segment_len : TcpFields → ℕ → ℕ → ℕ
@@ -168,6 +169,10 @@ pub record IsWritten (text old new : List ℕ) (answer : ℕ) : Type 0 where
 abbrev pub IsRead : {A : Type 0} → (List ℕ → A → Type 0) → List ℕ → A → A → ℕ → Type 0
 IsRead {A} R text old new answer =
     ((answer ≡ 1) × R text new) ⊎ ((answer ≡ 0) × (new ≡ old) × ((value : A) → ¬ (R text value)))
+
+-- the text is read as the Ethernet address of these octets
+abbrev pub ReadsEthernetOctets : List ℕ → List ℕ → Type 0
+ReadsEthernetOctets text octets = ReadsEthernet text (record { 0 = octets })
 
 -- the text is read as the IPv4 address that is this number
 abbrev pub ReadsIpv4Number : List ℕ → ℕ → Type 0

@@ -145,7 +145,7 @@ impl FrameFields {
         let fields = FrameFields {
             src_ethernet: header.src_addr.0,
             dst_ethernet: header.dst_addr.0,
-            ethertype: header.ethertype.into(),
+            ethertype: header.ethertype.number(),
             ..self.behind(ETHERNET_HEADER_LEN, payload.len())
         };
         match header.ethertype {
@@ -200,7 +200,7 @@ impl FrameFields {
                     network: IPV4,
                     src_ipv4: u32::from_be_bytes(header.src_addr.octets()),
                     dst_ipv4: u32::from_be_bytes(header.dst_addr.octets()),
-                    protocol: header.next_header.into(),
+                    protocol: header.next_header.number(),
                     hop_limit: header.hop_limit,
                     is_fragment: u8::from(packet.is_fragment()),
                     ipv4_checksum_holds: ipv4_checksum_holds(&packet),
@@ -231,7 +231,7 @@ impl FrameFields {
                     network: IPV6,
                     src_ipv6: header.src_addr.octets(),
                     dst_ipv6: header.dst_addr.octets(),
-                    protocol: header.next_header.into(),
+                    protocol: header.next_header.number(),
                     hop_limit: header.hop_limit,
                     ..self.behind(IPV6_HEADER_LEN, payload.len())
                 };

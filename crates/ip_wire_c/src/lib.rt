@@ -24,7 +24,7 @@ mod udp;
 
 use frame_fields::FrameFields;
 use ip_wire::{
-    ArpRepr, EthernetAddress, IPV4_HEADER_LEN, IPV6_HEADER_LEN, IpAddress, IpProtocol, Ipv4Address,
+    ArpOperation, ArpRepr, EthernetAddress, IPV4_HEADER_LEN, IPV4_MAX_PAYLOAD_LEN, IPV6_HEADER_LEN, IPV6_MAX_PAYLOAD_LEN, IpAddress, IpProtocol, Ipv4Address,
     Ipv4Cidr, Ipv4PacketMut, Ipv4Repr, Ipv6Address, Ipv6Cidr, Ipv6PacketMut, Ipv6Repr, UdpRepr,
     checksum,
 };
@@ -79,7 +79,7 @@ pub extern "C" fn lk_emit_arp(
         out.new ≡ (if nat_le 28 (length out.old) then arp_bytes value ++ drop 28 out.old else out.old) }
 {
     let value = ArpRepr::EthernetIpv4 {
-        operation: operation.into(),
+        operation: ArpOperation::from(operation),
         source_hardware_addr: EthernetAddress(*source_hardware_addr),
         source_protocol_addr: Ipv4Address::from_octets(source_protocol_addr.to_be_bytes()),
         target_hardware_addr: EthernetAddress(*target_hardware_addr),
@@ -104,7 +104,7 @@ pub extern "C" fn lk_emit_ipv4(
     ensures length { result ≡ emitted_len (ipv4_header src_addr dst_addr protocol hop_limit payload_len) (length out.old) }
     ensures bytes { out.new ≡ emitted (ipv4_header src_addr dst_addr protocol hop_limit payload_len) (not (computed == 0)) out.old }
 {
-    if payload_len > 65_515 || out.len() < IPV4_HEADER_LEN {
+    if payload_len > IPV4_MAX_PAYLOAD_LEN || out.len() < IPV4_HEADER_LEN {
         return 0;
     }
     let header = Ipv4Repr {
@@ -135,7 +135,7 @@ pub extern "C" fn lk_emit_ipv6(
     ensures length { result ≡ emitted_len (ipv6_header src_addr.now dst_addr.now next_header hop_limit payload_len) (length out.old) }
     ensures bytes { out.new ≡ emitted (ipv6_header src_addr.now dst_addr.now next_header hop_limit payload_len) true out.old }
 {
-    if payload_len > 65_535 || out.len() < IPV6_HEADER_LEN {
+    if payload_len > IPV6_MAX_PAYLOAD_LEN || out.len() < IPV6_HEADER_LEN {
         return 0;
     }
     let header = Ipv6Repr {
@@ -193,8 +193,8 @@ pub extern "C" fn lk_emit_udp_ipv6(
 
 /// Writes a TCP segment with this header and payload, to be carried by IPv4 between two addresses, to the
 /// front of `out`, and answers its length: 0 where there is no room for it, the header is longer than 60
-/// octets, or its control or number of ranges is none, and then nothing is written. The checksum is
-/// computed unless `computed` is 0.
+/// octets, the segment is longer than 65,535 octets, or its control or number of ranges is none, and then
+/// nothing is written. The checksum is computed unless `computed` is 0.
 #[unsafe(no_mangle)]
 pub extern "C" fn lk_emit_tcp_ipv4(
     src_addr: u32,

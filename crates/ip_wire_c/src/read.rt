@@ -1,23 +1,22 @@
 //! Texts that are read.
 
 ghost use Rattle.ip_wire.specs.Read.{ReadsIpv6};
-ghost use Rattle.wire_text.specs.Grammar.{IsHexText};
-ghost use Rattle.ip_wire_c.specs.Calls.{IsRead, ReadsIpv4Number, ReadsIpv4Pair, ReadsIpv6Pair};
+ghost use Rattle.ip_wire_c.specs.Calls.{IsRead, ReadsEthernetOctets, ReadsIpv4Number, ReadsIpv4Pair, ReadsIpv6Pair};
 
-use ip_wire::{Ipv4Cidr, Ipv6Address, Ipv6Cidr};
+use ip_wire::{EthernetAddress, Ipv4Address, Ipv4Cidr, Ipv6Address, Ipv6Cidr};
 
 /// Stores the octets that a text is read as, those of an Ethernet address, and answers 1: 0 where it is
 /// none, and then nothing is stored.
 #[unsafe(no_mangle)]
 pub extern "C" fn lk_ethernet_read(text: &[u8], octets: &mut [u8; 6]) -> u8
-    ensures { IsRead IsHexText text.now octets.old octets.new result }
+    ensures { IsRead ReadsEthernetOctets text.now octets.old octets.new result }
 {
-    match wire_text::hex_octets(text) {
-        Some(read) => {
-            *octets = read;
+    match EthernetAddress::parse_ascii(text) {
+        Ok(address) => {
+            *octets = address.0;
             1
         }
-        None => 0,
+        Err(()) => 0,
     }
 }
 
@@ -27,12 +26,12 @@ pub extern "C" fn lk_ethernet_read(text: &[u8], octets: &mut [u8; 6]) -> u8
 pub extern "C" fn lk_ipv4_read(text: &[u8], addr: &mut u32) -> u8
     ensures { IsRead ReadsIpv4Number text.now addr.old addr.new result }
 {
-    match wire_text::octets(text) {
-        Some(octets) => {
-            *addr = u32::from_be_bytes(octets);
+    match Ipv4Address::parse_ascii(text) {
+        Ok(address) => {
+            *addr = u32::from_be_bytes(address.octets());
             1
         }
-        None => 0,
+        Err(()) => 0,
     }
 }
 
@@ -42,12 +41,12 @@ pub extern "C" fn lk_ipv4_read(text: &[u8], addr: &mut u32) -> u8
 pub extern "C" fn lk_ipv6_read(text: &[u8], octets: &mut [u8; 16]) -> u8
     ensures { IsRead ReadsIpv6 text.now octets.old octets.new result }
 {
-    match wire_text::groups(text) {
-        Some(groups) => {
-            *octets = Ipv6Address::from(groups).octets();
+    match Ipv6Address::parse_ascii(text) {
+        Ok(address) => {
+            *octets = address.octets();
             1
         }
-        None => 0,
+        Err(()) => 0,
     }
 }
 

@@ -7,14 +7,11 @@ ghost use Rattle.ip_wire.specs.TcpRepr.{bytes_of, header_len_of, header_of};
 ghost use Rattle.ip_wire_c.specs.Calls.{Fills, sent_segment, sent_segment_len};
 
 use crate::tcp_fields::TcpFields;
-use ip_wire::{IpAddress, TcpPacketMut, TcpRepr};
+use ip_wire::{IPV6_MAX_PAYLOAD_LEN, IpAddress, TCP_MAX_HEADER_LEN, TcpPacketMut, TcpRepr};
 use net_base::ChecksumCapabilities;
 
-// The length of the longest header that the field "data offset" can say, in octets.
-const MAX_HEADER_LEN: usize = 60;
-
 /// Writes a segment between two addresses to the front of `out`, and answers its length: 0 where it
-/// doesn't fit, or there is no such header, and then nothing is written.
+/// doesn't fit, there is no such header, or no IP packet can carry it, and then nothing is written.
 #[inline(always)]
 pub fn send(
     header: &TcpFields,
@@ -29,7 +26,10 @@ pub fn send(
     ensures bytes { out.new ≡ sent_segment header.now src_addr dst_addr payload.now (computes caps.now.tcp) out.old }
 {
     match header.segment(payload) {
-        Some(segment) if segment.header_len() <= MAX_HEADER_LEN => {
+        Some(segment)
+            if segment.header_len() <= TCP_MAX_HEADER_LEN
+                && segment.buffer_len() <= IPV6_MAX_PAYLOAD_LEN =>
+        {
             emit(&segment, src_addr, dst_addr, caps, out).unwrap_or(0)
         }
         _ => 0,

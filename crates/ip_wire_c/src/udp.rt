@@ -6,11 +6,8 @@ ghost use Rattle.ip_wire.specs.Udp.{bytes_of, max_payload_len};
 ghost use Rattle.net_base.specs.Checksum.{computes};
 ghost use Rattle.ip_wire_c.specs.Calls.{Fills, sent, sent_len};
 
-use ip_wire::{IpAddress, UDP_HEADER_LEN, UdpPacketMut, UdpRepr};
+use ip_wire::{IpAddress, UDP_HEADER_LEN, UDP_MAX_PAYLOAD_LEN, UdpPacketMut, UdpRepr};
 use net_base::ChecksumCapabilities;
-
-// The length of the longest payload that a header can say, in octets.
-const MAX_PAYLOAD_LEN: usize = 65_527;
 
 /// Writes a packet between two addresses to the front of `out`, and answers its length: 0 where it
 /// doesn't fit or UDP can't say how long the payload is, and then nothing is written.
@@ -27,7 +24,7 @@ pub fn send(
     ensures len { result ≡ sent_len (length payload.now) (length out.old) }
     ensures bytes { out.new ≡ sent header src_addr dst_addr payload.now (computes caps.now.udp) out.old }
 {
-    if payload.len() > MAX_PAYLOAD_LEN {
+    if payload.len() > UDP_MAX_PAYLOAD_LEN {
         return 0;
     }
     emit(header, src_addr, dst_addr, payload, caps, out).unwrap_or(0)

@@ -1,7 +1,8 @@
 -- A block of addresses: all that have the first bits of one address (RFC 4632, section 3.1). An address is the list of
 -- its octets, four or sixteen of them.
-use Rattle.std.specs.Prelude.{ℕ, ◌≤◌, List}
+use Rattle.std.specs.Prelude.{ℕ, ◌≤◌, ◌++◌, List}
 use Rattle.std.specs.Cmp.Lexicographic.{slice_cmp}
+use Rattle.std.specs.Hash as hash
 use Rattle.std.specs.Ordering.{nat_cmp, ordering_then}
 use Rattle.std.specs.declared.cmp.Ordering.{Ordering}
 use Rattle.wire_addr.specs.Octets.{AreOctets}
@@ -33,3 +34,7 @@ pub record IsGreatest (n : ℕ) (block : Block) (address : List ℕ) : Type 0 wh
 -- how blocks compare: by their addresses, octet by octet, and then by the lengths of their prefixes
 abbrev pub block_cmp : Block → Block → Ordering
 block_cmp a b = ordering_then (slice_cmp nat_cmp a.address b.address) (nat_cmp a.prefix_len b.prefix_len)
+
+-- what is hashed of a block: the octets of its address and the length of its prefix
+abbrev pub block_hash : Block → hash.HashWrites
+block_hash block = hash.slice hash.u8 block.address ++ hash.u8 block.prefix_len

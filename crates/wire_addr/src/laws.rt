@@ -1,17 +1,16 @@
-//! What holds by the definitions alone, and of what is derived. The functions that answer nothing do
-//! nothing when they run.
+//! What holds by the definitions alone, and of what is derived. The functions do nothing when they run.
 
 ghost use Rattle.std.specs.Prelude.{◌≡◌, ◌↔◌, true};
 ghost use Rattle.std.specs.Cmp.Lexicographic.{slice_cmp};
+ghost use Rattle.std.specs.Hash as hash;
 ghost use Rattle.std.specs.Ordering.{nat_cmp};
 ghost use Rattle.std.specs.declared.cmp.Ordering.TheVariants.{Equal};
-ghost use Rattle.wire_addr.specs.Block.{block_cmp};
+ghost use Rattle.wire_addr.specs.Block.{block_cmp, block_hash};
 ghost use Rattle.wire_addr.specs.BlockText.{ReadsIpv4Block, ReadsIpv6Block};
 ghost use Rattle.wire_addr.specs.Printed.{IsIpv6Print, block_text, dashed, dotted, ipv6_text};
 ghost use Rattle.wire_addr.specs.Read.{ReadsEthernet, ReadsIpv4, ReadsIpv6};
 
 use crate::{EthernetAddress, Ipv4Address, Ipv4Cidr, Ipv6Address, Ipv6Cidr};
-use std::cmp::Ordering;
 use std::hash::Hash;
 
 /// The text of an address is the one that the rule for printing it asks for.
@@ -72,36 +71,44 @@ pub fn print_reads_back_ipv6_cidr(block: Ipv6Cidr)
     let _prefix_len = block.prefix_len();
 }
 
-/// Values are equal exactly where neither comes before the other, and equal ones are hashed alike.
-pub fn order_agrees<T: Ord + Hash>(a: &T, b: &T)
-    ensures order { (T.cmp a.now b.now ≡ Equal) ↔ (T.eq a.now b.now ≡ true) }
-    ensures hash { T.eq a.now b.now ≡ true → T.hash_input a.now ≡ T.hash_input b.now }
+/// Values are equal exactly where neither comes before the other.
+pub fn order_agrees<T: Ord>(a: &T, b: &T)
+    ensures { (T.cmp a.now b.now ≡ Equal) ↔ (T.eq a.now b.now ≡ true) }
 {}
 
-/// IPv4 addresses are ordered by their octets.
-pub fn ipv4_address_order(a: Ipv4Address, b: Ipv4Address) -> Ordering
-    ensures { result ≡ slice_cmp nat_cmp a b }
-{
-    a.cmp(&b)
-}
+/// Equal values are hashed alike.
+pub fn hash_agrees<T: Hash>(a: &T, b: &T)
+    ensures { T.eq a.now b.now ≡ true → T.hash_input a.now ≡ T.hash_input b.now }
+{}
 
-/// IPv6 addresses are ordered by their octets.
-pub fn ipv6_address_order(a: Ipv6Address, b: Ipv6Address) -> Ordering
-    ensures { result ≡ slice_cmp nat_cmp a b }
-{
-    a.cmp(&b)
-}
+/// Ethernet addresses are ordered by their octets, and all octets are hashed.
+pub fn ethernet_address_order(a: EthernetAddress, b: EthernetAddress)
+    ensures order { ⟦<EthernetAddress as Ord>⟧.cmp a b ≡ slice_cmp nat_cmp a.0 b.0 }
+    ensures hash { ⟦<EthernetAddress as Hash>⟧.hash_input a ≡ hash.slice hash.u8 a.0 }
+{}
 
-/// IPv4 blocks are ordered by their addresses, and those of one address by the lengths of their prefixes.
-pub fn ipv4_block_order(a: Ipv4Cidr, b: Ipv4Cidr) -> Ordering
-    ensures { result ≡ block_cmp a b }
-{
-    a.cmp(&b)
-}
+/// IPv4 addresses are ordered by their octets, and all octets are hashed.
+pub fn ipv4_address_order(a: Ipv4Address, b: Ipv4Address)
+    ensures order { ⟦<Ipv4Address as Ord>⟧.cmp a b ≡ slice_cmp nat_cmp a b }
+    ensures hash { ⟦<Ipv4Address as Hash>⟧.hash_input a ≡ hash.slice hash.u8 a }
+{}
 
-/// IPv6 blocks are ordered by their addresses, and those of one address by the lengths of their prefixes.
-pub fn ipv6_block_order(a: Ipv6Cidr, b: Ipv6Cidr) -> Ordering
-    ensures { result ≡ block_cmp a b }
-{
-    a.cmp(&b)
-}
+/// IPv6 addresses are ordered by their octets, and all octets are hashed.
+pub fn ipv6_address_order(a: Ipv6Address, b: Ipv6Address)
+    ensures order { ⟦<Ipv6Address as Ord>⟧.cmp a b ≡ slice_cmp nat_cmp a b }
+    ensures hash { ⟦<Ipv6Address as Hash>⟧.hash_input a ≡ hash.slice hash.u8 a }
+{}
+
+/// IPv4 blocks are ordered by their addresses, and blocks with one address by their prefix lengths. Both
+/// are hashed.
+pub fn ipv4_block_order(a: Ipv4Cidr, b: Ipv4Cidr)
+    ensures order { ⟦<Ipv4Cidr as Ord>⟧.cmp a b ≡ block_cmp a b }
+    ensures hash { ⟦<Ipv4Cidr as Hash>⟧.hash_input a ≡ block_hash a }
+{}
+
+/// IPv6 blocks are ordered by their addresses, and blocks with one address by their prefix lengths. Both
+/// are hashed.
+pub fn ipv6_block_order(a: Ipv6Cidr, b: Ipv6Cidr)
+    ensures order { ⟦<Ipv6Cidr as Ord>⟧.cmp a b ≡ block_cmp a b }
+    ensures hash { ⟦<Ipv6Cidr as Hash>⟧.hash_input a ≡ block_hash a }
+{}

@@ -14,7 +14,17 @@ impl FromStr for EthernetAddress {
     ghost from_str_gives = { Parses ReadsEthernet };
 
     fn from_str(s: &str) -> Result<EthernetAddress, ()> {
-        match hex_octets(s.as_bytes()) {
+        EthernetAddress::parse_ascii(s.as_bytes())
+    }
+}
+
+impl EthernetAddress {
+    /// Reads an address as `from_str` does, from the bytes of its text.
+    #[inline]
+    pub fn parse_ascii(text: &[u8]) -> Result<EthernetAddress, ()>
+        ensures { Parses ReadsEthernet text.now result }
+    {
+        match hex_octets(text) {
             Some(octets) => Ok(EthernetAddress(octets)),
             None => Err(()),
         }

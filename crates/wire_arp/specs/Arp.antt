@@ -23,6 +23,11 @@ abbrev pub hardware_number : ArpHardware → ℕ
 hardware_number hardware.Ethernet = 1
 hardware_number (hardware.Unknown n) = n
 
+-- whether a kind of hardware address is an unknown number: 1 where it is one, else 0
+abbrev pub is_unknown_hardware : ArpHardware → ℕ
+is_unknown_hardware (hardware.Unknown n) = 1
+is_unknown_hardware h = 0
+
 -- the operation that a number names
 abbrev pub operation_of : ℕ → ArpOperation
 operation_of n = if n == 1 then operation.Request else (if n == 2 then operation.Reply else operation.Unknown n)
@@ -32,6 +37,11 @@ abbrev pub operation_number : ArpOperation → ℕ
 operation_number operation.Request = 1
 operation_number operation.Reply = 2
 operation_number (operation.Unknown n) = n
+
+-- whether an operation is an unknown number: 1 where it is one, else 0
+abbrev pub is_unknown_operation : ArpOperation → ℕ
+is_unknown_operation (operation.Unknown n) = 1
+is_unknown_operation o = 0
 
 -- what is read of an operation's number: a number of the table has its own name
 abbrev pub known_operation : ArpOperation → ArpOperation

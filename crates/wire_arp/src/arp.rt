@@ -21,6 +21,19 @@ pub enum ArpHardware {
     Unknown(u16),
 }
 
+impl ArpHardware {
+    /// The number in the packet's field for the hardware (RFC 826, `ar$hrd`).
+    #[inline(always)]
+    pub fn number(self) -> u16
+        ensures { result ≡ hardware_number self }
+    {
+        match self {
+            ArpHardware::Ethernet => 1,
+            ArpHardware::Unknown(other) => other,
+        }
+    }
+}
+
 impl From<u16> for ArpHardware {
     ghost from_gives = { λ n h. h ≡ hardware_of n };
 
@@ -38,10 +51,7 @@ impl From<ArpHardware> for u16 {
 
     #[inline(always)]
     fn from(value: ArpHardware) -> u16 {
-        match value {
-            ArpHardware::Ethernet => 1,
-            ArpHardware::Unknown(other) => other,
-        }
+        value.number()
     }
 }
 
@@ -54,6 +64,20 @@ pub enum ArpOperation {
     Reply,
     /// Any other number. The number of a named operation is never read as this, but may be written.
     Unknown(u16),
+}
+
+impl ArpOperation {
+    /// The number in the packet's field for the operation (RFC 826, `ar$op`).
+    #[inline(always)]
+    pub fn number(self) -> u16
+        ensures { result ≡ operation_number self }
+    {
+        match self {
+            ArpOperation::Request => 1,
+            ArpOperation::Reply => 2,
+            ArpOperation::Unknown(other) => other,
+        }
+    }
 }
 
 impl From<u16> for ArpOperation {
@@ -74,10 +98,6 @@ impl From<ArpOperation> for u16 {
 
     #[inline(always)]
     fn from(value: ArpOperation) -> u16 {
-        match value {
-            ArpOperation::Request => 1,
-            ArpOperation::Reply => 2,
-            ArpOperation::Unknown(other) => other,
-        }
+        value.number()
     }
 }

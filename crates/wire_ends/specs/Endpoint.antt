@@ -1,11 +1,12 @@
 -- Addresses with a port.
-use Rattle.std.specs.Prelude.{ℕ, ◌≡◌, ◌≢◌, ◌⊎◌, Option, Some, None, IsSome, List, ◌∷◌, ◌++◌, codes, decimal}
+use Rattle.std.specs.Prelude.{ℕ, ◌≡◌, ◌≢◌, ◌⊎◌, ◌∷◌, ◌++◌, Option, Some, None, IsSome, List, codes, decimal}
+use Rattle.std.specs.Hash as hash
 use Rattle.std.specs.Option.{option_cmp}
 use Rattle.std.specs.Ordering.{nat_cmp, ordering_then}
 use Rattle.std.specs.declared.cmp.Ordering.{Ordering}
 use Rattle.wire_addr.specs.Printed.{dotted, ipv6_text}
 use Rattle.wire_addr.specs.Read.{ReadsIpv4, ReadsIpv6}
-use Rattle.wire_ends.specs.IpAddress.{ReadsAddress, address_cmp}
+use Rattle.wire_ends.specs.IpAddress.{ReadsAddress, address_cmp, address_hash}
 use Rattle.wire_ends.specs.declared.ip_address.IpAddress.{IpAddress}
 use Rattle.wire_ends.specs.declared.ip_address.IpAddress.TheVariants.{Ipv4, Ipv6}
 use Rattle.wire_ends.specs.declared.ip_endpoint.IpEndpoint.{IpEndpoint}
@@ -83,3 +84,11 @@ endpoint_cmp a b = ordering_then (address_cmp a.addr b.addr) (nat_cmp a.port b.p
 -- by address, no address before each one, then by port
 abbrev pub listening_cmp : IpListenEndpoint → IpListenEndpoint → Ordering
 listening_cmp a b = ordering_then (option_cmp address_cmp a.addr b.addr) (nat_cmp a.port b.port)
+
+-- what is hashed of an endpoint: its address and its port
+abbrev pub endpoint_hash : IpEndpoint → hash.HashWrites
+endpoint_hash endpoint = address_hash endpoint.addr ++ hash.u16 endpoint.port
+
+-- what is hashed of a listening endpoint: its address, if it has one, and its port
+abbrev pub listening_hash : IpListenEndpoint → hash.HashWrites
+listening_hash endpoint = hash.option address_hash endpoint.addr ++ hash.u16 endpoint.port

@@ -1,6 +1,7 @@
 -- Addresses of either version of the Internet Protocol.
-use Rattle.std.specs.Prelude.{ℕ, ◌≡◌, List}
+use Rattle.std.specs.Prelude.{ℕ, ◌≡◌, ◌++◌, List, pos}
 use Rattle.std.specs.Cmp.Lexicographic.{slice_cmp}
+use Rattle.std.specs.Hash as hash
 use Rattle.std.specs.Ordering.{nat_cmp}
 use Rattle.std.specs.declared.cmp.Ordering.{Ordering}
 use Rattle.std.specs.declared.cmp.Ordering.TheVariants.{Less, Greater}
@@ -74,3 +75,8 @@ address_cmp (Ipv4 a) (Ipv4 b) = slice_cmp nat_cmp a b
 address_cmp (Ipv4 a) (Ipv6 b) = Less
 address_cmp (Ipv6 a) (Ipv4 b) = Greater
 address_cmp (Ipv6 a) (Ipv6 b) = slice_cmp nat_cmp a b
+
+-- what is hashed of an address: the place of its version, and its octets
+abbrev pub address_hash : IpAddress → hash.HashWrites
+address_hash (Ipv4 octets) = hash.isize (pos 0) ++ hash.slice hash.u8 octets
+address_hash (Ipv6 octets) = hash.isize (pos 1) ++ hash.slice hash.u8 octets

@@ -1,8 +1,9 @@
 -- Blocks of addresses of either version.
-use Rattle.std.specs.Prelude.{ℕ, List}
+use Rattle.std.specs.Prelude.{ℕ, ◌++◌, List, pos}
+use Rattle.std.specs.Hash as hash
 use Rattle.std.specs.declared.cmp.Ordering.{Ordering}
 use Rattle.std.specs.declared.cmp.Ordering.TheVariants.{Less, Greater}
-use Rattle.wire_addr.specs.Block.{IsIn as IsInBlock, block_cmp}
+use Rattle.wire_addr.specs.Block.{IsIn as IsInBlock, block_cmp, block_hash}
 use Rattle.wire_addr.specs.BlockText.{ReadsIpv4Block, ReadsIpv6Block}
 use Rattle.wire_addr.specs.Printed.{block_text, dotted, ipv6_text}
 use Rattle.wire_ends.specs.IpAddress.{IsAddress}
@@ -53,3 +54,8 @@ cidr_cmp (Ipv4 a) (Ipv4 b) = block_cmp a b
 cidr_cmp (Ipv4 a) (Ipv6 b) = Less
 cidr_cmp (Ipv6 a) (Ipv4 b) = Greater
 cidr_cmp (Ipv6 a) (Ipv6 b) = block_cmp a b
+
+-- what is hashed of a block: the place of its version, and what is hashed of the block of that version
+abbrev pub cidr_hash : IpCidr → hash.HashWrites
+cidr_hash (Ipv4 block) = hash.isize (pos 0) ++ block_hash block
+cidr_hash (Ipv6 block) = hash.isize (pos 1) ++ block_hash block

@@ -1,5 +1,6 @@
 -- Versions of the Internet Protocol (RFC 791, section 3.1; RFC 8200, section 3).
-use Rattle.std.specs.Prelude.{ℕ, ◌≡◌, ◌≤◌, ◌/◌, ◌^◌, ◌==◌, nat_le, if◌then◌else◌, Option, Some, None, List, codes, length, slice_index}
+use Rattle.std.specs.Prelude.{ℕ, ◌≡◌, ◌≤◌, ◌/◌, ◌^◌, ◌==◌, nat_le, if◌then◌else◌, Option, Some, None, List, codes, length, pos, slice_index}
+use Rattle.std.specs.Hash as hash
 use Rattle.wire_ends.specs.declared.ip_version.IpVersion.{IpVersion}
 use Rattle.wire_ends.specs.declared.ip_version.IpVersion.TheVariants.{Ipv4, Ipv6}
 
@@ -29,3 +30,8 @@ packet_version bytes = if nat_le 1 (length bytes) then version_named (version_nu
 abbrev pub version_text : IpVersion → List ℕ
 version_text Ipv4 = codes "IPv4"
 version_text Ipv6 = codes "IPv6"
+
+-- what is hashed of a version: its place among the versions
+abbrev pub version_hash : IpVersion → hash.HashWrites
+version_hash Ipv4 = hash.isize (pos 0)
+version_hash Ipv6 = hash.isize (pos 1)

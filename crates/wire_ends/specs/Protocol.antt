@@ -1,5 +1,7 @@
 -- The numbers and names of what IP packets carry.
 use Rattle.std.specs.Prelude.{ℕ, ◌++◌, ◌==◌, if◌then◌else◌, List, codes}
+use Rattle.std.specs.declared.cmp.Ordering.{Ordering}
+use Rattle.wire_addr.specs.Order.{named_cmp}
 use Rattle.wire_addr.specs.Printed.{hex_byte}
 use Rattle.wire_ends.specs.declared.ip_protocol.IpProtocol.{IpProtocol}
 use Rattle.wire_ends.specs.declared.ip_protocol.IpProtocol.TheVariants as protocol
@@ -55,3 +57,12 @@ protocol_text protocol.Icmpv6 = codes "ICMPv6"
 protocol_text protocol.Ipv6NoNxt = codes "IPv6-NoNxt"
 protocol_text protocol.Ipv6Opts = codes "IPv6-Opts"
 protocol_text (protocol.Unknown n) = codes "0x" ++ hex_byte n
+
+-- whether a protocol is an unknown number: 1 where it is one, else 0
+abbrev pub is_unknown : IpProtocol → ℕ
+is_unknown (protocol.Unknown n) = 1
+is_unknown p = 0
+
+-- how protocols compare
+abbrev pub protocol_cmp : IpProtocol → IpProtocol → Ordering
+protocol_cmp = named_cmp is_unknown number_of

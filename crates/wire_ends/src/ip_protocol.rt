@@ -23,6 +23,30 @@ pub enum IpProtocol {
     Unknown(u8),
 }
 
+impl IpProtocol {
+    /// The number in the header field "protocol" or "next header".
+    #[inline(always)]
+    pub fn number(self) -> u8
+        ensures { result ≡ number_of self }
+    {
+        match self {
+            IpProtocol::HopByHop => 0,
+            IpProtocol::Icmp => 1,
+            IpProtocol::Igmp => 2,
+            IpProtocol::Tcp => 6,
+            IpProtocol::Udp => 17,
+            IpProtocol::Ipv6Route => 43,
+            IpProtocol::Ipv6Frag => 44,
+            IpProtocol::IpSecEsp => 50,
+            IpProtocol::IpSecAh => 51,
+            IpProtocol::Icmpv6 => 58,
+            IpProtocol::Ipv6NoNxt => 59,
+            IpProtocol::Ipv6Opts => 60,
+            IpProtocol::Unknown(other) => other,
+        }
+    }
+}
+
 impl From<u8> for IpProtocol {
     ghost from_gives = { λ n p. p ≡ protocol_of n };
 
@@ -51,21 +75,7 @@ impl From<IpProtocol> for u8 {
 
     #[inline(always)]
     fn from(value: IpProtocol) -> u8 {
-        match value {
-            IpProtocol::HopByHop => 0,
-            IpProtocol::Icmp => 1,
-            IpProtocol::Igmp => 2,
-            IpProtocol::Tcp => 6,
-            IpProtocol::Udp => 17,
-            IpProtocol::Ipv6Route => 43,
-            IpProtocol::Ipv6Frag => 44,
-            IpProtocol::IpSecEsp => 50,
-            IpProtocol::IpSecAh => 51,
-            IpProtocol::Icmpv6 => 58,
-            IpProtocol::Ipv6NoNxt => 59,
-            IpProtocol::Ipv6Opts => 60,
-            IpProtocol::Unknown(other) => other,
-        }
+        value.number()
     }
 }
 

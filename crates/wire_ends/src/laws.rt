@@ -1,11 +1,15 @@
 //! What holds of texts and of the derived comparisons. The functions do nothing when they run.
 
 ghost use Rattle.std.specs.Prelude.{◌≡◌, ◌↔◌, true};
-ghost use Rattle.wire_ends.specs.Endpoint.{ReadsEndpoint, endpoint_cmp, endpoint_text, listening_cmp};
-ghost use Rattle.wire_ends.specs.IpAddress.{ReadsAddress, address_cmp, address_text};
-ghost use Rattle.wire_ends.specs.IpCidr.{ReadsCidr, cidr_cmp, cidr_text};
+ghost use Rattle.wire_ends.specs.Endpoint.{ReadsEndpoint, endpoint_cmp, endpoint_hash, endpoint_text, listening_cmp, listening_hash};
+ghost use Rattle.wire_ends.specs.IpAddress.{ReadsAddress, address_cmp, address_hash, address_text};
+ghost use Rattle.wire_ends.specs.IpCidr.{ReadsCidr, cidr_cmp, cidr_hash, cidr_text};
+ghost use Rattle.wire_ends.specs.IpVersion.{number_of, version_hash};
+ghost use Rattle.wire_ends.specs.Protocol.{protocol_cmp};
+ghost use Rattle.std.specs.Ordering.{nat_cmp};
 
-use crate::{IpAddress, IpCidr, IpEndpoint, IpListenEndpoint};
+use crate::{IpAddress, IpCidr, IpEndpoint, IpListenEndpoint, IpProtocol, IpVersion};
+use std::hash::Hash;
 use wire_addr::laws::{print_reads_back_ipv4_cidr, print_reads_back_ipv6_cidr};
 
 /// No text is read as two addresses.
@@ -54,26 +58,43 @@ pub fn print_reads_back_ip_endpoint(endpoint: IpEndpoint)
     print_reads_back_ip_address(endpoint.addr);
 }
 
-/// Addresses are equal as values are, and their order is the defined one.
+/// Addresses are equal exactly as values are. Their order and what is hashed are as defined.
 pub fn ip_address_order(a: &IpAddress, b: &IpAddress)
     ensures order { ⟦<IpAddress as Ord>⟧.cmp a.now b.now ≡ address_cmp a.now b.now }
     ensures equal { (⟦<IpAddress as PartialEq>⟧.eq a.now b.now ≡ true) ↔ (a.now ≡ b.now) }
+    ensures hash { ⟦<IpAddress as Hash>⟧.hash_input a.now ≡ address_hash a.now }
 {}
 
-/// Blocks are equal as values are, and their order is the defined one.
+/// Blocks are equal exactly as values are. Their order and what is hashed are as defined.
 pub fn ip_block_order(a: &IpCidr, b: &IpCidr)
     ensures order { ⟦<IpCidr as Ord>⟧.cmp a.now b.now ≡ cidr_cmp a.now b.now }
     ensures equal { (⟦<IpCidr as PartialEq>⟧.eq a.now b.now ≡ true) ↔ (a.now ≡ b.now) }
+    ensures hash { ⟦<IpCidr as Hash>⟧.hash_input a.now ≡ cidr_hash a.now }
 {}
 
-/// Endpoints are equal as values are, and their order is the defined one.
+/// Endpoints are equal exactly as values are. Their order and what is hashed are as defined.
 pub fn endpoint_order(a: &IpEndpoint, b: &IpEndpoint)
     ensures order { ⟦<IpEndpoint as Ord>⟧.cmp a.now b.now ≡ endpoint_cmp a.now b.now }
     ensures equal { (⟦<IpEndpoint as PartialEq>⟧.eq a.now b.now ≡ true) ↔ (a.now ≡ b.now) }
+    ensures hash { ⟦<IpEndpoint as Hash>⟧.hash_input a.now ≡ endpoint_hash a.now }
 {}
 
-/// Listening endpoints are equal as values are, and their order is the defined one.
+/// Listening endpoints are equal exactly as values are. Their order and what is hashed are as defined.
 pub fn listen_endpoint_order(a: &IpListenEndpoint, b: &IpListenEndpoint)
     ensures order { ⟦<IpListenEndpoint as Ord>⟧.cmp a.now b.now ≡ listening_cmp a.now b.now }
     ensures equal { (⟦<IpListenEndpoint as PartialEq>⟧.eq a.now b.now ≡ true) ↔ (a.now ≡ b.now) }
+    ensures hash { ⟦<IpListenEndpoint as Hash>⟧.hash_input a.now ≡ listening_hash a.now }
+{}
+
+/// Versions are equal exactly as values are. Version 4 comes before version 6.
+pub fn ip_version_order(a: IpVersion, b: IpVersion)
+    ensures order { ⟦<IpVersion as Ord>⟧.cmp a b ≡ nat_cmp (number_of a) (number_of b) }
+    ensures equal { (⟦<IpVersion as PartialEq>⟧.eq a b ≡ true) ↔ (a ≡ b) }
+    ensures hash { ⟦<IpVersion as Hash>⟧.hash_input a ≡ version_hash a }
+{}
+
+/// Protocols are equal exactly as values are. Those with a name come before unknown numbers.
+pub fn ip_protocol_order(a: IpProtocol, b: IpProtocol)
+    ensures order { ⟦<IpProtocol as Ord>⟧.cmp a b ≡ protocol_cmp a b }
+    ensures equal { (⟦<IpProtocol as PartialEq>⟧.eq a b ≡ true) ↔ (a ≡ b) }
 {}

@@ -22,6 +22,11 @@ number_of Arp = 0x0806
 number_of Ipv6 = 0x86dd
 number_of (Unknown n) = n
 
+-- whether a protocol is an unknown number: 1 where it is one, else 0
+abbrev pub is_unknown : EthernetProtocol → ℕ
+is_unknown (Unknown n) = 1
+is_unknown p = 0
+
 -- what is read of a protocol's number: a number of the table has its own name
 abbrev pub known : EthernetProtocol → EthernetProtocol
 known p = protocol_of (number_of p)

@@ -31,6 +31,21 @@ pub enum EthernetProtocol {
     Unknown(u16),
 }
 
+impl EthernetProtocol {
+    /// The number in the header field "EtherType".
+    #[inline(always)]
+    pub fn number(self) -> u16
+        ensures { result ≡ number_of self }
+    {
+        match self {
+            EthernetProtocol::Ipv4 => 0x0800,
+            EthernetProtocol::Arp => 0x0806,
+            EthernetProtocol::Ipv6 => 0x86dd,
+            EthernetProtocol::Unknown(other) => other,
+        }
+    }
+}
+
 impl From<u16> for EthernetProtocol {
     ghost from_gives = { λ n p. p ≡ protocol_of n };
 
@@ -50,12 +65,7 @@ impl From<EthernetProtocol> for u16 {
 
     #[inline(always)]
     fn from(value: EthernetProtocol) -> u16 {
-        match value {
-            EthernetProtocol::Ipv4 => 0x0800,
-            EthernetProtocol::Arp => 0x0806,
-            EthernetProtocol::Ipv6 => 0x86dd,
-            EthernetProtocol::Unknown(other) => other,
-        }
+        value.number()
     }
 }
 

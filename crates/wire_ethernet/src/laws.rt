@@ -1,9 +1,10 @@
 //! What holds by the definitions alone. The functions do nothing when they run.
 
-ghost use Rattle.std.specs.Prelude.{◌≡◌, ◌↔◌, ◌++◌, Some};
-ghost use Rattle.wire_ethernet.specs.Ethernet.{Reads, bytes_of, ethernet_of, normal};
+ghost use Rattle.std.specs.Prelude.{◌≡◌, ◌↔◌, ◌++◌, ◌≤◌, Some, length, true};
+ghost use Rattle.wire_addr.specs.Order.{named_cmp};
+ghost use Rattle.wire_ethernet.specs.Ethernet.{Reads, bytes_of, ethernet_of, is_unknown, normal, number_of};
 
-use crate::ethernet::EthernetRepr;
+use crate::ethernet::{EthernetProtocol, EthernetRepr};
 
 /// The header of a value, whatever follows it, is read as the value's normal form.
 pub fn emit_reads_back_ethernet(value: EthernetRepr, rest: &[u8])
@@ -26,4 +27,16 @@ pub fn reading_is_computed_ethernet(bytes: &[u8], value: EthernetRepr)
 pub fn normal_twice_ethernet(bytes: &[u8], value: EthernetRepr)
     ensures twice { normal (normal value) ≡ normal value }
     ensures read { Reads bytes.now value → normal value ≡ value }
+{}
+
+/// What was read is emitted in no more bytes than it was read from.
+pub fn no_more_bytes_ethernet(bytes: &[u8], value: EthernetRepr)
+    requires { Reads bytes.now value }
+    ensures { length (bytes_of value) ≤ length bytes.now }
+{}
+
+/// Protocols are equal exactly as values are. Those with a name come before unknown numbers.
+pub fn ethernet_protocol_order(a: EthernetProtocol, b: EthernetProtocol)
+    ensures order { ⟦<EthernetProtocol as Ord>⟧.cmp a b ≡ named_cmp is_unknown number_of a b }
+    ensures equal { (⟦<EthernetProtocol as PartialEq>⟧.eq a b ≡ true) ↔ (a ≡ b) }
 {}

@@ -1,6 +1,6 @@
 //! What holds by the definitions alone. The functions do nothing when they run.
 
-ghost use Rattle.std.specs.Prelude.{◌≡◌, ◌↔◌, ◌++◌, ◌≤◌, IsTrue, Some, length};
+ghost use Rattle.std.specs.Prelude.{◌≡◌, ◌↔◌, ◌+◌, ◌++◌, ◌≤◌, IsTrue, Some, length};
 ghost use Rattle.wire_ip.specs.Ip.{Reads, bytes_of, ip_of, max_payload_len, normal, payload_len_of};
 
 use crate::ip::IpRepr;
@@ -30,4 +30,10 @@ pub fn reading_is_computed_ip(bytes: &[u8], verified: bool, value: IpRepr)
 pub fn normal_twice_ip(bytes: &[u8], verified: bool, value: IpRepr)
     ensures twice { normal (normal value) ≡ normal value }
     ensures read { Reads bytes.now verified value → normal value ≡ value }
+{}
+
+/// What was read is emitted, with its payload, in no more bytes than it was read from.
+pub fn no_more_bytes_ip(bytes: &[u8], verified: bool, computed: bool, value: IpRepr)
+    requires { Reads bytes.now verified value }
+    ensures { length (bytes_of value computed) + payload_len_of value ≤ length bytes.now }
 {}

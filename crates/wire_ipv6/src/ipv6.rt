@@ -10,5 +10,8 @@ pub use repr::Ipv6Repr;
 /// The length of a header, in octets. What extends it is part of the payload.
 pub const IPV6_HEADER_LEN: usize = 40;
 
+/// The length of the longest payload, in octets. The payload length has 16 bits.
+pub const IPV6_MAX_PAYLOAD_LEN: usize = 65_535;
+
 /// The size of a packet that every link carries whole (RFC 8200, section 5).
 pub const IPV6_MIN_MTU: usize = 1280;

@@ -1,6 +1,6 @@
 //! What holds by the definitions alone. The functions do nothing when they run.
 
-ghost use Rattle.std.specs.Prelude.{◌≡◌, ◌↔◌, ◌++◌, ◌≤◌, Some, length};
+ghost use Rattle.std.specs.Prelude.{◌≡◌, ◌↔◌, ◌+◌, ◌++◌, ◌≤◌, Some, length};
 ghost use Rattle.wire_ipv6.specs.Ipv6 as ipv6;
 ghost use Rattle.wire_ipv6.specs.Ipv6Fragment as fragment;
 
@@ -54,4 +54,16 @@ pub fn reading_is_computed_ipv6_fragment(bytes: &[u8], value: Ipv6FragmentRepr)
 pub fn normal_twice_ipv6_fragment(bytes: &[u8], value: Ipv6FragmentRepr)
     ensures twice { fragment.normal (fragment.normal value) ≡ fragment.normal value }
     ensures read { fragment.Reads bytes.now value → fragment.normal value ≡ value }
+{}
+
+/// What was read is emitted, with its payload, in no more bytes than it was read from.
+pub fn no_more_bytes_ipv6(bytes: &[u8], value: Ipv6Repr)
+    requires { ipv6.Reads bytes.now value }
+    ensures { length (ipv6.bytes_of value) + value.payload_len ≤ length bytes.now }
+{}
+
+/// What was read is emitted in no more bytes than it was read from.
+pub fn no_more_bytes_ipv6_fragment(bytes: &[u8], value: Ipv6FragmentRepr)
+    requires { fragment.Reads bytes.now value }
+    ensures { length (fragment.bytes_of value) ≤ length bytes.now }
 {}

@@ -52,3 +52,17 @@ pub fn reading_is_computed_udp(
 )
     ensures { (udp_of src_addr dst_addr verified bytes.now ≡ Some value) ↔ Reads bytes.now src_addr dst_addr verified value (payload_of bytes.now) }
 {}
+
+/// What was read is emitted in no more bytes than it was read from.
+pub fn no_more_bytes_udp(
+    bytes: &[u8],
+    src_addr: IpAddress,
+    dst_addr: IpAddress,
+    verified: bool,
+    computed: bool,
+    value: UdpRepr,
+    payload: &[u8],
+)
+    requires { Reads bytes.now src_addr dst_addr verified value payload.now }
+    ensures { length (bytes_of value payload.now src_addr dst_addr computed) ≤ length bytes.now }
+{}

@@ -4,4 +4,4 @@
 pub mod laws;
 mod udp;
 
-pub use udp::{UDP_HEADER_LEN, UdpPacket, UdpPacketMut, UdpRepr};
+pub use udp::{UDP_HEADER_LEN, UDP_MAX_PAYLOAD_LEN, UdpPacket, UdpPacketMut, UdpRepr};

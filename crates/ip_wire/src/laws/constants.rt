@@ -11,23 +11,28 @@ use wire_addr::{
     IPV6_LINK_LOCAL_ALL_RPL_NODES, Ipv4Address, Ipv6Address, Ipv6Cidr, MAX_HARDWARE_ADDRESS_LEN,
 };
 use wire_ethernet::ETHERNET_HEADER_LEN;
-use wire_ipv4::{IPV4_HEADER_LEN, IPV4_MIN_MTU};
-use wire_ipv6::{IPV6_HEADER_LEN, IPV6_MIN_MTU};
-use wire_tcp::TCP_HEADER_LEN;
-use wire_udp::UDP_HEADER_LEN;
+use wire_ipv4::{IPV4_HEADER_LEN, IPV4_MAX_PAYLOAD_LEN, IPV4_MIN_MTU};
+use wire_ipv6::{IPV6_HEADER_LEN, IPV6_MAX_PAYLOAD_LEN, IPV6_MIN_MTU};
+use wire_tcp::{SACK_BLOCKS, TCP_HEADER_LEN, TCP_MAX_HEADER_LEN};
+use wire_udp::{UDP_HEADER_LEN, UDP_MAX_PAYLOAD_LEN};
 
-/// The lengths in octets: of headers without options, of addresses, and of the packet that every link
-/// of a version can carry.
+/// The lengths in octets: of headers without options, of the longest payloads, of addresses, and of the
+/// packet that every link of a version can carry. `SACK_BLOCKS` counts the ranges that a TCP header can hold.
 pub fn constant_lengths()
     ensures ethernet { ETHERNET_HEADER_LEN ≡ 14 }
     ensures hardware_address { MAX_HARDWARE_ADDRESS_LEN ≡ 6 }
     ensures ipv4 { IPV4_HEADER_LEN ≡ 20 }
+    ensures ipv4_payload { IPV4_MAX_PAYLOAD_LEN ≡ 65515 }
     ensures ipv4_mtu { IPV4_MIN_MTU ≡ 576 }
     ensures ipv6 { IPV6_HEADER_LEN ≡ 40 }
+    ensures ipv6_payload { IPV6_MAX_PAYLOAD_LEN ≡ 65535 }
     ensures ipv6_address { IPV6_ADDR_SIZE ≡ 16 }
     ensures ipv6_mtu { IPV6_MIN_MTU ≡ 1280 }
     ensures tcp { TCP_HEADER_LEN ≡ 20 }
+    ensures tcp_header { TCP_MAX_HEADER_LEN ≡ 60 }
+    ensures tcp_sack_blocks { SACK_BLOCKS ≡ 4 }
     ensures udp { UDP_HEADER_LEN ≡ 8 }
+    ensures udp_payload { UDP_MAX_PAYLOAD_LEN ≡ 65527 }
 {}
 
 /// The Ethernet address of all stations.

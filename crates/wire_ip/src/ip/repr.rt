@@ -11,8 +11,8 @@ ghost use Rattle.wire_ip.specs.declared.ip.repr.IpRepr.TheVariants.{Ipv4, Ipv6};
 use super::IpPacket;
 use net_base::{ChecksumCapabilities, Result};
 use wire_ends::{IpAddress, IpProtocol, IpVersion};
-use wire_ipv4::{Ipv4Packet, Ipv4PacketMut, Ipv4Repr};
-use wire_ipv6::{Ipv6Packet, Ipv6PacketMut, Ipv6Repr};
+use wire_ipv4::{IPV4_MAX_PAYLOAD_LEN, Ipv4Packet, Ipv4PacketMut, Ipv4Repr};
+use wire_ipv6::{IPV6_MAX_PAYLOAD_LEN, Ipv6Packet, Ipv6PacketMut, Ipv6Repr};
 
 /// The values of a packet's header, whose version is that of its addresses.
 #[derive(Debug, Clone, Copy, PartialEq, Eq)]
@@ -168,6 +168,16 @@ impl IpRepr {
         match self {
             IpRepr::Ipv4(value) => value.buffer_len(),
             IpRepr::Ipv6(value) => value.buffer_len(),
+        }
+    }
+
+    /// The length of the longest payload that the header can say, in octets.
+    pub fn max_payload_len(&self) -> usize
+        ensures { result ≡ max_payload_len self.now }
+    {
+        match self {
+            IpRepr::Ipv4(_) => IPV4_MAX_PAYLOAD_LEN,
+            IpRepr::Ipv6(_) => IPV6_MAX_PAYLOAD_LEN,
         }
     }
 

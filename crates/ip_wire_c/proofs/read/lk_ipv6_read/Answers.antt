@@ -1,5 +1,5 @@
 use Rattle.std.proofs.Common.{refl, inr}
 use Rattle.ip_wire_c.proofs.read.lk_ipv6_read.Goals as goal
 
-pub returns-in-None : goal.returns-in-None
-returns-in-None c = inr (refl, refl, λ octets is_read. c.in-None.ensures is_read.0 is_read.1)
+pub returns-in-Err : goal.returns-in-Err
+returns-in-Err c = inr (refl, refl, λ octets is_read. c.in-Err.ensures _ is_read)

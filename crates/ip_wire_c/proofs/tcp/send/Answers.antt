@@ -1,4 +1,4 @@
-use Rattle.std.proofs.Common.{◌≡◌, ◌≤◌, [], ℕ, List, nat_le, true, length, rules, subst, arith}
+use Rattle.std.proofs.Common.{◌≡◌, ◌≤◌, ◌+◌, [], ℕ, List, nat_le, true, length, rules, subst, arith}
 use Rattle.std.proofs.lemmas.Bool.Decides.{nat_tests}
 use Rattle.net_base.specs.Checksum.{computes}
 use Rattle.ip_wire.specs.TcpRepr.{TcpHeader, bytes_of, header_len_of, header_of}
@@ -19,6 +19,13 @@ most c =
     let same = subst (λ v. header_len_of v ≤ 60) (header c) short in
     grind (arith, nat_tests, same)
 
+carried : (c : goal.After-unwrap_or) → nat_le (segment_len c.args.header.now (length c.args.payload.now)) 65535 ≡ true
+carried c =
+    let short : header_len_of (header_of c.in-Some.segment) + length c.in-Some.segment.payload.now ≤ 65535 = search rules in
+    let same = subst (λ v. header_len_of v + length c.in-Some.segment.payload.now ≤ 65535) (header c) short in
+    let whole = subst (λ payload. header_len_of (tcp_header c.args.header.now) + length payload ≤ 65535) c.in-Some.ensures.2 same in
+    grind (arith, nat_tests, whole)
+
 -- the segment stands in the slice where it fits
 filled : (c : goal.After-unwrap_or)
     → Fills (bytes_of (tcp_header c.args.header.now) c.args.payload.now c.args.src_addr c.args.dst_addr (computes c.args.caps.now.tcp) []) c.args.out.now c.emit.new.out c.emit.result
@@ -34,7 +41,7 @@ returns-in-Some-clause-len c =
     let computed = computes c.args.caps.now.tcp in
     let size = length-written c.args.src_addr c.args.dst_addr (tcp_header f) payload computed in
     let bytes = bytes_of (tcp_header f) payload c.args.src_addr c.args.dst_addr computed [] in
-    rw (c.unwrap_or.ensures, known c, most c) (filled-len bytes c.args.out.now c.emit.new.out c.emit.result (segment_len f (length payload)) size (filled c))
+    rw (c.unwrap_or.ensures, known c, most c, carried c) (filled-len bytes c.args.out.now c.emit.new.out c.emit.result (segment_len f (length payload)) size (filled c))
 
 pub returns-in-Some-clause-bytes : goal.returns-in-Some-clause-bytes
 returns-in-Some-clause-bytes c =
@@ -43,4 +50,4 @@ returns-in-Some-clause-bytes c =
     let computed = computes c.args.caps.now.tcp in
     let size = length-written c.args.src_addr c.args.dst_addr (tcp_header f) payload computed in
     let bytes = bytes_of (tcp_header f) payload c.args.src_addr c.args.dst_addr computed [] in
-    rw (known c, most c) (filled-bytes bytes c.args.out.now c.emit.new.out c.emit.result (segment_len f (length payload)) size (filled c))
+    rw (known c, most c, carried c) (filled-bytes bytes c.args.out.now c.emit.new.out c.emit.result (segment_len f (length payload)) size (filled c))
