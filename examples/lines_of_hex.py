@@ -15,7 +15,8 @@ The rules, for each line:
 
   1. An empty line and a line that begins with # are skipped.
   2. A line that begins with a time, as 17:03:33.759133 or 1795367013.759133, is tcpdump's
-     summary of a packet. It is skipped, and so are the indented lines behind it.
+     summary of a packet. It is skipped, and so are the indented lines behind it, up to the
+     dump. With -v they may have offsets of their own, but are indented deeper than the dump.
   3. An offset is four or more hex digits, perhaps after 0x, with a colon or two spaces
      behind them. Offset 0 begins a frame. Any other offset must be the number of bytes
      that the frame has so far, and the line continues that frame.
@@ -35,6 +36,7 @@ from frame_lines import Failure
 
 BYTE = "[0-9a-fA-F]{2}"
 SUMMARY = re.compile(r"\s*(\d+  )?(\d{4}-\d\d-\d\d )?(\d\d:\d\d:\d\d|\d+)\.\d+ ", re.ASCII)
+DEEPER_THAN_THE_DUMP = re.compile(r"(?:\t| {8})[ \t]")
 OFFSET = re.compile(r"(?:0x)?([0-9a-fA-F]{4,})(?:: *|  +)(?=\S)")
 BYTES_BEHIND_OFFSET = re.compile(rf"(?:{BYTE})+(?: (?:{BYTE})+)*(?=  |$)")
 STREAM = re.compile(rf"(?:{BYTE})+")
@@ -71,7 +73,9 @@ class Reader:
             yield from self.read_single(text)
 
     def is_summary(self, line, offset):
-        return not offset and (SUMMARY.match(line) or self.in_summary and line[0] in " \t")
+        if self.in_summary and line[0] in " \t":
+            return not offset or DEEPER_THAN_THE_DUMP.match(line)
+        return not offset and SUMMARY.match(line)
 
     def read_dumped(self, offset, text):
         """A line with an offset: its bytes, and perhaps a text column."""

@@ -186,6 +186,7 @@ RECORDED_DUMPS = [
     *[dump(name, "", recorded(lines), f"{way}{RECORDED}/{name}.in")
       for name, lines in {
           "tcpdump_xx": "echo.lines", "tcpdump_v_XX": "echo.lines", "tcpdump_text": "text.lines",
+          "tcpdump_vvv_XX": "verbose.lines",
           "xxd": "echo.lines", "xxd_text": "text.lines", "xxd_g1_u": "text.lines", "xxd_i": "echo.lines",
           "tshark": "echo.lines", "tshark_text": "text.lines",
           "wireshark_dump": "echo.lines", "wireshark_escaped": "echo.lines",

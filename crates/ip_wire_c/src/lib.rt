@@ -24,9 +24,9 @@ mod udp;
 
 use frame_fields::FrameFields;
 use ip_wire::{
-    ArpOperation, ArpRepr, EthernetAddress, IPV4_HEADER_LEN, IPV4_MAX_PAYLOAD_LEN, IPV6_HEADER_LEN, IPV6_MAX_PAYLOAD_LEN, IpAddress, IpProtocol, Ipv4Address,
-    Ipv4Cidr, Ipv4PacketMut, Ipv4Repr, Ipv6Address, Ipv6Cidr, Ipv6PacketMut, Ipv6Repr, UdpRepr,
-    checksum,
+    ArpOperation, ArpRepr, EthernetAddress, IPV4_HEADER_LEN, IPV4_MAX_PAYLOAD_LEN, IPV6_HEADER_LEN,
+    IPV6_MAX_PAYLOAD_LEN, IpAddress, IpProtocol, Ipv4Address, Ipv4Cidr, Ipv4PacketMut, Ipv4Repr,
+    Ipv6Address, Ipv6Cidr, Ipv6PacketMut, Ipv6Repr, UdpRepr, checksum,
 };
 use net_base::ChecksumCapabilities;
 use tcp_fields::TcpFields;

@@ -13,7 +13,8 @@ pub extern "C" fn lk_ethernet_read(text: &[u8], octets: &mut [u8; 6]) -> u8
 {
     match EthernetAddress::parse_ascii(text) {
         Ok(address) => {
-            *octets = address.0;
+            let read = address.0;
+            *octets = read;
             1
         }
         Err(()) => 0,

@@ -28,8 +28,7 @@ pub fn send(
     match header.segment(payload) {
         Some(segment)
             if segment.header_len() <= TCP_MAX_HEADER_LEN
-                && segment.buffer_len() <= IPV6_MAX_PAYLOAD_LEN =>
-        {
+                && segment.buffer_len() <= IPV6_MAX_PAYLOAD_LEN => {
             emit(&segment, src_addr, dst_addr, caps, out).unwrap_or(0)
         }
         _ => 0,

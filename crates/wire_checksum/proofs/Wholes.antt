@@ -13,10 +13,10 @@ with-tail bytes t s a b =
     b ∙ residue-add (256 * t) (sum (words (drop m bytes))) (sum (words (take m bytes))) (sum (words (take m bytes))) a refl ∙ ap residue (omega (arith, split))
 
 -- the bytes behind the last whole chunk, which end as all bytes do
-pub rest-of : (bytes rest : List ℕ) (t s : ℕ) → rest ≡ drop (length bytes / 512 * 512) bytes → residue (256 * t) ≡ residue (sum (words (drop (length bytes / 8 * 8) bytes)))
+pub rest-of : (bytes rest : List ℕ) (t s : ℕ) → rest ≡ drop (length bytes / 2048 * 2048) bytes → residue (256 * t) ≡ residue (sum (words (drop (length bytes / 8 * 8) bytes)))
     → residue (256 * s) ≡ residue (256 * t + sum (words (take (length rest / 8 * 8) rest))) → residue (256 * s) ≡ residue (sum (words rest))
 rest-of bytes rest t s is a b =
-    let long : length rest ≡ length bytes - length bytes / 512 * 512 = ap length is ∙ length-drop (length bytes / 512 * 512) bytes in
+    let long : length rest ≡ length bytes - length bytes / 2048 * 2048 = ap length is ∙ length-drop (length bytes / 2048 * 2048) bytes in
     let m = length rest / 8 * 8 in
-    let same : drop m rest ≡ drop (length bytes / 8 * 8) bytes = ap (drop m) is ∙ drop-drop m (length bytes / 512 * 512) bytes ∙ ap (λ n. drop n bytes) (omega (arith, long)) in
+    let same : drop m rest ≡ drop (length bytes / 8 * 8) bytes = ap (drop m) is ∙ drop-drop m (length bytes / 2048 * 2048) bytes ∙ ap (λ n. drop n bytes) (omega (arith, long)) in
     with-tail rest t s (a ∙ ap (λ l. residue (sum (words l))) (sym same)) b

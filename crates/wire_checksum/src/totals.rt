@@ -64,7 +64,7 @@ pub fn total(bytes: &[u8]) -> u64
 pub fn total_here(bytes: &[u8]) -> u64
     ensures { residue (256 * result) ≡ sum_of_bytes bytes.now }
 {
-    if bytes.len() < 8 || bytes.len() >= 512 {
+    if bytes.len() < 8 || bytes.len() >= 320 {
         apart(bytes)
     } else {
         one_chain(bytes, tail(bytes))
@@ -83,14 +83,28 @@ fn apart(bytes: &[u8]) -> u64
     }
 }
 
-// The total of many bytes: of whole chunks of 512 bytes by lanes, and of those behind them word by word.
+// The total of many bytes: of whole chunks of 2048 bytes by lanes, and of those behind them by words.
 #[inline]
 fn long(bytes: &[u8]) -> u64
     requires { 8 ≤ length bytes.now }
     ensures { residue (256 * result) ≡ sum_of_bytes bytes.now }
 {
-    let (chunks, rest) = bytes.split_at(bytes.len() / 512 * 512);
-    around(lanes(chunks), one_chain(rest, tail(bytes)))
+    let (chunks, rest) = bytes.split_at(bytes.len() / 2048 * 2048);
+    let last = by_words(rest, tail(bytes));
+    if bytes.len() < 2048 {
+        last
+    } else {
+        around(lanes(chunks), last)
+    }
+}
+
+// A total and that of all whole words of eight bytes.
+#[inline]
+fn by_words(bytes: &[u8], start: u64) -> u64
+    ensures { residue (256 * result) ≡ residue (256 * start + sum (words (take (length bytes.now / 8 * 8) bytes.now))) }
+{
+    let (front, rest) = bytes.split_at(bytes.len() / 64 * 64);
+    two_chains(front, one_chain(rest, start))
 }
 
 /// The total of a short header or of an address.
@@ -197,6 +211,28 @@ fn last_words(bytes: &[u8], start: u64) -> u64
         sum = around(sum, u64::from_le_bytes(words[words.len() - 1]));
     }
     sum
+}
+
+// A total and that of whole chunks of eight words. The halves of the chunks are added up in two numbers,
+// so that one addition need not wait for the other; the carry of the first half goes into the second.
+#[inline]
+fn two_chains(bytes: &[u8], start: u64) -> u64
+    requires { length bytes.now % 64 ≡ 0 }
+    ensures { residue (256 * result) ≡ residue (256 * start + sum (words bytes.now)) }
+{
+    let (chunks, _) = bytes.as_chunks::<64>();
+    let mut first = start;
+    let mut second: u64 = 0;
+    let mut carries: u64 = 0;
+    for chunk in chunks {
+        let (halves, _) = chunk.as_chunks::<32>();
+        let (sum, carry) = add_four(first, &halves[0], 0);
+        first = sum;
+        let (sum, carry) = add_four(second, &halves[1], carry);
+        second = sum;
+        carries += carry;
+    }
+    around(around(first, second), carries)
 }
 
 // The total of whole vectors.

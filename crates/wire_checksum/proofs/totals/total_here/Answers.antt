@@ -1,5 +1,5 @@
 use Rattle.wire_checksum.proofs.Wholes.{with-tail}
 use Rattle.wire_checksum.proofs.totals.total_here.Goals as goal
 
-pub returns-else-bytes-ge512 : goal.returns-else-bytes-ge512
-returns-else-bytes-ge512 c = with-tail c.args.bytes.now c.tail.result c.one_chain.result c.tail.ensures c.one_chain.ensures
+pub returns-else-bytes-ge320 : goal.returns-else-bytes-ge320
+returns-else-bytes-ge320 c = with-tail c.args.bytes.now c.tail.result c.one_chain.result c.tail.ensures c.one_chain.ensures
