@@ -15,6 +15,10 @@
 //!   its netmask, its network and its broadcast address.
 //! - `prefix ADDRESS`: how many ones it is, where zeros alone follow them, else `-`. `netmask ADDRESS MASK`: the
 //!   block of both, or `err`.
+//! - `class ADDRESS`: the classes that contain it, in this order: `unspecified`, `broadcast`, `loopback`,
+//!   `multicast`, `unique-local`, `link-local`, `global-unicast`, `solicited-node`, `unicast`. Then, for IPv6,
+//!   `scope=` and the scope: `interface-local`, `link-local`, `admin-local`, `site-local`, `organization-local`,
+//!   `global` or `unknown`.
 //! - `sum OCTETS`: their Internet checksum, before its complement.
 //! - `eth TEXT`, `ip TEXT`, `cidr4 TEXT`, `cidr6 TEXT`, `cidr TEXT` and `endpoint TEXT`: `ok` and the printed
 //!   text of the Ethernet address, the IP address, the block of IPv4, of IPv6 or of either, or the endpoint that
@@ -31,6 +35,7 @@
 mod answer;
 mod block;
 mod checksum;
+mod class;
 mod fragment;
 mod header;
 mod mask;

@@ -1,4 +1,4 @@
-//! IPv6 addresses.
+//! IPv6 addresses. `tests/calls` records classes and prefix lengths of more addresses.
 
 use ip_wire::{
     EthernetAddress, HardwareAddress, IPV6_ADDR_SIZE, IPV6_LINK_LOCAL_ALL_MLDV2_ROUTERS,
@@ -97,111 +97,24 @@ fn converts_to_and_from_bits(rt: HostRuntime) {
 
 #[test]
 fn has_classes(rt: HostRuntime) {
-    // Unspecified, loopback, multicast, unique local, link-local, global unicast,
-    // solicited-node multicast, unicast.
-    for (groups, classes) in [
-        (
-            [0, 0, 0, 0, 0, 0, 0, 0],
-            [true, false, false, false, false, false, false, false],
-        ),
-        (
-            [0, 0, 0, 0, 0, 0, 0, 1],
-            [false, true, false, false, false, false, false, true],
-        ),
-        (
-            [0xff02, 0, 0, 0, 0, 0, 0, 1],
-            [false, false, true, false, false, false, false, false],
-        ),
-        (
-            [0xff02, 0, 0, 0, 0, 0, 0, 2],
-            [false, false, true, false, false, false, false, false],
-        ),
-        (
-            [0xfe80, 0, 0, 0, 0, 0, 0, 1],
-            [false, false, false, false, true, false, false, true],
-        ),
-        (
-            [0xfe80, 0, 0, 1, 0, 0, 0, 1],
-            [false, false, false, false, false, false, false, true],
-        ),
-        (
-            [0xfeb0, 0, 0, 0, 0, 0, 0, 1],
-            [false, false, false, false, false, false, false, true],
-        ),
-        (
-            [0xfd00, 0, 0, 201, 1, 1, 1, 1],
-            [false, false, false, true, false, false, false, true],
-        ),
-        (
-            [0xfc00, 0, 0, 0, 0, 0, 0, 0],
-            [false, false, false, true, false, false, false, true],
-        ),
-        (
-            [0x2001, 0xdb8, 3, 0, 0, 0, 0, 1],
-            [false, false, false, false, false, true, false, true],
-        ),
-        (
-            [0x3fff, 0, 0, 0, 0, 0, 0, 1],
-            [false, false, false, false, false, true, false, true],
-        ),
-        (
-            [0x4000, 0, 0, 0, 0, 0, 0, 1],
-            [false, false, false, false, false, false, false, true],
-        ),
-        (
-            [0xff02, 0, 0, 0, 0, 1, 0xff01, 101],
-            [false, false, true, false, false, false, true, false],
-        ),
-        (
-            [0xff02, 0, 0, 0, 0, 1, 0xfe01, 101],
-            [false, false, true, false, false, false, false, false],
-        ),
-    ] {
-        let address = Ipv6Address::from(groups);
-        let found = [
-            address.is_unspecified(),
-            address.is_loopback(),
-            address.is_multicast(),
-            address.is_unique_local(),
-            address.is_link_local(),
-            address.is_global_unicast(),
-            address.is_solicited_node_multicast(),
-            address.x_is_unicast(),
-        ];
-        assert_eq!(rt; found, classes, "{address}");
-    }
+    let group = Ipv6Address::new(0xff02, 0, 0, 0, 0, 1, 0xff01, 101);
+    let found = [
+        Ipv6Address::UNSPECIFIED.is_unspecified(),
+        Ipv6Address::LOCALHOST.is_loopback(),
+        group.is_multicast(),
+        Ipv6Address::new(0xfd00, 0, 0, 201, 1, 1, 1, 1).is_unique_local(),
+        Ipv6Address::new(0xfe80, 0, 0, 0, 0, 0, 0, 1).is_link_local(),
+        Ipv6Address::new(0x2001, 0xdb8, 3, 0, 0, 0, 0, 1).is_global_unicast(),
+        group.is_solicited_node_multicast(),
+        Ipv6Address::LOCALHOST.x_is_unicast(),
+    ];
+    assert_eq!(rt; found, [true; 8]);
 }
 
 #[test]
 fn has_a_scope(rt: HostRuntime) {
-    for (groups, scope) in [
-        (
-            [0xff01, 0, 0, 0, 0, 0, 0, 1],
-            Ipv6MulticastScope::InterfaceLocal,
-        ),
-        ([0xff02, 0, 0, 0, 0, 0, 0, 1], Ipv6MulticastScope::LinkLocal),
-        ([0xff03, 0, 0, 0, 0, 0, 0, 1], Ipv6MulticastScope::Unknown),
-        (
-            [0xff04, 0, 0, 0, 0, 0, 0, 1],
-            Ipv6MulticastScope::AdminLocal,
-        ),
-        ([0xff05, 0, 0, 0, 0, 0, 0, 1], Ipv6MulticastScope::SiteLocal),
-        (
-            [0xff08, 0, 0, 0, 0, 0, 0, 1],
-            Ipv6MulticastScope::OrganizationLocal,
-        ),
-        ([0xff0e, 0, 0, 0, 0, 0, 0, 1], Ipv6MulticastScope::Global),
-        ([0xff12, 0, 0, 0, 0, 0, 0, 1], Ipv6MulticastScope::LinkLocal),
-        ([0xfe80, 0, 0, 0, 0, 0, 0, 1], Ipv6MulticastScope::LinkLocal),
-        ([0xfd00, 0, 0, 201, 1, 1, 1, 1], Ipv6MulticastScope::Global),
-        (
-            [0x2001, 0xdb8, 3, 0, 0, 0, 0, 1],
-            Ipv6MulticastScope::Global,
-        ),
-        ([0, 0, 0, 0, 0, 0, 0, 0], Ipv6MulticastScope::Unknown),
-    ] {
-        assert_eq!(rt; Ipv6Address::from(groups).x_multicast_scope(), scope);
-    }
+    let group = Ipv6Address::new(0xff05, 0, 0, 0, 0, 0, 0, 1);
+    assert_eq!(rt; group.x_multicast_scope(), Ipv6MulticastScope::SiteLocal);
 }
 
 #[test]
@@ -230,17 +143,11 @@ fn keeps_its_first_bits_under_a_mask(rt: HostRuntime) {
 
 #[test]
 fn a_netmask_has_a_prefix_length(rt: HostRuntime) {
-    for (groups, len) in [
-        ([0, 0, 0, 0, 0, 0, 0, 0], Some(0)),
-        ([0x8000, 0, 0, 0, 0, 0, 0, 0], Some(1)),
-        ([0xffff, 0xffff, 0xffff, 0xffff, 0, 0, 0, 0], Some(64)),
-        ([0xffff, 0xffff, 0xffff, 0xffff, 0x8000, 0, 0, 0], Some(65)),
-        ([0xffff; 8], Some(128)),
-        ([0xffff, 0xffff, 0xffff, 0xffff, 0xffff, 0xffff, 0, 1], None),
-        ([0, 0, 0, 0, 0, 0, 0, 1], None),
-    ] {
-        assert_eq!(rt; Ipv6Address::from(groups).prefix_len(), len);
-    }
+    let found = [
+        Ipv6Address::new(0xffff, 0x8000, 0, 0, 0, 0, 0, 0).prefix_len(),
+        Ipv6Address::LOCALHOST.prefix_len(),
+    ];
+    assert_eq!(rt; found, [Some(17), None]);
 }
 
 #[test]
