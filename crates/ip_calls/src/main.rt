@@ -28,6 +28,9 @@
 //! buffer is full of before. A kind that is not there is answered `unknown`, operands that the call does
 //! not take `malformed`.
 //!
+//! If reading or writing fails or memory runs out, the program prints one line on standard error and
+//! ends with status 1.
+//!
 //! It is tested and compared. What is proved is that each line has an answer, whatever it holds, that
 //! the conditions of each call are met, and that a text is answered what its reader and its printer say.
 #![tactic(auto)]
@@ -41,21 +44,20 @@ mod header;
 mod mask;
 mod operands;
 mod options;
+mod run;
 mod tcp;
 mod text;
 mod udp;
 
-use crate::answer::answers;
-use std::io;
-use std::io::{BufWriter, Read, Write};
+use crate::run::run;
+use std::process::ExitCode;
 
-fn main(rt: HostRuntime) -> io::Result<()> {
-    let mut input = Vec::new(rt.alloc());
-    rt.stdin().read_to_end(&mut input)?;
-    let texts = answers(rt.alloc(), input.as_slice())?;
-    let mut output = BufWriter::new(rt.alloc(), rt.stdout())?;
-    for text in &texts {
-        writeln!(output, "{text}")?;
+fn main(rt: HostRuntime) -> ExitCode {
+    match run(rt.alloc(), rt.stdin(), rt.stdout()) {
+        Ok(()) => ExitCode::SUCCESS,
+        Err(e) => {
+            let _ = eprintln!(rt; "{e}");
+            ExitCode::FAILURE
+        }
     }
-    output.flush()
 }
