@@ -3,9 +3,10 @@
 use super::count_distinct;
 use ip_wire::{IPV4_MULTICAST_ALL_ROUTERS, IPV4_MULTICAST_ALL_SYSTEMS, Ipv4Address};
 use std::test::Fail;
+use test_support::prints;
 
 #[test]
-fn prints_octets_with_dots(rt: HostRuntime) -> Result<(), Fail> {
+fn prints_octets_with_dots(rt: HostRuntime) {
     for (octets, text) in [
         ([192, 168, 1, 1], "192.168.1.1"),
         ([0, 0, 0, 0], "0.0.0.0"),
@@ -13,11 +14,10 @@ fn prints_octets_with_dots(rt: HostRuntime) -> Result<(), Fail> {
     ] {
         let [a, b, c, d] = octets;
         let address = Ipv4Address::new(a, b, c, d);
-        let printed = format!(in rt.alloc(); "{address}")?;
-        let found = (address, address.octets(), printed.as_str());
-        assert_eq!(rt; found, (Ipv4Address::from_octets(octets), octets, text));
+        let found = (address, address.octets(), prints(&address, text));
+        let same = Ipv4Address::from_octets(octets);
+        assert_eq!(rt; found, (same, octets, true), "{text}");
     }
-    Ok(())
 }
 
 #[test]
@@ -33,16 +33,15 @@ fn is_ordered_and_hashed_by_octets(rt: HostRuntime) -> Result<(), Fail> {
 }
 
 #[test]
-fn constants_print_as_their_standards_write_them(rt: HostRuntime) -> Result<(), Fail> {
+fn constants_print_as_their_standards_write_them(rt: HostRuntime) {
     for (address, text) in [
         (Ipv4Address::UNSPECIFIED, "0.0.0.0"),
         (Ipv4Address::BROADCAST, "255.255.255.255"),
         (IPV4_MULTICAST_ALL_SYSTEMS, "224.0.0.1"),
         (IPV4_MULTICAST_ALL_ROUTERS, "224.0.0.2"),
     ] {
-        assert_eq!(rt; format!(in rt.alloc(); "{address}")?.as_str(), text);
+        assert!(rt; prints(&address, text), "{text}");
     }
-    Ok(())
 }
 
 #[test]

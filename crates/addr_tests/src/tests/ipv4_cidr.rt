@@ -4,6 +4,7 @@ use super::count_distinct;
 use ip_wire::laws::order_agrees;
 use ip_wire::{Error, Ipv4Address, Ipv4Cidr};
 use std::test::Fail;
+use test_support::prints;
 
 /// The block with these octets and this prefix length, at most 32.
 fn block(octets: [u8; 4], prefix_len: u8) -> Ipv4Cidr {
@@ -45,17 +46,15 @@ fn converts_from_a_netmask(rt: HostRuntime) {
 }
 
 #[test]
-fn prints_the_address_and_the_length(rt: HostRuntime) -> Result<(), Fail> {
+fn prints_the_address_and_the_length(rt: HostRuntime) {
     for (octets, prefix_len, text) in [
         ([127, 0, 0, 1], 8, "127.0.0.1/8"),
         ([192, 168, 1, 1], 24, "192.168.1.1/24"),
         ([8, 8, 8, 8], 32, "8.8.8.8/32"),
         ([8, 8, 8, 8], 0, "8.8.8.8/0"),
     ] {
-        let printed = format!(in rt.alloc(); "{}", block(octets, prefix_len))?;
-        assert_eq!(rt; printed.as_str(), text);
+        assert!(rt; prints(&block(octets, prefix_len), text), "{text}");
     }
-    Ok(())
 }
 
 #[test]

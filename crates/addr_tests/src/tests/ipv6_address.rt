@@ -5,10 +5,10 @@ use ip_wire::{
     IPV6_LINK_LOCAL_ALL_NODES, IPV6_LINK_LOCAL_ALL_ROUTERS, IPV6_LINK_LOCAL_ALL_RPL_NODES,
     Ipv6Address, Ipv6Cidr, Ipv6MulticastScope,
 };
-use std::test::Fail;
+use test_support::prints;
 
 #[test]
-fn prints_the_longest_run_of_zeros_as_two_colons(rt: HostRuntime) -> Result<(), Fail> {
+fn prints_the_longest_run_of_zeros_as_two_colons(rt: HostRuntime) {
     for (groups, text) in [
         ([0x2001, 0, 0, 1, 0, 0, 0, 1], "2001:0:0:1::1"),
         ([0x2001, 0xdb8, 0, 0, 1, 0, 0, 1], "2001:db8::1:0:0:1"),
@@ -33,11 +33,9 @@ fn prints_the_longest_run_of_zeros_as_two_colons(rt: HostRuntime) -> Result<(), 
         ),
     ] {
         let address = Ipv6Address::from(groups);
-        let printed = format!(in rt.alloc(); "{address}")?;
-        let found = (address.segments(), printed.as_str());
-        assert_eq!(rt; found, (groups, text));
+        let found = (address.segments(), prints(&address, text));
+        assert_eq!(rt; found, (groups, true), "{text}");
     }
-    Ok(())
 }
 
 #[test]
@@ -67,7 +65,7 @@ fn is_ordered_by_octets(rt: HostRuntime) {
 }
 
 #[test]
-fn constants_print_as_their_standards_write_them(rt: HostRuntime) -> Result<(), Fail> {
+fn constants_print_as_their_standards_write_them(rt: HostRuntime) {
     for (address, text) in [
         (Ipv6Address::UNSPECIFIED, "::"),
         (Ipv6Address::LOCALHOST, "::1"),
@@ -76,9 +74,8 @@ fn constants_print_as_their_standards_write_them(rt: HostRuntime) -> Result<(), 
         (IPV6_LINK_LOCAL_ALL_MLDV2_ROUTERS, "ff02::16"),
         (IPV6_LINK_LOCAL_ALL_RPL_NODES, "ff02::1a"),
     ] {
-        assert_eq!(rt; format!(in rt.alloc(); "{address}")?.as_str(), text);
+        assert!(rt; prints(&address, text), "{text}");
     }
-    Ok(())
 }
 
 #[test]
@@ -151,7 +148,7 @@ fn a_netmask_has_a_prefix_length(rt: HostRuntime) {
 }
 
 #[test]
-fn its_solicited_node_address_has_its_last_three_octets(rt: HostRuntime) -> Result<(), Fail> {
+fn its_solicited_node_address_has_its_last_three_octets(rt: HostRuntime) {
     for (groups, text) in [
         ([0xfe80, 0, 0, 0, 0, 0, 0, 1], "ff02::1:ff00:1"),
         (
@@ -162,11 +159,9 @@ fn its_solicited_node_address_has_its_last_three_octets(rt: HostRuntime) -> Resu
         let address = Ipv6Address::from(groups);
         assert!(rt; address.x_is_unicast());
         let group = address.solicited_node();
-        let printed = format!(in rt.alloc(); "{group}")?;
-        let found = (printed.as_str(), group.is_solicited_node_multicast());
-        assert_eq!(rt; found, (text, true));
+        let found = [prints(&group, text), group.is_solicited_node_multicast()];
+        assert_eq!(rt; found, [true; 2], "{text}");
     }
-    Ok(())
 }
 
 #[test]

@@ -4,6 +4,7 @@ use super::count_distinct;
 use ip_wire::laws::order_agrees;
 use ip_wire::{Ipv6Address, Ipv6Cidr};
 use std::test::Fail;
+use test_support::prints;
 
 /// The block with these groups and this prefix length, at most 128.
 fn block(groups: [u16; 8], prefix_len: u8) -> Ipv6Cidr {
@@ -35,16 +36,15 @@ fn the_link_local_prefix_has_ten_bits(rt: HostRuntime) {
 }
 
 #[test]
-fn prints_the_address_and_the_length(rt: HostRuntime) -> Result<(), Fail> {
+fn prints_the_address_and_the_length(rt: HostRuntime) {
     for (block, text) in [
         (block([0, 0, 0, 0, 0, 0, 0, 1], 128), "::1/128"),
         (block([0xfe80, 0, 0, 0, 0, 0, 0, 1], 0), "fe80::1/0"),
         (Ipv6Cidr::LINK_LOCAL_PREFIX, "fe80::/10"),
         (Ipv6Cidr::SOLICITED_NODE_PREFIX, "ff02::1:ff00:0/104"),
     ] {
-        assert_eq!(rt; format!(in rt.alloc(); "{block}")?.as_str(), text);
+        assert!(rt; prints(&block, text), "{text}");
     }
-    Ok(())
 }
 
 #[test]

@@ -4,13 +4,13 @@ ghost use Rattle.std.specs.Prelude.{◌≡◌, ◌≤◌, length};
 ghost use Rattle.ip_wire.specs.IpAddress.{version_of};
 ghost use Rattle.ip_wire.specs.Tcp.{packet_bytes, packet_bytes_mut};
 
-use super::copy_to;
 use ip_wire::{
     Error, IpAddress, TcpControl, TcpPacket, TcpPacketMut, TcpSeqNumber, TcpTimestampGenerator,
     TcpTimestampRepr,
 };
 use std::cmp::Ordering;
 use std::test::Fail;
+use test_support::{copy_to, prints};
 
 /// A segment with two flags and an option, from 192.168.1.1 to 192.168.1.2.
 pub(super) const SEGMENT: [u8; 28] = [
@@ -340,12 +340,10 @@ fn counts_modulo_2_to_the_32(rt: HostRuntime) {
 }
 
 #[test]
-fn prints_numbers_without_a_sign(rt: HostRuntime) -> std::result::Result<(), Fail> {
+fn prints_numbers_without_a_sign(rt: HostRuntime) {
     for (number, text) in [(0, "0"), (i32::MIN, "2147483648"), (-1, "4294967295")] {
-        let number = TcpSeqNumber(number);
-        assert_eq!(rt; format!(in rt.alloc(); "{number}")?.as_str(), text);
+        assert!(rt; prints(&TcpSeqNumber(number), text), "{text}");
     }
-    Ok(())
 }
 
 /// A clock that stands still.
