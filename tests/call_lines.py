@@ -294,6 +294,9 @@ HAND_WRITTEN = {
         *(f"block fe80::1/56 {subnet}" for subnet in SUBNETS6),
         *(f"block {block} {host}" for block, host in itertools.product(["0.0.0.0/0", "::/0"], ["127.0.0.1/32", "::1/128"])),
     ],
+    # Ranges without an acknowledgement: the header has room for their option, filled with end marks.
+    "tcp": ["tcp 192.168.1.1 192.168.1.2 48896 80 none 19088743 - 291 - - 0 1,2 3,4 - - - - 1 255",
+            "tcp 192.168.1.1 192.168.1.2 48896 80 syn 19088743 - 291 - 1460 0 - 1,2 - - - aa0000ff 1 255"],
     "prefix": ["prefix 1.0.2.0"],
     "netmask": [f"netmask 172.16.0.1 {mask}" for mask in MASKS],
 }

@@ -318,6 +318,26 @@ fn writes_ranges(rt: HostRuntime) -> std::result::Result<(), Fail> {
 }
 
 #[test]
+fn ranges_without_an_acknowledgement_are_written_as_end_marks(
+    rt: HostRuntime,
+) -> std::result::Result<(), Fail> {
+    let (src, dst) = ends();
+    let value = TcpRepr {
+        ack_number: None,
+        sack_ranges: [Some((1, 2)), Some((3, 4)), None, None],
+        ..ack()
+    };
+    let (mut bytes, len) = segment(&[
+        0x05, 0x12, 0, 0, 0, 1, 0, 0, 0, 2, 0, 0, 0, 3, 0, 0, 0, 4, 0, 0,
+    ]);
+    bytes[13] = 0x00;
+    let packet = TcpPacket::new_unchecked(&bytes[..len]);
+    let read = TcpRepr::parse(&packet, &src, &dst, &ChecksumCapabilities::ignored());
+    assert_eq!(rt; read, Ok(value));
+    is_written_as(&rt, &value, &[0; 20])
+}
+
+#[test]
 fn counts_octets_and_numbers(rt: HostRuntime) {
     let long = TcpRepr {
         max_seg_size: Some(1460),
