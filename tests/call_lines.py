@@ -272,6 +272,35 @@ def edges_netmask():
         yield line("netmask", host, printed(ones(n, 4) ^ 0x0100_0000, 4))
 
 
+HOSTS4 = ["192.168.1.0", "192.168.1.1", "192.168.1.2", "192.168.1.10", "192.168.1.127", "192.168.1.255", "192.168.0.0", "192.168.0.255",
+          "192.168.2.0", "127.0.0.1", "0.0.0.0", "255.255.255.255"]
+HOSTS6 = ["fe80::1", "fe80::2", "fe80::1122:3344:5566:7788", "fe80::ff00:0:0:0", "fe80::ff", "fe80:0:0:101::1", "::1", "ff02::1", "ff02::2"]
+# Blocks whose netmask, network and broadcast address are worked out.
+BOUNDS = ["0.0.0.0/0", "0.0.0.1/24", "0.0.0.0/32", "127.0.0.0/8", "192.168.0.0/16", "192.168.1.1/16", "192.168.1.1/17", "172.16.0.1/12",
+          "255.255.255.1/24", "10.0.0.6/30", "255.255.255.254/31", "255.255.255.255/32"]
+SUBNETS4 = ["192.168.1.0/32", "192.168.1.255/24", "192.168.1.10/30", "192.168.1.10/24", "192.168.1.10/23", "192.168.1.0/0",
+            "192.168.0.255/32", "127.0.0.1/8", "c0a8:10a::/128"]
+SUBNETS6 = ["fe80::ffff:ffff:ffff:ffff/65", "fe80::1234:5678/96", *(f"fe80:0:0:101:ffff:ffff:ffff:ffff/{n}" for n in (55, 56, 57)),
+            "fe80::1/55", "254.128.0.0/32"]
+MASKS = ["255.255.255.0", "255.255.0.0", "255.240.0.0", "128.0.0.0", "255.255.255.255", "0.0.0.0", "1.0.2.0", "255.255.255.1", "0.255.255.255"]
+
+# Lines by hand. Where they are recorded they are behind the others.
+HAND_WRITTEN = {
+    "block": [
+        *(f"block 192.168.1.10/{n} {host}/32" for n, host in itertools.product([0, 24, 32], HOSTS4)),
+        *(f"block fe80::1/{n} {host}/128" for n, host in itertools.product([0, 56, 128], HOSTS6)),
+        *(f"block {block} {block}" for block in BOUNDS),
+        *(f"block 192.168.1.10/{n} {subnet}" for n, subnet in itertools.product([23, 24], SUBNETS4)),
+        *(f"block fe80::1/56 {subnet}" for subnet in SUBNETS6),
+        *(f"block {block} {host}" for block, host in itertools.product(["0.0.0.0/0", "::/0"], ["127.0.0.1/32", "::1/128"])),
+    ],
+    # Ranges without an acknowledgement: the header has room for their option, filled with end marks.
+    "tcp": ["tcp 192.168.1.1 192.168.1.2 48896 80 none 19088743 - 291 - - 0 1,2 3,4 - - - - 1 255",
+            "tcp 192.168.1.1 192.168.1.2 48896 80 syn 19088743 - 291 - 1460 0 - 1,2 - - - aa0000ff 1 255"],
+    "prefix": ["prefix 1.0.2.0"],
+    "netmask": [f"netmask 172.16.0.1 {mask}" for mask in MASKS],
+}
+
 # The lines of a kind at the edges, one made of a random generator, and how often it is asked beside the others.
 Kind = collections.namedtuple("Kind", "edges random share")
 

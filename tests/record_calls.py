@@ -7,16 +7,16 @@ REFERENCE (given the WORDs) answers. The lines are the same in each run.
 import random
 import sys
 
-from call_lines import KINDS
+from call_lines import HAND_WRITTEN, KINDS
 from record import TESTS, record
 
-# How many random lines of each kind are recorded, behind those at the edges.
+# How many random lines of each kind are recorded, behind those at the edges and before those by hand.
 RANDOM_LINES = 300
 
 
 def lines(name, kind):
     rng = random.Random(name)
-    return dict.fromkeys([*kind.edges(), *(kind.random(rng) for _ in range(RANDOM_LINES))])
+    return dict.fromkeys([*kind.edges(), *(kind.random(rng) for _ in range(RANDOM_LINES)), *HAND_WRITTEN.get(name, [])])
 
 
 def main():

@@ -15,6 +15,10 @@
 //!   its netmask, its network and its broadcast address.
 //! - `prefix ADDRESS`: how many ones it is, where zeros alone follow them, else `-`. `netmask ADDRESS MASK`: the
 //!   block of both, or `err`.
+//! - `class ADDRESS`: the classes that contain it, in this order: `unspecified`, `broadcast`, `loopback`,
+//!   `multicast`, `unique-local`, `link-local`, `global-unicast`, `solicited-node`, `unicast`. Then, for IPv6,
+//!   `scope=` and the scope: `interface-local`, `link-local`, `admin-local`, `site-local`, `organization-local`,
+//!   `global` or `unknown`.
 //! - `sum OCTETS`: their Internet checksum, before its complement.
 //! - `eth TEXT`, `ip TEXT`, `cidr4 TEXT`, `cidr6 TEXT`, `cidr TEXT` and `endpoint TEXT`: `ok` and the printed
 //!   text of the Ethernet address, the IP address, the block of IPv4, of IPv6 or of either, or the endpoint that
@@ -24,6 +28,9 @@
 //! buffer is full of before. A kind that is not there is answered `unknown`, operands that the call does
 //! not take `malformed`.
 //!
+//! If reading or writing fails or memory runs out, the program prints one line on standard error and
+//! ends with status 1.
+//!
 //! It is tested and compared. What is proved is that each line has an answer, whatever it holds, that
 //! the conditions of each call are met, and that a text is answered what its reader and its printer say.
 #![tactic(auto)]
@@ -31,26 +38,26 @@
 mod answer;
 mod block;
 mod checksum;
+mod class;
 mod fragment;
 mod header;
 mod mask;
 mod operands;
 mod options;
+mod run;
 mod tcp;
 mod text;
 mod udp;
 
-use crate::answer::answers;
-use std::io;
-use std::io::{BufWriter, Read, Write};
+use crate::run::run;
+use std::process::ExitCode;
 
-fn main(rt: HostRuntime) -> io::Result<()> {
-    let mut input = Vec::new(rt.alloc());
-    rt.stdin().read_to_end(&mut input)?;
-    let texts = answers(rt.alloc(), input.as_slice())?;
-    let mut output = BufWriter::new(rt.alloc(), rt.stdout())?;
-    for text in &texts {
-        writeln!(output, "{text}")?;
+fn main(rt: HostRuntime) -> ExitCode {
+    match run(rt.alloc(), rt.stdin(), rt.stdout()) {
+        Ok(()) => ExitCode::SUCCESS,
+        Err(e) => {
+            let _ = eprintln!(rt; "{e}");
+            ExitCode::FAILURE
+        }
     }
-    output.flush()
 }

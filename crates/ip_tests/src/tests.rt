@@ -7,32 +7,13 @@ mod ipv4;
 mod ipv6;
 mod ipv6fragment;
 
-use ip_wire::{IpProtocol, Ipv4Address, Ipv4Repr, Ipv6Address, Ipv6Repr};
+use ip_wire::{IpProtocol, Ipv6Address, Ipv6Repr};
 
-/// An IPv4 packet of 24 octets from 17.18.19.20 to 33.34.35.36.
-const IPV4_PACKET: [u8; 24] = [
-    0x45, 0x00, 0x00, 0x18, 0x00, 0x00, 0x40, 0x00, 0x40, 0x01, 0xd2, 0x79, 0x11, 0x12, 0x13, 0x14,
-    0x21, 0x22, 0x23, 0x24, 0xaa, 0x00, 0x00, 0xff,
-];
-
-/// A fragment of an IPv4 packet between the same, of 30 octets.
+/// A fragment of an IPv4 packet from 17.18.19.20 to 33.34.35.36, of 30 octets.
 const IPV4_FRAGMENT: [u8; 30] = [
     0x45, 0x00, 0x00, 0x1e, 0x01, 0x02, 0x62, 0x03, 0x1a, 0x01, 0xd5, 0x6e, 0x11, 0x12, 0x13, 0x14,
     0x21, 0x22, 0x23, 0x24, 0xaa, 0x00, 0x00, 0x00, 0x00, 0x00, 0x00, 0x00, 0x00, 0xff,
 ];
-
-/// The values of the IPv4 packet's header.
-fn ipv4_header() -> Ipv4Repr
-    ensures { result.payload_len ≡ 4 }
-{
-    Ipv4Repr {
-        src_addr: Ipv4Address::new(17, 18, 19, 20),
-        dst_addr: Ipv4Address::new(33, 34, 35, 36),
-        next_header: IpProtocol::Icmp,
-        payload_len: 4,
-        hop_limit: 64,
-    }
-}
 
 /// A datagram from `fe80::1` to `ff02::1`.
 const IPV6_PACKET: [u8; 52] = [
@@ -61,14 +42,3 @@ const IPV6_FRAGMENT: [u8; 48] = [
     0x00, 0x00, 0x00, 0x00, 0x00, 0x00, 0x00, 0x01, 0xff, 0x02, 0x00, 0x00, 0x00, 0x00, 0x00, 0x00,
     0x00, 0x00, 0x00, 0x00, 0x00, 0x00, 0x00, 0x01, 0x11, 0x00, 0x0a, 0x00, 0x00, 0x01, 0x09, 0x32,
 ];
-
-/// The values that each byte of a buffer has before something is written.
-const OLD: [u8; 3] = [0x00, 0xa5, 0xff];
-
-/// Copies the bytes to a buffer of the same length. Returns the length of the buffer.
-fn copy_to(buffer: &mut [u8], bytes: &[u8]) -> usize {
-    if buffer.len() == bytes.len() {
-        buffer.copy_from_slice(bytes);
-    }
-    buffer.len()
-}

@@ -3,6 +3,7 @@
 use super::count_distinct;
 use ip_wire::EthernetAddress;
 use std::test::Fail;
+use test_support::prints;
 
 /// Whether an address is unicast, multicast, locally administered and broadcast.
 fn classes(address: EthernetAddress) -> [bool; 4] {
@@ -15,18 +16,16 @@ fn classes(address: EthernetAddress) -> [bool; 4] {
 }
 
 #[test]
-fn prints_octets_with_dashes(rt: HostRuntime) -> Result<(), Fail> {
+fn prints_octets_with_dashes(rt: HostRuntime) {
     for (octets, text) in [
         ([0x02, 0, 0, 0, 0, 0x01], "02-00-00-00-00-01"),
         ([0x11, 0x12, 0x13, 0x14, 0x15, 0x16], "11-12-13-14-15-16"),
         ([0xab, 0xcd, 0xef, 0x0a, 0xa0, 0xff], "ab-cd-ef-0a-a0-ff"),
     ] {
         let address = EthernetAddress::from_bytes(&octets);
-        let printed = format!(in rt.alloc(); "{address}")?;
-        let found = (address.as_bytes(), printed.as_str());
-        assert_eq!(rt; found, (octets.as_slice(), text));
+        let found = (address.as_bytes(), prints(&address, text));
+        assert_eq!(rt; found, (octets.as_slice(), true), "{text}");
     }
-    Ok(())
 }
 
 #[test]

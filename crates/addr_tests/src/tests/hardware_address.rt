@@ -2,7 +2,7 @@
 
 use ip_wire::{EthernetAddress, HardwareAddress};
 use net_base::Medium;
-use std::test::Fail;
+use test_support::prints;
 
 #[test]
 fn answers_as_its_ethernet_address(rt: HostRuntime) {
@@ -29,7 +29,7 @@ fn answers_as_its_ethernet_address(rt: HostRuntime) {
 }
 
 #[test]
-fn has_an_identifier_and_a_text_by_medium(rt: HostRuntime) -> Result<(), Fail> {
+fn has_an_identifier_and_a_text_by_medium(rt: HostRuntime) {
     let ethernet = EthernetAddress([0x02, 0x00, 0x00, 0x00, 0x00, 0x01]);
     for (address, medium, identifier, text) in [
         (HardwareAddress::Ip, Medium::Ip, None, "no hardware addr"),
@@ -40,9 +40,11 @@ fn has_an_identifier_and_a_text_by_medium(rt: HostRuntime) -> Result<(), Fail> {
             "02-00-00-00-00-01",
         ),
     ] {
-        let printed = format!(in rt.alloc(); "{address}")?;
-        let found = (address.medium(), address.as_eui_64(), printed.as_str());
-        assert_eq!(rt; found, (medium, identifier, text));
+        let found = (
+            address.medium(),
+            address.as_eui_64(),
+            prints(&address, text),
+        );
+        assert_eq!(rt; found, (medium, identifier, true), "{text}");
     }
-    Ok(())
 }

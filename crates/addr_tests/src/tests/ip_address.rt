@@ -4,6 +4,7 @@ use super::count_distinct;
 use ip_wire::{IpAddress, IpVersion, Ipv4Address, Ipv6Address};
 use std::net::{IpAddr, Ipv4Addr, Ipv6Addr};
 use std::test::Fail;
+use test_support::prints;
 
 /// The IPv4-mapped address of 1.2.3.4.
 fn mapped() -> IpAddress {
@@ -11,7 +12,7 @@ fn mapped() -> IpAddress {
 }
 
 #[test]
-fn prints_what_it_holds(rt: HostRuntime) -> Result<(), Fail> {
+fn prints_what_it_holds(rt: HostRuntime) {
     for (address, version, text) in [
         (
             IpAddress::v4(192, 168, 1, 1),
@@ -25,11 +26,9 @@ fn prints_what_it_holds(rt: HostRuntime) -> Result<(), Fail> {
         ),
         (mapped(), IpVersion::Ipv6, "::ffff:1.2.3.4"),
     ] {
-        let printed = format!(in rt.alloc(); "{address}")?;
-        let found = (address.version(), printed.as_str());
-        assert_eq!(rt; found, (version, text));
+        let found = (address.version(), prints(&address, text));
+        assert_eq!(rt; found, (version, true), "{text}");
     }
-    Ok(())
 }
 
 #[test]
@@ -47,81 +46,23 @@ fn converts_from_an_address_of_a_version(rt: HostRuntime) {
 
 #[test]
 fn has_classes(rt: HostRuntime) {
-    // Unicast, multicast, broadcast, unspecified.
-    for (address, classes) in [
-        (IpAddress::v4(192, 168, 1, 1), [true, false, false, false]),
-        (IpAddress::v4(224, 0, 0, 1), [false, true, false, false]),
-        (
-            IpAddress::v4(255, 255, 255, 255),
-            [false, false, true, false],
-        ),
-        (IpAddress::v4(0, 0, 0, 0), [false, false, false, true]),
-        (
-            IpAddress::v6(0xfe80, 0, 0, 0, 0, 0, 0, 1),
-            [true, false, false, false],
-        ),
-        (
-            IpAddress::v6(0xff02, 0, 0, 0, 0, 0, 0, 1),
-            [false, true, false, false],
-        ),
-        (
-            IpAddress::v6(0, 0, 0, 0, 0, 0, 0, 0),
-            [false, false, false, true],
-        ),
-    ] {
-        let found = [
-            address.is_unicast(),
-            address.is_multicast(),
-            address.is_broadcast(),
-            address.is_unspecified(),
-        ];
-        assert_eq!(rt; found, classes, "{address}");
-    }
+    let found = [
+        IpAddress::v4(192, 168, 1, 1).is_unicast(),
+        IpAddress::v4(224, 0, 0, 1).is_multicast(),
+        IpAddress::v4(255, 255, 255, 255).is_broadcast(),
+        IpAddress::v6(0, 0, 0, 0, 0, 0, 0, 0).is_unspecified(),
+    ];
+    assert_eq!(rt; found, [true; 4]);
 }
 
 #[test]
-fn an_ipv4_netmask_has_a_prefix_length(rt: HostRuntime) {
-    // Where the octet is the first, second, third and fourth, behind octets of ones.
-    for (octet, prefix_lens) in [
-        (0x80, [Some(1), Some(9), Some(17), Some(25)]),
-        (0xc0, [Some(2), Some(10), Some(18), Some(26)]),
-        (0xe0, [Some(3), Some(11), Some(19), Some(27)]),
-        (0xf0, [Some(4), Some(12), Some(20), Some(28)]),
-        (0xf8, [Some(5), Some(13), Some(21), Some(29)]),
-        (0xfc, [Some(6), Some(14), Some(22), Some(30)]),
-        (0xfe, [Some(7), Some(15), Some(23), Some(31)]),
-        (0xff, [Some(8), Some(16), Some(24), Some(32)]),
-    ] {
-        let found = [
-            IpAddress::v4(octet, 0, 0, 0).prefix_len(),
-            IpAddress::v4(255, octet, 0, 0).prefix_len(),
-            IpAddress::v4(255, 255, octet, 0).prefix_len(),
-            IpAddress::v4(255, 255, 255, octet).prefix_len(),
-        ];
-        assert_eq!(rt; found, prefix_lens);
-    }
-}
-
-#[test]
-fn has_a_prefix_length_where_zeros_follow_ones(rt: HostRuntime) {
-    let ones = 0xffff;
-    for (address, prefix_len) in [
-        (IpAddress::v4(0, 0, 0, 0), Some(0)),
-        (IpAddress::v4(255, 255, 255, 1), None),
-        (IpAddress::v4(1, 0, 2, 0), None),
-        (IpAddress::v6(0, 0, 0, 0, 0, 0, 0, 0), Some(0)),
-        (IpAddress::v6(ones, ones, ones, ones, 0, 0, 0, 0), Some(64)),
-        (
-            IpAddress::v6(ones, ones, ones, ones, ones, ones, ones, ones),
-            Some(128),
-        ),
-        (
-            IpAddress::v6(ones, ones, ones, ones, ones, ones, 0, 1),
-            None,
-        ),
-    ] {
-        assert_eq!(rt; address.prefix_len(), prefix_len, "{address}");
-    }
+fn a_netmask_has_a_prefix_length(rt: HostRuntime) {
+    let found = [
+        IpAddress::v4(255, 255, 128, 0).prefix_len(),
+        IpAddress::v6(0xffff, 0x8000, 0, 0, 0, 0, 0, 0).prefix_len(),
+        IpAddress::v4(255, 255, 255, 1).prefix_len(),
+    ];
+    assert_eq!(rt; found, [Some(17), Some(17), None]);
 }
 
 #[test]

@@ -4,9 +4,10 @@ use super::count_distinct;
 use ip_wire::{IpAddress, IpEndpoint, IpListenEndpoint, Ipv4Address, Ipv6Address};
 use std::net::{Ipv4Addr, Ipv6Addr, SocketAddr, SocketAddrV4, SocketAddrV6};
 use std::test::Fail;
+use test_support::prints;
 
 #[test]
-fn prints_address_and_port(rt: HostRuntime) -> Result<(), Fail> {
+fn prints_address_and_port(rt: HostRuntime) {
     let link_local = IpAddress::v6(0xfe80, 0, 0, 0, 0, 0, 0, 1);
     let mapped = IpAddress::v6(0, 0, 0, 0, 0, 0xffff, 0x0102, 0x0304);
     for (addr, port, text) in [
@@ -19,26 +20,20 @@ fn prints_address_and_port(rt: HostRuntime) -> Result<(), Fail> {
         let endpoint = IpEndpoint { addr, port };
         let is_made_of_both = IpEndpoint::new(endpoint.addr, endpoint.port) == endpoint;
         let own_text = endpoint.text();
-        let printed = format!(in rt.alloc(); "{endpoint}")?;
         let is_parsed = text.parse::<IpEndpoint>() == Ok(endpoint);
         let listening = IpListenEndpoint::from(endpoint);
-        let printed_listening = format!(in rt.alloc(); "{listening}")?;
-        let texts = (
+        let found = (
             own_text.as_str(),
-            printed.as_str(),
-            printed_listening.as_str(),
+            [is_made_of_both, is_parsed],
+            [prints(&endpoint, text), prints(&listening, text)],
         );
-        let found = (is_made_of_both, is_parsed, texts);
-        assert_eq!(rt; found, (true, true, (text, text, text)));
+        assert_eq!(rt; found, (text, [true; 2], [true; 2]));
     }
-    Ok(())
 }
 
 #[test]
-fn prints_no_address_as_a_star(rt: HostRuntime) -> Result<(), Fail> {
-    let everywhere = IpListenEndpoint::from(80);
-    assert_eq!(rt; format!(in rt.alloc(); "{everywhere}")?.as_str(), "*:80");
-    Ok(())
+fn prints_no_address_as_a_star(rt: HostRuntime) {
+    assert!(rt; prints(&IpListenEndpoint::from(80), "*:80"));
 }
 
 #[test]

@@ -1,14 +1,14 @@
-//! IPv6 addresses.
+//! IPv6 addresses. `tests/calls` records classes and prefix lengths of more addresses.
 
 use ip_wire::{
     EthernetAddress, HardwareAddress, IPV6_ADDR_SIZE, IPV6_LINK_LOCAL_ALL_MLDV2_ROUTERS,
     IPV6_LINK_LOCAL_ALL_NODES, IPV6_LINK_LOCAL_ALL_ROUTERS, IPV6_LINK_LOCAL_ALL_RPL_NODES,
     Ipv6Address, Ipv6Cidr, Ipv6MulticastScope,
 };
-use std::test::Fail;
+use test_support::prints;
 
 #[test]
-fn prints_the_longest_run_of_zeros_as_two_colons(rt: HostRuntime) -> Result<(), Fail> {
+fn prints_the_longest_run_of_zeros_as_two_colons(rt: HostRuntime) {
     for (groups, text) in [
         ([0x2001, 0, 0, 1, 0, 0, 0, 1], "2001:0:0:1::1"),
         ([0x2001, 0xdb8, 0, 0, 1, 0, 0, 1], "2001:db8::1:0:0:1"),
@@ -33,11 +33,9 @@ fn prints_the_longest_run_of_zeros_as_two_colons(rt: HostRuntime) -> Result<(), 
         ),
     ] {
         let address = Ipv6Address::from(groups);
-        let printed = format!(in rt.alloc(); "{address}")?;
-        let found = (address.segments(), printed.as_str());
-        assert_eq!(rt; found, (groups, text));
+        let found = (address.segments(), prints(&address, text));
+        assert_eq!(rt; found, (groups, true), "{text}");
     }
-    Ok(())
 }
 
 #[test]
@@ -67,7 +65,7 @@ fn is_ordered_by_octets(rt: HostRuntime) {
 }
 
 #[test]
-fn constants_print_as_their_standards_write_them(rt: HostRuntime) -> Result<(), Fail> {
+fn constants_print_as_their_standards_write_them(rt: HostRuntime) {
     for (address, text) in [
         (Ipv6Address::UNSPECIFIED, "::"),
         (Ipv6Address::LOCALHOST, "::1"),
@@ -76,9 +74,8 @@ fn constants_print_as_their_standards_write_them(rt: HostRuntime) -> Result<(), 
         (IPV6_LINK_LOCAL_ALL_MLDV2_ROUTERS, "ff02::16"),
         (IPV6_LINK_LOCAL_ALL_RPL_NODES, "ff02::1a"),
     ] {
-        assert_eq!(rt; format!(in rt.alloc(); "{address}")?.as_str(), text);
+        assert!(rt; prints(&address, text), "{text}");
     }
-    Ok(())
 }
 
 #[test]
@@ -97,111 +94,24 @@ fn converts_to_and_from_bits(rt: HostRuntime) {
 
 #[test]
 fn has_classes(rt: HostRuntime) {
-    // Unspecified, loopback, multicast, unique local, link-local, global unicast,
-    // solicited-node multicast, unicast.
-    for (groups, classes) in [
-        (
-            [0, 0, 0, 0, 0, 0, 0, 0],
-            [true, false, false, false, false, false, false, false],
-        ),
-        (
-            [0, 0, 0, 0, 0, 0, 0, 1],
-            [false, true, false, false, false, false, false, true],
-        ),
-        (
-            [0xff02, 0, 0, 0, 0, 0, 0, 1],
-            [false, false, true, false, false, false, false, false],
-        ),
-        (
-            [0xff02, 0, 0, 0, 0, 0, 0, 2],
-            [false, false, true, false, false, false, false, false],
-        ),
-        (
-            [0xfe80, 0, 0, 0, 0, 0, 0, 1],
-            [false, false, false, false, true, false, false, true],
-        ),
-        (
-            [0xfe80, 0, 0, 1, 0, 0, 0, 1],
-            [false, false, false, false, false, false, false, true],
-        ),
-        (
-            [0xfeb0, 0, 0, 0, 0, 0, 0, 1],
-            [false, false, false, false, false, false, false, true],
-        ),
-        (
-            [0xfd00, 0, 0, 201, 1, 1, 1, 1],
-            [false, false, false, true, false, false, false, true],
-        ),
-        (
-            [0xfc00, 0, 0, 0, 0, 0, 0, 0],
-            [false, false, false, true, false, false, false, true],
-        ),
-        (
-            [0x2001, 0xdb8, 3, 0, 0, 0, 0, 1],
-            [false, false, false, false, false, true, false, true],
-        ),
-        (
-            [0x3fff, 0, 0, 0, 0, 0, 0, 1],
-            [false, false, false, false, false, true, false, true],
-        ),
-        (
-            [0x4000, 0, 0, 0, 0, 0, 0, 1],
-            [false, false, false, false, false, false, false, true],
-        ),
-        (
-            [0xff02, 0, 0, 0, 0, 1, 0xff01, 101],
-            [false, false, true, false, false, false, true, false],
-        ),
-        (
-            [0xff02, 0, 0, 0, 0, 1, 0xfe01, 101],
-            [false, false, true, false, false, false, false, false],
-        ),
-    ] {
-        let address = Ipv6Address::from(groups);
-        let found = [
-            address.is_unspecified(),
-            address.is_loopback(),
-            address.is_multicast(),
-            address.is_unique_local(),
-            address.is_link_local(),
-            address.is_global_unicast(),
-            address.is_solicited_node_multicast(),
-            address.x_is_unicast(),
-        ];
-        assert_eq!(rt; found, classes, "{address}");
-    }
+    let group = Ipv6Address::new(0xff02, 0, 0, 0, 0, 1, 0xff01, 101);
+    let found = [
+        Ipv6Address::UNSPECIFIED.is_unspecified(),
+        Ipv6Address::LOCALHOST.is_loopback(),
+        group.is_multicast(),
+        Ipv6Address::new(0xfd00, 0, 0, 201, 1, 1, 1, 1).is_unique_local(),
+        Ipv6Address::new(0xfe80, 0, 0, 0, 0, 0, 0, 1).is_link_local(),
+        Ipv6Address::new(0x2001, 0xdb8, 3, 0, 0, 0, 0, 1).is_global_unicast(),
+        group.is_solicited_node_multicast(),
+        Ipv6Address::LOCALHOST.x_is_unicast(),
+    ];
+    assert_eq!(rt; found, [true; 8]);
 }
 
 #[test]
 fn has_a_scope(rt: HostRuntime) {
-    for (groups, scope) in [
-        (
-            [0xff01, 0, 0, 0, 0, 0, 0, 1],
-            Ipv6MulticastScope::InterfaceLocal,
-        ),
-        ([0xff02, 0, 0, 0, 0, 0, 0, 1], Ipv6MulticastScope::LinkLocal),
-        ([0xff03, 0, 0, 0, 0, 0, 0, 1], Ipv6MulticastScope::Unknown),
-        (
-            [0xff04, 0, 0, 0, 0, 0, 0, 1],
-            Ipv6MulticastScope::AdminLocal,
-        ),
-        ([0xff05, 0, 0, 0, 0, 0, 0, 1], Ipv6MulticastScope::SiteLocal),
-        (
-            [0xff08, 0, 0, 0, 0, 0, 0, 1],
-            Ipv6MulticastScope::OrganizationLocal,
-        ),
-        ([0xff0e, 0, 0, 0, 0, 0, 0, 1], Ipv6MulticastScope::Global),
-        ([0xff12, 0, 0, 0, 0, 0, 0, 1], Ipv6MulticastScope::LinkLocal),
-        ([0xfe80, 0, 0, 0, 0, 0, 0, 1], Ipv6MulticastScope::LinkLocal),
-        ([0xfd00, 0, 0, 201, 1, 1, 1, 1], Ipv6MulticastScope::Global),
-        (
-            [0x2001, 0xdb8, 3, 0, 0, 0, 0, 1],
-            Ipv6MulticastScope::Global,
-        ),
-        ([0, 0, 0, 0, 0, 0, 0, 0], Ipv6MulticastScope::Unknown),
-    ] {
-        assert_eq!(rt; Ipv6Address::from(groups).x_multicast_scope(), scope);
-    }
+    let group = Ipv6Address::new(0xff05, 0, 0, 0, 0, 0, 0, 1);
+    assert_eq!(rt; group.x_multicast_scope(), Ipv6MulticastScope::SiteLocal);
 }
 
 #[test]
@@ -230,21 +140,15 @@ fn keeps_its_first_bits_under_a_mask(rt: HostRuntime) {
 
 #[test]
 fn a_netmask_has_a_prefix_length(rt: HostRuntime) {
-    for (groups, len) in [
-        ([0, 0, 0, 0, 0, 0, 0, 0], Some(0)),
-        ([0x8000, 0, 0, 0, 0, 0, 0, 0], Some(1)),
-        ([0xffff, 0xffff, 0xffff, 0xffff, 0, 0, 0, 0], Some(64)),
-        ([0xffff, 0xffff, 0xffff, 0xffff, 0x8000, 0, 0, 0], Some(65)),
-        ([0xffff; 8], Some(128)),
-        ([0xffff, 0xffff, 0xffff, 0xffff, 0xffff, 0xffff, 0, 1], None),
-        ([0, 0, 0, 0, 0, 0, 0, 1], None),
-    ] {
-        assert_eq!(rt; Ipv6Address::from(groups).prefix_len(), len);
-    }
+    let found = [
+        Ipv6Address::new(0xffff, 0x8000, 0, 0, 0, 0, 0, 0).prefix_len(),
+        Ipv6Address::LOCALHOST.prefix_len(),
+    ];
+    assert_eq!(rt; found, [Some(17), None]);
 }
 
 #[test]
-fn its_solicited_node_address_has_its_last_three_octets(rt: HostRuntime) -> Result<(), Fail> {
+fn its_solicited_node_address_has_its_last_three_octets(rt: HostRuntime) {
     for (groups, text) in [
         ([0xfe80, 0, 0, 0, 0, 0, 0, 1], "ff02::1:ff00:1"),
         (
@@ -255,11 +159,9 @@ fn its_solicited_node_address_has_its_last_three_octets(rt: HostRuntime) -> Resu
         let address = Ipv6Address::from(groups);
         assert!(rt; address.x_is_unicast());
         let group = address.solicited_node();
-        let printed = format!(in rt.alloc(); "{group}")?;
-        let found = (printed.as_str(), group.is_solicited_node_multicast());
-        assert_eq!(rt; found, (text, true));
+        let found = [prints(&group, text), group.is_solicited_node_multicast()];
+        assert_eq!(rt; found, [true; 2], "{text}");
     }
-    Ok(())
 }
 
 #[test]

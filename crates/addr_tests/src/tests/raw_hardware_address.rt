@@ -6,7 +6,7 @@ use ip_wire::{
     Error, EthernetAddress, HardwareAddress, MAX_HARDWARE_ADDRESS_LEN, RawHardwareAddress,
 };
 use net_base::Medium;
-use std::test::Fail;
+use test_support::prints;
 
 /// Values are equal where their octets are.
 fn are_equal(one: RawHardwareAddress, other: RawHardwareAddress) -> bool
@@ -16,7 +16,7 @@ fn are_equal(one: RawHardwareAddress, other: RawHardwareAddress) -> bool
 }
 
 #[test]
-fn keeps_and_prints_octets(rt: HostRuntime) -> std::result::Result<(), Fail> {
+fn keeps_and_prints_octets(rt: HostRuntime) {
     for (octets, text) in [
         ([].as_slice(), ""),
         ([0x0a].as_slice(), "0a"),
@@ -32,16 +32,14 @@ fn keeps_and_prints_octets(rt: HostRuntime) -> std::result::Result<(), Fail> {
     ] {
         assert!(rt; octets.len() <= MAX_HARDWARE_ADDRESS_LEN);
         let address = RawHardwareAddress::from_bytes(octets);
-        let printed = format!(in rt.alloc(); "{address}")?;
         let found = (
             address.as_bytes(),
             address.len(),
             address.is_empty(),
-            printed.as_str(),
+            prints(&address, text),
         );
-        assert_eq!(rt; found, (octets, octets.len(), octets.is_empty(), text));
+        assert_eq!(rt; found, (octets, octets.len(), octets.is_empty(), true));
     }
-    Ok(())
 }
 
 #[test]

@@ -3,10 +3,11 @@
 ghost use Rattle.std.specs.Prelude.{◌≡◌, ◌≤◌};
 ghost use Rattle.ip_wire.specs.Ip.{max_payload_len, payload_len_of};
 
-use super::{IPV4_FRAGMENT, IPV4_PACKET, IPV6_PACKET, OLD, ipv4_header, ipv6_header};
+use super::{IPV4_FRAGMENT, IPV6_FRAGMENT, IPV6_PACKET, ipv4, ipv6, ipv6_header};
 use ip_wire::{Error, IpAddress, IpPacket, IpProtocol, IpRepr, IpVersion};
 use net_base::{Checksum, ChecksumCapabilities};
 use std::test::Fail;
+use test_support::{IPV4_PACKET, OLD, ipv4_header};
 
 /// What is read of the bytes, the checksum verified.
 fn parse(bytes: &[u8]) -> Result<IpRepr, Error> {
@@ -37,6 +38,33 @@ fn a_view_has_version_and_bytes(rt: HostRuntime) -> Result<(), Fail> {
     let found = (packet.version(), packet.into_inner());
     assert_eq!(rt; found, (4, IPV4_PACKET.as_slice()));
     Ok(())
+}
+
+#[test]
+fn refuses_less_than_the_packet(rt: HostRuntime) {
+    for (packet, is_ipv4) in [
+        (IPV4_PACKET.as_slice(), true),
+        (&IPV4_FRAGMENT, true),
+        (&IPV6_PACKET, false),
+        (&IPV6_FRAGMENT, false),
+    ] {
+        let mut buffer = [0; 52];
+        assert!(rt; packet.len() <= 52);
+        buffer[..packet.len()].copy_from_slice(packet);
+        for len in 0..=packet.len() {
+            let want = if len < packet.len() {
+                Err(Error)
+            } else {
+                Ok(())
+            };
+            let bytes = &mut buffer[..len];
+            if is_ipv4 {
+                assert_eq!(rt; ipv4::checks(bytes), [want; 6]);
+            } else {
+                assert_eq!(rt; ipv6::checks(bytes), [want; 5]);
+            }
+        }
+    }
 }
 
 #[test]

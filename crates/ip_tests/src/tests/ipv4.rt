@@ -2,13 +2,14 @@
 
 ghost use Rattle.ip_wire.specs.Ipv4.{HasLengths, packet_bytes, packet_bytes_mut};
 
-use super::{IPV4_FRAGMENT, IPV4_PACKET, OLD, copy_to, ipv4_header};
+use super::IPV4_FRAGMENT;
 use ip_wire::{
     Error, IPV4_HEADER_LEN, IpProtocol, Ipv4Address, Ipv4FragKey, Ipv4Packet, Ipv4PacketMut,
     Ipv4Repr,
 };
 use net_base::{Checksum, ChecksumCapabilities};
 use std::test::Fail;
+use test_support::{IPV4_PACKET, OLD, copy_to, ipv4_header, prints};
 
 /// The header of the packet with the longest payload, and with TCP.
 const LONGEST_HEADER: [u8; 20] = [
@@ -179,7 +180,7 @@ fn padding_is_no_payload(rt: HostRuntime) -> Result<(), Fail> {
 }
 
 /// What each check of the bytes returns.
-fn checks(bytes: &mut [u8]) -> [ip_wire::Result<()>; 6] {
+pub(super) fn checks(bytes: &mut [u8]) -> [ip_wire::Result<()>; 6] {
     let view = Ipv4Packet::new_unchecked(bytes);
     [
         view.check_len(),
@@ -189,23 +190,6 @@ fn checks(bytes: &mut [u8]) -> [ip_wire::Result<()>; 6] {
         Ipv4PacketMut::new_unchecked(bytes).check_len(),
         Ipv4PacketMut::new_checked(bytes).and(Ok(())),
     ]
-}
-
-#[test]
-fn refuses_less_than_the_packet(rt: HostRuntime) {
-    for packet in [IPV4_PACKET.as_slice(), &IPV4_FRAGMENT] {
-        let mut buffer = [0; 30];
-        assert!(rt; packet.len() <= 30);
-        buffer[..packet.len()].copy_from_slice(packet);
-        for len in 0..=packet.len() {
-            let want = if len < packet.len() {
-                Err(Error)
-            } else {
-                Ok(())
-            };
-            assert_eq!(rt; checks(&mut buffer[..len]), [want; 6]);
-        }
-    }
 }
 
 #[test]
@@ -265,7 +249,7 @@ fn keys_tell_packets_apart(rt: HostRuntime) {
 }
 
 #[test]
-fn prints_the_header(rt: HostRuntime) -> Result<(), Fail> {
+fn prints_the_header(rt: HostRuntime) {
     let mut version_6 = IPV4_PACKET;
     version_6[0] = 0x65;
     for (bytes, text) in [
@@ -289,9 +273,8 @@ fn prints_the_header(rt: HostRuntime) -> Result<(), Fail> {
         (&[], "IPv4 (wire::Error)"),
     ] {
         let packet = Ipv4Packet::new_unchecked(bytes);
-        assert_eq!(rt; format!(in rt.alloc(); "{packet}")?.as_str(), text);
+        assert!(rt; prints(&packet, text), "{text}");
     }
-    Ok(())
 }
 
 /// What is read of the bytes.
@@ -404,17 +387,13 @@ fn writes_no_checksum_where_none_is_wanted(rt: HostRuntime) {
 }
 
 #[test]
-fn prints_addresses_and_protocol(rt: HostRuntime) -> Result<(), Fail> {
-    let text = format!(in rt.alloc(); "{}", ipv4_header())?;
-    assert_eq!(rt;
-        text.as_str(),
-        "IPv4 src=17.18.19.20 dst=33.34.35.36 proto=ICMP"
-    );
-    Ok(())
+fn prints_addresses_and_protocol(rt: HostRuntime) {
+    let text = "IPv4 src=17.18.19.20 dst=33.34.35.36 proto=ICMP";
+    assert!(rt; prints(&ipv4_header(), text));
 }
 
 #[test]
-fn names_the_protocols_of_the_table(rt: HostRuntime) -> Result<(), Fail> {
+fn names_the_protocols_of_the_table(rt: HostRuntime) {
     for (number, name, text) in [
         (0, IpProtocol::HopByHop, "Hop-by-Hop"),
         (1, IpProtocol::Icmp, "ICMP"),
@@ -431,11 +410,13 @@ fn names_the_protocols_of_the_table(rt: HostRuntime) -> Result<(), Fail> {
         (3, IpProtocol::Unknown(3), "0x03"),
         (0xfe, IpProtocol::Unknown(0xfe), "0xfe"),
     ] {
-        let printed = format!(in rt.alloc(); "{name}")?;
-        let found = (IpProtocol::from(number), u8::from(name), printed.as_str());
-        assert_eq!(rt; found, (name, number, text));
+        let found = (
+            IpProtocol::from(number),
+            u8::from(name),
+            prints(&name, text),
+        );
+        assert_eq!(rt; found, (name, number, true), "{text}");
     }
-    Ok(())
 }
 
 #[test]

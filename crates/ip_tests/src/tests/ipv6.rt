@@ -3,11 +3,12 @@
 ghost use Rattle.std.specs.Prelude.{◌≡◌};
 ghost use Rattle.ip_wire.specs.Ipv6.{HasLengths, packet_bytes, packet_bytes_mut};
 
-use super::{IPV6_FRAGMENT, IPV6_PACKET, OLD, copy_to, ipv6_header};
+use super::{IPV6_PACKET, ipv6_header};
 use ip_wire::{
     Error, IPV6_HEADER_LEN, IpProtocol, Ipv6Address, Ipv6Packet, Ipv6PacketMut, Ipv6Repr,
 };
 use std::test::Fail;
+use test_support::{OLD, copy_to, prints};
 
 /// The fields of a header by their types, in their order, and its lengths.
 type Fields = ([u8; 3], u32, u16, IpProtocol, [Ipv6Address; 2], [usize; 2]);
@@ -156,7 +157,7 @@ fn padding_is_no_payload(rt: HostRuntime) -> Result<(), Fail> {
 }
 
 /// What each check of the bytes returns.
-fn checks(bytes: &mut [u8]) -> [ip_wire::Result<()>; 5] {
+pub(super) fn checks(bytes: &mut [u8]) -> [ip_wire::Result<()>; 5] {
     let view = Ipv6Packet::new_unchecked(bytes);
     [
         view.check_len(),
@@ -165,23 +166,6 @@ fn checks(bytes: &mut [u8]) -> [ip_wire::Result<()>; 5] {
         Ipv6PacketMut::new_unchecked(bytes).check_len(),
         Ipv6PacketMut::new_checked(bytes).and(Ok(())),
     ]
-}
-
-#[test]
-fn refuses_less_than_the_packet(rt: HostRuntime) {
-    for packet in [IPV6_PACKET.as_slice(), &IPV6_FRAGMENT] {
-        let mut buffer = [0; 52];
-        assert!(rt; packet.len() <= 52);
-        buffer[..packet.len()].copy_from_slice(packet);
-        for len in 0..=packet.len() {
-            let want = if len < packet.len() {
-                Err(Error)
-            } else {
-                Ok(())
-            };
-            assert_eq!(rt; checks(&mut buffer[..len]), [want; 5]);
-        }
-    }
 }
 
 #[test]
@@ -224,14 +208,12 @@ fn writes_a_header_and_leaves_the_rest(rt: HostRuntime) {
 const TEXT: &str = "IPv6 src=fe80::1 dst=ff02::1 nxt_hdr=UDP hop_limit=64";
 
 #[test]
-fn prints_addresses_and_protocol(rt: HostRuntime) -> Result<(), Fail> {
-    let text = format!(in rt.alloc(); "{}", ipv6_header())?;
-    assert_eq!(rt; text.as_str(), TEXT);
-    Ok(())
+fn prints_addresses_and_protocol(rt: HostRuntime) {
+    assert!(rt; prints(&ipv6_header(), TEXT));
 }
 
 #[test]
-fn prints_the_header(rt: HostRuntime) -> Result<(), Fail> {
+fn prints_the_header(rt: HostRuntime) {
     let mut version_4 = IPV6_PACKET;
     version_4[0] = 0x40;
     for (bytes, text) in [
@@ -241,7 +223,6 @@ fn prints_the_header(rt: HostRuntime) -> Result<(), Fail> {
         (&[], "IPv6 (wire::Error)"),
     ] {
         let packet = Ipv6Packet::new_unchecked(bytes);
-        assert_eq!(rt; format!(in rt.alloc(); "{packet}")?.as_str(), text);
+        assert!(rt; prints(&packet, text), "{text}");
     }
-    Ok(())
 }

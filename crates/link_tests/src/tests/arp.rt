@@ -1,11 +1,11 @@
 //! ARP packets.
 
-use super::OLD;
 use ip_wire::{
     ArpHardware, ArpOperation, ArpPacket, ArpPacketMut, ArpRepr, Error, EthernetAddress,
     EthernetProtocol, Ipv4Address,
 };
 use std::test::Fail;
+use test_support::{OLD, prints};
 
 /// A request from 33.34.35.36 for the hardware address of 65.66.67.68.
 const PACKET: [u8; 28] = [
@@ -246,14 +246,12 @@ const TEXT: &str =
     "ARP type=Ethernet+IPv4 src=11-12-13-14-15-16/33.34.35.36 tgt=31-32-33-34-35-36/65.66.67.68 op=Request";
 
 #[test]
-fn prints_values(rt: HostRuntime) -> std::result::Result<(), Fail> {
-    let text = format!(in rt.alloc(); "{}", value(ArpOperation::Request))?;
-    assert_eq!(rt; text.as_str(), TEXT);
-    Ok(())
+fn prints_values(rt: HostRuntime) {
+    assert!(rt; prints(&value(ArpOperation::Request), TEXT));
 }
 
 #[test]
-fn prints_packets(rt: HostRuntime) -> std::result::Result<(), Fail> {
+fn prints_packets(rt: HostRuntime) {
     let empty = [0x12, 0x34, 0x88, 0xcc, 0x00, 0x00, 0x00, 0x03];
     let mut longer = PACKET;
     longer[4] = 0x05;
@@ -275,7 +273,6 @@ fn prints_packets(rt: HostRuntime) -> std::result::Result<(), Fail> {
         (&[], "ARP (wire::Error)"),
     ] {
         let packet = ArpPacket::new_unchecked(bytes);
-        assert_eq!(rt; format!(in rt.alloc(); "{packet}")?.as_str(), text);
+        assert!(rt; prints(&packet, text), "{text}");
     }
-    Ok(())
 }

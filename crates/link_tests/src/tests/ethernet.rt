@@ -3,12 +3,12 @@
 ghost use Rattle.std.specs.Prelude.{◌≡◌, ◌+◌, length};
 ghost use Rattle.ip_wire.specs.Ethernet.{frame_bytes_mut};
 
-use super::OLD;
 use ip_wire::{
     ETHERNET_HEADER_LEN, Error, EthernetAddress, EthernetFrame, EthernetFrameMut, EthernetProtocol,
     EthernetRepr,
 };
 use std::test::Fail;
+use test_support::{OLD, prints};
 
 /// The receiver of each frame.
 const FRAME_DST: EthernetAddress = EthernetAddress([0x01, 0x02, 0x03, 0x04, 0x05, 0x06]);
@@ -150,7 +150,7 @@ fn refuses_less_than_a_header(rt: HostRuntime) {
 }
 
 #[test]
-fn prints_the_header(rt: HostRuntime) -> Result<(), Fail> {
+fn prints_the_header(rt: HostRuntime) {
     let mut unknown = IPV4_FRAME;
     unknown[12] = 0x0b;
     for (bytes, text) in [
@@ -166,13 +166,12 @@ fn prints_the_header(rt: HostRuntime) -> Result<(), Fail> {
         (&[], "EthernetII (wire::Error)"),
     ] {
         let frame = EthernetFrame::new_unchecked(bytes);
-        assert_eq!(rt; format!(in rt.alloc(); "{frame}")?.as_str(), text);
+        assert!(rt; prints(&frame, text), "{text}");
     }
-    Ok(())
 }
 
 #[test]
-fn names_the_types_of_the_table(rt: HostRuntime) -> Result<(), Fail> {
+fn names_the_types_of_the_table(rt: HostRuntime) {
     for (number, name, text) in [
         (0x0800, EthernetProtocol::Ipv4, "IPv4"),
         (0x0806, EthernetProtocol::Arp, "ARP"),
@@ -180,15 +179,13 @@ fn names_the_types_of_the_table(rt: HostRuntime) -> Result<(), Fail> {
         (0x88cc, EthernetProtocol::Unknown(0x88cc), "0x88cc"),
         (0x000a, EthernetProtocol::Unknown(10), "0x000a"),
     ] {
-        let printed = format!(in rt.alloc(); "{name}")?;
         let found = (
             EthernetProtocol::from(number),
             u16::from(name),
-            printed.as_str(),
+            prints(&name, text),
         );
-        assert_eq!(rt; found, (name, number, text));
+        assert_eq!(rt; found, (name, number, true), "{text}");
     }
-    Ok(())
 }
 
 #[test]

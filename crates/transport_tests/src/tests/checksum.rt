@@ -1,14 +1,7 @@
 //! Sums of words.
 
-use super::IPV4_PACKET;
 use ip_wire::{IpProtocol, Ipv6Address, checksum};
-use std::alloc::{AllocError, Global};
-use std::test::Fail;
-
-/// So many copies of a byte.
-fn copies(alloc: Global, byte: u8, len: usize) -> Result<Vec<u8>, AllocError> {
-    vec![in alloc; byte; len]
-}
+use test_support::IPV4_PACKET;
 
 #[test]
 fn sums_bytes(rt: HostRuntime) {
@@ -23,13 +16,6 @@ fn sums_bytes(rt: HostRuntime) {
     ] {
         assert_eq!(rt; checksum::data(bytes), sum);
     }
-}
-
-#[test]
-fn sums_more_words_than_a_packet_has(rt: HostRuntime) -> Result<(), Fail> {
-    let ones = copies(rt.alloc(), 0xff, 131_076)?;
-    assert_eq!(rt; checksum::data(&ones), 0xffff);
-    Ok(())
 }
 
 #[test]

@@ -2,7 +2,7 @@
 
 use super::tcp::{SYN, ends};
 use super::tcp_repr::syn;
-use super::{FRAME_DST, FRAME_SRC, IPV4_PACKET, copy_to, ipv4_header};
+use super::{FRAME_DST, FRAME_SRC};
 use ip_wire::{
     Error, EthernetFrame, EthernetFrameMut, EthernetProtocol, EthernetRepr, IpProtocol,
     Ipv4Address, Ipv4Packet, Ipv4PacketMut, Ipv4Repr, Ipv6Address, Ipv6FragmentHeaderMut,
@@ -10,6 +10,7 @@ use ip_wire::{
 };
 use net_base::ChecksumCapabilities;
 use std::test::Fail;
+use test_support::{IPV4_PACKET, copy_to, ipv4_header};
 
 /// A packet in a frame, with two bytes of padding behind it.
 const FRAME: [u8; 40] = [

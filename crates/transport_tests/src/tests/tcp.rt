@@ -1,15 +1,16 @@
 //! TCP segments and sequence numbers.
 
-ghost use Rattle.std.specs.Prelude.{◌≡◌};
+ghost use Rattle.std.specs.Prelude.{◌≡◌, ◌≤◌, length};
 ghost use Rattle.ip_wire.specs.IpAddress.{version_of};
+ghost use Rattle.ip_wire.specs.Tcp.{packet_bytes, packet_bytes_mut};
 
-use super::copy_to;
 use ip_wire::{
     Error, IpAddress, TcpControl, TcpPacket, TcpPacketMut, TcpSeqNumber, TcpTimestampGenerator,
     TcpTimestampRepr,
 };
 use std::cmp::Ordering;
 use std::test::Fail;
+use test_support::{copy_to, prints};
 
 /// A segment with two flags and an option, from 192.168.1.1 to 192.168.1.2.
 pub(super) const SEGMENT: [u8; 28] = [
@@ -131,6 +132,63 @@ fn writes_every_field(rt: HostRuntime) -> std::result::Result<(), Fail> {
         (4, 4, true, SEGMENT.as_slice())
     );
     Ok(())
+}
+
+/// Writes the flag with this bit of the 16-bit word at octet 12. FIN is the lowest bit, NS the highest.
+fn set_flag(packet: &mut TcpPacketMut<'_>, bit: u16, value: bool)
+    requires { 14 ≤ length (packet_bytes_mut packet.old) }
+{
+    match bit {
+        0x001 => packet.set_fin(value),
+        0x002 => packet.set_syn(value),
+        0x004 => packet.set_rst(value),
+        0x008 => packet.set_psh(value),
+        0x010 => packet.set_ack(value),
+        0x020 => packet.set_urg(value),
+        0x040 => packet.set_ece(value),
+        0x080 => packet.set_cwr(value),
+        _ => packet.set_ns(value),
+    }
+}
+
+/// The bits of the flags that the getters find set.
+fn flags_of(packet: &TcpPacket<'_>) -> u16
+    requires { 14 ≤ length (packet_bytes packet.now) }
+{
+    let mut bits = 0;
+    for (is_set, bit) in [
+        (packet.fin(), 0x001),
+        (packet.syn(), 0x002),
+        (packet.rst(), 0x004),
+        (packet.psh(), 0x008),
+        (packet.ack(), 0x010),
+        (packet.urg(), 0x020),
+        (packet.ece(), 0x040),
+        (packet.cwr(), 0x080),
+        (packet.ns(), 0x100),
+    ] {
+        if is_set {
+            bits |= bit;
+        }
+    }
+    bits
+}
+
+#[test]
+fn each_flag_is_a_bit_of_its_own(rt: HostRuntime) {
+    for (old, value, old_flags) in [(0x00, true, 0x000), (0xff, false, 0x1ff)] {
+        for bit in [
+            0x001, 0x002, 0x004, 0x008, 0x010, 0x020, 0x040, 0x080, 0x100,
+        ] {
+            let mut want = [old; 20];
+            let word = u16::from_be_bytes([old; 2]) ^ bit;
+            want[12..14].copy_from_slice(&word.to_be_bytes());
+            let mut buffer = [old; 20];
+            set_flag(&mut TcpPacketMut::new_unchecked(&mut buffer), bit, value);
+            let flags = flags_of(&TcpPacket::new_unchecked(&buffer));
+            assert_eq!(rt; (buffer, flags), (want, old_flags ^ bit), "{bit}");
+        }
+    }
 }
 
 #[test]
@@ -282,12 +340,10 @@ fn counts_modulo_2_to_the_32(rt: HostRuntime) {
 }
 
 #[test]
-fn prints_numbers_without_a_sign(rt: HostRuntime) -> std::result::Result<(), Fail> {
+fn prints_numbers_without_a_sign(rt: HostRuntime) {
     for (number, text) in [(0, "0"), (i32::MIN, "2147483648"), (-1, "4294967295")] {
-        let number = TcpSeqNumber(number);
-        assert_eq!(rt; format!(in rt.alloc(); "{number}")?.as_str(), text);
+        assert!(rt; prints(&TcpSeqNumber(number), text), "{text}");
     }
-    Ok(())
 }
 
 /// A clock that stands still.

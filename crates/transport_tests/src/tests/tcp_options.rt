@@ -2,11 +2,11 @@
 
 ghost use Rattle.std.specs.Prelude.{◌≤◌};
 
-use super::copy_to;
 use super::tcp::SYN;
 use ip_wire::{Error, SACK_BLOCKS, TCP_HEADER_LEN, TcpOption, TcpOptionSummary, TcpPacket};
 use std::process::Abort;
 use std::test::Fail;
+use test_support::{copy_to, prints};
 
 /// No ranges.
 pub(super) const NO_RANGES: [Option<(u32, u32)>; SACK_BLOCKS] = [None; SACK_BLOCKS];
@@ -234,7 +234,7 @@ fn keeps_four_of_five_blocks(rt: HostRuntime) {
 }
 
 #[test]
-fn prints_four_places(rt: HostRuntime) -> std::result::Result<(), Fail> {
+fn prints_options(rt: HostRuntime) -> std::result::Result<(), Fail> {
     for (options, text) in [
         (
             [0x05, 0x0a, 0, 0, 0, 1, 0, 0, 0, 2].as_slice(),
@@ -244,10 +244,20 @@ fn prints_four_places(rt: HostRuntime) -> std::result::Result<(), Fail> {
             &FOUR_BLOCKS,
             "TCP src=0 dst=0 seq=0 win=0 len=0 sACKr[Some((1, 2)), Some((3, 4)), Some((5, 6)), Some((7, 8))]",
         ),
+        (
+            &[
+                0x02, 0x04, 0x05, 0xb4, 0x04, 0x02, 0x08, 0x0a, 0, 0, 0, 1, 0xff, 0xff, 0xff, 0xff,
+            ],
+            "TCP src=0 dst=0 seq=0 win=0 len=0 mss=1460 sACK tsval 00000001 tsecr ffffffff",
+        ),
+        (
+            &[0x03, 0x03, 0x07, 0x0c, 0x02, 0x02, 0x05],
+            "TCP src=0 dst=0 seq=0 win=0 len=0 ws=7 opt(12) (wire::Error)",
+        ),
     ] {
         let (bytes, len) = segment(&rt, options);
         let packet = TcpPacket::new_checked(&bytes[..len])?;
-        assert_eq!(rt; format!(in rt.alloc(); "{packet}")?.as_str(), text);
+        assert!(rt; prints(&packet, text), "{text}");
     }
     Ok(())
 }

@@ -2,7 +2,6 @@
 
 ghost use Rattle.std.specs.Prelude.{◌≤◌, length};
 
-use super::OLD;
 use super::tcp::{SEGMENT, SYN, ends};
 use super::tcp_options::{FOUR_BLOCKS, FOUR_RANGES, NO_RANGES};
 use ip_wire::{
@@ -12,6 +11,7 @@ use ip_wire::{
 use net_base::{Checksum, ChecksumCapabilities};
 use std::process::Abort;
 use std::test::Fail;
+use test_support::{OLD, prints};
 
 /// The values of the segment with SYN and no option.
 pub(super) fn syn() -> TcpRepr<'static> {
@@ -318,6 +318,26 @@ fn writes_ranges(rt: HostRuntime) -> std::result::Result<(), Fail> {
 }
 
 #[test]
+fn ranges_without_an_acknowledgement_are_written_as_end_marks(
+    rt: HostRuntime,
+) -> std::result::Result<(), Fail> {
+    let (src, dst) = ends();
+    let value = TcpRepr {
+        ack_number: None,
+        sack_ranges: [Some((1, 2)), Some((3, 4)), None, None],
+        ..ack()
+    };
+    let (mut bytes, len) = segment(&[
+        0x05, 0x12, 0, 0, 0, 1, 0, 0, 0, 2, 0, 0, 0, 3, 0, 0, 0, 4, 0, 0,
+    ]);
+    bytes[13] = 0x00;
+    let packet = TcpPacket::new_unchecked(&bytes[..len]);
+    let read = TcpRepr::parse(&packet, &src, &dst, &ChecksumCapabilities::ignored());
+    assert_eq!(rt; read, Ok(value));
+    is_written_as(&rt, &value, &[0; 20])
+}
+
+#[test]
 fn counts_octets_and_numbers(rt: HostRuntime) {
     let long = TcpRepr {
         max_seg_size: Some(1460),
@@ -349,7 +369,7 @@ fn a_buffer_has_header_and_payload(rt: HostRuntime) {
 }
 
 #[test]
-fn prints_values(rt: HostRuntime) -> std::result::Result<(), Fail> {
+fn prints_values(rt: HostRuntime) {
     for (value, text) in [
         (syn(), "TCP src=48896 dst=80 syn seq=19088743 win=291 len=4"),
         (
@@ -361,13 +381,12 @@ fn prints_values(rt: HostRuntime) -> std::result::Result<(), Fail> {
             "TCP src=48896 dst=80 psh seq=19088743 ack=162254319 win=291 len=0 mss=1460",
         ),
     ] {
-        assert_eq!(rt; format!(in rt.alloc(); "{value}")?.as_str(), text);
+        assert!(rt; prints(&value, text), "{text}");
     }
-    Ok(())
 }
 
 #[test]
-fn prints_segments(rt: HostRuntime) -> std::result::Result<(), Fail> {
+fn prints_segments(rt: HostRuntime) {
     let mut cut = SYN;
     cut[12] = 0x60;
     let mut short = SYN;
@@ -398,7 +417,6 @@ fn prints_segments(rt: HostRuntime) -> std::result::Result<(), Fail> {
         (&[], "TCP (wire::Error)"),
     ] {
         let packet = TcpPacket::new_unchecked(bytes);
-        assert_eq!(rt; format!(in rt.alloc(); "{packet}")?.as_str(), text);
+        assert!(rt; prints(&packet, text), "{text}");
     }
-    Ok(())
 }

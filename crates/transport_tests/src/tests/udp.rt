@@ -3,13 +3,13 @@
 ghost use Rattle.std.specs.Prelude.{◌≡◌};
 ghost use Rattle.ip_wire.specs.IpAddress.{version_of};
 
-use super::{OLD, copy_to};
 use ip_wire::{
     Error, IpAddress, IpProtocol, Ipv4Address, Ipv6Address, Result, UDP_HEADER_LEN, UdpPacket,
     UdpPacketMut, UdpRepr, checksum,
 };
 use net_base::{Checksum, ChecksumCapabilities};
 use std::test::Fail;
+use test_support::{OLD, copy_to, prints};
 
 /// A datagram from 192.168.1.1 to 192.168.1.2.
 const PACKET: [u8; 12] = [
@@ -352,22 +352,18 @@ fn writes_a_header_alone(rt: HostRuntime) {
 }
 
 #[test]
-fn prints_ports(rt: HostRuntime) -> std::result::Result<(), Fail> {
-    let value = HEADER;
-    let text = format!(in rt.alloc(); "{value}")?;
-    assert_eq!(rt; text.as_str(), "UDP src=48896 dst=53");
-    Ok(())
+fn prints_ports(rt: HostRuntime) {
+    assert!(rt; prints(&HEADER, "UDP src=48896 dst=53"));
 }
 
 #[test]
-fn prints_ports_and_length(rt: HostRuntime) -> std::result::Result<(), Fail> {
+fn prints_ports_and_length(rt: HostRuntime) {
     for (bytes, text) in [
         (PACKET.as_slice(), "UDP src=48896 dst=53 len=4"),
         (&PACKET[..11], "UDP (wire::Error)"),
         (&[], "UDP (wire::Error)"),
     ] {
         let packet = UdpPacket::new_unchecked(bytes);
-        assert_eq!(rt; format!(in rt.alloc(); "{packet}")?.as_str(), text);
+        assert!(rt; prints(&packet, text), "{text}");
     }
-    Ok(())
 }
