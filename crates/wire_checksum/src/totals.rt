@@ -83,19 +83,27 @@ fn apart(bytes: &[u8]) -> u64
     }
 }
 
-// The total of many bytes: of whole chunks of 2048 bytes by lanes, and of those behind them by words.
+// The total of many bytes.
 #[inline]
 fn long(bytes: &[u8]) -> u64
     requires { 8 ≤ length bytes.now }
     ensures { residue (256 * result) ≡ sum_of_bytes bytes.now }
 {
-    let (chunks, rest) = bytes.split_at(bytes.len() / 2048 * 2048);
-    let last = by_words(rest, tail(bytes));
     if bytes.len() < 2048 {
-        last
+        by_words(bytes, tail(bytes))
     } else {
-        around(lanes(chunks), last)
+        by_chunks(bytes)
     }
+}
+
+// The total of whole chunks of 2048 bytes, which lanes add up, and of the words behind them.
+#[inline(never)]
+fn by_chunks(bytes: &[u8]) -> u64
+    requires { 8 ≤ length bytes.now }
+    ensures { residue (256 * result) ≡ sum_of_bytes bytes.now }
+{
+    let (chunks, rest) = bytes.split_at(bytes.len() / 2048 * 2048);
+    around(lanes(chunks), by_words(rest, tail(bytes)))
 }
 
 // A total and that of all whole words of eight bytes.
