@@ -3,13 +3,11 @@
 use crate::answer::NoAnswer;
 use crate::operands::{addresses, capabilities, flag, maybe, octets, pair, read};
 use ip_wire::{
-    IpAddress, SACK_BLOCKS, TcpControl, TcpPacketMut, TcpRepr, TcpSeqNumber, TcpTimestampRepr,
+    IpAddress, SACK_BLOCKS, TCP_MAX_HEADER_LEN, TcpControl, TcpPacketMut, TcpRepr, TcpSeqNumber,
+    TcpTimestampRepr,
 };
 use net_base::ChecksumCapabilities;
 use std::alloc::{AllocError, Global};
-
-// The length of the longest header that the field "data offset" can say, in octets.
-const MAX_HEADER_LEN: usize = 60;
 
 /// The length of the header and the octets of the segment, which are left out where there is no such
 /// header.
@@ -21,7 +19,7 @@ pub fn answer(alloc: Global, operands: &[&str]) -> Result<String, NoAnswer> {
     let payload = octets(alloc, payload)?;
     let segment = segment(fields, payload.as_slice())?;
     let header_len = segment.header_len();
-    if header_len > MAX_HEADER_LEN {
+    if header_len > TCP_MAX_HEADER_LEN {
         return Ok(format!(in alloc; "{header_len}")?);
     }
     let mut out = vec![in alloc; read(old)?; segment.buffer_len()]?;

@@ -2,11 +2,8 @@
 
 use crate::answer::NoAnswer;
 use crate::operands::{addresses, capabilities, octets, read};
-use ip_wire::{UDP_HEADER_LEN, UdpPacketMut, UdpRepr};
+use ip_wire::{UDP_HEADER_LEN, UDP_MAX_PAYLOAD_LEN, UdpPacketMut, UdpRepr};
 use std::alloc::Global;
-
-// The length of the longest payload, in octets.
-const MAX_PAYLOAD_LEN: usize = 65_527;
 
 /// The octets of a packet.
 pub fn answer(alloc: Global, operands: &[&str]) -> Result<String, NoAnswer> {
@@ -19,7 +16,7 @@ pub fn answer(alloc: Global, operands: &[&str]) -> Result<String, NoAnswer> {
         dst_port: read(dst_port)?,
     };
     let payload = octets(alloc, payload)?;
-    if payload.len() > MAX_PAYLOAD_LEN {
+    if payload.len() > UDP_MAX_PAYLOAD_LEN {
         return Err(NoAnswer::Malformed);
     }
     let mut out = vec![in alloc; read(old)?; UDP_HEADER_LEN + payload.len()]?;

@@ -410,11 +410,7 @@ fn names_the_protocols_of_the_table(rt: HostRuntime) {
         (3, IpProtocol::Unknown(3), "0x03"),
         (0xfe, IpProtocol::Unknown(0xfe), "0xfe"),
     ] {
-        let found = (
-            IpProtocol::from(number),
-            u8::from(name),
-            prints(&name, text),
-        );
+        let found = (IpProtocol::from(number), name.number(), prints(&name, text));
         assert_eq!(rt; found, (name, number, true), "{text}");
     }
 }

@@ -47,7 +47,7 @@ fn names_hardware(rt: HostRuntime) {
         (2, ArpHardware::Unknown(2)),
         (0x0100, ArpHardware::Unknown(0x0100)),
     ] {
-        let found = (ArpHardware::from(number), u16::from(hardware));
+        let found = (ArpHardware::from(number), hardware.number());
         assert_eq!(rt; found, (hardware, number));
     }
 }
@@ -60,7 +60,7 @@ fn names_operations(rt: HostRuntime) {
         (0, ArpOperation::Unknown(0)),
         (3, ArpOperation::Unknown(3)),
     ] {
-        let found = (ArpOperation::from(number), u16::from(operation));
+        let found = (ArpOperation::from(number), operation.number());
         assert_eq!(rt; found, (operation, number));
     }
 }
@@ -68,8 +68,8 @@ fn names_operations(rt: HostRuntime) {
 #[test]
 fn a_listed_number_may_be_unnamed(rt: HostRuntime) {
     let found = [
-        u16::from(ArpHardware::Unknown(1)),
-        u16::from(ArpOperation::Unknown(1)),
+        ArpHardware::Unknown(1).number(),
+        ArpOperation::Unknown(1).number(),
     ];
     assert_eq!(rt; found, [1, 1]);
 }

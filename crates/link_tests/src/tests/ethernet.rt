@@ -181,7 +181,7 @@ fn names_the_types_of_the_table(rt: HostRuntime) {
     ] {
         let found = (
             EthernetProtocol::from(number),
-            u16::from(name),
+            name.number(),
             prints(&name, text),
         );
         assert_eq!(rt; found, (name, number, true), "{text}");
