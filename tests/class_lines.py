@@ -53,7 +53,7 @@ def scope(address, classes):
 def answer(address):
     classes = [name for name, block in CLASSES[address.version].items() if address in network(block)]
     words = classes + ["unicast"] * NO_UNICAST.isdisjoint(classes)
-    return " ".join(words + [f"scope={scope(address, classes)}"] * (address.version == 6)) or "-"
+    return " ".join(words + [f"scope={scope(address, classes)}"] * (address.version == 6))
 
 
 def ends(block):
