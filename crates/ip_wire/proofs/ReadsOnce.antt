@@ -18,10 +18,10 @@ use Rattle.wire_udp.specs.Udp.{Reads, udp_of}
 use Rattle.wire_udp.specs.declared.UdpRepr.{UdpRepr}
 
 -- what is computed is one value
-computed-one : {A : Type 0} (o : Option A) (a b : A) → o ≡ Some a → o ≡ Some b → a ≡ b
+pub computed-one : {A : Type 0} (o : Option A) (a b : A) → o ≡ Some a → o ≡ Some b → a ≡ b
 computed-one o a b e f = let same : Some a ≡ Some b = sym e ∙ f in cc
 
-udp-computed : (src dst : IpAddress) (verified : Bool) (bytes : List ℕ) (v : UdpRepr) (p : List ℕ) → Reads bytes src dst verified v p
+pub udp-computed : (src dst : IpAddress) (verified : Bool) (bytes : List ℕ) (v : UdpRepr) (p : List ℕ) → Reads bytes src dst verified v p
     → udp_of src dst verified bytes ≡ Some v
 udp-computed src dst verified bytes v p r = (udp_of-Reads src dst verified bytes v).1 (subst (λ q. Reads bytes src dst verified v q) r.body r)
 

@@ -43,7 +43,7 @@ use Rattle.wire_udp.specs.Udp.{udp_of}
 use Rattle.wire_udp.specs.declared.UdpRepr.{UdpRepr}
 
 -- what a frame of this type carries is not read: it is no packet with its checksum, or a fragment
-abbrev IsUnread : EthernetProtocol → List ℕ → Type 0
+abbrev pub IsUnread : EthernetProtocol → List ℕ → Type 0
 IsUnread ethertype.Ipv4 bytes = ((w : Ipv4Repr) → ¬ ipv4.Reads bytes true w) ⊎ (ipv4.is_fragment bytes ≡ true)
 IsUnread ethertype.Ipv6 bytes = (w : Ipv6Repr) → ¬ ipv6.Reads bytes w
 IsUnread ethertype.Arp bytes = (w : ArpRepr) → ¬ arp_packet.Reads bytes w
@@ -54,7 +54,7 @@ none_of : {A : Type 0} (o : Option A) → ((a : A) → ¬ (o ≡ Some a)) → o 
 none_of None h = refl
 none_of (Some a) h = absurd (h a refl)
 
-payload-stays : (t : EthernetProtocol) (bytes : List ℕ) → IsUnread t bytes → rebuilt_payload t bytes ≡ bytes
+pub payload-stays : (t : EthernetProtocol) (bytes : List ℕ) → IsUnread t bytes → rebuilt_payload t bytes ≡ bytes
 payload-stays ethertype.Ipv4 bytes (inl h) =
     rebuilt-ipv4-copied bytes (ipv4_packet_of-unread bytes (none_of (ipv4_of true bytes) (λ w e. h w ((ipv4_of-Reads true bytes w).0 e))))
 payload-stays ethertype.Ipv4 bytes (inr part) = rebuilt-ipv4-copied bytes (ipv4_packet_of-fragment bytes part)
@@ -95,7 +95,7 @@ ipv4-unread bytes true is h = inr is
 ipv4-unread bytes false is h = inl (λ w r. h w (r, is))
 
 -- what is read of no bytes of this type
-carried-unread : (t : EthernetProtocol) (bytes : List ℕ) → ((w : ArpRepr) → t ≡ ethertype.Arp → ¬ arp_packet.Reads bytes w)
+pub carried-unread : (t : EthernetProtocol) (bytes : List ℕ) → ((w : ArpRepr) → t ≡ ethertype.Arp → ¬ arp_packet.Reads bytes w)
     → ((w : IpRepr) → t ≡ type_of w → ¬ ReadsPacket all_checked bytes w) → IsUnread t bytes
 carried-unread ethertype.Ipv4 bytes message packet = ipv4-unread bytes (ipv4.is_fragment bytes) refl (λ w. packet (Ipv4 w) refl)
 carried-unread ethertype.Ipv6 bytes message packet = λ w. packet (Ipv6 w) refl
@@ -110,7 +110,7 @@ carried-stays frame v are r h =
 
 -- ---- what a packet carries
 
-between-stays : (t : IpProtocol) (src dst : IpAddress) (bytes : List ℕ)
+pub between-stays : (t : IpProtocol) (src dst : IpAddress) (bytes : List ℕ)
     → ((v : UdpRepr) (payload : List ℕ) → ¬ ReadsBetween all_checked t src dst bytes (datagram v payload))
     → ((v : TcpHeader) (payload : List ℕ) → ¬ ReadsBetween all_checked t src dst bytes (segment v payload))
     → rebuilt_between t src dst bytes ≡ bytes

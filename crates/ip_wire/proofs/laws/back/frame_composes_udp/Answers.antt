@@ -6,7 +6,7 @@ use Rattle.wire_ip.proofs.IpReadsBack.{IsInRange}
 use Rattle.wire_ip.specs.Ip.{dst_addr_of, payload_len_of, src_addr_of}
 use Rattle.wire_udp.proofs.UdpReadsBack as udp
 use Rattle.wire_udp.specs.Udp as udp_header
-use Rattle.ip_wire.proofs.laws.frame_composes_udp.Goals as goal
+use Rattle.ip_wire.proofs.laws.back.frame_composes_udp.Goals as goal
 
 pub returns : goal.returns
 returns c =

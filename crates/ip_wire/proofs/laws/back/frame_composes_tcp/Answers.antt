@@ -10,7 +10,7 @@ use Rattle.wire_ip.specs.Ip.{dst_addr_of, payload_len_of, src_addr_of}
 use Rattle.wire_tcp_repr.proofs.TcpReadsBack.{IsWritable}
 use Rattle.wire_tcp_repr.proofs.ValueInRange.{value_in_range}
 use Rattle.wire_tcp_repr.specs.TcpRepr as tcp
-use Rattle.ip_wire.proofs.laws.frame_composes_tcp.Goals as goal
+use Rattle.ip_wire.proofs.laws.back.frame_composes_tcp.Goals as goal
 
 pub returns : goal.returns
 returns c =

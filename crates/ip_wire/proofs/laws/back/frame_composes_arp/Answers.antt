@@ -5,7 +5,7 @@ use Rattle.wire_arp.proofs.ArpEmitted as arp_packet
 use Rattle.wire_ethernet.proofs.EthernetEmitted as ethernet_header
 use Rattle.wire_arp.specs.Arp as arp
 use Rattle.wire_ethernet.specs.Ethernet as ethernet
-use Rattle.ip_wire.proofs.laws.frame_composes_arp.Goals as goal
+use Rattle.ip_wire.proofs.laws.back.frame_composes_arp.Goals as goal
 
 pub returns : goal.returns
 returns c =

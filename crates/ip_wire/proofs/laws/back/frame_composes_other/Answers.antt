@@ -3,7 +3,7 @@ use Rattle.ip_wire.proofs.Composed.{reads_frame}
 use Rattle.ip_wire.specs.Frame.{other}
 use Rattle.net_base.specs.Checksum.{computes}
 use Rattle.wire_ip.proofs.IpReadsBack.{IsInRange}
-use Rattle.ip_wire.proofs.laws.frame_composes_other.Goals as goal
+use Rattle.ip_wire.proofs.laws.back.frame_composes_other.Goals as goal
 
 pub returns : goal.returns
 returns c =

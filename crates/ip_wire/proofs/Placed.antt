@@ -1,0 +1,31 @@
+-- Bytes that are written to the front of a slice.
+use Rattle.std.proofs.Common.{◌≡◌, ◌∙◌, ℕ, ◌+◌, ◌≤◌, List, [], ◌++◌, drop, length, length-drop, take, ap, append-nil, arith}
+use Rattle.std.proofs.lemmas.Grind.{common_steps}
+
+-- a header that fills the front of a slice
+header_alone : (header old written : List ℕ) (size : ℕ) → size ≤ length old → written ≡ header ++ drop size (take size old) → written ≡ header
+header_alone header old written size room e =
+    let none : drop size (take size old) ≡ [] = grind (arith, common_steps) in
+    e ∙ ap (λ rest. header ++ rest) none ∙ append-nil header
+
+joined : (header inner old front carried : List ℕ) (size len : ℕ) → size ≤ length old → len ≤ length (drop size old)
+    → front ≡ header → carried ≡ inner ++ drop len (drop size old) → front ++ carried ≡ (header ++ inner) ++ drop (size + len) old
+joined header inner old front carried size len room fits is below = grind (arith, common_steps)
+
+-- a header and what it carries stand at the front of a slice where the header fills its own part and what it carries stands at the
+-- front of the rest
+pub behind : (header inner old front written carried : List ℕ) (size len : ℕ) → size ≤ length old → len ≤ length (drop size old)
+    → front ≡ written → written ≡ header ++ drop size (take size old) → carried ≡ inner ++ drop len (drop size old)
+    → (size + len ≤ length old) × (front ++ carried ≡ (header ++ inner) ++ drop (size + len) old)
+behind header inner old front written carried size len room fits is filled below =
+    let alone = is ∙ header_alone header old written size room filled in
+    let rest = length-drop size old in
+    (omega (arith, room, fits, rest), joined header inner old front carried size len room fits alone below)
+
+-- what is written into a part that it fills stands at the front of the slice, whatever follows it
+pub filled : (bytes : List ℕ → List ℕ) (old front written rest : List ℕ) (len : ℕ) → len ≤ length old → front ≡ written
+    → written ≡ bytes (drop len (take len old)) ++ drop len (take len old) → rest ≡ drop len old → front ++ rest ≡ bytes [] ++ drop len old
+filled bytes old front written rest len room is alone behind =
+    let none : drop len (take len old) ≡ [] = grind (arith, common_steps) in
+    let whole : front ≡ bytes [] = is ∙ alone ∙ ap (λ part. bytes part ++ part) none ∙ append-nil (bytes []) in
+    ap (λ part. part ++ rest) whole ∙ ap (λ part. bytes [] ++ part) behind

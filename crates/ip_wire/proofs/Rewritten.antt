@@ -1,0 +1,195 @@
+-- What a frame is written as that was read.
+use Rattle.std.proofs.Common.{ℕ, ◌≡◌, ◌≢◌, ◌≤◌, ◌<◌, ◌+◌, ◌^◌, ◌++◌, ◌∙◌, inr, true, Bool, List, [], drop, length, slice_range, length-append, length-drop, refl, sym, ap, ap₂, subst, arith}
+use Rattle.ip_wire.proofs.Frames.{rebuilt-ipv4, rebuilt-ipv6, rebuilt-read}
+use Rattle.ip_wire.proofs.Layers.{length-part}
+use Rattle.ip_wire.proofs.ReadsOnce.{udp-computed}
+use Rattle.ip_wire.proofs.TcpLayer as tcp_layer
+use Rattle.ip_wire.proofs.TcpLayer.{rebuilt-tcp}
+use Rattle.ip_wire.proofs.UdpLayer.{rebuilt-udp}
+use Rattle.ip_wire.proofs.Unread.{between-stays, carried-unread, payload-stays}
+use Rattle.ip_wire.specs.Frame as frame
+use Rattle.ip_wire.specs.Frame.{ReadsBetween, ReadsPacket, all_checked, datagram, ipv4_payload, packet_payload, rebuilt, rebuilt_between, rebuilt_payload, rebuilt_transport, segment, type_of}
+use Rattle.ip_wire.specs.FrameValue.{ReadsHeader, Finds, FindsCarried, FindsTransport, Fits, FitsCarried, FitsTransport, carried_bytes, carried_len, frame_bytes, frame_len, transport_bytes, transport_len}
+use Rattle.ip_wire.specs.declared.frame.carried.Carried.{Carried}
+use Rattle.ip_wire.specs.declared.frame.carried.Carried.TheVariants as carried
+use Rattle.ip_wire.specs.declared.frame.transport.Transport.{Transport}
+use Rattle.ip_wire.specs.declared.frame.transport.Transport.TheVariants as transport
+use Rattle.ip_wire.specs.declared.frame.Frame.{Frame}
+use Rattle.net_base.specs.Checksum.{computes, verifies}
+use Rattle.net_base.specs.declared.ChecksumCapabilities.{ChecksumCapabilities}
+use Rattle.wire_arp.proofs.ArpComputed.{arp_of-Reads}
+use Rattle.wire_ends.specs.declared.IpAddress.{IpAddress}
+use Rattle.wire_ends.specs.declared.IpProtocol.{IpProtocol}
+use Rattle.wire_ends.specs.declared.IpProtocol.TheVariants as protocol
+use Rattle.wire_ethernet.proofs.EthernetComputed.{ethernet_of-Reads}
+use Rattle.wire_ethernet.specs.Ethernet as ethernet
+use Rattle.wire_ethernet.specs.declared.EthernetProtocol.{EthernetProtocol}
+use Rattle.wire_ethernet.specs.declared.EthernetProtocol.TheVariants as ethertype
+use Rattle.wire_ip.specs.Ip.{bytes_of, dst_addr_of, next_header_of, src_addr_of, with_payload_len}
+use Rattle.wire_ip.specs.declared.IpRepr.{IpRepr}
+use Rattle.wire_ip.specs.declared.IpRepr.TheVariants.{Ipv4, Ipv6}
+use Rattle.wire_ipv4.proofs.Ipv4Computed.{ipv4_of-Reads}
+use Rattle.wire_addr.specs.declared.EthernetAddress.{EthernetAddress}
+use Rattle.wire_arp.specs.Arp as arp
+use Rattle.wire_arp.specs.declared.ArpOperation.{ArpOperation}
+use Rattle.wire_arp.specs.declared.ArpRepr.TheVariants.{EthernetIpv4}
+use Rattle.wire_ethernet.specs.declared.EthernetRepr.{EthernetRepr}
+use Rattle.wire_field.specs.Field.{field}
+use Rattle.wire_field.proofs.Cells.{cells-all}
+use Rattle.wire_ipv4.specs.Ipv4 as ipv4
+use Rattle.wire_ipv4.specs.declared.Ipv4Repr.{Ipv4Repr}
+use Rattle.wire_ipv6.specs.declared.Ipv6Repr.{Ipv6Repr}
+use Rattle.wire_ipv4.specs.Ipv4.{header_len, total_len}
+use Rattle.wire_ipv6.proofs.Ipv6Computed.{ipv6_of-Reads}
+use Rattle.wire_ipv6.specs.Ipv6 as ipv6
+use Rattle.wire_tcp_repr.proofs.OptionLens.{header_len-read}
+use Rattle.wire_tcp_repr.proofs.TcpComputed.{tcp_of-Reads}
+use Rattle.wire_tcp.specs.Tcp as tcp_bytes
+use Rattle.wire_tcp_repr.specs.TcpRepr as tcp
+use Rattle.wire_udp.specs.Udp.{packet_len}
+
+-- ---- its headers can say it, and it is no longer
+
+pub fits-transport : (caps : ChecksumCapabilities) (v : IpRepr) (bytes : List ℕ) (t : Transport) → FindsTransport caps v bytes t → FitsTransport t × (transport_len t ≤ length bytes)
+fits-transport caps v bytes (transport.Udp u payload) (is, r) =
+    let len = ap length r.body ∙ length-part bytes 8 (packet_len bytes) r.lengths.whole in
+    let least = r.lengths.header in
+    let whole = r.lengths.whole in
+    let most : packet_len bytes < 2 ^ 16 = omega arith in
+    (omega (arith, len, most), omega (arith, len, least, whole))
+fits-transport caps v bytes (transport.Tcp u) (is, r) =
+    let shorter = header_len-read (src_addr_of v) (dst_addr_of v) (verifies caps.tcp) bytes u.payload.now (tcp.header_of u) r in
+    let len = ap length r.body ∙ length-drop (tcp_bytes.header_len bytes) bytes in
+    let whole = r.lengths.whole in
+    let most : tcp_bytes.header_len bytes ≤ 60 = omega arith in
+    (omega (arith, shorter, most), omega (arith, len, shorter, whole))
+fits-transport caps v bytes (transport.Other payload) (udp, tcp, e) = let same = ap length e in (record {}, omega (arith, same))
+fits-transport caps v bytes (transport.Unread kept) (none, e) = let same = ap length e in (record {}, omega (arith, same))
+
+pub fits-carried : (caps : ChecksumCapabilities) (t : EthernetProtocol) (bytes : List ℕ) (c : Carried) → FindsCarried caps t bytes c → FitsCarried c × (carried_len c ≤ length bytes)
+fits-carried caps t bytes (carried.Arp v) (is, r) = let whole = r.whole in (record {}, omega (arith, whole))
+fits-carried caps t bytes (carried.Packet (Ipv4 v) inner) (is, (r, part), found) =
+    let (fits, shorter) = fits-transport caps (Ipv4 v) (ipv4_payload bytes) inner found in
+    let len = length-part bytes (header_len bytes) (total_len bytes) r.lengths.whole in
+    let least = r.lengths.header in
+    let within = r.lengths.within in
+    let whole = r.lengths.whole in
+    let most : total_len bytes < 2 ^ 16 = omega arith in
+    ((omega (arith, shorter, len, least, most), fits), omega (arith, shorter, len, least, within, whole))
+fits-carried caps t bytes (carried.Packet (Ipv6 v) inner) (is, r, found) =
+    let (fits, shorter) = fits-transport caps (Ipv6 v) (ipv6.payload_of bytes) inner found in
+    let len = length-part bytes 40 (ipv6.total_len bytes) r.lengths in
+    let whole = r.lengths in
+    let most : ipv6.total_len bytes < 40 + 2 ^ 16 = omega arith in
+    ((omega (arith, shorter, len, most), fits), omega (arith, shorter, len, whole))
+fits-carried caps t bytes (carried.Fragment part) (lent, is_part, read) = let same = ap length lent in (record {}, omega (arith, same))
+fits-carried caps t bytes (carried.Unread kept) (unread, e) = let same = ap length e in (record {}, omega (arith, same))
+
+pub fits-frame : (caps : ChecksumCapabilities) (bytes : List ℕ) (f : Frame) → Finds caps bytes f → Fits f × (frame_len f ≤ length bytes)
+fits-frame caps bytes f found =
+    let (fits, shorter) = fits-carried caps f.header.ethertype (drop 14 bytes) f.carried found.carried in
+    let len = length-drop 14 bytes in
+    let whole = found.header.whole in
+    (fits, omega (arith, shorter, len, whole))
+
+-- ---- it is the rebuilt frame
+
+length-transport : (caps : ChecksumCapabilities) (v : IpRepr) (t : Transport) → length (transport_bytes caps v t) ≡ transport_len t
+length-transport caps v (transport.Udp u payload) = simp length-append (omega arith)
+length-transport caps v (transport.Tcp u) = tcp_layer.length-written (src_addr_of v) (dst_addr_of v) (tcp.header_of u) u.payload.now (computes caps.tcp)
+length-transport caps v (transport.Other payload) = refl
+length-transport caps v (transport.Unread kept) = refl
+
+-- the addresses of a header make up its length
+length-ipv4 : (w : Ipv4Repr) (computed : Bool) → length w.src_addr ≡ 4 → length w.dst_addr ≡ 4 → length (ipv4.bytes_of w computed) ≡ 20
+length-ipv4 w computed s d = rw (cells-all 4 w.src_addr s, cells-all 4 w.dst_addr d) (omega arith)
+
+length-ipv6 : (w : Ipv6Repr) → length w.src_addr ≡ 16 → length w.dst_addr ≡ 16 → length (ipv6.bytes_of w) ≡ 40
+length-ipv6 w s d = rw (cells-all 16 w.src_addr s, cells-all 16 w.dst_addr d) (omega arith)
+
+length-arp : (operation : ArpOperation) (sha : EthernetAddress) (spa : List ℕ) (tha : EthernetAddress) (tpa : List ℕ) → length sha.0 ≡ 6 → length spa ≡ 4 → length tha.0 ≡ 6
+    → length tpa ≡ 4 → length (arp.bytes_of (EthernetIpv4 operation sha spa tha tpa)) ≡ 28
+length-arp operation sha spa tha tpa a b c d = rw (cells-all 6 sha.0 a, cells-all 4 spa b, cells-all 6 tha.0 c, cells-all 4 tpa d) (omega arith)
+
+length-ethernet : (v : EthernetRepr) → length v.dst_addr.0 ≡ 6 → length v.src_addr.0 ≡ 6 → length (ethernet.bytes_of v) ≡ 14
+length-ethernet v d s = rw (cells-all 6 v.dst_addr.0 d, cells-all 6 v.src_addr.0 s) (omega arith)
+
+length-carried : (caps sent : ChecksumCapabilities) (t : EthernetProtocol) (bytes : List ℕ) (c : Carried) → FindsCarried caps t bytes c
+    → length (carried_bytes sent c) ≡ carried_len c
+length-carried caps sent t bytes (carried.Arp v) (is, r) =
+    let whole = r.whole in
+    rw r.fields (length-arp (arp.operation_of (field bytes 48 16)) (record { 0 = slice_range bytes 8 14 }) (slice_range bytes 14 18) (record { 0 = slice_range bytes 18 24 }) (slice_range bytes 24 28)
+    (length-part bytes 8 14 (omega (arith, whole))) (length-part bytes 14 18 (omega (arith, whole)))
+    (length-part bytes 18 24 (omega (arith, whole))) (length-part bytes 24 28 (omega (arith, whole))))
+length-carried caps sent t bytes (carried.Packet (Ipv4 v) inner) (is, (r, part), found) =
+    let least = r.lengths.least in
+    let w = record v { payload_len = transport_len inner } in
+    let header = length-ipv4 w (computes sent.ipv4) (ap length r.src_addr ∙ length-part bytes 12 16 (omega (arith, least))) (ap length r.dst_addr ∙ length-part bytes 16 20 (omega (arith, least))) in
+    length-append (ipv4.bytes_of w (computes sent.ipv4)) (transport_bytes sent (Ipv4 v) inner) ∙ ap₂ ◌+◌ header (length-transport sent (Ipv4 v) inner)
+length-carried caps sent t bytes (carried.Packet (Ipv6 v) inner) (is, r, found) =
+    let whole = r.lengths in
+    let w = record v { payload_len = transport_len inner } in
+    let header = length-ipv6 w (ap length r.src_addr ∙ length-part bytes 8 24 (omega (arith, whole))) (ap length r.dst_addr ∙ length-part bytes 24 40 (omega (arith, whole))) in
+    length-append (ipv6.bytes_of w) (transport_bytes sent (Ipv6 v) inner) ∙ ap₂ ◌+◌ header (length-transport sent (Ipv6 v) inner)
+length-carried caps sent t bytes (carried.Fragment part) found = refl
+length-carried caps sent t bytes (carried.Unread kept) found = refl
+
+pub length-frame : (caps sent : ChecksumCapabilities) (bytes : List ℕ) (f : Frame) → Finds caps bytes f → length (frame_bytes sent f) ≡ frame_len f
+length-frame caps sent bytes f found =
+    let r = found.header in
+    let whole = r.whole in
+    let header = length-ethernet f.header (ap length r.dst_addr ∙ length-part bytes 0 6 (omega (arith, whole))) (ap length r.src_addr ∙ length-part bytes 6 12 (omega (arith, whole))) in
+    length-append (ethernet.bytes_of f.header) (carried_bytes sent f.carried) ∙ ap₂ ◌+◌ header (length-carried caps sent f.header.ethertype (drop 14 bytes) f.carried found.carried)
+
+other-stays : (p : IpProtocol) (src dst : IpAddress) (bytes : List ℕ) → p ≢ protocol.Udp → p ≢ protocol.Tcp → rebuilt_between p src dst bytes ≡ bytes
+other-stays protocol.Udp src dst bytes a b = absurd (a refl)
+other-stays protocol.Tcp src dst bytes a b = absurd (b refl)
+other-stays _ src dst bytes a b = refl
+
+rewritten-transport : (v : IpRepr) (bytes : List ℕ) (t : Transport) → FindsTransport all_checked v bytes t → transport_bytes all_checked v t ≡ rebuilt_transport v bytes
+rewritten-transport v bytes (transport.Udp u payload) (is, r) =
+    let src = src_addr_of v in
+    let dst = dst_addr_of v in
+    let read = udp-computed src dst true bytes u payload.now r in
+    ap (λ p. transport_bytes all_checked v (transport.Udp u (record payload { now = p }))) r.body
+    ∙ sym (ap (λ p. rebuilt_between p src dst bytes) is ∙ rebuilt-udp src dst bytes u read)
+rewritten-transport v bytes (transport.Tcp u) (is, r) =
+    let src = src_addr_of v in
+    let dst = dst_addr_of v in
+    let read = (tcp_of-Reads src dst true bytes (tcp.header_of u)).1 (subst (λ q. tcp.Reads bytes src dst true (tcp.header_of u) q) r.body r) in
+    ap (λ p. tcp.bytes_of (tcp.header_of u) p src dst true []) r.body
+    ∙ sym (ap (λ p. rebuilt_between p src dst bytes) is ∙ rebuilt-tcp src dst bytes (tcp.header_of u) read)
+rewritten-transport v bytes (transport.Other payload) (udp, tcp, e) = e ∙ sym (other-stays (next_header_of v) (src_addr_of v) (dst_addr_of v) bytes udp tcp)
+rewritten-transport v bytes (transport.Unread kept) (none, e) =
+    e ∙ sym (between-stays (next_header_of v) (src_addr_of v) (dst_addr_of v) bytes (λ u q. none (datagram u q)) (λ u q. none (segment u q)))
+
+rewritten-packet : (v : IpRepr) (payload : List ℕ) (t : Transport) → FindsTransport all_checked v payload t
+    → carried_bytes all_checked (carried.Packet v t) ≡ frame.rebuilt_packet v payload
+rewritten-packet v payload t found =
+    let inner = rewritten-transport v payload t found in
+    let len : transport_len t ≡ length (rebuilt_transport v payload) = sym (length-transport all_checked v t) ∙ ap length inner in
+    ap₂ (λ n rest. bytes_of (with_payload_len v n) true ++ rest) len inner
+
+-- where no header is read, no packet is
+no-packet : (t : EthernetProtocol) (bytes : List ℕ) → ((v : IpRepr) → ¬ ReadsHeader all_checked t bytes v)
+    → (v : IpRepr) → t ≡ type_of v → ¬ ReadsPacket all_checked bytes v
+no-packet t bytes none (Ipv4 v) type (r, whole) = none (Ipv4 v) (type, r)
+no-packet t bytes none (Ipv6 v) type r = none (Ipv6 v) (type, r)
+
+rewritten-carried : (t : EthernetProtocol) (bytes : List ℕ) (c : Carried) → FindsCarried all_checked t bytes c → carried_bytes all_checked c ≡ rebuilt_payload t bytes
+rewritten-carried t bytes (carried.Arp v) (is, r) = rw (is, (arp_of-Reads bytes v).1 r) refl
+rewritten-carried t bytes (carried.Packet (Ipv4 v) inner) (is, (r, whole), found) =
+    rewritten-packet (Ipv4 v) (ipv4_payload bytes) inner found
+    ∙ sym (ap (λ p. rebuilt_payload p bytes) is ∙ rebuilt-ipv4 bytes v ((ipv4_of-Reads true bytes v).1 r) whole)
+rewritten-carried t bytes (carried.Packet (Ipv6 v) inner) (is, r, found) =
+    rewritten-packet (Ipv6 v) (ipv6.payload_of bytes) inner found
+    ∙ sym (ap (λ p. rebuilt_payload p bytes) is ∙ rebuilt-ipv6 bytes v ((ipv6_of-Reads bytes v).1 r))
+rewritten-carried t bytes (carried.Fragment part) (lent, is_part, (v, (is, read))) =
+    lent ∙ sym (ap (λ p. rebuilt_payload p bytes) is ∙ payload-stays ethertype.Ipv4 bytes (inr is_part))
+rewritten-carried t bytes (carried.Unread kept) (nothing, e) =
+    e ∙ sym (payload-stays t bytes (carried-unread t bytes nothing.no_message (no-packet t bytes nothing.no_header)))
+
+pub rewritten-frame : (bytes : List ℕ) (f : Frame) → Finds all_checked bytes f → frame_bytes all_checked f ≡ rebuilt bytes
+rewritten-frame bytes f found =
+    ap (λ rest. ethernet.bytes_of f.header ++ rest) (rewritten-carried f.header.ethertype (drop 14 bytes) f.carried found.carried)
+    ∙ sym (rebuilt-read bytes f.header ((ethernet_of-Reads bytes f.header).1 found.header))

@@ -1,0 +1,128 @@
+//! A whole Ethernet frame, as a value.
+
+ghost use Rattle.std.specs.Prelude.{◌≡◌, ◌<◌, ◌≤◌, ◌^◌, ◌++◌, ◌↔◌, IfOk, IsOk, OnErr, Some, drop, length};
+ghost use Rattle.std.specs.Option.{option_map};
+ghost use Rattle.ip_wire.specs.Frame as frame;
+ghost use Rattle.ip_wire.specs.Frame.{ReadsFrame};
+ghost use Rattle.ip_wire.specs.FrameValue.{Fills, Finds, Fits, Parses, carried_payload, frame_bytes, frame_len, frame_text};
+ghost use Rattle.wire_ethernet.specs.declared.EthernetRepr.{EthernetRepr};
+
+mod build;
+mod carried;
+mod transport;
+
+pub use carried::Carried;
+use net_base::{ChecksumCapabilities, Error, Result};
+use std::fmt;
+pub use transport::Transport;
+use wire_ethernet::{ETHERNET_HEADER_LEN, EthernetFrame, EthernetFrameMut, EthernetRepr};
+
+/// An Ethernet II frame: the values of its headers, and the innermost payload.
+#[derive(Debug, Clone, Copy, PartialEq, Eq)]
+pub struct Frame<'a> {
+    /// The Ethernet header.
+    pub header: EthernetRepr,
+    /// What follows it.
+    pub carried: Carried<'a>,
+}
+
+impl<'a> Frame<'a> {
+    /// Parses a frame. From a header behind the Ethernet header that does not parse on, the bytes are kept
+    /// as `Unread`; padding is dropped. An error for fewer than 14 bytes. Checksums are verified where
+    /// `caps` says so.
+    #[inline(always)]
+    pub fn read(bytes: &'a [u8], caps: &ChecksumCapabilities) -> Result<Frame<'a>>
+        ensures ok { IsOk result ↔ (14 ≤ length bytes.now) }
+        ensures value { IfOk result (Finds caps.now bytes.now) }
+        ensures fits { IfOk result Fits }
+        ensures no_longer { IfOk result (λ f. frame_len f ≤ length bytes.now) }
+    {
+        let frame = EthernetFrame::new_unchecked(bytes);
+        let header = EthernetRepr::parse(&frame)?;
+        let carried = Carried::read(header.ethertype, frame.payload(), caps);
+        Ok(Frame { header, carried })
+    }
+
+    /// As `read`, but an error unless everything was parsed: an ARP packet, or an IP packet with its
+    /// transport. Fragments and unknown EtherTypes are errors.
+    #[inline(always)]
+    pub fn parse(bytes: &'a [u8], caps: &ChecksumCapabilities) -> Result<Frame<'a>>
+        ensures ok { IfOk result (Parses caps.now bytes.now) }
+        ensures err { OnErr result ((v : EthernetRepr) (c : frame.Carried) → ¬ ReadsFrame caps.now bytes.now v c) }
+        ensures fits { IfOk result Fits }
+        ensures no_longer { IfOk result (λ f. frame_len f ≤ length bytes.now) }
+    {
+        match Frame::read(bytes, caps) {
+            Ok(frame) => {
+                if frame.carried.is_read() {
+                    Ok(frame)
+                } else {
+                    Err(Error)
+                }
+            }
+            Err(error) => Err(error),
+        }
+    }
+
+    /// The payload of the transport. None where there is none that was parsed.
+    #[inline(always)]
+    pub fn payload(&self) -> Option<&'a [u8]>
+        ensures { option_map (λ bytes. bytes.now) result ≡ carried_payload self.now.carried }
+    {
+        self.carried.payload()
+    }
+
+    /// The number of bytes that `emit` writes.
+    #[inline(always)]
+    pub fn buffer_len(&self) -> usize
+        requires { frame_len self.now < 2 ^ 64 }
+        ensures { result ≡ frame_len self.now }
+    {
+        ETHERNET_HEADER_LEN + self.carried.buffer_len()
+    }
+
+    /// Writes the frame to the front of `buffer`, and leaves what follows it. Checksums are computed where
+    /// `caps` says so, else 0.
+    #[inline(always)]
+    pub fn emit(&self, buffer: &mut [u8], caps: &ChecksumCapabilities)
+        requires room { frame_len self.now ≤ length buffer.old }
+        requires fits { Fits self.now }
+        ensures { buffer.new ≡ frame_bytes caps.now self.now ++ drop (frame_len self.now) buffer.old }
+    {
+        self.try_emit(buffer, caps);
+    }
+
+    /// As `emit`, and returns the number of bytes. None where they do not fit, and then nothing is written.
+    #[inline(always)]
+    pub fn try_emit(&self, out: &mut [u8], caps: &ChecksumCapabilities) -> Option<usize>
+        requires { Fits self.now }
+        ensures { Fills (frame_bytes caps.now self.now) (frame_len self.now) out.old out.new result }
+    {
+        if out.len() < ETHERNET_HEADER_LEN {
+            return None;
+        }
+        let (front, rest) = out.split_at_mut(ETHERNET_HEADER_LEN);
+        match self.carried.try_emit(rest, caps) {
+            Some(len) => {
+                self.header
+                    .emit(&mut EthernetFrameMut::new_unchecked(front));
+                Some(ETHERNET_HEADER_LEN + len)
+            }
+            None => None,
+        }
+    }
+}
+
+/// A line for each layer, without a line end behind the last.
+impl fmt::Display for Frame<'_> {
+    ghost output = { λ frame. Some (frame_text frame) };
+
+    fn fmt<W: fmt::Write>(&self, f: &mut fmt::Formatter<W>) -> fmt::Result {
+        let (header, carried) = (self.header, &self.carried);
+        let (src, dst, ethertype) = (header.src_addr, header.dst_addr, header.ethertype);
+        write!(
+            f,
+            "EthernetII src={src} dst={dst} type={ethertype}{carried}"
+        )
+    }
+}

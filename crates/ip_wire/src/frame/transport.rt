@@ -1,0 +1,220 @@
+//! The payload of an IP packet, as a value.
+
+ghost use Rattle.std.specs.Prelude.{◌≡◌, ◌<◌, ◌≤◌, ◌+◌, ◌↔◌, ◌^◌, [], IfOk, IsTrue, OnErr, Some, is_some, length};
+ghost use Rattle.std.specs.Option.{option_map};
+ghost use Rattle.ip_wire.specs.Frame as frame;
+ghost use Rattle.ip_wire.specs.Frame.{ReadsTransport};
+ghost use Rattle.ip_wire.specs.FrameValue.{Fills, FindsTransport, FitsTransport, ParsesTransport, transport_bytes, transport_len, transport_of, transport_payload, transport_text};
+ghost use Rattle.net_base.specs.Checksum.{computes};
+ghost use Rattle.wire_ip.specs.Ip.{dst_addr_of, src_addr_of};
+ghost use Rattle.wire_tcp_repr.specs.TcpRepr as tcp;
+ghost use Rattle.wire_udp.specs.Udp as udp;
+
+use net_base::{ChecksumCapabilities, Error, Result};
+use std::fmt;
+use wire_ends::IpProtocol;
+use wire_ip::IpRepr;
+use wire_tcp::{TCP_MAX_HEADER_LEN, TcpPacket, TcpPacketMut};
+use wire_tcp_repr::TcpRepr;
+use wire_udp::{UDP_HEADER_LEN, UDP_MAX_PAYLOAD_LEN, UdpPacket, UdpPacketMut, UdpRepr};
+
+/// The payload of an IP packet, by the protocol that its header names.
+#[derive(Debug, Clone, Copy, PartialEq, Eq)]
+pub enum Transport<'a> {
+    /// A UDP header and its payload.
+    Udp(UdpRepr, &'a [u8]),
+    /// A TCP header with its options; the value holds the payload.
+    Tcp(TcpRepr<'a>),
+    /// The payload of any other protocol.
+    Other(&'a [u8]),
+    /// The payload of a packet that names UDP or TCP, where no such header was parsed.
+    Unread(&'a [u8]),
+}
+
+impl<'a> Transport<'a> {
+    /// Parses the payload of a packet with this header. A UDP or TCP header that does not parse gives
+    /// `Unread` with all bytes. Checksums are verified where `caps` says so.
+    #[inline(always)]
+    pub fn read(header: &IpRepr, bytes: &'a [u8], caps: &ChecksumCapabilities) -> Transport<'a>
+        ensures { FindsTransport caps.now header.now bytes.now result }
+    {
+        match header.next_header() {
+            IpProtocol::Udp => {
+                let packet = UdpPacket::new_unchecked(bytes);
+                match UdpRepr::parse(&packet, &header.src_addr(), &header.dst_addr(), caps) {
+                    Ok(value) => Transport::Udp(value, packet.payload()),
+                    Err(_) => Transport::Unread(bytes),
+                }
+            }
+            IpProtocol::Tcp => {
+                let packet = TcpPacket::new_unchecked(bytes);
+                match TcpRepr::parse(&packet, &header.src_addr(), &header.dst_addr(), caps) {
+                    Ok(value) => Transport::Tcp(value),
+                    Err(_) => Transport::Unread(bytes),
+                }
+            }
+            _ => Transport::Other(bytes),
+        }
+    }
+
+    /// As `read`, but a UDP or TCP header that does not parse is an error.
+    #[inline(always)]
+    pub fn parse(
+        header: &IpRepr,
+        bytes: &'a [u8],
+        caps: &ChecksumCapabilities,
+    ) -> Result<Transport<'a>>
+        ensures ok { IfOk result (ParsesTransport caps.now header.now bytes.now) }
+        ensures err { OnErr result ((t : frame.Transport) → ¬ ReadsTransport caps.now header.now bytes.now t) }
+    {
+        let value = Transport::read(header, bytes, caps);
+        if value.is_read() {
+            Ok(value)
+        } else {
+            Err(Error)
+        }
+    }
+
+    /// Whether the payload was parsed: whether this is not `Unread`.
+    #[inline(always)]
+    pub fn is_read(&self) -> bool
+        ensures { result ≡ is_some (transport_of self.now) }
+    {
+        !matches!(self, Transport::Unread(_))
+    }
+
+    /// What follows the UDP or TCP header, or all bytes of another protocol. None for `Unread`.
+    #[inline(always)]
+    pub fn payload(&self) -> Option<&'a [u8]>
+        ensures { option_map (λ bytes. bytes.now) result ≡ transport_payload self.now }
+    {
+        match self {
+            Transport::Udp(_, payload) | Transport::Other(payload) => Some(payload),
+            Transport::Tcp(value) => Some(value.payload),
+            Transport::Unread(_) => None,
+        }
+    }
+
+    /// The number of bytes that `emit` writes.
+    #[inline(always)]
+    pub fn buffer_len(&self) -> usize
+        requires { transport_len self.now < 2 ^ 64 }
+        ensures { result ≡ transport_len self.now }
+    {
+        match self {
+            Transport::Udp(_, payload) => UDP_HEADER_LEN + payload.len(),
+            Transport::Tcp(value) => value.buffer_len(),
+            Transport::Other(bytes) | Transport::Unread(bytes) => bytes.len(),
+        }
+    }
+
+    /// Whether `emit` may be called: a UDP payload has at most 65,527 bytes, a TCP header at most 60.
+    #[inline(always)]
+    pub fn fits(&self) -> bool
+        ensures { IsTrue result ↔ FitsTransport self.now }
+    {
+        match self {
+            Transport::Udp(_, payload) => payload.len() <= UDP_MAX_PAYLOAD_LEN,
+            Transport::Tcp(value) => value.header_len() <= TCP_MAX_HEADER_LEN,
+            Transport::Other(_) | Transport::Unread(_) => true,
+        }
+    }
+
+    /// Writes the payload of a packet with this header to the front of `out`, and returns the number of
+    /// bytes. None where they do not fit, and then nothing is written. Checksums are computed where
+    /// `caps` says so, else 0.
+    #[inline(always)]
+    pub fn try_emit(
+        &self,
+        header: &IpRepr,
+        out: &mut [u8],
+        caps: &ChecksumCapabilities,
+    ) -> Option<usize>
+        requires { FitsTransport self.now }
+        ensures { Fills (transport_bytes caps.now header.now self.now) (transport_len self.now) out.old out.new result }
+    {
+        match self {
+            Transport::Udp(value, payload) => emit_udp(value, header, payload, out, caps),
+            Transport::Tcp(value) => emit_tcp(value, header, out, caps),
+            Transport::Other(bytes) | Transport::Unread(bytes) => copy(bytes, out),
+        }
+    }
+}
+
+// Writes a UDP packet behind this header to the front of `out`.
+#[inline(always)]
+fn emit_udp(
+    value: &UdpRepr,
+    header: &IpRepr,
+    payload: &[u8],
+    out: &mut [u8],
+    caps: &ChecksumCapabilities,
+) -> Option<usize>
+    requires { length payload.now ≤ udp.max_payload_len }
+    ensures { let v = header.now in
+        Fills (udp.bytes_of value.now payload.now (src_addr_of v) (dst_addr_of v) (computes caps.now.udp)) (8 + length payload.now) out.old out.new result }
+{
+    let len = UDP_HEADER_LEN + payload.len();
+    if out.len() < len {
+        return None;
+    }
+    value.emit(
+        &mut UdpPacketMut::new_unchecked(out),
+        &header.src_addr(),
+        &header.dst_addr(),
+        payload,
+        caps,
+    );
+    Some(len)
+}
+
+// Writes a TCP segment behind this header to the front of `out`.
+#[inline(always)]
+fn emit_tcp(
+    value: &TcpRepr<'_>,
+    header: &IpRepr,
+    out: &mut [u8],
+    caps: &ChecksumCapabilities,
+) -> Option<usize>
+    requires { tcp.header_len_of (tcp.header_of value.now) ≤ 60 }
+    ensures { let v = header.now in let u = value.now in
+        Fills (tcp.bytes_of (tcp.header_of u) u.payload.now (src_addr_of v) (dst_addr_of v) (computes caps.now.tcp) []) (tcp.header_len_of (tcp.header_of u) + length u.payload.now) out.old out.new result }
+{
+    let len = value.buffer_len();
+    let (front, _) = out.split_at_mut_checked(len)?;
+    value.emit(
+        &mut TcpPacketMut::new_unchecked(front),
+        &header.src_addr(),
+        &header.dst_addr(),
+        caps,
+    );
+    Some(len)
+}
+
+/// Copies bytes to the front of `out`, and returns their number. None where they do not fit.
+#[inline(always)]
+pub fn copy(bytes: &[u8], out: &mut [u8]) -> Option<usize>
+    ensures { Fills bytes.now (length bytes.now) out.old out.new result }
+{
+    if out.len() < bytes.len() {
+        return None;
+    }
+    out[..bytes.len()].copy_from_slice(bytes);
+    Some(bytes.len())
+}
+
+/// A line of its own, behind a line end, for UDP and TCP; nothing for other bytes.
+impl fmt::Display for Transport<'_> {
+    ghost output = { λ t. Some (transport_text t) };
+
+    fn fmt<W: fmt::Write>(&self, f: &mut fmt::Formatter<W>) -> fmt::Result {
+        match self {
+            Transport::Udp(value, payload) => {
+                let len = payload.len();
+                write!(f, "\n{value} len={len}")
+            }
+            Transport::Tcp(value) => write!(f, "\n{value}"),
+            Transport::Other(_) | Transport::Unread(_) => Ok(()),
+        }
+    }
+}
