@@ -31,12 +31,12 @@ pub back-packet : (sent received : ChecksumCapabilities) (f : Frame) (v : IpRepr
 back-packet sent received f v t inner s q padding is filled normal bytes r =
     let read = packet (ip.normal inner) s in
     let named : normal_carried_of f.carried ≡ Some read =
-        ap normal_carried_of is
-        ∙ ap (option_map (packet (ip.normal (with_payload_len v (transport_len t))))) normal
-        ∙ ap (λ w. Some (packet (ip.normal w) s)) (sym filled)
+    ap normal_carried_of is
+    ∙ ap (option_map (packet (ip.normal (with_payload_len v (transport_len t))))) normal
+    ∙ ap (λ w. Some (packet (ip.normal w) s)) (sym filled)
     in
     let written : ethernet.bytes_of f.header ++ (ip.bytes_of inner (computes sent.ipv4) ++ q) ++ padding ≡ frame_bytes sent f ++ padding =
-        ap₂ (λ w p. ethernet.bytes_of f.header ++ (ip.bytes_of w (computes sent.ipv4) ++ p) ++ padding) filled bytes
-        ∙ ap (λ x. (ethernet.bytes_of f.header ++ carried_bytes sent x) ++ padding) (sym is)
+    ap₂ (λ w p. ethernet.bytes_of f.header ++ (ip.bytes_of w (computes sent.ipv4) ++ p) ++ padding) filled bytes
+    ∙ ap (λ x. (ethernet.bytes_of f.header ++ carried_bytes sent x) ++ padding) (sym is)
     in
     (read, named, subst (λ bytes. ReadsFrame received bytes (ethernet.normal f.header) read) written r)

@@ -1,6 +1,6 @@
 -- What is found in a frame, and what is read of it.
-use Rattle.std.proofs.Common.{ℕ, ◌≡◌, ◌≢◌, ◌∙◌, inl, inr, true, false, List, None, drop, is_some, refl, sym, ap, subst}
-use Rattle.ip_wire.proofs.ReadsOnce.{computed-one, udp-computed}
+use Rattle.std.proofs.Common.{ℕ, ◌≡◌, ◌≢◌, ◌↔◌, ◌∙◌, inl, inr, true, false, List, None, Some, drop, is_some, refl, sym, ap, subst}
+use Rattle.ip_wire.proofs.ReadsOnce.{carried-once, computed-one, frame-once, transport-once, udp-computed}
 use Rattle.ip_wire.specs.Frame as frame
 use Rattle.ip_wire.specs.Frame.{ReadsCarried, ReadsFrame, ReadsPacket, ReadsTransport, datagram, message, other, packet, segment, type_of}
 use Rattle.ip_wire.specs.FrameValue.{ReadsHeader, ReadsNothing, Finds, FindsCarried, FindsTransport, Parses, ParsesCarried, ParsesTransport, carried_of, transport_of}
@@ -152,3 +152,29 @@ no-frame caps bytes f found e v d r =
     let same : v ≡ f.header = computed-one _ v f.header ((ethernet_of-Reads bytes v).1 r.reads_header) ((ethernet_of-Reads bytes f.header).1 found.header) in
     no-carried caps f.header.ethertype (drop 14 bytes) f.carried found.carried e d
     (subst (λ (w : EthernetRepr). ReadsCarried caps w.ethertype (drop 14 bytes) d) same r.reads_carried)
+
+-- ---- what is read of them is one value
+
+pub gives-transport : (caps : ChecksumCapabilities) (v : IpRepr) (bytes : List ℕ) (t : Transport) → ParsesTransport caps v bytes t
+    → (s : frame.Transport) → (transport_of t ≡ Some s) ↔ ReadsTransport caps v bytes s
+gives-transport caps v bytes t (read, is, reads) s = (
+  λ gives. subst (λ x. ReadsTransport caps v bytes x) (computed-one (transport_of t) read s is gives) reads,
+  λ reading. is ∙ ap Some (transport-once caps _ _ _ bytes read s reads reading),
+)
+
+pub gives-carried : (caps : ChecksumCapabilities) (t : EthernetProtocol) (bytes : List ℕ) (c : Carried) → ParsesCarried caps t bytes c
+    → (d : frame.Carried) → (carried_of c ≡ Some d) ↔ ReadsCarried caps t bytes d
+gives-carried caps t bytes c (read, is, reads) d = (
+  λ gives. subst (λ x. ReadsCarried caps t bytes x) (computed-one (carried_of c) read d is gives) reads,
+  λ reading. is ∙ ap Some (carried-once caps t bytes read d reads reading),
+)
+
+pub gives-frame : (caps : ChecksumCapabilities) (bytes : List ℕ) (f : Frame) → Parses caps bytes f
+    → (v : EthernetRepr) (d : frame.Carried) → ((f.header ≡ v) × (carried_of f.carried ≡ Some d)) ↔ ReadsFrame caps bytes v d
+gives-frame caps bytes f (read, is, reads) v d = (
+  λ gives. subst (λ w. ReadsFrame caps bytes w d) gives.0
+      (subst (λ x. ReadsFrame caps bytes f.header x) (computed-one (carried_of f.carried) read d is gives.1) reads),
+  λ reading.
+      let (header, same) = frame-once caps bytes f.header v read d reads reading in
+      (header, is ∙ ap Some same),
+)

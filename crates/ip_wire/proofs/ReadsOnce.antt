@@ -25,7 +25,7 @@ pub udp-computed : (src dst : IpAddress) (verified : Bool) (bytes : List ℕ) (v
     → udp_of src dst verified bytes ≡ Some v
 udp-computed src dst verified bytes v p r = (udp_of-Reads src dst verified bytes v).1 (subst (λ q. Reads bytes src dst verified v q) r.body r)
 
-transport-once : (caps : ChecksumCapabilities) (p : IpProtocol) (src dst : IpAddress) (bytes : List ℕ) (t u : Transport) → ReadsBetween caps p src dst bytes t → ReadsBetween caps p src dst bytes u → t ≡ u
+pub transport-once : (caps : ChecksumCapabilities) (p : IpProtocol) (src dst : IpAddress) (bytes : List ℕ) (t u : Transport) → ReadsBetween caps p src dst bytes t → ReadsBetween caps p src dst bytes u → t ≡ u
 transport-once caps p src dst bytes (datagram v q) (datagram w r) a b =
     let header : v ≡ w = computed-one _ v w (udp-computed src dst (verifies caps.udp) bytes v q a.1) (udp-computed src dst (verifies caps.udp) bytes w r b.1) in
     ap (λ u. datagram u q) header ∙ ap (datagram w) (a.1.body ∙ sym b.1.body)
@@ -40,7 +40,7 @@ transport-once caps p src dst bytes (segment v q) (other r) a b = absurd (b.1 a.
 transport-once caps p src dst bytes (other q) (segment w r) a b = absurd (a.1 b.0)
 transport-once caps p src dst bytes (other q) (other r) a b = ap other (a.2 ∙ sym b.2)
 
-carried-once : (caps : ChecksumCapabilities) (t : EthernetProtocol) (bytes : List ℕ) (c d : Carried) → ReadsCarried caps t bytes c → ReadsCarried caps t bytes d → c ≡ d
+pub carried-once : (caps : ChecksumCapabilities) (t : EthernetProtocol) (bytes : List ℕ) (c d : Carried) → ReadsCarried caps t bytes c → ReadsCarried caps t bytes d → c ≡ d
 carried-once caps t bytes (message v) (message w) a b =
     ap message (computed-one _ v w ((arp_of-Reads bytes v).1 a.1) ((arp_of-Reads bytes w).1 b.1))
 carried-once caps t bytes (packet (Ipv4 v) s) (packet (Ipv4 w) u) (type, (a, whole), carried) (_, (b, _), inner) =

@@ -1,5 +1,5 @@
 -- Whole frames as values: what they are parsed as, what they are emitted as, and what they print as.
-use Rattle.std.specs.Prelude.{List, ℕ, [], ⊤, ◌∷◌, ◌≡◌, ◌≢◌, ◌<◌, ◌≤◌, ◌++◌, ◌+◌, IsTrue, Option, Some, None, MatchOption, codes, decimal, drop, length, true}
+use Rattle.std.specs.Prelude.{List, ℕ, [], ⊤, ◌∷◌, ◌≡◌, ◌≢◌, ◌<◌, ◌≤◌, ◌++◌, ◌+◌, IsTrue, Option, Some, None, Result, Ok, Err, MatchOption, codes, decimal, drop, length, true}
 use Rattle.std.specs.Option.{option_map}
 use Rattle.ip_wire.specs.Frame as frame
 use Rattle.ip_wire.specs.Frame.{ReadsCarried, ReadsFrame, ReadsPacket, ReadsTransport, packet_payload, type_of}
@@ -20,6 +20,7 @@ use Rattle.wire_ends.specs.declared.IpProtocol.TheVariants as protocol
 use Rattle.wire_ethernet.specs.Ethernet as ethernet
 use Rattle.wire_ethernet.specs.declared.EthernetProtocol.{EthernetProtocol}
 use Rattle.wire_ethernet.specs.declared.EthernetProtocol.TheVariants as ethertype
+use Rattle.wire_ethernet.specs.declared.EthernetRepr.{EthernetRepr}
 use Rattle.wire_ip.specs.Ip as ip
 use Rattle.wire_ip.specs.Ip.{dst_addr_of, src_addr_of, with_payload_len}
 use Rattle.wire_ip.specs.declared.IpRepr.{IpRepr}
@@ -54,6 +55,11 @@ transport_of (transport.Unread bytes) = None
 -- the payload of a packet with this header parses as this transport
 abbrev pub ParsesTransport : ChecksumCapabilities → IpRepr → List ℕ → Transport → Type 0
 ParsesTransport caps v bytes t = (read : frame.Transport) × (transport_of t ≡ Some read) × ReadsTransport caps v bytes read
+
+-- the result is this transport
+abbrev pub GivesTransport : {E : Type 0} → Result Transport E → frame.Transport → Type 0
+GivesTransport (Ok t) read = transport_of t ≡ Some read
+GivesTransport (Err e) read = ⊥
 
 -- the payload of a packet with this header parses as this transport, or it does not parse and its bytes are kept
 abbrev pub FindsTransport : ChecksumCapabilities → IpRepr → List ℕ → Transport → Type 0
@@ -101,6 +107,11 @@ carried_of (carried.Unread bytes) = None
 -- the payload of a frame of this type parses as these values
 abbrev pub ParsesCarried : ChecksumCapabilities → EthernetProtocol → List ℕ → Carried → Type 0
 ParsesCarried caps t bytes c = (read : frame.Carried) × (carried_of c ≡ Some read) × ReadsCarried caps t bytes read
+
+-- the result is these values
+abbrev pub GivesCarried : {E : Type 0} → Result Carried E → frame.Carried → Type 0
+GivesCarried (Ok c) read = carried_of c ≡ Some read
+GivesCarried (Err e) read = ⊥
 
 -- the bytes begin with an IP header of the version that the type names, with its checksum where that is verified
 abbrev pub ReadsHeader : ChecksumCapabilities → EthernetProtocol → List ℕ → IpRepr → Type 0
@@ -153,6 +164,11 @@ carried_payload _ = None
 -- the frame parses as this value
 abbrev pub Parses : ChecksumCapabilities → List ℕ → Frame → Type 0
 Parses caps bytes f = (read : frame.Carried) × (carried_of f.carried ≡ Some read) × ReadsFrame caps bytes f.header read
+
+-- the result is these values
+abbrev pub Gives : {E : Type 0} → Result Frame E → EthernetRepr → frame.Carried → Type 0
+Gives (Ok f) header read = (f.header ≡ header) × (carried_of f.carried ≡ Some read)
+Gives (Err e) header read = ⊥
 
 -- the frame is parsed up to a header that does not parse, and the bytes from there on are kept
 pub record Finds (caps : ChecksumCapabilities) (bytes : List ℕ) (f : Frame) : Type 0 where

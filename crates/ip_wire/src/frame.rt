@@ -1,10 +1,10 @@
 //! A whole Ethernet frame, as a value.
 
-ghost use Rattle.std.specs.Prelude.{◌≡◌, ◌<◌, ◌≤◌, ◌^◌, ◌++◌, ◌↔◌, IfOk, IsOk, OnErr, Some, drop, length};
+ghost use Rattle.std.specs.Prelude.{◌≡◌, ◌<◌, ◌≤◌, ◌^◌, ◌++◌, ◌↔◌, IfOk, IsOk, Some, drop, length};
 ghost use Rattle.std.specs.Option.{option_map};
 ghost use Rattle.ip_wire.specs.Frame as frame;
 ghost use Rattle.ip_wire.specs.Frame.{ReadsFrame};
-ghost use Rattle.ip_wire.specs.FrameValue.{Fills, Finds, Fits, Parses, carried_payload, frame_bytes, frame_len, frame_text};
+ghost use Rattle.ip_wire.specs.FrameValue.{Fills, Finds, Fits, Gives, Parses, carried_payload, frame_bytes, frame_len, frame_text};
 ghost use Rattle.wire_ethernet.specs.declared.EthernetRepr.{EthernetRepr};
 
 mod build;
@@ -48,7 +48,7 @@ impl<'a> Frame<'a> {
     #[inline(always)]
     pub fn parse(bytes: &'a [u8], caps: &ChecksumCapabilities) -> Result<Frame<'a>>
         ensures ok { IfOk result (Parses caps.now bytes.now) }
-        ensures err { OnErr result ((v : EthernetRepr) (c : frame.Carried) → ¬ ReadsFrame caps.now bytes.now v c) }
+        ensures reads { (v : EthernetRepr) (c : frame.Carried) → Gives result v c ↔ ReadsFrame caps.now bytes.now v c }
         ensures fits { IfOk result Fits }
         ensures no_longer { IfOk result (λ f. frame_len f ≤ length bytes.now) }
     {

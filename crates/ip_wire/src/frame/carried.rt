@@ -1,10 +1,10 @@
 //! The payload of an Ethernet frame, as a value.
 
-ghost use Rattle.std.specs.Prelude.{◌≡◌, ◌<◌, ◌≤◌, ◌+◌, ◌^◌, IfOk, OnErr, Some, is_some, length};
+ghost use Rattle.std.specs.Prelude.{◌≡◌, ◌<◌, ◌≤◌, ◌+◌, ◌↔◌, ◌^◌, IfOk, Some, is_some, length};
 ghost use Rattle.std.specs.Option.{option_map};
 ghost use Rattle.ip_wire.specs.Frame as frame;
 ghost use Rattle.ip_wire.specs.Frame.{ReadsCarried};
-ghost use Rattle.ip_wire.specs.FrameValue.{FindsCarried, Fills, FitsCarried, FitsTransport, ParsesCarried, carried_bytes, carried_len, carried_of, carried_payload, carried_text, packet_bytes, transport_len};
+ghost use Rattle.ip_wire.specs.FrameValue.{FindsCarried, Fills, FitsCarried, FitsTransport, GivesCarried, ParsesCarried, carried_bytes, carried_len, carried_of, carried_payload, carried_text, packet_bytes, transport_len};
 ghost use Rattle.wire_arp.specs.Arp as arp;
 ghost use Rattle.wire_ip.specs.Ip as ip;
 
@@ -79,7 +79,7 @@ impl<'a> Carried<'a> {
         caps: &ChecksumCapabilities,
     ) -> Result<Carried<'a>>
         ensures ok { IfOk result (ParsesCarried caps.now ethertype bytes.now) }
-        ensures err { OnErr result ((c : frame.Carried) → ¬ ReadsCarried caps.now ethertype bytes.now c) }
+        ensures reads { (c : frame.Carried) → GivesCarried result c ↔ ReadsCarried caps.now ethertype bytes.now c }
     {
         let value = Carried::read(ethertype, bytes, caps);
         if value.is_read() {

@@ -1,10 +1,10 @@
 //! The payload of an IP packet, as a value.
 
-ghost use Rattle.std.specs.Prelude.{◌≡◌, ◌<◌, ◌≤◌, ◌+◌, ◌↔◌, ◌^◌, [], IfOk, IsTrue, OnErr, Some, is_some, length};
+ghost use Rattle.std.specs.Prelude.{◌≡◌, ◌<◌, ◌≤◌, ◌+◌, ◌↔◌, ◌^◌, [], IfOk, IsTrue, Some, is_some, length};
 ghost use Rattle.std.specs.Option.{option_map};
 ghost use Rattle.ip_wire.specs.Frame as frame;
 ghost use Rattle.ip_wire.specs.Frame.{ReadsTransport};
-ghost use Rattle.ip_wire.specs.FrameValue.{Fills, FindsTransport, FitsTransport, ParsesTransport, transport_bytes, transport_len, transport_of, transport_payload, transport_text};
+ghost use Rattle.ip_wire.specs.FrameValue.{Fills, FindsTransport, FitsTransport, GivesTransport, ParsesTransport, transport_bytes, transport_len, transport_of, transport_payload, transport_text};
 ghost use Rattle.net_base.specs.Checksum.{computes};
 ghost use Rattle.wire_ip.specs.Ip.{dst_addr_of, src_addr_of};
 ghost use Rattle.wire_tcp_repr.specs.TcpRepr as tcp;
@@ -65,7 +65,7 @@ impl<'a> Transport<'a> {
         caps: &ChecksumCapabilities,
     ) -> Result<Transport<'a>>
         ensures ok { IfOk result (ParsesTransport caps.now header.now bytes.now) }
-        ensures err { OnErr result ((t : frame.Transport) → ¬ ReadsTransport caps.now header.now bytes.now t) }
+        ensures reads { (t : frame.Transport) → GivesTransport result t ↔ ReadsTransport caps.now header.now bytes.now t }
     {
         let value = Transport::read(header, bytes, caps);
         if value.is_read() {

@@ -42,15 +42,7 @@ pub fn frame_reads_back(
             match inner {
                 Transport::Udp(value, payload) => {
                     filled.set_payload_len(8 + payload.len());
-                    frame_composes_udp(
-                        ethernet,
-                        filled,
-                        *value,
-                        payload,
-                        padding,
-                        sent,
-                        received,
-                    );
+                    frame_composes_udp(ethernet, filled, *value, payload, padding, sent, received);
                 }
                 Transport::Tcp(value) => {
                     filled.set_payload_len(value.buffer_len());

@@ -11,5 +11,5 @@ returns-in-Some c =
     let room : frame_bytes_mut c.new_unchecked.result ≡ take 14 old = search rules in
     let front = rw room at c.emit.ensures.holds in
     let placed = behind (bytes_of f.header) (carried_bytes c.args.caps.now f.carried) old _ c.emit.new.frame.buffer.now c.try_emit.new.out 14 c.in-Some.len
-        (search rules) (search rules) (search rules) front (search rules) in
+    (search rules) (search rules) (search rules) front (search rules) in
     (ap (λ n. 14 + n) (search rules), placed.0, placed.1)

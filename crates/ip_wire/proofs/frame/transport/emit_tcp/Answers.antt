@@ -16,6 +16,9 @@ returns c =
     let room : len ≤ length old = search rules in
     let size : len ≡ header_len_of v + length payload = search rules in
     let slice : packet_bytes_mut c.new_unchecked.result ≡ take len old = search rules in
-    let written = rw (slice, c.src_addr.ensures, c.dst_addr.ensures, ← size) at c.emit.ensures.holds in
-    (size, room, filled (λ rest. bytes_of v payload (src_addr_of h) (dst_addr_of h) (computes c.args.caps.now.tcp) rest) old _ c.emit.new.packet.buffer.now
-    c.in_ok-out.field-0-1.now len room (search rules) written (search rules))
+    let written = rw (slice, c.src_addr.ensures, c.dst_addr.ensures, ← size) at c.emit.ensures.holds in (
+      size,
+      room,
+      filled (λ rest. bytes_of v payload (src_addr_of h) (dst_addr_of h) (computes c.args.caps.now.tcp) rest) old _ c.emit.new.packet.buffer.now
+          c.in_ok-out.field-0-1.now len room (search rules) written (search rules),
+    )

@@ -17,10 +17,12 @@ returns-in-Arp c =
     let f = c.args.frame.now in
     let v = c.in-Arp.value in
     let written : ethernet.bytes_of f.header ++ arp.bytes_of v ++ c.args.padding.now ≡ frame_bytes c.args.sent f ++ c.args.padding.now =
-        ap (λ x. (ethernet.bytes_of f.header ++ carried_bytes c.args.sent x) ++ c.args.padding.now) (sym c.in-Arp.is)
-    in
-    (message (arp.normal v), ap normal_carried_of c.in-Arp.is,
-    subst (λ bytes. ReadsFrame c.args.received bytes (ethernet.normal f.header) (message (arp.normal v))) written c.frame_composes_arp.ensures)
+    ap (λ x. (ethernet.bytes_of f.header ++ carried_bytes c.args.sent x) ++ c.args.padding.now) (sym c.in-Arp.is)
+    in (
+      message (arp.normal v),
+      ap normal_carried_of c.in-Arp.is,
+      subst (λ bytes. ReadsFrame c.args.received bytes (ethernet.normal f.header) (message (arp.normal v))) written c.frame_composes_arp.ensures,
+    )
 
 pub returns-in-Udp : goal.returns-in-Udp
 returns-in-Udp c =
