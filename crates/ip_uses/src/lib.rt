@@ -3,7 +3,6 @@
 
 pub mod allow_list;
 pub mod answer_arp;
-pub mod over_ipv6;
 pub mod read_frame;
 pub mod refuse_checksum;
 #[cfg(test)]

@@ -4,13 +4,12 @@ ghost use Rattle.std.specs.Prelude.{◌≡◌, ◌≤◌, ◌+◌, length};
 
 use crate::allow_list::is_allowed;
 use crate::answer_arp::answer;
-use crate::over_ipv6;
-use crate::read_frame::ipv4_packet;
+use crate::read_frame::udp_packet;
 use crate::refuse_checksum::{udp_ports, verified_by_the_device};
 use crate::write_frame::write_udp;
 use ip_wire::{
-    ArpOperation, ArpRepr, EthernetAddress, EthernetProtocol, EthernetRepr, IpAddress, IpCidr,
-    IpProtocol, Ipv4Address, Ipv4Cidr, Ipv4Repr, Ipv6Address, Ipv6Cidr, Ipv6Repr, UdpRepr,
+    ArpOperation, ArpRepr, EthernetAddress, IpAddress, IpCidr, IpProtocol, IpRepr, Ipv4Address,
+    Ipv4Cidr, Ipv4Repr, Ipv6Address, Ipv6Cidr, Ipv6Repr, UdpRepr,
 };
 use net_base::ChecksumCapabilities;
 
@@ -36,54 +35,61 @@ const REQUEST: [u8; 28] = [
     0x23, 0x24, 0x31, 0x32, 0x33, 0x34, 0x35, 0x36, 0x41, 0x42, 0x43, 0x44,
 ];
 
-/// The header of both frames.
-fn link(ethertype: EthernetProtocol) -> EthernetRepr {
-    EthernetRepr {
-        src_addr: EthernetAddress([0x11, 0x12, 0x13, 0x14, 0x15, 0x16]),
-        dst_addr: EthernetAddress([0x01, 0x02, 0x03, 0x04, 0x05, 0x06]),
-        ethertype,
-    }
-}
+/// The stations of both frames.
+const SRC: EthernetAddress = EthernetAddress([0x11, 0x12, 0x13, 0x14, 0x15, 0x16]);
+
+const DST: EthernetAddress = EthernetAddress([0x01, 0x02, 0x03, 0x04, 0x05, 0x06]);
 
 /// The header of the packet in the first frame.
-fn header() -> Ipv4Repr
-    ensures { result.payload_len ≡ 12 }
-{
-    Ipv4Repr {
+fn header() -> IpRepr {
+    IpRepr::Ipv4(Ipv4Repr {
         src_addr: Ipv4Address::new(192, 168, 1, 1),
         dst_addr: Ipv4Address::new(192, 168, 1, 2),
         next_header: IpProtocol::Udp,
         payload_len: 12,
         hop_limit: 64,
-    }
+    })
 }
 
 /// That of the packet in the second.
-fn ipv6_header() -> Ipv6Repr
-    ensures { result.payload_len ≡ 12 }
-{
-    Ipv6Repr {
+fn ipv6_header() -> IpRepr {
+    IpRepr::Ipv6(Ipv6Repr {
         src_addr: Ipv6Address::new(0xfe80, 0, 0, 0, 0, 0, 0, 1),
         dst_addr: Ipv6Address::new(0xff02, 0, 0, 0, 0, 0, 0, 1),
         next_header: IpProtocol::Udp,
         payload_len: 12,
         hop_limit: 64,
-    }
+    })
 }
+
+/// The ports of the packet in the first frame, and of that in the second.
+const PORTS: UdpRepr = UdpRepr {
+    src_port: 48896,
+    dst_port: 53,
+};
+
+const IPV6_PORTS: UdpRepr = UdpRepr {
+    src_port: 1,
+    dst_port: 2,
+};
 
 #[test]
 fn reads_the_packet_of_a_frame(rt: HostRuntime) {
     let mut padded = [0; 60];
     padded[..46].copy_from_slice(&FRAME);
-    assert_eq!(rt; ipv4_packet(&padded), Ok((header(), &FRAME[34..])));
-    for (at, byte) in [(12, 0x86), (14, 0x65), (25, 0x78)] {
+    assert_eq!(rt; udp_packet(&padded), Some((header(), PORTS, &FRAME[42..])));
+    for (at, byte) in [(12, 0x86), (14, 0x65), (25, 0x78), (23, 0x06), (45, 0xfe)] {
         let mut other = FRAME;
         other[at] = byte;
-        assert!(rt; ipv4_packet(&other).is_err(), "{at}");
+        assert!(rt; udp_packet(&other).is_none(), "{at}");
     }
     for end in [0, 13, 14, 45] {
-        assert!(rt; ipv4_packet(&FRAME[..end]).is_err(), "{end}");
+        assert!(rt; udp_packet(&FRAME[..end]).is_none(), "{end}");
     }
+    assert_eq!(rt;
+        udp_packet(&IPV6_FRAME),
+        Some((ipv6_header(), IPV6_PORTS, &IPV6_FRAME[62..]))
+    );
 }
 
 #[test]
@@ -91,12 +97,21 @@ fn writes_a_frame(rt: HostRuntime) {
     let mut expected = [0xa5; 48];
     expected[..46].copy_from_slice(&FRAME);
     let mut buffer = [0xa5; 48];
-    let ports = UdpRepr {
-        src_port: 48896,
-        dst_port: 53,
-    };
-    let link = link(EthernetProtocol::Ipv4);
-    write_udp(&mut buffer, &link, &header(), &ports, &FRAME[42..]);
+    let len = write_udp(&mut buffer, SRC, DST, header(), PORTS, &FRAME[42..]);
+    assert_eq!(rt; len, Some(46));
+    assert_eq!(rt; buffer, expected);
+    let len = write_udp(&mut buffer[..45], SRC, DST, header(), PORTS, &FRAME[42..]);
+    assert_eq!(rt; len, None);
+    assert_eq!(rt; buffer, expected);
+}
+
+#[test]
+fn writes_a_frame_over_ipv6(rt: HostRuntime) {
+    let mut expected = [0xa5; 68];
+    expected[..66].copy_from_slice(&IPV6_FRAME);
+    let mut buffer = [0xa5; 68];
+    let len = write_udp(&mut buffer, SRC, DST, ipv6_header(), IPV6_PORTS, &[0xff; 4]);
+    assert_eq!(rt; len, Some(66));
     assert_eq!(rt; buffer, expected);
 }
 
@@ -135,29 +150,13 @@ fn refuses_a_wrong_checksum(rt: HostRuntime) {
         let mut packet = [0; 12];
         packet.copy_from_slice(&FRAME[34..]);
         packet[6..8].copy_from_slice(&checksum);
-        let (src, dst) = (header().src_addr, header().dst_addr);
+        let (src, dst) = (
+            Ipv4Address::new(192, 168, 1, 1),
+            Ipv4Address::new(192, 168, 1, 2),
+        );
         assert_eq!(rt; udp_ports(&packet, src, dst, &verify).is_ok(), verified);
         assert_eq!(rt; udp_ports(&packet, src, dst, &trust).is_ok(), trusted);
     }
-}
-
-#[test]
-fn does_the_same_over_ipv6(rt: HostRuntime) {
-    assert_eq!(rt;
-        over_ipv6::ipv6_packet(&IPV6_FRAME),
-        Ok((ipv6_header(), &IPV6_FRAME[54..]))
-    );
-    assert!(rt; over_ipv6::ipv6_packet(&FRAME).is_err());
-    let mut expected = [0xa5; 68];
-    expected[..66].copy_from_slice(&IPV6_FRAME);
-    let mut buffer = [0xa5; 68];
-    let ports = UdpRepr {
-        src_port: 1,
-        dst_port: 2,
-    };
-    let link = link(EthernetProtocol::Ipv6);
-    over_ipv6::write_udp(&mut buffer, &link, &ipv6_header(), &ports, &[0xff; 4]);
-    assert_eq!(rt; buffer, expected);
 }
 
 #[test]
