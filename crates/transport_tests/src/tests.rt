@@ -1,6 +1,7 @@
 //! Worked examples, byte by byte.
 
 mod checksum;
+mod frame;
 mod nested;
 mod sums;
 mod tcp;
