@@ -1,5 +1,5 @@
 -- IP headers of either version (RFC 791, section 3.1; RFC 8200, section 3).
-use Rattle.std.specs.Prelude.{ℕ, Bool, Option, List, option_and_then, option_map}
+use Rattle.std.specs.Prelude.{ℕ, Bool, Option, List, option_and_then, option_map, slice_range}
 use Rattle.wire_ends.specs.IpVersion.{IsOfVersion, packet_version}
 use Rattle.wire_ends.specs.declared.ip_address.IpAddress.{IpAddress}
 use Rattle.wire_ends.specs.declared.ip_address.IpAddress.TheVariants as address
@@ -62,6 +62,18 @@ header_len_of (Ipv6 v) = 40
 abbrev pub max_payload_len : IpRepr → ℕ
 max_payload_len (Ipv4 v) = ipv4.max_payload_len
 max_payload_len (Ipv6 v) = 65535
+
+-- ---- a packet's payload
+
+-- the bytes hold a whole header of this version, and all that it speaks of
+abbrev pub HasLengths : List ℕ → IpVersion → Type 0
+HasLengths bytes version.Ipv4 = ipv4.HasLengths bytes
+HasLengths bytes version.Ipv6 = ipv6.HasLengths bytes
+
+-- what follows a header of this version, up to the packet's length
+abbrev pub payload_of : List ℕ → IpVersion → List ℕ
+payload_of bytes version.Ipv4 = slice_range bytes (ipv4.header_len bytes) (ipv4.total_len bytes)
+payload_of bytes version.Ipv6 = ipv6.payload_of bytes
 
 -- ---- reading and writing
 

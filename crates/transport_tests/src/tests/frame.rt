@@ -2,12 +2,11 @@
 
 use super::{FRAME_DST, FRAME_SRC};
 use ip_wire::{
-    ArpOperation, ArpRepr, Carried, EthernetAddress, EthernetProtocol, EthernetRepr, Frame,
-    IpProtocol, IpRepr, Ipv4Address, Ipv4Packet, Ipv4Repr, Ipv6Address, Ipv6Repr, TcpControl,
-    TcpRepr, TcpSeqNumber, Transport, UdpRepr,
+    ArpOperation, ArpRepr, Carried, EthernetAddress, EthernetProtocol, Frame, IpProtocol, IpRepr,
+    Ipv4Address, Ipv4Repr, Ipv6Address, Ipv6Repr, TcpControl, TcpRepr, TcpSeqNumber, Transport,
+    UdpRepr,
 };
 use net_base::ChecksumCapabilities;
-use std::test::Fail;
 use test_support::prints;
 
 /// A UDP packet from 192.168.1.1 to 192.168.1.2 with four octets.
@@ -121,164 +120,113 @@ fn request() -> ArpRepr {
     }
 }
 
-/// A frame between the two stations.
-fn frame<'a>(ethertype: EthernetProtocol, carried: Carried<'a>) -> Frame<'a> {
-    Frame {
-        header: EthernetRepr {
-            src_addr: FRAME_SRC,
-            dst_addr: FRAME_DST,
-            ethertype,
-        },
-        carried,
+/// Whether the frame parses, prints as this text and has this payload.
+fn parses(bytes: &[u8], text: &str, payload: Option<&[u8]>) -> bool {
+    match Frame::parse(bytes, &ChecksumCapabilities::default()) {
+        Ok(frame) => prints(&frame, text) && frame.payload() == payload,
+        Err(_) => false,
     }
 }
 
-/// The value of the first UDP packet.
-fn udp() -> Frame<'static> {
-    let inner = Transport::Udp(PORTS, &[0xaa, 0x00, 0x00, 0xff]);
-    let carried = Carried::Packet(ipv4(IpProtocol::Udp, 12), inner);
-    frame(EthernetProtocol::Ipv4, carried)
+/// Whether the frame does not parse, but is read as far as this text says.
+fn is_kept(bytes: &[u8], text: &str) -> bool {
+    let caps = ChecksumCapabilities::default();
+    match Frame::read(bytes, &caps) {
+        Ok(frame) => {
+            prints(&frame, text) && !frame.carried.is_read() && Frame::parse(bytes, &caps).is_err()
+        }
+        Err(_) => false,
+    }
 }
+
+/// Whether the frame, parsed and emitted, gives its bytes, and the rest of the buffer stays.
+fn is_emitted(bytes: &[u8]) -> bool {
+    let caps = ChecksumCapabilities::default();
+    match Frame::read(bytes, &caps) {
+        Ok(frame) => {
+            let mut buffer = [0xa5; 80];
+            let len = frame.try_emit(&mut buffer, &caps);
+            len == Some(bytes.len()) && is_written(&buffer, bytes)
+        }
+        Err(_) => false,
+    }
+}
+
+/// Whether the buffer begins with these bytes, and the rest of it stayed.
+fn is_written(buffer: &[u8], bytes: &[u8]) -> bool {
+    buffer.starts_with(bytes) && buffer[bytes.len()..].iter().all(|byte| *byte == 0xa5)
+}
+
+/// The first lines of frames over IPv4, IPv6 and ARP.
+const IPV4_LINES: &str =
+    "EthernetII src=11-12-13-14-15-16 dst=01-02-03-04-05-06 type=IPv4\nIPv4 src=192.168.1.1 dst=192.168.1.2 proto=UDP";
 
 #[test]
 fn parses_what_is_right(rt: HostRuntime) {
-    let caps = ChecksumCapabilities::default();
-    let over_ipv6 = Transport::Udp(PORTS_OVER_IPV6, &[0xff; 4]);
-    let echo = Transport::Other(&ECHO[34..]);
-    let packet = Carried::Packet;
-    for (bytes, ethertype, carried) in [
-        (&UDP[..], EthernetProtocol::Ipv4, udp().carried),
+    for (bytes, text, at) in [
+        (
+            &UDP[..],
+            "EthernetII src=11-12-13-14-15-16 dst=01-02-03-04-05-06 type=IPv4\nIPv4 src=192.168.1.1 dst=192.168.1.2 proto=UDP\nUDP src=48896 dst=53 len=4",
+            42,
+        ),
         (
             &UDP_OVER_IPV6,
-            EthernetProtocol::Ipv6,
-            packet(ipv6(IpProtocol::Udp, 12), over_ipv6),
+            "EthernetII src=11-12-13-14-15-16 dst=01-02-03-04-05-06 type=IPv6\nIPv6 src=fe80::1 dst=ff02::1 nxt_hdr=UDP hop_limit=64\nUDP src=1 dst=2 len=4",
+            62,
         ),
         (
             &SYN,
-            EthernetProtocol::Ipv4,
-            packet(ipv4(IpProtocol::Tcp, 24), Transport::Tcp(SEGMENT)),
+            "EthernetII src=11-12-13-14-15-16 dst=01-02-03-04-05-06 type=IPv4\nIPv4 src=192.168.1.1 dst=192.168.1.2 proto=TCP\nTCP src=49152 dst=80 syn seq=1 win=1024 len=0 mss=1460",
+            58,
         ),
         (
             &ECHO,
-            EthernetProtocol::Ipv4,
-            packet(ipv4(IpProtocol::Icmp, 8), echo),
+            "EthernetII src=11-12-13-14-15-16 dst=01-02-03-04-05-06 type=IPv4\nIPv4 src=192.168.1.1 dst=192.168.1.2 proto=ICMP",
+            34,
         ),
-        (&ARP, EthernetProtocol::Arp, Carried::Arp(request())),
     ] {
-        assert_eq!(rt; Frame::parse(bytes, &caps), Ok(frame(ethertype, carried)));
+        assert!(rt; parses(bytes, text, Some(&bytes[at..])), "{text}");
+    }
+    let text =
+        "EthernetII src=11-12-13-14-15-16 dst=01-02-03-04-05-06 type=ARP\nARP type=Ethernet+IPv4 src=11-12-13-14-15-16/33.34.35.36 tgt=31-32-33-34-35-36/65.66.67.68 op=Request";
+    assert!(rt; parses(&ARP, text, None));
+}
+
+#[test]
+fn keeps_what_does_not_parse(rt: HostRuntime) {
+    let mut sum = UDP;
+    sum[41] = 0x4e;
+    assert!(rt; is_kept(&sum, IPV4_LINES));
+    let mut header = UDP;
+    header[25] = 0x78;
+    let text = "EthernetII src=11-12-13-14-15-16 dst=01-02-03-04-05-06 type=IPv4";
+    assert!(rt; is_kept(&header, text));
+    assert!(rt; is_kept(&FRAGMENT, IPV4_LINES));
+    let text = "EthernetII src=11-12-13-14-15-16 dst=01-02-03-04-05-06 type=0x88cc";
+    assert!(rt; is_kept(&LLDP, text));
+    assert!(rt; !is_kept(&UDP[..13], ""));
+}
+
+/// Whether the payload of a packet with this header parses as UDP with these ports and this payload.
+fn is_udp(header: &IpRepr, bytes: &[u8], ports: UdpRepr, payload: &[u8]) -> bool {
+    match Transport::parse(header, bytes, &ChecksumCapabilities::default()) {
+        Ok(Transport::Udp(value, rest)) => value == ports && rest == payload,
+        _ => false,
     }
 }
 
 #[test]
 fn parses_a_payload_alone(rt: HostRuntime) {
-    let caps = ChecksumCapabilities::default();
     let header = ipv4(IpProtocol::Udp, 12);
-    let inner = Transport::Udp(PORTS, &UDP[42..]);
-    assert_eq!(rt; Transport::parse(&header, &UDP[34..], &caps), Ok(inner));
-    assert!(rt; Transport::parse(&header, &UDP[35..], &caps).is_err());
-    let carried = Carried::parse(EthernetProtocol::Ipv4, &UDP[14..], &caps);
-    assert_eq!(rt; carried, Ok(Carried::Packet(header, inner)));
+    assert!(rt; is_udp(&header, &UDP[34..], PORTS, &UDP[42..]));
+    assert!(rt; !is_udp(&header, &UDP[35..], PORTS, &UDP[42..]));
+    let caps = ChecksumCapabilities::default();
+    assert!(rt; Carried::parse(EthernetProtocol::Ipv4, &UDP[14..], &caps).is_ok());
     assert!(rt; Carried::parse(EthernetProtocol::Ipv6, &UDP[14..], &caps).is_err());
-    assert_eq!(rt; inner.payload(), Some(&UDP[42..]));
-    assert_eq!(rt; udp().payload(), Some(&UDP[42..]));
-    assert_eq!(rt;
-        frame(EthernetProtocol::Arp, Carried::Arp(request())).payload(),
-        None
-    );
 }
 
 #[test]
-fn keeps_what_does_not_parse(rt: HostRuntime) {
-    let caps = ChecksumCapabilities::default();
-    let mut wrong = UDP;
-    wrong[41] = 0x4e;
-    let unread = Carried::Packet(ipv4(IpProtocol::Udp, 12), Transport::Unread(&wrong[34..]));
-    let mut header = UDP;
-    header[25] = 0x78;
-    let fragment = Carried::Fragment(Ipv4Packet::new_unchecked(&FRAGMENT[14..]));
-    for (bytes, ethertype, carried) in [
-        (&wrong[..], EthernetProtocol::Ipv4, unread),
-        (
-            &header,
-            EthernetProtocol::Ipv4,
-            Carried::Unread(&header[14..]),
-        ),
-        (&FRAGMENT, EthernetProtocol::Ipv4, fragment),
-        (
-            &LLDP,
-            EthernetProtocol::Unknown(0x88cc),
-            Carried::Unread(&LLDP[14..]),
-        ),
-    ] {
-        assert_eq!(rt; Frame::read(bytes, &caps), Ok(frame(ethertype, carried)));
-        assert!(rt; Frame::parse(bytes, &caps).is_err());
-    }
-    assert!(rt; Frame::read(&UDP[..13], &caps).is_err());
-}
-
-#[test]
-fn puts_layers_together(rt: HostRuntime) {
-    let header = ipv4(IpProtocol::Unknown(99), 0);
-    let payload = &UDP[42..];
-    let over_udp = Frame::udp(FRAME_SRC, FRAME_DST, header, PORTS, payload);
-    assert_eq!(rt; over_udp, Ok(udp()));
-    let carried = Carried::Packet(ipv6(IpProtocol::Tcp, 24), Transport::Tcp(SEGMENT));
-    let over_tcp = Frame::tcp(
-        FRAME_SRC,
-        FRAME_DST,
-        ipv6(IpProtocol::Unknown(99), 0),
-        SEGMENT,
-    );
-    assert_eq!(rt; over_tcp, Ok(frame(EthernetProtocol::Ipv6, carried)));
-    let arp = frame(EthernetProtocol::Arp, Carried::Arp(request()));
-    assert_eq!(rt; Frame::arp(FRAME_SRC, FRAME_DST, request()), arp);
-    let inner = Transport::Other(payload);
-    let carried = Carried::Packet(ipv4(IpProtocol::Unknown(99), 4), inner);
-    let other = Frame::packet(FRAME_SRC, FRAME_DST, header, inner);
-    assert_eq!(rt; other, Ok(frame(EthernetProtocol::Ipv4, carried)));
-}
-
-#[test]
-fn rejects_what_a_frame_cannot_hold(rt: HostRuntime) {
-    let long = [0; 65_536];
-    let to_port_0 = UdpRepr {
-        dst_port: 0,
-        ..PORTS
-    };
-    let (v4, v6) = (ipv4(IpProtocol::Udp, 0), ipv6(IpProtocol::Udp, 0));
-    for (header, ports, len, fits) in [
-        (v4, PORTS, 65_507, true),
-        (v4, PORTS, 65_508, false),
-        (v6, PORTS, 65_527, true),
-        (v6, PORTS, 65_528, false),
-        (v4, to_port_0, 0, false),
-    ] {
-        let result = Frame::udp(FRAME_SRC, FRAME_DST, header, ports, &long[..len]);
-        assert_eq!(rt; result.is_ok(), fits, "{len}");
-    }
-    for (src_port, dst_port, len, fits) in [
-        (1, 1, 65_491, true),
-        (1, 1, 65_492, false),
-        (0, 1, 0, false),
-        (1, 0, 0, false),
-    ] {
-        let segment = TcpRepr {
-            src_port,
-            dst_port,
-            payload: &long[..len],
-            ..SEGMENT
-        };
-        let result = Frame::tcp(FRAME_SRC, FRAME_DST, v4, segment);
-        assert_eq!(rt; result.is_ok(), fits, "{src_port} {dst_port} {len}");
-    }
-    for inner in [Transport::Other(&long[..4]), Transport::Unread(&long[..4])] {
-        assert!(rt; Frame::packet(FRAME_SRC, FRAME_DST, v4, inner).is_err());
-    }
-}
-
-#[test]
-fn emits_what_was_parsed(rt: HostRuntime) -> std::result::Result<(), Fail> {
-    let caps = ChecksumCapabilities::default();
+fn emits_what_was_parsed(rt: HostRuntime) {
     for bytes in [
         &UDP[..],
         &UDP_OVER_IPV6,
@@ -288,63 +236,122 @@ fn emits_what_was_parsed(rt: HostRuntime) -> std::result::Result<(), Fail> {
         &ARP,
         &LLDP,
     ] {
-        let mut buffer = [0xa5; 80];
-        let frame = Frame::read(bytes, &caps)?;
-        let (front, rest) = buffer.split_at_mut(bytes.len());
-        assert_eq!(rt; frame.try_emit(front, &caps), Some(bytes.len()));
-        assert_eq!(rt; &front[..], bytes);
-        assert!(rt; rest.iter().all(|byte| *byte == 0xa5));
+        assert!(rt; is_emitted(bytes));
     }
-    Ok(())
+}
+
+/// Whether a UDP packet is put together as these bytes.
+fn is_built(header: IpRepr, ports: UdpRepr, payload: &[u8], bytes: &[u8]) -> bool {
+    match Frame::udp(FRAME_SRC, FRAME_DST, header, ports, payload) {
+        Ok(frame) => {
+            let mut buffer = [0xa5; 80];
+            let len = frame.try_emit(&mut buffer, &ChecksumCapabilities::default());
+            len == Some(bytes.len()) && is_written(&buffer, bytes)
+        }
+        Err(_) => false,
+    }
+}
+
+/// Whether a segment is put together as these bytes.
+fn is_built_segment(header: IpRepr, segment: TcpRepr<'_>, bytes: &[u8]) -> bool {
+    match Frame::tcp(FRAME_SRC, FRAME_DST, header, segment) {
+        Ok(frame) => {
+            let mut buffer = [0xa5; 80];
+            let len = frame.try_emit(&mut buffer, &ChecksumCapabilities::default());
+            len == Some(bytes.len()) && is_written(&buffer, bytes)
+        }
+        Err(_) => false,
+    }
 }
 
 #[test]
-fn emits_nothing_where_there_is_no_room(rt: HostRuntime) -> std::result::Result<(), Fail> {
-    let caps = ChecksumCapabilities::default();
-    let frame = Frame::read(&UDP, &caps)?;
-    assert_eq!(rt; frame.buffer_len(), 46);
-    let mut buffer = [0xa5; 48];
-    for room in [0, 13, 14, 33, 34, 45] {
-        assert_eq!(rt; frame.try_emit(&mut buffer[..room], &caps), None, "{room}");
-        assert_eq!(rt; buffer, [0xa5; 48], "{room}");
+fn puts_layers_together(rt: HostRuntime) {
+    let (v4, v6) = (
+        ipv4(IpProtocol::Unknown(99), 0),
+        ipv6(IpProtocol::Unknown(99), 0),
+    );
+    assert!(rt; is_built(v4, PORTS, &UDP[42..], &UDP));
+    assert!(rt; is_built(v6, PORTS_OVER_IPV6, &UDP_OVER_IPV6[62..], &UDP_OVER_IPV6));
+    assert!(rt; is_built_segment(v4, SEGMENT, &SYN));
+    let frame = Frame::arp(FRAME_SRC, FRAME_DST, request());
+    let mut buffer = [0xa5; 80];
+    let len = frame.try_emit(&mut buffer, &ChecksumCapabilities::default());
+    assert_eq!(rt; len, Some(42));
+    assert!(rt; is_written(&buffer, &ARP));
+}
+
+/// Whether a frame can hold a UDP packet with a payload of this length.
+fn holds_udp(header: IpRepr, dst_port: u16, len: usize) -> bool {
+    let ports = UdpRepr {
+        src_port: 1,
+        dst_port,
+    };
+    let long = [0; 65_536];
+    match long.get(..len) {
+        Some(payload) => Frame::udp(FRAME_SRC, FRAME_DST, header, ports, payload).is_ok(),
+        None => false,
     }
-    frame.emit(&mut buffer, &caps);
-    assert_eq!(rt; buffer[..46], UDP[..]);
-    assert_eq!(rt; buffer[46..], [0xa5; 2][..]);
-    Ok(())
+}
+
+/// Whether a frame over IPv4 can hold a segment with a header of 24 octets and a payload of this length.
+fn holds_tcp(src_port: u16, dst_port: u16, len: usize) -> bool {
+    let long = [0; 65_536];
+    match long.get(..len) {
+        Some(payload) => {
+            let segment = TcpRepr {
+                src_port,
+                dst_port,
+                payload,
+                ..SEGMENT
+            };
+            Frame::tcp(FRAME_SRC, FRAME_DST, ipv4(IpProtocol::Tcp, 0), segment).is_ok()
+        }
+        None => false,
+    }
 }
 
 #[test]
-fn prints_a_line_for_each_layer(rt: HostRuntime) -> std::result::Result<(), Fail> {
-    let caps = ChecksumCapabilities::default();
-    for (bytes, text) in [
-        (
-            &UDP[..],
-            "EthernetII src=11-12-13-14-15-16 dst=01-02-03-04-05-06 type=IPv4\nIPv4 src=192.168.1.1 dst=192.168.1.2 proto=UDP\nUDP src=48896 dst=53 len=4",
-        ),
-        (
-            &UDP_OVER_IPV6,
-            "EthernetII src=11-12-13-14-15-16 dst=01-02-03-04-05-06 type=IPv6\nIPv6 src=fe80::1 dst=ff02::1 nxt_hdr=UDP hop_limit=64\nUDP src=1 dst=2 len=4",
-        ),
-        (
-            &SYN,
-            "EthernetII src=11-12-13-14-15-16 dst=01-02-03-04-05-06 type=IPv4\nIPv4 src=192.168.1.1 dst=192.168.1.2 proto=TCP\nTCP src=49152 dst=80 syn seq=1 win=1024 len=0 mss=1460",
-        ),
-        (
-            &FRAGMENT,
-            "EthernetII src=11-12-13-14-15-16 dst=01-02-03-04-05-06 type=IPv4\nIPv4 src=192.168.1.1 dst=192.168.1.2 proto=UDP",
-        ),
-        (
-            &ARP,
-            "EthernetII src=11-12-13-14-15-16 dst=01-02-03-04-05-06 type=ARP\nARP type=Ethernet+IPv4 src=11-12-13-14-15-16/33.34.35.36 tgt=31-32-33-34-35-36/65.66.67.68 op=Request",
-        ),
-        (
-            &LLDP,
-            "EthernetII src=11-12-13-14-15-16 dst=01-02-03-04-05-06 type=0x88cc",
-        ),
+fn rejects_what_a_frame_cannot_hold(rt: HostRuntime) {
+    let (v4, v6) = (ipv4(IpProtocol::Udp, 0), ipv6(IpProtocol::Udp, 0));
+    for (header, dst_port, len, holds) in [
+        (v4, 1, 65_507, true),
+        (v4, 1, 65_508, false),
+        (v6, 1, 65_527, true),
+        (v6, 1, 65_528, false),
+        (v4, 0, 0, false),
     ] {
-        let frame = Frame::read(bytes, &caps)?;
-        assert!(rt; prints(&frame, text), "{text}");
+        assert_eq!(rt; holds_udp(header, dst_port, len), holds, "{dst_port} {len}");
     }
-    Ok(())
+    for (src_port, dst_port, len, holds) in [
+        (1, 1, 65_491, true),
+        (1, 1, 65_492, false),
+        (0, 1, 0, false),
+        (1, 0, 0, false),
+    ] {
+        assert_eq!(rt;
+            holds_tcp(src_port, dst_port, len),
+            holds,
+            "{src_port} {dst_port} {len}"
+        );
+    }
+    let other = Transport::Other(&UDP[42..]);
+    assert!(rt; Frame::packet(FRAME_SRC, FRAME_DST, v4, other).is_err());
+    let other = Transport::Other(&UDP[42..]);
+    assert!(rt; Frame::packet(FRAME_SRC, FRAME_DST, ipv4(IpProtocol::Icmp, 0), other).is_ok());
+    let unread = Transport::Unread(&UDP[42..]);
+    assert!(rt; Frame::packet(FRAME_SRC, FRAME_DST, v4, unread).is_err());
+}
+
+#[test]
+fn emits_nothing_where_there_is_no_room(rt: HostRuntime) {
+    let caps = ChecksumCapabilities::default();
+    let frame = Frame::arp(FRAME_SRC, FRAME_DST, request());
+    assert_eq!(rt; frame.buffer_len(), 42);
+    let mut buffer = [0xa5; 80];
+    for room in [0, 13, 14, 41] {
+        assert_eq!(rt; frame.try_emit(&mut buffer[..room], &caps), None, "{room}");
+    }
+    assert!(rt; is_written(&buffer, &[]));
+    frame.emit(&mut buffer, &caps);
+    assert!(rt; is_written(&buffer, &ARP));
 }

@@ -2,9 +2,14 @@
 
 ghost use Rattle.std.specs.Prelude.{◌≡◌, ◌↔◌, ◌≤◌, IfOk, IsOk, length};
 ghost use Rattle.wire_field.specs.Field.{field};
-ghost use Rattle.wire_ip.specs.Ip.{packet_bytes};
+ghost use Rattle.wire_ends.specs.IpVersion.{IsOfVersion};
+ghost use Rattle.wire_ends.specs.declared.IpVersion.{IpVersion};
+ghost use Rattle.wire_ip.specs.Ip.{HasLengths, packet_bytes, payload_of};
 
 use net_base::{Error, Result};
+use wire_ends::IpVersion;
+use wire_ipv4::Ipv4Packet;
+use wire_ipv6::Ipv6Packet;
 
 /// A view of the bytes of a packet of either version.
 #[derive(Debug, Clone, Copy, PartialEq, Eq)]
@@ -54,5 +59,27 @@ impl<'a> IpPacket<'a> {
         ensures { result ≡ field (packet_bytes self.now) 0 4 }
     {
         self.buffer[0] >> 4
+    }
+
+    /// What follows the header, up to the packet's length: for IPv6 extension headers too. An error for a
+    /// version other than 4 and 6, and where the bytes do not hold the whole packet.
+    pub fn payload(&self) -> Result<&'a [u8]>
+        ensures version { IsOk result → (v : IpVersion) × IsOfVersion (packet_bytes self.now) v }
+        ensures ok { (v : IpVersion) → IsOfVersion (packet_bytes self.now) v → IsOk result ↔ HasLengths (packet_bytes self.now) v }
+        ensures payload { (v : IpVersion) → IsOfVersion (packet_bytes self.now) v
+            → IfOk result (λ payload. payload.now ≡ payload_of (packet_bytes self.now) v) }
+    {
+        match IpVersion::of_packet(self.buffer)? {
+            IpVersion::Ipv4 => {
+                let packet = Ipv4Packet::new_unchecked(self.buffer);
+                packet.check_len()?;
+                Ok(packet.payload())
+            }
+            IpVersion::Ipv6 => {
+                let packet = Ipv6Packet::new_unchecked(self.buffer);
+                packet.check_len()?;
+                Ok(packet.payload())
+            }
+        }
     }
 }
