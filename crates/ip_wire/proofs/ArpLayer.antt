@@ -1,6 +1,6 @@
 -- ARP is a layer.
-use Rattle.std.proofs.Common.{ℕ, ◌≡◌, ◌≤◌, ◌^◌, ◌<◌, List, [], ◌∷◌, ◌++◌, Some, length, slice_range, refl, sym, ap, subst, ◌∙◌, append-nil, arith}
-use Rattle.ip_wire.proofs.Layers.{HasForms-normal, IsLayer, ReadsNormal, length-part, option_map-Some}
+use Rattle.std.proofs.Common.{ℕ, ◌≡◌, ◌≤◌, ◌^◌, ◌<◌, List, [], ◌∷◌, ◌++◌, Some, length, slice_range, refl, sym, ap, subst, append-nil, arith}
+use Rattle.ip_wire.proofs.Layers.{HasForms-normal, IsLayer, ReadsNormal, length-part, read-parts}
 use Rattle.ip_wire.specs.Frame.{arp}
 use Rattle.wire_field.proofs.ByteLists.{AreBytes-append, AreBytes-bytes_high_first, AreBytes-slice_range, AreBytes-tested}
 use Rattle.wire_field.proofs.Cells.{cells-all}
@@ -17,9 +17,7 @@ use Rattle.wire_arp.specs.declared.ArpRepr.TheVariants.{EthernetIpv4}
 -- what reading says
 pub read-Reads : (bytes : List ℕ) (v : ArpRepr) (p : List ℕ) → arp.read bytes ≡ Some (v, p) → Reads bytes v × (p ≡ [])
 read-Reads bytes v p e =
-    let (u, is, named) = option_map-Some (λ (w : ArpRepr). (w, [])) (arp_of bytes) (v, p) e in
-    let same : u ≡ v = ap (λ (d : ArpRepr × List ℕ). d.0) named in
-    ((arp_of-Reads bytes v).0 (is ∙ ap Some same), sym (ap (λ (d : ArpRepr × List ℕ). d.1) named))
+    let (read, rest) = read-parts (arp_of bytes) [] v p e in ((arp_of-Reads bytes v).0 read, sym rest)
 
 -- what was read has a packet
 in_range : (bytes : List ℕ) (v : ArpRepr) → Reads bytes v → IsInRange v

@@ -1,9 +1,8 @@
 -- Frames that are put together of layers that agree.
-use Rattle.std.proofs.Common.{ℕ, ◌≡◌, ◌≤◌, ◌<◌, ◌%◌, ◌^◌, Bool, IsTrue, List, [], ◌++◌, length, refl, sym, ap, subst, ◌∙◌, append-nil, append_assoc, length-append, arith}
+use Rattle.std.proofs.Common.{ℕ, ◌≡◌, ◌<◌, ◌%◌, ◌^◌, Bool, IsTrue, List, [], ◌++◌, length, refl, sym, ap, subst, ◌∙◌, append-nil, append_assoc, arith}
 use Rattle.ip_wire.proofs.EthernetLayer.{drop-bytes_of}
-use Rattle.ip_wire.proofs.Ipv4Layer as ipv4_layer
-use Rattle.ip_wire.proofs.Ipv6Layer as ipv6_layer
-use Rattle.ip_wire.specs.Frame.{ReadsCarried, ReadsFrame, ReadsPacket, ReadsTransport, Transport, datagram, packet, packet_payload, segment, type_of}
+use Rattle.ip_wire.proofs.IpLayer.{packet_payload-written, reads_packet}
+use Rattle.ip_wire.specs.Frame.{ReadsCarried, ReadsFrame, ReadsTransport, Transport, datagram, packet, segment, type_of}
 use Rattle.net_base.specs.Checksum.{verifies}
 use Rattle.net_base.specs.declared.ChecksumCapabilities.{ChecksumCapabilities}
 use Rattle.wire_ends.specs.IpAddress.{octets_of}
@@ -11,7 +10,6 @@ use Rattle.wire_ip.proofs.IpReadsBack.{IsInRange}
 use Rattle.wire_tcp_repr.proofs.TcpReadsBack as tcp
 use Rattle.wire_tcp_repr.specs.TcpRepr as tcp_header
 use Rattle.wire_tcp_repr.specs.TcpRepr.{TcpHeader}
-use Rattle.wire_ipv6.proofs.Ipv6ReadsBack as ipv6
 use Rattle.wire_udp.proofs.UdpReadsBack as udp
 use Rattle.wire_udp.specs.Udp as udp_header
 use Rattle.wire_udp.specs.declared.UdpRepr.{UdpRepr}
@@ -19,27 +17,10 @@ use Rattle.wire_ends.specs.declared.IpVersion.TheVariants as version
 use Rattle.wire_ip.specs.Ip.{bytes_of, dst_addr_of, next_header_of, normal, payload_len_of, src_addr_of, version_of}
 use Rattle.wire_ip.specs.declared.IpRepr.{IpRepr}
 use Rattle.wire_ip.specs.declared.IpRepr.TheVariants.{Ipv4, Ipv6}
-use Rattle.wire_ipv4.proofs.Ipv4ReadsBack as ipv4
 use Rattle.wire_ends.specs.Protocol.{number_of, protocol_of}
 use Rattle.wire_ethernet.proofs.EthernetEmitted as ethernet_header
 use Rattle.wire_ethernet.specs.Ethernet as ethernet
 use Rattle.wire_ethernet.specs.declared.EthernetRepr.{EthernetRepr}
-
--- a packet that is written is read, whatever stands behind what it carries
-pub reads_packet : (caps : ChecksumCapabilities) (computed : Bool) (w : IpRepr) (q rest : List ℕ) → IsInRange w → payload_len_of w ≡ length q
-    → (version_of w ≡ version.Ipv4 → IsTrue (verifies caps.ipv4) → IsTrue computed) → ReadsPacket caps (bytes_of w computed ++ (q ++ rest)) (normal w)
-reads_packet caps computed (Ipv4 w) q rest h is sound =
-    let fits : w.payload_len ≤ length (q ++ rest) = simp length-append (omega (arith, is)) in
-    (ipv4.reads-bytes_of w (q ++ rest) computed (verifies caps.ipv4) h fits (sound refl), refl)
-reads_packet caps computed (Ipv6 w) q rest h is sound =
-    let fits : w.payload_len ≤ length (q ++ rest) = simp length-append (omega (arith, is)) in
-    ipv6.reads-bytes_of w (q ++ rest) h fits
-
--- and what it carries is found behind its header
-pub packet_payload-written : (w : IpRepr) (q rest : List ℕ) (computed : Bool) → IsInRange w → payload_len_of w ≡ length q
-    → packet_payload (normal w) (bytes_of w computed ++ (q ++ rest)) ≡ q
-packet_payload-written (Ipv4 w) q rest computed h is = ipv4_layer.written-payload w q rest computed h is
-packet_payload-written (Ipv6 w) q rest computed h is = ipv6_layer.written-payload w q rest h is
 
 -- the protocol of a packet that is read
 normal-next_header : (w : IpRepr) → next_header_of (normal w) ≡ protocol_of (number_of (next_header_of w))

@@ -3,11 +3,12 @@ use Rattle.std.proofs.Common.{ℕ, ◌≡◌, ◌<◌, ◌/◌, ◌%◌, ◌⊎�
 use Rattle.std.specs.Prelude.{⊤}
 use Rattle.std.specs.Int.{bytes_high_first}
 use Rattle.std.specs.Option.{option_map}
-use Rattle.ip_wire.proofs.Frames.{ipv4_packet_of-fragment, ipv4_packet_of-unread, rebuilt-ipv4, rebuilt-ipv4-copied, rebuilt-ipv6, rebuilt-ipv6-copied, rebuilt-read}
-use Rattle.ip_wire.proofs.Layers.{length-part, rebuilt_by-None}
+use Rattle.ip_wire.proofs.Frames.{rebuilt-ip, rebuilt-ipv4-copied, rebuilt-ipv6-copied, rebuilt-read}
+use Rattle.ip_wire.proofs.IpLayer.{ReadsPacket-IsHeader, with-own}
+use Rattle.ip_wire.proofs.Layers.{rebuilt_by-None}
 use Rattle.ip_wire.proofs.TcpLayer.{rebuilt-tcp-copied}
 use Rattle.ip_wire.proofs.UdpLayer.{rebuilt-udp-copied}
-use Rattle.ip_wire.specs.Frame.{CarriesMessage, CarriesPacket, CarriesTransport, ReadsBetween, ReadsPacket, all_checked, arp, datagram, ethernet, segment, ipv4_payload, packet_payload, rebuilt, rebuilt_between, rebuilt_packet, rebuilt_payload, type_of}
+use Rattle.ip_wire.specs.Frame.{CarriesMessage, CarriesPacket, CarriesTransport, ReadsTransportBy, ReadsPacket, all_checked, arp, datagram, ethernet, segment, packet_payload, rebuilt, rebuilt_transport_by, rebuilt_packet, rebuilt_payload, type_of}
 use Rattle.wire_field.proofs.Cells.{cells-drop}
 use Rattle.wire_field.proofs.Spelled.{AreBytes}
 use Rattle.wire_field.specs.Field.{field}
@@ -24,7 +25,7 @@ use Rattle.wire_ipv6.specs.Ipv6.{ipv6_of}
 use Rattle.wire_ipv6.specs.declared.Ipv6Repr.{Ipv6Repr}
 use Rattle.wire_ipv4.proofs.Ipv4Computed.{ipv4_of-Reads}
 use Rattle.wire_ipv4.specs.Ipv4 as ipv4
-use Rattle.wire_ipv4.specs.Ipv4.{header_len, ipv4_of, total_len}
+use Rattle.wire_ipv4.specs.Ipv4.{ipv4_of}
 use Rattle.wire_ipv4.specs.declared.Ipv4Repr.{Ipv4Repr}
 use Rattle.wire_arp.proofs.ArpComputed.{arp_of-Reads}
 use Rattle.wire_arp.specs.Arp as arp_packet
@@ -55,9 +56,8 @@ none_of None h = refl
 none_of (Some a) h = absurd (h a refl)
 
 payload-stays : (t : EthernetProtocol) (bytes : List ℕ) → IsUnread t bytes → rebuilt_payload t bytes ≡ bytes
-payload-stays ethertype.Ipv4 bytes (inl h) =
-    rebuilt-ipv4-copied bytes (ipv4_packet_of-unread bytes (none_of (ipv4_of true bytes) (λ w e. h w ((ipv4_of-Reads true bytes w).0 e))))
-payload-stays ethertype.Ipv4 bytes (inr part) = rebuilt-ipv4-copied bytes (ipv4_packet_of-fragment bytes part)
+payload-stays ethertype.Ipv4 bytes (inl h) = rebuilt-ipv4-copied bytes (inl (none_of (ipv4_of true bytes) (λ w e. h w ((ipv4_of-Reads true bytes w).0 e))))
+payload-stays ethertype.Ipv4 bytes (inr part) = rebuilt-ipv4-copied bytes (inr part)
 payload-stays ethertype.Ipv6 bytes h = rebuilt-ipv6-copied bytes (none_of (ipv6_of bytes) (λ w e. h w ((ipv6_of-Reads bytes w).0 e)))
 payload-stays ethertype.Arp bytes h =
     let unread = none_of (arp_of bytes) (λ w e. h w ((arp_of-Reads bytes w).0 e)) in
@@ -110,36 +110,29 @@ carried-stays frame v are r h =
 
 -- ---- what a packet carries
 
-between-stays : (t : IpProtocol) (src dst : IpAddress) (bytes : List ℕ)
-    → ((v : UdpRepr) (payload : List ℕ) → ¬ ReadsBetween all_checked t src dst bytes (datagram v payload))
-    → ((v : TcpHeader) (payload : List ℕ) → ¬ ReadsBetween all_checked t src dst bytes (segment v payload))
-    → rebuilt_between t src dst bytes ≡ bytes
-between-stays protocol.Udp src dst bytes h k =
+transport_by-stays : (t : IpProtocol) (src dst : IpAddress) (bytes : List ℕ)
+    → ((v : UdpRepr) (payload : List ℕ) → ¬ ReadsTransportBy all_checked t src dst bytes (datagram v payload))
+    → ((v : TcpHeader) (payload : List ℕ) → ¬ ReadsTransportBy all_checked t src dst bytes (segment v payload))
+    → rebuilt_transport_by t src dst bytes ≡ bytes
+transport_by-stays protocol.Udp src dst bytes h k =
     rebuilt-udp-copied src dst bytes (none_of (udp_of src dst true bytes) (λ v e. h v _ (refl, (udp_of-Reads src dst true bytes v).0 e)))
-between-stays protocol.Tcp src dst bytes h k =
+transport_by-stays protocol.Tcp src dst bytes h k =
     rebuilt-tcp-copied src dst bytes (none_of (tcp_of src dst true bytes) (λ v e. k v _ (refl, (tcp_of-Reads src dst true bytes v).0 e)))
-between-stays _ src dst bytes h k = refl
+transport_by-stays _ src dst bytes h k = refl
 
 -- a packet with the length that it has
 packet-stays : (w : IpRepr) (payload : List ℕ) → payload_len_of w ≡ length payload → ¬ CarriesTransport w payload
     → rebuilt_packet w payload ≡ ip.bytes_of w true ++ payload
-packet-stays (Ipv4 w) payload is h =
-    let stays = between-stays _ _ _ payload (λ v p r. h (inl (v, p, r))) (λ v p r. h (inr (v, p, r))) in
-    ap (λ inner. ip.bytes_of (with_payload_len (Ipv4 w) (length inner)) true ++ inner) stays
-    ∙ ap (λ n. ip.bytes_of (with_payload_len (Ipv4 w) n) true ++ payload) (sym is)
-packet-stays (Ipv6 w) payload is h =
-    let stays = between-stays _ _ _ payload (λ v p r. h (inl (v, p, r))) (λ v p r. h (inr (v, p, r))) in
-    ap (λ inner. ip.bytes_of (with_payload_len (Ipv6 w) (length inner)) true ++ inner) stays
-    ∙ ap (λ n. ip.bytes_of (with_payload_len (Ipv6 w) n) true ++ payload) (sym is)
+packet-stays w payload is h =
+    let stays = transport_by-stays (ip.next_header_of w) (ip.src_addr_of w) (ip.dst_addr_of w) payload (λ v p r. h (inl (v, p, r))) (λ v p r. h (inr (v, p, r))) in
+    ap (λ inner. ip.bytes_of (with_payload_len w (length inner)) true ++ inner) stays
+    ∙ ap (λ n. ip.bytes_of (with_payload_len w n) true ++ payload) (sym is)
+    ∙ ap (λ v. ip.bytes_of v true ++ payload) (with-own w)
 
 transport-stays : (w : IpRepr) (bytes : List ℕ) → ReadsPacket all_checked bytes w → ¬ CarriesTransport w (packet_payload w bytes)
     → rebuilt_payload (type_of w) bytes ≡ ip.bytes_of w true ++ packet_payload w bytes
-transport-stays (Ipv4 w) bytes (r, whole) h =
-    let len : w.payload_len ≡ length (ipv4_payload bytes) = r.payload_len ∙ sym (length-part bytes (header_len bytes) (total_len bytes) r.lengths.whole) in
-    rebuilt-ipv4 bytes w ((ipv4_of-Reads true bytes w).1 r) whole ∙ packet-stays (Ipv4 w) (ipv4_payload bytes) len h
-transport-stays (Ipv6 w) bytes r h =
-    let len : w.payload_len ≡ length (ipv6.payload_of bytes) = r.payload_len ∙ sym (length-part bytes 40 (ipv6.total_len bytes) r.lengths ∙ omega arith) in
-    rebuilt-ipv6 bytes w ((ipv6_of-Reads bytes w).1 r) ∙ packet-stays (Ipv6 w) (ipv6.payload_of bytes) len h
+transport-stays w bytes r h =
+    rebuilt-ip bytes w r ∙ packet-stays w (packet_payload w bytes) (ReadsPacket-IsHeader all_checked bytes w r).payload_len h
 
 pub payload-unread-stays : (frame : List ℕ) (v : EthernetRepr) (w : IpRepr) → Reads frame v → v.ethertype ≡ type_of w
     → ReadsPacket all_checked (drop 14 frame) w → ¬ CarriesTransport w (packet_payload w (drop 14 frame))
@@ -160,7 +153,7 @@ header-or-stays frame None e are message packet =
 header-or-stays frame (Some v) e are message packet =
     let r = (ethernet_of-Reads frame v).0 e in
     carried-stays frame v are r
-    (carried-unread v.ethertype (drop 14 frame) (λ w type read. message (v, w, r, type, read)) (λ w type read. packet (v, w, r, type, read)))
+    (carried-unread v.ethertype (drop 14 frame) (λ w type read. message (v, w, record { reads_header = r; reads_carried = (type, read) })) (λ w type read. packet (v, w, r, type, read)))
 
 pub frame-stays : (frame : List ℕ) → AreBytes frame → ¬ CarriesMessage frame → ¬ CarriesPacket frame → rebuilt frame ≡ frame
 frame-stays frame = header-or-stays frame (ethernet_of frame) refl

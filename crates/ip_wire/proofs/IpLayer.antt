@@ -1,0 +1,281 @@
+-- IP is a layer.
+use Rattle.std.proofs.Common.{ℕ, ◌≡◌, ◌≤◌, ◌<◌, ◌%◌, ◌+◌, ◌^◌, if◌then◌else◌, Bool, true, false, IsTrue, List, [], ◌++◌, Option, Some, None, drop, length, refl, sym, ap, subst, ◌∙◌, append-nil, length-append, arith}
+use Rattle.ip_wire.proofs.Layers.{HasForms-normal, IsLayer, ReadsNormal, length-part, option_and_then-Some, part-behind}
+use Rattle.ip_wire.proofs.UdpLayer.{AreWords}
+use Rattle.ip_wire.specs.Frame.{ReadsPacket, all_checked, ip, ip_packet_of, is_ipv4_fragment, packet_payload, whole_packet}
+use Rattle.net_base.specs.Checksum.{verifies}
+use Rattle.net_base.specs.declared.ChecksumCapabilities.{ChecksumCapabilities}
+use Rattle.wire_ends.proofs.Protocols.{number_of-protocol_of}
+use Rattle.wire_ends.specs.Protocol.{number_of}
+use Rattle.wire_ends.specs.declared.IpVersion.{IpVersion}
+use Rattle.wire_ends.specs.declared.IpVersion.TheVariants as version
+use Rattle.wire_field.proofs.ByteLists.{AreBytes-append, AreBytes-cons, AreBytes-part, AreBytes-slice_range}
+use Rattle.wire_field.proofs.Cells.{cells-all}
+use Rattle.wire_field.proofs.Spelled.{AreBytes}
+use Rattle.wire_field.specs.Field.{field}
+use Rattle.wire_ip.proofs.IpComputed.{header_of_version-Some}
+use Rattle.wire_ip.proofs.IpReadsBack.{IsInRange}
+use Rattle.wire_ip.specs.Ip.{ReadsHeader, bytes_of, dst_addr_of, header_len_of, header_of_version, normal, payload_len_of, src_addr_of, version_of, with_payload_len}
+use Rattle.wire_ip.specs.declared.IpRepr.{IpRepr}
+use Rattle.wire_ip.specs.declared.IpRepr.TheVariants.{Ipv4, Ipv6}
+use Rattle.wire_ipv4.proofs.Ipv4Computed.{ipv4_of-Reads}
+use Rattle.wire_ipv4.proofs.Ipv4Normal as ipv4_normal
+use Rattle.wire_ipv4.proofs.Ipv4ReadsBack as ipv4_back
+use Rattle.wire_ipv4.specs.Ipv4 as ipv4
+use Rattle.wire_ipv4.specs.Ipv4.{ipv4_of}
+use Rattle.wire_ipv4.specs.declared.Ipv4Repr.{Ipv4Repr}
+use Rattle.wire_ipv6.proofs.Ipv6Computed.{ipv6_of-Reads}
+use Rattle.wire_ipv6.proofs.Ipv6Normal as ipv6_normal
+use Rattle.wire_ipv6.proofs.Ipv6ReadsBack as ipv6_back
+use Rattle.wire_ipv6.specs.Ipv6 as ipv6
+use Rattle.wire_ipv6.specs.Ipv6.{ipv6_of}
+use Rattle.wire_ipv6.specs.declared.Ipv6Repr.{Ipv6Repr}
+
+-- ---- packets that are read
+
+-- the header of a packet that is read can be written for any payload that is no longer, and says how long the payload is,
+-- which fits behind it
+pub record IsHeader (u : IpRepr) (bytes : List ℕ) : Type 0 where
+  pub in_range : (n : ℕ) → n ≤ length (packet_payload u bytes) → IsInRange (with_payload_len u n)
+  pub payload_len : payload_len_of u ≡ length (packet_payload u bytes)
+  pub whole : header_len_of u + length (packet_payload u bytes) ≤ length bytes
+
+pub ReadsPacket-IsHeader : (caps : ChecksumCapabilities) (bytes : List ℕ) (u : IpRepr) → ReadsPacket caps bytes u → IsHeader u bytes
+ReadsPacket-IsHeader caps bytes (Ipv4 u) (r, _) =
+    let least = r.lengths.least in
+    let header = r.lengths.header in
+    let within = r.lengths.within in
+    let whole = r.lengths.whole in
+    let len = length-part bytes (ipv4.header_len bytes) (ipv4.total_len bytes) whole in
+    let bound : ipv4.total_len bytes < 2 ^ 16 = omega arith in
+    record {
+      in_range = λ n fits. record {
+        src_addr = ap length r.src_addr ∙ length-part bytes 12 16 (omega (arith, least));
+        dst_addr = ap length r.dst_addr ∙ length-part bytes 16 20 (omega (arith, least));
+        next_header = rw (r.next_header, number_of-protocol_of (field bytes 72 8)) (omega arith);
+        payload_len = omega (arith, len, header, bound, fits);
+        hop_limit = rw r.hop_limit (omega arith);
+      };
+      payload_len = r.payload_len ∙ sym len;
+      whole = omega (arith, len, header, within, whole);
+    }
+ReadsPacket-IsHeader caps bytes (Ipv6 u) r =
+    let whole = r.lengths in
+    let len = length-part bytes 40 (ipv6.total_len bytes) whole in
+    record {
+      in_range = λ n fits. record {
+        src_addr = ap length r.src_addr ∙ length-part bytes 8 24 (omega (arith, whole));
+        dst_addr = ap length r.dst_addr ∙ length-part bytes 24 40 (omega (arith, whole));
+        next_header = rw (r.next_header, number_of-protocol_of (field bytes 48 8)) (omega arith);
+        payload_len = omega (arith, len, fits);
+        hop_limit = rw r.hop_limit (omega arith);
+      };
+      payload_len = r.payload_len ∙ sym (len ∙ omega arith);
+      whole = omega (arith, len, whole);
+    }
+
+-- values that were read are their normal form
+normal-read : (bytes : List ℕ) (u : IpRepr) → ReadsPacket all_checked bytes u → normal u ≡ u
+normal-read bytes (Ipv4 u) (r, _) = ap Ipv4 (ipv4_normal.normal-read bytes true u r)
+normal-read bytes (Ipv6 u) r = ap Ipv6 (ipv6_normal.normal-read bytes u r)
+
+AreBytes-payload : (bytes : List ℕ) (u : IpRepr) → AreBytes bytes → AreBytes (packet_payload u bytes)
+AreBytes-payload bytes (Ipv4 u) h = AreBytes-slice_range bytes (ipv4.header_len bytes) (ipv4.total_len bytes) h
+AreBytes-payload bytes (Ipv6 u) h = AreBytes-slice_range bytes 40 (ipv6.total_len bytes) h
+
+-- ---- what is computed of them
+
+-- what is read of a version, unless it is a fragment, is a packet
+ReadsPacket-whole : (bytes : List ℕ) (u : IpRepr) → ReadsHeader bytes true u → is_ipv4_fragment u bytes ≡ false → ReadsPacket all_checked bytes u
+ReadsPacket-whole bytes (Ipv4 u) r whole = (r, whole)
+ReadsPacket-whole bytes (Ipv6 u) r whole = r
+
+pub ip_packet_of-Reads : (bytes : List ℕ) (u : IpRepr) → ReadsPacket all_checked bytes u
+    → ip_packet_of (version_of u) bytes ≡ Some (with_payload_len u 0, packet_payload u bytes)
+unfolding ip_packet_of
+ip_packet_of-Reads bytes (Ipv4 u) (r, whole) = rw ((ipv4_of-Reads true bytes u).1 r, whole) refl
+ip_packet_of-Reads bytes (Ipv6 u) r = rw ((ipv6_of-Reads bytes u).1 r) refl
+
+-- the header that values of a layer were read from, which has the payload's length, and the payload
+pub record IsPacket (n : IpVersion) (bytes : List ℕ) (v : IpRepr) (p : List ℕ) (u : IpRepr) : Type 0 where
+  pub version : version_of u ≡ n
+  pub reads : ReadsPacket all_checked bytes u
+  pub values : with_payload_len u 0 ≡ v
+  pub payload : packet_payload u bytes ≡ p
+
+-- a choice that gives a value where the test fails
+else-Some : {A : Type 0} (b : Bool) (o : Option A) (d : A) → (if b then None else o) ≡ Some d → (b ≡ false) × (o ≡ Some d)
+else-Some true o d e = absurd (cc)
+else-Some false o d e = (refl, e)
+
+pub ip_packet_of-IsPacket : (n : IpVersion) (bytes : List ℕ) (v : IpRepr) (p : List ℕ) → ip_packet_of n bytes ≡ Some (v, p) → (u : IpRepr) × IsPacket n bytes v p u
+unfolding ip_packet_of
+ip_packet_of-IsPacket n bytes v p e =
+    let (u, found, packet) = option_and_then-Some (whole_packet bytes) (header_of_version true bytes n) (v, p) e in
+    let (version, header) = header_of_version-Some true bytes n u found in
+    let (whole, some) = else-Some (is_ipv4_fragment u bytes) (Some (with_payload_len u 0, packet_payload u bytes)) (v, p) packet in
+    let pair : (with_payload_len u 0, packet_payload u bytes) ≡ (v, p) = cc some in (
+      u,
+      record {
+        version = version;
+        reads = ReadsPacket-whole bytes u header whole;
+        values = ap (λ (d : IpRepr × List ℕ). d.0) pair;
+        payload = ap (λ (d : IpRepr × List ℕ). d.1) pair;
+      },
+    )
+
+-- ---- packets that are written
+
+-- a packet that is written is read, whatever stands behind what it carries
+pub reads_packet : (caps : ChecksumCapabilities) (computed : Bool) (w : IpRepr) (q rest : List ℕ) → IsInRange w → payload_len_of w ≡ length q
+    → (version_of w ≡ version.Ipv4 → IsTrue (verifies caps.ipv4) → IsTrue computed) → ReadsPacket caps (bytes_of w computed ++ (q ++ rest)) (normal w)
+reads_packet caps computed (Ipv4 w) q rest h is sound =
+    let fits : w.payload_len ≤ length (q ++ rest) = simp length-append (omega (arith, is)) in
+    (ipv4_back.reads-bytes_of w (q ++ rest) computed (verifies caps.ipv4) h fits (sound refl), refl)
+reads_packet caps computed (Ipv6 w) q rest h is sound =
+    let fits : w.payload_len ≤ length (q ++ rest) = simp length-append (omega (arith, is)) in
+    ipv6_back.reads-bytes_of w (q ++ rest) h fits
+
+-- and what it carries is found behind its header
+pub packet_payload-written : (w : IpRepr) (q rest : List ℕ) (computed : Bool) → IsInRange w → payload_len_of w ≡ length q
+    → packet_payload (normal w) (bytes_of w computed ++ (q ++ rest)) ≡ q
+packet_payload-written (Ipv4 w) q rest computed h is =
+    let bytes = ipv4.bytes_of w computed ++ (q ++ rest) in
+    let total : ipv4.total_len bytes ≡ 20 + length q = omega (arith, h.payload_len, is) in
+    let behind : drop 20 bytes ≡ q ++ rest = rw (cells-all 4 w.src_addr h.src_addr, cells-all 4 w.dst_addr h.dst_addr) refl in
+    part-behind bytes q rest 20 (ipv4.total_len bytes) total behind
+packet_payload-written (Ipv6 w) q rest computed h is =
+    let bytes = ipv6.bytes_of w ++ (q ++ rest) in
+    let total : ipv6.total_len bytes ≡ 40 + length q = omega (arith, h.payload_len, is) in
+    let behind : drop 40 bytes ≡ q ++ rest = rw (cells-all 16 w.src_addr h.src_addr, cells-all 16 w.dst_addr h.dst_addr) refl in
+    part-behind bytes q rest 40 (ipv6.total_len bytes) total behind
+
+length-header : (w : IpRepr) (computed : Bool) → IsInRange w → length (bytes_of w computed) ≡ header_len_of w
+length-header (Ipv4 w) computed h = rw (cells-all 4 w.src_addr h.src_addr, cells-all 4 w.dst_addr h.dst_addr) (omega arith)
+length-header (Ipv6 w) computed h = rw (cells-all 16 w.src_addr h.src_addr, cells-all 16 w.dst_addr h.dst_addr) (omega arith)
+
+byte-lt : (n : ℕ) → n % 256 < 256
+byte-lt n = omega arith
+
+AreBytes-ipv4 : (w : Ipv4Repr) (sum : ℕ) → w.hop_limit < 256 → number_of w.next_header < 256 → AreBytes w.src_addr → AreBytes w.dst_addr → AreBytes (ipv4.header_with w sum)
+AreBytes-ipv4 w sum hop number src dst =
+    let version : 0x45 < 256 = omega arith in
+    let flags : 0x40 < 256 = omega arith in
+    let none : 0 < 256 = omega arith in
+    search (AreBytes-cons, AreBytes-append, byte-lt, version, flags, none) depth 30 fits 3000
+
+AreBytes-ipv6 : (w : Ipv6Repr) → w.hop_limit < 256 → number_of w.next_header < 256 → AreBytes w.src_addr → AreBytes w.dst_addr → AreBytes (ipv6.bytes_of w)
+AreBytes-ipv6 w hop number src dst =
+    let version : 0x60 < 256 = omega arith in
+    let none : 0 < 256 = omega arith in
+    search (AreBytes-cons, AreBytes-append, byte-lt, version, none) depth 30 fits 3000
+
+AreBytes-header : (bytes : List ℕ) (u : IpRepr) (n : ℕ) → AreBytes bytes → ReadsPacket all_checked bytes u → AreBytes (bytes_of (with_payload_len u n) true)
+AreBytes-header bytes (Ipv4 u) n h (r, whole) =
+    let range = (ReadsPacket-IsHeader all_checked bytes (Ipv4 u) (r, whole)).in_range 0 (omega arith) in
+    AreBytes-ipv4 (record u { payload_len = n }) _ range.hop_limit range.next_header (AreBytes-part bytes u.src_addr 12 16 h r.src_addr) (AreBytes-part bytes u.dst_addr 16 20 h r.dst_addr)
+AreBytes-header bytes (Ipv6 u) n h r =
+    let range = (ReadsPacket-IsHeader all_checked bytes (Ipv6 u) r).in_range 0 (omega arith) in
+    AreBytes-ipv6 (record u { payload_len = n }) range.hop_limit range.next_header (AreBytes-part bytes u.src_addr 8 24 h r.src_addr) (AreBytes-part bytes u.dst_addr 24 40 h r.dst_addr)
+
+-- ---- the length of the payload set aside
+
+payload_len_of-with : (u : IpRepr) (n : ℕ) → payload_len_of (with_payload_len u n) ≡ n
+payload_len_of-with (Ipv4 u) n = refl
+payload_len_of-with (Ipv6 u) n = refl
+
+pub header_len_of-with : (u : IpRepr) (n : ℕ) → header_len_of (with_payload_len u n) ≡ header_len_of u
+header_len_of-with (Ipv4 u) n = refl
+header_len_of-with (Ipv6 u) n = refl
+
+pub with-own : (u : IpRepr) → with_payload_len u (payload_len_of u) ≡ u
+with-own (Ipv4 u) = refl
+with-own (Ipv6 u) = refl
+
+pub with-with : (u : IpRepr) (m n : ℕ) → with_payload_len (with_payload_len u m) n ≡ with_payload_len u n
+with-with (Ipv4 u) m n = refl
+with-with (Ipv6 u) m n = refl
+
+normal-with : (u : IpRepr) (n : ℕ) → normal (with_payload_len u n) ≡ with_payload_len (normal u) n
+normal-with (Ipv4 u) n = refl
+normal-with (Ipv6 u) n = refl
+
+with-normal : (u : IpRepr) (m n : ℕ) → with_payload_len (normal (with_payload_len u m)) n ≡ normal (with_payload_len u n)
+with-normal (Ipv4 u) m n = refl
+with-normal (Ipv6 u) m n = refl
+
+version_of-normal : (u : IpRepr) (n : ℕ) → version_of (normal (with_payload_len u n)) ≡ version_of u
+version_of-normal (Ipv4 u) n = refl
+version_of-normal (Ipv6 u) n = refl
+
+-- the addresses of a header that can be written are whole words
+words : (u : IpRepr) → IsInRange u → AreWords (src_addr_of u) (dst_addr_of u)
+words (Ipv4 u) h = record { src_octets = omega (arith, h.src_addr); dst_octets = omega (arith, h.dst_addr) }
+words (Ipv6 u) h = record { src_octets = omega (arith, h.src_addr); dst_octets = omega (arith, h.dst_addr) }
+
+-- values that were read are normal without it too
+pub normal-aside : (bytes : List ℕ) (u : IpRepr) → ReadsPacket all_checked bytes u → normal (with_payload_len (with_payload_len u 0) 0) ≡ with_payload_len u 0
+normal-aside bytes u r = ap normal (with-with u 0 0) ∙ normal-with u 0 ∙ ap (λ w. with_payload_len w 0) (normal-read bytes u r)
+
+-- ---- the layer
+
+pub AreWords-ip : (n : IpVersion) (bytes : List ℕ) (v : IpRepr) (p : List ℕ) → ip_packet_of n bytes ≡ Some (v, p) → AreWords (src_addr_of v) (dst_addr_of v)
+AreWords-ip n bytes v p e =
+    let (u, d) = ip_packet_of-IsPacket n bytes v p e in
+    subst (λ w. AreWords (src_addr_of w) (dst_addr_of w)) d.values (words (with_payload_len u 0) ((ReadsPacket-IsHeader all_checked bytes u d.reads).in_range 0 (omega arith)))
+
+-- the values do not have the length of the payload
+aside : (n : IpVersion) (bytes : List ℕ) (v u : IpRepr) (p : List ℕ) → IsPacket n bytes v p u → with_payload_len v 0 ≡ with_payload_len u 0
+aside n bytes v u p d = ap (λ w. with_payload_len w 0) (sym d.values) ∙ with-with u 0 0
+
+-- the header that is written before a payload
+written : (n : IpVersion) (bytes : List ℕ) (v u : IpRepr) (p q : List ℕ) → IsPacket n bytes v p u → (ip n).write v q ≡ bytes_of (with_payload_len u (length q)) true ++ q
+written n bytes v u p q d =
+    let header : with_payload_len v (length q) ≡ with_payload_len u (length q) = ap (λ w. with_payload_len w (length q)) (sym d.values) ∙ with-with u 0 (length q) in
+    ap (λ w. bytes_of w true ++ q) header
+
+-- it can be written if the payload is no longer
+in_range : (n : IpVersion) (bytes : List ℕ) (v u : IpRepr) (p q : List ℕ) → IsPacket n bytes v p u → length q ≤ length p → IsInRange (with_payload_len u (length q))
+in_range n bytes v u p q d fits =
+    let len = ap length d.payload in
+    (ReadsPacket-IsHeader all_checked bytes u d.reads).in_range (length q) (omega (arith, len, fits))
+
+written-read : (n : IpVersion) (bytes : List ℕ) (v u : IpRepr) (p q : List ℕ) → IsPacket n bytes v p u → length q ≤ length p → ip_packet_of n ((ip n).write v q) ≡ Some (normal (with_payload_len v 0), q)
+written-read n bytes v u p q d fits =
+    let w = with_payload_len u (length q) in
+    let h = in_range n bytes v u p q d fits in
+    let len = payload_len_of-with u (length q) in
+    let same = λ (rest : List ℕ). bytes_of w true ++ rest in
+    let read = subst (λ b. ReadsPacket all_checked b (normal w)) (ap same (append-nil q)) (reads_packet all_checked true w q [] h len (λ is on. on)) in
+    let payload = ap (λ b. packet_payload (normal w) b) (ap same (sym (append-nil q))) ∙ packet_payload-written w q [] true h len in
+    let values : with_payload_len (normal w) 0 ≡ normal (with_payload_len v 0) = with-normal u (length q) 0 ∙ ap normal (sym (aside n bytes v u p d)) in
+    ap (ip_packet_of n) (written n bytes v u p q d)
+    ∙ ap (λ k. ip_packet_of k (same q)) (sym (version_of-normal u (length q) ∙ d.version))
+    ∙ ip_packet_of-Reads (same q) (normal w) read
+    ∙ ap (λ x. Some (x, packet_payload (normal w) (same q))) values
+    ∙ ap (λ x. Some (normal (with_payload_len v 0), x)) payload
+
+pub ReadsNormal-ip : (n : IpVersion) → ReadsNormal (ip n)
+ReadsNormal-ip n bytes v p e =
+    let (u, d) = ip_packet_of-IsPacket n bytes v p e in
+    ap (λ w. normal (with_payload_len w 0)) (sym d.values) ∙ normal-aside bytes u d.reads ∙ d.values
+
+pub IsLayer-ip : (n : IpVersion) → IsLayer (ip n)
+IsLayer-ip n = record {
+  payload_bytes = λ bytes v p h e.
+      let (u, d) = ip_packet_of-IsPacket n bytes v p e in
+      subst AreBytes d.payload (AreBytes-payload bytes u h);
+  written_bytes = λ bytes v p q h e k.
+      let (u, d) = ip_packet_of-IsPacket n bytes v p e in
+      rw (written n bytes v u p q d) (AreBytes-append (bytes_of (with_payload_len u (length q)) true) q (AreBytes-header bytes u (length q) h d.reads) k);
+  reads_back = λ bytes v p q h e fits.
+      let (u, d) = ip_packet_of-IsPacket n bytes v p e in
+      written-read n bytes v u p q d fits;
+  no_longer = λ bytes v p q e fits.
+      let (u, d) = ip_packet_of-IsPacket n bytes v p e in
+      let whole = (ReadsPacket-IsHeader all_checked bytes u d.reads).whole in
+      let payload = ap length d.payload in
+      let header = length-header (with_payload_len u (length q)) true (in_range n bytes v u p q d fits) ∙ header_len_of-with u (length q) in
+      rw (written n bytes v u p q d, length-append) (omega (arith, header, payload, whole));
+  forms = HasForms-normal (ip n) (ReadsNormal-ip n);
+}
