@@ -2,7 +2,7 @@
 use Rattle.std.proofs.Common.{ℕ, ◌≡◌, ◌≤◌, ◌<◌, ◌%◌, ◌+◌, ◌^◌, if◌then◌else◌, Bool, true, false, IsTrue, List, [], ◌++◌, Option, Some, None, drop, length, refl, sym, ap, subst, ◌∙◌, append-nil, length-append, arith}
 use Rattle.ip_wire.proofs.Layers.{HasForms-normal, IsLayer, ReadsNormal, length-part, option_and_then-Some, part-behind}
 use Rattle.ip_wire.proofs.UdpLayer.{AreWords}
-use Rattle.ip_wire.specs.Frame.{ReadsPacket, all_checked, ip, ip_packet_of, is_ipv4_fragment, packet_payload, whole_packet}
+use Rattle.ip_wire.specs.Frame.{ReadsPacket, all_checked, ip, ip_packet_of, is_ipv4_fragment, packet_payload, transport_behind, whole_packet}
 use Rattle.net_base.specs.Checksum.{verifies}
 use Rattle.net_base.specs.declared.ChecksumCapabilities.{ChecksumCapabilities}
 use Rattle.wire_ends.proofs.Protocols.{number_of-protocol_of}
@@ -178,104 +178,90 @@ AreBytes-header bytes (Ipv6 u) n h r =
     let range = (ReadsPacket-IsHeader all_checked bytes (Ipv6 u) r).in_range 0 (omega arith) in
     AreBytes-ipv6 (record u { payload_len = n }) range.hop_limit range.next_header (AreBytes-part bytes u.src_addr 8 24 h r.src_addr) (AreBytes-part bytes u.dst_addr 24 40 h r.dst_addr)
 
--- ---- the length of the payload set aside
+-- ---- the length of the payload in a header
 
-payload_len_of-with : (u : IpRepr) (n : ℕ) → payload_len_of (with_payload_len u n) ≡ n
-payload_len_of-with (Ipv4 u) n = refl
-payload_len_of-with (Ipv6 u) n = refl
+-- what another length leaves of the header
+pub record SetsLen (u : IpRepr) (m n : ℕ) : Type 0 where
+  pub payload_len : payload_len_of (with_payload_len u n) ≡ n
+  pub header_len : header_len_of (with_payload_len u n) ≡ header_len_of u
+  pub own : with_payload_len u (payload_len_of u) ≡ u
+  pub last : with_payload_len (with_payload_len u m) n ≡ with_payload_len u n
+  pub normal_form : normal (with_payload_len u n) ≡ with_payload_len (normal u) n
+  pub version : version_of (normal (with_payload_len u n)) ≡ version_of u
+  pub transport : transport_behind (with_payload_len u n) ≡ transport_behind u
+
+pub sets_len : (u : IpRepr) (m n : ℕ) → SetsLen u m n
+sets_len (Ipv4 u) m n = record { payload_len = refl; header_len = refl; own = refl; last = refl; normal_form = refl; version = refl; transport = refl }
+sets_len (Ipv6 u) m n = record { payload_len = refl; header_len = refl; own = refl; last = refl; normal_form = refl; version = refl; transport = refl }
 
 pub header_len_of-with : (u : IpRepr) (n : ℕ) → header_len_of (with_payload_len u n) ≡ header_len_of u
-header_len_of-with (Ipv4 u) n = refl
-header_len_of-with (Ipv6 u) n = refl
+header_len_of-with u n = (sets_len u 0 n).header_len
 
-pub with-own : (u : IpRepr) → with_payload_len u (payload_len_of u) ≡ u
-with-own (Ipv4 u) = refl
-with-own (Ipv6 u) = refl
-
-pub with-with : (u : IpRepr) (m n : ℕ) → with_payload_len (with_payload_len u m) n ≡ with_payload_len u n
-with-with (Ipv4 u) m n = refl
-with-with (Ipv6 u) m n = refl
-
-normal-with : (u : IpRepr) (n : ℕ) → normal (with_payload_len u n) ≡ with_payload_len (normal u) n
-normal-with (Ipv4 u) n = refl
-normal-with (Ipv6 u) n = refl
-
-with-normal : (u : IpRepr) (m n : ℕ) → with_payload_len (normal (with_payload_len u m)) n ≡ normal (with_payload_len u n)
-with-normal (Ipv4 u) m n = refl
-with-normal (Ipv6 u) m n = refl
-
-version_of-normal : (u : IpRepr) (n : ℕ) → version_of (normal (with_payload_len u n)) ≡ version_of u
-version_of-normal (Ipv4 u) n = refl
-version_of-normal (Ipv6 u) n = refl
+-- values that were read are normal without it too
+pub normal-aside : (bytes : List ℕ) (u : IpRepr) → ReadsPacket all_checked bytes u → normal (with_payload_len (with_payload_len u 0) 0) ≡ with_payload_len u 0
+normal-aside bytes u r = ap normal (sets_len u 0 0).last ∙ (sets_len u 0 0).normal_form ∙ ap (λ w. with_payload_len w 0) (normal-read bytes u r)
 
 -- the addresses of a header that can be written are whole words
 words : (u : IpRepr) → IsInRange u → AreWords (src_addr_of u) (dst_addr_of u)
 words (Ipv4 u) h = record { src_octets = omega (arith, h.src_addr); dst_octets = omega (arith, h.dst_addr) }
 words (Ipv6 u) h = record { src_octets = omega (arith, h.src_addr); dst_octets = omega (arith, h.dst_addr) }
 
--- values that were read are normal without it too
-pub normal-aside : (bytes : List ℕ) (u : IpRepr) → ReadsPacket all_checked bytes u → normal (with_payload_len (with_payload_len u 0) 0) ≡ with_payload_len u 0
-normal-aside bytes u r = ap normal (with-with u 0 0) ∙ normal-with u 0 ∙ ap (λ w. with_payload_len w 0) (normal-read bytes u r)
-
--- ---- the layer
-
 pub AreWords-ip : (n : IpVersion) (bytes : List ℕ) (v : IpRepr) (p : List ℕ) → ip_packet_of n bytes ≡ Some (v, p) → AreWords (src_addr_of v) (dst_addr_of v)
 AreWords-ip n bytes v p e =
     let (u, d) = ip_packet_of-IsPacket n bytes v p e in
     subst (λ w. AreWords (src_addr_of w) (dst_addr_of w)) d.values (words (with_payload_len u 0) ((ReadsPacket-IsHeader all_checked bytes u d.reads).in_range 0 (omega arith)))
 
--- the values do not have the length of the payload
-aside : (n : IpVersion) (bytes : List ℕ) (v u : IpRepr) (p : List ℕ) → IsPacket n bytes v p u → with_payload_len v 0 ≡ with_payload_len u 0
-aside n bytes v u p d = ap (λ w. with_payload_len w 0) (sym d.values) ∙ with-with u 0 0
-
--- the header that is written before a payload
-written : (n : IpVersion) (bytes : List ℕ) (v u : IpRepr) (p q : List ℕ) → IsPacket n bytes v p u → (ip n).write v q ≡ bytes_of (with_payload_len u (length q)) true ++ q
-written n bytes v u p q d =
-    let header : with_payload_len v (length q) ≡ with_payload_len u (length q) = ap (λ w. with_payload_len w (length q)) (sym d.values) ∙ with-with u 0 (length q) in
-    ap (λ w. bytes_of w true ++ q) header
-
--- it can be written if the payload is no longer
-in_range : (n : IpVersion) (bytes : List ℕ) (v u : IpRepr) (p q : List ℕ) → IsPacket n bytes v p u → length q ≤ length p → IsInRange (with_payload_len u (length q))
-in_range n bytes v u p q d fits =
-    let len = ap length d.payload in
-    (ReadsPacket-IsHeader all_checked bytes u d.reads).in_range (length q) (omega (arith, len, fits))
-
-written-read : (n : IpVersion) (bytes : List ℕ) (v u : IpRepr) (p q : List ℕ) → IsPacket n bytes v p u → length q ≤ length p → ip_packet_of n ((ip n).write v q) ≡ Some (normal (with_payload_len v 0), q)
-written-read n bytes v u p q d fits =
-    let w = with_payload_len u (length q) in
-    let h = in_range n bytes v u p q d fits in
-    let len = payload_len_of-with u (length q) in
-    let same = λ (rest : List ℕ). bytes_of w true ++ rest in
-    let read = subst (λ b. ReadsPacket all_checked b (normal w)) (ap same (append-nil q)) (reads_packet all_checked true w q [] h len (λ is on. on)) in
-    let payload = ap (λ b. packet_payload (normal w) b) (ap same (sym (append-nil q))) ∙ packet_payload-written w q [] true h len in
-    let values : with_payload_len (normal w) 0 ≡ normal (with_payload_len v 0) = with-normal u (length q) 0 ∙ ap normal (sym (aside n bytes v u p d)) in
-    ap (ip_packet_of n) (written n bytes v u p q d)
-    ∙ ap (λ k. ip_packet_of k (same q)) (sym (version_of-normal u (length q) ∙ d.version))
-    ∙ ip_packet_of-Reads (same q) (normal w) read
-    ∙ ap (λ x. Some (x, packet_payload (normal w) (same q))) values
-    ∙ ap (λ x. Some (normal (with_payload_len v 0), x)) payload
+-- ---- the layer
 
 pub ReadsNormal-ip : (n : IpVersion) → ReadsNormal (ip n)
 ReadsNormal-ip n bytes v p e =
     let (u, d) = ip_packet_of-IsPacket n bytes v p e in
     ap (λ w. normal (with_payload_len w 0)) (sym d.values) ∙ normal-aside bytes u d.reads ∙ d.values
 
+module _ (n : IpVersion) (bytes : List ℕ) (v u : IpRepr) (p q : List ℕ) (d : IsPacket n bytes v p u) where
+  -- the header that is written before a payload
+  abbrev header : IpRepr
+  header = with_payload_len u (length q)
+
+  written : (ip n).write v q ≡ bytes_of header true ++ q
+  written = ap (λ w. bytes_of (with_payload_len w (length q)) true ++ q) (sym d.values) ∙ ap (λ w. bytes_of w true ++ q) (sets_len u 0 (length q)).last
+
+  -- it can be written if the payload is no longer
+  in_range : length q ≤ length p → IsInRange header
+  in_range fits = let len = ap length d.payload in (ReadsPacket-IsHeader all_checked bytes u d.reads).in_range (length q) (omega (arith, len, fits))
+
+  written-read : length q ≤ length p → ip_packet_of n (bytes_of header true ++ q) ≡ Some (v, q)
+  written-read fits =
+      let len = (sets_len u 0 (length q)).payload_len in
+      let same = λ (rest : List ℕ). bytes_of header true ++ rest in
+      let read = subst (λ b. ReadsPacket all_checked b (normal header)) (ap same (append-nil q)) (reads_packet all_checked true header q [] (in_range fits) len (λ is on. on)) in
+      let payload = ap (λ b. packet_payload (normal header) b) (ap same (sym (append-nil q))) ∙ packet_payload-written header q [] true (in_range fits) len in
+      let values : with_payload_len (normal header) 0 ≡ v =
+      ap (λ w. with_payload_len w 0) ((sets_len u 0 (length q)).normal_form ∙ ap (λ w. with_payload_len w (length q)) (normal-read bytes u d.reads))
+      ∙ (sets_len u (length q) 0).last
+      ∙ d.values
+      in
+      ap (λ k. ip_packet_of k (same q)) (sym ((sets_len u 0 (length q)).version ∙ d.version))
+      ∙ ip_packet_of-Reads (same q) (normal header) read
+      ∙ ap (λ x. Some (x, packet_payload (normal header) (same q))) values
+      ∙ ap (λ x. Some (v, x)) payload
+
+  written-longer : length q ≤ length p → length (bytes_of header true ++ q) + length p ≤ length bytes + length q
+  written-longer fits =
+      let whole = (ReadsPacket-IsHeader all_checked bytes u d.reads).whole in
+      let payload = ap length d.payload in
+      let len = length-header header true (in_range fits) ∙ header_len_of-with u (length q) in
+      rw length-append (omega (arith, len, payload, whole))
+
 pub IsLayer-ip : (n : IpVersion) → IsLayer (ip n)
 IsLayer-ip n = record {
-  payload_bytes = λ bytes v p h e.
-      let (u, d) = ip_packet_of-IsPacket n bytes v p e in
-      subst AreBytes d.payload (AreBytes-payload bytes u h);
+  payload_bytes = λ bytes v p h e. let (u, d) = ip_packet_of-IsPacket n bytes v p e in subst AreBytes d.payload (AreBytes-payload bytes u h);
   written_bytes = λ bytes v p q h e k.
       let (u, d) = ip_packet_of-IsPacket n bytes v p e in
       rw (written n bytes v u p q d) (AreBytes-append (bytes_of (with_payload_len u (length q)) true) q (AreBytes-header bytes u (length q) h d.reads) k);
   reads_back = λ bytes v p q h e fits.
       let (u, d) = ip_packet_of-IsPacket n bytes v p e in
-      written-read n bytes v u p q d fits;
-  no_longer = λ bytes v p q e fits.
-      let (u, d) = ip_packet_of-IsPacket n bytes v p e in
-      let whole = (ReadsPacket-IsHeader all_checked bytes u d.reads).whole in
-      let payload = ap length d.payload in
-      let header = length-header (with_payload_len u (length q)) true (in_range n bytes v u p q d fits) ∙ header_len_of-with u (length q) in
-      rw (written n bytes v u p q d, length-append) (omega (arith, header, payload, whole));
+      ap (ip_packet_of n) (written n bytes v u p q d) ∙ written-read n bytes v u p q d fits ∙ ap (λ w. Some (w, q)) (sym (ReadsNormal-ip n bytes v p e));
+  no_longer = λ bytes v p q e fits. let (u, d) = ip_packet_of-IsPacket n bytes v p e in rw (written n bytes v u p q d) (written-longer n bytes v u p q d fits);
   forms = HasForms-normal (ip n) (ReadsNormal-ip n);
 }

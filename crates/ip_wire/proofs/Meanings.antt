@@ -3,11 +3,12 @@ use Rattle.std.proofs.Common.{ℕ, ◌≡◌, ◌≢◌, ◌∙◌, List, Some, 
 use Rattle.std.specs.Option.{option_map}
 use Rattle.ip_wire.proofs.ArpLayer as arp_layer
 use Rattle.ip_wire.proofs.EthernetLayer.{read-Reads}
-use Rattle.ip_wire.proofs.IpLayer.{ip_packet_of-IsPacket, ip_packet_of-Reads, with-with}
-use Rattle.ip_wire.proofs.Layers.{option_map-Some, read_by-parts}
+use Rattle.ip_wire.proofs.IpLayer.{ip_packet_of-IsPacket, ip_packet_of-Reads, sets_len}
+use Rattle.ip_wire.proofs.Layers.{named-parts, option_map-Some, read_by-parts}
+use Rattle.ip_wire.proofs.ReadsOnce.{computed-one}
 use Rattle.ip_wire.proofs.TcpLayer.{Reads-tcp_segment_of, tcp_segment_of-Reads}
 use Rattle.ip_wire.proofs.UdpLayer.{Reads-udp_packet_of, udp_packet_of-Reads}
-use Rattle.ip_wire.specs.Frame.{Carried, IsReadWhole, Meaning, ReadsTransportBy, ReadsCarried, Transport, all_checked, arp, datagram, ethernet, frame_format, ip, meaning_as, meaning_of, message, normal_carried, normal_transport, other, packet, packet_format, packet_payload, payload_format, segment, tcp, transport_behind, transport_format, type_of, udp}
+use Rattle.ip_wire.specs.Frame.{Carried, IsReadWhole, Meaning, ReadsTransportBy, ReadsCarried, Transport, all_checked, arp, datagram, ethernet, frame_format, ip, meaning_as, meaning_of, message, normal_carried, normal_transport, other, packet, packet_format, packet_payload, payload_format, segment, tcp, transport_behind, transport_format, type_of_version, udp}
 use Rattle.ip_wire.specs.Layer.{copied, nothing, over}
 use Rattle.wire_ends.specs.declared.IpAddress.{IpAddress}
 use Rattle.wire_ends.specs.declared.IpVersion.{IpVersion}
@@ -36,32 +37,20 @@ transport-other _ src dst bytes n k = refl
 -- what it is read as is computed
 transport-read : (t : IpProtocol) (src dst : IpAddress) (bytes : List ℕ) (m : Transport) → ReadsTransportBy all_checked t src dst bytes m
     → (transport_format t src dst).read bytes ≡ Some m
-transport-read t src dst bytes (datagram u p) r =
-    let read = Reads-udp_packet_of src dst bytes u p r.1 in
-    rw (r.0, read) refl
-transport-read t src dst bytes (segment v p) r =
-    let read = Reads-tcp_segment_of src dst bytes v p r.1 in
-    rw (r.0, read) refl
+transport-read t src dst bytes (datagram u p) r = rw (r.0, Reads-udp_packet_of src dst bytes u p r.1) refl
+transport-read t src dst bytes (segment v p) r = rw (r.0, Reads-tcp_segment_of src dst bytes v p r.1) refl
 transport-read t src dst bytes (other p) r = transport-other t src dst bytes r.0 r.1 ∙ ap (λ q. Some (other q)) (sym r.2)
 
--- and nothing else is
+-- and what is computed is read
 transport-only : (t : IpProtocol) (src dst : IpAddress) (bytes : List ℕ) (m : Transport) → (transport_format t src dst).read bytes ≡ Some m
-    → ReadsTransportBy all_checked t src dst bytes m
+    → (w : Transport) × ReadsTransportBy all_checked t src dst bytes w
 transport-only protocol.Udp src dst bytes m e =
-    let (n, is, named) = option_map-Some (λ (d : UdpRepr × List ℕ). datagram d.0 d.1) ((over (udp src dst) (λ v. copied)).read bytes) m e in
-    let (v, p, q, read, same, pair) = read_by-parts (udp src dst) (λ v payload. Some payload) bytes n is in
-    let is_p : p ≡ q = cc in
-    let value : datagram v p ≡ m = ap (datagram v) is_p ∙ ap (λ (d : UdpRepr × List ℕ). datagram d.0 d.1) pair ∙ named in
-    subst (λ x. ReadsTransportBy all_checked protocol.Udp src dst bytes x) value (refl, udp_packet_of-Reads src dst bytes v p read)
+    let (v, p, _, read, _) = named-parts (λ d. datagram d.0 d.1) (udp src dst) (λ v. copied) bytes m e in
+    (datagram v p, (refl, udp_packet_of-Reads src dst bytes v p read))
 transport-only protocol.Tcp src dst bytes m e =
-    let (n, is, named) = option_map-Some (λ (d : TcpHeader × List ℕ). segment d.0 d.1) ((over (tcp src dst) (λ v. copied)).read bytes) m e in
-    let (v, p, q, read, same, pair) = read_by-parts (tcp src dst) (λ v payload. Some payload) bytes n is in
-    let is_p : p ≡ q = cc in
-    let value : segment v p ≡ m = ap (segment v) is_p ∙ ap (λ (d : TcpHeader × List ℕ). segment d.0 d.1) pair ∙ named in
-    subst (λ x. ReadsTransportBy all_checked protocol.Tcp src dst bytes x) value (refl, tcp_segment_of-Reads src dst bytes v p read)
-transport-only t src dst bytes m e =
-    let is : other bytes ≡ m = cc in
-    subst (λ x. ReadsTransportBy all_checked t src dst bytes x) is ((λ is. absurd (cc)), (λ is. absurd (cc)), refl)
+    let (v, p, _, read, _) = named-parts (λ d. segment d.0 d.1) (tcp src dst) (λ v. copied) bytes m e in
+    (segment v p, (refl, tcp_segment_of-Reads src dst bytes v p read))
+transport-only t src dst bytes m e = (other bytes, ((λ is. absurd (cc)), (λ is. absurd (cc)), refl))
 
 -- ---- what a frame carries
 
@@ -71,52 +60,26 @@ without_len (message v) = message v
 without_len (packet v transport) = packet (with_payload_len v 0) transport
 
 payload-read : (t : EthernetProtocol) (bytes : List ℕ) (m : Carried) → ReadsCarried all_checked t bytes m → (payload_format t).read bytes ≡ Some (without_len m)
-payload-read t bytes (message v) (type, read) =
-    let is = (arp_of-Reads bytes v).1 read in rw (type, is) refl
-payload-read t bytes (packet (Ipv4 w) u) (type, read, inner) =
-    let header = ip_packet_of-Reads bytes (Ipv4 w) read in
-    let carried = transport-read _ _ _ _ u inner in
-    rw (type, header, carried) refl
-payload-read t bytes (packet (Ipv6 w) u) (type, read, inner) =
-    let header = ip_packet_of-Reads bytes (Ipv6 w) read in
-    let carried = transport-read _ _ _ _ u inner in
-    rw (type, header, carried) refl
+payload-read t bytes (message v) (type, read) = rw (type, (arp_of-Reads bytes v).1 read) refl
+payload-read t bytes (packet (Ipv4 w) u) (type, read, inner) = rw (type, ip_packet_of-Reads bytes (Ipv4 w) read, transport-read _ _ _ _ u inner) refl
+payload-read t bytes (packet (Ipv6 w) u) (type, read, inner) = rw (type, ip_packet_of-Reads bytes (Ipv6 w) read, transport-read _ _ _ _ u inner) refl
 
--- the format is the same whatever the length is
-transport_behind-with : (v : IpRepr) (n : ℕ) → transport_behind (with_payload_len v n) ≡ transport_behind v
-transport_behind-with (Ipv4 v) n = refl
-transport_behind-with (Ipv6 v) n = refl
+packet-only : (n : IpVersion) (bytes : List ℕ) (m : Carried) → (packet_format n).read bytes ≡ Some m → (w : Carried) × ReadsCarried all_checked (type_of_version n) bytes w
+packet-only n bytes m e =
+    let (v, p, k, read, carried) = named-parts (λ d. packet d.0 d.1) (ip n) transport_behind bytes m e in
+    let (u, d) = ip_packet_of-IsPacket n bytes v p read in
+    let format : transport_behind v ≡ transport_behind u = ap transport_behind (sym d.values) ∙ (sets_len u 0 0).transport in
+    let inner : (transport_behind u).read (packet_payload u bytes) ≡ Some k =
+    ap (λ f. f.read (packet_payload u bytes)) (sym format) ∙ ap (transport_behind v).read d.payload ∙ carried
+    in
+    let (t, found) = transport-only _ _ _ _ k inner in
+    (packet u t, (ap type_of_version (sym d.version), d.reads, found))
 
-packet-only : (n : IpVersion) (t : EthernetProtocol) (bytes : List ℕ) (m : Carried) → ((v : IpRepr) → version_of v ≡ n → t ≡ type_of v)
-    → (packet_format n).read bytes ≡ Some m → (w : Carried) × ReadsCarried all_checked t bytes w × (without_len w ≡ m)
-packet-only n t bytes m names e =
-    let (d, is, named) = option_map-Some (λ d. packet d.0 d.1) ((over (ip n) transport_behind).read bytes) m e in
-    let (v, p, k, read, carried, pair) = read_by-parts (ip n) (λ v. (transport_behind v).read) bytes d is in
-    let (u, packet_u) = ip_packet_of-IsPacket n bytes v p read in
-    let same = ap transport_behind (sym packet_u.values) ∙ transport_behind-with u 0 in
-    let inner : (transport_behind u).read (packet_payload u bytes) ≡ Some k = ap (λ f. f.read (packet_payload u bytes)) (sym same) ∙ ap (transport_behind v).read packet_u.payload ∙ carried in (
-      packet u k,
-      (names u packet_u.version, packet_u.reads, transport-only _ _ _ _ k inner),
-      ap (λ x. packet x k) packet_u.values ∙ ap (λ d. packet d.0 d.1) pair ∙ named,
-    )
-
-names-ipv4 : (v : IpRepr) → version_of v ≡ version.Ipv4 → ethertype.Ipv4 ≡ type_of v
-names-ipv4 (Ipv4 v) is = refl
-names-ipv4 (Ipv6 v) is = absurd (cc)
-
-names-ipv6 : (v : IpRepr) → version_of v ≡ version.Ipv6 → ethertype.Ipv6 ≡ type_of v
-names-ipv6 (Ipv4 v) is = absurd (cc)
-names-ipv6 (Ipv6 v) is = refl
-
--- a payload is read only so, by its type
-payload-only : (t : EthernetProtocol) (bytes : List ℕ) (m : Carried) → (payload_format t).read bytes ≡ Some m
-    → (w : Carried) × ReadsCarried all_checked t bytes w × (without_len w ≡ m)
-payload-only ethertype.Ipv4 bytes m e = packet-only version.Ipv4 ethertype.Ipv4 bytes m names-ipv4 e
-payload-only ethertype.Ipv6 bytes m e = packet-only version.Ipv6 ethertype.Ipv6 bytes m names-ipv6 e
+payload-only : (t : EthernetProtocol) (bytes : List ℕ) (m : Carried) → (payload_format t).read bytes ≡ Some m → (w : Carried) × ReadsCarried all_checked t bytes w
+payload-only ethertype.Ipv4 bytes m e = packet-only version.Ipv4 bytes m e
+payload-only ethertype.Ipv6 bytes m e = packet-only version.Ipv6 bytes m e
 payload-only ethertype.Arp bytes m e =
-    let (d, is, named) = option_map-Some (λ d. message d.0) ((over arp (λ v. nothing)).read bytes) m e in
-    let (v, p, k, read, _, pair) = read_by-parts arp (λ v rest. Some (record {})) bytes d is in
-    (message v, (refl, (arp_layer.read-Reads bytes v p read).0), ap (λ d. message d.0) pair ∙ named)
+    let (v, p, _, read, _) = named-parts (λ d. message d.0) arp (λ v. nothing) bytes m e in (message v, (refl, (arp_layer.read-Reads bytes v p read).0))
 payload-only (ethertype.Unknown n) bytes m e = absurd (cc)
 
 -- ---- whole frames
@@ -127,19 +90,19 @@ frame-read frame v m r =
     let header = (ethernet_of-Reads frame v).1 r.reads_header in
     rw (header, payload-read v.ethertype (drop 14 frame) m r.reads_carried) refl
 
-pub frame-only : (frame : List ℕ) (v : EthernetRepr) (m : Carried) → frame_format.read frame ≡ Some (v, m) → (w : Carried) × IsReadWhole frame v w × (without_len w ≡ m)
-frame-only frame v m e =
-    let (u, p, c, read, carried, pair) = read_by-parts ethernet (λ v. (payload_format v.ethertype).read) frame (v, m) e in
-    let (header, rest) = read-Reads frame u p read in
-    let (w, inner, same) = payload-only u.ethertype p c carried in
-    let is : u ≡ v = ap (λ (d : EthernetRepr × Carried). d.0) pair in
-    let whole : IsReadWhole frame u w = record { reads_header = header; reads_carried = subst (λ bytes. ReadsCarried all_checked u.ethertype bytes w) (sym rest) inner } in
-    (w, subst (λ x. IsReadWhole frame x w) is whole, same ∙ ap (λ (d : EthernetRepr × Carried). d.1) pair)
+pub frame-only : (frame : List ℕ) (n : EthernetRepr × Carried) → frame_format.read frame ≡ Some n
+    → (v : EthernetRepr) × (w : Carried) × IsReadWhole frame v w × (n ≡ (v, without_len w))
+frame-only frame n e =
+    let (v, p, c, read, carried, _) = read_by-parts ethernet (λ v. (payload_format v.ethertype).read) frame n e in
+    let (header, rest) = read-Reads frame v p read in
+    let (w, inner) = payload-only v.ethertype p c carried in
+    let whole : IsReadWhole frame v w = record { reads_header = header; reads_carried = subst (λ bytes. ReadsCarried all_checked v.ethertype bytes w) (sym rest) inner } in
+    (v, w, whole, computed-one (frame_format.read frame) n (v, without_len w) e (frame-read frame v w whole))
 
 -- the length of an IP payload is not in the normal form
 normal-without_len : (m : Carried) → normal_carried (without_len m) ≡ normal_carried m
 normal-without_len (message v) = refl
-normal-without_len (packet v transport) = ap (λ w. packet (normal w) (normal_transport transport)) (with-with v 0 0)
+normal-without_len (packet v transport) = ap (λ w. packet (normal w) (normal_transport transport)) (sets_len v 0 0).last
 
 pub meaning_of-read : (frame : List ℕ) (v : EthernetRepr) (m : Carried) → IsReadWhole frame v m → meaning_of frame ≡ Some (meaning_as v m)
 unfolding meaning_of
@@ -149,5 +112,5 @@ meaning_of-read frame v m r =
 pub meaning_of-only : (frame : List ℕ) (m : Meaning) → meaning_of frame ≡ Some m → (v : EthernetRepr) × (w : Carried) × IsReadWhole frame v w
 unfolding meaning_of
 meaning_of-only frame m e =
-    let (d, is, _) = option_map-Some (λ d. meaning_as d.0 d.1) (frame_format.read frame) m e in
-    let (w, whole, _) = frame-only frame d.0 d.1 is in (d.0, w, whole)
+    let (n, is, _) = option_map-Some (λ d. meaning_as d.0 d.1) (frame_format.read frame) m e in
+    let (v, w, whole, _) = frame-only frame n is in (v, w, whole)

@@ -20,7 +20,7 @@ use Rattle.wire_udp.specs.Udp.{Reads, udp_of}
 use Rattle.wire_udp.specs.declared.UdpRepr.{UdpRepr}
 
 -- what is computed is one value
-computed-one : {A : Type 0} (o : Option A) (a b : A) → o ≡ Some a → o ≡ Some b → a ≡ b
+pub computed-one : {A : Type 0} (o : Option A) (a b : A) → o ≡ Some a → o ≡ Some b → a ≡ b
 computed-one o a b e f = let same : Some a ≡ Some b = sym e ∙ f in cc
 
 udp-computed : (src dst : IpAddress) (verified : Bool) (bytes : List ℕ) (v : UdpRepr) (p : List ℕ) → Reads bytes src dst verified v p
