@@ -1,5 +1,5 @@
 -- ARP is a layer.
-use Rattle.std.proofs.Common.{ℕ, ◌≡◌, ◌≤◌, ◌^◌, ◌<◌, List, [], ◌∷◌, ◌++◌, Some, length, slice_range, refl, sym, ap, subst, append-nil, arith}
+use Rattle.std.proofs.Common.{ℕ, ◌≡◌, ◌≤◌, ◌^◌, ◌<◌, List, [], ◌∷◌, Some, length, refl, sym, ap, subst, append-nil, arith}
 use Rattle.ip_wire.proofs.Layers.{HasForms-normal, IsLayer, ReadsNormal, length-part, read-parts}
 use Rattle.ip_wire.specs.Frame.{arp}
 use Rattle.wire_field.proofs.ByteLists.{AreBytes-append, AreBytes-bytes_high_first, AreBytes-slice_range, AreBytes-tested}
@@ -55,15 +55,11 @@ ReadsNormal-arp bytes v p e = normal-read bytes v (read-Reads bytes v p e).0
 
 AreBytes-written : (bytes : List ℕ) (v : ArpRepr) → AreBytes bytes → Reads bytes v → AreBytes (bytes_of v)
 AreBytes-written bytes v h r =
-    let with_part = λ (front : List ℕ) (from to : ℕ) (is : AreBytes front). AreBytes-append front (slice_range bytes from to) is (AreBytes-slice_range bytes from to h) in
-    let number = operation_number (operation_of (field bytes 48 16)) in
-    let fixed = ethernet_ipv4 ++ bytes_high_first 2 number in
-    let source = fixed ++ slice_range bytes 8 14 ++ slice_range bytes 14 18 in
-    let operation = AreBytes-append ethernet_ipv4 (bytes_high_first 2 number) (AreBytes-tested ethernet_ipv4 refl) (AreBytes-bytes_high_first 2 number) in
-    let written = with_part (source ++ slice_range bytes 18 24) 24 28 (with_part source 18 24
-    (with_part (fixed ++ slice_range bytes 8 14) 14 18 (with_part fixed 8 14 operation)))
-    in
-    subst (λ w. AreBytes (bytes_of w)) (sym r.fields) written
+    let part = λ (from to : ℕ). AreBytes-slice_range bytes from to h in
+    let front = AreBytes-tested ethernet_ipv4 refl in
+    let number = AreBytes-bytes_high_first 2 (operation_number (operation_of (field bytes 48 16))) in
+    let fixed = AreBytes-append ethernet_ipv4 (bytes_high_first 2 (operation_number (operation_of (field bytes 48 16)))) front number in
+    subst (λ w. AreBytes (bytes_of w)) (sym r.fields) (search (AreBytes-append, fixed, part))
 
 pub IsLayer-arp : IsLayer arp
 IsLayer-arp = record {

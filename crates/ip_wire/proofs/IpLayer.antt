@@ -1,6 +1,6 @@
 -- IP is a layer.
-use Rattle.std.proofs.Common.{ℕ, ◌≡◌, ◌≤◌, ◌<◌, ◌%◌, ◌+◌, ◌^◌, if◌then◌else◌, Bool, true, false, IsTrue, List, [], ◌++◌, Option, Some, None, drop, length, refl, sym, ap, subst, ◌∙◌, append-nil, length-append, arith}
-use Rattle.ip_wire.proofs.Layers.{HasForms-normal, IsLayer, ReadsNormal, length-part, option_and_then-Some, part-behind}
+use Rattle.std.proofs.Common.{ℕ, ◌≡◌, ◌≤◌, ◌<◌, ◌+◌, ◌^◌, if◌then◌else◌, Bool, true, false, IsTrue, List, [], ◌++◌, Option, Some, None, drop, length, refl, sym, ap, subst, ◌∙◌, append-nil, length-append, arith}
+use Rattle.ip_wire.proofs.Layers.{HasForms-normal, IsLayer, ReadsNormal, byte-lt, length-part, option_and_then-Some, part-behind}
 use Rattle.ip_wire.proofs.UdpLayer.{AreWords}
 use Rattle.ip_wire.specs.Frame.{ReadsPacket, all_checked, ip, ip_packet_of, is_ipv4_fragment, packet_payload, transport_behind, whole_packet}
 use Rattle.net_base.specs.Checksum.{verifies}
@@ -153,9 +153,6 @@ packet_payload-written (Ipv6 w) q rest computed h is =
 length-header : (w : IpRepr) (computed : Bool) → IsInRange w → length (bytes_of w computed) ≡ header_len_of w
 length-header (Ipv4 w) computed h = rw (cells-all 4 w.src_addr h.src_addr, cells-all 4 w.dst_addr h.dst_addr) (omega arith)
 length-header (Ipv6 w) computed h = rw (cells-all 16 w.src_addr h.src_addr, cells-all 16 w.dst_addr h.dst_addr) (omega arith)
-
-byte-lt : (n : ℕ) → n % 256 < 256
-byte-lt n = omega arith
 
 AreBytes-ipv4 : (w : Ipv4Repr) (sum : ℕ) → w.hop_limit < 256 → number_of w.next_header < 256 → AreBytes w.src_addr → AreBytes w.dst_addr → AreBytes (ipv4.header_with w sum)
 AreBytes-ipv4 w sum hop number src dst =

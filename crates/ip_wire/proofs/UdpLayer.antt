@@ -1,16 +1,15 @@
 -- UDP is a layer.
-use Rattle.std.proofs.Common.{ℕ, ◌≡◌, ◌≤◌, ◌+◌, ◌-◌, ◌%◌, true, List, [], ◌++◌, Some, None, length, refl, ap, subst, ◌∙◌, append-nil, length-append, arith}
-use Rattle.ip_wire.proofs.Layers.{HasForms-normal, IsLayer, IsShort, ReadsNormal, length-part, length-rebuilt_by, read-parts, rebuilt_by-Some}
+use Rattle.std.proofs.Common.{ℕ, ◌≡◌, ◌≤◌, ◌+◌, ◌-◌, ◌%◌, true, List, [], Some, None, length, refl, ap, subst, ◌∙◌, append-nil, length-append, arith}
+use Rattle.ip_wire.proofs.Layers.{HasForms-normal, IsLayer, IsShort, ReadsNormal, byte-lt, length-part, length-rebuilt_by, read-parts, rebuilt_by-Some}
 use Rattle.ip_wire.specs.Frame.{rebuilt_transport_by, udp, udp_packet_of}
 use Rattle.wire_ends.specs.declared.IpAddress.{IpAddress}
 use Rattle.wire_ends.specs.IpAddress.{octets_of}
 use Rattle.wire_ends.specs.declared.IpProtocol.TheVariants as protocol
-use Rattle.std.specs.Int.{bytes_high_first}
-use Rattle.wire_field.proofs.ByteLists.{AreBytes-append, AreBytes-bytes_high_first, AreBytes-part}
+use Rattle.wire_field.proofs.ByteLists.{AreBytes-cons, AreBytes-part}
 use Rattle.wire_field.proofs.Spelled.{AreBytes}
 use Rattle.wire_udp.proofs.UdpComputed.{udp_of-Reads}
 use Rattle.wire_udp.proofs.UdpReadsBack.{IsInRange, reads-bytes_of}
-use Rattle.wire_udp.specs.Udp.{Reads, bytes_of, header_bytes, packet_len, packet_with, payload_of, udp_of}
+use Rattle.wire_udp.specs.Udp.{Reads, bytes_of, packet_len, packet_with, payload_of, udp_of}
 use Rattle.wire_udp.specs.declared.UdpRepr.{UdpRepr}
 
 -- the octets of both addresses are whole words
@@ -65,14 +64,7 @@ ReadsNormal-udp src dst bytes v p e = refl
 
 -- the packet with any checksum
 AreBytes-packet : (v : UdpRepr) (q : List ℕ) (sum : ℕ) → AreBytes q → AreBytes (packet_with v q sum)
-AreBytes-packet v q sum k =
-    let with_number = λ (front : List ℕ) (n : ℕ) (is : AreBytes front). AreBytes-append front (bytes_high_first 2 n) is (AreBytes-bytes_high_first 2 n) in
-    let src_port = bytes_high_first 2 v.src_port in
-    let ports = src_port ++ bytes_high_first 2 v.dst_port in
-    let header = with_number (ports ++ bytes_high_first 2 (8 + length q)) sum (with_number ports (8 + length q)
-    (with_number src_port v.dst_port (AreBytes-bytes_high_first 2 v.src_port)))
-    in
-    AreBytes-append (header_bytes v (length q) sum) q header k
+AreBytes-packet v q sum k = search (AreBytes-cons, byte-lt) depth 20
 
 IsShort-udp : (src dst : IpAddress) → IsShort (udp src dst)
 IsShort-udp src dst bytes v p q e fits =

@@ -1,6 +1,5 @@
 -- What is not read stays.
-use Rattle.std.proofs.Common.{ℕ, ◌≡◌, ◌<◌, ◌/◌, ◌%◌, ◌⊎◌, inl, inr, Bool, true, false, List, [], ◌∷◌, ◌++◌, Option, Some, None, drop, length, slice_range, refl, sym, ap, subst, ◌∙◌, arith}
-use Rattle.std.specs.Prelude.{⊤}
+use Rattle.std.proofs.Common.{ℕ, ◌≡◌, ◌<◌, ◌/◌, ◌%◌, inl, inr, true, List, [], ◌∷◌, ◌++◌, Option, Some, None, drop, length, slice_range, refl, sym, ap, subst, ◌∙◌, arith}
 use Rattle.std.specs.Int.{bytes_high_first}
 use Rattle.std.specs.Option.{option_map}
 use Rattle.ip_wire.proofs.Frames.{rebuilt-ip, rebuilt-read}
@@ -8,7 +7,7 @@ use Rattle.ip_wire.proofs.IpLayer.{ReadsPacket-IsHeader, ip_packet_of-IsPacket, 
 use Rattle.ip_wire.proofs.Layers.{rebuilt_by-None}
 use Rattle.ip_wire.proofs.TcpLayer.{rebuilt-tcp-copied}
 use Rattle.ip_wire.proofs.UdpLayer.{rebuilt-udp-copied}
-use Rattle.ip_wire.specs.Frame.{CarriesMessage, CarriesPacket, CarriesTransport, ReadsPacket, ReadsTransportBy, all_checked, arp, datagram, ethernet, ip, ip_packet_of, packet_format, packet_payload, rebuilt, rebuilt_packet, rebuilt_payload, rebuilt_transport, rebuilt_transport_by, segment, type_of, type_of_version}
+use Rattle.ip_wire.specs.Frame.{CarriesMessage, CarriesPacket, CarriesTransport, ReadsPacket, ReadsTransportBy, all_checked, arp, datagram, ethernet, ip, ip_packet_of, packet_format, packet_payload, rebuilt, rebuilt_payload, rebuilt_transport, rebuilt_transport_by, segment, type_of, type_of_version}
 use Rattle.wire_field.proofs.Cells.{cells-drop}
 use Rattle.wire_field.proofs.Spelled.{AreBytes}
 use Rattle.wire_field.specs.Field.{field}
@@ -20,15 +19,6 @@ use Rattle.wire_ip.specs.Ip.{dst_addr_of, next_header_of, payload_len_of, src_ad
 use Rattle.wire_ends.specs.declared.IpVersion.{IpVersion}
 use Rattle.wire_ends.specs.declared.IpVersion.TheVariants as version
 use Rattle.wire_ip.specs.declared.IpRepr.{IpRepr}
-use Rattle.wire_ip.specs.declared.IpRepr.TheVariants.{Ipv4, Ipv6}
-use Rattle.wire_ipv6.proofs.Ipv6Computed.{ipv6_of-Reads}
-use Rattle.wire_ipv6.specs.Ipv6 as ipv6
-use Rattle.wire_ipv6.specs.Ipv6.{ipv6_of}
-use Rattle.wire_ipv6.specs.declared.Ipv6Repr.{Ipv6Repr}
-use Rattle.wire_ipv4.proofs.Ipv4Computed.{ipv4_of-Reads}
-use Rattle.wire_ipv4.specs.Ipv4 as ipv4
-use Rattle.wire_ipv4.specs.Ipv4.{ipv4_of}
-use Rattle.wire_ipv4.specs.declared.Ipv4Repr.{Ipv4Repr}
 use Rattle.wire_arp.proofs.ArpComputed.{arp_of-Reads}
 use Rattle.wire_arp.specs.Arp as arp_packet
 use Rattle.wire_arp.specs.Arp.{arp_of}
