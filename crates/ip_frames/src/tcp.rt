@@ -2,7 +2,7 @@
 
 ghost use Rattle.std.specs.Prelude.{◌≡◌, ◌≤◌, ◌+◌, OnOk, length};
 ghost use Rattle.ip_frames.specs.Output.{AddsBytes, AddsText, tcp_bytes, tcp_lines, tcp_verdict};
-ghost use Rattle.ip_wire.specs.Frame.{rebuilt_between};
+ghost use Rattle.ip_wire.specs.Frame.{rebuilt_transport_by};
 ghost use Rattle.ip_wire.specs.Ip.{dst_addr_of, max_payload_len, src_addr_of};
 ghost use Rattle.ip_wire.specs.Tcp.{packet_bytes};
 ghost use Rattle.ip_wire.specs.TcpRepr.{header_len_of, header_of};
@@ -23,7 +23,7 @@ pub fn push_packet(
     requires { length bytes.now ≤ max_payload_len ip_header.now }
     ensures lines { OnOk result (AddsText text.old text.new (tcp_lines ip_header.now bytes.now)) }
     ensures again { let src = src_addr_of ip_header.now in let dst = dst_addr_of ip_header.now in
-        OnOk result (AddsBytes again.old again.new (rebuilt_between Tcp src dst bytes.now)) }
+        OnOk result (AddsBytes again.old again.new (rebuilt_transport_by Tcp src dst bytes.now)) }
 {
     let packet = TcpPacket::new_unchecked(bytes);
     write!(text, "{packet}")?;

@@ -2,7 +2,7 @@
 
 ghost use Rattle.std.specs.Prelude.{◌≡◌, ◌≤◌, ◌+◌, ◌++◌, OnOk, drop, length};
 ghost use Rattle.ip_frames.specs.Output.{AddsBytes, AddsText, udp_bytes, udp_lines, udp_verdict};
-ghost use Rattle.ip_wire.specs.Frame.{rebuilt_between};
+ghost use Rattle.ip_wire.specs.Frame.{rebuilt_transport_by};
 ghost use Rattle.ip_wire.specs.Ip.{dst_addr_of, src_addr_of};
 ghost use Rattle.ip_wire.specs.Udp.{max_payload_len, packet_bytes};
 ghost use Rattle.ip_wire.specs.declared.IpProtocol.TheVariants.{Udp};
@@ -21,7 +21,7 @@ pub fn push_packet(
 ) -> Result<(), AllocError>
     ensures lines { OnOk result (AddsText text.old text.new (udp_lines ip_header.now bytes.now)) }
     ensures again { let src = src_addr_of ip_header.now in let dst = dst_addr_of ip_header.now in
-        OnOk result (AddsBytes again.old again.new (rebuilt_between Udp src dst bytes.now)) }
+        OnOk result (AddsBytes again.old again.new (rebuilt_transport_by Udp src dst bytes.now)) }
 {
     let packet = UdpPacket::new_unchecked(bytes);
     write!(text, "{packet}")?;

@@ -1,6 +1,6 @@
 -- ARP is a layer.
-use Rattle.std.proofs.Common.{ℕ, ◌≡◌, ◌≤◌, ◌^◌, ◌<◌, List, [], ◌∷◌, ◌++◌, Some, length, slice_range, refl, sym, ap, subst, ◌∙◌, append-nil, arith}
-use Rattle.ip_wire.proofs.Layers.{HasForms-normal, IsLayer, ReadsNormal, length-part, option_map-Some}
+use Rattle.std.proofs.Common.{ℕ, ◌≡◌, ◌≤◌, ◌^◌, ◌<◌, List, [], ◌∷◌, Some, length, refl, sym, ap, subst, append-nil, arith}
+use Rattle.ip_wire.proofs.Layers.{HasForms-normal, IsLayer, ReadsNormal, length-part, read-parts}
 use Rattle.ip_wire.specs.Frame.{arp}
 use Rattle.wire_field.proofs.ByteLists.{AreBytes-append, AreBytes-bytes_high_first, AreBytes-slice_range, AreBytes-tested}
 use Rattle.wire_field.proofs.Cells.{cells-all}
@@ -17,9 +17,7 @@ use Rattle.wire_arp.specs.declared.ArpRepr.TheVariants.{EthernetIpv4}
 -- what reading says
 pub read-Reads : (bytes : List ℕ) (v : ArpRepr) (p : List ℕ) → arp.read bytes ≡ Some (v, p) → Reads bytes v × (p ≡ [])
 read-Reads bytes v p e =
-    let (u, is, named) = option_map-Some (λ (w : ArpRepr). (w, [])) (arp_of bytes) (v, p) e in
-    let same : u ≡ v = ap (λ (d : ArpRepr × List ℕ). d.0) named in
-    ((arp_of-Reads bytes v).0 (is ∙ ap Some same), sym (ap (λ (d : ArpRepr × List ℕ). d.1) named))
+    let (read, rest) = read-parts (arp_of bytes) [] v p e in ((arp_of-Reads bytes v).0 read, sym rest)
 
 -- what was read has a packet
 in_range : (bytes : List ℕ) (v : ArpRepr) → Reads bytes v → IsInRange v
@@ -57,15 +55,11 @@ ReadsNormal-arp bytes v p e = normal-read bytes v (read-Reads bytes v p e).0
 
 AreBytes-written : (bytes : List ℕ) (v : ArpRepr) → AreBytes bytes → Reads bytes v → AreBytes (bytes_of v)
 AreBytes-written bytes v h r =
-    let with_part = λ (front : List ℕ) (from to : ℕ) (is : AreBytes front). AreBytes-append front (slice_range bytes from to) is (AreBytes-slice_range bytes from to h) in
-    let number = operation_number (operation_of (field bytes 48 16)) in
-    let fixed = ethernet_ipv4 ++ bytes_high_first 2 number in
-    let source = fixed ++ slice_range bytes 8 14 ++ slice_range bytes 14 18 in
-    let operation = AreBytes-append ethernet_ipv4 (bytes_high_first 2 number) (AreBytes-tested ethernet_ipv4 refl) (AreBytes-bytes_high_first 2 number) in
-    let written = with_part (source ++ slice_range bytes 18 24) 24 28 (with_part source 18 24
-    (with_part (fixed ++ slice_range bytes 8 14) 14 18 (with_part fixed 8 14 operation)))
-    in
-    subst (λ w. AreBytes (bytes_of w)) (sym r.fields) written
+    let part = λ (from to : ℕ). AreBytes-slice_range bytes from to h in
+    let front = AreBytes-tested ethernet_ipv4 refl in
+    let number = AreBytes-bytes_high_first 2 (operation_number (operation_of (field bytes 48 16))) in
+    let fixed = AreBytes-append ethernet_ipv4 (bytes_high_first 2 (operation_number (operation_of (field bytes 48 16)))) front number in
+    subst (λ w. AreBytes (bytes_of w)) (sym r.fields) (search (AreBytes-append, fixed, part))
 
 pub IsLayer-arp : IsLayer arp
 IsLayer-arp = record {

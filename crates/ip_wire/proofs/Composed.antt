@@ -1,9 +1,8 @@
 -- Frames that are put together of layers that agree.
-use Rattle.std.proofs.Common.{ℕ, ◌≡◌, ◌≤◌, ◌<◌, ◌%◌, ◌^◌, Bool, IsTrue, List, [], ◌++◌, length, refl, sym, ap, subst, ◌∙◌, append-nil, append_assoc, length-append, arith}
+use Rattle.std.proofs.Common.{ℕ, ◌≡◌, ◌<◌, ◌%◌, ◌^◌, Bool, IsTrue, List, [], ◌++◌, length, refl, sym, ap, subst, ◌∙◌, append-nil, append_assoc, arith}
 use Rattle.ip_wire.proofs.EthernetLayer.{drop-bytes_of}
-use Rattle.ip_wire.proofs.Ipv4Layer as ipv4_layer
-use Rattle.ip_wire.proofs.Ipv6Layer as ipv6_layer
-use Rattle.ip_wire.specs.Frame.{ReadsCarried, ReadsFrame, ReadsPacket, ReadsTransport, Transport, datagram, packet, packet_payload, segment, type_of}
+use Rattle.ip_wire.proofs.IpLayer.{packet_payload-written, reads_packet}
+use Rattle.ip_wire.specs.Frame.{ReadsCarried, ReadsFrame, ReadsTransport, Transport, datagram, packet, segment, type_of, type_of_version}
 use Rattle.net_base.specs.Checksum.{verifies}
 use Rattle.net_base.specs.declared.ChecksumCapabilities.{ChecksumCapabilities}
 use Rattle.wire_ends.specs.IpAddress.{octets_of}
@@ -11,48 +10,29 @@ use Rattle.wire_ip.proofs.IpReadsBack.{IsInRange}
 use Rattle.wire_tcp_repr.proofs.TcpReadsBack as tcp
 use Rattle.wire_tcp_repr.specs.TcpRepr as tcp_header
 use Rattle.wire_tcp_repr.specs.TcpRepr.{TcpHeader}
-use Rattle.wire_ipv6.proofs.Ipv6ReadsBack as ipv6
 use Rattle.wire_udp.proofs.UdpReadsBack as udp
 use Rattle.wire_udp.specs.Udp as udp_header
 use Rattle.wire_udp.specs.declared.UdpRepr.{UdpRepr}
+use Rattle.wire_ends.specs.declared.IpVersion.{IpVersion}
 use Rattle.wire_ends.specs.declared.IpVersion.TheVariants as version
 use Rattle.wire_ip.specs.Ip.{bytes_of, dst_addr_of, next_header_of, normal, payload_len_of, src_addr_of, version_of}
 use Rattle.wire_ip.specs.declared.IpRepr.{IpRepr}
 use Rattle.wire_ip.specs.declared.IpRepr.TheVariants.{Ipv4, Ipv6}
-use Rattle.wire_ipv4.proofs.Ipv4ReadsBack as ipv4
 use Rattle.wire_ends.specs.Protocol.{number_of, protocol_of}
 use Rattle.wire_ethernet.proofs.EthernetEmitted as ethernet_header
 use Rattle.wire_ethernet.specs.Ethernet as ethernet
 use Rattle.wire_ethernet.specs.declared.EthernetRepr.{EthernetRepr}
 
--- a packet that is written is read, whatever stands behind what it carries
-pub reads_packet : (caps : ChecksumCapabilities) (computed : Bool) (w : IpRepr) (q rest : List ℕ) → IsInRange w → payload_len_of w ≡ length q
-    → (version_of w ≡ version.Ipv4 → IsTrue (verifies caps.ipv4) → IsTrue computed) → ReadsPacket caps (bytes_of w computed ++ (q ++ rest)) (normal w)
-reads_packet caps computed (Ipv4 w) q rest h is sound =
-    let fits : w.payload_len ≤ length (q ++ rest) = simp length-append (omega (arith, is)) in
-    (ipv4.reads-bytes_of w (q ++ rest) computed (verifies caps.ipv4) h fits (sound refl), refl)
-reads_packet caps computed (Ipv6 w) q rest h is sound =
-    let fits : w.payload_len ≤ length (q ++ rest) = simp length-append (omega (arith, is)) in
-    ipv6.reads-bytes_of w (q ++ rest) h fits
+-- what the normal form says of a header
+record IsKept (w : IpRepr) : Type 0 where
+  version : version_of (normal w) ≡ version_of w
+  next_header : next_header_of (normal w) ≡ protocol_of (number_of (next_header_of w))
+  src_addr : src_addr_of (normal w) ≡ src_addr_of w
+  dst_addr : dst_addr_of (normal w) ≡ dst_addr_of w
 
--- and what it carries is found behind its header
-pub packet_payload-written : (w : IpRepr) (q rest : List ℕ) (computed : Bool) → IsInRange w → payload_len_of w ≡ length q
-    → packet_payload (normal w) (bytes_of w computed ++ (q ++ rest)) ≡ q
-packet_payload-written (Ipv4 w) q rest computed h is = ipv4_layer.written-payload w q rest computed h is
-packet_payload-written (Ipv6 w) q rest computed h is = ipv6_layer.written-payload w q rest h is
-
--- the protocol of a packet that is read
-normal-next_header : (w : IpRepr) → next_header_of (normal w) ≡ protocol_of (number_of (next_header_of w))
-normal-next_header (Ipv4 w) = refl
-normal-next_header (Ipv6 w) = refl
-
-normal-src_addr : (w : IpRepr) → src_addr_of (normal w) ≡ src_addr_of w
-normal-src_addr (Ipv4 w) = refl
-normal-src_addr (Ipv6 w) = refl
-
-normal-dst_addr : (w : IpRepr) → dst_addr_of (normal w) ≡ dst_addr_of w
-normal-dst_addr (Ipv4 w) = refl
-normal-dst_addr (Ipv6 w) = refl
+kept : (w : IpRepr) → IsKept w
+kept (Ipv4 w) = record { version = refl; next_header = refl; src_addr = refl; dst_addr = refl }
+kept (Ipv6 w) = record { version = refl; next_header = refl; src_addr = refl; dst_addr = refl }
 
 -- a UDP packet that is written is what a packet of its protocol carries
 pub reads_datagram : (caps : ChecksumCapabilities) (computed : Bool) (w : IpRepr) (v : UdpRepr) (payload : List ℕ) → number_of (next_header_of w) ≡ 17
@@ -64,7 +44,7 @@ reads_datagram caps computed w v payload number h sound =
     let written = udp_header.bytes_of v payload src dst computed in
     let back = udp.reads-bytes_of v src dst payload [] computed (verifies caps.udp) h sound in
     let read = subst (λ bytes. udp_header.Reads bytes src dst (verifies caps.udp) v payload) (append-nil written) back in
-    (normal-next_header w ∙ ap protocol_of number, rw (normal-src_addr w, normal-dst_addr w) read)
+    ((kept w).next_header ∙ ap protocol_of number, rw ((kept w).src_addr, (kept w).dst_addr) read)
 
 -- so is a TCP segment
 pub reads_segment : (caps : ChecksumCapabilities) (computed : Bool) (w : IpRepr) (v : TcpHeader) (payload : List ℕ) → number_of (next_header_of w) ≡ 6
@@ -72,20 +52,16 @@ pub reads_segment : (caps : ChecksumCapabilities) (computed : Bool) (w : IpRepr)
     → ReadsTransport caps (normal w) (tcp_header.bytes_of v payload (src_addr_of w) (dst_addr_of w) computed []) (segment (tcp_header.normal v) payload)
 reads_segment caps computed w v payload number writable src dst sound =
     let read = tcp.reads-bytes_of v (src_addr_of w) (dst_addr_of w) payload computed (verifies caps.tcp) writable src dst sound in
-    (normal-next_header w ∙ ap protocol_of number, rw (normal-src_addr w, normal-dst_addr w) read)
+    ((kept w).next_header ∙ ap protocol_of number, rw ((kept w).src_addr, (kept w).dst_addr) read)
 
--- the type that names a packet
-type_of-normal : (w : IpRepr) → type_of (normal w) ≡ type_of w
-type_of-normal (Ipv4 w) = refl
-type_of-normal (Ipv6 w) = refl
+-- the type that names a version
+known-type : (n : IpVersion) → ethernet.known (type_of_version n) ≡ type_of_version n
+known-type version.Ipv4 = refl
+known-type version.Ipv6 = refl
 
-known-type_of : (w : IpRepr) → ethernet.known (type_of w) ≡ type_of w
-known-type_of (Ipv4 w) = refl
-known-type_of (Ipv6 w) = refl
-
-type_of-small : (w : IpRepr) → ethernet.number_of (type_of w) < 2 ^ 16
-type_of-small (Ipv4 w) = omega arith
-type_of-small (Ipv6 w) = omega arith
+small-type : (n : IpVersion) → ethernet.number_of (type_of_version n) < 2 ^ 16
+small-type version.Ipv4 = omega arith
+small-type version.Ipv6 = omega arith
 
 -- a frame of a header that names the packet, of that packet and of padding is read whole
 pub reads_frame : (caps : ChecksumCapabilities) (computed : Bool) (header : EthernetRepr) (w : IpRepr) (q padding : List ℕ) (t : Transport)
@@ -94,13 +70,13 @@ pub reads_frame : (caps : ChecksumCapabilities) (computed : Bool) (header : Ethe
     → (version_of w ≡ version.Ipv4 → IsTrue (verifies caps.ipv4) → IsTrue computed) → ReadsTransport caps (normal w) q t
     → ReadsFrame caps (ethernet.bytes_of header ++ (bytes_of w computed ++ q) ++ padding) (ethernet.normal header) (packet (normal w) t)
 reads_frame caps computed header w q padding t dst src names h is sound transport =
-    let number : ethernet.number_of header.ethertype < 2 ^ 16 = rw names (type_of-small w) in
+    let number : ethernet.number_of header.ethertype < 2 ^ 16 = rw names (small-type (version_of w)) in
     let inner = bytes_of w computed ++ (q ++ padding) in
     let joined : ethernet.bytes_of header ++ (bytes_of w computed ++ q) ++ padding ≡ ethernet.bytes_of header ++ inner =
     append_assoc (ethernet.bytes_of header) (bytes_of w computed ++ q) padding
     ∙ ap (λ (rest : List ℕ). ethernet.bytes_of header ++ rest) (append_assoc (bytes_of w computed) q padding)
     in
-    let named : ethernet.known header.ethertype ≡ type_of (normal w) = ap ethernet.protocol_of names ∙ known-type_of w ∙ sym (type_of-normal w) in
+    let named : ethernet.known header.ethertype ≡ type_of (normal w) = ap ethernet.protocol_of names ∙ known-type (version_of w) ∙ ap type_of_version (sym (kept w).version) in
     let carried : ReadsCarried caps (ethernet.known header.ethertype) inner (packet (normal w) t) = (
       named,
       reads_packet caps computed w q padding h is sound,

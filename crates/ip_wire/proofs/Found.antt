@@ -1,6 +1,6 @@
 -- What is found in a frame, and what is read of it.
 use Rattle.std.proofs.Common.{ℕ, ◌≡◌, ◌≢◌, ◌↔◌, ◌∙◌, inl, inr, true, false, List, None, Some, drop, is_some, refl, sym, ap, subst}
-use Rattle.ip_wire.proofs.ReadsOnce.{carried-once, computed-one, frame-once, transport-once, udp-computed}
+use Rattle.ip_wire.proofs.ReadsOnce.{carried-once, computed-one, frame-once, not-arp, packet-once, transport-once, udp-computed}
 use Rattle.ip_wire.specs.Frame as frame
 use Rattle.ip_wire.specs.Frame.{ReadsCarried, ReadsFrame, ReadsPacket, ReadsTransport, datagram, message, other, packet, segment, type_of}
 use Rattle.ip_wire.specs.FrameValue.{ReadsHeader, ReadsNothing, Finds, FindsCarried, FindsTransport, Parses, ParsesCarried, ParsesTransport, carried_of, transport_of}
@@ -108,27 +108,15 @@ nothing-unknown caps t bytes n is = record {
   no_header = no-header caps t bytes (λ type. let apart = sym is ∙ type in cc) (λ type. let apart = sym is ∙ type in cc);
 }
 
--- no bytes are packets with two headers
-packet-one : (caps : ChecksumCapabilities) (bytes : List ℕ) (v w : IpRepr) → type_of v ≡ type_of w → ReadsPacket caps bytes v → ReadsPacket caps bytes w → v ≡ w
-packet-one caps bytes (Ipv4 v) (Ipv4 w) type (a, whole) (b, _) =
-    ap Ipv4 (computed-one _ v w ((ipv4_of-Reads (verifies caps.ipv4) bytes v).1 a) ((ipv4_of-Reads (verifies caps.ipv4) bytes w).1 b))
-packet-one caps bytes (Ipv6 v) (Ipv6 w) type a b = ap Ipv6 (computed-one _ v w ((ipv6_of-Reads bytes v).1 a) ((ipv6_of-Reads bytes w).1 b))
-packet-one caps bytes (Ipv4 v) (Ipv6 w) type a b = absurd (cc)
-packet-one caps bytes (Ipv6 v) (Ipv4 w) type a b = absurd (cc)
-
-no-arp : (v : IpRepr) (t : EthernetProtocol) → t ≡ type_of v → t ≡ ethertype.Arp → ⊥
-no-arp (Ipv4 v) t a b = let apart = sym a ∙ b in cc
-no-arp (Ipv6 v) t a b = let apart = sym a ∙ b in cc
-
 pub no-carried : (caps : ChecksumCapabilities) (t : EthernetProtocol) (bytes : List ℕ) (c : Carried) → FindsCarried caps t bytes c
     → is_some (carried_of c) ≡ false → (d : frame.Carried) → ReadsCarried caps t bytes d → ⊥
 no-carried caps t bytes (carried.Arp v) f e d r = cc
 no-carried caps t bytes (carried.Packet v (transport.Udp u payload)) f e d r = cc
 no-carried caps t bytes (carried.Packet v (transport.Tcp u)) f e d r = cc
 no-carried caps t bytes (carried.Packet v (transport.Other payload)) f e d r = cc
-no-carried caps t bytes (carried.Packet v (transport.Unread kept)) (type, read, found) e (message w) r = no-arp v t type r.0
+no-carried caps t bytes (carried.Packet v (transport.Unread kept)) (type, read, found) e (message w) r = not-arp v (sym type ∙ r.0)
 no-carried caps t bytes (carried.Packet v (transport.Unread kept)) (type, read, found) e (packet w s) (named, again, inner) =
-    let same : w ≡ v = packet-one caps bytes w v (sym named ∙ type) again read in
+    let same : w ≡ v = packet-once caps bytes w v (sym named ∙ type) again read in
     found.0 s (subst (λ x. ReadsTransport caps x (frame.packet_payload x bytes) s) same inner)
 no-carried caps t bytes (carried.Fragment part) (lent, is_part, (v, (type, read))) e (message w) r = let apart = sym type ∙ r.0 in cc
 no-carried caps t bytes (carried.Fragment part) (lent, is_part, (v, (type, read))) e (packet (Ipv4 w) s) (named, (again, whole), inner) =

@@ -1,14 +1,14 @@
 -- What a frame is written as that was read.
 use Rattle.std.proofs.Common.{ℕ, ◌≡◌, ◌≢◌, ◌≤◌, ◌<◌, ◌+◌, ◌^◌, ◌++◌, ◌∙◌, inr, true, Bool, List, [], drop, length, slice_range, length-append, length-drop, refl, sym, ap, ap₂, subst, arith}
-use Rattle.ip_wire.proofs.Frames.{rebuilt-ipv4, rebuilt-ipv6, rebuilt-read}
+use Rattle.ip_wire.proofs.Frames.{rebuilt-ipv4, rebuilt-ipv4-copied, rebuilt-ipv6, rebuilt-read}
 use Rattle.ip_wire.proofs.Layers.{length-part}
 use Rattle.ip_wire.proofs.ReadsOnce.{udp-computed}
 use Rattle.ip_wire.proofs.TcpLayer as tcp_layer
 use Rattle.ip_wire.proofs.TcpLayer.{rebuilt-tcp}
 use Rattle.ip_wire.proofs.UdpLayer.{rebuilt-udp}
-use Rattle.ip_wire.proofs.Unread.{between-stays, carried-unread, payload-stays}
+use Rattle.ip_wire.proofs.Unread.{payload-stays, transport_by-stays}
 use Rattle.ip_wire.specs.Frame as frame
-use Rattle.ip_wire.specs.Frame.{ReadsBetween, ReadsPacket, all_checked, datagram, ipv4_payload, packet_payload, rebuilt, rebuilt_between, rebuilt_payload, rebuilt_transport, segment, type_of}
+use Rattle.ip_wire.specs.Frame.{ReadsPacket, all_checked, datagram, ipv4_payload, packet_payload, rebuilt, rebuilt_transport_by, rebuilt_payload, rebuilt_transport, segment, type_of}
 use Rattle.ip_wire.specs.FrameValue.{ReadsHeader, Finds, FindsCarried, FindsTransport, Fits, FitsCarried, FitsTransport, carried_bytes, carried_len, frame_bytes, frame_len, transport_bytes, transport_len}
 use Rattle.ip_wire.specs.declared.frame.carried.Carried.{Carried}
 use Rattle.ip_wire.specs.declared.frame.carried.Carried.TheVariants as carried
@@ -141,7 +141,7 @@ length-frame caps sent bytes f found =
     let header = length-ethernet f.header (ap length r.dst_addr ∙ length-part bytes 0 6 (omega (arith, whole))) (ap length r.src_addr ∙ length-part bytes 6 12 (omega (arith, whole))) in
     length-append (ethernet.bytes_of f.header) (carried_bytes sent f.carried) ∙ ap₂ ◌+◌ header (length-carried caps sent f.header.ethertype (drop 14 bytes) f.carried found.carried)
 
-other-stays : (p : IpProtocol) (src dst : IpAddress) (bytes : List ℕ) → p ≢ protocol.Udp → p ≢ protocol.Tcp → rebuilt_between p src dst bytes ≡ bytes
+other-stays : (p : IpProtocol) (src dst : IpAddress) (bytes : List ℕ) → p ≢ protocol.Udp → p ≢ protocol.Tcp → rebuilt_transport_by p src dst bytes ≡ bytes
 other-stays protocol.Udp src dst bytes a b = absurd (a refl)
 other-stays protocol.Tcp src dst bytes a b = absurd (b refl)
 other-stays _ src dst bytes a b = refl
@@ -152,16 +152,16 @@ rewritten-transport v bytes (transport.Udp u payload) (is, r) =
     let dst = dst_addr_of v in
     let read = udp-computed src dst true bytes u payload.now r in
     ap (λ p. transport_bytes all_checked v (transport.Udp u (record payload { now = p }))) r.body
-    ∙ sym (ap (λ p. rebuilt_between p src dst bytes) is ∙ rebuilt-udp src dst bytes u read)
+    ∙ sym (ap (λ p. rebuilt_transport_by p src dst bytes) is ∙ rebuilt-udp src dst bytes u read)
 rewritten-transport v bytes (transport.Tcp u) (is, r) =
     let src = src_addr_of v in
     let dst = dst_addr_of v in
     let read = (tcp_of-Reads src dst true bytes (tcp.header_of u)).1 (subst (λ q. tcp.Reads bytes src dst true (tcp.header_of u) q) r.body r) in
     ap (λ p. tcp.bytes_of (tcp.header_of u) p src dst true []) r.body
-    ∙ sym (ap (λ p. rebuilt_between p src dst bytes) is ∙ rebuilt-tcp src dst bytes (tcp.header_of u) read)
+    ∙ sym (ap (λ p. rebuilt_transport_by p src dst bytes) is ∙ rebuilt-tcp src dst bytes (tcp.header_of u) read)
 rewritten-transport v bytes (transport.Other payload) (udp, tcp, e) = e ∙ sym (other-stays (next_header_of v) (src_addr_of v) (dst_addr_of v) bytes udp tcp)
 rewritten-transport v bytes (transport.Unread kept) (none, e) =
-    e ∙ sym (between-stays (next_header_of v) (src_addr_of v) (dst_addr_of v) bytes (λ u q. none (datagram u q)) (λ u q. none (segment u q)))
+    e ∙ sym (transport_by-stays (next_header_of v) (src_addr_of v) (dst_addr_of v) bytes (λ u q. none (datagram u q)) (λ u q. none (segment u q)))
 
 rewritten-packet : (v : IpRepr) (payload : List ℕ) (t : Transport) → FindsTransport all_checked v payload t
     → carried_bytes all_checked (carried.Packet v t) ≡ frame.rebuilt_packet v payload
@@ -185,9 +185,9 @@ rewritten-carried t bytes (carried.Packet (Ipv6 v) inner) (is, r, found) =
     rewritten-packet (Ipv6 v) (ipv6.payload_of bytes) inner found
     ∙ sym (ap (λ p. rebuilt_payload p bytes) is ∙ rebuilt-ipv6 bytes v ((ipv6_of-Reads bytes v).1 r))
 rewritten-carried t bytes (carried.Fragment part) (lent, is_part, (v, (is, read))) =
-    lent ∙ sym (ap (λ p. rebuilt_payload p bytes) is ∙ payload-stays ethertype.Ipv4 bytes (inr is_part))
+    lent ∙ sym (ap (λ p. rebuilt_payload p bytes) is ∙ rebuilt-ipv4-copied bytes (inr is_part))
 rewritten-carried t bytes (carried.Unread kept) (nothing, e) =
-    e ∙ sym (payload-stays t bytes (carried-unread t bytes nothing.no_message (no-packet t bytes nothing.no_header)))
+    e ∙ sym (payload-stays t bytes nothing.no_message (no-packet t bytes nothing.no_header))
 
 pub rewritten-frame : (bytes : List ℕ) (f : Frame) → Finds all_checked bytes f → frame_bytes all_checked f ≡ rebuilt bytes
 rewritten-frame bytes f found =

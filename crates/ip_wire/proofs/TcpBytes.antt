@@ -5,14 +5,14 @@ use Rattle.std.proofs.lemmas.Grind.{flat_map-append}
 use Rattle.std.proofs.lemmas.List.Sums.{count_by-le-length}
 use Rattle.std.specs.Int.{bytes_high_first}
 use Rattle.std.specs.Prelude.{replicate}
+use Rattle.ip_wire.proofs.Layers.{byte-lt}
 use Rattle.wire_field.proofs.ByteLists.{AreBytes-append, AreBytes-bytes_high_first, AreBytes-cons, AreBytes-tested}
 use Rattle.wire_field.proofs.Spelled.{AreBytes}
 use Rattle.wire_tcp.proofs.Ranges.{length-range_bytes}
 use Rattle.wire_tcp.specs.TcpItems.{Item, item, text, texts}
 use Rattle.wire_tcp.specs.TcpOption.{range_bytes}
-use Rattle.wire_tcp.specs.TcpSeq.{number}
 use Rattle.wire_tcp.specs.declared.TcpTimestampRepr.{TcpTimestampRepr}
-use Rattle.wire_tcp_repr.specs.TcpRepr.{IsInRange, TcpHeader, ack_bits, header_bytes, header_len_of, items_of, offset_and_flags, option_bytes, sack_items, segment_size_items, segment_with, timestamp_items, window_scale_items}
+use Rattle.wire_tcp_repr.specs.TcpRepr.{IsInRange, TcpHeader, header_len_of, items_of, option_bytes, sack_items, segment_size_items, segment_with, timestamp_items, window_scale_items}
 
 none : AreBytes []
 none i = omega arith
@@ -76,12 +76,6 @@ options-bytes v h =
 
 pub AreBytes-segment : (v : TcpHeader) (q : List ℕ) (checksum : ℕ) → IsInRange v → AreBytes q → AreBytes (segment_with v q checksum)
 AreBytes-segment v q checksum h k =
-    let ports = bytes_high_first 2 v.src_port ++ bytes_high_first 2 v.dst_port in
-    let numbers = ports ++ bytes_high_first 4 (number v.seq_number) ++ bytes_high_first 4 (ack_bits v) in
-    let window = numbers ++ bytes_high_first 2 (offset_and_flags v) ++ bytes_high_first 2 v.window_len in
-    let fixed = window ++ bytes_high_first 2 checksum ++ bytes_high_first 2 0 in
-    let from_ports = with_number (bytes_high_first 2 v.src_port) 2 v.dst_port (AreBytes-bytes_high_first 2 v.src_port) in
-    let from_numbers = with_number (ports ++ bytes_high_first 4 (number v.seq_number)) 4 (ack_bits v) (with_number ports 4 (number v.seq_number) from_ports) in
-    let from_window = with_number (numbers ++ bytes_high_first 2 (offset_and_flags v)) 2 v.window_len (with_number numbers 2 (offset_and_flags v) from_numbers) in
-    let from_sum = with_number (window ++ bytes_high_first 2 checksum) 2 0 (with_number window 2 checksum from_window) in
-    AreBytes-append (header_bytes v checksum) q (AreBytes-append fixed (option_bytes v) from_sum (options-bytes v h)) k
+    let options = options-bytes v h in
+    let zero_byte : 0 < 256 = omega arith in
+    search (AreBytes-cons, AreBytes-append, byte-lt, zero_byte, options) depth 30 fits 3000

@@ -1,9 +1,9 @@
 -- TCP is a layer.
-use Rattle.std.proofs.Common.{ℕ, ◌≡◌, ◌≤◌, ◌<◌, ◌+◌, ◌-◌, ◌⊎◌, inl, inr, if◌then◌else◌, Bool, true, List, [], ◌++◌, Option, Some, None, length, refl, sym, ap, subst, ◌∙◌, length-append, length-drop, arith}
-use Rattle.ip_wire.proofs.Layers.{IsLayer, option_map-Some, rebuilt_by-None, rebuilt_by-Some}
+use Rattle.std.proofs.Common.{ℕ, ◌≡◌, ◌≤◌, ◌<◌, ◌+◌, ◌-◌, ◌⊎◌, inl, inr, if◌then◌else◌, Bool, true, List, [], ◌++◌, Some, None, length, refl, sym, ap, subst, ◌∙◌, length-append, length-drop, arith}
+use Rattle.ip_wire.proofs.Layers.{IsLayer, IsShort, length-rebuilt_by, read-parts, rebuilt_by-Some}
 use Rattle.ip_wire.proofs.TcpBytes.{AreBytes-segment}
 use Rattle.ip_wire.proofs.UdpLayer.{AreWords}
-use Rattle.ip_wire.specs.Frame.{rebuilt_between, tcp, tcp_segment_of}
+use Rattle.ip_wire.specs.Frame.{rebuilt_transport_by, tcp, tcp_segment_of}
 use Rattle.wire_ends.specs.declared.IpAddress.{IpAddress}
 use Rattle.wire_ends.specs.declared.IpProtocol.TheVariants as protocol
 use Rattle.wire_field.proofs.ByteLists.{AreBytes-drop}
@@ -22,10 +22,8 @@ pub tcp_segment_of-Reads : (src dst : IpAddress) (bytes : List ℕ) (v : TcpHead
     → Reads bytes src dst true v p
 unfolding tcp_segment_of
 tcp_segment_of-Reads src dst bytes v p e =
-    let (u, is, named) = option_map-Some (λ (w : TcpHeader). (w, payload_of bytes)) (tcp_of src dst true bytes) (v, p) e in
-    let same : u ≡ v = ap (λ (d : TcpHeader × List ℕ). d.0) named in
-    let body : payload_of bytes ≡ p = ap (λ (d : TcpHeader × List ℕ). d.1) named in
-    subst (λ q. Reads bytes src dst true v q) body ((tcp_of-Reads src dst true bytes v).0 (is ∙ ap Some same))
+    let (read, body) = read-parts (tcp_of src dst true bytes) (payload_of bytes) v p e in
+    subst (λ q. Reads bytes src dst true v q) body ((tcp_of-Reads src dst true bytes v).0 read)
 
 pub Reads-tcp_segment_of : (src dst : IpAddress) (bytes : List ℕ) (v : TcpHeader) (p : List ℕ) → Reads bytes src dst true v p
     → tcp_segment_of src dst bytes ≡ Some (v, p)
@@ -63,6 +61,15 @@ written-shorter src dst bytes v p q r = elim (normal_or_shorter src dst true byt
       inr (omega (arith, whole, normal_whole, shorter))
 ]
 
+IsShort-tcp : (src dst : IpAddress) → IsShort (tcp src dst)
+IsShort-tcp src dst bytes v p q e fits =
+    let r = tcp_segment_of-Reads src dst bytes v p e in
+    let shorter = header_len-read src dst true bytes p v r in
+    let whole = r.lengths.whole in
+    let len = length-payload src dst bytes v p r in
+    let written = length-written src dst v q true in
+    omega (arith, written, len, whole, shorter)
+
 pub IsLayer-tcp : (src dst : IpAddress) → AreWords src dst → IsLayer (tcp src dst)
 IsLayer-tcp src dst words = record {
   payload_bytes = λ bytes v p h e.
@@ -71,13 +78,7 @@ IsLayer-tcp src dst words = record {
       let in_range = Reads-IsInRange src dst true bytes p v h (tcp_segment_of-Reads src dst bytes v p e) in
       AreBytes-segment v q (65535 - segment_sum src dst (segment_with v q 0 ++ [])) in_range k;
   reads_back = λ bytes v p q h e fits. written-read src dst bytes v p q words h (tcp_segment_of-Reads src dst bytes v p e);
-  no_longer = λ bytes v p q e fits.
-      let r = tcp_segment_of-Reads src dst bytes v p e in
-      let shorter = header_len-read src dst true bytes p v r in
-      let whole = r.lengths.whole in
-      let len = length-payload src dst bytes v p r in
-      let written = length-written src dst v q true in
-      omega (arith, written, len, whole, shorter);
+  no_longer = IsShort-tcp src dst;
   forms = record {
     twice = λ bytes v p e. twice v;
     normal_or_shorter = λ bytes v p q e fits. written-shorter src dst bytes v p q (tcp_segment_of-Reads src dst bytes v p e);
@@ -87,26 +88,15 @@ IsLayer-tcp src dst words = record {
 -- ---- what a packet carries, rebuilt
 
 pub rebuilt-tcp : (src dst : IpAddress) (bytes : List ℕ) (v : TcpHeader) → tcp_of src dst true bytes ≡ Some v
-    → rebuilt_between protocol.Tcp src dst bytes ≡ bytes_of v (payload_of bytes) src dst true []
+    → rebuilt_transport_by protocol.Tcp src dst bytes ≡ bytes_of v (payload_of bytes) src dst true []
 rebuilt-tcp src dst bytes v e =
     let read = (tcp_of-Reads src dst true bytes v).0 e in
     rebuilt_by-Some (tcp src dst) (λ w payload. payload) bytes v (payload_of bytes) (Reads-tcp_segment_of src dst bytes v (payload_of bytes) read)
 
-pub rebuilt-tcp-copied : (src dst : IpAddress) (bytes : List ℕ) → tcp_of src dst true bytes ≡ None → rebuilt_between protocol.Tcp src dst bytes ≡ bytes
+pub rebuilt-tcp-copied : (src dst : IpAddress) (bytes : List ℕ) → tcp_of src dst true bytes ≡ None → rebuilt_transport_by protocol.Tcp src dst bytes ≡ bytes
 unfolding tcp_segment_of
 rebuilt-tcp-copied src dst bytes e = rw e refl
 
 -- it is no longer
-length-rebuilt_by : (src dst : IpAddress) (bytes : List ℕ) (found : Option (TcpHeader × List ℕ)) → tcp_segment_of src dst bytes ≡ found
-    → length (rebuilt_between protocol.Tcp src dst bytes) ≤ length bytes
-length-rebuilt_by src dst bytes None e = rw (rebuilt_by-None (tcp src dst) (λ w payload. payload) bytes e) (omega arith)
-length-rebuilt_by src dst bytes (Some (v, p)) e =
-    let r = tcp_segment_of-Reads src dst bytes v p e in
-    let shorter = header_len-read src dst true bytes p v r in
-    let whole = r.lengths.whole in
-    let len = length-payload src dst bytes v p r in
-    let written = length-written src dst v p true in
-    rw (rebuilt_by-Some (tcp src dst) (λ w payload. payload) bytes v p e) (omega (arith, written, len, whole, shorter))
-
-pub length-rebuilt-tcp : (src dst : IpAddress) (bytes : List ℕ) → length (rebuilt_between protocol.Tcp src dst bytes) ≤ length bytes
-length-rebuilt-tcp src dst bytes = length-rebuilt_by src dst bytes (tcp_segment_of src dst bytes) refl
+pub length-rebuilt-tcp : (src dst : IpAddress) (bytes : List ℕ) → length (rebuilt_transport_by protocol.Tcp src dst bytes) ≤ length bytes
+length-rebuilt-tcp src dst = length-rebuilt_by (tcp src dst) (λ v q. q) (IsShort-tcp src dst) (λ bytes v p e. omega arith)

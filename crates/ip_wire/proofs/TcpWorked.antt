@@ -1,6 +1,6 @@
 -- The definitions at worked frames that carry TCP.
 use Rattle.std.proofs.Common.{ℕ, ◌≡◌, List, [], ◌∷◌, ◌++◌, refl, sym, ap, ◌∙◌, length, arith}
-use Rattle.ip_wire.specs.Frame.{ipv4_packet_of, rebuilt, settled, tcp_segment_of}
+use Rattle.ip_wire.specs.Frame.{ip_packet_of, rebuilt, settled, tcp_segment_of}
 use Rattle.wire_checksum.specs.WordSum.{residue, words}
 use Rattle.wire_ethernet.specs.Ethernet.{ethernet_of}
 use Rattle.wire_ipv4.specs.Ipv4.{ipv4_of}
@@ -43,11 +43,11 @@ abbrev permitted : List ℕ
 permitted = frame 0x30 0x5c (numbers ++ (0x60 ∷ 0x10 ∷ 0x01 ∷ 0x23 ∷ 0x28 ∷ 0x1e ∷ 0x00 ∷ 0x00 ∷ 0x04 ∷ 0x02 ∷ 0x00 ∷ 0x00 ∷ []) ++ payload)
 
 rebuilt-with_range : rebuilt with_range ≡ with_room
-unfolding rebuilt ipv4_packet_of ethernet_of ipv4_of tcp_segment_of tcp_of items_within items.first_item words residue
+unfolding rebuilt ip_packet_of ethernet_of ipv4_of tcp_segment_of tcp_of items_within items.first_item words residue
 rebuilt-with_range = refl
 
 rebuilt-with_room : rebuilt with_room ≡ permitted
-unfolding rebuilt ipv4_packet_of ethernet_of ipv4_of tcp_segment_of tcp_of items_within items.first_item words residue
+unfolding rebuilt ip_packet_of ethernet_of ipv4_of tcp_segment_of tcp_of items_within items.first_item words residue
 rebuilt-with_room = refl
 
 -- so the frame settles at the second time, and not at the first
@@ -61,12 +61,12 @@ not-at_once same =
     absurd (omega (arith, lengths))
 
 rebuilt-permitted : rebuilt permitted ≡ permitted
-unfolding rebuilt ipv4_packet_of ethernet_of ipv4_of tcp_segment_of tcp_of items_within items.first_item words residue
+unfolding rebuilt ip_packet_of ethernet_of ipv4_of tcp_segment_of tcp_of items_within items.first_item words residue
 rebuilt-permitted = refl
 
 -- padding behind the packet is dropped
 rebuilt-padded : rebuilt (permitted ++ (0x00 ∷ 0x00 ∷ [])) ≡ permitted
-unfolding rebuilt ipv4_packet_of ethernet_of ipv4_of tcp_segment_of tcp_of items_within items.first_item words residue
+unfolding rebuilt ip_packet_of ethernet_of ipv4_of tcp_segment_of tcp_of items_within items.first_item words residue
 rebuilt-padded = refl
 
 -- a segment whose checksum doesn't hold stays
@@ -74,5 +74,5 @@ abbrev wrong_checksum : List ℕ
 wrong_checksum = frame 0x30 0x5c (numbers ++ (0x60 ∷ 0x10 ∷ 0x01 ∷ 0x23 ∷ 0x28 ∷ 0x1f ∷ 0x00 ∷ 0x00 ∷ 0x04 ∷ 0x02 ∷ 0x00 ∷ 0x00 ∷ []) ++ payload)
 
 rebuilt-wrong_checksum : rebuilt wrong_checksum ≡ wrong_checksum
-unfolding rebuilt ipv4_packet_of ethernet_of ipv4_of tcp_segment_of tcp_of items_within items.first_item words residue
+unfolding rebuilt ip_packet_of ethernet_of ipv4_of tcp_segment_of tcp_of items_within items.first_item words residue
 rebuilt-wrong_checksum = refl

@@ -1,16 +1,15 @@
 -- UDP is a layer.
-use Rattle.std.proofs.Common.{ℕ, ◌≡◌, ◌≤◌, ◌+◌, ◌-◌, ◌%◌, true, List, [], ◌++◌, Option, Some, None, length, refl, ap, subst, ◌∙◌, append-nil, length-append, arith}
-use Rattle.ip_wire.proofs.Layers.{HasForms-normal, IsLayer, ReadsNormal, length-part, option_map-Some, rebuilt_by-None, rebuilt_by-Some}
-use Rattle.ip_wire.specs.Frame.{rebuilt_between, udp, udp_packet_of}
+use Rattle.std.proofs.Common.{ℕ, ◌≡◌, ◌≤◌, ◌+◌, ◌-◌, ◌%◌, true, List, [], Some, None, length, refl, ap, subst, ◌∙◌, append-nil, length-append, arith}
+use Rattle.ip_wire.proofs.Layers.{HasForms-normal, IsLayer, IsShort, ReadsNormal, byte-lt, length-part, length-rebuilt_by, read-parts, rebuilt_by-Some}
+use Rattle.ip_wire.specs.Frame.{rebuilt_transport_by, udp, udp_packet_of}
 use Rattle.wire_ends.specs.declared.IpAddress.{IpAddress}
 use Rattle.wire_ends.specs.IpAddress.{octets_of}
 use Rattle.wire_ends.specs.declared.IpProtocol.TheVariants as protocol
-use Rattle.std.specs.Int.{bytes_high_first}
-use Rattle.wire_field.proofs.ByteLists.{AreBytes-append, AreBytes-bytes_high_first, AreBytes-part}
+use Rattle.wire_field.proofs.ByteLists.{AreBytes-cons, AreBytes-part}
 use Rattle.wire_field.proofs.Spelled.{AreBytes}
 use Rattle.wire_udp.proofs.UdpComputed.{udp_of-Reads}
 use Rattle.wire_udp.proofs.UdpReadsBack.{IsInRange, reads-bytes_of}
-use Rattle.wire_udp.specs.Udp.{Reads, bytes_of, header_bytes, packet_len, packet_with, payload_of, udp_of}
+use Rattle.wire_udp.specs.Udp.{Reads, bytes_of, packet_len, packet_with, payload_of, udp_of}
 use Rattle.wire_udp.specs.declared.UdpRepr.{UdpRepr}
 
 -- the octets of both addresses are whole words
@@ -23,10 +22,8 @@ pub udp_packet_of-Reads : (src dst : IpAddress) (bytes : List ℕ) (v : UdpRepr)
     → Reads bytes src dst true v p
 unfolding udp_packet_of
 udp_packet_of-Reads src dst bytes v p e =
-    let (u, is, named) = option_map-Some (λ (w : UdpRepr). (w, payload_of bytes)) (udp_of src dst true bytes) (v, p) e in
-    let same : u ≡ v = ap (λ (d : UdpRepr × List ℕ). d.0) named in
-    let body : payload_of bytes ≡ p = ap (λ (d : UdpRepr × List ℕ). d.1) named in
-    subst (λ q. Reads bytes src dst true v q) body ((udp_of-Reads src dst true bytes v).0 (is ∙ ap Some same))
+    let (read, body) = read-parts (udp_of src dst true bytes) (payload_of bytes) v p e in
+    subst (λ q. Reads bytes src dst true v q) body ((udp_of-Reads src dst true bytes v).0 read)
 
 pub Reads-udp_packet_of : (src dst : IpAddress) (bytes : List ℕ) (v : UdpRepr) (p : List ℕ) → Reads bytes src dst true v p
     → udp_packet_of src dst bytes ≡ Some (v, p)
@@ -67,53 +64,38 @@ ReadsNormal-udp src dst bytes v p e = refl
 
 -- the packet with any checksum
 AreBytes-packet : (v : UdpRepr) (q : List ℕ) (sum : ℕ) → AreBytes q → AreBytes (packet_with v q sum)
-AreBytes-packet v q sum k =
-    let with_number = λ (front : List ℕ) (n : ℕ) (is : AreBytes front). AreBytes-append front (bytes_high_first 2 n) is (AreBytes-bytes_high_first 2 n) in
-    let src_port = bytes_high_first 2 v.src_port in
-    let ports = src_port ++ bytes_high_first 2 v.dst_port in
-    let header = with_number (ports ++ bytes_high_first 2 (8 + length q)) sum (with_number ports (8 + length q)
-    (with_number src_port v.dst_port (AreBytes-bytes_high_first 2 v.src_port)))
-    in
-    AreBytes-append (header_bytes v (length q) sum) q header k
+AreBytes-packet v q sum k = search (AreBytes-cons, byte-lt) depth 20
+
+IsShort-udp : (src dst : IpAddress) → IsShort (udp src dst)
+IsShort-udp src dst bytes v p q e fits =
+    let r = udp_packet_of-Reads src dst bytes v p e in
+    let whole = r.lengths.whole in
+    let header = r.lengths.header in
+    let len = length-payload src dst bytes v p r in
+    let written = length-written src dst v q in
+    omega (arith, written, len, whole, header)
 
 pub IsLayer-udp : (src dst : IpAddress) → AreWords src dst → IsLayer (udp src dst)
 IsLayer-udp src dst words = record {
   payload_bytes = λ bytes v p h e. AreBytes-part bytes p 8 (packet_len bytes) h (udp_packet_of-Reads src dst bytes v p e).body;
   written_bytes = λ bytes v p q h e k. AreBytes-packet v q _ k;
   reads_back = λ bytes v p q h e fits. written-read src dst bytes v p q words (udp_packet_of-Reads src dst bytes v p e) fits;
-  no_longer = λ bytes v p q e fits.
-      let r = udp_packet_of-Reads src dst bytes v p e in
-      let whole = r.lengths.whole in
-      let header = r.lengths.header in
-      let len = length-payload src dst bytes v p r in
-      let written = length-written src dst v q in
-      omega (arith, written, len, whole, header);
+  no_longer = IsShort-udp src dst;
   forms = HasForms-normal (udp src dst) (ReadsNormal-udp src dst);
 }
 
 -- ---- what a packet carries, rebuilt
 
 pub rebuilt-udp : (src dst : IpAddress) (bytes : List ℕ) (v : UdpRepr) → udp_of src dst true bytes ≡ Some v
-    → rebuilt_between protocol.Udp src dst bytes ≡ bytes_of v (payload_of bytes) src dst true
+    → rebuilt_transport_by protocol.Udp src dst bytes ≡ bytes_of v (payload_of bytes) src dst true
 rebuilt-udp src dst bytes v e =
     let read = (udp_of-Reads src dst true bytes v).0 e in
     rebuilt_by-Some (udp src dst) (λ w payload. payload) bytes v (payload_of bytes) (Reads-udp_packet_of src dst bytes v (payload_of bytes) read)
 
-pub rebuilt-udp-copied : (src dst : IpAddress) (bytes : List ℕ) → udp_of src dst true bytes ≡ None → rebuilt_between protocol.Udp src dst bytes ≡ bytes
+pub rebuilt-udp-copied : (src dst : IpAddress) (bytes : List ℕ) → udp_of src dst true bytes ≡ None → rebuilt_transport_by protocol.Udp src dst bytes ≡ bytes
 unfolding udp_packet_of
 rebuilt-udp-copied src dst bytes e = rw e refl
 
 -- it is no longer
-length-rebuilt_by : (src dst : IpAddress) (bytes : List ℕ) (found : Option (UdpRepr × List ℕ)) → udp_packet_of src dst bytes ≡ found
-    → length (rebuilt_between protocol.Udp src dst bytes) ≤ length bytes
-length-rebuilt_by src dst bytes None e = rw (rebuilt_by-None (udp src dst) (λ w payload. payload) bytes e) (omega arith)
-length-rebuilt_by src dst bytes (Some (v, p)) e =
-    let r = udp_packet_of-Reads src dst bytes v p e in
-    let whole = r.lengths.whole in
-    let header = r.lengths.header in
-    let len = length-payload src dst bytes v p r in
-    let written = length-written src dst v p in
-    rw (rebuilt_by-Some (udp src dst) (λ w payload. payload) bytes v p e) (omega (arith, written, len, whole, header))
-
-pub length-rebuilt-udp : (src dst : IpAddress) (bytes : List ℕ) → length (rebuilt_between protocol.Udp src dst bytes) ≤ length bytes
-length-rebuilt-udp src dst bytes = length-rebuilt_by src dst bytes (udp_packet_of src dst bytes) refl
+pub length-rebuilt-udp : (src dst : IpAddress) (bytes : List ℕ) → length (rebuilt_transport_by protocol.Udp src dst bytes) ≤ length bytes
+length-rebuilt-udp src dst = length-rebuilt_by (udp src dst) (λ v q. q) (IsShort-udp src dst) (λ bytes v p e. omega arith)

@@ -1,31 +1,24 @@
 -- What is not read stays.
-use Rattle.std.proofs.Common.{ℕ, ◌≡◌, ◌<◌, ◌/◌, ◌%◌, ◌⊎◌, inl, inr, Bool, true, false, List, [], ◌∷◌, ◌++◌, Option, Some, None, drop, length, slice_range, refl, sym, ap, subst, ◌∙◌, arith}
-use Rattle.std.specs.Prelude.{⊤}
+use Rattle.std.proofs.Common.{ℕ, ◌≡◌, ◌<◌, ◌/◌, ◌%◌, inl, inr, true, List, [], ◌∷◌, ◌++◌, Option, Some, None, drop, length, slice_range, refl, sym, ap, subst, ◌∙◌, arith}
 use Rattle.std.specs.Int.{bytes_high_first}
 use Rattle.std.specs.Option.{option_map}
-use Rattle.ip_wire.proofs.Frames.{ipv4_packet_of-fragment, ipv4_packet_of-unread, rebuilt-ipv4, rebuilt-ipv4-copied, rebuilt-ipv6, rebuilt-ipv6-copied, rebuilt-read}
-use Rattle.ip_wire.proofs.Layers.{length-part, rebuilt_by-None}
+use Rattle.ip_wire.proofs.Frames.{rebuilt-ip, rebuilt-read}
+use Rattle.ip_wire.proofs.IpLayer.{ReadsPacket-IsHeader, ip_packet_of-IsPacket, sets_len}
+use Rattle.ip_wire.proofs.Layers.{rebuilt_by-None}
 use Rattle.ip_wire.proofs.TcpLayer.{rebuilt-tcp-copied}
 use Rattle.ip_wire.proofs.UdpLayer.{rebuilt-udp-copied}
-use Rattle.ip_wire.specs.Frame.{CarriesMessage, CarriesPacket, CarriesTransport, ReadsBetween, ReadsPacket, all_checked, arp, datagram, ethernet, segment, ipv4_payload, packet_payload, rebuilt, rebuilt_between, rebuilt_packet, rebuilt_payload, type_of}
+use Rattle.ip_wire.specs.Frame.{CarriesMessage, CarriesPacket, CarriesTransport, ReadsPacket, ReadsTransportBy, all_checked, arp, datagram, ethernet, ip, ip_packet_of, packet_format, packet_payload, rebuilt, rebuilt_payload, rebuilt_transport, rebuilt_transport_by, segment, type_of, type_of_version}
 use Rattle.wire_field.proofs.Cells.{cells-drop}
 use Rattle.wire_field.proofs.Spelled.{AreBytes}
 use Rattle.wire_field.specs.Field.{field}
 use Rattle.wire_ends.specs.declared.IpAddress.{IpAddress}
 use Rattle.wire_ends.specs.declared.IpProtocol.{IpProtocol}
 use Rattle.wire_ends.specs.declared.IpProtocol.TheVariants as protocol
-use Rattle.wire_ip.specs.Ip as ip
-use Rattle.wire_ip.specs.Ip.{payload_len_of, with_payload_len}
+use Rattle.wire_ip.specs.Ip as ip_header
+use Rattle.wire_ip.specs.Ip.{dst_addr_of, next_header_of, payload_len_of, src_addr_of, version_of, with_payload_len}
+use Rattle.wire_ends.specs.declared.IpVersion.{IpVersion}
+use Rattle.wire_ends.specs.declared.IpVersion.TheVariants as version
 use Rattle.wire_ip.specs.declared.IpRepr.{IpRepr}
-use Rattle.wire_ip.specs.declared.IpRepr.TheVariants.{Ipv4, Ipv6}
-use Rattle.wire_ipv6.proofs.Ipv6Computed.{ipv6_of-Reads}
-use Rattle.wire_ipv6.specs.Ipv6 as ipv6
-use Rattle.wire_ipv6.specs.Ipv6.{ipv6_of}
-use Rattle.wire_ipv6.specs.declared.Ipv6Repr.{Ipv6Repr}
-use Rattle.wire_ipv4.proofs.Ipv4Computed.{ipv4_of-Reads}
-use Rattle.wire_ipv4.specs.Ipv4 as ipv4
-use Rattle.wire_ipv4.specs.Ipv4.{header_len, ipv4_of, total_len}
-use Rattle.wire_ipv4.specs.declared.Ipv4Repr.{Ipv4Repr}
 use Rattle.wire_arp.proofs.ArpComputed.{arp_of-Reads}
 use Rattle.wire_arp.specs.Arp as arp_packet
 use Rattle.wire_arp.specs.Arp.{arp_of}
@@ -42,27 +35,25 @@ use Rattle.wire_udp.proofs.UdpComputed.{udp_of-Reads}
 use Rattle.wire_udp.specs.Udp.{udp_of}
 use Rattle.wire_udp.specs.declared.UdpRepr.{UdpRepr}
 
--- what a frame of this type carries is not read: it is no packet with its checksum, or a fragment
-abbrev pub IsUnread : EthernetProtocol → List ℕ → Type 0
-IsUnread ethertype.Ipv4 bytes = ((w : Ipv4Repr) → ¬ ipv4.Reads bytes true w) ⊎ (ipv4.is_fragment bytes ≡ true)
-IsUnread ethertype.Ipv6 bytes = (w : Ipv6Repr) → ¬ ipv6.Reads bytes w
-IsUnread ethertype.Arp bytes = (w : ArpRepr) → ¬ arp_packet.Reads bytes w
-IsUnread (ethertype.Unknown n) bytes = ⊤
-
 -- an option that is no value is none
 none_of : {A : Type 0} (o : Option A) → ((a : A) → ¬ (o ≡ Some a)) → o ≡ None
 none_of None h = refl
 none_of (Some a) h = absurd (h a refl)
 
-pub payload-stays : (t : EthernetProtocol) (bytes : List ℕ) → IsUnread t bytes → rebuilt_payload t bytes ≡ bytes
-payload-stays ethertype.Ipv4 bytes (inl h) =
-    rebuilt-ipv4-copied bytes (ipv4_packet_of-unread bytes (none_of (ipv4_of true bytes) (λ w e. h w ((ipv4_of-Reads true bytes w).0 e))))
-payload-stays ethertype.Ipv4 bytes (inr part) = rebuilt-ipv4-copied bytes (ipv4_packet_of-fragment bytes part)
-payload-stays ethertype.Ipv6 bytes h = rebuilt-ipv6-copied bytes (none_of (ipv6_of bytes) (λ w e. h w ((ipv6_of-Reads bytes w).0 e)))
-payload-stays ethertype.Arp bytes h =
-    let unread = none_of (arp_of bytes) (λ w e. h w ((arp_of-Reads bytes w).0 e)) in
+packet-stays : (n : IpVersion) (bytes : List ℕ) → ((w : IpRepr) → version_of w ≡ n → ¬ ReadsPacket all_checked bytes w) → (packet_format n).rebuilt bytes ≡ bytes
+packet-stays n bytes h =
+    rebuilt_by-None (ip n) rebuilt_transport bytes
+    (none_of (ip_packet_of n bytes) (λ d e. let (u, is) = ip_packet_of-IsPacket n bytes d.0 d.1 e in h u is.version is.reads))
+
+-- what a frame of this type carries, if it is no ARP packet or IP packet that is read
+pub payload-stays : (t : EthernetProtocol) (bytes : List ℕ) → ((w : ArpRepr) → t ≡ ethertype.Arp → ¬ arp_packet.Reads bytes w)
+    → ((w : IpRepr) → t ≡ type_of w → ¬ ReadsPacket all_checked bytes w) → rebuilt_payload t bytes ≡ bytes
+payload-stays ethertype.Ipv4 bytes h k = packet-stays version.Ipv4 bytes (λ w is. k w (ap type_of_version (sym is)))
+payload-stays ethertype.Ipv6 bytes h k = packet-stays version.Ipv6 bytes (λ w is. k w (ap type_of_version (sym is)))
+payload-stays ethertype.Arp bytes h k =
+    let unread = none_of (arp_of bytes) (λ w e. h w refl ((arp_of-Reads bytes w).0 e)) in
     rebuilt_by-None arp (λ v rest. []) bytes (ap (option_map (λ (v : ArpRepr). (v, []))) unread)
-payload-stays (ethertype.Unknown n) bytes h = refl
+payload-stays (ethertype.Unknown n) bytes h k = refl
 
 -- the header that was read, written again
 header-again : (a b c d e f g h i j k l m n : ℕ) (rest : List ℕ) → m < 256 → n < 256
@@ -88,62 +79,32 @@ header-stays frame v are r =
     ∙ subst (λ f. (slice_range f 0 6 ++ slice_range f 6 12 ++ bytes_high_first 2 (field f 96 16)) ++ drop 14 f ≡ f) (sym parts)
     (header-again _ _ _ _ _ _ _ _ _ _ _ _ _ _ (drop 14 frame) (are_cells 12) (are_cells 13))
 
--- no packet of IPv4 is read of the bytes, whether they are a fragment or not
-ipv4-unread : (bytes : List ℕ) (part : Bool) → ipv4.is_fragment bytes ≡ part → ((w : Ipv4Repr) → ¬ ReadsPacket all_checked bytes (Ipv4 w))
-    → IsUnread ethertype.Ipv4 bytes
-ipv4-unread bytes true is h = inr is
-ipv4-unread bytes false is h = inl (λ w r. h w (r, is))
-
--- what is read of no bytes of this type
-pub carried-unread : (t : EthernetProtocol) (bytes : List ℕ) → ((w : ArpRepr) → t ≡ ethertype.Arp → ¬ arp_packet.Reads bytes w)
-    → ((w : IpRepr) → t ≡ type_of w → ¬ ReadsPacket all_checked bytes w) → IsUnread t bytes
-carried-unread ethertype.Ipv4 bytes message packet = ipv4-unread bytes (ipv4.is_fragment bytes) refl (λ w. packet (Ipv4 w) refl)
-carried-unread ethertype.Ipv6 bytes message packet = λ w. packet (Ipv6 w) refl
-carried-unread ethertype.Arp bytes message packet = λ w. message w refl
-carried-unread (ethertype.Unknown n) bytes message packet = record {}
-
-carried-stays : (frame : List ℕ) (v : EthernetRepr) → AreBytes frame → Reads frame v → IsUnread v.ethertype (drop 14 frame) → rebuilt frame ≡ frame
-carried-stays frame v are r h =
-    rebuilt-read frame v ((ethernet_of-Reads frame v).1 r)
-    ∙ ap (λ rest. bytes_of v ++ rest) (payload-stays v.ethertype (drop 14 frame) h)
-    ∙ header-stays frame v are r
-
 -- ---- what a packet carries
 
-pub between-stays : (t : IpProtocol) (src dst : IpAddress) (bytes : List ℕ)
-    → ((v : UdpRepr) (payload : List ℕ) → ¬ ReadsBetween all_checked t src dst bytes (datagram v payload))
-    → ((v : TcpHeader) (payload : List ℕ) → ¬ ReadsBetween all_checked t src dst bytes (segment v payload))
-    → rebuilt_between t src dst bytes ≡ bytes
-between-stays protocol.Udp src dst bytes h k =
+pub transport_by-stays : (t : IpProtocol) (src dst : IpAddress) (bytes : List ℕ)
+    → ((v : UdpRepr) (payload : List ℕ) → ¬ ReadsTransportBy all_checked t src dst bytes (datagram v payload))
+    → ((v : TcpHeader) (payload : List ℕ) → ¬ ReadsTransportBy all_checked t src dst bytes (segment v payload))
+    → rebuilt_transport_by t src dst bytes ≡ bytes
+transport_by-stays protocol.Udp src dst bytes h k =
     rebuilt-udp-copied src dst bytes (none_of (udp_of src dst true bytes) (λ v e. h v _ (refl, (udp_of-Reads src dst true bytes v).0 e)))
-between-stays protocol.Tcp src dst bytes h k =
+transport_by-stays protocol.Tcp src dst bytes h k =
     rebuilt-tcp-copied src dst bytes (none_of (tcp_of src dst true bytes) (λ v e. k v _ (refl, (tcp_of-Reads src dst true bytes v).0 e)))
-between-stays _ src dst bytes h k = refl
-
--- a packet with the length that it has
-packet-stays : (w : IpRepr) (payload : List ℕ) → payload_len_of w ≡ length payload → ¬ CarriesTransport w payload
-    → rebuilt_packet w payload ≡ ip.bytes_of w true ++ payload
-packet-stays (Ipv4 w) payload is h =
-    let stays = between-stays _ _ _ payload (λ v p r. h (inl (v, p, r))) (λ v p r. h (inr (v, p, r))) in
-    ap (λ inner. ip.bytes_of (with_payload_len (Ipv4 w) (length inner)) true ++ inner) stays
-    ∙ ap (λ n. ip.bytes_of (with_payload_len (Ipv4 w) n) true ++ payload) (sym is)
-packet-stays (Ipv6 w) payload is h =
-    let stays = between-stays _ _ _ payload (λ v p r. h (inl (v, p, r))) (λ v p r. h (inr (v, p, r))) in
-    ap (λ inner. ip.bytes_of (with_payload_len (Ipv6 w) (length inner)) true ++ inner) stays
-    ∙ ap (λ n. ip.bytes_of (with_payload_len (Ipv6 w) n) true ++ payload) (sym is)
+transport_by-stays _ src dst bytes h k = refl
 
 transport-stays : (w : IpRepr) (bytes : List ℕ) → ReadsPacket all_checked bytes w → ¬ CarriesTransport w (packet_payload w bytes)
-    → rebuilt_payload (type_of w) bytes ≡ ip.bytes_of w true ++ packet_payload w bytes
-transport-stays (Ipv4 w) bytes (r, whole) h =
-    let len : w.payload_len ≡ length (ipv4_payload bytes) = r.payload_len ∙ sym (length-part bytes (header_len bytes) (total_len bytes) r.lengths.whole) in
-    rebuilt-ipv4 bytes w ((ipv4_of-Reads true bytes w).1 r) whole ∙ packet-stays (Ipv4 w) (ipv4_payload bytes) len h
-transport-stays (Ipv6 w) bytes r h =
-    let len : w.payload_len ≡ length (ipv6.payload_of bytes) = r.payload_len ∙ sym (length-part bytes 40 (ipv6.total_len bytes) r.lengths ∙ omega arith) in
-    rebuilt-ipv6 bytes w ((ipv6_of-Reads bytes w).1 r) ∙ packet-stays (Ipv6 w) (ipv6.payload_of bytes) len h
+    → rebuilt_payload (type_of w) bytes ≡ ip_header.bytes_of w true ++ packet_payload w bytes
+transport-stays w bytes r h =
+    let payload = packet_payload w bytes in
+    let len : payload_len_of w ≡ length payload = (ReadsPacket-IsHeader all_checked bytes w r).payload_len in
+    let stays = transport_by-stays (next_header_of w) (src_addr_of w) (dst_addr_of w) payload (λ v p r. h (inl (v, p, r))) (λ v p r. h (inr (v, p, r))) in
+    rebuilt-ip bytes w r
+    ∙ ap (λ inner. ip_header.bytes_of (with_payload_len w (length inner)) true ++ inner) stays
+    ∙ ap (λ n. ip_header.bytes_of (with_payload_len w n) true ++ payload) (sym len)
+    ∙ ap (λ v. ip_header.bytes_of v true ++ payload) (sets_len w 0 0).own
 
 pub payload-unread-stays : (frame : List ℕ) (v : EthernetRepr) (w : IpRepr) → Reads frame v → v.ethertype ≡ type_of w
     → ReadsPacket all_checked (drop 14 frame) w → ¬ CarriesTransport w (packet_payload w (drop 14 frame))
-    → rebuilt frame ≡ bytes_of v ++ (ip.bytes_of w true ++ packet_payload w (drop 14 frame))
+    → rebuilt frame ≡ bytes_of v ++ (ip_header.bytes_of w true ++ packet_payload w (drop 14 frame))
 payload-unread-stays frame v w r type read h =
     rebuilt-read frame v ((ethernet_of-Reads frame v).1 r)
     ∙ ap (λ t. bytes_of v ++ rebuilt_payload t (drop 14 frame)) type
@@ -159,8 +120,10 @@ header-or-stays frame None e are message packet =
     rebuilt_by-None ethernet (λ v. rebuilt_payload v.ethertype) frame (ap (option_map (λ (v : EthernetRepr). (v, drop 14 frame))) e)
 header-or-stays frame (Some v) e are message packet =
     let r = (ethernet_of-Reads frame v).0 e in
-    carried-stays frame v are r
-    (carried-unread v.ethertype (drop 14 frame) (λ w type read. message (v, w, r, type, read)) (λ w type read. packet (v, w, r, type, read)))
+    let stays = payload-stays v.ethertype (drop 14 frame) (λ w type read. message (v, w, record { reads_header = r; reads_carried = (type, read) }))
+    (λ w type read. packet (v, w, r, type, read))
+    in
+    rebuilt-read frame v e ∙ ap (λ rest. bytes_of v ++ rest) stays ∙ header-stays frame v are r
 
 pub frame-stays : (frame : List ℕ) → AreBytes frame → ¬ CarriesMessage frame → ¬ CarriesPacket frame → rebuilt frame ≡ frame
 frame-stays frame = header-or-stays frame (ethernet_of frame) refl

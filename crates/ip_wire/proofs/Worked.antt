@@ -1,6 +1,6 @@
 -- The definitions at worked frames.
 use Rattle.std.proofs.Common.{ℕ, ◌≡◌, List, [], ◌∷◌, ◌++◌, Some, None, refl}
-use Rattle.ip_wire.specs.Frame.{Carried, ipv4_packet_of, meaning_of, other, packet, rebuilt}
+use Rattle.ip_wire.specs.Frame.{Carried, ip_packet_of, meaning_of, other, packet, rebuilt}
 use Rattle.wire_ip.specs.declared.IpRepr.TheVariants as ip
 use Rattle.wire_ipv4.specs.Ipv4.{ipv4_of}
 use Rattle.wire_checksum.specs.WordSum.{residue, words}
@@ -35,12 +35,12 @@ frame = addresses ++ (0x08 ∷ 0x00 ∷ []) ++ packet_header ++ payload
 -- ---- what they are rebuilt as
 
 rebuilt-same : rebuilt frame ≡ frame
-unfolding rebuilt ipv4_packet_of ethernet_of ipv4_of words residue
+unfolding rebuilt ip_packet_of ethernet_of ipv4_of words residue
 rebuilt-same = refl
 
 -- padding behind the packet is dropped
 rebuilt-padded : rebuilt (frame ++ 0x00 ∷ 0x00 ∷ 0x00 ∷ []) ≡ frame
-unfolding rebuilt ipv4_packet_of ethernet_of ipv4_of words residue
+unfolding rebuilt ip_packet_of ethernet_of ipv4_of words residue
 rebuilt-padded = refl
 
 -- an option, service bits and an identification aren't written again
@@ -53,7 +53,7 @@ with_options =
     ++ payload
 
 rebuilt-options : rebuilt with_options ≡ frame
-unfolding rebuilt ipv4_packet_of ethernet_of ipv4_of words residue
+unfolding rebuilt ip_packet_of ethernet_of ipv4_of words residue
 rebuilt-options = refl
 
 -- a packet whose checksum doesn't hold stays, padding and all
@@ -66,7 +66,7 @@ wrong_checksum =
     ++ (0x00 ∷ 0x00 ∷ [])
 
 rebuilt-wrong_checksum : rebuilt wrong_checksum ≡ wrong_checksum
-unfolding rebuilt ipv4_packet_of ethernet_of ipv4_of words residue
+unfolding rebuilt ip_packet_of ethernet_of ipv4_of words residue
 rebuilt-wrong_checksum = refl
 
 -- so does a fragment
@@ -78,7 +78,7 @@ fragment =
     ++ (0xaa ∷ 0x00 ∷ 0x00 ∷ 0x00 ∷ 0x00 ∷ 0x00 ∷ 0x00 ∷ 0x00 ∷ 0x00 ∷ 0xff ∷ 0x00 ∷ [])
 
 rebuilt-fragment : rebuilt fragment ≡ fragment
-unfolding rebuilt ipv4_packet_of ethernet_of ipv4_of words residue
+unfolding rebuilt ip_packet_of ethernet_of ipv4_of words residue
 rebuilt-fragment = refl
 
 -- so does what is no ARP packet of Ethernet and IPv4, whatever it is
@@ -130,9 +130,9 @@ carried =
     (other payload)
 
 meaning_of-padded : meaning_of (frame ++ 0x00 ∷ 0x00 ∷ 0x00 ∷ []) ≡ Some (header, carried)
-unfolding meaning_of ipv4_packet_of ethernet_of ipv4_of words residue
+unfolding meaning_of ip_packet_of ethernet_of ipv4_of words residue
 meaning_of-padded = refl
 
 meaning_of-fragment : meaning_of fragment ≡ None
-unfolding meaning_of ipv4_packet_of ethernet_of ipv4_of words residue
+unfolding meaning_of ip_packet_of ethernet_of ipv4_of words residue
 meaning_of-fragment = refl

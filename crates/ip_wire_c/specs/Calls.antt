@@ -195,14 +195,14 @@ abbrev pub all_or_none : Bool → ChecksumCapabilities
 all_or_none on = all_are (if on then when.Both else when.None)
 
 -- the payload of a packet of this protocol between two addresses, if its header is read; of another protocol all that is carried
-abbrev pub payload_between : ChecksumCapabilities → IpProtocol → IpAddress → IpAddress → List ℕ → Option (List ℕ)
-payload_between caps protocol.Udp src dst bytes = option_map (λ v. udp.payload_of bytes) (udp.udp_of src dst (verifies caps.udp) bytes)
-payload_between caps protocol.Tcp src dst bytes = option_map (λ v. tcp_bytes.payload_of bytes) (tcp.tcp_of src dst (verifies caps.tcp) bytes)
-payload_between caps _ src dst bytes = Some bytes
+abbrev pub transport_payload_by : ChecksumCapabilities → IpProtocol → IpAddress → IpAddress → List ℕ → Option (List ℕ)
+transport_payload_by caps protocol.Udp src dst bytes = option_map (λ v. udp.payload_of bytes) (udp.udp_of src dst (verifies caps.udp) bytes)
+transport_payload_by caps protocol.Tcp src dst bytes = option_map (λ v. tcp_bytes.payload_of bytes) (tcp.tcp_of src dst (verifies caps.tcp) bytes)
+transport_payload_by caps _ src dst bytes = Some bytes
 
 -- the payload of what a packet with this header carries
 abbrev pub transport_payload : ChecksumCapabilities → IpRepr → List ℕ → Option (List ℕ)
-transport_payload caps v bytes = payload_between caps (next_header_of v) (src_addr_of v) (dst_addr_of v) bytes
+transport_payload caps v bytes = transport_payload_by caps (next_header_of v) (src_addr_of v) (dst_addr_of v) bytes
 
 -- the payload of a packet of this type, if its headers are read; what a fragment carries is not looked into
 abbrev pub packet_payload : ChecksumCapabilities → EthernetProtocol → List ℕ → Option (List ℕ)

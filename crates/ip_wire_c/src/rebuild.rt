@@ -1,7 +1,7 @@
 //! A whole frame built again in a slice.
 
 ghost use Rattle.std.specs.Prelude.{◌≡◌, ◌≤◌, ◌<◌, None, length};
-ghost use Rattle.ip_wire.specs.Frame.{ethernet, rebuilt, rebuilt_between, rebuilt_packet, rebuilt_payload, rebuilt_transport};
+ghost use Rattle.ip_wire.specs.Frame.{ethernet, rebuilt, rebuilt_transport_by, rebuilt_packet, rebuilt_payload, rebuilt_transport};
 ghost use Rattle.ip_wire.specs.Ip.{dst_addr_of, max_payload_len, src_addr_of};
 ghost use Rattle.ip_wire.specs.declared.EthernetProtocol.TheVariants.{Arp, Ipv4, Ipv6};
 ghost use Rattle.ip_wire.specs.declared.IpProtocol.TheVariants.{Tcp, Udp};
@@ -129,7 +129,7 @@ fn rebuild_transport(header: &IpRepr, bytes: &[u8], out: &mut [u8]) -> Option<us
 #[inline(always)]
 fn rebuild_udp(ip_header: &IpRepr, bytes: &[u8], out: &mut [u8]) -> Option<usize>
     ensures { let src = src_addr_of ip_header.now in let dst = dst_addr_of ip_header.now in
-        Fills (rebuilt_between Udp src dst bytes.now) out.old out.new result }
+        Fills (rebuilt_transport_by Udp src dst bytes.now) out.old out.new result }
 {
     let src_addr = ip_header.src_addr();
     let dst_addr = ip_header.dst_addr();
@@ -145,7 +145,7 @@ fn rebuild_udp(ip_header: &IpRepr, bytes: &[u8], out: &mut [u8]) -> Option<usize
 #[inline(always)]
 fn rebuild_tcp(ip_header: &IpRepr, bytes: &[u8], out: &mut [u8]) -> Option<usize>
     ensures { let src = src_addr_of ip_header.now in let dst = dst_addr_of ip_header.now in
-        Fills (rebuilt_between Tcp src dst bytes.now) out.old out.new result }
+        Fills (rebuilt_transport_by Tcp src dst bytes.now) out.old out.new result }
 {
     let src_addr = ip_header.src_addr();
     let dst_addr = ip_header.dst_addr();

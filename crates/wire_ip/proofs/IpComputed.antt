@@ -27,7 +27,7 @@ map-Some f (Some v) w e = (v, refl, cc)
 map-Some f None w e = absurd (cc)
 
 -- a value that the rules of a version give is of that version
-header_of_version-Some : (verified : Bool) (bytes : List ℕ) (number : IpVersion) (v : IpRepr) → header_of_version verified bytes number ≡ Some v
+pub header_of_version-Some : (verified : Bool) (bytes : List ℕ) (number : IpVersion) (v : IpRepr) → header_of_version verified bytes number ≡ Some v
     → (version_of v ≡ number) × ReadsHeader bytes verified v
 header_of_version-Some verified bytes version.Ipv4 v e =
     let (w, read, is) = map-Some Ipv4 (ipv4_of verified bytes) v e in

@@ -1,7 +1,7 @@
-use Rattle.std.proofs.Common.{◌≡◌, ◌∙◌, Some, None, true, false, refl, sym, ap, slice_range, arith, rules}
+use Rattle.std.proofs.Common.{◌≡◌, ◌∙◌, inl, inr, Some, None, true, false, refl, sym, ap, slice_range, arith, rules}
 use Rattle.std.proofs.lemmas.Grind.{common_steps}
 use Rattle.ip_frames.proofs.Texts.{equal-test, inner_lines-fragment, inner_lines-whole}
-use Rattle.ip_wire.proofs.Frames.{ipv4_packet_of-fragment, ipv4_packet_of-unread, rebuilt-ipv4, rebuilt-ipv4-copied}
+use Rattle.ip_wire.proofs.Frames.{rebuilt-ipv4, rebuilt-ipv4-copied}
 use Rattle.ip_wire.specs.Field.{field}
 use Rattle.ip_wire.specs.Ipv4.{header_len, ipv4_of, is_fragment, total_len}
 use Rattle.net_base.specs.Checksum.{verifies}
@@ -27,7 +27,7 @@ pub returns-in_ok-push_fragment_line-in-Ok-clause-again : goal.returns-in_ok-pus
 returns-in_ok-push_fragment_line-in-Ok-clause-again c =
     let bytes = c.args.bytes.now in
     let part : is_fragment bytes ≡ true = ap (λ slice. is_fragment slice.now) (sym c.new_unchecked-packet.ensures) ∙ sym c.is_fragment.ensures ∙ c.if-is_fragment.true in
-    rw (rebuilt-ipv4-copied bytes (ipv4_packet_of-fragment bytes part)) (search rules)
+    rw (rebuilt-ipv4-copied bytes (inr part)) (search rules)
 
 pub returns-else-is_fragment-clause-lines : goal.returns-else-is_fragment-clause-lines
 returns-else-is_fragment-clause-lines c =
@@ -52,4 +52,4 @@ returns-in-Err-clause-again c =
     let bytes = c.args.bytes.now in
     let caps : verifies c.default.result.ipv4 ≡ true = search rules in
     let unread : ipv4_of true bytes ≡ None = rw (caps, c.new_unchecked-packet.ensures) at c.in-Err.ensures.value in
-    rw (rebuilt-ipv4-copied bytes (ipv4_packet_of-unread bytes unread)) (search rules)
+    rw (rebuilt-ipv4-copied bytes (inl unread)) (search rules)

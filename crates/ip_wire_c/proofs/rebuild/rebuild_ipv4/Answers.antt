@@ -1,6 +1,5 @@
-use Rattle.std.proofs.Common.{◌≡◌, ◌∙◌, Some, None, true, false, ap, sym, slice_range, rules}
-use Rattle.ip_wire.proofs.Frames.{ipv4_packet_of-fragment, ipv4_packet_of-unread, rebuilt-ipv4, rebuilt-ipv4-copied}
-use Rattle.ip_wire.specs.Frame.{ipv4_packet_of}
+use Rattle.std.proofs.Common.{◌≡◌, ◌∙◌, ◌⊎◌, inl, inr, Some, None, true, false, ap, sym, slice_range, rules}
+use Rattle.ip_wire.proofs.Frames.{rebuilt-ipv4, rebuilt-ipv4-copied}
 use Rattle.ip_wire.specs.Ipv4.{header_len, ipv4_of, is_fragment, total_len}
 use Rattle.net_base.specs.Checksum.{verifies}
 use Rattle.ip_wire_c.proofs.rebuild.rebuild_ipv4.Goals.{in_default-via-in-Ok+else-not-is_fragment, in_default-via-in_default}
@@ -19,11 +18,9 @@ pub returns-in_default : goal.returns-in_default
 returns-in_default c =
     let bytes = c.args.bytes.now in
     let caps : verifies c.default.result.ipv4 ≡ true = search rules in
-    let copied : ipv4_packet_of bytes ≡ None = elim c.in_default.branch [
+    let copied : (ipv4_of true bytes ≡ None) ⊎ (is_fragment bytes ≡ true) = elim c.in_default.branch [
       | in_default-via-in-Ok+else-not-is_fragment w ↦
-          ipv4_packet_of-fragment bytes (ap (λ slice. is_fragment slice.now) (sym c.new_unchecked-packet.ensures) ∙ sym w.is_fragment.ensures ∙ w.if-not-is_fragment.false)
-      | in_default-via-in_default w ↦
-          let unread : ipv4_of true bytes ≡ None = rw (caps, c.new_unchecked-packet.ensures) at w.in_default.ensures.value in
-          ipv4_packet_of-unread bytes unread
+          inr (ap (λ slice. is_fragment slice.now) (sym c.new_unchecked-packet.ensures) ∙ sym w.is_fragment.ensures ∙ w.if-not-is_fragment.false)
+      | in_default-via-in_default w ↦ inl (rw (caps, c.new_unchecked-packet.ensures) at w.in_default.ensures.value)
     ] in
     rw (rebuilt-ipv4-copied bytes copied) c.copy.ensures
