@@ -142,7 +142,7 @@ asked-le (i ∷ items) all =
     let e = field_step stamp_in 10 (last_of is_timestamp items) (is_timestamp i) i in
     omega (arith, later, own, a, b, c, d, e, length-append (text i) (texts items))
 
-some_map : {X Y : Type 0} (f : X → Y) (o : Option X) → is_some (option_map f o) ≡ is_some o
+pub some_map : {X Y : Type 0} (f : X → Y) (o : Option X) → is_some (option_map f o) ≡ is_some o
 some_map f None = refl
 some_map f (Some x) = refl
 

@@ -30,11 +30,12 @@ last_of-append : (p : Item → Bool) (xs ys : List Item) → last_of p (xs ++ ys
 last_of-append p [] ys = sym (or_none (last_of p ys))
 last_of-append p (x ∷ xs) ys = ap (λ o. option_or o (cond (p x) (Some x) None)) (last_of-append p xs ys) ∙ or_assoc (last_of p ys) (last_of p xs) (cond (p x) (Some x) None)
 
--- of the four groups of items
-last_of_four : (p : Item → Bool) (a b c d : List Item) → last_of p (a ++ b ++ c ++ d) ≡ option_or (last_of p d) (option_or (last_of p c) (option_or (last_of p b) (last_of p a)))
-last_of_four p a b c d =
-    last_of-append p (a ++ b ++ c) d
-    ∙ ap (option_or (last_of p d)) (last_of-append p (a ++ b) c ∙ ap (option_or (last_of p c)) (last_of-append p a b))
+-- of two lists, one of which has none
+in_front : (p : Item → Bool) (xs ys : List Item) → last_of p ys ≡ None → last_of p (xs ++ ys) ≡ last_of p xs
+in_front p xs ys none = last_of-append p xs ys ∙ ap (λ o. option_or o (last_of p xs)) none
+
+in_back : (p : Item → Bool) (xs ys : List Item) → last_of p xs ≡ None → last_of p (xs ++ ys) ≡ last_of p ys
+in_back p xs ys none = last_of-append p xs ys ∙ ap (option_or (last_of p ys)) none ∙ or_none (last_of p ys)
 
 no_segment : (p : Item → Bool) → ((c : List ℕ) → p (item 2 c) ≡ false) → (o : Option ℕ) → last_of p (segment_size_items o) ≡ None
 no_segment p h None = refl
@@ -224,32 +225,16 @@ zeros_end zero = tt
 zeros_end (suc n) = refl
 
 one_of_four : (p : Item → Bool) (a b c d : List Item) → last_of p b ≡ None → last_of p c ≡ None → last_of p d ≡ None → last_of p (a ++ b ++ c ++ d) ≡ last_of p a
-one_of_four p a b c d hb hc hd =
-    last_of_four p a b c d
-    ∙ ap (λ o. option_or o (option_or (last_of p c) (option_or (last_of p b) (last_of p a)))) hd
-    ∙ ap (λ o. option_or o (option_or (last_of p b) (last_of p a))) hc
-    ∙ ap (λ o. option_or o (last_of p a)) hb
+one_of_four p a b c d hb hc hd = in_front p (a ++ b ++ c) d hd ∙ in_front p (a ++ b) c hc ∙ in_front p a b hb
 
 two_of_four : (p : Item → Bool) (a b c d : List Item) → last_of p a ≡ None → last_of p c ≡ None → last_of p d ≡ None → last_of p (a ++ b ++ c ++ d) ≡ last_of p b
-two_of_four p a b c d ha hc hd =
-    last_of_four p a b c d
-    ∙ ap (λ o. option_or o (option_or (last_of p c) (option_or (last_of p b) (last_of p a)))) hd
-    ∙ ap (λ o. option_or o (option_or (last_of p b) (last_of p a))) hc
-    ∙ ap (option_or (last_of p b)) ha ∙ or_none (last_of p b)
+two_of_four p a b c d ha hc hd = in_front p (a ++ b ++ c) d hd ∙ in_front p (a ++ b) c hc ∙ in_back p a b ha
 
 three_of_four : (p : Item → Bool) (a b c d : List Item) → last_of p a ≡ None → last_of p b ≡ None → last_of p d ≡ None → last_of p (a ++ b ++ c ++ d) ≡ last_of p c
-three_of_four p a b c d ha hb hd =
-    last_of_four p a b c d
-    ∙ ap (λ o. option_or o (option_or (last_of p c) (option_or (last_of p b) (last_of p a)))) hd
-    ∙ ap (λ o. option_or (last_of p c) (option_or o (last_of p a))) hb
-    ∙ ap (option_or (last_of p c)) ha ∙ or_none (last_of p c)
+three_of_four p a b c d ha hb hd = in_front p (a ++ b ++ c) d hd ∙ in_back p (a ++ b) c (in_front p a b hb ∙ ha)
 
 four_of_four : (p : Item → Bool) (a b c d : List Item) → last_of p a ≡ None → last_of p b ≡ None → last_of p c ≡ None → last_of p (a ++ b ++ c ++ d) ≡ last_of p d
-four_of_four p a b c d ha hb hc =
-    last_of_four p a b c d
-    ∙ ap (λ o. option_or (last_of p d) (option_or o (option_or (last_of p b) (last_of p a)))) hc
-    ∙ ap (λ o. option_or (last_of p d) (option_or o (last_of p a))) hb
-    ∙ ap (option_or (last_of p d)) ha ∙ or_none (last_of p d)
+four_of_four p a b c d ha hb hc = in_back p (a ++ b ++ c) d (in_front p (a ++ b) c hc ∙ in_front p a b hb ∙ ha)
 
 -- the options that are written are read as the normal form
 pub options_back : (v : TcpHeader) → IsInRange v → ReadsOptions (option_bytes v) (normal v)
