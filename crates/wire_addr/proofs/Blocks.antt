@@ -240,16 +240,18 @@ member-test m n x y mask xs ys are_xs are_ys within ex ey em =
           (x_is ∙ ap (λ v. v * 2 ^ s) (numbers_from_agree m n s xs ys are_xs are_ys e agree) ∙ sym y_is),
     )
 
--- where its own address is in the other block, the lengths decide; where it is not, no more is needed
-pub within-test : (m p q : ℕ) (xs ys : List ℕ) → AreOctets m xs → q ≤ 8 * m → AgreeFirst q ys xs
+-- the test of `contains_subnet`, where the other block contains the address: the prefix lengths decide
+pub within-test : (m p q : ℕ) (xs ys : List ℕ) (contains : Bool) → AreOctets m xs → q ≤ 8 * m → (IsTrue contains ↔ AgreeFirst q ys xs) → contains ≡ true
     → IsTrue (nat_le q p) ↔ IsWithin m (record { address = xs; prefix_len = p }) (record { address = ys; prefix_len = q })
-within-test m p q xs ys are bound member =
+within-test m p q xs ys contains are bound test is =
     let both = IsWithin-member m p q xs ys are bound in
     ((λ t. both.0 (leb-true q p t, member)), (λ within. le-leb q p (both.1 within).0))
 
-pub not_within : (m p q : ℕ) (xs ys : List ℕ) → AreOctets m xs → q ≤ 8 * m → ¬ (AgreeFirst q ys xs)
-    → ¬ (IsWithin m (record { address = xs; prefix_len = p }) (record { address = ys; prefix_len = q }))
-not_within m p q xs ys are bound apart within = apart ((IsWithin-member m p q xs ys are bound).1 within).1
+-- and where it does not: the block is not within the other
+pub outside-test : (m p q : ℕ) (xs ys : List ℕ) (contains : Bool) → AreOctets m xs → q ≤ 8 * m → (IsTrue contains ↔ AgreeFirst q ys xs) → contains ≡ false
+    → IsTrue contains ↔ IsWithin m (record { address = xs; prefix_len = p }) (record { address = ys; prefix_len = q })
+outside-test m p q xs ys contains are bound test is =
+    ((λ t. absurd (false≢true (sym is ∙ t))), (λ within. absurd (false≢true (sym is ∙ test.1 ((IsWithin-member m p q xs ys are bound).1 within).1))))
 
 -- the ones at the front are the prefix exactly where the number is the mask with so many ones
 pub prefix-test : (m ones bits mask : ℕ) (xs : List ℕ) → AreOctets m xs → bits ≡ number_of xs
