@@ -7,13 +7,14 @@ use Rattle.std.specs.Result.{result_ok}
 use Rattle.net_base.specs.declared.error.Error.{Error}
 use Rattle.wire_ends.specs.declared.ip_address.IpAddress.{IpAddress}
 use Rattle.wire_field.specs.Field.{field}
-use Rattle.wire_tcp.specs.Tcp.{HasLengths, has_lengths, options_of, payload_of, segment_sum}
+use Rattle.wire_tcp.specs.Tcp.{has_lengths, options_of, payload_of, segment_sum}
 use Rattle.wire_tcp.specs.TcpItems.{Item}
 use Rattle.wire_tcp.specs.declared.tcp.control.TcpControl.{TcpControl}
 use Rattle.wire_tcp.specs.declared.tcp.control.TcpControl.TheVariants as control
 use Rattle.wire_tcp_repr.specs.TcpRepr.{HasControl, HasFlags, HasNoReading, Reads, TcpHeader, control_by, control_of, header_of, header_with, is_sound, items_in, tcp_of}
 use Rattle.wire_tcp_repr.specs.declared.tcp.repr.TcpRepr.{TcpRepr}
 use Rattle.wire_tcp_repr.proofs.OptionItems.{items_in-list}
+pub use Rattle.wire_tcp.proofs.TcpLengths.{HasLengths-has_lengths, has_lengths-HasLengths}
 
 -- ---- what the flags ask for
 
@@ -114,17 +115,6 @@ together : (lengths sender receiver verified holds : Bool) → lengths ≡ true 
     → (lengths && not sender && not receiver && (not verified || holds)) ≡ true
 together lengths sender receiver true holds l s r h = rw (l, s, r, h refl) refl
 together lengths sender receiver false holds l s r h = rw (l, s, r) refl
-
--- the test of the lengths says what it is named for
-pub has_lengths-HasLengths : (bytes : List ℕ) → has_lengths bytes ≡ true → HasLengths bytes
-has_lengths-HasLengths bytes h = record {
-  least = grind (arith, nat_tests);
-  header = grind (arith, nat_tests);
-  whole = grind (arith, nat_tests);
-}
-
-pub HasLengths-has_lengths : (bytes : List ℕ) → HasLengths bytes → has_lengths bytes ≡ true
-HasLengths-has_lengths bytes h = grind (arith, nat_tests)
 
 -- a choice that gives a value
 chosen : (b : Bool) (o : Option TcpHeader) (v : TcpHeader) → (if b then o else None) ≡ Some v → (b ≡ true) × (o ≡ Some v)

@@ -1,10 +1,10 @@
 -- What was read is in range, and its normal form, or that form's header is shorter.
-use Rattle.std.proofs.Common.{ℕ, zero, suc, ◌≡◌, ◌⊎◌, inl, inr, ◌+◌, ◌-◌, ◌*◌, ◌^◌, ◌<◌, ◌≤◌, ◌||◌, ◌==◌, eqb, nat_lt, min, Bool, true, false, IsTrue, cond, List, [], ◌∷◌, ◌++◌, length, drop, map, take, count_by, replicate, Option, Some, None, IfSome, is_some, is_none, refl, sym, ap, subst, ◌∙◌, append_assoc, length-append, arith}
+use Rattle.std.proofs.Common.{ℕ, zero, suc, ◌≡◌, ◌⊎◌, inl, inr, ◌+◌, ◌-◌, ◌*◌, ◌^◌, ◌<◌, ◌≤◌, ◌||◌, ◌==◌, eqb, nat_lt, min, Bool, true, false, IsTrue, cond, List, [], ◌∷◌, ◌++◌, length, drop, map, count_by, replicate, Option, Some, None, IfSome, is_some, is_none, refl, sym, ap, subst, ◌∙◌, append_assoc, length-append, arith}
 use Rattle.std.specs.List.{AllByRecursion, range_with_len}
 use Rattle.std.specs.Option.{option_map, option_map_or, option_or}
 use Rattle.std.specs.Prelude.{⊤}
 use Rattle.std.proofs.lemmas.Bool.{cases_Bool, eqb-true, eqb-false, false_from_ne_true, ltb-true, ltb-false}
-use Rattle.std.proofs.lemmas.List.{get_or-drop, length-map, length-replicate, take-append-drop}
+use Rattle.std.proofs.lemmas.List.{length-map, length-replicate}
 use Rattle.std.proofs.Math.Facts.{sfits_to_z}
 use Rattle.byteorder.specs.Endian.{big_number}
 use Rattle.wire_ends.specs.declared.ip_address.IpAddress.{IpAddress}
