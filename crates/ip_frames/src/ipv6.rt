@@ -34,12 +34,13 @@ pub fn push_packet(bytes: &[u8], text: &mut String, again: &mut Vec<u8>) -> Resu
 fn push_fragment_line(payload: &[u8], text: &mut String) -> Result<(), AllocError>
     ensures { OnOk result (AddsText text.old text.new (fragment_header_line payload.now)) }
 {
-    let header = Ipv6FragmentHeader::new_unchecked(after_two(payload));
+    let header = Ipv6FragmentHeader::new_unchecked(skip_next_header(payload));
     writeln!(text, "{header}")
 }
 
-// What follows the first two bytes, where there are so many.
-fn after_two(bytes: &[u8]) -> &[u8]
+// The bytes of a fragment header behind the next header and the reserved byte. The view begins
+// there (RFC 8200, section 4.5).
+fn skip_next_header(bytes: &[u8]) -> &[u8]
     ensures { result.now ≡ drop 2 bytes.now }
 {
     match bytes {

@@ -9,8 +9,8 @@ use crate::totals::{around, finish, total, total_here, total_of_words};
 use wire_addr::{Ipv4Address, Ipv6Address};
 use wire_ends::{IpAddress, IpProtocol};
 
-/// The sum of numbers, such as the sums of the parts of a packet: 0 where each of them is 0, else the
-/// one number in 1 to 65535 that is congruent to their plain sum modulo 65535.
+/// Adds numbers, such as the sums of the parts of a packet. The result is 0 if all numbers are 0.
+/// Else it is the number in 1 to 65535 that is congruent to their plain sum modulo 65535.
 pub fn combine(sums: &[u16]) -> u16
     ensures { result ≡ sum_of sums.now }
 {

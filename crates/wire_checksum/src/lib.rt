@@ -2,6 +2,6 @@
 #![tactic(auto)]
 
 pub mod checksum;
+pub mod for_emit;
 pub mod laws;
-pub mod parts;
 mod totals;

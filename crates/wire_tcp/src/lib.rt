@@ -6,5 +6,5 @@ mod tcp;
 
 pub use tcp::{
     SACK_BLOCKS, TCP_HEADER_LEN, TCP_MAX_HEADER_LEN, TcpControl, TcpOption, TcpOptionSummary,
-    TcpPacket, TcpPacketMut, TcpSeqNumber, TcpTimestampGenerator, TcpTimestampRepr, parts,
+    TcpPacket, TcpPacketMut, TcpSeqNumber, TcpTimestampGenerator, TcpTimestampRepr, for_emit,
 };

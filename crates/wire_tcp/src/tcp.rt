@@ -1,10 +1,10 @@
 //! TCP segments (RFC 9293, section 3.1).
 
 mod control;
+pub mod for_emit;
 mod option;
 mod packet;
 mod packet_mut;
-pub mod parts;
 mod seq_number;
 mod summary;
 mod text;

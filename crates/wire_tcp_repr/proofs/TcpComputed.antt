@@ -102,14 +102,14 @@ Reads-is src dst verified bytes payload v r =
     (sym r.options.window_scale) (sym r.options.max_seg_size) (sym r.options.sack_permitted) (sym r.options.sack_ranges) (sym r.options.timestamp)
 
 -- the parts of the whole test
-parts : (lengths sender receiver verified holds : Bool) → (lengths && not sender && not receiver && (not verified || holds)) ≡ true
+conjuncts : (lengths sender receiver verified holds : Bool) → (lengths && not sender && not receiver && (not verified || holds)) ≡ true
     → (lengths ≡ true) × (sender ≡ false) × (receiver ≡ false) × (IsTrue verified → holds ≡ true)
-parts true false false true true e = (refl, refl, refl, λ on. refl)
-parts true false false true false e = absurd (cc)
-parts true false false false holds e = (refl, refl, refl, λ on. absurd (cc))
-parts true false true verified holds e = absurd (cc)
-parts true true receiver verified holds e = absurd (cc)
-parts false sender receiver verified holds e = absurd (cc)
+conjuncts true false false true true e = (refl, refl, refl, λ on. refl)
+conjuncts true false false true false e = absurd (cc)
+conjuncts true false false false holds e = (refl, refl, refl, λ on. absurd (cc))
+conjuncts true false true verified holds e = absurd (cc)
+conjuncts true true receiver verified holds e = absurd (cc)
+conjuncts false sender receiver verified holds e = absurd (cc)
 
 together : (lengths sender receiver verified holds : Bool) → lengths ≡ true → sender ≡ false → receiver ≡ false → (IsTrue verified → holds ≡ true)
     → (lengths && not sender && not receiver && (not verified || holds)) ≡ true
@@ -133,7 +133,7 @@ tcp_of-reads : (src dst : IpAddress) (verified : Bool) (bytes : List ℕ) (v : T
 unfolding tcp_of
 tcp_of-reads src dst verified bytes v e =
     let (sound, given) = chosen (is_sound src dst verified bytes) (option_and_then (λ asked. option_map (header_with bytes asked) (items_in (options_of bytes))) (control_of bytes)) v e in
-    let (lengths, sender, receiver, holds) = parts (has_lengths bytes) (field bytes 0 16 == 0) (field bytes 16 16 == 0) verified (segment_sum src dst bytes == 65535) sound in
+    let (lengths, sender, receiver, holds) = conjuncts (has_lengths bytes) (field bytes 0 16 == 0) (field bytes 16 16 == 0) verified (segment_sum src dst bytes == 65535) sound in
     let (c, asks, made) = asked (control_of bytes) (λ asked. option_map (header_with bytes asked) (items_in (options_of bytes))) v given in
     let (items, are, is) = valued (items_in (options_of bytes)) (header_with bytes c) v made in
     let (tail, list) = (items_in-list (options_of bytes) items).0 are in

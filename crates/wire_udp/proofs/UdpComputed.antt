@@ -50,12 +50,12 @@ has_checksum-HasChecksum src dst bytes = (
 )
 
 -- the parts of the whole test
-parts : (lengths none verified holds : Bool) → (lengths && not none && (not verified || holds)) ≡ true → (lengths ≡ true) × (none ≡ false) × (IsTrue verified → holds ≡ true)
-parts true false true true e = (refl, refl, λ on. refl)
-parts true false true false e = absurd (cc)
-parts true false false holds e = (refl, refl, λ on. absurd (cc))
-parts true true verified holds e = absurd (cc)
-parts false none verified holds e = absurd (cc)
+conjuncts : (lengths none verified holds : Bool) → (lengths && not none && (not verified || holds)) ≡ true → (lengths ≡ true) × (none ≡ false) × (IsTrue verified → holds ≡ true)
+conjuncts true false true true e = (refl, refl, λ on. refl)
+conjuncts true false true false e = absurd (cc)
+conjuncts true false false holds e = (refl, refl, λ on. absurd (cc))
+conjuncts true true verified holds e = absurd (cc)
+conjuncts false none verified holds e = absurd (cc)
 
 together : (lengths none verified holds : Bool) → lengths ≡ true → none ≡ false → (IsTrue verified → holds ≡ true) → (lengths && not none && (not verified || holds)) ≡ true
 together lengths none true holds l n h = rw (l, n, h refl) refl
@@ -64,7 +64,7 @@ together lengths none false holds l n h = rw (l, n) refl
 is_read-Reads : (src dst : IpAddress) (verified : Bool) (bytes : List ℕ) → is_read src dst verified bytes ≡ true
     → Reads bytes src dst verified (header_of bytes) (payload_of bytes)
 is_read-Reads src dst verified bytes h =
-    let (lengths, port, checksum) = parts (has_lengths bytes) (field bytes 16 16 == 0) verified (has_checksum src dst bytes) h in
+    let (lengths, port, checksum) = conjuncts (has_lengths bytes) (field bytes 16 16 == 0) verified (has_checksum src dst bytes) h in
     record {
       lengths = has_lengths-HasLengths bytes lengths;
       receiver = grind (arith, nat_tests);

@@ -136,7 +136,7 @@ impl<'a> TcpOption<'a> {
         ensures* writes_back { sem 𝓛 (LendsRest buffer.entry (option_text self.now) result) }
         ensures value { result.now ≡ rest_after self.now buffer.old }
     {
-        locate_rest(buffer, self).lend()
+        write_and_locate_rest(buffer, self).lend()
     }
 
     // Writes the option over all of the bytes.
@@ -172,8 +172,9 @@ impl<'a> TcpOption<'a> {
     }
 }
 
-// Writes the option to the front of the bytes, and locates those behind it.
-fn locate_rest<'b>(buffer: &'b mut [u8], option: &TcpOption<'_>) -> Located<'b>
+// Writes the option to the front of the buffer. Returns the buffer, and the range of the bytes
+// behind the option.
+fn write_and_locate_rest<'b>(buffer: &'b mut [u8], option: &TcpOption<'_>) -> Located<'b>
     requires room { option_len option.now ≤ length buffer.old }
     requires fits { IsEmittable option.now }
     ensures { let rest = rest_after option.now buffer.old in

@@ -14,7 +14,7 @@ use super::TcpRepr;
 use net_base::ChecksumCapabilities;
 use wire_ends::IpAddress;
 use wire_tcp::{
-    TCP_HEADER_LEN, TcpControl, TcpOption, TcpPacketMut, TcpSeqNumber, TcpTimestampRepr, parts,
+    TCP_HEADER_LEN, TcpControl, TcpOption, TcpPacketMut, TcpSeqNumber, TcpTimestampRepr, for_emit,
 };
 
 // The flag ACK.
@@ -42,11 +42,11 @@ impl TcpRepr<'_> {
     {
         let header_len = self.header_len();
         let fixed = self.fixed(header_len);
-        parts::write_bytes(packet, 0, &fixed);
+        for_emit::write_bytes(packet, 0, &fixed);
         self.emit_options(packet, header_len);
-        parts::write_bytes(packet, header_len, self.payload);
+        for_emit::write_bytes(packet, header_len, self.payload);
         if caps.tcp.tx() {
-            parts::write_checksum(packet, &fixed, src_addr, dst_addr);
+            for_emit::write_checksum(packet, &fixed, src_addr, dst_addr);
         }
     }
 
@@ -58,7 +58,7 @@ impl TcpRepr<'_> {
         ensures { let v = header_of self.now in
             result ≡ fixed_bytes v.src_port v.dst_port (number v.seq_number) (ack_bits v) (offset_and_flags v) v.window_len }
     {
-        parts::fixed(
+        for_emit::fixed(
             self.src_port,
             self.dst_port,
             bits_of(self.seq_number),
@@ -100,7 +100,7 @@ impl TcpRepr<'_> {
         let scaled = self.emit_window_scale(packet, sized);
         let acknowledged = self.emit_sack(packet, scaled);
         let stamped = self.emit_timestamp(packet, acknowledged);
-        parts::write_zeros(packet, stamped, header_len);
+        for_emit::write_zeros(packet, stamped, header_len);
     }
 
     // Writes the largest segment size at a place, if there is one, and answers the place behind it.
@@ -110,7 +110,7 @@ impl TcpRepr<'_> {
         ensures written { Becomes packet.old packet.new (with_range (packet_bytes_mut packet.old) at result (texts (segment_size_items self.now.max_seg_size))) }
     {
         match self.max_seg_size {
-            Some(size) => parts::write_option(packet, at, &TcpOption::MaxSegmentSize(size)),
+            Some(size) => for_emit::write_option(packet, at, &TcpOption::MaxSegmentSize(size)),
             None => at,
         }
     }
@@ -122,7 +122,7 @@ impl TcpRepr<'_> {
         ensures written { Becomes packet.old packet.new (with_range (packet_bytes_mut packet.old) at result (texts (window_scale_items self.now.window_scale))) }
     {
         match self.window_scale {
-            Some(scale) => parts::write_option(packet, at, &TcpOption::WindowScale(scale)),
+            Some(scale) => for_emit::write_option(packet, at, &TcpOption::WindowScale(scale)),
             None => at,
         }
     }
@@ -135,10 +135,10 @@ impl TcpRepr<'_> {
         ensures written { Becomes packet.old packet.new (with_range (packet_bytes_mut packet.old) at result (texts (sack_items (header_of self.now)))) }
     {
         if self.sack_permitted {
-            parts::write_option(packet, at, &TcpOption::SackPermitted)
-        } else if self.ack_number.is_some() && parts::count_ranges(&self.sack_ranges) != 0 {
+            for_emit::write_option(packet, at, &TcpOption::SackPermitted)
+        } else if self.ack_number.is_some() && for_emit::count_ranges(&self.sack_ranges) != 0 {
             let ranges = self.sack_ranges;
-            parts::write_option(packet, at, &TcpOption::SackRange(ranges))
+            for_emit::write_option(packet, at, &TcpOption::SackRange(ranges))
         } else {
             at
         }
@@ -152,7 +152,7 @@ impl TcpRepr<'_> {
     {
         match self.timestamp {
             Some(TcpTimestampRepr { tsval, tsecr }) => {
-                parts::write_option(packet, at, &TcpOption::TimeStamp { tsval, tsecr })
+                for_emit::write_option(packet, at, &TcpOption::TimeStamp { tsval, tsecr })
             }
             None => at,
         }

@@ -12,7 +12,7 @@ ghost use Rattle.wire_tcp_repr.specs.TcpRepr.{HasControl, HasNoControl, HasNoRea
 use net_base::{ChecksumCapabilities, Error, Result};
 use wire_ends::IpAddress;
 use wire_tcp::{
-    SACK_BLOCKS, TCP_HEADER_LEN, TcpControl, TcpPacket, TcpSeqNumber, TcpTimestampRepr, parts,
+    SACK_BLOCKS, TCP_HEADER_LEN, TcpControl, TcpPacket, TcpSeqNumber, TcpTimestampRepr, for_emit,
 };
 
 // The largest window scale that counts (RFC 7323, section 2.3).
@@ -111,7 +111,7 @@ impl<'a> TcpRepr<'a> {
         if self.sack_permitted {
             len += 2;
         }
-        let ranges = parts::count_ranges(&self.sack_ranges);
+        let ranges = for_emit::count_ranges(&self.sack_ranges);
         if ranges != 0 {
             len += 2 + 8 * ranges;
         }

@@ -11,7 +11,7 @@ ghost use Rattle.wire_udp.specs.declared.udp.repr.UdpRepr.{UdpRepr};
 use super::{UDP_HEADER_LEN, UdpPacket, UdpPacketMut, checksum_for};
 use net_base::{ChecksumCapabilities, Error, Result};
 use std::fmt;
-use wire_checksum::parts;
+use wire_checksum::for_emit;
 use wire_ends::{IpAddress, IpProtocol};
 
 /// The values of a packet's header that are more than its layout.

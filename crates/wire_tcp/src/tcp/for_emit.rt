@@ -49,7 +49,7 @@ pub fn write_checksum(
         Becomes packet.old packet.new (with_field bytes 128 16 (65535 - segment_sum src_addr.now dst_addr.now bytes)) }
 {
     let (_, rest) = packet.as_bytes().split_at(TCP_HEADER_LEN);
-    let sum = wire_checksum::parts::packet(*src_addr, *dst_addr, IpProtocol::Tcp, fixed, rest);
+    let sum = wire_checksum::for_emit::packet(*src_addr, *dst_addr, IpProtocol::Tcp, fixed, rest);
     packet.set_checksum(!sum);
 }
 
