@@ -12,6 +12,7 @@ pub use super::option::count_ranges;
 use super::{TCP_HEADER_LEN, TcpOption, TcpPacketMut};
 use byteorder::{ByteOrder, NetworkEndian};
 use wire_ends::{IpAddress, IpProtocol};
+use wire_field::write_at;
 
 /// A header up to its options: the ports, the two numbers, the word that holds the header's length and
 /// the flags, the window, and 0 for the checksum and the urgent pointer.
@@ -97,9 +98,5 @@ pub fn write_bytes(packet: &mut TcpPacketMut<'_>, start: usize, bytes: &[u8])
     requires { start + length bytes.now ≤ length (packet_bytes_mut packet.old) }
     ensures { Becomes packet.old packet.new (with_range (packet_bytes_mut packet.old) start (start + length bytes.now) bytes.now) }
 {
-    if bytes.is_empty() {
-        return;
-    }
-    let end = start + bytes.len();
-    packet.buffer[start..end].copy_from_slice(bytes);
+    write_at(packet.buffer, start, bytes);
 }

@@ -14,7 +14,7 @@ use byteorder::{ByteOrder, NetworkEndian};
 use net_base::{Error, Result};
 use wire_checksum::checksum;
 use wire_ends::{IpAddress, IpProtocol};
-use wire_field::{Checked, Located};
+use wire_field::{Checked, Located, write_at};
 
 impl<'a> UdpPacketMut<'a> {
     /// The view of bytes that `check_len` takes. An error leaves them as they are.
@@ -80,11 +80,7 @@ impl<'a> UdpPacketMut<'a> {
         requires { 8 + length payload.now ≤ length (packet_bytes_mut self.old) }
         ensures { Becomes self.old self.new (with_range (packet_bytes_mut self.old) 8 (8 + length payload.now) payload.now) }
     {
-        if payload.is_empty() {
-            return;
-        }
-        let end = UDP_HEADER_LEN + payload.len();
-        self.buffer[UDP_HEADER_LEN..end].copy_from_slice(payload);
+        write_at(self.buffer, UDP_HEADER_LEN, payload);
     }
 
     /// Writes the checksum of the packet as it stands: the complement of the sum of its other words and
