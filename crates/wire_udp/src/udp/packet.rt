@@ -3,7 +3,7 @@
 ghost use Rattle.std.specs.Prelude.{◌≡◌, ◌↔◌, ◌≤◌, ◌⊎◌, IfOk, IsOk, IsTrue, Some, length};
 ghost use Rattle.wire_ends.specs.IpAddress.{version_of};
 ghost use Rattle.wire_field.specs.Field.{field};
-ghost use Rattle.wire_udp.specs.Udp.{HasLengths, Verifies, packet_bytes, packet_len, packet_slice, payload_of, pseudo_header_sum};
+ghost use Rattle.wire_udp.specs.Udp.{HasChecksum, HasLengths, Verifies, has_checksum, packet_bytes, packet_len, packet_slice, payload_of, pseudo_header_sum};
 ghost use Rattle.wire_udp.specs.UdpText.{packet_text};
 
 use super::UDP_HEADER_LEN;
@@ -130,6 +130,23 @@ impl<B: Octets> UdpView<B> {
         }
         let packet = &self.as_bytes()[..usize::from(self.len())];
         checksum::packet(*src_addr, *dst_addr, IpProtocol::Udp, packet) == 0xffff
+    }
+
+    /// Returns `true` if the checksum is correct, or if it is 0 and the addresses are IPv4. Over IPv6
+    /// the sender must compute a checksum (RFC 8200, section 8.1).
+    #[inline(always)]
+    pub fn has_valid_checksum(&self, src_addr: &IpAddress, dst_addr: &IpAddress) -> bool
+        requires header { 8 ≤ length (B.octets (packet_slice self.now)) }
+        requires whole { packet_len (B.octets (packet_slice self.now)) ≤ length (B.octets (packet_slice self.now)) }
+        requires family { version_of src_addr.now ≡ version_of dst_addr.now }
+        ensures holds { IsTrue result ↔ HasChecksum src_addr.now dst_addr.now (B.octets (packet_slice self.now)) }
+        ensures value { result ≡ has_checksum src_addr.now dst_addr.now (B.octets (packet_slice self.now)) }
+    {
+        if self.checksum() == 0 {
+            matches!(src_addr, IpAddress::Ipv4(_))
+        } else {
+            self.verify_checksum(src_addr, dst_addr)
+        }
     }
 }
 

@@ -1,10 +1,10 @@
 //! The values of a UDP header.
 
-ghost use Rattle.std.specs.Prelude.{◌≡◌, ◌↔◌, ◌≤◌, ◌+◌, ◌++◌, IsTrue, Ok, OnOk, Some, drop, length};
+ghost use Rattle.std.specs.Prelude.{◌≡◌, ◌↔◌, ◌≤◌, ◌+◌, ◌++◌, Ok, OnOk, Some, drop, length};
 ghost use Rattle.std.specs.Result.{result_ok};
 ghost use Rattle.net_base.specs.Checksum.{computes, verifies};
 ghost use Rattle.wire_ends.specs.IpAddress.{version_of};
-ghost use Rattle.wire_udp.specs.Udp.{Becomes, HasChecksum, HasLengths, Reads, bytes_of, checksum_for, header_bytes, max_payload_len, packet_bytes, packet_bytes_mut, packet_sum, packet_with, payload_of, udp_of};
+ghost use Rattle.wire_udp.specs.Udp.{Becomes, HasLengths, Reads, bytes_of, checksum_for, header_bytes, max_payload_len, packet_bytes, packet_bytes_mut, packet_sum, packet_with, payload_of, udp_of};
 ghost use Rattle.wire_udp.specs.UdpText.{value_text};
 ghost use Rattle.wire_udp.specs.declared.udp.repr.UdpRepr.{UdpRepr};
 
@@ -42,7 +42,7 @@ impl UdpRepr {
         if packet.dst_port() == 0 {
             return Err(Error);
         }
-        if caps.udp.rx() && !has_checksum(packet, src_addr, dst_addr) {
+        if caps.udp.rx() && !packet.has_valid_checksum(src_addr, dst_addr) {
             return Err(Error);
         }
         Ok(UdpRepr {
@@ -118,21 +118,7 @@ impl UdpRepr {
         let [c, d] = self.dst_port.to_be_bytes();
         let [e, f] = ((UDP_HEADER_LEN + payload.len()) as u16).to_be_bytes();
         let header = [a, b, c, d, e, f, 0, 0];
-        checksum_for(parts::packet(src_addr, dst_addr, IpProtocol::Udp, &header, payload))
-    }
-}
-
-// Whether the checksum was computed and holds, or was left out, as over IPv4 it may be.
-#[inline(always)]
-fn has_checksum(packet: &UdpPacket<'_>, src_addr: &IpAddress, dst_addr: &IpAddress) -> bool
-    requires lengths { HasLengths (packet_bytes packet.now) }
-    requires family { version_of src_addr.now ≡ version_of dst_addr.now }
-    ensures { IsTrue result ↔ HasChecksum src_addr.now dst_addr.now (packet_bytes packet.now) }
-{
-    if packet.checksum() == 0 {
-        matches!(src_addr, IpAddress::Ipv4(_))
-    } else {
-        packet.verify_checksum(src_addr, dst_addr)
+        checksum_for(for_emit::packet(src_addr, dst_addr, IpProtocol::Udp, &header, payload))
     }
 }
 
