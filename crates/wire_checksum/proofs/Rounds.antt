@@ -11,6 +11,7 @@ rotated_64 t h =
     let e : (t * 4294967296) % 18446744073709551616 ≡ (t % 4294967296) * 4294967296 = omega arith in
     ap (λ k. bit_or k (t / 4294967296)) e ∙ or_shifted (t % 4294967296) 32 (t / 4294967296) (omega arith)
 
+-- 32 bits rotated by 16: both halves exchanged
 pub rotated_32 : (t : ℕ) → t < 4294967296 → rotate_left w32 t 16 ≡ (t % 65536) * 65536 + t / 65536
 rotated_32 t h =
     let e : (t * 65536) % 4294967296 ≡ (t % 65536) * 65536 = omega arith in
@@ -24,6 +25,7 @@ halves_64 t r c h e d = omega arith
 zero_64 : (t r : ℕ) → t < 18446744073709551616 → r ≡ (t % 4294967296) * 4294967296 + t / 4294967296 → (t + r) % 18446744073709551616 / 4294967296 ≡ 0 → t ≡ 0
 zero_64 t r h e z = omega arith
 
+-- folding 64 bits to 32 keeps the residue
 pub once_64 : (t r : ℕ) → t < 18446744073709551616 → r ≡ rotate_left w64 t 32 → residue ((t + r) % 18446744073709551616 / 4294967296) ≡ residue t
 once_64 t r h is =
     let e = is ∙ rotated_64 t h in

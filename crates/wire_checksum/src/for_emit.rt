@@ -10,7 +10,8 @@ use crate::checksum::pseudo_header_total;
 use crate::totals::{around, finish, total, total_of_words};
 use wire_ends::{IpAddress, IpProtocol};
 
-/// The sum, as of `checksum::data`, of a header of 20 octets, such as one of IPv4 without options.
+/// The sum of a header of 20 octets, such as an IPv4 header without options. It equals
+/// `checksum::data`.
 #[inline(always)]
 pub fn header(bytes: &[u8; 20]) -> u16
     ensures { result ≡ sum_of_bytes bytes.now }

@@ -1,4 +1,4 @@
-//! The checksum of the internet protocols.
+//! The Internet checksum (RFC 1071).
 #![tactic(auto)]
 
 pub mod checksum;

@@ -43,6 +43,7 @@ debug_list_of_ranges (o ∷ ranges) = rw (range_output-text o, debug_items-range
 
 -- ---- the header's text from the getters' answers
 
+-- the text of the flags, from the values of the getters
 pub flags_text-values : (bytes : List ℕ) (syn fin rst psh ece cwr ns : Bool)
     → syn ≡ (field bytes 110 1 == 1) → fin ≡ (field bytes 111 1 == 1) → rst ≡ (field bytes 109 1 == 1) → psh ≡ (field bytes 108 1 == 1)
     → ece ≡ (field bytes 105 1 == 1) → cwr ≡ (field bytes 104 1 == 1) → ns ≡ (field bytes 103 1 == 1)
@@ -51,6 +52,7 @@ pub flags_text-values : (bytes : List ℕ) (syn fin rst psh ece cwr ns : Bool)
 unfolding flags_text
 flags_text-values bytes syn fin rst psh ece cwr ns s f r p e c n = rw (s, f, r, p, e, c, n) refl
 
+-- the text of the other fields, from the values of the getters
 pub fields_text-values : (bytes : List ℕ) (ack urg : Bool) (seq a win u len : ℕ) → ack ≡ (field bytes 107 1 == 1) → urg ≡ (field bytes 106 1 == 1)
     → seq ≡ field bytes 32 32 → a ≡ field bytes 64 32 → win ≡ field bytes 112 16 → u ≡ field bytes 144 16 → len ≡ length bytes - header_len bytes
     → fields_text bytes ≡ numbers_text seq (if ack then Some a else None) win (if urg then Some u else None) len
@@ -144,6 +146,7 @@ shown-item (Unknown kind bytes) i (above, short, same, e) =
 
 -- ---- the text of a segment
 
+-- the text of a segment with valid lengths
 pub packet_text-some : (bytes : List ℕ) → HasLengths bytes
     → packet_text bytes ≡ ports_text (field bytes 0 16) (field bytes 16 16) ++ (flags_text bytes ++ (fields_text bytes ++ options_text (options_of bytes)))
 unfolding packet_text

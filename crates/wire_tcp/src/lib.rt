@@ -1,4 +1,4 @@
-//! The transmission control protocol (RFC 9293; options by RFC 2018 and RFC 7323).
+//! The Transmission Control Protocol (RFC 9293; options by RFC 2018 and RFC 7323).
 #![tactic(auto)]
 
 pub mod laws;

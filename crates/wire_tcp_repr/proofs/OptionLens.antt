@@ -53,6 +53,7 @@ blocks_from content n whole (suc m) a =
       | inr y ↦ let past = ltb-false _ _ y in let no = ap (block_count content a) y in omega (arith, first, later, no, past, whole)
     ]
 
+-- the length of a SACK option with at least one range
 pub sack_len-suc : (k : ℕ) → sack_len (suc k) ≡ 2 + 8 * suc k
 sack_len-suc k = ap (λ b. cond b 0 (2 + 8 * suc k)) (eqb-suc-zero k)
 
@@ -142,6 +143,7 @@ asked-le (i ∷ items) all =
     let e = field_step stamp_in 10 (last_of is_timestamp items) (is_timestamp i) i in
     omega (arith, later, own, a, b, c, d, e, length-append (text i) (texts items))
 
+-- a mapped option is `Some` exactly if the option is
 pub some_map : {X Y : Type 0} (f : X → Y) (o : Option X) → is_some (option_map f o) ≡ is_some o
 some_map f None = refl
 some_map f (Some x) = refl
@@ -167,5 +169,6 @@ header_len-read src dst verified bytes payload v r =
     let long : length (options_of bytes) ≡ header_len bytes - 20 = length-take-le (header_len bytes - 20) (drop 20 bytes) (omega (arith, length-drop 20 bytes)) in
     omega (arith, least, long, shortest (options_of bytes) v r.options (omega (arith, long, least)))
 
+-- the emitted header of a parsed value is never longer than the parsed header
 pub header_len-tcp_of : (src dst : IpAddress) (verified : Bool) (bytes : List ℕ) (v : TcpHeader) → tcp_of src dst verified bytes ≡ Some v → header_len_of v ≤ header_len bytes
 header_len-tcp_of src dst verified bytes v e = header_len-read src dst verified bytes (payload_of bytes) v ((tcp_of-Reads src dst verified bytes v).0 e)

@@ -144,6 +144,7 @@ closed_get [] m k = none_get m k
 closed_get (p ∷ ps) m zero = refl
 closed_get (p ∷ ps) m (suc k) = closed_get ps m k
 
+-- the ranges that are `Some`, in their order
 abbrev pub somes : List (Option Pair) → List Pair
 somes rs = filter_map (λ r. r) rs
 
@@ -167,11 +168,13 @@ blocks_back : (rs : List (Option Pair)) → length rs ≡ SACK_BLOCKS → AllByR
 blocks_back rs long all =
     sym (fill_by_all (block_at (range_bytes rs)) (closed rs) SACK_BLOCKS None (length-closed rs ∙ long) (λ k h. closed_get (somes rs) _ k ∙ sym (block_get (somes rs) (somes_fit rs all) k)))
 
+-- counting the ranges that are `Some` gives the length of their list
 pub count_somes : (rs : List (Option Pair)) → count_by is_some rs ≡ length (somes rs)
 count_somes [] = refl
 count_somes (None ∷ rs) = count_somes rs
 count_somes (Some r ∷ rs) = let h = count_somes rs in let n = sum_by-cons (λ x. cond (is_some x) 1 0) (Some r) rs in omega (arith, h, n)
 
+-- no ranges, padded to n places, are n times `None`
 pub closed_none : (ps : List Pair) (n : ℕ) → length ps ≡ 0 → map Some ps ++ replicate (n - length ps) None ≡ replicate n None
 closed_none [] n e = ap (λ m. replicate m None) (omega arith)
 closed_none (p ∷ ps) n e = absurd (omega (arith, e))
@@ -267,6 +270,7 @@ somes_none : (m : ℕ) → somes (replicate m None) ≡ []
 somes_none zero = refl
 somes_none (suc m) = somes_none m
 
+-- the ranges that are `Some` among ranges without gaps
 pub somes_closed : (ps : List Pair) (m : ℕ) → somes (map Some ps ++ replicate m None) ≡ ps
 somes_closed [] m = somes_none m
 somes_closed (p ∷ ps) m = ap (λ l. p ∷ l) (somes_closed ps m)
@@ -277,6 +281,7 @@ closed_twice rs =
     ap (λ ps. map Some ps ++ replicate {A = Option Pair} (n - length ps) None) (somes_closed (somes rs) (length rs - length (somes rs)))
     ∙ ap (λ k. map Some (somes rs) ++ replicate {A = Option Pair} (k - length (somes rs)) None) (length-closed rs)
 
+-- limiting a window scale to 14 twice is the same as once
 pub min_twice : (o : Option ℕ) → option_map (min 14) (option_map (min 14) o) ≡ option_map (min 14) o
 min_twice None = refl
 min_twice (Some n) = ap Some (omega arith)

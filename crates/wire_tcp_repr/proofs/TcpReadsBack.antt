@@ -54,6 +54,7 @@ header_len-segment v payload checksum most =
     let f = flag-bound v.control in
     omega (arith, a.1, a.2, f)
 
+-- the data offset of an emitted segment gives the computed header length
 pub header_len-bytes_of : (v : TcpHeader) (src dst : IpAddress) (payload : List ℕ) (computed : Bool) → header_len_of v ≤ 60 → header_len (bytes_of v payload src dst computed []) ≡ header_len_of v
 header_len-bytes_of v src dst payload true most = header_len-segment v payload (65535 - segment_sum src dst (segment_with v payload 0 ++ [])) most
 header_len-bytes_of v src dst payload false most = header_len-segment v payload 0 most

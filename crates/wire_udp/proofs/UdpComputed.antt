@@ -21,6 +21,7 @@ has_lengths-HasLengths bytes h = record {
   whole = grind (arith, nat_tests);
 }
 
+-- if the lengths are valid, the test is true
 pub HasLengths-has_lengths : (bytes : List ℕ) → HasLengths bytes → has_lengths bytes ≡ true
 HasLengths-has_lengths bytes h = grind (arith, nat_tests)
 
@@ -85,6 +86,7 @@ Reads-is_read src dst verified bytes v payload r =
 pub Reads-is : (src dst : IpAddress) (verified : Bool) (bytes : List ℕ) (v : UdpRepr) (payload : List ℕ) → Reads bytes src dst verified v payload → v ≡ header_of bytes
 Reads-is src dst verified bytes v payload r = rw (← r.src_port, ← r.dst_port) refl
 
+-- the computed value is the one that the relation `Reads` gives
 pub udp_of-Reads : (src dst : IpAddress) (verified : Bool) (bytes : List ℕ) (v : UdpRepr)
     → (udp_of src dst verified bytes ≡ Some v) ↔ Reads bytes src dst verified v (payload_of bytes)
 unfolding udp_of

@@ -1,4 +1,4 @@
-//! What a value of a segment is written as.
+//! `TcpRepr::emit`.
 
 ghost use Rattle.std.specs.Prelude.{◌≡◌, ◌+◌, ◌≤◌, ◌++◌, drop, length};
 ghost use Rattle.net_base.specs.Checksum.{computes};
@@ -21,10 +21,9 @@ use wire_tcp::{
 const ACK: u16 = 0x010;
 
 impl TcpRepr<'_> {
-    /// Writes the header and the payload of a segment between two addresses of one version, and
-    /// leaves what follows them. Of the options SACK permitted stands in the place of ranges, which
-    /// are closed up, and written with an acknowledgement only. The checksum is that of the whole
-    /// slice where `caps` says so, else 0.
+    /// Writes the header and the payload. All bytes behind them stay. SACK permitted takes the
+    /// place of ranges. Ranges are written without gaps, and only with an acknowledgement. If
+    /// `caps` asks for a checksum, it covers the whole buffer; else it is 0.
     #[inline(always)]
     pub fn emit(
         &self,
@@ -50,7 +49,7 @@ impl TcpRepr<'_> {
         }
     }
 
-    // The header up to its options, without a checksum.
+    // The first 20 octets of the header, with 0 as checksum.
     #[inline(always)]
     fn fixed(&self, header_len: usize) -> [u8; TCP_HEADER_LEN]
         requires value { header_len ≡ header_len_of (header_of self.now) }
@@ -68,7 +67,7 @@ impl TcpRepr<'_> {
         )
     }
 
-    // The acknowledgement number, 0 where there is none.
+    // The acknowledgement number, or 0.
     fn ack_bits(&self) -> u32
         ensures { result ≡ ack_bits (header_of self.now) }
     {
@@ -78,7 +77,7 @@ impl TcpRepr<'_> {
         }
     }
 
-    // The header's length in words of 4 octets, above the flags.
+    // The word that holds the data offset and the flags.
     fn offset_and_flags(&self, header_len: usize) -> u16
         requires value { header_len ≡ header_len_of (header_of self.now) }
         requires most { header_len ≤ 60 }
@@ -89,7 +88,7 @@ impl TcpRepr<'_> {
         offset + ack + flag_of(self.control)
     }
 
-    // Writes the options, and zeros up to the header's length.
+    // Writes the options, and zeros up to the end of the header.
     #[inline(always)]
     fn emit_options(&self, packet: &mut TcpPacketMut<'_>, header_len: usize)
         requires value { header_len ≡ header_len_of (header_of self.now) }
@@ -103,7 +102,7 @@ impl TcpRepr<'_> {
         for_emit::write_zeros(packet, stamped, header_len);
     }
 
-    // Writes the largest segment size at a place, if there is one, and answers the place behind it.
+    // Writes the maximum segment size at byte `at`, if there is one, and returns where it ends.
     fn emit_segment_size(&self, packet: &mut TcpPacketMut<'_>, at: usize) -> usize
         requires { at + length (texts (segment_size_items self.now.max_seg_size)) ≤ length (packet_bytes_mut packet.old) }
         ensures end { result ≡ at + length (texts (segment_size_items self.now.max_seg_size)) }
@@ -115,7 +114,7 @@ impl TcpRepr<'_> {
         }
     }
 
-    // Writes the window scale at a place, if there is one, and answers the place behind it.
+    // Writes the window scale at byte `at`, if there is one, and returns where it ends.
     fn emit_window_scale(&self, packet: &mut TcpPacketMut<'_>, at: usize) -> usize
         requires { at + length (texts (window_scale_items self.now.window_scale)) ≤ length (packet_bytes_mut packet.old) }
         ensures end { result ≡ at + length (texts (window_scale_items self.now.window_scale)) }
@@ -127,8 +126,8 @@ impl TcpRepr<'_> {
         }
     }
 
-    // Writes at a place that SACK is permitted, or else the ranges, with an acknowledgement and a
-    // range, and answers the place behind it.
+    // Writes SACK permitted at byte `at`, or else the ranges if there is an acknowledgement, and
+    // returns where they end.
     fn emit_sack(&self, packet: &mut TcpPacketMut<'_>, at: usize) -> usize
         requires { at + length (texts (sack_items (header_of self.now))) ≤ length (packet_bytes_mut packet.old) }
         ensures end { result ≡ at + length (texts (sack_items (header_of self.now))) }
@@ -144,7 +143,7 @@ impl TcpRepr<'_> {
         }
     }
 
-    // Writes the timestamp at a place, if there is one, and answers the place behind it.
+    // Writes the timestamp at byte `at`, if there is one, and returns where it ends.
     fn emit_timestamp(&self, packet: &mut TcpPacketMut<'_>, at: usize) -> usize
         requires { at + length (texts (timestamp_items self.now.timestamp)) ≤ length (packet_bytes_mut packet.old) }
         ensures end { result ≡ at + length (texts (timestamp_items self.now.timestamp)) }
@@ -159,14 +158,14 @@ impl TcpRepr<'_> {
     }
 }
 
-// The number itself, from 0 to 2^32 - 1.
+// The number in 0 to 2^32 - 1.
 fn bits_of(seq: TcpSeqNumber) -> u32
     ensures { result ≡ number seq }
 {
     seq.0.cast_unsigned()
 }
 
-// The flag that a control sets.
+// The flag of a control.
 fn flag_of(control: TcpControl) -> u16
     ensures { result ≡ flag_of control }
 {
