@@ -11,7 +11,7 @@ use Rattle.wire_text.proofs.Endings.{ends_once, ends_printed}
 use Rattle.wire_text.proofs.Refusals.{refused, was_none, was_some}
 
 module _ (ReadsAddress : List ℕ → List ℕ → Type 0) (places most : ℕ) where
-  -- where the text ends in no number, or what stands before is no address's text
+  -- a text that does not end in a number parses as no block
   pub no_number : {E F : Type 0} (text : List ℕ) (found : Option (Bor (List ℕ) × ℕ)) (e u : E) (result : Result Block F) → Err e ≡ ok_or found u → MatchOption found ((front : List ℕ) (n : ℕ) → ¬ (EndsInNumber 47 places most text front n)) (λ f. EndsInNumber 47 places most text f.0.now f.1) → IsErr result → Parses (IsBlockText ReadsAddress places most) text result
   no_number text found e u result same h failed =
       let none = was_none _ _ found e u same h in

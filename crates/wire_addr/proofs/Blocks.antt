@@ -256,7 +256,7 @@ pub outside-test : (m p q : ℕ) (xs ys : List ℕ) (contains : Bool) → AreOct
 outside-test m p q xs ys contains are bound test is =
     ((λ t. absurd (false≢true (sym is ∙ t))), (λ within. absurd (false≢true (sym is ∙ test.1 ((IsWithin-member m p q xs ys are bound).1 within).1))))
 
--- the ones at the front are the prefix exactly where the number is the mask with so many ones
+-- the number of leading ones is the prefix length exactly if the number is the mask with as many ones
 pub prefix-test : (m ones bits mask : ℕ) (xs : List ℕ) → AreOctets m xs → bits ≡ number_of xs
     → ones ≡ count_leading_zeros (8 * m) (2 ^ (8 * m) - 1 - bits) → mask ≡ 2 ^ (8 * m) - 2 ^ (8 * m - ones)
     → (n : ℕ) → (then_some (nat_eq bits mask) ones ≡ Some n) ↔ IsNetmask n xs

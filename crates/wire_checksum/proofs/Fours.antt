@@ -45,7 +45,7 @@ words-of_32 xs e =
     empty [] h = refl
     empty (x ∷ l) h = absurd (omega arith)
 
--- what carries are brought round or handed on
+-- carries that move from bit 64 to bit 0 keep the residue
 pub carried : (before after carries : ℕ) → after + 18446744073709551615 * carries ≡ before → (after ≡ 0 → carries ≡ 0) → residue (256 * after) ≡ residue (256 * before)
 carried before after carries e none =
     residue-same (256 * after) (256 * before) (256 * (281479271743489 * carries)) 0 (omega (arith, e)) (λ z. let n = none (omega (arith, z)) in omega (arith, e, n, z)) (λ z. omega (arith, e, z))

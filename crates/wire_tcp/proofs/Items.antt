@@ -50,7 +50,7 @@ IsItem-ranges kind content n k some whole size = record {
   sack_ranges = λ _. (n, some, whole);
 }
 
--- an option's item stands in front
+-- bytes that begin with an item begin with the option that the item parses as
 pub Begins-from_item : (o : TcpOption) (bytes rest : List ℕ) (i : Item) → IsItem i → IsReading o i → bytes ≡ text i ++ rest → Begins o bytes rest
 Begins-from_item EndOfList bytes rest i is reading e = absurd reading
 Begins-from_item NoOperation bytes rest i is reading e = (i, is, reading, e)

@@ -341,7 +341,7 @@ first_of-kind kind (Some j ∷ marks) i e = elim (cases_Bool (eqb j.kind kind)) 
   | inr n ↦ first_of-kind kind marks i (rw n at e)
 ]
 
--- an item of kind 5 is read as its ranges
+-- an item of kind 5 parses as its ranges
 reads_ranges : (option : TcpOption) (i : Item) → i.kind ≡ 5 → IsReading option i → ranges_in option ≡ first_blocks i.content
 reads_ranges EndOfList i five reading = absurd reading
 reads_ranges NoOperation i five reading = absurd (omega (arith, five, reading))

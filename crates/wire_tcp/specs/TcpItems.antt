@@ -44,7 +44,7 @@ pub record IsOptionList (bytes : List ℕ) (items : List Item) (tail : List ℕ)
 
 -- ---- the first item, computed
 
--- whether an item of this kind can have so many bytes of data
+-- whether an item of this kind can have this many bytes of data
 abbrev pub is_sized : ℕ → ℕ → Bool
 is_sized kind size =
     nat_lt kind 256 && nat_le size 253

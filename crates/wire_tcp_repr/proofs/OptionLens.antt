@@ -1,4 +1,4 @@
--- The least length of a header that says as much as a value.
+-- An emitted header is never longer than a header that parses as the same value.
 use Rattle.std.proofs.Common.{◌≡◌, ℕ, zero, suc, ◌+◌, ◌-◌, ◌*◌, ◌%◌, ◌≤◌, inl, inr, Bool, true, false, cond, eqb, ltb, List, [], ◌∷◌, length, map, drop, count_by, min, Option, Some, None, is_some, arith, refl, sym, ap, ◌∙◌, length-append, length-drop, subst}
 use Rattle.std.specs.Option.{option_or, option_map, option_map_or}
 use Rattle.std.specs.List.{AllByRecursion, range_with_len}
@@ -130,7 +130,7 @@ weight i is = elim (cases_Bool (eqb i.kind 2)) [
 abbrev stamp_in : Item → ℕ × ℕ
 stamp_in i = (big_number 4 i.content, big_number 4 (drop 4 i.content))
 
--- the texts of the items are no shorter than the options of what they are read as
+-- the items are never shorter than the emitted options of the value that they parse as
 pub asked-le : (items : List Item) → AllByRecursion IsItem items → asked items ≤ length (texts items)
 asked-le [] all = omega arith
 asked-le (i ∷ items) all =
@@ -148,7 +148,7 @@ pub some_map : {X Y : Type 0} (f : X → Y) (o : Option X) → is_some (option_m
 some_map f None = refl
 some_map f (Some x) = refl
 
--- a header that is read as a value is no shorter than the value's own
+-- a header that parses as a value is never shorter than the emitted header of the value
 pub shortest : (bytes : List ℕ) (v : TcpHeader) → ReadsOptions bytes v → length bytes % 4 ≡ 0 → header_len_of v ≤ 20 + length bytes
 shortest bytes v r words =
     let items = r.items in
@@ -161,7 +161,7 @@ shortest bytes v r words =
     let long = ap length r.list.joined in
     omega (arith, least, e₁, e₂, e₃, e₄, e₅, long, length-append (texts items) r.tail)
 
--- a segment that is read as a value has no shorter header
+-- the same for a segment
 pub header_len-read : (src dst : IpAddress) (verified : Bool) (bytes payload : List ℕ) (v : TcpHeader) → Reads bytes src dst verified v payload → header_len_of v ≤ header_len bytes
 header_len-read src dst verified bytes payload v r =
     let least = r.lengths.header in

@@ -1,4 +1,4 @@
--- The options that are written are read as those of the normal form.
+-- Emitted options parse as those of the normal form.
 use Rattle.std.proofs.Common.{◌≡◌, ◌≢◌, ℕ, zero, suc, ◌+◌, ◌-◌, ◌*◌, ◌^◌, ◌<◌, ◌≤◌, inl, inr, Bool, true, false, cond, eqb, ltb, ◌||◌, List, [], ◌∷◌, ◌++◌, length, map, drop, get_or, count_by, replicate, Option, Some, None, is_some, is_none, arith, refl, sym, ap, ◌∙◌, min, subst, IfSome, length-append}
 use Rattle.std.specs.Option.{option_or, option_map, option_map_or}
 use Rattle.std.specs.List.{AllByRecursion, flat_map, filter_map}
@@ -57,7 +57,7 @@ no_sack p g h true n bytes = ap (λ b. cond b (Some (item 4 [])) None) (g _)
 no_sack p g h false true bytes = refl
 no_sack p g h false false bytes = ap (λ b. cond b (Some (item 5 bytes)) None) (h _)
 
--- a number's bytes are read as the number
+-- the big-endian bytes of a number are read as the number
 number_back_2 : (x : ℕ) (rest : List ℕ) → x < 2 ^ 16 → big_number 2 (big_bytes 2 x ++ rest) ≡ x
 number_back_2 x rest h = let e = from_be_bytes-to_be_bytes_2 x h in omega (arith, e)
 
@@ -163,7 +163,7 @@ length-closed rs =
     let h = somes-le rs in
     omega (arith, h, length-append (map Some (somes rs)) (replicate (length rs - length (somes rs)) None), length-map (somes rs) Some, length-replicate {A = Option Pair} (length rs - length (somes rs)) None)
 
--- what is written of ranges is read as these, closed up
+-- emitted ranges parse as these ranges without gaps
 blocks_back : (rs : List (Option Pair)) → length rs ≡ SACK_BLOCKS → AllByRecursion (λ r. IfSome r PairFits) rs → first_blocks (range_bytes rs) ≡ closed rs
 blocks_back rs long all =
     sym (fill_by_all (block_at (range_bytes rs)) (closed rs) SACK_BLOCKS None (length-closed rs ∙ long) (λ k h. closed_get (somes rs) _ k ∙ sym (block_get (somes rs) (somes_fit rs all) k)))
@@ -239,7 +239,7 @@ three_of_four p a b c d ha hb hd = in_front p (a ++ b ++ c) d hd ∙ in_back p (
 four_of_four : (p : Item → Bool) (a b c d : List Item) → last_of p a ≡ None → last_of p b ≡ None → last_of p c ≡ None → last_of p (a ++ b ++ c ++ d) ≡ last_of p d
 four_of_four p a b c d ha hb hc = in_back p (a ++ b ++ c) d (in_front p (a ++ b) c hc ∙ in_front p a b hb ∙ ha)
 
--- the options that are written are read as the normal form
+-- emitted options parse as those of the normal form
 pub options_back : (v : TcpHeader) → IsInRange v → ReadsOptions (option_bytes v) (normal v)
 options_back v r =
     let a = segment_size_items v.max_seg_size in

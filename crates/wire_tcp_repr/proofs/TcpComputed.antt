@@ -1,4 +1,4 @@
--- The computed value of a segment is the one that it is read as.
+-- `tcp_of` computes the value that a segment parses as.
 use Rattle.std.proofs.Common.{ℕ, zero, suc, ◌≡◌, ◌↔◌, ◌==◌, ◌&&◌, ◌||◌, not, ◌<◌, Bool, true, false, IsTrue, List, Option, Some, None, Result, Ok, Err, IfOk, OnErr, refl, sym, ap, subst, ◌∙◌, arith}
 use Rattle.std.proofs.lemmas.Bool.Decides.{nat_tests}
 use Rattle.std.specs.Option.{option_and_then, option_map}
@@ -178,7 +178,7 @@ reads-tcp_of src dst verified bytes payload v r =
 pub tcp_of-Reads : (src dst : IpAddress) (verified : Bool) (bytes : List ℕ) (v : TcpHeader) → (tcp_of src dst verified bytes ≡ Some v) ↔ Reads bytes src dst verified v (payload_of bytes)
 tcp_of-Reads src dst verified bytes v = (tcp_of-reads src dst verified bytes v, reads-tcp_of src dst verified bytes (payload_of bytes) v)
 
--- no bytes are read as two values
+-- bytes parse as at most one value
 pub reads_once : (src dst : IpAddress) (verified : Bool) (bytes payload other_payload : List ℕ) (v w : TcpHeader)
     → Reads bytes src dst verified v payload → Reads bytes src dst verified w other_payload → (v ≡ w) × (payload ≡ other_payload)
 reads_once src dst verified bytes payload other_payload v w r s =
@@ -189,7 +189,7 @@ none_read : (o : Option TcpHeader) → ((v : TcpHeader) → o ≡ Some v → ⊥
 none_read None h = refl
 none_read (Some v) h = absurd (h v refl)
 
--- a reader's answer is the computed value, if there is one
+-- the result of `parse` is the computed value, if there is one
 pub answer-tcp_of : (src dst : IpAddress) (verified : Bool) (bytes : List ℕ) (answer : Result TcpRepr Error)
     → IfOk answer (λ v. Reads bytes src dst verified (header_of v) v.payload.now) → OnErr answer (HasNoReading bytes src dst verified)
     → tcp_of src dst verified bytes ≡ option_map header_of (result_ok answer)

@@ -15,7 +15,7 @@ use Rattle.wire_field.specs.Field.{behind, field, span, with_field, with_part}
 use Rattle.wire_tcp.proofs.Sums.{sum-words-segment, with_word}
 use Rattle.wire_tcp.specs.Tcp.{Verifies}
 
--- where a word stands, and how many bytes it has
+-- the place of a word and its length
 place : (i : ℕ) → 16 * i / 8 ≡ 2 * i
 place i = omega arith
 
@@ -55,7 +55,7 @@ from_place (a ∷ []) zero room = absurd (omega arith)
 from_place (a ∷ b ∷ rest) zero room = refl
 from_place (a ∷ rest) (suc n) room = from_place rest n (omega arith)
 
--- the word that stands there
+-- writing the word that is there already changes nothing
 there : (bytes : List ℕ) (i : ℕ) → AreBytes bytes → 2 * i + 2 ≤ length bytes → bytes ≡ with_word bytes (2 * i) (number_at bytes (2 * i))
 there bytes i h room =
     let n = 2 * i in

@@ -1,4 +1,4 @@
--- The computed value of a UDP packet is the one that it is read as.
+-- `udp_of` computes the value that a UDP packet parses as.
 use Rattle.std.proofs.Common.{ℕ, zero, suc, ◌≡◌, ◌≢◌, ◌↔◌, ◌⊎◌, inl, inr, ◌==◌, ◌&&◌, ◌||◌, not, Bool, true, false, IsTrue, if◌then◌else◌, List, Some, Result, Ok, refl, subst, arith}
 use Rattle.std.proofs.lemmas.Bool.Decides.{nat_tests}
 use Rattle.std.specs.Result.{result_ok}
@@ -99,7 +99,7 @@ udp_of-Reads src dst verified bytes v = (
       (if-Some (is_read src dst verified bytes) (header_of bytes) v).1 (Reads-is_read src dst verified bytes v (payload_of bytes) r, cc),
 )
 
--- a reader's answer is the computed value, if there is one
+-- the result of `parse` is the computed value, if there is one
 pub answer-udp_of : (src dst : IpAddress) (verified : Bool) (bytes : List ℕ) (answer : Result UdpRepr Error)
     → ((v : UdpRepr) → (answer ≡ Ok v) ↔ Reads bytes src dst verified v (payload_of bytes))
     → udp_of src dst verified bytes ≡ result_ok answer

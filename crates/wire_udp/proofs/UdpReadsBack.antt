@@ -1,4 +1,4 @@
--- A UDP packet that was written is read as what it was written from.
+-- An emitted UDP packet parses as the value and the payload from which it was emitted.
 use Rattle.std.proofs.Common.{ℕ, ◌≡◌, ◌≢◌, ◌≤◌, ◌<◌, ◌+◌, ◌-◌, ◌%◌, ◌==◌, ◌⊎◌, inl, inr, Bool, true, false, IsTrue, List, ◌++◌, length, sum, take, refl, sym, ap, ◌∙◌, length-append, arith}
 use Rattle.std.proofs.Math.Seq.{take-append_seam}
 use Rattle.std.proofs.lemmas.Bool.{cases_lt}
