@@ -1,4 +1,4 @@
-//! The lines of an IPv6 packet, and the packet built again.
+//! The lines of an IPv6 packet, and the rebuilt packet.
 
 ghost use Rattle.std.specs.Prelude.{◌≡◌, OnOk, drop};
 ghost use Rattle.ip_frames.specs.Output.{AddsBytes, AddsText, fragment_header_line, payload_lines};
@@ -9,7 +9,7 @@ use crate::ip::push_inner;
 use ip_wire::{IpProtocol, IpRepr, Ipv6FragmentHeader, Ipv6Packet, Ipv6Repr};
 use std::alloc::AllocError;
 
-/// Appends the lines of a packet to `text`, and its bytes built again to `again`.
+/// Appends the lines of a packet to `text`, and the rebuilt packet to `again`.
 pub fn push_packet(bytes: &[u8], text: &mut String, again: &mut Vec<u8>) -> Result<(), AllocError>
     ensures lines { OnOk result (AddsText text.old text.new (payload_lines Ipv6 bytes.now)) }
     ensures again { OnOk result (AddsBytes again.old again.new (rebuilt_payload Ipv6 bytes.now)) }
@@ -28,18 +28,18 @@ pub fn push_packet(bytes: &[u8], text: &mut String, again: &mut Vec<u8>) -> Resu
     }
 }
 
-// Appends the line on the fragment header that a payload begins with. The view leaves out its first
-// two bytes, the next header and a reserved one.
+// Appends the line of the fragment header at the front of a payload.
 #[tactic(auto, unfolding(crate::specs::Output::fragment_header_line))]
 fn push_fragment_line(payload: &[u8], text: &mut String) -> Result<(), AllocError>
     ensures { OnOk result (AddsText text.old text.new (fragment_header_line payload.now)) }
 {
-    let header = Ipv6FragmentHeader::new_unchecked(after_two(payload));
+    let header = Ipv6FragmentHeader::new_unchecked(skip_next_header(payload));
     writeln!(text, "{header}")
 }
 
-// What follows the first two bytes, where there are so many.
-fn after_two(bytes: &[u8]) -> &[u8]
+// The bytes of a fragment header behind the next header and the reserved byte. The view begins
+// there (RFC 8200, section 4.5).
+fn skip_next_header(bytes: &[u8]) -> &[u8]
     ensures { result.now ≡ drop 2 bytes.now }
 {
     match bytes {

@@ -321,17 +321,13 @@ fn ipv4_checksum_holds(packet: &Ipv4Packet<'_>) -> u8
     u8::from(packet.verify_checksum())
 }
 
-// 1 where the checksum of a UDP packet between two addresses holds or is left out, as over IPv4 it may
-// be, else 0.
+// 1 if the checksum of a UDP packet is correct, or is left out over IPv4, else 0.
 fn udp_checksum_holds(packet: &UdpPacket<'_>, src_addr: &IpAddress, dst_addr: &IpAddress) -> u8
     requires lengths { udp.HasLengths (udp.packet_bytes packet.now) }
     requires family { version_of src_addr.now ≡ version_of dst_addr.now }
     ensures { result ≡ flag (udp.has_checksum src_addr.now dst_addr.now (udp.packet_bytes packet.now)) }
 {
-    u8::from(match packet.checksum() {
-        0 => matches!(src_addr, IpAddress::Ipv4(_)),
-        _ => packet.verify_checksum(src_addr, dst_addr),
-    })
+    u8::from(packet.has_valid_checksum(src_addr, dst_addr))
 }
 
 // 1 where the checksum of a segment between two addresses holds, else 0.

@@ -11,12 +11,13 @@ use Rattle.wire_text.proofs.Endings.{ends_once, ends_printed}
 use Rattle.wire_text.proofs.Refusals.{refused, was_none, was_some}
 
 module _ (ReadsAddress : List ℕ → List ℕ → Type 0) (places most : ℕ) where
-  -- where the text ends in no number, or what stands before is no address's text
+  -- a text that does not end in a number parses as no block
   pub no_number : {E F : Type 0} (text : List ℕ) (found : Option (Bor (List ℕ) × ℕ)) (e u : E) (result : Result Block F) → Err e ≡ ok_or found u → MatchOption found ((front : List ℕ) (n : ℕ) → ¬ (EndsInNumber 47 places most text front n)) (λ f. EndsInNumber 47 places most text f.0.now f.1) → IsErr result → Parses (IsBlockText ReadsAddress places most) text result
   no_number text found e u result same h failed =
       let none = was_none _ _ found e u same h in
       refused (IsBlockText ReadsAddress places most) text result failed (λ block k. none k.address_text block.prefix_len k.prefix_len)
 
+  -- a text whose front is no address parses as no block
   pub no_address : {F : Type 0} (text : List ℕ) (found : Option (Bor (List ℕ) × ℕ)) (front : Bor (List ℕ)) (n : ℕ) (result : Result Block F) → found ≡ Some (front, n) → MatchOption found ((front : List ℕ) (n : ℕ) → ¬ (EndsInNumber 47 places most text front n)) (λ f. EndsInNumber 47 places most text f.0.now f.1) → ((address : List ℕ) → ¬ (ReadsAddress front.now address)) → IsErr result → Parses (IsBlockText ReadsAddress places most) text result
   no_address text found front n result same h none failed =
       let ends = was_some _ _ found (front, n) same h in
@@ -31,6 +32,7 @@ module _ (ReadsAddress : List ℕ → List ℕ → Type 0) (places most : ℕ) w
       let addresses = one k.address_text (subst (λ t. ReadsAddress t a.address) same h.address) k.address in
       λ i. record { address = addresses i; prefix_len = n i }
 
+  -- a printed block parses as that block
   pub printed_block : (text_of : List ℕ → List ℕ) (block : Block) → 0 < places → most < 10 ^ places → most < 2 ^ 64 → block.prefix_len ≤ most → ReadsAddress (text_of block.address) block.address → IsBlockText ReadsAddress places most (block_text text_of block) block
   printed_block text_of block some wide small fits read = record {
     address_text = text_of block.address;

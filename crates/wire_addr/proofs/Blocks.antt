@@ -79,6 +79,7 @@ IsMasked-number m n s xs ys are_xs are_ys e is = record {
   ];
 }
 
+-- octets with the number of a mask are a netmask
 pub IsNetmask-number : (m n s : ℕ) (xs : List ℕ) → AreOctets m xs → n + s ≡ 8 * m → number_of xs ≡ 2 ^ (8 * m) - 2 ^ s
     → IsNetmask n xs
 IsNetmask-number m n s xs are e is = record {
@@ -128,6 +129,7 @@ leading_ones-mask w s le =
 
 -- ---- the least and the greatest address of a block
 
+-- a number with zeros in its last s bits is the least address of the block
 pub IsLeast-number : (m n s : ℕ) (xs ys : List ℕ) → AreOctets m xs → AreOctets m ys → n + s ≡ 8 * m
     → number_of ys ≡ number_of xs / 2 ^ s * 2 ^ s → IsLeast m (record { address = xs; prefix_len = n }) ys
 IsLeast-number m n s xs ys are_xs are_ys e is = record {
@@ -137,6 +139,7 @@ IsLeast-number m n s xs ys are_xs are_ys e is = record {
       rw (is, same) (omega (arith, shr_split (number_of zs) s));
 }
 
+-- a number with ones in its last s bits is the greatest address of the block
 pub IsGreatest-number : (m n s : ℕ) (xs ys : List ℕ) → AreOctets m xs → AreOctets m ys → n + s ≡ 8 * m
     → number_of ys ≡ number_of xs / 2 ^ s * 2 ^ s + (2 ^ s - 1) → IsGreatest m (record { address = xs; prefix_len = n }) ys
 IsGreatest-number m n s xs ys are_xs are_ys e is = record {
@@ -240,18 +243,20 @@ member-test m n x y mask xs ys are_xs are_ys within ex ey em =
           (x_is ∙ ap (λ v. v * 2 ^ s) (numbers_from_agree m n s xs ys are_xs are_ys e agree) ∙ sym y_is),
     )
 
--- where its own address is in the other block, the lengths decide; where it is not, no more is needed
-pub within-test : (m p q : ℕ) (xs ys : List ℕ) → AreOctets m xs → q ≤ 8 * m → AgreeFirst q ys xs
+-- the test of `contains_subnet`, where the other block contains the address: the prefix lengths decide
+pub within-test : (m p q : ℕ) (xs ys : List ℕ) (contains : Bool) → AreOctets m xs → q ≤ 8 * m → (IsTrue contains ↔ AgreeFirst q ys xs) → contains ≡ true
     → IsTrue (nat_le q p) ↔ IsWithin m (record { address = xs; prefix_len = p }) (record { address = ys; prefix_len = q })
-within-test m p q xs ys are bound member =
+within-test m p q xs ys contains are bound test is =
     let both = IsWithin-member m p q xs ys are bound in
-    ((λ t. both.0 (leb-true q p t, member)), (λ within. le-leb q p (both.1 within).0))
+    ((λ t. both.0 (leb-true q p t, test.0 is)), (λ within. le-leb q p (both.1 within).0))
 
-pub not_within : (m p q : ℕ) (xs ys : List ℕ) → AreOctets m xs → q ≤ 8 * m → ¬ (AgreeFirst q ys xs)
-    → ¬ (IsWithin m (record { address = xs; prefix_len = p }) (record { address = ys; prefix_len = q }))
-not_within m p q xs ys are bound apart within = apart ((IsWithin-member m p q xs ys are bound).1 within).1
+-- and where it does not: the block is not within the other
+pub outside-test : (m p q : ℕ) (xs ys : List ℕ) (contains : Bool) → AreOctets m xs → q ≤ 8 * m → (IsTrue contains ↔ AgreeFirst q ys xs) → contains ≡ false
+    → IsTrue contains ↔ IsWithin m (record { address = xs; prefix_len = p }) (record { address = ys; prefix_len = q })
+outside-test m p q xs ys contains are bound test is =
+    ((λ t. absurd (false≢true (sym is ∙ t))), (λ within. absurd (false≢true (sym is ∙ test.1 ((IsWithin-member m p q xs ys are bound).1 within).1))))
 
--- the ones at the front are the prefix exactly where the number is the mask with so many ones
+-- the number of leading ones is the prefix length exactly if the number is the mask with as many ones
 pub prefix-test : (m ones bits mask : ℕ) (xs : List ℕ) → AreOctets m xs → bits ≡ number_of xs
     → ones ≡ count_leading_zeros (8 * m) (2 ^ (8 * m) - 1 - bits) → mask ≡ 2 ^ (8 * m) - 2 ^ (8 * m - ones)
     → (n : ℕ) → (then_some (nat_eq bits mask) ones ≡ Some n) ↔ IsNetmask n xs

@@ -27,13 +27,14 @@ pub ipv6_text-mapped : (octets ipv4 : List ℕ) → octets ≡ mapped_prefix ++ 
 unfolding ipv6_text
 ipv6_text-mapped octets ipv4 is = rw is refl
 
+-- the text of an address that is not IPv4-mapped
 pub ipv6_text-other : (octets : List ℕ) → take 12 octets ≢ mapped_prefix → ipv6_text octets ≡ groups_text (groups_of octets)
 unfolding ipv6_text
 ipv6_text-other octets apart =
     let test : bytes_eq (take 12 octets) mapped_prefix ≡ false = is_false _ (λ same. apart ((bytes_eq-Decides (take 12 octets) mapped_prefix).0 same)) in
     rw test refl
 
--- the octets behind the prefix, where they stand behind it
+-- the octets behind the prefix, if the address has it
 pub mapped-then_some : (octets ipv4 : List ℕ) (test : Bool) → Decides test (take 12 octets ≡ mapped_prefix) → drop 12 octets ≡ ipv4
     → MatchOption (then_some test ipv4) (take 12 octets ≢ mapped_prefix) (λ behind. octets ≡ mapped_prefix ++ behind)
 mapped-then_some octets ipv4 true is behind = sym (take-append-drop 12 octets) ∙ ap₂ ◌++◌ (is.0 refl) behind
@@ -57,6 +58,7 @@ IsGroupsPrint-groups_text groups =
       | inr short ↦ rw (le-ltb 1 run.1 short) (inr ((λ s l zeros. omega (arith, (longest_zero_run_first groups s l zeros).0)), refl))
     ]
 
+-- the computed text follows the rules for printing an address
 pub IsIpv6Print-ipv6_text : (octets : List ℕ) → IsIpv6Print octets (ipv6_text octets)
 IsIpv6Print-ipv6_text octets = record {
   mapped = ipv6_text-mapped octets;
@@ -78,6 +80,7 @@ is_groups_text groups text (inr (none, is)) =
     let short : (longest_zero_run groups).1 ≤ 1 = omega (arith, none (longest_zero_run groups).0 (longest_zero_run groups).1 (IsZeroRun-longest_zero_run groups)) in
     rw (le-ltb 1 (longest_zero_run groups).1 short) is
 
+-- any text that follows these rules is the computed one
 pub is_ipv6_text : (octets text : List ℕ) → IsIpv6Print octets text → text ≡ ipv6_text octets
 is_ipv6_text octets text rule = elim (either (take 12 octets) mapped_prefix) [
   | inl same ↦

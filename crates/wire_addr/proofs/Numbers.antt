@@ -51,12 +51,14 @@ byte_at-shifted : (k n : ℕ) → byte_at k n ≡ n / 2 ^ (8 * k) % 2 ^ 8
 byte_at-shifted zero n = omega arith
 byte_at-shifted (suc k) n = rw (pow_256 (suc k)) refl
 
+-- the number of the k octets of n is n modulo 2 ^ (8 * k)
 pub number_of-bytes : (k n : ℕ) → number_of (bytes_high_first k n) ≡ n % 2 ^ (8 * k)
 number_of-bytes zero n = omega arith
 number_of-bytes (suc k) n =
     let more : 8 * suc k ≡ 8 + 8 * k = omega arith in
     rw (length-bytes_high_first k n, byte_at-shifted k n, number_of-bytes k n, more) (sym (mod-pow-add n 8 (8 * k)))
 
+-- the big-endian bytes of a number are octets
 pub AreOctets-bytes : (k n : ℕ) → AreOctets k (bytes_high_first k n)
 AreOctets-bytes k n = (length-bytes_high_first k n, small k)
   where
@@ -100,9 +102,11 @@ bit_at-number_from (suc n) i k j xs h e =
           ∙ ap (λ b. bit_at (get_or xs (i + k / 8) 0) (7 - b)) bit
     ]
 
+-- m octets are a number below 2 ^ (8 * m)
 pub number_of-lt : (m : ℕ) (xs : List ℕ) → AreOctets m xs → number_of xs < 2 ^ (8 * m)
 number_of-lt m xs are = rw (by_places xs, are.0) (number_from-lt m 0 xs are.1)
 
+-- bit k of the octets, counted from the highest, is bit j of their number, counted from the lowest
 pub bit_at-number_of : (m k j : ℕ) (xs : List ℕ) → AreOctets m xs → suc (k + j) ≡ 8 * m → bit_at (number_of xs) j ≡ bit_of xs k
 bit_at-number_of m k j xs are e =
     rw (by_places xs, are.0) (bit_at-number_from m 0 k j xs are.1 e ∙ ap (λ p. bit_at (get_or xs p 0) (7 - k % 8)) (zero-add (k / 8)))

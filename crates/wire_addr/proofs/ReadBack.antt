@@ -1,4 +1,4 @@
--- The text that an address prints as is read as that address.
+-- A printed address parses as that address.
 use Rattle.std.proofs.Common.{◌≡◌, ℕ, zero, suc, ◌+◌, ◌-◌, ◌*◌, ◌/◌, ◌%◌, ◌^◌, ◌<◌, ◌≤◌, ◌==◌, true, false, List, [], ◌∷◌, ◌++◌, length, get_or, take, drop, map, flat_map, decimal, bytes_eq, refl, sym, ap, ◌∙◌, arith, inl, inr, lt-ltb, le-ltb, take-add, take-append-drop, length-take-le, length-drop, eq-eqb, append-nil}
 use Rattle.std.proofs.lemmas.Bool.{cases_lt, cond_both}
 use Rattle.std.proofs.lemmas.Slice.Eq.{bytes_eq-Decides}
@@ -51,6 +51,7 @@ octets_each : (octets : List ℕ) → ((k : ℕ) → get_or octets k 0 < 2 ^ 8) 
 octets_each [] h = tt
 octets_each (n ∷ octets) h = (IsOctet-decimal n (h 0), octets_each octets (λ k. h (suc k)))
 
+-- a printed IPv4 address parses as that address
 pub IsDotted-dotted : (octets : List ℕ) → AreOctets 4 octets → IsDotted (dotted octets) octets
 IsDotted-dotted octets h = (record { pieces = map decimal octets; joined = refl; each = octets_each octets h.1 }, h.0)
 
@@ -64,6 +65,7 @@ hex_octets_each : (octets : List ℕ) → ((k : ℕ) → get_or octets k 0 < 2 ^
 hex_octets_each [] h = tt
 hex_octets_each (n ∷ octets) h = (IsNumber-hex_byte n (h 0), hex_octets_each octets (λ k. h (suc k)))
 
+-- a printed Ethernet address parses as that address
 pub IsHexOctets-dashed : (octets : List ℕ) → AreOctets 6 octets → IsHexOctets 45 (dashed octets) octets
 IsHexOctets-dashed octets h = (record { pieces = map hex_byte octets; joined = refl; each = hex_octets_each octets h.1 }, h.0)
 
@@ -137,6 +139,7 @@ IsElidedMappedText-printed octets h = record {
   value = refl;
 }
 
+-- a printed IPv6 address parses as that address
 pub ReadsIpv6-ipv6_text : (octets : List ℕ) → AreOctets 16 octets → ReadsIpv6 (ipv6_text octets) octets
 unfolding ipv6_text
 ReadsIpv6-ipv6_text octets h = cond_both (bytes_eq (take 12 octets) mapped_prefix) _ _ (λ text. ReadsIpv6 text octets) mapped (λ _. plain)

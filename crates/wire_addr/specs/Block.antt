@@ -1,5 +1,5 @@
--- A block of addresses: all that have the first bits of one address (RFC 4632, section 3.1). An address is the list of
--- its octets, four or sixteen of them.
+-- A CIDR block: all addresses with the same first bits as one address (RFC 4632, section 3.1). An address is the list
+-- of its four or sixteen octets.
 use Rattle.std.specs.Prelude.{ℕ, ◌≤◌, ◌++◌, List}
 use Rattle.std.specs.Cmp.Lexicographic.{slice_cmp}
 use Rattle.std.specs.Hash as hash
@@ -8,7 +8,7 @@ use Rattle.std.specs.declared.cmp.Ordering.{Ordering}
 use Rattle.wire_addr.specs.Octets.{AreOctets}
 use Rattle.wire_addr.specs.Prefix.{AgreeFirst, number_of}
 
--- what tells a block: the address that it was made of, and how many of its first bits all its addresses have
+-- a block: the address from which it was made, and the prefix length
 pub record Block : Type 0 where
   pub address : List ℕ
   pub prefix_len : ℕ
@@ -31,10 +31,10 @@ pub record IsGreatest (n : ℕ) (block : Block) (address : List ℕ) : Type 0 wh
   pub member : IsIn block address
   pub greatest : (other : List ℕ) → AreOctets n other → IsIn block other → number_of other ≤ number_of address
 
--- how blocks compare: by their addresses, octet by octet, and then by the lengths of their prefixes
+-- the order of blocks: by address, octet by octet, then by prefix length
 abbrev pub block_cmp : Block → Block → Ordering
 block_cmp a b = ordering_then (slice_cmp nat_cmp a.address b.address) (nat_cmp a.prefix_len b.prefix_len)
 
--- what is hashed of a block: the octets of its address and the length of its prefix
+-- the hashed values of a block: the octets of its address and its prefix length
 abbrev pub block_hash : Block → hash.HashWrites
 block_hash block = hash.slice hash.u8 block.address ++ hash.u8 block.prefix_len

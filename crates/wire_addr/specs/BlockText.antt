@@ -1,21 +1,21 @@
--- The texts that blocks of addresses are read from (RFC 4632, section 3.1; RFC 4291, section 2.3).
+-- The texts that parse as CIDR blocks (RFC 4632, section 3.1; RFC 4291, section 2.3).
 use Rattle.std.specs.Prelude.{ℕ, List}
 use Rattle.wire_addr.specs.Read.{ReadsIpv4, ReadsIpv6}
 use Rattle.wire_addr.specs.Block.{Block}
 use Rattle.wire_addr.specs.Printed.{slash}
 use Rattle.wire_text.specs.Ending.{EndsInNumber}
 
--- the text of an address, a slash, and the length of the prefix: one digit to `places` digits, at most `most`. The
--- block keeps the address as it is written.
+-- an address, a slash and a prefix length: one digit to `places` digits, at most `most`. The address keeps all its
+-- bits.
 pub record IsBlockText (ReadsAddress : List ℕ → List ℕ → Type 0) (places most : ℕ) (text : List ℕ) (block : Block) : Type 0 where
   pub address_text : List ℕ
   pub address : ReadsAddress address_text block.address
   pub prefix_len : EndsInNumber slash places most text address_text block.prefix_len
 
--- the text is read as this block of IPv4 addresses
+-- the text parses as this block of IPv4 addresses
 abbrev pub ReadsIpv4Block : List ℕ → Block → Type 0
 ReadsIpv4Block text block = IsBlockText ReadsIpv4 2 32 text block
 
--- the text is read as this block of IPv6 addresses
+-- the text parses as this block of IPv6 addresses
 abbrev pub ReadsIpv6Block : List ℕ → Block → Type 0
 ReadsIpv6Block text block = IsBlockText ReadsIpv6 3 128 text block

@@ -1,4 +1,4 @@
--- Hardware addresses: the numbers by which the stations of a link are told apart (for Ethernet IEEE 802.3, 3.2.3).
+-- Link-layer addresses (for Ethernet IEEE 802.3, 3.2.3).
 use Rattle.std.specs.Prelude.{ℕ, ◌≡◌, ◌-◌, ◌+◌, ◌*◌, ◌/◌, ◌%◌, IsBitSet, Option, Some, None, List, ◌∷◌, ◌++◌, codes, length, replicate, slice_index, slice_range}
 use Rattle.net_base.specs.declared.medium.Medium.{Medium}
 use Rattle.net_base.specs.declared.medium.Medium.TheVariants as medium
@@ -8,23 +8,23 @@ use Rattle.wire_addr.specs.declared.hardware_address.HardwareAddress.TheVariants
 
 -- ---- the six octets of Ethernet
 
--- the address of all stations: each bit is set
+-- broadcast: all bits are set
 abbrev pub IsBroadcast : List ℕ → Type 0
 IsBroadcast octets = octets ≡ replicate 6 0xff
 
--- the address of a group of stations: the I/G bit is set, the least of the first octet
+-- multicast: the I/G bit is set, the lowest bit of the first octet
 abbrev pub IsMulticast : List ℕ → Type 0
 IsMulticast octets = IsBitSet (slice_index octets 0) 0
 
--- an address that is administered locally: the U/L bit is set, the one above the I/G bit
+-- locally administered: the U/L bit is set, the bit above the I/G bit
 abbrev pub IsLocal : List ℕ → Type 0
 IsLocal octets = IsBitSet (slice_index octets 0) 1
 
--- the address of one station: neither that of all nor that of a group
+-- unicast: neither broadcast nor multicast
 abbrev pub IsUnicast : List ℕ → Type 0
 IsUnicast octets = ¬ IsBroadcast octets × ¬ IsMulticast octets
 
--- the octet with the bit above its least one inverted
+-- the octet with the bit above its lowest one inverted
 abbrev pub with_local_inverted : ℕ → ℕ
 with_local_inverted octet = octet / 4 * 4 + (1 - octet / 2 % 2) * 2 + octet % 2
 
@@ -34,7 +34,7 @@ eui_64 octets = with_local_inverted (slice_index octets 0) ∷ slice_range octet
 
 -- ---- of any medium
 
--- the medium whose addresses it is one of
+-- the medium of an address
 abbrev pub medium_of : HardwareAddress → Medium
 medium_of Ip = medium.Ip
 medium_of (Ethernet address) = medium.Ethernet
@@ -54,7 +54,7 @@ abbrev pub address_text : HardwareAddress → List ℕ
 address_text Ip = codes "no hardware addr"
 address_text (Ethernet address) = dashed address.0
 
--- the octets are this address on a medium: Ethernet has those of six octets, and no other medium has any
+-- the octets are this address on a medium: on Ethernet six octets, on no other medium any
 pub record AreAddress (octets : List ℕ) (on : Medium) (address : HardwareAddress) : Type 0 where
   pub on_ethernet : on ≡ medium.Ethernet
   pub long : length octets ≡ 6

@@ -11,6 +11,6 @@ abbrev pub octets_of : List ℕ → List ℕ
 octets_of [] = []
 octets_of (g ∷ groups) = (g / 256) ∷ (g % 256) ∷ octets_of groups
 
--- the twelve octets before the IPv4 address in an IPv6 address that stands for one (RFC 4291, section 2.5.5.2)
+-- the first twelve octets of an IPv4-mapped address (RFC 4291, section 2.5.5.2)
 abbrev pub mapped_prefix : List ℕ
 mapped_prefix = 0 ∷ 0 ∷ 0 ∷ 0 ∷ 0 ∷ 0 ∷ 0 ∷ 0 ∷ 0 ∷ 0 ∷ 0xff ∷ 0xff ∷ []

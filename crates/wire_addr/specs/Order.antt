@@ -1,8 +1,8 @@
--- How numbers with names compare.
+-- The order of numbers with names.
 use Rattle.std.specs.Prelude.{ℕ}
 use Rattle.std.specs.Ordering.{nat_cmp, ordering_then}
 use Rattle.std.specs.declared.cmp.Ordering.{Ordering}
 
--- those with a name, for which is_unknown is 0, come before those without one, and then the numbers decide
+-- named numbers, for which is_unknown is 0, are before unnamed ones; otherwise the numbers decide
 abbrev pub named_cmp : {T : Type 0} → (T → ℕ) → (T → ℕ) → T → T → Ordering
 named_cmp is_unknown number a b = ordering_then (nat_cmp (is_unknown a) (is_unknown b)) (nat_cmp (number a) (number b))

@@ -2,11 +2,11 @@
 use Rattle.std.specs.Prelude.{ℕ, ◌≡◌, ◌≤◌, ◌-◌, List, ◌++◌, length, replicate, take}
 use Rattle.wire_addr.specs.Octets.{AreOctets}
 
--- octets with zeros behind them, six in all
+-- the octets, filled up with zeros to six
 abbrev pub with_zeros : List ℕ → List ℕ
 with_zeros octets = octets ++ replicate (6 - length octets) 0
 
--- so many octets of the array are meant, and those behind them are zeros
+-- the array has this many octets, and zeros behind them
 pub record HasZerosBehind (len : ℕ) (array : List ℕ) : Type 0 where
   pub within : len ≤ 6
   pub octets : AreOctets 6 array

@@ -1,4 +1,4 @@
--- The texts that addresses are read from, each beside the address that it is read as.
+-- The texts that parse as addresses.
 use Rattle.std.specs.Prelude.{ℕ, ◌≡◌, List}
 use Rattle.wire_addr.specs.Octets.{octets_of}
 use Rattle.wire_addr.specs.declared.ethernet_address.EthernetAddress.{EthernetAddress}

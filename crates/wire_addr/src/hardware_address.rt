@@ -1,4 +1,4 @@
-//! Addresses of the link layer, of whatever medium.
+//! Link-layer addresses of any medium.
 
 ghost use Rattle.std.specs.Prelude.{◌≡◌, ◌≢◌, ◌↔◌, IfSome, IsTrue, Some, length};
 ghost use Rattle.wire_addr.specs.Hardware.{IsBroadcast, IsUnicast, address_text, eui_64_of, medium_of, octets_of};
@@ -8,10 +8,10 @@ use crate::EthernetAddress;
 use net_base::Medium;
 use std::fmt;
 
-/// The address of a device on its medium.
+/// The link-layer address of a device.
 #[derive(Debug, Clone, Copy, PartialEq, Eq)]
 pub enum HardwareAddress {
-    /// Of a device whose packets have no hardware addresses.
+    /// The medium has no hardware addresses.
     Ip,
     Ethernet(EthernetAddress),
 }
@@ -29,7 +29,7 @@ impl HardwareAddress {
         }
     }
 
-    /// Whether it is the address of one station.
+    /// Returns `true` for the address of one station.
     pub fn is_unicast(&self) -> bool
         requires { self.now ≢ Ip }
         ensures { IfSome (octets_of self.now) (λ octets. IsTrue result ↔ IsUnicast octets) }
@@ -40,7 +40,7 @@ impl HardwareAddress {
         }
     }
 
-    /// Whether it is the address of all stations.
+    /// Returns `true` for the broadcast address.
     pub fn is_broadcast(&self) -> bool
         requires { self.now ≢ Ip }
         ensures { IfSome (octets_of self.now) (λ octets. IsTrue result ↔ IsBroadcast octets) }
@@ -51,7 +51,7 @@ impl HardwareAddress {
         }
     }
 
-    /// The Ethernet address that it is.
+    /// The Ethernet address in it.
     pub fn ethernet_or_panic(&self) -> EthernetAddress
         requires { self.now ≢ Ip }
         ensures { self.now ≡ Ethernet result }
@@ -62,7 +62,7 @@ impl HardwareAddress {
         }
     }
 
-    /// The medium that it is an address of.
+    /// The medium of the address.
     pub fn medium(&self) -> Medium
         ensures { result ≡ medium_of self.now }
     {
@@ -72,8 +72,8 @@ impl HardwareAddress {
         }
     }
 
-    /// The identifier of its interface in IPv6 addresses, a modified EUI-64 (RFC 4291, appendix A).
-    /// `Ip` has none.
+    /// The interface identifier in IPv6 addresses, a modified EUI-64 (RFC 4291, appendix A), or
+    /// `None` for `Ip`.
     pub fn as_eui_64(&self) -> Option<[u8; 8]>
         ensures { result ≡ eui_64_of self.now }
     {
@@ -84,7 +84,7 @@ impl HardwareAddress {
     }
 }
 
-/// The text of the Ethernet address; of `Ip` words that say that there is none.
+/// Prints the Ethernet address, or that there is no hardware address.
 impl fmt::Display for HardwareAddress {
     ghost output = { λ address. Some (address_text address) };
 

@@ -1,4 +1,4 @@
-//! Blocks of IPv4 addresses.
+//! CIDR blocks of IPv4 addresses.
 
 ghost use Rattle.std.specs.Prelude.{◌≡◌, ◌↔◌, ◌≤◌, ◌<◌, IsTrue, MatchOption, Ok, Some};
 ghost use Rattle.std.specs.Net.Grammar.{Parses};
@@ -16,7 +16,8 @@ use std::marker::Model;
 use std::str::FromStr;
 use wire_text::number_behind;
 
-/// A block of IPv4 addresses: all that have the first bits of one address (RFC 4632, section 3.1).
+/// A CIDR block: all IPv4 addresses with the same first bits as one address (RFC 4632, section
+/// 3.1). It keeps that address with all its bits.
 #[derive(Debug, Clone, Copy, PartialEq, Eq, PartialOrd, Ord, Hash)]
 pub struct Ipv4Cidr {
     address: Ipv4Address,
@@ -38,7 +39,7 @@ impl Model for Ipv4Cidr {
 }
 
 impl Ipv4Cidr {
-    /// The block of the addresses that have the first `prefix_len` bits of this one.
+    /// The block of all addresses with the same first `prefix_len` bits as this one.
     #[inline]
     pub fn new(address: Ipv4Address, prefix_len: u8) -> Ipv4Cidr
         requires { prefix_len ≤ 32 }
@@ -50,8 +51,8 @@ impl Ipv4Cidr {
         }
     }
 
-    /// The block of an address and a netmask. Refused is what has a zero before a one, and what has no
-    /// one at all.
+    /// The block of an address and a netmask. Fails if a zero comes before a one in the netmask,
+    /// and for 0.0.0.0.
     pub fn from_netmask(addr: Ipv4Address, netmask: Ipv4Address) -> Result<Ipv4Cidr>
         ensures { (block : Block) → (result ≡ Ok block)
             ↔ ((block.address ≡ addr) × IsNetmask block.prefix_len netmask × (1 ≤ block.prefix_len)) }
@@ -62,7 +63,7 @@ impl Ipv4Cidr {
         }
     }
 
-    /// Reads a block as `from_str` does, from the bytes of its text.
+    /// Parses a block as `from_str` does, from bytes.
     #[inline]
     pub fn parse_ascii(text: &[u8]) -> std::result::Result<Ipv4Cidr, ()>
         ensures { Parses ReadsIpv4Block text.now result }
@@ -71,7 +72,7 @@ impl Ipv4Cidr {
         Ok(Ipv4Cidr::new(Ipv4Address::parse_ascii(address)?, prefix_len as u8))
     }
 
-    /// The address that it was made of.
+    /// The address from which the block was made.
     #[inline]
     pub fn address(&self) -> Ipv4Address
         ensures value { result ≡ self.now.address }
@@ -80,7 +81,7 @@ impl Ipv4Cidr {
         self.address
     }
 
-    /// How many first bits its addresses have in common.
+    /// The prefix length: the number of bits that all addresses of the block share.
     #[inline]
     pub fn prefix_len(&self) -> u8
         ensures value { result ≡ self.now.prefix_len }
@@ -89,7 +90,7 @@ impl Ipv4Cidr {
         self.prefix_len
     }
 
-    /// Its netmask: as many ones as the prefix is long, and zeros behind them.
+    /// The netmask: as many ones as the prefix is long, then zeros.
     #[inline]
     pub fn netmask(&self) -> Ipv4Address
         ensures { IsNetmask self.now.prefix_len result }
@@ -97,7 +98,7 @@ impl Ipv4Cidr {
         Ipv4Address::from_bits(mask_32(self.prefix_len))
     }
 
-    /// The same block, made of its least address.
+    /// The same block, made from its lowest address.
     #[inline]
     pub fn network(&self) -> Ipv4Cidr
         ensures address { IsLeast 4 self.now result.address }
@@ -107,8 +108,8 @@ impl Ipv4Cidr {
         Ipv4Cidr::new(Ipv4Address::from_bits(network), self.prefix_len)
     }
 
-    /// Its greatest address, by which all its hosts are reached (RFC 919, section 7). A block of one
-    /// or two addresses has none (RFC 3021, section 2.1).
+    /// The broadcast address of the block: its highest address (RFC 919, section 7). `None` for a
+    /// block of one or two addresses (RFC 3021, section 2.1).
     #[inline]
     pub fn broadcast(&self) -> Option<Ipv4Address>
         ensures { MatchOption result (31 ≤ self.now.prefix_len)
@@ -121,7 +122,7 @@ impl Ipv4Cidr {
         Some(Ipv4Address::from_bits(self.address.to_bits() & mask | !mask))
     }
 
-    /// Whether the address is in the block.
+    /// Returns `true` if the address is in the block.
     #[inline]
     pub fn contains_addr(&self, addr: &Ipv4Address) -> bool
         ensures { IsTrue result ↔ IsIn self.now addr.now }
@@ -130,7 +131,7 @@ impl Ipv4Cidr {
         self.address.to_bits() & mask == addr.to_bits() & mask
     }
 
-    /// Whether each address of the other block is in this one.
+    /// Returns `true` if every address of the other block is in this one.
     #[inline]
     pub fn contains_subnet(&self, subnet: &Ipv4Cidr) -> bool
         ensures { IsTrue result ↔ IsWithin 4 subnet.now self.now }
@@ -139,7 +140,7 @@ impl Ipv4Cidr {
     }
 }
 
-/// The address, `/` and the length of the prefix.
+/// Prints the address, `/` and the prefix length.
 impl fmt::Display for Ipv4Cidr {
     ghost output = { λ block. Some (block_text dotted block) };
 
@@ -148,7 +149,7 @@ impl fmt::Display for Ipv4Cidr {
     }
 }
 
-/// An address, `/` and the length of a prefix in one or two digits. The address is kept as it stands.
+/// Parses an address, `/` and a prefix length of one or two digits. The address keeps all its bits.
 impl FromStr for Ipv4Cidr {
     type Err = ();
 

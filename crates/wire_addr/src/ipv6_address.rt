@@ -1,4 +1,4 @@
-//! Addresses of IPv6.
+//! IPv6 addresses.
 
 ghost use Rattle.std.specs.Prelude.{ℕ, ◌≡◌, ◌≢◌, ◌↔◌, ◌+◌, ◌<◌, ◌≤◌, ◌∷◌, ◌++◌, [], IfSome, IsTrue, MatchOption, Some, length, take};
 ghost use Rattle.std.specs.Net.Text.{longest_zero_run};
@@ -16,38 +16,37 @@ use arrayvec::ArrayString;
 use std::fmt;
 use std::marker::Model;
 
-/// How many octets an address has.
+/// The number of octets of an address.
 pub const IPV6_ADDR_SIZE: usize = 16;
 
-/// The group of all nodes of a link (RFC 4291, section 2.7.1).
+/// The group of all nodes on a link (RFC 4291, section 2.7.1).
 pub const IPV6_LINK_LOCAL_ALL_NODES: Ipv6Address = Ipv6Address([
     0xff, 0x02, 0, 0, 0, 0, 0, 0, 0, 0, 0, 0, 0, 0, 0, 0x01,
 ]);
 
-/// The group of all routers of a link (RFC 4291, section 2.7.1).
+/// The group of all routers on a link (RFC 4291, section 2.7.1).
 pub const IPV6_LINK_LOCAL_ALL_ROUTERS: Ipv6Address = Ipv6Address([
     0xff, 0x02, 0, 0, 0, 0, 0, 0, 0, 0, 0, 0, 0, 0, 0, 0x02,
 ]);
 
-/// The group of all routers of a link that listen to reports of its listeners (RFC 3810, section 11).
+/// The group of all MLDv2-capable routers on a link (RFC 3810, section 11).
 pub const IPV6_LINK_LOCAL_ALL_MLDV2_ROUTERS: Ipv6Address = Ipv6Address([
     0xff, 0x02, 0, 0, 0, 0, 0, 0, 0, 0, 0, 0, 0, 0, 0, 0x16,
 ]);
 
-/// The group of all nodes of a link that speak RPL (RFC 6550, section 20.19).
+/// The group of all RPL nodes on a link (RFC 6550, section 20.19).
 pub const IPV6_LINK_LOCAL_ALL_RPL_NODES: Ipv6Address = Ipv6Address([
     0xff, 0x02, 0, 0, 0, 0, 0, 0, 0, 0, 0, 0, 0, 0, 0, 0x1a,
 ]);
 
-/// The number of the first 96 bits of an address that stands for an IPv4 address (RFC 4291, section
-/// 2.5.5.2).
+/// The first 96 bits of an IPv4-mapped address, as a number (RFC 4291, section 2.5.5.2).
 const MAPPED_PREFIX: u128 = 0xffff;
 
-/// The fewest zero groups that `::` stands for (RFC 5952, section 4.2.2).
+/// The least number of zero groups that `::` stands for (RFC 5952, section 4.2.2).
 const MIN_RUN: usize = 2;
 
-/// A sixteen-octet IPv6 address. A clause sees it as the list of its octets, the one that is sent
-/// first standing first.
+/// A sixteen-octet IPv6 address. A clause sees it as the list of its octets, in the order in which
+/// they are sent.
 #[derive(Debug, Clone, Copy, PartialEq, Eq, PartialOrd, Ord, Hash)]
 pub struct Ipv6Address(pub(crate) [u8; IPV6_ADDR_SIZE]);
 
@@ -65,10 +64,11 @@ impl Model for Ipv6Address {
 }
 
 impl Ipv6Address {
-    /// The address of no host, `::`, by which one that has none yet sends (RFC 4291, section 2.5.2).
+    /// The unspecified address, `::`: the source address of a host that has no address yet (RFC
+    /// 4291, section 2.5.2).
     pub const UNSPECIFIED: Ipv6Address = Ipv6Address([0; 16]);
 
-    /// The address by which a host sends to itself, `::1` (RFC 4291, section 2.5.3).
+    /// The loopback address, `::1` (RFC 4291, section 2.5.3).
     pub const LOCALHOST: Ipv6Address = Ipv6Address([
         0, 0, 0, 0, 0, 0, 0, 0, 0, 0, 0, 0, 0, 0, 0, 1,
     ]);
@@ -87,14 +87,14 @@ impl Ipv6Address {
         Ipv6Address(octets)
     }
 
-    /// Its sixteen octets.
+    /// The sixteen octets.
     pub fn octets(&self) -> [u8; 16]
         ensures { result ≡ self.now }
     {
         self.0
     }
 
-    /// The address whose octets spell this number, the one that is sent first the most significant.
+    /// The address with the octets of this number, in big-endian order.
     #[inline]
     pub fn from_bits(bits: u128) -> Ipv6Address
         ensures value { number_of result ≡ bits }
@@ -103,7 +103,7 @@ impl Ipv6Address {
         Ipv6Address(bits.to_be_bytes())
     }
 
-    /// The number that its octets spell, the one that is sent first the most significant.
+    /// The octets as a big-endian number.
     #[inline]
     pub fn to_bits(self) -> u128
         ensures value { result ≡ number_of self }
@@ -112,7 +112,7 @@ impl Ipv6Address {
         u128::from_be_bytes(self.0)
     }
 
-    /// Its eight groups of 16 bits, the one that is sent first standing first.
+    /// The eight groups of 16 bits, in the order in which they are sent.
     pub fn segments(&self) -> [u16; 8]
         ensures { result ≡ groups_of self.now }
     {
@@ -129,7 +129,7 @@ impl Ipv6Address {
         ]
     }
 
-    /// Whether it stands for no address.
+    /// Returns `true` for `::`.
     #[inline]
     pub fn is_unspecified(&self) -> bool
         ensures { IsTrue result ↔ (self.now ≡ ipv6_unspecified) }
@@ -137,7 +137,7 @@ impl Ipv6Address {
         *self == Ipv6Address::UNSPECIFIED
     }
 
-    /// Whether a host sends to itself by it.
+    /// Returns `true` for `::1`.
     #[inline]
     pub fn is_loopback(&self) -> bool
         ensures { IsTrue result ↔ (self.now ≡ ipv6_loopback) }
@@ -145,7 +145,7 @@ impl Ipv6Address {
         *self == Ipv6Address::LOCALHOST
     }
 
-    /// Whether it is the address of a group, one of ff00::/8 (RFC 4291, section 2.7).
+    /// Returns `true` for a multicast address, in ff00::/8 (RFC 4291, section 2.7).
     #[inline]
     pub fn is_multicast(&self) -> bool
         ensures { IsTrue result ↔ IsIn ipv6_multicast self.now }
@@ -153,7 +153,7 @@ impl Ipv6Address {
         Ipv6Cidr::new(Ipv6Address::new(0xff00, 0, 0, 0, 0, 0, 0, 0), 8).contains_addr(self)
     }
 
-    /// Whether it is an address within one organization, one of fc00::/7 (RFC 4193, section 3.1).
+    /// Returns `true` for a unique local address, in fc00::/7 (RFC 4193, section 3.1).
     #[inline]
     pub fn is_unique_local(&self) -> bool
         ensures { IsTrue result ↔ IsIn ipv6_unique_local self.now }
@@ -161,9 +161,9 @@ impl Ipv6Address {
         Ipv6Cidr::new(Ipv6Address::new(0xfc00, 0, 0, 0, 0, 0, 0, 0), 7).contains_addr(self)
     }
 
-    /// Whether it is an address on one link alone: one of fe80::/64, as the ten bits of its prefix are
-    /// followed by 54 zeros (RFC 4291, section 2.5.6). `Ipv6Cidr::LINK_LOCAL_PREFIX` has all that begin
-    /// with these ten bits.
+    /// Returns `true` for a link-local address, in fe80::/64: the ten bits of the prefix are
+    /// followed by 54 zeros (RFC 4291, section 2.5.6). `Ipv6Cidr::LINK_LOCAL_PREFIX` is the larger
+    /// block fe80::/10.
     #[inline]
     pub fn is_link_local(&self) -> bool
         ensures { IsTrue result ↔ IsIn ipv6_link_local self.now }
@@ -171,7 +171,7 @@ impl Ipv6Address {
         Ipv6Cidr::new(Ipv6Address::new(0xfe80, 0, 0, 0, 0, 0, 0, 0), 64).contains_addr(self)
     }
 
-    /// Whether it is a global address of one interface, one of 2000::/3 (RFC 3587, section 3).
+    /// Returns `true` for a global unicast address, in 2000::/3 (RFC 3587, section 3).
     #[inline]
     pub fn is_global_unicast(&self) -> bool
         ensures { IsTrue result ↔ IsIn ipv6_global_unicast self.now }
@@ -179,16 +179,16 @@ impl Ipv6Address {
         Ipv6Cidr::new(Ipv6Address::new(0x2000, 0, 0, 0, 0, 0, 0, 0), 3).contains_addr(self)
     }
 
-    /// Whether it is the address of one interface: not that of a group or of none.
+    /// Returns `true` for an address that is neither multicast nor unspecified.
     pub fn x_is_unicast(&self) -> bool
         ensures { IsTrue result ↔ IsIpv6Unicast self.now }
     {
         !(self.is_multicast() || self.is_unspecified())
     }
 
-    /// The address of an interface on the link with this prefix: the prefix and the identifier of the
-    /// interface (RFC 2464, section 4). There is none where the prefix has another length than 64 bits,
-    /// or the interface has no identifier.
+    /// The address of an interface on a link: the link's prefix and the interface identifier (RFC
+    /// 2464, section 4). `None` if the prefix length is not 64, or if there is no interface
+    /// identifier.
     pub fn from_link_prefix(
         link_prefix: &Ipv6Cidr,
         interface_identifier: HardwareAddress,
@@ -203,7 +203,7 @@ impl Ipv6Address {
         Some(Ipv6Address::from_octets(octets))
     }
 
-    /// Its octets with zeros behind the first `mask` bits.
+    /// The octets of the address, with zeros behind the first `mask` bits.
     pub fn mask(&self, mask: u8) -> [u8; IPV6_ADDR_SIZE]
         requires { mask ≤ 128 }
         ensures { IsMasked mask self.now result }
@@ -211,7 +211,7 @@ impl Ipv6Address {
         (self.to_bits() & mask_128(mask)).to_be_bytes()
     }
 
-    /// The group by which neighbours ask for the interface with this address (RFC 4291, section 2.7.1).
+    /// The solicited-node multicast address of this address (RFC 4291, section 2.7.1).
     pub fn solicited_node(&self) -> Ipv6Address
         requires { IsIpv6Unicast self.now }
         ensures { result ≡ solicited_node self.now }
@@ -221,8 +221,8 @@ impl Ipv6Address {
         Ipv6Address::from_octets(octets)
     }
 
-    /// Whether it is a group by which neighbours ask for an interface, one of ff02::1:ff00:0/104 (RFC
-    /// 4291, section 2.7.1).
+    /// Returns `true` for a solicited-node multicast address, in ff02::1:ff00:0/104 (RFC 4291,
+    /// section 2.7.1).
     #[inline]
     pub fn is_solicited_node_multicast(&self) -> bool
         ensures { IsTrue result ↔ IsIn ipv6_solicited_node self.now }
@@ -230,8 +230,8 @@ impl Ipv6Address {
         Ipv6Cidr::SOLICITED_NODE_PREFIX.contains_addr(self)
     }
 
-    /// How far packets to it reach. The address of one interface has a scope too, by which senders
-    /// choose their address (RFC 6724, section 3.1); that of a unique local one is global.
+    /// The scope of the address. Unicast addresses have a scope too, for the choice of a source
+    /// address (RFC 6724, section 3.1). A unique local address has global scope.
     pub fn x_multicast_scope(&self) -> Ipv6MulticastScope
         ensures { HasScope self.now result }
     {
@@ -246,8 +246,8 @@ impl Ipv6Address {
         }
     }
 
-    /// The length of the prefix whose netmask it is: how many ones there are, where only zeros follow
-    /// them.
+    /// The prefix length of this netmask: the number of ones, if only zeros follow them. `None` for
+    /// any other address.
     pub fn prefix_len(&self) -> Option<u8>
         ensures value { (n : ℕ) → (result ≡ Some n) ↔ IsNetmask n self.now }
         ensures within { IfSome result (λ n. n ≤ 128) }
@@ -257,8 +257,8 @@ impl Ipv6Address {
         (bits == mask_128(ones)).then_some(ones)
     }
 
-    /// Its text by RFC 5952, section 4; the last four octets are dotted where it stands for an IPv4
-    /// address.
+    /// The printed text (RFC 5952, section 4). The last four octets of an IPv4-mapped address are
+    /// dotted.
     #[inline(always)]
     pub fn text(&self) -> ArrayString<39>
         ensures { result.bytes ≡ ipv6_text self.now }
@@ -268,7 +268,7 @@ impl Ipv6Address {
         text
     }
 
-    /// Appends its text. There must be room.
+    /// Appends the printed text. There must be room.
     fn push_to<const CAP: usize>(&self, text: &mut ArrayString<CAP>)
         requires { array_string_len text.old + 39 ≤ CAP }
         ensures { text.new.bytes ≡ text.old.bytes ++ ipv6_text self.now }
@@ -288,7 +288,7 @@ impl Ipv6Address {
         }
     }
 
-    /// The IPv4 address that it stands for, if it is a mapped one.
+    /// The IPv4 address in an IPv4-mapped address, else `None`.
     fn to_ipv4_mapped(&self) -> Option<Ipv4Address>
         ensures { MatchOption result (take 12 self.now ≢ mapped_prefix)
             (λ ipv4. self.now ≡ mapped_prefix ++ ipv4) }
@@ -337,12 +337,12 @@ impl From<[u16; 8]> for Ipv6Address {
     }
 }
 
-/// Where the longest run of zeros begins, the first of several, and how long it is.
+/// The place of the longest run of zeros, the first of several, and its length.
 fn longest_zero_run(groups: &[u16; 8]) -> (usize, usize)
     ensures value { result ≡ longest_zero_run groups.now }
     ensures within { result.0 + result.1 ≤ 8 }
 {
-    // A run as one number: the longer is the greater, and of two as long the one that begins first.
+    // A run as one number. A longer run is greater; of two runs of one length the first is greater.
     let mut longest = 0;
     let mut run = 0;
     for i in (0..8).rev() {
@@ -352,7 +352,7 @@ fn longest_zero_run(groups: &[u16; 8]) -> (usize, usize)
     (7 - longest % 8, longest / 8)
 }
 
-/// The text alone, whatever width or precision the formatter has.
+/// Width and precision of the formatter are ignored.
 impl fmt::Display for Ipv6Address {
     ghost output = { λ octets. Some (ipv6_text octets) };
 

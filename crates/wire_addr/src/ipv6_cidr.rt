@@ -1,4 +1,4 @@
-//! Blocks of IPv6 addresses.
+//! CIDR blocks of IPv6 addresses.
 
 ghost use Rattle.std.specs.Prelude.{◌≡◌, ◌↔◌, ◌≤◌, IsTrue, Some};
 ghost use Rattle.std.specs.Net.Grammar.{Parses};
@@ -16,7 +16,8 @@ use std::marker::Model;
 use std::str::FromStr;
 use wire_text::number_behind;
 
-/// A block of IPv6 addresses: all that have the first bits of one address (RFC 4291, section 2.3).
+/// A CIDR block: all IPv6 addresses with the same first bits as one address (RFC 4291, section
+/// 2.3). It keeps that address with all its bits.
 #[derive(Debug, Clone, Copy, PartialEq, Eq, PartialOrd, Ord, Hash)]
 pub struct Ipv6Cidr {
     address: Ipv6Address,
@@ -38,20 +39,19 @@ impl Model for Ipv6Cidr {
 }
 
 impl Ipv6Cidr {
-    /// The groups by which neighbours ask for an interface, ff02::1:ff00:0/104 (RFC 4291, section
-    /// 2.7.1).
+    /// The solicited-node multicast addresses, ff02::1:ff00:0/104 (RFC 4291, section 2.7.1).
     pub const SOLICITED_NODE_PREFIX: Ipv6Cidr = Ipv6Cidr {
         address: Ipv6Address([0xff, 0x02, 0, 0, 0, 0, 0, 0, 0, 0, 0, 0x01, 0xff, 0, 0, 0]),
         prefix_len: 104,
     };
 
-    /// The addresses that are set aside for single links, fe80::/10 (RFC 4291, section 2.4).
+    /// The block set aside for link-local addresses, fe80::/10 (RFC 4291, section 2.4).
     pub const LINK_LOCAL_PREFIX: Ipv6Cidr = Ipv6Cidr {
         address: Ipv6Address([0xfe, 0x80, 0, 0, 0, 0, 0, 0, 0, 0, 0, 0, 0, 0, 0, 0]),
         prefix_len: 10,
     };
 
-    /// The block of the addresses that have the first `prefix_len` bits of this one.
+    /// The block of all addresses with the same first `prefix_len` bits as this one.
     #[inline]
     pub fn new(address: Ipv6Address, prefix_len: u8) -> Ipv6Cidr
         requires { prefix_len ≤ 128 }
@@ -63,7 +63,8 @@ impl Ipv6Cidr {
         }
     }
 
-    /// The block of the address that `Ipv6Address::from_link_prefix` gives, with the prefix of the link.
+    /// The block of the address that `Ipv6Address::from_link_prefix` returns, with the prefix
+    /// length of the link. `None` if that function returns `None`.
     pub fn from_link_prefix(
         link_prefix: &Ipv6Cidr,
         interface_identifier: HardwareAddress,
@@ -75,7 +76,7 @@ impl Ipv6Cidr {
         Some(Ipv6Cidr::new(address, link_prefix.prefix_len()))
     }
 
-    /// Reads a block as `from_str` does, from the bytes of its text.
+    /// Parses a block as `from_str` does, from bytes.
     #[inline]
     pub fn parse_ascii(text: &[u8]) -> Result<Ipv6Cidr, ()>
         ensures { Parses ReadsIpv6Block text.now result }
@@ -84,7 +85,7 @@ impl Ipv6Cidr {
         Ok(Ipv6Cidr::new(Ipv6Address::parse_ascii(address)?, prefix_len as u8))
     }
 
-    /// The address that it was made of.
+    /// The address from which the block was made.
     #[inline]
     pub fn address(&self) -> Ipv6Address
         ensures value { result ≡ self.now.address }
@@ -93,7 +94,7 @@ impl Ipv6Cidr {
         self.address
     }
 
-    /// How many first bits its addresses have in common.
+    /// The prefix length: the number of bits that all addresses of the block share.
     #[inline]
     pub fn prefix_len(&self) -> u8
         ensures value { result ≡ self.now.prefix_len }
@@ -102,7 +103,7 @@ impl Ipv6Cidr {
         self.prefix_len
     }
 
-    /// Whether the address is in the block.
+    /// Returns `true` if the address is in the block.
     #[inline]
     pub fn contains_addr(&self, addr: &Ipv6Address) -> bool
         ensures { IsTrue result ↔ IsIn self.now addr.now }
@@ -111,7 +112,7 @@ impl Ipv6Cidr {
         self.address.to_bits() & mask == addr.to_bits() & mask
     }
 
-    /// Whether each address of the other block is in this one.
+    /// Returns `true` if every address of the other block is in this one.
     #[inline]
     pub fn contains_subnet(&self, subnet: &Ipv6Cidr) -> bool
         ensures { IsTrue result ↔ IsWithin 16 subnet.now self.now }
@@ -120,7 +121,7 @@ impl Ipv6Cidr {
     }
 }
 
-/// The address, `/` and the length of the prefix (RFC 4291, section 2.3).
+/// Prints the address, `/` and the prefix length (RFC 4291, section 2.3).
 impl fmt::Display for Ipv6Cidr {
     ghost output = { λ block. Some (block_text ipv6_text block) };
 
@@ -129,7 +130,8 @@ impl fmt::Display for Ipv6Cidr {
     }
 }
 
-/// An address, `/` and the length of a prefix in one to three digits. The address is kept as it stands.
+/// Parses an address, `/` and a prefix length of one to three digits. The address keeps all its
+/// bits.
 impl FromStr for Ipv6Cidr {
     type Err = ();
 

@@ -1,24 +1,24 @@
-//! How far packets to an IPv6 address reach.
+//! Scopes of IPv6 addresses.
 
 ghost use Rattle.std.specs.Prelude.{◌≡◌};
 ghost use Rattle.wire_addr.specs.Class.{scope_of};
 
-/// How far packets to a group reach (RFC 4291, section 2.7).
+/// The scope of a multicast address: how far packets to it are forwarded (RFC 4291, section 2.7).
 #[derive(Debug, Clone, Copy, PartialEq, Eq)]
 pub enum Ipv6MulticastScope {
-    /// Their own interface.
+    /// One interface.
     InterfaceLocal,
-    /// Their link.
+    /// One link.
     LinkLocal,
-    /// As far as was configured.
+    /// As configured by an administrator.
     AdminLocal,
-    /// Their site.
+    /// One site.
     SiteLocal,
-    /// All sites of their organization.
+    /// All sites of one organization.
     OrganizationLocal,
-    /// All of the Internet.
+    /// The whole Internet.
     Global,
-    /// A number that names no other scope, or an address that has none.
+    /// A number without a scope, or an address without one.
     Unknown,
 }
 

@@ -1,4 +1,5 @@
-//! What holds by the definitions alone, and of what is derived. The functions do nothing when they run.
+//! Laws of addresses and blocks, also of their derived order and hash. A law states a fact about
+//! definitions; its body does nothing.
 
 ghost use Rattle.std.specs.Prelude.{◌≡◌, ◌↔◌, true};
 ghost use Rattle.std.specs.Cmp.Lexicographic.{slice_cmp};
@@ -13,38 +14,38 @@ ghost use Rattle.wire_addr.specs.Read.{ReadsEthernet, ReadsIpv4, ReadsIpv6};
 use crate::{EthernetAddress, Ipv4Address, Ipv4Cidr, Ipv6Address, Ipv6Cidr};
 use std::hash::Hash;
 
-/// The text of an address is the one that the rule for printing it asks for.
+/// `IsIpv6Print` holds of exactly one text of an address, and `ipv6_text` computes it.
 pub fn ipv6_print_rule(address: Ipv6Address, other: &[u8])
     ensures is { IsIpv6Print address (ipv6_text address) }
     ensures only { IsIpv6Print address other.now → other.now ≡ ipv6_text address }
 {}
 
-/// No text is read as two Ethernet addresses.
+/// A string parses as at most one Ethernet address.
 pub fn ethernet_one_reading(text: &[u8], a: EthernetAddress, b: EthernetAddress)
     ensures { ReadsEthernet text.now a → ReadsEthernet text.now b → a ≡ b }
 {}
 
-/// No text is read as two IPv4 addresses.
+/// A string parses as at most one IPv4 address.
 pub fn ipv4_one_reading(text: &[u8], a: Ipv4Address, b: Ipv4Address)
     ensures { ReadsIpv4 text.now a → ReadsIpv4 text.now b → a ≡ b }
 {}
 
-/// No text is read as two IPv6 addresses.
+/// A string parses as at most one IPv6 address.
 pub fn ipv6_one_reading(text: &[u8], a: Ipv6Address, b: Ipv6Address)
     ensures { ReadsIpv6 text.now a → ReadsIpv6 text.now b → a ≡ b }
 {}
 
-/// No text is read as two blocks of IPv4 addresses.
+/// A string parses as at most one block of IPv4 addresses.
 pub fn ipv4_cidr_one_reading(text: &[u8], a: Ipv4Cidr, b: Ipv4Cidr)
     ensures { ReadsIpv4Block text.now a → ReadsIpv4Block text.now b → a ≡ b }
 {}
 
-/// No text is read as two blocks of IPv6 addresses.
+/// A string parses as at most one block of IPv6 addresses.
 pub fn ipv6_cidr_one_reading(text: &[u8], a: Ipv6Cidr, b: Ipv6Cidr)
     ensures { ReadsIpv6Block text.now a → ReadsIpv6Block text.now b → a ≡ b }
 {}
 
-/// The text that an address prints as is read as that address.
+/// A printed address parses as that address.
 pub fn print_reads_back(ethernet: EthernetAddress, ipv4: Ipv4Address, ipv6: Ipv6Address)
     ensures ethernet { ReadsEthernet (dashed ethernet.0) ethernet }
     ensures ipv4 { ReadsIpv4 (dotted ipv4) ipv4 }
@@ -55,7 +56,7 @@ pub fn print_reads_back(ethernet: EthernetAddress, ipv4: Ipv4Address, ipv6: Ipv6
     let _ipv6 = ipv6.octets();
 }
 
-/// The text that a block of IPv4 addresses prints as is read as that block.
+/// A printed block of IPv4 addresses parses as that block.
 pub fn print_reads_back_ipv4_cidr(block: Ipv4Cidr)
     ensures { ReadsIpv4Block (block_text dotted block) block }
 {
@@ -63,7 +64,7 @@ pub fn print_reads_back_ipv4_cidr(block: Ipv4Cidr)
     let _prefix_len = block.prefix_len();
 }
 
-/// The text that a block of IPv6 addresses prints as is read as that block.
+/// A printed block of IPv6 addresses parses as that block.
 pub fn print_reads_back_ipv6_cidr(block: Ipv6Cidr)
     ensures { ReadsIpv6Block (block_text ipv6_text block) block }
 {
@@ -71,12 +72,12 @@ pub fn print_reads_back_ipv6_cidr(block: Ipv6Cidr)
     let _prefix_len = block.prefix_len();
 }
 
-/// Values are equal exactly where neither comes before the other.
+/// Two values are equal exactly if they compare as `Equal`.
 pub fn order_agrees<T: Ord>(a: &T, b: &T)
     ensures { (T.cmp a.now b.now ≡ Equal) ↔ (T.eq a.now b.now ≡ true) }
 {}
 
-/// Equal values are hashed alike.
+/// Equal values have equal hashes.
 pub fn hash_agrees<T: Hash>(a: &T, b: &T)
     ensures { T.eq a.now b.now ≡ true → T.hash_input a.now ≡ T.hash_input b.now }
 {}

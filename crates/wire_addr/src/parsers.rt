@@ -1,4 +1,4 @@
-//! The addresses that texts are read as.
+//! Parsers of addresses.
 
 ghost use Rattle.std.specs.Net.Grammar.{Parses};
 ghost use Rattle.wire_addr.specs.Read.{ReadsEthernet, ReadsIpv4, ReadsIpv6};
@@ -7,7 +7,7 @@ use crate::{EthernetAddress, Ipv4Address, Ipv6Address};
 use std::str::FromStr;
 use wire_text::{groups, hex_octets, octets};
 
-/// Six groups of one or two hex digits, joined all by `-` or all by `:`.
+/// Parses six groups of one or two hex digits, all joined by `-` or all by `:`.
 impl FromStr for EthernetAddress {
     type Err = ();
 
@@ -19,7 +19,7 @@ impl FromStr for EthernetAddress {
 }
 
 impl EthernetAddress {
-    /// Reads an address as `from_str` does, from the bytes of its text.
+    /// Parses an address as `from_str` does, from bytes.
     #[inline]
     pub fn parse_ascii(text: &[u8]) -> Result<EthernetAddress, ()>
         ensures { Parses ReadsEthernet text.now result }
@@ -31,7 +31,7 @@ impl EthernetAddress {
     }
 }
 
-/// Four decimal numbers of one to three digits, joined by `.`.
+/// Parses four decimal numbers of one to three digits, joined by `.`.
 impl FromStr for Ipv4Address {
     type Err = ();
 
@@ -43,7 +43,7 @@ impl FromStr for Ipv4Address {
 }
 
 impl Ipv4Address {
-    /// Reads an address as `from_str` does, from the bytes of its text.
+    /// Parses an address as `from_str` does, from bytes.
     #[inline]
     pub fn parse_ascii(text: &[u8]) -> Result<Ipv4Address, ()>
         ensures { Parses ReadsIpv4 text.now result }
@@ -55,8 +55,8 @@ impl Ipv4Address {
     }
 }
 
-/// The texts of RFC 4291, section 2.2, where a dotted part ends none but the address that stands for an
-/// IPv4 address.
+/// Parses the text forms of RFC 4291, section 2.2. A dotted IPv4 part is accepted only in an
+/// IPv4-mapped address.
 impl FromStr for Ipv6Address {
     type Err = ();
 
@@ -68,7 +68,7 @@ impl FromStr for Ipv6Address {
 }
 
 impl Ipv6Address {
-    /// Reads an address as `from_str` does, from the bytes of its text.
+    /// Parses an address as `from_str` does, from bytes.
     #[inline]
     pub fn parse_ascii(text: &[u8]) -> Result<Ipv6Address, ()>
         ensures { Parses ReadsIpv6 text.now result }

@@ -1,8 +1,8 @@
-//! Masks of prefixes: so many ones, and zeros behind them.
+//! Masks of prefixes: ones, then zeros.
 
 ghost use Rattle.std.specs.Prelude.{◌≡◌, ◌-◌, ◌^◌, ◌≤◌};
 
-/// So many ones and zeros behind them, 32 bits in all.
+/// A mask of 32 bits that begins with `ones` ones.
 #[inline]
 pub(crate) fn mask_32(ones: u8) -> u32
     requires { ones ≤ 32 }
@@ -12,7 +12,7 @@ pub(crate) fn mask_32(ones: u8) -> u32
     if zeros == 32 { 0 } else { u32::MAX << zeros }
 }
 
-/// So many ones and zeros behind them, 128 bits in all.
+/// A mask of 128 bits that begins with `ones` ones.
 #[inline]
 pub(crate) fn mask_128(ones: u8) -> u128
     requires { ones ≤ 128 }

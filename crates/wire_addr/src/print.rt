@@ -1,4 +1,4 @@
-//! The parts of printed addresses, appended to a text of fixed capacity.
+//! The parts of printed addresses, appended to a string of fixed capacity.
 
 ghost use Rattle.std.specs.Prelude.{◌≡◌, ◌+◌, ◌*◌, ◌<◌, ◌≤◌, ◌++◌, decimal, length};
 ghost use Rattle.std.specs.Char.{digit_char};

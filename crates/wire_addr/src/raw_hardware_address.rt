@@ -1,4 +1,4 @@
-//! Addresses of the link layer whose medium is not looked at yet.
+//! Link-layer addresses of an unknown medium.
 
 ghost use Rattle.std.specs.Prelude.{◌≡◌, ◌↔◌, ◌≤◌, [], IsTrue, Ok, Some, length};
 ghost use Rattle.wire_addr.specs.Hardware.{AreAddress, octets_of};
@@ -10,11 +10,11 @@ use net_base::{Error, Medium, Result};
 use std::fmt;
 use std::marker::Model;
 
-/// How many octets the longest hardware address has.
+/// The number of octets of the longest hardware address.
 pub const MAX_HARDWARE_ADDRESS_LEN: usize = 6;
 
-/// At most six octets that may be a hardware address. A clause sees the list of them. Zeros fill the
-/// rest of the array, so that the same octets are the same value.
+/// At most six octets that may be a hardware address. A clause sees the list of them. The rest of
+/// the array is 0, so that equal octets are equal values.
 #[derive(Debug, Clone, Copy, PartialEq, Eq)]
 pub struct RawHardwareAddress {
     len: u8,
@@ -35,7 +35,7 @@ impl Model for RawHardwareAddress {
 }
 
 impl RawHardwareAddress {
-    /// The address with the octets of a slice of at most six.
+    /// The address with these octets. The slice must have at most six.
     pub fn from_bytes(bytes: &[u8]) -> RawHardwareAddress
         requires { length bytes.now ≤ 6 }
         ensures { result ≡ bytes.now }
@@ -48,7 +48,7 @@ impl RawHardwareAddress {
         }
     }
 
-    /// Its octets.
+    /// The octets.
     pub fn as_bytes(&self) -> &[u8]
         ensures octets { result.now ≡ self.now }
         ensures len { length result.now ≤ 6 }
@@ -56,22 +56,22 @@ impl RawHardwareAddress {
         &self.octets[..usize::from(self.len)]
     }
 
-    /// How many octets it has.
+    /// The number of octets.
     pub fn len(&self) -> usize
         ensures { result ≡ length self.now }
     {
         self.len.into()
     }
 
-    /// Whether it has no octet.
+    /// Returns `true` if there are no octets.
     pub fn is_empty(&self) -> bool
         ensures { IsTrue result ↔ (self.now ≡ []) }
     {
         self.len == 0
     }
 
-    /// The address with these octets on a medium. Only Ethernet has one, and only of six octets: all
-    /// else is refused.
+    /// The address with these octets on a medium. Fails unless the medium is Ethernet and there are
+    /// six octets.
     pub fn parse(&self, medium: Medium) -> Result<HardwareAddress>
         ensures { (address : HardwareAddress) → (result ≡ Ok address) ↔ AreAddress self.now medium address }
     {
@@ -86,7 +86,7 @@ impl RawHardwareAddress {
         }
     }
 
-    /// The octets of an address, of which `Ip` has none.
+    /// The octets of an address. `Ip` has none.
     pub fn from_hardware(address: HardwareAddress) -> Option<RawHardwareAddress>
         ensures { result ≡ octets_of address }
     {
@@ -97,7 +97,7 @@ impl RawHardwareAddress {
     }
 }
 
-/// Two lower-case hex digits an octet, joined by `:`.
+/// Prints two lower-case hex digits for each octet, joined by `:`.
 impl fmt::Display for RawHardwareAddress {
     ghost output = { λ octets. Some (coloned octets) };
 

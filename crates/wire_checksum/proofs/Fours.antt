@@ -12,6 +12,7 @@ use Rattle.wire_checksum.proofs.WordLists.{words-of_8, chunk-at, sum-words-split
 abbrev pub word : ℕ → List ℕ → ℕ
 word k xs = from_le_bytes w64 (get_or (first_chunks 8 4 xs) k [])
 
+-- the sum of the four words of a chunk
 abbrev pub four : List ℕ → ℕ
 four xs = word 0 xs + word 1 xs + word 2 xs + word 3 xs
 
@@ -23,6 +24,7 @@ split : (i : ℕ) (xs : List ℕ) → length xs ≡ 32 → i % 2 ≡ 0 → i + 8
 split i xs e even room =
     sum-words-split 8 (drop i xs) (omega arith) (rw length-drop (omega arith)) ∙ ap (λ l. sum (words (take 8 (drop i xs))) + sum (words l)) (drop-drop 8 i xs ∙ ap (λ n. drop n xs) (omega arith))
 
+-- it stands for the sum of the chunk's 16-bit words
 pub words-of_32 : (xs : List ℕ) → length xs ≡ 32 → residue (256 * four xs) ≡ residue (sum (words xs))
 unfolding words
 words-of_32 xs e =
@@ -43,14 +45,16 @@ words-of_32 xs e =
     empty [] h = refl
     empty (x ∷ l) h = absurd (omega arith)
 
--- what carries are brought round or handed on
+-- carries that move from bit 64 to bit 0 keep the residue
 pub carried : (before after carries : ℕ) → after + 18446744073709551615 * carries ≡ before → (after ≡ 0 → carries ≡ 0) → residue (256 * after) ≡ residue (256 * before)
 carried before after carries e none =
     residue-same (256 * after) (256 * before) (256 * (281479271743489 * carries)) 0 (omega (arith, e)) (λ z. let n = none (omega (arith, z)) in omega (arith, e, n, z)) (λ z. omega (arith, e, z))
 
+-- the number that the code reads is the word at place k
 pub word-is : (k n : ℕ) (ws : List (List ℕ)) (v : List ℕ) (r : ℕ) → ws ≡ first_chunks 8 n v → n ≡ 4 → r ≡ from_le_bytes w64 (get_or ws k []) → r ≡ word k v
 word-is k n ws v r cut four is = is ∙ ap (λ l. from_le_bytes w64 (get_or l k [])) (cut ∙ ap (λ m. first_chunks 8 m v) four)
 
+-- each chunk of 64 bytes has 64 bytes
 pub chunk-long : (i : ℕ) (bytes : List ℕ) (chunks : List (List ℕ)) → chunks ≡ first_chunks 64 (length bytes / 64) bytes → i < length bytes / 64 → length (get_or chunks i []) ≡ 64
 chunk-long i bytes chunks cut below =
     ap (λ cs. length (get_or cs i [])) cut ∙ ap length (chunk-at 64 (length bytes / 64) i bytes [] below) ∙ length-take-le 64 (drop (i * 64) bytes) (rw length-drop (omega arith))
@@ -64,6 +68,7 @@ chained a k w0 w1 w2 w3 b c d e x y z u f p q r s t = carried (a + k + f) (e + u
 pub and_more : (s t k : ℕ) → residue (256 * s) ≡ residue (256 * t) → residue (256 * (s + k)) ≡ residue (256 * (t + k))
 and_more s t k e = ap residue (mul-add 256 s k) ∙ residue-add (256 * s) (256 * t) (256 * k) (256 * k) e refl ∙ ap residue (sym (mul-add 256 t k))
 
+-- a total of a front and a total of the rest add up to a total of all bytes
 pub ends : (m : ℕ) (bytes front rest : List ℕ) (f p s : ℕ) → m % 2 ≡ 0 → m ≤ length bytes → front ≡ take m bytes → rest ≡ drop m bytes → residue (256 * f) ≡ residue (sum (words front)) → residue (256 * p) ≡ residue (sum (words rest))
     → residue (256 * s) ≡ residue (256 * (f + p)) → residue (256 * s) ≡ residue (sum (words bytes))
 ends m bytes front rest f p s even room first back a b c =

@@ -9,6 +9,7 @@ use Rattle.wire_ends.specs.declared.ip_protocol.IpProtocol.{IpProtocol}
 use Rattle.wire_checksum.proofs.Residues.{residue-add, residue-join, residue-same}
 use Rattle.wire_checksum.proofs.WordLists.{sum-words-append}
 
+-- the sum of joined bytes is the sum of their sums, if the first part has an even length
 pub sum-joins : (a b : List ℕ) → length a % 2 ≡ 0 → sum_of_bytes (a ++ b) ≡ sum_of (sum_of_bytes a ∷ sum_of_bytes b ∷ [])
 sum-joins a b even = ap residue (sum-words-append a b even) ∙ residue-join (sum (words a)) (sum (words b)) ∙ ap residue (omega arith)
 

@@ -15,12 +15,15 @@ pairs (x ∷ y ∷ rest) = (x + 256 * y) ∷ pairs rest
 abbrev pub evens : ℕ → List ℕ → List ℕ → List ℕ
 evens n all odd = zip2 (λ a s. (a + (65536 - s)) % 65536) all (zip2 (λ o k. (o * 2 ^ k) % 65536) odd (replicate n 8))
 
+-- `all` after one more vector
 abbrev pub next_all : List ℕ → List ℕ → List ℕ
 next_all all ps = zip2 (λ a x. (a + x) % 65536) all ps
 
+-- `odd` after one more vector
 abbrev pub next_odd : List ℕ → List ℕ → List ℕ
 next_odd odd ps = zip2 (λ o d. o + d) odd (map (λ x. x / 256) ps)
 
+-- the lanes of a vector are its pairs of bytes
 pub digits-pairs : (n : ℕ) (v : List ℕ) → length v ≡ 2 * n → Each1 (λ a. a < 256) v → digits_l 65536 n (number_l 256 v) ≡ pairs v
 digits-pairs zero [] e h = refl
 digits-pairs zero (x ∷ v) e h = absurd (omega arith)
@@ -35,6 +38,7 @@ digits-pairs (suc n) (x ∷ y ∷ v) e h =
     ap (λ k. k ∷ digits_l 65536 n ((x + 256 * (y + 256 * m)) / 65536)) a ∙ ap (λ k. (x + 256 * y) ∷ digits_l 65536 n k) b
     ∙ ap (λ l. (x + 256 * y) ∷ l) (digits-pairs n v (omega arith) (h.1).1)
 
+-- one more vector raises the bound of `odd` by 255
 pub odd-bound : (b : ℕ) (os v : List ℕ) → Each1 (λ a. a ≤ b) os → Each1 (λ a. a < 256) v → Each1 (λ a. a ≤ b + 255) (next_odd os (pairs v))
 odd-bound b [] v h k = tt
 odd-bound b (o ∷ os) [] h k = tt
@@ -45,6 +49,7 @@ odd-bound b (o ∷ os) (x ∷ y ∷ v) h k =
     let r : o ≤ b = h.0 in
     (omega arith, odd-bound b os v h.1 (k.1).1)
 
+-- the addition to `odd` does not overflow
 pub odd-fit : (b : ℕ) (os v : List ℕ) → b + 255 ≤ 65535 → Each1 (λ a. a ≤ b) os → Each1 (λ a. a < 256) v → Each2 (λ o d. Fits w16 (o + d)) os (map (λ x. x / 256) (pairs v))
 odd-fit b [] v room h k = tt
 odd-fit b (o ∷ os) [] room h k = tt
@@ -55,6 +60,7 @@ odd-fit b (o ∷ os) (x ∷ y ∷ v) room h k =
     let r : o ≤ b = h.0 in
     (record { fits = omega arith }, odd-fit b os v room h.1 (k.1).1)
 
+-- `odd` keeps its number of lanes
 pub odd-long : (n : ℕ) (os v : List ℕ) → length os ≡ n → length v ≡ 2 * n → length (next_odd os (pairs v)) ≡ n
 odd-long n [] v e f = e
 odd-long n (o ∷ os) [] e f = absurd (omega arith)
@@ -62,6 +68,7 @@ odd-long n (o ∷ os) (x ∷ []) e f = absurd (omega arith)
 odd-long zero (o ∷ os) (x ∷ y ∷ v) e f = absurd (omega arith)
 odd-long (suc n) (o ∷ os) (x ∷ y ∷ v) e f = ap suc (odd-long n os v (omega arith) (omega arith))
 
+-- `all` keeps its number of lanes
 pub all-long : (n : ℕ) (al v : List ℕ) → length al ≡ n → length v ≡ 2 * n → length (next_all al (pairs v)) ≡ n
 all-long n [] v e f = e
 all-long n (a ∷ al) [] e f = absurd (omega arith)
@@ -92,6 +99,7 @@ even-bound (suc n) b (a ∷ al) (o ∷ os) (x ∷ y ∷ v) room e f g h k =
     let s = lane a o x y p q (omega arith) in
     (omega (arith, s), even-bound n b al os v room (omega arith) (omega arith) (omega arith) (h.1).1 k.1)
 
+-- one more vector adds the sum of its words
 pub even-sum : (n b : ℕ) (al os v : List ℕ) → b + 255 ≤ 65535 → length al ≡ n → length os ≡ n → length v ≡ 2 * n → Each1 (λ a. a < 256) v → Each1 (λ a. a ≤ b) (evens n al os)
     → 256 * sum_l (evens n (next_all al (pairs v)) (next_odd os (pairs v))) + sum_l (next_odd os (pairs v)) ≡ 256 * sum_l (evens n al os) + sum_l os + sum (words v)
 unfolding words
@@ -122,6 +130,7 @@ even-sum (suc n) b (a ∷ al) (o ∷ os) (x ∷ y ∷ v) room e f g h k =
     combine : (first before x y d o ev od ev' od' t w : ℕ) → first ≡ before + x → d ≡ y → 256 * ev + od ≡ 256 * ev' + od' + t → w ≡ 256 * x + y + t → 256 * (first + ev) + ((o + d) + od) ≡ 256 * (before + ev') + (o + od') + w
     combine first before x y d o ev od ev' od' t w a b c e = omega arith
 
+-- the even sums have as many lanes
 pub evens-long : (n : ℕ) (al os : List ℕ) → length al ≡ n → length os ≡ n → length (evens n al os) ≡ n
 evens-long zero [] os e f = refl
 evens-long zero (a ∷ al) os e f = absurd (omega arith)

@@ -2,6 +2,7 @@
 use Rattle.std.proofs.Common.{◌≡◌, ℕ, zero, suc, ◌+◌, ◌-◌, ◌*◌, ◌%◌, ◌/◌, ◌<◌, ◌≤◌, refl, sym, ◌∙◌, ap, arith}
 use Rattle.wire_checksum.specs.WordSum.{IsSum, residue}
 
+-- numbers that differ by multiples of 65535, and are 0 together, have the same residue
 pub residue-same : (s t j k : ℕ) → s + 65535 * j ≡ t + 65535 * k → (s ≡ 0 → t ≡ 0) → (t ≡ 0 → s ≡ 0) → residue s ≡ residue t
 unfolding residue
 residue-same zero zero j k e f g = refl
@@ -15,6 +16,7 @@ unfolding residue
 residue-quotient zero = (0, refl)
 residue-quotient (suc n) = (n / 65535, omega arith)
 
+-- a residue has 16 bits
 pub residue-bound : (t : ℕ) → residue t ≤ 65535
 unfolding residue
 residue-bound zero = omega arith
@@ -25,16 +27,19 @@ unfolding residue
 residue-zero zero e = refl
 residue-zero (suc n) e = absurd (omega arith)
 
+-- the residue of 0 is 0
 pub residue-of_zero : (t : ℕ) → t ≡ 0 → residue t ≡ 0
 unfolding residue
 residue-of_zero zero e = refl
 residue-of_zero (suc n) e = absurd (omega arith)
 
+-- a number of 16 bits is its own residue
 pub residue-small : (t : ℕ) → t ≤ 65535 → residue t ≡ t
 unfolding residue
 residue-small zero h = refl
 residue-small (suc n) h = omega arith
 
+-- the residue of a sum, from the residues of both numbers
 pub residue-join : (a b : ℕ) → residue (a + b) ≡ residue (residue a + residue b)
 residue-join a b =
     let p = residue-quotient a in
@@ -61,6 +66,7 @@ pub residue-no_carry : (s t n : ℕ) → s ≡ residue t → s + n ≤ 65535 →
 residue-no_carry s t n e h =
     sym (residue-join t n ∙ ap (λ m. residue (m + residue n)) (sym e) ∙ ap (λ m. residue (s + m)) (residue-small n (omega arith)) ∙ residue-small (s + n) h)
 
+-- one step of `combine` that brings a carry round
 pub residue-carry : (s t n : ℕ) → s ≡ residue t → s ≤ 65535 → n ≤ 65535 → 65535 < s + n → s + n - 65535 ≡ residue (t + n)
 residue-carry s t n e a b h =
     sym (residue-join t n ∙ ap (λ m. residue (m + residue n)) (sym e) ∙ ap (λ m. residue (s + m)) (residue-small n b)

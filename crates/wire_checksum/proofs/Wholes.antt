@@ -5,6 +5,7 @@ use Rattle.wire_checksum.specs.WordSum.{words, residue}
 use Rattle.wire_checksum.proofs.Residues.{residue-add}
 use Rattle.wire_checksum.proofs.WordLists.{sum-words-split}
 
+-- a total of the bytes behind the last whole word of 8, with all whole words added, is a total of all bytes
 pub with-tail : (bytes : List ℕ) (t s : ℕ) → residue (256 * t) ≡ residue (sum (words (drop (length bytes / 8 * 8) bytes)))
     → residue (256 * s) ≡ residue (256 * t + sum (words (take (length bytes / 8 * 8) bytes))) → residue (256 * s) ≡ residue (sum (words bytes))
 with-tail bytes t s a b =

@@ -16,6 +16,7 @@ words-append [] b e = refl
 words-append (x ∷ []) b e = absurd (omega arith)
 words-append (x ∷ y ∷ a) b e = ap (λ ws. (256 * x + y) ∷ ws) (words-append a b (omega arith))
 
+-- the words of joined bytes, if the first part has an even length
 pub sum-words-append : (a b : List ℕ) → length a % 2 ≡ 0 → sum (words (a ++ b)) ≡ sum (words a) + sum (words b)
 sum-words-append a b e = ap sum (words-append a b e) ∙ sum_by-append (λ x. x) (words a) (words b)
 
@@ -34,6 +35,7 @@ number-words (x ∷ y ∷ xs) =
     residue-same (256 * (x + 256 * (y + 256 * m))) (256 * x + y + 256 * m) 0 (y + 256 * m) (omega arith) (λ z. omega arith) (λ z. omega arith)
     ∙ residue-add (256 * x + y) (256 * x + y) (256 * m) (sum (words xs)) refl (number-words xs) ∙ ap residue (sym (sum-words-cons x y xs))
 
+-- the number that 8 bytes spell, low byte first
 pub number-of_8 : (xs : List ℕ) → length xs ≡ 8 → from_le_bytes w64 xs ≡ number_l 256 xs
 number-of_8 (a ∷ b ∷ c ∷ d ∷ e ∷ f ∷ g ∷ h ∷ []) l = omega arith
 number-of_8 [] l = absurd (omega arith)
@@ -60,12 +62,15 @@ number-of_2 [] l = absurd (omega arith)
 number-of_2 (a ∷ []) l = absurd (omega arith)
 number-of_2 (a ∷ b ∷ c ∷ xs) l = absurd (omega arith)
 
+-- the little-endian number of 8 bytes stands for the sum of their words
 pub words-of_8 : (xs : List ℕ) → length xs ≡ 8 → residue (256 * from_le_bytes w64 xs) ≡ residue (sum (words xs))
 words-of_8 xs l = ap (λ n. residue (256 * n)) (number-of_8 xs l) ∙ number-words xs
 
+-- the same for 4 bytes
 pub words-of_4 : (xs : List ℕ) → length xs ≡ 4 → residue (256 * from_le_bytes w32 xs) ≡ residue (sum (words xs))
 words-of_4 xs l = ap (λ n. residue (256 * n)) (number-of_4 xs l) ∙ number-words xs
 
+-- the same for 2 bytes
 pub words-of_2 : (xs : List ℕ) → length xs ≡ 2 → residue (256 * from_le_bytes w16 xs) ≡ residue (sum (words xs))
 words-of_2 xs l = ap (λ n. residue (256 * n)) (number-of_2 xs l) ∙ number-words xs
 
@@ -76,6 +81,7 @@ words-of_1 (a ∷ []) l = zero-add (256 * a)
 words-of_1 [] l = absurd (omega arith)
 words-of_1 (a ∷ b ∷ xs) l = absurd (omega arith)
 
+-- chunk i of n bytes is a slice of the bytes
 pub chunk-at : (n k i : ℕ) (xs d : List ℕ) → i < k → get_or (first_chunks n k xs) i d ≡ take n (drop (i * n) xs)
 chunk-at n zero i xs d h = absurd (omega arith)
 chunk-at n (suc k) zero xs d h = ap (λ j. take n (drop j xs)) (sym (zero-mul n))
@@ -125,6 +131,7 @@ pub chunk-step : (n k : ℕ) (bytes : List ℕ) (chunks : List (List ℕ)) (numb
 chunk-step n k bytes chunks number i j s w cut below even next room reads is so_far =
     chunk-more n k bytes chunks number 0 i j s w cut below even next room reads is (so_far ∙ ap residue (sym (zero-add (sum (words (take (i * n) bytes)))))) ∙ ap residue (zero-add (sum (words (take j bytes))))
 
+-- the words of no bytes add up to 0
 pub words-of_0 : (xs : List ℕ) → length xs ≡ 0 → sum (words xs) ≡ 0
 unfolding words
 words-of_0 [] l = refl

@@ -1,4 +1,5 @@
-//! The internet checksum (RFC 1071), without the final complement.
+//! The Internet checksum (RFC 1071), without the final complement. A sum here is a one's complement
+//! sum of 16-bit words.
 
 ghost use Rattle.std.specs.Prelude.{◌≡◌, ◌*◌};
 ghost use Rattle.wire_ends.specs.IpAddress.{octets_of, version_of};
@@ -9,8 +10,8 @@ use crate::totals::{around, finish, total, total_here, total_of_words};
 use wire_addr::{Ipv4Address, Ipv6Address};
 use wire_ends::{IpAddress, IpProtocol};
 
-/// The sum of numbers, such as the sums of the parts of a packet: 0 where each of them is 0, else the
-/// one number in 1 to 65535 that is congruent to their plain sum modulo 65535.
+/// Adds numbers, such as the sums of the parts of a packet. The result is 0 if all numbers are 0.
+/// Else it is the number in 1 to 65535 that is congruent to their plain sum modulo 65535.
 pub fn combine(sums: &[u16]) -> u16
     ensures { result ≡ sum_of sums.now }
 {
@@ -24,8 +25,8 @@ pub fn combine(sums: &[u16]) -> u16
     sum as u16
 }
 
-/// The sum, as of `combine`, of the 16-bit words that the bytes spell in network order. An odd last
-/// byte is the high byte of a word.
+/// The sum of the big-endian 16-bit words of the bytes, added as by `combine`. An odd last byte is
+/// the high byte of a word.
 #[inline(always)]
 pub fn data(bytes: &[u8]) -> u16
     ensures { result ≡ sum_of_bytes bytes.now }
@@ -36,8 +37,8 @@ pub fn data(bytes: &[u8]) -> u16
     }
 }
 
-/// The sum of the pseudo header of a packet over IPv4 (RFC 768). Of its length, in octets, the low 16
-/// bits count.
+/// The sum of an IPv4 pseudo-header (RFC 768). Only the low 16 bits of the length count. The length
+/// is in octets.
 pub fn pseudo_header_v4(
     src_addr: &Ipv4Address,
     dst_addr: &Ipv4Address,
@@ -50,8 +51,8 @@ pub fn pseudo_header_v4(
     pseudo_header(&src_addr, &dst_addr, next_header, length)
 }
 
-/// The sum of the pseudo header of a packet over IPv6 (RFC 8200, section 8.1). Of its length, in
-/// octets, the low 16 bits count.
+/// The sum of an IPv6 pseudo-header (RFC 8200, section 8.1). Only the low 16 bits of the length
+/// count. The length is in octets.
 pub fn pseudo_header_v6(
     src_addr: &Ipv6Address,
     dst_addr: &Ipv6Address,
@@ -64,7 +65,8 @@ pub fn pseudo_header_v6(
     pseudo_header(&src_addr, &dst_addr, next_header, length)
 }
 
-/// The sum of the pseudo header of a packet between two addresses of one version.
+/// The sum of the pseudo-header of either IP version. Only the low 16 bits of the length count. The
+/// length is in octets.
 pub fn pseudo_header(
     src_addr: &IpAddress,
     dst_addr: &IpAddress,
@@ -77,7 +79,7 @@ pub fn pseudo_header(
     finish(pseudo_header_total(*src_addr, *dst_addr, next_header, length))
 }
 
-/// The sum of a packet of a transport with its pseudo header before it, in which the length is that of
+/// The sum of a pseudo-header and the packet behind it. The length in the pseudo-header is that of
 /// the packet.
 #[inline(always)]
 pub fn packet(
@@ -94,7 +96,7 @@ pub fn packet(
     finish(around(header, total(packet)))
 }
 
-// The total of a pseudo header.
+// The total of a pseudo-header.
 #[inline]
 pub(crate) fn pseudo_header_total(
     src_addr: IpAddress,

@@ -1,7 +1,7 @@
-//! The checksum of the internet protocols.
+//! The Internet checksum (RFC 1071).
 #![tactic(auto)]
 
 pub mod checksum;
+pub mod for_emit;
 pub mod laws;
-pub mod parts;
 mod totals;

@@ -1,13 +1,13 @@
-//! Totals of bytes. A total is any number that stands for a sum: the words are taken low byte first and added
-//! with their carries brought round, and `finish` makes the sum of it.
+//! Totals of bytes. A total is any number that stands for a sum. Its 16-bit words are little-endian
+//! and added with end-around carry (RFC 1071). `finish` turns it into the sum.
 
 ghost use Rattle.std.specs.Prelude.{◌≡◌, ◌+◌, ◌*◌, ◌/◌, ◌^◌, ◌<◌, ◌≤◌, ◌%◌, length, sum, take, drop};
 ghost use Rattle.wire_checksum.specs.WordSum.{residue, sum_of_bytes, words};
 
 use std::simd::prelude::*;
 
-/// The sum that a total stands for. In a total words are taken low byte first, so at the end the two
-/// bytes of the sum change places.
+/// The sum that a total stands for. The words of a total are little-endian, so the two bytes of the
+/// folded total are swapped.
 #[inline]
 pub fn finish(total: u64) -> u16
     ensures { result ≡ residue (256 * total) }
@@ -15,7 +15,7 @@ pub fn finish(total: u64) -> u16
     reduce(total).swap_bytes()
 }
 
-// The sum of words that add up to a total.
+// Folds a number to the one's complement sum of its 16-bit words.
 #[inline]
 fn reduce(total: u64) -> u16
     ensures { result ≡ residue total }
@@ -23,8 +23,8 @@ fn reduce(total: u64) -> u16
     fold_to_u16(fold_to_u32(total))
 }
 
-// A total of 32 bits that stands for the same sum. A number and the same with its halves exchanged add up
-// to the sum of the halves, with its carry brought round, in the upper half.
+// Folds 64 bits to 32. A number plus itself with its halves exchanged has the sum of the halves,
+// with end-around carry, in its upper half.
 #[inline]
 fn fold_to_u32(total: u64) -> u32
     ensures { residue result ≡ residue total }
@@ -33,7 +33,7 @@ fn fold_to_u32(total: u64) -> u32
     (twice >> 32) as u32
 }
 
-// The sum of the two words of a number, with its carry brought round in the same way.
+// Folds 32 bits to 16 in the same way.
 #[inline]
 fn fold_to_u16(number: u32) -> u16
     ensures { result ≡ residue number }
@@ -42,7 +42,7 @@ fn fold_to_u16(number: u32) -> u16
     (twice >> 16) as u16
 }
 
-/// The sum of two totals, with its carry brought round.
+/// Adds two totals with end-around carry.
 #[inline]
 pub fn around(a: u64, b: u64) -> u64
     ensures { residue (256 * result) ≡ residue (256 * (a + b)) }
@@ -51,7 +51,8 @@ pub fn around(a: u64, b: u64) -> u64
     (sum % (1 << 64)) as u64 + (sum >> 64) as u64
 }
 
-/// The total of bytes, by a call, so that a caller stays small enough to be compiled into its own callers.
+/// The total of bytes, as a call. Inlined into `checksum::packet`, `total_here` makes `parse` larger and
+/// slower, also where no checksum is verified.
 #[inline(never)]
 pub fn total(bytes: &[u8]) -> u64
     ensures { residue (256 * result) ≡ sum_of_bytes bytes.now }
@@ -59,7 +60,7 @@ pub fn total(bytes: &[u8]) -> u64
     total_here(bytes)
 }
 
-/// The total of bytes, compiled into its caller.
+/// The total of bytes, inlined.
 #[inline(always)]
 pub fn total_here(bytes: &[u8]) -> u64
     ensures { residue (256 * result) ≡ sum_of_bytes bytes.now }
@@ -71,7 +72,8 @@ pub fn total_here(bytes: &[u8]) -> u64
     }
 }
 
-// The total of bytes. It is called for a few and for many, so that what lies between is straight code.
+// The total of fewer than 8 or at least 320 bytes. It is out of line, so that the code for all
+// other lengths has no call.
 #[inline(never)]
 fn apart(bytes: &[u8]) -> u64
     ensures { residue (256 * result) ≡ sum_of_bytes bytes.now }
@@ -83,7 +85,7 @@ fn apart(bytes: &[u8]) -> u64
     }
 }
 
-// The total of many bytes.
+// The total of at least 8 bytes.
 #[inline]
 fn long(bytes: &[u8]) -> u64
     requires { 8 ≤ length bytes.now }
@@ -96,7 +98,7 @@ fn long(bytes: &[u8]) -> u64
     }
 }
 
-// The total of whole chunks of 2048 bytes, which lanes add up, and of the words behind them.
+// The total of bytes: whole chunks of 2048 bytes by lanes, the rest by words.
 #[inline(never)]
 fn by_chunks(bytes: &[u8]) -> u64
     requires { 8 ≤ length bytes.now }
@@ -106,7 +108,7 @@ fn by_chunks(bytes: &[u8]) -> u64
     around(lanes(chunks), by_words(rest, tail(bytes)))
 }
 
-// A total and that of all whole words of eight bytes.
+// Adds all whole words of 8 bytes to a total.
 #[inline]
 fn by_words(bytes: &[u8], start: u64) -> u64
     ensures { residue (256 * result) ≡ residue (256 * start + sum (words (take (length bytes.now / 8 * 8) bytes.now))) }
@@ -115,7 +117,7 @@ fn by_words(bytes: &[u8], start: u64) -> u64
     two_chains(front, one_chain(rest, start))
 }
 
-/// The total of a short header or of an address.
+/// The total of at most 60 bytes in whole words of 4, such as a header or an address.
 #[inline(always)]
 pub fn total_of_words(bytes: &[u8]) -> u64
     requires whole { length bytes.now % 4 ≡ 0 }
@@ -130,7 +132,8 @@ pub fn total_of_words(bytes: &[u8]) -> u64
     sum
 }
 
-// The total of the bytes behind the last whole word of eight bytes: the end of the last eight bytes.
+// The total of the bytes behind the last whole word of 8 bytes. They are the end of the last 8
+// bytes.
 #[inline]
 fn tail(bytes: &[u8]) -> u64
     requires { 8 ≤ length bytes.now }
@@ -142,7 +145,7 @@ fn tail(bytes: &[u8]) -> u64
     }
 }
 
-// The total of fewer than eight bytes.
+// The total of fewer than 8 bytes.
 #[inline]
 fn short(bytes: &[u8]) -> u64
     requires { length bytes.now < 8 }
@@ -159,7 +162,7 @@ fn short(bytes: &[u8]) -> u64
     }
 }
 
-// A word and a carry added to a number: what is left of it, and the carry.
+// Adds a word and a carry to a number. Returns the low 64 bits and the carry.
 #[inline]
 fn add(number: u64, word: u64, carry: u64) -> (u64, u64)
     requires { carry ≤ 1 }
@@ -170,8 +173,8 @@ fn add(number: u64, word: u64, carry: u64) -> (u64, u64)
     ((sum % (1 << 64)) as u64, (sum >> 64) as u64)
 }
 
-// Four words and a carry added to a number, each word with the carry of the one before: what is left of
-// it, and the last carry.
+// Adds four words and a carry to a number, each word with the carry of the one before. Returns the
+// low 64 bits and the last carry.
 #[inline]
 fn add_four(number: u64, chunk: &[u8; 32], carry: u64) -> (u64, u64)
     requires { carry ≤ 1 }
@@ -186,7 +189,7 @@ fn add_four(number: u64, chunk: &[u8; 32], carry: u64) -> (u64, u64)
     add(sum, u64::from_le_bytes(words[3]), carry)
 }
 
-// A total and that of all whole words of eight bytes. Those behind the chunks come first, which needs
+// Adds all whole words of 8 bytes to a total. The words behind the chunks come first, which needs
 // fewer jumps.
 #[inline]
 fn one_chain(bytes: &[u8], start: u64) -> u64
@@ -201,7 +204,7 @@ fn one_chain(bytes: &[u8], start: u64) -> u64
     sum
 }
 
-// A total and that of all whole words of eight bytes, three at most.
+// Adds at most three whole words of 8 bytes to a total.
 #[inline]
 fn last_words(bytes: &[u8], start: u64) -> u64
     requires { length bytes.now < 32 }
@@ -221,8 +224,8 @@ fn last_words(bytes: &[u8], start: u64) -> u64
     sum
 }
 
-// A total and that of whole chunks of eight words. The halves of the chunks are added up in two numbers,
-// so that one addition need not wait for the other; the carry of the first half goes into the second.
+// Adds whole chunks of eight words to a total. Each half of a chunk has its own sum, so that one
+// addition need not wait for the other. The carry of the first half goes into the second.
 #[inline]
 fn two_chains(bytes: &[u8], start: u64) -> u64
     requires { length bytes.now % 64 ≡ 0 }
@@ -243,7 +246,7 @@ fn two_chains(bytes: &[u8], start: u64) -> u64
     around(around(first, second), carries)
 }
 
-// The total of whole vectors.
+// The total of whole vectors of 32 bytes.
 fn lanes(bytes: &[u8]) -> u64
     requires { length bytes.now % 32 ≡ 0 }
     ensures { residue (256 * result) ≡ sum_of_bytes bytes.now }
@@ -259,10 +262,9 @@ fn lanes(bytes: &[u8]) -> u64
     256 * (high + (low >> 32) + low % (1 << 32))
 }
 
-// The plain sum of the words of whole vectors. The lanes at even places are the high bytes of the
-// words. A lane has 16 bits, which hold the sum of the bytes at one place of up to 257 vectors: the
-// bytes at odd places are added up by themselves, and those at even places with them and 256 times
-// those at odd places, modulo 65536.
+// The plain sum of the words of whole vectors. Bytes at even places are the high bytes of words.
+// `odd` sums the bytes at odd places: its lanes have 16 bits, which hold the sum of up to 257
+// bytes. `all` sums the bytes at even places and 256 times those at odd places, modulo 65536.
 fn by_lanes(bytes: &[u8]) -> u64
     requires whole { length bytes.now % 32 ≡ 0 }
     requires short { length bytes.now ≤ 8192 }

@@ -1,6 +1,7 @@
 //! Fields of whole bytes.
 
 ghost use Rattle.std.specs.Prelude.{◌≡◌, ◌+◌, ◌≤◌, ◌++◌, drop, length, slice_range};
+ghost use Rattle.wire_field.specs.Field.{with_range};
 
 /// The `N` bytes from byte `first` on.
 pub fn array_at<const N: usize>(bytes: &[u8], first: usize) -> [u8; N]
@@ -19,4 +20,17 @@ pub fn write_front<const N: usize>(bytes: &mut [u8], front: &[u8; N])
     ensures { bytes.new ≡ front.now ++ drop N bytes.old }
 {
     bytes[..N].copy_from_slice(front);
+}
+
+/// Copies `part` to the bytes, from byte `first` on, and leaves all other bytes. An empty part is tested
+/// for, because a copy of no bytes still costs a call.
+#[inline(always)]
+pub fn write_at(bytes: &mut [u8], first: usize, part: &[u8])
+    requires { first + length part.now ≤ length bytes.old }
+    ensures { bytes.new ≡ with_range bytes.old first (first + length part.now) part.now }
+{
+    if part.is_empty() {
+        return;
+    }
+    bytes[first..first + part.len()].copy_from_slice(part);
 }

@@ -50,7 +50,7 @@ IsItem-ranges kind content n k some whole size = record {
   sack_ranges = λ _. (n, some, whole);
 }
 
--- an option's item stands in front
+-- bytes that begin with an item begin with the option that the item parses as
 pub Begins-from_item : (o : TcpOption) (bytes rest : List ℕ) (i : Item) → IsItem i → IsReading o i → bytes ≡ text i ++ rest → Begins o bytes rest
 Begins-from_item EndOfList bytes rest i is reading e = absurd reading
 Begins-from_item NoOperation bytes rest i is reading e = (i, is, reading, e)
@@ -66,6 +66,7 @@ pub text_here : (k m : ℕ) (r : List ℕ) → k ≢ 1 → m ≤ length r → k 
 text_here k m r other room =
     rw (text-other (item k (take m r)) other, length-take-le m r room, take-append-drop m r) refl
 
+-- bytes that begin with a kind and a length of at most all bytes begin with the text of that item
 pub text_at : (b : List ℕ) (n : ℕ) → get_or b 0 0 ≢ 1 → n ≡ get_or b 1 0 → 2 ≤ n → n ≤ length b → b ≡ text (item (get_or b 0 0) (take (n - 2) (drop 2 b))) ++ drop n b
 text_at [] n other at low room = absurd (omega arith)
 text_at (k ∷ []) n other at low room = absurd (omega arith)

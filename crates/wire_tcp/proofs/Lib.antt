@@ -6,6 +6,7 @@ mod Prefixes
 pub mod Ranges
 pub mod Summaries
 pub mod Sums
+pub mod TcpLengths
 pub mod TcpTexts
 mod TcpViewed
 mod TcpWorked

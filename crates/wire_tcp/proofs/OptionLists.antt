@@ -45,6 +45,7 @@ one_bare i j a b p q e =
     let kind : 1 ≡ j.kind = cc in
     q (sym kind)
 
+-- equal bytes that begin with items other than no-operation begin with the same item
 pub no_bare : (i j : Item) (a b : List ℕ) → i.kind ≢ 1 → j.kind ≢ 1 → text i ++ a ≡ text j ++ b → (i ≡ j) × (a ≡ b)
 no_bare i j a b p q e =
     let cells : i.kind ∷ (2 + length i.content) ∷ (i.content ++ a) ≡ j.kind ∷ (2 + length j.content) ∷ (j.content ++ b) =

@@ -4,6 +4,7 @@ use Rattle.std.specs.List.{AllByRecursion, flat_map}
 use Rattle.std.proofs.lemmas.Grind.{flat_map-append}
 
 module _ {X : Type 0} (text : X → List ℕ) (Is : X → Type 0) where
+  -- the texts of a list, joined
   abbrev pub joined : List X → List ℕ
   joined xs = flat_map text xs
 
@@ -48,5 +49,6 @@ module _ {X : Type 0} (text : X → List ℕ) (Is : X → Type 0) where
         let P : X → Type 0 = λ z. Goes (x ∷ xs) (z ∷ ys) r t ⊎ Goes (z ∷ ys) (x ∷ xs) t r in
         subst P p.0 (elim (compared xs ys r t xa.1 ya.1 p.1) [ inl g ↦ inl (one_more x xs ys r t g) | inr g ↦ inr (one_more x ys xs t r g) ])
 
+    -- of two walks over the same bytes one continues the other
     pub walks_compared : (bytes : List ℕ) (xs ys : List X) (r t : List ℕ) → Walked bytes xs r → Walked bytes ys t → Goes xs ys r t ⊎ Goes ys xs t r
     walks_compared bytes xs ys r t a b = compared xs ys r t a.each b.each (sym a.joined_is ∙ b.joined_is)

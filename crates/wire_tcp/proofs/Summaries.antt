@@ -23,10 +23,12 @@ some_cond : (b : Bool) (i : Item) (o : Option Item) → is_some (cond b (Some i)
 some_cond true i o = refl
 some_cond false i o = refl
 
+-- a conjunction that is true has a true left side
 pub and_left : (a b : Bool) → (a && b) ≡ true → a ≡ true
 and_left true b e = refl
 and_left false b e = cc
 
+-- and a true right side
 pub and_right : (a b : Bool) → (a && b) ≡ true → b ≡ true
 and_right true b e = e
 and_right false b e = cc

@@ -21,7 +21,7 @@ with_word bytes n x = take n bytes ++ big_bytes 2 x ++ drop (n + 2) bytes
 pub field-word : (bytes : List ℕ) (x : ℕ) → with_field bytes 128 16 x ≡ with_word bytes 16 x
 field-word bytes x = rw (word_high, word_low) refl
 
--- what stands around the word stays
+-- the bytes around the word are unchanged
 take-with_word : (bytes : List ℕ) (n x : ℕ) → n + 2 ≤ length bytes → take n (with_word bytes n x) ≡ take n bytes
 take-with_word bytes n x h =
     ap (take n) (append_assoc (take n bytes) (big_bytes 2 x) (drop (n + 2) bytes)) ∙ take_at (take n bytes) (big_bytes 2 x ++ drop (n + 2) bytes) n (length-take-le n bytes (omega (arith, h)))
@@ -38,7 +38,7 @@ length-with_word bytes n x h =
     let behind = length-drop (n + 2) bytes in
     length-append (take n bytes ++ big_bytes 2 x) (drop (n + 2) bytes) ∙ omega (arith, h, length-append (take n bytes) (big_bytes 2 x), front, behind)
 
--- of two words that are written the last stands
+-- the second of two writes to one word counts
 again : (bytes : List ℕ) (n x y : ℕ) → n + 2 ≤ length bytes → with_word (with_word bytes n x) n y ≡ with_word bytes n y
 again bytes n x y h = rw (take-with_word bytes n x h, drop-with_word bytes n x h) refl
 

@@ -1,9 +1,8 @@
 -- The texts that a segment prints as.
-use Rattle.std.proofs.Common.{ℕ, zero, suc, ◌≡◌, ◌≢◌, ◌-◌, ◌^◌, ◌<◌, ◌≤◌, ◌==◌, ◌++◌, Bool, List, Option, [], ◌∷◌, Some, None, codes, decimal, flat_map, length, replicate, refl, sym, ap, ◌∙◌, false, true, arith}
+use Rattle.std.proofs.Common.{ℕ, zero, suc, ◌≡◌, ◌≢◌, ◌-◌, ◌^◌, ◌<◌, ◌≤◌, ◌==◌, ◌++◌, Bool, List, Option, [], ◌∷◌, Some, None, codes, decimal, flat_map, length, replicate, refl, sym, ap, ◌∙◌, false, arith}
 use Rattle.std.specs.Fmt.{◌++?◌, char_count, comma_space, debug_items, debug_list, debug_option, digits, format_spec, padded_integral}
 use Rattle.std.specs.Option.{option_map_or}
 use Rattle.std.specs.Prelude.{if◌then◌else◌}
-use Rattle.std.proofs.lemmas.Bool.Decides.{nat_tests}
 use Rattle.std.proofs.lemmas.Bool.{false_from_ne_true, eqb-true}
 use Rattle.std.proofs.lemmas.List.{append-nil}
 use Rattle.wire_field.specs.Field.{field}
@@ -16,6 +15,7 @@ use Rattle.wire_tcp.specs.declared.tcp.option.TcpOption.TheVariants.{EndOfList, 
 use Rattle.wire_tcp.proofs.FirstItems.{Leads-first_item, first_item-Leads, first_item-None}
 use Rattle.wire_tcp.proofs.OptionLists.{head-text, nil-text, shorter}
 use Rattle.wire_tcp.proofs.Summaries.{and_left, and_right, scale_is}
+use Rattle.wire_tcp.proofs.TcpLengths.{HasLengths-has_lengths, has_lengths-HasLengths}
 
 -- what `{:08x}` writes
 pub padded_hex_word : (n : ℕ) → padded_integral (format_spec 32 0 4 8 (2 ^ 64 - 1)) false [] (digits 16 false n) ≡ hex_word n
@@ -43,6 +43,7 @@ debug_list_of_ranges (o ∷ ranges) = rw (range_output-text o, debug_items-range
 
 -- ---- the header's text from the getters' answers
 
+-- the text of the flags, from the values of the getters
 pub flags_text-values : (bytes : List ℕ) (syn fin rst psh ece cwr ns : Bool)
     → syn ≡ (field bytes 110 1 == 1) → fin ≡ (field bytes 111 1 == 1) → rst ≡ (field bytes 109 1 == 1) → psh ≡ (field bytes 108 1 == 1)
     → ece ≡ (field bytes 105 1 == 1) → cwr ≡ (field bytes 104 1 == 1) → ns ≡ (field bytes 103 1 == 1)
@@ -51,6 +52,7 @@ pub flags_text-values : (bytes : List ℕ) (syn fin rst psh ece cwr ns : Bool)
 unfolding flags_text
 flags_text-values bytes syn fin rst psh ece cwr ns s f r p e c n = rw (s, f, r, p, e, c, n) refl
 
+-- the text of the other fields, from the values of the getters
 pub fields_text-values : (bytes : List ℕ) (ack urg : Bool) (seq a win u len : ℕ) → ack ≡ (field bytes 107 1 == 1) → urg ≡ (field bytes 106 1 == 1)
     → seq ≡ field bytes 32 32 → a ≡ field bytes 64 32 → win ≡ field bytes 112 16 → u ≡ field bytes 144 16 → len ≡ length bytes - header_len bytes
     → fields_text bytes ≡ numbers_text seq (if ack then Some a else None) win (if urg then Some u else None) len
@@ -144,23 +146,14 @@ shown-item (Unknown kind bytes) i (above, short, same, e) =
 
 -- ---- the text of a segment
 
+-- the text of a segment with valid lengths
 pub packet_text-some : (bytes : List ℕ) → HasLengths bytes
     → packet_text bytes ≡ ports_text (field bytes 0 16) (field bytes 16 16) ++ (flags_text bytes ++ (fields_text bytes ++ options_text (options_of bytes)))
 unfolding packet_text
 packet_text-some bytes h =
-    let least = h.least in
-    let header = h.header in
-    let whole = h.whole in
-    let long : has_lengths bytes ≡ true = grind (arith, nat_tests) in
-    rw long refl
+    rw (HasLengths-has_lengths bytes h) refl
 
-has_lengths-HasLengths : (bytes : List ℕ) → has_lengths bytes ≡ true → HasLengths bytes
-has_lengths-HasLengths bytes h = record {
-  least = grind (arith, nat_tests);
-  header = grind (arith, nat_tests);
-  whole = grind (arith, nat_tests);
-}
-
+-- the text of bytes with invalid lengths
 pub packet_text-none : (bytes : List ℕ) → ¬ HasLengths bytes → packet_text bytes ≡ codes "TCP (wire::Error)"
 unfolding packet_text
 packet_text-none bytes h =

@@ -75,7 +75,7 @@ syn-cleared = refl
 
 -- ---- what items say
 
--- the last size of a segment counts, and what stands behind the end mark does not
+-- the last segment size counts; options behind the end of the list do not
 sizes : List Item
 sizes = item 2 (0x05 ∷ 0xb4 ∷ []) ∷ item 2 (0x02 ∷ 0x18 ∷ []) ∷ []
 

@@ -134,6 +134,7 @@ mark_apart (Some i) (Some j) a b is js e =
     let p = text_apart i j a b is js e in
     (ap Some p.0, p.1)
 
+-- the bytes are the texts of these marks, and then a rest
 abbrev pub Marks : List ℕ → List Mark → List ℕ → Type 0
 Marks = Walked mark_text IsMark
 
@@ -340,7 +341,7 @@ first_of-kind kind (Some j ∷ marks) i e = elim (cases_Bool (eqb j.kind kind)) 
   | inr n ↦ first_of-kind kind marks i (rw n at e)
 ]
 
--- an item of kind 5 is read as its ranges
+-- an item of kind 5 parses as its ranges
 reads_ranges : (option : TcpOption) (i : Item) → i.kind ≡ 5 → IsReading option i → ranges_in option ≡ first_blocks i.content
 reads_ranges EndOfList i five reading = absurd reading
 reads_ranges NoOperation i five reading = absurd (omega (arith, five, reading))
@@ -351,6 +352,7 @@ reads_ranges (SackRange ranges) i five reading = reading.1
 reads_ranges (TimeStamp tsval tsecr) i five reading = absurd (omega (arith, five, reading.0))
 reads_ranges (Unknown kind content) i five reading = absurd (omega (arith, five, reading.0, reading.2))
 
+-- `selective_ack_ranges` returns these ranges for the options
 abbrev pub AnswersRanges : List ℕ → List (Option (ℕ × ℕ)) → Type 0
 AnswersRanges bytes ranges = Answers bytes 5 (λ i. first_blocks i.content) (first_blocks []) (Ok ranges)
 
@@ -363,6 +365,7 @@ no_ranges bytes (marks, rest, walk, first) = (marks, rest, walk, go (first_of 5 
     go None (b ∷ bs) first = absurd (cc)
     go (Some i) rest (read, is, reading, answer) = absurd (cc)
 
+-- the ranges that are returned if the walk finds an option of kind 5
 pub some_ranges : (bytes : List ℕ) (option : TcpOption) → FindsFirst bytes 5 (Ok (Some option)) → AnswersRanges bytes (ranges_in option)
 some_ranges bytes option (marks, rest, walk, first) = (marks, rest, walk, go (first_of 5 marks) rest (first_of-kind 5 marks) first)
   where

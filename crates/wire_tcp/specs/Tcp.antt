@@ -14,7 +14,7 @@ use Rattle.wire_tcp.specs.declared.tcp.packet.TcpView.{TcpView}
 abbrev pub packet_slice : {B : Type 0} → TcpView B → B
 packet_slice p = p.buffer
 
--- a view that reads, and one that writes too
+-- a reading view, and a mutable view
 abbrev pub Reading : Type 0
 Reading = TcpView (Bor (List ℕ))
 
@@ -25,27 +25,27 @@ Writing = TcpView (MutBor (List ℕ))
 abbrev pub packet_bytes : Reading → List ℕ
 packet_bytes p = (packet_slice p).now
 
--- the bytes under a writing view
+-- the bytes under a mutable view
 abbrev pub packet_bytes_mut : Writing → List ℕ
 packet_bytes_mut p = (packet_slice p).now
 
--- the view is still of the same slice, which holds these bytes now
+-- the view still borrows the same slice, and the slice now holds these bytes
 abbrev pub Becomes : Writing → Writing → List ℕ → Type 0
 Becomes old new bytes = Holds (packet_slice old) (packet_slice new) bytes
 
--- the length of a segment's header in octets: the field "data offset" counts words of 4
+-- the length of the header in octets: the data offset counts words of 4
 abbrev pub header_len : List ℕ → ℕ
 header_len bytes = 4 * field bytes 96 4
 
--- the bytes of the options, up to the header's length
+-- the bytes of the options, up to the end of the header
 abbrev pub options_of : List ℕ → List ℕ
 options_of bytes = slice_range bytes 20 (header_len bytes)
 
--- what follows the header
+-- the payload: all bytes behind the header
 abbrev pub payload_of : List ℕ → List ℕ
 payload_of bytes = drop (header_len bytes) bytes
 
--- how many sequence numbers a segment takes: one for each octet of its payload, for SYN and for FIN
+-- the number of sequence numbers that a segment uses: one for each octet of its payload, for SYN and for FIN
 abbrev pub segment_len : List ℕ → ℕ
 segment_len bytes = length bytes - header_len bytes + field bytes 110 1 + field bytes 111 1
 
@@ -53,31 +53,31 @@ segment_len bytes = length bytes - header_len bytes + field bytes 110 1 + field 
 abbrev pub with_flag : List ℕ → ℕ → Bool → List ℕ
 with_flag bytes place value = with_field bytes place 1 (if value then 1 else 0)
 
--- the bytes hold a whole header
+-- the lengths are valid: the header has at least 20 octets, and the bytes hold all of it
 pub record HasLengths (bytes : List ℕ) : Type 0 where
   pub least : 20 ≤ length bytes
   pub header : 20 ≤ header_len bytes
   pub whole : header_len bytes ≤ length bytes
 
--- whether they do
+-- whether they are
 abbrev pub has_lengths : List ℕ → Bool
 has_lengths bytes = nat_le 20 (length bytes) && nat_le 20 (header_len bytes) && nat_le (header_len bytes) (length bytes)
 
 -- ---- the checksum
 
--- the sum of the pseudo header of a segment between two addresses
+-- the sum of the pseudo-header of a segment between two addresses
 abbrev pub pseudo_header_sum : IpAddress → IpAddress → List ℕ → ℕ
 pseudo_header_sum src dst bytes = sum_of_bytes (pseudo_header_bytes (octets_of src) (octets_of dst) protocol.Tcp (length bytes))
 
--- the sum of a segment between two addresses, its pseudo header included
+-- the sum of a segment between two addresses and its pseudo-header
 abbrev pub segment_sum : IpAddress → IpAddress → List ℕ → ℕ
 segment_sum src dst bytes = sum_of_bytes (with_pseudo_header src dst protocol.Tcp bytes)
 
--- that sum has all 16 bits set
+-- the checksum is correct: that sum is 0xffff
 abbrev pub Verifies : IpAddress → IpAddress → List ℕ → Type 0
 Verifies src dst bytes = segment_sum src dst bytes ≡ 65535
 
--- the bytes with their checksum: the complement of their sum with zeros in the checksum's place
+-- the bytes with a correct checksum: the complement of their sum with 0 in the checksum field
 abbrev pub with_checksum : IpAddress → IpAddress → List ℕ → List ℕ
 with_checksum src dst bytes =
     let zeroed = with_field bytes 128 16 0 in

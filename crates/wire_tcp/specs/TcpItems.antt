@@ -5,7 +5,7 @@ use Rattle.std.specs.Option.{option_map, option_map_or, option_or}
 use Rattle.byteorder.specs.Endian.{big_number}
 use Rattle.wire_tcp.specs.declared.tcp.TheConstants.{SACK_BLOCKS}
 
--- a kind with its data
+-- an option as a kind with its data
 pub record Item : Type 0 where
   pub kind : ℕ
   pub content : List ℕ
@@ -24,14 +24,14 @@ pub record IsItem (i : Item) : Type 0 where
   pub sack_permitted : i.kind ≡ 4 → i.content ≡ []
   pub sack_ranges : i.kind ≡ 5 → (n : ℕ) × (0 < n) × (length i.content ≡ 8 * n)
 
--- the bytes of an item: its kind, the length of it all, its data; of no operation the kind alone
+-- the bytes of an item: its kind, its length, its data; of no operation the kind alone
 abbrev pub text : Item → List ℕ
 text i = if i.kind == 1 then 1 ∷ [] else i.kind ∷ (2 + length i.content) ∷ i.content
 
 abbrev pub texts : List Item → List ℕ
 texts items = flat_map text items
 
--- nothing, or an end mark and whatever follows it
+-- nothing, or the end of the list and any bytes behind it
 abbrev pub IsTail : List ℕ → Type 0
 IsTail [] = Unit {0}
 IsTail (b ∷ bs) = b ≡ 0
@@ -44,14 +44,14 @@ pub record IsOptionList (bytes : List ℕ) (items : List Item) (tail : List ℕ)
 
 -- ---- the first item, computed
 
--- whether an item of this kind can have so many bytes of data
+-- whether an item of this kind can have this many bytes of data
 abbrev pub is_sized : ℕ → ℕ → Bool
 is_sized kind size =
     nat_lt kind 256 && nat_le size 253
     && (not (kind == 2) || (size == 2)) && (not (kind == 3) || (size == 1)) && (not (kind == 4) || (size == 0))
     && (not (kind == 5) || (nat_lt 0 size && (size % 8 == 0)))
 
--- the item that the bytes begin with and what follows it, if they begin with one
+-- the item at the front of the bytes and the bytes behind it, if there is one
 unfoldable pub first_item : List ℕ → Option (Item × List ℕ)
 first_item [] = None
 first_item (kind ∷ rest) =
@@ -64,16 +64,16 @@ first_item (kind ∷ rest) =
 
 -- ---- what items say
 
--- block k of the data of kind 5, its left and its right edge, where there is one
+-- block k of the data of kind 5, its left and its right edge, if there is one
 abbrev pub block_at : List ℕ → ℕ → Option (ℕ × ℕ)
 block_at content k =
     if nat_lt (8 * k) (length content) then Some (big_number 4 (drop (8 * k) content), big_number 4 (drop (8 * k + 4) content)) else None
 
--- the first blocks, as many as are kept, and None where there is none
+-- the first `SACK_BLOCKS` blocks, `None` for each that is missing
 abbrev pub first_blocks : List ℕ → List (Option (ℕ × ℕ))
 first_blocks content = map (block_at content) (range_with_len 0 SACK_BLOCKS)
 
--- the two numbers of the data of kind 8: the timestamp, and the one that it replies to
+-- the two numbers of the data of kind 8: the timestamp, and the echoed timestamp
 abbrev pub stamps : List ℕ → ℕ × ℕ
 stamps content = (big_number 4 content, big_number 4 (drop 4 content))
 
@@ -89,7 +89,7 @@ abbrev pub last_of : (Item → Bool) → List Item → Option Item
 last_of p [] = None
 last_of p (i ∷ items) = option_or (last_of p items) (if p i then Some i else None)
 
--- what the last items of the kinds say
+-- the values of the last item of each kind
 abbrev pub segment_size_of : List Item → Option ℕ
 segment_size_of items = option_map (λ i. big_number 2 i.content) (last_of (is_of 2) items)
 

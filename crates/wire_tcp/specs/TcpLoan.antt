@@ -1,4 +1,4 @@
--- What a view of a segment, and an option that is written, lend of their bytes.
+-- What `options_mut`, `payload_mut` and `TcpOption::emit` promise on the borrowed bytes.
 use Rattle.std.specs.Prelude.{ℕ, ◌≡◌, ◌++◌, List, [], length, take}
 use Rattle.std.specs.Borrow.{Lends, MutBor, Fml, Array, u8}
 use denote.Slice.{MutSlice}
@@ -8,31 +8,33 @@ use Rattle.wire_field.specs.declared.lend.Located.{Located}
 use Rattle.wire_tcp.specs.Tcp.{Writing, header_len, packet_bytes_mut}
 use Rattle.wire_tcp.specs.contracts.tcp.packet.TcpView.{the_row}
 
--- the view with these bytes behind it, in the same loan
+-- the view over the same borrow, with these bytes in it
 abbrev pub with_bytes : Writing → List ℕ → Writing
 with_bytes packet bytes = record packet { buffer = record packet.buffer { now = bytes } }
 
--- the bytes with these in the place of the options
+-- the bytes with other options
 abbrev pub with_options : List ℕ → List ℕ → List ℕ
 with_options bytes = with_range bytes 20 (header_len bytes)
 
--- the bytes with these in the place of the payload
+-- the bytes with another payload
 abbrev pub with_payload : List ℕ → List ℕ → List ℕ
 with_payload bytes payload = take (header_len bytes) bytes ++ payload
 
--- the view ends with what was last left in the options, and with its other bytes as they were
+-- at the end of the borrow the view has the bytes that were written to the options; all other bytes are unchanged
 abbrev pub LendsOptions : MutBor Writing → MutBor (List ℕ) → Fml
 LendsOptions packet options = Lends (the_row (MutSlice (named 1) [] u8)) (Array u8 0) packet options (λ w. with_bytes packet.now (with_options (packet_bytes_mut packet.now) w))
 
--- the view ends with what was last left in the payload, and with its header as it was
+-- at the end of the borrow the view has the bytes that were written to the payload; the header is unchanged
 abbrev pub LendsPayload : MutBor Writing → MutBor (List ℕ) → Fml
 LendsPayload packet payload = Lends (the_row (MutSlice (named 1) [] u8)) (Array u8 0) packet payload (λ w. with_bytes packet.now (with_payload (packet_bytes_mut packet.now) w))
 
--- The slice ends with these bytes in front, and behind them what was last left in the rest.
+-- At the end of the borrow the slice has these bytes in front, and behind them the bytes that were written to the
+-- rest.
 abbrev pub LendsRest : MutBor (List ℕ) → List ℕ → MutBor (List ℕ) → Fml
 LendsRest buffer front rest = Lends (Array u8 0) (Array u8 0) buffer rest (λ w. front ++ w)
 
--- The bytes behind a front are located in a slice: it is still the same loan, and holds the front and this rest now.
+-- The bytes behind a front are located in a slice. It is still the same borrow, and now holds the front and this
+-- rest.
 pub record LocatesRest (buffer : MutBor (List ℕ)) (front rest : List ℕ) (located : Located) : Type 0 where
   pub same_loan : located.bytes.ghost_name ≡ buffer.ghost_name
   pub holds : located.bytes.now ≡ front ++ rest

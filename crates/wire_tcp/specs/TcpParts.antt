@@ -1,8 +1,9 @@
--- The part of a header that every segment has.
+-- The first 20 octets of a header.
 use Rattle.std.specs.Prelude.{ℕ, List, ◌++◌}
 use Rattle.byteorder.specs.Endian.{big_bytes}
 
--- the ports, the two numbers, the word that holds the header's length and the flags, and the window; no checksum and no urgent pointer
+-- ports, sequence and acknowledgement number, the word with data offset and flags, the window, 0 as checksum and
+-- urgent pointer
 abbrev pub fixed_bytes : ℕ → ℕ → ℕ → ℕ → ℕ → ℕ → List ℕ
 fixed_bytes src_port dst_port seq_number ack_number offset_and_flags window_len =
     big_bytes 2 src_port ++ big_bytes 2 dst_port ++ big_bytes 4 seq_number ++ big_bytes 4 ack_number

@@ -1,4 +1,4 @@
--- What the options of a header say.
+-- The values of the options of a header.
 use Rattle.std.specs.Prelude.{ℕ, ◌≡◌, List}
 use Rattle.wire_tcp.specs.TcpItems.{Item, IsOptionList, sack_permitted_of, sack_ranges_of, segment_size_of, timestamp_of, window_scale_of}
 use Rattle.wire_tcp.specs.declared.tcp.summary.TcpOptionSummary.{TcpOptionSummary}
@@ -13,7 +13,7 @@ summary_of items = record {
   timestamp = timestamp_of items;
 }
 
--- the bytes have an option list, and this is what it says
+-- the bytes have an option list with these values
 abbrev pub Summarizes : List ℕ → TcpOptionSummary → Type 0
 Summarizes bytes summary = (items : List Item) × (tail : List ℕ) × IsOptionList bytes items tail × (summary ≡ summary_of items)
 

@@ -1,4 +1,4 @@
--- The texts that TCP segments print as.
+-- The printed texts of TCP segments.
 use Rattle.std.specs.Prelude.{ℕ, zero, suc, ◌++◌, ◌==◌, ◌-◌, if◌then◌else◌, List, [], ◌∷◌, codes, decimal, length, replicate, Option, Some, None}
 use Rattle.std.specs.List.{join_by}
 use Rattle.std.specs.Option.{option_map_or}
@@ -16,7 +16,7 @@ use Rattle.wire_tcp.specs.declared.tcp.option.TcpOption.TheVariants.{EndOfList, 
 abbrev pub ports_text : ℕ → ℕ → List ℕ
 ports_text src dst = codes "TCP src=" ++ (decimal src ++ (codes " dst=" ++ decimal dst))
 
--- a text where the flag at this bit is set, else nothing
+-- the text if the flag at this bit is set, else nothing
 abbrev pub where_set : List ℕ → ℕ → List ℕ → List ℕ
 where_set bytes at text = if field bytes at 1 == 1 then text else []
 
@@ -31,7 +31,7 @@ flags_text bytes =
 abbrev pub numbered : List ℕ → ℕ → List ℕ
 numbered name n = name ++ decimal n
 
--- the same, where there is a number
+-- the same, if there is a number
 abbrev pub numbered_some : List ℕ → Option ℕ → List ℕ
 numbered_some name n = option_map_or (numbered name) n []
 
@@ -41,7 +41,7 @@ numbers_text seq ack window urgent len =
     numbered (codes " seq=") seq ++ numbered_some (codes " ack=") ack ++ numbered (codes " win=") window
     ++ numbered_some (codes " urg=") urgent ++ numbered (codes " len=") len
 
--- a number, where the flag at this bit is set
+-- a number, if the flag at this bit is set
 abbrev pub number_where : List ℕ → ℕ → ℕ → Option ℕ
 number_where bytes at n = if field bytes at 1 == 1 then Some n else None
 
@@ -80,7 +80,7 @@ shown (SackRange ranges) = codes " sACKr" ++ ranges_text ranges
 shown (TimeStamp tsval tsecr) = codes " tsval " ++ hex_word tsval ++ codes " tsecr " ++ hex_word tsecr
 shown (Unknown kind bytes) = codes " opt(" ++ decimal kind ++ codes ")"
 
--- the text of the option that an item is read as
+-- the text of the option that an item parses as
 abbrev pub item_text : Item → List ℕ
 item_text i =
     if i.kind == 1 then [] else if i.kind == 2 then shown (MaxSegmentSize (big_number 2 i.content))
@@ -89,7 +89,7 @@ item_text i =
     else if is_timestamp i then shown (TimeStamp (stamps i.content).0 (stamps i.content).1)
     else codes " opt(" ++ decimal i.kind ++ codes ")"
 
--- the items of at most n bytes, up to an end mark or to what is malformed
+-- the texts of the items in at most n bytes, up to the end of the list or the first malformed item
 unfoldable pub options_text_within : ℕ → List ℕ → List ℕ
 options_text_within n [] = []
 options_text_within zero (kind ∷ rest) = []
@@ -97,13 +97,13 @@ options_text_within (suc n) (kind ∷ rest) =
     if kind == 0 then []
     else option_map_or (λ d. item_text d.0 ++ options_text_within n d.1) (first_item (kind ∷ rest)) (codes " (wire::Error)")
 
--- the items of the bytes, up to an end mark or to what is malformed
+-- the texts of the items, up to the end of the list or the first malformed item
 abbrev pub options_text : List ℕ → List ℕ
 options_text bytes = options_text_within (length bytes) bytes
 
 -- ---- the segment
 
--- the printed text of a segment: its fields and its options, or that the bytes hold no whole header
+-- the printed text of a segment: its fields and its options, or that the lengths are invalid
 unfoldable pub packet_text : List ℕ → List ℕ
 packet_text bytes =
     if has_lengths bytes then

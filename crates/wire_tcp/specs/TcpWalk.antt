@@ -1,4 +1,4 @@
--- The walk over options that goes on past end marks.
+-- The walk over options that continues behind the end of the list.
 use Rattle.std.specs.Prelude.{ℕ, ◌≡◌, ◌≤◌, ◌==◌, if◌then◌else◌, List, [], ◌∷◌, ◌++◌, length, Option, Some, None, Result, Ok, Err}
 use Rattle.std.specs.List.{AllByRecursion, flat_map}
 use Rattle.net_base.specs.declared.error.Error.{Error}
@@ -34,22 +34,23 @@ first_of kind [] = None
 first_of kind (None ∷ marks) = first_of kind marks
 first_of kind (Some i ∷ marks) = if i.kind == kind then Some i else first_of kind marks
 
--- the answer to what the item says that was looked for: an error where there is none and the walk leaves a rest
+-- the result of a search: the value of the item that was found; else the default, or an error if the walk leaves a
+-- rest
 abbrev pub answer_of : {A : Type 0} → (Item → A) → A → Option Item → List ℕ → Result A Error
 answer_of f default (Some i) rest = Ok (f i)
 answer_of f default None [] = Ok default
 answer_of f default None (b ∷ bs) = Err (record {})
 
--- the answer to what the first item of a kind says on the longest walk
+-- the result of the search for the first item of a kind on the longest walk
 abbrev pub Answers : {A : Type 0} → List ℕ → ℕ → (Item → A) → A → Result A Error → Type 0
 Answers bytes kind f default answer = (marks : List Mark) × (rest : List ℕ) × IsLongWalk bytes marks rest × (answer ≡ answer_of f default (first_of kind marks) rest)
 
--- the answer is the option that the item is read as
+-- the result is the option that the item parses as
 abbrev pub IsFirst : Option Item → List ℕ → Result (Option TcpOption) Error → Type 0
 IsFirst (Some i) rest answer = (option : TcpOption) × IsItem i × IsReading option i × (answer ≡ Ok (Some option))
 IsFirst None [] answer = answer ≡ Ok None
 IsFirst None (b ∷ bs) answer = answer ≡ Err (record {})
 
--- the answer is the first option of a kind on the longest walk
+-- the result is the first option of a kind on the longest walk
 abbrev pub FindsFirst : List ℕ → ℕ → Result (Option TcpOption) Error → Type 0
 FindsFirst bytes kind answer = (marks : List Mark) × (rest : List ℕ) × IsLongWalk bytes marks rest × IsFirst (first_of kind marks) rest answer

@@ -1,4 +1,4 @@
-//! What holds by the definitions alone. The functions do nothing when they run.
+//! Laws of TCP segments. A law states a fact about definitions; its body does nothing.
 
 ghost use Rattle.std.specs.Prelude.{◌≡◌, ◌+◌, ◌%◌, ◌^◌, ◌<◌, ◌≤◌, ℕ, List, length};
 ghost use Rattle.wire_ends.specs.IpAddress.{version_of};
@@ -10,8 +10,8 @@ ghost use Rattle.wire_tcp.specs.TcpWalk.{IsLongWalk, Mark};
 use crate::tcp::TcpSeqNumber;
 use wire_ends::IpAddress;
 
-/// A number that so many steps forward lead to comes after the one that they lead from, and is that
-/// far from it. Half the circle apart, each of two numbers comes before the other.
+/// The number `steps` after another one is after it, at that distance, if `steps` is below 2^31.
+/// Two numbers half the circle apart are each before the other.
 pub fn seq_forward(from: TcpSeqNumber, steps: u32, to: TcpSeqNumber)
     requires { number to ≡ (number from + steps) % 2 ^ 32 }
     ensures distance { distance to from ≡ steps }
@@ -19,14 +19,14 @@ pub fn seq_forward(from: TcpSeqNumber, steps: u32, to: TcpSeqNumber)
     ensures opposite { steps ≡ 2 ^ 31 → IsBefore to from × IsBefore from to }
 {}
 
-/// No bytes have two option lists.
+/// Bytes have at most one option list.
 pub fn one_option_list(bytes: &[u8])
     ensures { (items others : List Item) (tail left : List ℕ) →
         IsOptionList bytes.now items tail → IsOptionList bytes.now others left →
         (items ≡ others) × (tail ≡ left) }
 {}
 
-/// All bytes have a longest walk, and only one.
+/// All bytes have exactly one longest walk over options.
 pub fn one_long_walk(bytes: &[u8])
     ensures some { (marks : List Mark) × (rest : List ℕ) × IsLongWalk bytes.now marks rest }
     ensures only { (marks others : List Mark) (rest left : List ℕ) →
@@ -34,7 +34,7 @@ pub fn one_long_walk(bytes: &[u8])
         (marks ≡ others) × (rest ≡ left) }
 {}
 
-/// A segment with the checksum that is filled in verifies.
+/// A segment with the checksum that `fill_checksum` writes verifies.
 pub fn filled_checksum_verifies(src_addr: IpAddress, dst_addr: IpAddress, bytes: &[u8])
     requires header { 18 ≤ length bytes.now }
     requires family { version_of src_addr ≡ version_of dst_addr }

@@ -1,4 +1,4 @@
-//! The transmission control protocol (RFC 9293; options by RFC 2018 and RFC 7323).
+//! The Transmission Control Protocol (RFC 9293; options by RFC 2018 and RFC 7323).
 #![tactic(auto)]
 
 pub mod laws;
@@ -6,5 +6,5 @@ mod tcp;
 
 pub use tcp::{
     SACK_BLOCKS, TCP_HEADER_LEN, TCP_MAX_HEADER_LEN, TcpControl, TcpOption, TcpOptionSummary,
-    TcpPacket, TcpPacketMut, TcpSeqNumber, TcpTimestampGenerator, TcpTimestampRepr, parts,
+    TcpPacket, TcpPacketMut, TcpSeqNumber, TcpTimestampGenerator, TcpTimestampRepr, for_emit,
 };

@@ -1,10 +1,10 @@
 //! TCP segments (RFC 9293, section 3.1).
 
 mod control;
+pub mod for_emit;
 mod option;
 mod packet;
 mod packet_mut;
-pub mod parts;
 mod seq_number;
 mod summary;
 mod text;
@@ -18,12 +18,12 @@ pub use seq_number::TcpSeqNumber;
 pub use summary::TcpOptionSummary;
 pub use timestamp::{TcpTimestampGenerator, TcpTimestampRepr};
 
-/// The length of a header without options, in octets.
+/// The length of a header without options in octets.
 pub const TCP_HEADER_LEN: usize = 20;
 
-/// The length of the longest header with options, in octets. The data offset has 4 bits and counts words
-/// of 4 octets.
+/// The length of the longest header in octets. The data offset has 4 bits and counts words of 4
+/// octets.
 pub const TCP_MAX_HEADER_LEN: usize = 60;
 
-/// How many blocks of a selective acknowledgement are kept, from the first on.
+/// The number of SACK blocks that are kept. The first ones are.
 pub const SACK_BLOCKS: usize = 4;

@@ -1,4 +1,4 @@
--- The least length of a header that says as much as a value.
+-- An emitted header is never longer than a header that parses as the same value.
 use Rattle.std.proofs.Common.{◌≡◌, ℕ, zero, suc, ◌+◌, ◌-◌, ◌*◌, ◌%◌, ◌≤◌, inl, inr, Bool, true, false, cond, eqb, ltb, List, [], ◌∷◌, length, map, drop, count_by, min, Option, Some, None, is_some, arith, refl, sym, ap, ◌∙◌, length-append, length-drop, subst}
 use Rattle.std.specs.Option.{option_or, option_map, option_map_or}
 use Rattle.std.specs.List.{AllByRecursion, range_with_len}
@@ -53,6 +53,7 @@ blocks_from content n whole (suc m) a =
       | inr y ↦ let past = ltb-false _ _ y in let no = ap (block_count content a) y in omega (arith, first, later, no, past, whole)
     ]
 
+-- the length of a SACK option with at least one range
 pub sack_len-suc : (k : ℕ) → sack_len (suc k) ≡ 2 + 8 * suc k
 sack_len-suc k = ap (λ b. cond b 0 (2 + 8 * suc k)) (eqb-suc-zero k)
 
@@ -129,7 +130,7 @@ weight i is = elim (cases_Bool (eqb i.kind 2)) [
 abbrev stamp_in : Item → ℕ × ℕ
 stamp_in i = (big_number 4 i.content, big_number 4 (drop 4 i.content))
 
--- the texts of the items are no shorter than the options of what they are read as
+-- the items are never shorter than the emitted options of the value that they parse as
 pub asked-le : (items : List Item) → AllByRecursion IsItem items → asked items ≤ length (texts items)
 asked-le [] all = omega arith
 asked-le (i ∷ items) all =
@@ -142,11 +143,12 @@ asked-le (i ∷ items) all =
     let e = field_step stamp_in 10 (last_of is_timestamp items) (is_timestamp i) i in
     omega (arith, later, own, a, b, c, d, e, length-append (text i) (texts items))
 
-some_map : {X Y : Type 0} (f : X → Y) (o : Option X) → is_some (option_map f o) ≡ is_some o
+-- a mapped option is `Some` exactly if the option is
+pub some_map : {X Y : Type 0} (f : X → Y) (o : Option X) → is_some (option_map f o) ≡ is_some o
 some_map f None = refl
 some_map f (Some x) = refl
 
--- a header that is read as a value is no shorter than the value's own
+-- a header that parses as a value is never shorter than the emitted header of the value
 pub shortest : (bytes : List ℕ) (v : TcpHeader) → ReadsOptions bytes v → length bytes % 4 ≡ 0 → header_len_of v ≤ 20 + length bytes
 shortest bytes v r words =
     let items = r.items in
@@ -159,7 +161,7 @@ shortest bytes v r words =
     let long = ap length r.list.joined in
     omega (arith, least, e₁, e₂, e₃, e₄, e₅, long, length-append (texts items) r.tail)
 
--- a segment that is read as a value has no shorter header
+-- the same for a segment
 pub header_len-read : (src dst : IpAddress) (verified : Bool) (bytes payload : List ℕ) (v : TcpHeader) → Reads bytes src dst verified v payload → header_len_of v ≤ header_len bytes
 header_len-read src dst verified bytes payload v r =
     let least = r.lengths.header in
@@ -167,5 +169,6 @@ header_len-read src dst verified bytes payload v r =
     let long : length (options_of bytes) ≡ header_len bytes - 20 = length-take-le (header_len bytes - 20) (drop 20 bytes) (omega (arith, length-drop 20 bytes)) in
     omega (arith, least, long, shortest (options_of bytes) v r.options (omega (arith, long, least)))
 
+-- the emitted header of a parsed value is never longer than the parsed header
 pub header_len-tcp_of : (src dst : IpAddress) (verified : Bool) (bytes : List ℕ) (v : TcpHeader) → tcp_of src dst verified bytes ≡ Some v → header_len_of v ≤ header_len bytes
 header_len-tcp_of src dst verified bytes v e = header_len-read src dst verified bytes (payload_of bytes) v ((tcp_of-Reads src dst verified bytes v).0 e)

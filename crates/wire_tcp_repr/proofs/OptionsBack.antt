@@ -1,4 +1,4 @@
--- The options that are written are read as those of the normal form.
+-- Emitted options parse as those of the normal form.
 use Rattle.std.proofs.Common.{◌≡◌, ◌≢◌, ℕ, zero, suc, ◌+◌, ◌-◌, ◌*◌, ◌^◌, ◌<◌, ◌≤◌, inl, inr, Bool, true, false, cond, eqb, ltb, ◌||◌, List, [], ◌∷◌, ◌++◌, length, map, drop, get_or, count_by, replicate, Option, Some, None, is_some, is_none, arith, refl, sym, ap, ◌∙◌, min, subst, IfSome, length-append}
 use Rattle.std.specs.Option.{option_or, option_map, option_map_or}
 use Rattle.std.specs.List.{AllByRecursion, flat_map, filter_map}
@@ -30,11 +30,12 @@ last_of-append : (p : Item → Bool) (xs ys : List Item) → last_of p (xs ++ ys
 last_of-append p [] ys = sym (or_none (last_of p ys))
 last_of-append p (x ∷ xs) ys = ap (λ o. option_or o (cond (p x) (Some x) None)) (last_of-append p xs ys) ∙ or_assoc (last_of p ys) (last_of p xs) (cond (p x) (Some x) None)
 
--- of the four groups of items
-last_of_four : (p : Item → Bool) (a b c d : List Item) → last_of p (a ++ b ++ c ++ d) ≡ option_or (last_of p d) (option_or (last_of p c) (option_or (last_of p b) (last_of p a)))
-last_of_four p a b c d =
-    last_of-append p (a ++ b ++ c) d
-    ∙ ap (option_or (last_of p d)) (last_of-append p (a ++ b) c ∙ ap (option_or (last_of p c)) (last_of-append p a b))
+-- of two lists, one of which has none
+in_front : (p : Item → Bool) (xs ys : List Item) → last_of p ys ≡ None → last_of p (xs ++ ys) ≡ last_of p xs
+in_front p xs ys none = last_of-append p xs ys ∙ ap (λ o. option_or o (last_of p xs)) none
+
+in_back : (p : Item → Bool) (xs ys : List Item) → last_of p xs ≡ None → last_of p (xs ++ ys) ≡ last_of p ys
+in_back p xs ys none = last_of-append p xs ys ∙ ap (option_or (last_of p ys)) none ∙ or_none (last_of p ys)
 
 no_segment : (p : Item → Bool) → ((c : List ℕ) → p (item 2 c) ≡ false) → (o : Option ℕ) → last_of p (segment_size_items o) ≡ None
 no_segment p h None = refl
@@ -56,7 +57,7 @@ no_sack p g h true n bytes = ap (λ b. cond b (Some (item 4 [])) None) (g _)
 no_sack p g h false true bytes = refl
 no_sack p g h false false bytes = ap (λ b. cond b (Some (item 5 bytes)) None) (h _)
 
--- a number's bytes are read as the number
+-- the big-endian bytes of a number are read as the number
 number_back_2 : (x : ℕ) (rest : List ℕ) → x < 2 ^ 16 → big_number 2 (big_bytes 2 x ++ rest) ≡ x
 number_back_2 x rest h = let e = from_be_bytes-to_be_bytes_2 x h in omega (arith, e)
 
@@ -143,6 +144,7 @@ closed_get [] m k = none_get m k
 closed_get (p ∷ ps) m zero = refl
 closed_get (p ∷ ps) m (suc k) = closed_get ps m k
 
+-- the ranges that are `Some`, in their order
 abbrev pub somes : List (Option Pair) → List Pair
 somes rs = filter_map (λ r. r) rs
 
@@ -161,16 +163,18 @@ length-closed rs =
     let h = somes-le rs in
     omega (arith, h, length-append (map Some (somes rs)) (replicate (length rs - length (somes rs)) None), length-map (somes rs) Some, length-replicate {A = Option Pair} (length rs - length (somes rs)) None)
 
--- what is written of ranges is read as these, closed up
+-- emitted ranges parse as these ranges without gaps
 blocks_back : (rs : List (Option Pair)) → length rs ≡ SACK_BLOCKS → AllByRecursion (λ r. IfSome r PairFits) rs → first_blocks (range_bytes rs) ≡ closed rs
 blocks_back rs long all =
     sym (fill_by_all (block_at (range_bytes rs)) (closed rs) SACK_BLOCKS None (length-closed rs ∙ long) (λ k h. closed_get (somes rs) _ k ∙ sym (block_get (somes rs) (somes_fit rs all) k)))
 
+-- counting the ranges that are `Some` gives the length of their list
 pub count_somes : (rs : List (Option Pair)) → count_by is_some rs ≡ length (somes rs)
 count_somes [] = refl
 count_somes (None ∷ rs) = count_somes rs
 count_somes (Some r ∷ rs) = let h = count_somes rs in let n = sum_by-cons (λ x. cond (is_some x) 1 0) (Some r) rs in omega (arith, h, n)
 
+-- no ranges, padded to n places, are n times `None`
 pub closed_none : (ps : List Pair) (n : ℕ) → length ps ≡ 0 → map Some ps ++ replicate (n - length ps) None ≡ replicate n None
 closed_none [] n e = ap (λ m. replicate m None) (omega arith)
 closed_none (p ∷ ps) n e = absurd (omega (arith, e))
@@ -224,34 +228,18 @@ zeros_end zero = tt
 zeros_end (suc n) = refl
 
 one_of_four : (p : Item → Bool) (a b c d : List Item) → last_of p b ≡ None → last_of p c ≡ None → last_of p d ≡ None → last_of p (a ++ b ++ c ++ d) ≡ last_of p a
-one_of_four p a b c d hb hc hd =
-    last_of_four p a b c d
-    ∙ ap (λ o. option_or o (option_or (last_of p c) (option_or (last_of p b) (last_of p a)))) hd
-    ∙ ap (λ o. option_or o (option_or (last_of p b) (last_of p a))) hc
-    ∙ ap (λ o. option_or o (last_of p a)) hb
+one_of_four p a b c d hb hc hd = in_front p (a ++ b ++ c) d hd ∙ in_front p (a ++ b) c hc ∙ in_front p a b hb
 
 two_of_four : (p : Item → Bool) (a b c d : List Item) → last_of p a ≡ None → last_of p c ≡ None → last_of p d ≡ None → last_of p (a ++ b ++ c ++ d) ≡ last_of p b
-two_of_four p a b c d ha hc hd =
-    last_of_four p a b c d
-    ∙ ap (λ o. option_or o (option_or (last_of p c) (option_or (last_of p b) (last_of p a)))) hd
-    ∙ ap (λ o. option_or o (option_or (last_of p b) (last_of p a))) hc
-    ∙ ap (option_or (last_of p b)) ha ∙ or_none (last_of p b)
+two_of_four p a b c d ha hc hd = in_front p (a ++ b ++ c) d hd ∙ in_front p (a ++ b) c hc ∙ in_back p a b ha
 
 three_of_four : (p : Item → Bool) (a b c d : List Item) → last_of p a ≡ None → last_of p b ≡ None → last_of p d ≡ None → last_of p (a ++ b ++ c ++ d) ≡ last_of p c
-three_of_four p a b c d ha hb hd =
-    last_of_four p a b c d
-    ∙ ap (λ o. option_or o (option_or (last_of p c) (option_or (last_of p b) (last_of p a)))) hd
-    ∙ ap (λ o. option_or (last_of p c) (option_or o (last_of p a))) hb
-    ∙ ap (option_or (last_of p c)) ha ∙ or_none (last_of p c)
+three_of_four p a b c d ha hb hd = in_front p (a ++ b ++ c) d hd ∙ in_back p (a ++ b) c (in_front p a b hb ∙ ha)
 
 four_of_four : (p : Item → Bool) (a b c d : List Item) → last_of p a ≡ None → last_of p b ≡ None → last_of p c ≡ None → last_of p (a ++ b ++ c ++ d) ≡ last_of p d
-four_of_four p a b c d ha hb hc =
-    last_of_four p a b c d
-    ∙ ap (λ o. option_or (last_of p d) (option_or o (option_or (last_of p b) (last_of p a)))) hc
-    ∙ ap (λ o. option_or (last_of p d) (option_or o (last_of p a))) hb
-    ∙ ap (option_or (last_of p d)) ha ∙ or_none (last_of p d)
+four_of_four p a b c d ha hb hc = in_back p (a ++ b ++ c) d (in_front p (a ++ b) c hc ∙ in_front p a b hb ∙ ha)
 
--- the options that are written are read as the normal form
+-- emitted options parse as those of the normal form
 pub options_back : (v : TcpHeader) → IsInRange v → ReadsOptions (option_bytes v) (normal v)
 options_back v r =
     let a = segment_size_items v.max_seg_size in
@@ -282,6 +270,7 @@ somes_none : (m : ℕ) → somes (replicate m None) ≡ []
 somes_none zero = refl
 somes_none (suc m) = somes_none m
 
+-- the ranges that are `Some` among ranges without gaps
 pub somes_closed : (ps : List Pair) (m : ℕ) → somes (map Some ps ++ replicate m None) ≡ ps
 somes_closed [] m = somes_none m
 somes_closed (p ∷ ps) m = ap (λ l. p ∷ l) (somes_closed ps m)
@@ -292,6 +281,7 @@ closed_twice rs =
     ap (λ ps. map Some ps ++ replicate {A = Option Pair} (n - length ps) None) (somes_closed (somes rs) (length rs - length (somes rs)))
     ∙ ap (λ k. map Some (somes rs) ++ replicate {A = Option Pair} (k - length (somes rs)) None) (length-closed rs)
 
+-- limiting a window scale to 14 twice is the same as once
 pub min_twice : (o : Option ℕ) → option_map (min 14) (option_map (min 14) o) ≡ option_map (min 14) o
 min_twice None = refl
 min_twice (Some n) = ap Some (omega arith)

@@ -1,4 +1,4 @@
--- The computed value of a segment is the one that it is read as.
+-- `tcp_of` computes the value that a segment parses as.
 use Rattle.std.proofs.Common.{ℕ, zero, suc, ◌≡◌, ◌↔◌, ◌==◌, ◌&&◌, ◌||◌, not, ◌<◌, Bool, true, false, IsTrue, List, Option, Some, None, Result, Ok, Err, IfOk, OnErr, refl, sym, ap, subst, ◌∙◌, arith}
 use Rattle.std.proofs.lemmas.Bool.Decides.{nat_tests}
 use Rattle.std.specs.Option.{option_and_then, option_map}
@@ -7,13 +7,14 @@ use Rattle.std.specs.Result.{result_ok}
 use Rattle.net_base.specs.declared.error.Error.{Error}
 use Rattle.wire_ends.specs.declared.ip_address.IpAddress.{IpAddress}
 use Rattle.wire_field.specs.Field.{field}
-use Rattle.wire_tcp.specs.Tcp.{HasLengths, has_lengths, options_of, payload_of, segment_sum}
+use Rattle.wire_tcp.specs.Tcp.{has_lengths, options_of, payload_of, segment_sum}
 use Rattle.wire_tcp.specs.TcpItems.{Item}
 use Rattle.wire_tcp.specs.declared.tcp.control.TcpControl.{TcpControl}
 use Rattle.wire_tcp.specs.declared.tcp.control.TcpControl.TheVariants as control
 use Rattle.wire_tcp_repr.specs.TcpRepr.{HasControl, HasFlags, HasNoReading, Reads, TcpHeader, control_by, control_of, header_of, header_with, is_sound, items_in, tcp_of}
 use Rattle.wire_tcp_repr.specs.declared.tcp.repr.TcpRepr.{TcpRepr}
 use Rattle.wire_tcp_repr.proofs.OptionItems.{items_in-list}
+pub use Rattle.wire_tcp.proofs.TcpLengths.{HasLengths-has_lengths, has_lengths-HasLengths}
 
 -- ---- what the flags ask for
 
@@ -101,30 +102,19 @@ Reads-is src dst verified bytes payload v r =
     (sym r.options.window_scale) (sym r.options.max_seg_size) (sym r.options.sack_permitted) (sym r.options.sack_ranges) (sym r.options.timestamp)
 
 -- the parts of the whole test
-parts : (lengths sender receiver verified holds : Bool) → (lengths && not sender && not receiver && (not verified || holds)) ≡ true
+conjuncts : (lengths sender receiver verified holds : Bool) → (lengths && not sender && not receiver && (not verified || holds)) ≡ true
     → (lengths ≡ true) × (sender ≡ false) × (receiver ≡ false) × (IsTrue verified → holds ≡ true)
-parts true false false true true e = (refl, refl, refl, λ on. refl)
-parts true false false true false e = absurd (cc)
-parts true false false false holds e = (refl, refl, refl, λ on. absurd (cc))
-parts true false true verified holds e = absurd (cc)
-parts true true receiver verified holds e = absurd (cc)
-parts false sender receiver verified holds e = absurd (cc)
+conjuncts true false false true true e = (refl, refl, refl, λ on. refl)
+conjuncts true false false true false e = absurd (cc)
+conjuncts true false false false holds e = (refl, refl, refl, λ on. absurd (cc))
+conjuncts true false true verified holds e = absurd (cc)
+conjuncts true true receiver verified holds e = absurd (cc)
+conjuncts false sender receiver verified holds e = absurd (cc)
 
 together : (lengths sender receiver verified holds : Bool) → lengths ≡ true → sender ≡ false → receiver ≡ false → (IsTrue verified → holds ≡ true)
     → (lengths && not sender && not receiver && (not verified || holds)) ≡ true
 together lengths sender receiver true holds l s r h = rw (l, s, r, h refl) refl
 together lengths sender receiver false holds l s r h = rw (l, s, r) refl
-
--- the test of the lengths says what it is named for
-pub has_lengths-HasLengths : (bytes : List ℕ) → has_lengths bytes ≡ true → HasLengths bytes
-has_lengths-HasLengths bytes h = record {
-  least = grind (arith, nat_tests);
-  header = grind (arith, nat_tests);
-  whole = grind (arith, nat_tests);
-}
-
-pub HasLengths-has_lengths : (bytes : List ℕ) → HasLengths bytes → has_lengths bytes ≡ true
-HasLengths-has_lengths bytes h = grind (arith, nat_tests)
 
 -- a choice that gives a value
 chosen : (b : Bool) (o : Option TcpHeader) (v : TcpHeader) → (if b then o else None) ≡ Some v → (b ≡ true) × (o ≡ Some v)
@@ -143,7 +133,7 @@ tcp_of-reads : (src dst : IpAddress) (verified : Bool) (bytes : List ℕ) (v : T
 unfolding tcp_of
 tcp_of-reads src dst verified bytes v e =
     let (sound, given) = chosen (is_sound src dst verified bytes) (option_and_then (λ asked. option_map (header_with bytes asked) (items_in (options_of bytes))) (control_of bytes)) v e in
-    let (lengths, sender, receiver, holds) = parts (has_lengths bytes) (field bytes 0 16 == 0) (field bytes 16 16 == 0) verified (segment_sum src dst bytes == 65535) sound in
+    let (lengths, sender, receiver, holds) = conjuncts (has_lengths bytes) (field bytes 0 16 == 0) (field bytes 16 16 == 0) verified (segment_sum src dst bytes == 65535) sound in
     let (c, asks, made) = asked (control_of bytes) (λ asked. option_map (header_with bytes asked) (items_in (options_of bytes))) v given in
     let (items, are, is) = valued (items_in (options_of bytes)) (header_with bytes c) v made in
     let (tail, list) = (items_in-list (options_of bytes) items).0 are in
@@ -188,7 +178,7 @@ reads-tcp_of src dst verified bytes payload v r =
 pub tcp_of-Reads : (src dst : IpAddress) (verified : Bool) (bytes : List ℕ) (v : TcpHeader) → (tcp_of src dst verified bytes ≡ Some v) ↔ Reads bytes src dst verified v (payload_of bytes)
 tcp_of-Reads src dst verified bytes v = (tcp_of-reads src dst verified bytes v, reads-tcp_of src dst verified bytes (payload_of bytes) v)
 
--- no bytes are read as two values
+-- bytes parse as at most one value
 pub reads_once : (src dst : IpAddress) (verified : Bool) (bytes payload other_payload : List ℕ) (v w : TcpHeader)
     → Reads bytes src dst verified v payload → Reads bytes src dst verified w other_payload → (v ≡ w) × (payload ≡ other_payload)
 reads_once src dst verified bytes payload other_payload v w r s =
@@ -199,7 +189,7 @@ none_read : (o : Option TcpHeader) → ((v : TcpHeader) → o ≡ Some v → ⊥
 none_read None h = refl
 none_read (Some v) h = absurd (h v refl)
 
--- a reader's answer is the computed value, if there is one
+-- the result of `parse` is the computed value, if there is one
 pub answer-tcp_of : (src dst : IpAddress) (verified : Bool) (bytes : List ℕ) (answer : Result TcpRepr Error)
     → IfOk answer (λ v. Reads bytes src dst verified (header_of v) v.payload.now) → OnErr answer (HasNoReading bytes src dst verified)
     → tcp_of src dst verified bytes ≡ option_map header_of (result_ok answer)

@@ -32,6 +32,7 @@ texts-ranges v p a n =
     let some : eqb (count_by is_some v.sack_ranges) 0 ≡ false = false_from_ne_true _ (λ y. n (eqb-true _ 0 y)) in
     rw (p, not_none v.ack_number a, some, append-nil, length-range_bytes v.sack_ranges) refl
 
+-- the length of the SACK option in octets, if ranges are written
 pub length-ranges : (v : TcpHeader) → v.sack_permitted ≡ false → is_some v.ack_number ≡ true → count_by is_some v.sack_ranges ≢ 0
     → length (texts (sack_items v)) ≡ 2 + 8 * count_by is_some v.sack_ranges
 length-ranges v p a n =
@@ -96,6 +97,7 @@ length-option_bytes v =
       length-append (texts a) (texts b),
     )
 
+-- the emitted header has the computed length
 pub length-header_bytes : (v : TcpHeader) (checksum : ℕ) → length (header_bytes v checksum) ≡ header_len_of v
 length-header_bytes v checksum = omega (arith, length-option_bytes v)
 

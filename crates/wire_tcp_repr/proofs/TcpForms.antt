@@ -1,14 +1,15 @@
 -- What was read is in range, and its normal form, or that form's header is shorter.
-use Rattle.std.proofs.Common.{ℕ, zero, suc, ◌≡◌, ◌⊎◌, inl, inr, ◌+◌, ◌-◌, ◌*◌, ◌^◌, ◌<◌, ◌≤◌, ◌||◌, ◌==◌, eqb, nat_lt, min, Bool, true, false, IsTrue, cond, List, [], ◌∷◌, ◌++◌, length, drop, map, take, count_by, replicate, Option, Some, None, IfSome, is_some, is_none, refl, sym, ap, subst, ◌∙◌, append_assoc, length-append, arith}
+use Rattle.std.proofs.Common.{ℕ, zero, suc, ◌≡◌, ◌⊎◌, inl, inr, ◌+◌, ◌-◌, ◌*◌, ◌^◌, ◌<◌, ◌≤◌, ◌||◌, ◌==◌, eqb, nat_lt, min, Bool, true, false, IsTrue, cond, List, [], ◌∷◌, ◌++◌, length, drop, map, count_by, replicate, Option, Some, None, IfSome, is_some, is_none, refl, sym, ap, subst, ◌∙◌, append_assoc, length-append, arith}
 use Rattle.std.specs.List.{AllByRecursion, range_with_len}
 use Rattle.std.specs.Option.{option_map, option_map_or, option_or}
 use Rattle.std.specs.Prelude.{⊤}
 use Rattle.std.proofs.lemmas.Bool.{cases_Bool, eqb-true, eqb-false, false_from_ne_true, ltb-true, ltb-false}
-use Rattle.std.proofs.lemmas.List.{get_or-drop, length-map, length-replicate, take-append-drop}
+use Rattle.std.proofs.lemmas.List.{length-map, length-replicate}
 use Rattle.std.proofs.Math.Facts.{sfits_to_z}
 use Rattle.byteorder.specs.Endian.{big_number}
 use Rattle.wire_ends.specs.declared.ip_address.IpAddress.{IpAddress}
 use Rattle.wire_field.specs.Field.{field}
+use Rattle.wire_field.proofs.ByteLists.{AreBytes-drop, AreBytes-take}
 use Rattle.wire_field.proofs.Spelled.{AreBytes}
 use Rattle.wire_tcp.specs.Tcp.{header_len, options_of}
 use Rattle.wire_tcp.specs.TcpItems.{Item, IsItem, block_at, first_blocks, is_of, is_timestamp, last_of, stamps, text, texts, timestamp_of, window_scale_of}
@@ -17,7 +18,7 @@ use Rattle.wire_tcp.specs.declared.tcp.seq_number.TcpSeqNumber.{TcpSeqNumber}
 use Rattle.wire_tcp_repr.specs.TcpRepr.{HasIdleRanges, IsInRange, IsSeq, Reads, TcpHeader, closed, header_len_of, len_if, no_ranges, normal, sack_len, seq_of, stamp_of}
 use Rattle.wire_tcp_repr.proofs.OptionsBack.{Pair, closed_none, count_somes, min_twice, somes, somes_closed}
 use Rattle.wire_tcp.proofs.Items.{text-other}
-use Rattle.wire_tcp_repr.proofs.OptionLens.{header_len-read}
+use Rattle.wire_tcp_repr.proofs.OptionLens.{header_len-read, some_map}
 use Rattle.wire_tcp_repr.proofs.TcpComputed.{same_header}
 use Rattle.wire_tcp_repr.proofs.TcpReadsBack.{IsWritable}
 
@@ -56,10 +57,6 @@ closed-blocks : (content : List ℕ) → closed (first_blocks content) ≡ first
 closed-blocks content = closed-shaped (first_blocks content) (shaped content SACK_BLOCKS 0)
 
 -- ---- normal, or shorter
-
-some_map : {X Y : Type 0} (f : X → Y) (o : Option X) → is_some (option_map f o) ≡ is_some o
-some_map f None = refl
-some_map f (Some x) = refl
 
 idle : (v : TcpHeader) → (v.sack_permitted || is_none v.ack_number) ≡ true → IsTrue v.sack_permitted ⊎ (v.ack_number ≡ None)
 idle v e = by v.sack_permitted v.ack_number e
@@ -126,17 +123,11 @@ AreBytes-split (x ∷ xs) ys h =
     first front zero = h 0
     first front (suc i) = front i
 
-AreBytes-behind : (n : ℕ) (xs : List ℕ) → AreBytes xs → AreBytes (drop n xs)
-AreBytes-behind n xs h i = rw (get_or-drop n xs i 0) (h (n + i))
-
-AreBytes-before : (n : ℕ) (xs : List ℕ) → AreBytes xs → AreBytes (take n xs)
-AreBytes-before n xs h = (AreBytes-split (take n xs) (drop n xs) (subst AreBytes (sym (take-append-drop n xs)) h)).0
-
 -- the data of an item are bytes
 content_bytes : (i : Item) → IsItem i → AreBytes (text i) → AreBytes i.content
 content_bytes i is h = elim (cases_Bool (eqb i.kind 1)) [
   | inl y ↦ subst AreBytes (sym (is.no_operation (eqb-true i.kind 1 y))) (λ k. omega arith)
-  | inr n ↦ AreBytes-behind 2 (i.kind ∷ (2 + length i.content) ∷ i.content) (subst AreBytes (text-other i (eqb-false i.kind 1 n)) h)
+  | inr n ↦ AreBytes-drop 2 (i.kind ∷ (2 + length i.content) ∷ i.content) (subst AreBytes (text-other i (eqb-false i.kind 1 n)) h)
 ]
 
 abbrev HasBytes : Item → Type 0
@@ -171,7 +162,7 @@ abbrev EdgesFit : Option Pair → Type 0
 EdgesFit r = IfSome r (λ r. (r.0 < 2 ^ 32) × (r.1 < 2 ^ 32))
 
 block_fits : (content : List ℕ) (a : ℕ) (b : Bool) → AreBytes content → EdgesFit (cond b (Some (big_number 4 (drop (8 * a) content), big_number 4 (drop (8 * a + 4) content))) None)
-block_fits content a true h = (number_4 (drop (8 * a) content) (AreBytes-behind (8 * a) content h), number_4 (drop (8 * a + 4) content) (AreBytes-behind (8 * a + 4) content h))
+block_fits content a true h = (number_4 (drop (8 * a) content) (AreBytes-drop (8 * a) content h), number_4 (drop (8 * a + 4) content) (AreBytes-drop (8 * a + 4) content h))
 block_fits content a false h = tt
 
 blocks_fit : (content : List ℕ) → AreBytes content → (m a : ℕ) → AllByRecursion EdgesFit (map (block_at content) (range_with_len a m))
@@ -193,7 +184,7 @@ ack-fits false n h = tt
 pub Reads-IsInRange : (src dst : IpAddress) (verified : Bool) (bytes payload : List ℕ) (v : TcpHeader) → AreBytes bytes → Reads bytes src dst verified v payload → IsInRange v
 Reads-IsInRange src dst verified bytes payload v h r =
     let o = r.options in
-    let options : AreBytes (options_of bytes) = AreBytes-before (header_len bytes - 20) (drop 20 bytes) (AreBytes-behind 20 bytes h) in
+    let options : AreBytes (options_of bytes) = AreBytes-take (header_len bytes - 20) (drop 20 bytes) (AreBytes-drop 20 bytes h) in
     let have = items_bytes o.items o.tail o.list.each (subst AreBytes o.list.joined options) in
     let content = option_map_or (λ i. i.content) (last_of (is_of 5) o.items) [] in
     record {
@@ -207,7 +198,7 @@ Reads-IsInRange src dst verified bytes payload v h r =
       places = ap length o.sack_ranges;
       sack_ranges = rw o.sack_ranges (blocks_fit content (content_has (last_of (is_of 5) o.items) (last_has HasBytes (is_of 5) o.items have)) SACK_BLOCKS 0);
       timestamp = rw o.timestamp (mapped_has (λ t. (t.0 < 2 ^ 32) × (t.1 < 2 ^ 32)) (λ t. (t.tsval < 2 ^ 32) × (t.tsecr < 2 ^ 32)) stamp_of (timestamp_of o.items) (λ t k. k)
-          (mapped_has HasBytes (λ t. (t.0 < 2 ^ 32) × (t.1 < 2 ^ 32)) (λ i. stamps i.content) (last_of is_timestamp o.items) (λ i k. (number_4 i.content k, number_4 (drop 4 i.content) (AreBytes-behind 4 i.content k))) (last_has HasBytes is_timestamp o.items have)));
+          (mapped_has HasBytes (λ t. (t.0 < 2 ^ 32) × (t.1 < 2 ^ 32)) (λ i. stamps i.content) (last_of is_timestamp o.items) (λ i k. (number_4 i.content k, number_4 (drop 4 i.content) (AreBytes-drop 4 i.content k))) (last_has HasBytes is_timestamp o.items have)));
     }
   where
     given : (o : Option ℕ) → IfSome o (λ n. ⊤)

@@ -1,4 +1,4 @@
--- A segment that was written is read as the normal form of what it was written from.
+-- An emitted segment parses as the normal form of the value from which it was emitted.
 use Rattle.std.proofs.Common.{ℕ, ◌≡◌, ◌≢◌, ◌+◌, ◌-◌, ◌*◌, ◌%◌, ◌^◌, ◌<◌, ◌≤◌, Bool, true, false, IsTrue, List, [], ◌++◌, length, drop, take, Option, Some, None, IfSome, is_some, refl, sym, ap, subst, ◌∙◌, length-append, arith}
 use Rattle.std.specs.Prelude.{if◌then◌else◌}
 use Rattle.std.proofs.lemmas.Int.{to_z-of_z}
@@ -54,6 +54,7 @@ header_len-segment v payload checksum most =
     let f = flag-bound v.control in
     omega (arith, a.1, a.2, f)
 
+-- the data offset of an emitted segment gives the computed header length
 pub header_len-bytes_of : (v : TcpHeader) (src dst : IpAddress) (payload : List ℕ) (computed : Bool) → header_len_of v ≤ 60 → header_len (bytes_of v payload src dst computed []) ≡ header_len_of v
 header_len-bytes_of v src dst payload true most = header_len-segment v payload (65535 - segment_sum src dst (segment_with v payload 0 ++ [])) most
 header_len-bytes_of v src dst payload false most = header_len-segment v payload 0 most
@@ -144,7 +145,7 @@ bytes_of-verifies v src dst payload s d =
     let room : 18 ≤ length (segment_with v payload 0 ++ []) = omega arith in
     subst (Verifies src dst) filled (verifies src dst (segment_with v payload 0 ++ []) s d room)
 
--- what was written is read as the normal form, with the same payload
+-- an emitted segment parses as the normal form, with the same payload
 pub reads-bytes_of : (v : TcpHeader) (src dst : IpAddress) (payload : List ℕ) (computed verified : Bool) → IsWritable v
     → length (octets_of src) % 2 ≡ 0 → length (octets_of dst) % 2 ≡ 0 → (IsTrue verified → IsTrue computed)
     → Reads (bytes_of v payload src dst computed []) src dst verified (normal v) payload
@@ -153,7 +154,7 @@ reads-bytes_of v src dst payload true verified w s d sound =
 reads-bytes_of v src dst payload false verified w s d sound =
     reads-segment_with v src dst payload 0 verified w (λ on. let no : IsTrue false = sound on in absurd (cc))
 
--- a normal value is read as itself
+-- an emitted normal value parses as itself
 pub reads-normal : (v : TcpHeader) (src dst : IpAddress) (payload : List ℕ) (computed verified : Bool) → normal v ≡ v → IsWritable v
     → length (octets_of src) % 2 ≡ 0 → length (octets_of dst) % 2 ≡ 0 → (IsTrue verified → IsTrue computed)
     → Reads (bytes_of v payload src dst computed []) src dst verified v payload

@@ -73,7 +73,7 @@ ack-read = refl
 
 -- ---- options
 
--- the last size of a segment counts, and what stands behind the end mark does not
+-- the last segment size counts; options behind the end of the list do not
 sizes-read : items_in (0x02 ∷ 0x04 ∷ 0x05 ∷ 0xb4 ∷ 0x02 ∷ 0x04 ∷ 0x02 ∷ 0x18 ∷ 0x00 ∷ 0xff ∷ 0xff ∷ 0xff ∷ []) ≡ Some (item 2 (0x05 ∷ 0xb4 ∷ []) ∷ item 2 (0x02 ∷ 0x18 ∷ []) ∷ [])
 unfolding items_within first_item
 sizes-read = refl

@@ -28,7 +28,7 @@ range_says : (r : Option Pair) (vals : List Val) → shadow ((option.the_row (Tu
 range_says None vals s = tt
 range_says (Some r) vals s = search rules
 
--- what a value says of its numbers
+-- the ranges of the numbers of a value
 pub value_in_range : (a : NamedLft) (v : TcpRepr) (vals : List Val) → shadow ((row (the_type a)).own_val v vals) → IsInRange (header_of v)
 value_in_range a v vals s = record {
   src_port = search rules;

@@ -15,7 +15,7 @@ use Rattle.wire_field.specs.Field.{behind, field, span, with_field, with_part}
 use Rattle.wire_tcp.proofs.Sums.{sum-words-segment, with_word}
 use Rattle.wire_tcp.specs.Tcp.{Verifies}
 
--- where a word stands, and how many bytes it has
+-- the place of a word and its length
 place : (i : ℕ) → 16 * i / 8 ≡ 2 * i
 place i = omega arith
 
@@ -55,7 +55,7 @@ from_place (a ∷ []) zero room = absurd (omega arith)
 from_place (a ∷ b ∷ rest) zero room = refl
 from_place (a ∷ rest) (suc n) room = from_place rest n (omega arith)
 
--- the word that stands there
+-- writing the word that is there already changes nothing
 there : (bytes : List ℕ) (i : ℕ) → AreBytes bytes → 2 * i + 2 ≤ length bytes → bytes ≡ with_word bytes (2 * i) (number_at bytes (2 * i))
 there bytes i h room =
     let n = 2 * i in
@@ -77,6 +77,7 @@ congruent a x y k m e f = omega (arith, e, f)
 full : (total : ℕ) → residue total ≡ 65535 → (k : ℕ) × (total ≡ 65535 + 65535 * k)
 full total e = let (k, is) = residue-quotient total in (k, is ∙ ap (λ (r : ℕ). r + 65535 * k) e)
 
+-- changing one aligned word of a valid segment makes its checksum wrong, unless old and new word are congruent modulo 65535
 pub word_changed : (src dst : IpAddress) (bytes : List ℕ) (i x : ℕ) → length (octets_of src) % 2 ≡ 0 → length (octets_of dst) % 2 ≡ 0 → AreBytes bytes
     → 2 * i + 2 ≤ length bytes → x < 65536 → x % 65535 ≢ field bytes (16 * i) 16 % 65535 → Verifies src dst bytes → ¬ Verifies src dst (with_field bytes (16 * i) 16 x)
 word_changed src dst bytes i x s d h room fits changed holds still =

@@ -59,7 +59,7 @@ pub record HasFlags (bytes : List ℕ) (r s f : ℕ) : Type 0 where
   pub syn : field bytes 110 1 ≡ s
   pub fin : field bytes 111 1 ≡ f
 
--- what the segment asks for: by the one of RST, SYN and FIN that is set, and where none of them is by PSH
+-- the control of a segment: the one of RST, SYN and FIN that is set, or PSH if none of them is
 abbrev pub HasControl : List ℕ → TcpControl → Type 0
 HasControl bytes control.Rst = HasFlags bytes 1 0 0
 HasControl bytes control.Syn = HasFlags bytes 0 1 0
@@ -67,23 +67,23 @@ HasControl bytes control.Fin = HasFlags bytes 0 0 1
 HasControl bytes control.Psh = HasFlags bytes 0 0 0 × (field bytes 108 1 ≡ 1)
 HasControl bytes control.None = HasFlags bytes 0 0 0 × (field bytes 108 1 ≡ 0)
 
--- the acknowledgement number, where ACK is set
+-- the acknowledgement number, if ACK is set
 abbrev pub ack_number_of : List ℕ → Option TcpSeqNumber
 ack_number_of bytes = if field bytes 107 1 == 1 then Some (seq_of (field bytes 64 32)) else None
 
--- a timestamp, and the one that it replies to
+-- a timestamp, and the echoed timestamp
 abbrev pub stamp_of : ℕ × ℕ → TcpTimestampRepr
 stamp_of t = record { tsval = t.0; tsecr = t.1 }
 
--- the window scale that an option says: the largest that counts is 14 (RFC 7323, section 2.3)
+-- the window scale of an option, at most 14 (RFC 7323, section 2.3)
 abbrev pub scale_of : List Item → Option ℕ
 scale_of items = option_map (min 14) (window_scale_of items)
 
--- the timestamp that an option says
+-- the timestamp of an option
 abbrev pub stamps_of : List Item → Option TcpTimestampRepr
 stamps_of items = option_map stamp_of (timestamp_of items)
 
--- the bytes of options have a list, and of each kind the last item says the value
+-- the bytes have an option list, and these are the values of the last item of each kind
 pub record ReadsOptions (bytes : List ℕ) (v : TcpHeader) : Type 0 where
   pub items : List Item
   pub tail : List ℕ
@@ -94,7 +94,7 @@ pub record ReadsOptions (bytes : List ℕ) (v : TcpHeader) : Type 0 where
   pub sack_ranges : v.sack_ranges ≡ sack_ranges_of items
   pub timestamp : v.timestamp ≡ stamps_of items
 
--- the bytes are a segment between two addresses, with these values and this payload
+-- the bytes are a segment between two addresses that parses as these values and this payload
 pub record Reads (bytes : List ℕ) (src dst : IpAddress) (verified : Bool) (v : TcpHeader) (payload : List ℕ) : Type 0 where
   pub lengths : HasLengths bytes
   pub sender : field bytes 0 16 ≢ 0
@@ -113,24 +113,24 @@ pub record Reads (bytes : List ℕ) (src dst : IpAddress) (verified : Bool) (v :
 abbrev pub HasNoControl : List ℕ → Type 0
 HasNoControl bytes = (asked : TcpControl) → HasControl bytes asked → ⊥
 
--- the bytes are no segment between these addresses
+-- the bytes do not parse as a segment between these addresses
 abbrev pub HasNoReading : List ℕ → IpAddress → IpAddress → Bool → Type 0
 HasNoReading bytes src dst verified = (v : TcpHeader) (payload : List ℕ) → Reads bytes src dst verified v payload → ⊥
 
 -- ---- the same computed
 
--- what RST, SYN, FIN and PSH ask for, each 1 where it is set
+-- the control of RST, SYN, FIN and PSH, each 1 if it is set
 abbrev pub control_by : ℕ → ℕ → ℕ → ℕ → Option TcpControl
 control_by rst syn fin psh =
     if rst + syn + fin == 0 then Some (if psh == 1 then control.Psh else control.None)
     else if rst + syn + fin == 1 then Some (if rst == 1 then control.Rst else if syn == 1 then control.Syn else control.Fin)
     else None
 
--- what the segment asks for, if at most one of RST, SYN and FIN is set
+-- the control of the segment, if at most one of RST, SYN and FIN is set
 abbrev pub control_of : List ℕ → Option TcpControl
 control_of bytes = control_by (field bytes 109 1) (field bytes 110 1) (field bytes 111 1) (field bytes 108 1)
 
--- the items of at most n bytes up to an end mark, unless one of them is malformed
+-- the items in at most n bytes up to the end of the list, if none of them is malformed
 unfoldable pub items_within : ℕ → List ℕ → Option (List Item)
 items_within n [] = Some []
 items_within zero (kind ∷ rest) = None
@@ -138,11 +138,11 @@ items_within (suc n) (kind ∷ rest) =
     if kind == 0 then Some []
     else option_and_then (λ d. option_map (λ items. d.0 ∷ items) (items_within n d.1)) (first_item (kind ∷ rest))
 
--- the items of the bytes up to an end mark, unless one of them is malformed
+-- the items up to the end of the list, if none of them is malformed
 abbrev pub items_in : List ℕ → Option (List Item)
 items_in bytes = items_within (length bytes) bytes
 
--- the values of a segment that asks for this and has these items
+-- the values of a segment with this control and these items
 abbrev pub header_with : List ℕ → TcpControl → List Item → TcpHeader
 header_with bytes asked items = record {
   src_port = field bytes 0 16;
@@ -158,34 +158,34 @@ header_with bytes asked items = record {
   timestamp = stamps_of items;
 }
 
--- whether lengths, ports and the checksum are as they have to be
+-- whether lengths, ports and checksum are valid
 abbrev pub is_sound : IpAddress → IpAddress → Bool → List ℕ → Bool
 is_sound src dst verified bytes =
     has_lengths bytes && not (field bytes 0 16 == 0) && not (field bytes 16 16 == 0)
     && (not verified || (segment_sum src dst bytes == 65535))
 
--- the one value that the bytes are read as, if there is one, without its payload
+-- the value that the bytes parse as, if there is one, without its payload
 unfoldable pub tcp_of : IpAddress → IpAddress → Bool → List ℕ → Option TcpHeader
 tcp_of src dst verified bytes =
     if is_sound src dst verified bytes then
     option_and_then (λ asked. option_map (header_with bytes asked) (items_in (options_of bytes))) (control_of bytes)
     else None
 
--- a control that asks for nothing but that data are handed on
+-- a control other than SYN, FIN and RST
 abbrev pub IsQuiet : TcpControl → Type 0
 IsQuiet asked = (asked ≡ control.None) ⊎ (asked ≡ control.Psh)
 
 -- ---- what a value is written as
 
--- so many bytes where the test holds, else none
+-- this many bytes if the test is true, else 0
 abbrev pub len_if : Bool → ℕ → ℕ
 len_if b n = if b then n else 0
 
--- how many bytes an option of n ranges takes, and none where there is no range
+-- the length of a SACK option with n ranges, 0 if there are none
 abbrev pub sack_len : ℕ → ℕ
 sack_len n = if n == 0 then 0 else 2 + 8 * n
 
--- how many bytes the options take that a value asks for, also ranges that are not written
+-- the length of the options of a value, counting ranges that are not written too
 abbrev pub options_len : TcpHeader → ℕ
 options_len v =
     len_if (is_some v.max_seg_size) 4 + len_if (is_some v.window_scale) 3 + len_if v.sack_permitted 2
@@ -207,17 +207,17 @@ abbrev pub timestamp_items : Option TcpTimestampRepr → List Item
 timestamp_items None = []
 timestamp_items (Some t) = item 8 (big_bytes 4 t.tsval ++ big_bytes 4 t.tsecr) ∷ []
 
--- that SACK is permitted, or else the ranges, with an acknowledgement and a range
+-- SACK permitted, or else the ranges if there is an acknowledgement and a range
 abbrev pub sack_items : TcpHeader → List Item
 sack_items v =
     if v.sack_permitted then item 4 [] ∷ []
     else (if is_none v.ack_number || (count_by is_some v.sack_ranges == 0) then [] else item 5 (range_bytes v.sack_ranges) ∷ [])
 
--- the items that a value is written as, in their order
+-- the items of an emitted value, in their order
 abbrev pub items_of : TcpHeader → List Item
 items_of v = segment_size_items v.max_seg_size ++ window_scale_items v.window_scale ++ sack_items v ++ timestamp_items v.timestamp
 
--- the options, and zeros up to the header's length
+-- the options, and zeros up to the end of the header
 abbrev pub option_bytes : TcpHeader → List ℕ
 option_bytes v = texts (items_of v) ++ replicate (header_len_of v - 20 - length (texts (items_of v))) 0
 
@@ -229,15 +229,15 @@ flag_of control.Syn = 2
 flag_of control.Rst = 4
 flag_of control.Psh = 8
 
--- the header's length in words of 4, no reserved bit, and ACK and the control's flag as the only flags
+-- the data offset, no reserved bit, and only the flags ACK and that of the control
 abbrev pub offset_and_flags : TcpHeader → ℕ
 offset_and_flags v = header_len_of v / 4 * 4096 + (if is_some v.ack_number then 16 else 0) + flag_of v.control
 
--- the acknowledgement number, 0 where there is none
+-- the acknowledgement number, or 0
 abbrev pub ack_bits : TcpHeader → ℕ
 ack_bits v = option_map_or number v.ack_number 0
 
--- the header that has these values, with this checksum and no urgent pointer
+-- the header with these values, with this checksum and no urgent pointer
 abbrev pub header_bytes : TcpHeader → ℕ → List ℕ
 header_bytes v checksum =
     big_bytes 2 v.src_port ++ big_bytes 2 v.dst_port ++ big_bytes 4 (number v.seq_number) ++ big_bytes 4 (ack_bits v)
@@ -247,7 +247,7 @@ header_bytes v checksum =
 abbrev pub segment_with : TcpHeader → List ℕ → ℕ → List ℕ
 segment_with v payload checksum = header_bytes v checksum ++ payload
 
--- The header and the payload. The checksum is 0, or where it is computed that of these and of the rest that follows them in the buffer.
+-- The header and the payload. A computed checksum covers them and the rest of the buffer behind them; else it is 0.
 abbrev pub bytes_of : TcpHeader → List ℕ → IpAddress → IpAddress → Bool → List ℕ → List ℕ
 bytes_of v payload src dst computed rest =
     segment_with v payload (if computed then 65535 - segment_sum src dst (segment_with v payload 0 ++ rest) else 0)
@@ -264,15 +264,15 @@ closed ranges =
 abbrev pub no_ranges : List (Option (ℕ × ℕ))
 no_ranges = replicate SACK_BLOCKS None
 
--- The values that are read once these were written: a window scale above 14 is 14, and ranges are closed up; none are left
--- where SACK is permitted or there is no acknowledgement.
+-- The values that the emitted segment parses as. A window scale above 14 becomes 14, and ranges lose their gaps. No
+-- ranges are left beside SACK permitted, or without an acknowledgement.
 abbrev pub normal : TcpHeader → TcpHeader
 normal v = record v {
   window_scale = option_map (min 14) v.window_scale;
   sack_ranges = if v.sack_permitted || is_none v.ack_number then no_ranges else closed v.sack_ranges;
 }
 
--- it has ranges that are not written: without an acknowledgement, or where SACK is permitted in their place
+-- it has ranges that are not written: without an acknowledgement, or beside SACK permitted
 abbrev pub HasIdleRanges : TcpHeader → Type 0
 HasIdleRanges v = (count_by is_some v.sack_ranges ≢ 0) × (IsTrue v.sack_permitted ⊎ (v.ack_number ≡ None))
 

@@ -1,4 +1,4 @@
--- The text that a value of a segment prints as.
+-- The printed text of a value of a segment.
 use Rattle.std.specs.Prelude.{ℕ, ◌++◌, List, [], Option, codes, decimal}
 use Rattle.std.specs.Option.{option_map_or}
 use Rattle.wire_tcp.specs.TcpSeq.{number}
@@ -7,7 +7,7 @@ use Rattle.wire_tcp.specs.declared.tcp.control.TcpControl.TheVariants as control
 use Rattle.wire_tcp.specs.declared.tcp.seq_number.TcpSeqNumber.{TcpSeqNumber}
 use Rattle.wire_tcp_repr.specs.TcpRepr.{TcpHeader}
 
--- the word for what a segment asks for
+-- the word for a control
 abbrev pub control_text : TcpControl → List ℕ
 control_text control.None = []
 control_text control.Psh = codes " psh"
@@ -15,15 +15,15 @@ control_text control.Syn = codes " syn"
 control_text control.Fin = codes " fin"
 control_text control.Rst = codes " rst"
 
--- the acknowledgement number, where there is one
+-- the acknowledgement number, if there is one
 abbrev pub ack_text : Option TcpSeqNumber → List ℕ
 ack_text ack = option_map_or (λ n. codes " ack=" ++ decimal (number n)) ack []
 
--- the largest segment size, where there is one
+-- the maximum segment size, if there is one
 abbrev pub size_text : Option ℕ → List ℕ
 size_text size = option_map_or (λ n. codes " mss=" ++ decimal n) size []
 
--- the ports, what the segment asks for and its number
+-- the ports, the control and the sequence number
 unfoldable pub start_text : ℕ → ℕ → TcpControl → TcpSeqNumber → List ℕ
 start_text src_port dst_port asked seq =
     codes "TCP src=" ++ decimal src_port ++ codes " dst=" ++ decimal dst_port ++ control_text asked ++ codes " seq=" ++ decimal (number seq)

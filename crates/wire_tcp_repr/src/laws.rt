@@ -1,4 +1,4 @@
-//! What holds by the definitions alone. The functions do nothing when they run.
+//! Laws of TCP's values. A law states a fact about definitions; its body does nothing.
 
 ghost use Rattle.std.specs.Prelude.{◌≡◌, ◌≢◌, ◌⊎◌, ◌↔◌, ◌+◌, ◌*◌, ◌%◌, ◌<◌, ◌≤◌, ℕ, [], Bool, List, IsTrue, Some, true, length};
 ghost use Rattle.wire_ends.specs.IpAddress.{version_of};
@@ -10,8 +10,8 @@ ghost use Rattle.wire_tcp_repr.specs.TcpRepr.{HasIdleRanges, Reads, bytes_of, he
 use crate::tcp::TcpRepr;
 use wire_ends::IpAddress;
 
-/// What is written of a value, in a buffer that is just as long, is read as the value's normal form
-/// with the same payload, where a checksum that is verified was computed.
+/// The emitted segment, in a buffer of exactly its length, parses as the value's normal form and
+/// the same payload. A checksum that is verified must have been computed.
 pub fn emit_reads_back_tcp(
     value: TcpRepr<'_>,
     src_addr: IpAddress,
@@ -28,7 +28,7 @@ pub fn emit_reads_back_tcp(
         Reads (bytes_of v payload src_addr dst_addr computed []) src_addr dst_addr verified (normal v) payload }
 {}
 
-/// No bytes are read as two values, or with two payloads.
+/// Bytes parse as at most one value and payload.
 pub fn reads_once_tcp(
     bytes: &[u8],
     src_addr: IpAddress,
@@ -43,7 +43,7 @@ pub fn reads_once_tcp(
     ensures payload { value.entry.payload.now ≡ other.entry.payload.now }
 {}
 
-/// The value that is computed of bytes is the one that they are read as.
+/// `tcp_of` computes the value that the bytes parse as, if there is one.
 pub fn reading_is_computed_tcp(
     bytes: &[u8],
     src_addr: IpAddress,
@@ -55,8 +55,8 @@ pub fn reading_is_computed_tcp(
         (tcp_of src_addr dst_addr verified bytes.now ≡ Some v) ↔ Reads bytes.now src_addr dst_addr verified v (payload_of bytes.now) }
 {}
 
-/// The normal form of a normal form is itself. What was read is normal, unless it has ranges and
-/// either no acknowledgement or SACK permitted; then the header of its normal form is shorter.
+/// The normal form of a normal form is itself. A parsed value is normal, except if it has ranges
+/// and either no acknowledgement or SACK permitted. Then the header of its normal form is shorter.
 pub fn normal_twice_tcp(
     bytes: &[u8],
     src_addr: IpAddress,
@@ -70,7 +70,7 @@ pub fn normal_twice_tcp(
     ensures idle { HasIdleRanges (header_of value.entry) → header_len_of (normal (header_of value.entry)) < header_len_of (header_of value.entry) }
 {}
 
-/// Two normal values that are written as the same bytes, with their checksums, are the same.
+/// Normal values with the same emitted bytes, checksum included, are equal.
 pub fn equal_bytes(value: TcpRepr<'_>, other: TcpRepr<'_>, src_addr: IpAddress, dst_addr: IpAddress)
     requires value_normal { normal (header_of value) ≡ header_of value }
     requires value_len { header_len_of (header_of value) ≤ 60 }
@@ -86,8 +86,8 @@ pub fn equal_bytes(value: TcpRepr<'_>, other: TcpRepr<'_>, src_addr: IpAddress, 
     ensures payload { value.entry.payload.now ≡ other.entry.payload.now }
 {}
 
-/// The header of a normal value is read as that value, and no header that is read as it, between
-/// any addresses and with a checksum that is verified or not, is shorter.
+/// The emitted header of a normal value parses as that value. No other header that parses as it is
+/// shorter, whatever its addresses, and with or without verification.
 pub fn shortest_header(
     value: TcpRepr<'_>,
     src_addr: IpAddress,
@@ -108,8 +108,8 @@ pub fn shortest_header(
         (bytes payload : List ℕ) (src dst : IpAddress) (checked : Bool) → Reads bytes src dst checked v payload → header_len_of v ≤ header_len bytes }
 {}
 
-/// Where a segment verifies it does not with one aligned word of 16 bits changed to a number that
-/// is not congruent to it modulo 65535.
+/// Changing one aligned 16-bit word of a segment with a correct checksum makes the checksum wrong.
+/// The new word must not be congruent to the old one modulo 65535.
 pub fn word_changed(bytes: &[u8], src_addr: IpAddress, dst_addr: IpAddress, index: usize, word: u16)
     requires family { version_of src_addr ≡ version_of dst_addr }
     requires holds { Verifies src_addr dst_addr bytes.now }

@@ -1,4 +1,4 @@
--- The computed value of a UDP packet is the one that it is read as.
+-- `udp_of` computes the value that a UDP packet parses as.
 use Rattle.std.proofs.Common.{ℕ, zero, suc, ◌≡◌, ◌≢◌, ◌↔◌, ◌⊎◌, inl, inr, ◌==◌, ◌&&◌, ◌||◌, not, Bool, true, false, IsTrue, if◌then◌else◌, List, Some, Result, Ok, refl, subst, arith}
 use Rattle.std.proofs.lemmas.Bool.Decides.{nat_tests}
 use Rattle.std.specs.Result.{result_ok}
@@ -21,6 +21,7 @@ has_lengths-HasLengths bytes h = record {
   whole = grind (arith, nat_tests);
 }
 
+-- if the lengths are valid, the test is true
 pub HasLengths-has_lengths : (bytes : List ℕ) → HasLengths bytes → has_lengths bytes ≡ true
 HasLengths-has_lengths bytes h = grind (arith, nat_tests)
 
@@ -50,12 +51,12 @@ has_checksum-HasChecksum src dst bytes = (
 )
 
 -- the parts of the whole test
-parts : (lengths none verified holds : Bool) → (lengths && not none && (not verified || holds)) ≡ true → (lengths ≡ true) × (none ≡ false) × (IsTrue verified → holds ≡ true)
-parts true false true true e = (refl, refl, λ on. refl)
-parts true false true false e = absurd (cc)
-parts true false false holds e = (refl, refl, λ on. absurd (cc))
-parts true true verified holds e = absurd (cc)
-parts false none verified holds e = absurd (cc)
+conjuncts : (lengths none verified holds : Bool) → (lengths && not none && (not verified || holds)) ≡ true → (lengths ≡ true) × (none ≡ false) × (IsTrue verified → holds ≡ true)
+conjuncts true false true true e = (refl, refl, λ on. refl)
+conjuncts true false true false e = absurd (cc)
+conjuncts true false false holds e = (refl, refl, λ on. absurd (cc))
+conjuncts true true verified holds e = absurd (cc)
+conjuncts false none verified holds e = absurd (cc)
 
 together : (lengths none verified holds : Bool) → lengths ≡ true → none ≡ false → (IsTrue verified → holds ≡ true) → (lengths && not none && (not verified || holds)) ≡ true
 together lengths none true holds l n h = rw (l, n, h refl) refl
@@ -64,7 +65,7 @@ together lengths none false holds l n h = rw (l, n) refl
 is_read-Reads : (src dst : IpAddress) (verified : Bool) (bytes : List ℕ) → is_read src dst verified bytes ≡ true
     → Reads bytes src dst verified (header_of bytes) (payload_of bytes)
 is_read-Reads src dst verified bytes h =
-    let (lengths, port, checksum) = parts (has_lengths bytes) (field bytes 16 16 == 0) verified (has_checksum src dst bytes) h in
+    let (lengths, port, checksum) = conjuncts (has_lengths bytes) (field bytes 16 16 == 0) verified (has_checksum src dst bytes) h in
     record {
       lengths = has_lengths-HasLengths bytes lengths;
       receiver = grind (arith, nat_tests);
@@ -85,6 +86,7 @@ Reads-is_read src dst verified bytes v payload r =
 pub Reads-is : (src dst : IpAddress) (verified : Bool) (bytes : List ℕ) (v : UdpRepr) (payload : List ℕ) → Reads bytes src dst verified v payload → v ≡ header_of bytes
 Reads-is src dst verified bytes v payload r = rw (← r.src_port, ← r.dst_port) refl
 
+-- the computed value is the one that the relation `Reads` gives
 pub udp_of-Reads : (src dst : IpAddress) (verified : Bool) (bytes : List ℕ) (v : UdpRepr)
     → (udp_of src dst verified bytes ≡ Some v) ↔ Reads bytes src dst verified v (payload_of bytes)
 unfolding udp_of
@@ -97,7 +99,7 @@ udp_of-Reads src dst verified bytes v = (
       (if-Some (is_read src dst verified bytes) (header_of bytes) v).1 (Reads-is_read src dst verified bytes v (payload_of bytes) r, cc),
 )
 
--- a reader's answer is the computed value, if there is one
+-- the result of `parse` is the computed value, if there is one
 pub answer-udp_of : (src dst : IpAddress) (verified : Bool) (bytes : List ℕ) (answer : Result UdpRepr Error)
     → ((v : UdpRepr) → (answer ≡ Ok v) ↔ Reads bytes src dst verified v (payload_of bytes))
     → udp_of src dst verified bytes ≡ result_ok answer

@@ -1,4 +1,4 @@
--- A UDP packet that was written is read as what it was written from.
+-- An emitted UDP packet parses as the value and the payload from which it was emitted.
 use Rattle.std.proofs.Common.{ℕ, ◌≡◌, ◌≢◌, ◌≤◌, ◌<◌, ◌+◌, ◌-◌, ◌%◌, ◌==◌, ◌⊎◌, inl, inr, Bool, true, false, IsTrue, List, ◌++◌, length, sum, take, refl, sym, ap, ◌∙◌, length-append, arith}
 use Rattle.std.proofs.Math.Seq.{take-append_seam}
 use Rattle.std.proofs.lemmas.Bool.{cases_lt}
@@ -94,6 +94,7 @@ reads-packet_with v src dst payload rest checksum verified h sound =
       body = sym (ap (λ (n : ℕ). take n (payload ++ rest)) body_len ∙ take-append_seam payload rest);
     }
 
+-- an emitted packet parses as the same value and payload
 pub reads-bytes_of : (v : UdpRepr) (src dst : IpAddress) (payload rest : List ℕ) (computed verified : Bool) → IsInRange v payload src dst
     → (IsTrue verified → IsTrue computed) → Reads (bytes_of v payload src dst computed ++ rest) src dst verified v payload
 reads-bytes_of v src dst payload rest true verified h sound =

@@ -8,6 +8,7 @@ use Rattle.wire_field.proofs.Views.{View}
 use Rattle.wire_udp.specs.Udp.{Writing}
 use Rattle.wire_udp.specs.contracts.udp.packet.UdpView as T
 
+-- how the view is made from its slice, and the slice from the view
 abbrev pub view : View
 view = record {
   name = (T.struct u8).name;

@@ -14,7 +14,7 @@ use Rattle.wire_ends.specs.declared.ip_protocol.IpProtocol.TheVariants as protoc
 use Rattle.wire_udp.specs.declared.udp.packet.UdpView.{UdpView}
 use Rattle.wire_udp.specs.declared.udp.repr.UdpRepr.{UdpRepr}
 
--- a view that reads, and one that writes too
+-- a reading view, and a mutable view
 abbrev pub Reading : Type 0
 Reading = UdpView (Bor (List ℕ))
 
@@ -29,27 +29,27 @@ packet_slice p = p.buffer
 abbrev pub packet_bytes : Reading → List ℕ
 packet_bytes p = (packet_slice p).now
 
--- the bytes under a writing view
+-- the bytes under a mutable view
 abbrev pub packet_bytes_mut : Writing → List ℕ
 packet_bytes_mut p = (packet_slice p).now
 
--- the view is still of the same slice, which holds these bytes now
+-- the view still borrows the same slice, and the slice now holds these bytes
 abbrev pub Becomes : Writing → Writing → List ℕ → Type 0
 Becomes old new bytes = Holds (packet_slice old) (packet_slice new) bytes
 
--- the length of a packet in octets, its header included
+-- the length field: the length of header and payload in octets
 abbrev pub packet_len : List ℕ → ℕ
 packet_len bytes = field bytes 32 16
 
--- the length of the longest payload, in octets: the packet's length counts a header of 8 too
+-- the length of the longest payload in octets: the length field counts the 8 octets of the header too
 abbrev pub max_payload_len : ℕ
 max_payload_len = 65527
 
--- what follows the header, up to the packet's length
+-- the payload: the bytes behind the header, up to the length field
 abbrev pub payload_of : List ℕ → List ℕ
 payload_of bytes = slice_range bytes 8 (packet_len bytes)
 
--- the bytes hold a whole header and all that it speaks of
+-- the lengths are valid: the bytes hold a whole header, and as many bytes as the length field says
 pub record HasLengths (bytes : List ℕ) : Type 0 where
   pub least : 8 ≤ length bytes
   pub header : 8 ≤ packet_len bytes
@@ -57,27 +57,27 @@ pub record HasLengths (bytes : List ℕ) : Type 0 where
 
 -- ---- the checksum
 
--- the sum of the pseudo header of a packet between two addresses
+-- the sum of the pseudo-header of a packet between two addresses
 abbrev pub pseudo_header_sum : IpAddress → IpAddress → List ℕ → ℕ
 pseudo_header_sum src dst bytes = sum_of_bytes (pseudo_header_bytes (octets_of src) (octets_of dst) protocol.Udp (packet_len bytes))
 
--- the sum of a packet between two addresses, its pseudo header included
+-- the sum of a packet between two addresses and its pseudo-header
 abbrev pub packet_sum : IpAddress → IpAddress → List ℕ → ℕ
 packet_sum src dst packet = sum_of_bytes (with_pseudo_header src dst protocol.Udp packet)
 
--- the sum of the packet that the bytes begin with has all 16 bits set
+-- the checksum is correct: the sum of pseudo-header and packet is 0xffff
 abbrev pub Verifies : IpAddress → IpAddress → List ℕ → Type 0
 Verifies src dst bytes = packet_sum src dst (take (packet_len bytes) bytes) ≡ 65535
 
--- the checksum is written and holds, or it is left out, as over IPv4 it may be
+-- the checksum is valid: not 0 and correct, or 0 over IPv4
 abbrev pub HasChecksum : IpAddress → IpAddress → List ℕ → Type 0
 HasChecksum src dst bytes = ((field bytes 48 16 ≡ 0) × (version_of src ≡ version.Ipv4)) ⊎ ((field bytes 48 16 ≢ 0) × Verifies src dst bytes)
 
--- the checksum that is written for a sum: its complement, and all 16 bits set in the place of 0, which says that there is none
+-- the checksum of a sum: its complement, or 0xffff in place of 0, because 0 means that there is no checksum
 abbrev pub checksum_for : ℕ → ℕ
 checksum_for sum = if 65535 - sum == 0 then 65535 else 65535 - sum
 
--- the bytes with the checksum of the packet that they begin with, which is summed with zeros in the checksum's place
+-- the bytes with a correct checksum of the packet at their front, computed with 0 in the checksum field
 abbrev pub with_checksum : IpAddress → IpAddress → List ℕ → List ℕ
 with_checksum src dst bytes =
     let zeroed = with_field bytes 48 16 0 in
@@ -85,7 +85,7 @@ with_checksum src dst bytes =
 
 -- ---- reading and writing
 
--- the bytes begin with a packet between two addresses, whose header has these values, and with this payload
+-- the bytes begin with a packet between two addresses that parses as this value and payload
 pub record Reads (bytes : List ℕ) (src dst : IpAddress) (verified : Bool) (v : UdpRepr) (payload : List ℕ) : Type 0 where
   pub lengths : HasLengths bytes
   pub receiver : field bytes 16 16 ≢ 0
@@ -98,28 +98,28 @@ pub record Reads (bytes : List ℕ) (src dst : IpAddress) (verified : Bool) (v :
 abbrev pub header_of : List ℕ → UdpRepr
 header_of bytes = record { src_port = field bytes 0 16; dst_port = field bytes 16 16 }
 
--- whether the bytes hold a whole header and all that it speaks of
+-- whether the lengths are valid
 abbrev pub has_lengths : List ℕ → Bool
 has_lengths bytes = nat_le 8 (length bytes) && nat_le 8 (packet_len bytes) && nat_le (packet_len bytes) (length bytes)
 
--- whether an address is of version 4
+-- whether an address is an IPv4 address
 abbrev pub is_ipv4 : IpAddress → Bool
 is_ipv4 (address.Ipv4 octets) = true
 is_ipv4 (address.Ipv6 octets) = false
 
--- whether the checksum is as it has to be
+-- whether the checksum is valid
 abbrev pub has_checksum : IpAddress → IpAddress → List ℕ → Bool
 has_checksum src dst bytes = if field bytes 48 16 == 0 then is_ipv4 src else packet_sum src dst (take (packet_len bytes) bytes) == 65535
 
--- whether the bytes are read as a value
+-- whether the bytes parse
 abbrev pub is_read : IpAddress → IpAddress → Bool → List ℕ → Bool
 is_read src dst verified bytes = has_lengths bytes && not (field bytes 16 16 == 0) && (not verified || has_checksum src dst bytes)
 
--- the one value that the bytes are read as, if there is one
+-- the value that the bytes parse as, if there is one
 unfoldable pub udp_of : IpAddress → IpAddress → Bool → List ℕ → Option UdpRepr
 udp_of src dst verified bytes = if is_read src dst verified bytes then Some (header_of bytes) else None
 
--- the header that has these values, for a payload of this length, and this checksum
+-- the header with these values, for a payload of this length, with this checksum
 abbrev pub header_bytes : UdpRepr → ℕ → ℕ → List ℕ
 header_bytes v payload_len checksum = big_bytes 2 v.src_port ++ big_bytes 2 v.dst_port ++ big_bytes 2 (8 + payload_len) ++ big_bytes 2 checksum
 
@@ -127,6 +127,6 @@ header_bytes v payload_len checksum = big_bytes 2 v.src_port ++ big_bytes 2 v.ds
 abbrev pub packet_with : UdpRepr → List ℕ → ℕ → List ℕ
 packet_with v payload checksum = header_bytes v (length payload) checksum ++ payload
 
--- the header and the payload, with the checksum of both where that is computed, else 0
+-- the header and the payload, with their checksum if it is computed, else with 0
 abbrev pub bytes_of : UdpRepr → List ℕ → IpAddress → IpAddress → Bool → List ℕ
 bytes_of v payload src dst computed = packet_with v payload (if computed then checksum_for (packet_sum src dst (packet_with v payload 0)) else 0)

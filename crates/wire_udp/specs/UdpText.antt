@@ -1,4 +1,4 @@
--- The texts that UDP packets print as.
+-- The printed texts of UDP packets.
 use Rattle.std.specs.Prelude.{ℕ, ◌-◌, ◌++◌, if◌then◌else◌, List, codes, decimal}
 use Rattle.wire_udp.specs.Udp.{has_lengths, header_of, packet_len}
 use Rattle.wire_udp.specs.declared.udp.repr.UdpRepr.{UdpRepr}
@@ -7,7 +7,7 @@ use Rattle.wire_udp.specs.declared.udp.repr.UdpRepr.{UdpRepr}
 abbrev pub value_text : UdpRepr → List ℕ
 value_text v = codes "UDP src=" ++ decimal v.src_port ++ codes " dst=" ++ decimal v.dst_port
 
--- the printed text of a packet: that of its header's values and the length of its payload, or that the bytes hold none
+-- the printed text of a packet: its ports and its payload length, or that the lengths are invalid
 abbrev pub packet_text : List ℕ → List ℕ
 packet_text bytes =
     if has_lengths bytes then value_text (header_of bytes) ++ codes " len=" ++ decimal (packet_len bytes - 8) else codes "UDP (wire::Error)"

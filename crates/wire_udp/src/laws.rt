@@ -1,4 +1,4 @@
-//! What holds by the definitions alone. The functions do nothing when they run.
+//! Laws of UDP. A law states a fact about definitions; its body does nothing.
 
 ghost use Rattle.std.specs.Prelude.{◌≡◌, ◌≢◌, ◌↔◌, ◌++◌, ◌≤◌, IsTrue, Some, length};
 ghost use Rattle.wire_ends.specs.IpAddress.{version_of};
@@ -7,8 +7,8 @@ ghost use Rattle.wire_udp.specs.Udp.{Reads, bytes_of, max_payload_len, payload_o
 use crate::udp::UdpRepr;
 use wire_ends::IpAddress;
 
-/// The packet of a value and a payload, with any bytes after it, is read as that value and payload,
-/// where a checksum that is verified was computed.
+/// The emitted packet, with any bytes behind it, parses as the same value and payload. A checksum
+/// that is verified must have been computed.
 pub fn emit_reads_back_udp(
     value: UdpRepr,
     src_addr: IpAddress,
@@ -25,7 +25,7 @@ pub fn emit_reads_back_udp(
     ensures { Reads (bytes_of value payload.now src_addr dst_addr computed ++ rest.now) src_addr dst_addr verified value payload.now }
 {}
 
-/// No bytes are read as two values, or with two payloads.
+/// Bytes parse as at most one value and payload.
 pub fn reads_once_udp(
     bytes: &[u8],
     src_addr: IpAddress,
@@ -42,7 +42,7 @@ pub fn reads_once_udp(
     ensures payload { payload.now ≡ other_payload.now }
 {}
 
-/// The value that is computed of bytes is the one that they are read as.
+/// `udp_of` computes the value that the bytes parse as, if there is one.
 pub fn reading_is_computed_udp(
     bytes: &[u8],
     src_addr: IpAddress,
@@ -53,7 +53,7 @@ pub fn reading_is_computed_udp(
     ensures { (udp_of src_addr dst_addr verified bytes.now ≡ Some value) ↔ Reads bytes.now src_addr dst_addr verified value (payload_of bytes.now) }
 {}
 
-/// What was read is emitted in no more bytes than it was read from.
+/// The emitted packet is never longer than the bytes that were parsed.
 pub fn no_more_bytes_udp(
     bytes: &[u8],
     src_addr: IpAddress,

@@ -1,4 +1,4 @@
-//! The user datagram protocol (RFC 768; over IPv6 RFC 8200, section 8.1).
+//! The User Datagram Protocol (RFC 768; over IPv6 RFC 8200, section 8.1).
 #![tactic(auto)]
 
 pub mod laws;

@@ -262,6 +262,30 @@ fn verifies_whole_and_partial_checksums(rt: HostRuntime) -> std::result::Result<
     Ok(())
 }
 
+/// Whether a packet over IPv4 has a valid checksum.
+fn is_valid_over_ipv4(bytes: &[u8]) -> Result<bool> {
+    let (src, dst) = ipv4_ends();
+    Ok(UdpPacket::new_checked(bytes)?.has_valid_checksum(&src, &dst))
+}
+
+/// Whether a packet over IPv6 has a valid checksum.
+fn is_valid_over_ipv6(bytes: &[u8]) -> Result<bool> {
+    let (src, dst) = ipv6_ends();
+    Ok(UdpPacket::new_checked(bytes)?.has_valid_checksum(&src, &dst))
+}
+
+#[test]
+fn a_checksum_is_left_out_over_ipv4_only(rt: HostRuntime) {
+    for (bytes, over_ipv4, over_ipv6) in [
+        (&PACKET, true, false),
+        (&PACKET_OVER_IPV6, false, true),
+        (&UNSUMMED, true, false),
+    ] {
+        let found = [is_valid_over_ipv4(bytes), is_valid_over_ipv6(bytes)];
+        assert_eq!(rt; found, [Ok(over_ipv4), Ok(over_ipv6)]);
+    }
+}
+
 #[test]
 fn sums_the_packet_and_the_pseudo_header_over_ipv4(rt: HostRuntime) {
     let (src, dst) = ipv4_ends();

@@ -12,7 +12,7 @@ use super::{IPV4_HEADER_LEN, Ipv4Packet, Ipv4PacketMut};
 use net_base::{ChecksumCapabilities, Error, Result};
 use std::fmt;
 use wire_addr::Ipv4Address;
-use wire_checksum::parts;
+use wire_checksum::for_emit;
 use wire_ends::IpProtocol;
 use wire_field::write_front;
 
@@ -82,7 +82,7 @@ impl Ipv4Repr {
         requires { self.payload_len ≤ max_payload_len }
         ensures { result ≡ 65535 - sum_of_bytes (header_with self 0) }
     {
-        !parts::header(&self.header(0))
+        !for_emit::header(&self.header(0))
     }
 
     // The header with this checksum.

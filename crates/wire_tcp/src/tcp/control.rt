@@ -1,25 +1,25 @@
-//! What a segment asks for beside its data.
+//! Control flags.
 
 ghost use Rattle.std.specs.Prelude.{◌≡◌, ◌≢◌};
 ghost use Rattle.wire_tcp.specs.TcpSeq.{control_len};
 
-/// The one flag of a segment that decides what it does (RFC 9293, section 3.1).
+/// The control flag of a segment, at most one of four (RFC 9293, section 3.1).
 #[derive(Debug, Clone, Copy, PartialEq, Eq)]
 pub enum TcpControl {
     None,
-    /// The data are to be handed on at once.
+    /// Push: the receiver passes the data on at once.
     Psh,
-    /// The sequence numbers are to be synchronized.
+    /// Synchronize sequence numbers.
     Syn,
-    /// No data will follow.
+    /// No more data from the sender.
     Fin,
-    /// The connection is reset.
+    /// Reset the connection.
     Rst,
 }
 
 #[allow(clippy::len_without_is_empty)]
 impl TcpControl {
-    /// How many sequence numbers it takes.
+    /// The number of sequence numbers that the flag uses: 1 for SYN and FIN, else 0.
     pub fn len(self) -> usize
         ensures { result ≡ control_len self }
     {
@@ -29,7 +29,7 @@ impl TcpControl {
         }
     }
 
-    /// The same, but for `Psh`, which becomes `None`.
+    /// `None` for `Psh`; any other control is unchanged.
     pub fn quash_psh(self) -> TcpControl
         ensures psh { self ≡ TcpControl.Psh → result ≡ TcpControl.None }
         ensures other { self ≢ TcpControl.Psh → result ≡ self }

@@ -29,27 +29,28 @@ pub(super) const OPT_TSTAMP: u8 = 8;
 /// An option of a header.
 #[derive(Debug, Clone, Copy, PartialEq, Eq)]
 pub enum TcpOption<'a> {
-    /// The end mark. What stands behind it is padding.
+    /// The end of the option list. The bytes behind it are padding.
     EndOfList,
     NoOperation,
-    /// The largest segment that the sender receives, in octets (RFC 9293, section 3.7.1).
+    /// The largest segment that the sender accepts, in octets (RFC 9293, section 3.7.1).
     MaxSegmentSize(u16),
-    /// By how many bits windows are shifted (RFC 7323, section 2).
+    /// The number of bits by which windows are shifted (RFC 7323, section 2).
     WindowScale(u8),
-    /// Selective acknowledgements may be sent (RFC 2018, section 2).
+    /// The sender accepts selective acknowledgements (RFC 2018, section 2).
     SackPermitted,
-    /// The first blocks of data that were received, from the left edge up to, but without, the right
-    /// one (RFC 2018, section 3).
+    /// The first SACK blocks, each from its left edge up to, but without, its right edge (RFC 2018,
+    /// section 3).
     SackRange([Option<(u32, u32)>; SACK_BLOCKS]),
-    /// A timestamp, and the one that it replies to (RFC 7323, section 3).
+    /// A timestamp, and the echoed timestamp (RFC 7323, section 3).
     TimeStamp { tsval: u32, tsecr: u32 },
     /// An option of another kind, or a timestamp of another length.
     Unknown { kind: u8, bytes: &'a [u8] },
 }
 
 impl<'a> TcpOption<'a> {
-    /// The first option of the bytes, or the end mark that they begin with, and the bytes behind it.
-    /// An option whose length is wrong for its kind, or passes the end, is an error.
+    /// Parses the first option. Returns the bytes behind it, and the option. Fails if there are no
+    /// bytes, if the length is wrong for the option's kind, or if the option passes the end of the
+    /// bytes.
     #[inline(always)]
     pub fn parse(buffer: &'a [u8]) -> Result<(&'a [u8], TcpOption<'a>)>
         ensures ok { IfOk result (λ read. Begins read.1 buffer.now read.0.now) }
@@ -76,7 +77,7 @@ impl<'a> TcpOption<'a> {
         Ok((&buffer[len..], option))
     }
 
-    // What an item with a length is read as.
+    // The option of this kind with these data bytes.
     #[inline(always)]
     fn from_item(kind: u8, bytes: &'a [u8]) -> Result<TcpOption<'a>>
         requires kind { 1 < kind }
@@ -101,7 +102,8 @@ impl<'a> TcpOption<'a> {
         }
     }
 
-    /// How many octets the option is written as. Of the end mark it is 1, without padding.
+    /// The length of the emitted option in octets. It is 1 for the end of the list: padding is not
+    /// counted.
     #[inline(always)]
     pub fn buffer_len(&self) -> usize
         ensures { result ≡ option_len self.now }
@@ -118,7 +120,7 @@ impl<'a> TcpOption<'a> {
         }
     }
 
-    // The ranges of a selective acknowledgement. Another option has none.
+    // The SACK ranges. They are all `None` for any other option.
     pub(super) fn ranges(&self) -> [Option<(u32, u32)>; SACK_BLOCKS]
         ensures { result ≡ ranges_in self.now }
     {
@@ -128,18 +130,19 @@ impl<'a> TcpOption<'a> {
         }
     }
 
-    /// Writes the option to the front of the bytes, and hands back those behind it. The end mark zeroes
-    /// them all, as padding; else they are as they were. What is left in them stands behind the option.
+    /// Writes the option to the front of the buffer, and returns the bytes behind it, to be written
+    /// in place. Behind the end of the list all bytes are set to 0, as padding. Behind other
+    /// options they are unchanged.
     pub fn emit<'b>(&self, buffer: &'b mut [u8]) -> &'b mut [u8]
         requires room { option_len self.now ≤ length buffer.old }
         requires fits { IsEmittable self.now }
         ensures* writes_back { sem 𝓛 (LendsRest buffer.entry (option_text self.now) result) }
         ensures value { result.now ≡ rest_after self.now buffer.old }
     {
-        locate_rest(buffer, self).lend()
+        write_and_locate_rest(buffer, self).lend()
     }
 
-    // Writes the option over all of the bytes.
+    // Writes the option to a buffer of exactly its length.
     #[inline(always)]
     pub(super) fn write(&self, buffer: &mut [u8])
         requires len { length buffer.old ≡ option_len self.now }
@@ -172,8 +175,9 @@ impl<'a> TcpOption<'a> {
     }
 }
 
-// Writes the option to the front of the bytes, and locates those behind it.
-fn locate_rest<'b>(buffer: &'b mut [u8], option: &TcpOption<'_>) -> Located<'b>
+// Writes the option to the front of the buffer. Returns the buffer, and the range of the bytes
+// behind the option.
+fn write_and_locate_rest<'b>(buffer: &'b mut [u8], option: &TcpOption<'_>) -> Located<'b>
     requires room { option_len option.now ≤ length buffer.old }
     requires fits { IsEmittable option.now }
     ensures { let rest = rest_after option.now buffer.old in
@@ -192,7 +196,7 @@ fn locate_rest<'b>(buffer: &'b mut [u8], option: &TcpOption<'_>) -> Located<'b>
     }
 }
 
-// The first blocks of the data of a selective acknowledgement.
+// The first blocks in the data of a SACK option.
 #[inline(always)]
 fn first_blocks(content: &[u8]) -> [Option<(u32, u32)>; SACK_BLOCKS]
     requires { length content.now % 8 ≡ 0 }
@@ -205,7 +209,7 @@ fn first_blocks(content: &[u8]) -> [Option<(u32, u32)>; SACK_BLOCKS]
     blocks
 }
 
-// Block `i`, if there is one.
+// Block `i` in the data of a SACK option, if there is one.
 fn block_at(content: &[u8], i: usize) -> Option<(u32, u32)>
     requires whole { length content.now % 8 ≡ 0 }
     requires kept { i < SACK_BLOCKS }
@@ -221,7 +225,7 @@ fn block_at(content: &[u8], i: usize) -> Option<(u32, u32)>
     }
 }
 
-/// How many ranges there are.
+/// The number of ranges that are `Some`.
 pub fn count_ranges(ranges: &[Option<(u32, u32)>; SACK_BLOCKS]) -> usize
     ensures count { result ≡ count_by is_some ranges.now }
     ensures bound { result ≤ SACK_BLOCKS }
@@ -233,14 +237,14 @@ pub fn count_ranges(ranges: &[Option<(u32, u32)>; SACK_BLOCKS]) -> usize
     count
 }
 
-// The length of an option with these data.
+// The length of an option with these data bytes.
 fn add_head(bytes: &[u8]) -> usize
     ensures { result ≡ 2 + length bytes.now }
 {
     2 + bytes.len()
 }
 
-// Writes the kind of an option, and the length of the bytes that it has for itself.
+// Writes the kind, and the length of the buffer as the option's length.
 fn write_head(buffer: &mut [u8], kind: u8)
     requires room { 2 ≤ length buffer.old }
     requires fits { length buffer.old < 256 }
@@ -250,7 +254,7 @@ fn write_head(buffer: &mut [u8], kind: u8)
     buffer[1] = buffer.len() as u8;
 }
 
-// Writes a selective acknowledgement over all of the bytes.
+// Writes a SACK option to a buffer of exactly its length.
 fn write_sack(buffer: &mut [u8], ranges: &[Option<(u32, u32)>; SACK_BLOCKS])
     requires { length buffer.old ≡ 2 + 8 * count_by is_some ranges.now }
     ensures { buffer.new ≡ 5 ∷ length buffer.old ∷ range_bytes ranges.now }
@@ -259,7 +263,7 @@ fn write_sack(buffer: &mut [u8], ranges: &[Option<(u32, u32)>; SACK_BLOCKS])
     write_ranges(&mut buffer[2..], ranges);
 }
 
-// Writes the ranges that are there, one behind the other.
+// Writes the ranges that are `Some`, without gaps.
 fn write_ranges(buffer: &mut [u8], ranges: &[Option<(u32, u32)>])
     requires { length buffer.old ≡ 8 * count_by is_some ranges.now }
     ensures { buffer.new ≡ range_bytes ranges.now }

@@ -1,4 +1,4 @@
-//! A view of the bytes of a TCP segment, and what every view reads.
+//! Views of TCP segments, and their getters.
 
 ghost use Rattle.std.specs.Prelude.{◌≡◌, ◌↔◌, ◌≤◌, [], IfOk, IsOk, IsTrue, OnErr, false, length, true};
 ghost use Rattle.wire_ends.specs.IpAddress.{version_of};
@@ -17,29 +17,28 @@ use wire_checksum::checksum;
 use wire_ends::{IpAddress, IpProtocol};
 use wire_field::{Octets, debug_view, is_bit_set};
 
-/// A view of the bytes of a segment, which are lent to be read or to be written. Its calls ask for the
-/// bytes that they use, and for no more.
+/// A view of a borrowed TCP segment. A call requires only the bytes that it uses.
 #[derive(Clone, Copy, PartialEq, Eq, Drop)]
 pub struct TcpView<B> {
     pub(super) buffer: B,
 }
 
-/// A view that reads.
+/// A reading view.
 pub type TcpPacket<'a> = TcpView<&'a [u8]>;
 
-/// A view that reads and writes.
+/// A mutable view.
 pub type TcpPacketMut<'a> = TcpView<&'a mut [u8]>;
 
 impl<B: Octets> TcpView<B> {
-    /// The view of any bytes.
+    /// A view of any bytes. Nothing is checked.
     pub fn new_unchecked(buffer: B) -> TcpView<B>
         ensures { packet_slice result ≡ buffer }
     {
         TcpView { buffer }
     }
 
-    /// Whether the bytes hold a whole header. Then each call of this view may be made, until the
-    /// header's length is written.
+    /// Checks the data offset: the header has at least 20 octets, and the bytes hold all of it.
+    /// After `Ok` every call of this view may be made, until the header length is written.
     pub fn check_len(&self) -> Result<()>
         ensures { IsOk result ↔ HasLengths (B.octets (packet_slice self.now)) }
     {
@@ -54,28 +53,28 @@ impl<B: Octets> TcpView<B> {
         Ok(())
     }
 
-    /// The bytes, for as long as they are lent to the view.
+    /// The borrowed slice, with its own lifetime.
     pub fn into_inner(self) -> B
         ensures { result ≡ packet_slice self }
     {
         self.buffer
     }
 
-    /// The bytes.
+    /// The bytes under the view.
     pub fn as_bytes(&self) -> &[u8]
         ensures { result.now ≡ B.octets (packet_slice self.now) }
     {
         self.buffer.octets()
     }
 
-    /// A view that reads the same bytes.
+    /// A reading view of the same bytes.
     pub fn as_view(&self) -> TcpPacket<'_>
         ensures { packet_bytes result ≡ B.octets (packet_slice self.now) }
     {
         TcpView::new_unchecked(self.as_bytes())
     }
 
-    /// The port of the sender.
+    /// The source port.
     pub fn src_port(&self) -> u16
         requires { 2 ≤ length (B.octets (packet_slice self.now)) }
         ensures { result ≡ field (B.octets (packet_slice self.now)) 0 16 }
@@ -83,7 +82,7 @@ impl<B: Octets> TcpView<B> {
         NetworkEndian::read_u16(&self.as_bytes()[0..2])
     }
 
-    /// The port of the receiver.
+    /// The destination port.
     pub fn dst_port(&self) -> u16
         requires { 4 ≤ length (B.octets (packet_slice self.now)) }
         ensures { result ≡ field (B.octets (packet_slice self.now)) 16 16 }
@@ -91,7 +90,7 @@ impl<B: Octets> TcpView<B> {
         NetworkEndian::read_u16(&self.as_bytes()[2..4])
     }
 
-    /// The number of the first octet of the payload, or of SYN.
+    /// The sequence number of the first octet of the payload, or of SYN.
     pub fn seq_number(&self) -> TcpSeqNumber
         requires { 8 ≤ length (B.octets (packet_slice self.now)) }
         ensures { number result ≡ field (B.octets (packet_slice self.now)) 32 32 }
@@ -99,7 +98,7 @@ impl<B: Octets> TcpView<B> {
         TcpSeqNumber::from_bits(NetworkEndian::read_u32(&self.as_bytes()[4..8]))
     }
 
-    /// The number that the sender expects next, where ACK is set.
+    /// The sequence number that the sender expects next. It is valid if ACK is set.
     pub fn ack_number(&self) -> TcpSeqNumber
         requires { 12 ≤ length (B.octets (packet_slice self.now)) }
         ensures { number result ≡ field (B.octets (packet_slice self.now)) 64 32 }
@@ -107,7 +106,7 @@ impl<B: Octets> TcpView<B> {
         TcpSeqNumber::from_bits(NetworkEndian::read_u32(&self.as_bytes()[8..12]))
     }
 
-    /// The length of the header in octets, a multiple of 4 up to 60: the field "data offset".
+    /// The length of the header in octets: 4 times the data offset, so at most 60.
     pub fn header_len(&self) -> u8
         requires { 13 ≤ length (B.octets (packet_slice self.now)) }
         ensures { result ≡ header_len (B.octets (packet_slice self.now)) }
@@ -115,7 +114,7 @@ impl<B: Octets> TcpView<B> {
         (self.as_bytes()[12] >> 4) * 4
     }
 
-    /// NS, a sum that protects the notification of congestion (RFC 3540).
+    /// NS, the nonce sum that protects congestion notifications (RFC 3540).
     pub fn ns(&self) -> bool
         requires { 13 ≤ length (B.octets (packet_slice self.now)) }
         ensures { IsTrue result ↔ (field (B.octets (packet_slice self.now)) 103 1 ≡ 1) }
@@ -123,7 +122,7 @@ impl<B: Octets> TcpView<B> {
         is_bit_set(self.as_bytes(), 103)
     }
 
-    /// CWR, congestion window reduced (RFC 3168).
+    /// CWR: congestion window reduced (RFC 3168).
     pub fn cwr(&self) -> bool
         requires { 14 ≤ length (B.octets (packet_slice self.now)) }
         ensures { IsTrue result ↔ (field (B.octets (packet_slice self.now)) 104 1 ≡ 1) }
@@ -131,7 +130,7 @@ impl<B: Octets> TcpView<B> {
         is_bit_set(self.as_bytes(), 104)
     }
 
-    /// ECE, the echo of a notification of congestion (RFC 3168).
+    /// ECE: the echo of a congestion notification (RFC 3168).
     pub fn ece(&self) -> bool
         requires { 14 ≤ length (B.octets (packet_slice self.now)) }
         ensures { IsTrue result ↔ (field (B.octets (packet_slice self.now)) 105 1 ≡ 1) }
@@ -139,7 +138,7 @@ impl<B: Octets> TcpView<B> {
         is_bit_set(self.as_bytes(), 105)
     }
 
-    /// URG, whether the urgent pointer counts.
+    /// URG: the urgent pointer is valid.
     pub fn urg(&self) -> bool
         requires { 14 ≤ length (B.octets (packet_slice self.now)) }
         ensures { IsTrue result ↔ (field (B.octets (packet_slice self.now)) 106 1 ≡ 1) }
@@ -147,7 +146,7 @@ impl<B: Octets> TcpView<B> {
         is_bit_set(self.as_bytes(), 106)
     }
 
-    /// ACK, whether the acknowledgement number counts.
+    /// ACK: the acknowledgement number is valid.
     pub fn ack(&self) -> bool
         requires { 14 ≤ length (B.octets (packet_slice self.now)) }
         ensures { IsTrue result ↔ (field (B.octets (packet_slice self.now)) 107 1 ≡ 1) }
@@ -155,7 +154,7 @@ impl<B: Octets> TcpView<B> {
         is_bit_set(self.as_bytes(), 107)
     }
 
-    /// PSH, whether the data are to be handed on at once.
+    /// PSH: the receiver passes the data on at once.
     pub fn psh(&self) -> bool
         requires { 14 ≤ length (B.octets (packet_slice self.now)) }
         ensures { IsTrue result ↔ (field (B.octets (packet_slice self.now)) 108 1 ≡ 1) }
@@ -163,7 +162,7 @@ impl<B: Octets> TcpView<B> {
         is_bit_set(self.as_bytes(), 108)
     }
 
-    /// RST, whether the connection is reset.
+    /// RST: reset the connection.
     pub fn rst(&self) -> bool
         requires { 14 ≤ length (B.octets (packet_slice self.now)) }
         ensures { IsTrue result ↔ (field (B.octets (packet_slice self.now)) 109 1 ≡ 1) }
@@ -171,7 +170,7 @@ impl<B: Octets> TcpView<B> {
         is_bit_set(self.as_bytes(), 109)
     }
 
-    /// SYN, whether the sequence numbers are to be synchronized.
+    /// SYN: synchronize sequence numbers.
     pub fn syn(&self) -> bool
         requires { 14 ≤ length (B.octets (packet_slice self.now)) }
         ensures { IsTrue result ↔ (field (B.octets (packet_slice self.now)) 110 1 ≡ 1) }
@@ -179,7 +178,7 @@ impl<B: Octets> TcpView<B> {
         is_bit_set(self.as_bytes(), 110)
     }
 
-    /// FIN, whether no data will follow.
+    /// FIN: no more data from the sender.
     pub fn fin(&self) -> bool
         requires { 14 ≤ length (B.octets (packet_slice self.now)) }
         ensures { IsTrue result ↔ (field (B.octets (packet_slice self.now)) 111 1 ≡ 1) }
@@ -187,7 +186,7 @@ impl<B: Octets> TcpView<B> {
         is_bit_set(self.as_bytes(), 111)
     }
 
-    /// How many octets the sender takes, before any scaling.
+    /// The receive window of the sender in octets, before scaling.
     pub fn window_len(&self) -> u16
         requires { 16 ≤ length (B.octets (packet_slice self.now)) }
         ensures { result ≡ field (B.octets (packet_slice self.now)) 112 16 }
@@ -195,7 +194,7 @@ impl<B: Octets> TcpView<B> {
         NetworkEndian::read_u16(&self.as_bytes()[14..16])
     }
 
-    /// The checksum.
+    /// The checksum field.
     pub fn checksum(&self) -> u16
         requires { 18 ≤ length (B.octets (packet_slice self.now)) }
         ensures { result ≡ field (B.octets (packet_slice self.now)) 128 16 }
@@ -203,7 +202,7 @@ impl<B: Octets> TcpView<B> {
         NetworkEndian::read_u16(&self.as_bytes()[16..18])
     }
 
-    /// The urgent pointer: how far behind the sequence number the urgent data end.
+    /// The urgent pointer: the distance from the sequence number to the end of the urgent data.
     pub fn urgent_at(&self) -> u16
         requires { 20 ≤ length (B.octets (packet_slice self.now)) }
         ensures { result ≡ field (B.octets (packet_slice self.now)) 144 16 }
@@ -211,7 +210,8 @@ impl<B: Octets> TcpView<B> {
         NetworkEndian::read_u16(&self.as_bytes()[18..20])
     }
 
-    /// How many sequence numbers the segment takes: the octets of its payload, SYN and FIN.
+    /// The number of sequence numbers that the segment uses: one for each octet of its payload, for
+    /// SYN and for FIN.
     pub fn segment_len(&self) -> usize
         requires fields { 14 ≤ length (B.octets (packet_slice self.now)) }
         requires header { let bytes = B.octets (packet_slice self.now) in header_len bytes ≤ length bytes }
@@ -221,8 +221,8 @@ impl<B: Octets> TcpView<B> {
         payload_len + usize::from(self.syn()) + usize::from(self.fin())
     }
 
-    /// Whether selective acknowledgements are permitted, also by an option behind an end mark. It is
-    /// an error where such an option isn't found before a malformed one.
+    /// Returns `true` if an option permits SACK, also behind the end of the list. Fails if a
+    /// malformed option comes before such an option.
     pub fn selective_ack_permitted(&self) -> Result<bool>
         requires begins { 20 ≤ header_len (B.octets (packet_slice self.now)) }
         requires ends { let bytes = B.octets (packet_slice self.now) in header_len bytes ≤ length bytes }
@@ -231,8 +231,8 @@ impl<B: Octets> TcpView<B> {
         walk::sack_permitted(self.option_bytes())
     }
 
-    /// The ranges of the first selective acknowledgement, also behind an end mark, or none. It is an
-    /// error where it isn't found before a malformed option.
+    /// The ranges of the first SACK option, also behind the end of the list, or no ranges. Fails if
+    /// a malformed option comes before such an option.
     pub fn selective_ack_ranges(&self) -> Result<[Option<(u32, u32)>; SACK_BLOCKS]>
         requires begins { 20 ≤ header_len (B.octets (packet_slice self.now)) }
         requires ends { let bytes = B.octets (packet_slice self.now) in header_len bytes ≤ length bytes }
@@ -242,7 +242,7 @@ impl<B: Octets> TcpView<B> {
         walk::sack_ranges(self.option_bytes())
     }
 
-    /// What the options up to an end mark say. It is an error where one of them is malformed.
+    /// The values of all options up to the end of the list. Fails if one of them is malformed.
     #[inline(always)]
     pub fn options_summary(&self) -> Result<TcpOptionSummary>
         requires begins { 20 ≤ header_len (B.octets (packet_slice self.now)) }
@@ -262,8 +262,8 @@ impl<B: Octets> TcpView<B> {
         &self.as_bytes()[TCP_HEADER_LEN..usize::from(self.header_len())]
     }
 
-    /// Whether the field of the checksum holds the sum of the pseudo header alone, as it does where the
-    /// device is to add that of the segment.
+    /// Returns `true` if the checksum field holds only the sum of the pseudo-header. The device
+    /// then adds the rest (checksum offload).
     pub fn verify_partial_checksum(&self, src_addr: &IpAddress, dst_addr: &IpAddress) -> bool
         requires header { 18 ≤ length (B.octets (packet_slice self.now)) }
         requires family { version_of src_addr.now ≡ version_of dst_addr.now }
@@ -274,8 +274,7 @@ impl<B: Octets> TcpView<B> {
         self.checksum() == checksum::pseudo_header(src_addr, dst_addr, IpProtocol::Tcp, len)
     }
 
-    /// Whether the sum of all bytes with their pseudo header, the checksum included, has all 16 bits
-    /// set.
+    /// Returns `true` if the checksum is correct: the sum of pseudo-header and segment is 0xffff.
     #[inline(always)]
     pub fn verify_checksum(&self, src_addr: &IpAddress, dst_addr: &IpAddress) -> bool
         requires { version_of src_addr.now ≡ version_of dst_addr.now }
@@ -287,7 +286,7 @@ impl<B: Octets> TcpView<B> {
 }
 
 impl<'a> TcpPacket<'a> {
-    /// The view of bytes that `check_len` takes.
+    /// A view of bytes that `check_len` accepts, else an error.
     pub fn new_checked(buffer: &'a [u8]) -> Result<TcpPacket<'a>>
         ensures ok { IsOk result ↔ HasLengths buffer.now }
         ensures bytes { IfOk result (λ packet. packet_bytes packet ≡ buffer.now) }
@@ -297,7 +296,7 @@ impl<'a> TcpPacket<'a> {
         Ok(packet)
     }
 
-    /// The bytes of the options, up to the header's length.
+    /// The bytes of the options, up to the end of the header.
     pub fn options(&self) -> &'a [u8]
         requires begins { 20 ≤ header_len (packet_bytes self.now) }
         requires ends { header_len (packet_bytes self.now) ≤ length (packet_bytes self.now) }
@@ -306,7 +305,7 @@ impl<'a> TcpPacket<'a> {
         &self.buffer[TCP_HEADER_LEN..usize::from(self.header_len())]
     }
 
-    /// What follows the header, up to the end of the bytes.
+    /// The payload: all bytes behind the header.
     pub fn payload(&self) -> &'a [u8]
         requires field { 13 ≤ length (packet_bytes self.now) }
         requires begins { header_len (packet_bytes self.now) ≤ length (packet_bytes self.now) }

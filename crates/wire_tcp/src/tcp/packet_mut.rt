@@ -1,4 +1,4 @@
-//! What a view of a TCP segment writes.
+//! Setters of TCP segments.
 
 ghost use Rattle.std.specs.Prelude.{◌≡◌, ◌↔◌, ◌≤◌, ◌/◌, IfOk, IsOk, length};
 ghost use Rattle.std.specs.Borrow.{sem};
@@ -18,7 +18,8 @@ use wire_ends::{IpAddress, IpProtocol};
 use wire_field::{Checked, Located, set_bits, set_bits_u16};
 
 impl<'a> TcpPacketMut<'a> {
-    /// The view of bytes that `check_len` takes. An error leaves them as they are.
+    /// A mutable view of bytes that `check_len` accepts, else an error. Rejected bytes are
+    /// unchanged.
     pub fn new_checked(buffer: &'a mut [u8]) -> Result<TcpPacketMut<'a>>
         ensures* refused { sem 𝓛 (StaysIfErr buffer.entry packet_slice result) }
         ensures ok { IsOk result ↔ HasLengths buffer.old }
@@ -34,8 +35,8 @@ impl<'a> TcpPacketMut<'a> {
         }
     }
 
-    /// The bytes of the options, up to the header's length, to write to. What is left in them stands in
-    /// the segment afterwards, and all other bytes stay.
+    /// The bytes of the options, to be written in place. Bytes written to it land in the segment;
+    /// all other bytes stay.
     pub fn options_mut(&mut self) -> &mut [u8]
         requires begins { 20 ≤ header_len (packet_bytes_mut self.old) }
         requires ends { header_len (packet_bytes_mut self.old) ≤ length (packet_bytes_mut self.old) }
@@ -45,8 +46,8 @@ impl<'a> TcpPacketMut<'a> {
         locate_options(self.buffer).lend()
     }
 
-    /// What follows the header, up to the end of the bytes, to write to. What is left in it stands in
-    /// the segment afterwards, and all other bytes stay.
+    /// The payload, to be written in place. Bytes written to it land in the segment; all other
+    /// bytes stay.
     pub fn payload_mut(&mut self) -> &mut [u8]
         requires field { 13 ≤ length (packet_bytes_mut self.old) }
         requires begins { header_len (packet_bytes_mut self.old) ≤ length (packet_bytes_mut self.old) }
@@ -56,7 +57,7 @@ impl<'a> TcpPacketMut<'a> {
         locate_payload(self.buffer).lend()
     }
 
-    /// Writes the port of the sender.
+    /// Writes the source port.
     pub fn set_src_port(&mut self, value: u16)
         requires { 2 ≤ length (packet_bytes_mut self.old) }
         ensures { Becomes self.old self.new (with_field (packet_bytes_mut self.old) 0 16 value) }
@@ -64,7 +65,7 @@ impl<'a> TcpPacketMut<'a> {
         NetworkEndian::write_u16(&mut self.buffer[0..2], value);
     }
 
-    /// Writes the port of the receiver.
+    /// Writes the destination port.
     pub fn set_dst_port(&mut self, value: u16)
         requires { 4 ≤ length (packet_bytes_mut self.old) }
         ensures { Becomes self.old self.new (with_field (packet_bytes_mut self.old) 16 16 value) }
@@ -72,7 +73,7 @@ impl<'a> TcpPacketMut<'a> {
         NetworkEndian::write_u16(&mut self.buffer[2..4], value);
     }
 
-    /// Writes the number of the first octet of the payload, or of SYN.
+    /// Writes the sequence number of the first octet of the payload, or of SYN.
     pub fn set_seq_number(&mut self, value: TcpSeqNumber)
         requires { 8 ≤ length (packet_bytes_mut self.old) }
         ensures { Becomes self.old self.new (with_field (packet_bytes_mut self.old) 32 32 (number value)) }
@@ -80,7 +81,7 @@ impl<'a> TcpPacketMut<'a> {
         NetworkEndian::write_i32(&mut self.buffer[4..8], value.0);
     }
 
-    /// Writes the number that the sender expects next.
+    /// Writes the acknowledgement number: the sequence number that the sender expects next.
     pub fn set_ack_number(&mut self, value: TcpSeqNumber)
         requires { 12 ≤ length (packet_bytes_mut self.old) }
         ensures { Becomes self.old self.new (with_field (packet_bytes_mut self.old) 64 32 (number value)) }
@@ -88,7 +89,8 @@ impl<'a> TcpPacketMut<'a> {
         NetworkEndian::write_i32(&mut self.buffer[8..12], value.0);
     }
 
-    /// Writes the length of the header in octets, cut to a multiple of 4 below 64.
+    /// Writes the data offset for a header of this length in octets. The length is rounded down to
+    /// a multiple of 4, modulo 64.
     pub fn set_header_len(&mut self, value: u8)
         requires { 13 ≤ length (packet_bytes_mut self.old) }
         ensures { Becomes self.old self.new (with_field (packet_bytes_mut self.old) 96 4 (value / 4)) }
@@ -96,7 +98,7 @@ impl<'a> TcpPacketMut<'a> {
         set_bits(self.buffer, 96, 4, value / 4);
     }
 
-    /// Zeroes the nine flags, and the three reserved bits before them.
+    /// Clears the nine flags, and the three reserved bits before them.
     pub fn clear_flags(&mut self)
         requires { 14 ≤ length (packet_bytes_mut self.old) }
         ensures { Becomes self.old self.new (with_field (packet_bytes_mut self.old) 100 12 0) }
@@ -176,7 +178,7 @@ impl<'a> TcpPacketMut<'a> {
         set_bits(self.buffer, 111, 1, value.into());
     }
 
-    /// Writes how many octets the sender takes, before any scaling.
+    /// Writes the receive window of the sender in octets, before scaling.
     pub fn set_window_len(&mut self, value: u16)
         requires { 16 ≤ length (packet_bytes_mut self.old) }
         ensures { Becomes self.old self.new (with_field (packet_bytes_mut self.old) 112 16 value) }
@@ -184,7 +186,7 @@ impl<'a> TcpPacketMut<'a> {
         NetworkEndian::write_u16(&mut self.buffer[14..16], value);
     }
 
-    /// Writes the field of the checksum.
+    /// Writes the checksum field.
     pub fn set_checksum(&mut self, value: u16)
         requires { 18 ≤ length (packet_bytes_mut self.old) }
         ensures { Becomes self.old self.new (with_field (packet_bytes_mut self.old) 128 16 value) }
@@ -200,8 +202,7 @@ impl<'a> TcpPacketMut<'a> {
         NetworkEndian::write_u16(&mut self.buffer[18..20], value);
     }
 
-    /// Writes the checksum of all bytes as they stand: the complement of the sum of their other words
-    /// and their pseudo header.
+    /// Computes the checksum of all bytes and their pseudo-header, and writes it.
     pub fn fill_checksum(&mut self, src_addr: &IpAddress, dst_addr: &IpAddress)
         requires header { 18 ≤ length (packet_bytes_mut self.old) }
         requires family { version_of src_addr.now ≡ version_of dst_addr.now }
@@ -214,7 +215,7 @@ impl<'a> TcpPacketMut<'a> {
     }
 }
 
-// Whether the bytes hold a whole header.
+// The slice, and whether `check_len` accepts it.
 fn check(bytes: &mut [u8]) -> Checked<'_>
     ensures { Checks bytes.entry (HasLengths bytes.old) result }
 {
@@ -222,7 +223,7 @@ fn check(bytes: &mut [u8]) -> Checked<'_>
     Checked { bytes, ok }
 }
 
-// Where the options stand in the bytes of a segment.
+// The slice, and the range of the options in it.
 fn locate_options(bytes: &mut [u8]) -> Located<'_>
     requires begins { 20 ≤ header_len bytes.old }
     requires ends { header_len bytes.old ≤ length bytes.old }
@@ -236,7 +237,7 @@ fn locate_options(bytes: &mut [u8]) -> Located<'_>
     }
 }
 
-// Where the payload stands in the bytes of a segment.
+// The slice, and the range of the payload in it.
 fn locate_payload(bytes: &mut [u8]) -> Located<'_>
     requires field { 13 ≤ length bytes.old }
     requires begins { header_len bytes.old ≤ length bytes.old }

@@ -7,22 +7,22 @@ use std::cmp::Ordering;
 use std::fmt;
 use std::ops::{Add, AddAssign, Sub};
 
-/// A number of the sequence space, which counts modulo 2<sup>32</sup>: an `i32` of the same bits.
+/// A sequence number, modulo 2<sup>32</sup>, as an `i32` with the same bits.
 ///
-/// Of two numbers that one comes before the other to which the way forward is shorter. Where both
-/// ways are 2<sup>31</sup> long, each comes before the other, so that this is no order.
+/// A number is before another one if the way forward to it is shorter than the way back. If both
+/// are 2<sup>31</sup> steps apart, each is before the other. So this is no order.
 #[derive(Debug, Clone, Copy, PartialEq, Eq, Default)]
 pub struct TcpSeqNumber(pub i32);
 
 impl TcpSeqNumber {
-    // The number that has these bits.
+    // The number with these bits.
     pub(super) fn from_bits(bits: u32) -> TcpSeqNumber
         ensures { number result ≡ bits }
     {
         TcpSeqNumber(bits.cast_signed())
     }
 
-    /// This number where it comes after the other, else the other.
+    /// Returns `self` if it is after `rhs`, else `rhs`.
     pub fn max(self, rhs: TcpSeqNumber) -> TcpSeqNumber
         ensures after { IsAfter self rhs → result ≡ self }
         ensures other { ¬ IsAfter self rhs → result ≡ rhs }
@@ -30,7 +30,7 @@ impl TcpSeqNumber {
         if self.seq_gt(rhs) { self } else { rhs }
     }
 
-    /// This number where it comes before the other, else the other.
+    /// Returns `self` if it is before `rhs`, else `rhs`.
     pub fn min(self, rhs: TcpSeqNumber) -> TcpSeqNumber
         ensures before { IsBefore self rhs → result ≡ self }
         ensures other { ¬ IsBefore self rhs → result ≡ rhs }
@@ -38,35 +38,35 @@ impl TcpSeqNumber {
         if self.seq_lt(rhs) { self } else { rhs }
     }
 
-    /// Whether this number comes before the other.
+    /// Returns `true` if this number is before the other.
     pub fn seq_lt(self, rhs: TcpSeqNumber) -> bool
         ensures { IsTrue result ↔ IsBefore self rhs }
     {
         self.0.wrapping_sub(rhs.0) < 0
     }
 
-    /// Whether this number comes before the other, or is the same.
+    /// Returns `true` if this number is before the other, or equal to it.
     pub fn seq_le(self, rhs: TcpSeqNumber) -> bool
         ensures { IsTrue result ↔ ¬ IsAfter self rhs }
     {
         self.0.wrapping_sub(rhs.0) <= 0
     }
 
-    /// Whether this number comes after the other.
+    /// Returns `true` if this number is after the other.
     pub fn seq_gt(self, rhs: TcpSeqNumber) -> bool
         ensures { IsTrue result ↔ IsAfter self rhs }
     {
         self.0.wrapping_sub(rhs.0) > 0
     }
 
-    /// Whether this number comes after the other, or is the same.
+    /// Returns `true` if this number is not before the other.
     pub fn seq_ge(self, rhs: TcpSeqNumber) -> bool
         ensures { IsTrue result ↔ ¬ IsBefore self rhs }
     {
         self.0.wrapping_sub(rhs.0) >= 0
     }
 
-    /// `Less` where this number comes before the other, `Greater` where it comes after it.
+    /// `Less` if this number is before the other, `Greater` if it is after it, else `Equal`.
     pub fn seq_cmp(self, rhs: TcpSeqNumber) -> Ordering
         ensures before { (result ≡ Ordering.Less) ↔ IsBefore self rhs }
         ensures same { (result ≡ Ordering.Equal) ↔ (self ≡ rhs) }
@@ -84,7 +84,7 @@ impl fmt::Display for TcpSeqNumber {
     }
 }
 
-/// The number that so many steps forward lead to, at most 2<sup>31</sup> - 1.
+/// Moves a number forward, by less than 2<sup>31</sup> steps.
 impl Add<usize> for TcpSeqNumber {
     type Output = TcpSeqNumber;
 
@@ -97,7 +97,7 @@ impl Add<usize> for TcpSeqNumber {
     }
 }
 
-/// The number that so many steps back lead to, at most 2<sup>31</sup> - 1.
+/// Moves a number back, by less than 2<sup>31</sup> steps.
 impl Sub<usize> for TcpSeqNumber {
     type Output = TcpSeqNumber;
 
@@ -110,7 +110,7 @@ impl Sub<usize> for TcpSeqNumber {
     }
 }
 
-/// Goes so many steps forward, at most 2<sup>31</sup> - 1.
+/// Moves a number forward in place, by less than 2<sup>31</sup> steps.
 impl AddAssign<usize> for TcpSeqNumber {
     ghost can_add_assign = { λ a n. n < 2 ^ 31 };
 
@@ -121,7 +121,7 @@ impl AddAssign<usize> for TcpSeqNumber {
     }
 }
 
-/// How many steps forward lead from a number to this one, which does not come before it.
+/// The distance forward from `rhs` to this number, which must not be before `rhs`.
 impl Sub for TcpSeqNumber {
     type Output = usize;
 

@@ -1,4 +1,4 @@
-//! All options of a header at once.
+//! The values of all options of a header.
 
 ghost use Rattle.std.specs.Prelude.{◌≡◌, [], ◌∷◌, ◌++◌, List, IfOk, OnErr};
 ghost use Rattle.wire_tcp.specs.TcpItems.{IsItem, Item};
@@ -8,20 +8,20 @@ ghost use Rattle.wire_tcp.specs.TcpSummary.{HasNoList, Summarizes, summary_of};
 use super::{SACK_BLOCKS, TcpOption};
 use net_base::Result;
 
-/// What the options of a header say: of each kind the last one.
+/// The values of the options of a header. Of each kind the last option counts.
 #[derive(Debug, Clone, Copy, PartialEq, Eq)]
 pub struct TcpOptionSummary {
-    /// The largest segment that the sender receives, in octets.
+    /// The largest segment that the sender accepts, in octets.
     pub max_segment_size: Option<u16>,
-    /// By how many bits windows are shifted, as it stands: also above 14.
+    /// The number of bits by which windows are shifted, unchanged if it is above 14.
     pub window_scale: Option<u8>,
     pub sack_permitted: bool,
     pub sack_ranges: [Option<(u32, u32)>; SACK_BLOCKS],
-    /// The timestamp, and the one that it replies to.
+    /// The timestamp, and the echoed timestamp.
     pub timestamp: Option<(u32, u32)>,
 }
 
-/// That there are no options.
+/// The summary of no options.
 impl Default for TcpOptionSummary {
     ghost is_default = { λ summary. summary ≡ summary_of [] };
 
@@ -37,7 +37,7 @@ impl Default for TcpOptionSummary {
 }
 
 impl TcpOptionSummary {
-    // What the options say up to an end mark.
+    // The values of the options up to the end of the list. Fails on a malformed option.
     #[inline(always)]
     pub(super) fn of_options(options: &[u8]) -> Result<TcpOptionSummary>
         ensures ok { IfOk result (Summarizes options.now) }
@@ -56,7 +56,7 @@ impl TcpOptionSummary {
         Ok(summary)
     }
 
-    // Takes the next option in.
+    // Adds the next option.
     #[inline(always)]
     fn note(&mut self, option: &TcpOption<'_>)
         ensures { (items : List Item) (i : Item) →

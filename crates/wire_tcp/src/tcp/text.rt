@@ -1,4 +1,4 @@
-//! The text that a segment prints as.
+//! The printed text of a segment.
 
 ghost use Rattle.std.specs.Prelude.{◌≡◌, [], None, Some, if◌then◌else◌};
 ghost use Rattle.std.specs.Fmt.{WritesOnOk};
@@ -44,7 +44,7 @@ fn write_flags<W: fmt::Write>(packet: &TcpPacket<'_>, f: &mut fmt::Formatter<W>)
     write!(f, "{syn}{fin}{rst}{psh}{ece}{cwr}{ns}")
 }
 
-// A word where it is wanted, else nothing.
+// The word if it is wanted, else an empty string.
 fn word_if(wanted: bool, word: &'static str) -> &'static str
     ensures { result.now ≡ if wanted then word.now else [] }
 {
@@ -68,7 +68,7 @@ fn write_fields<W: fmt::Write>(packet: &TcpPacket<'_>, f: &mut fmt::Formatter<W>
     )
 }
 
-// A number where it is wanted.
+// The number if it is wanted.
 fn number_if(wanted: bool, n: u32) -> Option<u32>
     ensures { result ≡ if wanted then Some n else None }
 {
@@ -94,7 +94,7 @@ fn write_numbers<W: fmt::Write>(
     write!(f, " len={len}")
 }
 
-// Writes a name and a number, where there is one.
+// Writes a name and a number, if there is a number.
 fn write_some<W: fmt::Write>(
     f: &mut fmt::Formatter<W>,
     name: &str,
@@ -108,7 +108,8 @@ fn write_some<W: fmt::Write>(
     }
 }
 
-/// The options of a header, to print them up to an end mark, or up to one that is malformed.
+/// The options of a header. They are printed up to the end of the list, or up to the first
+/// malformed one.
 #[derive(Clone, Copy)]
 struct Options<'a>(&'a [u8]);
 
@@ -153,7 +154,7 @@ fn write_option<W: fmt::Write>(option: &TcpOption<'_>, f: &mut fmt::Formatter<W>
     }
 }
 
-/// The blocks of a selective acknowledgement.
+/// The blocks of a SACK option.
 #[derive(Clone, Copy)]
 struct Ranges<'a>(&'a [Option<(u32, u32)>]);
 

@@ -2,20 +2,20 @@
 
 ghost use Rattle.std.specs.Prelude.{◌≡◌, ◌↔◌, IfSome, IsSome};
 
-/// A clock that timestamps are read of.
+/// A clock for timestamps.
 pub type TcpTimestampGenerator = fn() -> u32;
 
-/// A timestamp, and the one that it replies to.
+/// A timestamp, and the echoed timestamp.
 #[derive(Debug, Clone, Copy, PartialEq, Eq)]
 pub struct TcpTimestampRepr {
-    /// What the sender's clock said.
+    /// The sender's clock.
     pub tsval: u32,
-    /// The `tsval` of the segment that is replied to.
+    /// The `tsval` of the segment that this one replies to.
     pub tsecr: u32,
 }
 
 impl TcpTimestampRepr {
-    /// A timestamp, and the one that it replies to.
+    /// A timestamp, and the echoed timestamp.
     pub fn new(tsval: u32, tsecr: u32) -> TcpTimestampRepr
         ensures tsval { result.tsval ≡ tsval }
         ensures tsecr { result.tsecr ≡ tsecr }
@@ -23,7 +23,7 @@ impl TcpTimestampRepr {
         TcpTimestampRepr { tsval, tsecr }
     }
 
-    /// The reply to this timestamp, if there is a clock.
+    /// The reply to this timestamp. It is `None` if there is no clock.
     pub fn generate_reply(
         &self,
         generator: Option<TcpTimestampGenerator>,
@@ -36,7 +36,7 @@ impl TcpTimestampRepr {
         TcpTimestampRepr::generate_reply_with_tsval(generator, self.tsval)
     }
 
-    /// The reply to the timestamp `tsval`, if there is a clock.
+    /// The reply to the timestamp `tsval`. It is `None` if there is no clock.
     pub fn generate_reply_with_tsval(
         generator: Option<TcpTimestampGenerator>,
         tsval: u32,

@@ -1,4 +1,4 @@
-//! Walks over options that go on past end marks.
+//! Searches over options that continue behind the end of the list.
 
 ghost use Rattle.std.specs.Prelude.{◌<◌, [], false, true};
 ghost use Rattle.wire_tcp.specs.TcpItems.{first_blocks};
@@ -8,14 +8,14 @@ use super::option::{OPT_SACKPERM, OPT_SACKRNG};
 use super::{SACK_BLOCKS, TcpOption};
 use net_base::Result;
 
-// Whether selective acknowledgements are permitted.
+// Returns `true` if an option permits SACK.
 pub(super) fn sack_permitted(options: &[u8]) -> Result<bool>
     ensures { Answers options.now 4 (λ i. true) false result }
 {
     Ok(first_of_kind(options, OPT_SACKPERM)?.is_some())
 }
 
-// The ranges of the first selective acknowledgement.
+// The ranges of the first SACK option.
 pub(super) fn sack_ranges(options: &[u8]) -> Result<[Option<(u32, u32)>; SACK_BLOCKS]>
     ensures { Answers options.now 5 (λ i. first_blocks i.content) (first_blocks []) result }
 {
@@ -25,7 +25,7 @@ pub(super) fn sack_ranges(options: &[u8]) -> Result<[Option<(u32, u32)>; SACK_BL
     }
 }
 
-// The first option of a kind, if there is one before bytes that begin with no option.
+// The first option of a kind, or `None`. Fails if a malformed option comes before it.
 fn first_of_kind<'a>(options: &'a [u8], kind: u8) -> Result<Option<TcpOption<'a>>>
     requires { 0 < kind }
     ensures { FindsFirst options.now kind result }

@@ -1,4 +1,4 @@
-//! What a value of a segment is written as.
+//! `TcpRepr::emit`.
 
 ghost use Rattle.std.specs.Prelude.{◌≡◌, ◌+◌, ◌≤◌, ◌++◌, drop, length};
 ghost use Rattle.net_base.specs.Checksum.{computes};
@@ -14,17 +14,16 @@ use super::TcpRepr;
 use net_base::ChecksumCapabilities;
 use wire_ends::IpAddress;
 use wire_tcp::{
-    TCP_HEADER_LEN, TcpControl, TcpOption, TcpPacketMut, TcpSeqNumber, TcpTimestampRepr, parts,
+    TCP_HEADER_LEN, TcpControl, TcpOption, TcpPacketMut, TcpSeqNumber, TcpTimestampRepr, for_emit,
 };
 
 // The flag ACK.
 const ACK: u16 = 0x010;
 
 impl TcpRepr<'_> {
-    /// Writes the header and the payload of a segment between two addresses of one version, and
-    /// leaves what follows them. Of the options SACK permitted stands in the place of ranges, which
-    /// are closed up, and written with an acknowledgement only. The checksum is that of the whole
-    /// slice where `caps` says so, else 0.
+    /// Writes the header and the payload. All bytes behind them stay. SACK permitted takes the
+    /// place of ranges. Ranges are written without gaps, and only with an acknowledgement. If
+    /// `caps` asks for a checksum, it covers the whole buffer; else it is 0.
     #[inline(always)]
     pub fn emit(
         &self,
@@ -42,15 +41,15 @@ impl TcpRepr<'_> {
     {
         let header_len = self.header_len();
         let fixed = self.fixed(header_len);
-        parts::write_bytes(packet, 0, &fixed);
+        for_emit::write_bytes(packet, 0, &fixed);
         self.emit_options(packet, header_len);
-        parts::write_bytes(packet, header_len, self.payload);
+        for_emit::write_bytes(packet, header_len, self.payload);
         if caps.tcp.tx() {
-            parts::write_checksum(packet, &fixed, src_addr, dst_addr);
+            for_emit::write_checksum(packet, &fixed, src_addr, dst_addr);
         }
     }
 
-    // The header up to its options, without a checksum.
+    // The first 20 octets of the header, with 0 as checksum.
     #[inline(always)]
     fn fixed(&self, header_len: usize) -> [u8; TCP_HEADER_LEN]
         requires value { header_len ≡ header_len_of (header_of self.now) }
@@ -58,7 +57,7 @@ impl TcpRepr<'_> {
         ensures { let v = header_of self.now in
             result ≡ fixed_bytes v.src_port v.dst_port (number v.seq_number) (ack_bits v) (offset_and_flags v) v.window_len }
     {
-        parts::fixed(
+        for_emit::fixed(
             self.src_port,
             self.dst_port,
             bits_of(self.seq_number),
@@ -68,7 +67,7 @@ impl TcpRepr<'_> {
         )
     }
 
-    // The acknowledgement number, 0 where there is none.
+    // The acknowledgement number, or 0.
     fn ack_bits(&self) -> u32
         ensures { result ≡ ack_bits (header_of self.now) }
     {
@@ -78,7 +77,7 @@ impl TcpRepr<'_> {
         }
     }
 
-    // The header's length in words of 4 octets, above the flags.
+    // The word that holds the data offset and the flags.
     fn offset_and_flags(&self, header_len: usize) -> u16
         requires value { header_len ≡ header_len_of (header_of self.now) }
         requires most { header_len ≤ 60 }
@@ -89,7 +88,7 @@ impl TcpRepr<'_> {
         offset + ack + flag_of(self.control)
     }
 
-    // Writes the options, and zeros up to the header's length.
+    // Writes the options, and zeros up to the end of the header.
     #[inline(always)]
     fn emit_options(&self, packet: &mut TcpPacketMut<'_>, header_len: usize)
         requires value { header_len ≡ header_len_of (header_of self.now) }
@@ -100,51 +99,51 @@ impl TcpRepr<'_> {
         let scaled = self.emit_window_scale(packet, sized);
         let acknowledged = self.emit_sack(packet, scaled);
         let stamped = self.emit_timestamp(packet, acknowledged);
-        parts::write_zeros(packet, stamped, header_len);
+        for_emit::write_zeros(packet, stamped, header_len);
     }
 
-    // Writes the largest segment size at a place, if there is one, and answers the place behind it.
+    // Writes the maximum segment size at byte `at`, if there is one, and returns where it ends.
     fn emit_segment_size(&self, packet: &mut TcpPacketMut<'_>, at: usize) -> usize
         requires { at + length (texts (segment_size_items self.now.max_seg_size)) ≤ length (packet_bytes_mut packet.old) }
         ensures end { result ≡ at + length (texts (segment_size_items self.now.max_seg_size)) }
         ensures written { Becomes packet.old packet.new (with_range (packet_bytes_mut packet.old) at result (texts (segment_size_items self.now.max_seg_size))) }
     {
         match self.max_seg_size {
-            Some(size) => parts::write_option(packet, at, &TcpOption::MaxSegmentSize(size)),
+            Some(size) => for_emit::write_option(packet, at, &TcpOption::MaxSegmentSize(size)),
             None => at,
         }
     }
 
-    // Writes the window scale at a place, if there is one, and answers the place behind it.
+    // Writes the window scale at byte `at`, if there is one, and returns where it ends.
     fn emit_window_scale(&self, packet: &mut TcpPacketMut<'_>, at: usize) -> usize
         requires { at + length (texts (window_scale_items self.now.window_scale)) ≤ length (packet_bytes_mut packet.old) }
         ensures end { result ≡ at + length (texts (window_scale_items self.now.window_scale)) }
         ensures written { Becomes packet.old packet.new (with_range (packet_bytes_mut packet.old) at result (texts (window_scale_items self.now.window_scale))) }
     {
         match self.window_scale {
-            Some(scale) => parts::write_option(packet, at, &TcpOption::WindowScale(scale)),
+            Some(scale) => for_emit::write_option(packet, at, &TcpOption::WindowScale(scale)),
             None => at,
         }
     }
 
-    // Writes at a place that SACK is permitted, or else the ranges, with an acknowledgement and a
-    // range, and answers the place behind it.
+    // Writes SACK permitted at byte `at`, or else the ranges if there is an acknowledgement, and
+    // returns where they end.
     fn emit_sack(&self, packet: &mut TcpPacketMut<'_>, at: usize) -> usize
         requires { at + length (texts (sack_items (header_of self.now))) ≤ length (packet_bytes_mut packet.old) }
         ensures end { result ≡ at + length (texts (sack_items (header_of self.now))) }
         ensures written { Becomes packet.old packet.new (with_range (packet_bytes_mut packet.old) at result (texts (sack_items (header_of self.now)))) }
     {
         if self.sack_permitted {
-            parts::write_option(packet, at, &TcpOption::SackPermitted)
-        } else if self.ack_number.is_some() && parts::count_ranges(&self.sack_ranges) != 0 {
+            for_emit::write_option(packet, at, &TcpOption::SackPermitted)
+        } else if self.ack_number.is_some() && for_emit::count_ranges(&self.sack_ranges) != 0 {
             let ranges = self.sack_ranges;
-            parts::write_option(packet, at, &TcpOption::SackRange(ranges))
+            for_emit::write_option(packet, at, &TcpOption::SackRange(ranges))
         } else {
             at
         }
     }
 
-    // Writes the timestamp at a place, if there is one, and answers the place behind it.
+    // Writes the timestamp at byte `at`, if there is one, and returns where it ends.
     fn emit_timestamp(&self, packet: &mut TcpPacketMut<'_>, at: usize) -> usize
         requires { at + length (texts (timestamp_items self.now.timestamp)) ≤ length (packet_bytes_mut packet.old) }
         ensures end { result ≡ at + length (texts (timestamp_items self.now.timestamp)) }
@@ -152,21 +151,21 @@ impl TcpRepr<'_> {
     {
         match self.timestamp {
             Some(TcpTimestampRepr { tsval, tsecr }) => {
-                parts::write_option(packet, at, &TcpOption::TimeStamp { tsval, tsecr })
+                for_emit::write_option(packet, at, &TcpOption::TimeStamp { tsval, tsecr })
             }
             None => at,
         }
     }
 }
 
-// The number itself, from 0 to 2^32 - 1.
+// The number in 0 to 2^32 - 1.
 fn bits_of(seq: TcpSeqNumber) -> u32
     ensures { result ≡ number seq }
 {
     seq.0.cast_unsigned()
 }
 
-// The flag that a control sets.
+// The flag of a control.
 fn flag_of(control: TcpControl) -> u16
     ensures { result ≡ flag_of control }
 {

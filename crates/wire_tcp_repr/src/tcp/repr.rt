@@ -1,4 +1,4 @@
-//! The values of a TCP segment.
+//! `TcpRepr`, the values of a TCP segment.
 
 ghost use Rattle.std.specs.Prelude.{◌≡◌, ◌↔◌, ◌+◌, ◌^◌, ◌<◌, ◌≤◌, [], IfOk, IsTrue, OnErr, OnOk, length};
 ghost use Rattle.std.specs.Option.{option_map};
@@ -12,43 +12,42 @@ ghost use Rattle.wire_tcp_repr.specs.TcpRepr.{HasControl, HasNoControl, HasNoRea
 use net_base::{ChecksumCapabilities, Error, Result};
 use wire_ends::IpAddress;
 use wire_tcp::{
-    SACK_BLOCKS, TCP_HEADER_LEN, TcpControl, TcpPacket, TcpSeqNumber, TcpTimestampRepr, parts,
+    SACK_BLOCKS, TCP_HEADER_LEN, TcpControl, TcpPacket, TcpSeqNumber, TcpTimestampRepr, for_emit,
 };
 
-// The largest window scale that counts (RFC 7323, section 2.3).
+// The largest window scale (RFC 7323, section 2.3).
 const MAX_WINDOW_SCALE: u8 = 14;
 
-/// The values of a segment that are more than its layout: no urgent pointer, and of the flags ACK
-/// and one other.
+/// The values of a segment that upper layers need. There is no urgent pointer, and at most one flag
+/// beside ACK.
 #[derive(Debug, PartialEq, Eq, Clone, Copy)]
 pub struct TcpRepr<'a> {
     pub src_port: u16,
     pub dst_port: u16,
     pub control: TcpControl,
-    /// The number of the first octet of the payload, or of SYN.
+    /// The sequence number of the first octet of the payload, or of SYN.
     pub seq_number: TcpSeqNumber,
-    /// The number that the sender expects next.
+    /// The sequence number that the sender expects next.
     pub ack_number: Option<TcpSeqNumber>,
-    /// How many octets the sender takes, before any scaling.
+    /// The receive window of the sender in octets, before scaling.
     pub window_len: u16,
-    /// By how many bits windows are shifted.
+    /// The number of bits by which windows are shifted.
     pub window_scale: Option<u8>,
-    /// The largest segment that the sender receives, in octets.
+    /// The largest segment that the sender accepts, in octets.
     pub max_seg_size: Option<u16>,
-    /// Whether selective acknowledgements may be sent.
+    /// The sender accepts selective acknowledgements.
     pub sack_permitted: bool,
-    /// The first blocks of data that were received, from the left edge up to, but without, the
-    /// right one.
+    /// The first SACK blocks, each from its left edge up to, but without, its right edge.
     pub sack_ranges: [Option<(u32, u32)>; SACK_BLOCKS],
     pub timestamp: Option<TcpTimestampRepr>,
     pub payload: &'a [u8],
 }
 
 impl<'a> TcpRepr<'a> {
-    /// The values of a segment between two addresses of one version, and its payload. A port of 0,
-    /// more than one of SYN, FIN and RST, and a malformed option before an end mark are refused. Of
-    /// each kind the last option counts, a window scale above 14 is 14, and all other flags are
-    /// read over. The checksum is verified where `caps` says so.
+    /// Parses a segment. Rejects what `check_len` rejects, a port of 0, more than one of SYN, FIN
+    /// and RST, a malformed option before the end of the list, and a wrong checksum if `caps` asks
+    /// to verify it. Of each kind the last option counts. A window scale above 14 becomes 14. All
+    /// other flags are ignored.
     #[inline(always)]
     pub fn parse(
         packet: &TcpPacket<'a>,
@@ -95,8 +94,8 @@ impl<'a> TcpRepr<'a> {
         })
     }
 
-    /// The length of the header that `emit` writes, in octets. Ranges count also where `emit`
-    /// leaves them out: beside `sack_permitted` and without an acknowledgement.
+    /// The length of the emitted header in octets. Ranges count even if `emit` leaves them out:
+    /// beside `sack_permitted`, or without an acknowledgement.
     #[inline(always)]
     pub fn header_len(&self) -> usize
         ensures { result ≡ header_len_of (header_of self.now) }
@@ -111,7 +110,7 @@ impl<'a> TcpRepr<'a> {
         if self.sack_permitted {
             len += 2;
         }
-        let ranges = parts::count_ranges(&self.sack_ranges);
+        let ranges = for_emit::count_ranges(&self.sack_ranges);
         if ranges != 0 {
             len += 2 + 8 * ranges;
         }
@@ -121,7 +120,7 @@ impl<'a> TcpRepr<'a> {
         len.next_multiple_of(4)
     }
 
-    /// The length of the segment that `emit` writes, in octets.
+    /// The length of the emitted segment in octets.
     #[inline(always)]
     pub fn buffer_len(&self) -> usize
         requires { header_len_of (header_of self.now) + length self.now.payload.now < 2 ^ 64 }
@@ -130,8 +129,8 @@ impl<'a> TcpRepr<'a> {
         self.header_len() + self.payload.len()
     }
 
-    /// How many sequence numbers the segment takes: one for each octet of its payload, for SYN and
-    /// for FIN.
+    /// The number of sequence numbers that the segment uses: one for each octet of its payload, for
+    /// SYN and for FIN.
     pub fn segment_len(&self) -> usize
         requires { length self.now.payload.now + control_len self.now.control < 2 ^ 64 }
         ensures { result ≡ length self.now.payload.now + control_len self.now.control }
@@ -139,7 +138,7 @@ impl<'a> TcpRepr<'a> {
         self.payload.len() + self.control.len()
     }
 
-    /// Whether the segment has no payload, and asks for nothing beside handing it on.
+    /// Returns `true` if the segment has no payload, and no control flag except PSH.
     pub fn is_empty(&self) -> bool
         ensures { IsTrue result ↔ ((self.now.payload.now ≡ []) × IsQuiet self.now.control) }
     {
@@ -150,7 +149,7 @@ impl<'a> TcpRepr<'a> {
     }
 }
 
-// What the flags ask for.
+// The control flag. Fails if more than one of SYN, FIN and RST is set.
 #[inline(always)]
 fn control_of(packet: &TcpPacket<'_>) -> Result<TcpControl>
     requires { 14 ≤ length (packet_bytes packet.now) }
@@ -167,7 +166,7 @@ fn control_of(packet: &TcpPacket<'_>) -> Result<TcpControl>
     }
 }
 
-// The acknowledgement number, where ACK is set.
+// The acknowledgement number, if ACK is set.
 fn ack_number_of(packet: &TcpPacket<'_>) -> Option<TcpSeqNumber>
     requires { 14 ≤ length (packet_bytes packet.now) }
     ensures { result ≡ ack_number_of (packet_bytes packet.now) }

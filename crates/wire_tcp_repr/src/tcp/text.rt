@@ -1,4 +1,4 @@
-//! What a value of a segment prints as.
+//! The printed text of a value.
 
 ghost use Rattle.std.specs.Prelude.{◌≡◌, Some, length};
 ghost use Rattle.std.specs.Fmt.{WritesOnOk};
@@ -26,7 +26,7 @@ impl fmt::Display for TcpRepr<'_> {
     }
 }
 
-// Writes the ports, what the segment asks for and its number.
+// Writes the ports, the control flag and the sequence number.
 #[tactic(auto, unfolding(crate::specs::TcpReprText::start_text))]
 fn write_start<W: fmt::Write>(
     f: &mut fmt::Formatter<W>,
@@ -41,7 +41,7 @@ fn write_start<W: fmt::Write>(
     write!(f, "TCP src={src} dst={dst}{control} seq={seq}")
 }
 
-// The word for what a segment asks for.
+// The word for a control flag.
 fn word_of(control: TcpControl) -> &'static str
     ensures { result.now ≡ control_text control }
 {
@@ -54,7 +54,7 @@ fn word_of(control: TcpControl) -> &'static str
     }
 }
 
-// Writes the acknowledgement number, where there is one.
+// Writes the acknowledgement number, if there is one.
 fn write_ack<W: fmt::Write>(f: &mut fmt::Formatter<W>, ack: Option<TcpSeqNumber>) -> fmt::Result
     ensures { WritesOnOk W.write_str_gives f.old result (ack_text ack) f.new }
 {
@@ -72,7 +72,7 @@ fn write_flow<W: fmt::Write>(f: &mut fmt::Formatter<W>, window: u16, len: usize)
     write!(f, " win={window} len={len}")
 }
 
-// Writes the largest segment size, where there is one.
+// Writes the maximum segment size, if there is one.
 fn write_size<W: fmt::Write>(f: &mut fmt::Formatter<W>, size: Option<u16>) -> fmt::Result
     ensures { WritesOnOk W.write_str_gives f.old result (size_text size) f.new }
 {

@@ -1,9 +1,9 @@
-//! A view of the bytes of a UDP packet, and what every view reads.
+//! Views of UDP packets, and their getters.
 
 ghost use Rattle.std.specs.Prelude.{◌≡◌, ◌↔◌, ◌≤◌, ◌⊎◌, IfOk, IsOk, IsTrue, Some, length};
 ghost use Rattle.wire_ends.specs.IpAddress.{version_of};
 ghost use Rattle.wire_field.specs.Field.{field};
-ghost use Rattle.wire_udp.specs.Udp.{HasLengths, Verifies, packet_bytes, packet_len, packet_slice, payload_of, pseudo_header_sum};
+ghost use Rattle.wire_udp.specs.Udp.{HasChecksum, HasLengths, Verifies, has_checksum, packet_bytes, packet_len, packet_slice, payload_of, pseudo_header_sum};
 ghost use Rattle.wire_udp.specs.UdpText.{packet_text};
 
 use super::UDP_HEADER_LEN;
@@ -14,30 +14,30 @@ use wire_checksum::checksum;
 use wire_ends::{IpAddress, IpProtocol};
 use wire_field::{Octets, debug_view};
 
-/// A view of the bytes of a packet, which are lent to be read or to be written. Its calls ask for the
-/// bytes that they use, and for no more.
+/// A view of a borrowed UDP packet. A call requires only the bytes that it uses.
 #[derive(Clone, Copy, PartialEq, Eq, Drop)]
 pub struct UdpView<B> {
     pub(super) buffer: B,
 }
 
-/// A view that reads.
+/// A reading view.
 pub type UdpPacket<'a> = UdpView<&'a [u8]>;
 
-/// A view that reads and writes.
+/// A mutable view.
 pub type UdpPacketMut<'a> = UdpView<&'a mut [u8]>;
 
 #[allow(clippy::len_without_is_empty)]
 impl<B: Octets> UdpView<B> {
-    /// The view of any bytes.
+    /// A view of any bytes. Nothing is checked.
     pub fn new_unchecked(buffer: B) -> UdpView<B>
         ensures { packet_slice result ≡ buffer }
     {
         UdpView { buffer }
     }
 
-    /// Whether the bytes hold a whole header, and as many bytes as it speaks of. Then each call of
-    /// this view may be made, until the packet's length is written.
+    /// Checks the length field: it is at least 8, and the bytes hold a whole header and a packet of
+    /// that length. After `Ok` every call of this view may be made, until the length field is
+    /// written.
     pub fn check_len(&self) -> Result<()>
         ensures { IsOk result ↔ HasLengths (B.octets (packet_slice self.now)) }
     {
@@ -52,28 +52,28 @@ impl<B: Octets> UdpView<B> {
         Ok(())
     }
 
-    /// The bytes, for as long as they are lent to the view.
+    /// The borrowed slice, with its own lifetime.
     pub fn into_inner(self) -> B
         ensures { result ≡ packet_slice self }
     {
         self.buffer
     }
 
-    /// The bytes.
+    /// The bytes under the view.
     pub fn as_bytes(&self) -> &[u8]
         ensures { result.now ≡ B.octets (packet_slice self.now) }
     {
         self.buffer.octets()
     }
 
-    /// A view that reads the same bytes.
+    /// A reading view of the same bytes.
     pub fn as_view(&self) -> UdpPacket<'_>
         ensures { packet_bytes result ≡ B.octets (packet_slice self.now) }
     {
         UdpView::new_unchecked(self.as_bytes())
     }
 
-    /// The port of the sender, or 0 where it has none.
+    /// The source port, or 0 if the sender has none.
     pub fn src_port(&self) -> u16
         requires { 2 ≤ length (B.octets (packet_slice self.now)) }
         ensures { result ≡ field (B.octets (packet_slice self.now)) 0 16 }
@@ -81,7 +81,7 @@ impl<B: Octets> UdpView<B> {
         NetworkEndian::read_u16(&self.as_bytes()[0..2])
     }
 
-    /// The port of the receiver.
+    /// The destination port.
     pub fn dst_port(&self) -> u16
         requires { 4 ≤ length (B.octets (packet_slice self.now)) }
         ensures { result ≡ field (B.octets (packet_slice self.now)) 16 16 }
@@ -89,7 +89,7 @@ impl<B: Octets> UdpView<B> {
         NetworkEndian::read_u16(&self.as_bytes()[2..4])
     }
 
-    /// The length of the packet in octets, its header included.
+    /// The length field: the length of header and payload in octets.
     pub fn len(&self) -> u16
         requires { 6 ≤ length (B.octets (packet_slice self.now)) }
         ensures { result ≡ packet_len (B.octets (packet_slice self.now)) }
@@ -97,7 +97,7 @@ impl<B: Octets> UdpView<B> {
         NetworkEndian::read_u16(&self.as_bytes()[4..6])
     }
 
-    /// The checksum, or 0 where the sender computed none.
+    /// The checksum field, or 0 if the sender computed no checksum.
     pub fn checksum(&self) -> u16
         requires { 8 ≤ length (B.octets (packet_slice self.now)) }
         ensures { result ≡ field (B.octets (packet_slice self.now)) 48 16 }
@@ -105,8 +105,8 @@ impl<B: Octets> UdpView<B> {
         NetworkEndian::read_u16(&self.as_bytes()[6..8])
     }
 
-    /// Whether the field of the checksum holds the sum of the pseudo header alone, as it does where the
-    /// device is to add that of the packet.
+    /// Returns `true` if the checksum field holds only the sum of the pseudo-header. The device
+    /// then adds the rest (checksum offload).
     pub fn verify_partial_checksum(&self, src_addr: &IpAddress, dst_addr: &IpAddress) -> bool
         requires header { 8 ≤ length (B.octets (packet_slice self.now)) }
         requires family { version_of src_addr.now ≡ version_of dst_addr.now }
@@ -116,8 +116,8 @@ impl<B: Octets> UdpView<B> {
         self.checksum() == checksum::pseudo_header(src_addr, dst_addr, IpProtocol::Udp, len)
     }
 
-    /// Whether no checksum was computed, or the sum of the packet with its pseudo header, the checksum
-    /// included, has all 16 bits set.
+    /// Returns `true` if the checksum field is 0, or if the sum of pseudo-header and packet is
+    /// 0xffff.
     #[inline(always)]
     pub fn verify_checksum(&self, src_addr: &IpAddress, dst_addr: &IpAddress) -> bool
         requires header { 8 ≤ length (B.octets (packet_slice self.now)) }
@@ -131,10 +131,27 @@ impl<B: Octets> UdpView<B> {
         let packet = &self.as_bytes()[..usize::from(self.len())];
         checksum::packet(*src_addr, *dst_addr, IpProtocol::Udp, packet) == 0xffff
     }
+
+    /// Returns `true` if the checksum is correct, or if it is 0 and the addresses are IPv4. Over IPv6
+    /// the sender must compute a checksum (RFC 8200, section 8.1).
+    #[inline(always)]
+    pub fn has_valid_checksum(&self, src_addr: &IpAddress, dst_addr: &IpAddress) -> bool
+        requires header { 8 ≤ length (B.octets (packet_slice self.now)) }
+        requires whole { packet_len (B.octets (packet_slice self.now)) ≤ length (B.octets (packet_slice self.now)) }
+        requires family { version_of src_addr.now ≡ version_of dst_addr.now }
+        ensures holds { IsTrue result ↔ HasChecksum src_addr.now dst_addr.now (B.octets (packet_slice self.now)) }
+        ensures value { result ≡ has_checksum src_addr.now dst_addr.now (B.octets (packet_slice self.now)) }
+    {
+        if self.checksum() == 0 {
+            matches!(src_addr, IpAddress::Ipv4(_))
+        } else {
+            self.verify_checksum(src_addr, dst_addr)
+        }
+    }
 }
 
 impl<'a> UdpPacket<'a> {
-    /// The view of bytes that `check_len` takes.
+    /// A view of bytes that `check_len` accepts, else an error.
     pub fn new_checked(buffer: &'a [u8]) -> Result<UdpPacket<'a>>
         ensures ok { IsOk result ↔ HasLengths buffer.now }
         ensures bytes { IfOk result (λ packet. packet_bytes packet ≡ buffer.now) }
@@ -144,7 +161,7 @@ impl<'a> UdpPacket<'a> {
         Ok(packet)
     }
 
-    /// What follows the header, up to the packet's length: what stands behind it is padding.
+    /// The payload: the bytes behind the header, up to the length field. Later bytes are padding.
     pub fn payload(&self) -> &'a [u8]
         requires { HasLengths (packet_bytes self.now) }
         ensures { result.now ≡ payload_of (packet_bytes self.now) }
@@ -159,7 +176,7 @@ impl<B: Octets> fmt::Debug for UdpView<B> {
     }
 }
 
-/// The ports and the length of the payload, or the error where `check_len` refuses the bytes.
+/// Prints the ports and the payload length, or an error if `check_len` rejects the bytes.
 impl fmt::Display for UdpPacket<'_> {
     ghost output = { λ packet. Some (packet_text (packet_bytes packet)) };
 

@@ -1,4 +1,4 @@
-//! What a view of a UDP packet writes.
+//! Setters of UDP packets.
 
 ghost use Rattle.std.specs.Prelude.{◌≡◌, ◌↔◌, ◌≤◌, ◌+◌, IfOk, IsOk, length};
 ghost use Rattle.std.specs.Borrow.{sem};
@@ -14,10 +14,11 @@ use byteorder::{ByteOrder, NetworkEndian};
 use net_base::{Error, Result};
 use wire_checksum::checksum;
 use wire_ends::{IpAddress, IpProtocol};
-use wire_field::{Checked, Located};
+use wire_field::{Checked, Located, write_at};
 
 impl<'a> UdpPacketMut<'a> {
-    /// The view of bytes that `check_len` takes. An error leaves them as they are.
+    /// A mutable view of bytes that `check_len` accepts, else an error. Rejected bytes are
+    /// unchanged.
     pub fn new_checked(buffer: &'a mut [u8]) -> Result<UdpPacketMut<'a>>
         ensures* refused { sem 𝓛 (StaysIfErr buffer.entry packet_slice result) }
         ensures ok { IsOk result ↔ HasLengths buffer.old }
@@ -33,8 +34,8 @@ impl<'a> UdpPacketMut<'a> {
         }
     }
 
-    /// What follows the header, up to the packet's length, to write to. What is left in it stands in
-    /// the packet afterwards, and all other bytes stay.
+    /// The payload, to be written in place. Bytes written to it land in the packet; all other bytes
+    /// stay.
     pub fn payload_mut(&mut self) -> &mut [u8]
         requires { HasLengths (packet_bytes_mut self.old) }
         ensures* writes_back { sem 𝓛 (LendsPayload self.entry result) }
@@ -43,7 +44,7 @@ impl<'a> UdpPacketMut<'a> {
         locate_payload(self.buffer).lend()
     }
 
-    /// Writes the port of the sender, or 0 where it has none.
+    /// Writes the source port, or 0 if the sender has none.
     pub fn set_src_port(&mut self, value: u16)
         requires { 2 ≤ length (packet_bytes_mut self.old) }
         ensures { Becomes self.old self.new (with_field (packet_bytes_mut self.old) 0 16 value) }
@@ -51,7 +52,7 @@ impl<'a> UdpPacketMut<'a> {
         NetworkEndian::write_u16(&mut self.buffer[0..2], value);
     }
 
-    /// Writes the port of the receiver.
+    /// Writes the destination port.
     pub fn set_dst_port(&mut self, value: u16)
         requires { 4 ≤ length (packet_bytes_mut self.old) }
         ensures { Becomes self.old self.new (with_field (packet_bytes_mut self.old) 16 16 value) }
@@ -59,7 +60,7 @@ impl<'a> UdpPacketMut<'a> {
         NetworkEndian::write_u16(&mut self.buffer[2..4], value);
     }
 
-    /// Writes the length of the packet in octets, its header included.
+    /// Writes the length field: the length of header and payload in octets.
     pub fn set_len(&mut self, value: u16)
         requires { 6 ≤ length (packet_bytes_mut self.old) }
         ensures { Becomes self.old self.new (with_field (packet_bytes_mut self.old) 32 16 value) }
@@ -67,7 +68,7 @@ impl<'a> UdpPacketMut<'a> {
         NetworkEndian::write_u16(&mut self.buffer[4..6], value);
     }
 
-    /// Writes the field of the checksum.
+    /// Writes the checksum field.
     pub fn set_checksum(&mut self, value: u16)
         requires { 8 ≤ length (packet_bytes_mut self.old) }
         ensures { Becomes self.old self.new (with_field (packet_bytes_mut self.old) 48 16 value) }
@@ -75,20 +76,16 @@ impl<'a> UdpPacketMut<'a> {
         NetworkEndian::write_u16(&mut self.buffer[6..8], value);
     }
 
-    // Writes the bytes that follow the header. A copy of none is not worth a call.
+    // Writes the bytes behind the header.
     pub(super) fn set_payload(&mut self, payload: &[u8])
         requires { 8 + length payload.now ≤ length (packet_bytes_mut self.old) }
         ensures { Becomes self.old self.new (with_range (packet_bytes_mut self.old) 8 (8 + length payload.now) payload.now) }
     {
-        if payload.is_empty() {
-            return;
-        }
-        let end = UDP_HEADER_LEN + payload.len();
-        self.buffer[UDP_HEADER_LEN..end].copy_from_slice(payload);
+        write_at(self.buffer, UDP_HEADER_LEN, payload);
     }
 
-    /// Writes the checksum of the packet as it stands: the complement of the sum of its other words and
-    /// its pseudo header. Where that is 0 it writes 0xffff, since 0 says that there is no checksum.
+    /// Computes the checksum of the packet and its pseudo-header, and writes it. A checksum of 0 is
+    /// written as 0xffff, because 0 means that there is none (RFC 768).
     pub fn fill_checksum(&mut self, src_addr: &IpAddress, dst_addr: &IpAddress)
         requires header { 8 ≤ length (packet_bytes_mut self.old) }
         requires whole { packet_len (packet_bytes_mut self.old) ≤ length (packet_bytes_mut self.old) }
@@ -103,7 +100,7 @@ impl<'a> UdpPacketMut<'a> {
     }
 }
 
-// Whether the bytes hold a whole header, and as many bytes as it speaks of.
+// The slice, and whether `check_len` accepts it.
 fn check(bytes: &mut [u8]) -> Checked<'_>
     ensures { Checks bytes.entry (HasLengths bytes.old) result }
 {
@@ -111,7 +108,7 @@ fn check(bytes: &mut [u8]) -> Checked<'_>
     Checked { bytes, ok }
 }
 
-// Where the payload stands in the bytes of a packet.
+// The slice, and the range of the payload in it.
 fn locate_payload(bytes: &mut [u8]) -> Located<'_>
     requires { HasLengths bytes.old }
     ensures { Locates bytes.entry 8 (packet_len bytes.old) result }

@@ -1,30 +1,30 @@
 //! The values of a UDP header.
 
-ghost use Rattle.std.specs.Prelude.{◌≡◌, ◌↔◌, ◌≤◌, ◌+◌, ◌++◌, IsTrue, Ok, OnOk, Some, drop, length};
+ghost use Rattle.std.specs.Prelude.{◌≡◌, ◌↔◌, ◌≤◌, ◌+◌, ◌++◌, Ok, OnOk, Some, drop, length};
 ghost use Rattle.std.specs.Result.{result_ok};
 ghost use Rattle.net_base.specs.Checksum.{computes, verifies};
 ghost use Rattle.wire_ends.specs.IpAddress.{version_of};
-ghost use Rattle.wire_udp.specs.Udp.{Becomes, HasChecksum, HasLengths, Reads, bytes_of, checksum_for, header_bytes, max_payload_len, packet_bytes, packet_bytes_mut, packet_sum, packet_with, payload_of, udp_of};
+ghost use Rattle.wire_udp.specs.Udp.{Becomes, HasLengths, Reads, bytes_of, checksum_for, header_bytes, max_payload_len, packet_bytes, packet_bytes_mut, packet_sum, packet_with, payload_of, udp_of};
 ghost use Rattle.wire_udp.specs.UdpText.{value_text};
 ghost use Rattle.wire_udp.specs.declared.udp.repr.UdpRepr.{UdpRepr};
 
 use super::{UDP_HEADER_LEN, UdpPacket, UdpPacketMut, checksum_for};
 use net_base::{ChecksumCapabilities, Error, Result};
 use std::fmt;
-use wire_checksum::parts;
+use wire_checksum::for_emit;
 use wire_ends::{IpAddress, IpProtocol};
 
-/// The values of a packet's header that are more than its layout.
+/// The ports of a UDP header. Its length and its checksum follow from the payload.
 #[derive(Debug, Clone, Copy, PartialEq, Eq)]
 pub struct UdpRepr {
-    /// 0 where the sender has none.
+    /// 0 if the sender has none.
     pub src_port: u16,
     pub dst_port: u16,
 }
 
 impl UdpRepr {
-    /// The values of the header of a packet between two addresses of one version. A destination port
-    /// of 0 is refused. The checksum is verified where `caps` says so: over IPv4 it may be left out.
+    /// Parses a header. Rejects what `check_len` rejects, a destination port of 0, and a wrong
+    /// checksum if `caps` asks to verify it. A checksum of 0 is valid over IPv4 only.
     #[inline(always)]
     pub fn parse(
         packet: &UdpPacket<'_>,
@@ -42,7 +42,7 @@ impl UdpRepr {
         if packet.dst_port() == 0 {
             return Err(Error);
         }
-        if caps.udp.rx() && !has_checksum(packet, src_addr, dst_addr) {
+        if caps.udp.rx() && !packet.has_valid_checksum(src_addr, dst_addr) {
             return Err(Error);
         }
         Ok(UdpRepr {
@@ -51,15 +51,15 @@ impl UdpRepr {
         })
     }
 
-    /// The length of the header that `emit` writes, in octets.
+    /// The length of the emitted header in octets.
     pub fn header_len(&self) -> usize
         ensures { result ≡ UDP_HEADER_LEN }
     {
         UDP_HEADER_LEN
     }
 
-    /// Writes the header for a payload of this length, in octets, without a checksum, and leaves what
-    /// follows it.
+    /// Writes the header for a payload of `payload_len` octets, with 0 as checksum. All bytes
+    /// behind the header stay.
     pub fn emit_header(&self, packet: &mut UdpPacketMut<'_>, payload_len: usize)
         requires room { UDP_HEADER_LEN ≤ length (packet_bytes_mut packet.old) }
         requires payload_len { payload_len ≤ max_payload_len }
@@ -68,8 +68,8 @@ impl UdpRepr {
         self.emit_fields(packet, payload_len, 0);
     }
 
-    /// Writes the header and the payload of a packet between two addresses of one version, and leaves
-    /// what follows them. The checksum is computed where `caps` says so, else 0.
+    /// Writes the header and the payload. All bytes behind them stay. The checksum is computed if
+    /// `caps` asks for it, else it is 0.
     #[inline(always)]
     pub fn emit(
         &self,
@@ -94,7 +94,7 @@ impl UdpRepr {
         packet.set_payload(payload);
     }
 
-    // Writes every field of the header.
+    // Writes all fields of the header.
     fn emit_fields(&self, packet: &mut UdpPacketMut<'_>, payload_len: usize, checksum: u16)
         requires room { UDP_HEADER_LEN ≤ length (packet_bytes_mut packet.old) }
         requires payload_len { payload_len ≤ max_payload_len }
@@ -106,8 +106,8 @@ impl UdpRepr {
         packet.set_checksum(checksum);
     }
 
-    // The checksum of the packet with this payload. It is computed from the values, since bytes that
-    // were just written are slow to read again.
+    // The checksum of the packet with this payload, computed from the values. Bytes that were just
+    // written are slow to read again.
     #[inline(always)]
     fn checksum(&self, src_addr: IpAddress, dst_addr: IpAddress, payload: &[u8]) -> u16
         requires payload_len { length payload.now ≤ max_payload_len }
@@ -118,21 +118,7 @@ impl UdpRepr {
         let [c, d] = self.dst_port.to_be_bytes();
         let [e, f] = ((UDP_HEADER_LEN + payload.len()) as u16).to_be_bytes();
         let header = [a, b, c, d, e, f, 0, 0];
-        checksum_for(parts::packet(src_addr, dst_addr, IpProtocol::Udp, &header, payload))
-    }
-}
-
-// Whether the checksum was computed and holds, or was left out, as over IPv4 it may be.
-#[inline(always)]
-fn has_checksum(packet: &UdpPacket<'_>, src_addr: &IpAddress, dst_addr: &IpAddress) -> bool
-    requires lengths { HasLengths (packet_bytes packet.now) }
-    requires family { version_of src_addr.now ≡ version_of dst_addr.now }
-    ensures { IsTrue result ↔ HasChecksum src_addr.now dst_addr.now (packet_bytes packet.now) }
-{
-    if packet.checksum() == 0 {
-        matches!(src_addr, IpAddress::Ipv4(_))
-    } else {
-        packet.verify_checksum(src_addr, dst_addr)
+        checksum_for(for_emit::packet(src_addr, dst_addr, IpProtocol::Udp, &header, payload))
     }
 }
 

@@ -23,7 +23,7 @@ halves v hs long cut =
     let whole : sum (words (take 64 v)) ≡ sum (words v) = ap (λ l. sum (words l)) (take_all 64 v (omega (arith, long))) in
     omega (arith, at0, at1, none, one, two, whole)
 
--- two numbers, the carry of the first handed on to the second
+-- two sums, where the carry of the first goes into the second
 both : (a b k a' x b' y s t w : ℕ) → residue (256 * (a' + x)) ≡ residue (256 * (a + 0) + s) → residue (256 * (b' + y)) ≡ residue (256 * (b + x) + t) → s + t ≡ w
     → residue (256 * (a' + b' + (k + y))) ≡ residue (256 * (a + b + k) + w)
 both a b k a' x b' y s t w p q e =

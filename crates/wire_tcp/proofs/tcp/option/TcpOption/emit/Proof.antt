@@ -44,8 +44,8 @@ use Rattle.wire_field.proofs.lend.Located.lend.Met as lend_met
 use Rattle.wire_tcp.specs.TcpLoan.{LocatesRest}
 use Rattle.wire_tcp.specs.TcpOption.{IsEmittable, option_len, option_text, rest_after}
 use Rattle.wire_tcp.specs.contracts.tcp.option.TcpOption as O
-use Rattle.wire_tcp.specs.contracts.tcp.option.locate_rest as locate
-use Rattle.wire_tcp.proofs.tcp.option.locate_rest.Met as locate_met
+use Rattle.wire_tcp.specs.contracts.tcp.option.write_and_locate_rest as locate
+use Rattle.wire_tcp.proofs.tcp.option.write_and_locate_rest.Met as locate_met
 use Rattle.wire_tcp.specs.contracts.tcp.option.TcpOption.emit as f
 use Rattle.wire_tcp.proofs.tcp.option.TcpOption.emit.Statement.{statement}
 use Rattle.wire_tcp.proofs.tcp.option.TcpOption.emit.Code as code
@@ -98,7 +98,7 @@ emit_spec 𝓤 𝓛 𝓜 𝓡 wired =
     use0 𝓛 (raw (fact 𝓤 (IsEmittable a.0.now))) (fact_i 𝓤 (IsEmittable a.0.now) (emp 𝓤) fits) $
     use0 𝓛 (raw (fact 𝓤 (option_len a.0.now ≤ length buffer.now))) (fact_i 𝓤 (option_len a.0.now ≤ length buffer.now) (emp 𝓤) enough) $
     join ! $ move ! (1 ∷ 0 ∷ []) $ use2 𝓛 (raw (G.pre z)) (id⊢ 𝓤 _) $
-    calls_at ! (framed 𝓤 𝓛.H 𝓜 𝓣) G (locate_met.met 𝓤 𝓛 𝓜 𝓡 (code.calls-wire_tcp::tcp::option::locate_rest 𝓡.env wired)) z (and_then ! (get ! refl) (and_then ! (get ! refl) (no_more !))) (λ v.
+    calls_at ! (framed 𝓤 𝓛.H 𝓜 𝓣) G (locate_met.met 𝓤 𝓛 𝓜 𝓡 (code.calls-wire_tcp::tcp::option::write_and_locate_rest 𝓡.env wired)) z (and_then ! (get ! refl) (and_then ! (get ! refl) (no_more !))) (λ v.
     use1 𝓛 (later (some (λ (t : Located). ((‵ (flft κ₂ q₂) ⊛ (‵ (flft κ₀ q₀) ⊛ (‵ (flft κ₁ q₁) ⊛ ‵ ftrue))) ⊛ ‵ ((L.the_row (named_lft 3 0 tt κs')).own_val t (v ∷ []))) ⊛
     some (λ (ws : Lasts locate.ended κs' z.0.3). ‵ (lasts locate.ended κs' z.0.3 ws) ⊛ raw (fact 𝓤 (LocatesRest buffer front behind t)))))) (id⊢ 𝓤 _) $
     await ! tt $ pick ! (λ t. split ! $ split ! $ split ! $ move ! (1 ∷ []) $ split ! $ move ! (1 ∷ []) $ split ! $

@@ -11,8 +11,8 @@ pub returns-then-dst_port-eq0-clause-value : goal.returns-then-dst_port-eq0-clau
 returns-then-dst_port-eq0-clause-value c =
     answer-udp_of c.args.src_addr.now c.args.dst_addr.now (verifies c.args.caps.now.udp) c.args.packet.now.buffer.now (Err (record {})) (search rules)
 
-pub returns-then-not-has_checksum-clause-value : goal.returns-then-not-has_checksum-clause-value
-returns-then-not-has_checksum-clause-value c =
+pub returns-then-not-has_valid_checksum-clause-value : goal.returns-then-not-has_valid_checksum-clause-value
+returns-then-not-has_valid_checksum-clause-value c =
     answer-udp_of c.args.src_addr.now c.args.dst_addr.now (verifies c.args.caps.now.udp) c.args.packet.now.buffer.now (Err (record {})) (search rules)
 
 pub returns-clause-value : goal.returns-clause-value

@@ -4,7 +4,7 @@ use Rattle.wire_checksum.specs.PseudoHeader.{pseudo_header_bytes}
 use Rattle.wire_checksum.specs.WordSum.{residue, sum_of_bytes}
 use Rattle.wire_checksum.proofs.Fours.{and_more}
 use Rattle.wire_checksum.proofs.Joined.{total-joins, total-with_pseudo_header}
-use Rattle.wire_checksum.proofs.parts.packet.Goals as goal
+use Rattle.wire_checksum.proofs.for_emit.packet.Goals as goal
 
 pub returns : goal.returns
 returns c =

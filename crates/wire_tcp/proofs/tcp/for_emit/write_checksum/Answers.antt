@@ -1,7 +1,7 @@
 use Rattle.std.proofs.Common.{◌≡◌, ◌-◌, ◌++◌, ◌∙◌, drop, sym, ap, rules}
 use Rattle.wire_field.specs.Field.{with_field}
 use Rattle.wire_tcp.specs.Tcp.{packet_bytes_mut, segment_sum}
-use Rattle.wire_tcp.proofs.tcp.parts.write_checksum.Goals as goal
+use Rattle.wire_tcp.proofs.tcp.for_emit.write_checksum.Goals as goal
 
 pub returns : goal.returns
 returns c =

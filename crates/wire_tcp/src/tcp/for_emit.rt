@@ -1,4 +1,4 @@
-//! What the emission of a value is made of.
+//! The steps of `TcpRepr::emit`, which is in another crate.
 
 ghost use Rattle.std.specs.Prelude.{◌≡◌, ◌+◌, ◌-◌, ◌≤◌, ◌++◌, drop, length, replicate};
 ghost use Rattle.byteorder.specs.Endian.{big_bytes};
@@ -12,9 +12,10 @@ pub use super::option::count_ranges;
 use super::{TCP_HEADER_LEN, TcpOption, TcpPacketMut};
 use byteorder::{ByteOrder, NetworkEndian};
 use wire_ends::{IpAddress, IpProtocol};
+use wire_field::write_at;
 
-/// A header up to its options: the ports, the two numbers, the word that holds the header's length and
-/// the flags, the window, and 0 for the checksum and the urgent pointer.
+/// The first 20 octets of a header, with 0 as checksum and urgent pointer. `offset_and_flags` is
+/// the word that holds the data offset and the flags.
 #[inline(always)]
 pub fn fixed(
     src_port: u16,
@@ -33,8 +34,8 @@ pub fn fixed(
     bytes
 }
 
-/// Writes the checksum of all bytes, which begin with these and have no checksum yet. These are not
-/// read from the segment: bytes that were just written are slow to read again.
+/// Writes the checksum of a segment that begins with `fixed` and has no checksum yet. Those 20
+/// octets are not read from the segment: bytes that were just written are slow to read again.
 #[inline(always)]
 pub fn write_checksum(
     packet: &mut TcpPacketMut<'_>,
@@ -49,11 +50,11 @@ pub fn write_checksum(
         Becomes packet.old packet.new (with_field bytes 128 16 (65535 - segment_sum src_addr.now dst_addr.now bytes)) }
 {
     let (_, rest) = packet.as_bytes().split_at(TCP_HEADER_LEN);
-    let sum = wire_checksum::parts::packet(*src_addr, *dst_addr, IpProtocol::Tcp, fixed, rest);
+    let sum = wire_checksum::for_emit::packet(*src_addr, *dst_addr, IpProtocol::Tcp, fixed, rest);
     packet.set_checksum(!sum);
 }
 
-// Two numbers of 16 bits in one of 32.
+// Joins two 16-bit numbers to one of 32 bits.
 #[tactic(auto, using(crate::proofs::Pairs::joined))]
 fn join(high: u16, low: u16) -> u32
     ensures { big_bytes 4 result ≡ big_bytes 2 high ++ big_bytes 2 low }
@@ -61,7 +62,7 @@ fn join(high: u16, low: u16) -> u32
     (u32::from(high) << 16) + u32::from(low)
 }
 
-// Writes two numbers at once.
+// Writes two 32-bit numbers by one store.
 #[tactic(auto, using(crate::proofs::Pairs::paired))]
 fn write_pair(buffer: &mut [u8], high: u32, low: u32)
     requires { length buffer.old ≡ 8 }
@@ -70,7 +71,7 @@ fn write_pair(buffer: &mut [u8], high: u32, low: u32)
     NetworkEndian::write_u64(buffer, (u64::from(high) << 32) + u64::from(low));
 }
 
-/// Writes an option at a place, and answers the place behind it.
+/// Writes an option at byte `at`, and returns where it ends.
 #[inline(always)]
 pub fn write_option(packet: &mut TcpPacketMut<'_>, at: usize, option: &TcpOption<'_>) -> usize
     requires room { at + option_len option.now ≤ length (packet_bytes_mut packet.old) }
@@ -83,7 +84,7 @@ pub fn write_option(packet: &mut TcpPacketMut<'_>, at: usize, option: &TcpOption
     end
 }
 
-/// Writes zeros over the bytes from one place up to another.
+/// Writes zeros to the bytes from `start` up to `end`.
 pub fn write_zeros(packet: &mut TcpPacketMut<'_>, start: usize, end: usize)
     requires begins { start ≤ end }
     requires ends { end ≤ length (packet_bytes_mut packet.old) }
@@ -92,14 +93,10 @@ pub fn write_zeros(packet: &mut TcpPacketMut<'_>, start: usize, end: usize)
     packet.buffer[start..end].fill(0);
 }
 
-/// Writes bytes at a place. A copy of none is not worth a call.
+/// Copies the bytes to the segment, from byte `start` on.
 pub fn write_bytes(packet: &mut TcpPacketMut<'_>, start: usize, bytes: &[u8])
     requires { start + length bytes.now ≤ length (packet_bytes_mut packet.old) }
     ensures { Becomes packet.old packet.new (with_range (packet_bytes_mut packet.old) start (start + length bytes.now) bytes.now) }
 {
-    if bytes.is_empty() {
-        return;
-    }
-    let end = start + bytes.len();
-    packet.buffer[start..end].copy_from_slice(bytes);
+    write_at(packet.buffer, start, bytes);
 }

@@ -1,5 +1,5 @@
-//! Sums of what is going to be written, in parts that need not lie in one slice. They are computed of
-//! values, since bytes that were just written are slow to read again.
+//! Sums for `emit`, computed from values before they are written. Bytes that were just written are
+//! slow to read again.
 
 ghost use Rattle.std.specs.Prelude.{◌≡◌, ◌%◌, ◌≤◌, ◌++◌, length};
 ghost use Rattle.wire_ends.specs.IpAddress.{version_of};
@@ -10,7 +10,8 @@ use crate::checksum::pseudo_header_total;
 use crate::totals::{around, finish, total, total_of_words};
 use wire_ends::{IpAddress, IpProtocol};
 
-/// The sum, as of `checksum::data`, of a header of 20 octets, such as one of IPv4 without options.
+/// The sum of a header of 20 octets, such as an IPv4 header without options. It equals
+/// `checksum::data`.
 #[inline(always)]
 pub fn header(bytes: &[u8; 20]) -> u16
     ensures { result ≡ sum_of_bytes bytes.now }
@@ -18,8 +19,8 @@ pub fn header(bytes: &[u8; 20]) -> u16
     finish(total_of_words(bytes))
 }
 
-/// The sum, as of `checksum::packet`, of a packet in two parts: whole words of four octets, 60 octets
-/// at most, and the rest.
+/// The sum of a pseudo-header and a packet in two slices. It equals `checksum::packet` of both
+/// slices joined. The first slice has at most 60 octets, in whole words of 4.
 #[inline(always)]
 pub fn packet(
     src_addr: IpAddress,
