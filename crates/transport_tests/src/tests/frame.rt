@@ -264,6 +264,12 @@ fn is_built_segment(header: IpRepr, segment: TcpRepr<'_>, bytes: &[u8]) -> bool 
     }
 }
 
+/// Emits a frame with the ARP packet.
+fn emit_request(buffer: &mut [u8]) -> Option<usize> {
+    let frame = Frame::arp(FRAME_SRC, FRAME_DST, request());
+    frame.try_emit(buffer, &ChecksumCapabilities::default())
+}
+
 #[test]
 fn puts_layers_together(rt: HostRuntime) {
     let (v4, v6) = (
@@ -273,10 +279,8 @@ fn puts_layers_together(rt: HostRuntime) {
     assert!(rt; is_built(v4, PORTS, &UDP[42..], &UDP));
     assert!(rt; is_built(v6, PORTS_OVER_IPV6, &UDP_OVER_IPV6[62..], &UDP_OVER_IPV6));
     assert!(rt; is_built_segment(v4, SEGMENT, &SYN));
-    let frame = Frame::arp(FRAME_SRC, FRAME_DST, request());
     let mut buffer = [0xa5; 80];
-    let len = frame.try_emit(&mut buffer, &ChecksumCapabilities::default());
-    assert_eq!(rt; len, Some(42));
+    assert_eq!(rt; emit_request(&mut buffer), Some(42));
     assert!(rt; is_written(&buffer, &ARP));
 }
 
@@ -310,6 +314,18 @@ fn holds_tcp(src_port: u16, dst_port: u16, len: usize) -> bool {
     }
 }
 
+/// Whether a frame over IPv4 can hold a payload of this protocol.
+fn holds_other(protocol: IpProtocol, payload: &[u8]) -> bool {
+    let header = ipv4(protocol, 0);
+    Frame::packet(FRAME_SRC, FRAME_DST, header, Transport::Other(payload)).is_ok()
+}
+
+/// Whether a frame over IPv4 can hold a payload that was not parsed.
+fn holds_unread(payload: &[u8]) -> bool {
+    let header = ipv4(IpProtocol::Udp, 0);
+    Frame::packet(FRAME_SRC, FRAME_DST, header, Transport::Unread(payload)).is_ok()
+}
+
 #[test]
 fn rejects_what_a_frame_cannot_hold(rt: HostRuntime) {
     let (v4, v6) = (ipv4(IpProtocol::Udp, 0), ipv6(IpProtocol::Udp, 0));
@@ -334,24 +350,33 @@ fn rejects_what_a_frame_cannot_hold(rt: HostRuntime) {
             "{src_port} {dst_port} {len}"
         );
     }
-    let other = Transport::Other(&UDP[42..]);
-    assert!(rt; Frame::packet(FRAME_SRC, FRAME_DST, v4, other).is_err());
-    let other = Transport::Other(&UDP[42..]);
-    assert!(rt; Frame::packet(FRAME_SRC, FRAME_DST, ipv4(IpProtocol::Icmp, 0), other).is_ok());
-    let unread = Transport::Unread(&UDP[42..]);
-    assert!(rt; Frame::packet(FRAME_SRC, FRAME_DST, v4, unread).is_err());
+    assert!(rt; !holds_other(IpProtocol::Udp, &UDP[42..]));
+    assert!(rt; holds_other(IpProtocol::Icmp, &UDP[42..]));
+    assert!(rt; !holds_unread(&UDP[42..]));
+}
+
+/// Emits the frame where its buffer is long enough, and returns its length.
+fn emit_whole(bytes: &[u8], buffer: &mut [u8]) -> usize {
+    let caps = ChecksumCapabilities::default();
+    match Frame::parse(bytes, &caps) {
+        Ok(frame) => {
+            let len = frame.buffer_len();
+            if len <= buffer.len() {
+                frame.emit(buffer, &caps);
+            }
+            len
+        }
+        Err(_) => 0,
+    }
 }
 
 #[test]
 fn emits_nothing_where_there_is_no_room(rt: HostRuntime) {
-    let caps = ChecksumCapabilities::default();
-    let frame = Frame::arp(FRAME_SRC, FRAME_DST, request());
-    assert_eq!(rt; frame.buffer_len(), 42);
     let mut buffer = [0xa5; 80];
     for room in [0, 13, 14, 41] {
-        assert_eq!(rt; frame.try_emit(&mut buffer[..room], &caps), None, "{room}");
+        assert_eq!(rt; emit_request(&mut buffer[..room]), None, "{room}");
     }
     assert!(rt; is_written(&buffer, &[]));
-    frame.emit(&mut buffer, &caps);
-    assert!(rt; is_written(&buffer, &ARP));
+    assert_eq!(rt; emit_whole(&UDP, &mut buffer), 46);
+    assert!(rt; is_written(&buffer, &UDP));
 }
