@@ -1,1 +1,4 @@
 mod Filled
+mod StoredFrame
+mod StoredHeaders
+mod StoredParts

@@ -29,6 +29,7 @@ use Rattle.ip_wire.specs.declared.IpRepr.{IpRepr}
 use Rattle.ip_wire.specs.declared.IpRepr.TheVariants.{Ipv4, Ipv6}
 use Rattle.ip_wire.specs.declared.Ipv4Repr.{Ipv4Repr}
 use Rattle.ip_wire.specs.declared.Ipv6Repr.{Ipv6Repr}
+use Rattle.ip_wire.specs.declared.UdpRepr.{UdpRepr}
 use Rattle.ip_wire_c.specs.declared.frame_fields.FrameFields.{FrameFields}
 
 -- a flag
@@ -73,20 +74,23 @@ abbrev pub refused : FrameFields → FrameFields
 refused f = record f { status = 0 }
 
 -- the fields with those of a UDP packet between two addresses; its checksum also holds where it is left out, as over IPv4 it may be
-abbrev pub with_udp : FrameFields → IpAddress → IpAddress → List ℕ → FrameFields
-with_udp f src dst bytes =
-    option_map_or (λ v. let next = behind f 8 (length (udp.payload_of bytes)) in record next {
+abbrev pub with_datagram : FrameFields → IpAddress → IpAddress → List ℕ → UdpRepr → FrameFields
+with_datagram f src dst bytes v =
+    let next = behind f 8 (length (udp.payload_of bytes)) in record next {
       transport = 1;
       src_port = v.src_port;
       dst_port = v.dst_port;
       transport_checksum_holds = flag (udp.has_checksum src dst bytes);
-    })
-    (udp_of src dst false bytes) (refused f)
+    }
+
+-- the same, if it is read
+abbrev pub with_udp : FrameFields → IpAddress → IpAddress → List ℕ → FrameFields
+with_udp f src dst bytes = option_map_or (with_datagram f src dst bytes) (udp_of src dst false bytes) (refused f)
 
 -- the fields with those of a TCP segment between two addresses
-abbrev pub with_tcp : FrameFields → IpAddress → IpAddress → List ℕ → FrameFields
-with_tcp f src dst bytes =
-    option_map_or (λ v. let next = behind f (tcp.header_len bytes) (length (tcp.payload_of bytes)) in record next {
+abbrev pub with_segment : FrameFields → IpAddress → IpAddress → List ℕ → FrameFields
+with_segment f src dst bytes =
+    let next = behind f (tcp.header_len bytes) (length (tcp.payload_of bytes)) in record next {
       transport = 2;
       src_port = field bytes 0 16;
       dst_port = field bytes 16 16;
@@ -95,18 +99,21 @@ with_tcp f src dst bytes =
       window_len = field bytes 112 16;
       tcp_flags = field bytes 104 8;
       transport_checksum_holds = flag (tcp.segment_sum src dst bytes == 65535);
-    })
-    (tcp_of src dst false bytes) (refused f)
+    }
+
+-- the same, if it is read
+abbrev pub with_tcp : FrameFields → IpAddress → IpAddress → List ℕ → FrameFields
+with_tcp f src dst bytes = option_map_or (λ v. with_segment f src dst bytes) (tcp_of src dst false bytes) (refused f)
 
 -- the fields with those of what a packet of this protocol carries between two addresses, if it is UDP or TCP
-abbrev pub with_between : FrameFields → IpProtocol → IpAddress → IpAddress → List ℕ → FrameFields
-with_between f protocol.Udp src dst bytes = with_udp f src dst bytes
-with_between f protocol.Tcp src dst bytes = with_tcp f src dst bytes
-with_between f _ src dst bytes = f
+abbrev pub with_transport_by : FrameFields → IpProtocol → IpAddress → IpAddress → List ℕ → FrameFields
+with_transport_by f protocol.Udp src dst bytes = with_udp f src dst bytes
+with_transport_by f protocol.Tcp src dst bytes = with_tcp f src dst bytes
+with_transport_by f _ src dst bytes = f
 
 -- the fields with those of what a packet with this header carries
 abbrev pub with_payload : FrameFields → IpRepr → List ℕ → FrameFields
-with_payload f v bytes = with_between f (next_header_of v) (src_addr_of v) (dst_addr_of v) bytes
+with_payload f v bytes = with_transport_by f (next_header_of v) (src_addr_of v) (dst_addr_of v) bytes
 
 -- the fields with those of an ARP packet of Ethernet and IPv4, behind which there is nothing but padding
 abbrev pub with_message : FrameFields → List ℕ → FrameFields
@@ -165,15 +172,18 @@ with_carried f ethertype.Ipv4 bytes = with_ipv4 f bytes
 with_carried f ethertype.Ipv6 bytes = with_ipv6 f bytes
 with_carried f (ethertype.Unknown n) bytes = f
 
--- the fields with those of an Ethernet header, and of what follows it
-abbrev pub with_frame : FrameFields → EthernetRepr → List ℕ → FrameFields
-with_frame f v bytes =
-    let next = behind f 14 (length bytes) in
-    with_carried (record next {
+-- the fields with those of an Ethernet header, and its payload
+abbrev pub with_link : FrameFields → EthernetRepr → List ℕ → FrameFields
+with_link f v bytes =
+    let next = behind f 14 (length bytes) in record next {
       src_ethernet = v.src_addr.0;
       dst_ethernet = v.dst_addr.0;
       ethertype = ethernet.number_of v.ethertype;
-    }) v.ethertype bytes
+    }
+
+-- the fields with those of an Ethernet header, and of what follows it
+abbrev pub with_frame : FrameFields → EthernetRepr → List ℕ → FrameFields
+with_frame f v bytes = with_carried (with_link f v bytes) v.ethertype bytes
 
 -- what is read of a frame, up to a header that is refused
 unfoldable pub fields_of : List ℕ → FrameFields

@@ -14,6 +14,7 @@ ghost use Rattle.ip_wire_c.specs.Calls.{all_or_none, arp_value, block_of, emitte
 
 mod arp;
 mod frame_fields;
+pub mod laws;
 mod payload;
 mod print;
 mod read;

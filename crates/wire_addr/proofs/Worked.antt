@@ -1,5 +1,5 @@
 -- The texts of addresses, their blocks and classes, computed on worked examples.
-use Rattle.std.proofs.Common.{◌≡◌, ℕ, List, [], ◌∷◌, codes, refl}
+use Rattle.std.proofs.Common.{◌≡◌, ℕ, List, [], ◌∷◌, codes, map, refl}
 use Rattle.std.specs.Fmt.{digits}
 use Rattle.std.specs.Prelude.{None, Some}
 use Rattle.std.specs.declared.cmp.Ordering.TheVariants.{Less, Greater}
@@ -99,8 +99,8 @@ link-longer_prefix = refl
 solicited-node : solicited_node (octets_of (0xfe80 ∷ 0 ∷ 0 ∷ 0 ∷ 0 ∷ 0 ∷ 0 ∷ 1 ∷ [])) ≡ octets_of (0xff02 ∷ 0 ∷ 0 ∷ 0 ∷ 0 ∷ 1 ∷ 0xff00 ∷ 1 ∷ [])
 solicited-node = refl
 
-scope-global : scope_of 14 ≡ scope.Global
-scope-global = refl
-
-scope-unnamed : scope_of 3 ≡ scope.Unknown
-scope-unnamed = refl
+-- the table of RFC 4291, section 2.7, from 0 to 15
+scopes : map scope_of (0 ∷ 1 ∷ 2 ∷ 3 ∷ 4 ∷ 5 ∷ 6 ∷ 7 ∷ 8 ∷ 9 ∷ 10 ∷ 11 ∷ 12 ∷ 13 ∷ 14 ∷ 15 ∷ [])
+    ≡ scope.Unknown ∷ scope.InterfaceLocal ∷ scope.LinkLocal ∷ scope.Unknown ∷ scope.AdminLocal ∷ scope.SiteLocal ∷ scope.Unknown ∷ scope.Unknown
+    ∷ scope.OrganizationLocal ∷ scope.Unknown ∷ scope.Unknown ∷ scope.Unknown ∷ scope.Unknown ∷ scope.Unknown ∷ scope.Global ∷ scope.Unknown ∷ []
+scopes = refl

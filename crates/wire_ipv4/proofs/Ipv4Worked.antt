@@ -63,3 +63,21 @@ fragment-flags = refl
 fragment-is : is_fragment fragment ≡ true
 unfolding fragment
 fragment-is = refl
+
+-- ---- each of the flags and the offset alone: the first fragment, the last one, and a packet that may not be cut
+
+with_fragment_word : ℕ → ℕ → List ℕ
+with_fragment_word high low =
+    0x45 ∷ 0x00 ∷ 0x00 ∷ 0x1e ∷ 0x01 ∷ 0x02 ∷ high ∷ low ∷ 0x1a ∷ 0x01 ∷ 0x00 ∷ 0x00 ∷ 0x11 ∷ 0x12 ∷ 0x13 ∷ 0x14 ∷ 0x21 ∷ 0x22 ∷ 0x23 ∷ 0x24 ∷ []
+
+first-is : is_fragment (with_fragment_word 0x20 0x00) ≡ true
+unfolding with_fragment_word
+first-is = refl
+
+last-is : is_fragment (with_fragment_word 0x00 0x01) ≡ true
+unfolding with_fragment_word
+last-is = refl
+
+whole-is_not : is_fragment (with_fragment_word 0x40 0x00) ≡ false
+unfolding with_fragment_word
+whole-is_not = refl

@@ -83,6 +83,14 @@ five-digits : (groups : List ℕ) → ¬ (IsIpv6Text (codes "12345::") groups)
 unfolding number_of octets_read mapped_read groups_from groups_read
 five-digits = no_groups (codes "12345::") refl
 
+five-digits_of_1 : (groups : List ℕ) → ¬ (IsIpv6Text (codes "00001::") groups)
+unfolding number_of octets_read mapped_read groups_from groups_read
+five-digits_of_1 = no_groups (codes "00001::") refl
+
+five-digits_of_ffff : (groups : List ℕ) → ¬ (IsIpv6Text (codes "::0ffff") groups)
+unfolding number_of octets_read mapped_read groups_from groups_read
+five-digits_of_ffff = no_groups (codes "::0ffff") refl
+
 no-text : (groups : List ℕ) → ¬ (IsIpv6Text (codes "") groups)
 unfolding number_of octets_read mapped_read groups_from groups_read
 no-text = no_groups (codes "") refl

@@ -44,7 +44,7 @@ choosing n sum four P is (inr (other, full)) =
     let none : (n == 0) ≡ false = grind (arith, nat_tests) in
     rw (none, full) refl
 
-has_checksum-HasChecksum : (src dst : IpAddress) (bytes : List ℕ) → (has_checksum src dst bytes ≡ true) ↔ HasChecksum src dst bytes
+pub has_checksum-HasChecksum : (src dst : IpAddress) (bytes : List ℕ) → (has_checksum src dst bytes ≡ true) ↔ HasChecksum src dst bytes
 has_checksum-HasChecksum src dst bytes = (
   chosen (field bytes 48 16) _ (is_ipv4 src) (version_of src ≡ version.Ipv4) (is_ipv4-version src),
   choosing (field bytes 48 16) _ (is_ipv4 src) (version_of src ≡ version.Ipv4) (version-is_ipv4 src),

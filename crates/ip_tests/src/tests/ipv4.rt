@@ -231,6 +231,26 @@ fn refuses_zeros(rt: HostRuntime) {
 }
 
 #[test]
+fn a_fragment_has_an_offset_or_more_behind_it(rt: HostRuntime) {
+    for (word, expected) in [
+        (0x0000u16, false),
+        (0x4000, false),
+        (0x8000, false),
+        (0x2000, true),
+        (0x0001, true),
+        (0x1fff, true),
+        (0x3fff, true),
+    ] {
+        let mut bytes = IPV4_PACKET;
+        let [high, low] = word.to_be_bytes();
+        bytes[6] = high;
+        bytes[7] = low;
+        let packet = Ipv4Packet::new_unchecked(&bytes);
+        assert_eq!(rt; (word, packet.is_fragment()), (word, expected));
+    }
+}
+
+#[test]
 fn keys_tell_packets_apart(rt: HostRuntime) {
     let key = Ipv4FragKey {
         id: 0x102,
