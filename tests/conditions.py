@@ -75,7 +75,7 @@ def in_the_sources(top):
             if not name.endswith("Mut"):
                 views[view] = views[name + "Mut"] = name
     for path, text in texts.items():
-        module = os.path.basename(path)[:-3]
+        module = "laws" if "/src/laws/" in path else os.path.basename(path)[:-3]
         for owner, name, head in functions(text):
             owner = views.get(owner, owner) or module
             if owner in names or owner == "laws":

@@ -9,12 +9,12 @@ ghost use Rattle.ip_wire.specs.declared.UdpRepr.{UdpRepr};
 use ip_wire::{Carried, Frame, IpRepr, Transport, UdpRepr};
 use net_base::ChecksumCapabilities;
 
-/// The IP header, the UDP header and the payload. None for a frame that holds no whole UDP packet, or a
-/// wrong checksum.
+/// The IP header, UDP header and payload. None unless the frame is a UDP packet with valid checksums.
 pub fn udp_packet(bytes: &[u8]) -> Option<(IpRepr, UdpRepr, &[u8])>
-    ensures some { IfSome result (λ (header, ports, payload). (link : EthernetRepr) × IsReadWhole bytes.now link (packet header (datagram ports payload.now))) }
-    ensures none { result ≡ None → (link : EthernetRepr) (header : IpRepr) (ports : UdpRepr) (payload : List ℕ)
-        → ¬ IsReadWhole bytes.now link (packet header (datagram ports payload)) }
+    ensures some { IfSome result (λ (header, ports, payload). (link : EthernetRepr)
+        × IsReadWhole bytes.now link (packet header (datagram ports payload.now))) }
+    ensures none { result ≡ None → (link : EthernetRepr) (header : IpRepr) (ports : UdpRepr)
+        (payload : List ℕ) → ¬ IsReadWhole bytes.now link (packet header (datagram ports payload)) }
 {
     match Frame::parse(bytes, &ChecksumCapabilities::default()) {
         Ok(frame) => match frame.carried {

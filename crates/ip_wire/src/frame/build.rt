@@ -64,7 +64,8 @@ impl<'a> Frame<'a> {
 
     /// A frame with an IP packet. The payload length of `header` is filled in, and for UDP and TCP the
     /// protocol; `Transport::Other` keeps the protocol of `header`. An error for what would not be parsed
-    /// again: `Unread`, an `Other` of protocol 6 or 17, a port 0, a payload that is too long.
+    /// again: `Unread`, an `Other` of protocol 6 or 17, a TCP port 0, a UDP destination port 0, a payload
+    /// or TCP options that are too long.
     pub fn packet(
         src_addr: EthernetAddress,
         dst_addr: EthernetAddress,

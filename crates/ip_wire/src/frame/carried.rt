@@ -112,7 +112,7 @@ impl<'a> Carried<'a> {
         }
     }
 
-    /// The number of bytes that `emit` writes.
+    /// The number of bytes that `try_emit` writes.
     #[inline(always)]
     pub fn buffer_len(&self) -> usize
         requires { carried_len self.now < 2 ^ 64 }

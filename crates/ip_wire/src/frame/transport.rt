@@ -95,7 +95,7 @@ impl<'a> Transport<'a> {
         }
     }
 
-    /// The number of bytes that `emit` writes.
+    /// The number of bytes that `try_emit` writes.
     #[inline(always)]
     pub fn buffer_len(&self) -> usize
         requires { transport_len self.now < 2 ^ 64 }
@@ -108,7 +108,7 @@ impl<'a> Transport<'a> {
         }
     }
 
-    /// Whether `emit` may be called: a UDP payload has at most 65,527 bytes, a TCP header at most 60.
+    /// Whether `try_emit` may be called: a UDP payload has at most 65,527 bytes, a TCP header at most 60.
     #[inline(always)]
     pub fn fits(&self) -> bool
         ensures { IsTrue result ↔ FitsTransport self.now }
