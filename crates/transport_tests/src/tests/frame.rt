@@ -264,28 +264,39 @@ fn is_built_segment(header: IpRepr, segment: TcpRepr<'_>, bytes: &[u8]) -> bool 
     }
 }
 
-/// Emits a frame with the ARP packet.
-fn emit_request(buffer: &mut [u8]) -> Option<usize> {
-    let frame = Frame::arp(FRAME_SRC, FRAME_DST, request());
-    frame.try_emit(buffer, &ChecksumCapabilities::default())
+/// Whether the frame parses as the ARP packet between the two stations.
+fn is_request(bytes: &[u8]) -> bool {
+    match Frame::parse(bytes, &ChecksumCapabilities::default()) {
+        Ok(frame) => frame == Frame::arp(FRAME_SRC, FRAME_DST, request()),
+        Err(_) => false,
+    }
+}
+
+/// Emits the frame that is read of the bytes.
+fn emit(bytes: &[u8], buffer: &mut [u8]) -> Option<usize> {
+    let caps = ChecksumCapabilities::default();
+    match Frame::read(bytes, &caps) {
+        Ok(frame) => frame.try_emit(buffer, &caps),
+        Err(_) => None,
+    }
 }
 
 #[test]
 fn puts_layers_together(rt: HostRuntime) {
-    let (v4, v6) = (
-        ipv4(IpProtocol::Unknown(99), 0),
-        ipv6(IpProtocol::Unknown(99), 0),
-    );
-    assert!(rt; is_built(v4, PORTS, &UDP[42..], &UDP));
-    assert!(rt; is_built(v6, PORTS_OVER_IPV6, &UDP_OVER_IPV6[62..], &UDP_OVER_IPV6));
-    assert!(rt; is_built_segment(v4, SEGMENT, &SYN));
-    let mut buffer = [0xa5; 80];
-    assert_eq!(rt; emit_request(&mut buffer), Some(42));
-    assert!(rt; is_written(&buffer, &ARP));
+    let other = IpProtocol::Unknown(99);
+    assert!(rt; is_built(ipv4(other, 0), PORTS, &UDP[42..], &UDP));
+    assert!(rt; is_built(ipv6(other, 0), PORTS_OVER_IPV6, &[0xff; 4], &UDP_OVER_IPV6));
+    assert!(rt; is_built_segment(ipv4(other, 0), SEGMENT, &SYN));
+    assert!(rt; is_request(&ARP));
 }
 
 /// Whether a frame can hold a UDP packet with a payload of this length.
-fn holds_udp(header: IpRepr, dst_port: u16, len: usize) -> bool {
+fn holds_udp(is_ipv4: bool, dst_port: u16, len: usize) -> bool {
+    let header = if is_ipv4 {
+        ipv4(IpProtocol::Udp, 0)
+    } else {
+        ipv6(IpProtocol::Udp, 0)
+    };
     let ports = UdpRepr {
         src_port: 1,
         dst_port,
@@ -328,15 +339,18 @@ fn holds_unread(payload: &[u8]) -> bool {
 
 #[test]
 fn rejects_what_a_frame_cannot_hold(rt: HostRuntime) {
-    let (v4, v6) = (ipv4(IpProtocol::Udp, 0), ipv6(IpProtocol::Udp, 0));
-    for (header, dst_port, len, holds) in [
-        (v4, 1, 65_507, true),
-        (v4, 1, 65_508, false),
-        (v6, 1, 65_527, true),
-        (v6, 1, 65_528, false),
-        (v4, 0, 0, false),
+    for (is_ipv4, dst_port, len, holds) in [
+        (true, 1, 65_507, true),
+        (true, 1, 65_508, false),
+        (false, 1, 65_527, true),
+        (false, 1, 65_528, false),
+        (true, 0, 0, false),
     ] {
-        assert_eq!(rt; holds_udp(header, dst_port, len), holds, "{dst_port} {len}");
+        assert_eq!(rt;
+            holds_udp(is_ipv4, dst_port, len),
+            holds,
+            "{dst_port} {len}"
+        );
     }
     for (src_port, dst_port, len, holds) in [
         (1, 1, 65_491, true),
@@ -374,7 +388,7 @@ fn emit_whole(bytes: &[u8], buffer: &mut [u8]) -> usize {
 fn emits_nothing_where_there_is_no_room(rt: HostRuntime) {
     let mut buffer = [0xa5; 80];
     for room in [0, 13, 14, 41] {
-        assert_eq!(rt; emit_request(&mut buffer[..room]), None, "{room}");
+        assert_eq!(rt; emit(&ARP, &mut buffer[..room]), None, "{room}");
     }
     assert!(rt; is_written(&buffer, &[]));
     assert_eq!(rt; emit_whole(&UDP, &mut buffer), 46);
