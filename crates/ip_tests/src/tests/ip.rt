@@ -40,6 +40,26 @@ fn a_view_has_version_and_bytes(rt: HostRuntime) -> Result<(), Fail> {
     Ok(())
 }
 
+/// Whether the packet has this payload.
+fn has_payload(bytes: &[u8], payload: &[u8]) -> bool {
+    match IpPacket::new_unchecked(bytes).payload() {
+        Ok(found) => found == payload,
+        Err(_) => false,
+    }
+}
+
+#[test]
+fn a_view_lends_the_payload_of_either_version(rt: HostRuntime) {
+    assert!(rt; has_payload(&IPV4_PACKET, &IPV4_PACKET[20..]));
+    assert!(rt; has_payload(&IPV6_PACKET, &IPV6_PACKET[40..]));
+    let mut padded = [0; 26];
+    padded[..24].copy_from_slice(&IPV4_PACKET);
+    assert!(rt; has_payload(&padded, &IPV4_PACKET[20..]));
+    assert!(rt; !has_payload(&IPV4_PACKET[..23], &IPV4_PACKET[20..23]));
+    padded[0] = 0x55;
+    assert!(rt; !has_payload(&padded, &IPV4_PACKET[20..]));
+}
+
 #[test]
 fn refuses_less_than_the_packet(rt: HostRuntime) {
     for (packet, is_ipv4) in [
