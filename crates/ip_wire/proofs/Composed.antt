@@ -7,9 +7,9 @@ use Rattle.net_base.specs.Checksum.{verifies}
 use Rattle.net_base.specs.declared.ChecksumCapabilities.{ChecksumCapabilities}
 use Rattle.wire_ends.specs.IpAddress.{octets_of}
 use Rattle.wire_ip.proofs.IpReadsBack.{IsInRange}
-use Rattle.wire_tcp_repr.proofs.TcpReadsBack as tcp
-use Rattle.wire_tcp_repr.specs.TcpRepr as tcp_header
-use Rattle.wire_tcp_repr.specs.TcpRepr.{TcpHeader}
+use Rattle.wire_tcp.proofs.TcpReadsBack as tcp
+use Rattle.wire_tcp.specs.TcpRepr as tcp_header
+use Rattle.wire_tcp.specs.TcpRepr.{TcpHeader}
 use Rattle.wire_udp.proofs.UdpReadsBack as udp
 use Rattle.wire_udp.specs.Udp as udp_header
 use Rattle.wire_udp.specs.declared.UdpRepr.{UdpRepr}

@@ -27,7 +27,7 @@ use Rattle.wire_ip.specs.declared.IpRepr.{IpRepr}
 use Rattle.wire_ip.specs.declared.IpRepr.TheVariants.{Ipv4, Ipv6}
 use Rattle.wire_ipv4.proofs.Ipv4Computed.{ipv4_of-Reads}
 use Rattle.wire_ipv6.proofs.Ipv6Computed.{ipv6_of-Reads}
-use Rattle.wire_tcp_repr.specs.TcpRepr.{HasNoReading}
+use Rattle.wire_tcp.specs.TcpRepr.{HasNoReading}
 use Rattle.wire_udp.specs.Udp.{udp_of}
 
 -- ---- what a packet carries

@@ -14,7 +14,7 @@ use Rattle.wire_ip.specs.declared.IpRepr.{IpRepr}
 use Rattle.wire_ip.specs.declared.IpRepr.TheVariants.{Ipv4, Ipv6}
 use Rattle.wire_ipv4.proofs.Ipv4Computed.{ipv4_of-Reads}
 use Rattle.wire_ipv6.proofs.Ipv6Computed.{ipv6_of-Reads}
-use Rattle.wire_tcp_repr.proofs.TcpComputed.{reads_once}
+use Rattle.wire_tcp.proofs.TcpComputed.{reads_once}
 use Rattle.wire_udp.proofs.UdpComputed.{udp_of-Reads}
 use Rattle.wire_udp.specs.Udp.{Reads, udp_of}
 use Rattle.wire_udp.specs.declared.UdpRepr.{UdpRepr}

@@ -42,10 +42,10 @@ use Rattle.wire_ipv6.specs.declared.Ipv6Repr.{Ipv6Repr}
 use Rattle.wire_ipv4.specs.Ipv4.{header_len, total_len}
 use Rattle.wire_ipv6.proofs.Ipv6Computed.{ipv6_of-Reads}
 use Rattle.wire_ipv6.specs.Ipv6 as ipv6
-use Rattle.wire_tcp_repr.proofs.OptionLens.{header_len-read}
-use Rattle.wire_tcp_repr.proofs.TcpComputed.{tcp_of-Reads}
+use Rattle.wire_tcp.proofs.OptionLens.{header_len-read}
+use Rattle.wire_tcp.proofs.TcpComputed.{tcp_of-Reads}
 use Rattle.wire_tcp.specs.Tcp as tcp_bytes
-use Rattle.wire_tcp_repr.specs.TcpRepr as tcp
+use Rattle.wire_tcp.specs.TcpRepr as tcp
 use Rattle.wire_udp.specs.Udp.{packet_len}
 
 -- ---- its headers can say it, and it is no longer

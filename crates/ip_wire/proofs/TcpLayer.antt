@@ -9,13 +9,13 @@ use Rattle.wire_ends.specs.declared.IpProtocol.TheVariants as protocol
 use Rattle.wire_field.proofs.ByteLists.{AreBytes-drop}
 use Rattle.wire_field.proofs.Spelled.{AreBytes}
 use Rattle.wire_tcp.specs.Tcp.{header_len, payload_of, segment_sum}
-use Rattle.wire_tcp_repr.proofs.OptionLens.{header_len-read}
-use Rattle.wire_tcp_repr.proofs.OptionsBack.{twice}
-use Rattle.wire_tcp_repr.proofs.TcpComputed.{tcp_of-Reads}
-use Rattle.wire_tcp_repr.proofs.TcpEmitted.{length-header_bytes}
-use Rattle.wire_tcp_repr.proofs.TcpForms.{Reads-IsInRange, Reads-IsWritable, normal_or_shorter}
-use Rattle.wire_tcp_repr.proofs.TcpReadsBack.{reads-bytes_of}
-use Rattle.wire_tcp_repr.specs.TcpRepr.{Reads, TcpHeader, bytes_of, header_bytes, header_len_of, normal, segment_with, tcp_of}
+use Rattle.wire_tcp.proofs.OptionLens.{header_len-read}
+use Rattle.wire_tcp.proofs.OptionsBack.{twice}
+use Rattle.wire_tcp.proofs.TcpComputed.{tcp_of-Reads}
+use Rattle.wire_tcp.proofs.TcpEmitted.{length-header_bytes}
+use Rattle.wire_tcp.proofs.TcpForms.{Reads-IsInRange, Reads-IsWritable, normal_or_shorter}
+use Rattle.wire_tcp.proofs.TcpReadsBack.{reads-bytes_of}
+use Rattle.wire_tcp.specs.TcpRepr.{Reads, TcpHeader, bytes_of, header_bytes, header_len_of, normal, segment_with, tcp_of}
 
 -- what reading says
 pub tcp_segment_of-Reads : (src dst : IpAddress) (bytes : List ℕ) (v : TcpHeader) (p : List ℕ) → tcp_segment_of src dst bytes ≡ Some (v, p)

@@ -4,8 +4,8 @@ use Rattle.ip_wire.specs.Frame.{ip_packet_of, rebuilt, settled, tcp_segment_of}
 use Rattle.wire_checksum.specs.WordSum.{residue, words}
 use Rattle.wire_ethernet.specs.Ethernet.{ethernet_of}
 use Rattle.wire_ipv4.specs.Ipv4.{ipv4_of}
-use Rattle.wire_tcp.specs.TcpItems as items
-use Rattle.wire_tcp_repr.specs.TcpRepr.{items_within, tcp_of}
+use Rattle.wire_tcp_parts.specs.TcpItems as items
+use Rattle.wire_tcp.specs.TcpRepr.{items_within, tcp_of}
 
 -- a frame with an IPv4 packet of this total length and header checksum
 abbrev frame : ℕ → ℕ → List ℕ → List ℕ

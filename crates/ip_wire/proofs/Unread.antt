@@ -29,8 +29,8 @@ use Rattle.wire_ethernet.specs.Ethernet.{Reads, bytes_of, ethernet_of, number_of
 use Rattle.wire_ethernet.specs.declared.EthernetProtocol.{EthernetProtocol}
 use Rattle.wire_ethernet.specs.declared.EthernetProtocol.TheVariants as ethertype
 use Rattle.wire_ethernet.specs.declared.EthernetRepr.{EthernetRepr}
-use Rattle.wire_tcp_repr.proofs.TcpComputed.{tcp_of-Reads}
-use Rattle.wire_tcp_repr.specs.TcpRepr.{TcpHeader, tcp_of}
+use Rattle.wire_tcp.proofs.TcpComputed.{tcp_of-Reads}
+use Rattle.wire_tcp.specs.TcpRepr.{TcpHeader, tcp_of}
 use Rattle.wire_udp.proofs.UdpComputed.{udp_of-Reads}
 use Rattle.wire_udp.specs.Udp.{udp_of}
 use Rattle.wire_udp.specs.declared.UdpRepr.{UdpRepr}

@@ -29,8 +29,8 @@ use Rattle.wire_ipv4.specs.Ipv4 as ipv4
 use Rattle.wire_ipv4.specs.Ipv4Text as ipv4_text
 use Rattle.wire_ipv4.specs.declared.Ipv4Repr.{Ipv4Repr}
 use Rattle.wire_ipv6.specs.Ipv6Text as ipv6_text
-use Rattle.wire_tcp_repr.specs.TcpRepr as tcp
-use Rattle.wire_tcp_repr.specs.TcpReprText as tcp_text
+use Rattle.wire_tcp.specs.TcpRepr as tcp
+use Rattle.wire_tcp.specs.TcpReprText as tcp_text
 use Rattle.wire_udp.specs.Udp as udp
 use Rattle.wire_udp.specs.UdpText as udp_text
 

@@ -1,13 +1,16 @@
-pub mod FirstItems
-pub mod Items
-pub mod OptionLists
+pub mod OptionItems
+pub mod OptionLens
+pub mod OptionsBack
 mod Pairs
-mod Prefixes
-pub mod Ranges
-pub mod Summaries
 pub mod Sums
+pub mod TcpComputed
+pub mod TcpEmitted
+pub mod TcpForms
 pub mod TcpLengths
+pub mod TcpReadsBack
+mod TcpReprWorked
 pub mod TcpTexts
 mod TcpViewed
 mod TcpWorked
-mod Walks
+pub mod ValueInRange
+mod WordChanged

@@ -1,9 +1,6 @@
 pub mod Tcp
-pub mod TcpItems
+pub mod TcpFixed
 pub mod TcpLoan
-pub mod TcpOption
-pub mod TcpParts
-pub mod TcpSeq
-pub mod TcpSummary
+pub mod TcpRepr
+pub mod TcpReprText
 pub mod TcpText
-pub mod TcpWalk

@@ -1,10 +1,9 @@
--- What `options_mut`, `payload_mut` and `TcpOption::emit` promise on the borrowed bytes.
-use Rattle.std.specs.Prelude.{ℕ, ◌≡◌, ◌++◌, List, [], length, take}
+-- What `options_mut` and `payload_mut` promise on the borrowed bytes.
+use Rattle.std.specs.Prelude.{ℕ, ◌++◌, List, [], take}
 use Rattle.std.specs.Borrow.{Lends, MutBor, Fml, Array, u8}
 use denote.Slice.{MutSlice}
 use mir.Syntax.{named}
 use Rattle.wire_field.specs.Field.{with_range}
-use Rattle.wire_field.specs.declared.lend.Located.{Located}
 use Rattle.wire_tcp.specs.Tcp.{Writing, header_len, packet_bytes_mut}
 use Rattle.wire_tcp.specs.contracts.tcp.packet.TcpView.{the_row}
 
@@ -27,16 +26,3 @@ LendsOptions packet options = Lends (the_row (MutSlice (named 1) [] u8)) (Array 
 -- at the end of the borrow the view has the bytes that were written to the payload; the header is unchanged
 abbrev pub LendsPayload : MutBor Writing → MutBor (List ℕ) → Fml
 LendsPayload packet payload = Lends (the_row (MutSlice (named 1) [] u8)) (Array u8 0) packet payload (λ w. with_bytes packet.now (with_payload (packet_bytes_mut packet.now) w))
-
--- At the end of the borrow the slice has these bytes in front, and behind them the bytes that were written to the
--- rest.
-abbrev pub LendsRest : MutBor (List ℕ) → List ℕ → MutBor (List ℕ) → Fml
-LendsRest buffer front rest = Lends (Array u8 0) (Array u8 0) buffer rest (λ w. front ++ w)
-
--- The bytes behind a front are located in a slice. It is still the same borrow, and now holds the front and this
--- rest.
-pub record LocatesRest (buffer : MutBor (List ℕ)) (front rest : List ℕ) (located : Located) : Type 0 where
-  pub same_loan : located.bytes.ghost_name ≡ buffer.ghost_name
-  pub holds : located.bytes.now ≡ front ++ rest
-  pub start : located.start ≡ length front
-  pub end : located.end ≡ length located.bytes.now

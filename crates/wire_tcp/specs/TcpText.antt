@@ -6,9 +6,9 @@ use Rattle.byteorder.specs.Endian.{big_number}
 use Rattle.wire_addr.specs.Printed.{hex}
 use Rattle.wire_field.specs.Field.{field}
 use Rattle.wire_tcp.specs.Tcp.{has_lengths, header_len, options_of}
-use Rattle.wire_tcp.specs.TcpItems.{Item, first_blocks, first_item, is_timestamp, stamps}
-use Rattle.wire_tcp.specs.declared.tcp.option.TcpOption.{TcpOption}
-use Rattle.wire_tcp.specs.declared.tcp.option.TcpOption.TheVariants.{EndOfList, NoOperation, MaxSegmentSize, WindowScale, SackPermitted, SackRange, TimeStamp, Unknown}
+use Rattle.wire_tcp_parts.specs.TcpItems.{Item, first_blocks, first_item, is_timestamp, stamps}
+use Rattle.wire_tcp_parts.specs.declared.tcp.option.TcpOption.{TcpOption}
+use Rattle.wire_tcp_parts.specs.declared.tcp.option.TcpOption.TheVariants.{EndOfList, NoOperation, MaxSegmentSize, WindowScale, SackPermitted, SackRange, TimeStamp, Unknown}
 
 -- ---- the header
 

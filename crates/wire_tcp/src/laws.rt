@@ -1,37 +1,121 @@
 //! Laws of TCP segments. A law states a fact about definitions; its body does nothing.
 
-ghost use Rattle.std.specs.Prelude.{◌≡◌, ◌+◌, ◌%◌, ◌^◌, ◌<◌, ◌≤◌, ℕ, List, length};
+ghost use Rattle.std.specs.Prelude.{◌≡◌, ◌≢◌, ◌⊎◌, ◌↔◌, ◌+◌, ◌*◌, ◌%◌, ◌<◌, ◌≤◌, ℕ, [], Bool, List, IsTrue, Some, true, length};
 ghost use Rattle.wire_ends.specs.IpAddress.{version_of};
-ghost use Rattle.wire_tcp.specs.Tcp.{Verifies, with_checksum};
-ghost use Rattle.wire_tcp.specs.TcpItems.{IsOptionList, Item};
-ghost use Rattle.wire_tcp.specs.TcpSeq.{IsAfter, IsBefore, distance, number};
-ghost use Rattle.wire_tcp.specs.TcpWalk.{IsLongWalk, Mark};
+ghost use Rattle.wire_ends.specs.declared.ip_address.IpAddress.{IpAddress};
+ghost use Rattle.wire_field.specs.Field.{field, with_field};
+ghost use Rattle.wire_tcp.specs.Tcp.{Verifies, header_len, payload_of, with_checksum};
+ghost use Rattle.wire_tcp.specs.TcpRepr.{HasIdleRanges, Reads, bytes_of, header_len_of, header_of, normal, tcp_of};
 
-use crate::tcp::TcpSeqNumber;
+use crate::tcp::TcpRepr;
 use wire_ends::IpAddress;
 
-/// The number `steps` after another one is after it, at that distance, if `steps` is below 2^31.
-/// Two numbers half the circle apart are each before the other.
-pub fn seq_forward(from: TcpSeqNumber, steps: u32, to: TcpSeqNumber)
-    requires { number to ≡ (number from + steps) % 2 ^ 32 }
-    ensures distance { distance to from ≡ steps }
-    ensures after { 0 < steps → steps < 2 ^ 31 → IsAfter to from }
-    ensures opposite { steps ≡ 2 ^ 31 → IsBefore to from × IsBefore from to }
+/// The emitted segment, in a buffer of exactly its length, parses as the value's normal form and
+/// the same payload. A checksum that is verified must have been computed.
+pub fn emit_reads_back_tcp(
+    value: TcpRepr<'_>,
+    src_addr: IpAddress,
+    dst_addr: IpAddress,
+    computed: bool,
+    verified: bool,
+)
+    requires header_len { header_len_of (header_of value) ≤ 60 }
+    requires sender { value.src_port ≢ 0 }
+    requires receiver { value.dst_port ≢ 0 }
+    requires family { version_of src_addr ≡ version_of dst_addr }
+    requires checksum { IsTrue verified → IsTrue computed }
+    ensures { let v = header_of value.entry in let payload = value.entry.payload.now in
+        Reads (bytes_of v payload src_addr dst_addr computed []) src_addr dst_addr verified (normal v) payload }
 {}
 
-/// Bytes have at most one option list.
-pub fn one_option_list(bytes: &[u8])
-    ensures { (items others : List Item) (tail left : List ℕ) →
-        IsOptionList bytes.now items tail → IsOptionList bytes.now others left →
-        (items ≡ others) × (tail ≡ left) }
+/// Bytes parse as at most one value and payload.
+pub fn reads_once_tcp(
+    bytes: &[u8],
+    src_addr: IpAddress,
+    dst_addr: IpAddress,
+    verified: bool,
+    value: TcpRepr<'_>,
+    other: TcpRepr<'_>,
+)
+    requires value { Reads bytes.now src_addr dst_addr verified (header_of value) value.payload.now }
+    requires other { Reads bytes.now src_addr dst_addr verified (header_of other) other.payload.now }
+    ensures value { header_of value.entry ≡ header_of other.entry }
+    ensures payload { value.entry.payload.now ≡ other.entry.payload.now }
 {}
 
-/// All bytes have exactly one longest walk over options.
-pub fn one_long_walk(bytes: &[u8])
-    ensures some { (marks : List Mark) × (rest : List ℕ) × IsLongWalk bytes.now marks rest }
-    ensures only { (marks others : List Mark) (rest left : List ℕ) →
-        IsLongWalk bytes.now marks rest → IsLongWalk bytes.now others left →
-        (marks ≡ others) × (rest ≡ left) }
+/// `tcp_of` computes the value that the bytes parse as, if there is one.
+pub fn reading_is_computed_tcp(
+    bytes: &[u8],
+    src_addr: IpAddress,
+    dst_addr: IpAddress,
+    verified: bool,
+    value: TcpRepr<'_>,
+)
+    ensures { let v = header_of value.entry in
+        (tcp_of src_addr dst_addr verified bytes.now ≡ Some v) ↔ Reads bytes.now src_addr dst_addr verified v (payload_of bytes.now) }
+{}
+
+/// The normal form of a normal form is itself. A parsed value is normal, except if it has ranges
+/// and either no acknowledgement or SACK permitted. Then the header of its normal form is shorter.
+pub fn normal_twice_tcp(
+    bytes: &[u8],
+    src_addr: IpAddress,
+    dst_addr: IpAddress,
+    verified: bool,
+    value: TcpRepr<'_>,
+)
+    ensures twice { normal (normal (header_of value.entry)) ≡ normal (header_of value.entry) }
+    ensures read { let v = header_of value.entry in
+        Reads bytes.now src_addr dst_addr verified v value.entry.payload.now → (normal v ≡ v) ⊎ HasIdleRanges v }
+    ensures idle { HasIdleRanges (header_of value.entry) → header_len_of (normal (header_of value.entry)) < header_len_of (header_of value.entry) }
+{}
+
+/// Normal values with the same emitted bytes, checksum included, are equal.
+pub fn equal_bytes(value: TcpRepr<'_>, other: TcpRepr<'_>, src_addr: IpAddress, dst_addr: IpAddress)
+    requires value_normal { normal (header_of value) ≡ header_of value }
+    requires value_len { header_len_of (header_of value) ≤ 60 }
+    requires value_sender { value.src_port ≢ 0 }
+    requires value_receiver { value.dst_port ≢ 0 }
+    requires other_normal { normal (header_of other) ≡ header_of other }
+    requires other_len { header_len_of (header_of other) ≤ 60 }
+    requires other_sender { other.src_port ≢ 0 }
+    requires other_receiver { other.dst_port ≢ 0 }
+    requires family { version_of src_addr ≡ version_of dst_addr }
+    requires bytes { bytes_of (header_of value) value.payload.now src_addr dst_addr true [] ≡ bytes_of (header_of other) other.payload.now src_addr dst_addr true [] }
+    ensures value { header_of value.entry ≡ header_of other.entry }
+    ensures payload { value.entry.payload.now ≡ other.entry.payload.now }
+{}
+
+/// The emitted header of a normal value parses as that value. No other header that parses as it is
+/// shorter, whatever its addresses, and with or without verification.
+pub fn shortest_header(
+    value: TcpRepr<'_>,
+    src_addr: IpAddress,
+    dst_addr: IpAddress,
+    computed: bool,
+    verified: bool,
+)
+    requires normal { normal (header_of value) ≡ header_of value }
+    requires header_len { header_len_of (header_of value) ≤ 60 }
+    requires sender { value.src_port ≢ 0 }
+    requires receiver { value.dst_port ≢ 0 }
+    requires family { version_of src_addr ≡ version_of dst_addr }
+    requires checksum { IsTrue verified → IsTrue computed }
+    ensures read { let v = header_of value.entry in let payload = value.entry.payload.now in
+        let bytes = bytes_of v payload src_addr dst_addr computed [] in
+        Reads bytes src_addr dst_addr verified v payload × (header_len bytes ≡ header_len_of v) }
+    ensures least { let v = header_of value.entry in
+        (bytes payload : List ℕ) (src dst : IpAddress) (checked : Bool) → Reads bytes src dst checked v payload → header_len_of v ≤ header_len bytes }
+{}
+
+/// Changing one aligned 16-bit word of a segment with a correct checksum makes the checksum wrong.
+/// The new word must not be congruent to the old one modulo 65535.
+pub fn word_changed(bytes: &[u8], src_addr: IpAddress, dst_addr: IpAddress, index: usize, word: u16)
+    requires family { version_of src_addr ≡ version_of dst_addr }
+    requires holds { Verifies src_addr dst_addr bytes.now }
+    requires place { 2 * index + 2 ≤ length bytes.now }
+    requires changed { word % 65535 ≢ field bytes.now (16 * index) 16 % 65535 }
+    ensures { ¬ Verifies src_addr dst_addr (with_field bytes.now (16 * index) 16 word) }
 {}
 
 /// A segment with the checksum that `fill_checksum` writes verifies.

@@ -4,7 +4,4 @@
 pub mod laws;
 mod tcp;
 
-pub use tcp::{
-    SACK_BLOCKS, TCP_HEADER_LEN, TCP_MAX_HEADER_LEN, TcpControl, TcpOption, TcpOptionSummary,
-    TcpPacket, TcpPacketMut, TcpSeqNumber, TcpTimestampGenerator, TcpTimestampRepr, for_emit,
-};
+pub use tcp::{TCP_HEADER_LEN, TCP_MAX_HEADER_LEN, TcpPacket, TcpPacketMut, TcpRepr};

@@ -14,7 +14,7 @@ use wire_ethernet::{EthernetProtocol, EthernetRepr};
 use wire_ip::IpRepr;
 use wire_ipv4::Ipv4Repr;
 use wire_ipv6::Ipv6Repr;
-use wire_tcp_repr::TcpRepr;
+use wire_tcp::TcpRepr;
 use wire_udp::UdpRepr;
 
 impl<'a> Frame<'a> {

@@ -7,15 +7,14 @@ ghost use Rattle.ip_wire.specs.Frame.{ReadsTransport};
 ghost use Rattle.ip_wire.specs.FrameValue.{Fills, FindsTransport, FitsTransport, GivesTransport, ParsesTransport, transport_bytes, transport_len, transport_of, transport_payload, transport_text};
 ghost use Rattle.net_base.specs.Checksum.{computes};
 ghost use Rattle.wire_ip.specs.Ip.{dst_addr_of, src_addr_of};
-ghost use Rattle.wire_tcp_repr.specs.TcpRepr as tcp;
+ghost use Rattle.wire_tcp.specs.TcpRepr as tcp;
 ghost use Rattle.wire_udp.specs.Udp as udp;
 
 use net_base::{ChecksumCapabilities, Error, Result};
 use std::fmt;
 use wire_ends::IpProtocol;
 use wire_ip::IpRepr;
-use wire_tcp::{TCP_MAX_HEADER_LEN, TcpPacket, TcpPacketMut};
-use wire_tcp_repr::TcpRepr;
+use wire_tcp::{TCP_MAX_HEADER_LEN, TcpPacket, TcpPacketMut, TcpRepr};
 use wire_udp::{UDP_HEADER_LEN, UDP_MAX_PAYLOAD_LEN, UdpPacket, UdpPacketMut, UdpRepr};
 
 /// The payload of an IP packet, by the protocol that its header names.

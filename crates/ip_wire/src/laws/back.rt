@@ -10,7 +10,7 @@ ghost use Rattle.wire_ends.specs.declared.IpProtocol.TheVariants as ip_protocol;
 ghost use Rattle.wire_ends.specs.declared.IpVersion.TheVariants as version;
 ghost use Rattle.wire_ethernet.specs.Ethernet as ethernet;
 ghost use Rattle.wire_ip.specs.Ip as ip;
-ghost use Rattle.wire_tcp_repr.specs.TcpRepr as tcp;
+ghost use Rattle.wire_tcp.specs.TcpRepr as tcp;
 ghost use Rattle.wire_udp.specs.Udp as udp;
 
 use crate::frame::{Carried, Frame, Transport};
@@ -18,7 +18,7 @@ use net_base::ChecksumCapabilities;
 use wire_arp::ArpRepr;
 use wire_ethernet::EthernetRepr;
 use wire_ip::IpRepr;
-use wire_tcp_repr::TcpRepr;
+use wire_tcp::TcpRepr;
 use wire_udp::UdpRepr;
 
 /// The frame that is emitted, with any padding behind it, parses as the value's normal form. Its headers

@@ -13,7 +13,8 @@ use wire_addr::{
 use wire_ethernet::ETHERNET_HEADER_LEN;
 use wire_ipv4::{IPV4_HEADER_LEN, IPV4_MAX_PAYLOAD_LEN, IPV4_MIN_MTU};
 use wire_ipv6::{IPV6_HEADER_LEN, IPV6_MAX_PAYLOAD_LEN, IPV6_MIN_MTU};
-use wire_tcp::{SACK_BLOCKS, TCP_HEADER_LEN, TCP_MAX_HEADER_LEN};
+use wire_tcp::{TCP_HEADER_LEN, TCP_MAX_HEADER_LEN};
+use wire_tcp_parts::SACK_BLOCKS;
 use wire_udp::{UDP_HEADER_LEN, UDP_MAX_PAYLOAD_LEN};
 
 /// The lengths in octets: of headers without options, of the longest payloads, of addresses, and of the

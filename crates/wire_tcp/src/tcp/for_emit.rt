@@ -1,23 +1,23 @@
-//! The steps of `TcpRepr::emit`, which is in another crate.
+//! The steps of `TcpRepr::emit`.
 
 ghost use Rattle.std.specs.Prelude.{◌≡◌, ◌+◌, ◌-◌, ◌≤◌, ◌++◌, drop, length, replicate};
 ghost use Rattle.byteorder.specs.Endian.{big_bytes};
 ghost use Rattle.wire_ends.specs.IpAddress.{version_of};
 ghost use Rattle.wire_field.specs.Field.{with_field, with_range};
 ghost use Rattle.wire_tcp.specs.Tcp.{Becomes, packet_bytes_mut, segment_sum};
-ghost use Rattle.wire_tcp.specs.TcpOption.{IsEmittable, option_len, option_text};
-ghost use Rattle.wire_tcp.specs.TcpParts.{fixed_bytes};
+ghost use Rattle.wire_tcp_parts.specs.TcpOption.{IsEmittable, option_len, option_text};
+ghost use Rattle.wire_tcp.specs.TcpFixed.{fixed_bytes};
 
-pub use super::option::count_ranges;
-use super::{TCP_HEADER_LEN, TcpOption, TcpPacketMut};
+use super::{TCP_HEADER_LEN, TcpPacketMut};
 use byteorder::{ByteOrder, NetworkEndian};
 use wire_ends::{IpAddress, IpProtocol};
 use wire_field::write_at;
+use wire_tcp_parts::TcpOption;
 
-/// The first 20 octets of a header, with 0 as checksum and urgent pointer. `offset_and_flags` is
-/// the word that holds the data offset and the flags.
+// The first 20 octets of a header, with 0 as checksum and urgent pointer. `offset_and_flags` is
+// the word that holds the data offset and the flags.
 #[inline(always)]
-pub fn fixed(
+pub(super) fn fixed(
     src_port: u16,
     dst_port: u16,
     seq_number: u32,
@@ -34,10 +34,10 @@ pub fn fixed(
     bytes
 }
 
-/// Writes the checksum of a segment that begins with `fixed` and has no checksum yet. Those 20
-/// octets are not read from the segment: bytes that were just written are slow to read again.
+// Writes the checksum of a segment that begins with `fixed` and has no checksum yet. Those 20
+// octets are not read from the segment: bytes that were just written are slow to read again.
 #[inline(always)]
-pub fn write_checksum(
+pub(super) fn write_checksum(
     packet: &mut TcpPacketMut<'_>,
     fixed: &[u8; TCP_HEADER_LEN],
     src_addr: &IpAddress,
@@ -71,21 +71,25 @@ fn write_pair(buffer: &mut [u8], high: u32, low: u32)
     NetworkEndian::write_u64(buffer, (u64::from(high) << 32) + u64::from(low));
 }
 
-/// Writes an option at byte `at`, and returns where it ends.
+// Writes an option at byte `at`, and returns where it ends.
 #[inline(always)]
-pub fn write_option(packet: &mut TcpPacketMut<'_>, at: usize, option: &TcpOption<'_>) -> usize
+pub(super) fn write_option(
+    packet: &mut TcpPacketMut<'_>,
+    at: usize,
+    option: &TcpOption<'_>,
+) -> usize
     requires room { at + option_len option.now ≤ length (packet_bytes_mut packet.old) }
     requires fits { IsEmittable option.now }
     ensures end { result ≡ at + option_len option.now }
     ensures written { Becomes packet.old packet.new (with_range (packet_bytes_mut packet.old) at result (option_text option.now)) }
 {
     let end = at + option.buffer_len();
-    option.write(&mut packet.buffer[at..end]);
+    wire_tcp_parts::write_option(option, &mut packet.buffer[at..end]);
     end
 }
 
-/// Writes zeros to the bytes from `start` up to `end`.
-pub fn write_zeros(packet: &mut TcpPacketMut<'_>, start: usize, end: usize)
+// Writes zeros to the bytes from `start` up to `end`.
+pub(super) fn write_zeros(packet: &mut TcpPacketMut<'_>, start: usize, end: usize)
     requires begins { start ≤ end }
     requires ends { end ≤ length (packet_bytes_mut packet.old) }
     ensures { Becomes packet.old packet.new (with_range (packet_bytes_mut packet.old) start end (replicate (end - start) 0)) }
@@ -93,8 +97,8 @@ pub fn write_zeros(packet: &mut TcpPacketMut<'_>, start: usize, end: usize)
     packet.buffer[start..end].fill(0);
 }
 
-/// Copies the bytes to the segment, from byte `start` on.
-pub fn write_bytes(packet: &mut TcpPacketMut<'_>, start: usize, bytes: &[u8])
+// Copies the bytes to the segment, from byte `start` on.
+pub(super) fn write_bytes(packet: &mut TcpPacketMut<'_>, start: usize, bytes: &[u8])
     requires { start + length bytes.now ≤ length (packet_bytes_mut packet.old) }
     ensures { Becomes packet.old packet.new (with_range (packet_bytes_mut packet.old) start (start + length bytes.now) bytes.now) }
 {

@@ -4,18 +4,19 @@ ghost use Rattle.std.specs.Prelude.{◌≡◌, ◌↔◌, ◌≤◌, [], IfOk, I
 ghost use Rattle.wire_ends.specs.IpAddress.{version_of};
 ghost use Rattle.wire_field.specs.Field.{field};
 ghost use Rattle.wire_tcp.specs.Tcp.{HasLengths, Verifies, header_len, options_of, packet_bytes, packet_slice, payload_of, pseudo_header_sum, segment_len};
-ghost use Rattle.wire_tcp.specs.TcpItems.{first_blocks};
-ghost use Rattle.wire_tcp.specs.TcpSeq.{number};
-ghost use Rattle.wire_tcp.specs.TcpSummary.{HasNoList, Summarizes};
-ghost use Rattle.wire_tcp.specs.TcpWalk.{Answers};
+ghost use Rattle.wire_tcp_parts.specs.TcpItems.{first_blocks};
+ghost use Rattle.wire_tcp_parts.specs.TcpSeq.{number};
+ghost use Rattle.wire_tcp_parts.specs.TcpSummary.{HasNoList, Summarizes};
+ghost use Rattle.wire_tcp_parts.specs.TcpWalk.{Answers};
 
-use super::{SACK_BLOCKS, TCP_HEADER_LEN, TcpOptionSummary, TcpSeqNumber, walk};
+use super::TCP_HEADER_LEN;
 use byteorder::{ByteOrder, NetworkEndian};
 use net_base::{Error, Result};
 use std::fmt;
 use wire_checksum::checksum;
 use wire_ends::{IpAddress, IpProtocol};
 use wire_field::{Octets, debug_view, is_bit_set};
+use wire_tcp_parts::{SACK_BLOCKS, TcpOptionSummary, TcpSeqNumber, summarize, walk};
 
 /// A view of a borrowed TCP segment. A call requires only the bytes that it uses.
 #[derive(Clone, Copy, PartialEq, Eq, Drop)]
@@ -95,7 +96,7 @@ impl<B: Octets> TcpView<B> {
         requires { 8 ≤ length (B.octets (packet_slice self.now)) }
         ensures { number result ≡ field (B.octets (packet_slice self.now)) 32 32 }
     {
-        TcpSeqNumber::from_bits(NetworkEndian::read_u32(&self.as_bytes()[4..8]))
+        seq_number_of(NetworkEndian::read_u32(&self.as_bytes()[4..8]))
     }
 
     /// The sequence number that the sender expects next. It is valid if ACK is set.
@@ -103,7 +104,7 @@ impl<B: Octets> TcpView<B> {
         requires { 12 ≤ length (B.octets (packet_slice self.now)) }
         ensures { number result ≡ field (B.octets (packet_slice self.now)) 64 32 }
     {
-        TcpSeqNumber::from_bits(NetworkEndian::read_u32(&self.as_bytes()[8..12]))
+        seq_number_of(NetworkEndian::read_u32(&self.as_bytes()[8..12]))
     }
 
     /// The length of the header in octets: 4 times the data offset, so at most 60.
@@ -250,7 +251,7 @@ impl<B: Octets> TcpView<B> {
         ensures ok { IfOk result (Summarizes (options_of (B.octets (packet_slice self.now)))) }
         ensures err { OnErr result (HasNoList (options_of (B.octets (packet_slice self.now)))) }
     {
-        TcpOptionSummary::of_options(self.option_bytes())
+        summarize(self.option_bytes())
     }
 
     // The bytes of the options.
@@ -319,4 +320,11 @@ impl<B: Octets> fmt::Debug for TcpView<B> {
     fn fmt<W: fmt::Write>(&self, f: &mut fmt::Formatter<W>) -> fmt::Result {
         debug_view(f, "TcpPacket", &self.buffer)
     }
+}
+
+// The sequence number with these bits.
+fn seq_number_of(bits: u32) -> TcpSeqNumber
+    ensures { number result ≡ bits }
+{
+    TcpSeqNumber(bits.cast_signed())
 }

@@ -7,15 +7,16 @@ ghost use Rattle.wire_field.specs.Field.{with_field};
 ghost use Rattle.wire_field.specs.Loan.{Checks, Holds, Locates, StaysIfErr};
 ghost use Rattle.wire_tcp.specs.Tcp.{Becomes, HasLengths, header_len, options_of, packet_bytes_mut, packet_slice, payload_of, with_checksum, with_flag};
 ghost use Rattle.wire_tcp.specs.TcpLoan.{LendsOptions, LendsPayload};
-ghost use Rattle.wire_tcp.specs.TcpSeq.{number};
+ghost use Rattle.wire_tcp_parts.specs.TcpSeq.{number};
 
 use super::packet::TcpView;
-use super::{TCP_HEADER_LEN, TcpPacket, TcpPacketMut, TcpSeqNumber};
+use super::{TCP_HEADER_LEN, TcpPacket, TcpPacketMut};
 use byteorder::{ByteOrder, NetworkEndian};
 use net_base::{Error, Result};
 use wire_checksum::checksum;
 use wire_ends::{IpAddress, IpProtocol};
 use wire_field::{Checked, Located, set_bits, set_bits_u16};
+use wire_tcp_parts::TcpSeqNumber;
 
 impl<'a> TcpPacketMut<'a> {
     /// A mutable view of bytes that `check_len` accepts, else an error. Rejected bytes are

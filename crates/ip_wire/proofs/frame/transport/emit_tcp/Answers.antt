@@ -3,7 +3,7 @@ use Rattle.ip_wire.proofs.Placed.{filled}
 use Rattle.net_base.specs.Checksum.{computes}
 use Rattle.wire_ip.specs.Ip.{dst_addr_of, src_addr_of}
 use Rattle.wire_tcp.specs.Tcp.{packet_bytes_mut}
-use Rattle.wire_tcp_repr.specs.TcpRepr.{bytes_of, header_len_of, header_of}
+use Rattle.wire_tcp.specs.TcpRepr.{bytes_of, header_len_of, header_of}
 use Rattle.ip_wire.proofs.frame.transport.emit_tcp.Goals as goal
 
 pub returns : goal.returns

@@ -7,9 +7,9 @@ use Rattle.net_base.specs.Checksum.{computes}
 use Rattle.wire_ends.specs.IpAddress.{octets_of}
 use Rattle.wire_ip.proofs.IpReadsBack.{IsInRange}
 use Rattle.wire_ip.specs.Ip.{dst_addr_of, payload_len_of, src_addr_of}
-use Rattle.wire_tcp_repr.proofs.TcpReadsBack.{IsWritable}
-use Rattle.wire_tcp_repr.proofs.ValueInRange.{value_in_range}
-use Rattle.wire_tcp_repr.specs.TcpRepr as tcp
+use Rattle.wire_tcp.proofs.TcpReadsBack.{IsWritable}
+use Rattle.wire_tcp.proofs.ValueInRange.{value_in_range}
+use Rattle.wire_tcp.specs.TcpRepr as tcp
 use Rattle.ip_wire.proofs.laws.back.frame_composes_tcp.Goals as goal
 
 pub returns : goal.returns

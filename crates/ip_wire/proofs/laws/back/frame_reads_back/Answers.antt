@@ -8,7 +8,7 @@ use Rattle.net_base.specs.Checksum.{computes}
 use Rattle.wire_arp.specs.Arp as arp
 use Rattle.wire_ethernet.specs.Ethernet as ethernet
 use Rattle.wire_ip.specs.Ip.{with_payload_len}
-use Rattle.wire_tcp_repr.specs.TcpRepr as tcp
+use Rattle.wire_tcp.specs.TcpRepr as tcp
 use Rattle.wire_udp.specs.Udp as udp
 use Rattle.ip_wire.proofs.laws.back.frame_reads_back.Goals as goal
 

@@ -3,7 +3,7 @@ use Rattle.ip_wire.proofs.Found.{none-tcp, none-udp}
 use Rattle.wire_ip.specs.Ip.{dst_addr_of, src_addr_of}
 use Rattle.net_base.specs.Checksum.{verifies}
 use Rattle.wire_udp.specs.Udp.{payload_of, udp_of}
-use Rattle.wire_tcp_repr.specs.TcpRepr.{HasNoReading}
+use Rattle.wire_tcp.specs.TcpRepr.{HasNoReading}
 use Rattle.ip_wire.proofs.frame.transport.Transport.read.Goals as goal
 
 pub returns-in-Ok : goal.returns-in-Ok

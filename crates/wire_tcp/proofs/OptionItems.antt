@@ -1,0 +1,106 @@
+-- The computed items of options are those of their one list.
+use Rattle.std.proofs.Common.{ℕ, zero, suc, ◌≡◌, ◌≢◌, ◌↔◌, ◌<◌, ◌≤◌, ◌==◌, List, [], ◌∷◌, ◌++◌, length, Option, Some, None, refl, sym, ap, subst, ◌∙◌, append_assoc, arith}
+use Rattle.std.specs.List.{AllByRecursion}
+use Rattle.std.specs.Option.{option_and_then, option_map}
+use Rattle.std.proofs.lemmas.Bool.{eqb-true, false_from_ne_true}
+use Rattle.wire_tcp_parts.specs.TcpItems.{IsItem, IsOptionList, IsTail, Item, first_item, text, texts}
+use Rattle.wire_tcp_parts.proofs.FirstItems.{Leads, Leads-first_item, first_item-Leads}
+use Rattle.wire_tcp_parts.proofs.OptionLists.{shorter, text_head}
+use Rattle.wire_tcp.specs.TcpRepr.{items_in, items_within}
+
+-- an item, and those that are computed of what follows it
+abbrev then_more : ℕ → Item × List ℕ → Option (List Item)
+then_more n d = option_map (λ items. d.0 ∷ items) (items_within n d.1)
+
+at_none : (n : ℕ) → items_within n [] ≡ Some []
+unfolding items_within
+at_none zero = refl
+at_none (suc n) = refl
+
+at_mark : (n : ℕ) (rest : List ℕ) → items_within (suc n) (0 ∷ rest) ≡ Some []
+unfolding items_within
+at_mark n rest = refl
+
+at_item : (n kind : ℕ) (rest : List ℕ) → kind ≢ 0 → items_within (suc n) (kind ∷ rest) ≡ option_and_then (then_more n) (first_item (kind ∷ rest))
+unfolding items_within
+at_item n kind rest some = rw (false_from_ne_true (kind == 0) (λ e. some (eqb-true kind 0 e))) refl
+
+-- an item is one of those that were computed
+abbrev Listed : List ℕ → List Item → Type 0
+Listed bytes items = (tail : List ℕ) × IsOptionList bytes items tail
+
+-- a list with one more item
+more : (bytes : List ℕ) (i : Item) (rest : List ℕ) (items : List Item) → Leads bytes i rest → Listed rest items → Listed bytes (i ∷ items)
+more bytes i rest items lead (tail, l) = (
+  tail,
+  record {
+    each = (lead.is, l.each);
+    joined = lead.joined ∙ ap (λ (r : List ℕ). text i ++ r) l.joined ∙ sym (append_assoc (text i) (texts items) tail);
+    ended = l.ended;
+  },
+)
+
+mapped : (f : List Item → List Item) (o : Option (List Item)) (ys : List Item) → option_map f o ≡ Some ys → (xs : List Item) × (o ≡ Some xs) × (f xs ≡ ys)
+mapped f None ys e = absurd (cc)
+mapped f (Some xs) ys e = (xs, refl, cc)
+
+-- what is computed with an item in front
+after : (n : ℕ) (o : Option (Item × List ℕ)) (items : List Item) → option_and_then (then_more n) o ≡ Some items
+    → (d : Item × List ℕ) × (xs : List Item) × (o ≡ Some d) × (items_within n d.1 ≡ Some xs) × (d.0 ∷ xs ≡ items)
+after n None items e = absurd (cc)
+after n (Some d) items e =
+    let (xs, is, joined) = mapped (λ items. d.0 ∷ items) (items_within n d.1) items e in
+    (d, xs, refl, is, joined)
+
+nothing : (bytes : List ℕ) (items : List Item) → IsTail bytes → Some [] ≡ Some items → Listed bytes items
+nothing bytes items ends e =
+    let none : [] ≡ items = cc in
+    subst (Listed bytes) none (bytes, record { each = tt; joined = refl; ended = ends })
+
+none_left : (kind : ℕ) (rest : List ℕ) (items : List Item) → items_within 0 (kind ∷ rest) ≡ Some items → ⊥
+unfolding items_within
+none_left kind rest items e = cc
+
+-- what is computed is a list
+listed : (n : ℕ) (bytes : List ℕ) (items : List Item) → items_within n bytes ≡ Some items → Listed bytes items
+listed n [] items e = nothing [] items tt (sym (at_none n) ∙ e)
+listed zero (kind ∷ rest) items e = absurd (none_left kind rest items e)
+listed (suc n) (zero ∷ rest) items e = nothing (0 ∷ rest) items refl (sym (at_mark n rest) ∙ e)
+listed (suc n) (suc kind ∷ rest) items e =
+    let bytes = suc kind ∷ rest in
+    let some : suc kind ≢ 0 = λ z. absurd (omega (arith, z)) in
+    let (d, xs, first, behind, joined) = after n (first_item bytes) items (sym (at_item n (suc kind) rest some) ∙ e) in
+    subst (Listed bytes) joined (more bytes d.0 d.1 xs (first_item-Leads bytes d.0 d.1 first) (listed n d.1 xs behind))
+
+stepped : (i : Item) (items : List Item) (rest r bytes : List ℕ) (n : ℕ) → IsItem i → bytes ≡ text i ++ rest → bytes ≡ i.kind ∷ r
+    → length rest < length bytes → length bytes ≤ n → ((m : ℕ) → length rest ≤ m → items_within m rest ≡ Some items) → items_within n bytes ≡ Some (i ∷ items)
+stepped i items rest r bytes zero is joined cells less room behind = absurd (omega (arith, less, room))
+stepped i items rest r bytes (suc n) is joined cells less room behind =
+    let above = is.above in
+    ap (items_within (suc n)) cells
+    ∙ at_item n i.kind r (λ z. absurd (omega (arith, z, above)))
+    ∙ ap (option_and_then (then_more n)) (ap first_item (sym cells) ∙ Leads-first_item bytes i rest (record { is = is; joined = joined }))
+    ∙ ap (option_map (λ items. i ∷ items)) (behind n (omega (arith, less, room)))
+
+-- a list is what is computed
+computed : (items : List Item) (tail : List ℕ) (n : ℕ) → AllByRecursion IsItem items → IsTail tail → length (texts items ++ tail) ≤ n → items_within n (texts items ++ tail) ≡ Some items
+computed [] [] n all ended room = at_none n
+computed [] (b ∷ tail) zero all ended room = absurd (omega arith)
+computed [] (b ∷ tail) (suc n) all ended room = ap (λ (k : ℕ). items_within (suc n) (k ∷ tail)) ended ∙ at_mark n tail
+computed (i ∷ items) tail n all ended room =
+    let rest = texts items ++ tail in
+    let bytes = texts (i ∷ items) ++ tail in
+    let joined : bytes ≡ text i ++ rest = append_assoc (text i) (texts items) tail in
+    let (r, head) = text_head i in
+    let cells : bytes ≡ i.kind ∷ (r ++ rest) = joined ∙ ap (λ (t : List ℕ). t ++ rest) head in
+    stepped i items rest (r ++ rest) bytes n all.0 joined cells (shorter i bytes rest joined) room (λ m h. computed items tail m all.1 ended h)
+
+-- the computed items are those of the bytes' option list, if they have one
+pub items_in-list : (bytes : List ℕ) (items : List Item) → (items_in bytes ≡ Some items) ↔ ((tail : List ℕ) × IsOptionList bytes items tail)
+items_in-list bytes items = (
+  listed (length bytes) bytes items,
+  λ l.
+      let (tail, is) = l in
+      let e = is.joined in
+      ap (λ (n : ℕ). items_within n bytes) (ap length e) ∙ ap (items_within (length (texts items ++ tail))) e ∙ computed items tail (length (texts items ++ tail)) is.each is.ended (omega arith),
+)

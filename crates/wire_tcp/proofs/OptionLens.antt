@@ -1,0 +1,174 @@
+-- An emitted header is never longer than a header that parses as the same value.
+use Rattle.std.proofs.Common.{◌≡◌, ℕ, zero, suc, ◌+◌, ◌-◌, ◌*◌, ◌%◌, ◌≤◌, inl, inr, Bool, true, false, cond, eqb, ltb, List, [], ◌∷◌, length, map, drop, count_by, min, Option, Some, None, is_some, arith, refl, sym, ap, ◌∙◌, length-append, length-drop, subst}
+use Rattle.std.specs.Option.{option_or, option_map, option_map_or}
+use Rattle.std.specs.List.{AllByRecursion, range_with_len}
+use Rattle.std.proofs.lemmas.Bool.{eqb-true, cases_Bool, ltb-true, ltb-false}
+use Rattle.std.proofs.lemmas.List.{length-take-le}
+use Rattle.std.proofs.Math.Dec.{eqb-suc-zero}
+use Rattle.std.proofs.lemmas.List.Sums.{sum_by-cons}
+use Rattle.byteorder.specs.Endian.{big_number}
+use Rattle.wire_ends.specs.declared.ip_address.IpAddress.{IpAddress}
+use Rattle.wire_tcp.specs.Tcp.{header_len, options_of, payload_of}
+use Rattle.wire_tcp_parts.specs.TcpItems.{Item, item, IsItem, text, texts, block_at, first_blocks, last_of, is_of, is_timestamp, segment_size_of, window_scale_of, sack_permitted_of, sack_ranges_of, timestamp_of}
+use Rattle.wire_tcp_parts.specs.declared.tcp.TheConstants.{SACK_BLOCKS}
+use Rattle.wire_tcp_parts.proofs.Summaries.{and_left, and_right}
+use Rattle.wire_tcp.proofs.TcpComputed.{tcp_of-Reads}
+use Rattle.wire_tcp.specs.TcpRepr.{Reads, ReadsOptions, TcpHeader, stamp_of, sack_len, len_if, header_len_of, tcp_of}
+
+-- one field of what the items say asks for no more than the field of the later items and this item
+field_step : {X : Type 0} (f : Item → X) (w : ℕ) (o : Option Item) (b : Bool) (i : Item) → len_if (is_some (option_map f (option_or o (cond b (Some i) None)))) w ≤ len_if (is_some (option_map f o)) w + len_if b w
+field_step f w (Some x) b i = omega arith
+field_step f w None true i = omega arith
+field_step f w None false i = omega arith
+
+flag_step : (w : ℕ) (o : Option Item) (b : Bool) (i : Item) → len_if (is_some (option_or o (cond b (Some i) None))) w ≤ len_if (is_some o) w + len_if b w
+flag_step w (Some x) b i = omega arith
+flag_step w None true i = omega arith
+flag_step w None false i = omega arith
+
+abbrev kept : List (Option (ℕ × ℕ)) → ℕ
+kept ranges = sack_len (count_by is_some ranges)
+
+ranges_step : (o : Option Item) (b : Bool) (i : Item)
+    → kept (first_blocks (option_map_or (λ i. i.content) (option_or o (cond b (Some i) None)) [])) ≤ kept (first_blocks (option_map_or (λ i. i.content) o [])) + len_if b (kept (first_blocks i.content))
+ranges_step (Some x) b i = omega arith
+ranges_step None true i = omega arith
+ranges_step None false i = omega arith
+
+-- a block, if there is one
+abbrev block_if : List ℕ → ℕ → Bool → Option (ℕ × ℕ)
+block_if content a b = cond b (Some (big_number 4 (drop (8 * a) content), big_number 4 (drop (8 * a + 4) content))) None
+
+abbrev block_count : List ℕ → ℕ → Bool → ℕ
+block_count content a b = cond (is_some (block_if content a b)) 1 0
+
+-- of n blocks, those from a on
+blocks_from : (content : List ℕ) (n : ℕ) → length content ≡ 8 * n → (m a : ℕ) → count_by is_some (map (block_at content) (range_with_len a m)) ≤ n - a
+blocks_from content n whole zero a = omega arith
+blocks_from content n whole (suc m) a =
+    let later = blocks_from content n whole m (a + 1) in
+    let first : count_by is_some (map (block_at content) (range_with_len a (suc m))) ≡ block_count content a (ltb (8 * a) (length content)) + count_by is_some (map (block_at content) (range_with_len (a + 1) m)) = sum_by-cons (λ x. cond (is_some x) 1 0) (block_at content a) (map (block_at content) (range_with_len (a + 1) m)) in
+    elim (cases_Bool (ltb (8 * a) (length content))) [
+      | inl y ↦ let inside = ltb-true _ _ y in let one = ap (block_count content a) y in omega (arith, first, later, one, inside, whole)
+      | inr y ↦ let past = ltb-false _ _ y in let no = ap (block_count content a) y in omega (arith, first, later, no, past, whole)
+    ]
+
+-- the length of a SACK option with at least one range
+pub sack_len-suc : (k : ℕ) → sack_len (suc k) ≡ 2 + 8 * suc k
+sack_len-suc k = ap (λ b. cond b 0 (2 + 8 * suc k)) (eqb-suc-zero k)
+
+sack_len-le : (k n : ℕ) → k ≤ n → sack_len k ≤ 2 + 8 * n
+sack_len-le zero n h = omega arith
+sack_len-le (suc k) n h = let e = sack_len-suc k in omega (arith, e)
+
+-- blocks of data are as many bytes as the ranges that are kept of them
+pub kept-le : (content : List ℕ) (n : ℕ) → length content ≡ 8 * n → kept (first_blocks content) ≤ 2 + length content
+kept-le content n whole =
+    let most = blocks_from content n whole SACK_BLOCKS 0 in
+    let l = sack_len-le (count_by is_some (first_blocks content)) n (omega (arith, most)) in
+    omega (arith, l, whole)
+
+-- what the items ask for
+abbrev pub asked : List Item → ℕ
+asked items =
+    len_if (is_some (segment_size_of items)) 4 + len_if (is_some (window_scale_of items)) 3 + len_if (sack_permitted_of items) 2
+    + kept (sack_ranges_of items) + len_if (is_some (timestamp_of items)) 10
+
+abbrev IsWeighed : Item → Type 0
+IsWeighed i = len_if (is_of 2 i) 4 + len_if (is_of 3 i) 3 + len_if (is_of 4 i) 2 + len_if (is_of 5 i) (kept (first_blocks i.content)) + len_if (is_timestamp i) 10 ≤ length (text i)
+
+weight_2 : (content : List ℕ) → length content ≡ 2 → IsWeighed (item 2 content)
+weight_2 content e = omega (arith, e)
+
+weight_3 : (content : List ℕ) → length content ≡ 1 → IsWeighed (item 3 content)
+weight_3 content e = omega (arith, e)
+
+weight_4 : (content : List ℕ) → IsWeighed (item 4 content)
+weight_4 content = omega arith
+
+weight_5 : (content : List ℕ) (n : ℕ) → length content ≡ 8 * n → IsWeighed (item 5 content)
+weight_5 content n e = let k = kept-le content n e in omega (arith, k)
+
+len_if-le : (b : Bool) (n : ℕ) → len_if b n ≤ n
+len_if-le true n = omega arith
+len_if-le false n = omega arith
+
+weight_8 : (content : List ℕ) → length content ≡ 8 → IsWeighed (item 8 content)
+weight_8 content e = let l = len_if-le (eqb (length content) 8) 10 in omega (arith, e, l)
+
+weight_other : (i : Item) → eqb i.kind 2 ≡ false → eqb i.kind 3 ≡ false → eqb i.kind 4 ≡ false → eqb i.kind 5 ≡ false → is_timestamp i ≡ false → IsWeighed i
+weight_other i n₂ n₃ n₄ n₅ n₈ =
+    let e₂ = ap (λ b. len_if b 4) n₂ in
+    let e₃ = ap (λ b. len_if b 3) n₃ in
+    let e₄ = ap (λ b. len_if b 2) n₄ in
+    let e₅ = ap (λ b. len_if b (kept (first_blocks i.content))) n₅ in
+    let e₈ = ap (λ b. len_if b 10) n₈ in
+    omega (arith, e₂, e₃, e₄, e₅, e₈)
+
+at_kind : (i : Item) (k : ℕ) → eqb i.kind k ≡ true → IsWeighed (item k i.content) → IsWeighed i
+at_kind i k e h = subst (λ n. IsWeighed (item n i.content)) (sym (eqb-true i.kind k e)) h
+
+-- an item is as long as what it can be read for
+weight : (i : Item) → IsItem i → IsWeighed i
+weight i is = elim (cases_Bool (eqb i.kind 2)) [
+  | inl y ↦ at_kind i 2 y (weight_2 i.content (is.segment_size (eqb-true i.kind 2 y)))
+  | inr n₂ ↦ elim (cases_Bool (eqb i.kind 3)) [
+    | inl y ↦ at_kind i 3 y (weight_3 i.content (is.window_scale (eqb-true i.kind 3 y)))
+    | inr n₃ ↦ elim (cases_Bool (eqb i.kind 4)) [
+      | inl y ↦ at_kind i 4 y (weight_4 i.content)
+      | inr n₄ ↦ elim (cases_Bool (eqb i.kind 5)) [
+        | inl y ↦ let n = is.sack_ranges (eqb-true i.kind 5 y) in at_kind i 5 y (weight_5 i.content n.0 n.2)
+        | inr n₅ ↦ elim (cases_Bool (is_timestamp i)) [
+          | inl y ↦ at_kind i 8 (and_left _ _ y) (weight_8 i.content (eqb-true (length i.content) 8 (and_right _ _ y)))
+          | inr n₈ ↦ weight_other i n₂ n₃ n₄ n₅ n₈
+        ]
+      ]
+    ]
+  ]
+]
+
+abbrev stamp_in : Item → ℕ × ℕ
+stamp_in i = (big_number 4 i.content, big_number 4 (drop 4 i.content))
+
+-- the items are never shorter than the emitted options of the value that they parse as
+pub asked-le : (items : List Item) → AllByRecursion IsItem items → asked items ≤ length (texts items)
+asked-le [] all = omega arith
+asked-le (i ∷ items) all =
+    let later = asked-le items all.1 in
+    let own = weight i all.0 in
+    let a = field_step (λ i. big_number 2 i.content) 4 (last_of (is_of 2) items) (is_of 2 i) i in
+    let b = field_step (λ i. big_number 1 i.content) 3 (last_of (is_of 3) items) (is_of 3 i) i in
+    let c = flag_step 2 (last_of (is_of 4) items) (is_of 4 i) i in
+    let d = ranges_step (last_of (is_of 5) items) (is_of 5 i) i in
+    let e = field_step stamp_in 10 (last_of is_timestamp items) (is_timestamp i) i in
+    omega (arith, later, own, a, b, c, d, e, length-append (text i) (texts items))
+
+-- a mapped option is `Some` exactly if the option is
+pub some_map : {X Y : Type 0} (f : X → Y) (o : Option X) → is_some (option_map f o) ≡ is_some o
+some_map f None = refl
+some_map f (Some x) = refl
+
+-- a header that parses as a value is never shorter than the emitted header of the value
+pub shortest : (bytes : List ℕ) (v : TcpHeader) → ReadsOptions bytes v → length bytes % 4 ≡ 0 → header_len_of v ≤ 20 + length bytes
+shortest bytes v r words =
+    let items = r.items in
+    let least = asked-le items r.list.each in
+    let e₁ = ap (λ o. len_if (is_some o) 4) r.max_seg_size in
+    let e₂ = ap (λ o. len_if (is_some o) 3) r.window_scale ∙ ap (λ b. len_if b 3) (some_map (min 14) (window_scale_of items)) in
+    let e₃ = ap (λ b. len_if b 2) r.sack_permitted in
+    let e₄ = ap kept r.sack_ranges in
+    let e₅ = ap (λ o. len_if (is_some o) 10) r.timestamp ∙ ap (λ b. len_if b 10) (some_map stamp_of (timestamp_of items)) in
+    let long = ap length r.list.joined in
+    omega (arith, least, e₁, e₂, e₃, e₄, e₅, long, length-append (texts items) r.tail)
+
+-- the same for a segment
+pub header_len-read : (src dst : IpAddress) (verified : Bool) (bytes payload : List ℕ) (v : TcpHeader) → Reads bytes src dst verified v payload → header_len_of v ≤ header_len bytes
+header_len-read src dst verified bytes payload v r =
+    let least = r.lengths.header in
+    let whole = r.lengths.whole in
+    let long : length (options_of bytes) ≡ header_len bytes - 20 = length-take-le (header_len bytes - 20) (drop 20 bytes) (omega (arith, length-drop 20 bytes)) in
+    omega (arith, least, long, shortest (options_of bytes) v r.options (omega (arith, long, least)))
+
+-- the emitted header of a parsed value is never longer than the parsed header
+pub header_len-tcp_of : (src dst : IpAddress) (verified : Bool) (bytes : List ℕ) (v : TcpHeader) → tcp_of src dst verified bytes ≡ Some v → header_len_of v ≤ header_len bytes
+header_len-tcp_of src dst verified bytes v e = header_len-read src dst verified bytes (payload_of bytes) v ((tcp_of-Reads src dst verified bytes v).0 e)

@@ -1,0 +1,44 @@
+-- A value of the program is in range.
+use Rattle.std.proofs.Common.{rules, ◌<◌, ◌^◌, List, [], ◌∷◌, Option, Some, None, IfSome}
+use Rattle.std.specs.List.{AllByRecursion}
+use base.Fml.{Fml}
+use denote.Array.{each}
+use denote.Builtin.{u32}
+use denote.Ref.{NamedLft}
+use denote.Shadow.{shadow}
+use denote.Struct.Declared.{row}
+use denote.Struct.Tuple.{Tuple}
+use mir.Val.{Val}
+use Rattle.std.specs.contracts.option.Option as option
+use Rattle.wire_tcp.specs.TcpRepr.{IsInRange, header_of}
+use Rattle.wire_tcp.specs.contracts.tcp.repr.TcpRepr.{the_type}
+use Rattle.wire_tcp.specs.declared.tcp.repr.TcpRepr.{TcpRepr}
+use Rattle.wire_tcp.proofs.OptionsBack.{Pair}
+
+-- what each item of an array says
+each_says : {X : Type 0} (says : X → List Val → Fml) (P : X → Type 0) → ((x : X) (vals : List Val) → shadow (says x vals) → P x)
+    → (xs : List X) (vals : List Val) → shadow (each X says xs vals) → AllByRecursion P xs
+each_says says P one [] [] s = tt
+each_says says P one [] (u ∷ vals) s = absurd s
+each_says says P one (x ∷ xs) [] s = absurd s
+each_says says P one (x ∷ xs) (u ∷ vals) s = (one x (u ∷ []) s.0, each_says says P one xs vals s.1)
+
+-- the edges of a range are numbers of 32 bits
+range_says : (r : Option Pair) (vals : List Val) → shadow ((option.the_row (Tuple (u32 ∷ u32 ∷ []))).own_val r vals) → IfSome r (λ r. (r.0 < 2 ^ 32) × (r.1 < 2 ^ 32))
+range_says None vals s = tt
+range_says (Some r) vals s = search rules
+
+-- the ranges of the numbers of a value
+pub value_in_range : (a : NamedLft) (v : TcpRepr) (vals : List Val) → shadow ((row (the_type a)).own_val v vals) → IsInRange (header_of v)
+value_in_range a v vals s = record {
+  src_port = search rules;
+  dst_port = search rules;
+  seq_number = search rules;
+  ack_number = search rules;
+  window_len = search rules;
+  window_scale = search rules;
+  max_seg_size = search rules;
+  places = search rules;
+  sack_ranges = each_says (option.the_row (Tuple (u32 ∷ u32 ∷ []))).own_val (λ r. IfSome r (λ r. (r.0 < 2 ^ 32) × (r.1 < 2 ^ 32))) range_says v.sack_ranges s.1.1.1.1.1.1.1.1.1.1.1.0.0 s.1.1.1.1.1.1.1.1.1.1.1.0.1.1;
+  timestamp = search rules;
+}

@@ -1,0 +1,294 @@
+-- The values of TCP segments (RFC 9293, section 3.1; options by RFC 2018 and RFC 7323).
+use Rattle.std.specs.Prelude.{ℕ, zero, suc, ◌≡◌, ◌≢◌, ◌⊎◌, ◌==◌, ◌&&◌, ◌||◌, not, if◌then◌else◌, Bool, IsTrue, is_none, is_some, IfSome, ◌+◌, ◌-◌, ◌*◌, ◌/◌, ◌^◌, ◌<◌, FitsSigned, min, Option, Some, None, List, [], ◌∷◌, ◌++◌, count_by, length, map, replicate}
+use Rattle.std.specs.Int.{cast_signed, w32}
+use Rattle.std.specs.List.{AllByRecursion, filter_map}
+use Rattle.std.specs.Option.{option_and_then, option_map, option_map_or}
+use Rattle.byteorder.specs.Endian.{big_bytes}
+use Rattle.wire_ends.specs.declared.ip_address.IpAddress.{IpAddress}
+use Rattle.wire_field.specs.Field.{field}
+use Rattle.wire_tcp.specs.Tcp.{HasLengths, Verifies, has_lengths, options_of, payload_of, segment_sum}
+use Rattle.wire_tcp_parts.specs.TcpItems.{IsOptionList, Item, first_item, item, sack_permitted_of, sack_ranges_of, segment_size_of, texts, timestamp_of, window_scale_of}
+use Rattle.wire_tcp_parts.specs.TcpOption.{range_bytes}
+use Rattle.wire_tcp_parts.specs.TcpSeq.{number}
+use Rattle.wire_tcp_parts.specs.declared.tcp.TheConstants.{SACK_BLOCKS}
+use Rattle.wire_tcp_parts.specs.declared.tcp.control.TcpControl.{TcpControl}
+use Rattle.wire_tcp_parts.specs.declared.tcp.control.TcpControl.TheVariants as control
+use Rattle.wire_tcp_parts.specs.declared.tcp.seq_number.TcpSeqNumber.{TcpSeqNumber}
+use Rattle.wire_tcp_parts.specs.declared.tcp.timestamp.TcpTimestampRepr.{TcpTimestampRepr}
+use Rattle.wire_tcp.specs.declared.tcp.repr.TcpRepr.{TcpRepr}
+
+-- The values of a segment without its payload. Two values with equal headers and equal octets of their payloads are equal.
+pub record TcpHeader : Type 0 where
+  pub src_port : ℕ
+  pub dst_port : ℕ
+  pub control : TcpControl
+  pub seq_number : TcpSeqNumber
+  pub ack_number : Option TcpSeqNumber
+  pub window_len : ℕ
+  pub window_scale : Option ℕ
+  pub max_seg_size : Option ℕ
+  pub sack_permitted : Bool
+  pub sack_ranges : List (Option (ℕ × ℕ))
+  pub timestamp : Option TcpTimestampRepr
+
+-- a value without its payload
+abbrev pub header_of : TcpRepr → TcpHeader
+header_of v = record {
+  src_port = v.src_port;
+  dst_port = v.dst_port;
+  control = v.control;
+  seq_number = v.seq_number;
+  ack_number = v.ack_number;
+  window_len = v.window_len;
+  window_scale = v.window_scale;
+  max_seg_size = v.max_seg_size;
+  sack_permitted = v.sack_permitted;
+  sack_ranges = v.sack_ranges;
+  timestamp = v.timestamp;
+}
+
+-- ---- what the bytes say
+
+-- the sequence number of 32 bits
+abbrev pub seq_of : ℕ → TcpSeqNumber
+seq_of bits = record { 0 = cast_signed w32 bits }
+
+-- RST, SYN and FIN, each 1 where it is set
+pub record HasFlags (bytes : List ℕ) (r s f : ℕ) : Type 0 where
+  pub rst : field bytes 109 1 ≡ r
+  pub syn : field bytes 110 1 ≡ s
+  pub fin : field bytes 111 1 ≡ f
+
+-- the control of a segment: the one of RST, SYN and FIN that is set, or PSH if none of them is
+abbrev pub HasControl : List ℕ → TcpControl → Type 0
+HasControl bytes control.Rst = HasFlags bytes 1 0 0
+HasControl bytes control.Syn = HasFlags bytes 0 1 0
+HasControl bytes control.Fin = HasFlags bytes 0 0 1
+HasControl bytes control.Psh = HasFlags bytes 0 0 0 × (field bytes 108 1 ≡ 1)
+HasControl bytes control.None = HasFlags bytes 0 0 0 × (field bytes 108 1 ≡ 0)
+
+-- the acknowledgement number, if ACK is set
+abbrev pub ack_number_of : List ℕ → Option TcpSeqNumber
+ack_number_of bytes = if field bytes 107 1 == 1 then Some (seq_of (field bytes 64 32)) else None
+
+-- a timestamp, and the echoed timestamp
+abbrev pub stamp_of : ℕ × ℕ → TcpTimestampRepr
+stamp_of t = record { tsval = t.0; tsecr = t.1 }
+
+-- the window scale of an option, at most 14 (RFC 7323, section 2.3)
+abbrev pub scale_of : List Item → Option ℕ
+scale_of items = option_map (min 14) (window_scale_of items)
+
+-- the timestamp of an option
+abbrev pub stamps_of : List Item → Option TcpTimestampRepr
+stamps_of items = option_map stamp_of (timestamp_of items)
+
+-- the bytes have an option list, and these are the values of the last item of each kind
+pub record ReadsOptions (bytes : List ℕ) (v : TcpHeader) : Type 0 where
+  pub items : List Item
+  pub tail : List ℕ
+  pub list : IsOptionList bytes items tail
+  pub max_seg_size : v.max_seg_size ≡ segment_size_of items
+  pub window_scale : v.window_scale ≡ scale_of items
+  pub sack_permitted : v.sack_permitted ≡ sack_permitted_of items
+  pub sack_ranges : v.sack_ranges ≡ sack_ranges_of items
+  pub timestamp : v.timestamp ≡ stamps_of items
+
+-- the bytes are a segment between two addresses that parses as these values and this payload
+pub record Reads (bytes : List ℕ) (src dst : IpAddress) (verified : Bool) (v : TcpHeader) (payload : List ℕ) : Type 0 where
+  pub lengths : HasLengths bytes
+  pub sender : field bytes 0 16 ≢ 0
+  pub receiver : field bytes 16 16 ≢ 0
+  pub control : HasControl bytes v.control
+  pub checksum : IsTrue verified → Verifies src dst bytes
+  pub options : ReadsOptions (options_of bytes) v
+  pub src_port : v.src_port ≡ field bytes 0 16
+  pub dst_port : v.dst_port ≡ field bytes 16 16
+  pub seq_number : v.seq_number ≡ seq_of (field bytes 32 32)
+  pub ack_number : v.ack_number ≡ ack_number_of bytes
+  pub window_len : v.window_len ≡ field bytes 112 16
+  pub body : payload ≡ payload_of bytes
+
+-- more than one of RST, SYN and FIN is set
+abbrev pub HasNoControl : List ℕ → Type 0
+HasNoControl bytes = (asked : TcpControl) → HasControl bytes asked → ⊥
+
+-- the bytes do not parse as a segment between these addresses
+abbrev pub HasNoReading : List ℕ → IpAddress → IpAddress → Bool → Type 0
+HasNoReading bytes src dst verified = (v : TcpHeader) (payload : List ℕ) → Reads bytes src dst verified v payload → ⊥
+
+-- ---- the same computed
+
+-- the control of RST, SYN, FIN and PSH, each 1 if it is set
+abbrev pub control_by : ℕ → ℕ → ℕ → ℕ → Option TcpControl
+control_by rst syn fin psh =
+    if rst + syn + fin == 0 then Some (if psh == 1 then control.Psh else control.None)
+    else if rst + syn + fin == 1 then Some (if rst == 1 then control.Rst else if syn == 1 then control.Syn else control.Fin)
+    else None
+
+-- the control of the segment, if at most one of RST, SYN and FIN is set
+abbrev pub control_of : List ℕ → Option TcpControl
+control_of bytes = control_by (field bytes 109 1) (field bytes 110 1) (field bytes 111 1) (field bytes 108 1)
+
+-- the items in at most n bytes up to the end of the list, if none of them is malformed
+unfoldable pub items_within : ℕ → List ℕ → Option (List Item)
+items_within n [] = Some []
+items_within zero (kind ∷ rest) = None
+items_within (suc n) (kind ∷ rest) =
+    if kind == 0 then Some []
+    else option_and_then (λ d. option_map (λ items. d.0 ∷ items) (items_within n d.1)) (first_item (kind ∷ rest))
+
+-- the items up to the end of the list, if none of them is malformed
+abbrev pub items_in : List ℕ → Option (List Item)
+items_in bytes = items_within (length bytes) bytes
+
+-- the values of a segment with this control and these items
+abbrev pub header_with : List ℕ → TcpControl → List Item → TcpHeader
+header_with bytes asked items = record {
+  src_port = field bytes 0 16;
+  dst_port = field bytes 16 16;
+  control = asked;
+  seq_number = seq_of (field bytes 32 32);
+  ack_number = ack_number_of bytes;
+  window_len = field bytes 112 16;
+  window_scale = scale_of items;
+  max_seg_size = segment_size_of items;
+  sack_permitted = sack_permitted_of items;
+  sack_ranges = sack_ranges_of items;
+  timestamp = stamps_of items;
+}
+
+-- whether lengths, ports and checksum are valid
+abbrev pub is_sound : IpAddress → IpAddress → Bool → List ℕ → Bool
+is_sound src dst verified bytes =
+    has_lengths bytes && not (field bytes 0 16 == 0) && not (field bytes 16 16 == 0)
+    && (not verified || (segment_sum src dst bytes == 65535))
+
+-- the value that the bytes parse as, if there is one, without its payload
+unfoldable pub tcp_of : IpAddress → IpAddress → Bool → List ℕ → Option TcpHeader
+tcp_of src dst verified bytes =
+    if is_sound src dst verified bytes then
+    option_and_then (λ asked. option_map (header_with bytes asked) (items_in (options_of bytes))) (control_of bytes)
+    else None
+
+-- a control other than SYN, FIN and RST
+abbrev pub IsQuiet : TcpControl → Type 0
+IsQuiet asked = (asked ≡ control.None) ⊎ (asked ≡ control.Psh)
+
+-- ---- what a value is written as
+
+-- this many bytes if the test is true, else 0
+abbrev pub len_if : Bool → ℕ → ℕ
+len_if b n = if b then n else 0
+
+-- the length of a SACK option with n ranges, 0 if there are none
+abbrev pub sack_len : ℕ → ℕ
+sack_len n = if n == 0 then 0 else 2 + 8 * n
+
+-- the length of the options of a value, counting ranges that are not written too
+abbrev pub options_len : TcpHeader → ℕ
+options_len v =
+    len_if (is_some v.max_seg_size) 4 + len_if (is_some v.window_scale) 3 + len_if v.sack_permitted 2
+    + sack_len (count_by is_some v.sack_ranges) + len_if (is_some v.timestamp) 10
+
+-- the length of the header in octets, in whole words of 4
+abbrev pub header_len_of : TcpHeader → ℕ
+header_len_of v = (20 + options_len v + 3) / 4 * 4
+
+abbrev pub segment_size_items : Option ℕ → List Item
+segment_size_items None = []
+segment_size_items (Some size) = item 2 (big_bytes 2 size) ∷ []
+
+abbrev pub window_scale_items : Option ℕ → List Item
+window_scale_items None = []
+window_scale_items (Some scale) = item 3 (scale ∷ []) ∷ []
+
+abbrev pub timestamp_items : Option TcpTimestampRepr → List Item
+timestamp_items None = []
+timestamp_items (Some t) = item 8 (big_bytes 4 t.tsval ++ big_bytes 4 t.tsecr) ∷ []
+
+-- SACK permitted, or else the ranges if there is an acknowledgement and a range
+abbrev pub sack_items : TcpHeader → List Item
+sack_items v =
+    if v.sack_permitted then item 4 [] ∷ []
+    else (if is_none v.ack_number || (count_by is_some v.sack_ranges == 0) then [] else item 5 (range_bytes v.sack_ranges) ∷ [])
+
+-- the items of an emitted value, in their order
+abbrev pub items_of : TcpHeader → List Item
+items_of v = segment_size_items v.max_seg_size ++ window_scale_items v.window_scale ++ sack_items v ++ timestamp_items v.timestamp
+
+-- the options, and zeros up to the end of the header
+abbrev pub option_bytes : TcpHeader → List ℕ
+option_bytes v = texts (items_of v) ++ replicate (header_len_of v - 20 - length (texts (items_of v))) 0
+
+-- the flag that a control sets
+abbrev pub flag_of : TcpControl → ℕ
+flag_of control.None = 0
+flag_of control.Fin = 1
+flag_of control.Syn = 2
+flag_of control.Rst = 4
+flag_of control.Psh = 8
+
+-- the data offset, no reserved bit, and only the flags ACK and that of the control
+abbrev pub offset_and_flags : TcpHeader → ℕ
+offset_and_flags v = header_len_of v / 4 * 4096 + (if is_some v.ack_number then 16 else 0) + flag_of v.control
+
+-- the acknowledgement number, or 0
+abbrev pub ack_bits : TcpHeader → ℕ
+ack_bits v = option_map_or number v.ack_number 0
+
+-- the header with these values, with this checksum and no urgent pointer
+abbrev pub header_bytes : TcpHeader → ℕ → List ℕ
+header_bytes v checksum =
+    big_bytes 2 v.src_port ++ big_bytes 2 v.dst_port ++ big_bytes 4 (number v.seq_number) ++ big_bytes 4 (ack_bits v)
+    ++ big_bytes 2 (offset_and_flags v) ++ big_bytes 2 v.window_len ++ big_bytes 2 checksum ++ big_bytes 2 0 ++ option_bytes v
+
+-- the header with this checksum, and the payload
+abbrev pub segment_with : TcpHeader → List ℕ → ℕ → List ℕ
+segment_with v payload checksum = header_bytes v checksum ++ payload
+
+-- The header and the payload. A computed checksum covers them and the rest of the buffer behind them; else it is 0.
+abbrev pub bytes_of : TcpHeader → List ℕ → IpAddress → IpAddress → Bool → List ℕ → List ℕ
+bytes_of v payload src dst computed rest =
+    segment_with v payload (if computed then 65535 - segment_sum src dst (segment_with v payload 0 ++ rest) else 0)
+
+-- ---- normal forms
+
+-- ranges without gaps
+abbrev pub closed : List (Option (ℕ × ℕ)) → List (Option (ℕ × ℕ))
+closed ranges =
+    let there = filter_map (λ r. r) ranges in
+    map Some there ++ replicate (length ranges - length there) None
+
+-- no range
+abbrev pub no_ranges : List (Option (ℕ × ℕ))
+no_ranges = replicate SACK_BLOCKS None
+
+-- The values that the emitted segment parses as. A window scale above 14 becomes 14, and ranges lose their gaps. No
+-- ranges are left beside SACK permitted, or without an acknowledgement.
+abbrev pub normal : TcpHeader → TcpHeader
+normal v = record v {
+  window_scale = option_map (min 14) v.window_scale;
+  sack_ranges = if v.sack_permitted || is_none v.ack_number then no_ranges else closed v.sack_ranges;
+}
+
+-- it has ranges that are not written: without an acknowledgement, or beside SACK permitted
+abbrev pub HasIdleRanges : TcpHeader → Type 0
+HasIdleRanges v = (count_by is_some v.sack_ranges ≢ 0) × (IsTrue v.sack_permitted ⊎ (v.ack_number ≡ None))
+
+-- the number is one of 32 bits
+abbrev pub IsSeq : TcpSeqNumber → Type 0
+IsSeq s = FitsSigned w32 s.0
+
+-- each number is one of its type, and there are as many places for ranges as are kept
+pub record IsInRange (v : TcpHeader) : Type 0 where
+  pub src_port : v.src_port < 2 ^ 16
+  pub dst_port : v.dst_port < 2 ^ 16
+  pub seq_number : IsSeq v.seq_number
+  pub ack_number : IfSome v.ack_number IsSeq
+  pub window_len : v.window_len < 2 ^ 16
+  pub window_scale : IfSome v.window_scale (λ n. n < 2 ^ 8)
+  pub max_seg_size : IfSome v.max_seg_size (λ n. n < 2 ^ 16)
+  pub places : length v.sack_ranges ≡ SACK_BLOCKS
+  pub sack_ranges : AllByRecursion (λ r. IfSome r (λ r. (r.0 < 2 ^ 32) × (r.1 < 2 ^ 32))) v.sack_ranges
+  pub timestamp : IfSome v.timestamp (λ t. (t.tsval < 2 ^ 32) × (t.tsecr < 2 ^ 32))

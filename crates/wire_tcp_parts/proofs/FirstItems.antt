@@ -1,0 +1,147 @@
+-- The first item of bytes as it is computed.
+use Rattle.std.proofs.Common.{ℕ, ◌≡◌, ◌≢◌, ◌+◌, ◌-◌, ◌/◌, ◌%◌, ◌≤◌, ◌==◌, ◌&&◌, ◌||◌, inl, inr, not, Bool, true, false, List, [], ◌∷◌, ◌++◌, length, drop, take, Option, Some, None, refl, sym, ap, subst, ◌∙◌, length-append, arith}
+use Rattle.std.specs.Prelude.{if◌then◌else◌, nat_le, nat_lt, slice_index}
+use Rattle.std.proofs.lemmas.Bool.{cases_Bool, eq-eqb, eqb-true, eqb-false, lt-ltb}
+use Rattle.std.proofs.lemmas.Bool.Decides.{nat_tests}
+use Rattle.std.proofs.lemmas.List.{drop_at, length-take-le, take_at}
+use Rattle.wire_tcp_parts.specs.TcpItems.{Item, IsItem, first_item, is_sized, item, text}
+use Rattle.wire_tcp_parts.proofs.Items.{IsItem-bare, text-bare, text-other, text_here}
+use Rattle.wire_tcp_parts.proofs.Summaries.{and_right}
+
+-- a test that follows from another
+implied : (p q : Bool) → (p ≡ true → q ≡ true) → (not p || q) ≡ true
+implied true q h = h refl
+implied false q h = refl
+
+-- two tests
+both : (p q : Bool) → p ≡ true → q ≡ true → (p && q) ≡ true
+both p q h k = rw (h, k) refl
+
+-- an item's data have a length that its kind allows
+sized : (i : Item) → IsItem i → is_sized i.kind (length i.content) ≡ true
+sized i is =
+    let below = is.below in
+    let size = is.size in
+    let low : nat_lt i.kind 256 ≡ true = grind (arith, nat_tests) in
+    let short : nat_le (length i.content) 253 ≡ true = grind (arith, nat_tests) in
+    both _ _ (both _ _ (both _ _ (both _ _ (both _ _ low short)
+    (implied _ _ (λ e. eq-eqb (length i.content) 2 (is.segment_size (eqb-true i.kind 2 e)))))
+    (implied _ _ (λ e. eq-eqb (length i.content) 1 (is.window_scale (eqb-true i.kind 3 e)))))
+    (implied _ _ (λ e. eq-eqb (length i.content) 0 (ap length (is.sack_permitted (eqb-true i.kind 4 e))))))
+    (implied _ _ (λ e.
+    let (n, some, whole) = is.sack_ranges (eqb-true i.kind 5 e) in
+    both _ _ (lt-ltb 0 (length i.content) (omega arith)) (eq-eqb (length i.content % 8) 0 (omega arith))))
+
+no_content : (content : List ℕ) → length content ≡ 0 → content ≡ []
+no_content [] e = refl
+no_content (x ∷ xs) e = absurd (omega arith)
+
+is_item : (kind : ℕ) (content : List ℕ) → kind ≢ 0 → kind ≢ 1 → is_sized kind (length content) ≡ true → IsItem (item kind content)
+is_item kind content some other h = record {
+  above = omega (arith, some);
+  below = grind (arith, nat_tests);
+  size = grind (arith, nat_tests);
+  no_operation = λ e. absurd (other e);
+  segment_size = λ e. grind (arith, nat_tests);
+  window_scale = λ e. grind (arith, nat_tests);
+  sack_permitted = λ e. no_content content (grind (arith, nat_tests));
+  sack_ranges = λ e. (length content / 8, grind (arith, nat_tests), grind (arith, nat_tests));
+}
+
+-- the bytes begin with this item, and the rest follows it
+pub record Leads (bytes : List ℕ) (i : Item) (rest : List ℕ) : Type 0 where
+  pub is : IsItem i
+  pub joined : bytes ≡ text i ++ rest
+
+front : (kind : ℕ) (rest : List ℕ) → kind ≢ 1 → 2 ≤ slice_index rest 0 → slice_index rest 0 - 2 ≤ length (drop 1 rest)
+    → kind ∷ rest ≡ text (item kind (take (slice_index rest 0 - 2) (drop 1 rest))) ++ drop (slice_index rest 0 - 2) (drop 1 rest)
+front kind [] other some room = absurd (omega arith)
+front kind (len ∷ rest) other some room =
+    let two : 2 + (len - 2) ≡ len = omega arith in
+    ap (λ (l : ℕ). kind ∷ l ∷ rest) (sym two) ∙ text_here kind (len - 2) rest other room
+
+-- the value of a choice of three
+choices : (a b c : Bool) (y z w : Option (Item × List ℕ)) (P : Type 0)
+    → (None ≡ w → P) → (a ≡ false → b ≡ true → y ≡ w → P) → (a ≡ false → b ≡ false → c ≡ true → z ≡ w → P)
+    → (if a then None else if b then y else if c then z else None) ≡ w → P
+choices true b c y z w P k g h e = k e
+choices false true c y z w P k g h e = g refl refl e
+choices false false true y z w P k g h e = h refl refl refl e
+choices false false false y z w P k g h e = k e
+
+of_some : (a b : Item × List ℕ) → Some a ≡ Some b → a ≡ b
+of_some a b e = cc
+
+-- what is computed leads the bytes
+pub first_item-Leads : (bytes : List ℕ) (i : Item) (rest : List ℕ) → first_item bytes ≡ Some (i, rest) → Leads bytes i rest
+unfolding first_item
+first_item-Leads [] i rest e = absurd (cc)
+first_item-Leads (kind ∷ r) i rest e =
+    let size = slice_index r 0 - 2 in
+    let behind = drop 1 r in
+    choices (kind == 0) (kind == 1) (nat_le 2 (slice_index r 0) && nat_le size (length behind) && is_sized kind size) _ _ (Some (i, rest)) (Leads (kind ∷ r) i rest)
+    (λ none. absurd (cc))
+    (λ some one same.
+    let pair = of_some (item 1 [], r) (i, rest) same in
+    let is = ap (λ (d : Item × List ℕ). d.0) pair in
+    let left = ap (λ (d : Item × List ℕ). d.1) pair in
+    let lead : Leads (kind ∷ r) (item 1 []) r = record { is = IsItem-bare; joined = ap (λ (k : ℕ). k ∷ r) (eqb-true kind 1 one) } in
+    subst (λ (j : Item). Leads (kind ∷ r) j rest) is (subst (Leads (kind ∷ r) (item 1 [])) left lead))
+    (λ some other t same.
+    let pair = of_some (item kind (take size behind), drop size behind) (i, rest) same in
+    let is = ap (λ (d : Item × List ℕ). d.0) pair in
+    let left = ap (λ (d : Item × List ℕ). d.1) pair in
+    let room : size ≤ length behind = grind (arith, nat_tests) in
+    let two : 2 ≤ slice_index r 0 = grind (arith, nat_tests) in
+    let fits : is_sized kind (length (take size behind)) ≡ true = ap (is_sized kind) (length-take-le size behind room) ∙ and_right _ _ t in
+    let lead : Leads (kind ∷ r) (item kind (take size behind)) (drop size behind) = record {
+      is = is_item kind (take size behind) (eqb-false kind 0 some) (eqb-false kind 1 other) fits;
+      joined = front kind r (eqb-false kind 1 other) two room;
+    } in
+    subst (λ (j : Item). Leads (kind ∷ r) j rest) is (subst (Leads (kind ∷ r) (item kind (take size behind))) left lead)) e
+
+third : (a b c : Bool) (y z : Option (Item × List ℕ)) → a ≡ false → b ≡ false → c ≡ true → (if a then None else if b then y else if c then z else None) ≡ z
+third a b c y z p q r = rw (p, q, r) refl
+
+with_length : (i : Item) (rest : List ℕ) → IsItem i → i.kind ≢ 1 → first_item (i.kind ∷ (2 + length i.content) ∷ (i.content ++ rest)) ≡ Some (i, rest)
+unfolding first_item
+with_length i rest is other =
+    let size : 2 + length i.content - 2 ≡ length i.content = omega arith in
+    let above = is.above in
+    let behind = i.content ++ rest in
+    let some : (i.kind == 0) ≡ false = grind (arith, nat_tests) in
+    let no : (i.kind == 1) ≡ false = grind (arith, nat_tests) in
+    let long = length-append i.content rest in
+    let two : nat_le 2 (2 + length i.content) ≡ true = grind (arith, nat_tests) in
+    let room : nat_le (2 + length i.content - 2) (length behind) ≡ true = grind (arith, nat_tests) in
+    let fits : is_sized i.kind (2 + length i.content - 2) ≡ true = ap (is_sized i.kind) size ∙ sized i is in
+    let test : (nat_le 2 (2 + length i.content) && nat_le (2 + length i.content - 2) (length behind) && is_sized i.kind (2 + length i.content - 2)) ≡ true =
+    both _ _ (both _ _ two room) fits in
+    third (i.kind == 0) (i.kind == 1) _ _ _ some no test
+    ∙ ap (λ (s : ℕ). Some (item i.kind (take s behind), drop s behind)) size
+    ∙ ap (λ (l : List ℕ). Some (item i.kind l, drop (length i.content) behind)) (take_at i.content rest (length i.content) refl)
+    ∙ ap (λ (l : List ℕ). Some (i, l)) (drop_at i.content rest (length i.content) refl)
+
+bare : (rest : List ℕ) → first_item (1 ∷ rest) ≡ Some (item 1 [], rest)
+unfolding first_item
+bare rest = refl
+
+-- what leads the bytes is computed
+pub Leads-first_item : (bytes : List ℕ) (i : Item) (rest : List ℕ) → Leads bytes i rest → first_item bytes ≡ Some (i, rest)
+Leads-first_item bytes i rest l = elim (cases_Bool (i.kind == 1)) [
+  | inl y ↦
+      let one = eqb-true i.kind 1 y in
+      let is : item 1 [] ≡ i = ap (λ (k : ℕ). item k []) (sym one) ∙ ap (item i.kind) (sym (l.is.no_operation one)) in
+      ap first_item (l.joined ∙ ap (λ (t : List ℕ). t ++ rest) (text-bare i one)) ∙ bare rest ∙ ap (λ (j : Item). Some (j, rest)) is
+  | inr y ↦
+      let other = eqb-false i.kind 1 y in
+      ap first_item (l.joined ∙ ap (λ (t : List ℕ). t ++ rest) (text-other i other)) ∙ with_length i rest l.is other
+]
+
+none_of : {A : Type 0} (o : Option A) → ((a : A) → o ≡ Some a → ⊥) → o ≡ None
+none_of None h = refl
+none_of (Some a) h = absurd (h a refl)
+
+-- of bytes that begin with no item none is computed
+pub first_item-None : (bytes : List ℕ) → ((i : Item) (rest : List ℕ) → Leads bytes i rest → ⊥) → first_item bytes ≡ None
+first_item-None bytes h = none_of (first_item bytes) (λ d e. h d.0 d.1 (first_item-Leads bytes d.0 d.1 e))

@@ -1,0 +1,134 @@
+-- Bytes have at most one option list, and where a walk gets stuck they have none.
+use Rattle.std.proofs.Common.{ℕ, ◌≡◌, ◌≢◌, ◌+◌, ◌<◌, inl, inr, eqb, List, [], ◌∷◌, ◌++◌, length, take, drop, refl, sym, ap, ◌∙◌, append_assoc, length-append, arith}
+use Rattle.std.specs.List.{AllByRecursion}
+use Rattle.std.proofs.lemmas.Bool.{cases_Bool, eqb-false, eqb-true}
+use Rattle.std.proofs.lemmas.List.{append-nil, drop_at, take_at}
+use Rattle.wire_tcp_parts.specs.TcpItems.{Item, item, IsItem, IsOptionList, IsTail, text, texts}
+use Rattle.wire_tcp_parts.specs.TcpOption.{BeginsNothing}
+use Rattle.wire_tcp_parts.specs.TcpSummary.{HasNoList}
+use Rattle.wire_tcp_parts.proofs.Items.{text-bare, text-other}
+use Rattle.wire_tcp_parts.proofs.Prefixes.{Walked, walk_on, walks_compared}
+
+-- a kind and data make an item
+same_item : (i j : Item) → i.kind ≡ j.kind → i.content ≡ j.content → i ≡ j
+same_item i j p q = ap (λ (k : ℕ). item k i.content) p ∙ ap (item j.kind) q
+
+-- a text begins with its kind
+pub text_head : (i : Item) → (rest : List ℕ) × (text i ≡ i.kind ∷ rest)
+text_head i = elim (cases_Bool (eqb i.kind 1)) [
+  | inl y ↦ let e = eqb-true i.kind 1 y in ([], text-bare i e ∙ ap (λ (k : ℕ). k ∷ []) (sym e))
+  | inr n ↦ (_, text-other i (eqb-false i.kind 1 n))
+]
+
+-- the first byte of a text is its kind
+pub head-text : (i : Item) (b : ℕ) (bs rest : List ℕ) → b ∷ bs ≡ text i ++ rest → b ≡ i.kind
+head-text i b bs rest e =
+    let h = text_head i in
+    let cells : b ∷ bs ≡ i.kind ∷ (h.0 ++ rest) = e ∙ ap (λ (t : List ℕ). t ++ rest) h.1 in
+    cc
+
+-- no bytes are no text
+pub nil-text : (i : Item) (rest : List ℕ) → [] ≡ text i ++ rest → ⊥
+nil-text i rest e =
+    let h = text_head i in
+    let cells : [] ≡ i.kind ∷ (h.0 ++ rest) = e ∙ ap (λ (t : List ℕ). t ++ rest) h.1 in
+    cc
+
+both_bare : (i j : Item) (a b : List ℕ) → IsItem i → IsItem j → i.kind ≡ 1 → j.kind ≡ 1 → text i ++ a ≡ text j ++ b → (i ≡ j) × (a ≡ b)
+both_bare i j a b is js p q e =
+    let cells : 1 ∷ a ≡ 1 ∷ b = ap (λ (t : List ℕ). t ++ a) (sym (text-bare i p)) ∙ e ∙ ap (λ (t : List ℕ). t ++ b) (text-bare j q) in
+    (same_item i j (p ∙ sym q) (is.no_operation p ∙ sym (js.no_operation q)), cc)
+
+one_bare : (i j : Item) (a b : List ℕ) → i.kind ≡ 1 → j.kind ≢ 1 → text i ++ a ≡ text j ++ b → ⊥
+one_bare i j a b p q e =
+    let cells : 1 ∷ a ≡ j.kind ∷ (2 + length j.content) ∷ (j.content ++ b) = ap (λ (t : List ℕ). t ++ a) (sym (text-bare i p)) ∙ e ∙ ap (λ (t : List ℕ). t ++ b) (text-other j q) in
+    let kind : 1 ≡ j.kind = cc in
+    q (sym kind)
+
+-- equal bytes that begin with items other than no-operation begin with the same item
+pub no_bare : (i j : Item) (a b : List ℕ) → i.kind ≢ 1 → j.kind ≢ 1 → text i ++ a ≡ text j ++ b → (i ≡ j) × (a ≡ b)
+no_bare i j a b p q e =
+    let cells : i.kind ∷ (2 + length i.content) ∷ (i.content ++ a) ≡ j.kind ∷ (2 + length j.content) ∷ (j.content ++ b) =
+    ap (λ (t : List ℕ). t ++ a) (sym (text-other i p)) ∙ e ∙ ap (λ (t : List ℕ). t ++ b) (text-other j q) in
+    let kind : i.kind ≡ j.kind = cc in
+    let long : 2 + length i.content ≡ 2 + length j.content = cc in
+    let size : length j.content ≡ length i.content = omega arith in
+    let more : i.content ++ a ≡ j.content ++ b = cc in
+    let n = length i.content in (
+      same_item i j kind (sym (take_at i.content a n refl) ∙ ap (take n) more ∙ take_at j.content b n size),
+      sym (drop_at i.content a n refl) ∙ ap (drop n) more ∙ drop_at j.content b n size,
+    )
+
+-- no item's text begins another's
+pub text_apart : (i j : Item) (a b : List ℕ) → IsItem i → IsItem j → text i ++ a ≡ text j ++ b → (i ≡ j) × (a ≡ b)
+text_apart i j a b is js e = elim (cases_Bool (eqb i.kind 1)) [
+  | inl y ↦ elim (cases_Bool (eqb j.kind 1)) [
+    | inl z ↦ both_bare i j a b is js (eqb-true i.kind 1 y) (eqb-true j.kind 1 z) e
+    | inr z ↦ absurd (one_bare i j a b (eqb-true i.kind 1 y) (eqb-false j.kind 1 z) e)
+  ]
+  | inr y ↦ elim (cases_Bool (eqb j.kind 1)) [
+    | inl z ↦ absurd (one_bare j i b a (eqb-true j.kind 1 z) (eqb-false i.kind 1 y) (sym e))
+    | inr z ↦ no_bare i j a b (eqb-false i.kind 1 y) (eqb-false j.kind 1 z) e
+  ]
+]
+
+-- items that were walked over
+abbrev pub Items : List ℕ → List Item → List ℕ → Type 0
+Items = Walked text IsItem
+
+-- a tail begins with no item
+tail_no_item : (t : List ℕ) (i : Item) (rest : List ℕ) → IsTail t → IsItem i → t ≡ text i ++ rest → ⊥
+tail_no_item [] i rest ended is e = nil-text i rest e
+tail_no_item (b ∷ t) i rest ended is e =
+    let kind = head-text i b t rest e in
+    omega (arith, ended, kind, is.above)
+
+-- from where no item begins no list goes on
+none_more : (zs : List Item) (t u : List ℕ) → AllByRecursion IsItem zs → ((i : Item) (rest : List ℕ) → IsItem i → t ≡ text i ++ rest → ⊥) → t ≡ texts zs ++ u → (zs ≡ []) × (t ≡ u)
+none_more [] t u za none e = (refl, e)
+none_more (z ∷ zs) t u za none e = absurd (none z (texts zs ++ u) za.0 (e ∙ append_assoc (text z) (texts zs) u))
+
+-- two walks that both end where no item begins are one
+pub one_end : (bytes : List ℕ) (xs ys : List Item) (t u : List ℕ) → Items bytes xs t → Items bytes ys u
+    → ((i : Item) (rest : List ℕ) → IsItem i → t ≡ text i ++ rest → ⊥) → ((i : Item) (rest : List ℕ) → IsItem i → u ≡ text i ++ rest → ⊥) → (xs ≡ ys) × (t ≡ u)
+one_end bytes xs ys t u a b ends ends' = elim (walks_compared text IsItem text_apart bytes xs ys t u a b) [
+  | inl g ↦
+      let n = none_more g.more t u g.each ends g.left in
+      (sym (g.longer ∙ ap (λ (zs : List Item). xs ++ zs) n.0 ∙ append-nil xs), n.1)
+  | inr g ↦
+      let n = none_more g.more u t g.each ends' g.left in
+      (g.longer ∙ ap (λ (zs : List Item). ys ++ zs) n.0 ∙ append-nil ys, sym n.1)
+]
+
+items_of : (bytes : List ℕ) (items : List Item) (tail : List ℕ) → IsOptionList bytes items tail → Items bytes items tail
+items_of bytes items tail l = record {
+  each = l.each;
+  joined_is = l.joined;
+}
+
+-- bytes have at most one option list
+pub one_list : (bytes : List ℕ) (xs ys : List Item) (t u : List ℕ) → IsOptionList bytes xs t → IsOptionList bytes ys u → (xs ≡ ys) × (t ≡ u)
+one_list bytes xs ys t u a b =
+    one_end bytes xs ys t u (items_of bytes xs t a) (items_of bytes ys u b) (λ i rest. tail_no_item t i rest a.ended) (λ i rest. tail_no_item u i rest b.ended)
+
+-- where a walk gets stuck before the end there is no option list
+pub stuck : (bytes : List ℕ) (xs : List Item) (r : List ℕ) → Items bytes xs r → 0 < length r → BeginsNothing r → HasNoList bytes
+stuck bytes xs r w some nothing ys t list =
+    let same = one_end bytes xs ys r t w (items_of bytes ys t list) nothing.no_item (λ i rest. tail_no_item t i rest list.ended) in
+    no_tail r t same.1 list.ended some nothing
+  where
+    no_tail : (r t : List ℕ) → r ≡ t → IsTail t → 0 < length r → BeginsNothing r → ⊥
+    no_tail r [] e ended some nothing = omega (arith, ap length e)
+    no_tail r (b ∷ t) e ended some nothing = nothing.no_mark t (e ∙ ap (λ (x : ℕ). x ∷ t) ended)
+
+-- one more item was walked over
+pub one_more : (bytes : List ℕ) (xs : List Item) (i : Item) (r s : List ℕ) → Items bytes xs r → IsItem i → r ≡ text i ++ s → Items bytes (xs ++ i ∷ []) s
+one_more bytes xs i r s w is e =
+    walk_on text IsItem bytes xs (i ∷ []) r s w (record { each = (is, tt); joined_is = e ∙ ap (λ (l : List ℕ). l ++ s) (sym (append-nil (text i))) })
+
+-- what follows an item is shorter
+pub shorter : (i : Item) (bytes rest : List ℕ) → bytes ≡ text i ++ rest → length rest < length bytes
+shorter i bytes rest e =
+    let h = text_head i in
+    let one : length (text i) ≡ length (i.kind ∷ h.0) = ap length h.1 in
+    omega (arith, one, ap length e ∙ length-append (text i) rest)

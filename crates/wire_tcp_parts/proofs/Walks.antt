@@ -1,0 +1,378 @@
+-- Long walks: each list of bytes has one, and a walk that gets stuck is it.
+use Rattle.std.proofs.Common.{ℕ, zero, suc, ◌≡◌, ◌≢◌, ◌<◌, ◌≤◌, ◌+◌, ◌-◌, ◌*◌, ◌/◌, ◌%◌, ◌⊎◌, inl, inr, false, eqb, List, [], ◌∷◌, ◌++◌, length, get_or, take, drop, Option, Some, None, Ok, Err, refl, sym, ap, subst, ◌∙◌, append_assoc, length-append, arith}
+use Rattle.std.specs.List.{AllByRecursion, flat_map}
+use Rattle.std.proofs.lemmas.Bool.{cases_Bool, cases_lt, eq-eqb, eqb-false, eqb-true}
+use Rattle.std.proofs.lemmas.List.{append-nil}
+use Rattle.wire_tcp_parts.proofs.Items.{IsItem-bare, text-other, text_here}
+use Rattle.wire_tcp_parts.proofs.OptionLists.{head-text, nil-text, no_bare, text_apart, text_head}
+use Rattle.wire_tcp_parts.proofs.Prefixes.{Goes, Walked, walk_on, walks_compared}
+use Rattle.wire_tcp_parts.specs.TcpItems.{Item, item, IsItem, first_blocks, text}
+use Rattle.wire_tcp_parts.specs.TcpOption.{Begins, BeginsNothing, IsReading, ranges_in}
+use Rattle.wire_tcp_parts.specs.TcpWalk.{Answers, FindsFirst, IsFirst, IsLongWalk, IsMark, IsWalk, Mark, answer_of, first_of, mark_text}
+use Rattle.wire_tcp_parts.specs.declared.tcp.option.TcpOption.{TcpOption}
+use Rattle.wire_tcp_parts.specs.declared.tcp.option.TcpOption.TheVariants.{EndOfList, NoOperation, MaxSegmentSize, WindowScale, SackPermitted, SackRange, TimeStamp, Unknown}
+
+-- ---- which bytes begin with an item or a mark
+
+abbrev Decided : Type 0 → Type 0
+Decided P = P ⊎ (P → ⊥)
+
+both : {P Q : Type 0} → Decided P → Decided Q → Decided (P × Q)
+both (inl p) (inl q) = inl (p, q)
+both (inl p) (inr n) = inr (λ x. n x.1)
+both (inr n) q = inr (λ x. n x.0)
+
+implied : {P Q : Type 0} → Decided P → Decided Q → Decided (P → Q)
+implied p (inl q) = inl (λ x. q)
+implied (inl p) (inr n) = inr (λ f. n (f p))
+implied (inr m) (inr n) = inl (λ x. absurd (m x))
+
+same : (m n : ℕ) → Decided (m ≡ n)
+same m n = elim (cases_Bool (eqb m n)) [ inl y ↦ inl (eqb-true m n y) | inr z ↦ inr (eqb-false m n z) ]
+
+below : (m n : ℕ) → Decided (m < n)
+below m n = elim (cases_lt m n) [ inl y ↦ inl y | inr z ↦ inr (λ y. omega arith) ]
+
+empty : (l : List ℕ) → Decided (l ≡ [])
+empty [] = inl refl
+empty (x ∷ l) = inr (λ e. cc)
+
+blocks : (l : List ℕ) → Decided ((n : ℕ) × (0 < n) × (length l ≡ 8 * n))
+blocks l = elim (same (length l % 8) 0) [
+  | inl whole ↦ elim (below 0 (length l)) [
+    | inl some ↦ inl (length l / 8, omega arith, omega arith)
+    | inr none ↦ inr (λ b. omega (arith, b.1, b.2))
+  ]
+  | inr cut ↦ inr (λ b. omega (arith, b.1, b.2))
+]
+
+-- whether a kind and data are an item
+decided : (i : Item) → Decided (IsItem i)
+decided i =
+    elim (both (both (below 0 i.kind) (both (below i.kind 256) (below (length i.content) 254)))
+    (both (both (implied (same i.kind 1) (empty i.content)) (implied (same i.kind 2) (same (length i.content) 2)))
+    (both (implied (same i.kind 3) (same (length i.content) 1)) (both (implied (same i.kind 4) (empty i.content)) (implied (same i.kind 5) (blocks i.content)))))) [
+      | inl y ↦ inl (record {
+        above = y.0.0;
+        below = y.0.1.0;
+        size = omega (arith, y.0.1.1);
+        no_operation = y.1.0.0;
+        segment_size = y.1.0.1;
+        window_scale = y.1.1.0;
+        sack_permitted = y.1.1.1.0;
+        sack_ranges = y.1.1.1.1;
+      })
+      | inr n ↦ inr (λ is. n (((is.above, (is.below, omega (arith, is.size))), ((is.no_operation, is.segment_size), (is.window_scale, (is.sack_permitted, is.sack_ranges))))))
+    ]
+
+-- what bytes begin with
+pub record Starts (bytes : List ℕ) : Type 0 where
+  pub mark : Mark
+  pub rest : List ℕ
+  pub is : IsMark mark
+  pub joined : bytes ≡ mark_text mark ++ rest
+
+-- a kind and a length, and the bytes behind them
+starts_with : (k l : ℕ) (r : List ℕ) → k ≢ 0 → k ≢ 1 → Starts (k ∷ l ∷ r) ⊎ BeginsNothing (k ∷ l ∷ r)
+starts_with k l r some other = elim (both (below 1 l) (below (l - 2) (suc (length r)))) [
+  | inl y ↦
+      let i = item k (take (l - 2) r) in
+      let size : l ≡ 2 + (l - 2) = omega (arith, y.0) in
+      let joined : k ∷ l ∷ r ≡ text i ++ drop (l - 2) r = ap (λ (x : ℕ). k ∷ x ∷ r) size ∙ text_here k (l - 2) r other (omega (arith, y.1)) in
+      elim (decided i) [
+        | inl is ↦ inl (record { mark = Some i; rest = drop (l - 2) r; is = is; joined = joined })
+        | inr not ↦ inr (record {
+          no_mark = λ rest e. some (first_is k 0 (l ∷ r) rest e);
+          no_item = λ j rest is e.
+              let j_other : j.kind ≢ 1 = λ one. other (head-text j k (l ∷ r) rest e ∙ one) in
+              let one = no_bare i j (drop (l - 2) r) rest other j_other (sym joined ∙ e) in
+              not (subst IsItem (sym one.0) is);
+        })
+      ]
+  | inr n ↦ inr (record {
+    no_mark = λ rest e. some (first_is k 0 (l ∷ r) rest e);
+    no_item = λ j rest is e.
+        let j_other : j.kind ≢ 1 = λ one. other (head-text j k (l ∷ r) rest e ∙ one) in
+        let cells : k ∷ l ∷ r ≡ j.kind ∷ (2 + length j.content) ∷ (j.content ++ rest) = e ∙ ap (λ (t : List ℕ). t ++ rest) (text-other j j_other) in
+        let size : l ≡ 2 + length j.content = cc in
+        let behind : r ≡ j.content ++ rest = cc in
+        let many : length r ≡ length j.content + length rest = ap length behind ∙ length-append j.content rest in
+        n (omega arith, omega arith);
+  })
+]
+  where
+    first_is : (x y : ℕ) (xs ys : List ℕ) → x ∷ xs ≡ y ∷ ys → x ≡ y
+    first_is x y xs ys e = cc
+
+starts : (bytes : List ℕ) → Starts bytes ⊎ BeginsNothing bytes
+starts [] = inr (record { no_mark = λ rest e. cc; no_item = λ i rest is e. nil-text i rest e })
+starts (zero ∷ r) = inl (record { mark = None; rest = r; is = tt; joined = refl })
+starts (suc zero ∷ r) = inl (record { mark = Some (item 1 []); rest = r; is = IsItem-bare; joined = refl })
+starts (suc (suc k) ∷ []) = inr (record {
+  no_mark = λ rest e. cc;
+  no_item = λ i rest is e.
+      let kind = head-text i (suc (suc k)) [] rest e in
+      let other : i.kind ≢ 1 = λ one. omega (arith, kind, one) in
+      let cells : suc (suc k) ∷ [] ≡ i.kind ∷ (2 + length i.content) ∷ (i.content ++ rest) = e ∙ ap (λ (t : List ℕ). t ++ rest) (text-other i other) in
+      let none : [] ≡ (2 + length i.content) ∷ (i.content ++ rest) = cc in
+      cc;
+})
+starts (suc (suc k) ∷ l ∷ r) = starts_with (suc (suc k)) l r (λ e. omega (arith, e)) (λ e. omega (arith, e))
+
+-- ---- walks
+
+-- no mark's text begins another's
+mark_apart : (m n : Mark) (a b : List ℕ) → IsMark m → IsMark n → mark_text m ++ a ≡ mark_text n ++ b → (m ≡ n) × (a ≡ b)
+mark_apart None None a b is js e = (refl, cc)
+mark_apart None (Some j) a b is js e =
+    let kind = head-text j 0 a b e in
+    absurd (omega (arith, kind, js.above))
+mark_apart (Some i) None a b is js e =
+    let kind = head-text i 0 b a (sym e) in
+    absurd (omega (arith, kind, is.above))
+mark_apart (Some i) (Some j) a b is js e =
+    let p = text_apart i j a b is js e in
+    (ap Some p.0, p.1)
+
+-- the bytes are the texts of these marks, and then a rest
+abbrev pub Marks : List ℕ → List Mark → List ℕ → Type 0
+Marks = Walked mark_text IsMark
+
+-- bytes that begin with a mark do not begin with nothing
+begins_mark : (m : Mark) (bytes rest : List ℕ) → IsMark m → bytes ≡ mark_text m ++ rest → BeginsNothing bytes → ⊥
+begins_mark None bytes rest is e nothing = nothing.no_mark rest e
+begins_mark (Some i) bytes rest is e nothing = nothing.no_item i rest is e
+
+-- a walk that gets stuck is the longest
+pub long : (bytes : List ℕ) (marks : List Mark) (rest : List ℕ) → Marks bytes marks rest → BeginsNothing rest → IsLongWalk bytes marks rest
+long bytes marks rest w nothing = record {
+  walk = record { each = w.each; joined = w.joined_is };
+  longest = λ others left o. elim (walks_compared mark_text IsMark mark_apart bytes marks others rest left w (record { each = o.each; joined_is = o.joined })) [
+    | inl g ↦ no_more others left g
+    | inr g ↦ omega (arith, ap length g.longer ∙ length-append others g.more)
+  ];
+}
+  where
+    no_more : (zs : List Mark) (left : List ℕ) → Goes mark_text IsMark marks zs rest left → length zs ≤ length marks
+    no_more zs left g = go g.more g.each g.longer g.left
+      where
+        go : (ms : List Mark) → AllByRecursion IsMark ms → zs ≡ marks ++ ms → rest ≡ flat_map mark_text ms ++ left → length zs ≤ length marks
+        go [] each longer e = omega (arith, ap length (longer ∙ append-nil marks))
+        go (m ∷ ms) each longer e = absurd (begins_mark m rest (flat_map mark_text ms ++ left) each.0 (e ∙ append_assoc (mark_text m) (flat_map mark_text ms) left) nothing)
+
+one_mark : (bytes : List ℕ) (m : Mark) (rest : List ℕ) → IsMark m → bytes ≡ mark_text m ++ rest → Marks bytes (m ∷ []) rest
+one_mark bytes m rest is e = record {
+  each = (is, tt);
+  joined_is = e ∙ ap (λ (l : List ℕ). l ++ rest) (sym (append-nil (mark_text m)));
+}
+
+-- a mark has a byte
+some_text : (m : Mark) → IsMark m → 0 < length (mark_text m)
+some_text None is = omega arith
+some_text (Some i) is = let h = text_head i in omega (arith, ap length h.1)
+
+-- a walk that gets stuck
+pub record Stuck (bytes : List ℕ) : Type 0 where
+  pub marks : List Mark
+  pub rest : List ℕ
+  pub walk : Marks bytes marks rest
+  pub nothing : BeginsNothing rest
+
+stuck_here : (bytes : List ℕ) → BeginsNothing bytes → Stuck bytes
+stuck_here bytes nothing = record {
+  marks = [];
+  rest = bytes;
+  walk = record { each = tt; joined_is = refl };
+  nothing = nothing;
+}
+
+starts_len : (bytes : List ℕ) (s : Starts bytes) → length bytes ≡ length (mark_text s.mark) + length s.rest
+starts_len bytes s = ap length s.joined ∙ length-append (mark_text s.mark) s.rest
+
+stuck_within : (n : ℕ) (bytes : List ℕ) → length bytes ≤ n → Stuck bytes
+stuck_within zero bytes h = elim (starts bytes) [
+  | inr nothing ↦ stuck_here bytes nothing
+  | inl s ↦ absurd (omega (arith, some_text s.mark s.is, starts_len bytes s))
+]
+stuck_within (suc n) bytes h = elim (starts bytes) [
+  | inr nothing ↦ stuck_here bytes nothing
+  | inl s ↦
+      let some = some_text s.mark s.is in
+      let next = stuck_within n s.rest (omega (arith, some, starts_len bytes s)) in
+      record {
+        marks = s.mark ∷ next.marks;
+        rest = next.rest;
+        walk = walk_on mark_text IsMark bytes (s.mark ∷ []) next.marks s.rest next.rest (one_mark bytes s.mark s.rest s.is s.joined) next.walk;
+        nothing = next.nothing;
+      }
+]
+
+-- bytes have a walk that gets stuck, which is the longest
+pub stuck_walk : (bytes : List ℕ) → Stuck bytes
+stuck_walk bytes = stuck_within (length bytes) bytes (omega arith)
+
+-- a walk to where nothing begins, on from some marks
+pub long_on : (bytes : List ℕ) (marks : List Mark) (rest : List ℕ) → Marks bytes marks rest → (next : Stuck rest) → IsLongWalk bytes (marks ++ next.marks) next.rest
+long_on bytes marks rest w next = long bytes (marks ++ next.marks) next.rest (walk_on mark_text IsMark bytes marks next.marks rest next.rest w next.walk) next.nothing
+
+-- bytes have at most one longest walk
+pub one_long_walk : (bytes : List ℕ) (xs ys : List Mark) (r t : List ℕ) → IsLongWalk bytes xs r → IsLongWalk bytes ys t → (xs ≡ ys) × (r ≡ t)
+one_long_walk bytes xs ys r t a b = elim (walks_compared mark_text IsMark mark_apart bytes xs ys r t (walk_of xs r a) (walk_of ys t b)) [
+  | inl g ↦
+      let n = no_more xs ys r t g (b.walk) (a.longest ys t b.walk) in
+      (sym n.0, n.1)
+  | inr g ↦
+      let n = no_more ys xs t r g (a.walk) (b.longest xs r a.walk) in
+      (n.0, sym n.1)
+]
+  where
+    walk_of : (zs : List Mark) (left : List ℕ) → IsLongWalk bytes zs left → Marks bytes zs left
+    walk_of zs left w = record { each = w.walk.each; joined_is = w.walk.joined }
+
+    no_more : (xs ys : List Mark) (r t : List ℕ) → Goes mark_text IsMark xs ys r t → IsWalk bytes ys t → length ys ≤ length xs → (ys ≡ xs) × (r ≡ t)
+    no_more xs ys r t g w h = go g.more g.longer g.left
+      where
+        go : (ms : List Mark) → ys ≡ xs ++ ms → r ≡ flat_map mark_text ms ++ t → (ys ≡ xs) × (r ≡ t)
+        go [] longer e = (longer ∙ append-nil xs, e)
+        go (m ∷ ms) longer e = absurd (omega (arith, ap length longer ∙ length-append xs (m ∷ ms)))
+
+-- ---- the first item of a kind
+
+first_of-append : (kind : ℕ) (xs ys : List Mark) → first_of kind xs ≡ None → first_of kind (xs ++ ys) ≡ first_of kind ys
+first_of-append kind [] ys none = refl
+first_of-append kind (None ∷ xs) ys none = first_of-append kind xs ys none
+first_of-append kind (Some i ∷ xs) ys none = elim (cases_Bool (eqb i.kind kind)) [
+  | inl y ↦
+      let found : Some i ≡ None = sym (rw y refl) ∙ none in
+      cc
+  | inr n ↦ rw n (first_of-append kind xs ys (rw n at none))
+]
+
+-- what an option was read from, as a mark
+pub record Read (option : TcpOption) (bytes rest : List ℕ) : Type 0 where
+  pub mark : Mark
+  pub is : IsMark mark
+  pub joined : bytes ≡ mark_text mark ++ rest
+  pub reading : (i : Item) → mark ≡ Some i → IsReading option i
+
+read_item : (option : TcpOption) (bytes rest : List ℕ) (i : Item) → IsItem i → IsReading option i → bytes ≡ text i ++ rest → Read option bytes rest
+read_item option bytes rest i is reading e = record {
+  mark = Some i;
+  is = is;
+  joined = e;
+  reading = λ j same. let one : i ≡ j = cc in subst (IsReading option) one reading;
+}
+
+pub read_mark : (option : TcpOption) (bytes rest : List ℕ) → Begins option bytes rest → Read option bytes rest
+read_mark EndOfList bytes rest e = record { mark = None; is = tt; joined = e; reading = λ i same. cc }
+read_mark NoOperation bytes rest (i, is, reading, e) = read_item NoOperation bytes rest i is reading e
+read_mark (MaxSegmentSize size) bytes rest (i, is, reading, e) = read_item (MaxSegmentSize size) bytes rest i is reading e
+read_mark (WindowScale scale) bytes rest (i, is, reading, e) = read_item (WindowScale scale) bytes rest i is reading e
+read_mark SackPermitted bytes rest (i, is, reading, e) = read_item SackPermitted bytes rest i is reading e
+read_mark (SackRange ranges) bytes rest (i, is, reading, e) = read_item (SackRange ranges) bytes rest i is reading e
+read_mark (TimeStamp tsval tsecr) bytes rest (i, is, reading, e) = read_item (TimeStamp tsval tsecr) bytes rest i is reading e
+read_mark (Unknown kind content) bytes rest (i, is, reading, e) = read_item (Unknown kind content) bytes rest i is reading e
+
+-- the first byte of a mark's text decides whether it is of a kind
+first_of-here : (kind : ℕ) (m : Mark) (b : ℕ) (bs rest : List ℕ) → 0 < kind → b ∷ bs ≡ mark_text m ++ rest → (b ≡ kind → (i : Item) × (m ≡ Some i) × (i.kind ≡ kind)) × (b ≢ kind → first_of kind (m ∷ []) ≡ None)
+first_of-here kind None b bs rest some e =
+    let zero_first : b ≡ 0 = cc in
+    (λ is. absurd (omega (arith, zero_first, is)), λ not. refl)
+first_of-here kind (Some i) b bs rest some e =
+    let first = head-text i b bs rest e in (
+      λ is. (i, refl, sym first ∙ is),
+      λ not. rw (other i.kind kind (λ y. not (first ∙ y))) refl,
+    )
+  where
+    other : (m n : ℕ) → m ≢ n → eqb m n ≡ false
+    other m n h = elim (cases_Bool (eqb m n)) [ inl y ↦ absurd (h (eqb-true m n y)) | inr z ↦ z ]
+
+-- the walk goes on over an option of another kind
+pub passed : (bytes : List ℕ) (marks : List Mark) (kind : ℕ) (r rest : List ℕ) (option : TcpOption) → Marks bytes marks r → first_of kind marks ≡ None → 0 < kind
+    → 0 < length r → Begins option r rest → get_or r 0 0 ≢ kind → (more : List Mark) × Marks bytes more rest × (first_of kind more ≡ None)
+passed bytes marks kind [] rest option w none some filled begins not = absurd (omega arith)
+passed bytes marks kind (b ∷ bs) rest option w none some filled begins not =
+    let r = read_mark option (b ∷ bs) rest begins in (
+      marks ++ r.mark ∷ [],
+      walk_on mark_text IsMark bytes marks (r.mark ∷ []) (b ∷ bs) rest w (one_mark (b ∷ bs) r.mark rest r.is r.joined),
+      first_of-append kind marks (r.mark ∷ []) none ∙ (first_of-here kind r.mark b bs rest some r.joined).1 not,
+    )
+
+-- it ends at an option of the kind
+pub found : (bytes : List ℕ) (marks : List Mark) (kind : ℕ) (r rest : List ℕ) (option : TcpOption) → Marks bytes marks r → first_of kind marks ≡ None → 0 < kind
+    → 0 < length r → Begins option r rest → get_or r 0 0 ≡ kind → FindsFirst bytes kind (Ok (Some option))
+found bytes marks kind [] rest option w none some filled begins is = absurd (omega arith)
+found bytes marks kind (b ∷ bs) rest option w none some filled begins is =
+    let r = read_mark option (b ∷ bs) rest begins in
+    let (i, same, of_kind) = (first_of-here kind r.mark b bs rest some r.joined).0 is in
+    let next = stuck_walk rest in
+    let here = walk_on mark_text IsMark bytes marks (r.mark ∷ []) (b ∷ bs) rest w (one_mark (b ∷ bs) r.mark rest r.is r.joined) in
+    let first : first_of kind ((marks ++ r.mark ∷ []) ++ next.marks) ≡ Some i =
+    ap (first_of kind) (append_assoc marks (r.mark ∷ []) next.marks) ∙ first_of-append kind marks (r.mark ∷ next.marks) none
+    ∙ ap (λ (m : Mark). first_of kind (m ∷ next.marks)) same ∙ rw (eq-eqb i.kind kind of_kind) refl in (
+      (marks ++ r.mark ∷ []) ++ next.marks,
+      next.rest,
+      long_on bytes (marks ++ r.mark ∷ []) rest here next,
+      rw first (option, subst IsMark same r.is, r.reading i same, refl),
+    )
+
+-- it gets stuck before the end
+pub broken : (bytes : List ℕ) (marks : List Mark) (kind : ℕ) (r : List ℕ) → Marks bytes marks r → first_of kind marks ≡ None → 0 < length r → BeginsNothing r → FindsFirst bytes kind (Err (record {}))
+broken bytes marks kind [] w none filled nothing = absurd (omega arith)
+broken bytes marks kind (b ∷ bs) w none filled nothing = (marks, b ∷ bs, long bytes marks (b ∷ bs) w nothing, rw none refl)
+
+-- it gets to the end
+pub ended : (bytes : List ℕ) (marks : List Mark) (kind : ℕ) (r : List ℕ) → Marks bytes marks r → first_of kind marks ≡ None → length r ≤ 0 → FindsFirst bytes kind (Ok None)
+ended bytes marks kind [] w none empty =
+    (marks, [], long bytes marks [] w (record { no_mark = λ rest e. cc; no_item = λ i rest is e. nil-text i rest e }), rw none refl)
+ended bytes marks kind (b ∷ bs) w none empty = absurd (omega arith)
+
+-- ---- the ranges
+
+-- the first item of a kind is of that kind
+first_of-kind : (kind : ℕ) (marks : List Mark) (i : Item) → first_of kind marks ≡ Some i → i.kind ≡ kind
+first_of-kind kind [] i e = absurd (cc)
+first_of-kind kind (None ∷ marks) i e = first_of-kind kind marks i e
+first_of-kind kind (Some j ∷ marks) i e = elim (cases_Bool (eqb j.kind kind)) [
+  | inl y ↦
+      let found : Some j ≡ Some i = sym (rw y refl) ∙ e in
+      let one : j ≡ i = cc in
+      ap (λ (k : Item). k.kind) (sym one) ∙ eqb-true j.kind kind y
+  | inr n ↦ first_of-kind kind marks i (rw n at e)
+]
+
+-- an item of kind 5 parses as its ranges
+reads_ranges : (option : TcpOption) (i : Item) → i.kind ≡ 5 → IsReading option i → ranges_in option ≡ first_blocks i.content
+reads_ranges EndOfList i five reading = absurd reading
+reads_ranges NoOperation i five reading = absurd (omega (arith, five, reading))
+reads_ranges (MaxSegmentSize size) i five reading = absurd (omega (arith, five, reading.0))
+reads_ranges (WindowScale scale) i five reading = absurd (omega (arith, five, reading.0))
+reads_ranges SackPermitted i five reading = absurd (omega (arith, five, reading))
+reads_ranges (SackRange ranges) i five reading = reading.1
+reads_ranges (TimeStamp tsval tsecr) i five reading = absurd (omega (arith, five, reading.0))
+reads_ranges (Unknown kind content) i five reading = absurd (omega (arith, five, reading.0, reading.2))
+
+-- `selective_ack_ranges` returns these ranges for the options
+abbrev pub AnswersRanges : List ℕ → List (Option (ℕ × ℕ)) → Type 0
+AnswersRanges bytes ranges = Answers bytes 5 (λ i. first_blocks i.content) (first_blocks []) (Ok ranges)
+
+-- what is answered where the walk found no option of kind 5, and where it found one
+pub no_ranges : (bytes : List ℕ) → FindsFirst bytes 5 (Ok None) → AnswersRanges bytes (first_blocks [])
+no_ranges bytes (marks, rest, walk, first) = (marks, rest, walk, go (first_of 5 marks) rest first)
+  where
+    go : (f : Option Item) (rest : List ℕ) → IsFirst f rest (Ok None) → Ok (first_blocks []) ≡ answer_of (λ i. first_blocks i.content) (first_blocks []) f rest
+    go None [] first = refl
+    go None (b ∷ bs) first = absurd (cc)
+    go (Some i) rest (read, is, reading, answer) = absurd (cc)
+
+-- the ranges that are returned if the walk finds an option of kind 5
+pub some_ranges : (bytes : List ℕ) (option : TcpOption) → FindsFirst bytes 5 (Ok (Some option)) → AnswersRanges bytes (ranges_in option)
+some_ranges bytes option (marks, rest, walk, first) = (marks, rest, walk, go (first_of 5 marks) rest (first_of-kind 5 marks) first)
+  where
+    go : (f : Option Item) (rest : List ℕ) → ((i : Item) → f ≡ Some i → i.kind ≡ 5) → IsFirst f rest (Ok (Some option))
+        → Ok (ranges_in option) ≡ answer_of (λ i. first_blocks i.content) (first_blocks []) f rest
+    go None [] five first = absurd (cc)
+    go None (b ∷ bs) five first = absurd (cc)
+    go (Some i) rest five (read, is, reading, answer) =
+        let one : option ≡ read = cc in
+        ap Ok (ap ranges_in one ∙ reads_ranges read i (five i refl) reading)

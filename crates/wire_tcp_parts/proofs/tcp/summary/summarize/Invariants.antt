@@ -1,0 +1,12 @@
+use Rattle.std.proofs.Common.{◌≡◌, List, length}
+use Rattle.wire_tcp_parts.proofs.OptionLists.{Items}
+use Rattle.wire_tcp_parts.specs.TcpItems.{Item}
+use Rattle.wire_tcp_parts.specs.TcpSummary.{summary_of}
+use Rattle.wire_tcp_parts.proofs.tcp.summary.summarize.Given as goal
+
+-- some items were walked over, and the summary is of these
+abbrev pub invariant-loop-rest : goal.invariant-loop-rest
+invariant-loop-rest l = (items : List Item) × Items l.options items l.rest × (l.summary ≡ summary_of items)
+
+abbrev pub decreases-loop-rest : goal.decreases-loop-rest
+decreases-loop-rest l = length l.rest

@@ -1,0 +1,6 @@
+pub mod TcpItems
+pub mod TcpOption
+pub mod TcpOptionLoan
+pub mod TcpSeq
+pub mod TcpSummary
+pub mod TcpWalk

@@ -1,0 +1,22 @@
+-- The values of the options of a header.
+use Rattle.std.specs.Prelude.{ℕ, ◌≡◌, List}
+use Rattle.wire_tcp_parts.specs.TcpItems.{Item, IsOptionList, sack_permitted_of, sack_ranges_of, segment_size_of, timestamp_of, window_scale_of}
+use Rattle.wire_tcp_parts.specs.declared.tcp.summary.TcpOptionSummary.{TcpOptionSummary}
+
+-- the last item of each kind counts
+abbrev pub summary_of : List Item → TcpOptionSummary
+summary_of items = record {
+  max_segment_size = segment_size_of items;
+  window_scale = window_scale_of items;
+  sack_permitted = sack_permitted_of items;
+  sack_ranges = sack_ranges_of items;
+  timestamp = timestamp_of items;
+}
+
+-- the bytes have an option list with these values
+abbrev pub Summarizes : List ℕ → TcpOptionSummary → Type 0
+Summarizes bytes summary = (items : List Item) × (tail : List ℕ) × IsOptionList bytes items tail × (summary ≡ summary_of items)
+
+-- the bytes have no option list
+abbrev pub HasNoList : List ℕ → Type 0
+HasNoList bytes = (items : List Item) (tail : List ℕ) → IsOptionList bytes items tail → ⊥

@@ -1,2 +1,0 @@
-pub mod TcpRepr
-pub mod TcpReprText
