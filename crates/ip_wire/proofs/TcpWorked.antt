@@ -70,7 +70,7 @@ unfolding rebuilt ip_packet_of ethernet_of ipv4_of tcp_segment_of tcp_of items_w
 rebuilt-padded = refl
 
 -- a segment whose checksum doesn't hold stays
-abbrev wrong_checksum : List ℕ
+abbrev pub wrong_checksum : List ℕ
 wrong_checksum = frame 0x30 0x5c (numbers ++ (0x60 ∷ 0x10 ∷ 0x01 ∷ 0x23 ∷ 0x28 ∷ 0x1f ∷ 0x00 ∷ 0x00 ∷ 0x04 ∷ 0x02 ∷ 0x00 ∷ 0x00 ∷ []) ++ payload)
 
 rebuilt-wrong_checksum : rebuilt wrong_checksum ≡ wrong_checksum

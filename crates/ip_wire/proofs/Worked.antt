@@ -57,7 +57,7 @@ unfolding rebuilt ip_packet_of ethernet_of ipv4_of words residue
 rebuilt-options = refl
 
 -- a packet whose checksum doesn't hold stays, padding and all
-abbrev wrong_checksum : List ℕ
+abbrev pub wrong_checksum : List ℕ
 wrong_checksum =
     addresses
     ++ (0x08 ∷ 0x00 ∷ 0x45 ∷ 0x00 ∷ 0x00 ∷ 0x18 ∷ 0x00 ∷ 0x00 ∷ 0x40 ∷ 0x00 ∷ 0x40 ∷ 0x01 ∷ 0xd2 ∷ 0x78 ∷ [])
@@ -70,7 +70,7 @@ unfolding rebuilt ip_packet_of ethernet_of ipv4_of words residue
 rebuilt-wrong_checksum = refl
 
 -- so does a fragment
-abbrev fragment : List ℕ
+abbrev pub fragment : List ℕ
 fragment =
     addresses
     ++ (0x08 ∷ 0x00 ∷ 0x45 ∷ 0x00 ∷ 0x00 ∷ 0x1e ∷ 0x01 ∷ 0x02 ∷ 0x62 ∷ 0x03 ∷ 0x1a ∷ 0x01 ∷ 0xd5 ∷ 0x6e ∷ [])
@@ -82,7 +82,7 @@ unfolding rebuilt ip_packet_of ethernet_of ipv4_of words residue
 rebuilt-fragment = refl
 
 -- so does what is no ARP packet of Ethernet and IPv4, whatever it is
-abbrev other_type : List ℕ
+abbrev pub other_type : List ℕ
 other_type = addresses ++ (0x08 ∷ 0x06 ∷ []) ++ packet_header ++ payload ++ (0x00 ∷ [])
 
 rebuilt-other_type : rebuilt other_type ≡ other_type
@@ -90,7 +90,7 @@ unfolding rebuilt ethernet_of arp_of
 rebuilt-other_type = refl
 
 -- padding behind an ARP packet is dropped
-abbrev arp_frame : List ℕ
+abbrev pub arp_frame : List ℕ
 arp_frame =
     addresses
     ++ (0x08 ∷ 0x06 ∷ 0x00 ∷ 0x01 ∷ 0x08 ∷ 0x00 ∷ 0x06 ∷ 0x04 ∷ 0x00 ∷ 0x01 ∷ [])

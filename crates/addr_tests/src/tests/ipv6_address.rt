@@ -115,6 +115,20 @@ fn has_a_scope(rt: HostRuntime) {
 }
 
 #[test]
+fn a_number_of_more_than_four_bits_has_no_scope(rt: HostRuntime) {
+    for (number, scope) in [
+        (0x02, Ipv6MulticastScope::LinkLocal),
+        (0x0e, Ipv6MulticastScope::Global),
+        (0x0f, Ipv6MulticastScope::Unknown),
+        (0x10, Ipv6MulticastScope::Unknown),
+        (0x12, Ipv6MulticastScope::Unknown),
+        (0xfe, Ipv6MulticastScope::Unknown),
+    ] {
+        assert_eq!(rt; Ipv6MulticastScope::from(number), scope, "{number}");
+    }
+}
+
+#[test]
 fn keeps_its_first_bits_under_a_mask(rt: HostRuntime) {
     let address = Ipv6Address::new(0x0123, 0x4567, 0x89ab, 0, 0, 0, 0, 1);
     let found = [

@@ -126,12 +126,13 @@ fn builds_an_ipv4_header(rt: HostRuntime) {
     let found = (
         (value.version(), value.next_header()),
         (value.header_len(), value.payload_len(), value.hop_limit()),
+        value.buffer_len(),
     );
     assert_eq!(rt;
         (value, found),
         (
             IpRepr::Ipv4(ipv4_header()),
-            ((IpVersion::Ipv4, IpProtocol::Icmp), (20, 4, 64))
+            ((IpVersion::Ipv4, IpProtocol::Icmp), (20, 4, 64), 24)
         )
     );
 }
@@ -148,7 +149,8 @@ fn builds_an_ipv6_header(rt: HostRuntime) {
     value.set_payload_len(12);
     let found = (
         (value.version(), value.src_addr(), value.dst_addr()),
-        (value.header_len(), value.payload_len()),
+        (value.next_header(), value.hop_limit()),
+        [value.header_len(), value.payload_len(), value.buffer_len()],
     );
     let header = ipv6_header();
     let (src, dst) = (
@@ -156,7 +158,14 @@ fn builds_an_ipv6_header(rt: HostRuntime) {
         IpAddress::from(header.dst_addr),
     );
     assert_eq!(rt; value, IpRepr::Ipv6(header));
-    assert_eq!(rt; found, ((IpVersion::Ipv6, src, dst), (40, 12)));
+    assert_eq!(rt;
+        found,
+        (
+            (IpVersion::Ipv6, src, dst),
+            (IpProtocol::Udp, 64),
+            [40, 12, 52]
+        )
+    );
 }
 
 /// A buffer of such bytes, in which a header was written.

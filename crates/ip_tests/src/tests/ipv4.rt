@@ -22,6 +22,18 @@ const TCP_HEADER: [u8; 20] = [
     0x21, 0x22, 0x23, 0x24,
 ];
 
+/// The header of a packet to 33.34.245.157, whose other words add up to ffff, so that its checksum is 0.
+const SUM_OF_0_HEADER: [u8; 20] = [
+    0x45, 0x00, 0x00, 0x18, 0x00, 0x00, 0x40, 0x00, 0x40, 0x01, 0x00, 0x00, 0x11, 0x12, 0x13, 0x14,
+    0x21, 0x22, 0xf5, 0x9d,
+];
+
+/// A header with a router alert.
+const OPTION_HEADER: [u8; 24] = [
+    0x46, 0x1a, 0x00, 0x1c, 0x12, 0x34, 0x40, 0x00, 0x40, 0x01, 0x2b, 0x23, 0x11, 0x12, 0x13, 0x14,
+    0x21, 0x22, 0x23, 0x24, 0x94, 0x04, 0x00, 0x00,
+];
+
 /// A header between other hosts.
 const OTHER_HEADER: [u8; 20] = [
     0x45, 0x00, 0x00, 0x1e, 0x00, 0x00, 0x40, 0x00, 0x40, 0x06, 0x26, 0xd8, 0x0a, 0x00, 0x00, 0x01,
@@ -142,15 +154,40 @@ fn writes_every_field(rt: HostRuntime) -> Result<(), Fail> {
     Ok(())
 }
 
+/// The bytes of a header with another checksum, after the right one is filled in.
+fn filled(header: &[u8]) -> [u8; 24] {
+    let mut buffer = [0; 24];
+    if header.len() <= 24 {
+        buffer[..header.len()].copy_from_slice(header);
+    }
+    buffer[10..12].fill(0xa5);
+    let mut packet = Ipv4PacketMut::new_unchecked(&mut buffer);
+    if packet.header_len() <= 24 {
+        packet.fill_checksum();
+    }
+    buffer
+}
+
+#[test]
+fn fills_in_the_checksum_of_the_whole_header(rt: HostRuntime) {
+    let mut sum_of_0 = [0; 24];
+    sum_of_0[..20].copy_from_slice(&SUM_OF_0_HEADER);
+    assert_eq!(rt; filled(&SUM_OF_0_HEADER), sum_of_0);
+    assert_eq!(rt; filled(&OPTION_HEADER), OPTION_HEADER);
+}
+
 #[test]
 fn a_written_field_leaves_the_others(rt: HostRuntime) -> Result<(), Fail> {
     let mut buffer = IPV4_FRAGMENT;
     let mut packet = Ipv4PacketMut::new_unchecked(&mut buffer);
+    packet.set_header_len(23);
     packet.set_dscp(0x2e);
     packet.set_ecn(3);
+    packet.set_frag_offset(0x203 * 8 + 7);
     packet.set_more_frags(false);
     packet.set_checksum(0x1234);
     packet.check_len()?;
+    assert_eq!(rt; &packet.as_bytes()[..2], [0x45, 0xbb].as_slice());
     let (mut bytes, mut numbers, mut bits, protocol, addresses) = fragment_fields();
     bytes[2] = 0x2e;
     bytes[3] = 3;
@@ -349,8 +386,13 @@ fn writes_a_header_and_leaves_the_rest(rt: HostRuntime) {
         next_header: IpProtocol::Unknown(6),
         ..ipv4_header()
     };
+    let sum_of_0 = Ipv4Repr {
+        dst_addr: Ipv4Address::new(33, 34, 245, 157),
+        ..ipv4_header()
+    };
     for (value, header) in [
         (ipv4_header(), &IPV4_PACKET[..20]),
+        (sum_of_0, &SUM_OF_0_HEADER),
         (longest, &LONGEST_HEADER),
         (by_number, &TCP_HEADER),
         (other_header(), &OTHER_HEADER),

@@ -1,6 +1,6 @@
 //! What all layers share: the error, and which checksums are left to the library.
 
-use ip_wire::{Error, IPV4_MIN_MTU};
+use ip_wire::{Error, IPV4_MIN_MTU, IPV6_MIN_MTU};
 use net_base::{Checksum, ChecksumCapabilities, Medium};
 use std::error::Error as StdError;
 use test_support::prints;
@@ -50,6 +50,6 @@ fn media_differ(rt: HostRuntime) {
 }
 
 #[test]
-fn ipv4_hosts_accept_576_octets(rt: HostRuntime) {
-    assert_eq!(rt; IPV4_MIN_MTU, 576);
+fn hosts_accept_576_octets_and_ipv6_links_1280(rt: HostRuntime) {
+    assert_eq!(rt; (IPV4_MIN_MTU, IPV6_MIN_MTU), (576, 1280));
 }

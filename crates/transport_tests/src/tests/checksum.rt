@@ -1,6 +1,6 @@
 //! Sums of words.
 
-use ip_wire::{IpProtocol, Ipv6Address, checksum};
+use ip_wire::{IpAddress, IpProtocol, Ipv6Address, checksum};
 use test_support::IPV4_PACKET;
 
 #[test]
@@ -38,4 +38,14 @@ fn sums_the_pseudo_header_between_hosts_of_a_link(rt: HostRuntime) {
     // fe80 + 1 + fe80 + 2 + 11 + c is 1fd20.
     let sum = checksum::pseudo_header_v6(&src, &dst, IpProtocol::Udp, 12);
     assert_eq!(rt; sum, 0xfd21);
+}
+
+#[test]
+fn the_low_16_bits_of_a_length_count(rt: HostRuntime) {
+    let (src, dst) = (IpAddress::v4(192, 168, 1, 1), IpAddress::v4(192, 168, 1, 2));
+    let zeros = [0; 0x1_000c];
+    for len in [12, 0x1_000c] {
+        let sum = checksum::packet(src, dst, IpProtocol::Udp, &zeros[..len]);
+        assert_eq!(rt; sum, 0x8371, "{len}");
+    }
 }

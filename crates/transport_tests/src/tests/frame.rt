@@ -3,10 +3,10 @@
 use super::{FRAME_DST, FRAME_SRC};
 use ip_wire::{
     ArpOperation, ArpRepr, Carried, EthernetAddress, EthernetProtocol, Frame, IpProtocol, IpRepr,
-    Ipv4Address, Ipv4Repr, Ipv6Address, Ipv6Repr, TcpControl, TcpRepr, TcpSeqNumber, Transport,
-    UdpRepr,
+    Ipv4Address, Ipv4Repr, Ipv6Address, Ipv6Repr, TcpControl, TcpRepr, TcpSeqNumber,
+    TcpTimestampRepr, Transport, UdpRepr,
 };
-use net_base::ChecksumCapabilities;
+use net_base::{Checksum, ChecksumCapabilities};
 use test_support::prints;
 
 /// A UDP packet from 192.168.1.1 to 192.168.1.2 with four octets.
@@ -128,12 +128,15 @@ fn parses(bytes: &[u8], text: &str, payload: Option<&[u8]>) -> bool {
     }
 }
 
-/// Whether the frame does not parse, but is read as far as this text says.
+/// Whether the frame does not parse, but is read as far as this text says, and has no payload then.
 fn is_kept(bytes: &[u8], text: &str) -> bool {
     let caps = ChecksumCapabilities::default();
     match Frame::read(bytes, &caps) {
         Ok(frame) => {
-            prints(&frame, text) && !frame.carried.is_read() && Frame::parse(bytes, &caps).is_err()
+            prints(&frame, text)
+                && frame.payload().is_none()
+                && !frame.carried.is_read()
+                && Frame::parse(bytes, &caps).is_err()
         }
         Err(_) => false,
     }
@@ -264,6 +267,18 @@ fn is_built_segment(header: IpRepr, segment: TcpRepr<'_>, bytes: &[u8]) -> bool 
     }
 }
 
+/// Whether a packet with a payload of another protocol is put together as these bytes.
+fn is_built_other(header: IpRepr, payload: &[u8], bytes: &[u8]) -> bool {
+    match Frame::packet(FRAME_SRC, FRAME_DST, header, Transport::Other(payload)) {
+        Ok(frame) => {
+            let mut buffer = [0xa5; 80];
+            let len = frame.try_emit(&mut buffer, &ChecksumCapabilities::default());
+            len == Some(bytes.len()) && is_written(&buffer, bytes)
+        }
+        Err(_) => false,
+    }
+}
+
 /// Whether the frame parses as the ARP packet between the two stations.
 fn is_request(bytes: &[u8]) -> bool {
     match Frame::parse(bytes, &ChecksumCapabilities::default()) {
@@ -287,20 +302,64 @@ fn puts_layers_together(rt: HostRuntime) {
     assert!(rt; is_built(ipv4(other, 0), PORTS, &UDP[42..], &UDP));
     assert!(rt; is_built(ipv6(other, 0), PORTS_OVER_IPV6, &[0xff; 4], &UDP_OVER_IPV6));
     assert!(rt; is_built_segment(ipv4(other, 0), SEGMENT, &SYN));
+    assert!(rt; is_built_other(ipv4(IpProtocol::Icmp, 0), &ECHO[34..], &ECHO));
     assert!(rt; is_request(&ARP));
 }
 
+/// The checksum at this place of the frame that is emitted again, if the frame parses with another one there.
+fn emitted_sum(bytes: &[u8], at: usize, caps: &ChecksumCapabilities) -> Option<[u8; 2]> {
+    let mut changed = [0; 80];
+    if bytes.len() > 80 || at > 78 {
+        return None;
+    }
+    changed[..bytes.len()].copy_from_slice(bytes);
+    changed[at] ^= 0x01;
+    match Frame::parse(&changed[..bytes.len()], caps) {
+        Ok(frame) => {
+            let mut buffer = [0xa5; 80];
+            frame.try_emit(&mut buffer, caps);
+            Some([buffer[at], buffer[at + 1]])
+        }
+        Err(_) => None,
+    }
+}
+
+#[test]
+fn leaves_each_checksum_to_the_device(rt: HostRuntime) {
+    let all = ChecksumCapabilities::default();
+    let none = Checksum::None;
+    for (caps, ip_sum, udp_sum, tcp_sum) in [
+        (all, true, true, true),
+        (
+            ChecksumCapabilities { ipv4: none, ..all },
+            false,
+            true,
+            true,
+        ),
+        (ChecksumCapabilities { udp: none, ..all }, true, false, true),
+        (ChecksumCapabilities { tcp: none, ..all }, true, true, false),
+    ] {
+        for (frame, at, is_checked) in [
+            (&UDP[..], 24, ip_sum),
+            (&UDP, 40, udp_sum),
+            (&UDP_OVER_IPV6, 60, udp_sum),
+            (&SYN, 24, ip_sum),
+            (&SYN, 50, tcp_sum),
+        ] {
+            let want = if is_checked { None } else { Some([0, 0]) };
+            assert_eq!(rt; emitted_sum(frame, at, &caps), want, "{at}");
+        }
+    }
+}
+
 /// Whether a frame can hold a UDP packet with a payload of this length.
-fn holds_udp(is_ipv4: bool, dst_port: u16, len: usize) -> bool {
+fn holds_udp(is_ipv4: bool, src_port: u16, dst_port: u16, len: usize) -> bool {
     let header = if is_ipv4 {
         ipv4(IpProtocol::Udp, 0)
     } else {
         ipv6(IpProtocol::Udp, 0)
     };
-    let ports = UdpRepr {
-        src_port: 1,
-        dst_port,
-    };
+    let ports = UdpRepr { src_port, dst_port };
     let long = [0; 65_536];
     match long.get(..len) {
         Some(payload) => Frame::udp(FRAME_SRC, FRAME_DST, header, ports, payload).is_ok(),
@@ -325,6 +384,18 @@ fn holds_tcp(src_port: u16, dst_port: u16, len: usize) -> bool {
     }
 }
 
+/// Whether a frame can hold a segment with four ranges and these options.
+fn holds_options(max_seg_size: Option<u16>, timestamp: Option<TcpTimestampRepr>) -> bool {
+    let segment = TcpRepr {
+        ack_number: Some(TcpSeqNumber(1)),
+        max_seg_size,
+        sack_ranges: [Some((1, 2)), Some((3, 4)), Some((5, 6)), Some((7, 8))],
+        timestamp,
+        ..SEGMENT
+    };
+    Frame::tcp(FRAME_SRC, FRAME_DST, ipv4(IpProtocol::Tcp, 0), segment).is_ok()
+}
+
 /// Whether a frame over IPv4 can hold a payload of this protocol.
 fn holds_other(protocol: IpProtocol, payload: &[u8]) -> bool {
     let header = ipv4(protocol, 0);
@@ -339,17 +410,18 @@ fn holds_unread(payload: &[u8]) -> bool {
 
 #[test]
 fn rejects_what_a_frame_cannot_hold(rt: HostRuntime) {
-    for (is_ipv4, dst_port, len, holds) in [
-        (true, 1, 65_507, true),
-        (true, 1, 65_508, false),
-        (false, 1, 65_527, true),
-        (false, 1, 65_528, false),
-        (true, 0, 0, false),
+    for (is_ipv4, src_port, dst_port, len, holds) in [
+        (true, 1, 1, 65_507, true),
+        (true, 1, 1, 65_508, false),
+        (false, 1, 1, 65_527, true),
+        (false, 1, 1, 65_528, false),
+        (true, 0, 1, 0, true),
+        (true, 1, 0, 0, false),
     ] {
         assert_eq!(rt;
-            holds_udp(is_ipv4, dst_port, len),
+            holds_udp(is_ipv4, src_port, dst_port, len),
             holds,
-            "{dst_port} {len}"
+            "{src_port} {dst_port} {len}"
         );
     }
     for (src_port, dst_port, len, holds) in [
@@ -364,6 +436,9 @@ fn rejects_what_a_frame_cannot_hold(rt: HostRuntime) {
             "{src_port} {dst_port} {len}"
         );
     }
+    // Four ranges and a segment size take all 40 octets of options.
+    assert!(rt; holds_options(Some(1460), None));
+    assert!(rt; !holds_options(None, Some(TcpTimestampRepr::new(1, 2))));
     assert!(rt; !holds_other(IpProtocol::Udp, &UDP[42..]));
     assert!(rt; holds_other(IpProtocol::Icmp, &UDP[42..]));
     assert!(rt; !holds_unread(&UDP[42..]));

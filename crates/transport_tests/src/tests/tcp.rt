@@ -24,6 +24,12 @@ pub(super) const SYN: [u8; 24] = [
     0x7a, 0x8d, 0x00, 0x00, 0xaa, 0x00, 0x00, 0xff,
 ];
 
+/// The same with a window that makes its checksum 0.
+pub(super) const SUM_OF_0: [u8; 24] = [
+    0xbf, 0x00, 0x00, 0x50, 0x01, 0x23, 0x45, 0x67, 0x00, 0x00, 0x00, 0x00, 0x50, 0x02, 0x7b, 0xb0,
+    0x00, 0x00, 0x00, 0x00, 0xaa, 0x00, 0x00, 0xff,
+];
+
 /// The options and the payload of the first.
 const OPTIONS: [u8; 4] = [0x03, 0x03, 0x0c, 0x01];
 
@@ -277,6 +283,15 @@ fn verifies_whole_and_partial_checksums(rt: HostRuntime) {
         let is_filled = packet.as_bytes() == SYN.as_slice();
         assert_eq!(rt; (found, is_filled), ([whole, partial], true));
     }
+}
+
+#[test]
+fn fills_in_a_checksum_of_0(rt: HostRuntime) {
+    let (src, dst) = ends();
+    let mut buffer = SUM_OF_0;
+    buffer[16..18].fill(0xa5);
+    TcpPacketMut::new_unchecked(&mut buffer).fill_checksum(&src, &dst);
+    assert_eq!(rt; buffer, SUM_OF_0);
 }
 
 #[test]

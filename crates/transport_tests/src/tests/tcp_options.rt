@@ -277,6 +277,22 @@ fn writes_ranges_without_gaps(rt: HostRuntime) {
 }
 
 #[test]
+fn writes_the_longest_option(rt: HostRuntime) {
+    let option = TcpOption::Unknown {
+        kind: 254,
+        bytes: &[0xaa; 253],
+    };
+    let mut want = [0xaa; 256];
+    want[..2].copy_from_slice(&[254, 255]);
+    want[255] = 0xcc;
+    let mut buffer = [0xcc; 256];
+    if option.buffer_len() <= buffer.len() {
+        option.emit(&mut buffer);
+    }
+    assert_eq!(rt; (option.buffer_len(), buffer), (255, want));
+}
+
+#[test]
 fn writes_no_ranges_in_two_octets(rt: HostRuntime) {
     let none = TcpOption::SackRange(NO_RANGES);
     let mut buffer = [0xff; 3];

@@ -2,7 +2,7 @@
 
 ghost use Rattle.std.specs.Prelude.{◌≤◌, length};
 
-use super::tcp::{SEGMENT, SYN, ends};
+use super::tcp::{SEGMENT, SUM_OF_0, SYN, ends};
 use super::tcp_options::{FOUR_BLOCKS, FOUR_RANGES, NO_RANGES};
 use ip_wire::{
     Error, Result, TCP_HEADER_LEN, TcpControl, TcpPacket, TcpPacketMut, TcpRepr, TcpSeqNumber,
@@ -41,6 +41,11 @@ fn ack() -> TcpRepr<'static> {
     }
 }
 
+/// The same with another control flag.
+fn flagged(control: TcpControl) -> TcpRepr<'static> {
+    TcpRepr { control, ..ack() }
+}
+
 /// What a value is written as over bytes of this value, and its length: none where it has no room.
 fn emitted(value: &TcpRepr<'_>, fill: u8, caps: &ChecksumCapabilities) -> ([u8; 64], usize)
     ensures { result.1 ≤ 64 }
@@ -65,6 +70,33 @@ fn writes_a_segment_and_leaves_the_rest(rt: HostRuntime) {
         let found = emitted(&syn(), fill, &ChecksumCapabilities::default());
         assert_eq!(rt; found, (want, 24));
     }
+}
+
+#[test]
+fn writes_a_checksum_of_0(rt: HostRuntime) {
+    let value = TcpRepr {
+        window_len: 0x7bb0,
+        ..syn()
+    };
+    let mut want = [0xa5; 64];
+    want[..24].copy_from_slice(&SUM_OF_0);
+    let found = emitted(&value, 0xa5, &ChecksumCapabilities::default());
+    assert_eq!(rt; found, (want, 24));
+}
+
+#[test]
+fn a_checksum_covers_the_whole_buffer(rt: HostRuntime) {
+    let (src, dst) = ends();
+    let mut want = [0xa5; 26];
+    want[..24].copy_from_slice(&SYN);
+    want[16..18].copy_from_slice(&[0xd4, 0xe5]);
+    let mut buffer = [0xa5; 26];
+    let value = syn();
+    if value.header_len() == 20 && value.payload.len() == 4 {
+        let mut packet = TcpPacketMut::new_unchecked(&mut buffer);
+        value.emit(&mut packet, &src, &dst, &ChecksumCapabilities::default());
+    }
+    assert_eq!(rt; buffer, want);
 }
 
 #[test]
@@ -107,6 +139,24 @@ fn payload_len(bytes: &[u8], caps: &ChecksumCapabilities) -> Result<usize> {
     let (src, dst) = ends();
     let packet = TcpPacket::new_unchecked(bytes);
     TcpRepr::parse(&packet, &src, &dst, caps).map(|value| value.payload.len())
+}
+
+#[test]
+fn verifies_as_is_asked_for_tcp(rt: HostRuntime) {
+    let mut wrong = SYN;
+    wrong[17] = 0x8e;
+    let ignored = ChecksumCapabilities::ignored();
+    for (tcp, want) in [
+        (Checksum::Both, Err(Error)),
+        (Checksum::Rx, Err(Error)),
+        (Checksum::Tx, Ok(4)),
+        (Checksum::None, Ok(4)),
+    ] {
+        for others in [ignored, ChecksumCapabilities::default()] {
+            let caps = ChecksumCapabilities { tcp, ..others };
+            assert_eq!(rt; payload_len(&wrong, &caps), want);
+        }
+    }
 }
 
 #[test]
@@ -351,9 +401,17 @@ fn counts_octets_and_numbers(rt: HostRuntime) {
         sack_ranges: FOUR_RANGES,
         ..ack()
     };
+    let data = TcpRepr {
+        payload: syn().payload,
+        ..flagged(TcpControl::Psh)
+    };
     for (value, header_len, segment_len, is_empty) in [
         (syn(), 20, 5, false),
         (ack(), 20, 0, true),
+        (flagged(TcpControl::Psh), 20, 0, true),
+        (data, 20, 4, false),
+        (flagged(TcpControl::Fin), 20, 1, false),
+        (flagged(TcpControl::Rst), 20, 0, false),
         (long, 64, 0, true),
         (four, 64, 0, true),
     ] {
@@ -374,11 +432,18 @@ fn prints_values(rt: HostRuntime) {
         (syn(), "TCP src=48896 dst=80 syn seq=19088743 win=291 len=4"),
         (
             TcpRepr {
-                control: TcpControl::Psh,
                 max_seg_size: Some(1460),
-                ..ack()
+                ..flagged(TcpControl::Psh)
             },
             "TCP src=48896 dst=80 psh seq=19088743 ack=162254319 win=291 len=0 mss=1460",
+        ),
+        (
+            flagged(TcpControl::Fin),
+            "TCP src=48896 dst=80 fin seq=19088743 ack=162254319 win=291 len=0",
+        ),
+        (
+            flagged(TcpControl::Rst),
+            "TCP src=48896 dst=80 rst seq=19088743 ack=162254319 win=291 len=0",
         ),
     ] {
         assert!(rt; prints(&value, text), "{text}");

@@ -243,13 +243,15 @@ fn asks_for_a_checksum_over_ipv6(rt: HostRuntime) {
 #[test]
 fn verifies_whole_and_partial_checksums(rt: HostRuntime) -> std::result::Result<(), Fail> {
     let (src, dst) = ipv4_ends();
+    let mut padded = [0x55; 14];
+    padded[..12].copy_from_slice(&PACKET);
     for (checksum, whole, partial) in [
         (0x124d, true, false),
         (0x124e, false, false),
         (0x8371, false, true),
         (0x0000, true, false),
     ] {
-        let mut buffer = PACKET;
+        let mut buffer = padded;
         let mut packet = UdpPacketMut::new_unchecked(&mut buffer);
         packet.set_checksum(checksum);
         packet.check_len()?;
@@ -257,7 +259,8 @@ fn verifies_whole_and_partial_checksums(rt: HostRuntime) -> std::result::Result<
             packet.verify_checksum(&src, &dst),
             packet.verify_partial_checksum(&src, &dst),
         ];
-        assert_eq!(rt; found, [whole, partial]);
+        packet.fill_checksum(&src, &dst);
+        assert_eq!(rt; (found, buffer), ([whole, partial], padded));
     }
     Ok(())
 }

@@ -1,0 +1,132 @@
+-- What worked frames are not read as: no definition of a reading holds of too many of them.
+use Rattle.std.proofs.Common.{ℕ, ◌≡◌, List, [], ◌∷◌, ◌++◌, inl, inr, false, true, None, Some, drop, take, refl, sym, ◌∙◌, arith, true≢false}
+use Rattle.ip_wire.proofs.TcpWorked as tcp_frames
+use Rattle.ip_wire.proofs.Worked as frames
+use Rattle.ip_wire.specs.Frame.{Carried, CarriesMessage, CarriesPacket, CarriesTransport, IsReadWhole, ReadsPacket, ReadsTransport, Transport, all_checked, datagram, message, other, packet, packet_payload, segment}
+use Rattle.ip_wire.specs.FrameValue.{Computes, Parses, ParsesCarried, ParsesTransport, ReadsNormalOf}
+use Rattle.ip_wire.specs.declared.frame.Frame.{Frame}
+use Rattle.ip_wire.specs.declared.frame.carried.Carried as carried_value
+use Rattle.ip_wire.specs.declared.frame.transport.Transport as transport_value
+use Rattle.net_base.specs.Checksum.{all_are}
+use Rattle.net_base.specs.declared.Checksum.{Checksum}
+use Rattle.net_base.specs.declared.Checksum.TheVariants as when
+use Rattle.net_base.specs.declared.ChecksumCapabilities.{ChecksumCapabilities}
+use Rattle.wire_arp.proofs.ArpComputed.{arp_of-Reads}
+use Rattle.wire_arp.specs.Arp.{arp_of}
+use Rattle.wire_arp.specs.declared.ArpRepr.{ArpRepr}
+use Rattle.wire_checksum.specs.WordSum.{residue, words}
+use Rattle.wire_ends.specs.declared.IpProtocol.TheVariants as protocol
+use Rattle.wire_ethernet.specs.declared.EthernetProtocol.TheVariants as ethertype
+use Rattle.wire_ethernet.specs.declared.EthernetRepr.{EthernetRepr}
+use Rattle.wire_ip.specs.declared.IpRepr.{IpRepr}
+use Rattle.wire_ip.specs.declared.IpRepr.TheVariants.{Ipv4, Ipv6}
+
+-- ---- packets
+
+-- a fragment is no whole packet
+fragment-packet : (w : IpRepr) → ¬ ReadsPacket all_checked (drop 14 frames.fragment) w
+fragment-packet (Ipv4 v) (reads, whole) = true≢false whole
+fragment-packet (Ipv6 v) reads = let version = reads.version in absurd (omega (arith, version))
+
+-- nor is a packet with a wrong checksum
+wrong_checksum-packet : (w : IpRepr) → ¬ ReadsPacket all_checked (drop 14 frames.wrong_checksum) w
+unfolding words residue
+wrong_checksum-packet (Ipv4 v) (reads, whole) = let sum = reads.checksum refl in absurd (omega (arith, sum))
+wrong_checksum-packet (Ipv6 v) reads = let version = reads.version in absurd (omega (arith, version))
+
+fragment-carries : ¬ CarriesPacket frames.fragment
+fragment-carries (v, w, header, type, reads) = fragment-packet w reads
+
+wrong_checksum-carries : ¬ CarriesPacket frames.wrong_checksum
+wrong_checksum-carries (v, w, header, type, reads) = wrong_checksum-packet w reads
+
+-- the type of a frame with an IPv4 packet has to name it
+other_type-packet : ¬ CarriesPacket frames.other_type
+other_type-packet (v, Ipv4 w, header, type, reads) = let apart : ethertype.Arp ≡ ethertype.Ipv4 = sym header.ethertype ∙ type in absurd (cc)
+other_type-packet (v, Ipv6 w, header, type, reads) = let apart : ethertype.Arp ≡ ethertype.Ipv6 = sym header.ethertype ∙ type in absurd (cc)
+
+-- ---- ARP packets
+
+-- an IPv4 packet is no ARP packet, whatever the type of its frame
+other_type-message : ¬ CarriesMessage frames.other_type
+unfolding arp_of
+other_type-message (v, w, reads) =
+    let read : None ≡ Some w = (arp_of-Reads (drop 14 frames.other_type) w).1 reads.reads_carried.1 in absurd (cc)
+
+-- the type of a frame with an ARP packet has to name it
+abbrev mistyped : List ℕ
+mistyped = take 12 frames.arp_frame ++ (0x08 ∷ 0x00 ∷ []) ++ drop 14 frames.arp_frame
+
+mistyped-message : ¬ CarriesMessage mistyped
+mistyped-message (v, w, reads) =
+    let apart : ethertype.Ipv4 ≡ ethertype.Arp = sym reads.reads_header.ethertype ∙ reads.reads_carried.0 in absurd (cc)
+
+-- ---- whole frames
+
+wrong_checksum-whole : (v : EthernetRepr) (c : Carried) → ¬ IsReadWhole frames.wrong_checksum v c
+wrong_checksum-whole v (message w) reads =
+    let apart : ethertype.Ipv4 ≡ ethertype.Arp = sym reads.reads_header.ethertype ∙ reads.reads_carried.0 in absurd (cc)
+wrong_checksum-whole v (packet w t) reads = wrong_checksum-packet w reads.reads_carried.1
+
+wrong_checksum-parses : (f : Frame) → ¬ Parses all_checked frames.wrong_checksum f
+wrong_checksum-parses f (read, is, reads) = wrong_checksum-whole f.header read reads
+
+wrong_checksum-normal : (f : Frame) → ¬ ReadsNormalOf all_checked frames.wrong_checksum f
+wrong_checksum-normal f (read, is, reads) = wrong_checksum-whole _ read reads
+
+wrong_checksum-parses_carried : (c : carried_value.Carried) → ¬ ParsesCarried all_checked ethertype.Ipv4 (drop 14 frames.wrong_checksum) c
+wrong_checksum-parses_carried c (message w, is, (type, reads)) = let apart : ethertype.Ipv4 ≡ ethertype.Arp = type in absurd (cc)
+wrong_checksum-parses_carried c (packet w t, is, (type, reads, inner)) = wrong_checksum-packet w reads
+
+-- ---- transports
+
+-- the header of the frame with a segment of a wrong checksum
+header : IpRepr
+header = Ipv4 (record {
+  src_addr = 17 ∷ 18 ∷ 19 ∷ 20 ∷ [];
+  dst_addr = 33 ∷ 34 ∷ 35 ∷ 36 ∷ [];
+  next_header = protocol.Tcp;
+  payload_len = 28;
+  hop_limit = 64;
+})
+
+abbrev carried_bytes : List ℕ
+carried_bytes = packet_payload header (drop 14 tcp_frames.wrong_checksum)
+
+segment-reads : (t : Transport) → ¬ ReadsTransport all_checked header carried_bytes t
+unfolding header words residue
+segment-reads (datagram u payload) reads = let apart : protocol.Tcp ≡ protocol.Udp = reads.0 in absurd (cc)
+segment-reads (segment u payload) reads = let sum = reads.1.checksum refl in absurd (omega (arith, sum))
+segment-reads (other payload) reads = reads.1 refl
+
+segment-carries : ¬ CarriesTransport header carried_bytes
+segment-carries (inl (u, payload, reads)) = segment-reads (datagram u payload) reads
+segment-carries (inr (u, payload, reads)) = segment-reads (segment u payload) reads
+
+segment-parses : (t : transport_value.Transport) → ¬ ParsesTransport all_checked header carried_bytes t
+segment-parses t (read, is, reads) = segment-reads read reads
+
+-- ---- checksums that are computed where they are verified
+
+-- this for UDP, and none of the others
+udp : Checksum → ChecksumCapabilities
+udp choice = record (all_are when.None) { udp = choice }
+
+nothing-verified : Computes (all_are when.None) (all_are when.None)
+nothing-verified = record {
+  ipv4 = λ verified. absurd (true≢false (sym verified));
+  udp = λ verified. absurd (true≢false (sym verified));
+  tcp = λ verified. absurd (true≢false (sym verified));
+}
+
+udp-computed : Computes (udp when.Tx) (udp when.Rx)
+unfolding udp
+udp-computed = record {
+  ipv4 = λ verified. absurd (true≢false (sym verified));
+  udp = λ verified. refl;
+  tcp = λ verified. absurd (true≢false (sym verified));
+}
+
+udp-not_computed : ¬ Computes (udp when.Rx) (udp when.Rx)
+unfolding udp
+udp-not_computed computes = true≢false (sym (computes.udp refl))
