@@ -183,8 +183,10 @@ sum-take-with_byte bytes n i x are inside room fits =
 
 -- ---- sums that are not 0
 
--- one word is no more than the sum, and less if another byte 0 stands before
-pub sum-first : (bytes : List ℕ) → 2 ≤ length bytes → slice_index bytes 0 ≤ sum (words bytes)
-sum-first [] room = absurd (omega arith)
-sum-first (x ∷ []) room = absurd (omega arith)
-sum-first (x ∷ y ∷ rest) room = omega (arith, sum-words-cons x y rest)
+-- the front of bytes whose first byte is not 0
+pub sum-take-positive : (bytes : List ℕ) (n : ℕ) → 2 ≤ n → n ≤ length bytes → 0 < slice_index bytes 0 → 0 < sum (words (take n bytes))
+sum-take-positive bytes zero whole room some = absurd (omega arith)
+sum-take-positive bytes (suc zero) whole room some = absurd (omega arith)
+sum-take-positive [] (suc (suc n)) whole room some = absurd (omega arith)
+sum-take-positive (x ∷ []) (suc (suc n)) whole room some = absurd (omega arith)
+sum-take-positive (x ∷ y ∷ rest) (suc (suc n)) whole room some = omega (arith, some, sum-words-cons x y (take n rest))
