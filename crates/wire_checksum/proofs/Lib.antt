@@ -4,6 +4,7 @@ pub mod Fours
 pub mod Joined
 pub mod Lanes
 pub mod Parts
+pub mod PseudoSums
 pub mod Residues
 pub mod Rounds
 pub mod Updated

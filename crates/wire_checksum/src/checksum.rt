@@ -1,7 +1,7 @@
 //! The Internet checksum (RFC 1071), without the final complement. A sum here is a one's complement
 //! sum of 16-bit words.
 
-ghost use Rattle.std.specs.Prelude.{◌≡◌, ◌+◌, ◌-◌, ◌*◌, ◌<◌, ℕ};
+ghost use Rattle.std.specs.Prelude.{◌≡◌, ◌+◌, ◌-◌, ◌*◌, ◌%◌, ◌<◌, length, ℕ};
 ghost use Rattle.wire_ends.specs.IpAddress.{octets_of, version_of};
 ghost use Rattle.wire_checksum.specs.PseudoHeader.{pseudo_header_bytes, with_pseudo_header};
 ghost use Rattle.wire_checksum.specs.WordSum.{residue, sum_of, sum_of_bytes, updated};
@@ -111,6 +111,14 @@ pub fn packet(
     finish(around(header, total(packet)))
 }
 
+/// The sum of the octets of an address, as it is part of a pseudo-header.
+pub fn address(address: &IpAddress) -> u16
+    ensures value { result ≡ sum_of_bytes (octets_of address.now) }
+    ensures whole_words { length (octets_of address.now) % 2 ≡ 0 }
+{
+    finish(address_total(*address))
+}
+
 // The total of a pseudo-header.
 #[inline]
 pub(crate) fn pseudo_header_total(
@@ -132,7 +140,8 @@ pub(crate) fn pseudo_header_total(
 // The total of an address.
 #[inline]
 fn address_total(address: IpAddress) -> u64
-    ensures { residue (256 * result) ≡ sum_of_bytes (octets_of address) }
+    ensures value { residue (256 * result) ≡ sum_of_bytes (octets_of address) }
+    ensures whole_words { length (octets_of address) % 2 ≡ 0 }
 {
     match address {
         IpAddress::Ipv4(address) => total_of_words(&address.octets()),
