@@ -16,4 +16,4 @@ returns c =
     c.around-2.ensures
     ∙ and_more c.around.result (c.address_total.result + c.address_total-2.result) (c.from-2.result + c.from-3.result) c.around.ensures
     ∙ rw (first, second) (total-pseudo_header (octets_of c.args.src_addr) (octets_of c.args.dst_addr) c.args.next_header c.args.length _ _ c.from-number.result low
-    src dst number (search rules) refl c.address_total.ensures c.address_total-2.ensures)
+    src dst number (search rules) refl c.address_total.ensures.value c.address_total-2.ensures.value)
