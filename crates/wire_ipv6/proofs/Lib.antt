@@ -1,3 +1,4 @@
+pub mod Ipv6Changed
 pub mod Ipv6Computed
 pub mod Ipv6Emitted
 pub mod Ipv6FragmentComputed

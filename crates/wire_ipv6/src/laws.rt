@@ -1,11 +1,14 @@
 //! What holds by the definitions alone. The functions do nothing when they run.
 
 ghost use Rattle.std.specs.Prelude.{◌≡◌, ◌↔◌, ◌+◌, ◌++◌, ◌≤◌, Some, length};
+ghost use Rattle.wire_ends.specs.Protocol.{protocol_of};
+ghost use Rattle.wire_field.specs.Field.{with_field, with_range};
 ghost use Rattle.wire_ipv6.specs.Ipv6 as ipv6;
 ghost use Rattle.wire_ipv6.specs.Ipv6Fragment as fragment;
 
 use crate::ipv6::Ipv6Repr;
 use crate::ipv6fragment::Ipv6FragmentRepr;
+use wire_addr::Ipv6Address;
 
 /// The header of a value, with its payload and any bytes after it, is read as the value's normal
 /// form.
@@ -25,6 +28,15 @@ pub fn reads_once_ipv6(bytes: &[u8], value: Ipv6Repr, other: Ipv6Repr)
 /// The value that is computed of bytes is the one that they are read as.
 pub fn reading_is_computed_ipv6(bytes: &[u8], value: Ipv6Repr)
     ensures { (ipv6.ipv6_of bytes.now ≡ Some value) ↔ ipv6.Reads bytes.now value }
+{}
+
+/// Writing one field changes one value, and no other.
+pub fn one_value_changes_ipv6(bytes: &[u8], value: Ipv6Repr, octet: u8, address: Ipv6Address)
+    requires { ipv6.Reads bytes.now value }
+    ensures hop_limit { ipv6.Reads (with_field bytes.now 56 8 octet) (record value { hop_limit = octet }) }
+    ensures next_header { ipv6.Reads (with_field bytes.now 48 8 octet) (record value { next_header = protocol_of octet }) }
+    ensures src_addr { ipv6.Reads (with_range bytes.now 8 24 address) (record value { src_addr = address }) }
+    ensures dst_addr { ipv6.Reads (with_range bytes.now 24 40 address) (record value { dst_addr = address }) }
 {}
 
 /// A normal form is its own, and a value that was read is in its normal form.

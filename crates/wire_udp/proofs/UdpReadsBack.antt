@@ -24,7 +24,7 @@ pub record IsInRange (v : UdpRepr) (payload : List ℕ) (src dst : IpAddress) : 
   pub dst_octets : length (octets_of dst) % 2 ≡ 0
 
 -- the checksum that is written for a sum
-checksum_for-cases : (sum : ℕ) → sum ≤ 65535 → ((sum ≡ 65535) × (checksum_for sum ≡ 65535)) ⊎ ((sum < 65535) × (checksum_for sum ≡ 65535 - sum))
+pub checksum_for-cases : (sum : ℕ) → sum ≤ 65535 → ((sum ≡ 65535) × (checksum_for sum ≡ 65535)) ⊎ ((sum < 65535) × (checksum_for sum ≡ 65535 - sum))
 checksum_for-cases sum h = elim (cases_lt sum 65535) [
   | inl below ↦
       let some : (65535 - sum == 0) ≡ false = grind (arith, nat_tests) in
@@ -35,11 +35,11 @@ checksum_for-cases sum h = elim (cases_lt sum 65535) [
 ]
 
 -- it is no 0
-checksum_for-bounds : (sum : ℕ) → sum ≤ 65535 → (1 ≤ checksum_for sum) × (checksum_for sum ≤ 65535)
+pub checksum_for-bounds : (sum : ℕ) → sum ≤ 65535 → (1 ≤ checksum_for sum) × (checksum_for sum ≤ 65535)
 checksum_for-bounds sum h = elim (checksum_for-cases sum h) [ inl (full, is) ↦ (omega (arith, is), omega (arith, is)) | inr (below, is) ↦ (omega (arith, is), omega (arith, is)) ]
 
 -- a total and the checksum for its residue
-residue-checksum_for : (m : ℕ) → residue (m + checksum_for (residue m)) ≡ 65535
+pub residue-checksum_for : (m : ℕ) → residue (m + checksum_for (residue m)) ≡ 65535
 residue-checksum_for m = elim (checksum_for-cases (residue m) (residue-bound m)) [
   | inl (full, is) ↦
       ap (λ (n : ℕ). residue (m + n)) is

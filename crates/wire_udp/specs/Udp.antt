@@ -9,7 +9,7 @@ use Rattle.wire_ends.specs.declared.ip_version.IpVersion.TheVariants as version
 use Rattle.wire_field.specs.Field.{field, with_field}
 use Rattle.wire_field.specs.Loan.{Holds}
 use Rattle.wire_checksum.specs.PseudoHeader.{pseudo_header_bytes, with_pseudo_header}
-use Rattle.wire_checksum.specs.WordSum.{sum_of_bytes}
+use Rattle.wire_checksum.specs.WordSum.{sum_of_bytes, updated}
 use Rattle.wire_ends.specs.declared.ip_protocol.IpProtocol.TheVariants as protocol
 use Rattle.wire_udp.specs.declared.udp.packet.UdpView.{UdpView}
 use Rattle.wire_udp.specs.declared.udp.repr.UdpRepr.{UdpRepr}
@@ -82,6 +82,13 @@ abbrev pub with_checksum : IpAddress → IpAddress → List ℕ → List ℕ
 with_checksum src dst bytes =
     let zeroed = with_field bytes 48 16 0 in
     with_field zeroed 48 16 (checksum_for (packet_sum src dst (take (packet_len bytes) zeroed)))
+
+-- the bytes with the checksum updated, after words that it covers changed from the sum old to the sum new; 0, which
+-- means that there is no checksum, stays
+abbrev pub with_updated_checksum : List ℕ → ℕ → ℕ → List ℕ
+with_updated_checksum bytes old new =
+    let checksum = field bytes 48 16 in
+    if checksum == 0 then bytes else with_field bytes 48 16 (checksum_for (65535 - updated checksum old new))
 
 -- ---- reading and writing
 

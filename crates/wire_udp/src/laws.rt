@@ -1,8 +1,10 @@
 //! Laws of UDP. A law states a fact about definitions; its body does nothing.
 
-ghost use Rattle.std.specs.Prelude.{◌≡◌, ◌≢◌, ◌↔◌, ◌++◌, ◌≤◌, IsTrue, Some, length};
+ghost use Rattle.std.specs.Prelude.{◌≡◌, ◌≢◌, ◌↔◌, ◌++◌, ◌≤◌, IsTrue, List, Some, false, length, true, ℕ};
 ghost use Rattle.wire_ends.specs.IpAddress.{version_of};
-ghost use Rattle.wire_udp.specs.Udp.{Reads, bytes_of, max_payload_len, payload_of, udp_of};
+ghost use Rattle.wire_field.specs.Field.{field, with_field};
+ghost use Rattle.wire_udp.specs.Udp.{HasChecksum, HasLengths, Reads, Verifies, bytes_of, max_payload_len, payload_of, udp_of, with_checksum};
+ghost use Rattle.wire_udp.specs.declared.udp.repr.UdpRepr.{UdpRepr};
 
 use crate::udp::UdpRepr;
 use wire_ends::IpAddress;
@@ -65,4 +67,44 @@ pub fn no_more_bytes_udp(
 )
     requires { Reads bytes.now src_addr dst_addr verified value payload.now }
     ensures { length (bytes_of value payload.now src_addr dst_addr computed) ≤ length bytes.now }
+{}
+
+/// A checksum that `fill_checksum` wrote is valid, and the packet parses as the same value with it.
+pub fn filled_checksum_verifies_udp(bytes: &[u8], src_addr: IpAddress, dst_addr: IpAddress)
+    requires lengths { HasLengths bytes.now }
+    requires family { version_of src_addr ≡ version_of dst_addr }
+    ensures valid { HasChecksum src_addr dst_addr (with_checksum src_addr dst_addr bytes.now) }
+    ensures written { field (with_checksum src_addr dst_addr bytes.now) 48 16 ≢ 0 }
+    ensures verifies { Verifies src_addr dst_addr (with_checksum src_addr dst_addr bytes.now) }
+    ensures reads { (v : UdpRepr) (payload : List ℕ) → Reads bytes.now src_addr dst_addr false v payload
+        → Reads (with_checksum src_addr dst_addr bytes.now) src_addr dst_addr true v payload }
+{}
+
+/// A value that parses with its checksum not verified also parses with the checksum verified, exactly
+/// if the checksum is valid.
+pub fn valid_checksum_reads_udp(
+    bytes: &[u8],
+    src_addr: IpAddress,
+    dst_addr: IpAddress,
+    value: UdpRepr,
+    payload: &[u8],
+)
+    ensures { Reads bytes.now src_addr dst_addr true value payload.now
+        ↔ (Reads bytes.now src_addr dst_addr false value payload.now × HasChecksum src_addr dst_addr bytes.now) }
+{}
+
+/// Writing one field changes one value, and no other. Only the checksum is no value, and is not
+/// verified here.
+pub fn one_value_changes_udp(
+    bytes: &[u8],
+    src_addr: IpAddress,
+    dst_addr: IpAddress,
+    value: UdpRepr,
+    payload: &[u8],
+    word: u16,
+)
+    requires { Reads bytes.now src_addr dst_addr false value payload.now }
+    ensures src_port { Reads (with_field bytes.now 0 16 word) src_addr dst_addr false (record value { src_port = word }) payload.now }
+    ensures dst_port { word ≢ 0 → Reads (with_field bytes.now 16 16 word) src_addr dst_addr false (record value { dst_port = word }) payload.now }
+    ensures checksum { Reads (with_field bytes.now 48 16 word) src_addr dst_addr false value payload.now }
 {}

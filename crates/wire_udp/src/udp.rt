@@ -6,6 +6,7 @@ ghost use Rattle.wire_udp.specs.Udp.{checksum_for};
 mod packet;
 mod packet_mut;
 mod repr;
+mod update;
 
 pub use packet::{UdpPacket, UdpPacketMut};
 pub use repr::UdpRepr;
