@@ -1,2 +1,4 @@
 pub mod Answered
+pub mod FlowKeys
 pub mod Refused
+pub mod RouteSteps

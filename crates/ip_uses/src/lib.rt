@@ -3,8 +3,10 @@
 
 pub mod allow_list;
 pub mod answer_arp;
+pub mod flow_key;
 pub mod read_frame;
 pub mod refuse_checksum;
+pub mod route;
 #[cfg(test)]
 mod tests;
 pub mod write_frame;

@@ -4,12 +4,14 @@ ghost use Rattle.std.specs.Prelude.{◌≡◌, ◌≤◌, ◌+◌, length};
 
 use crate::allow_list::is_allowed;
 use crate::answer_arp::answer;
+use crate::flow_key::{Flow, FlowKey};
 use crate::read_frame::udp_packet;
 use crate::refuse_checksum::{udp_ports, verified_by_the_device};
+use crate::route::{Route, choose};
 use crate::write_frame::write_udp;
 use ip_wire::{
-    ArpOperation, ArpRepr, EthernetAddress, IpAddress, IpCidr, IpProtocol, IpRepr, Ipv4Address,
-    Ipv4Cidr, Ipv4Repr, Ipv6Address, Ipv6Cidr, Ipv6Repr, UdpRepr,
+    ArpOperation, ArpRepr, EthernetAddress, Frame, IpAddress, IpCidr, IpEndpoint, IpProtocol,
+    IpRepr, Ipv4Address, Ipv4Cidr, Ipv4Repr, Ipv6Address, Ipv6Cidr, Ipv6Repr, UdpRepr,
 };
 use net_base::ChecksumCapabilities;
 
@@ -170,4 +172,125 @@ fn allows_the_addresses_of_its_blocks(rt: HostRuntime) {
     assert!(rt; is_allowed(&list, &IpAddress::v6(0xfebf, 0, 0, 0, 0, 0, 0, 1)));
     assert!(rt; !is_allowed(&list, &IpAddress::v6(0xfec0, 0, 0, 0, 0, 0, 0, 1)));
     assert!(rt; !is_allowed(&[], &IpAddress::v4(192, 168, 1, 1)));
+}
+
+/// A request to an echo server and its reply, as Linux sent them, with their UDP checksums completed.
+const ECHO: [u8; 46] = [
+    0x02, 0x00, 0x00, 0x00, 0x00, 0x02, 0x02, 0x00, 0x00, 0x00, 0x00, 0x01, 0x08, 0x00, 0x45, 0x00,
+    0x00, 0x20, 0x21, 0x60, 0x40, 0x00, 0x40, 0x11, 0x95, 0x69, 0xc0, 0x00, 0x02, 0x01, 0xc0, 0x00,
+    0x02, 0x02, 0xa1, 0x67, 0x00, 0x07, 0x00, 0x0c, 0xfb, 0x92, 0x70, 0x69, 0x6e, 0x67,
+];
+
+const ECHO_BACK: [u8; 46] = [
+    0x02, 0x00, 0x00, 0x00, 0x00, 0x01, 0x02, 0x00, 0x00, 0x00, 0x00, 0x02, 0x08, 0x00, 0x45, 0x00,
+    0x00, 0x20, 0xe2, 0xdc, 0x40, 0x00, 0x40, 0x11, 0xd3, 0xec, 0xc0, 0x00, 0x02, 0x02, 0xc0, 0x00,
+    0x02, 0x01, 0x00, 0x07, 0xa1, 0x67, 0x00, 0x0c, 0xfb, 0x92, 0x70, 0x69, 0x6e, 0x67,
+];
+
+/// A SYN as Linux sent it and the reply, with their TCP checksums completed.
+const SYN: [u8; 74] = [
+    0x02, 0x00, 0x00, 0x00, 0x00, 0x02, 0x02, 0x00, 0x00, 0x00, 0x00, 0x01, 0x08, 0x00, 0x45, 0x00,
+    0x00, 0x3c, 0x53, 0xbc, 0x40, 0x00, 0x40, 0x06, 0x62, 0xfc, 0xc0, 0x00, 0x02, 0x01, 0xc0, 0x00,
+    0x02, 0x02, 0xed, 0x70, 0x00, 0x50, 0x80, 0x03, 0xa2, 0x8d, 0x00, 0x00, 0x00, 0x00, 0xa0, 0x02,
+    0xfa, 0xf0, 0xd8, 0xbd, 0x00, 0x00, 0x02, 0x04, 0x05, 0xb4, 0x04, 0x02, 0x08, 0x0a, 0x39, 0xd3,
+    0xa6, 0x25, 0x00, 0x00, 0x00, 0x00, 0x01, 0x03, 0x03, 0x0a,
+];
+
+const SYN_ACK: [u8; 74] = [
+    0x02, 0x00, 0x00, 0x00, 0x00, 0x01, 0x02, 0x00, 0x00, 0x00, 0x00, 0x02, 0x08, 0x00, 0x45, 0x00,
+    0x00, 0x3c, 0x00, 0x00, 0x40, 0x00, 0x40, 0x06, 0xb6, 0xb8, 0xc0, 0x00, 0x02, 0x02, 0xc0, 0x00,
+    0x02, 0x01, 0x00, 0x50, 0xed, 0x70, 0x17, 0x22, 0x9f, 0x6e, 0x80, 0x03, 0xa2, 0x8e, 0xa0, 0x12,
+    0xfe, 0x88, 0xca, 0xbe, 0x00, 0x00, 0x02, 0x04, 0x05, 0xb4, 0x04, 0x02, 0x08, 0x0a, 0xac, 0x74,
+    0xa7, 0x50, 0x39, 0xd3, 0xa6, 0x25, 0x01, 0x03, 0x03, 0x0a,
+];
+
+/// The key of a frame.
+fn key_of(bytes: &[u8]) -> Option<FlowKey> {
+    match Frame::parse(bytes, &ChecksumCapabilities::default()) {
+        Ok(frame) => match Flow::of_frame(&frame) {
+            Some(flow) => Some(flow.key()),
+            None => None,
+        },
+        Err(_) => None,
+    }
+}
+
+#[test]
+fn gives_both_directions_one_key(rt: HostRuntime) {
+    let low = IpEndpoint::new(IpAddress::v4(192, 0, 2, 1), 41319);
+    let high = IpEndpoint::new(IpAddress::v4(192, 0, 2, 2), 7);
+    let key = FlowKey {
+        protocol: IpProtocol::Udp,
+        low,
+        high,
+    };
+    assert_eq!(rt; key_of(&ECHO), Some(key));
+    assert_eq!(rt; key_of(&ECHO_BACK), Some(key));
+    assert!(rt; key_of(&SYN).is_some());
+    assert_eq!(rt; key_of(&SYN), key_of(&SYN_ACK));
+    assert!(rt; key_of(&IPV6_FRAME).is_some());
+    assert_eq!(rt; key_of(&REQUEST), None);
+}
+
+#[test]
+fn tells_flows_apart(rt: HostRuntime) {
+    assert!(rt; key_of(&SYN) != key_of(&ECHO));
+    assert!(rt; key_of(&FRAME) != key_of(&ECHO));
+    let src = IpEndpoint::new(IpAddress::v4(192, 0, 2, 1), 9);
+    let dst = IpEndpoint::new(IpAddress::v4(192, 0, 2, 1), 7);
+    let flow = Flow {
+        protocol: IpProtocol::Udp,
+        src,
+        dst,
+    };
+    let back = Flow {
+        src: dst,
+        dst: src,
+        ..flow
+    };
+    let tcp = Flow {
+        protocol: IpProtocol::Tcp,
+        ..flow
+    };
+    let port = Flow { dst: src, ..flow };
+    assert_eq!(rt; flow.key(), back.key());
+    assert!(rt; flow.key() != tcp.key());
+    assert!(rt; flow.key() != port.key());
+}
+
+#[test]
+fn chooses_the_longest_prefix(rt: HostRuntime) {
+    let route = |a: u8, b: u8, prefix_len: u8, hop: u8|
+        requires { prefix_len ≤ 32 }
+    {
+        Route {
+            block: IpCidr::new(IpAddress::v4(a, b, 0, 0), prefix_len),
+            next_hop: IpAddress::v4(192, 0, 2, hop),
+        }
+    };
+    let table = [
+        route(10, 0, 8, 1),
+        route(10, 1, 16, 2),
+        route(10, 0, 8, 3),
+        Route {
+            block: IpCidr::new(IpAddress::v6(0x2001, 0xdb8, 0, 0, 0, 0, 0, 0), 32),
+            next_hop: IpAddress::v6(0xfe80, 0, 0, 0, 0, 0, 0, 1),
+        },
+    ];
+    assert_eq!(rt; choose(&table, &IpAddress::v4(10, 1, 2, 3)), Some(table[1]));
+    assert_eq!(rt; choose(&table, &IpAddress::v4(10, 2, 2, 3)), Some(table[0]));
+    assert_eq!(rt; choose(&table, &IpAddress::v4(11, 2, 2, 3)), None);
+    let addr = IpAddress::v6(0x2001, 0xdb8, 1, 2, 3, 4, 5, 6);
+    assert_eq!(rt; choose(&table, &addr), Some(table[3]));
+    assert_eq!(rt; choose(&table[..3], &addr), None);
+    let default = [route(0, 0, 0, 9), table[0]];
+    assert_eq!(rt;
+        choose(&default, &IpAddress::v4(11, 2, 2, 3)),
+        Some(default[0])
+    );
+    assert_eq!(rt;
+        choose(&default, &IpAddress::v4(10, 2, 2, 3)),
+        Some(default[1])
+    );
+    assert_eq!(rt; choose(&[], &IpAddress::v4(10, 2, 2, 3)), None);
 }

@@ -1,0 +1,38 @@
+//! The choice of a route (RFC 1812, section 5.2.4.3): the longest prefix that has the address.
+
+ghost use Rattle.std.specs.Prelude.{◌≡◌, ◌≤◌, ◌<◌, All, MatchOption};
+ghost use Rattle.ip_uses.specs.Route.{IsBetter, IsChosen, Leads};
+ghost use Rattle.ip_wire.specs.IpCidr.{block_prefix_len};
+
+use ip_wire::{IpAddress, IpCidr};
+
+/// Where packets to the addresses of a block go next.
+#[derive(Debug, Clone, Copy, PartialEq, Eq)]
+pub struct Route {
+    pub block: IpCidr,
+    pub next_hop: IpAddress,
+}
+
+/// The route with the longest prefix whose block has the address; of several the first. None exactly if
+/// no block has it.
+pub fn choose(routes: &[Route], addr: &IpAddress) -> Option<Route>
+    ensures { MatchOption result (All (λ route. ¬ Leads addr.now route) routes.now) (IsChosen routes.now addr.now) }
+{
+    let mut chosen = None;
+    for route in routes {
+        if route.block.contains_addr(addr) {
+            chosen = Some(longer(chosen, *route));
+        }
+    }
+    chosen
+}
+
+// The later of two routes if its prefix is longer, else the former.
+fn longer(chosen: Option<Route>, route: Route) -> Route
+    ensures { MatchOption chosen (result ≡ route) (IsBetter route result) }
+{
+    match chosen {
+        Some(former) if route.block.prefix_len() <= former.block.prefix_len() => former,
+        _ => route,
+    }
+}
