@@ -5,8 +5,8 @@ ghost use Rattle.ip_frames.specs.Output.{AddsBytes, AddsText, transport_lines};
 ghost use Rattle.ip_wire.specs.Frame.{rebuilt_packet, rebuilt_transport};
 ghost use Rattle.ip_wire.specs.Ip.{max_payload_len};
 
-use crate::{tcp, udp};
-use ip_wire::{IpProtocol, IpRepr};
+use crate::transport::push_packet;
+use ip_wire::{IpProtocol, IpRepr, TcpPacket, UdpPacket};
 use net_base::ChecksumCapabilities;
 use std::alloc::AllocError;
 
@@ -43,8 +43,8 @@ fn push_transport(
     ensures again { OnOk result (AddsBytes again.old again.new (rebuilt_transport header.now payload.now)) }
 {
     match header.next_header() {
-        IpProtocol::Tcp => tcp::push_packet(header, payload, text, again),
-        IpProtocol::Udp => udp::push_packet(header, payload, text, again),
+        IpProtocol::Tcp => push_packet(&TcpPacket::new_unchecked(payload), header, text, again),
+        IpProtocol::Udp => push_packet(&UdpPacket::new_unchecked(payload), header, text, again),
         _ => again.extend_from_slice(payload),
     }
 }

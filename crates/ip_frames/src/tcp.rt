@@ -1,56 +1,54 @@
-//! The line of a TCP segment, and the segment built again.
+//! TCP segments, not read yet.
 
-ghost use Rattle.std.specs.Prelude.{◌≡◌, ◌≤◌, ◌+◌, OnOk, length};
-ghost use Rattle.ip_frames.specs.Output.{AddsBytes, AddsText, tcp_bytes, tcp_lines, tcp_verdict};
-ghost use Rattle.ip_wire.specs.Frame.{rebuilt_transport_by};
+ghost use Rattle.std.specs.Prelude.{[], ◌≡◌, ◌≤◌, ◌+◌, OnOk, length, true};
+ghost use Rattle.ip_frames.specs.Output.{AddsBytes, tcp_format};
 ghost use Rattle.ip_wire.specs.Ip.{dst_addr_of, max_payload_len, src_addr_of};
 ghost use Rattle.ip_wire.specs.Tcp.{packet_bytes};
-ghost use Rattle.ip_wire.specs.TcpRepr.{header_len_of, header_of};
+ghost use Rattle.ip_wire.specs.TcpRepr.{bytes_of, header_len_of, header_of};
 ghost use Rattle.ip_wire.specs.declared.IpProtocol.TheVariants.{Tcp};
 
-use crate::unread::{push_unread, unread_verdict};
+use crate::transport::TransportPacket;
 use ip_wire::{IpRepr, TcpPacket, TcpPacketMut, TcpRepr};
 use net_base::ChecksumCapabilities;
 use std::alloc::AllocError;
 
-/// Appends the line of a segment behind an IP header to `text`, and its bytes built again to `again`.
-pub fn push_packet(
-    ip_header: &IpRepr,
-    bytes: &[u8],
-    text: &mut String,
-    again: &mut Vec<u8>,
-) -> Result<(), AllocError>
-    requires { length bytes.now ≤ max_payload_len ip_header.now }
-    ensures lines { OnOk result (AddsText text.old text.new (tcp_lines ip_header.now bytes.now)) }
-    ensures again { let src = src_addr_of ip_header.now in let dst = dst_addr_of ip_header.now in
-        OnOk result (AddsBytes again.old again.new (rebuilt_transport_by Tcp src dst bytes.now)) }
-{
-    let packet = TcpPacket::new_unchecked(bytes);
-    write!(text, "{packet}")?;
-    let caps = ChecksumCapabilities::default();
-    match TcpRepr::parse(&packet, &ip_header.src_addr(), &ip_header.dst_addr(), &caps) {
-        Ok(value) => {
-            text.push('\n')?;
-            push_segment(&value, ip_header, again)
-        }
-        Err(_) => push_unread(verdict(&packet, ip_header), bytes, text, again),
-    }
-}
+impl TransportPacket for TcpPacket<'_> {
+    ghost octets = { packet_bytes };
 
-// What is to be said of a segment that is not read with its checksum.
-fn verdict(packet: &TcpPacket<'_>, ip_header: &IpRepr) -> &'static str
-    ensures { result.now ≡ tcp_verdict ip_header.now (packet_bytes packet.now) }
-{
-    if packet.check_len().is_err() {
-        return "";
+    ghost format = { tcp_format };
+
+    ghost protocol = { Tcp };
+
+    fn push_text(&self, text: &mut String) -> Result<(), AllocError> {
+        write!(text, "{self}")
     }
-    let (src_addr, dst_addr) = (ip_header.src_addr(), ip_header.dst_addr());
-    let caps = ChecksumCapabilities::ignored();
-    let is_read = TcpRepr::parse(packet, &src_addr, &dst_addr, &caps).is_ok();
-    unread_verdict(
-        is_read,
-        packet.verify_partial_checksum(&src_addr, &dst_addr),
-    )
+
+    fn has_lengths(&self) -> bool {
+        self.check_len().is_ok()
+    }
+
+    fn is_read(&self, ip_header: &IpRepr) -> bool {
+        let caps = ChecksumCapabilities::ignored();
+        TcpRepr::parse(self, &ip_header.src_addr(), &ip_header.dst_addr(), &caps).is_ok()
+    }
+
+    fn is_partial(&self, ip_header: &IpRepr) -> bool {
+        self.verify_partial_checksum(&ip_header.src_addr(), &ip_header.dst_addr())
+    }
+
+    fn push_again(&self, ip_header: &IpRepr, again: &mut Vec<u8>) -> Result<bool, AllocError> {
+        let caps = ChecksumCapabilities::default();
+        match TcpRepr::parse(self, &ip_header.src_addr(), &ip_header.dst_addr(), &caps) {
+            Ok(value) => {
+                push_segment(&value, ip_header, again)?;
+                Ok(true)
+            }
+            Err(_) => {
+                again.extend_from_slice(self.as_bytes())?;
+                Ok(false)
+            }
+        }
+    }
 }
 
 // Appends a segment with these values.
@@ -62,7 +60,7 @@ fn push_segment(
     requires header_len { header_len_of (header_of value.now) ≤ 60 }
     requires payload { length value.now.payload.now ≤ max_payload_len ip_header.now }
     ensures { let v = value.now in
-        OnOk result (AddsBytes again.old again.new (tcp_bytes (header_of v) ip_header.now v.payload.now)) }
+        OnOk result (AddsBytes again.old again.new (bytes_of (header_of v) v.payload.now (src_addr_of ip_header.now) (dst_addr_of ip_header.now) true [])) }
 {
     let start = again.len();
     again.resize(start + value.buffer_len(), 0)?;
@@ -74,7 +72,7 @@ fn push_segment(
 fn emit(value: &TcpRepr<'_>, ip_header: &IpRepr, bytes: &mut [u8])
     requires header_len { header_len_of (header_of value.now) ≤ 60 }
     requires room { header_len_of (header_of value.now) + length value.now.payload.now ≡ length bytes.old }
-    ensures { bytes.new ≡ tcp_bytes (header_of value.now) ip_header.now value.now.payload.now }
+    ensures { bytes.new ≡ bytes_of (header_of value.now) value.now.payload.now (src_addr_of ip_header.now) (dst_addr_of ip_header.now) true [] }
 {
     value.emit(
         &mut TcpPacketMut::new_unchecked(bytes),

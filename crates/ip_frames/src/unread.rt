@@ -1,6 +1,6 @@
 //! What becomes of a packet that is not read with its checksum.
 
-ghost use Rattle.std.specs.Prelude.{◌≡◌, OnOk};
+ghost use Rattle.std.specs.Prelude.{[], ◌≡◌, ◌∷◌, OnOk};
 ghost use Rattle.ip_frames.specs.Output.{AddsBytes, AddsText, ended, unread_verdict};
 
 use std::alloc::AllocError;
@@ -28,7 +28,21 @@ pub fn push_unread(
     ensures lines { OnOk result (AddsText text.old text.new (ended note.now)) }
     ensures again { OnOk result (AddsBytes again.old again.new bytes.now) }
 {
-    text.push_str(note)?;
-    text.push('\n')?;
+    push_note(note, text)?;
     again.extend_from_slice(bytes)
+}
+
+/// Appends what is said of a packet and ends the line.
+pub fn push_note(note: &str, text: &mut String) -> Result<(), AllocError>
+    ensures { OnOk result (AddsText text.old text.new (ended note.now)) }
+{
+    text.push_str(note)?;
+    end_line(text)
+}
+
+/// Ends the line.
+pub fn end_line(text: &mut String) -> Result<(), AllocError>
+    ensures { OnOk result (AddsText text.old text.new (10 ∷ [])) }
+{
+    text.push('\n')
 }
