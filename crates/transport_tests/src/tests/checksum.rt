@@ -62,8 +62,9 @@ fn sums_the_pseudo_header_between_hosts_of_a_link(rt: HostRuntime) {
 fn the_low_16_bits_of_a_length_count(rt: HostRuntime) {
     let (src, dst) = (IpAddress::v4(192, 168, 1, 1), IpAddress::v4(192, 168, 1, 2));
     let zeros = [0; 0x1_000c];
-    for len in [12, 0x1_000c] {
-        let sum = checksum::packet(src, dst, IpProtocol::Udp, &zeros[..len]);
-        assert_eq!(rt; sum, 0x8371, "{len}");
-    }
+    let sums = [
+        checksum::packet(src, dst, IpProtocol::Udp, &zeros[..12]),
+        checksum::packet(src, dst, IpProtocol::Udp, &zeros),
+    ];
+    assert_eq!(rt; sums, [0x8371; 2]);
 }
