@@ -8,6 +8,7 @@ pub mod Summaries
 pub mod Sums
 pub mod TcpLengths
 pub mod TcpTexts
+pub mod TcpUpdated
 mod TcpViewed
 mod TcpWorked
 mod Walks

@@ -9,6 +9,7 @@ mod seq_number;
 mod summary;
 mod text;
 mod timestamp;
+mod update;
 mod walk;
 
 pub use control::TcpControl;
