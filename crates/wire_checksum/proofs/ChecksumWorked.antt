@@ -1,7 +1,7 @@
 -- The definitions, computed on worked examples.
 use Rattle.std.proofs.Common.{◌≡◌, ℕ, List, [], ◌∷◌, refl}
 use Rattle.wire_checksum.specs.PseudoHeader.{pseudo_header_bytes}
-use Rattle.wire_checksum.specs.WordSum.{residue, sum_of, sum_of_bytes, words}
+use Rattle.wire_checksum.specs.WordSum.{residue, sum_of, sum_of_bytes, updated, words}
 use Rattle.wire_ends.specs.declared.ip_protocol.IpProtocol.TheVariants.{Udp}
 
 -- ---- sums
@@ -25,6 +25,16 @@ residue-full = refl
 residue-carry : sum_of (0xffff ∷ 1 ∷ []) ≡ 1
 unfolding residue
 residue-carry = refl
+
+-- ---- updates, with the numbers of RFC 1624, section 4
+
+updated-rfc : updated 0xdd2f 0x5555 0x3285 ≡ 0x0000
+unfolding residue
+updated-rfc = refl
+
+updated-back : updated 0x0000 0x3285 0x5555 ≡ 0xdd2f
+unfolding residue
+updated-back = refl
 
 -- ---- pseudo headers, of a datagram of 12 bytes
 

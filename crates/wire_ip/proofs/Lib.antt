@@ -1,4 +1,5 @@
 pub mod IpComputed
 pub mod IpNormal
+pub mod IpPayload
 pub mod IpReadsBack
 mod IpWorked

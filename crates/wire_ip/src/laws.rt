@@ -1,7 +1,7 @@
 //! What holds by the definitions alone. The functions do nothing when they run.
 
 ghost use Rattle.std.specs.Prelude.{◌≡◌, ◌↔◌, ◌+◌, ◌++◌, ◌≤◌, IsTrue, Some, length};
-ghost use Rattle.wire_ip.specs.Ip.{Reads, bytes_of, ip_of, max_payload_len, normal, payload_len_of};
+ghost use Rattle.wire_ip.specs.Ip.{Reads, ReadsHeader, bytes_of, header_len_of, ip_of, max_payload_len, normal, payload_len_of, payload_of, version_of};
 
 use crate::ip::IpRepr;
 
@@ -36,4 +36,17 @@ pub fn normal_twice_ip(bytes: &[u8], verified: bool, value: IpRepr)
 pub fn no_more_bytes_ip(bytes: &[u8], verified: bool, computed: bool, value: IpRepr)
     requires { Reads bytes.now verified value }
     ensures { length (bytes_of value computed) + payload_len_of value ≤ length bytes.now }
+{}
+
+/// The emitted header has the length that `header_len` returns.
+pub fn header_length_ip(value: IpRepr, computed: bool)
+    ensures { length (bytes_of value computed) ≡ header_len_of value }
+{}
+
+/// The payload of a packet that was read has the length that the value names, and the header of a value
+/// can express it.
+pub fn read_payload_fits_ip(bytes: &[u8], verified: bool, value: IpRepr)
+    requires { ReadsHeader bytes.now verified value }
+    ensures len { length (payload_of bytes.now (version_of value)) ≡ payload_len_of value }
+    ensures fits { payload_len_of value ≤ max_payload_len value }
 {}

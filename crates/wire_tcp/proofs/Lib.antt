@@ -10,6 +10,7 @@ pub mod TcpLengths
 pub mod TcpReadsBack
 mod TcpReprWorked
 pub mod TcpTexts
+pub mod TcpUpdated
 mod TcpViewed
 mod TcpWorked
 pub mod ValueInRange

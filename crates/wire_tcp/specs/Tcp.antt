@@ -6,7 +6,7 @@ use Rattle.wire_field.specs.Field.{field, with_field}
 use Rattle.wire_field.specs.Loan.{Holds}
 use Rattle.wire_checksum.specs.PseudoHeader.{pseudo_header_bytes, with_pseudo_header}
 use Rattle.wire_ends.specs.IpAddress.{octets_of}
-use Rattle.wire_checksum.specs.WordSum.{sum_of_bytes}
+use Rattle.wire_checksum.specs.WordSum.{sum_of_bytes, updated}
 use Rattle.wire_ends.specs.declared.ip_protocol.IpProtocol.TheVariants as protocol
 use Rattle.wire_tcp.specs.declared.tcp.packet.TcpView.{TcpView}
 
@@ -82,3 +82,7 @@ abbrev pub with_checksum : IpAddress → IpAddress → List ℕ → List ℕ
 with_checksum src dst bytes =
     let zeroed = with_field bytes 128 16 0 in
     with_field zeroed 128 16 (65535 - segment_sum src dst zeroed)
+
+-- the bytes with the checksum updated, after words that it covers changed from the sum old to the sum new
+abbrev pub with_updated_checksum : List ℕ → ℕ → ℕ → List ℕ
+with_updated_checksum bytes old new = with_field bytes 128 16 (updated (field bytes 128 16) old new)

@@ -7,6 +7,7 @@ mod packet_mut;
 mod repr;
 mod repr_text;
 mod text;
+mod update;
 
 pub use packet::{TcpPacket, TcpPacketMut};
 pub use repr::TcpRepr;

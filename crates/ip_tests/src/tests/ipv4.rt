@@ -1,5 +1,6 @@
 //! IPv4 headers.
 
+ghost use Rattle.std.specs.Prelude.{◌+◌, ◌≤◌, length};
 ghost use Rattle.ip_wire.specs.Ipv4.{HasLengths, packet_bytes, packet_bytes_mut};
 
 use super::IPV4_FRAGMENT;
@@ -174,6 +175,34 @@ fn fills_in_the_checksum_of_the_whole_header(rt: HostRuntime) {
     sum_of_0[..20].copy_from_slice(&SUM_OF_0_HEADER);
     assert_eq!(rt; filled(&SUM_OF_0_HEADER), sum_of_0);
     assert_eq!(rt; filled(&OPTION_HEADER), OPTION_HEADER);
+}
+
+/// The packet with other bytes from one place on, and with this checksum.
+fn changed(start: usize, bytes: &[u8], checksum: [u8; 2]) -> [u8; 24]
+    requires { start + length bytes.now ≤ 24 }
+{
+    let mut packet = IPV4_PACKET;
+    packet[start..start + bytes.len()].copy_from_slice(bytes);
+    packet[10..12].copy_from_slice(&checksum);
+    packet
+}
+
+#[test]
+fn updates_the_checksum_with_a_field(rt: HostRuntime) {
+    let address = Ipv4Address::new(203, 0, 113, 5);
+    let [mut fewer_hops, mut other_src, mut other_dst, mut same] = [IPV4_PACKET; 4];
+    Ipv4PacketMut::new_unchecked(&mut fewer_hops).update_hop_limit(63);
+    Ipv4PacketMut::new_unchecked(&mut other_src).update_src_addr(address);
+    Ipv4PacketMut::new_unchecked(&mut other_dst).update_dst_addr(address);
+    Ipv4PacketMut::new_unchecked(&mut same).update_hop_limit(64);
+    for (found, want) in [
+        (fewer_hops, changed(8, &[63], [0xd3, 0x79])),
+        (other_src, changed(12, &[203, 0, 113, 5], [0xba, 0x99])),
+        (other_dst, changed(16, &[203, 0, 113, 5], [0xda, 0xb9])),
+        (same, IPV4_PACKET),
+    ] {
+        assert_eq!(rt; found, want);
+    }
 }
 
 #[test]

@@ -138,6 +138,59 @@ fn writes_every_field(rt: HostRuntime) -> std::result::Result<(), Fail> {
 }
 
 #[test]
+fn updates_the_checksum_with_a_port(rt: HostRuntime) {
+    for (packet, src_port, dst_port, checksum) in [
+        (PACKET, 0x1234, 53, 0xbf19),
+        (PACKET, 48896, 5353, 0xfd98),
+        (PACKET, 48896, 53, 0x124d),
+        (UNSUMMED, 0x1234, 5353, 0),
+    ] {
+        let mut buffer = packet;
+        let mut packet = UdpPacketMut::new_unchecked(&mut buffer);
+        packet.update_src_port(src_port);
+        packet.update_dst_port(dst_port);
+        let found = (packet.src_port(), packet.dst_port(), packet.checksum());
+        assert_eq!(rt; found, (src_port, dst_port, checksum));
+    }
+}
+
+#[test]
+fn an_updated_checksum_of_0_is_written_as_ffff(rt: HostRuntime) {
+    let mut buffer = [0x00, 0x02, 0x7c, 0x89, 0x00, 0x08, 0xff, 0xfe];
+    UdpPacketMut::new_unchecked(&mut buffer).update_src_port(1);
+    assert_eq!(rt; buffer, SUM_OF_0);
+}
+
+/// The checksum after one address became another.
+fn checksum_between_others(packet: [u8; 12], old: IpAddress, new: IpAddress) -> u16
+    requires { version_of old ≡ version_of new }
+{
+    let mut buffer = packet;
+    let mut packet = UdpPacketMut::new_unchecked(&mut buffer);
+    packet.update_address(&old, &new);
+    packet.checksum()
+}
+
+#[test]
+fn updates_the_checksum_with_an_address(rt: HostRuntime) {
+    let (src, dst) = (IpAddress::v4(192, 168, 1, 1), IpAddress::v4(192, 168, 1, 2));
+    let other = IpAddress::v4(203, 0, 113, 5);
+    let src_ipv6 = IpAddress::v6(0xfe80, 0, 0, 0, 0, 0, 0, 1);
+    let other_ipv6 = IpAddress::v6(0x2001, 0xdb8, 0, 0, 0, 0, 0, 7);
+    for (found, want) in [
+        (checksum_between_others(PACKET, src, other), 0x97f0),
+        (checksum_between_others(PACKET, dst, other), 0x97f1),
+        (checksum_between_others(UNSUMMED, src, other), 0),
+        (
+            checksum_between_others(PACKET_OVER_IPV6, src_ipv6, other_ipv6),
+            0xd30f,
+        ),
+    ] {
+        assert_eq!(rt; found, want);
+    }
+}
+
+#[test]
 fn padding_is_no_payload(rt: HostRuntime) -> std::result::Result<(), Fail> {
     let mut buffer = [0x55; 14];
     buffer[..12].copy_from_slice(&PACKET);

@@ -47,6 +47,7 @@ impl IpRepr {
         hop_limit: u8,
     ) -> IpRepr
         requires { address.version_of src_addr ≡ address.version_of dst_addr }
+        ensures version { version_of result ≡ address.version_of src_addr }
         ensures src_addr { src_addr_of result ≡ src_addr }
         ensures dst_addr { dst_addr_of result ≡ dst_addr }
         ensures next_header { next_header_of result ≡ next_header }

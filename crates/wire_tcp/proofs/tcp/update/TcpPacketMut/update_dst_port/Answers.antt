@@ -1,0 +1,14 @@
+use Rattle.std.proofs.Common.{◌≡◌, ℕ, subst, sym, arith, rules}
+use Rattle.wire_field.proofs.Spelled.{AreBytes}
+use Rattle.wire_field.specs.Field.{field, with_field}
+use Rattle.wire_tcp.specs.Tcp.{Verifies, packet_bytes_mut, with_updated_checksum}
+use Rattle.wire_tcp.proofs.TcpUpdated.{valid-word}
+use Rattle.wire_tcp.proofs.tcp.update.TcpPacketMut.update_dst_port.Goals as goal
+
+written : (c : goal.After-update_checksum)
+    → packet_bytes_mut c.update_checksum.new.self ≡ with_updated_checksum (with_field (packet_bytes_mut c.args.self.now) 16 16 c.args.value) (field (packet_bytes_mut c.args.self.now) 16 16) c.args.value
+written c = search rules
+
+pub returns-clause-valid : goal.returns-clause-valid
+returns-clause-valid c src dst s d valid =
+    subst (Verifies src dst) (sym (written c)) (valid-word src dst (packet_bytes_mut c.args.self.now) 1 c.args.value (subst AreBytes c.as_bytes.ensures c.octets_fit.ensures) (search rules) (omega arith) s d c.requires valid)
