@@ -1,6 +1,8 @@
+pub mod NoRanges
 pub mod OptionItems
 pub mod OptionLens
 pub mod OptionsBack
+pub mod TcpChanged
 pub mod TcpComputed
 pub mod TcpEmitted
 pub mod TcpForms
