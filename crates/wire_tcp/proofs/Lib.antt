@@ -1,8 +1,10 @@
+pub mod NoRanges
 pub mod OptionItems
 pub mod OptionLens
 pub mod OptionsBack
 mod Pairs
 pub mod Sums
+pub mod TcpChanged
 pub mod TcpComputed
 pub mod TcpEmitted
 pub mod TcpForms

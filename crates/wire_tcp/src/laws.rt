@@ -1,11 +1,11 @@
 //! Laws of TCP segments. A law states a fact about definitions; its body does nothing.
 
-ghost use Rattle.std.specs.Prelude.{◌≡◌, ◌≢◌, ◌⊎◌, ◌↔◌, ◌+◌, ◌*◌, ◌%◌, ◌<◌, ◌≤◌, ℕ, [], Bool, List, IsTrue, Some, true, length};
+ghost use Rattle.std.specs.Prelude.{◌≡◌, ◌≢◌, ◌⊎◌, ◌↔◌, ◌+◌, ◌*◌, ◌%◌, ◌<◌, ◌≤◌, ℕ, [], Bool, IfSome, List, IsTrue, Some, false, true, length};
 ghost use Rattle.wire_ends.specs.IpAddress.{version_of};
 ghost use Rattle.wire_ends.specs.declared.ip_address.IpAddress.{IpAddress};
 ghost use Rattle.wire_field.specs.Field.{field, with_field};
 ghost use Rattle.wire_tcp.specs.Tcp.{Verifies, header_len, payload_of, with_checksum};
-ghost use Rattle.wire_tcp.specs.TcpRepr.{HasIdleRanges, Reads, bytes_of, header_len_of, header_of, normal, tcp_of};
+ghost use Rattle.wire_tcp.specs.TcpRepr.{HasIdleRanges, Reads, bytes_of, header_len_of, header_of, no_ranges, normal, tcp_of};
 
 use crate::tcp::TcpRepr;
 use wire_ends::IpAddress;
@@ -123,4 +123,51 @@ pub fn filled_checksum_verifies(src_addr: IpAddress, dst_addr: IpAddress, bytes:
     requires header { 18 ≤ length bytes.now }
     requires family { version_of src_addr ≡ version_of dst_addr }
     ensures { Verifies src_addr dst_addr (with_checksum src_addr dst_addr bytes.now) }
+{}
+
+/// A value without SACK ranges has a header of at most 40 octets. It is normal if its window scale is at
+/// most 14.
+pub fn no_ranges_tcp(value: TcpRepr<'_>)
+    requires { value.sack_ranges ≡ no_ranges }
+    ensures header_len { header_len_of (header_of value.entry) ≤ 40 }
+    ensures normal { IfSome value.entry.window_scale (λ scale. scale ≤ 14) → normal (header_of value.entry) ≡ header_of value.entry }
+{}
+
+/// A value that parses with its checksum not verified also parses with the checksum verified, exactly
+/// if the checksum is valid.
+pub fn valid_checksum_reads_tcp(
+    bytes: &[u8],
+    src_addr: IpAddress,
+    dst_addr: IpAddress,
+    value: TcpRepr<'_>,
+)
+    ensures { let v = header_of value.entry in let payload = value.entry.payload.now in
+        Reads bytes.now src_addr dst_addr true v payload ↔ (Reads bytes.now src_addr dst_addr false v payload × Verifies src_addr dst_addr bytes.now) }
+{}
+
+/// Writing one field changes one value, and no other. Only the checksum is no value, and is not
+/// verified here.
+pub fn one_value_changes_tcp(
+    bytes: &[u8],
+    src_addr: IpAddress,
+    dst_addr: IpAddress,
+    value: TcpRepr<'_>,
+    word: u16,
+)
+    requires { Reads bytes.now src_addr dst_addr false (header_of value) value.payload.now }
+    ensures src_port { word ≢ 0 → Reads (with_field bytes.now 0 16 word) src_addr dst_addr false (record (header_of value.entry) { src_port = word }) value.entry.payload.now }
+    ensures dst_port { word ≢ 0 → Reads (with_field bytes.now 16 16 word) src_addr dst_addr false (record (header_of value.entry) { dst_port = word }) value.entry.payload.now }
+    ensures window_len { Reads (with_field bytes.now 112 16 word) src_addr dst_addr false (record (header_of value.entry) { window_len = word }) value.entry.payload.now }
+    ensures checksum { Reads (with_field bytes.now 128 16 word) src_addr dst_addr false (header_of value.entry) value.entry.payload.now }
+{}
+
+/// A segment whose checksum `fill_checksum` wrote parses as before, with its checksum verified.
+pub fn filled_checksum_reads_tcp(
+    bytes: &[u8],
+    src_addr: IpAddress,
+    dst_addr: IpAddress,
+    value: TcpRepr<'_>,
+)
+    requires { Reads bytes.now src_addr dst_addr false (header_of value) value.payload.now }
+    ensures { Reads (with_checksum src_addr dst_addr bytes.now) src_addr dst_addr true (header_of value.entry) value.entry.payload.now }
 {}
