@@ -1,5 +1,5 @@
-//! What a host replies to frames: to a UDP packet for its echo port, and to a TCP segment where it has no
-//! connection.
+//! What a host replies to frames: to an ARP request, to a UDP packet for its echo port, and to a TCP
+//! segment where it has no connection.
 #![tactic(auto)]
 
 pub mod arp;
