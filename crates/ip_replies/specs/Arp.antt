@@ -1,0 +1,41 @@
+-- The reply to an ARP request (RFC 826).
+use Rattle.std.specs.Prelude.{◌≡◌, List, ℕ, Some}
+use Rattle.ip_wire.specs.Frame.{Carried, IsReadWhole, message}
+use Rattle.ip_wire.specs.FrameValue.{carried_of}
+use Rattle.ip_wire.specs.Hardware.{IsUnicast}
+use Rattle.ip_wire.specs.declared.ArpOperation.TheVariants.{Request, Reply}
+use Rattle.ip_wire.specs.declared.ArpRepr.{ArpRepr}
+use Rattle.ip_wire.specs.declared.ArpRepr.TheVariants.{EthernetIpv4}
+use Rattle.ip_wire.specs.declared.EthernetAddress.{EthernetAddress}
+use Rattle.ip_wire.specs.declared.EthernetProtocol.TheVariants as ethertype
+use Rattle.ip_wire.specs.declared.EthernetRepr.{EthernetRepr}
+use Rattle.ip_wire.specs.declared.Frame.{Frame}
+use Rattle.ip_replies.specs.declared.interface.Interface.{Interface}
+
+-- one station asks who has our address, whatever it says of the one that it asks for, and the reply tells it that our
+-- hardware address has it
+pub record IsArpReply (ours : Interface) (request : ArpRepr) (asker : EthernetAddress) (reply : ArpRepr) : Type 0 where
+  pub asker_addr : List ℕ
+  pub asked : EthernetAddress
+  pub asks : request ≡ EthernetIpv4 Request asker asker_addr asked ours.ipv4_addr
+  pub from_station : IsUnicast asker.0
+  pub tells : reply ≡ EthernetIpv4 Reply ours.hardware_addr ours.ipv4_addr asker asker_addr
+
+-- a frame with these values carries such a request, and the other frame is the reply to it
+pub record IsArpAnswer (ours : Interface) (asked : Carried) (header : EthernetRepr) (carried : Carried) : Type 0 where
+  pub request : ArpRepr
+  pub asker : EthernetAddress
+  pub reply : ArpRepr
+  pub asks : asked ≡ message request
+  pub replies : IsArpReply ours request asker reply
+  pub link : header ≡ record { src_addr = ours.hardware_addr; dst_addr = asker; ethertype = ethertype.Arp }
+  pub carries : carried ≡ message reply
+
+-- the values of the reply to a frame
+abbrev pub ArpRepliesFrame : Interface → Frame → EthernetRepr → Carried → Type 0
+ArpRepliesFrame ours request header carried = (asked : Carried) × (carried_of request.carried ≡ Some asked) × IsArpAnswer ours asked header carried
+
+-- the values of the reply to the frame that these bytes are parsed as
+abbrev pub ArpRepliesBytes : Interface → List ℕ → EthernetRepr → Carried → Type 0
+ArpRepliesBytes ours bytes header carried =
+    (asked_header : EthernetRepr) × (asked : Carried) × IsReadWhole bytes asked_header asked × IsArpAnswer ours asked header carried

@@ -1,0 +1,5 @@
+pub mod Arp
+pub mod Interface
+pub mod Reply
+pub mod TcpReply
+pub mod UdpEcho

@@ -1,0 +1,36 @@
+-- The echo service of UDP (RFC 862).
+use Rattle.std.specs.Prelude.{ℕ, ◌≡◌, ◌≢◌, ◌≤◌, ◌+◌, List, Some, length}
+use Rattle.ip_wire.specs.Frame.{Carried, IsReadWhole, datagram, packet, type_of}
+use Rattle.ip_wire.specs.FrameValue.{carried_of, header_before}
+use Rattle.ip_wire.specs.Ip.{max_payload_len}
+use Rattle.ip_wire.specs.declared.EthernetRepr.{EthernetRepr}
+use Rattle.ip_wire.specs.declared.Frame.{Frame}
+use Rattle.ip_wire.specs.declared.IpProtocol.TheVariants as protocol
+use Rattle.ip_wire.specs.declared.IpRepr.{IpRepr}
+use Rattle.ip_wire.specs.declared.UdpRepr.{UdpRepr}
+use Rattle.ip_replies.specs.Interface.{IsForUs, header_back}
+use Rattle.ip_replies.specs.Reply.{HasValues}
+use Rattle.ip_replies.specs.declared.interface.Interface.{Interface}
+
+-- a frame with these values is a UDP packet for a port of ours, and the other frame the echo of it
+pub record IsEcho (ours : Interface) (port : ℕ) (asked_header : EthernetRepr) (asked : Carried) (header : EthernetRepr) (carried : Carried) : Type 0 where
+  pub ip : IpRepr
+  pub udp : UdpRepr
+  pub payload : List ℕ
+  pub asks : asked ≡ packet ip (datagram udp payload)
+  pub for_us : IsForUs ours asked_header ip
+  pub to_port : udp.dst_port ≡ port
+  pub from_port : udp.src_port ≢ 0
+  pub fits : 8 + length payload ≤ max_payload_len ip
+  pub link : header ≡ record { src_addr = ours.hardware_addr; dst_addr = asked_header.src_addr; ethertype = type_of ip }
+  pub echoes : carried ≡ packet (header_before (header_back ip) protocol.Udp (8 + length payload)) (datagram (record { src_port = udp.dst_port; dst_port = udp.src_port }) payload)
+
+-- the values of the echo of a frame
+abbrev pub EchoesFrame : Interface → ℕ → Frame → EthernetRepr → Carried → Type 0
+EchoesFrame ours port request header carried =
+    (asked : Carried) × (carried_of request.carried ≡ Some asked) × IsEcho ours port request.header asked header carried
+
+-- the values of the echo of the frame that these bytes are parsed as
+abbrev pub EchoesBytes : Interface → ℕ → List ℕ → EthernetRepr → Carried → Type 0
+EchoesBytes ours port bytes header carried =
+    (asked_header : EthernetRepr) × (asked : Carried) × IsReadWhole bytes asked_header asked × IsEcho ours port asked_header asked header carried

@@ -1,0 +1,15 @@
+//! What a host replies to frames: to an ARP request, to a UDP packet for its echo port, and to a TCP
+//! segment where it has no connection.
+#![tactic(auto)]
+
+pub mod arp;
+mod emit;
+mod interface;
+pub mod tcp_answer;
+pub mod tcp_reply;
+#[cfg(test)]
+mod tests;
+pub mod udp_echo;
+
+pub use emit::send;
+pub use interface::{HOP_LIMIT, Interface};

@@ -1,0 +1,50 @@
+//! The echo service of UDP (RFC 862): a packet comes back to its sender with the same payload.
+
+ghost use Rattle.ip_replies.specs.Reply.{Gives, Sends};
+ghost use Rattle.ip_replies.specs.UdpEcho.{EchoesBytes, EchoesFrame};
+
+use crate::emit::send;
+use crate::interface::{Interface, header_back};
+use ip_wire::{Carried, Frame, Transport, UdpRepr};
+use net_base::ChecksumCapabilities;
+
+/// The reply to a UDP packet for this port: the same payload, with addresses and ports exchanged. None
+/// for any other frame, and for source port 0.
+pub fn echo<'a>(request: &Frame<'a>, ours: &Interface, port: u16) -> Option<Frame<'a>>
+    ensures { Gives (EchoesFrame ours.now port request.now) result }
+{
+    match request.carried {
+        Carried::Packet(header, inner) => match inner {
+            Transport::Udp(ports, payload) => {
+                if ports.dst_port != port || !ours.accepts(&request.header, &header) {
+                    return None;
+                }
+                let (src_addr, dst_addr) = (ours.hardware_addr, request.header.src_addr);
+                let back = UdpRepr {
+                    src_port: ports.dst_port,
+                    dst_port: ports.src_port,
+                };
+                match Frame::udp(src_addr, dst_addr, header_back(&header), back, payload) {
+                    Ok(reply) => Some(reply),
+                    Err(_) => None,
+                }
+            }
+            _ => None,
+        },
+        _ => None,
+    }
+}
+
+/// Writes the reply to a frame to the front of `out`, and returns its length. None where there is no
+/// reply or it does not fit, and then nothing is written.
+pub fn answer(bytes: &[u8], ours: &Interface, port: u16, out: &mut [u8]) -> Option<usize>
+    ensures { Sends (EchoesBytes ours.now port bytes.now) out.old out.new result }
+{
+    match Frame::parse(bytes, &ChecksumCapabilities::default()) {
+        Ok(request) => match echo(&request, ours, port) {
+            Some(reply) => send(&reply, out),
+            None => None,
+        },
+        Err(_) => None,
+    }
+}
