@@ -375,9 +375,11 @@ INLINE size_t rebuild_tcp(const struct packet *packet, size_t len, uint8_t *out,
 INLINE size_t rebuild_transport(const struct packet *packet, uint8_t *out, size_t cap, size_t at)
 {
     size_t len;
-    if (packet->protocol == PROTOCOL_UDP && read_udp(packet, &len) == LK_READ
-        && (udp_verdict(packet, len) == LK_RIGHT || udp_verdict(packet, len) == LK_LEFT_OUT))
-        return rebuild_udp(packet, len, out, cap, at);
+    if (packet->protocol == PROTOCOL_UDP && read_udp(packet, &len) == LK_READ) {
+        uint8_t checksum = udp_verdict(packet, len);
+        if (checksum == LK_RIGHT || checksum == LK_LEFT_OUT)
+            return rebuild_udp(packet, len, out, cap, at);
+    }
     if (packet->protocol == PROTOCOL_TCP && read_tcp(packet, &len) == LK_READ
         && verdict(packet, packet->len, 16) == LK_RIGHT)
         return rebuild_tcp(packet, len, out, cap, at);

@@ -283,13 +283,14 @@ INLINE int store_ipv4(const uint8_t *ptr, size_t len, struct lk_frame *frame)
     return packet.is_fragment ? LK_READ : store_transport(&packet, frame);
 }
 
+/* The payload begins at a fragment header. One that is cut off has no values. */
 INLINE int store_ipv6_fragment(const struct packet *packet, struct lk_frame *frame)
 {
     const uint8_t *ptr = packet->payload;
     if (packet->len < 8)
-        return LK_TOO_SHORT;
+        return LK_READ;
     uint16_t fragment = swap_16(load_16(ptr + 2));
-    frame->is_fragment = 1;
+    frame->is_fragment = (fragment & 0xfff9) != 0;
     frame->ip.fragment_offset = fragment & 0xfff8;
     frame->ip.more_fragments = fragment & 1;
     frame->ip.ident = swap_32(load_32(ptr + 4));
