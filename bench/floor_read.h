@@ -352,9 +352,18 @@ INLINE int store_network(const uint8_t *ptr, size_t len, struct lk_frame *frame)
     return LK_READ;
 }
 
+/* By nine vectors: for so few bytes compilers use an instruction that starts slowly. */
+INLINE void clear(struct lk_frame *frame)
+{
+    typedef uint64_t pair __attribute__((vector_size(16), may_alias, aligned(8)));
+    _Static_assert(sizeof *frame == 9 * sizeof(pair), "nine vectors");
+    pair *to = (pair *)frame;
+    to[0] = to[1] = to[2] = to[3] = to[4] = to[5] = to[6] = to[7] = to[8] = (pair){0};
+}
+
 int lk_read_frame(const uint8_t *ptr, size_t len, struct lk_frame *frame)
 {
-    memset(frame, 0, sizeof *frame);
+    clear(frame);
     frame->payload_len = len;
     if (len < ETHERNET_LEN)
         return frame->reason = LK_TOO_SHORT;
