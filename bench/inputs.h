@@ -61,7 +61,8 @@ static struct {
 #define HEADERS(low, high, next)                                                                   \
     {                                                                                              \
         .ethernet = {{2, 0, 0, 0, 0, 1}, {2, 0, 0, 0, 0, 2}, 0},                                   \
-        .arp = {2, {2, 0, 0, 0, 0, 1}, {2, 0, 0, 0, 0, 2}}, .ip = {.hop_limit = 64, .protocol = next, .dont_fragment = 1}, \
+        .arp = {2, {2, 0, 0, 0, 0, 1}, {2, 0, 0, 0, 0, 2}},                                        \
+        .ip = {.hop_limit = 64, .protocol = next, .dont_fragment = 1},                             \
         .src = {low, 48896}, .dst = {high, 53},                                                    \
     }
 #define ENDS(version) (version == 4 ? &ipv4_headers : &ipv6_headers)
@@ -107,12 +108,15 @@ static void prepare_udp(const struct lk_frame *headers, const struct row *row)
 static void prepare_udp_ipv4(const struct row *row) { prepare_udp(&ipv4_headers, row); }
 static void prepare_udp_ipv6(const struct row *row) { prepare_udp(&ipv6_headers, row); }
 
-static void prepare_tcp(const struct lk_frame *addresses, const struct row *row)
+static struct lk_frame tcp_headers; /* of the segment in the frame */
+
+static void prepare_tcp(const struct lk_frame *headers, const struct row *row)
 {
-    struct lk_frame headers = *addresses;
+    const struct lk_tcp_options *options = &row->header->options;
     prepare_bytes(row);
-    headers.tcp = row->header->tcp;
-    frame_len = (size_t)lk_emit_tcp_frame(&headers, &row->header->options, payload, row->size, bytes, sizeof bytes);
+    tcp_headers = *headers;
+    tcp_headers.tcp = row->header->tcp;
+    frame_len = (size_t)lk_emit_tcp_frame(&tcp_headers, options, payload, row->size, bytes, sizeof bytes);
 }
 
 static void prepare_tcp_ipv4(const struct row *row) { prepare_tcp(&ipv4_headers, row); }

@@ -53,16 +53,15 @@ static uint64_t call_emit_arp_frame(const struct library *library, const struct 
     static uint64_t call_udp_frame##version(const struct library *library, const struct row *row)        \
     {                                                                                                     \
         return (uint64_t)library->emit_udp_frame(ENDS(version), payload, row->size, OUT);                 \
-    }                                                                                                     \
-    static uint64_t call_tcp_frame##version(const struct library *library, const struct row *row)        \
-    {                                                                                                     \
-        out.frame = *ENDS(version);                                                                       \
-        out.frame.tcp = row->header->tcp;                                                                 \
-        return (uint64_t)library->emit_tcp_frame(&out.frame, &row->header->options, payload, row->size, OUT); \
     }
 
 EMIT(4)
 EMIT(6)
+
+static uint64_t call_tcp_frame(const struct library *library, const struct row *row)
+{
+    return (uint64_t)library->emit_tcp_frame(&tcp_headers, &row->header->options, payload, row->size, OUT);
+}
 
 static uint64_t call_rebuild(const struct library *library, const struct row *row)
 {
@@ -155,8 +154,8 @@ static const struct row tcp_rows[] = {
     {"read TCP/IPv6", prepare_tcp_ipv6, call_read, .computed = 1},
     {"emit TCP/IPv4", prepare_tcp_ipv4, call_emit_tcp4, .computed = 1},
     {"emit TCP/IPv6", prepare_tcp_ipv6, call_emit_tcp6, .computed = 1},
-    {"emit frame TCP/IPv4", prepare_tcp_ipv4, call_tcp_frame4, .computed = 1},
-    {"emit frame TCP/IPv6", prepare_tcp_ipv6, call_tcp_frame6, .computed = 1},
+    {"emit frame TCP/IPv4", prepare_tcp_ipv4, call_tcp_frame, .computed = 1},
+    {"emit frame TCP/IPv6", prepare_tcp_ipv6, call_tcp_frame, .computed = 1},
     {"rebuild TCP/IPv4", prepare_tcp_ipv4, call_rebuild, .computed = 1},
     {"rebuild TCP/IPv6", prepare_tcp_ipv6, call_rebuild, .computed = 1},
 };
