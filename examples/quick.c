@@ -9,13 +9,12 @@ int main(void)
         "\xb5\xe3\x14\xe9\0\x0c\0\0" "ping";                         /* UDP */
     struct lk_frame f, reply;
     uint8_t out[1514];
-    char src[47], dst[47];
+    char src[47];
 
-    if (!lk_cpu_supported() || lk_read_frame(frame, sizeof frame - 1, &f) != LK_READ || f.transport != LK_UDP)
+    if (lk_read_frame(frame, sizeof frame - 1, &f) != LK_READ || f.transport != LK_UDP)
         return 1;
-    printf("%.*s to %.*s: %.*s\n", (int)lk_endpoint_print(&f.src, src, sizeof src), src,
-           (int)lk_endpoint_print(&f.dst, dst, sizeof dst), dst,
-           (int)f.payload_len, (const char *)frame + f.payload_offset);
+    printf("%.*s from %.*s\n", (int)f.payload_len, (const char *)frame + f.payload_offset,
+           (int)lk_endpoint_print(&f.src, src, sizeof src), src);
     lk_reply(&f, &reply);
     ptrdiff_t len = lk_emit_udp_frame(&reply, (const uint8_t *)"pong", 4, out, sizeof out);
     printf("the reply has %td octets\n", len);

@@ -40,8 +40,7 @@ def main():
     if not lib.lk_cpu_supported() or lib.lk_read_frame(FRAME, len(FRAME), frame) != lib.LK_READ:
         sys.exit("quick.py: a header was rejected")
     payload = FRAME[frame.payload_offset :][: frame.payload_len]
-    src, dst = endpoint_text(ffi, lib, frame.src), endpoint_text(ffi, lib, frame.dst)
-    print(f"{src} to {dst}: {payload.decode()}")
+    print(f"{payload.decode()} from {endpoint_text(ffi, lib, frame.src)}")
 
     lib.lk_reply(frame, reply)
     length = lib.lk_emit_udp_frame(reply, b"pong", 4, out, len(out))

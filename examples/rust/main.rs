@@ -147,8 +147,7 @@ fn main() {
     let frame = read_frame(BYTES).expect("a header was rejected");
     assert!(frame.transport == ip_wire::UDP);
     let payload = &BYTES[frame.payload_offset..][..frame.payload_len];
-    let (src, dst) = (text(&frame.src).unwrap(), text(&frame.dst).unwrap());
-    println!("{src} to {dst}: {}", String::from_utf8_lossy(payload));
+    println!("{} from {}", String::from_utf8_lossy(payload), text(&frame.src).unwrap());
 
     let mut out = [0; 1514];
     let answer = udp_frame(&reply(&frame), b"pong", &mut out).expect("it does not fit");
