@@ -73,12 +73,14 @@ INLINE void write_ipv6(const struct lk_ip *ip, const uint8_t *src, const uint8_t
     memcpy(out + 24, dst, 16);
 }
 
-/* Whether a header without fragment header can have these fields. */
+/* Whether the header can have these fields: an IPv6 header has none of a fragment. */
 INLINE int fits(const struct lk_ip *ip, uint16_t version)
 {
     if (ip->dscp > 63 || ip->ecn > 3)
         return 0;
-    return version == 4 ? ip->ident <= 0xffff && ip->fragment_offset % 8 == 0 : ip->flow_label <= 0xfffff;
+    if (version == 4)
+        return ip->ident <= 0xffff && ip->fragment_offset % 8 == 0;
+    return ip->flow_label <= 0xfffff && !(ip->ident | ip->fragment_offset | ip->more_fragments);
 }
 
 INLINE size_t ip_len(uint16_t version) { return version == 4 ? IPV4_LEN : IPV6_LEN; }
@@ -200,10 +202,9 @@ INLINE void write_tcp(const struct lk_tcp *tcp, const struct lk_tcp_options *opt
                       size_t header_len, size_t len, int computed, uint8_t *out)
 {
     uint64_t front = both | (uint64_t)swap_32(tcp->seq_number) << 32;
-    uint64_t back = header_len << 34 | (uint64_t)tcp->flags << 40 | (uint64_t)swap_16(tcp->window_len) << 48;
+    uint64_t back = swap_32(tcp->ack_number) | header_len << 34 | (uint64_t)tcp->flags << 40
+                    | (uint64_t)swap_16(tcp->window_len) << 48;
     uint32_t urgent = (uint32_t)swap_16(tcp->urgent_at) << 16;
-    if (tcp->flags & LK_ACK)
-        back |= swap_32(tcp->ack_number);
     write_options(tcp, options, out + TCP_LEN, out + header_len);
     uint16_t checksum = 0;
     if (computed) {
@@ -361,7 +362,7 @@ INLINE size_t rebuild_tcp(const struct packet *packet, size_t len, uint8_t *out,
     struct lk_tcp_options options;
     struct lk_tcp tcp = {
         .seq_number = swap_32(load_32(ptr + 4)),
-        .ack_number = swap_32(load_32(ptr + 8)),
+        .ack_number = ptr[13] & LK_ACK ? swap_32(load_32(ptr + 8)) : 0,
         .window_len = swap_16(load_16(ptr + 14)),
         .flags = kept_flags(ptr[13]),
     };
