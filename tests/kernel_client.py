@@ -3,6 +3,7 @@
 
 tests/kernel_client.py host DEVICE     exchanges packets with examples/host.c on this TAP device
 tests/kernel_client.py bridge PROCESS  sends TCP through examples/bridge.c to the namespace of this process
+tests/kernel_client.py loss PROCESS    the same where packets are lost
 
 Prints how many exchanges were right. The status is 1 if one was wrong, or if the kernel counted an error.
 """
@@ -34,8 +35,8 @@ def check(kind, holds, what=""):
         print(f"tests/kernel: wrong: {kind} {what}", file=sys.stderr)
 
 
-def kernel_errors():
-    """The counters of errors of this namespace, as a dictionary. Those of 0 are left out."""
+def kernel_counters():
+    """The counters of this namespace, as a dictionary."""
     found = {}
     for path in ("/proc/net/snmp", "/proc/net/netstat"):
         with open(path, encoding="ascii") as file:
@@ -45,7 +46,12 @@ def kernel_errors():
             found.update((layer + name, int(value)) for name, value in zip(names.split()[1:], values.split()[1:]))
     with open("/proc/net/snmp6", encoding="ascii") as file:
         found.update((name, int(value)) for name, value in (line.split() for line in file))
-    return {name: value for name, value in found.items() if value and name.endswith(ERRORS)}
+    return found
+
+
+def kernel_errors():
+    """The counters of errors that are not 0."""
+    return {name: value for name, value in kernel_counters().items() if value and name.endswith(ERRORS)}
 
 
 def udp_socket(family, address):
@@ -322,18 +328,34 @@ def in_namespace(process, *command, **words):
     return subprocess.Popen(["nsenter", "--target", process, "--net", *command], stdout=subprocess.PIPE, text=True, **words)
 
 
-def through_bridge(process):
+def through_bridge(process, exchange):
+    """Exchanges TCP over each version with a server behind the bridge."""
     for family, address in BRIDGED:
         server = in_namespace(process, sys.executable, "-c", SERVER, address)
         server.stdout.readline()
-        for length in [0, 1, 1460, 1461, 100_000, 4 << 20] + [random.randrange(5000) for _ in range(20)]:
-            data = random.randbytes(length)
-            check("TCP through the bridge", echoed(family, address, data) == data, (address, length))
-        tcp_at_once(family, address)
+        exchange(family, address)
         server.kill()
         server.wait()
     there = in_namespace(process, sys.executable, __file__, "errors", "there").communicate()[0]
     check("errors that the kernel counts there", there == "{}\n", there)
+
+
+def bridged(family, address):
+    for length in [0, 1, 1460, 1461, 100_000, 4 << 20] + [random.randrange(5000) for _ in range(20)]:
+        data = random.randbytes(length)
+        check("TCP through the bridge", echoed(family, address, data) == data, (address, length))
+    tcp_at_once(family, address)
+
+
+def lossy(family, address):
+    """Sends until the kernel has used SACK ranges to recover from a loss."""
+    before = kernel_counters()["TcpExtTCPSackRecovery"]
+    for n in range(30):
+        data = random.randbytes(1 << 20)
+        check("TCP with loss", echoed(family, address, data) == data, address)
+        if n >= 3 and kernel_counters()["TcpExtTCPSackRecovery"] > before:
+            return
+    check("SACK ranges that arrive", False, address)
 
 
 def main():
@@ -343,7 +365,10 @@ def main():
         print(kernel_errors())
         return 0
     before = kernel_errors()
-    (with_host if mode == "host" else through_bridge)(place)
+    if mode == "host":
+        with_host(place)
+    else:
+        through_bridge(place, bridged if mode == "bridge" else lossy)
     check("errors that the kernel counts", kernel_errors() == before == {}, kernel_errors())
     kinds = ", ".join(f"{kind} {count}" for kind, count in counts.items())
     print(f"{mode}: {sum(counts.values())} exchanges, {len(wrong)} wrong, {time.monotonic() - start:.0f} s ({kinds})")
