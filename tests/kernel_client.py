@@ -347,13 +347,19 @@ def bridged(family, address):
     tcp_at_once(family, address)
 
 
+def sack_ranges():
+    """How many SACK ranges the kernel has used, as a sum of its counters."""
+    counters = kernel_counters()
+    return sum(counters[f"TcpExtTCPSack{name}"] for name in ("Shifted", "Merged", "ShiftFallback"))
+
+
 def lossy(family, address):
-    """Sends until the kernel has used SACK ranges to recover from a loss."""
-    before = kernel_counters()["TcpExtTCPSackRecovery"]
-    for n in range(30):
+    """Sends until the kernel has used a SACK range."""
+    before = sack_ranges()
+    for n in range(8):
         data = random.randbytes(1 << 20)
         check("TCP with loss", echoed(family, address, data) == data, address)
-        if n >= 3 and kernel_counters()["TcpExtTCPSackRecovery"] > before:
+        if n >= 3 and sack_ranges() > before:
             return
     check("SACK ranges that arrive", False, address)
 
