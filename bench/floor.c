@@ -158,13 +158,13 @@ ptrdiff_t lk_tcp_header_len(const struct lk_tcp_options *options)
     return (ptrdiff_t)tcp_len(options);
 }
 
-INLINE uint8_t *write_sack(const struct lk_tcp *tcp, const struct lk_tcp_options *options, uint8_t *out)
+INLINE uint8_t *write_sack(const struct lk_tcp_options *options, uint8_t *out)
 {
     if (options->sack_permitted) {
         store_16(out, OPTION_PERMITTED | 2 << 8);
         return out + 2;
     }
-    if (!(tcp->flags & LK_ACK) || !options->sack_range_count)
+    if (!options->sack_range_count)
         return out;
     store_16(out, (uint16_t)(OPTION_RANGES | (2 + 8 * options->sack_range_count) << 8));
     out += 2;
@@ -175,7 +175,7 @@ INLINE uint8_t *write_sack(const struct lk_tcp *tcp, const struct lk_tcp_options
     return out;
 }
 
-INLINE void write_options(const struct lk_tcp *tcp, const struct lk_tcp_options *options, uint8_t *out, const uint8_t *end)
+INLINE void write_options(const struct lk_tcp_options *options, uint8_t *out, const uint8_t *end)
 {
     if (options->has_max_seg_size) {
         store_32(out, OPTION_SIZE | 4 << 8 | (uint32_t)swap_16(options->max_seg_size) << 16);
@@ -186,7 +186,7 @@ INLINE void write_options(const struct lk_tcp *tcp, const struct lk_tcp_options 
         out[2] = options->window_scale;
         out += 3;
     }
-    out = write_sack(tcp, options, out);
+    out = write_sack(options, out);
     if (options->has_timestamp) {
         store_16(out, OPTION_TIMESTAMP | 10 << 8);
         store_32(out + 2, swap_32(options->tsval));
@@ -205,7 +205,7 @@ INLINE void write_tcp(const struct lk_tcp *tcp, const struct lk_tcp_options *opt
     uint64_t back = swap_32(tcp->ack_number) | header_len << 34 | (uint64_t)tcp->flags << 40
                     | (uint64_t)swap_16(tcp->window_len) << 48;
     uint32_t urgent = (uint32_t)swap_16(tcp->urgent_at) << 16;
-    write_options(tcp, options, out + TCP_LEN, out + header_len);
+    write_options(options, out + TCP_LEN, out + header_len);
     uint16_t checksum = 0;
     if (computed) {
         uint64_t pseudo = pseudo_total(addresses, PROTOCOL_TCP, header_len + len);
@@ -368,6 +368,8 @@ INLINE size_t rebuild_tcp(const struct packet *packet, size_t len, uint8_t *out,
     };
     read_options(ptr + TCP_LEN, ptr + len, &options);
     size_t header_len = tcp_len(&options), end = copy(ptr + len, packet->len - len, out, cap, at + header_len);
+    if (!(ptr[13] & LK_ACK))
+        options.sack_range_count = 0; /* zeros take their place */
     if (end)
         write_tcp(&tcp, &options, load_32(ptr), addresses_total(packet), header_len, packet->len - len, 1, out + at);
     return end;
