@@ -1,5 +1,9 @@
 # make run        prints the frames of examples/frames.hex, or of FRAMES=file
-# make build      proves the programs and the C library, and builds each as one file
+# make build      proves the programs and the C library, and builds them (the library in out/lib)
+# make install [PREFIX=/usr/local] [DESTDIR=] [LIBDIR=PREFIX/lib]
+#                 installs the C library, its header and man pages, and ip_frames; first builds what is
+#                 not built yet, and installs nothing if a proof fails
+# make uninstall  removes the files that make install put there, with the same variables
 # make quick      runs the tests and the program without proofs
 # make check CRATE=name
 #                 proves one crate and reuses earlier proofs
@@ -20,12 +24,16 @@ REFERENCE ?=
 REFERENCE_BENCH ?=
 SEED ?= 1
 LINES ?= 100000
+PREFIX ?= /usr/local
+DESTDIR ?=
+LIBDIR ?=
 # Recipes read these as environment variables, so that a value may contain any character.
-export FRAMES CRATE REFERENCE_BENCH SEED LINES
+export FRAMES CRATE REFERENCE_BENCH SEED LINES PREFIX DESTDIR LIBDIR
 
 PROGRAM := crates/ip_frames/out/ip_frames
 CALLS := crates/ip_calls/out/ip_calls
-LIBRARY := crates/ip_wire_c/out/libip_wire_c.a
+ARCHIVE := crates/ip_wire_c/out/libip_wire_c.a
+LIBRARY := out/lib/libip_wire.a
 FIND_SOURCES := find crates.txt crates -name out -prune -o \( -name '*.rt' -o -name '*.antt' -o -name crates.txt \)
 SOURCES := $(shell $(FIND_SOURCES) -print)
 
@@ -41,7 +49,7 @@ endif
 endif
 
 .DELETE_ON_ERROR:
-.PHONY: run build quick check test test-all compare compare-calls bench
+.PHONY: run build install uninstall quick check test test-all compare compare-calls bench
 
 run:
 	@test -r "$$FRAMES" && ! test -d "$$FRAMES" || $(call fail,cannot read $$FRAMES)
@@ -57,6 +65,12 @@ build: $(PROGRAM) $(CALLS) $(LIBRARY)
 	@echo $(PROGRAM)
 	@echo $(CALLS)
 	@echo $(LIBRARY)
+
+install: $(PROGRAM) $(LIBRARY)
+	@c/install install
+
+uninstall:
+	@c/install uninstall
 
 quick check test test-all: ready
 
@@ -89,11 +103,16 @@ bench: $(PROGRAM) $(LIBRARY)
 	@bench/bench.py $${REFERENCE_BENCH:+--calls "$$REFERENCE_BENCH"} $(if $(REFERENCE),--program $(REFERENCE))
 
 $(PROGRAM) $(CALLS): COMMAND := run
-$(LIBRARY): COMMAND := lib
-$(PROGRAM) $(CALLS) $(LIBRARY): $(SOURCES)
+$(ARCHIVE): COMMAND := lib
+$(PROGRAM) $(CALLS) $(ARCHIVE): $(SOURCES)
 	@$(HAS_RT)
 	@$(CAN_WRITE)
 	@echo 'proving $(@F)'
 	@mkdir -p $(@D)
 	@cd $(@D)/.. && ../../tests/progress.py ../../out/$(@F).log rt $(COMMAND)
 	@touch $@
+
+# The shared library is beside the static one.
+$(LIBRARY): $(ARCHIVE) c/link c/version c/cpu.c c/ip_wire.h c/ip_wire.map
+	@$(CAN_WRITE)
+	@c/link $(ARCHIVE) $(@D)

@@ -22,7 +22,7 @@ FLOOR = "bench/floor.c"
 # Processors decode a jump across 32 bytes anew each time; the floor is not to be slow by its place.
 FLOOR_JUMPS = "-mbranches-within-32B-boundaries"
 COMPILER = os.environ.get("CC", "cc")
-LIBRARY = "crates/ip_wire_c/out/libip_wire_c.a"
+LIBRARY = "out/lib/libip_wire.a"
 PROGRAM = "crates/ip_frames/out/ip_frames"
 INPUTS = [(120, 1_000_000), (3000, 100_000)]  # digits of a line, lines
 ROUNDS = 7

@@ -7,6 +7,7 @@
  * all of them. Before each block of rows the time of a call that does nothing says how fast the machine is just then. */
 #define _POSIX_C_SOURCE 200809L
 #include <dlfcn.h>
+#include <stddef.h>
 #include <stdio.h>
 #include <stdlib.h>
 #include <time.h>
@@ -83,15 +84,25 @@ static double median(double samples[ROUNDS])
     return samples[ROUNDS / 2];
 }
 
-/* Whether two libraries answer and write the same. */
+/* Compares what is no padding. */
+static int is_same_frame(const struct lk_frame *a, const struct lk_frame *b)
+{
+    size_t tcp_end = offsetof(struct lk_frame, tcp) + offsetof(struct lk_tcp, header_len) + 1;
+    size_t begin = offsetof(struct lk_frame, ethernet), end = offsetof(struct lk_frame, transport_checksum) + 1;
+    return memcmp(a, b, tcp_end) == 0 && memcmp((const char *)a + begin, (const char *)b + begin, end - begin) == 0;
+}
+
+/* Whether two libraries return and store the same. */
 static int agree(const struct row *row, const struct library *ours, const struct library *other)
 {
-    static uint8_t written[sizeof out];
-    memset(out, 0, sizeof out);
+    static __typeof__(out) stored;
+    memset(&out, 0, sizeof out);
     uint64_t answer = row->call(ours, row);
-    memcpy(written, out, sizeof out);
-    memset(out, 0, sizeof out);
-    return row->call(other, row) == answer && memcmp(written, out, sizeof out) == 0;
+    stored = out;
+    memset(&out, 0, sizeof out);
+    return row->call(other, row) == answer && is_same_frame(&out.frame, &stored.frame)
+           && memcmp(&out.options, &stored.options, sizeof out.options) == 0
+           && memcmp(out.bytes, stored.bytes, sizeof out.bytes) == 0;
 }
 
 static void print_cell(int digits, double value)
@@ -133,30 +144,30 @@ static void run(const struct row *row, const libraries all)
     print_row(row, ns);
 }
 
-static uint8_t do_nothing(uint32_t block, uint8_t prefix_len, uint32_t addr)
+static int do_nothing(const struct lk_block *of, const struct lk_addr *addr)
 {
-    (void)block, (void)prefix_len, (void)addr;
+    (void)of, (void)addr;
     return 0;
 }
 
 static void run_nothing(void)
 {
-    static const struct library nothing = {.ipv4_contains = do_nothing};
+    static const struct library nothing = {.block_contains = do_nothing};
     static const struct row row = {.name = "a null call", .prepare = prepare_bytes, .call = call_contains_ipv4};
     run(&row, (libraries){&nothing});
 }
 
-/* The rows of a block, with something added to their names, and a header where they are of TCP. */
-static void run_block(const struct block *block, const char *addition, const struct lk_tcp *header, const libraries all)
+/* The rows of a block, with a header where they are of TCP. */
+static void run_block(const struct block *of, const struct header *header, const libraries all)
 {
     run_nothing();
-    for (size_t i = 0; i < block->row_count; i++)
-        for (size_t j = 0; j < block->size_count; j++) {
-            char name[32];
-            struct row row = block->rows[i];
-            snprintf(name, sizeof name, "%s%s", row.name, addition);
+    for (size_t i = 0; i < of->row_count; i++)
+        for (size_t j = 0; j < of->size_count; j++) {
+            char name[48];
+            struct row row = of->rows[i];
+            snprintf(name, sizeof name, "%s%s", row.name, header ? header->name : "");
             row.name = name;
-            row.size = block->sizes[j];
+            row.size = of->sizes[j];
             row.header = header;
             run(&row, all);
         }
@@ -191,8 +202,8 @@ int main(int argc, char **argv)
     static const struct library ours = {
         PACKET_CALLS(OWN)
         TEXT_CALLS(OWN)
-        .ipv4_read_by_core = lk_ipv4_read,
-        .ipv6_read_by_core = lk_ipv6_read,
+        .ipv4_read_by_core = lk_addr_read,
+        .ipv6_read_by_core = lk_addr_read,
     };
     struct library floor, reference;
     libraries all = {[OURS] = &ours, [FLOOR] = &floor}, of_texts = {[OURS] = &ours};
@@ -206,10 +217,11 @@ int main(int argc, char **argv)
     printf("| Call | Bytes | ours ns | reference ns | floor ns | speed | floor / ours |\n");
     printf("|---|---|---|---|---|---|---|\n");
     for (size_t i = 0; i < COUNT(packet_blocks); i++)
-        run_block(&packet_blocks[i], "", NULL, all);
+        run_block(&packet_blocks[i], NULL, all);
     for (size_t i = 0; i < COUNT(headers); i++)
-        run_block(&tcp_block, headers[i].name, &headers[i].header, all);
-    run_block(&address_block, "", NULL, of_texts);
+        for (size_t j = 0; j < COUNT(tcp_blocks); j++)
+            run_block(&tcp_blocks[j], &headers[i], all);
+    run_block(&address_block, NULL, of_texts);
     run_texts(of_texts);
     return 0;
 }

@@ -1,12 +1,6 @@
 /* The calls of c/ip_wire.h on packets, by hand: straight code with all checks that they make, to see how far the
  * machine goes. bench/bench.py builds it as a shared library, for the processors that the library needs. */
-#include "../c/ip_wire.h"
-#include "sums.h"
-
-enum { ETHERNET_LEN = 14, ARP_LEN = 28, IPV4_LEN = 20, IPV6_LEN = 40, UDP_LEN = 8, TCP_LEN = 20, MOST_TCP_LEN = 60 };
-enum { TYPE_IPV4 = 0x0800, TYPE_ARP = 0x0806, TYPE_IPV6 = 0x86dd, PROTOCOL_TCP = 6, PROTOCOL_UDP = 17 };
-enum { OPTION_END, OPTION_NONE, OPTION_SIZE, OPTION_SCALE, OPTION_PERMITTED, OPTION_RANGES, OPTION_TIMESTAMP = 8 };
-enum { FLAG_FIN = 1, FLAG_SYN = 2, FLAG_RST = 4, FLAG_PSH = 8, FLAG_ACK = 16, REFUSED = 0xff };
+#include "floor_read.h"
 
 uint16_t lk_checksum(const uint8_t *ptr, size_t len)
 {
@@ -17,215 +11,51 @@ uint16_t lk_checksum(const uint8_t *ptr, size_t len)
     return swap_16(fold(total_of_20(ptr)));
 }
 
-/* An IP packet that was read. */
-struct packet {
-    const uint8_t *header;
-    const uint8_t *payload;
-    size_t len; /* of the payload */
-    int is_ipv4;
-    int is_fragment;
-    uint8_t protocol;
-};
-
-INLINE int read_ipv4(const uint8_t *ptr, size_t len, int verified, struct packet *packet)
+/* Of two addresses of one version that is known. */
+INLINE uint64_t endpoints_total(const struct lk_addr *src, const struct lk_addr *dst)
 {
-    if (len < IPV4_LEN || ptr[0] >> 4 != 4)
-        return 0;
-    size_t header_len = ptr[0] % 16 * 4, total_len = swap_16(load_16(ptr + 2));
-    if (header_len < IPV4_LEN || total_len < header_len || len < total_len)
-        return 0;
-    if (verified && !holds(header_len == IPV4_LEN ? total_of_20(ptr) : total_apart(ptr, header_len)))
-        return 0;
-    int is_fragment = (load_16(ptr + 6) & swap_16(0x3fff)) != 0;
-    *packet = (struct packet){ptr, ptr + header_len, total_len - header_len, 1, is_fragment, ptr[9]};
-    return 1;
+    if (src->version == 4)
+        return ipv4_total(load_32(src->octets), load_32(dst->octets));
+    return ipv6_total(src->octets, dst->octets);
 }
 
-INLINE int read_ipv6(const uint8_t *ptr, size_t len, struct packet *packet)
+INLINE int is_one_version(const struct lk_addr *src, const struct lk_addr *dst)
 {
-    if (len < IPV6_LEN || ptr[0] >> 4 != 6)
-        return 0;
-    size_t payload_len = swap_16(load_16(ptr + 4));
-    if (len - IPV6_LEN < payload_len)
-        return 0;
-    *packet = (struct packet){ptr, ptr + IPV6_LEN, payload_len, 0, 0, ptr[6]};
-    return 1;
+    return src->version == dst->version && (src->version == 4 || src->version == 6);
 }
 
-static const uint8_t ethernet_ipv4[8] = {0, 1, 8, 0, 6, 4};
-
-INLINE int is_arp(const uint8_t *ptr, size_t len)
+ptrdiff_t lk_emit_ethernet(const struct lk_ethernet *header, uint8_t *out, size_t cap)
 {
-    return len >= ARP_LEN && load_64(ptr) << 16 == load_64(ethernet_ipv4) << 16;
+    if (cap < ETHERNET_LEN)
+        return LK_FAILED;
+    memcpy(out, header->dst, 6);
+    memcpy(out + 6, header->src, 6);
+    store_16(out + 12, swap_16(header->type));
+    return ETHERNET_LEN;
 }
 
-INLINE uint64_t addresses_total(const struct packet *packet)
+ptrdiff_t lk_emit_arp(const struct lk_arp *header, const struct lk_addr *src, const struct lk_addr *dst, uint8_t *out,
+                      size_t cap)
 {
-    const uint8_t *ptr = packet->header;
-    return packet->is_ipv4 ? ipv4_total(load_32(ptr + 12), load_32(ptr + 16)) : ipv6_total(ptr + 8, ptr + 24);
-}
-
-INLINE int transport_holds(const struct packet *packet, size_t len)
-{
-    uint64_t pseudo = pseudo_total(addresses_total(packet), packet->protocol, len);
-    return holds(around(pseudo, total(packet->payload, len)));
-}
-
-/* The length of a UDP packet, 0 where it is refused. */
-INLINE size_t read_udp(const struct packet *packet, int verified)
-{
-    const uint8_t *ptr = packet->payload;
-    if (packet->len < UDP_LEN)
-        return 0;
-    size_t len = swap_16(load_16(ptr + 4));
-    if (len < UDP_LEN || packet->len < len || load_16(ptr + 2) == 0)
-        return 0;
-    if (verified && !(load_16(ptr + 6) ? transport_holds(packet, len) : packet->is_ipv4))
-        return 0;
-    return len;
-}
-
-INLINE int read_ranges(const uint8_t *ptr, size_t len, struct lk_tcp *tcp)
-{
-    if (len < 10 || len % 8 != 2)
-        return 0;
-    tcp->sack_range_count = (uint8_t)(len / 8);
-    for (size_t i = 0; i < len / 8; i++)
-        tcp->sack_ranges[i] =
-            (struct lk_sack_range){swap_32(load_32(ptr + 8 * i + 2)), swap_32(load_32(ptr + 8 * i + 6))};
-    return 1;
-}
-
-/* An option that has a length, and is there as a whole. */
-INLINE int read_option(const uint8_t *ptr, size_t len, struct lk_tcp *tcp)
-{
-    switch (ptr[0]) {
-    case OPTION_SIZE:
-        if (len != 4)
-            return 0;
-        tcp->has_max_seg_size = 1;
-        tcp->max_seg_size = swap_16(load_16(ptr + 2));
-        return 1;
-    case OPTION_SCALE:
-        if (len != 3)
-            return 0;
-        tcp->has_window_scale = 1;
-        tcp->window_scale = ptr[2] < 14 ? ptr[2] : 14;
-        return 1;
-    case OPTION_PERMITTED:
-        tcp->sack_permitted = 1;
-        return len == 2;
-    case OPTION_RANGES:
-        return read_ranges(ptr, len, tcp);
-    case OPTION_TIMESTAMP:
-        if (len == 10) {
-            tcp->has_timestamp = 1;
-            tcp->tsval = swap_32(load_32(ptr + 2));
-            tcp->tsecr = swap_32(load_32(ptr + 6));
-        }
-    }
-    return 1;
-}
-
-INLINE int read_options(const uint8_t *ptr, const uint8_t *end, struct lk_tcp *tcp)
-{
-    while (ptr != end && *ptr != OPTION_END) {
-        if (*ptr == OPTION_NONE) {
-            ptr++;
-            continue;
-        }
-        if (end - ptr < 2 || ptr[1] < 2 || end - ptr < ptr[1] || !read_option(ptr, ptr[1], tcp))
-            return 0;
-        ptr += ptr[1];
-    }
-    return 1;
-}
-
-/* The length of a TCP header, 0 where it is refused. */
-INLINE size_t read_tcp(const struct packet *packet, int verified, struct lk_tcp *tcp)
-{
-    static const uint8_t controls[8] = {LK_TCP_NONE, LK_TCP_FIN, LK_TCP_SYN, REFUSED,
-                                        LK_TCP_RST,  REFUSED,    REFUSED,    REFUSED};
-    const uint8_t *ptr = packet->payload;
-    if (packet->len < TCP_LEN)
-        return 0;
-    size_t len = ptr[12] / 16 * 4;
-    uint8_t control = controls[ptr[13] % 8];
-    if (len < TCP_LEN || packet->len < len || !load_16(ptr) || !load_16(ptr + 2) || control == REFUSED)
-        return 0;
-    if (verified && !transport_holds(packet, packet->len))
-        return 0;
-    *tcp = (struct lk_tcp){
-        .src_port = swap_16(load_16(ptr)),
-        .dst_port = swap_16(load_16(ptr + 2)),
-        .seq_number = swap_32(load_32(ptr + 4)),
-        .ack_number = swap_32(load_32(ptr + 8)),
-        .window_len = swap_16(load_16(ptr + 14)),
-        .control = control == LK_TCP_NONE && ptr[13] & FLAG_PSH ? LK_TCP_PSH : control,
-        .has_ack_number = ptr[13] & FLAG_ACK,
-    };
-    return read_options(ptr + TCP_LEN, ptr + len, tcp) ? len : 0;
-}
-
-/* Apart from its caller, which needs fewer registers without it. */
-static OUTLINE uint32_t parse_tcp(const uint8_t *header, const uint8_t *payload, size_t len, int is_ipv4, int verified)
-{
-    struct lk_tcp tcp;
-    size_t header_len = read_tcp(&(struct packet){header, payload, len, is_ipv4, 0, PROTOCOL_TCP}, verified, &tcp);
-    return header_len ? (uint32_t)(len - header_len + 1) : 0;
-}
-
-/* The length of the innermost payload, and 1. */
-INLINE uint32_t parse_transport(const struct packet *packet, int verified)
-{
-    if (packet->is_fragment)
-        return (uint32_t)(packet->len + 1);
-    if (packet->protocol == PROTOCOL_TCP)
-        return parse_tcp(packet->header, packet->payload, packet->len, packet->is_ipv4, verified);
-    size_t len = packet->len + UDP_LEN;
-    if (packet->protocol == PROTOCOL_UDP)
-        len = read_udp(packet, verified);
-    return len ? (uint32_t)(len - UDP_LEN + 1) : 0;
-}
-
-uint32_t lk_parse(const uint8_t *ptr, size_t len, uint8_t verified)
-{
-    struct packet packet;
-    if (len < ETHERNET_LEN)
-        return 0;
-    const uint8_t *payload = ptr + ETHERNET_LEN;
-    len -= ETHERNET_LEN;
-    switch (swap_16(load_16(ptr + 12))) {
-    case TYPE_ARP:
-        return (uint32_t)is_arp(payload, len);
-    case TYPE_IPV4:
-        return read_ipv4(payload, len, verified, &packet) ? parse_transport(&packet, verified) : 0;
-    case TYPE_IPV6:
-        return read_ipv6(payload, len, &packet) ? parse_transport(&packet, verified) : 0;
-    }
-    return 0;
-}
-
-size_t lk_emit_arp(uint16_t operation, const uint8_t *source_hardware_addr, uint32_t source_protocol_addr,
-                   const uint8_t *target_hardware_addr, uint32_t target_protocol_addr, uint8_t *out, size_t cap)
-{
-    if (cap < ARP_LEN)
-        return 0;
+    if (cap < ARP_LEN || src->version != 4 || dst->version != 4)
+        return LK_FAILED;
     memcpy(out, ethernet_ipv4, 6);
-    store_16(out + 6, swap_16(operation));
-    memcpy(out + 8, source_hardware_addr, 6);
-    store_32(out + 14, swap_32(source_protocol_addr));
-    memcpy(out + 18, target_hardware_addr, 6);
-    store_32(out + 24, swap_32(target_protocol_addr));
+    store_16(out + 6, swap_16(header->operation));
+    memcpy(out + 8, header->src_hardware, 6);
+    memcpy(out + 14, src->octets, 4);
+    memcpy(out + 18, header->dst_hardware, 6);
+    memcpy(out + 24, dst->octets, 4);
     return ARP_LEN;
 }
 
-/* Writes an IPv4 header; addresses are as they stand in memory. */
-INLINE void write_ipv4(uint32_t src, uint32_t dst, uint8_t protocol, uint8_t hop_limit, size_t payload_len, int computed,
-                       uint8_t *out)
+/* Writes an IPv4 header; addresses are as they are in memory. */
+INLINE void write_ipv4(const struct lk_ip *ip, uint32_t src, uint32_t dst, uint8_t protocol, size_t payload_len,
+                       int computed, uint8_t *out)
 {
-    uint64_t lengths = 0x45 | (uint64_t)swap_16((uint16_t)(IPV4_LEN + payload_len)) << 16 | (uint64_t)0x40 << 48;
-    uint64_t rest = hop_limit | (uint64_t)protocol << 8 | (uint64_t)src << 32;
+    uint16_t flags = (uint16_t)((ip->dont_fragment ? 0x4000 : 0) | (ip->more_fragments ? 0x2000 : 0) | ip->fragment_offset / 8);
+    uint64_t lengths = 0x45 | (uint64_t)(ip->dscp << 2 | ip->ecn) << 8 | (uint64_t)swap_16((uint16_t)(IPV4_LEN + payload_len)) << 16
+                       | (uint64_t)swap_16((uint16_t)ip->ident) << 32 | (uint64_t)swap_16(flags) << 48;
+    uint64_t rest = ip->hop_limit | (uint64_t)protocol << 8 | (uint64_t)src << 32;
     if (computed)
         rest |= (uint64_t)(uint16_t)~fold(around(around(lengths, rest), dst)) << 16;
     store_64(out, lengths);
@@ -233,177 +63,277 @@ INLINE void write_ipv4(uint32_t src, uint32_t dst, uint8_t protocol, uint8_t hop
     store_32(out + 16, dst);
 }
 
-size_t lk_emit_ipv4(uint32_t src_addr, uint32_t dst_addr, uint8_t protocol, uint8_t hop_limit, size_t payload_len,
-                    uint8_t computed, uint8_t *out, size_t cap)
+INLINE void write_ipv6(const struct lk_ip *ip, const uint8_t *src, const uint8_t *dst, uint8_t protocol,
+                       size_t payload_len, uint8_t *out)
 {
-    if (payload_len > 65535 - IPV4_LEN || cap < IPV4_LEN)
-        return 0;
-    write_ipv4(swap_32(src_addr), swap_32(dst_addr), protocol, hop_limit, payload_len, computed, out);
-    return IPV4_LEN;
-}
-
-INLINE void write_ipv6(const uint8_t *src, const uint8_t *dst, uint8_t next_header, uint8_t hop_limit, size_t payload_len,
-                       uint8_t *out)
-{
+    uint32_t first = 6u << 28 | (uint32_t)ip->dscp << 22 | (uint32_t)ip->ecn << 20 | ip->flow_label;
     uint64_t len = swap_16((uint16_t)payload_len);
-    store_64(out, 0x60 | len << 32 | (uint64_t)next_header << 48 | (uint64_t)hop_limit << 56);
+    store_64(out, swap_32(first) | len << 32 | (uint64_t)protocol << 48 | (uint64_t)ip->hop_limit << 56);
     memcpy(out + 8, src, 16);
     memcpy(out + 24, dst, 16);
 }
 
-size_t lk_emit_ipv6(const uint8_t *src_addr, const uint8_t *dst_addr, uint8_t next_header, uint8_t hop_limit,
-                    size_t payload_len, uint8_t *out, size_t cap)
+/* Whether the header can have these fields: an IPv6 header has none of a fragment. */
+INLINE int fits(const struct lk_ip *ip, uint16_t version)
 {
-    if (payload_len > 65535 || cap < IPV6_LEN)
+    if (ip->dscp > 63 || ip->ecn > 3)
         return 0;
-    write_ipv6(src_addr, dst_addr, next_header, hop_limit, payload_len, out);
-    return IPV6_LEN;
+    if (version == 4)
+        return ip->ident <= 0xffff && ip->fragment_offset % 8 == 0;
+    return ip->flow_label <= 0xfffff && !(ip->ident | ip->fragment_offset | ip->more_fragments);
 }
 
-/* Writes a UDP packet; the ports are as they stand in memory. */
-INLINE size_t write_udp(uint32_t ports, uint64_t addresses, const uint8_t *ptr, size_t len, int computed, uint8_t *out,
-                        size_t cap)
+INLINE size_t ip_len(uint16_t version) { return version == 4 ? IPV4_LEN : IPV6_LEN; }
+
+INLINE size_t most_payload(uint16_t version) { return version == 4 ? 65535 - IPV4_LEN : 65535; }
+
+INLINE void write_ip(const struct lk_ip *ip, const struct lk_addr *src, const struct lk_addr *dst, uint8_t protocol,
+                     size_t payload_len, int computed, uint8_t *out)
 {
-    if (len > 65535 - UDP_LEN || cap < UDP_LEN + len)
-        return 0;
-    uint64_t header = ports | (uint64_t)swap_16((uint16_t)(UDP_LEN + len)) << 32;
+    if (src->version == 4)
+        write_ipv4(ip, load_32(src->octets), load_32(dst->octets), protocol, payload_len, computed, out);
+    else
+        write_ipv6(ip, src->octets, dst->octets, protocol, payload_len, out);
+}
+
+ptrdiff_t lk_emit_ip(const struct lk_ip *header, const struct lk_addr *src, const struct lk_addr *dst,
+                     size_t payload_len, int computed, uint8_t *out, size_t cap)
+{
+    if (!is_one_version(src, dst) || !fits(header, src->version) || payload_len > most_payload(src->version)
+        || cap < ip_len(src->version))
+        return LK_FAILED;
+    write_ip(header, src, dst, header->protocol, payload_len, computed, out);
+    return (ptrdiff_t)ip_len(src->version);
+}
+
+INLINE uint32_t ports(uint16_t src, uint16_t dst) { return swap_16(src) | (uint32_t)swap_16(dst) << 16; }
+
+/* Writes a UDP header before a payload that is behind it already; the ports are as they are in memory. */
+INLINE void write_udp(uint32_t both, uint64_t addresses, size_t len, int computed, uint8_t *out)
+{
+    uint64_t header = both | (uint64_t)swap_16((uint16_t)(UDP_LEN + len)) << 32;
     if (computed) {
         uint64_t pseudo = pseudo_total(addresses, PROTOCOL_UDP, UDP_LEN + len);
-        uint16_t sum = fold(around(around(pseudo, header), total(ptr, len)));
+        uint16_t sum = fold(around(around(pseudo, header), total(out + UDP_LEN, len)));
         header |= (uint64_t)(sum == 0xffff ? sum : (uint16_t)~sum) << 48;
     }
     store_64(out, header);
+}
+
+ptrdiff_t lk_emit_udp(const struct lk_endpoint *src, const struct lk_endpoint *dst, const uint8_t *ptr, size_t len,
+                      int computed, uint8_t *out, size_t cap)
+{
+    if (!is_one_version(&src->addr, &dst->addr) || len > 65535 - UDP_LEN || cap < UDP_LEN + len)
+        return LK_FAILED;
     memcpy(out + UDP_LEN, ptr, len);
-    return UDP_LEN + len;
+    write_udp(ports(src->port, dst->port), endpoints_total(&src->addr, &dst->addr), len, computed, out);
+    return (ptrdiff_t)(UDP_LEN + len);
 }
 
-INLINE uint32_t ports(uint16_t src_port, uint16_t dst_port)
-{
-    return swap_16(src_port) | (uint32_t)swap_16(dst_port) << 16;
-}
-
-size_t lk_emit_udp_ipv4(uint32_t src_addr, uint32_t dst_addr, uint16_t src_port, uint16_t dst_port, const uint8_t *ptr,
-                        size_t len, uint8_t computed, uint8_t *out, size_t cap)
-{
-    uint64_t addresses = ipv4_total(swap_32(src_addr), swap_32(dst_addr));
-    return write_udp(ports(src_port, dst_port), addresses, ptr, len, computed, out, cap);
-}
-
-size_t lk_emit_udp_ipv6(const uint8_t *src_addr, const uint8_t *dst_addr, uint16_t src_port, uint16_t dst_port,
-                        const uint8_t *ptr, size_t len, uint8_t computed, uint8_t *out, size_t cap)
-{
-    return write_udp(ports(src_port, dst_port), ipv6_total(src_addr, dst_addr), ptr, len, computed, out, cap);
-}
-
-INLINE size_t tcp_len(const struct lk_tcp *tcp)
+INLINE size_t tcp_len(const struct lk_tcp_options *options)
 {
     size_t len = TCP_LEN;
-    if (tcp->has_max_seg_size)
+    if (options->has_max_seg_size)
         len += 4;
-    if (tcp->has_window_scale)
+    if (options->has_window_scale)
         len += 3;
-    if (tcp->sack_permitted)
+    if (options->sack_permitted)
         len += 2;
-    if (tcp->sack_range_count)
-        len += 2 + 8 * tcp->sack_range_count;
-    if (tcp->has_timestamp)
+    if (options->sack_range_count)
+        len += 2 + 8 * (size_t)options->sack_range_count;
+    if (options->has_timestamp)
         len += 10;
     return (len + 3) / 4 * 4;
 }
 
-INLINE uint8_t *write_sack(const struct lk_tcp *tcp, uint8_t *out)
+INLINE int fits_tcp(const struct lk_tcp *tcp, const struct lk_tcp_options *options)
 {
-    if (tcp->sack_permitted) {
+    return options->sack_range_count <= 4 && tcp_len(options) <= MOST_TCP_LEN && !has_two_controls(tcp->flags);
+}
+
+ptrdiff_t lk_tcp_header_len(const struct lk_tcp_options *options)
+{
+    if (options->sack_range_count > 4 || tcp_len(options) > MOST_TCP_LEN)
+        return LK_FAILED;
+    return (ptrdiff_t)tcp_len(options);
+}
+
+INLINE uint8_t *write_sack(const struct lk_tcp_options *options, uint8_t *out)
+{
+    if (options->sack_permitted) {
         store_16(out, OPTION_PERMITTED | 2 << 8);
         return out + 2;
     }
-    if (!tcp->has_ack_number || !tcp->sack_range_count)
+    if (!options->sack_range_count)
         return out;
-    store_16(out, (uint16_t)(OPTION_RANGES | (2 + 8 * tcp->sack_range_count) << 8));
+    store_16(out, (uint16_t)(OPTION_RANGES | (2 + 8 * options->sack_range_count) << 8));
     out += 2;
-    for (size_t i = 0; i < tcp->sack_range_count; i++, out += 8) {
-        store_32(out, swap_32(tcp->sack_ranges[i].left));
-        store_32(out + 4, swap_32(tcp->sack_ranges[i].right));
+    for (size_t i = 0; i < options->sack_range_count; i++, out += 8) {
+        store_32(out, swap_32(options->sack_ranges[i].left));
+        store_32(out + 4, swap_32(options->sack_ranges[i].right));
     }
     return out;
 }
 
-INLINE void write_options(const struct lk_tcp *tcp, uint8_t *out, const uint8_t *end)
+INLINE void write_options(const struct lk_tcp_options *options, uint8_t *out, const uint8_t *end)
 {
-    if (tcp->has_max_seg_size) {
-        store_32(out, OPTION_SIZE | 4 << 8 | (uint32_t)swap_16(tcp->max_seg_size) << 16);
+    if (options->has_max_seg_size) {
+        store_32(out, OPTION_SIZE | 4 << 8 | (uint32_t)swap_16(options->max_seg_size) << 16);
         out += 4;
     }
-    if (tcp->has_window_scale) {
+    if (options->has_window_scale) {
         store_16(out, OPTION_SCALE | 3 << 8);
-        out[2] = tcp->window_scale;
+        out[2] = options->window_scale;
         out += 3;
     }
-    out = write_sack(tcp, out);
-    if (tcp->has_timestamp) {
+    out = write_sack(options, out);
+    if (options->has_timestamp) {
         store_16(out, OPTION_TIMESTAMP | 10 << 8);
-        store_32(out + 2, swap_32(tcp->tsval));
-        store_32(out + 6, swap_32(tcp->tsecr));
+        store_32(out + 2, swap_32(options->tsval));
+        store_32(out + 6, swap_32(options->tsecr));
         out += 10;
     }
     while (out != end)
         *out++ = 0;
 }
 
-INLINE size_t write_tcp(const struct lk_tcp *tcp, uint64_t addresses, const uint8_t *ptr, size_t len, int computed,
-                        uint8_t *out, size_t cap)
+/* Writes a TCP header of this length before a payload that is behind it already. */
+INLINE void write_tcp(const struct lk_tcp *tcp, const struct lk_tcp_options *options, uint32_t both, uint64_t addresses,
+                      size_t header_len, size_t len, int computed, uint8_t *out)
 {
-    static const uint8_t flags[] = {0, FLAG_PSH, FLAG_SYN, FLAG_FIN, FLAG_RST};
-    if (tcp->control > LK_TCP_RST || tcp->sack_range_count > 4)
-        return 0;
-    size_t header_len = tcp_len(tcp);
-    if (header_len > MOST_TCP_LEN || cap < header_len + len)
-        return 0;
-    uint64_t front = ports(tcp->src_port, tcp->dst_port) | (uint64_t)swap_32(tcp->seq_number) << 32;
-    uint64_t back = header_len << 34 | (uint64_t)flags[tcp->control] << 40 | (uint64_t)swap_16(tcp->window_len) << 48;
-    if (tcp->has_ack_number)
-        back |= swap_32(tcp->ack_number) | (uint64_t)FLAG_ACK << 40;
-    write_options(tcp, out + TCP_LEN, out + header_len);
+    uint64_t front = both | (uint64_t)swap_32(tcp->seq_number) << 32;
+    uint64_t back = swap_32(tcp->ack_number) | header_len << 34 | (uint64_t)tcp->flags << 40
+                    | (uint64_t)swap_16(tcp->window_len) << 48;
+    uint32_t urgent = (uint32_t)swap_16(tcp->urgent_at) << 16;
+    write_options(options, out + TCP_LEN, out + header_len);
     uint16_t checksum = 0;
     if (computed) {
-        uint64_t header = around(around(front, back), total(out + TCP_LEN, header_len - TCP_LEN));
         uint64_t pseudo = pseudo_total(addresses, PROTOCOL_TCP, header_len + len);
-        checksum = ~fold(around(around(pseudo, header), total(ptr, len)));
+        uint64_t header = around(around(front, back), urgent);
+        checksum = (uint16_t)~fold(around(around(pseudo, header), total(out + TCP_LEN, header_len - TCP_LEN + len)));
     }
     store_64(out, front);
     store_64(out + 8, back);
-    store_32(out + 16, checksum);
+    store_32(out + 16, checksum | urgent);
+}
+
+ptrdiff_t lk_emit_tcp(const struct lk_tcp *header, const struct lk_tcp_options *options, const struct lk_endpoint *src,
+                      const struct lk_endpoint *dst, const uint8_t *ptr, size_t len, int computed, uint8_t *out, size_t cap)
+{
+    size_t header_len = tcp_len(options);
+    if (!is_one_version(&src->addr, &dst->addr) || !fits_tcp(header, options) || len > 65535 - header_len
+        || cap < header_len + len)
+        return LK_FAILED;
     memcpy(out + header_len, ptr, len);
-    return header_len + len;
+    write_tcp(header, options, ports(src->port, dst->port), endpoints_total(&src->addr, &dst->addr), header_len, len,
+              computed, out);
+    return (ptrdiff_t)(header_len + len);
 }
 
-size_t lk_emit_tcp_ipv4(uint32_t src_addr, uint32_t dst_addr, const struct lk_tcp *header, const uint8_t *ptr, size_t len,
-                        uint8_t computed, uint8_t *out, size_t cap)
+/* Writes the Ethernet and IP headers of a frame, for a transport of so many octets. */
+INLINE void write_front(const struct lk_frame *headers, uint8_t protocol, size_t len, uint8_t *out)
 {
-    return write_tcp(header, ipv4_total(swap_32(src_addr), swap_32(dst_addr)), ptr, len, computed, out, cap);
+    uint16_t type = headers->src.addr.version == 4 ? TYPE_IPV4 : TYPE_IPV6;
+    memcpy(out, headers->ethernet.dst, 6);
+    memcpy(out + 6, headers->ethernet.src, 6);
+    store_16(out + 12, swap_16(type));
+    write_ip(&headers->ip, &headers->src.addr, &headers->dst.addr, protocol, len, 1, out + ETHERNET_LEN);
 }
 
-size_t lk_emit_tcp_ipv6(const uint8_t *src_addr, const uint8_t *dst_addr, const struct lk_tcp *header, const uint8_t *ptr,
-                        size_t len, uint8_t computed, uint8_t *out, size_t cap)
+/* Where the transport header begins, or 0 if there can be no such frame. */
+INLINE size_t transport_at(const struct lk_frame *headers, size_t header_len, size_t len, size_t cap)
 {
-    return write_tcp(header, ipv6_total(src_addr, dst_addr), ptr, len, computed, out, cap);
+    uint16_t version = headers->src.addr.version;
+    if (!is_one_version(&headers->src.addr, &headers->dst.addr) || !fits(&headers->ip, version)
+        || headers->ip.fragment_offset || headers->ip.more_fragments)
+        return 0;
+    size_t at = ETHERNET_LEN + ip_len(version);
+    if (len > most_payload(version) - header_len || cap < at + header_len + len)
+        return 0;
+    return at;
 }
 
-uint8_t lk_ipv4_contains(uint32_t block, uint8_t prefix_len, uint32_t addr)
+INLINE ptrdiff_t write_udp_frame(const struct lk_frame *headers, const uint8_t *ptr, size_t len, uint8_t *out, size_t cap)
 {
-    return prefix_len <= 32 && (uint64_t)(block ^ addr) >> (32 - prefix_len) == 0;
+    size_t at = transport_at(headers, UDP_LEN, len, cap);
+    if (!at)
+        return LK_FAILED;
+    if (ptr)
+        memcpy(out + at + UDP_LEN, ptr, len);
+    write_udp(ports(headers->src.port, headers->dst.port), endpoints_total(&headers->src.addr, &headers->dst.addr), len, 1,
+              out + at);
+    write_front(headers, PROTOCOL_UDP, UDP_LEN + len, out);
+    return (ptrdiff_t)(at + UDP_LEN + len);
 }
 
-uint8_t lk_ipv6_contains(const uint8_t *block, uint8_t prefix_len, const uint8_t *addr)
+ptrdiff_t lk_emit_udp_frame(const struct lk_frame *headers, const uint8_t *ptr, size_t len, uint8_t *out, size_t cap)
 {
-    uint64_t high = __builtin_bswap64(load_64(block) ^ load_64(addr));
-    uint64_t low = __builtin_bswap64(load_64(block + 8) ^ load_64(addr + 8));
+    return write_udp_frame(headers, ptr, len, out, cap);
+}
+
+ptrdiff_t lk_wrap_udp_frame(const struct lk_frame *headers, size_t len, uint8_t *out, size_t cap)
+{
+    return write_udp_frame(headers, NULL, len, out, cap);
+}
+
+INLINE ptrdiff_t write_tcp_frame(const struct lk_frame *headers, const struct lk_tcp_options *options, const uint8_t *ptr,
+                                 size_t len, uint8_t *out, size_t cap)
+{
+    if (!fits_tcp(&headers->tcp, options))
+        return LK_FAILED;
+    size_t header_len = tcp_len(options), at = transport_at(headers, header_len, len, cap);
+    if (!at)
+        return LK_FAILED;
+    if (ptr)
+        memcpy(out + at + header_len, ptr, len);
+    write_tcp(&headers->tcp, options, ports(headers->src.port, headers->dst.port),
+              endpoints_total(&headers->src.addr, &headers->dst.addr), header_len, len, 1, out + at);
+    write_front(headers, PROTOCOL_TCP, header_len + len, out);
+    return (ptrdiff_t)(at + header_len + len);
+}
+
+ptrdiff_t lk_emit_tcp_frame(const struct lk_frame *headers, const struct lk_tcp_options *options, const uint8_t *ptr,
+                            size_t len, uint8_t *out, size_t cap)
+{
+    return write_tcp_frame(headers, options, ptr, len, out, cap);
+}
+
+ptrdiff_t lk_wrap_tcp_frame(const struct lk_frame *headers, const struct lk_tcp_options *options, size_t len, uint8_t *out,
+                            size_t cap)
+{
+    return write_tcp_frame(headers, options, NULL, len, out, cap);
+}
+
+ptrdiff_t lk_emit_arp_frame(const struct lk_frame *headers, uint8_t *out, size_t cap)
+{
+    if (cap < ETHERNET_LEN + ARP_LEN
+        || lk_emit_arp(&headers->arp, &headers->src.addr, &headers->dst.addr, out + ETHERNET_LEN, ARP_LEN) != ARP_LEN)
+        return LK_FAILED;
+    memcpy(out, headers->ethernet.dst, 6);
+    memcpy(out + 6, headers->ethernet.src, 6);
+    store_16(out + 12, swap_16(TYPE_ARP));
+    return ETHERNET_LEN + ARP_LEN;
+}
+
+int lk_block_contains(const struct lk_block *block, const struct lk_addr *addr)
+{
+    uint16_t prefix_len = block->prefix_len;
+    if (block->addr.version != addr->version)
+        return 0;
+    if (addr->version == 4) {
+        uint32_t differs = swap_32(load_32(block->addr.octets) ^ load_32(addr->octets));
+        return prefix_len <= 32 && (uint64_t)differs >> (32 - prefix_len) == 0;
+    }
+    uint64_t high = __builtin_bswap64(load_64(block->addr.octets) ^ load_64(addr->octets));
+    uint64_t low = __builtin_bswap64(load_64(block->addr.octets + 8) ^ load_64(addr->octets + 8));
+    if (addr->version != 6 || prefix_len > 128)
+        return 0;
     if (prefix_len <= 64)
         return prefix_len == 0 || high >> (64 - prefix_len) == 0;
-    return prefix_len <= 128 && high == 0 && low >> (128 - prefix_len) == 0;
+    return high == 0 && low >> (128 - prefix_len) == 0;
 }
 
-/* What writes behind `at` octets answers where it ends, 0 where that is past `cap`. */
+/* What writes behind `at` octets returns where it ends, or 0 if that is past `cap`. */
 INLINE size_t copy(const uint8_t *ptr, size_t len, uint8_t *out, size_t cap, size_t at)
 {
     if (cap < at + len)
@@ -412,31 +342,63 @@ INLINE size_t copy(const uint8_t *ptr, size_t len, uint8_t *out, size_t cap, siz
     return at + len;
 }
 
-INLINE size_t rebuild_transport(const struct packet *packet, uint8_t *out, size_t cap, size_t at)
+INLINE size_t rebuild_udp(const struct packet *packet, size_t len, uint8_t *out, size_t cap, size_t at)
+{
+    size_t end = copy(packet->payload + UDP_LEN, len - UDP_LEN, out, cap, at + UDP_LEN);
+    if (end)
+        write_udp(load_32(packet->payload), addresses_total(packet), len - UDP_LEN, 1, out + at);
+    return end;
+}
+
+/* The flags that a rebuilt segment keeps. */
+INLINE uint8_t kept_flags(uint8_t flags)
+{
+    return flags & (flags & (LK_SYN | LK_FIN | LK_RST) ? LK_SYN | LK_FIN | LK_RST | LK_ACK : LK_PSH | LK_ACK);
+}
+
+INLINE size_t rebuild_tcp(const struct packet *packet, size_t len, uint8_t *out, size_t cap, size_t at)
 {
     const uint8_t *ptr = packet->payload;
-    size_t len, written;
-    struct lk_tcp tcp;
-    if (cap < at)
-        return 0;
-    if (packet->protocol == PROTOCOL_UDP && (len = read_udp(packet, 1)))
-        written = write_udp(load_32(ptr), addresses_total(packet), ptr + UDP_LEN, len - UDP_LEN, 1, out + at, cap - at);
-    else if (packet->protocol == PROTOCOL_TCP && (len = read_tcp(packet, 1, &tcp)))
-        written = write_tcp(&tcp, addresses_total(packet), ptr + len, packet->len - len, 1, out + at, cap - at);
-    else
-        return copy(ptr, packet->len, out, cap, at);
-    return written ? at + written : 0;
+    struct lk_tcp_options options;
+    struct lk_tcp tcp = {
+        .seq_number = swap_32(load_32(ptr + 4)),
+        .ack_number = ptr[13] & LK_ACK ? swap_32(load_32(ptr + 8)) : 0,
+        .window_len = swap_16(load_16(ptr + 14)),
+        .flags = kept_flags(ptr[13]),
+    };
+    read_options(ptr + TCP_LEN, ptr + len, &options);
+    size_t header_len = tcp_len(&options), end = copy(ptr + len, packet->len - len, out, cap, at + header_len);
+    if (!(ptr[13] & LK_ACK))
+        options.sack_range_count = 0; /* zeros take their place */
+    if (end)
+        write_tcp(&tcp, &options, load_32(ptr), addresses_total(packet), header_len, packet->len - len, 1, out + at);
+    return end;
+}
+
+INLINE size_t rebuild_transport(const struct packet *packet, uint8_t *out, size_t cap, size_t at)
+{
+    size_t len;
+    if (packet->protocol == PROTOCOL_UDP && read_udp(packet, &len) == LK_READ) {
+        uint8_t checksum = udp_verdict(packet, len);
+        if (checksum == LK_RIGHT || checksum == LK_LEFT_OUT)
+            return rebuild_udp(packet, len, out, cap, at);
+    }
+    if (packet->protocol == PROTOCOL_TCP && read_tcp(packet, &len) == LK_READ
+        && verdict(packet, packet->len, 16) == LK_RIGHT)
+        return rebuild_tcp(packet, len, out, cap, at);
+    return copy(packet->payload, packet->len, out, cap, at);
 }
 
 INLINE size_t rebuild_ipv4(const uint8_t *ptr, size_t len, uint8_t *out, size_t cap)
 {
     enum { AT = ETHERNET_LEN + IPV4_LEN };
     struct packet packet;
-    if (!read_ipv4(ptr, len, 1, &packet) || packet.is_fragment)
+    if (read_ipv4(ptr, len, &packet) != LK_READ || !ipv4_holds(&packet) || packet.is_fragment)
         return copy(ptr, len, out, cap, ETHERNET_LEN);
     size_t end = rebuild_transport(&packet, out, cap, AT);
     if (end)
-        write_ipv4(load_32(ptr + 12), load_32(ptr + 16), ptr[9], ptr[8], end - AT, 1, out + ETHERNET_LEN);
+        write_ipv4(&(struct lk_ip){.hop_limit = ptr[8], .dont_fragment = 1}, load_32(ptr + 12), load_32(ptr + 16), ptr[9],
+                   end - AT, 1, out + ETHERNET_LEN);
     return end;
 }
 
@@ -444,18 +406,18 @@ INLINE size_t rebuild_ipv6(const uint8_t *ptr, size_t len, uint8_t *out, size_t 
 {
     enum { AT = ETHERNET_LEN + IPV6_LEN };
     struct packet packet;
-    if (!read_ipv6(ptr, len, &packet))
+    if (read_ipv6(ptr, len, &packet) != LK_READ)
         return copy(ptr, len, out, cap, ETHERNET_LEN);
     size_t end = rebuild_transport(&packet, out, cap, AT);
     if (end)
-        write_ipv6(ptr + 8, ptr + 24, ptr[6], ptr[7], end - AT, out + ETHERNET_LEN);
+        write_ipv6(&(struct lk_ip){.hop_limit = ptr[7]}, ptr + 8, ptr + 24, ptr[6], end - AT, out + ETHERNET_LEN);
     return end;
 }
 
-size_t lk_rebuild(const uint8_t *ptr, size_t len, uint8_t *out, size_t cap)
+ptrdiff_t lk_rebuild(const uint8_t *ptr, size_t len, uint8_t *out, size_t cap)
 {
-    if (len < ETHERNET_LEN)
-        return 0;
+    if (len < ETHERNET_LEN || cap < ETHERNET_LEN)
+        return LK_FAILED;
     const uint8_t *payload = ptr + ETHERNET_LEN;
     uint16_t type = swap_16(load_16(ptr + 12));
     size_t end;
@@ -466,7 +428,8 @@ size_t lk_rebuild(const uint8_t *ptr, size_t len, uint8_t *out, size_t cap)
         end = rebuild_ipv6(payload, len, out, cap);
     else
         end = copy(payload, type == TYPE_ARP && is_arp(payload, len) ? ARP_LEN : len, out, cap, ETHERNET_LEN);
-    if (end)
-        memcpy(out, ptr, ETHERNET_LEN);
-    return end;
+    if (!end)
+        return LK_FAILED;
+    memcpy(out, ptr, ETHERNET_LEN);
+    return (ptrdiff_t)end;
 }

@@ -5,25 +5,30 @@
 
 enum {
     MOST_BYTES = 1 << 20,
-    MOST_PAYLOAD = 1472,
+    MOST_PAYLOAD = 1460,
     ADDRESSES = 256,
     MOST_TEXT = 39, /* of an address */
 };
 
 /* The calls of a library: on packets, of which the floor has all, and of texts. */
 #define PACKET_CALLS(X)                                                                                     \
-    X(checksum) X(parse) X(rebuild) X(emit_arp) X(emit_ipv4) X(emit_ipv6) X(emit_udp_ipv4) X(emit_udp_ipv6) \
-    X(emit_tcp_ipv4) X(emit_tcp_ipv6) X(ipv4_contains) X(ipv6_contains)
-#define TEXT_CALLS(X)                                                                                       \
-    X(ipv4_read) X(ipv6_read) X(ipv4_cidr_read) X(ipv6_cidr_read) X(ipv4_print) X(ipv6_print)               \
-    X(ipv4_cidr_print) X(ipv6_cidr_print) X(ipv4_endpoint_print) X(ipv6_endpoint_print)
+    X(checksum) X(read_frame) X(read_tcp_options) X(rebuild) X(emit_arp) X(emit_ip) X(emit_udp) X(emit_tcp) \
+    X(emit_arp_frame) X(emit_udp_frame) X(emit_tcp_frame) X(block_contains)
+#define TEXT_CALLS(X) X(addr_read) X(block_read) X(addr_print) X(block_print) X(endpoint_print)
 #define CALL(name) __typeof__(lk_##name) *name;
 
 struct library {
     PACKET_CALLS(CALL)
     TEXT_CALLS(CALL)
-    __typeof__(lk_ipv4_read) *ipv4_read_by_core; /* ours beside Rust's core::net */
-    __typeof__(lk_ipv6_read) *ipv6_read_by_core;
+    __typeof__(lk_addr_read) *ipv4_read_by_core; /* ours beside Rust's core::net */
+    __typeof__(lk_addr_read) *ipv6_read_by_core;
+};
+
+/* The TCP headers by their options. */
+struct header {
+    const char *name;
+    struct lk_tcp tcp;
+    struct lk_tcp_options options;
 };
 
 /* One row: its input, and what is timed, with so many bytes of payload or for a checksum, with a TCP
@@ -33,20 +38,38 @@ struct row {
     void (*prepare)(const struct row *);
     uint64_t (*call)(const struct library *, const struct row *);
     size_t size;
-    uint8_t checked;
-    const struct lk_tcp *header;
+    int computed;
+    const struct header *header;
     const char *text;
 };
 
 static uint8_t bytes[MOST_BYTES];
 static size_t frame_len; /* of the frame in them, where there is one */
 static uint8_t payload[MOST_PAYLOAD]; /* of a UDP packet or a TCP segment */
-static uint8_t out[ADDRESSES * MOST_TEXT];
 static volatile uint64_t sink;
 
-static const uint8_t ethernet_addresses[] = {2, 0, 0, 0, 0, 2, 2, 0, 0, 0, 0, 1};
-static const uint32_t SRC = 0xc0a80101, DST = 0xc0a80102;
-static const uint8_t src[16] = {0xfe, 0x80, [15] = 1}, dst[16] = {0xff, 0x02, [15] = 1};
+/* What the calls store. */
+static struct {
+    struct lk_frame frame;
+    struct lk_tcp_options options;
+    uint8_t bytes[ADDRESSES * MOST_TEXT];
+} out;
+#define OUT out.bytes, sizeof out.bytes
+
+#define IPV4(last) {{192, 168, 1, last}, 4}
+#define IPV6(first, second, last) {{first, second, [15] = last}, 6}
+#define HEADERS(low, high, next)                                                                   \
+    {                                                                                              \
+        .ethernet = {{2, 0, 0, 0, 0, 1}, {2, 0, 0, 0, 0, 2}, 0},                                   \
+        .arp = {2, {2, 0, 0, 0, 0, 1}, {2, 0, 0, 0, 0, 2}},                                        \
+        .ip = {.hop_limit = 64, .protocol = next, .dont_fragment = 1},                             \
+        .src = {low, 48896}, .dst = {high, 53},                                                    \
+    }
+#define ENDS(version) (version == 4 ? &ipv4_headers : &ipv6_headers)
+
+/* The protocol is one that the library does not parse, ICMP and ICMPv6. */
+static const struct lk_frame ipv4_headers = HEADERS(IPV4(1), IPV4(2), 1);
+static const struct lk_frame ipv6_headers = HEADERS(IPV6(0xfe, 0x80, 1), IPV6(0xff, 0x02, 1), 58);
 
 static void prepare_bytes(const struct row *row)
 {
@@ -56,75 +79,53 @@ static void prepare_bytes(const struct row *row)
     memcpy(payload, bytes, sizeof payload);
 }
 
-static void prepare_type(uint8_t high, uint8_t low)
-{
-    memcpy(bytes, ethernet_addresses, sizeof ethernet_addresses);
-    bytes[12] = high;
-    bytes[13] = low;
-}
-
 static void prepare_arp(const struct row *row)
 {
     prepare_bytes(row);
-    prepare_type(0x08, 0x06);
-    lk_emit_arp(2, ethernet_addresses + 6, SRC, ethernet_addresses, DST, bytes + 14, 28);
-    frame_len = 14 + 28 + row->size;
+    frame_len = (size_t)lk_emit_arp_frame(&ipv4_headers, bytes, sizeof bytes) + row->size;
 }
 
-static void prepare_ipv4(const struct row *row)
+/* An IP packet of another protocol. */
+static void prepare_ip(const struct lk_frame *headers, uint16_t type, size_t size)
+{
+    struct lk_ethernet ethernet = headers->ethernet;
+    ethernet.type = type;
+    prepare_bytes(NULL);
+    lk_emit_ethernet(&ethernet, bytes, 14);
+    frame_len = 14 + size;
+    frame_len += (size_t)lk_emit_ip(&headers->ip, &headers->src.addr, &headers->dst.addr, size, 1, bytes + 14, 40);
+}
+
+static void prepare_ipv4(const struct row *row) { prepare_ip(&ipv4_headers, 0x0800, row->size); }
+static void prepare_ipv6(const struct row *row) { prepare_ip(&ipv6_headers, 0x86dd, row->size); }
+
+static void prepare_udp(const struct lk_frame *headers, const struct row *row)
 {
     prepare_bytes(row);
-    prepare_type(0x08, 0x00);
-    lk_emit_ipv4(SRC, DST, 1, 64, row->size, 1, bytes + 14, 20);
-    frame_len = 14 + 20 + row->size;
+    frame_len = (size_t)lk_emit_udp_frame(headers, payload, row->size, bytes, sizeof bytes);
 }
 
-static void prepare_ipv6(const struct row *row)
+static void prepare_udp_ipv4(const struct row *row) { prepare_udp(&ipv4_headers, row); }
+static void prepare_udp_ipv6(const struct row *row) { prepare_udp(&ipv6_headers, row); }
+
+static struct lk_frame tcp_headers; /* of the segment in the frame */
+
+static void prepare_tcp(const struct lk_frame *headers, const struct row *row)
 {
+    const struct lk_tcp_options *options = &row->header->options;
     prepare_bytes(row);
-    prepare_type(0x86, 0xdd);
-    lk_emit_ipv6(src, dst, 58, 64, row->size, bytes + 14, 40);
-    frame_len = 14 + 40 + row->size;
+    tcp_headers = *headers;
+    tcp_headers.tcp = row->header->tcp;
+    frame_len = (size_t)lk_emit_tcp_frame(&tcp_headers, options, payload, row->size, bytes, sizeof bytes);
 }
 
-static void prepare_udp_ipv4(const struct row *row)
-{
-    uint8_t *packet = bytes + 14;
-    prepare_ipv4(row);
-    size_t len = lk_emit_udp_ipv4(SRC, DST, 48896, 53, payload, row->size, 1, packet + 20, MOST_BYTES - 34);
-    lk_emit_ipv4(SRC, DST, 17, 64, len, 1, packet, 20);
-    frame_len = 14 + 20 + len;
-}
-
-static void prepare_udp_ipv6(const struct row *row)
-{
-    uint8_t *packet = bytes + 14;
-    prepare_ipv6(row);
-    size_t len = lk_emit_udp_ipv6(src, dst, 48896, 53, payload, row->size, 1, packet + 40, MOST_BYTES - 54);
-    lk_emit_ipv6(src, dst, 17, 64, len, packet, 40);
-    frame_len = 14 + 40 + len;
-}
-
-static void prepare_tcp_ipv4(const struct row *row)
-{
-    uint8_t *packet = bytes + 14;
-    prepare_ipv4(row);
-    size_t len = lk_emit_tcp_ipv4(SRC, DST, row->header, payload, row->size, 1, packet + 20, MOST_BYTES - 34);
-    lk_emit_ipv4(SRC, DST, 6, 64, len, 1, packet, 20);
-    frame_len = 14 + 20 + len;
-}
-
-static void prepare_tcp_ipv6(const struct row *row)
-{
-    uint8_t *packet = bytes + 14;
-    prepare_ipv6(row);
-    size_t len = lk_emit_tcp_ipv6(src, dst, row->header, payload, row->size, 1, packet + 40, MOST_BYTES - 54);
-    lk_emit_ipv6(src, dst, 6, 64, len, packet, 40);
-    frame_len = 14 + 40 + len;
-}
+static void prepare_tcp_ipv4(const struct row *row) { prepare_tcp(&ipv4_headers, row); }
+static void prepare_tcp_ipv6(const struct row *row) { prepare_tcp(&ipv6_headers, row); }
 
 /* Addresses of four kinds: eight groups of all lengths, zeros in one place and in two, and an IPv4
  * address in the last four octets. */
+static struct lk_addr addresses[ADDRESSES];
+
 static void prepare_addresses(const struct row *row)
 {
     static const uint16_t masks[] = {0xffff, 0xfff, 0xff, 0xf};
@@ -132,7 +133,8 @@ static void prepare_addresses(const struct row *row)
     (void)row;
     uint32_t random = 1;
     for (size_t i = 0; i < ADDRESSES; i++) {
-        uint8_t *address = bytes + 16 * i;
+        uint8_t *address = addresses[i].octets;
+        addresses[i].version = 6;
         for (size_t group = 0; group < 8; group++) {
             random = random * 1664525 + 1013904223;
             uint16_t value = (uint16_t)(random >> 16) & masks[random >> 14 & 3];
@@ -148,7 +150,7 @@ static void prepare_addresses(const struct row *row)
     }
 }
 
-static uint8_t texts[ADDRESSES * MOST_TEXT]; /* of the addresses, without anything between them */
+static char texts[ADDRESSES * MOST_TEXT]; /* of the addresses, without anything between them */
 static size_t text_ends[ADDRESSES];
 
 static void prepare_texts(const struct row *row)
@@ -156,23 +158,18 @@ static void prepare_texts(const struct row *row)
     size_t end = 0;
     prepare_addresses(row);
     for (size_t i = 0; i < ADDRESSES; i++) {
-        end += lk_ipv6_print(bytes + 16 * i, texts + end, sizeof texts - end);
+        end += (size_t)lk_addr_print(&addresses[i], texts + end, sizeof texts - end);
         text_ends[i] = end;
     }
 }
 
-/* What a text is read as, to be printed: an address in octets or as a number, and the length of a prefix; and
- * a port. */
-static uint8_t octets[16];
-static uint32_t number;
-static const uint16_t port = 8080;
-static uint8_t prefix_len;
+/* What a text is read as, to be printed: an address with a port, or a block. */
+static struct lk_endpoint endpoint;
+static struct lk_block block;
 
 static void prepare_text(const struct row *row)
 {
-    const uint8_t *text = (const uint8_t *)row->text;
-    lk_ipv4_read(text, row->size, &number);
-    lk_ipv6_read(text, row->size, octets);
-    lk_ipv4_cidr_read(text, row->size, &number, &prefix_len);
-    lk_ipv6_cidr_read(text, row->size, octets, &prefix_len);
+    lk_addr_read(row->text, row->size, &endpoint.addr);
+    lk_block_read(row->text, row->size, &block);
+    endpoint.port = 8080;
 }

@@ -3,19 +3,31 @@
 //! Build it as a shared library: `rustc --edition 2024 --crate-type cdylib -C opt-level=3 -C panic=abort
 //! --extern smoltcp=libsmoltcp.rlib -L FOLDER bench/reference.rs`, with a smoltcp that has Ethernet, ARP, IPv4,
 //! IPv6, UDP and TCP.
+//!
+//! smoltcp's values have no fields for DSCP, ECN, identifications, flow labels, the urgent pointer, URG, ECE and
+//! CWR. Calls that are to write these fail. IPv4 headers have the flag DF.
 
+mod reading;
+mod structs;
 mod texts;
 
 use smoltcp::phy::ChecksumCapabilities;
 use smoltcp::wire::*;
 use std::slice::{from_raw_parts, from_raw_parts_mut};
+use structs::*;
 
-fn capabilities(checked: u8) -> ChecksumCapabilities {
-    if checked == 0 {
+const FAILED: isize = -(1 << 40);
+
+fn capabilities(computed: i32) -> ChecksumCapabilities {
+    if computed == 0 {
         ChecksumCapabilities::ignored()
     } else {
         ChecksumCapabilities::default()
     }
+}
+
+fn written(len: Result<usize>) -> isize {
+    len.map_or(FAILED, |len| len as isize)
 }
 
 /// # Safety
@@ -23,6 +35,283 @@ fn capabilities(checked: u8) -> ChecksumCapabilities {
 #[unsafe(no_mangle)]
 pub unsafe extern "C" fn lk_checksum(ptr: *const u8, len: usize) -> u16 {
     checksum::data(unsafe { from_raw_parts(ptr, len) })
+}
+
+/// The address of a struct, if it has a version.
+fn address(addr: &Addr) -> Result<IpAddress> {
+    match (addr.version, addr.octets) {
+        (4, [a, b, c, d, ..]) => Ok(IpAddress::v4(a, b, c, d)),
+        (6, octets) => Ok(IpAddress::Ipv6(octets.into())),
+        _ => Err(Error),
+    }
+}
+
+fn ipv4(addr: &Addr) -> Result<Ipv4Address> {
+    match address(addr)? {
+        IpAddress::Ipv4(address) => Ok(address),
+        _ => Err(Error),
+    }
+}
+
+fn emit_arp(arp: &Arp, src: &Addr, dst: &Addr, out: &mut [u8]) -> Result<usize> {
+    let value = ArpRepr::EthernetIpv4 {
+        operation: arp.operation.into(),
+        source_hardware_addr: EthernetAddress(arp.src_hardware),
+        source_protocol_addr: ipv4(src)?,
+        target_hardware_addr: EthernetAddress(arp.dst_hardware),
+        target_protocol_addr: ipv4(dst)?,
+    };
+    let room = out.get_mut(..value.buffer_len()).ok_or(Error)?;
+    value.emit(&mut ArpPacket::new_unchecked(room));
+    Ok(value.buffer_len())
+}
+
+#[unsafe(no_mangle)]
+pub unsafe extern "C" fn lk_emit_arp(
+    header: &Arp,
+    src: &Addr,
+    dst: &Addr,
+    out: *mut u8,
+    cap: usize,
+) -> isize {
+    written(emit_arp(header, src, dst, unsafe { from_raw_parts_mut(out, cap) }))
+}
+
+/// The IP header of a struct, if smoltcp has its values.
+fn ip_header(ip: &Ip, src: &Addr, dst: &Addr, protocol: u8, payload_len: usize) -> Result<IpRepr> {
+    let (src, dst) = (address(src)?, address(dst)?);
+    let most = if src.version() == IpVersion::Ipv4 { 65_515 } else { 65_535 };
+    let odd = ip.ident | ip.flow_label | u32::from(ip.fragment_offset) | u32::from(ip.more_fragments);
+    if odd != 0 || ip.dscp | ip.ecn != 0 || src.version() != dst.version() || payload_len > most {
+        return Err(Error);
+    }
+    Ok(IpRepr::new(src, dst, protocol.into(), payload_len, ip.hop_limit))
+}
+
+#[unsafe(no_mangle)]
+pub unsafe extern "C" fn lk_emit_ip(
+    header: &Ip,
+    src: &Addr,
+    dst: &Addr,
+    payload_len: usize,
+    computed: i32,
+    out: *mut u8,
+    cap: usize,
+) -> isize {
+    let out = unsafe { from_raw_parts_mut(out, cap) };
+    written(ip_header(header, src, dst, header.protocol, payload_len).and_then(|ip| {
+        let room = out.get_mut(..ip.header_len()).ok_or(Error)?;
+        ip.emit(room, &capabilities(computed));
+        Ok(ip.header_len())
+    }))
+}
+
+fn emit_datagram(
+    header: UdpRepr,
+    src_addr: IpAddress,
+    dst_addr: IpAddress,
+    payload: &[u8],
+    caps: &ChecksumCapabilities,
+    out: &mut [u8],
+) -> Result<usize> {
+    let len = header.header_len() + payload.len();
+    if payload.len() > 65_527 || out.len() < len {
+        return Err(Error);
+    }
+    header.emit(
+        &mut UdpPacket::new_unchecked(&mut out[..len]),
+        &src_addr,
+        &dst_addr,
+        payload.len(),
+        |room| room.copy_from_slice(payload),
+        caps,
+    );
+    Ok(len)
+}
+
+#[unsafe(no_mangle)]
+pub unsafe extern "C" fn lk_emit_udp(
+    src: &Endpoint,
+    dst: &Endpoint,
+    ptr: *const u8,
+    len: usize,
+    computed: i32,
+    out: *mut u8,
+    cap: usize,
+) -> isize {
+    let (payload, out) = unsafe { (from_raw_parts(ptr, len), from_raw_parts_mut(out, cap)) };
+    let header = UdpRepr { src_port: src.port, dst_port: dst.port };
+    let (Ok(src), Ok(dst)) = (address(&src.addr), address(&dst.addr)) else { return FAILED };
+    written(emit_datagram(header, src, dst, payload, &capabilities(computed), out))
+}
+
+/// The segment of a struct, if smoltcp has its values.
+fn segment<'a>(
+    tcp: &Tcp,
+    options: &TcpOptions,
+    ports: (u16, u16),
+    payload: &'a [u8],
+) -> Result<TcpRepr<'a>> {
+    let given = options.sack_ranges.get(..options.sack_range_count.into()).ok_or(Error)?;
+    // smoltcp has three places.
+    let mut sack_ranges = [None; 3];
+    let places = sack_ranges.get_mut(..given.len()).ok_or(Error)?;
+    for (range, given) in places.iter_mut().zip(given) {
+        *range = Some((given.left, given.right));
+    }
+    Ok(TcpRepr {
+        src_port: ports.0,
+        dst_port: ports.1,
+        control: match tcp.flags & !16 {
+            0 => TcpControl::None,
+            1 => TcpControl::Fin,
+            2 => TcpControl::Syn,
+            4 => TcpControl::Rst,
+            8 => TcpControl::Psh,
+            _ => return Err(Error),
+        },
+        seq_number: TcpSeqNumber(tcp.seq_number as i32),
+        ack_number: (tcp.flags & 16 != 0).then_some(TcpSeqNumber(tcp.ack_number as i32)),
+        window_len: tcp.window_len,
+        window_scale: (options.has_window_scale != 0).then_some(options.window_scale),
+        max_seg_size: (options.has_max_seg_size != 0).then_some(options.max_seg_size),
+        sack_permitted: options.sack_permitted != 0,
+        sack_ranges,
+        timestamp: (options.has_timestamp != 0)
+            .then_some(TcpTimestampRepr { tsval: options.tsval, tsecr: options.tsecr }),
+        payload,
+    })
+}
+
+fn emit_segment(
+    segment: &TcpRepr,
+    src_addr: IpAddress,
+    dst_addr: IpAddress,
+    caps: &ChecksumCapabilities,
+    out: &mut [u8],
+) -> Result<usize> {
+    let len = segment.buffer_len();
+    if segment.header_len() > 60 || out.len() < len {
+        return Err(Error);
+    }
+    segment.emit(&mut TcpPacket::new_unchecked(&mut out[..len]), &src_addr, &dst_addr, caps);
+    Ok(len)
+}
+
+#[unsafe(no_mangle)]
+pub unsafe extern "C" fn lk_emit_tcp(
+    header: &Tcp,
+    options: &TcpOptions,
+    src: &Endpoint,
+    dst: &Endpoint,
+    ptr: *const u8,
+    len: usize,
+    computed: i32,
+    out: *mut u8,
+    cap: usize,
+) -> isize {
+    let (payload, out) = unsafe { (from_raw_parts(ptr, len), from_raw_parts_mut(out, cap)) };
+    let (Ok(src_addr), Ok(dst_addr)) = (address(&src.addr), address(&dst.addr)) else { return FAILED };
+    let caps = capabilities(computed);
+    written(
+        segment(header, options, (src.port, dst.port), payload)
+            .and_then(|segment| emit_segment(&segment, src_addr, dst_addr, &caps, out)),
+    )
+}
+
+/// Writes the Ethernet header of a frame, and returns the rest.
+fn emit_ethernet<'a>(
+    headers: &Frame,
+    ethertype: EthernetProtocol,
+    out: &'a mut [u8],
+) -> Result<&'a mut [u8]> {
+    let header = EthernetRepr {
+        src_addr: EthernetAddress(headers.ethernet.src),
+        dst_addr: EthernetAddress(headers.ethernet.dst),
+        ethertype,
+    };
+    let (front, rest) = out.split_at_mut_checked(header.buffer_len()).ok_or(Error)?;
+    header.emit(&mut EthernetFrame::new_unchecked(front));
+    Ok(rest)
+}
+
+#[unsafe(no_mangle)]
+pub unsafe extern "C" fn lk_emit_arp_frame(headers: &Frame, out: *mut u8, cap: usize) -> isize {
+    let out = unsafe { from_raw_parts_mut(out, cap) };
+    written(emit_ethernet(headers, EthernetProtocol::Arp, out).and_then(|rest| {
+        Ok(14 + emit_arp(&headers.arp, &headers.src.addr, &headers.dst.addr, rest)?)
+    }))
+}
+
+/// Writes the Ethernet and IP headers around a payload of this length, which `emit` writes.
+fn emit_frame(
+    headers: &Frame,
+    protocol: u8,
+    len: usize,
+    out: &mut [u8],
+    emit: impl FnOnce(IpAddress, IpAddress, &mut [u8]) -> Result<usize>,
+) -> Result<usize> {
+    let ip = ip_header(&headers.ip, &headers.src.addr, &headers.dst.addr, protocol, len)?;
+    let ethertype = match ip {
+        IpRepr::Ipv4(_) => EthernetProtocol::Ipv4,
+        IpRepr::Ipv6(_) => EthernetProtocol::Ipv6,
+    };
+    if out.len() < 14 + ip.buffer_len() {
+        return Err(Error);
+    }
+    let (front, rest) = emit_ethernet(headers, ethertype, out)?.split_at_mut(ip.header_len());
+    ip.emit(front, &ChecksumCapabilities::default());
+    emit(ip.src_addr(), ip.dst_addr(), rest)?;
+    Ok(14 + ip.buffer_len())
+}
+
+#[unsafe(no_mangle)]
+pub unsafe extern "C" fn lk_emit_udp_frame(
+    headers: &Frame,
+    ptr: *const u8,
+    len: usize,
+    out: *mut u8,
+    cap: usize,
+) -> isize {
+    let (payload, out) = unsafe { (from_raw_parts(ptr, len), from_raw_parts_mut(out, cap)) };
+    let header = UdpRepr { src_port: headers.src.port, dst_port: headers.dst.port };
+    written(emit_frame(headers, 17, 8 + len, out, |src, dst, rest| {
+        emit_datagram(header, src, dst, payload, &ChecksumCapabilities::default(), rest)
+    }))
+}
+
+#[unsafe(no_mangle)]
+pub unsafe extern "C" fn lk_emit_tcp_frame(
+    headers: &Frame,
+    options: &TcpOptions,
+    ptr: *const u8,
+    len: usize,
+    out: *mut u8,
+    cap: usize,
+) -> isize {
+    let (payload, out) = unsafe { (from_raw_parts(ptr, len), from_raw_parts_mut(out, cap)) };
+    let ports = (headers.src.port, headers.dst.port);
+    written(segment(&headers.tcp, options, ports, payload).and_then(|segment| {
+        emit_frame(headers, 6, segment.buffer_len(), out, |src, dst, rest| {
+            emit_segment(&segment, src, dst, &ChecksumCapabilities::default(), rest)
+        })
+    }))
+}
+
+/// The block of a struct.
+pub fn cidr(block: &Block) -> Result<IpCidr> {
+    let address = address(&block.addr)?;
+    let most = if address.version() == IpVersion::Ipv4 { 32 } else { 128 };
+    if block.prefix_len > most {
+        return Err(Error);
+    }
+    Ok(IpCidr::new(address, block.prefix_len as u8))
+}
+
+#[unsafe(no_mangle)]
+pub extern "C" fn lk_block_contains(block: &Block, addr: &Addr) -> i32 {
+    let (Ok(block), Ok(addr)) = (cidr(block), address(addr)) else { return 0 };
+    i32::from(block.address().version() == addr.version() && block.contains_addr(&addr))
 }
 
 /// The packet that a frame carries, and whether what that carries may be looked into: a fragment's may not.
@@ -57,7 +346,7 @@ fn datagram<'a>(
 }
 
 /// The TCP segment between the addresses of a header.
-fn segment<'a>(ip: &IpRepr, bytes: &'a [u8], caps: &ChecksumCapabilities) -> Result<TcpRepr<'a>> {
+fn parsed_segment<'a>(ip: &IpRepr, bytes: &'a [u8], caps: &ChecksumCapabilities) -> Result<TcpRepr<'a>> {
     let packet = TcpPacket::new_checked(bytes)?;
     TcpRepr::parse(&packet, &ip.src_addr(), &ip.dst_addr(), caps)
 }
@@ -67,314 +356,7 @@ fn message(frame: &EthernetFrame<&[u8]>) -> Result<ArpRepr> {
     ArpRepr::parse(&ArpPacket::new_checked(frame.payload())?)
 }
 
-fn payload_len(frame: &[u8], caps: &ChecksumCapabilities) -> Result<usize> {
-    let frame = EthernetFrame::new_checked(frame)?;
-    if frame.ethertype() == EthernetProtocol::Arp {
-        return message(&frame).map(|_| 0);
-    }
-    let (ip, is_whole, payload) = packet(&frame, caps)?;
-    match ip.next_header() {
-        IpProtocol::Udp if is_whole => {
-            datagram(&ip, payload, caps).map(|(_, payload)| payload.len())
-        }
-        IpProtocol::Tcp if is_whole => {
-            segment(&ip, payload, caps).map(|segment| segment.payload.len())
-        }
-        _ => Ok(payload.len()),
-    }
-}
-
-#[unsafe(no_mangle)]
-pub unsafe extern "C" fn lk_parse(ptr: *const u8, len: usize, checked: u8) -> u32 {
-    let frame = unsafe { from_raw_parts(ptr, len) };
-    payload_len(frame, &capabilities(checked)).map_or(0, |len| len as u32 + 1)
-}
-
-#[unsafe(no_mangle)]
-pub unsafe extern "C" fn lk_emit_arp(
-    operation: u16,
-    source_hardware_addr: *const u8,
-    source_protocol_addr: u32,
-    target_hardware_addr: *const u8,
-    target_protocol_addr: u32,
-    out: *mut u8,
-    cap: usize,
-) -> usize {
-    let out = unsafe { from_raw_parts_mut(out, cap) };
-    let (source, target) = unsafe {
-        (*source_hardware_addr.cast::<[u8; 6]>(), *target_hardware_addr.cast::<[u8; 6]>())
-    };
-    let value = ArpRepr::EthernetIpv4 {
-        operation: operation.into(),
-        source_hardware_addr: EthernetAddress(source),
-        source_protocol_addr: source_protocol_addr.into(),
-        target_hardware_addr: EthernetAddress(target),
-        target_protocol_addr: target_protocol_addr.into(),
-    };
-    if cap < value.buffer_len() {
-        return 0;
-    }
-    value.emit(&mut ArpPacket::new_unchecked(out));
-    value.buffer_len()
-}
-
-#[unsafe(no_mangle)]
-pub unsafe extern "C" fn lk_emit_ipv4(
-    src_addr: u32,
-    dst_addr: u32,
-    protocol: u8,
-    hop_limit: u8,
-    payload_len: usize,
-    checked: u8,
-    out: *mut u8,
-    cap: usize,
-) -> usize {
-    let out = unsafe { from_raw_parts_mut(out, cap) };
-    let header = Ipv4Repr {
-        src_addr: src_addr.into(),
-        dst_addr: dst_addr.into(),
-        next_header: IpProtocol::Unknown(protocol),
-        payload_len,
-        hop_limit,
-    };
-    if payload_len > 65_515 || cap < header.buffer_len() {
-        return 0;
-    }
-    header.emit(&mut Ipv4Packet::new_unchecked(out), &capabilities(checked));
-    header.buffer_len()
-}
-
-unsafe fn address(octets: *const u8) -> Ipv6Address {
-    Ipv6Address::from(unsafe { *octets.cast::<[u8; 16]>() })
-}
-
-#[unsafe(no_mangle)]
-pub unsafe extern "C" fn lk_emit_ipv6(
-    src_addr: *const u8,
-    dst_addr: *const u8,
-    next_header: u8,
-    hop_limit: u8,
-    payload_len: usize,
-    out: *mut u8,
-    cap: usize,
-) -> usize {
-    let out = unsafe { from_raw_parts_mut(out, cap) };
-    let header = Ipv6Repr {
-        src_addr: unsafe { address(src_addr) },
-        dst_addr: unsafe { address(dst_addr) },
-        next_header: IpProtocol::Unknown(next_header),
-        payload_len,
-        hop_limit,
-    };
-    if payload_len > 65_535 || cap < header.buffer_len() {
-        return 0;
-    }
-    header.emit(&mut Ipv6Packet::new_unchecked(out));
-    header.buffer_len()
-}
-
-fn emit_datagram(
-    header: UdpRepr,
-    src_addr: IpAddress,
-    dst_addr: IpAddress,
-    payload: &[u8],
-    caps: &ChecksumCapabilities,
-    out: &mut [u8],
-) -> Result<usize> {
-    let len = header.header_len() + payload.len();
-    if payload.len() > 65_527 || out.len() < len {
-        return Err(Error);
-    }
-    header.emit(
-        &mut UdpPacket::new_unchecked(&mut out[..len]),
-        &src_addr,
-        &dst_addr,
-        payload.len(),
-        |room| room.copy_from_slice(payload),
-        caps,
-    );
-    Ok(len)
-}
-
-#[unsafe(no_mangle)]
-pub unsafe extern "C" fn lk_emit_udp_ipv4(
-    src_addr: u32,
-    dst_addr: u32,
-    src_port: u16,
-    dst_port: u16,
-    ptr: *const u8,
-    len: usize,
-    checked: u8,
-    out: *mut u8,
-    cap: usize,
-) -> usize {
-    let (payload, out) = unsafe { (from_raw_parts(ptr, len), from_raw_parts_mut(out, cap)) };
-    let (src, dst) = (Ipv4Address::from(src_addr), Ipv4Address::from(dst_addr));
-    let header = UdpRepr { src_port, dst_port };
-    emit_datagram(header, src.into(), dst.into(), payload, &capabilities(checked), out).unwrap_or(0)
-}
-
-#[unsafe(no_mangle)]
-pub unsafe extern "C" fn lk_emit_udp_ipv6(
-    src_addr: *const u8,
-    dst_addr: *const u8,
-    src_port: u16,
-    dst_port: u16,
-    ptr: *const u8,
-    len: usize,
-    checked: u8,
-    out: *mut u8,
-    cap: usize,
-) -> usize {
-    let (payload, out) = unsafe { (from_raw_parts(ptr, len), from_raw_parts_mut(out, cap)) };
-    let (src, dst) = unsafe { (address(src_addr), address(dst_addr)) };
-    let header = UdpRepr { src_port, dst_port };
-    emit_datagram(header, src.into(), dst.into(), payload, &capabilities(checked), out).unwrap_or(0)
-}
-
-#[repr(C)]
-#[derive(Clone, Copy)]
-pub struct SackRange {
-    left: u32,
-    right: u32,
-}
-
-/// `struct lk_tcp` of `c/ip_wire.h`.
-#[repr(C)]
-pub struct TcpFields {
-    src_port: u16,
-    dst_port: u16,
-    seq_number: u32,
-    ack_number: u32,
-    window_len: u16,
-    max_seg_size: u16,
-    tsval: u32,
-    tsecr: u32,
-    sack_ranges: [SackRange; 4],
-    control: u8,
-    window_scale: u8,
-    sack_permitted: u8,
-    sack_range_count: u8,
-    has_ack_number: u8,
-    has_max_seg_size: u8,
-    has_window_scale: u8,
-    has_timestamp: u8,
-}
-
-impl TcpFields {
-    fn segment<'a>(&self, payload: &'a [u8]) -> Result<TcpRepr<'a>> {
-        let given = self.sack_ranges.get(..self.sack_range_count.into()).ok_or(Error)?;
-        // smoltcp has three places.
-        let mut sack_ranges = [None; 3];
-        let places = sack_ranges.get_mut(..given.len()).ok_or(Error)?;
-        for (range, given) in places.iter_mut().zip(given) {
-            *range = Some((given.left, given.right));
-        }
-        Ok(TcpRepr {
-            src_port: self.src_port,
-            dst_port: self.dst_port,
-            control: match self.control {
-                0 => TcpControl::None,
-                1 => TcpControl::Psh,
-                2 => TcpControl::Syn,
-                3 => TcpControl::Fin,
-                4 => TcpControl::Rst,
-                _ => return Err(Error),
-            },
-            seq_number: TcpSeqNumber(self.seq_number as i32),
-            ack_number: (self.has_ack_number != 0).then_some(TcpSeqNumber(self.ack_number as i32)),
-            window_len: self.window_len,
-            window_scale: (self.has_window_scale != 0).then_some(self.window_scale),
-            max_seg_size: (self.has_max_seg_size != 0).then_some(self.max_seg_size),
-            sack_permitted: self.sack_permitted != 0,
-            sack_ranges,
-            timestamp: (self.has_timestamp != 0)
-                .then_some(TcpTimestampRepr { tsval: self.tsval, tsecr: self.tsecr }),
-            payload,
-        })
-    }
-}
-
-fn emit_segment(
-    segment: &TcpRepr,
-    src_addr: IpAddress,
-    dst_addr: IpAddress,
-    caps: &ChecksumCapabilities,
-    out: &mut [u8],
-) -> Result<usize> {
-    let len = segment.buffer_len();
-    if segment.header_len() > 60 || out.len() < len {
-        return Err(Error);
-    }
-    segment.emit(&mut TcpPacket::new_unchecked(&mut out[..len]), &src_addr, &dst_addr, caps);
-    Ok(len)
-}
-
-fn send_segment(
-    header: &TcpFields,
-    src_addr: IpAddress,
-    dst_addr: IpAddress,
-    payload: &[u8],
-    checked: u8,
-    out: &mut [u8],
-) -> usize {
-    header
-        .segment(payload)
-        .and_then(|segment| emit_segment(&segment, src_addr, dst_addr, &capabilities(checked), out))
-        .unwrap_or(0)
-}
-
-#[unsafe(no_mangle)]
-pub unsafe extern "C" fn lk_emit_tcp_ipv4(
-    src_addr: u32,
-    dst_addr: u32,
-    header: *const TcpFields,
-    ptr: *const u8,
-    len: usize,
-    checked: u8,
-    out: *mut u8,
-    cap: usize,
-) -> usize {
-    let (payload, out) = unsafe { (from_raw_parts(ptr, len), from_raw_parts_mut(out, cap)) };
-    let (src, dst) = (Ipv4Address::from(src_addr), Ipv4Address::from(dst_addr));
-    send_segment(unsafe { &*header }, src.into(), dst.into(), payload, checked, out)
-}
-
-#[unsafe(no_mangle)]
-pub unsafe extern "C" fn lk_emit_tcp_ipv6(
-    src_addr: *const u8,
-    dst_addr: *const u8,
-    header: *const TcpFields,
-    ptr: *const u8,
-    len: usize,
-    checked: u8,
-    out: *mut u8,
-    cap: usize,
-) -> usize {
-    let (payload, out) = unsafe { (from_raw_parts(ptr, len), from_raw_parts_mut(out, cap)) };
-    let (src, dst) = unsafe { (address(src_addr), address(dst_addr)) };
-    send_segment(unsafe { &*header }, src.into(), dst.into(), payload, checked, out)
-}
-
-#[unsafe(no_mangle)]
-pub extern "C" fn lk_ipv4_contains(block: u32, prefix_len: u8, addr: u32) -> u8 {
-    if prefix_len > 32 {
-        return 0;
-    }
-    let block = Ipv4Cidr::new(Ipv4Address::from(block), prefix_len);
-    u8::from(block.contains_addr(&Ipv4Address::from(addr)))
-}
-
-#[unsafe(no_mangle)]
-pub unsafe extern "C" fn lk_ipv6_contains(block: *const u8, prefix_len: u8, addr: *const u8) -> u8 {
-    if prefix_len > 128 {
-        return 0;
-    }
-    let block = Ipv6Cidr::new(unsafe { address(block) }, prefix_len);
-    u8::from(block.contains_addr(&unsafe { address(addr) }))
-}
-
-/// Writes what a packet with this header carries, built again, and answers its length.
+/// Writes what a packet with this header carries, built again, and returns its length.
 fn rebuild_transport(ip: &IpRepr, bytes: &[u8], room: &mut [u8]) -> Result<usize> {
     let caps = ChecksumCapabilities::default();
     if ip.next_header() == IpProtocol::Udp
@@ -383,7 +365,7 @@ fn rebuild_transport(ip: &IpRepr, bytes: &[u8], room: &mut [u8]) -> Result<usize
         return emit_datagram(header, ip.src_addr(), ip.dst_addr(), payload, &caps, room);
     }
     if ip.next_header() == IpProtocol::Tcp
-        && let Ok(segment) = segment(ip, bytes, &caps)
+        && let Ok(segment) = parsed_segment(ip, bytes, &caps)
     {
         return emit_segment(&segment, ip.src_addr(), ip.dst_addr(), &caps, room);
     }
@@ -421,7 +403,7 @@ fn rebuild(frame: &[u8], out: &mut [u8]) -> Result<usize> {
 }
 
 #[unsafe(no_mangle)]
-pub unsafe extern "C" fn lk_rebuild(ptr: *const u8, len: usize, out: *mut u8, cap: usize) -> usize {
+pub unsafe extern "C" fn lk_rebuild(ptr: *const u8, len: usize, out: *mut u8, cap: usize) -> isize {
     let frame = unsafe { from_raw_parts(ptr, len) };
-    rebuild(frame, unsafe { from_raw_parts_mut(out, cap) }).unwrap_or(0)
+    written(rebuild(frame, unsafe { from_raw_parts_mut(out, cap) }))
 }

@@ -1,15 +1,16 @@
-/* The packet layer for C and C++. Link with libip_wire_c.a. The library needs an x86-64-v2 processor
- * (SSE4.2 and POPCNT) and does not test for it.
+/* ip_wire: Ethernet II, ARP, IPv4, IPv6, UDP and TCP packets for C and C++.
+ *
+ * The library needs an x86-64-v2 processor (SSE4.2 and POPCNT). Call lk_cpu_supported() first if the
+ * program may run on an older one: every other call may stop there with an illegal instruction.
  *
  * - No call allocates memory, keeps a pointer, has state, or accesses memory outside of its arguments.
  *   Calls may run in many threads at once, if none writes memory that another one uses.
- * - `out`, and anything else that a call writes, must not overlap another argument.
+ * - What a call writes must not overlap another argument.
  * - A pointer may be null only if its length or `cap` is 0.
- * - A writer writes exactly the number of bytes that it returns, starting at `out[0]`. If it returns 0,
- *   `out` is unchanged.
- * - An IPv4 address is a number: 192.168.1.1 is 0xc0a80101. An IPv6 address is 16 octets.
- * - A flag is true unless it is 0. A `uint8_t` keeps only the low 8 bits of its argument, and those of
- *   256 are 0. So pass `x != 0`, not `x & 0x100`. */
+ * - A call that writes to `out` returns the number of bytes that it wrote, from `out[0]` on, or LK_FAILED.
+ *   After LK_FAILED `out` is unchanged.
+ * - A call that returns `int` and is a question returns 1 for yes and 0 for no.
+ * - In a struct, a field that an initializer does not name is 0, and 0 means: not there. */
 #ifndef IP_WIRE_H
 #define IP_WIRE_H
 
@@ -20,100 +21,134 @@
 extern "C" {
 #endif
 
-/* Returns the Internet checksum (RFC 1071) before its complement: the one's complement sum of the 16-bit
- * big-endian words. An odd last byte is the high byte of a word. The sum is 0 only if every byte is 0. */
-uint16_t lk_checksum(const uint8_t *ptr, size_t len);
+#define LK_VERSION_MAJOR 0
+#define LK_VERSION_MINOR 1
+#define LK_VERSION_PATCH 0
 
-/* Parses the headers of an Ethernet frame with ARP, IPv4 or IPv6, and a UDP packet or TCP segment in it.
- * Returns the length of the innermost payload plus 1. Returns 0 if a header is rejected or the EtherType
- * is another one.
- *
- * - The payload of another protocol, or of an IPv4 fragment, is not parsed: its whole length counts. An
- *   ARP packet has no payload.
- * - IPv4 options are skipped. IPv6 extension headers belong to the payload.
- * - UDP is rejected if its destination port is 0. TCP is rejected if a port is 0, if more than one of
- *   SYN, FIN and RST is set, or if an option before the end mark is malformed.
- * - Checksums are verified unless `verified` is 0. */
-uint32_t lk_parse(const uint8_t *ptr, size_t len, uint8_t verified);
+/* Returns the version of the library that is linked: major * 65536 + minor * 256 + patch. */
+uint32_t lk_version(void);
 
-/* The protocols in a frame and in an IP packet. */
-enum lk_network { LK_NO_NETWORK, LK_ARP, LK_IPV4, LK_IPV6 };
-enum lk_transport { LK_NO_TRANSPORT, LK_UDP, LK_TCP };
+/* Whether the processor has what the library needs. This call runs on every x86-64 processor. */
+int lk_cpu_supported(void);
 
-/* A header was rejected, or all headers were parsed. */
-enum lk_status { LK_REFUSED, LK_READ };
+/* What a call returns that could not write. It is so far below 0 that a sum of it and lengths is below 0
+ * too, and as a `size_t` it is longer than any packet: the next call rejects it. */
+#define LK_FAILED (-((ptrdiff_t)1 << 40))
 
-/* The parsed values of a frame. The fields of a layer that is not there are 0. The payload begins behind
- * the last parsed header. It ends at the length in this header or in one before it. */
-struct lk_frame {
-    size_t payload_offset;  /* from the first octet of the frame */
-    size_t payload_len;     /* ends within the frame */
-    uint32_t src_ipv4;      /* of an IPv4 packet, or the source of an ARP packet */
-    uint32_t dst_ipv4;      /* of an IPv4 packet, or the target of an ARP packet */
-    uint32_t seq_number;    /* TCP only, like `ack_number` and `window_len` */
-    uint32_t ack_number;    /* the field, even if ACK is not set */
-    uint16_t ethertype;
-    uint16_t arp_operation; /* 1: request, 2: reply */
-    uint16_t src_port;      /* UDP or TCP */
-    uint16_t dst_port;
-    uint16_t window_len;    /* in octets, before scaling */
-    uint8_t src_ethernet[6];
-    uint8_t dst_ethernet[6];
-    uint8_t src_ipv6[16];
-    uint8_t dst_ipv6[16];
-    uint8_t status;         /* an `lk_status` */
-    uint8_t network;        /* an `lk_network` */
-    uint8_t transport;      /* an `lk_transport` */
-    uint8_t protocol;       /* in the IP header: 6 TCP, 17 UDP */
-    uint8_t hop_limit;
-    uint8_t is_fragment;    /* 1: an IPv4 fragment, so its payload is not parsed */
-    uint8_t tcp_flags;      /* FIN is 1, SYN 2, RST 4, PSH 8, ACK 16, URG 32, ECE 64, CWR 128 */
-    uint8_t ipv4_checksum_holds;      /* 1: it is valid */
-    uint8_t transport_checksum_holds; /* 1: it is valid, or a UDP checksum over IPv4 is 0 */
+/* ---- addresses ---- */
+
+/* The next three structs have no padding: two of their values are equal exactly if their bytes are. */
+
+/* An IPv4 or IPv6 address. */
+struct lk_addr {
+    uint8_t octets[16]; /* in network byte order; of IPv4 the first 4, and the others are 0 */
+    uint16_t version;   /* 4 or 6; 0: no address */
 };
 
-/* Parses an Ethernet frame, stores its values, and returns its `status`. A wrong checksum is reported in
- * the struct and is no reason to reject.
+/* An address with a port. */
+struct lk_endpoint {
+    struct lk_addr addr;
+    uint16_t port;
+};
+
+/* A CIDR block: the addresses that have the first `prefix_len` bits of `addr`. */
+struct lk_block {
+    struct lk_addr addr;
+    uint16_t prefix_len; /* at most 32 for IPv4, 128 for IPv6 */
+};
+
+/* A text is the `len` bytes at `text`, without a null behind them. A reader stores the value and returns 1.
+ * It returns 0 and stores nothing if the bytes are no such text as a whole.
  *
- * - At a rejected header the values of the headers before it are stored. The payload begins at the
- *   rejected header.
- * - In a frame of less than 14 octets no header is parsed, and all of it is payload.
- * - Behind an unknown EtherType or protocol all bytes are payload, and so are IPv6 extension headers.
- * - UDP is rejected if its destination port is 0; its source port may be 0. TCP is rejected if a port is
- *   0, if more than one of SYN, FIN and RST is set, or if an option before the end mark is malformed. */
-uint8_t lk_read_frame(const uint8_t *ptr, size_t len, struct lk_frame *frame);
+ * Hex digits may have either case. Leading zeros are accepted and are decimal. The scope of an IPv6
+ * address (%eth0) is rejected. Dotted octets are accepted only at the end of an IPv4-mapped address
+ * (::ffff:192.168.1.1).
+ *
+ * A printer writes a text without a null behind it. It returns LK_FAILED if `cap` is less than its length,
+ * or if a version or prefix length is out of range. */
 
-/* Writes an ARP packet for Ethernet and IPv4, 28 octets, and returns 28. Returns 0 if `cap` is less. The
- * operation is 1 for a request, 2 for a reply. A hardware address is 6 octets. */
-size_t lk_emit_arp(uint16_t operation, const uint8_t *source_hardware_addr,
-                   uint32_t source_protocol_addr, const uint8_t *target_hardware_addr,
-                   uint32_t target_protocol_addr, uint8_t *out, size_t cap);
+/* IPv4: four numbers of 1 to 3 digits, joined by '.'. IPv6: RFC 4291, section 2.2. */
+int lk_addr_read(const char *text, size_t len, struct lk_addr *addr);
 
-/* Writes an IPv4 header of 20 octets for a payload of `payload_len` octets, and returns 20. Returns 0 if
- * `cap` is less than 20 or `payload_len` is more than 65515. The flag DF (don't fragment) is set; DSCP,
- * ECN and identification are 0. The checksum is computed unless `computed` is 0; then it is 0. */
-size_t lk_emit_ipv4(uint32_t src_addr, uint32_t dst_addr, uint8_t protocol, uint8_t hop_limit,
-                    size_t payload_len, uint8_t computed, uint8_t *out, size_t cap);
+/* At most 15 bytes for IPv4, 39 for IPv6 (RFC 5952). */
+ptrdiff_t lk_addr_print(const struct lk_addr *addr, char *out, size_t cap);
 
-/* Writes an IPv6 header of 40 octets for a payload of `payload_len` octets, and returns 40. Returns 0 if
- * `cap` is less than 40 or `payload_len` is more than 65535. Traffic class and flow label are 0. */
-size_t lk_emit_ipv6(const uint8_t *src_addr, const uint8_t *dst_addr, uint8_t next_header,
-                    uint8_t hop_limit, size_t payload_len, uint8_t *out, size_t cap);
+/* An address, '/' and the prefix length. The address is stored as it is written. */
+int lk_block_read(const char *text, size_t len, struct lk_block *block);
 
-/* Writes a UDP header with the `len` octets at `ptr` as payload, for IPv4 between these two addresses.
- * Returns the length of both. Returns 0 if `cap` is less or `len` is more than 65527. The checksum is
- * computed unless `computed` is 0; then it is 0. Port 0 is written as it is: a receiver may treat source
- * port 0 as "no port", but `lk_parse` and `lk_read_frame` reject destination port 0. */
-size_t lk_emit_udp_ipv4(uint32_t src_addr, uint32_t dst_addr, uint16_t src_port, uint16_t dst_port,
-                        const uint8_t *ptr, size_t len, uint8_t computed, uint8_t *out, size_t cap);
+/* At most 18 bytes for IPv4, 43 for IPv6. */
+ptrdiff_t lk_block_print(const struct lk_block *block, char *out, size_t cap);
 
-/* The same for IPv6. A receiver rejects a UDP checksum of 0 over IPv6. */
-size_t lk_emit_udp_ipv6(const uint8_t *src_addr, const uint8_t *dst_addr, uint16_t src_port,
-                        uint16_t dst_port, const uint8_t *ptr, size_t len, uint8_t computed,
-                        uint8_t *out, size_t cap);
+/* Whether the address is in the block. No address is in a block of the other version. */
+int lk_block_contains(const struct lk_block *block, const struct lk_addr *addr);
 
-/* The control flag of a TCP segment: at most one beside ACK. */
-enum lk_tcp_control { LK_TCP_NONE, LK_TCP_PSH, LK_TCP_SYN, LK_TCP_FIN, LK_TCP_RST };
+/* An address, ':' and a port, with an IPv6 address in brackets; or an address alone, with port 0. */
+int lk_endpoint_read(const char *text, size_t len, struct lk_endpoint *endpoint);
+
+/* At most 21 bytes for IPv4, 47 for IPv6. */
+ptrdiff_t lk_endpoint_print(const struct lk_endpoint *endpoint, char *out, size_t cap);
+
+/* An Ethernet address, 6 octets: six groups of 1 or 2 hex digits, all joined by '-' or all by ':'. */
+int lk_ethernet_read(const char *text, size_t len, uint8_t *octets);
+
+/* Always 17 bytes: six pairs of hex digits, joined by '-'. */
+ptrdiff_t lk_ethernet_print(const uint8_t *octets, char *out, size_t cap);
+
+/* Whether the address is a multicast address (224.0.0.0/4, ff00::/8). */
+int lk_addr_is_multicast(const struct lk_addr *addr);
+
+/* Whether the address is neither multicast, nor unspecified (0.0.0.0, ::), nor 255.255.255.255. */
+int lk_addr_is_unicast(const struct lk_addr *addr);
+
+/* ---- headers: read by lk_read_frame, and written by the calls lk_emit_.. ---- */
+
+struct lk_ethernet {
+    uint8_t src[6];
+    uint8_t dst[6];
+    uint16_t type; /* 0x0800 IPv4, 0x0806 ARP, 0x86dd IPv6 */
+};
+
+/* An ARP packet for Ethernet and IPv4 (RFC 826), without its IPv4 addresses. */
+struct lk_arp {
+    uint16_t operation; /* 1: request, 2: reply */
+    uint8_t src_hardware[6];
+    uint8_t dst_hardware[6];
+};
+
+/* An IPv4 or IPv6 header without its addresses and lengths. */
+struct lk_ip {
+    uint32_t ident;           /* IPv4: 16 bits; IPv6: of the fragment header */
+    uint32_t flow_label;      /* IPv6: 20 bits */
+    uint16_t fragment_offset; /* in octets, a multiple of 8 */
+    uint8_t protocol;         /* 6: TCP, 17: UDP */
+    uint8_t hop_limit;
+    uint8_t dscp;             /* 6 bits; of IPv6 those of the traffic class */
+    uint8_t ecn;              /* 2 bits */
+    uint8_t more_fragments;
+    uint8_t dont_fragment;    /* IPv4 */
+};
+
+/* The flags of a TCP header. */
+enum lk_tcp_flag {
+    LK_FIN = 1,
+    LK_SYN = 2,
+    LK_RST = 4,
+    LK_PSH = 8,
+    LK_ACK = 16,
+    LK_URG = 32,
+    LK_ECE = 64,
+    LK_CWR = 128
+};
+
+/* A TCP header (RFC 9293) without its ports, checksum and options. */
+struct lk_tcp {
+    uint32_t seq_number; /* of the first payload octet, or of SYN */
+    uint32_t ack_number; /* the next expected number, if LK_ACK is set */
+    uint16_t window_len; /* in octets, before scaling */
+    uint16_t urgent_at;  /* the urgent pointer */
+    uint8_t flags;       /* a sum of `lk_tcp_flag` */
+    uint8_t header_len;  /* in octets, 20 to 60; set by lk_read_frame, not used by the calls lk_emit_.. */
+};
 
 /* A range of received data (RFC 2018), from `left` up to `right`, without `right`. */
 struct lk_sack_range {
@@ -121,121 +156,196 @@ struct lk_sack_range {
     uint32_t right;
 };
 
-/* The values of a TCP header (RFC 9293; options by RFC 2018 and RFC 7323). A value with a field `has_..`
- * is there unless that field is 0. So a field that an initializer does not name is absent. */
-struct lk_tcp {
-    uint16_t src_port;
-    uint16_t dst_port;
-    uint32_t seq_number;                 /* of the first payload octet, or of SYN */
-    uint32_t ack_number;                 /* the next expected number */
-    uint16_t window_len;                 /* in octets, before scaling */
-    uint16_t max_seg_size;               /* in octets */
+/* The options of a TCP header (RFC 9293, RFC 2018, RFC 7323). A value with a field `has_..` is there
+ * unless that field is 0. */
+struct lk_tcp_options {
+    struct lk_sack_range sack_ranges[4]; /* the first `sack_range_count` count */
     uint32_t tsval;                      /* the timestamp */
     uint32_t tsecr;                      /* the timestamp that it answers */
-    struct lk_sack_range sack_ranges[4]; /* the first `sack_range_count` count */
-    uint8_t control;                     /* an `lk_tcp_control` */
-    uint8_t window_scale;                /* in bits; receivers use at most 14 */
-    uint8_t sack_permitted;              /* a flag */
+    uint16_t max_seg_size;               /* in octets */
+    uint8_t window_scale;                /* in bits; at most 14 is read */
+    uint8_t sack_permitted;
     uint8_t sack_range_count;            /* at most 4 */
-    uint8_t has_ack_number;
     uint8_t has_max_seg_size;
     uint8_t has_window_scale;
     uint8_t has_timestamp;
 };
 
-/* Writes a TCP header with the `len` octets at `ptr` as payload, for IPv4 between these two addresses.
- * Returns the length of both. Returns 0 if
+/* ---- reading ---- */
+
+enum lk_network { LK_NO_NETWORK, LK_ARP, LK_IPV4, LK_IPV6 };
+enum lk_transport { LK_NO_TRANSPORT, LK_UDP, LK_TCP };
+
+/* Why a header was rejected. */
+enum lk_reason {
+    LK_READ,         /* no header was rejected */
+    LK_TOO_SHORT,    /* fewer bytes than the shortest header */
+    LK_BAD_VERSION,  /* another version than the EtherType names */
+    LK_BAD_LENGTH,   /* a length field that does not fit */
+    LK_OTHER_ARP,    /* ARP for other addresses than Ethernet and IPv4 */
+    LK_PORT_ZERO,    /* UDP: destination port 0; TCP: a port 0 */
+    LK_BAD_FLAGS,    /* TCP: more than one of SYN, FIN and RST */
+    LK_BAD_OPTIONS   /* TCP: a malformed option before the end mark */
+};
+
+/* What a checksum says. */
+enum lk_verdict {
+    LK_NO_CHECKSUM,     /* there is no such header */
+    LK_RIGHT,
+    LK_WRONG,
+    LK_LEFT_OUT,        /* UDP over IPv4: the sender computed none */
+    LK_LEFT_TO_DEVICE   /* only the pseudo-header is summed: checksum offload */
+};
+
+/* A frame. The fields of a header that is not there are 0. */
+struct lk_frame {
+    size_t network_offset;   /* of the ARP or IP header, from the first octet of the frame */
+    size_t transport_offset; /* of the UDP or TCP header */
+    size_t payload_offset;   /* of the payload */
+    size_t payload_len;      /* ends within the frame, before its padding */
+    struct lk_endpoint src;  /* UDP, TCP, or with port 0 another IP packet or ARP */
+    struct lk_endpoint dst;
+    struct lk_ip ip;
+    struct lk_tcp tcp;
+    struct lk_ethernet ethernet;
+    struct lk_arp arp;
+    uint8_t reason;             /* an `lk_reason` */
+    uint8_t network;            /* an `lk_network` */
+    uint8_t transport;          /* an `lk_transport` */
+    uint8_t is_fragment;        /* 1: a part of an IP packet, so its payload is not parsed */
+    uint8_t ipv4_checksum;      /* an `lk_verdict` */
+    uint8_t transport_checksum; /* an `lk_verdict` */
+};
+
+/* Parses an Ethernet frame, stores its values, and returns LK_READ or why a header was rejected. A wrong
+ * checksum is no reason to reject.
  *
- * - `cap` is less than this length,
- * - the length is more than 65535 octets, since no IP packet carries it (over IPv4 65515 fit),
- * - the options take more than 40 octets, or
- * - `control` or `sack_range_count` is out of range.
+ * - The payload begins behind the last header that was read. It ends at the length in this header or in
+ *   one before it, so padding is no payload.
+ * - At a rejected header the values of the headers before it are stored, and the payload begins at the
+ *   rejected header. The fields of a rejected UDP or TCP header are stored too, unless it is too short.
+ * - Behind an unknown EtherType or protocol all bytes are payload, and so are IPv6 extension headers.
+ *   IPv4 options are skipped. Of an IPv6 fragment header that follows the IPv6 header the values are
+ *   stored, and the payload begins at it. */
+int lk_read_frame(const uint8_t *ptr, size_t len, struct lk_frame *frame);
+
+/* Stores the options of a TCP header. `ptr` is its first octet and `len` its length: in a frame that was
+ * read, `frame + f.transport_offset` and `f.tcp.header_len`. Returns 0 and stores nothing if an option
+ * before the end mark is malformed, or the header is shorter than 20 octets or than it says. Of each
+ * kind the last option counts. */
+int lk_read_tcp_options(const uint8_t *ptr, size_t len, struct lk_tcp_options *options);
+
+/* Prints an `lk_reason`, as "port 0". At most 32 bytes. */
+ptrdiff_t lk_reason_print(int reason, char *out, size_t cap);
+
+/* ---- writing ---- */
+
+/* Fills in the reply to a frame that was read: Ethernet addresses and endpoints are exchanged, and ARP's
+ * hardware addresses too. All other fields are copied. */
+void lk_reply(const struct lk_frame *frame, struct lk_frame *reply);
+
+/* Writes a whole frame with a UDP packet: Ethernet header, IPv4 or IPv6 header, UDP header and the `len`
+ * octets at `ptr`. Uses `ethernet.src`, `ethernet.dst`, `src`, `dst` and `ip` of `headers`; EtherType,
+ * protocol, lengths and checksums are filled in. Returns the length of the frame, or LK_FAILED if
  *
- * SACK ranges are written only with an acknowledgement and without `sack_permitted`. The header has
- * room for them in any case. The checksum is computed unless `computed` is 0; then it is 0. Port 0 is
- * written as it is, but `lk_parse` and `lk_read_frame` reject a segment with a port of 0. */
-size_t lk_emit_tcp_ipv4(uint32_t src_addr, uint32_t dst_addr, const struct lk_tcp *header,
-                        const uint8_t *ptr, size_t len, uint8_t computed, uint8_t *out, size_t cap);
+ * - it does not fit into `cap` octets, or `len` is more than the IP packet can carry,
+ * - the two addresses have no version or different versions,
+ * - a field of `ip` has too many bits, or says that the packet is a fragment. */
+ptrdiff_t lk_emit_udp_frame(const struct lk_frame *headers, const uint8_t *ptr, size_t len, uint8_t *out,
+                            size_t cap);
 
-/* The same for IPv6. */
-size_t lk_emit_tcp_ipv6(const uint8_t *src_addr, const uint8_t *dst_addr,
-                        const struct lk_tcp *header, const uint8_t *ptr, size_t len,
-                        uint8_t computed, uint8_t *out, size_t cap);
+/* The same with a TCP segment. Uses `tcp` of `headers` too. Returns LK_FAILED also if the options take
+ * more than 40 octets, `sack_range_count` is more than 4, or more than one of SYN, FIN and RST is set. */
+ptrdiff_t lk_emit_tcp_frame(const struct lk_frame *headers, const struct lk_tcp_options *options,
+                            const uint8_t *ptr, size_t len, uint8_t *out, size_t cap);
 
-/* Returns 1 if `addr` has the first `prefix_len` bits of `block`, else 0. Returns 0 if `prefix_len` is
- * more than 32. */
-uint8_t lk_ipv4_contains(uint32_t block, uint8_t prefix_len, uint32_t addr);
+/* The same around a payload of `len` octets that is in `out` already: for UDP behind 42 octets over IPv4 and
+ * 62 over IPv6, for TCP behind 34 or 54 and lk_tcp_header_len(options). Nothing is copied. */
+ptrdiff_t lk_wrap_udp_frame(const struct lk_frame *headers, size_t len, uint8_t *out, size_t cap);
+ptrdiff_t lk_wrap_tcp_frame(const struct lk_frame *headers, const struct lk_tcp_options *options,
+                            size_t len, uint8_t *out, size_t cap);
 
-/* The same for IPv6. Returns 0 if `prefix_len` is more than 128. */
-uint8_t lk_ipv6_contains(const uint8_t *block, uint8_t prefix_len, const uint8_t *addr);
+/* Returns the length of a TCP header with these options, 20 to 60, or LK_FAILED if they do not fit. */
+ptrdiff_t lk_tcp_header_len(const struct lk_tcp_options *options);
 
-/* A text is the `len` bytes at `text`, without a null behind them. A parser stores the value and returns
- * 1. It returns 0 and stores nothing if the bytes are no such text as a whole.
- *
- * Hex digits may have either case. Leading zeros are accepted and are decimal. The scope of an IPv6
- * address (%eth0) is rejected. Dotted octets are accepted only at the end of an IPv4-mapped address
- * (::ffff:192.168.1.1). */
+/* Writes a whole frame with the ARP packet of `arp`, `src.addr` and `dst.addr`, which must be IPv4
+ * addresses. */
+ptrdiff_t lk_emit_arp_frame(const struct lk_frame *headers, uint8_t *out, size_t cap);
 
-/* An Ethernet address, 6 octets: six groups of 1 or 2 hex digits, all joined by '-' or all by ':'. */
-uint8_t lk_ethernet_read(const uint8_t *text, size_t len, uint8_t *octets);
+/* The layers one by one. Each writes one header, or a header with its payload, at `out[0]`. A checksum is
+ * computed unless `computed` is 0; then it is 0. */
 
-/* An IPv4 address: four numbers of 1 to 3 digits, joined by '.'. */
-uint8_t lk_ipv4_read(const uint8_t *text, size_t len, uint32_t *addr);
+/* Writes an Ethernet header, 14 octets. */
+ptrdiff_t lk_emit_ethernet(const struct lk_ethernet *header, uint8_t *out, size_t cap);
 
-/* An IPv6 address (RFC 4291, section 2.2). */
-uint8_t lk_ipv6_read(const uint8_t *text, size_t len, uint8_t *octets);
+/* Writes an ARP packet, 28 octets. */
+ptrdiff_t lk_emit_arp(const struct lk_arp *header, const struct lk_addr *src, const struct lk_addr *dst,
+                      uint8_t *out, size_t cap);
 
-/* A CIDR block: an address, '/' and the prefix length in 1 or 2 digits. The address is stored as it is
- * written. */
-uint8_t lk_ipv4_cidr_read(const uint8_t *text, size_t len, uint32_t *addr, uint8_t *prefix_len);
+/* Writes an IPv4 header of 20 octets or an IPv6 header of 40 octets, by the version of the addresses, for
+ * a payload of `payload_len` octets: at most 65515 for IPv4 and 65535 for IPv6. */
+ptrdiff_t lk_emit_ip(const struct lk_ip *header, const struct lk_addr *src, const struct lk_addr *dst,
+                     size_t payload_len, int computed, uint8_t *out, size_t cap);
 
-/* The same for IPv6, with 1 to 3 digits. */
-uint8_t lk_ipv6_cidr_read(const uint8_t *text, size_t len, uint8_t *octets, uint8_t *prefix_len);
+/* Writes a UDP header and the `len` octets at `ptr`, at most 65527. Port 0 is written as it is: a receiver
+ * rejects destination port 0. */
+ptrdiff_t lk_emit_udp(const struct lk_endpoint *src, const struct lk_endpoint *dst, const uint8_t *ptr,
+                      size_t len, int computed, uint8_t *out, size_t cap);
 
-/* A printer writes a text without a null behind it, and returns its length. It returns 0 if `cap` is less
- * than this length. */
+/* Writes a TCP header with its options and the `len` octets at `ptr`, together at most 65535. */
+ptrdiff_t lk_emit_tcp(const struct lk_tcp *header, const struct lk_tcp_options *options,
+                      const struct lk_endpoint *src, const struct lk_endpoint *dst, const uint8_t *ptr,
+                      size_t len, int computed, uint8_t *out, size_t cap);
 
-/* Always 17 bytes: six pairs of hex digits, joined by '-'. */
-size_t lk_ethernet_print(const uint8_t *octets, uint8_t *out, size_t cap);
+/* ---- checksums and sequence numbers ---- */
 
-/* At most 15 bytes. */
-size_t lk_ipv4_print(uint32_t addr, uint8_t *out, size_t cap);
+/* Returns the Internet checksum (RFC 1071) before its complement: the one's complement sum of the 16-bit
+ * big-endian words. An odd last byte is the high byte of a word. The sum is 0 only if every byte is 0. */
+uint16_t lk_checksum(const uint8_t *ptr, size_t len);
 
-/* At most 39 bytes, by RFC 5952. */
-size_t lk_ipv6_print(const uint8_t *octets, uint8_t *out, size_t cap);
+/* Returns the checksum field after a 16-bit word that it covers changed from `before` to `after`
+ * (RFC 1624). */
+uint16_t lk_checksum_update(uint16_t checksum, uint16_t before, uint16_t after);
 
-/* At most 18 bytes: the address, '/' and `prefix_len`. Returns 0 if `prefix_len` is more than 32. */
-size_t lk_ipv4_cidr_print(uint32_t addr, uint8_t prefix_len, uint8_t *out, size_t cap);
+/* TCP sequence numbers, modulo 2^32 (RFC 9293, section 3.4). */
 
-/* At most 43 bytes. Returns 0 if `prefix_len` is more than 128. */
-size_t lk_ipv6_cidr_print(const uint8_t *octets, uint8_t prefix_len, uint8_t *out, size_t cap);
+/* Returns the number `steps` after `seq`. */
+uint32_t lk_seq_add(uint32_t seq, uint32_t steps);
 
-/* At most 21 bytes: the address, ':' and the port. */
-size_t lk_ipv4_endpoint_print(uint32_t addr, uint16_t port, uint8_t *out, size_t cap);
+/* Returns how far `a` is after `b`; below 0 if it is before `b`. */
+int32_t lk_seq_distance(uint32_t a, uint32_t b);
 
-/* At most 47 bytes: the same, with the address in brackets. */
-size_t lk_ipv6_endpoint_print(const uint8_t *octets, uint16_t port, uint8_t *out, size_t cap);
+/* Returns -1 if `a` is before `b`, 0 if they are equal, 1 if it is after. At a distance of 2^31 each is
+ * before the other. */
+int lk_seq_compare(uint32_t a, uint32_t b);
+
+/* ---- rebuilding ---- */
 
 /* Parses an Ethernet frame, emits each header again from its values, and returns the length of this
- * rebuilt frame, never more than `len`. Returns 0 if `len` is less than 14, or if the rebuilt frame does
- * not fit into `cap` octets. If `len` is at least 14 and `cap` is at least `len`, it always fits.
+ * rebuilt frame, which is at most `len`. So it fits whenever `cap` is at least `len`. Returns LK_FAILED if
+ * `len` is less than 14, or if the rebuilt frame does not fit into `cap` octets.
  *
- * The rebuilt frame has new lengths and checksums, and no padding. These values change:
+ * A rebuilt frame has new lengths and checksums, and no padding. These values change:
  *
- * - IPv4: DSCP, ECN and identification become 0, and options are removed. So marks of priority and
- *   congestion are lost. DF (don't fragment) is set: a router drops the packet if it is too long for a
- *   link, and does not fragment it.
- * - IPv6: traffic class and flow label become 0, with the same loss of marks.
- * - UDP: the checksum is computed, even if the packet had none. Bytes past the UDP length are removed.
- * - TCP: the urgent pointer becomes 0, so urgent data is no longer marked. Of the flags, ACK is kept, and
- *   SYN, FIN or RST if one is set, else PSH. So URG and the flags of ECN are lost. The last option of
- *   each kind in `struct lk_tcp` is kept, with a window scale of at most 14. Other options are removed.
- *   SACK ranges beside SACK permitted, or without an acknowledgement, are removed.
+ *   header   change                                  consequence
+ *   IPv4     DSCP and ECN become 0                   marks of priority and congestion are lost
+ *   IPv4     DF (don't fragment) is set              a router drops the packet if it is too long for a link
+ *   IPv4     identification becomes 0                a later fragment could not be told from others
+ *   IPv4     options are removed                     a source route is lost, and the packet is delivered
+ *   IPv6     traffic class and flow label become 0   marks of priority and congestion are lost
+ *   UDP      a checksum is computed                  also where the sender left it out
+ *   UDP      bytes past the UDP length are removed
+ *   TCP      the urgent pointer and URG become 0     urgent data is no longer marked
+ *   TCP      ECE and CWR become 0                    congestion is no longer reported
+ *   TCP      one of SYN, FIN, RST is kept, else PSH  FIN with PSH becomes FIN
+ *   TCP      the last option of each kind is kept,   other options are removed; a window scale above 14
+ *            of the kinds of struct lk_tcp_options   becomes 14
+ *   TCP      SACK ranges beside SACK permitted or    they mean nothing there
+ *            without ACK are removed
  *
- * Copied unchanged are an IPv4 fragment, a packet that does not parse or has a wrong checksum, and the
- * payload of any other type or protocol. A UDP packet with destination port 0, or a TCP segment with a
- * port of 0, does not parse. */
-size_t lk_rebuild(const uint8_t *ptr, size_t len, uint8_t *out, size_t cap);
+ * Copied unchanged are a fragment of an IPv4 packet, a packet that does not parse or has a wrong checksum,
+ * and the payload of any other type or protocol. */
+ptrdiff_t lk_rebuild(const uint8_t *ptr, size_t len, uint8_t *out, size_t cap);
 
 #ifdef __cplusplus
 }

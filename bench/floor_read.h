@@ -1,0 +1,375 @@
+/* lk_read_frame and lk_read_tcp_options by hand: straight code with all checks that the library makes. */
+#include "../c/ip_wire.h"
+#include "sums.h"
+
+enum { ETHERNET_LEN = 14, ARP_LEN = 28, IPV4_LEN = 20, IPV6_LEN = 40, UDP_LEN = 8, TCP_LEN = 20, MOST_TCP_LEN = 60 };
+enum { TYPE_IPV4 = 0x0800, TYPE_ARP = 0x0806, TYPE_IPV6 = 0x86dd };
+enum { PROTOCOL_TCP = 6, PROTOCOL_UDP = 17, PROTOCOL_IPV6_FRAGMENT = 44 };
+enum { OPTION_END, OPTION_NONE, OPTION_SIZE, OPTION_SCALE, OPTION_PERMITTED, OPTION_RANGES, OPTION_TIMESTAMP = 8 };
+
+static const uint8_t ethernet_ipv4[8] = {0, 1, 8, 0, 6, 4};
+
+/* An IP packet that was parsed. Its payload is what the headers behind it are parsed from. */
+struct packet {
+    const uint8_t *header;
+    const uint8_t *payload;
+    size_t len; /* of the payload */
+    int is_ipv4;
+    int is_fragment;
+    uint8_t protocol;
+};
+
+/* Returns an `lk_reason`. */
+INLINE int read_ipv4(const uint8_t *ptr, size_t len, struct packet *packet)
+{
+    if (len < IPV4_LEN)
+        return LK_TOO_SHORT;
+    if (ptr[0] >> 4 != 4)
+        return LK_BAD_VERSION;
+    size_t header_len = ptr[0] % 16 * 4, total_len = swap_16(load_16(ptr + 2));
+    if (header_len < IPV4_LEN || total_len < header_len || len < total_len)
+        return LK_BAD_LENGTH;
+    int is_fragment = (load_16(ptr + 6) & swap_16(0x3fff)) != 0;
+    *packet = (struct packet){ptr, ptr + header_len, total_len - header_len, 1, is_fragment, ptr[9]};
+    return LK_READ;
+}
+
+INLINE int ipv4_holds(const struct packet *packet)
+{
+    size_t len = (size_t)(packet->payload - packet->header);
+    return holds(len == IPV4_LEN ? total_of_20(packet->header) : total_apart(packet->header, len));
+}
+
+INLINE int read_ipv6(const uint8_t *ptr, size_t len, struct packet *packet)
+{
+    if (len < IPV6_LEN)
+        return LK_TOO_SHORT;
+    if (ptr[0] >> 4 != 6)
+        return LK_BAD_VERSION;
+    size_t payload_len = swap_16(load_16(ptr + 4));
+    if (len - IPV6_LEN < payload_len)
+        return LK_BAD_LENGTH;
+    *packet = (struct packet){ptr, ptr + IPV6_LEN, payload_len, 0, 0, ptr[6]};
+    return LK_READ;
+}
+
+INLINE int is_arp(const uint8_t *ptr, size_t len)
+{
+    return len >= ARP_LEN && load_64(ptr) << 16 == load_64(ethernet_ipv4) << 16;
+}
+
+INLINE uint64_t addresses_total(const struct packet *packet)
+{
+    const uint8_t *ptr = packet->header;
+    return packet->is_ipv4 ? ipv4_total(load_32(ptr + 12), load_32(ptr + 16)) : ipv6_total(ptr + 8, ptr + 24);
+}
+
+/* The verdict on a UDP or TCP checksum that is at `field` of the payload. */
+INLINE uint8_t verdict(const struct packet *packet, size_t len, size_t field)
+{
+    uint64_t pseudo = pseudo_total(addresses_total(packet), packet->protocol, len);
+    if (holds(around(pseudo, total(packet->payload, len))))
+        return LK_RIGHT;
+    return load_16(packet->payload + field) == fold(pseudo) ? LK_LEFT_TO_DEVICE : LK_WRONG;
+}
+
+INLINE uint8_t udp_verdict(const struct packet *packet, size_t len)
+{
+    if (load_16(packet->payload + 6) == 0)
+        return packet->is_ipv4 ? LK_LEFT_OUT : LK_WRONG;
+    return verdict(packet, len, 6);
+}
+
+/* Returns an `lk_reason`, and stores the length of a UDP packet. */
+INLINE int read_udp(const struct packet *packet, size_t *len)
+{
+    if (packet->len < UDP_LEN)
+        return LK_TOO_SHORT;
+    *len = swap_16(load_16(packet->payload + 4));
+    if (*len < UDP_LEN || packet->len < *len)
+        return LK_BAD_LENGTH;
+    return load_16(packet->payload + 2) ? LK_READ : LK_PORT_ZERO;
+}
+
+/* The length of an option that is right, from its kind on, or 0. */
+INLINE size_t option_len(const uint8_t *ptr, const uint8_t *end)
+{
+    if (end - ptr < 2 || ptr[1] < 2 || end - ptr < ptr[1])
+        return 0;
+    size_t len = ptr[1];
+    switch (ptr[0]) {
+    case OPTION_SIZE:
+        return len == 4 ? len : 0;
+    case OPTION_SCALE:
+        return len == 3 ? len : 0;
+    case OPTION_PERMITTED:
+        return len == 2 ? len : 0;
+    case OPTION_RANGES:
+        return len >= 10 && len <= 34 && len % 8 == 2 ? len : 0;
+    }
+    return len;
+}
+
+INLINE int has_options(const uint8_t *ptr, const uint8_t *end)
+{
+    while (ptr != end && *ptr != OPTION_END) {
+        size_t len = *ptr == OPTION_NONE ? 1 : option_len(ptr, end);
+        if (!len)
+            return 0;
+        ptr += len;
+    }
+    return 1;
+}
+
+/* More than one of SYN, FIN and RST. */
+INLINE int has_two_controls(uint8_t flags)
+{
+    return 0xe8 >> (flags & (LK_SYN | LK_FIN | LK_RST)) & 1;
+}
+
+/* Returns an `lk_reason`, and stores the length of a TCP header. */
+INLINE int read_tcp(const struct packet *packet, size_t *len)
+{
+    const uint8_t *ptr = packet->payload;
+    if (packet->len < TCP_LEN)
+        return LK_TOO_SHORT;
+    *len = ptr[12] / 16 * 4;
+    if (*len < TCP_LEN || packet->len < *len)
+        return LK_BAD_LENGTH;
+    if (!load_16(ptr) || !load_16(ptr + 2))
+        return LK_PORT_ZERO;
+    if (has_two_controls(ptr[13]))
+        return LK_BAD_FLAGS;
+    return has_options(ptr + TCP_LEN, ptr + *len) ? LK_READ : LK_BAD_OPTIONS;
+}
+
+INLINE void store_option(const uint8_t *ptr, size_t len, struct lk_tcp_options *options)
+{
+    switch (ptr[0]) {
+    case OPTION_SIZE:
+        options->has_max_seg_size = 1;
+        options->max_seg_size = swap_16(load_16(ptr + 2));
+        break;
+    case OPTION_SCALE:
+        options->has_window_scale = 1;
+        options->window_scale = ptr[2] < 14 ? ptr[2] : 14;
+        break;
+    case OPTION_PERMITTED:
+        options->sack_permitted = 1;
+        break;
+    case OPTION_RANGES:
+        options->sack_range_count = (uint8_t)(len / 8);
+        for (size_t i = 0; i < 4; i++)
+            options->sack_ranges[i] = i < len / 8 ? (struct lk_sack_range){swap_32(load_32(ptr + 8 * i + 2)),
+                                                                          swap_32(load_32(ptr + 8 * i + 6))}
+                                                  : (struct lk_sack_range){0, 0};
+        break;
+    case OPTION_TIMESTAMP:
+        if (len == 10) {
+            options->has_timestamp = 1;
+            options->tsval = swap_32(load_32(ptr + 2));
+            options->tsecr = swap_32(load_32(ptr + 6));
+        }
+    }
+}
+
+INLINE int read_options(const uint8_t *ptr, const uint8_t *end, struct lk_tcp_options *options)
+{
+    *options = (struct lk_tcp_options){.tsval = 0};
+    for (size_t len; ptr != end && *ptr != OPTION_END; ptr += len) {
+        len = *ptr == OPTION_NONE ? 1 : option_len(ptr, end);
+        if (!len)
+            return 0;
+        if (*ptr != OPTION_NONE)
+            store_option(ptr, len, options);
+    }
+    return 1;
+}
+
+int lk_read_tcp_options(const uint8_t *ptr, size_t len, struct lk_tcp_options *options)
+{
+    struct lk_tcp_options read;
+    if (len < TCP_LEN)
+        return 0;
+    size_t header_len = ptr[12] / 16 * 4;
+    if (header_len < TCP_LEN || len < header_len || !read_options(ptr + TCP_LEN, ptr + header_len, &read))
+        return 0;
+    *options = read;
+    return 1;
+}
+
+/* The next header is at `payload_offset`, and a payload of so many octets follows it. */
+INLINE void follow(struct lk_frame *frame, size_t header_len, size_t payload_len)
+{
+    frame->payload_offset += header_len;
+    frame->payload_len = payload_len;
+}
+
+INLINE int store_udp(const struct packet *packet, struct lk_frame *frame)
+{
+    size_t len = 0;
+    int reason = read_udp(packet, &len);
+    if (reason == LK_TOO_SHORT)
+        return reason;
+    frame->transport = LK_UDP;
+    frame->transport_offset = frame->payload_offset;
+    frame->src.port = swap_16(load_16(packet->payload));
+    frame->dst.port = swap_16(load_16(packet->payload + 2));
+    if (reason == LK_BAD_LENGTH)
+        return reason;
+    frame->transport_checksum = udp_verdict(packet, len);
+    if (reason == LK_READ)
+        follow(frame, UDP_LEN, len - UDP_LEN);
+    return reason;
+}
+
+INLINE int store_tcp(const struct packet *packet, struct lk_frame *frame)
+{
+    const uint8_t *ptr = packet->payload;
+    size_t len = 0;
+    int reason = read_tcp(packet, &len);
+    if (reason == LK_TOO_SHORT)
+        return reason;
+    frame->transport = LK_TCP;
+    frame->transport_offset = frame->payload_offset;
+    frame->src.port = swap_16(load_16(ptr));
+    frame->dst.port = swap_16(load_16(ptr + 2));
+    frame->tcp = (struct lk_tcp){
+        .seq_number = swap_32(load_32(ptr + 4)),
+        .ack_number = swap_32(load_32(ptr + 8)),
+        .window_len = swap_16(load_16(ptr + 14)),
+        .urgent_at = swap_16(load_16(ptr + 18)),
+        .flags = ptr[13],
+        .header_len = (uint8_t)len,
+    };
+    frame->transport_checksum = verdict(packet, packet->len, 16);
+    if (reason == LK_READ)
+        follow(frame, len, packet->len - len);
+    return reason;
+}
+
+INLINE int store_transport(const struct packet *packet, struct lk_frame *frame)
+{
+    if (packet->protocol == PROTOCOL_TCP)
+        return store_tcp(packet, frame);
+    return packet->protocol == PROTOCOL_UDP ? store_udp(packet, frame) : LK_READ;
+}
+
+INLINE int store_ipv4(const uint8_t *ptr, size_t len, struct lk_frame *frame)
+{
+    struct packet packet;
+    int reason = read_ipv4(ptr, len, &packet);
+    if (reason != LK_READ)
+        return reason;
+    uint16_t fragment = swap_16(load_16(ptr + 6));
+    frame->network = LK_IPV4;
+    frame->network_offset = ETHERNET_LEN;
+    memcpy(frame->src.addr.octets, ptr + 12, 4);
+    memcpy(frame->dst.addr.octets, ptr + 16, 4);
+    frame->src.addr.version = frame->dst.addr.version = 4;
+    frame->ip = (struct lk_ip){
+        .ident = swap_16(load_16(ptr + 4)),
+        .fragment_offset = (uint16_t)(fragment << 3),
+        .protocol = ptr[9],
+        .hop_limit = ptr[8],
+        .dscp = ptr[1] >> 2,
+        .ecn = ptr[1] & 3,
+        .more_fragments = fragment >> 13 & 1,
+        .dont_fragment = fragment >> 14 & 1,
+    };
+    frame->is_fragment = (uint8_t)packet.is_fragment;
+    frame->ipv4_checksum = ipv4_holds(&packet) ? LK_RIGHT : LK_WRONG;
+    follow(frame, (size_t)(packet.payload - ptr), packet.len);
+    return packet.is_fragment ? LK_READ : store_transport(&packet, frame);
+}
+
+/* The payload begins at a fragment header. One that is cut off has no values. */
+INLINE int store_ipv6_fragment(const struct packet *packet, struct lk_frame *frame)
+{
+    const uint8_t *ptr = packet->payload;
+    if (packet->len < 8)
+        return LK_READ;
+    uint16_t fragment = swap_16(load_16(ptr + 2));
+    frame->is_fragment = (fragment & 0xfff9) != 0;
+    frame->ip.fragment_offset = fragment & 0xfff8;
+    frame->ip.more_fragments = fragment & 1;
+    frame->ip.ident = swap_32(load_32(ptr + 4));
+    return LK_READ;
+}
+
+INLINE int store_ipv6(const uint8_t *ptr, size_t len, struct lk_frame *frame)
+{
+    struct packet packet;
+    int reason = read_ipv6(ptr, len, &packet);
+    if (reason != LK_READ)
+        return reason;
+    uint32_t first = swap_32(load_32(ptr));
+    frame->network = LK_IPV6;
+    frame->network_offset = ETHERNET_LEN;
+    memcpy(frame->src.addr.octets, ptr + 8, 16);
+    memcpy(frame->dst.addr.octets, ptr + 24, 16);
+    frame->src.addr.version = frame->dst.addr.version = 6;
+    frame->ip = (struct lk_ip){
+        .flow_label = first & 0xfffff,
+        .protocol = ptr[6],
+        .hop_limit = ptr[7],
+        .dscp = first >> 22 & 63,
+        .ecn = first >> 20 & 3,
+    };
+    follow(frame, IPV6_LEN, packet.len);
+    return packet.protocol == PROTOCOL_IPV6_FRAGMENT ? store_ipv6_fragment(&packet, frame)
+                                                     : store_transport(&packet, frame);
+}
+
+INLINE int store_arp(const uint8_t *ptr, size_t len, struct lk_frame *frame)
+{
+    if (len < ARP_LEN)
+        return LK_TOO_SHORT;
+    if (!is_arp(ptr, len))
+        return LK_OTHER_ARP;
+    frame->network = LK_ARP;
+    frame->network_offset = ETHERNET_LEN;
+    frame->arp.operation = swap_16(load_16(ptr + 6));
+    memcpy(frame->arp.src_hardware, ptr + 8, 6);
+    memcpy(frame->src.addr.octets, ptr + 14, 4);
+    memcpy(frame->arp.dst_hardware, ptr + 18, 6);
+    memcpy(frame->dst.addr.octets, ptr + 24, 4);
+    frame->src.addr.version = frame->dst.addr.version = 4;
+    follow(frame, ARP_LEN, 0);
+    return LK_READ;
+}
+
+INLINE int store_network(const uint8_t *ptr, size_t len, struct lk_frame *frame)
+{
+    switch (frame->ethernet.type) {
+    case TYPE_ARP:
+        return store_arp(ptr, len, frame);
+    case TYPE_IPV4:
+        return store_ipv4(ptr, len, frame);
+    case TYPE_IPV6:
+        return store_ipv6(ptr, len, frame);
+    }
+    return LK_READ;
+}
+
+/* By nine vectors: for so few bytes compilers use an instruction that starts slowly. */
+INLINE void clear(struct lk_frame *frame)
+{
+    typedef uint64_t pair __attribute__((vector_size(16), may_alias, aligned(8)));
+    _Static_assert(sizeof *frame == 9 * sizeof(pair), "nine vectors");
+    pair *to = (pair *)frame;
+    to[0] = to[1] = to[2] = to[3] = to[4] = to[5] = to[6] = to[7] = to[8] = (pair){0};
+}
+
+int lk_read_frame(const uint8_t *ptr, size_t len, struct lk_frame *frame)
+{
+    clear(frame);
+    frame->payload_len = len;
+    if (len < ETHERNET_LEN)
+        return frame->reason = LK_TOO_SHORT;
+    memcpy(frame->ethernet.dst, ptr, 6);
+    memcpy(frame->ethernet.src, ptr + 6, 6);
+    frame->ethernet.type = swap_16(load_16(ptr + 12));
+    follow(frame, ETHERNET_LEN, len - ETHERNET_LEN);
+    return frame->reason = (uint8_t)store_network(ptr + ETHERNET_LEN, len - ETHERNET_LEN, frame);
+}

@@ -1,0 +1,137 @@
+//! The structs of `c/ip_wire.h`.
+
+use ip_wire::SACK_BLOCKS;
+
+/// `struct lk_addr`: an IPv4 or IPv6 address.
+#[repr(C)]
+#[derive(Clone, Copy)]
+pub struct Addr {
+    /// Of IPv4 the first four; the others are 0.
+    pub octets: [u8; 16],
+    /// 4 or 6; 0 for no address.
+    pub version: u16,
+}
+
+/// `struct lk_endpoint`: an address with a port.
+#[repr(C)]
+#[derive(Clone, Copy)]
+pub struct Endpoint {
+    pub addr: Addr,
+    pub port: u16,
+}
+
+/// `struct lk_block`: a CIDR block.
+#[repr(C)]
+#[derive(Clone, Copy)]
+pub struct Block {
+    pub addr: Addr,
+    /// At most 32 for IPv4, 128 for IPv6.
+    pub prefix_len: u16,
+}
+
+/// `struct lk_ethernet`: an Ethernet header.
+#[repr(C)]
+#[derive(Clone, Copy)]
+pub struct Ethernet {
+    pub src: [u8; 6],
+    pub dst: [u8; 6],
+    pub ethertype: u16,
+}
+
+/// `struct lk_arp`: an ARP packet for Ethernet and IPv4, without its IPv4 addresses.
+#[repr(C)]
+#[derive(Clone, Copy)]
+pub struct Arp {
+    /// 1 for a request, 2 for a reply.
+    pub operation: u16,
+    pub src_hardware: [u8; 6],
+    pub dst_hardware: [u8; 6],
+}
+
+/// `struct lk_ip`: an IPv4 or IPv6 header, without its addresses and lengths.
+#[repr(C)]
+#[derive(Clone, Copy)]
+pub struct Ip {
+    /// 16 bits in IPv4, 32 bits in the fragment header of IPv6.
+    pub ident: u32,
+    /// 20 bits, in IPv6 alone.
+    pub flow_label: u32,
+    /// In octets, a multiple of 8.
+    pub fragment_offset: u16,
+    pub protocol: u8,
+    pub hop_limit: u8,
+    /// 6 bits; in IPv6 the upper ones of the traffic class.
+    pub dscp: u8,
+    /// 2 bits; in IPv6 the lower ones of the traffic class.
+    pub ecn: u8,
+    pub more_fragments: u8,
+    /// In IPv4 alone.
+    pub dont_fragment: u8,
+}
+
+/// `struct lk_tcp`: a TCP header without its ports, checksum and options.
+#[repr(C)]
+#[derive(Clone, Copy)]
+pub struct Tcp {
+    pub seq_number: u32,
+    pub ack_number: u32,
+    pub window_len: u16,
+    pub urgent_at: u16,
+    /// FIN is 1, SYN 2, RST 4, PSH 8, ACK 16, URG 32, ECE 64, CWR 128.
+    pub flags: u8,
+    /// In octets, 20 to 60.
+    pub header_len: u8,
+}
+
+/// `struct lk_sack_range`: received data, from the left edge up to, but without, the right one.
+#[repr(C)]
+#[derive(Clone, Copy)]
+pub struct SackRange {
+    pub left: u32,
+    pub right: u32,
+}
+
+/// `struct lk_tcp_options`: the options of a TCP header. What has a field `has_..` is there where that is
+/// not 0.
+#[repr(C)]
+#[derive(Clone, Copy)]
+pub struct TcpOptions {
+    /// The first `sack_range_count` of them are there.
+    pub sack_ranges: [SackRange; SACK_BLOCKS],
+    pub tsval: u32,
+    pub tsecr: u32,
+    pub max_seg_size: u16,
+    pub window_scale: u8,
+    pub sack_permitted: u8,
+    pub sack_range_count: u8,
+    pub has_max_seg_size: u8,
+    pub has_window_scale: u8,
+    pub has_timestamp: u8,
+}
+
+/// `struct lk_frame`: the values of a frame, and where its headers and its payload are.
+#[repr(C)]
+#[derive(Clone, Copy)]
+pub struct FrameFields {
+    /// Of the ARP or IP header, from the first octet of the frame.
+    pub network_offset: usize,
+    /// Of the UDP or TCP header.
+    pub transport_offset: usize,
+    pub payload_offset: usize,
+    pub payload_len: usize,
+    pub src: Endpoint,
+    pub dst: Endpoint,
+    pub ip: Ip,
+    pub tcp: Tcp,
+    pub ethernet: Ethernet,
+    pub arp: Arp,
+    /// Why a header was rejected, or 0.
+    pub reason: u8,
+    /// 1 for ARP, 2 for IPv4, 3 for IPv6.
+    pub network: u8,
+    /// 1 for UDP, 2 for TCP.
+    pub transport: u8,
+    pub is_fragment: u8,
+    pub ipv4_checksum: u8,
+    pub transport_checksum: u8,
+}

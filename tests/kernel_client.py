@@ -1,0 +1,385 @@
+#!/usr/bin/env python3
+"""The kernel's side of tests/kernel.
+
+tests/kernel_client.py host DEVICE     exchanges packets with examples/host.c on this TAP device
+tests/kernel_client.py bridge PROCESS  sends TCP through examples/bridge.c to the namespace of this process
+tests/kernel_client.py loss PROCESS    the same where packets are lost
+
+Prints how many exchanges were right. The status is 1 if one was wrong, or if the kernel counted an error.
+"""
+import os
+import random
+import select
+import socket
+import struct
+import subprocess
+import sys
+import threading
+import time
+
+HOST_HARDWARE = bytes.fromhex("02000000aa07")
+HOSTS = ((socket.AF_INET, "10.77.0.1", "10.77.0.2"), (socket.AF_INET6, "fd77::1", "fd77::2"))
+BRIDGED = ((socket.AF_INET, "10.78.0.2"), (socket.AF_INET6, "fd78::2"))
+ECHO, CLOSED, MTU = 7, 9, 1500
+FIN, SYN, RST, ACK = 1, 2, 4, 16
+# Counters of /proc/net/snmp, netstat and snmp6 that must stay 0.
+ERRORS = ("InErrors", "InErrs", "InCsumErrors", "InHdrErrors", "InTruncatedPkts")
+
+counts, wrong = {}, []
+
+
+def check(kind, holds, what=""):
+    counts[kind] = counts.get(kind, 0) + 1
+    if not holds:
+        wrong.append(kind)
+        print(f"tests/kernel: wrong: {kind} {what}", file=sys.stderr)
+
+
+def kernel_counters():
+    """The counters of this namespace, as a dictionary."""
+    found = {}
+    for path in ("/proc/net/snmp", "/proc/net/netstat"):
+        with open(path, encoding="ascii") as file:
+            lines = file.read().splitlines()
+        for names, values in zip(lines[::2], lines[1::2]):
+            layer = names.split(":")[0]
+            found.update((layer + name, int(value)) for name, value in zip(names.split()[1:], values.split()[1:]))
+    with open("/proc/net/snmp6", encoding="ascii") as file:
+        found.update((name, int(value)) for name, value in (line.split() for line in file))
+    return found
+
+
+def kernel_errors():
+    """The counters of errors that are not 0."""
+    return {name: value for name, value in kernel_counters().items() if value and name.endswith(ERRORS)}
+
+
+def udp_socket(family, address):
+    sock = socket.socket(family, socket.SOCK_DGRAM)
+    sock.settimeout(2)
+    sock.setsockopt(socket.SOL_SOCKET, socket.SO_RCVBUF, 1 << 22)
+    sock.connect((address, ECHO))
+    return sock
+
+
+def received(sock):
+    try:
+        return sock.recv(65535)
+    except OSError as error:
+        return error
+
+
+def udp_lengths(family, address):
+    """Each length of a payload that fits into a frame."""
+    with udp_socket(family, address) as sock:
+        for length in range(MTU - (28 if family == socket.AF_INET else 48) + 1):
+            data = random.randbytes(length)
+            sock.send(data)
+            check("UDP length", received(sock) == data, (address, length))
+
+
+def udp_checksums(family, address):
+    """Each payload of two octets, so that the checksum has each value, 0 too."""
+    with udp_socket(family, address) as sock:
+        for first in range(0, 65536, 64):
+            sent = [struct.pack(">H", number) for number in range(first, first + 64)]
+            for data in sent:
+                sock.send(data)
+            back = {received(sock) for _ in sent}
+            for data in sent:
+                check("UDP checksum", data in back, (address, data.hex()))
+
+
+def echoed(family, address, data, port=ECHO):
+    """What comes back by TCP until the end."""
+    with socket.socket(family, socket.SOCK_STREAM) as sock:
+        sock.settimeout(20)
+        sock.connect((address, port))
+
+        def send():
+            sock.sendall(data)
+            sock.shutdown(socket.SHUT_WR)
+
+        thread = threading.Thread(target=send, daemon=True)
+        thread.start()
+        back = bytearray()
+        try:
+            while more := sock.recv(1 << 16):
+                back += more
+        except OSError as error:
+            return error
+        thread.join(1)
+        return bytes(back)
+
+
+def tcp_echo(family, address):
+    for length in [0, 1, 2, 1459, 1460, 1461, 20_000, 1 << 20, 1 << 20] + [random.randrange(400) for _ in range(20)]:
+        data = random.randbytes(length)
+        check("TCP echo", echoed(family, address, data) == data, (address, length))
+
+
+def tcp_turns(family, address):
+    """Many sends and answers on one connection."""
+    with socket.create_connection((address, ECHO), timeout=5) as sock:
+        sock.setsockopt(socket.IPPROTO_TCP, socket.TCP_NODELAY, 1)
+        for turn in range(100):
+            data, back = random.randbytes(random.randrange(1, 3000)), b""
+            sock.sendall(data)
+            while len(back) < len(data):
+                more = sock.recv(65536)
+                if not more:
+                    break
+                back += more
+            check("TCP turn", back == data, (address, turn))
+
+
+def tcp_at_once(family, address):
+    results = []
+
+    def one():
+        data = random.randbytes(100_000)
+        results.append(echoed(family, address, data) == data)
+
+    threads = [threading.Thread(target=one) for _ in range(16)]
+    for thread in threads:
+        thread.start()
+    for thread in threads:
+        thread.join()
+    for n in range(len(threads)):
+        check("TCP at once", n < len(results) and results[n], address)
+
+
+def tcp_refused(family, address):
+    for port in random.sample(range(8, 65536), 40):
+        start = time.monotonic()
+        try:
+            socket.create_connection((address, port), timeout=3).close()
+            refused = False
+        except ConnectionRefusedError:
+            refused = time.monotonic() - start < 0.9
+        except OSError:
+            refused = False
+        check("TCP refused", refused, (address, port))
+
+
+def tcp_aborted(family, address):
+    """A connection that the kernel ends by RST does not disturb the next."""
+    for _ in range(5):
+        with socket.create_connection((address, ECHO), timeout=3) as sock:
+            sock.sendall(b"x" * 100)
+            sock.setsockopt(socket.SOL_SOCKET, socket.SO_LINGER, struct.pack("ii", 1, 0))
+        check("TCP after RST", echoed(family, address, b"after") == b"after", address)
+
+
+# Frames that are built here, apart from the library and the kernel.
+
+
+def checksum(data):
+    data += bytes(len(data) % 2)
+    total = sum(struct.unpack(f">{len(data) // 2}H", data))
+    while total > 0xFFFF:
+        total = (total & 0xFFFF) + (total >> 16)
+    return total ^ 0xFFFF
+
+
+class Wire:
+    """Frames to the host on a TAP device, over one version of IP."""
+
+    def __init__(self, device, family, own, host):
+        self.version = 4 if family == socket.AF_INET else 6
+        self.addresses = socket.inet_pton(family, own) + socket.inet_pton(family, host)
+        self.sock = socket.socket(socket.AF_PACKET, socket.SOCK_RAW, socket.htons(3))
+        self.sock.bind((device, 0))
+        self.own = self.sock.getsockname()[4]
+
+    def frame(self, protocol, body, at, fault=None, hardware=HOST_HARDWARE, options=b"", fragment=0x4000):
+        """A frame whose UDP or TCP checksum is at `at` of the body, with a fault."""
+        pseudo = self.addresses + struct.pack(">IHH", len(body), 0, protocol)
+        value = checksum(pseudo + body) or (0xFFFF if protocol == socket.IPPROTO_UDP else 0)
+        if fault == "transport":
+            value = value ^ 0x0100 or 0x1234
+        if fault == "left out":
+            value = 0
+        body = body[:at] + struct.pack(">H", value) + body[at + 2 :]
+        if self.version == 6:
+            header = struct.pack(">IHBB", 0x60000000, len(body), protocol, 64) + self.addresses
+        else:
+            front = struct.pack(">BBHHHBB", 0x45 + len(options) // 4, 0, 20 + len(options) + len(body), 0, fragment, 64, protocol)
+            value = checksum(front + bytes(2) + self.addresses + options) ^ (fault == "IPv4")
+            header = front + struct.pack(">H", value) + self.addresses + options
+        return hardware + self.own + (b"\x08\x00" if self.version == 4 else b"\x86\xdd") + header + body
+
+    def answer(self, frame, wait):
+        """The body of the host's next packet within `wait` seconds, or None."""
+        while select.select([self.sock], [], [], 0)[0]:
+            self.sock.recv(70000)
+        self.sock.send(frame)
+        end = time.monotonic() + wait
+        while select.select([self.sock], [], [], max(0, end - time.monotonic()))[0]:
+            data, place = self.sock.recvfrom(70000)
+            if place[2] != socket.PACKET_OUTGOING and data[6:12] == HOST_HARDWARE:
+                return data[34 if self.version == 4 else 54 :]
+        return None
+
+
+ANSWERED, SILENT = 2, 0.01  # seconds
+
+
+def wire_udp(wire):
+    """What the host answers, and what it drops."""
+    for n in range(10):
+        data = random.randbytes(random.randrange(1, 64))
+        body = struct.pack(">HHHH", 40000 + n, ECHO, 8 + len(data), 0) + data
+
+        def udp(**faults):
+            return wire.frame(socket.IPPROTO_UDP, body, 6, **faults)
+
+        check("frame UDP", (wire.answer(udp(), ANSWERED) or b"")[8:] == data, wire.version)
+        silent = [udp(fault="transport"), udp(hardware=HOST_HARDWARE[::-1]), udp()[: -len(data) - 1]]
+        answered = []
+        if wire.version == 4:
+            silent += [udp(fault="IPv4"), udp(fragment=0x2000)]
+            answered += [udp(fault="left out"), udp(options=b"\x07\x07\x04" + bytes(5))]
+        else:
+            silent.append(udp(fault="left out"))
+        for frame in silent:
+            check("frame dropped", wire.answer(frame, SILENT) is None, frame.hex())
+        for frame in answered:
+            check("frame UDP", (wire.answer(frame, ANSWERED) or b"")[8:] == data, frame.hex())
+
+
+def segment(port, seq, ack, flags, options=b"", data=b"", to=ECHO):
+    return struct.pack(">HHIIBBHHH", port, to, seq, ack, (20 + len(options)) << 2, flags, 1000, 0, 0) + options + data
+
+
+def options_of(answer):
+    """The options of a TCP header, as a dictionary."""
+    left, found = answer[20 : (answer[12] >> 4) * 4], {}
+    while left and left[0] != 0:
+        size = 1 if left[0] == 1 else left[1]
+        if left[0] != 1:
+            found[left[0]] = left[2:size]
+        left = left[size:]
+    return found
+
+
+def wire_syn(wire):
+    """A SYN with each set of options, and what of them the answer has."""
+    for chosen in range(16):
+        seq, stamp, port = random.randrange(2**32), random.randbytes(4), 42000 + chosen
+        options = b"\x02\x04\x05\xb4" * (chosen & 1) + b"\x01\x03\x03\x07" * (chosen >> 1 & 1)
+        options += b"\x04\x02\x01\x01" * (chosen >> 2 & 1) + (b"\x01\x01\x08\x0a" + stamp + bytes(4)) * (chosen >> 3 & 1)
+        got = wire.answer(wire.frame(socket.IPPROTO_TCP, segment(port, seq, 0, SYN, options), 16), ANSWERED) or bytes(20)
+        found = options_of(got)
+        expected = {2: struct.pack(">H", MTU - (40 if wire.version == 4 else 60))}
+        if chosen & 2:
+            expected[3] = b"\x03"
+        if chosen & 4:
+            expected[4] = b""
+        if chosen & 8:
+            check("SYN timestamp", found.pop(8, bytes(8))[4:] == stamp, got.hex())
+        fields = struct.unpack(">HHIIBBHHH", got[:20])
+        right = fields[:2] == (ECHO, port) and fields[3] == (seq + 1) % 2**32 and fields[5] == SYN | ACK
+        check("SYN", right and found == expected, (wire.version, chosen, got.hex()))
+        reset = wire.frame(socket.IPPROTO_TCP, segment(port, (seq + 1) % 2**32, 0, RST), 16)
+        check("RST to a connection", wire.answer(reset, SILENT) is None, chosen)
+
+
+def wire_reset(wire):
+    """Segments of no connection, with each set of flags (RFC 9293, section 3.10.7.1)."""
+    for flags in range(64):
+        for data in (b"", b"abc"):
+            seq, ack = random.randrange(2**32), random.randrange(2**32)
+            frame = wire.frame(socket.IPPROTO_TCP, segment(41000, seq, ack, flags, data=data, to=CLOSED), 16)
+            got = wire.answer(frame, SILENT if flags & RST else ANSWERED)
+            if flags & RST:
+                expected = None
+            elif flags & ACK:
+                expected = (CLOSED, 41000, ack, 0, 0x50, RST)
+            else:
+                length = len(data) + (flags & SYN > 0) + (flags & FIN > 0)
+                expected = (CLOSED, 41000, 0, (seq + length) % 2**32, 0x50, RST | ACK)
+            check("RST", (got and struct.unpack(">HHIIBB", got[:14])) == expected, (wire.version, flags, got))
+
+
+def with_host(device):
+    for family, own, host in HOSTS:
+        for exchange in (udp_lengths, udp_checksums, tcp_echo, tcp_turns, tcp_at_once, tcp_refused, tcp_aborted):
+            exchange(family, host)
+        wire = Wire(device, family, own, host)
+        for exchange in (wire_udp, wire_syn, wire_reset):
+            exchange(wire)
+
+
+SERVER = """
+import socket, sys, threading
+def serve(sock):
+    while data := sock.recv(1 << 16):
+        sock.sendall(data)
+    sock.close()
+server = socket.create_server((sys.argv[1], 7), family=socket.AF_INET6 if ":" in sys.argv[1] else socket.AF_INET)
+print("ready", flush=True)
+while True:
+    threading.Thread(target=serve, args=(server.accept()[0],), daemon=True).start()
+"""
+
+
+def in_namespace(process, *command, **words):
+    return subprocess.Popen(["nsenter", "--target", process, "--net", *command], stdout=subprocess.PIPE, text=True, **words)
+
+
+def through_bridge(process, exchange):
+    """Exchanges TCP over each version with a server behind the bridge."""
+    for family, address in BRIDGED:
+        server = in_namespace(process, sys.executable, "-c", SERVER, address)
+        server.stdout.readline()
+        exchange(family, address)
+        server.kill()
+        server.wait()
+    there = in_namespace(process, sys.executable, __file__, "errors", "there").communicate()[0]
+    check("errors that the kernel counts there", there == "{}\n", there)
+
+
+def bridged(family, address):
+    for length in [0, 1, 1460, 1461, 100_000, 4 << 20] + [random.randrange(5000) for _ in range(20)]:
+        data = random.randbytes(length)
+        check("TCP through the bridge", echoed(family, address, data) == data, (address, length))
+    tcp_at_once(family, address)
+
+
+def sack_ranges():
+    """How many SACK ranges the kernel has used, as a sum of its counters."""
+    counters = kernel_counters()
+    return sum(counters[f"TcpExtTCPSack{name}"] for name in ("Shifted", "Merged", "ShiftFallback"))
+
+
+def lossy(family, address):
+    """Sends until the kernel has used a SACK range."""
+    before = sack_ranges()
+    for n in range(8):
+        data = random.randbytes(1 << 20)
+        check("TCP with loss", echoed(family, address, data) == data, address)
+        if n >= 3 and sack_ranges() > before:
+            return
+    check("SACK ranges that arrive", False, address)
+
+
+def main():
+    start = time.monotonic()
+    mode, place = sys.argv[1:3]
+    if mode == "errors":
+        print(kernel_errors())
+        return 0
+    before = kernel_errors()
+    if mode == "host":
+        with_host(place)
+    else:
+        through_bridge(place, bridged if mode == "bridge" else lossy)
+    check("errors that the kernel counts", kernel_errors() == before == {}, kernel_errors())
+    kinds = ", ".join(f"{kind} {count}" for kind, count in counts.items())
+    print(f"{mode}: {sum(counts.values())} exchanges, {len(wrong)} wrong, {time.monotonic() - start:.0f} s ({kinds})")
+    return 1 if wrong else 0
+
+
+if __name__ == "__main__":
+    sys.exit(main())
