@@ -301,19 +301,20 @@ with_fragment_header f v = record f {
   is_fragment = flag (v.more_frags || not (v.frag_offset == 0));
 }
 
--- the same, if the payload of an IPv6 packet holds the whole header, whose values are behind its first 2 octets; the payload begins at it
+-- the same, if the payload holds the whole header, whose values are behind its first 2 octets; the payload begins at it
 abbrev pub with_fragment : FrameFields → List ℕ → FrameFields
 with_fragment f bytes = if nat_lt (length bytes) 8 then f else with_fragment_header f (fragment.header_of (drop 2 bytes))
 
--- the fields with those of the payload of an IPv6 packet
-abbrev pub with_ipv6_payload : FrameFields → IpProtocol → Ipv6Repr → List ℕ → FrameFields
-with_ipv6_payload f protocol.Ipv6Frag v bytes = with_fragment f bytes
-with_ipv6_payload f _ v bytes = with_payload f (Ipv6 v) bytes
+-- the same, if the protocol of an IPv6 packet says that there is one
+abbrev pub with_fragment_by : FrameFields → IpProtocol → List ℕ → FrameFields
+with_fragment_by f protocol.Ipv6Frag bytes = with_fragment f bytes
+with_fragment_by f _ bytes = f
 
 -- the fields with those of an IPv6 packet
 abbrev pub with_ipv6 : FrameFields → List ℕ → FrameFields
 with_ipv6 f bytes =
-    option_map_or (λ v. with_ipv6_payload (with_ipv6_header f bytes v) v.next_header v (ipv6.payload_of bytes))
+    option_map_or (λ v. let next = with_fragment_by (with_ipv6_header f bytes v) v.next_header (ipv6.payload_of bytes) in
+    with_payload next (Ipv6 v) (ipv6.payload_of bytes))
     (ipv6_of bytes) (rejected f (ipv6_fault bytes))
 
 -- ---- Ethernet

@@ -4,10 +4,11 @@ ghost use Rattle.std.specs.Prelude.{◌≡◌, ◌≤◌, ◌+◌, length};
 ghost use Rattle.ip_wire.specs.IpAddress.{version_of};
 ghost use Rattle.ip_wire.specs.Ipv4 as ipv4;
 ghost use Rattle.ip_wire.specs.Ipv6 as ipv6;
+ghost use Rattle.ip_wire.specs.Ipv6Fragment as fragment;
 ghost use Rattle.ip_wire.specs.Tcp as tcp;
 ghost use Rattle.ip_wire.specs.Udp as udp;
 ghost use Rattle.ip_wire_c.specs.Addresses.{addr_of, endpoint_of, no_endpoint};
-ghost use Rattle.ip_wire_c.specs.FrameFields.{behind, fields_of, nothing_of, rejected, with_arp, with_fragment, with_frame, with_ipv4, with_ipv4_header, with_ipv6, with_ipv6_header, with_link, with_message, with_payload, with_tcp, with_tcp_header, with_udp, with_udp_header};
+ghost use Rattle.ip_wire_c.specs.FrameFields.{behind, fields_of, nothing_of, rejected, with_arp, with_fragment_by, with_fragment_header, with_frame, with_ipv4, with_ipv4_header, with_ipv6, with_ipv6_header, with_link, with_message, with_payload, with_tcp, with_tcp_header, with_udp, with_udp_header};
 
 use crate::codes::{Network, Reason, Transport, Verdict};
 use crate::faults::{ARP_LEN, arp_fault, ipv4_fault, ipv6_fault, tcp_fault, udp_fault};
@@ -265,10 +266,8 @@ impl FrameFields {
         match Ipv6Repr::parse(&packet) {
             Ok(header) => {
                 self.store_ipv6_header(&packet, &header);
-                match header.next_header {
-                    IpProtocol::Ipv6Frag => self.store_fragment(packet.payload()),
-                    _ => self.store_payload(&IpRepr::Ipv6(header), packet.payload()),
-                }
+                self.store_fragment(header.next_header, packet.payload());
+                self.store_payload(&IpRepr::Ipv6(header), packet.payload());
             }
             Err(_) => self.reject(ipv6_fault(&packet)),
         }
@@ -293,15 +292,23 @@ impl FrameFields {
         self.step_behind(IPV6_HEADER_LEN, packet.payload().len());
     }
 
-    // The fragment header in front of these bytes, if they hold it as a whole. The payload begins
-    // at it.
-    fn store_fragment(&mut self, bytes: &[u8])
-        ensures { self.new ≡ with_fragment self.old bytes.now }
+    // The fragment header that the payload of an IPv6 packet begins with, if the protocol says so and
+    // it is there as a whole. The payload begins at it.
+    fn store_fragment(&mut self, protocol: IpProtocol, bytes: &[u8])
+        ensures { self.new ≡ with_fragment_by self.old protocol bytes.now }
     {
-        if bytes.len() < FRAGMENT_HEADER_LEN {
-            return;
+        if let IpProtocol::Ipv6Frag = protocol
+            && bytes.len() >= FRAGMENT_HEADER_LEN
+        {
+            self.store_fragment_header(&Ipv6FragmentHeader::new_unchecked(&bytes[2..]));
         }
-        let header = Ipv6FragmentHeader::new_unchecked(&bytes[2..]);
+    }
+
+    // A fragment header.
+    fn store_fragment_header(&mut self, header: &Ipv6FragmentHeader<'_>)
+        requires { 6 ≤ length (fragment.header_bytes header.now) }
+        ensures { self.new ≡ with_fragment_header self.old (fragment.header_of (fragment.header_bytes header.now)) }
+    {
         let (offset, more_fragments) = (header.frag_offset(), header.more_frags());
         self.ip.ident = header.ident();
         self.ip.fragment_offset = 8 * offset;

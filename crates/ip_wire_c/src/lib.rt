@@ -8,3 +8,14 @@ mod read_calls;
 mod tcp_options;
 mod types;
 mod verdicts;
+
+#[cfg(test)]
+mod tests {
+    use crate::read_calls::lk_version;
+
+    #[test]
+    fn version() {
+        let n = lk_version();
+        prove!(n == 256);
+    }
+}
