@@ -1,5 +1,5 @@
 -- The numbers of the enums of `c/ip_wire.h`.
-use Rattle.std.specs.Prelude.{ℕ, ℤ, pos, negsuc, ◌≡◌, ◌≤◌, ◌<◌, ◌==◌, ◌++◌, if◌then◌else◌, Option, None, Some, List, codes, drop, length}
+use Rattle.std.specs.Prelude.{ℕ, ℤ, pos, negsuc, ◌==◌, if◌then◌else◌, Option, None, Some, List, codes}
 use Rattle.ip_wire_c.specs.declared.codes.Network.{Network}
 use Rattle.ip_wire_c.specs.declared.codes.Network.TheVariants as network
 use Rattle.ip_wire_c.specs.declared.codes.Reason.{Reason}
@@ -66,17 +66,3 @@ text_of reason.OtherArp = codes "other ARP"
 text_of reason.PortZero = codes "port 0"
 text_of reason.BadFlags = codes "several of SYN, FIN and RST"
 text_of reason.BadOptions = codes "options"
-
--- what a call returns that could not write: -(1 << 40)
-abbrev pub failed : ℤ
-failed = negsuc 1099511627775
-
--- the text is written to the front of the slice and its length is returned; if it does not fit, the slice stays
-pub record Prints (text old new : List ℕ) (answer : ℤ) : Type 0 where
-  pub fits : length text ≤ length old → (answer ≡ pos (length text)) × (new ≡ text ++ drop (length text) old)
-  pub no_room : length old < length text → (answer ≡ failed) × (new ≡ old)
-
--- the same for a text that may be missing
-abbrev pub PrintsIfSome : Option (List ℕ) → List ℕ → List ℕ → ℤ → Type 0
-PrintsIfSome None old new answer = (answer ≡ failed) × (new ≡ old)
-PrintsIfSome (Some text) old new answer = Prints text old new answer

@@ -1,5 +1,5 @@
 -- The values of a frame as the struct of C.
-use Rattle.std.specs.Prelude.{ℕ, ◌+◌, ◌*◌, ◌==◌, ◌||◌, not, nat_le, nat_lt, is_none, if◌then◌else◌, Bool, List, drop, length, replicate, take}
+use Rattle.std.specs.Prelude.{ℕ, ◌+◌, ◌*◌, ◌/◌, ◌%◌, ◌==◌, ◌||◌, not, nat_le, nat_lt, is_none, if◌then◌else◌, Bool, false, List, drop, length, replicate, take}
 use Rattle.std.specs.Option.{option_map_or}
 use Rattle.ip_wire.specs.Arp as arp
 use Rattle.ip_wire.specs.Arp.{arp_of}
@@ -35,6 +35,7 @@ use Rattle.ip_wire.specs.declared.Ipv6FragmentRepr.{Ipv6FragmentRepr}
 use Rattle.ip_wire.specs.declared.Ipv6Repr.{Ipv6Repr}
 use Rattle.ip_wire_c.specs.Addresses.{endpoint_of, no_endpoint}
 use Rattle.ip_wire_c.specs.Codes.{network_code, reason_code, transport_code, verdict_code}
+use Rattle.ip_wire_c.specs.Written.{flag}
 use Rattle.ip_wire_c.specs.declared.codes.Network.TheVariants as network
 use Rattle.ip_wire_c.specs.declared.codes.Reason.{Reason}
 use Rattle.ip_wire_c.specs.declared.codes.Reason.TheVariants as reason
@@ -46,10 +47,6 @@ use Rattle.ip_wire_c.specs.declared.types.Ethernet.{Ethernet}
 use Rattle.ip_wire_c.specs.declared.types.FrameFields.{FrameFields}
 use Rattle.ip_wire_c.specs.declared.types.Ip.{Ip}
 use Rattle.ip_wire_c.specs.declared.types.Tcp.{Tcp}
-
--- a flag
-abbrev pub flag : Bool → ℕ
-flag b = if b then 1 else 0
 
 -- ---- structs of zeros
 
@@ -269,14 +266,14 @@ with_ipv4 f bytes =
     if ipv4.is_fragment bytes then next else with_payload next (Ipv4 v) (ipv4_payload bytes))
     (ipv4_of false bytes) (rejected f (ipv4_fault bytes))
 
--- the values of an IPv6 header without its addresses
+-- the values of an IPv6 header without its addresses; the traffic class is a DSCP of 6 bits, and ECN behind it
 abbrev pub ipv6_values : List ℕ → Ipv6Repr → Ip
 ipv6_values bytes v = record no_ip {
   flow_label = field bytes 12 20;
   protocol = number_of v.next_header;
   hop_limit = v.hop_limit;
-  dscp = field bytes 4 6;
-  ecn = field bytes 10 2;
+  dscp = field bytes 4 8 / 4;
+  ecn = field bytes 4 8 % 4;
 }
 
 -- the fields with those of an IPv6 header

@@ -32,7 +32,8 @@ use Rattle.ip_wire.specs.declared.TcpControl.TheVariants as control
 use Rattle.ip_wire.specs.declared.UdpRepr.{UdpRepr}
 use Rattle.ip_wire_c.specs.Addresses.{addr_of}
 use Rattle.ip_wire_c.specs.Codes.{network_code, reason_code, transport_code, verdict_code}
-use Rattle.ip_wire_c.specs.FrameFields.{arp_fault, flag, ipv4_fault, ipv6_fault, no_arp, no_ip, no_tcp, tcp_fault, tcp_values, udp_fault}
+use Rattle.ip_wire_c.specs.FrameFields.{arp_fault, ipv4_fault, ipv6_fault, no_arp, no_ip, no_tcp, tcp_fault, tcp_values, udp_fault}
+use Rattle.ip_wire_c.specs.Written.{flag}
 use Rattle.ip_wire_c.specs.declared.codes.Network.TheVariants as network
 use Rattle.ip_wire_c.specs.declared.codes.Reason.{Reason}
 use Rattle.ip_wire_c.specs.declared.codes.Reason.TheVariants as reason

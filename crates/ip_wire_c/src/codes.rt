@@ -43,18 +43,18 @@ impl Reason {
     }
 
     /// Its text.
-    pub fn text(self) -> &'static [u8]
+    pub fn text(self) -> &'static str
         ensures { result.now ≡ text_of self }
     {
         match self {
-            Reason::Read => b"read",
-            Reason::TooShort => b"too short",
-            Reason::BadVersion => b"version",
-            Reason::BadLength => b"length",
-            Reason::OtherArp => b"other ARP",
-            Reason::PortZero => b"port 0",
-            Reason::BadFlags => b"several of SYN, FIN and RST",
-            Reason::BadOptions => b"options",
+            Reason::Read => "read",
+            Reason::TooShort => "too short",
+            Reason::BadVersion => "version",
+            Reason::BadLength => "length",
+            Reason::OtherArp => "other ARP",
+            Reason::PortZero => "port 0",
+            Reason::BadFlags => "several of SYN, FIN and RST",
+            Reason::BadOptions => "options",
         }
     }
 }

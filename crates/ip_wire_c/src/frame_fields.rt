@@ -15,9 +15,10 @@ use crate::faults::{ARP_LEN, arp_fault, ipv4_fault, ipv6_fault, tcp_fault, udp_f
 use crate::types::{Addr, Arp, Endpoint, Ethernet, FrameFields, Ip, Tcp};
 use crate::verdicts::{ipv4_verdict, tcp_verdict, udp_verdict};
 use ip_wire::{
-    ArpPacket, ArpRepr, ETHERNET_HEADER_LEN, EthernetFrame, EthernetProtocol, EthernetRepr,
-    IPV6_HEADER_LEN, IpAddress, IpProtocol, IpRepr, Ipv4Packet, Ipv4Repr, Ipv6FragmentHeader,
-    Ipv6Packet, Ipv6Repr, TCP_HEADER_LEN, TcpPacket, TcpRepr, UDP_HEADER_LEN, UdpPacket, UdpRepr,
+    ArpPacket, ArpRepr, ETHERNET_HEADER_LEN, EthernetAddress, EthernetFrame, EthernetProtocol,
+    EthernetRepr, IPV6_HEADER_LEN, IpAddress, IpProtocol, IpRepr, Ipv4Packet, Ipv4Repr,
+    Ipv6FragmentHeader, Ipv6Packet, Ipv6Repr, TCP_HEADER_LEN, TcpPacket, TcpRepr, UDP_HEADER_LEN,
+    UdpPacket, UdpRepr,
 };
 use net_base::ChecksumCapabilities;
 
@@ -171,8 +172,9 @@ impl FrameFields {
         ensures { self.new ≡ with_link self.old header.now payload_len }
     {
         self.step_behind(ETHERNET_HEADER_LEN, payload_len);
-        self.ethernet.src = header.src_addr.0;
-        self.ethernet.dst = header.dst_addr.0;
+        let (EthernetAddress(src), EthernetAddress(dst)) = (header.src_addr, header.dst_addr);
+        self.ethernet.src = src;
+        self.ethernet.dst = dst;
         self.ethernet.ethertype = header.ethertype.number();
         self.reason = Reason::Read.code();
     }
@@ -193,7 +195,9 @@ impl FrameFields {
     // The values of an ARP packet, behind which there is only padding.
     fn store_message(&mut self, message: &ArpRepr)
         requires { self.old.payload_offset ≤ 14 }
-        ensures { self.new ≡ with_message self.old message.now }
+        ensures value { self.new ≡ with_message self.old message.now }
+        ensures offset { self.new.payload_offset ≡ self.old.payload_offset + 28 }
+        ensures len { self.new.payload_len ≡ 0 }
     {
         let ArpRepr::EthernetIpv4 {
             operation,
@@ -206,9 +210,13 @@ impl FrameFields {
         self.network_offset = self.payload_offset;
         self.src = Endpoint::without_port(IpAddress::Ipv4(source_protocol_addr));
         self.dst = Endpoint::without_port(IpAddress::Ipv4(target_protocol_addr));
+        let (EthernetAddress(src_hardware), EthernetAddress(dst_hardware)) = (
+            source_hardware_addr,
+            target_hardware_addr,
+        );
         self.arp.operation = operation.number();
-        self.arp.src_hardware = source_hardware_addr.0;
-        self.arp.dst_hardware = target_hardware_addr.0;
+        self.arp.src_hardware = src_hardware;
+        self.arp.dst_hardware = dst_hardware;
         self.step_behind(ARP_LEN, 0);
     }
 
@@ -287,8 +295,8 @@ impl FrameFields {
         self.ip.flow_label = packet.flow_label();
         self.ip.protocol = header.next_header.number();
         self.ip.hop_limit = header.hop_limit;
-        self.ip.dscp = traffic_class >> 2;
-        self.ip.ecn = traffic_class & 0x03;
+        self.ip.dscp = traffic_class / 4;
+        self.ip.ecn = traffic_class % 4;
         self.step_behind(IPV6_HEADER_LEN, packet.payload().len());
     }
 
@@ -384,10 +392,7 @@ impl FrameFields {
         self.store_tcp_header(src_addr, dst_addr, &packet);
         let caps = ChecksumCapabilities::ignored();
         match TcpRepr::parse(&packet, src_addr, dst_addr, &caps) {
-            Ok(segment) => self.step_behind(
-                usize::from(packet.header_len()),
-                segment.payload.len(),
-            ),
+            Ok(_) => self.step_behind(usize::from(packet.header_len()), packet.payload().len()),
             Err(_) => self.reject(tcp_fault(&packet)),
         }
     }

@@ -5,6 +5,7 @@ mod codes;
 mod faults;
 mod frame_fields;
 mod read_calls;
+mod results;
 mod tcp_options;
 mod types;
 mod verdicts;

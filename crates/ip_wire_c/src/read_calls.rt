@@ -1,12 +1,14 @@
 //! Calls that read frames.
 
-ghost use Rattle.std.specs.Prelude.{◌≡◌, ◌≤◌, ◌+◌, is_some, length, pos};
-ghost use Rattle.std.specs.Option.{option_map, unwrap_or};
-ghost use Rattle.ip_wire_c.specs.Codes.{Prints, PrintsIfSome, reason_of, text_of};
-ghost use Rattle.ip_wire_c.specs.FrameFields.{fields_of, flag};
-ghost use Rattle.ip_wire_c.specs.TcpOptions.{options_in};
+ghost use Rattle.std.specs.Prelude.{◌≡◌, ◌≤◌, ◌+◌, length, pos};
+ghost use Rattle.std.specs.Option.{option_map};
+ghost use Rattle.ip_wire_c.specs.Codes.{reason_of, text_of};
+ghost use Rattle.ip_wire_c.specs.FrameFields.{fields_of};
+ghost use Rattle.ip_wire_c.specs.TcpOptions.{ReadsItems, tcp_options_of};
+ghost use Rattle.ip_wire_c.specs.Written.{IsRead, Writes};
 
 use crate::codes::Reason;
+use crate::results::{FAILED, print};
 use crate::types::{FrameFields, TcpOptions};
 
 const VERSION_MAJOR: u32 = 0;
@@ -14,9 +16,6 @@ const VERSION_MAJOR: u32 = 0;
 const VERSION_MINOR: u32 = 1;
 
 const VERSION_PATCH: u32 = 0;
-
-// What a call returns that could not write.
-const FAILED: isize = -(1 << 40);
 
 /// The version of the library: major * 65536 + minor * 256 + patch.
 #[unsafe(no_mangle)]
@@ -42,8 +41,7 @@ pub extern "C" fn lk_read_frame(bytes: &[u8], frame: &mut FrameFields) -> i32
 /// wrong, or if an option before the end mark is malformed.
 #[unsafe(no_mangle)]
 pub extern "C" fn lk_read_tcp_options(header: &[u8], options: &mut TcpOptions) -> i32
-    ensures stored { options.new ≡ unwrap_or (options_in header.now) options.old }
-    ensures answer { result ≡ pos (flag (is_some (options_in header.now))) }
+    ensures { IsRead ReadsItems tcp_options_of header.now options.old options.new result }
 {
     match TcpOptions::read(header) {
         Some(read) => {
@@ -58,21 +56,10 @@ pub extern "C" fn lk_read_tcp_options(header: &[u8], options: &mut TcpOptions) -
 /// if there is no such reason.
 #[unsafe(no_mangle)]
 pub extern "C" fn lk_reason_print(reason: i32, out: &mut [u8]) -> isize
-    ensures { PrintsIfSome (option_map text_of (reason_of reason)) out.old out.new result }
+    ensures { Writes (option_map text_of (reason_of reason)) out.old out.new result }
 {
     match Reason::of(reason) {
         Some(reason) => print(reason.text(), out),
         None => FAILED,
     }
-}
-
-// Writes a text to the front of a slice and returns its length.
-fn print(text: &[u8], out: &mut [u8]) -> isize
-    ensures { Prints text.now out.old out.new result }
-{
-    if out.len() < text.len() {
-        return FAILED;
-    }
-    out[..text.len()].copy_from_slice(text);
-    text.len() as isize
 }

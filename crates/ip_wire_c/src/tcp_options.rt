@@ -1,9 +1,9 @@
 //! The options of a TCP header, stored in the struct of C.
 
-ghost use Rattle.std.specs.Prelude.{◌≡◌, IfSome, Some, None, List, MatchOption};
+ghost use Rattle.std.specs.Prelude.{◌≡◌, List, MatchOption};
 ghost use Rattle.ip_wire.specs.TcpItems.{Item};
 ghost use Rattle.ip_wire.specs.TcpSummary.{summary_of};
-ghost use Rattle.ip_wire_c.specs.TcpOptions.{options_in, range_of, tcp_options_of};
+ghost use Rattle.ip_wire_c.specs.TcpOptions.{ReadsItems, range_of, tcp_options_of};
 
 use crate::types::{SackRange, TcpOptions};
 use ip_wire::{TcpOptionSummary, TcpPacket};
@@ -27,7 +27,8 @@ impl TcpOptions {
     /// The options of a header. `None` if its lengths are wrong, or if an option before the end
     /// mark is malformed.
     pub fn read(header: &[u8]) -> Option<TcpOptions>
-        ensures { options_in header.now ≡ result }
+        ensures { MatchOption result ((items : List Item) → ¬ (ReadsItems header.now items))
+            (λ v. (items : List Item) × ReadsItems header.now items × (v ≡ tcp_options_of items)) }
     {
         let packet = match TcpPacket::new_checked(header) {
             Ok(packet) => packet,
