@@ -267,8 +267,8 @@ with_ipv4 f bytes =
     (ipv4_of false bytes) (rejected f (ipv4_fault bytes))
 
 -- the values of an IPv6 header without its addresses; the traffic class is a DSCP of 6 bits, and ECN behind it
-abbrev pub ipv6_values : List ℕ → Ipv6Repr → Ip
-ipv6_values bytes v = record no_ip {
+abbrev pub ipv6_values : Ip → List ℕ → Ipv6Repr → Ip
+ipv6_values f bytes v = record f {
   flow_label = field bytes 12 20;
   protocol = number_of v.next_header;
   hop_limit = v.hop_limit;
@@ -284,7 +284,7 @@ with_ipv6_header f bytes v =
       network_offset = f.payload_offset;
       src = endpoint_of (address.Ipv6 v.src_addr) 0;
       dst = endpoint_of (address.Ipv6 v.dst_addr) 0;
-      ip = ipv6_values bytes v;
+      ip = ipv6_values f.ip bytes v;
     }
 
 -- the fields with those of an IPv6 fragment header; where it is alone, the packet is whole

@@ -4,6 +4,7 @@
 mod codes;
 mod faults;
 mod frame_fields;
+pub mod laws;
 mod read_calls;
 mod results;
 mod tcp_options;
