@@ -1,4 +1,3 @@
-mod Filled
 mod StoredFrame
 mod StoredHeaders
 mod StoredParts
