@@ -7,6 +7,7 @@ use Rattle.std.proofs.lemmas.Grind.{common_steps}
 use Rattle.std.proofs.lemmas.List.{drop-drop, drop-take, take-take}
 use Rattle.ip_wire.proofs.EthernetComputed.{ethernet_of-Reads}
 use Rattle.ip_wire.proofs.Layers.{length-part}
+use Rattle.ip_wire.proofs.Numbers.{protocol_number}
 use Rattle.ip_wire.proofs.TcpComputed.{tcp_of-Reads}
 use Rattle.ip_wire.proofs.UdpComputed.{udp_of-Reads}
 use Rattle.ip_wire.specs.Ethernet as ethernet
@@ -16,6 +17,7 @@ use Rattle.ip_wire.specs.Ip.{dst_addr_of, src_addr_of}
 use Rattle.ip_wire.specs.Ipv4 as ipv4
 use Rattle.ip_wire.specs.Ipv6 as ipv6
 use Rattle.ip_wire.specs.Ipv6Fragment as fragment
+use Rattle.ip_wire.specs.Protocol.{number_of}
 use Rattle.ip_wire.specs.Tcp as tcp_bytes
 use Rattle.ip_wire.specs.TcpRepr as tcp
 use Rattle.ip_wire.specs.TcpRepr.{HasControl, TcpHeader, seq_of, tcp_of}
@@ -146,7 +148,7 @@ stores-ipv4 frame v w r =
         src_addr = refl;
         dst_addr = refl;
         values = record {
-          protocol = refl;
+          protocol = sym (ap number_of r.next_header ∙ protocol_number (field bytes 72 8));
           hop_limit = refl;
           ident = refl;
           flow_label = refl;
@@ -172,15 +174,14 @@ traffic-class : (bytes : List ℕ) → 4 * (field bytes 4 8 / 4) + field bytes 4
 traffic-class bytes = omega arith
 
 -- the values behind an IPv6 header, with and without a fragment header
-record IsBehind (f g : FrameFields) (w : Ipv6Repr) (bytes : List ℕ) (header : Option Ipv6FragmentRepr) : Type 0 where
+record IsBehind (g : FrameFields) (w : Ipv6Repr) (bytes : List ℕ) (header : Option Ipv6FragmentRepr) : Type 0 where
   values : StoresIpv6 g.ip w bytes header
   part : g.is_fragment ≡ option_map_or says_fragment header 0
-  rest : g ≡ record f { ip = g.ip; is_fragment = g.is_fragment }
 
-without-fragment : (f : FrameFields) (w : Ipv6Repr) (bytes : List ℕ) → f.ip ≡ ipv6_values no_ip bytes w → f.is_fragment ≡ 0 → IsBehind f f w bytes None
-without-fragment f w bytes is none = record {
+without-fragment : (f : FrameFields) (w : Ipv6Repr) (bytes : List ℕ) → f.ip ≡ ipv6_values no_ip bytes w → f.is_fragment ≡ 0 → field bytes 48 8 ≡ number_of w.next_header → IsBehind f w bytes None
+without-fragment f w bytes is none same = record {
   values = rw is (record {
-    protocol = refl;
+    protocol = same;
     hop_limit = refl;
     flow_label = refl;
     traffic_class = traffic-class bytes;
@@ -190,15 +191,14 @@ without-fragment f w bytes is none = record {
     dont_fragment = refl;
   });
   part = none;
-  rest = refl;
 }
 
-with-fragment : (b : Bool) (f : FrameFields) (w : Ipv6Repr) (bytes : List ℕ) (h : Ipv6FragmentRepr) → f.ip ≡ ipv6_values no_ip bytes w → f.is_fragment ≡ 0
-    → IsBehind f (if b then f else with_fragment_header f h) w bytes (if b then None else Some h)
-with-fragment true f w bytes h is none = without-fragment f w bytes is none
-with-fragment false f w bytes h is none = record {
+with-fragment : (b : Bool) (f : FrameFields) (w : Ipv6Repr) (bytes : List ℕ) (h : Ipv6FragmentRepr) → f.ip ≡ ipv6_values no_ip bytes w → f.is_fragment ≡ 0 → field bytes 48 8 ≡ number_of w.next_header
+    → IsBehind (if b then f else with_fragment_header f h) w bytes (if b then None else Some h)
+with-fragment true f w bytes h is none same = without-fragment f w bytes is none same
+with-fragment false f w bytes h is none same = record {
   values = rw is (record {
-    protocol = refl;
+    protocol = same;
     hop_limit = refl;
     flow_label = refl;
     traffic_class = traffic-class bytes;
@@ -208,13 +208,27 @@ with-fragment false f w bytes h is none = record {
     dont_fragment = refl;
   });
   part = refl;
-  rest = refl;
 }
 
-fragment-behind : (p : IpProtocol) (f : FrameFields) (w : Ipv6Repr) (bytes payload : List ℕ) → f.ip ≡ ipv6_values no_ip bytes w → f.is_fragment ≡ 0
-    → IsBehind f (with_fragment_by f p payload) w bytes (fragment_header_by p payload)
-fragment-behind protocol.Ipv6Frag f w bytes payload is none = with-fragment (nat_lt (length payload) 8) f w bytes (fragment.header_of (drop 2 payload)) is none
-fragment-behind p f w bytes payload is none = without-fragment f w bytes is none
+fragment-behind : (p : IpProtocol) (f : FrameFields) (w : Ipv6Repr) (bytes payload : List ℕ) → f.ip ≡ ipv6_values no_ip bytes w → f.is_fragment ≡ 0 → field bytes 48 8 ≡ number_of w.next_header
+    → IsBehind (with_fragment_by f p payload) w bytes (fragment_header_by p payload)
+fragment-behind protocol.Ipv6Frag f w bytes payload is none same = with-fragment (nat_lt (length payload) 8) f w bytes (fragment.header_of (drop 2 payload)) is none same
+fragment-behind p f w bytes payload is none same = without-fragment f w bytes is none same
+
+-- what a fragment header leaves as it is
+fragment-rest-by : (b : Bool) (f : FrameFields) (h : Ipv6FragmentRepr)
+    → (if b then f else with_fragment_header f h)
+    ≡ record f { ip = (if b then f else with_fragment_header f h).ip; is_fragment = (if b then f else with_fragment_header f h).is_fragment }
+fragment-rest-by true f h = refl
+fragment-rest-by false f h = refl
+
+fragment-rest : (p : IpProtocol) (f : FrameFields) (payload : List ℕ)
+    → with_fragment_by f p payload ≡ record f { ip = (with_fragment_by f p payload).ip; is_fragment = (with_fragment_by f p payload).is_fragment }
+fragment-rest protocol.Ipv6Frag f payload = fragment-rest-by (nat_lt (length payload) 8) f (fragment.header_of (drop 2 payload))
+fragment-rest p f payload = refl
+
+protocol-is : (bytes : List ℕ) (w : Ipv6Repr) → ipv6.Reads bytes w → field bytes 48 8 ≡ number_of w.next_header
+protocol-is bytes w r = sym (ap number_of r.next_header ∙ protocol_number (field bytes 48 8))
 
 stores-ipv6-with : (frame : List ℕ) (v : EthernetRepr) (w : Ipv6Repr) (x : Ip) (n : ℕ) → ipv6.Reads (drop 14 frame) w
     → StoresIpv6 x w (drop 14 frame) (fragment_header_by w.next_header (ipv6.payload_of (drop 14 frame)))
@@ -238,17 +252,18 @@ stores-ipv6-with frame v w x n r values part =
 pub stores-ipv6 : (frame : List ℕ) (v : EthernetRepr) (w : Ipv6Repr) → ipv6.Reads (drop 14 frame) w → StoresPacket (headed frame v (Ipv6 w)) frame v (Ipv6 w)
 stores-ipv6 frame v w r =
     let bytes = drop 14 frame in
-    let d = fragment-behind w.next_header (with_ipv6_header (linked frame v) bytes w) w bytes (ipv6.payload_of bytes) refl refl in
+    let d = fragment-behind w.next_header (with_ipv6_header (linked frame v) bytes w) w bytes (ipv6.payload_of bytes) refl refl (protocol-is bytes w r) in
     let g = headed frame v (Ipv6 w) in
-    subst (λ g. StoresPacket g frame v (Ipv6 w)) (sym d.rest) (stores-ipv6-with frame v w g.ip g.is_fragment r d.values d.part)
+    let rest = fragment-rest w.next_header (with_ipv6_header (linked frame v) bytes w) (ipv6.payload_of bytes) in
+    subst (λ g. StoresPacket g frame v (Ipv6 w)) (sym rest) (stores-ipv6-with frame v w g.ip g.is_fragment r d.values d.part)
 
--- what a fragment header leaves as it is
+-- no transport header is parsed yet, and none is rejected
 pub headed-plain : (frame : List ℕ) (v : EthernetRepr) (w : IpRepr) → ((headed frame v w).reason ≡ 0) × HasNoTransport (headed frame v w)
 headed-plain frame v (Ipv4 w) = (refl, record { transport = refl; offset = refl; src_port = refl; dst_port = refl; checksum = refl; segment = refl })
 headed-plain frame v (Ipv6 w) =
     let bytes = drop 14 frame in
-    let d = fragment-behind w.next_header (with_ipv6_header (linked frame v) bytes w) w bytes (ipv6.payload_of bytes) refl refl in
-    (ap (λ (g : FrameFields). g.reason) d.rest, subst HasNoTransport (sym d.rest) (record { transport = refl; offset = refl; src_port = refl; dst_port = refl; checksum = refl; segment = refl }))
+    let rest = fragment-rest w.next_header (with_ipv6_header (linked frame v) bytes w) (ipv6.payload_of bytes) in
+    (ap (λ (g : FrameFields). g.reason) rest, subst HasNoTransport (sym rest) (record { transport = refl; offset = refl; src_port = refl; dst_port = refl; checksum = refl; segment = refl }))
 
 -- ---- the transport header
 

@@ -13,7 +13,6 @@ use Rattle.ip_wire.specs.Ipv4.{ipv4_of}
 use Rattle.ip_wire.specs.Ipv6 as ipv6
 use Rattle.ip_wire.specs.Ipv6.{ipv6_of}
 use Rattle.ip_wire.specs.Ipv6Fragment as fragment
-use Rattle.ip_wire.specs.Protocol.{number_of}
 use Rattle.ip_wire.specs.Tcp as tcp
 use Rattle.ip_wire.specs.TcpRepr.{control_of, tcp_of}
 use Rattle.ip_wire.specs.Udp as udp
@@ -238,7 +237,7 @@ ipv4_values bytes v = record {
   ident = field bytes 32 16;
   flow_label = 0;
   fragment_offset = ipv4.fragment_offset bytes;
-  protocol = number_of v.next_header;
+  protocol = field bytes 72 8;
   hop_limit = v.hop_limit;
   dscp = field bytes 8 6;
   ecn = field bytes 14 2;
@@ -270,7 +269,7 @@ with_ipv4 f bytes =
 abbrev pub ipv6_values : Ip → List ℕ → Ipv6Repr → Ip
 ipv6_values f bytes v = record f {
   flow_label = field bytes 12 20;
-  protocol = number_of v.next_header;
+  protocol = field bytes 48 8;
   hop_limit = v.hop_limit;
   dscp = field bytes 4 8 / 4;
   ecn = field bytes 4 8 % 4;

@@ -8,7 +8,7 @@ ghost use Rattle.ip_wire.specs.Ipv6Fragment as fragment;
 ghost use Rattle.ip_wire.specs.Tcp as tcp;
 ghost use Rattle.ip_wire.specs.Udp as udp;
 ghost use Rattle.ip_wire_c.specs.Addresses.{addr_of, endpoint_of, no_endpoint};
-ghost use Rattle.ip_wire_c.specs.FrameFields.{behind, fields_of, nothing_of, rejected, with_arp, with_fragment_by, with_fragment_header, with_frame, with_ipv4, with_ipv4_header, with_ipv6, with_ipv6_header, with_link, with_message, with_payload, with_tcp, with_tcp_header, with_udp, with_udp_header};
+ghost use Rattle.ip_wire_c.specs.FrameFields.{behind, fields_of, nothing_of, rejected, with_arp, with_fragment_by, with_fragment_header, with_frame, with_ipv4, with_ipv4_header, with_ipv6, with_ipv6_header, with_link, with_message, with_tcp, with_tcp_header, with_transport_by, with_udp, with_udp_header};
 
 use crate::codes::{Network, Reason, Transport, Verdict};
 use crate::faults::{ARP_LEN, arp_fault, ipv4_fault, ipv6_fault, tcp_fault, udp_fault};
@@ -16,9 +16,8 @@ use crate::types::{Addr, Arp, Endpoint, Ethernet, FrameFields, Ip, Tcp};
 use crate::verdicts::{ipv4_verdict, tcp_verdict, udp_verdict};
 use ip_wire::{
     ArpPacket, ArpRepr, ETHERNET_HEADER_LEN, EthernetAddress, EthernetFrame, EthernetProtocol,
-    EthernetRepr, IPV6_HEADER_LEN, IpAddress, IpProtocol, IpRepr, Ipv4Packet, Ipv4Repr,
-    Ipv6FragmentHeader, Ipv6Packet, Ipv6Repr, TCP_HEADER_LEN, TcpPacket, TcpRepr, UDP_HEADER_LEN,
-    UdpPacket, UdpRepr,
+    EthernetRepr, IPV6_HEADER_LEN, IpAddress, IpProtocol, Ipv4Packet, Ipv4Repr, Ipv6FragmentHeader,
+    Ipv6Packet, Ipv6Repr, TCP_HEADER_LEN, TcpPacket, TcpRepr, UDP_HEADER_LEN, UdpPacket, UdpRepr,
 };
 use net_base::ChecksumCapabilities;
 
@@ -232,7 +231,14 @@ impl FrameFields {
             Ok(header) => {
                 self.store_ipv4_header(&packet, &header);
                 if !packet.is_fragment() {
-                    self.store_payload(&IpRepr::Ipv4(header), packet.payload());
+                    let src_addr = IpAddress::Ipv4(header.src_addr);
+                    let dst_addr = IpAddress::Ipv4(header.dst_addr);
+                    self.store_transport(
+                        header.next_header,
+                        &src_addr,
+                        &dst_addr,
+                        packet.payload(),
+                    );
                 }
             }
             Err(_) => self.reject(ipv4_fault(&packet)),
@@ -252,7 +258,7 @@ impl FrameFields {
         self.ip.ident = u32::from(packet.ident());
         self.ip.flow_label = 0;
         self.ip.fragment_offset = packet.frag_offset();
-        self.ip.protocol = header.next_header.number();
+        self.ip.protocol = packet.as_bytes()[9];
         self.ip.hop_limit = header.hop_limit;
         self.ip.dscp = packet.dscp();
         self.ip.ecn = packet.ecn();
@@ -275,7 +281,9 @@ impl FrameFields {
             Ok(header) => {
                 self.store_ipv6_header(&packet, &header);
                 self.store_fragment(header.next_header, packet.payload());
-                self.store_payload(&IpRepr::Ipv6(header), packet.payload());
+                let src_addr = IpAddress::Ipv6(header.src_addr);
+                let dst_addr = IpAddress::Ipv6(header.dst_addr);
+                self.store_transport(header.next_header, &src_addr, &dst_addr, packet.payload());
             }
             Err(_) => self.reject(ipv6_fault(&packet)),
         }
@@ -293,7 +301,7 @@ impl FrameFields {
         self.src = Endpoint::without_port(IpAddress::Ipv6(header.src_addr));
         self.dst = Endpoint::without_port(IpAddress::Ipv6(header.dst_addr));
         self.ip.flow_label = packet.flow_label();
-        self.ip.protocol = header.next_header.number();
+        self.ip.protocol = packet.as_bytes()[6];
         self.ip.hop_limit = header.hop_limit;
         self.ip.dscp = traffic_class / 4;
         self.ip.ecn = traffic_class % 4;
@@ -324,22 +332,30 @@ impl FrameFields {
         self.is_fragment = u8::from(more_fragments || offset != 0);
     }
 
-    // The payload of a packet with this header.
-    fn store_payload(&mut self, header: &IpRepr, bytes: &[u8])
+    // The payload of a packet between two addresses.
+    #[inline(always)]
+    fn store_transport(
+        &mut self,
+        protocol: IpProtocol,
+        src_addr: &IpAddress,
+        dst_addr: &IpAddress,
+        bytes: &[u8],
+    )
         requires offset { self.old.payload_offset ≤ 74 }
         requires len { self.old.payload_len ≡ length bytes.now }
-        ensures value { self.new ≡ with_payload self.old header.now bytes.now }
+        requires family { version_of src_addr.now ≡ version_of dst_addr.now }
+        ensures value { self.new ≡ with_transport_by self.old protocol src_addr.now dst_addr.now bytes.now }
         ensures within { self.new.payload_offset + self.new.payload_len ≤ self.old.payload_offset + length bytes.now }
     {
-        let (src_addr, dst_addr) = (header.src_addr(), header.dst_addr());
-        match header.next_header() {
-            IpProtocol::Udp => self.store_udp(&src_addr, &dst_addr, bytes),
-            IpProtocol::Tcp => self.store_tcp(&src_addr, &dst_addr, bytes),
+        match protocol {
+            IpProtocol::Udp => self.store_udp(src_addr, dst_addr, bytes),
+            IpProtocol::Tcp => self.store_tcp(src_addr, dst_addr, bytes),
             _ => {}
         }
     }
 
     // A UDP packet. A rejected header is stored too, if it is there as a whole.
+    #[inline(always)]
     fn store_udp(&mut self, src_addr: &IpAddress, dst_addr: &IpAddress, bytes: &[u8])
         requires offset { self.old.payload_offset ≤ 74 }
         requires len { self.old.payload_len ≡ length bytes.now }
@@ -360,6 +376,7 @@ impl FrameFields {
     }
 
     // The header of a UDP packet. If its length is wrong, no checksum can be computed.
+    #[inline(always)]
     fn store_udp_header(
         &mut self,
         src_addr: &IpAddress,
@@ -378,6 +395,7 @@ impl FrameFields {
     }
 
     // A TCP segment. A rejected header is stored too, if it is there as a whole.
+    #[inline(always)]
     fn store_tcp(&mut self, src_addr: &IpAddress, dst_addr: &IpAddress, bytes: &[u8])
         requires offset { self.old.payload_offset ≤ 74 }
         requires len { self.old.payload_len ≡ length bytes.now }
@@ -398,6 +416,7 @@ impl FrameFields {
     }
 
     // The header of a TCP segment.
+    #[inline(always)]
     fn store_tcp_header(
         &mut self,
         src_addr: &IpAddress,
