@@ -1,3 +1,4 @@
+mod FieldsOf
 mod StoredFrame
 mod StoredHeaders
 mod StoredParts

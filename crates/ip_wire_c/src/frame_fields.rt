@@ -1,7 +1,8 @@
 //! The values of a frame, stored in the struct of C.
 
-ghost use Rattle.std.specs.Prelude.{◌≡◌, ◌≤◌, ◌+◌, length};
+ghost use Rattle.std.specs.Prelude.{◌≡◌, ◌≤◌, ◌+◌, drop, length};
 ghost use Rattle.ip_wire.specs.IpAddress.{version_of};
+ghost use Rattle.ip_wire.specs.Ethernet as ethernet;
 ghost use Rattle.ip_wire.specs.Ipv4 as ipv4;
 ghost use Rattle.ip_wire.specs.Ipv6 as ipv6;
 ghost use Rattle.ip_wire.specs.Ipv6Fragment as fragment;
@@ -16,8 +17,8 @@ use crate::types::{Addr, Arp, Endpoint, Ethernet, FrameFields, Ip, Tcp};
 use crate::verdicts::{ipv4_verdict, tcp_verdict, udp_verdict};
 use ip_wire::{
     ArpPacket, ArpRepr, ETHERNET_HEADER_LEN, EthernetAddress, EthernetFrame, EthernetProtocol,
-    EthernetRepr, IPV6_HEADER_LEN, IpAddress, IpProtocol, Ipv4Packet, Ipv4Repr, Ipv6FragmentHeader,
-    Ipv6Packet, Ipv6Repr, TCP_HEADER_LEN, TcpPacket, TcpRepr, UDP_HEADER_LEN, UdpPacket, UdpRepr,
+    IPV6_HEADER_LEN, IpAddress, IpProtocol, Ipv4Packet, Ipv4Repr, Ipv6FragmentHeader, Ipv6Packet,
+    Ipv6Repr, TCP_HEADER_LEN, TcpPacket, TcpRepr, UDP_HEADER_LEN, UdpPacket, UdpRepr,
 };
 use net_base::ChecksumCapabilities;
 
@@ -80,8 +81,8 @@ impl FrameFields {
     {
         *self = FrameFields::nothing(bytes.len());
         let frame = EthernetFrame::new_unchecked(bytes);
-        if let Ok(header) = EthernetRepr::parse(&frame) {
-            self.store_frame(&header, frame.payload());
+        if frame.check_len().is_ok() {
+            self.store_frame(&frame);
         }
     }
 
@@ -150,32 +151,37 @@ impl FrameFields {
         self.reason = reason.code();
     }
 
-    // An Ethernet header and its payload.
-    fn store_frame(&mut self, header: &EthernetRepr, payload: &[u8])
+    // A frame with a whole header.
+    fn store_frame(&mut self, frame: &EthernetFrame<'_>)
         requires offset { self.old.payload_offset ≡ 0 }
-        ensures value { self.new ≡ with_frame self.old header.now payload.now }
-        ensures within { self.new.payload_offset + self.new.payload_len ≤ 14 + length payload.now }
+        requires header { 14 ≤ length (ethernet.frame_bytes frame.now) }
+        ensures value { let bytes = ethernet.frame_bytes frame.now in
+            self.new ≡ with_frame self.old (ethernet.header_of bytes) (drop 14 bytes) }
+        ensures within { self.new.payload_offset + self.new.payload_len ≤ length (ethernet.frame_bytes frame.now) }
     {
-        self.store_link(header, payload.len());
-        match header.ethertype {
-            EthernetProtocol::Arp => self.store_arp(payload),
-            EthernetProtocol::Ipv4 => self.store_ipv4(payload),
-            EthernetProtocol::Ipv6 => self.store_ipv6(payload),
+        self.store_link(frame);
+        match frame.ethertype() {
+            EthernetProtocol::Arp => self.store_arp(frame.payload()),
+            EthernetProtocol::Ipv4 => self.store_ipv4(frame.payload()),
+            EthernetProtocol::Ipv6 => self.store_ipv6(frame.payload()),
             EthernetProtocol::Unknown(_) => {}
         }
     }
 
     // An Ethernet header.
-    fn store_link(&mut self, header: &EthernetRepr, payload_len: usize)
-        requires { self.old.payload_offset ≡ 0 }
-        ensures { self.new ≡ with_link self.old header.now payload_len }
+    fn store_link(&mut self, frame: &EthernetFrame<'_>)
+        requires offset { self.old.payload_offset ≡ 0 }
+        requires header { 14 ≤ length (ethernet.frame_bytes frame.now) }
+        ensures { let bytes = ethernet.frame_bytes frame.now in
+            self.new ≡ with_link self.old (ethernet.header_of bytes) (length (drop 14 bytes)) }
     {
-        self.step_behind(ETHERNET_HEADER_LEN, payload_len);
-        let (EthernetAddress(src), EthernetAddress(dst)) = (header.src_addr, header.dst_addr);
+        let EthernetAddress(src) = frame.src_addr();
         self.ethernet.src = src;
+        let EthernetAddress(dst) = frame.dst_addr();
         self.ethernet.dst = dst;
-        self.ethernet.ethertype = header.ethertype.number();
+        self.ethernet.ethertype = frame.ethertype().number();
         self.reason = Reason::Read.code();
+        self.step_behind(ETHERNET_HEADER_LEN, frame.payload().len());
     }
 
     // An ARP packet.

@@ -10,14 +10,3 @@ mod results;
 mod tcp_options;
 mod types;
 mod verdicts;
-
-#[cfg(test)]
-mod tests {
-    use crate::read_calls::lk_version;
-
-    #[test]
-    fn version() {
-        let n = lk_version();
-        prove!(n == 256);
-    }
-}

@@ -1,20 +1,22 @@
-use Rattle.std.proofs.Common.{◌≡◌, ◌∙◌, ap, refl, None, Some, drop, length}
-use Rattle.ip_wire.specs.Ethernet.{ethernet_of}
+use Rattle.std.proofs.Common.{◌≡◌, ◌∙◌, ◌≤◌, ◌<◌, ap, sym, rules, drop, length, arith}
+use Rattle.ip_wire.specs.Ethernet.{frame_bytes, header_of}
 use Rattle.ip_wire_c.specs.FrameFields.{fields_of, nothing_of, with_frame}
+use Rattle.ip_wire_c.proofs.FieldsOf.{fields_of_long, fields_of_short}
 use Rattle.ip_wire_c.proofs.types.FrameFields.read.Goals as goal
 
-pub returns-in-Ok-clause-value : goal.returns-in-Ok-clause-value
-unfolding fields_of
-returns-in-Ok-clause-value c =
+pub returns-then-is_ok-clause-value : goal.returns-then-is_ok-clause-value
+returns-then-is_ok-clause-value c =
     let frame = c.args.bytes.now in
-    let v = c.in-Ok.header in
-    let read : ethernet_of frame ≡ Some v = rw c.new_unchecked-frame.ensures at c.in-Ok.ensures.value in
-    let payload : c.payload.result.now ≡ drop 14 frame = c.payload.ensures ∙ ap (λ slice. drop 14 slice.now) c.new_unchecked-frame.ensures in
-    let said : with_frame (nothing_of (length frame)) v (drop 14 frame) ≡ fields_of frame = rw read refl in
-    c.store_frame.ensures.value ∙ ap (λ f. with_frame f v c.payload.result.now) c.nothing.ensures ∙ ap (with_frame (nothing_of (length frame)) v) payload ∙ said
+    let viewed : 14 ≤ length (frame_bytes c.new_unchecked-frame.result) = search rules in
+    let whole : 14 ≤ length frame = rw c.new_unchecked-frame.ensures at viewed in
+    let bytes = frame_bytes c.new_unchecked-frame.result in
+    c.store_frame.ensures.value ∙ ap (λ f. with_frame f (header_of bytes) (drop 14 bytes)) c.nothing.ensures
+    ∙ ap (λ slice. with_frame (nothing_of (length frame)) (header_of slice.now) (drop 14 slice.now)) c.new_unchecked-frame.ensures
+    ∙ sym (fields_of_long frame whole)
 
-pub returns-in_default-clause-value : goal.returns-in_default-clause-value
-unfolding fields_of
-returns-in_default-clause-value c =
-    let unread : ethernet_of c.args.bytes.now ≡ None = rw c.new_unchecked-frame.ensures at c.in_default.ensures.value in
-    rw unread c.nothing.ensures
+pub returns-else-is_ok-clause-value : goal.returns-else-is_ok-clause-value
+returns-else-is_ok-clause-value c =
+    let frame = c.args.bytes.now in
+    let few : length (frame_bytes c.new_unchecked-frame.result) < 14 = search rules in
+    let short : length frame < 14 = rw c.new_unchecked-frame.ensures at few in
+    c.nothing.ensures ∙ sym (fields_of_short frame short)
