@@ -31,7 +31,7 @@ use Rattle.ip_wire.specs.declared.Ipv6Repr.{Ipv6Repr}
 use Rattle.ip_wire.specs.declared.UdpRepr.{UdpRepr}
 use Rattle.ip_wire_c.proofs.StoredHeaders.{fields_of-linked, headed, headed-plain, linked, other-chosen, stores-ipv4, stores-ipv6, stores-transport, stores-value, transported, with_transport_by-read}
 use Rattle.ip_wire_c.specs.Codes.{verdict_code}
-use Rattle.ip_wire_c.specs.FrameFields.{fields_of, ipv4_verdict, tcp_verdict, udp_verdict, with_carried, with_fragment_by, with_ipv4_header, with_ipv6_header, with_message, with_payload}
+use Rattle.ip_wire_c.specs.FrameFields.{fields_of, udp_verdict, with_carried, with_fragment_by, with_ipv4_header, with_ipv6_header, with_message, with_payload}
 use Rattle.ip_wire_c.specs.declared.codes.Verdict.{Verdict}
 use Rattle.ip_wire_c.specs.declared.codes.Verdict.TheVariants as verdict
 use Rattle.ip_wire.specs.Field.{field}

@@ -1,5 +1,5 @@
 -- The struct of a frame stores the values of each header.
-use Rattle.std.proofs.Common.{ℕ, ◌≡◌, ◌≢◌, ◌∙◌, ◌↔◌, ◌≤◌, ◌<◌, ◌+◌, ◌-◌, ◌*◌, ◌/◌, ◌%◌, ◌==◌, ◌||◌, nat_lt, not, if◌then◌else◌, Bool, true, false, IsSome, IfSome, List, Option, Some, None, drop, take, length, slice_range, refl, sym, ap, subst, arith}
+use Rattle.std.proofs.Common.{ℕ, ◌≡◌, ◌≢◌, ◌∙◌, ◌↔◌, ◌≤◌, ◌<◌, ◌+◌, ◌-◌, ◌*◌, ◌/◌, ◌%◌, ◌==◌, nat_lt, if◌then◌else◌, Bool, true, false, IsSome, IfSome, List, Option, Some, None, drop, take, length, slice_range, refl, sym, ap, subst, arith}
 use Rattle.std.specs.Option.{option_map_or}
 use Rattle.std.proofs.lemmas.Bool.{eqb-true}
 use Rattle.std.proofs.lemmas.Bool.Decides.{nat_tests}
@@ -37,9 +37,8 @@ use Rattle.ip_wire.specs.declared.Ipv6Repr.{Ipv6Repr}
 use Rattle.ip_wire.specs.declared.TcpControl.{TcpControl}
 use Rattle.ip_wire.specs.declared.TcpControl.TheVariants as control
 use Rattle.ip_wire.specs.declared.UdpRepr.{UdpRepr}
-use Rattle.ip_wire_c.specs.Codes.{reason_code}
 use Rattle.ip_wire_c.specs.FrameFields.{behind, fields_of, ipv6_values, no_ip, nothing_of, with_carried, with_fragment_by, with_fragment_header, with_ipv4_header, with_ipv6_header, with_link, with_message, with_tcp_header, with_transport_by, with_udp_header}
-use Rattle.ip_wire_c.specs.Stored.{HasFlag, HasNoTransport, Stores, StoresHeader, StoresIpv6, StoresLink, StoresPacket, fragment_header_by, is_part, says_fragment, unchecked}
+use Rattle.ip_wire_c.specs.Stored.{HasFlag, HasNoTransport, Stores, StoresHeader, StoresIpv6, StoresPacket, fragment_header_by, is_part, says_fragment, unchecked}
 use Rattle.ip_wire_c.specs.declared.types.FrameFields.{FrameFields}
 use Rattle.ip_wire_c.specs.declared.types.Ip.{Ip}
 

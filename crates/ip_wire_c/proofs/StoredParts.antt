@@ -1,5 +1,5 @@
 -- The struct of a frame that is not parsed whole stores the values of the headers before.
-use Rattle.std.proofs.Common.{ℕ, ◌≡◌, ◌≢◌, ◌≤◌, ◌<◌, ◌⊎◌, inl, inr, ◌∙◌, ◌+◌, ◌==◌, ◌||◌, not, nat_lt, is_none, if◌then◌else◌, Bool, true, false, List, Option, Some, None, drop, length, refl, sym, ap, subst, arith}
+use Rattle.std.proofs.Common.{ℕ, ◌≡◌, ◌≢◌, ◌≤◌, ◌<◌, ◌⊎◌, inl, inr, ◌∙◌, ◌==◌, ◌||◌, not, nat_lt, is_none, if◌then◌else◌, Bool, true, false, List, Option, Some, None, drop, length, refl, sym, ap, subst, arith}
 use Rattle.std.proofs.lemmas.Bool.Decides.{nat_tests}
 use Rattle.std.specs.Option.{option_map_or}
 use Rattle.ip_wire.proofs.ArpComputed.{arp_of-Reads}

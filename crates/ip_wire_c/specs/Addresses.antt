@@ -1,5 +1,5 @@
 -- Addresses as the struct of both versions.
-use Rattle.std.specs.Prelude.{ℕ, ◌++◌, List, replicate}
+use Rattle.std.specs.Prelude.{ℕ, ◌++◌, replicate}
 use Rattle.ip_wire.specs.declared.IpAddress.{IpAddress}
 use Rattle.ip_wire.specs.declared.IpAddress.TheVariants.{Ipv4, Ipv6}
 use Rattle.ip_wire_c.specs.declared.types.Addr.{Addr}

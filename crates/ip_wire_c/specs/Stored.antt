@@ -18,7 +18,6 @@ use Rattle.ip_wire.specs.declared.ArpRepr.TheVariants.{EthernetIpv4}
 use Rattle.ip_wire.specs.declared.EthernetProtocol.{EthernetProtocol}
 use Rattle.ip_wire.specs.declared.EthernetProtocol.TheVariants as ethertype
 use Rattle.ip_wire.specs.declared.EthernetRepr.{EthernetRepr}
-use Rattle.ip_wire.specs.declared.IpAddress.{IpAddress}
 use Rattle.ip_wire.specs.declared.IpAddress.TheVariants as address
 use Rattle.ip_wire.specs.declared.IpProtocol.{IpProtocol}
 use Rattle.ip_wire.specs.declared.IpProtocol.TheVariants as protocol

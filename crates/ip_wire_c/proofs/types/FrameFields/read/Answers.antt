@@ -1,6 +1,6 @@
-use Rattle.std.proofs.Common.{◌≡◌, ◌∙◌, ◌≤◌, ◌<◌, ap, sym, rules, drop, length, arith}
+use Rattle.std.proofs.Common.{◌∙◌, ◌≤◌, ◌<◌, ap, sym, rules, drop, length}
 use Rattle.ip_wire.specs.Ethernet.{frame_bytes, header_of}
-use Rattle.ip_wire_c.specs.FrameFields.{fields_of, nothing_of, with_frame}
+use Rattle.ip_wire_c.specs.FrameFields.{nothing_of, with_frame}
 use Rattle.ip_wire_c.proofs.FieldsOf.{fields_of_long, fields_of_short}
 use Rattle.ip_wire_c.proofs.types.FrameFields.read.Goals as goal
 
