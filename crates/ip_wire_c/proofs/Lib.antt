@@ -1,4 +1,4 @@
-mod Filled
+mod FieldsOf
 mod StoredFrame
 mod StoredHeaders
 mod StoredParts

@@ -1,347 +1,448 @@
-//! What is read of a frame, as C takes it.
+//! The values of a frame, stored in the struct of C.
 
-ghost use Rattle.std.specs.Prelude.{◌≡◌, ◌==◌, ◌≤◌, ◌+◌, length, take};
-ghost use Rattle.ip_wire.specs.Field.{field};
+ghost use Rattle.std.specs.Prelude.{◌≡◌, ◌≤◌, ◌+◌, drop, length};
 ghost use Rattle.ip_wire.specs.IpAddress.{version_of};
+ghost use Rattle.ip_wire.specs.Ethernet as ethernet;
 ghost use Rattle.ip_wire.specs.Ipv4 as ipv4;
+ghost use Rattle.ip_wire.specs.Ipv6 as ipv6;
+ghost use Rattle.ip_wire.specs.Ipv6Fragment as fragment;
 ghost use Rattle.ip_wire.specs.Tcp as tcp;
 ghost use Rattle.ip_wire.specs.Udp as udp;
-ghost use Rattle.ip_wire.specs.WordSum.{sum_of_bytes};
-ghost use Rattle.ip_wire.specs.Ip.{dst_addr_of, src_addr_of};
-ghost use Rattle.ip_wire_c.specs.FrameFields.{behind, fields_of, flag, nothing_of, refused, with_arp, with_frame, with_ipv4, with_ipv6, with_message, with_payload, with_tcp, with_udp};
+ghost use Rattle.ip_wire_c.specs.Addresses.{addr_of, endpoint_of, no_endpoint};
+ghost use Rattle.ip_wire_c.specs.FrameFields.{behind, fields_of, nothing_of, rejected, with_arp, with_fragment_by, with_fragment_header, with_frame, with_ipv4, with_ipv4_header, with_ipv6, with_ipv6_header, with_link, with_message, with_tcp, with_tcp_header, with_transport_by, with_udp, with_udp_header};
 
-use byteorder::{ByteOrder, NetworkEndian};
+use crate::codes::{Network, Reason, Transport, Verdict};
+use crate::faults::{ARP_LEN, arp_fault, ipv4_fault, ipv6_fault, tcp_fault, udp_fault};
+use crate::types::{Addr, Arp, Endpoint, Ethernet, FrameFields, Ip, Tcp};
+use crate::verdicts::{ipv4_verdict, tcp_verdict, udp_verdict};
 use ip_wire::{
-    ArpPacket, ArpRepr, ETHERNET_HEADER_LEN, EthernetFrame, EthernetProtocol, EthernetRepr,
-    IPV6_HEADER_LEN, IpAddress, IpProtocol, IpRepr, Ipv4Packet, Ipv4Repr, Ipv6Packet, Ipv6Repr,
-    TcpPacket, TcpRepr, UDP_HEADER_LEN, UdpPacket, UdpRepr,
+    ArpPacket, ArpRepr, ETHERNET_HEADER_LEN, EthernetAddress, EthernetFrame, EthernetProtocol,
+    IPV6_HEADER_LEN, IpAddress, IpProtocol, Ipv4Packet, Ipv4Repr, Ipv6FragmentHeader, Ipv6Packet,
+    Ipv6Repr, TCP_HEADER_LEN, TcpPacket, TcpRepr, UDP_HEADER_LEN, UdpPacket, UdpRepr,
 };
 use net_base::ChecksumCapabilities;
 
-// A header is refused; every header is read.
-const REFUSED: u8 = 0;
+// The length of an IPv6 fragment header, in octets (RFC 8200, section 4.5).
+const FRAGMENT_HEADER_LEN: usize = 8;
 
-const READ: u8 = 1;
-
-// What a frame carries, and what a packet does.
-const ARP: u8 = 1;
-
-const IPV4: u8 = 2;
-
-const IPV6: u8 = 3;
-
-const UDP: u8 = 1;
-
-const TCP: u8 = 2;
-
-const ARP_LEN: usize = 28;
-
-/// What is read of a frame: `struct lk_frame` of `c/ip_wire.h`. The fields of a layer that is not there
-/// are 0.
-#[repr(C)]
-#[derive(Clone, Copy)]
-pub struct FrameFields {
-    /// Where the payload of the last layer begins in the frame.
-    pub payload_offset: usize,
-    pub payload_len: usize,
-    pub src_ipv4: u32,
-    pub dst_ipv4: u32,
-    pub seq_number: u32,
-    pub ack_number: u32,
-    pub ethertype: u16,
-    pub arp_operation: u16,
-    pub src_port: u16,
-    pub dst_port: u16,
-    pub window_len: u16,
-    pub src_ethernet: [u8; 6],
-    pub dst_ethernet: [u8; 6],
-    pub src_ipv6: [u8; 16],
-    pub dst_ipv6: [u8; 16],
-    pub status: u8,
-    pub network: u8,
-    pub transport: u8,
-    pub protocol: u8,
-    pub hop_limit: u8,
-    pub is_fragment: u8,
-    pub tcp_flags: u8,
-    pub ipv4_checksum_holds: u8,
-    pub transport_checksum_holds: u8,
+impl Addr {
+    /// The struct of an address.
+    #[inline(always)]
+    pub fn of(address: IpAddress) -> Addr
+        ensures { result ≡ addr_of address }
+    {
+        match address {
+            IpAddress::Ipv4(address) => {
+                let [a, b, c, d] = address.octets();
+                Addr {
+                    octets: [a, b, c, d, 0, 0, 0, 0, 0, 0, 0, 0, 0, 0, 0, 0],
+                    version: 4,
+                }
+            }
+            IpAddress::Ipv6(address) => Addr {
+                octets: address.octets(),
+                version: 6,
+            },
+        }
+    }
 }
 
-impl FrameFields {
-    /// What is read of a frame, up to a header that is refused.
-    pub fn of(bytes: &[u8]) -> FrameFields
-        ensures value { result ≡ fields_of bytes.now }
-        ensures within { result.payload_offset + result.payload_len ≤ length bytes.now }
+impl Endpoint {
+    // An address of a header without ports.
+    #[inline(always)]
+    fn without_port(address: IpAddress) -> Endpoint
+        ensures { result ≡ endpoint_of address 0 }
     {
-        let frame = EthernetFrame::new_unchecked(bytes);
-        match EthernetRepr::parse(&frame) {
-            Ok(header) => FrameFields::nothing(bytes.len()).with_frame(&header, frame.payload()),
-            Err(_) => FrameFields::nothing(bytes.len()),
+        Endpoint {
+            addr: Addr::of(address),
+            port: 0,
         }
     }
 
-    // Nothing is read of so many bytes.
+    // No address.
+    fn none() -> Endpoint
+        ensures { result ≡ no_endpoint }
+    {
+        Endpoint {
+            addr: Addr {
+                octets: [0; 16],
+                version: 0,
+            },
+            port: 0,
+        }
+    }
+}
+
+impl FrameFields {
+    /// Stores the values of a frame, up to a header that is rejected.
+    pub fn read(&mut self, bytes: &[u8])
+        ensures value { self.new ≡ fields_of bytes.now }
+        ensures within { self.new.payload_offset + self.new.payload_len ≤ length bytes.now }
+    {
+        *self = FrameFields::nothing(bytes.len());
+        let frame = EthernetFrame::new_unchecked(bytes);
+        if frame.check_len().is_ok() {
+            self.store_frame(&frame);
+        }
+    }
+
+    // The fields of bytes that are too few for an Ethernet header.
     fn nothing(len: usize) -> FrameFields
         ensures { result ≡ nothing_of len }
     {
         FrameFields {
+            network_offset: 0,
+            transport_offset: 0,
             payload_offset: 0,
             payload_len: len,
-            src_ipv4: 0,
-            dst_ipv4: 0,
-            seq_number: 0,
-            ack_number: 0,
-            ethertype: 0,
-            arp_operation: 0,
-            src_port: 0,
-            dst_port: 0,
-            window_len: 0,
-            src_ethernet: [0; 6],
-            dst_ethernet: [0; 6],
-            src_ipv6: [0; 16],
-            dst_ipv6: [0; 16],
-            status: REFUSED,
-            network: 0,
-            transport: 0,
-            protocol: 0,
-            hop_limit: 0,
+            src: Endpoint::none(),
+            dst: Endpoint::none(),
+            ip: Ip {
+                ident: 0,
+                flow_label: 0,
+                fragment_offset: 0,
+                protocol: 0,
+                hop_limit: 0,
+                dscp: 0,
+                ecn: 0,
+                more_fragments: 0,
+                dont_fragment: 0,
+            },
+            tcp: Tcp {
+                seq_number: 0,
+                ack_number: 0,
+                window_len: 0,
+                urgent_at: 0,
+                flags: 0,
+                header_len: 0,
+            },
+            ethernet: Ethernet {
+                src: [0; 6],
+                dst: [0; 6],
+                ethertype: 0,
+            },
+            arp: Arp {
+                operation: 0,
+                src_hardware: [0; 6],
+                dst_hardware: [0; 6],
+            },
+            reason: Reason::TooShort.code(),
+            network: Network::None.code(),
+            transport: Transport::None.code(),
             is_fragment: 0,
-            tcp_flags: 0,
-            ipv4_checksum_holds: 0,
-            transport_checksum_holds: 0,
+            ipv4_checksum: Verdict::None.code(),
+            transport_checksum: Verdict::None.code(),
         }
     }
 
-    // A header of so many octets is read, and a payload of this length follows it.
-    fn behind(self, header_len: usize, payload_len: usize) -> FrameFields
-        requires { self.payload_offset + header_len ≤ 200 }
-        ensures { result ≡ behind self header_len payload_len }
+    // The payload begins behind a header of this length.
+    fn step_behind(&mut self, header_len: usize, payload_len: usize)
+        requires { self.old.payload_offset + header_len ≤ 200 }
+        ensures { self.new ≡ behind self.old header_len payload_len }
     {
-        FrameFields {
-            payload_offset: self.payload_offset + header_len,
-            payload_len,
-            status: READ,
-            ..self
-        }
+        self.payload_offset += header_len;
+        self.payload_len = payload_len;
     }
 
-    // The next header is refused.
-    fn refused(self) -> FrameFields
-        ensures { result ≡ refused self }
+    // The next header is rejected.
+    fn reject(&mut self, reason: Reason)
+        ensures { self.new ≡ rejected self.old reason }
     {
-        FrameFields {
-            status: REFUSED,
-            ..self
-        }
+        self.reason = reason.code();
     }
 
-    // An Ethernet header, and what follows it.
-    fn with_frame(self, header: &EthernetRepr, payload: &[u8]) -> FrameFields
-        requires offset { self.payload_offset ≡ 0 }
-        ensures value { result ≡ with_frame self header.now payload.now }
-        ensures within { result.payload_offset + result.payload_len ≤ 14 + length payload.now }
+    // A frame with a whole header.
+    fn store_frame(&mut self, frame: &EthernetFrame<'_>)
+        requires offset { self.old.payload_offset ≡ 0 }
+        requires header { 14 ≤ length (ethernet.frame_bytes frame.now) }
+        ensures value { let bytes = ethernet.frame_bytes frame.now in
+            self.new ≡ with_frame self.old (ethernet.header_of bytes) (drop 14 bytes) }
+        ensures within { self.new.payload_offset + self.new.payload_len ≤ length (ethernet.frame_bytes frame.now) }
     {
-        let fields = FrameFields {
-            src_ethernet: header.src_addr.0,
-            dst_ethernet: header.dst_addr.0,
-            ethertype: header.ethertype.number(),
-            ..self.behind(ETHERNET_HEADER_LEN, payload.len())
-        };
-        match header.ethertype {
-            EthernetProtocol::Arp => fields.with_arp(payload),
-            EthernetProtocol::Ipv4 => fields.with_ipv4(payload),
-            EthernetProtocol::Ipv6 => fields.with_ipv6(payload),
-            EthernetProtocol::Unknown(_) => fields,
+        self.store_link(frame);
+        match frame.ethertype() {
+            EthernetProtocol::Arp => self.store_arp(frame.payload()),
+            EthernetProtocol::Ipv4 => self.store_ipv4(frame.payload()),
+            EthernetProtocol::Ipv6 => self.store_ipv6(frame.payload()),
+            EthernetProtocol::Unknown(_) => {}
         }
     }
 
-    // An ARP packet, behind which there is nothing but padding.
-    fn with_arp(self, bytes: &[u8]) -> FrameFields
-        requires offset { self.payload_offset ≤ 14 }
-        requires len { self.payload_len ≡ length bytes.now }
-        ensures value { result ≡ with_arp self bytes.now }
-        ensures within { result.payload_offset + result.payload_len ≤ self.payload_offset + length bytes.now }
+    // An Ethernet header.
+    fn store_link(&mut self, frame: &EthernetFrame<'_>)
+        requires offset { self.old.payload_offset ≡ 0 }
+        requires header { 14 ≤ length (ethernet.frame_bytes frame.now) }
+        ensures { let bytes = ethernet.frame_bytes frame.now in
+            self.new ≡ with_link self.old (ethernet.header_of bytes) (length (drop 14 bytes)) }
+    {
+        let EthernetAddress(src) = frame.src_addr();
+        self.ethernet.src = src;
+        let EthernetAddress(dst) = frame.dst_addr();
+        self.ethernet.dst = dst;
+        self.ethernet.ethertype = frame.ethertype().number();
+        self.reason = Reason::Read.code();
+        self.step_behind(ETHERNET_HEADER_LEN, frame.payload().len());
+    }
+
+    // An ARP packet.
+    fn store_arp(&mut self, bytes: &[u8])
+        requires offset { self.old.payload_offset ≤ 14 }
+        requires len { self.old.payload_len ≡ length bytes.now }
+        ensures value { self.new ≡ with_arp self.old bytes.now }
+        ensures within { self.new.payload_offset + self.new.payload_len ≤ self.old.payload_offset + length bytes.now }
     {
         match ArpRepr::parse(&ArpPacket::new_unchecked(bytes)) {
-            Ok(_) => self.with_message(bytes),
-            Err(_) => self.refused(),
+            Ok(message) => self.store_message(&message),
+            Err(_) => self.reject(arp_fault(bytes)),
         }
     }
 
-    // The fields of an ARP packet of Ethernet and IPv4.
-    fn with_message(self, bytes: &[u8]) -> FrameFields
-        requires offset { self.payload_offset ≤ 14 }
-        requires whole { 28 ≤ length bytes.now }
-        ensures value { result ≡ with_message self bytes.now }
-        ensures within { result.payload_offset + result.payload_len ≤ self.payload_offset + length bytes.now }
+    // The values of an ARP packet, behind which there is only padding.
+    fn store_message(&mut self, message: &ArpRepr)
+        requires { self.old.payload_offset ≤ 14 }
+        ensures value { self.new ≡ with_message self.old message.now }
+        ensures offset { self.new.payload_offset ≡ self.old.payload_offset + 28 }
+        ensures len { self.new.payload_len ≡ 0 }
     {
-        FrameFields {
-            network: ARP,
-            arp_operation: NetworkEndian::read_u16(&bytes[6..8]),
-            src_ipv4: NetworkEndian::read_u32(&bytes[14..18]),
-            dst_ipv4: NetworkEndian::read_u32(&bytes[24..28]),
-            ..self.behind(ARP_LEN, 0)
-        }
+        let ArpRepr::EthernetIpv4 {
+            operation,
+            source_hardware_addr,
+            source_protocol_addr,
+            target_hardware_addr,
+            target_protocol_addr,
+        } = *message;
+        self.network = Network::Arp.code();
+        self.network_offset = self.payload_offset;
+        self.src = Endpoint::without_port(IpAddress::Ipv4(source_protocol_addr));
+        self.dst = Endpoint::without_port(IpAddress::Ipv4(target_protocol_addr));
+        let (EthernetAddress(src_hardware), EthernetAddress(dst_hardware)) = (
+            source_hardware_addr,
+            target_hardware_addr,
+        );
+        self.arp.operation = operation.number();
+        self.arp.src_hardware = src_hardware;
+        self.arp.dst_hardware = dst_hardware;
+        self.step_behind(ARP_LEN, 0);
     }
 
-    // An IPv4 packet. What a fragment carries is not looked into.
-    fn with_ipv4(self, bytes: &[u8]) -> FrameFields
-        requires offset { self.payload_offset ≤ 14 }
-        requires len { self.payload_len ≡ length bytes.now }
-        ensures value { result ≡ with_ipv4 self bytes.now }
-        ensures within { result.payload_offset + result.payload_len ≤ self.payload_offset + length bytes.now }
+    // An IPv4 packet. The payload of a fragment is not parsed.
+    fn store_ipv4(&mut self, bytes: &[u8])
+        requires offset { self.old.payload_offset ≤ 14 }
+        requires len { self.old.payload_len ≡ length bytes.now }
+        ensures value { self.new ≡ with_ipv4 self.old bytes.now }
+        ensures within { self.new.payload_offset + self.new.payload_len ≤ self.old.payload_offset + length bytes.now }
     {
         let packet = Ipv4Packet::new_unchecked(bytes);
         match Ipv4Repr::parse(&packet, &ChecksumCapabilities::ignored()) {
             Ok(header) => {
-                let payload = packet.payload();
-                let fields = FrameFields {
-                    network: IPV4,
-                    src_ipv4: u32::from_be_bytes(header.src_addr.octets()),
-                    dst_ipv4: u32::from_be_bytes(header.dst_addr.octets()),
-                    protocol: header.next_header.number(),
-                    hop_limit: header.hop_limit,
-                    is_fragment: u8::from(packet.is_fragment()),
-                    ipv4_checksum_holds: ipv4_checksum_holds(&packet),
-                    ..self.behind(usize::from(packet.header_len()), payload.len())
-                };
-                if packet.is_fragment() {
-                    fields
-                } else {
-                    fields.with_payload(&IpRepr::Ipv4(header), payload)
+                self.store_ipv4_header(&packet, &header);
+                if !packet.is_fragment() {
+                    let src_addr = IpAddress::Ipv4(header.src_addr);
+                    let dst_addr = IpAddress::Ipv4(header.dst_addr);
+                    self.store_transport(
+                        header.next_header,
+                        &src_addr,
+                        &dst_addr,
+                        packet.payload(),
+                    );
                 }
             }
-            Err(_) => self.refused(),
+            Err(_) => self.reject(ipv4_fault(&packet)),
         }
     }
 
-    // An IPv6 packet.
-    fn with_ipv6(self, bytes: &[u8]) -> FrameFields
-        requires offset { self.payload_offset ≤ 14 }
-        requires len { self.payload_len ≡ length bytes.now }
-        ensures value { result ≡ with_ipv6 self bytes.now }
-        ensures within { result.payload_offset + result.payload_len ≤ self.payload_offset + length bytes.now }
+    // The header of an IPv4 packet.
+    fn store_ipv4_header(&mut self, packet: &Ipv4Packet<'_>, header: &Ipv4Repr)
+        requires offset { self.old.payload_offset ≤ 14 }
+        requires lengths { ipv4.HasLengths (ipv4.packet_bytes packet.now) }
+        ensures { self.new ≡ with_ipv4_header self.old (ipv4.packet_bytes packet.now) header.now }
+    {
+        self.network = Network::Ipv4.code();
+        self.network_offset = self.payload_offset;
+        self.src = Endpoint::without_port(IpAddress::Ipv4(header.src_addr));
+        self.dst = Endpoint::without_port(IpAddress::Ipv4(header.dst_addr));
+        self.ip.ident = u32::from(packet.ident());
+        self.ip.flow_label = 0;
+        self.ip.fragment_offset = packet.frag_offset();
+        self.ip.protocol = packet.as_bytes()[9];
+        self.ip.hop_limit = header.hop_limit;
+        self.ip.dscp = packet.dscp();
+        self.ip.ecn = packet.ecn();
+        self.ip.more_fragments = u8::from(packet.more_frags());
+        self.ip.dont_fragment = u8::from(packet.dont_frag());
+        self.is_fragment = u8::from(packet.is_fragment());
+        self.ipv4_checksum = ipv4_verdict(packet).code();
+        self.step_behind(usize::from(packet.header_len()), packet.payload().len());
+    }
+
+    // An IPv6 packet. The payload behind a fragment header is not parsed.
+    fn store_ipv6(&mut self, bytes: &[u8])
+        requires offset { self.old.payload_offset ≤ 14 }
+        requires len { self.old.payload_len ≡ length bytes.now }
+        ensures value { self.new ≡ with_ipv6 self.old bytes.now }
+        ensures within { self.new.payload_offset + self.new.payload_len ≤ self.old.payload_offset + length bytes.now }
     {
         let packet = Ipv6Packet::new_unchecked(bytes);
         match Ipv6Repr::parse(&packet) {
             Ok(header) => {
-                let payload = packet.payload();
-                let fields = FrameFields {
-                    network: IPV6,
-                    src_ipv6: header.src_addr.octets(),
-                    dst_ipv6: header.dst_addr.octets(),
-                    protocol: header.next_header.number(),
-                    hop_limit: header.hop_limit,
-                    ..self.behind(IPV6_HEADER_LEN, payload.len())
-                };
-                fields.with_payload(&IpRepr::Ipv6(header), payload)
+                self.store_ipv6_header(&packet, &header);
+                self.store_fragment(header.next_header, packet.payload());
+                let src_addr = IpAddress::Ipv6(header.src_addr);
+                let dst_addr = IpAddress::Ipv6(header.dst_addr);
+                self.store_transport(header.next_header, &src_addr, &dst_addr, packet.payload());
             }
-            Err(_) => self.refused(),
+            Err(_) => self.reject(ipv6_fault(&packet)),
         }
     }
 
-    // What a packet with this header carries.
-    fn with_payload(self, header: &IpRepr, bytes: &[u8]) -> FrameFields
-        requires offset { self.payload_offset ≤ 74 }
-        requires len { self.payload_len ≡ length bytes.now }
-        ensures value { result ≡ with_payload self header.now bytes.now }
-        ensures within { result.payload_offset + result.payload_len ≤ self.payload_offset + length bytes.now }
+    // The header of an IPv6 packet.
+    fn store_ipv6_header(&mut self, packet: &Ipv6Packet<'_>, header: &Ipv6Repr)
+        requires offset { self.old.payload_offset ≤ 14 }
+        requires lengths { ipv6.HasLengths (ipv6.packet_bytes packet.now) }
+        ensures { self.new ≡ with_ipv6_header self.old (ipv6.packet_bytes packet.now) header.now }
     {
-        match header.next_header() {
-            IpProtocol::Udp => self.with_udp(header, bytes),
-            IpProtocol::Tcp => self.with_tcp(header, bytes),
-            _ => self,
+        let traffic_class = packet.traffic_class();
+        self.network = Network::Ipv6.code();
+        self.network_offset = self.payload_offset;
+        self.src = Endpoint::without_port(IpAddress::Ipv6(header.src_addr));
+        self.dst = Endpoint::without_port(IpAddress::Ipv6(header.dst_addr));
+        self.ip.flow_label = packet.flow_label();
+        self.ip.protocol = packet.as_bytes()[6];
+        self.ip.hop_limit = header.hop_limit;
+        self.ip.dscp = traffic_class / 4;
+        self.ip.ecn = traffic_class % 4;
+        self.step_behind(IPV6_HEADER_LEN, packet.payload().len());
+    }
+
+    // The fragment header that the payload of an IPv6 packet begins with, if the protocol says so and
+    // it is there as a whole. The payload begins at it.
+    fn store_fragment(&mut self, protocol: IpProtocol, bytes: &[u8])
+        ensures { self.new ≡ with_fragment_by self.old protocol bytes.now }
+    {
+        if let IpProtocol::Ipv6Frag = protocol
+            && bytes.len() >= FRAGMENT_HEADER_LEN
+        {
+            self.store_fragment_header(&Ipv6FragmentHeader::new_unchecked(&bytes[2..]));
         }
     }
 
-    // A UDP packet.
-    fn with_udp(self, ip_header: &IpRepr, bytes: &[u8]) -> FrameFields
-        requires offset { self.payload_offset ≤ 74 }
-        requires len { self.payload_len ≡ length bytes.now }
-        ensures value { result ≡ with_udp self (src_addr_of ip_header.now) (dst_addr_of ip_header.now) bytes.now }
-        ensures within { result.payload_offset + result.payload_len ≤ self.payload_offset + length bytes.now }
+    // A fragment header.
+    fn store_fragment_header(&mut self, header: &Ipv6FragmentHeader<'_>)
+        requires { 6 ≤ length (fragment.header_bytes header.now) }
+        ensures { self.new ≡ with_fragment_header self.old (fragment.header_of (fragment.header_bytes header.now)) }
     {
-        let (src_addr, dst_addr) = (ip_header.src_addr(), ip_header.dst_addr());
+        let (offset, more_fragments) = (header.frag_offset(), header.more_frags());
+        self.ip.ident = header.ident();
+        self.ip.fragment_offset = 8 * offset;
+        self.ip.more_fragments = u8::from(more_fragments);
+        self.is_fragment = u8::from(more_fragments || offset != 0);
+    }
+
+    // The payload of a packet between two addresses.
+    #[inline(always)]
+    fn store_transport(
+        &mut self,
+        protocol: IpProtocol,
+        src_addr: &IpAddress,
+        dst_addr: &IpAddress,
+        bytes: &[u8],
+    )
+        requires offset { self.old.payload_offset ≤ 74 }
+        requires len { self.old.payload_len ≡ length bytes.now }
+        requires family { version_of src_addr.now ≡ version_of dst_addr.now }
+        ensures value { self.new ≡ with_transport_by self.old protocol src_addr.now dst_addr.now bytes.now }
+        ensures within { self.new.payload_offset + self.new.payload_len ≤ self.old.payload_offset + length bytes.now }
+    {
+        match protocol {
+            IpProtocol::Udp => self.store_udp(src_addr, dst_addr, bytes),
+            IpProtocol::Tcp => self.store_tcp(src_addr, dst_addr, bytes),
+            _ => {}
+        }
+    }
+
+    // A UDP packet. A rejected header is stored too, if it is there as a whole.
+    #[inline(always)]
+    fn store_udp(&mut self, src_addr: &IpAddress, dst_addr: &IpAddress, bytes: &[u8])
+        requires offset { self.old.payload_offset ≤ 74 }
+        requires len { self.old.payload_len ≡ length bytes.now }
+        requires family { version_of src_addr.now ≡ version_of dst_addr.now }
+        ensures value { self.new ≡ with_udp self.old src_addr.now dst_addr.now bytes.now }
+        ensures within { self.new.payload_offset + self.new.payload_len ≤ self.old.payload_offset + length bytes.now }
+    {
+        if bytes.len() < UDP_HEADER_LEN {
+            return self.reject(Reason::TooShort);
+        }
         let packet = UdpPacket::new_unchecked(bytes);
-        match UdpRepr::parse(
-            &packet,
-            &src_addr,
-            &dst_addr,
-            &ChecksumCapabilities::ignored(),
-        ) {
-            Ok(header) => FrameFields {
-                transport: UDP,
-                src_port: header.src_port,
-                dst_port: header.dst_port,
-                transport_checksum_holds: udp_checksum_holds(&packet, &src_addr, &dst_addr),
-                ..self.behind(UDP_HEADER_LEN, packet.payload().len())
-            },
-            Err(_) => self.refused(),
+        self.store_udp_header(src_addr, dst_addr, &packet);
+        let caps = ChecksumCapabilities::ignored();
+        match UdpRepr::parse(&packet, src_addr, dst_addr, &caps) {
+            Ok(_) => self.step_behind(UDP_HEADER_LEN, packet.payload().len()),
+            Err(_) => self.reject(udp_fault(&packet)),
         }
     }
 
-    // A TCP segment.
-    fn with_tcp(self, ip_header: &IpRepr, bytes: &[u8]) -> FrameFields
-        requires offset { self.payload_offset ≤ 74 }
-        requires len { self.payload_len ≡ length bytes.now }
-        ensures value { result ≡ with_tcp self (src_addr_of ip_header.now) (dst_addr_of ip_header.now) bytes.now }
-        ensures within { result.payload_offset + result.payload_len ≤ self.payload_offset + length bytes.now }
+    // The header of a UDP packet. If its length is wrong, no checksum can be computed.
+    #[inline(always)]
+    fn store_udp_header(
+        &mut self,
+        src_addr: &IpAddress,
+        dst_addr: &IpAddress,
+        packet: &UdpPacket<'_>,
+    )
+        requires header { 8 ≤ length (udp.packet_bytes packet.now) }
+        requires family { version_of src_addr.now ≡ version_of dst_addr.now }
+        ensures { self.new ≡ with_udp_header self.old src_addr.now dst_addr.now (udp.packet_bytes packet.now) }
     {
-        let (src_addr, dst_addr) = (ip_header.src_addr(), ip_header.dst_addr());
+        self.transport = Transport::Udp.code();
+        self.transport_offset = self.payload_offset;
+        self.src.port = packet.src_port();
+        self.dst.port = packet.dst_port();
+        self.transport_checksum = udp_verdict(packet, src_addr, dst_addr).code();
+    }
+
+    // A TCP segment. A rejected header is stored too, if it is there as a whole.
+    #[inline(always)]
+    fn store_tcp(&mut self, src_addr: &IpAddress, dst_addr: &IpAddress, bytes: &[u8])
+        requires offset { self.old.payload_offset ≤ 74 }
+        requires len { self.old.payload_len ≡ length bytes.now }
+        requires family { version_of src_addr.now ≡ version_of dst_addr.now }
+        ensures value { self.new ≡ with_tcp self.old src_addr.now dst_addr.now bytes.now }
+        ensures within { self.new.payload_offset + self.new.payload_len ≤ self.old.payload_offset + length bytes.now }
+    {
+        if bytes.len() < TCP_HEADER_LEN {
+            return self.reject(Reason::TooShort);
+        }
         let packet = TcpPacket::new_unchecked(bytes);
-        match TcpRepr::parse(
-            &packet,
-            &src_addr,
-            &dst_addr,
-            &ChecksumCapabilities::ignored(),
-        ) {
-            Ok(_) => FrameFields {
-                transport: TCP,
-                src_port: packet.src_port(),
-                dst_port: packet.dst_port(),
-                seq_number: packet.seq_number().0.cast_unsigned(),
-                ack_number: packet.ack_number().0.cast_unsigned(),
-                window_len: packet.window_len(),
-                tcp_flags: tcp_flags(&packet),
-                transport_checksum_holds: tcp_checksum_holds(&packet, &src_addr, &dst_addr),
-                ..self.behind(usize::from(packet.header_len()), packet.payload().len())
-            },
-            Err(_) => self.refused(),
+        self.store_tcp_header(src_addr, dst_addr, &packet);
+        let caps = ChecksumCapabilities::ignored();
+        match TcpRepr::parse(&packet, src_addr, dst_addr, &caps) {
+            Ok(_) => self.step_behind(usize::from(packet.header_len()), packet.payload().len()),
+            Err(_) => self.reject(tcp_fault(&packet)),
         }
     }
-}
 
-// 1 where the checksum of a header holds, else 0.
-fn ipv4_checksum_holds(packet: &Ipv4Packet<'_>) -> u8
-    requires { ipv4.HasLengths (ipv4.packet_bytes packet.now) }
-    ensures { let bytes = ipv4.packet_bytes packet.now in
-        result ≡ flag (sum_of_bytes (take (ipv4.header_len bytes) bytes) == 65535) }
-{
-    u8::from(packet.verify_checksum())
-}
-
-// 1 if the checksum of a UDP packet is correct, or is left out over IPv4, else 0.
-fn udp_checksum_holds(packet: &UdpPacket<'_>, src_addr: &IpAddress, dst_addr: &IpAddress) -> u8
-    requires lengths { udp.HasLengths (udp.packet_bytes packet.now) }
-    requires family { version_of src_addr.now ≡ version_of dst_addr.now }
-    ensures { result ≡ flag (udp.has_checksum src_addr.now dst_addr.now (udp.packet_bytes packet.now)) }
-{
-    u8::from(packet.has_valid_checksum(src_addr, dst_addr))
-}
-
-// 1 where the checksum of a segment between two addresses holds, else 0.
-fn tcp_checksum_holds(packet: &TcpPacket<'_>, src_addr: &IpAddress, dst_addr: &IpAddress) -> u8
-    requires { version_of src_addr.now ≡ version_of dst_addr.now }
-    ensures { result ≡ flag (tcp.segment_sum src_addr.now dst_addr.now (tcp.packet_bytes packet.now) == 65535) }
-{
-    u8::from(packet.verify_checksum(src_addr, dst_addr))
-}
-
-// The eight flags of a segment, CWR the highest bit and FIN the lowest.
-fn tcp_flags(packet: &TcpPacket<'_>) -> u8
-    requires { 14 ≤ length (tcp.packet_bytes packet.now) }
-    ensures { result ≡ field (tcp.packet_bytes packet.now) 104 8 }
-{
-    packet.as_bytes()[13]
+    // The header of a TCP segment.
+    #[inline(always)]
+    fn store_tcp_header(
+        &mut self,
+        src_addr: &IpAddress,
+        dst_addr: &IpAddress,
+        packet: &TcpPacket<'_>,
+    )
+        requires header { 20 ≤ length (tcp.packet_bytes packet.now) }
+        requires family { version_of src_addr.now ≡ version_of dst_addr.now }
+        ensures { self.new ≡ with_tcp_header self.old src_addr.now dst_addr.now (tcp.packet_bytes packet.now) }
+    {
+        self.transport = Transport::Tcp.code();
+        self.transport_offset = self.payload_offset;
+        self.src.port = packet.src_port();
+        self.dst.port = packet.dst_port();
+        self.tcp.seq_number = packet.seq_number().0.cast_unsigned();
+        self.tcp.ack_number = packet.ack_number().0.cast_unsigned();
+        self.tcp.window_len = packet.window_len();
+        self.tcp.urgent_at = packet.urgent_at();
+        self.tcp.flags = packet.as_bytes()[13];
+        self.tcp.header_len = packet.header_len();
+        self.transport_checksum = tcp_verdict(packet, src_addr, dst_addr).code();
+    }
 }

@@ -1,4 +1,3 @@
-use Rattle.ip_wire.proofs.Spelled.{AreBytes}
 use Rattle.ip_wire_c.proofs.StoredFrame.{stores-read, verdicts-read}
 use Rattle.ip_wire_c.proofs.StoredParts.{only-read}
 use Rattle.ip_wire_c.proofs.laws.fields_are_parsed.Goals as goal
@@ -6,9 +5,4 @@ use Rattle.ip_wire_c.proofs.laws.fields_are_parsed.Goals as goal
 pub returns : goal.returns
 returns c =
     let frame = c.args.frame.now in
-    let bytes : AreBytes frame = λ i. (c.type_inv.frame i).fits in
-    record {
-      stores = stores-read frame bytes;
-      verdicts = verdicts-read c.args.caps frame;
-      only = only-read frame;
-    }
+    record { stores = stores-read frame; verdicts = verdicts-read c.args.caps frame; only = only-read frame }
