@@ -4,7 +4,7 @@
 ghost use Rattle.std.specs.Prelude.{◌≡◌, ◌↔◌, true};
 ghost use Rattle.std.specs.Cmp.Lexicographic.{slice_cmp};
 ghost use Rattle.std.specs.Hash as hash;
-ghost use Rattle.std.specs.Ordering.{nat_cmp};
+ghost use Rattle.std.specs.Ordering.{nat_cmp, ordering_reverse};
 ghost use Rattle.std.specs.declared.cmp.Ordering.TheVariants.{Equal};
 ghost use Rattle.wire_addr.specs.Block.{block_cmp, block_hash};
 ghost use Rattle.wire_addr.specs.BlockText.{ReadsIpv4Block, ReadsIpv6Block};
@@ -72,9 +72,11 @@ pub fn print_reads_back_ipv6_cidr(block: Ipv6Cidr)
     let _prefix_len = block.prefix_len();
 }
 
-/// Two values are equal exactly if they compare as `Equal`.
+/// Two values are equal exactly if they compare as `Equal`, and their order is the reverse of that of
+/// both exchanged.
 pub fn order_agrees<T: Ord>(a: &T, b: &T)
-    ensures { (T.cmp a.now b.now ≡ Equal) ↔ (T.eq a.now b.now ≡ true) }
+    ensures equal { (T.cmp a.now b.now ≡ Equal) ↔ (T.eq a.now b.now ≡ true) }
+    ensures reverse { T.cmp b.now a.now ≡ ordering_reverse (T.cmp a.now b.now) }
 {}
 
 /// Equal values have equal hashes.

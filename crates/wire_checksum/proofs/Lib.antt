@@ -3,7 +3,10 @@ pub mod Ends
 pub mod Fours
 pub mod Joined
 pub mod Lanes
+pub mod Parts
 pub mod Residues
 pub mod Rounds
+pub mod Updated
+pub mod UpdatedBytes
 pub mod Wholes
 pub mod WordLists

@@ -1,10 +1,10 @@
 //! The Internet checksum (RFC 1071), without the final complement. A sum here is a one's complement
 //! sum of 16-bit words.
 
-ghost use Rattle.std.specs.Prelude.{◌≡◌, ◌*◌};
+ghost use Rattle.std.specs.Prelude.{◌≡◌, ◌+◌, ◌-◌, ◌*◌, ◌<◌, ℕ};
 ghost use Rattle.wire_ends.specs.IpAddress.{octets_of, version_of};
 ghost use Rattle.wire_checksum.specs.PseudoHeader.{pseudo_header_bytes, with_pseudo_header};
-ghost use Rattle.wire_checksum.specs.WordSum.{residue, sum_of, sum_of_bytes};
+ghost use Rattle.wire_checksum.specs.WordSum.{residue, sum_of, sum_of_bytes, updated};
 
 use crate::totals::{around, finish, total, total_here, total_of_words};
 use wire_addr::{Ipv4Address, Ipv6Address};
@@ -23,6 +23,21 @@ pub fn combine(sums: &[u16]) -> u16
         }
     }
     sum as u16
+}
+
+/// The checksum after a word that it covers changed from `old` to `new` (RFC 1624, equation 3). To
+/// change several words at once, pass the sums of the old and the new words. Here a checksum is the
+/// complement of a sum, as in a header. The result is the computed checksum if the old one was, and
+/// valid if the old one was. This does not hold if all covered bytes are 0 now, which never happens in
+/// IPv4, UDP or TCP.
+pub fn update(checksum: u16, old: u16, new: u16) -> u16
+    ensures value { result ≡ updated checksum old new }
+    ensures valid { (rest : ℕ) → 0 < rest + new → residue (rest + old + checksum) ≡ 65535
+        → residue (rest + new + result) ≡ 65535 }
+    ensures computed { (rest : ℕ) → 0 < rest + new → checksum ≡ 65535 - residue (rest + old)
+        → result ≡ 65535 - residue (rest + new) }
+{
+    !combine(&[!checksum, !old, new])
 }
 
 /// The sum of the big-endian 16-bit words of the bytes, added as by `combine`. An odd last byte is

@@ -1,5 +1,6 @@
 -- The numbers and names of what IP packets carry.
-use Rattle.std.specs.Prelude.{ℕ, ◌++◌, ◌==◌, if◌then◌else◌, List, codes}
+use Rattle.std.specs.Prelude.{ℕ, ◌++◌, ◌==◌, if◌then◌else◌, List, codes, pos}
+use Rattle.std.specs.Hash as hash
 use Rattle.std.specs.declared.cmp.Ordering.{Ordering}
 use Rattle.wire_addr.specs.Order.{named_cmp}
 use Rattle.wire_addr.specs.Printed.{hex_byte}
@@ -66,3 +67,24 @@ is_unknown p = 0
 -- how protocols compare
 abbrev pub protocol_cmp : IpProtocol → IpProtocol → Ordering
 protocol_cmp = named_cmp is_unknown number_of
+
+-- the place of a protocol among the variants
+abbrev pub variant_of : IpProtocol → ℕ
+variant_of protocol.HopByHop = 0
+variant_of protocol.Icmp = 1
+variant_of protocol.Igmp = 2
+variant_of protocol.Tcp = 3
+variant_of protocol.Udp = 4
+variant_of protocol.Ipv6Route = 5
+variant_of protocol.Ipv6Frag = 6
+variant_of protocol.IpSecEsp = 7
+variant_of protocol.IpSecAh = 8
+variant_of protocol.Icmpv6 = 9
+variant_of protocol.Ipv6NoNxt = 10
+variant_of protocol.Ipv6Opts = 11
+variant_of (protocol.Unknown n) = 12
+
+-- what is hashed of a protocol: its place among the variants, and an unknown number
+abbrev pub protocol_hash : IpProtocol → hash.HashWrites
+protocol_hash (protocol.Unknown n) = hash.isize (pos 12) ++ hash.u8 n
+protocol_hash p = hash.isize (pos (variant_of p))

@@ -6,7 +6,7 @@ ghost use Rattle.wire_ends.specs.Protocol.{number_of, protocol_of, protocol_text
 use std::fmt;
 
 /// The protocol of an IP packet's payload, by the number that IANA assigned to it.
-#[derive(Debug, Clone, Copy, PartialEq, Eq, PartialOrd, Ord)]
+#[derive(Debug, Clone, Copy, PartialEq, Eq, PartialOrd, Ord, Hash)]
 pub enum IpProtocol {
     HopByHop,
     Icmp,

@@ -5,7 +5,7 @@ ghost use Rattle.wire_ends.specs.Endpoint.{ReadsEndpoint, endpoint_cmp, endpoint
 ghost use Rattle.wire_ends.specs.IpAddress.{ReadsAddress, address_cmp, address_hash, address_text};
 ghost use Rattle.wire_ends.specs.IpCidr.{ReadsCidr, cidr_cmp, cidr_hash, cidr_text};
 ghost use Rattle.wire_ends.specs.IpVersion.{number_of, version_hash};
-ghost use Rattle.wire_ends.specs.Protocol.{protocol_cmp};
+ghost use Rattle.wire_ends.specs.Protocol.{protocol_cmp, protocol_hash};
 ghost use Rattle.std.specs.Ordering.{nat_cmp};
 
 use crate::{IpAddress, IpCidr, IpEndpoint, IpListenEndpoint, IpProtocol, IpVersion};
@@ -93,8 +93,10 @@ pub fn ip_version_order(a: IpVersion, b: IpVersion)
     ensures hash { ⟦<IpVersion as Hash>⟧.hash_input a ≡ version_hash a }
 {}
 
-/// Protocols are equal exactly as values are. Those with a name come before unknown numbers.
+/// Protocols are equal exactly as values are. Those with a name come before unknown numbers. What is
+/// hashed is as defined.
 pub fn ip_protocol_order(a: IpProtocol, b: IpProtocol)
     ensures order { ⟦<IpProtocol as Ord>⟧.cmp a b ≡ protocol_cmp a b }
     ensures equal { (⟦<IpProtocol as PartialEq>⟧.eq a b ≡ true) ↔ (a ≡ b) }
+    ensures hash { ⟦<IpProtocol as Hash>⟧.hash_input a ≡ protocol_hash a }
 {}

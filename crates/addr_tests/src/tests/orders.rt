@@ -1,9 +1,11 @@
 //! Types with an order, each with a table that stands in it.
 
+use super::count_distinct;
 use ip_wire::{
     ArpHardware, ArpOperation, EthernetAddress, EthernetProtocol, IpAddress, IpProtocol, IpVersion,
     Ipv4Address, Ipv4FragKey, Ipv6Address,
 };
+use std::test::Fail;
 
 /// Whether each value is equal to itself alone, and less than all that follow it.
 fn are_in_order<T: Ord>(values: &[T]) -> bool {
@@ -114,4 +116,18 @@ fn orders_addresses_by_version_and_octets(rt: HostRuntime) {
             IpAddress::v6(0xfe80, 0, 0, 0, 0, 0, 0, 1),
         ])
     );
+}
+
+#[test]
+fn hashes_protocols_by_their_names_and_numbers(rt: HostRuntime) -> Result<(), Fail> {
+    let protocols = [
+        IpProtocol::Tcp,
+        IpProtocol::Udp,
+        IpProtocol::Unknown(6),
+        IpProtocol::Unknown(17),
+        IpProtocol::Unknown(0),
+        IpProtocol::Tcp,
+    ];
+    assert_eq!(rt; count_distinct(rt.alloc(), &protocols)?, 5);
+    Ok(())
 }

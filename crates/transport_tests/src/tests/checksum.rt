@@ -32,6 +32,24 @@ fn combines_sums(rt: HostRuntime) {
 }
 
 #[test]
+fn updates_checksums(rt: HostRuntime) {
+    for (checksum, old, new, updated) in [
+        // RFC 1624, section 4, and back.
+        (0xdd2f, 0x5555, 0x3285, 0x0000),
+        (0x0000, 0x3285, 0x5555, 0xdd2f),
+        (0xffff, 0x3285, 0x5555, 0xdd2f),
+        // The hop limit of an IPv4 header, from 64 to 63.
+        (0xb861, 0x4011, 0x3f11, 0xb961),
+        // The sum of its source address, from 192.168.0.1 to 203.0.113.5.
+        (0xb861, 0xc0a9, 0x3c06, 0x3d05),
+        // Nothing changes.
+        (0xdd2f, 0x5555, 0x5555, 0xdd2f),
+    ] {
+        assert_eq!(rt; checksum::update(checksum, old, new), updated);
+    }
+}
+
+#[test]
 fn sums_the_pseudo_header_between_hosts_of_a_link(rt: HostRuntime) {
     let src = Ipv6Address::new(0xfe80, 0, 0, 0, 0, 0, 0, 1);
     let dst = Ipv6Address::new(0xfe80, 0, 0, 0, 0, 0, 0, 2);

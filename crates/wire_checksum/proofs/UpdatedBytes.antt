@@ -1,0 +1,66 @@
+-- The checksum of bytes, updated after a part of what it covers changed.
+use Rattle.std.proofs.Common.{ℕ, ◌≡◌, ◌+◌, ◌-◌, ◌*◌, ◌<◌, ◌≤◌, inl, inr, List, length, take, sum, sym, ap, ◌∙◌, zero-add, arith}
+use Rattle.std.proofs.lemmas.Bool.{cases_lt}
+use Rattle.std.proofs.lemmas.List.{take_all}
+use Rattle.wire_checksum.specs.WordSum.{residue, sum_of_bytes, updated, words}
+use Rattle.wire_checksum.proofs.Parts.{sum-take-with_field, sum-words-with_field}
+use Rattle.wire_checksum.proofs.Residues.{residue-of_zero}
+use Rattle.wire_checksum.proofs.Updated.{stays_valid, updated-small}
+use Rattle.wire_field.proofs.Spelled.{AreBytes}
+use Rattle.wire_field.proofs.Written.{AreBytes-with_field, length-with_field}
+use Rattle.wire_field.specs.Field.{field, with_field}
+
+-- the bytes with the c-th word, their checksum, updated
+abbrev pub with_updated : List ℕ → ℕ → ℕ → ℕ → List ℕ
+with_updated bytes c old new = with_field bytes (16 * c) 16 (updated (field bytes (16 * c) 16) (residue old) (residue new))
+
+-- A valid checksum stays valid. The sum covers the first n bytes, and beside them a number that may change too.
+pub updated-valid : (beside beside' : ℕ) (bytes changed : List ℕ) (n c old new : ℕ) → AreBytes changed → 2 * c + 2 ≤ n → n ≤ length changed
+    → beside' + sum (words (take n changed)) + old ≡ beside + sum (words (take n bytes)) + new
+    → 0 < beside' + sum (words (take n (with_field changed (16 * c) 16 0)))
+    → residue (beside + sum (words (take n bytes))) ≡ 65535
+    → residue (beside' + sum (words (take n (with_updated changed c old new)))) ≡ 65535
+updated-valid beside beside' bytes changed n c old new are inside room change some valid =
+    let checksum = field changed (16 * c) 16 in
+    let u = updated checksum (residue old) (residue new) in
+    let written = sum-take-with_field changed n c u are inside room (omega arith) in
+    let zeroed = sum-take-with_field changed n c 0 are inside room (omega arith) in
+    stays_valid (beside + sum (words (take n bytes))) (beside' + sum (words (take n changed))) (beside' + sum (words (take n (with_updated changed c old new))))
+    checksum old new (omega arith) change (omega (arith, written)) (omega (arith, zeroed, some)) valid
+
+-- the same where nothing else is covered
+pub updated-front : (bytes changed : List ℕ) (n c old new : ℕ) → AreBytes changed → 2 * c + 2 ≤ n → n ≤ length changed
+    → sum (words (take n changed)) + old ≡ sum (words (take n bytes)) + new
+    → 0 < sum (words (take n (with_field changed (16 * c) 16 0)))
+    → sum_of_bytes (take n bytes) ≡ 65535 → sum_of_bytes (take n (with_updated changed c old new)) ≡ 65535
+updated-front bytes changed n c old new are inside room change some valid =
+    ap residue (sym (zero-add (sum (words (take n (with_updated changed c old new))))))
+    ∙ updated-valid 0 0 bytes changed n c old new are inside room (omega (arith, change)) (omega (arith, some)) (ap residue (zero-add (sum (words (take n bytes)))) ∙ valid)
+
+-- the same of one word and all bytes
+pub updated-word : (bytes : List ℕ) (c p word : ℕ) → AreBytes bytes → 2 * c + 2 ≤ length bytes → 2 * p + 2 ≤ length bytes → word < 65536
+    → 0 < sum_of_bytes (with_field (with_field bytes (16 * p) 16 word) (16 * c) 16 0) → sum_of_bytes bytes ≡ 65535
+    → sum_of_bytes (with_field (with_field bytes (16 * p) 16 word) (16 * c) 16 (updated (field (with_field bytes (16 * p) 16 word) (16 * c) 16) (field bytes (16 * p) 16) word)) ≡ 65535
+updated-word bytes c p word are at_c at_p fits some valid =
+    let n = length bytes in
+    let old = field bytes (16 * p) 16 in
+    let changed = with_field bytes (16 * p) 16 word in
+    let checksum = field changed (16 * c) 16 in
+    let u = updated checksum old word in
+    let long : length changed ≡ n = length-with_field bytes (16 * p) 16 word (omega arith) (omega (arith, at_p)) in
+    let zero_long : length (with_field changed (16 * c) 16 0) ≡ n = length-with_field changed (16 * c) 16 0 (omega arith) (omega (arith, long, at_c)) ∙ long in
+    let u_long : length (with_field changed (16 * c) 16 u) ≡ n = length-with_field changed (16 * c) 16 u (omega arith) (omega (arith, long, at_c)) ∙ long in
+    let all : take n bytes ≡ bytes = take_all n bytes (omega arith) in
+    let all_changed : take n changed ≡ changed = take_all n changed (omega (arith, long)) in
+    let all_zeroed : take n (with_field changed (16 * c) 16 0) ≡ with_field changed (16 * c) 16 0 = take_all n (with_field changed (16 * c) 16 0) (omega (arith, zero_long)) in
+    let all_updated : take n (with_field changed (16 * c) 16 u) ≡ with_field changed (16 * c) 16 u = take_all n (with_field changed (16 * c) 16 u) (omega (arith, u_long)) in
+    let change : sum (words (take n changed)) + old ≡ sum (words (take n bytes)) + word =
+    ap (λ (l : List ℕ). sum (words l) + old) all_changed ∙ sum-words-with_field bytes p word are at_p fits ∙ ap (λ (l : List ℕ). sum (words l) + word) (sym all) in
+    let positive : 0 < sum (words (take n (with_field changed (16 * c) 16 0))) =
+    elim (cases_lt 0 (sum (words (take n (with_field changed (16 * c) 16 0))))) [
+      | inl above ↦ above
+      | inr below ↦ absurd (omega (arith, some, residue-of_zero (sum (words (with_field changed (16 * c) 16 0))) (ap (λ (l : List ℕ). sum (words l)) (sym all_zeroed) ∙ omega (arith, below))))
+    ] in
+    let small : updated checksum (residue old) (residue word) ≡ u = updated-small checksum old word (omega arith) (omega (arith, fits)) in
+    ap sum_of_bytes (sym all_updated) ∙ ap (λ (v : ℕ). sum_of_bytes (take n (with_field changed (16 * c) 16 v))) (sym small)
+    ∙ updated-front bytes changed n c old word (AreBytes-with_field bytes (16 * p) 16 word are (omega arith) (omega (arith, at_p))) at_c (omega (arith, long)) change positive (ap sum_of_bytes all ∙ valid)
