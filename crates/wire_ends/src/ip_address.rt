@@ -38,6 +38,16 @@ impl IpAddress {
         IpAddress::Ipv6(Ipv6Address::new(a, b, c, d, e, f, g, h))
     }
 
+    /// Parses the text of an address of either version, as `FromStr` does, from bytes.
+    pub fn parse_ascii(text: &[u8]) -> Result<IpAddress, ()>
+        ensures { Parses ReadsAddress text.now result }
+    {
+        match Ipv4Address::parse_ascii(text) {
+            Ok(address) => Ok(IpAddress::Ipv4(address)),
+            Err(()) => Ok(IpAddress::Ipv6(Ipv6Address::parse_ascii(text)?)),
+        }
+    }
+
     /// The version that the address belongs to.
     pub fn version(&self) -> IpVersion
         ensures { result ≡ version_of self.now }
@@ -178,9 +188,6 @@ impl FromStr for IpAddress {
     ghost from_str_gives = { Parses ReadsAddress };
 
     fn from_str(s: &str) -> Result<IpAddress, ()> {
-        match s.parse() {
-            Ok(address) => Ok(IpAddress::Ipv4(address)),
-            Err(()) => Ok(IpAddress::Ipv6(s.parse()?)),
-        }
+        IpAddress::parse_ascii(s.as_bytes())
     }
 }

@@ -30,6 +30,16 @@ impl IpCidr {
         }
     }
 
+    /// Parses the text of a block of either version, as `FromStr` does, from bytes.
+    pub fn parse_ascii(text: &[u8]) -> Result<IpCidr, ()>
+        ensures { Parses ReadsCidr text.now result }
+    {
+        match Ipv4Cidr::parse_ascii(text) {
+            Ok(cidr) => Ok(IpCidr::Ipv4(cidr)),
+            Err(()) => Ok(IpCidr::Ipv6(Ipv6Cidr::parse_ascii(text)?)),
+        }
+    }
+
     /// The address that it was made of.
     pub fn address(&self) -> IpAddress
         ensures value { result ≡ block_address self.now }
@@ -108,9 +118,6 @@ impl FromStr for IpCidr {
     ghost from_str_gives = { Parses ReadsCidr };
 
     fn from_str(s: &str) -> Result<IpCidr, ()> {
-        match s.parse() {
-            Ok(cidr) => Ok(IpCidr::Ipv4(cidr)),
-            Err(()) => Ok(IpCidr::Ipv6(s.parse()?)),
-        }
+        IpCidr::parse_ascii(s.as_bytes())
     }
 }

@@ -31,6 +31,17 @@ impl IpEndpoint {
         IpEndpoint { addr, port }
     }
 
+    /// Parses the text of an endpoint, as `FromStr` does, from bytes.
+    pub fn parse_ascii(text: &[u8]) -> Result<IpEndpoint, ()>
+        ensures { Parses ReadsEndpoint text.now result }
+    {
+        if let Ok(addr) = IpAddress::parse_ascii(text) {
+            return Ok(IpEndpoint::new(addr, 0));
+        }
+        let (address, port) = number_behind(text, b':', 5, 65535).ok_or(())?;
+        Ok(IpEndpoint::new(host(address)?, port as u16))
+    }
+
     /// Its text: the address, `:` and the port in decimal. An address of IPv6 is in brackets (RFC 5952,
     /// section 6).
     pub fn text(&self) -> ArrayString<47>
@@ -132,10 +143,6 @@ impl FromStr for IpEndpoint {
     ghost from_str_gives = { Parses ReadsEndpoint };
 
     fn from_str(s: &str) -> Result<IpEndpoint, ()> {
-        if let Ok(addr) = s.parse() {
-            return Ok(IpEndpoint::new(addr, 0));
-        }
-        let (address, port) = number_behind(s.as_bytes(), b':', 5, 65535).ok_or(())?;
-        Ok(IpEndpoint::new(host(address)?, port as u16))
+        IpEndpoint::parse_ascii(s.as_bytes())
     }
 }
