@@ -3,7 +3,7 @@ use Rattle.std.proofs.Common.{◌≡◌, ◌∙◌, ℕ, ◌+◌, ◌≤◌, Lis
 use Rattle.std.proofs.lemmas.Bool.Decides.{nat_tests}
 use Rattle.std.proofs.lemmas.Grind.{common_steps}
 use Rattle.std.specs.Option.{unwrap_or}
-use Rattle.ip_wire_c.specs.Calls.{Fills}
+use Rattle.ip_wire_c.specs.Written.{Fills}
 
 -- ---- a header in front of what it carries
 

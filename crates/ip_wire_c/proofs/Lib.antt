@@ -1,4 +1,1 @@
 mod Filled
-mod StoredFrame
-mod StoredHeaders
-mod StoredParts

@@ -1,0 +1,38 @@
+//! What calls for C return, and bytes that are copied to the front of a slice.
+
+ghost use Rattle.std.specs.Prelude.{◌≡◌, ◌≤◌, ◌<◌, ◌^◌, IfSome, Some};
+ghost use Rattle.ip_wire_c.specs.Written.{Fills, Writes, returned};
+
+/// What a call returns that could not write. With any lengths added it is below 0, and as a `usize`
+/// longer than any packet.
+pub const FAILED: isize = -(1 << 40);
+
+/// The length that was written, or `FAILED`.
+#[inline(always)]
+pub fn written(len: Option<usize>) -> isize
+    requires { IfSome len (λ n. n < 2 ^ 63) }
+    ensures { result ≡ returned len }
+{
+    match len {
+        Some(len) => len as isize,
+        None => FAILED,
+    }
+}
+
+/// Copies bytes to the front of `out` and returns how many. `None` if they do not fit.
+pub fn copy(bytes: &[u8], out: &mut [u8]) -> Option<usize>
+    ensures { Fills (Some bytes.now) out.old out.new result }
+{
+    if out.len() < bytes.len() {
+        return None;
+    }
+    out[..bytes.len()].copy_from_slice(bytes);
+    Some(bytes.len())
+}
+
+/// Writes a text to the front of `out`, and returns its length or `FAILED`.
+pub fn print(text: &str, out: &mut [u8]) -> isize
+    ensures { Writes (Some text.now) out.old out.new result }
+{
+    written(copy(text.as_bytes(), out))
+}
