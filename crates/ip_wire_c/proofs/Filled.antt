@@ -1,9 +1,7 @@
 -- What fills the front of a slice.
-use Rattle.std.proofs.Common.{◌≡◌, ◌∙◌, ℕ, ◌+◌, ◌≤◌, List, [], ◌++◌, Option, Some, None, nat_le, if◌then◌else◌, drop, length, take, ap, sym, append-nil, arith}
-use Rattle.std.proofs.lemmas.Bool.Decides.{nat_tests}
+use Rattle.std.proofs.Common.{◌≡◌, ◌∙◌, ℕ, ℤ, pos, ◌+◌, ◌≤◌, List, [], ◌++◌, Option, Some, None, drop, length, take, ap, sym, append-nil, arith}
 use Rattle.std.proofs.lemmas.Grind.{common_steps}
-use Rattle.std.specs.Option.{unwrap_or}
-use Rattle.ip_wire_c.specs.Written.{Fills}
+use Rattle.ip_wire_c.specs.Written.{Fills, Writes, returned}
 
 -- ---- a header in front of what it carries
 
@@ -32,14 +30,16 @@ filled-part bytes old front written rest len room size is is_written behind =
     let whole : front ≡ bytes [] = is ∙ is_written ∙ ap (λ part. bytes part ++ part) none ∙ append-nil (bytes []) in
     (sym size, room, ap (λ part. part ++ rest) whole ∙ ap (λ part. bytes [] ++ part) behind)
 
--- ---- what is answered and written where there is a place for so many bytes
+-- ---- what C gets
 
-pub filled-len : (bytes old new : List ℕ) (answer : Option ℕ) (len : ℕ) → length bytes ≡ len → Fills bytes old new answer
-    → unwrap_or answer 0 ≡ (if nat_le len (length old) then len else 0)
-filled-len bytes old new None len size (short, stays) = grind (arith, nat_tests, size, short)
-filled-len bytes old new (Some n) len size (is, fits, holds) = grind (arith, nat_tests, size, is, fits)
-
-pub filled-bytes : (bytes old new : List ℕ) (answer : Option ℕ) (len : ℕ) → length bytes ≡ len → Fills bytes old new answer
-    → new ≡ (if nat_le len (length old) then bytes ++ drop len old else old)
-filled-bytes bytes old new None len size (short, stays) = grind (arith, nat_tests, size, short, stays)
-filled-bytes bytes old new (Some n) len size (is, fits, holds) = grind (arith, nat_tests, size, is, fits, holds)
+pub writes-filled : (bytes : Option (List ℕ)) (old new : List ℕ) (len : Option ℕ) (answer : ℤ) → Fills bytes old new len → answer ≡ returned len
+    → Writes bytes old new answer
+writes-filled None old new len answer (none, stays) is = (is ∙ ap returned none, stays)
+writes-filled (Some bytes) old new None answer (short, stays) is = record {
+  fits = λ room. absurd (omega (arith, room, short));
+  no_room = λ less. (is, stays);
+}
+writes-filled (Some bytes) old new (Some n) answer (len, room, holds) is = record {
+  fits = λ _. (is ∙ ap pos len, holds ∙ ap (λ k. bytes ++ drop k old) len);
+  no_room = λ less. absurd (omega (arith, len, room, less));
+}

@@ -5,6 +5,8 @@ use Rattle.ip_wire.specs.Frame.{rebuilt}
 use Rattle.ip_wire.specs.declared.IpRepr.{IpRepr}
 use Rattle.ip_wire.specs.declared.IpRepr.TheVariants.{Ipv4, Ipv6}
 use Rattle.ip_wire_c.specs.Headers.{arp_bytes, header_bytes, ip_value, link_bytes, only_if, options_header_len, tcp_bytes, udp_bytes}
+use Rattle.ip_wire_c.specs.declared.types.Arp.{Arp}
+use Rattle.ip_wire_c.specs.declared.types.Ethernet.{Ethernet}
 use Rattle.ip_wire_c.specs.declared.types.FrameFields.{FrameFields}
 use Rattle.ip_wire_c.specs.declared.types.Ip.{Ip}
 use Rattle.ip_wire_c.specs.declared.types.TcpOptions.{TcpOptions}
@@ -62,14 +64,16 @@ tcp_frame_around f o len bytes = option_and_then (tcp_frame f o) (part bytes (ca
 
 -- ---- replies
 
--- the reply: addresses and endpoints are exchanged
+-- the headers of the way back: the hardware addresses are exchanged
+abbrev pub back_link : Ethernet → Ethernet
+back_link h = record { src = h.dst; dst = h.src; ethertype = h.ethertype }
+
+abbrev pub back_arp : Arp → Arp
+back_arp h = record { operation = h.operation; src_hardware = h.dst_hardware; dst_hardware = h.src_hardware }
+
+-- the reply: the endpoints are exchanged too
 abbrev pub reply_to : FrameFields → FrameFields
-reply_to f = record f {
-  src = f.dst;
-  dst = f.src;
-  ethernet = record f.ethernet { src = f.ethernet.dst; dst = f.ethernet.src };
-  arp = record f.arp { src_hardware = f.arp.dst_hardware; dst_hardware = f.arp.src_hardware };
-}
+reply_to f = record f { src = f.dst; dst = f.src; ethernet = back_link f.ethernet; arp = back_arp f.arp }
 
 -- ---- rebuilding
 

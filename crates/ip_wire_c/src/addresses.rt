@@ -30,10 +30,10 @@ impl Addr {
                     version: 4,
                 }
             }
-            IpAddress::Ipv6(address) => Addr {
-                octets: address.octets(),
-                version: 6,
-            },
+            IpAddress::Ipv6(address) => {
+                let octets = address.octets();
+                Addr { octets, version: 6 }
+            }
         }
     }
 
@@ -60,13 +60,11 @@ impl Addr {
         ensures value { result ≡ pair_of self.now other.now }
         ensures family { IfSome result (λ pair. version_of pair.0 ≡ version_of pair.1) }
     {
-        match (self.ip()?, other.ip()?) {
-            (IpAddress::Ipv4(src), IpAddress::Ipv4(dst)) => {
-                Some((IpAddress::Ipv4(src), IpAddress::Ipv4(dst)))
-            }
-            (IpAddress::Ipv6(src), IpAddress::Ipv6(dst)) => {
-                Some((IpAddress::Ipv6(src), IpAddress::Ipv6(dst)))
-            }
+        let src = self.ip()?;
+        let dst = other.ip()?;
+        match (&src, &dst) {
+            (IpAddress::Ipv4(_), IpAddress::Ipv4(_)) => Some((src, dst)),
+            (IpAddress::Ipv6(_), IpAddress::Ipv6(_)) => Some((src, dst)),
             _ => None,
         }
     }
@@ -138,8 +136,7 @@ pub extern "C" fn lk_addr_print(addr: &Addr, out: &mut [u8]) -> isize
     ensures { Writes (option_map address_text (ip_of addr.now)) out.old out.new result }
 {
     match addr.ip() {
-        Some(IpAddress::Ipv4(address)) => print(address.text().as_str(), out),
-        Some(IpAddress::Ipv6(address)) => print(address.text().as_str(), out),
+        Some(address) => print_address(&address, out),
         None => FAILED,
     }
 }
@@ -164,12 +161,7 @@ pub extern "C" fn lk_block_print(block: &Block, out: &mut [u8]) -> isize
     ensures { Writes (option_map cidr_text (block_of block.now)) out.old out.new result }
 {
     match block.cidr() {
-        Some(IpCidr::Ipv4(cidr)) => {
-            print_block(cidr.address().text().as_str(), cidr.prefix_len(), out)
-        }
-        Some(IpCidr::Ipv6(cidr)) => {
-            print_block(cidr.address().text().as_str(), cidr.prefix_len(), out)
-        }
+        Some(block) => print_block(&block, out),
         None => FAILED,
     }
 }
@@ -218,7 +210,8 @@ pub extern "C" fn lk_ethernet_read(text: &[u8], octets: &mut [u8; 6]) -> i32
 {
     match EthernetAddress::parse_ascii(text) {
         Ok(address) => {
-            *octets = address.0;
+            let read = address.0;
+            *octets = read;
             1
         }
         Err(()) => 0,
@@ -255,8 +248,29 @@ pub extern "C" fn lk_addr_is_unicast(addr: &Addr) -> i32
     }
 }
 
-// Prints a block, given the text of its address.
-fn print_block(address: &str, prefix_len: u8, out: &mut [u8]) -> isize
+// Prints an address.
+fn print_address(address: &IpAddress, out: &mut [u8]) -> isize
+    ensures { Writes (Some (address_text address.now)) out.old out.new result }
+{
+    match address {
+        IpAddress::Ipv4(address) => print(address.text().as_str(), out),
+        IpAddress::Ipv6(address) => print(address.text().as_str(), out),
+    }
+}
+
+// Prints a block.
+fn print_block(block: &IpCidr, out: &mut [u8]) -> isize
+    ensures { Writes (Some (cidr_text block.now)) out.old out.new result }
+{
+    let prefix_len = block.prefix_len();
+    match block {
+        IpCidr::Ipv4(block) => print_prefix(block.address().text().as_str(), prefix_len, out),
+        IpCidr::Ipv6(block) => print_prefix(block.address().text().as_str(), prefix_len, out),
+    }
+}
+
+// Prints the text of an address, and the prefix length of a block.
+fn print_prefix(address: &str, prefix_len: u8, out: &mut [u8]) -> isize
     requires { length address.now ≤ 39 }
     ensures { Writes (Some (address.now ++ slash ∷ decimal prefix_len)) out.old out.new result }
 {

@@ -14,13 +14,16 @@ impl Arp {
     pub fn value(&self, src: &Addr, dst: &Addr) -> Option<ArpRepr>
         ensures { result ≡ arp_value self.now src.now dst.now }
     {
-        match src.pair(dst)? {
-            (IpAddress::Ipv4(src), IpAddress::Ipv4(dst)) => Some(ArpRepr::EthernetIpv4 {
+        let src_hardware = self.src_hardware;
+        let dst_hardware = self.dst_hardware;
+        let (src_addr, dst_addr) = src.pair(dst)?;
+        match (&src_addr, &dst_addr) {
+            (IpAddress::Ipv4(src_addr), IpAddress::Ipv4(dst_addr)) => Some(ArpRepr::EthernetIpv4 {
                 operation: ArpOperation::from(self.operation),
-                source_hardware_addr: EthernetAddress(self.src_hardware),
-                source_protocol_addr: src,
-                target_hardware_addr: EthernetAddress(self.dst_hardware),
-                target_protocol_addr: dst,
+                source_hardware_addr: EthernetAddress(src_hardware),
+                source_protocol_addr: *src_addr,
+                target_hardware_addr: EthernetAddress(dst_hardware),
+                target_protocol_addr: *dst_addr,
             }),
             _ => None,
         }

@@ -4,7 +4,7 @@ ghost use Rattle.std.specs.Prelude.{◌≡◌, ◌≤◌, ◌+◌, ◌++◌, IfS
 ghost use Rattle.ip_wire.specs.Ip.{dst_addr_of, header_len_of, max_payload_len, payload_len_of, src_addr_of};
 ghost use Rattle.ip_wire.specs.TcpRepr as tcp;
 ghost use Rattle.ip_wire.specs.Udp as udp;
-ghost use Rattle.ip_wire_c.specs.Frames.{arp_frame, carrier, headers_bytes, reply_to, tcp_frame, tcp_frame_around, udp_frame, udp_frame_around};
+ghost use Rattle.ip_wire_c.specs.Frames.{arp_frame, back_arp, back_link, carrier, headers_bytes, reply_to, tcp_frame, tcp_frame_around, udp_frame, udp_frame_around};
 ghost use Rattle.ip_wire_c.specs.Headers.{is_expressible, link_bytes, link_of, ports_of, segment_bytes, tcp_value};
 ghost use Rattle.ip_wire_c.specs.Written.{Fills, Writes};
 
@@ -32,12 +32,42 @@ impl Ethernet {
         requires { 14 ≤ length out.old }
         ensures { out.new ≡ link_bytes self.now number ++ drop 14 out.old }
     {
+        let src = self.src;
+        let dst = self.dst;
         let value = EthernetRepr {
-            src_addr: EthernetAddress(self.src),
-            dst_addr: EthernetAddress(self.dst),
+            src_addr: EthernetAddress(src),
+            dst_addr: EthernetAddress(dst),
             ethertype: EthernetProtocol::Unknown(number),
         };
         value.emit(&mut EthernetFrameMut::new_unchecked(out));
+    }
+
+    // The header of the way back.
+    fn reversed(&self) -> Ethernet
+        ensures { result ≡ back_link self.now }
+    {
+        let src = self.dst;
+        let dst = self.src;
+        Ethernet {
+            src,
+            dst,
+            ethertype: self.ethertype,
+        }
+    }
+}
+
+impl Arp {
+    // The same of ARP.
+    fn reversed(&self) -> Arp
+        ensures { result ≡ back_arp self.now }
+    {
+        let src_hardware = self.dst_hardware;
+        let dst_hardware = self.src_hardware;
+        Arp {
+            operation: self.operation,
+            src_hardware,
+            dst_hardware,
+        }
     }
 }
 
@@ -218,26 +248,6 @@ impl FrameFields {
         }
     }
 
-    // The reply: addresses and endpoints are exchanged.
-    fn reply(&self) -> FrameFields
-        ensures { result ≡ reply_to self.now }
-    {
-        FrameFields {
-            src: self.dst,
-            dst: self.src,
-            ethernet: Ethernet {
-                src: self.ethernet.dst,
-                dst: self.ethernet.src,
-                ..self.ethernet
-            },
-            arp: Arp {
-                src_hardware: self.arp.dst_hardware,
-                dst_hardware: self.arp.src_hardware,
-                ..self.arp
-            },
-            ..*self
-        }
-    }
 }
 
 /// Fills in the reply to a frame that was read.
@@ -245,7 +255,11 @@ impl FrameFields {
 pub extern "C" fn lk_reply(frame: &FrameFields, reply: &mut FrameFields)
     ensures { reply.new ≡ reply_to frame.now }
 {
-    *reply = frame.reply();
+    *reply = *frame;
+    reply.src = frame.dst;
+    reply.dst = frame.src;
+    reply.ethernet = frame.ethernet.reversed();
+    reply.arp = frame.arp.reversed();
 }
 
 /// Writes a whole frame with a UDP packet and this payload.

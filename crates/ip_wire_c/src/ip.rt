@@ -45,11 +45,11 @@ impl Ip {
         ensures { result ≡ ip_between self.now protocol payload_len src_addr dst_addr }
     {
         let (next_header, hop_limit) = (IpProtocol::Unknown(protocol), self.hop_limit);
-        match (src_addr, dst_addr) {
+        match (&src_addr, &dst_addr) {
             (IpAddress::Ipv4(src_addr), IpAddress::Ipv4(dst_addr)) => {
                 Some(IpRepr::Ipv4(Ipv4Repr {
-                    src_addr,
-                    dst_addr,
+                    src_addr: *src_addr,
+                    dst_addr: *dst_addr,
                     next_header,
                     payload_len,
                     hop_limit,
@@ -57,8 +57,8 @@ impl Ip {
             }
             (IpAddress::Ipv6(src_addr), IpAddress::Ipv6(dst_addr)) => {
                 Some(IpRepr::Ipv6(Ipv6Repr {
-                    src_addr,
-                    dst_addr,
+                    src_addr: *src_addr,
+                    dst_addr: *dst_addr,
                     next_header,
                     payload_len,
                     hop_limit,

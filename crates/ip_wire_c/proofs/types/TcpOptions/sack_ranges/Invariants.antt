@@ -1,6 +1,6 @@
 use Rattle.std.proofs.Common.{◌≡◌, ℕ, ◌<◌, length, get_or, None}
 use Rattle.ip_wire_c.specs.Headers.{range_at}
-use Rattle.ip_wire_c.proofs.tcp_value.TcpOptions.sack_ranges.Given as goal
+use Rattle.ip_wire_c.proofs.types.TcpOptions.sack_ranges.Given as goal
 
 abbrev pub invariant-loop-i : goal.invariant-loop-i
 invariant-loop-i l = record {
