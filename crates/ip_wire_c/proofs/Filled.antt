@@ -1,12 +1,13 @@
 -- What fills the front of a slice.
-use Rattle.std.proofs.Common.{◌≡◌, ◌∙◌, ℕ, ℤ, pos, ◌+◌, ◌≤◌, List, [], ◌++◌, Option, Some, None, drop, length, take, ap, sym, append-nil, arith}
+use Rattle.std.proofs.Common.{◌≡◌, ◌∙◌, ℕ, ℤ, pos, SFits, to_z, of_z, w64, ◌+◌, ◌≤◌, List, [], ◌++◌, Option, Some, None, drop, length, take, ap, sym, append-nil, arith}
 use Rattle.std.proofs.lemmas.Grind.{common_steps}
+use Rattle.std.proofs.lemmas.Int.{to_z-of_z}
 use Rattle.ip_wire_c.specs.Written.{Fills, Writes, returned}
 
 -- ---- a header in front of what it carries
 
 -- a header that fills the front of a slice
-front_filled : (header old front : List ℕ) (size : ℕ) → size ≤ length old → front ≡ header ++ drop size (take size old) → front ≡ header
+pub front_filled : (header old front : List ℕ) (size : ℕ) → size ≤ length old → front ≡ header ++ drop size (take size old) → front ≡ header
 front_filled header old front size room e =
     let none : drop size (take size old) ≡ [] = grind (arith, common_steps) in
     e ∙ ap (λ rest. header ++ rest) none ∙ grind (arith, common_steps)
@@ -32,14 +33,24 @@ filled-part bytes old front written rest len room size is is_written behind =
 
 -- ---- what C gets
 
-pub writes-filled : (bytes : Option (List ℕ)) (old new : List ℕ) (len : Option ℕ) (answer : ℤ) → Fills bytes old new len → answer ≡ returned len
+filled-writes : (bytes : Option (List ℕ)) (old new : List ℕ) (len : Option ℕ) (answer : ℤ) → Fills bytes old new len → answer ≡ returned len
     → Writes bytes old new answer
-writes-filled None old new len answer (none, stays) is = (is ∙ ap returned none, stays)
-writes-filled (Some bytes) old new None answer (short, stays) is = record {
+filled-writes None old new len answer (none, stays) is = (is ∙ ap returned none, stays)
+filled-writes (Some bytes) old new None answer (short, stays) is = record {
   fits = λ room. absurd (omega (arith, room, short));
   no_room = λ less. (is, stays);
 }
-writes-filled (Some bytes) old new (Some n) answer (len, room, holds) is = record {
+filled-writes (Some bytes) old new (Some n) answer (len, room, holds) is = record {
   fits = λ _. (is ∙ ap pos len, holds ∙ ap (λ k. bytes ++ drop k old) len);
   no_room = λ less. absurd (omega (arith, len, room, less));
 }
+
+pub writes-filled : (bytes : Option (List ℕ)) (old new : List ℕ) (len : Option ℕ) (answer : ℤ) → Fills bytes old new len → answer ≡ returned len
+    → SFits w64 answer → Writes bytes old new (to_z w64 (of_z w64 answer))
+writes-filled bytes old new len answer fills is fits = filled-writes bytes old new len _ fills (to_z-of_z w64 answer fits ∙ is)
+
+-- ---- a front that is written in several steps
+
+pub filled-header : (header old front written rest : List ℕ) (size : ℕ) → front ≡ written → written ≡ header → rest ≡ drop size old
+    → front ++ rest ≡ header ++ drop size old
+filled-header header old front written rest size is is_header behind = ap (λ part. part ++ rest) (is ∙ is_header) ∙ ap (λ part. header ++ part) behind

@@ -1,1 +1,3 @@
+mod Emitted
 mod Filled
+mod Framed

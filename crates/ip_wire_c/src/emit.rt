@@ -4,7 +4,7 @@ ghost use Rattle.std.specs.Prelude.{◌≡◌, Some, nat_le};
 ghost use Rattle.ip_wire_c.specs.Headers.{arp_bytes, ip_bytes, link_bytes, tcp_bytes, tcp_header_len, udp_bytes};
 ghost use Rattle.ip_wire_c.specs.Written.{Fills, Writes, is_set, returned};
 
-use crate::results::written;
+use crate::results::{is_set, written};
 use crate::types::{Addr, Arp, Endpoint, Ethernet, Ip, Tcp, TcpOptions};
 use crate::{arp, udp};
 use ip_wire::{ETHERNET_HEADER_LEN, UDP_MAX_PAYLOAD_LEN, UdpRepr};
@@ -45,7 +45,7 @@ pub extern "C" fn lk_emit_ip(
 ) -> isize
     ensures { Writes (ip_bytes header.now src.now dst.now payload_len (is_set computed)) out.old out.new result }
 {
-    written(emit_ip(header, src, dst, payload_len, computed != 0, out))
+    written(emit_ip(header, src, dst, payload_len, is_set(computed), out))
 }
 
 /// Writes a UDP header and its payload.
@@ -59,7 +59,7 @@ pub extern "C" fn lk_emit_udp(
 ) -> isize
     ensures { Writes (udp_bytes src.now dst.now payload.now (is_set computed)) out.old out.new result }
 {
-    written(emit_udp(src, dst, payload, computed != 0, out))
+    written(emit_udp(src, dst, payload, is_set(computed), out))
 }
 
 /// Writes a TCP header with its options and its payload.
@@ -75,7 +75,7 @@ pub extern "C" fn lk_emit_tcp(
 ) -> isize
     ensures { Writes (tcp_bytes header.now options.now src.now dst.now payload.now (is_set computed)) out.old out.new result }
 {
-    written(emit_tcp(header, options, src, dst, payload, computed != 0, out))
+    written(emit_tcp(header, options, src, dst, payload, is_set(computed), out))
 }
 
 /// The length of a TCP header with these options, or `LK_FAILED` if they do not fit.

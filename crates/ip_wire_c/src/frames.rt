@@ -1,10 +1,10 @@
 //! Whole frames.
 
-ghost use Rattle.std.specs.Prelude.{◌≡◌, ◌≤◌, ◌+◌, ◌++◌, IfSome, Some, drop, length, slice_range, true};
+ghost use Rattle.std.specs.Prelude.{◌≡◌, ◌≤◌, ◌+◌, ◌++◌, [], drop, length, slice_range, true};
 ghost use Rattle.ip_wire.specs.Ip.{dst_addr_of, header_len_of, max_payload_len, payload_len_of, src_addr_of};
 ghost use Rattle.ip_wire.specs.TcpRepr as tcp;
 ghost use Rattle.ip_wire.specs.Udp as udp;
-ghost use Rattle.ip_wire_c.specs.Frames.{arp_frame, back_arp, back_link, carrier, headers_bytes, reply_to, tcp_frame, tcp_frame_around, udp_frame, udp_frame_around};
+ghost use Rattle.ip_wire_c.specs.Frames.{arp_frame, back_arp, back_link, carrier, headers_bytes, reply_to, tcp_frame, tcp_frame_around, type_number, udp_frame, udp_frame_around};
 ghost use Rattle.ip_wire_c.specs.Headers.{is_expressible, link_bytes, link_of, ports_of, segment_bytes, tcp_value};
 ghost use Rattle.ip_wire_c.specs.Written.{Fills, Writes};
 
@@ -93,11 +93,7 @@ impl FrameFields {
         ensures { out.new ≡ headers_bytes self.now carrier.now }
     {
         let (link, rest) = out.split_at_mut(ETHERNET_HEADER_LEN);
-        let number = match carrier {
-            IpRepr::Ipv4(_) => IPV4,
-            IpRepr::Ipv6(_) => IPV6,
-        };
-        self.ethernet.emit(number, link);
+        self.ethernet.emit(type_number(carrier), link);
         self.ip.emit(carrier, true, rest);
     }
 
@@ -248,6 +244,17 @@ impl FrameFields {
         }
     }
 
+}
+
+// The EtherType of a packet with this header.
+#[inline(always)]
+fn type_number(carrier: &IpRepr) -> u16
+    ensures { result ≡ type_number carrier.now }
+{
+    match carrier {
+        IpRepr::Ipv4(_) => IPV4,
+        IpRepr::Ipv6(_) => IPV6,
+    }
 }
 
 /// Fills in the reply to a frame that was read.

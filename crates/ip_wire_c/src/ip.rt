@@ -1,6 +1,6 @@
 //! IP headers of either version.
 
-ghost use Rattle.std.specs.Prelude.{◌≡◌, ◌≤◌, ◌++◌, IfSome, drop, length};
+ghost use Rattle.std.specs.Prelude.{◌≡◌, ◌≤◌, ◌<◌, ◌++◌, IfSome, drop, length, true};
 ghost use Rattle.ip_wire.specs.Ip.{bytes_of, header_len_of, max_payload_len, payload_len_of};
 ghost use Rattle.ip_wire.specs.Ipv4 as ipv4;
 ghost use Rattle.ip_wire.specs.Ipv6 as ipv6;

@@ -1,7 +1,7 @@
 //! What calls for C return, and bytes that are copied to the front of a slice.
 
 ghost use Rattle.std.specs.Prelude.{◌≡◌, ◌≤◌, ◌<◌, ◌^◌, IfSome, Some};
-ghost use Rattle.ip_wire_c.specs.Written.{Fills, Writes, returned};
+ghost use Rattle.ip_wire_c.specs.Written.{Fills, Writes, is_set, returned};
 
 /// What a call returns that could not write. With any lengths added it is below 0, and as a `usize`
 /// longer than any packet.
@@ -17,6 +17,14 @@ pub fn written(len: Option<usize>) -> isize
         Some(len) => len as isize,
         None => FAILED,
     }
+}
+
+/// Whether a number of C stands for yes.
+#[inline(always)]
+pub fn is_set(number: i32) -> bool
+    ensures { result ≡ is_set number }
+{
+    number != 0
 }
 
 /// Copies bytes to the front of `out` and returns how many. `None` if they do not fit.

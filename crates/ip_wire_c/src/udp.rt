@@ -1,6 +1,6 @@
 //! UDP packets.
 
-ghost use Rattle.std.specs.Prelude.{◌≡◌, ◌≤◌, ◌+◌, ◌++◌, Some, drop, length, slice_range};
+ghost use Rattle.std.specs.Prelude.{◌≡◌, ◌≤◌, ◌+◌, ◌++◌, Some, drop, length, slice_range, true};
 ghost use Rattle.ip_wire.specs.IpAddress.{version_of};
 ghost use Rattle.ip_wire.specs.Udp.{bytes_of, max_payload_len};
 ghost use Rattle.net_base.specs.Checksum.{computes};
