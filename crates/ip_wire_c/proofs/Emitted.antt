@@ -1,6 +1,7 @@
 -- Headers that are written in place, in several steps.
-use Rattle.std.proofs.Common.{◌≡◌, ◌∙◌, ℕ, ◌+◌, ◌*◌, ◌/◌, ◌%◌, ◌≤◌, ◌<◌, Bool, false, List, [], ◌++◌, drop, length, take, slice_set, slice_range, ap, sym, subst, append-nil, arith}
+use Rattle.std.proofs.Common.{◌≡◌, ◌∙◌, ℕ, ◌+◌, ◌-◌, ◌*◌, ◌/◌, ◌%◌, ◌≤◌, ◌<◌, Bool, false, List, [], ◌++◌, drop, length, take, slice_set, slice_range, ap, sym, subst, append-nil, arith}
 use Rattle.std.proofs.lemmas.Grind.{common_steps}
+use Rattle.std.proofs.lemmas.List.{drop-take}
 use Rattle.ip_wire.specs.Field.{with_field, with_part, word_at}
 use Rattle.ip_wire.specs.TcpRepr.{TcpHeader, bytes_of, header_bytes, header_len_of}
 use Rattle.ip_wire.specs.declared.IpAddress.{IpAddress}
@@ -33,7 +34,10 @@ flags-field bytes x long small =
     rw same (grind (arith, common_steps, long))
 
 behind : (a n : ℕ) (old : List ℕ) → drop (a + 0) (take (a + n) old) ≡ slice_range old a (a + n)
-behind a n old = grind (arith, common_steps)
+behind a n old =
+    let first : a + 0 ≡ a = omega arith in
+    let count : a + n - a ≡ n = omega arith in
+    ap (λ k. drop k (take (a + n) old)) first ∙ drop-take a n old ∙ ap (λ k. take k (drop a old)) (sym count)
 
 -- a header that is emitted without a payload, before the payload that is there
 pub header-before : (v : TcpHeader) (payload old part bytes : List ℕ) (src dst : IpAddress) (n : ℕ) → payload ≡ [] → part ≡ take (header_len_of v + n) old

@@ -1,5 +1,5 @@
 -- What fills the front of a slice.
-use Rattle.std.proofs.Common.{◌≡◌, ◌∙◌, ℕ, ℤ, pos, SFits, to_z, of_z, w64, ◌+◌, ◌≤◌, List, [], ◌++◌, Option, Some, None, drop, length, take, ap, sym, append-nil, arith}
+use Rattle.std.proofs.Common.{◌≡◌, ◌∙◌, ℕ, ℤ, pos, SFits, to_z, of_z, w64, ◌+◌, ◌≤◌, List, [], ◌++◌, Option, Some, None, drop, length, slice_range, take, ap, sym, append-nil, arith}
 use Rattle.std.proofs.lemmas.Grind.{common_steps}
 use Rattle.std.proofs.lemmas.Int.{to_z-of_z}
 use Rattle.ip_wire_c.specs.Written.{Fills, Writes, returned}
@@ -54,3 +54,24 @@ writes-filled bytes old new len answer fills is fits = filled-writes bytes old n
 pub filled-header : (header old front written rest : List ℕ) (size : ℕ) → front ≡ written → written ≡ header → rest ≡ drop size old
     → front ++ rest ≡ header ++ drop size old
 filled-header header old front written rest size is is_header behind = ap (λ part. part ++ rest) (is ∙ is_header) ∙ ap (λ part. header ++ part) behind
+
+-- ---- a payload that is copied to its place
+
+placed-part : (old payload : List ℕ) (a : ℕ) → a + length payload ≤ length old
+    → slice_range (take a old ++ payload ++ drop (a + length payload) old) a (a + length payload) ≡ payload
+placed-part old payload a room = grind (arith, common_steps, room)
+
+placed-rest : (old payload : List ℕ) (a : ℕ) → a + length payload ≤ length old
+    → drop (a + length payload) (take a old ++ payload ++ drop (a + length payload) old) ≡ drop (a + length payload) old
+placed-rest old payload a room = grind (arith, common_steps, room)
+
+-- what is written around it there is what is written around it anywhere
+pub placed : (F : List ℕ → List ℕ) (payload old full new : List ℕ) (a : ℕ) → a + length payload ≤ length old
+    → full ≡ take a old ++ payload ++ drop (a + length payload) old
+    → new ≡ F (slice_range full a (a + length payload)) ++ drop (a + length payload) full
+    → new ≡ F payload ++ drop (a + length payload) old
+placed F payload old full new a room is holds =
+    let end = a + length payload in
+    let part = ap (λ s. slice_range s a end) is ∙ placed-part old payload a room in
+    let rest = ap (λ s. drop end s) is ∙ placed-rest old payload a room in
+    holds ∙ ap (λ s. F s ++ drop end full) part ∙ ap (λ s. F payload ++ s) rest

@@ -8,7 +8,7 @@ ghost use Rattle.ip_wire_c.specs.Frames.{arp_frame, back_arp, back_link, carrier
 ghost use Rattle.ip_wire_c.specs.Headers.{is_expressible, link_bytes, link_of, ports_of, segment_bytes, tcp_value};
 ghost use Rattle.ip_wire_c.specs.Written.{Fills, Writes};
 
-use crate::results::written;
+use crate::results::{place, written};
 use crate::types::{Arp, Ethernet, FrameFields, TcpOptions};
 use crate::{arp, udp};
 use ip_wire::{
@@ -159,7 +159,7 @@ impl FrameFields {
         if out.len() < end {
             return None;
         }
-        out[start..end].copy_from_slice(payload);
+        place(payload, start, out);
         self.wrap_udp(&carrier, payload.len(), out);
         Some(end)
     }
@@ -200,7 +200,7 @@ impl FrameFields {
         if out.len() < end {
             return None;
         }
-        out[start..end].copy_from_slice(payload);
+        place(payload, start, out);
         self.wrap_tcp(&carrier, &segment, payload.len(), out);
         Some(end)
     }

@@ -1,6 +1,6 @@
 //! What calls for C return, and bytes that are copied to the front of a slice.
 
-ghost use Rattle.std.specs.Prelude.{◌≡◌, ◌≤◌, ◌<◌, ◌^◌, IfSome, Some};
+ghost use Rattle.std.specs.Prelude.{◌≡◌, ◌+◌, ◌<◌, ◌≤◌, ◌^◌, ◌++◌, IfSome, Some, drop, length, take};
 ghost use Rattle.ip_wire_c.specs.Written.{Fills, Writes, is_set, returned};
 
 /// What a call returns that could not write. With any lengths added it is below 0, and as a `usize`
@@ -36,6 +36,14 @@ pub fn copy(bytes: &[u8], out: &mut [u8]) -> Option<usize>
     }
     out[..bytes.len()].copy_from_slice(bytes);
     Some(bytes.len())
+}
+
+/// Copies bytes to `out`, from byte `start` on.
+pub fn place(bytes: &[u8], start: usize, out: &mut [u8])
+    requires { start + length bytes.now ≤ length out.old }
+    ensures { out.new ≡ take start out.old ++ bytes.now ++ drop (start + length bytes.now) out.old }
+{
+    out[start..start + bytes.len()].copy_from_slice(bytes);
 }
 
 /// Writes a text to the front of `out`, and returns its length or `FAILED`.

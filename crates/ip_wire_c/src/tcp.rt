@@ -7,6 +7,7 @@ ghost use Rattle.ip_wire.specs.TcpRepr.{bytes_of, header_len_of, header_of};
 ghost use Rattle.ip_wire_c.specs.Headers.{segment_bytes};
 ghost use Rattle.ip_wire_c.specs.Written.{Fills};
 
+use crate::results::place;
 use crate::types::Tcp;
 use ip_wire::{IpAddress, TcpPacketMut, TcpRepr};
 use net_base::ChecksumCapabilities;
@@ -93,8 +94,7 @@ impl Tcp {
         ensures { let v = header_of value.now in let end = header_len_of v + length payload.now in
             out.new ≡ segment_bytes self.now v payload.now src_addr dst_addr computed ++ drop end out.old }
     {
-        let start = value.header_len();
-        out[start..start + payload.len()].copy_from_slice(payload);
+        place(payload, value.header_len(), out);
         self.wrap(value, src_addr, dst_addr, payload.len(), computed, out);
     }
 }

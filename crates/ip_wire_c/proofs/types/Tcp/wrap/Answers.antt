@@ -1,4 +1,5 @@
 use Rattle.std.proofs.Common.{◌≡◌, ◌∙◌, ◌+◌, ◌≤◌, ◌<◌, false, if◌then◌else◌, ap, sym, take, length, slice_range, slice_set, rules, arith}
+use Rattle.std.proofs.lemmas.Grind.{common_steps}
 use Rattle.net_base.specs.Checksum.{computes}
 use Rattle.ip_wire.specs.Tcp.{packet_bytes_mut, with_checksum}
 use Rattle.ip_wire.specs.TcpRepr.{header_bytes, header_len_of, header_of}
@@ -19,7 +20,9 @@ returns-then-computed c =
     let caps : computes c.ignored.result.tcp ≡ false = search rules in
     let part : packet_bytes_mut c.new_unchecked.result ≡ take end old = search rules in
     let start = header-before v c.args.value.now.payload.now old _ c.emit.new.packet.buffer.now src dst c.args.payload_len c.requires.empty part (rw caps at c.emit.ensures.holds) in
-    let long : 14 ≤ length c.emit.new.packet.buffer.now = omega (arith, c.emit.ensures.same_length, part, c.requires.room) in
+    let size : length (take end old) ≡ end = grind (arith, common_steps, c.requires.room) in
+    let kept : length c.emit.new.packet.buffer.now ≡ end = c.emit.ensures.same_length ∙ ap length part ∙ size in
+    let long : 14 ≤ length c.emit.new.packet.buffer.now = omega (arith, kept) in
     let small : h.flags < 256 = search rules in
     let marked : packet_bytes_mut c.new_unchecked-segment.result ≡ slice_set c.emit.new.packet.buffer.now 13 h.flags = search rules in
     let flagged = segment-flags h v payload c.emit.new.packet.buffer.now _ c.set_urgent_at.new.self.buffer.now start long small marked c.set_urgent_at.ensures.holds in
@@ -41,7 +44,9 @@ returns-else-computed c =
     let caps : computes c.ignored.result.tcp ≡ false = search rules in
     let part : packet_bytes_mut c.new_unchecked.result ≡ take end old = search rules in
     let start = header-before v c.args.value.now.payload.now old _ c.emit.new.packet.buffer.now src dst c.args.payload_len c.requires.empty part (rw caps at c.emit.ensures.holds) in
-    let long : 14 ≤ length c.emit.new.packet.buffer.now = omega (arith, c.emit.ensures.same_length, part, c.requires.room) in
+    let size : length (take end old) ≡ end = grind (arith, common_steps, c.requires.room) in
+    let kept : length c.emit.new.packet.buffer.now ≡ end = c.emit.ensures.same_length ∙ ap length part ∙ size in
+    let long : 14 ≤ length c.emit.new.packet.buffer.now = omega (arith, kept) in
     let small : h.flags < 256 = search rules in
     let marked : packet_bytes_mut c.new_unchecked-segment.result ≡ slice_set c.emit.new.packet.buffer.now 13 h.flags = search rules in
     let flagged = segment-flags h v payload c.emit.new.packet.buffer.now _ c.set_urgent_at.new.self.buffer.now start long small marked c.set_urgent_at.ensures.holds in
