@@ -1,62 +1,97 @@
-/* A frame with padding is read, built again without the padding, and a header is written: for IPv4, and
- * for IPv6, whose addresses are printed too. Then UDP packets, TCP segments and an ARP request are
- * written, and texts read. */
+/* A frame with padding is read, rebuilt without the padding, and a header is written: for IPv4, and for
+ * IPv6. Then UDP packets, TCP segments and an ARP request are written, a received frame is answered, and
+ * texts are read and printed. */
 #include <stdio.h>
 #include <string.h>
 #include "ip_wire.h"
 
-static void print_bytes(const char *name, const uint8_t *ptr, size_t len)
+static void print_bytes(const char *name, const uint8_t *ptr, ptrdiff_t len)
 {
     printf("%s ", name);
-    for (size_t i = 0; i < len; i++)
+    if (len < 0)
+        printf("failed");
+    for (ptrdiff_t i = 0; i < len; i++)
         printf("%02x", ptr[i]);
     printf("\n");
 }
 
-static void print_address(const uint8_t *octets)
+static struct lk_addr read_addr(const char *text)
 {
-    uint8_t text[39];
-    size_t len = lk_ipv6_print(octets, text, sizeof text);
-    printf("address %.*s\n", (int)len, (const char *)text);
+    struct lk_addr addr;
+    if (!lk_addr_read(text, strlen(text), &addr))
+        printf("%s is no address\n", text), memset(&addr, 0, sizeof addr);
+    return addr;
+}
+
+static struct lk_endpoint read_endpoint(const char *text)
+{
+    struct lk_endpoint endpoint;
+    if (!lk_endpoint_read(text, strlen(text), &endpoint))
+        printf("%s is no endpoint\n", text), memset(&endpoint, 0, sizeof endpoint);
+    return endpoint;
+}
+
+static void print_addr(const struct lk_addr *addr)
+{
+    char text[39];
+    ptrdiff_t len = lk_addr_print(addr, text, sizeof text);
+    if (len >= 0)
+        printf("address %.*s\n", (int)len, text);
 }
 
 /* Says what a frame carries, and where its payload is. */
 static void print_frame(const uint8_t *ptr, size_t len)
 {
     struct lk_frame frame;
-    if (lk_read_frame(ptr, len, &frame) == LK_REFUSED)
-        printf("a header is refused at octet %zu\n", frame.payload_offset);
-    else if (frame.transport != LK_NO_TRANSPORT)
-        printf("%s from port %u to %u, payload at %zu, checksum holds: %u\n", frame.transport == LK_TCP ? "TCP" : "UDP",
-               (unsigned)frame.src_port, (unsigned)frame.dst_port, frame.payload_offset, (unsigned)frame.transport_checksum_holds);
+    char text[32];
+    int reason = lk_read_frame(ptr, len, &frame);
+    if (reason != LK_READ) {
+        ptrdiff_t text_len = lk_reason_print(reason, text, sizeof text);
+        printf("the header at octet %zu is rejected: %.*s\n", frame.payload_offset, (int)text_len, text);
+    } else if (frame.transport != LK_NO_TRANSPORT)
+        printf("%s from port %u to %u, payload at %zu, checksum right: %d\n", frame.transport == LK_TCP ? "TCP" : "UDP",
+               (unsigned)frame.src.port, (unsigned)frame.dst.port, frame.payload_offset, frame.transport_checksum == LK_RIGHT);
     else
-        printf("type %04x, protocol %u, payload at %zu\n", (unsigned)frame.ethertype, (unsigned)frame.protocol, frame.payload_offset);
+        printf("type %04x, protocol %u, payload at %zu\n", (unsigned)frame.ethernet.type, (unsigned)frame.ip.protocol, frame.payload_offset);
 }
 
-/* Reads texts of addresses, and blocks, and writes some of them again. */
+/* Answers a frame with a UDP packet: the same payload goes back to where it came from. */
+static void answer(const uint8_t *ptr, size_t len)
+{
+    struct lk_frame frame, reply;
+    uint8_t out[80];
+    if (lk_read_frame(ptr, len, &frame) != LK_READ || frame.transport != LK_UDP)
+        return;
+    lk_reply(&frame, &reply);
+    print_bytes("answer", out, lk_emit_udp_frame(&reply, ptr + frame.payload_offset, frame.payload_len, out, sizeof out));
+}
+
+/* Reads texts, and prints some of them again. */
 static void read_texts(void)
 {
-    static const char hardware[] = "AB-cd-ef-0-0-1", zeros[] = "010.0.0.1", upper[] = "2001:DB8:0::1", zone[] = "fe80::1%eth0",
-                      block[] = "10.1.2.3/8", long_prefix[] = "10.1.2.3/33";
-    uint8_t octets[16], prefix_len, out[45];
-    uint32_t addr;
-    size_t len;
+    static const char hardware[] = "AB-cd-ef-0-0-1", zeros[] = "010.0.0.1", zone[] = "fe80::1%eth0", block[] = "10.1.2.3/8",
+                      long_prefix[] = "10.1.2.3/33";
+    struct lk_addr addr = read_addr("2001:DB8:0::1"), member = read_addr("10.255.0.1");
+    struct lk_block parsed;
+    uint8_t octets[6];
+    char out[43];
+    ptrdiff_t len;
 
-    if (lk_ethernet_read((const uint8_t *)hardware, strlen(hardware), octets)) {
+    if (lk_ethernet_read(hardware, strlen(hardware), octets)) {
         len = lk_ethernet_print(octets, out, sizeof out);
-        printf("%s is %.*s\n", hardware, (int)len, (const char *)out);
+        printf("%s is %.*s\n", hardware, (int)len, out);
     }
-    if (lk_ipv4_read((const uint8_t *)zeros, strlen(zeros), &addr))
-        printf("%s is %08x\n", zeros, (unsigned)addr);
-    if (lk_ipv6_read((const uint8_t *)upper, strlen(upper), octets))
-        print_address(octets);
-    printf("%s: %u\n", zone, (unsigned)lk_ipv6_read((const uint8_t *)zone, strlen(zone), octets));
-    if (lk_ipv4_cidr_read((const uint8_t *)block, strlen(block), &addr, &prefix_len)) {
-        len = lk_ipv4_cidr_print(addr, prefix_len, out, sizeof out);
-        printf("%.*s has 10.255.0.1: %u\n", (int)len, (const char *)out, (unsigned)lk_ipv4_contains(addr, prefix_len, 0x0aff0001));
+    print_addr(&addr);
+    if (lk_addr_read(zeros, strlen(zeros), &addr)) {
+        len = lk_addr_print(&addr, out, sizeof out);
+        printf("%s is %.*s\n", zeros, (int)len, out);
     }
-    printf("%s: %u\n", long_prefix,
-           (unsigned)lk_ipv4_cidr_read((const uint8_t *)long_prefix, strlen(long_prefix), &addr, &prefix_len));
+    printf("%s: %d\n", zone, lk_addr_read(zone, strlen(zone), &addr));
+    if (lk_block_read(block, strlen(block), &parsed)) {
+        len = lk_block_print(&parsed, out, sizeof out);
+        printf("%.*s has 10.255.0.1: %d\n", (int)len, out, lk_block_contains(&parsed, &member));
+    }
+    printf("%s: %d\n", long_prefix, lk_block_read(long_prefix, strlen(long_prefix), &parsed));
 }
 
 int main(void)
@@ -78,63 +113,75 @@ int main(void)
         0xff, 0xff, 0xff, 0xff,                         /* the payload */
         0x00, 0x00,                                     /* padding */
     };
-    static const uint8_t hardware[6] = {0x02, 0, 0, 0, 0, 0x01}, unknown[6] = {0};
-    static const uint8_t link_local[16] = {0xfe, 0x80, 0, 0, 0, 0, 0, 0, 0, 0, 0, 0, 0, 0, 0, 0x01};
-    static const uint8_t all_nodes[16] = {0xff, 0x02, 0, 0, 0, 0, 0, 0, 0, 0, 0, 0, 0, 0, 0, 0x01};
-    static const uint8_t mapped[16] = {0, 0, 0, 0, 0, 0, 0, 0, 0, 0, 0xff, 0xff, 192, 168, 1, 1};
     static const uint8_t payload[] = {0xaa, 0x00, 0x00, 0xff};
+    struct lk_endpoint client = read_endpoint("192.168.1.1:48896"), server = read_endpoint("192.168.1.2:53");
+    struct lk_endpoint client6 = read_endpoint("[fe80::1]:1"), server6 = read_endpoint("[ff02::1]:2");
+    struct lk_addr src = read_addr("10.0.0.1"), dst = read_addr("10.0.0.2"), mapped = read_addr("::ffff:192.168.1.1");
+    struct lk_block site = {read_addr("192.168.0.0"), 16}, link = {client6.addr, 64};
     uint8_t out[80];
+    struct lk_ip ip;
+    ptrdiff_t len;
 
     printf("checksum of the header %04x\n", (unsigned)lk_checksum(frame + 14, 20));
-    printf("payload length %u\n", (unsigned)(lk_parse(frame, sizeof frame, 1) - 1));
     print_frame(frame, sizeof frame);
     print_frame(frame, 30);
-    print_bytes("again", out, lk_rebuild(frame, sizeof frame, out, sizeof out));
-    printf("room for 37 octets: %zu\n", lk_rebuild(frame, sizeof frame, out, 37));
-    print_bytes("header", out, lk_emit_ipv4(0x0a000001, 0x0a000002, 6, 64, 10, 1, out, sizeof out));
-    printf("a payload too long: %zu\n", lk_emit_ipv4(0, 0, 6, 64, 65516, 1, out, sizeof out));
+    print_bytes("rebuilt", out, lk_rebuild(frame, sizeof frame, out, sizeof out));
+    print_bytes("room for 37 octets:", out, lk_rebuild(frame, sizeof frame, out, 37));
 
-    printf("UDP payload length %u\n", (unsigned)(lk_parse(ipv6_frame, sizeof ipv6_frame, 1) - 1));
+    memset(&ip, 0, sizeof ip);
+    ip.protocol = 6;
+    ip.hop_limit = 64;
+    ip.dont_fragment = 1;
+    print_bytes("header", out, lk_emit_ip(&ip, &src, &dst, 10, 1, out, sizeof out));
+    print_bytes("a payload too long:", out, lk_emit_ip(&ip, &src, &dst, 65516, 1, out, sizeof out));
+
     print_frame(ipv6_frame, sizeof ipv6_frame);
-    print_bytes("again", out, lk_rebuild(ipv6_frame, sizeof ipv6_frame, out, sizeof out));
-    print_bytes("header", out, lk_emit_ipv6(link_local, all_nodes, 17, 64, 12, out, sizeof out));
-    printf("a payload too long: %zu\n",
-           lk_emit_ipv6(link_local, all_nodes, 17, 64, 65536, out, sizeof out));
-    print_address(link_local);
-    printf("in 192.168.0.0/16: %u\n", (unsigned)lk_ipv4_contains(0xc0a80000, 16, 0xc0a80101));
-    printf("in fe80::1/64: %u\n", (unsigned)lk_ipv6_contains(link_local, 64, all_nodes));
-    print_address(mapped);
-    printf("room for 6 octets: %zu\n", lk_ipv6_print(link_local, out, 6));
+    print_bytes("rebuilt", out, lk_rebuild(ipv6_frame, sizeof ipv6_frame, out, sizeof out));
+    ip.protocol = 17;
+    print_bytes("header", out, lk_emit_ip(&ip, &client6.addr, &server6.addr, 12, 1, out, sizeof out));
+    print_bytes("a payload too long:", out, lk_emit_ip(&ip, &client6.addr, &server6.addr, 65536, 1, out, sizeof out));
+    print_addr(&client6.addr);
+    printf("in 192.168.0.0/16: %d\n", lk_block_contains(&site, &client.addr));
+    printf("in fe80::1/64: %d\n", lk_block_contains(&link, &server6.addr));
+    print_addr(&mapped);
+    printf("room for 6 octets: %d\n", lk_addr_print(&client6.addr, (char *)out, 6) == LK_FAILED);
 
-    size_t len = lk_emit_udp_ipv4(0xc0a80101, 0xc0a80102, 48896, 53, payload, 4, 1, out, sizeof out);
-    print_bytes("UDP over IPv4", out, len);
-    len = lk_emit_udp_ipv6(link_local, all_nodes, 1, 2, payload, 4, 1, out, sizeof out);
-    print_bytes("UDP over IPv6", out, len);
-    printf("room for 11 octets: %zu\n",
-           lk_emit_udp_ipv4(0xc0a80101, 0xc0a80102, 48896, 53, payload, 4, 1, out, 11));
+    print_bytes("UDP over IPv4", out, lk_emit_udp(&client, &server, payload, 4, 1, out, sizeof out));
+    print_bytes("UDP over IPv6", out, lk_emit_udp(&client6, &server6, payload, 4, 1, out, sizeof out));
+    print_bytes("room for 11 octets:", out, lk_emit_udp(&client, &server, payload, 4, 1, out, 11));
 
     struct lk_tcp syn;
+    struct lk_tcp_options options;
     memset(&syn, 0, sizeof syn);
-    syn.src_port = 48896;
-    syn.dst_port = 80;
+    memset(&options, 0, sizeof options);
+    server.port = server6.port = 80;
+    client6.port = 48896;
     syn.seq_number = 0x01234567;
     syn.window_len = 0x0123;
-    syn.control = LK_TCP_SYN;
-    syn.has_max_seg_size = 1;
-    syn.max_seg_size = 1460;
-    syn.has_window_scale = 1;
-    syn.window_scale = 14;
-    syn.sack_permitted = 1;
-    len = lk_emit_tcp_ipv4(0xc0a80101, 0xc0a80102, &syn, payload, 0, 1, out, sizeof out);
-    print_bytes("SYN over IPv4", out, len);
-    len = lk_emit_tcp_ipv6(link_local, all_nodes, &syn, payload, 0, 1, out, sizeof out);
-    print_bytes("SYN over IPv6", out, len);
-    syn.control = 5;
-    printf("no such control: %zu\n",
-           lk_emit_tcp_ipv4(0xc0a80101, 0xc0a80102, &syn, payload, 0, 1, out, sizeof out));
+    syn.flags = LK_SYN;
+    options.has_max_seg_size = 1;
+    options.max_seg_size = 1460;
+    options.has_window_scale = 1;
+    options.window_scale = 14;
+    options.sack_permitted = 1;
+    print_bytes("SYN over IPv4", out, lk_emit_tcp(&syn, &options, &client, &server, payload, 0, 1, out, sizeof out));
+    print_bytes("SYN over IPv6", out, lk_emit_tcp(&syn, &options, &client6, &server6, payload, 0, 1, out, sizeof out));
+    syn.flags = LK_SYN + LK_RST;
+    print_bytes("SYN and RST:", out, lk_emit_tcp(&syn, &options, &client, &server, payload, 0, 1, out, sizeof out));
 
-    len = lk_emit_arp(1, hardware, 0xc0000201, unknown, 0xc0000202, out, sizeof out);
-    print_bytes("ARP request", out, len);
+    struct lk_frame request;
+    memset(&request, 0, sizeof request);
+    request.src = read_endpoint("192.0.2.1");
+    request.dst = read_endpoint("192.0.2.2");
+    request.arp.operation = 1;
+    memcpy(request.arp.src_hardware, "\2\0\0\0\0\1", 6);
+    print_bytes("ARP request", out, lk_emit_arp(&request.arp, &request.src.addr, &request.dst.addr, out, sizeof out));
+    memcpy(request.ethernet.src, request.arp.src_hardware, 6);
+    memset(request.ethernet.dst, 0xff, 6);
+    len = lk_emit_arp_frame(&request, out, sizeof out);
+    print_bytes("ARP frame", out, len);
+
+    answer(ipv6_frame, sizeof ipv6_frame);
     read_texts();
     return 0;
 }

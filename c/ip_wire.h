@@ -250,7 +250,7 @@ void lk_reply(const struct lk_frame *frame, struct lk_frame *reply);
  *
  * - it does not fit into `cap` octets, or `len` is more than the IP packet can carry,
  * - the two addresses have no version or different versions,
- * - a field of `ip` has too many bits, or says that the packet is a fragment. */
+ * - lk_emit_ip would reject `ip`, or `ip` says that the packet is a fragment. */
 ptrdiff_t lk_emit_udp_frame(const struct lk_frame *headers, const uint8_t *ptr, size_t len, uint8_t *out,
                             size_t cap);
 
@@ -278,12 +278,20 @@ ptrdiff_t lk_emit_arp_frame(const struct lk_frame *headers, uint8_t *out, size_t
 /* Writes an Ethernet header, 14 octets. */
 ptrdiff_t lk_emit_ethernet(const struct lk_ethernet *header, uint8_t *out, size_t cap);
 
-/* Writes an ARP packet, 28 octets. */
+/* Writes an ARP packet, 28 octets. Returns LK_FAILED also if an address is no IPv4 address. */
 ptrdiff_t lk_emit_arp(const struct lk_arp *header, const struct lk_addr *src, const struct lk_addr *dst,
                       uint8_t *out, size_t cap);
 
 /* Writes an IPv4 header of 20 octets or an IPv6 header of 40 octets, by the version of the addresses, for
- * a payload of `payload_len` octets: at most 65515 for IPv4 and 65535 for IPv6. */
+ * a payload of `payload_len` octets: at most 65515 for IPv4 and 65535 for IPv6. Returns LK_FAILED also if
+ * the addresses have no version or different versions, or if
+ *
+ * - `dscp` is more than 63 or `ecn` more than 3,
+ * - IPv4: `ident` is more than 65535, or `fragment_offset` is no multiple of 8,
+ * - IPv6: `flow_label` is more than 1048575, or `ident`, `fragment_offset` or `more_fragments` is not 0,
+ *   since no fragment header is written.
+ *
+ * `flow_label` is not used for IPv4, and `dont_fragment` is not used for IPv6. */
 ptrdiff_t lk_emit_ip(const struct lk_ip *header, const struct lk_addr *src, const struct lk_addr *dst,
                      size_t payload_len, int computed, uint8_t *out, size_t cap);
 
@@ -292,7 +300,9 @@ ptrdiff_t lk_emit_ip(const struct lk_ip *header, const struct lk_addr *src, cons
 ptrdiff_t lk_emit_udp(const struct lk_endpoint *src, const struct lk_endpoint *dst, const uint8_t *ptr,
                       size_t len, int computed, uint8_t *out, size_t cap);
 
-/* Writes a TCP header with its options and the `len` octets at `ptr`, together at most 65535. */
+/* Writes a TCP header with its options and the `len` octets at `ptr`, together at most 65535. Options and
+ * flags are rejected as by lk_emit_tcp_frame. `ack_number` and `urgent_at` are written whatever the flags
+ * are. SACK ranges beside `sack_permitted` are not written; zeros stand in their place. */
 ptrdiff_t lk_emit_tcp(const struct lk_tcp *header, const struct lk_tcp_options *options,
                       const struct lk_endpoint *src, const struct lk_endpoint *dst, const uint8_t *ptr,
                       size_t len, int computed, uint8_t *out, size_t cap);

@@ -1,13 +1,13 @@
-/* Calls of the C library that are refused, that have no room or just enough, and that are given null with
+/* Calls of the C library that are rejected, that have no room or just enough, and that are given null with
  * length 0. Each `out` is compared with what it held before. */
-#include <stddef.h>
 #include <stdio.h>
 #include <string.h>
 #include "../c/ip_wire.h"
 
-enum { ROOM = 128, OLD = 0xa5 };
+enum { ROOM = 160, OLD = 0xa5 };
 
 static uint8_t out[ROOM];
+static char text_out[ROOM];
 static int failures;
 
 static void check(int line, int holds)
@@ -21,153 +21,306 @@ static void check(int line, int holds)
 static void clear(void)
 {
     memset(out, OLD, sizeof out);
+    memset(text_out, OLD, sizeof text_out);
 }
 
 static int is_old_from(size_t first)
 {
-    for (size_t i = first; i < sizeof out; i++)
-        if (out[i] != OLD)
+    for (size_t i = first; i < ROOM; i++)
+        if (out[i] != OLD || (uint8_t)text_out[i] != OLD)
             return 0;
     return 1;
 }
 
-/* A call is refused, with this room, and leaves all of `out`. */
-#define REFUSES(call) (clear(), check(__LINE__, (call) == 0 && is_old_from(0)))
+/* A call is rejected, with this room, and leaves all of `out`. */
+#define REJECTS(call) (clear(), check(__LINE__, (call) == LK_FAILED && is_old_from(0)))
 
-/* A call needs `len` octets and leaves what is behind them; with one less, and with none, it is refused. */
+/* A call needs `len` octets and leaves what is behind them; with one less, and with none, it is rejected. */
 #define NEEDS(len, cap, call) \
     do { \
         size_t cap = (len); \
         clear(); \
         check(__LINE__, (call) == (len) && is_old_from(len)); \
         cap = (len) - 1; \
-        REFUSES(call); \
+        REJECTS(call); \
+        cap = 0; \
+        REJECTS(call); \
     } while (0)
 
-static const uint8_t low[16] = {0xfe, 0x80, 0, 0, 0, 0, 0, 0, 0, 0, 0, 0, 0, 0, 0, 0x01};
-static const uint8_t zeros[16] = {0};
-static const uint8_t ones[16] = {255, 255, 255, 255, 255, 255, 255, 255, 255, 255, 255, 255, 255, 255, 255, 255};
+static const uint8_t hardware[6] = {0xfe, 0x80, 0, 0, 0, 1};
 static const uint8_t bytes[4] = {1, 2, 3, 4};
+static const struct lk_ethernet ethernet = {{1}, {2}, 3};
+static const struct lk_arp arp = {1, {2}, {3}};
+static const struct lk_ip ip = {0, 0, 0, 6, 64, 0, 0, 0, 0};
+static const struct lk_tcp tcp = {1, 2, 3, 4, LK_SYN, 0};
+static const struct lk_endpoint low4 = {{{1, 2, 3, 4}, 4}, 3}, low6 = {{{0xfe, 0x80, 0, 0, 0, 0, 0, 0, 0, 0, 0, 0, 0, 0, 0, 1}, 6}, 4};
+static const struct lk_endpoint high6 = {{{255, 255, 255, 255, 255, 255, 255, 255, 255, 255, 255, 255, 255, 255, 255, 255}, 6}, 65535};
+static const struct lk_endpoint no_version = {{{1}, 0}, 5}, version5 = {{{1}, 5}, 6}, version260 = {{{1}, 260}, 6};
 
-static void emit(void)
+static struct lk_tcp_options no_options(void)
 {
-    struct lk_tcp tcp;
-    memset(&tcp, 0, sizeof tcp);
-    NEEDS(28, cap, lk_emit_arp(1, low, 1, low, 2, out, cap));
-    NEEDS(20, cap, lk_emit_ipv4(1, 2, 6, 64, 65515, 1, out, cap));
-    NEEDS(40, cap, lk_emit_ipv6(low, low, 6, 64, 65535, out, cap));
-    NEEDS(12, cap, lk_emit_udp_ipv4(1, 2, 3, 4, bytes, 4, 1, out, cap));
-    NEEDS(12, cap, lk_emit_udp_ipv6(low, low, 3, 4, bytes, 4, 1, out, cap));
-    NEEDS(24, cap, lk_emit_tcp_ipv4(1, 2, &tcp, bytes, 4, 1, out, cap));
-    NEEDS(24, cap, lk_emit_tcp_ipv6(low, low, &tcp, bytes, 4, 1, out, cap));
-    REFUSES(lk_emit_ipv4(1, 2, 6, 64, 65516, 1, out, ROOM));
-    REFUSES(lk_emit_ipv6(low, low, 6, 64, 65536, out, ROOM));
-    tcp.control = 5;
-    REFUSES(lk_emit_tcp_ipv4(1, 2, &tcp, bytes, 4, 1, out, ROOM));
-    tcp.control = LK_TCP_RST;
-    tcp.sack_range_count = sizeof tcp.sack_ranges / sizeof tcp.sack_ranges[0] + 1;
-    REFUSES(lk_emit_tcp_ipv6(low, low, &tcp, bytes, 4, 1, out, ROOM));
+    struct lk_tcp_options options;
+    memset(&options, 0, sizeof options);
+    return options;
+}
+
+static void link_layer(void)
+{
+    NEEDS(14, cap, lk_emit_ethernet(&ethernet, out, cap));
+    NEEDS(28, cap, lk_emit_arp(&arp, &low4.addr, &low4.addr, out, cap));
+    REJECTS(lk_emit_arp(&arp, &low6.addr, &low6.addr, out, ROOM));
+    REJECTS(lk_emit_arp(&arp, &low4.addr, &low6.addr, out, ROOM));
+    REJECTS(lk_emit_arp(&arp, &no_version.addr, &low4.addr, out, ROOM));
+}
+
+/* A header with one field more than the other. */
+#define WITH(field, value) (changed = ip, changed.field = (value), &changed)
+
+static void network_layer(void)
+{
+    const struct lk_addr *four = &low4.addr, *six = &low6.addr;
+    struct lk_ip changed;
+    NEEDS(20, cap, lk_emit_ip(&ip, four, four, 65515, 1, out, cap));
+    NEEDS(40, cap, lk_emit_ip(&ip, six, six, 65535, 1, out, cap));
+    REJECTS(lk_emit_ip(&ip, four, four, 65516, 1, out, ROOM));
+    REJECTS(lk_emit_ip(&ip, six, six, 65536, 1, out, ROOM));
+    REJECTS(lk_emit_ip(&ip, four, four, (size_t)-1, 1, out, ROOM));
+    REJECTS(lk_emit_ip(&ip, four, six, 0, 1, out, ROOM));
+    REJECTS(lk_emit_ip(&ip, six, four, 0, 1, out, ROOM));
+    REJECTS(lk_emit_ip(&ip, &no_version.addr, &no_version.addr, 0, 1, out, ROOM));
+    REJECTS(lk_emit_ip(&ip, &version5.addr, &version5.addr, 0, 1, out, ROOM));
+    REJECTS(lk_emit_ip(&ip, &version260.addr, &version260.addr, 0, 1, out, ROOM));
+    REJECTS(lk_emit_ip(WITH(dscp, 64), four, four, 0, 1, out, ROOM));
+    REJECTS(lk_emit_ip(WITH(dscp, 64), six, six, 0, 1, out, ROOM));
+    REJECTS(lk_emit_ip(WITH(ecn, 4), four, four, 0, 1, out, ROOM));
+    REJECTS(lk_emit_ip(WITH(ecn, 4), six, six, 0, 1, out, ROOM));
+    REJECTS(lk_emit_ip(WITH(ident, 65536), four, four, 0, 1, out, ROOM));
+    REJECTS(lk_emit_ip(WITH(ident, 1), six, six, 0, 1, out, ROOM));
+    REJECTS(lk_emit_ip(WITH(fragment_offset, 7), four, four, 0, 1, out, ROOM));
+    REJECTS(lk_emit_ip(WITH(fragment_offset, 8), six, six, 0, 1, out, ROOM));
+    REJECTS(lk_emit_ip(WITH(more_fragments, 1), six, six, 0, 1, out, ROOM));
+    REJECTS(lk_emit_ip(WITH(flow_label, 1 << 20), six, six, 0, 1, out, ROOM));
+    NEEDS(20, cap, lk_emit_ip(WITH(ident, 65535), four, four, 0, 1, out, cap));
+    NEEDS(20, cap, lk_emit_ip(WITH(fragment_offset, 65528), four, four, 0, 1, out, cap));
+    NEEDS(40, cap, lk_emit_ip(WITH(flow_label, (1 << 20) - 1), six, six, 0, 1, out, cap));
+}
+
+static void transport_layer(void)
+{
+    static const uint8_t longest[65536] = {0};
+    struct lk_tcp_options none = no_options(), options = no_options();
+    struct lk_tcp changed = tcp;
+    NEEDS(12, cap, lk_emit_udp(&low4, &low4, bytes, 4, 1, out, cap));
+    NEEDS(12, cap, lk_emit_udp(&low6, &low6, bytes, 4, 1, out, cap));
+    REJECTS(lk_emit_udp(&low4, &low6, bytes, 4, 1, out, ROOM));
+    REJECTS(lk_emit_udp(&no_version, &no_version, bytes, 4, 1, out, ROOM));
+    REJECTS(lk_emit_udp(&low4, &low4, longest, 65528, 1, out, ROOM));
+    NEEDS(24, cap, lk_emit_tcp(&tcp, &none, &low4, &low4, bytes, 4, 1, out, cap));
+    NEEDS(24, cap, lk_emit_tcp(&tcp, &none, &low6, &low6, bytes, 4, 1, out, cap));
+    REJECTS(lk_emit_tcp(&tcp, &none, &low6, &low4, bytes, 4, 1, out, ROOM));
+    REJECTS(lk_emit_tcp(&tcp, &none, &low4, &low4, longest, 65516, 1, out, ROOM));
+    for (int flags = 0; flags < 256; flags++) {
+        int controls = (flags & LK_FIN) / LK_FIN + (flags & LK_SYN) / LK_SYN + (flags & LK_RST) / LK_RST;
+        changed.flags = (uint8_t)flags;
+        clear();
+        check(__LINE__, lk_emit_tcp(&changed, &none, &low4, &low4, bytes, 4, 1, out, ROOM) == (controls > 1 ? LK_FAILED : 24));
+        check(__LINE__, is_old_from(controls > 1 ? 0 : 24));
+    }
+    options.sack_range_count = 5;
+    REJECTS(lk_emit_tcp(&tcp, &options, &low4, &low4, bytes, 4, 1, out, ROOM));
+    REJECTS(lk_tcp_header_len(&options));
+    options.sack_range_count = 4;
+    NEEDS(60, cap, lk_emit_tcp(&tcp, &options, &low4, &low4, bytes, 4, 1, out, cap));
+    check(__LINE__, lk_tcp_header_len(&options) == 56);
+    options.has_max_seg_size = 1;
+    check(__LINE__, lk_tcp_header_len(&options) == 60);
+    options.has_window_scale = 1;
+    REJECTS(lk_tcp_header_len(&options));
+    REJECTS(lk_emit_tcp(&tcp, &options, &low4, &low4, bytes, 4, 1, out, ROOM));
+}
+
+static struct lk_frame headers(const struct lk_endpoint *src, const struct lk_endpoint *dst)
+{
+    struct lk_frame frame;
+    memset(&frame, 0, sizeof frame);
+    frame.src = *src;
+    frame.dst = *dst;
+    return frame;
+}
+
+/* No frame is written for these headers. */
+static void rejects_frames(const struct lk_frame *frame)
+{
+    struct lk_tcp_options none = no_options();
+    REJECTS(lk_emit_udp_frame(frame, bytes, 4, out, ROOM));
+    REJECTS(lk_emit_tcp_frame(frame, &none, bytes, 4, out, ROOM));
+    REJECTS(lk_wrap_udp_frame(frame, 4, out, ROOM));
+    REJECTS(lk_wrap_tcp_frame(frame, &none, 4, out, ROOM));
+}
+
+static void frames(void)
+{
+    static const uint8_t longest[65536] = {0};
+    struct lk_tcp_options none = no_options(), many = no_options();
+    struct lk_frame ipv4 = headers(&low4, &low4), ipv6 = headers(&low6, &low6), mixed = headers(&low4, &low6), other;
+    many.sack_range_count = 5;
+    NEEDS(46, cap, lk_emit_udp_frame(&ipv4, bytes, 4, out, cap));
+    NEEDS(66, cap, lk_emit_udp_frame(&ipv6, bytes, 4, out, cap));
+    NEEDS(58, cap, lk_emit_tcp_frame(&ipv4, &none, bytes, 4, out, cap));
+    NEEDS(78, cap, lk_emit_tcp_frame(&ipv6, &none, bytes, 4, out, cap));
+    NEEDS(46, cap, lk_wrap_udp_frame(&ipv4, 4, out, cap));
+    NEEDS(66, cap, lk_wrap_udp_frame(&ipv6, 4, out, cap));
+    NEEDS(58, cap, lk_wrap_tcp_frame(&ipv4, &none, 4, out, cap));
+    NEEDS(78, cap, lk_wrap_tcp_frame(&ipv6, &none, 4, out, cap));
+    NEEDS(42, cap, lk_emit_arp_frame(&ipv4, out, cap));
+    REJECTS(lk_emit_arp_frame(&ipv6, out, ROOM));
+    REJECTS(lk_emit_arp_frame(&mixed, out, ROOM));
+    rejects_frames(&mixed);
+    other = headers(&no_version, &no_version);
+    rejects_frames(&other);
+    other = ipv4, other.ip.more_fragments = 1;
+    rejects_frames(&other);
+    other = ipv4, other.ip.fragment_offset = 8;
+    rejects_frames(&other);
+    other = ipv4, other.ip.dscp = 64;
+    rejects_frames(&other);
+    other = ipv6, other.ip.flow_label = 1 << 20;
+    rejects_frames(&other);
+    other = ipv4, other.tcp.flags = LK_SYN + LK_FIN;
+    REJECTS(lk_emit_tcp_frame(&other, &none, bytes, 4, out, ROOM));
+    REJECTS(lk_wrap_tcp_frame(&other, &none, 4, out, ROOM));
+    REJECTS(lk_emit_tcp_frame(&ipv4, &many, bytes, 4, out, ROOM));
+    REJECTS(lk_wrap_tcp_frame(&ipv4, &many, 4, out, ROOM));
+    REJECTS(lk_emit_udp_frame(&ipv4, longest, 65508, out, ROOM));
+    REJECTS(lk_wrap_udp_frame(&ipv6, (size_t)-1, out, ROOM));
+    REJECTS(lk_wrap_tcp_frame(&ipv6, &none, (size_t)-1, out, ROOM));
+}
+
+/* A call that failed, added to a length as if it had not: the next call rejects it. */
+static void mistakes(void)
+{
+    struct lk_frame ipv4 = headers(&low4, &low4);
+    struct lk_tcp_options none = no_options();
+    ptrdiff_t len = 20;
+    clear();
+    len += lk_emit_udp(&low4, &low6, bytes, 4, 1, out, ROOM);
+    check(__LINE__, len < 0);
+    REJECTS(lk_emit_ip(&ip, &low4.addr, &low4.addr, (size_t)len, 1, out, ROOM));
+    REJECTS(lk_wrap_udp_frame(&ipv4, (size_t)len, out, ROOM));
+    REJECTS(lk_wrap_tcp_frame(&ipv4, &none, (size_t)len, out, ROOM));
+    len += LK_FAILED;
+    check(__LINE__, len < 0);
+    REJECTS(lk_wrap_udp_frame(&ipv4, (size_t)len, out, ROOM));
 }
 
 static void print(void)
 {
-    NEEDS(17, cap, lk_ethernet_print(low, out, cap));
-    NEEDS(7, cap, lk_ipv4_print(0x01020304, out, cap));
-    NEEDS(7, cap, lk_ipv6_print(low, out, cap));
-    NEEDS(9, cap, lk_ipv4_cidr_print(0x01020304, 8, out, cap));
-    NEEDS(10, cap, lk_ipv6_cidr_print(low, 64, out, cap));
-    NEEDS(9, cap, lk_ipv4_endpoint_print(0x01020304, 8, out, cap));
-    NEEDS(11, cap, lk_ipv6_endpoint_print(low, 8, out, cap));
-    NEEDS(47, cap, lk_ipv6_endpoint_print(ones, 65535, out, cap));
-    REFUSES(lk_ipv4_cidr_print(0x01020304, 33, out, ROOM));
-    REFUSES(lk_ipv6_cidr_print(low, 129, out, ROOM));
+    struct lk_block block4 = {{{1, 2, 3, 4}, 4}, 8}, block6 = {{{0xfe, 0x80, 0, 0, 0, 0, 0, 0, 0, 0, 0, 0, 0, 0, 0, 1}, 6}, 64};
+    NEEDS(17, cap, lk_ethernet_print(hardware, text_out, cap));
+    NEEDS(7, cap, lk_addr_print(&low4.addr, text_out, cap));
+    NEEDS(7, cap, lk_addr_print(&low6.addr, text_out, cap));
+    NEEDS(9, cap, lk_block_print(&block4, text_out, cap));
+    NEEDS(10, cap, lk_block_print(&block6, text_out, cap));
+    NEEDS(9, cap, lk_endpoint_print(&low4, text_out, cap));
+    NEEDS(11, cap, lk_endpoint_print(&low6, text_out, cap));
+    NEEDS(47, cap, lk_endpoint_print(&high6, text_out, cap));
+    REJECTS(lk_addr_print(&no_version.addr, text_out, ROOM));
+    REJECTS(lk_addr_print(&version5.addr, text_out, ROOM));
+    REJECTS(lk_endpoint_print(&version260, text_out, ROOM));
+    block4.prefix_len = 33;
+    block6.prefix_len = 129;
+    REJECTS(lk_block_print(&block4, text_out, ROOM));
+    REJECTS(lk_block_print(&block6, text_out, ROOM));
+    check(__LINE__, lk_block_contains(&block4, &low4.addr) == 0 && lk_block_contains(&block6, &low6.addr) == 0);
+    block4.prefix_len = 256;
+    block6.addr.version = 0;
+    REJECTS(lk_block_print(&block4, text_out, ROOM));
+    REJECTS(lk_block_print(&block6, text_out, ROOM));
+    check(__LINE__, lk_block_contains(&block4, &low4.addr) == 0 && lk_block_contains(&block6, &no_version.addr) == 0);
+}
+
+/* No reader takes this text, and none stores anything. */
+static void rejects_text(const char *text, size_t len)
+{
+    struct lk_addr addr, old_addr;
+    struct lk_block block, old_block;
+    struct lk_endpoint endpoint, old_endpoint;
+    uint8_t octets[6], old_octets[6];
+    memset(&addr, OLD, sizeof addr), memset(&block, OLD, sizeof block), memset(&endpoint, OLD, sizeof endpoint);
+    memset(octets, OLD, sizeof octets);
+    old_addr = addr, old_block = block, old_endpoint = endpoint;
+    memcpy(old_octets, octets, sizeof octets);
+    check(__LINE__, lk_addr_read(text, len, &addr) == 0 && memcmp(&addr, &old_addr, sizeof addr) == 0);
+    check(__LINE__, lk_block_read(text, len, &block) == 0 && memcmp(&block, &old_block, sizeof block) == 0);
+    check(__LINE__, lk_endpoint_read(text, len, &endpoint) == 0 && memcmp(&endpoint, &old_endpoint, sizeof endpoint) == 0);
+    check(__LINE__, lk_ethernet_read(text, len, octets) == 0 && memcmp(octets, old_octets, sizeof octets) == 0);
 }
 
 static void read_texts(void)
 {
-    const uint8_t *text = (const uint8_t *)"1.2.3.4/33";
-    uint8_t prefix_len = OLD;
-    uint32_t addr = OLD;
-    REFUSES(lk_ethernet_read(text, 10, out));
-    REFUSES(lk_ipv6_read(text, 10, out));
-    REFUSES(lk_ipv6_cidr_read(text, 10, out, &prefix_len));
-    check(__LINE__, lk_ipv4_read(text, 10, &addr) == 0 && addr == OLD);
-    check(__LINE__, lk_ipv4_cidr_read(text, 10, &addr, &prefix_len) == 0 && addr == OLD && prefix_len == OLD);
-    check(__LINE__, lk_ipv4_contains(0, 33, 0) == 0 && lk_ipv6_contains(zeros, 129, zeros) == 0);
-}
-
-/* At a header that is refused, a frame has what is in front of it. */
-static void read_frames(void)
-{
-    uint8_t bytes_of_frame[34] = {0};
-    struct lk_frame frame, nothing;
-    size_t used = offsetof(struct lk_frame, transport_checksum_holds) + 1;
-    memset(&nothing, 0, sizeof nothing);
-    memset(&frame, OLD, sizeof frame);
-    check(__LINE__, lk_read_frame(NULL, 0, &frame) == LK_REFUSED && frame.payload_len == 0);
-    nothing.payload_len = 13;
-    check(__LINE__, lk_read_frame(bytes_of_frame, 13, &frame) == LK_REFUSED && memcmp(&frame, &nothing, used) == 0);
-    check(__LINE__, lk_read_frame(bytes_of_frame, 34, &frame) == LK_READ && frame.payload_offset == 14 && frame.payload_len == 20);
-    bytes_of_frame[12] = 0x08;
-    check(__LINE__, lk_read_frame(bytes_of_frame, 34, &frame) == LK_REFUSED && frame.status == LK_REFUSED);
-    check(__LINE__, frame.ethertype == 0x0800 && frame.network == LK_NO_NETWORK && frame.payload_offset == 14 && frame.payload_len == 20);
+    rejects_text(NULL, 0);
+    rejects_text("1.2.3.4/33", 10);
+    rejects_text("1.2.3.4:65536", 13);
+    rejects_text("1.2.3.4 ", 8);
+    rejects_text("1.2.3", 5);
+    rejects_text("fe80::1%eth0", 12);
+    rejects_text("fe80::1/129", 11);
+    rejects_text("[fe80::1]", 9);
+    rejects_text("[1.2.3.4]:5", 11);
+    rejects_text("1.2.3.4\0", 8);
+    rejects_text("\xff\xff\xff\xff", 4);
+    rejects_text("0-0-0-0-0", 9);
 }
 
 static void rebuild(void)
 {
-    uint8_t frame[14] = {0};
+    static const uint8_t frame[14] = {0};
     NEEDS(14, cap, lk_rebuild(frame, 14, out, cap));
-    REFUSES(lk_rebuild(frame, 13, out, ROOM));
+    REJECTS(lk_rebuild(frame, 13, out, ROOM));
 }
 
 static void null(void)
 {
-    struct lk_tcp tcp;
-    uint8_t expected[ROOM], prefix_len = OLD;
-    uint32_t addr = OLD;
-    memset(&tcp, 0, sizeof tcp);
+    static const uint8_t zeros[14] = {0};
+    struct lk_tcp_options none = no_options();
+    struct lk_frame ipv4 = headers(&low4, &low4);
+    uint8_t expected[ROOM];
     check(__LINE__, lk_checksum(NULL, 0) == 0);
-    check(__LINE__, lk_parse(NULL, 0, 1) == 0);
     clear();
-    check(__LINE__, lk_emit_udp_ipv4(1, 2, 3, 4, bytes, 0, 1, out, ROOM) == 8);
+    check(__LINE__, lk_emit_udp(&low4, &low4, bytes, 0, 1, out, ROOM) == 8);
     memcpy(expected, out, ROOM);
     clear();
-    check(__LINE__, lk_emit_udp_ipv4(1, 2, 3, 4, NULL, 0, 1, out, ROOM) == 8 && memcmp(out, expected, ROOM) == 0);
+    check(__LINE__, lk_emit_udp(&low4, &low4, NULL, 0, 1, out, ROOM) == 8 && memcmp(out, expected, ROOM) == 0);
     clear();
-    check(__LINE__, lk_emit_udp_ipv6(low, low, 3, 4, NULL, 0, 1, out, ROOM) == 8 && is_old_from(8));
-    clear();
-    check(__LINE__, lk_emit_tcp_ipv4(1, 2, &tcp, bytes, 0, 1, out, ROOM) == 20);
+    check(__LINE__, lk_emit_tcp(&tcp, &none, &low6, &low6, bytes, 0, 1, out, ROOM) == 20);
     memcpy(expected, out, ROOM);
     clear();
-    check(__LINE__, lk_emit_tcp_ipv4(1, 2, &tcp, NULL, 0, 1, out, ROOM) == 20 && memcmp(out, expected, ROOM) == 0);
+    check(__LINE__, lk_emit_tcp(&tcp, &none, &low6, &low6, NULL, 0, 1, out, ROOM) == 20 && memcmp(out, expected, ROOM) == 0);
     clear();
-    check(__LINE__, lk_emit_tcp_ipv6(low, low, &tcp, NULL, 0, 1, out, ROOM) == 20 && is_old_from(20));
-    REFUSES(lk_rebuild(NULL, 0, out, ROOM));
-    check(__LINE__, lk_rebuild(NULL, 0, NULL, 0) == 0 && lk_rebuild(zeros, 14, NULL, 0) == 0);
-    check(__LINE__, lk_emit_arp(1, low, 1, low, 2, NULL, 0) == 0);
-    check(__LINE__, lk_emit_ipv4(1, 2, 6, 64, 0, 1, NULL, 0) == 0);
-    check(__LINE__, lk_emit_ipv6(low, low, 6, 64, 0, NULL, 0) == 0);
-    check(__LINE__, lk_emit_udp_ipv4(1, 2, 3, 4, NULL, 0, 1, NULL, 0) == 0);
-    check(__LINE__, lk_emit_udp_ipv6(low, low, 3, 4, NULL, 0, 1, NULL, 0) == 0);
-    check(__LINE__, lk_emit_tcp_ipv4(1, 2, &tcp, NULL, 0, 1, NULL, 0) == 0);
-    check(__LINE__, lk_emit_tcp_ipv6(low, low, &tcp, NULL, 0, 1, NULL, 0) == 0);
-    REFUSES(lk_ethernet_read(NULL, 0, out));
-    REFUSES(lk_ipv6_read(NULL, 0, out));
-    REFUSES(lk_ipv6_cidr_read(NULL, 0, out, &prefix_len));
-    check(__LINE__, lk_ipv4_read(NULL, 0, &addr) == 0 && addr == OLD);
-    check(__LINE__, lk_ipv4_cidr_read(NULL, 0, &addr, &prefix_len) == 0 && addr == OLD && prefix_len == OLD);
-    check(__LINE__, lk_ethernet_print(low, NULL, 0) == 0 && lk_ipv4_print(1, NULL, 0) == 0);
-    check(__LINE__, lk_ipv6_print(low, NULL, 0) == 0 && lk_ipv4_cidr_print(1, 8, NULL, 0) == 0);
-    check(__LINE__, lk_ipv6_cidr_print(low, 8, NULL, 0) == 0 && lk_ipv4_endpoint_print(1, 8, NULL, 0) == 0);
-    check(__LINE__, lk_ipv6_endpoint_print(low, 8, NULL, 0) == 0);
+    check(__LINE__, lk_emit_udp_frame(&ipv4, NULL, 0, out, ROOM) == 42 && is_old_from(42));
+    clear();
+    check(__LINE__, lk_emit_tcp_frame(&ipv4, &none, NULL, 0, out, ROOM) == 54 && is_old_from(54));
+    REJECTS(lk_rebuild(NULL, 0, out, ROOM));
+    check(__LINE__, lk_rebuild(NULL, 0, NULL, 0) == LK_FAILED && lk_rebuild(zeros, 14, NULL, 0) == LK_FAILED);
+    check(__LINE__, lk_emit_ethernet(&ethernet, NULL, 0) == LK_FAILED);
+    check(__LINE__, lk_emit_arp(&arp, &low4.addr, &low4.addr, NULL, 0) == LK_FAILED);
+    check(__LINE__, lk_emit_ip(&ip, &low4.addr, &low4.addr, 0, 1, NULL, 0) == LK_FAILED);
+    check(__LINE__, lk_emit_udp(&low4, &low4, NULL, 0, 1, NULL, 0) == LK_FAILED);
+    check(__LINE__, lk_emit_tcp(&tcp, &none, &low4, &low4, NULL, 0, 1, NULL, 0) == LK_FAILED);
+    check(__LINE__, lk_emit_udp_frame(&ipv4, NULL, 0, NULL, 0) == LK_FAILED && lk_wrap_udp_frame(&ipv4, 0, NULL, 0) == LK_FAILED);
+    check(__LINE__, lk_emit_arp_frame(&ipv4, NULL, 0) == LK_FAILED);
+    check(__LINE__, lk_addr_print(&low4.addr, NULL, 0) == LK_FAILED && lk_ethernet_print(hardware, NULL, 0) == LK_FAILED);
 }
 
 int main(void)
 {
-    emit();
+    link_layer();
+    network_layer();
+    transport_layer();
+    frames();
+    mistakes();
     print();
     read_texts();
-    read_frames();
     rebuild();
     null();
     return failures != 0;

@@ -1,14 +1,39 @@
-//! An ARP packet written into a slice.
+//! ARP packets.
 
+ghost use Rattle.std.specs.Prelude.{◌≡◌, Some};
 ghost use Rattle.ip_wire.specs.Arp.{bytes_of};
-ghost use Rattle.ip_wire_c.specs.Calls.{Fills};
+ghost use Rattle.ip_wire_c.specs.Headers.{arp_value};
+ghost use Rattle.ip_wire_c.specs.Written.{Fills};
 
-use ip_wire::{ArpPacketMut, ArpRepr};
+use crate::types::{Addr, Arp};
+use ip_wire::{ArpOperation, ArpPacketMut, ArpRepr, EthernetAddress, IpAddress};
 
-/// Writes a packet to the front of `out`, and answers its length. None where it doesn't fit.
+impl Arp {
+    /// The values of a packet between two addresses. `None` if they are no IPv4 addresses.
+    #[inline(always)]
+    pub fn value(&self, src: &Addr, dst: &Addr) -> Option<ArpRepr>
+        ensures { result ≡ arp_value self.now src.now dst.now }
+    {
+        let src_hardware = self.src_hardware;
+        let dst_hardware = self.dst_hardware;
+        let (src_addr, dst_addr) = src.pair(dst)?;
+        match (&src_addr, &dst_addr) {
+            (IpAddress::Ipv4(src_addr), IpAddress::Ipv4(dst_addr)) => Some(ArpRepr::EthernetIpv4 {
+                operation: ArpOperation::from(self.operation),
+                source_hardware_addr: EthernetAddress(src_hardware),
+                source_protocol_addr: *src_addr,
+                target_hardware_addr: EthernetAddress(dst_hardware),
+                target_protocol_addr: *dst_addr,
+            }),
+            _ => None,
+        }
+    }
+}
+
+/// Writes a packet to the front of `out` and returns its length. `None` if it does not fit.
 #[inline(always)]
 pub fn emit(value: ArpRepr, out: &mut [u8]) -> Option<usize>
-    ensures { Fills (bytes_of value) out.old out.new result }
+    ensures { Fills (Some (bytes_of value)) out.old out.new result }
 {
     let len = value.buffer_len();
     if out.len() < len {

@@ -25,28 +25,6 @@ use net_base::ChecksumCapabilities;
 // The length of an IPv6 fragment header, in octets (RFC 8200, section 4.5).
 const FRAGMENT_HEADER_LEN: usize = 8;
 
-impl Addr {
-    /// The struct of an address.
-    #[inline(always)]
-    pub fn of(address: IpAddress) -> Addr
-        ensures { result ≡ addr_of address }
-    {
-        match address {
-            IpAddress::Ipv4(address) => {
-                let [a, b, c, d] = address.octets();
-                Addr {
-                    octets: [a, b, c, d, 0, 0, 0, 0, 0, 0, 0, 0, 0, 0, 0, 0],
-                    version: 4,
-                }
-            }
-            IpAddress::Ipv6(address) => Addr {
-                octets: address.octets(),
-                version: 6,
-            },
-        }
-    }
-}
-
 impl Endpoint {
     // An address of a header without ports.
     #[inline(always)]

@@ -1,12 +1,14 @@
 //! A whole frame built again in a slice.
 
-ghost use Rattle.std.specs.Prelude.{◌≡◌, ◌≤◌, ◌<◌, None, length};
+ghost use Rattle.std.specs.Prelude.{◌≡◌, ◌≤◌, Some, length, pos};
 ghost use Rattle.ip_wire.specs.Frame.{ethernet, rebuilt, rebuilt_transport_by, rebuilt_packet, rebuilt_payload, rebuilt_transport};
 ghost use Rattle.ip_wire.specs.Ip.{dst_addr_of, max_payload_len, src_addr_of};
 ghost use Rattle.ip_wire.specs.declared.EthernetProtocol.TheVariants.{Arp, Ipv4, Ipv6};
 ghost use Rattle.ip_wire.specs.declared.IpProtocol.TheVariants.{Tcp, Udp};
-ghost use Rattle.ip_wire_c.specs.Calls.{Fills};
+ghost use Rattle.ip_wire_c.specs.Frames.{rebuilt_of};
+ghost use Rattle.ip_wire_c.specs.Written.{Fills, Writes};
 
+use crate::results::{copy, written};
 use crate::{arp, tcp, udp};
 use ip_wire::{
     ArpPacket, ArpRepr, ETHERNET_HEADER_LEN, EthernetFrame, EthernetFrameMut, EthernetProtocol,
@@ -15,11 +17,20 @@ use ip_wire::{
 };
 use net_base::ChecksumCapabilities;
 
-/// Writes a frame, built again from the values of its headers, to the front of `out`, and answers its
-/// length. None where it doesn't fit, or where the bytes hold no Ethernet header.
-pub fn rebuild(bytes: &[u8], out: &mut [u8]) -> Option<usize>
-    ensures short { length bytes.now < 14 → (result ≡ None) × (out.new ≡ out.old) }
-    ensures frame { 14 ≤ length bytes.now → Fills (rebuilt bytes.now) out.old out.new result }
+/// Parses a frame, and writes it with its headers emitted again. Returns its length, which is at most that
+/// of the parsed frame.
+#[unsafe(no_mangle)]
+pub extern "C" fn lk_rebuild(frame: &[u8], out: &mut [u8]) -> isize
+    ensures frame { Writes (rebuilt_of frame.now) out.old out.new result }
+    ensures fits { 14 ≤ length frame.now → length frame.now ≤ length out.old → result ≡ pos (length (rebuilt frame.now)) }
+{
+    written(rebuild(frame, out))
+}
+
+// Writes a rebuilt frame to the front of `out` and returns its length. `None` if it does not fit, or if
+// there is no Ethernet header.
+fn rebuild(bytes: &[u8], out: &mut [u8]) -> Option<usize>
+    ensures { Fills (rebuilt_of bytes.now) out.old out.new result }
 {
     let frame = EthernetFrame::new_unchecked(bytes);
     match EthernetRepr::parse(&frame) {
@@ -30,7 +41,7 @@ pub fn rebuild(bytes: &[u8], out: &mut [u8]) -> Option<usize>
 
 // A frame with these values, and what it carries built again.
 fn rebuild_frame(header: EthernetRepr, payload: &[u8], out: &mut [u8]) -> Option<usize>
-    ensures { Fills (ethernet.write header (rebuilt_payload header.ethertype payload.now)) out.old out.new result }
+    ensures { Fills (Some (ethernet.write header (rebuilt_payload header.ethertype payload.now))) out.old out.new result }
 {
     if out.len() < ETHERNET_HEADER_LEN {
         return None;
@@ -47,7 +58,7 @@ fn rebuild_frame(header: EthernetRepr, payload: &[u8], out: &mut [u8]) -> Option
 
 // What a frame of that type carries, built again.
 fn rebuild_payload(ethertype: EthernetProtocol, bytes: &[u8], out: &mut [u8]) -> Option<usize>
-    ensures { Fills (rebuilt_payload ethertype bytes.now) out.old out.new result }
+    ensures { Fills (Some (rebuilt_payload ethertype bytes.now)) out.old out.new result }
 {
     match ethertype {
         EthernetProtocol::Ipv4 => rebuild_ipv4(bytes, out),
@@ -59,7 +70,7 @@ fn rebuild_payload(ethertype: EthernetProtocol, bytes: &[u8], out: &mut [u8]) ->
 
 // An ARP packet, built again where it is read.
 fn rebuild_arp(bytes: &[u8], out: &mut [u8]) -> Option<usize>
-    ensures { Fills (rebuilt_payload Arp bytes.now) out.old out.new result }
+    ensures { Fills (Some (rebuilt_payload Arp bytes.now)) out.old out.new result }
 {
     match ArpRepr::parse(&ArpPacket::new_unchecked(bytes)) {
         Ok(value) => arp::emit(value, out),
@@ -69,7 +80,7 @@ fn rebuild_arp(bytes: &[u8], out: &mut [u8]) -> Option<usize>
 
 // An IPv4 packet, built again where it is read with its checksum and is no fragment.
 fn rebuild_ipv4(bytes: &[u8], out: &mut [u8]) -> Option<usize>
-    ensures { Fills (rebuilt_payload Ipv4 bytes.now) out.old out.new result }
+    ensures { Fills (Some (rebuilt_payload Ipv4 bytes.now)) out.old out.new result }
 {
     let packet = Ipv4Packet::new_unchecked(bytes);
     match Ipv4Repr::parse(&packet, &ChecksumCapabilities::default()) {
@@ -82,7 +93,7 @@ fn rebuild_ipv4(bytes: &[u8], out: &mut [u8]) -> Option<usize>
 
 // An IPv6 packet, built again where it is read.
 fn rebuild_ipv6(bytes: &[u8], out: &mut [u8]) -> Option<usize>
-    ensures { Fills (rebuilt_payload Ipv6 bytes.now) out.old out.new result }
+    ensures { Fills (Some (rebuilt_payload Ipv6 bytes.now)) out.old out.new result }
 {
     let packet = Ipv6Packet::new_unchecked(bytes);
     match Ipv6Repr::parse(&packet) {
@@ -95,7 +106,7 @@ fn rebuild_ipv6(bytes: &[u8], out: &mut [u8]) -> Option<usize>
 #[inline(always)]
 fn rebuild_packet(header: IpRepr, payload: &[u8], out: &mut [u8]) -> Option<usize>
     requires { length payload.now ≤ max_payload_len header }
-    ensures { Fills (rebuilt_packet header payload.now) out.old out.new result }
+    ensures { Fills (Some (rebuilt_packet header payload.now)) out.old out.new result }
 {
     let header_len = header.header_len();
     if out.len() < header_len {
@@ -116,7 +127,7 @@ fn rebuild_packet(header: IpRepr, payload: &[u8], out: &mut [u8]) -> Option<usiz
 // What a packet with this header carries, built again.
 #[inline(always)]
 fn rebuild_transport(header: &IpRepr, bytes: &[u8], out: &mut [u8]) -> Option<usize>
-    ensures { Fills (rebuilt_transport header.now bytes.now) out.old out.new result }
+    ensures { Fills (Some (rebuilt_transport header.now bytes.now)) out.old out.new result }
 {
     match header.next_header() {
         IpProtocol::Udp => rebuild_udp(header, bytes, out),
@@ -129,7 +140,7 @@ fn rebuild_transport(header: &IpRepr, bytes: &[u8], out: &mut [u8]) -> Option<us
 #[inline(always)]
 fn rebuild_udp(ip_header: &IpRepr, bytes: &[u8], out: &mut [u8]) -> Option<usize>
     ensures { let src = src_addr_of ip_header.now in let dst = dst_addr_of ip_header.now in
-        Fills (rebuilt_transport_by Udp src dst bytes.now) out.old out.new result }
+        Fills (Some (rebuilt_transport_by Udp src dst bytes.now)) out.old out.new result }
 {
     let src_addr = ip_header.src_addr();
     let dst_addr = ip_header.dst_addr();
@@ -145,7 +156,7 @@ fn rebuild_udp(ip_header: &IpRepr, bytes: &[u8], out: &mut [u8]) -> Option<usize
 #[inline(always)]
 fn rebuild_tcp(ip_header: &IpRepr, bytes: &[u8], out: &mut [u8]) -> Option<usize>
     ensures { let src = src_addr_of ip_header.now in let dst = dst_addr_of ip_header.now in
-        Fills (rebuilt_transport_by Tcp src dst bytes.now) out.old out.new result }
+        Fills (Some (rebuilt_transport_by Tcp src dst bytes.now)) out.old out.new result }
 {
     let src_addr = ip_header.src_addr();
     let dst_addr = ip_header.dst_addr();
@@ -155,15 +166,4 @@ fn rebuild_tcp(ip_header: &IpRepr, bytes: &[u8], out: &mut [u8]) -> Option<usize
         Ok(segment) => tcp::emit(&segment, src_addr, dst_addr, &caps, out),
         Err(_) => copy(bytes, out),
     }
-}
-
-/// Writes bytes as they stand to the front of `out`, and answers how many. None where they don't fit.
-pub fn copy(bytes: &[u8], out: &mut [u8]) -> Option<usize>
-    ensures { Fills bytes.now out.old out.new result }
-{
-    if out.len() < bytes.len() {
-        return None;
-    }
-    out[..bytes.len()].copy_from_slice(bytes);
-    Some(bytes.len())
 }

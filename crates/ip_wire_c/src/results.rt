@@ -1,7 +1,7 @@
 //! What calls for C return, and bytes that are copied to the front of a slice.
 
-ghost use Rattle.std.specs.Prelude.{◌≡◌, ◌≤◌, ◌<◌, ◌^◌, IfSome, Some};
-ghost use Rattle.ip_wire_c.specs.Written.{Fills, Writes, returned};
+ghost use Rattle.std.specs.Prelude.{◌≡◌, ◌+◌, ◌<◌, ◌≤◌, ◌^◌, ◌++◌, IfSome, Some, drop, length, take};
+ghost use Rattle.ip_wire_c.specs.Written.{Fills, Writes, is_set, returned};
 
 /// What a call returns that could not write. With any lengths added it is below 0, and as a `usize`
 /// longer than any packet.
@@ -19,6 +19,14 @@ pub fn written(len: Option<usize>) -> isize
     }
 }
 
+/// Whether a number of C stands for yes.
+#[inline(always)]
+pub fn is_set(number: i32) -> bool
+    ensures { result ≡ is_set number }
+{
+    number != 0
+}
+
 /// Copies bytes to the front of `out` and returns how many. `None` if they do not fit.
 pub fn copy(bytes: &[u8], out: &mut [u8]) -> Option<usize>
     ensures { Fills (Some bytes.now) out.old out.new result }
@@ -28,6 +36,14 @@ pub fn copy(bytes: &[u8], out: &mut [u8]) -> Option<usize>
     }
     out[..bytes.len()].copy_from_slice(bytes);
     Some(bytes.len())
+}
+
+/// Copies bytes to `out`, from byte `start` on.
+pub fn place(bytes: &[u8], start: usize, out: &mut [u8])
+    requires { start + length bytes.now ≤ length out.old }
+    ensures { out.new ≡ take start out.old ++ bytes.now ++ drop (start + length bytes.now) out.old }
+{
+    out[start..start + bytes.len()].copy_from_slice(bytes);
 }
 
 /// Writes a text to the front of `out`, and returns its length or `FAILED`.

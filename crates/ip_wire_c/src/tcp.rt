@@ -1,42 +1,22 @@
-//! A TCP segment written into a slice.
+//! TCP segments.
 
-ghost use Rattle.std.specs.Prelude.{◌≡◌, ◌≤◌, [], length};
+ghost use Rattle.std.specs.Prelude.{◌≡◌, ◌≤◌, ◌+◌, ◌++◌, [], Some, drop, length, slice_range};
 ghost use Rattle.net_base.specs.Checksum.{computes};
 ghost use Rattle.ip_wire.specs.IpAddress.{version_of};
 ghost use Rattle.ip_wire.specs.TcpRepr.{bytes_of, header_len_of, header_of};
-ghost use Rattle.ip_wire_c.specs.Calls.{Fills, sent_segment, sent_segment_len};
+ghost use Rattle.ip_wire_c.specs.Headers.{segment_bytes};
+ghost use Rattle.ip_wire_c.specs.Written.{Fills};
 
-use crate::tcp_fields::TcpFields;
-use ip_wire::{IPV6_MAX_PAYLOAD_LEN, IpAddress, TCP_MAX_HEADER_LEN, TcpPacketMut, TcpRepr};
+use crate::results::place;
+use crate::types::Tcp;
+use ip_wire::{IpAddress, TcpPacketMut, TcpRepr};
 use net_base::ChecksumCapabilities;
 
-/// Writes a segment between two addresses to the front of `out`, and answers its length: 0 where it
-/// doesn't fit, there is no such header, or no IP packet can carry it, and then nothing is written.
-#[inline(always)]
-pub fn send(
-    header: &TcpFields,
-    src_addr: IpAddress,
-    dst_addr: IpAddress,
-    payload: &[u8],
-    caps: &ChecksumCapabilities,
-    out: &mut [u8],
-) -> usize
-    requires { version_of src_addr ≡ version_of dst_addr }
-    ensures len { result ≡ sent_segment_len header.now (length payload.now) (length out.old) }
-    ensures bytes { out.new ≡ sent_segment header.now src_addr dst_addr payload.now (computes caps.now.tcp) out.old }
-{
-    match header.segment(payload) {
-        Some(segment)
-            if segment.header_len() <= TCP_MAX_HEADER_LEN
-                && segment.buffer_len() <= IPV6_MAX_PAYLOAD_LEN => {
-            emit(&segment, src_addr, dst_addr, caps, out).unwrap_or(0)
-        }
-        _ => 0,
-    }
-}
+// The byte of a header that holds its flags.
+const FLAGS: usize = 13;
 
-/// Writes a segment between two addresses to the front of `out`, and answers its length. None where it
-/// doesn't fit.
+/// Writes a segment between two addresses to the front of `out` and returns its length. `None` if it
+/// does not fit.
 #[inline(always)]
 pub fn emit(
     segment: &TcpRepr<'_>,
@@ -47,7 +27,7 @@ pub fn emit(
 ) -> Option<usize>
     requires header_len { header_len_of (header_of segment.now) ≤ 60 }
     requires family { version_of src_addr ≡ version_of dst_addr }
-    ensures { Fills (bytes_of (header_of segment.now) segment.now.payload.now src_addr dst_addr (computes caps.now.tcp) []) out.old out.new result }
+    ensures { Fills (Some (bytes_of (header_of segment.now) segment.now.payload.now src_addr dst_addr (computes caps.now.tcp) [])) out.old out.new result }
 {
     let len = segment.buffer_len();
     let (front, _) = out.split_at_mut_checked(len)?;
@@ -58,4 +38,63 @@ pub fn emit(
         caps,
     );
     Some(len)
+}
+
+impl Tcp {
+    /// Writes the header of a segment between two addresses around a payload that is in `out` behind
+    /// it. `value` has the values and an empty payload. The checksum is 0 unless it is computed.
+    #[inline(always)]
+    pub fn wrap(
+        &self,
+        value: &TcpRepr<'_>,
+        src_addr: IpAddress,
+        dst_addr: IpAddress,
+        payload_len: usize,
+        computed: bool,
+        out: &mut [u8],
+    )
+        requires empty { value.now.payload.now ≡ [] }
+        requires header_len { header_len_of (header_of value.now) ≤ 60 }
+        requires room { header_len_of (header_of value.now) + payload_len ≤ length out.old }
+        requires family { version_of src_addr ≡ version_of dst_addr }
+        ensures { let v = header_of value.now in let end = header_len_of v + payload_len in
+            let payload = slice_range out.old (header_len_of v) end in
+            out.new ≡ segment_bytes self.now v payload src_addr dst_addr computed ++ drop end out.old }
+    {
+        let (segment, _) = out.split_at_mut(value.header_len() + payload_len);
+        value.emit(
+            &mut TcpPacketMut::new_unchecked(segment),
+            &src_addr,
+            &dst_addr,
+            &ChecksumCapabilities::ignored(),
+        );
+        segment[FLAGS] = self.flags;
+        let mut segment = TcpPacketMut::new_unchecked(segment);
+        segment.set_urgent_at(self.urgent_at);
+        if computed {
+            segment.fill_checksum(&src_addr, &dst_addr);
+        }
+    }
+
+    /// Writes a segment between two addresses to the front of `out`, as `wrap` does, with its payload.
+    #[inline(always)]
+    pub fn emit(
+        &self,
+        value: &TcpRepr<'_>,
+        src_addr: IpAddress,
+        dst_addr: IpAddress,
+        payload: &[u8],
+        computed: bool,
+        out: &mut [u8],
+    )
+        requires empty { value.now.payload.now ≡ [] }
+        requires header_len { header_len_of (header_of value.now) ≤ 60 }
+        requires room { header_len_of (header_of value.now) + length payload.now ≤ length out.old }
+        requires family { version_of src_addr ≡ version_of dst_addr }
+        ensures { let v = header_of value.now in let end = header_len_of v + length payload.now in
+            out.new ≡ segment_bytes self.now v payload.now src_addr dst_addr computed ++ drop end out.old }
+    {
+        place(payload, value.header_len(), out);
+        self.wrap(value, src_addr, dst_addr, payload.len(), computed, out);
+    }
 }

@@ -1,37 +1,16 @@
-//! A UDP packet written into a slice.
+//! UDP packets.
 
-ghost use Rattle.std.specs.Prelude.{◌≡◌, ◌≤◌, length};
+ghost use Rattle.std.specs.Prelude.{◌≡◌, ◌≤◌, ◌+◌, ◌++◌, Some, drop, length, slice_range, true};
 ghost use Rattle.ip_wire.specs.IpAddress.{version_of};
 ghost use Rattle.ip_wire.specs.Udp.{bytes_of, max_payload_len};
 ghost use Rattle.net_base.specs.Checksum.{computes};
-ghost use Rattle.ip_wire_c.specs.Calls.{Fills, sent, sent_len};
+ghost use Rattle.ip_wire_c.specs.Written.{Fills};
 
-use ip_wire::{IpAddress, UDP_HEADER_LEN, UDP_MAX_PAYLOAD_LEN, UdpPacketMut, UdpRepr};
+use ip_wire::{IpAddress, UDP_HEADER_LEN, UdpPacketMut, UdpRepr};
 use net_base::ChecksumCapabilities;
 
-/// Writes a packet between two addresses to the front of `out`, and answers its length: 0 where it
-/// doesn't fit or UDP can't say how long the payload is, and then nothing is written.
-#[inline(always)]
-pub fn send(
-    header: UdpRepr,
-    src_addr: IpAddress,
-    dst_addr: IpAddress,
-    payload: &[u8],
-    caps: &ChecksumCapabilities,
-    out: &mut [u8],
-) -> usize
-    requires { version_of src_addr ≡ version_of dst_addr }
-    ensures len { result ≡ sent_len (length payload.now) (length out.old) }
-    ensures bytes { out.new ≡ sent header src_addr dst_addr payload.now (computes caps.now.udp) out.old }
-{
-    if payload.len() > UDP_MAX_PAYLOAD_LEN {
-        return 0;
-    }
-    emit(header, src_addr, dst_addr, payload, caps, out).unwrap_or(0)
-}
-
-/// Writes a packet between two addresses to the front of `out`, and answers its length. None where it
-/// doesn't fit.
+/// Writes a packet between two addresses to the front of `out` and returns its length. `None` if it
+/// does not fit.
 #[inline(always)]
 pub fn emit(
     header: UdpRepr,
@@ -43,7 +22,7 @@ pub fn emit(
 ) -> Option<usize>
     requires payload_len { length payload.now ≤ max_payload_len }
     requires family { version_of src_addr ≡ version_of dst_addr }
-    ensures { Fills (bytes_of header payload.now src_addr dst_addr (computes caps.now.udp)) out.old out.new result }
+    ensures { Fills (Some (bytes_of header payload.now src_addr dst_addr (computes caps.now.udp))) out.old out.new result }
 {
     let len = UDP_HEADER_LEN + payload.len();
     if out.len() < len {
@@ -57,4 +36,25 @@ pub fn emit(
         caps,
     );
     Some(len)
+}
+
+/// Writes the header of a packet between two addresses around a payload that is in `out` behind it.
+#[inline(always)]
+pub fn wrap(
+    header: UdpRepr,
+    src_addr: IpAddress,
+    dst_addr: IpAddress,
+    payload_len: usize,
+    out: &mut [u8],
+)
+    requires payload_len { payload_len ≤ max_payload_len }
+    requires room { 8 + payload_len ≤ length out.old }
+    requires family { version_of src_addr ≡ version_of dst_addr }
+    ensures { let payload = slice_range out.old 8 (8 + payload_len) in
+        out.new ≡ bytes_of header payload src_addr dst_addr true ++ drop (8 + payload_len) out.old }
+{
+    let (packet, _) = out.split_at_mut(UDP_HEADER_LEN + payload_len);
+    let mut packet = UdpPacketMut::new_unchecked(packet);
+    header.emit_header(&mut packet, payload_len);
+    packet.fill_checksum(&src_addr, &dst_addr);
 }

@@ -1,0 +1,13 @@
+use Rattle.std.proofs.Common.{◌≡◌, ◌∙◌, ◌+◌, ◌++◌, ap, length, subst}
+use Rattle.ip_wire.specs.TcpRepr.{header_len_of, header_of}
+use Rattle.ip_wire_c.proofs.Filled.{placed}
+use Rattle.ip_wire_c.specs.Headers.{segment_bytes}
+use Rattle.ip_wire_c.proofs.types.Tcp.emit.Goals as goal
+
+pub returns : goal.returns
+returns c =
+    let h = c.args.self.now in
+    let v = header_of c.args.value.now in
+    let full = rw c.header_len.ensures at c.place.ensures in
+    placed (λ payload. segment_bytes h v payload c.args.src_addr c.args.dst_addr c.args.computed) c.args.payload.now c.args.out.now c.place.new.out c.wrap.new.out
+    (header_len_of v) c.requires.room full c.wrap.ensures

@@ -1,0 +1,150 @@
+//! IP headers of either version.
+
+ghost use Rattle.std.specs.Prelude.{◌≡◌, ◌≤◌, ◌<◌, ◌++◌, IfSome, drop, length, true};
+ghost use Rattle.ip_wire.specs.Ip.{bytes_of, header_len_of, max_payload_len, payload_len_of};
+ghost use Rattle.ip_wire.specs.Ipv4 as ipv4;
+ghost use Rattle.ip_wire.specs.Ipv6 as ipv6;
+ghost use Rattle.ip_wire_c.specs.Headers.{header_bytes, has_place, ip_between, ip_value, is_expressible, with_ipv4_fields, with_ipv6_fields};
+ghost use Rattle.ip_wire.specs.declared.IpRepr.TheVariants.{Ipv4, Ipv6};
+
+use crate::types::{Addr, Ip};
+use ip_wire::{
+    IPV4_HEADER_LEN, IPV6_HEADER_LEN, IpAddress, IpProtocol, IpRepr, Ipv4PacketMut, Ipv4Repr,
+    Ipv6PacketMut, Ipv6Repr,
+};
+use net_base::ChecksumCapabilities;
+
+impl Ip {
+    /// The values of a header of this protocol between two addresses. `None` if the addresses have
+    /// no version or different ones, or if the header cannot express a field or the length.
+    #[inline(always)]
+    pub fn value(
+        &self,
+        protocol: u8,
+        src: &Addr,
+        dst: &Addr,
+        payload_len: usize,
+    ) -> Option<IpRepr>
+        ensures value { result ≡ ip_value self.now protocol src.now dst.now payload_len }
+        ensures fits { IfSome result (λ v. payload_len_of v ≤ max_payload_len v) }
+    {
+        let (src_addr, dst_addr) = src.pair(dst)?;
+        let value = self.between(protocol, payload_len, src_addr, dst_addr)?;
+        self.is_expressible(&value).then_some(value)
+    }
+
+    // The values of a header between two addresses. `None` if they have different versions.
+    #[inline(always)]
+    fn between(
+        &self,
+        protocol: u8,
+        payload_len: usize,
+        src_addr: IpAddress,
+        dst_addr: IpAddress,
+    ) -> Option<IpRepr>
+        ensures { result ≡ ip_between self.now protocol payload_len src_addr dst_addr }
+    {
+        let (next_header, hop_limit) = (IpProtocol::Unknown(protocol), self.hop_limit);
+        match (&src_addr, &dst_addr) {
+            (IpAddress::Ipv4(src_addr), IpAddress::Ipv4(dst_addr)) => {
+                Some(IpRepr::Ipv4(Ipv4Repr {
+                    src_addr: *src_addr,
+                    dst_addr: *dst_addr,
+                    next_header,
+                    payload_len,
+                    hop_limit,
+                }))
+            }
+            (IpAddress::Ipv6(src_addr), IpAddress::Ipv6(dst_addr)) => {
+                Some(IpRepr::Ipv6(Ipv6Repr {
+                    src_addr: *src_addr,
+                    dst_addr: *dst_addr,
+                    next_header,
+                    payload_len,
+                    hop_limit,
+                }))
+            }
+            _ => None,
+        }
+    }
+
+    // Whether the header can express the length and each field.
+    #[inline(always)]
+    fn is_expressible(&self, value: &IpRepr) -> bool
+        ensures { result ≡ is_expressible self.now value.now }
+    {
+        value.payload_len() <= value.max_payload_len()
+            && self.dscp < 64
+            && self.ecn < 4
+            && self.has_place(value)
+    }
+
+    // Whether each field has as many bits as the header of this version has for it. IPv6 has none for
+    // fragments.
+    #[inline(always)]
+    fn has_place(&self, value: &IpRepr) -> bool
+        ensures { result ≡ has_place self.now value.now }
+    {
+        match value {
+            IpRepr::Ipv4(_) => self.ident < 1 << 16 && self.fragment_offset % 8 == 0,
+            IpRepr::Ipv6(_) => {
+                self.ident == 0
+                    && self.fragment_offset == 0
+                    && self.more_fragments == 0
+                    && self.flow_label < 1 << 20
+            }
+        }
+    }
+
+    /// Writes the header with these values to the front of `out`. The checksum of IPv4 is 0 unless it
+    /// is computed.
+    #[inline(always)]
+    pub fn emit(&self, value: &IpRepr, computed: bool, out: &mut [u8])
+        requires expressible { is_expressible self.now value.now ≡ true }
+        requires room { header_len_of value.now ≤ length out.old }
+        ensures { out.new ≡ header_bytes self.now computed value.now ++ drop (header_len_of value.now) out.old }
+    {
+        match value {
+            IpRepr::Ipv4(value) => self.emit_ipv4(value, computed, out),
+            IpRepr::Ipv6(value) => self.emit_ipv6(value, out),
+        }
+    }
+
+    // Writes an IPv4 header.
+    #[inline(always)]
+    fn emit_ipv4(&self, value: &Ipv4Repr, computed: bool, out: &mut [u8])
+        requires payload_len { value.now.payload_len ≤ ipv4.max_payload_len }
+        requires ident { self.now.ident < 65536 }
+        requires room { 20 ≤ length out.old }
+        ensures { out.new ≡ header_bytes self.now computed (Ipv4 value.now) ++ drop 20 out.old }
+    {
+        let (front, _) = out.split_at_mut(IPV4_HEADER_LEN);
+        let mut packet = Ipv4PacketMut::new_unchecked(front);
+        value.emit(&mut packet, &ChecksumCapabilities::ignored());
+        packet.set_dscp(self.dscp);
+        packet.set_ecn(self.ecn);
+        packet.set_ident(self.ident as u16);
+        packet.set_dont_frag(self.dont_fragment != 0);
+        packet.set_more_frags(self.more_fragments != 0);
+        packet.set_frag_offset(self.fragment_offset);
+        if computed {
+            packet.fill_checksum();
+        }
+    }
+
+    // Writes an IPv6 header.
+    #[inline(always)]
+    fn emit_ipv6(&self, value: &Ipv6Repr, out: &mut [u8])
+        requires payload_len { value.now.payload_len ≤ 65535 }
+        requires dscp { self.now.dscp < 64 }
+        requires ecn { self.now.ecn < 4 }
+        requires room { 40 ≤ length out.old }
+        ensures { out.new ≡ with_ipv6_fields self.now (ipv6.bytes_of value.now) ++ drop 40 out.old }
+    {
+        let (front, _) = out.split_at_mut(IPV6_HEADER_LEN);
+        let mut packet = Ipv6PacketMut::new_unchecked(front);
+        value.emit(&mut packet);
+        packet.set_traffic_class(4 * self.dscp + self.ecn);
+        packet.set_flow_label(self.flow_label);
+    }
+}

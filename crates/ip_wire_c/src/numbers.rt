@@ -1,0 +1,58 @@
+//! Checksums and sequence numbers.
+
+ghost use Rattle.std.specs.Prelude.{◌≡◌, ◌↔◌, ◌+◌, ◌%◌, ◌^◌, negsuc, pos};
+ghost use Rattle.std.specs.Int.{cast_signed, w32};
+ghost use Rattle.ip_wire.specs.TcpRepr.{seq_of};
+ghost use Rattle.ip_wire.specs.TcpSeq.{IsAfter, IsBefore, distance};
+ghost use Rattle.ip_wire.specs.WordSum.{sum_of_bytes, updated};
+
+use ip_wire::{TcpSeqNumber, checksum};
+use std::cmp::Ordering;
+
+/// The Internet checksum of bytes before its complement (`ip_wire::checksum::data`).
+#[unsafe(no_mangle)]
+pub extern "C" fn lk_checksum(bytes: &[u8]) -> u16
+    ensures { result ≡ sum_of_bytes bytes.now }
+{
+    checksum::data(bytes)
+}
+
+/// The checksum field after a 16-bit word that it covers changed (`ip_wire::checksum::update`).
+#[unsafe(no_mangle)]
+pub extern "C" fn lk_checksum_update(checksum: u16, before: u16, after: u16) -> u16
+    ensures { result ≡ updated checksum before after }
+{
+    checksum::update(checksum, before, after)
+}
+
+/// The number `steps` after `seq`, modulo 2<sup>32</sup>.
+#[unsafe(no_mangle)]
+pub extern "C" fn lk_seq_add(seq: u32, steps: u32) -> u32
+    ensures { result ≡ (seq + steps) % 2 ^ 32 }
+{
+    seq.wrapping_add(steps)
+}
+
+/// How far `a` is after `b`, or below 0 how far it is before `b`.
+#[unsafe(no_mangle)]
+pub extern "C" fn lk_seq_distance(a: u32, b: u32) -> i32
+    ensures { result ≡ cast_signed w32 (distance (seq_of a) (seq_of b)) }
+{
+    a.wrapping_sub(b).cast_signed()
+}
+
+/// -1 if `a` is before `b`, 0 if they are equal, 1 if it is after. At a distance of 2<sup>31</sup> each is
+/// before the other.
+#[unsafe(no_mangle)]
+pub extern "C" fn lk_seq_compare(a: u32, b: u32) -> i32
+    ensures before { (result ≡ negsuc 0) ↔ IsBefore (seq_of a) (seq_of b) }
+    ensures same { (result ≡ pos 0) ↔ (a ≡ b) }
+    ensures after { (result ≡ pos 1) ↔ IsAfter (seq_of a) (seq_of b) }
+{
+    let a = TcpSeqNumber(a.cast_signed());
+    match a.seq_cmp(TcpSeqNumber(b.cast_signed())) {
+        Ordering::Less => -1,
+        Ordering::Equal => 0,
+        Ordering::Greater => 1,
+    }
+}

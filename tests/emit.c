@@ -1,0 +1,308 @@
+/* What the calls of the C library write: each field of each struct has its own value. The expected bytes
+ * were packed by another program, field by field. */
+#include <stdio.h>
+#include <string.h>
+#include "../c/ip_wire.h"
+
+enum { ROOM = 256, OLD = 0xa5 };
+
+static uint8_t out[ROOM];
+static int failures;
+
+static void check(int line, int holds)
+{
+    if (holds)
+        return;
+    fprintf(stderr, "emit.c:%d: does not hold\n", line);
+    failures++;
+}
+
+static int digit(char c)
+{
+    return c <= '9' ? c - '0' : c - 'a' + 10;
+}
+
+/* Whether `out` holds the bytes of these hex digits, and behind them what it held before. */
+static int holds(const char *hex, ptrdiff_t len)
+{
+    size_t n = strlen(hex) / 2;
+    if (len != (ptrdiff_t)n)
+        return 0;
+    for (size_t i = 0; i < sizeof out; i++)
+        if (out[i] != (i < n ? digit(hex[2 * i]) * 16 + digit(hex[2 * i + 1]) : OLD))
+            return 0;
+    return 1;
+}
+
+/* A call writes the bytes of these hex digits. */
+#define WRITES(hex, call) \
+    do { \
+        memset(out, OLD, sizeof out); \
+        ptrdiff_t written = (call); \
+        check(__LINE__, holds(hex, written)); \
+    } while (0)
+
+/* The same around the payload, which is in `out` from `at` on. */
+#define WRAPS(hex, at, call) \
+    do { \
+        memset(out, OLD, sizeof out); \
+        memcpy(out + (at), payload, sizeof payload); \
+        ptrdiff_t written = (call); \
+        check(__LINE__, holds(hex, written)); \
+    } while (0)
+
+static const uint8_t payload[5] = {0xde, 0x01, 0xad, 0x02, 0xbe};
+
+static struct lk_addr addr(const char *text)
+{
+    struct lk_addr addr;
+    memset(&addr, OLD, sizeof addr);
+    check(__LINE__, lk_addr_read(text, strlen(text), &addr) == 1);
+    return addr;
+}
+
+static struct lk_endpoint endpoint(const char *text)
+{
+    struct lk_endpoint endpoint;
+    memset(&endpoint, OLD, sizeof endpoint);
+    check(__LINE__, lk_endpoint_read(text, strlen(text), &endpoint) == 1);
+    return endpoint;
+}
+
+static const struct lk_ethernet ethernet = {{2, 0, 0, 0, 0, 1}, {6, 0, 0xaa, 0xbb, 0xcc, 0xdd}, 0x88b5};
+static const struct lk_arp arp = {2, {2, 0, 0, 0, 0, 1}, {6, 0, 0xaa, 0xbb, 0xcc, 0xdd}};
+
+/* An IP header with this identification, flow label and offset. */
+static struct lk_ip ip(uint32_t ident, uint32_t flow_label, uint16_t fragment_offset)
+{
+    struct lk_ip ip;
+    memset(&ip, 0, sizeof ip);
+    ip.ident = ident;
+    ip.flow_label = flow_label;
+    ip.fragment_offset = fragment_offset;
+    ip.protocol = 132;
+    ip.hop_limit = 63;
+    ip.dscp = 46;
+    ip.ecn = 2;
+    return ip;
+}
+
+static struct lk_tcp tcp(uint8_t flags, uint16_t urgent_at)
+{
+    struct lk_tcp tcp;
+    memset(&tcp, 0, sizeof tcp);
+    tcp.seq_number = 0x89abcdef;
+    tcp.ack_number = 0x12345678;
+    tcp.window_len = 0xfeed;
+    tcp.urgent_at = urgent_at;
+    tcp.flags = flags;
+    tcp.header_len = 99;
+    return tcp;
+}
+
+/* All options, with one range, and places without one that hold other numbers. */
+static struct lk_tcp_options options(void)
+{
+    struct lk_tcp_options options;
+    memset(&options, 0, sizeof options);
+    for (int i = 0; i < 4; i++)
+        options.sack_ranges[i].left = 0x11223344, options.sack_ranges[i].right = 0x55667788;
+    options.sack_range_count = 1;
+    options.tsval = 0x01020304;
+    options.tsecr = 0x0a0b0c0d;
+    options.max_seg_size = 1460;
+    options.window_scale = 7;
+    options.has_max_seg_size = 2;
+    options.has_window_scale = 1;
+    options.has_timestamp = 255;
+    return options;
+}
+
+static void link_layer(void)
+{
+    struct lk_addr src = addr("192.0.2.1"), dst = addr("198.51.100.7");
+    WRITES("0600aabbccdd02000000000188b5", lk_emit_ethernet(&ethernet, out, ROOM));
+    WRITES("0001080006040002020000000001c00002010600aabbccddc6336407", lk_emit_arp(&arp, &src, &dst, out, ROOM));
+}
+
+static void network_layer(void)
+{
+    struct lk_addr src = addr("192.0.2.1"), dst = addr("198.51.100.7"), src6 = addr("2001:db8::1"), dst6 = addr("2001:db8:ffff::7");
+    struct lk_ip fragment = ip(0xbeef, 0, 1480), whole = ip(0xbeef, 0xfffff, 0), ipv6 = ip(0, 0xabcde, 0);
+    fragment.more_fragments = 2;
+    WRITES("45ba03fcbeef20b93f84aadfc0000201c6336407", lk_emit_ip(&fragment, &src, &dst, 1000, 1, out, ROOM));
+    whole.dscp = 1;
+    whole.ecn = 1;
+    whole.dont_fragment = 4;
+    WRITES("450503fcbeef40003f848c4dc0000201c6336407", lk_emit_ip(&whole, &src, &dst, 1000, -1, out, ROOM));
+    WRITES("450503fcbeef40003f840000c0000201c6336407", lk_emit_ip(&whole, &src, &dst, 1000, 0, out, ROOM));
+    ipv6.dont_fragment = 1;
+    WRITES("6baabcde03e8843f20010db800000000000000000000000120010db8ffff00000000000000000007",
+           lk_emit_ip(&ipv6, &src6, &dst6, 1000, 1, out, ROOM));
+}
+
+static void transport_layer(void)
+{
+    struct lk_endpoint src = endpoint("192.0.2.1:5353"), dst = endpoint("198.51.100.7:53");
+    struct lk_endpoint src6 = endpoint("[2001:db8::1]:5353"), dst6 = endpoint("[2001:db8:ffff::7]:53");
+    WRITES("14e90035000db574de01ad02be", lk_emit_udp(&src, &dst, payload, 5, 1, out, ROOM));
+    WRITES("14e90035000d0000de01ad02be", lk_emit_udp(&src, &dst, payload, 5, 0, out, ROOM));
+    WRITES("14e90035000d4637de01ad02be", lk_emit_udp(&src6, &dst6, payload, 5, 1, out, ROOM));
+
+    struct lk_tcp data = tcp(LK_PSH + LK_ACK + LK_ECE, 0xcafe), last = tcp(LK_FIN + LK_ACK + LK_URG + LK_CWR, 0xcafe);
+    struct lk_tcp first = tcp(LK_SYN, 0), reset = tcp(LK_RST, 0);
+    struct lk_tcp_options none, all = options(), permitted = options();
+    memset(&none, 0, sizeof none);
+    src.port = src6.port = 49152;
+    dst.port = dst6.port = 443;
+    WRITES("c00001bb89abcdef123456785058feed2e56cafede01ad02be", lk_emit_tcp(&data, &none, &src, &dst, payload, 5, 1, out, ROOM));
+    WRITES("c00001bb89abcdef12345678c0b1feedb5afcafe020405b4030307050a1122334455667788080a010203040a0b0c0d00de01ad02be",
+           lk_emit_tcp(&last, &all, &src6, &dst6, payload, 5, 1, out, ROOM));
+    permitted.sack_permitted = 1;
+    permitted.sack_range_count = 0;
+    first.ack_number = 0;
+    WRITES("c00001bb89abcdef00000000a002feed1f6c0000020405b40303070402080a010203040a0b0c0d00",
+           lk_emit_tcp(&first, &permitted, &src, &dst, payload, 0, 1, out, ROOM));
+    WRITES("c00001bb89abcdef123456785004feed00000000de01ad02be", lk_emit_tcp(&reset, &none, &src, &dst, payload, 5, 0, out, ROOM));
+    check(__LINE__, lk_tcp_header_len(&none) == 20 && lk_tcp_header_len(&all) == 48 && lk_tcp_header_len(&permitted) == 40);
+}
+
+static struct lk_frame headers(const char *src, const char *dst)
+{
+    struct lk_frame frame;
+    memset(&frame, 0xff, sizeof frame);
+    frame.ethernet = ethernet;
+    frame.arp = arp;
+    frame.ip = ip(0xbeef, 0, 0);
+    frame.ip.dont_fragment = 1;
+    frame.tcp = tcp(LK_PSH + LK_ACK + LK_ECE, 0xcafe);
+    frame.src = endpoint(src);
+    frame.dst = endpoint(dst);
+    return frame;
+}
+
+static void frames(void)
+{
+    static const char udp4[] = "0600aabbccdd020000000001080045ba0021beef40003f118fe6c0000201c633640714e90035000db574de01ad02be";
+    static const char udp6[] = "0600aabbccdd02000000000186dd6baabcde000d113f20010db800000000000000000000000120010db8ffff0000"
+                               "000000000000000714e90035000d4637de01ad02be";
+    static const char tcp4[] = "0600aabbccdd020000000001080045ba0049beef40003f068fc9c0000201c633640714e9003589abcdef12345678"
+                               "c058feedd1e3cafe020405b4030307050a1122334455667788080a010203040a0b0c0d00de01ad02be";
+    static const char tcp6[] = "0600aabbccdd02000000000186dd6baabcde0035063f20010db800000000000000000000000120010db8ffff0000"
+                               "000000000000000714e9003589abcdef12345678c058feed62a6cafe020405b4030307050a112233445566778808"
+                               "0a010203040a0b0c0d00de01ad02be";
+    struct lk_frame ipv4 = headers("192.0.2.1:5353", "198.51.100.7:53"), ipv6 = headers("[2001:db8::1]:5353", "[2001:db8:ffff::7]:53");
+    struct lk_tcp_options all = options();
+    ipv6.ip.ident = 0;
+    ipv6.ip.flow_label = 0xabcde;
+    WRITES(udp4, lk_emit_udp_frame(&ipv4, payload, 5, out, ROOM));
+    WRITES(udp6, lk_emit_udp_frame(&ipv6, payload, 5, out, ROOM));
+    WRITES(tcp4, lk_emit_tcp_frame(&ipv4, &all, payload, 5, out, ROOM));
+    WRITES(tcp6, lk_emit_tcp_frame(&ipv6, &all, payload, 5, out, ROOM));
+    WRAPS(udp4, 42, lk_wrap_udp_frame(&ipv4, 5, out, ROOM));
+    WRAPS(udp6, 62, lk_wrap_udp_frame(&ipv6, 5, out, ROOM));
+    WRAPS(tcp4, 34 + 48, lk_wrap_tcp_frame(&ipv4, &all, 5, out, ROOM));
+    WRAPS(tcp6, 54 + 48, lk_wrap_tcp_frame(&ipv6, &all, 5, out, ROOM));
+    WRITES("0600aabbccdd02000000000108060001080006040002020000000001c00002010600aabbccddc6336407",
+           lk_emit_arp_frame(&ipv4, out, ROOM));
+}
+
+static void replies(void)
+{
+    struct lk_frame frame = headers("192.0.2.1:5353", "198.51.100.7:53"), reply, back;
+    memset(&reply, OLD, sizeof reply);
+    memset(&back, OLD, sizeof back);
+    lk_reply(&frame, &reply);
+    check(__LINE__, memcmp(&reply.src, &frame.dst, sizeof frame.dst) == 0 && memcmp(&reply.dst, &frame.src, sizeof frame.src) == 0);
+    check(__LINE__, memcmp(reply.ethernet.src, ethernet.dst, 6) == 0 && memcmp(reply.ethernet.dst, ethernet.src, 6) == 0);
+    check(__LINE__, memcmp(reply.arp.src_hardware, arp.dst_hardware, 6) == 0 && memcmp(reply.arp.dst_hardware, arp.src_hardware, 6) == 0);
+    check(__LINE__, reply.ethernet.type == 0x88b5 && reply.arp.operation == 2 && memcmp(&reply.ip, &frame.ip, sizeof frame.ip) == 0);
+    check(__LINE__, memcmp(&reply.tcp, &frame.tcp, sizeof frame.tcp) == 0 && reply.payload_len == frame.payload_len);
+    check(__LINE__, reply.network_offset == frame.network_offset && reply.transport_checksum == frame.transport_checksum);
+    lk_reply(&reply, &back);
+    check(__LINE__, memcmp(&back.src, &frame.src, sizeof frame.src) == 0 && memcmp(&back.ethernet, &ethernet, sizeof ethernet) == 0);
+}
+
+/* The text is read, and printed as this one; `member` says whether 10.255.0.1 is in the block. */
+static int is_block(const char *text, const char *printed, int member)
+{
+    struct lk_block block;
+    struct lk_addr ten = addr("10.255.0.1");
+    char text_out[43];
+    memset(&block, OLD, sizeof block);
+    if (!lk_block_read(text, strlen(text), &block))
+        return 0;
+    ptrdiff_t len = lk_block_print(&block, text_out, sizeof text_out);
+    return len == (ptrdiff_t)strlen(printed) && memcmp(text_out, printed, strlen(printed)) == 0
+        && lk_block_contains(&block, &ten) == member;
+}
+
+static int is_addr(const char *text, const char *printed)
+{
+    struct lk_addr address = addr(text);
+    char text_out[39];
+    ptrdiff_t len = lk_addr_print(&address, text_out, sizeof text_out);
+    return len == (ptrdiff_t)strlen(printed) && memcmp(text_out, printed, strlen(printed)) == 0;
+}
+
+static int is_endpoint(const char *text, const char *printed, uint16_t port)
+{
+    struct lk_endpoint e = endpoint(text);
+    char text_out[47];
+    ptrdiff_t len = lk_endpoint_print(&e, text_out, sizeof text_out);
+    return e.port == port && len == (ptrdiff_t)strlen(printed) && memcmp(text_out, printed, strlen(printed)) == 0;
+}
+
+static void texts(void)
+{
+    static const struct lk_addr four = {{192, 0, 2, 1}, 4}, six = {{0x20, 1, 0x0d, 0xb8, 0, 0, 0, 0, 0, 0, 0, 0, 0, 0, 0, 1}, 6};
+    struct lk_addr a = addr("192.0.2.1"), b = addr("2001:DB8:0::1");
+    uint8_t octets[6];
+    char text[17];
+    check(__LINE__, memcmp(&a, &four, sizeof a) == 0 && memcmp(&b, &six, sizeof b) == 0);
+    check(__LINE__, is_addr("010.0.0.1", "10.0.0.1") && is_addr("::ffff:192.168.1.1", "::ffff:192.168.1.1"));
+    check(__LINE__, is_block("10.1.2.3/8", "10.1.2.3/8", 1) && is_block("10.1.2.3/16", "10.1.2.3/16", 0));
+    check(__LINE__, is_block("::/0", "::/0", 0) && is_block("0.0.0.0/0", "0.0.0.0/0", 1));
+    check(__LINE__, is_endpoint("192.0.2.1:65535", "192.0.2.1:65535", 65535) && is_endpoint("192.0.2.1", "192.0.2.1:0", 0));
+    check(__LINE__, is_endpoint("[FE80::1]:80", "[fe80::1]:80", 80) && is_endpoint("fe80::1", "[fe80::1]:0", 0));
+    check(__LINE__, lk_ethernet_read("AB-cd-ef-0-0-1", 14, octets) == 1 && memcmp(octets, "\xab\xcd\xef\0\0\1", 6) == 0);
+    check(__LINE__, lk_ethernet_print(octets, text, 17) == 17 && memcmp(text, "ab-cd-ef-00-00-01", 17) == 0);
+}
+
+static void classes(void)
+{
+    struct lk_addr group = addr("239.255.255.255"), host = addr("223.255.255.255"), all = addr("255.255.255.255"), none = addr("0.0.0.0");
+    struct lk_addr group6 = addr("ff02::1"), host6 = addr("fe80::1"), none6 = addr("::"), no_version = {{1}, 0};
+    check(__LINE__, lk_addr_is_multicast(&group) == 1 && lk_addr_is_multicast(&group6) == 1);
+    check(__LINE__, !lk_addr_is_multicast(&host) && !lk_addr_is_multicast(&host6) && !lk_addr_is_multicast(&no_version));
+    check(__LINE__, lk_addr_is_unicast(&host) == 1 && lk_addr_is_unicast(&host6) == 1);
+    check(__LINE__, !lk_addr_is_unicast(&group) && !lk_addr_is_unicast(&group6) && !lk_addr_is_unicast(&all));
+    check(__LINE__, !lk_addr_is_unicast(&none) && !lk_addr_is_unicast(&none6) && !lk_addr_is_unicast(&no_version));
+}
+
+static void numbers(void)
+{
+    static const uint8_t rfc1071[8] = {0x00, 0x01, 0xf2, 0x03, 0xf4, 0xf5, 0xf6, 0xf7};
+    check(__LINE__, lk_checksum(rfc1071, 8) == 0xddf2 && lk_checksum(rfc1071, 7) == 0xdcfb);
+    /* RFC 1624, section 4: the checksum 0xdd2f, and 0x5555 changed to 0x3285 */
+    check(__LINE__, lk_checksum_update(0xdd2f, 0x5555, 0x3285) == 0x0000);
+    check(__LINE__, lk_checksum_update(0x8fe6, 0x3f11, 0x3e11) == 0x90e6);
+    check(__LINE__, lk_seq_add(0xfffffff0, 0x20) == 0x10 && lk_seq_add(5, 0xffffffff) == 4);
+    check(__LINE__, lk_seq_distance(0x10, 0xfffffff0) == 0x20 && lk_seq_distance(0xfffffff0, 0x10) == -0x20);
+    check(__LINE__, lk_seq_distance(7, 7) == 0 && lk_seq_distance(0x80000007, 7) == INT32_MIN);
+    check(__LINE__, lk_seq_compare(0xfffffff0, 0x10) == -1 && lk_seq_compare(0x10, 0xfffffff0) == 1 && lk_seq_compare(9, 9) == 0);
+    check(__LINE__, lk_seq_compare(0, 0x80000000) == -1 && lk_seq_compare(0x80000000, 0) == -1);
+}
+
+int main(void)
+{
+    link_layer();
+    network_layer();
+    transport_layer();
+    frames();
+    replies();
+    texts();
+    classes();
+    numbers();
+    return failures != 0;
+}
