@@ -78,8 +78,8 @@ udp-framed f payload v fits e =
     let pair = (carrier-value f 17 (8 + length payload) v e).1 in
     let small : nat_le (length payload) 65527 ≡ true = grind (arith, nat_tests, fits) in
     let packet : udp_bytes f.src f.dst payload true ≡ Some bytes =
-      ap (λ o. option_and_then (λ pair. only_if (nat_le (length payload) 65527) (udp.bytes_of (ports_of f.src f.dst) payload pair.0 pair.1 true)) o) pair
-      ∙ ap (λ b. only_if b bytes) small in
+    ap (λ o. option_and_then (λ pair. only_if (nat_le (length payload) 65527) (udp.bytes_of (ports_of f.src f.dst) payload pair.0 pair.1 true)) o) pair
+    ∙ ap (λ b. only_if b bytes) small in
     let size = length-udp (ports_of f.src f.dst) payload (src_addr_of v) (dst_addr_of v) in
     ap (λ o. option_and_then (framed f 17) o) packet ∙ framed-packet f 17 bytes v (ap (carrier f 17) size ∙ e)
 
