@@ -1,7 +1,7 @@
 -- The reply of a host is that of one of the three kinds.
-use Rattle.std.proofs.Common.{ℕ, ◌≡◌, ◌⊎◌, inl, inr, List, Option, Some, None, refl}
+use Rattle.std.proofs.Common.{ℕ, ◌≡◌, inl, inr, List, Option, Some, None, refl}
 use Rattle.std.specs.Prelude.{IfSome}
-use Rattle.ip_host.specs.Host.{Answers, IsDamaged, IsReply, RepliesBytes, RepliesFrame}
+use Rattle.ip_host.specs.Host.{Answers, IsDamaged, RepliesBytes, RepliesFrame}
 use Rattle.ip_host.specs.declared.host.Host.{Host}
 use Rattle.ip_replies.proofs.ArpReplies as arp
 use Rattle.ip_replies.proofs.Echoes as echo

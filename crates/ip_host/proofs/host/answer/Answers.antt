@@ -3,7 +3,6 @@ use Rattle.ip_host.proofs.HostReplies.{answers, damaged, one_answer}
 use Rattle.ip_host.specs.Host.{IsReply, RepliesBytes, RepliesFrame}
 use Rattle.ip_replies.proofs.Parsed.{IsParsed, to_bytes, to_frame, unread}
 use Rattle.ip_replies.proofs.Sent.{sends, silent}
-use Rattle.ip_replies.specs.Reply.{Sends}
 use Rattle.ip_wire.specs.Frame.{all_checked}
 use Rattle.ip_host.proofs.host.answer.Goals as goal
 
