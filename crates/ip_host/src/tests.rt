@@ -135,7 +135,12 @@ fn answers_no_damaged_frame(rt: HostRuntime) {
 #[test]
 fn ends_a_conversation(rt: HostRuntime) {
     let mut out = [0; 80];
-    for frame in [&ARP_REPLY[..], &PONG[..], &SYN_RESET[..], &SYN_ACK_RESET[..]] {
+    for frame in [
+        &ARP_REPLY[..],
+        &PONG[..],
+        &SYN_RESET[..],
+        &SYN_ACK_RESET[..],
+    ] {
         for last in [1, 2] {
             assert_eq!(rt; answer(&host(last, &[80]), frame, &mut out), None);
         }
@@ -143,7 +148,7 @@ fn ends_a_conversation(rt: HostRuntime) {
     assert_eq!(rt; out, [0; 80]);
     for ports in [&[][..], &[0xed70]] {
         assert_eq!(rt; answer(&host(1, ports), &SYN_ACK, &mut out), Some(54));
-        assert_eq!(rt; out[..54], SYN_ACK_RESET);
+        assert_eq!(rt; &out[..54], SYN_ACK_RESET.as_slice());
     }
 }
 
