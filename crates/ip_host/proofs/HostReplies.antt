@@ -1,7 +1,7 @@
 -- The reply of a host is that of one of the three kinds.
 use Rattle.std.proofs.Common.{ℕ, ◌≡◌, inl, inr, List, Option, Some, None, refl}
 use Rattle.std.specs.Prelude.{IfSome}
-use Rattle.ip_host.specs.Host.{Answers, IsDamaged, RepliesBytes, RepliesFrame}
+use Rattle.ip_host.specs.Host.{Answers, IsUnread, RepliesBytes, RepliesFrame}
 use Rattle.ip_host.specs.declared.host.Host.{Host}
 use Rattle.ip_replies.proofs.ArpReplies as arp
 use Rattle.ip_replies.proofs.Echoes as echo
@@ -57,9 +57,9 @@ one_answer host request h k c d (asked, is, inr (inr e)) (other, also, inr (inl 
 
 -- ---- what follows for the bytes
 
-pub damaged : (host : Host) (bytes old new : List ℕ) (result : Option ℕ) → Sends (RepliesBytes host bytes) old new result → IsDamaged bytes → result ≡ None
-damaged host bytes old new None sends none = refl
-damaged host bytes old new (Some len) sends none = let r = sends.replies in absurd (none r.0 r.1 r.2)
+pub unanswered : (host : Host) (bytes old new : List ℕ) (result : Option ℕ) → Sends (RepliesBytes host bytes) old new result → IsUnread bytes → result ≡ None
+unanswered host bytes old new None sends none = refl
+unanswered host bytes old new (Some len) sends none = let r = sends.replies in absurd (none r.0 r.1 r.2)
 
 pub answers : (host : Host) (bytes old new : List ℕ) (result : Option ℕ) → Sends (RepliesBytes host bytes) old new result → IfSome result (λ len. Answers host bytes new)
 answers host bytes old new None sends = tt

@@ -31,8 +31,8 @@ RepliesBytes host bytes header carried =
     (asked_header : EthernetRepr) × (asked : Carried) × IsReadWhole bytes asked_header asked × IsReply host asked_header asked header carried
 
 -- the bytes are not parsed as a frame whose checksums are all valid
-abbrev pub IsDamaged : List ℕ → Type 0
-IsDamaged bytes = (header : EthernetRepr) (carried : Carried) → ¬ IsReadWhole bytes header carried
+abbrev pub IsUnread : List ℕ → Type 0
+IsUnread bytes = (header : EthernetRepr) (carried : Carried) → ¬ IsReadWhole bytes header carried
 
 -- the other bytes are parsed as the reply of the host to these
 pub record Answers (host : Host) (bytes answer : List ℕ) : Type 0 where

@@ -1,7 +1,7 @@
 //! The replies of a host, each kind by its function of `ip_replies`.
 
 ghost use Rattle.std.specs.Prelude.{◌≡◌, IfSome, None};
-ghost use Rattle.ip_host.specs.Host.{Answers, IsDamaged, RepliesBytes, RepliesFrame};
+ghost use Rattle.ip_host.specs.Host.{Answers, IsUnread, RepliesBytes, RepliesFrame};
 ghost use Rattle.ip_replies.specs.Reply.{Gives, Sends};
 ghost use Rattle.ip_wire.specs.FrameValue.{Fits};
 
@@ -40,7 +40,7 @@ pub fn reply<'a>(host: &Host<'_>, request: &Frame<'a>) -> Option<Frame<'a>>
 /// reply or it does not fit, and then nothing is written.
 pub fn answer(host: &Host<'_>, frame: &[u8], out: &mut [u8]) -> Option<usize>
     ensures sends { Sends (RepliesBytes host.now frame.now) out.old out.new result }
-    ensures damaged { IsDamaged frame.now → result ≡ None }
+    ensures unread { IsUnread frame.now → result ≡ None }
     ensures answers { IfSome result (λ len. Answers host.now frame.now out.new) }
 {
     match Frame::parse(frame, &ChecksumCapabilities::default()) {

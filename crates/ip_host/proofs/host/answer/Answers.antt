@@ -1,5 +1,5 @@
 use Rattle.std.proofs.Common.{◌≡◌, refl, rules}
-use Rattle.ip_host.proofs.HostReplies.{answers, damaged, one_answer}
+use Rattle.ip_host.proofs.HostReplies.{answers, one_answer, unanswered}
 use Rattle.ip_host.specs.Host.{IsReply, RepliesBytes, RepliesFrame}
 use Rattle.ip_replies.proofs.Parsed.{IsParsed, to_bytes, to_frame, unread}
 use Rattle.ip_replies.proofs.Sent.{sends, silent}
@@ -15,7 +15,7 @@ returns-in-Some c =
     let parsed : IsParsed request bytes = rw caps at c.in-Ok.ensures.reads in
     let s = sends (RepliesFrame host request) (RepliesBytes host bytes) c.in-Some.reply c.args.out.now c.send.new.out c.send.result c.in-Some.ensures c.send.ensures
     (to_bytes (IsReply host) request bytes parsed) (to_frame (IsReply host) request bytes parsed) (one_answer host request) in
-    record { sends = s; damaged = damaged host bytes _ _ _ s; answers = answers host bytes _ _ _ s }
+    record { sends = s; unread = unanswered host bytes _ _ _ s; answers = answers host bytes _ _ _ s }
 
 pub returns-in-None : goal.returns-in-None
 returns-in-None c =
@@ -25,13 +25,13 @@ returns-in-None c =
     let caps : c.default.result ≡ all_checked = search rules in
     let parsed : IsParsed request bytes = rw caps at c.in-Ok.ensures.reads in
     let s = silent (RepliesFrame host request) (RepliesBytes host bytes) c.args.out.now c.in-None.ensures (to_frame (IsReply host) request bytes parsed) in
-    record { sends = s; damaged = λ none. refl; answers = tt }
+    record { sends = s; unread = λ none. refl; answers = tt }
 
 pub returns-in-Err : goal.returns-in-Err
 returns-in-Err c =
     let caps : c.default.result ≡ all_checked = search rules in
     record {
       sends = (refl, λ header carried q. absurd (unread (IsReply c.args.host.now) c.args.frame.now (rw caps at c.in-Err.ensures.reads) header carried q));
-      damaged = λ none. refl;
+      unread = λ none. refl;
       answers = tt;
     }
