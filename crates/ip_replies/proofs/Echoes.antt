@@ -55,9 +55,9 @@ agreed ours link (Ipv6 v) u payload port fits = ((refl, (refl, port)), (fits, om
 
 -- the reply
 pub echoed : (ours : Interface) (port : ℕ) (request f : Frame) (v : IpRepr) (u : UdpRepr) (payload : Bor (List ℕ))
-    → request.carried ≡ carried.Packet v (transport.Udp u payload) → u.dst_port ≡ port → IsForUs ours request.header v
+    → request.carried ≡ carried.Packet v (transport.Udp u payload) → u.dst_port ≡ port → u.src_port ≢ port → IsForUs ours request.header v
     → f ≡ echo_of ours request.header v u payload → Agrees (echo_of ours request.header v u payload) × Fits (echo_of ours request.header v u payload) → Gives (EchoesFrame ours port request) (Some f)
-echoed ours port request f v u payload carries to_port for_us is sound =
+echoed ours port request f v u payload carries to_port from_other for_us is sound =
     let link = request.header in
     let agrees = sound.0 in
     let fits = sound.1 in
@@ -79,6 +79,7 @@ echoed ours port request f v u payload carries to_port for_us is sound =
             for_us = for_us;
             to_port = to_port;
             from_port = from_port ours link v u payload agrees;
+            from_other = from_other;
             fits = within ours link v u payload fits;
             link = refl;
             echoes = refl;
@@ -90,11 +91,11 @@ echoed ours port request f v u payload carries to_port for_us is sound =
 -- a packet that is no UDP packet for the port has none
 pub no_echo : (ours : Interface) (port : ℕ) (request : Frame)
     → ((v : IpRepr) (u : UdpRepr) (payload : Bor (List ℕ)) → request.carried ≡ carried.Packet v (transport.Udp u payload)
-    → u.dst_port ≡ port → IsForUs ours request.header v → ¬ (Agrees (echo_of ours request.header v u payload) × Fits (echo_of ours request.header v u payload)))
+    → u.dst_port ≡ port → u.src_port ≢ port → IsForUs ours request.header v → ¬ (Agrees (echo_of ours request.header v u payload) × Fits (echo_of ours request.header v u payload)))
     → Gives (EchoesFrame ours port request) None
 no_echo ours port request none header carried (asked, same, e) =
     let found = carries_udp request.carried e.ip e.udp e.payload (same ∙ ap Some e.asks) in
-    none e.ip e.udp found.0 found.1 e.to_port e.for_us
+    none e.ip e.udp found.0 found.1 e.to_port e.from_other e.for_us
     (agreed ours request.header e.ip e.udp found.0 e.from_port (subst (λ (l : List ℕ). 8 + length l ≤ max_payload_len e.ip) (sym found.2) e.fits))
 
 -- there is one

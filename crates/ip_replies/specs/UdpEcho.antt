@@ -12,7 +12,8 @@ use Rattle.ip_replies.specs.Interface.{IsForUs, header_back}
 use Rattle.ip_replies.specs.Reply.{HasValues}
 use Rattle.ip_replies.specs.declared.interface.Interface.{Interface}
 
--- a frame with these values is a UDP packet for a port of ours, and the other frame the echo of it
+-- a frame with these values is a UDP packet for a port of ours, and the other frame the echo of it. A packet from the
+-- same port may be an echo, so it is not echoed again
 pub record IsEcho (ours : Interface) (port : ℕ) (asked_header : EthernetRepr) (asked : Carried) (header : EthernetRepr) (carried : Carried) : Type 0 where
   pub ip : IpRepr
   pub udp : UdpRepr
@@ -21,6 +22,7 @@ pub record IsEcho (ours : Interface) (port : ℕ) (asked_header : EthernetRepr) 
   pub for_us : IsForUs ours asked_header ip
   pub to_port : udp.dst_port ≡ port
   pub from_port : udp.src_port ≢ 0
+  pub from_other : udp.src_port ≢ port
   pub fits : 8 + length payload ≤ max_payload_len ip
   pub link : header ≡ record { src_addr = ours.hardware_addr; dst_addr = asked_header.src_addr; ethertype = type_of ip }
   pub echoes : carried ≡ packet (header_before (header_back ip) protocol.Udp (8 + length payload)) (datagram (record { src_port = udp.dst_port; dst_port = udp.src_port }) payload)

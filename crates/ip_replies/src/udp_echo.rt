@@ -9,14 +9,15 @@ use ip_wire::{Carried, Frame, Transport, UdpRepr};
 use net_base::ChecksumCapabilities;
 
 /// The reply to a UDP packet for this port: the same payload, with addresses and ports exchanged. None
-/// for any other frame, and for source port 0.
+/// for any other frame, for source port 0, and for this port as source: such a packet may be an echo.
 pub fn echo<'a>(request: &Frame<'a>, ours: &Interface, port: u16) -> Option<Frame<'a>>
     ensures { Gives (EchoesFrame ours.now port request.now) result }
 {
     match request.carried {
         Carried::Packet(header, inner) => match inner {
             Transport::Udp(ports, payload) => {
-                if ports.dst_port != port || !ours.accepts(&request.header, &header) {
+                let is_asked = ports.dst_port == port && ports.src_port != port;
+                if !is_asked || !ours.accepts(&request.header, &header) {
                     return None;
                 }
                 let (src_addr, dst_addr) = (ours.hardware_addr, request.header.src_addr);

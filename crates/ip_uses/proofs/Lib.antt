@@ -1,4 +1,3 @@
-pub mod Answered
 pub mod FlowKeys
 pub mod Refused
 pub mod RouteSteps

@@ -19,7 +19,7 @@ pub struct Flow {
 }
 
 /// The protocol and the two ends of a flow. The end that is first in the order of endpoints is `low`.
-#[derive(Debug, Clone, Copy, PartialEq, Eq, PartialOrd, Ord)]
+#[derive(Debug, Clone, Copy, PartialEq, Eq, PartialOrd, Ord, Hash)]
 pub struct FlowKey {
     pub protocol: IpProtocol,
     pub low: IpEndpoint,
@@ -92,10 +92,5 @@ fn in_order(a: &IpEndpoint, b: &IpEndpoint)
     endpoint_order(a, b);
     endpoint_order(b, a);
     order_agrees(a, b);
-    exchanged(a, b);
+    order_agrees(b, a);
 }
-
-// The order of two values is the reverse of that of the exchanged ones.
-fn exchanged<T: Ord>(a: &T, b: &T)
-    ensures { T.cmp a.now b.now ≡ ordering_reverse (T.cmp b.now a.now) }
-{}

@@ -2,7 +2,6 @@
 #![tactic(auto)]
 
 pub mod allow_list;
-pub mod answer_arp;
 pub mod flow_key;
 pub mod read_frame;
 pub mod refuse_checksum;

@@ -3,15 +3,14 @@
 ghost use Rattle.std.specs.Prelude.{◌≡◌, ◌≤◌, ◌+◌, length};
 
 use crate::allow_list::is_allowed;
-use crate::answer_arp::answer;
 use crate::flow_key::{Flow, FlowKey};
 use crate::read_frame::udp_packet;
 use crate::refuse_checksum::{udp_ports, verified_by_the_device};
 use crate::route::{Route, choose};
 use crate::write_frame::write_udp;
 use ip_wire::{
-    ArpOperation, ArpRepr, EthernetAddress, Frame, IpAddress, IpCidr, IpEndpoint, IpProtocol,
-    IpRepr, Ipv4Address, Ipv4Cidr, Ipv4Repr, Ipv6Address, Ipv6Cidr, Ipv6Repr, UdpRepr,
+    EthernetAddress, Frame, IpAddress, IpCidr, IpEndpoint, IpProtocol, IpRepr, Ipv4Address,
+    Ipv4Cidr, Ipv4Repr, Ipv6Address, Ipv6Cidr, Ipv6Repr, UdpRepr,
 };
 use net_base::ChecksumCapabilities;
 
@@ -29,12 +28,6 @@ const IPV6_FRAME: [u8; 66] = [
     0x00, 0x00, 0x00, 0x00, 0x00, 0x01, 0xff, 0x02, 0x00, 0x00, 0x00, 0x00, 0x00, 0x00, 0x00, 0x00,
     0x00, 0x00, 0x00, 0x00, 0x00, 0x01, 0x00, 0x01, 0x00, 0x02, 0x00, 0x0c, 0x02, 0x4e, 0xff, 0xff,
     0xff, 0xff,
-];
-
-/// 33.34.35.36 asks for 65.66.67.68.
-const REQUEST: [u8; 28] = [
-    0x00, 0x01, 0x08, 0x00, 0x06, 0x04, 0x00, 0x01, 0x11, 0x12, 0x13, 0x14, 0x15, 0x16, 0x21, 0x22,
-    0x23, 0x24, 0x31, 0x32, 0x33, 0x34, 0x35, 0x36, 0x41, 0x42, 0x43, 0x44,
 ];
 
 /// The stations of both frames.
@@ -115,28 +108,6 @@ fn writes_a_frame_over_ipv6(rt: HostRuntime) {
     let len = write_udp(&mut buffer, SRC, DST, ipv6_header(), IPV6_PORTS, &[0xff; 4]);
     assert_eq!(rt; len, Some(66));
     assert_eq!(rt; buffer, expected);
-}
-
-#[test]
-fn answers_a_request(rt: HostRuntime) {
-    let ours = EthernetAddress([0x02, 0x00, 0x00, 0x00, 0x00, 0x01]);
-    let addr = Ipv4Address::new(65, 66, 67, 68);
-    let reply = ArpRepr::EthernetIpv4 {
-        operation: ArpOperation::Reply,
-        source_hardware_addr: ours,
-        source_protocol_addr: addr,
-        target_hardware_addr: EthernetAddress([0x11, 0x12, 0x13, 0x14, 0x15, 0x16]),
-        target_protocol_addr: Ipv4Address::new(33, 34, 35, 36),
-    };
-    assert_eq!(rt; answer(&REQUEST, ours, addr), Some(reply));
-    assert_eq!(rt;
-        answer(&REQUEST, ours, Ipv4Address::new(65, 66, 67, 69)),
-        None
-    );
-    assert_eq!(rt; answer(&REQUEST[..27], ours, addr), None);
-    let mut other = REQUEST;
-    other[7] = 2;
-    assert_eq!(rt; answer(&other, ours, addr), None);
 }
 
 #[test]
@@ -229,7 +200,7 @@ fn gives_both_directions_one_key(rt: HostRuntime) {
     assert!(rt; key_of(&SYN).is_some());
     assert_eq!(rt; key_of(&SYN), key_of(&SYN_ACK));
     assert!(rt; key_of(&IPV6_FRAME).is_some());
-    assert_eq!(rt; key_of(&REQUEST), None);
+    assert_eq!(rt; key_of(&FRAME[..45]), None);
 }
 
 #[test]

@@ -67,9 +67,11 @@ fn echoes_nothing_else(rt: HostRuntime) {
         other[at] = octet;
         assert_eq!(rt; answer(&other, &ours(), 7, &mut out), None);
     }
-    let mut portless = without;
-    portless[34..36].copy_from_slice(&[0, 0]);
-    assert_eq!(rt; answer(&portless, &ours(), 7, &mut out), None);
+    for (src_port, len) in [(0, None), (7, None), (8, Some(46))] {
+        let mut other = without;
+        other[34..36].copy_from_slice(&[0, src_port]);
+        assert_eq!(rt; answer(&other, &ours(), 7, &mut out), len);
+    }
     let mut wrong = REQUEST;
     wrong[45] = 0x68;
     assert_eq!(rt; answer(&wrong, &ours(), 7, &mut out), None);

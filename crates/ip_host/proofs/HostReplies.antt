@@ -1,0 +1,66 @@
+-- The reply of a host is that of one of the three kinds.
+use Rattle.std.proofs.Common.{ℕ, ◌≡◌, inl, inr, List, Option, Some, None, refl}
+use Rattle.std.specs.Prelude.{IfSome}
+use Rattle.ip_host.specs.Host.{Answers, IsUnread, RepliesBytes, RepliesFrame}
+use Rattle.ip_host.specs.declared.host.Host.{Host}
+use Rattle.ip_replies.proofs.ArpReplies as arp
+use Rattle.ip_replies.proofs.Echoes as echo
+use Rattle.ip_replies.proofs.TcpReplies as tcp
+use Rattle.ip_replies.specs.Arp.{ArpRepliesFrame}
+use Rattle.ip_replies.specs.Reply.{Gives, Sends}
+use Rattle.ip_replies.specs.TcpReply.{TcpRepliesFrame}
+use Rattle.ip_replies.specs.UdpEcho.{EchoesFrame}
+use Rattle.ip_wire.specs.Frame.{Carried}
+use Rattle.ip_wire.specs.declared.EthernetRepr.{EthernetRepr}
+use Rattle.ip_wire.specs.declared.Frame.{Frame}
+
+-- ---- the reply to a frame
+
+given : (P Q : EthernetRepr → Carried → Type 0) (f : Frame) → ((h : EthernetRepr) (c : Carried) → P h c → Q h c) → Gives P (Some f) → Gives Q (Some f)
+given P Q f to (sendable, (h, c, values, p)) = (sendable, (h, c, values, to h c p))
+
+pub by_arp : (host : Host) (request f : Frame) → Gives (ArpRepliesFrame host.interface request) (Some f) → Gives (RepliesFrame host request) (Some f)
+by_arp host request f = given (ArpRepliesFrame host.interface request) (RepliesFrame host request) f (λ h c (asked, is, e). (asked, is, inl e))
+
+pub by_echo : (host : Host) (request f : Frame) → Gives (EchoesFrame host.interface host.echo_port request) (Some f) → Gives (RepliesFrame host request) (Some f)
+by_echo host request f = given (EchoesFrame host.interface host.echo_port request) (RepliesFrame host request) f (λ h c (asked, is, e). (asked, is, inr (inl e)))
+
+by_none : (host : Host) (request : Frame) → Gives (ArpRepliesFrame host.interface request) None → Gives (EchoesFrame host.interface host.echo_port request) None
+    → Gives (TcpRepliesFrame host.interface host.open_ports.now host.offer request) None
+    → (h : EthernetRepr) (c : Carried) → ¬ RepliesFrame host request h c
+by_none host request no_arp no_echo no_tcp h c (asked, is, inl e) = no_arp h c (asked, is, e)
+by_none host request no_arp no_echo no_tcp h c (asked, is, inr (inl e)) = no_echo h c (asked, is, e)
+by_none host request no_arp no_echo no_tcp h c (asked, is, inr (inr e)) = no_tcp h c (asked, is, e)
+
+-- where there is none of the first two kinds, it is that of TCP
+pub by_tcp : (host : Host) (request : Frame) (result : Option Frame) → Gives (ArpRepliesFrame host.interface request) None
+    → Gives (EchoesFrame host.interface host.echo_port request) None
+    → Gives (TcpRepliesFrame host.interface host.open_ports.now host.offer request) result → Gives (RepliesFrame host request) result
+by_tcp host request None no_arp no_echo no_tcp = by_none host request no_arp no_echo no_tcp
+by_tcp host request (Some f) no_arp no_echo gives =
+    given (TcpRepliesFrame host.interface host.open_ports.now host.offer request) (RepliesFrame host request) f (λ h c (asked, is, e). (asked, is, inr (inr e))) gives
+
+-- ---- there is one
+
+pub one_answer : (host : Host) (request : Frame) (h k : EthernetRepr) (c d : Carried) → RepliesFrame host request h c → RepliesFrame host request k d → c ≡ d
+one_answer host request h k c d (asked, is, inl e) (other, also, inl g) = arp.one_answer host.interface request h k c d (asked, is, e) (other, also, g)
+one_answer host request h k c d (asked, is, inr (inl e)) (other, also, inr (inl g)) =
+    echo.one_echo host.interface host.echo_port request h k c d (asked, is, e) (other, also, g)
+one_answer host request h k c d (asked, is, inr (inr e)) (other, also, inr (inr g)) =
+    tcp.one_answer host.interface host.open_ports.now host.offer request h k c d (asked, is, e) (other, also, g)
+one_answer host request h k c d (asked, is, inl e) (other, also, inr (inl g)) = absurd (let a = e.asks in let b = g.asks in cc)
+one_answer host request h k c d (asked, is, inl e) (other, also, inr (inr g)) = absurd (let a = e.asks in let b = g.asks in cc)
+one_answer host request h k c d (asked, is, inr (inl e)) (other, also, inl g) = absurd (let a = e.asks in let b = g.asks in cc)
+one_answer host request h k c d (asked, is, inr (inl e)) (other, also, inr (inr g)) = absurd (let a = e.asks in let b = g.asks in cc)
+one_answer host request h k c d (asked, is, inr (inr e)) (other, also, inl g) = absurd (let a = e.asks in let b = g.asks in cc)
+one_answer host request h k c d (asked, is, inr (inr e)) (other, also, inr (inl g)) = absurd (let a = e.asks in let b = g.asks in cc)
+
+-- ---- what follows for the bytes
+
+pub unanswered : (host : Host) (bytes old new : List ℕ) (result : Option ℕ) → Sends (RepliesBytes host bytes) old new result → IsUnread bytes → result ≡ None
+unanswered host bytes old new None sends none = refl
+unanswered host bytes old new (Some len) sends none = let r = sends.replies in absurd (none r.0 r.1 r.2)
+
+pub answers : (host : Host) (bytes old new : List ℕ) (result : Option ℕ) → Sends (RepliesBytes host bytes) old new result → IfSome result (λ len. Answers host bytes new)
+answers host bytes old new None sends = tt
+answers host bytes old new (Some len) sends = record { header = sends.header; carried = sends.carried; replies = sends.replies; reads = sends.reads }

@@ -1,0 +1,2 @@
+pub mod HostReplies
+pub mod ReplyEnds

@@ -1,0 +1,53 @@
+//! The replies of a host, each kind by its function of `ip_replies`.
+
+ghost use Rattle.std.specs.Prelude.{◌≡◌, IfSome, None};
+ghost use Rattle.ip_host.specs.Host.{Answers, IsUnread, RepliesBytes, RepliesFrame};
+ghost use Rattle.ip_replies.specs.Reply.{Gives, Sends};
+ghost use Rattle.ip_wire.specs.FrameValue.{Fits};
+
+use ip_replies::tcp_reply::Offer;
+use ip_replies::{Interface, arp, send, tcp_answer, udp_echo};
+use ip_wire::Frame;
+use net_base::ChecksumCapabilities;
+
+/// A host with one interface, and no connections.
+#[derive(Debug, Clone, Copy, PartialEq, Eq)]
+pub struct Host<'a> {
+    pub interface: Interface,
+    /// The UDP port of the echo service. 0 turns the service off: no packet that is parsed is for port 0.
+    pub echo_port: u16,
+    /// The open TCP ports.
+    pub open_ports: &'a [u16],
+    /// What the open TCP ports offer.
+    pub offer: Offer,
+}
+
+/// The reply of the host to a frame. None where it has none.
+pub fn reply<'a>(host: &Host<'_>, request: &Frame<'a>) -> Option<Frame<'a>>
+    requires { Fits request.now }
+    ensures { Gives (RepliesFrame host.now request.now) result }
+{
+    if let Some(reply) = arp::reply(request, &host.interface) {
+        return Some(reply);
+    }
+    if let Some(echo) = udp_echo::echo(request, &host.interface, host.echo_port) {
+        return Some(echo);
+    }
+    tcp_answer::reply(request, &host.interface, host.open_ports, &host.offer)
+}
+
+/// Writes the reply of the host to the front of `out`, and returns its length. None where there is no
+/// reply or it does not fit, and then nothing is written.
+pub fn answer(host: &Host<'_>, frame: &[u8], out: &mut [u8]) -> Option<usize>
+    ensures sends { Sends (RepliesBytes host.now frame.now) out.old out.new result }
+    ensures unread { IsUnread frame.now → result ≡ None }
+    ensures answers { IfSome result (λ len. Answers host.now frame.now out.new) }
+{
+    match Frame::parse(frame, &ChecksumCapabilities::default()) {
+        Ok(request) => match reply(host, &request) {
+            Some(reply) => send(&reply, out),
+            None => None,
+        },
+        Err(_) => None,
+    }
+}

@@ -1,0 +1,16 @@
+//! What holds by the definitions alone. The functions do nothing: what each says is its contract.
+
+ghost use Rattle.std.specs.Prelude.{◌≡◌, List, ℕ};
+ghost use Rattle.ip_host.specs.Host.{Answers, IsReset};
+
+use crate::host::Host;
+
+/// Hosts do not reply to each other without end. An answer to an answer is a RST if both hosts have the
+/// same echo port, and no host answers a RST.
+pub fn answers_end(first: &Host<'_>, second: &Host<'_>, third: &Host<'_>)
+    ensures resets { (f g h : List ℕ) → first.now.echo_port ≡ second.now.echo_port
+        → Answers first.now f g → Answers second.now g h → IsReset h }
+    ensures reset_ends { (h k : List ℕ) → IsReset h → ¬ Answers third.now h k }
+    ensures ends { (f g h k : List ℕ) → first.now.echo_port ≡ second.now.echo_port
+        → Answers first.now f g → Answers second.now g h → ¬ Answers third.now h k }
+{}
