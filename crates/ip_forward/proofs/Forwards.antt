@@ -1,0 +1,100 @@
+-- The bytes of a frame that is forwarded, and why one is rejected.
+use Rattle.std.proofs.Common.{ℕ, ◌≡◌, ◌≢◌, ◌+◌, ◌≤◌, ◌<◌, ◌-◌, ◌++◌, ◌↔◌, Bool, true, false, List, Result, Ok, Err, length, drop, take, slice_range, refl, sym, ap, subst, ◌∙◌, length-append, arith}
+use Rattle.ip_forward.specs.Forward.{Carries, CarriesAs, IsForwarded, IsRejected, IsRejectedAs, link_of, one_hop_less, with_hop_limit}
+use Rattle.ip_forward.specs.declared.forward.Rejection.{Rejection}
+use Rattle.ip_forward.specs.declared.forward.Rejection.TheVariants.{NotIp}
+use Rattle.ip_wire.specs.Ethernet as ethernet
+use Rattle.ip_wire.specs.Field.{field, with_range}
+use Rattle.ip_wire.specs.Frame.{type_of}
+use Rattle.ip_wire.specs.Ip.{ReadsHeader, hop_limit_of}
+use Rattle.ip_wire.specs.declared.Error.{Error}
+use Rattle.ip_wire.specs.declared.EthernetAddress.{EthernetAddress}
+use Rattle.ip_wire.specs.declared.EthernetRepr.{EthernetRepr}
+use Rattle.ip_wire.specs.declared.IpRepr.{IpRepr}
+use Rattle.ip_wire.specs.declared.IpRepr.TheVariants.{Ipv4, Ipv6}
+use Rattle.wire_field.proofs.Cells.{cells, cells-all, cells-drop}
+
+hop-less : (h : IpRepr) → hop_limit_of (one_hop_less h) ≡ hop_limit_of h - 1
+hop-less (Ipv4 v) = refl
+hop-less (Ipv6 v) = refl
+
+type-less : (h : IpRepr) → type_of (one_hop_less h) ≡ type_of h
+type-less (Ipv4 v) = refl
+type-less (Ipv6 v) = refl
+
+-- the header of a frame, with two addresses written
+readdressed : (frame s d : List ℕ) → 14 ≤ length frame → length s ≡ 6 → length d ≡ 6
+    → with_range (with_range (take 14 frame) 6 12 s) 0 6 d ≡ d ++ s ++ slice_range frame 12 14
+readdressed frame s d h e f = rw (cells-drop 14 frame h, cells-all 6 s e, cells-all 6 d f) refl
+
+new-length : (frame s d packet : List ℕ) → 14 ≤ length frame → length s ≡ 6 → length d ≡ 6 → 14 ≤ length ((d ++ s ++ slice_range frame 12 14) ++ packet)
+new-length frame s d packet h e f = rw (cells-drop 14 frame h, cells-all 6 s e, cells-all 6 d f) (omega arith)
+
+new-dst : (frame s d packet : List ℕ) → length d ≡ 6 → d ≡ slice_range ((d ++ s ++ slice_range frame 12 14) ++ packet) 0 6
+new-dst frame s d packet f = rw (cells-all 6 d f) refl
+
+new-src : (frame s d packet : List ℕ) → length s ≡ 6 → length d ≡ 6 → s ≡ slice_range ((d ++ s ++ slice_range frame 12 14) ++ packet) 6 12
+new-src frame s d packet e f = rw (cells-all 6 s e, cells-all 6 d f) refl
+
+new-type : (frame s d packet : List ℕ) → 14 ≤ length frame → length s ≡ 6 → length d ≡ 6
+    → field ((d ++ s ++ slice_range frame 12 14) ++ packet) 96 16 ≡ field frame 96 16
+new-type frame s d packet h e f = rw (cells-drop 14 frame h, cells-all 6 s e, cells-all 6 d f) refl
+
+new-packet : (frame s d packet : List ℕ) → 14 ≤ length frame → length s ≡ 6 → length d ≡ 6
+    → drop 14 ((d ++ s ++ slice_range frame 12 14) ++ packet) ≡ packet
+new-packet frame s d packet h e f = rw (cells-drop 14 frame h, cells-all 6 s e, cells-all 6 d f) refl
+
+new-bytes : (frame s d packet : List ℕ) → length s ≡ 6 → length d ≡ 6
+    → (d ++ s ++ slice_range frame 12 14) ++ packet ≡ d ++ s ++ slice_range frame 12 14 ++ packet
+new-bytes frame s d packet e f = rw (cells-all 6 s e, cells-all 6 d f) refl
+
+placed : (frame packet : List ℕ) (src dst : EthernetAddress) (link : EthernetRepr) (header : IpRepr) → length src.0 ≡ 6 → length dst.0 ≡ 6
+    → ethernet.Reads frame link → CarriesAs link.ethertype (drop 14 frame) true header → 1 < hop_limit_of header
+    → packet ≡ with_hop_limit header (drop 14 frame) (hop_limit_of header - 1) → ReadsHeader packet true (one_hop_less header)
+    → IsForwarded frame ((dst.0 ++ src.0 ++ slice_range frame 12 14) ++ packet) src dst (one_hop_less header)
+placed frame packet src dst link header e f r c alive p reads = record {
+  before = header;
+  from = link;
+  carried = record { reads_link = r; packet = c };
+  alive = alive;
+  hop = refl;
+  carries = record {
+    reads_link = record {
+      whole = new-length frame src.0 dst.0 packet r.whole e f;
+      dst_addr = new-dst frame src.0 dst.0 packet f;
+      src_addr = new-src frame src.0 dst.0 packet e f;
+      ethertype = type-less header ∙ sym c.names ∙ r.ethertype ∙ ap ethernet.protocol_of (sym (new-type frame src.0 dst.0 packet r.whole e f));
+    };
+    packet = record {
+      names = refl;
+      reads = subst (λ l. ReadsHeader l true (one_hop_less header)) (sym (new-packet frame src.0 dst.0 packet r.whole e f)) reads;
+    };
+  };
+  bytes = new-bytes frame src.0 dst.0 packet e f
+    ∙ ap (λ (l : List ℕ). dst.0 ++ src.0 ++ slice_range frame 12 14 ++ l) (p ∙ ap (with_hop_limit header (drop 14 frame)) (sym (hop-less header)));
+}
+
+pub forwarded : (frame new front packet : List ℕ) (src dst : EthernetAddress) (link : EthernetRepr) (header : IpRepr) → length src.0 ≡ 6 → length dst.0 ≡ 6
+    → ethernet.Reads frame link → CarriesAs link.ethertype (drop 14 frame) true header → 1 < hop_limit_of header
+    → front ≡ with_range (with_range (take 14 frame) 6 12 src.0) 0 6 dst.0
+    → packet ≡ with_hop_limit header (drop 14 frame) (hop_limit_of header - 1) → ReadsHeader packet true (one_hop_less header)
+    → new ≡ front ++ packet → IsForwarded frame new src dst (one_hop_less header)
+forwarded frame new front packet src dst link header e f r c alive g p reads is =
+    let at : new ≡ (dst.0 ++ src.0 ++ slice_range frame 12 14) ++ packet = is ∙ ap (λ (l : List ℕ). l ++ packet) (g ∙ readdressed frame src.0 dst.0 r.whole e f) in
+    subst (λ l. IsForwarded frame l src dst (one_hop_less header)) (sym at) (placed frame packet src dst link header e f r c alive p reads)
+
+-- a frame that is read is rejected for the same reason as its packet
+pub rejected : (frame : List ℕ) (answer : Result EthernetRepr Error) (link : EthernetRepr) (reason : Rejection)
+    → ((v : EthernetRepr) → (answer ≡ Ok v) ↔ ethernet.Reads frame v) → answer ≡ Ok link → IsRejectedAs link.ethertype (drop 14 frame) reason → IsRejected frame reason
+rejected frame answer link reason reads is why = record {
+  whole = λ v r. let other : answer ≡ Ok v = (reads v).1 r in let same : link ≡ v = cc in subst (λ w. IsRejectedAs w.ethertype (drop 14 frame) reason) same why;
+  short = λ none. absurd (none link ((reads link).0 is));
+}
+
+-- one without a header is no IP frame
+pub not-ip : (frame : List ℕ) (answer : Result EthernetRepr Error) (error : Error)
+    → ((v : EthernetRepr) → (answer ≡ Ok v) ↔ ethernet.Reads frame v) → answer ≡ Err error → IsRejected frame NotIp
+not-ip frame answer error reads is = record {
+  whole = λ v r. let other : answer ≡ Ok v = (reads v).1 r in absurd (cc);
+  short = λ _. refl;
+}
