@@ -10,8 +10,8 @@ use Rattle.ip_wire.specs.declared.EthernetProtocol.{EthernetProtocol}
 use Rattle.ip_wire.specs.declared.EthernetRepr.{EthernetRepr}
 use Rattle.ip_wire.specs.declared.IpRepr.{IpRepr}
 use Rattle.ip_wire.specs.declared.IpRepr.TheVariants.{Ipv4, Ipv6}
-use Rattle.ip_forward.specs.declared.forward.Rejection.{Rejection}
-use Rattle.ip_forward.specs.declared.forward.Rejection.TheVariants.{NotIp, BadHeader, WrongChecksum, Expired}
+use Rattle.ip_forward.specs.declared.router.Rejection.{Rejection}
+use Rattle.ip_forward.specs.declared.router.Rejection.TheVariants.{NotIp, BadHeader, WrongChecksum, Expired}
 
 -- the bytes of a frame of this type are a whole packet with this header; if verified, with a valid checksum of an IPv4
 -- header

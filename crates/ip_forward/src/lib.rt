@@ -1,8 +1,8 @@
 //! What a router does with frames that it forwards, in place.
 #![tactic(auto)]
 
-mod forward;
+mod router;
 #[cfg(test)]
 mod tests;
 
-pub use forward::{Rejection, forward};
+pub use router::{Rejection, forward};

@@ -2,4 +2,4 @@
 
 ghost use Rattle.std.specs.Prelude.{◌≡◌};
 
-mod forward;
+mod router;

@@ -4,6 +4,7 @@ use crate::{Rejection, forward};
 use ip_wire::{EthernetAddress, Ipv4Packet};
 
 const SRC: EthernetAddress = EthernetAddress([0x02, 0x00, 0x00, 0x00, 0x00, 0x11]);
+
 const DST: EthernetAddress = EthernetAddress([0x02, 0x00, 0x00, 0x00, 0x00, 0x12]);
 
 /// A UDP packet, as Linux sent it.
@@ -91,6 +92,9 @@ fn rejects_what_is_no_packet(rt: HostRuntime) {
     }
     let mut short = UDP;
     assert_eq!(rt; forward(&mut short[..13], SRC, DST), Err(Rejection::NotIp));
-    assert_eq!(rt; forward(&mut short[..14], SRC, DST), Err(Rejection::BadHeader));
+    assert_eq!(rt;
+        forward(&mut short[..14], SRC, DST),
+        Err(Rejection::BadHeader)
+    );
     assert_eq!(rt; short, UDP);
 }

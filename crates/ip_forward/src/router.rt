@@ -44,32 +44,38 @@ pub fn forward(
     let mut front = EthernetFrameMut::new_unchecked(front);
     front.set_src_addr(src_addr);
     front.set_dst_addr(dst_addr);
-    Ok(take_hop(header, packet))
+    take_hop(&header, packet);
+    Ok(one_less(header))
 }
 
-/// The header of a packet in a frame of this type, if it may take a hop.
-pub fn accept(ethertype: EthernetProtocol, packet: &[u8]) -> Result<IpRepr, Rejection>
+// The header of a packet in a frame of this type, if it may take a hop.
+fn accept(ethertype: EthernetProtocol, packet: &[u8]) -> Result<IpRepr, Rejection>
     ensures carries { IfOk result (CarriesAs ethertype packet.now true) }
     ensures alive { IfOk result (λ header. 1 < hop_limit_of header) }
     ensures rejected { IfErr result (IsRejectedAs ethertype packet.now) }
 {
-    let header = match ethertype {
-        EthernetProtocol::Ipv4 => accept_ipv4(packet)?,
-        EthernetProtocol::Ipv6 => {
-            match Ipv6Repr::parse(&Ipv6Packet::new_unchecked(packet)) {
-                Ok(header) => IpRepr::Ipv6(header),
-                Err(_) => return Err(Rejection::BadHeader),
-            }
-        }
-        _ => return Err(Rejection::NotIp),
-    };
+    let header = parse(ethertype, packet)?;
     if header.hop_limit() <= 1 {
         return Err(Rejection::Expired);
     }
     Ok(header)
 }
 
-fn accept_ipv4(packet: &[u8]) -> Result<IpRepr, Rejection>
+fn parse(ethertype: EthernetProtocol, packet: &[u8]) -> Result<IpRepr, Rejection>
+    ensures carries { IfOk result (CarriesAs ethertype packet.now true) }
+    ensures rejected { IfErr result (IsRejectedAs ethertype packet.now) }
+{
+    match ethertype {
+        EthernetProtocol::Ipv4 => parse_ipv4(packet),
+        EthernetProtocol::Ipv6 => match Ipv6Repr::parse(&Ipv6Packet::new_unchecked(packet)) {
+            Ok(header) => Ok(IpRepr::Ipv6(header)),
+            Err(_) => Err(Rejection::BadHeader),
+        },
+        _ => Err(Rejection::NotIp),
+    }
+}
+
+fn parse_ipv4(packet: &[u8]) -> Result<IpRepr, Rejection>
     ensures carries { IfOk result (CarriesAs EthernetProtocol.Ipv4 packet.now true) }
     ensures rejected { IfErr result (IsRejectedAs EthernetProtocol.Ipv4 packet.now) }
 {
@@ -83,25 +89,35 @@ fn accept_ipv4(packet: &[u8]) -> Result<IpRepr, Rejection>
     Ok(IpRepr::Ipv4(header))
 }
 
-// Takes one hop from a packet with this header, and returns the header as it is then.
-fn take_hop(header: IpRepr, packet: &mut [u8]) -> IpRepr
-    requires reads { ReadsHeader packet.old true header }
-    requires alive { 1 < hop_limit_of header }
-    ensures value { result ≡ one_hop_less header }
-    ensures reads { ReadsHeader packet.new true (one_hop_less header) }
-    ensures bytes { packet.new ≡ with_hop_limit header packet.old (hop_limit_of header - 1) }
+// Takes one hop from a packet with this header.
+fn take_hop(header: &IpRepr, packet: &mut [u8])
+    requires reads { ReadsHeader packet.old true header.now }
+    requires alive { 1 < hop_limit_of header.now }
+    ensures reads { ReadsHeader packet.new true (one_hop_less header.now) }
+    ensures bytes { packet.new ≡ with_hop_limit header.now packet.old (hop_limit_of header.now - 1) }
 {
-    match header {
-        IpRepr::Ipv4(value) => {
-            let hop_limit = value.hop_limit - 1;
-            Ipv4PacketMut::new_unchecked(packet).update_hop_limit(hop_limit);
-            IpRepr::Ipv4(Ipv4Repr { hop_limit, ..value })
+    let hop_limit = header.hop_limit() - 1;
+    match *header {
+        IpRepr::Ipv4(_) => {
+            let mut packet = Ipv4PacketMut::new_unchecked(packet);
+            packet.update_hop_limit(hop_limit);
         }
         IpRepr::Ipv6(value) => {
-            let hop_limit = value.hop_limit - 1;
             laws::one_value_changes_ipv6(packet, value, hop_limit, value.src_addr);
-            Ipv6PacketMut::new_unchecked(packet).set_hop_limit(hop_limit);
-            IpRepr::Ipv6(Ipv6Repr { hop_limit, ..value })
+            let mut packet = Ipv6PacketMut::new_unchecked(packet);
+            packet.set_hop_limit(hop_limit);
         }
+    }
+}
+
+// The header with one hop less.
+fn one_less(header: IpRepr) -> IpRepr
+    requires { 1 < hop_limit_of header }
+    ensures { result ≡ one_hop_less header }
+{
+    let hop_limit = header.hop_limit() - 1;
+    match header {
+        IpRepr::Ipv4(value) => IpRepr::Ipv4(Ipv4Repr { hop_limit, ..value }),
+        IpRepr::Ipv6(value) => IpRepr::Ipv6(Ipv6Repr { hop_limit, ..value }),
     }
 }
