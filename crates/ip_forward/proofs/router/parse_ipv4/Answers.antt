@@ -1,0 +1,28 @@
+use Rattle.std.proofs.Common.{◌≡◌, ◌↔◌, IsTrue, drop, false, rules, take, true}
+use Rattle.ip_forward.proofs.Forwards.{bad-ipv4, carries-ipv4, wrong-ipv4}
+use Rattle.ip_wire.specs.Ipv4.{HasChecksum, packet_bytes}
+use Rattle.net_base.specs.Checksum.{verifies}
+use Rattle.ip_forward.proofs.router.parse_ipv4.Goals as goal
+
+pub returns-in_default-clause-rejected : goal.returns-in_default-clause-rejected
+returns-in_default-clause-rejected c =
+    let bytes : packet_bytes c.new_unchecked-packet.result ≡ c.args.packet.now = search rules in
+    let verified : verifies c.ignored.result.ipv4 ≡ false = search rules in
+    bad-ipv4 c.args.packet.now c.parse.result c.in_default.field-0 (rw (verified, bytes) at c.parse.ensures.reads) (search rules)
+
+pub returns-then-not-verify_checksum-clause-rejected : goal.returns-then-not-verify_checksum-clause-rejected
+returns-then-not-verify_checksum-clause-rejected c =
+    let bytes : packet_bytes c.new_unchecked-packet.result ≡ c.args.packet.now = search rules in
+    let verified : verifies c.ignored.result.ipv4 ≡ false = search rules in
+    let reads = rw (verified, bytes) at c.parse.ensures.reads in
+    let sums : IsTrue c.verify_checksum.result ↔ HasChecksum c.args.packet.now = rw bytes at c.verify_checksum.ensures in
+    wrong-ipv4 c.args.packet.now c.in-Ok.header ((reads c.in-Ok.header).0 c.in-Ok.is)
+    (λ full. let on : c.verify_checksum.result ≡ true = sums.1 full in let off : c.verify_checksum.result ≡ false = search rules in cc)
+
+pub returns-clause-carries : goal.returns-clause-carries
+returns-clause-carries c =
+    let bytes : packet_bytes c.new_unchecked-packet.result ≡ c.args.packet.now = search rules in
+    let verified : verifies c.ignored.result.ipv4 ≡ false = search rules in
+    let reads = rw (verified, bytes) at c.parse.ensures.reads in
+    let sums : IsTrue c.verify_checksum.result ↔ HasChecksum c.args.packet.now = rw bytes at c.verify_checksum.ensures in
+    carries-ipv4 c.args.packet.now c.in-Ok.header ((reads c.in-Ok.header).0 c.in-Ok.is) (sums.0 (search rules))

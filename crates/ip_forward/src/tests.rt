@@ -1,0 +1,5 @@
+//! Real frames, forwarded and rejected.
+
+ghost use Rattle.std.specs.Prelude.{◌≡◌};
+
+mod router;

@@ -1,0 +1,100 @@
+//! One hop of a router. The expected frames have checksums that were computed anew.
+
+use crate::{Rejection, forward};
+use ip_wire::{EthernetAddress, Ipv4Packet};
+
+const SRC: EthernetAddress = EthernetAddress([0x02, 0x00, 0x00, 0x00, 0x00, 0x11]);
+
+const DST: EthernetAddress = EthernetAddress([0x02, 0x00, 0x00, 0x00, 0x00, 0x12]);
+
+/// A UDP packet, as Linux sent it.
+const UDP: [u8; 46] = [
+    0x02, 0x00, 0x00, 0x00, 0x00, 0x02, 0x02, 0x00, 0x00, 0x00, 0x00, 0x01, 0x08, 0x00, 0x45, 0x00,
+    0x00, 0x20, 0x95, 0xf5, 0x40, 0x00, 0x40, 0x11, 0x20, 0xd4, 0xc0, 0x00, 0x02, 0x01, 0xc0, 0x00,
+    0x02, 0x02, 0xb5, 0xe3, 0x14, 0xe9, 0x00, 0x0c, 0x84, 0x21, 0x70, 0x69, 0x6e, 0x67,
+];
+
+const UDP_FORWARDED: [u8; 46] = [
+    0x02, 0x00, 0x00, 0x00, 0x00, 0x12, 0x02, 0x00, 0x00, 0x00, 0x00, 0x11, 0x08, 0x00, 0x45, 0x00,
+    0x00, 0x20, 0x95, 0xf5, 0x40, 0x00, 0x3f, 0x11, 0x21, 0xd4, 0xc0, 0x00, 0x02, 0x01, 0xc0, 0x00,
+    0x02, 0x02, 0xb5, 0xe3, 0x14, 0xe9, 0x00, 0x0c, 0x84, 0x21, 0x70, 0x69, 0x6e, 0x67,
+];
+
+/// A router solicitation over IPv6, as Linux sent it.
+const IPV6: [u8; 70] = [
+    0x33, 0x33, 0x00, 0x00, 0x00, 0x02, 0x02, 0x00, 0x00, 0x00, 0x00, 0x02, 0x86, 0xdd, 0x60, 0x00,
+    0x00, 0x00, 0x00, 0x10, 0x3a, 0xff, 0xfe, 0x80, 0x00, 0x00, 0x00, 0x00, 0x00, 0x00, 0x00, 0x00,
+    0x00, 0xff, 0xfe, 0x00, 0x00, 0x02, 0xff, 0x02, 0x00, 0x00, 0x00, 0x00, 0x00, 0x00, 0x00, 0x00,
+    0x00, 0x00, 0x00, 0x00, 0x00, 0x02, 0x85, 0x00, 0x7b, 0x2a, 0x00, 0x00, 0x00, 0x00, 0x01, 0x01,
+    0x02, 0x00, 0x00, 0x00, 0x00, 0x02,
+];
+
+#[test]
+fn forwards_ipv4_until_it_expires(rt: HostRuntime) {
+    let mut frame = UDP;
+    assert!(rt; forward(&mut frame, SRC, DST).is_ok());
+    assert_eq!(rt; frame, UDP_FORWARDED);
+    for _ in 0..62 {
+        assert!(rt; forward(&mut frame, SRC, DST).is_ok());
+        assert!(rt; Ipv4Packet::new_unchecked(&frame[14..]).verify_checksum());
+    }
+    let last = frame;
+    assert_eq!(rt; forward(&mut frame, SRC, DST), Err(Rejection::Expired));
+    assert_eq!(rt; frame, last);
+}
+
+#[test]
+fn forwards_ipv6_until_it_expires(rt: HostRuntime) {
+    let mut expected = IPV6;
+    expected[..6].copy_from_slice(&DST.0);
+    expected[6..12].copy_from_slice(&SRC.0);
+    let mut frame = IPV6;
+    for hop_limit in 1..255 {
+        assert!(rt; forward(&mut frame, SRC, DST).is_ok());
+        expected[21] = 255 - hop_limit;
+        assert_eq!(rt; frame, expected);
+    }
+    assert_eq!(rt; forward(&mut frame, SRC, DST), Err(Rejection::Expired));
+    assert_eq!(rt; frame, expected);
+}
+
+/// One octet changed: the type, the version, the header length, the total length, the checksum, the hop
+/// limit without a new checksum.
+#[test]
+fn rejects_what_is_no_packet(rt: HostRuntime) {
+    for (at, octet, reason) in [
+        (13, 0x06, Rejection::NotIp),
+        (12, 0x86, Rejection::NotIp),
+        (14, 0x65, Rejection::BadHeader),
+        (14, 0x44, Rejection::BadHeader),
+        (17, 0x21, Rejection::BadHeader),
+        (17, 0x13, Rejection::BadHeader),
+        (25, 0xd5, Rejection::WrongChecksum),
+        (22, 0x01, Rejection::WrongChecksum),
+    ] {
+        let mut frame = UDP;
+        frame[at] = octet;
+        let same = frame;
+        assert_eq!(rt; forward(&mut frame, SRC, DST), Err(reason));
+        assert_eq!(rt; frame, same);
+    }
+    for (at, octet, reason) in [
+        (14, 0x45, Rejection::BadHeader),
+        (19, 0x11, Rejection::BadHeader),
+        (21, 0x01, Rejection::Expired),
+        (21, 0x00, Rejection::Expired),
+    ] {
+        let mut frame = IPV6;
+        frame[at] = octet;
+        let same = frame;
+        assert_eq!(rt; forward(&mut frame, SRC, DST), Err(reason));
+        assert_eq!(rt; frame, same);
+    }
+    let mut short = UDP;
+    assert_eq!(rt; forward(&mut short[..13], SRC, DST), Err(Rejection::NotIp));
+    assert_eq!(rt;
+        forward(&mut short[..14], SRC, DST),
+        Err(Rejection::BadHeader)
+    );
+    assert_eq!(rt; short, UDP);
+}
