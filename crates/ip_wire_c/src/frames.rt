@@ -85,6 +85,15 @@ impl FrameFields {
         is_whole.then_some(value)
     }
 
+    // The length of the Ethernet header and this IP header, in octets.
+    #[inline(always)]
+    fn headers_len(&self, carrier: &IpRepr) -> usize
+        ensures len { result ≡ 14 + header_len_of carrier.now }
+        ensures bytes { result ≡ length (headers_bytes self.now carrier.now) }
+    {
+        ETHERNET_HEADER_LEN + carrier.header_len()
+    }
+
     // Writes the Ethernet header and the IP header to the front of `out`.
     #[inline(always)]
     fn emit_headers(&self, carrier: &IpRepr, out: &mut [u8])
@@ -109,7 +118,7 @@ impl FrameFields {
               ++ udp.bytes_of (ports_of self.now.src self.now.dst) payload (src_addr_of v) (dst_addr_of v) true
               ++ drop (first + payload_len) out.old }
     {
-        let (headers, packet) = out.split_at_mut(ETHERNET_HEADER_LEN + carrier.header_len());
+        let (headers, packet) = out.split_at_mut(self.headers_len(carrier));
         self.emit_headers(carrier, headers);
         let ports = UdpRepr {
             src_port: self.src.port,
@@ -139,7 +148,7 @@ impl FrameFields {
               ++ segment_bytes self.now.tcp u payload (src_addr_of v) (dst_addr_of v) true
               ++ drop (first + payload_len) out.old }
     {
-        let (headers, packet) = out.split_at_mut(ETHERNET_HEADER_LEN + carrier.header_len());
+        let (headers, packet) = out.split_at_mut(self.headers_len(carrier));
         self.emit_headers(carrier, headers);
         let (src_addr, dst_addr) = (carrier.src_addr(), carrier.dst_addr());
         self.tcp
@@ -154,7 +163,7 @@ impl FrameFields {
             return None;
         }
         let carrier = self.carrier(UDP, UDP_HEADER_LEN + payload.len())?;
-        let start = ETHERNET_HEADER_LEN + carrier.header_len() + UDP_HEADER_LEN;
+        let start = self.headers_len(&carrier) + UDP_HEADER_LEN;
         let end = start + payload.len();
         if out.len() < end {
             return None;
@@ -172,7 +181,7 @@ impl FrameFields {
             return None;
         }
         let carrier = self.carrier(UDP, UDP_HEADER_LEN + payload_len)?;
-        let end = ETHERNET_HEADER_LEN + carrier.header_len() + UDP_HEADER_LEN + payload_len;
+        let end = self.headers_len(&carrier) + UDP_HEADER_LEN + payload_len;
         if out.len() < end {
             return None;
         }
@@ -195,7 +204,7 @@ impl FrameFields {
             .segment(options, src_port, dst_port, payload.len())?;
         let header_len = segment.header_len();
         let carrier = self.carrier(TCP, header_len + payload.len())?;
-        let start = ETHERNET_HEADER_LEN + carrier.header_len() + header_len;
+        let start = self.headers_len(&carrier) + header_len;
         let end = start + payload.len();
         if out.len() < end {
             return None;
@@ -218,7 +227,7 @@ impl FrameFields {
         let segment = self.tcp.segment(options, src_port, dst_port, payload_len)?;
         let header_len = segment.header_len();
         let carrier = self.carrier(TCP, header_len + payload_len)?;
-        let end = ETHERNET_HEADER_LEN + carrier.header_len() + header_len + payload_len;
+        let end = self.headers_len(&carrier) + header_len + payload_len;
         if out.len() < end {
             return None;
         }
