@@ -1,6 +1,6 @@
 //! Whole frames.
 
-ghost use Rattle.std.specs.Prelude.{◌≡◌, ◌≤◌, ◌+◌, ◌++◌, [], drop, length, slice_range, true};
+ghost use Rattle.std.specs.Prelude.{◌≡◌, ◌≤◌, ◌+◌, ◌++◌, [], IfSome, drop, length, slice_range, true};
 ghost use Rattle.ip_wire.specs.Ip.{dst_addr_of, header_len_of, max_payload_len, payload_len_of, src_addr_of};
 ghost use Rattle.ip_wire.specs.TcpRepr as tcp;
 ghost use Rattle.ip_wire.specs.Udp as udp;
@@ -76,7 +76,8 @@ impl FrameFields {
     // says that the packet is a fragment.
     #[inline(always)]
     fn carrier(&self, protocol: u8, len: usize) -> Option<IpRepr>
-        ensures { result ≡ carrier self.now protocol len }
+        ensures value { result ≡ carrier self.now protocol len }
+        ensures len { IfSome result (λ v. length (headers_bytes self.now v) ≡ 14 + header_len_of v) }
     {
         let value = self
             .ip
@@ -88,8 +89,7 @@ impl FrameFields {
     // The length of the Ethernet header and this IP header, in octets.
     #[inline(always)]
     fn headers_len(&self, carrier: &IpRepr) -> usize
-        ensures len { result ≡ 14 + header_len_of carrier.now }
-        ensures bytes { result ≡ length (headers_bytes self.now carrier.now) }
+        ensures { result ≡ 14 + header_len_of carrier.now }
     {
         ETHERNET_HEADER_LEN + carrier.header_len()
     }
