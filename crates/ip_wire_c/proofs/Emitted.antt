@@ -46,8 +46,8 @@ pub header-before : (v : TcpHeader) (payload old part bytes : List ℕ) (src dst
 header-before v payload old part bytes src dst n empty is holds =
     let len = header_len_of v in
     let written : bytes ≡ (header_bytes v 0 ++ []) ++ drop (len + 0) (take (len + n) old) =
-      holds ∙ ap (λ p. bytes_of v p src dst false (drop (len + length p) part) ++ drop (len + length p) part) empty
-      ∙ ap (λ s. (header_bytes v 0 ++ []) ++ drop (len + 0) s) is in
+    holds ∙ ap (λ p. bytes_of v p src dst false (drop (len + length p) part) ++ drop (len + length p) part) empty
+    ∙ ap (λ s. (header_bytes v 0 ++ []) ++ drop (len + 0) s) is in
     let rest : drop (len + 0) (take (len + n) old) ≡ slice_range old len (len + n) = behind len n old in
     written ∙ ap (λ s. (header_bytes v 0 ++ []) ++ s) rest ∙ ap (λ s. s ++ slice_range old len (len + n)) (append-nil (header_bytes v 0))
 

@@ -91,8 +91,8 @@ udp-framed f payload v fits e =
     let pair = (carrier-value f 17 (8 + length payload) v e).1 in
     let small : nat_le (length payload) 65527 ≡ true = grind (arith, nat_tests, fits) in
     let packet : udp_bytes f.src f.dst payload true ≡ Some bytes =
-      ap (λ o. option_and_then (λ pair. only_if (nat_le (length payload) 65527) (udp.bytes_of (ports_of f.src f.dst) payload pair.0 pair.1 true)) o) pair
-      ∙ ap (λ b. only_if b bytes) small in
+    ap (λ o. option_and_then (λ pair. only_if (nat_le (length payload) 65527) (udp.bytes_of (ports_of f.src f.dst) payload pair.0 pair.1 true)) o) pair
+    ∙ ap (λ b. only_if b bytes) small in
     let size = length-udp (ports_of f.src f.dst) payload (src_addr_of v) (dst_addr_of v) in
     ap (λ o. option_and_then (framed f 17) o) packet ∙ framed-packet f 17 bytes v (ap (carrier f 17) size ∙ e)
 
@@ -158,13 +158,13 @@ pub tcp-unframed : (f : FrameFields) (o : TcpOptions) (payload : List ℕ) (u : 
     → segment_header_len f.tcp o (length payload) ≡ Some (header_len_of u) → u ≡ tcp_value f.tcp o f.src.port f.dst.port
     → carrier f 6 (header_len_of u + length payload) ≡ None
     → option_and_then (framed f 6) (option_and_then (λ p. option_map (λ len. segment_bytes f.tcp (tcp_value f.tcp o f.src.port f.dst.port) payload p.0 p.1 true)
-        (segment_header_len f.tcp o (length payload))) pair) ≡ None
+    (segment_header_len f.tcp o (length payload))) pair) ≡ None
 tcp-unframed f o payload u None len is e = refl
 tcp-unframed f o payload u (Some (a, b)) len is e =
     let w = tcp_value f.tcp o f.src.port f.dst.port in
     let bytes = segment_bytes f.tcp w payload a b true in
     let size : length bytes ≡ header_len_of u + length payload =
-      length-segment f.tcp w payload a b true ∙ ap (λ (w : TcpHeader). header_len_of w + length payload) (sym is) in
+    length-segment f.tcp w payload a b true ∙ ap (λ (w : TcpHeader). header_len_of w + length payload) (sym is) in
     ap (λ (q : Option ℕ). option_and_then (framed f 6) (option_map (λ len. bytes) q)) len
     ∙ ap (λ (q : Option IpRepr). option_map (λ v. headers_bytes f v ++ bytes) q) (ap (carrier f 6) size ∙ e)
 
@@ -191,5 +191,5 @@ behind-headers F headers old front rest new a k n is behind holds =
     let inner : slice_range (drop a old) k (k + n) ≡ slice_range old (a + k) (a + k + n) = same-part old a k n in
     let last : drop (k + n) (drop a old) ≡ drop (a + k + n) old = drop-drop (k + n) a old ∙ ap (λ i. drop i old) (omega arith) in
     let whole = holds ∙ ap (λ s. F (slice_range s k (k + n)) ++ drop (k + n) s) behind
-      ∙ ap (λ s. F s ++ drop (k + n) (drop a old)) inner ∙ ap (λ s. F (slice_range old (a + k) (a + k + n)) ++ s) last in
+    ∙ ap (λ s. F s ++ drop (k + n) (drop a old)) inner ∙ ap (λ s. F (slice_range old (a + k) (a + k + n)) ++ s) last in
     ap (λ s. s ++ new) is ∙ ap (λ s. headers ++ s) whole ∙ sym (append_assoc headers (F (slice_range old (a + k) (a + k + n))) (drop (a + k + n) old))

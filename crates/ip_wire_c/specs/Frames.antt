@@ -60,7 +60,7 @@ udp_frame_around f len bytes =
 abbrev pub tcp_frame_around : FrameFields → TcpOptions → ℕ → List ℕ → Option (List ℕ)
 tcp_frame_around f o len bytes =
     option_and_then (λ size. option_and_then (λ v. option_and_then (tcp_frame f o) (part bytes (14 + header_len_of v + size) len))
-      (carrier f 6 (size + len)))
+    (carrier f 6 (size + len)))
     (segment_header_len f.tcp o len)
 
 -- ---- replies

@@ -209,5 +209,5 @@ segment_header_len h o payload_len = option_and_then (λ len. only_if (is_segmen
 abbrev pub tcp_bytes : Tcp → TcpOptions → Endpoint → Endpoint → List ℕ → Bool → Option (List ℕ)
 tcp_bytes h o src dst payload computed =
     option_and_then (λ pair. option_map (λ len. segment_bytes h (tcp_value h o src.port dst.port) payload pair.0 pair.1 computed)
-      (segment_header_len h o (length payload)))
+    (segment_header_len h o (length payload)))
     (pair_of src.addr dst.addr)

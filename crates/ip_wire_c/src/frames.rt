@@ -18,11 +18,14 @@ use ip_wire::{
 
 // The protocols of IP.
 const TCP: u8 = 6;
+
 const UDP: u8 = 17;
 
 // EtherTypes.
 const IPV4: u16 = 0x0800;
+
 const ARP: u16 = 0x0806;
+
 const IPV6: u16 = 0x86dd;
 
 impl Ethernet {
@@ -115,8 +118,8 @@ impl FrameFields {
         ensures { let v = carrier.now in let first = 14 + header_len_of v + 8 in
             let payload = slice_range out.old first (first + payload_len) in
             out.new ≡ headers_bytes self.now v
-              ++ udp.bytes_of (ports_of self.now.src self.now.dst) payload (src_addr_of v) (dst_addr_of v) true
-              ++ drop (first + payload_len) out.old }
+            ++ udp.bytes_of (ports_of self.now.src self.now.dst) payload (src_addr_of v) (dst_addr_of v) true
+            ++ drop (first + payload_len) out.old }
     {
         let (headers, packet) = out.split_at_mut(self.headers_len(carrier));
         self.emit_headers(carrier, headers);
@@ -130,13 +133,7 @@ impl FrameFields {
 
     // Writes the headers of a frame with a TCP segment around a payload that is in `out` behind them.
     #[inline(always)]
-    fn wrap_tcp(
-        &self,
-        carrier: &IpRepr,
-        segment: &TcpRepr<'_>,
-        payload_len: usize,
-        out: &mut [u8],
-    )
+    fn wrap_tcp(&self, carrier: &IpRepr, segment: &TcpRepr<'_>, payload_len: usize, out: &mut [u8])
         requires expressible { is_expressible self.now.ip carrier.now ≡ true }
         requires empty { segment.now.payload.now ≡ [] }
         requires header_len { tcp.header_len_of (tcp.header_of segment.now) ≤ 60 }
@@ -145,8 +142,8 @@ impl FrameFields {
             let first = 14 + header_len_of v + tcp.header_len_of u in
             let payload = slice_range out.old first (first + payload_len) in
             out.new ≡ headers_bytes self.now v
-              ++ segment_bytes self.now.tcp u payload (src_addr_of v) (dst_addr_of v) true
-              ++ drop (first + payload_len) out.old }
+            ++ segment_bytes self.now.tcp u payload (src_addr_of v) (dst_addr_of v) true
+            ++ drop (first + payload_len) out.old }
     {
         let (headers, packet) = out.split_at_mut(self.headers_len(carrier));
         self.emit_headers(carrier, headers);
@@ -190,12 +187,7 @@ impl FrameFields {
     }
 
     // Writes a frame with a TCP segment and this payload, and returns its length.
-    fn emit_tcp(
-        &self,
-        options: &TcpOptions,
-        payload: &[u8],
-        out: &mut [u8],
-    ) -> Option<usize>
+    fn emit_tcp(&self, options: &TcpOptions, payload: &[u8], out: &mut [u8]) -> Option<usize>
         ensures { Fills (tcp_frame self.now options.now payload.now) out.old out.new result }
     {
         let (src_port, dst_port) = (self.src.port, self.dst.port);
@@ -252,7 +244,6 @@ impl FrameFields {
             None => None,
         }
     }
-
 }
 
 // The EtherType of a packet with this header.
@@ -280,11 +271,7 @@ pub extern "C" fn lk_reply(frame: &FrameFields, reply: &mut FrameFields)
 
 /// Writes a whole frame with a UDP packet and this payload.
 #[unsafe(no_mangle)]
-pub extern "C" fn lk_emit_udp_frame(
-    headers: &FrameFields,
-    payload: &[u8],
-    out: &mut [u8],
-) -> isize
+pub extern "C" fn lk_emit_udp_frame(headers: &FrameFields, payload: &[u8], out: &mut [u8]) -> isize
     ensures { Writes (udp_frame headers.now payload.now) out.old out.new result }
 {
     written(headers.emit_udp(payload, out))

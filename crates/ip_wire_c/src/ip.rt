@@ -18,13 +18,7 @@ impl Ip {
     /// The values of a header of this protocol between two addresses. `None` if the addresses have
     /// no version or different ones, or if the header cannot express a field or the length.
     #[inline(always)]
-    pub fn value(
-        &self,
-        protocol: u8,
-        src: &Addr,
-        dst: &Addr,
-        payload_len: usize,
-    ) -> Option<IpRepr>
+    pub fn value(&self, protocol: u8, src: &Addr, dst: &Addr, payload_len: usize) -> Option<IpRepr>
         ensures value { result ≡ ip_value self.now protocol src.now dst.now payload_len }
         ensures fits { IfSome result (λ v. payload_len_of v ≤ max_payload_len v) }
     {

@@ -6,7 +6,8 @@ ghost use Rattle.ip_wire_c.specs.Headers.{first_ranges, has_one_control, no_tcp,
 
 use crate::types::{Tcp, TcpOptions};
 use ip_wire::{
-    IPV6_MAX_PAYLOAD_LEN, SACK_BLOCKS, TCP_MAX_HEADER_LEN, TcpControl, TcpRepr, TcpSeqNumber, TcpTimestampRepr,
+    IPV6_MAX_PAYLOAD_LEN, SACK_BLOCKS, TCP_MAX_HEADER_LEN, TcpControl, TcpRepr, TcpSeqNumber,
+    TcpTimestampRepr,
 };
 
 impl TcpOptions {

@@ -27,4 +27,4 @@ returns c =
     let bytes = tcp-segment c.args.header.now c.args.options.now c.args.src.now c.args.dst.now payload c.args.computed u a b pair c.in_ok-segment.ensures.0 c.in_ok-segment.ensures.1 in
     let size = length-segment c.args.header.now u payload a b c.args.computed in
     rw c.header_len.ensures (subst (λ o. Fills o c.args.out.now c.emit.new.out (Some (header_len_of u + length payload))) (sym bytes)
-      (sym size, omega (arith, c.header_len.ensures, c.if-out-len.false), c.emit.ensures))
+    (sym size, omega (arith, c.header_len.ensures, c.if-out-len.false), c.emit.ensures))

@@ -19,4 +19,4 @@ returns-in-Some c =
     let is_front = rw front at c.emit-in-Some.ensures in
     subst (λ o. Fills o old (c.emit-in-Some.new.out ++ c.emit.new.out) (Some (14 + c.in-Some.len))) (sym frame)
     (filled-behind link inner old c.emit-in-Some.new.out _ c.emit.new.out 14 c.in-Some.len
-      (search rules) (search rules) refl is_front (search rules) (search rules) (search rules))
+    (search rules) (search rules) refl is_front (search rules) (search rules) (search rules))

@@ -21,11 +21,11 @@ returns c =
     let room : start + length payload ≤ length old = omega (arith, c.headers_len.ensures, c.header_len-header_len.ensures, c.if-out-end.false) in
     let full = rw (c.headers_len.ensures, c.header_len-header_len.ensures) at c.place.ensures in
     let whole = placed (λ payload. headers_bytes f v ++ segment_bytes f.tcp u payload (src_addr_of v) (dst_addr_of v) true) payload old
-      c.place.new.out c.wrap_tcp.new.out start room full c.wrap_tcp.ensures in
+    c.place.new.out c.wrap_tcp.new.out start room full c.wrap_tcp.ensures in
     let same : length c.wrap_tcp.new.out ≡ length old = omega (arith, c.wrap_tcp.auto.out, c.place.auto.out) in
     rw (c.headers_len.ensures, c.header_len-header_len.ensures)
     (filled-front (tcp_frame f c.args.options.now payload) _ old c.wrap_tcp.new.out (start + length payload)
-      (tcp-framed f c.args.options.now payload u v c.in_ok-segment.ensures.0 c.in_ok-segment.ensures.1 found) room same whole)
+    (tcp-framed f c.args.options.now payload u v c.in_ok-segment.ensures.0 c.in_ok-segment.ensures.1 found) room same whole)
 
 pub returns-in_err-carrier : goal.returns-in_err-carrier
 returns-in_err-carrier c =

@@ -22,10 +22,10 @@ returns c =
     let found : carrier f 6 (tcp.header_len_of u + n) ≡ Some v = rw c.header_len-header_len.ensures at (sym c.carrier.ensures.value ∙ c.in_ok-carrier.was) in
     let len : segment_header_len f.tcp o n ≡ Some (tcp.header_len_of u) = c.in_ok-segment.ensures.0 in
     let framed = tcp-framed f o payload u v (ap (λ k. segment_header_len f.tcp o k) size ∙ len) c.in_ok-segment.ensures.1
-      (ap (λ k. carrier f 6 (tcp.header_len_of u + k)) size ∙ found) in
+    (ap (λ k. carrier f 6 (tcp.header_len_of u + k)) size ∙ found) in
     let around = ap (λ q. option_and_then (λ len. option_and_then (λ v. option_and_then (tcp_frame f o) (part old (14 + header_len_of v + len) n)) (carrier f 6 (len + n))) q) len
-      ∙ ap (λ q. option_and_then (λ v. option_and_then (tcp_frame f o) (part old (14 + header_len_of v + tcp.header_len_of u) n)) q) found
-      ∙ ap (λ q. option_and_then (tcp_frame f o) q) (part-there old start n room) ∙ framed in
+    ∙ ap (λ q. option_and_then (λ v. option_and_then (tcp_frame f o) (part old (14 + header_len_of v + tcp.header_len_of u) n)) q) found
+    ∙ ap (λ q. option_and_then (tcp_frame f o) q) (part-there old start n room) ∙ framed in
     let same : length c.wrap_tcp.new.out ≡ length old = c.wrap_tcp.auto.out in
     rw (c.headers_len.ensures, c.header_len-header_len.ensures)
     (filled-front (tcp_frame_around f o n old) _ old c.wrap_tcp.new.out (start + n) around room same c.wrap_tcp.ensures)

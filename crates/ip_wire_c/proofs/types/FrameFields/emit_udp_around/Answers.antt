@@ -19,6 +19,6 @@ returns c =
     let found : carrier f 17 (8 + n) ≡ Some v = sym c.carrier.ensures.value ∙ c.in_ok-carrier.was in
     let framed = udp-framed f payload v fits (ap (λ k. carrier f 17 (8 + k)) size ∙ found) in
     let around = ap (λ q. option_and_then (λ v. option_and_then (udp_frame f) (part old (14 + header_len_of v + 8) n)) q) found
-      ∙ ap (λ q. option_and_then (udp_frame f) q) (part-there old start n room) ∙ framed in
+    ∙ ap (λ q. option_and_then (udp_frame f) q) (part-there old start n room) ∙ framed in
     let same : length c.wrap_udp.new.out ≡ length old = c.wrap_udp.auto.out in
     rw c.headers_len.ensures (filled-front (udp_frame_around f n old) _ old c.wrap_udp.new.out (start + n) around room same c.wrap_udp.ensures)
