@@ -1,10 +1,11 @@
 -- The bytes of whole frames that are written from the struct of a frame.
-use Rattle.std.specs.Prelude.{ℕ, ◌+◌, ◌&&◌, ◌==◌, nat_le, if◌then◌else◌, ◌++◌, Bool, true, List, length, slice_range, Option, None, Some}
+use Rattle.std.specs.Prelude.{ℕ, ◌+◌, ◌&&◌, ◌==◌, nat_le, ◌++◌, Bool, true, List, length, slice_range, Option, None, Some}
 use Rattle.std.specs.Option.{option_and_then, option_map}
 use Rattle.ip_wire.specs.Frame.{rebuilt}
+use Rattle.ip_wire.specs.Ip.{header_len_of}
 use Rattle.ip_wire.specs.declared.IpRepr.{IpRepr}
 use Rattle.ip_wire.specs.declared.IpRepr.TheVariants.{Ipv4, Ipv6}
-use Rattle.ip_wire_c.specs.Headers.{arp_bytes, header_bytes, ip_value, link_bytes, only_if, options_header_len, tcp_bytes, udp_bytes}
+use Rattle.ip_wire_c.specs.Headers.{arp_bytes, header_bytes, ip_value, link_bytes, only_if, segment_header_len, tcp_bytes, udp_bytes}
 use Rattle.ip_wire_c.specs.declared.types.Arp.{Arp}
 use Rattle.ip_wire_c.specs.declared.types.Ethernet.{Ethernet}
 use Rattle.ip_wire_c.specs.declared.types.FrameFields.{FrameFields}
@@ -50,17 +51,17 @@ arp_frame f = option_map (λ packet. link_bytes f.ethernet 0x0806 ++ packet) (ar
 abbrev pub part : List ℕ → ℕ → ℕ → Option (List ℕ)
 part bytes first len = only_if (nat_le (first + len) (length bytes)) (slice_range bytes first (first + len))
 
--- where the headers before UDP or TCP end
-abbrev pub carrier_end : FrameFields → ℕ
-carrier_end f = if f.src.addr.version == 4 then 34 else 54
-
--- a frame with a UDP packet around the payload in these bytes
+-- a frame with a UDP packet around the payload in these bytes, which stands behind the headers
 abbrev pub udp_frame_around : FrameFields → ℕ → List ℕ → Option (List ℕ)
-udp_frame_around f len bytes = option_and_then (udp_frame f) (part bytes (carrier_end f + 8) len)
+udp_frame_around f len bytes =
+    option_and_then (λ v. option_and_then (udp_frame f) (part bytes (14 + header_len_of v + 8) len)) (carrier f 17 (8 + len))
 
--- a frame with a TCP segment around the payload in these bytes
+-- a frame with a TCP segment around the payload in these bytes, which stands behind the headers
 abbrev pub tcp_frame_around : FrameFields → TcpOptions → ℕ → List ℕ → Option (List ℕ)
-tcp_frame_around f o len bytes = option_and_then (tcp_frame f o) (part bytes (carrier_end f + options_header_len o) len)
+tcp_frame_around f o len bytes =
+    option_and_then (λ size. option_and_then (λ v. option_and_then (tcp_frame f o) (part bytes (14 + header_len_of v + size) len))
+    (carrier f 6 (size + len)))
+    (segment_header_len f.tcp o len)
 
 -- ---- replies
 

@@ -1,6 +1,6 @@
 //! Whole frames.
 
-ghost use Rattle.std.specs.Prelude.{◌≡◌, ◌≤◌, ◌+◌, ◌++◌, [], drop, length, slice_range, true};
+ghost use Rattle.std.specs.Prelude.{◌≡◌, ◌≤◌, ◌+◌, ◌++◌, [], IfSome, drop, length, slice_range, true};
 ghost use Rattle.ip_wire.specs.Ip.{dst_addr_of, header_len_of, max_payload_len, payload_len_of, src_addr_of};
 ghost use Rattle.ip_wire.specs.TcpRepr as tcp;
 ghost use Rattle.ip_wire.specs.Udp as udp;
@@ -79,13 +79,22 @@ impl FrameFields {
     // says that the packet is a fragment.
     #[inline(always)]
     fn carrier(&self, protocol: u8, len: usize) -> Option<IpRepr>
-        ensures { result ≡ carrier self.now protocol len }
+        ensures value { result ≡ carrier self.now protocol len }
+        ensures len { IfSome result (λ v. length (headers_bytes self.now v) ≡ 14 + header_len_of v) }
     {
         let value = self
             .ip
             .value(protocol, &self.src.addr, &self.dst.addr, len)?;
         let is_whole = self.ip.fragment_offset == 0 && self.ip.more_fragments == 0;
         is_whole.then_some(value)
+    }
+
+    // The length of the Ethernet header and this IP header, in octets.
+    #[inline(always)]
+    fn headers_len(&self, carrier: &IpRepr) -> usize
+        ensures { result ≡ 14 + header_len_of carrier.now }
+    {
+        ETHERNET_HEADER_LEN + carrier.header_len()
     }
 
     // Writes the Ethernet header and the IP header to the front of `out`.
@@ -112,7 +121,7 @@ impl FrameFields {
             ++ udp.bytes_of (ports_of self.now.src self.now.dst) payload (src_addr_of v) (dst_addr_of v) true
             ++ drop (first + payload_len) out.old }
     {
-        let (headers, packet) = out.split_at_mut(ETHERNET_HEADER_LEN + carrier.header_len());
+        let (headers, packet) = out.split_at_mut(self.headers_len(carrier));
         self.emit_headers(carrier, headers);
         let ports = UdpRepr {
             src_port: self.src.port,
@@ -136,7 +145,7 @@ impl FrameFields {
             ++ segment_bytes self.now.tcp u payload (src_addr_of v) (dst_addr_of v) true
             ++ drop (first + payload_len) out.old }
     {
-        let (headers, packet) = out.split_at_mut(ETHERNET_HEADER_LEN + carrier.header_len());
+        let (headers, packet) = out.split_at_mut(self.headers_len(carrier));
         self.emit_headers(carrier, headers);
         let (src_addr, dst_addr) = (carrier.src_addr(), carrier.dst_addr());
         self.tcp
@@ -151,7 +160,7 @@ impl FrameFields {
             return None;
         }
         let carrier = self.carrier(UDP, UDP_HEADER_LEN + payload.len())?;
-        let start = ETHERNET_HEADER_LEN + carrier.header_len() + UDP_HEADER_LEN;
+        let start = self.headers_len(&carrier) + UDP_HEADER_LEN;
         let end = start + payload.len();
         if out.len() < end {
             return None;
@@ -169,7 +178,7 @@ impl FrameFields {
             return None;
         }
         let carrier = self.carrier(UDP, UDP_HEADER_LEN + payload_len)?;
-        let end = ETHERNET_HEADER_LEN + carrier.header_len() + UDP_HEADER_LEN + payload_len;
+        let end = self.headers_len(&carrier) + UDP_HEADER_LEN + payload_len;
         if out.len() < end {
             return None;
         }
@@ -187,7 +196,7 @@ impl FrameFields {
             .segment(options, src_port, dst_port, payload.len())?;
         let header_len = segment.header_len();
         let carrier = self.carrier(TCP, header_len + payload.len())?;
-        let start = ETHERNET_HEADER_LEN + carrier.header_len() + header_len;
+        let start = self.headers_len(&carrier) + header_len;
         let end = start + payload.len();
         if out.len() < end {
             return None;
@@ -210,7 +219,7 @@ impl FrameFields {
         let segment = self.tcp.segment(options, src_port, dst_port, payload_len)?;
         let header_len = segment.header_len();
         let carrier = self.carrier(TCP, header_len + payload_len)?;
-        let end = ETHERNET_HEADER_LEN + carrier.header_len() + header_len + payload_len;
+        let end = self.headers_len(&carrier) + header_len + payload_len;
         if out.len() < end {
             return None;
         }

@@ -1,4 +1,4 @@
-use Rattle.std.proofs.Common.{◌≡◌, ◌∙◌, ◌+◌, ◌<◌, ◌≤◌, Some, ap, length, refl, subst, sym, rules, arith}
+use Rattle.std.proofs.Common.{◌≡◌, ◌∙◌, ◌+◌, ◌<◌, ◌≤◌, None, Some, ap, length, refl, subst, sym, rules, arith}
 use Rattle.ip_wire.specs.TcpRepr.{header_len_of, header_of}
 use Rattle.ip_wire_c.proofs.Framed.{length-segment, tcp-segment}
 use Rattle.ip_wire_c.specs.Addresses.{pair_of}
@@ -15,7 +15,7 @@ returns-then-out-len c =
     let pair : pair_of c.args.src.now.addr c.args.dst.now.addr ≡ Some (a, b) = sym c.pair.ensures.value ∙ c.in_ok-src_addr.was in
     let bytes = tcp-segment c.args.header.now c.args.options.now c.args.src.now c.args.dst.now payload c.args.computed u a b pair c.in_ok-segment.ensures.0 c.in_ok-segment.ensures.1 in
     let size = length-segment c.args.header.now u payload a b c.args.computed in
-    subst (λ o. Fills o c.args.out.now c.args.out.now _) (sym bytes) (omega (arith, size, c.header_len.ensures, c.if-out-len.true), refl)
+    subst (λ o. Fills o c.args.out.now c.args.out.now None) (sym bytes) (omega (arith, size, c.header_len.ensures, c.if-out-len.true), refl)
 
 pub returns : goal.returns
 returns c =
