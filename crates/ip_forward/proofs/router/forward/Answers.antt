@@ -1,4 +1,4 @@
-use Rattle.std.proofs.Common.{IfErr, List, ℕ, ◌≡◌, ◌-◌, ◌++◌, arith, drop, length, length-drop, rules, take}
+use Rattle.std.proofs.Common.{IfErr, List, ℕ, ◌≡◌, ◌-◌, arith, drop, length, length-drop, rules, take}
 use Rattle.std.proofs.lemmas.List.{take_all}
 use Rattle.ip_forward.proofs.Forwards.{forwarded, if-err, not-ip, rejected}
 use Rattle.ip_forward.specs.Forward.{IsRejected, IsRejectedAs, with_hop_limit}
@@ -22,7 +22,7 @@ returns-in_err-header-clause-rejected c =
     let reads = rw view at c.parse.ensures.reads in
     let why : IfErr c.accept.result (IsRejectedAs c.in-Ok.link.ethertype (drop 14 c.args.frame.now)) = rw (tail c.args.frame.now) at c.accept.ensures.rejected in
     let whole : IfErr c.accept.result (IsRejected c.args.frame.now) =
-        if-err c.accept.result _ _ (λ reason. rejected c.args.frame.now c.parse.result c.in-Ok.link reason reads c.in-Ok.is) why in
+    if-err c.accept.result _ _ (λ reason. rejected c.args.frame.now c.parse.result c.in-Ok.link reason reads c.in-Ok.is) why in
     search rules
 
 pub returns-clause-forwarded : goal.returns-clause-forwarded
@@ -33,9 +33,9 @@ returns-clause-forwarded c =
     let link : frame_bytes_mut c.new_unchecked-front.result ≡ take 14 frame = search rules in
     let once : frame_bytes_mut c.set_src_addr.new.self ≡ with_range (take 14 frame) 6 12 c.args.src_addr.0 = rw link at c.set_src_addr.ensures.holds in
     let front : frame_bytes_mut c.set_dst_addr.new.self ≡ with_range (with_range (take 14 frame) 6 12 c.args.src_addr.0) 0 6 c.args.dst_addr.0 =
-        rw once at c.set_dst_addr.ensures.holds in
+    rw once at c.set_dst_addr.ensures.holds in
     let behind : c.split_at_mut-front.result.1.now ≡ drop 14 frame = search rules in
     let header = c.in_ok-header.header in
     let packet : c.take_hop.new.packet ≡ with_hop_limit header (drop 14 frame) (hop_limit_of header - 1) = rw behind at c.take_hop.ensures.bytes in
     forwarded frame _ _ c.take_hop.new.packet c.args.src_addr c.args.dst_addr c.in-Ok.link header c.one_less.result (search rules) (search rules)
-        ((reads c.in-Ok.link).0 c.in-Ok.is) (rw (tail frame) at c.in_ok-header.ensures.carries) c.in_ok-header.ensures.alive front packet c.take_hop.ensures.reads (search rules) (search rules)
+    ((reads c.in-Ok.link).0 c.in-Ok.is) (rw (tail frame) at c.in_ok-header.ensures.carries) c.in_ok-header.ensures.alive front packet c.take_hop.ensures.reads (search rules) (search rules)
