@@ -1,6 +1,6 @@
 -- The bytes of a frame that is forwarded, and why one is rejected.
-use Rattle.std.proofs.Common.{IfErr, ℕ, ◌≡◌, ◌≢◌, ◌+◌, ◌≤◌, ◌<◌, ◌-◌, ◌++◌, ◌↔◌, Bool, true, false, List, Result, Ok, Err, length, drop, take, slice_range, refl, sym, ap, subst, ◌∙◌, length-append, arith}
-use Rattle.ip_forward.specs.Forward.{Carries, CarriesAs, IsForwarded, IsRejected, IsRejectedAs, link_of, one_hop_less, with_hop_limit}
+use Rattle.std.proofs.Common.{IfErr, ℕ, ◌≡◌, ◌≢◌, ◌≤◌, ◌<◌, ◌-◌, ◌++◌, ◌↔◌, Bool, true, false, List, Result, Ok, Err, length, drop, take, slice_range, refl, sym, ap, subst, ◌∙◌, arith}
+use Rattle.ip_forward.specs.Forward.{CarriesAs, IsForwarded, IsRejected, IsRejectedAs, one_hop_less, with_hop_limit}
 use Rattle.ip_forward.specs.declared.router.Rejection.{Rejection}
 use Rattle.ip_forward.specs.declared.router.Rejection.TheVariants.{NotIp, BadHeader, WrongChecksum}
 use Rattle.ip_wire.specs.Ethernet as ethernet
@@ -18,7 +18,7 @@ use Rattle.ip_wire.specs.declared.EthernetAddress.{EthernetAddress}
 use Rattle.ip_wire.specs.declared.EthernetRepr.{EthernetRepr}
 use Rattle.ip_wire.specs.declared.IpRepr.{IpRepr}
 use Rattle.ip_wire.specs.declared.IpRepr.TheVariants.{Ipv4, Ipv6}
-use Rattle.ip_forward.proofs.Cells.{cells, cells-all, cells-drop}
+use Rattle.ip_forward.proofs.Cells.{cells-all, cells-drop}
 
 hop-less : (h : IpRepr) → hop_limit_of (one_hop_less h) ≡ hop_limit_of h - 1
 hop-less (Ipv4 v) = refl

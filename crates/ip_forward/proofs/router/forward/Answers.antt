@@ -1,4 +1,4 @@
-use Rattle.std.proofs.Common.{IfErr, List, ℕ, ◌≡◌, ◌-◌, ◌++◌, arith, drop, length, length-drop, rules, take}
+use Rattle.std.proofs.Common.{IfErr, List, ℕ, ◌≡◌, ◌-◌, arith, drop, length, length-drop, rules, take}
 use Rattle.std.proofs.lemmas.List.{take_all}
 use Rattle.ip_forward.proofs.Forwards.{forwarded, if-err, not-ip, rejected}
 use Rattle.ip_forward.specs.Forward.{IsRejected, IsRejectedAs, with_hop_limit}

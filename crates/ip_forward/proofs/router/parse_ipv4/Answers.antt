@@ -1,4 +1,4 @@
-use Rattle.std.proofs.Common.{◌≡◌, ◌↔◌, IsTrue, drop, false, rules, take, true}
+use Rattle.std.proofs.Common.{◌≡◌, ◌↔◌, IsTrue, false, rules, true}
 use Rattle.ip_forward.proofs.Forwards.{bad-ipv4, carries-ipv4, wrong-ipv4}
 use Rattle.ip_wire.specs.Ipv4.{HasChecksum, packet_bytes}
 use Rattle.net_base.specs.Checksum.{verifies}
