@@ -8,7 +8,7 @@ ghost use Rattle.ip_wire.specs.Ipv6 as ipv6;
 ghost use Rattle.ip_wire.specs.Ipv6Fragment as fragment;
 ghost use Rattle.ip_wire.specs.Tcp as tcp;
 ghost use Rattle.ip_wire.specs.Udp as udp;
-ghost use Rattle.ip_wire_c.specs.Addresses.{addr_of, endpoint_of, no_endpoint};
+ghost use Rattle.ip_wire_c.specs.Addresses.{endpoint_of, no_endpoint};
 ghost use Rattle.ip_wire_c.specs.FrameFields.{behind, fields_of, nothing_of, rejected, with_arp, with_fragment_by, with_fragment_header, with_frame, with_ipv4, with_ipv4_header, with_ipv6, with_ipv6_header, with_link, with_message, with_tcp, with_tcp_header, with_transport_by, with_udp, with_udp_header};
 
 use crate::codes::{Network, Reason, Transport, Verdict};
