@@ -186,47 +186,43 @@ fn key_of(bytes: &[u8]) -> Option<FlowKey> {
     }
 }
 
+/// The key of the packet and its echo.
+fn echo_key() -> FlowKey {
+    FlowKey {
+        protocol: IpProtocol::Udp,
+        low: IpEndpoint::new(IpAddress::v4(192, 0, 2, 1), 41319),
+        high: IpEndpoint::new(IpAddress::v4(192, 0, 2, 2), 7),
+    }
+}
+
 #[test]
 fn gives_both_directions_one_key(rt: HostRuntime) {
-    let low = IpEndpoint::new(IpAddress::v4(192, 0, 2, 1), 41319);
-    let high = IpEndpoint::new(IpAddress::v4(192, 0, 2, 2), 7);
-    let key = FlowKey {
-        protocol: IpProtocol::Udp,
-        low,
-        high,
-    };
-    assert_eq!(rt; key_of(&ECHO), Some(key));
-    assert_eq!(rt; key_of(&ECHO_BACK), Some(key));
+    assert_eq!(rt; key_of(&ECHO), Some(echo_key()));
+    assert_eq!(rt; key_of(&ECHO_BACK), Some(echo_key()));
     assert!(rt; key_of(&SYN).is_some());
     assert_eq!(rt; key_of(&SYN), key_of(&SYN_ACK));
     assert!(rt; key_of(&IPV6_FRAME).is_some());
     assert_eq!(rt; key_of(&FRAME[..45]), None);
 }
 
+/// The key of a flow between two ports of one host.
+fn key_between(protocol: IpProtocol, src_port: u16, dst_port: u16) -> FlowKey {
+    Flow {
+        protocol,
+        src: IpEndpoint::new(IpAddress::v4(192, 0, 2, 1), src_port),
+        dst: IpEndpoint::new(IpAddress::v4(192, 0, 2, 1), dst_port),
+    }
+    .key()
+}
+
 #[test]
 fn tells_flows_apart(rt: HostRuntime) {
     assert!(rt; key_of(&SYN) != key_of(&ECHO));
     assert!(rt; key_of(&FRAME) != key_of(&ECHO));
-    let src = IpEndpoint::new(IpAddress::v4(192, 0, 2, 1), 9);
-    let dst = IpEndpoint::new(IpAddress::v4(192, 0, 2, 1), 7);
-    let flow = Flow {
-        protocol: IpProtocol::Udp,
-        src,
-        dst,
-    };
-    let back = Flow {
-        src: dst,
-        dst: src,
-        ..flow
-    };
-    let tcp = Flow {
-        protocol: IpProtocol::Tcp,
-        ..flow
-    };
-    let port = Flow { dst: src, ..flow };
-    assert_eq!(rt; flow.key(), back.key());
-    assert!(rt; flow.key() != tcp.key());
-    assert!(rt; flow.key() != port.key());
+    let udp = IpProtocol::Udp;
+    assert_eq!(rt; key_between(udp, 9, 7), key_between(udp, 7, 9));
+    assert!(rt; key_between(udp, 9, 7) != key_between(IpProtocol::Tcp, 9, 7));
+    assert!(rt; key_between(udp, 9, 7) != key_between(udp, 9, 9));
 }
 
 #[test]
