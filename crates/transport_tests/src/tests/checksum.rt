@@ -58,13 +58,14 @@ fn sums_the_pseudo_header_between_hosts_of_a_link(rt: HostRuntime) {
     assert_eq!(rt; sum, 0xfd21);
 }
 
+/// The sum of a packet of UDP between two hosts.
+fn packet_sum(bytes: &[u8]) -> u16 {
+    let (src, dst) = (IpAddress::v4(192, 168, 1, 1), IpAddress::v4(192, 168, 1, 2));
+    checksum::packet(src, dst, IpProtocol::Udp, bytes)
+}
+
 #[test]
 fn the_low_16_bits_of_a_length_count(rt: HostRuntime) {
-    let (src, dst) = (IpAddress::v4(192, 168, 1, 1), IpAddress::v4(192, 168, 1, 2));
     let zeros = [0; 0x1_000c];
-    let sums = [
-        checksum::packet(src, dst, IpProtocol::Udp, &zeros[..12]),
-        checksum::packet(src, dst, IpProtocol::Udp, &zeros),
-    ];
-    assert_eq!(rt; sums, [0x8371; 2]);
+    assert_eq!(rt; [packet_sum(&zeros[..12]), packet_sum(&zeros)], [0x8371; 2]);
 }

@@ -162,12 +162,12 @@ fn an_updated_checksum_of_0_is_written_as_ffff(rt: HostRuntime) {
 }
 
 /// The checksum after one address became another.
-fn checksum_between_others(packet: [u8; 12], old: IpAddress, new: IpAddress) -> u16
-    requires { version_of old ≡ version_of new }
+fn checksum_between_others(packet: [u8; 12], old: &IpAddress, new: &IpAddress) -> u16
+    requires { version_of old.now ≡ version_of new.now }
 {
     let mut buffer = packet;
     let mut packet = UdpPacketMut::new_unchecked(&mut buffer);
-    packet.update_address(&old, &new);
+    packet.update_address(old, new);
     packet.checksum()
 }
 
@@ -178,11 +178,11 @@ fn updates_the_checksum_with_an_address(rt: HostRuntime) {
     let src_ipv6 = IpAddress::v6(0xfe80, 0, 0, 0, 0, 0, 0, 1);
     let other_ipv6 = IpAddress::v6(0x2001, 0xdb8, 0, 0, 0, 0, 0, 7);
     for (found, want) in [
-        (checksum_between_others(PACKET, src, other), 0x97f0),
-        (checksum_between_others(PACKET, dst, other), 0x97f1),
-        (checksum_between_others(UNSUMMED, src, other), 0),
+        (checksum_between_others(PACKET, &src, &other), 0x97f0),
+        (checksum_between_others(PACKET, &dst, &other), 0x97f1),
+        (checksum_between_others(UNSUMMED, &src, &other), 0),
         (
-            checksum_between_others(PACKET_OVER_IPV6, src_ipv6, other_ipv6),
+            checksum_between_others(PACKET_OVER_IPV6, &src_ipv6, &other_ipv6),
             0xd30f,
         ),
     ] {
