@@ -6,6 +6,7 @@ mod ip;
 mod ipv4;
 mod ipv6;
 mod ipv6fragment;
+mod protocol;
 
 use ip_wire::{IpProtocol, Ipv6Address, Ipv6Repr};
 
