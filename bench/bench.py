@@ -6,7 +6,7 @@ bench/bench.py [--calls LIBRARY.so] [--program PROGRAM [WORD..]]
 LIBRARY.so has the calls of c/ip_wire.h (bench/reference.rs has them over smoltcp): they are
 timed in one process with ours, and with those of bench/floor.c. PROGRAM is timed on the same
 lines as ours. Where there is one, "speed" is its time divided by ours, so that 1.00 is as fast
-and 2.00 twice as fast. The tables are in Markdown.
+and 2.00 twice as fast. The tables are in Markdown; some rows are drawn in out/speed.svg.
 """
 import os
 import random
@@ -17,6 +17,8 @@ import sys
 import tempfile
 import time
 
+import chart
+
 CALLS = "bench/calls.c"
 FLOOR = "bench/floor.c"
 # Processors decode a jump across 32 bytes anew each time; the floor is not to be slow by its place.
@@ -24,6 +26,7 @@ FLOOR_JUMPS = "-mbranches-within-32B-boundaries"
 COMPILER = os.environ.get("CC", "cc")
 LIBRARY = "out/lib/libip_wire.a"
 PROGRAM = "crates/ip_frames/out/ip_frames"
+CHART = "out/speed.svg"
 INPUTS = [(120, 1_000_000), (3000, 100_000)]  # digits of a line, lines
 ROUNDS = 7
 
@@ -80,8 +83,15 @@ def time_calls(room, reference):
     jumps = FLOOR_JUMPS if "clang" in run_compiler("--version").stdout else f"-Wa,{FLOOR_JUMPS}"
     compile_c("-O3", "-falign-functions=64", jumps, "-shared", "-fPIC", "-o", floor, FLOOR)
     compile_c("-O2", "-o", program, CALLS, LIBRARY, "-ldl")
-    if subprocess.run([program, floor] + reference).returncode:
+    table = []
+    with subprocess.Popen([program, floor] + reference, stdout=subprocess.PIPE, text=True) as timing:
+        for line in timing.stdout:
+            print(line, end="", flush=True)
+            table.append(line)
+    if timing.returncode:
         sys.exit(1)  # it said why
+    with open(CHART, "w", encoding="utf-8") as file:
+        file.write(chart.draw(table))
 
 
 def time_programs(room, reference):
