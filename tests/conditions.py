@@ -85,17 +85,18 @@ def in_the_sources(top):
 
 
 def in_the_tables(document):
-    """The same of the tables: rows of words, clause and calls, below headings that name the type. A long clause takes several
-    rows, and the calls are in the last one."""
-    owner = clause = ""
+    """The same of the tables: rows of words, clause and calls, below headings that name the type. A row without a clause has
+    more calls of the clause above it. A long clause takes several rows, and the calls are in the last one."""
+    owner, clause, is_whole = "", [], True
     for line in document.split("\n"):
-        spans = [re.findall(r"`([^`]+)`", cell) for cell in line.strip("|").split(" | ")]
+        spans = [re.findall(r"`([^`]+)`", cell) for cell in re.split(r" \|(?= )", line.strip("|"))]
         if line.startswith("## "):
             owner = spans[0][0] + "::" if spans[0] else ""
-        elif line.startswith("| ") and len(spans) == 3 and spans[1]:
-            clause = f"{clause} {spans[1][0]}".strip()
-            yield from ((owner + call, clause) for call in spans[2])
-            clause = "" if spans[2] else clause
+        elif line.startswith("| ") and len(spans) == 3:
+            if spans[1]:
+                clause = spans[1] if is_whole else clause + spans[1]
+            yield from ((owner + call, " ".join(clause)) for call in spans[2])
+            is_whole = bool(spans[2]) or not spans[1]
 
 
 def main(top):
