@@ -3,8 +3,9 @@
 
     tests/conditions.py [TOP]
 
-A condition is a `requires` of a call, or the `can_..` of an operator. Public is what `ip_wire` and `net_base` give on, and
-each law. What only one side has is printed, and the status is 1 then. TOP is the top of the repository.
+A condition is a `requires` of a call, or the `can_..` of an operator. Public calls are those of the names that `ip_wire` and
+`net_base` export, and all laws. Conditions that only one side has are printed, and the status is 1 then. TOP is the top of the
+repository.
 """
 import glob
 import os
@@ -19,13 +20,13 @@ def read(path):
         return file.read()
 
 
-def given_on(library):
+def exported(library):
     """The names in the `pub use` lines of a library."""
     return {name for names in re.findall(r"^pub use [^;]*::(\w+|{[^}]*});", library, re.M) for name in re.findall(r"\w+", names)}
 
 
 def clauses(head):
-    """What stands between the braces of each `requires`, or of a member `ghost can_..`."""
+    """The text between the braces of each `requires`, or of a member `ghost can_..`."""
     for found in re.finditer(r"^ *(?:requires\*?(?: \w+)?|ghost can_\w+ =) {", head, re.M):
         depth, end = 1, found.end()
         while depth:
@@ -35,8 +36,8 @@ def clauses(head):
 
 
 def functions(text):
-    """Each function and operator with its type. rt fmt's layout tells where they begin, and where a body does: by a brace at
-    the indent of its function, or at the end of a signature without clauses."""
+    """Each function and operator: the type it belongs to, its name and its head. In rt fmt's layout the body begins at a brace
+    at the indent of the function, or at the end of a signature without clauses."""
     owner = trait = None
     lines = text.split("\n")
     for at, line in enumerate(lines):
@@ -56,7 +57,7 @@ def functions(text):
 
 
 def shown(clause):
-    """A clause as the tables write it: `bytes` are those under a view, and it is not said whether before or after."""
+    """A clause as the tables write it: `bytes` are the bytes under a view, and `.now` and `.old` are left out."""
     clause = re.sub(r"B\.octets \((?:packet|frame|header)_slice self\.now\)", "bytes", " ".join(clause.split()))
     clause = re.sub(r"(?:packet|frame|header)_bytes(?:_mut)? (?:self|packet|frame|header)\.(?:now|old)", "bytes", clause)
     clause = clause.replace("(bytes)", "bytes").replace("let bytes = bytes in ", "")
@@ -64,9 +65,9 @@ def shown(clause):
 
 
 def in_the_sources(top):
-    """All conditions, as pairs of a call and a clause. The views that read and write have the name of the view that reads."""
+    """All conditions, as pairs of a call and a clause. A mutable view has the name of the reading view."""
     crates = os.path.join(top, "crates")
-    names = given_on(read(crates + "/ip_wire/src/lib.rt")) | given_on(read(crates + "/net_base/src/lib.rt"))
+    names = exported(read(crates + "/ip_wire/src/lib.rt")) | exported(read(crates + "/net_base/src/lib.rt"))
     paths = [p for p in glob.glob(crates + "/*/src/**/*.rt", recursive=True) if re.search(r"/(net_base|ip_wire|wire_\w+)/src/", p)]
     texts = {path: read(path) for path in paths}
     views = {}
@@ -84,23 +85,27 @@ def in_the_sources(top):
 
 
 def in_the_tables(document):
-    """The same of the tables: rows of words, clause and calls, below the headings that name what the calls belong to."""
-    owner = ""
+    """The same of the tables: rows of words, clause and calls, below headings that name the type. A row without a clause has
+    more calls of the clause above it. A long clause takes several rows, and the calls are in the last one."""
+    owner, clause, is_whole = "", [], True
     for line in document.split("\n"):
-        spans = [re.findall(r"`([^`]+)`", cell) for cell in line.strip("|").split(" | ")]
+        spans = [re.findall(r"`([^`]+)`", cell) for cell in re.split(r" \|(?= )", line.strip("|"))]
         if line.startswith("## "):
             owner = spans[0][0] + "::" if spans[0] else ""
-        elif line.startswith("| ") and len(spans) == 3 and spans[2]:
-            yield from ((owner + call, spans[1][0]) for call in spans[2])
+        elif line.startswith("| ") and len(spans) == 3:
+            if spans[1]:
+                clause = spans[1] if is_whole else clause + spans[1]
+            yield from ((owner + call, " ".join(clause)) for call in spans[2])
+            is_whole = bool(spans[2]) or not spans[1]
 
 
 def main(top):
     calls = set(in_the_sources(top))
     rows = set(in_the_tables(read(os.path.join(top, "docs", "CONDITIONS.md"))))
     for call, clause in sorted(calls - rows):
-        print(f"docs/CONDITIONS.md does not have: {call} asks that {clause}")
+        print(f"docs/CONDITIONS.md lacks: {call} requires {clause}")
     for call, clause in sorted(rows - calls):
-        print(f"docs/CONDITIONS.md has, and no call does: {call} asks that {clause}")
+        print(f"docs/CONDITIONS.md has, but the sources do not: {call} requires {clause}")
     return 0 if calls == rows else 1
 
 

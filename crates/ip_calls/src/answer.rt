@@ -8,7 +8,7 @@ use crate::{block, checksum, class, fragment, header, mask, options, tcp, text, 
 use ip_wire::{EthernetAddress, IpAddress, IpCidr, IpEndpoint, Ipv4Cidr, Ipv6Cidr};
 use std::alloc::{AllocError, Global};
 
-/// Why a line has no answer of the library.
+/// Why no call was made for a line.
 #[derive(Clone, Copy, Debug, PartialEq, Eq)]
 pub enum NoAnswer {
     /// There is no call of that kind.
@@ -25,7 +25,7 @@ impl From<AllocError> for NoAnswer {
     }
 }
 
-/// An answer for each line of the input, in their order.
+/// The answers to the lines of the input, in their order.
 pub fn answers(alloc: Global, input: &[u8]) -> Result<Vec<String>, AllocError>
     ensures { IfOk result (λ texts. vec_len texts ≡ length (lines input.now)) }
 {
@@ -48,14 +48,14 @@ fn lines_of(alloc: Global, input: &[u8]) -> Result<Vec<&[u8]>, AllocError>
     }
 }
 
-// What stands between line feeds.
+// The pieces of a text between its line feeds.
 fn parts(alloc: Global, text: &[u8]) -> Result<Vec<&[u8]>, AllocError>
     ensures { IfOk result (λ found. map (λ x. x.now) found.items ≡ slice_split (λ b. b == 10) text.now) }
 {
     text.split(|b| *b == b'\n').collect(alloc)
 }
 
-// The answer of a line.
+// The answer to a line.
 fn answer(alloc: Global, line: &[u8]) -> Result<String, AllocError> {
     match asked(alloc, line) {
         Ok(text) => Ok(text),
@@ -65,7 +65,7 @@ fn answer(alloc: Global, line: &[u8]) -> Result<String, AllocError> {
     }
 }
 
-// What the call that a line asks for answers. A text is whatever stands behind its kind and a space.
+// The answer of the library to a line. The text of a parser is everything after the first space.
 fn asked(alloc: Global, line: &[u8]) -> Result<String, NoAnswer> {
     let (kind, text) = split_kind(line);
     match kind {
@@ -79,7 +79,7 @@ fn asked(alloc: Global, line: &[u8]) -> Result<String, NoAnswer> {
     }
 }
 
-// What stands in a line before its first space, and what behind it.
+// A line before its first space, and after it.
 fn split_kind(line: &[u8]) -> (&[u8], &[u8]) {
     match line.iter().position(|b| *b == b' ') {
         Some(at) => (&line[..at], &line[at + 1..]),
@@ -87,7 +87,7 @@ fn split_kind(line: &[u8]) -> (&[u8], &[u8]) {
     }
 }
 
-// What a call answers whose operands are words.
+// The answer of a call with words as operands.
 fn call(alloc: Global, line: &[u8]) -> Result<String, NoAnswer> {
     let Ok(line) = str::from_utf8(line) else {
         return Err(NoAnswer::Unknown);

@@ -1,11 +1,11 @@
-//! Prefixes that masks are of.
+//! The prefix length of a mask, and the block of an address and a netmask.
 
 use crate::answer::NoAnswer;
 use crate::operands::{NOTHING, read};
 use ip_wire::{IpAddress, Ipv4Cidr};
 use std::alloc::Global;
 
-/// How many ones an address is, where zeros alone follow them.
+/// `n` if the address is n ones, followed by zeros, else `-`.
 pub fn prefix_len(alloc: Global, operands: &[&str]) -> Result<String, NoAnswer> {
     let [word] = operands else {
         return Err(NoAnswer::Malformed);

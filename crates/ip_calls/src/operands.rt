@@ -10,10 +10,10 @@ use net_base::{Checksum, ChecksumCapabilities};
 use std::alloc::Global;
 use std::str::FromStr;
 
-/// What stands for nothing there.
+/// The word for no value.
 pub const NOTHING: &str = "-";
 
-/// What a word is read as: a number, an address or a block.
+/// Parses a word as a number, an address or a block.
 pub fn read<T: FromStr>(word: &str) -> Result<T, NoAnswer>
 where
     T::Err: Drop,
@@ -24,7 +24,7 @@ where
     }
 }
 
-/// The same, or nothing.
+/// The same, and `None` for `-`.
 pub fn maybe<T: FromStr>(word: &str) -> Result<Option<T>, NoAnswer>
 where
     T::Err: Drop,
@@ -36,7 +36,7 @@ where
     }
 }
 
-/// Two numbers joined by a comma, or nothing.
+/// Two numbers joined by a comma, and `None` for `-`.
 pub fn pair(word: &str) -> Result<Option<(u32, u32)>, NoAnswer> {
     if word == NOTHING {
         return Ok(None);
@@ -45,7 +45,7 @@ pub fn pair(word: &str) -> Result<Option<(u32, u32)>, NoAnswer> {
     Ok(Some((read(first)?, read(second)?)))
 }
 
-/// Octets as hex digits, or none.
+/// Octets of hex digits, and no octets for `-`.
 pub fn octets(alloc: Global, word: &str) -> Result<Vec<u8>, NoAnswer> {
     if word == NOTHING {
         return Ok(Vec::new(alloc));

@@ -9,8 +9,7 @@ use ip_wire::{
 use net_base::ChecksumCapabilities;
 use std::alloc::{AllocError, Global};
 
-/// The length of the header and the octets of the segment, which are left out where there is no such
-/// header.
+/// The length of the header and, unless it is too long for a header, the octets of the segment.
 pub fn answer(alloc: Global, operands: &[&str]) -> Result<String, NoAnswer> {
     let [src_addr, dst_addr, fields @ .., payload, tx, old] = operands else {
         return Err(NoAnswer::Malformed);

@@ -9,8 +9,7 @@ use std::alloc::Global;
 use std::fmt::Display;
 use std::str::FromStr;
 
-/// `ok` and the printed text of the value that a text is read as, or `err`. Bytes that are no text are
-/// read as none.
+/// `ok` and the printed text of the parsed value, or `err` if the text does not parse or is not UTF-8.
 pub fn answer<T: FromStr + Display + Drop>(alloc: Global, bytes: &[u8]) -> Result<String, NoAnswer>
 where
     T::Err: Drop,

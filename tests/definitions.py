@@ -1,0 +1,75 @@
+#!/usr/bin/env python3
+"""Checks the tables of docs/DEFINITIONS.md against the sources.
+
+    tests/definitions.py [TOP]
+
+Each name in the first column must be defined in a module of the heading. Each test, law and file of worked examples in the
+last column must exist. What does not exist is printed, and the status is 1 then. TOP is the top of the repository.
+"""
+import functools
+import glob
+import os
+import re
+import sys
+
+TESTS = {"addr": "addr_tests", "link": "link_tests", "ip": "ip_tests", "transport": "transport_tests"}
+PINS = {
+    "replies": "crates/ip_replies/src/tests/{}.rt",
+    "forward": "crates/ip_forward/src/tests/{}.rt",
+    "cases": "tests/cases/{}.hex",
+    "calls": "tests/calls/{}.call",
+    "tests": "tests/{}",
+} | {pin: "crates/" + crate + "/src/tests/{}.rt" for pin, crate in TESTS.items()}
+
+
+@functools.cache
+def read(path):
+    with open(path, encoding="utf-8") as file:
+        return file.read()
+
+
+def modules(heading):
+    """The modules that a heading such as "`A` and `B` in `crate`" names, as paths."""
+    for names, crate in re.findall(r"((?:`\w+`(?:, | and )?)+) in `(\w+)`", heading):
+        yield from (f"crates/{crate}/specs/{name}.antt" for name in re.findall(r"`(\w+)`", names))
+
+
+def rows(document):
+    """The rows below the headings of modules: the modules, the names of the definitions and the last cell."""
+    paths = []
+    for line in document.split("\n"):
+        cells = re.split(r" \|(?= |$)", line.strip())[:-1]
+        if line.startswith("## "):
+            paths = list(modules(line))
+        elif paths and line.startswith("| ") and "Definition" not in cells[0]:
+            yield paths, [span.split()[0] for span in re.findall(r"`([^`]+)`", cells[0])], cells[-1]
+
+
+def is_defined(name, paths):
+    head = rf"^(?:abbrev |unfoldable |opaque |record |data |pub )+{re.escape(name)}(?![\w'])"
+    return any(re.search(head, read(path), re.M) for path in paths)
+
+
+def exists(pin):
+    kind, _, name = pin.partition("/")
+    if name:
+        return os.path.exists(PINS.get(kind, "{}").format(name))
+    return not pin.endswith("Worked") or bool(glob.glob(f"crates/*/proofs/{pin}.antt"))
+
+
+def main(top):
+    os.chdir(top)
+    paths = glob.glob("crates/*/src/laws.rt") + glob.glob("crates/*/src/laws/*.rt")
+    laws = {law for path in paths for law in re.findall(r"^pub fn (\w+)", read(path), re.M)}
+    missing = []
+    for paths, names, last in rows(read("docs/DEFINITIONS.md")):
+        missing += [f"{name} is not defined in {', '.join(paths)}" for name in names if not is_defined(name, paths)]
+        missing += [f"there is no {pin}" for pin in re.findall(r"`([^`]+)`", last) if not exists(pin)]
+        for law in re.findall(r"\blaws? ((?:`\w+`(?:, | and )?)+)", last):
+            missing += [f"there is no law {name}" for name in re.findall(r"`(\w+)`", law) if name not in laws]
+    print("".join(f"docs/DEFINITIONS.md: {line}\n" for line in missing), end="")
+    return 1 if missing else 0
+
+
+if __name__ == "__main__":
+    sys.exit(main(sys.argv[1] if len(sys.argv) > 1 else os.path.dirname(os.path.dirname(os.path.abspath(__file__)))))
