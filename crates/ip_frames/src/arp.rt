@@ -1,4 +1,4 @@
-//! The line of an ARP packet, and the packet built again.
+//! The line of an ARP packet, and the rebuilt packet.
 
 ghost use Rattle.std.specs.Prelude.{◌≡◌, ◌≤◌, ◌++◌, OnOk, drop, length};
 ghost use Rattle.ip_frames.specs.Output.{AddsBytes, AddsText, payload_lines};
@@ -9,7 +9,7 @@ ghost use Rattle.ip_wire.specs.declared.EthernetProtocol.TheVariants.{Arp};
 use ip_wire::{ArpPacket, ArpPacketMut, ArpRepr};
 use std::alloc::AllocError;
 
-/// Appends the line of a packet to `text`, and its bytes built again to `again`.
+/// Appends the line of a packet to `text`, and the rebuilt packet to `again`.
 pub fn push_packet(bytes: &[u8], text: &mut String, again: &mut Vec<u8>) -> Result<(), AllocError>
     ensures lines { OnOk result (AddsText text.old text.new (payload_lines Arp bytes.now)) }
     ensures again { OnOk result (AddsBytes again.old again.new (rebuilt_payload Arp bytes.now)) }

@@ -1,4 +1,4 @@
-//! The block of output lines of one input line, and the frame built again.
+//! The block of output lines for one input line, with the rebuilt frame.
 
 ghost use Rattle.std.specs.Prelude.{[], ◌≡◌, ◌≤◌, ◌++◌, ◌⊎◌, IfErr, IfOk, OnOk, Err, Ok, drop, length, string_bytes};
 ghost use Rattle.hex.specs.Hex.{decode_of, encode_lower};
@@ -14,8 +14,8 @@ use ip_wire::{
 };
 use std::alloc::{AllocError, Global};
 
-/// Room for a block and for what it is made of. It is kept from line to line, so that memory is
-/// asked for only where a line needs more than those before it.
+/// The buffers for a block. They are reused from line to line, so memory grows only if a line needs
+/// more than those before it.
 #[derive(Drop)]
 pub struct Room {
     frame: Vec<u8>,
@@ -70,8 +70,8 @@ fn empty_text(mut bytes: Vec<u8>) -> String
     String::from_utf8(bytes).unwrap()
 }
 
-// Reads the digits of a line into `frame`. Out of line, the loop over the digits has its values in
-// registers.
+// Decodes the digits of a line into `frame`. Out of line, the loop over the digits has its values
+// in registers.
 #[inline(never)]
 fn decode(line: &[u8], frame: &mut Vec<u8>) -> Result<(), FromHexError>
     ensures ok { OnOk result (decode_of line.now ≡ Ok frame.new.items) }
@@ -84,7 +84,7 @@ fn decode(line: &[u8], frame: &mut Vec<u8>) -> Result<(), FromHexError>
     hex::decode_to_slice(line, frame.as_mut_slice())
 }
 
-// The text, and behind it the lines of a frame, the last of them with the frame built again in
+// The text, followed by the lines of a frame. The last line has the rebuilt frame, which is made in
 // `again`.
 fn with_frame(mut text: String, bytes: &[u8], again: &mut Vec<u8>) -> Result<Vec<u8>, AllocError>
     ensures { IfOk result (λ block. block.items ≡ string_bytes text ++ frame_lines bytes.now) }
@@ -109,7 +109,7 @@ fn emit_header(header: &EthernetRepr, bytes: &mut [u8])
     header.emit(&mut EthernetFrameMut::new_unchecked(bytes));
 }
 
-// The text, and behind it the line with a frame built again.
+// The text, followed by the line with a rebuilt frame.
 #[tactic(auto, unfolding(crate::specs::Output::again_line))]
 fn with_again(mut text: String, again: &[u8]) -> Result<Vec<u8>, AllocError>
     ensures { IfOk result (λ block. block.items ≡ string_bytes text ++ again_line again.now) }
@@ -133,8 +133,7 @@ fn push_digits(bytes: &[u8], text: &mut Vec<u8>) -> Result<(), AllocError>
     Ok(())
 }
 
-// Appends the lines of what a frame of that type carries to `text`, and its bytes built again to
-// `again`.
+// Appends the lines of a frame's payload to `text`, and the rebuilt payload to `again`.
 fn push_payload(
     ethertype: EthernetProtocol,
     bytes: &[u8],

@@ -1,4 +1,4 @@
-//! What an IP packet of either version carries, and the packet built again.
+//! The payload of an IP packet of either version, and the rebuilt packet.
 
 ghost use Rattle.std.specs.Prelude.{◌≤◌, OnOk, length};
 ghost use Rattle.ip_frames.specs.Output.{AddsBytes, AddsText, transport_lines};
@@ -10,7 +10,7 @@ use ip_wire::{IpProtocol, IpRepr, TcpPacket, UdpPacket};
 use net_base::ChecksumCapabilities;
 use std::alloc::AllocError;
 
-/// Appends the lines of what a packet with these values carries to `text`, and the packet built again
+/// Appends the lines of the payload of a packet with these values to `text`, and the rebuilt packet
 /// to `again`. The header's own payload length is not looked at.
 pub fn push_inner(
     mut header: IpRepr,
@@ -30,8 +30,8 @@ pub fn push_inner(
     Ok(())
 }
 
-// Appends the lines of what a packet with this header carries to `text`, and its bytes built again to
-// `again`.
+// Appends the lines of the payload of a packet with this header to `text`, and the rebuilt payload
+// to `again`.
 fn push_transport(
     header: &IpRepr,
     payload: &[u8],

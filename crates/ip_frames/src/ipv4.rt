@@ -1,4 +1,4 @@
-//! The lines of an IPv4 packet, and the packet built again.
+//! The lines of an IPv4 packet, and the rebuilt packet.
 
 ghost use Rattle.std.specs.Prelude.{◌≡◌, OnOk, false};
 ghost use Rattle.ip_frames.specs.Output.{AddsBytes, AddsText, checksum_note, fragment_line, payload_lines};
@@ -12,7 +12,7 @@ use ip_wire::{IpRepr, Ipv4Packet, Ipv4Repr};
 use net_base::ChecksumCapabilities;
 use std::alloc::AllocError;
 
-/// Appends the lines of a packet to `text`, and its bytes built again to `again`.
+/// Appends the lines of a packet to `text`, and the rebuilt packet to `again`.
 pub fn push_packet(bytes: &[u8], text: &mut String, again: &mut Vec<u8>) -> Result<(), AllocError>
     ensures lines { OnOk result (AddsText text.old text.new (payload_lines Ipv4 bytes.now)) }
     ensures again { OnOk result (AddsBytes again.old again.new (rebuilt_payload Ipv4 bytes.now)) }

@@ -1,4 +1,4 @@
-//! The line of a packet of a transport, and the packet built again.
+//! The line of a transport's packet, and the rebuilt packet.
 
 ghost use Rattle.std.specs.Prelude.{◌≡◌, ◌≤◌, ℕ, IfOk, IsTrue, List, OnOk, false, length, true};
 ghost use Rattle.ip_frames.specs.Output.{AddsBytes, AddsText, TransportFormat, lines_behind, verdict_behind};
@@ -40,7 +40,7 @@ pub trait TransportPacket {
         ensures { let v = ip_header.now in
             result ≡ format.is_partial (src_addr_of v) (dst_addr_of v) (octets self.now) };
 
-    /// Appends its bytes, built again if it is read with its checksum. Answers whether it is.
+    /// Appends its bytes, rebuilt if it parses with its checksum. Returns whether it does.
     fn push_again(&self, ip_header: &IpRepr, again: &mut Vec<u8>) -> Result<bool, AllocError>
         requires { length (octets self.now) ≤ max_payload_len ip_header.now }
         ensures read { let v = ip_header.now in
@@ -49,7 +49,7 @@ pub trait TransportPacket {
             OnOk result (AddsBytes again.old again.new (rebuilt_transport_by protocol (src_addr_of v) (dst_addr_of v) (octets self.now))) };
 }
 
-/// Appends the line of a packet behind an IP header to `text`, and its bytes built again to `again`.
+/// Appends the line of a packet behind an IP header to `text`, and the rebuilt packet to `again`.
 pub fn push_packet<P: TransportPacket>(
     packet: &P,
     ip_header: &IpRepr,

@@ -1,12 +1,12 @@
-//! What becomes of a packet that is not read with its checksum.
+//! Packets that do not parse with their checksum.
 
 ghost use Rattle.std.specs.Prelude.{[], ◌≡◌, ◌∷◌, OnOk};
 ghost use Rattle.ip_frames.specs.Output.{AddsBytes, AddsText, ended, unread_verdict};
 
 use std::alloc::AllocError;
 
-/// What is said of a UDP packet or a TCP segment whose lengths hold: by whether it is read without its
-/// checksum, and whether that is the sum of the pseudo header alone.
+/// The note on a UDP packet or TCP segment with valid lengths that does not parse: whether it
+/// parses without its checksum, and whether the checksum is the pseudo-header sum alone.
 pub fn unread_verdict(is_read: bool, is_partial: bool) -> &'static str
     ensures { result.now ≡ unread_verdict is_read is_partial }
 {
@@ -17,8 +17,7 @@ pub fn unread_verdict(is_read: bool, is_partial: bool) -> &'static str
     }
 }
 
-/// Appends what is said of a packet to `text` and ends the line, and appends its bytes as they stand to
-/// `again`.
+/// Appends the note to `text` and ends the line. Appends the unchanged bytes to `again`.
 pub fn push_unread(
     note: &str,
     bytes: &[u8],
@@ -32,7 +31,7 @@ pub fn push_unread(
     again.extend_from_slice(bytes)
 }
 
-/// Appends what is said of a packet and ends the line.
+/// Appends the note and ends the line.
 pub fn push_note(note: &str, text: &mut String) -> Result<(), AllocError>
     ensures { OnOk result (AddsText text.old text.new (ended note.now)) }
 {

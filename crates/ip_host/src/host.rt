@@ -22,7 +22,7 @@ pub struct Host<'a> {
     pub offer: Offer,
 }
 
-/// The reply of the host to a frame. None where it has none.
+/// The reply of the host to a frame, if it has one.
 pub fn reply<'a>(host: &Host<'_>, request: &Frame<'a>) -> Option<Frame<'a>>
     requires { Fits request.now }
     ensures { Gives (RepliesFrame host.now request.now) result }
@@ -36,7 +36,7 @@ pub fn reply<'a>(host: &Host<'_>, request: &Frame<'a>) -> Option<Frame<'a>>
     tcp_answer::reply(request, &host.interface, host.open_ports, &host.offer)
 }
 
-/// Writes the reply of the host to the front of `out`, and returns its length. None where there is no
+/// Writes the reply of the host to the front of `out`, and returns its length. None if there is no
 /// reply or it does not fit, and then nothing is written.
 pub fn answer(host: &Host<'_>, frame: &[u8], out: &mut [u8]) -> Option<usize>
     ensures sends { Sends (RepliesBytes host.now frame.now) out.old out.new result }

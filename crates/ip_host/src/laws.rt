@@ -1,4 +1,4 @@
-//! What holds by the definitions alone. The functions do nothing: what each says is its contract.
+//! Laws of this crate's definitions. A law states a fact about definitions; its body does nothing.
 
 ghost use Rattle.std.specs.Prelude.{◌≡◌, List, ℕ};
 ghost use Rattle.ip_host.specs.Host.{Answers, IsReset};

@@ -49,7 +49,7 @@ fn reply_to(message: &ArpRepr, ours: &Interface) -> Option<(EthernetAddress, Arp
     }
 }
 
-/// Writes the reply to a frame to the front of `out`, and returns its length. None where there is no
+/// Writes the reply to a frame to the front of `out`, and returns its length. None if there is no
 /// reply or it does not fit, and then nothing is written.
 pub fn answer(bytes: &[u8], ours: &Interface, out: &mut [u8]) -> Option<usize>
     ensures { Sends (ArpRepliesBytes ours.now bytes.now) out.old out.new result }

@@ -44,7 +44,7 @@ pub fn reply<'a>(
     }
 }
 
-/// Writes the reply to a frame to the front of `out`, and returns its length. None where there is no
+/// Writes the reply to a frame to the front of `out`, and returns its length. None if there is no
 /// reply or it does not fit, and then nothing is written.
 pub fn answer(
     bytes: &[u8],

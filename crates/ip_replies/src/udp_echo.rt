@@ -36,7 +36,7 @@ pub fn echo<'a>(request: &Frame<'a>, ours: &Interface, port: u16) -> Option<Fram
     }
 }
 
-/// Writes the reply to a frame to the front of `out`, and returns its length. None where there is no
+/// Writes the reply to a frame to the front of `out`, and returns its length. None if there is no
 /// reply or it does not fit, and then nothing is written.
 pub fn answer(bytes: &[u8], ours: &Interface, port: u16, out: &mut [u8]) -> Option<usize>
     ensures { Sends (EchoesBytes ours.now port bytes.now) out.old out.new result }

@@ -1,4 +1,4 @@
-//! A UDP packet with a wrong checksum, which is refused unless the device has verified it.
+//! A UDP packet with a wrong checksum is rejected unless the device has verified it.
 
 ghost use Rattle.std.specs.Prelude.{◌≡◌, ◌≢◌, ◌↔◌, IsErr, IsTrue, Ok};
 ghost use Rattle.ip_wire.specs.Field.{field};

@@ -27,9 +27,9 @@ pub struct Frame<'a> {
 }
 
 impl<'a> Frame<'a> {
-    /// Parses a frame. From a header behind the Ethernet header that does not parse on, the bytes are kept
-    /// as `Unread`; padding is dropped. An error for fewer than 14 bytes. Checksums are verified where
-    /// `caps` says so.
+    /// Parses a frame leniently: from the first rejected header on, the bytes are kept as `Unread`.
+    /// Padding is dropped. Verifies the checksums that `caps` selects. Fails for fewer than 14
+    /// bytes.
     #[inline(always)]
     pub fn read(bytes: &'a [u8], caps: &ChecksumCapabilities) -> Result<Frame<'a>>
         ensures ok { IsOk result ↔ (14 ≤ length bytes.now) }
@@ -64,7 +64,7 @@ impl<'a> Frame<'a> {
         }
     }
 
-    /// The payload of the transport. None where there is none that was parsed.
+    /// The payload of the transport. None if no transport header was parsed.
     #[inline(always)]
     pub fn payload(&self) -> Option<&'a [u8]>
         ensures { option_map (λ bytes. bytes.now) result ≡ carried_payload self.now.carried }
@@ -81,8 +81,8 @@ impl<'a> Frame<'a> {
         ETHERNET_HEADER_LEN + self.carried.buffer_len()
     }
 
-    /// Writes the frame to the front of `buffer`, and leaves what follows it. Checksums are computed where
-    /// `caps` says so, else 0.
+    /// Writes the frame to the front of `buffer`. All bytes behind it stay unchanged. Computes the
+    /// checksums that `caps` selects; the others are 0.
     #[inline(always)]
     pub fn emit(&self, buffer: &mut [u8], caps: &ChecksumCapabilities)
         requires room { frame_len self.now ≤ length buffer.old }
@@ -92,7 +92,8 @@ impl<'a> Frame<'a> {
         self.try_emit(buffer, caps);
     }
 
-    /// As `emit`, and returns the number of bytes. None where they do not fit, and then nothing is written.
+    /// As `emit`, and returns the number of bytes. None if they do not fit, and then nothing is
+    /// written.
     #[inline(always)]
     pub fn try_emit(&self, out: &mut [u8], caps: &ChecksumCapabilities) -> Option<usize>
         requires { Fits self.now }

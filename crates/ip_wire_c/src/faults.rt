@@ -13,7 +13,7 @@ use ip_wire::{IPV4_HEADER_LEN, IPV6_HEADER_LEN, Ipv4Packet, Ipv6Packet, TcpPacke
 /// The length of an ARP packet for Ethernet and IPv4, in octets.
 pub const ARP_LEN: usize = 28;
 
-/// Of an ARP packet.
+/// Why an ARP packet is rejected.
 #[cold]
 pub fn arp_fault(bytes: &[u8]) -> Reason
     ensures { result ≡ arp_fault bytes.now }
@@ -25,7 +25,7 @@ pub fn arp_fault(bytes: &[u8]) -> Reason
     }
 }
 
-/// Of an IPv4 header.
+/// Why an IPv4 header is rejected.
 #[cold]
 pub fn ipv4_fault(packet: &Ipv4Packet<'_>) -> Reason
     ensures { result ≡ ipv4_fault (ipv4.packet_bytes packet.now) }
@@ -39,7 +39,7 @@ pub fn ipv4_fault(packet: &Ipv4Packet<'_>) -> Reason
     }
 }
 
-/// Of an IPv6 header.
+/// Why an IPv6 header is rejected.
 #[cold]
 pub fn ipv6_fault(packet: &Ipv6Packet<'_>) -> Reason
     ensures { result ≡ ipv6_fault (ipv6.packet_bytes packet.now) }
@@ -53,7 +53,7 @@ pub fn ipv6_fault(packet: &Ipv6Packet<'_>) -> Reason
     }
 }
 
-/// Of a UDP header of 8 octets.
+/// Why a UDP header of 8 octets is rejected.
 #[cold]
 pub fn udp_fault(packet: &UdpPacket<'_>) -> Reason
     ensures { result ≡ udp_fault (udp.packet_bytes packet.now) }
@@ -65,7 +65,7 @@ pub fn udp_fault(packet: &UdpPacket<'_>) -> Reason
     }
 }
 
-/// Of a TCP header of at least 20 octets.
+/// Why a TCP header of at least 20 octets is rejected.
 #[cold]
 pub fn tcp_fault(packet: &TcpPacket<'_>) -> Reason
     requires { 20 ≤ length (tcp.packet_bytes packet.now) }

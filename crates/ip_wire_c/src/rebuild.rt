@@ -1,4 +1,4 @@
-//! A whole frame built again in a slice.
+//! Rebuilding a whole frame.
 
 ghost use Rattle.std.specs.Prelude.{◌≡◌, ◌≤◌, Some, length, pos};
 ghost use Rattle.ip_wire.specs.Frame.{ethernet, rebuilt, rebuilt_transport_by, rebuilt_packet, rebuilt_payload, rebuilt_transport};
@@ -39,7 +39,7 @@ fn rebuild(bytes: &[u8], out: &mut [u8]) -> Option<usize>
     }
 }
 
-// A frame with these values, and what it carries built again.
+// Rebuilds a frame with this header.
 fn rebuild_frame(header: EthernetRepr, payload: &[u8], out: &mut [u8]) -> Option<usize>
     ensures { Fills (Some (ethernet.write header (rebuilt_payload header.ethertype payload.now))) out.old out.new result }
 {
@@ -56,7 +56,7 @@ fn rebuild_frame(header: EthernetRepr, payload: &[u8], out: &mut [u8]) -> Option
     }
 }
 
-// What a frame of that type carries, built again.
+// Rebuilds the payload of a frame with this EtherType.
 fn rebuild_payload(ethertype: EthernetProtocol, bytes: &[u8], out: &mut [u8]) -> Option<usize>
     ensures { Fills (Some (rebuilt_payload ethertype bytes.now)) out.old out.new result }
 {
@@ -68,7 +68,7 @@ fn rebuild_payload(ethertype: EthernetProtocol, bytes: &[u8], out: &mut [u8]) ->
     }
 }
 
-// An ARP packet, built again where it is read.
+// Rebuilds an ARP packet; copies it if it does not parse.
 fn rebuild_arp(bytes: &[u8], out: &mut [u8]) -> Option<usize>
     ensures { Fills (Some (rebuilt_payload Arp bytes.now)) out.old out.new result }
 {
@@ -78,7 +78,7 @@ fn rebuild_arp(bytes: &[u8], out: &mut [u8]) -> Option<usize>
     }
 }
 
-// An IPv4 packet, built again where it is read with its checksum and is no fragment.
+// Rebuilds an IPv4 packet; copies it if it does not parse with its checksum, or is a fragment.
 fn rebuild_ipv4(bytes: &[u8], out: &mut [u8]) -> Option<usize>
     ensures { Fills (Some (rebuilt_payload Ipv4 bytes.now)) out.old out.new result }
 {
@@ -91,7 +91,7 @@ fn rebuild_ipv4(bytes: &[u8], out: &mut [u8]) -> Option<usize>
     }
 }
 
-// An IPv6 packet, built again where it is read.
+// Rebuilds an IPv6 packet; copies it if it does not parse.
 fn rebuild_ipv6(bytes: &[u8], out: &mut [u8]) -> Option<usize>
     ensures { Fills (Some (rebuilt_payload Ipv6 bytes.now)) out.old out.new result }
 {
@@ -102,7 +102,7 @@ fn rebuild_ipv6(bytes: &[u8], out: &mut [u8]) -> Option<usize>
     }
 }
 
-// A packet with these values, but for the length of the payload, and what it carries built again.
+// Rebuilds a packet with this header. The payload length is set to that of the rebuilt payload.
 #[inline(always)]
 fn rebuild_packet(header: IpRepr, payload: &[u8], out: &mut [u8]) -> Option<usize>
     requires { length payload.now ≤ max_payload_len header }
@@ -124,7 +124,7 @@ fn rebuild_packet(header: IpRepr, payload: &[u8], out: &mut [u8]) -> Option<usiz
     }
 }
 
-// What a packet with this header carries, built again.
+// Rebuilds the payload of a packet with this header.
 #[inline(always)]
 fn rebuild_transport(header: &IpRepr, bytes: &[u8], out: &mut [u8]) -> Option<usize>
     ensures { Fills (Some (rebuilt_transport header.now bytes.now)) out.old out.new result }
@@ -136,7 +136,7 @@ fn rebuild_transport(header: &IpRepr, bytes: &[u8], out: &mut [u8]) -> Option<us
     }
 }
 
-// A UDP packet, built again where it is read with its checksum.
+// Rebuilds a UDP packet; copies it if it does not parse with its checksum.
 #[inline(always)]
 fn rebuild_udp(ip_header: &IpRepr, bytes: &[u8], out: &mut [u8]) -> Option<usize>
     ensures { let src = src_addr_of ip_header.now in let dst = dst_addr_of ip_header.now in
@@ -152,7 +152,7 @@ fn rebuild_udp(ip_header: &IpRepr, bytes: &[u8], out: &mut [u8]) -> Option<usize
     }
 }
 
-// A TCP segment, built again where it is read with its checksum.
+// Rebuilds a TCP segment; copies it if it does not parse with its checksum.
 #[inline(always)]
 fn rebuild_tcp(ip_header: &IpRepr, bytes: &[u8], out: &mut [u8]) -> Option<usize>
     ensures { let src = src_addr_of ip_header.now in let dst = dst_addr_of ip_header.now in

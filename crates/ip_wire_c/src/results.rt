@@ -1,10 +1,10 @@
-//! What calls for C return, and bytes that are copied to the front of a slice.
+//! Results of C calls, and copies to a slice.
 
 ghost use Rattle.std.specs.Prelude.{◌≡◌, ◌+◌, ◌<◌, ◌≤◌, ◌^◌, ◌++◌, IfSome, Some, drop, length, take};
 ghost use Rattle.ip_wire_c.specs.Written.{Fills, Writes, is_set, returned};
 
-/// What a call returns that could not write. With any lengths added it is below 0, and as a `usize`
-/// longer than any packet.
+/// The result of a call that wrote nothing. Its sum with any lengths is negative, and as a `usize`
+/// it is longer than any packet.
 pub const FAILED: isize = -(1 << 40);
 
 /// The length that was written, or `FAILED`.
@@ -19,7 +19,7 @@ pub fn written(len: Option<usize>) -> isize
     }
 }
 
-/// Whether a number of C stands for yes.
+/// Whether a C flag is set.
 #[inline(always)]
 pub fn is_set(number: i32) -> bool
     ensures { result ≡ is_set number }

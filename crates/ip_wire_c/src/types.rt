@@ -91,8 +91,8 @@ pub struct SackRange {
     pub right: u32,
 }
 
-/// `struct lk_tcp_options`: the options of a TCP header. What has a field `has_..` is there where that is
-/// not 0.
+/// `struct lk_tcp_options`: the options of a TCP header. A value with a field `has_..` is present
+/// if that field is not 0.
 #[repr(C)]
 #[derive(Clone, Copy)]
 pub struct TcpOptions {

@@ -1,4 +1,4 @@
-//! What the checksum of a header says.
+//! Verdicts on checksums.
 
 ghost use Rattle.std.specs.Prelude.{◌≡◌, ◌≤◌, if◌then◌else◌, length};
 ghost use Rattle.ip_wire.specs.IpAddress.{version_of};
@@ -11,7 +11,7 @@ ghost use Rattle.ip_wire_c.specs.declared.codes.Verdict.TheVariants as verdict;
 use crate::codes::Verdict;
 use ip_wire::{IpAddress, Ipv4Packet, TcpPacket, UdpPacket};
 
-/// Of an IPv4 header.
+/// The verdict on the checksum of an IPv4 header.
 #[inline(always)]
 pub fn ipv4_verdict(packet: &Ipv4Packet<'_>) -> Verdict
     requires { ipv4.HasLengths (ipv4.packet_bytes packet.now) }
@@ -24,7 +24,7 @@ pub fn ipv4_verdict(packet: &Ipv4Packet<'_>) -> Verdict
     }
 }
 
-/// Of a UDP packet between two addresses; `None` if its length is wrong.
+/// The verdict on the checksum of a UDP packet; `None` if its length is wrong.
 #[inline(always)]
 pub fn udp_verdict(packet: &UdpPacket<'_>, src_addr: &IpAddress, dst_addr: &IpAddress) -> Verdict
     requires { version_of src_addr.now ≡ version_of dst_addr.now }
@@ -47,7 +47,7 @@ pub fn udp_verdict(packet: &UdpPacket<'_>, src_addr: &IpAddress, dst_addr: &IpAd
     }
 }
 
-/// Of a TCP segment between two addresses.
+/// The verdict on the checksum of a TCP segment.
 #[inline(always)]
 pub fn tcp_verdict(packet: &TcpPacket<'_>, src_addr: &IpAddress, dst_addr: &IpAddress) -> Verdict
     requires header { 18 ≤ length (tcp.packet_bytes packet.now) }

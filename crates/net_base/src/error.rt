@@ -5,9 +5,8 @@ ghost use Rattle.std.specs.Prelude.{Some, codes};
 use std::error::Error as StdError;
 use std::fmt;
 
-/// The bytes are no packet of the format that was asked for, whatever the cause: they are too few,
-/// a length field contradicts them or itself, or a version or a checksum is wrong. Or they are no
-/// hardware address of the medium.
+/// The bytes do not parse: they are too few, a length field does not fit, or a version or checksum
+/// is wrong. Or they are no hardware address of the medium.
 #[derive(Debug, Clone, Copy, PartialEq, Eq)]
 pub struct Error;
 
@@ -21,5 +20,5 @@ impl fmt::Display for Error {
 
 impl StdError for Error {}
 
-/// What a call answers that refuses bytes which are no packet of its format.
+/// The result of a call that rejects bytes.
 pub type Result<T> = std::result::Result<T, Error>;

@@ -1,6 +1,6 @@
-//! The medium that a device stands on.
+//! The medium of a device.
 
-/// What the frames of a device are.
+/// The format of the frames of a device.
 #[derive(Debug, Clone, Copy, PartialEq, Eq)]
 pub enum Medium {
     /// Ethernet II frames: a header with two hardware addresses, then a packet.

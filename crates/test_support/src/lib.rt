@@ -61,8 +61,8 @@ impl Write for Expecting<'_> {
     }
 }
 
-/// Whether a value prints as this text, and fails exactly where its writer does: to a writer with
-/// room for fewer bytes it writes that many of the text and returns an error.
+/// Whether a value prints as this text, and fails exactly if its writer does: to a writer with room
+/// for fewer bytes it writes that many of the text and returns an error.
 pub fn prints<T: Display>(value: &T, text: &str) -> bool {
     for room in 0..=text.len() {
         let mut writer = Expecting {

@@ -55,7 +55,7 @@ impl From<ArpHardware> for u16 {
     }
 }
 
-/// What a packet does.
+/// The operation of a packet.
 #[derive(Debug, Clone, Copy, PartialEq, Eq, PartialOrd, Ord)]
 pub enum ArpOperation {
     /// 1: it asks for the target's hardware address.

@@ -1,4 +1,4 @@
-//! What holds by the definitions alone. The functions do nothing when they run.
+//! Laws of this crate's definitions. A law states a fact about definitions; its body does nothing.
 
 ghost use Rattle.std.specs.Prelude.{◌≡◌, ◌↔◌, ◌++◌, ◌≤◌, Some, length, true};
 ghost use Rattle.wire_addr.specs.Order.{named_cmp};
@@ -6,19 +6,19 @@ ghost use Rattle.wire_arp.specs.Arp.{Reads, arp_of, bytes_of, hardware_number, i
 
 use crate::arp::{ArpHardware, ArpOperation, ArpRepr};
 
-/// The packet of a value, whatever follows it, is read as the value's normal form.
+/// The packet of a value, with any bytes behind it, parses as the value's normal form.
 pub fn emit_reads_back_arp(value: ArpRepr, rest: &[u8])
     ensures { Reads (bytes_of value ++ rest.now) (normal value) }
 {}
 
-/// No bytes are read as two values.
+/// No bytes parse as two values.
 pub fn reads_once_arp(bytes: &[u8], value: ArpRepr, other: ArpRepr)
     requires value { Reads bytes.now value }
     requires other { Reads bytes.now other }
     ensures { value ≡ other }
 {}
 
-/// The value that is computed of bytes is the one that they are read as.
+/// The value computed from bytes is the one that they parse as.
 pub fn reading_is_computed_arp(bytes: &[u8], value: ArpRepr)
     ensures { (arp_of bytes.now ≡ Some value) ↔ Reads bytes.now value }
 {}

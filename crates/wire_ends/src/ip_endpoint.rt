@@ -16,7 +16,7 @@ use std::str::FromStr;
 use wire_addr::{Ipv4Address, Ipv6Address};
 use wire_text::number_behind;
 
-/// An address and a port: one end of what UDP and TCP carry.
+/// An address and a port.
 #[derive(Debug, Clone, Copy, PartialEq, Eq, PartialOrd, Ord, Hash)]
 pub struct IpEndpoint {
     pub addr: IpAddress,
@@ -62,7 +62,7 @@ impl IpEndpoint {
     }
 }
 
-/// The endpoint at what converts to an address, and a port.
+/// An endpoint from a pair, if its first part converts to an address.
 impl<A: Into<IpAddress>> From<(A, u16)> for IpEndpoint {
     ghost from_gives = { IsAtPair A.Into.converts };
 
@@ -116,7 +116,7 @@ impl fmt::Display for IpEndpoint {
     }
 }
 
-/// What stands between brackets, if the text has one at each end.
+/// The text between brackets, if it has one at each end.
 fn in_brackets(text: &[u8]) -> Option<&[u8]>
     ensures { MatchOption result ((inner : List ℕ) → text.now ≢ bracketed inner) (λ inner. text.now ≡ bracketed inner.now) }
 {
@@ -136,7 +136,8 @@ fn host(text: &[u8]) -> Result<IpAddress, ()>
     }
 }
 
-/// An address, whose port is 0 then, or an address, `:` and a port, where one of IPv6 is in brackets.
+/// An address alone, with port 0, or an address, `:` and a port. An IPv6 address before a port is
+/// in brackets.
 impl FromStr for IpEndpoint {
     type Err = ();
 

@@ -10,7 +10,8 @@ use crate::{IpAddress, IpEndpoint};
 use std::fmt;
 use std::net::{SocketAddr, SocketAddrV4, SocketAddrV6};
 
-/// A port at one address or, where none is given, at every one. The default is port 0 at every one.
+/// A port at one address, or at every address if none is given. The default is port 0 at every
+/// address.
 #[derive(Debug, Clone, Copy, PartialEq, Eq, PartialOrd, Ord, Hash, Default)]
 pub struct IpListenEndpoint {
     pub addr: Option<IpAddress>,
@@ -46,7 +47,7 @@ impl From<IpEndpoint> for IpListenEndpoint {
     }
 }
 
-/// What the endpoint of the pair converts to.
+/// The listening endpoint of the pair's endpoint.
 impl<A: Into<IpAddress>> From<(A, u16)> for IpListenEndpoint {
     ghost from_gives = { λ pair listening. (endpoint : IpEndpoint)
         × IsAtPair A.Into.converts pair endpoint × (listening ≡ listening_at endpoint) };
@@ -56,7 +57,7 @@ impl<A: Into<IpAddress>> From<(A, u16)> for IpListenEndpoint {
     }
 }
 
-/// What its endpoint converts to.
+/// The listening endpoint of its endpoint.
 impl From<SocketAddr> for IpListenEndpoint {
     ghost from_gives = { λ socket listening. listening ≡ listening_at (endpoint_of socket) };
 
@@ -65,7 +66,7 @@ impl From<SocketAddr> for IpListenEndpoint {
     }
 }
 
-/// What its endpoint converts to.
+/// The listening endpoint of its endpoint.
 impl From<SocketAddrV4> for IpListenEndpoint {
     ghost from_gives = { λ socket listening. listening ≡ listening_at (endpoint_of (V4 socket)) };
 
@@ -74,7 +75,7 @@ impl From<SocketAddrV4> for IpListenEndpoint {
     }
 }
 
-/// What its endpoint converts to.
+/// The listening endpoint of its endpoint.
 impl From<SocketAddrV6> for IpListenEndpoint {
     ghost from_gives = { λ socket listening. listening ≡ listening_at (endpoint_of (V6 socket)) };
 

@@ -1,4 +1,4 @@
-//! What an IP packet carries.
+//! IP protocol numbers.
 
 ghost use Rattle.std.specs.Prelude.{◌≡◌, Some};
 ghost use Rattle.wire_ends.specs.Protocol.{number_of, protocol_of, protocol_text};

@@ -12,22 +12,22 @@ use crate::{IpAddress, IpCidr, IpEndpoint, IpListenEndpoint, IpProtocol, IpVersi
 use std::hash::Hash;
 use wire_addr::laws::{print_reads_back_ipv4_cidr, print_reads_back_ipv6_cidr};
 
-/// No text is read as two addresses.
+/// No text parses as two addresses.
 pub fn ip_address_one_reading(text: &[u8], a: IpAddress, b: IpAddress)
     ensures { ReadsAddress text.now a → ReadsAddress text.now b → a ≡ b }
 {}
 
-/// No text is read as two blocks.
+/// No text parses as two blocks.
 pub fn ip_cidr_one_reading(text: &[u8], a: IpCidr, b: IpCidr)
     ensures { ReadsCidr text.now a → ReadsCidr text.now b → a ≡ b }
 {}
 
-/// No text is read as two endpoints.
+/// No text parses as two endpoints.
 pub fn ip_endpoint_one_reading(text: &[u8], a: IpEndpoint, b: IpEndpoint)
     ensures { ReadsEndpoint text.now a → ReadsEndpoint text.now b → a ≡ b }
 {}
 
-/// The text that an address prints as is read as that address.
+/// The text that an address prints as parses as that address.
 pub fn print_reads_back_ip_address(address: IpAddress)
     ensures { ReadsAddress (address_text address) address }
 {
@@ -41,7 +41,7 @@ pub fn print_reads_back_ip_address(address: IpAddress)
     }
 }
 
-/// The text that a block prints as is read as that block.
+/// The text that a block prints as parses as that block.
 pub fn print_reads_back_ip_cidr(cidr: IpCidr)
     ensures { ReadsCidr (cidr_text cidr) cidr }
 {
@@ -51,7 +51,7 @@ pub fn print_reads_back_ip_cidr(cidr: IpCidr)
     }
 }
 
-/// The text that an endpoint prints as is read as that endpoint.
+/// The text that an endpoint prints as parses as that endpoint.
 pub fn print_reads_back_ip_endpoint(endpoint: IpEndpoint)
     ensures { ReadsEndpoint (endpoint_text endpoint) endpoint }
 {

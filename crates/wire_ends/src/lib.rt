@@ -1,5 +1,4 @@
-//! What names the ends of a packet's way: versions of the Internet Protocol, addresses of either, blocks of
-//! these and ports at them, and the protocols that packets carry.
+//! IP versions and protocols, and addresses, CIDR blocks and endpoints of either version.
 #![tactic(auto)]
 
 mod ip_address;

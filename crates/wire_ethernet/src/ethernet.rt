@@ -83,16 +83,16 @@ impl fmt::Display for EthernetProtocol {
     }
 }
 
-/// A reading view of the bytes of a frame, which need not hold a whole header.
+/// A view of the borrowed bytes of a frame. Each call requires only the bytes that it uses.
 #[derive(Clone, Copy, PartialEq, Eq, Drop)]
 pub struct EthernetView<B> {
     buffer: B,
 }
 
-/// A view that reads.
+/// A reading view.
 pub type EthernetFrame<'a> = EthernetView<&'a [u8]>;
 
-/// A view that reads and writes.
+/// A mutable view.
 pub type EthernetFrameMut<'a> = EthernetView<&'a mut [u8]>;
 
 impl<B: Octets> EthernetView<B> {
@@ -103,7 +103,7 @@ impl<B: Octets> EthernetView<B> {
         EthernetView { buffer }
     }
 
-    /// Ok exactly where the bytes hold a header, and then every getter and setter may be called.
+    /// Ok exactly if the bytes hold a header. Then every getter and setter may be called.
     pub fn check_len(&self) -> Result<()>
         ensures { IsOk result ↔ (14 ≤ length (B.octets (frame_slice self.now))) }
     {
@@ -114,7 +114,7 @@ impl<B: Octets> EthernetView<B> {
         }
     }
 
-    /// The bytes, for as long as they are lent.
+    /// The borrowed bytes, with their own lifetime.
     pub fn into_inner(self) -> B
         ensures { result ≡ frame_slice self }
     {
@@ -233,8 +233,8 @@ impl<'a> EthernetFrameMut<'a> {
         }
     }
 
-    /// What follows the header, to write to. What is left in it stands there when the loan ends,
-    /// and the header stays.
+    /// The payload, to be written in place. Bytes written to it go into the frame; the header
+    /// stays.
     pub fn payload_mut(&mut self) -> &mut [u8]
         requires { 14 ≤ length (frame_bytes_mut self.old) }
         ensures* writes_back { sem 𝓛 (LendsPayload self.entry result) }
@@ -301,7 +301,7 @@ pub struct EthernetRepr {
 }
 
 impl EthernetRepr {
-    /// The values of a frame's header. Bytes that hold no header are refused.
+    /// The values of a frame's header. Bytes that hold no header are rejected.
     pub fn parse(frame: &EthernetFrame<'_>) -> Result<EthernetRepr>
         ensures reads { (v : EthernetRepr) → (result ≡ Ok v) ↔ Reads (frame_bytes frame.now) v }
         ensures value { ethernet_of (frame_bytes frame.now) ≡ result_ok result }
@@ -322,7 +322,7 @@ impl EthernetRepr {
         ETHERNET_HEADER_LEN
     }
 
-    /// Writes the header, and leaves what follows it.
+    /// Writes the header. All bytes behind it stay unchanged.
     pub fn emit(&self, frame: &mut EthernetFrameMut<'_>)
         requires { 14 ≤ length (frame_bytes_mut frame.old) }
         ensures { Becomes frame.old frame.new (bytes_of self.now ++ drop 14 (frame_bytes_mut frame.old)) }

@@ -1,4 +1,4 @@
-//! What holds by the definitions alone. The functions do nothing when they run.
+//! Laws of this crate's definitions. A law states a fact about definitions; its body does nothing.
 
 ghost use Rattle.std.specs.Prelude.{◌≡◌, ◌↔◌, ◌++◌, ◌≤◌, Some, length, true};
 ghost use Rattle.wire_addr.specs.Order.{named_cmp};
@@ -6,19 +6,19 @@ ghost use Rattle.wire_ethernet.specs.Ethernet.{Reads, bytes_of, ethernet_of, is_
 
 use crate::ethernet::{EthernetProtocol, EthernetRepr};
 
-/// The header of a value, whatever follows it, is read as the value's normal form.
+/// The header of a value, with any bytes behind it, parses as the value's normal form.
 pub fn emit_reads_back_ethernet(value: EthernetRepr, rest: &[u8])
     ensures { Reads (bytes_of value ++ rest.now) (normal value) }
 {}
 
-/// No bytes are read as two values.
+/// No bytes parse as two values.
 pub fn reads_once_ethernet(bytes: &[u8], value: EthernetRepr, other: EthernetRepr)
     requires value { Reads bytes.now value }
     requires other { Reads bytes.now other }
     ensures { value ≡ other }
 {}
 
-/// The value that is computed of bytes is the one that they are read as.
+/// The value computed from bytes is the one that they parse as.
 pub fn reading_is_computed_ethernet(bytes: &[u8], value: EthernetRepr)
     ensures { (ethernet_of bytes.now ≡ Some value) ↔ Reads bytes.now value }
 {}

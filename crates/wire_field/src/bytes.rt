@@ -13,7 +13,7 @@ pub fn array_at<const N: usize>(bytes: &[u8], first: usize) -> [u8; N]
     array
 }
 
-/// Writes these bytes to the front, and leaves what follows them.
+/// Writes these bytes to the front. All bytes behind them stay unchanged.
 #[inline(always)]
 pub fn write_front<const N: usize>(bytes: &mut [u8], front: &[u8; N])
     requires { N ≤ length bytes.old }

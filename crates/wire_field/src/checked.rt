@@ -1,4 +1,4 @@
-//! Bytes that a reader takes or refuses.
+//! Bytes that a reader accepts or rejects.
 
 /// Bytes, and whether they are what was asked for.
 #[derive(Drop)]

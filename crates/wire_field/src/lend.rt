@@ -1,4 +1,4 @@
-//! Parts of a slice that are lent to be written.
+//! Parts of a slice that are borrowed to be written.
 
 ghost use Rattle.std.specs.Borrow.{sem};
 ghost use Rattle.std.specs.Prelude.{◌≡◌, ◌≤◌, length, slice_range};

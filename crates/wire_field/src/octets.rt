@@ -4,7 +4,7 @@ ghost use Rattle.std.specs.Prelude.{◌≡◌, ℕ, List};
 
 use std::fmt;
 
-/// A slice of octets that is lent, to be read or also to be written.
+/// A borrowed slice of octets, to be read or also written.
 pub trait Octets {
     // the octets of the slice
     ghost octets: { Self → List ℕ };

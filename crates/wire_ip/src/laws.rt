@@ -1,11 +1,11 @@
-//! What holds by the definitions alone. The functions do nothing when they run.
+//! Laws of this crate's definitions. A law states a fact about definitions; its body does nothing.
 
 ghost use Rattle.std.specs.Prelude.{◌≡◌, ◌↔◌, ◌+◌, ◌++◌, ◌≤◌, IsTrue, Some, length};
 ghost use Rattle.wire_ip.specs.Ip.{Reads, ReadsHeader, bytes_of, header_len_of, ip_of, max_payload_len, normal, payload_len_of, payload_of, version_of};
 
 use crate::ip::IpRepr;
 
-/// The header of a value, with its payload and any bytes after it, is read as the value's normal
+/// The header of a value, with its payload and any bytes after it, parses as the value's normal
 /// form, where a checksum that is verified was computed.
 pub fn emit_reads_back_ip(value: IpRepr, rest: &[u8], computed: bool, verified: bool)
     requires payload_len { payload_len_of value ≤ max_payload_len value }
@@ -14,14 +14,14 @@ pub fn emit_reads_back_ip(value: IpRepr, rest: &[u8], computed: bool, verified: 
     ensures { Reads (bytes_of value computed ++ rest.now) verified (normal value) }
 {}
 
-/// No bytes are read as two values.
+/// No bytes parse as two values.
 pub fn reads_once_ip(bytes: &[u8], verified: bool, value: IpRepr, other: IpRepr)
     requires value { Reads bytes.now verified value }
     requires other { Reads bytes.now verified other }
     ensures { value ≡ other }
 {}
 
-/// The value that is computed of bytes is the one that they are read as.
+/// The value computed from bytes is the one that they parse as.
 pub fn reading_is_computed_ip(bytes: &[u8], verified: bool, value: IpRepr)
     ensures { (ip_of verified bytes.now ≡ Some value) ↔ Reads bytes.now verified value }
 {}

@@ -1,4 +1,4 @@
-//! What holds by the definitions alone. The functions do nothing when they run.
+//! Laws of this crate's definitions. A law states a fact about definitions; its body does nothing.
 
 ghost use Rattle.std.specs.Prelude.{◌≡◌, ◌↔◌, ◌+◌, ◌++◌, ◌≤◌, Some, length};
 ghost use Rattle.wire_ends.specs.Protocol.{protocol_of};
@@ -10,7 +10,7 @@ use crate::ipv6::Ipv6Repr;
 use crate::ipv6fragment::Ipv6FragmentRepr;
 use wire_addr::Ipv6Address;
 
-/// The header of a value, with its payload and any bytes after it, is read as the value's normal
+/// The header of a value, with its payload and any bytes after it, parses as the value's normal
 /// form.
 pub fn emit_reads_back_ipv6(value: Ipv6Repr, rest: &[u8])
     requires payload_len { value.payload_len ≤ 65535 }
@@ -18,14 +18,14 @@ pub fn emit_reads_back_ipv6(value: Ipv6Repr, rest: &[u8])
     ensures { ipv6.Reads (ipv6.bytes_of value ++ rest.now) (ipv6.normal value) }
 {}
 
-/// No bytes are read as two values.
+/// No bytes parse as two values.
 pub fn reads_once_ipv6(bytes: &[u8], value: Ipv6Repr, other: Ipv6Repr)
     requires value { ipv6.Reads bytes.now value }
     requires other { ipv6.Reads bytes.now other }
     ensures { value ≡ other }
 {}
 
-/// The value that is computed of bytes is the one that they are read as.
+/// The value computed from bytes is the one that they parse as.
 pub fn reading_is_computed_ipv6(bytes: &[u8], value: Ipv6Repr)
     ensures { (ipv6.ipv6_of bytes.now ≡ Some value) ↔ ipv6.Reads bytes.now value }
 {}
@@ -45,19 +45,19 @@ pub fn normal_twice_ipv6(bytes: &[u8], value: Ipv6Repr)
     ensures read { ipv6.Reads bytes.now value → ipv6.normal value ≡ value }
 {}
 
-/// The header of a value, whatever follows it, is read as the value's normal form.
+/// The header of a value, with any bytes behind it, parses as the value's normal form.
 pub fn emit_reads_back_ipv6_fragment(value: Ipv6FragmentRepr, rest: &[u8])
     ensures { fragment.Reads (fragment.bytes_of value ++ rest.now) (fragment.normal value) }
 {}
 
-/// No bytes are read as two values.
+/// No bytes parse as two values.
 pub fn reads_once_ipv6_fragment(bytes: &[u8], value: Ipv6FragmentRepr, other: Ipv6FragmentRepr)
     requires value { fragment.Reads bytes.now value }
     requires other { fragment.Reads bytes.now other }
     ensures { value ≡ other }
 {}
 
-/// The value that is computed of bytes is the one that they are read as.
+/// The value computed from bytes is the one that they parse as.
 pub fn reading_is_computed_ipv6_fragment(bytes: &[u8], value: Ipv6FragmentRepr)
     ensures { (fragment.ipv6_fragment_of bytes.now ≡ Some value) ↔ fragment.Reads bytes.now value }
 {}

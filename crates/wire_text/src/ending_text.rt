@@ -6,7 +6,7 @@ ghost use Rattle.wire_text.specs.Ending.{EndsInNumber};
 
 use crate::number_text::number;
 
-/// Where the byte stands last.
+/// The last index of the byte.
 #[inline(always)]
 fn last_place(text: &[u8], byte: u8) -> Option<usize>
     ensures { MatchOption result ((k : ℕ) → k < length text.now → slice_index text.now k ≢ byte)

@@ -29,7 +29,7 @@ fn hex_digit(byte: u8) -> u32
     HEX_DIGITS[byte as usize] as u32
 }
 
-/// The number that the first digits write, of which at most so many are read, and how many there are.
+/// The number that the first digits spell, at most so many of them, and the number of digits.
 #[inline(always)]
 pub(crate) fn first_number(text: &[u8], radix: u32, places: usize) -> (u32, usize)
     requires low { 2 ≤ radix }
@@ -66,7 +66,7 @@ fn four_digits(text: &[u8; 4]) -> Option<u32>
     all.then_some(((a * 16 + b) * 16 + c) * 16 + d)
 }
 
-/// The number that the first hex digits write, of which at most four are read, and how many there are,
+/// The number that the first hex digits spell, at most four of them, and the number of digits,
 /// which is mostly four.
 #[inline(always)]
 pub(crate) fn first_group(text: &[u8]) -> (u32, usize)

@@ -26,13 +26,13 @@ pub enum Carried<'a> {
     Packet(IpRepr, Transport<'a>),
     /// A fragment of an IPv4 packet. Its payload is not parsed.
     Fragment(Ipv4Packet<'a>),
-    /// The payload of any other EtherType, or one that does not parse as its EtherType says.
+    /// The payload of an unknown EtherType, or a payload that does not parse.
     Unread(&'a [u8]),
 }
 
 impl<'a> Carried<'a> {
-    /// Parses the payload of a frame of this EtherType. From a header that does not parse on, the bytes
-    /// are kept as `Unread`. Checksums are verified where `caps` says so.
+    /// Parses the payload of a frame of this EtherType. From a header that does not parse on, the
+    /// bytes are kept as `Unread`. Verifies the checksums that `caps` selects.
     #[inline(always)]
     pub fn read(
         ethertype: EthernetProtocol,
@@ -101,7 +101,7 @@ impl<'a> Carried<'a> {
         }
     }
 
-    /// The payload of the transport. None where there is none that was parsed.
+    /// The payload of the transport. None if no transport header was parsed.
     #[inline(always)]
     pub fn payload(&self) -> Option<&'a [u8]>
         ensures { option_map (λ bytes. bytes.now) result ≡ carried_payload self.now }
@@ -126,9 +126,9 @@ impl<'a> Carried<'a> {
         }
     }
 
-    /// Writes the payload of a frame to the front of `out`, and returns the number of bytes. None where
-    /// they do not fit; the contents of `out` are kept then. An IP header gets the length of the transport
-    /// behind it. Checksums are computed where `caps` says so, else 0.
+    /// Writes the payload of a frame to the front of `out`, and returns the number of bytes. None
+    /// if they do not fit; the contents of `out` are kept then. An IP header gets the length of the
+    /// transport behind it. Computes the checksums that `caps` selects; the others are 0.
     #[inline(always)]
     pub fn try_emit(&self, out: &mut [u8], caps: &ChecksumCapabilities) -> Option<usize>
         requires { FitsCarried self.now }

@@ -26,13 +26,13 @@ pub enum Transport<'a> {
     Tcp(TcpRepr<'a>),
     /// The payload of any other protocol.
     Other(&'a [u8]),
-    /// The payload of a packet that names UDP or TCP, where no such header was parsed.
+    /// The payload of a UDP or TCP packet whose header did not parse.
     Unread(&'a [u8]),
 }
 
 impl<'a> Transport<'a> {
-    /// Parses the payload of a packet with this header. A UDP or TCP header that does not parse gives
-    /// `Unread` with all bytes. Checksums are verified where `caps` says so.
+    /// Parses the payload of a packet with this header. A UDP or TCP header that does not parse
+    /// gives `Unread` with all bytes. Verifies the checksums that `caps` selects.
     #[inline(always)]
     pub fn read(header: &IpRepr, bytes: &'a [u8], caps: &ChecksumCapabilities) -> Transport<'a>
         ensures { FindsTransport caps.now header.now bytes.now result }
@@ -119,9 +119,9 @@ impl<'a> Transport<'a> {
         }
     }
 
-    /// Writes the payload of a packet with this header to the front of `out`, and returns the number of
-    /// bytes. None where they do not fit, and then nothing is written. Checksums are computed where
-    /// `caps` says so, else 0.
+    /// Writes the payload of a packet with this header to the front of `out`, and returns the
+    /// number of bytes. None if they do not fit, and then nothing is written. Computes the
+    /// checksums that `caps` selects; the others are 0.
     #[inline(always)]
     pub fn try_emit(
         &self,
@@ -190,7 +190,7 @@ fn emit_tcp(
     Some(len)
 }
 
-/// Copies bytes to the front of `out`, and returns their number. None where they do not fit.
+/// Copies bytes to the front of `out`, and returns their number. None if they do not fit.
 #[inline(always)]
 pub fn copy(bytes: &[u8], out: &mut [u8]) -> Option<usize>
     ensures { Fills bytes.now (length bytes.now) out.old out.new result }

@@ -21,8 +21,8 @@ use wire_ip::IpRepr;
 use wire_tcp::TcpRepr;
 use wire_udp::UdpRepr;
 
-/// The frame that is emitted, with any padding behind it, parses as the value's normal form. Its headers
-/// have to name what follows them, and each checksum that the receiver verifies has to be computed.
+/// The emitted frame, with any padding behind it, parses as the value's normal form. Its headers
+/// must name what follows them, and each checksum that the receiver verifies must be computed.
 pub fn frame_reads_back(
     frame: &Frame<'_>,
     padding: &[u8],
@@ -65,8 +65,8 @@ pub fn frame_rebuilds(bytes: &[u8], frame: &Frame<'_>)
     ensures { Finds all_checked bytes.now frame.now → frame_bytes all_checked frame.now ≡ rebuilt bytes.now }
 {}
 
-// A frame of three headers that agree and of a payload, with any padding behind it, is read as the
-// normal forms of the headers and that payload, where each checksum that is verified was computed.
+// A frame with matching Ethernet, IP and UDP headers, with any padding, parses as the normal forms
+// of its headers and its payload, if each verified checksum was computed.
 fn frame_composes_udp(
     header: EthernetRepr,
     inner: IpRepr,
@@ -87,7 +87,7 @@ fn frame_composes_udp(
         ReadsFrame received (ethernet.bytes_of header ++ (ip.bytes_of inner (computes sent.ipv4) ++ datagram_bytes) ++ padding.now) (ethernet.normal header) (packet (ip.normal inner) (datagram value payload.now)) }
 {}
 
-// The same of a TCP segment, which is read as the normal form of its values.
+// The same for TCP: the segment parses as the normal form of its values.
 fn frame_composes_tcp(
     header: EthernetRepr,
     inner: IpRepr,
@@ -110,8 +110,8 @@ fn frame_composes_tcp(
         ReadsFrame received (ethernet.bytes_of header ++ (ip.bytes_of inner (computes sent.ipv4) ++ segment_bytes) ++ padding.now) (ethernet.normal header) (packet (ip.normal inner) (segment (tcp.normal v) payload)) }
 {}
 
-// A frame of a header that names ARP and of an ARP packet, with any padding behind it, is read whole, as
-// the normal forms of both.
+// A frame with an ARP packet and the EtherType of ARP, with any padding, parses as the normal forms
+// of both.
 fn frame_composes_arp(
     header: EthernetRepr,
     value: ArpRepr,
@@ -122,8 +122,8 @@ fn frame_composes_arp(
     ensures { ReadsFrame received (ethernet.bytes_of header ++ arp.bytes_of value ++ padding.now) (ethernet.normal header) (message (arp.normal value)) }
 {}
 
-// A frame of two headers that agree and of what a packet of another protocol than UDP and TCP carries,
-// with any padding behind it, is read as the normal forms of the headers and those bytes.
+// A frame with matching headers and a payload of another protocol than UDP and TCP, with any
+// padding, parses as the normal forms of its headers and that payload.
 fn frame_composes_other(
     header: EthernetRepr,
     inner: IpRepr,

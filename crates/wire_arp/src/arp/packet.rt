@@ -21,10 +21,10 @@ pub struct ArpView<B> {
     pub(super) buffer: B,
 }
 
-/// A view that reads.
+/// A reading view.
 pub type ArpPacket<'a> = ArpView<&'a [u8]>;
 
-/// A view that reads and writes.
+/// A mutable view.
 pub type ArpPacketMut<'a> = ArpView<&'a mut [u8]>;
 
 impl<B: Octets> ArpView<B> {
@@ -51,7 +51,7 @@ impl<B: Octets> ArpView<B> {
         Ok(())
     }
 
-    /// The bytes, for as long as they are lent to the view.
+    /// The borrowed bytes, with their own lifetime.
     pub fn into_inner(self) -> B
         ensures { result ≡ packet_slice self }
     {
@@ -104,7 +104,7 @@ impl<B: Octets> ArpView<B> {
         self.as_bytes()[5]
     }
 
-    /// What the packet does.
+    /// The operation.
     pub fn operation(&self) -> ArpOperation
         requires { 8 ≤ length (B.octets (packet_slice self.now)) }
         ensures { result ≡ operation_of (field (B.octets (packet_slice self.now)) 48 16) }
@@ -163,8 +163,8 @@ impl<B: Octets> fmt::Debug for ArpView<B> {
     }
 }
 
-/// The packet's values, or its fields where it is none of Ethernet and IPv4, or the error where
-/// `check_len` refuses the bytes.
+/// The packet's values, or its fields if it is not for Ethernet and IPv4, or the error if
+/// `check_len` rejects the bytes.
 impl fmt::Display for ArpPacket<'_> {
     ghost output = { λ packet. Some (packet_text (packet_bytes packet)) };
 

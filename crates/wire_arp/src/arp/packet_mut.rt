@@ -95,7 +95,7 @@ impl<'a> ArpPacketMut<'a> {
         self.buffer[5] = value;
     }
 
-    /// Writes what the packet does.
+    /// Writes the operation.
     pub fn set_operation(&mut self, value: ArpOperation)
         requires { 8 ≤ length (packet_bytes_mut self.old) }
         ensures { Becomes self.old self.new (with_field (packet_bytes_mut self.old) 48 16 (operation_number value)) }

@@ -1,11 +1,11 @@
-//! Where the addresses of a packet stand, by the lengths that it names: one behind another, after
-//! the first eight bytes.
+//! The places of the four addresses, by the length fields. They follow each other, after the first
+//! eight bytes.
 
 ghost use Rattle.std.specs.Prelude.{◌≡◌, ◌+◌, ◌*◌};
 
 use std::ops::Range;
 
-/// The length of what stands before the addresses, in octets.
+/// The length of the fields before the addresses, in octets.
 pub const FIXED_LEN: usize = 8;
 
 /// The bytes of the source's hardware address.

@@ -23,7 +23,7 @@ const IPV4_ADDR_LEN: u8 = 4;
 /// The length of a packet with such addresses, in octets.
 const ETHERNET_IPV4_LEN: usize = 28;
 
-/// The values of a packet that are more than its layout.
+/// The fields of a packet that upper layers need.
 #[derive(Debug, Clone, Copy, PartialEq, Eq)]
 pub enum ArpRepr {
     /// The addresses are those of Ethernet and IPv4.
@@ -37,7 +37,7 @@ pub enum ArpRepr {
 }
 
 impl ArpRepr {
-    /// The values of a packet. Packets of other hardware or of another protocol are refused.
+    /// The values of a packet. Packets of other hardware or of another protocol are rejected.
     #[inline(always)]
     pub fn parse(packet: &ArpPacket<'_>) -> Result<ArpRepr>
         ensures reads { (v : ArpRepr) → (result ≡ Ok v) ↔ Reads (packet_bytes packet.now) v }
@@ -66,7 +66,7 @@ impl ArpRepr {
         }
     }
 
-    /// Writes the packet, and leaves what follows it.
+    /// Writes the packet. All bytes behind it stay unchanged.
     #[inline(always)]
     pub fn emit(&self, packet: &mut ArpPacketMut<'_>)
         requires { 28 ≤ length (packet_bytes_mut packet.old) }

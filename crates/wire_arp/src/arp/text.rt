@@ -1,4 +1,4 @@
-//! The words that a packet prints, and its fields, where it is read as no value.
+//! The printed words of a packet, and its fields if it does not parse.
 
 ghost use Rattle.std.specs.Prelude.{Some};
 ghost use Rattle.std.specs.Fmt.{WritesOnOk};
@@ -25,7 +25,7 @@ pub fn write_fields<W: fmt::Write>(packet: &ArpPacket<'_>, f: &mut fmt::Formatte
     write_addresses(packet, f)
 }
 
-// Writes the numbers of a packet that is read as no value, and the lengths of its addresses.
+// Writes the numbers of a packet that does not parse, and the lengths of its addresses.
 #[tactic(auto, unfolding(crate::specs::ArpText::numbers_text))]
 fn write_numbers<W: fmt::Write>(
     f: &mut fmt::Formatter<W>,

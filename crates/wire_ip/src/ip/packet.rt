@@ -35,7 +35,7 @@ impl<'a> IpPacket<'a> {
         Ok(packet)
     }
 
-    /// Ok exactly where there are bytes, and then `version` may be called.
+    /// Ok exactly if there are bytes. Then `version` may be called.
     pub fn check_len(&self) -> Result<()>
         ensures { IsOk result ↔ (1 ≤ length (packet_bytes self.now)) }
     {
@@ -46,7 +46,7 @@ impl<'a> IpPacket<'a> {
         }
     }
 
-    /// The bytes, for as long as they are lent to the view.
+    /// The borrowed bytes, with their own lifetime.
     pub fn into_inner(self) -> &'a [u8]
         ensures { result.now ≡ packet_bytes self.entry }
     {

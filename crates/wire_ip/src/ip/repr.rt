@@ -73,8 +73,8 @@ impl IpRepr {
         }
     }
 
-    /// The values of a packet's header, as those of the version that its first four bits number. The
-    /// checksum of an IPv4 header is verified where `caps` says so.
+    /// The values of a packet's header, as those of the version that its first four bits number.
+    /// The checksum of an IPv4 header is verified if `caps` says so.
     pub fn parse(packet: &IpPacket<'_>, caps: &ChecksumCapabilities) -> Result<IpRepr>
         ensures reads { (v : IpRepr) → (result ≡ Ok v) ↔ Reads (packet_bytes packet.now) (verifies caps.now.ipv4) v }
         ensures value { ip_of (verifies caps.now.ipv4) (packet_bytes packet.now) ≡ result_ok result }
@@ -172,7 +172,7 @@ impl IpRepr {
         }
     }
 
-    /// The length of the longest payload that the header can say, in octets.
+    /// The length of the longest payload that the header can express, in octets.
     pub fn max_payload_len(&self) -> usize
         ensures { result ≡ max_payload_len self.now }
     {
@@ -190,8 +190,8 @@ impl IpRepr {
         self.header_len() + self.payload_len()
     }
 
-    /// Writes the header, and leaves what follows it. The checksum of an IPv4 header is computed where
-    /// `caps` says so, else 0.
+    /// Writes the header. All bytes behind it stay unchanged. The checksum of an IPv4 header is
+    /// computed if `caps` says so, else 0.
     #[inline(always)]
     pub fn emit(&self, buffer: &mut [u8], caps: &ChecksumCapabilities)
         requires room { header_len_of self.now ≤ length buffer.old }

@@ -17,17 +17,16 @@ use wire_checksum::checksum;
 use wire_ends::IpProtocol;
 use wire_field::{Octets, array_at, debug_view, is_bit_set};
 
-/// A view of the bytes of a packet, which are lent to be read or to be written. Its calls ask for the
-/// bytes that they use, and for no more.
+/// A view of the borrowed bytes of a packet. Each call requires only the bytes that it uses.
 #[derive(Clone, Copy, PartialEq, Eq, Drop)]
 pub struct Ipv4View<B> {
     pub(super) buffer: B,
 }
 
-/// A view that reads.
+/// A reading view.
 pub type Ipv4Packet<'a> = Ipv4View<&'a [u8]>;
 
-/// A view that reads and writes.
+/// A mutable view.
 pub type Ipv4PacketMut<'a> = Ipv4View<&'a mut [u8]>;
 
 impl<B: Octets> Ipv4View<B> {
@@ -38,8 +37,9 @@ impl<B: Octets> Ipv4View<B> {
         Ipv4View { buffer }
     }
 
-    /// Whether the bytes hold a whole header, and as many bytes as it speaks of. Then each call of
-    /// this view may be made, until the header's length or the packet's is written.
+    /// Whether the lengths are valid: the bytes hold a whole header and the length that it names.
+    /// Then each call of this view may be made, until the header's length or the packet's is
+    /// written.
     pub fn check_len(&self) -> Result<()>
         ensures { IsOk result ↔ HasLengths (B.octets (packet_slice self.now)) }
     {
@@ -55,7 +55,7 @@ impl<B: Octets> Ipv4View<B> {
         Ok(())
     }
 
-    /// The bytes, for as long as they are lent to the view.
+    /// The borrowed bytes, with their own lifetime.
     pub fn into_inner(self) -> B
         ensures { result ≡ packet_slice self }
     {

@@ -34,8 +34,8 @@ impl<'a> Ipv4PacketMut<'a> {
         }
     }
 
-    /// What follows the header, up to the packet's length, to write to. What is left in it stands in
-    /// the packet afterwards, and all other bytes stay.
+    /// The payload, to be written in place. Bytes written to it go into the packet; all other bytes
+    /// stay.
     pub fn payload_mut(&mut self) -> &mut [u8]
         requires fields { 4 ≤ length (packet_bytes_mut self.old) }
         requires begins { header_len (packet_bytes_mut self.old) ≤ total_len (packet_bytes_mut self.old) }
@@ -180,7 +180,7 @@ impl<'a> Ipv4PacketMut<'a> {
     }
 }
 
-// Whether the bytes hold a whole header, and as many bytes as it speaks of.
+// Whether the lengths are valid: the bytes hold a whole header and the length that it names.
 fn check(bytes: &mut [u8]) -> Checked<'_>
     ensures { Checks bytes.entry (HasLengths bytes.old) result }
 {

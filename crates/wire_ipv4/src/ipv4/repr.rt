@@ -19,8 +19,7 @@ use wire_field::write_front;
 // The flag "don't fragment" alone, before the first bits of an offset of 0.
 const DONT_FRAG: u8 = 0x40;
 
-/// The values of a packet's header that are more than its layout: no options, no service bits, no
-/// fragments.
+/// The fields of a header that upper layers need: no options, DSCP, ECN or fragment fields.
 #[derive(Debug, Clone, Copy, PartialEq, Eq)]
 pub struct Ipv4Repr {
     pub src_addr: Ipv4Address,
@@ -32,8 +31,8 @@ pub struct Ipv4Repr {
 }
 
 impl Ipv4Repr {
-    /// The values of a packet's header. Options are read over, and a fragment is read as any packet.
-    /// The header's checksum is verified where `caps` says so.
+    /// The values of a packet's header. Options are skipped, and a fragment parses like any packet.
+    /// The header's checksum is verified if `caps` says so.
     #[inline(always)]
     pub fn parse(packet: &Ipv4Packet<'_>, caps: &ChecksumCapabilities) -> Result<Ipv4Repr>
         ensures reads { (v : Ipv4Repr) → (result ≡ Ok v) ↔ Reads (packet_bytes packet.now) (verifies caps.now.ipv4) v }
@@ -63,8 +62,8 @@ impl Ipv4Repr {
         IPV4_HEADER_LEN
     }
 
-    /// Writes the header, and leaves what follows it. The flag "don't fragment" is set, and the
-    /// checksum is computed where `caps` says so, else 0.
+    /// Writes the header. All bytes behind it stay unchanged. The flag "don't fragment" is set, and
+    /// the checksum is computed if `caps` says so, else 0.
     #[inline(always)]
     pub fn emit(&self, packet: &mut Ipv4PacketMut<'_>, caps: &ChecksumCapabilities)
         requires room { IPV4_HEADER_LEN ≤ length (packet_bytes_mut packet.old) }

@@ -20,10 +20,10 @@ pub struct Ipv6View<B> {
     pub(super) buffer: B,
 }
 
-/// A view that reads.
+/// A reading view.
 pub type Ipv6Packet<'a> = Ipv6View<&'a [u8]>;
 
-/// A view that reads and writes.
+/// A mutable view.
 pub type Ipv6PacketMut<'a> = Ipv6View<&'a mut [u8]>;
 
 impl<B: Octets> Ipv6View<B> {
@@ -34,8 +34,8 @@ impl<B: Octets> Ipv6View<B> {
         Ipv6View { buffer }
     }
 
-    /// Whether the bytes hold a whole header, and as many bytes as it speaks of. Then each call of
-    /// this view may be made, until the payload's length is written.
+    /// Whether the lengths are valid: the bytes hold a whole header and the length that it names.
+    /// Then each call of this view may be made, until the payload's length is written.
     pub fn check_len(&self) -> Result<()>
         ensures { IsOk result ↔ HasLengths (B.octets (packet_slice self.now)) }
     {
@@ -47,7 +47,7 @@ impl<B: Octets> Ipv6View<B> {
         }
     }
 
-    /// The bytes, for as long as they are lent to the view.
+    /// The borrowed bytes, with their own lifetime.
     pub fn into_inner(self) -> B
         ensures { result ≡ packet_slice self }
     {

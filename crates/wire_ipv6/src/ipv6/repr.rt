@@ -15,7 +15,7 @@ use wire_ends::IpProtocol;
 // Version 6 before a traffic class and a flow label of 0.
 const VERSION_6: u32 = 0x6000_0000;
 
-/// The values of a packet's header that are more than its layout: no traffic class, no flow label.
+/// The fields of a header that upper layers need: no traffic class, no flow label.
 #[derive(Debug, Clone, Copy, PartialEq, Eq)]
 pub struct Ipv6Repr {
     pub src_addr: Ipv6Address,
@@ -27,7 +27,7 @@ pub struct Ipv6Repr {
 }
 
 impl Ipv6Repr {
-    /// The values of a packet's header. Traffic class and flow label are read over.
+    /// The values of a packet's header. Traffic class and flow label are skipped.
     #[inline(always)]
     pub fn parse(packet: &Ipv6Packet<'_>) -> Result<Ipv6Repr>
         ensures reads { (v : Ipv6Repr) → (result ≡ Ok v) ↔ Reads (packet_bytes packet.now) v }
@@ -54,7 +54,8 @@ impl Ipv6Repr {
         IPV6_HEADER_LEN
     }
 
-    /// Writes the header, and leaves what follows it. Traffic class and flow label become 0.
+    /// Writes the header. All bytes behind it stay unchanged. Traffic class and flow label become
+    /// 0.
     pub fn emit(&self, packet: &mut Ipv6PacketMut<'_>)
         requires room { 40 ≤ length (packet_bytes_mut packet.old) }
         requires payload_len { self.now.payload_len ≤ 65535 }

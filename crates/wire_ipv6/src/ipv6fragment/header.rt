@@ -17,10 +17,10 @@ pub struct Ipv6FragmentView<B> {
     pub(super) buffer: B,
 }
 
-/// A view that reads.
+/// A reading view.
 pub type Ipv6FragmentHeader<'a> = Ipv6FragmentView<&'a [u8]>;
 
-/// A view that reads and writes.
+/// A mutable view.
 pub type Ipv6FragmentHeaderMut<'a> = Ipv6FragmentView<&'a mut [u8]>;
 
 impl<B: Octets> Ipv6FragmentView<B> {
@@ -31,7 +31,7 @@ impl<B: Octets> Ipv6FragmentView<B> {
         Ipv6FragmentView { buffer }
     }
 
-    /// Ok exactly where the bytes hold a header, and then every getter and setter may be called.
+    /// Ok exactly if the bytes hold a header. Then every getter and setter may be called.
     pub fn check_len(&self) -> Result<()>
         ensures { IsOk result ↔ (6 ≤ length (B.octets (header_slice self.now))) }
     {
@@ -42,7 +42,7 @@ impl<B: Octets> Ipv6FragmentView<B> {
         }
     }
 
-    /// The bytes, for as long as they are lent to the view.
+    /// The borrowed bytes, with their own lifetime.
     pub fn into_inner(self) -> B
         ensures { result ≡ header_slice self }
     {

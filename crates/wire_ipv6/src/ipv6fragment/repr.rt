@@ -22,7 +22,8 @@ pub struct Ipv6FragmentRepr {
 }
 
 impl Ipv6FragmentRepr {
-    /// The values of a header, whatever its reserved bits are. Bytes that hold no header are refused.
+    /// The values of a header, whatever its reserved bits are. Bytes that hold no header are
+    /// rejected.
     pub fn parse(header: &Ipv6FragmentHeader<'_>) -> Result<Ipv6FragmentRepr>
         ensures reads { (v : Ipv6FragmentRepr) → (result ≡ Ok v) ↔ Reads (header_bytes header.now) v }
         ensures value { ipv6_fragment_of (header_bytes header.now) ≡ result_ok result }
@@ -43,8 +44,8 @@ impl Ipv6FragmentRepr {
         HEADER_LEN
     }
 
-    /// Writes the header, and leaves what follows it. The offset is cut to 13 bits, and the reserved
-    /// bits are zeroed.
+    /// Writes the header. All bytes behind it stay unchanged. The offset is cut to 13 bits, and the
+    /// reserved bits are zeroed.
     pub fn emit(&self, header: &mut Ipv6FragmentHeaderMut<'_>)
         requires { 6 ≤ length (header_bytes_mut header.old) }
         ensures { Becomes header.old header.new (bytes_of self.now ++ drop 6 (header_bytes_mut header.old)) }
