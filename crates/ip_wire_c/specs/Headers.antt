@@ -13,6 +13,7 @@ use Rattle.ip_wire.specs.Tcp as segment
 use Rattle.ip_wire.specs.TcpRepr as tcp
 use Rattle.ip_wire.specs.TcpRepr.{TcpHeader}
 use Rattle.ip_wire.specs.Udp as udp
+use Rattle.ip_wire.specs.declared.ArpOperation.TheVariants as operation
 use Rattle.ip_wire.specs.declared.ArpRepr.{ArpRepr}
 use Rattle.ip_wire.specs.declared.ArpRepr.TheVariants.{EthernetIpv4}
 use Rattle.ip_wire.specs.declared.EthernetProtocol.TheVariants as ethertype
@@ -60,7 +61,7 @@ link_bytes h type_number = ethernet.bytes_of (link_of h type_number)
 -- the values of an ARP packet for these addresses, if they are IPv4 addresses
 abbrev pub arp_between : Arp → IpAddress → IpAddress → Option ArpRepr
 arp_between h (address.Ipv4 src) (address.Ipv4 dst) =
-    Some (EthernetIpv4 (arp.operation_of h.operation) (record { 0 = h.src_hardware }) src (record { 0 = h.dst_hardware }) dst)
+    Some (EthernetIpv4 (operation.Unknown h.operation) (record { 0 = h.src_hardware }) src (record { 0 = h.dst_hardware }) dst)
 arp_between h (address.Ipv4 src) (address.Ipv6 dst) = None
 arp_between h (address.Ipv6 src) dst = None
 

@@ -1,12 +1,13 @@
 //! Addresses, blocks and endpoints of C, and their texts.
 
-ghost use Rattle.std.specs.Prelude.{◌≡◌, ◌≤◌, ◌∷◌, ◌++◌, IfSome, IsSomeAnd, Some, decimal, length};
+ghost use Rattle.std.specs.Prelude.{◌≡◌, ◌≤◌, ◌∷◌, ◌++◌, IfSome, IsSomeAnd, Some, decimal, length, take};
 ghost use Rattle.std.specs.Option.{option_map};
 ghost use Rattle.ip_wire.specs.Endpoint.{ReadsEndpoint, endpoint_text};
 ghost use Rattle.ip_wire.specs.IpAddress.{IsMulticast, IsUnicast, ReadsAddress, address_text, version_of};
 ghost use Rattle.ip_wire.specs.IpCidr.{IsIn, ReadsCidr, cidr_text};
 ghost use Rattle.ip_wire.specs.Printed.{dashed, slash};
 ghost use Rattle.ip_wire.specs.Read.{ReadsEthernet};
+ghost use Rattle.ip_wire.specs.declared.IpAddress.TheVariants.{Ipv4, Ipv6};
 ghost use Rattle.ip_wire_c.specs.Addresses.{addr_of, block_of, block_struct, endpoint_of, endpoint_struct, ethernet_octets, ip_endpoint_of, ip_of, pair_of};
 ghost use Rattle.ip_wire_c.specs.Written.{Answers, IsRead, Writes};
 
@@ -43,30 +44,50 @@ impl Addr {
         ensures { result ≡ ip_of self.now }
     {
         match self.version {
-            4 => Some(IpAddress::v4(
-                self.octets[0],
-                self.octets[1],
-                self.octets[2],
-                self.octets[3],
-            )),
-            6 => Some(IpAddress::Ipv6(Ipv6Address::from_octets(self.octets))),
+            4 => Some(self.ipv4()),
+            6 => Some(self.ipv6()),
             _ => None,
         }
     }
 
-    /// This address and another one. `None` if they have no version, or different ones.
+    /// This address, of this version, and another one. `None` if they have no version, or different
+    /// ones. Callers pass 4 as a constant: then the code for IPv4 is compiled alone, and its values stay
+    /// in registers.
     #[inline(always)]
-    pub fn pair(&self, other: &Addr) -> Option<(IpAddress, IpAddress)>
+    pub fn pair(&self, version: u16, other: &Addr) -> Option<(IpAddress, IpAddress)>
+        requires { version ≡ self.now.version }
         ensures value { result ≡ pair_of self.now other.now }
         ensures family { IfSome result (λ pair. version_of pair.0 ≡ version_of pair.1) }
     {
-        let src = self.ip()?;
-        let dst = other.ip()?;
-        match (&src, &dst) {
-            (IpAddress::Ipv4(_), IpAddress::Ipv4(_)) => Some((src, dst)),
-            (IpAddress::Ipv6(_), IpAddress::Ipv6(_)) => Some((src, dst)),
+        if other.version != version {
+            return None;
+        }
+        match version {
+            4 => Some((self.ipv4(), other.ipv4())),
+            6 => Some((self.ipv6(), other.ipv6())),
             _ => None,
         }
+    }
+
+    // The address, taken as one of IPv4.
+    #[inline(always)]
+    fn ipv4(&self) -> IpAddress
+        ensures { result ≡ Ipv4 (take 4 self.now.octets) }
+    {
+        IpAddress::v4(
+            self.octets[0],
+            self.octets[1],
+            self.octets[2],
+            self.octets[3],
+        )
+    }
+
+    // The address, taken as one of IPv6.
+    #[inline(always)]
+    fn ipv6(&self) -> IpAddress
+        ensures { result ≡ Ipv6 self.now.octets }
+    {
+        IpAddress::Ipv6(Ipv6Address::from_octets(self.octets))
     }
 }
 

@@ -16,10 +16,13 @@ impl Arp {
     {
         let src_hardware = self.src_hardware;
         let dst_hardware = self.dst_hardware;
-        let (src_addr, dst_addr) = src.pair(dst)?;
+        if src.version != 4 {
+            return None;
+        }
+        let (src_addr, dst_addr) = src.pair(4, dst)?;
         match (&src_addr, &dst_addr) {
             (IpAddress::Ipv4(src_addr), IpAddress::Ipv4(dst_addr)) => Some(ArpRepr::EthernetIpv4 {
-                operation: ArpOperation::from(self.operation),
+                operation: ArpOperation::Unknown(self.operation),
                 source_hardware_addr: EthernetAddress(src_hardware),
                 source_protocol_addr: *src_addr,
                 target_hardware_addr: EthernetAddress(dst_hardware),

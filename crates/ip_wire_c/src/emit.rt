@@ -98,7 +98,27 @@ fn emit_ip(
 ) -> Option<usize>
     ensures { Fills (ip_bytes header.now src.now dst.now payload_len computed) out.old out.new result }
 {
-    let value = header.value(header.protocol, src, dst, payload_len)?;
+    match src.version {
+        4 => emit_ip_from(4, header, src, dst, payload_len, computed, out),
+        version => emit_ip_from(version, header, src, dst, payload_len, computed, out),
+    }
+}
+
+// Writes an IP header with a source of this version.
+#[inline(always)]
+fn emit_ip_from(
+    version: u16,
+    header: &Ip,
+    src: &Addr,
+    dst: &Addr,
+    payload_len: usize,
+    computed: bool,
+    out: &mut [u8],
+) -> Option<usize>
+    requires { version ≡ src.now.version }
+    ensures { Fills (ip_bytes header.now src.now dst.now payload_len computed) out.old out.new result }
+{
+    let value = header.value(version, header.protocol, src, dst, payload_len)?;
     let len = value.header_len();
     if out.len() < len {
         return None;
@@ -118,7 +138,7 @@ fn emit_udp(
 ) -> Option<usize>
     ensures { Fills (udp_bytes src.now dst.now payload.now computed) out.old out.new result }
 {
-    let (src_addr, dst_addr) = src.addr.pair(&dst.addr)?;
+    let (src_addr, dst_addr) = src.addr.pair(src.addr.version, &dst.addr)?;
     if payload.len() > UDP_MAX_PAYLOAD_LEN {
         return None;
     }
@@ -147,7 +167,7 @@ fn emit_tcp(
 ) -> Option<usize>
     ensures { Fills (tcp_bytes header.now options.now src.now dst.now payload.now computed) out.old out.new result }
 {
-    let (src_addr, dst_addr) = src.addr.pair(&dst.addr)?;
+    let (src_addr, dst_addr) = src.addr.pair(src.addr.version, &dst.addr)?;
     let segment = header.segment(options, src.port, dst.port, payload.len())?;
     let len = segment.header_len() + payload.len();
     if out.len() < len {

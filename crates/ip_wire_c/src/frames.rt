@@ -75,16 +75,17 @@ impl Arp {
 }
 
 impl FrameFields {
-    // The values of the IP header before a packet of this protocol. `None` if it cannot be written or
-    // says that the packet is a fragment.
+    // The values of the IP header before a packet of this protocol, with a source of this version.
+    // `None` if it cannot be written or says that the packet is a fragment.
     #[inline(always)]
-    fn carrier(&self, protocol: u8, len: usize) -> Option<IpRepr>
+    fn carrier(&self, version: u16, protocol: u8, len: usize) -> Option<IpRepr>
+        requires { version ≡ self.now.src.addr.version }
         ensures value { result ≡ carrier self.now protocol len }
         ensures len { IfSome result (λ v. length (headers_bytes self.now v) ≡ 14 + header_len_of v) }
     {
         let value = self
             .ip
-            .value(protocol, &self.src.addr, &self.dst.addr, len)?;
+            .value(version, protocol, &self.src.addr, &self.dst.addr, len)?;
         let is_whole = self.ip.fragment_offset == 0 && self.ip.more_fragments == 0;
         is_whole.then_some(value)
     }
@@ -156,10 +157,22 @@ impl FrameFields {
     fn emit_udp(&self, payload: &[u8], out: &mut [u8]) -> Option<usize>
         ensures { Fills (udp_frame self.now payload.now) out.old out.new result }
     {
+        match self.src.addr.version {
+            4 => self.emit_udp_from(4, payload, out),
+            version => self.emit_udp_from(version, payload, out),
+        }
+    }
+
+    // The same with a source of this version.
+    #[inline(always)]
+    fn emit_udp_from(&self, version: u16, payload: &[u8], out: &mut [u8]) -> Option<usize>
+        requires { version ≡ self.now.src.addr.version }
+        ensures { Fills (udp_frame self.now payload.now) out.old out.new result }
+    {
         if payload.len() > UDP_MAX_PAYLOAD_LEN {
             return None;
         }
-        let carrier = self.carrier(UDP, UDP_HEADER_LEN + payload.len())?;
+        let carrier = self.carrier(version, UDP, UDP_HEADER_LEN + payload.len())?;
         let start = self.headers_len(&carrier) + UDP_HEADER_LEN;
         let end = start + payload.len();
         if out.len() < end {
@@ -174,10 +187,27 @@ impl FrameFields {
     fn emit_udp_around(&self, payload_len: usize, out: &mut [u8]) -> Option<usize>
         ensures { Fills (udp_frame_around self.now payload_len out.old) out.old out.new result }
     {
+        match self.src.addr.version {
+            4 => self.emit_udp_around_from(4, payload_len, out),
+            version => self.emit_udp_around_from(version, payload_len, out),
+        }
+    }
+
+    // The same with a source of this version.
+    #[inline(always)]
+    fn emit_udp_around_from(
+        &self,
+        version: u16,
+        payload_len: usize,
+        out: &mut [u8],
+    ) -> Option<usize>
+        requires { version ≡ self.now.src.addr.version }
+        ensures { Fills (udp_frame_around self.now payload_len out.old) out.old out.new result }
+    {
         if payload_len > UDP_MAX_PAYLOAD_LEN {
             return None;
         }
-        let carrier = self.carrier(UDP, UDP_HEADER_LEN + payload_len)?;
+        let carrier = self.carrier(version, UDP, UDP_HEADER_LEN + payload_len)?;
         let end = self.headers_len(&carrier) + UDP_HEADER_LEN + payload_len;
         if out.len() < end {
             return None;
@@ -190,12 +220,30 @@ impl FrameFields {
     fn emit_tcp(&self, options: &TcpOptions, payload: &[u8], out: &mut [u8]) -> Option<usize>
         ensures { Fills (tcp_frame self.now options.now payload.now) out.old out.new result }
     {
+        match self.src.addr.version {
+            4 => self.emit_tcp_from(4, options, payload, out),
+            version => self.emit_tcp_from(version, options, payload, out),
+        }
+    }
+
+    // The same with a source of this version.
+    #[inline(always)]
+    fn emit_tcp_from(
+        &self,
+        version: u16,
+        options: &TcpOptions,
+        payload: &[u8],
+        out: &mut [u8],
+    ) -> Option<usize>
+        requires { version ≡ self.now.src.addr.version }
+        ensures { Fills (tcp_frame self.now options.now payload.now) out.old out.new result }
+    {
         let (src_port, dst_port) = (self.src.port, self.dst.port);
         let segment = self
             .tcp
             .segment(options, src_port, dst_port, payload.len())?;
         let header_len = segment.header_len();
-        let carrier = self.carrier(TCP, header_len + payload.len())?;
+        let carrier = self.carrier(version, TCP, header_len + payload.len())?;
         let start = self.headers_len(&carrier) + header_len;
         let end = start + payload.len();
         if out.len() < end {
@@ -215,10 +263,28 @@ impl FrameFields {
     ) -> Option<usize>
         ensures { Fills (tcp_frame_around self.now options.now payload_len out.old) out.old out.new result }
     {
+        match self.src.addr.version {
+            4 => self.emit_tcp_around_from(4, options, payload_len, out),
+            version => self.emit_tcp_around_from(version, options, payload_len, out),
+        }
+    }
+
+    // The same with a source of this version.
+    #[inline(always)]
+    fn emit_tcp_around_from(
+        &self,
+        version: u16,
+        options: &TcpOptions,
+        payload_len: usize,
+        out: &mut [u8],
+    ) -> Option<usize>
+        requires { version ≡ self.now.src.addr.version }
+        ensures { Fills (tcp_frame_around self.now options.now payload_len out.old) out.old out.new result }
+    {
         let (src_port, dst_port) = (self.src.port, self.dst.port);
         let segment = self.tcp.segment(options, src_port, dst_port, payload_len)?;
         let header_len = segment.header_len();
-        let carrier = self.carrier(TCP, header_len + payload_len)?;
+        let carrier = self.carrier(version, TCP, header_len + payload_len)?;
         let end = self.headers_len(&carrier) + header_len + payload_len;
         if out.len() < end {
             return None;

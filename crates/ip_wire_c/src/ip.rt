@@ -15,14 +15,23 @@ use ip_wire::{
 use net_base::ChecksumCapabilities;
 
 impl Ip {
-    /// The values of a header of this protocol between two addresses. `None` if the addresses have
-    /// no version or different ones, or if the header cannot express a field or the length.
+    /// The values of a header of this protocol between two addresses, the first of this version.
+    /// `None` if the addresses have no version or different ones, or if the header cannot express a
+    /// field or the length.
     #[inline(always)]
-    pub fn value(&self, protocol: u8, src: &Addr, dst: &Addr, payload_len: usize) -> Option<IpRepr>
+    pub fn value(
+        &self,
+        version: u16,
+        protocol: u8,
+        src: &Addr,
+        dst: &Addr,
+        payload_len: usize,
+    ) -> Option<IpRepr>
+        requires { version ≡ src.now.version }
         ensures value { result ≡ ip_value self.now protocol src.now dst.now payload_len }
         ensures fits { IfSome result (λ v. payload_len_of v ≤ max_payload_len v) }
     {
-        let (src_addr, dst_addr) = src.pair(dst)?;
+        let (src_addr, dst_addr) = src.pair(version, dst)?;
         let value = self.between(protocol, payload_len, src_addr, dst_addr)?;
         self.is_expressible(&value).then_some(value)
     }

@@ -7,7 +7,7 @@ use Rattle.ip_wire_c.specs.Frames.{carrier, headers_bytes, tcp_frame}
 use Rattle.ip_wire_c.specs.Addresses.{pair_of}
 use Rattle.ip_wire_c.specs.Headers.{segment_bytes}
 use Rattle.ip_wire_c.specs.Written.{Fills}
-use Rattle.ip_wire_c.proofs.types.FrameFields.emit_tcp.Goals as goal
+use Rattle.ip_wire_c.proofs.types.FrameFields.emit_tcp_from.Goals as goal
 
 pub returns : goal.returns
 returns c =

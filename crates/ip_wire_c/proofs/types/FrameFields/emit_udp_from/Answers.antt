@@ -5,7 +5,7 @@ use Rattle.ip_wire_c.proofs.Filled.{placed}
 use Rattle.ip_wire_c.proofs.Framed.{filled-front, udp-framed}
 use Rattle.ip_wire_c.specs.Frames.{carrier, headers_bytes, udp_frame}
 use Rattle.ip_wire_c.specs.Headers.{ports_of}
-use Rattle.ip_wire_c.proofs.types.FrameFields.emit_udp.Goals as goal
+use Rattle.ip_wire_c.proofs.types.FrameFields.emit_udp_from.Goals as goal
 
 pub returns : goal.returns
 returns c =

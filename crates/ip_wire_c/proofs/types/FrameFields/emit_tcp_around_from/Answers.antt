@@ -5,7 +5,7 @@ use Rattle.ip_wire.specs.TcpRepr as tcp
 use Rattle.ip_wire_c.proofs.Framed.{filled-front, length-there, part-there, tcp-framed}
 use Rattle.ip_wire_c.specs.Frames.{carrier, part, tcp_frame, tcp_frame_around}
 use Rattle.ip_wire_c.specs.Headers.{segment_header_len}
-use Rattle.ip_wire_c.proofs.types.FrameFields.emit_tcp_around.Goals as goal
+use Rattle.ip_wire_c.proofs.types.FrameFields.emit_tcp_around_from.Goals as goal
 
 pub returns : goal.returns
 returns c =

@@ -3,7 +3,7 @@ use Rattle.std.specs.Option.{option_and_then}
 use Rattle.ip_wire.specs.Ip.{header_len_of}
 use Rattle.ip_wire_c.proofs.Framed.{filled-front, length-there, part-there, udp-framed}
 use Rattle.ip_wire_c.specs.Frames.{carrier, part, udp_frame, udp_frame_around}
-use Rattle.ip_wire_c.proofs.types.FrameFields.emit_udp_around.Goals as goal
+use Rattle.ip_wire_c.proofs.types.FrameFields.emit_udp_around_from.Goals as goal
 
 pub returns : goal.returns
 returns c =
