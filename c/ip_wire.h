@@ -9,8 +9,9 @@
  * - A pointer may be null only if its length or `cap` is 0.
  * - A call that writes to `out` returns the number of bytes that it wrote, from `out[0]` on, or LK_FAILED.
  *   After LK_FAILED `out` is unchanged.
- * - A call that returns `int` and is a question returns 1 for yes and 0 for no.
- * - In a struct, a field that an initializer does not name is 0, and 0 means: not there. */
+ * - lk_.._is_.., lk_.._contains and lk_cpu_supported return 1 for yes and 0 for no.
+ * - Fields that an initializer leaves out are 0. A 0 in `version`, in a field `has_..` or in a count means
+ *   that there is no such value. A 0 in any other field is written as 0. */
 #ifndef IP_WIRE_H
 #define IP_WIRE_H
 
@@ -31,8 +32,8 @@ uint32_t lk_version(void);
 /* Whether the processor has what the library needs. This call runs on every x86-64 processor. */
 int lk_cpu_supported(void);
 
-/* What a call returns that could not write. It is so far below 0 that a sum of it and lengths is below 0
- * too, and as a `size_t` it is longer than any packet: the next call rejects it. */
+/* The result of a call that wrote nothing. Any sum of it and lengths is negative, and as a `size_t` it is
+ * longer than any packet, so the next call rejects it. */
 #define LK_FAILED (-((ptrdiff_t)1 << 40))
 
 /* ---- addresses ---- */
@@ -57,15 +58,15 @@ struct lk_block {
     uint16_t prefix_len; /* at most 32 for IPv4, 128 for IPv6 */
 };
 
-/* A text is the `len` bytes at `text`, without a null behind them. A reader stores the value and returns 1.
- * It returns 0 and stores nothing if the bytes are no such text as a whole.
+/* A text is `len` bytes, without a terminating null. lk_.._read parses the whole text, stores the value and
+ * returns 1. It returns 0 and stores nothing if the text does not parse.
  *
  * Hex digits may have either case. Leading zeros are accepted and are decimal. The scope of an IPv6
  * address (%eth0) is rejected. Dotted octets are accepted only at the end of an IPv4-mapped address
  * (::ffff:192.168.1.1).
  *
- * A printer writes a text without a null behind it. It returns LK_FAILED if `cap` is less than its length,
- * or if a version or prefix length is out of range. */
+ * lk_.._print writes a text without a terminating null. It returns LK_FAILED if `cap` is less than the
+ * length of the text, or if a version or prefix length is out of range. */
 
 /* IPv4: four numbers of 1 to 3 digits, joined by '.'. IPv6: RFC 4291, section 2.2. */
 int lk_addr_read(const char *text, size_t len, struct lk_addr *addr);
@@ -73,7 +74,7 @@ int lk_addr_read(const char *text, size_t len, struct lk_addr *addr);
 /* At most 15 bytes for IPv4, 39 for IPv6 (RFC 5952). */
 ptrdiff_t lk_addr_print(const struct lk_addr *addr, char *out, size_t cap);
 
-/* An address, '/' and the prefix length. The address is stored as it is written. */
+/* An address, '/' and the prefix length. The address keeps all its bits: it is not cut to the prefix. */
 int lk_block_read(const char *text, size_t len, struct lk_block *block);
 
 /* At most 18 bytes for IPv4, 43 for IPv6. */
@@ -121,7 +122,7 @@ struct lk_ip {
     uint32_t flow_label;      /* IPv6: 20 bits */
     uint16_t fragment_offset; /* in octets, a multiple of 8 */
     uint8_t protocol;         /* 6: TCP, 17: UDP */
-    uint8_t hop_limit;
+    uint8_t hop_limit;        /* 64 is usual; a router drops a packet that has 0 */
     uint8_t dscp;             /* 6 bits; of IPv6 those of the traffic class */
     uint8_t ecn;              /* 2 bits */
     uint8_t more_fragments;
@@ -156,8 +157,8 @@ struct lk_sack_range {
     uint32_t right;
 };
 
-/* The options of a TCP header (RFC 9293, RFC 2018, RFC 7323). A value with a field `has_..` is there
- * unless that field is 0. */
+/* The options of a TCP header (RFC 9293, RFC 2018, RFC 7323). A value with a field `has_..` is present if
+ * that field is not 0. */
 struct lk_tcp_options {
     struct lk_sack_range sack_ranges[4]; /* the first `sack_range_count` count */
     uint32_t tsval;                      /* the timestamp */
@@ -203,7 +204,7 @@ struct lk_frame {
     size_t transport_offset; /* of the UDP or TCP header */
     size_t payload_offset;   /* of the payload */
     size_t payload_len;      /* ends within the frame, before its padding */
-    struct lk_endpoint src;  /* UDP, TCP, or with port 0 another IP packet or ARP */
+    struct lk_endpoint src;  /* the sender; the port is 0 unless a UDP or TCP header was read */
     struct lk_endpoint dst;
     struct lk_ip ip;
     struct lk_tcp tcp;
@@ -218,15 +219,17 @@ struct lk_frame {
 };
 
 /* Parses an Ethernet frame, stores its values, and returns LK_READ or why a header was rejected. A wrong
- * checksum is no reason to reject.
+ * checksum is no reason to reject: a caller that trusts the payload must drop frames in which
+ * `ipv4_checksum` or `transport_checksum` is LK_WRONG.
  *
  * - The payload begins behind the last header that was read. It ends at the length in this header or in
  *   one before it, so padding is no payload.
  * - At a rejected header the values of the headers before it are stored, and the payload begins at the
  *   rejected header. The fields of a rejected UDP or TCP header are stored too, unless it is too short.
  * - Behind an unknown EtherType or protocol all bytes are payload, and so are IPv6 extension headers.
- *   IPv4 options are skipped. Of an IPv6 fragment header that follows the IPv6 header the values are
- *   stored, and the payload begins at it. */
+ *   IPv4 options are skipped.
+ * - If an IPv6 fragment header follows the IPv6 header directly, its values are stored, and the payload
+ *   begins at the fragment header. */
 int lk_read_frame(const uint8_t *ptr, size_t len, struct lk_frame *frame);
 
 /* Stores the options of a TCP header. `ptr` is its first octet and `len` its length: in a frame that was
@@ -259,8 +262,9 @@ ptrdiff_t lk_emit_udp_frame(const struct lk_frame *headers, const uint8_t *ptr, 
 ptrdiff_t lk_emit_tcp_frame(const struct lk_frame *headers, const struct lk_tcp_options *options,
                             const uint8_t *ptr, size_t len, uint8_t *out, size_t cap);
 
-/* The same around a payload of `len` octets that is in `out` already: for UDP behind 42 octets over IPv4 and
- * 62 over IPv6, for TCP behind 34 or 54 and lk_tcp_header_len(options). Nothing is copied. */
+/* Writes the headers of such a frame before a payload that is in `out` already. The payload has `len` octets.
+ * It begins at octet 42 for UDP over IPv4, and 62 over IPv6; for TCP at octet 34 or 54, plus
+ * lk_tcp_header_len(options). The result is that of lk_emit_.._frame with the same payload. */
 ptrdiff_t lk_wrap_udp_frame(const struct lk_frame *headers, size_t len, uint8_t *out, size_t cap);
 ptrdiff_t lk_wrap_tcp_frame(const struct lk_frame *headers, const struct lk_tcp_options *options,
                             size_t len, uint8_t *out, size_t cap);
@@ -268,12 +272,13 @@ ptrdiff_t lk_wrap_tcp_frame(const struct lk_frame *headers, const struct lk_tcp_
 /* Returns the length of a TCP header with these options, 20 to 60, or LK_FAILED if they do not fit. */
 ptrdiff_t lk_tcp_header_len(const struct lk_tcp_options *options);
 
-/* Writes a whole frame with the ARP packet of `arp`, `src.addr` and `dst.addr`, which must be IPv4
- * addresses. */
+/* Writes a whole frame, 42 octets, with the ARP packet of `arp`, `src.addr` and `dst.addr`. Returns LK_FAILED
+ * if it does not fit, or if an address is no IPv4 address. */
 ptrdiff_t lk_emit_arp_frame(const struct lk_frame *headers, uint8_t *out, size_t cap);
 
-/* The layers one by one. Each writes one header, or a header with its payload, at `out[0]`. A checksum is
- * computed unless `computed` is 0; then it is 0. */
+/* The layers one by one. Each writes one header, or a header with its payload, at `out[0]`, and returns
+ * LK_FAILED if it does not fit into `cap` octets. A checksum is computed unless `computed` is 0; then it
+ * is 0. */
 
 /* Writes an Ethernet header, 14 octets. */
 ptrdiff_t lk_emit_ethernet(const struct lk_ethernet *header, uint8_t *out, size_t cap);
@@ -302,7 +307,7 @@ ptrdiff_t lk_emit_udp(const struct lk_endpoint *src, const struct lk_endpoint *d
 
 /* Writes a TCP header with its options and the `len` octets at `ptr`, together at most 65535. Options and
  * flags are rejected as by lk_emit_tcp_frame. `ack_number` and `urgent_at` are written whatever the flags
- * are. SACK ranges beside `sack_permitted` are not written; zeros stand in their place. */
+ * are. SACK ranges beside `sack_permitted` are not written; zeros are written instead. */
 ptrdiff_t lk_emit_tcp(const struct lk_tcp *header, const struct lk_tcp_options *options,
                       const struct lk_endpoint *src, const struct lk_endpoint *dst, const uint8_t *ptr,
                       size_t len, int computed, uint8_t *out, size_t cap);
@@ -322,7 +327,7 @@ uint16_t lk_checksum_update(uint16_t checksum, uint16_t before, uint16_t after);
 /* Returns the number `steps` after `seq`. */
 uint32_t lk_seq_add(uint32_t seq, uint32_t steps);
 
-/* Returns how far `a` is after `b`; below 0 if it is before `b`. */
+/* Returns how far `a` is after `b`; below 0 if it is before `b`. At a distance of 2^31 it is -2^31. */
 int32_t lk_seq_distance(uint32_t a, uint32_t b);
 
 /* Returns -1 if `a` is before `b`, 0 if they are equal, 1 if it is after. At a distance of 2^31 each is
@@ -332,8 +337,8 @@ int lk_seq_compare(uint32_t a, uint32_t b);
 /* ---- rebuilding ---- */
 
 /* Parses an Ethernet frame, emits each header again from its values, and returns the length of this
- * rebuilt frame, which is at most `len`. So it fits whenever `cap` is at least `len`. Returns LK_FAILED if
- * `len` is less than 14, or if the rebuilt frame does not fit into `cap` octets.
+ * rebuilt frame, which is at most `len`: a `cap` of `len` always suffices. Returns LK_FAILED if `len` is
+ * less than 14, or if the rebuilt frame does not fit into `cap` octets.
  *
  * A rebuilt frame has new lengths and checksums, and no padding. These values change:
  *
