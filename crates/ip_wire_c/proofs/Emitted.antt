@@ -12,15 +12,16 @@ use Rattle.ip_wire_c.specs.declared.types.Tcp.{Tcp}
 
 -- ---- IP
 
-pub ipv4-fields : (h : Ip) (b0 b1 b2 b3 b4 b5 b6 : List ℕ) → b1 ≡ with_field b0 8 6 h.dscp → b2 ≡ with_field b1 14 2 h.ecn → b3 ≡ with_field b2 32 16 h.ident
-    → b4 ≡ with_field b3 49 1 (flag (is_yes h.dont_fragment)) → b5 ≡ with_field b4 50 1 (flag (is_yes h.more_fragments)) → b6 ≡ with_field b5 51 13 (h.fragment_offset / 8)
+pub ipv4-fields : (h : Ip) (b0 b1 b2 b3 b4 b5 b6 : List ℕ) → b1 ≡ with_field b0 51 13 (h.fragment_offset / 8)
+    → b2 ≡ with_field b1 49 1 (flag (is_yes h.dont_fragment)) → b3 ≡ with_field b2 50 1 (flag (is_yes h.more_fragments))
+    → b4 ≡ with_field b3 8 6 h.dscp → b5 ≡ with_field b4 14 2 h.ecn → b6 ≡ with_field b5 32 16 h.ident
     → b6 ≡ with_ipv4_fields h b0
 ipv4-fields h b0 b1 b2 b3 b4 b5 b6 e1 e2 e3 e4 e5 e6 =
-    let f2 = e2 ∙ ap (λ b. with_field b 14 2 h.ecn) e1 in
-    let f3 = e3 ∙ ap (λ b. with_field b 32 16 h.ident) f2 in
-    let f4 = e4 ∙ ap (λ b. with_field b 49 1 (flag (is_yes h.dont_fragment))) f3 in
-    let f5 = e5 ∙ ap (λ b. with_field b 50 1 (flag (is_yes h.more_fragments))) f4 in
-    e6 ∙ ap (λ b. with_field b 51 13 (h.fragment_offset / 8)) f5
+    let f2 = e2 ∙ ap (λ b. with_field b 49 1 (flag (is_yes h.dont_fragment))) e1 in
+    let f3 = e3 ∙ ap (λ b. with_field b 50 1 (flag (is_yes h.more_fragments))) f2 in
+    let f4 = e4 ∙ ap (λ b. with_field b 8 6 h.dscp) f3 in
+    let f5 = e5 ∙ ap (λ b. with_field b 14 2 h.ecn) f4 in
+    e6 ∙ ap (λ b. with_field b 32 16 h.ident) f5
 
 pub ipv6-fields : (h : Ip) (b0 b1 b2 : List ℕ) → b1 ≡ with_field b0 4 8 (4 * h.dscp + h.ecn) → b2 ≡ with_field b1 12 20 h.flow_label → b2 ≡ with_ipv6_fields h b0
 ipv6-fields h b0 b1 b2 e1 e2 = e2 ∙ ap (λ b. with_field b 12 20 h.flow_label) e1

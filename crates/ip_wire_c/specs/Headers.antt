@@ -111,10 +111,10 @@ ip_value h number src dst len =
 -- the bytes of an IPv4 header with the fields that its values lack
 abbrev pub with_ipv4_fields : Ip → List ℕ → List ℕ
 with_ipv4_fields h bytes =
-    let marked = with_field (with_field bytes 8 6 h.dscp) 14 2 h.ecn in
-    let named = with_field marked 32 16 h.ident in
-    let flagged = with_field (with_field named 49 1 (flag (is_yes h.dont_fragment))) 50 1 (flag (is_yes h.more_fragments)) in
-    with_field flagged 51 13 (h.fragment_offset / 8)
+    let placed = with_field bytes 51 13 (h.fragment_offset / 8) in
+    let flagged = with_field (with_field placed 49 1 (flag (is_yes h.dont_fragment))) 50 1 (flag (is_yes h.more_fragments)) in
+    let marked = with_field (with_field flagged 8 6 h.dscp) 14 2 h.ecn in
+    with_field marked 32 16 h.ident
 
 -- the bytes of an IPv6 header with the fields that its values lack: traffic class and flow label
 abbrev pub with_ipv6_fields : Ip → List ℕ → List ℕ

@@ -100,7 +100,8 @@ fn emit_ip(
 {
     match src.version {
         4 => emit_ip_from(4, header, src, dst, payload_len, computed, out),
-        version => emit_ip_from(version, header, src, dst, payload_len, computed, out),
+        6 => emit_ip_from(6, header, src, dst, payload_len, computed, out),
+        _ => None,
     }
 }
 

@@ -159,7 +159,8 @@ impl FrameFields {
     {
         match self.src.addr.version {
             4 => self.emit_udp_from(4, payload, out),
-            version => self.emit_udp_from(version, payload, out),
+            6 => self.emit_udp_from(6, payload, out),
+            _ => None,
         }
     }
 
@@ -189,7 +190,8 @@ impl FrameFields {
     {
         match self.src.addr.version {
             4 => self.emit_udp_around_from(4, payload_len, out),
-            version => self.emit_udp_around_from(version, payload_len, out),
+            6 => self.emit_udp_around_from(6, payload_len, out),
+            _ => None,
         }
     }
 
@@ -222,7 +224,8 @@ impl FrameFields {
     {
         match self.src.addr.version {
             4 => self.emit_tcp_from(4, options, payload, out),
-            version => self.emit_tcp_from(version, options, payload, out),
+            6 => self.emit_tcp_from(6, options, payload, out),
+            _ => None,
         }
     }
 
@@ -265,7 +268,8 @@ impl FrameFields {
     {
         match self.src.addr.version {
             4 => self.emit_tcp_around_from(4, options, payload_len, out),
-            version => self.emit_tcp_around_from(version, options, payload_len, out),
+            6 => self.emit_tcp_around_from(6, options, payload_len, out),
+            _ => None,
         }
     }
 

@@ -124,12 +124,12 @@ impl Ip {
         let (front, _) = out.split_at_mut(IPV4_HEADER_LEN);
         let mut packet = Ipv4PacketMut::new_unchecked(front);
         value.emit(&mut packet, &ChecksumCapabilities::ignored());
+        packet.set_frag_offset(self.fragment_offset);
+        packet.set_dont_frag(self.dont_fragment != 0);
+        packet.set_more_frags(self.more_fragments != 0);
         packet.set_dscp(self.dscp);
         packet.set_ecn(self.ecn);
         packet.set_ident(self.ident as u16);
-        packet.set_dont_frag(self.dont_fragment != 0);
-        packet.set_more_frags(self.more_fragments != 0);
-        packet.set_frag_offset(self.fragment_offset);
         if computed {
             packet.fill_checksum();
         }

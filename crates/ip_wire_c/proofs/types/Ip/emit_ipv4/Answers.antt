@@ -15,9 +15,9 @@ returns-then-computed c =
     let caps : computes c.ignored.result.ipv4 ≡ false = search rules in
     let part : packet_bytes_mut c.new_unchecked-packet.result ≡ take 20 old = search rules in
     let start = front_filled (bytes_of v false) old c.emit.new.packet.buffer.now 20 (search rules) (rw (caps, part) at c.emit.ensures.holds) in
-    let fields = ipv4-fields h c.emit.new.packet.buffer.now c.set_dscp.new.self.buffer.now c.set_ecn.new.self.buffer.now c.set_ident.new.self.buffer.now
-    c.set_dont_frag.new.self.buffer.now c.set_more_frags.new.self.buffer.now c.set_frag_offset.new.self.buffer.now
-    c.set_dscp.ensures.holds c.set_ecn.ensures.holds c.set_ident.ensures.holds c.set_dont_frag.ensures.holds c.set_more_frags.ensures.holds c.set_frag_offset.ensures.holds in
+    let fields = ipv4-fields h c.emit.new.packet.buffer.now c.set_frag_offset.new.self.buffer.now c.set_dont_frag.new.self.buffer.now c.set_more_frags.new.self.buffer.now
+    c.set_dscp.new.self.buffer.now c.set_ecn.new.self.buffer.now c.set_ident.new.self.buffer.now
+    c.set_frag_offset.ensures.holds c.set_dont_frag.ensures.holds c.set_more_frags.ensures.holds c.set_dscp.ensures.holds c.set_ecn.ensures.holds c.set_ident.ensures.holds in
     let unsummed = fields ∙ ap (with_ipv4_fields h) start in
     let summed = c.fill_checksum.ensures.holds ∙ ap with_checksum unsummed in
     let whole = with_ipv4_fields h (bytes_of v false) in
