@@ -190,7 +190,7 @@ enum lk_reason {
 
 /* What a checksum says. */
 enum lk_verdict {
-    LK_NO_CHECKSUM,     /* there is no such header */
+    LK_NO_CHECKSUM,     /* there is no such header, or a UDP header whose length field does not fit */
     LK_RIGHT,
     LK_WRONG,
     LK_LEFT_OUT,        /* UDP over IPv4: the sender computed none */
@@ -223,7 +223,9 @@ struct lk_frame {
  * - The payload begins behind the last header that was read. It ends at the length in this header or in
  *   one before it, so padding is no payload.
  * - At a rejected header the values of the headers before it are stored, and the payload begins at the
- *   rejected header. The fields of a rejected UDP or TCP header are stored too, unless it is too short.
+ *   rejected header. The fields of a rejected UDP or TCP header are stored too, unless it is too short,
+ *   and its checksum is verified. For a UDP header that is rejected as LK_BAD_LENGTH the verdict is
+ *   LK_NO_CHECKSUM, because it does not say which octets are summed.
  * - Behind an unknown EtherType or protocol all bytes are payload, and so are IPv6 extension headers.
  *   IPv4 options are skipped. Of an IPv6 fragment header that follows the IPv6 header the values are
  *   stored, and the payload begins at it. */

@@ -167,6 +167,44 @@ static void transport_layer(void)
     check(__LINE__, lk_tcp_header_len(&none) == 20 && lk_tcp_header_len(&all) == 48 && lk_tcp_header_len(&permitted) == 40);
 }
 
+/* The header in `out` is 60 octets long, and has these options. */
+static int reads_back(const struct lk_tcp_options *options)
+{
+    struct lk_tcp_options found;
+    memset(&found, OLD, sizeof found);
+    return lk_tcp_header_len(options) == 60 && lk_read_tcp_options(out, 60, &found) == 1 && memcmp(&found, options, sizeof found) == 0;
+}
+
+/* The longest headers, 60 octets. Options for which a header would have 64 are in tests/refusals.c. */
+static void longest_headers(void)
+{
+    struct lk_endpoint src = endpoint("192.0.2.1:49152"), dst = endpoint("198.51.100.7:443");
+    struct lk_endpoint src6 = endpoint("[2001:db8::1]:49152"), dst6 = endpoint("[2001:db8:ffff::7]:443");
+    struct lk_tcp data = tcp(LK_PSH + LK_ACK + LK_ECE, 0xcafe);
+    struct lk_tcp_options four, three;
+    memset(&four, 0, sizeof four);
+    four.has_max_seg_size = 1;
+    four.max_seg_size = 1460;
+    for (uint8_t i = 0; i < 3; i++)
+        four.sack_ranges[i].left = 0x10203040u + i, four.sack_ranges[i].right = 0x50607080u + i;
+    three = four;
+    three.sack_range_count = 3;
+    three.has_timestamp = 1;
+    three.tsval = 0x01020304;
+    three.tsecr = 0x0a0b0c0d;
+    four.sack_ranges[3].left = 0x10203043, four.sack_ranges[3].right = 0x50607083;
+    four.sack_range_count = 4;
+    WRITES("c00001bb89abcdef12345678f058feed7c43cafe020405b40522102030405060708010203041506070811020304250607082"
+           "10203043506070830000de01ad02be", lk_emit_tcp(&data, &four, &src, &dst, payload, 5, 1, out, ROOM));
+    check(__LINE__, reads_back(&four));
+    WRITES("c00001bb89abcdef12345678f058feed5b6acafe020405b4051a102030405060708010203041506070811020304250607082"
+           "080a010203040a0b0c0dde01ad02be", lk_emit_tcp(&data, &three, &src, &dst, payload, 5, 1, out, ROOM));
+    check(__LINE__, reads_back(&three));
+    WRITES("c00001bb89abcdef12345678f058feedec2ccafe020405b4051a102030405060708010203041506070811020304250607082"
+           "080a010203040a0b0c0dde01ad02be", lk_emit_tcp(&data, &three, &src6, &dst6, payload, 5, 1, out, ROOM));
+    check(__LINE__, reads_back(&three));
+}
+
 static struct lk_frame headers(const char *src, const char *dst)
 {
     struct lk_frame frame;
@@ -299,6 +337,7 @@ int main(void)
     link_layer();
     network_layer();
     transport_layer();
+    longest_headers();
     frames();
     replies();
     texts();
