@@ -3,6 +3,7 @@
 #include <stdio.h>
 #include <string.h>
 #include "../c/ip_wire.h"
+#include "host_frames.h"
 
 enum { ROOM = 160, OLD = 0xa5 };
 
@@ -321,11 +322,35 @@ static void rebuild(void)
     REJECTS(lk_rebuild(frame, 13, out, ROOM));
 }
 
+static void answers(void)
+{
+    static const uint16_t ports[1] = {80};
+    struct lk_host host = asked_host(ports, 1), other;
+    NEEDS(42, cap, lk_host_answer(&host, arp_request, sizeof arp_request, out, cap));
+    NEEDS(46, cap, lk_host_answer(&host, ping, sizeof ping, out, cap));
+    NEEDS(74, cap, lk_host_answer(&host, syn, sizeof syn, out, cap));
+    NEEDS(94, cap, lk_host_answer(&host, syn6, sizeof syn6, out, cap));
+    NEEDS(74, cap, lk_host_answer(&host, ack6, sizeof ack6, out, cap));
+    other = host, other.ipv4 = host.ipv6;
+    REJECTS(lk_host_answer(&other, arp_request, sizeof arp_request, out, ROOM));
+    other = host, other.ipv6 = host.ipv4;
+    REJECTS(lk_host_answer(&other, arp_request, sizeof arp_request, out, ROOM));
+    other = host, other.ipv4 = no_version.addr;
+    REJECTS(lk_host_answer(&other, ping6, sizeof ping6, out, ROOM));
+    other = host, other.ipv6 = version260.addr;
+    REJECTS(lk_host_answer(&other, ping, sizeof ping, out, ROOM));
+    REJECTS(lk_host_answer(&other, bytes, sizeof bytes, out, ROOM));
+    /* no answer, so no room is needed */
+    clear();
+    check(__LINE__, lk_host_answer(&host, arp_reply, sizeof arp_reply, out, 0) == 0 && is_old_from(0));
+}
+
 static void null(void)
 {
     static const uint8_t zeros[14] = {0};
     struct lk_tcp_options none = no_options();
     struct lk_frame ipv4 = headers(&low4, &low4);
+    struct lk_host host = asked_host(NULL, 0);
     uint8_t expected[ROOM];
     check(__LINE__, lk_checksum(NULL, 0) == 0);
     clear();
@@ -352,6 +377,9 @@ static void null(void)
     check(__LINE__, lk_emit_udp_frame(&ipv4, NULL, 0, NULL, 0) == LK_FAILED && lk_wrap_udp_frame(&ipv4, 0, NULL, 0) == LK_FAILED);
     check(__LINE__, lk_emit_arp_frame(&ipv4, NULL, 0) == LK_FAILED);
     check(__LINE__, lk_addr_print(&low4.addr, NULL, 0) == LK_FAILED && lk_ethernet_print(hardware, NULL, 0) == LK_FAILED);
+    clear();
+    check(__LINE__, lk_host_answer(&host, syn, sizeof syn, out, ROOM) == 54 && memcmp(out, syn_reset, sizeof syn_reset) == 0);
+    check(__LINE__, lk_host_answer(&host, syn, sizeof syn, NULL, 0) == LK_FAILED && lk_host_answer(&host, NULL, 0, NULL, 0) == 0);
 }
 
 int main(void)
@@ -365,6 +393,7 @@ int main(void)
     print();
     read_texts();
     rebuild();
+    answers();
     null();
     return failures != 0;
 }
