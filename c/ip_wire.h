@@ -191,7 +191,7 @@ enum lk_reason {
 
 /* What a checksum says. */
 enum lk_verdict {
-    LK_NO_CHECKSUM,     /* there is no such header */
+    LK_NO_CHECKSUM,     /* there is no such header, or a UDP header whose length field does not fit */
     LK_RIGHT,
     LK_WRONG,
     LK_LEFT_OUT,        /* UDP over IPv4: the sender computed none */
@@ -225,7 +225,9 @@ struct lk_frame {
  * - The payload begins behind the last header that was read. It ends at the length in this header or in
  *   one before it, so padding is no payload.
  * - At a rejected header the values of the headers before it are stored, and the payload begins at the
- *   rejected header. The fields of a rejected UDP or TCP header are stored too, unless it is too short.
+ *   rejected header. The fields of a rejected UDP or TCP header are stored too, unless it is too short,
+ *   and its checksum is verified. For a UDP header that is rejected as LK_BAD_LENGTH the verdict is
+ *   LK_NO_CHECKSUM, because it does not say which octets are summed.
  * - Behind an unknown EtherType or protocol all bytes are payload, and so are IPv6 extension headers.
  *   IPv4 options are skipped.
  * - If an IPv6 fragment header follows the IPv6 header directly, its values are stored, and the payload
@@ -361,6 +363,42 @@ int lk_seq_compare(uint32_t a, uint32_t b);
  * Copied unchanged are a fragment of an IPv4 packet, a packet that does not parse or has a wrong checksum,
  * and the payload of any other type or protocol. */
 ptrdiff_t lk_rebuild(const uint8_t *ptr, size_t len, uint8_t *out, size_t cap);
+
+/* ---- a host ---- */
+
+/* A host with one interface and no connections. */
+struct lk_host {
+    const uint16_t *open_ports; /* the open TCP ports */
+    size_t open_port_count;
+    struct lk_addr ipv4;        /* an IPv4 address */
+    struct lk_addr ipv6;        /* an IPv6 address */
+    uint8_t hardware[6];        /* an Ethernet address */
+    uint16_t echo_port;         /* the UDP port that echoes; 0: none */
+    /* what an open port sends */
+    uint32_t seq_number;        /* hard to guess, another for each connection (RFC 9293, section 3.4.1) */
+    uint32_t tsval;             /* the timestamp */
+    uint16_t window_len;        /* in octets; not scaled, because it is sent with SYN */
+    uint16_t max_seg_size;      /* in octets */
+    uint8_t window_scale;       /* in bits; more than 14 is sent as 14 */
+};
+
+/* Writes the answer of a host to an Ethernet frame. Returns its length, or 0 if the frame gets no answer.
+ * Returns LK_FAILED if the answer does not fit into `cap` octets, or if `ipv4` is no IPv4 address or `ipv6`
+ * no IPv6 address.
+ *
+ *   frame                                  answer
+ *   an ARP request for `ipv4`              an ARP reply
+ *   a UDP packet to `echo_port`            the same payload to its sender (RFC 862)
+ *   SYN without ACK to an open TCP port    SYN and ACK, with the options of the SYN that `lk_host` has
+ *   another TCP segment                    as RFC 9293, section 3.10.7.1 and 3.10.7.2 say: RST, or none
+ *
+ * - A frame gets an answer only if it is parsed as a whole and each checksum in it is valid.
+ * - It must be for this host alone, and from unicast addresses. An ARP request may be a broadcast.
+ * - A UDP packet gets none if its source port is 0 or `echo_port`, so two hosts do not echo for ever.
+ * - No connection is kept. What follows the SYN on an open port gets RST.
+ * - ICMPv6 is not answered. So a neighbour must know the link address of `ipv6` by other means. */
+ptrdiff_t lk_host_answer(const struct lk_host *host, const uint8_t *ptr, size_t len, uint8_t *out,
+                         size_t cap);
 
 #ifdef __cplusplus
 }

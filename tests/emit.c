@@ -3,6 +3,7 @@
 #include <stdio.h>
 #include <string.h>
 #include "../c/ip_wire.h"
+#include "host_frames.h"
 
 enum { ROOM = 256, OLD = 0xa5 };
 
@@ -22,16 +23,25 @@ static int digit(char c)
     return c <= '9' ? c - '0' : c - 'a' + 10;
 }
 
-/* Whether `out` holds the bytes of these hex digits, and behind them what it held before. */
-static int holds(const char *hex, ptrdiff_t len)
+/* Whether `out` holds these bytes, and behind them what it held before. */
+static int holds_bytes(const uint8_t *bytes, size_t n, ptrdiff_t len)
 {
-    size_t n = strlen(hex) / 2;
-    if (len != (ptrdiff_t)n)
+    if (len != (ptrdiff_t)n || memcmp(out, bytes, n) != 0)
         return 0;
-    for (size_t i = 0; i < sizeof out; i++)
-        if (out[i] != (i < n ? digit(hex[2 * i]) * 16 + digit(hex[2 * i + 1]) : OLD))
+    for (size_t i = n; i < sizeof out; i++)
+        if (out[i] != OLD)
             return 0;
     return 1;
+}
+
+/* The same for the bytes of these hex digits. */
+static int holds(const char *hex, ptrdiff_t len)
+{
+    uint8_t bytes[ROOM];
+    size_t n = strlen(hex) / 2;
+    for (size_t i = 0; i < n; i++)
+        bytes[i] = (uint8_t)(digit(hex[2 * i]) * 16 + digit(hex[2 * i + 1]));
+    return holds_bytes(bytes, n, len);
 }
 
 /* A call writes the bytes of these hex digits. */
@@ -167,6 +177,44 @@ static void transport_layer(void)
     check(__LINE__, lk_tcp_header_len(&none) == 20 && lk_tcp_header_len(&all) == 48 && lk_tcp_header_len(&permitted) == 40);
 }
 
+/* The header in `out` is 60 octets long, and has these options. */
+static int reads_back(const struct lk_tcp_options *options)
+{
+    struct lk_tcp_options found;
+    memset(&found, OLD, sizeof found);
+    return lk_tcp_header_len(options) == 60 && lk_read_tcp_options(out, 60, &found) == 1 && memcmp(&found, options, sizeof found) == 0;
+}
+
+/* The longest headers, 60 octets. Options for which a header would have 64 are in tests/refusals.c. */
+static void longest_headers(void)
+{
+    struct lk_endpoint src = endpoint("192.0.2.1:49152"), dst = endpoint("198.51.100.7:443");
+    struct lk_endpoint src6 = endpoint("[2001:db8::1]:49152"), dst6 = endpoint("[2001:db8:ffff::7]:443");
+    struct lk_tcp data = tcp(LK_PSH + LK_ACK + LK_ECE, 0xcafe);
+    struct lk_tcp_options four, three;
+    memset(&four, 0, sizeof four);
+    four.has_max_seg_size = 1;
+    four.max_seg_size = 1460;
+    for (uint8_t i = 0; i < 3; i++)
+        four.sack_ranges[i].left = 0x10203040u + i, four.sack_ranges[i].right = 0x50607080u + i;
+    three = four;
+    three.sack_range_count = 3;
+    three.has_timestamp = 1;
+    three.tsval = 0x01020304;
+    three.tsecr = 0x0a0b0c0d;
+    four.sack_ranges[3].left = 0x10203043, four.sack_ranges[3].right = 0x50607083;
+    four.sack_range_count = 4;
+    WRITES("c00001bb89abcdef12345678f058feed7c43cafe020405b40522102030405060708010203041506070811020304250607082"
+           "10203043506070830000de01ad02be", lk_emit_tcp(&data, &four, &src, &dst, payload, 5, 1, out, ROOM));
+    check(__LINE__, reads_back(&four));
+    WRITES("c00001bb89abcdef12345678f058feed5b6acafe020405b4051a102030405060708010203041506070811020304250607082"
+           "080a010203040a0b0c0dde01ad02be", lk_emit_tcp(&data, &three, &src, &dst, payload, 5, 1, out, ROOM));
+    check(__LINE__, reads_back(&three));
+    WRITES("c00001bb89abcdef12345678f058feedec2ccafe020405b4051a102030405060708010203041506070811020304250607082"
+           "080a010203040a0b0c0dde01ad02be", lk_emit_tcp(&data, &three, &src6, &dst6, payload, 5, 1, out, ROOM));
+    check(__LINE__, reads_back(&three));
+}
+
 static struct lk_frame headers(const char *src, const char *dst)
 {
     struct lk_frame frame;
@@ -221,6 +269,60 @@ static void replies(void)
     check(__LINE__, reply.network_offset == frame.network_offset && reply.transport_checksum == frame.transport_checksum);
     lk_reply(&reply, &back);
     check(__LINE__, memcmp(&back.src, &frame.src, sizeof frame.src) == 0 && memcmp(&back.ethernet, &ethernet, sizeof ethernet) == 0);
+}
+
+/* The host answers a frame by these bytes; by 0 there is no answer. */
+static void answers(int line, const struct lk_host *host, const uint8_t *frame, size_t len, const uint8_t *answer, size_t answer_len)
+{
+    memset(out, OLD, sizeof out);
+    ptrdiff_t written = lk_host_answer(host, frame, len, out, ROOM);
+    check(line, holds_bytes(answer, answer_len, written));
+}
+
+#define ANSWERS(host, frame, answer) answers(__LINE__, host, frame, sizeof frame, answer, sizeof answer)
+#define IGNORES(host, frame) answers(__LINE__, host, frame, sizeof frame, frame, 0)
+
+static void hosts(void)
+{
+    static const uint16_t ports[2] = {22, 80};
+    struct lk_host open = asked_host(ports, 2), closed = asked_host(ports, 1), mute = closed;
+    ANSWERS(&open, arp_request, arp_reply);
+    ANSWERS(&open, ping, pong);
+    ANSWERS(&open, ping6, pong6);
+    ANSWERS(&open, syn, syn_ack);
+    ANSWERS(&open, syn6, syn_ack6);
+    ANSWERS(&open, ack6, ack_reset6);
+    ANSWERS(&closed, syn, syn_reset);
+    ANSWERS(&closed, syn6, syn_reset6);
+    IGNORES(&open, arp_reply);
+    IGNORES(&open, pong);
+    IGNORES(&open, syn_reset);
+    mute.echo_port = 0;
+    IGNORES(&mute, ping);
+    mute.echo_port = 9;
+    IGNORES(&mute, ping6);
+    mute = open, mute.ipv4.octets[3] = 3;
+    IGNORES(&mute, arp_request);
+    IGNORES(&mute, syn);
+    mute = open, mute.ipv6.octets[15] = 3;
+    IGNORES(&mute, syn6);
+    mute = open, mute.hardware[5] = 3;
+    IGNORES(&mute, ping);
+}
+
+/* A host ignores a frame that is cut off, or in which a bit of an octet behind the Ethernet header is wrong. */
+static void damaged_frames(void)
+{
+    static const uint16_t ports[1] = {80};
+    struct lk_host host = asked_host(ports, 1);
+    for (size_t len = 0; len < sizeof syn6; len++)
+        answers(__LINE__, &host, syn6, len, out, 0);
+    for (size_t at = 14; at < sizeof syn; at++) {
+        uint8_t damaged[sizeof syn];
+        memcpy(damaged, syn, sizeof damaged);
+        damaged[at] ^= 1;
+        IGNORES(&host, damaged);
+    }
 }
 
 /* The text is read, and printed as this one; `member` says whether 10.255.0.1 is in the block. */
@@ -299,8 +401,11 @@ int main(void)
     link_layer();
     network_layer();
     transport_layer();
+    longest_headers();
     frames();
     replies();
+    hosts();
+    damaged_frames();
     texts();
     classes();
     numbers();

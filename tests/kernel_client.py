@@ -2,6 +2,7 @@
 """The kernel's side of tests/kernel.
 
 tests/kernel_client.py host DEVICE     exchanges packets with examples/host.c on this TAP device
+tests/kernel_client.py proved DEVICE   the same with examples/proved_host.c, which keeps no connection
 tests/kernel_client.py bridge PROCESS  sends TCP through examples/bridge.c to the namespace of this process
 tests/kernel_client.py loss PROCESS    the same where packets are lost
 
@@ -183,10 +184,13 @@ def checksum(data):
 
 
 class Wire:
-    """Frames to the host on a TAP device, over one version of IP."""
+    """Frames to a host on a TAP device, over one version of IP."""
 
-    def __init__(self, device, family, own, host):
+    def __init__(self, device, family, own, host, is_proved):
         self.version = 4 if family == socket.AF_INET else 6
+        self.is_proved = is_proved
+        # The proved host has one segment size for both versions.
+        self.max_seg_size = MTU - (60 if is_proved or self.version == 6 else 40)
         self.addresses = socket.inet_pton(family, own) + socket.inet_pton(family, host)
         self.sock = socket.socket(socket.AF_PACKET, socket.SOCK_RAW, socket.htons(3))
         self.sock.bind((device, 0))
@@ -271,7 +275,7 @@ def wire_syn(wire):
         options += b"\x04\x02\x01\x01" * (chosen >> 2 & 1) + (b"\x01\x01\x08\x0a" + stamp + bytes(4)) * (chosen >> 3 & 1)
         got = wire.answer(wire.frame(socket.IPPROTO_TCP, segment(port, seq, 0, SYN, options), 16), ANSWERED) or bytes(20)
         found = options_of(got)
-        expected = {2: struct.pack(">H", MTU - (40 if wire.version == 4 else 60))}
+        expected = {2: struct.pack(">H", wire.max_seg_size)}
         if chosen & 2:
             expected[3] = b"\x03"
         if chosen & 4:
@@ -286,13 +290,15 @@ def wire_syn(wire):
 
 
 def wire_reset(wire):
-    """Segments of no connection, with each set of flags (RFC 9293, section 3.10.7.1)."""
+    """Segments of no connection, with each set of flags (RFC 9293, section 3.10.7.1). The proved host parses no
+    segment with both SYN and FIN."""
     for flags in range(64):
+        is_ignored = flags & RST or (wire.is_proved and flags & SYN and flags & FIN)
         for data in (b"", b"abc"):
             seq, ack = random.randrange(2**32), random.randrange(2**32)
             frame = wire.frame(socket.IPPROTO_TCP, segment(41000, seq, ack, flags, data=data, to=CLOSED), 16)
-            got = wire.answer(frame, SILENT if flags & RST else ANSWERED)
-            if flags & RST:
+            got = wire.answer(frame, SILENT if is_ignored else ANSWERED)
+            if is_ignored:
                 expected = None
             elif flags & ACK:
                 expected = (CLOSED, 41000, ack, 0, 0x50, RST)
@@ -302,11 +308,26 @@ def wire_reset(wire):
             check("RST", (got and struct.unpack(">HHIIBB", got[:14])) == expected, (wire.version, flags, got))
 
 
-def with_host(device):
+def tcp_answered(family, address):
+    """The proved host answers a SYN to an open port, and resets what comes then."""
+    for _ in range(40):
+        try:
+            with socket.create_connection((address, ECHO), timeout=3) as sock:
+                sock.recv(1)
+            answered = False
+        except ConnectionResetError:
+            answered = True
+        except OSError:
+            answered = False
+        check("TCP answered", answered, address)
+
+
+def with_host(device, is_proved):
+    connected = (tcp_answered,) if is_proved else (tcp_echo, tcp_turns, tcp_at_once, tcp_aborted)
     for family, own, host in HOSTS:
-        for exchange in (udp_lengths, udp_checksums, tcp_echo, tcp_turns, tcp_at_once, tcp_refused, tcp_aborted):
+        for exchange in (udp_lengths, udp_checksums, *connected, tcp_refused):
             exchange(family, host)
-        wire = Wire(device, family, own, host)
+        wire = Wire(device, family, own, host, is_proved)
         for exchange in (wire_udp, wire_syn, wire_reset):
             exchange(wire)
 
@@ -371,8 +392,8 @@ def main():
         print(kernel_errors())
         return 0
     before = kernel_errors()
-    if mode == "host":
-        with_host(place)
+    if mode in ("host", "proved"):
+        with_host(place, mode == "proved")
     else:
         through_bridge(place, bridged if mode == "bridge" else lossy)
     check("errors that the kernel counts", kernel_errors() == before == {}, kernel_errors())

@@ -3,6 +3,7 @@
 #include <stdio.h>
 #include <string.h>
 #include "../c/ip_wire.h"
+#include "host_frames.h"
 
 enum { ROOM = 160, OLD = 0xa5 };
 
@@ -107,18 +108,15 @@ static void network_layer(void)
 
 static void transport_layer(void)
 {
-    static const uint8_t longest[65536] = {0};
     struct lk_tcp_options none = no_options(), options = no_options();
     struct lk_tcp changed = tcp;
     NEEDS(12, cap, lk_emit_udp(&low4, &low4, bytes, 4, 1, out, cap));
     NEEDS(12, cap, lk_emit_udp(&low6, &low6, bytes, 4, 1, out, cap));
     REJECTS(lk_emit_udp(&low4, &low6, bytes, 4, 1, out, ROOM));
     REJECTS(lk_emit_udp(&no_version, &no_version, bytes, 4, 1, out, ROOM));
-    REJECTS(lk_emit_udp(&low4, &low4, longest, 65528, 1, out, ROOM));
     NEEDS(24, cap, lk_emit_tcp(&tcp, &none, &low4, &low4, bytes, 4, 1, out, cap));
     NEEDS(24, cap, lk_emit_tcp(&tcp, &none, &low6, &low6, bytes, 4, 1, out, cap));
     REJECTS(lk_emit_tcp(&tcp, &none, &low6, &low4, bytes, 4, 1, out, ROOM));
-    REJECTS(lk_emit_tcp(&tcp, &none, &low4, &low4, longest, 65516, 1, out, ROOM));
     for (int flags = 0; flags < 256; flags++) {
         int controls = (flags & LK_FIN) / LK_FIN + (flags & LK_SYN) / LK_SYN + (flags & LK_RST) / LK_RST;
         changed.flags = (uint8_t)flags;
@@ -160,7 +158,6 @@ static void rejects_frames(const struct lk_frame *frame)
 
 static void frames(void)
 {
-    static const uint8_t longest[65536] = {0};
     struct lk_tcp_options none = no_options(), many = no_options();
     struct lk_frame ipv4 = headers(&low4, &low4), ipv6 = headers(&low6, &low6), mixed = headers(&low4, &low6), other;
     many.sack_range_count = 5;
@@ -191,9 +188,55 @@ static void frames(void)
     REJECTS(lk_wrap_tcp_frame(&other, &none, 4, out, ROOM));
     REJECTS(lk_emit_tcp_frame(&ipv4, &many, bytes, 4, out, ROOM));
     REJECTS(lk_wrap_tcp_frame(&ipv4, &many, 4, out, ROOM));
-    REJECTS(lk_emit_udp_frame(&ipv4, longest, 65508, out, ROOM));
+    many.sack_range_count = 4, many.has_max_seg_size = many.has_window_scale = 1; /* 41 octets */
+    REJECTS(lk_emit_tcp_frame(&ipv4, &many, bytes, 4, out, ROOM));
+    REJECTS(lk_wrap_tcp_frame(&ipv4, &many, 4, out, ROOM));
     REJECTS(lk_wrap_udp_frame(&ipv6, (size_t)-1, out, ROOM));
     REJECTS(lk_wrap_tcp_frame(&ipv6, &none, (size_t)-1, out, ROOM));
+}
+
+/* More room than the longest packet needs. */
+static uint8_t much_room[65536 + 80];
+
+static int is_all_old(void)
+{
+    for (size_t i = 0; i < sizeof much_room; i++)
+        if (much_room[i] != OLD)
+            return 0;
+    return 1;
+}
+
+/* A call writes `written` octets with a payload of `most` octets. It rejects one octet more, though there is
+ * room for it, and leaves all of `much_room`. */
+#define AT_MOST(most, written, len, call) \
+    do { \
+        size_t len = (most); \
+        check(__LINE__, (call) == (written)); \
+        len = (most) + 1; \
+        memset(much_room, OLD, sizeof much_room); \
+        check(__LINE__, (call) == LK_FAILED && is_all_old()); \
+    } while (0)
+
+/* A packet or segment has at most 65,535 octets, and of IPv4 with its header. */
+static void longest(void)
+{
+    static const uint8_t zeros[65536] = {0};
+    const size_t cap = sizeof much_room;
+    struct lk_tcp_options none = no_options(), full = no_options();
+    struct lk_frame ipv4 = headers(&low4, &low4), ipv6 = headers(&low6, &low6);
+    full.sack_range_count = 4, full.has_max_seg_size = 1; /* a header of 60 octets */
+    AT_MOST(65527, 65535, len, lk_emit_udp(&low4, &low4, zeros, len, 1, much_room, cap));
+    AT_MOST(65527, 65535, len, lk_emit_udp(&low6, &low6, zeros, len, 1, much_room, cap));
+    AT_MOST(65515, 65535, len, lk_emit_tcp(&tcp, &none, &low4, &low4, zeros, len, 1, much_room, cap));
+    AT_MOST(65475, 65535, len, lk_emit_tcp(&tcp, &full, &low6, &low6, zeros, len, 1, much_room, cap));
+    AT_MOST(65507, 14 + 65535, len, lk_emit_udp_frame(&ipv4, zeros, len, much_room, cap));
+    AT_MOST(65527, 54 + 65535, len, lk_emit_udp_frame(&ipv6, zeros, len, much_room, cap));
+    AT_MOST(65495, 14 + 65535, len, lk_emit_tcp_frame(&ipv4, &none, zeros, len, much_room, cap));
+    AT_MOST(65475, 54 + 65535, len, lk_emit_tcp_frame(&ipv6, &full, zeros, len, much_room, cap));
+    AT_MOST(65507, 14 + 65535, len, lk_wrap_udp_frame(&ipv4, len, much_room, cap));
+    AT_MOST(65527, 54 + 65535, len, lk_wrap_udp_frame(&ipv6, len, much_room, cap));
+    AT_MOST(65455, 14 + 65535, len, lk_wrap_tcp_frame(&ipv4, &full, len, much_room, cap));
+    AT_MOST(65515, 54 + 65535, len, lk_wrap_tcp_frame(&ipv6, &none, len, much_room, cap));
 }
 
 /* A call that failed, added to a length as if it had not: the next call rejects it. */
@@ -279,11 +322,35 @@ static void rebuild(void)
     REJECTS(lk_rebuild(frame, 13, out, ROOM));
 }
 
+static void answers(void)
+{
+    static const uint16_t ports[1] = {80};
+    struct lk_host host = asked_host(ports, 1), other;
+    NEEDS(42, cap, lk_host_answer(&host, arp_request, sizeof arp_request, out, cap));
+    NEEDS(46, cap, lk_host_answer(&host, ping, sizeof ping, out, cap));
+    NEEDS(74, cap, lk_host_answer(&host, syn, sizeof syn, out, cap));
+    NEEDS(94, cap, lk_host_answer(&host, syn6, sizeof syn6, out, cap));
+    NEEDS(74, cap, lk_host_answer(&host, ack6, sizeof ack6, out, cap));
+    other = host, other.ipv4 = host.ipv6;
+    REJECTS(lk_host_answer(&other, arp_request, sizeof arp_request, out, ROOM));
+    other = host, other.ipv6 = host.ipv4;
+    REJECTS(lk_host_answer(&other, arp_request, sizeof arp_request, out, ROOM));
+    other = host, other.ipv4 = no_version.addr;
+    REJECTS(lk_host_answer(&other, ping6, sizeof ping6, out, ROOM));
+    other = host, other.ipv6 = version260.addr;
+    REJECTS(lk_host_answer(&other, ping, sizeof ping, out, ROOM));
+    REJECTS(lk_host_answer(&other, bytes, sizeof bytes, out, ROOM));
+    /* no answer, so no room is needed */
+    clear();
+    check(__LINE__, lk_host_answer(&host, arp_reply, sizeof arp_reply, out, 0) == 0 && is_old_from(0));
+}
+
 static void null(void)
 {
     static const uint8_t zeros[14] = {0};
     struct lk_tcp_options none = no_options();
     struct lk_frame ipv4 = headers(&low4, &low4);
+    struct lk_host host = asked_host(NULL, 0);
     uint8_t expected[ROOM];
     check(__LINE__, lk_checksum(NULL, 0) == 0);
     clear();
@@ -310,6 +377,9 @@ static void null(void)
     check(__LINE__, lk_emit_udp_frame(&ipv4, NULL, 0, NULL, 0) == LK_FAILED && lk_wrap_udp_frame(&ipv4, 0, NULL, 0) == LK_FAILED);
     check(__LINE__, lk_emit_arp_frame(&ipv4, NULL, 0) == LK_FAILED);
     check(__LINE__, lk_addr_print(&low4.addr, NULL, 0) == LK_FAILED && lk_ethernet_print(hardware, NULL, 0) == LK_FAILED);
+    clear();
+    check(__LINE__, lk_host_answer(&host, syn, sizeof syn, out, ROOM) == 54 && memcmp(out, syn_reset, sizeof syn_reset) == 0);
+    check(__LINE__, lk_host_answer(&host, syn, sizeof syn, NULL, 0) == LK_FAILED && lk_host_answer(&host, NULL, 0, NULL, 0) == 0);
 }
 
 int main(void)
@@ -318,10 +388,12 @@ int main(void)
     network_layer();
     transport_layer();
     frames();
+    longest();
     mistakes();
     print();
     read_texts();
     rebuild();
+    answers();
     null();
     return failures != 0;
 }

@@ -2,6 +2,7 @@ mod Emitted
 mod FieldsOf
 mod Filled
 mod Framed
+mod HostAnswers
 mod StoredFrame
 mod StoredHeaders
 mod StoredParts

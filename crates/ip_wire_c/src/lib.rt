@@ -8,6 +8,7 @@ mod emit;
 mod faults;
 mod frame_fields;
 mod frames;
+mod host;
 mod ip;
 pub mod laws;
 mod numbers;

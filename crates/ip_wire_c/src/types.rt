@@ -135,3 +135,26 @@ pub struct FrameFields {
     pub ipv4_checksum: u8,
     pub transport_checksum: u8,
 }
+
+/// `struct lk_host`: a host with one interface and no connections.
+#[repr(C)]
+#[derive(Clone, Copy)]
+pub struct HostFields<'a> {
+    /// The open TCP ports.
+    pub open_ports: &'a [u16],
+    /// Of version 4.
+    pub ipv4: Addr,
+    /// Of version 6.
+    pub ipv6: Addr,
+    pub hardware: [u8; 6],
+    /// The UDP port of the echo service; 0 for no service.
+    pub echo_port: u16,
+    /// Of the SYN that an open port sends.
+    pub seq_number: u32,
+    /// Of its timestamp.
+    pub tsval: u32,
+    pub window_len: u16,
+    pub max_seg_size: u16,
+    /// At most 14 is sent.
+    pub window_scale: u8,
+}
