@@ -43,7 +43,7 @@ def c_calls(text):
 def c_structs(text):
     """Each struct as a name with its fields: name, type and length of an array."""
     for name, body in re.findall(r"struct (lk_\w+) {(.*?)};", without_comments(text), re.S):
-        yield name, re.findall(r"(\S[\w ]*?) (\w+)(?:\[(\d+)\])?;", body)
+        yield name, re.findall(r"(\S[\w ]*?(?: \*)?) ?\b(\w+)(?:\[(\d+)\])?;", body)
 
 
 class Sources:
@@ -78,11 +78,17 @@ class Sources:
 
     def structs(self):
         for rust, body in re.findall(r"#\[repr\(C\)\]\n(?:#[^\n]*\n)*pub struct (\w+)[^{]*{\n(.*?)\n}", self.text, re.S):
-            fields = re.findall(r"^    pub (\w+): (?:\[(\w+); (\w+)\]|(\w+)),", body, re.M)
-            yield self.name(rust).removeprefix("struct "), [
-                (self.name(array or plain), FIELDS.get(name, name), self.constants.get(length, length))
-                for name, array, length, plain in fields
-            ]
+            yield self.name(rust).removeprefix("struct "), list(self.fields(body))
+
+    def fields(self, body):
+        """The fields of a struct: a slice is a pointer and a count."""
+        declared = re.findall(r"^    pub (\w+): (?:\[(\w+); (\w+)\]|&'\w+ \[(\w+)\]|(\w+)),", body, re.M)
+        for name, array, length, slice_of, plain in declared:
+            if slice_of:
+                yield "const " + self.name(slice_of) + " *", name, ""
+                yield "size_t", name.removesuffix("s") + "_count", ""
+            else:
+                yield self.name(array or plain), FIELDS.get(name, name), self.constants.get(length, length)
 
 
 def differences(header, sources):
