@@ -7,14 +7,13 @@ ghost use Rattle.ip_wire.specs.IpAddress.{IsMulticast, IsUnicast, ReadsAddress, 
 ghost use Rattle.ip_wire.specs.IpCidr.{IsIn, ReadsCidr, cidr_text};
 ghost use Rattle.ip_wire.specs.Printed.{dashed, slash};
 ghost use Rattle.ip_wire.specs.Read.{ReadsEthernet};
-ghost use Rattle.ip_wire.specs.declared.IpAddress.TheVariants.{Ipv4, Ipv6};
 ghost use Rattle.ip_wire_c.specs.Addresses.{addr_of, block_of, block_struct, endpoint_of, endpoint_struct, ethernet_octets, ip_endpoint_of, ip_of, pair_of};
 ghost use Rattle.ip_wire_c.specs.Written.{Answers, IsRead, Writes};
 
 use crate::results::{FAILED, print};
 use crate::types::{Addr, Block, Endpoint};
 use arrayvec::ArrayString;
-use ip_wire::{EthernetAddress, IpAddress, IpCidr, IpEndpoint, Ipv6Address};
+use ip_wire::{EthernetAddress, IpAddress, IpCidr, IpEndpoint, Ipv4Address, Ipv6Address};
 use itoa::Buffer;
 
 impl Addr {
@@ -44,8 +43,8 @@ impl Addr {
         ensures { result ≡ ip_of self.now }
     {
         match self.version {
-            4 => Some(self.ipv4()),
-            6 => Some(self.ipv6()),
+            4 => Some(IpAddress::Ipv4(self.ipv4())),
+            6 => Some(IpAddress::Ipv6(self.ipv6())),
             _ => None,
         }
     }
@@ -63,18 +62,18 @@ impl Addr {
             return None;
         }
         match version {
-            4 => Some((self.ipv4(), other.ipv4())),
-            6 => Some((self.ipv6(), other.ipv6())),
+            4 => Some((IpAddress::Ipv4(self.ipv4()), IpAddress::Ipv4(other.ipv4()))),
+            6 => Some((IpAddress::Ipv6(self.ipv6()), IpAddress::Ipv6(other.ipv6()))),
             _ => None,
         }
     }
 
-    // The address, taken as one of IPv4.
+    /// The octets as an IPv4 address.
     #[inline(always)]
-    fn ipv4(&self) -> IpAddress
-        ensures { result ≡ Ipv4 (take 4 self.now.octets) }
+    pub fn ipv4(&self) -> Ipv4Address
+        ensures { result ≡ take 4 self.now.octets }
     {
-        IpAddress::v4(
+        Ipv4Address::new(
             self.octets[0],
             self.octets[1],
             self.octets[2],
@@ -82,12 +81,12 @@ impl Addr {
         )
     }
 
-    // The address, taken as one of IPv6.
+    /// The octets as an IPv6 address.
     #[inline(always)]
-    fn ipv6(&self) -> IpAddress
-        ensures { result ≡ Ipv6 self.now.octets }
+    pub fn ipv6(&self) -> Ipv6Address
+        ensures { result ≡ self.now.octets }
     {
-        IpAddress::Ipv6(Ipv6Address::from_octets(self.octets))
+        Ipv6Address::from_octets(self.octets)
     }
 }
 

@@ -45,7 +45,7 @@ pub extern "C" fn lk_emit_ip(
 ) -> isize
     ensures { Writes (ip_bytes header.now src.now dst.now payload_len (is_set computed)) out.old out.new result }
 {
-    written(emit_ip(header, src, dst, payload_len, is_set(computed), out))
+    written(header.emit_between(src, dst, payload_len, is_set(computed), out))
 }
 
 /// Writes a UDP header and its payload.
@@ -84,48 +84,6 @@ pub extern "C" fn lk_tcp_header_len(options: &TcpOptions) -> isize
     ensures { result ≡ returned (tcp_header_len options.now) }
 {
     written(options.header_len())
-}
-
-// Writes an IP header.
-#[inline(always)]
-fn emit_ip(
-    header: &Ip,
-    src: &Addr,
-    dst: &Addr,
-    payload_len: usize,
-    computed: bool,
-    out: &mut [u8],
-) -> Option<usize>
-    ensures { Fills (ip_bytes header.now src.now dst.now payload_len computed) out.old out.new result }
-{
-    match src.version {
-        4 => emit_ip_from(4, header, src, dst, payload_len, computed, out),
-        6 => emit_ip_from(6, header, src, dst, payload_len, computed, out),
-        _ => None,
-    }
-}
-
-// Writes an IP header with a source of this version.
-#[inline(always)]
-fn emit_ip_from(
-    version: u16,
-    header: &Ip,
-    src: &Addr,
-    dst: &Addr,
-    payload_len: usize,
-    computed: bool,
-    out: &mut [u8],
-) -> Option<usize>
-    requires { version ≡ src.now.version }
-    ensures { Fills (ip_bytes header.now src.now dst.now payload_len computed) out.old out.new result }
-{
-    let value = header.value(version, header.protocol, src, dst, payload_len)?;
-    let len = value.header_len();
-    if out.len() < len {
-        return None;
-    }
-    header.emit(&value, computed, out);
-    Some(len)
 }
 
 // Writes a UDP packet.

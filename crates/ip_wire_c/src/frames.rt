@@ -159,8 +159,7 @@ impl FrameFields {
     {
         match self.src.addr.version {
             4 => self.emit_udp_from(4, payload, out),
-            6 => self.emit_udp_from(6, payload, out),
-            _ => None,
+            version => self.emit_udp_from(version, payload, out),
         }
     }
 
@@ -190,8 +189,7 @@ impl FrameFields {
     {
         match self.src.addr.version {
             4 => self.emit_udp_around_from(4, payload_len, out),
-            6 => self.emit_udp_around_from(6, payload_len, out),
-            _ => None,
+            version => self.emit_udp_around_from(version, payload_len, out),
         }
     }
 
@@ -224,8 +222,7 @@ impl FrameFields {
     {
         match self.src.addr.version {
             4 => self.emit_tcp_from(4, options, payload, out),
-            6 => self.emit_tcp_from(6, options, payload, out),
-            _ => None,
+            version => self.emit_tcp_from(version, options, payload, out),
         }
     }
 
@@ -268,8 +265,7 @@ impl FrameFields {
     {
         match self.src.addr.version {
             4 => self.emit_tcp_around_from(4, options, payload_len, out),
-            6 => self.emit_tcp_around_from(6, options, payload_len, out),
-            _ => None,
+            version => self.emit_tcp_around_from(version, options, payload_len, out),
         }
     }
 

@@ -1,16 +1,19 @@
 //! IP headers of either version.
 
-ghost use Rattle.std.specs.Prelude.{◌≡◌, ◌≤◌, ◌<◌, ◌++◌, IfSome, drop, length, true};
+ghost use Rattle.std.specs.Prelude.{◌≡◌, ◌≤◌, ◌<◌, ◌++◌, IfSome, Some, drop, length, take, true};
+ghost use Rattle.std.specs.Option.{option_map};
 ghost use Rattle.ip_wire.specs.Ip.{bytes_of, header_len_of, max_payload_len, payload_len_of};
 ghost use Rattle.ip_wire.specs.Ipv4 as ipv4;
 ghost use Rattle.ip_wire.specs.Ipv6 as ipv6;
-ghost use Rattle.ip_wire_c.specs.Headers.{header_bytes, has_place, ip_between, ip_value, is_expressible, with_ipv4_fields, with_ipv6_fields};
+ghost use Rattle.ip_wire_c.specs.Headers.{header_bytes, has_place, ip_between, ip_bytes, ip_value, is_expressible, only_if, with_ipv4_fields, with_ipv6_fields};
+ghost use Rattle.ip_wire.specs.declared.IpAddress.TheVariants as address;
 ghost use Rattle.ip_wire.specs.declared.IpRepr.TheVariants.{Ipv4, Ipv6};
+ghost use Rattle.ip_wire_c.specs.Written.{Fills};
 
 use crate::types::{Addr, Ip};
 use ip_wire::{
-    IPV4_HEADER_LEN, IPV6_HEADER_LEN, IpAddress, IpProtocol, IpRepr, Ipv4PacketMut, Ipv4Repr,
-    Ipv6PacketMut, Ipv6Repr,
+    IPV4_HEADER_LEN, IPV6_HEADER_LEN, IpProtocol, IpRepr, Ipv4PacketMut, Ipv4Repr, Ipv6PacketMut,
+    Ipv6Repr,
 };
 use net_base::ChecksumCapabilities;
 
@@ -31,44 +34,80 @@ impl Ip {
         ensures value { result ≡ ip_value self.now protocol src.now dst.now payload_len }
         ensures fits { IfSome result (λ v. payload_len_of v ≤ max_payload_len v) }
     {
-        let (src_addr, dst_addr) = src.pair(version, dst)?;
-        let value = self.between(protocol, payload_len, src_addr, dst_addr)?;
+        if dst.version != version {
+            return None;
+        }
+        let value = match version {
+            4 => self.ipv4(protocol, src, dst, payload_len),
+            6 => self.ipv6(protocol, src, dst, payload_len),
+            _ => return None,
+        };
         self.is_expressible(&value).then_some(value)
     }
 
-    // The values of a header between two addresses. `None` if they have different versions.
+    // The values of an IPv4 header.
     #[inline(always)]
-    fn between(
-        &self,
-        protocol: u8,
-        payload_len: usize,
-        src_addr: IpAddress,
-        dst_addr: IpAddress,
-    ) -> Option<IpRepr>
-        ensures { result ≡ ip_between self.now protocol payload_len src_addr dst_addr }
+    fn ipv4(&self, protocol: u8, src: &Addr, dst: &Addr, payload_len: usize) -> IpRepr
+        ensures { Some result ≡ ip_between self.now protocol payload_len
+            (address.Ipv4 (take 4 src.now.octets)) (address.Ipv4 (take 4 dst.now.octets)) }
     {
-        let (next_header, hop_limit) = (IpProtocol::Unknown(protocol), self.hop_limit);
-        match (&src_addr, &dst_addr) {
-            (IpAddress::Ipv4(src_addr), IpAddress::Ipv4(dst_addr)) => {
-                Some(IpRepr::Ipv4(Ipv4Repr {
-                    src_addr: *src_addr,
-                    dst_addr: *dst_addr,
-                    next_header,
-                    payload_len,
-                    hop_limit,
-                }))
-            }
-            (IpAddress::Ipv6(src_addr), IpAddress::Ipv6(dst_addr)) => {
-                Some(IpRepr::Ipv6(Ipv6Repr {
-                    src_addr: *src_addr,
-                    dst_addr: *dst_addr,
-                    next_header,
-                    payload_len,
-                    hop_limit,
-                }))
-            }
+        IpRepr::Ipv4(Ipv4Repr {
+            src_addr: src.ipv4(),
+            dst_addr: dst.ipv4(),
+            next_header: IpProtocol::Unknown(protocol),
+            payload_len,
+            hop_limit: self.hop_limit,
+        })
+    }
+
+    // The values of an IPv6 header.
+    #[inline(always)]
+    fn ipv6(&self, protocol: u8, src: &Addr, dst: &Addr, payload_len: usize) -> IpRepr
+        ensures { Some result ≡ ip_between self.now protocol payload_len
+            (address.Ipv6 src.now.octets) (address.Ipv6 dst.now.octets) }
+    {
+        IpRepr::Ipv6(Ipv6Repr {
+            src_addr: src.ipv6(),
+            dst_addr: dst.ipv6(),
+            next_header: IpProtocol::Unknown(protocol),
+            payload_len,
+            hop_limit: self.hop_limit,
+        })
+    }
+
+    /// Writes the header between two addresses to the front of `out`, and returns its length. `None`
+    /// if it does not fit, or as for `value`. Each version is written apart, so that its values stay in
+    /// registers.
+    #[inline(always)]
+    pub fn emit_between(
+        &self,
+        src: &Addr,
+        dst: &Addr,
+        payload_len: usize,
+        computed: bool,
+        out: &mut [u8],
+    ) -> Option<usize>
+        ensures { Fills (ip_bytes self.now src.now dst.now payload_len computed) out.old out.new result }
+    {
+        let protocol = self.protocol;
+        match (src.version, dst.version) {
+            (4, 4) => self.emit_value(self.ipv4(protocol, src, dst, payload_len), computed, out),
+            (6, 6) => self.emit_value(self.ipv6(protocol, src, dst, payload_len), computed, out),
             _ => None,
         }
+    }
+
+    // Writes a header with these values, if it can express them.
+    #[inline(always)]
+    fn emit_value(&self, value: IpRepr, computed: bool, out: &mut [u8]) -> Option<usize>
+        ensures { Fills (option_map (header_bytes self.now computed) (only_if (is_expressible self.now value) value)) out.old out.new result }
+    {
+        let len = value.header_len();
+        if !self.is_expressible(&value) || out.len() < len {
+            return None;
+        }
+        self.emit(&value, computed, out);
+        Some(len)
     }
 
     // Whether the header can express the length and each field.

@@ -6,4 +6,4 @@ use Rattle.ip_wire_c.proofs.emit.lk_emit_ip.Goals as goal
 pub returns : goal.returns
 returns c =
     let fits : SFits w64 c.written.result = search rules in
-    writes-filled _ _ _ _ _ (rw (c.is_set.ensures, to_z-of_z w32 c.args.computed c.ranges.computed) at c.emit_ip.ensures) c.written.ensures fits
+    writes-filled _ _ _ _ _ (rw (c.is_set.ensures, to_z-of_z w32 c.args.computed c.ranges.computed) at c.emit_between.ensures) c.written.ensures fits
