@@ -1,13 +1,15 @@
 //! The layers of a frame, one by one.
 
-ghost use Rattle.std.specs.Prelude.{◌≡◌, Some, nat_le};
-ghost use Rattle.ip_wire_c.specs.Headers.{arp_bytes, ip_bytes, link_bytes, tcp_bytes, tcp_header_len, udp_bytes};
+ghost use Rattle.std.specs.Prelude.{◌≡◌, Some, length, nat_le};
+ghost use Rattle.ip_wire.specs.IpAddress.{version_of};
+ghost use Rattle.ip_wire.specs.Udp.{bytes_of, max_payload_len};
+ghost use Rattle.ip_wire_c.specs.Headers.{arp_bytes, ip_bytes, link_bytes, only_if, tcp_bytes, tcp_header_len, udp_bytes};
 ghost use Rattle.ip_wire_c.specs.Written.{Fills, Writes, is_set, returned};
 
 use crate::results::{is_set, written};
 use crate::types::{Addr, Arp, Endpoint, Ethernet, Ip, Tcp, TcpOptions};
 use crate::{arp, udp};
-use ip_wire::{ETHERNET_HEADER_LEN, UDP_MAX_PAYLOAD_LEN, UdpRepr};
+use ip_wire::{ETHERNET_HEADER_LEN, IpAddress, UDP_MAX_PAYLOAD_LEN, UdpRepr};
 use net_base::ChecksumCapabilities;
 
 /// Writes an Ethernet header.
@@ -97,14 +99,41 @@ fn emit_udp(
 ) -> Option<usize>
     ensures { Fills (udp_bytes src.now dst.now payload.now computed) out.old out.new result }
 {
-    let (src_addr, dst_addr) = src.addr.pair(src.addr.version, &dst.addr)?;
-    if payload.len() > UDP_MAX_PAYLOAD_LEN {
-        return None;
-    }
     let ports = UdpRepr {
         src_port: src.port,
         dst_port: dst.port,
     };
+    match (src.addr.version, dst.addr.version) {
+        (4, 4) => {
+            let (src_addr, dst_addr) = (src.addr.ipv4(), dst.addr.ipv4());
+            let (src_addr, dst_addr) = (IpAddress::Ipv4(src_addr), IpAddress::Ipv4(dst_addr));
+            emit_udp_between(ports, src_addr, dst_addr, payload, computed, out)
+        }
+        (6, 6) => {
+            let (src_addr, dst_addr) = (src.addr.ipv6(), dst.addr.ipv6());
+            let (src_addr, dst_addr) = (IpAddress::Ipv6(src_addr), IpAddress::Ipv6(dst_addr));
+            emit_udp_between(ports, src_addr, dst_addr, payload, computed, out)
+        }
+        _ => None,
+    }
+}
+
+// Writes a UDP packet between two addresses. It is compiled for each version apart.
+#[inline(always)]
+fn emit_udp_between(
+    ports: UdpRepr,
+    src_addr: IpAddress,
+    dst_addr: IpAddress,
+    payload: &[u8],
+    computed: bool,
+    out: &mut [u8],
+) -> Option<usize>
+    requires { version_of src_addr ≡ version_of dst_addr }
+    ensures { Fills (only_if (nat_le (length payload.now) max_payload_len) (bytes_of ports payload.now src_addr dst_addr computed)) out.old out.new result }
+{
+    if payload.len() > UDP_MAX_PAYLOAD_LEN {
+        return None;
+    }
     let caps = if computed {
         ChecksumCapabilities::default()
     } else {
