@@ -388,15 +388,18 @@ struct lk_host {
  *
  *   frame                                  answer
  *   an ARP request for `ipv4`              an ARP reply
- *   a UDP packet to `echo_port`            the same payload to its sender (RFC 862)
- *   SYN without ACK to an open TCP port    SYN and ACK, with the options of the SYN that `lk_host` has
- *   another TCP segment                    as RFC 9293, section 3.10.7.1 and 3.10.7.2 say: RST, or none
+ *   a UDP packet to `echo_port`            the same payload, to its sender (RFC 862)
+ *   SYN without ACK to an open TCP port    SYN and ACK (RFC 9293, section 3.10.7.2)
+ *   ACK without RST to an open TCP port    RST
+ *   any but RST to a closed TCP port       RST (section 3.10.7.1)
  *
  * - A frame gets an answer only if it is parsed as a whole and each checksum in it is valid.
- * - It must be for this host alone, and from unicast addresses. An ARP request may be a broadcast.
+ * - UDP and TCP must be for `hardware` and one of the two addresses, and from unicast addresses. ARP must be
+ *   from a unicast hardware address.
  * - A UDP packet gets none if its source port is 0 or `echo_port`, so two hosts do not echo for ever.
- * - No connection is kept. What follows the SYN on an open port gets RST.
- * - ICMPv6 is not answered. So a neighbour must know the link address of `ipv6` by other means. */
+ * - SYN and ACK has `max_seg_size`. It has window scale, SACK permitted and timestamp if the SYN has them.
+ * - No connection is kept: what follows the SYN gets RST.
+ * - ICMPv6 is not answered: a neighbour must know the Ethernet address of `ipv6` by other means. */
 ptrdiff_t lk_host_answer(const struct lk_host *host, const uint8_t *ptr, size_t len, uint8_t *out,
                          size_t cap);
 

@@ -285,13 +285,18 @@ static void answers(int line, const struct lk_host *host, const uint8_t *frame, 
 static void hosts(void)
 {
     static const uint16_t ports[2] = {22, 80};
-    struct lk_host open = asked_host(ports, 2), closed = asked_host(ports, 1), mute = closed;
+    struct lk_host open = asked_host(ports, 2), closed = asked_host(ports, 1), mute = closed, wide = open;
+    uint8_t scaled[sizeof syn_ack];
     ANSWERS(&open, arp_request, arp_reply);
     ANSWERS(&open, ping, pong);
     ANSWERS(&open, ping6, pong6);
     ANSWERS(&open, syn, syn_ack);
     ANSWERS(&open, syn6, syn_ack6);
     ANSWERS(&open, ack6, ack_reset6);
+    wide.window_scale = 15; /* sent as 14, 7 more than in syn_ack; so the checksum is 7 less in this octet */
+    memcpy(scaled, syn_ack, sizeof scaled);
+    scaled[60] = 14, scaled[50] -= 7;
+    ANSWERS(&wide, syn, scaled);
     ANSWERS(&closed, syn, syn_reset);
     ANSWERS(&closed, syn6, syn_reset6);
     IGNORES(&open, arp_reply);

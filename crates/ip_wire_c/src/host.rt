@@ -49,7 +49,8 @@ impl<'a> HostFields<'a> {
     }
 }
 
-/// Writes the answer of a host to a frame, and returns its length; 0 if there is none.
+/// Writes the answer of a host to a frame, and returns its length; 0 if there is none. Returns `LK_FAILED`
+/// if it does not fit, or if the struct lacks an IPv4 or an IPv6 address.
 #[unsafe(no_mangle)]
 pub extern "C" fn lk_host_answer(host: &HostFields<'_>, frame: &[u8], out: &mut [u8]) -> isize
     ensures answers { WritesAnswer (host_of host.now) frame.now out.old out.new result }
@@ -61,8 +62,8 @@ pub extern "C" fn lk_host_answer(host: &HostFields<'_>, frame: &[u8], out: &mut 
     }
 }
 
-// Writes the answer of a host to a frame, and returns its length; 0 if there is none, `FAILED` if it does
-// not fit.
+// Writes the answer of a host to a frame, and returns its length; 0 if there is none, and `FAILED` if it
+// does not fit.
 fn answer(host: &Host<'_>, frame: &[u8], out: &mut [u8]) -> isize
     ensures answers { WritesReply (RepliesBytes host.now frame.now) out.old out.new result }
     ensures unread { IsUnread frame.now → result ≡ pos 0 }
