@@ -10,8 +10,8 @@ int main(void)
     struct lk_frame f, reply;
     uint8_t out[1514];
     char src[47];
-
-    if (lk_read_frame(frame, sizeof frame - 1, &f) != LK_READ || f.transport != LK_UDP)
+    if (lk_read_frame(frame, sizeof frame - 1, &f) != LK_READ || f.transport != LK_UDP
+        || f.ipv4_checksum == LK_WRONG || f.transport_checksum == LK_WRONG)
         return 1;
     printf("%.*s from %.*s\n", (int)f.payload_len, (const char *)frame + f.payload_offset,
            (int)lk_endpoint_print(&f.src, src, sizeof src), src);

@@ -39,6 +39,8 @@ def main():
     frame, reply, out = ffi.new("struct lk_frame *"), ffi.new("struct lk_frame *"), ffi.new("uint8_t[1514]")
     if not lib.lk_cpu_supported() or lib.lk_read_frame(FRAME, len(FRAME), frame) != lib.LK_READ:
         sys.exit("quick.py: a header was rejected")
+    if lib.LK_WRONG in (frame.ipv4_checksum, frame.transport_checksum):
+        sys.exit("quick.py: a checksum is wrong")
     payload = FRAME[frame.payload_offset :][: frame.payload_len]
     print(f"{payload.decode()} from {endpoint_text(ffi, lib, frame.src)}")
 

@@ -86,6 +86,7 @@ mod ip_wire {
 
     pub const READ: c_int = 0;
     pub const UDP: u8 = 1;
+    pub const WRONG: u8 = 2;
 
     #[link(name = "ip_wire")]
     extern "C" {
@@ -146,6 +147,7 @@ fn main() {
     assert!(unsafe { ip_wire::lk_cpu_supported() } != 0);
     let frame = read_frame(BYTES).expect("a header was rejected");
     assert!(frame.transport == ip_wire::UDP);
+    assert!(![frame.ipv4_checksum, frame.transport_checksum].contains(&ip_wire::WRONG));
     let payload = &BYTES[frame.payload_offset..][..frame.payload_len];
     println!("{} from {}", String::from_utf8_lossy(payload), text(&frame.src).unwrap());
 
