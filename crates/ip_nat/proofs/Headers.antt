@@ -1,14 +1,14 @@
 -- An IPv4 header before another payload, and with another address.
-use Rattle.std.proofs.Common.{ℕ, ◌≡◌, ◌≤◌, ◌+◌, ◌-◌, ◌*◌, Bool, true, List, ◌++◌, length, drop, take, slice_range, refl, sym, ap, subst, ◌∙◌, arith, length-append, length-drop}
+use Rattle.std.proofs.Common.{ℕ, ◌≡◌, ◌≤◌, ◌+◌, ◌-◌, true, List, ◌++◌, length, drop, take, slice_range, refl, sym, ap, subst, ◌∙◌, arith, length-append, length-drop}
 use Rattle.std.proofs.lemmas.List.{drop-drop, length-take-le, take-append-drop}
 use Rattle.ip_wire.specs.Field.{field, with_range}
 use Rattle.ip_wire.specs.Frame.{ipv4_payload}
-use Rattle.ip_wire.specs.Ipv4.{HasLengths, Reads, header_len, is_fragment, total_len}
+use Rattle.ip_wire.specs.Ipv4.{Reads, header_len, is_fragment, total_len}
 use Rattle.ip_wire.specs.Protocol.{protocol_of}
 use Rattle.ip_wire.specs.WordSum.{sum_of_bytes}
 use Rattle.ip_wire.specs.declared.Ipv4Repr.{Ipv4Repr}
-use Rattle.ip_nat.proofs.Cells.{cells, cells-all, cells-drop}
-use Rattle.ip_nat.proofs.Payloads.{drop-past, range-front, range-len, range-past}
+use Rattle.ip_nat.proofs.Cells.{cells, cells-all}
+use Rattle.ip_nat.proofs.Payloads.{range-front, range-len, range-past}
 use Rattle.ip_nat.specs.Nat.{addr_at, with_address}
 use Rattle.ip_nat.specs.declared.nat.Side.{Side}
 use Rattle.ip_nat.specs.declared.nat.Side.TheVariants.{Source, Destination}
@@ -69,8 +69,8 @@ reads-inner bytes part v r e =
       };
       version = same.shape.version ∙ r.version;
       checksum = λ on.
-        ap (λ (k : ℕ). sum_of_bytes (take k new)) same.shape.header
-        ∙ ap sum_of_bytes (range-front bytes part h n (omega (arith, r.lengths.within, r.lengths.whole))) ∙ r.checksum on;
+          ap (λ (k : ℕ). sum_of_bytes (take k new)) same.shape.header
+          ∙ ap sum_of_bytes (range-front bytes part h n (omega (arith, r.lengths.within, r.lengths.whole))) ∙ r.checksum on;
       payload_len = omega (arith, r.payload_len, same.shape.header, same.shape.total);
       hop_limit = r.hop_limit ∙ sym same.hop_limit;
       next_header = r.next_header ∙ ap protocol_of (sym same.shape.protocol);
@@ -106,7 +106,7 @@ same_payload old new s behind least =
     let n = total_len old in
     let e : h ≡ 20 + (h - 20) = omega (arith, least) in
     let from : drop h new ≡ drop h old =
-        ap (λ (k : ℕ). drop k new) e ∙ sym (drop-drop (h - 20) 20 new) ∙ ap (drop (h - 20)) behind ∙ drop-drop (h - 20) 20 old ∙ ap (λ (k : ℕ). drop k old) (sym e) in
+    ap (λ (k : ℕ). drop k new) e ∙ sym (drop-drop (h - 20) 20 new) ∙ ap (drop (h - 20)) behind ∙ drop-drop (h - 20) 20 old ∙ ap (λ (k : ℕ). drop k old) (sym e) in
     (λ i. take (s.total i - s.header i) (drop (s.header i) new)) ∙ ap (take (n - h)) from
 
 -- the same of any bytes
@@ -123,7 +123,7 @@ keeps side bytes addr room least four =
     let shape : SameShape bytes (with_address side addr bytes) = subst (λ (l : List ℕ). SameShape l (with_address side addr l)) is at.shape in
     let behind : drop 20 (with_address side addr bytes) ≡ drop 20 bytes = subst (λ (l : List ℕ). drop 20 (with_address side addr l) ≡ drop 20 bytes) is at.behind in
     let apart : with_address side addr bytes ≡ with_address side addr (take 20 bytes) ++ drop 20 bytes =
-        subst (λ (l : List ℕ). with_address side addr l ≡ with_address side addr (take 20 bytes) ++ drop 20 bytes) is at.apart in
+    subst (λ (l : List ℕ). with_address side addr l ≡ with_address side addr (take 20 bytes) ++ drop 20 bytes) is at.apart in
     record {
       shape = shape;
       payload = same_payload bytes (with_address side addr bytes) shape behind least;

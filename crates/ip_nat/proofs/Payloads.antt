@@ -1,5 +1,5 @@
 -- A part of a list in the place of another.
-use Rattle.std.proofs.Common.{ℕ, ◌≡◌, ◌≤◌, ◌+◌, ◌-◌, List, ◌++◌, length, drop, take, slice_range, refl, sym, ap, subst, ◌∙◌, append_assoc, arith, length-append, length-drop}
+use Rattle.std.proofs.Common.{ℕ, ◌≡◌, ◌≤◌, ◌+◌, ◌-◌, List, ◌++◌, length, drop, take, slice_range, sym, ap, subst, ◌∙◌, append_assoc, arith, length-append, length-drop}
 use Rattle.std.proofs.Math.Seq.{drop-append_seam, drop-append-add, take-append-add}
 use Rattle.std.proofs.lemmas.List.{drop-drop, length-take-le, take-append-drop, take_at}
 use Rattle.ip_wire.specs.Field.{with_range}

@@ -1,17 +1,16 @@
 -- A frame is translated as its packet is, and rejected for the reason of its packet.
-use Rattle.std.proofs.Common.{IfErr, IfOk, ℕ, ◌≡◌, ◌≢◌, ◌≤◌, ◌<◌, ◌+◌, ◌-◌, ◌%◌, ◌++◌, ◌↔◌, Bool, true, false, List, Result, Ok, Err, length, drop, take, slice_range, refl, sym, ap, subst, ◌∙◌, arith, length-append, length-drop}
+use Rattle.std.proofs.Common.{IfErr, IfOk, ℕ, ◌≡◌, ◌≢◌, ◌≤◌, ◌<◌, ◌-◌, ◌%◌, ◌++◌, ◌↔◌, Bool, true, false, List, Result, Ok, Err, length, drop, take, slice_range, refl, sym, ap, subst, ◌∙◌, arith, length-append, length-drop}
 use Rattle.std.proofs.lemmas.List.{length-take-le, take-append-drop}
 use Rattle.ip_wire.proofs.ByteLists.{AreBytes-drop, AreBytes-slice_range}
 use Rattle.ip_wire.proofs.Spelled.{AreBytes}
 use Rattle.ip_wire.specs.Ethernet as ethernet
 use Rattle.ip_wire.specs.Field.{field, with_range}
-use Rattle.ip_wire.specs.Frame.{IsReadWhole, ReadsPacket, ReadsTransport, Transport, all_checked, datagram, ipv4_payload, other, packet, segment}
+use Rattle.ip_wire.specs.Frame.{ReadsTransport, Transport, all_checked, datagram, ipv4_payload, other, segment}
 use Rattle.ip_wire.specs.IpAddress.{octets_of}
 use Rattle.ip_wire.specs.Ipv4 as ipv4
 use Rattle.ip_wire.specs.Protocol.{protocol_of}
 use Rattle.ip_wire.specs.Tcp.{Verifies}
 use Rattle.ip_wire.specs.TcpRepr.{TcpHeader}
-use Rattle.ip_wire.specs.TcpRepr as tcp
 use Rattle.ip_wire.specs.Udp as udp
 use Rattle.ip_wire.specs.declared.Error.{Error}
 use Rattle.ip_wire.specs.declared.EthernetProtocol.TheVariants as ethertype
@@ -23,29 +22,24 @@ use Rattle.ip_wire.specs.declared.IpProtocol.TheVariants as protocol
 use Rattle.ip_wire.specs.declared.IpRepr.TheVariants.{Ipv4}
 use Rattle.ip_wire.specs.declared.Ipv4Repr.{Ipv4Repr}
 use Rattle.ip_wire.specs.declared.UdpRepr.{UdpRepr}
-use Rattle.ip_nat.proofs.Cells.{cells, cells-all}
-use Rattle.ip_nat.proofs.Headers.{Keeps, keeps, reads-inner, same-inner}
+use Rattle.ip_nat.proofs.Cells.{cells-all}
+use Rattle.ip_nat.proofs.Headers.{keeps, reads-inner, same-inner}
 use Rattle.ip_nat.proofs.Payloads.{drop-front, range-len, range-part}
 use Rattle.ip_nat.proofs.TcpEnds.{tcp-len, tcp-reads}
 use Rattle.ip_nat.proofs.UdpEnds.{udp-ended}
-use Rattle.ip_nat.specs.Nat.{Carries, CarriesPorts, HasPorts, IsIpv4Frame, IsRejected, IsRejectedPacket, IsRejectedTransport, IsTranslated, LacksChecksum, Rewrites, addr_at, addr_of, translated, translated_packet, with_addr, with_address, with_end, with_port, with_tcp_end, with_udp_end}
+use Rattle.ip_nat.specs.Nat.{Carries, CarriesPorts, HasPorts, IsIpv4Frame, IsRejected, IsRejectedPacket, IsTranslated, LacksChecksum, Rewrites, addr_at, addr_of, translated_packet, with_addr, with_address, with_end, with_port, with_tcp_end}
 use Rattle.ip_nat.specs.declared.nat.Rejection.{Rejection}
-use Rattle.ip_nat.specs.declared.nat.Rejection.TheVariants.{NotIpv4, BadHeader, WrongChecksum, Fragment, OtherProtocol, BadTransport}
+use Rattle.ip_nat.specs.declared.nat.Rejection.TheVariants.{NotIpv4}
 use Rattle.ip_nat.specs.declared.nat.Side.{Side}
 use Rattle.ip_nat.specs.declared.nat.Side.TheVariants.{Source, Destination}
 
 -- ---- the transport
 
--- a packet whose protocol is UDP, or TCP, is read as that
+-- a packet whose protocol is UDP is read as that
 pub has-udp : (v : Ipv4Repr) (bytes : List ℕ) (t : Transport) → v.next_header ≡ protocol.Udp → ReadsTransport all_checked (Ipv4 v) bytes t → 8 ≤ length bytes
 has-udp v bytes (datagram u payload) is r = r.1.lengths.least
 has-udp v bytes (segment u payload) is r = let differs : protocol.Udp ≡ protocol.Tcp = sym is ∙ r.0 in absurd (cc)
 has-udp v bytes (other payload) is r = absurd (r.0 is)
-
-pub has-tcp : (v : Ipv4Repr) (bytes : List ℕ) (t : Transport) → v.next_header ≡ protocol.Tcp → ReadsTransport all_checked (Ipv4 v) bytes t → 20 ≤ length bytes
-has-tcp v bytes (datagram u payload) is r = let differs : protocol.Tcp ≡ protocol.Udp = sym is ∙ r.0 in absurd (cc)
-has-tcp v bytes (segment u payload) is r = r.1.lengths.least
-has-tcp v bytes (other payload) is r = absurd (r.1 is)
 
 -- a packet of another protocol stays
 pub ended-other : (p : IpProtocol) (side : Side) (old new : List ℕ) (port : ℕ) (bytes : List ℕ) → p ≢ protocol.Udp → p ≢ protocol.Tcp → with_end p side old new port bytes ≡ bytes
@@ -74,8 +68,11 @@ pub udp-source : (side : Side) (v : Ipv4Repr) (old mid done new addr : List ℕ)
 udp-source side v old mid done new addr from port is was four four' at first second u payload =
     subst (λ (s : Side). Rewrites v old new s addr port (datagram u payload)) (sym is)
     (subst (λ (l : List ℕ). Rewrites v old l Source addr port (datagram u payload)) (sym at)
-    (λ r. (r.0, second (address.Ipv4 addr) (address.Ipv4 v.dst_addr) true u payload (even addr four) (even v.dst_addr four')
-    (first (address.Ipv4 v.dst_addr) true u payload (even v.dst_addr four') (subst (λ (a : IpAddress). udp.Reads old a (address.Ipv4 v.dst_addr) true u payload) (sym was) r.1)))))
+    (λ r. (
+      r.0,
+      second (address.Ipv4 addr) (address.Ipv4 v.dst_addr) true u payload (even addr four) (even v.dst_addr four')
+          (first (address.Ipv4 v.dst_addr) true u payload (even v.dst_addr four') (subst (λ (a : IpAddress). udp.Reads old a (address.Ipv4 v.dst_addr) true u payload) (sym was) r.1)),
+    )))
 
 pub udp-destination : (side : Side) (v : Ipv4Repr) (old mid done new addr : List ℕ) (to : IpAddress) (port : ℕ) → side ≡ Destination → to ≡ address.Ipv4 v.dst_addr
     → length addr ≡ 4 → length v.src_addr ≡ 4 → port ≢ 0 → new ≡ done
@@ -86,8 +83,11 @@ pub udp-destination : (side : Side) (v : Ipv4Repr) (old mid done new addr : List
 udp-destination side v old mid done new addr to port is was four four' some at first second u payload =
     subst (λ (s : Side). Rewrites v old new s addr port (datagram u payload)) (sym is)
     (subst (λ (l : List ℕ). Rewrites v old l Destination addr port (datagram u payload)) (sym at)
-    (λ r. (r.0, second (address.Ipv4 v.src_addr) (address.Ipv4 addr) true u payload (even v.src_addr four') (even addr four) some
-    (first (address.Ipv4 v.src_addr) true u payload (even v.src_addr four') (subst (λ (a : IpAddress). udp.Reads old (address.Ipv4 v.src_addr) a true u payload) (sym was) r.1)))))
+    (λ r. (
+      r.0,
+      second (address.Ipv4 v.src_addr) (address.Ipv4 addr) true u payload (even v.src_addr four') (even addr four) some
+          (first (address.Ipv4 v.src_addr) true u payload (even v.src_addr four') (subst (λ (a : IpAddress). udp.Reads old (address.Ipv4 v.src_addr) a true u payload) (sym was) r.1)),
+    )))
 
 -- TCP, where the calls of the view speak of the checksum alone
 pub tcp-source : (side : Side) (v : Ipv4Repr) (old mid done new addr : List ℕ) (from : IpAddress) (port : ℕ) → side ≡ Source → from ≡ address.Ipv4 v.src_addr
@@ -99,10 +99,13 @@ tcp-source side v old mid done new addr from port is was four four' fits some at
     let bytes : new ≡ with_tcp_end Source v.src_addr addr port old = ended ∙ ap (λ (s : Side). with_tcp_end s (addr_of s v) addr port old) is in
     subst (λ (s : Side). Rewrites v old new s addr port (segment u payload)) (sym is)
     (subst (λ (l : List ℕ). Rewrites v old l Source addr port (segment u payload)) (sym bytes)
-    (λ r. (r.0, tcp-reads Source old v.src_addr addr port (address.Ipv4 v.src_addr) (address.Ipv4 v.dst_addr) (address.Ipv4 addr) (address.Ipv4 v.dst_addr) u payload fits some r.1
-    (subst (Verifies (address.Ipv4 addr) (address.Ipv4 v.dst_addr)) (sym at ∙ bytes)
-    (second (address.Ipv4 addr) (address.Ipv4 v.dst_addr) (even addr four) (even v.dst_addr four')
-    (first (address.Ipv4 v.dst_addr) (even v.dst_addr four') (subst (λ (a : IpAddress). Verifies a (address.Ipv4 v.dst_addr) old) (sym was) (r.1.checksum refl))))))))
+    (λ r. (
+      r.0,
+      tcp-reads Source old v.src_addr addr port (address.Ipv4 v.src_addr) (address.Ipv4 v.dst_addr) (address.Ipv4 addr) (address.Ipv4 v.dst_addr) u payload fits some r.1
+          (subst (Verifies (address.Ipv4 addr) (address.Ipv4 v.dst_addr)) (sym at ∙ bytes)
+          (second (address.Ipv4 addr) (address.Ipv4 v.dst_addr) (even addr four) (even v.dst_addr four')
+          (first (address.Ipv4 v.dst_addr) (even v.dst_addr four') (subst (λ (a : IpAddress). Verifies a (address.Ipv4 v.dst_addr) old) (sym was) (r.1.checksum refl))))),
+    )))
 
 pub tcp-destination : (side : Side) (v : Ipv4Repr) (old mid done new addr : List ℕ) (to : IpAddress) (port : ℕ) → side ≡ Destination → to ≡ address.Ipv4 v.dst_addr
     → length addr ≡ 4 → length v.src_addr ≡ 4 → port < 65536 → port ≢ 0 → new ≡ done → new ≡ with_tcp_end side (addr_of side v) addr port old
@@ -113,10 +116,13 @@ tcp-destination side v old mid done new addr to port is was four four' fits some
     let bytes : new ≡ with_tcp_end Destination v.dst_addr addr port old = ended ∙ ap (λ (s : Side). with_tcp_end s (addr_of s v) addr port old) is in
     subst (λ (s : Side). Rewrites v old new s addr port (segment u payload)) (sym is)
     (subst (λ (l : List ℕ). Rewrites v old l Destination addr port (segment u payload)) (sym bytes)
-    (λ r. (r.0, tcp-reads Destination old v.dst_addr addr port (address.Ipv4 v.src_addr) (address.Ipv4 v.dst_addr) (address.Ipv4 v.src_addr) (address.Ipv4 addr) u payload fits some r.1
-    (subst (Verifies (address.Ipv4 v.src_addr) (address.Ipv4 addr)) (sym at ∙ bytes)
-    (second (address.Ipv4 v.src_addr) (address.Ipv4 addr) (even v.src_addr four') (even addr four)
-    (first (address.Ipv4 v.src_addr) (even v.src_addr four') (subst (λ (a : IpAddress). Verifies (address.Ipv4 v.src_addr) a old) (sym was) (r.1.checksum refl))))))))
+    (λ r. (
+      r.0,
+      tcp-reads Destination old v.dst_addr addr port (address.Ipv4 v.src_addr) (address.Ipv4 v.dst_addr) (address.Ipv4 v.src_addr) (address.Ipv4 addr) u payload fits some r.1
+          (subst (Verifies (address.Ipv4 v.src_addr) (address.Ipv4 addr)) (sym at ∙ bytes)
+          (second (address.Ipv4 v.src_addr) (address.Ipv4 addr) (even v.src_addr four') (even addr four)
+          (first (address.Ipv4 v.src_addr) (even v.src_addr four') (subst (λ (a : IpAddress). Verifies (address.Ipv4 v.src_addr) a old) (sym was) (r.1.checksum refl))))),
+    )))
 
 -- each kind of transport, from its own call
 pub rewrites-udp : (v : Ipv4Repr) (old new : List ℕ) (side : Side) (addr : List ℕ) (port : ℕ) → v.next_header ≡ protocol.Udp
@@ -132,17 +138,6 @@ pub rewrites-tcp : (v : Ipv4Repr) (old new : List ℕ) (side : Side) (addr : Lis
 rewrites-tcp v old new side addr port is step (datagram u payload) r = let differs : protocol.Tcp ≡ protocol.Udp = sym is ∙ r.0 in absurd (cc)
 rewrites-tcp v old new side addr port is step (segment u payload) r = step u payload r
 rewrites-tcp v old new side addr port is step (other payload) r = absurd (r.1 is)
-
-same_next : (side : Side) (addr : List ℕ) (v : Ipv4Repr) → (with_addr side addr v).next_header ≡ v.next_header
-same_next Source addr v = refl
-same_next Destination addr v = refl
-
-pub rewrites-none : (v : Ipv4Repr) (old new : List ℕ) (side : Side) (addr : List ℕ) (port : ℕ) → v.next_header ≢ protocol.Udp → v.next_header ≢ protocol.Tcp → new ≡ old
-    → (t : Transport) → Rewrites v old new side addr port t
-rewrites-none v old new side addr port no_udp no_tcp is (datagram u payload) r = absurd (no_udp r.0)
-rewrites-none v old new side addr port no_udp no_tcp is (segment u payload) r = absurd (no_tcp r.0)
-rewrites-none v old new side addr port no_udp no_tcp is (other payload) r =
-    (λ named. no_udp (sym (same_next side addr v) ∙ named), λ named. no_tcp (sym (same_next side addr v) ∙ named), r.2 ∙ sym is)
 
 -- ---- the packet
 
@@ -200,7 +195,7 @@ pub packet-bytes : (bytes part new : List ℕ) (v : Ipv4Repr) (side : Side) (add
 packet-bytes bytes part new v side addr port r is at =
     let old = addr-read side bytes v r in
     let written : part ≡ with_end (protocol_of (field bytes 72 8)) side (addr_at side bytes) addr port (ipv4_payload bytes) =
-        is ∙ (λ i. with_end (r.next_header i) side (old i) addr port (ipv4_payload bytes)) in
+    is ∙ (λ i. with_end (r.next_header i) side (old i) addr port (ipv4_payload bytes)) in
     at ∙ ap (λ (l : List ℕ). with_address side addr (with_range bytes (ipv4.header_len bytes) (ipv4.total_len bytes) l)) written
 
 -- the same of a packet that was written
@@ -218,27 +213,35 @@ written side v bytes part new addr port four r e rewrites is at step = record {
   as_said = packet-bytes bytes part new v side addr port r is at;
 }
 
-pub written-source : (side : Side) (v : Ipv4Repr) (bytes part inner done new addr : List ℕ) (port : ℕ) → side ≡ Source → length addr ≡ 4 → ipv4.Reads bytes true v
+pub written-source : (side : Side) (v : Ipv4Repr) (bytes part inner new addr : List ℕ) (port : ℕ) → side ≡ Source → length addr ≡ 4 → ipv4.Reads bytes true v
     → length part ≡ length (ipv4_payload bytes) → ((t : Transport) → Rewrites v (ipv4_payload bytes) part side addr port t)
     → part ≡ with_end v.next_header side (addr_of side v) addr port (ipv4_payload bytes)
-    → inner ≡ with_range bytes (ipv4.header_len bytes) (ipv4.total_len bytes) part → done ≡ with_address Source addr inner → new ≡ done
-    → ((w : Ipv4Repr) (verified : Bool) → ipv4.Reads inner verified w → ipv4.Reads done verified (record w { src_addr = addr })) → IsWritten side v bytes new addr port
-written-source side v bytes part inner done new addr port is four r e rewrites ended within at same step =
+    → inner ≡ with_range bytes (ipv4.header_len bytes) (ipv4.total_len bytes) part → new ≡ with_address Source addr inner
+    → ((w : Ipv4Repr) (verified : Bool) → ipv4.Reads inner verified w → ipv4.Reads new verified (record w { src_addr = addr })) → IsWritten side v bytes new addr port
+written-source side v bytes part inner new addr port is four r e rewrites ended within at step =
     written side v bytes part new addr port four r e rewrites ended
-    (same ∙ at ∙ (λ i. with_address (sym is i) addr (within i)))
-    (λ w reads. subst (λ (s : Side). ipv4.Reads new true (with_addr s addr w)) (sym is) (subst (λ (l : List ℕ). ipv4.Reads l true (record w { src_addr = addr })) (sym same)
-    (step w true (subst (λ (l : List ℕ). ipv4.Reads l true w) (sym within) reads))))
+    (at ∙ (λ i. with_address (sym is i) addr (within i)))
+    (λ w reads. subst (λ (s : Side). ipv4.Reads new true (with_addr s addr w)) (sym is)
+    (step w true (subst (λ (l : List ℕ). ipv4.Reads l true w) (sym within) reads)))
 
-pub written-destination : (side : Side) (v : Ipv4Repr) (bytes part inner done new addr : List ℕ) (port : ℕ) → side ≡ Destination → length addr ≡ 4 → ipv4.Reads bytes true v
+pub written-destination : (side : Side) (v : Ipv4Repr) (bytes part inner new addr : List ℕ) (port : ℕ) → side ≡ Destination → length addr ≡ 4 → ipv4.Reads bytes true v
     → length part ≡ length (ipv4_payload bytes) → ((t : Transport) → Rewrites v (ipv4_payload bytes) part side addr port t)
     → part ≡ with_end v.next_header side (addr_of side v) addr port (ipv4_payload bytes)
-    → inner ≡ with_range bytes (ipv4.header_len bytes) (ipv4.total_len bytes) part → done ≡ with_address Destination addr inner → new ≡ done
-    → ((w : Ipv4Repr) (verified : Bool) → ipv4.Reads inner verified w → ipv4.Reads done verified (record w { dst_addr = addr })) → IsWritten side v bytes new addr port
-written-destination side v bytes part inner done new addr port is four r e rewrites ended within at same step =
+    → inner ≡ with_range bytes (ipv4.header_len bytes) (ipv4.total_len bytes) part → new ≡ with_address Destination addr inner
+    → ((w : Ipv4Repr) (verified : Bool) → ipv4.Reads inner verified w → ipv4.Reads new verified (record w { dst_addr = addr })) → IsWritten side v bytes new addr port
+written-destination side v bytes part inner new addr port is four r e rewrites ended within at step =
     written side v bytes part new addr port four r e rewrites ended
-    (same ∙ at ∙ (λ i. with_address (sym is i) addr (within i)))
-    (λ w reads. subst (λ (s : Side). ipv4.Reads new true (with_addr s addr w)) (sym is) (subst (λ (l : List ℕ). ipv4.Reads l true (record w { dst_addr = addr })) (sym same)
-    (step w true (subst (λ (l : List ℕ). ipv4.Reads l true w) (sym within) reads))))
+    (at ∙ (λ i. with_address (sym is i) addr (within i)))
+    (λ w reads. subst (λ (s : Side). ipv4.Reads new true (with_addr s addr w)) (sym is)
+    (step w true (subst (λ (l : List ℕ). ipv4.Reads l true w) (sym within) reads)))
+
+pub written-carries : (side : Side) (v : Ipv4Repr) (bytes done new addr : List ℕ) (port : ℕ) → IsWritten side v bytes done addr port → new ≡ done
+    → (t : Transport) → CarriesPorts bytes v t → CarriesPorts new (with_addr side addr v) (with_port side port t)
+written-carries side v bytes done new addr port w same t c = subst (λ (l : List ℕ). CarriesPorts l (with_addr side addr v) (with_port side port t)) (sym same) (w.carries t c)
+
+pub written-bytes : (side : Side) (v : Ipv4Repr) (bytes done new addr : List ℕ) (port : ℕ) → IsWritten side v bytes done addr port → new ≡ done
+    → new ≡ translated_packet side addr port bytes
+written-bytes side v bytes done new addr port w same = same ∙ w.as_said
 
 -- ---- the frame
 
@@ -284,7 +287,7 @@ unsummed bytes v t side addr port four are c =
     let old = addr_at side bytes in
     let part = with_end p side old addr port inner_bytes in
     let part_len : length part ≡ length inner_bytes =
-        ap (λ (q : IpProtocol). length (with_end q side old addr port inner_bytes)) (sym r.next_header) ∙ ended-len v side old addr port inner_bytes t inner_are c.carries in
+    ap (λ (q : IpProtocol). length (with_end q side old addr port inner_bytes)) (sym r.next_header) ∙ ended-len v side old addr port inner_bytes t inner_are c.carries in
     let len = part_len ∙ payload-len bytes v r in
     let inner = with_range bytes h n part in
     let same = (same-inner bytes part h n r.lengths.least r.lengths.header (omega (arith, r.lengths.header, r.lengths.within))).shape in
@@ -293,13 +296,12 @@ unsummed bytes v t side addr port four are c =
     let named : field (translated_packet side addr port bytes) 72 8 ≡ field bytes 72 8 = k.shape.protocol ∙ same.protocol in
     let payload : ipv4_payload (translated_packet side addr port bytes) ≡ part = k.payload ∙ inner-payload bytes part v r part_len in
     let same_sum : p ≡ protocol.Udp → (field inner_bytes 48 16 ≡ 0) ↔ (field part 48 16 ≡ 0) =
-        λ is. subst (λ (q : IpProtocol). (field inner_bytes 48 16 ≡ 0) ↔ (field (with_end q side old addr port inner_bytes) 48 16 ≡ 0)) (sym is)
-        (udp-ended side inner_bytes old addr port inner_are (has-udp v inner_bytes t (r.next_header ∙ is) c.carries)).unsummed in
-    (
+    λ is. subst (λ (q : IpProtocol). (field inner_bytes 48 16 ≡ 0) ↔ (field (with_end q side old addr port inner_bytes) 48 16 ≡ 0)) (sym is)
+    (udp-ended side inner_bytes old addr port inner_are (has-udp v inner_bytes t (r.next_header ∙ is) c.carries)).unsummed in (
       λ lacks. (ap protocol_of named ∙ lacks.0, ap (λ (l : List ℕ). field l 48 16) payload ∙ (same_sum lacks.0).0 lacks.1),
       λ lacks.
-        let is = ap protocol_of (sym named) ∙ lacks.0 in
-        (is, (same_sum is).1 (ap (λ (l : List ℕ). field l 48 16) (sym payload) ∙ lacks.1)),
+          let is = ap protocol_of (sym named) ∙ lacks.0 in
+          (is, (same_sum is).1 (ap (λ (l : List ℕ). field l 48 16) (sym payload) ∙ lacks.1)),
     )
 
 pub translates : (frame new body : List ℕ) (link : EthernetRepr) (v : Ipv4Repr) (t : Transport) (side : Side) (addr : List ℕ) (port : ℕ)
@@ -318,8 +320,8 @@ translates frame new body link v t side addr port four are c after is at =
       before = c;
       after = framed new link (with_addr side addr v) (with_port side port t) reads c.reads.reads_carried.0 whole;
       unsummed = subst
-        (λ (l : List ℕ). LacksChecksum frame ↔ ((protocol_of (field l 72 8) ≡ protocol.Udp) × (field (ipv4_payload l) 48 16 ≡ 0)))
-        (sym (behind ∙ is)) lacks;
+          (λ (l : List ℕ). LacksChecksum frame ↔ ((protocol_of (field l 72 8) ≡ protocol.Udp) × (field (ipv4_payload l) 48 16 ≡ 0)))
+          (sym (behind ∙ is)) lacks;
       bytes = at ∙ ap (λ (l : List ℕ). take 14 frame ++ l) is;
     }
 
@@ -341,15 +343,6 @@ other-rejected frame answer link reads is names = record {
   whole = λ v f. let other : answer ≡ Ok v = (reads v).1 f.reads in let same : link ≡ v = cc in absurd (names (ap (λ (w : EthernetRepr). w.ethertype) same ∙ f.names));
   short = λ _. refl;
 }
-
-pub transport-rejected : (bytes : List ℕ) (v : Ipv4Repr) (reason : Rejection) → ReadsPacket all_checked bytes (Ipv4 v)
-    → IsRejectedTransport v (ipv4_payload bytes) reason → IsRejectedPacket bytes reason
-transport-rejected bytes v NotIpv4 r h = absurd h
-transport-rejected bytes v BadHeader r h = absurd h
-transport-rejected bytes v WrongChecksum r h = absurd h
-transport-rejected bytes v Fragment r h = absurd h
-transport-rejected bytes v OtherProtocol r h = (v, r, h)
-transport-rejected bytes v BadTransport r h = (v, r, h)
 
 pub bad-header : (bytes : List ℕ) (answer : Result Ipv4Repr Error) (error : Error)
     → ((v : Ipv4Repr) → (answer ≡ Ok v) ↔ ipv4.Reads bytes false v) → answer ≡ Err error → (v : Ipv4Repr) → ¬ ipv4.Reads bytes false v

@@ -1,11 +1,11 @@
 -- A UDP packet with another port, after an address of its pseudo-header changed.
-use Rattle.std.proofs.Common.{ℕ, ◌≡◌, ◌≢◌, ◌≤◌, ◌<◌, ◌+◌, ◌-◌, ◌==◌, ◌↔◌, ◌⊎◌, inl, inr, if◌then◌else◌, Bool, true, false, List, ◌∷◌, ◌++◌, length, drop, slice_index, refl, sym, ap, subst, ◌∙◌, arith}
+use Rattle.std.proofs.Common.{ℕ, ◌≡◌, ◌≢◌, ◌≤◌, ◌<◌, ◌==◌, ◌↔◌, inl, inr, if◌then◌else◌, Bool, true, false, List, ◌∷◌, length, drop, slice_index, refl, sym, ap, subst, ◌∙◌, arith}
 use Rattle.std.proofs.lemmas.Bool.{cases_lt}
 use Rattle.std.proofs.lemmas.Bool.Decides.{nat_tests}
 use Rattle.ip_wire.proofs.Spelled.{AreBytes}
 use Rattle.ip_wire.specs.Field.{field, with_field, word_at}
-use Rattle.ip_wire.specs.Udp.{checksum_for, with_updated_checksum}
-use Rattle.ip_wire.specs.WordSum.{sum_of_bytes, updated}
+use Rattle.ip_wire.specs.Udp.{with_updated_checksum}
+use Rattle.ip_wire.specs.WordSum.{sum_of_bytes}
 use Rattle.ip_nat.proofs.Cells.{cells-drop, word_high, word_low}
 use Rattle.ip_nat.proofs.Residues.{sum-fits, udp-back_twice, udp-step, udp_updated}
 use Rattle.ip_nat.proofs.Words.{high-spelled, low-spelled, spelled-fits, spelled-word, word}

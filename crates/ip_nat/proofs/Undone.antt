@@ -1,5 +1,5 @@
 -- A translation that is undone.
-use Rattle.std.proofs.Common.{ℕ, ◌≡◌, ◌≢◌, ◌≤◌, ◌<◌, ◌+◌, ◌-◌, ◌++◌, true, false, List, ◌∷◌, length, drop, take, slice_index, slice_range, refl, sym, ap, subst, ◌∙◌, arith}
+use Rattle.std.proofs.Common.{ℕ, ◌≡◌, ◌≢◌, ◌≤◌, ◌<◌, ◌-◌, ◌++◌, List, ◌∷◌, length, drop, take, slice_index, refl, sym, ap, subst, ◌∙◌, arith}
 use Rattle.std.proofs.lemmas.List.{length-take-le, take-append-drop, take_at}
 use Rattle.ip_wire.proofs.ByteLists.{AreBytes-drop, AreBytes-slice_range}
 use Rattle.ip_wire.proofs.Spelled.{AreBytes}
@@ -20,7 +20,7 @@ use Rattle.ip_nat.proofs.TcpEnds.{tcp-back-dst, tcp-back-src}
 use Rattle.ip_nat.proofs.Translates.{addr-read, carried, ended-len, inner-payload, payload-len}
 use Rattle.ip_nat.proofs.UdpEnds.{udp-back-dst, udp-back-src}
 use Rattle.ip_nat.proofs.Words.{high-spelled, low-spelled, spelled-fits, spelled-word, word}
-use Rattle.ip_nat.specs.Nat.{CarriesPorts, HasPorts, HasUsualChecksums, IsTranslated, addr_at, addr_of, port_of, translated, translated_packet, with_address, with_end}
+use Rattle.ip_nat.specs.Nat.{CarriesPorts, HasPorts, HasUsualChecksums, IsTranslated, addr_at, addr_of, port_of, translated_packet, with_address, with_end}
 use Rattle.ip_nat.specs.declared.nat.Side.{Side}
 use Rattle.ip_nat.specs.declared.nat.Side.TheVariants.{Source, Destination}
 
@@ -150,8 +150,8 @@ packet-back bytes v t side addr port c are four fits usual usual_tcp =
     let is_protocol : protocol_of (field Q 72 8) ≡ p = ap protocol_of (k.shape.protocol ∙ same.protocol) in
     let is_payload : ipv4_payload Q ≡ T = k.payload ∙ inner-payload bytes T v r T_len in
     let back : with_end p side addr old port_was T ≡ S =
-        ap (λ (q : IpProtocol). with_end q side addr old port_was (with_end q side old addr port S)) (sym r.next_header)
-        ∙ transport-back v t side old addr port S are_inner fits c.ports (λ tcp. usual_tcp (sym r.next_header ∙ tcp)) c.carries in
+    ap (λ (q : IpProtocol). with_end q side addr old port_was (with_end q side old addr port S)) (sym r.next_header)
+    ∙ transport-back v t side old addr port S are_inner fits c.ports (λ tcp. usual_tcp (sym r.next_header ∙ tcp)) c.carries in
     ap (λ (a : List ℕ). translated_packet side a port_was Q) (addr-read side bytes v r)
     ∙ (λ i. with_address side old (with_range Q (is_header i) (is_total i) (with_end (is_protocol i) side (k.written i) old port_was (is_payload i))))
     ∙ ap (λ (l : List ℕ). with_address side old (with_range Q h n l)) back

@@ -1,5 +1,5 @@
 -- Words of two bytes in a list.
-use Rattle.std.proofs.Common.{ℕ, ◌≡◌, ◌<◌, ◌+◌, ◌*◌, ◌/◌, ◌%◌, ◌^◌, List, ◌∷◌, slice_index, arith}
+use Rattle.std.proofs.Common.{ℕ, ◌≡◌, ◌<◌, ◌+◌, ◌*◌, ◌/◌, ◌%◌, ◌^◌, List, ◌∷◌, arith}
 
 -- a word before the rest
 abbrev pub word : ℕ → List ℕ → List ℕ

@@ -137,7 +137,10 @@ fn rewrite(header: Ipv4Repr, packet: &mut [u8], side: Side, addr: Ipv4Address, p
     ensures bytes { packet.new ≡ translated_packet side addr port packet.old }
 {
     let view = Ipv4Packet::new_unchecked(packet);
-    let (start, end) = (usize::from(view.header_len()), usize::from(view.total_len()));
+    let (start, end) = (
+        usize::from(view.header_len()),
+        usize::from(view.total_len()),
+    );
     let (_, rest) = packet.split_at_mut(start);
     let (payload, _) = rest.split_at_mut(end - start);
     rewrite_transport(header, payload, side, addr, port);

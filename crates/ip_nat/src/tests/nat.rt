@@ -97,21 +97,39 @@ const PADDED_OUT: [u8; 56] = [
 #[test]
 fn translates_out_and_in(rt: HostRuntime) {
     let mut frame = UDP;
-    assert_eq!(rt; translate(&mut frame, Side::Source, outside(), 40000), Ok(()));
+    assert_eq!(rt;
+        translate(&mut frame, Side::Source, outside(), 40000),
+        Ok(())
+    );
     assert_eq!(rt; frame, UDP_OUT);
-    assert_eq!(rt; translate(&mut frame, Side::Source, inside(), 46563), Ok(()));
+    assert_eq!(rt;
+        translate(&mut frame, Side::Source, inside(), 46563),
+        Ok(())
+    );
     assert_eq!(rt; frame, UDP);
     let mut frame = REPLY_IN;
-    assert_eq!(rt; translate(&mut frame, Side::Destination, inside(), 46563), Ok(()));
+    assert_eq!(rt;
+        translate(&mut frame, Side::Destination, inside(), 46563),
+        Ok(())
+    );
     assert_eq!(rt; frame, REPLY);
     let mut frame = SYN;
-    assert_eq!(rt; translate(&mut frame, Side::Source, outside(), 40001), Ok(()));
+    assert_eq!(rt;
+        translate(&mut frame, Side::Source, outside(), 40001),
+        Ok(())
+    );
     assert_eq!(rt; frame, SYN_OUT);
     let mut frame = DATA_IN;
-    assert_eq!(rt; translate(&mut frame, Side::Destination, inside(), 60784), Ok(()));
+    assert_eq!(rt;
+        translate(&mut frame, Side::Destination, inside(), 60784),
+        Ok(())
+    );
     assert_eq!(rt; frame, DATA);
     let mut frame = PADDED;
-    assert_eq!(rt; translate(&mut frame, Side::Source, outside(), 40000), Ok(()));
+    assert_eq!(rt;
+        translate(&mut frame, Side::Source, outside(), 40000),
+        Ok(())
+    );
     assert_eq!(rt; frame, PADDED_OUT);
 }
 
@@ -121,16 +139,27 @@ fn writes_checksums_of_0(rt: HostRuntime) {
     let (mut frame, mut expected) = (UDP, UDP_OUT);
     frame[40..42].copy_from_slice(&[0, 0]);
     expected[40..42].copy_from_slice(&[0, 0]);
-    assert_eq!(rt; translate(&mut frame, Side::Source, outside(), 40000), Ok(()));
+    assert_eq!(rt;
+        translate(&mut frame, Side::Source, outside(), 40000),
+        Ok(())
+    );
     assert_eq!(rt; frame, expected);
-    let mut frame = UDP;
-    assert_eq!(rt; translate(&mut frame, Side::Source, outside(), 3600), Ok(()));
-    assert_eq!(rt; frame[34..36], [0x0e, 0x10]);
-    assert_eq!(rt; frame[40..42], [0xff, 0xff]);
-    let mut frame = SYN;
-    assert_eq!(rt; translate(&mut frame, Side::Source, outside(), 19494), Ok(()));
-    assert_eq!(rt; frame[34..36], [0x4c, 0x26]);
-    assert_eq!(rt; frame[50..52], [0x00, 0x00]);
+    let (mut frame, mut expected) = (UDP, UDP_OUT);
+    expected[34..36].copy_from_slice(&[0x0e, 0x10]);
+    expected[40..42].copy_from_slice(&[0xff, 0xff]);
+    assert_eq!(rt;
+        translate(&mut frame, Side::Source, outside(), 0x0e10),
+        Ok(())
+    );
+    assert_eq!(rt; frame, expected);
+    let (mut frame, mut expected) = (SYN, SYN_OUT);
+    expected[34..36].copy_from_slice(&[0x4c, 0x26]);
+    expected[50..52].copy_from_slice(&[0, 0]);
+    assert_eq!(rt;
+        translate(&mut frame, Side::Source, outside(), 0x4c26),
+        Ok(())
+    );
+    assert_eq!(rt; frame, expected);
 }
 
 /// Octets changed: the type, the version, the total length, the checksum; then, with an IPv4 checksum
@@ -142,19 +171,34 @@ fn rejects_other_frames(rt: HostRuntime) {
         ([(12, 0x86), (13, 0xdd), (13, 0xdd)], Rejection::NotIpv4),
         ([(14, 0x65), (14, 0x65), (14, 0x65)], Rejection::BadHeader),
         ([(17, 0x21), (17, 0x21), (17, 0x21)], Rejection::BadHeader),
-        ([(24, 0x21), (24, 0x21), (24, 0x21)], Rejection::WrongChecksum),
+        (
+            [(24, 0x21), (24, 0x21), (24, 0x21)],
+            Rejection::WrongChecksum,
+        ),
         ([(20, 0x20), (24, 0x40), (25, 0xd4)], Rejection::Fragment),
         ([(21, 0x01), (24, 0x20), (25, 0xd3)], Rejection::Fragment),
-        ([(23, 0x01), (24, 0x20), (25, 0xe4)], Rejection::OtherProtocol),
-        ([(40, 0xd3), (40, 0xd3), (40, 0xd3)], Rejection::BadTransport),
-        ([(39, 0x0d), (39, 0x0d), (39, 0x0d)], Rejection::BadTransport),
+        (
+            [(23, 0x01), (24, 0x20), (25, 0xe4)],
+            Rejection::OtherProtocol,
+        ),
+        (
+            [(40, 0xd3), (40, 0xd3), (40, 0xd3)],
+            Rejection::BadTransport,
+        ),
+        (
+            [(39, 0x0d), (39, 0x0d), (39, 0x0d)],
+            Rejection::BadTransport,
+        ),
     ] {
         let mut frame = UDP;
         for (at, octet) in changes {
             frame[at] = octet;
         }
         let same = frame;
-        assert_eq!(rt; translate(&mut frame, Side::Source, outside(), 40000), Err(reason));
+        assert_eq!(rt;
+            translate(&mut frame, Side::Source, outside(), 40000),
+            Err(reason)
+        );
         assert_eq!(rt; frame, same);
     }
     let mut short = UDP;

@@ -1,7 +1,7 @@
 use Rattle.std.proofs.Common.{IfErr, IfOk, List, ℕ, ◌≡◌, ◌-◌, arith, drop, length, length-drop, rules, take}
 use Rattle.std.proofs.lemmas.List.{take_all}
 use Rattle.ip_nat.proofs.Translates.{framed, if-err, if-ok, other-rejected, packet-rejected, unread-rejected}
-use Rattle.ip_nat.specs.Nat.{Carries, CarriesPorts, IsRejectedPacket}
+use Rattle.ip_nat.specs.Nat.{CarriesPorts, IsRejectedPacket}
 use Rattle.ip_wire.specs.Ethernet.{frame_bytes}
 use Rattle.ip_wire.specs.Frame.{Transport}
 use Rattle.ip_nat.proofs.nat.accept.Goals as goal

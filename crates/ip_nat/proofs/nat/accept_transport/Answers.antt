@@ -1,7 +1,6 @@
 use Rattle.std.proofs.Common.{◌≡◌, rules, subst}
-use Rattle.ip_wire.specs.Frame.{ReadsTransport, Transport, all_checked}
+use Rattle.ip_wire.specs.Frame.{all_checked}
 use Rattle.ip_wire.specs.FrameValue.{GivesTransport}
-use Rattle.net_base.specs.declared.ChecksumCapabilities.{ChecksumCapabilities}
 use Rattle.ip_nat.proofs.nat.accept_transport.Goals as goal
 
 pub returns-in-Err-clause-rejected : goal.returns-in-Err-clause-rejected

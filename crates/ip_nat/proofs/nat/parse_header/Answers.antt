@@ -15,9 +15,10 @@ returns-then-not-verify_checksum-clause-rejected c =
     let bytes : packet_bytes c.new_unchecked-packet.result ≡ c.args.bytes.now = search rules in
     let verified : verifies c.ignored.result.ipv4 ≡ false = search rules in
     let reads = rw (verified, bytes) at c.parse.ensures.reads in
-    let sums : IsTrue c.verify_checksum.result ↔ HasChecksum c.args.bytes.now = rw bytes at c.verify_checksum.ensures in
-    ((c.in-Ok.header, (reads c.in-Ok.header).0 c.in-Ok.is),
-    λ full. let on : c.verify_checksum.result ≡ true = sums.1 full in let off : c.verify_checksum.result ≡ false = search rules in cc)
+    let sums : IsTrue c.verify_checksum.result ↔ HasChecksum c.args.bytes.now = rw bytes at c.verify_checksum.ensures in (
+      (c.in-Ok.header, (reads c.in-Ok.header).0 c.in-Ok.is),
+      λ full. let on : c.verify_checksum.result ≡ true = sums.1 full in let off : c.verify_checksum.result ≡ false = search rules in cc,
+    )
 
 pub returns-clause-reads : goal.returns-clause-reads
 returns-clause-reads c =

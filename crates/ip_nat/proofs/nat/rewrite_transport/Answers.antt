@@ -1,4 +1,4 @@
-use Rattle.std.proofs.Common.{◌≡◌, rules}
+use Rattle.std.proofs.Common.{rules}
 use Rattle.ip_nat.proofs.Translates.{rewrites-tcp, rewrites-udp}
 use Rattle.ip_nat.proofs.nat.rewrite_transport.Goals as goal
 

@@ -1,6 +1,5 @@
-use Rattle.std.proofs.Common.{List, ℕ, ◌≡◌, ◌-◌, ◌++◌, ap, arith, drop, length, length-drop, rules, take}
+use Rattle.std.proofs.Common.{List, ℕ, ◌≡◌, ◌++◌, ap, drop, rules, take}
 use Rattle.ip_nat.proofs.Translates.{carried, translates}
-use Rattle.ip_nat.specs.Nat.{CarriesPorts, translated_packet}
 use Rattle.ip_nat.proofs.nat.translate.Goals as goal
 
 pub returns-clause-translated : goal.returns-clause-translated
