@@ -1,4 +1,4 @@
--- Network address translation of one address and port (RFC 3022, section 4.1), with updated checksums (RFC 1624).
+-- Network address translation of one address and port (RFC 3022, sections 2.2 and 4.1), with updated checksums (RFC 1624).
 use Rattle.std.specs.Prelude.{ℕ, ⊤, ◌≡◌, ◌≢◌, ◌↔◌, ◌++◌, IsTrue, false, true, List, drop, take, slice_range}
 use Rattle.ip_wire.specs.Ethernet as ethernet
 use Rattle.ip_wire.specs.Field.{field, with_field, with_range}

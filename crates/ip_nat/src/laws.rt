@@ -13,7 +13,8 @@ use ip_wire::laws::octets_fit;
 pub fn translation_is_undone(frame: &[u8], side: Side, addr: Ipv4Address, port: u16)
     requires { HasUsualChecksums frame.now }
     ensures { (there back : List ℕ) (was : IsTranslated frame.now there side addr port)
-        → IsTranslated there back side (addr_of side was.header) (port_of side was.transport) → back ≡ frame.now }
+        → IsTranslated there back side (addr_of side was.header) (port_of side was.transport)
+        → back ≡ frame.now }
 {
     octets_fit(frame);
 }

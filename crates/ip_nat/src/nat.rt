@@ -1,4 +1,4 @@
-//! Network address translation of one address and port (RFC 3022, section 4.1).
+//! Network address translation of one address and port (RFC 3022, sections 2.2 and 4.1).
 
 ghost use Rattle.std.specs.Prelude.{◌≡◌, ◌≢◌, ◌≤◌, List, ℕ, IfErr, IfOk, OnErr, OnOk, length, true};
 ghost use Rattle.ip_nat.specs.Nat.{Carries, CarriesPorts, HasPorts, IsRejected, IsRejectedPacket, IsRejectedTransport, IsTranslated, Rewrites, addr_of, translated_packet, with_addr, with_end, with_port, with_tcp_end, with_udp_end};
@@ -17,7 +17,7 @@ use ip_wire::{
 };
 use net_base::ChecksumCapabilities;
 
-/// Which address and port of a packet.
+/// The end of a packet whose address and port are replaced.
 #[derive(Debug, Clone, Copy, PartialEq, Eq)]
 pub enum Side {
     Source,
@@ -53,8 +53,9 @@ pub enum Rejection {
     BadTransport,
 }
 
-/// Writes this address and this port into the UDP or TCP packet of a frame, and updates the checksums.
-/// A UDP packet without a checksum gets none. A rejected frame is unchanged.
+/// Writes an address and a port other than 0 into the UDP or TCP packet of a frame over IPv4, and
+/// updates the checksums (RFC 1624). A UDP packet without a checksum gets none. A rejected frame is
+/// unchanged.
 pub fn translate(
     frame: &mut [u8],
     side: Side,
@@ -137,10 +138,8 @@ fn rewrite(header: Ipv4Repr, packet: &mut [u8], side: Side, addr: Ipv4Address, p
     ensures bytes { packet.new ≡ translated_packet side addr port packet.old }
 {
     let view = Ipv4Packet::new_unchecked(packet);
-    let (start, end) = (
-        usize::from(view.header_len()),
-        usize::from(view.total_len()),
-    );
+    let start = usize::from(view.header_len());
+    let end = usize::from(view.total_len());
     let (_, rest) = packet.split_at_mut(start);
     let (payload, _) = rest.split_at_mut(end - start);
     rewrite_transport(header, payload, side, addr, port);
