@@ -1,0 +1,132 @@
+-- An IPv4 header before another payload, and with another address.
+use Rattle.std.proofs.Common.{ℕ, ◌≡◌, ◌≤◌, ◌+◌, ◌-◌, true, List, ◌++◌, length, drop, take, slice_range, refl, sym, ap, subst, ◌∙◌, arith, length-append, length-drop}
+use Rattle.std.proofs.lemmas.List.{drop-drop, length-take-le, take-append-drop}
+use Rattle.ip_wire.specs.Field.{field, with_range}
+use Rattle.ip_wire.specs.Frame.{ipv4_payload}
+use Rattle.ip_wire.specs.Ipv4.{Reads, header_len, is_fragment, total_len}
+use Rattle.ip_wire.specs.Protocol.{protocol_of}
+use Rattle.ip_wire.specs.WordSum.{sum_of_bytes}
+use Rattle.ip_wire.specs.declared.Ipv4Repr.{Ipv4Repr}
+use Rattle.ip_nat.proofs.Cells.{cells, cells-all}
+use Rattle.ip_nat.proofs.Payloads.{range-front, range-len, range-past}
+use Rattle.ip_nat.specs.Nat.{addr_at, with_address}
+use Rattle.ip_nat.specs.declared.nat.Side.{Side}
+use Rattle.ip_nat.specs.declared.nat.Side.TheVariants.{Source, Destination}
+
+-- what says where the payload is, and what it is
+pub record SameShape (old new : List ℕ) : Type 0 where
+  pub version : field new 0 4 ≡ field old 0 4
+  pub header : header_len new ≡ header_len old
+  pub total : total_len new ≡ total_len old
+  pub fragment : is_fragment new ≡ is_fragment old
+  pub protocol : field new 72 8 ≡ field old 72 8
+
+-- all fields but the checksum
+pub record SameHeader (old new : List ℕ) : Type 0 where
+  pub shape : SameShape old new
+  pub hop_limit : field new 64 8 ≡ field old 64 8
+  pub src_addr : slice_range new 12 16 ≡ slice_range old 12 16
+  pub dst_addr : slice_range new 16 20 ≡ slice_range old 16 20
+
+-- bytes are their first twenty and the others
+pub front-len : (bytes : List ℕ) → 20 ≤ length bytes → length (take 20 bytes) ≡ 20
+front-len bytes room = length-take-le 20 bytes room
+
+-- ---- another payload
+
+same_front : (front rest rest' : List ℕ) → length front ≡ 20 → SameHeader (front ++ rest) (front ++ rest')
+same_front front rest rest' e =
+    subst (λ (l : List ℕ). SameHeader (l ++ rest) (l ++ rest')) (sym (cells-all 20 front e))
+    (record { shape = record { version = refl; header = refl; total = refl; fragment = refl; protocol = refl }; hop_limit = refl; src_addr = refl; dst_addr = refl })
+
+-- the front and what follows it, with a part written behind it
+pub past-front : (bytes part : List ℕ) (h n : ℕ) → 20 ≤ length bytes → 20 ≤ h → 20 ≤ n
+    → with_range bytes h n part ≡ take 20 bytes ++ with_range (drop 20 bytes) (h - 20) (n - 20) part
+past-front bytes part h n room least most =
+    ap (λ (l : List ℕ). with_range l h n part) (sym (take-append-drop 20 bytes)) ∙ range-past (take 20 bytes) (drop 20 bytes) part h n (front-len bytes room) least most
+
+pub same-inner : (bytes part : List ℕ) (h n : ℕ) → 20 ≤ length bytes → 20 ≤ h → 20 ≤ n → SameHeader bytes (with_range bytes h n part)
+same-inner bytes part h n room least most =
+    subst (λ (l : List ℕ). SameHeader bytes l) (sym (past-front bytes part h n room least most))
+    (subst (λ (l : List ℕ). SameHeader l (take 20 bytes ++ with_range (drop 20 bytes) (h - 20) (n - 20) part)) (take-append-drop 20 bytes)
+    (same_front (take 20 bytes) (drop 20 bytes) (with_range (drop 20 bytes) (h - 20) (n - 20) part) (front-len bytes room)))
+
+-- a packet with another payload of the same length has the same header
+pub reads-inner : (bytes part : List ℕ) (v : Ipv4Repr) → Reads bytes true v → length part ≡ total_len bytes - header_len bytes
+    → Reads (with_range bytes (header_len bytes) (total_len bytes) part) true v
+reads-inner bytes part v r e =
+    let h = header_len bytes in
+    let n = total_len bytes in
+    let new = with_range bytes h n part in
+    let same = same-inner bytes part h n r.lengths.least r.lengths.header (omega (arith, r.lengths.header, r.lengths.within)) in
+    let long = range-len bytes part h n r.lengths.within r.lengths.whole e in
+    record {
+      lengths = record {
+        least = omega (arith, long, r.lengths.least);
+        header = omega (arith, same.shape.header, r.lengths.header);
+        within = omega (arith, same.shape.header, same.shape.total, r.lengths.within);
+        whole = omega (arith, same.shape.total, long, r.lengths.whole);
+      };
+      version = same.shape.version ∙ r.version;
+      checksum = λ on.
+          ap (λ (k : ℕ). sum_of_bytes (take k new)) same.shape.header
+          ∙ ap sum_of_bytes (range-front bytes part h n (omega (arith, r.lengths.within, r.lengths.whole))) ∙ r.checksum on;
+      payload_len = omega (arith, r.payload_len, same.shape.header, same.shape.total);
+      hop_limit = r.hop_limit ∙ sym same.hop_limit;
+      next_header = r.next_header ∙ ap protocol_of (sym same.shape.protocol);
+      src_addr = r.src_addr ∙ sym same.src_addr;
+      dst_addr = r.dst_addr ∙ sym same.dst_addr;
+    }
+
+-- ---- another address
+
+-- an address is written into the front, and read back there
+pub record IsAddressed (side : Side) (front rest addr : List ℕ) : Type 0 where
+  pub apart : with_address side addr (front ++ rest) ≡ with_address side addr front ++ rest
+  pub long : length (with_address side addr front) ≡ 20
+  pub shape : SameShape (front ++ rest) (with_address side addr (front ++ rest))
+  pub behind : drop 20 (with_address side addr (front ++ rest)) ≡ rest
+  pub written : addr_at side (with_address side addr (front ++ rest)) ≡ addr
+
+addressed_cells : (side : Side) (front rest addr : List ℕ) → IsAddressed side (cells 20 front) rest (cells 4 addr)
+addressed_cells Source front rest addr =
+    record { apart = refl; long = refl; shape = record { version = refl; header = refl; total = refl; fragment = refl; protocol = refl }; behind = refl; written = refl }
+addressed_cells Destination front rest addr =
+    record { apart = refl; long = refl; shape = record { version = refl; header = refl; total = refl; fragment = refl; protocol = refl }; behind = refl; written = refl }
+
+pub addressed : (side : Side) (front rest addr : List ℕ) → length front ≡ 20 → length addr ≡ 4 → IsAddressed side front rest addr
+addressed side front rest addr e f =
+    subst (λ (l : List ℕ). IsAddressed side l rest addr) (sym (cells-all 20 front e))
+    (subst (λ (a : List ℕ). IsAddressed side (cells 20 front) rest a) (sym (cells-all 4 addr f)) (addressed_cells side front rest addr))
+
+-- the payload is the same
+same_payload : (old new : List ℕ) → SameShape old new → drop 20 new ≡ drop 20 old → 20 ≤ header_len old → ipv4_payload new ≡ ipv4_payload old
+same_payload old new s behind least =
+    let h = header_len old in
+    let n = total_len old in
+    let e : h ≡ 20 + (h - 20) = omega (arith, least) in
+    let from : drop h new ≡ drop h old =
+    ap (λ (k : ℕ). drop k new) e ∙ sym (drop-drop (h - 20) 20 new) ∙ ap (drop (h - 20)) behind ∙ drop-drop (h - 20) 20 old ∙ ap (λ (k : ℕ). drop k old) (sym e) in
+    (λ i. take (s.total i - s.header i) (drop (s.header i) new)) ∙ ap (take (n - h)) from
+
+-- the same of any bytes
+pub record Keeps (side : Side) (bytes addr : List ℕ) : Type 0 where
+  pub shape : SameShape bytes (with_address side addr bytes)
+  pub payload : ipv4_payload (with_address side addr bytes) ≡ ipv4_payload bytes
+  pub long : length (with_address side addr bytes) ≡ length bytes
+  pub written : addr_at side (with_address side addr bytes) ≡ addr
+
+pub keeps : (side : Side) (bytes addr : List ℕ) → 20 ≤ length bytes → 20 ≤ header_len bytes → length addr ≡ 4 → Keeps side bytes addr
+keeps side bytes addr room least four =
+    let is = take-append-drop 20 bytes in
+    let at = addressed side (take 20 bytes) (drop 20 bytes) addr (front-len bytes room) four in
+    let shape : SameShape bytes (with_address side addr bytes) = subst (λ (l : List ℕ). SameShape l (with_address side addr l)) is at.shape in
+    let behind : drop 20 (with_address side addr bytes) ≡ drop 20 bytes = subst (λ (l : List ℕ). drop 20 (with_address side addr l) ≡ drop 20 bytes) is at.behind in
+    let apart : with_address side addr bytes ≡ with_address side addr (take 20 bytes) ++ drop 20 bytes =
+    subst (λ (l : List ℕ). with_address side addr l ≡ with_address side addr (take 20 bytes) ++ drop 20 bytes) is at.apart in
+    record {
+      shape = shape;
+      payload = same_payload bytes (with_address side addr bytes) shape behind least;
+      long = ap length apart ∙ length-append (with_address side addr (take 20 bytes)) (drop 20 bytes) ∙ omega (arith, at.long, length-drop 20 bytes, room);
+      written = subst (λ (l : List ℕ). addr_at side (with_address side addr l) ≡ addr) is at.written;
+    }

@@ -1,0 +1,113 @@
+-- A checksum that is updated and updated back.
+use Rattle.std.proofs.Common.{ℕ, zero, suc, ◌≡◌, ◌+◌, ◌-◌, ◌*◌, ◌/◌, ◌<◌, ◌≤◌, ◌==◌, ◌≢◌, ◌⊎◌, inl, inr, true, false, List, sum, refl, arith}
+use Rattle.std.proofs.lemmas.Bool.{cases_lt}
+use Rattle.std.proofs.lemmas.Bool.Decides.{nat_tests}
+use Rattle.ip_wire.specs.Udp.{checksum_for}
+use Rattle.ip_wire.specs.WordSum.{residue, sum_of_bytes, updated, words}
+
+-- a total is its residue and a multiple of 65535
+residue-quotient : (t : ℕ) → (k : ℕ) × (t ≡ residue t + 65535 * k)
+unfolding residue
+residue-quotient zero = (0, refl)
+residue-quotient (suc n) = (n / 65535, omega arith)
+
+residue-bound : (t : ℕ) → residue t ≤ 65535
+unfolding residue
+residue-bound zero = omega arith
+residue-bound (suc n) = omega arith
+
+residue-least : (t : ℕ) → 0 < t → 1 ≤ residue t
+unfolding residue
+residue-least zero h = absurd (omega arith)
+residue-least (suc n) h = omega arith
+
+-- the sum of bytes has 16 bits
+pub sum-fits : (bytes : List ℕ) → sum_of_bytes bytes ≤ 65535
+sum-fits bytes = residue-bound (sum (words bytes))
+
+-- ---- one update
+
+-- the complement of a checksum changes by the change of what it covers, modulo 65535
+pub record IsStep (before after old new : ℕ) : Type 0 where
+  pub turns : ℕ
+  pub moves : 65535 - before + (65535 - old) + new ≡ 65535 - after + 65535 * turns
+
+pub step : (c old new : ℕ) → IsStep c (updated c old new) old new
+step c old new =
+    let q = residue-quotient ((65535 - c) + (65535 - old) + new) in
+    let bound = residue-bound ((65535 - c) + (65535 - old) + new) in
+    record { turns = q.0; moves = omega (arith, q.1, bound) }
+
+pub below-full : (c old new : ℕ) → c < 65535 → updated c old new < 65535
+below-full c old new h =
+    let least = residue-least ((65535 - c) + (65535 - old) + new) (omega (arith, h)) in
+    omega (arith, least)
+
+-- back again, from a checksum other than 0xffff
+pub updated-back : (c old new : ℕ) → c < 65535 → old ≤ 65535 → new ≤ 65535 → updated (updated c old new) new old ≡ c
+updated-back c old new h o n =
+    let there = step c old new in
+    let back = step (updated c old new) new old in
+    let a = below-full c old new h in
+    let b = below-full (updated c old new) new old a in
+    omega (arith, there.moves, back.moves, a, b, h, o, n)
+
+-- two updates, and both back
+pub updated-back_twice : (c old new p q : ℕ) → c < 65535 → old ≤ 65535 → new ≤ 65535 → p ≤ 65535 → q ≤ 65535
+    → updated (updated (updated (updated c old new) p q) new old) q p ≡ c
+updated-back_twice c old new p q h o n ps qs =
+    let u1 = updated c old new in
+    let u2 = updated u1 p q in
+    let u3 = updated u2 new old in
+    let s1 = step c old new in
+    let s2 = step u1 p q in
+    let s3 = step u2 new old in
+    let s4 = step u3 q p in
+    let a = below-full c old new h in
+    let b = below-full u1 p q a in
+    let d = below-full u2 new old b in
+    let e = below-full u3 q p d in
+    omega (arith, s1.moves, s2.moves, s3.moves, s4.moves, a, b, d, e, h, o, n, ps, qs)
+
+-- ---- one update of UDP's checksum, which is never 0
+
+abbrev pub udp_updated : ℕ → ℕ → ℕ → ℕ
+udp_updated c old new = checksum_for (65535 - updated c old new)
+
+-- 0xffff in place of 0
+pub udp-cases : (u : ℕ) → u ≤ 65535 → ((u ≡ 0) × (checksum_for (65535 - u) ≡ 65535)) ⊎ ((1 ≤ u) × (checksum_for (65535 - u) ≡ u))
+udp-cases u fits = elim (cases_lt 0 u) [
+  | inl some ↦
+      let test : (65535 - (65535 - u) == 0) ≡ false = let is : 65535 - (65535 - u) ≢ 0 = λ z. omega (arith, z, fits, some) in grind (arith, nat_tests) in
+      inr (omega (arith, some), rw test (omega (arith, fits)))
+  | inr none ↦
+      let test : (65535 - (65535 - u) == 0) ≡ true = let is : 65535 - (65535 - u) ≡ 0 = omega (arith, none) in grind (arith, nat_tests) in
+      inl (omega (arith, none), rw test refl)
+]
+
+-- the new checksum is not 0, has 16 bits, and is a step from the old one
+pub record IsUdpStep (before after old new : ℕ) : Type 0 where
+  pub by : IsStep before after old new
+  pub some : 1 ≤ after
+  pub fits : after ≤ 65535
+
+pub udp-step : (c old new : ℕ) → IsUdpStep c (udp_updated c old new) old new
+udp-step c old new =
+    let u = updated c old new in
+    let s = step c old new in
+    elim (udp-cases u (omega arith)) [
+      | inl (none, is) ↦ record { by = record { turns = s.turns + 1; moves = omega (arith, s.moves, none, is) }; some = omega (arith, is); fits = omega (arith, is) }
+      | inr (least, is) ↦ record { by = record { turns = s.turns; moves = omega (arith, s.moves, is) }; some = omega (arith, is, least); fits = omega (arith, is) }
+    ]
+
+pub udp-back_twice : (c old new p q : ℕ) → 1 ≤ c → c ≤ 65535 → old ≤ 65535 → new ≤ 65535 → p ≤ 65535 → q ≤ 65535
+    → udp_updated (udp_updated (udp_updated (udp_updated c old new) p q) new old) q p ≡ c
+udp-back_twice c old new p q some h o n ps qs =
+    let u1 = udp_updated c old new in
+    let u2 = udp_updated u1 p q in
+    let u3 = udp_updated u2 new old in
+    let s1 = udp-step c old new in
+    let s2 = udp-step u1 p q in
+    let s3 = udp-step u2 new old in
+    let s4 = udp-step u3 q p in
+    omega (arith, s1.by.moves, s2.by.moves, s3.by.moves, s4.by.moves, s1.some, s2.some, s3.some, s4.some, s1.fits, s2.fits, s3.fits, s4.fits, some, h, o, n, ps, qs)

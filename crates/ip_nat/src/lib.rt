@@ -1,0 +1,9 @@
+//! Network address translation of one address and port, in place.
+#![tactic(auto)]
+
+pub mod laws;
+mod nat;
+#[cfg(test)]
+mod tests;
+
+pub use nat::{Rejection, Side, translate};

@@ -1,0 +1,3 @@
+//! Real frames, translated and rejected.
+
+mod nat;
