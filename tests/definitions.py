@@ -16,6 +16,7 @@ TESTS = {"addr": "addr_tests", "link": "link_tests", "ip": "ip_tests", "transpor
 PINS = {
     "replies": "crates/ip_replies/src/tests/{}.rt",
     "forward": "crates/ip_forward/src/tests/{}.rt",
+    "nat": "crates/ip_nat/src/tests/{}.rt",
     "cases": "tests/cases/{}.hex",
     "calls": "tests/calls/{}.call",
     "tests": "tests/{}",
