@@ -50,8 +50,7 @@ impl Addr {
     }
 
     /// This address, of this version, and another one. `None` if they have no version, or different
-    /// ones. Callers pass a constant version: then the code is compiled for each version alone, and
-    /// values stay in registers.
+    /// ones.
     #[inline(always)]
     pub fn pair(&self, version: u16, other: &Addr) -> Option<(IpAddress, IpAddress)>
         requires { version ≡ self.now.version }
