@@ -2,9 +2,11 @@
 
 ghost use Rattle.std.specs.Prelude.{◌≡◌, ◌≤◌, Some, length, pos};
 ghost use Rattle.ip_wire.specs.Frame.{ethernet, rebuilt, rebuilt_transport_by, rebuilt_packet, rebuilt_payload, rebuilt_transport};
-ghost use Rattle.ip_wire.specs.Ip.{dst_addr_of, max_payload_len, src_addr_of};
+ghost use Rattle.ip_wire.specs.FrameValue.{header_before};
+ghost use Rattle.ip_wire.specs.Ip.{dst_addr_of, max_payload_len, next_header_of, src_addr_of};
+ghost use Rattle.ip_wire.specs.Protocol.{number_of};
 ghost use Rattle.ip_wire.specs.declared.EthernetProtocol.TheVariants.{Arp, Ipv4, Ipv6};
-ghost use Rattle.ip_wire.specs.declared.IpProtocol.TheVariants.{Tcp, Udp};
+ghost use Rattle.ip_wire.specs.declared.IpProtocol.TheVariants.{Tcp, Udp, Unknown};
 ghost use Rattle.ip_wire_c.specs.Frames.{rebuilt_of};
 ghost use Rattle.ip_wire_c.specs.Written.{Fills, Writes};
 
@@ -16,6 +18,12 @@ use ip_wire::{
     TcpRepr, UdpPacket, UdpRepr,
 };
 use net_base::ChecksumCapabilities;
+
+// The byte of the protocol number in an IPv4 header (RFC 791, section 3.1), and of the next header in an
+// IPv6 header (RFC 8200, section 3).
+const IPV4_PROTOCOL: usize = 9;
+
+const IPV6_NEXT_HEADER: usize = 6;
 
 /// Parses a frame, and writes it with its headers emitted again. Returns its length, which is at most that
 /// of the parsed frame.
@@ -85,7 +93,12 @@ fn rebuild_ipv4(bytes: &[u8], out: &mut [u8]) -> Option<usize>
     let packet = Ipv4Packet::new_unchecked(bytes);
     match Ipv4Repr::parse(&packet, &ChecksumCapabilities::default()) {
         Ok(header) if !packet.is_fragment() => {
-            rebuild_packet(IpRepr::Ipv4(header), packet.payload(), out)
+            rebuild_packet(
+                IpRepr::Ipv4(header),
+                bytes[IPV4_PROTOCOL],
+                packet.payload(),
+                out,
+            )
         }
         _ => copy(bytes, out),
     }
@@ -97,15 +110,24 @@ fn rebuild_ipv6(bytes: &[u8], out: &mut [u8]) -> Option<usize>
 {
     let packet = Ipv6Packet::new_unchecked(bytes);
     match Ipv6Repr::parse(&packet) {
-        Ok(header) => rebuild_packet(IpRepr::Ipv6(header), packet.payload(), out),
+        Ok(header) => {
+            rebuild_packet(
+                IpRepr::Ipv6(header),
+                bytes[IPV6_NEXT_HEADER],
+                packet.payload(),
+                out,
+            )
+        }
         Err(_) => copy(bytes, out),
     }
 }
 
-// Rebuilds a packet with this header. The payload length is set to that of the rebuilt payload.
+// Rebuilds a packet with this header and protocol number. The payload length is set to that of the rebuilt
+// payload.
 #[inline(always)]
-fn rebuild_packet(header: IpRepr, payload: &[u8], out: &mut [u8]) -> Option<usize>
-    requires { length payload.now ≤ max_payload_len header }
+fn rebuild_packet(header: IpRepr, protocol: u8, payload: &[u8], out: &mut [u8]) -> Option<usize>
+    requires len { length payload.now ≤ max_payload_len header }
+    requires protocol { protocol ≡ number_of (next_header_of header) }
     ensures { Fills (Some (rebuilt_packet header payload.now)) out.old out.new result }
 {
     let header_len = header.header_len();
@@ -115,12 +137,32 @@ fn rebuild_packet(header: IpRepr, payload: &[u8], out: &mut [u8]) -> Option<usiz
     let (front, rest) = out.split_at_mut(header_len);
     match rebuild_transport(&header, payload, rest) {
         Some(payload_len) => {
-            let mut header = header;
-            header.set_payload_len(payload_len);
+            let header = with_number(header, protocol, payload_len);
             header.emit(front, &ChecksumCapabilities::default());
             Some(header_len + payload_len)
         }
         None => None,
+    }
+}
+
+// The header with its protocol as a number, and with this payload length. A number is written as it is: the
+// name of a protocol would first be looked up in a table.
+#[inline(always)]
+fn with_number(header: IpRepr, protocol: u8, payload_len: usize) -> IpRepr
+    ensures { result ≡ header_before header (Unknown protocol) payload_len }
+{
+    let next_header = IpProtocol::Unknown(protocol);
+    match header {
+        IpRepr::Ipv4(header) => IpRepr::Ipv4(Ipv4Repr {
+            next_header,
+            payload_len,
+            ..header
+        }),
+        IpRepr::Ipv6(header) => IpRepr::Ipv6(Ipv6Repr {
+            next_header,
+            payload_len,
+            ..header
+        }),
     }
 }
 

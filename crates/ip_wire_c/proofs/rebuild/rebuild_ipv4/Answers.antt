@@ -1,7 +1,10 @@
-use Rattle.std.proofs.Common.{◌≡◌, ◌∙◌, ◌⊎◌, inl, inr, Some, None, true, false, ap, sym, slice_range, rules}
+use Rattle.std.proofs.Common.{◌≡◌, ◌∙◌, ◌⊎◌, inl, inr, Some, None, true, false, ap, sym, slice_index, slice_range, rules, arith, refl}
 use Rattle.ip_wire.proofs.Frames.{rebuilt-ipv4, rebuilt-ipv4-copied}
 use Rattle.ip_wire.specs.Ipv4.{header_len, ipv4_of, is_fragment, total_len}
 use Rattle.net_base.specs.Checksum.{verifies}
+use Rattle.ip_wire.specs.Field.{field}
+use Rattle.ip_wire.specs.Protocol.{protocol_of}
+use Rattle.wire_ends.proofs.Protocols.{number_of-protocol_of}
 use Rattle.ip_wire_c.proofs.rebuild.rebuild_ipv4.Goals.{in_default-via-in-Ok+else-not-is_fragment, in_default-via-in_default}
 use Rattle.ip_wire_c.proofs.rebuild.rebuild_ipv4.Goals as goal
 
@@ -24,3 +27,12 @@ returns-in_default c =
       | in_default-via-in_default w ↦ inl (rw (caps, c.new_unchecked-packet.ensures) at w.in_default.ensures.value)
     ] in
     rw (rebuilt-ipv4-copied bytes copied) c.copy.ensures
+
+pub rebuild_packet-requires-clause-protocol : goal.rebuild_packet-requires-clause-protocol
+rebuild_packet-requires-clause-protocol c =
+    let bytes = c.args.bytes.now in
+    let header = (c.in-Ok.ensures.reads c.in-Ok.header).0 refl in
+    let named : c.in-Ok.header.next_header ≡ protocol_of (field bytes 72 8) = rw c.new_unchecked-packet.ensures at header.next_header in
+    let small = (c.type_inv.bytes 9).fits in
+    let number : field bytes 72 8 ≡ slice_index bytes 9 = omega (arith, small) in
+    rw (named, number_of-protocol_of (field bytes 72 8)) (sym number)

@@ -1,8 +1,11 @@
 use Rattle.std.proofs.Common.{◌≡◌, ◌∙◌, ap, length, refl, rules, take, true}
-use Rattle.ip_wire.proofs.Frames.{header_len_of-with, rebuilt_transport-fits}
+use Rattle.ip_wire.proofs.Frames.{rebuilt_transport-fits}
 use Rattle.ip_wire.specs.Frame.{rebuilt_transport}
+use Rattle.ip_wire.specs.FrameValue.{header_before}
 use Rattle.ip_wire.specs.Ip.{bytes_of, with_payload_len}
+use Rattle.ip_wire.specs.declared.IpProtocol.TheVariants.{Unknown}
 use Rattle.ip_wire_c.proofs.Filled.{filled-behind}
+use Rattle.ip_wire_c.proofs.Numbered.{bytes_of-number, fits-number, header_len_of-number}
 use Rattle.net_base.specs.Checksum.{computes}
 use Rattle.ip_wire_c.proofs.rebuild.rebuild_packet.Goals as goal
 
@@ -11,8 +14,8 @@ emit-requires-clause-payload_len c =
     let header = c.args.header in
     let inner = rebuilt_transport header c.args.payload.now in
     let count : c.in-Some.payload_len ≡ length inner = search rules in
-    let relen : c.set_payload_len.new.self ≡ with_payload_len header (length inner) = c.set_payload_len.ensures ∙ ap (with_payload_len header) count in
-    rw relen (rebuilt_transport-fits header c.args.payload.now c.requires)
+    let numbered : c.with_number-header.result ≡ header_before header (Unknown c.args.protocol) (length inner) = c.with_number-header.ensures ∙ ap (header_before header (Unknown c.args.protocol)) count in
+    rw numbered (fits-number header c.args.protocol (length inner) (rebuilt_transport-fits header c.args.payload.now c.requires.len))
 
 pub returns-in-Some : goal.returns-in-Some
 returns-in-Some c =
@@ -20,10 +23,11 @@ returns-in-Some c =
     let inner = rebuilt_transport header c.args.payload.now in
     let old = c.args.out.now in
     let count : c.in-Some.payload_len ≡ length inner = search rules in
-    let relen : c.set_payload_len.new.self ≡ with_payload_len header (length inner) = c.set_payload_len.ensures ∙ ap (with_payload_len header) count in
+    let numbered : c.with_number-header.result ≡ header_before header (Unknown c.args.protocol) (length inner) = c.with_number-header.ensures ∙ ap (header_before header (Unknown c.args.protocol)) count in
     let caps : computes c.default.result.ipv4 ≡ true = search rules in
-    let same = header_len_of-with header (length inner) in
+    let same = header_len_of-number header c.args.protocol (length inner) in
+    let bytes = bytes_of-number header c.args.protocol (length inner) c.requires.protocol in
     let front : c.split_at_mut-front.result.0.now ≡ take c.header_len-header_len.result old = search rules in
-    let written = rw (caps, relen, same, ← c.header_len-header_len.ensures, front) at c.emit.ensures in
+    let written = rw (caps, numbered, same, bytes, ← c.header_len-header_len.ensures, front) at c.emit.ensures in
     filled-behind (bytes_of (with_payload_len header (length inner)) true) inner old _ c.emit.new.buffer c.rebuild_transport.new.out c.header_len-header_len.result c.in-Some.payload_len
     (search rules) (search rules) refl written (search rules) (search rules) (search rules)

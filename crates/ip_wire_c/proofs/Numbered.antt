@@ -1,0 +1,25 @@
+-- A header whose protocol is a number.
+use Rattle.std.proofs.Common.{ℕ, ◌≡◌, ◌≤◌, refl, true}
+use Rattle.ip_wire.specs.FrameValue.{header_before}
+use Rattle.ip_wire.specs.Ip.{bytes_of, header_len_of, max_payload_len, next_header_of, payload_len_of, with_payload_len}
+use Rattle.ip_wire.specs.Protocol.{number_of}
+use Rattle.ip_wire.specs.declared.IpProtocol.TheVariants.{Unknown}
+use Rattle.ip_wire.specs.declared.IpRepr.{IpRepr}
+use Rattle.ip_wire.specs.declared.IpRepr.TheVariants.{Ipv4, Ipv6}
+
+-- a header with the number of its protocol is written as the header with its name
+pub bytes_of-number : (v : IpRepr) (n len : ℕ) → n ≡ number_of (next_header_of v)
+    → bytes_of (header_before v (Unknown n) len) true ≡ bytes_of (with_payload_len v len) true
+bytes_of-number (Ipv4 v) n len is = rw is refl
+bytes_of-number (Ipv6 v) n len is = rw is refl
+
+-- it is as long
+pub header_len_of-number : (v : IpRepr) (n len : ℕ) → header_len_of (header_before v (Unknown n) len) ≡ header_len_of v
+header_len_of-number (Ipv4 v) n len = refl
+header_len_of-number (Ipv6 v) n len = refl
+
+-- it can express the same payload lengths
+pub fits-number : (v : IpRepr) (n len : ℕ) → payload_len_of (with_payload_len v len) ≤ max_payload_len (with_payload_len v len)
+    → payload_len_of (header_before v (Unknown n) len) ≤ max_payload_len (header_before v (Unknown n) len)
+fits-number (Ipv4 v) n len fits = fits
+fits-number (Ipv6 v) n len fits = fits
