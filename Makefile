@@ -15,8 +15,9 @@
 #                 the same for the program that makes one library call per line
 # make bench [REFERENCE_BENCH=library.so] [REFERENCE=program]
 #                 times the library's calls beside hand-written C (bench/floor.c), and the program, and
-#                 prints the tables in Markdown; with a reference, also beside a shared library with the
-#                 same calls (bench/reference.rs wraps smoltcp), and beside a program for the same lines
+#                 prints the tables in Markdown, with a summary; with a reference, also beside a shared
+#                 library with the same calls (bench/reference.rs wraps smoltcp), and beside a program
+#                 for the same lines
 
 FRAMES ?= examples/frames.hex
 CRATE ?=

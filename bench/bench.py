@@ -18,6 +18,7 @@ import tempfile
 import time
 
 import chart
+import groups
 
 CALLS = "bench/calls.c"
 FLOOR = "bench/floor.c"
@@ -92,6 +93,7 @@ def time_calls(room, reference):
         sys.exit(1)  # it said why
     with open(CHART, "w", encoding="utf-8") as file:
         file.write(chart.draw(table))
+    print(f"\n{groups.summary(table)}")
 
 
 def time_programs(room, reference):
