@@ -1,27 +1,15 @@
 -- Headers that are written in place, in several steps.
-use Rattle.std.proofs.Common.{◌≡◌, ◌∙◌, ℕ, ◌+◌, ◌-◌, ◌*◌, ◌/◌, ◌%◌, ◌≤◌, ◌<◌, Bool, false, List, [], ◌++◌, drop, length, take, slice_set, slice_range, ap, sym, subst, append-nil, arith}
+use Rattle.std.proofs.Common.{◌≡◌, ◌∙◌, ℕ, ◌+◌, ◌-◌, ◌*◌, ◌%◌, ◌≤◌, ◌<◌, false, List, [], ◌++◌, drop, length, take, slice_set, slice_range, ap, sym, append-nil, arith}
 use Rattle.std.proofs.lemmas.Grind.{common_steps}
 use Rattle.std.proofs.lemmas.List.{drop-take}
 use Rattle.ip_wire.specs.Field.{with_field, with_part, word_at}
 use Rattle.ip_wire.specs.TcpRepr.{TcpHeader, bytes_of, header_bytes, header_len_of}
 use Rattle.ip_wire.specs.declared.IpAddress.{IpAddress}
-use Rattle.ip_wire_c.specs.Headers.{is_yes, segment_with_flags, with_ipv4_fields, with_ipv6_fields}
-use Rattle.ip_wire_c.specs.Written.{flag}
+use Rattle.ip_wire_c.specs.Headers.{segment_with_flags, with_ipv6_fields}
 use Rattle.ip_wire_c.specs.declared.types.Ip.{Ip}
 use Rattle.ip_wire_c.specs.declared.types.Tcp.{Tcp}
 
 -- ---- IP
-
-pub ipv4-fields : (h : Ip) (b0 b1 b2 b3 b4 b5 b6 : List ℕ) → b1 ≡ with_field b0 51 13 (h.fragment_offset / 8)
-    → b2 ≡ with_field b1 49 1 (flag (is_yes h.dont_fragment)) → b3 ≡ with_field b2 50 1 (flag (is_yes h.more_fragments))
-    → b4 ≡ with_field b3 8 6 h.dscp → b5 ≡ with_field b4 14 2 h.ecn → b6 ≡ with_field b5 32 16 h.ident
-    → b6 ≡ with_ipv4_fields h b0
-ipv4-fields h b0 b1 b2 b3 b4 b5 b6 e1 e2 e3 e4 e5 e6 =
-    let f2 = e2 ∙ ap (λ b. with_field b 49 1 (flag (is_yes h.dont_fragment))) e1 in
-    let f3 = e3 ∙ ap (λ b. with_field b 50 1 (flag (is_yes h.more_fragments))) f2 in
-    let f4 = e4 ∙ ap (λ b. with_field b 8 6 h.dscp) f3 in
-    let f5 = e5 ∙ ap (λ b. with_field b 14 2 h.ecn) f4 in
-    e6 ∙ ap (λ b. with_field b 32 16 h.ident) f5
 
 pub ipv6-fields : (h : Ip) (b0 b1 b2 : List ℕ) → b1 ≡ with_field b0 4 8 (4 * h.dscp + h.ecn) → b2 ≡ with_field b1 12 20 h.flow_label → b2 ≡ with_ipv6_fields h b0
 ipv6-fields h b0 b1 b2 e1 e2 = e2 ∙ ap (λ b. with_field b 12 20 h.flow_label) e1

@@ -3,6 +3,7 @@ mod FieldsOf
 mod Filled
 mod Framed
 mod HostAnswers
+mod Ipv4Words
 mod Numbered
 mod StoredFrame
 mod StoredHeaders

@@ -1,5 +1,5 @@
 -- The bytes of whole frames that are written from the struct of a frame.
-use Rattle.std.specs.Prelude.{ℕ, ◌+◌, ◌&&◌, ◌==◌, nat_le, ◌++◌, Bool, true, List, length, slice_range, Option, None, Some}
+use Rattle.std.specs.Prelude.{ℕ, ◌+◌, ◌&&◌, ◌==◌, nat_le, ◌++◌, Bool, true, List, length, slice_range, Option}
 use Rattle.std.specs.Option.{option_and_then, option_map}
 use Rattle.ip_wire.specs.Frame.{rebuilt}
 use Rattle.ip_wire.specs.Ip.{header_len_of}

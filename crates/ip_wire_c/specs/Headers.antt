@@ -1,5 +1,5 @@
 -- The bytes that are written for the structs of headers.
-use Rattle.std.specs.Prelude.{ℕ, ◌≡◌, ◌+◌, ◌*◌, ◌/◌, ◌%◌, ◌^◌, ◌&&◌, ◌||◌, ◌==◌, not, nat_le, nat_lt, if◌then◌else◌, ◌++◌, Bool, false, List, [], length, map, slice_get, Option, None, Some}
+use Rattle.std.specs.Prelude.{ℕ, ◌+◌, ◌*◌, ◌/◌, ◌%◌, ◌&&◌, ◌||◌, ◌==◌, not, nat_le, nat_lt, if◌then◌else◌, ◌++◌, Bool, false, List, length, map, slice_get, Option, None, Some}
 use Rattle.std.specs.Bool.{then_some}
 use Rattle.std.specs.List.{range_with_len}
 use Rattle.std.specs.Option.{option_and_then, option_map}
@@ -25,7 +25,7 @@ use Rattle.ip_wire.specs.declared.IpRepr.{IpRepr}
 use Rattle.ip_wire.specs.declared.IpRepr.TheVariants.{Ipv4, Ipv6}
 use Rattle.ip_wire.specs.declared.TcpControl.TheVariants as control
 use Rattle.ip_wire.specs.declared.UdpRepr.{UdpRepr}
-use Rattle.ip_wire_c.specs.Addresses.{ip_of, pair_of}
+use Rattle.ip_wire_c.specs.Addresses.{pair_of}
 use Rattle.ip_wire_c.specs.Written.{flag}
 use Rattle.ip_wire_c.specs.declared.types.Addr.{Addr}
 use Rattle.ip_wire_c.specs.declared.types.Arp.{Arp}

@@ -1,7 +1,9 @@
 //! IP headers of either version.
 
-ghost use Rattle.std.specs.Prelude.{◌≡◌, ◌≤◌, ◌<◌, ◌++◌, IfSome, Some, drop, length, take, true};
+ghost use Rattle.std.specs.Prelude.{◌≡◌, ◌≤◌, ◌<◌, ◌++◌, IfSome, Some, drop, false, flat_map, length, take, true};
 ghost use Rattle.std.specs.Option.{option_map};
+ghost use Rattle.byteorder.specs.Endian.{big_bytes};
+ghost use Rattle.ip_wire.specs.Field.{with_field};
 ghost use Rattle.ip_wire.specs.Ip.{bytes_of, header_len_of, max_payload_len, payload_len_of};
 ghost use Rattle.ip_wire.specs.Ipv4 as ipv4;
 ghost use Rattle.ip_wire.specs.Ipv6 as ipv6;
@@ -11,11 +13,11 @@ ghost use Rattle.ip_wire.specs.declared.IpRepr.TheVariants.{Ipv4, Ipv6};
 ghost use Rattle.ip_wire_c.specs.Written.{Fills};
 
 use crate::types::{Addr, Ip};
+use byteorder::{ByteOrder, NetworkEndian};
 use ip_wire::{
-    IPV4_HEADER_LEN, IPV6_HEADER_LEN, IpProtocol, IpRepr, Ipv4PacketMut, Ipv4Repr, Ipv6PacketMut,
-    Ipv6Repr,
+    IPV4_HEADER_LEN, IPV6_HEADER_LEN, IpProtocol, IpRepr, Ipv4Repr, Ipv6PacketMut, Ipv6Repr,
 };
-use net_base::ChecksumCapabilities;
+use wire_checksum::for_emit;
 
 impl Ip {
     /// The values of a header of this protocol between two addresses, the first of this version.
@@ -152,7 +154,8 @@ impl Ip {
         }
     }
 
-    // Writes an IPv4 header.
+    // Writes an IPv4 header. The checksum is computed from the words before they are written, since
+    // bytes that were just written are slow to read again.
     #[inline(always)]
     fn emit_ipv4(&self, value: &Ipv4Repr, computed: bool, out: &mut [u8])
         requires payload_len { value.now.payload_len ≤ ipv4.max_payload_len }
@@ -160,18 +163,36 @@ impl Ip {
         requires room { 20 ≤ length out.old }
         ensures { out.new ≡ header_bytes self.now computed (Ipv4 value.now) ++ drop 20 out.old }
     {
+        let checksum = if computed {
+            !for_emit::words(self.ipv4_words(*value, 0))
+        } else {
+            0
+        };
         let (front, _) = out.split_at_mut(IPV4_HEADER_LEN);
-        let mut packet = Ipv4PacketMut::new_unchecked(front);
-        value.emit(&mut packet, &ChecksumCapabilities::ignored());
-        packet.set_frag_offset(self.fragment_offset);
-        packet.set_dont_frag(self.dont_fragment != 0);
-        packet.set_more_frags(self.more_fragments != 0);
-        packet.set_dscp(self.dscp);
-        packet.set_ecn(self.ecn);
-        packet.set_ident(self.ident as u16);
-        if computed {
-            packet.fill_checksum();
-        }
+        NetworkEndian::write_u32_into(&self.ipv4_words(*value, checksum), front);
+    }
+
+    // The words of an IPv4 header, of 32 bits each.
+    #[inline(always)]
+    fn ipv4_words(&self, value: Ipv4Repr, checksum: u16) -> [u32; 5]
+        requires payload_len { value.payload_len ≤ ipv4.max_payload_len }
+        requires ident { self.now.ident < 65536 }
+        ensures { flat_map (big_bytes 4) result
+            ≡ with_field (with_ipv4_fields self.now (ipv4.bytes_of value false)) 80 16 checksum }
+    {
+        let service = u32::from(4 * (self.dscp % 64) + self.ecn % 4);
+        let total_len = (IPV4_HEADER_LEN + value.payload_len) as u32;
+        let dont_fragment = u32::from(self.dont_fragment != 0);
+        let more_fragments = u32::from(self.more_fragments != 0);
+        let offset = u32::from(self.fragment_offset / 8);
+        let protocol = u32::from(u8::from(value.next_header));
+        [
+            (0x4500 + service) * 65536 + total_len,
+            self.ident * 65536 + dont_fragment * 16384 + more_fragments * 8192 + offset,
+            u32::from(value.hop_limit) * 16777216 + protocol * 65536 + u32::from(checksum),
+            value.src_addr.to_bits(),
+            value.dst_addr.to_bits(),
+        ]
     }
 
     // Writes an IPv6 header.

@@ -1,13 +1,14 @@
 //! Sums for `emit`, computed from values before they are written. Bytes that were just written are
 //! slow to read again.
 
-ghost use Rattle.std.specs.Prelude.{◌≡◌, ◌%◌, ◌≤◌, ◌++◌, length};
+ghost use Rattle.std.specs.Prelude.{◌≡◌, ◌%◌, ◌≤◌, ◌++◌, flat_map, length};
+ghost use Rattle.byteorder.specs.Endian.{big_bytes};
 ghost use Rattle.wire_ends.specs.IpAddress.{version_of};
 ghost use Rattle.wire_checksum.specs.PseudoHeader.{with_pseudo_header};
 ghost use Rattle.wire_checksum.specs.WordSum.{sum_of_bytes};
 
 use crate::checksum::pseudo_header_total;
-use crate::totals::{around, finish, total, total_of_words};
+use crate::totals::{around, finish, reduce, total, total_of_words};
 use wire_ends::{IpAddress, IpProtocol};
 
 /// The sum of a header of 20 octets, such as an IPv4 header without options. It equals
@@ -17,6 +18,15 @@ pub fn header(bytes: &[u8; 20]) -> u16
     ensures { result ≡ sum_of_bytes bytes.now }
 {
     finish(total_of_words(bytes))
+}
+
+/// The sum of the big-endian bytes of five numbers, such as an IPv4 header without options.
+#[inline(always)]
+pub fn words(numbers: [u32; 5]) -> u16
+    ensures { result ≡ sum_of_bytes (flat_map (big_bytes 4) numbers) }
+{
+    let [a, b, c, d, e] = numbers;
+    reduce(u64::from(a) + u64::from(b) + u64::from(c) + u64::from(d) + u64::from(e))
 }
 
 /// The sum of a pseudo-header and a packet in two slices. It equals `checksum::packet` of both

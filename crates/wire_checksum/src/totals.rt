@@ -15,9 +15,9 @@ pub fn finish(total: u64) -> u16
     reduce(total).swap_bytes()
 }
 
-// Folds a number to the one's complement sum of its 16-bit words.
+/// Folds a number to the one's complement sum of its 16-bit words.
 #[inline]
-fn reduce(total: u64) -> u16
+pub fn reduce(total: u64) -> u16
     ensures { result ≡ residue total }
 {
     fold_to_u16(fold_to_u32(total))

@@ -1,8 +1,7 @@
-use Rattle.std.proofs.Common.{◌≡◌, ◌∙◌, ◌+◌, ◌<◌, ◌≤◌, None, Some, ap, length, refl, subst, sym, rules, arith}
+use Rattle.std.proofs.Common.{◌≡◌, ◌∙◌, ◌+◌, None, Some, length, refl, subst, sym, arith}
 use Rattle.ip_wire.specs.TcpRepr.{header_len_of, header_of}
 use Rattle.ip_wire_c.proofs.Framed.{length-segment, tcp-segment}
 use Rattle.ip_wire_c.specs.Addresses.{pair_of}
-use Rattle.ip_wire_c.specs.Headers.{segment_bytes, tcp_bytes}
 use Rattle.ip_wire_c.specs.Written.{Fills}
 use Rattle.ip_wire_c.proofs.emit.emit_tcp.Goals as goal
 

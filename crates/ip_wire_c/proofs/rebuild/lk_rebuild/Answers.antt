@@ -3,7 +3,6 @@ use Rattle.std.proofs.lemmas.Bool.Decides.{nat_tests}
 use Rattle.ip_wire.proofs.Settles.{Rebuilds-frame}
 use Rattle.ip_wire.specs.Frame.{rebuilt}
 use Rattle.ip_wire_c.specs.Frames.{rebuilt_of}
-use Rattle.ip_wire_c.specs.Written.{Writes, WritesBytes}
 use Rattle.ip_wire_c.proofs.Filled.{writes-filled}
 use Rattle.ip_wire_c.proofs.rebuild.lk_rebuild.Goals as goal
 

@@ -1,4 +1,4 @@
-use Rattle.std.proofs.Common.{◌≡◌, ◌∙◌, Bool, true, false, List, ℕ, Option, ap, refl, sym, None, Some, drop, length, nat_le, if◌then◌else◌}
+use Rattle.std.proofs.Common.{◌≡◌, ◌∙◌, Bool, true, false, List, ℕ, ap, refl, sym, None, Some, drop, length, nat_le, if◌then◌else◌}
 use Rattle.std.proofs.lemmas.Option.{none-some}
 use Rattle.ip_wire.proofs.Frames.{rebuilt-read}
 use Rattle.ip_wire.specs.Ethernet.{ethernet_of, header_of}

@@ -1,4 +1,4 @@
-use Rattle.std.proofs.Common.{◌≡◌, ◌∙◌, ◌+◌, ◌≤◌, Some, ap, length, slice_range, subst, sym, arith}
+use Rattle.std.proofs.Common.{◌≡◌, ◌∙◌, ◌+◌, ◌≤◌, Some, ap, length, slice_range, sym, arith}
 use Rattle.std.specs.Option.{option_and_then}
 use Rattle.ip_wire.specs.Ip.{header_len_of}
 use Rattle.ip_wire_c.proofs.Framed.{filled-front, length-there, part-there, udp-framed}

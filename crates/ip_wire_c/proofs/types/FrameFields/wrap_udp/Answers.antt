@@ -1,4 +1,4 @@
-use Rattle.std.proofs.Common.{◌≡◌, ◌+◌, drop, rules, true}
+use Rattle.std.proofs.Common.{◌≡◌, ◌+◌, drop, true}
 use Rattle.ip_wire.specs.Ip.{dst_addr_of, header_len_of, src_addr_of}
 use Rattle.ip_wire.specs.Udp.{bytes_of}
 use Rattle.ip_wire_c.proofs.Framed.{behind-headers}

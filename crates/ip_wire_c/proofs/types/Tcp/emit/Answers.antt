@@ -1,4 +1,3 @@
-use Rattle.std.proofs.Common.{◌≡◌, ◌∙◌, ◌+◌, ◌++◌, ap, length, subst}
 use Rattle.ip_wire.specs.TcpRepr.{header_len_of, header_of}
 use Rattle.ip_wire_c.proofs.Filled.{placed}
 use Rattle.ip_wire_c.specs.Headers.{segment_bytes}

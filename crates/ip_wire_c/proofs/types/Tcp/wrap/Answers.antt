@@ -2,7 +2,7 @@ use Rattle.std.proofs.Common.{◌≡◌, ◌∙◌, ◌+◌, ◌≤◌, ◌<◌,
 use Rattle.std.proofs.lemmas.Grind.{common_steps}
 use Rattle.net_base.specs.Checksum.{computes}
 use Rattle.ip_wire.specs.Tcp.{packet_bytes_mut, with_checksum}
-use Rattle.ip_wire.specs.TcpRepr.{header_bytes, header_len_of, header_of}
+use Rattle.ip_wire.specs.TcpRepr.{header_len_of, header_of}
 use Rattle.ip_wire_c.proofs.Emitted.{header-before, segment-flags}
 use Rattle.ip_wire_c.proofs.Filled.{filled-header}
 use Rattle.ip_wire_c.specs.Headers.{segment_bytes, segment_with_flags}

@@ -1,0 +1,10 @@
+use Rattle.std.proofs.Common.{arith, rules}
+use Rattle.ip_wire_c.proofs.Ipv4Words.{ipv4-words}
+use Rattle.ip_wire_c.proofs.types.Ip.ipv4_words.Goals as goal
+
+pub returns : goal.returns
+returns c =
+    let h = c.args.self.now in
+    let v = c.args.value in
+    ipv4-words h v c.args.checksum _ _ _ _ _ c.requires.ident (search rules) (omega (arith, c.requires.payload_len)) (search rules) (search rules) (search rules)
+    (search rules) (search rules) (search rules) c.to_bits.ensures.value c.to_bits.ensures.octets c.to_bits-2.ensures.value c.to_bits-2.ensures.octets
