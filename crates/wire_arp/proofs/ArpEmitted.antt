@@ -1,9 +1,13 @@
--- What is read of the packet of a value.
-use Rattle.std.proofs.Common.{ℕ, ◌≡◌, ◌<◌, ◌^◌, List, ◌++◌, length, refl, arith}
+-- What `emit` leaves, and what is read of the packet of a value.
+use Rattle.std.proofs.Common.{ℕ, ◌≡◌, ◌<◌, ◌≤◌, ◌^◌, List, [], ◌∷◌, ◌++◌, length, drop, slice_index, slice_range, refl, ◌∙◌, ◌+◌, ◌/◌, ◌%◌, arith}
+use borrow.Rule.Slice.PartMut.{put_mid}
+use Rattle.byteorder.specs.Endian.{big_bytes, big_number}
+use Rattle.wire_addr.specs.Octets.{AreOctets}
+use Rattle.wire_addr.specs.Prefix.{number_of}
 use Rattle.wire_field.specs.Field.{field}
-use Rattle.wire_field.proofs.Cells.{cells-all}
+use Rattle.wire_field.proofs.Cells.{cells-all, cells-drop, four_bytes}
 use Rattle.wire_arp.proofs.ArpComputed.{value_of-fields}
-use Rattle.wire_arp.specs.Arp.{Reads, bytes_of, normal, operation_number, operation_of}
+use Rattle.wire_arp.specs.Arp.{Reads, bytes_of, ethernet_ipv4, normal, operation_number, operation_of}
 use Rattle.wire_arp.specs.declared.arp.repr.ArpRepr.{ArpRepr}
 use Rattle.wire_arp.specs.declared.arp.repr.ArpRepr.TheVariants.{EthernetIpv4}
 
@@ -31,3 +35,47 @@ reads-bytes_of (EthernetIpv4 operation sha spa tha tpa) rest (small, h) =
       kind = refl;
       fields = value_of-fields bytes (operation_of (operation_number operation)) sha spa tha tpa (rw number refl) (rw a refl) (rw (a, b) refl) (rw (a, b, c) refl) (rw (a, b, c, d) refl);
     }
+
+-- ---- what the writes of `emit` leave
+
+-- the first eight bytes are one number
+pub front_bytes : (n operation : ℕ) → operation < 2 ^ 16 → n ≡ 0x0001080006040000 + operation → big_bytes 8 n ≡ ethernet_ipv4 ++ big_bytes 2 operation
+front_bytes n operation small is =
+    let a : n / 72057594037927936 % 256 ≡ 0 = omega (arith, is, small) in
+    let b : n / 281474976710656 % 256 ≡ 1 = omega (arith, is, small) in
+    let c : n / 1099511627776 % 256 ≡ 8 = omega (arith, is, small) in
+    let d : n / 4294967296 % 256 ≡ 0 = omega (arith, is, small) in
+    let e : n / 16777216 % 256 ≡ 6 = omega (arith, is, small) in
+    let f : n / 65536 % 256 ≡ 4 = omega (arith, is, small) in
+    let g : n / 256 % 256 ≡ operation / 256 % 256 = omega (arith, is, small) in
+    let h : n % 256 ≡ operation % 256 = omega (arith, is, small) in
+    rw (a, b, c, d, e, f, g, h) refl
+
+-- the four bytes of an address are those of its number
+pub address_bytes : (address : List ℕ) (n : ℕ) → AreOctets 4 address → n ≡ number_of address → big_bytes 4 n ≡ address
+address_bytes address n h is =
+    let e = cells-all 4 address h.0 in
+    let m : n ≡ big_number 4 address = is ∙ rw e refl in
+    let all : slice_index address 0 ∷ slice_index address 1 ∷ slice_index address 2 ∷ slice_index address 3 ∷ [] ≡ address = rw e refl in
+    four_bytes address n h.1 m ∙ all
+
+-- the five writes leave the packet, then the bytes that stood behind it
+pub packet_written : (operation : ℕ) (sha spa tha tpa old front a b c d : List ℕ) → AreAddresses sha spa tha tpa → 28 ≤ length old
+    → front ≡ (ethernet_ipv4 ++ big_bytes 2 operation) ++ drop 8 old → a ≡ sha ++ drop 6 (slice_range front 8 14)
+    → b ≡ spa ++ drop 4 (slice_range (put_mid 8 6 front a) 14 18) → c ≡ tha ++ drop 6 (slice_range (put_mid 14 4 (put_mid 8 6 front a) b) 18 24)
+    → d ≡ tpa ++ drop 4 (slice_range (put_mid 18 6 (put_mid 14 4 (put_mid 8 6 front a) b) c) 24 28)
+    → put_mid 24 4 (put_mid 18 6 (put_mid 14 4 (put_mid 8 6 front a) b) c) d
+    ≡ (ethernet_ipv4 ++ big_bytes 2 operation ++ sha ++ spa ++ tha ++ tpa) ++ drop 28 old
+packet_written operation sha spa tha tpa old front a b c d h room one two three four five =
+    rw (
+      five,
+      four,
+      three,
+      two,
+      one,
+      cells-all 6 sha h.source_hardware,
+      cells-all 4 spa h.source_protocol,
+      cells-all 6 tha h.target_hardware,
+      cells-all 4 tpa h.target_protocol,
+      cells-drop 28 old room,
+    ) refl

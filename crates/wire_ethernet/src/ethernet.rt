@@ -13,7 +13,7 @@ use byteorder::{ByteOrder, NetworkEndian};
 use net_base::{Error, Result};
 use std::fmt;
 use wire_addr::EthernetAddress;
-use wire_field::{Checked, Located, Octets, debug_view};
+use wire_field::{Checked, Located, Octets, debug_view, write_six};
 
 /// The length of a frame's header.
 pub const ETHERNET_HEADER_LEN: usize = 14;
@@ -327,8 +327,8 @@ impl EthernetRepr {
         requires { 14 ≤ length (frame_bytes_mut frame.old) }
         ensures { Becomes frame.old frame.new (bytes_of self.now ++ drop 14 (frame_bytes_mut frame.old)) }
     {
-        frame.set_src_addr(self.src_addr);
-        frame.set_dst_addr(self.dst_addr);
-        frame.set_ethertype(self.ethertype);
+        write_six(frame.buffer, &self.dst_addr.0);
+        write_six(&mut frame.buffer[6..12], &self.src_addr.0);
+        NetworkEndian::write_u16(&mut frame.buffer[12..14], self.ethertype.number());
     }
 }

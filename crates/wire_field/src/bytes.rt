@@ -3,6 +3,8 @@
 ghost use Rattle.std.specs.Prelude.{◌≡◌, ◌+◌, ◌≤◌, ◌++◌, drop, length, slice_range};
 ghost use Rattle.wire_field.specs.Field.{with_range};
 
+use byteorder::{ByteOrder, NetworkEndian};
+
 /// The `N` bytes from byte `first` on.
 pub fn array_at<const N: usize>(bytes: &[u8], first: usize) -> [u8; N]
     requires { first + N ≤ length bytes.now }
@@ -20,6 +22,17 @@ pub fn write_front<const N: usize>(bytes: &mut [u8], front: &[u8; N])
     ensures { bytes.new ≡ front.now ++ drop N bytes.old }
 {
     bytes[..N].copy_from_slice(front);
+}
+
+/// Writes six octets, such as an Ethernet address, to the front. All bytes behind them stay unchanged. They
+/// are moved as two words, which needs no copy on the stack.
+#[inline(always)]
+pub fn write_six(bytes: &mut [u8], six: &[u8; 6])
+    requires { 6 ≤ length bytes.old }
+    ensures { bytes.new ≡ six.now ++ drop 6 bytes.old }
+{
+    NetworkEndian::write_u32(bytes, NetworkEndian::read_u32(six));
+    NetworkEndian::write_u16(&mut bytes[4..6], NetworkEndian::read_u16(&six[4..6]));
 }
 
 /// Copies `part` to the bytes, from byte `first` on, and leaves all other bytes. An empty part is tested

@@ -8,11 +8,12 @@ ghost use Rattle.wire_arp.specs.declared.arp.repr.ArpRepr.{ArpRepr};
 
 use super::text::OperationWord;
 use super::{ArpHardware, ArpOperation, ArpPacket, ArpPacketMut};
+use byteorder::{ByteOrder, NetworkEndian};
 use net_base::{Error, Result};
 use std::fmt;
 use wire_addr::{EthernetAddress, Ipv4Address};
 use wire_ethernet::EthernetProtocol;
-use wire_field::{array_at, write_front};
+use wire_field::{array_at, write_six};
 
 /// The length of an Ethernet address, in octets.
 const ETHERNET_ADDR_LEN: u8 = 6;
@@ -22,6 +23,9 @@ const IPV4_ADDR_LEN: u8 = 4;
 
 /// The length of a packet with such addresses, in octets.
 const ETHERNET_IPV4_LEN: usize = 28;
+
+/// The first eight octets of such a packet as one big-endian number, with 0 for the operation.
+const ETHERNET_IPV4: u64 = 0x0001_0800_0604_0000;
 
 /// The fields of a packet that upper layers need.
 #[derive(Debug, Clone, Copy, PartialEq, Eq)]
@@ -80,14 +84,14 @@ impl ArpRepr {
                 target_hardware_addr,
                 target_protocol_addr,
             } => {
-                let octets = ethernet_ipv4_octets(
+                write_ethernet_ipv4(
+                    packet.buffer,
                     operation,
                     source_hardware_addr,
                     source_protocol_addr,
                     target_hardware_addr,
                     target_protocol_addr,
                 );
-                write_front(packet.buffer, &octets);
             }
         }
     }
@@ -115,28 +119,24 @@ fn is_ethernet_ipv4(bytes: &[u8]) -> bool
     )
 }
 
-// A packet of Ethernet and IPv4.
+// Writes a packet of Ethernet and IPv4 to the front.
 #[inline(always)]
-fn ethernet_ipv4_octets(
+fn write_ethernet_ipv4(
+    bytes: &mut [u8],
     operation: ArpOperation,
     source_hardware_addr: EthernetAddress,
     source_protocol_addr: Ipv4Address,
     target_hardware_addr: EthernetAddress,
     target_protocol_addr: Ipv4Address,
-) -> [u8; ETHERNET_IPV4_LEN]
-    ensures { result ≡ bytes_of (ArpRepr.EthernetIpv4 operation source_hardware_addr source_protocol_addr target_hardware_addr target_protocol_addr) }
+)
+    requires { 28 ≤ length bytes.old }
+    ensures { bytes.new ≡ bytes_of (ArpRepr.EthernetIpv4 operation source_hardware_addr source_protocol_addr target_hardware_addr target_protocol_addr) ++ drop 28 bytes.old }
 {
-    let [a, b] = u16::from(ArpHardware::Ethernet).to_be_bytes();
-    let [c, d] = u16::from(EthernetProtocol::Ipv4).to_be_bytes();
-    let (hln, pln) = (ETHERNET_ADDR_LEN, IPV4_ADDR_LEN);
-    let [e, f] = u16::from(operation).to_be_bytes();
-    let [g, h, i, j, k, l] = source_hardware_addr.0;
-    let [m, n, o, p] = source_protocol_addr.octets();
-    let [q, r, s, t, u, v] = target_hardware_addr.0;
-    let [w, x, y, z] = target_protocol_addr.octets();
-    [
-        a, b, c, d, hln, pln, e, f, g, h, i, j, k, l, m, n, o, p, q, r, s, t, u, v, w, x, y, z,
-    ]
+    NetworkEndian::write_u64(bytes, ETHERNET_IPV4 + u64::from(operation.number()));
+    write_six(&mut bytes[8..14], &source_hardware_addr.0);
+    NetworkEndian::write_u32(&mut bytes[14..18], source_protocol_addr.to_bits());
+    write_six(&mut bytes[18..24], &target_hardware_addr.0);
+    NetworkEndian::write_u32(&mut bytes[24..28], target_protocol_addr.to_bits());
 }
 
 /// The addresses and the operation.

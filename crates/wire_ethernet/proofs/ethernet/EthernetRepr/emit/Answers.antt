@@ -1,18 +1,16 @@
-use Rattle.std.proofs.Common.{◌∙◌, ◌≡◌, length, arith}
-use Rattle.wire_field.proofs.Written.{length-written}
-use Rattle.wire_ethernet.proofs.EthernetEmitted.{with_header}
+use Rattle.std.proofs.Common.{slice_range, arith}
+use Rattle.wire_field.proofs.Written.{length-front}
+use Rattle.wire_ethernet.proofs.EthernetEmitted.{header_written}
 use Rattle.wire_ethernet.specs.Ethernet.{number_of}
 use Rattle.wire_ethernet.proofs.ethernet.EthernetRepr.emit.Goals as goal
 
 pub returns : goal.returns
 returns c =
     let v = c.args.self.now in
-    let old = c.args.frame.now.buffer in
-    let src : length v.src_addr.0 ≡ 6 = let e = length-written old c.set_src_addr.new.self.buffer 6 12 v.src_addr.0 (omega arith) (omega arith) c.set_src_addr.ensures in omega arith in
-    let dst : length v.dst_addr.0 ≡ 6 = let e = length-written c.set_src_addr.new.self.buffer c.set_dst_addr.new.self.buffer 0 6 v.dst_addr.0 (omega arith) (omega arith) c.set_dst_addr.ensures in omega arith in
-    let whole = with_header v.dst_addr.0 v.src_addr.0 (number_of v.ethertype) old.now dst src c.requires in
-    record {
-      same_loan = cc;
-      same_length = omega arith;
-      holds = c.set_ethertype.ensures.holds ∙ rw (c.set_dst_addr.ensures.holds, c.set_src_addr.ensures.holds) whole;
-    }
+    let old = c.args.frame.now.buffer.now in
+    let first = c.write_six.new.bytes in
+    let second = c.write_six-2.new.bytes in
+    let dst = length-front 6 old first v.dst_addr.0 (omega arith) (omega arith) c.write_six.ensures in
+    let src = length-front 6 (slice_range first 6 12) second v.src_addr.0 (omega arith) (omega arith) c.write_six-2.ensures in
+    let written = header_written v.dst_addr.0 v.src_addr.0 (number_of v.ethertype) old first second c.write_u16.new.buf c.number.result dst src c.requires c.write_six.ensures c.write_six-2.ensures c.write_u16.ensures c.number.ensures in
+    record { same_loan = cc; same_length = omega arith; holds = written }
