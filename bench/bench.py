@@ -76,7 +76,7 @@ def run_compiler(*words):
 
 def compile_c(*words):
     if run_compiler("-std=c11", "-march=x86-64-v2", *words).returncode:
-        give_up(f"{COMPILER} refuses {' '.join(words)}")
+        give_up(f"{COMPILER} rejects {' '.join(words)}")
 
 
 def time_calls(room, reference):

@@ -185,7 +185,7 @@ static int reads_back(const struct lk_tcp_options *options)
     return lk_tcp_header_len(options) == 60 && lk_read_tcp_options(out, 60, &found) == 1 && memcmp(&found, options, sizeof found) == 0;
 }
 
-/* The longest headers, 60 octets. Options for which a header would have 64 are in tests/refusals.c. */
+/* The longest headers, 60 octets. Options for which a header would have 64 are in tests/rejections.c. */
 static void longest_headers(void)
 {
     struct lk_endpoint src = endpoint("192.0.2.1:49152"), dst = endpoint("198.51.100.7:443");

@@ -11,6 +11,7 @@ use Rattle.ip_wire_c.specs.declared.types.Tcp.{Tcp}
 
 -- ---- IP
 
+-- an IPv6 header after both fields are written, in this order
 pub ipv6-fields : (h : Ip) (b0 b1 b2 : List ℕ) → b1 ≡ with_field b0 4 8 (4 * h.dscp + h.ecn) → b2 ≡ with_field b1 12 20 h.flow_label → b2 ≡ with_ipv6_fields h b0
 ipv6-fields h b0 b1 b2 e1 e2 = e2 ∙ ap (λ b. with_field b 12 20 h.flow_label) e1
 

@@ -45,12 +45,14 @@ filled-writes (Some bytes) old new (Some n) answer (len, room, holds) is = recor
   no_room = λ less. absurd (omega (arith, len, room, less));
 }
 
+-- a function that fills the front of `out` writes the bytes or returns that there is no room
 pub writes-filled : (bytes : Option (List ℕ)) (old new : List ℕ) (len : Option ℕ) (answer : ℤ) → Fills bytes old new len → answer ≡ returned len
     → SFits w64 answer → Writes bytes old new (to_z w64 (of_z w64 answer))
 writes-filled bytes old new len answer fills is fits = filled-writes bytes old new len _ fills (to_z-of_z w64 answer fits ∙ is)
 
 -- ---- a front that is written in several steps
 
+-- a front that was written apart is the header, and the rest is unchanged
 pub filled-header : (header old front written rest : List ℕ) (size : ℕ) → front ≡ written → written ≡ header → rest ≡ drop size old
     → front ++ rest ≡ header ++ drop size old
 filled-header header old front written rest size is is_header behind = ap (λ part. part ++ rest) (is ∙ is_header) ∙ ap (λ part. header ++ part) behind

@@ -84,6 +84,7 @@ filled-front frame bytes old new n e room same is =
 length-udp : (v : UdpRepr) (payload : List ℕ) (src dst : IpAddress) → length (udp.bytes_of v payload src dst true) ≡ 8 + length payload
 length-udp v payload src dst = simp length-append (omega arith)
 
+-- the frame of a UDP packet is its headers and the packet
 pub udp-framed : (f : FrameFields) (payload : List ℕ) (v : IpRepr) → length payload ≤ 65527 → carrier f 17 (8 + length payload) ≡ Some v
     → udp_frame f payload ≡ Some (headers_bytes f v ++ udp.bytes_of (ports_of f.src f.dst) payload (src_addr_of v) (dst_addr_of v) true)
 udp-framed f payload v fits e =
@@ -125,6 +126,7 @@ length-summed src dst bytes long =
     let long_too : 20 ≤ length (with_field bytes 128 16 0) = omega (arith, long, zeroed) in
     length-checksum (with_field bytes 128 16 0) _ long_too ∙ zeroed
 
+-- the length of a segment, with or without its checksum
 pub length-segment : (h : Tcp) (u : TcpHeader) (payload : List ℕ) (src dst : IpAddress) (computed : Bool)
     → length (segment_bytes h u payload src dst computed) ≡ header_len_of u + length payload
 length-segment h u payload src dst false = length-marked h u payload src dst
@@ -133,6 +135,7 @@ length-segment h u payload src dst true =
     let long : 20 ≤ length (segment_with_flags h u payload) = omega (arith, size) in
     length-summed src dst (segment_with_flags h u payload) long ∙ size
 
+-- a segment between two addresses, if its header can be written
 pub tcp-segment : (h : Tcp) (o : TcpOptions) (src dst : Endpoint) (payload : List ℕ) (computed : Bool) (u : TcpHeader) (a b : IpAddress)
     → pair_of src.addr dst.addr ≡ Some (a, b) → segment_header_len h o (length payload) ≡ Some (header_len_of u) → u ≡ tcp_value h o src.port dst.port
     → tcp_bytes h o src dst payload computed ≡ Some (segment_bytes h u payload a b computed)
@@ -142,6 +145,7 @@ tcp-segment h o src dst payload computed u a b pair len is =
     ∙ ap (λ q. option_map (λ len. bytes (a, b)) q) len
     ∙ ap (λ w. Some (segment_bytes h w payload a b computed)) (sym is)
 
+-- the frame of a TCP segment is its headers and the segment
 pub tcp-framed : (f : FrameFields) (o : TcpOptions) (payload : List ℕ) (u : TcpHeader) (v : IpRepr)
     → segment_header_len f.tcp o (length payload) ≡ Some (header_len_of u) → u ≡ tcp_value f.tcp o f.src.port f.dst.port
     → carrier f 6 (header_len_of u + length payload) ≡ Some v
@@ -170,11 +174,13 @@ tcp-unframed f o payload u (Some (a, b)) len is e =
 
 -- ---- around a payload in place
 
+-- a part inside the bytes is there
 pub part-there : (bytes : List ℕ) (first len : ℕ) → first + len ≤ length bytes → part bytes first len ≡ Some (slice_range bytes first (first + len))
 part-there bytes first len room =
     let there : nat_le (first + len) (length bytes) ≡ true = grind (arith, nat_tests, room) in
     ap (λ b. only_if b (slice_range bytes first (first + len))) there
 
+-- its length
 pub length-there : (bytes : List ℕ) (first len : ℕ) → first + len ≤ length bytes → length (slice_range bytes first (first + len)) ≡ len
 length-there bytes first len room = grind (arith, common_steps, room)
 

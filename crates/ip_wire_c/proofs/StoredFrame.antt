@@ -42,10 +42,12 @@ use Rattle.net_base.specs.declared.ChecksumCapabilities.{ChecksumCapabilities}
 
 -- ---- the whole frame
 
+-- what is stored of an IPv4 packet that is no fragment
 pub with_carried-ipv4 : (f : FrameFields) (t : EthernetProtocol) (bytes : List ℕ) (w : Ipv4Repr) → t ≡ ethertype.Ipv4 → ipv4_of false bytes ≡ Some w → ipv4.is_fragment bytes ≡ false
     → with_carried f t bytes ≡ with_payload (with_ipv4_header f bytes w) (Ipv4 w) (ipv4_payload bytes)
 with_carried-ipv4 f t bytes w type read whole = rw (type, read) (other-chosen (ipv4.is_fragment bytes) _ _ whole)
 
+-- what is stored of an IPv6 packet
 pub with_carried-ipv6 : (f : FrameFields) (t : EthernetProtocol) (bytes : List ℕ) (w : Ipv6Repr) → t ≡ ethertype.Ipv6 → ipv6_of bytes ≡ Some w
     → with_carried f t bytes ≡ with_payload (with_fragment_by (with_ipv6_header f bytes w) w.next_header (ipv6.payload_of bytes)) (Ipv6 w) (ipv6.payload_of bytes)
 with_carried-ipv6 f t bytes w type read = rw (type, read) refl
@@ -54,6 +56,7 @@ with_carried-arp : (f : FrameFields) (t : EthernetProtocol) (bytes : List ℕ) (
     → with_carried f t bytes ≡ with_message f w
 with_carried-arp f t bytes w type read = rw (type, read) refl
 
+-- what is stored of an IPv4 packet, a fragment or not
 pub with_carried-choice : (f : FrameFields) (t : EthernetProtocol) (bytes : List ℕ) (w : Ipv4Repr) → t ≡ ethertype.Ipv4 → ipv4_of false bytes ≡ Some w
     → with_carried f t bytes ≡ (if ipv4.is_fragment bytes then with_ipv4_header f bytes w else with_payload (with_ipv4_header f bytes w) (Ipv4 w) (ipv4_payload bytes))
 with_carried-choice f t bytes w type read = rw (type, read) refl
@@ -82,6 +85,7 @@ fields_of-message frame v w r =
     let read = (arp_of-Reads (drop 14 frame) w).1 inner in
     fields_of-linked frame v r.reads_header ∙ with_carried-arp (linked frame v) v.ethertype (drop 14 frame) w type read
 
+-- the struct of a frame that is read stores its values
 pub stores-read : (frame : List ℕ) (v : EthernetRepr) (w : Carried) → ReadsFrame unchecked frame v w → Stores (fields_of frame) frame v w
 stores-read frame v (message w) r = rw (fields_of-message frame v w r) (stores-value frame v w)
 stores-read frame v (packet (Ipv4 w) t) r =

@@ -81,6 +81,7 @@ pub other-chosen : (b : Bool) (f g : FrameFields) → b ≡ false → (if b then
 other-chosen true f g e = absurd (cc)
 other-chosen false f g e = refl
 
+-- a choice by a test that is true
 pub first-chosen : (b : Bool) (f g : FrameFields) → b ≡ true → (if b then f else g) ≡ f
 first-chosen true f g e = refl
 first-chosen false f g e = absurd (cc)
@@ -89,6 +90,7 @@ first-chosen false f g e = absurd (cc)
 pub not-short : (n k : ℕ) → k ≤ n → nat_lt n k ≡ false
 not-short n k h = grind (arith, nat_tests)
 
+-- fewer bytes than k are too few
 pub short : (n k : ℕ) → n < k → nat_lt n k ≡ true
 short n k h = grind (arith, nat_tests)
 
@@ -98,10 +100,12 @@ short n k h = grind (arith, nat_tests)
 abbrev pub linked : List ℕ → EthernetRepr → FrameFields
 linked frame v = with_link (nothing_of (length frame)) v (length (drop 14 frame))
 
+-- the struct of a frame with an Ethernet header
 pub fields_of-linked : (frame : List ℕ) (v : EthernetRepr) → ethernet.Reads frame v → fields_of frame ≡ with_carried (linked frame v) v.ethertype (drop 14 frame)
 unfolding fields_of
 fields_of-linked frame v r = rw ((ethernet_of-Reads frame v).1 r) refl
 
+-- the struct of an ARP packet stores its values
 pub stores-value : (frame : List ℕ) (v : EthernetRepr) (w : ArpRepr) → Stores (with_message (linked frame v) w) frame v (message w)
 stores-value frame v (EthernetIpv4 operation source_hardware source_protocol target_hardware target_protocol) = record {
   reason = refl;
@@ -132,6 +136,7 @@ abbrev pub headed : List ℕ → EthernetRepr → IpRepr → FrameFields
 headed frame v (Ipv4 w) = with_ipv4_header (linked frame v) (drop 14 frame) w
 headed frame v (Ipv6 w) = with_fragment_by (with_ipv6_header (linked frame v) (drop 14 frame) w) w.next_header (ipv6.payload_of (drop 14 frame))
 
+-- the struct of an IPv4 header stores its values
 pub stores-ipv4 : (frame : List ℕ) (v : EthernetRepr) (w : Ipv4Repr) → ipv4.Reads (drop 14 frame) false w → StoresPacket (headed frame v (Ipv4 w)) frame v (Ipv4 w)
 stores-ipv4 frame v w r =
     let bytes = drop 14 frame in
@@ -248,6 +253,7 @@ stores-ipv6-with frame v w x n r values part =
       };
     }
 
+-- the struct of an IPv6 header stores its values, and those of a fragment header
 pub stores-ipv6 : (frame : List ℕ) (v : EthernetRepr) (w : Ipv6Repr) → ipv6.Reads (drop 14 frame) w → StoresPacket (headed frame v (Ipv6 w)) frame v (Ipv6 w)
 stores-ipv6 frame v w r =
     let bytes = drop 14 frame in
@@ -283,6 +289,7 @@ with_transport_by-other f protocol.Udp src dst bytes n k = absurd (n refl)
 with_transport_by-other f protocol.Tcp src dst bytes n k = absurd (k refl)
 with_transport_by-other f _ src dst bytes n k = refl
 
+-- the struct behind a transport header that is read
 pub with_transport_by-read : (f : FrameFields) (p : IpProtocol) (src dst : IpAddress) (bytes : List ℕ) (t : Transport) → ReadsTransportBy unchecked p src dst bytes t
     → with_transport_by f p src dst bytes ≡ transported f src dst bytes t
 with_transport_by-read f p src dst bytes (datagram u q) (is, r) =
@@ -330,6 +337,7 @@ kept-header f g v bytes is d = rw is (record {
   arp = d.arp;
 })
 
+-- it stores the values of that header
 pub stores-transport : (f : FrameFields) (frame : List ℕ) (header : EthernetRepr) (v : IpRepr) (t : Transport) → StoresPacket f frame header v → f.reason ≡ 0 → HasNoTransport f
     → ReadsTransport unchecked v (packet_payload v (drop 14 frame)) t
     → Stores (transported f (src_addr_of v) (dst_addr_of v) (packet_payload v (drop 14 frame)) t) frame header (packet v t)

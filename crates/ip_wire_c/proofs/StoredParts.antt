@@ -181,6 +181,7 @@ with_carried-fragment : (f : FrameFields) (t : EthernetProtocol) (bytes : List �
     → with_carried f t bytes ≡ with_ipv4_header f bytes w
 with_carried-fragment f t bytes w type read part = rw (type, read) (first-chosen (ipv4.is_fragment bytes) _ _ part)
 
+-- the struct of an IPv4 fragment stores its header
 pub stores-fragment : (frame : List ℕ) (v : EthernetRepr) (w : Ipv4Repr) → ethernet.Reads frame v → v.ethertype ≡ ethertype.Ipv4 → ipv4.Reads (drop 14 frame) false w
     → ipv4.is_fragment (drop 14 frame) ≡ true → StoresFragment (fields_of frame) frame v w
 stores-fragment frame v w link type r part =
@@ -317,6 +318,7 @@ rejected-whole : (f g : FrameFields) (b : Bool) → f.reason ≡ 0 → (if b the
 rejected-whole f g true read fault = absurd (fault read)
 rejected-whole f g false read fault = refl
 
+-- the struct of a packet whose transport header is rejected stores the headers
 pub stores-rejected : (frame : List ℕ) (v : EthernetRepr) (w : IpRepr) → ethernet.Reads frame v → v.ethertype ≡ type_of w → ReadsHeader (drop 14 frame) false w
     → (fields_of frame).reason ≢ 0 → StoresRejected (fields_of frame) frame v w
 stores-rejected frame v (Ipv4 w) link type r fault =
@@ -391,6 +393,7 @@ carried-unread f ethertype.Ipv6 bytes same network = elim (given (ipv6_of bytes)
 ]
 carried-unread f (ethertype.Unknown n) bytes same network = same
 
+-- the struct of a frame whose packet is not read stores the Ethernet header
 pub stores-unread : (frame : List ℕ) (v : EthernetRepr) → ethernet.Reads frame v → (fields_of frame).network ≡ 0 → StoresUnread (fields_of frame) frame v
 stores-unread frame v r network =
     let is = fields_of-linked frame v r in

@@ -1,9 +1,8 @@
 //! IP headers of either version.
 
-ghost use Rattle.std.specs.Prelude.{◌≡◌, ◌≤◌, ◌<◌, ◌++◌, IfSome, Some, drop, false, flat_map, length, take, true};
+ghost use Rattle.std.specs.Prelude.{◌≡◌, ◌≤◌, ◌<◌, ◌%◌, ◌++◌, IfSome, Some, drop, false, flat_map, length, slice_index, take, true};
 ghost use Rattle.std.specs.Option.{option_map};
 ghost use Rattle.byteorder.specs.Endian.{big_bytes};
-ghost use Rattle.ip_wire.specs.Field.{with_field};
 ghost use Rattle.ip_wire.specs.Ip.{bytes_of, header_len_of, max_payload_len, payload_len_of};
 ghost use Rattle.ip_wire.specs.Ipv4 as ipv4;
 ghost use Rattle.ip_wire.specs.Ipv6 as ipv6;
@@ -163,22 +162,21 @@ impl Ip {
         requires room { 20 ≤ length out.old }
         ensures { out.new ≡ header_bytes self.now computed (Ipv4 value.now) ++ drop 20 out.old }
     {
-        let checksum = if computed {
-            !for_emit::words(self.ipv4_words(*value, 0))
-        } else {
-            0
-        };
+        let mut words = self.ipv4_words(*value);
+        if computed {
+            words[2] += u32::from(!for_emit::words(words));
+        }
         let (front, _) = out.split_at_mut(IPV4_HEADER_LEN);
-        NetworkEndian::write_u32_into(&self.ipv4_words(*value, checksum), front);
+        NetworkEndian::write_u32_into(&words, front);
     }
 
-    // The words of an IPv4 header, of 32 bits each.
+    // The words of an IPv4 header, of 32 bits each. Its checksum is 0.
     #[inline(always)]
-    fn ipv4_words(&self, value: Ipv4Repr, checksum: u16) -> [u32; 5]
+    fn ipv4_words(&self, value: Ipv4Repr) -> [u32; 5]
         requires payload_len { value.payload_len ≤ ipv4.max_payload_len }
         requires ident { self.now.ident < 65536 }
-        ensures { flat_map (big_bytes 4) result
-            ≡ with_field (with_ipv4_fields self.now (ipv4.bytes_of value false)) 80 16 checksum }
+        ensures value { flat_map (big_bytes 4) result ≡ with_ipv4_fields self.now (ipv4.bytes_of value false) }
+        ensures no_checksum { slice_index result 2 % 65536 ≡ 0 }
     {
         let service = u32::from(4 * (self.dscp % 64) + self.ecn % 4);
         let total_len = (IPV4_HEADER_LEN + value.payload_len) as u32;
@@ -189,7 +187,7 @@ impl Ip {
         [
             (0x4500 + service) * 65536 + total_len,
             self.ident * 65536 + dont_fragment * 16384 + more_fragments * 8192 + offset,
-            u32::from(value.hop_limit) * 16777216 + protocol * 65536 + u32::from(checksum),
+            u32::from(value.hop_limit) * 16777216 + protocol * 65536,
             value.src_addr.to_bits(),
             value.dst_addr.to_bits(),
         ]

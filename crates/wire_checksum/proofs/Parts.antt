@@ -55,6 +55,7 @@ slice_range-take bytes a e n order inside =
     ap (take (e - a)) (ap (λ (k : ℕ). drop a (take k bytes)) whole ∙ drop-take a (n - a) bytes)
     ∙ take-take (e - a) (n - a) (drop a bytes) (omega (arith, inside))
 
+-- the new part's sum stands in place of the old one's, in the first n bytes
 pub sum-take-with_range : (bytes part : List ℕ) (a e n : ℕ) → a % 2 ≡ 0 → length part % 2 ≡ 0 → a + length part ≡ e → e ≤ n → n ≤ length bytes
     → sum (words (take n (with_range bytes a e part))) + sum (words (slice_range bytes a e)) ≡ sum (words (take n bytes)) + sum (words part)
 sum-take-with_range bytes part a e n even whole ends inside room =
@@ -99,6 +100,7 @@ sum-words-two : (x y : ℕ) → sum (words (x ∷ y ∷ [])) ≡ 256 * x + y
 unfolding words
 sum-words-two x y = omega arith
 
+-- the two bytes of a word add up to it
 pub sum-words-word : (x : ℕ) → x < 65536 → sum (words (big_bytes 2 x)) ≡ x
 sum-words-word x fits = sum-words-two (x / 256 % 256) (x % 256) ∙ omega (arith, fits)
 
@@ -170,6 +172,7 @@ field-byte bytes i are =
     ∙ ap (λ (b : ℕ). big_from (2 * i) 1 bytes / 2 ^ b % 2 ^ 8) (none_behind_byte i)
     ∙ omega (arith, bound)
 
+-- a new high byte of a word changes the sum of the first n bytes by 256 for each 1
 pub sum-take-with_byte : (bytes : List ℕ) (n i x : ℕ) → AreBytes bytes → 2 * i + 2 ≤ n → n ≤ length bytes → x < 256
     → sum (words (take n (with_field bytes (16 * i) 8 x))) + 256 * field bytes (16 * i) 8 ≡ sum (words (take n bytes)) + 256 * x
 sum-take-with_byte bytes n i x are inside room fits =

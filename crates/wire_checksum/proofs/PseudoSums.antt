@@ -17,6 +17,7 @@ sum-words-end : (number len : ℕ) → sum (words (0 ∷ number ∷ big_bytes 2 
 unfolding words
 sum-words-end number len = omega arith
 
+-- the words of a packet behind its pseudo-header add up to those of its parts
 pub sum-with_pseudo_header : (src dst : IpAddress) (protocol : IpProtocol) (packet : List ℕ) → length (octets_of src) % 2 ≡ 0 → length (octets_of dst) % 2 ≡ 0
     → sum (words (with_pseudo_header src dst protocol packet)) ≡ pseudo_header_total src dst protocol (length packet) + sum (words packet)
 sum-with_pseudo_header src dst protocol packet s d =

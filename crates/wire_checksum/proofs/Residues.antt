@@ -22,6 +22,7 @@ unfolding residue
 residue-bound zero = omega arith
 residue-bound (suc n) = omega arith
 
+-- only 0 has the residue 0
 pub residue-zero : (t : ℕ) → residue t ≡ 0 → t ≡ 0
 unfolding residue
 residue-zero zero e = refl

@@ -37,11 +37,13 @@ reads-changed old new verified checked v w r s valid len hops protocol src dst =
 
 -- ---- each field
 
+-- a new hop limit leaves version and lengths
 pub shape-hop_limit : (bytes : List ℕ) (n : ℕ) → 20 ≤ length bytes → SameShape bytes (with_field bytes 64 8 n)
 shape-hop_limit bytes n room =
     let P : List ℕ → Type 0 = λ l. SameShape l (with_field l 64 8 n) in
     subst P (sym (cells-drop 20 bytes room)) (record { long = refl; version = refl; header = refl; total = refl })
 
+-- a header with a new hop limit is read as its values with that hop limit
 pub reads-hop_limit : (bytes : List ℕ) (n : ℕ) (verified checked : Bool) (v : Ipv4Repr) → AreBytes bytes → n < 256 → Reads bytes verified v
     → (IsTrue checked → HasChecksum (with_field bytes 64 8 n)) → Reads (with_field bytes 64 8 n) checked (record v { hop_limit = n })
 reads-hop_limit bytes n verified checked v are fits r valid =
@@ -53,6 +55,7 @@ reads-hop_limit bytes n verified checked v are fits r valid =
     (omega (arith, fits, field-with_field_same bytes 64 8 n are (omega arith) (omega (arith, r.lengths.least))))
     (r.next_header ∙ ap protocol_of (sym (subst P cut refl))) (r.src_addr ∙ sym (subst S cut refl)) (r.dst_addr ∙ sym (subst D cut refl))
 
+-- the same of a new protocol
 pub reads-next_header : (bytes : List ℕ) (n : ℕ) (verified checked : Bool) (v : Ipv4Repr) → AreBytes bytes → n < 256 → Reads bytes verified v
     → (IsTrue checked → HasChecksum (with_field bytes 72 8 n)) → Reads (with_field bytes 72 8 n) checked (record v { next_header = protocol_of n })
 reads-next_header bytes n verified checked v are fits r valid =
@@ -66,11 +69,13 @@ reads-next_header bytes n verified checked v are fits r valid =
     (subst Z cut (record { long = refl; version = refl; header = refl; total = refl })) valid refl
     (r.hop_limit ∙ sym (subst H cut refl)) (ap protocol_of (sym same)) (r.src_addr ∙ sym (subst S cut refl)) (r.dst_addr ∙ sym (subst D cut refl))
 
+-- a new source address leaves version and lengths
 pub shape-src_addr : (bytes a : List ℕ) → 20 ≤ length bytes → length a ≡ 4 → SameShape bytes (with_range bytes 12 16 a)
 shape-src_addr bytes a room four =
     let P : List ℕ → List ℕ → Type 0 = λ l m. SameShape l (with_range l 12 16 m) in
     subst (λ (m : List ℕ). P bytes m) (sym (cells-all 4 a four)) (subst (λ (l : List ℕ). P l (cells 4 a)) (sym (cells-drop 20 bytes room)) (record { long = refl; version = refl; header = refl; total = refl }))
 
+-- a header with a new source address is read as its values with that address
 pub reads-src_addr : (bytes a : List ℕ) (verified checked : Bool) (v : Ipv4Repr) → length a ≡ 4 → Reads bytes verified v
     → (IsTrue checked → HasChecksum (with_range bytes 12 16 a)) → Reads (with_range bytes 12 16 a) checked (record v { src_addr = a })
 reads-src_addr bytes a verified checked v four r valid =
@@ -83,11 +88,13 @@ reads-src_addr bytes a verified checked v four r valid =
     (is ∙ sym (ap (λ (l : List ℕ). slice_range l 12 16) changed))
     (r.dst_addr ∙ ap (λ (l : List ℕ). slice_range l 16 20) cut ∙ sym (ap (λ (l : List ℕ). slice_range l 16 20) changed))
 
+-- a new destination address leaves version and lengths
 pub shape-dst_addr : (bytes a : List ℕ) → 20 ≤ length bytes → length a ≡ 4 → SameShape bytes (with_range bytes 16 20 a)
 shape-dst_addr bytes a room four =
     let P : List ℕ → List ℕ → Type 0 = λ l m. SameShape l (with_range l 16 20 m) in
     subst (λ (m : List ℕ). P bytes m) (sym (cells-all 4 a four)) (subst (λ (l : List ℕ). P l (cells 4 a)) (sym (cells-drop 20 bytes room)) (record { long = refl; version = refl; header = refl; total = refl }))
 
+-- a header with a new destination address is read as its values with that address
 pub reads-dst_addr : (bytes a : List ℕ) (verified checked : Bool) (v : Ipv4Repr) → length a ≡ 4 → Reads bytes verified v
     → (IsTrue checked → HasChecksum (with_range bytes 16 20 a)) → Reads (with_range bytes 16 20 a) checked (record v { dst_addr = a })
 reads-dst_addr bytes a verified checked v four r valid =
@@ -100,6 +107,7 @@ reads-dst_addr bytes a verified checked v four r valid =
     (r.src_addr ∙ ap (λ (l : List ℕ). slice_range l 12 16) cut ∙ sym (ap (λ (l : List ℕ). slice_range l 12 16) changed))
     (is ∙ sym (ap (λ (l : List ℕ). slice_range l 16 20) changed))
 
+-- a new checksum leaves version and lengths
 pub shape-checksum : (bytes : List ℕ) (x : ℕ) → 20 ≤ length bytes → SameShape bytes (with_field bytes 80 16 x)
 shape-checksum bytes x room =
     let P : List ℕ → Type 0 = λ l. SameShape l (with_field l 80 16 x) in

@@ -34,6 +34,7 @@ Reads-is_read false bytes v r = grind (arith, nat_tests)
 Reads-is : (verified : Bool) (bytes : List ℕ) (v : Ipv4Repr) → Reads bytes verified v → v ≡ header_of bytes
 Reads-is verified bytes v r = rw (← r.payload_len, ← r.hop_limit, ← r.next_header, ← r.src_addr, ← r.dst_addr) refl
 
+-- `ipv4_of` computes the value that `Reads` describes
 pub ipv4_of-Reads : (verified : Bool) (bytes : List ℕ) (v : Ipv4Repr) → (ipv4_of verified bytes ≡ Some v) ↔ Reads bytes verified v
 unfolding ipv4_of
 ipv4_of-Reads verified bytes v = (
@@ -50,6 +51,7 @@ pub packet_text-Some : (bytes : List ℕ) (v : Ipv4Repr) → ipv4_of false bytes
 unfolding packet_text
 packet_text-Some bytes v e = rw e refl
 
+-- the text of a packet without a valid header
 pub packet_text-None : (bytes : List ℕ) → ipv4_of false bytes ≡ None → packet_text bytes ≡ codes "IPv4 (wire::Error)" ++ fields_text bytes
 unfolding packet_text
 packet_text-None bytes e = rw e refl

@@ -50,6 +50,7 @@ reads-header_with v rest checksum verified h room sound =
       dst_addr = rw (cells-all 4 v.src_addr h.src_addr, cells-all 4 v.dst_addr h.dst_addr) refl;
     }
 
+-- a header that was emitted is read as the canonical form of its value
 pub reads-bytes_of : (v : Ipv4Repr) (rest : List ℕ) (computed verified : Bool) → IsInRange v → v.payload_len ≤ length rest
     → (IsTrue verified → IsTrue computed) → Reads (bytes_of v computed ++ rest) verified (normal v)
 reads-bytes_of v rest true verified h room sound =

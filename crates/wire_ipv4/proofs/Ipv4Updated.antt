@@ -41,6 +41,7 @@ AreBytes-with_range bytes part a e are part_are =
 
 -- ---- updates
 
+-- a valid checksum is valid after the hop limit and the checksum are updated
 pub valid-hop_limit : (bytes : List ℕ) (n : ℕ) → AreBytes bytes → n < 256 → 20 ≤ header_len bytes → header_len bytes ≤ length bytes → HasChecksum bytes
     → HasChecksum (with_updated_checksum (with_field bytes 64 8 n) (256 * field bytes 64 8) (256 * n))
 valid-hop_limit bytes n are fits header room valid =
@@ -51,6 +52,7 @@ valid-hop_limit bytes n are fits header room valid =
     (valid-updated bytes changed old (256 * n) (AreBytes-with_field bytes 64 8 n are (omega arith) (omega (arith, header, room))) header room
     (shape-hop_limit bytes n (omega (arith, header, room))) (sum-take-with_byte bytes (header_len bytes) 4 n are (omega (arith, header)) room fits) valid)
 
+-- the same of the source address
 pub valid-src_addr : (bytes a : List ℕ) → AreBytes bytes → AreBytes a → length a ≡ 4 → 20 ≤ header_len bytes → header_len bytes ≤ length bytes → HasChecksum bytes
     → HasChecksum (with_updated_checksum (with_range bytes 12 16 a) (sum_of_bytes (slice_range bytes 12 16)) (sum_of_bytes a))
 valid-src_addr bytes a are octets four header room valid =
@@ -58,6 +60,7 @@ valid-src_addr bytes a are octets four header room valid =
     (shape-src_addr bytes a (omega (arith, header, room)) four)
     (sum-take-with_range bytes a 12 16 (header_len bytes) refl (omega (arith, four)) (omega (arith, four)) (omega (arith, header)) room) valid
 
+-- the same of the destination address
 pub valid-dst_addr : (bytes a : List ℕ) → AreBytes bytes → AreBytes a → length a ≡ 4 → 20 ≤ header_len bytes → header_len bytes ≤ length bytes → HasChecksum bytes
     → HasChecksum (with_updated_checksum (with_range bytes 16 20 a) (sum_of_bytes (slice_range bytes 16 20)) (sum_of_bytes a))
 valid-dst_addr bytes a are octets four header room valid =
@@ -65,18 +68,21 @@ valid-dst_addr bytes a are octets four header room valid =
     (shape-dst_addr bytes a (omega (arith, header, room)) four)
     (sum-take-with_range bytes a 16 20 (header_len bytes) refl (omega (arith, four)) (omega (arith, four)) (omega (arith, header)) room) valid
 
+-- a header with an updated hop limit is read as its values with that hop limit
 pub reads-updated_hop_limit : (bytes : List ℕ) (n : ℕ) (verified : Bool) (v : Ipv4Repr) → AreBytes bytes → n < 256 → Reads bytes verified v
     → Reads (with_updated_checksum (with_field bytes 64 8 n) (256 * field bytes 64 8) (256 * n)) verified (record v { hop_limit = n })
 reads-updated_hop_limit bytes n verified v are fits r =
     reads-checksum (with_field bytes 64 8 n) _ false verified (record v { hop_limit = n }) (reads-hop_limit bytes n verified false v are fits r (λ no. cc))
     (λ on. valid-hop_limit bytes n are fits r.lengths.header (omega (arith, r.lengths.within, r.lengths.whole)) (r.checksum on))
 
+-- the same of the source address
 pub reads-updated_src_addr : (bytes a : List ℕ) (verified : Bool) (v : Ipv4Repr) → AreBytes bytes → AreBytes a → length a ≡ 4 → Reads bytes verified v
     → Reads (with_updated_checksum (with_range bytes 12 16 a) (sum_of_bytes (slice_range bytes 12 16)) (sum_of_bytes a)) verified (record v { src_addr = a })
 reads-updated_src_addr bytes a verified v are octets four r =
     reads-checksum (with_range bytes 12 16 a) _ false verified (record v { src_addr = a }) (reads-src_addr bytes a verified false v four r (λ no. cc))
     (λ on. valid-src_addr bytes a are octets four r.lengths.header (omega (arith, r.lengths.within, r.lengths.whole)) (r.checksum on))
 
+-- the same of the destination address
 pub reads-updated_dst_addr : (bytes a : List ℕ) (verified : Bool) (v : Ipv4Repr) → AreBytes bytes → AreBytes a → length a ≡ 4 → Reads bytes verified v
     → Reads (with_updated_checksum (with_range bytes 16 20 a) (sum_of_bytes (slice_range bytes 16 20)) (sum_of_bytes a)) verified (record v { dst_addr = a })
 reads-updated_dst_addr bytes a verified v are octets four r =
@@ -85,6 +91,7 @@ reads-updated_dst_addr bytes a verified v are octets four r =
 
 -- ---- a checksum that is filled in
 
+-- a checksum that was computed is valid
 pub valid-filled : (bytes : List ℕ) → AreBytes bytes → 20 ≤ length bytes → 12 ≤ header_len bytes → header_len bytes ≤ length bytes → HasChecksum (with_checksum bytes)
 valid-filled bytes are least header room =
     let n = header_len bytes in
@@ -98,6 +105,7 @@ valid-filled bytes are least header room =
     let is : sum (words (take n (with_checksum bytes))) ≡ total + x = omega (arith, more, none) in
     ap (λ (m : ℕ). sum_of_bytes (take m (with_checksum bytes))) same ∙ ap residue is ∙ residue-complement total
 
+-- a header with a computed checksum is read as its values
 pub reads-filled : (bytes : List ℕ) (verified checked : Bool) (v : Ipv4Repr) → AreBytes bytes → Reads bytes verified v → Reads (with_checksum bytes) checked v
 reads-filled bytes verified checked v are r =
     reads-checksum (with_field bytes 80 16 0) _ false checked v (reads-checksum bytes 0 verified false v r (λ no. cc))

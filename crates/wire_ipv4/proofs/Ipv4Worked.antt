@@ -42,9 +42,9 @@ version_6 : List ℕ
 version_6 =
     0x65 ∷ 0x00 ∷ 0x00 ∷ 0x18 ∷ 0x00 ∷ 0x00 ∷ 0x40 ∷ 0x00 ∷ 0x40 ∷ 0x01 ∷ 0xd2 ∷ 0x79 ∷ 0x11 ∷ 0x12 ∷ 0x13 ∷ 0x14 ∷ 0x21 ∷ 0x22 ∷ 0x23 ∷ 0x24 ∷ 0xaa ∷ 0x00 ∷ 0x00 ∷ 0xff ∷ []
 
-version_6-refused : ipv4_of false version_6 ≡ None
+version_6-rejected : ipv4_of false version_6 ≡ None
 unfolding version_6 ipv4_of
-version_6-refused = refl
+version_6-rejected = refl
 
 -- ---- the header of a fragment, which may not be cut further and has others behind it
 

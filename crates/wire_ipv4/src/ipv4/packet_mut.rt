@@ -20,7 +20,7 @@ use wire_field::{Checked, Located, set_bits, set_bits_u16};
 impl<'a> Ipv4PacketMut<'a> {
     /// The view of bytes that `check_len` takes. An error leaves them as they are.
     pub fn new_checked(buffer: &'a mut [u8]) -> Result<Ipv4PacketMut<'a>>
-        ensures* refused { sem 𝓛 (StaysIfErr buffer.entry packet_slice result) }
+        ensures* rejected { sem 𝓛 (StaysIfErr buffer.entry packet_slice result) }
         ensures ok { IsOk result ↔ HasLengths buffer.old }
         ensures bytes { IfOk result (λ packet. Holds buffer.entry (packet_slice packet) buffer.old) }
     {

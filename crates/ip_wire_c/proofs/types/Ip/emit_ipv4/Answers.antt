@@ -1,9 +1,10 @@
-use Rattle.std.proofs.Common.{◌≡◌, ◌∙◌, ◌-◌, false, if◌then◌else◌, length, ap, sym, rules}
+use Rattle.std.proofs.Common.{◌≡◌, ◌∙◌, ◌-◌, false, if◌then◌else◌, flat_map, length, ap, sym, arith, rules}
+use Rattle.byteorder.specs.Endian.{big_bytes}
 use Rattle.ip_wire.specs.Field.{with_field}
-use Rattle.ip_wire.specs.Ipv4.{bytes_of}
+use Rattle.ip_wire.specs.Ipv4.{bytes_of, with_checksum}
 use Rattle.ip_wire.specs.declared.IpRepr.TheVariants.{Ipv4}
 use Rattle.ip_wire_c.proofs.Filled.{filled-header}
-use Rattle.ip_wire_c.proofs.Ipv4Words.{ipv4-header}
+use Rattle.ip_wire_c.proofs.Ipv4Words.{ipv4-checksum, with-checksum}
 use Rattle.ip_wire_c.specs.Headers.{header_bytes, with_ipv4_fields}
 use Rattle.wire_checksum.specs.WordSum.{sum_of_bytes}
 use Rattle.ip_wire_c.proofs.types.Ip.emit_ipv4.Goals as goal
@@ -13,13 +14,21 @@ pub returns : goal.returns
 returns c =
     let h = c.args.self.now in
     let v = c.args.value.now in
-    let complement = 65535 - sum_of_bytes (with_field (with_ipv4_fields h (bytes_of v false)) 80 16 0) in
-    let checksum : c.if-computed.checksum ≡ (if c.args.computed then complement else 0) =
+    let words = c.ipv4_words-words.result in
+    let plain = with_ipv4_fields h (bytes_of v false) in
+    let value = c.ipv4_words-words.ensures.value in
+    let written : length (flat_map (big_bytes 4) c.if-computed.words) ≡ 20 = sym (ap length c.write_u32_into.ensures) ∙ search rules in
+    let header : flat_map (big_bytes 4) c.if-computed.words ≡ header_bytes h c.args.computed (Ipv4 v) =
     elim c.if-computed.branch [
-      | then-computed w ↦ w.checksum-is ∙ ap (λ n. 65535 - n) (w.words.ensures ∙ ap sum_of_bytes w.ipv4_words.ensures) ∙ sym (ap (λ b. if b then complement else 0) w.if-computed.true)
-      | else-computed w ↦ w.checksum-is ∙ sym (ap (λ b. if b then complement else 0) w.if-computed.false)
+      | then-computed w ↦
+          let checksum = w.from.result in
+          let complement = w.from.ensures ∙ ap (λ n. 65535 - n) (w.words.ensures ∙ ap sum_of_bytes value) in
+          let summed : flat_map (big_bytes 4) c.if-computed.words ≡ with_field plain 80 16 checksum =
+          ap (flat_map (big_bytes 4)) w.words-is ∙ with-checksum words checksum (search rules) c.ipv4_words-words.ensures.no_checksum (omega (arith, complement))
+          ∙ ap (λ l. with_field l 80 16 checksum) value in
+          summed ∙ ap (with_field plain 80 16) complement ∙ ipv4-checksum h v (sym (ap length summed) ∙ written)
+          ∙ sym (ap (λ b. if b then with_checksum plain else plain) w.if-computed.true)
+      | else-computed w ↦ ap (flat_map (big_bytes 4)) w.words-is ∙ value ∙ sym (ap (λ b. if b then with_checksum plain else plain) w.if-computed.false)
     ] in
-    let size : length c.write_u32_into.new.dst ≡ 20 = search rules in
-    let written = c.write_u32_into.ensures ∙ c.ipv4_words-2.ensures in
     filled-header (header_bytes h c.args.computed (Ipv4 v)) c.args.out.now c.write_u32_into.new.dst _ c.split_at_mut-front.result.1.now 20
-    written (ipv4-header h v c.args.computed c.if-computed.checksum (sym (ap length written) ∙ size) checksum) (search rules)
+    c.write_u32_into.ensures header (search rules)

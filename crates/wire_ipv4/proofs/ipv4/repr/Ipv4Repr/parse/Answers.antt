@@ -17,15 +17,15 @@ pub returns-then-version-ne4-clause-value : goal.returns-then-version-ne4-clause
 returns-then-version-ne4-clause-value c =
     let bytes = c.args.packet.now.buffer.now in
     let verified = verifies c.args.caps.now.ipv4 in
-    let refused : Result Ipv4Repr Error = Err (record {}) in
-    answer-computed (Reads bytes verified) refused (ipv4_of verified bytes) (search rules) (ipv4_of-Reads verified bytes)
+    let rejected : Result Ipv4Repr Error = Err (record {}) in
+    answer-computed (Reads bytes verified) rejected (ipv4_of verified bytes) (search rules) (ipv4_of-Reads verified bytes)
 
 pub returns-then-not-verify_checksum-clause-value : goal.returns-then-not-verify_checksum-clause-value
 returns-then-not-verify_checksum-clause-value c =
     let bytes = c.args.packet.now.buffer.now in
     let verified = verifies c.args.caps.now.ipv4 in
-    let refused : Result Ipv4Repr Error = Err (record {}) in
-    answer-computed (Reads bytes verified) refused (ipv4_of verified bytes) (search rules) (ipv4_of-Reads verified bytes)
+    let rejected : Result Ipv4Repr Error = Err (record {}) in
+    answer-computed (Reads bytes verified) rejected (ipv4_of verified bytes) (search rules) (ipv4_of-Reads verified bytes)
 
 pub returns-clause-value : goal.returns-clause-value
 returns-clause-value c = (ipv4_of-Reads (verifies c.args.caps.now.ipv4) c.args.packet.now.buffer.now _).1 (search rules)

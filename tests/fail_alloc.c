@@ -1,14 +1,14 @@
-/* Refuses the nth growth of memory of the program that it is loaded into, n being the number in REFUSE. */
+/* Loaded by LD_PRELOAD, fails the nth allocation of the program; FAIL_ALLOC is n. */
 #define _GNU_SOURCE
 #include <dlfcn.h>
 #include <errno.h>
 #include <stddef.h>
 #include <stdlib.h>
 
-static int is_refused(void) {
+static int fails(void) {
     static long count, wanted = -1;
     if (wanted < 0) {
-        const char *number = getenv("REFUSE");
+        const char *number = getenv("FAIL_ALLOC");
         wanted = number ? atol(number) : 0;
     }
     if (++count != wanted) return 0;
@@ -19,11 +19,11 @@ static int is_refused(void) {
 void *malloc(size_t size) {
     static void *(*real)(size_t);
     if (!real) real = (void *(*)(size_t))dlsym(RTLD_NEXT, "malloc");
-    return is_refused() ? NULL : real(size);
+    return fails() ? NULL : real(size);
 }
 
 void *realloc(void *old, size_t size) {
     static void *(*real)(void *, size_t);
     if (!real) real = (void *(*)(void *, size_t))dlsym(RTLD_NEXT, "realloc");
-    return is_refused() ? NULL : real(old, size);
+    return fails() ? NULL : real(old, size);
 }

@@ -15,7 +15,7 @@ static void check(int line, int holds)
 {
     if (holds)
         return;
-    fprintf(stderr, "refusals.c:%d: does not hold\n", line);
+    fprintf(stderr, "rejections.c:%d: does not hold\n", line);
     failures++;
 }
 
