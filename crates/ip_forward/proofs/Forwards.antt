@@ -1,4 +1,4 @@
--- The bytes of a frame that is forwarded, and why one is rejected.
+-- The bytes of a forwarded frame, and the reason for a rejection.
 use Rattle.std.proofs.Common.{IfErr, ℕ, ◌≡◌, ◌≢◌, ◌≤◌, ◌<◌, ◌-◌, ◌++◌, ◌↔◌, Bool, true, false, List, Result, Ok, Err, length, drop, take, slice_range, refl, sym, ap, subst, ◌∙◌, arith}
 use Rattle.ip_forward.specs.Forward.{CarriesAs, IsForwarded, IsRejected, IsRejectedAs, one_hop_less, with_hop_limit}
 use Rattle.ip_forward.specs.declared.router.Rejection.{Rejection}
@@ -28,7 +28,7 @@ type-less : (h : IpRepr) → type_of (one_hop_less h) ≡ type_of h
 type-less (Ipv4 v) = refl
 type-less (Ipv6 v) = refl
 
--- the header of a frame, with two addresses written
+-- the header of a frame after both addresses are written
 readdressed : (frame s d : List ℕ) → 14 ≤ length frame → length s ≡ 6 → length d ≡ 6
     → with_range (with_range (take 14 frame) 6 12 s) 0 6 d ≡ d ++ s ++ slice_range frame 12 14
 readdressed frame s d h e f = rw (cells-drop 14 frame h, cells-all 6 s e, cells-all 6 d f) refl
@@ -89,7 +89,7 @@ forwarded frame new front packet src dst link header h e f r c alive g p reads i
     let at : new ≡ (dst.0 ++ src.0 ++ slice_range frame 12 14) ++ packet = is ∙ ap (λ (l : List ℕ). l ++ packet) (g ∙ readdressed frame src.0 dst.0 r.whole e f) in
     subst (IsForwarded frame new src dst) (sym hop) (subst (λ l. IsForwarded frame l src dst (one_hop_less header)) (sym at) (placed frame packet src dst link header e f r c alive p reads))
 
--- a frame that is read is rejected for the same reason as its packet
+-- a frame with an Ethernet header is rejected for the same reason as its packet
 pub rejected : (frame : List ℕ) (answer : Result EthernetRepr Error) (link : EthernetRepr) (reason : Rejection)
     → ((v : EthernetRepr) → (answer ≡ Ok v) ↔ ethernet.Reads frame v) → answer ≡ Ok link → IsRejectedAs link.ethertype (drop 14 frame) reason → IsRejected frame reason
 rejected frame answer link reason reads is why = record {
@@ -97,7 +97,7 @@ rejected frame answer link reason reads is why = record {
   short = λ none. absurd (none link ((reads link).0 is));
 }
 
--- one without a header is no IP frame
+-- a frame without a header is no IP frame
 pub not-ip : (frame : List ℕ) (answer : Result EthernetRepr Error) (error : Error)
     → ((v : EthernetRepr) → (answer ≡ Ok v) ↔ ethernet.Reads frame v) → answer ≡ Err error → IsRejected frame NotIp
 not-ip frame answer error reads is = record {
@@ -158,7 +158,7 @@ other-type type bytes no4 no6 = not-named type no4 no6
 pub carries-ipv6 : (type : EthernetProtocol) (bytes : List ℕ) (v : Ipv6Repr) → type ≡ ethertype.Ipv6 → ipv6.Reads bytes v → CarriesAs type bytes true (Ipv6 v)
 carries-ipv6 type bytes v named r = record { names = named; reads = r }
 
--- with one hop less an IPv4 header is read
+-- an IPv4 header with one hop less parses
 pub hop-ipv4 : (old new after : List ℕ) (header : IpRepr) (v : Ipv4Repr) (n : ℕ) → header ≡ Ipv4 v → ReadsHeader old true header → n ≡ hop_limit_of header - 1
     → ((w : Ipv4Repr) (verified : Bool) → ipv4.Reads old verified w → ipv4.Reads new verified (record w { hop_limit = n })) → after ≡ new
     → ReadsHeader after true (one_hop_less header)
@@ -166,7 +166,7 @@ hop-ipv4 old new after (Ipv4 w) v n is r hops step same =
     subst (λ l. ipv4.Reads l true (record w { hop_limit = w.hop_limit - 1 })) (sym same) (subst (λ k. ipv4.Reads new true (record w { hop_limit = k })) hops (step w true r))
 hop-ipv4 old new after (Ipv6 w) v n is r hops step same = absurd (cc)
 
--- an error with one meaning has another
+-- if P implies Q, an error with P has Q
 pub if-err : (answer : Result IpRepr Rejection) (P Q : Rejection → Type 0) → ((e : Rejection) → P e → Q e) → IfErr answer P → IfErr answer Q
 if-err (Ok v) P Q implies h = h
 if-err (Err e) P Q implies h = implies e h

@@ -1,11 +1,11 @@
--- A checksum that is updated and updated back.
+-- A checksum that is updated and then updated back.
 use Rattle.std.proofs.Common.{ℕ, zero, suc, ◌≡◌, ◌+◌, ◌-◌, ◌*◌, ◌/◌, ◌<◌, ◌≤◌, ◌==◌, ◌≢◌, ◌⊎◌, inl, inr, true, false, List, sum, refl, arith}
 use Rattle.std.proofs.lemmas.Bool.{cases_lt}
 use Rattle.std.proofs.lemmas.Bool.Decides.{nat_tests}
 use Rattle.ip_wire.specs.Udp.{checksum_for}
 use Rattle.ip_wire.specs.WordSum.{residue, sum_of_bytes, updated, words}
 
--- a total is its residue and a multiple of 65535
+-- a total is its residue plus a multiple of 65535
 residue-quotient : (t : ℕ) → (k : ℕ) × (t ≡ residue t + 65535 * k)
 unfolding residue
 residue-quotient zero = (0, refl)
@@ -43,7 +43,7 @@ below-full c old new h =
     let least = residue-least ((65535 - c) + (65535 - old) + new) (omega (arith, h)) in
     omega (arith, least)
 
--- back again, from a checksum other than 0xffff
+-- the checksum after an update back, if it was not 0xffff
 pub updated-back : (c old new : ℕ) → c < 65535 → old ≤ 65535 → new ≤ 65535 → updated (updated c old new) new old ≡ c
 updated-back c old new h o n =
     let there = step c old new in
@@ -52,7 +52,7 @@ updated-back c old new h o n =
     let b = below-full (updated c old new) new old a in
     omega (arith, there.moves, back.moves, a, b, h, o, n)
 
--- two updates, and both back
+-- two updates, and both updates back
 pub updated-back_twice : (c old new p q : ℕ) → c < 65535 → old ≤ 65535 → new ≤ 65535 → p ≤ 65535 → q ≤ 65535
     → updated (updated (updated (updated c old new) p q) new old) q p ≡ c
 updated-back_twice c old new p q h o n ps qs =
@@ -85,7 +85,7 @@ udp-cases u fits = elim (cases_lt 0 u) [
       inl (omega (arith, none), rw test refl)
 ]
 
--- the new checksum is not 0, has 16 bits, and is a step from the old one
+-- the new checksum is not 0, has 16 bits, and differs from the old one by the update
 pub record IsUdpStep (before after old new : ℕ) : Type 0 where
   pub by : IsStep before after old new
   pub some : 1 ≤ after

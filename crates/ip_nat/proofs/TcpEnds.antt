@@ -16,7 +16,7 @@ use Rattle.ip_nat.specs.Nat.{with_tcp_end, with_tcp_port}
 use Rattle.ip_nat.specs.declared.nat.Side.{Side}
 use Rattle.ip_nat.specs.declared.nat.Side.TheVariants.{Source, Destination}
 
--- all is the same but the ports and the checksum
+-- all fields except ports and checksum are unchanged
 pub record SameSegment (old new : List ℕ) : Type 0 where
   pub long : length new ≡ length old
   pub header : header_len new ≡ header_len old
@@ -82,7 +82,7 @@ reads-changed old new src dst src' dst' v payload src_port dst_port r s valid is
 
 -- ---- a port and the checksum
 
--- the first port, the second, what stands between them and the checksum, and what follows it
+-- the first port, the second port, the bytes up to the checksum, the checksum and the rest
 abbrev header : ℕ → ℕ → List ℕ → ℕ → List ℕ → List ℕ
 header p q middle s rest = word p (word q (cells 12 middle ++ word s rest))
 
@@ -183,7 +183,7 @@ tcp-back-dst l old new x are room usual xs =
     subst P (sym (header-of l are room))
     (back-dst (field l 0 16) (field l 16 16) (field l 128 16) x (drop 4 l) (drop 18 l) old new (spelled-fits (slice_index l 2) (slice_index l 3)) (omega (arith, usual, fits)) xs)
 
--- ---- what is read
+-- ---- the parsed value
 
 tcp-same : (side : Side) (l old new : List ℕ) (x : ℕ) → 20 ≤ length l → SameSegment l (with_tcp_end side old new x l)
 tcp-same Source l old new x room =
@@ -196,7 +196,7 @@ tcp-same Destination l old new x room =
 pub tcp-len : (side : Side) (l old new : List ℕ) (x : ℕ) → 20 ≤ length l → length (with_tcp_end side old new x l) ≡ length l
 tcp-len side l old new x room = (tcp-same side l old new x room).long
 
--- a word that was written, read back
+-- a written word is read back
 written : (n x : ℕ) → x < 65536 → spelled (with_part n 0 16 x / 256 % 256) (with_part n 0 16 x % 256) ≡ x
 written n x fits = (λ i. spelled (word_high n x i) (word_low n x i)) ∙ spelled-word x fits
 

@@ -1,4 +1,4 @@
--- A frame is translated as its packet is, and rejected for the reason of its packet.
+-- A frame is translated exactly as its packet, and rejected for the same reason.
 use Rattle.std.proofs.Common.{IfErr, IfOk, ℕ, ◌≡◌, ◌≢◌, ◌≤◌, ◌<◌, ◌-◌, ◌%◌, ◌++◌, ◌↔◌, Bool, true, false, List, Result, Ok, Err, length, drop, take, slice_range, refl, sym, ap, subst, ◌∙◌, arith, length-append, length-drop}
 use Rattle.std.proofs.lemmas.List.{length-take-le, take-append-drop}
 use Rattle.ip_wire.proofs.ByteLists.{AreBytes-drop, AreBytes-slice_range}
@@ -35,13 +35,13 @@ use Rattle.ip_nat.specs.declared.nat.Side.TheVariants.{Source, Destination}
 
 -- ---- the transport
 
--- a packet whose protocol is UDP is read as that
+-- a UDP packet parses as UDP
 pub has-udp : (v : Ipv4Repr) (bytes : List ℕ) (t : Transport) → v.next_header ≡ protocol.Udp → ReadsTransport all_checked (Ipv4 v) bytes t → 8 ≤ length bytes
 has-udp v bytes (datagram u payload) is r = r.1.lengths.least
 has-udp v bytes (segment u payload) is r = let differs : protocol.Udp ≡ protocol.Tcp = sym is ∙ r.0 in absurd (cc)
 has-udp v bytes (other payload) is r = absurd (r.0 is)
 
--- a packet of another protocol stays
+-- the payload of another protocol is unchanged
 pub ended-other : (p : IpProtocol) (side : Side) (old new : List ℕ) (port : ℕ) (bytes : List ℕ) → p ≢ protocol.Udp → p ≢ protocol.Tcp → with_end p side old new port bytes ≡ bytes
 ended-other protocol.Udp side old new port bytes no_udp no_tcp = absurd (no_udp refl)
 ended-other protocol.Tcp side old new port bytes no_udp no_tcp = absurd (no_tcp refl)
@@ -58,7 +58,7 @@ ended-len v side old new port bytes (other payload) are r = ap length (ended-oth
 even : (a : List ℕ) → length a ≡ 4 → length a % 2 ≡ 0
 even a e = omega (arith, e)
 
--- UDP, from what the calls of the view say
+-- UDP, from the contracts of the setters
 pub udp-source : (side : Side) (v : Ipv4Repr) (old mid done new addr : List ℕ) (from : IpAddress) (port : ℕ) → side ≡ Source → from ≡ address.Ipv4 v.src_addr
     → length addr ≡ 4 → length v.dst_addr ≡ 4 → new ≡ done
     → ((dst : IpAddress) (verified : Bool) (u : UdpRepr) (payload : List ℕ) → length (octets_of dst) % 2 ≡ 0 → udp.Reads old from dst verified u payload → udp.Reads mid (address.Ipv4 addr) dst verified u payload)
@@ -89,7 +89,7 @@ udp-destination side v old mid done new addr to port is was four four' some at f
           (first (address.Ipv4 v.src_addr) true u payload (even v.src_addr four') (subst (λ (a : IpAddress). udp.Reads old (address.Ipv4 v.src_addr) a true u payload) (sym was) r.1)),
     )))
 
--- TCP, where the calls of the view speak of the checksum alone
+-- TCP, from the contracts of the setters
 pub tcp-source : (side : Side) (v : Ipv4Repr) (old mid done new addr : List ℕ) (from : IpAddress) (port : ℕ) → side ≡ Source → from ≡ address.Ipv4 v.src_addr
     → length addr ≡ 4 → length v.dst_addr ≡ 4 → port < 65536 → port ≢ 0 → new ≡ done → new ≡ with_tcp_end side (addr_of side v) addr port old
     → ((dst : IpAddress) → length (octets_of dst) % 2 ≡ 0 → Verifies from dst old → Verifies (address.Ipv4 addr) dst mid)
@@ -124,7 +124,7 @@ tcp-destination side v old mid done new addr to port is was four four' fits some
           (first (address.Ipv4 v.src_addr) (even v.src_addr four') (subst (λ (a : IpAddress). Verifies (address.Ipv4 v.src_addr) a old) (sym was) (r.1.checksum refl))))),
     )))
 
--- each kind of transport, from its own call
+-- each transport, from its own setters
 pub rewrites-udp : (v : Ipv4Repr) (old new : List ℕ) (side : Side) (addr : List ℕ) (port : ℕ) → v.next_header ≡ protocol.Udp
     → ((u : UdpRepr) (payload : List ℕ) → Rewrites v old new side addr port (datagram u payload))
     → (t : Transport) → Rewrites v old new side addr port t
@@ -151,7 +151,7 @@ payload-len bytes v r =
     length-take-le (ipv4.total_len bytes - ipv4.header_len bytes) (drop (ipv4.header_len bytes) bytes)
     (omega (arith, length-drop (ipv4.header_len bytes) bytes, r.lengths.within, r.lengths.whole))
 
--- the payload that is written is the payload
+-- the payload that is written is the new payload
 pub inner-payload : (bytes part : List ℕ) (v : Ipv4Repr) → ipv4.Reads bytes true v → length part ≡ length (ipv4_payload bytes)
     → ipv4_payload (with_range bytes (ipv4.header_len bytes) (ipv4.total_len bytes) part) ≡ part
 inner-payload bytes part v r e =
@@ -161,7 +161,7 @@ inner-payload bytes part v r e =
     (λ i. slice_range (with_range bytes h n part) (same.header i) (same.total i))
     ∙ range-part bytes part h n (omega (arith, r.lengths.within, r.lengths.whole)) (e ∙ payload-len bytes v r)
 
--- a packet with another payload and then another address
+-- a packet with a new payload, then with a new address
 pub packet-carries : (bytes part new : List ℕ) (v : Ipv4Repr) (side : Side) (addr : List ℕ) (port : ℕ) (t : Transport) → length addr ≡ 4
     → CarriesPorts bytes v t → length part ≡ length (ipv4_payload bytes) → Rewrites v (ipv4_payload bytes) part side addr port t
     → new ≡ with_address side addr (with_range bytes (ipv4.header_len bytes) (ipv4.total_len bytes) part)
@@ -198,7 +198,7 @@ packet-bytes bytes part new v side addr port r is at =
     is ∙ (λ i. with_end (r.next_header i) side (old i) addr port (ipv4_payload bytes)) in
     at ∙ ap (λ (l : List ℕ). with_address side addr (with_range bytes (ipv4.header_len bytes) (ipv4.total_len bytes) l)) written
 
--- the same of a packet that was written
+-- the same for a packet that is written
 pub record IsWritten (side : Side) (v : Ipv4Repr) (bytes new addr : List ℕ) (port : ℕ) : Type 0 where
   pub carries : (t : Transport) → CarriesPorts bytes v t → CarriesPorts new (with_addr side addr v) (with_port side port t)
   pub as_said : new ≡ translated_packet side addr port bytes
@@ -245,7 +245,7 @@ written-bytes side v bytes done new addr port w same = same ∙ w.as_said
 
 -- ---- the frame
 
--- the Ethernet header and what follows it
+-- the Ethernet header, followed by the packet
 record SameLink (old new : List ℕ) : Type 0 where
   dst_addr : slice_range new 0 6 ≡ slice_range old 0 6
   src_addr : slice_range new 6 12 ≡ slice_range old 6 12
@@ -265,7 +265,7 @@ link-stays frame rest link r =
       ethertype = r.ethertype ∙ ap ethernet.protocol_of (sym s.ethertype);
     }
 
--- the packet of a frame that is accepted
+-- the packet of an accepted frame
 pub carried : (frame : List ℕ) (link : EthernetRepr) (v : Ipv4Repr) (t : Transport) → Carries frame link v t → CarriesPorts (drop 14 frame) v t
 carried frame link v t c = record { reads = c.reads.reads_carried.1; carries = c.reads.reads_carried.2; ports = c.ports }
 
@@ -361,7 +361,7 @@ reads-checked bytes v r full = record {
   dst_addr = r.dst_addr;
 }
 
--- an error with one meaning has another, and a value too
+-- if P implies Q, an error with P has Q, and the same for a value
 pub if-err : {T : Type 0} (answer : Result T Rejection) (P Q : Rejection → Type 0) → ((e : Rejection) → P e → Q e) → IfErr answer P → IfErr answer Q
 if-err (Ok v) P Q implies h = h
 if-err (Err e) P Q implies h = implies e h

@@ -1,11 +1,11 @@
 -- Words of two bytes in a list.
 use Rattle.std.proofs.Common.{ℕ, ◌≡◌, ◌<◌, ◌+◌, ◌*◌, ◌/◌, ◌%◌, ◌^◌, List, ◌∷◌, arith}
 
--- a word before the rest
+-- a word in front of the rest
 abbrev pub word : ℕ → List ℕ → List ℕ
 word x rest = x / 256 % 256 ∷ x % 256 ∷ rest
 
--- the number that two bytes spell, as a field of 16 bits computes
+-- the number of two bytes, as a 16-bit field
 abbrev pub spelled : ℕ → ℕ → ℕ
 spelled a b = (a * 256 ^ 1 + (b * 256 ^ 0 + 0)) / 2 ^ 0 % 2 ^ 16
 

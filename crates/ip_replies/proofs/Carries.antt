@@ -1,4 +1,4 @@
--- What a frame carries whose values are those of a UDP or TCP packet.
+-- The contents of a frame whose values are those of a UDP or TCP packet.
 use Rattle.std.proofs.Common.{ℕ, ◌≡◌, List, Option, Some, None, refl}
 use Rattle.std.specs.Borrow.{Bor}
 use Rattle.ip_wire.specs.Frame as frame

@@ -1,11 +1,11 @@
--- The values of the reply to a frame are those of the reply to the bytes that it was parsed from.
+-- The values of the reply to a frame are those of the reply to the parsed bytes.
 use Rattle.std.proofs.Common.{ℕ, ◌≡◌, ◌↔◌, List, Some, refl, sym, subst}
 use Rattle.ip_wire.specs.Frame.{Carried, IsReadWhole}
 use Rattle.ip_wire.specs.FrameValue.{carried_of}
 use Rattle.ip_wire.specs.declared.EthernetRepr.{EthernetRepr}
 use Rattle.ip_wire.specs.declared.Frame.{Frame}
 
--- a reply by the values of the frame, and by those that the bytes are parsed as
+-- a reply, by the values of the frame and by the values that the bytes parse as
 abbrev pub ToFrame : (EthernetRepr → Carried → EthernetRepr → Carried → Type 0) → Frame → EthernetRepr → Carried → Type 0
 ToFrame R request h c = (asked : Carried) × (carried_of request.carried ≡ Some asked) × R request.header asked h c
 
@@ -26,7 +26,7 @@ to_frame R request bytes parsed h c (header, asked, reads, r) =
     let same = (parsed header asked).1 reads in
     (asked, same.1, subst (λ x. R x asked h c) (sym same.0) r)
 
--- bytes that are not parsed have no reply
+-- bytes that do not parse have no reply
 pub unread : (R : EthernetRepr → Carried → EthernetRepr → Carried → Type 0) (bytes : List ℕ) → ((v : EthernetRepr) (c : Carried) → ⊥ ↔ IsReadWhole bytes v c)
     → (h : EthernetRepr) (c : Carried) → ¬ ToBytes R bytes h c
 unread R bytes none h c (header, asked, reads, r) = (none header asked).1 reads

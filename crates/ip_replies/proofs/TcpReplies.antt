@@ -26,9 +26,9 @@ use Rattle.ip_replies.specs.TcpReply.{IsTcpReply, Replies, TcpRepliesFrame, back
 use Rattle.ip_replies.specs.declared.interface.Interface.{Interface}
 use Rattle.ip_replies.specs.declared.tcp_reply.Offer.{Offer}
 
--- ---- what is true of each reply
+-- ---- properties of each reply
 
--- a reply that can be sent: its header is short, and in normal form
+-- a reply that can be emitted: its header is short, and in normal form
 pub record IsPlain (asked reply : TcpHeader) : Type 0 where
   pub src_port : reply.src_port ≡ asked.dst_port
   pub dst_port : reply.dst_port ≡ asked.src_port
@@ -80,7 +80,7 @@ plain ports offer asked len reply (inl (has, is)) =
     plain_listen asked.control asked.ack_number asked (reset_for asked 0) (syn_ack offer asked) reply (plain_reset asked.ack_number asked _) (plain_syn_ack offer asked) is
 plain ports offer asked len reply (inr (lacks, is)) = plain_closed asked.control asked (reset_for asked len) reply (plain_reset asked.ack_number asked _) is
 
--- there is one reply
+-- there is at most one reply
 pub one_reply : (ports : List ℕ) (offer : Offer) (asked : TcpHeader) (len : ℕ) (a b : TcpHeader) → Replies ports offer asked len a → Replies ports offer asked len b → a ≡ b
 one_reply ports offer asked len a b (inl (has, is)) (inl (also, same)) = cc
 one_reply ports offer asked len a b (inl (has, is)) (inr (lacks, same)) = absurd (lacks has)
@@ -89,7 +89,7 @@ one_reply ports offer asked len a b (inr (lacks, is)) (inr (also, same)) = cc
 
 -- ---- frames
 
--- the payload of a segment fits into a packet
+-- the payload of a segment fits into an IP packet
 pub short_payload : (c : Carried) (v : IpRepr) (t : TcpRepr) → c ≡ carried.Packet v (transport.Tcp t) → FitsCarried c → length t.payload.now < 65536
 short_payload c (Ipv4 v) t is fits = let f = subst FitsCarried is fits in let len = f.0 in omega (arith, len)
 short_payload c (Ipv6 v) t is fits = let f = subst FitsCarried is fits in let len = f.0 in omega (arith, len)
@@ -97,7 +97,7 @@ short_payload c (Ipv6 v) t is fits = let f = subst FitsCarried is fits in let le
 abbrev pub frame_of : Interface → EthernetRepr → IpRepr → TcpRepr → Frame
 frame_of ours link v t = frame_around ours.hardware_addr link.src_addr (header_back v) (transport.Tcp t)
 
--- what is known of the frame of a reply
+-- properties of the frame of a reply
 agreed : (ours : Interface) (link : EthernetRepr) (v : IpRepr) (t : TcpRepr) → t.src_port ≢ 0 → t.dst_port ≢ 0 → header_len_of (header_of t) ≤ 40 → t.payload.now ≡ []
     → Agrees (frame_of ours link v t) × Fits (frame_of ours link v t)
 agreed ours link (Ipv4 v) t src dst short none =
@@ -122,7 +122,7 @@ same_type : (v : IpRepr) → type_of (header_back v) ≡ type_of v
 same_type (Ipv4 v) = refl
 same_type (Ipv6 v) = refl
 
--- what the reply carries
+-- the contents of the reply
 abbrev reply_values : IpRepr → TcpHeader → frame.Carried
 reply_values v reply = frame.packet (header_before (header_back v) protocol.Tcp (header_len_of reply)) (frame.segment reply [])
 
@@ -194,7 +194,7 @@ one_answer ours ports offer request h k c d (asked, same, e) (other, also, g) =
     let reply = one_reply ports offer g.tcp (length g.payload) e.reply g.reply second g.replies in
     e.carries ∙ ap (λ v. reply_values v e.reply) ip ∙ ap (λ r. reply_values g.ip r) reply ∙ sym g.carries
 
--- a reply that cannot be sent is none
+-- a reply that cannot be emitted is no reply
 pub sent : (ours : Interface) (ports : List ℕ) (offer : Offer) (request : Frame) (v : IpRepr) (t r : TcpRepr) → t.src_port ≢ 0 → t.dst_port ≢ 0
     → Replies ports offer (header_of t) (length t.payload.now) (header_of r) → r.payload.now ≡ []
     → Agrees (frame_of ours request.header v r) × Fits (frame_of ours request.header v r)

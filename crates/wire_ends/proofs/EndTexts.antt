@@ -1,4 +1,4 @@
--- Texts of addresses, blocks and endpoints of either version: which there are none of, and that each is read in one way.
+-- Texts of addresses, blocks and endpoints of either version: which ones are rejected, and that each has one value.
 use Rattle.std.proofs.Common.{◌≡◌, ◌≢◌, ℕ, List, [], ◌∷◌, ◌++◌, ◌≤◌, Option, Some, Result, Err, MatchOption, Bor, length, take, drop, refl, sym, ap, ◌∙◌, subst, arith, lit≤, inl, inr, take_at, length-append}
 use Rattle.std.specs.Net.Grammar.{Parses}
 use Rattle.std.specs.Option.{ok_or}
@@ -20,9 +20,9 @@ use Rattle.wire_ends.specs.declared.ip_endpoint.IpEndpoint.{IpEndpoint}
 use Rattle.wire_text.specs.Ending.{EndsInNumber}
 use Rattle.wire_text.proofs.Apart.{IsFirstMark, dotted_first, ipv6_first, mark_before, no_port, same_mark}
 use Rattle.wire_text.proofs.Endings.{ends_once, ends_printed, ends_wider}
-use Rattle.wire_text.proofs.Refusals.{refused, was_none, was_some}
+use Rattle.wire_text.proofs.Rejections.{rejected, was_none, was_some}
 
--- ---- none
+-- ---- rejected texts
 
 pub no_address : (text : List ℕ) → ((octets : List ℕ) → ¬ (ReadsIpv4 text octets)) → ((octets : List ℕ) → ¬ (ReadsIpv6 text octets)) → (addr : IpAddress) → ¬ (ReadsAddress text addr)
 no_address text four six (ip.Ipv4 octets) h = four octets h
@@ -49,12 +49,12 @@ ends_alike front other e =
     let long : length other ≡ length front = omega (arith, ap length e, length-append front (93 ∷ []), length-append other (93 ∷ [])) in
     sym (take_at front (93 ∷ []) (length front) refl) ∙ ap (take (length front)) e ∙ take_at other (93 ∷ []) (length front) long
 
--- no brackets, and no IPv4 text
+-- no brackets, and no IPv4 address
 pub no_plain_host : (text : List ℕ) → ((inner : List ℕ) → text ≢ bracketed inner) → ((octets : List ℕ) → ¬ (ReadsIpv4 text octets)) → (addr : IpAddress) → ¬ (ReadsHost text addr)
 no_plain_host text none four (ip.Ipv4 octets) h = four octets h
 no_plain_host text none four (ip.Ipv6 octets) h = none h.0 h.1
 
--- brackets round what is no IPv6 text
+-- brackets around a text that is no IPv6 address
 pub no_inner_host : (text inner : List ℕ) → text ≡ bracketed inner → ((octets : List ℕ) → ¬ (ReadsIpv6 inner octets)) → (addr : IpAddress) → ¬ (ReadsHost text addr)
 no_inner_host text inner e none (ip.Ipv4 octets) h = no_bracket text octets (inner ++ 93 ∷ []) e h
 no_inner_host text inner e none (ip.Ipv6 octets) h =
@@ -66,7 +66,7 @@ no_inner_host text inner e none (ip.Ipv6 octets) h =
 pub no_port_text : {E F : Type 0} (text : List ℕ) (found : Option (Bor (List ℕ) × ℕ)) (e u : E) (result : Result IpEndpoint F) → Err e ≡ ok_or found u → MatchOption found ((front : List ℕ) (n : ℕ) → ¬ (EndsInNumber 58 5 65535 text front n)) (λ f. EndsInNumber 58 5 65535 text f.0.now f.1) → ((addr : IpAddress) → ¬ (ReadsAddress text addr)) → IsErr result → Parses ReadsEndpoint text result
 no_port_text text found e u result same h alone failed =
     let none = was_none _ _ found e u same h in
-    refused ReadsEndpoint text result failed (λ endpoint.
+    rejected ReadsEndpoint text result failed (λ endpoint.
     elim [
       | inl k ↦ alone endpoint.addr k.0
       | inr k ↦ none k.host_text endpoint.port k.port
@@ -75,7 +75,7 @@ no_port_text text found e u result same h alone failed =
 pub no_host_text : {F : Type 0} (text : List ℕ) (found : Option (Bor (List ℕ) × ℕ)) (front : Bor (List ℕ)) (n : ℕ) (result : Result IpEndpoint F) → found ≡ Some (front, n) → MatchOption found ((front : List ℕ) (n : ℕ) → ¬ (EndsInNumber 58 5 65535 text front n)) (λ f. EndsInNumber 58 5 65535 text f.0.now f.1) → ((addr : IpAddress) → ¬ (ReadsAddress text addr)) → ((addr : IpAddress) → ¬ (ReadsHost front.now addr)) → IsErr result → Parses ReadsEndpoint text result
 no_host_text text found front n result same h alone none failed =
     let ends = was_some _ _ found (front, n) same h in
-    refused ReadsEndpoint text result failed (λ endpoint.
+    rejected ReadsEndpoint text result failed (λ endpoint.
     elim [
       | inl k ↦ alone endpoint.addr k.0
       | inr k ↦
@@ -85,7 +85,7 @@ no_host_text text found front n result same h alone none failed =
 
 -- ---- printed
 
--- what is printed before a port is read as the address, if its text alone is
+-- the printed text before a port parses as the address if its own text does
 printed_host : (addr : IpAddress) → ReadsAddress (address_text addr) addr → ReadsHost (host_text addr) addr
 printed_host (ip.Ipv4 octets) h = h
 printed_host (ip.Ipv6 octets) h = (ipv6_text octets, refl, h)
@@ -98,7 +98,7 @@ printed_endpoint endpoint fits h =
       port = ends_printed 58 5 65535 endpoint.port (host_text endpoint.addr) (lit≤ tt) (lit≤ tt) (lit≤ tt) fits;
     })
 
--- ---- in one way
+-- ---- one value per text
 
 pub address_once : (text : List ℕ) (a b : IpAddress) → ReadsAddress text a → ReadsAddress text b → a ≡ b
 address_once text (ip.Ipv4 a) (ip.Ipv4 b) h k = ap ip.Ipv4 (ipv4_once text a b h k)
@@ -131,7 +131,7 @@ host_once text (ip.Ipv6 a) (ip.Ipv6 b) h k =
     let same : h.0 ≡ k.0 = ends_alike h.0 k.0 (ap (drop 1) (sym h.1 ∙ k.1)) in
     ap ip.Ipv6 (ipv6_once k.0 a b (subst (λ t. ReadsIpv6 t a) same h.2) k.2)
 
--- no address alone is one with a port
+-- a text of an address has no port
 module _ (text front : List ℕ) (n : ℕ) (ends : EndsInNumber 58 5 65535 text front n) where
   four_behind : (octets : List ℕ) → ReadsIpv4 front octets → IsFirstMark 46 text
   four_behind octets h = subst (IsFirstMark 46) (sym ends.spelled) (mark_before 46 front (58 ∷ ends.digits) (ipv4_mark front octets h))

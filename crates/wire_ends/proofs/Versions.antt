@@ -1,4 +1,4 @@
--- The computed version of a packet is the one that it is of.
+-- The computed version of a packet is its version.
 use Rattle.std.proofs.Common.{ℕ, ◌≡◌, if◌then◌else◌, Bool, true, false, List, Option, Some, None, nat_le, length, refl, arith}
 use Rattle.std.proofs.lemmas.Bool.Decides.{nat_tests}
 use Rattle.wire_ends.specs.IpVersion.{IsOfVersion, number_of, packet_version, version_named, version_number}
@@ -20,7 +20,7 @@ IsOfVersion-packet_version bytes v h =
     let some : nat_le 1 (length bytes) ≡ true = let h = h.some in grind (arith, nat_tests) in
     rw (some, h.number) (version_named-number_of v)
 
--- a choice that gives a value
+-- a choice that returns a value
 if-Some : {V : Type 0} (b : Bool) (o : Option V) (v : V) → (if b then o else None) ≡ Some v → (b ≡ true) × (o ≡ Some v)
 if-Some true o v e = (refl, e)
 if-Some false o v e = absurd (cc)

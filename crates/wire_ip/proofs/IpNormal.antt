@@ -1,4 +1,4 @@
--- Normal forms: what was read is in its own, and a normal form is its own.
+-- Normal forms: a parsed value is in normal form, and the normal form of a normal form is itself.
 use Rattle.std.proofs.Common.{ℕ, ◌≡◌, Bool, List, ap}
 use Rattle.wire_ip.specs.Ip.{Reads, normal}
 use Rattle.wire_ip.specs.declared.ip.repr.IpRepr.{IpRepr}

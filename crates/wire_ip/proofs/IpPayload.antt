@@ -1,4 +1,4 @@
--- The length of the payload of a packet that was read.
+-- The payload length of a parsed packet.
 use Rattle.std.proofs.Common.{ℕ, ◌≡◌, ◌≤◌, ◌+◌, ◌-◌, ◌*◌, Bool, List, drop, length, take, sym, ◌∙◌, arith}
 use Rattle.std.proofs.lemmas.List.{length-drop, length-take-le}
 use Rattle.wire_ipv4.specs.Ipv4 as ipv4

@@ -1,4 +1,4 @@
--- An IP header that was written is read as what it was written from.
+-- An emitted IP header parses as the value from which it was emitted.
 use Rattle.std.proofs.Common.{ℕ, ◌≤◌, Bool, IsTrue, List, ◌++◌, length, refl, arith}
 use Rattle.wire_ipv4.proofs.Ipv4ReadsBack as ipv4
 use Rattle.wire_ipv6.proofs.Ipv6Emitted as ipv6

@@ -1,4 +1,4 @@
--- The computed value of a fragment header is the one that it is read as.
+-- The computed value of a fragment header is the value that it parses as.
 use Rattle.std.proofs.Common.{ℕ, ◌≡◌, ◌↔◌, ◌≤◌, true, List, Some, nat_le, length, refl, subst, arith}
 use Rattle.std.proofs.lemmas.Bool.Decides.{nat_tests}
 use Rattle.wire_field.specs.Field.{field}

@@ -1,4 +1,4 @@
--- A header that was written is read as what it was written from.
+-- An emitted header parses as the value from which it was emitted.
 use Rattle.std.proofs.Common.{ℕ, ◌≡◌, ◌≤◌, List, ◌++◌, length, refl, ap, arith}
 use Rattle.wire_field.specs.Field.{field}
 use Rattle.wire_field.proofs.Cells.{cells-all}

@@ -13,7 +13,7 @@ use Rattle.wire_ends.specs.declared.ip_address.IpAddress.{IpAddress}
 use Rattle.wire_ends.specs.declared.ip_protocol.IpProtocol.TheVariants as protocol
 use Rattle.wire_tcp.specs.Tcp.{Verifies, with_updated_checksum}
 
--- what the pseudo-header of a segment of n bytes adds
+-- the sum of the pseudo-header of a segment of n bytes
 abbrev pseudo : IpAddress → IpAddress → ℕ → ℕ
 pseudo src dst n = pseudo_header_total src dst protocol.Tcp n
 

@@ -1,4 +1,4 @@
--- Texts of IPv4 and of IPv6 are apart: the first byte that is no hex digit is a dot in the one, and a colon in the other.
+-- No text is an IPv4 and an IPv6 address: the first byte that is no hex digit is a dot in one, a colon in the other.
 use Rattle.std.proofs.Common.{◌≡◌, ℕ, ◌<◌, ◌≤◌, ◌==◌, true, false, List, [], ◌∷◌, ◌++◌, length, get_or, drop, sym, ap, ◌∙◌, arith, lit≤, inl, inr, append_assoc, eq-eqb}
 use Rattle.std.specs.Char.{digit_value}
 use Rattle.std.specs.List.{join_with_byte}
@@ -9,7 +9,7 @@ use Rattle.wire_text.proofs.Endings.{length_is, mark_here}
 use Rattle.wire_text.proofs.Ipv6.{dotted_by}
 use Rattle.wire_text.proofs.Joined.{EachReads-length}
 
--- hex digits, and then this byte
+-- the text is hex digits followed by this byte
 pub record IsFirstMark (mark : ℕ) (text : List ℕ) : Type 0 where
   pub front : List ℕ
   pub rest : List ℕ
@@ -25,7 +25,7 @@ one_mark a b h k (x ∷ f) (y ∷ g) r s df dg e = one_mark a b h k f g r s df.1
 pub same_mark : (a b : ℕ) (text : List ℕ) → 16 ≤ digit_value a → 16 ≤ digit_value b → IsFirstMark a text → IsFirstMark b text → a ≡ b
 same_mark a b text h k m n = one_mark a b h k m.front n.front m.rest n.rest m.digits n.digits (sym m.spelled ∙ n.spelled)
 
--- what follows the mark does not matter
+-- the text behind that byte can be replaced
 pub mark_before : (mark : ℕ) (text more : List ℕ) → IsFirstMark mark text → IsFirstMark mark (text ++ more)
 mark_before mark text more m = record {
   front = m.front;
@@ -56,7 +56,7 @@ dotted_first text octets h = by h.0.pieces h.0.each h.0.joined
           spelled = e;
         }
 
--- groups or none, and then a colon
+-- groups or none, followed by a colon
 groups_first : (text front groups rest : List ℕ) → AreGroupsText front groups → text ≡ front ++ 58 ∷ rest → IsFirstMark 58 text
 groups_first text front groups rest h e = by h.pieces groups h.each h.joined
   where
@@ -89,7 +89,7 @@ ipv6_first text groups (inr (inr (inr h))) = groups_first text h.head_text _ (58
 pub versions_apart : (text octets groups : List ℕ) → IsDotted text octets → IsIpv6Text text groups → ⊥
 versions_apart text octets groups h k = omega (arith, same_mark 46 58 text (lit≤ tt) (lit≤ tt) (dotted_first text octets h) (ipv6_first text groups k))
 
--- a colon and a number end no text of IPv4
+-- an IPv4 text does not end in a colon and a number
 pub no_port : (text octets front : List ℕ) (places most n : ℕ) → IsDotted text octets → EndsInNumber 58 places most text front n → ⊥
 no_port text octets front places most n h k =
     let inside : length front < length text = omega (arith, length_is 58 places most (lit≤ tt) text front n k) in

@@ -1,4 +1,4 @@
--- A text ends in a mark and a number in one way at most: behind the last mark.
+-- A text splits into a front, a mark and a number in at most one way: at the last mark.
 use Rattle.std.proofs.Common.{◌≡◌, ◌≢◌, ℕ, zero, suc, ◌+◌, ◌-◌, ◌^◌, ◌<◌, ◌≤◌, List, [], ◌∷◌, ◌++◌, length, get_or, decimal, take, drop, refl, sym, ap, ◌∙◌, subst, arith, inl, inr, length-append, take_at, drop_at, take-append-drop, append_assoc, length-drop}
 use Rattle.std.proofs.Math.Seq.{get_or-append_seam}
 use Rattle.std.proofs.lemmas.Bool.{cases_lt}
@@ -31,7 +31,7 @@ module _ (mark places most : ℕ) (apart : 10 ≤ digit_value mark) where
       let digit = digit_at h.digits j h.number.digits.1 (omega (arith, length_is text front n h)) in
       omega (arith, digit, ap digit_value (sym read ∙ same))
 
-  -- a mark that none follows is the one before the number
+  --   if no mark follows a mark, the number starts behind it
   front_ends : (text front : List ℕ) (n at : ℕ) → EndsInNumber mark places most text front n → at < length text → get_or text at 0 ≡ mark → ((k : ℕ) → at < k → k < length text → get_or text k 0 ≢ mark) → length front ≡ at
   front_ends text front n at h within here last =
       let inside : length front < length text = omega (arith, length_is text front n h) in
@@ -60,7 +60,7 @@ module _ (mark places most : ℕ) (apart : 10 ≤ digit_value mark) where
       let (g, y) = ends_at text other m (length other) k inside (mark_here text other m k) last in
       (f ∙ sym g, sym x.value ∙ y.value)
 
-  -- more digits and a greater number may be allowed
+  --   a larger limit on digits and value accepts the same number
   pub ends_wider : (text front : List ℕ) (n few less : ℕ) → few ≤ places → less ≤ most → EndsInNumber mark few less text front n → EndsInNumber mark places most text front n
   ends_wider text front n few less fewer lower h = record {
     digits = h.digits;
@@ -73,7 +73,7 @@ module _ (mark places most : ℕ) (apart : 10 ≤ digit_value mark) where
     };
   }
 
-  -- where the last bytes that may hold the mark hold none
+  --   without a mark among the last `places` + 1 bytes, the text has no such ending
   pub no_end : (text : List ℕ) (first : ℕ) → first ≤ length text - (places + 1) → ((k : ℕ) → first ≤ k → k < length text → get_or text k 0 ≢ mark) → (front : List ℕ) (n : ℕ) → ¬ (EndsInNumber mark places most text front n)
   no_end text first room none front n h =
       let short : length h.digits ≤ places = h.number.places_fit in
@@ -87,7 +87,7 @@ module _ (mark places most : ℕ) (apart : 10 ≤ digit_value mark) where
     number = number;
   }
 
--- a number that is printed behind the mark
+-- a printed number behind a mark is such an ending
 pub ends_printed : (mark places most n : ℕ) (front : List ℕ) → 0 < places → most < 10 ^ places → most < 2 ^ 64 → n ≤ most → EndsInNumber mark places most (front ++ mark ∷ decimal n) front n
 ends_printed mark places most n front some wide small fits =
     let low : n < 2 ^ 64 = omega arith in
@@ -99,7 +99,7 @@ ends_printed mark places most n front some wide small fits =
       number = record { digits = digits; places_fit = length-decimal-le places n some few low; value = value; fits = fits };
     }
 
--- what is read behind the first bytes is read in the text
+-- an ending of a text without its first bytes is an ending of the text
 module _ (text : List ℕ) (first : ℕ) where
   abbrev pub behind : List ℕ
   behind = take (length text - first) (drop first text)

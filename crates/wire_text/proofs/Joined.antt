@@ -1,4 +1,4 @@
--- Numbers joined by a mark: the readers read the grammar and nothing else.
+-- Numbers joined by a mark: the parsers accept exactly the grammar.
 use Rattle.std.proofs.Common.{◌≡◌, ℕ, ◌<◌, ◌≤◌, Bool, true, false, List, [], ◌∷◌, ◌++◌, length, take, Option, Some, None, Bor, is_some, not, refl, sym, ap, ◌∙◌, subst, arith, append-nil, append_assoc, length-append, take_all, lit≤, eqb-true}
 use Rattle.std.proofs.lemmas.Option.{none-some, same_Some}
 use Rattle.std.proofs.lemmas.List.Splits.{join_with_byte-slice_split}
@@ -62,7 +62,7 @@ module _ (radix places most : ℕ) where
     each = numbers_sound (pieces_of mark text) values e;
   }
 
-  -- after the last value: all is read, or something is left
+  --   after the last value, the text is either used up or too long
   pub filled : (mark i : ℕ) (read : Option (List ℕ)) (values : List ℕ) (rest : Option (Bor (List ℕ))) (done : Bool) → length values ≤ i → read ≡ with_front (take i values) (numbers_of radix places most (pieces_after mark rest)) → is_some rest ≡ not done → FilledFrom read values done
   filled mark i read values None done end e is = rw (sym (not-not done) ∙ ap not (sym is)) (e ∙ ap Some (append-nil _ ∙ take_all i values end))
   filled mark i read values (Some rest) done end e is =
@@ -72,7 +72,7 @@ module _ (radix places most : ℕ) where
       let some = pieces_some mark rest.now in
       omega (arith, EachReads-length (pieces_of mark rest.now) more each, ap length (sym shown), length-append (take i values) more, ap length (take_all i values end))
 
--- a turn of the loop: the first piece is a number, or there is no list of numbers
+-- one iteration of the loop: the first piece is a number, or the text is rejected
 front_twice : (front more : List ℕ) (o : Option (List ℕ)) → with_front front (with_front more o) ≡ with_front (front ++ more) o
 front_twice front more None = refl
 front_twice front more (Some ns) = ap Some (sym (append_assoc front more ns))
@@ -96,7 +96,7 @@ octets_sound text octets e =
     let (four, same) = cond_some _ _ _ kept in
     (joined_sound 10 3 255 46 text octets (read ∙ ap Some same), rw (← same) (eqb-true _ _ four))
 
--- the same of six in hex
+-- six octets in hex
 pub hex_octets_complete : (mark : ℕ) (text octets : List ℕ) → 16 ≤ digit_value mark → IsHexOctets mark text octets → hex_octets_read mark text ≡ Some octets
 unfolding hex_octets_read
 hex_octets_complete mark text octets other h = rw (joined_complete 16 2 255 mark text octets other (omega (arith, h.1)) h.0, h.1)

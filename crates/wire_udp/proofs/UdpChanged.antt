@@ -62,7 +62,7 @@ pub shape-checksum : (bytes : List ℕ) (x : ℕ) → 8 ≤ length bytes → Sam
 shape-checksum bytes x room =
     subst (λ (l : List ℕ). SameShape l (with_field l 48 16 x)) (sym (cells-drop 8 bytes room)) (record { long = refl; len = refl; behind = refl })
 
--- the checksum is no value, and only it depends on the addresses
+-- the checksum is not part of the value, and it alone depends on the addresses
 pub reads-checksum : (bytes : List ℕ) (x : ℕ) (src dst src' dst' : IpAddress) (verified checked : Bool) (v : UdpRepr) (payload : List ℕ) → Reads bytes src dst verified v payload
     → (IsTrue checked → HasChecksum src' dst' (with_field bytes 48 16 x)) → Reads (with_field bytes 48 16 x) src' dst' checked v payload
 reads-checksum bytes x src dst src' dst' verified checked v payload r valid =
@@ -73,7 +73,7 @@ reads-checksum bytes x src dst src' dst' verified checked v payload r valid =
     reads-changed bytes (with_field bytes 48 16 x) src dst src' dst' verified checked v v payload r (shape-checksum bytes x room) valid
     (r.src_port ∙ sym first) (r.dst_port ∙ sym second) (receiver-read bytes src dst verified v payload r)
 
--- the same bytes with other addresses, or with a checksum that is verified
+-- the same bytes with other addresses, or with a valid checksum verified
 pub reads-verified : (bytes : List ℕ) (src dst src' dst' : IpAddress) (verified checked : Bool) (v : UdpRepr) (payload : List ℕ) → Reads bytes src dst verified v payload
     → (IsTrue checked → HasChecksum src' dst' bytes) → Reads bytes src' dst' checked v payload
 reads-verified bytes src dst src' dst' verified checked v payload r valid = record {

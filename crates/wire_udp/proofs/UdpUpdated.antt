@@ -22,7 +22,7 @@ use Rattle.wire_udp.proofs.UdpReadsBack.{checksum_for-bounds, checksum_for-cases
 use Rattle.wire_udp.specs.Udp.{HasChecksum, HasLengths, Reads, Verifies, checksum_for, packet_len, packet_sum, with_checksum, with_updated_checksum}
 use Rattle.wire_udp.specs.declared.udp.repr.UdpRepr.{UdpRepr}
 
--- the total that the checksum covers, of a packet of n bytes
+-- the total that the checksum of a packet of n bytes covers
 abbrev pseudo : IpAddress → IpAddress → ℕ → ℕ
 pseudo src dst n = pseudo_header_total src dst protocol.Udp n
 
@@ -109,7 +109,7 @@ pub valid-dst_addr : (src old new : IpAddress) (bytes : List ℕ) → AreBytes b
 valid-dst_addr src old new bytes are s o n h valid =
     valid-updated src old src new bytes bytes (sum (words (octets_of old))) (sum (words (octets_of new))) are s o s n h (record { long = refl; len = refl; behind = refl }) refl refl (omega arith) valid
 
--- what is read does not depend on the checksum that is written
+-- the parsed value does not depend on the checksum that is written
 reads-updated : (src dst src' dst' : IpAddress) (bytes : List ℕ) (old new : ℕ) (verified checked : Bool) (v : UdpRepr) (payload : List ℕ) → Reads bytes src dst verified v payload
     → (IsTrue checked → HasChecksum src' dst' (with_updated_checksum bytes old new)) → Reads (with_updated_checksum bytes old new) src' dst' checked v payload
 reads-updated src dst src' dst' bytes old new verified checked v payload r =
