@@ -80,6 +80,7 @@ placed frame packet src dst link header e f r c alive p reads = record {
       ∙ ap (λ (l : List ℕ). dst.0 ++ src.0 ++ slice_range frame 12 14 ++ l) (p ∙ ap (with_hop_limit header (drop 14 frame)) (sym (hop-less header)));
 }
 
+-- the bytes of a forwarded frame are a new Ethernet header and the packet with one hop less
 pub forwarded : (frame new front packet : List ℕ) (src dst : EthernetAddress) (link : EthernetRepr) (header h : IpRepr) → length src.0 ≡ 6 → length dst.0 ≡ 6
     → ethernet.Reads frame link → CarriesAs link.ethertype (drop 14 frame) true header → 1 < hop_limit_of header
     → front ≡ with_range (with_range (take 14 frame) 6 12 src.0) 0 6 dst.0
@@ -112,6 +113,7 @@ no-ipv4 : (bytes : List ℕ) (answer : Result Ipv4Repr Error) (error : Error)
 no-ipv4 bytes answer error reads is (Ipv4 v) c = let other : answer ≡ Ok v = (reads v).1 c.reads in absurd (cc)
 no-ipv4 bytes answer error reads is (Ipv6 v) c = let differs : ethertype.Ipv4 ≡ ethertype.Ipv6 = c.names in absurd (cc)
 
+-- an IPv4 packet that does not parse is rejected for its header
 pub bad-ipv4 : (bytes : List ℕ) (answer : Result Ipv4Repr Error) (error : Error)
     → ((v : Ipv4Repr) → (answer ≡ Ok v) ↔ ipv4.Reads bytes false v) → answer ≡ Err error → IsRejectedAs ethertype.Ipv4 bytes BadHeader
 bad-ipv4 bytes answer error reads is = ((Ipv4 (ipv4.header_of bytes), refl), no-ipv4 bytes answer error reads is)
@@ -120,9 +122,11 @@ no-sum : (bytes : List ℕ) → ¬ ipv4.HasChecksum bytes → (h : IpRepr) → �
 no-sum bytes wrong (Ipv4 v) c = wrong (c.reads.checksum refl)
 no-sum bytes wrong (Ipv6 v) c = let differs : ethertype.Ipv4 ≡ ethertype.Ipv6 = c.names in absurd (cc)
 
+-- an IPv4 header with a wrong checksum is rejected for it
 pub wrong-ipv4 : (bytes : List ℕ) (v : Ipv4Repr) → ipv4.Reads bytes false v → ¬ ipv4.HasChecksum bytes → IsRejectedAs ethertype.Ipv4 bytes WrongChecksum
 wrong-ipv4 bytes v r wrong = ((Ipv4 v, record { names = refl; reads = r }), no-sum bytes wrong)
 
+-- a frame with a valid IPv4 header carries that packet
 pub carries-ipv4 : (bytes : List ℕ) (v : Ipv4Repr) → ipv4.Reads bytes false v → ipv4.HasChecksum bytes → CarriesAs ethertype.Ipv4 bytes true (Ipv4 v)
 carries-ipv4 bytes v r full = record {
   names = refl;
@@ -143,6 +147,7 @@ no-ipv6 : (bytes : List ℕ) (answer : Result Ipv6Repr Error) (error : Error)
 no-ipv6 bytes answer error reads is (Ipv4 v) c = let differs : ethertype.Ipv6 ≡ ethertype.Ipv4 = c.names in absurd (cc)
 no-ipv6 bytes answer error reads is (Ipv6 v) c = let other : answer ≡ Ok v = (reads v).1 c.reads in absurd (cc)
 
+-- an IPv6 packet that does not parse is rejected for its header
 pub bad-ipv6 : (type : EthernetProtocol) (bytes : List ℕ) (answer : Result Ipv6Repr Error) (error : Error) → type ≡ ethertype.Ipv6
     → ((v : Ipv6Repr) → (answer ≡ Ok v) ↔ ipv6.Reads bytes v) → answer ≡ Err error → IsRejectedAs type bytes BadHeader
 bad-ipv6 type bytes answer error named reads is =
@@ -155,6 +160,7 @@ not-named type no4 no6 (Ipv6 v) is = no6 is
 pub other-type : (type : EthernetProtocol) (bytes : List ℕ) → type ≢ ethertype.Ipv4 → type ≢ ethertype.Ipv6 → IsRejectedAs type bytes NotIp
 other-type type bytes no4 no6 = not-named type no4 no6
 
+-- a frame with an IPv6 header that parses carries that packet
 pub carries-ipv6 : (type : EthernetProtocol) (bytes : List ℕ) (v : Ipv6Repr) → type ≡ ethertype.Ipv6 → ipv6.Reads bytes v → CarriesAs type bytes true (Ipv6 v)
 carries-ipv6 type bytes v named r = record { names = named; reads = r }
 

@@ -42,6 +42,7 @@ by_tcp host request (Some f) no_arp no_echo gives =
 
 -- ---- there is a reply
 
+-- two replies of a host to one frame carry the same
 pub one_answer : (host : Host) (request : Frame) (h k : EthernetRepr) (c d : Carried) → RepliesFrame host request h c → RepliesFrame host request k d → c ≡ d
 one_answer host request h k c d (asked, is, inl e) (other, also, inl g) = arp.one_answer host.interface request h k c d (asked, is, e) (other, also, g)
 one_answer host request h k c d (asked, is, inr (inl e)) (other, also, inr (inl g)) =
@@ -57,10 +58,12 @@ one_answer host request h k c d (asked, is, inr (inr e)) (other, also, inr (inl 
 
 -- ---- the same for bytes
 
+-- bytes that do not parse with valid checksums get no reply
 pub unanswered : (host : Host) (bytes old new : List ℕ) (result : Option ℕ) → Sends (RepliesBytes host bytes) old new result → IsUnread bytes → result ≡ None
 unanswered host bytes old new None sends none = refl
 unanswered host bytes old new (Some len) sends none = let r = sends.replies in absurd (none r.0 r.1 r.2)
 
+-- a reply that was sent is a reply of the host to the bytes
 pub answers : (host : Host) (bytes old new : List ℕ) (result : Option ℕ) → Sends (RepliesBytes host bytes) old new result → IfSome result (λ len. Answers host bytes new)
 answers host bytes old new None sends = tt
 answers host bytes old new (Some len) sends = record { header = sends.header; carried = sends.carried; replies = sends.replies; reads = sends.reads }

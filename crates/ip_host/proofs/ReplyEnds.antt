@@ -108,6 +108,7 @@ reply_resets first second _ _ _ _ asked c d port (inr (inr e)) (inr (inr g)) =
 
 -- ---- bytes
 
+-- a reply to a reply is a RST, if both hosts have the same echo port
 pub answer_resets : (first second : Host) (f g h : List ℕ) → first.echo_port ≡ second.echo_port → Answers first f g → Answers second g h → IsReset h
 answer_resets first second f g h port a b =
     let (asked_header, asked, reads_f, replies) = a.replies in
@@ -117,6 +118,7 @@ answer_resets first second f g h port a b =
     (subst (λ c. IsReply second back_header c b.header b.carried) once.1 replies_back) in
     record { header = b.header; ip = ip; tcp = tcp; payload = payload; reads = subst (λ c. IsReadWhole h b.header c) carries b.reads; reset = is }
 
+-- no host replies to a RST
 pub reset_unanswered : (third : Host) (h k : List ℕ) → IsReset h → ¬ Answers third h k
 reset_unanswered third h k r a =
     let (asked_header, asked, reads, replies) = a.replies in

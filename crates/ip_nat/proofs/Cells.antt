@@ -22,5 +22,6 @@ cells-all n xs h = cells-drop n xs (omega arith) ∙ ap (λ (r : List ℕ). cell
 pub word_high : (n x : ℕ) → with_part n 0 16 x / 256 % 256 ≡ x / 256 % 256
 word_high n x = omega arith
 
+-- the low byte of a word does not change when the word is cut to 16 bits
 pub word_low : (n x : ℕ) → with_part n 0 16 x % 256 ≡ x % 256
 word_low n x = omega arith

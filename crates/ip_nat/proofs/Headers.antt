@@ -45,6 +45,7 @@ pub past-front : (bytes part : List ℕ) (h n : ℕ) → 20 ≤ length bytes →
 past-front bytes part h n room least most =
     ap (λ (l : List ℕ). with_range l h n part) (sym (take-append-drop 20 bytes)) ∙ range-past (take 20 bytes) (drop 20 bytes) part h n (front-len bytes room) least most
 
+-- replacing bytes behind the first twenty leaves the header unchanged
 pub same-inner : (bytes part : List ℕ) (h n : ℕ) → 20 ≤ length bytes → 20 ≤ h → 20 ≤ n → SameHeader bytes (with_range bytes h n part)
 same-inner bytes part h n room least most =
     subst (λ (l : List ℕ). SameHeader bytes l) (sym (past-front bytes part h n room least most))
@@ -94,6 +95,7 @@ addressed_cells Source front rest addr =
 addressed_cells Destination front rest addr =
     record { apart = refl; long = refl; shape = record { version = refl; header = refl; total = refl; fragment = refl; protocol = refl }; behind = refl; written = refl }
 
+-- writing an address to the first twenty bytes changes that address and the header checksum
 pub addressed : (side : Side) (front rest addr : List ℕ) → length front ≡ 20 → length addr ≡ 4 → IsAddressed side front rest addr
 addressed side front rest addr e f =
     subst (λ (l : List ℕ). IsAddressed side l rest addr) (sym (cells-all 20 front e))
@@ -116,6 +118,7 @@ pub record Keeps (side : Side) (bytes addr : List ℕ) : Type 0 where
   pub long : length (with_address side addr bytes) ≡ length bytes
   pub written : addr_at side (with_address side addr bytes) ≡ addr
 
+-- writing an address keeps the length and the fields that locate the payload
 pub keeps : (side : Side) (bytes addr : List ℕ) → 20 ≤ length bytes → 20 ≤ header_len bytes → length addr ≡ 4 → Keeps side bytes addr
 keeps side bytes addr room least four =
     let is = take-append-drop 20 bytes in

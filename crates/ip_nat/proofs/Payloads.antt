@@ -4,11 +4,13 @@ use Rattle.std.proofs.Math.Seq.{drop-append_seam, drop-append-add, take-append-a
 use Rattle.std.proofs.lemmas.List.{drop-drop, length-take-le, take-append-drop, take_at}
 use Rattle.ip_wire.specs.Field.{with_range}
 
+-- dropping a front leaves the rest
 pub drop-front : (p q : List ℕ) (n : ℕ) → length p ≡ n → drop n (p ++ q) ≡ q
 drop-front p q n e = subst (λ (k : ℕ). drop k (p ++ q) ≡ q) e (drop-append_seam p q)
 
 -- ---- the elements from h up to n replaced by a part
 
+-- replacing a part by one of the same length keeps the length
 pub range-len : (bytes part : List ℕ) (h n : ℕ) → h ≤ n → n ≤ length bytes → length part ≡ n - h → length (with_range bytes h n part) ≡ length bytes
 range-len bytes part h n order room e =
     let front : length (take h bytes) ≡ h = length-take-le h bytes (omega arith) in
@@ -63,6 +65,7 @@ drop-past front rest h e least =
     let is : h ≡ length front + (h - 20) = omega arith in
     ap (λ (k : ℕ). drop k (front ++ rest)) is ∙ drop-append-add front rest (h - 20)
 
+-- a part behind a front of twenty bytes is a part of the rest
 pub range-past : (front rest part : List ℕ) (h n : ℕ) → length front ≡ 20 → 20 ≤ h → 20 ≤ n
     → with_range (front ++ rest) h n part ≡ front ++ with_range rest (h - 20) (n - 20) part
 range-past front rest part h n e least most =
@@ -72,6 +75,7 @@ range-past front rest part h n e least most =
 
 -- ---- a list that is split twice
 
+-- a replaced part, as the bytes before it, the part and the bytes behind it
 pub range-split : (bytes part : List ℕ) (h n : ℕ) → h ≤ n → take h bytes ++ (part ++ drop (n - h) (drop h bytes)) ≡ with_range bytes h n part
 range-split bytes part h n order =
     let e : h + (n - h) ≡ n = omega arith in

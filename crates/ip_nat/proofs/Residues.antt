@@ -71,6 +71,7 @@ updated-back_twice c old new p q h o n ps qs =
 
 -- ---- one update of UDP's checksum, which is never 0
 
+-- a UDP checksum updated from the sum old to the sum new, with 0xffff in place of 0
 abbrev pub udp_updated : ℕ → ℕ → ℕ → ℕ
 udp_updated c old new = checksum_for (65535 - updated c old new)
 
@@ -91,6 +92,7 @@ pub record IsUdpStep (before after old new : ℕ) : Type 0 where
   pub some : 1 ≤ after
   pub fits : after ≤ 65535
 
+-- an updated UDP checksum is one step from the old one
 pub udp-step : (c old new : ℕ) → IsUdpStep c (udp_updated c old new) old new
 udp-step c old new =
     let u = updated c old new in
@@ -100,6 +102,7 @@ udp-step c old new =
       | inr (least, is) ↦ record { by = record { turns = s.turns; moves = omega (arith, s.moves, is) }; some = omega (arith, is, least); fits = omega (arith, is) }
     ]
 
+-- two updates of a UDP checksum and both updates back give the checksum again
 pub udp-back_twice : (c old new p q : ℕ) → 1 ≤ c → c ≤ 65535 → old ≤ 65535 → new ≤ 65535 → p ≤ 65535 → q ≤ 65535
     → udp_updated (udp_updated (udp_updated (udp_updated c old new) p q) new old) q p ≡ c
 udp-back_twice c old new p q some h o n ps qs =

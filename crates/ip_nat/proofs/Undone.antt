@@ -161,6 +161,7 @@ packet-back bytes v t side addr port c are four fits usual usual_tcp =
 
 -- ---- the frame
 
+-- translating a frame there and back gives the frame again
 pub undone : (frame there back : List ℕ) (side : Side) (addr : List ℕ) (port : ℕ) (was : IsTranslated frame there side addr port)
     → AreBytes frame → length addr ≡ 4 → port < 65536 → HasUsualChecksums frame
     → IsTranslated there back side (addr_of side was.header) (port_of side was.transport) → back ≡ frame

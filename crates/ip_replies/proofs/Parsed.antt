@@ -16,10 +16,12 @@ ToBytes R bytes h c = (header : EthernetRepr) × (asked : Carried) × IsReadWhol
 abbrev pub IsParsed : Frame → List ℕ → Type 0
 IsParsed request bytes = (v : EthernetRepr) (c : Carried) → ((request.header ≡ v) × (carried_of request.carried ≡ Some c)) ↔ IsReadWhole bytes v c
 
+-- a reply to the frame is a reply to the bytes
 pub to_bytes : (R : EthernetRepr → Carried → EthernetRepr → Carried → Type 0) (request : Frame) (bytes : List ℕ) → IsParsed request bytes
     → (h : EthernetRepr) (c : Carried) → ToFrame R request h c → ToBytes R bytes h c
 to_bytes R request bytes parsed h c (asked, is, r) = (request.header, asked, (parsed request.header asked).0 (refl, is), r)
 
+-- a reply to the bytes is a reply to the frame
 pub to_frame : (R : EthernetRepr → Carried → EthernetRepr → Carried → Type 0) (request : Frame) (bytes : List ℕ) → IsParsed request bytes
     → (h : EthernetRepr) (c : Carried) → ToBytes R bytes h c → ToFrame R request h c
 to_frame R request bytes parsed h c (header, asked, reads, r) =

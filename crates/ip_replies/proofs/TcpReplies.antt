@@ -126,6 +126,7 @@ same_type (Ipv6 v) = refl
 abbrev reply_values : IpRepr → TcpHeader → frame.Carried
 reply_values v reply = frame.packet (header_before (header_back v) protocol.Tcp (header_len_of reply)) (frame.segment reply [])
 
+-- a frame with the reply to a segment is the reply
 pub replied : (ours : Interface) (ports : List ℕ) (offer : Offer) (request f : Frame) (v : IpRepr) (t r : TcpRepr)
     → request.carried ≡ carried.Packet v (transport.Tcp t) → IsForUs ours request.header v
     → Replies ports offer (header_of t) (length t.payload.now) (header_of r) → r.payload.now ≡ []
@@ -169,6 +170,7 @@ replied ours ports offer request f v t r carries for_us replies none is sound =
       ),
     )
 
+-- a frame whose segment gets no reply gets none
 pub no_reply : (ours : Interface) (ports : List ℕ) (offer : Offer) (request : Frame)
     → ((v : IpRepr) (t : TcpRepr) (reply : TcpHeader) → request.carried ≡ carried.Packet v (transport.Tcp t) → IsForUs ours request.header v
     → t.src_port ≢ 0 → t.dst_port ≢ 0 → ¬ Replies ports offer (header_of t) (length t.payload.now) reply)
@@ -180,6 +182,7 @@ no_reply ours ports offer request none header carried (asked, same, e) =
     none e.ip t e.reply found.1 e.for_us (λ z. e.from_port (ap (λ (x : TcpHeader). x.src_port) (sym found.2) ∙ z)) (λ z. e.to_port (ap (λ (x : TcpHeader). x.dst_port) (sym found.2) ∙ z))
     (subst (λ (l : List ℕ). Replies ports offer (header_of t) (length l) e.reply) (sym found.3) replies)
 
+-- two replies to one segment carry the same
 pub one_answer : (ours : Interface) (ports : List ℕ) (offer : Offer) (request : Frame) (h k : EthernetRepr) (c d : frame.Carried)
     → TcpRepliesFrame ours ports offer request h c → TcpRepliesFrame ours ports offer request k d → c ≡ d
 one_answer ours ports offer request h k c d (asked, same, e) (other, also, g) =

@@ -5,8 +5,8 @@ ghost use Rattle.std.specs.Prelude.{◌≡◌, ◌≤◌, ◌+◌, length};
 use crate::allow_list::is_allowed;
 use crate::flow_key::{Flow, FlowKey};
 use crate::read_frame::udp_packet;
-use crate::verify_checksum::{parse_udp_ports, verified_by_the_device};
 use crate::route::{Route, choose};
+use crate::verify_checksum::{parse_udp_ports, verified_by_the_device};
 use crate::write_frame::write_udp;
 use ip_wire::{
     EthernetAddress, Frame, IpAddress, IpCidr, IpEndpoint, IpProtocol, IpRepr, Ipv4Address,
@@ -127,7 +127,10 @@ fn rejects_a_wrong_checksum(rt: HostRuntime) {
             Ipv4Address::new(192, 168, 1, 1),
             Ipv4Address::new(192, 168, 1, 2),
         );
-        assert_eq!(rt; parse_udp_ports(&packet, src, dst, &verify).is_ok(), verified);
+        assert_eq!(rt;
+            parse_udp_ports(&packet, src, dst, &verify).is_ok(),
+            verified
+        );
         assert_eq!(rt; parse_udp_ports(&packet, src, dst, &trust).is_ok(), trusted);
     }
 }

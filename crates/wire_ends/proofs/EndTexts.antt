@@ -24,6 +24,7 @@ use Rattle.wire_text.proofs.Rejections.{rejected, was_none, was_some}
 
 -- ---- rejected texts
 
+-- a text that is an address of neither version is no address
 pub no_address : (text : List ℕ) → ((octets : List ℕ) → ¬ (ReadsIpv4 text octets)) → ((octets : List ℕ) → ¬ (ReadsIpv6 text octets)) → (addr : IpAddress) → ¬ (ReadsAddress text addr)
 no_address text four six (ip.Ipv4 octets) h = four octets h
 no_address text four six (ip.Ipv6 octets) h = six octets h
@@ -41,6 +42,7 @@ bracket_mark text rest e = record { front = []; rest = rest; digits = tt; spelle
 
 -- ---- hosts
 
+-- an IPv4 text does not begin with a bracket
 pub no_bracket : (text octets rest : List ℕ) → text ≡ 91 ∷ rest → ReadsIpv4 text octets → ⊥
 no_bracket text octets rest e h = absurd (omega (arith, same_mark 91 46 text (lit≤ tt) (lit≤ tt) (bracket_mark text rest e) (ipv4_mark text octets h)))
 
@@ -63,6 +65,7 @@ no_inner_host text inner e none (ip.Ipv6 octets) h =
 
 -- ---- endpoints
 
+-- a text that is no address and does not end in a port is no endpoint
 pub no_port_text : {E F : Type 0} (text : List ℕ) (found : Option (Bor (List ℕ) × ℕ)) (e u : E) (result : Result IpEndpoint F) → Err e ≡ ok_or found u → MatchOption found ((front : List ℕ) (n : ℕ) → ¬ (EndsInNumber 58 5 65535 text front n)) (λ f. EndsInNumber 58 5 65535 text f.0.now f.1) → ((addr : IpAddress) → ¬ (ReadsAddress text addr)) → IsErr result → Parses ReadsEndpoint text result
 no_port_text text found e u result same h alone failed =
     let none = was_none _ _ found e u same h in
@@ -72,6 +75,7 @@ no_port_text text found e u result same h alone failed =
       | inr k ↦ none k.host_text endpoint.port k.port
     ])
 
+-- a text that is no address, and whose front is no host, is no endpoint
 pub no_host_text : {F : Type 0} (text : List ℕ) (found : Option (Bor (List ℕ) × ℕ)) (front : Bor (List ℕ)) (n : ℕ) (result : Result IpEndpoint F) → found ≡ Some (front, n) → MatchOption found ((front : List ℕ) (n : ℕ) → ¬ (EndsInNumber 58 5 65535 text front n)) (λ f. EndsInNumber 58 5 65535 text f.0.now f.1) → ((addr : IpAddress) → ¬ (ReadsAddress text addr)) → ((addr : IpAddress) → ¬ (ReadsHost front.now addr)) → IsErr result → Parses ReadsEndpoint text result
 no_host_text text found front n result same h alone none failed =
     let ends = was_some _ _ found (front, n) same h in
@@ -90,6 +94,7 @@ printed_host : (addr : IpAddress) → ReadsAddress (address_text addr) addr → 
 printed_host (ip.Ipv4 octets) h = h
 printed_host (ip.Ipv6 octets) h = (ipv6_text octets, refl, h)
 
+-- a printed endpoint parses as that endpoint, if its address does
 pub printed_endpoint : (endpoint : IpEndpoint) → endpoint.port ≤ 65535 → ReadsAddress (address_text endpoint.addr) endpoint.addr → ReadsEndpoint (endpoint_text endpoint) endpoint
 printed_endpoint endpoint fits h =
     inr (record {
@@ -100,6 +105,7 @@ printed_endpoint endpoint fits h =
 
 -- ---- one value per text
 
+-- a text parses as at most one address
 pub address_once : (text : List ℕ) (a b : IpAddress) → ReadsAddress text a → ReadsAddress text b → a ≡ b
 address_once text (ip.Ipv4 a) (ip.Ipv4 b) h k = ap ip.Ipv4 (ipv4_once text a b h k)
 address_once text (ip.Ipv4 a) (ip.Ipv6 b) h k = absurd (not_both text a b h k)
@@ -113,6 +119,7 @@ blocks_apart text a b h k =
     let (same, _) = ends_once 47 3 128 (lit≤ tt) text h.address_text k.address_text a.prefix_len b.prefix_len wider k.prefix_len in
     not_both k.address_text a.address b.address (subst (λ t. ReadsIpv4 t a.address) same h.address) k.address
 
+-- a text parses as at most one block
 pub cidr_once : (text : List ℕ) (a b : IpCidr) → ReadsCidr text a → ReadsCidr text b → a ≡ b
 cidr_once text (cidr.Ipv4 a) (cidr.Ipv4 b) h k = ap cidr.Ipv4 (one_block ReadsIpv4 2 32 text a b (λ front h k. ipv4_once front a.address b.address h k) h k)
 cidr_once text (cidr.Ipv4 a) (cidr.Ipv6 b) h k = absurd (blocks_apart text a b h k)
@@ -148,6 +155,7 @@ module _ (text front : List ℕ) (n : ℕ) (ends : EndsInNumber 58 5 65535 text 
 same_endpoint : (a b : IpEndpoint) → a.addr ≡ b.addr → a.port ≡ b.port → a ≡ b
 same_endpoint a b addr port = λ i. record { addr = addr i; port = port i }
 
+-- a text parses as at most one endpoint
 pub endpoint_once : (text : List ℕ) (a b : IpEndpoint) → ReadsEndpoint text a → ReadsEndpoint text b → a ≡ b
 endpoint_once text a b (inl h) (inl k) = same_endpoint a b (address_once text a.addr b.addr h.0 k.0) (h.1 ∙ sym k.1)
 endpoint_once text a b (inl h) (inr k) = absurd (alone_apart text k.host_text b.port k.port a.addr b.addr h.0 k.host)

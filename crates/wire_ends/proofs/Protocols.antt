@@ -25,6 +25,7 @@ number_of-protocol_of n =
     row n 59 protocol.Ipv6NoNxt _ refl (
     row n 60 protocol.Ipv6Opts (protocol.Unknown n) refl refl)))))))))))
 
+-- the canonical form of a canonical form is itself
 pub known-known : (p : IpProtocol) → known (known p) ≡ known p
 known-known p = ap protocol_of (number_of-protocol_of (number_of p))
 

@@ -14,6 +14,7 @@ named-number : (n : ℕ) (v : IpVersion) → version_named n ≡ Some v → n �
 named-number n Ipv4 e = grind (arith, nat_tests)
 named-number n Ipv6 e = grind (arith, nat_tests)
 
+-- the version of a packet is the computed one
 pub IsOfVersion-packet_version : (bytes : List ℕ) (v : IpVersion) → IsOfVersion bytes v → packet_version bytes ≡ Some v
 unfolding packet_version
 IsOfVersion-packet_version bytes v h =
@@ -25,6 +26,7 @@ if-Some : {V : Type 0} (b : Bool) (o : Option V) (v : V) → (if b then o else N
 if-Some true o v e = (refl, e)
 if-Some false o v e = absurd (cc)
 
+-- the computed version is the version of the packet
 pub packet_version-IsOfVersion : (bytes : List ℕ) (v : IpVersion) → packet_version bytes ≡ Some v → IsOfVersion bytes v
 unfolding packet_version
 packet_version-IsOfVersion bytes v e =

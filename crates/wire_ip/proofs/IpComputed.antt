@@ -43,11 +43,13 @@ ip_of-Some verified bytes v e =
     let (same, header) = header_of_version-Some verified bytes number v read in
     record { version = packet_version-IsOfVersion bytes (version_of v) (rw same is); header = header }
 
+-- a value that bytes parse as is the computed one
 pub Reads-ip_of : (verified : Bool) (bytes : List ℕ) (v : IpRepr) → Reads bytes verified v → ip_of verified bytes ≡ Some v
 unfolding ip_of
 Reads-ip_of verified bytes (Ipv4 v) r = rw (IsOfVersion-packet_version bytes version.Ipv4 r.version, (ipv4_of-Reads verified bytes v).1 r.header) refl
 Reads-ip_of verified bytes (Ipv6 v) r = rw (IsOfVersion-packet_version bytes version.Ipv6 r.version, (ipv6_of-Reads bytes v).1 r.header) refl
 
+-- bytes parse as a value exactly if it is the computed one
 pub ip_of-Reads : (verified : Bool) (bytes : List ℕ) (v : IpRepr) → (ip_of verified bytes ≡ Some v) ↔ Reads bytes verified v
 ip_of-Reads verified bytes v = (ip_of-Some verified bytes v, Reads-ip_of verified bytes v)
 
@@ -57,11 +59,13 @@ pub ip_of-Ipv4 : (verified : Bool) (bytes : List ℕ) (value : Option Ipv4Repr) 
 unfolding ip_of
 ip_of-Ipv4 verified bytes value is read = rw (is, read) refl
 
+-- the computed value of bytes with version 6 is that of IPv6
 pub ip_of-Ipv6 : (verified : Bool) (bytes : List ℕ) (value : Option Ipv6Repr) → packet_version bytes ≡ Some version.Ipv6 → ipv6_of bytes ≡ value
     → ip_of verified bytes ≡ option_map Ipv6 value
 unfolding ip_of
 ip_of-Ipv6 verified bytes value is read = rw (is, read) refl
 
+-- bytes with another version number have no computed value
 pub ip_of-None : (verified : Bool) (bytes : List ℕ) → packet_version bytes ≡ None → ip_of verified bytes ≡ None
 unfolding ip_of
 ip_of-None verified bytes is = rw is refl
@@ -71,12 +75,14 @@ pub record Answers (verified : Bool) (bytes : List ℕ) (answer : Result IpRepr 
   pub reads : (v : IpRepr) → (answer ≡ Ok v) ↔ Reads bytes verified v
   pub value : ip_of verified bytes ≡ result_ok answer
 
+-- `Ok` with the computed value is the right result
 pub answers-Ok : (verified : Bool) (bytes : List ℕ) (w : IpRepr) → ip_of verified bytes ≡ Some w → Answers verified bytes (Ok w)
 answers-Ok verified bytes w read = record {
   reads = λ v. (λ e. (ip_of-Reads verified bytes v).0 (cc), λ r. let other = Reads-ip_of verified bytes v r in cc);
   value = read;
 }
 
+-- `Err` is the right result if there is no computed value
 pub answers-Err : (verified : Bool) (bytes : List ℕ) (answer : Result IpRepr Error) → IsErr answer → ip_of verified bytes ≡ None → Answers verified bytes answer
 answers-Err verified bytes (Ok w) rejected none = absurd (cc)
 answers-Err verified bytes (Err error) rejected none = record {

@@ -24,6 +24,7 @@ Reads-is_read bytes v r = grind (arith, nat_tests)
 Reads-is : (bytes : List ℕ) (v : Ipv6Repr) → Reads bytes v → v ≡ header_of bytes
 Reads-is bytes v r = rw (← r.payload_len, ← r.hop_limit, ← r.next_header, ← r.src_addr, ← r.dst_addr) refl
 
+-- bytes parse as a value exactly if it is the computed one
 pub ipv6_of-Reads : (bytes : List ℕ) (v : Ipv6Repr) → (ipv6_of bytes ≡ Some v) ↔ Reads bytes v
 unfolding ipv6_of
 ipv6_of-Reads bytes v = (
@@ -40,6 +41,7 @@ pub packet_text-Some : (bytes : List ℕ) (v : Ipv6Repr) → ipv6_of bytes ≡ S
 unfolding packet_text
 packet_text-Some bytes v e = rw e refl
 
+-- the text of bytes that do not parse
 pub packet_text-None : (bytes : List ℕ) → ipv6_of bytes ≡ None → packet_text bytes ≡ codes "IPv6 (wire::Error)"
 unfolding packet_text
 packet_text-None bytes e = rw e refl

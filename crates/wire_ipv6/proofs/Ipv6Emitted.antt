@@ -37,6 +37,7 @@ written old v =
     let b = with_field (with_field (with_field a 32 16 v.payload_len) 56 8 v.hop_limit) 48 8 (number_of v.next_header) in
     with_range (with_range b 8 24 v.src_addr) 24 40 v.dst_addr
 
+-- the writes of `emit` give the header, followed by the bytes that were behind it
 pub written-bytes_of : (old : List ℕ) (v : Ipv6Repr) → 40 ≤ length old → IsInRange v → written old v ≡ bytes_of v ++ drop 40 old
 written-bytes_of old v room h = rw (
   cells-all 16 v.src_addr h.src_addr,

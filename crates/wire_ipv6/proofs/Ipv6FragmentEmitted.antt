@@ -49,6 +49,7 @@ flag-set : (set : Bool) → IsTrue set ↔ (flag set ≡ 1)
 flag-set true = (λ on. refl, λ on. refl)
 flag-set false = (λ on. cc, λ on. cc)
 
+-- an emitted header parses as the normal form of its value
 pub reads-bytes_of : (v : Ipv6FragmentRepr) (rest : List ℕ) → v.ident < 2 ^ 32 → Reads (bytes_of v ++ rest) (normal v)
 reads-bytes_of v rest h =
     let small = flag-small v.more_frags in

@@ -15,9 +15,11 @@ digit_at (c ∷ text) zero h within = h.0
 digit_at (c ∷ text) (suc k) h within = digit_at text k h.1 (omega arith)
 
 module _ (mark places most : ℕ) (apart : 10 ≤ digit_value mark) where
+  -- the length of the text is that of its parts
   pub length_is : (text front : List ℕ) (n : ℕ) (h : EndsInNumber mark places most text front n) → length text ≡ length front + 1 + length h.digits
   length_is text front n h = omega (arith, ap length h.spelled, length-append front (mark ∷ h.digits))
 
+  -- the mark is at the index of the length of the front
   pub mark_here : (text front : List ℕ) (n : ℕ) → EndsInNumber mark places most text front n → get_or text (length front) 0 ≡ mark
   mark_here text front n h = ap (λ t. get_or t (length front) 0) h.spelled ∙ get_or-append_seam front mark h.digits 0
 
@@ -43,6 +45,7 @@ module _ (mark places most : ℕ) (apart : 10 ≤ digit_value mark) where
         ]
       ]
 
+  -- the last mark of a text separates the front and the number
   pub ends_at : (text front : List ℕ) (n at : ℕ) → EndsInNumber mark places most text front n → at < length text → get_or text at 0 ≡ mark → ((k : ℕ) → at < k → k < length text → get_or text k 0 ≢ mark) → (front ≡ take at text) × IsNumber 10 places most (drop (at + 1) text) n
   ends_at text front n at h within here last =
       let long = front_ends text front n at h within here last in
@@ -52,6 +55,7 @@ module _ (mark places most : ℕ) (apart : 10 ≤ digit_value mark) where
         subst (λ t. IsNumber 10 places most t n) (sym (ap (drop (at + 1)) again ∙ drop_at (front ++ mark ∷ []) h.digits (at + 1) longer)) h.number,
       )
 
+  -- a text has at most one such ending
   pub ends_once : (text front other : List ℕ) (n m : ℕ) → EndsInNumber mark places most text front n → EndsInNumber mark places most text other m → (front ≡ other) × (n ≡ m)
   ends_once text front other n m h k =
       let inside : length other < length text = omega (arith, length_is text other m k) in
@@ -80,6 +84,7 @@ module _ (mark places most : ℕ) (apart : 10 ≤ digit_value mark) where
       let long : length text ≡ length front + 1 + length h.digits = length_is text front n h in
       none (length front) (omega (arith, short, long)) (omega (arith, long)) (mark_here text front n h)
 
+  -- a mark and a number at the end of a text are an ending
   pub ends_in : (text : List ℕ) (n at : ℕ) → at < length text → get_or text at 0 ≡ mark → IsNumber 10 places most (drop (at + 1) text) n → EndsInNumber mark places most text (take at text) n
   ends_in text n at within here number = record {
     digits = drop (at + 1) text;
@@ -104,6 +109,7 @@ module _ (text : List ℕ) (first : ℕ) where
   abbrev pub behind : List ℕ
   behind = take (length text - first) (drop first text)
 
+  -- the last bytes, without a length
   pub behind_is : behind ≡ drop first text
   behind_is = take_rest text first
 
@@ -113,11 +119,13 @@ module _ (text : List ℕ) (first : ℕ) where
   length_in : length behind ≡ length text - first
   length_in = ap length behind_is ∙ length-drop first text
 
+  -- no mark in the last bytes is no mark at these indexes of the text
   pub none_in : (mark : ℕ) → ((k : ℕ) → k < length behind → get_or behind k 0 ≢ mark) → (k : ℕ) → first ≤ k → k < length text → get_or text k 0 ≢ mark
   none_in mark none k past within here =
       let back : first + (k - first) ≡ k = omega arith in
       none (k - first) (omega (arith, length_in)) (read_in (k - first) ∙ ap (λ i. get_or text i 0) back ∙ here)
 
+  -- the last mark in the last bytes is the last mark of the text
   pub last_in : (mark place : ℕ) → (place < length behind) × (get_or behind place 0 ≡ mark) × ((k : ℕ) → place < k → k < length behind → get_or behind k 0 ≢ mark) → (first + place < length text) × (get_or text (first + place) 0 ≡ mark) × ((k : ℕ) → first + place < k → k < length text → get_or text k 0 ≢ mark)
   last_in mark place h = (
     omega (arith, h.0, length_in),

@@ -42,6 +42,7 @@ IsBehind mark (c ∷ more) = c ≡ mark
 pub rest_none : (text : List ℕ) (n : ℕ) → length (take (length text - n) (drop n text)) ≡ 0 → length text ≤ n
 rest_none text n e = omega (arith, ap length (take_rest text n), length-drop n text)
 
+-- if the rest of a text begins with a byte, it is that byte and more
 pub rest_some : (text : List ℕ) (n c : ℕ) (more : List ℕ) → take (length text - n) (drop n text) ≡ c ∷ more → drop n text ≡ c ∷ more
 rest_some text n c more e = sym (take_rest text n) ∙ e
 
@@ -115,6 +116,7 @@ module _ {radix places : ℕ} {text : List ℕ} {value count : ℕ} (first : IsF
         fits = fits;
       })
 
+  -- a number that is the whole text is its first and last piece
   pub last_piece : (mark : ℕ) → radix ≤ digit_value mark → (most : ℕ) → count ≢ 0 → value ≤ most → length text ≤ count → FirstPiece mark radix places most text (Some (value, None))
   last_piece mark apart most some fits end =
       let whole = take_all count text end in
@@ -125,6 +127,7 @@ module _ {radix places : ℕ} {text : List ℕ} {value count : ℕ} (first : IsF
         read = (rw whole at (front_piece mark apart most (omega arith) fits), refl);
       }
 
+  -- a number up to a mark is the first piece, and the rest follows the mark
   pub piece_and_more : (mark : ℕ) → radix ≤ digit_value mark → (most : ℕ) → count ≢ 0 → value ≤ most → (rest : Bor (List ℕ)) → drop count text ≡ mark ∷ rest.now → FirstPiece mark radix places most text (Some (value, Some rest))
   piece_and_more mark apart most some fits rest e =
       let split : text ≡ take count text ++ mark ∷ rest.now = sym (take-append-drop count text) ∙ ap (λ t. take count text ++ t) e in
@@ -135,6 +138,7 @@ module _ {radix places : ℕ} {text : List ℕ} {value count : ℕ} (first : IsF
         read = (front_piece mark apart most (omega arith) fits, refl);
       }
 
+  -- no first piece is a number: no digit, a value that is too large, or another byte behind the digits
   pub no_piece : (mark : ℕ) → radix ≤ digit_value mark → (most : ℕ) → ((count ≡ 0) ⊎ ((most < value) ⊎ (¬ (IsBehind mark (drop count text))))) → FirstPiece mark radix places most text None
   no_piece mark apart most why = by (pieces_of mark text) refl
     where

@@ -123,6 +123,7 @@ no_number text none = by (group_of text) refl
     by None e = e
     by (Some g) e = absurd (none g (number_sound 16 4 0xffff text g e))
 
+-- four octets joined by dots are one piece, and no group
 pub dotted_by : (text : List ℕ) (pieces : List (List ℕ)) (octets : List ℕ) → EachReads (IsNumber 10 3 255) pieces octets → text ≡ join_with_byte 46 pieces → length octets ≡ 4 → IsPiece 58 text × (group_of text ≡ None) × (0 < length text)
 dotted_by text [] octets each e four = absurd (omega (arith, EachReads-length 10 3 255 [] octets each))
 dotted_by text (piece ∷ []) octets each e four = absurd (omega (arith, EachReads-length 10 3 255 (piece ∷ []) octets each))
@@ -143,6 +144,7 @@ dotted_last before seen text octets h may =
 same_bytes : (xs ys : List ℕ) → xs ≡ ys → bytes_eq xs ys ≡ true
 same_bytes xs ys e = (bytes_eq-Decides xs ys).1 e
 
+-- a dotted text is a single piece
 pub dotted_piece : (text octets : List ℕ) → IsDotted text octets → pieces_of 58 text ≡ text ∷ []
 dotted_piece text octets h = slice_split_none (λ b. b == 58) text (dotted_by text h.0.pieces octets h.0.each h.0.joined h.1).0
 
@@ -186,6 +188,7 @@ mapped_text text dotted octets groups spelled last value = record {
   value = value;
 }
 
+-- each IPv6 text of the grammar is accepted, with its groups
 pub groups_complete : (text groups : List ℕ) → IsIpv6Text text groups → groups_read text ≡ Some groups
 groups_complete text groups (inl h) = full_complete text groups h
 groups_complete text groups (inr (inl h)) = elided_complete text groups h
@@ -446,6 +449,7 @@ groups_sound_by text inner groups found f (piece ∷ rest) e =
       | inr k ↦ inr (inr (inl (mapped_sound text inner f.front f.more piece rest groups found f.each whole k)))
     ]
 
+-- each accepted text is an IPv6 text of the grammar
 pub groups_sound : (text groups : List ℕ) → groups_read text ≡ Some groups → IsIpv6Text text groups
 unfolding groups_read
 groups_sound text groups e =

@@ -26,6 +26,7 @@ module _ (radix places most : ℕ) where
   numbers_complete (piece ∷ pieces) (x ∷ xs) h =
       rw (number_complete radix places most piece x h.0, numbers_complete pieces xs h.1)
 
+  -- pieces that parse as numbers are numbers of the grammar
   pub numbers_sound : (pieces : List (List ℕ)) (values : List ℕ) → numbers_of radix places most pieces ≡ Some values → EachReads (IsNumber radix places most) pieces values
   numbers_sound [] values e = subst (EachReads (IsNumber radix places most) []) (same_Some _ _ e) tt
   numbers_sound (piece ∷ pieces) values e =
@@ -34,18 +35,21 @@ module _ (radix places most : ℕ) where
       subst (EachReads (IsNumber radix places most) (piece ∷ pieces)) same
       (number_sound radix places most piece n read, numbers_sound pieces ns later)
 
+  -- there are as many pieces as values
   pub EachReads-length : (pieces : List (List ℕ)) (values : List ℕ) → EachReads (IsNumber radix places most) pieces values → length pieces ≡ length values
   EachReads-length [] [] h = refl
   EachReads-length [] (x ∷ xs) h = absurd h
   EachReads-length (piece ∷ pieces) [] h = absurd h
   EachReads-length (piece ∷ pieces) (x ∷ xs) h = omega (arith, EachReads-length pieces xs h.1)
 
+  -- pieces that are numbers contain no mark
   pub EachReads-pieces : (mark : ℕ) → radix ≤ digit_value mark → (pieces : List (List ℕ)) (values : List ℕ) → EachReads (IsNumber radix places most) pieces values → ArePieces mark pieces
   EachReads-pieces mark h [] values each = tt
   EachReads-pieces mark h (piece ∷ pieces) [] each = absurd each
   EachReads-pieces mark h (piece ∷ pieces) (x ∷ xs) each =
       (digits_piece radix mark piece h each.0.digits.1, EachReads-pieces mark h pieces xs each.1)
 
+  -- joined numbers of the grammar parse
   pub joined_complete : (mark : ℕ) (text values : List ℕ) → radix ≤ digit_value mark → 0 < length values → IsJoined mark (IsNumber radix places most) text values → numbers_of radix places most (pieces_of mark text) ≡ Some values
   joined_complete mark text values other some h =
       go h.pieces h.each h.joined
@@ -89,6 +93,7 @@ pub octets_complete : (text octets : List ℕ) → IsDotted text octets → octe
 unfolding octets_read
 octets_complete text octets h = rw (joined_complete 10 3 255 46 text octets (lit≤ tt) (omega (arith, h.1)) h.0, h.1)
 
+-- an accepted text is four octets joined by dots
 pub octets_sound : (text octets : List ℕ) → octets_read text ≡ Some octets → IsDotted text octets
 unfolding octets_read
 octets_sound text octets e =
@@ -101,6 +106,7 @@ pub hex_octets_complete : (mark : ℕ) (text octets : List ℕ) → 16 ≤ digit
 unfolding hex_octets_read
 hex_octets_complete mark text octets other h = rw (joined_complete 16 2 255 mark text octets other (omega (arith, h.1)) h.0, h.1)
 
+-- an accepted text is six octets in hex joined by the mark
 pub hex_octets_sound : (mark : ℕ) (text octets : List ℕ) → hex_octets_read mark text ≡ Some octets → IsHexOctets mark text octets
 unfolding hex_octets_read
 hex_octets_sound mark text octets e =

@@ -36,6 +36,7 @@ pub number_digits : (radix places most : ℕ) (text : List ℕ) → 0 < length t
 unfolding number_of
 number_digits radix places most text some short all = rw (lt-ltb _ _ some, le-leb _ _ short, all_pass radix text all)
 
+-- a number of the grammar is the computed one
 pub number_complete : (radix places most : ℕ) (text : List ℕ) (n : ℕ) → IsNumber radix places most text n → number_of radix places most text ≡ Some n
 number_complete radix places most text n h =
     rw (number_digits radix places most text h.digits.0 h.places_fit h.digits.1, h.value, le-leb n most h.fits)
@@ -46,6 +47,7 @@ two_tests true true o x e = (refl, refl, e)
 two_tests true false o x e = absurd (none-some x e)
 two_tests false b o x e = absurd (none-some x e)
 
+-- the computed number is one of the grammar
 pub number_sound : (radix places most : ℕ) (text : List ℕ) (n : ℕ) → number_of radix places most text ≡ Some n → IsNumber radix places most text n
 unfolding number_of
 number_sound radix places most text n e =

@@ -43,6 +43,7 @@ pieces_of-join mark piece (next ∷ pieces) h =
     slice_split_at _ piece mark (join_with_byte mark (next ∷ pieces)) h.0 (eq-eqb mark mark refl)
     ∙ ap (λ t. piece ∷ t) (pieces_of-join mark next pieces h.1)
 
+-- a text has at least one piece
 pub pieces_some : (mark : ℕ) (text : List ℕ) → 0 < length (pieces_of mark text)
 pieces_some mark text = omega (arith, length-slice_split (λ b. b == mark) text)
 

@@ -14,5 +14,6 @@ pub was_none : {A E : Type 0} (P : Type 0) (Q : A → Type 0) (o : Option A) (e 
 was_none P Q None e u same h = h
 was_none P Q (Some a) e u same h = absurd (cc)
 
+-- if the option is `Some`, its value has the property
 pub was_some : {A : Type 0} (P : Type 0) (Q : A → Type 0) (o : Option A) (a : A) → o ≡ Some a → MatchOption o P Q → Q a
 was_some P Q o a same h = subst (λ o. MatchOption o P Q) same h

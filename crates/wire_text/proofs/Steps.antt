@@ -26,10 +26,12 @@ counted count (Some ns) values false filled len = elim (cases_eq (length ns) cou
   | inr other ↦ rw (ne_eqb (length ns) count other) refl
 ]
 
+-- the filled array is the four octets of the text
 pub four_octets : (text values : List ℕ) (done : Bool) (r : Option (List ℕ)) → FilledFrom (numbers_of 10 3 255 (pieces_of 46 text)) values done → length values ≡ 4 → r ≡ then_some done values → r ≡ octets_read text
 unfolding octets_read
 four_octets text values done r filled len e = e ∙ counted 4 _ values done filled len
 
+-- the filled array is the six octets of the text
 pub six_octets : (mark : ℕ) (text values : List ℕ) (done : Bool) (r : Option (List ℕ)) → FilledFrom (numbers_of 16 2 255 (pieces_of mark text)) values done → length values ≡ 6 → r ≡ then_some done values → r ≡ hex_octets_read mark text
 unfolding hex_octets_read
 six_octets mark text values done r filled len e = e ∙ counted 6 _ values done filled len
@@ -60,14 +62,17 @@ module _ (before : Option ℕ) (seen piece : List ℕ) (pieces : List (List ℕ)
   unfolding groups_from
   at_other some e = rw (ne_eqb (length piece) 0 some, e) refl
 
+-- no piece is left: the groups are complete
 pub at_end : (before : Option ℕ) (seen : List ℕ) → groups_from before seen [] ≡ all_groups before seen
 unfolding groups_from
 at_end before seen = refl
 
+-- an option that is not `Some` is `None`
 pub none_from : {A : Type 0} (o : Option A) → is_some o ≡ false → o ≡ None
 none_from None e = refl
 none_from (Some x) e = absurd (true≢false e)
 
+-- an index within a length is within the next length
 pub still_within : (before : Option ℕ) (len : ℕ) → IfSome before (λ n. n ≤ len) → IfSome before (λ n. n ≤ len + 1)
 still_within None len h = tt
 still_within (Some n) len h = omega arith
@@ -90,12 +95,14 @@ pub inner_none : (text : List ℕ) → None ≡ inner_text text → groups_read 
 unfolding groups_read
 inner_none text e = rw (← e) refl
 
+-- parsing the inner text gives the groups of the text
 pub inner_some : (text inner : List ℕ) → Some inner ≡ inner_text text → groups_read text ≡ groups_from None [] (pieces_of 58 inner)
 unfolding groups_read
 inner_some text inner e = rw (← e) refl
 
 -- ---- a text that is no dotted part
 
+-- a text that is not dotted gives no IPv4-mapped address
 pub mapped_none : (text : List ℕ) → ((octets : List ℕ) → ¬ (IsDotted text octets)) → mapped_read text ≡ None
 unfolding mapped_read
 mapped_none text none = by (octets_read text) refl
@@ -175,6 +182,7 @@ module _ {read : Option (List ℕ)} (before : Option ℕ) (seen : List ℕ) {res
     pub group_full : length seen ≡ 8 → read ≡ None
     group_full full = at_first ∙ rw full refl
 
+    -- one more group, if there is room
     pub group_more : (now : List ℕ) → length seen < 8 → now ≡ seen ++ g ∷ [] → read ≡ groups_from before now (pieces_after 58 after)
     group_more now room same = at_first ∙ rw (lt-ltb (length seen) 8 room, same, first.read.1) refl
 
@@ -186,6 +194,7 @@ module _ {read : Option (List ℕ)} (before : Option ℕ) (seen : List ℕ) {res
         at_pieces ([] ∷ pieces_of 58 behind.now) cut ∙ at_empty before seen [] (pieces_of 58 behind.now) refl
         ∙ ap (λ b. behind_elision b seen (pieces_of 58 behind.now) (groups_from (Some (length seen)) seen (pieces_of 58 behind.now))) none
 
+    -- behind `::` the loop continues, unless the text ends
     pub elided : (empty : Bool) → empty ≡ (length behind.now == 0) → read ≡ groups_from (Some (length seen)) seen (pieces_after 58 (then_some (not empty) behind))
     elided true e = at_elision ∙ behind_end seen behind.now _ (eqb-true _ _ (sym e)) ∙ sym (at_end (Some (length seen)) seen)
     elided false e = at_elision ∙ behind_later seen behind.now _ (eqb-false _ _ (sym e))
