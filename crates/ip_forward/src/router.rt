@@ -20,7 +20,7 @@ pub enum Rejection {
     BadHeader,
     /// The checksum of the IPv4 header is wrong.
     WrongChecksum,
-    /// The hop limit is used up.
+    /// The hop limit is 0 or 1.
     Expired,
 }
 
