@@ -47,14 +47,14 @@ class Gate:
 
     DONE = re.compile(r"rt: (\w+)(: its tests are)? (proved|NOT PROVED)")
     TRIED = re.compile(r"rt: (\w+): trying its must-fail edits \((\d+)\)")
-    REFUSED = re.compile(r"rt: must-fail (\w+)/\S+ refused, as it must be")
+    REJECTED = re.compile(r"rt: must-fail (\w+)/\S+ refused, as it must be")
     WELL = re.compile(r"rt: (\w+ ran\b.* wrote what|\w+: its tests passed|ok; )|\d+ passed, \d+ failed$")
 
     def __init__(self):
         self.names, self.ended, self.tried, self.lines, self.inside = listed(), 0, Counter(), [], False
 
     def take(self, line):
-        done, tried, refused = (it.match(line) for it in (self.DONE, self.TRIED, self.REFUSED))
+        done, tried, rejected = (it.match(line) for it in (self.DONE, self.TRIED, self.REJECTED))
         if line.startswith("== "):
             self.lines, self.inside = [], True
             return
@@ -64,8 +64,8 @@ class Gate:
         elif tried:
             self.tried[tried[1]] = int(tried[2])
             say(f"{tried[1]}: {tried[2]} wrong bodies are tried")
-        elif refused:
-            self.count(refused[1])
+        elif rejected:
+            self.count(rejected[1])
         elif self.inside or not line.startswith("rt: ") and not self.WELL.match(line):
             return
         elif not self.WELL.match(line):
@@ -85,7 +85,7 @@ class Gate:
         # Two lines of rt that come at once can stand in one, and then it was not read how many there are.
         self.tried[crate] -= 1
         if not self.tried[crate]:
-            say(f"{crate}: its wrong bodies are refused")
+            say(f"{crate}: its wrong bodies are rejected")
 
     def end(self):
         pass

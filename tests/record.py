@@ -16,7 +16,7 @@ TESTS = os.path.dirname(os.path.abspath(__file__))
 
 
 def worked():
-    """A frame of each kind: whole, with wrong checksums, rejected, a fragment, without a packet. Allocations fail in each."""
+    """A frame of each kind: whole, with wrong checksums, rejected, a fragment, without a packet. Each allocation fails once."""
     datagram, segment = "45000020 00004000 4011b779 c0a80101 c0a80102", "45000030 00004000 4006b774 c0a80101 c0a80102"
     ends = "fe800000000000000000000000000001 ff020000000000000000000000000001"
     for frame in [

@@ -16,7 +16,7 @@ import tempfile
 from concurrent.futures import ThreadPoolExecutor
 
 TOP = os.path.dirname(os.path.dirname(os.path.abspath(__file__)))
-REFUSED = re.compile(r"rt: must-fail (\S+)\.edit: refused, as it must be")
+REJECTED = re.compile(r"rt: must-fail (\S+)\.edit: refused, as it must be")
 PROVED = re.compile(r"rt: must-fail \S+\.edit: NOT REFUSED")
 
 
@@ -62,11 +62,11 @@ def tried(task):
         subprocess.run(["git", "init", "-q"], cwd=room, check=True)
         ran = subprocess.run(["rt", "must-fail", crate], cwd=room, stdin=subprocess.DEVNULL, stdout=subprocess.PIPE,
                              stderr=subprocess.STDOUT, text=True, errors="replace")
-    found = (PROVED if kind == "controls" else REFUSED).findall(ran.stdout)
+    found = (PROVED if kind == "controls" else REJECTED).findall(ran.stdout)
     passed, wanted = len(found), 1 if kind == "controls" else len(edits(crate, kind))
     print(f"{crate}: {passed} of {wanted} {'sets of controls are proved' if kind == 'controls' else 'wrong bodies are rejected'}", flush=True)
     if passed < wanted:
-        well = re.compile(f"{REFUSED.pattern}|rt: chose|so far: ")
+        well = re.compile(f"{REJECTED.pattern}|rt: chose|so far: ")
         print("\n".join(line for line in ran.stdout.split("\n") if line and not well.match(line)), flush=True)
     return ran.stdout, passed, wanted
 

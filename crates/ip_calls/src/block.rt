@@ -1,11 +1,11 @@
-//! What blocks of addresses hold.
+//! The contents of address blocks.
 
 use crate::answer::NoAnswer;
 use crate::operands::{NOTHING, read};
 use ip_wire::{IpCidr, Ipv4Cidr};
 use std::alloc::{AllocError, Global};
 
-/// Whether a block holds the address of another, and all of the other; of an IPv4 block also its
+/// Whether a block contains the address of another, and all of the other; for an IPv4 block also its
 /// netmask, its network and its broadcast address.
 pub fn answer(alloc: Global, operands: &[&str]) -> Result<String, NoAnswer> {
     let [first, second] = operands else {

@@ -1,4 +1,4 @@
-//! The operands of calls, read from words.
+//! Operands of calls, parsed from words.
 
 ghost use Rattle.std.specs.Prelude.{◌≡◌, IfOk};
 ghost use Rattle.ip_wire.specs.IpAddress.{version_of};
@@ -69,7 +69,7 @@ pub fn addresses(src: &str, dst: &str) -> Result<(IpAddress, IpAddress), NoAnswe
     }
 }
 
-/// Whether something is asked for.
+/// Whether the word is `1`.
 pub fn flag(word: &str) -> bool {
     word == "1"
 }

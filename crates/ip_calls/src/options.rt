@@ -1,4 +1,4 @@
-//! What the options of a TCP header say.
+//! The values of the options of a TCP header.
 
 use crate::answer::NoAnswer;
 use crate::operands::octets;
@@ -7,11 +7,10 @@ use net_base::Result as Parsed;
 use std::alloc::{AllocError, Global};
 use std::fmt::Debug;
 
-// How many octets of options a header has at most. They are whole words of 4.
+// The largest length of the options in a header in octets, in whole words of 4.
 const MAX_OPTIONS_LEN: usize = 40;
 
-/// The summary of the options, whether selective acknowledgements are permitted, and the ranges of the
-/// first one.
+/// The summary of the options, whether SACK is permitted, and the ranges of the first SACK option.
 pub fn answer(alloc: Global, operands: &[&str]) -> Result<String, NoAnswer> {
     let [word] = operands else {
         return Err(NoAnswer::Malformed);
@@ -48,7 +47,7 @@ fn fields(summary: TcpOptionSummary) -> Fields {
     )
 }
 
-// A value as it is shown for debugging, but for the spaces, or `err`.
+// The debug form of a value without its spaces, or `err`.
 fn shown<T: Debug + Drop>(alloc: Global, value: Parsed<T>) -> Result<String, AllocError> {
     match value {
         Ok(value) => format!(in alloc; "{value:?}")?.replace(alloc, ' ', ""),

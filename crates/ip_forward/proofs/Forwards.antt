@@ -1,4 +1,4 @@
--- The bytes of a frame that is forwarded, and why one is rejected.
+-- The bytes of a forwarded frame, and the reason for a rejection.
 use Rattle.std.proofs.Common.{IfErr, ℕ, ◌≡◌, ◌≢◌, ◌≤◌, ◌<◌, ◌-◌, ◌++◌, ◌↔◌, Bool, true, false, List, Result, Ok, Err, length, drop, take, slice_range, refl, sym, ap, subst, ◌∙◌, arith}
 use Rattle.ip_forward.specs.Forward.{CarriesAs, IsForwarded, IsRejected, IsRejectedAs, one_hop_less, with_hop_limit}
 use Rattle.ip_forward.specs.declared.router.Rejection.{Rejection}
@@ -28,7 +28,7 @@ type-less : (h : IpRepr) → type_of (one_hop_less h) ≡ type_of h
 type-less (Ipv4 v) = refl
 type-less (Ipv6 v) = refl
 
--- the header of a frame, with two addresses written
+-- the header of a frame after both addresses are written
 readdressed : (frame s d : List ℕ) → 14 ≤ length frame → length s ≡ 6 → length d ≡ 6
     → with_range (with_range (take 14 frame) 6 12 s) 0 6 d ≡ d ++ s ++ slice_range frame 12 14
 readdressed frame s d h e f = rw (cells-drop 14 frame h, cells-all 6 s e, cells-all 6 d f) refl
@@ -80,6 +80,7 @@ placed frame packet src dst link header e f r c alive p reads = record {
       ∙ ap (λ (l : List ℕ). dst.0 ++ src.0 ++ slice_range frame 12 14 ++ l) (p ∙ ap (with_hop_limit header (drop 14 frame)) (sym (hop-less header)));
 }
 
+-- the bytes of a forwarded frame are a new Ethernet header and the packet with one hop less
 pub forwarded : (frame new front packet : List ℕ) (src dst : EthernetAddress) (link : EthernetRepr) (header h : IpRepr) → length src.0 ≡ 6 → length dst.0 ≡ 6
     → ethernet.Reads frame link → CarriesAs link.ethertype (drop 14 frame) true header → 1 < hop_limit_of header
     → front ≡ with_range (with_range (take 14 frame) 6 12 src.0) 0 6 dst.0
@@ -89,7 +90,7 @@ forwarded frame new front packet src dst link header h e f r c alive g p reads i
     let at : new ≡ (dst.0 ++ src.0 ++ slice_range frame 12 14) ++ packet = is ∙ ap (λ (l : List ℕ). l ++ packet) (g ∙ readdressed frame src.0 dst.0 r.whole e f) in
     subst (IsForwarded frame new src dst) (sym hop) (subst (λ l. IsForwarded frame l src dst (one_hop_less header)) (sym at) (placed frame packet src dst link header e f r c alive p reads))
 
--- a frame that is read is rejected for the same reason as its packet
+-- a frame with an Ethernet header is rejected for the same reason as its packet
 pub rejected : (frame : List ℕ) (answer : Result EthernetRepr Error) (link : EthernetRepr) (reason : Rejection)
     → ((v : EthernetRepr) → (answer ≡ Ok v) ↔ ethernet.Reads frame v) → answer ≡ Ok link → IsRejectedAs link.ethertype (drop 14 frame) reason → IsRejected frame reason
 rejected frame answer link reason reads is why = record {
@@ -97,7 +98,7 @@ rejected frame answer link reason reads is why = record {
   short = λ none. absurd (none link ((reads link).0 is));
 }
 
--- one without a header is no IP frame
+-- a frame without a header is no IP frame
 pub not-ip : (frame : List ℕ) (answer : Result EthernetRepr Error) (error : Error)
     → ((v : EthernetRepr) → (answer ≡ Ok v) ↔ ethernet.Reads frame v) → answer ≡ Err error → IsRejected frame NotIp
 not-ip frame answer error reads is = record {
@@ -112,6 +113,7 @@ no-ipv4 : (bytes : List ℕ) (answer : Result Ipv4Repr Error) (error : Error)
 no-ipv4 bytes answer error reads is (Ipv4 v) c = let other : answer ≡ Ok v = (reads v).1 c.reads in absurd (cc)
 no-ipv4 bytes answer error reads is (Ipv6 v) c = let differs : ethertype.Ipv4 ≡ ethertype.Ipv6 = c.names in absurd (cc)
 
+-- an IPv4 packet that does not parse is rejected for its header
 pub bad-ipv4 : (bytes : List ℕ) (answer : Result Ipv4Repr Error) (error : Error)
     → ((v : Ipv4Repr) → (answer ≡ Ok v) ↔ ipv4.Reads bytes false v) → answer ≡ Err error → IsRejectedAs ethertype.Ipv4 bytes BadHeader
 bad-ipv4 bytes answer error reads is = ((Ipv4 (ipv4.header_of bytes), refl), no-ipv4 bytes answer error reads is)
@@ -120,9 +122,11 @@ no-sum : (bytes : List ℕ) → ¬ ipv4.HasChecksum bytes → (h : IpRepr) → �
 no-sum bytes wrong (Ipv4 v) c = wrong (c.reads.checksum refl)
 no-sum bytes wrong (Ipv6 v) c = let differs : ethertype.Ipv4 ≡ ethertype.Ipv6 = c.names in absurd (cc)
 
+-- an IPv4 header with a wrong checksum is rejected for it
 pub wrong-ipv4 : (bytes : List ℕ) (v : Ipv4Repr) → ipv4.Reads bytes false v → ¬ ipv4.HasChecksum bytes → IsRejectedAs ethertype.Ipv4 bytes WrongChecksum
 wrong-ipv4 bytes v r wrong = ((Ipv4 v, record { names = refl; reads = r }), no-sum bytes wrong)
 
+-- a frame with a valid IPv4 header carries that packet
 pub carries-ipv4 : (bytes : List ℕ) (v : Ipv4Repr) → ipv4.Reads bytes false v → ipv4.HasChecksum bytes → CarriesAs ethertype.Ipv4 bytes true (Ipv4 v)
 carries-ipv4 bytes v r full = record {
   names = refl;
@@ -143,6 +147,7 @@ no-ipv6 : (bytes : List ℕ) (answer : Result Ipv6Repr Error) (error : Error)
 no-ipv6 bytes answer error reads is (Ipv4 v) c = let differs : ethertype.Ipv6 ≡ ethertype.Ipv4 = c.names in absurd (cc)
 no-ipv6 bytes answer error reads is (Ipv6 v) c = let other : answer ≡ Ok v = (reads v).1 c.reads in absurd (cc)
 
+-- an IPv6 packet that does not parse is rejected for its header
 pub bad-ipv6 : (type : EthernetProtocol) (bytes : List ℕ) (answer : Result Ipv6Repr Error) (error : Error) → type ≡ ethertype.Ipv6
     → ((v : Ipv6Repr) → (answer ≡ Ok v) ↔ ipv6.Reads bytes v) → answer ≡ Err error → IsRejectedAs type bytes BadHeader
 bad-ipv6 type bytes answer error named reads is =
@@ -155,10 +160,11 @@ not-named type no4 no6 (Ipv6 v) is = no6 is
 pub other-type : (type : EthernetProtocol) (bytes : List ℕ) → type ≢ ethertype.Ipv4 → type ≢ ethertype.Ipv6 → IsRejectedAs type bytes NotIp
 other-type type bytes no4 no6 = not-named type no4 no6
 
+-- a frame with an IPv6 header that parses carries that packet
 pub carries-ipv6 : (type : EthernetProtocol) (bytes : List ℕ) (v : Ipv6Repr) → type ≡ ethertype.Ipv6 → ipv6.Reads bytes v → CarriesAs type bytes true (Ipv6 v)
 carries-ipv6 type bytes v named r = record { names = named; reads = r }
 
--- with one hop less an IPv4 header is read
+-- an IPv4 header with one hop less parses
 pub hop-ipv4 : (old new after : List ℕ) (header : IpRepr) (v : Ipv4Repr) (n : ℕ) → header ≡ Ipv4 v → ReadsHeader old true header → n ≡ hop_limit_of header - 1
     → ((w : Ipv4Repr) (verified : Bool) → ipv4.Reads old verified w → ipv4.Reads new verified (record w { hop_limit = n })) → after ≡ new
     → ReadsHeader after true (one_hop_less header)
@@ -166,7 +172,7 @@ hop-ipv4 old new after (Ipv4 w) v n is r hops step same =
     subst (λ l. ipv4.Reads l true (record w { hop_limit = w.hop_limit - 1 })) (sym same) (subst (λ k. ipv4.Reads new true (record w { hop_limit = k })) hops (step w true r))
 hop-ipv4 old new after (Ipv6 w) v n is r hops step same = absurd (cc)
 
--- an error with one meaning has another
+-- if P implies Q, an error with P has Q
 pub if-err : (answer : Result IpRepr Rejection) (P Q : Rejection → Type 0) → ((e : Rejection) → P e → Q e) → IfErr answer P → IfErr answer Q
 if-err (Ok v) P Q implies h = h
 if-err (Err e) P Q implies h = implies e h

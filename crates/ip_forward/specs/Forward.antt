@@ -13,18 +13,18 @@ use Rattle.ip_wire.specs.declared.IpRepr.TheVariants.{Ipv4, Ipv6}
 use Rattle.ip_forward.specs.declared.router.Rejection.{Rejection}
 use Rattle.ip_forward.specs.declared.router.Rejection.TheVariants.{NotIp, BadHeader, WrongChecksum, Expired}
 
--- the bytes of a frame of this type are a whole packet with this header; if verified, with a valid checksum of an IPv4
--- header
+-- the bytes of a frame with this EtherType are a whole packet with this header; if verified, its IPv4 header has a
+-- valid checksum
 pub record CarriesAs (type : EthernetProtocol) (bytes : List ℕ) (verified : Bool) (header : IpRepr) : Type 0 where
   pub names : type ≡ type_of header
   pub reads : ReadsHeader bytes verified header
 
--- the same of a frame with this Ethernet header
+-- the same for a frame with this Ethernet header
 pub record Carries (frame : List ℕ) (link : EthernetRepr) (verified : Bool) (header : IpRepr) : Type 0 where
   pub reads_link : ethernet.Reads frame link
   pub packet : CarriesAs link.ethertype (drop 14 frame) verified header
 
--- why the bytes of a frame of this type are not forwarded
+-- the reason why the payload of a frame with this EtherType is not forwarded
 abbrev pub IsRejectedAs : EthernetProtocol → List ℕ → Rejection → Type 0
 IsRejectedAs type bytes NotIp = (header : IpRepr) → type ≢ type_of header
 IsRejectedAs type bytes BadHeader = ((header : IpRepr) × (type ≡ type_of header)) × ((header : IpRepr) → ¬ CarriesAs type bytes false header)
@@ -32,7 +32,7 @@ IsRejectedAs type bytes WrongChecksum =
     ((header : IpRepr) × CarriesAs type bytes false header) × ((header : IpRepr) → ¬ CarriesAs type bytes true header)
 IsRejectedAs type bytes Expired = (header : IpRepr) × CarriesAs type bytes true header × (hop_limit_of header ≤ 1)
 
--- why a frame is not forwarded; one without an Ethernet header is no IP frame
+-- the reason why a frame is not forwarded; a frame without an Ethernet header is no IP frame
 pub record IsRejected (frame : List ℕ) (reason : Rejection) : Type 0 where
   pub whole : (link : EthernetRepr) → ethernet.Reads frame link → IsRejectedAs link.ethertype (drop 14 frame) reason
   pub short : ((link : EthernetRepr) → ¬ ethernet.Reads frame link) → reason ≡ NotIp
@@ -42,17 +42,17 @@ abbrev pub one_hop_less : IpRepr → IpRepr
 one_hop_less (Ipv4 v) = Ipv4 (record v { hop_limit = v.hop_limit - 1 })
 one_hop_less (Ipv6 v) = Ipv6 (record v { hop_limit = v.hop_limit - 1 })
 
--- the bytes of a packet with this hop limit, and with the checksum of an IPv4 header updated
+-- the bytes of a packet with this hop limit, and with an updated IPv4 header checksum
 abbrev pub with_hop_limit : IpRepr → List ℕ → ℕ → List ℕ
 with_hop_limit (Ipv4 v) bytes n = with_updated_checksum (with_field bytes 64 8 n) (256 * field bytes 64 8) (256 * n)
 with_hop_limit (Ipv6 v) bytes n = with_field bytes 56 8 n
 
--- the link between two stations, of a frame with this header
+-- the Ethernet header of a frame between two stations that carries a packet with this IP header
 abbrev pub link_of : EthernetAddress → EthernetAddress → IpRepr → EthernetRepr
 link_of src dst header = record { src_addr = src; dst_addr = dst; ethertype = type_of header }
 
 -- The new frame goes between the two stations. It carries the packet of the old one with one hop less and a valid
--- checksum: this is its header. All other bytes are the old ones.
+-- checksum, and this is its header. All other bytes are unchanged.
 pub record IsForwarded (old new : List ℕ) (src dst : EthernetAddress) (header : IpRepr) : Type 0 where
   pub before : IpRepr
   pub from : EthernetRepr

@@ -1,4 +1,4 @@
-//! What a router does with frames that it forwards, in place.
+//! A router that forwards frames in place.
 #![tactic(auto)]
 
 mod router;

@@ -14,18 +14,18 @@ use net_base::ChecksumCapabilities;
 /// Why a frame is not forwarded. The first of these that applies is returned.
 #[derive(Debug, Clone, Copy, PartialEq, Eq)]
 pub enum Rejection {
-    /// It has no Ethernet header, or another EtherType.
+    /// The frame has no Ethernet header, or its EtherType is neither IPv4 nor IPv6.
     NotIp,
-    /// The version of its IP header is not that of the EtherType, or its lengths do not fit.
+    /// The version of the IP header does not match the EtherType, or its lengths are invalid.
     BadHeader,
-    /// The checksum of its IPv4 header is wrong.
+    /// The checksum of the IPv4 header is wrong.
     WrongChecksum,
-    /// The packet may take no further hop.
+    /// The hop limit is 0 or 1.
     Expired,
 }
 
-/// Forwards the packet of a frame: the frame gets these link addresses, the hop limit is one less, and
-/// the checksum of an IPv4 header is updated. Returns the header as it is now. A rejected frame is
+/// Forwards the packet of a frame: writes the link addresses, lowers the hop limit by one, and updates the
+/// checksum of an IPv4 header. Returns the new header. A rejected frame is
 /// unchanged.
 pub fn forward(
     frame: &mut [u8],
@@ -48,7 +48,7 @@ pub fn forward(
     Ok(one_less(header))
 }
 
-// The header of a packet in a frame of this type, if it may take a hop.
+// The header of the packet in a frame with this EtherType, if it may take a hop.
 fn accept(ethertype: EthernetProtocol, packet: &[u8]) -> Result<IpRepr, Rejection>
     ensures carries { IfOk result (CarriesAs ethertype packet.now true) }
     ensures alive { IfOk result (λ header. 1 < hop_limit_of header) }
@@ -89,7 +89,7 @@ fn parse_ipv4(packet: &[u8]) -> Result<IpRepr, Rejection>
     Ok(IpRepr::Ipv4(header))
 }
 
-// Takes one hop from a packet with this header.
+// Lowers the hop limit of a packet with this header by one.
 fn take_hop(header: &IpRepr, packet: &mut [u8])
     requires reads { ReadsHeader packet.old true header.now }
     requires alive { 1 < hop_limit_of header.now }

@@ -1,4 +1,4 @@
-//! Real frames, forwarded and rejected.
+//! Captured frames, forwarded and rejected.
 
 ghost use Rattle.std.specs.Prelude.{◌≡◌};
 

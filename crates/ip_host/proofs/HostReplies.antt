@@ -1,4 +1,4 @@
--- The reply of a host is that of one of the three kinds.
+-- The reply of a host is one of the three kinds of replies.
 use Rattle.std.proofs.Common.{ℕ, ◌≡◌, inl, inr, List, Option, Some, None, refl}
 use Rattle.std.specs.Prelude.{IfSome}
 use Rattle.ip_host.specs.Host.{Answers, IsUnread, RepliesBytes, RepliesFrame}
@@ -32,7 +32,7 @@ by_none host request no_arp no_echo no_tcp h c (asked, is, inl e) = no_arp h c (
 by_none host request no_arp no_echo no_tcp h c (asked, is, inr (inl e)) = no_echo h c (asked, is, e)
 by_none host request no_arp no_echo no_tcp h c (asked, is, inr (inr e)) = no_tcp h c (asked, is, e)
 
--- where there is none of the first two kinds, it is that of TCP
+-- if there is no reply of the first two kinds, it is the reply of TCP
 pub by_tcp : (host : Host) (request : Frame) (result : Option Frame) → Gives (ArpRepliesFrame host.interface request) None
     → Gives (EchoesFrame host.interface host.echo_port request) None
     → Gives (TcpRepliesFrame host.interface host.open_ports.now host.offer request) result → Gives (RepliesFrame host request) result
@@ -40,8 +40,9 @@ by_tcp host request None no_arp no_echo no_tcp = by_none host request no_arp no_
 by_tcp host request (Some f) no_arp no_echo gives =
     given (TcpRepliesFrame host.interface host.open_ports.now host.offer request) (RepliesFrame host request) f (λ h c (asked, is, e). (asked, is, inr (inr e))) gives
 
--- ---- there is one
+-- ---- there is a reply
 
+-- two replies of a host to one frame carry the same
 pub one_answer : (host : Host) (request : Frame) (h k : EthernetRepr) (c d : Carried) → RepliesFrame host request h c → RepliesFrame host request k d → c ≡ d
 one_answer host request h k c d (asked, is, inl e) (other, also, inl g) = arp.one_answer host.interface request h k c d (asked, is, e) (other, also, g)
 one_answer host request h k c d (asked, is, inr (inl e)) (other, also, inr (inl g)) =
@@ -55,12 +56,14 @@ one_answer host request h k c d (asked, is, inr (inl e)) (other, also, inr (inr 
 one_answer host request h k c d (asked, is, inr (inr e)) (other, also, inl g) = absurd (let a = e.asks in let b = g.asks in cc)
 one_answer host request h k c d (asked, is, inr (inr e)) (other, also, inr (inl g)) = absurd (let a = e.asks in let b = g.asks in cc)
 
--- ---- what follows for the bytes
+-- ---- the same for bytes
 
+-- bytes that do not parse with valid checksums get no reply
 pub unanswered : (host : Host) (bytes old new : List ℕ) (result : Option ℕ) → Sends (RepliesBytes host bytes) old new result → IsUnread bytes → result ≡ None
 unanswered host bytes old new None sends none = refl
 unanswered host bytes old new (Some len) sends none = let r = sends.replies in absurd (none r.0 r.1 r.2)
 
+-- a reply that was sent is a reply of the host to the bytes
 pub answers : (host : Host) (bytes old new : List ℕ) (result : Option ℕ) → Sends (RepliesBytes host bytes) old new result → IfSome result (λ len. Answers host bytes new)
 answers host bytes old new None sends = tt
 answers host bytes old new (Some len) sends = record { header = sends.header; carried = sends.carried; replies = sends.replies; reads = sends.reads }

@@ -1,4 +1,4 @@
--- Replies to replies come to an end.
+-- Chains of replies end.
 use Rattle.std.proofs.Common.{ℕ, ◌≡◌, ◌∙◌, ◌⊎◌, inl, inr, [], List, Option, Some, None, refl, sym, ap, subst}
 use Rattle.ip_host.specs.Host.{Answers, IsReply, IsReset}
 use Rattle.ip_host.specs.declared.host.Host.{Host}
@@ -37,7 +37,7 @@ closed_resets : (flag : TcpControl) (reset reply : TcpHeader) → reset.control 
 closed_resets control.Rst reset reply is e = absurd (cc)
 closed_resets _ reset reply is e = let same : reset ≡ reply = cc in ap (λ (t : TcpHeader). t.control) (sym same) ∙ is
 
--- a RST, or an acknowledgement
+-- a segment with RST or an acknowledgement
 abbrev IsSettled : TcpHeader → Type 0
 IsSettled t = (t.control ≡ control.Rst) ⊎ ((ack : TcpSeqNumber) × (t.ack_number ≡ Some ack))
 
@@ -48,7 +48,7 @@ listen_settles control.Syn None reset accepted reply p q e = let same : accepted
 listen_settles flag (Some ack) reset accepted reply p q e = let same : reset ≡ reply = cc in subst IsSettled same p
 listen_settles flag None reset accepted reply p q e = absurd (cc)
 
--- each reply is one of the two
+-- each reply is such a segment
 settles : (ports : List ℕ) (offer : Offer) (asked : TcpHeader) (len : ℕ) (reply : TcpHeader) → Replies ports offer asked len reply → IsSettled reply
 settles ports offer asked len reply (inl (has, e)) =
     listen_settles asked.control asked.ack_number (reset_for asked 0) (syn_ack offer asked) reply (inl (rst asked.ack_number asked _)) (inr (_, refl)) e
@@ -60,7 +60,7 @@ listen_resets control.Rst ack seq reset accepted reply acked is e = absurd (cc)
 listen_resets flag (Some ack) seq reset accepted reply acked is e = let same : reset ≡ reply = cc in ap (λ (t : TcpHeader). t.control) (sym same) ∙ is
 listen_resets flag None seq reset accepted reply acked is e = absurd (cc)
 
--- the reply to one of the two is a RST
+-- the reply to such a segment is a RST
 resets : (ports : List ℕ) (offer : Offer) (asked : TcpHeader) (len : ℕ) (reply : TcpHeader) → IsSettled asked → Replies ports offer asked len reply → reply.control ≡ control.Rst
 resets ports offer asked len reply (inl is) replies = absurd (reset_ends ports offer asked len reply is replies)
 resets ports offer asked len reply (inr (ack, is)) (inl (has, e)) =
@@ -69,7 +69,7 @@ resets ports offer asked len reply (inr (ack, is)) (inr (lacks, e)) = closed_res
 
 -- ---- frames
 
--- a frame that carries a RST
+-- a frame with a RST
 abbrev CarriesReset : Carried → Type 0
 CarriesReset c = (ip : IpRepr) × (tcp : TcpHeader) × (payload : List ℕ) × (c ≡ packet ip (segment tcp payload)) × (tcp.control ≡ control.Rst)
 
@@ -82,7 +82,7 @@ unanswered host asked_header header asked c (ip, tcp, payload, carries, is) (inr
     let same : tcp ≡ e.tcp = cc in
     reset_ends host.open_ports.now host.offer e.tcp _ e.reply (ap (λ (t : TcpHeader). t.control) (sym same) ∙ is) e.replies
 
--- the reply to a reply carries one
+-- the reply to a reply is a frame with a RST
 reply_resets : (first second : Host) (asked_header header back_header other_header : EthernetRepr) (asked c d : Carried) → first.echo_port ≡ second.echo_port
     → IsReply first asked_header asked header c → IsReply second back_header c other_header d → CarriesReset d
 reply_resets first second _ _ _ _ asked c d port (inl e) (inl g) =
@@ -108,6 +108,7 @@ reply_resets first second _ _ _ _ asked c d port (inr (inr e)) (inr (inr g)) =
 
 -- ---- bytes
 
+-- a reply to a reply is a RST, if both hosts have the same echo port
 pub answer_resets : (first second : Host) (f g h : List ℕ) → first.echo_port ≡ second.echo_port → Answers first f g → Answers second g h → IsReset h
 answer_resets first second f g h port a b =
     let (asked_header, asked, reads_f, replies) = a.replies in
@@ -117,6 +118,7 @@ answer_resets first second f g h port a b =
     (subst (λ c. IsReply second back_header c b.header b.carried) once.1 replies_back) in
     record { header = b.header; ip = ip; tcp = tcp; payload = payload; reads = subst (λ c. IsReadWhole h b.header c) carries b.reads; reset = is }
 
+-- no host replies to a RST
 pub reset_unanswered : (third : Host) (h k : List ℕ) → IsReset h → ¬ Answers third h k
 reset_unanswered third h k r a =
     let (asked_header, asked, reads, replies) = a.replies in

@@ -1,4 +1,4 @@
--- What a host with one interface replies to frames.
+-- The replies of a host with one interface to frames.
 use Rattle.std.specs.Prelude.{ℕ, ◌≡◌, ◌⊎◌, List, Some}
 use Rattle.ip_host.specs.declared.host.Host.{Host}
 use Rattle.ip_replies.specs.Arp.{IsArpAnswer}
@@ -25,23 +25,23 @@ abbrev pub RepliesFrame : Host → Frame → EthernetRepr → Carried → Type 0
 RepliesFrame host request header carried =
     (asked : Carried) × (carried_of request.carried ≡ Some asked) × IsReply host request.header asked header carried
 
--- the values of the reply to the frame that these bytes are parsed as
+-- the values of the reply to the frame that the bytes parse as
 abbrev pub RepliesBytes : Host → List ℕ → EthernetRepr → Carried → Type 0
 RepliesBytes host bytes header carried =
     (asked_header : EthernetRepr) × (asked : Carried) × IsReadWhole bytes asked_header asked × IsReply host asked_header asked header carried
 
--- the bytes are not parsed as a frame whose checksums are all valid
+-- the bytes do not parse as a frame with valid checksums
 abbrev pub IsUnread : List ℕ → Type 0
 IsUnread bytes = (header : EthernetRepr) (carried : Carried) → ¬ IsReadWhole bytes header carried
 
--- the other bytes are parsed as the reply of the host to these
+-- the other bytes parse as the reply of the host to these
 pub record Answers (host : Host) (bytes answer : List ℕ) : Type 0 where
   pub header : EthernetRepr
   pub carried : Carried
   pub replies : RepliesBytes host bytes header carried
   pub reads : IsReadWhole answer header carried
 
--- the bytes are parsed as a TCP segment with the flag RST
+-- the bytes parse as a TCP segment with the flag RST
 pub record IsReset (bytes : List ℕ) : Type 0 where
   pub header : EthernetRepr
   pub ip : IpRepr

@@ -1,4 +1,4 @@
-//! The replies of a host, each kind by its function of `ip_replies`.
+//! The replies of a host. Each kind has its function in `ip_replies`.
 
 ghost use Rattle.std.specs.Prelude.{◌≡◌, IfSome, None};
 ghost use Rattle.ip_host.specs.Host.{Answers, IsUnread, RepliesBytes, RepliesFrame};
@@ -14,7 +14,7 @@ use net_base::ChecksumCapabilities;
 #[derive(Debug, Clone, Copy, PartialEq, Eq)]
 pub struct Host<'a> {
     pub interface: Interface,
-    /// The UDP port of the echo service. 0 turns the service off: no packet that is parsed is for port 0.
+    /// The UDP port of the echo service. 0 turns the service off: no packet for port 0 parses.
     pub echo_port: u16,
     /// The open TCP ports.
     pub open_ports: &'a [u16],
@@ -22,7 +22,7 @@ pub struct Host<'a> {
     pub offer: Offer,
 }
 
-/// The reply of the host to a frame, if it has one.
+/// The reply of the host to a frame, or `None`.
 pub fn reply<'a>(host: &Host<'_>, request: &Frame<'a>) -> Option<Frame<'a>>
     requires { Fits request.now }
     ensures { Gives (RepliesFrame host.now request.now) result }
@@ -36,8 +36,8 @@ pub fn reply<'a>(host: &Host<'_>, request: &Frame<'a>) -> Option<Frame<'a>>
     tcp_answer::reply(request, &host.interface, host.open_ports, &host.offer)
 }
 
-/// Writes the reply of the host to the front of `out`, and returns its length. None if there is no
-/// reply or it does not fit, and then nothing is written.
+/// Writes the reply of the host to the front of `out`, and returns its length. `None` if there is no
+/// reply or it does not fit; then `out` is unchanged.
 pub fn answer(host: &Host<'_>, frame: &[u8], out: &mut [u8]) -> Option<usize>
     ensures sends { Sends (RepliesBytes host.now frame.now) out.old out.new result }
     ensures unread { IsUnread frame.now → result ≡ None }

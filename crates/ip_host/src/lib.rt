@@ -1,5 +1,5 @@
-//! What a host with one interface does with a frame: it replies to ARP requests, to UDP packets for its
-//! echo port, and to TCP segments where it has no connection.
+//! A host with one interface: it replies to ARP requests, to UDP packets for its echo port, and to TCP
+//! segments without a connection.
 #![tactic(auto)]
 
 mod host;

@@ -60,7 +60,7 @@ const SYN_RESET: [u8; 54] = [
     0x00, 0x00, 0x1b, 0x7a, 0x00, 0x00,
 ];
 
-/// The reply of the neighbour to the SYN-ACK, where it has no connection.
+/// The reply of the neighbour to the SYN-ACK, without a connection.
 const SYN_ACK_RESET: [u8; 54] = [
     0x02, 0x00, 0x00, 0x00, 0x00, 0x02, 0x02, 0x00, 0x00, 0x00, 0x00, 0x01, 0x08, 0x00, 0x45, 0x00,
     0x00, 0x28, 0x00, 0x00, 0x40, 0x00, 0x40, 0x06, 0xb6, 0xcc, 0xc0, 0x00, 0x02, 0x01, 0xc0, 0x00,
@@ -68,7 +68,7 @@ const SYN_ACK_RESET: [u8; 54] = [
     0x00, 0x00, 0x1b, 0x8a, 0x00, 0x00,
 ];
 
-/// A host with this last octet in its addresses.
+/// The host with this last octet in its addresses.
 fn host(last: u8, open_ports: &[u16]) -> Host<'_> {
     Host {
         interface: Interface {
@@ -88,8 +88,8 @@ fn host(last: u8, open_ports: &[u16]) -> Host<'_> {
     }
 }
 
-/// Each kind of request, with its reply; what follows the reply in the buffer stays, as all of a buffer
-/// that is too short.
+/// Each kind of request with its reply. The bytes behind the reply are unchanged, and so is a buffer that
+/// is too short.
 #[test]
 fn answers_each_kind(rt: HostRuntime) {
     for (ports, request, reply) in [
@@ -109,7 +109,7 @@ fn answers_each_kind(rt: HostRuntime) {
     }
 }
 
-/// A frame that is cut off, and one with a changed bit in any octet behind the Ethernet header.
+/// A truncated frame, and a frame with a changed bit in an octet behind the Ethernet header.
 #[test]
 fn answers_no_damaged_frame(rt: HostRuntime) {
     let mut out = [0xa5; 80];
@@ -131,7 +131,7 @@ fn answers_no_damaged_frame(rt: HostRuntime) {
     assert_eq!(rt; out, [0xa5; 80]);
 }
 
-/// Of all replies only a SYN-ACK is answered, and that answer is not.
+/// Among all replies only a SYN-ACK gets a reply, and that one gets none.
 #[test]
 fn ends_a_conversation(rt: HostRuntime) {
     let mut out = [0; 80];

@@ -1,4 +1,4 @@
--- An IPv4 header before another payload, and with another address.
+-- An IPv4 header with another payload, and with another address.
 use Rattle.std.proofs.Common.{ℕ, ◌≡◌, ◌≤◌, ◌+◌, ◌-◌, true, List, ◌++◌, length, drop, take, slice_range, refl, sym, ap, subst, ◌∙◌, arith, length-append, length-drop}
 use Rattle.std.proofs.lemmas.List.{drop-drop, length-take-le, take-append-drop}
 use Rattle.ip_wire.specs.Field.{field, with_range}
@@ -13,7 +13,7 @@ use Rattle.ip_nat.specs.Nat.{addr_at, with_address}
 use Rattle.ip_nat.specs.declared.nat.Side.{Side}
 use Rattle.ip_nat.specs.declared.nat.Side.TheVariants.{Source, Destination}
 
--- what says where the payload is, and what it is
+-- the fields that locate the payload and name its protocol
 pub record SameShape (old new : List ℕ) : Type 0 where
   pub version : field new 0 4 ≡ field old 0 4
   pub header : header_len new ≡ header_len old
@@ -28,7 +28,7 @@ pub record SameHeader (old new : List ℕ) : Type 0 where
   pub src_addr : slice_range new 12 16 ≡ slice_range old 12 16
   pub dst_addr : slice_range new 16 20 ≡ slice_range old 16 20
 
--- bytes are their first twenty and the others
+-- bytes are their first twenty, followed by the others
 pub front-len : (bytes : List ℕ) → 20 ≤ length bytes → length (take 20 bytes) ≡ 20
 front-len bytes room = length-take-le 20 bytes room
 
@@ -39,12 +39,13 @@ same_front front rest rest' e =
     subst (λ (l : List ℕ). SameHeader (l ++ rest) (l ++ rest')) (sym (cells-all 20 front e))
     (record { shape = record { version = refl; header = refl; total = refl; fragment = refl; protocol = refl }; hop_limit = refl; src_addr = refl; dst_addr = refl })
 
--- the front and what follows it, with a part written behind it
+-- the front and the rest, with a part of the rest replaced
 pub past-front : (bytes part : List ℕ) (h n : ℕ) → 20 ≤ length bytes → 20 ≤ h → 20 ≤ n
     → with_range bytes h n part ≡ take 20 bytes ++ with_range (drop 20 bytes) (h - 20) (n - 20) part
 past-front bytes part h n room least most =
     ap (λ (l : List ℕ). with_range l h n part) (sym (take-append-drop 20 bytes)) ∙ range-past (take 20 bytes) (drop 20 bytes) part h n (front-len bytes room) least most
 
+-- replacing bytes behind the first twenty leaves the header unchanged
 pub same-inner : (bytes part : List ℕ) (h n : ℕ) → 20 ≤ length bytes → 20 ≤ h → 20 ≤ n → SameHeader bytes (with_range bytes h n part)
 same-inner bytes part h n room least most =
     subst (λ (l : List ℕ). SameHeader bytes l) (sym (past-front bytes part h n room least most))
@@ -80,7 +81,7 @@ reads-inner bytes part v r e =
 
 -- ---- another address
 
--- an address is written into the front, and read back there
+-- an address written to the header is read back
 pub record IsAddressed (side : Side) (front rest addr : List ℕ) : Type 0 where
   pub apart : with_address side addr (front ++ rest) ≡ with_address side addr front ++ rest
   pub long : length (with_address side addr front) ≡ 20
@@ -94,12 +95,13 @@ addressed_cells Source front rest addr =
 addressed_cells Destination front rest addr =
     record { apart = refl; long = refl; shape = record { version = refl; header = refl; total = refl; fragment = refl; protocol = refl }; behind = refl; written = refl }
 
+-- writing an address to the first twenty bytes changes that address and the header checksum
 pub addressed : (side : Side) (front rest addr : List ℕ) → length front ≡ 20 → length addr ≡ 4 → IsAddressed side front rest addr
 addressed side front rest addr e f =
     subst (λ (l : List ℕ). IsAddressed side l rest addr) (sym (cells-all 20 front e))
     (subst (λ (a : List ℕ). IsAddressed side (cells 20 front) rest a) (sym (cells-all 4 addr f)) (addressed_cells side front rest addr))
 
--- the payload is the same
+-- the payload is unchanged
 same_payload : (old new : List ℕ) → SameShape old new → drop 20 new ≡ drop 20 old → 20 ≤ header_len old → ipv4_payload new ≡ ipv4_payload old
 same_payload old new s behind least =
     let h = header_len old in
@@ -109,13 +111,14 @@ same_payload old new s behind least =
     ap (λ (k : ℕ). drop k new) e ∙ sym (drop-drop (h - 20) 20 new) ∙ ap (drop (h - 20)) behind ∙ drop-drop (h - 20) 20 old ∙ ap (λ (k : ℕ). drop k old) (sym e) in
     (λ i. take (s.total i - s.header i) (drop (s.header i) new)) ∙ ap (take (n - h)) from
 
--- the same of any bytes
+-- the same for any bytes
 pub record Keeps (side : Side) (bytes addr : List ℕ) : Type 0 where
   pub shape : SameShape bytes (with_address side addr bytes)
   pub payload : ipv4_payload (with_address side addr bytes) ≡ ipv4_payload bytes
   pub long : length (with_address side addr bytes) ≡ length bytes
   pub written : addr_at side (with_address side addr bytes) ≡ addr
 
+-- writing an address keeps the length and the fields that locate the payload
 pub keeps : (side : Side) (bytes addr : List ℕ) → 20 ≤ length bytes → 20 ≤ header_len bytes → length addr ≡ 4 → Keeps side bytes addr
 keeps side bytes addr room least four =
     let is = take-append-drop 20 bytes in

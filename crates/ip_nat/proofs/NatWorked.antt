@@ -1,4 +1,4 @@
--- The definitions at worked frames. The checksums of the expected frames were computed anew, by another program.
+-- The definitions on worked frames. The checksums of the expected frames were computed by another program.
 use Rattle.std.proofs.Common.{ℕ, ◌≡◌, List, [], ◌∷◌, refl}
 use Rattle.ip_wire.specs.WordSum.{residue, updated, words}
 use Rattle.ip_nat.specs.Nat.{translated}
@@ -9,7 +9,7 @@ example-updated : updated 0xdd2f 0x5555 0x3285 ≡ 0
 unfolding residue
 example-updated = refl
 
--- 192.0.2.1, inside, and 203.0.113.9, which stands for it outside
+-- 192.0.2.1 inside, and 203.0.113.9, which replaces it outside
 inside : List ℕ
 inside = 192 ∷ 0 ∷ 2 ∷ 1 ∷ []
 
@@ -74,7 +74,7 @@ syn-out : translated Source outside 40001 syn ≡ syn_out
 unfolding outside syn syn_out words residue
 syn-out = refl
 
--- no checksum stays none; a checksum of 0 is written as 0xffff by UDP, and as 0 by TCP
+-- no checksum stays none; UDP writes a checksum of 0 as 0xffff, TCP as 0
 unsummed-out : translated Source outside 40000 unsummed ≡ unsummed_out
 unfolding outside unsummed unsummed_out words residue
 unsummed-out = refl
@@ -87,7 +87,7 @@ syn-zero : translated Source outside 19494 syn ≡ syn_zero
 unfolding outside syn syn_zero words residue
 syn-zero = refl
 
--- an IPv4 checksum of 0xffff, which no sender computes, comes back as 0
+-- an IPv4 checksum of 0xffff, which no sender computes, becomes 0
 full-out : translated Source outside 40000 full ≡ full_out
 unfolding outside full full_out words residue
 full-out = refl

@@ -1,11 +1,11 @@
--- A checksum that is updated and updated back.
+-- A checksum that is updated and then updated back.
 use Rattle.std.proofs.Common.{ℕ, zero, suc, ◌≡◌, ◌+◌, ◌-◌, ◌*◌, ◌/◌, ◌<◌, ◌≤◌, ◌==◌, ◌≢◌, ◌⊎◌, inl, inr, true, false, List, sum, refl, arith}
 use Rattle.std.proofs.lemmas.Bool.{cases_lt}
 use Rattle.std.proofs.lemmas.Bool.Decides.{nat_tests}
 use Rattle.ip_wire.specs.Udp.{checksum_for}
 use Rattle.ip_wire.specs.WordSum.{residue, sum_of_bytes, updated, words}
 
--- a total is its residue and a multiple of 65535
+-- a total is its residue plus a multiple of 65535
 residue-quotient : (t : ℕ) → (k : ℕ) × (t ≡ residue t + 65535 * k)
 unfolding residue
 residue-quotient zero = (0, refl)
@@ -43,7 +43,7 @@ below-full c old new h =
     let least = residue-least ((65535 - c) + (65535 - old) + new) (omega (arith, h)) in
     omega (arith, least)
 
--- back again, from a checksum other than 0xffff
+-- the checksum after an update back, if it was not 0xffff
 pub updated-back : (c old new : ℕ) → c < 65535 → old ≤ 65535 → new ≤ 65535 → updated (updated c old new) new old ≡ c
 updated-back c old new h o n =
     let there = step c old new in
@@ -52,7 +52,7 @@ updated-back c old new h o n =
     let b = below-full (updated c old new) new old a in
     omega (arith, there.moves, back.moves, a, b, h, o, n)
 
--- two updates, and both back
+-- two updates, and both updates back
 pub updated-back_twice : (c old new p q : ℕ) → c < 65535 → old ≤ 65535 → new ≤ 65535 → p ≤ 65535 → q ≤ 65535
     → updated (updated (updated (updated c old new) p q) new old) q p ≡ c
 updated-back_twice c old new p q h o n ps qs =
@@ -71,6 +71,7 @@ updated-back_twice c old new p q h o n ps qs =
 
 -- ---- one update of UDP's checksum, which is never 0
 
+-- a UDP checksum updated from the sum old to the sum new, with 0xffff in place of 0
 abbrev pub udp_updated : ℕ → ℕ → ℕ → ℕ
 udp_updated c old new = checksum_for (65535 - updated c old new)
 
@@ -85,12 +86,13 @@ udp-cases u fits = elim (cases_lt 0 u) [
       inl (omega (arith, none), rw test refl)
 ]
 
--- the new checksum is not 0, has 16 bits, and is a step from the old one
+-- the new checksum is not 0, has 16 bits, and differs from the old one by the update
 pub record IsUdpStep (before after old new : ℕ) : Type 0 where
   pub by : IsStep before after old new
   pub some : 1 ≤ after
   pub fits : after ≤ 65535
 
+-- an updated UDP checksum is one step from the old one
 pub udp-step : (c old new : ℕ) → IsUdpStep c (udp_updated c old new) old new
 udp-step c old new =
     let u = updated c old new in
@@ -100,6 +102,7 @@ udp-step c old new =
       | inr (least, is) ↦ record { by = record { turns = s.turns; moves = omega (arith, s.moves, is) }; some = omega (arith, is, least); fits = omega (arith, is) }
     ]
 
+-- two updates of a UDP checksum and both updates back give the checksum again
 pub udp-back_twice : (c old new p q : ℕ) → 1 ≤ c → c ≤ 65535 → old ≤ 65535 → new ≤ 65535 → p ≤ 65535 → q ≤ 65535
     → udp_updated (udp_updated (udp_updated (udp_updated c old new) p q) new old) q p ≡ c
 udp-back_twice c old new p q some h o n ps qs =

@@ -16,7 +16,7 @@ use Rattle.ip_nat.specs.Nat.{with_tcp_end, with_tcp_port}
 use Rattle.ip_nat.specs.declared.nat.Side.{Side}
 use Rattle.ip_nat.specs.declared.nat.Side.TheVariants.{Source, Destination}
 
--- all is the same but the ports and the checksum
+-- all fields except ports and checksum are unchanged
 pub record SameSegment (old new : List ℕ) : Type 0 where
   pub long : length new ≡ length old
   pub header : header_len new ≡ header_len old
@@ -82,7 +82,7 @@ reads-changed old new src dst src' dst' v payload src_port dst_port r s valid is
 
 -- ---- a port and the checksum
 
--- the first port, the second, what stands between them and the checksum, and what follows it
+-- the first port, the second port, the bytes up to the checksum, the checksum and the rest
 abbrev header : ℕ → ℕ → List ℕ → ℕ → List ℕ → List ℕ
 header p q middle s rest = word p (word q (cells 12 middle ++ word s rest))
 
@@ -167,6 +167,7 @@ back-dst p q s x middle rest old new qs usual xs =
     ∙ ended-dst p x s2 q middle rest new old xs (updated-fits (updated s o n) q x)
     ∙ ap (λ (k : ℕ). header p q middle k rest) (updated-back_twice s o n q x usual (sum-fits old) (sum-fits new) (omega (arith, qs)) (omega (arith, xs)))
 
+-- translating the source of a segment and then back gives the segment again
 pub tcp-back-src : (l old new : List ℕ) (x : ℕ) → AreBytes l → 18 ≤ length l → field l 128 16 ≢ 65535 → x < 65536
     → with_tcp_end Source new old (field l 0 16) (with_tcp_end Source old new x l) ≡ l
 tcp-back-src l old new x are room usual xs =
@@ -175,6 +176,7 @@ tcp-back-src l old new x are room usual xs =
     subst P (sym (header-of l are room))
     (back-src (field l 0 16) (field l 16 16) (field l 128 16) x (drop 4 l) (drop 18 l) old new (spelled-fits (slice_index l 0) (slice_index l 1)) (omega (arith, usual, fits)) xs)
 
+-- translating the destination of a segment and then back gives the segment again
 pub tcp-back-dst : (l old new : List ℕ) (x : ℕ) → AreBytes l → 18 ≤ length l → field l 128 16 ≢ 65535 → x < 65536
     → with_tcp_end Destination new old (field l 16 16) (with_tcp_end Destination old new x l) ≡ l
 tcp-back-dst l old new x are room usual xs =
@@ -183,7 +185,7 @@ tcp-back-dst l old new x are room usual xs =
     subst P (sym (header-of l are room))
     (back-dst (field l 0 16) (field l 16 16) (field l 128 16) x (drop 4 l) (drop 18 l) old new (spelled-fits (slice_index l 2) (slice_index l 3)) (omega (arith, usual, fits)) xs)
 
--- ---- what is read
+-- ---- the parsed value
 
 tcp-same : (side : Side) (l old new : List ℕ) (x : ℕ) → 20 ≤ length l → SameSegment l (with_tcp_end side old new x l)
 tcp-same Source l old new x room =
@@ -193,13 +195,15 @@ tcp-same Destination l old new x room =
     subst (λ (m : List ℕ). SameSegment m (with_tcp_end Destination old new x m)) (sym (cells-drop 20 l room))
     (record { long = refl; header = refl; behind = refl; psh = refl; rst = refl; syn = refl; fin = refl; seq_number = refl; ack_number = refl; window_len = refl })
 
+-- a translated segment has the same length
 pub tcp-len : (side : Side) (l old new : List ℕ) (x : ℕ) → 20 ≤ length l → length (with_tcp_end side old new x l) ≡ length l
 tcp-len side l old new x room = (tcp-same side l old new x room).long
 
--- a word that was written, read back
+-- a written word is read back
 written : (n x : ℕ) → x < 65536 → spelled (with_part n 0 16 x / 256 % 256) (with_part n 0 16 x % 256) ≡ x
 written n x fits = (λ i. spelled (word_high n x i) (word_low n x i)) ∙ spelled-word x fits
 
+-- a translated segment parses as the same value with the other port
 pub tcp-reads : (side : Side) (l old new : List ℕ) (x : ℕ) (src dst src' dst' : IpAddress) (v : TcpHeader) (payload : List ℕ) → x < 65536 → x ≢ 0
     → Reads l src dst true v payload → Verifies src' dst' (with_tcp_end side old new x l)
     → Reads (with_tcp_end side old new x l) src' dst' true (with_tcp_port side x v) payload

@@ -1,4 +1,4 @@
--- A frame is translated as its packet is, and rejected for the reason of its packet.
+-- A frame is translated exactly as its packet, and rejected for the same reason.
 use Rattle.std.proofs.Common.{IfErr, IfOk, ℕ, ◌≡◌, ◌≢◌, ◌≤◌, ◌<◌, ◌-◌, ◌%◌, ◌++◌, ◌↔◌, Bool, true, false, List, Result, Ok, Err, length, drop, take, slice_range, refl, sym, ap, subst, ◌∙◌, arith, length-append, length-drop}
 use Rattle.std.proofs.lemmas.List.{length-take-le, take-append-drop}
 use Rattle.ip_wire.proofs.ByteLists.{AreBytes-drop, AreBytes-slice_range}
@@ -35,18 +35,19 @@ use Rattle.ip_nat.specs.declared.nat.Side.TheVariants.{Source, Destination}
 
 -- ---- the transport
 
--- a packet whose protocol is UDP is read as that
+-- a UDP packet parses as UDP
 pub has-udp : (v : Ipv4Repr) (bytes : List ℕ) (t : Transport) → v.next_header ≡ protocol.Udp → ReadsTransport all_checked (Ipv4 v) bytes t → 8 ≤ length bytes
 has-udp v bytes (datagram u payload) is r = r.1.lengths.least
 has-udp v bytes (segment u payload) is r = let differs : protocol.Udp ≡ protocol.Tcp = sym is ∙ r.0 in absurd (cc)
 has-udp v bytes (other payload) is r = absurd (r.0 is)
 
--- a packet of another protocol stays
+-- the payload of another protocol is unchanged
 pub ended-other : (p : IpProtocol) (side : Side) (old new : List ℕ) (port : ℕ) (bytes : List ℕ) → p ≢ protocol.Udp → p ≢ protocol.Tcp → with_end p side old new port bytes ≡ bytes
 ended-other protocol.Udp side old new port bytes no_udp no_tcp = absurd (no_udp refl)
 ended-other protocol.Tcp side old new port bytes no_udp no_tcp = absurd (no_tcp refl)
 ended-other _ side old new port bytes no_udp no_tcp = refl
 
+-- a translated payload has the same length
 pub ended-len : (v : Ipv4Repr) (side : Side) (old new : List ℕ) (port : ℕ) (bytes : List ℕ) (t : Transport) → AreBytes bytes
     → ReadsTransport all_checked (Ipv4 v) bytes t → length (with_end v.next_header side old new port bytes) ≡ length bytes
 ended-len v side old new port bytes (datagram u payload) are r =
@@ -58,7 +59,7 @@ ended-len v side old new port bytes (other payload) are r = ap length (ended-oth
 even : (a : List ℕ) → length a ≡ 4 → length a % 2 ≡ 0
 even a e = omega (arith, e)
 
--- UDP, from what the calls of the view say
+-- UDP, from the contracts of the setters
 pub udp-source : (side : Side) (v : Ipv4Repr) (old mid done new addr : List ℕ) (from : IpAddress) (port : ℕ) → side ≡ Source → from ≡ address.Ipv4 v.src_addr
     → length addr ≡ 4 → length v.dst_addr ≡ 4 → new ≡ done
     → ((dst : IpAddress) (verified : Bool) (u : UdpRepr) (payload : List ℕ) → length (octets_of dst) % 2 ≡ 0 → udp.Reads old from dst verified u payload → udp.Reads mid (address.Ipv4 addr) dst verified u payload)
@@ -74,6 +75,7 @@ udp-source side v old mid done new addr from port is was four four' at first sec
           (first (address.Ipv4 v.dst_addr) true u payload (even v.dst_addr four') (subst (λ (a : IpAddress). udp.Reads old a (address.Ipv4 v.dst_addr) true u payload) (sym was) r.1)),
     )))
 
+-- the destination setters of UDP write the translated packet
 pub udp-destination : (side : Side) (v : Ipv4Repr) (old mid done new addr : List ℕ) (to : IpAddress) (port : ℕ) → side ≡ Destination → to ≡ address.Ipv4 v.dst_addr
     → length addr ≡ 4 → length v.src_addr ≡ 4 → port ≢ 0 → new ≡ done
     → ((src : IpAddress) (verified : Bool) (u : UdpRepr) (payload : List ℕ) → length (octets_of src) % 2 ≡ 0 → udp.Reads old src to verified u payload → udp.Reads mid src (address.Ipv4 addr) verified u payload)
@@ -89,7 +91,7 @@ udp-destination side v old mid done new addr to port is was four four' some at f
           (first (address.Ipv4 v.src_addr) true u payload (even v.src_addr four') (subst (λ (a : IpAddress). udp.Reads old (address.Ipv4 v.src_addr) a true u payload) (sym was) r.1)),
     )))
 
--- TCP, where the calls of the view speak of the checksum alone
+-- TCP, from the contracts of the setters
 pub tcp-source : (side : Side) (v : Ipv4Repr) (old mid done new addr : List ℕ) (from : IpAddress) (port : ℕ) → side ≡ Source → from ≡ address.Ipv4 v.src_addr
     → length addr ≡ 4 → length v.dst_addr ≡ 4 → port < 65536 → port ≢ 0 → new ≡ done → new ≡ with_tcp_end side (addr_of side v) addr port old
     → ((dst : IpAddress) → length (octets_of dst) % 2 ≡ 0 → Verifies from dst old → Verifies (address.Ipv4 addr) dst mid)
@@ -107,6 +109,7 @@ tcp-source side v old mid done new addr from port is was four four' fits some at
           (first (address.Ipv4 v.dst_addr) (even v.dst_addr four') (subst (λ (a : IpAddress). Verifies a (address.Ipv4 v.dst_addr) old) (sym was) (r.1.checksum refl))))),
     )))
 
+-- the destination setters of TCP write the translated segment
 pub tcp-destination : (side : Side) (v : Ipv4Repr) (old mid done new addr : List ℕ) (to : IpAddress) (port : ℕ) → side ≡ Destination → to ≡ address.Ipv4 v.dst_addr
     → length addr ≡ 4 → length v.src_addr ≡ 4 → port < 65536 → port ≢ 0 → new ≡ done → new ≡ with_tcp_end side (addr_of side v) addr port old
     → ((src : IpAddress) → length (octets_of src) % 2 ≡ 0 → Verifies src to old → Verifies src (address.Ipv4 addr) mid)
@@ -124,7 +127,7 @@ tcp-destination side v old mid done new addr to port is was four four' fits some
           (first (address.Ipv4 v.src_addr) (even v.src_addr four') (subst (λ (a : IpAddress). Verifies (address.Ipv4 v.src_addr) a old) (sym was) (r.1.checksum refl))))),
     )))
 
--- each kind of transport, from its own call
+-- each transport, from its own setters
 pub rewrites-udp : (v : Ipv4Repr) (old new : List ℕ) (side : Side) (addr : List ℕ) (port : ℕ) → v.next_header ≡ protocol.Udp
     → ((u : UdpRepr) (payload : List ℕ) → Rewrites v old new side addr port (datagram u payload))
     → (t : Transport) → Rewrites v old new side addr port t
@@ -132,6 +135,7 @@ rewrites-udp v old new side addr port is step (datagram u payload) r = step u pa
 rewrites-udp v old new side addr port is step (segment u payload) r = let differs : protocol.Udp ≡ protocol.Tcp = sym is ∙ r.0 in absurd (cc)
 rewrites-udp v old new side addr port is step (other payload) r = absurd (r.0 is)
 
+-- the translated payload of a TCP packet is its translated segment
 pub rewrites-tcp : (v : Ipv4Repr) (old new : List ℕ) (side : Side) (addr : List ℕ) (port : ℕ) → v.next_header ≡ protocol.Tcp
     → ((u : TcpHeader) (payload : List ℕ) → Rewrites v old new side addr port (segment u payload))
     → (t : Transport) → Rewrites v old new side addr port t
@@ -146,12 +150,13 @@ has_ports side port (datagram u payload) h = h
 has_ports side port (segment u payload) h = h
 has_ports side port (other payload) h = h
 
+-- the length of an IPv4 payload is the total length without the header length
 pub payload-len : (bytes : List ℕ) (v : Ipv4Repr) → ipv4.Reads bytes true v → length (ipv4_payload bytes) ≡ ipv4.total_len bytes - ipv4.header_len bytes
 payload-len bytes v r =
     length-take-le (ipv4.total_len bytes - ipv4.header_len bytes) (drop (ipv4.header_len bytes) bytes)
     (omega (arith, length-drop (ipv4.header_len bytes) bytes, r.lengths.within, r.lengths.whole))
 
--- the payload that is written is the payload
+-- the payload that is written is the new payload
 pub inner-payload : (bytes part : List ℕ) (v : Ipv4Repr) → ipv4.Reads bytes true v → length part ≡ length (ipv4_payload bytes)
     → ipv4_payload (with_range bytes (ipv4.header_len bytes) (ipv4.total_len bytes) part) ≡ part
 inner-payload bytes part v r e =
@@ -161,7 +166,7 @@ inner-payload bytes part v r e =
     (λ i. slice_range (with_range bytes h n part) (same.header i) (same.total i))
     ∙ range-part bytes part h n (omega (arith, r.lengths.within, r.lengths.whole)) (e ∙ payload-len bytes v r)
 
--- a packet with another payload and then another address
+-- a packet with a new payload, then with a new address
 pub packet-carries : (bytes part new : List ℕ) (v : Ipv4Repr) (side : Side) (addr : List ℕ) (port : ℕ) (t : Transport) → length addr ≡ 4
     → CarriesPorts bytes v t → length part ≡ length (ipv4_payload bytes) → Rewrites v (ipv4_payload bytes) part side addr port t
     → new ≡ with_address side addr (with_range bytes (ipv4.header_len bytes) (ipv4.total_len bytes) part)
@@ -184,6 +189,7 @@ packet-carries bytes part new v side addr port t four c e rewrites at step =
       ports = has_ports side port t c.ports;
     }
 
+-- the address of a parsed header is the address in the bytes
 pub addr-read : (side : Side) (bytes : List ℕ) (v : Ipv4Repr) → ipv4.Reads bytes true v → addr_of side v ≡ addr_at side bytes
 addr-read Source bytes v r = r.src_addr
 addr-read Destination bytes v r = r.dst_addr
@@ -198,7 +204,7 @@ packet-bytes bytes part new v side addr port r is at =
     is ∙ (λ i. with_end (r.next_header i) side (old i) addr port (ipv4_payload bytes)) in
     at ∙ ap (λ (l : List ℕ). with_address side addr (with_range bytes (ipv4.header_len bytes) (ipv4.total_len bytes) l)) written
 
--- the same of a packet that was written
+-- the same for a packet that is written
 pub record IsWritten (side : Side) (v : Ipv4Repr) (bytes new addr : List ℕ) (port : ℕ) : Type 0 where
   pub carries : (t : Transport) → CarriesPorts bytes v t → CarriesPorts new (with_addr side addr v) (with_port side port t)
   pub as_said : new ≡ translated_packet side addr port bytes
@@ -213,6 +219,7 @@ written side v bytes part new addr port four r e rewrites is at step = record {
   as_said = packet-bytes bytes part new v side addr port r is at;
 }
 
+-- writing the payload and then the source address gives a translated packet
 pub written-source : (side : Side) (v : Ipv4Repr) (bytes part inner new addr : List ℕ) (port : ℕ) → side ≡ Source → length addr ≡ 4 → ipv4.Reads bytes true v
     → length part ≡ length (ipv4_payload bytes) → ((t : Transport) → Rewrites v (ipv4_payload bytes) part side addr port t)
     → part ≡ with_end v.next_header side (addr_of side v) addr port (ipv4_payload bytes)
@@ -224,6 +231,7 @@ written-source side v bytes part inner new addr port is four r e rewrites ended 
     (λ w reads. subst (λ (s : Side). ipv4.Reads new true (with_addr s addr w)) (sym is)
     (step w true (subst (λ (l : List ℕ). ipv4.Reads l true w) (sym within) reads)))
 
+-- writing the payload and then the destination address gives a translated packet
 pub written-destination : (side : Side) (v : Ipv4Repr) (bytes part inner new addr : List ℕ) (port : ℕ) → side ≡ Destination → length addr ≡ 4 → ipv4.Reads bytes true v
     → length part ≡ length (ipv4_payload bytes) → ((t : Transport) → Rewrites v (ipv4_payload bytes) part side addr port t)
     → part ≡ with_end v.next_header side (addr_of side v) addr port (ipv4_payload bytes)
@@ -235,17 +243,19 @@ written-destination side v bytes part inner new addr port is four r e rewrites e
     (λ w reads. subst (λ (s : Side). ipv4.Reads new true (with_addr s addr w)) (sym is)
     (step w true (subst (λ (l : List ℕ). ipv4.Reads l true w) (sym within) reads)))
 
+-- a packet that is written carries the translated transport
 pub written-carries : (side : Side) (v : Ipv4Repr) (bytes done new addr : List ℕ) (port : ℕ) → IsWritten side v bytes done addr port → new ≡ done
     → (t : Transport) → CarriesPorts bytes v t → CarriesPorts new (with_addr side addr v) (with_port side port t)
 written-carries side v bytes done new addr port w same t c = subst (λ (l : List ℕ). CarriesPorts l (with_addr side addr v) (with_port side port t)) (sym same) (w.carries t c)
 
+-- a packet that is written has the bytes of the translated packet
 pub written-bytes : (side : Side) (v : Ipv4Repr) (bytes done new addr : List ℕ) (port : ℕ) → IsWritten side v bytes done addr port → new ≡ done
     → new ≡ translated_packet side addr port bytes
 written-bytes side v bytes done new addr port w same = same ∙ w.as_said
 
 -- ---- the frame
 
--- the Ethernet header and what follows it
+-- the Ethernet header, followed by the packet
 record SameLink (old new : List ℕ) : Type 0 where
   dst_addr : slice_range new 0 6 ≡ slice_range old 0 6
   src_addr : slice_range new 6 12 ≡ slice_range old 6 12
@@ -265,10 +275,11 @@ link-stays frame rest link r =
       ethertype = r.ethertype ∙ ap ethernet.protocol_of (sym s.ethertype);
     }
 
--- the packet of a frame that is accepted
+-- the packet of an accepted frame
 pub carried : (frame : List ℕ) (link : EthernetRepr) (v : Ipv4Repr) (t : Transport) → Carries frame link v t → CarriesPorts (drop 14 frame) v t
 carried frame link v t c = record { reads = c.reads.reads_carried.1; carries = c.reads.reads_carried.2; ports = c.ports }
 
+-- a frame with an IPv4 header that parses carries this packet
 pub framed : (frame : List ℕ) (link : EthernetRepr) (v : Ipv4Repr) (t : Transport) → ethernet.Reads frame link → link.ethertype ≡ ethertype.Ipv4
     → CarriesPorts (drop 14 frame) v t → Carries frame link v t
 framed frame link v t reads named c = record { reads = record { reads_header = reads; reads_carried = (named, c.reads, c.carries) }; ports = c.ports }
@@ -304,6 +315,7 @@ unsummed bytes v t side addr port four are c =
           (is, (same_sum is).1 (ap (λ (l : List ℕ). field l 48 16) (sym payload) ∙ lacks.1)),
     )
 
+-- writing a translated packet behind the Ethernet header gives the translated frame
 pub translates : (frame new body : List ℕ) (link : EthernetRepr) (v : Ipv4Repr) (t : Transport) (side : Side) (addr : List ℕ) (port : ℕ)
     → length addr ≡ 4 → AreBytes frame → Carries frame link v t → CarriesPorts body (with_addr side addr v) (with_port side port t)
     → body ≡ translated_packet side addr port (drop 14 frame) → new ≡ take 14 frame ++ body → IsTranslated frame new side addr port
@@ -327,9 +339,11 @@ translates frame new body link v t side addr port four are c after is at =
 
 -- ---- rejected frames
 
+-- a frame whose packet is rejected is rejected for the same reason
 pub packet-rejected : (frame : List ℕ) (link : EthernetRepr) (reason : Rejection) → IsIpv4Frame frame link → IsRejectedPacket (drop 14 frame) reason → IsRejected frame reason
 packet-rejected frame link reason is why = record { whole = λ l f. why; short = λ none. absurd (none link is) }
 
+-- a frame without an Ethernet header is no IPv4 frame
 pub unread-rejected : (frame : List ℕ) (answer : Result EthernetRepr Error) (error : Error)
     → ((v : EthernetRepr) → (answer ≡ Ok v) ↔ ethernet.Reads frame v) → answer ≡ Err error → IsRejected frame NotIpv4
 unread-rejected frame answer error reads is = record {
@@ -337,6 +351,7 @@ unread-rejected frame answer error reads is = record {
   short = λ _. refl;
 }
 
+-- a frame with another EtherType is no IPv4 frame
 pub other-rejected : (frame : List ℕ) (answer : Result EthernetRepr Error) (link : EthernetRepr)
     → ((v : EthernetRepr) → (answer ≡ Ok v) ↔ ethernet.Reads frame v) → answer ≡ Ok link → link.ethertype ≢ ethertype.Ipv4 → IsRejected frame NotIpv4
 other-rejected frame answer link reads is names = record {
@@ -344,6 +359,7 @@ other-rejected frame answer link reads is names = record {
   short = λ _. refl;
 }
 
+-- an IPv4 packet that does not parse is rejected for its header
 pub bad-header : (bytes : List ℕ) (answer : Result Ipv4Repr Error) (error : Error)
     → ((v : Ipv4Repr) → (answer ≡ Ok v) ↔ ipv4.Reads bytes false v) → answer ≡ Err error → (v : Ipv4Repr) → ¬ ipv4.Reads bytes false v
 bad-header bytes answer error reads is v r = let other : answer ≡ Ok v = (reads v).1 r in absurd (cc)
@@ -361,11 +377,12 @@ reads-checked bytes v r full = record {
   dst_addr = r.dst_addr;
 }
 
--- an error with one meaning has another, and a value too
+-- if P implies Q, an error with P has Q, and the same for a value
 pub if-err : {T : Type 0} (answer : Result T Rejection) (P Q : Rejection → Type 0) → ((e : Rejection) → P e → Q e) → IfErr answer P → IfErr answer Q
 if-err (Ok v) P Q implies h = h
 if-err (Err e) P Q implies h = implies e h
 
+-- if P implies Q, a value with P has Q
 pub if-ok : (answer : Result Ipv4Repr Rejection) (P Q : Ipv4Repr → Type 0) → ((v : Ipv4Repr) → P v → Q v) → IfOk answer P → IfOk answer Q
 if-ok (Ok v) P Q implies h = implies v h
 if-ok (Err e) P Q implies h = h

@@ -13,11 +13,11 @@ use Rattle.ip_nat.specs.Nat.{with_udp_end}
 use Rattle.ip_nat.specs.declared.nat.Side.{Side}
 use Rattle.ip_nat.specs.declared.nat.Side.TheVariants.{Source, Destination}
 
--- a header with these ports, these two bytes of its length, and this checksum
+-- a header with these ports, these two length bytes, and this checksum
 abbrev header : ℕ → ℕ → ℕ → ℕ → ℕ → List ℕ → List ℕ
 header p q e f s rest = word p (word q (e ∷ f ∷ word s rest))
 
--- bytes are such a header
+-- the bytes are such a header
 indexed : (l : List ℕ) → 8 ≤ length l
     → l ≡ slice_index l 0 ∷ slice_index l 1 ∷ slice_index l 2 ∷ slice_index l 3 ∷ slice_index l 4 ∷ slice_index l 5 ∷ slice_index l 6 ∷ slice_index l 7 ∷ drop 8 l
 indexed l room =
@@ -38,7 +38,7 @@ header-of l are room =
 
 -- ---- one update
 
--- the updated checksum, where 0 stays
+-- the updated checksum, or 0 if it was 0
 abbrev udp_next : ℕ → ℕ → ℕ → ℕ
 udp_next s old new = if s == 0 then s else udp_updated s old new
 
@@ -140,6 +140,7 @@ back-dst p q e f s x rest old new qs fits xs =
     ∙ ended-dst p x e f s2 q rest new old xs (next-fits (udp_next s o n) q x (next-fits s o n fits))
     ∙ ap (λ (k : ℕ). header p q e f k rest) (next-back s o n q x fits (sum-fits old) (sum-fits new) (omega (arith, qs)) (omega (arith, xs)))
 
+-- translating the source of a UDP packet and then back gives the packet again
 pub udp-back-src : (l old new : List ℕ) (x : ℕ) → AreBytes l → 8 ≤ length l → x < 65536
     → with_udp_end Source new old (field l 0 16) (with_udp_end Source old new x l) ≡ l
 udp-back-src l old new x are room xs =
@@ -147,6 +148,7 @@ udp-back-src l old new x are room xs =
     subst P (sym (header-of l are room))
     (back-src (field l 0 16) (field l 16 16) (slice_index l 4) (slice_index l 5) (field l 48 16) x (drop 8 l) old new (spelled-fits (slice_index l 0) (slice_index l 1)) (spelled-fits (slice_index l 6) (slice_index l 7)) xs)
 
+-- translating the destination of a UDP packet and then back gives the packet again
 pub udp-back-dst : (l old new : List ℕ) (x : ℕ) → AreBytes l → 8 ≤ length l → x < 65536
     → with_udp_end Destination new old (field l 16 16) (with_udp_end Destination old new x l) ≡ l
 udp-back-dst l old new x are room xs =
@@ -154,9 +156,9 @@ udp-back-dst l old new x are room xs =
     subst P (sym (header-of l are room))
     (back-dst (field l 0 16) (field l 16 16) (slice_index l 4) (slice_index l 5) (field l 48 16) x (drop 8 l) old new (spelled-fits (slice_index l 2) (slice_index l 3)) (spelled-fits (slice_index l 6) (slice_index l 7)) xs)
 
--- ---- what holds of any bytes
+-- ---- the same for any bytes
 
--- the length stays, and whether there is a checksum
+-- length and presence of a checksum are unchanged
 pub record IsEnded (old new : List ℕ) : Type 0 where
   pub long : length new ≡ length old
   pub unsummed : (field old 48 16 ≡ 0) ↔ (field new 48 16 ≡ 0)
@@ -183,6 +185,7 @@ two s o n p x fits = (
   λ z. none-next s o n (none-next (udp_next s o n) p x z),
 )
 
+-- a translated UDP packet keeps its length, and has a checksum exactly if it had one
 pub udp-ended : (side : Side) (l old new : List ℕ) (x : ℕ) → AreBytes l → 8 ≤ length l → IsEnded l (with_udp_end side old new x l)
 udp-ended Source l old new x are room =
     let p = field l 0 16 in

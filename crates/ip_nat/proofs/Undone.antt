@@ -26,7 +26,7 @@ use Rattle.ip_nat.specs.declared.nat.Side.TheVariants.{Source, Destination}
 
 -- ---- the address
 
--- what stands before the checksum, the checksum, both addresses and what follows
+-- the bytes before the checksum, the checksum, both addresses and the rest
 abbrev header : List ℕ → ℕ → List ℕ → List ℕ → List ℕ → List ℕ
 header before s src dst rest = cells 10 before ++ word s (cells 4 src ++ (cells 4 dst ++ rest))
 
@@ -89,7 +89,7 @@ address-back side l addr are room four usual =
 
 -- ---- the packet
 
--- a payload and an address are written in either order
+-- payload and address may be written in either order
 either_order : (side : Side) (bytes addr part : List ℕ) (h n : ℕ) → 20 ≤ length bytes → 20 ≤ h → 20 ≤ n → length addr ≡ 4
     → with_range (with_address side addr bytes) h n part ≡ with_address side addr (with_range bytes h n part)
 either_order side bytes addr part h n room least most four =
@@ -161,6 +161,7 @@ packet-back bytes v t side addr port c are four fits usual usual_tcp =
 
 -- ---- the frame
 
+-- translating a frame there and back gives the frame again
 pub undone : (frame there back : List ℕ) (side : Side) (addr : List ℕ) (port : ℕ) (was : IsTranslated frame there side addr port)
     → AreBytes frame → length addr ≡ 4 → port < 65536 → HasUsualChecksums frame
     → IsTranslated there back side (addr_of side was.header) (port_of side was.transport) → back ≡ frame

@@ -23,7 +23,7 @@ use Rattle.ip_nat.specs.declared.nat.Side.TheVariants.{Source, Destination}
 
 -- ---- values
 
--- the address of a header on this side, and the header with another one
+-- the address of a header on this side, and the header with another address there
 abbrev pub addr_of : Side → Ipv4Repr → List ℕ
 addr_of Source v = v.src_addr
 addr_of Destination v = v.dst_addr
@@ -41,13 +41,13 @@ abbrev pub with_tcp_port : Side → ℕ → TcpHeader → TcpHeader
 with_tcp_port Source port v = record v { src_port = port }
 with_tcp_port Destination port v = record v { dst_port = port }
 
--- it is a UDP packet or a TCP segment, which have ports
+-- a UDP packet or a TCP segment: both have ports
 abbrev pub HasPorts : Transport → Type 0
 HasPorts (datagram v payload) = ⊤
 HasPorts (segment v payload) = ⊤
 HasPorts (other payload) = ⊥
 
--- its port on this side, 0 where it has none
+-- its port on this side, or 0 for other protocols
 abbrev pub port_of : Side → Transport → ℕ
 port_of Source (datagram v payload) = v.src_port
 port_of Source (segment v payload) = v.src_port
@@ -55,7 +55,7 @@ port_of Destination (datagram v payload) = v.dst_port
 port_of Destination (segment v payload) = v.dst_port
 port_of side (other payload) = 0
 
--- the same with another port on this side
+-- the same packet with another port on this side
 abbrev pub with_port : Side → ℕ → Transport → Transport
 with_port side port (datagram v payload) = datagram (with_udp_port side port v) payload
 with_port side port (segment v payload) = segment (with_tcp_port side port v) payload
@@ -63,8 +63,8 @@ with_port side port (other payload) = other payload
 
 -- ---- bytes
 
--- the bytes of a UDP packet: first the checksum is updated for an address that changed, then a port is written and the
--- checksum updated for it; a checksum of 0 stays
+-- the bytes of a UDP packet after two steps: the checksum is updated for the new address; then the port is written and
+-- the checksum updated for it. A checksum of 0 stays 0.
 abbrev pub with_udp_end : Side → List ℕ → List ℕ → ℕ → List ℕ → List ℕ
 with_udp_end Source old new port bytes =
     let covered = udp.with_updated_checksum bytes (sum_of_bytes old) (sum_of_bytes new) in
@@ -73,7 +73,7 @@ with_udp_end Destination old new port bytes =
     let covered = udp.with_updated_checksum bytes (sum_of_bytes old) (sum_of_bytes new) in
     udp.with_updated_checksum (with_field covered 16 16 port) (field covered 16 16) port
 
--- the bytes of a TCP segment, in the same way
+-- the bytes of a TCP segment after the same steps
 abbrev pub with_tcp_end : Side → List ℕ → List ℕ → ℕ → List ℕ → List ℕ
 with_tcp_end Source old new port bytes =
     let covered = tcp.with_updated_checksum bytes (sum_of_bytes old) (sum_of_bytes new) in
@@ -82,7 +82,7 @@ with_tcp_end Destination old new port bytes =
     let covered = tcp.with_updated_checksum bytes (sum_of_bytes old) (sum_of_bytes new) in
     tcp.with_updated_checksum (with_field covered 16 16 port) (field covered 16 16) port
 
--- the payload of a packet of this protocol, after the address on this side changed, with this port
+-- the payload of a packet of this protocol, for a new address on this side, with this port
 abbrev pub with_end : IpProtocol → Side → List ℕ → List ℕ → ℕ → List ℕ → List ℕ
 with_end protocol.Udp side old new port bytes = with_udp_end side old new port bytes
 with_end protocol.Tcp side old new port bytes = with_tcp_end side old new port bytes
@@ -93,14 +93,14 @@ abbrev pub addr_at : Side → List ℕ → List ℕ
 addr_at Source bytes = slice_range bytes 12 16
 addr_at Destination bytes = slice_range bytes 16 20
 
--- the bytes of an IPv4 packet with another address on this side, and the checksum of the header updated
+-- the bytes of an IPv4 packet with another address on this side and an updated header checksum
 abbrev pub with_address : Side → List ℕ → List ℕ → List ℕ
 with_address Source addr bytes =
     ipv4.with_updated_checksum (with_range bytes 12 16 addr) (sum_of_bytes (slice_range bytes 12 16)) (sum_of_bytes addr)
 with_address Destination addr bytes =
     ipv4.with_updated_checksum (with_range bytes 16 20 addr) (sum_of_bytes (slice_range bytes 16 20)) (sum_of_bytes addr)
 
--- the bytes of an IPv4 packet with another address and port on this side: the other bytes stay, but for the checksums
+-- the bytes of an IPv4 packet with another address and port on this side and updated checksums
 abbrev pub translated_packet : Side → List ℕ → ℕ → List ℕ → List ℕ
 translated_packet side addr port bytes =
     let payload = with_end (protocol_of (field bytes 72 8)) side (addr_at side bytes) addr port (ipv4_payload bytes) in
@@ -110,27 +110,27 @@ translated_packet side addr port bytes =
 abbrev pub translated : Side → List ℕ → ℕ → List ℕ → List ℕ
 translated side addr port frame = take 14 frame ++ translated_packet side addr port (drop 14 frame)
 
--- the frame carries a UDP packet with checksum 0: the sender computed none
+-- the frame carries a UDP packet with checksum 0: its sender computed none
 abbrev pub LacksChecksum : List ℕ → Type 0
 LacksChecksum frame = (protocol_of (field (drop 14 frame) 72 8) ≡ protocol.Udp) × (field (ipv4_payload (drop 14 frame)) 48 16 ≡ 0)
 
--- ---- which frames
+-- ---- accepted frames
 
--- the bytes are an IPv4 packet with this header, which is no fragment, and carries a UDP packet or a TCP segment; all
+-- the bytes are an IPv4 packet with this header that is no fragment and carries a UDP packet or a TCP segment; all
 -- checksums are valid
 pub record CarriesPorts (bytes : List ℕ) (header : Ipv4Repr) (transport : Transport) : Type 0 where
   pub reads : ReadsPacket all_checked bytes (Ipv4 header)
   pub carries : ReadsTransport all_checked (Ipv4 header) (ipv4_payload bytes) transport
   pub ports : HasPorts transport
 
--- bytes that parse as this transport behind this header parse as it with the other port behind the header with the other
--- address, after they changed
+-- bytes that parse as this transport behind this header parse after the change as the transport with the other port,
+-- behind the header with the other address
 abbrev pub Rewrites : Ipv4Repr → List ℕ → List ℕ → Side → List ℕ → ℕ → Transport → Type 0
 Rewrites header old new side addr port transport =
     ReadsTransport all_checked (Ipv4 header) old transport
     → ReadsTransport all_checked (Ipv4 (with_addr side addr header)) new (with_port side port transport)
 
--- the frame has this Ethernet header, whose type is IPv4
+-- the frame has this Ethernet header, with EtherType IPv4
 pub record IsIpv4Frame (frame : List ℕ) (link : EthernetRepr) : Type 0 where
   pub reads : ethernet.Reads frame link
   pub names : link.ethertype ≡ ethertype.Ipv4
@@ -140,13 +140,13 @@ pub record Carries (frame : List ℕ) (link : EthernetRepr) (header : Ipv4Repr) 
   pub reads : IsReadWhole frame link (packet (Ipv4 header) transport)
   pub ports : HasPorts transport
 
--- why the payload of a packet with this header is not translated
+-- the reason why the payload of a packet with this header is not translated
 abbrev pub IsRejectedTransport : Ipv4Repr → List ℕ → Rejection → Type 0
 IsRejectedTransport header bytes OtherProtocol = ReadsTransport all_checked (Ipv4 header) bytes (other bytes)
 IsRejectedTransport header bytes BadTransport = (transport : Transport) → ¬ ReadsTransport all_checked (Ipv4 header) bytes transport
 IsRejectedTransport header bytes _ = ⊥
 
--- why the bytes of a packet in an IPv4 frame are not translated
+-- the reason why the packet in an IPv4 frame is not translated
 abbrev pub IsRejectedPacket : List ℕ → Rejection → Type 0
 IsRejectedPacket bytes NotIpv4 = ⊥
 IsRejectedPacket bytes BadHeader = (header : Ipv4Repr) → ¬ ipv4.Reads bytes false header
@@ -155,15 +155,15 @@ IsRejectedPacket bytes Fragment = ((header : Ipv4Repr) × ipv4.Reads bytes true 
 IsRejectedPacket bytes reason =
     (header : Ipv4Repr) × ReadsPacket all_checked bytes (Ipv4 header) × IsRejectedTransport header (ipv4_payload bytes) reason
 
--- why a frame is not translated: as its packet, or because it is no IPv4 frame
+-- the reason why a frame is not translated: that of its packet, or that it is no IPv4 frame
 pub record IsRejected (frame : List ℕ) (reason : Rejection) : Type 0 where
   pub whole : (link : EthernetRepr) → IsIpv4Frame frame link → IsRejectedPacket (drop 14 frame) reason
   pub short : ((link : EthernetRepr) → ¬ IsIpv4Frame frame link) → reason ≡ NotIpv4
 
 -- ---- before and after
 
--- The old frame parses with valid checksums. The new one parses as the same values, but for the address and the port on
--- this side, and its checksums are valid. A UDP packet has a checksum exactly if it had one. These are all bytes.
+-- The old frame parses with valid checksums. The new one parses as the same values, except the address and the port on
+-- this side, and its checksums are valid. A UDP packet has a checksum exactly if it had one. These are all the bytes.
 pub record IsTranslated (old new : List ℕ) (side : Side) (addr : List ℕ) (port : ℕ) : Type 0 where
   pub link : EthernetRepr
   pub header : Ipv4Repr
@@ -173,7 +173,7 @@ pub record IsTranslated (old new : List ℕ) (side : Side) (addr : List ℕ) (po
   pub unsummed : LacksChecksum old ↔ LacksChecksum new
   pub bytes : new ≡ translated side addr port old
 
--- The IPv4 checksum is not 0xffff, nor is that of a TCP segment. A sender that computes it writes 0 in place of 0xffff.
+-- Neither the IPv4 checksum nor that of a TCP segment is 0xffff. A sender that computes it writes 0 instead of 0xffff.
 pub record HasUsualChecksums (frame : List ℕ) : Type 0 where
   pub ipv4 : field (drop 14 frame) 80 16 ≢ 65535
   pub tcp : protocol_of (field (drop 14 frame) 72 8) ≡ protocol.Tcp → field (ipv4_payload (drop 14 frame)) 128 16 ≢ 65535

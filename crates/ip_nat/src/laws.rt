@@ -1,4 +1,4 @@
-//! What holds by the definitions alone. The functions do nothing: what each says is its contract.
+//! Laws of this crate's definitions. A law states a fact about definitions; its body does nothing.
 
 ghost use Rattle.std.specs.Prelude.{◌≡◌, List, ℕ};
 ghost use Rattle.ip_nat.specs.Nat.{HasUsualChecksums, IsTranslated, addr_of, port_of};
@@ -7,9 +7,9 @@ use crate::nat::Side;
 use ip_wire::Ipv4Address;
 use ip_wire::laws::octets_fit;
 
-/// A translation is undone by one with the address and the port that the packet had: this gives the
-/// original bytes. The IPv4 checksum and that of a TCP segment must not be 0xffff, which no sender
-/// computes: an update gives 0 in its place.
+/// Translating back to the address and port that the packet had restores the
+/// original bytes. The IPv4 checksum and that of a TCP segment must not be 0xffff. No sender
+/// computes 0xffff, and an update writes 0 instead.
 pub fn translation_is_undone(frame: &[u8], side: Side, addr: Ipv4Address, port: u16)
     requires { HasUsualChecksums frame.now }
     ensures { (there back : List ℕ) (was : IsTranslated frame.now there side addr port)

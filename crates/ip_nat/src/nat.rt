@@ -17,7 +17,7 @@ use ip_wire::{
 };
 use net_base::ChecksumCapabilities;
 
-/// The end of a packet whose address and port are replaced.
+/// The end of a packet, source or destination, whose address and port are replaced.
 #[derive(Debug, Clone, Copy, PartialEq, Eq)]
 pub enum Side {
     Source,
@@ -39,22 +39,22 @@ impl Side {
 /// Why a frame is not translated. The first of these that applies is returned.
 #[derive(Debug, Clone, Copy, PartialEq, Eq)]
 pub enum Rejection {
-    /// It has no Ethernet header, or another EtherType.
+    /// The frame has no Ethernet header, or its EtherType is not IPv4.
     NotIpv4,
-    /// Its IPv4 header has another version, or its lengths do not fit.
+    /// The version of the IPv4 header is not 4, or its lengths are invalid.
     BadHeader,
-    /// The checksum of its IPv4 header is wrong.
+    /// The checksum of the IPv4 header is wrong.
     WrongChecksum,
-    /// Its packet is a fragment.
+    /// The packet is a fragment.
     Fragment,
-    /// Its packet carries neither UDP nor TCP.
+    /// The packet carries neither UDP nor TCP.
     OtherProtocol,
     /// The UDP or TCP header does not parse, or its checksum is wrong.
     BadTransport,
 }
 
 /// Writes an address and a port other than 0 into the UDP or TCP packet of a frame over IPv4, and
-/// updates the checksums (RFC 1624). A UDP packet without a checksum gets none. A rejected frame is
+/// updates the checksums (RFC 1624). A UDP checksum of 0 stays 0. A rejected frame is
 /// unchanged.
 pub fn translate(
     frame: &mut [u8],
@@ -150,7 +150,7 @@ fn rewrite(header: Ipv4Repr, packet: &mut [u8], side: Side, addr: Ipv4Address, p
     }
 }
 
-// The same in the payload of such a packet.
+// Writes the address and the port into the payload of such a packet.
 fn rewrite_transport(header: Ipv4Repr, payload: &mut [u8], side: Side, addr: Ipv4Address, port: u16)
     requires reads { (transport : whole.Transport) × ReadsTransport all_checked (IpRepr.Ipv4 header) payload.old transport }
     requires port { port ≢ 0 }

@@ -1,3 +1,3 @@
-//! Real frames, translated and rejected.
+//! Captured frames, translated and rejected.
 
 mod nat;

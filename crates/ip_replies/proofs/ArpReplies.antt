@@ -18,6 +18,7 @@ normal_reply ours m asker reply r = ap arp.normal r.tells ∙ sym r.tells
 sendable : (ours : Interface) (asker : EthernetAddress) (reply : ArpRepr) → arp.normal reply ≡ reply → IsSendable (arp_frame ours.hardware_addr asker reply)
 sendable ours asker reply normal = record { agrees = refl; fits = tt; header = refl; carried = ap (λ v. Some (frame.message v)) normal }
 
+-- a frame with a reply to an ARP request is the reply
 pub replied : (ours : Interface) (request f : Frame) (m : ArpRepr) (asker : EthernetAddress) (reply : ArpRepr) → request.carried ≡ carried.Arp m → IsArpReply ours m asker reply
     → f ≡ arp_frame ours.hardware_addr asker reply → Gives (ArpRepliesFrame ours request) (Some f)
 replied ours request f m asker reply carries r is = (
@@ -30,6 +31,7 @@ replied ours request f m asker reply carries r is = (
   ),
 )
 
+-- a frame whose ARP message gets no reply gets none
 pub no_reply : (ours : Interface) (request : Frame) (m : ArpRepr) → request.carried ≡ carried.Arp m → ((asker : EthernetAddress) (reply : ArpRepr) → ¬ IsArpReply ours m asker reply)
     → Gives (ArpRepliesFrame ours request) None
 no_reply ours request m carries none header carried (asked, is, e) =
@@ -38,6 +40,7 @@ no_reply ours request m carries none header carried (asked, is, e) =
     let same : e.request ≡ m = cc in
     none e.asker e.reply (subst (λ x. IsArpReply ours x e.asker e.reply) same e.replies)
 
+-- two replies to one ARP request carry the same
 pub one_answer : (ours : Interface) (request : Frame) (h k : EthernetRepr) (c d : frame.Carried) → ArpRepliesFrame ours request h c → ArpRepliesFrame ours request k d → c ≡ d
 one_answer ours request h k c d (asked, is, e) (other, also, g) =
     let asks = e.asks in

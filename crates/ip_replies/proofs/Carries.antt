@@ -1,4 +1,4 @@
--- What a frame carries whose values are those of a UDP or TCP packet.
+-- The contents of a frame whose values are those of a UDP or TCP packet.
 use Rattle.std.proofs.Common.{ℕ, ◌≡◌, List, Option, Some, None, refl}
 use Rattle.std.specs.Borrow.{Bor}
 use Rattle.ip_wire.specs.Frame as frame
@@ -11,11 +11,13 @@ use Rattle.ip_wire.specs.declared.TcpRepr.{TcpRepr}
 use Rattle.ip_wire.specs.declared.Transport.TheVariants as transport
 use Rattle.ip_wire.specs.declared.UdpRepr.{UdpRepr}
 
+-- a frame with the values of a UDP packet carries a UDP packet
 pub carries_udp : (c : Carried) (ip : IpRepr) (udp : UdpRepr) (octets : List ℕ) → carried_of c ≡ Some (frame.packet ip (frame.datagram udp octets))
     → (payload : Bor (List ℕ)) × (c ≡ carried.Packet ip (transport.Udp udp payload)) × (payload.now ≡ octets)
 carries_udp (carried.Packet v (transport.Udp u payload)) ip udp octets e = (payload, cc, cc)
 carries_udp _ ip udp octets e = absurd (cc)
 
+-- a frame with the values of a TCP segment carries a TCP segment
 pub carries_tcp : (c : Carried) (ip : IpRepr) (tcp : TcpHeader) (octets : List ℕ) → carried_of c ≡ Some (frame.packet ip (frame.segment tcp octets))
     → (value : TcpRepr) × (c ≡ carried.Packet ip (transport.Tcp value)) × (header_of value ≡ tcp) × (value.payload.now ≡ octets)
 carries_tcp (carried.Packet v (transport.Tcp u)) ip tcp octets e = (u, cc, cc, cc)

@@ -1,4 +1,4 @@
--- The echo of a frame that is parsed.
+-- The echo of a parsed frame.
 use Rattle.std.proofs.Common.{ℕ, ◌≡◌, ◌≢◌, ◌∙◌, ◌≤◌, ◌+◌, List, Option, Some, None, length, refl, sym, ap, subst, arith}
 use Rattle.std.specs.Borrow.{Bor}
 use Rattle.ip_wire.specs.Frame as frame
@@ -23,7 +23,7 @@ use Rattle.ip_replies.specs.declared.interface.Interface.{Interface}
 abbrev pub swapped : UdpRepr → UdpRepr
 swapped u = record { src_port = u.dst_port; dst_port = u.src_port }
 
--- what the reply carries
+-- the contents of the reply
 abbrev pub echo_values : IpRepr → UdpRepr → List ℕ → frame.Carried
 echo_values v u octets = frame.packet (header_before (header_back v) protocol.Udp (8 + length octets)) (frame.datagram (swapped u) octets)
 
@@ -88,7 +88,7 @@ echoed ours port request f v u payload carries to_port from_other for_us is soun
       ),
     )
 
--- a packet that is no UDP packet for the port has none
+-- a packet that is no UDP packet for the port has no reply
 pub no_echo : (ours : Interface) (port : ℕ) (request : Frame)
     → ((v : IpRepr) (u : UdpRepr) (payload : Bor (List ℕ)) → request.carried ≡ carried.Packet v (transport.Udp u payload)
     → u.dst_port ≡ port → u.src_port ≢ port → IsForUs ours request.header v → ¬ (Agrees (echo_of ours request.header v u payload) × Fits (echo_of ours request.header v u payload)))
@@ -98,7 +98,7 @@ no_echo ours port request none header carried (asked, same, e) =
     none e.ip e.udp found.0 found.1 e.to_port e.from_other e.for_us
     (agreed ours request.header e.ip e.udp found.0 e.from_port (subst (λ (l : List ℕ). 8 + length l ≤ max_payload_len e.ip) (sym found.2) e.fits))
 
--- there is one
+-- a UDP packet for the port has a reply
 pub one_echo : (ours : Interface) (port : ℕ) (request : Frame) (h k : EthernetRepr) (c d : frame.Carried) → EchoesFrame ours port request h c → EchoesFrame ours port request k d → c ≡ d
 one_echo ours port request h k c d (asked, same, e) (other, also, g) =
     let first = e.asks in

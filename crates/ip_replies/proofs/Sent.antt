@@ -1,4 +1,4 @@
--- A frame that is sent is a reply that is written.
+-- An emitted frame is a reply.
 use Rattle.std.proofs.Common.{ℕ, ◌≡◌, ◌∙◌, ◌+◌, ◌-◌, ◌<◌, ◌≤◌, ◌++◌, List, Option, Some, None, drop, length, refl, sym, ap, subst, arith, length-append, length-drop}
 use Rattle.std.proofs.Math.Seq.{drop-append_seam}
 use Rattle.ip_wire.specs.Frame as frame
@@ -13,13 +13,13 @@ use Rattle.ip_wire.specs.declared.Frame.{Frame}
 use Rattle.ip_wire.specs.declared.Transport.TheVariants as transport
 use Rattle.ip_replies.specs.Reply.{Gives, HasValues, IsSendable, IsSent, IsWritten, Sends, reply_len}
 
--- what follows the bytes that were written
+-- the bytes behind the emitted frame
 pub rest_stays : (bytes old new : List ℕ) (n : ℕ) → new ≡ bytes ++ drop n old → length new ≡ length old → n ≤ length old → drop n new ≡ drop n old
 rest_stays bytes old new n is same fits =
     let long : length bytes ≡ n = omega (arith, ap length is, length-append bytes (drop n old), length-drop n old, same, fits) in
     ap (drop n) is ∙ ap (λ k. drop k (bytes ++ drop n old)) (sym long) ∙ drop-append_seam bytes (drop n old)
 
--- a frame that was written, and parses as its normal form, is sent
+-- a frame that is emitted, and parses as its normal form, is sent
 pub is_sent : (f : Frame) (bytes padding old new : List ℕ) (n : ℕ) → IsSendable f → (n ≡ frame_len f) × (n ≤ length old) × (new ≡ bytes ++ drop n old)
     → length new ≡ length old → padding ≡ drop n new → ReadsNormalOf all_checked (bytes ++ padding) f → IsSent f old new (Some n)
 is_sent f bytes padding old new n sendable (len, fits, is) same behind (read, normal, reads) =
@@ -35,7 +35,7 @@ is_sent f bytes padding old new n sendable (len, fits, is) same behind (read, no
       ),
     )
 
--- the length of a frame is that of its values
+-- the length of a frame depends only on its values
 same_len : (c : Carried) (values : frame.Carried) → carried_of c ≡ Some values → 14 + carried_len c ≡ reply_len values
 same_len (carried.Arp v) values e = let is : frame.message v ≡ values = cc in ap reply_len is
 same_len (carried.Packet v (transport.Udp u payload)) values e = let is : frame.packet v (frame.datagram u payload.now) ≡ values = cc in ap reply_len is
@@ -43,7 +43,7 @@ same_len (carried.Packet v (transport.Tcp u)) values e = let is : frame.packet v
 same_len (carried.Packet v (transport.Other bytes)) values e = let is : frame.packet v (frame.other bytes.now) ≡ values = cc in ap reply_len is
 same_len _ values e = absurd (cc)
 
--- a frame that is sent has the values of the one reply
+-- an emitted frame has the values of the only reply
 pub sends : (P Q : EthernetRepr → frame.Carried → Type 0) (f : Frame) (old new : List ℕ) (result : Option ℕ)
     → Gives P (Some f) → IsSent f old new result
     → ((h : EthernetRepr) (c : frame.Carried) → P h c → Q h c) → ((h : EthernetRepr) (c : frame.Carried) → Q h c → P h c)
@@ -65,6 +65,6 @@ sends P Q f old new (Some n) (sendable, (h, c, values, p)) (len, fits, rest, (d,
       rest = rest;
     }
 
--- where there is no reply, nothing is sent
+-- if there is no reply, nothing is sent
 pub silent : (P Q : EthernetRepr → frame.Carried → Type 0) (old : List ℕ) → Gives P None → ((h : EthernetRepr) (c : frame.Carried) → Q h c → P h c) → Sends Q old old None
 silent P Q old none from = (refl, λ h c q. absurd (none h c (from h c q)))

@@ -26,9 +26,9 @@ use Rattle.ip_replies.specs.TcpReply.{IsTcpReply, Replies, TcpRepliesFrame, back
 use Rattle.ip_replies.specs.declared.interface.Interface.{Interface}
 use Rattle.ip_replies.specs.declared.tcp_reply.Offer.{Offer}
 
--- ---- what is true of each reply
+-- ---- properties of each reply
 
--- a reply that can be sent: its header is short, and in normal form
+-- a reply that can be emitted: its header is short, and in normal form
 pub record IsPlain (asked reply : TcpHeader) : Type 0 where
   pub src_port : reply.src_port ≡ asked.dst_port
   pub dst_port : reply.dst_port ≡ asked.src_port
@@ -80,7 +80,7 @@ plain ports offer asked len reply (inl (has, is)) =
     plain_listen asked.control asked.ack_number asked (reset_for asked 0) (syn_ack offer asked) reply (plain_reset asked.ack_number asked _) (plain_syn_ack offer asked) is
 plain ports offer asked len reply (inr (lacks, is)) = plain_closed asked.control asked (reset_for asked len) reply (plain_reset asked.ack_number asked _) is
 
--- there is one reply
+-- there is at most one reply
 pub one_reply : (ports : List ℕ) (offer : Offer) (asked : TcpHeader) (len : ℕ) (a b : TcpHeader) → Replies ports offer asked len a → Replies ports offer asked len b → a ≡ b
 one_reply ports offer asked len a b (inl (has, is)) (inl (also, same)) = cc
 one_reply ports offer asked len a b (inl (has, is)) (inr (lacks, same)) = absurd (lacks has)
@@ -89,7 +89,7 @@ one_reply ports offer asked len a b (inr (lacks, is)) (inr (also, same)) = cc
 
 -- ---- frames
 
--- the payload of a segment fits into a packet
+-- the payload of a segment fits into an IP packet
 pub short_payload : (c : Carried) (v : IpRepr) (t : TcpRepr) → c ≡ carried.Packet v (transport.Tcp t) → FitsCarried c → length t.payload.now < 65536
 short_payload c (Ipv4 v) t is fits = let f = subst FitsCarried is fits in let len = f.0 in omega (arith, len)
 short_payload c (Ipv6 v) t is fits = let f = subst FitsCarried is fits in let len = f.0 in omega (arith, len)
@@ -97,7 +97,7 @@ short_payload c (Ipv6 v) t is fits = let f = subst FitsCarried is fits in let le
 abbrev pub frame_of : Interface → EthernetRepr → IpRepr → TcpRepr → Frame
 frame_of ours link v t = frame_around ours.hardware_addr link.src_addr (header_back v) (transport.Tcp t)
 
--- what is known of the frame of a reply
+-- properties of the frame of a reply
 agreed : (ours : Interface) (link : EthernetRepr) (v : IpRepr) (t : TcpRepr) → t.src_port ≢ 0 → t.dst_port ≢ 0 → header_len_of (header_of t) ≤ 40 → t.payload.now ≡ []
     → Agrees (frame_of ours link v t) × Fits (frame_of ours link v t)
 agreed ours link (Ipv4 v) t src dst short none =
@@ -122,10 +122,11 @@ same_type : (v : IpRepr) → type_of (header_back v) ≡ type_of v
 same_type (Ipv4 v) = refl
 same_type (Ipv6 v) = refl
 
--- what the reply carries
+-- the contents of the reply
 abbrev reply_values : IpRepr → TcpHeader → frame.Carried
 reply_values v reply = frame.packet (header_before (header_back v) protocol.Tcp (header_len_of reply)) (frame.segment reply [])
 
+-- a frame with the reply to a segment is the reply
 pub replied : (ours : Interface) (ports : List ℕ) (offer : Offer) (request f : Frame) (v : IpRepr) (t r : TcpRepr)
     → request.carried ≡ carried.Packet v (transport.Tcp t) → IsForUs ours request.header v
     → Replies ports offer (header_of t) (length t.payload.now) (header_of r) → r.payload.now ≡ []
@@ -169,6 +170,7 @@ replied ours ports offer request f v t r carries for_us replies none is sound =
       ),
     )
 
+-- a frame whose segment gets no reply gets none
 pub no_reply : (ours : Interface) (ports : List ℕ) (offer : Offer) (request : Frame)
     → ((v : IpRepr) (t : TcpRepr) (reply : TcpHeader) → request.carried ≡ carried.Packet v (transport.Tcp t) → IsForUs ours request.header v
     → t.src_port ≢ 0 → t.dst_port ≢ 0 → ¬ Replies ports offer (header_of t) (length t.payload.now) reply)
@@ -180,6 +182,7 @@ no_reply ours ports offer request none header carried (asked, same, e) =
     none e.ip t e.reply found.1 e.for_us (λ z. e.from_port (ap (λ (x : TcpHeader). x.src_port) (sym found.2) ∙ z)) (λ z. e.to_port (ap (λ (x : TcpHeader). x.dst_port) (sym found.2) ∙ z))
     (subst (λ (l : List ℕ). Replies ports offer (header_of t) (length l) e.reply) (sym found.3) replies)
 
+-- two replies to one segment carry the same
 pub one_answer : (ours : Interface) (ports : List ℕ) (offer : Offer) (request : Frame) (h k : EthernetRepr) (c d : frame.Carried)
     → TcpRepliesFrame ours ports offer request h c → TcpRepliesFrame ours ports offer request k d → c ≡ d
 one_answer ours ports offer request h k c d (asked, same, e) (other, also, g) =
@@ -194,7 +197,7 @@ one_answer ours ports offer request h k c d (asked, same, e) (other, also, g) =
     let reply = one_reply ports offer g.tcp (length g.payload) e.reply g.reply second g.replies in
     e.carries ∙ ap (λ v. reply_values v e.reply) ip ∙ ap (λ r. reply_values g.ip r) reply ∙ sym g.carries
 
--- a reply that cannot be sent is none
+-- a reply that cannot be emitted is no reply
 pub sent : (ours : Interface) (ports : List ℕ) (offer : Offer) (request : Frame) (v : IpRepr) (t r : TcpRepr) → t.src_port ≢ 0 → t.dst_port ≢ 0
     → Replies ports offer (header_of t) (length t.payload.now) (header_of r) → r.payload.now ≡ []
     → Agrees (frame_of ours request.header v r) × Fits (frame_of ours request.header v r)

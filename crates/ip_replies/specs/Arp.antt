@@ -12,8 +12,8 @@ use Rattle.ip_wire.specs.declared.EthernetRepr.{EthernetRepr}
 use Rattle.ip_wire.specs.declared.Frame.{Frame}
 use Rattle.ip_replies.specs.declared.interface.Interface.{Interface}
 
--- one station asks who has our address, whatever it says of the one that it asks for, and the reply tells it that our
--- hardware address has it
+-- one station asks for our address, whatever its target hardware address is, and the reply names our hardware
+-- address
 pub record IsArpReply (ours : Interface) (request : ArpRepr) (asker : EthernetAddress) (reply : ArpRepr) : Type 0 where
   pub asker_addr : List ℕ
   pub asked : EthernetAddress
@@ -21,7 +21,7 @@ pub record IsArpReply (ours : Interface) (request : ArpRepr) (asker : EthernetAd
   pub from_station : IsUnicast asker.0
   pub tells : reply ≡ EthernetIpv4 Reply ours.hardware_addr ours.ipv4_addr asker asker_addr
 
--- a frame with these values carries such a request, and the other frame is the reply to it
+-- a frame with these values is such a request, and the other frame is the reply to it
 pub record IsArpAnswer (ours : Interface) (asked : Carried) (header : EthernetRepr) (carried : Carried) : Type 0 where
   pub request : ArpRepr
   pub asker : EthernetAddress
@@ -35,7 +35,7 @@ pub record IsArpAnswer (ours : Interface) (asked : Carried) (header : EthernetRe
 abbrev pub ArpRepliesFrame : Interface → Frame → EthernetRepr → Carried → Type 0
 ArpRepliesFrame ours request header carried = (asked : Carried) × (carried_of request.carried ≡ Some asked) × IsArpAnswer ours asked header carried
 
--- the values of the reply to the frame that these bytes are parsed as
+-- the values of the reply to the frame that the bytes parse as
 abbrev pub ArpRepliesBytes : Interface → List ℕ → EthernetRepr → Carried → Type 0
 ArpRepliesBytes ours bytes header carried =
     (asked_header : EthernetRepr) × (asked : Carried) × IsReadWhole bytes asked_header asked × IsArpAnswer ours asked header carried

@@ -1,4 +1,4 @@
--- The addresses of a host on one link, and which packets it may reply to.
+-- The addresses of a host on one link, and the packets that it may reply to.
 use Rattle.std.specs.Prelude.{◌≡◌}
 use Rattle.ip_wire.specs.Hardware as hardware
 use Rattle.ip_wire.specs.Ip.{dst_addr_of, src_addr_of}
@@ -15,7 +15,7 @@ abbrev pub IsOurs : Interface → IpAddress → Type 0
 IsOurs ours (address.Ipv4 octets) = octets ≡ ours.ipv4_addr
 IsOurs ours (address.Ipv6 octets) = octets ≡ ours.ipv6_addr
 
--- a packet for this interface alone, and from one other (RFC 1122, sections 3.2.1.3 and 3.3.6)
+-- a packet from one other host to this interface only (RFC 1122, sections 3.2.1.3 and 3.3.6)
 pub record IsForUs (ours : Interface) (link : EthernetRepr) (v : IpRepr) : Type 0 where
   pub to_station : link.dst_addr ≡ ours.hardware_addr
   pub from_station : hardware.IsUnicast link.src_addr.0

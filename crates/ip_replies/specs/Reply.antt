@@ -8,43 +8,43 @@ use Rattle.ip_wire.specs.TcpRepr as tcp
 use Rattle.ip_wire.specs.declared.EthernetRepr.{EthernetRepr}
 use Rattle.ip_wire.specs.declared.Frame.{Frame}
 
--- the frame has the values of this header, and those of what it carries
+-- the frame has this header, and these contents
 abbrev pub HasValues : Frame → EthernetRepr → Carried → Type 0
 HasValues f header carried = (f.header ≡ header) × (carried_of f.carried ≡ Some carried)
 
--- the bytes of the frame are parsed as itself: each header names what follows it, the lengths fit, and its values are
--- in normal form
+-- the emitted frame parses as itself: each header names what follows it, the lengths fit, and its values are in
+-- normal form
 pub record IsSendable (f : Frame) : Type 0 where
   pub agrees : Agrees f
   pub fits : Fits f
   pub header : ethernet.normal f.header ≡ f.header
   pub carried : normal_carried_of f.carried ≡ carried_of f.carried
 
--- the result is a frame with values of a reply that can be sent, or no values are those of a reply
+-- the result is a frame with the values of a reply that can be emitted, or there is no reply
 abbrev pub Gives : (EthernetRepr → Carried → Type 0) → Option Frame → Type 0
 Gives IsReply None = (header : EthernetRepr) (carried : Carried) → ¬ IsReply header carried
 Gives IsReply (Some f) = IsSendable f × ((header : EthernetRepr) × (carried : Carried) × HasValues f header carried × IsReply header carried)
 
--- the frame stands at the front of the buffer and is parsed there, and the rest stays; where it does not fit, all of
--- the buffer does
+-- the frame is at the front of the buffer and parses there, and the other bytes are unchanged; if it does not fit, the
+-- whole buffer is unchanged
 abbrev pub IsSent : Frame → List ℕ → List ℕ → Option ℕ → Type 0
 IsSent f old new None = (length old < frame_len f) × (new ≡ old)
 IsSent f old new (Some len) =
     (len ≡ frame_len f) × (len ≤ length old) × (drop len new ≡ drop len old)
     × ((carried : Carried) × (carried_of f.carried ≡ Some carried) × IsReadWhole new f.header carried)
 
--- the number of bytes of a transport
+-- the length of a transport packet
 abbrev pub transport_len : Transport → ℕ
 transport_len (datagram v payload) = 8 + length payload
 transport_len (segment v payload) = tcp.header_len_of v + length payload
 transport_len (other payload) = length payload
 
--- the number of bytes of a frame that carries this
+-- the length of a frame with this header and these contents
 abbrev pub reply_len : Carried → ℕ
 reply_len (message v) = 14 + 28
 reply_len (packet v transport) = 14 + (header_len_of v + transport_len transport)
 
--- a reply stands at the front of the buffer and is parsed there, and the rest stays
+-- a reply is at the front of the buffer and parses there, and the other bytes are unchanged
 pub record IsWritten (IsReply : EthernetRepr → Carried → Type 0) (old new : List ℕ) (len : ℕ) : Type 0 where
   pub header : EthernetRepr
   pub carried : Carried
@@ -54,7 +54,7 @@ pub record IsWritten (IsReply : EthernetRepr → Carried → Type 0) (old new : 
   pub fits : len ≤ length old
   pub rest : drop len new ≡ drop len old
 
--- the reply is written, or the buffer stays since there is no reply that fits
+-- the reply is written, or the buffer is unchanged because no reply fits
 abbrev pub Sends : (EthernetRepr → Carried → Type 0) → List ℕ → List ℕ → Option ℕ → Type 0
 Sends IsReply old new None = (new ≡ old) × ((header : EthernetRepr) (carried : Carried) → IsReply header carried → length old < reply_len carried)
 Sends IsReply old new (Some len) = IsWritten IsReply old new len

@@ -1,4 +1,4 @@
--- What TCP replies to a segment where it has no connection (RFC 9293, section 3.10.7).
+-- The replies of TCP to a segment without a connection (RFC 9293, section 3.10.7).
 use Rattle.std.specs.Prelude.{ℕ, ◌≡◌, ◌≢◌, ◌+◌, ◌%◌, ◌^◌, ◌⊎◌, Contains, List, [], Option, Some, None, false, length, min}
 use Rattle.std.specs.Option.{option_map}
 use Rattle.ip_wire.specs.Frame.{Carried, IsReadWhole, packet, segment, type_of}
@@ -16,11 +16,11 @@ use Rattle.ip_replies.specs.Interface.{IsForUs, header_back}
 use Rattle.ip_replies.specs.declared.interface.Interface.{Interface}
 use Rattle.ip_replies.specs.declared.tcp_reply.Offer.{Offer}
 
--- the sequence number so many steps further
+-- the sequence number that many steps later
 abbrev pub ahead : TcpSeqNumber → ℕ → TcpSeqNumber
 ahead seq n = seq_of ((number seq + n) % 2 ^ 32)
 
--- a segment back to the sender of another, with this control and these numbers, and without options
+-- a segment back to the sender, with this control and these numbers, without options
 abbrev pub back : TcpHeader → TcpControl → TcpSeqNumber → Option TcpSeqNumber → TcpHeader
 back asked flag seq ack = record {
   src_port = asked.dst_port;
@@ -36,17 +36,17 @@ back asked flag seq ack = record {
   timestamp = None;
 }
 
--- the RST to a segment that uses so many sequence numbers: <SEQ=SEG.ACK><CTL=RST> if it has an acknowledgement, else
+-- the RST to a segment of this sequence length: <SEQ=SEG.ACK><CTL=RST> if it has an acknowledgement, else
 -- <SEQ=0><ACK=SEG.SEQ+SEG.LEN><CTL=RST,ACK>
 abbrev pub reset_by : Option TcpSeqNumber → TcpHeader → ℕ → TcpHeader
 reset_by (Some ack) asked len = back asked control.Rst ack None
 reset_by None asked len = back asked control.Rst (seq_of 0) (Some (ahead asked.seq_number len))
 
--- the RST to a segment with so many octets of payload
+-- the RST to a segment with a payload of this length
 abbrev pub reset_for : TcpHeader → ℕ → TcpHeader
 reset_for asked payload_len = reset_by asked.ack_number asked (payload_len + control_len asked.control)
 
--- <SEQ=ISS><ACK=SEG.SEQ+1><CTL=SYN,ACK> to a SYN, with the options that the SYN has too; the segment size is always told
+-- <SEQ=ISS><ACK=SEG.SEQ+1><CTL=SYN,ACK> to a SYN, with the options that the SYN has too, and the maximum segment size
 abbrev pub syn_ack : Offer → TcpHeader → TcpHeader
 syn_ack offer syn = record (back syn control.Syn offer.initial (Some (ahead syn.seq_number 1))) {
   window_len = offer.window_len;
@@ -56,7 +56,7 @@ syn_ack offer syn = record (back syn control.Syn offer.initial (Some (ahead syn.
   timestamp = option_map (λ stamp. record { tsval = offer.clock; tsecr = stamp.tsval }) syn.timestamp;
 }
 
--- the reply of a closed port to a segment with this control: a RST is discarded, and everything else is reset
+-- the reply of a closed port to a segment with this control: a RST is discarded, anything else is reset
 abbrev pub closed_by : TcpControl → TcpHeader → Option TcpHeader
 closed_by control.Rst reset = None
 closed_by _ reset = Some reset
@@ -64,8 +64,8 @@ closed_by _ reset = Some reset
 abbrev pub closed_reply : TcpHeader → ℕ → Option TcpHeader
 closed_reply asked payload_len = closed_by asked.control (reset_for asked payload_len)
 
--- the reply of an open port to a segment with this control and this acknowledgement: first a RST is discarded, then an
--- acknowledgement is reset, then a SYN is taken, and the rest is dropped
+-- the reply of an open port to a segment with this control and this acknowledgement: a RST is discarded, an
+-- acknowledgement is reset, a SYN is accepted, and the rest is dropped, checked in this order
 abbrev pub listen_by : TcpControl → Option TcpSeqNumber → TcpHeader → TcpHeader → Option TcpHeader
 listen_by control.Rst _ reset accepted = None
 listen_by _ (Some ack) reset accepted = Some reset
@@ -75,13 +75,13 @@ listen_by _ None reset accepted = None
 abbrev pub listen_reply : Offer → TcpHeader → Option TcpHeader
 listen_reply offer asked = listen_by asked.control asked.ack_number (reset_for asked 0) (syn_ack offer asked)
 
--- the reply to a segment with so many octets of payload, where these ports are open
+-- the reply to a segment with a payload of this length, if these ports are open
 abbrev pub Replies : List ℕ → Offer → TcpHeader → ℕ → TcpHeader → Type 0
 Replies ports offer asked payload_len reply =
     (Contains ports asked.dst_port × (listen_reply offer asked ≡ Some reply))
     ⊎ (¬ Contains ports asked.dst_port × (closed_reply asked payload_len ≡ Some reply))
 
--- a frame with these values is a TCP segment for us, and the other frame the reply to it
+-- a frame with these values is a TCP segment for us, and the other frame is the reply to it
 pub record IsTcpReply (ours : Interface) (ports : List ℕ) (offer : Offer) (asked_header : EthernetRepr) (asked : Carried) (header : EthernetRepr) (carried : Carried) : Type 0 where
   pub ip : IpRepr
   pub tcp : TcpHeader
@@ -100,7 +100,7 @@ abbrev pub TcpRepliesFrame : Interface → List ℕ → Offer → Frame → Ethe
 TcpRepliesFrame ours ports offer request header carried =
     (asked : Carried) × (carried_of request.carried ≡ Some asked) × IsTcpReply ours ports offer request.header asked header carried
 
--- the values of the reply to the frame that these bytes are parsed as
+-- the values of the reply to the frame that the bytes parse as
 abbrev pub TcpRepliesBytes : Interface → List ℕ → Offer → List ℕ → EthernetRepr → Carried → Type 0
 TcpRepliesBytes ours ports offer bytes header carried =
     (asked_header : EthernetRepr) × (asked : Carried) × IsReadWhole bytes asked_header asked × IsTcpReply ours ports offer asked_header asked header carried

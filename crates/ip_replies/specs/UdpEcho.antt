@@ -12,8 +12,8 @@ use Rattle.ip_replies.specs.Interface.{IsForUs, header_back}
 use Rattle.ip_replies.specs.Reply.{HasValues}
 use Rattle.ip_replies.specs.declared.interface.Interface.{Interface}
 
--- a frame with these values is a UDP packet for a port of ours, and the other frame the echo of it. A packet from the
--- same port may be an echo, so it is not echoed again
+-- a frame with these values is a UDP packet for our port, and the other frame is its echo. A packet from the
+-- same port may be an echo, so it gets no echo.
 pub record IsEcho (ours : Interface) (port : ℕ) (asked_header : EthernetRepr) (asked : Carried) (header : EthernetRepr) (carried : Carried) : Type 0 where
   pub ip : IpRepr
   pub udp : UdpRepr
@@ -32,7 +32,7 @@ abbrev pub EchoesFrame : Interface → ℕ → Frame → EthernetRepr → Carrie
 EchoesFrame ours port request header carried =
     (asked : Carried) × (carried_of request.carried ≡ Some asked) × IsEcho ours port request.header asked header carried
 
--- the values of the echo of the frame that these bytes are parsed as
+-- the values of the echo of the frame that the bytes parse as
 abbrev pub EchoesBytes : Interface → ℕ → List ℕ → EthernetRepr → Carried → Type 0
 EchoesBytes ours port bytes header carried =
     (asked_header : EthernetRepr) × (asked : Carried) × IsReadWhole bytes asked_header asked × IsEcho ours port asked_header asked header carried

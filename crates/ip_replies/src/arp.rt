@@ -10,8 +10,8 @@ use crate::interface::Interface;
 use ip_wire::{ArpOperation, ArpRepr, Carried, EthernetAddress, Frame};
 use net_base::ChecksumCapabilities;
 
-/// The reply to a request for the IPv4 address, to the station that asks. None for any other frame, and
-/// where the station that asks is a group.
+/// The reply to a request for the IPv4 address, sent to the station that asks. `None` for any other frame,
+/// and if the source address is not unicast.
 pub fn reply<'a>(request: &Frame<'_>, ours: &Interface) -> Option<Frame<'a>>
     ensures { Gives (ArpRepliesFrame ours.now request.now) result }
 {
@@ -49,8 +49,8 @@ fn reply_to(message: &ArpRepr, ours: &Interface) -> Option<(EthernetAddress, Arp
     }
 }
 
-/// Writes the reply to a frame to the front of `out`, and returns its length. None if there is no
-/// reply or it does not fit, and then nothing is written.
+/// Writes the reply to a frame to the front of `out`, and returns its length. `None` if there is no
+/// reply or it does not fit; then `out` is unchanged.
 pub fn answer(bytes: &[u8], ours: &Interface, out: &mut [u8]) -> Option<usize>
     ensures { Sends (ArpRepliesBytes ours.now bytes.now) out.old out.new result }
 {

@@ -10,7 +10,7 @@ use ip_wire::{
 /// The hop limit of each reply.
 pub const HOP_LIMIT: u8 = 64;
 
-/// One link address, one IPv4 address and one IPv6 address.
+/// One hardware address, one IPv4 address and one IPv6 address.
 #[derive(Debug, Clone, Copy, PartialEq, Eq)]
 pub struct Interface {
     pub hardware_addr: EthernetAddress,
@@ -19,7 +19,7 @@ pub struct Interface {
 }
 
 impl Interface {
-    /// Whether it has this address.
+    /// Returns `true` if the interface has this address.
     pub fn has_addr(&self, addr: &IpAddress) -> bool
         ensures { IsTrue result ↔ IsOurs self.now addr.now }
     {
@@ -29,8 +29,8 @@ impl Interface {
         }
     }
 
-    /// Whether a packet may get a reply: it is for this interface alone, and from one other. So broadcast
-    /// and multicast get none, in either direction (RFC 1122, sections 3.2.1.3 and 3.3.6).
+    /// Returns `true` if a packet may get a reply: it goes from one other host to this interface only.
+    /// Broadcast and multicast packets get no reply, in either direction (RFC 1122, sections 3.2.1.3 and 3.3.6).
     pub fn accepts(&self, link: &EthernetRepr, header: &IpRepr) -> bool
         ensures { IsTrue result ↔ IsForUs self.now link.now header.now }
     {

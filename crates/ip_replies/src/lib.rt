@@ -1,5 +1,5 @@
-//! What a host replies to frames: to an ARP request, to a UDP packet for its echo port, and to a TCP
-//! segment where it has no connection.
+//! The replies of a host to frames: to an ARP request, to a UDP packet for its echo port, and to a TCP
+//! segment without a connection.
 #![tactic(auto)]
 
 pub mod arp;

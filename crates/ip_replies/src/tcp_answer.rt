@@ -1,4 +1,4 @@
-//! What TCP replies to a segment where it has no connection: as frames.
+//! The replies of TCP to a segment without a connection, as frames.
 
 ghost use Rattle.ip_replies.specs.Reply.{Gives, Sends};
 ghost use Rattle.ip_replies.specs.TcpReply.{TcpRepliesBytes, TcpRepliesFrame};
@@ -10,8 +10,8 @@ use crate::tcp_reply::{Offer, reply_to};
 use ip_wire::{Carried, Frame, Transport};
 use net_base::ChecksumCapabilities;
 
-/// The reply to a TCP segment for this interface, where these ports are open: SYN and ACK, or RST. None
-/// for any other frame, and where `reply_to` gives none.
+/// The reply to a TCP segment for this interface, if these ports are open: SYN and ACK, or RST. `None`
+/// for any other frame, and if `reply_to` returns `None`.
 pub fn reply<'a>(
     request: &Frame<'a>,
     ours: &Interface,
@@ -44,8 +44,8 @@ pub fn reply<'a>(
     }
 }
 
-/// Writes the reply to a frame to the front of `out`, and returns its length. None if there is no
-/// reply or it does not fit, and then nothing is written.
+/// Writes the reply to a frame to the front of `out`, and returns its length. `None` if there is no
+/// reply or it does not fit; then `out` is unchanged.
 pub fn answer(
     bytes: &[u8],
     ours: &Interface,

@@ -1,4 +1,4 @@
-//! What TCP replies to a segment where it has no connection (RFC 9293, section 3.10.7): as values.
+//! The replies of TCP to a segment without a connection (RFC 9293, section 3.10.7), as values.
 
 ghost use Rattle.std.specs.Prelude.{◌≡◌, ◌↔◌, ◌<◌, ◌+◌, ◌-◌, ◌^◌, [], IfSome, None, Some, length};
 ghost use Rattle.std.specs.Option.{option_map};
@@ -10,22 +10,22 @@ use ip_wire::{SACK_BLOCKS, TcpControl, TcpRepr, TcpSeqNumber, TcpTimestampRepr};
 /// The largest window scale (RFC 7323, section 2.3).
 const MAX_WINDOW_SCALE: u8 = 14;
 
-/// What the replies of an open port say.
+/// What an open port offers in its replies.
 #[derive(Debug, Clone, Copy, PartialEq, Eq)]
 pub struct Offer {
-    /// The sequence number of the SYN (RFC 9293, section 3.4.1).
+    /// The initial sequence number, that of the SYN (RFC 9293, section 3.4.1).
     pub initial: TcpSeqNumber,
-    /// The receive window in octets. That of a SYN is not scaled.
+    /// The receive window in octets. The window of a SYN is not scaled.
     pub window_len: u16,
-    /// The largest segment that is accepted, in octets.
+    /// The maximum segment size that is accepted, in octets.
     pub max_seg_size: u16,
-    /// The bits by which later windows are shifted. 14 at most; more count as 14.
+    /// The window scale, at most 14; larger values count as 14.
     pub window_scale: u8,
     /// The clock of its timestamps.
     pub clock: u32,
 }
 
-/// The reply of a closed port (RFC 9293, section 3.10.7.1): RST, and none to a RST.
+/// The reply of a closed port (RFC 9293, section 3.10.7.1): RST, or `None` to a RST.
 pub fn closed<'a>(segment: &TcpRepr<'a>) -> Option<TcpRepr<'a>>
     requires { length segment.now.payload.now < 2 ^ 31 - 1 }
     ensures value { option_map header_of result ≡ closed_reply (header_of segment.now) (length segment.now.payload.now) }
@@ -49,7 +49,7 @@ pub fn closed<'a>(segment: &TcpRepr<'a>) -> Option<TcpRepr<'a>>
 }
 
 /// The reply of an open port (RFC 9293, section 3.10.7.2): SYN and ACK to a SYN, with those options that
-/// the SYN has too, and RST to an acknowledgement. None to a RST, and to a segment with none of the three.
+/// the SYN has too, and RST to an acknowledgement. `None` to a RST, and to a segment with none of the three.
 pub fn listening<'a>(segment: &TcpRepr<'a>, offer: &Offer) -> Option<TcpRepr<'a>>
     requires { length segment.now.payload.now < 2 ^ 31 - 1 }
     ensures value { option_map header_of result ≡ listen_reply offer.now (header_of segment.now) }
@@ -77,7 +77,7 @@ pub fn listening<'a>(segment: &TcpRepr<'a>, offer: &Offer) -> Option<TcpRepr<'a>
     })
 }
 
-/// The reply to a segment, where these ports are open.
+/// The reply to a segment, if these ports are open.
 pub fn reply_to<'a>(segment: &TcpRepr<'a>, ports: &[u16], offer: &Offer) -> Option<TcpRepr<'a>>
     requires { length segment.now.payload.now < 2 ^ 31 - 1 }
     ensures value { (reply : TcpHeader) → (option_map header_of result ≡ Some reply)

@@ -1,4 +1,4 @@
-//! Replies to real frames.
+//! Replies to captured frames.
 
 ghost use Rattle.std.specs.Prelude.{◌≡◌};
 
@@ -9,7 +9,7 @@ mod udp_echo;
 use crate::Interface;
 use ip_wire::{EthernetAddress, Ipv4Address, Ipv6Address};
 
-/// The host that is asked.
+/// The host that replies.
 pub fn ours() -> Interface {
     Interface {
         hardware_addr: EthernetAddress([0x02, 0x00, 0x00, 0x00, 0x00, 0x02]),

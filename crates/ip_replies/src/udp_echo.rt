@@ -1,4 +1,4 @@
-//! The echo service of UDP (RFC 862): a packet comes back to its sender with the same payload.
+//! The echo service of UDP (RFC 862): the payload of a packet returns to its sender.
 
 ghost use Rattle.ip_replies.specs.Reply.{Gives, Sends};
 ghost use Rattle.ip_replies.specs.UdpEcho.{EchoesBytes, EchoesFrame};
@@ -8,8 +8,8 @@ use crate::interface::{Interface, header_back};
 use ip_wire::{Carried, Frame, Transport, UdpRepr};
 use net_base::ChecksumCapabilities;
 
-/// The reply to a UDP packet for this port: the same payload, with addresses and ports exchanged. None
-/// for any other frame, for source port 0, and for this port as source: such a packet may be an echo.
+/// The reply to a UDP packet for this port: the same payload, with addresses and ports exchanged. `None`
+/// for any other frame, for source port 0, and for this port as source, because such a packet may be an echo.
 pub fn echo<'a>(request: &Frame<'a>, ours: &Interface, port: u16) -> Option<Frame<'a>>
     ensures { Gives (EchoesFrame ours.now port request.now) result }
 {
@@ -36,8 +36,8 @@ pub fn echo<'a>(request: &Frame<'a>, ours: &Interface, port: u16) -> Option<Fram
     }
 }
 
-/// Writes the reply to a frame to the front of `out`, and returns its length. None if there is no
-/// reply or it does not fit, and then nothing is written.
+/// Writes the reply to a frame to the front of `out`, and returns its length. `None` if there is no
+/// reply or it does not fit; then `out` is unchanged.
 pub fn answer(bytes: &[u8], ours: &Interface, port: u16, out: &mut [u8]) -> Option<usize>
     ensures { Sends (EchoesBytes ours.now port bytes.now) out.old out.new result }
 {

@@ -1,4 +1,4 @@
--- Which flows have one key.
+-- Two flows have the same key exactly if they are one flow.
 use Rattle.std.proofs.Common.{◌≡◌, ◌↔◌, ◌⊎◌, inl, inr, refl, sym, ap, ◌∙◌, arith}
 use Rattle.std.specs.Ordering.{ordering_reverse}
 use Rattle.std.specs.declared.cmp.Ordering.{Ordering}
@@ -11,7 +11,7 @@ use Rattle.ip_wire.specs.Endpoint.{endpoint_cmp}
 same : (a b : Flow) → a.protocol ≡ b.protocol → a.src ≡ b.src → a.dst ≡ b.dst → a ≡ b
 same a b protocol src dst = λ i. record { protocol = protocol i; src = src i; dst = dst i }
 
--- the parts of equal keys
+-- equal keys have equal fields
 abbrev protocols : (k l : FlowKey) → k ≡ l → k.protocol ≡ l.protocol
 protocols k l e = ap (λ (k : FlowKey). k.protocol) e
 
@@ -21,7 +21,7 @@ lows k l e = ap (λ (k : FlowKey). k.low) e
 abbrev highs : (k l : FlowKey) → k ≡ l → k.high ≡ l.high
 highs k l e = ap (λ (k : FlowKey). k.high) e
 
--- flows whose keys are equal are one
+-- flows with equal keys are one flow
 ends : (a b : Flow) (x y : Ordering) → key_by x a ≡ key_by y b → IsOneFlow a b
 ends a b Greater Greater e = inl (same a b (protocols _ _ e) (highs _ _ e) (lows _ _ e))
 ends a b Greater Less e = inr (same a (reversed b) (protocols _ _ e) (highs _ _ e) (lows _ _ e))
@@ -30,7 +30,7 @@ ends a b Less Greater e = inr (same a (reversed b) (protocols _ _ e) (lows _ _ e
 ends a b Equal Greater e = inr (same a (reversed b) (protocols _ _ e) (lows _ _ e) (highs _ _ e))
 ends a b x y e = inl (same a b (protocols _ _ e) (lows _ _ e) (highs _ _ e))
 
--- a flow has the key of the other direction
+-- a flow and its reverse have the same key
 turned : (a : Flow) (x y : Ordering) → x ≡ ordering_reverse y → (x ≡ Equal → a.src ≡ a.dst) → key_by x a ≡ key_by y (reversed a)
 turned a Less Greater e equal = refl
 turned a Greater Less e equal = refl

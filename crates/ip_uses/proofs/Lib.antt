@@ -1,3 +1,3 @@
 pub mod FlowKeys
-pub mod Refused
+pub mod Rejected
 pub mod RouteSteps

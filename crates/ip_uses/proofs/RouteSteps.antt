@@ -1,4 +1,4 @@
--- One more route is looked at.
+-- The choice of a route, one route at a time.
 use Rattle.std.proofs.Common.{◌≡◌, ◌∙◌, ◌+◌, ◌<◌, ◌≤◌, ◌++◌, ◌∷◌, [], ◌⊎◌, inl, inr, ℕ, List, All, MatchOption, Option, None, Some, length, get_or, take, refl, sym, subst, ap, append_assoc, arith}
 use Rattle.std.proofs.lemmas.List.{take_more}
 use Rattle.std.proofs.lemmas.List.Elements.{All-append, All-cons, All-more, All-nil, All-push, All-weaker}
@@ -7,18 +7,18 @@ use Rattle.ip_uses.specs.declared.route.Route.{Route}
 use Rattle.ip_wire.specs.IpCidr.{block_prefix_len}
 use Rattle.ip_wire.specs.declared.IpAddress.{IpAddress}
 
--- what is chosen of the routes
+-- the route that is chosen from a list
 abbrev pub Chosen : List Route → IpAddress → Option Route → Type 0
 Chosen routes addr chosen = MatchOption chosen (All (λ route. ¬ Leads addr route) routes) (IsChosen routes addr)
 
--- a route that has the address is at most, or less than, so long
+-- a route whose block contains the address has at most, or less than, this prefix length
 abbrev IsWithin : IpAddress → ℕ → Route → Type 0
 IsWithin addr n other = Leads addr other → block_prefix_len other.block ≤ n
 
 abbrev IsBelow : IpAddress → ℕ → Route → Type 0
 IsBelow addr n other = Leads addr other → block_prefix_len other.block < n
 
--- a chosen route stays before one that is no longer
+-- a chosen route stays chosen against one whose prefix is not longer
 stays : (former : List Route) (addr : IpAddress) (route next : Route) → IsChosen former addr route → IsWithin addr (block_prefix_len route.block) next
     → IsChosen (former ++ next ∷ []) addr route
 stays former addr route next c within = record {
@@ -30,7 +30,7 @@ stays former addr route next c within = record {
   no_longer = All-push (IsWithin addr (block_prefix_len route.block)) c.after next c.no_longer within;
 }
 
--- the last route is chosen if those before it are shorter
+-- the last route is chosen if the prefixes of the others are shorter
 last : (former : List Route) (addr : IpAddress) (next : Route) → Leads addr next → All (IsBelow addr (block_prefix_len next.block)) former
     → IsChosen (former ++ next ∷ []) addr next
 last former addr next leads below = record {
@@ -42,7 +42,7 @@ last former addr next leads below = record {
   no_longer = All-nil (IsWithin addr (block_prefix_len next.block));
 }
 
--- all routes are shorter than one that is longer than the chosen one
+-- all prefixes are shorter than one that is longer than the chosen one
 below_longer : (former : List Route) (addr : IpAddress) (route : Route) (n : ℕ) → IsChosen former addr route → block_prefix_len route.block < n
     → All (IsBelow addr n) former
 below_longer former addr route n c longer =
@@ -52,7 +52,7 @@ below_longer former addr route n c longer =
     let after : All P c.after = All-weaker (IsWithin addr m) P (λ other h leads. let less = h leads in omega (arith, less, longer)) c.after c.no_longer in
     subst (All P) (sym c.listed) (All-append P c.before (route ∷ c.after) before (All-cons P route c.after (λ _. longer) after))
 
--- a route that does not have the address changes nothing
+-- a route whose block does not contain the address changes nothing
 pub passed : (routes : List Route) (addr : IpAddress) (i : ℕ) (next : Route) (chosen : Option Route) → i < length routes → next ≡ get_or routes i next
     → ¬ Leads addr next → Chosen (take i routes) addr chosen → Chosen (take (i + 1) routes) addr chosen
 passed routes addr i next None h is apart c = All-more (λ route. ¬ Leads addr route) routes i next h c (subst (λ r. ¬ Leads addr r) is apart)
@@ -60,7 +60,7 @@ passed routes addr i next (Some route) h is apart c =
     let more : take (i + 1) routes ≡ take i routes ++ next ∷ [] = take_more routes i next h ∙ ap (λ r. take i routes ++ r ∷ []) (sym is) in
     subst (λ l. IsChosen l addr route) (sym more) (stays (take i routes) addr route next c (λ leads. absurd (apart leads)))
 
--- of the chosen route and one that has the address the better one is chosen
+-- of the chosen route and another that contains the address, the better one is chosen
 pub taken : (routes : List Route) (addr : IpAddress) (i : ℕ) (next : Route) (chosen : Option Route) (result : Route) → i < length routes → next ≡ get_or routes i next
     → Leads addr next → Chosen (take i routes) addr chosen → MatchOption chosen (result ≡ next) (IsBetter next result) → IsChosen (take (i + 1) routes) addr result
 taken routes addr i next None result h is leads c better =

@@ -1,15 +1,15 @@
--- Routes: of those whose block has an address the longest prefix decides (RFC 1812, section 5.2.4.3).
+-- Routes: among the blocks that contain an address, the longest prefix decides (RFC 1812, section 5.2.4.3).
 use Rattle.std.specs.Prelude.{◌≡◌, ◌<◌, ◌≤◌, ◌⊎◌, ◌++◌, ◌∷◌, All, List}
 use Rattle.ip_uses.specs.declared.route.Route.{Route}
 use Rattle.ip_wire.specs.IpCidr.{IsIn, block_prefix_len}
 use Rattle.ip_wire.specs.declared.IpAddress.{IpAddress}
 
--- the route's block has the address
+-- the block of the route contains the address
 abbrev pub Leads : IpAddress → Route → Type 0
 Leads addr route = IsIn route.block addr
 
--- a route of the list whose block has the address: of the others that have it, those before it have shorter prefixes, and
--- those after it no longer ones
+-- a route of the list whose block contains the address. Earlier routes that contain it have shorter prefixes, and later
+-- ones have no longer prefixes.
 pub record IsChosen (routes : List Route) (addr : IpAddress) (route : Route) : Type 0 where
   pub before : List Route
   pub after : List Route
@@ -18,7 +18,7 @@ pub record IsChosen (routes : List Route) (addr : IpAddress) (route : Route) : T
   pub shorter : All (λ other. Leads addr other → block_prefix_len other.block < block_prefix_len route.block) before
   pub no_longer : All (λ other. Leads addr other → block_prefix_len other.block ≤ block_prefix_len route.block) after
 
--- what is chosen of a former and a later route
+-- the chosen one of an earlier and a later route
 abbrev pub IsBetter : Route → Route → Route → Type 0
 IsBetter later result former =
     (result ≡ former) × (block_prefix_len later.block ≤ block_prefix_len former.block)

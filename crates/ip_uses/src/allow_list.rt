@@ -6,7 +6,7 @@ ghost use Rattle.ip_wire.specs.IpCidr.{IsIn};
 
 use ip_wire::{IpAddress, IpCidr};
 
-/// Whether the address is in one of the blocks.
+/// Returns `true` if the address is in one of the blocks.
 pub fn is_allowed(list: &[IpCidr], addr: &IpAddress) -> bool
     ensures { IsTrue result ↔ Any (λ block. IsIn block addr.now) list.now }
 {

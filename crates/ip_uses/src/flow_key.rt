@@ -18,7 +18,7 @@ pub struct Flow {
     pub dst: IpEndpoint,
 }
 
-/// The protocol and the two ends of a flow. The end that is first in the order of endpoints is `low`.
+/// The protocol and the two endpoints of a flow. The lower endpoint is `low`.
 #[derive(Debug, Clone, Copy, PartialEq, Eq, PartialOrd, Ord, Hash)]
 pub struct FlowKey {
     pub protocol: IpProtocol,
@@ -27,7 +27,7 @@ pub struct FlowKey {
 }
 
 impl Flow {
-    /// The flow of a frame. None unless it carries a UDP or TCP packet.
+    /// The flow of a frame, or `None` unless it carries a UDP or TCP packet.
     pub fn of_frame(frame: &Frame<'_>) -> Option<Flow>
         ensures { result ≡ flow_of frame.now }
     {
@@ -62,7 +62,8 @@ impl Flow {
         }
     }
 
-    /// The key of the flow: two flows have one key exactly if they are one, in either direction.
+    /// The key of the flow. Two flows have the same key exactly if they are equal or the reverse of each
+    /// other.
     pub fn key(&self) -> FlowKey
         ensures value { result ≡ key_of self.now }
         ensures tells { (other : Flow) → (key_of other ≡ result) ↔ IsOneFlow other self.now }
@@ -83,7 +84,7 @@ impl Flow {
     }
 }
 
-// Two endpoints compare as the reverse of the exchanged ones, and equal ones alone as `Equal`.
+// Exchanging two endpoints reverses their order; only equal endpoints compare as `Equal`.
 fn in_order(a: &IpEndpoint, b: &IpEndpoint)
     ensures order { ⟦<IpEndpoint as Ord>⟧.cmp a.now b.now ≡ endpoint_cmp a.now b.now }
     ensures reverse { endpoint_cmp a.now b.now ≡ ordering_reverse (endpoint_cmp b.now a.now) }

@@ -1,11 +1,11 @@
-//! Uses of the library, each a short file that stands alone. `read_frame` is the first to read.
+//! Uses of the library, each in a short file of its own. Read `read_frame` first.
 #![tactic(auto)]
 
 pub mod allow_list;
 pub mod flow_key;
 pub mod read_frame;
-pub mod refuse_checksum;
 pub mod route;
 #[cfg(test)]
 mod tests;
+pub mod verify_checksum;
 pub mod write_frame;

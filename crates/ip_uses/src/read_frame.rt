@@ -9,7 +9,7 @@ ghost use Rattle.ip_wire.specs.declared.UdpRepr.{UdpRepr};
 use ip_wire::{Carried, Frame, IpRepr, Transport, UdpRepr};
 use net_base::ChecksumCapabilities;
 
-/// The IP header, UDP header and payload. None unless the frame is a UDP packet with valid checksums.
+/// The IP header, UDP header and payload. `None` unless it is a UDP packet with valid checksums.
 pub fn udp_packet(bytes: &[u8]) -> Option<(IpRepr, UdpRepr, &[u8])>
     ensures some { IfSome result (λ (header, ports, payload). (link : EthernetRepr)
         × IsReadWhole bytes.now link (packet header (datagram ports payload.now))) }

@@ -1,4 +1,4 @@
-//! The choice of a route (RFC 1812, section 5.2.4.3): the longest prefix that has the address.
+//! The choice of a route (RFC 1812, section 5.2.4.3): the longest prefix that contains the address.
 
 ghost use Rattle.std.specs.Prelude.{◌≡◌, ◌≤◌, ◌<◌, All, MatchOption};
 ghost use Rattle.ip_uses.specs.Route.{IsBetter, IsChosen, Leads};
@@ -13,8 +13,8 @@ pub struct Route {
     pub next_hop: IpAddress,
 }
 
-/// The route with the longest prefix whose block has the address; of several the first. None exactly if
-/// no block has it.
+/// The route with the longest prefix whose block contains the address, and of several the first. `None`
+/// if no block contains it.
 pub fn choose(routes: &[Route], addr: &IpAddress) -> Option<Route>
     ensures { MatchOption result (All (λ route. ¬ Leads addr.now route) routes.now) (IsChosen routes.now addr.now) }
 {

@@ -1,12 +1,12 @@
-//! Each use, on frames that are written out here byte by byte.
+//! Each use, on frames that are listed byte by byte.
 
 ghost use Rattle.std.specs.Prelude.{◌≡◌, ◌≤◌, ◌+◌, length};
 
 use crate::allow_list::is_allowed;
 use crate::flow_key::{Flow, FlowKey};
 use crate::read_frame::udp_packet;
-use crate::refuse_checksum::{udp_ports, verified_by_the_device};
 use crate::route::{Route, choose};
+use crate::verify_checksum::{parse_udp_ports, verified_by_the_device};
 use crate::write_frame::write_udp;
 use ip_wire::{
     EthernetAddress, Frame, IpAddress, IpCidr, IpEndpoint, IpProtocol, IpRepr, Ipv4Address,
@@ -111,7 +111,7 @@ fn writes_a_frame_over_ipv6(rt: HostRuntime) {
 }
 
 #[test]
-fn refuses_a_wrong_checksum(rt: HostRuntime) {
+fn rejects_a_wrong_checksum(rt: HostRuntime) {
     let verify = ChecksumCapabilities::default();
     let trust = verified_by_the_device();
     for (checksum, verified, trusted) in [
@@ -127,8 +127,11 @@ fn refuses_a_wrong_checksum(rt: HostRuntime) {
             Ipv4Address::new(192, 168, 1, 1),
             Ipv4Address::new(192, 168, 1, 2),
         );
-        assert_eq!(rt; udp_ports(&packet, src, dst, &verify).is_ok(), verified);
-        assert_eq!(rt; udp_ports(&packet, src, dst, &trust).is_ok(), trusted);
+        assert_eq!(rt;
+            parse_udp_ports(&packet, src, dst, &verify).is_ok(),
+            verified
+        );
+        assert_eq!(rt; parse_udp_ports(&packet, src, dst, &trust).is_ok(), trusted);
     }
 }
 

@@ -8,8 +8,8 @@ ghost use Rattle.ip_wire.specs.declared.Transport.TheVariants as transport;
 use ip_wire::{EthernetAddress, Frame, IpRepr, UdpRepr, laws};
 use net_base::ChecksumCapabilities;
 
-/// Writes the frame to the front of `buffer` with its checksums, and returns its length. None if it
-/// does not fit, for a payload that is too long, and for destination port 0.
+/// Writes the frame to the front of `buffer` with its checksums, and returns its length. `None` if it
+/// does not fit, if the payload is too long, or if the destination port is 0.
 pub fn write_udp(
     buffer: &mut [u8],
     src_addr: EthernetAddress,

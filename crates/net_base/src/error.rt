@@ -5,8 +5,8 @@ ghost use Rattle.std.specs.Prelude.{Some, codes};
 use std::error::Error as StdError;
 use std::fmt;
 
-/// The bytes do not parse: they are too few, a length field does not fit, or a version or checksum
-/// is wrong. Or they are no hardware address of the medium.
+/// The bytes do not parse: there are too few, a length field is impossible, or a version or checksum
+/// is wrong. Or the bytes are no hardware address of the medium.
 #[derive(Debug, Clone, Copy, PartialEq, Eq)]
 pub struct Error;
 

@@ -1,4 +1,4 @@
-//! What the test crates share.
+//! Helpers of the test crates.
 #![tactic(auto)]
 
 ghost use Rattle.std.specs.Prelude.{◌≡◌};
@@ -7,7 +7,7 @@ use ip_wire::{IpProtocol, Ipv4Address, Ipv4Repr};
 use std::fmt;
 use std::fmt::{Display, Write};
 
-/// The values that each byte of a buffer has before something is written.
+/// The value of each byte of a buffer before a write.
 pub const OLD: [u8; 3] = [0x00, 0xa5, 0xff];
 
 /// An IPv4 packet of 24 octets from 17.18.19.20 to 33.34.35.36.
@@ -16,7 +16,7 @@ pub const IPV4_PACKET: [u8; 24] = [
     0x21, 0x22, 0x23, 0x24, 0xaa, 0x00, 0x00, 0xff,
 ];
 
-/// The values of the IPv4 packet's header.
+/// The values of that packet's header.
 pub fn ipv4_header() -> Ipv4Repr
     ensures { result.payload_len ≡ 4 }
 {
@@ -37,7 +37,7 @@ pub fn copy_to(buffer: &mut [u8], bytes: &[u8]) -> usize {
     buffer.len()
 }
 
-/// A writer that compares what it is given with expected bytes. It fails behind the last of them.
+/// A writer that compares its input with expected bytes. It fails behind the last of them.
 #[derive(Drop)]
 struct Expecting<'a> {
     rest: &'a [u8],
@@ -61,8 +61,8 @@ impl Write for Expecting<'_> {
     }
 }
 
-/// Whether a value prints as this text, and fails exactly if its writer does: to a writer with room
-/// for fewer bytes it writes that many of the text and returns an error.
+/// Returns whether a value prints as this text, and fails exactly if its writer does: with room for fewer
+/// bytes it writes that many of the text and returns an error.
 pub fn prints<T: Display>(value: &T, text: &str) -> bool {
     for room in 0..=text.len() {
         let mut writer = Expecting {

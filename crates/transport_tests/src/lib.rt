@@ -1,4 +1,4 @@
-//! Tests of checksums, UDP and TCP, and of views on what other views lend.
+//! Tests of checksums, UDP and TCP, and of views on payloads that other views borrow.
 #![tactic(auto)]
 
 #[cfg(test)]

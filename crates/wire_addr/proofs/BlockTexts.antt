@@ -1,4 +1,4 @@
--- Texts of blocks: the cut before the number is the only one.
+-- Texts of blocks: only the last slash separates the address and the prefix length.
 use Rattle.std.proofs.Common.{◌≡◌, ℕ, ◌^◌, ◌<◌, ◌≤◌, List, Option, Some, Result, Err, MatchOption, Bor, subst, lit≤}
 use Rattle.std.specs.Net.Grammar.{Parses}
 use Rattle.std.specs.Option.{ok_or}
@@ -8,20 +8,20 @@ use Rattle.wire_addr.specs.BlockText.{IsBlockText}
 use Rattle.wire_addr.specs.Printed.{block_text}
 use Rattle.wire_text.specs.Ending.{EndsInNumber}
 use Rattle.wire_text.proofs.Endings.{ends_once, ends_printed}
-use Rattle.wire_text.proofs.Refusals.{refused, was_none, was_some}
+use Rattle.wire_text.proofs.Rejections.{rejected, was_none, was_some}
 
 module _ (ReadsAddress : List ℕ → List ℕ → Type 0) (places most : ℕ) where
   -- a text that does not end in a number parses as no block
   pub no_number : {E F : Type 0} (text : List ℕ) (found : Option (Bor (List ℕ) × ℕ)) (e u : E) (result : Result Block F) → Err e ≡ ok_or found u → MatchOption found ((front : List ℕ) (n : ℕ) → ¬ (EndsInNumber 47 places most text front n)) (λ f. EndsInNumber 47 places most text f.0.now f.1) → IsErr result → Parses (IsBlockText ReadsAddress places most) text result
   no_number text found e u result same h failed =
       let none = was_none _ _ found e u same h in
-      refused (IsBlockText ReadsAddress places most) text result failed (λ block k. none k.address_text block.prefix_len k.prefix_len)
+      rejected (IsBlockText ReadsAddress places most) text result failed (λ block k. none k.address_text block.prefix_len k.prefix_len)
 
   -- a text whose front is no address parses as no block
   pub no_address : {F : Type 0} (text : List ℕ) (found : Option (Bor (List ℕ) × ℕ)) (front : Bor (List ℕ)) (n : ℕ) (result : Result Block F) → found ≡ Some (front, n) → MatchOption found ((front : List ℕ) (n : ℕ) → ¬ (EndsInNumber 47 places most text front n)) (λ f. EndsInNumber 47 places most text f.0.now f.1) → ((address : List ℕ) → ¬ (ReadsAddress front.now address)) → IsErr result → Parses (IsBlockText ReadsAddress places most) text result
   no_address text found front n result same h none failed =
       let ends = was_some _ _ found (front, n) same h in
-      refused (IsBlockText ReadsAddress places most) text result failed (λ block k.
+      rejected (IsBlockText ReadsAddress places most) text result failed (λ block k.
       let (here, _) = ends_once 47 places most (lit≤ tt) text k.address_text front.now block.prefix_len n k.prefix_len ends in
       none block.address (subst (λ t. ReadsAddress t block.address) here k.address))
 

@@ -1,4 +1,4 @@
--- Texts of blocks, worked: what is read, and what is not.
+-- Worked examples of block texts: which parse, and which do not.
 use Rattle.std.proofs.Common.{ℕ, ◌<◌, ◌⊎◌, List, [], ◌∷◌, ap, arith, codes, inl, inr, length, lit≤, refl}
 use Rattle.wire_addr.specs.Block.{Block}
 use Rattle.wire_addr.specs.BlockText.{ReadsIpv4Block, ReadsIpv6Block}
@@ -29,7 +29,7 @@ ipv6-three_digits = record {
   prefix_len = record { digits = codes "008"; spelled = refl; number = number_sound 10 3 128 (codes "008") 8 refl };
 }
 
--- a number that is longer or greater than it may be
+-- prefix lengths with too many digits, or too large
 wrong_end : (places most : ℕ) (text front other : List ℕ) (n m : ℕ) → places < 6 → most < 65536 → (k : EndsInNumber 47 5 65535 text front n) → (places < length k.digits) ⊎ (most < n) → ¬ (EndsInNumber 47 places most text other m)
 wrong_end places most text front other n m few low k wrong h =
     let wider = ends_wider 47 5 65535 (lit≤ tt) text other m places most (omega arith) (omega arith) h in

@@ -1,4 +1,4 @@
--- Prefixes and blocks, by the numbers that the octets spell.
+-- Prefixes and blocks, by the big-endian numbers of the octets.
 use Rattle.std.proofs.Common.{◌≡◌, ◌↔◌, ℕ, suc, ◌+◌, ◌-◌, ◌*◌, ◌/◌, ◌%◌, ◌^◌, ◌<◌, ◌≤◌, inl, inr, Bool, true, false, IsTrue, Decides, List, nat_eq, nat_le, bit_and, bit_or, arith, refl, sym, ◌∙◌, ap}
 use Rattle.std.specs.Int.{bit_at, bytes_high_first}
 use Rattle.std.specs.Int.Count.{count_leading_zeros, leading_unique}
@@ -17,20 +17,20 @@ use Rattle.wire_addr.specs.Prefix.{AgreeFirst, IsMasked, IsNetmask, bit_of, numb
 use Rattle.wire_addr.specs.Block.{IsWithin, IsLeast, IsGreatest}
 use Rattle.wire_addr.proofs.Numbers.{AreOctets-bytes, bit_at-number_of, number_of-bytes, number_of-lt}
 
--- ---- the first n bits agree where the numbers without their other s bits are equal
+-- ---- the first n bits agree exactly if the numbers without their lowest s bits are equal
 
--- shifting right takes the lowest bits away
+-- shifting right removes the lowest bits
 bit_at-shifted : (x s i : ℕ) → bit_at (x / 2 ^ s) i ≡ bit_at x (s + i)
 bit_at-shifted x s i = ap (λ v. v % 2) (shr-shr x s i)
 
--- two numbers whose parts above s are the same agree in each bit from s on
+-- two numbers that are equal above bit s agree in each bit from s on
 agree_from_shifted : (s x y i : ℕ) → x / 2 ^ s ≡ y / 2 ^ s → s ≤ i → bit_at x i ≡ bit_at y i
 agree_from_shifted s x y i same above =
     let e : i ≡ s + (i - s) = omega arith in
     ap (λ p. bit_at x p) e ∙ sym (bit_at-shifted x s (i - s)) ∙ ap (λ v. bit_at v (i - s)) same
     ∙ bit_at-shifted y s (i - s) ∙ sym (ap (λ p. bit_at y p) e)
 
--- and the other way
+-- the converse
 shifted_from_agree : (n s x y : ℕ) → x < 2 ^ (n + s) → y < 2 ^ (n + s)
     → ((i : ℕ) → s ≤ i → i < n + s → bit_at x i ≡ bit_at y i)
     → x / 2 ^ s ≡ y / 2 ^ s
@@ -56,7 +56,7 @@ numbers_from_agree m n s xs ys are_xs are_ys e agree =
     bit_at-number_of m (8 * m - 1 - i) i xs are_xs place ∙ agree (8 * m - 1 - i) (omega arith)
     ∙ sym (bit_at-number_of m (8 * m - 1 - i) i ys are_ys place))
 
--- a bit behind the octets is a zero
+-- a bit behind the last octet is a zero
 behind : (m : ℕ) (xs : List ℕ) (k : ℕ) → AreOctets m xs → 8 * m ≤ k → bit_of xs k ≡ 0
 behind m xs k are past =
     rw (get_or_past xs (k / 8) 0 (omega (arith, are.0))) (bit_at-zero (7 - k % 8))
@@ -79,7 +79,7 @@ IsMasked-number m n s xs ys are_xs are_ys e is = record {
   ];
 }
 
--- octets with the number of a mask are a netmask
+-- octets whose number is a mask are a netmask
 pub IsNetmask-number : (m n s : ℕ) (xs : List ℕ) → AreOctets m xs → n + s ≡ 8 * m → number_of xs ≡ 2 ^ (8 * m) - 2 ^ s
     → IsNetmask n xs
 IsNetmask-number m n s xs are e is = record {
@@ -179,7 +179,7 @@ with_last-bit m n s k j xs r are e small from place =
     ∙ ap (λ v. bit_at v j) (number_of-with_last m n s xs r are e small)
     ∙ bit_at_cat_low (number_of xs / 2 ^ s) s r j (omega arith)
 
--- a block that is within another has at least as many bits: else the addresses that end in zeros and in ones were both in the other
+-- a block that is within another has at least as many bits: otherwise its lowest and highest address would differ there
 pub prefix_from_within : (m p q : ℕ) (xs ys : List ℕ) → AreOctets m xs → q ≤ 8 * m
     → IsWithin m (record { address = xs; prefix_len = p }) (record { address = ys; prefix_len = q }) → q ≤ p
 prefix_from_within m p q xs ys are bound within =

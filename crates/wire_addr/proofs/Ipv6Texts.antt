@@ -17,12 +17,12 @@ either xs ys = by_test (bytes_eq xs ys) (bytes_eq-Decides xs ys)
     by_test true is = inl (is.0 refl)
     by_test false is = inr (λ same. false≢true (is.1 same))
 
--- a test that does not hold
+-- a test that is false
 is_false : (b : Bool) → ¬ (b ≡ true) → b ≡ false
 is_false true h = absurd (h refl)
 is_false false h = refl
 
--- the text of an address behind the prefix, and of any other
+-- the text of an IPv4-mapped address, and of any other
 pub ipv6_text-mapped : (octets ipv4 : List ℕ) → octets ≡ mapped_prefix ++ ipv4 → ipv6_text octets ≡ codes "::ffff:" ++ dotted ipv4
 unfolding ipv6_text
 ipv6_text-mapped octets ipv4 is = rw is refl

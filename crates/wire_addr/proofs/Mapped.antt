@@ -5,7 +5,7 @@ use Rattle.std.proofs.NetLemmas.Arrays.{sixteen_items}
 use Rattle.wire_addr.specs.Octets.{AreOctets, mapped_prefix}
 use Rattle.wire_addr.specs.Prefix.{number_of}
 
--- sixteen octets as they stand
+-- sixteen octets, listed
 module _ (a b c d e f g h i j k l m n o p : ℕ) where
   abbrev sixteen : List ℕ
   sixteen = a ∷ b ∷ c ∷ d ∷ e ∷ f ∷ g ∷ h ∷ i ∷ j ∷ k ∷ l ∷ m ∷ n ∷ o ∷ p ∷ []

@@ -1,4 +1,4 @@
--- Blocks of either version within one another.
+-- Blocks of either version that contain each other.
 use Rattle.std.proofs.Common.{◌≤◌, ◌∙◌, refl, arith}
 use Rattle.wire_addr.proofs.Blocks.{prefix_from_within}
 use Rattle.wire_ends.specs.IpAddress.{IsAddress, bits_of}
@@ -7,16 +7,16 @@ use Rattle.wire_ends.specs.declared.ip_address.IpAddress.TheVariants as ip
 use Rattle.wire_ends.specs.declared.ip_cidr.IpCidr.{IpCidr}
 use Rattle.wire_ends.specs.declared.ip_cidr.IpCidr.TheVariants.{Ipv4, Ipv6}
 
--- a block has the address that it was made of
+-- a block contains the address from which it was made
 own_address : (block : IpCidr) → IsIn block (block_address block)
 own_address (Ipv4 block) = λ k below. refl
 own_address (Ipv6 block) = λ k below. refl
 
--- so that one that is within another has its address there
+-- so a block within another has its address in that one
 pub IsWithin-address : (inner outer : IpCidr) → IsAddress (block_address inner) → IsWithin inner outer → IsIn outer (block_address inner)
 IsWithin-address inner outer is within = within (block_address inner) is (own_address inner)
 
--- and at least as many bits
+-- and its prefix is at least as long
 pub IsWithin-prefix_len : (inner outer : IpCidr) → IsAddress (block_address inner) → block_prefix_len outer ≤ bits_of (block_address outer)
     → IsWithin inner outer → block_prefix_len outer ≤ block_prefix_len inner
 IsWithin-prefix_len (Ipv4 inner) (Ipv4 outer) is bound within =
@@ -26,7 +26,7 @@ IsWithin-prefix_len (Ipv6 inner) (Ipv4 outer) is bound within = absurd (IsWithin
 IsWithin-prefix_len (Ipv6 inner) (Ipv6 outer) is bound within =
     prefix_from_within 16 inner.prefix_len outer.prefix_len inner.address outer.address is bound (λ octets. within (ip.Ipv6 octets))
 
--- and both are enough
+-- the two together suffice
 pub address-IsWithin : (inner outer : IpCidr) → IsIn outer (block_address inner) → block_prefix_len outer ≤ block_prefix_len inner
     → IsWithin inner outer
 address-IsWithin (Ipv4 inner) (Ipv4 outer) member enough (ip.Ipv4 octets) are is = λ k below. member k below ∙ is k (omega (arith, enough))

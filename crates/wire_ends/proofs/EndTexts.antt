@@ -1,4 +1,4 @@
--- Texts of addresses, blocks and endpoints of either version: which there are none of, and that each is read in one way.
+-- Texts of addresses, blocks and endpoints of either version: which ones are rejected, and that each has one value.
 use Rattle.std.proofs.Common.{◌≡◌, ◌≢◌, ℕ, List, [], ◌∷◌, ◌++◌, ◌≤◌, Option, Some, Result, Err, MatchOption, Bor, length, take, drop, refl, sym, ap, ◌∙◌, subst, arith, lit≤, inl, inr, take_at, length-append}
 use Rattle.std.specs.Net.Grammar.{Parses}
 use Rattle.std.specs.Option.{ok_or}
@@ -20,10 +20,11 @@ use Rattle.wire_ends.specs.declared.ip_endpoint.IpEndpoint.{IpEndpoint}
 use Rattle.wire_text.specs.Ending.{EndsInNumber}
 use Rattle.wire_text.proofs.Apart.{IsFirstMark, dotted_first, ipv6_first, mark_before, no_port, same_mark}
 use Rattle.wire_text.proofs.Endings.{ends_once, ends_printed, ends_wider}
-use Rattle.wire_text.proofs.Refusals.{refused, was_none, was_some}
+use Rattle.wire_text.proofs.Rejections.{rejected, was_none, was_some}
 
--- ---- none
+-- ---- rejected texts
 
+-- a text that is an address of neither version is no address
 pub no_address : (text : List ℕ) → ((octets : List ℕ) → ¬ (ReadsIpv4 text octets)) → ((octets : List ℕ) → ¬ (ReadsIpv6 text octets)) → (addr : IpAddress) → ¬ (ReadsAddress text addr)
 no_address text four six (ip.Ipv4 octets) h = four octets h
 no_address text four six (ip.Ipv6 octets) h = six octets h
@@ -41,6 +42,7 @@ bracket_mark text rest e = record { front = []; rest = rest; digits = tt; spelle
 
 -- ---- hosts
 
+-- an IPv4 text does not begin with a bracket
 pub no_bracket : (text octets rest : List ℕ) → text ≡ 91 ∷ rest → ReadsIpv4 text octets → ⊥
 no_bracket text octets rest e h = absurd (omega (arith, same_mark 91 46 text (lit≤ tt) (lit≤ tt) (bracket_mark text rest e) (ipv4_mark text octets h)))
 
@@ -49,12 +51,12 @@ ends_alike front other e =
     let long : length other ≡ length front = omega (arith, ap length e, length-append front (93 ∷ []), length-append other (93 ∷ [])) in
     sym (take_at front (93 ∷ []) (length front) refl) ∙ ap (take (length front)) e ∙ take_at other (93 ∷ []) (length front) long
 
--- no brackets, and no IPv4 text
+-- no brackets, and no IPv4 address
 pub no_plain_host : (text : List ℕ) → ((inner : List ℕ) → text ≢ bracketed inner) → ((octets : List ℕ) → ¬ (ReadsIpv4 text octets)) → (addr : IpAddress) → ¬ (ReadsHost text addr)
 no_plain_host text none four (ip.Ipv4 octets) h = four octets h
 no_plain_host text none four (ip.Ipv6 octets) h = none h.0 h.1
 
--- brackets round what is no IPv6 text
+-- brackets around a text that is no IPv6 address
 pub no_inner_host : (text inner : List ℕ) → text ≡ bracketed inner → ((octets : List ℕ) → ¬ (ReadsIpv6 inner octets)) → (addr : IpAddress) → ¬ (ReadsHost text addr)
 no_inner_host text inner e none (ip.Ipv4 octets) h = no_bracket text octets (inner ++ 93 ∷ []) e h
 no_inner_host text inner e none (ip.Ipv6 octets) h =
@@ -63,19 +65,21 @@ no_inner_host text inner e none (ip.Ipv6 octets) h =
 
 -- ---- endpoints
 
+-- a text that is no address and does not end in a port is no endpoint
 pub no_port_text : {E F : Type 0} (text : List ℕ) (found : Option (Bor (List ℕ) × ℕ)) (e u : E) (result : Result IpEndpoint F) → Err e ≡ ok_or found u → MatchOption found ((front : List ℕ) (n : ℕ) → ¬ (EndsInNumber 58 5 65535 text front n)) (λ f. EndsInNumber 58 5 65535 text f.0.now f.1) → ((addr : IpAddress) → ¬ (ReadsAddress text addr)) → IsErr result → Parses ReadsEndpoint text result
 no_port_text text found e u result same h alone failed =
     let none = was_none _ _ found e u same h in
-    refused ReadsEndpoint text result failed (λ endpoint.
+    rejected ReadsEndpoint text result failed (λ endpoint.
     elim [
       | inl k ↦ alone endpoint.addr k.0
       | inr k ↦ none k.host_text endpoint.port k.port
     ])
 
+-- a text that is no address, and whose front is no host, is no endpoint
 pub no_host_text : {F : Type 0} (text : List ℕ) (found : Option (Bor (List ℕ) × ℕ)) (front : Bor (List ℕ)) (n : ℕ) (result : Result IpEndpoint F) → found ≡ Some (front, n) → MatchOption found ((front : List ℕ) (n : ℕ) → ¬ (EndsInNumber 58 5 65535 text front n)) (λ f. EndsInNumber 58 5 65535 text f.0.now f.1) → ((addr : IpAddress) → ¬ (ReadsAddress text addr)) → ((addr : IpAddress) → ¬ (ReadsHost front.now addr)) → IsErr result → Parses ReadsEndpoint text result
 no_host_text text found front n result same h alone none failed =
     let ends = was_some _ _ found (front, n) same h in
-    refused ReadsEndpoint text result failed (λ endpoint.
+    rejected ReadsEndpoint text result failed (λ endpoint.
     elim [
       | inl k ↦ alone endpoint.addr k.0
       | inr k ↦
@@ -85,11 +89,12 @@ no_host_text text found front n result same h alone none failed =
 
 -- ---- printed
 
--- what is printed before a port is read as the address, if its text alone is
+-- the printed text before a port parses as the address if its own text does
 printed_host : (addr : IpAddress) → ReadsAddress (address_text addr) addr → ReadsHost (host_text addr) addr
 printed_host (ip.Ipv4 octets) h = h
 printed_host (ip.Ipv6 octets) h = (ipv6_text octets, refl, h)
 
+-- a printed endpoint parses as that endpoint, if its address does
 pub printed_endpoint : (endpoint : IpEndpoint) → endpoint.port ≤ 65535 → ReadsAddress (address_text endpoint.addr) endpoint.addr → ReadsEndpoint (endpoint_text endpoint) endpoint
 printed_endpoint endpoint fits h =
     inr (record {
@@ -98,8 +103,9 @@ printed_endpoint endpoint fits h =
       port = ends_printed 58 5 65535 endpoint.port (host_text endpoint.addr) (lit≤ tt) (lit≤ tt) (lit≤ tt) fits;
     })
 
--- ---- in one way
+-- ---- one value per text
 
+-- a text parses as at most one address
 pub address_once : (text : List ℕ) (a b : IpAddress) → ReadsAddress text a → ReadsAddress text b → a ≡ b
 address_once text (ip.Ipv4 a) (ip.Ipv4 b) h k = ap ip.Ipv4 (ipv4_once text a b h k)
 address_once text (ip.Ipv4 a) (ip.Ipv6 b) h k = absurd (not_both text a b h k)
@@ -113,6 +119,7 @@ blocks_apart text a b h k =
     let (same, _) = ends_once 47 3 128 (lit≤ tt) text h.address_text k.address_text a.prefix_len b.prefix_len wider k.prefix_len in
     not_both k.address_text a.address b.address (subst (λ t. ReadsIpv4 t a.address) same h.address) k.address
 
+-- a text parses as at most one block
 pub cidr_once : (text : List ℕ) (a b : IpCidr) → ReadsCidr text a → ReadsCidr text b → a ≡ b
 cidr_once text (cidr.Ipv4 a) (cidr.Ipv4 b) h k = ap cidr.Ipv4 (one_block ReadsIpv4 2 32 text a b (λ front h k. ipv4_once front a.address b.address h k) h k)
 cidr_once text (cidr.Ipv4 a) (cidr.Ipv6 b) h k = absurd (blocks_apart text a b h k)
@@ -131,7 +138,7 @@ host_once text (ip.Ipv6 a) (ip.Ipv6 b) h k =
     let same : h.0 ≡ k.0 = ends_alike h.0 k.0 (ap (drop 1) (sym h.1 ∙ k.1)) in
     ap ip.Ipv6 (ipv6_once k.0 a b (subst (λ t. ReadsIpv6 t a) same h.2) k.2)
 
--- no address alone is one with a port
+-- a text of an address has no port
 module _ (text front : List ℕ) (n : ℕ) (ends : EndsInNumber 58 5 65535 text front n) where
   four_behind : (octets : List ℕ) → ReadsIpv4 front octets → IsFirstMark 46 text
   four_behind octets h = subst (IsFirstMark 46) (sym ends.spelled) (mark_before 46 front (58 ∷ ends.digits) (ipv4_mark front octets h))
@@ -148,6 +155,7 @@ module _ (text front : List ℕ) (n : ℕ) (ends : EndsInNumber 58 5 65535 text 
 same_endpoint : (a b : IpEndpoint) → a.addr ≡ b.addr → a.port ≡ b.port → a ≡ b
 same_endpoint a b addr port = λ i. record { addr = addr i; port = port i }
 
+-- a text parses as at most one endpoint
 pub endpoint_once : (text : List ℕ) (a b : IpEndpoint) → ReadsEndpoint text a → ReadsEndpoint text b → a ≡ b
 endpoint_once text a b (inl h) (inl k) = same_endpoint a b (address_once text a.addr b.addr h.0 k.0) (h.1 ∙ sym k.1)
 endpoint_once text a b (inl h) (inr k) = absurd (alone_apart text k.host_text b.port k.port a.addr b.addr h.0 k.host)

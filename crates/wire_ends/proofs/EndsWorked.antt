@@ -61,7 +61,7 @@ address-before_prefix : cidr_cmp (block_at localhost 32) (block_at (Ipv4 (127 �
 unfolding localhost
 address-before_prefix = refl
 
--- all of IPv4 has no address of IPv6
+-- the block of all IPv4 addresses contains no IPv6 address
 other_version : ¬ (IsIn (block_at (Ipv4 (0 ∷ 0 ∷ 0 ∷ 0 ∷ [])) 0) loopback)
 unfolding loopback
 other_version is = is

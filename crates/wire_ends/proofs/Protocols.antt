@@ -1,11 +1,11 @@
--- A number and the protocol that it names.
+-- Protocol numbers and the protocols that they name.
 use Rattle.std.proofs.Common.{ℕ, ◌≡◌, ◌==◌, refl, sym, ap}
 use Rattle.std.proofs.lemmas.Bool.{cond_both, eqb-true}
 use Rattle.wire_ends.specs.Protocol.{known, number_of, protocol_of}
 use Rattle.wire_ends.specs.declared.ip_protocol.IpProtocol.{IpProtocol}
 use Rattle.wire_ends.specs.declared.ip_protocol.IpProtocol.TheVariants as protocol
 
--- one row of the table of names: the number's name has that number, if those of the rows below have theirs
+-- one row of the name table: the name has that number, if this is true of the rows below
 row : (n k : ℕ) (p q : IpProtocol) → number_of p ≡ k → number_of q ≡ n → number_of (Rattle.std.specs.Prelude.if◌then◌else◌ (n == k) p q) ≡ n
 row n k p q is rest = cond_both (n == k) p q (λ r. number_of r ≡ n) (λ e. rw is (sym (eqb-true n k e))) (λ _. rest)
 
@@ -25,9 +25,10 @@ number_of-protocol_of n =
     row n 59 protocol.Ipv6NoNxt _ refl (
     row n 60 protocol.Ipv6Opts (protocol.Unknown n) refl refl)))))))))))
 
+-- the canonical form of a canonical form is itself
 pub known-known : (p : IpProtocol) → known (known p) ≡ known p
 known-known p = ap protocol_of (number_of-protocol_of (number_of p))
 
--- a protocol that was read is the known one
+-- a protocol that is converted from a number is in its canonical form
 pub known-read : (p : IpProtocol) (n : ℕ) → p ≡ protocol_of n → known p ≡ p
 known-read p n is = rw is (ap protocol_of (number_of-protocol_of n))

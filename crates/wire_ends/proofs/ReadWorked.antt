@@ -1,4 +1,4 @@
--- Texts of endpoints, worked: what is read, and what is not.
+-- Worked examples of endpoint texts: which parse, and which do not.
 use Rattle.std.proofs.Common.{◌≢◌, ℕ, zero, suc, ◌<◌, List, [], ◌∷◌, arith, codes, get_or, inl, inr, lit≤, refl}
 use Rattle.std.proofs.lemmas.Option.{none-some}
 use Rattle.wire_addr.specs.Octets.{octets_of}
@@ -47,7 +47,7 @@ ipv6-no_brackets : ReadsEndpoint (codes "fe80::1:80") (endpoint_at (Ipv6 (octets
 unfolding groups_read groups_from number_of with_group
 ipv6-no_brackets = inl ((with_group, groups_sound (codes "fe80::1:80") with_group refl, refl), refl)
 
--- brackets stand before a port alone: behind the last colon there is no number
+-- brackets without a port are rejected: there is no number behind the last colon
 behind_last : (k : ℕ) → 2 < k → k < 5 → get_or (codes "[::1]") k 0 ≢ 58
 behind_last zero low high e = omega arith
 behind_last (suc zero) low high e = omega arith

@@ -2,7 +2,7 @@
 use Rattle.std.proofs.Common.{ℕ, ◌≡◌, ◌*◌, ◌+◌, ◌-◌, ◌/◌, ◌%◌, ◌^◌, ◌<◌, List, [], ◌∷◌, suc, length, get_or, refl, arith}
 use Rattle.std.specs.Net.Addr.{octets_of, segments_of}
 
--- octets, two for each segment, are those of their segments
+-- two octets for each segment convert back to the segments
 pub octets_of-segments_of : (n : ℕ) (octets : List ℕ) → length octets ≡ 2 * n → ((k : ℕ) → get_or octets k 0 < 2 ^ 8)
     → octets_of (segments_of octets) ≡ octets
 octets_of-segments_of n [] even small = refl

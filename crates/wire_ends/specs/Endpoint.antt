@@ -1,4 +1,4 @@
--- Addresses with a port.
+-- Endpoints: addresses with a port.
 use Rattle.std.specs.Prelude.{ℕ, ◌≡◌, ◌≢◌, ◌⊎◌, ◌∷◌, ◌++◌, Option, Some, None, IsSome, List, codes, decimal}
 use Rattle.std.specs.Hash as hash
 use Rattle.std.specs.Option.{option_cmp}
@@ -14,23 +14,23 @@ use Rattle.wire_ends.specs.declared.ip_listen_endpoint.IpListenEndpoint.{IpListe
 use Rattle.wire_text.specs.Ending.{EndsInNumber}
 use Rattle.wire_text.specs.Grammar.{colon}
 
--- the endpoint at an address and a port
+-- the endpoint with an address and a port
 abbrev pub endpoint_at : IpAddress → ℕ → IpEndpoint
 endpoint_at addr port = record { addr = addr; port = port }
 
--- it is at the pair's port, and at an address that the pair's first part converts to
+-- the endpoint has the port of the pair and an address to which the first part of the pair converts
 abbrev pub IsAtPair : {A : Type 0} → (A → IpAddress → Type 0) → A × ℕ → IpEndpoint → Type 0
 IsAtPair Converts pair endpoint = Converts pair.0 endpoint.addr × (endpoint.port ≡ pair.1)
 
--- listening at the address and the port of an endpoint
+-- the listening endpoint with the address and port of an endpoint
 abbrev pub listening_at : IpEndpoint → IpListenEndpoint
 listening_at endpoint = record { addr = Some endpoint.addr; port = endpoint.port }
 
--- listening at a port of every address
+-- the listening endpoint with a port and no address
 abbrev pub listening_on : ℕ → IpListenEndpoint
 listening_on port = record { addr = None; port = port }
 
--- an address is given, and a port that is not 0
+-- it has an address, and its port is not 0
 abbrev pub IsSpecified : IpListenEndpoint → Type 0
 IsSpecified endpoint = IsSome endpoint.addr × (endpoint.port ≢ 0)
 
@@ -40,12 +40,12 @@ bracketed text = codes "[" ++ text ++ codes "]"
 
 -- ---- printed
 
--- what stands before the port in the text of an endpoint: an address of IPv6 in brackets, since it has colons of its own
+-- the text of the address in an endpoint: an IPv6 address is in brackets, because it contains colons
 abbrev pub host_text : IpAddress → List ℕ
 host_text (Ipv4 octets) = dotted octets
 host_text (Ipv6 octets) = bracketed (ipv6_text octets)
 
--- what follows the address there
+-- the rest of the text behind it
 abbrev pub port_text : ℕ → List ℕ
 port_text port = colon ∷ decimal port
 
@@ -53,42 +53,42 @@ port_text port = colon ∷ decimal port
 abbrev pub endpoint_text : IpEndpoint → List ℕ
 endpoint_text endpoint = host_text endpoint.addr ++ port_text endpoint.port
 
--- the printed text of a port at the address, or at every one
+-- the printed text of a listening endpoint; `*` stands for any address
 abbrev pub listening_text : Option IpAddress → ℕ → List ℕ
 listening_text (Some addr) port = endpoint_text (endpoint_at addr port)
 listening_text None port = codes "*" ++ port_text port
 
--- ---- read
+-- ---- parsed
 
--- what stands before a port is read as this address: one of IPv6 is in brackets
+-- the text before a port parses as this address; an IPv6 address is in brackets
 abbrev pub ReadsHost : List ℕ → IpAddress → Type 0
 ReadsHost text (Ipv4 octets) = ReadsIpv4 text octets
 ReadsHost text (Ipv6 octets) = (inner : List ℕ) × (text ≡ bracketed inner) × ReadsIpv6 inner octets
 
--- the text is an address, a colon and a port: one digit to five digits, at most 65535
+-- the text is an address, a colon and a port of one to five digits, at most 65535
 pub record IsWithPort (text : List ℕ) (endpoint : IpEndpoint) : Type 0 where
   pub host_text : List ℕ
   pub host : ReadsHost host_text endpoint.addr
   pub port : EndsInNumber colon 5 65535 text host_text endpoint.port
 
--- the text is read as this endpoint: an address alone has port 0
+-- the text parses as this endpoint; the port of a text without one is 0
 abbrev pub ReadsEndpoint : List ℕ → IpEndpoint → Type 0
 ReadsEndpoint text endpoint = (ReadsAddress text endpoint.addr × (endpoint.port ≡ 0)) ⊎ IsWithPort text endpoint
 
--- ---- in order
+-- ---- order and hash
 
 -- by address, then by port
 abbrev pub endpoint_cmp : IpEndpoint → IpEndpoint → Ordering
 endpoint_cmp a b = ordering_then (address_cmp a.addr b.addr) (nat_cmp a.port b.port)
 
--- by address, no address before each one, then by port
+-- by address, with none first, then by port
 abbrev pub listening_cmp : IpListenEndpoint → IpListenEndpoint → Ordering
 listening_cmp a b = ordering_then (option_cmp address_cmp a.addr b.addr) (nat_cmp a.port b.port)
 
--- what is hashed of an endpoint: its address and its port
+-- the hashed values of an endpoint: its address and its port
 abbrev pub endpoint_hash : IpEndpoint → hash.HashWrites
 endpoint_hash endpoint = address_hash endpoint.addr ++ hash.u16 endpoint.port
 
--- what is hashed of a listening endpoint: its address, if it has one, and its port
+-- the hashed values of a listening endpoint: its address, if it has one, and its port
 abbrev pub listening_hash : IpListenEndpoint → hash.HashWrites
 listening_hash endpoint = hash.option address_hash endpoint.addr ++ hash.u16 endpoint.port

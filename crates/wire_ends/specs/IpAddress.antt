@@ -1,4 +1,4 @@
--- Addresses of either version of the Internet Protocol.
+-- Addresses of either IP version.
 use Rattle.std.specs.Prelude.{ℕ, ◌≡◌, ◌++◌, List, pos}
 use Rattle.std.specs.Cmp.Lexicographic.{slice_cmp}
 use Rattle.std.specs.Hash as hash
@@ -20,7 +20,7 @@ abbrev pub version_of : IpAddress → IpVersion
 version_of (Ipv4 octets) = version.Ipv4
 version_of (Ipv6 octets) = version.Ipv6
 
--- the printed text of an address: that of the address that it holds
+-- the printed text of an address: that of its variant
 abbrev pub address_text : IpAddress → List ℕ
 address_text (Ipv4 octets) = dotted octets
 address_text (Ipv6 octets) = ipv6_text octets
@@ -30,53 +30,53 @@ abbrev pub octets_of : IpAddress → List ℕ
 octets_of (Ipv4 octets) = octets
 octets_of (Ipv6 octets) = octets
 
--- how many bits the addresses of a version have, told by one of them
+-- the number of bits in addresses of the same version
 abbrev pub bits_of : IpAddress → ℕ
 bits_of (Ipv4 octets) = 32
 bits_of (Ipv6 octets) = 128
 
--- they are the octets of an address: as many as its version has, of eight bits each
+-- the list has as many octets as addresses of this version
 abbrev pub IsAddress : IpAddress → Type 0
 IsAddress (Ipv4 octets) = AreOctets 4 octets
 IsAddress (Ipv6 octets) = AreOctets 16 octets
 
--- the text is read as this address: as one of its version
+-- the text parses as this address, in the form of its version
 abbrev pub ReadsAddress : List ℕ → IpAddress → Type 0
 ReadsAddress text (Ipv4 octets) = ReadsIpv4 text octets
 ReadsAddress text (Ipv6 octets) = ReadsIpv6 text octets
 
 -- ---- classes
 
--- of one host or interface
+-- unicast
 abbrev pub IsUnicast : IpAddress → Type 0
 IsUnicast (Ipv4 octets) = IsIpv4Unicast octets
 IsUnicast (Ipv6 octets) = IsIpv6Unicast octets
 
--- of a group
+-- multicast
 abbrev pub IsMulticast : IpAddress → Type 0
 IsMulticast (Ipv4 octets) = IsIn ipv4_multicast octets
 IsMulticast (Ipv6 octets) = IsIn ipv6_multicast octets
 
--- of all hosts of the own link: IPv6 has none (RFC 4291, section 2)
+-- broadcast, which IPv6 does not have (RFC 4291, section 2)
 abbrev pub IsBroadcast : IpAddress → Type 0
 IsBroadcast (Ipv4 octets) = octets ≡ ipv4_broadcast
 IsBroadcast (Ipv6 octets) = ⊥
 
--- the one of its version that stands for none
+-- the unspecified address of its version
 abbrev pub IsUnspecified : IpAddress → Type 0
 IsUnspecified (Ipv4 octets) = octets ≡ ipv4_unspecified
 IsUnspecified (Ipv6 octets) = octets ≡ ipv6_unspecified
 
--- ---- in order
+-- ---- order and hash
 
--- those of IPv4 before those of IPv6, and those of one version by their octets
+-- IPv4 before IPv6; addresses of one version by their octets
 abbrev pub address_cmp : IpAddress → IpAddress → Ordering
 address_cmp (Ipv4 a) (Ipv4 b) = slice_cmp nat_cmp a b
 address_cmp (Ipv4 a) (Ipv6 b) = Less
 address_cmp (Ipv6 a) (Ipv4 b) = Greater
 address_cmp (Ipv6 a) (Ipv6 b) = slice_cmp nat_cmp a b
 
--- what is hashed of an address: the place of its version, and its octets
+-- the hashed values of an address: the index of its variant, and its octets
 abbrev pub address_hash : IpAddress → hash.HashWrites
 address_hash (Ipv4 octets) = hash.isize (pos 0) ++ hash.slice hash.u8 octets
 address_hash (Ipv6 octets) = hash.isize (pos 1) ++ hash.slice hash.u8 octets

@@ -1,4 +1,4 @@
--- The numbers and names of what IP packets carry.
+-- The IP protocol numbers and their names.
 use Rattle.std.specs.Prelude.{ℕ, ◌++◌, ◌==◌, if◌then◌else◌, List, codes, pos}
 use Rattle.std.specs.Hash as hash
 use Rattle.std.specs.declared.cmp.Ordering.{Ordering}
@@ -39,7 +39,7 @@ number_of protocol.Ipv6NoNxt = 59
 number_of protocol.Ipv6Opts = 60
 number_of (protocol.Unknown n) = n
 
--- the protocol that a protocol's number names: an unknown number of the table becomes its name, and nothing else changes
+-- the canonical form of a protocol: an unknown number that has a name becomes that name
 abbrev pub known : IpProtocol → IpProtocol
 known p = protocol_of (number_of p)
 
@@ -59,16 +59,16 @@ protocol_text protocol.Ipv6NoNxt = codes "IPv6-NoNxt"
 protocol_text protocol.Ipv6Opts = codes "IPv6-Opts"
 protocol_text (protocol.Unknown n) = codes "0x" ++ hex_byte n
 
--- whether a protocol is an unknown number: 1 where it is one, else 0
+-- 1 for an unknown number, 0 for a named protocol
 abbrev pub is_unknown : IpProtocol → ℕ
 is_unknown (protocol.Unknown n) = 1
 is_unknown p = 0
 
--- how protocols compare
+-- the order of protocols
 abbrev pub protocol_cmp : IpProtocol → IpProtocol → Ordering
 protocol_cmp = named_cmp is_unknown number_of
 
--- the place of a protocol among the variants
+-- the index of the variant of a protocol
 abbrev pub variant_of : IpProtocol → ℕ
 variant_of protocol.HopByHop = 0
 variant_of protocol.Icmp = 1
@@ -84,7 +84,7 @@ variant_of protocol.Ipv6NoNxt = 10
 variant_of protocol.Ipv6Opts = 11
 variant_of (protocol.Unknown n) = 12
 
--- what is hashed of a protocol: its place among the variants, and an unknown number
+-- the hashed values of a protocol: the index of its variant, and an unknown number
 abbrev pub protocol_hash : IpProtocol → hash.HashWrites
 protocol_hash (protocol.Unknown n) = hash.isize (pos 12) ++ hash.u8 n
 protocol_hash p = hash.isize (pos (variant_of p))

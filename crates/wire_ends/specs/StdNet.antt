@@ -1,4 +1,4 @@
--- What the addresses and socket addresses of `std::net` are here.
+-- The conversions from the addresses and socket addresses of `std::net`.
 use Rattle.std.specs.Net.Addr.{ipv4_octets, ipv6_octets}
 use Rattle.std.specs.Net.Socket.{socket_ip, socket_port}
 use Rattle.std.specs.declared.net.ip_addr.IpAddr.{IpAddr}
@@ -13,6 +13,6 @@ abbrev pub address_of : IpAddr → IpAddress
 address_of (V4 addr) = Ipv4 (ipv4_octets addr)
 address_of (V6 addr) = Ipv6 (ipv6_octets addr)
 
--- the endpoint with the same address and port: the flow and the scope of a socket address are left out
+-- the endpoint with the same address and port; flow and scope of the socket address are dropped
 abbrev pub endpoint_of : SocketAddr → IpEndpoint
 endpoint_of socket = record { addr = address_of (socket_ip socket); port = socket_port socket }

@@ -1,4 +1,4 @@
-//! Addresses of either version of the Internet Protocol.
+//! Addresses of either IP version.
 
 ghost use Rattle.std.specs.Prelude.{◌≡◌, ◌↔◌, ◌≤◌, ◌∷◌, [], IfSome, IsTrue, Some, ℕ};
 ghost use Rattle.std.specs.Net.Grammar.{Parses};
@@ -15,7 +15,7 @@ use std::net::{IpAddr, Ipv4Addr, Ipv6Addr};
 use std::str::FromStr;
 use wire_addr::{Ipv4Address, Ipv6Address};
 
-/// An address of either version.
+/// An address of either IP version.
 #[derive(Debug, Clone, Copy, PartialEq, Eq, PartialOrd, Ord, Hash)]
 pub enum IpAddress {
     Ipv4(Ipv4Address),
@@ -38,7 +38,7 @@ impl IpAddress {
         IpAddress::Ipv6(Ipv6Address::new(a, b, c, d, e, f, g, h))
     }
 
-    /// Parses the text of an address of either version, as `FromStr` does, from bytes.
+    /// Parses an address of either version as `from_str` does, from bytes.
     pub fn parse_ascii(text: &[u8]) -> Result<IpAddress, ()>
         ensures { Parses ReadsAddress text.now result }
     {
@@ -48,7 +48,7 @@ impl IpAddress {
         }
     }
 
-    /// The version that the address belongs to.
+    /// The version of the address.
     pub fn version(&self) -> IpVersion
         ensures { result ≡ version_of self.now }
     {
@@ -58,7 +58,7 @@ impl IpAddress {
         }
     }
 
-    /// Whether it is the address of one host or interface.
+    /// Returns `true` for a unicast address.
     pub fn is_unicast(&self) -> bool
         ensures { IsTrue result ↔ IsUnicast self.now }
     {
@@ -68,7 +68,7 @@ impl IpAddress {
         }
     }
 
-    /// Whether it is the address of a group.
+    /// Returns `true` for a multicast address.
     pub fn is_multicast(&self) -> bool
         ensures { IsTrue result ↔ IsMulticast self.now }
     {
@@ -78,7 +78,7 @@ impl IpAddress {
         }
     }
 
-    /// Whether it is the address of all hosts of a link. None of IPv6 is.
+    /// Returns `true` for the limited broadcast address 255.255.255.255. IPv6 has no broadcast.
     pub fn is_broadcast(&self) -> bool
         ensures { IsTrue result ↔ IsBroadcast self.now }
     {
@@ -88,7 +88,7 @@ impl IpAddress {
         }
     }
 
-    /// Whether it stands for no address.
+    /// Returns `true` for the unspecified address, 0.0.0.0 or `::`.
     pub fn is_unspecified(&self) -> bool
         ensures { IsTrue result ↔ IsUnspecified self.now }
     {
@@ -98,8 +98,8 @@ impl IpAddress {
         }
     }
 
-    /// The length of the prefix whose netmask it is: how many ones there are, where only zeros follow
-    /// them.
+    /// The prefix length of this netmask: the number of ones, if only zeros follow them. `None` for
+    /// any other address.
     pub fn prefix_len(&self) -> Option<u8>
         ensures value { (n : ℕ) → (result ≡ Some n) ↔ IsNetmask n (octets_in self.now) }
         ensures within { IfSome result (λ n. n ≤ bits_of self.now) }
@@ -169,7 +169,7 @@ impl From<IpAddress> for IpAddr {
     }
 }
 
-/// The text of the address that it holds.
+/// Prints the address of its version.
 impl fmt::Display for IpAddress {
     ghost output = { λ address. Some (address_text address) };
 
@@ -181,7 +181,7 @@ impl fmt::Display for IpAddress {
     }
 }
 
-/// An address of either version: no text is one of both.
+/// Parses an address of either version. No text is an address of both.
 impl FromStr for IpAddress {
     type Err = ();
 

@@ -1,4 +1,4 @@
-//! Blocks of addresses of either version.
+//! CIDR blocks of either IP version.
 
 ghost use Rattle.std.specs.Prelude.{◌≡◌, ◌↔◌, ◌≤◌, IsTrue, Some};
 ghost use Rattle.std.specs.Net.Grammar.{Parses};
@@ -11,7 +11,7 @@ use std::fmt;
 use std::str::FromStr;
 use wire_addr::{Ipv4Cidr, Ipv6Cidr};
 
-/// A block of addresses of either version: all that have the first bits of one address.
+/// A CIDR block of either version: all addresses with the same first bits as one address.
 #[derive(Debug, Clone, Copy, PartialEq, Eq, PartialOrd, Ord, Hash)]
 pub enum IpCidr {
     Ipv4(Ipv4Cidr),
@@ -19,7 +19,7 @@ pub enum IpCidr {
 }
 
 impl IpCidr {
-    /// The block of the addresses that have the first `prefix_len` bits of this one.
+    /// The block of all addresses with the same first `prefix_len` bits as this one.
     pub fn new(addr: IpAddress, prefix_len: u8) -> IpCidr
         requires { prefix_len ≤ bits_of addr }
         ensures { result ≡ block_at addr prefix_len }
@@ -30,7 +30,7 @@ impl IpCidr {
         }
     }
 
-    /// Parses the text of a block of either version, as `FromStr` does, from bytes.
+    /// Parses a block of either version as `from_str` does, from bytes.
     pub fn parse_ascii(text: &[u8]) -> Result<IpCidr, ()>
         ensures { Parses ReadsCidr text.now result }
     {
@@ -40,7 +40,7 @@ impl IpCidr {
         }
     }
 
-    /// The address that it was made of.
+    /// The address from which the block was made.
     pub fn address(&self) -> IpAddress
         ensures value { result ≡ block_address self.now }
         ensures octets { IsAddress result }
@@ -51,7 +51,7 @@ impl IpCidr {
         }
     }
 
-    /// How many first bits its addresses have in common.
+    /// The prefix length: the number of bits that all addresses of the block share.
     pub fn prefix_len(&self) -> u8
         ensures value { result ≡ block_prefix_len self.now }
         ensures within { result ≤ bits_of (block_address self.now) }
@@ -62,7 +62,7 @@ impl IpCidr {
         }
     }
 
-    /// Whether the address is in the block. One of the other version never is.
+    /// Returns `true` if the address is in the block. An address of the other version never is.
     #[inline]
     pub fn contains_addr(&self, addr: &IpAddress) -> bool
         ensures { IsTrue result ↔ IsIn self.now addr.now }
@@ -74,7 +74,8 @@ impl IpCidr {
         }
     }
 
-    /// Whether each address of the other block is in this one. No block of the other version is.
+    /// Returns `true` if every address of the other block is in this one. A block of the other version
+    /// never is.
     #[inline]
     pub fn contains_subnet(&self, subnet: &IpCidr) -> bool
         ensures { IsTrue result ↔ IsWithin subnet.now self.now }
@@ -99,7 +100,7 @@ impl From<Ipv6Cidr> for IpCidr {
     }
 }
 
-/// The text of the block that it holds.
+/// Prints the block of its version.
 impl fmt::Display for IpCidr {
     ghost output = { λ cidr. Some (cidr_text cidr) };
 
@@ -111,7 +112,7 @@ impl fmt::Display for IpCidr {
     }
 }
 
-/// A block of either version: no text is one of both.
+/// Parses a block of either version. No text is a block of both.
 impl FromStr for IpCidr {
     type Err = ();
 

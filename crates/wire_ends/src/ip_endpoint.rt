@@ -1,4 +1,4 @@
-//! An address with a port.
+//! Endpoints: an address with a port.
 
 ghost use Rattle.std.specs.Prelude.{◌≡◌, ◌≢◌, ℕ, List, MatchOption, Some};
 ghost use Rattle.std.specs.Net.Grammar.{Parses};
@@ -31,7 +31,7 @@ impl IpEndpoint {
         IpEndpoint { addr, port }
     }
 
-    /// Parses the text of an endpoint, as `FromStr` does, from bytes.
+    /// Parses an endpoint as `from_str` does, from bytes.
     pub fn parse_ascii(text: &[u8]) -> Result<IpEndpoint, ()>
         ensures { Parses ReadsEndpoint text.now result }
     {
@@ -42,7 +42,7 @@ impl IpEndpoint {
         Ok(IpEndpoint::new(host(address)?, port as u16))
     }
 
-    /// Its text: the address, `:` and the port in decimal. An address of IPv6 is in brackets (RFC 5952,
+    /// The printed text: the address, `:` and the port in decimal. An IPv6 address is in brackets (RFC 5952,
     /// section 6).
     pub fn text(&self) -> ArrayString<47>
         ensures { result.bytes ≡ endpoint_text self.now }
@@ -71,7 +71,7 @@ impl<A: Into<IpAddress>> From<(A, u16)> for IpEndpoint {
     }
 }
 
-/// The same address and port. The flow and the scope of an IPv6 one are left out.
+/// The same address and port. Flow and scope of an IPv6 address are dropped.
 impl From<SocketAddr> for IpEndpoint {
     ghost from_gives = { λ socket endpoint. endpoint ≡ endpoint_of socket };
 
@@ -89,7 +89,7 @@ impl From<SocketAddrV4> for IpEndpoint {
     }
 }
 
-/// The same address and port. Flow and scope are left out.
+/// The same address and port. Flow and scope are dropped.
 impl From<SocketAddrV6> for IpEndpoint {
     ghost from_gives = { λ socket endpoint. endpoint ≡ endpoint_of (V6 socket) };
 
@@ -98,7 +98,7 @@ impl From<SocketAddrV6> for IpEndpoint {
     }
 }
 
-/// The same address and port. The flow and the scope of an IPv6 one are 0.
+/// The same address and port. Flow and scope of an IPv6 address are 0.
 impl From<IpEndpoint> for SocketAddr {
     ghost from_gives = { λ endpoint socket. (endpoint_of socket ≡ endpoint) × IsPlainSocket socket endpoint.port };
 
@@ -107,7 +107,7 @@ impl From<IpEndpoint> for SocketAddr {
     }
 }
 
-/// The text alone, whatever width or precision the formatter has.
+/// Width and precision of the formatter are ignored.
 impl fmt::Display for IpEndpoint {
     ghost output = { λ endpoint. Some (endpoint_text endpoint) };
 
@@ -116,7 +116,7 @@ impl fmt::Display for IpEndpoint {
     }
 }
 
-/// The text between brackets, if it has one at each end.
+/// The text between brackets, if it starts with `[` and ends with `]`.
 fn in_brackets(text: &[u8]) -> Option<&[u8]>
     ensures { MatchOption result ((inner : List ℕ) → text.now ≢ bracketed inner) (λ inner. text.now ≡ bracketed inner.now) }
 {
@@ -126,7 +126,7 @@ fn in_brackets(text: &[u8]) -> Option<&[u8]>
     }
 }
 
-/// The address before a port: one of IPv6 is in brackets.
+/// Parses the address before a port: an IPv6 address is in brackets.
 fn host(text: &[u8]) -> Result<IpAddress, ()>
     ensures { Parses ReadsHost text.now result }
 {
@@ -136,7 +136,7 @@ fn host(text: &[u8]) -> Result<IpAddress, ()>
     }
 }
 
-/// An address alone, with port 0, or an address, `:` and a port. An IPv6 address before a port is
+/// Parses an address alone, with port 0, or an address, `:` and a port. An IPv6 address before a port is
 /// in brackets.
 impl FromStr for IpEndpoint {
     type Err = ();

@@ -10,8 +10,8 @@ use crate::{IpAddress, IpEndpoint};
 use std::fmt;
 use std::net::{SocketAddr, SocketAddrV4, SocketAddrV6};
 
-/// A port at one address, or at every address if none is given. The default is port 0 at every
-/// address.
+/// A port to listen on, at one address or, if none is given, at every address. The default is port 0
+/// at every address.
 #[derive(Debug, Clone, Copy, PartialEq, Eq, PartialOrd, Ord, Hash, Default)]
 pub struct IpListenEndpoint {
     pub addr: Option<IpAddress>,
@@ -19,7 +19,7 @@ pub struct IpListenEndpoint {
 }
 
 impl IpListenEndpoint {
-    /// Whether an address is given, and a port that is not 0.
+    /// Returns `true` if an address is given and the port is not 0.
     pub fn is_specified(&self) -> bool
         ensures { IsTrue result ↔ IsSpecified self.now }
     {
@@ -27,7 +27,7 @@ impl IpListenEndpoint {
     }
 }
 
-/// The port at every address.
+/// The port, at every address.
 impl From<u16> for IpListenEndpoint {
     ghost from_gives = { λ port listening. listening ≡ listening_on port };
 
@@ -47,7 +47,7 @@ impl From<IpEndpoint> for IpListenEndpoint {
     }
 }
 
-/// The listening endpoint of the pair's endpoint.
+/// The address and port of the pair.
 impl<A: Into<IpAddress>> From<(A, u16)> for IpListenEndpoint {
     ghost from_gives = { λ pair listening. (endpoint : IpEndpoint)
         × IsAtPair A.Into.converts pair endpoint × (listening ≡ listening_at endpoint) };
@@ -57,7 +57,7 @@ impl<A: Into<IpAddress>> From<(A, u16)> for IpListenEndpoint {
     }
 }
 
-/// The listening endpoint of its endpoint.
+/// The same address and port.
 impl From<SocketAddr> for IpListenEndpoint {
     ghost from_gives = { λ socket listening. listening ≡ listening_at (endpoint_of socket) };
 
@@ -66,7 +66,7 @@ impl From<SocketAddr> for IpListenEndpoint {
     }
 }
 
-/// The listening endpoint of its endpoint.
+/// The same address and port. Flow and scope are dropped.
 impl From<SocketAddrV4> for IpListenEndpoint {
     ghost from_gives = { λ socket listening. listening ≡ listening_at (endpoint_of (V4 socket)) };
 
@@ -75,7 +75,7 @@ impl From<SocketAddrV4> for IpListenEndpoint {
     }
 }
 
-/// The listening endpoint of its endpoint.
+/// The same address and port.
 impl From<SocketAddrV6> for IpListenEndpoint {
     ghost from_gives = { λ socket listening. listening ≡ listening_at (endpoint_of (V6 socket)) };
 
@@ -84,7 +84,7 @@ impl From<SocketAddrV6> for IpListenEndpoint {
     }
 }
 
-/// With an address as the endpoint there; `*` stands for every address.
+/// Prints as an endpoint; `*` stands for every address.
 impl fmt::Display for IpListenEndpoint {
     ghost output = { λ listening. Some (listening_text listening.addr listening.port) };
 

@@ -18,8 +18,8 @@ pub enum IpVersion {
 }
 
 impl IpVersion {
-    /// The version of a packet, from its first four bits. An empty slice and any other number are
-    /// rejected.
+    /// The version in the first four bits of a packet. Fails for an empty slice and for any other
+    /// version number.
     #[tactic(auto, unfolding(crate::specs::IpVersion::packet_version))]
     pub fn of_packet(packet: &[u8]) -> Result<IpVersion>
         ensures version { (v : IpVersion) → (result ≡ Ok v) ↔ IsOfVersion packet.now v }

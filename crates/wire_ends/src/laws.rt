@@ -1,4 +1,5 @@
-//! What holds of texts and of the derived comparisons. The functions do nothing when they run.
+//! Laws of texts and of the derived order and hash. A law states a fact about definitions; its body
+//! does nothing.
 
 ghost use Rattle.std.specs.Prelude.{◌≡◌, ◌↔◌, true};
 ghost use Rattle.wire_ends.specs.Endpoint.{ReadsEndpoint, endpoint_cmp, endpoint_hash, endpoint_text, listening_cmp, listening_hash};
@@ -27,7 +28,7 @@ pub fn ip_endpoint_one_reading(text: &[u8], a: IpEndpoint, b: IpEndpoint)
     ensures { ReadsEndpoint text.now a → ReadsEndpoint text.now b → a ≡ b }
 {}
 
-/// The text that an address prints as parses as that address.
+/// A printed address parses as that address.
 pub fn print_reads_back_ip_address(address: IpAddress)
     ensures { ReadsAddress (address_text address) address }
 {
@@ -41,7 +42,7 @@ pub fn print_reads_back_ip_address(address: IpAddress)
     }
 }
 
-/// The text that a block prints as parses as that block.
+/// A printed block parses as that block.
 pub fn print_reads_back_ip_cidr(cidr: IpCidr)
     ensures { ReadsCidr (cidr_text cidr) cidr }
 {
@@ -51,50 +52,50 @@ pub fn print_reads_back_ip_cidr(cidr: IpCidr)
     }
 }
 
-/// The text that an endpoint prints as parses as that endpoint.
+/// A printed endpoint parses as that endpoint.
 pub fn print_reads_back_ip_endpoint(endpoint: IpEndpoint)
     ensures { ReadsEndpoint (endpoint_text endpoint) endpoint }
 {
     print_reads_back_ip_address(endpoint.addr);
 }
 
-/// Addresses are equal exactly as values are. Their order and what is hashed are as defined.
+/// Two addresses are equal exactly if they compare as `Equal`. Order and hash are as defined.
 pub fn ip_address_order(a: &IpAddress, b: &IpAddress)
     ensures order { ⟦<IpAddress as Ord>⟧.cmp a.now b.now ≡ address_cmp a.now b.now }
     ensures equal { (⟦<IpAddress as PartialEq>⟧.eq a.now b.now ≡ true) ↔ (a.now ≡ b.now) }
     ensures hash { ⟦<IpAddress as Hash>⟧.hash_input a.now ≡ address_hash a.now }
 {}
 
-/// Blocks are equal exactly as values are. Their order and what is hashed are as defined.
+/// Two blocks are equal exactly if they compare as `Equal`. Order and hash are as defined.
 pub fn ip_block_order(a: &IpCidr, b: &IpCidr)
     ensures order { ⟦<IpCidr as Ord>⟧.cmp a.now b.now ≡ cidr_cmp a.now b.now }
     ensures equal { (⟦<IpCidr as PartialEq>⟧.eq a.now b.now ≡ true) ↔ (a.now ≡ b.now) }
     ensures hash { ⟦<IpCidr as Hash>⟧.hash_input a.now ≡ cidr_hash a.now }
 {}
 
-/// Endpoints are equal exactly as values are. Their order and what is hashed are as defined.
+/// Two endpoints are equal exactly if they compare as `Equal`. Order and hash are as defined.
 pub fn endpoint_order(a: &IpEndpoint, b: &IpEndpoint)
     ensures order { ⟦<IpEndpoint as Ord>⟧.cmp a.now b.now ≡ endpoint_cmp a.now b.now }
     ensures equal { (⟦<IpEndpoint as PartialEq>⟧.eq a.now b.now ≡ true) ↔ (a.now ≡ b.now) }
     ensures hash { ⟦<IpEndpoint as Hash>⟧.hash_input a.now ≡ endpoint_hash a.now }
 {}
 
-/// Listening endpoints are equal exactly as values are. Their order and what is hashed are as defined.
+/// Two listening endpoints are equal exactly if they compare as `Equal`. Order and hash are as defined.
 pub fn listen_endpoint_order(a: &IpListenEndpoint, b: &IpListenEndpoint)
     ensures order { ⟦<IpListenEndpoint as Ord>⟧.cmp a.now b.now ≡ listening_cmp a.now b.now }
     ensures equal { (⟦<IpListenEndpoint as PartialEq>⟧.eq a.now b.now ≡ true) ↔ (a.now ≡ b.now) }
     ensures hash { ⟦<IpListenEndpoint as Hash>⟧.hash_input a.now ≡ listening_hash a.now }
 {}
 
-/// Versions are equal exactly as values are. Version 4 comes before version 6.
+/// Two versions are equal exactly if they compare as `Equal`. Version 4 comes before version 6.
 pub fn ip_version_order(a: IpVersion, b: IpVersion)
     ensures order { ⟦<IpVersion as Ord>⟧.cmp a b ≡ nat_cmp (number_of a) (number_of b) }
     ensures equal { (⟦<IpVersion as PartialEq>⟧.eq a b ≡ true) ↔ (a ≡ b) }
     ensures hash { ⟦<IpVersion as Hash>⟧.hash_input a ≡ version_hash a }
 {}
 
-/// Protocols are equal exactly as values are. Those with a name come before unknown numbers. What is
-/// hashed is as defined.
+/// Two protocols are equal exactly if they compare as `Equal`. Named ones come before unknown numbers.
+/// The hash is as defined.
 pub fn ip_protocol_order(a: IpProtocol, b: IpProtocol)
     ensures order { ⟦<IpProtocol as Ord>⟧.cmp a b ≡ protocol_cmp a b }
     ensures equal { (⟦<IpProtocol as PartialEq>⟧.eq a b ≡ true) ↔ (a ≡ b) }

@@ -1,4 +1,4 @@
--- Normal forms: what was read is in its own, and a normal form is its own.
+-- Normal forms: a parsed value is in normal form, and the normal form of a normal form is itself.
 use Rattle.std.proofs.Common.{ℕ, ◌≡◌, Bool, List, ap}
 use Rattle.wire_ip.specs.Ip.{Reads, normal}
 use Rattle.wire_ip.specs.declared.ip.repr.IpRepr.{IpRepr}
@@ -6,10 +6,12 @@ use Rattle.wire_ip.specs.declared.ip.repr.IpRepr.TheVariants.{Ipv4, Ipv6}
 use Rattle.wire_ipv4.proofs.Ipv4Normal as ipv4
 use Rattle.wire_ipv6.proofs.Ipv6Normal as ipv6
 
+-- the normal form of a normal form is itself
 pub normal-normal : (v : IpRepr) → normal (normal v) ≡ normal v
 normal-normal (Ipv4 v) = ap Ipv4 (ipv4.normal-normal v)
 normal-normal (Ipv6 v) = ap Ipv6 (ipv6.normal-normal v)
 
+-- a parsed value is in normal form
 pub normal-read : (bytes : List ℕ) (verified : Bool) (v : IpRepr) → Reads bytes verified v → normal v ≡ v
 normal-read bytes verified (Ipv4 v) r = ap Ipv4 (ipv4.normal-read bytes verified v r.header)
 normal-read bytes verified (Ipv6 v) r = ap Ipv6 (ipv6.normal-read bytes v r.header)

@@ -1,4 +1,4 @@
--- An IP header that was written is read as what it was written from.
+-- An emitted IP header parses as the value from which it was emitted.
 use Rattle.std.proofs.Common.{ℕ, ◌≤◌, Bool, IsTrue, List, ◌++◌, length, refl, arith}
 use Rattle.wire_ipv4.proofs.Ipv4ReadsBack as ipv4
 use Rattle.wire_ipv6.proofs.Ipv6Emitted as ipv6
@@ -12,6 +12,7 @@ abbrev pub IsInRange : IpRepr → Type 0
 IsInRange (Ipv4 v) = ipv4.IsInRange v
 IsInRange (Ipv6 v) = ipv6.IsInRange v
 
+-- an emitted header with a payload parses as the normal form of its value
 pub reads-bytes_of : (v : IpRepr) (rest : List ℕ) (computed verified : Bool) → IsInRange v → payload_len_of v ≤ length rest
     → (IsTrue verified → IsTrue computed) → Reads (bytes_of v computed ++ rest) verified (normal v)
 reads-bytes_of (Ipv4 v) rest computed verified h room sound = record {

@@ -57,7 +57,7 @@ ipv6-read : ip_of true ipv6_header ≡ Some ipv6_value
 unfolding ip_of packet_version ipv6_of ipv6_value ipv6_header
 ipv6-read = refl
 
--- ---- bytes of no version
+-- ---- bytes with another version number
 
 nothing-read : ip_of false [] ≡ None
 unfolding ip_of packet_version

@@ -23,12 +23,12 @@ abbrev pub version_of : IpRepr → IpVersion
 version_of (Ipv4 v) = version.Ipv4
 version_of (Ipv6 v) = version.Ipv6
 
--- the address of its sender
+-- its source address
 abbrev pub src_addr_of : IpRepr → IpAddress
 src_addr_of (Ipv4 v) = address.Ipv4 v.src_addr
 src_addr_of (Ipv6 v) = address.Ipv6 v.src_addr
 
--- the address of its receiver
+-- its destination address
 abbrev pub dst_addr_of : IpRepr → IpAddress
 dst_addr_of (Ipv4 v) = address.Ipv4 v.dst_addr
 dst_addr_of (Ipv6 v) = address.Ipv6 v.dst_addr
@@ -58,50 +58,50 @@ abbrev pub header_len_of : IpRepr → ℕ
 header_len_of (Ipv4 v) = 20
 header_len_of (Ipv6 v) = 40
 
--- the length of the longest payload that its header can say
+-- the length of the longest payload that its header can express
 abbrev pub max_payload_len : IpRepr → ℕ
 max_payload_len (Ipv4 v) = ipv4.max_payload_len
 max_payload_len (Ipv6 v) = 65535
 
 -- ---- a packet's payload
 
--- the bytes hold a whole header of this version, and all that it speaks of
+-- the lengths of the header of this version are valid: the bytes hold a whole header and the payload
 abbrev pub HasLengths : List ℕ → IpVersion → Type 0
 HasLengths bytes version.Ipv4 = ipv4.HasLengths bytes
 HasLengths bytes version.Ipv6 = ipv6.HasLengths bytes
 
--- what follows a header of this version, up to the packet's length
+-- the payload of a packet of this version: the bytes behind the header, up to the end of the packet
 abbrev pub payload_of : List ℕ → IpVersion → List ℕ
 payload_of bytes version.Ipv4 = slice_range bytes (ipv4.header_len bytes) (ipv4.total_len bytes)
 payload_of bytes version.Ipv6 = ipv6.payload_of bytes
 
 -- ---- reading and writing
 
--- the bytes are read as these values by the rules of their version
+-- the bytes parse as this value by the rules of its version
 abbrev pub ReadsHeader : List ℕ → Bool → IpRepr → Type 0
 ReadsHeader bytes verified (Ipv4 v) = ipv4.Reads bytes verified v
 ReadsHeader bytes verified (Ipv6 v) = ipv6.Reads bytes v
 
--- the bytes begin with a packet whose header has these values
+-- the bytes begin with a packet that parses as this value
 pub record Reads (bytes : List ℕ) (verified : Bool) (v : IpRepr) : Type 0 where
   pub version : IsOfVersion bytes (version_of v)
   pub header : ReadsHeader bytes verified v
 
--- the one value that the bytes are read as by the rules of a version, if there is one
+-- the value that the bytes parse as by the rules of a version, if there is one
 abbrev pub header_of_version : Bool → List ℕ → IpVersion → Option IpRepr
 header_of_version verified bytes version.Ipv4 = option_map Ipv4 (ipv4.ipv4_of verified bytes)
 header_of_version verified bytes version.Ipv6 = option_map Ipv6 (ipv6.ipv6_of bytes)
 
--- the one value that the bytes are read as, if there is one
+-- the value that the bytes parse as, if there is one
 unfoldable pub ip_of : Bool → List ℕ → Option IpRepr
 ip_of verified bytes = option_and_then (header_of_version verified bytes) (packet_version bytes)
 
--- the header that has these values
+-- the header with these values
 abbrev pub bytes_of : IpRepr → Bool → List ℕ
 bytes_of (Ipv4 v) computed = ipv4.bytes_of v computed
 bytes_of (Ipv6 v) computed = ipv6.bytes_of v
 
--- the value that is read of its header: a number of the table has its own name
+-- the normal form: the value that its header parses as; a protocol number that has a name becomes that name
 abbrev pub normal : IpRepr → IpRepr
 normal (Ipv4 v) = Ipv4 (ipv4.normal v)
 normal (Ipv6 v) = Ipv6 (ipv6.normal v)

@@ -1,4 +1,4 @@
-//! IP packets of either version, told apart by their first four bits.
+//! IP packets of either version. The first four bits tell which.
 
 mod packet;
 mod repr;

@@ -21,18 +21,18 @@ pub fn reads_once_ip(bytes: &[u8], verified: bool, value: IpRepr, other: IpRepr)
     ensures { value ≡ other }
 {}
 
-/// The value computed from bytes is the one that they parse as.
+/// The computed value of bytes is the value that they parse as.
 pub fn reading_is_computed_ip(bytes: &[u8], verified: bool, value: IpRepr)
     ensures { (ip_of verified bytes.now ≡ Some value) ↔ Reads bytes.now verified value }
 {}
 
-/// A normal form is its own, and a value that was read is in its normal form.
+/// The normal form of a normal form is itself, and a parsed value is in normal form.
 pub fn normal_twice_ip(bytes: &[u8], verified: bool, value: IpRepr)
     ensures twice { normal (normal value) ≡ normal value }
     ensures read { Reads bytes.now verified value → normal value ≡ value }
 {}
 
-/// What was read is emitted, with its payload, in no more bytes than it was read from.
+/// The header emitted for a parsed value, with the payload, is never longer than the parsed bytes.
 pub fn no_more_bytes_ip(bytes: &[u8], verified: bool, computed: bool, value: IpRepr)
     requires { Reads bytes.now verified value }
     ensures { length (bytes_of value computed) + payload_len_of value ≤ length bytes.now }
@@ -43,7 +43,7 @@ pub fn header_length_ip(value: IpRepr, computed: bool)
     ensures { length (bytes_of value computed) ≡ header_len_of value }
 {}
 
-/// The payload of a packet that was read has the length that the value names, and the header of a value
+/// The payload of a parsed packet has the length that the value names, and the header of a value
 /// can express it.
 pub fn read_payload_fits_ip(bytes: &[u8], verified: bool, value: IpRepr)
     requires { ReadsHeader bytes.now verified value }

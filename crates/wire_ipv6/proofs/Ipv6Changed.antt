@@ -31,6 +31,7 @@ header_room bytes v r = omega (arith, r.lengths)
 
 -- ---- each field
 
+-- writing the hop limit changes only the hop limit of the value
 pub reads-hop_limit : (bytes : List ℕ) (n : ℕ) (v : Ipv6Repr) → AreBytes bytes → n < 256 → Reads bytes v → Reads (with_field bytes 56 8 n) (record v { hop_limit = n })
 reads-hop_limit bytes n v are fits r =
     let room = header_room bytes v r in
@@ -43,6 +44,7 @@ reads-hop_limit bytes n v are fits r =
     reads-changed bytes (with_field bytes 56 8 n) v (record v { hop_limit = n }) r (subst Z cut (record { long = refl; version = refl; len = refl })) refl
     same (r.next_header ∙ ap protocol_of (sym (subst O cut refl))) (r.src_addr ∙ sym (subst S cut refl)) (r.dst_addr ∙ sym (subst D cut refl))
 
+-- writing the next header changes only the next header of the value
 pub reads-next_header : (bytes : List ℕ) (n : ℕ) (v : Ipv6Repr) → AreBytes bytes → n < 256 → Reads bytes v → Reads (with_field bytes 48 8 n) (record v { next_header = protocol_of n })
 reads-next_header bytes n v are fits r =
     let room = header_room bytes v r in
@@ -55,6 +57,7 @@ reads-next_header bytes n v are fits r =
     reads-changed bytes (with_field bytes 48 8 n) v (record v { next_header = protocol_of n }) r (subst Z cut (record { long = refl; version = refl; len = refl })) refl
     (r.hop_limit ∙ sym (subst O cut refl)) (ap protocol_of same) (r.src_addr ∙ sym (subst S cut refl)) (r.dst_addr ∙ sym (subst D cut refl))
 
+-- writing the source address changes only the source address of the value
 pub reads-src_addr : (bytes a : List ℕ) (v : Ipv6Repr) → length a ≡ 16 → Reads bytes v → Reads (with_range bytes 8 24 a) (record v { src_addr = a })
 reads-src_addr bytes a v sixteen r =
     let room = header_room bytes v r in
@@ -69,6 +72,7 @@ reads-src_addr bytes a v sixteen r =
     (is ∙ sym (ap (λ (l : List ℕ). slice_range l 8 24) changed))
     (r.dst_addr ∙ ap (λ (l : List ℕ). slice_range l 24 40) cut ∙ sym (ap (λ (l : List ℕ). slice_range l 24 40) changed))
 
+-- writing the destination address changes only the destination address of the value
 pub reads-dst_addr : (bytes a : List ℕ) (v : Ipv6Repr) → length a ≡ 16 → Reads bytes v → Reads (with_range bytes 24 40 a) (record v { dst_addr = a })
 reads-dst_addr bytes a v sixteen r =
     let room = header_room bytes v r in

@@ -1,4 +1,4 @@
--- The computed value of a header is the one that it is read as.
+-- The computed value of a header is the value that it parses as.
 use Rattle.std.proofs.Common.{ℕ, ◌≡◌, ◌↔◌, true, List, Some, None, codes, refl, subst, arith}
 use Rattle.std.proofs.lemmas.Bool.Decides.{nat_tests}
 use Rattle.wire_field.proofs.Readings.{if-Some}
@@ -6,7 +6,7 @@ use Rattle.wire_ipv6.specs.Ipv6.{Reads, header_of, ipv6_of, is_read}
 use Rattle.wire_ipv6.specs.Ipv6Text.{packet_text, value_text}
 use Rattle.wire_ipv6.specs.declared.ipv6.repr.Ipv6Repr.{Ipv6Repr}
 
--- the test says what reading asks for
+-- the test is true exactly if the lengths and the version are valid
 is_read-Reads : (bytes : List ℕ) → is_read bytes ≡ true → Reads bytes (header_of bytes)
 is_read-Reads bytes h = record {
   lengths = grind (arith, nat_tests);
@@ -24,6 +24,7 @@ Reads-is_read bytes v r = grind (arith, nat_tests)
 Reads-is : (bytes : List ℕ) (v : Ipv6Repr) → Reads bytes v → v ≡ header_of bytes
 Reads-is bytes v r = rw (← r.payload_len, ← r.hop_limit, ← r.next_header, ← r.src_addr, ← r.dst_addr) refl
 
+-- bytes parse as a value exactly if it is the computed one
 pub ipv6_of-Reads : (bytes : List ℕ) (v : Ipv6Repr) → (ipv6_of bytes ≡ Some v) ↔ Reads bytes v
 unfolding ipv6_of
 ipv6_of-Reads bytes v = (
@@ -35,11 +36,12 @@ ipv6_of-Reads bytes v = (
       (if-Some (is_read bytes) (header_of bytes) v).1 (Reads-is_read bytes v r, cc),
 )
 
--- the text of a packet, by what it is read as
+-- the text of a packet, by the value that it parses as
 pub packet_text-Some : (bytes : List ℕ) (v : Ipv6Repr) → ipv6_of bytes ≡ Some v → packet_text bytes ≡ value_text v
 unfolding packet_text
 packet_text-Some bytes v e = rw e refl
 
+-- the text of bytes that do not parse
 pub packet_text-None : (bytes : List ℕ) → ipv6_of bytes ≡ None → packet_text bytes ≡ codes "IPv6 (wire::Error)"
 unfolding packet_text
 packet_text-None bytes e = rw e refl

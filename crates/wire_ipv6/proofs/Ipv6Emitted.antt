@@ -1,4 +1,4 @@
--- What the setters leave of a header.
+-- The bytes of a header after the setters.
 use Rattle.std.proofs.Common.{ℕ, ◌≡◌, ◌≤◌, ◌<◌, ◌/◌, ◌%◌, List, ◌++◌, length, drop, refl, arith}
 use Rattle.wire_field.specs.Field.{with_field, with_part, with_range}
 use Rattle.wire_field.proofs.Cells.{cells-all, cells-drop, word_high, word_low}
@@ -6,7 +6,7 @@ use Rattle.wire_ends.specs.Protocol.{number_of}
 use Rattle.wire_ipv6.specs.Ipv6.{bytes_of}
 use Rattle.wire_ipv6.specs.declared.ipv6.repr.Ipv6Repr.{Ipv6Repr}
 
--- the value has a header: its numbers fit their fields, and an address has sixteen octets
+-- the value has a header: its numbers fit their fields, and each address has sixteen octets
 pub record IsInRange (v : Ipv6Repr) : Type 0 where
   pub src_addr : length v.src_addr ≡ 16
   pub dst_addr : length v.dst_addr ≡ 16
@@ -14,7 +14,7 @@ pub record IsInRange (v : Ipv6Repr) : Type 0 where
   pub payload_len : v.payload_len ≤ 65535
   pub hop_limit : v.hop_limit < 256
 
--- what becomes of single bytes
+-- single bytes after the writes
 first_byte : (n : ℕ) → with_part n 0 32 0x60000000 / 16777216 % 256 ≡ 0x60
 first_byte n = omega arith
 
@@ -30,13 +30,14 @@ fourth_byte n = omega arith
 small_byte : (n x : ℕ) → x < 256 → with_part n 0 8 x % 256 ≡ x
 small_byte n x h = omega arith
 
--- the writes of `emit`, in turn
+-- the writes of `emit`, in order
 abbrev pub written : List ℕ → Ipv6Repr → List ℕ
 written old v =
     let a = with_field old 0 32 0x60000000 in
     let b = with_field (with_field (with_field a 32 16 v.payload_len) 56 8 v.hop_limit) 48 8 (number_of v.next_header) in
     with_range (with_range b 8 24 v.src_addr) 24 40 v.dst_addr
 
+-- the writes of `emit` give the header, followed by the bytes that were behind it
 pub written-bytes_of : (old : List ℕ) (v : Ipv6Repr) → 40 ≤ length old → IsInRange v → written old v ≡ bytes_of v ++ drop 40 old
 written-bytes_of old v room h = rw (
   cells-all 16 v.src_addr h.src_addr,

@@ -1,4 +1,4 @@
--- The computed value of a fragment header is the one that it is read as.
+-- The computed value of a fragment header is the value that it parses as.
 use Rattle.std.proofs.Common.{ℕ, ◌≡◌, ◌↔◌, ◌≤◌, true, List, Some, nat_le, length, refl, subst, arith}
 use Rattle.std.proofs.lemmas.Bool.Decides.{nat_tests}
 use Rattle.wire_field.specs.Field.{field}
@@ -19,6 +19,7 @@ Reads-is bytes v r =
     let more = flag-test v.more_frags (field bytes 15 1) r.more_frags in
     rw (← r.frag_offset, ← more, ← r.ident) refl
 
+-- bytes parse as a value exactly if it is the computed one
 pub ipv6_fragment_of-Reads : (bytes : List ℕ) (v : Ipv6FragmentRepr) → (ipv6_fragment_of bytes ≡ Some v) ↔ Reads bytes v
 unfolding ipv6_fragment_of
 ipv6_fragment_of-Reads bytes v = (

@@ -1,4 +1,4 @@
--- What the setters leave of a fragment header, and what is read of it.
+-- The bytes of a fragment header after the setters, and the value that they parse as.
 use Rattle.std.proofs.Common.{ℕ, ◌≡◌, ◌+◌, ◌*◌, ◌/◌, ◌%◌, ◌≤◌, ◌<◌, ◌^◌, ◌↔◌, Bool, true, false, IsTrue, List, ◌++◌, length, drop, refl, arith}
 use Rattle.byteorder.specs.Endian.{big_bytes}
 use Rattle.wire_field.specs.Field.{field, with_field, with_part}
@@ -6,7 +6,7 @@ use Rattle.wire_field.proofs.Cells.{cells-drop}
 use Rattle.wire_ipv6.specs.Ipv6Fragment.{Reads, bytes_of, flag, normal}
 use Rattle.wire_ipv6.specs.declared.ipv6fragment.repr.Ipv6FragmentRepr.{Ipv6FragmentRepr}
 
--- what becomes of single bytes
+-- single bytes after the writes
 offset_byte : (n offset more : ℕ) → more < 2 → with_part n 3 13 offset / 256 % 256 ≡ (offset % 2 ^ 13 * 8 + more) / 256 % 256
 offset_byte n offset more h = omega arith
 
@@ -26,7 +26,7 @@ ident_byte-2 n x = omega arith
 ident_byte-3 : (n x : ℕ) → with_part n 0 32 x % 256 ≡ x % 256
 ident_byte-3 n x = omega arith
 
--- the four writes of `emit` leave the header, then the bytes that stood behind it
+-- the four writes of `emit` give the header, followed by the bytes that were behind it
 pub with_header : (old : List ℕ) (offset more ident : ℕ) → more < 2 → 6 ≤ length old
     → with_field (with_field (with_field (with_field old 13 2 0) 0 13 offset) 15 1 more) 16 32 ident
     ≡ (big_bytes 2 (offset % 2 ^ 13 * 8 + more) ++ big_bytes 4 ident) ++ drop 6 old
@@ -40,7 +40,7 @@ with_header old offset more ident h room = rw (
   ident_byte-3,
 ) refl
 
--- a flag's number is of one bit, which is set where the flag is
+-- the number of a flag has one bit, which is set exactly if the flag is
 pub flag-small : (set : Bool) → flag set < 2
 flag-small true = omega arith
 flag-small false = omega arith
@@ -49,6 +49,7 @@ flag-set : (set : Bool) → IsTrue set ↔ (flag set ≡ 1)
 flag-set true = (λ on. refl, λ on. refl)
 flag-set false = (λ on. cc, λ on. cc)
 
+-- an emitted header parses as the normal form of its value
 pub reads-bytes_of : (v : Ipv6FragmentRepr) (rest : List ℕ) → v.ident < 2 ^ 32 → Reads (bytes_of v ++ rest) (normal v)
 reads-bytes_of v rest h =
     let small = flag-small v.more_frags in

@@ -7,7 +7,7 @@ use Rattle.wire_ipv6.specs.declared.ipv6fragment.repr.Ipv6FragmentRepr.{Ipv6Frag
 abbrev value : ℕ → Bool → ℕ → Ipv6FragmentRepr
 value offset more ident = record { frag_offset = offset; more_frags = more; ident = ident }
 
--- ---- a last fragment, and the bytes that it stands in
+-- ---- a last fragment, among other bytes
 
 last : List ℕ
 last = 0x0a ∷ 0x00 ∷ 0x00 ∷ 0x01 ∷ 0x09 ∷ 0x32 ∷ []
@@ -50,7 +50,7 @@ far-read : ipv6_fragment_of (bytes_of (value 9000 false 1)) ≡ Some (value 808 
 unfolding ipv6_fragment_of
 far-read = refl
 
--- ---- bytes that hold no header
+-- ---- too few bytes for a header
 
 short-read : ipv6_fragment_of (0x0a ∷ 0x00 ∷ 0x00 ∷ 0x01 ∷ 0x09 ∷ []) ≡ None
 unfolding ipv6_fragment_of

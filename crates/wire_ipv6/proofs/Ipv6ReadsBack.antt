@@ -1,4 +1,4 @@
--- A header that was written is read as what it was written from.
+-- An emitted header parses as the value from which it was emitted.
 use Rattle.std.proofs.Common.{ℕ, ◌≡◌, ◌≤◌, List, ◌++◌, length, refl, ap, arith}
 use Rattle.wire_field.specs.Field.{field}
 use Rattle.wire_field.proofs.Cells.{cells-all}
@@ -7,6 +7,7 @@ use Rattle.wire_ipv6.proofs.Ipv6Emitted.{IsInRange}
 use Rattle.wire_ipv6.specs.Ipv6.{HasLengths, Reads, bytes_of, normal}
 use Rattle.wire_ipv6.specs.declared.ipv6.repr.Ipv6Repr.{Ipv6Repr}
 
+-- an emitted header with a payload parses as the normal form of its value
 pub reads-bytes_of : (v : Ipv6Repr) (rest : List ℕ) → IsInRange v → v.payload_len ≤ length rest → Reads (bytes_of v ++ rest) (normal v)
 reads-bytes_of v rest h room =
     let payload_len : field (bytes_of v ++ rest) 32 16 ≡ v.payload_len = omega (arith, h.payload_len) in

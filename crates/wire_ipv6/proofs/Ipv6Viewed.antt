@@ -8,6 +8,7 @@ use Rattle.wire_field.proofs.Views.{View}
 use Rattle.wire_ipv6.specs.Ipv6.{Writing}
 use Rattle.wire_ipv6.specs.contracts.ipv6.packet.Ipv6View as T
 
+-- the view type
 abbrev pub view : View
 view = record {
   name = (T.struct u8).name;

@@ -10,7 +10,7 @@ use Rattle.wire_ipv6.specs.declared.ipv6.repr.Ipv6Repr.{Ipv6Repr}
 use Rattle.wire_ends.specs.declared.ip_protocol.IpProtocol.{IpProtocol}
 use Rattle.wire_ends.specs.declared.ip_protocol.IpProtocol.TheVariants.{Ipv6Frag, Udp, Unknown}
 
--- ---- a datagram from fe80::1 to ff02::1, with a payload of n bytes by its header
+-- ---- a datagram from fe80::1 to ff02::1, with a payload length of n in its header
 
 src : List ℕ
 src = 0xfe ∷ 0x80 ∷ 0 ∷ 0 ∷ 0 ∷ 0 ∷ 0 ∷ 0 ∷ 0 ∷ 0 ∷ 0 ∷ 0 ∷ 0 ∷ 0 ∷ 0 ∷ 1 ∷ []
@@ -56,9 +56,9 @@ packet-empty : ipv6_of (packet 0) ≡ Some (value Udp 0)
 unfolding src dst value payload packet ipv6_of
 packet-empty = refl
 
-version_4-refused : ipv6_of (0x40 ∷ drop 1 (packet 12)) ≡ None
+version_4-rejected : ipv6_of (0x40 ∷ drop 1 (packet 12)) ≡ None
 unfolding src dst payload packet ipv6_of
-version_4-refused = refl
+version_4-rejected = refl
 
 value-normal : normal (value (Unknown 44) 0) ≡ value Ipv6Frag 0
 unfolding value

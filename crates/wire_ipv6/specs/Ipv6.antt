@@ -8,7 +8,7 @@ use Rattle.wire_ends.specs.Protocol.{known, number_of, protocol_of}
 use Rattle.wire_ipv6.specs.declared.ipv6.packet.Ipv6View.{Ipv6View}
 use Rattle.wire_ipv6.specs.declared.ipv6.repr.Ipv6Repr.{Ipv6Repr}
 
--- a view that reads, and one that writes too
+-- a reading view, and a mutable view
 abbrev pub Reading : Type 0
 Reading = Ipv6View (Bor (List ℕ))
 
@@ -19,31 +19,31 @@ Writing = Ipv6View (MutBor (List ℕ))
 abbrev pub packet_slice : {B : Type 0} → Ipv6View B → B
 packet_slice p = p.buffer
 
--- the bytes under a view
+-- the bytes under a reading view
 abbrev pub packet_bytes : Reading → List ℕ
 packet_bytes p = (packet_slice p).now
 
--- the bytes under a writing view
+-- the bytes under a mutable view
 abbrev pub packet_bytes_mut : Writing → List ℕ
 packet_bytes_mut p = (packet_slice p).now
 
--- the view is still of the same slice, which holds these bytes now
+-- the view still borrows the same slice, and the slice now holds these bytes
 abbrev pub Becomes : Writing → Writing → List ℕ → Type 0
 Becomes old new bytes = Holds (packet_slice old) (packet_slice new) bytes
 
--- the length of a packet in octets, its header included
+-- the length of the packet in octets: header and payload
 abbrev pub total_len : List ℕ → ℕ
 total_len bytes = 40 + field bytes 32 16
 
--- what follows the header, up to the packet's length
+-- the payload: the bytes behind the header, up to the end of the packet
 abbrev pub payload_of : List ℕ → List ℕ
 payload_of bytes = slice_range bytes 40 (total_len bytes)
 
--- the bytes hold a whole header and all that it speaks of
+-- the lengths are valid: the bytes hold a whole header, and a payload of the length that it names
 abbrev pub HasLengths : List ℕ → Type 0
 HasLengths bytes = total_len bytes ≤ length bytes
 
--- the bytes begin with a packet whose header has these values
+-- the bytes begin with a packet that parses as this value
 pub record Reads (bytes : List ℕ) (v : Ipv6Repr) : Type 0 where
   pub lengths : HasLengths bytes
   pub version : field bytes 0 4 ≡ 6
@@ -63,19 +63,19 @@ header_of bytes = record {
   hop_limit = field bytes 56 8;
 }
 
--- whether the bytes are read as a value
+-- whether the bytes parse
 abbrev pub is_read : List ℕ → Bool
 is_read bytes = nat_le (total_len bytes) (length bytes) && field bytes 0 4 == 6
 
--- the one value that the bytes are read as, if there is one
+-- the value that the bytes parse as, if there is one
 unfoldable pub ipv6_of : List ℕ → Option Ipv6Repr
 ipv6_of bytes = if is_read bytes then Some (header_of bytes) else None
 
--- the header that has these values: version 6, no traffic class, no flow label
+-- the header with these values: version 6, traffic class 0, flow label 0
 abbrev pub bytes_of : Ipv6Repr → List ℕ
 bytes_of v =
     (0x60 ∷ 0 ∷ 0 ∷ 0 ∷ []) ++ big_bytes 2 v.payload_len ++ (number_of v.next_header ∷ v.hop_limit ∷ []) ++ v.src_addr ++ v.dst_addr
 
--- the value that is read of its header: a number of the table has its own name
+-- the normal form: the value that its header parses as; a protocol number that has a name becomes that name
 abbrev pub normal : Ipv6Repr → Ipv6Repr
 normal v = record v { next_header = known v.next_header }

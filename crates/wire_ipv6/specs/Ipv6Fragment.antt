@@ -8,7 +8,7 @@ use Rattle.wire_field.specs.Loan.{Holds}
 use Rattle.wire_ipv6.specs.declared.ipv6fragment.header.Ipv6FragmentView.{Ipv6FragmentView}
 use Rattle.wire_ipv6.specs.declared.ipv6fragment.repr.Ipv6FragmentRepr.{Ipv6FragmentRepr}
 
--- a view that reads, and one that writes too
+-- a reading view, and a mutable view
 abbrev pub Reading : Type 0
 Reading = Ipv6FragmentView (Bor (List ℕ))
 
@@ -19,19 +19,19 @@ Writing = Ipv6FragmentView (MutBor (List ℕ))
 abbrev pub header_slice : {B : Type 0} → Ipv6FragmentView B → B
 header_slice h = h.buffer
 
--- the bytes under a view
+-- the bytes under a reading view
 abbrev pub header_bytes : Reading → List ℕ
 header_bytes h = (header_slice h).now
 
--- the bytes under a writing view
+-- the bytes under a mutable view
 abbrev pub header_bytes_mut : Writing → List ℕ
 header_bytes_mut h = (header_slice h).now
 
--- the view is still of the same slice, which holds these bytes now
+-- the view still borrows the same slice, and the slice now holds these bytes
 abbrev pub Becomes : Writing → Writing → List ℕ → Type 0
 Becomes old new bytes = Holds (header_slice old) (header_slice new) bytes
 
--- the bytes begin with a header that has these values, whatever its two reserved bits are
+-- the bytes begin with a header that parses as this value; the two reserved bits are ignored
 pub record Reads (bytes : List ℕ) (v : Ipv6FragmentRepr) : Type 0 where
   pub whole : 6 ≤ length bytes
   pub frag_offset : v.frag_offset ≡ field bytes 0 13
@@ -46,19 +46,19 @@ header_of bytes = record {
   ident = field bytes 16 32;
 }
 
--- the one value that the bytes are read as, if there is one
+-- the value that the bytes parse as, if there is one
 unfoldable pub ipv6_fragment_of : List ℕ → Option Ipv6FragmentRepr
 ipv6_fragment_of bytes = if nat_le 6 (length bytes) then Some (header_of bytes) else None
 
--- the value that is read of the header of a value: its offset is cut to 13 bits
+-- the normal form: the value that its header parses as; the offset is cut to 13 bits
 abbrev pub normal : Ipv6FragmentRepr → Ipv6FragmentRepr
 normal v = record v { frag_offset = v.frag_offset % 2 ^ 13 }
 
--- the number 1 for a flag that is set, else 0
+-- 1 for a flag that is set, else 0
 abbrev pub flag : Bool → ℕ
 flag set = if set then 1 else 0
 
--- the header that has these values: its offset is cut to 13 bits, and the reserved bits are 0
+-- the header with these values: the offset is cut to 13 bits, and the reserved bits are 0
 abbrev pub bytes_of : Ipv6FragmentRepr → List ℕ
 bytes_of v = big_bytes 2 (v.frag_offset % 2 ^ 13 * 8 + flag v.more_frags) ++ big_bytes 4 v.ident
 
@@ -71,6 +71,6 @@ unfoldable pub value_text : Ipv6FragmentRepr → List ℕ
 value_text v =
     codes "IPv6 Fragment offset=" ++ decimal v.frag_offset ++ codes " more=" ++ flag_text v.more_frags ++ codes " ident=" ++ decimal v.ident
 
--- the printed text of a header: that of its values, where it has any
+-- the printed text of a header, or that the bytes hold none
 abbrev pub header_text : List ℕ → List ℕ
 header_text bytes = option_map_or value_text (ipv6_fragment_of bytes) (codes "IPv6 Fragment (wire::Error)")

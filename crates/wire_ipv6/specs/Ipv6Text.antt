@@ -1,4 +1,4 @@
--- The texts that IPv6 headers print as.
+-- The printed texts of IPv6 headers.
 use Rattle.std.specs.Prelude.{ℕ, ◌++◌, List, codes, decimal}
 use Rattle.std.specs.Option.{option_map_or}
 use Rattle.wire_addr.specs.Printed.{ipv6_text}
@@ -12,6 +12,6 @@ value_text v =
     codes "IPv6 src=" ++ ipv6_text v.src_addr ++ codes " dst=" ++ ipv6_text v.dst_addr ++ codes " nxt_hdr=" ++ protocol_text v.next_header
     ++ codes " hop_limit=" ++ decimal v.hop_limit
 
--- the printed text of a packet: that of its header's values, or that they make no header
+-- the printed text of a packet: that of its header, or that the bytes do not parse
 unfoldable pub packet_text : List ℕ → List ℕ
 packet_text bytes = option_map_or value_text (ipv6_of bytes) (codes "IPv6 (wire::Error)")

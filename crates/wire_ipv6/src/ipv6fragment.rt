@@ -8,5 +8,5 @@ mod repr;
 pub use header::{Ipv6FragmentHeader, Ipv6FragmentHeaderMut};
 pub use repr::Ipv6FragmentRepr;
 
-// The length of a header without its first two bytes.
+// The length of a header without its first two bytes, in octets.
 const HEADER_LEN: usize = 6;

@@ -25,7 +25,7 @@ pub fn reads_once_ipv6(bytes: &[u8], value: Ipv6Repr, other: Ipv6Repr)
     ensures { value ≡ other }
 {}
 
-/// The value computed from bytes is the one that they parse as.
+/// The computed value of bytes is the value that they parse as.
 pub fn reading_is_computed_ipv6(bytes: &[u8], value: Ipv6Repr)
     ensures { (ipv6.ipv6_of bytes.now ≡ Some value) ↔ ipv6.Reads bytes.now value }
 {}
@@ -39,7 +39,7 @@ pub fn one_value_changes_ipv6(bytes: &[u8], value: Ipv6Repr, octet: u8, address:
     ensures dst_addr { ipv6.Reads (with_range bytes.now 24 40 address) (record value { dst_addr = address }) }
 {}
 
-/// A normal form is its own, and a value that was read is in its normal form.
+/// The normal form of a normal form is itself, and a parsed value is in normal form.
 pub fn normal_twice_ipv6(bytes: &[u8], value: Ipv6Repr)
     ensures twice { ipv6.normal (ipv6.normal value) ≡ ipv6.normal value }
     ensures read { ipv6.Reads bytes.now value → ipv6.normal value ≡ value }
@@ -57,24 +57,24 @@ pub fn reads_once_ipv6_fragment(bytes: &[u8], value: Ipv6FragmentRepr, other: Ip
     ensures { value ≡ other }
 {}
 
-/// The value computed from bytes is the one that they parse as.
+/// The computed value of bytes is the value that they parse as.
 pub fn reading_is_computed_ipv6_fragment(bytes: &[u8], value: Ipv6FragmentRepr)
     ensures { (fragment.ipv6_fragment_of bytes.now ≡ Some value) ↔ fragment.Reads bytes.now value }
 {}
 
-/// A normal form is its own, and a value that was read is in its normal form.
+/// The normal form of a normal form is itself, and a parsed value is in normal form.
 pub fn normal_twice_ipv6_fragment(bytes: &[u8], value: Ipv6FragmentRepr)
     ensures twice { fragment.normal (fragment.normal value) ≡ fragment.normal value }
     ensures read { fragment.Reads bytes.now value → fragment.normal value ≡ value }
 {}
 
-/// What was read is emitted, with its payload, in no more bytes than it was read from.
+/// The header emitted for a parsed value, with the payload, is never longer than the parsed bytes.
 pub fn no_more_bytes_ipv6(bytes: &[u8], value: Ipv6Repr)
     requires { ipv6.Reads bytes.now value }
     ensures { length (ipv6.bytes_of value) + value.payload_len ≤ length bytes.now }
 {}
 
-/// What was read is emitted in no more bytes than it was read from.
+/// The header emitted for a parsed value is never longer than the parsed bytes.
 pub fn no_more_bytes_ipv6_fragment(bytes: &[u8], value: Ipv6FragmentRepr)
     requires { fragment.Reads bytes.now value }
     ensures { length (fragment.bytes_of value) ≤ length bytes.now }

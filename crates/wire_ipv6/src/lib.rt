@@ -1,4 +1,4 @@
-//! IPv6 headers, and those of its fragments.
+//! IPv6 headers and IPv6 fragment headers.
 #![tactic(auto)]
 
 mod ipv6;

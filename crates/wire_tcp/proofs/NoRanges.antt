@@ -7,6 +7,7 @@ len_if-most : (b : Bool) (n : ℕ) → len_if b n ≤ n
 len_if-most true n = omega arith
 len_if-most false n = omega arith
 
+-- a value without SACK ranges has a header of at most 40 octets
 pub header_len-no_ranges : (v : TcpHeader) → v.sack_ranges ≡ no_ranges → header_len_of v ≤ 40
 header_len-no_ranges v none =
     let sack : sack_len (count_by is_some v.sack_ranges) ≡ 0 = ap (λ (rs : List (Option (ℕ × ℕ))). sack_len (count_by is_some rs)) none in
@@ -20,6 +21,7 @@ ranges_kept : (ranges : List (Option (ℕ × ℕ))) (unwritten : Bool) → range
 ranges_kept ranges true none = sym none
 ranges_kept ranges false none = ap closed none ∙ sym none
 
+-- a value without SACK ranges is normal if its window scale is at most 14
 pub normal-no_ranges : (v : TcpHeader) → v.sack_ranges ≡ no_ranges → IfSome v.window_scale (λ n. n ≤ 14) → normal v ≡ v
 normal-no_ranges v none small =
     let scale = scale_kept v.window_scale small in

@@ -1,4 +1,4 @@
--- The computed items of options are those of their one list.
+-- The computed items of options are those of their option list.
 use Rattle.std.proofs.Common.{ℕ, zero, suc, ◌≡◌, ◌≢◌, ◌↔◌, ◌<◌, ◌≤◌, ◌==◌, List, [], ◌∷◌, ◌++◌, length, Option, Some, None, refl, sym, ap, subst, ◌∙◌, append_assoc, arith}
 use Rattle.std.specs.List.{AllByRecursion}
 use Rattle.std.specs.Option.{option_and_then, option_map}
@@ -8,7 +8,7 @@ use Rattle.wire_tcp_parts.proofs.FirstItems.{Leads, Leads-first_item, first_item
 use Rattle.wire_tcp_parts.proofs.OptionLists.{shorter, text_head}
 use Rattle.wire_tcp.specs.TcpRepr.{items_in, items_within}
 
--- an item, and those that are computed of what follows it
+-- an item, followed by the computed items of the rest
 abbrev then_more : ℕ → Item × List ℕ → Option (List Item)
 then_more n d = option_map (λ items. d.0 ∷ items) (items_within n d.1)
 
@@ -25,11 +25,11 @@ at_item : (n kind : ℕ) (rest : List ℕ) → kind ≢ 0 → items_within (suc 
 unfolding items_within
 at_item n kind rest some = rw (false_from_ne_true (kind == 0) (λ e. some (eqb-true kind 0 e))) refl
 
--- an item is one of those that were computed
+-- an item of the computed list
 abbrev Listed : List ℕ → List Item → Type 0
 Listed bytes items = (tail : List ℕ) × IsOptionList bytes items tail
 
--- a list with one more item
+-- a list with one more item in front
 more : (bytes : List ℕ) (i : Item) (rest : List ℕ) (items : List Item) → Leads bytes i rest → Listed rest items → Listed bytes (i ∷ items)
 more bytes i rest items lead (tail, l) = (
   tail,
@@ -44,7 +44,7 @@ mapped : (f : List Item → List Item) (o : Option (List Item)) (ys : List Item)
 mapped f None ys e = absurd (cc)
 mapped f (Some xs) ys e = (xs, refl, cc)
 
--- what is computed with an item in front
+-- the computed list with an item in front
 after : (n : ℕ) (o : Option (Item × List ℕ)) (items : List Item) → option_and_then (then_more n) o ≡ Some items
     → (d : Item × List ℕ) × (xs : List Item) × (o ≡ Some d) × (items_within n d.1 ≡ Some xs) × (d.0 ∷ xs ≡ items)
 after n None items e = absurd (cc)
@@ -61,7 +61,7 @@ none_left : (kind : ℕ) (rest : List ℕ) (items : List Item) → items_within 
 unfolding items_within
 none_left kind rest items e = cc
 
--- what is computed is a list
+-- the computed items are an option list
 listed : (n : ℕ) (bytes : List ℕ) (items : List Item) → items_within n bytes ≡ Some items → Listed bytes items
 listed n [] items e = nothing [] items tt (sym (at_none n) ∙ e)
 listed zero (kind ∷ rest) items e = absurd (none_left kind rest items e)
@@ -82,7 +82,7 @@ stepped i items rest r bytes (suc n) is joined cells less room behind =
     ∙ ap (option_and_then (then_more n)) (ap first_item (sym cells) ∙ Leads-first_item bytes i rest (record { is = is; joined = joined }))
     ∙ ap (option_map (λ items. i ∷ items)) (behind n (omega (arith, less, room)))
 
--- a list is what is computed
+-- an option list is the computed one
 computed : (items : List Item) (tail : List ℕ) (n : ℕ) → AllByRecursion IsItem items → IsTail tail → length (texts items ++ tail) ≤ n → items_within n (texts items ++ tail) ≡ Some items
 computed [] [] n all ended room = at_none n
 computed [] (b ∷ tail) zero all ended room = absurd (omega arith)

@@ -15,7 +15,7 @@ use Rattle.wire_tcp_parts.proofs.Summaries.{and_left, and_right}
 use Rattle.wire_tcp.proofs.TcpComputed.{tcp_of-Reads}
 use Rattle.wire_tcp.specs.TcpRepr.{Reads, ReadsOptions, TcpHeader, stamp_of, sack_len, len_if, header_len_of, tcp_of}
 
--- one field of what the items say asks for no more than the field of the later items and this item
+-- the option length of one field is at most that of the later items and of this item
 field_step : {X : Type 0} (f : Item → X) (w : ℕ) (o : Option Item) (b : Bool) (i : Item) → len_if (is_some (option_map f (option_or o (cond b (Some i) None)))) w ≤ len_if (is_some (option_map f o)) w + len_if b w
 field_step f w (Some x) b i = omega arith
 field_step f w None true i = omega arith
@@ -42,7 +42,7 @@ block_if content a b = cond b (Some (big_number 4 (drop (8 * a) content), big_nu
 abbrev block_count : List ℕ → ℕ → Bool → ℕ
 block_count content a b = cond (is_some (block_if content a b)) 1 0
 
--- of n blocks, those from a on
+-- of n blocks, those from index a on
 blocks_from : (content : List ℕ) (n : ℕ) → length content ≡ 8 * n → (m a : ℕ) → count_by is_some (map (block_at content) (range_with_len a m)) ≤ n - a
 blocks_from content n whole zero a = omega arith
 blocks_from content n whole (suc m) a =
@@ -61,14 +61,14 @@ sack_len-le : (k n : ℕ) → k ≤ n → sack_len k ≤ 2 + 8 * n
 sack_len-le zero n h = omega arith
 sack_len-le (suc k) n h = let e = sack_len-suc k in omega (arith, e)
 
--- blocks of data are as many bytes as the ranges that are kept of them
+-- whole blocks of data are at least as long as the ranges kept from them
 pub kept-le : (content : List ℕ) (n : ℕ) → length content ≡ 8 * n → kept (first_blocks content) ≤ 2 + length content
 kept-le content n whole =
     let most = blocks_from content n whole SACK_BLOCKS 0 in
     let l = sack_len-le (count_by is_some (first_blocks content)) n (omega (arith, most)) in
     omega (arith, l, whole)
 
--- what the items ask for
+-- the option lengths that the items need
 abbrev pub asked : List Item → ℕ
 asked items =
     len_if (is_some (segment_size_of items)) 4 + len_if (is_some (window_scale_of items)) 3 + len_if (sack_permitted_of items) 2
@@ -108,7 +108,7 @@ weight_other i n₂ n₃ n₄ n₅ n₈ =
 at_kind : (i : Item) (k : ℕ) → eqb i.kind k ≡ true → IsWeighed (item k i.content) → IsWeighed i
 at_kind i k e h = subst (λ n. IsWeighed (item n i.content)) (sym (eqb-true i.kind k e)) h
 
--- an item is as long as what it can be read for
+-- an item is at least as long as the option emitted for its value
 weight : (i : Item) → IsItem i → IsWeighed i
 weight i is = elim (cases_Bool (eqb i.kind 2)) [
   | inl y ↦ at_kind i 2 y (weight_2 i.content (is.segment_size (eqb-true i.kind 2 y)))

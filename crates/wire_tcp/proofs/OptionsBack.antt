@@ -30,7 +30,7 @@ last_of-append : (p : Item → Bool) (xs ys : List Item) → last_of p (xs ++ ys
 last_of-append p [] ys = sym (or_none (last_of p ys))
 last_of-append p (x ∷ xs) ys = ap (λ o. option_or o (cond (p x) (Some x) None)) (last_of-append p xs ys) ∙ or_assoc (last_of p ys) (last_of p xs) (cond (p x) (Some x) None)
 
--- of two lists, one of which has none
+-- of two lists, one is empty
 in_front : (p : Item → Bool) (xs ys : List Item) → last_of p ys ≡ None → last_of p (xs ++ ys) ≡ last_of p xs
 in_front p xs ys none = last_of-append p xs ys ∙ ap (λ o. option_or o (last_of p xs)) none
 
@@ -57,7 +57,7 @@ no_sack p g h true n bytes = ap (λ b. cond b (Some (item 4 [])) None) (g _)
 no_sack p g h false true bytes = refl
 no_sack p g h false false bytes = ap (λ b. cond b (Some (item 5 bytes)) None) (h _)
 
--- the big-endian bytes of a number are read as the number
+-- the big-endian bytes of a number parse as the number
 number_back_2 : (x : ℕ) (rest : List ℕ) → x < 2 ^ 16 → big_number 2 (big_bytes 2 x ++ rest) ≡ x
 number_back_2 x rest h = let e = from_be_bytes-to_be_bytes_2 x h in omega (arith, e)
 
@@ -174,7 +174,7 @@ count_somes [] = refl
 count_somes (None ∷ rs) = count_somes rs
 count_somes (Some r ∷ rs) = let h = count_somes rs in let n = sum_by-cons (λ x. cond (is_some x) 1 0) (Some r) rs in omega (arith, h, n)
 
--- no ranges, padded to n places, are n times `None`
+-- no ranges, padded to n elements, are n times `None`
 pub closed_none : (ps : List Pair) (n : ℕ) → length ps ≡ 0 → map Some ps ++ replicate (n - length ps) None ≡ replicate n None
 closed_none [] n e = ap (λ m. replicate m None) (omega arith)
 closed_none (p ∷ ps) n e = absurd (omega (arith, e))
@@ -290,7 +290,7 @@ gaps_twice : (b : Bool) (none rs : List (Option Pair)) → cond b none (closed (
 gaps_twice true none rs = refl
 gaps_twice false none rs = closed_twice rs
 
--- a normal form is normal
+-- the normal form of a normal form is itself
 pub twice : (v : TcpHeader) → normal (normal v) ≡ normal v
 twice v =
     ap (λ s. record v { window_scale = s; sack_ranges = (normal (normal v)).sack_ranges }) (min_twice v.window_scale)

@@ -1,4 +1,4 @@
--- The sum of a segment, and its checksum in it.
+-- The sum of a segment with its checksum.
 use Rattle.std.proofs.Common.{ℕ, ◌≡◌, ◌≤◌, ◌<◌, ◌+◌, ◌-◌, ◌%◌, List, ◌++◌, length, sum, take, drop, refl, sym, ap, ◌∙◌, append_assoc, length-append, length-drop, arith}
 use Rattle.std.proofs.lemmas.List.{drop_at, length-take-le, take_at}
 use Rattle.byteorder.specs.Endian.{big_bytes}
@@ -13,11 +13,11 @@ use Rattle.wire_checksum.specs.WordSum.{residue, words}
 use Rattle.wire_ends.specs.declared.ip_protocol.IpProtocol.TheVariants as protocol
 use Rattle.wire_tcp.specs.Tcp.{Verifies, segment_sum, with_checksum}
 
--- a word in its place
+-- a word at its index
 abbrev pub with_word : List ℕ → ℕ → ℕ → List ℕ
 with_word bytes n x = take n bytes ++ big_bytes 2 x ++ drop (n + 2) bytes
 
--- the field of the checksum is a word
+-- the checksum field is a word
 pub field-word : (bytes : List ℕ) (x : ℕ) → with_field bytes 128 16 x ≡ with_word bytes 16 x
 field-word bytes x = rw (word_high, word_low) refl
 
@@ -38,7 +38,7 @@ length-with_word bytes n x h =
     let behind = length-drop (n + 2) bytes in
     length-append (take n bytes ++ big_bytes 2 x) (drop (n + 2) bytes) ∙ omega (arith, h, length-append (take n bytes) (big_bytes 2 x), front, behind)
 
--- the second of two writes to one word counts
+-- of two writes to one word the second remains
 again : (bytes : List ℕ) (n x y : ℕ) → n + 2 ≤ length bytes → with_word (with_word bytes n x) n y ≡ with_word bytes n y
 again bytes n x y h = rw (take-with_word bytes n x h, drop-with_word bytes n x h) refl
 
@@ -46,7 +46,7 @@ sum-words-word : (x : ℕ) → x < 65536 → sum (words (big_bytes 2 x)) ≡ x
 unfolding words
 sum-words-word x fits = omega arith
 
--- the word adds itself to the sum
+-- writing the word adds it to the sum
 sum-words-with_word : (bytes : List ℕ) (n x : ℕ) → n % 2 ≡ 0 → n + 2 ≤ length bytes → x < 65536
     → sum (words (with_word bytes n x)) ≡ sum (words (take n bytes)) + (x + sum (words (drop (n + 2) bytes)))
 sum-words-with_word bytes n x whole h fits =
@@ -56,7 +56,7 @@ sum-words-with_word bytes n x whole h fits =
     ∙ sum-words-append (take n bytes) (big_bytes 2 x ++ drop (n + 2) bytes) even
     ∙ ap (λ (m : ℕ). sum (words (take n bytes)) + m) (sum-words-append (big_bytes 2 x) (drop (n + 2) bytes) refl ∙ ap (λ (m : ℕ). m + sum (words (drop (n + 2) bytes))) (sum-words-word x fits))
 
--- behind the pseudo header too, which is whole words
+-- the same with the pseudo-header in front, which consists of whole words
 pub sum-words-segment : (src dst : IpAddress) (bytes : List ℕ) (n x : ℕ) → length (octets_of src) % 2 ≡ 0 → length (octets_of dst) % 2 ≡ 0 → n % 2 ≡ 0 → n + 2 ≤ length bytes → x < 65536
     → sum (words (with_pseudo_header src dst protocol.Tcp (with_word bytes n x))) ≡ sum (words (with_pseudo_header src dst protocol.Tcp (with_word bytes n 0))) + x
 sum-words-segment src dst bytes n x s d whole h fits =
@@ -72,7 +72,7 @@ sum-words-segment src dst bytes n x s d whole h fits =
     moved : (a b c x : ℕ) → a + (b + (x + c)) ≡ a + (b + (0 + c)) + x
     moved a b c x = omega arith
 
--- a segment with its checksum verifies
+-- a segment with its checksum is valid
 pub verifies : (src dst : IpAddress) (bytes : List ℕ) → length (octets_of src) % 2 ≡ 0 → length (octets_of dst) % 2 ≡ 0 → 18 ≤ length bytes → Verifies src dst (with_checksum src dst bytes)
 verifies src dst bytes s d h =
     let total = sum (words (with_pseudo_header src dst protocol.Tcp (with_word bytes 16 0))) in

@@ -13,7 +13,7 @@ use Rattle.wire_tcp_parts.specs.declared.tcp.control.TcpControl.{TcpControl}
 use Rattle.wire_tcp_parts.specs.declared.tcp.control.TcpControl.TheVariants as control
 use Rattle.wire_tcp.specs.TcpRepr.{HasControl, HasFlags, Reads, ReadsOptions, TcpHeader, ack_number_of, seq_of}
 
--- the length, the flags, both numbers and what stands behind the first twenty bytes are the same
+-- the length, the flags, both numbers and the bytes behind the first twenty are the same
 pub record SameShape (old new : List ℕ) : Type 0 where
   pub long : length new ≡ length old
   pub header : header_len new ≡ header_len old
@@ -87,6 +87,7 @@ receiver_read bytes src dst verified v payload r none = r.receiver (sym r.dst_po
 pub shape-src_port : (bytes : List ℕ) (x : ℕ) → 20 ≤ length bytes → SameShape bytes (with_field bytes 0 16 x)
 shape-src_port bytes x room = subst (λ (l : List ℕ). SameShape l (with_field l 0 16 x)) (sym (cells-drop 20 bytes room)) (record { long = refl; header = refl; behind = refl; psh = refl; rst = refl; syn = refl; fin = refl; seq_number = refl; ack_number = refl })
 
+-- writing the source port changes only the source port of the value
 pub reads-src_port : (bytes : List ℕ) (x : ℕ) (src dst : IpAddress) (verified checked : Bool) (v : TcpHeader) (payload : List ℕ) → AreBytes bytes → x < 65536 → x ≢ 0 → Reads bytes src dst verified v payload
     → (IsTrue checked → Verifies src dst (with_field bytes 0 16 x)) → Reads (with_field bytes 0 16 x) src dst checked (record v { src_port = x }) payload
 reads-src_port bytes x src dst verified checked v payload are fits some r valid =
@@ -100,6 +101,7 @@ reads-src_port bytes x src dst verified checked v payload are fits some r valid 
 pub shape-dst_port : (bytes : List ℕ) (x : ℕ) → 20 ≤ length bytes → SameShape bytes (with_field bytes 16 16 x)
 shape-dst_port bytes x room = subst (λ (l : List ℕ). SameShape l (with_field l 16 16 x)) (sym (cells-drop 20 bytes room)) (record { long = refl; header = refl; behind = refl; psh = refl; rst = refl; syn = refl; fin = refl; seq_number = refl; ack_number = refl })
 
+-- writing the destination port changes only the destination port of the value
 pub reads-dst_port : (bytes : List ℕ) (x : ℕ) (src dst : IpAddress) (verified checked : Bool) (v : TcpHeader) (payload : List ℕ) → AreBytes bytes → x < 65536 → x ≢ 0 → Reads bytes src dst verified v payload
     → (IsTrue checked → Verifies src dst (with_field bytes 16 16 x)) → Reads (with_field bytes 16 16 x) src dst checked (record v { dst_port = x }) payload
 reads-dst_port bytes x src dst verified checked v payload are fits some r valid =
@@ -113,6 +115,7 @@ reads-dst_port bytes x src dst verified checked v payload are fits some r valid 
 pub shape-window_len : (bytes : List ℕ) (x : ℕ) → 20 ≤ length bytes → SameShape bytes (with_field bytes 112 16 x)
 shape-window_len bytes x room = subst (λ (l : List ℕ). SameShape l (with_field l 112 16 x)) (sym (cells-drop 20 bytes room)) (record { long = refl; header = refl; behind = refl; psh = refl; rst = refl; syn = refl; fin = refl; seq_number = refl; ack_number = refl })
 
+-- writing the window changes only the window of the value
 pub reads-window_len : (bytes : List ℕ) (x : ℕ) (src dst : IpAddress) (verified checked : Bool) (v : TcpHeader) (payload : List ℕ) → AreBytes bytes → x < 65536 → Reads bytes src dst verified v payload
     → (IsTrue checked → Verifies src dst (with_field bytes 112 16 x)) → Reads (with_field bytes 112 16 x) src dst checked (record v { window_len = x }) payload
 reads-window_len bytes x src dst verified checked v payload are fits r valid =
@@ -126,7 +129,7 @@ reads-window_len bytes x src dst verified checked v payload are fits r valid =
 pub shape-checksum : (bytes : List ℕ) (x : ℕ) → 20 ≤ length bytes → SameShape bytes (with_field bytes 128 16 x)
 shape-checksum bytes x room = subst (λ (l : List ℕ). SameShape l (with_field l 128 16 x)) (sym (cells-drop 20 bytes room)) (record { long = refl; header = refl; behind = refl; psh = refl; rst = refl; syn = refl; fin = refl; seq_number = refl; ack_number = refl })
 
--- the checksum is no value, and only it depends on the addresses
+-- the checksum is not part of the value, and it alone depends on the addresses
 pub reads-checksum : (bytes : List ℕ) (x : ℕ) (src dst src' dst' : IpAddress) (verified checked : Bool) (v : TcpHeader) (payload : List ℕ) → Reads bytes src dst verified v payload
     → (IsTrue checked → Verifies src' dst' (with_field bytes 128 16 x)) → Reads (with_field bytes 128 16 x) src' dst' checked v payload
 reads-checksum bytes x src dst src' dst' verified checked v payload r valid =

@@ -16,9 +16,9 @@ use Rattle.wire_tcp.specs.declared.tcp.repr.TcpRepr.{TcpRepr}
 use Rattle.wire_tcp.proofs.OptionItems.{items_in-list}
 pub use Rattle.wire_tcp.proofs.TcpLengths.{HasLengths-has_lengths, has_lengths-HasLengths}
 
--- ---- what the flags ask for
+-- ---- the flags
 
--- a control of these flags
+-- the control of these flags
 abbrev Asks : ℕ → ℕ → ℕ → ℕ → TcpControl → Type 0
 Asks r s f p control.Rst = (r ≡ 1) × (s ≡ 0) × (f ≡ 0)
 Asks r s f p control.Syn = (r ≡ 0) × (s ≡ 1) × (f ≡ 0)
@@ -95,13 +95,13 @@ same_header v w a b c d e f g h j k l = λ i. record {
   timestamp = l i;
 }
 
--- what is read is what the fields and the items say
+-- the parsed value is that of the fields and items
 Reads-is : (src dst : IpAddress) (verified : Bool) (bytes payload : List ℕ) (v : TcpHeader) → (r : Reads bytes src dst verified v payload) → header_with bytes v.control r.options.items ≡ v
 Reads-is src dst verified bytes payload v r =
     same_header (header_with bytes v.control r.options.items) v (sym r.src_port) (sym r.dst_port) refl (sym r.seq_number) (sym r.ack_number) (sym r.window_len)
     (sym r.options.window_scale) (sym r.options.max_seg_size) (sym r.options.sack_permitted) (sym r.options.sack_ranges) (sym r.options.timestamp)
 
--- the parts of the whole test
+-- the conditions of the whole test
 conjuncts : (lengths sender receiver verified holds : Bool) → (lengths && not sender && not receiver && (not verified || holds)) ≡ true
     → (lengths ≡ true) × (sender ≡ false) × (receiver ≡ false) × (IsTrue verified → holds ≡ true)
 conjuncts true false false true true e = (refl, refl, refl, λ on. refl)
@@ -116,7 +116,7 @@ together : (lengths sender receiver verified holds : Bool) → lengths ≡ true 
 together lengths sender receiver true holds l s r h = rw (l, s, r, h refl) refl
 together lengths sender receiver false holds l s r h = rw (l, s, r) refl
 
--- a choice that gives a value
+-- a choice that returns a value
 chosen : (b : Bool) (o : Option TcpHeader) (v : TcpHeader) → (if b then o else None) ≡ Some v → (b ≡ true) × (o ≡ Some v)
 chosen true o v e = (refl, e)
 chosen false o v e = absurd (cc)
@@ -174,7 +174,7 @@ reads-tcp_of src dst verified bytes payload v r =
     let are = (items_in-list (options_of bytes) r.options.items).1 (r.options.tail, r.options.list) in
     rw (sound, asks, are) (ap Some (Reads-is src dst verified bytes payload v r))
 
--- the computed value is the one that is read
+-- the computed value is the one that the relation `Reads` defines
 pub tcp_of-Reads : (src dst : IpAddress) (verified : Bool) (bytes : List ℕ) (v : TcpHeader) → (tcp_of src dst verified bytes ≡ Some v) ↔ Reads bytes src dst verified v (payload_of bytes)
 tcp_of-Reads src dst verified bytes v = (tcp_of-reads src dst verified bytes v, reads-tcp_of src dst verified bytes (payload_of bytes) v)
 

@@ -1,4 +1,4 @@
--- The parts of a segment that is written, one after the other.
+-- The parts of an emitted segment, in order.
 use Rattle.std.proofs.Common.{ℕ, zero, suc, ◌≡◌, ◌≢◌, ◌+◌, ◌-◌, ◌*◌, ◌≤◌, eqb, ◌||◌, Bool, true, false, cond, List, [], ◌∷◌, ◌++◌, length, drop, take, replicate, count_by, is_some, is_none, Option, Some, None, refl, sym, ap, ◌∙◌, append_assoc, length-append, arith}
 use Rattle.std.specs.Borrow.{MutBor}
 use Rattle.std.proofs.lemmas.Bool.{eqb-true, false_from_ne_true}
@@ -25,14 +25,14 @@ pub not_none : {X : Type 0} (o : Option X) → is_some o ≡ true → is_none o 
 not_none None e = absurd (cc)
 not_none (Some x) e = refl
 
--- ranges are written as their item
+-- ranges are emitted as their item
 pub texts-ranges : (v : TcpHeader) → v.sack_permitted ≡ false → is_some v.ack_number ≡ true → count_by is_some v.sack_ranges ≢ 0
     → 5 ∷ (2 + 8 * count_by is_some v.sack_ranges) ∷ range_bytes v.sack_ranges ≡ texts (sack_items v)
 texts-ranges v p a n =
     let some : eqb (count_by is_some v.sack_ranges) 0 ≡ false = false_from_ne_true _ (λ y. n (eqb-true _ 0 y)) in
     rw (p, not_none v.ack_number a, some, append-nil, length-range_bytes v.sack_ranges) refl
 
--- the length of the SACK option in octets, if ranges are written
+-- the length of the SACK option in octets, if ranges are emitted
 pub length-ranges : (v : TcpHeader) → v.sack_permitted ≡ false → is_some v.ack_number ≡ true → count_by is_some v.sack_ranges ≢ 0
     → length (texts (sack_items v)) ≡ 2 + 8 * count_by is_some v.sack_ranges
 length-ranges v p a n =
@@ -61,7 +61,7 @@ sack_items_len false false (suc n) bytes e =
     let k = sack_len-suc n in
     omega (arith, e, k, l, length-append bytes [])
 
--- the options that are written fit into the header
+-- the emitted options fit into the header
 pub written_len : (v : TcpHeader) → length (texts (segment_size_items v.max_seg_size)) + length (texts (window_scale_items v.window_scale)) + length (texts (sack_items v))
     + length (texts (timestamp_items v.timestamp)) + 20 ≤ header_len_of v
 written_len v =
@@ -76,7 +76,7 @@ texts_joined a b c d =
     flat_map-append text (a ++ b ++ c) d
     ∙ ap (λ (l : List ℕ). l ++ texts d) (flat_map-append text (a ++ b) c ∙ ap (λ (l : List ℕ). l ++ texts c) (flat_map-append text a b))
 
--- with the zeros behind them they fill it
+-- with the zeros behind them they fill the header
 pub length-option_bytes : (v : TcpHeader) → 20 + length (option_bytes v) ≡ header_len_of v
 length-option_bytes v =
     let a = segment_size_items v.max_seg_size in
@@ -101,9 +101,9 @@ length-option_bytes v =
 pub length-header_bytes : (v : TcpHeader) (checksum : ℕ) → length (header_bytes v checksum) ≡ header_len_of v
 length-header_bytes v checksum = omega (arith, length-option_bytes v)
 
--- ---- parts that are written behind one another
+-- ---- parts that are written one behind the other
 
--- one loan after another
+-- one borrow after another
 pub holds_then : (a b c : MutBor (List ℕ)) (x y z : List ℕ) → Holds a b x → Holds b c y → y ≡ z → Holds a c z
 holds_then a b c x y z h k e = record {
   same_loan = k.same_loan ∙ h.same_loan;
@@ -111,7 +111,7 @@ holds_then a b c x y z h k e = record {
   holds = k.holds ∙ e;
 }
 
--- a part behind a front that was written
+-- a part behind a front that is already written
 pub part_behind : (old b front part : List ℕ) (at end : ℕ) → b ≡ front ++ drop at old → at ≡ length front → end ≡ at + length part
     → with_range b at end part ≡ (front ++ part) ++ drop end old
 part_behind old b front part at end is place long =
@@ -124,7 +124,7 @@ part_behind old b front part at end is place long =
 length-part : (front part : List ℕ) (at end : ℕ) → at ≡ length front → end ≡ at + length part → end ≡ length (front ++ part)
 length-part front part at end place long = long ∙ ap (λ (n : ℕ). n + length part) place ∙ sym (length-append front part)
 
--- the options of a value, one after the other, and zeros
+-- the options of a value in order, and zeros
 pub options_behind : (v : TcpHeader) (old b₁ b₂ b₃ b₄ b₅ : List ℕ) (a₁ a₂ a₃ a₄ end : ℕ) → end ≡ header_len_of v → 20 ≤ length old
     → a₁ ≡ 20 + length (texts (segment_size_items v.max_seg_size)) → b₁ ≡ with_range old 20 a₁ (texts (segment_size_items v.max_seg_size))
     → a₂ ≡ a₁ + length (texts (window_scale_items v.window_scale)) → b₂ ≡ with_range b₁ a₁ a₂ (texts (window_scale_items v.window_scale))
@@ -181,16 +181,16 @@ checksum_filled v src dst payload rest =
     ap (λ (z : List ℕ). with_field z 128 16 (65535 - segment_sum src dst z)) zeroed
     ∙ field-word bytes (65535 - segment_sum src dst bytes)
 
--- the header up to its options, without a checksum
+-- the header up to its options, with 0 as checksum
 abbrev pub fixed_of : TcpHeader → List ℕ
 fixed_of v = fixed_bytes v.src_port v.dst_port (number v.seq_number) (ack_bits v) (offset_and_flags v) v.window_len
 
--- a segment begins with it
+-- a segment begins with that header
 pub begins_fixed : (v : TcpHeader) (payload rest bytes fixed : List ℕ) → fixed ≡ fixed_of v → bytes ≡ segment_with v payload 0 ++ rest → bytes ≡ fixed ++ drop 20 bytes
 begins_fixed v payload rest bytes fixed is whole =
     whole ∙ ap (λ (l : List ℕ). l ++ drop 20 (segment_with v payload 0 ++ rest)) (sym is) ∙ ap (λ (l : List ℕ). fixed ++ drop 20 l) (sym whole)
 
--- it and the options, one after the other
+-- that header and the options, in order
 header_written : (v : TcpHeader) (old with_fixed with_options : MutBor (List ℕ)) (fixed : List ℕ) (len : ℕ) → len ≡ header_len_of v → fixed ≡ fixed_of v
     → Holds old with_fixed (with_range old.now 0 (0 + length fixed) fixed) → Holds with_fixed with_options (with_range with_fixed.now 20 len (option_bytes v))
     → Holds old with_options (header_bytes v 0 ++ drop len old.now)
@@ -199,7 +199,7 @@ header_written v old with_fixed with_options fixed len size is first options =
     holds_then old with_fixed with_options (with_range old.now 0 (0 + length fixed) fixed) (with_range with_fixed.now 20 len (option_bytes v)) (header_bytes v 0 ++ drop len old.now) first options
     (part_behind old.now with_fixed.now (fixed_of v) (option_bytes v) 20 len begins refl (size ∙ sym (length-option_bytes v)))
 
--- the header up to its options, the options and the payload, one after the other
+-- the header up to its options, the options and the payload, in order
 pub segment_written : (v : TcpHeader) (payload : List ℕ) (old with_fixed with_options whole : MutBor (List ℕ)) (fixed : List ℕ) (len : ℕ) → len ≡ header_len_of v → fixed ≡ fixed_of v
     → Holds old with_fixed (with_range old.now 0 (0 + length fixed) fixed) → Holds with_fixed with_options (with_range with_fixed.now 20 len (option_bytes v))
     → Holds with_options whole (with_range with_options.now len (len + length payload) payload)
@@ -210,13 +210,13 @@ segment_written v payload old with_fixed with_options whole fixed len size is fi
     (part_behind old.now with_options.now (header_bytes v 0) payload len (len + length payload) header.holds (size ∙ sym (length-header_bytes v 0)) refl
     ∙ ap (λ (n : ℕ). segment_with v payload 0 ++ drop (n + length payload) old.now) size)
 
--- without a checksum
+-- with 0 as checksum
 pub left_unsummed : (v : TcpHeader) (src dst : IpAddress) (payload rest : List ℕ) (old whole : MutBor (List ℕ)) (computed : Bool) → computed ≡ false
     → Holds old whole (segment_with v payload 0 ++ rest) → Holds old whole (bytes_of v payload src dst computed rest ++ rest)
 left_unsummed v src dst payload rest old whole true e h = absurd (cc)
 left_unsummed v src dst payload rest old whole false e h = h
 
--- and with one
+-- with a computed checksum
 pub then_summed : (v : TcpHeader) (src dst : IpAddress) (payload rest : List ℕ) (old whole summed : MutBor (List ℕ)) (computed : Bool) → computed ≡ true
     → Holds old whole (segment_with v payload 0 ++ rest) → Holds whole summed (with_field whole.now 128 16 (65535 - segment_sum src dst whole.now)) → Holds old summed (bytes_of v payload src dst computed rest ++ rest)
 then_summed v src dst payload rest old whole summed false e h k = absurd (cc)

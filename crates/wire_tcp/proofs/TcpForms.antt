@@ -1,4 +1,4 @@
--- What was read is in range, and its normal form, or that form's header is shorter.
+-- A parsed value is in range. It is normal, or the header of its normal form is shorter.
 use Rattle.std.proofs.Common.{ℕ, zero, suc, ◌≡◌, ◌⊎◌, inl, inr, ◌+◌, ◌-◌, ◌*◌, ◌^◌, ◌<◌, ◌≤◌, ◌||◌, ◌==◌, eqb, nat_lt, min, Bool, true, false, IsTrue, cond, List, [], ◌∷◌, ◌++◌, length, drop, map, count_by, replicate, Option, Some, None, IfSome, is_some, is_none, refl, sym, ap, subst, ◌∙◌, append_assoc, length-append, arith}
 use Rattle.std.specs.List.{AllByRecursion, range_with_len}
 use Rattle.std.specs.Option.{option_map, option_map_or, option_or}
@@ -22,9 +22,9 @@ use Rattle.wire_tcp.proofs.OptionLens.{header_len-read, some_map}
 use Rattle.wire_tcp.proofs.TcpComputed.{same_header}
 use Rattle.wire_tcp.proofs.TcpReadsBack.{IsWritable}
 
--- ---- blocks that were read stand without gaps
+-- ---- parsed blocks have no gaps
 
--- ranges, and behind them nothing
+-- ranges, followed by `None` only
 abbrev Shaped : List (Option Pair) → Type 0
 Shaped rs = (ps : List Pair) × (k : ℕ) × (rs ≡ map Some ps ++ replicate k None)
 
@@ -56,7 +56,7 @@ closed-shaped rs (ps, k, is) =
 closed-blocks : (content : List ℕ) → closed (first_blocks content) ≡ first_blocks content
 closed-blocks content = closed-shaped (first_blocks content) (shaped content SACK_BLOCKS 0)
 
--- ---- normal, or shorter
+-- ---- normal, or a shorter header
 
 idle : (v : TcpHeader) → (v.sack_permitted || is_none v.ack_number) ≡ true → IsTrue v.sack_permitted ⊎ (v.ack_number ≡ None)
 idle v e = by v.sack_permitted v.ack_number e
@@ -74,7 +74,7 @@ not_idle v (some, inr none) = by v.sack_permitted (ap is_none none)
     by true e = refl
     by false e = e
 
--- what was read is normal, unless it has ranges that are not written
+-- a parsed value is normal unless it has ranges that are not emitted
 pub normal_or_idle : (src dst : IpAddress) (verified : Bool) (bytes payload : List ℕ) (v : TcpHeader) → Reads bytes src dst verified v payload → (normal v ≡ v) ⊎ HasIdleRanges v
 normal_or_idle src dst verified bytes payload v r =
     let items = r.options.items in
@@ -95,7 +95,7 @@ normal_or_idle src dst verified bytes payload v r =
       | inr n ↦ inl (is (chosen false n ∙ whole))
     ]
 
--- without these its header is shorter
+-- without these ranges its header is shorter
 pub idle-shorter : (v : TcpHeader) → HasIdleRanges v → header_len_of (normal v) < header_len_of v
 idle-shorter v h =
     let rs = v.sack_ranges in
@@ -106,12 +106,12 @@ idle-shorter v h =
     let scale : len_if (is_some (normal v).window_scale) 3 ≡ len_if (is_some v.window_scale) 3 = ap (λ (b : Bool). len_if b 3) (some_map (min 14) v.window_scale) in
     omega (arith, some, there, left, scale)
 
--- a value that was read is normal, or the header of its normal form is shorter
+-- a parsed value is normal, or the header of its normal form is shorter
 pub normal_or_shorter : (src dst : IpAddress) (verified : Bool) (bytes payload : List ℕ) (v : TcpHeader) → Reads bytes src dst verified v payload
     → (normal v ≡ v) ⊎ (header_len_of (normal v) < header_len_of v)
 normal_or_shorter src dst verified bytes payload v r = elim (normal_or_idle src dst verified bytes payload v r) [ inl e ↦ inl e | inr h ↦ inr (idle-shorter v h) ]
 
--- ---- what was read is in range
+-- ---- a parsed value is in range
 
 AreBytes-split : (xs ys : List ℕ) → AreBytes (xs ++ ys) → AreBytes xs × AreBytes ys
 AreBytes-split [] ys h = ((λ i. omega arith), h)
@@ -180,7 +180,7 @@ ack-fits : (b : Bool) (n : ℕ) → n < 2 ^ 32 → IfSome (cond b (Some (seq_of 
 ack-fits true n h = seq-fits n h
 ack-fits false n h = tt
 
--- what was read of bytes is in range
+-- the value parsed from bytes is in range
 pub Reads-IsInRange : (src dst : IpAddress) (verified : Bool) (bytes payload : List ℕ) (v : TcpHeader) → AreBytes bytes → Reads bytes src dst verified v payload → IsInRange v
 Reads-IsInRange src dst verified bytes payload v h r =
     let o = r.options in
@@ -205,7 +205,7 @@ Reads-IsInRange src dst verified bytes payload v h r =
     given None = tt
     given (Some n) = record {}
 
--- what was read has a header that can be written again
+-- a parsed value has a header that can be emitted
 pub Reads-IsWritable : (src dst : IpAddress) (verified : Bool) (bytes payload : List ℕ) (v : TcpHeader) → AreBytes bytes → Reads bytes src dst verified v payload → IsWritable v
 Reads-IsWritable src dst verified bytes payload v h r =
     let most = header_len-read src dst verified bytes payload v r in

@@ -1,4 +1,4 @@
--- The computed test of the lengths of a segment holds exactly if they are valid.
+-- The computed test of the lengths of a segment is true exactly if they are valid.
 use Rattle.std.proofs.Common.{◌≡◌, ℕ, true, List, arith}
 use Rattle.std.proofs.lemmas.Bool.Decides.{nat_tests}
 use Rattle.wire_tcp.specs.Tcp.{HasLengths, has_lengths}

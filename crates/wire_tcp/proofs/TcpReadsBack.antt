@@ -19,7 +19,7 @@ use Rattle.wire_tcp.proofs.OptionsBack.{options_back}
 use Rattle.wire_tcp.proofs.TcpComputed.{reads_once}
 use Rattle.wire_tcp.proofs.TcpEmitted.{checksum_filled, length-header_bytes, length-option_bytes}
 
--- the value has a segment that can be read: its numbers are in range, its ports are not 0, and its options fit
+-- the value has a segment that parses: its numbers are in range, its ports are not 0, and its options fit
 pub record IsWritable (v : TcpHeader) : Type 0 where
   pub in_range : IsInRange v
   pub sender : v.src_port ≢ 0
@@ -34,7 +34,7 @@ number-bound s fits = (laws.of_z_fits w32 s.0 fits).fits
 seq-back : (s : TcpSeqNumber) → IsSeq s → seq_of (number s) ≡ s
 seq-back s fits = λ i. record { 0 = to_z-of_z w32 s.0 fits i }
 
--- ---- the word of the header's length and the flags
+-- ---- the word with the data offset and the flags
 
 -- what ACK adds
 ack_part : (o : Option TcpSeqNumber) → (k : ℕ) × (k < 2) × ((if is_some o then 16 else 0) ≡ 16 * k)
@@ -105,7 +105,7 @@ ack-back v payload checksum fits = by v.ack_number refl
 
 -- ---- the segment
 
--- a segment with any checksum is read
+-- a segment parses with any checksum if it is not verified
 pub reads-segment_with : (v : TcpHeader) (src dst : IpAddress) (payload : List ℕ) (checksum : ℕ) (verified : Bool) → IsWritable v
     → (IsTrue verified → Verifies src dst (segment_with v payload checksum)) → Reads (segment_with v payload checksum) src dst verified (normal v) payload
 reads-segment_with v src dst payload checksum verified w sound =
@@ -137,7 +137,7 @@ reads-segment_with v src dst payload checksum verified w sound =
       body = sym body;
     }
 
--- the checksum that is written holds
+-- the computed checksum is valid
 pub bytes_of-verifies : (v : TcpHeader) (src dst : IpAddress) (payload : List ℕ) → length (octets_of src) % 2 ≡ 0 → length (octets_of dst) % 2 ≡ 0
     → Verifies src dst (bytes_of v payload src dst true [])
 bytes_of-verifies v src dst payload s d =
@@ -161,7 +161,7 @@ pub reads-normal : (v : TcpHeader) (src dst : IpAddress) (payload : List ℕ) (c
 reads-normal v src dst payload computed verified is w s d sound =
     subst (λ n. Reads (bytes_of v payload src dst computed []) src dst verified n payload) is (reads-bytes_of v src dst payload computed verified w s d sound)
 
--- normal values that are written as the same bytes are the same
+-- normal values with the same emitted bytes are equal
 pub same_written : (v w : TcpHeader) (src dst : IpAddress) (payload other : List ℕ) → normal v ≡ v → normal w ≡ w → IsWritable v → IsWritable w
     → length (octets_of src) % 2 ≡ 0 → length (octets_of dst) % 2 ≡ 0 → bytes_of v payload src dst true [] ≡ bytes_of w other src dst true []
     → (v ≡ w) × (payload ≡ other)

@@ -90,7 +90,7 @@ past_end : items_in (0x0c ∷ 0x05 ∷ 0x01 ∷ 0x02 ∷ []) ≡ None
 unfolding items_within first_item
 past_end = refl
 
--- ranges are closed up, and zeros fill the header
+-- gaps between ranges are closed, and zeros fill the header
 gap : TcpHeader
 unfolding value
 gap = record value { control = control.None; ack_number = Some (seq_of 0); sack_ranges = None ∷ Some (1, 2) ∷ Some (3, 4) ∷ None ∷ [] }
@@ -107,7 +107,7 @@ gap-normal : (normal gap).sack_ranges ≡ Some (1, 2) ∷ Some (3, 4) ∷ None �
 unfolding value gap
 gap-normal = refl
 
--- ranges beside SACK permitted are not written, but their length counts
+-- ranges beside SACK permitted are not emitted, but their length is counted
 permitted-options : option_bytes (record gap { sack_permitted = true }) ≡ 0x04 ∷ 0x02 ∷ replicate 18 0
 unfolding value gap
 permitted-options = refl
@@ -125,7 +125,7 @@ full-options : option_bytes full ≡ 0x02 ∷ 0x04 ∷ 0x05 ∷ 0xb4 ∷ 0x03 �
 unfolding value full
 full-options = refl
 
--- as many ranges as a header holds
+-- the most ranges that fit into a header
 four : TcpHeader
 unfolding value
 four = record value { control = control.None; ack_number = Some (seq_of 0); sack_ranges = Some (1, 2) ∷ Some (3, 4) ∷ Some (5, 6) ∷ Some (7, 8) ∷ [] }
@@ -138,7 +138,7 @@ four-normal : normal four ≡ four
 unfolding value four
 four-normal = refl
 
--- with the size of a segment they fill it, and with a timestamp no header is so long
+-- with a maximum segment size they fill the header, and with a timestamp it would be too long
 filled-header_len : header_len_of (record four { max_seg_size = Some 1460 }) ≡ 60
 unfolding value four
 filled-header_len = refl

@@ -1,4 +1,4 @@
--- The texts that a segment prints as.
+-- The printed texts of a segment.
 use Rattle.std.proofs.Common.{ℕ, zero, suc, ◌≡◌, ◌≢◌, ◌-◌, ◌^◌, ◌<◌, ◌≤◌, ◌==◌, ◌++◌, Bool, List, Option, [], ◌∷◌, Some, None, codes, decimal, flat_map, length, replicate, refl, sym, ap, ◌∙◌, false, arith}
 use Rattle.std.specs.Fmt.{◌++?◌, char_count, comma_space, debug_items, debug_list, debug_option, digits, format_spec, padded_integral}
 use Rattle.std.specs.Option.{option_map_or}
@@ -17,14 +17,14 @@ use Rattle.wire_tcp_parts.proofs.OptionLists.{head-text, nil-text, shorter}
 use Rattle.wire_tcp_parts.proofs.Summaries.{and_left, and_right, scale_is}
 use Rattle.wire_tcp.proofs.TcpLengths.{HasLengths-has_lengths, has_lengths-HasLengths}
 
--- what `{:08x}` writes
+-- what `{:08x}` prints
 pub padded_hex_word : (n : ℕ) → padded_integral (format_spec 32 0 4 8 (2 ^ 64 - 1)) false [] (digits 16 false n) ≡ hex_word n
 unfolding padded_integral char_count
 padded_hex_word n =
     let zeros : 8 - length (digits 16 false n) - 0 - 0 ≡ 8 - length (digits 16 false n) = omega arith in
     ap (λ (k : ℕ). replicate k 48 ++ (digits 16 false n ++ [])) zeros ∙ ap (λ (t : List ℕ). replicate (8 - length (digits 16 false n)) 48 ++ t) (append-nil (digits 16 false n))
 
--- what `{:?}` writes for a block
+-- what `{:?}` prints for a block
 abbrev pub range_output : Option (ℕ × ℕ) → Option (List ℕ)
 range_output = debug_option (λ (r : ℕ × ℕ). Some (40 ∷ []) ++? Some (decimal r.0) ++? Some comma_space ++? Some (decimal r.1) ++? Some (41 ∷ []))
 
@@ -36,12 +36,12 @@ debug_items-ranges : (ranges : List (Option (ℕ × ℕ))) → debug_items range
 debug_items-ranges [] = refl
 debug_items-ranges (o ∷ ranges) = rw (range_output-text o, debug_items-ranges ranges) refl
 
--- what it writes for all of them
+-- what it prints for all blocks
 pub debug_list_of_ranges : (ranges : List (Option (ℕ × ℕ))) → debug_list range_output ranges ≡ Some (ranges_text ranges)
 debug_list_of_ranges [] = refl
 debug_list_of_ranges (o ∷ ranges) = rw (range_output-text o, debug_items-ranges ranges) refl
 
--- ---- the header's text from the getters' answers
+-- ---- the text of the header, from the values of the getters
 
 -- the text of the flags, from the values of the getters
 pub flags_text-values : (bytes : List ℕ) (syn fin rst psh ece cwr ns : Bool)
@@ -74,7 +74,7 @@ at_mark : (n : ℕ) (rest : List ℕ) → options_text_within (suc n) (0 ∷ res
 unfolding options_text_within
 at_mark n rest = refl
 
--- more steps than bytes change nothing
+-- a larger limit than the number of bytes changes nothing
 enough_by : (n m : ℕ) (bytes : List ℕ) (o : Option (Item × List ℕ)) → first_item bytes ≡ o → length bytes ≤ suc n → length bytes ≤ suc m
     → ((rest : List ℕ) → length rest ≤ n → length rest ≤ m → options_text_within n rest ≡ options_text_within m rest)
     → option_map_or (λ d. item_text d.0 ++ options_text_within n d.1) o (codes " (wire::Error)") ≡ option_map_or (λ d. item_text d.0 ++ options_text_within m d.1) o (codes " (wire::Error)")
@@ -94,7 +94,7 @@ enough (suc n) (suc m) (suc kind ∷ rest) a b =
     ∙ enough_by n m (suc kind ∷ rest) (first_item (suc kind ∷ rest)) refl a b (enough n m)
     ∙ sym (at_step m (suc kind) rest some)
 
--- an item in front, and the text of what follows
+-- an item in front, followed by the text of the rest
 pub options_text-item : (bytes : List ℕ) (i : Item) (rest : List ℕ) → IsItem i → bytes ≡ text i ++ rest → options_text bytes ≡ item_text i ++ options_text rest
 options_text-item [] i rest is e = absurd (nil-text i rest e)
 options_text-item (kind ∷ r) i rest is e =
@@ -114,7 +114,7 @@ options_text-empty (b ∷ bytes) h = absurd (omega arith)
 pub options_text-mark : (bytes rest : List ℕ) → bytes ≡ 0 ∷ rest → options_text bytes ≡ []
 options_text-mark bytes rest e = ap options_text e ∙ at_mark (length rest) rest
 
--- and at what is malformed
+-- and at a malformed option
 pub options_text-malformed : (bytes : List ℕ) → 0 < length bytes → BeginsNothing bytes → options_text bytes ≡ codes " (wire::Error)"
 options_text-malformed [] some h = absurd (omega arith)
 options_text-malformed (kind ∷ rest) some h =

@@ -13,7 +13,7 @@ use Rattle.wire_ends.specs.declared.ip_address.IpAddress.{IpAddress}
 use Rattle.wire_ends.specs.declared.ip_protocol.IpProtocol.TheVariants as protocol
 use Rattle.wire_tcp.specs.Tcp.{Verifies, with_updated_checksum}
 
--- what the pseudo-header of a segment of n bytes adds
+-- the sum of the pseudo-header of a segment of n bytes
 abbrev pseudo : IpAddress → IpAddress → ℕ → ℕ
 pseudo src dst n = pseudo_header_total src dst protocol.Tcp n
 
@@ -57,6 +57,7 @@ pub valid-src_addr : (old dst new : IpAddress) (bytes : List ℕ) → AreBytes b
 valid-src_addr old dst new bytes are o d n room valid =
     valid-updated old dst new dst bytes bytes (sum (words (octets_of old))) (sum (words (octets_of new))) are o d n d room refl (omega arith) valid
 
+-- a valid checksum stays valid if it is updated for a new destination address
 pub valid-dst_addr : (src old new : IpAddress) (bytes : List ℕ) → AreBytes bytes → length (octets_of src) % 2 ≡ 0 → length (octets_of old) % 2 ≡ 0 → length (octets_of new) % 2 ≡ 0 → 18 ≤ length bytes
     → Verifies src old bytes → Verifies src new (with_updated_checksum bytes (sum_of_bytes (octets_of old)) (sum_of_bytes (octets_of new)))
 valid-dst_addr src old new bytes are s o n room valid =

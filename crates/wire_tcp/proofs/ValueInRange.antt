@@ -1,4 +1,4 @@
--- A value of the program is in range.
+-- The values of Rust types are in range.
 use Rattle.std.proofs.Common.{rules, ◌<◌, ◌^◌, List, [], ◌∷◌, Option, Some, None, IfSome}
 use Rattle.std.specs.List.{AllByRecursion}
 use base.Fml.{Fml}
@@ -15,7 +15,7 @@ use Rattle.wire_tcp.specs.contracts.tcp.repr.TcpRepr.{the_type}
 use Rattle.wire_tcp.specs.declared.tcp.repr.TcpRepr.{TcpRepr}
 use Rattle.wire_tcp.proofs.OptionsBack.{Pair}
 
--- what each item of an array says
+-- a fact about each element of an array
 each_says : {X : Type 0} (says : X → List Val → Fml) (P : X → Type 0) → ((x : X) (vals : List Val) → shadow (says x vals) → P x)
     → (xs : List X) (vals : List Val) → shadow (each X says xs vals) → AllByRecursion P xs
 each_says says P one [] [] s = tt
@@ -28,7 +28,7 @@ range_says : (r : Option Pair) (vals : List Val) → shadow ((option.the_row (Tu
 range_says None vals s = tt
 range_says (Some r) vals s = search rules
 
--- the ranges of the numbers of a value
+-- the ranges of the numbers in a value
 pub value_in_range : (a : NamedLft) (v : TcpRepr) (vals : List Val) → shadow ((row (the_type a)).own_val v vals) → IsInRange (header_of v)
 value_in_range a v vals s = record {
   src_port = search rules;

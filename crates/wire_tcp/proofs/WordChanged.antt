@@ -1,4 +1,4 @@
--- A segment that verifies does not with one word changed.
+-- Changing one word of a valid segment makes its checksum wrong.
 use Rattle.std.proofs.Common.{ℕ, zero, suc, ◌≡◌, ◌≢◌, ◌+◌, ◌*◌, ◌/◌, ◌%◌, ◌^◌, ◌<◌, ◌≤◌, List, [], ◌∷◌, ◌++◌, length, take, drop, refl, sym, ap, ◌∙◌, append_assoc, arith}
 use Rattle.std.proofs.lemmas.List.{take-append-drop}
 use Rattle.std.specs.Prelude.{slice_index}
@@ -15,7 +15,7 @@ use Rattle.wire_field.specs.Field.{behind, field, span, with_field, with_part}
 use Rattle.wire_tcp.proofs.Sums.{sum-words-segment, with_word}
 use Rattle.wire_tcp.specs.Tcp.{Verifies}
 
--- the place of a word and its length
+-- the index of a word, and its length
 place : (i : ℕ) → 16 * i / 8 ≡ 2 * i
 place i = omega arith
 
@@ -48,14 +48,14 @@ with_field-word bytes i x =
     ∙ ap (λ (b : ℕ). take (2 * i) bytes ++ big_bytes 2 (with_part (big_from (2 * i) 2 bytes) b 16 x) ++ drop (2 * i + 2) bytes) (none_behind i)
     ∙ rw (word_high, word_low) refl
 
--- the bytes from a place on
+-- the bytes from an index on
 from_place : (bytes : List ℕ) (n : ℕ) → suc (suc n) ≤ length bytes → drop n bytes ≡ slice_index bytes n ∷ slice_index bytes (suc n) ∷ drop (suc (suc n)) bytes
 from_place [] n room = absurd (omega arith)
 from_place (a ∷ []) zero room = absurd (omega arith)
 from_place (a ∷ b ∷ rest) zero room = refl
 from_place (a ∷ rest) (suc n) room = from_place rest n (omega arith)
 
--- writing the word that is there already changes nothing
+-- writing a word over itself changes nothing
 there : (bytes : List ℕ) (i : ℕ) → AreBytes bytes → 2 * i + 2 ≤ length bytes → bytes ≡ with_word bytes (2 * i) (number_at bytes (2 * i))
 there bytes i h room =
     let n = 2 * i in
@@ -69,11 +69,11 @@ there bytes i h room =
     ∙ (λ k. take n bytes ++ (sym high k ∷ sym low k ∷ drop (n + 2) bytes))
     ∙ sym (append_assoc (take n bytes) (big_bytes 2 (number_at bytes n)) (drop (n + 2) bytes))
 
--- two words with which a segment verifies are congruent
+-- two words that both make a segment valid are congruent
 congruent : (a x y k m : ℕ) → a + x ≡ 65535 + 65535 * k → a + y ≡ 65535 + 65535 * m → x % 65535 ≡ y % 65535
 congruent a x y k m e f = omega (arith, e, f)
 
--- a total that verifies
+-- the total of a valid segment
 full : (total : ℕ) → residue total ≡ 65535 → (k : ℕ) × (total ≡ 65535 + 65535 * k)
 full total e = let (k, is) = residue-quotient total in (k, is ∙ ap (λ (r : ℕ). r + 65535 * k) e)
 

@@ -59,7 +59,7 @@ pub record HasLengths (bytes : List ℕ) : Type 0 where
   pub header : 20 ≤ header_len bytes
   pub whole : header_len bytes ≤ length bytes
 
--- whether they are
+-- whether the lengths are valid
 abbrev pub has_lengths : List ℕ → Bool
 has_lengths bytes = nat_le 20 (length bytes) && nat_le 20 (header_len bytes) && nat_le (header_len bytes) (length bytes)
 

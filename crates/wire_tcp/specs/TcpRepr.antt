@@ -47,7 +47,7 @@ header_of v = record {
   timestamp = v.timestamp;
 }
 
--- ---- what the bytes say
+-- ---- the values of the fields
 
 -- the sequence number of 32 bits
 abbrev pub seq_of : ℕ → TcpSeqNumber
@@ -175,7 +175,7 @@ tcp_of src dst verified bytes =
 abbrev pub IsQuiet : TcpControl → Type 0
 IsQuiet asked = (asked ≡ control.None) ⊎ (asked ≡ control.Psh)
 
--- ---- what a value is written as
+-- ---- the emitted bytes of a value
 
 -- this many bytes if the test is true, else 0
 abbrev pub len_if : Bool → ℕ → ℕ
@@ -185,7 +185,7 @@ len_if b n = if b then n else 0
 abbrev pub sack_len : ℕ → ℕ
 sack_len n = if n == 0 then 0 else 2 + 8 * n
 
--- the length of the options of a value, counting ranges that are not written too
+-- the length of the options of a value; ranges that are not emitted are counted too
 abbrev pub options_len : TcpHeader → ℕ
 options_len v =
     len_if (is_some v.max_seg_size) 4 + len_if (is_some v.window_scale) 3 + len_if v.sack_permitted 2
@@ -272,15 +272,15 @@ normal v = record v {
   sack_ranges = if v.sack_permitted || is_none v.ack_number then no_ranges else closed v.sack_ranges;
 }
 
--- it has ranges that are not written: without an acknowledgement, or beside SACK permitted
+-- it has ranges that are not emitted: without an acknowledgement, or beside SACK permitted
 abbrev pub HasIdleRanges : TcpHeader → Type 0
 HasIdleRanges v = (count_by is_some v.sack_ranges ≢ 0) × (IsTrue v.sack_permitted ⊎ (v.ack_number ≡ None))
 
--- the number is one of 32 bits
+-- the number has 32 bits
 abbrev pub IsSeq : TcpSeqNumber → Type 0
 IsSeq s = FitsSigned w32 s.0
 
--- each number is one of its type, and there are as many places for ranges as are kept
+-- each number is in the range of its type, and the array of ranges has the right length
 pub record IsInRange (v : TcpHeader) : Type 0 where
   pub src_port : v.src_port < 2 ^ 16
   pub dst_port : v.dst_port < 2 ^ 16

@@ -56,7 +56,7 @@ fields_text bytes =
 abbrev pub edges_text : ℕ × ℕ → List ℕ
 edges_text r = codes "(" ++ (decimal r.0 ++ (codes ", " ++ (decimal r.1 ++ codes ")")))
 
--- a block, or that there is none
+-- a block, or `None`
 abbrev pub range_text : Option (ℕ × ℕ) → List ℕ
 range_text None = codes "None"
 range_text (Some r) = codes "Some(" ++ edges_text r ++ codes ")"

@@ -145,8 +145,8 @@ pub fn valid_checksum_reads_tcp(
         Reads bytes.now src_addr dst_addr true v payload ↔ (Reads bytes.now src_addr dst_addr false v payload × Verifies src_addr dst_addr bytes.now) }
 {}
 
-/// Writing one field changes one value, and no other. Only the checksum is no value, and is not
-/// verified here.
+/// Writing one field changes one value, and no other. The checksum is not part of the value, and is
+/// not verified here.
 pub fn one_value_changes_tcp(
     bytes: &[u8],
     src_addr: IpAddress,

@@ -1,4 +1,4 @@
--- The first item of bytes as it is computed.
+-- The first item of bytes, computed.
 use Rattle.std.proofs.Common.{ℕ, ◌≡◌, ◌≢◌, ◌+◌, ◌-◌, ◌/◌, ◌%◌, ◌≤◌, ◌==◌, ◌&&◌, ◌||◌, inl, inr, not, Bool, true, false, List, [], ◌∷◌, ◌++◌, length, drop, take, Option, Some, None, refl, sym, ap, subst, ◌∙◌, length-append, arith}
 use Rattle.std.specs.Prelude.{if◌then◌else◌, nat_le, nat_lt, slice_index}
 use Rattle.std.proofs.lemmas.Bool.{cases_Bool, eq-eqb, eqb-true, eqb-false, lt-ltb}
@@ -8,16 +8,16 @@ use Rattle.wire_tcp_parts.specs.TcpItems.{Item, IsItem, first_item, is_sized, it
 use Rattle.wire_tcp_parts.proofs.Items.{IsItem-bare, text-bare, text-other, text_here}
 use Rattle.wire_tcp_parts.proofs.Summaries.{and_right}
 
--- a test that follows from another
+-- a test that implies another
 implied : (p q : Bool) → (p ≡ true → q ≡ true) → (not p || q) ≡ true
 implied true q h = h refl
 implied false q h = refl
 
--- two tests
+-- both of two tests are true
 both : (p q : Bool) → p ≡ true → q ≡ true → (p && q) ≡ true
 both p q h k = rw (h, k) refl
 
--- an item's data have a length that its kind allows
+-- the data of an item have a length that its kind allows
 sized : (i : Item) → IsItem i → is_sized i.kind (length i.content) ≡ true
 sized i is =
     let below = is.below in
@@ -60,7 +60,7 @@ front kind (len ∷ rest) other some room =
     let two : 2 + (len - 2) ≡ len = omega arith in
     ap (λ (l : ℕ). kind ∷ l ∷ rest) (sym two) ∙ text_here kind (len - 2) rest other room
 
--- the value of a choice of three
+-- the result of a choice of three
 choices : (a b c : Bool) (y z w : Option (Item × List ℕ)) (P : Type 0)
     → (None ≡ w → P) → (a ≡ false → b ≡ true → y ≡ w → P) → (a ≡ false → b ≡ false → c ≡ true → z ≡ w → P)
     → (if a then None else if b then y else if c then z else None) ≡ w → P
@@ -72,7 +72,7 @@ choices false false false y z w P k g h e = k e
 of_some : (a b : Item × List ℕ) → Some a ≡ Some b → a ≡ b
 of_some a b e = cc
 
--- what is computed leads the bytes
+-- the bytes begin with the computed item
 pub first_item-Leads : (bytes : List ℕ) (i : Item) (rest : List ℕ) → first_item bytes ≡ Some (i, rest) → Leads bytes i rest
 unfolding first_item
 first_item-Leads [] i rest e = absurd (cc)
@@ -126,7 +126,7 @@ bare : (rest : List ℕ) → first_item (1 ∷ rest) ≡ Some (item 1 [], rest)
 unfolding first_item
 bare rest = refl
 
--- what leads the bytes is computed
+-- an item at the front of the bytes is the computed one
 pub Leads-first_item : (bytes : List ℕ) (i : Item) (rest : List ℕ) → Leads bytes i rest → first_item bytes ≡ Some (i, rest)
 Leads-first_item bytes i rest l = elim (cases_Bool (i.kind == 1)) [
   | inl y ↦
@@ -142,6 +142,6 @@ none_of : {A : Type 0} (o : Option A) → ((a : A) → o ≡ Some a → ⊥) →
 none_of None h = refl
 none_of (Some a) h = absurd (h a refl)
 
--- of bytes that begin with no item none is computed
+-- if the bytes begin with no item, none is computed
 pub first_item-None : (bytes : List ℕ) → ((i : Item) (rest : List ℕ) → Leads bytes i rest → ⊥) → first_item bytes ≡ None
 first_item-None bytes h = none_of (first_item bytes) (λ d e. h d.0 d.1 (first_item-Leads bytes d.0 d.1 e))

@@ -8,11 +8,11 @@ use Rattle.wire_tcp_parts.specs.TcpOption.{IsReading, Begins}
 use Rattle.wire_tcp_parts.specs.declared.tcp.option.TcpOption.{TcpOption}
 use Rattle.wire_tcp_parts.specs.declared.tcp.option.TcpOption.TheVariants.{EndOfList, NoOperation, MaxSegmentSize, WindowScale, SackPermitted, SackRange, TimeStamp, Unknown}
 
--- all that is left from place n on
+-- the bytes from index n on
 pub take_left : (b : List ℕ) (n : ℕ) → take (length b - n) (drop n b) ≡ drop n b
 take_left b n = take_all (length b - n) (drop n b) (omega (arith, length-drop n b))
 
--- a block that the data has
+-- a block of the data
 pub block_at-here : (content : List ℕ) (k start end : ℕ) → 8 * k < length content → start ≡ big_number 4 (drop (8 * k) content) → end ≡ big_number 4 (drop (8 * k + 4) content) → Some (start, end) ≡ block_at content k
 block_at-here content k start end h s e = rw (s, e, lt-ltb (8 * k) (length content) h) refl
 
@@ -61,12 +61,12 @@ Begins-from_item (SackRange _) bytes rest i is reading e = (i, is, reading, e)
 Begins-from_item (TimeStamp _ _) bytes rest i is reading e = (i, is, reading, e)
 Begins-from_item (Unknown _ _) bytes rest i is reading e = (i, is, reading, e)
 
--- a kind, a length and as much data are the text of an item
+-- a kind, a length and that many data bytes are the text of an item
 pub text_here : (k m : ℕ) (r : List ℕ) → k ≢ 1 → m ≤ length r → k ∷ (2 + m) ∷ r ≡ text (item k (take m r)) ++ drop m r
 text_here k m r other room =
     rw (text-other (item k (take m r)) other, length-take-le m r room, take-append-drop m r) refl
 
--- bytes that begin with a kind and a length of at most all bytes begin with the text of that item
+-- bytes that begin with a kind and a possible length begin with the text of that item
 pub text_at : (b : List ℕ) (n : ℕ) → get_or b 0 0 ≢ 1 → n ≡ get_or b 1 0 → 2 ≤ n → n ≤ length b → b ≡ text (item (get_or b 0 0) (take (n - 2) (drop 2 b))) ++ drop n b
 text_at [] n other at low room = absurd (omega arith)
 text_at (k ∷ []) n other at low room = absurd (omega arith)
@@ -82,7 +82,7 @@ pub first_cell : (b : List ℕ) → 0 < length b → b ≡ get_or b 0 0 ∷ drop
 first_cell [] h = absurd (omega arith)
 first_cell (x ∷ r) h = refl
 
--- what is no end mark was read from an item
+-- an option other than the end mark was parsed from an item
 pub item_read : (o : TcpOption) (bytes rest : List ℕ) → Begins o bytes rest → (o ≡ EndOfList → ⊥) → (i : Item) × IsItem i × IsReading o i × (bytes ≡ text i ++ rest)
 item_read EndOfList bytes rest h other = absurd (other refl)
 item_read NoOperation bytes rest h other = h

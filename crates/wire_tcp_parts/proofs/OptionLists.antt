@@ -1,4 +1,4 @@
--- Bytes have at most one option list, and where a walk gets stuck they have none.
+-- Bytes have at most one option list. If a walk stops before the end of the list, they have none.
 use Rattle.std.proofs.Common.{ℕ, ◌≡◌, ◌≢◌, ◌+◌, ◌<◌, inl, inr, eqb, List, [], ◌∷◌, ◌++◌, length, take, drop, refl, sym, ap, ◌∙◌, append_assoc, length-append, arith}
 use Rattle.std.specs.List.{AllByRecursion}
 use Rattle.std.proofs.lemmas.Bool.{cases_Bool, eqb-false, eqb-true}
@@ -27,7 +27,7 @@ head-text i b bs rest e =
     let cells : b ∷ bs ≡ i.kind ∷ (h.0 ++ rest) = e ∙ ap (λ (t : List ℕ). t ++ rest) h.1 in
     cc
 
--- no bytes are no text
+-- a text is not empty
 pub nil-text : (i : Item) (rest : List ℕ) → [] ≡ text i ++ rest → ⊥
 nil-text i rest e =
     let h = text_head i in
@@ -72,7 +72,7 @@ text_apart i j a b is js e = elim (cases_Bool (eqb i.kind 1)) [
   ]
 ]
 
--- items that were walked over
+-- items that a walk has passed
 abbrev pub Items : List ℕ → List Item → List ℕ → Type 0
 Items = Walked text IsItem
 
@@ -83,12 +83,12 @@ tail_no_item (b ∷ t) i rest ended is e =
     let kind = head-text i b t rest e in
     omega (arith, ended, kind, is.above)
 
--- from where no item begins no list goes on
+-- no list continues at a place where no item begins
 none_more : (zs : List Item) (t u : List ℕ) → AllByRecursion IsItem zs → ((i : Item) (rest : List ℕ) → IsItem i → t ≡ text i ++ rest → ⊥) → t ≡ texts zs ++ u → (zs ≡ []) × (t ≡ u)
 none_more [] t u za none e = (refl, e)
 none_more (z ∷ zs) t u za none e = absurd (none z (texts zs ++ u) za.0 (e ∙ append_assoc (text z) (texts zs) u))
 
--- two walks that both end where no item begins are one
+-- two walks that both stop where no item begins are the same
 pub one_end : (bytes : List ℕ) (xs ys : List Item) (t u : List ℕ) → Items bytes xs t → Items bytes ys u
     → ((i : Item) (rest : List ℕ) → IsItem i → t ≡ text i ++ rest → ⊥) → ((i : Item) (rest : List ℕ) → IsItem i → u ≡ text i ++ rest → ⊥) → (xs ≡ ys) × (t ≡ u)
 one_end bytes xs ys t u a b ends ends' = elim (walks_compared text IsItem text_apart bytes xs ys t u a b) [
@@ -111,7 +111,7 @@ pub one_list : (bytes : List ℕ) (xs ys : List Item) (t u : List ℕ) → IsOpt
 one_list bytes xs ys t u a b =
     one_end bytes xs ys t u (items_of bytes xs t a) (items_of bytes ys u b) (λ i rest. tail_no_item t i rest a.ended) (λ i rest. tail_no_item u i rest b.ended)
 
--- where a walk gets stuck before the end there is no option list
+-- if a walk stops before the end, there is no option list
 pub stuck : (bytes : List ℕ) (xs : List Item) (r : List ℕ) → Items bytes xs r → 0 < length r → BeginsNothing r → HasNoList bytes
 stuck bytes xs r w some nothing ys t list =
     let same = one_end bytes xs ys r t w (items_of bytes ys t list) nothing.no_item (λ i rest. tail_no_item t i rest list.ended) in
@@ -121,12 +121,12 @@ stuck bytes xs r w some nothing ys t list =
     no_tail r [] e ended some nothing = omega (arith, ap length e)
     no_tail r (b ∷ t) e ended some nothing = nothing.no_mark t (e ∙ ap (λ (x : ℕ). x ∷ t) ended)
 
--- one more item was walked over
+-- the walk passes one more item
 pub one_more : (bytes : List ℕ) (xs : List Item) (i : Item) (r s : List ℕ) → Items bytes xs r → IsItem i → r ≡ text i ++ s → Items bytes (xs ++ i ∷ []) s
 one_more bytes xs i r s w is e =
     walk_on text IsItem bytes xs (i ∷ []) r s w (record { each = (is, tt); joined_is = e ∙ ap (λ (l : List ℕ). l ++ s) (sym (append-nil (text i))) })
 
--- what follows an item is shorter
+-- the bytes behind an item are fewer
 pub shorter : (i : Item) (bytes rest : List ℕ) → bytes ≡ text i ++ rest → length rest < length bytes
 shorter i bytes rest e =
     let h = text_head i in

@@ -1,4 +1,4 @@
--- Texts of which none begins another, joined: of two lists of them that begin the same bytes one begins the other.
+-- Joined texts, none of which is a prefix of another: of two such lists of the same bytes one is a prefix of the other.
 use Rattle.std.proofs.Common.{ℕ, ◌≡◌, ◌⊎◌, inl, inr, List, [], ◌∷◌, ◌++◌, refl, sym, ap, subst, ◌∙◌, append_assoc}
 use Rattle.std.specs.List.{AllByRecursion, flat_map}
 use Rattle.std.proofs.lemmas.Grind.{flat_map-append}
@@ -8,7 +8,7 @@ module _ {X : Type 0} (text : X → List ℕ) (Is : X → Type 0) where
   abbrev pub joined : List X → List ℕ
   joined xs = flat_map text xs
 
-  -- the bytes are the texts of these, and then a rest
+  -- the bytes are the texts of these, followed by a rest
   pub record Walked (bytes : List ℕ) (xs : List X) (rest : List ℕ) : Type 0 where
     pub each : AllByRecursion Is xs
     pub joined_is : bytes ≡ joined xs ++ rest
@@ -17,7 +17,7 @@ module _ {X : Type 0} (text : X → List ℕ) (Is : X → Type 0) where
   all-append [] ys xa ya = ya
   all-append (x ∷ xs) ys xa ya = (xa.0, all-append xs ys xa.1 ya)
 
-  -- a walk, and one over what it leaves
+  -- a walk continued by a walk over its rest
   pub walk_on : (bytes : List ℕ) (xs ys : List X) (r s : List ℕ) → Walked bytes xs r → Walked r ys s → Walked bytes (xs ++ ys) s
   walk_on bytes xs ys r s a b = record {
     each = all-append xs ys a.each b.each;
@@ -25,7 +25,7 @@ module _ {X : Type 0} (text : X → List ℕ) (Is : X → Type 0) where
         ∙ ap (λ (l : List ℕ). l ++ s) (sym (flat_map-append text xs ys));
   }
 
-  -- what one list has more than the other begins what the other leaves
+  -- the items that one list has beyond the other are at the front of the rest of the other
   pub record Goes (xs ys : List X) (r t : List ℕ) : Type 0 where
     pub more : List X
     pub each : AllByRecursion Is more

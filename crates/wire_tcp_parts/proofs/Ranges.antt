@@ -1,4 +1,4 @@
--- SACK ranges as bytes, and a part of a slice that is written.
+-- SACK ranges as bytes, and writes to a part of a slice.
 use Rattle.std.proofs.Common.{◌≡◌, ℕ, ◌+◌, ◌*◌, ◌<◌, List, [], ◌∷◌, ◌++◌, length, get_or, take, drop, Option, Some, None, is_some, cond, count_by, arith, sym, ap, ◌∙◌, append_assoc}
 use Rattle.std.specs.List.{flat_map, filter_map}
 use Rattle.std.proofs.lemmas.Grind.{flat_map-append}
@@ -37,7 +37,7 @@ pub range_bytes_same : (xs : Ranges) (i : ℕ) → i < length xs → get_or xs i
 range_bytes_same xs i h e =
     ap range_bytes (take_more xs i None h) ∙ range_bytes-append (take i xs) (get_or xs i None ∷ []) ∙ ap (λ r. range_bytes (take i xs) ++ range_bytes (r ∷ [])) e ∙ append-nil _
 
--- a slice that is written from a place on
+-- a slice that is written from an index on
 pub put_mid_more : (b old front new : List ℕ) (at k : ℕ) → b ≡ front ++ drop at old → length front ≡ at → put_mid at k b new ≡ (front ++ new) ++ drop (at + k) old
 put_mid_more b old front new at k is place =
     let head : take at b ≡ front = ap (take at) is ∙ take_at front (drop at old) at place in
@@ -48,7 +48,7 @@ put_mid_more b old front new at k is place =
 pub put_mid_parts : (b new : List ℕ) (at k : ℕ) → put_mid at k b new ≡ (take at b ++ new) ++ drop (at + k) b
 put_mid_parts b new at k = rw (drop-drop k at b) (sym (append_assoc (take at b) new _))
 
--- the next range, written at its place
+-- the next range, written at its index
 pub range_written : (xs : Ranges) (i start end : ℕ) (b old new : List ℕ) (at k : ℕ) → i < length xs → get_or xs i None ≡ Some (start, end) → b ≡ range_bytes (take i xs) ++ drop at old → at ≡ 8 * count_by is_some (take i xs) → k ≡ 8 → new ≡ big_bytes 4 start ++ big_bytes 4 end → put_mid at k b new ≡ range_bytes (take (i + 1) xs) ++ drop (at + 8) old
 range_written xs i start end b old new at k inside is done place eight written =
     put_mid_more b old (range_bytes (take i xs)) new at k done (length-range_bytes (take i xs) ∙ sym place)

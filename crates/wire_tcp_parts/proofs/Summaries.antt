@@ -1,4 +1,4 @@
--- What one more item changes of what the options say.
+-- How one more item changes the summary of the options.
 use Rattle.std.proofs.Common.{◌≡◌, ℕ, Bool, true, false, cond, eqb, ◌&&◌, List, [], ◌∷◌, ◌++◌, length, drop, Option, Some, None, is_some, Result, Ok, Err, OnErr, arith, ◌<◌, refl, sym, ap, ◌∙◌}
 use Rattle.std.specs.Option.{option_or, option_map, option_map_or}
 use Rattle.std.proofs.lemmas.Bool.{eqb-true, eq-eqb, false_from_ne_true}
@@ -23,17 +23,17 @@ some_cond : (b : Bool) (i : Item) (o : Option Item) → is_some (cond b (Some i)
 some_cond true i o = refl
 some_cond false i o = refl
 
--- a conjunction that is true has a true left side
+-- the left side of a conjunction that is true
 pub and_left : (a b : Bool) → (a && b) ≡ true → a ≡ true
 and_left true b e = refl
 and_left false b e = cc
 
--- and a true right side
+-- and its right side
 pub and_right : (a b : Bool) → (a && b) ≡ true → b ≡ true
 and_right true b e = e
 and_right false b e = cc
 
--- the item at the end is the last one, if it passes
+-- an item at the end is the last of its kind
 pub last_of_more : (p : Item → Bool) (xs : List Item) (i : Item) → last_of p (xs ++ i ∷ []) ≡ cond (p i) (Some i) (last_of p xs)
 last_of_more p [] i = refl
 last_of_more p (x ∷ xs) i = ap (λ o. option_or o (cond (p x) (Some x) None)) (last_of_more p xs i) ∙ or_cond (p i) i (last_of p xs) (cond (p x) (Some x) None)
@@ -90,7 +90,7 @@ noted_other s xs i e high other =
     sym (same_made _ _ _ _ _ _ _ _ _ _ (ap (λ b. cond b (Some (size_in i)) s.max_segment_size) n2) (ap (λ b. cond b (Some (scale_in i)) s.window_scale) n3) (ap (λ b. cond b true s.sack_permitted) n4) (ap (λ b. cond b (ranges_in i) s.sack_ranges) n5) (ap (λ b. cond b (Some (stamp_in i)) s.timestamp) n8))
     ∙ ap (with_item i) e ∙ sym (summary_of_more xs i)
 
--- a timestamp
+-- a timestamp of 8 data bytes
 pub noted_stamp : (s : TcpOptionSummary) (xs : List Item) (i : Item) → s ≡ summary_of xs → i.kind ≡ 8 → length i.content ≡ 8 → record s { timestamp = Some (stamp_in i) } ≡ summary_of (xs ++ i ∷ [])
 noted_stamp s xs i e kind size =
     ap (λ b. record s { timestamp = cond b (Some (stamp_in i)) s.timestamp }) (sym (eq-eqb (length i.content) 8 size)) ∙ noted s xs i 8 e kind
@@ -99,7 +99,7 @@ noted_stamp s xs i e kind size =
 pub scale_is : (content : List ℕ) (n : ℕ) → content ≡ n ∷ [] → n ≡ big_number 1 content
 scale_is content n e = let b = ap (big_number 1) e in omega (arith, b)
 
--- a fact beside an error
+-- an error and a fact
 pub on_err : {X E P : Type 0} (r : Result X E) → P → OnErr r P
 on_err (Ok x) p = tt
 on_err (Err e) p = p

@@ -9,7 +9,7 @@ use Rattle.wire_tcp_parts.specs.TcpWalk.{Mark, first_of, mark_text}
 use Rattle.wire_tcp_parts.specs.declared.tcp.option.TcpOption.TheVariants.{EndOfList, SackRange}
 use Rattle.wire_tcp_parts.specs.declared.tcp.seq_number.TcpSeqNumber.{TcpSeqNumber}
 
--- ---- what items say
+-- ---- the values of items
 
 -- the last segment size counts; options behind the end of the list do not
 sizes : List Item
@@ -33,7 +33,7 @@ timestamp_of-other = refl
 first_blocks-one : first_blocks (0 ∷ 0 ∷ 0 ∷ 1 ∷ 0 ∷ 0 ∷ 0 ∷ 2 ∷ []) ≡ Some (1, 2) ∷ None ∷ None ∷ None ∷ []
 first_blocks-one = refl
 
--- ---- a walk past an end mark
+-- ---- a walk that continues behind an end mark
 
 marks : List Mark
 marks = None ∷ Some (item 4 []) ∷ None ∷ []

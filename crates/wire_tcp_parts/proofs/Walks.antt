@@ -1,4 +1,4 @@
--- Long walks: each list of bytes has one, and a walk that gets stuck is it.
+-- Longest walks: each list of bytes has exactly one, and a walk that stops is it.
 use Rattle.std.proofs.Common.{ℕ, zero, suc, ◌≡◌, ◌≢◌, ◌<◌, ◌≤◌, ◌+◌, ◌-◌, ◌*◌, ◌/◌, ◌%◌, ◌⊎◌, inl, inr, false, eqb, List, [], ◌∷◌, ◌++◌, length, get_or, take, drop, Option, Some, None, Ok, Err, refl, sym, ap, subst, ◌∙◌, append_assoc, length-append, arith}
 use Rattle.std.specs.List.{AllByRecursion, flat_map}
 use Rattle.std.proofs.lemmas.Bool.{cases_Bool, cases_lt, eq-eqb, eqb-false, eqb-true}
@@ -65,7 +65,7 @@ decided i =
       | inr n ↦ inr (λ is. n (((is.above, (is.below, omega (arith, is.size))), ((is.no_operation, is.segment_size), (is.window_scale, (is.sack_permitted, is.sack_ranges))))))
     ]
 
--- what bytes begin with
+-- the bytes begin with an item, a mark, or neither
 pub record Starts (bytes : List ℕ) : Type 0 where
   pub mark : Mark
   pub rest : List ℕ
@@ -121,7 +121,7 @@ starts (suc (suc k) ∷ l ∷ r) = starts_with (suc (suc k)) l r (λ e. omega (a
 
 -- ---- walks
 
--- no mark's text begins another's
+-- no text of a mark is a prefix of another
 mark_apart : (m n : Mark) (a b : List ℕ) → IsMark m → IsMark n → mark_text m ++ a ≡ mark_text n ++ b → (m ≡ n) × (a ≡ b)
 mark_apart None None a b is js e = (refl, cc)
 mark_apart None (Some j) a b is js e =
@@ -134,16 +134,16 @@ mark_apart (Some i) (Some j) a b is js e =
     let p = text_apart i j a b is js e in
     (ap Some p.0, p.1)
 
--- the bytes are the texts of these marks, and then a rest
+-- the bytes are the texts of these marks, followed by a rest
 abbrev pub Marks : List ℕ → List Mark → List ℕ → Type 0
 Marks = Walked mark_text IsMark
 
--- bytes that begin with a mark do not begin with nothing
+-- bytes that begin with a mark are not empty
 begins_mark : (m : Mark) (bytes rest : List ℕ) → IsMark m → bytes ≡ mark_text m ++ rest → BeginsNothing bytes → ⊥
 begins_mark None bytes rest is e nothing = nothing.no_mark rest e
 begins_mark (Some i) bytes rest is e nothing = nothing.no_item i rest is e
 
--- a walk that gets stuck is the longest
+-- a walk that cannot continue is the longest
 pub long : (bytes : List ℕ) (marks : List Mark) (rest : List ℕ) → Marks bytes marks rest → BeginsNothing rest → IsLongWalk bytes marks rest
 long bytes marks rest w nothing = record {
   walk = record { each = w.each; joined = w.joined_is };
@@ -166,12 +166,12 @@ one_mark bytes m rest is e = record {
   joined_is = e ∙ ap (λ (l : List ℕ). l ++ rest) (sym (append-nil (mark_text m)));
 }
 
--- a mark has a byte
+-- the text of a mark is not empty
 some_text : (m : Mark) → IsMark m → 0 < length (mark_text m)
 some_text None is = omega arith
 some_text (Some i) is = let h = text_head i in omega (arith, ap length h.1)
 
--- a walk that gets stuck
+-- a walk that cannot continue
 pub record Stuck (bytes : List ℕ) : Type 0 where
   pub marks : List Mark
   pub rest : List ℕ
@@ -207,11 +207,11 @@ stuck_within (suc n) bytes h = elim (starts bytes) [
       }
 ]
 
--- bytes have a walk that gets stuck, which is the longest
+-- bytes have a walk that cannot continue, which is the longest
 pub stuck_walk : (bytes : List ℕ) → Stuck bytes
 stuck_walk bytes = stuck_within (length bytes) bytes (omega arith)
 
--- a walk to where nothing begins, on from some marks
+-- a walk to the end of the marks, continued from some marks
 pub long_on : (bytes : List ℕ) (marks : List Mark) (rest : List ℕ) → Marks bytes marks rest → (next : Stuck rest) → IsLongWalk bytes (marks ++ next.marks) next.rest
 long_on bytes marks rest w next = long bytes (marks ++ next.marks) next.rest (walk_on mark_text IsMark bytes marks next.marks rest next.rest w next.walk) next.nothing
 
@@ -248,7 +248,7 @@ first_of-append kind (Some i ∷ xs) ys none = elim (cases_Bool (eqb i.kind kind
   | inr n ↦ rw n (first_of-append kind xs ys (rw n at none))
 ]
 
--- what an option was read from, as a mark
+-- the mark from which an option was parsed
 pub record Read (option : TcpOption) (bytes rest : List ℕ) : Type 0 where
   pub mark : Mark
   pub is : IsMark mark
@@ -273,7 +273,7 @@ read_mark (SackRange ranges) bytes rest (i, is, reading, e) = read_item (SackRan
 read_mark (TimeStamp tsval tsecr) bytes rest (i, is, reading, e) = read_item (TimeStamp tsval tsecr) bytes rest i is reading e
 read_mark (Unknown kind content) bytes rest (i, is, reading, e) = read_item (Unknown kind content) bytes rest i is reading e
 
--- the first byte of a mark's text decides whether it is of a kind
+-- the first byte of the text of a mark decides whether the mark has a kind
 first_of-here : (kind : ℕ) (m : Mark) (b : ℕ) (bs rest : List ℕ) → 0 < kind → b ∷ bs ≡ mark_text m ++ rest → (b ≡ kind → (i : Item) × (m ≡ Some i) × (i.kind ≡ kind)) × (b ≢ kind → first_of kind (m ∷ []) ≡ None)
 first_of-here kind None b bs rest some e =
     let zero_first : b ≡ 0 = cc in
@@ -287,7 +287,7 @@ first_of-here kind (Some i) b bs rest some e =
     other : (m n : ℕ) → m ≢ n → eqb m n ≡ false
     other m n h = elim (cases_Bool (eqb m n)) [ inl y ↦ absurd (h (eqb-true m n y)) | inr z ↦ z ]
 
--- the walk goes on over an option of another kind
+-- the walk passes an option of another kind
 pub passed : (bytes : List ℕ) (marks : List Mark) (kind : ℕ) (r rest : List ℕ) (option : TcpOption) → Marks bytes marks r → first_of kind marks ≡ None → 0 < kind
     → 0 < length r → Begins option r rest → get_or r 0 0 ≢ kind → (more : List Mark) × Marks bytes more rest × (first_of kind more ≡ None)
 passed bytes marks kind [] rest option w none some filled begins not = absurd (omega arith)
@@ -298,7 +298,7 @@ passed bytes marks kind (b ∷ bs) rest option w none some filled begins not =
       first_of-append kind marks (r.mark ∷ []) none ∙ (first_of-here kind r.mark b bs rest some r.joined).1 not,
     )
 
--- it ends at an option of the kind
+-- the walk stops at an option of the kind
 pub found : (bytes : List ℕ) (marks : List Mark) (kind : ℕ) (r rest : List ℕ) (option : TcpOption) → Marks bytes marks r → first_of kind marks ≡ None → 0 < kind
     → 0 < length r → Begins option r rest → get_or r 0 0 ≡ kind → FindsFirst bytes kind (Ok (Some option))
 found bytes marks kind [] rest option w none some filled begins is = absurd (omega arith)
@@ -316,12 +316,12 @@ found bytes marks kind (b ∷ bs) rest option w none some filled begins is =
       rw first (option, subst IsMark same r.is, r.reading i same, refl),
     )
 
--- it gets stuck before the end
+-- the walk stops before the end
 pub broken : (bytes : List ℕ) (marks : List Mark) (kind : ℕ) (r : List ℕ) → Marks bytes marks r → first_of kind marks ≡ None → 0 < length r → BeginsNothing r → FindsFirst bytes kind (Err (record {}))
 broken bytes marks kind [] w none filled nothing = absurd (omega arith)
 broken bytes marks kind (b ∷ bs) w none filled nothing = (marks, b ∷ bs, long bytes marks (b ∷ bs) w nothing, rw none refl)
 
--- it gets to the end
+-- the walk reaches the end
 pub ended : (bytes : List ℕ) (marks : List Mark) (kind : ℕ) (r : List ℕ) → Marks bytes marks r → first_of kind marks ≡ None → length r ≤ 0 → FindsFirst bytes kind (Ok None)
 ended bytes marks kind [] w none empty =
     (marks, [], long bytes marks [] w (record { no_mark = λ rest e. cc; no_item = λ i rest is e. nil-text i rest e }), rw none refl)
@@ -356,7 +356,7 @@ reads_ranges (Unknown kind content) i five reading = absurd (omega (arith, five,
 abbrev pub AnswersRanges : List ℕ → List (Option (ℕ × ℕ)) → Type 0
 AnswersRanges bytes ranges = Answers bytes 5 (λ i. first_blocks i.content) (first_blocks []) (Ok ranges)
 
--- what is answered where the walk found no option of kind 5, and where it found one
+-- the result if the walk found no option of kind 5, and if it found one
 pub no_ranges : (bytes : List ℕ) → FindsFirst bytes 5 (Ok None) → AnswersRanges bytes (first_blocks [])
 no_ranges bytes (marks, rest, walk, first) = (marks, rest, walk, go (first_of 5 marks) rest first)
   where

@@ -62,7 +62,7 @@ first_item (kind ∷ rest) =
     else if nat_le 2 (slice_index rest 0) && nat_le size (length behind) && is_sized kind size then Some (item kind (take size behind), drop size behind)
     else None
 
--- ---- what items say
+-- ---- the values of items
 
 -- block k of the data of kind 5, its left and its right edge, if there is one
 abbrev pub block_at : List ℕ → ℕ → Option (ℕ × ℕ)

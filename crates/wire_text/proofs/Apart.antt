@@ -1,4 +1,4 @@
--- Texts of IPv4 and of IPv6 are apart: the first byte that is no hex digit is a dot in the one, and a colon in the other.
+-- No text is an IPv4 and an IPv6 address: the first byte that is no hex digit is a dot in one, a colon in the other.
 use Rattle.std.proofs.Common.{◌≡◌, ℕ, ◌<◌, ◌≤◌, ◌==◌, true, false, List, [], ◌∷◌, ◌++◌, length, get_or, drop, sym, ap, ◌∙◌, arith, lit≤, inl, inr, append_assoc, eq-eqb}
 use Rattle.std.specs.Char.{digit_value}
 use Rattle.std.specs.List.{join_with_byte}
@@ -9,7 +9,7 @@ use Rattle.wire_text.proofs.Endings.{length_is, mark_here}
 use Rattle.wire_text.proofs.Ipv6.{dotted_by}
 use Rattle.wire_text.proofs.Joined.{EachReads-length}
 
--- hex digits, and then this byte
+-- the text is hex digits followed by this byte
 pub record IsFirstMark (mark : ℕ) (text : List ℕ) : Type 0 where
   pub front : List ℕ
   pub rest : List ℕ
@@ -22,10 +22,11 @@ one_mark a b h k [] (y ∷ g) r s df dg e = absurd (omega (arith, dg.0, ap (λ t
 one_mark a b h k (x ∷ f) [] r s df dg e = absurd (omega (arith, df.0, ap (λ t. digit_value (get_or t 0 0)) e))
 one_mark a b h k (x ∷ f) (y ∷ g) r s df dg e = one_mark a b h k f g r s df.1 dg.1 (ap (drop 1) e)
 
+-- the first byte of a text that is no hex digit is one byte
 pub same_mark : (a b : ℕ) (text : List ℕ) → 16 ≤ digit_value a → 16 ≤ digit_value b → IsFirstMark a text → IsFirstMark b text → a ≡ b
 same_mark a b text h k m n = one_mark a b h k m.front n.front m.rest n.rest m.digits n.digits (sym m.spelled ∙ n.spelled)
 
--- what follows the mark does not matter
+-- the text behind that byte can be replaced
 pub mark_before : (mark : ℕ) (text more : List ℕ) → IsFirstMark mark text → IsFirstMark mark (text ++ more)
 mark_before mark text more m = record {
   front = m.front;
@@ -39,6 +40,7 @@ wider : (text : List ℕ) → AllDigits 10 text → AllDigits 16 text
 wider [] h = tt
 wider (c ∷ text) h = (omega (arith, h.0), wider text h.1)
 
+-- in an IPv4 text that byte is a dot
 pub dotted_first : (text octets : List ℕ) → IsDotted text octets → IsFirstMark 46 text
 dotted_first text octets h = by h.0.pieces h.0.each h.0.joined
   where
@@ -56,7 +58,7 @@ dotted_first text octets h = by h.0.pieces h.0.each h.0.joined
           spelled = e;
         }
 
--- groups or none, and then a colon
+-- groups or none, followed by a colon
 groups_first : (text front groups rest : List ℕ) → AreGroupsText front groups → text ≡ front ++ 58 ∷ rest → IsFirstMark 58 text
 groups_first text front groups rest h e = by h.pieces groups h.each h.joined
   where
@@ -80,16 +82,18 @@ full_first text groups h eight = by h.pieces groups h.each h.joined eight
     by (piece ∷ next ∷ pieces) [] each same eight = absurd each
     by (piece ∷ next ∷ pieces) (g ∷ groups) each same eight = record { front = piece; rest = join_with_byte 58 (next ∷ pieces); digits = each.0.digits.1; spelled = same }
 
+-- in an IPv6 text that byte is a colon
 pub ipv6_first : (text groups : List ℕ) → IsIpv6Text text groups → IsFirstMark 58 text
 ipv6_first text groups (inl h) = full_first text groups h.0 h.1
 ipv6_first text groups (inr (inl h)) = groups_first text h.head_text h.head (58 ∷ h.tail_text) h.head_groups (h.spelled ∙ append_assoc h.head_text (58 ∷ 58 ∷ []) h.tail_text)
 ipv6_first text groups (inr (inr (inl h))) = groups_first text h.front_text _ h.dotted_text h.front (h.spelled ∙ append_assoc h.front_text (58 ∷ []) h.dotted_text)
 ipv6_first text groups (inr (inr (inr h))) = groups_first text h.head_text _ (58 ∷ h.mark_text ++ 58 ∷ h.dotted_text) h.head (h.spelled ∙ simp append_assoc)
 
+-- no text is an IPv4 address and an IPv6 address
 pub versions_apart : (text octets groups : List ℕ) → IsDotted text octets → IsIpv6Text text groups → ⊥
 versions_apart text octets groups h k = omega (arith, same_mark 46 58 text (lit≤ tt) (lit≤ tt) (dotted_first text octets h) (ipv6_first text groups k))
 
--- a colon and a number end no text of IPv4
+-- an IPv4 text does not end in a colon and a number
 pub no_port : (text octets front : List ℕ) (places most n : ℕ) → IsDotted text octets → EndsInNumber 58 places most text front n → ⊥
 no_port text octets front places most n h k =
     let inside : length front < length text = omega (arith, length_is 58 places most (lit≤ tt) text front n k) in

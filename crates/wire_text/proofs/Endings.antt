@@ -1,4 +1,4 @@
--- A text ends in a mark and a number in one way at most: behind the last mark.
+-- A text splits into a front, a mark and a number in at most one way: at the last mark.
 use Rattle.std.proofs.Common.{◌≡◌, ◌≢◌, ℕ, zero, suc, ◌+◌, ◌-◌, ◌^◌, ◌<◌, ◌≤◌, List, [], ◌∷◌, ◌++◌, length, get_or, decimal, take, drop, refl, sym, ap, ◌∙◌, subst, arith, inl, inr, length-append, take_at, drop_at, take-append-drop, append_assoc, length-drop}
 use Rattle.std.proofs.Math.Seq.{get_or-append_seam}
 use Rattle.std.proofs.lemmas.Bool.{cases_lt}
@@ -15,9 +15,11 @@ digit_at (c ∷ text) zero h within = h.0
 digit_at (c ∷ text) (suc k) h within = digit_at text k h.1 (omega arith)
 
 module _ (mark places most : ℕ) (apart : 10 ≤ digit_value mark) where
+  -- the length of the text is that of its parts
   pub length_is : (text front : List ℕ) (n : ℕ) (h : EndsInNumber mark places most text front n) → length text ≡ length front + 1 + length h.digits
   length_is text front n h = omega (arith, ap length h.spelled, length-append front (mark ∷ h.digits))
 
+  -- the mark is at the index of the length of the front
   pub mark_here : (text front : List ℕ) (n : ℕ) → EndsInNumber mark places most text front n → get_or text (length front) 0 ≡ mark
   mark_here text front n h = ap (λ t. get_or t (length front) 0) h.spelled ∙ get_or-append_seam front mark h.digits 0
 
@@ -31,7 +33,7 @@ module _ (mark places most : ℕ) (apart : 10 ≤ digit_value mark) where
       let digit = digit_at h.digits j h.number.digits.1 (omega (arith, length_is text front n h)) in
       omega (arith, digit, ap digit_value (sym read ∙ same))
 
-  -- a mark that none follows is the one before the number
+  --   if no mark follows a mark, the number starts behind it
   front_ends : (text front : List ℕ) (n at : ℕ) → EndsInNumber mark places most text front n → at < length text → get_or text at 0 ≡ mark → ((k : ℕ) → at < k → k < length text → get_or text k 0 ≢ mark) → length front ≡ at
   front_ends text front n at h within here last =
       let inside : length front < length text = omega (arith, length_is text front n h) in
@@ -43,6 +45,7 @@ module _ (mark places most : ℕ) (apart : 10 ≤ digit_value mark) where
         ]
       ]
 
+  -- the last mark of a text separates the front and the number
   pub ends_at : (text front : List ℕ) (n at : ℕ) → EndsInNumber mark places most text front n → at < length text → get_or text at 0 ≡ mark → ((k : ℕ) → at < k → k < length text → get_or text k 0 ≢ mark) → (front ≡ take at text) × IsNumber 10 places most (drop (at + 1) text) n
   ends_at text front n at h within here last =
       let long = front_ends text front n at h within here last in
@@ -52,6 +55,7 @@ module _ (mark places most : ℕ) (apart : 10 ≤ digit_value mark) where
         subst (λ t. IsNumber 10 places most t n) (sym (ap (drop (at + 1)) again ∙ drop_at (front ++ mark ∷ []) h.digits (at + 1) longer)) h.number,
       )
 
+  -- a text has at most one such ending
   pub ends_once : (text front other : List ℕ) (n m : ℕ) → EndsInNumber mark places most text front n → EndsInNumber mark places most text other m → (front ≡ other) × (n ≡ m)
   ends_once text front other n m h k =
       let inside : length other < length text = omega (arith, length_is text other m k) in
@@ -60,7 +64,7 @@ module _ (mark places most : ℕ) (apart : 10 ≤ digit_value mark) where
       let (g, y) = ends_at text other m (length other) k inside (mark_here text other m k) last in
       (f ∙ sym g, sym x.value ∙ y.value)
 
-  -- more digits and a greater number may be allowed
+  --   a larger limit on digits and value accepts the same number
   pub ends_wider : (text front : List ℕ) (n few less : ℕ) → few ≤ places → less ≤ most → EndsInNumber mark few less text front n → EndsInNumber mark places most text front n
   ends_wider text front n few less fewer lower h = record {
     digits = h.digits;
@@ -73,13 +77,14 @@ module _ (mark places most : ℕ) (apart : 10 ≤ digit_value mark) where
     };
   }
 
-  -- where the last bytes that may hold the mark hold none
+  --   without a mark among the last `places` + 1 bytes, the text has no such ending
   pub no_end : (text : List ℕ) (first : ℕ) → first ≤ length text - (places + 1) → ((k : ℕ) → first ≤ k → k < length text → get_or text k 0 ≢ mark) → (front : List ℕ) (n : ℕ) → ¬ (EndsInNumber mark places most text front n)
   no_end text first room none front n h =
       let short : length h.digits ≤ places = h.number.places_fit in
       let long : length text ≡ length front + 1 + length h.digits = length_is text front n h in
       none (length front) (omega (arith, short, long)) (omega (arith, long)) (mark_here text front n h)
 
+  -- a mark and a number at the end of a text are an ending
   pub ends_in : (text : List ℕ) (n at : ℕ) → at < length text → get_or text at 0 ≡ mark → IsNumber 10 places most (drop (at + 1) text) n → EndsInNumber mark places most text (take at text) n
   ends_in text n at within here number = record {
     digits = drop (at + 1) text;
@@ -87,7 +92,7 @@ module _ (mark places most : ℕ) (apart : 10 ≤ digit_value mark) where
     number = number;
   }
 
--- a number that is printed behind the mark
+-- a printed number behind a mark is such an ending
 pub ends_printed : (mark places most n : ℕ) (front : List ℕ) → 0 < places → most < 10 ^ places → most < 2 ^ 64 → n ≤ most → EndsInNumber mark places most (front ++ mark ∷ decimal n) front n
 ends_printed mark places most n front some wide small fits =
     let low : n < 2 ^ 64 = omega arith in
@@ -99,11 +104,12 @@ ends_printed mark places most n front some wide small fits =
       number = record { digits = digits; places_fit = length-decimal-le places n some few low; value = value; fits = fits };
     }
 
--- what is read behind the first bytes is read in the text
+-- an ending of a text without its first bytes is an ending of the text
 module _ (text : List ℕ) (first : ℕ) where
   abbrev pub behind : List ℕ
   behind = take (length text - first) (drop first text)
 
+  -- the last bytes, without a length
   pub behind_is : behind ≡ drop first text
   behind_is = take_rest text first
 
@@ -113,11 +119,13 @@ module _ (text : List ℕ) (first : ℕ) where
   length_in : length behind ≡ length text - first
   length_in = ap length behind_is ∙ length-drop first text
 
+  -- no mark in the last bytes is no mark at these indexes of the text
   pub none_in : (mark : ℕ) → ((k : ℕ) → k < length behind → get_or behind k 0 ≢ mark) → (k : ℕ) → first ≤ k → k < length text → get_or text k 0 ≢ mark
   none_in mark none k past within here =
       let back : first + (k - first) ≡ k = omega arith in
       none (k - first) (omega (arith, length_in)) (read_in (k - first) ∙ ap (λ i. get_or text i 0) back ∙ here)
 
+  -- the last mark in the last bytes is the last mark of the text
   pub last_in : (mark place : ℕ) → (place < length behind) × (get_or behind place 0 ≡ mark) × ((k : ℕ) → place < k → k < length behind → get_or behind k 0 ≢ mark) → (first + place < length text) × (get_or text (first + place) 0 ≡ mark) × ((k : ℕ) → first + place < k → k < length text → get_or text k 0 ≢ mark)
   last_in mark place h = (
     omega (arith, h.0, length_in),

@@ -1,4 +1,4 @@
--- The digits that stand first, and the first of the pieces between marks.
+-- The leading digits of a text, and the first of the pieces between marks.
 use Rattle.std.proofs.Common.{◌≡◌, ◌≢◌, ℕ, zero, suc, ◌-◌, ◌^◌, lit≤, ◌<◌, ◌≤◌, ◌⊎◌, List, [], ◌∷◌, ◌++◌, length, get_or, take, drop, Option, Some, None, Bor, refl, sym, ap, ap₂, ◌∙◌, subst, arith, inl, inr, append-nil, length-append, take_all, take_at, drop_at, length-take-le, length-drop, take-append-drop, eq-eqb}
 use Rattle.std.proofs.lemmas.List.{take_rest}
 use Rattle.std.proofs.lemmas.Bool.{cases_lt}
@@ -13,7 +13,7 @@ use Rattle.wire_text.specs.Reading.{number_of, pieces_of, FirstPiece}
 use Rattle.wire_text.proofs.Numbers.{number_complete, number_sound}
 use Rattle.wire_text.proofs.Pieces.{digits_piece, pieces_some}
 
--- so many digits are read, which write this number: as many as may be, or all up to the end or another byte
+-- these digits are parsed, with this value: either the limit is reached, or the text ends or another byte follows
 pub record IsFirst (radix places : ℕ) (text : List ℕ) (value count : ℕ) : Type 0 where
   pub digits : AllDigits radix (take count text)
   pub is : value ≡ digits_value radix (take count text)
@@ -21,27 +21,28 @@ pub record IsFirst (radix places : ℕ) (text : List ℕ) (value count : ℕ) : 
   pub few : count ≤ places
   pub whole : (count ≡ places) ⊎ ((count ≡ length text) ⊎ (radix ≤ digit_value (get_or text count 0)))
 
--- each digit of a front is one
+-- each byte of the leading digits is a digit
 digit_within : (radix k : ℕ) (front more : List ℕ) → AllDigits radix front → k < length front → digit_value (get_or (front ++ more) k 0) < radix
 digit_within radix k [] more all within = absurd (omega arith)
 digit_within radix zero (c ∷ front) more all within = all.0
 digit_within radix (suc k) (c ∷ front) more all within = digit_within radix k front more all.1 (omega arith)
 
--- digits that reach past a front have what follows it
+-- if more digits are parsed than a prefix has bytes, they begin with the prefix
 digit_behind : (radix k c : ℕ) (front more : List ℕ) → AllDigits radix (take k (front ++ c ∷ more)) → length front < k → digit_value c < radix
 digit_behind radix zero c front more all past = absurd (omega arith)
 digit_behind radix (suc k) c [] more all past = all.0
 digit_behind radix (suc k) c (d ∷ front) more all past = digit_behind radix k c front more all.1 (omega arith)
 
--- what follows a piece: nothing, or the mark and more
+-- what follows a piece: nothing, or the mark and more text
 abbrev pub IsBehind : ℕ → List ℕ → Type 0
 IsBehind mark [] = Unit {0}
 IsBehind mark (c ∷ more) = c ≡ mark
 
--- what is left behind so many bytes
+-- the text without its first bytes
 pub rest_none : (text : List ℕ) (n : ℕ) → length (take (length text - n) (drop n text)) ≡ 0 → length text ≤ n
 rest_none text n e = omega (arith, ap length (take_rest text n), length-drop n text)
 
+-- if the rest of a text begins with a byte, it is that byte and more
 pub rest_some : (text : List ℕ) (n c : ℕ) (more : List ℕ) → take (length text - n) (drop n text) ≡ c ∷ more → drop n text ≡ c ∷ more
 rest_some text n c more e = sym (take_rest text n) ∙ e
 
@@ -53,7 +54,7 @@ module _ {radix places : ℕ} {text : List ℕ} {value count : ℕ} (first : IsF
     | inr some ↦ some
   ]
 
-  -- a number and a mark, that is no digit, are read up to the mark
+  --   a number is parsed up to a mark that is no digit
   first_count : (mark most n : ℕ) (piece rest : List ℕ) → radix ≤ digit_value mark → IsNumber radix places most piece n → text ≡ piece ++ rest → IsBehind mark rest → count ≡ length piece
   first_count mark most n piece rest apart h e behind =
       let some = past_none mark piece rest apart e behind in
@@ -84,7 +85,7 @@ module _ {radix places : ℕ} {text : List ℕ} {value count : ℕ} (first : IsF
         fits = fits;
       }
 
-  -- and there is no other reason that it is none
+  --   there is no other way to reject it
   pub no_number : (most n : ℕ) → ((count ≡ 0) ⊎ ((count < length text) ⊎ (most < value))) → ¬ (IsNumber radix places most text n)
   no_number most n why h =
       let e = sym (append-nil text) in
@@ -115,6 +116,7 @@ module _ {radix places : ℕ} {text : List ℕ} {value count : ℕ} (first : IsF
         fits = fits;
       })
 
+  -- a number that is the whole text is its first and last piece
   pub last_piece : (mark : ℕ) → radix ≤ digit_value mark → (most : ℕ) → count ≢ 0 → value ≤ most → length text ≤ count → FirstPiece mark radix places most text (Some (value, None))
   last_piece mark apart most some fits end =
       let whole = take_all count text end in
@@ -125,6 +127,7 @@ module _ {radix places : ℕ} {text : List ℕ} {value count : ℕ} (first : IsF
         read = (rw whole at (front_piece mark apart most (omega arith) fits), refl);
       }
 
+  -- a number up to a mark is the first piece, and the rest follows the mark
   pub piece_and_more : (mark : ℕ) → radix ≤ digit_value mark → (most : ℕ) → count ≢ 0 → value ≤ most → (rest : Bor (List ℕ)) → drop count text ≡ mark ∷ rest.now → FirstPiece mark radix places most text (Some (value, Some rest))
   piece_and_more mark apart most some fits rest e =
       let split : text ≡ take count text ++ mark ∷ rest.now = sym (take-append-drop count text) ∙ ap (λ t. take count text ++ t) e in
@@ -135,6 +138,7 @@ module _ {radix places : ℕ} {text : List ℕ} {value count : ℕ} (first : IsF
         read = (front_piece mark apart most (omega arith) fits, refl);
       }
 
+  -- no first piece is a number: no digit, a value that is too large, or another byte behind the digits
   pub no_piece : (mark : ℕ) → radix ≤ digit_value mark → (most : ℕ) → ((count ≡ 0) ⊎ ((most < value) ⊎ (¬ (IsBehind mark (drop count text))))) → FirstPiece mark radix places most text None
   no_piece mark apart most why = by (pieces_of mark text) refl
     where
@@ -166,7 +170,7 @@ module _ {radix places : ℕ} {text : List ℕ} {value count : ℕ} (first : IsF
           none None same = same
           none (Some n) same = absurd (unread piece others e n (number_sound radix places most piece n same))
 
--- four hex digits write at most ffff
+-- four hex digits have a value of at most ffff
 pub group_small : {text : List ℕ} {value count : ℕ} → IsFirst 16 4 text value count → value ≤ 0xffff
 group_small {text} {value} {count} first =
     let len = length-take-le count text first.within in

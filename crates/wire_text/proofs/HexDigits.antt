@@ -16,6 +16,7 @@ digit_at i (suc k) (d ∷ digits) all within =
     let place : i + 1 + k ≡ i + suc k = omega arith in
     digit_at (i + 1) k digits (and_parts _ _ all).1 (omega arith) ∙ ap (λ n. min 16 (digit_value n)) place
 
+-- an entry of a checked table is the value of its digit
 pub digit_of : (digits : List ℕ) (k : ℕ) → k < 256 → length digits ≡ 256 → are_digits 0 digits ≡ true → get_or digits k 0 ≡ min 16 (digit_value k)
 digit_of digits k within size all =
     let place : 0 + k ≡ k = omega arith in

@@ -1,4 +1,4 @@
--- `groups_read` reads the four forms of an IPv6 text, and nothing else.
+-- `groups_read` accepts exactly the four forms of an IPv6 text.
 use Rattle.std.proofs.Common.{◌≡◌, ◌≢◌, ℕ, codes, ◌+◌, ◌-◌, ◌<◌, ◌≤◌, ◌⊎◌, ◌==◌, Bool, true, false, cond, List, [], ◌∷◌, ◌++◌, length, get_or, take, drop, replicate, bytes_eq, Option, Some, None, refl, sym, ap, ap₂, ◌∙◌, subst, arith, inl, inr, append-nil, append_assoc, length-append, lit≤, le-leb, lt-ltb, ne_eqb, eq-eqb, eqb-true, drop_at, take_at}
 use Rattle.std.proofs.lemmas.Bool.{cases_eq, ltb-true, leb-true, and_parts}
 use Rattle.std.proofs.lemmas.Option.{none-some, same_Some}
@@ -16,7 +16,7 @@ use Rattle.wire_text.proofs.Numbers.{number_complete, number_sound}
 use Rattle.wire_text.proofs.Pieces.{ArePieces, IsPiece, pieces_of-join, pieces_of-join_append, join-piece, join-append}
 use Rattle.wire_text.proofs.Joined.{EachReads-length, EachReads-pieces, octets_complete, octets_sound}
 
--- ---- what the grammar has is read
+-- ---- a text of the grammar is accepted
 
 groups_from_more : (before : Option ℕ) (pieces : List (List ℕ)) (groups seen : List ℕ) (rest : List (List ℕ)) → EachReads IsGroup pieces groups → length seen + length groups ≤ 8 → groups_from before seen (pieces ++ rest) ≡ groups_from before (seen ++ groups) rest
 unfolding groups_from
@@ -51,14 +51,14 @@ inner_groups piece (next ∷ pieces) (g ∷ groups) text h =
 colons_apart : (pieces : List (List ℕ)) (groups : List ℕ) → EachReads IsGroup pieces groups → ArePieces 58 pieces
 colons_apart pieces groups h = EachReads-pieces 16 4 0xffff 58 (lit≤ tt) pieces groups h
 
--- groups, and then a colon and more
+-- groups, followed by a colon and more
 read_more : (piece : List ℕ) (pieces : List (List ℕ)) (groups text : List ℕ) → EachReads IsGroup (piece ∷ pieces) groups → groups_read (join_with_byte 58 (piece ∷ pieces) ++ 58 ∷ text) ≡ groups_from None [] ((piece ∷ pieces) ++ pieces_of 58 text)
 unfolding groups_read
 read_more piece pieces groups text h =
     rw (inner_groups piece pieces groups (58 ∷ text) h)
     (ap (groups_from None []) (pieces_of-join_append 58 piece pieces text (colons_apart (piece ∷ pieces) groups h)))
 
--- groups or none, and then `::` and more
+-- groups or none, followed by `::` and more
 read_elided : (pieces : List (List ℕ)) (groups text : List ℕ) → EachReads IsGroup pieces groups → groups_read (join_with_byte 58 pieces ++ 58 ∷ 58 ∷ text) ≡ groups_from None [] (pieces ++ [] ∷ pieces_of 58 text)
 unfolding groups_read
 read_elided [] groups text h = refl
@@ -82,7 +82,7 @@ full_by text (piece ∷ pieces) groups each e eight =
 full_complete : (text groups : List ℕ) → IsFullText text groups → groups_read text ≡ Some groups
 full_complete text groups h = full_by text h.0.pieces groups h.0.each h.0.joined h.1
 
--- eight groups, with zeros between a head and a tail
+-- eight groups, with zeros between the head and the tail
 between : (head tail : List ℕ) → length head + length tail ≤ 7 → all_groups (Some (length head)) (head ++ tail) ≡ Some (head ++ replicate (8 - length head - length tail) 0 ++ tail)
 between head tail few =
     let len = length-append head tail in
@@ -111,7 +111,7 @@ elided_complete text groups h =
     let tail = tail_by h.head h.tail h.tail_text h.tail_groups.pieces h.tail_groups.each h.tail_groups.joined h.room in
     head ∙ tail ∙ between h.head h.tail h.room ∙ ap Some (sym h.value)
 
--- a dotted text is one piece, and no group
+-- a dotted text is one piece, and it is no group
 digits_around : (radix : ℕ) (xs ys : List ℕ) (c : ℕ) → AllDigits radix (xs ++ c ∷ ys) → digit_value c < radix
 digits_around radix [] ys c h = h.0
 digits_around radix (x ∷ xs) ys c h = digits_around radix xs ys c h.1
@@ -123,6 +123,7 @@ no_number text none = by (group_of text) refl
     by None e = e
     by (Some g) e = absurd (none g (number_sound 16 4 0xffff text g e))
 
+-- four octets joined by dots are one piece, and no group
 pub dotted_by : (text : List ℕ) (pieces : List (List ℕ)) (octets : List ℕ) → EachReads (IsNumber 10 3 255) pieces octets → text ≡ join_with_byte 46 pieces → length octets ≡ 4 → IsPiece 58 text × (group_of text ≡ None) × (0 < length text)
 dotted_by text [] octets each e four = absurd (omega (arith, EachReads-length 10 3 255 [] octets each))
 dotted_by text (piece ∷ []) octets each e four = absurd (omega (arith, EachReads-length 10 3 255 (piece ∷ []) octets each))
@@ -143,6 +144,7 @@ dotted_last before seen text octets h may =
 same_bytes : (xs ys : List ℕ) → xs ≡ ys → bytes_eq xs ys ≡ true
 same_bytes xs ys e = (bytes_eq-Decides xs ys).1 e
 
+-- a dotted text is a single piece
 pub dotted_piece : (text octets : List ℕ) → IsDotted text octets → pieces_of 58 text ≡ text ∷ []
 dotted_piece text octets h = slice_split_none (λ b. b == 58) text (dotted_by text h.0.pieces octets h.0.each h.0.joined h.1).0
 
@@ -170,7 +172,7 @@ elided_mapped_complete text groups h =
     head ∙ ap (λ ps. groups_from None zeros ([] ∷ ps)) cut ∙ behind_group zeros h.mark_text (h.dotted_text ∷ []) _ h.mark.digits.0
     ∙ later ∙ dotted_last (Some (length zeros)) (zeros ++ 0xffff ∷ []) h.dotted_text h.octets h.last may ∙ ap Some (sym h.value)
 
--- no zeros are written before the elision
+-- the elision replaces all zeros: none are written before it
 pub mapped_text : (text dotted octets groups : List ℕ) → text ≡ codes "::ffff:" ++ dotted → IsDotted dotted octets → groups ≡ mapped_groups ++ groups_of octets → IsElidedMappedText text groups
 mapped_text text dotted octets groups spelled last value = record {
   head_text = [];
@@ -186,15 +188,16 @@ mapped_text text dotted octets groups spelled last value = record {
   value = value;
 }
 
+-- each IPv6 text of the grammar is accepted, with its groups
 pub groups_complete : (text groups : List ℕ) → IsIpv6Text text groups → groups_read text ≡ Some groups
 groups_complete text groups (inl h) = full_complete text groups h
 groups_complete text groups (inr (inl h)) = elided_complete text groups h
 groups_complete text groups (inr (inr (inl h))) = mapped_by text h.front_text h.dotted_text h.octets h.front.pieces h.front.each h.front.joined h.spelled h.last ∙ ap Some (sym h.value)
 groups_complete text groups (inr (inr (inr h))) = elided_mapped_complete text groups h
 
--- ---- what is read is in the grammar
+-- ---- an accepted text is in the grammar
 
--- what is left is nothing, or begins with a piece that is no group
+-- the rest is empty, or begins with a piece that is no group
 abbrev Stops : List (List ℕ) → Type 0
 Stops [] = Unit {0}
 Stops (piece ∷ pieces) = group_of piece ≡ None
@@ -203,7 +206,7 @@ test_passed : {A : Type 0} (b : Bool) (o : Option A) (x : A) → cond b o None �
 test_passed true o x e = (refl, e)
 test_passed false o x e = absurd (none-some x e)
 
--- the pieces begin with groups, and the rest is read behind those
+-- the pieces begin with groups, and parsing continues behind them
 record Front (before : Option ℕ) (seen : List ℕ) (pieces : List (List ℕ)) (groups : List ℕ) : Type 0 where
   front : List (List ℕ)
   more : List ℕ
@@ -253,7 +256,7 @@ front_of before seen [] groups e = record {
 front_of before seen (piece ∷ pieces) groups e =
     front_step before seen piece pieces groups e (λ g. front_of before (seen ++ g ∷ []) pieces groups) (group_of piece) refl
 
--- what no group begins, where it is read: nothing, `::`, or a dotted part
+-- what is accepted where no group begins: nothing, `::`, or a dotted part
 at_stop : (before : Option ℕ) (seen piece : List ℕ) (pieces : List (List ℕ)) (groups : List ℕ) → groups_from before seen (piece ∷ pieces) ≡ Some groups → group_of piece ≡ None → ((piece ≡ []) × (behind_elision before seen pieces (groups_from (Some (length seen)) seen pieces) ≡ Some groups)) ⊎ (dotted_end before seen piece pieces ≡ Some groups)
 unfolding groups_from
 at_stop before seen [] pieces groups e none = inl (refl, e)
@@ -261,7 +264,7 @@ at_stop before seen (c ∷ piece) pieces groups e none =
     let test : length (c ∷ piece) ≢ 0 = omega arith in
     inr (rw (ne_eqb (length (c ∷ piece)) 0 test, none) at e)
 
--- a dotted part: the last piece, behind the prefix
+-- a dotted part is the last piece, behind the prefix
 at_dotted : (before : Option ℕ) (seen piece : List ℕ) (pieces : List (List ℕ)) (groups : List ℕ) → dotted_end before seen piece pieces ≡ Some groups → (pieces ≡ []) × (may_end_dotted before seen ≡ true) × ((octets : List ℕ) × IsDotted piece octets × (groups ≡ mapped_groups ++ groups_of octets))
 unfolding mapped_read
 at_dotted before seen piece (next ∷ pieces) groups e = absurd (none-some groups e)
@@ -274,9 +277,9 @@ all_sound : (before : Option ℕ) (seen groups : List ℕ) → all_groups before
 all_sound None seen groups e = let (eight, same) = cond_some _ _ _ e in omega (arith, eqb-true _ _ eight)
 all_sound (Some n) seen groups e = let (few, same) = cond_some _ _ _ e in omega (arith, ltb-true _ _ few)
 
--- ---- the text again, from its pieces
+-- ---- the text, recovered from its pieces
 
--- the inner text begins with no colon and is the text, or with the second colon of `::`
+-- the inner text begins with no colon, or it is the text without the first colon of `::`
 inner_cases : (text inner : List ℕ) → inner_text text ≡ Some inner → ((text ≡ inner) × (get_or inner 0 0 ≢ 58) × (0 < length inner)) ⊎ ((text ≡ 58 ∷ inner) × (get_or inner 0 0 ≡ 58))
 inner_cases [] inner e = absurd (none-some inner e)
 inner_cases (c ∷ []) inner e =
@@ -297,7 +300,7 @@ first_not_colon piece pieces groups text h =
       | inr k ↦ absurd (omega (arith, ap length k.0))
     ]
 
--- a text that begins with groups is its inner text
+-- a text that begins with a group is its own inner text
 text_of_groups : (text inner piece : List ℕ) (pieces : List (List ℕ)) (groups more : List ℕ) → inner_text text ≡ Some inner → EachReads IsGroup (piece ∷ pieces) groups → inner ≡ join_with_byte 58 (piece ∷ pieces) ++ more → text ≡ join_with_byte 58 (piece ∷ pieces) ++ more
 text_of_groups text inner piece pieces groups more found each shown =
     elim (inner_cases text inner found) [
@@ -305,7 +308,7 @@ text_of_groups text inner piece pieces groups more found each shown =
       | inr k ↦ absurd (first_not_colon piece pieces groups more each (rw shown at k.1))
     ]
 
--- groups or none, then an empty piece, which was the second colon of `::`
+-- groups or none, then an empty piece, which comes from the second colon of `::`
 text_elided : (text inner : List ℕ) (front : List (List ℕ)) (groups next : List ℕ) (more : List (List ℕ)) → inner_text text ≡ Some inner → EachReads IsGroup front groups → inner ≡ join_with_byte 58 (front ++ [] ∷ next ∷ more) → text ≡ join_with_byte 58 front ++ 58 ∷ 58 ∷ join_with_byte 58 (next ∷ more)
 text_elided text inner [] groups next more found each shown =
     elim (inner_cases text inner found) [
@@ -376,7 +379,7 @@ one_piece [] g h = absurd h
 one_piece (piece ∷ []) g h = (piece, refl, h.0)
 one_piece (piece ∷ next ∷ more) g h = absurd h.1
 
--- zeros and the mark, told apart at the place of `::`
+-- zeros and the mark, split at `::`
 zeros_and_mark : (head tail : List ℕ) → may_end_dotted (Some (length head)) (head ++ tail) ≡ true → (length head ≤ 4) × (head ≡ replicate (length head) 0) × (tail ≡ 0xffff ∷ [])
 zeros_and_mark head tail may =
     let n = length head in
@@ -446,6 +449,7 @@ groups_sound_by text inner groups found f (piece ∷ rest) e =
       | inr k ↦ inr (inr (inl (mapped_sound text inner f.front f.more piece rest groups found f.each whole k)))
     ]
 
+-- each accepted text is an IPv6 text of the grammar
 pub groups_sound : (text groups : List ℕ) → groups_read text ≡ Some groups → IsIpv6Text text groups
 unfolding groups_read
 groups_sound text groups e =

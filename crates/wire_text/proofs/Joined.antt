@@ -1,4 +1,4 @@
--- Numbers joined by a mark: the readers read the grammar and nothing else.
+-- Numbers joined by a mark: the parsers accept exactly the grammar.
 use Rattle.std.proofs.Common.{◌≡◌, ℕ, ◌<◌, ◌≤◌, Bool, true, false, List, [], ◌∷◌, ◌++◌, length, take, Option, Some, None, Bor, is_some, not, refl, sym, ap, ◌∙◌, subst, arith, append-nil, append_assoc, length-append, take_all, lit≤, eqb-true}
 use Rattle.std.proofs.lemmas.Option.{none-some, same_Some}
 use Rattle.std.proofs.lemmas.List.Splits.{join_with_byte-slice_split}
@@ -26,6 +26,7 @@ module _ (radix places most : ℕ) where
   numbers_complete (piece ∷ pieces) (x ∷ xs) h =
       rw (number_complete radix places most piece x h.0, numbers_complete pieces xs h.1)
 
+  -- pieces that parse as numbers are numbers of the grammar
   pub numbers_sound : (pieces : List (List ℕ)) (values : List ℕ) → numbers_of radix places most pieces ≡ Some values → EachReads (IsNumber radix places most) pieces values
   numbers_sound [] values e = subst (EachReads (IsNumber radix places most) []) (same_Some _ _ e) tt
   numbers_sound (piece ∷ pieces) values e =
@@ -34,18 +35,21 @@ module _ (radix places most : ℕ) where
       subst (EachReads (IsNumber radix places most) (piece ∷ pieces)) same
       (number_sound radix places most piece n read, numbers_sound pieces ns later)
 
+  -- there are as many pieces as values
   pub EachReads-length : (pieces : List (List ℕ)) (values : List ℕ) → EachReads (IsNumber radix places most) pieces values → length pieces ≡ length values
   EachReads-length [] [] h = refl
   EachReads-length [] (x ∷ xs) h = absurd h
   EachReads-length (piece ∷ pieces) [] h = absurd h
   EachReads-length (piece ∷ pieces) (x ∷ xs) h = omega (arith, EachReads-length pieces xs h.1)
 
+  -- pieces that are numbers contain no mark
   pub EachReads-pieces : (mark : ℕ) → radix ≤ digit_value mark → (pieces : List (List ℕ)) (values : List ℕ) → EachReads (IsNumber radix places most) pieces values → ArePieces mark pieces
   EachReads-pieces mark h [] values each = tt
   EachReads-pieces mark h (piece ∷ pieces) [] each = absurd each
   EachReads-pieces mark h (piece ∷ pieces) (x ∷ xs) each =
       (digits_piece radix mark piece h each.0.digits.1, EachReads-pieces mark h pieces xs each.1)
 
+  -- joined numbers of the grammar parse
   pub joined_complete : (mark : ℕ) (text values : List ℕ) → radix ≤ digit_value mark → 0 < length values → IsJoined mark (IsNumber radix places most) text values → numbers_of radix places most (pieces_of mark text) ≡ Some values
   joined_complete mark text values other some h =
       go h.pieces h.each h.joined
@@ -62,7 +66,7 @@ module _ (radix places most : ℕ) where
     each = numbers_sound (pieces_of mark text) values e;
   }
 
-  -- after the last value: all is read, or something is left
+  --   after the last value, the text is either used up or too long
   pub filled : (mark i : ℕ) (read : Option (List ℕ)) (values : List ℕ) (rest : Option (Bor (List ℕ))) (done : Bool) → length values ≤ i → read ≡ with_front (take i values) (numbers_of radix places most (pieces_after mark rest)) → is_some rest ≡ not done → FilledFrom read values done
   filled mark i read values None done end e is = rw (sym (not-not done) ∙ ap not (sym is)) (e ∙ ap Some (append-nil _ ∙ take_all i values end))
   filled mark i read values (Some rest) done end e is =
@@ -72,7 +76,7 @@ module _ (radix places most : ℕ) where
       let some = pieces_some mark rest.now in
       omega (arith, EachReads-length (pieces_of mark rest.now) more each, ap length (sym shown), length-append (take i values) more, ap length (take_all i values end))
 
--- a turn of the loop: the first piece is a number, or there is no list of numbers
+-- one iteration of the loop: the first piece is a number, or the text is rejected
 front_twice : (front more : List ℕ) (o : Option (List ℕ)) → with_front front (with_front more o) ≡ with_front (front ++ more) o
 front_twice front more None = refl
 front_twice front more (Some ns) = ap Some (sym (append_assoc front more ns))
@@ -89,6 +93,7 @@ pub octets_complete : (text octets : List ℕ) → IsDotted text octets → octe
 unfolding octets_read
 octets_complete text octets h = rw (joined_complete 10 3 255 46 text octets (lit≤ tt) (omega (arith, h.1)) h.0, h.1)
 
+-- an accepted text is four octets joined by dots
 pub octets_sound : (text octets : List ℕ) → octets_read text ≡ Some octets → IsDotted text octets
 unfolding octets_read
 octets_sound text octets e =
@@ -96,11 +101,12 @@ octets_sound text octets e =
     let (four, same) = cond_some _ _ _ kept in
     (joined_sound 10 3 255 46 text octets (read ∙ ap Some same), rw (← same) (eqb-true _ _ four))
 
--- the same of six in hex
+-- six octets in hex
 pub hex_octets_complete : (mark : ℕ) (text octets : List ℕ) → 16 ≤ digit_value mark → IsHexOctets mark text octets → hex_octets_read mark text ≡ Some octets
 unfolding hex_octets_read
 hex_octets_complete mark text octets other h = rw (joined_complete 16 2 255 mark text octets other (omega (arith, h.1)) h.0, h.1)
 
+-- an accepted text is six octets in hex joined by the mark
 pub hex_octets_sound : (mark : ℕ) (text octets : List ℕ) → hex_octets_read mark text ≡ Some octets → IsHexOctets mark text octets
 unfolding hex_octets_read
 hex_octets_sound mark text octets e =

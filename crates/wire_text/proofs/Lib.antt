@@ -7,7 +7,7 @@ pub mod Joined
 pub mod Numbers
 pub mod Pieces
 pub mod Readers
-pub mod Refusals
+pub mod Rejections
 pub mod Spread
 pub mod Steps
 mod Worked

@@ -1,4 +1,4 @@
--- A number text is read as its number, and nothing else is read.
+-- The number parser returns exactly the number of the grammar.
 use Rattle.std.proofs.Common.{◌≡◌, ℕ, ◌<◌, ◌≤◌, ◌⊎◌, Bool, true, false, cond, List, [], ◌∷◌, length, get_or, Option, Some, None, refl, arith, inl, inr, lt-ltb, le-leb, le-ltb, nat_lt, nat_le, ◌*◌, ◌+◌, ◌^◌, take, length-take-le, le_trans, lit≤, min, mul-le-mul, ◌&&◌, subst, sym}
 use Rattle.std.proofs.Math.Nat.{pow-le-pow_left, pow-le-pow_right}
 use Rattle.std.proofs.lemmas.Int.Digits.{digits_value-lt, digits_more, digits_value_more}
@@ -36,16 +36,18 @@ pub number_digits : (radix places most : ℕ) (text : List ℕ) → 0 < length t
 unfolding number_of
 number_digits radix places most text some short all = rw (lt-ltb _ _ some, le-leb _ _ short, all_pass radix text all)
 
+-- a number of the grammar is the computed one
 pub number_complete : (radix places most : ℕ) (text : List ℕ) (n : ℕ) → IsNumber radix places most text n → number_of radix places most text ≡ Some n
 number_complete radix places most text n h =
     rw (number_digits radix places most text h.digits.0 h.places_fit h.digits.1, h.value, le-leb n most h.fits)
 
--- what each of two tests in a row let through
+-- both of two tests in a row passed
 two_tests : {A : Type 0} (a b : Bool) (o : Option A) (x : A) → cond a (cond b o None) None ≡ Some x → (a ≡ true) × (b ≡ true) × (o ≡ Some x)
 two_tests true true o x e = (refl, refl, e)
 two_tests true false o x e = absurd (none-some x e)
 two_tests false b o x e = absurd (none-some x e)
 
+-- the computed number is one of the grammar
 pub number_sound : (radix places most : ℕ) (text : List ℕ) (n : ℕ) → number_of radix places most text ≡ Some n → IsNumber radix places most text n
 unfolding number_of
 number_sound radix places most text n e =
@@ -59,7 +61,7 @@ number_sound radix places most text n e =
       fits = rw (← value) (leb-true _ most fits);
     }
 
--- one digit more still fits 32 bits, where at most five are read
+-- with at most five digits, one more digit still fits 32 bits
 pub number_small : (radix i : ℕ) (text : List ℕ) → 2 ≤ radix → radix ≤ 16 → i ≤ 4 → i < length text → AllDigits radix (take i text) → digits_value radix (take i text) * radix < 2 ^ 21
 number_small radix i text low high few within all =
     let len = length-take-le i text (omega arith) in
@@ -69,16 +71,16 @@ number_small radix i text low high few within all =
     let small : digits_value radix (take i text) ≤ 65536 = omega arith in
     omega (arith, mul-le-mul small high)
 
--- the value of a digit of the radix, where all past 16 count as 16
+-- the value of a digit of the radix; all values of 16 and more count as 16
 pub digit_below : (radix digit value : ℕ) → radix ≤ 16 → digit ≡ min 16 value → digit < radix → (value < radix) × (digit ≡ value)
 digit_below radix digit value high e below = (omega arith, omega arith)
 
--- one more digit
+-- one more digit is appended
 pub number_more : (radix i : ℕ) (text : List ℕ) (value byte digit : ℕ) → i < length text → AllDigits radix (take i text) → value ≡ digits_value radix (take i text) → byte ≡ get_or text i 0 → (digit_value byte < radix) × (digit ≡ digit_value byte) → AllDigits radix (take (i + 1) text) × (value * radix + digit ≡ digits_value radix (take (i + 1) text))
 number_more radix i text value byte digit within all is read h =
     (digits_more radix text i within all (rw (← read) h.0), rw (digits_value_more radix text i within, ← read, ← is, h.1))
 
--- four digits at once
+-- four digits are parsed at once
 pub four_read : (text : List ℕ) (a b c d : ℕ) → length text ≡ 4 → a ≡ min 16 (digit_value (get_or text 0 0)) → b ≡ min 16 (digit_value (get_or text 1 0)) → c ≡ min 16 (digit_value (get_or text 2 0)) → d ≡ min 16 (digit_value (get_or text 3 0))
     → (nat_lt a 16 && nat_lt b 16 && nat_lt c 16 && nat_lt d 16) ≡ true → AllDigits 16 text × (((a * 16 + b) * 16 + c) * 16 + d ≡ digits_value 16 text)
 four_read text a b c d four is_a is_b is_c is_d all =

@@ -1,4 +1,4 @@
--- What a reader answers is what the grammar reads.
+-- The parsers return what the grammar defines.
 use Rattle.std.proofs.Common.{◌≡◌, ◌≢◌, ℕ, ◌≤◌, List, [], ◌∷◌, length, Option, Some, None, sym, ap, ◌∙◌, subst, arith, inl, inr, lit≤}
 use Rattle.std.proofs.lemmas.Option.{none-some, same_Some}
 use Rattle.std.proofs.lemmas.List.Splits.{slice_split_none}
@@ -14,33 +14,39 @@ reads : {A : Type 0} (R : List ℕ → A → Type 0) (f : List ℕ → Option A)
 reads R f complete sound text None e = λ x h. none-some x (e ∙ complete text x h)
 reads R f complete sound text (Some x) e = sound text x (sym e)
 
+-- the computed octets are those of the grammar
 pub reads_octets : (text : List ℕ) (r : Option (List ℕ)) → r ≡ octets_read text → Reads IsDotted text r
 reads_octets = reads IsDotted octets_read octets_complete octets_sound
 
+-- the computed groups are those of the grammar
 pub reads_groups : (text : List ℕ) (r : Option (List ℕ)) → r ≡ groups_read text → Reads IsIpv6Text text r
 reads_groups = reads IsIpv6Text groups_read groups_complete groups_sound
 
+-- the computed hex octets are those of the grammar
 pub reads_hex_octets : (mark : ℕ) → 16 ≤ digit_value mark → (text : List ℕ) (r : Option (List ℕ)) → r ≡ hex_octets_read mark text → Reads (IsHexOctets mark) text r
 reads_hex_octets mark apart = reads (IsHexOctets mark) (hex_octets_read mark) (λ text octets h. hex_octets_complete mark text octets apart h) (hex_octets_sound mark)
 
--- ---- no text has two readings
+-- ---- the grammar is unambiguous
 
+-- a text is at most one list of four octets
 pub octets_once : (text octets others : List ℕ) → IsDotted text octets → IsDotted text others → octets ≡ others
 octets_once text octets others h k = same_Some _ _ (sym (octets_complete text octets h) ∙ octets_complete text others k)
 
+-- a text is at most one list of groups
 pub groups_once : (text groups others : List ℕ) → IsIpv6Text text groups → IsIpv6Text text others → groups ≡ others
 groups_once text groups others h k = same_Some _ _ (sym (groups_complete text groups h) ∙ groups_complete text others k)
 
 hex_octets_once : (mark : ℕ) → 16 ≤ digit_value mark → (text octets others : List ℕ) → IsHexOctets mark text octets → IsHexOctets mark text others → octets ≡ others
 hex_octets_once mark apart text octets others h k = same_Some _ _ (sym (hex_octets_complete mark text octets apart h) ∙ hex_octets_complete mark text others apart k)
 
--- six joined by one mark are a single piece for another
+-- six numbers joined by one mark are a single piece for another mark
 one_mark : (mark other : ℕ) → mark ≢ other → 16 ≤ digit_value mark → 16 ≤ digit_value other → (text octets others : List ℕ) → IsHexOctets mark text octets → ¬ (IsHexOctets other text others)
 one_mark mark other differ apart apart_too text octets others h k =
     let whole : pieces_of other text ≡ text ∷ [] = slice_split_none _ text (subst (IsPiece other) (sym h.0.joined) (join-piece mark other h.0.pieces differ (EachReads-pieces 16 2 255 other apart_too h.0.pieces octets h.0.each))) in
     let read = joined_complete 16 2 255 other text others apart_too (omega (arith, k.1)) k.0 in
     omega (arith, k.1, ap length whole, EachReads-length 16 2 255 (pieces_of other text) others (numbers_sound 16 2 255 (pieces_of other text) others read))
 
+-- a text is at most one Ethernet address
 pub hex_text_once : (text octets others : List ℕ) → IsHexText text octets → IsHexText text others → octets ≡ others
 hex_text_once text octets others (inl h) (inl k) = hex_octets_once 45 (lit≤ tt) text octets others h k
 hex_text_once text octets others (inr h) (inr k) = hex_octets_once 58 (lit≤ tt) text octets others h k

@@ -1,4 +1,4 @@
--- Steps of the readers' proofs.
+-- Single steps of the parsers.
 use Rattle.std.proofs.Common.{◌≡◌, ◌≢◌, ℕ, zero, suc, ◌+◌, ◌-◌, ◌<◌, ◌≤◌, ◌==◌, nat_lt, nat_le, Bool, true, false, ◌&&◌, cond, List, [], ◌∷◌, ◌++◌, length, get_or, take, drop, replicate, bytes_eq, Option, Some, None, refl, sym, ap, ap₂, ◌∙◌, arith, inl, inr, le-leb, lit≤, length-append, lt-ltb, ne_eqb, eq-eqb, eqb-true, not, ◌⊎◌, take_all, Bor, is_some, IfSome}
 use Rattle.std.proofs.lemmas.Bool.{cases_eq, true≢false, eqb-false, leb-true}
 use Rattle.std.proofs.lemmas.List.Splits.{join_with_byte-slice_split, slice_split_at}
@@ -17,7 +17,7 @@ use Rattle.wire_text.proofs.Numbers.{number_sound}
 use Rattle.wire_text.proofs.Joined.{octets_complete, octets_sound}
 use Rattle.wire_text.proofs.Ipv6.{dotted_by, dotted_piece}
 
--- as many values as are wanted, or none
+-- exactly as many values as wanted, or `None`
 counted : (count : ℕ) (read : Option (List ℕ)) (values : List ℕ) (done : Bool) → FilledFrom read values done → length values ≡ count → then_some done values ≡ read >>= (λ octets. cond (length octets == count) (Some octets) None)
 counted count read values true filled len = rw (filled, eq-eqb (length values) count len) refl
 counted count None values false filled len = refl
@@ -26,10 +26,12 @@ counted count (Some ns) values false filled len = elim (cases_eq (length ns) cou
   | inr other ↦ rw (ne_eqb (length ns) count other) refl
 ]
 
+-- the filled array is the four octets of the text
 pub four_octets : (text values : List ℕ) (done : Bool) (r : Option (List ℕ)) → FilledFrom (numbers_of 10 3 255 (pieces_of 46 text)) values done → length values ≡ 4 → r ≡ then_some done values → r ≡ octets_read text
 unfolding octets_read
 four_octets text values done r filled len e = e ∙ counted 4 _ values done filled len
 
+-- the filled array is the six octets of the text
 pub six_octets : (mark : ℕ) (text values : List ℕ) (done : Bool) (r : Option (List ℕ)) → FilledFrom (numbers_of 16 2 255 (pieces_of mark text)) values done → length values ≡ 6 → r ≡ then_some done values → r ≡ hex_octets_read mark text
 unfolding hex_octets_read
 six_octets mark text values done r filled len e = e ∙ counted 6 _ values done filled len
@@ -46,7 +48,7 @@ mark_test groups before r some last few len e =
     let all : groups ≡ front ++ 0xffff ∷ [] = sym (take_all _ groups (omega arith)) ∙ ap (λ n. take n groups) (sym one) ∙ take_more groups (length groups - 1) 0 (omega arith) ∙ ap (λ g. front ++ g ∷ []) last in
     rw (le-leb before 4 few) (e ∙ zeros_test front ∙ ap₂ (λ xs n. bytes_eq xs (replicate n 0 ++ 0xffff ∷ [])) (sym all) len)
 
--- a turn of the loop, by what the piece is
+-- one iteration of the loop, by the kind of the piece
 module _ (before : Option ℕ) (seen piece : List ℕ) (pieces : List (List ℕ)) where
   pub at_empty : length piece ≡ 0 → groups_from before seen (piece ∷ pieces) ≡ behind_elision before seen pieces (groups_from (Some (length seen)) seen pieces)
   unfolding groups_from
@@ -60,14 +62,17 @@ module _ (before : Option ℕ) (seen piece : List ℕ) (pieces : List (List ℕ)
   unfolding groups_from
   at_other some e = rw (ne_eqb (length piece) 0 some, e) refl
 
+-- no piece is left: the groups are complete
 pub at_end : (before : Option ℕ) (seen : List ℕ) → groups_from before seen [] ≡ all_groups before seen
 unfolding groups_from
 at_end before seen = refl
 
+-- an option that is not `Some` is `None`
 pub none_from : {A : Type 0} (o : Option A) → is_some o ≡ false → o ≡ None
 none_from None e = refl
 none_from (Some x) e = absurd (true≢false e)
 
+-- an index within a length is within the next length
 pub still_within : (before : Option ℕ) (len : ℕ) → IfSome before (λ n. n ≤ len) → IfSome before (λ n. n ≤ len + 1)
 still_within None len h = tt
 still_within (Some n) len h = omega arith
@@ -85,17 +90,19 @@ behind_more seen rest ((c ∷ piece) ∷ pieces) later e some = refl
 pub behind_later : (seen rest : List ℕ) (later : Option (List ℕ)) → length rest ≢ 0 → behind_elision None seen (pieces_of 58 rest) later ≡ later
 behind_later seen rest later some = behind_more seen rest (pieces_of 58 rest) later (join_with_byte-slice_split 58 rest) (omega arith)
 
--- the text has an inner text or none
+-- the text has an inner text, or `None`
 pub inner_none : (text : List ℕ) → None ≡ inner_text text → groups_read text ≡ None
 unfolding groups_read
 inner_none text e = rw (← e) refl
 
+-- parsing the inner text gives the groups of the text
 pub inner_some : (text inner : List ℕ) → Some inner ≡ inner_text text → groups_read text ≡ groups_from None [] (pieces_of 58 inner)
 unfolding groups_read
 inner_some text inner e = rw (← e) refl
 
--- ---- what is no dotted part
+-- ---- a text that is no dotted part
 
+-- a text that is not dotted gives no IPv4-mapped address
 pub mapped_none : (text : List ℕ) → ((octets : List ℕ) → ¬ (IsDotted text octets)) → mapped_read text ≡ None
 unfolding mapped_read
 mapped_none text none = by (octets_read text) refl
@@ -119,12 +126,12 @@ behind_nothing : (before : Option ℕ) (seen : List ℕ) (later : Option (List �
 behind_nothing None seen later = refl
 behind_nothing (Some n) seen later = refl
 
--- no `::` stands here: it stood before, or no colon comes
+-- no `::` is possible here: it occurred before, or no colon follows
 pub in_apart : (before : Option ℕ) (text : List ℕ) → (is_some before ≡ true) ⊎ (0 < length text → get_or text 0 0 ≢ 58) → ¬ ((before ≡ None) × (0 < length text) × (get_or text 0 0 ≡ 58))
 in_apart before text (inl seen) h = true≢false (sym seen ∙ ap is_some h.0)
 in_apart before text (inr apart) h = apart h.1 h.2
 
--- where eight groups were seen
+-- the result after eight groups
 unlike : (xs ys : List ℕ) → length xs ≢ length ys → bytes_eq xs ys ≡ false
 unlike xs ys differ = by (bytes_eq xs ys) refl
   where
@@ -140,14 +147,14 @@ full_apart (Some n) seen full = by (nat_le n 4) refl
     by false e = refl
     by true e = unlike seen _ (omega (arith, leb-true n 4 e, full, length-append {A = ℕ} (replicate n 0) (0xffff ∷ []), length-replicate {A = ℕ} n 0))
 
--- why the text begins neither with a group that has room nor with a `::` that may stand
+-- why the text begins neither with a group that fits nor with a `::` that is allowed
 abbrev pub IsStop : Option ℕ → List ℕ → List ℕ → ℕ → Type 0
 IsStop before seen text count =
     ((count ≡ 0) × ((is_some before ≡ true) ⊎ (length text ≡ 0)))
     ⊎ ((¬ (IsBehind 58 (drop count text)))
     ⊎ ((length seen ≡ 8) × ((g : ℕ) × ((after : Option (Bor (List ℕ))) × FirstPiece 58 16 4 0xffff text (Some (g, after))))))
 
--- a colon comes first only behind no digits
+-- a colon comes first only if no digits precede it
 other_first : (text : List ℕ) (count : ℕ) → AllDigits 16 (take count text) → ¬ (IsBehind 58 (drop count text)) → 0 < length text → get_or text 0 0 ≢ 58
 other_first [] count digits other some = absurd (omega arith)
 other_first (c ∷ text) zero digits other some = other
@@ -157,14 +164,14 @@ either_way : {A : Type 0} (b : Bool) (x : A) → x ≡ cond b x x
 either_way true x = refl
 either_way false x = refl
 
--- ---- a turn of the loop
+-- ---- one iteration of the loop
 
--- where it stands, by the pieces of what is left
+-- the state of the loop, by the pieces of the rest
 module _ {read : Option (List ℕ)} (before : Option ℕ) (seen : List ℕ) {rest : Option (Bor (List ℕ))} {more : Bor (List ℕ)} (stands : read ≡ groups_from before seen (pieces_after 58 rest)) (is : rest ≡ Some more) where
   at_pieces : (pieces : List (List ℕ)) → pieces_of 58 more.now ≡ pieces → read ≡ groups_from before seen pieces
   at_pieces pieces cut = stands ∙ ap (λ r. groups_from before seen (pieces_after 58 r)) is ∙ ap (groups_from before seen) cut
 
-  -- a group, where there is room for it or not
+  --   a group, with or without room for it
   module _ {g : ℕ} {after : Option (Bor (List ℕ))} (first : FirstPiece 58 16 4 0xffff more.now (Some (g, after))) where
     some_piece : length first.piece ≢ 0
     some_piece = omega (arith, (number_sound 16 4 0xffff first.piece g first.read.0).digits.0)
@@ -175,10 +182,11 @@ module _ {read : Option (List ℕ)} (before : Option ℕ) (seen : List ℕ) {res
     pub group_full : length seen ≡ 8 → read ≡ None
     group_full full = at_first ∙ rw full refl
 
+    -- one more group, if there is room
     pub group_more : (now : List ℕ) → length seen < 8 → now ≡ seen ++ g ∷ [] → read ≡ groups_from before now (pieces_after 58 after)
     group_more now room same = at_first ∙ rw (lt-ltb (length seen) 8 room, same, first.read.1) refl
 
-  -- `::`, and the end or more behind it
+  --   `::`, followed by the end or by more text
   module _ (behind : Bor (List ℕ)) (none : before ≡ None) (colon_first : more.now ≡ 58 ∷ behind.now) where
     at_elision : read ≡ behind_elision None seen (pieces_of 58 behind.now) (groups_from (Some (length seen)) seen (pieces_of 58 behind.now))
     at_elision =
@@ -186,11 +194,12 @@ module _ {read : Option (List ℕ)} (before : Option ℕ) (seen : List ℕ) {res
         at_pieces ([] ∷ pieces_of 58 behind.now) cut ∙ at_empty before seen [] (pieces_of 58 behind.now) refl
         ∙ ap (λ b. behind_elision b seen (pieces_of 58 behind.now) (groups_from (Some (length seen)) seen (pieces_of 58 behind.now))) none
 
+    -- behind `::` the loop continues, unless the text ends
     pub elided : (empty : Bool) → empty ≡ (length behind.now == 0) → read ≡ groups_from (Some (length seen)) seen (pieces_after 58 (then_some (not empty) behind))
     elided true e = at_elision ∙ behind_end seen behind.now _ (eqb-true _ _ (sym e)) ∙ sym (at_end (Some (length seen)) seen)
     elided false e = at_elision ∙ behind_later seen behind.now _ (eqb-false _ _ (sym e))
 
-  -- anything else is a dotted part, which is the last
+  --   anything else is a dotted part, the last piece
   pub at_last : FirstPiece 58 16 4 0xffff more.now None → ¬ ((before ≡ None) × (0 < length more.now) × (get_or more.now 0 0 ≡ 58)) → read ≡ cond (may_end_dotted before seen) (mapped_read more.now) None
   at_last first apart = at_pieces (first.piece ∷ first.others) first.cut ∙ by first.piece first.others first.read first.cut
     where
@@ -221,7 +230,7 @@ module _ {read : Option (List ℕ)} (before : Option ℕ) (seen : List ℕ) {res
           at_other before seen (c ∷ piece) (next ∷ others) some none
           ∙ unread (not_mapped more.now (inr (omega (arith, ap length cut))))
 
-  -- neither a group that has room nor a `::` that may stand
+  --   neither a group that fits nor a `::` that is allowed
   pub at_stop : {value count : ℕ} → IsFirst 16 4 more.now value count → IsStop before seen more.now count → read ≡ cond (may_end_dotted before seen) (mapped_read more.now) None
   at_stop first (inl (none, inl some)) = at_last (no_piece first 58 (lit≤ tt) 0xffff (inl none)) (in_apart before more.now (inl some))
   at_stop first (inl (none, inr empty)) = at_last (no_piece first 58 (lit≤ tt) 0xffff (inl none)) (in_apart before more.now (inr (λ some. absurd (omega arith))))

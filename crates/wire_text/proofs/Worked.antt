@@ -1,4 +1,4 @@
--- Texts that are read, and texts that are not, by the grammar alone.
+-- Texts that the grammar contains, and texts that it does not.
 use Rattle.std.proofs.Common.{◌≡◌, ℕ, List, [], ◌∷◌, codes, None, refl, sym, ◌∙◌, inl, inr, lit≤}
 use Rattle.std.proofs.lemmas.Option.{none-some}
 use Rattle.wire_text.specs.Grammar.{IsDotted, IsHexText, IsIpv6Text}

@@ -1,9 +1,9 @@
--- The texts of numbers and of lists of them, each beside what it is read as. A text is the list of its bytes.
+-- The grammar of numbers and of lists of numbers, with the value of each text. A text is the list of its bytes.
 use Rattle.std.specs.Prelude.{◌≡◌, ℕ, ◌+◌, ◌-◌, ◌*◌, ◌≤◌, ◌⊎◌, List, [], ◌∷◌, ◌++◌, length, replicate, codes, Option, MatchOption}
 use Rattle.std.specs.List.{join_with_byte}
 use Rattle.std.specs.Str.Parse.{IsNumeral, digits_value}
 
--- the result is what the text is read as, or there is no such value
+-- the result is the value of the text, or `None` if it has no value
 abbrev pub Reads : {A : Type 0} → (List ℕ → A → Type 0) → List ℕ → Option A → Type 0
 Reads {A} R text result = MatchOption result ((a : A) → ¬ (R text a)) (R text)
 
@@ -19,7 +19,7 @@ dash = 45
 abbrev pub colon : ℕ
 colon = 58
 
--- one digit of the radix or more, but at most `places`, the first of which may be 0; the number that they write
+-- one to `places` digits of the radix, of which the first may be 0; their value
 -- is at most `most`
 pub record IsNumber (radix places most : ℕ) (text : List ℕ) (n : ℕ) : Type 0 where
   pub digits : IsNumeral radix text
@@ -27,14 +27,14 @@ pub record IsNumber (radix places most : ℕ) (text : List ℕ) (n : ℕ) : Type
   pub value : digits_value radix text ≡ n
   pub fits : n ≤ most
 
--- each piece is read as the value at its place, and there are as many of both
+-- each piece parses as the value at the same index, and there are as many pieces as values
 abbrev pub EachReads : (List ℕ → ℕ → Type 0) → List (List ℕ) → List ℕ → Type 0
 EachReads R [] [] = Unit {0}
 EachReads R (piece ∷ pieces) (x ∷ xs) = R piece x × EachReads R pieces xs
 EachReads R [] (x ∷ xs) = ⊥
 EachReads R (piece ∷ pieces) [] = ⊥
 
--- the text is pieces joined by the mark, each read as one of the values
+-- the text is pieces joined by the mark; each parses as one of the values
 pub record IsJoined (mark : ℕ) (R : List ℕ → ℕ → Type 0) (text values : List ℕ) : Type 0 where
   pub pieces : List (List ℕ)
   pub joined : text ≡ join_with_byte mark pieces
@@ -46,7 +46,7 @@ pub record IsJoined (mark : ℕ) (R : List ℕ → ℕ → Type 0) (text values 
 abbrev pub IsOctet : List ℕ → ℕ → Type 0
 IsOctet text n = IsNumber 10 3 255 text n
 
--- four such numbers joined by dots
+-- four decimal numbers joined by dots
 abbrev pub IsDotted : List ℕ → List ℕ → Type 0
 IsDotted text octets = IsJoined dot IsOctet text octets × (length octets ≡ 4)
 
@@ -54,7 +54,7 @@ IsDotted text octets = IsJoined dot IsOctet text octets × (length octets ≡ 4)
 abbrev pub IsHexOctets : ℕ → List ℕ → List ℕ → Type 0
 IsHexOctets mark text octets = IsJoined mark (IsNumber 16 2 255) text octets × (length octets ≡ 6)
 
--- all marks are dashes, or all are colons
+-- the marks are all dashes or all colons
 abbrev pub IsHexText : List ℕ → List ℕ → Type 0
 IsHexText text octets = IsHexOctets dash text octets ⊎ IsHexOctets colon text octets
 
@@ -64,7 +64,7 @@ IsHexText text octets = IsHexOctets dash text octets ⊎ IsHexOctets colon text 
 abbrev pub IsGroup : List ℕ → ℕ → Type 0
 IsGroup text n = IsNumber 16 4 0xffff text n
 
--- groups joined by colons; no text for no groups
+-- groups joined by colons; the empty text for no groups
 abbrev pub AreGroupsText : List ℕ → List ℕ → Type 0
 AreGroupsText text groups = IsJoined colon IsGroup text groups
 
@@ -72,7 +72,7 @@ AreGroupsText text groups = IsJoined colon IsGroup text groups
 abbrev pub IsFullText : List ℕ → List ℕ → Type 0
 IsFullText text groups = AreGroupsText text groups × (length groups ≡ 8)
 
--- a head, `::` and a tail, of seven groups at most together: zero groups stand between them
+-- a head, `::` and a tail with at most seven groups together; zero groups replace the `::`
 pub record IsElidedText (text groups : List ℕ) : Type 0 where
   pub head_text : List ℕ
   pub tail_text : List ℕ
@@ -84,17 +84,17 @@ pub record IsElidedText (text groups : List ℕ) : Type 0 where
   pub room : length head + length tail ≤ 7
   pub value : groups ≡ head ++ replicate (8 - length head - length tail) 0 ++ tail
 
--- the six groups before the dotted part
+-- the six groups in front of the dotted part
 abbrev pub mapped_groups : List ℕ
 mapped_groups = 0 ∷ 0 ∷ 0 ∷ 0 ∷ 0 ∷ 0xffff ∷ []
 
--- each two octets as one group, the high octet first
+-- two octets make a group, the high octet first
 abbrev pub groups_of : List ℕ → List ℕ
 groups_of [] = []
 groups_of (a ∷ []) = []
 groups_of (a ∷ b ∷ octets) = (a * 256 + b) ∷ groups_of octets
 
--- six groups of values 0, 0, 0, 0, 0, ffff, then a colon and a dotted part
+-- six groups with the values 0, 0, 0, 0, 0, ffff, then a colon and a dotted part
 pub record IsMappedText (text groups : List ℕ) : Type 0 where
   pub front_text : List ℕ
   pub dotted_text : List ℕ
@@ -104,7 +104,7 @@ pub record IsMappedText (text groups : List ℕ) : Type 0 where
   pub last : IsDotted dotted_text octets
   pub value : groups ≡ mapped_groups ++ groups_of octets
 
--- at most four zero groups, `::`, a group of value ffff, a colon and a dotted part
+-- at most four zero groups, `::`, a group with the value ffff, a colon and a dotted part
 pub record IsElidedMappedText (text groups : List ℕ) : Type 0 where
   pub head_text : List ℕ
   pub mark_text : List ℕ

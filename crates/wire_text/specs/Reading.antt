@@ -1,4 +1,4 @@
--- What the readers compute; `proofs/` shows that it is what the grammar says, and nothing else.
+-- What the parsers compute. `proofs/` shows that it equals the grammar.
 use Rattle.std.specs.Prelude.{◌≡◌, ℕ, ◌-◌, Bool, true, false, ◌&&◌, List, [], ◌∷◌, ◌++◌, length, take, drop, replicate, bytes_eq, Option, Some, None, MatchOption, option_and_then, ◌==◌, nat_lt, nat_le, if◌then◌else◌}
 use Rattle.std.specs.List.{slice_split, list_all}
 use Rattle.std.specs.Option.{option_map_or}
@@ -11,16 +11,16 @@ infixl 10 ◌>>=◌
 abbrev pub ◌>>=◌ : {A B : Type 0} → Option A → (A → Option B) → Option B
 o >>= f = option_and_then f o
 
--- the text cut at each mark
+-- the text, split at each mark
 abbrev pub pieces_of : ℕ → List ℕ → List (List ℕ)
 pieces_of mark text = slice_split (λ b. b == mark) text
 
--- the pieces of what follows a mark, if there was one
+-- the pieces of the text behind a mark, if there was a mark
 abbrev pub pieces_after : ℕ → Option (Bor (List ℕ)) → List (List ℕ)
 pieces_after mark None = []
 pieces_after mark (Some rest) = pieces_of mark rest.now
 
--- a number text as a whole
+-- the value of a text that is a single number
 unfoldable pub number_of : ℕ → ℕ → ℕ → List ℕ → Option ℕ
 number_of radix places most text =
     let value = digits_value radix text in
@@ -28,25 +28,25 @@ number_of radix places most text =
     then (if list_all (λ c. is_digit c radix) text then (if nat_le value most then Some value else None) else None)
     else None
 
--- the first of the pieces is read as this number, and the rest lies behind its mark; or it is no number
+-- the first piece is this number, and the rest follows its mark; or the first piece is no number
 pub record FirstPiece (mark radix places most : ℕ) (text : List ℕ) (result : Option (ℕ × Option (Bor (List ℕ)))) : Type 0 where
   pub piece : List ℕ
   pub others : List (List ℕ)
   pub cut : pieces_of mark text ≡ piece ∷ others
   pub read : MatchOption result (number_of radix places most piece ≡ None) (λ r. (number_of radix places most piece ≡ Some r.0) × (others ≡ pieces_after mark r.1))
 
--- what was read, after these
+-- prepends the values that are already parsed
 abbrev pub with_front : List ℕ → Option (List ℕ) → Option (List ℕ)
 with_front front None = None
 with_front front (Some ns) = Some (front ++ ns)
 
--- each piece as a number
+-- the value of each piece
 abbrev pub numbers_of : ℕ → ℕ → ℕ → List (List ℕ) → Option (List ℕ)
 numbers_of radix places most [] = Some []
 numbers_of radix places most (piece ∷ pieces) =
     number_of radix places most piece >>= λ n. with_front (n ∷ []) (numbers_of radix places most pieces)
 
--- true, and the values are those that were read; or false, and there is no list of as many
+-- true and the parsed values; or false, if the text is no list of that length
 abbrev pub FilledFrom : Option (List ℕ) → List ℕ → Bool → Type 0
 FilledFrom read values true = read ≡ Some values
 FilledFrom read values false = (ns : List ℕ) → read ≡ Some ns → length ns ≡ length values → ⊥
@@ -65,23 +65,23 @@ hex_octets_read mark text =
 abbrev pub group_of : List ℕ → Option ℕ
 group_of text = number_of 16 4 0xffff text
 
--- the groups with zeros between those that stood before `::` and those that stood behind it
+-- the groups in front of `::`, zeros, and the groups behind it
 abbrev pub spread : ℕ → List ℕ → List ℕ
 spread before seen = take before seen ++ replicate (8 - length seen) 0 ++ drop before seen
 
--- the eight groups, from those that were read and how many of them stood before `::`
+-- the eight groups, from the parsed groups and the number of groups in front of `::`
 abbrev pub all_groups : Option ℕ → List ℕ → Option (List ℕ)
 all_groups None seen = if length seen == 8 then Some seen else None
 all_groups (Some before) seen =
     if nat_lt (length seen) 8 then Some (spread before seen)
     else None
 
--- a dotted part may come behind these groups
+-- a dotted part is allowed behind these groups
 abbrev pub may_end_dotted : Option ℕ → List ℕ → Bool
 may_end_dotted None seen = bytes_eq seen mapped_groups
 may_end_dotted (Some before) seen = nat_le before 4 && bytes_eq seen (replicate before 0 ++ 0xffff ∷ [])
 
--- the groups of a mapped address, from its dotted part
+-- the groups of an IPv4-mapped address, from its dotted part
 unfoldable pub mapped_read : List ℕ → Option (List ℕ)
 mapped_read text = octets_read text >>= λ octets. Some (mapped_groups ++ groups_of octets)
 
@@ -91,14 +91,14 @@ dotted_end before seen piece [] =
     if may_end_dotted before seen then mapped_read piece else None
 dotted_end before seen piece (next ∷ pieces) = None
 
--- what comes behind an empty piece, which stands for `::`: the end, or what is read later
+-- what follows an empty piece, which stands for `::`: the end, or the value of the rest
 abbrev pub behind_elision : Option ℕ → List ℕ → List (List ℕ) → Option (List ℕ) → Option (List ℕ)
 behind_elision (Some before) seen pieces later = None
 behind_elision None seen [] later = None
 behind_elision None seen ([] ∷ []) later = all_groups (Some (length seen)) seen
 behind_elision None seen pieces later = later
 
--- the groups seen and those of the pieces behind them; an empty piece is `::`
+-- the parsed groups and those of the remaining pieces; an empty piece is `::`
 unfoldable pub groups_from : Option ℕ → List ℕ → List (List ℕ) → Option (List ℕ)
 groups_from before seen [] = all_groups before seen
 groups_from before seen (piece ∷ pieces) =
@@ -107,13 +107,13 @@ groups_from before seen (piece ∷ pieces) =
     (λ group. if nat_lt (length seen) 8 then groups_from before (seen ++ group ∷ []) pieces else None)
     (group_of piece) (dotted_end before seen piece pieces)
 
--- the text with one colon of a `::` at its start, so that a colon stands there for nothing else
+-- the text without the first colon of a leading `::`, so that any other leading colon is rejected
 abbrev pub inner_text : List ℕ → Option (List ℕ)
 inner_text [] = None
 inner_text (c ∷ []) = if c == colon then None else Some (c ∷ [])
 inner_text (c ∷ d ∷ text) =
     if c == colon then (if d == colon then Some (d ∷ text) else None) else Some (c ∷ d ∷ text)
 
--- an IPv6 text as eight groups
+-- the eight groups of an IPv6 text
 unfoldable pub groups_read : List ℕ → Option (List ℕ)
 groups_read text = inner_text text >>= λ inner. groups_from None [] (pieces_of colon inner)

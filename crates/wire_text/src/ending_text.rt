@@ -6,7 +6,7 @@ ghost use Rattle.wire_text.specs.Ending.{EndsInNumber};
 
 use crate::number_text::number;
 
-/// The last index of the byte.
+/// The index of the last occurrence of the byte.
 #[inline(always)]
 fn last_place(text: &[u8], byte: u8) -> Option<usize>
     ensures { MatchOption result ((k : ℕ) → k < length text.now → slice_index text.now k ≢ byte)
@@ -16,8 +16,8 @@ fn last_place(text: &[u8], byte: u8) -> Option<usize>
     text.iter().rposition(|b| *b == byte)
 }
 
-/// What stands before the mark, and the decimal number of at most `places` digits behind it, if it is
-/// at most `most`. Only as much of the text is looked at as such an end may take.
+/// Splits at the last mark. Returns the text in front of it and the decimal number of one to `places`
+/// digits behind it, if it is at most `most`. It looks only at the last `places` + 1 bytes.
 #[inline(always)]
 pub fn number_behind(text: &[u8], mark: u8, places: usize, most: u32) -> Option<(&[u8], u32)>
     requires apart { 10 ≤ digit_value mark }

@@ -15,7 +15,7 @@ fn are_zeros(groups: &[u16]) -> bool
     groups.iter().all(|g| *g == 0)
 }
 
-/// Whether a dotted part may come behind these groups, so many of which stood before `::`.
+/// Whether a dotted part may follow these groups, given the number of groups in front of `::`.
 fn may_end_dotted(groups: &[u16], before: Option<usize>) -> bool
     ensures { result ≡ Reading.may_end_dotted before groups.now }
 {
@@ -28,7 +28,7 @@ fn may_end_dotted(groups: &[u16], before: Option<usize>) -> bool
     }
 }
 
-/// The groups with zeros between those that stood before `::` and those that stood behind it.
+/// The groups in front of `::`, zeros, and the groups behind it.
 #[inline(always)]
 fn spread(groups: &[u16; 8], len: usize, before: usize) -> [u16; 8]
     requires few { len ≤ 8 }
@@ -49,7 +49,7 @@ fn spread(groups: &[u16; 8], len: usize, before: usize) -> [u16; 8]
     all
 }
 
-/// The eight groups, from as many as were read and how many of them stood before `::`.
+/// The eight groups, from the parsed groups and the number of groups in front of `::`.
 #[inline(always)]
 fn all_groups(groups: &[u16; 8], len: usize, before: Option<usize>) -> Option<[u16; 8]>
     requires few { len ≤ 8 }
@@ -63,7 +63,7 @@ fn all_groups(groups: &[u16; 8], len: usize, before: Option<usize>) -> Option<[u
     }
 }
 
-/// The groups of the address that stands for an IPv4 address.
+/// The groups of an IPv4-mapped address.
 #[inline(always)]
 fn mapped(octets: [u8; 4]) -> [u16; 8]
     ensures { result ≡ mapped_groups ++ groups_of octets }
@@ -74,7 +74,7 @@ fn mapped(octets: [u8; 4]) -> [u16; 8]
     [0, 0, 0, 0, 0, 0xffff, high, low]
 }
 
-/// The eight groups of an address that ends in this dotted part, if one may come behind these groups.
+/// The eight groups of an address that ends in this dotted part, if one may follow these groups.
 #[inline(always)]
 fn dotted_end(groups: &[u16], before: Option<usize>, text: &[u8]) -> Option<[u16; 8]>
     ensures { result ≡ Reading.dotted_end before groups.now text.now [] }
@@ -85,7 +85,7 @@ fn dotted_end(groups: &[u16], before: Option<usize>, text: &[u8]) -> Option<[u16
     Some(mapped(dotted(text)?))
 }
 
-/// The octets of a dotted part. Out of line, the loop over groups has its values in registers.
+/// The octets of a dotted part. Not inlined, so that the loop over groups keeps its values in registers.
 #[inline(never)]
 fn dotted(text: &[u8]) -> Option<[u8; 4]>
     ensures { Reads IsDotted text.now result }
@@ -93,7 +93,7 @@ fn dotted(text: &[u8]) -> Option<[u8; 4]>
     octets(text)
 }
 
-/// The eight groups of a mapped address as it is mostly written (RFC 5952, section 5).
+/// The eight groups of an IPv4-mapped address in its usual form (RFC 5952, section 5).
 #[inline(always)]
 fn mapped_as_printed(text: &[u8]) -> Option<[u16; 8]>
     ensures { IfSome result (λ groups. IsIpv6Text text.now groups) }
@@ -102,7 +102,7 @@ fn mapped_as_printed(text: &[u8]) -> Option<[u16; 8]>
     Some(mapped(dotted(part)?))
 }
 
-/// The text with one colon of a `::` at its start, so that a colon stands there for nothing else.
+/// The text without the first colon of a leading `::`, so that any other leading colon is rejected.
 #[inline(always)]
 fn inner(text: &[u8]) -> Option<&[u8]>
     ensures { option_copied result ≡ inner_text text.now }
@@ -134,7 +134,7 @@ pub fn groups(text: &[u8]) -> Option<[u16; 8]>
         let (number, digits) = first_group(more);
         let group = number as u16;
         rest = match (digits, more[digits..].split_first()) {
-            // A colon behind no digits is `::`, which stands once, and may be the end.
+            // A colon without digits in front of it is `::`, which may occur once and may be the end.
             (0, Some((byte, behind))) if *byte == b':' && before.is_none() => {
                 before = Some(len);
                 (!behind.is_empty()).then_some(behind)

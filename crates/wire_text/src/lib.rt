@@ -1,4 +1,4 @@
-//! Texts of numbers and of lists of them, as addresses are written in.
+//! Parsers of numbers and of lists of numbers, as they occur in addresses.
 #![tactic(auto)]
 
 mod ending_text;

@@ -1,4 +1,4 @@
-//! Numbers, and the first of several numbers that a mark joins.
+//! Numbers, and the first of several numbers that are joined by a mark.
 
 ghost use Rattle.std.specs.Prelude.{◌≡◌, ◌≤◌, ◌<◌, ◌⊎◌, IfSome, length, min, slice_index, take};
 ghost use Rattle.std.specs.Char.{digit_value};
@@ -21,7 +21,7 @@ const HEX_DIGITS: [u8; 256] = [
     16, 16, 16, 16, 16, 16, 16, 16, 16, 16, 16, 16, 16, 16,
 ];
 
-/// The value of a hex digit, and 16 for any other byte: in fewer steps than by `char::to_digit`.
+/// The value of a hex digit, and 16 for any other byte. It takes fewer steps than `char::to_digit`.
 #[inline(always)]
 fn hex_digit(byte: u8) -> u32
     ensures { result ≡ min 16 (digit_value byte) }
@@ -29,7 +29,7 @@ fn hex_digit(byte: u8) -> u32
     HEX_DIGITS[byte as usize] as u32
 }
 
-/// The number that the first digits spell, at most so many of them, and the number of digits.
+/// The value of the leading digits, up to the given number of digits, and how many digits there are.
 #[inline(always)]
 pub(crate) fn first_number(text: &[u8], radix: u32, places: usize) -> (u32, usize)
     requires low { 2 ≤ radix }
@@ -55,7 +55,7 @@ pub(crate) fn first_number(text: &[u8], radix: u32, places: usize) -> (u32, usiz
     (value, places)
 }
 
-/// The number that four hex digits write, if all are digits, found by one test for the four.
+/// The value of four hex digits, if all four are digits; one test covers all four.
 #[inline(always)]
 fn four_digits(text: &[u8; 4]) -> Option<u32>
     ensures { IfSome result (λ n. AllDigits 16 text.now × (n ≡ digits_value 16 text.now)) }
@@ -66,8 +66,8 @@ fn four_digits(text: &[u8; 4]) -> Option<u32>
     all.then_some(((a * 16 + b) * 16 + c) * 16 + d)
 }
 
-/// The number that the first hex digits spell, at most four of them, and the number of digits,
-/// which is mostly four.
+/// The value of the leading hex digits, at most four, and how many there are,
+/// which is usually four.
 #[inline(always)]
 pub(crate) fn first_group(text: &[u8]) -> (u32, usize)
     ensures digits { AllDigits 16 (take result.1 text.now) }
@@ -82,7 +82,7 @@ pub(crate) fn first_group(text: &[u8]) -> (u32, usize)
     }
 }
 
-/// The number that a text of one digit to `places` digits writes, if it is at most `most`.
+/// The value of a text of one to `places` digits, if it is at most `most`.
 #[inline(always)]
 pub fn number(text: &[u8], radix: u32, places: usize, most: u32) -> Option<u32>
     requires low { 2 ≤ radix }
@@ -98,7 +98,7 @@ pub fn number(text: &[u8], radix: u32, places: usize, most: u32) -> Option<u32>
     Some(value)
 }
 
-/// The number before the first mark, or that of the whole text, and what follows the mark, if one comes.
+/// The number in front of the first mark, or of the whole text, and the text behind the mark, if any.
 #[inline(always)]
 pub(crate) fn first_piece(
     text: &[u8],

@@ -7,7 +7,7 @@ ghost use Rattle.wire_text.specs.Reading.{FilledFrom, numbers_of, octets_read, p
 
 use crate::number_text::first_piece;
 
-/// Fills `values` from numbers joined by the mark, and says whether there are exactly as many.
+/// Fills `values` from numbers joined by the mark. Returns whether the text has exactly that many.
 #[inline(always)]
 fn fill(text: &[u8], mark: u8, radix: u32, places: usize, values: &mut [u8]) -> bool
     requires low { 2 ≤ radix }

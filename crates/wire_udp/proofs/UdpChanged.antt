@@ -34,10 +34,12 @@ receiver-read bytes src dst verified v payload r none = r.receiver (sym r.dst_po
 
 -- ---- each field
 
+-- writing the source port keeps the lengths and the payload
 pub shape-src_port : (bytes : List ℕ) (x : ℕ) → 8 ≤ length bytes → SameShape bytes (with_field bytes 0 16 x)
 shape-src_port bytes x room =
     subst (λ (l : List ℕ). SameShape l (with_field l 0 16 x)) (sym (cells-drop 8 bytes room)) (record { long = refl; len = refl; behind = refl })
 
+-- writing the source port changes only the source port of the value
 pub reads-src_port : (bytes : List ℕ) (x : ℕ) (src dst : IpAddress) (verified checked : Bool) (v : UdpRepr) (payload : List ℕ) → AreBytes bytes → x < 65536 → Reads bytes src dst verified v payload
     → (IsTrue checked → HasChecksum src dst (with_field bytes 0 16 x)) → Reads (with_field bytes 0 16 x) src dst checked (record v { src_port = x }) payload
 reads-src_port bytes x src dst verified checked v payload are fits r valid =
@@ -46,10 +48,12 @@ reads-src_port bytes x src dst verified checked v payload are fits r valid =
     reads-changed bytes (with_field bytes 0 16 x) src dst src dst verified checked v (record v { src_port = x }) payload r (shape-src_port bytes x room) valid
     (omega (arith, fits, field-with_field_same bytes 0 16 x are (omega arith) (omega (arith, room)))) (r.dst_port ∙ sym other) (receiver-read bytes src dst verified v payload r)
 
+-- writing the destination port keeps the lengths and the payload
 pub shape-dst_port : (bytes : List ℕ) (x : ℕ) → 8 ≤ length bytes → SameShape bytes (with_field bytes 16 16 x)
 shape-dst_port bytes x room =
     subst (λ (l : List ℕ). SameShape l (with_field l 16 16 x)) (sym (cells-drop 8 bytes room)) (record { long = refl; len = refl; behind = refl })
 
+-- writing the destination port changes only the destination port of the value
 pub reads-dst_port : (bytes : List ℕ) (x : ℕ) (src dst : IpAddress) (verified checked : Bool) (v : UdpRepr) (payload : List ℕ) → AreBytes bytes → x < 65536 → x ≢ 0 → Reads bytes src dst verified v payload
     → (IsTrue checked → HasChecksum src dst (with_field bytes 16 16 x)) → Reads (with_field bytes 16 16 x) src dst checked (record v { dst_port = x }) payload
 reads-dst_port bytes x src dst verified checked v payload are fits some r valid =
@@ -58,11 +62,12 @@ reads-dst_port bytes x src dst verified checked v payload are fits some r valid 
     reads-changed bytes (with_field bytes 16 16 x) src dst src dst verified checked v (record v { dst_port = x }) payload r (shape-dst_port bytes x room) valid
     (r.src_port ∙ sym other) (omega (arith, fits, field-with_field_same bytes 16 16 x are (omega arith) (omega (arith, room)))) some
 
+-- writing the checksum keeps the lengths and the payload
 pub shape-checksum : (bytes : List ℕ) (x : ℕ) → 8 ≤ length bytes → SameShape bytes (with_field bytes 48 16 x)
 shape-checksum bytes x room =
     subst (λ (l : List ℕ). SameShape l (with_field l 48 16 x)) (sym (cells-drop 8 bytes room)) (record { long = refl; len = refl; behind = refl })
 
--- the checksum is no value, and only it depends on the addresses
+-- the checksum is not part of the value, and it alone depends on the addresses
 pub reads-checksum : (bytes : List ℕ) (x : ℕ) (src dst src' dst' : IpAddress) (verified checked : Bool) (v : UdpRepr) (payload : List ℕ) → Reads bytes src dst verified v payload
     → (IsTrue checked → HasChecksum src' dst' (with_field bytes 48 16 x)) → Reads (with_field bytes 48 16 x) src' dst' checked v payload
 reads-checksum bytes x src dst src' dst' verified checked v payload r valid =
@@ -73,7 +78,7 @@ reads-checksum bytes x src dst src' dst' verified checked v payload r valid =
     reads-changed bytes (with_field bytes 48 16 x) src dst src' dst' verified checked v v payload r (shape-checksum bytes x room) valid
     (r.src_port ∙ sym first) (r.dst_port ∙ sym second) (receiver-read bytes src dst verified v payload r)
 
--- the same bytes with other addresses, or with a checksum that is verified
+-- the same bytes with other addresses, or with a valid checksum verified
 pub reads-verified : (bytes : List ℕ) (src dst src' dst' : IpAddress) (verified checked : Bool) (v : UdpRepr) (payload : List ℕ) → Reads bytes src dst verified v payload
     → (IsTrue checked → HasChecksum src' dst' bytes) → Reads bytes src' dst' checked v payload
 reads-verified bytes src dst src' dst' verified checked v payload r valid = record {

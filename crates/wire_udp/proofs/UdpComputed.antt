@@ -13,7 +13,7 @@ use Rattle.wire_field.proofs.Readings.{if-Some}
 use Rattle.wire_udp.specs.Udp.{HasChecksum, HasLengths, Reads, has_checksum, has_lengths, header_of, is_ipv4, is_read, payload_of, udp_of}
 use Rattle.wire_udp.specs.declared.udp.repr.UdpRepr.{UdpRepr}
 
--- the tests say what they are named for
+-- each test is true exactly if the fact in its name is
 pub has_lengths-HasLengths : (bytes : List ℕ) → has_lengths bytes ≡ true → HasLengths bytes
 has_lengths-HasLengths bytes h = record {
   least = grind (arith, nat_tests);
@@ -50,7 +50,7 @@ has_checksum-HasChecksum src dst bytes = (
   choosing (field bytes 48 16) _ (is_ipv4 src) (version_of src ≡ version.Ipv4) (version-is_ipv4 src),
 )
 
--- the parts of the whole test
+-- the conditions of the whole test
 conjuncts : (lengths none verified holds : Bool) → (lengths && not none && (not verified || holds)) ≡ true → (lengths ≡ true) × (none ≡ false) × (IsTrue verified → holds ≡ true)
 conjuncts true false true true e = (refl, refl, λ on. refl)
 conjuncts true false true false e = absurd (cc)
@@ -86,7 +86,7 @@ Reads-is_read src dst verified bytes v payload r =
 pub Reads-is : (src dst : IpAddress) (verified : Bool) (bytes : List ℕ) (v : UdpRepr) (payload : List ℕ) → Reads bytes src dst verified v payload → v ≡ header_of bytes
 Reads-is src dst verified bytes v payload r = rw (← r.src_port, ← r.dst_port) refl
 
--- the computed value is the one that the relation `Reads` gives
+-- the computed value is the one that the relation `Reads` defines
 pub udp_of-Reads : (src dst : IpAddress) (verified : Bool) (bytes : List ℕ) (v : UdpRepr)
     → (udp_of src dst verified bytes ≡ Some v) ↔ Reads bytes src dst verified v (payload_of bytes)
 unfolding udp_of

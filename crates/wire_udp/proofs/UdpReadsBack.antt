@@ -14,7 +14,7 @@ use Rattle.wire_udp.proofs.UdpEmitted.{packet_len-packet_with, take-packet_with}
 use Rattle.wire_udp.specs.Udp.{Reads, bytes_of, checksum_for, header_bytes, packet_len, packet_sum, packet_with}
 use Rattle.wire_udp.specs.declared.udp.repr.UdpRepr.{UdpRepr}
 
--- the value has a packet with this payload: its numbers fit their fields, and octets of addresses are whole words
+-- the value has a packet with this payload: its numbers fit their fields, and the addresses are whole words
 pub record IsInRange (v : UdpRepr) (payload : List ℕ) (src dst : IpAddress) : Type 0 where
   pub src_port : v.src_port < 65536
   pub dst_port : v.dst_port < 65536
@@ -23,7 +23,7 @@ pub record IsInRange (v : UdpRepr) (payload : List ℕ) (src dst : IpAddress) : 
   pub src_octets : length (octets_of src) % 2 ≡ 0
   pub dst_octets : length (octets_of dst) % 2 ≡ 0
 
--- the checksum that is written for a sum
+-- the checksum for a sum
 pub checksum_for-cases : (sum : ℕ) → sum ≤ 65535 → ((sum ≡ 65535) × (checksum_for sum ≡ 65535)) ⊎ ((sum < 65535) × (checksum_for sum ≡ 65535 - sum))
 checksum_for-cases sum h = elim (cases_lt sum 65535) [
   | inl below ↦
@@ -34,11 +34,11 @@ checksum_for-cases sum h = elim (cases_lt sum 65535) [
       inl (omega arith, rw none refl)
 ]
 
--- it is no 0
+-- it is not 0
 pub checksum_for-bounds : (sum : ℕ) → sum ≤ 65535 → (1 ≤ checksum_for sum) × (checksum_for sum ≤ 65535)
 checksum_for-bounds sum h = elim (checksum_for-cases sum h) [ inl (full, is) ↦ (omega (arith, is), omega (arith, is)) | inr (below, is) ↦ (omega (arith, is), omega (arith, is)) ]
 
--- a total and the checksum for its residue
+-- a total plus the checksum for its residue
 pub residue-checksum_for : (m : ℕ) → residue (m + checksum_for (residue m)) ≡ 65535
 residue-checksum_for m = elim (checksum_for-cases (residue m) (residue-bound m)) [
   | inl (full, is) ↦
@@ -48,7 +48,7 @@ residue-checksum_for m = elim (checksum_for-cases (residue m) (residue-bound m))
   | inr (below, is) ↦ ap (λ (n : ℕ). residue (m + n)) is ∙ residue-complement m
 ]
 
--- a checksum adds itself to the words of the header, and so of the packet
+-- writing the checksum adds it to the sum of the header, and of the packet
 sum-words-header : (v : UdpRepr) (len checksum : ℕ) → checksum < 65536 → sum (words (header_bytes v len checksum)) ≡ sum (words (header_bytes v len 0)) + checksum
 unfolding words
 sum-words-header v len checksum fits = omega arith
@@ -67,7 +67,7 @@ sum-words-checksum v src dst payload checksum s d fits =
       sum-words-header v (length payload) checksum fits,
     )
 
--- the packet verifies
+-- the checksum of the packet is correct
 verifies : (v : UdpRepr) (src dst : IpAddress) (payload : List ℕ) → length (octets_of src) % 2 ≡ 0 → length (octets_of dst) % 2 ≡ 0
     → packet_sum src dst (bytes_of v payload src dst true) ≡ 65535
 verifies v src dst payload s d =
@@ -75,7 +75,7 @@ verifies v src dst payload s d =
     let bounds = checksum_for-bounds (residue total) (residue-bound total) in
     ap residue (sum-words-checksum v src dst payload (checksum_for (residue total)) s d (omega arith)) ∙ residue-checksum_for total
 
--- a packet with any checksum is read
+-- a packet parses with any checksum if it is not verified
 reads-packet_with : (v : UdpRepr) (src dst : IpAddress) (payload rest : List ℕ) (checksum : ℕ) (verified : Bool) → IsInRange v payload src dst
     → (IsTrue verified → (checksum ≢ 0) × (checksum < 65536) × (packet_sum src dst (packet_with v payload checksum) ≡ 65535))
     → Reads (packet_with v payload checksum ++ rest) src dst verified v payload

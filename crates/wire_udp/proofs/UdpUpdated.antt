@@ -22,7 +22,7 @@ use Rattle.wire_udp.proofs.UdpReadsBack.{checksum_for-bounds, checksum_for-cases
 use Rattle.wire_udp.specs.Udp.{HasChecksum, HasLengths, Reads, Verifies, checksum_for, packet_len, packet_sum, with_checksum, with_updated_checksum}
 use Rattle.wire_udp.specs.declared.udp.repr.UdpRepr.{UdpRepr}
 
--- the total that the checksum covers, of a packet of n bytes
+-- the total that the checksum of a packet of n bytes covers
 abbrev pseudo : IpAddress → IpAddress → ℕ → ℕ
 pseudo src dst n = pseudo_header_total src dst protocol.Udp n
 
@@ -76,6 +76,7 @@ valid-updated src dst src' dst' bytes changed old new are s d s' d' h same check
 small : (changed : List ℕ) (old new : ℕ) → old ≤ 65535 → new ≤ 65535 → with_updated_checksum changed (residue old) (residue new) ≡ with_updated_checksum changed old new
 small changed old new o n = ap (λ (u : ℕ). if field changed 48 16 == 0 then changed else with_field changed 48 16 (checksum_for (65535 - u))) (updated-small (field changed 48 16) old new o n)
 
+-- a valid checksum stays valid if it is updated for a new source port
 pub valid-src_port : (src dst : IpAddress) (bytes : List ℕ) (x : ℕ) → AreBytes bytes → x < 65536 → length (octets_of src) % 2 ≡ 0 → length (octets_of dst) % 2 ≡ 0 → HasLengths bytes
     → HasChecksum src dst bytes → HasChecksum src dst (with_updated_checksum (with_field bytes 0 16 x) (field bytes 0 16) x)
 valid-src_port src dst bytes x are fits s d h valid =
@@ -86,6 +87,7 @@ valid-src_port src dst bytes x are fits s d h valid =
     (valid-updated src dst src dst bytes changed old x (AreBytes-with_field bytes 0 16 x are (omega arith) (omega (arith, h.least))) s d s d h (shape-src_port bytes x h.least)
     stays refl (omega (arith, sum-take-with_field bytes (packet_len bytes) 0 x are (omega (arith, h.header)) h.whole fits)) valid)
 
+-- a valid checksum stays valid if it is updated for a new destination port
 pub valid-dst_port : (src dst : IpAddress) (bytes : List ℕ) (x : ℕ) → AreBytes bytes → x < 65536 → length (octets_of src) % 2 ≡ 0 → length (octets_of dst) % 2 ≡ 0 → HasLengths bytes
     → HasChecksum src dst bytes → HasChecksum src dst (with_updated_checksum (with_field bytes 16 16 x) (field bytes 16 16) x)
 valid-dst_port src dst bytes x are fits s d h valid =
@@ -103,13 +105,14 @@ pub valid-src_addr : (old dst new : IpAddress) (bytes : List ℕ) → AreBytes b
 valid-src_addr old dst new bytes are o d n family h valid =
     valid-updated old dst new dst bytes bytes (sum (words (octets_of old))) (sum (words (octets_of new))) are o d n d h (record { long = refl; len = refl; behind = refl }) refl family (omega arith) valid
 
+-- a valid checksum stays valid if it is updated for a new destination address
 pub valid-dst_addr : (src old new : IpAddress) (bytes : List ℕ) → AreBytes bytes → length (octets_of src) % 2 ≡ 0 → length (octets_of old) % 2 ≡ 0 → length (octets_of new) % 2 ≡ 0
     → HasLengths bytes → HasChecksum src old bytes
     → HasChecksum src new (with_updated_checksum bytes (sum_of_bytes (octets_of old)) (sum_of_bytes (octets_of new)))
 valid-dst_addr src old new bytes are s o n h valid =
     valid-updated src old src new bytes bytes (sum (words (octets_of old))) (sum (words (octets_of new))) are s o s n h (record { long = refl; len = refl; behind = refl }) refl refl (omega arith) valid
 
--- what is read does not depend on the checksum that is written
+-- the parsed value does not depend on the checksum that is written
 reads-updated : (src dst src' dst' : IpAddress) (bytes : List ℕ) (old new : ℕ) (verified checked : Bool) (v : UdpRepr) (payload : List ℕ) → Reads bytes src dst verified v payload
     → (IsTrue checked → HasChecksum src' dst' (with_updated_checksum bytes old new)) → Reads (with_updated_checksum bytes old new) src' dst' checked v payload
 reads-updated src dst src' dst' bytes old new verified checked v payload r =
@@ -122,23 +125,27 @@ reads-updated src dst src' dst' bytes old new verified checked v payload r =
     by_case true = reads-verified bytes src dst src' dst' verified checked v payload r
     by_case false = reads-checksum bytes x src dst src' dst' verified checked v payload r
 
+-- an updated source port changes only the source port of the value
 pub reads-updated_src_port : (src dst : IpAddress) (bytes : List ℕ) (x : ℕ) (verified : Bool) (v : UdpRepr) (payload : List ℕ) → AreBytes bytes → x < 65536 → length (octets_of src) % 2 ≡ 0 → length (octets_of dst) % 2 ≡ 0
     → Reads bytes src dst verified v payload → Reads (with_updated_checksum (with_field bytes 0 16 x) (field bytes 0 16) x) src dst verified (record v { src_port = x }) payload
 reads-updated_src_port src dst bytes x verified v payload are fits s d r =
     reads-updated src dst src dst (with_field bytes 0 16 x) (field bytes 0 16) x false verified (record v { src_port = x }) payload
     (reads-src_port bytes x src dst verified false v payload are fits r (λ no. cc)) (λ on. valid-src_port src dst bytes x are fits s d r.lengths (r.checksum on))
 
+-- an updated destination port changes only the destination port of the value
 pub reads-updated_dst_port : (src dst : IpAddress) (bytes : List ℕ) (x : ℕ) (verified : Bool) (v : UdpRepr) (payload : List ℕ) → AreBytes bytes → x < 65536 → x ≢ 0 → length (octets_of src) % 2 ≡ 0 → length (octets_of dst) % 2 ≡ 0
     → Reads bytes src dst verified v payload → Reads (with_updated_checksum (with_field bytes 16 16 x) (field bytes 16 16) x) src dst verified (record v { dst_port = x }) payload
 reads-updated_dst_port src dst bytes x verified v payload are fits some s d r =
     reads-updated src dst src dst (with_field bytes 16 16 x) (field bytes 16 16) x false verified (record v { dst_port = x }) payload
     (reads-dst_port bytes x src dst verified false v payload are fits some r (λ no. cc)) (λ on. valid-dst_port src dst bytes x are fits s d r.lengths (r.checksum on))
 
+-- the packet parses as before between the new source address and the old destination
 pub reads-updated_src_addr : (old dst new : IpAddress) (bytes : List ℕ) (verified : Bool) (v : UdpRepr) (payload : List ℕ) → AreBytes bytes → length (octets_of old) % 2 ≡ 0 → length (octets_of dst) % 2 ≡ 0 → length (octets_of new) % 2 ≡ 0
     → version_of old ≡ version_of new → Reads bytes old dst verified v payload → Reads (with_updated_checksum bytes (sum_of_bytes (octets_of old)) (sum_of_bytes (octets_of new))) new dst verified v payload
 reads-updated_src_addr old dst new bytes verified v payload are o d n family r =
     reads-updated old dst new dst bytes (sum_of_bytes (octets_of old)) (sum_of_bytes (octets_of new)) verified verified v payload r (λ on. valid-src_addr old dst new bytes are o d n family r.lengths (r.checksum on))
 
+-- the packet parses as before between the old source and the new destination address
 pub reads-updated_dst_addr : (src old new : IpAddress) (bytes : List ℕ) (verified : Bool) (v : UdpRepr) (payload : List ℕ) → AreBytes bytes → length (octets_of src) % 2 ≡ 0 → length (octets_of old) % 2 ≡ 0 → length (octets_of new) % 2 ≡ 0
     → Reads bytes src old verified v payload → Reads (with_updated_checksum bytes (sum_of_bytes (octets_of old)) (sum_of_bytes (octets_of new))) src new verified v payload
 reads-updated_dst_addr src old new bytes verified v payload are s o n r =
@@ -146,6 +153,7 @@ reads-updated_dst_addr src old new bytes verified v payload are s o n r =
 
 -- ---- a checksum that is filled in
 
+-- a checksum that is filled in is valid
 pub filled : (src dst : IpAddress) (bytes : List ℕ) → AreBytes bytes → length (octets_of src) % 2 ≡ 0 → length (octets_of dst) % 2 ≡ 0 → HasLengths bytes
     → (field (with_checksum src dst bytes) 48 16 ≢ 0) × Verifies src dst (with_checksum src dst bytes)
 filled src dst bytes are s d h =
@@ -168,6 +176,7 @@ filled src dst bytes are s d h =
     let there = field-with_field_same zeroed 48 16 x zero_are (omega arith) (omega (arith, zero_shape.long, h.least)) in
     ((λ z. omega (arith, z, there, bounds)), ap (λ (m : ℕ). packet_sum src dst (take m after)) len ∙ ap residue is ∙ residue-checksum_for total)
 
+-- a packet parses as before after its checksum is filled in
 pub reads-filled : (src dst : IpAddress) (bytes : List ℕ) (verified checked : Bool) (v : UdpRepr) (payload : List ℕ) → AreBytes bytes → length (octets_of src) % 2 ≡ 0 → length (octets_of dst) % 2 ≡ 0
     → Reads bytes src dst verified v payload → Reads (with_checksum src dst bytes) src dst checked v payload
 reads-filled src dst bytes verified checked v payload are s d r =

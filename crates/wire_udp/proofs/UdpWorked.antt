@@ -9,7 +9,7 @@ use Rattle.wire_udp.specs.Udp.{bytes_of, header_bytes, payload_of, pseudo_header
 use Rattle.wire_udp.specs.UdpText.{packet_text, value_text}
 use Rattle.wire_udp.specs.declared.udp.repr.UdpRepr.{UdpRepr}
 
--- ---- a datagram from 192.168.1.1 to 192.168.1.2, with a length by its header and with a checksum
+-- ---- a datagram from 192.168.1.1 to 192.168.1.2, with this length field and this checksum
 
 src : IpAddress
 src = Ipv4 (192 ∷ 168 ∷ 1 ∷ 1 ∷ [])
@@ -67,7 +67,7 @@ receiver-none : udp_of src dst false (0xbf ∷ 0x00 ∷ 0x00 ∷ 0x00 ∷ drop 4
 unfolding src dst payload packet udp_of
 receiver-none = refl
 
--- ---- its checksum left out, over either version
+-- ---- no checksum, over either version
 
 six : ℕ → IpAddress
 six n = Ipv6 (0xfe ∷ 0x80 ∷ 0 ∷ 0 ∷ 0 ∷ 0 ∷ 0 ∷ 0 ∷ 0 ∷ 0 ∷ 0 ∷ 0 ∷ 0 ∷ 0 ∷ 0 ∷ n ∷ [])
@@ -104,6 +104,6 @@ packet-printed : packet_text (packet 12 0 0) ≡ codes "UDP src=48896 dst=53 len
 unfolding payload packet digits
 packet-printed = refl
 
-packet-refused : packet_text (packet 13 0 0) ≡ codes "UDP (wire::Error)"
+packet-rejected : packet_text (packet 13 0 0) ≡ codes "UDP (wire::Error)"
 unfolding payload packet
-packet-refused = refl
+packet-rejected = refl

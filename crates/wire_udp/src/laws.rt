@@ -93,8 +93,8 @@ pub fn valid_checksum_reads_udp(
         ↔ (Reads bytes.now src_addr dst_addr false value payload.now × HasChecksum src_addr dst_addr bytes.now) }
 {}
 
-/// Writing one field changes one value, and no other. Only the checksum is no value, and is not
-/// verified here.
+/// Writing one field changes one value, and no other. The checksum is not part of the value, and is
+/// not verified here.
 pub fn one_value_changes_udp(
     bytes: &[u8],
     src_addr: IpAddress,

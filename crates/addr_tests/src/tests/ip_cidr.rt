@@ -1,4 +1,4 @@
-//! CIDR blocks of addresses of either version. `tests/calls` records what more blocks contain.
+//! CIDR blocks of addresses of either version. `tests/calls` records more examples.
 
 use super::count_distinct;
 use ip_wire::{IpAddress, IpCidr, Ipv4Address, Ipv4Cidr, Ipv6Address, Ipv6Cidr};

@@ -1,4 +1,4 @@
-//! Addresses with a port, and ports to listen on.
+//! Endpoints, and ports to listen on.
 
 use super::count_distinct;
 use ip_wire::{IpAddress, IpEndpoint, IpListenEndpoint, Ipv4Address, Ipv6Address};

@@ -1,4 +1,4 @@
-//! CIDR blocks of IPv4 addresses. `tests/calls` records what more blocks contain, and more netmasks.
+//! CIDR blocks of IPv4 addresses. `tests/calls` records more blocks and netmasks.
 
 use super::count_distinct;
 use ip_wire::laws::order_agrees;

@@ -1,4 +1,4 @@
-//! CIDR blocks of IPv6 addresses. `tests/calls` records what more blocks contain.
+//! CIDR blocks of IPv6 addresses. `tests/calls` records more examples.
 
 use super::count_distinct;
 use ip_wire::laws::order_agrees;

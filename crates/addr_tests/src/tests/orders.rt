@@ -1,4 +1,4 @@
-//! Types with an order, each with a table that stands in it.
+//! Types with an order, each with values in ascending order.
 
 use super::count_distinct;
 use ip_wire::{
@@ -7,7 +7,7 @@ use ip_wire::{
 };
 use std::test::Fail;
 
-/// Whether each value is equal to itself alone, and less than all that follow it.
+/// Whether each value equals only itself, and is less than all later ones.
 fn are_in_order<T: Ord>(values: &[T]) -> bool {
     for (i, a) in values.iter().enumerate() {
         for (j, b) in values.iter().enumerate() {

@@ -1,4 +1,4 @@
-//! Hardware addresses as bytes of a packet.
+//! Hardware addresses as octets of a packet.
 
 ghost use Rattle.std.specs.Prelude.{◌≡◌, ◌↔◌, IsTrue};
 
@@ -8,7 +8,7 @@ use ip_wire::{
 use net_base::Medium;
 use test_support::prints;
 
-/// Values are equal where their octets are.
+/// Values are equal if their octets are.
 fn are_equal(one: RawHardwareAddress, other: RawHardwareAddress) -> bool
     ensures { IsTrue result ↔ (one ≡ other) }
 {

@@ -1,5 +1,5 @@
-//! Parsers of text, each with a text that it accepts. `tests/calls` records what else is accepted or
-//! rejected.
+//! Parsers of text, each with a text that it accepts. `tests/calls` records more accepted and rejected
+//! texts.
 
 use ip_wire::{
     EthernetAddress, IpAddress, IpCidr, IpEndpoint, Ipv4Address, Ipv4Cidr, Ipv6Address, Ipv6Cidr,

@@ -58,8 +58,8 @@ fn forwards_ipv6_until_it_expires(rt: HostRuntime) {
     assert_eq!(rt; frame, expected);
 }
 
-/// One octet changed: the type, the version, the header length, the total length, the checksum, the hop
-/// limit without a new checksum.
+/// One octet changed: the EtherType, the version, the header length, the total length, the checksum, the
+/// hop limit without a new checksum.
 #[test]
 fn rejects_what_is_no_packet(rt: HostRuntime) {
     for (at, octet, reason) in [

@@ -1,4 +1,4 @@
-//! Frames that are translated. The expected frames have checksums that were computed anew, by another
+//! Translated frames. The checksums of the expected frames were computed by another
 //! program.
 
 use crate::{Rejection, Side, translate};
@@ -9,7 +9,7 @@ fn inside() -> Ipv4Address {
     Ipv4Address::new(192, 0, 2, 1)
 }
 
-/// The address that stands for it outside.
+/// The address that replaces it outside.
 fn outside() -> Ipv4Address {
     Ipv4Address::new(203, 0, 113, 9)
 }
@@ -35,7 +35,7 @@ const REPLY: [u8; 46] = [
     0x02, 0x01, 0x14, 0xe9, 0xb5, 0xe3, 0x00, 0x0c, 0xd2, 0x2e, 0x70, 0x6f, 0x6e, 0x67,
 ];
 
-/// The reply as it comes from outside.
+/// The reply as it arrives from outside.
 const REPLY_IN: [u8; 46] = [
     0x02, 0x00, 0x00, 0x00, 0x00, 0x01, 0x02, 0x00, 0x00, 0x00, 0x00, 0x02, 0x08, 0x00, 0x45, 0x00,
     0x00, 0x20, 0xd5, 0x7e, 0x40, 0x00, 0x40, 0x11, 0x67, 0x42, 0xc0, 0x00, 0x02, 0x02, 0xcb, 0x00,
@@ -69,7 +69,7 @@ const DATA: [u8; 71] = [
     0xa6, 0x25, 0x68, 0x65, 0x6c, 0x6c, 0x6f,
 ];
 
-/// That segment as it comes from outside.
+/// That segment as it arrives from outside.
 const DATA_IN: [u8; 71] = [
     0x02, 0x00, 0x00, 0x00, 0x00, 0x01, 0x02, 0x00, 0x00, 0x00, 0x00, 0x02, 0x08, 0x00, 0x45, 0x00,
     0x00, 0x39, 0x8e, 0x8a, 0x40, 0x00, 0x40, 0x06, 0xae, 0x28, 0xc0, 0x00, 0x02, 0x02, 0xcb, 0x00,
@@ -133,7 +133,7 @@ fn translates_out_and_in(rt: HostRuntime) {
     assert_eq!(rt; frame, PADDED_OUT);
 }
 
-/// UDP without a checksum gets none. A UDP checksum of 0 is written as 0xffff, a TCP checksum of 0 as 0.
+/// A UDP checksum of 0 stays 0. A computed UDP checksum of 0 is written as 0xffff, that of TCP as 0.
 #[test]
 fn writes_checksums_of_0(rt: HostRuntime) {
     let (mut frame, mut expected) = (UDP, UDP_OUT);
@@ -162,8 +162,8 @@ fn writes_checksums_of_0(rt: HostRuntime) {
     assert_eq!(rt; frame, expected);
 }
 
-/// Octets changed: the type, the version, the total length, the checksum; then, with an IPv4 checksum
-/// that fits, a fragment, another protocol, and a wrong UDP checksum.
+/// Changed octets: the EtherType, the version, the total length, the checksum; then, with a valid IPv4
+/// checksum, a fragment, another protocol, and a wrong UDP checksum.
 #[test]
 fn rejects_other_frames(rt: HostRuntime) {
     for (changes, reason) in [

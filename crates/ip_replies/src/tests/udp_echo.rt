@@ -81,7 +81,8 @@ fn echoes_nothing_else(rt: HostRuntime) {
     assert_eq!(rt; &out[46..], [0; 18].as_slice());
 }
 
-/// From 10.0.0.1, and then from broadcast, from a group and from no address. The IPv4 checksums are right.
+/// From 10.0.0.1, from broadcast, from a group and from the unspecified address, each with a valid IPv4
+/// checksum.
 #[test]
 fn echoes_to_one_host_alone(rt: HostRuntime) {
     for (src, checksum, len) in [

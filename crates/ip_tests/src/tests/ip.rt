@@ -9,7 +9,7 @@ use net_base::{Checksum, ChecksumCapabilities};
 use std::test::Fail;
 use test_support::{IPV4_PACKET, OLD, ipv4_header};
 
-/// What is read of the bytes, the checksum verified.
+/// The value that the bytes parse as, with the checksum verified.
 fn parse(bytes: &[u8]) -> Result<IpRepr, Error> {
     let packet = IpPacket::new_checked(bytes)?;
     IpRepr::parse(&packet, &ChecksumCapabilities::default())
@@ -61,7 +61,7 @@ fn a_view_lends_the_payload_of_either_version(rt: HostRuntime) {
 }
 
 #[test]
-fn refuses_less_than_the_packet(rt: HostRuntime) {
+fn rejects_less_than_the_packet(rt: HostRuntime) {
     for (packet, is_ipv4) in [
         (IPV4_PACKET.as_slice(), true),
         (&IPV4_FRAGMENT, true),
@@ -88,7 +88,7 @@ fn refuses_less_than_the_packet(rt: HostRuntime) {
 }
 
 #[test]
-fn refuses_no_bytes(rt: HostRuntime) {
+fn rejects_no_bytes(rt: HostRuntime) {
     let found = (
         IpPacket::new_unchecked(&[]).check_len(),
         IpPacket::new_checked(&[]).is_err(),
@@ -97,7 +97,7 @@ fn refuses_no_bytes(rt: HostRuntime) {
 }
 
 #[test]
-fn refuses_what_neither_version_reads(rt: HostRuntime) {
+fn rejects_what_neither_version_reads(rt: HostRuntime) {
     let mut wrong_sum = IPV4_PACKET;
     wrong_sum[11] = 0x78;
     let mut wrong_version = wrong_sum;
@@ -168,7 +168,7 @@ fn builds_an_ipv6_header(rt: HostRuntime) {
     );
 }
 
-/// A buffer of such bytes, in which a header was written.
+/// A buffer of such bytes, after a header is written to it.
 fn emitted(value: IpRepr, old: u8, caps: &ChecksumCapabilities) -> [u8; 41]
     requires { payload_len_of value ≤ max_payload_len value }
 {

@@ -23,7 +23,7 @@ const TCP_HEADER: [u8; 20] = [
     0x21, 0x22, 0x23, 0x24,
 ];
 
-/// The header of a packet to 33.34.245.157, whose other words add up to ffff, so that its checksum is 0.
+/// A header to 33.34.245.157, whose other words have the sum ffff, so that its checksum is 0.
 const SUM_OF_0_HEADER: [u8; 20] = [
     0x45, 0x00, 0x00, 0x18, 0x00, 0x00, 0x40, 0x00, 0x40, 0x01, 0x00, 0x00, 0x11, 0x12, 0x13, 0x14,
     0x21, 0x22, 0xf5, 0x9d,
@@ -52,10 +52,10 @@ fn other_header() -> Ipv4Repr {
     }
 }
 
-/// The fields of a header by their types, in their order, and whether the checksum holds.
+/// The types of the fields of a header, in their order, and whether the checksum is valid.
 type Fields = ([u8; 5], [u16; 4], [bool; 3], IpProtocol, [Ipv4Address; 2]);
 
-/// What the getters of a view answer.
+/// The values of the getters of a view.
 macro_rules! fields {
     ($packet:ident) => {
         (
@@ -90,7 +90,7 @@ fn fields_of(packet: &Ipv4Packet<'_>) -> Fields
     fields!(packet)
 }
 
-/// Those of the writing view.
+/// Those of the mutable view.
 fn fields_of_mut(packet: &Ipv4PacketMut<'_>) -> Fields
     requires { HasLengths (packet_bytes_mut packet.now) }
 {
@@ -155,7 +155,7 @@ fn writes_every_field(rt: HostRuntime) -> Result<(), Fail> {
     Ok(())
 }
 
-/// The bytes of a header with another checksum, after the right one is filled in.
+/// The bytes of a header with another checksum than the valid one.
 fn filled(header: &[u8]) -> [u8; 24] {
     let mut buffer = [0; 24];
     if header.len() <= 24 {
@@ -177,7 +177,7 @@ fn fills_in_the_checksum_of_the_whole_header(rt: HostRuntime) {
     assert_eq!(rt; filled(&OPTION_HEADER), OPTION_HEADER);
 }
 
-/// The packet with other bytes from one place on, and with this checksum.
+/// The packet with other bytes from one index on, and with this checksum.
 fn changed(start: usize, bytes: &[u8], checksum: [u8; 2]) -> [u8; 24]
     requires { start + length bytes.now ≤ 24 }
 {
@@ -259,7 +259,7 @@ pub(super) fn checks(bytes: &mut [u8]) -> [ip_wire::Result<()>; 6] {
 }
 
 #[test]
-fn refuses_impossible_lengths(rt: HostRuntime) {
+fn rejects_impossible_lengths(rt: HostRuntime) {
     let caps = ChecksumCapabilities::default();
     let ignored = ChecksumCapabilities::ignored();
     for (header, total_len, payload_len) in [
@@ -290,7 +290,7 @@ fn refuses_impossible_lengths(rt: HostRuntime) {
 }
 
 #[test]
-fn refuses_zeros(rt: HostRuntime) {
+fn rejects_zeros(rt: HostRuntime) {
     let mut zeros = [0; 40];
     zeros[0] = 0x09;
     assert_eq!(rt; Ipv4Packet::new_unchecked(&zeros).check_len(), Err(Error));
@@ -363,7 +363,7 @@ fn prints_the_header(rt: HostRuntime) {
     }
 }
 
-/// What is read of the bytes.
+/// The value that the bytes parse as.
 fn parse(bytes: &[u8], caps: &ChecksumCapabilities) -> ip_wire::Result<Ipv4Repr> {
     Ipv4Repr::parse(&Ipv4Packet::new_unchecked(bytes), caps)
 }
@@ -382,7 +382,7 @@ fn reads_a_wrong_checksum_where_it_is_ignored(rt: HostRuntime) {
 }
 
 #[test]
-fn refuses_another_version(rt: HostRuntime) {
+fn rejects_another_version(rt: HostRuntime) {
     let mut buffer = IPV4_PACKET;
     let mut packet = Ipv4PacketMut::new_unchecked(&mut buffer);
     packet.set_version(6);
@@ -395,7 +395,7 @@ fn refuses_another_version(rt: HostRuntime) {
     assert_eq!(rt; found, [Err(Error); 2]);
 }
 
-/// What is written of a value over bytes of this value: nothing of a longer payload than a header can say.
+/// The bytes of a header emitted over bytes of this value. `None` if the payload is too long for a header.
 fn emitted(value: &Ipv4Repr, old: u8) -> [u8; 24] {
     let mut buffer = [old; 24];
     if value.payload_len <= 65515 {

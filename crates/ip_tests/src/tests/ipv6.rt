@@ -10,10 +10,10 @@ use ip_wire::{
 use std::test::Fail;
 use test_support::{OLD, copy_to, prints};
 
-/// The fields of a header by their types, in their order, and its lengths.
+/// The types of the fields of a header, in their order, and its lengths.
 type Fields = ([u8; 3], u32, u16, IpProtocol, [Ipv6Address; 2], [usize; 2]);
 
-/// What the getters of a view answer.
+/// The values of the getters of a view.
 macro_rules! fields {
     ($packet:ident) => {
         (
@@ -38,7 +38,7 @@ fn fields_of(packet: &Ipv6Packet<'_>) -> Fields
     fields!(packet)
 }
 
-/// Those of the writing view.
+/// Those of the mutable view.
 fn fields_of_mut(packet: &Ipv6PacketMut<'_>) -> Fields
     requires { HasLengths (packet_bytes_mut packet.now) }
 {
@@ -99,7 +99,7 @@ fn writes_every_field(rt: HostRuntime) -> Result<(), Fail> {
     Ok(())
 }
 
-/// A header with these first four octets and ones behind them.
+/// A header with these first four octets, followed by ones.
 fn ones_behind(first: [u8; 4]) -> [u8; 40] {
     let mut bytes = [0xff; 40];
     bytes[..4].copy_from_slice(&first);

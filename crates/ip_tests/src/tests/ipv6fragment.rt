@@ -1,4 +1,4 @@
-//! Headers of IPv6 fragments.
+//! IPv6 fragment headers.
 
 use ip_wire::{Error, Ipv6FragmentHeader, Ipv6FragmentHeaderMut, Ipv6FragmentRepr};
 use std::test::Fail;
@@ -7,7 +7,7 @@ use test_support::{OLD, prints};
 /// The header of a last fragment.
 const LAST: [u8; 6] = [0x0a, 0x00, 0x00, 0x01, 0x09, 0x32];
 
-/// What the header of a last fragment says.
+/// The values of the header of a last fragment.
 fn last() -> Ipv6FragmentRepr {
     Ipv6FragmentRepr {
         frag_offset: 320,
@@ -16,7 +16,7 @@ fn last() -> Ipv6FragmentRepr {
     }
 }
 
-/// Headers, with the offset, the flag and the number that they have.
+/// Headers, with their offset, flag and identification.
 const HEADERS: [([u8; 6], u16, bool, u32); 4] = [
     (LAST, 320, false, 67890),
     ([0x0a, 0x06, 0x00, 0x01, 0x09, 0x32], 320, false, 67890),
@@ -59,7 +59,7 @@ fn checks(bytes: &mut [u8]) -> [ip_wire::Result<()>; 4] {
 }
 
 #[test]
-fn refuses_less_than_a_header(rt: HostRuntime) {
+fn rejects_less_than_a_header(rt: HostRuntime) {
     let mut buffer = LAST;
     for len in 0..=6 {
         let want = if len < 6 { Err(Error) } else { Ok(()) };

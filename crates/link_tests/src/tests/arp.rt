@@ -18,7 +18,7 @@ const SHORT: [u8; 12] = [
     0x00, 0x01, 0x86, 0xdd, 0x01, 0x01, 0x00, 0x02, 0x0a, 0x0b, 0x0c, 0x0d,
 ];
 
-/// The hardware addresses of the first.
+/// The hardware addresses of that reply.
 const SOURCE_HARDWARE: [u8; 6] = [0x11, 0x12, 0x13, 0x14, 0x15, 0x16];
 
 const TARGET_HARDWARE: [u8; 6] = [0x31, 0x32, 0x33, 0x34, 0x35, 0x36];
@@ -28,7 +28,7 @@ const SOURCE_PROTOCOL: [u8; 4] = [33, 34, 35, 36];
 
 const TARGET_PROTOCOL: [u8; 4] = [65, 66, 67, 68];
 
-/// Its values, with another operation.
+/// The values of that reply, with another operation.
 fn value(operation: ArpOperation) -> ArpRepr {
     ArpRepr::EthernetIpv4 {
         operation,
@@ -86,7 +86,7 @@ macro_rules! fields {
     };
 }
 
-/// What they return for the addresses: hardware and protocol, of the source and the target.
+/// The addresses that they return: hardware and protocol, of the source and the target.
 macro_rules! addresses {
     ($packet:ident) => {
         (
@@ -194,7 +194,7 @@ fn checks(bytes: &mut [u8]) -> [ip_wire::Result<()>; 5] {
 }
 
 #[test]
-fn refuses_less_than_the_packet(rt: HostRuntime) {
+fn rejects_less_than_the_packet(rt: HostRuntime) {
     let mut buffer = PACKET;
     for len in 0..=28 {
         let want = if len < 28 { Err(Error) } else { Ok(()) };

@@ -1,4 +1,4 @@
-//! What all layers share: the error, and which checksums are left to the library.
+//! Shared by all layers: the error and the checksum capabilities.
 
 use ip_wire::{Error, IPV4_MIN_MTU, IPV6_MIN_MTU};
 use net_base::{Checksum, ChecksumCapabilities, Medium};

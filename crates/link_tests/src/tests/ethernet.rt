@@ -1,4 +1,4 @@
-//! Frames of Ethernet.
+//! Ethernet frames.
 
 ghost use Rattle.std.specs.Prelude.{◌≡◌, ◌+◌, length};
 ghost use Rattle.ip_wire.specs.Ethernet.{frame_bytes_mut};
@@ -16,7 +16,7 @@ const FRAME_DST: EthernetAddress = EthernetAddress([0x01, 0x02, 0x03, 0x04, 0x05
 /// The sender of each frame.
 const FRAME_SRC: EthernetAddress = EthernetAddress([0x11, 0x12, 0x13, 0x14, 0x15, 0x16]);
 
-/// A frame that says that it carries an IPv4 packet, of 64 bytes.
+/// A frame with EtherType IPv4, of 64 bytes.
 const IPV4_FRAME: [u8; 64] = [
     0x01, 0x02, 0x03, 0x04, 0x05, 0x06, 0x11, 0x12, 0x13, 0x14, 0x15, 0x16, 0x08, 0x00, 0xaa, 0x00,
     0x00, 0x00, 0x00, 0x00, 0x00, 0x00, 0x00, 0x00, 0x00, 0x00, 0x00, 0x00, 0x00, 0x00, 0x00, 0x00,
@@ -32,7 +32,7 @@ const IPV6_FRAME: [u8; 54] = [
     0x00, 0x00, 0x00, 0x00, 0x00, 0x01,
 ];
 
-/// The values of a header with this type.
+/// The values of a header with this EtherType.
 fn header(ethertype: EthernetProtocol) -> EthernetRepr {
     EthernetRepr {
         src_addr: FRAME_SRC,
@@ -63,7 +63,7 @@ fn reads_every_field(rt: HostRuntime) -> Result<(), Fail> {
     Ok(())
 }
 
-/// Writes a frame, and gives what the getters say of it then.
+/// Writes a frame, and returns the values of the getters.
 fn write(
     frame: &mut EthernetFrameMut<'_>,
     ethertype: EthernetProtocol,
@@ -141,7 +141,7 @@ fn checks(bytes: &mut [u8]) -> [ip_wire::Result<()>; 5] {
 }
 
 #[test]
-fn refuses_less_than_a_header(rt: HostRuntime) {
+fn rejects_less_than_a_header(rt: HostRuntime) {
     let mut buffer = IPV4_FRAME;
     for len in 0..=15 {
         let want = if len < 14 { Err(Error) } else { Ok(()) };

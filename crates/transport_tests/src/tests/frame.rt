@@ -128,7 +128,7 @@ fn parses(bytes: &[u8], text: &str, payload: Option<&[u8]>) -> bool {
     }
 }
 
-/// Whether the frame does not parse, but is read as far as this text says, and has no payload then.
+/// Whether the frame does not parse, prints as this text up to the failure, and has no payload.
 fn is_kept(bytes: &[u8], text: &str) -> bool {
     let caps = ChecksumCapabilities::default();
     match Frame::read(bytes, &caps) {
@@ -142,7 +142,7 @@ fn is_kept(bytes: &[u8], text: &str) -> bool {
     }
 }
 
-/// Whether the frame, parsed and emitted, gives its bytes, and the rest of the buffer stays.
+/// Whether the frame, parsed and emitted, gives its own bytes, and the rest of the buffer is unchanged.
 fn is_emitted(bytes: &[u8]) -> bool {
     let caps = ChecksumCapabilities::default();
     match Frame::read(bytes, &caps) {
@@ -155,7 +155,7 @@ fn is_emitted(bytes: &[u8]) -> bool {
     }
 }
 
-/// Whether the buffer begins with these bytes, and the rest of it stayed.
+/// Whether the buffer begins with these bytes, and the rest of it is unchanged.
 fn is_written(buffer: &[u8], bytes: &[u8]) -> bool {
     buffer.starts_with(bytes) && buffer[bytes.len()..].iter().all(|byte| *byte == 0xa5)
 }
@@ -243,7 +243,7 @@ fn emits_what_was_parsed(rt: HostRuntime) {
     }
 }
 
-/// Whether a UDP packet is put together as these bytes.
+/// Whether building a UDP packet gives these bytes.
 fn is_built(header: IpRepr, ports: UdpRepr, payload: &[u8], bytes: &[u8]) -> bool {
     match Frame::udp(FRAME_SRC, FRAME_DST, header, ports, payload) {
         Ok(frame) => {
@@ -255,7 +255,7 @@ fn is_built(header: IpRepr, ports: UdpRepr, payload: &[u8], bytes: &[u8]) -> boo
     }
 }
 
-/// Whether a segment is put together as these bytes.
+/// Whether building a segment gives these bytes.
 fn is_built_segment(header: IpRepr, segment: TcpRepr<'_>, bytes: &[u8]) -> bool {
     match Frame::tcp(FRAME_SRC, FRAME_DST, header, segment) {
         Ok(frame) => {
@@ -267,7 +267,7 @@ fn is_built_segment(header: IpRepr, segment: TcpRepr<'_>, bytes: &[u8]) -> bool 
     }
 }
 
-/// Whether a packet with a payload of another protocol is put together as these bytes.
+/// Whether building a packet with a payload of another protocol gives these bytes.
 fn is_built_other(header: IpRepr, payload: &[u8], bytes: &[u8]) -> bool {
     match Frame::packet(FRAME_SRC, FRAME_DST, header, Transport::Other(payload)) {
         Ok(frame) => {
@@ -287,7 +287,7 @@ fn is_request(bytes: &[u8]) -> bool {
     }
 }
 
-/// Emits the frame that is read of the bytes.
+/// Parses the bytes, and emits the frame.
 fn emit(bytes: &[u8], buffer: &mut [u8]) -> Option<usize> {
     let caps = ChecksumCapabilities::default();
     match Frame::read(bytes, &caps) {
@@ -306,7 +306,7 @@ fn puts_layers_together(rt: HostRuntime) {
     assert!(rt; is_request(&ARP));
 }
 
-/// The checksum at this place of the frame that is emitted again, if the frame parses with another one there.
+/// The checksum at this index of the emitted frame, if the frame parses with another one there.
 fn emitted_sum(bytes: &[u8], at: usize, caps: &ChecksumCapabilities) -> Option<[u8; 2]> {
     let mut changed = [0; 80];
     if bytes.len() > 80 || at > 78 {
@@ -444,7 +444,7 @@ fn rejects_what_a_frame_cannot_hold(rt: HostRuntime) {
     assert!(rt; !holds_unread(&UDP[42..]));
 }
 
-/// Emits the frame where its buffer is long enough, and returns its length.
+/// Emits the frame if its buffer is long enough, and returns its length.
 fn emit_whole(bytes: &[u8], buffer: &mut [u8]) -> usize {
     let caps = ChecksumCapabilities::default();
     match Frame::parse(bytes, &caps) {

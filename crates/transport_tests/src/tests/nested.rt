@@ -1,4 +1,4 @@
-//! Views on what other views lend.
+//! Views on payloads that other views borrow.
 
 use super::tcp::{SYN, ends};
 use super::tcp_repr::syn;
@@ -52,7 +52,7 @@ const FRAGMENT_FRAME: [u8; 64] = [
     0x00, 0x00, 0x00, 0x00, 0x00, 0x00, 0x11, 0x00, 0x0a, 0x01, 0x00, 0x01, 0x09, 0x32, 0xa5, 0xa5,
 ];
 
-/// Writes a fragment's header behind two octets, if there are 8. Returns how many there are.
+/// Writes a fragment header behind two octets, if there are 8. Returns the number of octets.
 fn write_fragment(bytes: &mut [u8]) -> usize {
     let fragment = Ipv6FragmentRepr {
         frag_offset: 320,
@@ -94,7 +94,7 @@ const SEGMENT_FRAME: [u8; 60] = [
     0x01, 0x23, 0x7a, 0x8d, 0x00, 0x00, 0xaa, 0x00, 0x00, 0xff, 0xa5, 0xa5,
 ];
 
-/// Writes the segment with SYN, if the bytes are as many as it has.
+/// Writes the segment with SYN, if there are as many bytes.
 fn write_segment(bytes: &mut [u8]) {
     let value = syn();
     let (src, dst) = ends();
@@ -104,7 +104,7 @@ fn write_segment(bytes: &mut [u8]) {
     }
 }
 
-/// What a segment in a packet in a frame carries. The three views are gone when it is used.
+/// The payload of a segment in a packet in a frame. It is used after the three views are gone.
 fn segment_payload(bytes: &[u8]) -> Result<&[u8]> {
     let segment = TcpPacket::new_checked(payload(bytes)?)?;
     Ok(segment.payload())
@@ -138,7 +138,7 @@ fn a_segment_is_written_through_three_views(rt: HostRuntime) -> std::result::Res
     Ok(())
 }
 
-/// What a packet in a frame carries. Both views are gone when it is used.
+/// The payload of a packet in a frame. It is used after both views are gone.
 fn payload(bytes: &[u8]) -> Result<&[u8]> {
     let frame = EthernetFrame::new_checked(bytes)?;
     let packet = Ipv4Packet::new_checked(frame.payload())?;

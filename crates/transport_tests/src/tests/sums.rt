@@ -1,4 +1,4 @@
-//! Sums beside those of a plain loop over the words.
+//! Checksums compared with a plain loop over the words.
 
 use ip_wire::checksum::{combine, data};
 use std::alloc::{AllocError, Global};
@@ -17,7 +17,7 @@ fn plain(bytes: &[u8]) -> u16 {
     }
 }
 
-// Bytes that differ from place to place.
+// Bytes with different values at different indexes.
 fn counted() -> [u8; 16500] {
     let mut bytes = [0; 16500];
     for (i, byte) in bytes.iter_mut().enumerate() {
@@ -45,7 +45,7 @@ fn sums_at_each_place(rt: HostRuntime) {
     }
 }
 
-// So many bytes, by turns one and the other.
+// That many bytes, alternating between two values.
 fn by_turns(alloc: Global, one: u8, other: u8, len: usize) -> Result<Vec<u8>, AllocError> {
     let mut bytes = vec![in alloc; one; len]?;
     for (i, byte) in bytes.iter_mut().enumerate() {

@@ -24,7 +24,7 @@ pub(super) const SYN: [u8; 24] = [
     0x7a, 0x8d, 0x00, 0x00, 0xaa, 0x00, 0x00, 0xff,
 ];
 
-/// The same with a window that makes its checksum 0.
+/// The same with a window for which the checksum is 0.
 pub(super) const SUM_OF_0: [u8; 24] = [
     0xbf, 0x00, 0x00, 0x50, 0x01, 0x23, 0x45, 0x67, 0x00, 0x00, 0x00, 0x00, 0x50, 0x02, 0x7b, 0xb0,
     0x00, 0x00, 0x00, 0x00, 0xaa, 0x00, 0x00, 0xff,
@@ -157,7 +157,7 @@ fn set_flag(packet: &mut TcpPacketMut<'_>, bit: u16, value: bool)
     }
 }
 
-/// The bits of the flags that the getters find set.
+/// The bits of the flags that the getters return as set.
 fn flags_of(packet: &TcpPacket<'_>) -> u16
     requires { 14 ≤ length (packet_bytes packet.now) }
 {
@@ -226,7 +226,7 @@ fn clears_flags_and_writes_the_length_alone(rt: HostRuntime) {
 }
 
 #[test]
-fn refuses_less_than_the_header(rt: HostRuntime) {
+fn rejects_less_than_the_header(rt: HostRuntime) {
     for (segment, header_len) in [(SYN.as_slice(), 20), (&SEGMENT, 24)] {
         let mut buffer = [0; 28];
         assert!(rt; segment.len() <= 28);
@@ -248,7 +248,7 @@ fn refuses_less_than_the_header(rt: HostRuntime) {
 }
 
 #[test]
-fn refuses_impossible_header_lengths(rt: HostRuntime) {
+fn rejects_impossible_header_lengths(rt: HostRuntime) {
     for (first, want) in [
         (0x00, Err(Error)),
         (0x40, Err(Error)),
@@ -379,7 +379,7 @@ fn prints_numbers_without_a_sign(rt: HostRuntime) {
     }
 }
 
-/// A clock that stands still.
+/// A clock that always returns the same time.
 fn stopped_clock() -> u32 {
     100
 }

@@ -140,7 +140,7 @@ fn finds_the_first_ranges(rt: HostRuntime) -> std::result::Result<(), Fail> {
     Ok(())
 }
 
-/// An option written over a buffer of ff, and cc over the rest that is lent behind it.
+/// An option written over a buffer of ff; the rest that is borrowed behind it is filled with cc.
 fn emitted(option: TcpOption) -> [u8; 40] {
     let mut buffer = [0xff; 40];
     if option.buffer_len() <= buffer.len() {
@@ -312,7 +312,7 @@ fn pads_behind_the_end_mark(rt: HostRuntime) {
 }
 
 #[test]
-fn refuses_malformed_options(rt: HostRuntime) {
+fn rejects_malformed_options(rt: HostRuntime) {
     for text in [
         [].as_slice(),
         &[0x0c],

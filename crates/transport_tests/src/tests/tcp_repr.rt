@@ -31,7 +31,7 @@ pub(super) fn syn() -> TcpRepr<'static> {
     }
 }
 
-/// The values of a segment without a payload that acknowledges what it got.
+/// The values of a segment without a payload that acknowledges.
 fn ack() -> TcpRepr<'static> {
     TcpRepr {
         control: TcpControl::None,
@@ -46,7 +46,7 @@ fn flagged(control: TcpControl) -> TcpRepr<'static> {
     TcpRepr { control, ..ack() }
 }
 
-/// What a value is written as over bytes of this value, and its length: none where it has no room.
+/// The emitted bytes of a value, over bytes of this value, and its length. `None` if it does not fit.
 fn emitted(value: &TcpRepr<'_>, fill: u8, caps: &ChecksumCapabilities) -> ([u8; 64], usize)
     ensures { result.1 ≤ 64 }
 {
@@ -109,7 +109,7 @@ fn reads_a_segment(rt: HostRuntime) -> std::result::Result<(), Fail> {
 }
 
 #[test]
-fn refuses_fin_and_rst_at_once(rt: HostRuntime) -> std::result::Result<(), Fail> {
+fn rejects_fin_and_rst_at_once(rt: HostRuntime) -> std::result::Result<(), Fail> {
     let (src, dst) = ends();
     let packet = TcpPacket::new_checked(&SEGMENT)?;
     let ignored = ChecksumCapabilities::ignored();
@@ -134,7 +134,7 @@ fn writes_no_checksum_where_none_is_wanted(rt: HostRuntime) -> std::result::Resu
     Ok(())
 }
 
-/// How long the payload is that is read.
+/// The length of the parsed payload.
 fn payload_len(bytes: &[u8], caps: &ChecksumCapabilities) -> Result<usize> {
     let (src, dst) = ends();
     let packet = TcpPacket::new_unchecked(bytes);
@@ -173,7 +173,7 @@ fn reads_a_segment_that_was_cut(rt: HostRuntime) {
 }
 
 #[test]
-fn refuses_fin_and_rst_at_any_length(rt: HostRuntime) {
+fn rejects_fin_and_rst_at_any_length(rt: HostRuntime) {
     for len in 0..=28 {
         let read = payload_len(&SEGMENT[..len], &ChecksumCapabilities::ignored());
         assert_eq!(rt; read, Err(Error));
@@ -181,7 +181,7 @@ fn refuses_fin_and_rst_at_any_length(rt: HostRuntime) {
 }
 
 #[test]
-fn refuses_impossible_header_lengths(rt: HostRuntime) {
+fn rejects_impossible_header_lengths(rt: HostRuntime) {
     for (first, want) in [
         (0x40, Err(Error)),
         (0x50, Ok(4)),
@@ -210,7 +210,7 @@ fn segment(options: &[u8]) -> ([u8; 60], usize)
     (bytes, len)
 }
 
-// These options are read as this value.
+// These options parse as this value.
 fn are_read_as(rt: &impl Abort, options: &[u8], want: Result<TcpRepr<'_>>) {
     assert!(rt; options.len() <= 40);
     let (src, dst) = ends();
@@ -281,7 +281,7 @@ fn reads_ranges(rt: HostRuntime) {
     }
 }
 
-// The value has a header with these options, whatever stood in its place, and nothing else changes.
+// The header of the value has these options, whatever the buffer held before, and nothing else changes.
 fn is_written_as(
     rt: &impl Abort,
     value: &TcpRepr<'_>,

@@ -26,7 +26,7 @@ const PACKET_OVER_IPV6: [u8; 12] = [
     0x00, 0x01, 0x00, 0x02, 0x00, 0x0c, 0x02, 0x4e, 0xff, 0xff, 0xff, 0xff,
 ];
 
-/// A datagram from 192.168.1.1 to 192.168.1.2 with no payload, whose sum of 0 is sent as ffff.
+/// A datagram from 192.168.1.1 to 192.168.1.2 with no payload, whose checksum of 0 is sent as ffff.
 const SUM_OF_0: [u8; 8] = [0x00, 0x01, 0x7c, 0x89, 0x00, 0x08, 0xff, 0xff];
 
 /// The values of its header.
@@ -73,7 +73,7 @@ fn ipv6_ends() -> (IpAddress, IpAddress)
     )
 }
 
-/// That UDP's checksum is computed or verified at these times.
+/// Capabilities that compute or verify the UDP checksum in these cases.
 fn udp(when: Checksum) -> ChecksumCapabilities {
     ChecksumCapabilities {
         udp: when,
@@ -81,13 +81,13 @@ fn udp(when: Checksum) -> ChecksumCapabilities {
     }
 }
 
-/// What bytes are read as over IPv4.
+/// The value that bytes parse as over IPv4.
 fn parse_over_ipv4(bytes: &[u8], caps: &ChecksumCapabilities) -> Result<UdpRepr> {
     let (src, dst) = ipv4_ends();
     UdpRepr::parse(&UdpPacket::new_unchecked(bytes), &src, &dst, caps)
 }
 
-/// What they are read as over IPv6.
+/// The value that they parse as over IPv6.
 fn parse_over_ipv6(bytes: &[u8], caps: &ChecksumCapabilities) -> Result<UdpRepr> {
     let (src, dst) = ipv6_ends();
     UdpRepr::parse(&UdpPacket::new_unchecked(bytes), &src, &dst, caps)
@@ -161,7 +161,7 @@ fn an_updated_checksum_of_0_is_written_as_ffff(rt: HostRuntime) {
     assert_eq!(rt; buffer, SUM_OF_0);
 }
 
-/// The checksum after one address became another.
+/// The checksum after one address was replaced.
 fn checksum_between_others(packet: [u8; 12], old: &IpAddress, new: &IpAddress) -> u16
     requires { version_of old.now ≡ version_of new.now }
 {
@@ -206,7 +206,7 @@ fn padding_is_no_payload(rt: HostRuntime) -> std::result::Result<(), Fail> {
 }
 
 #[test]
-fn refuses_less_than_the_packet(rt: HostRuntime) {
+fn rejects_less_than_the_packet(rt: HostRuntime) {
     let mut buffer = PACKET;
     for len in 0..=12 {
         let want = if len < 12 { Err(Error) } else { Ok(()) };

@@ -1,4 +1,4 @@
-//! A view of the bytes of an IP packet, whose version is to be found out.
+//! A view of an IP packet of either version.
 
 ghost use Rattle.std.specs.Prelude.{◌≡◌, ◌↔◌, ◌≤◌, IfOk, IsOk, length};
 ghost use Rattle.wire_field.specs.Field.{field};
@@ -11,21 +11,21 @@ use wire_ends::IpVersion;
 use wire_ipv4::Ipv4Packet;
 use wire_ipv6::Ipv6Packet;
 
-/// A view of the bytes of a packet of either version.
+/// A view of a borrowed IP packet of either version.
 #[derive(Debug, Clone, Copy, PartialEq, Eq)]
 pub struct IpPacket<'a> {
     buffer: &'a [u8],
 }
 
 impl<'a> IpPacket<'a> {
-    /// The view of any bytes.
+    /// A view of any bytes. Nothing is checked.
     pub fn new_unchecked(buffer: &'a [u8]) -> IpPacket<'a>
         ensures { packet_bytes result ≡ buffer.now }
     {
         IpPacket { buffer }
     }
 
-    /// The view of bytes that hold a version.
+    /// A view of bytes that `check_len` accepts, else an error.
     pub fn new_checked(buffer: &'a [u8]) -> Result<IpPacket<'a>>
         ensures ok { IsOk result ↔ (1 ≤ length buffer.now) }
         ensures bytes { IfOk result (λ packet. packet_bytes packet ≡ buffer.now) }
@@ -35,7 +35,7 @@ impl<'a> IpPacket<'a> {
         Ok(packet)
     }
 
-    /// Ok exactly if there are bytes. Then `version` may be called.
+    /// Checks that there is at least one byte. After `Ok`, `version` may be called.
     pub fn check_len(&self) -> Result<()>
         ensures { IsOk result ↔ (1 ≤ length (packet_bytes self.now)) }
     {
@@ -46,14 +46,14 @@ impl<'a> IpPacket<'a> {
         }
     }
 
-    /// The borrowed bytes, with their own lifetime.
+    /// The borrowed slice, with its own lifetime.
     pub fn into_inner(self) -> &'a [u8]
         ensures { result.now ≡ packet_bytes self.entry }
     {
         self.buffer
     }
 
-    /// The version, of 4 bits, which need not be one of `IpVersion`.
+    /// The version field, of 4 bits. It need not be 4 or 6.
     pub fn version(&self) -> u8
         requires { 1 ≤ length (packet_bytes self.now) }
         ensures { result ≡ field (packet_bytes self.now) 0 4 }
@@ -61,8 +61,8 @@ impl<'a> IpPacket<'a> {
         self.buffer[0] >> 4
     }
 
-    /// What follows the header, up to the packet's length: for IPv6 extension headers too. An error for a
-    /// version other than 4 and 6, and where the bytes do not hold the whole packet.
+    /// The payload: the bytes behind the header, up to the end of the packet. IPv6 extension headers are part
+    /// of it. Fails for a version other than 4 and 6, and if the lengths are invalid.
     pub fn payload(&self) -> Result<&'a [u8]>
         ensures version { IsOk result → (v : IpVersion) × IsOfVersion (packet_bytes self.now) v }
         ensures ok { (v : IpVersion) → IsOfVersion (packet_bytes self.now) v → IsOk result ↔ HasLengths (packet_bytes self.now) v }

@@ -14,7 +14,7 @@ use wire_ends::{IpAddress, IpProtocol, IpVersion};
 use wire_ipv4::{IPV4_MAX_PAYLOAD_LEN, Ipv4Packet, Ipv4PacketMut, Ipv4Repr};
 use wire_ipv6::{IPV6_MAX_PAYLOAD_LEN, Ipv6Packet, Ipv6PacketMut, Ipv6Repr};
 
-/// The values of a packet's header, whose version is that of its addresses.
+/// The values of an IP header of either version.
 #[derive(Debug, Clone, Copy, PartialEq, Eq)]
 pub enum IpRepr {
     Ipv4(Ipv4Repr),
@@ -38,7 +38,7 @@ impl From<Ipv6Repr> for IpRepr {
 }
 
 impl IpRepr {
-    /// The values of a header between two addresses of one version.
+    /// The header for two addresses of one version.
     pub fn new(
         src_addr: IpAddress,
         dst_addr: IpAddress,
@@ -73,8 +73,8 @@ impl IpRepr {
         }
     }
 
-    /// The values of a packet's header, as those of the version that its first four bits number.
-    /// The checksum of an IPv4 header is verified if `caps` says so.
+    /// Parses a header by the version in its first four bits. The checksum of an IPv4 header is
+    /// verified if `caps` asks for it.
     pub fn parse(packet: &IpPacket<'_>, caps: &ChecksumCapabilities) -> Result<IpRepr>
         ensures reads { (v : IpRepr) → (result ≡ Ok v) ↔ Reads (packet_bytes packet.now) (verifies caps.now.ipv4) v }
         ensures value { ip_of (verifies caps.now.ipv4) (packet_bytes packet.now) ≡ result_ok result }
@@ -102,7 +102,7 @@ impl IpRepr {
         }
     }
 
-    /// The address of the sender.
+    /// The source address.
     pub fn src_addr(&self) -> IpAddress
         ensures { result ≡ src_addr_of self.now }
     {
@@ -112,7 +112,7 @@ impl IpRepr {
         }
     }
 
-    /// The address of the receiver.
+    /// The destination address.
     pub fn dst_addr(&self) -> IpAddress
         ensures { result ≡ dst_addr_of self.now }
     {
@@ -132,7 +132,7 @@ impl IpRepr {
         }
     }
 
-    /// The length of the payload, in octets.
+    /// The length of the payload in octets.
     pub fn payload_len(&self) -> usize
         ensures { result ≡ payload_len_of self.now }
     {
@@ -142,7 +142,7 @@ impl IpRepr {
         }
     }
 
-    /// Puts another length of the payload, in octets.
+    /// Sets the length of the payload in octets.
     pub fn set_payload_len(&mut self, length: usize)
         ensures { self.new ≡ with_payload_len self.old length }
     {
@@ -152,7 +152,7 @@ impl IpRepr {
         }
     }
 
-    /// How many more hops the packet may take.
+    /// The hop limit, or the time to live of IPv4.
     pub fn hop_limit(&self) -> u8
         ensures { result ≡ hop_limit_of self.now }
     {
@@ -162,7 +162,7 @@ impl IpRepr {
         }
     }
 
-    /// The length of the header that `emit` writes, in octets.
+    /// The length of the emitted header in octets.
     pub fn header_len(&self) -> usize
         ensures { result ≡ header_len_of self.now }
     {
@@ -172,7 +172,7 @@ impl IpRepr {
         }
     }
 
-    /// The length of the longest payload that the header can express, in octets.
+    /// The length of the longest payload that the header can express in octets.
     pub fn max_payload_len(&self) -> usize
         ensures { result ≡ max_payload_len self.now }
     {
@@ -182,7 +182,7 @@ impl IpRepr {
         }
     }
 
-    /// The length of the packet, its header and its payload, in octets.
+    /// The length of the packet in octets: header and payload.
     pub fn buffer_len(&self) -> usize
         requires { header_len_of self.now + payload_len_of self.now < 2 ^ 64 }
         ensures { result ≡ header_len_of self.now + payload_len_of self.now }
@@ -190,8 +190,8 @@ impl IpRepr {
         self.header_len() + self.payload_len()
     }
 
-    /// Writes the header. All bytes behind it stay unchanged. The checksum of an IPv4 header is
-    /// computed if `caps` says so, else 0.
+    /// Writes the header. All bytes behind it stay. The checksum of an IPv4 header is
+    /// computed if `caps` asks for it, else it is 0.
     #[inline(always)]
     pub fn emit(&self, buffer: &mut [u8], caps: &ChecksumCapabilities)
         requires room { header_len_of self.now ≤ length buffer.old }

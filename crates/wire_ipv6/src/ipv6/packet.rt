@@ -1,4 +1,4 @@
-//! A view that reads the bytes of an IPv6 packet.
+//! Views of IPv6 packets, and their getters.
 
 ghost use Rattle.std.specs.Prelude.{◌≡◌, ◌↔◌, ◌≤◌, IfOk, IsOk, Some, length, slice_range};
 ghost use Rattle.wire_field.specs.Field.{field};
@@ -14,7 +14,7 @@ use wire_addr::Ipv6Address;
 use wire_ends::IpProtocol;
 use wire_field::{Octets, array_at, debug_view};
 
-/// A view of the bytes of a packet. Its calls ask for the bytes that they read, and for no more.
+/// A view of a borrowed IPv6 packet. A call requires only the bytes that it uses.
 #[derive(Clone, Copy, PartialEq, Eq, Drop)]
 pub struct Ipv6View<B> {
     pub(super) buffer: B,
@@ -27,15 +27,15 @@ pub type Ipv6Packet<'a> = Ipv6View<&'a [u8]>;
 pub type Ipv6PacketMut<'a> = Ipv6View<&'a mut [u8]>;
 
 impl<B: Octets> Ipv6View<B> {
-    /// The view of any bytes.
+    /// A view of any bytes. Nothing is checked.
     pub fn new_unchecked(buffer: B) -> Ipv6View<B>
         ensures { packet_slice result ≡ buffer }
     {
         Ipv6View { buffer }
     }
 
-    /// Whether the lengths are valid: the bytes hold a whole header and the length that it names.
-    /// Then each call of this view may be made, until the payload's length is written.
+    /// Checks the lengths: the bytes hold a whole header, and a payload of the length that it names.
+    /// After `Ok` every call of this view may be made, until the payload length is written.
     pub fn check_len(&self) -> Result<()>
         ensures { IsOk result ↔ HasLengths (B.octets (packet_slice self.now)) }
     {
@@ -47,28 +47,28 @@ impl<B: Octets> Ipv6View<B> {
         }
     }
 
-    /// The borrowed bytes, with their own lifetime.
+    /// The borrowed slice, with its own lifetime.
     pub fn into_inner(self) -> B
         ensures { result ≡ packet_slice self }
     {
         self.buffer
     }
 
-    /// The bytes.
+    /// The bytes under the view.
     pub fn as_bytes(&self) -> &[u8]
         ensures { result.now ≡ B.octets (packet_slice self.now) }
     {
         self.buffer.octets()
     }
 
-    /// A view that reads the same bytes.
+    /// A reading view of the same bytes.
     pub fn as_view(&self) -> Ipv6Packet<'_>
         ensures { packet_bytes result ≡ B.octets (packet_slice self.now) }
     {
         Ipv6View::new_unchecked(self.as_bytes())
     }
 
-    /// The length of the header in octets, which is the same for every packet.
+    /// The length of the header in octets, which is always 40.
     pub fn header_len(&self) -> usize
         ensures { result ≡ 40 }
     {
@@ -100,7 +100,7 @@ impl<B: Octets> Ipv6View<B> {
         NetworkEndian::read_u24(&self.as_bytes()[1..4]) & 0x000f_ffff
     }
 
-    /// The length of what follows the header, in octets. Extension headers are counted.
+    /// The length of the payload in octets. Extension headers are counted.
     pub fn payload_len(&self) -> u16
         requires { 6 ≤ length (B.octets (packet_slice self.now)) }
         ensures { result ≡ field (B.octets (packet_slice self.now)) 32 16 }
@@ -108,7 +108,7 @@ impl<B: Octets> Ipv6View<B> {
         NetworkEndian::read_u16(&self.as_bytes()[4..6])
     }
 
-    /// The length of the packet in octets, its header included.
+    /// The length of the packet in octets: header and payload.
     pub fn total_len(&self) -> usize
         requires { 6 ≤ length (B.octets (packet_slice self.now)) }
         ensures { result ≡ total_len (B.octets (packet_slice self.now)) }
@@ -116,7 +116,7 @@ impl<B: Octets> Ipv6View<B> {
         IPV6_HEADER_LEN + usize::from(self.payload_len())
     }
 
-    /// The protocol of the payload, or the kind of the extension header that it begins with.
+    /// The next header: the protocol of the payload, or the type of the first extension header.
     #[inline(always)]
     pub fn next_header(&self) -> IpProtocol
         requires { 7 ≤ length (B.octets (packet_slice self.now)) }
@@ -125,7 +125,7 @@ impl<B: Octets> Ipv6View<B> {
         IpProtocol::from(self.as_bytes()[6])
     }
 
-    /// How many more hops the packet may take.
+    /// The hop limit: the number of hops that the packet may still take.
     pub fn hop_limit(&self) -> u8
         requires { 8 ≤ length (B.octets (packet_slice self.now)) }
         ensures { result ≡ field (B.octets (packet_slice self.now)) 56 8 }
@@ -133,7 +133,7 @@ impl<B: Octets> Ipv6View<B> {
         self.as_bytes()[7]
     }
 
-    /// The address of the sender.
+    /// The source address.
     pub fn src_addr(&self) -> Ipv6Address
         requires { 24 ≤ length (B.octets (packet_slice self.now)) }
         ensures { result ≡ slice_range (B.octets (packet_slice self.now)) 8 24 }
@@ -141,7 +141,7 @@ impl<B: Octets> Ipv6View<B> {
         Ipv6Address::from_octets(array_at(self.as_bytes(), 8))
     }
 
-    /// The address of the receiver.
+    /// The destination address.
     pub fn dst_addr(&self) -> Ipv6Address
         requires { 40 ≤ length (B.octets (packet_slice self.now)) }
         ensures { result ≡ slice_range (B.octets (packet_slice self.now)) 24 40 }
@@ -151,7 +151,7 @@ impl<B: Octets> Ipv6View<B> {
 }
 
 impl<'a> Ipv6Packet<'a> {
-    /// The view of bytes that `check_len` takes.
+    /// A view of bytes that `check_len` accepts, else an error.
     pub fn new_checked(buffer: &'a [u8]) -> Result<Ipv6Packet<'a>>
         ensures ok { IsOk result ↔ HasLengths buffer.now }
         ensures bytes { IfOk result (λ packet. packet_bytes packet ≡ buffer.now) }
@@ -161,7 +161,7 @@ impl<'a> Ipv6Packet<'a> {
         Ok(packet)
     }
 
-    /// What follows the header, up to the packet's length: what stands behind it is padding.
+    /// The payload: the bytes behind the header, up to the end of the packet. Later bytes are padding.
     pub fn payload(&self) -> &'a [u8]
         requires { HasLengths (packet_bytes self.now) }
         ensures { result.now ≡ payload_of (packet_bytes self.now) }

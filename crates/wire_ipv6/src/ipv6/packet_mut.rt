@@ -1,4 +1,4 @@
-//! A view that reads and writes the bytes of an IPv6 packet.
+//! Setters of IPv6 packets.
 
 ghost use Rattle.std.specs.Prelude.{◌≡◌, ◌↔◌, ◌≤◌, IfOk, IsOk, length};
 ghost use Rattle.std.specs.Borrow.{sem};
@@ -17,9 +17,9 @@ use wire_ends::IpProtocol;
 use wire_field::{Checked, Located, set_bits, set_bits_u16, set_bits_u24};
 
 impl<'a> Ipv6PacketMut<'a> {
-    /// The view of bytes that `check_len` takes. An error leaves them as they are.
+    /// A mutable view of bytes that `check_len` accepts, else an error. Rejected bytes are unchanged.
     pub fn new_checked(buffer: &'a mut [u8]) -> Result<Ipv6PacketMut<'a>>
-        ensures* refused { sem 𝓛 (StaysIfErr buffer.entry packet_slice result) }
+        ensures* rejected { sem 𝓛 (StaysIfErr buffer.entry packet_slice result) }
         ensures ok { IsOk result ↔ HasLengths buffer.old }
         ensures bytes { IfOk result (λ packet. Holds buffer.entry (packet_slice packet) buffer.old) }
     {
@@ -33,7 +33,7 @@ impl<'a> Ipv6PacketMut<'a> {
         }
     }
 
-    /// The payload, to be written in place. Bytes written to it go into the packet; all other bytes
+    /// The payload, to be written in place. Bytes written to it land in the packet; all other bytes
     /// stay.
     pub fn payload_mut(&mut self) -> &mut [u8]
         requires { HasLengths (packet_bytes_mut self.old) }
@@ -75,7 +75,7 @@ impl<'a> Ipv6PacketMut<'a> {
         set_bits_u24(&mut self.buffer[1..4], 4, 20, value);
     }
 
-    /// Writes the length of what follows the header, in octets.
+    /// Writes the length of the payload in octets.
     pub fn set_payload_len(&mut self, value: u16)
         requires { 6 ≤ length (packet_bytes_mut self.old) }
         ensures { Becomes self.old self.new (with_field (packet_bytes_mut self.old) 32 16 value) }
@@ -83,7 +83,7 @@ impl<'a> Ipv6PacketMut<'a> {
         NetworkEndian::write_u16(&mut self.buffer[4..6], value);
     }
 
-    /// Writes the protocol of the payload.
+    /// Writes the next header.
     pub fn set_next_header(&mut self, value: IpProtocol)
         requires { 7 ≤ length (packet_bytes_mut self.old) }
         ensures { Becomes self.old self.new (with_field (packet_bytes_mut self.old) 48 8 (number_of value)) }
@@ -91,7 +91,7 @@ impl<'a> Ipv6PacketMut<'a> {
         self.buffer[6] = value.into();
     }
 
-    /// Writes how many more hops the packet may take.
+    /// Writes the hop limit.
     pub fn set_hop_limit(&mut self, value: u8)
         requires { 8 ≤ length (packet_bytes_mut self.old) }
         ensures { Becomes self.old self.new (with_field (packet_bytes_mut self.old) 56 8 value) }
@@ -99,7 +99,7 @@ impl<'a> Ipv6PacketMut<'a> {
         self.buffer[7] = value;
     }
 
-    /// Writes the address of the sender.
+    /// Writes the source address.
     pub fn set_src_addr(&mut self, value: Ipv6Address)
         requires { 24 ≤ length (packet_bytes_mut self.old) }
         ensures { Becomes self.old self.new (with_range (packet_bytes_mut self.old) 8 24 value) }
@@ -107,7 +107,7 @@ impl<'a> Ipv6PacketMut<'a> {
         self.buffer[8..24].copy_from_slice(&value.octets());
     }
 
-    /// Writes the address of the receiver.
+    /// Writes the destination address.
     pub fn set_dst_addr(&mut self, value: Ipv6Address)
         requires { 40 ≤ length (packet_bytes_mut self.old) }
         ensures { Becomes self.old self.new (with_range (packet_bytes_mut self.old) 24 40 value) }
@@ -116,7 +116,7 @@ impl<'a> Ipv6PacketMut<'a> {
     }
 }
 
-// Whether the lengths are valid: the bytes hold a whole header and the length that it names.
+// The slice, and whether `check_len` accepts it.
 fn check(bytes: &mut [u8]) -> Checked<'_>
     ensures { Checks bytes.entry (HasLengths bytes.old) result }
 {
@@ -124,7 +124,7 @@ fn check(bytes: &mut [u8]) -> Checked<'_>
     Checked { bytes, ok }
 }
 
-// Where the payload stands in the bytes of a packet.
+// The slice, and the range of the payload in it.
 fn locate_payload(bytes: &mut [u8]) -> Located<'_>
     requires { HasLengths bytes.old }
     ensures { Locates bytes.entry 40 (total_len bytes.old) result }

@@ -12,22 +12,22 @@ use std::fmt;
 use wire_addr::Ipv6Address;
 use wire_ends::IpProtocol;
 
-// Version 6 before a traffic class and a flow label of 0.
+// The first 4 bytes of the header: version 6, traffic class 0, flow label 0.
 const VERSION_6: u32 = 0x6000_0000;
 
-/// The fields of a header that upper layers need: no traffic class, no flow label.
+/// The fields of a header that upper layers need, without traffic class and flow label.
 #[derive(Debug, Clone, Copy, PartialEq, Eq)]
 pub struct Ipv6Repr {
     pub src_addr: Ipv6Address,
     pub dst_addr: Ipv6Address,
     pub next_header: IpProtocol,
-    /// In octets, extension headers included.
+    /// The length of the payload in octets, with extension headers.
     pub payload_len: usize,
     pub hop_limit: u8,
 }
 
 impl Ipv6Repr {
-    /// The values of a packet's header. Traffic class and flow label are skipped.
+    /// Parses the header of a packet. Traffic class and flow label are ignored.
     #[inline(always)]
     pub fn parse(packet: &Ipv6Packet<'_>) -> Result<Ipv6Repr>
         ensures reads { (v : Ipv6Repr) → (result ≡ Ok v) ↔ Reads (packet_bytes packet.now) v }
@@ -47,15 +47,14 @@ impl Ipv6Repr {
         })
     }
 
-    /// The length of the header that `emit` writes, in octets.
+    /// The length of the emitted header in octets.
     pub fn buffer_len(&self) -> usize
         ensures { result ≡ 40 }
     {
         IPV6_HEADER_LEN
     }
 
-    /// Writes the header. All bytes behind it stay unchanged. Traffic class and flow label become
-    /// 0.
+    /// Writes the header, with traffic class and flow label 0. All bytes behind it stay.
     pub fn emit(&self, packet: &mut Ipv6PacketMut<'_>)
         requires room { 40 ≤ length (packet_bytes_mut packet.old) }
         requires payload_len { self.now.payload_len ≤ 65535 }

@@ -1,4 +1,4 @@
-//! A view that reads the bytes of an IPv6 fragment header.
+//! Views of IPv6 fragment headers, and their getters.
 
 ghost use Rattle.std.specs.Prelude.{◌≡◌, ◌↔◌, ◌≤◌, IfOk, IsOk, IsTrue, Some, length};
 ghost use Rattle.wire_field.specs.Field.{field};
@@ -10,8 +10,8 @@ use net_base::{Error, Result};
 use std::fmt;
 use wire_field::{Octets, debug_view, is_bit_set};
 
-/// A view of the bytes of a fragment header, the next header and the reserved byte left out. Its calls
-/// ask for the bytes that they read, and for no more.
+/// A view of a borrowed fragment header, without the next header and the reserved byte. A call
+/// requires only the bytes that it uses.
 #[derive(Clone, Copy, PartialEq, Eq, Drop)]
 pub struct Ipv6FragmentView<B> {
     pub(super) buffer: B,
@@ -24,14 +24,14 @@ pub type Ipv6FragmentHeader<'a> = Ipv6FragmentView<&'a [u8]>;
 pub type Ipv6FragmentHeaderMut<'a> = Ipv6FragmentView<&'a mut [u8]>;
 
 impl<B: Octets> Ipv6FragmentView<B> {
-    /// The view of any bytes.
+    /// A view of any bytes. Nothing is checked.
     pub fn new_unchecked(buffer: B) -> Ipv6FragmentView<B>
         ensures { header_slice result ≡ buffer }
     {
         Ipv6FragmentView { buffer }
     }
 
-    /// Ok exactly if the bytes hold a header. Then every getter and setter may be called.
+    /// Checks the length. After `Ok` every call of this view may be made.
     pub fn check_len(&self) -> Result<()>
         ensures { IsOk result ↔ (6 ≤ length (B.octets (header_slice self.now))) }
     {
@@ -42,28 +42,28 @@ impl<B: Octets> Ipv6FragmentView<B> {
         }
     }
 
-    /// The borrowed bytes, with their own lifetime.
+    /// The borrowed slice, with its own lifetime.
     pub fn into_inner(self) -> B
         ensures { result ≡ header_slice self }
     {
         self.buffer
     }
 
-    /// The bytes.
+    /// The bytes under the view.
     pub fn as_bytes(&self) -> &[u8]
         ensures { result.now ≡ B.octets (header_slice self.now) }
     {
         self.buffer.octets()
     }
 
-    /// A view that reads the same bytes.
+    /// A reading view of the same bytes.
     pub fn as_view(&self) -> Ipv6FragmentHeader<'_>
         ensures { header_bytes result ≡ B.octets (header_slice self.now) }
     {
         Ipv6FragmentView::new_unchecked(self.as_bytes())
     }
 
-    /// Where the fragment begins in the fragmentable part of the whole packet, in units of 8 octets.
+    /// The fragment offset: where the fragment begins in the fragmentable part, in units of 8 octets.
     pub fn frag_offset(&self) -> u16
         requires { 2 ≤ length (B.octets (header_slice self.now)) }
         ensures { result ≡ field (B.octets (header_slice self.now)) 0 13 }
@@ -71,7 +71,7 @@ impl<B: Octets> Ipv6FragmentView<B> {
         NetworkEndian::read_u16(&self.as_bytes()[0..2]) >> 3
     }
 
-    /// Whether more fragments follow this one.
+    /// Returns `true` if more fragments follow this one.
     pub fn more_frags(&self) -> bool
         requires { 2 ≤ length (B.octets (header_slice self.now)) }
         ensures { IsTrue result ↔ (field (B.octets (header_slice self.now)) 15 1 ≡ 1) }
@@ -79,7 +79,7 @@ impl<B: Octets> Ipv6FragmentView<B> {
         is_bit_set(self.as_bytes(), 15)
     }
 
-    /// The number that the fragments of a packet share.
+    /// The identification, which all fragments of a packet share.
     pub fn ident(&self) -> u32
         requires { 6 ≤ length (B.octets (header_slice self.now)) }
         ensures { result ≡ field (B.octets (header_slice self.now)) 16 32 }
@@ -89,7 +89,7 @@ impl<B: Octets> Ipv6FragmentView<B> {
 }
 
 impl<'a> Ipv6FragmentHeader<'a> {
-    /// The view of bytes that hold a header.
+    /// A view of bytes that `check_len` accepts, else an error.
     pub fn new_checked(buffer: &'a [u8]) -> Result<Ipv6FragmentHeader<'a>>
         ensures ok { IsOk result ↔ (6 ≤ length buffer.now) }
         ensures bytes { IfOk result (λ header. header_bytes header ≡ buffer.now) }
@@ -106,7 +106,7 @@ impl<B: Octets> fmt::Debug for Ipv6FragmentView<B> {
     }
 }
 
-/// The values of the header, or the error where the bytes hold none.
+/// Prints the values of the header, or an error if the bytes hold none.
 impl fmt::Display for Ipv6FragmentHeader<'_> {
     ghost output = { λ header. Some (header_text (header_bytes header)) };
 

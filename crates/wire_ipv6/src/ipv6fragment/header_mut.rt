@@ -1,4 +1,4 @@
-//! A view that reads and writes the bytes of an IPv6 fragment header.
+//! Setters of IPv6 fragment headers.
 
 ghost use Rattle.std.specs.Prelude.{◌↔◌, ◌≤◌, if◌then◌else◌, IfOk, IsOk, length};
 ghost use Rattle.std.specs.Borrow.{sem};
@@ -13,9 +13,9 @@ use net_base::{Error, Result};
 use wire_field::{Checked, set_bits, set_bits_u16};
 
 impl<'a> Ipv6FragmentHeaderMut<'a> {
-    /// The view of bytes that hold a header. An error leaves them as they are.
+    /// A mutable view of bytes that `check_len` accepts, else an error. Rejected bytes are unchanged.
     pub fn new_checked(buffer: &'a mut [u8]) -> Result<Ipv6FragmentHeaderMut<'a>>
-        ensures* refused { sem 𝓛 (StaysIfErr buffer.entry header_slice result) }
+        ensures* rejected { sem 𝓛 (StaysIfErr buffer.entry header_slice result) }
         ensures ok { IsOk result ↔ (6 ≤ length buffer.old) }
         ensures bytes { IfOk result (λ header. Holds buffer.entry (header_slice header) buffer.old) }
     {
@@ -29,7 +29,7 @@ impl<'a> Ipv6FragmentHeaderMut<'a> {
         }
     }
 
-    /// Writes where the fragment begins in units of 8 octets, cut to 13 bits.
+    /// Writes the fragment offset in units of 8 octets, cut to 13 bits.
     pub fn set_frag_offset(&mut self, value: u16)
         requires { 2 ≤ length (header_bytes_mut self.old) }
         ensures { Becomes self.old self.new (with_field (header_bytes_mut self.old) 0 13 value) }
@@ -37,7 +37,7 @@ impl<'a> Ipv6FragmentHeaderMut<'a> {
         set_bits_u16(&mut self.buffer[0..2], 0, 13, value);
     }
 
-    /// Writes whether more fragments follow this one.
+    /// Writes the flag for more fragments.
     pub fn set_more_frags(&mut self, value: bool)
         requires { 2 ≤ length (header_bytes_mut self.old) }
         ensures { Becomes self.old self.new (with_field (header_bytes_mut self.old) 15 1 (if value then 1 else 0)) }
@@ -45,7 +45,7 @@ impl<'a> Ipv6FragmentHeaderMut<'a> {
         set_bits(self.buffer, 15, 1, value.into());
     }
 
-    /// Writes the number that the fragments of a packet share.
+    /// Writes the identification.
     pub fn set_ident(&mut self, value: u32)
         requires { 6 ≤ length (header_bytes_mut self.old) }
         ensures { Becomes self.old self.new (with_field (header_bytes_mut self.old) 16 32 value) }
@@ -62,7 +62,7 @@ impl<'a> Ipv6FragmentHeaderMut<'a> {
     }
 }
 
-// Whether the bytes hold a header.
+// The slice, and whether `check_len` accepts it.
 fn check(bytes: &mut [u8]) -> Checked<'_>
     ensures { Checks bytes.entry (6 ≤ length bytes.old) result }
 {

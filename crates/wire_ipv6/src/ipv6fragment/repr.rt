@@ -12,17 +12,17 @@ use std::fmt;
 /// The values of a fragment header.
 #[derive(Debug, Clone, Copy, PartialEq, Eq)]
 pub struct Ipv6FragmentRepr {
-    /// Where the fragment begins in the fragmentable part of the whole packet, in units of 8 octets: up
-    /// to 8,191.
+    /// The fragment offset: where the fragment begins in the fragmentable part, in units of 8 octets, at
+    /// most 8,191.
     pub frag_offset: u16,
-    /// Whether more fragments follow this one.
+    /// Set if more fragments follow this one.
     pub more_frags: bool,
-    /// The number that the fragments of a packet share.
+    /// The identification, which all fragments of a packet share.
     pub ident: u32,
 }
 
 impl Ipv6FragmentRepr {
-    /// The values of a header, whatever its reserved bits are. Bytes that hold no header are
+    /// Parses a header. The reserved bits are ignored. Bytes that are too short for a header are
     /// rejected.
     pub fn parse(header: &Ipv6FragmentHeader<'_>) -> Result<Ipv6FragmentRepr>
         ensures reads { (v : Ipv6FragmentRepr) → (result ≡ Ok v) ↔ Reads (header_bytes header.now) v }
@@ -37,14 +37,14 @@ impl Ipv6FragmentRepr {
         })
     }
 
-    /// The length of the header that `emit` writes, in octets.
+    /// The length of the emitted header in octets.
     pub fn buffer_len(&self) -> usize
         ensures { result ≡ 6 }
     {
         HEADER_LEN
     }
 
-    /// Writes the header. All bytes behind it stay unchanged. The offset is cut to 13 bits, and the
+    /// Writes the header. All bytes behind it stay. The offset is cut to 13 bits, and the
     /// reserved bits are zeroed.
     pub fn emit(&self, header: &mut Ipv6FragmentHeaderMut<'_>)
         requires { 6 ≤ length (header_bytes_mut header.old) }

@@ -22,7 +22,7 @@ impl<'a> TcpPacketMut<'a> {
     /// A mutable view of bytes that `check_len` accepts, else an error. Rejected bytes are
     /// unchanged.
     pub fn new_checked(buffer: &'a mut [u8]) -> Result<TcpPacketMut<'a>>
-        ensures* refused { sem 𝓛 (StaysIfErr buffer.entry packet_slice result) }
+        ensures* rejected { sem 𝓛 (StaysIfErr buffer.entry packet_slice result) }
         ensures ok { IsOk result ↔ HasLengths buffer.old }
         ensures bytes { IfOk result (λ packet. Holds buffer.entry (packet_slice packet) buffer.old) }
     {

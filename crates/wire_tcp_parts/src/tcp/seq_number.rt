@@ -9,8 +9,8 @@ use std::ops::{Add, AddAssign, Sub};
 
 /// A sequence number, modulo 2<sup>32</sup>, as an `i32` with the same bits.
 ///
-/// A number is before another one if the way forward to it is shorter than the way back. If both
-/// are 2<sup>31</sup> steps apart, each is before the other. So this is no order.
+/// A number is before another if the way forward to it is shorter than the way back. If both are
+/// 2<sup>31</sup> steps apart, each is before the other, so this is not a total order.
 #[derive(Debug, Clone, Copy, PartialEq, Eq, Default)]
 pub struct TcpSeqNumber(pub i32);
 

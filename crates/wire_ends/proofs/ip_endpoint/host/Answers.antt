@@ -1,12 +1,12 @@
 use Rattle.wire_ends.specs.Endpoint.{ReadsHost}
-use Rattle.wire_text.proofs.Refusals.{refused}
+use Rattle.wire_text.proofs.Rejections.{rejected}
 use Rattle.wire_ends.proofs.EndTexts.{no_inner_host, no_plain_host}
 use Rattle.wire_ends.proofs.ip_endpoint.host.Goals as goal
 
 pub returns-in_err-parse_ascii-in-Some : goal.returns-in_err-parse_ascii-in-Some
 returns-in_err-parse_ascii-in-Some c =
-    refused ReadsHost c.args.text.now _ c.from_residual.ensures.0 (no_inner_host c.args.text.now c.in-Some.inner.now c.in-Some.ensures c.in_err-parse_ascii-in-Some.ensures)
+    rejected ReadsHost c.args.text.now _ c.from_residual.ensures.0 (no_inner_host c.args.text.now c.in-Some.inner.now c.in-Some.ensures c.in_err-parse_ascii-in-Some.ensures)
 
 pub returns-in_err-parse_ascii-in-None : goal.returns-in_err-parse_ascii-in-None
 returns-in_err-parse_ascii-in-None c =
-    refused ReadsHost c.args.text.now _ c.from_residual-in_err-parse_ascii-in-None.ensures.0 (no_plain_host c.args.text.now c.in-None.ensures c.in_err-parse_ascii-in-None.ensures)
+    rejected ReadsHost c.args.text.now _ c.from_residual-in_err-parse_ascii-in-None.ensures.0 (no_plain_host c.args.text.now c.in-None.ensures c.in_err-parse_ascii-in-None.ensures)

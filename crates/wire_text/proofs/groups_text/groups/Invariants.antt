@@ -2,7 +2,7 @@ use Rattle.std.proofs.Common.{◌≡◌, ◌≤◌, ℕ, List, Option, Some, Non
 use Rattle.wire_text.specs.Reading.{groups_read, groups_from, pieces_after}
 use Rattle.wire_text.proofs.groups_text.groups.Given as goal
 
--- how many bytes are left, a text that may be empty counted as one more
+-- the number of bytes that are left; a rest that may be empty counts as one more
 abbrev left : Option (Bor (List ℕ)) → ℕ
 left None = 0
 left (Some rest) = suc (length rest.now)

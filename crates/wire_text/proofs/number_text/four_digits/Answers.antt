@@ -3,7 +3,7 @@ use Rattle.std.specs.Bool.{then_some}
 use Rattle.wire_text.proofs.Numbers.{four_read}
 use Rattle.wire_text.proofs.number_text.four_digits.Goals as goal
 
--- what a test lets through
+-- what a passed test shows
 told : (P : ℕ → Type 0) (t : Bool) (v : ℕ) → (t ≡ true → P v) → IfSome (then_some t v) P
 told P true v h = h refl
 told P false v h = tt

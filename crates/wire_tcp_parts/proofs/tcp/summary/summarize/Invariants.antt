@@ -4,7 +4,7 @@ use Rattle.wire_tcp_parts.specs.TcpItems.{Item}
 use Rattle.wire_tcp_parts.specs.TcpSummary.{summary_of}
 use Rattle.wire_tcp_parts.proofs.tcp.summary.summarize.Given as goal
 
--- some items were walked over, and the summary is of these
+-- the summary is that of the items that the walk has passed
 abbrev pub invariant-loop-rest : goal.invariant-loop-rest
 invariant-loop-rest l = (items : List Item) × Items l.options items l.rest × (l.summary ≡ summary_of items)
 

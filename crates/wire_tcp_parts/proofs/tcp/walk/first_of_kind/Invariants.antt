@@ -3,7 +3,7 @@ use Rattle.wire_tcp_parts.proofs.Walks.{Marks}
 use Rattle.wire_tcp_parts.specs.TcpWalk.{Mark, first_of}
 use Rattle.wire_tcp_parts.proofs.tcp.walk.first_of_kind.Given as goal
 
--- some marks were walked over, and none is an item of the kind
+-- no mark that the walk has passed is an item of the kind
 abbrev pub invariant-loop-rest : goal.invariant-loop-rest
 invariant-loop-rest l = (marks : List Mark) × Marks l.options marks l.rest × (first_of l.kind marks ≡ None)
 

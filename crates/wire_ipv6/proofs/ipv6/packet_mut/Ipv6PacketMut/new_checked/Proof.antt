@@ -1,4 +1,4 @@
--- `new_checked` takes bytes that hold a whole header, and as many bytes as it speaks of. Assumes `Logic`.
+-- `new_checked` accepts bytes with a whole header and the payload length that it names. Assumes `Logic`.
 use Rattle.wire_field.proofs.Checks.{error, makes_checked}
 use Rattle.wire_ipv6.specs.Ipv6.{HasLengths}
 use Rattle.wire_ipv6.proofs.Ipv6Viewed.{view}

@@ -14,8 +14,8 @@ returns-in_err-check_len-clause-value c =
 pub returns-then-version-ne6-clause-value : goal.returns-then-version-ne6-clause-value
 returns-then-version-ne6-clause-value c =
     let bytes = c.args.packet.now.buffer.now in
-    let refused : Result Ipv6Repr Error = Err (record {}) in
-    answer-computed (Reads bytes) refused (ipv6_of bytes) (search rules) (ipv6_of-Reads bytes)
+    let rejected : Result Ipv6Repr Error = Err (record {}) in
+    answer-computed (Reads bytes) rejected (ipv6_of bytes) (search rules) (ipv6_of-Reads bytes)
 
 pub returns-clause-value : goal.returns-clause-value
 returns-clause-value c = (ipv6_of-Reads c.args.packet.now.buffer.now _).1 (search rules)

@@ -1,4 +1,4 @@
--- `new_checked` takes bytes that hold a header. Assumes `Logic`.
+-- `new_checked` accepts bytes that are long enough for a header. Assumes `Logic`.
 use Prim.Native.Nat.{◌≤◌}
 use lib.ListN.{length}
 use Rattle.wire_field.proofs.Checks.{error, makes_checked}

@@ -1,4 +1,4 @@
--- `new_checked` takes bytes that hold a whole header. Assumes `Logic`.
+-- `new_checked` accepts bytes with a whole header. Assumes `Logic`.
 use Rattle.wire_field.proofs.Checks.{makes_checked}
 use Rattle.wire_tcp.specs.Tcp.{HasLengths}
 use Rattle.wire_field.proofs.Checks.{error}

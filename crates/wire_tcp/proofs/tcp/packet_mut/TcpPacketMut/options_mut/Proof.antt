@@ -1,4 +1,4 @@
--- `options_mut` lends the options. Assumes `Logic`.
+-- `options_mut` borrows the options. Assumes `Logic`.
 use mathlib.Core.List.{[], ◌∷◌}
 use Prim.Native.Nat.{◌≤◌}
 use lib.ListN.{length}

@@ -3,7 +3,7 @@ use Rattle.std.specs.Fmt.{HasWritten, IsPlainFormatter}
 use Rattle.wire_tcp.specs.TcpText.{options_text}
 use Rattle.wire_tcp.proofs.tcp.text.OptionsDisplay.fmt.Given as goal
 
--- the options that were walked over are written
+-- the options that the walk has passed are printed
 abbrev pub invariant-loop-rest : goal.invariant-loop-rest
 invariant-loop-rest g l =
     (done : List ℕ) × (options_text l.self.0.now ≡ done ++ options_text l.rest)

@@ -1,4 +1,4 @@
--- `new_checked` takes bytes that hold a whole header, and as many bytes as it speaks of. Assumes `Logic`.
+-- `new_checked` accepts bytes with a whole header and the length that it names. Assumes `Logic`.
 use Rattle.wire_field.proofs.Checks.{error, makes_checked}
 use Rattle.wire_udp.specs.Udp.{HasLengths}
 use Rattle.wire_udp.proofs.UdpViewed.{view}

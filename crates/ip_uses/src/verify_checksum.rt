@@ -9,10 +9,10 @@ ghost use Rattle.net_base.specs.Checksum.{all_are, verifies};
 use ip_wire::{IpAddress, Ipv4Address, Result, UdpPacket, UdpRepr};
 use net_base::{Checksum, ChecksumCapabilities};
 
-/// The ports of a UDP packet between two addresses. Of whole packets that name a receiver exactly those
-/// are refused whose checksum is to be verified, as `caps` says, and does not hold. One that is 0 holds:
-/// over IPv4 the sender may compute none.
-pub fn udp_ports(
+/// The ports of a UDP packet between two addresses. If `caps` asks to verify the checksum, packets with
+/// an invalid one are rejected. A checksum of 0 is valid over IPv4: the sender computed none. Packets with
+/// invalid lengths or destination port 0 are always rejected.
+pub fn parse_udp_ports(
     packet: &[u8],
     src_addr: Ipv4Address,
     dst_addr: Ipv4Address,
@@ -21,7 +21,7 @@ pub fn udp_ports(
     ensures reads { let src = IpAddress.Ipv4 src_addr in let dst = IpAddress.Ipv4 dst_addr in
         (ports : UdpRepr) → (result ≡ Ok ports)
         ↔ Reads packet.now src dst (verifies caps.now.udp) ports (payload_of packet.now) }
-    ensures refused { let src = IpAddress.Ipv4 src_addr in let dst = IpAddress.Ipv4 dst_addr in
+    ensures rejected { let src = IpAddress.Ipv4 src_addr in let dst = IpAddress.Ipv4 dst_addr in
         HasLengths packet.now → field packet.now 16 16 ≢ 0 → IsErr result
         ↔ (IsTrue (verifies caps.now.udp) × ¬ HasChecksum src dst packet.now) }
 {
@@ -34,8 +34,8 @@ pub fn udp_ports(
     )
 }
 
-/// The capabilities beside a device that verifies UDP's checksum of all that it receives and computes none:
-/// here it is computed, and not looked at.
+/// The capabilities for a device that verifies the UDP checksum of each received packet and computes
+/// none: the library computes it and does not verify it.
 pub fn verified_by_the_device() -> ChecksumCapabilities
     ensures { result ≡ record (all_are Checksum.Both) { udp = Checksum.Tx } }
 {
