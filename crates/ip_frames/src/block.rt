@@ -5,7 +5,7 @@ ghost use Rattle.hex.specs.Hex.{decode_of, encode_lower};
 ghost use Rattle.hex.specs.declared.error.FromHexError.TheVariants.{OutOfMemory};
 ghost use Rattle.ip_frames.specs.Output.{AddsBytes, again_line, block_of, frame_lines};
 ghost use Rattle.ip_wire.specs.Frame.{all_checked, rebuilt};
-ghost use Rattle.ip_wire.specs.FrameValue.{Finds, Fits, frame_len};
+ghost use Rattle.ip_wire.specs.FrameValue.{Finds, Fits, frame_bytes, frame_len};
 
 use crate::payload::push_payload;
 use hex::FromHexError;
@@ -108,9 +108,18 @@ fn rebuild(frame: &Frame<'_>, bytes: &[u8], again: &mut Vec<u8>) -> Result<(), A
     ensures { OnOk result (again.new.items ≡ rebuilt bytes.now) }
 {
     again.resize(frame.buffer_len(), 0)?;
-    frame.emit(again.as_mut_slice(), &ChecksumCapabilities::default());
+    emit(frame, again.as_mut_slice());
     laws::frame_rebuilds(bytes, frame);
     Ok(())
+}
+
+// Writes a frame with its checksums over all of `buffer`.
+fn emit(frame: &Frame<'_>, buffer: &mut [u8])
+    requires fits { Fits frame.now }
+    requires room { frame_len frame.now ≡ length buffer.old }
+    ensures { buffer.new ≡ frame_bytes all_checked frame.now }
+{
+    frame.emit(buffer, &ChecksumCapabilities::default());
 }
 
 // The text, followed by the line with a rebuilt frame.
