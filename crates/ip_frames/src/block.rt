@@ -3,15 +3,14 @@
 ghost use Rattle.std.specs.Prelude.{[], ◌≡◌, ◌≤◌, ◌++◌, ◌⊎◌, IfErr, IfOk, OnOk, Err, Ok, drop, length, string_bytes};
 ghost use Rattle.hex.specs.Hex.{decode_of, encode_lower};
 ghost use Rattle.hex.specs.declared.error.FromHexError.TheVariants.{OutOfMemory};
-ghost use Rattle.ip_frames.specs.Output.{AddsBytes, AddsText, again_line, block_of, frame_lines, payload_lines};
-ghost use Rattle.ip_wire.specs.Ethernet.{bytes_of};
-ghost use Rattle.ip_wire.specs.Frame.{rebuilt_payload};
+ghost use Rattle.ip_frames.specs.Output.{AddsBytes, again_line, block_of, frame_lines};
+ghost use Rattle.ip_wire.specs.Frame.{all_checked, rebuilt};
+ghost use Rattle.ip_wire.specs.FrameValue.{Finds, Fits, frame_bytes, frame_len};
 
-use crate::{arp, ipv4, ipv6};
+use crate::payload::push_payload;
 use hex::FromHexError;
-use ip_wire::{
-    ETHERNET_HEADER_LEN, EthernetFrame, EthernetFrameMut, EthernetProtocol, EthernetRepr,
-};
+use ip_wire::{EthernetFrame, Frame, laws};
+use net_base::ChecksumCapabilities;
 use std::alloc::{AllocError, Global};
 
 /// The buffers for a block. They are reused from line to line, so memory grows only if a line needs
@@ -89,24 +88,38 @@ fn decode(line: &[u8], frame: &mut Vec<u8>) -> Result<(), FromHexError>
 fn with_frame(mut text: String, bytes: &[u8], again: &mut Vec<u8>) -> Result<Vec<u8>, AllocError>
     ensures { IfOk result (λ block. block.items ≡ string_bytes text ++ frame_lines bytes.now) }
 {
-    let frame = EthernetFrame::new_unchecked(bytes);
-    writeln!(text, "{frame}")?;
-    let Ok(header) = EthernetRepr::parse(&frame) else {
-        return Ok(text.into_bytes());
-    };
-    again.clear();
-    again.resize(ETHERNET_HEADER_LEN, 0)?;
-    push_payload(header.ethertype, frame.payload(), &mut text, again)?;
-    emit_header(&header, again.as_mut_slice());
-    with_again(text, again.as_slice())
+    let view = EthernetFrame::new_unchecked(bytes);
+    writeln!(text, "{view}")?;
+    match Frame::read(bytes, &ChecksumCapabilities::default()) {
+        Ok(frame) => {
+            push_payload(&frame, view.payload(), &mut text)?;
+            rebuild(&frame, bytes, again)?;
+            with_again(text, again.as_slice())
+        }
+        Err(_) => Ok(text.into_bytes()),
+    }
 }
 
-// Writes a header over the front of `bytes`.
-fn emit_header(header: &EthernetRepr, bytes: &mut [u8])
-    requires { ETHERNET_HEADER_LEN ≤ length bytes.old }
-    ensures { bytes.new ≡ bytes_of header.now ++ drop ETHERNET_HEADER_LEN bytes.old }
+// Makes `again` the rebuilt frame.
+fn rebuild(frame: &Frame<'_>, bytes: &[u8], again: &mut Vec<u8>) -> Result<(), AllocError>
+    requires found { Finds all_checked bytes.now frame.now }
+    requires fits { Fits frame.now }
+    requires no_longer { frame_len frame.now ≤ length bytes.now }
+    ensures { OnOk result (again.new.items ≡ rebuilt bytes.now) }
 {
-    header.emit(&mut EthernetFrameMut::new_unchecked(bytes));
+    again.resize(frame.buffer_len(), 0)?;
+    emit(frame, again.as_mut_slice());
+    laws::frame_rebuilds(bytes, frame);
+    Ok(())
+}
+
+// Writes a frame with its checksums over all of `buffer`.
+fn emit(frame: &Frame<'_>, buffer: &mut [u8])
+    requires fits { Fits frame.now }
+    requires room { frame_len frame.now ≡ length buffer.old }
+    ensures { buffer.new ≡ frame_bytes all_checked frame.now }
+{
+    frame.emit(buffer, &ChecksumCapabilities::default());
 }
 
 // The text, followed by the line with a rebuilt frame.
@@ -131,22 +144,4 @@ fn push_digits(bytes: &[u8], text: &mut Vec<u8>) -> Result<(), AllocError>
     text.resize(end, 0)?;
     hex::encode_to_slice(bytes, &mut text[start..]).unwrap();
     Ok(())
-}
-
-// Appends the lines of a frame's payload to `text`, and the rebuilt payload to `again`.
-fn push_payload(
-    ethertype: EthernetProtocol,
-    bytes: &[u8],
-    text: &mut String,
-    again: &mut Vec<u8>,
-) -> Result<(), AllocError>
-    ensures lines { OnOk result (AddsText text.old text.new (payload_lines ethertype bytes.now)) }
-    ensures again { OnOk result (AddsBytes again.old again.new (rebuilt_payload ethertype bytes.now)) }
-{
-    match ethertype {
-        EthernetProtocol::Ipv4 => ipv4::push_packet(bytes, text, again),
-        EthernetProtocol::Ipv6 => ipv6::push_packet(bytes, text, again),
-        EthernetProtocol::Arp => arp::push_packet(bytes, text, again),
-        EthernetProtocol::Unknown(_) => again.extend_from_slice(bytes),
-    }
 }

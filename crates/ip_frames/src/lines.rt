@@ -1,8 +1,9 @@
 //! The lines of the input.
 
-ghost use Rattle.std.specs.Prelude.{◌≡◌, ◌<◌, ◌==◌, ◌∷◌, length};
-ghost use Rattle.std.specs.List.{position};
+ghost use Rattle.std.specs.Prelude.{◌≡◌, ◌<◌, ◌∷◌, length};
 ghost use Rattle.std.specs.Str.Lines.{lines, strip_carriage_return};
+
+use memchr::memchr;
 
 /// Splits the first line off a text that is not empty. A line ends at a line feed, and one carriage
 /// return before that is dropped. The second part is what follows the line feed.
@@ -11,17 +12,10 @@ pub fn split_line(text: &[u8]) -> (&[u8], &[u8])
     ensures lines { lines text.now ≡ result.0.now ∷ lines result.1.now }
     ensures shorter { length result.1.now < length text.now }
 {
-    match first_feed(text) {
+    match memchr(b'\n', text) {
         Some(at) => (strip_return(&text[..at]), &text[at + 1..]),
         None => (text, &[]),
     }
-}
-
-// Where the first line feed stands.
-fn first_feed(text: &[u8]) -> Option<usize>
-    ensures { result ≡ position (λ b. b == 10) text.now }
-{
-    text.iter().position(|b| *b == b'\n')
 }
 
 // A line without the carriage return at its end.

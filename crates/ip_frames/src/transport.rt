@@ -1,81 +1,102 @@
-//! The line of a transport's packet, and the rebuilt packet.
+//! The line of a UDP packet or a TCP segment.
 
-ghost use Rattle.std.specs.Prelude.{◌≡◌, ◌≤◌, ℕ, IfOk, IsTrue, List, OnOk, false, length, true};
-ghost use Rattle.ip_frames.specs.Output.{AddsBytes, AddsText, TransportFormat, lines_behind, verdict_behind};
-ghost use Rattle.ip_wire.specs.Frame.{rebuilt_transport_by};
-ghost use Rattle.ip_wire.specs.Ip.{dst_addr_of, max_payload_len, src_addr_of};
-ghost use Rattle.ip_wire.specs.declared.IpProtocol.{IpProtocol};
+ghost use Rattle.std.specs.Prelude.{◌≡◌, ◌++◌, OnOk};
+ghost use Rattle.ip_frames.specs.Output.{AddsText, ended, tcp_format, transport_lines, udp_format, unread_verdict, verdict_behind};
+ghost use Rattle.ip_wire.specs.Frame as frame;
+ghost use Rattle.ip_wire.specs.Frame.{ReadsTransport, all_checked};
+ghost use Rattle.ip_wire.specs.FrameValue.{FindsTransport};
+ghost use Rattle.ip_wire.specs.Tcp as tcp;
+ghost use Rattle.ip_wire.specs.TcpText as tcp_texts;
+ghost use Rattle.ip_wire.specs.Udp as udp;
+ghost use Rattle.ip_wire.specs.UdpText as udp_texts;
 
-use crate::unread::{end_line, push_note, unread_verdict};
-use ip_wire::IpRepr;
+use ip_wire::{IpProtocol, IpRepr, TcpPacket, TcpRepr, Transport, UdpPacket, UdpRepr};
+use net_base::ChecksumCapabilities;
 use std::alloc::AllocError;
 
-/// A packet of UDP or TCP, not read yet.
-pub trait TransportPacket {
-    // Its bytes.
-    ghost octets: { Self → List ℕ };
-
-    // What its line depends on.
-    ghost format: { TransportFormat };
-
-    // The protocol of the transport.
-    ghost protocol: { IpProtocol };
-
-    /// Appends its text.
-    fn push_text(&self, text: &mut String) -> Result<(), AllocError>
-        ensures { OnOk result (AddsText text.old text.new (format.text (octets self.now))) };
-
-    /// Whether its lengths hold.
-    fn has_lengths(&self) -> bool
-        ensures { result ≡ format.has_lengths (octets self.now) };
-
-    /// Whether it is read, whatever its checksum.
-    fn is_read(&self, ip_header: &IpRepr) -> bool
-        ensures { let v = ip_header.now in
-            result ≡ format.is_read (src_addr_of v) (dst_addr_of v) false (octets self.now) };
-
-    /// Whether its checksum is the sum of the pseudo header alone.
-    fn is_partial(&self, ip_header: &IpRepr) -> bool
-        requires { IsTrue (format.has_lengths (octets self.now)) }
-        ensures { let v = ip_header.now in
-            result ≡ format.is_partial (src_addr_of v) (dst_addr_of v) (octets self.now) };
-
-    /// Appends its bytes, rebuilt if it parses with its checksum. Returns whether it does.
-    fn push_again(&self, ip_header: &IpRepr, again: &mut Vec<u8>) -> Result<bool, AllocError>
-        requires { length (octets self.now) ≤ max_payload_len ip_header.now }
-        ensures read { let v = ip_header.now in
-            IfOk result (λ is_read. is_read ≡ format.is_read (src_addr_of v) (dst_addr_of v) true (octets self.now)) }
-        ensures again { let v = ip_header.now in
-            OnOk result (AddsBytes again.old again.new (rebuilt_transport_by protocol (src_addr_of v) (dst_addr_of v) (octets self.now))) };
-}
-
-/// Appends the line of a packet behind an IP header to `text`, and the rebuilt packet to `again`.
-pub fn push_packet<P: TransportPacket>(
-    packet: &P,
-    ip_header: &IpRepr,
+/// Appends the line of the payload of an IP packet to `text`. The value says what was parsed of
+/// `bytes`, and the views print the fields that it does not hold.
+pub fn push_transport(
+    header: &IpRepr,
+    inner: &Transport<'_>,
+    bytes: &[u8],
     text: &mut String,
-    again: &mut Vec<u8>,
 ) -> Result<(), AllocError>
-    requires { length (P.octets packet.now) ≤ max_payload_len ip_header.now }
-    ensures lines { OnOk result (AddsText text.old text.new (lines_behind P.format ip_header.now (P.octets packet.now))) }
-    ensures again { let v = ip_header.now in
-        OnOk result (AddsBytes again.old again.new (rebuilt_transport_by P.protocol (src_addr_of v) (dst_addr_of v) (P.octets packet.now))) }
+    requires { FindsTransport all_checked header.now bytes.now inner.now }
+    ensures { OnOk result (AddsText text.old text.new (transport_lines header.now bytes.now)) }
 {
-    packet.push_text(text)?;
-    if packet.push_again(ip_header, again)? {
-        end_line(text)
-    } else {
-        push_note(verdict(packet, ip_header), text)
+    match inner {
+        Transport::Udp(..) => push_udp(&UdpPacket::new_unchecked(bytes), "", text),
+        Transport::Tcp(_) => push_tcp(&TcpPacket::new_unchecked(bytes), "", text),
+        Transport::Other(_) => Ok(()),
+        Transport::Unread(_) => push_unread(header, bytes, text),
     }
 }
 
-// What is to be said of a packet that is not read with its checksum.
-fn verdict<P: TransportPacket>(packet: &P, ip_header: &IpRepr) -> &'static str
-    ensures { result.now ≡ verdict_behind P.format ip_header.now (P.octets packet.now) }
+// Appends the line of a UDP packet or a TCP segment that does not parse with its checksum.
+fn push_unread(header: &IpRepr, bytes: &[u8], text: &mut String) -> Result<(), AllocError>
+    requires { (t : frame.Transport) → ¬ ReadsTransport all_checked header.now bytes.now t }
+    ensures { OnOk result (AddsText text.old text.new (transport_lines header.now bytes.now)) }
 {
-    if packet.has_lengths() {
-        unread_verdict(packet.is_read(ip_header), packet.is_partial(ip_header))
-    } else {
-        ""
+    match header.next_header() {
+        IpProtocol::Udp => {
+            let packet = UdpPacket::new_unchecked(bytes);
+            push_udp(&packet, udp_verdict(&packet, header), text)
+        }
+        IpProtocol::Tcp => {
+            let packet = TcpPacket::new_unchecked(bytes);
+            push_tcp(&packet, tcp_verdict(&packet, header), text)
+        }
+        _ => Ok(()),
+    }
+}
+
+// Appends the line of a UDP packet, with this note.
+fn push_udp(packet: &UdpPacket<'_>, note: &str, text: &mut String) -> Result<(), AllocError>
+    ensures { OnOk result (AddsText text.old text.new (ended (udp_texts.packet_text (udp.packet_bytes packet.now) ++ note.now))) }
+{
+    writeln!(text, "{packet}{note}")
+}
+
+// Appends the line of a TCP segment, with this note.
+fn push_tcp(packet: &TcpPacket<'_>, note: &str, text: &mut String) -> Result<(), AllocError>
+    ensures { OnOk result (AddsText text.old text.new (ended (tcp_texts.packet_text (tcp.packet_bytes packet.now) ++ note.now))) }
+{
+    writeln!(text, "{packet}{note}")
+}
+
+// The note on a UDP packet that does not parse with its checksum.
+fn udp_verdict(packet: &UdpPacket<'_>, header: &IpRepr) -> &'static str
+    ensures { result.now ≡ verdict_behind udp_format header.now (udp.packet_bytes packet.now) }
+{
+    if packet.check_len().is_err() {
+        return "";
+    }
+    let (src, dst) = (header.src_addr(), header.dst_addr());
+    let is_read = UdpRepr::parse(packet, &src, &dst, &ChecksumCapabilities::ignored()).is_ok();
+    unread_verdict(is_read, packet.verify_partial_checksum(&src, &dst))
+}
+
+// The note on a TCP segment that does not parse with its checksum.
+fn tcp_verdict(packet: &TcpPacket<'_>, header: &IpRepr) -> &'static str
+    ensures { result.now ≡ verdict_behind tcp_format header.now (tcp.packet_bytes packet.now) }
+{
+    if packet.check_len().is_err() {
+        return "";
+    }
+    let (src, dst) = (header.src_addr(), header.dst_addr());
+    let is_read = TcpRepr::parse(packet, &src, &dst, &ChecksumCapabilities::ignored()).is_ok();
+    unread_verdict(is_read, packet.verify_partial_checksum(&src, &dst))
+}
+
+// The note on a UDP packet or TCP segment with valid lengths that does not parse: whether it
+// parses without its checksum, and whether the checksum is the pseudo-header sum alone.
+fn unread_verdict(is_read: bool, is_partial: bool) -> &'static str
+    ensures { result.now ≡ unread_verdict is_read is_partial }
+{
+    match (is_read, is_partial) {
+        (false, _) => " (refused)",
+        (true, true) => " (partial checksum correct)",
+        (true, false) => " (checksum incorrect)",
     }
 }

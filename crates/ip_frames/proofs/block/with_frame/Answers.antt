@@ -1,33 +1,36 @@
-use Rattle.std.proofs.Common.{◌≡◌, ◌++◌, ◌∙◌, length, Some, None, drop, replicate, ap, arith}
+use Rattle.std.proofs.Common.{◌≡◌, ◌++◌, ◌∙◌, ap, arith, drop, rules, subst}
 use Rattle.std.proofs.lemmas.Grind.{common_steps}
-use Rattle.std.proofs.lemmas.List.{take_at}
 use Rattle.std.specs.Prelude.{string_bytes}
-use Rattle.ip_frames.proofs.Texts.{frame_lines-read, frame_lines-unread}
+use Rattle.ip_frames.proofs.ReadLines.{frame_lines-read, frame_lines-unread}
 use Rattle.ip_frames.specs.Output.{again_line, ended, payload_lines}
-use Rattle.ip_wire.proofs.Frames.{rebuilt-read}
-use Rattle.ip_wire.specs.Ethernet.{bytes_of, ethernet_of, frame_text}
-use Rattle.ip_wire.specs.Frame.{rebuilt_payload}
+use Rattle.ip_wire.specs.Ethernet.{frame_text}
+use Rattle.ip_wire.specs.Frame.{all_checked, rebuilt}
+use Rattle.ip_wire.specs.FrameValue.{Finds}
 use Rattle.ip_frames.proofs.block.with_frame.Goals as goal
 
-pub returns-in_default : goal.returns-in_default
-returns-in_default c =
-    let frame = c.args.bytes.now in
-    let unread : ethernet_of frame ≡ None = grind (arith, common_steps) in
-    rw (frame_lines-unread frame unread) (grind (arith, common_steps))
+pub push_payload-requires : goal.push_payload-requires
+push_payload-requires c =
+    let caps : c.default.result ≡ all_checked = search rules in
+    let found : Finds all_checked c.args.bytes.now c.in-Ok.frame = subst (λ caps. Finds caps c.args.bytes.now c.in-Ok.frame) caps c.in-Ok.ensures.value in
+    let payload : c.payload.result.now ≡ drop 14 c.args.bytes.now = c.payload.ensures ∙ ap (λ slice. drop 14 slice.now) c.new_unchecked-view.ensures in
+    rw payload found.carried
 
-pub returns : goal.returns
-returns c =
+pub rebuild-requires-clause-found : goal.rebuild-requires-clause-found
+rebuild-requires-clause-found c =
+    let caps : c.default.result ≡ all_checked = search rules in
+    subst (λ caps. Finds caps c.args.bytes.now c.in-Ok.frame) caps c.in-Ok.ensures.value
+
+pub returns-in_ok-rebuild-in-Ok : goal.returns-in_ok-rebuild-in-Ok
+returns-in_ok-rebuild-in-Ok c =
     let frame = c.args.bytes.now in
-    let v = c.in-Ok.header in
-    let read : ethernet_of frame ≡ Some v = rw c.new_unchecked-frame.ensures at c.in-Ok.ensures.value in
-    let payload : c.payload.result.now ≡ drop 14 frame = c.payload.ensures ∙ ap (λ slice. drop 14 slice.now) c.new_unchecked-frame.ensures in
-    let again : c.as_slice.result.now ≡ bytes_of v ++ rebuilt_payload v.ethertype (drop 14 frame) =
-    let carried : c.push_payload.new.again.items ≡ replicate 14 0 ++ rebuilt_payload v.ethertype (drop 14 frame) = rw (← payload) (grind (arith, common_steps)) in
-    let kept : drop 14 c.as_mut_slice.result.now ≡ rebuilt_payload v.ethertype (drop 14 frame) = grind (arith, common_steps, carried, c.as_mut_slice.ensures.value) in
-    let long : length c.emit_header.new.bytes ≡ c.push_payload.new.again.len = grind (arith, common_steps, c.emit_header.auto.bytes) in
-    c.as_slice.ensures.value ∙ take_at c.emit_header.new.bytes _ c.push_payload.new.again.len long ∙ c.emit_header.ensures ∙ ap (λ rest. bytes_of v ++ rest) kept in
+    let v = c.in-Ok.frame.header in
+    let payload : c.payload.result.now ≡ drop 14 frame = c.payload.ensures ∙ ap (λ slice. drop 14 slice.now) c.new_unchecked-view.ensures in
+    let again : c.as_slice.result.now ≡ rebuilt frame = c.as_slice.ensures.value ∙ c.in_ok-rebuild-in-Ok.ensures in
     let lines : payload_lines v.ethertype c.payload.result.now ≡ payload_lines v.ethertype (drop 14 frame) = ap (payload_lines v.ethertype) payload in
     let above : string_bytes c.push_payload.new.text ≡ string_bytes c.args.text ++ ended (frame_text frame) ++ payload_lines v.ethertype (drop 14 frame) = rw (← lines) (grind (arith, common_steps)) in
     let whole : string_bytes c.push_payload.new.text ++ again_line c.as_slice.result.now
     ≡ string_bytes c.args.text ++ (ended (frame_text frame) ++ (payload_lines v.ethertype (drop 14 frame) ++ again_line c.as_slice.result.now)) = rw above (grind (arith, common_steps)) in
-    rw (frame_lines-read frame v read, rebuilt-read frame v read, ← again, ← whole) c.with_again.ensures
+    rw (frame_lines-read frame v c.in-Ok.ensures.value.header, ← again, ← whole) c.with_again.ensures
+
+pub returns-in-Err : goal.returns-in-Err
+returns-in-Err c = rw (frame_lines-unread c.args.bytes.now (λ whole. let apart = c.in-Err.ensures.ok.1 whole in cc)) (grind (arith, common_steps))
