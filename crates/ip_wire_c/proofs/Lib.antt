@@ -2,6 +2,7 @@ mod Emitted
 mod FieldsOf
 mod Filled
 mod Framed
+mod Headed
 mod HostAnswers
 mod Ipv4Words
 mod Numbered

@@ -2,16 +2,17 @@
 use Rattle.std.proofs.Common.{ℕ, ◌≡◌, ◌≤◌, refl, true}
 use Rattle.ip_wire.specs.FrameValue.{header_before}
 use Rattle.ip_wire.specs.Ip.{bytes_of, header_len_of, max_payload_len, next_header_of, payload_len_of, with_payload_len}
-use Rattle.ip_wire.specs.Protocol.{number_of}
+use Rattle.ip_wire.specs.Protocol.{protocol_of}
+use Rattle.wire_ends.proofs.Protocols.{number_of-protocol_of}
 use Rattle.ip_wire.specs.declared.IpProtocol.TheVariants.{Unknown}
 use Rattle.ip_wire.specs.declared.IpRepr.{IpRepr}
 use Rattle.ip_wire.specs.declared.IpRepr.TheVariants.{Ipv4, Ipv6}
 
 -- a header with the number of its protocol is written as the header with its name
-pub bytes_of-number : (v : IpRepr) (n len : ℕ) → n ≡ number_of (next_header_of v)
+pub bytes_of-number : (v : IpRepr) (n len : ℕ) → next_header_of v ≡ protocol_of n
     → bytes_of (header_before v (Unknown n) len) true ≡ bytes_of (with_payload_len v len) true
-bytes_of-number (Ipv4 v) n len is = rw is refl
-bytes_of-number (Ipv6 v) n len is = rw is refl
+bytes_of-number (Ipv4 v) n len is = rw (is, number_of-protocol_of n) refl
+bytes_of-number (Ipv6 v) n len is = rw (is, number_of-protocol_of n) refl
 
 -- it is as long
 pub header_len_of-number : (v : IpRepr) (n len : ℕ) → header_len_of (header_before v (Unknown n) len) ≡ header_len_of v

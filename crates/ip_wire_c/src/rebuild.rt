@@ -4,7 +4,7 @@ ghost use Rattle.std.specs.Prelude.{◌≡◌, ◌≤◌, Some, length, pos};
 ghost use Rattle.ip_wire.specs.Frame.{ethernet, rebuilt, rebuilt_transport_by, rebuilt_packet, rebuilt_payload, rebuilt_transport};
 ghost use Rattle.ip_wire.specs.FrameValue.{header_before};
 ghost use Rattle.ip_wire.specs.Ip.{dst_addr_of, max_payload_len, next_header_of, src_addr_of};
-ghost use Rattle.ip_wire.specs.Protocol.{number_of};
+ghost use Rattle.ip_wire.specs.Protocol.{protocol_of};
 ghost use Rattle.ip_wire.specs.declared.EthernetProtocol.TheVariants.{Arp, Ipv4, Ipv6};
 ghost use Rattle.ip_wire.specs.declared.IpProtocol.TheVariants.{Tcp, Udp, Unknown};
 ghost use Rattle.ip_wire_c.specs.Frames.{rebuilt_of};
@@ -13,11 +13,11 @@ ghost use Rattle.ip_wire_c.specs.Written.{Fills, Writes};
 use crate::results::{copy, written};
 use crate::{arp, tcp, udp};
 use ip_wire::{
-    ArpPacket, ArpRepr, ETHERNET_HEADER_LEN, EthernetFrame, EthernetFrameMut, EthernetProtocol,
-    EthernetRepr, IpProtocol, IpRepr, Ipv4Packet, Ipv4Repr, Ipv6Packet, Ipv6Repr, TcpPacket,
-    TcpRepr, UdpPacket, UdpRepr,
+    ArpPacket, ArpRepr, ETHERNET_HEADER_LEN, EthernetFrame, EthernetProtocol, IpProtocol, IpRepr,
+    Ipv4Packet, Ipv4Repr, Ipv6Packet, Ipv6Repr, TcpPacket, TcpRepr, UdpPacket, UdpRepr,
 };
 use net_base::ChecksumCapabilities;
+use wire_field::{array_at, write_front};
 
 // The byte of the protocol number in an IPv4 header (RFC 791, section 3.1), and of the next header in an
 // IPv6 header (RFC 8200, section 3).
@@ -40,24 +40,15 @@ pub extern "C" fn lk_rebuild(frame: &[u8], out: &mut [u8]) -> isize
 fn rebuild(bytes: &[u8], out: &mut [u8]) -> Option<usize>
     ensures { Fills (rebuilt_of bytes.now) out.old out.new result }
 {
-    let frame = EthernetFrame::new_unchecked(bytes);
-    match EthernetRepr::parse(&frame) {
-        Ok(header) => rebuild_frame(header, frame.payload(), out),
-        Err(_) => None,
-    }
-}
-
-// Rebuilds a frame with this header.
-fn rebuild_frame(header: EthernetRepr, payload: &[u8], out: &mut [u8]) -> Option<usize>
-    ensures { Fills (Some (ethernet.write header (rebuilt_payload header.ethertype payload.now))) out.old out.new result }
-{
-    if out.len() < ETHERNET_HEADER_LEN {
+    if bytes.len() < ETHERNET_HEADER_LEN || out.len() < ETHERNET_HEADER_LEN {
         return None;
     }
+    let frame = EthernetFrame::new_unchecked(bytes);
     let (front, rest) = out.split_at_mut(ETHERNET_HEADER_LEN);
-    match rebuild_payload(header.ethertype, payload, rest) {
+    match rebuild_payload(frame.ethertype(), frame.payload(), rest) {
         Some(len) => {
-            header.emit(&mut EthernetFrameMut::new_unchecked(front));
+            // A header that was read is in its normal form.
+            write_front(front, &array_at::<ETHERNET_HEADER_LEN>(bytes, 0));
             Some(ETHERNET_HEADER_LEN + len)
         }
         None => None,
@@ -127,7 +118,7 @@ fn rebuild_ipv6(bytes: &[u8], out: &mut [u8]) -> Option<usize>
 #[inline(always)]
 fn rebuild_packet(header: IpRepr, protocol: u8, payload: &[u8], out: &mut [u8]) -> Option<usize>
     requires len { length payload.now ≤ max_payload_len header }
-    requires protocol { protocol ≡ number_of (next_header_of header) }
+    requires protocol { next_header_of header ≡ protocol_of protocol }
     ensures { Fills (Some (rebuilt_packet header payload.now)) out.old out.new result }
 {
     let header_len = header.header_len();
@@ -135,7 +126,7 @@ fn rebuild_packet(header: IpRepr, protocol: u8, payload: &[u8], out: &mut [u8]) 
         return None;
     }
     let (front, rest) = out.split_at_mut(header_len);
-    match rebuild_transport(&header, payload, rest) {
+    match rebuild_transport(&header, protocol, payload, rest) {
         Some(payload_len) => {
             let header = with_number(header, protocol, payload_len);
             header.emit(front, &ChecksumCapabilities::default());
@@ -166,12 +157,14 @@ fn with_number(header: IpRepr, protocol: u8, payload_len: usize) -> IpRepr
     }
 }
 
-// Rebuilds the payload of a packet with this header.
+// Rebuilds the payload of a packet with this header and protocol number. The number is compared here as it
+// is: its name in the header would have been looked up before.
 #[inline(always)]
-fn rebuild_transport(header: &IpRepr, bytes: &[u8], out: &mut [u8]) -> Option<usize>
+fn rebuild_transport(header: &IpRepr, protocol: u8, bytes: &[u8], out: &mut [u8]) -> Option<usize>
+    requires { next_header_of header.now ≡ protocol_of protocol }
     ensures { Fills (Some (rebuilt_transport header.now bytes.now)) out.old out.new result }
 {
-    match header.next_header() {
+    match IpProtocol::from(protocol) {
         IpProtocol::Udp => rebuild_udp(header, bytes, out),
         IpProtocol::Tcp => rebuild_tcp(header, bytes, out),
         _ => copy(bytes, out),

@@ -4,7 +4,6 @@ use Rattle.ip_wire.specs.Ipv4.{header_len, ipv4_of, is_fragment, total_len}
 use Rattle.net_base.specs.Checksum.{verifies}
 use Rattle.ip_wire.specs.Field.{field}
 use Rattle.ip_wire.specs.Protocol.{protocol_of}
-use Rattle.wire_ends.proofs.Protocols.{number_of-protocol_of}
 use Rattle.ip_wire_c.proofs.rebuild.rebuild_ipv4.Goals.{in_default-via-in-Ok+else-not-is_fragment, in_default-via-in_default}
 use Rattle.ip_wire_c.proofs.rebuild.rebuild_ipv4.Goals as goal
 
@@ -35,4 +34,4 @@ rebuild_packet-requires-clause-protocol c =
     let named : c.in-Ok.header.next_header ≡ protocol_of (field bytes 72 8) = rw c.new_unchecked-packet.ensures at header.next_header in
     let small = (c.type_inv.bytes 9).fits in
     let number : field bytes 72 8 ≡ slice_index bytes 9 = omega (arith, small) in
-    rw (named, number_of-protocol_of (field bytes 72 8)) (sym number)
+    named ∙ ap protocol_of number

@@ -1,9 +1,8 @@
-use Rattle.std.proofs.Common.{◌≡◌, Some, None, arith, refl, slice_index, sym}
+use Rattle.std.proofs.Common.{◌≡◌, ◌∙◌, Some, None, arith, refl, slice_index, sym, ap}
 use Rattle.ip_wire.proofs.Frames.{rebuilt-ipv6, rebuilt-ipv6-copied}
 use Rattle.ip_wire.specs.Ipv6.{ipv6_of, payload_of}
 use Rattle.ip_wire.specs.Field.{field}
 use Rattle.ip_wire.specs.Protocol.{protocol_of}
-use Rattle.wire_ends.proofs.Protocols.{number_of-protocol_of}
 use Rattle.ip_wire_c.proofs.rebuild.rebuild_ipv6.Goals as goal
 
 pub returns-in-Ok : goal.returns-in-Ok
@@ -26,4 +25,4 @@ rebuild_packet-requires-clause-protocol c =
     let named : c.in-Ok.header.next_header ≡ protocol_of (field bytes 48 8) = rw c.new_unchecked-packet.ensures at header.next_header in
     let small = (c.type_inv.bytes 6).fits in
     let number : field bytes 48 8 ≡ slice_index bytes 6 = omega (arith, small) in
-    rw (named, number_of-protocol_of (field bytes 48 8)) (sym number)
+    named ∙ ap protocol_of number
