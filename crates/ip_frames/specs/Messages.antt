@@ -1,4 +1,4 @@
--- What the program says of a run that did not end well.
+-- The error messages of the program.
 use Rattle.std.specs.Prelude.{ℕ, List, codes}
 use Rattle.ip_frames.specs.declared.run.RunError.{RunError}
 use Rattle.ip_frames.specs.declared.run.RunError.TheVariants.{Read, Write, Memory}

@@ -1,6 +1,6 @@
 //! The block of output lines for one input line, with the rebuilt frame.
 
-ghost use Rattle.std.specs.Prelude.{[], ◌≡◌, ◌≤◌, ◌++◌, ◌⊎◌, IfErr, IfOk, OnOk, Err, Ok, drop, length, string_bytes};
+ghost use Rattle.std.specs.Prelude.{[], ◌≡◌, ◌≤◌, ◌++◌, ◌⊎◌, IfErr, IfOk, OnOk, Err, Ok, length, string_bytes};
 ghost use Rattle.hex.specs.Hex.{decode_of, encode_lower};
 ghost use Rattle.hex.specs.declared.error.FromHexError.TheVariants.{OutOfMemory};
 ghost use Rattle.ip_frames.specs.Output.{AddsBytes, again_line, block_of, frame_lines};

@@ -47,7 +47,7 @@ pub const EXAMPLES: [(&[u8], &[u8]); 14] = [
             fragment offset=4120 more=true id=258\n\
             again 01020304050611121314151608004500001e010262031a01d56e1112131421222324aa0000000000000000ff\n\n",
     ),
-    // A segment, and one that is refused for its FIN and RST.
+    // A segment, and one that is rejected for its FIN and RST.
     (
         b"01020304050611121314151608004500002c000040004006b778c0a80101c0a80102bf0000500123456700000000500201237a8d0000aa0000ff",
         b"EthernetII src=11-12-13-14-15-16 dst=01-02-03-04-05-06 type=IPv4\n\
