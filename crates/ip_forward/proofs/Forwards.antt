@@ -9,16 +9,9 @@ use Rattle.ip_wire.specs.Frame.{type_of}
 use Rattle.ip_wire.specs.Ip.{ReadsHeader, hop_limit_of}
 use Rattle.ip_wire.specs.Ipv4 as ipv4
 use Rattle.ip_wire.specs.Ipv6 as ipv6
-use Rattle.ip_wire.specs.declared.Ipv4Repr.{Ipv4Repr}
-use Rattle.ip_wire.specs.declared.Ipv6Repr.{Ipv6Repr}
-use Rattle.ip_wire.specs.declared.EthernetProtocol.{EthernetProtocol}
+use Rattle.ip_wire.specs.Types.{Error, EthernetAddress, EthernetProtocol, EthernetRepr, IpRepr, Ipv4, Ipv4Repr, Ipv6, Ipv6Repr}
 use Rattle.ip_wire.specs.declared.EthernetProtocol.TheVariants as ethertype
-use Rattle.ip_wire.specs.declared.Error.{Error}
-use Rattle.ip_wire.specs.declared.EthernetAddress.{EthernetAddress}
-use Rattle.ip_wire.specs.declared.EthernetRepr.{EthernetRepr}
-use Rattle.ip_wire.specs.declared.IpRepr.{IpRepr}
-use Rattle.ip_wire.specs.declared.IpRepr.TheVariants.{Ipv4, Ipv6}
-use Rattle.ip_forward.proofs.Cells.{cells-all, cells-drop}
+use Rattle.ip_wire.proofs.Cells.{cells-all, cells-drop}
 
 hop-less : (h : IpRepr) → hop_limit_of (one_hop_less h) ≡ hop_limit_of h - 1
 hop-less (Ipv4 v) = refl
@@ -156,9 +149,6 @@ bad-ipv6 type bytes answer error named reads is =
 not-named : (type : EthernetProtocol) → type ≢ ethertype.Ipv4 → type ≢ ethertype.Ipv6 → (h : IpRepr) → type ≢ type_of h
 not-named type no4 no6 (Ipv4 v) is = no4 is
 not-named type no4 no6 (Ipv6 v) is = no6 is
-
-pub other-type : (type : EthernetProtocol) (bytes : List ℕ) → type ≢ ethertype.Ipv4 → type ≢ ethertype.Ipv6 → IsRejectedAs type bytes NotIp
-other-type type bytes no4 no6 = not-named type no4 no6
 
 -- a frame with an IPv6 header that parses carries that packet
 pub carries-ipv6 : (type : EthernetProtocol) (bytes : List ℕ) (v : Ipv6Repr) → type ≡ ethertype.Ipv6 → ipv6.Reads bytes v → CarriesAs type bytes true (Ipv6 v)

@@ -5,11 +5,7 @@ use Rattle.ip_wire.specs.Field.{field, with_field}
 use Rattle.ip_wire.specs.Frame.{type_of}
 use Rattle.ip_wire.specs.Ip.{ReadsHeader, hop_limit_of}
 use Rattle.ip_wire.specs.Ipv4.{with_updated_checksum}
-use Rattle.ip_wire.specs.declared.EthernetAddress.{EthernetAddress}
-use Rattle.ip_wire.specs.declared.EthernetProtocol.{EthernetProtocol}
-use Rattle.ip_wire.specs.declared.EthernetRepr.{EthernetRepr}
-use Rattle.ip_wire.specs.declared.IpRepr.{IpRepr}
-use Rattle.ip_wire.specs.declared.IpRepr.TheVariants.{Ipv4, Ipv6}
+use Rattle.ip_wire.specs.Types.{EthernetAddress, EthernetProtocol, EthernetRepr, IpRepr, Ipv4, Ipv6}
 use Rattle.ip_forward.specs.declared.router.Rejection.{Rejection}
 use Rattle.ip_forward.specs.declared.router.Rejection.TheVariants.{NotIp, BadHeader, WrongChecksum, Expired}
 

@@ -1,6 +1,6 @@
 -- The lines of a frame, by what was parsed of it.
-use Rattle.std.proofs.Common.{ℕ, ◌≡◌, ◌≢◌, ◌==◌, ◌≤◌, ◌↔◌, ◌++◌, Bool, IsTrue, true, false, List, [], Option, Some, None, append-nil, drop, is_some, length, refl, sym, ap, subst, ◌∙◌, arith}
-use Rattle.std.proofs.lemmas.Bool.{eq-eqb, false_from_ne_true}
+use Rattle.std.proofs.Common.{ℕ, ◌≡◌, ◌≢◌, ◌==◌, ◌≤◌, ◌++◌, Bool, true, false, List, [], Option, Some, None, append-nil, drop, is_some, length, refl, sym, ap, subst, ◌∙◌, arith}
+use Rattle.std.proofs.lemmas.Bool.{false_from_ne_true}
 use Rattle.std.proofs.lemmas.Bool.Decides.{nat_tests}
 use Rattle.ip_frames.specs.Output.{again_line, checksum_note, ended, fragment_header_line, fragment_line, frame_lines, inner_lines, ipv6_inner_lines, line_with_verdict, lines_of_protocol, payload_lines, tcp_format, transport_lines, udp_format, unread_verdict, verdict, verdict_behind}
 use Rattle.ip_wire.proofs.EthernetComputed.{ethernet_of-Reads}
@@ -25,16 +25,9 @@ use Rattle.ip_wire.specs.TcpRepr as tcp
 use Rattle.ip_wire.specs.TcpText as tcp_text
 use Rattle.ip_wire.specs.Udp as udp
 use Rattle.ip_wire.specs.UdpText as udp_text
-use Rattle.ip_wire.specs.declared.EthernetProtocol.{EthernetProtocol}
+use Rattle.ip_wire.specs.Types.{EthernetProtocol, EthernetRepr, IpProtocol, IpRepr, Ipv4, Ipv4Repr, Ipv6, Ipv6Repr, UdpRepr}
 use Rattle.ip_wire.specs.declared.EthernetProtocol.TheVariants as ethertype
-use Rattle.ip_wire.specs.declared.EthernetRepr.{EthernetRepr}
-use Rattle.ip_wire.specs.declared.IpProtocol.{IpProtocol}
 use Rattle.ip_wire.specs.declared.IpProtocol.TheVariants as protocol
-use Rattle.ip_wire.specs.declared.IpRepr.{IpRepr}
-use Rattle.ip_wire.specs.declared.IpRepr.TheVariants.{Ipv4, Ipv6}
-use Rattle.ip_wire.specs.declared.Ipv4Repr.{Ipv4Repr}
-use Rattle.ip_wire.specs.declared.Ipv6Repr.{Ipv6Repr}
-use Rattle.ip_wire.specs.declared.UdpRepr.{UdpRepr}
 
 -- an option that is no value is none
 none_of : {A : Type 0} (o : Option A) → ((a : A) → ¬ (o ≡ Some a)) → o ≡ None
@@ -46,11 +39,6 @@ none_of (Some a) h = absurd (h a refl)
 -- a test that fails
 eq-false : (n k : ℕ) → (n ≡ k → ⊥) → (n == k) ≡ false
 eq-false n k other = grind (arith, nat_tests, other)
-
--- a flag that says that two numbers are equal is their test
-pub equal-test : (flag : Bool) (n k : ℕ) → IsTrue flag ↔ (n ≡ k) → flag ≡ (n == k)
-equal-test true n k is = sym (eq-eqb n k (is.0 refl))
-equal-test false n k is = sym (eq-false n k (λ e. let set : false ≡ true = is.1 e in absurd (cc)))
 
 -- ---- a frame
 
@@ -150,9 +138,6 @@ lines-other_protocol : (p : IpProtocol) (v : IpRepr) (bytes : List ℕ) → p �
 lines-other_protocol protocol.Udp v bytes udp tcp = absurd (udp refl)
 lines-other_protocol protocol.Tcp v bytes udp tcp = absurd (tcp refl)
 lines-other_protocol _ v bytes udp tcp = refl
-
-pub lines-other : (v : IpRepr) (bytes : List ℕ) → next_header_of v ≢ protocol.Udp → next_header_of v ≢ protocol.Tcp → transport_lines v bytes ≡ []
-lines-other v bytes udp tcp = lines-other_protocol (next_header_of v) v bytes udp tcp
 
 pub lines-udp-unread : (v : IpRepr) (bytes : List ℕ) → next_header_of v ≡ protocol.Udp → ((t : Transport) → ¬ ReadsTransport all_checked v bytes t)
     → transport_lines v bytes ≡ ended (udp_text.packet_text bytes ++ verdict_behind udp_format v bytes)

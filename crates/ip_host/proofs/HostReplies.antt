@@ -19,12 +19,6 @@ use Rattle.ip_wire.specs.declared.Frame.{Frame}
 given : (P Q : EthernetRepr → Carried → Type 0) (f : Frame) → ((h : EthernetRepr) (c : Carried) → P h c → Q h c) → Gives P (Some f) → Gives Q (Some f)
 given P Q f to (sendable, (h, c, values, p)) = (sendable, (h, c, values, to h c p))
 
-pub by_arp : (host : Host) (request f : Frame) → Gives (ArpRepliesFrame host.interface request) (Some f) → Gives (RepliesFrame host request) (Some f)
-by_arp host request f = given (ArpRepliesFrame host.interface request) (RepliesFrame host request) f (λ h c (asked, is, e). (asked, is, inl e))
-
-pub by_echo : (host : Host) (request f : Frame) → Gives (EchoesFrame host.interface host.echo_port request) (Some f) → Gives (RepliesFrame host request) (Some f)
-by_echo host request f = given (EchoesFrame host.interface host.echo_port request) (RepliesFrame host request) f (λ h c (asked, is, e). (asked, is, inr (inl e)))
-
 by_none : (host : Host) (request : Frame) → Gives (ArpRepliesFrame host.interface request) None → Gives (EchoesFrame host.interface host.echo_port request) None
     → Gives (TcpRepliesFrame host.interface host.open_ports.now host.offer request) None
     → (h : EthernetRepr) (c : Carried) → ¬ RepliesFrame host request h c

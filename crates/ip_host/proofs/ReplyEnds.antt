@@ -7,8 +7,7 @@ use Rattle.ip_replies.specs.declared.tcp_reply.Offer.{Offer}
 use Rattle.ip_wire.proofs.ReadsOnce.{frame-once}
 use Rattle.ip_wire.specs.Frame.{Carried, IsReadWhole, all_checked, packet, segment}
 use Rattle.ip_wire.specs.TcpRepr.{TcpHeader}
-use Rattle.ip_wire.specs.declared.EthernetRepr.{EthernetRepr}
-use Rattle.ip_wire.specs.declared.IpRepr.{IpRepr}
+use Rattle.ip_wire.specs.Types.{EthernetRepr, IpRepr}
 use Rattle.ip_wire.specs.declared.TcpControl.{TcpControl}
 use Rattle.ip_wire.specs.declared.TcpControl.TheVariants as control
 use Rattle.ip_wire.specs.declared.TcpSeqNumber.{TcpSeqNumber}

@@ -7,9 +7,8 @@ use Rattle.ip_replies.specs.UdpEcho.{IsEcho}
 use Rattle.ip_wire.specs.Frame.{Carried, IsReadWhole, packet, segment}
 use Rattle.ip_wire.specs.FrameValue.{carried_of}
 use Rattle.ip_wire.specs.TcpRepr.{TcpHeader}
-use Rattle.ip_wire.specs.declared.EthernetRepr.{EthernetRepr}
+use Rattle.ip_wire.specs.Types.{EthernetRepr, IpRepr}
 use Rattle.ip_wire.specs.declared.Frame.{Frame}
-use Rattle.ip_wire.specs.declared.IpRepr.{IpRepr}
 use Rattle.ip_wire.specs.declared.TcpControl.TheVariants as control
 
 -- a frame with these values is an ARP request, a UDP packet for the echo port or a TCP segment, for this host, and the

@@ -7,7 +7,7 @@ use Rattle.ip_wire.specs.Ipv4.{Reads, header_len, is_fragment, total_len}
 use Rattle.ip_wire.specs.Protocol.{protocol_of}
 use Rattle.ip_wire.specs.WordSum.{sum_of_bytes}
 use Rattle.ip_wire.specs.declared.Ipv4Repr.{Ipv4Repr}
-use Rattle.ip_nat.proofs.Cells.{cells, cells-all}
+use Rattle.ip_wire.proofs.Cells.{cells, cells-all}
 use Rattle.ip_nat.proofs.Payloads.{range-front, range-len, range-past}
 use Rattle.ip_nat.specs.Nat.{addr_at, with_address}
 use Rattle.ip_nat.specs.declared.nat.Side.{Side}

@@ -1,4 +1,4 @@
-pub mod Cells
+pub mod Ends
 pub mod Headers
 pub mod Payloads
 pub mod Residues

@@ -1,25 +1,17 @@
 -- A checksum that is updated and then updated back.
-use Rattle.std.proofs.Common.{ℕ, zero, suc, ◌≡◌, ◌+◌, ◌-◌, ◌*◌, ◌/◌, ◌<◌, ◌≤◌, ◌==◌, ◌≢◌, ◌⊎◌, inl, inr, true, false, List, sum, refl, arith}
+use Rattle.std.proofs.Common.{ℕ, ◌≡◌, ◌+◌, ◌-◌, ◌*◌, ◌<◌, ◌≤◌, ◌==◌, ◌≢◌, ◌⊎◌, inl, inr, true, false, List, sum, refl, arith}
 use Rattle.std.proofs.lemmas.Bool.{cases_lt}
 use Rattle.std.proofs.lemmas.Bool.Decides.{nat_tests}
+use Rattle.ip_wire.proofs.Residues.{residue-bound, residue-quotient, residue-zero}
 use Rattle.ip_wire.specs.Udp.{checksum_for}
 use Rattle.ip_wire.specs.WordSum.{residue, sum_of_bytes, updated, words}
 
--- a total is its residue plus a multiple of 65535
-residue-quotient : (t : ℕ) → (k : ℕ) × (t ≡ residue t + 65535 * k)
-unfolding residue
-residue-quotient zero = (0, refl)
-residue-quotient (suc n) = (n / 65535, omega arith)
-
-residue-bound : (t : ℕ) → residue t ≤ 65535
-unfolding residue
-residue-bound zero = omega arith
-residue-bound (suc n) = omega arith
-
+-- only 0 has the residue 0
 residue-least : (t : ℕ) → 0 < t → 1 ≤ residue t
-unfolding residue
-residue-least zero h = absurd (omega arith)
-residue-least (suc n) h = omega arith
+residue-least t h = elim (cases_lt 0 (residue t)) [
+  | inl some ↦ omega (arith, some)
+  | inr none ↦ absurd (omega (arith, h, residue-zero t (omega (arith, none))))
+]
 
 -- the sum of bytes has 16 bits
 pub sum-fits : (bytes : List ℕ) → sum_of_bytes bytes ≤ 65535

@@ -1,33 +1,26 @@
 -- A frame is translated exactly as its packet, and rejected for the same reason.
-use Rattle.std.proofs.Common.{IfErr, IfOk, ℕ, ◌≡◌, ◌≢◌, ◌≤◌, ◌<◌, ◌-◌, ◌%◌, ◌++◌, ◌↔◌, Bool, true, false, List, Result, Ok, Err, length, drop, take, slice_range, refl, sym, ap, subst, ◌∙◌, arith, length-append, length-drop}
+use Rattle.std.proofs.Common.{IfErr, IfOk, ℕ, ◌≡◌, ◌≢◌, ◌≤◌, ◌-◌, ◌%◌, ◌++◌, ◌↔◌, Bool, true, false, List, Result, Ok, Err, length, drop, take, slice_range, refl, sym, ap, subst, ◌∙◌, arith, length-append, length-drop}
 use Rattle.std.proofs.lemmas.List.{length-take-le, take-append-drop}
 use Rattle.ip_wire.proofs.ByteLists.{AreBytes-drop, AreBytes-slice_range}
 use Rattle.ip_wire.proofs.Spelled.{AreBytes}
 use Rattle.ip_wire.specs.Ethernet as ethernet
-use Rattle.ip_wire.specs.Field.{field, with_range}
+use Rattle.ip_wire.specs.Field.{field, with_field, with_range}
 use Rattle.ip_wire.specs.Frame.{ReadsTransport, Transport, all_checked, datagram, ipv4_payload, other, segment}
 use Rattle.ip_wire.specs.IpAddress.{octets_of}
 use Rattle.ip_wire.specs.Ipv4 as ipv4
 use Rattle.ip_wire.specs.Protocol.{protocol_of}
-use Rattle.ip_wire.specs.Tcp.{Verifies}
 use Rattle.ip_wire.specs.TcpRepr.{TcpHeader}
-use Rattle.ip_wire.specs.Udp as udp
-use Rattle.ip_wire.specs.declared.Error.{Error}
+use Rattle.ip_wire.specs.WordSum.{sum_of_bytes}
+use Rattle.ip_wire.specs.Types.{Error, EthernetRepr, IpAddress, IpProtocol, Ipv4, Ipv4Repr, UdpRepr}
 use Rattle.ip_wire.specs.declared.EthernetProtocol.TheVariants as ethertype
-use Rattle.ip_wire.specs.declared.EthernetRepr.{EthernetRepr}
-use Rattle.ip_wire.specs.declared.IpAddress.{IpAddress}
 use Rattle.ip_wire.specs.declared.IpAddress.TheVariants as address
-use Rattle.ip_wire.specs.declared.IpProtocol.{IpProtocol}
 use Rattle.ip_wire.specs.declared.IpProtocol.TheVariants as protocol
-use Rattle.ip_wire.specs.declared.IpRepr.TheVariants.{Ipv4}
-use Rattle.ip_wire.specs.declared.Ipv4Repr.{Ipv4Repr}
-use Rattle.ip_wire.specs.declared.UdpRepr.{UdpRepr}
-use Rattle.ip_nat.proofs.Cells.{cells-all}
+use Rattle.ip_wire.proofs.Cells.{cells-all}
 use Rattle.ip_nat.proofs.Headers.{keeps, reads-inner, same-inner}
 use Rattle.ip_nat.proofs.Payloads.{drop-front, range-len, range-part}
-use Rattle.ip_nat.proofs.TcpEnds.{tcp-len, tcp-reads}
+use Rattle.ip_nat.proofs.TcpEnds.{tcp-len}
 use Rattle.ip_nat.proofs.UdpEnds.{udp-ended}
-use Rattle.ip_nat.specs.Nat.{Carries, CarriesPorts, HasPorts, IsIpv4Frame, IsRejected, IsRejectedPacket, IsTranslated, LacksChecksum, Rewrites, addr_at, addr_of, translated_packet, with_addr, with_address, with_end, with_port, with_tcp_end}
+use Rattle.ip_nat.specs.Nat.{Carries, CarriesPorts, HasPorts, IsIpv4Frame, IsRejected, IsRejectedPacket, IsTranslated, LacksChecksum, Rewrites, addr_at, addr_of, port_bit, translated_packet, with_addr, with_address, with_end, with_end_by, with_port}
 use Rattle.ip_nat.specs.declared.nat.Rejection.{Rejection}
 use Rattle.ip_nat.specs.declared.nat.Rejection.TheVariants.{NotIpv4}
 use Rattle.ip_nat.specs.declared.nat.Side.{Side}
@@ -59,73 +52,38 @@ ended-len v side old new port bytes (other payload) are r = ap length (ended-oth
 even : (a : List ℕ) → length a ≡ 4 → length a % 2 ≡ 0
 even a e = omega (arith, e)
 
--- UDP, from the contracts of the setters
-pub udp-source : (side : Side) (v : Ipv4Repr) (old mid done new addr : List ℕ) (from : IpAddress) (port : ℕ) → side ≡ Source → from ≡ address.Ipv4 v.src_addr
-    → length addr ≡ 4 → length v.dst_addr ≡ 4 → new ≡ done
-    → ((dst : IpAddress) (verified : Bool) (u : UdpRepr) (payload : List ℕ) → length (octets_of dst) % 2 ≡ 0 → udp.Reads old from dst verified u payload → udp.Reads mid (address.Ipv4 addr) dst verified u payload)
-    → ((src dst : IpAddress) (verified : Bool) (u : UdpRepr) (payload : List ℕ) → length (octets_of src) % 2 ≡ 0 → length (octets_of dst) % 2 ≡ 0 → udp.Reads mid src dst verified u payload
-    → udp.Reads done src dst verified (record u { src_port = port }) payload)
-    → (u : UdpRepr) (payload : List ℕ) → Rewrites v old new side addr port (datagram u payload)
-udp-source side v old mid done new addr from port is was four four' at first second u payload =
-    subst (λ (s : Side). Rewrites v old new s addr port (datagram u payload)) (sym is)
-    (subst (λ (l : List ℕ). Rewrites v old l Source addr port (datagram u payload)) (sym at)
-    (λ r. (
-      r.0,
-      second (address.Ipv4 addr) (address.Ipv4 v.dst_addr) true u payload (even addr four) (even v.dst_addr four')
-          (first (address.Ipv4 v.dst_addr) true u payload (even v.dst_addr four') (subst (λ (a : IpAddress). udp.Reads old a (address.Ipv4 v.dst_addr) true u payload) (sym was) r.1)),
-    )))
+-- a packet from a new source, by the contracts of both setters
+pub from-source : {V : Type 0} (Reads : List ℕ → IpAddress → IpAddress → Bool → V → List ℕ → Type 0) (put : V → V) (old mid new addr src dst : List ℕ) (from : IpAddress)
+    → from ≡ address.Ipv4 src → length addr ≡ 4 → length dst ≡ 4
+    → ((d : IpAddress) (verified : Bool) (u : V) (payload : List ℕ) → length (octets_of d) % 2 ≡ 0 → Reads old from d verified u payload → Reads mid (address.Ipv4 addr) d verified u payload)
+    → ((s d : IpAddress) (verified : Bool) (u : V) (payload : List ℕ) → length (octets_of s) % 2 ≡ 0 → length (octets_of d) % 2 ≡ 0 → Reads mid s d verified u payload → Reads new s d verified (put u) payload)
+    → (u : V) (payload : List ℕ) → Reads old (address.Ipv4 src) (address.Ipv4 dst) true u payload → Reads new (address.Ipv4 addr) (address.Ipv4 dst) true (put u) payload
+from-source {V} Reads put old mid new addr src dst from was four four' first second u payload r =
+    second (address.Ipv4 addr) (address.Ipv4 dst) true u payload (even addr four) (even dst four')
+    (first (address.Ipv4 dst) true u payload (even dst four') (subst (λ (a : IpAddress). Reads old a (address.Ipv4 dst) true u payload) (sym was) r))
 
--- the destination setters of UDP write the translated packet
-pub udp-destination : (side : Side) (v : Ipv4Repr) (old mid done new addr : List ℕ) (to : IpAddress) (port : ℕ) → side ≡ Destination → to ≡ address.Ipv4 v.dst_addr
-    → length addr ≡ 4 → length v.src_addr ≡ 4 → port ≢ 0 → new ≡ done
-    → ((src : IpAddress) (verified : Bool) (u : UdpRepr) (payload : List ℕ) → length (octets_of src) % 2 ≡ 0 → udp.Reads old src to verified u payload → udp.Reads mid src (address.Ipv4 addr) verified u payload)
-    → ((src dst : IpAddress) (verified : Bool) (u : UdpRepr) (payload : List ℕ) → length (octets_of src) % 2 ≡ 0 → length (octets_of dst) % 2 ≡ 0 → port ≢ 0 → udp.Reads mid src dst verified u payload
-    → udp.Reads done src dst verified (record u { dst_port = port }) payload)
-    → (u : UdpRepr) (payload : List ℕ) → Rewrites v old new side addr port (datagram u payload)
-udp-destination side v old mid done new addr to port is was four four' some at first second u payload =
-    subst (λ (s : Side). Rewrites v old new s addr port (datagram u payload)) (sym is)
-    (subst (λ (l : List ℕ). Rewrites v old l Destination addr port (datagram u payload)) (sym at)
-    (λ r. (
-      r.0,
-      second (address.Ipv4 v.src_addr) (address.Ipv4 addr) true u payload (even v.src_addr four') (even addr four) some
-          (first (address.Ipv4 v.src_addr) true u payload (even v.src_addr four') (subst (λ (a : IpAddress). udp.Reads old (address.Ipv4 v.src_addr) a true u payload) (sym was) r.1)),
-    )))
+-- a packet to a new destination, in the same way
+pub to-destination : {V : Type 0} (Reads : List ℕ → IpAddress → IpAddress → Bool → V → List ℕ → Type 0) (put : V → V) (old mid new addr src dst : List ℕ) (to : IpAddress)
+    → to ≡ address.Ipv4 dst → length addr ≡ 4 → length src ≡ 4
+    → ((s : IpAddress) (verified : Bool) (u : V) (payload : List ℕ) → length (octets_of s) % 2 ≡ 0 → Reads old s to verified u payload → Reads mid s (address.Ipv4 addr) verified u payload)
+    → ((s d : IpAddress) (verified : Bool) (u : V) (payload : List ℕ) → length (octets_of s) % 2 ≡ 0 → length (octets_of d) % 2 ≡ 0 → Reads mid s d verified u payload → Reads new s d verified (put u) payload)
+    → (u : V) (payload : List ℕ) → Reads old (address.Ipv4 src) (address.Ipv4 dst) true u payload → Reads new (address.Ipv4 src) (address.Ipv4 addr) true (put u) payload
+to-destination {V} Reads put old mid new addr src dst to was four four' first second u payload r =
+    second (address.Ipv4 src) (address.Ipv4 addr) true u payload (even src four') (even addr four)
+    (first (address.Ipv4 src) true u payload (even src four') (subst (λ (a : IpAddress). Reads old (address.Ipv4 src) a true u payload) (sym was) r))
 
--- TCP, from the contracts of the setters
-pub tcp-source : (side : Side) (v : Ipv4Repr) (old mid done new addr : List ℕ) (from : IpAddress) (port : ℕ) → side ≡ Source → from ≡ address.Ipv4 v.src_addr
-    → length addr ≡ 4 → length v.dst_addr ≡ 4 → port < 65536 → port ≢ 0 → new ≡ done → new ≡ with_tcp_end side (addr_of side v) addr port old
-    → ((dst : IpAddress) → length (octets_of dst) % 2 ≡ 0 → Verifies from dst old → Verifies (address.Ipv4 addr) dst mid)
-    → ((src dst : IpAddress) → length (octets_of src) % 2 ≡ 0 → length (octets_of dst) % 2 ≡ 0 → Verifies src dst mid → Verifies src dst done)
-    → (u : TcpHeader) (payload : List ℕ) → Rewrites v old new side addr port (segment u payload)
-tcp-source side v old mid done new addr from port is was four four' fits some at ended first second u payload =
-    let bytes : new ≡ with_tcp_end Source v.src_addr addr port old = ended ∙ ap (λ (s : Side). with_tcp_end s (addr_of s v) addr port old) is in
-    subst (λ (s : Side). Rewrites v old new s addr port (segment u payload)) (sym is)
-    (subst (λ (l : List ℕ). Rewrites v old l Source addr port (segment u payload)) (sym bytes)
-    (λ r. (
-      r.0,
-      tcp-reads Source old v.src_addr addr port (address.Ipv4 v.src_addr) (address.Ipv4 v.dst_addr) (address.Ipv4 addr) (address.Ipv4 v.dst_addr) u payload fits some r.1
-          (subst (Verifies (address.Ipv4 addr) (address.Ipv4 v.dst_addr)) (sym at ∙ bytes)
-          (second (address.Ipv4 addr) (address.Ipv4 v.dst_addr) (even addr four) (even v.dst_addr four')
-          (first (address.Ipv4 v.dst_addr) (even v.dst_addr four') (subst (λ (a : IpAddress). Verifies a (address.Ipv4 v.dst_addr) old) (sym was) (r.1.checksum refl))))),
-    )))
+-- the same for a side and bytes that are equal to these
+pub rewritten : (side on : Side) (v : Ipv4Repr) (old done new addr : List ℕ) (port : ℕ) (t : Transport) → side ≡ on → new ≡ done → Rewrites v old done on addr port t → Rewrites v old new side addr port t
+rewritten side on v old done new addr port t is at r =
+    subst (λ (s : Side). Rewrites v old new s addr port t) (sym is) (subst (λ (l : List ℕ). Rewrites v old l on addr port t) (sym at) r)
 
--- the destination setters of TCP write the translated segment
-pub tcp-destination : (side : Side) (v : Ipv4Repr) (old mid done new addr : List ℕ) (to : IpAddress) (port : ℕ) → side ≡ Destination → to ≡ address.Ipv4 v.dst_addr
-    → length addr ≡ 4 → length v.src_addr ≡ 4 → port < 65536 → port ≢ 0 → new ≡ done → new ≡ with_tcp_end side (addr_of side v) addr port old
-    → ((src : IpAddress) → length (octets_of src) % 2 ≡ 0 → Verifies src to old → Verifies src (address.Ipv4 addr) mid)
-    → ((src dst : IpAddress) → length (octets_of src) % 2 ≡ 0 → length (octets_of dst) % 2 ≡ 0 → Verifies src dst mid → Verifies src dst done)
-    → (u : TcpHeader) (payload : List ℕ) → Rewrites v old new side addr port (segment u payload)
-tcp-destination side v old mid done new addr to port is was four four' fits some at ended first second u payload =
-    let bytes : new ≡ with_tcp_end Destination v.dst_addr addr port old = ended ∙ ap (λ (s : Side). with_tcp_end s (addr_of s v) addr port old) is in
-    subst (λ (s : Side). Rewrites v old new s addr port (segment u payload)) (sym is)
-    (subst (λ (l : List ℕ). Rewrites v old l Destination addr port (segment u payload)) (sym bytes)
-    (λ r. (
-      r.0,
-      tcp-reads Destination old v.dst_addr addr port (address.Ipv4 v.src_addr) (address.Ipv4 v.dst_addr) (address.Ipv4 v.src_addr) (address.Ipv4 addr) u payload fits some r.1
-          (subst (Verifies (address.Ipv4 v.src_addr) (address.Ipv4 addr)) (sym at ∙ bytes)
-          (second (address.Ipv4 v.src_addr) (address.Ipv4 addr) (even v.src_addr four') (even addr four)
-          (first (address.Ipv4 v.src_addr) (even v.src_addr four') (subst (λ (a : IpAddress). Verifies (address.Ipv4 v.src_addr) a old) (sym was) (r.1.checksum refl))))),
-    )))
+-- the bytes after both steps, for a side that is equal to this one
+pub ended-by : (update : List ℕ → ℕ → ℕ → List ℕ) (side on : Side) (v : Ipv4Repr) (old mid done new addr : List ℕ) (port : ℕ) → side ≡ on → new ≡ done
+    → mid ≡ update old (sum_of_bytes (addr_of on v)) (sum_of_bytes addr) → done ≡ update (with_field mid (port_bit on) 16 port) (field mid (port_bit on) 16) port
+    → new ≡ with_end_by update side (addr_of side v) addr port old
+ended-by update side on v old mid done new addr port is at first second =
+    subst (λ (s : Side). new ≡ with_end_by update s (addr_of s v) addr port old) (sym is)
+    (at ∙ second ∙ ap (λ (l : List ℕ). update (with_field l (port_bit on) 16 port) (field l (port_bit on) 16) port) first)
 
 -- each transport, from its own setters
 pub rewrites-udp : (v : Ipv4Repr) (old new : List ℕ) (side : Side) (addr : List ℕ) (port : ℕ) → v.next_header ≡ protocol.Udp
@@ -209,7 +167,7 @@ pub record IsWritten (side : Side) (v : Ipv4Repr) (bytes new addr : List ℕ) (p
   pub carries : (t : Transport) → CarriesPorts bytes v t → CarriesPorts new (with_addr side addr v) (with_port side port t)
   pub as_said : new ≡ translated_packet side addr port bytes
 
-written : (side : Side) (v : Ipv4Repr) (bytes part new addr : List ℕ) (port : ℕ) → length addr ≡ 4 → ipv4.Reads bytes true v → length part ≡ length (ipv4_payload bytes)
+pub written : (side : Side) (v : Ipv4Repr) (bytes part new addr : List ℕ) (port : ℕ) → length addr ≡ 4 → ipv4.Reads bytes true v → length part ≡ length (ipv4_payload bytes)
     → ((t : Transport) → Rewrites v (ipv4_payload bytes) part side addr port t) → part ≡ with_end v.next_header side (addr_of side v) addr port (ipv4_payload bytes)
     → new ≡ with_address side addr (with_range bytes (ipv4.header_len bytes) (ipv4.total_len bytes) part)
     → ((w : Ipv4Repr) → ipv4.Reads (with_range bytes (ipv4.header_len bytes) (ipv4.total_len bytes) part) true w → ipv4.Reads new true (with_addr side addr w))
@@ -219,39 +177,10 @@ written side v bytes part new addr port four r e rewrites is at step = record {
   as_said = packet-bytes bytes part new v side addr port r is at;
 }
 
--- writing the payload and then the source address gives a translated packet
-pub written-source : (side : Side) (v : Ipv4Repr) (bytes part inner new addr : List ℕ) (port : ℕ) → side ≡ Source → length addr ≡ 4 → ipv4.Reads bytes true v
-    → length part ≡ length (ipv4_payload bytes) → ((t : Transport) → Rewrites v (ipv4_payload bytes) part side addr port t)
-    → part ≡ with_end v.next_header side (addr_of side v) addr port (ipv4_payload bytes)
-    → inner ≡ with_range bytes (ipv4.header_len bytes) (ipv4.total_len bytes) part → new ≡ with_address Source addr inner
-    → ((w : Ipv4Repr) (verified : Bool) → ipv4.Reads inner verified w → ipv4.Reads new verified (record w { src_addr = addr })) → IsWritten side v bytes new addr port
-written-source side v bytes part inner new addr port is four r e rewrites ended within at step =
-    written side v bytes part new addr port four r e rewrites ended
-    (at ∙ (λ i. with_address (sym is i) addr (within i)))
-    (λ w reads. subst (λ (s : Side). ipv4.Reads new true (with_addr s addr w)) (sym is)
-    (step w true (subst (λ (l : List ℕ). ipv4.Reads l true w) (sym within) reads)))
-
--- writing the payload and then the destination address gives a translated packet
-pub written-destination : (side : Side) (v : Ipv4Repr) (bytes part inner new addr : List ℕ) (port : ℕ) → side ≡ Destination → length addr ≡ 4 → ipv4.Reads bytes true v
-    → length part ≡ length (ipv4_payload bytes) → ((t : Transport) → Rewrites v (ipv4_payload bytes) part side addr port t)
-    → part ≡ with_end v.next_header side (addr_of side v) addr port (ipv4_payload bytes)
-    → inner ≡ with_range bytes (ipv4.header_len bytes) (ipv4.total_len bytes) part → new ≡ with_address Destination addr inner
-    → ((w : Ipv4Repr) (verified : Bool) → ipv4.Reads inner verified w → ipv4.Reads new verified (record w { dst_addr = addr })) → IsWritten side v bytes new addr port
-written-destination side v bytes part inner new addr port is four r e rewrites ended within at step =
-    written side v bytes part new addr port four r e rewrites ended
-    (at ∙ (λ i. with_address (sym is i) addr (within i)))
-    (λ w reads. subst (λ (s : Side). ipv4.Reads new true (with_addr s addr w)) (sym is)
-    (step w true (subst (λ (l : List ℕ). ipv4.Reads l true w) (sym within) reads)))
-
--- a packet that is written carries the translated transport
-pub written-carries : (side : Side) (v : Ipv4Repr) (bytes done new addr : List ℕ) (port : ℕ) → IsWritten side v bytes done addr port → new ≡ done
-    → (t : Transport) → CarriesPorts bytes v t → CarriesPorts new (with_addr side addr v) (with_port side port t)
-written-carries side v bytes done new addr port w same t c = subst (λ (l : List ℕ). CarriesPorts l (with_addr side addr v) (with_port side port t)) (sym same) (w.carries t c)
-
--- a packet that is written has the bytes of the translated packet
-pub written-bytes : (side : Side) (v : Ipv4Repr) (bytes done new addr : List ℕ) (port : ℕ) → IsWritten side v bytes done addr port → new ≡ done
-    → new ≡ translated_packet side addr port bytes
-written-bytes side v bytes done new addr port w same = same ∙ w.as_said
+-- a packet with another address on this side
+pub readdressed : (side on : Side) (done new addr : List ℕ) (v : Ipv4Repr) → side ≡ on → new ≡ done → ipv4.Reads done true (with_addr on addr v) → ipv4.Reads new true (with_addr side addr v)
+readdressed side on done new addr v is at r =
+    subst (λ (s : Side). ipv4.Reads new true (with_addr s addr v)) (sym is) (subst (λ (l : List ℕ). ipv4.Reads l true (with_addr on addr v)) (sym at) r)
 
 -- ---- the frame
 
@@ -363,19 +292,6 @@ other-rejected frame answer link reads is names = record {
 pub bad-header : (bytes : List ℕ) (answer : Result Ipv4Repr Error) (error : Error)
     → ((v : Ipv4Repr) → (answer ≡ Ok v) ↔ ipv4.Reads bytes false v) → answer ≡ Err error → (v : Ipv4Repr) → ¬ ipv4.Reads bytes false v
 bad-header bytes answer error reads is v r = let other : answer ≡ Ok v = (reads v).1 r in absurd (cc)
-
--- a header with a valid checksum
-pub reads-checked : (bytes : List ℕ) (v : Ipv4Repr) → ipv4.Reads bytes false v → ipv4.HasChecksum bytes → ipv4.Reads bytes true v
-reads-checked bytes v r full = record {
-  lengths = r.lengths;
-  version = r.version;
-  checksum = λ _. full;
-  payload_len = r.payload_len;
-  hop_limit = r.hop_limit;
-  next_header = r.next_header;
-  src_addr = r.src_addr;
-  dst_addr = r.dst_addr;
-}
 
 -- if P implies Q, an error with P has Q, and the same for a value
 pub if-err : {T : Type 0} (answer : Result T Rejection) (P Q : Rejection → Type 0) → ((e : Rejection) → P e → Q e) → IfErr answer P → IfErr answer Q

@@ -6,10 +6,11 @@ use Rattle.ip_wire.proofs.Spelled.{AreBytes}
 use Rattle.ip_wire.specs.Field.{field, with_field, word_at}
 use Rattle.ip_wire.specs.Udp.{with_updated_checksum}
 use Rattle.ip_wire.specs.WordSum.{sum_of_bytes}
-use Rattle.ip_nat.proofs.Cells.{cells-drop, word_high, word_low}
+use Rattle.ip_wire.proofs.Cells.{cells-drop, word_high, word_low}
+use Rattle.ip_nat.proofs.Ends.{IsPorted, back, ended}
 use Rattle.ip_nat.proofs.Residues.{sum-fits, udp-back_twice, udp-step, udp_updated}
 use Rattle.ip_nat.proofs.Words.{high-spelled, low-spelled, spelled-fits, spelled-word, word}
-use Rattle.ip_nat.specs.Nat.{with_udp_end}
+use Rattle.ip_nat.specs.Nat.{port_bit, with_udp_end}
 use Rattle.ip_nat.specs.declared.nat.Side.{Side}
 use Rattle.ip_nat.specs.declared.nat.Side.TheVariants.{Source, Destination}
 
@@ -88,73 +89,51 @@ updated-header p q e f s old new rest fits =
     by_case true = refl
     by_case false = put-checksum p q e f s (udp_updated s old new) rest
 
--- ---- a port
+-- ---- a port and the checksum
 
-put-src : (p q e f s x : ℕ) (rest : List ℕ) → with_field (header p q e f s rest) 0 16 x ≡ header x q e f s rest
-put-src p q e f s x rest =
-    let n = word_at (header p q e f s rest) 0 16 in
-    λ i. word_high n x i ∷ word_low n x i ∷ word q (e ∷ f ∷ word s rest)
+-- the packet with this port on this side and this checksum
+abbrev udp_bytes : Side → List ℕ → ℕ → ℕ → List ℕ
+udp_bytes Source l p s = header p (field l 16 16) (slice_index l 4) (slice_index l 5) s (drop 8 l)
+udp_bytes Destination l q s = header (field l 0 16) q (slice_index l 4) (slice_index l 5) s (drop 8 l)
 
-put-dst : (p q e f s x : ℕ) (rest : List ℕ) → with_field (header p q e f s rest) 16 16 x ≡ header p x e f s rest
-put-dst p q e f s x rest =
-    let n = word_at (header p q e f s rest) 16 16 in
-    λ i. word p (word_high n x i ∷ word_low n x i ∷ e ∷ f ∷ word s rest)
+udp-is : (side : Side) (l : List ℕ) → AreBytes l → 8 ≤ length l → l ≡ udp_bytes side l (field l (port_bit side) 16) (field l 48 16)
+udp-is Source l are room = header-of l are room
+udp-is Destination l are room = header-of l are room
 
-ended-src : (p q e f s x : ℕ) (rest old new : List ℕ) → p < 65536 → s < 65536
-    → with_udp_end Source old new x (header p q e f s rest)
-    ≡ header x q e f (udp_next (udp_next s (sum_of_bytes old) (sum_of_bytes new)) p x) rest
-ended-src p q e f s x rest old new ps fits =
-    let s1 = udp_next s (sum_of_bytes old) (sum_of_bytes new) in
-    ap (λ (l : List ℕ). with_updated_checksum (with_field l 0 16 x) (field l 0 16) x) (updated-header p q e f s (sum_of_bytes old) (sum_of_bytes new) rest fits)
-    ∙ (λ i. with_updated_checksum (put-src p q e f s1 x rest i) (spelled-word p ps i) x)
-    ∙ updated-header x q e f s1 p x rest (next-fits s (sum_of_bytes old) (sum_of_bytes new) fits)
+ported : (side : Side) (l : List ℕ) → IsPorted with_updated_checksum udp_next side (udp_bytes side l)
+ported Source l = record {
+  put = λ p s x.
+      let n = word_at (udp_bytes Source l p s) 0 16 in
+      λ i. word_high n x i ∷ word_low n x i ∷ word (field l 16 16) (slice_index l 4 ∷ slice_index l 5 ∷ word s (drop 8 l));
+  get = λ p s. spelled-word p;
+  updated = λ p s o n. updated-header p (field l 16 16) (slice_index l 4) (slice_index l 5) s o n (drop 8 l);
+  fits = next-fits;
+}
+ported Destination l = record {
+  put = λ q s x.
+      let n = word_at (udp_bytes Destination l q s) 16 16 in
+      λ i. word (field l 0 16) (word_high n x i ∷ word_low n x i ∷ slice_index l 4 ∷ slice_index l 5 ∷ word s (drop 8 l));
+  get = λ q s. spelled-word q;
+  updated = λ q s o n. updated-header (field l 0 16) q (slice_index l 4) (slice_index l 5) s o n (drop 8 l);
+  fits = next-fits;
+}
 
-ended-dst : (p q e f s x : ℕ) (rest old new : List ℕ) → q < 65536 → s < 65536
-    → with_udp_end Destination old new x (header p q e f s rest)
-    ≡ header p x e f (udp_next (udp_next s (sum_of_bytes old) (sum_of_bytes new)) q x) rest
-ended-dst p q e f s x rest old new qs fits =
-    let s1 = udp_next s (sum_of_bytes old) (sum_of_bytes new) in
-    ap (λ (l : List ℕ). with_updated_checksum (with_field l 16 16 x) (field l 16 16) x) (updated-header p q e f s (sum_of_bytes old) (sum_of_bytes new) rest fits)
-    ∙ (λ i. with_updated_checksum (put-dst p q e f s1 x rest i) (spelled-word q qs i) x)
-    ∙ updated-header p x e f s1 q x rest (next-fits s (sum_of_bytes old) (sum_of_bytes new) fits)
+port-fits : (side : Side) (l : List ℕ) → field l (port_bit side) 16 < 65536
+port-fits Source l = spelled-fits (slice_index l 0) (slice_index l 1)
+port-fits Destination l = spelled-fits (slice_index l 2) (slice_index l 3)
 
--- ---- and back
-
-back-src : (p q e f s x : ℕ) (rest old new : List ℕ) → p < 65536 → s < 65536 → x < 65536
-    → with_udp_end Source new old p (with_udp_end Source old new x (header p q e f s rest)) ≡ header p q e f s rest
-back-src p q e f s x rest old new ps fits xs =
-    let o = sum_of_bytes old in
-    let n = sum_of_bytes new in
-    let s2 = udp_next (udp_next s o n) p x in
-    ap (with_udp_end Source new old p) (ended-src p q e f s x rest old new ps fits)
-    ∙ ended-src x q e f s2 p rest new old xs (next-fits (udp_next s o n) p x (next-fits s o n fits))
-    ∙ ap (λ (k : ℕ). header p q e f k rest) (next-back s o n p x fits (sum-fits old) (sum-fits new) (omega (arith, ps)) (omega (arith, xs)))
-
-back-dst : (p q e f s x : ℕ) (rest old new : List ℕ) → q < 65536 → s < 65536 → x < 65536
-    → with_udp_end Destination new old q (with_udp_end Destination old new x (header p q e f s rest)) ≡ header p q e f s rest
-back-dst p q e f s x rest old new qs fits xs =
-    let o = sum_of_bytes old in
-    let n = sum_of_bytes new in
-    let s2 = udp_next (udp_next s o n) q x in
-    ap (with_udp_end Destination new old q) (ended-dst p q e f s x rest old new qs fits)
-    ∙ ended-dst p x e f s2 q rest new old xs (next-fits (udp_next s o n) q x (next-fits s o n fits))
-    ∙ ap (λ (k : ℕ). header p q e f k rest) (next-back s o n q x fits (sum-fits old) (sum-fits new) (omega (arith, qs)) (omega (arith, xs)))
-
--- translating the source of a UDP packet and then back gives the packet again
-pub udp-back-src : (l old new : List ℕ) (x : ℕ) → AreBytes l → 8 ≤ length l → x < 65536
-    → with_udp_end Source new old (field l 0 16) (with_udp_end Source old new x l) ≡ l
-udp-back-src l old new x are room xs =
-    let P : List ℕ → Type 0 = λ m. with_udp_end Source new old (field l 0 16) (with_udp_end Source old new x m) ≡ m in
-    subst P (sym (header-of l are room))
-    (back-src (field l 0 16) (field l 16 16) (slice_index l 4) (slice_index l 5) (field l 48 16) x (drop 8 l) old new (spelled-fits (slice_index l 0) (slice_index l 1)) (spelled-fits (slice_index l 6) (slice_index l 7)) xs)
-
--- translating the destination of a UDP packet and then back gives the packet again
-pub udp-back-dst : (l old new : List ℕ) (x : ℕ) → AreBytes l → 8 ≤ length l → x < 65536
-    → with_udp_end Destination new old (field l 16 16) (with_udp_end Destination old new x l) ≡ l
-udp-back-dst l old new x are room xs =
-    let P : List ℕ → Type 0 = λ m. with_udp_end Destination new old (field l 16 16) (with_udp_end Destination old new x m) ≡ m in
-    subst P (sym (header-of l are room))
-    (back-dst (field l 0 16) (field l 16 16) (slice_index l 4) (slice_index l 5) (field l 48 16) x (drop 8 l) old new (spelled-fits (slice_index l 2) (slice_index l 3)) (spelled-fits (slice_index l 6) (slice_index l 7)) xs)
+-- translating a UDP packet and then back gives the packet again
+pub udp-back : (side : Side) (l old new : List ℕ) (x : ℕ) → AreBytes l → 8 ≤ length l → x < 65536
+    → with_udp_end side new old (field l (port_bit side) 16) (with_udp_end side old new x l) ≡ l
+udp-back side l old new x are room xs =
+    let p = field l (port_bit side) 16 in
+    let s = field l 48 16 in
+    let ps = port-fits side l in
+    let ss = spelled-fits (slice_index l 6) (slice_index l 7) in
+    let is = udp-is side l are room in
+    ap (λ (m : List ℕ). with_udp_end side new old p (with_udp_end side old new x m)) is
+    ∙ back with_updated_checksum udp_next side (udp_bytes side l) p s x old new (ported side l) ps ss xs (next-back s (sum_of_bytes old) (sum_of_bytes new) p x ss (sum-fits old) (sum-fits new) (omega (arith, ps)) (omega (arith, xs)))
+    ∙ sym is
 
 -- ---- the same for any bytes
 
@@ -172,8 +151,12 @@ none-next s old new z = elim (cases_lt 0 s) [
   | inr none ↦ omega (arith, none)
 ]
 
-ended_header : (p q e f s x y t : ℕ) (rest : List ℕ) → s < 65536 → t < 65536 → (s ≡ 0 → t ≡ 0) → (t ≡ 0 → s ≡ 0) → IsEnded (header p q e f s rest) (header x y e f t rest)
-ended_header p q e f s x y t rest a b there back = record {
+ended_header : (side : Side) (l : List ℕ) (p s x t : ℕ) → s < 65536 → t < 65536 → (s ≡ 0 → t ≡ 0) → (t ≡ 0 → s ≡ 0) → IsEnded (udp_bytes side l p s) (udp_bytes side l x t)
+ended_header Source l p s x t a b there back = record {
+  long = refl;
+  unsummed = (λ k. spelled-word t b ∙ there (sym (spelled-word s a) ∙ k), λ k. spelled-word s a ∙ back (sym (spelled-word t b) ∙ k));
+}
+ended_header Destination l p s x t a b there back = record {
   long = refl;
   unsummed = (λ k. spelled-word t b ∙ there (sym (spelled-word s a) ∙ k), λ k. spelled-word s a ∙ back (sym (spelled-word t b) ∙ k));
 }
@@ -187,23 +170,12 @@ two s o n p x fits = (
 
 -- a translated UDP packet keeps its length, and has a checksum exactly if it had one
 pub udp-ended : (side : Side) (l old new : List ℕ) (x : ℕ) → AreBytes l → 8 ≤ length l → IsEnded l (with_udp_end side old new x l)
-udp-ended Source l old new x are room =
-    let p = field l 0 16 in
-    let q = field l 16 16 in
+udp-ended side l old new x are room =
+    let p = field l (port_bit side) 16 in
     let s = field l 48 16 in
-    let ps = spelled-fits (slice_index l 0) (slice_index l 1) in
-    let fits = spelled-fits (slice_index l 6) (slice_index l 7) in
-    let t = two s (sum_of_bytes old) (sum_of_bytes new) p x fits in
-    subst (λ (m : List ℕ). IsEnded m (with_udp_end Source old new x m)) (sym (header-of l are room))
-    (subst (IsEnded (header p q (slice_index l 4) (slice_index l 5) s (drop 8 l))) (sym (ended-src p q (slice_index l 4) (slice_index l 5) s x (drop 8 l) old new ps fits))
-    (ended_header p q (slice_index l 4) (slice_index l 5) s x q _ (drop 8 l) fits t.0 t.1 t.2))
-udp-ended Destination l old new x are room =
-    let p = field l 0 16 in
-    let q = field l 16 16 in
-    let s = field l 48 16 in
-    let qs = spelled-fits (slice_index l 2) (slice_index l 3) in
-    let fits = spelled-fits (slice_index l 6) (slice_index l 7) in
-    let t = two s (sum_of_bytes old) (sum_of_bytes new) q x fits in
-    subst (λ (m : List ℕ). IsEnded m (with_udp_end Destination old new x m)) (sym (header-of l are room))
-    (subst (IsEnded (header p q (slice_index l 4) (slice_index l 5) s (drop 8 l))) (sym (ended-dst p q (slice_index l 4) (slice_index l 5) s x (drop 8 l) old new qs fits))
-    (ended_header p q (slice_index l 4) (slice_index l 5) s p x _ (drop 8 l) fits t.0 t.1 t.2))
+    let ss = spelled-fits (slice_index l 6) (slice_index l 7) in
+    let t = two s (sum_of_bytes old) (sum_of_bytes new) p x ss in
+    let is = udp-is side l are room in
+    subst (λ (m : List ℕ). IsEnded m (with_udp_end side old new x m)) (sym is)
+    (subst (IsEnded (udp_bytes side l p s)) (sym (ended with_updated_checksum udp_next side (udp_bytes side l) p s x old new (ported side l) (port-fits side l) ss))
+    (ended_header side l p s x _ ss t.0 t.1 t.2))

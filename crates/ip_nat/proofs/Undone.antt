@@ -8,19 +8,17 @@ use Rattle.ip_wire.specs.Frame.{ReadsTransport, Transport, all_checked, datagram
 use Rattle.ip_wire.specs.Ipv4 as ipv4
 use Rattle.ip_wire.specs.Protocol.{protocol_of}
 use Rattle.ip_wire.specs.WordSum.{sum_of_bytes, updated}
-use Rattle.ip_wire.specs.declared.IpProtocol.{IpProtocol}
+use Rattle.ip_wire.specs.Types.{IpProtocol, Ipv4, Ipv4Repr}
 use Rattle.ip_wire.specs.declared.IpProtocol.TheVariants as protocol
-use Rattle.ip_wire.specs.declared.IpRepr.TheVariants.{Ipv4}
-use Rattle.ip_wire.specs.declared.Ipv4Repr.{Ipv4Repr}
-use Rattle.ip_nat.proofs.Cells.{cells, cells-all, cells-drop, word_high, word_low}
+use Rattle.ip_wire.proofs.Cells.{cells, cells-all, cells-drop, word_high, word_low}
 use Rattle.ip_nat.proofs.Headers.{addressed, front-len, keeps, past-front, same-inner}
 use Rattle.ip_nat.proofs.Payloads.{drop-front, range-len, range-past, range-same, range-twice}
 use Rattle.ip_nat.proofs.Residues.{sum-fits, updated-back}
-use Rattle.ip_nat.proofs.TcpEnds.{tcp-back-dst, tcp-back-src}
+use Rattle.ip_nat.proofs.TcpEnds.{tcp-back}
 use Rattle.ip_nat.proofs.Translates.{addr-read, carried, ended-len, inner-payload, payload-len}
-use Rattle.ip_nat.proofs.UdpEnds.{udp-back-dst, udp-back-src}
+use Rattle.ip_nat.proofs.UdpEnds.{udp-back}
 use Rattle.ip_nat.proofs.Words.{high-spelled, low-spelled, spelled-fits, spelled-word, word}
-use Rattle.ip_nat.specs.Nat.{CarriesPorts, HasPorts, HasUsualChecksums, IsTranslated, addr_at, addr_of, port_of, translated_packet, with_address, with_end}
+use Rattle.ip_nat.specs.Nat.{CarriesPorts, HasPorts, HasUsualChecksums, IsTranslated, addr_at, addr_of, port_bit, port_of, translated_packet, with_address, with_end}
 use Rattle.ip_nat.specs.declared.nat.Side.{Side}
 use Rattle.ip_nat.specs.declared.nat.Side.TheVariants.{Source, Destination}
 
@@ -105,21 +103,23 @@ either_order side bytes addr part h n room least most four =
     ∙ sym after.apart
     ∙ ap (with_address side addr) (sym (past-front bytes part h n room least most))
 
-port_at : Side → List ℕ → ℕ
-port_at Source bytes = field bytes 0 16
-port_at Destination bytes = field bytes 16 16
+-- the port of what was parsed is the port in the bytes
+port-read : (v : Ipv4Repr) (t : Transport) (side : Side) (bytes : List ℕ) → HasPorts t → ReadsTransport all_checked (Ipv4 v) bytes t → port_of side t ≡ field bytes (port_bit side) 16
+port-read v (datagram u payload) Source bytes h r = r.1.src_port
+port-read v (datagram u payload) Destination bytes h r = r.1.dst_port
+port-read v (segment u payload) Source bytes h r = r.1.src_port
+port-read v (segment u payload) Destination bytes h r = r.1.dst_port
+port-read v (other payload) side bytes h r = absurd h
 
 transport-back : (v : Ipv4Repr) (t : Transport) (side : Side) (old new : List ℕ) (port : ℕ) (bytes : List ℕ) → AreBytes bytes → port < 65536 → HasPorts t
     → (v.next_header ≡ protocol.Tcp → field bytes 128 16 ≢ 65535)
     → ReadsTransport all_checked (Ipv4 v) bytes t → with_end v.next_header side new old (port_of side t) (with_end v.next_header side old new port bytes) ≡ bytes
-transport-back v (datagram u payload) Source old new port bytes are fits h usual r =
-    (λ i. with_end (r.0 i) Source new old (r.1.src_port i) (with_end (r.0 i) Source old new port bytes)) ∙ udp-back-src bytes old new port are r.1.lengths.least fits
-transport-back v (datagram u payload) Destination old new port bytes are fits h usual r =
-    (λ i. with_end (r.0 i) Destination new old (r.1.dst_port i) (with_end (r.0 i) Destination old new port bytes)) ∙ udp-back-dst bytes old new port are r.1.lengths.least fits
-transport-back v (segment u payload) Source old new port bytes are fits h usual r =
-    (λ i. with_end (r.0 i) Source new old (r.1.src_port i) (with_end (r.0 i) Source old new port bytes)) ∙ tcp-back-src bytes old new port are (omega (arith, r.1.lengths.least)) (usual r.0) fits
-transport-back v (segment u payload) Destination old new port bytes are fits h usual r =
-    (λ i. with_end (r.0 i) Destination new old (r.1.dst_port i) (with_end (r.0 i) Destination old new port bytes)) ∙ tcp-back-dst bytes old new port are (omega (arith, r.1.lengths.least)) (usual r.0) fits
+transport-back v (datagram u payload) side old new port bytes are fits h usual r =
+    let port_is = port-read v (datagram u payload) side bytes h r in
+    (λ i. with_end (r.0 i) side new old (port_is i) (with_end (r.0 i) side old new port bytes)) ∙ udp-back side bytes old new port are r.1.lengths.least fits
+transport-back v (segment u payload) side old new port bytes are fits h usual r =
+    let port_is = port-read v (segment u payload) side bytes h r in
+    (λ i. with_end (r.0 i) side new old (port_is i) (with_end (r.0 i) side old new port bytes)) ∙ tcp-back side bytes old new port are (omega (arith, r.1.lengths.least)) (usual r.0) fits
 transport-back v (other payload) side old new port bytes are fits h usual r = absurd h
 
 packet-back : (bytes : List ℕ) (v : Ipv4Repr) (t : Transport) (side : Side) (addr : List ℕ) (port : ℕ) → CarriesPorts bytes v t → AreBytes bytes → length addr ≡ 4 → port < 65536

@@ -10,12 +10,8 @@ use Rattle.ip_wire.specs.TcpRepr.{TcpHeader}
 use Rattle.ip_wire.specs.Udp as udp
 use Rattle.ip_wire.specs.WordSum.{sum_of_bytes}
 use Rattle.ip_wire.specs.declared.EthernetProtocol.TheVariants as ethertype
-use Rattle.ip_wire.specs.declared.EthernetRepr.{EthernetRepr}
-use Rattle.ip_wire.specs.declared.IpProtocol.{IpProtocol}
+use Rattle.ip_wire.specs.Types.{EthernetRepr, IpProtocol, Ipv4, Ipv4Repr, UdpRepr}
 use Rattle.ip_wire.specs.declared.IpProtocol.TheVariants as protocol
-use Rattle.ip_wire.specs.declared.IpRepr.TheVariants.{Ipv4}
-use Rattle.ip_wire.specs.declared.Ipv4Repr.{Ipv4Repr}
-use Rattle.ip_wire.specs.declared.UdpRepr.{UdpRepr}
 use Rattle.ip_nat.specs.declared.nat.Rejection.{Rejection}
 use Rattle.ip_nat.specs.declared.nat.Rejection.TheVariants.{NotIpv4, BadHeader, WrongChecksum, Fragment, OtherProtocol, BadTransport}
 use Rattle.ip_nat.specs.declared.nat.Side.{Side}
@@ -63,24 +59,25 @@ with_port side port (other payload) = other payload
 
 -- ---- bytes
 
--- the bytes of a UDP packet after two steps: the checksum is updated for the new address; then the port is written and
--- the checksum updated for it. A checksum of 0 stays 0.
-abbrev pub with_udp_end : Side → List ℕ → List ℕ → ℕ → List ℕ → List ℕ
-with_udp_end Source old new port bytes =
-    let covered = udp.with_updated_checksum bytes (sum_of_bytes old) (sum_of_bytes new) in
-    udp.with_updated_checksum (with_field covered 0 16 port) (field covered 0 16) port
-with_udp_end Destination old new port bytes =
-    let covered = udp.with_updated_checksum bytes (sum_of_bytes old) (sum_of_bytes new) in
-    udp.with_updated_checksum (with_field covered 16 16 port) (field covered 16 16) port
+-- the first bit of the port on this side
+abbrev pub port_bit : Side → ℕ
+port_bit Source = 0
+port_bit Destination = 16
 
--- the bytes of a TCP segment after the same steps
+-- the bytes of a packet after two steps, where this function updates its checksum: the checksum is updated for the new
+-- address; then the port is written and the checksum updated for it
+abbrev pub with_end_by : (List ℕ → ℕ → ℕ → List ℕ) → Side → List ℕ → List ℕ → ℕ → List ℕ → List ℕ
+with_end_by update side old new port bytes =
+    let covered = update bytes (sum_of_bytes old) (sum_of_bytes new) in
+    update (with_field covered (port_bit side) 16 port) (field covered (port_bit side) 16) port
+
+-- the bytes of a UDP packet after these steps; a checksum of 0 stays 0
+abbrev pub with_udp_end : Side → List ℕ → List ℕ → ℕ → List ℕ → List ℕ
+with_udp_end = with_end_by udp.with_updated_checksum
+
+-- the bytes of a TCP segment after these steps
 abbrev pub with_tcp_end : Side → List ℕ → List ℕ → ℕ → List ℕ → List ℕ
-with_tcp_end Source old new port bytes =
-    let covered = tcp.with_updated_checksum bytes (sum_of_bytes old) (sum_of_bytes new) in
-    tcp.with_updated_checksum (with_field covered 0 16 port) (field covered 0 16) port
-with_tcp_end Destination old new port bytes =
-    let covered = tcp.with_updated_checksum bytes (sum_of_bytes old) (sum_of_bytes new) in
-    tcp.with_updated_checksum (with_field covered 16 16 port) (field covered 16 16) port
+with_tcp_end = with_end_by tcp.with_updated_checksum
 
 -- the payload of a packet of this protocol, for a new address on this side, with this port
 abbrev pub with_end : IpProtocol → Side → List ℕ → List ℕ → ℕ → List ℕ → List ℕ

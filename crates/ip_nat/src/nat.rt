@@ -1,13 +1,12 @@
 //! Network address translation of one address and port (RFC 3022, sections 2.2 and 4.1).
 
 ghost use Rattle.std.specs.Prelude.{◌≡◌, ◌≢◌, ◌≤◌, List, ℕ, IfErr, IfOk, OnErr, OnOk, length, true};
-ghost use Rattle.ip_nat.specs.Nat.{Carries, CarriesPorts, HasPorts, IsRejected, IsRejectedPacket, IsRejectedTransport, IsTranslated, Rewrites, addr_of, translated_packet, with_addr, with_end, with_port, with_tcp_end, with_udp_end};
+ghost use Rattle.ip_nat.specs.Nat.{Carries, CarriesPorts, HasPorts, IsRejected, IsRejectedPacket, IsRejectedTransport, IsTranslated, Rewrites, addr_of, translated_packet, with_addr, with_address, with_end, with_port, with_tcp_end, with_udp_end};
 ghost use Rattle.ip_wire.specs.Frame as whole;
 ghost use Rattle.ip_wire.specs.Frame.{ReadsTransport, all_checked};
 ghost use Rattle.ip_wire.specs.Ipv4 as ipv4;
 ghost use Rattle.ip_wire.specs.TcpRepr.{TcpHeader};
-ghost use Rattle.ip_wire.specs.declared.EthernetRepr.{EthernetRepr};
-ghost use Rattle.ip_wire.specs.declared.UdpRepr.{UdpRepr};
+ghost use Rattle.ip_wire.specs.Types.{EthernetRepr, Ipv4Repr, UdpRepr};
 
 use ip_wire::laws::octets_fit;
 use ip_wire::{
@@ -143,6 +142,15 @@ fn rewrite(header: Ipv4Repr, packet: &mut [u8], side: Side, addr: Ipv4Address, p
     let (_, rest) = packet.split_at_mut(start);
     let (payload, _) = rest.split_at_mut(end - start);
     rewrite_transport(header, payload, side, addr, port);
+    set_addr(packet, side, addr);
+}
+
+// Writes the address into an IPv4 packet, and updates the checksum of its header.
+fn set_addr(packet: &mut [u8], side: Side, addr: Ipv4Address)
+    requires { 20 ≤ length packet.old }
+    ensures reads { (v : Ipv4Repr) → ipv4.Reads packet.old true v → ipv4.Reads packet.new true (with_addr side addr v) }
+    ensures bytes { packet.new ≡ with_address side addr packet.old }
+{
     let mut packet = Ipv4PacketMut::new_unchecked(packet);
     match side {
         Side::Source => packet.update_src_addr(addr),

@@ -1,12 +1,10 @@
 -- The reply to an ARP request in a frame.
-use Rattle.std.proofs.Common.{◌≡◌, ◌∙◌, List, Option, Some, None, refl, sym, ap, subst}
+use Rattle.std.proofs.Common.{◌≡◌, ◌∙◌, Some, None, refl, sym, ap, subst}
 use Rattle.ip_wire.specs.Arp as arp
 use Rattle.ip_wire.specs.Frame as frame
 use Rattle.ip_wire.specs.FrameValue.{arp_frame, carried_of}
-use Rattle.ip_wire.specs.declared.ArpRepr.{ArpRepr}
+use Rattle.ip_wire.specs.Types.{ArpRepr, EthernetAddress, EthernetRepr}
 use Rattle.ip_wire.specs.declared.Carried.TheVariants as carried
-use Rattle.ip_wire.specs.declared.EthernetAddress.{EthernetAddress}
-use Rattle.ip_wire.specs.declared.EthernetRepr.{EthernetRepr}
 use Rattle.ip_wire.specs.declared.Frame.{Frame}
 use Rattle.ip_replies.specs.Arp.{ArpRepliesFrame, IsArpReply}
 use Rattle.ip_replies.specs.Reply.{Gives, IsSendable}

@@ -1,22 +1,19 @@
 -- The echo of a parsed frame.
-use Rattle.std.proofs.Common.{ℕ, ◌≡◌, ◌≢◌, ◌∙◌, ◌≤◌, ◌+◌, List, Option, Some, None, length, refl, sym, ap, subst, arith}
+use Rattle.std.proofs.Common.{ℕ, ◌≡◌, ◌≢◌, ◌∙◌, ◌≤◌, ◌+◌, List, Some, None, length, refl, sym, ap, subst, arith}
 use Rattle.std.specs.Borrow.{Bor}
 use Rattle.ip_wire.specs.Frame as frame
 use Rattle.ip_wire.specs.Frame.{type_of}
 use Rattle.ip_wire.specs.FrameValue.{Agrees, Fits, carried_of, frame_around, header_before}
 use Rattle.ip_wire.specs.Ip.{max_payload_len}
 use Rattle.ip_wire.specs.declared.Carried.TheVariants as carried
-use Rattle.ip_wire.specs.declared.EthernetRepr.{EthernetRepr}
+use Rattle.ip_wire.specs.Types.{EthernetRepr, IpRepr, Ipv4, Ipv6, UdpRepr}
 use Rattle.ip_wire.specs.declared.Frame.{Frame}
 use Rattle.ip_wire.specs.declared.IpProtocol.TheVariants as protocol
-use Rattle.ip_wire.specs.declared.IpRepr.{IpRepr}
-use Rattle.ip_wire.specs.declared.IpRepr.TheVariants.{Ipv4, Ipv6}
 use Rattle.ip_wire.specs.declared.Transport.TheVariants as transport
-use Rattle.ip_wire.specs.declared.UdpRepr.{UdpRepr}
 use Rattle.ip_replies.proofs.Carries.{carries_udp}
 use Rattle.ip_replies.specs.Interface.{IsForUs, header_back}
 use Rattle.ip_replies.specs.Reply.{Gives, IsSendable}
-use Rattle.ip_replies.specs.UdpEcho.{EchoesFrame, IsEcho}
+use Rattle.ip_replies.specs.UdpEcho.{EchoesFrame}
 use Rattle.ip_replies.specs.declared.interface.Interface.{Interface}
 
 -- the ports of the reply

@@ -1,5 +1,5 @@
 -- An emitted frame is a reply.
-use Rattle.std.proofs.Common.{ℕ, ◌≡◌, ◌∙◌, ◌+◌, ◌-◌, ◌<◌, ◌≤◌, ◌++◌, List, Option, Some, None, drop, length, refl, sym, ap, subst, arith, length-append, length-drop}
+use Rattle.std.proofs.Common.{ℕ, ◌≡◌, ◌∙◌, ◌+◌, ◌≤◌, ◌++◌, List, Option, Some, None, drop, length, refl, sym, ap, subst, arith, length-append, length-drop}
 use Rattle.std.proofs.Math.Seq.{drop-append_seam}
 use Rattle.ip_wire.specs.Frame as frame
 use Rattle.ip_wire.specs.Ethernet as ethernet
@@ -11,7 +11,7 @@ use Rattle.ip_wire.specs.declared.Carried.TheVariants as carried
 use Rattle.ip_wire.specs.declared.EthernetRepr.{EthernetRepr}
 use Rattle.ip_wire.specs.declared.Frame.{Frame}
 use Rattle.ip_wire.specs.declared.Transport.TheVariants as transport
-use Rattle.ip_replies.specs.Reply.{Gives, HasValues, IsSendable, IsSent, IsWritten, Sends, reply_len}
+use Rattle.ip_replies.specs.Reply.{Gives, IsSendable, IsSent, Sends, reply_len}
 
 -- the bytes behind the emitted frame
 pub rest_stays : (bytes old new : List ℕ) (n : ℕ) → new ≡ bytes ++ drop n old → length new ≡ length old → n ≤ length old → drop n new ≡ drop n old

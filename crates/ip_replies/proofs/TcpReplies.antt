@@ -1,19 +1,15 @@
 -- The reply to a TCP segment in a frame.
-use Rattle.std.proofs.Common.{ℕ, ◌≡◌, ◌≢◌, ◌∙◌, ◌≤◌, ◌<◌, ◌+◌, ◌-◌, ◌*◌, ◌/◌, ◌⊎◌, inl, inr, [], List, Bool, true, false, Option, Some, None, Contains, length, min, refl, sym, ap, subst, arith}
-use Rattle.std.specs.Prelude.{is_none, is_some, count_by, ◌||◌, if◌then◌else◌}
+use Rattle.std.proofs.Common.{ℕ, ◌≡◌, ◌≢◌, ◌∙◌, ◌≤◌, ◌+◌, inl, inr, [], List, Bool, true, false, Option, Some, None, length, min, refl, sym, ap, subst, arith}
+use Rattle.std.specs.Prelude.{is_none, is_some, ◌||◌, if◌then◌else◌}
 use Rattle.std.specs.Option.{option_map}
 use Rattle.ip_wire.specs.Frame as frame
 use Rattle.ip_wire.specs.Frame.{type_of}
-use Rattle.ip_wire.specs.FrameValue.{Agrees, Fits, FitsCarried, carried_of, frame_around, header_before, transport_len}
-use Rattle.ip_wire.specs.TcpRepr as tcp
-use Rattle.ip_wire.specs.TcpRepr.{TcpHeader, closed, header_len_of, header_of, len_if, no_ranges, normal, sack_len}
-use Rattle.ip_wire.specs.declared.Carried.{Carried}
+use Rattle.ip_wire.specs.FrameValue.{Agrees, Fits, carried_of, frame_around, header_before, transport_len}
+use Rattle.ip_wire.specs.TcpRepr.{TcpHeader, closed, header_len_of, header_of, len_if, no_ranges, normal}
 use Rattle.ip_wire.specs.declared.Carried.TheVariants as carried
-use Rattle.ip_wire.specs.declared.EthernetRepr.{EthernetRepr}
+use Rattle.ip_wire.specs.Types.{EthernetRepr, IpRepr, Ipv4, Ipv6}
 use Rattle.ip_wire.specs.declared.Frame.{Frame}
 use Rattle.ip_wire.specs.declared.IpProtocol.TheVariants as protocol
-use Rattle.ip_wire.specs.declared.IpRepr.{IpRepr}
-use Rattle.ip_wire.specs.declared.IpRepr.TheVariants.{Ipv4, Ipv6}
 use Rattle.ip_wire.specs.declared.TcpControl.{TcpControl}
 use Rattle.ip_wire.specs.declared.TcpControl.TheVariants as control
 use Rattle.ip_wire.specs.declared.TcpRepr.{TcpRepr}
@@ -22,7 +18,7 @@ use Rattle.ip_wire.specs.declared.Transport.TheVariants as transport
 use Rattle.ip_replies.proofs.Carries.{carries_tcp}
 use Rattle.ip_replies.specs.Interface.{IsForUs, header_back}
 use Rattle.ip_replies.specs.Reply.{Gives, IsSendable}
-use Rattle.ip_replies.specs.TcpReply.{IsTcpReply, Replies, TcpRepliesFrame, back, closed_by, listen_by, reset_by, reset_for, syn_ack}
+use Rattle.ip_replies.specs.TcpReply.{Replies, TcpRepliesFrame, back, closed_by, listen_by, reset_by, reset_for, syn_ack}
 use Rattle.ip_replies.specs.declared.interface.Interface.{Interface}
 use Rattle.ip_replies.specs.declared.tcp_reply.Offer.{Offer}
 
@@ -88,11 +84,6 @@ one_reply ports offer asked len a b (inr (lacks, is)) (inl (has, same)) = absurd
 one_reply ports offer asked len a b (inr (lacks, is)) (inr (also, same)) = cc
 
 -- ---- frames
-
--- the payload of a segment fits into an IP packet
-pub short_payload : (c : Carried) (v : IpRepr) (t : TcpRepr) → c ≡ carried.Packet v (transport.Tcp t) → FitsCarried c → length t.payload.now < 65536
-short_payload c (Ipv4 v) t is fits = let f = subst FitsCarried is fits in let len = f.0 in omega (arith, len)
-short_payload c (Ipv6 v) t is fits = let f = subst FitsCarried is fits in let len = f.0 in omega (arith, len)
 
 abbrev pub frame_of : Interface → EthernetRepr → IpRepr → TcpRepr → Frame
 frame_of ours link v t = frame_around ours.hardware_addr link.src_addr (header_back v) (transport.Tcp t)

@@ -4,11 +4,9 @@ use Rattle.ip_wire.specs.Frame.{Carried, IsReadWhole, message}
 use Rattle.ip_wire.specs.FrameValue.{carried_of}
 use Rattle.ip_wire.specs.Hardware.{IsUnicast}
 use Rattle.ip_wire.specs.declared.ArpOperation.TheVariants.{Request, Reply}
-use Rattle.ip_wire.specs.declared.ArpRepr.{ArpRepr}
+use Rattle.ip_wire.specs.Types.{ArpRepr, EthernetAddress, EthernetRepr}
 use Rattle.ip_wire.specs.declared.ArpRepr.TheVariants.{EthernetIpv4}
-use Rattle.ip_wire.specs.declared.EthernetAddress.{EthernetAddress}
 use Rattle.ip_wire.specs.declared.EthernetProtocol.TheVariants as ethertype
-use Rattle.ip_wire.specs.declared.EthernetRepr.{EthernetRepr}
 use Rattle.ip_wire.specs.declared.Frame.{Frame}
 use Rattle.ip_replies.specs.declared.interface.Interface.{Interface}
 

@@ -3,11 +3,8 @@ use Rattle.std.specs.Prelude.{◌≡◌}
 use Rattle.ip_wire.specs.Hardware as hardware
 use Rattle.ip_wire.specs.Ip.{dst_addr_of, src_addr_of}
 use Rattle.ip_wire.specs.IpAddress.{IsUnicast}
-use Rattle.ip_wire.specs.declared.EthernetRepr.{EthernetRepr}
-use Rattle.ip_wire.specs.declared.IpAddress.{IpAddress}
+use Rattle.ip_wire.specs.Types.{EthernetRepr, IpAddress, IpRepr, Ipv4, Ipv6}
 use Rattle.ip_wire.specs.declared.IpAddress.TheVariants as address
-use Rattle.ip_wire.specs.declared.IpRepr.{IpRepr}
-use Rattle.ip_wire.specs.declared.IpRepr.TheVariants.{Ipv4, Ipv6}
 use Rattle.ip_replies.specs.declared.interface.Interface.{Interface}
 
 -- it is the interface's address of its version

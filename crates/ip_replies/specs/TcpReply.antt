@@ -5,10 +5,9 @@ use Rattle.ip_wire.specs.Frame.{Carried, IsReadWhole, packet, segment, type_of}
 use Rattle.ip_wire.specs.FrameValue.{carried_of, header_before}
 use Rattle.ip_wire.specs.TcpRepr.{TcpHeader, header_len_of, no_ranges, seq_of}
 use Rattle.ip_wire.specs.TcpSeq.{control_len, number}
-use Rattle.ip_wire.specs.declared.EthernetRepr.{EthernetRepr}
+use Rattle.ip_wire.specs.Types.{EthernetRepr, IpRepr}
 use Rattle.ip_wire.specs.declared.Frame.{Frame}
 use Rattle.ip_wire.specs.declared.IpProtocol.TheVariants as protocol
-use Rattle.ip_wire.specs.declared.IpRepr.{IpRepr}
 use Rattle.ip_wire.specs.declared.TcpControl.{TcpControl}
 use Rattle.ip_wire.specs.declared.TcpControl.TheVariants as control
 use Rattle.ip_wire.specs.declared.TcpSeqNumber.{TcpSeqNumber}

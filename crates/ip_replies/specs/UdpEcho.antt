@@ -3,13 +3,10 @@ use Rattle.std.specs.Prelude.{ℕ, ◌≡◌, ◌≢◌, ◌≤◌, ◌+◌, Lis
 use Rattle.ip_wire.specs.Frame.{Carried, IsReadWhole, datagram, packet, type_of}
 use Rattle.ip_wire.specs.FrameValue.{carried_of, header_before}
 use Rattle.ip_wire.specs.Ip.{max_payload_len}
-use Rattle.ip_wire.specs.declared.EthernetRepr.{EthernetRepr}
+use Rattle.ip_wire.specs.Types.{EthernetRepr, IpRepr, UdpRepr}
 use Rattle.ip_wire.specs.declared.Frame.{Frame}
 use Rattle.ip_wire.specs.declared.IpProtocol.TheVariants as protocol
-use Rattle.ip_wire.specs.declared.IpRepr.{IpRepr}
-use Rattle.ip_wire.specs.declared.UdpRepr.{UdpRepr}
 use Rattle.ip_replies.specs.Interface.{IsForUs, header_back}
-use Rattle.ip_replies.specs.Reply.{HasValues}
 use Rattle.ip_replies.specs.declared.interface.Interface.{Interface}
 
 -- a frame with these values is a UDP packet for our port, and the other frame is its echo. A packet from the

@@ -2,9 +2,7 @@
 use Rattle.std.proofs.Common.{ℕ, ◌≡◌, ◌≢◌, ◌↔◌, Bool, true, false, IsErr, IsTrue, List, Result, Ok, Err, refl}
 use Rattle.ip_wire.specs.Field.{field}
 use Rattle.ip_wire.specs.Udp.{HasChecksum, HasLengths, Reads, header_of, payload_of}
-use Rattle.ip_wire.specs.declared.Error.{Error}
-use Rattle.ip_wire.specs.declared.IpAddress.{IpAddress}
-use Rattle.ip_wire.specs.declared.UdpRepr.{UdpRepr}
+use Rattle.ip_wire.specs.Types.{Error, IpAddress, UdpRepr}
 
 -- a packet with valid lengths and a destination port parses, if its checksum is valid or not verified
 whole-Reads : (bytes : List ℕ) (src dst : IpAddress) (verified : Bool) → HasLengths bytes → field bytes 16 16 ≢ 0

@@ -9,9 +9,8 @@ use Rattle.ip_wire.specs.Ip.{dst_addr_of, src_addr_of}
 use Rattle.ip_wire.specs.declared.Carried.{Carried}
 use Rattle.ip_wire.specs.declared.Carried.TheVariants as carried
 use Rattle.ip_wire.specs.declared.Frame.{Frame}
-use Rattle.ip_wire.specs.declared.IpProtocol.{IpProtocol}
+use Rattle.ip_wire.specs.Types.{IpProtocol, IpRepr}
 use Rattle.ip_wire.specs.declared.IpProtocol.TheVariants as protocol
-use Rattle.ip_wire.specs.declared.IpRepr.{IpRepr}
 use Rattle.ip_wire.specs.declared.Transport.TheVariants as transport
 
 -- the flow of a packet with this header and these ports

@@ -2,9 +2,7 @@
 
 ghost use Rattle.std.specs.Prelude.{ℕ, ◌≡◌, IfSome, List, None};
 ghost use Rattle.ip_wire.specs.Frame.{IsReadWhole, datagram, packet};
-ghost use Rattle.ip_wire.specs.declared.EthernetRepr.{EthernetRepr};
-ghost use Rattle.ip_wire.specs.declared.IpRepr.{IpRepr};
-ghost use Rattle.ip_wire.specs.declared.UdpRepr.{UdpRepr};
+ghost use Rattle.ip_wire.specs.Types.{EthernetRepr, IpRepr, UdpRepr};
 
 use ip_wire::{Carried, Frame, IpRepr, Transport, UdpRepr};
 use net_base::ChecksumCapabilities;

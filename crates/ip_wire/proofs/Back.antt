@@ -12,8 +12,7 @@ use Rattle.net_base.specs.declared.ChecksumCapabilities.{ChecksumCapabilities}
 use Rattle.wire_ethernet.specs.Ethernet as ethernet
 use Rattle.wire_ip.specs.Ip as ip
 use Rattle.wire_ip.specs.Ip.{dst_addr_of, src_addr_of, with_payload_len}
-use Rattle.wire_ip.specs.declared.IpRepr.{IpRepr}
-use Rattle.wire_ip.specs.declared.IpRepr.TheVariants.{Ipv4, Ipv6}
+use Rattle.ip_wire.specs.Types.{IpRepr, Ipv4, Ipv6}
 
 -- the addresses are those whatever the length of the payload
 pub src_addr-with : (v w : IpRepr) (n : ℕ) → w ≡ with_payload_len v n → src_addr_of w ≡ src_addr_of v

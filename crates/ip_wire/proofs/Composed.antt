@@ -12,16 +12,12 @@ use Rattle.wire_tcp.specs.TcpRepr as tcp_header
 use Rattle.wire_tcp.specs.TcpRepr.{TcpHeader}
 use Rattle.wire_udp.proofs.UdpReadsBack as udp
 use Rattle.wire_udp.specs.Udp as udp_header
-use Rattle.wire_udp.specs.declared.UdpRepr.{UdpRepr}
-use Rattle.wire_ends.specs.declared.IpVersion.{IpVersion}
+use Rattle.ip_wire.specs.Types.{EthernetRepr, IpRepr, IpVersion, Ipv4, Ipv6, UdpRepr}
 use Rattle.wire_ends.specs.declared.IpVersion.TheVariants as version
 use Rattle.wire_ip.specs.Ip.{bytes_of, dst_addr_of, next_header_of, normal, payload_len_of, src_addr_of, version_of}
-use Rattle.wire_ip.specs.declared.IpRepr.{IpRepr}
-use Rattle.wire_ip.specs.declared.IpRepr.TheVariants.{Ipv4, Ipv6}
 use Rattle.wire_ends.specs.Protocol.{number_of, protocol_of}
 use Rattle.wire_ethernet.proofs.EthernetEmitted as ethernet_header
 use Rattle.wire_ethernet.specs.Ethernet as ethernet
-use Rattle.wire_ethernet.specs.declared.EthernetRepr.{EthernetRepr}
 
 -- what the normal form says of a header
 record IsKept (w : IpRepr) : Type 0 where

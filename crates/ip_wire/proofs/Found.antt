@@ -1,5 +1,5 @@
 -- What is found in a frame, and what is read of it.
-use Rattle.std.proofs.Common.{ℕ, ◌≡◌, ◌≢◌, ◌↔◌, ◌∙◌, inl, inr, true, false, List, None, Some, drop, is_some, refl, sym, ap, subst}
+use Rattle.std.proofs.Common.{ℕ, ◌≡◌, ◌≢◌, ◌↔◌, ◌∙◌, true, false, List, None, Some, drop, is_some, refl, sym, ap, subst}
 use Rattle.ip_wire.proofs.ReadsOnce.{carried-once, computed-one, frame-once, not-arp, packet-once, transport-once, udp-computed}
 use Rattle.ip_wire.specs.Frame as frame
 use Rattle.ip_wire.specs.Frame.{ReadsCarried, ReadsFrame, ReadsPacket, ReadsTransport, datagram, message, other, packet, segment, type_of}
@@ -13,20 +13,12 @@ use Rattle.net_base.specs.Checksum.{verifies}
 use Rattle.net_base.specs.declared.ChecksumCapabilities.{ChecksumCapabilities}
 use Rattle.wire_ends.specs.declared.IpProtocol.TheVariants as protocol
 use Rattle.wire_arp.specs.Arp as arp
-use Rattle.wire_arp.specs.declared.ArpRepr.{ArpRepr}
+use Rattle.ip_wire.specs.Types.{ArpRepr, EthernetProtocol, EthernetRepr, IpRepr, Ipv4, Ipv4Repr, Ipv6, Ipv6Repr}
 use Rattle.wire_ipv4.specs.Ipv4 as ipv4
-use Rattle.wire_ipv4.specs.declared.Ipv4Repr.{Ipv4Repr}
 use Rattle.wire_ipv6.specs.Ipv6 as ipv6
-use Rattle.wire_ipv6.specs.declared.Ipv6Repr.{Ipv6Repr}
 use Rattle.wire_ethernet.proofs.EthernetComputed.{ethernet_of-Reads}
-use Rattle.wire_ethernet.specs.declared.EthernetProtocol.{EthernetProtocol}
 use Rattle.wire_ethernet.specs.declared.EthernetProtocol.TheVariants as ethertype
-use Rattle.wire_ethernet.specs.declared.EthernetRepr.{EthernetRepr}
 use Rattle.wire_ip.specs.Ip.{dst_addr_of, next_header_of, src_addr_of}
-use Rattle.wire_ip.specs.declared.IpRepr.{IpRepr}
-use Rattle.wire_ip.specs.declared.IpRepr.TheVariants.{Ipv4, Ipv6}
-use Rattle.wire_ipv4.proofs.Ipv4Computed.{ipv4_of-Reads}
-use Rattle.wire_ipv6.proofs.Ipv6Computed.{ipv6_of-Reads}
 use Rattle.wire_tcp.specs.TcpRepr.{HasNoReading}
 use Rattle.wire_udp.specs.Udp.{udp_of}
 

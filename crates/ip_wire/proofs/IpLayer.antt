@@ -7,7 +7,7 @@ use Rattle.net_base.specs.Checksum.{verifies}
 use Rattle.net_base.specs.declared.ChecksumCapabilities.{ChecksumCapabilities}
 use Rattle.wire_ends.proofs.Protocols.{number_of-protocol_of}
 use Rattle.wire_ends.specs.Protocol.{number_of}
-use Rattle.wire_ends.specs.declared.IpVersion.{IpVersion}
+use Rattle.ip_wire.specs.Types.{IpRepr, IpVersion, Ipv4, Ipv4Repr, Ipv6, Ipv6Repr}
 use Rattle.wire_ends.specs.declared.IpVersion.TheVariants as version
 use Rattle.wire_field.proofs.ByteLists.{AreBytes-append, AreBytes-cons, AreBytes-part, AreBytes-slice_range}
 use Rattle.wire_field.proofs.Cells.{cells-all}
@@ -16,20 +16,16 @@ use Rattle.wire_field.specs.Field.{field}
 use Rattle.wire_ip.proofs.IpComputed.{header_of_version-Some}
 use Rattle.wire_ip.proofs.IpReadsBack.{IsInRange}
 use Rattle.wire_ip.specs.Ip.{ReadsHeader, bytes_of, dst_addr_of, header_len_of, header_of_version, normal, payload_len_of, src_addr_of, version_of, with_payload_len}
-use Rattle.wire_ip.specs.declared.IpRepr.{IpRepr}
-use Rattle.wire_ip.specs.declared.IpRepr.TheVariants.{Ipv4, Ipv6}
 use Rattle.wire_ipv4.proofs.Ipv4Computed.{ipv4_of-Reads}
 use Rattle.wire_ipv4.proofs.Ipv4Normal as ipv4_normal
 use Rattle.wire_ipv4.proofs.Ipv4ReadsBack as ipv4_back
 use Rattle.wire_ipv4.specs.Ipv4 as ipv4
 use Rattle.wire_ipv4.specs.Ipv4.{ipv4_of}
-use Rattle.wire_ipv4.specs.declared.Ipv4Repr.{Ipv4Repr}
 use Rattle.wire_ipv6.proofs.Ipv6Computed.{ipv6_of-Reads}
 use Rattle.wire_ipv6.proofs.Ipv6Normal as ipv6_normal
 use Rattle.wire_ipv6.proofs.Ipv6ReadsBack as ipv6_back
 use Rattle.wire_ipv6.specs.Ipv6 as ipv6
 use Rattle.wire_ipv6.specs.Ipv6.{ipv6_of}
-use Rattle.wire_ipv6.specs.declared.Ipv6Repr.{Ipv6Repr}
 
 -- ---- packets that are read
 

@@ -10,17 +10,12 @@ use Rattle.ip_wire.proofs.TcpLayer.{Reads-tcp_segment_of, tcp_segment_of-Reads}
 use Rattle.ip_wire.proofs.UdpLayer.{Reads-udp_packet_of, udp_packet_of-Reads}
 use Rattle.ip_wire.specs.Frame.{Carried, IsReadWhole, Meaning, ReadsTransportBy, ReadsCarried, Transport, all_checked, arp, datagram, ethernet, frame_format, ip, meaning_as, meaning_of, message, normal_carried, normal_transport, other, packet, packet_format, packet_payload, payload_format, segment, tcp, transport_behind, transport_format, type_of_version, udp}
 use Rattle.ip_wire.specs.Layer.{copied, nothing}
-use Rattle.wire_ends.specs.declared.IpAddress.{IpAddress}
-use Rattle.wire_ends.specs.declared.IpVersion.{IpVersion}
+use Rattle.ip_wire.specs.Types.{EthernetProtocol, EthernetRepr, IpAddress, IpProtocol, IpVersion, Ipv4, Ipv6}
 use Rattle.wire_ends.specs.declared.IpVersion.TheVariants as version
 use Rattle.wire_ip.specs.Ip.{normal, with_payload_len}
-use Rattle.wire_ip.specs.declared.IpRepr.TheVariants.{Ipv4, Ipv6}
-use Rattle.wire_ends.specs.declared.IpProtocol.{IpProtocol}
 use Rattle.wire_ends.specs.declared.IpProtocol.TheVariants as protocol
 use Rattle.wire_arp.proofs.ArpComputed.{arp_of-Reads}
 use Rattle.wire_ethernet.proofs.EthernetComputed.{ethernet_of-Reads}
-use Rattle.wire_ethernet.specs.declared.EthernetRepr.{EthernetRepr}
-use Rattle.wire_ethernet.specs.declared.EthernetProtocol.{EthernetProtocol}
 use Rattle.wire_ethernet.specs.declared.EthernetProtocol.TheVariants as ethertype
 
 -- ---- what a packet carries

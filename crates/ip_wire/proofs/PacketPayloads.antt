@@ -5,8 +5,7 @@ use Rattle.net_base.specs.declared.ChecksumCapabilities.{ChecksumCapabilities}
 use Rattle.ip_wire.specs.Frame.{ReadsPacket, packet_payload}
 use Rattle.wire_ip.proofs.IpPayload.{payload-fits, payload-len}
 use Rattle.wire_ip.specs.Ip.{max_payload_len, payload_len_of}
-use Rattle.wire_ip.specs.declared.IpRepr.{IpRepr}
-use Rattle.wire_ip.specs.declared.IpRepr.TheVariants.{Ipv4, Ipv6}
+use Rattle.ip_wire.specs.Types.{IpRepr, Ipv4, Ipv6}
 
 pub packet_payload-len : (caps : ChecksumCapabilities) (bytes : List ℕ) (v : IpRepr) → ReadsPacket caps bytes v → length (packet_payload v bytes) ≡ payload_len_of v
 packet_payload-len caps bytes (Ipv4 v) r = payload-len bytes (verifies caps.ipv4) (Ipv4 v) r.0

@@ -4,20 +4,14 @@ use Rattle.ip_wire.specs.Frame.{Carried, ReadsTransportBy, ReadsCarried, ReadsFr
 use Rattle.net_base.specs.Checksum.{verifies}
 use Rattle.net_base.specs.declared.ChecksumCapabilities.{ChecksumCapabilities}
 use Rattle.wire_arp.proofs.ArpComputed.{arp_of-Reads}
-use Rattle.wire_ends.specs.declared.IpAddress.{IpAddress}
-use Rattle.wire_ends.specs.declared.IpProtocol.{IpProtocol}
+use Rattle.ip_wire.specs.Types.{EthernetProtocol, EthernetRepr, IpAddress, IpProtocol, IpRepr, Ipv4, Ipv6, UdpRepr}
 use Rattle.wire_ethernet.proofs.EthernetComputed.{ethernet_of-Reads}
-use Rattle.wire_ethernet.specs.declared.EthernetProtocol.{EthernetProtocol}
-use Rattle.wire_ethernet.specs.declared.EthernetRepr.{EthernetRepr}
 use Rattle.wire_ethernet.specs.declared.EthernetProtocol.TheVariants as ethertype
-use Rattle.wire_ip.specs.declared.IpRepr.{IpRepr}
-use Rattle.wire_ip.specs.declared.IpRepr.TheVariants.{Ipv4, Ipv6}
 use Rattle.wire_ipv4.proofs.Ipv4Computed.{ipv4_of-Reads}
 use Rattle.wire_ipv6.proofs.Ipv6Computed.{ipv6_of-Reads}
 use Rattle.wire_tcp.proofs.TcpComputed.{reads_once}
 use Rattle.wire_udp.proofs.UdpComputed.{udp_of-Reads}
 use Rattle.wire_udp.specs.Udp.{Reads, udp_of}
-use Rattle.wire_udp.specs.declared.UdpRepr.{UdpRepr}
 
 -- what is computed is one value
 pub computed-one : {A : Type 0} (o : Option A) (a b : A) → o ≡ Some a → o ≡ Some b → a ≡ b

@@ -18,27 +18,18 @@ use Rattle.ip_wire.specs.declared.frame.Frame.{Frame}
 use Rattle.net_base.specs.Checksum.{computes, verifies}
 use Rattle.net_base.specs.declared.ChecksumCapabilities.{ChecksumCapabilities}
 use Rattle.wire_arp.proofs.ArpComputed.{arp_of-Reads}
-use Rattle.wire_ends.specs.declared.IpAddress.{IpAddress}
-use Rattle.wire_ends.specs.declared.IpProtocol.{IpProtocol}
+use Rattle.ip_wire.specs.Types.{EthernetAddress, EthernetProtocol, EthernetRepr, IpAddress, IpProtocol, IpRepr, Ipv4, Ipv4Repr, Ipv6, Ipv6Repr}
 use Rattle.wire_ends.specs.declared.IpProtocol.TheVariants as protocol
 use Rattle.wire_ethernet.proofs.EthernetComputed.{ethernet_of-Reads}
 use Rattle.wire_ethernet.specs.Ethernet as ethernet
-use Rattle.wire_ethernet.specs.declared.EthernetProtocol.{EthernetProtocol}
-use Rattle.wire_ethernet.specs.declared.EthernetProtocol.TheVariants as ethertype
 use Rattle.wire_ip.specs.Ip.{bytes_of, dst_addr_of, next_header_of, src_addr_of, with_payload_len}
-use Rattle.wire_ip.specs.declared.IpRepr.{IpRepr}
-use Rattle.wire_ip.specs.declared.IpRepr.TheVariants.{Ipv4, Ipv6}
 use Rattle.wire_ipv4.proofs.Ipv4Computed.{ipv4_of-Reads}
-use Rattle.wire_addr.specs.declared.EthernetAddress.{EthernetAddress}
 use Rattle.wire_arp.specs.Arp as arp
 use Rattle.wire_arp.specs.declared.ArpOperation.{ArpOperation}
 use Rattle.wire_arp.specs.declared.ArpRepr.TheVariants.{EthernetIpv4}
-use Rattle.wire_ethernet.specs.declared.EthernetRepr.{EthernetRepr}
 use Rattle.wire_field.specs.Field.{field}
 use Rattle.wire_field.proofs.Cells.{cells-all}
 use Rattle.wire_ipv4.specs.Ipv4 as ipv4
-use Rattle.wire_ipv4.specs.declared.Ipv4Repr.{Ipv4Repr}
-use Rattle.wire_ipv6.specs.declared.Ipv6Repr.{Ipv6Repr}
 use Rattle.wire_ipv4.specs.Ipv4.{header_len, total_len}
 use Rattle.wire_ipv6.proofs.Ipv6Computed.{ipv6_of-Reads}
 use Rattle.wire_ipv6.specs.Ipv6 as ipv6
@@ -133,13 +124,6 @@ length-carried caps sent t bytes (carried.Packet (Ipv6 v) inner) (is, r, found) 
     length-append (ipv6.bytes_of w) (transport_bytes sent (Ipv6 v) inner) ∙ ap₂ ◌+◌ header (length-transport sent (Ipv6 v) inner)
 length-carried caps sent t bytes (carried.Fragment part) found = refl
 length-carried caps sent t bytes (carried.Unread kept) found = refl
-
-pub length-frame : (caps sent : ChecksumCapabilities) (bytes : List ℕ) (f : Frame) → Finds caps bytes f → length (frame_bytes sent f) ≡ frame_len f
-length-frame caps sent bytes f found =
-    let r = found.header in
-    let whole = r.whole in
-    let header = length-ethernet f.header (ap length r.dst_addr ∙ length-part bytes 0 6 (omega (arith, whole))) (ap length r.src_addr ∙ length-part bytes 6 12 (omega (arith, whole))) in
-    length-append (ethernet.bytes_of f.header) (carried_bytes sent f.carried) ∙ ap₂ ◌+◌ header (length-carried caps sent f.header.ethertype (drop 14 bytes) f.carried found.carried)
 
 other-stays : (p : IpProtocol) (src dst : IpAddress) (bytes : List ℕ) → p ≢ protocol.Udp → p ≢ protocol.Tcp → rebuilt_transport_by p src dst bytes ≡ bytes
 other-stays protocol.Udp src dst bytes a b = absurd (a refl)

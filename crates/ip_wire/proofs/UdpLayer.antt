@@ -2,7 +2,7 @@
 use Rattle.std.proofs.Common.{ℕ, ◌≡◌, ◌≤◌, ◌+◌, ◌-◌, ◌%◌, true, List, [], Some, None, length, refl, ap, subst, ◌∙◌, append-nil, length-append, arith}
 use Rattle.ip_wire.proofs.Layers.{HasForms-normal, IsLayer, IsShort, ReadsNormal, byte-lt, length-part, length-rebuilt_by, read-parts, rebuilt_by-Some}
 use Rattle.ip_wire.specs.Frame.{rebuilt_transport_by, udp, udp_packet_of}
-use Rattle.wire_ends.specs.declared.IpAddress.{IpAddress}
+use Rattle.ip_wire.specs.Types.{IpAddress, UdpRepr}
 use Rattle.wire_ends.specs.IpAddress.{octets_of}
 use Rattle.wire_ends.specs.declared.IpProtocol.TheVariants as protocol
 use Rattle.wire_field.proofs.ByteLists.{AreBytes-cons, AreBytes-part}
@@ -10,7 +10,6 @@ use Rattle.wire_field.proofs.Spelled.{AreBytes}
 use Rattle.wire_udp.proofs.UdpComputed.{udp_of-Reads}
 use Rattle.wire_udp.proofs.UdpReadsBack.{IsInRange, reads-bytes_of}
 use Rattle.wire_udp.specs.Udp.{Reads, bytes_of, packet_len, packet_with, payload_of, udp_of}
-use Rattle.wire_udp.specs.declared.UdpRepr.{UdpRepr}
 
 -- the octets of both addresses are whole words
 pub record AreWords (src dst : IpAddress) : Type 0 where

@@ -11,29 +11,22 @@ use Rattle.ip_wire.specs.Frame.{CarriesMessage, CarriesPacket, CarriesTransport,
 use Rattle.wire_field.proofs.Cells.{cells-drop}
 use Rattle.wire_field.proofs.Spelled.{AreBytes}
 use Rattle.wire_field.specs.Field.{field}
-use Rattle.wire_ends.specs.declared.IpAddress.{IpAddress}
-use Rattle.wire_ends.specs.declared.IpProtocol.{IpProtocol}
+use Rattle.ip_wire.specs.Types.{ArpRepr, EthernetProtocol, EthernetRepr, IpAddress, IpProtocol, IpRepr, IpVersion, UdpRepr}
 use Rattle.wire_ends.specs.declared.IpProtocol.TheVariants as protocol
 use Rattle.wire_ip.specs.Ip as ip_header
 use Rattle.wire_ip.specs.Ip.{dst_addr_of, next_header_of, payload_len_of, src_addr_of, version_of, with_payload_len}
-use Rattle.wire_ends.specs.declared.IpVersion.{IpVersion}
 use Rattle.wire_ends.specs.declared.IpVersion.TheVariants as version
-use Rattle.wire_ip.specs.declared.IpRepr.{IpRepr}
 use Rattle.wire_arp.proofs.ArpComputed.{arp_of-Reads}
 use Rattle.wire_arp.specs.Arp as arp_packet
 use Rattle.wire_arp.specs.Arp.{arp_of}
-use Rattle.wire_arp.specs.declared.ArpRepr.{ArpRepr}
 use Rattle.wire_ethernet.proofs.EthernetComputed.{ethernet_of-Reads}
 use Rattle.wire_ethernet.proofs.EthernetNormal.{number_of-protocol_of}
 use Rattle.wire_ethernet.specs.Ethernet.{Reads, bytes_of, ethernet_of, number_of}
-use Rattle.wire_ethernet.specs.declared.EthernetProtocol.{EthernetProtocol}
 use Rattle.wire_ethernet.specs.declared.EthernetProtocol.TheVariants as ethertype
-use Rattle.wire_ethernet.specs.declared.EthernetRepr.{EthernetRepr}
 use Rattle.wire_tcp.proofs.TcpComputed.{tcp_of-Reads}
 use Rattle.wire_tcp.specs.TcpRepr.{TcpHeader, tcp_of}
 use Rattle.wire_udp.proofs.UdpComputed.{udp_of-Reads}
 use Rattle.wire_udp.specs.Udp.{udp_of}
-use Rattle.wire_udp.specs.declared.UdpRepr.{UdpRepr}
 
 -- an option that is no value is none
 none_of : {A : Type 0} (o : Option A) → ((a : A) → ¬ (o ≡ Some a)) → o ≡ None

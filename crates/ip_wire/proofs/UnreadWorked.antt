@@ -1,5 +1,5 @@
 -- What worked frames are not read as: no definition of a reading holds of too many of them.
-use Rattle.std.proofs.Common.{ℕ, ◌≡◌, List, [], ◌∷◌, ◌++◌, inl, inr, false, true, None, Some, drop, take, refl, sym, ◌∙◌, arith, true≢false}
+use Rattle.std.proofs.Common.{ℕ, ◌≡◌, List, [], ◌∷◌, ◌++◌, inl, inr, None, Some, drop, take, refl, sym, ◌∙◌, arith, true≢false}
 use Rattle.ip_wire.proofs.TcpWorked as tcp_frames
 use Rattle.ip_wire.proofs.Worked as frames
 use Rattle.ip_wire.specs.Frame.{Carried, CarriesMessage, CarriesPacket, CarriesTransport, IsReadWhole, ReadsPacket, ReadsTransport, Transport, all_checked, datagram, message, other, packet, packet_payload, segment}
@@ -13,13 +13,10 @@ use Rattle.net_base.specs.declared.Checksum.TheVariants as when
 use Rattle.net_base.specs.declared.ChecksumCapabilities.{ChecksumCapabilities}
 use Rattle.wire_arp.proofs.ArpComputed.{arp_of-Reads}
 use Rattle.wire_arp.specs.Arp.{arp_of}
-use Rattle.wire_arp.specs.declared.ArpRepr.{ArpRepr}
+use Rattle.ip_wire.specs.Types.{EthernetRepr, IpRepr, Ipv4, Ipv6}
 use Rattle.wire_checksum.specs.WordSum.{residue, words}
 use Rattle.wire_ends.specs.declared.IpProtocol.TheVariants as protocol
 use Rattle.wire_ethernet.specs.declared.EthernetProtocol.TheVariants as ethertype
-use Rattle.wire_ethernet.specs.declared.EthernetRepr.{EthernetRepr}
-use Rattle.wire_ip.specs.declared.IpRepr.{IpRepr}
-use Rattle.wire_ip.specs.declared.IpRepr.TheVariants.{Ipv4, Ipv6}
 
 -- ---- packets
 

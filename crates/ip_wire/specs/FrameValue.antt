@@ -10,24 +10,17 @@ use Rattle.ip_wire.specs.declared.frame.transport.Transport.{Transport}
 use Rattle.ip_wire.specs.declared.frame.transport.Transport.TheVariants as transport
 use Rattle.net_base.specs.Checksum.{computes, verifies}
 use Rattle.net_base.specs.declared.ChecksumCapabilities.{ChecksumCapabilities}
-use Rattle.wire_addr.specs.declared.EthernetAddress.{EthernetAddress}
+use Rattle.ip_wire.specs.Types.{ArpRepr, EthernetAddress, EthernetProtocol, EthernetRepr, IpProtocol, IpRepr, Ipv4, Ipv4Repr, Ipv6}
 use Rattle.wire_arp.specs.Arp as arp
 use Rattle.wire_arp.specs.ArpText as arp_text
-use Rattle.wire_arp.specs.declared.ArpRepr.{ArpRepr}
 use Rattle.wire_ends.specs.Protocol as protocols
-use Rattle.wire_ends.specs.declared.IpProtocol.{IpProtocol}
 use Rattle.wire_ends.specs.declared.IpProtocol.TheVariants as protocol
 use Rattle.wire_ethernet.specs.Ethernet as ethernet
-use Rattle.wire_ethernet.specs.declared.EthernetProtocol.{EthernetProtocol}
 use Rattle.wire_ethernet.specs.declared.EthernetProtocol.TheVariants as ethertype
-use Rattle.wire_ethernet.specs.declared.EthernetRepr.{EthernetRepr}
 use Rattle.wire_ip.specs.Ip as ip
 use Rattle.wire_ip.specs.Ip.{dst_addr_of, src_addr_of, with_payload_len}
-use Rattle.wire_ip.specs.declared.IpRepr.{IpRepr}
-use Rattle.wire_ip.specs.declared.IpRepr.TheVariants.{Ipv4, Ipv6}
 use Rattle.wire_ipv4.specs.Ipv4 as ipv4
 use Rattle.wire_ipv4.specs.Ipv4Text as ipv4_text
-use Rattle.wire_ipv4.specs.declared.Ipv4Repr.{Ipv4Repr}
 use Rattle.wire_ipv6.specs.Ipv6Text as ipv6_text
 use Rattle.wire_tcp.specs.TcpRepr as tcp
 use Rattle.wire_tcp.specs.TcpReprText as tcp_text

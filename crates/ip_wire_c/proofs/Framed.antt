@@ -12,14 +12,9 @@ use Rattle.ip_wire.specs.Ip.{dst_addr_of, src_addr_of}
 use Rattle.ip_wire.specs.Tcp.{with_checksum}
 use Rattle.ip_wire.specs.TcpRepr.{TcpHeader, header_bytes, header_len_of}
 use Rattle.ip_wire.specs.Udp as udp
-use Rattle.ip_wire.specs.declared.UdpRepr.{UdpRepr}
-use Rattle.ip_wire.specs.declared.IpAddress.{IpAddress}
+use Rattle.ip_wire.specs.Types.{IpAddress, IpRepr, Ipv4, Ipv4Repr, Ipv6, Ipv6Repr, UdpRepr}
 use Rattle.ip_wire.specs.declared.IpAddress.TheVariants as address
 use Rattle.ip_wire.specs.declared.IpProtocol.TheVariants as protocol
-use Rattle.ip_wire.specs.declared.IpRepr.{IpRepr}
-use Rattle.ip_wire.specs.declared.IpRepr.TheVariants.{Ipv4, Ipv6}
-use Rattle.ip_wire.specs.declared.Ipv4Repr.{Ipv4Repr}
-use Rattle.ip_wire.specs.declared.Ipv6Repr.{Ipv6Repr}
 use Rattle.ip_wire_c.specs.Addresses.{pair_of}
 use Rattle.ip_wire_c.specs.Frames.{carrier, framed, headers_bytes, is_whole, part, tcp_frame, udp_frame}
 use Rattle.ip_wire_c.specs.Headers.{ip_between, ip_value, is_expressible, only_if, ports_of, segment_bytes, segment_header_len, segment_with_flags, tcp_bytes, tcp_value, udp_bytes}

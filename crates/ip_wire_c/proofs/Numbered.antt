@@ -5,8 +5,7 @@ use Rattle.ip_wire.specs.Ip.{bytes_of, header_len_of, max_payload_len, next_head
 use Rattle.ip_wire.specs.Protocol.{protocol_of}
 use Rattle.wire_ends.proofs.Protocols.{number_of-protocol_of}
 use Rattle.ip_wire.specs.declared.IpProtocol.TheVariants.{Unknown}
-use Rattle.ip_wire.specs.declared.IpRepr.{IpRepr}
-use Rattle.ip_wire.specs.declared.IpRepr.TheVariants.{Ipv4, Ipv6}
+use Rattle.ip_wire.specs.Types.{IpRepr, Ipv4, Ipv6}
 
 -- a header with the number of its protocol is written as the header with its name
 pub bytes_of-number : (v : IpRepr) (n len : ℕ) → next_header_of v ≡ protocol_of n

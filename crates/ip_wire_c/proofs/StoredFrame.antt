@@ -5,6 +5,9 @@ use Rattle.ip_wire.proofs.ArpComputed.{arp_of-Reads}
 use Rattle.ip_wire.proofs.Ipv4Computed.{ipv4_of-Reads}
 use Rattle.ip_wire.proofs.Ipv6Computed.{ipv6_of-Reads}
 use Rattle.ip_wire.proofs.UdpComputed.{HasLengths-has_lengths, has_checksum-HasChecksum}
+use Rattle.ip_wire.proofs.Ipv4Changed as ipv4_changed
+use Rattle.ip_wire.proofs.TcpChanged as tcp_changed
+use Rattle.ip_wire.proofs.UdpChanged as udp_changed
 use Rattle.ip_wire.specs.Arp.{arp_of}
 use Rattle.ip_wire.specs.Frame.{Carried, ReadsTransportBy, ReadsFrame, ReadsPacket, Transport, datagram, ipv4_payload, message, other, packet, packet_payload, segment}
 use Rattle.ip_wire.specs.Ip.{dst_addr_of, next_header_of, src_addr_of}
@@ -17,18 +20,9 @@ use Rattle.ip_wire.specs.TcpRepr as tcp
 use Rattle.ip_wire.specs.TcpRepr.{TcpHeader}
 use Rattle.ip_wire.specs.Udp as udp
 use Rattle.ip_wire.specs.WordSum.{sum_of_bytes}
-use Rattle.ip_wire.specs.declared.ArpRepr.{ArpRepr}
+use Rattle.ip_wire.specs.Types.{ArpRepr, EthernetProtocol, EthernetRepr, IpAddress, IpProtocol, IpRepr, Ipv4, Ipv4Repr, Ipv6, Ipv6Repr, UdpRepr}
 use Rattle.ip_wire.specs.declared.ArpRepr.TheVariants.{EthernetIpv4}
-use Rattle.ip_wire.specs.declared.EthernetProtocol.{EthernetProtocol}
 use Rattle.ip_wire.specs.declared.EthernetProtocol.TheVariants as ethertype
-use Rattle.ip_wire.specs.declared.EthernetRepr.{EthernetRepr}
-use Rattle.ip_wire.specs.declared.IpAddress.{IpAddress}
-use Rattle.ip_wire.specs.declared.IpProtocol.{IpProtocol}
-use Rattle.ip_wire.specs.declared.IpRepr.{IpRepr}
-use Rattle.ip_wire.specs.declared.IpRepr.TheVariants.{Ipv4, Ipv6}
-use Rattle.ip_wire.specs.declared.Ipv4Repr.{Ipv4Repr}
-use Rattle.ip_wire.specs.declared.Ipv6Repr.{Ipv6Repr}
-use Rattle.ip_wire.specs.declared.UdpRepr.{UdpRepr}
 use Rattle.ip_wire_c.proofs.StoredHeaders.{fields_of-linked, headed, headed-plain, linked, other-chosen, stores-ipv4, stores-ipv6, stores-transport, stores-value, transported, with_transport_by-read}
 use Rattle.ip_wire_c.specs.Codes.{verdict_code}
 use Rattle.ip_wire_c.specs.FrameFields.{fields_of, udp_verdict, with_carried, with_fragment_by, with_ipv4_header, with_ipv6_header, with_message, with_payload}
@@ -136,55 +130,13 @@ stored-verdict : (src dst : IpAddress) (bytes : List ℕ) → udp.HasLengths byt
     → (if udp.has_lengths bytes then udp_verdict src dst bytes else verdict.None) ≡ udp_verdict src dst bytes
 stored-verdict src dst bytes h = rw (HasLengths-has_lengths bytes h) refl
 
--- what is read without its checksum is read with it where it holds
-checked-ipv4 : (bytes : List ℕ) (verified : Bool) (w : Ipv4Repr) → ipv4.Reads bytes false w → (IsTrue verified → sum_of_bytes (take (ipv4.header_len bytes) bytes) ≡ 65535)
-    → ipv4.Reads bytes verified w
-checked-ipv4 bytes verified w r holds = record {
-  lengths = r.lengths;
-  version = r.version;
-  checksum = holds;
-  payload_len = r.payload_len;
-  hop_limit = r.hop_limit;
-  next_header = r.next_header;
-  src_addr = r.src_addr;
-  dst_addr = r.dst_addr;
-}
-
-checked-udp : (bytes payload : List ℕ) (src dst : IpAddress) (verified : Bool) (u : UdpRepr) → udp.Reads bytes src dst false u payload
-    → (IsTrue verified → udp.HasChecksum src dst bytes) → udp.Reads bytes src dst verified u payload
-checked-udp bytes payload src dst verified u r holds = record {
-  lengths = r.lengths;
-  receiver = r.receiver;
-  checksum = holds;
-  src_port = r.src_port;
-  dst_port = r.dst_port;
-  body = r.body;
-}
-
-checked-tcp : (bytes payload : List ℕ) (src dst : IpAddress) (verified : Bool) (u : TcpHeader) → tcp.Reads bytes src dst false u payload
-    → (IsTrue verified → tcp_bytes.Verifies src dst bytes) → tcp.Reads bytes src dst verified u payload
-checked-tcp bytes payload src dst verified u r holds = record {
-  lengths = r.lengths;
-  sender = r.sender;
-  receiver = r.receiver;
-  control = r.control;
-  checksum = holds;
-  options = r.options;
-  src_port = r.src_port;
-  dst_port = r.dst_port;
-  seq_number = r.seq_number;
-  ack_number = r.ack_number;
-  window_len = r.window_len;
-  body = r.body;
-}
-
 -- the verdict on a header
 packet-verdict : (caps : ChecksumCapabilities) (frame : List ℕ) (v : EthernetRepr) (w : IpRepr) → ReadsPacket unchecked (drop 14 frame) w
     → ReadsPacket caps (drop 14 frame) w
     ↔ (IsTrue (verifies caps.ipv4) → (headed frame v w).network ≡ 2 → (headed frame v w).ipv4_checksum ≡ 1)
 packet-verdict caps frame v (Ipv4 w) (r, whole) = (
   λ s on net. (sum-is _ verdict.Wrong not-right).1 (s.0.checksum on),
-  λ h. (checked-ipv4 (drop 14 frame) (verifies caps.ipv4) w r (λ on. (sum-is _ verdict.Wrong not-right).0 (h on refl)), whole),
+  λ h. (ipv4_changed.reads-verified (drop 14 frame) false (verifies caps.ipv4) w r (λ on. (sum-is _ verdict.Wrong not-right).0 (h on refl)), whole),
 )
 packet-verdict caps frame v (Ipv6 w) r =
     let is : (headed frame v (Ipv6 w)).network ≡ 3 = (stores-ipv6 frame v w r).packet.network in
@@ -201,11 +153,11 @@ transport-verdict caps f p src dst bytes (datagram u q) none (is, r) =
     let stored = stored-verdict src dst bytes r.lengths in
     rw stored (
       λ s. (λ on net. (udp-is src dst bytes).1 ((has_checksum-HasChecksum src dst bytes).1 (s.1.checksum on)), λ on net. absurd (omega (arith, net))),
-      λ h. (is, checked-udp bytes q src dst (verifies caps.udp) u r (λ on. (has_checksum-HasChecksum src dst bytes).0 ((udp-is src dst bytes).0 (h.0 on refl)))),
+      λ h. (is, udp_changed.reads-verified bytes src dst src dst false (verifies caps.udp) u q r (λ on. (has_checksum-HasChecksum src dst bytes).0 ((udp-is src dst bytes).0 (h.0 on refl)))),
     )
 transport-verdict caps f p src dst bytes (segment u q) none (is, r) = (
   λ s. (λ on net. absurd (omega (arith, net)), λ on net. (sum-is _ _ (partial-not-right (field bytes 128 16 == tcp_bytes.pseudo_header_sum src dst bytes))).1 (s.1.checksum on)),
-  λ h. (is, checked-tcp bytes q src dst (verifies caps.tcp) u r (λ on. (sum-is _ _ (partial-not-right (field bytes 128 16 == tcp_bytes.pseudo_header_sum src dst bytes))).0 (h.1 on refl))),
+  λ h. (is, tcp_changed.reads-verified bytes src dst src dst false (verifies caps.tcp) u q r (λ on. (sum-is _ _ (partial-not-right (field bytes 128 16 == tcp_bytes.pseudo_header_sum src dst bytes))).0 (h.1 on refl))),
 )
 transport-verdict caps f p src dst bytes (other q) none r =
     (λ s. (λ on net. absurd (omega (arith, none, net)), λ on net. absurd (omega (arith, none, net))), λ h. r)

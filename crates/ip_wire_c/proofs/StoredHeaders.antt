@@ -23,20 +23,12 @@ use Rattle.ip_wire.specs.TcpRepr as tcp
 use Rattle.ip_wire.specs.TcpRepr.{HasControl, TcpHeader, seq_of, tcp_of}
 use Rattle.ip_wire.specs.Udp as udp
 use Rattle.ip_wire.specs.Udp.{udp_of}
-use Rattle.ip_wire.specs.declared.ArpRepr.{ArpRepr}
+use Rattle.ip_wire.specs.Types.{ArpRepr, EthernetRepr, IpAddress, IpProtocol, IpRepr, Ipv4, Ipv4Repr, Ipv6, Ipv6Repr, UdpRepr}
 use Rattle.ip_wire.specs.declared.ArpRepr.TheVariants.{EthernetIpv4}
-use Rattle.ip_wire.specs.declared.EthernetRepr.{EthernetRepr}
-use Rattle.ip_wire.specs.declared.IpAddress.{IpAddress}
-use Rattle.ip_wire.specs.declared.IpProtocol.{IpProtocol}
 use Rattle.ip_wire.specs.declared.IpProtocol.TheVariants as protocol
-use Rattle.ip_wire.specs.declared.IpRepr.{IpRepr}
-use Rattle.ip_wire.specs.declared.IpRepr.TheVariants.{Ipv4, Ipv6}
-use Rattle.ip_wire.specs.declared.Ipv4Repr.{Ipv4Repr}
 use Rattle.ip_wire.specs.declared.Ipv6FragmentRepr.{Ipv6FragmentRepr}
-use Rattle.ip_wire.specs.declared.Ipv6Repr.{Ipv6Repr}
 use Rattle.ip_wire.specs.declared.TcpControl.{TcpControl}
 use Rattle.ip_wire.specs.declared.TcpControl.TheVariants as control
-use Rattle.ip_wire.specs.declared.UdpRepr.{UdpRepr}
 use Rattle.ip_wire_c.specs.FrameFields.{behind, fields_of, ipv6_values, no_ip, nothing_of, with_carried, with_fragment_by, with_fragment_header, with_ipv4_header, with_ipv6_header, with_link, with_message, with_tcp_header, with_transport_by, with_udp_header}
 use Rattle.ip_wire_c.specs.Stored.{HasFlag, HasNoTransport, Stores, StoresHeader, StoresIpv6, StoresPacket, fragment_header_by, is_part, says_fragment, unchecked}
 use Rattle.ip_wire_c.specs.declared.types.FrameFields.{FrameFields}

@@ -21,18 +21,11 @@ use Rattle.ip_wire.specs.Tcp as tcp_bytes
 use Rattle.ip_wire.specs.TcpRepr.{tcp_of}
 use Rattle.ip_wire.specs.Udp as udp
 use Rattle.ip_wire.specs.Udp.{udp_of}
-use Rattle.ip_wire.specs.declared.EthernetProtocol.{EthernetProtocol}
+use Rattle.ip_wire.specs.Types.{ArpRepr, EthernetProtocol, EthernetRepr, IpAddress, IpProtocol, IpRepr, Ipv4, Ipv4Repr, Ipv6}
 use Rattle.ip_wire.specs.declared.EthernetProtocol.TheVariants as ethertype
-use Rattle.ip_wire.specs.declared.EthernetRepr.{EthernetRepr}
-use Rattle.ip_wire.specs.declared.IpAddress.{IpAddress}
-use Rattle.ip_wire.specs.declared.IpProtocol.{IpProtocol}
 use Rattle.ip_wire.specs.declared.IpProtocol.TheVariants as protocol
-use Rattle.ip_wire.specs.declared.IpRepr.{IpRepr}
-use Rattle.ip_wire.specs.declared.IpRepr.TheVariants.{Ipv4, Ipv6}
-use Rattle.ip_wire.specs.declared.Ipv4Repr.{Ipv4Repr}
 use Rattle.ip_wire.specs.Field.{field}
 use Rattle.ip_wire.specs.TcpRepr.{control_of}
-use Rattle.ip_wire.specs.declared.ArpRepr.{ArpRepr}
 use Rattle.ip_wire.specs.declared.ArpRepr.TheVariants.{EthernetIpv4}
 use Rattle.ip_wire_c.proofs.StoredFrame.{with_carried-choice, with_carried-ipv4, with_carried-ipv6}
 use Rattle.ip_wire_c.proofs.StoredHeaders.{fields_of-linked, first-chosen, headed, headed-plain, kept-header, linked, rest-found, stores-ipv4, stores-ipv6}

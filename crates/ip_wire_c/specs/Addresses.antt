@@ -4,8 +4,7 @@ use Rattle.std.specs.Option.{option_and_then, option_map}
 use Rattle.ip_wire.specs.Endpoint.{endpoint_at}
 use Rattle.ip_wire.specs.IpAddress.{bits_of}
 use Rattle.ip_wire.specs.IpCidr.{block_address, block_at, block_prefix_len}
-use Rattle.ip_wire.specs.declared.EthernetAddress.{EthernetAddress}
-use Rattle.ip_wire.specs.declared.IpAddress.{IpAddress}
+use Rattle.ip_wire.specs.Types.{EthernetAddress, IpAddress}
 use Rattle.ip_wire.specs.declared.IpAddress.TheVariants.{Ipv4, Ipv6}
 use Rattle.ip_wire.specs.declared.IpCidr.{IpCidr}
 use Rattle.ip_wire.specs.declared.IpEndpoint.{IpEndpoint}

@@ -3,8 +3,7 @@ use Rattle.std.specs.Prelude.{ℕ, ◌+◌, ◌&&◌, ◌==◌, nat_le, ◌++◌
 use Rattle.std.specs.Option.{option_and_then, option_map}
 use Rattle.ip_wire.specs.Frame.{rebuilt}
 use Rattle.ip_wire.specs.Ip.{header_len_of}
-use Rattle.ip_wire.specs.declared.IpRepr.{IpRepr}
-use Rattle.ip_wire.specs.declared.IpRepr.TheVariants.{Ipv4, Ipv6}
+use Rattle.ip_wire.specs.Types.{IpRepr, Ipv4, Ipv6}
 use Rattle.ip_wire_c.specs.Headers.{arp_bytes, header_bytes, ip_value, link_bytes, only_if, segment_header_len, tcp_bytes, udp_bytes}
 use Rattle.ip_wire_c.specs.declared.types.Arp.{Arp}
 use Rattle.ip_wire_c.specs.declared.types.Ethernet.{Ethernet}

@@ -7,8 +7,7 @@ use Rattle.ip_replies.specs.Reply.{IsWritten, reply_len}
 use Rattle.ip_replies.specs.declared.tcp_reply.Offer.{Offer}
 use Rattle.ip_wire.specs.Frame.{Carried}
 use Rattle.ip_wire.specs.TcpRepr.{seq_of}
-use Rattle.ip_wire.specs.declared.EthernetRepr.{EthernetRepr}
-use Rattle.ip_wire.specs.declared.IpAddress.{IpAddress}
+use Rattle.ip_wire.specs.Types.{EthernetRepr, IpAddress}
 use Rattle.ip_wire.specs.declared.IpAddress.TheVariants.{Ipv4, Ipv6}
 use Rattle.ip_wire_c.specs.Addresses.{ip_of}
 use Rattle.ip_wire_c.specs.Written.{failed}

@@ -13,22 +13,14 @@ use Rattle.ip_wire.specs.Protocol.{number_of}
 use Rattle.ip_wire.specs.Tcp as tcp
 use Rattle.ip_wire.specs.TcpRepr.{TcpHeader, seq_of}
 use Rattle.ip_wire.specs.declared.ArpOperation.{ArpOperation}
-use Rattle.ip_wire.specs.declared.ArpRepr.{ArpRepr}
+use Rattle.ip_wire.specs.Types.{ArpRepr, EthernetProtocol, EthernetRepr, IpProtocol, IpRepr, Ipv4, Ipv4Repr, Ipv6, Ipv6Repr, UdpRepr}
 use Rattle.ip_wire.specs.declared.ArpRepr.TheVariants.{EthernetIpv4}
-use Rattle.ip_wire.specs.declared.EthernetProtocol.{EthernetProtocol}
 use Rattle.ip_wire.specs.declared.EthernetProtocol.TheVariants as ethertype
-use Rattle.ip_wire.specs.declared.EthernetRepr.{EthernetRepr}
 use Rattle.ip_wire.specs.declared.IpAddress.TheVariants as address
-use Rattle.ip_wire.specs.declared.IpProtocol.{IpProtocol}
 use Rattle.ip_wire.specs.declared.IpProtocol.TheVariants as protocol
-use Rattle.ip_wire.specs.declared.IpRepr.{IpRepr}
-use Rattle.ip_wire.specs.declared.IpRepr.TheVariants.{Ipv4, Ipv6}
-use Rattle.ip_wire.specs.declared.Ipv4Repr.{Ipv4Repr}
 use Rattle.ip_wire.specs.declared.Ipv6FragmentRepr.{Ipv6FragmentRepr}
-use Rattle.ip_wire.specs.declared.Ipv6Repr.{Ipv6Repr}
 use Rattle.ip_wire.specs.declared.TcpControl.{TcpControl}
 use Rattle.ip_wire.specs.declared.TcpControl.TheVariants as control
-use Rattle.ip_wire.specs.declared.UdpRepr.{UdpRepr}
 use Rattle.ip_wire_c.specs.Addresses.{addr_of}
 use Rattle.ip_wire_c.specs.Codes.{network_code, reason_code, transport_code, verdict_code}
 use Rattle.ip_wire_c.specs.FrameFields.{arp_fault, ipv4_fault, ipv6_fault, no_arp, no_ip, no_tcp, tcp_fault, tcp_values, udp_fault}

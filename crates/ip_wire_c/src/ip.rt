@@ -8,7 +8,7 @@ ghost use Rattle.ip_wire.specs.Ipv4 as ipv4;
 ghost use Rattle.ip_wire.specs.Ipv6 as ipv6;
 ghost use Rattle.ip_wire_c.specs.Headers.{header_bytes, has_place, ip_between, ip_bytes, ip_value, is_expressible, only_if, with_ipv4_fields, with_ipv6_fields};
 ghost use Rattle.ip_wire.specs.declared.IpAddress.TheVariants as address;
-ghost use Rattle.ip_wire.specs.declared.IpRepr.TheVariants.{Ipv4, Ipv6};
+ghost use Rattle.ip_wire.specs.Types.{Ipv4, Ipv6};
 ghost use Rattle.ip_wire_c.specs.Written.{Fills};
 
 use crate::types::{Addr, Ip};

@@ -6,9 +6,7 @@ ghost use Rattle.ip_wire.specs.Frame.{Carried, ReadsFrame, type_of};
 ghost use Rattle.ip_wire.specs.Ip.{ReadsHeader};
 ghost use Rattle.ip_wire.specs.Ipv4 as ipv4;
 ghost use Rattle.ip_wire.specs.declared.EthernetProtocol.TheVariants as ethertype;
-ghost use Rattle.ip_wire.specs.declared.EthernetRepr.{EthernetRepr};
-ghost use Rattle.ip_wire.specs.declared.IpRepr.{IpRepr};
-ghost use Rattle.ip_wire.specs.declared.Ipv4Repr.{Ipv4Repr};
+ghost use Rattle.ip_wire.specs.Types.{EthernetRepr, IpRepr, Ipv4Repr};
 ghost use Rattle.ip_wire_c.specs.FrameFields.{fields_of};
 ghost use Rattle.ip_wire_c.specs.Stored.{HasVerdicts, Stores, StoresFragment, StoresRejected, StoresUnread, unchecked};
 

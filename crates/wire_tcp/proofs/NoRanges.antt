@@ -1,5 +1,5 @@
 -- Values without SACK ranges.
-use Rattle.std.proofs.Common.{ℕ, ◌≡◌, ◌≤◌, ◌+◌, ◌*◌, ◌/◌, ◌||◌, if◌then◌else◌, min, Bool, true, false, List, Option, Some, None, IfSome, count_by, is_some, is_none, refl, sym, ap, ◌∙◌, arith}
+use Rattle.std.proofs.Common.{ℕ, ◌≡◌, ◌≤◌, ◌||◌, if◌then◌else◌, min, Bool, true, false, List, Option, Some, None, IfSome, count_by, is_some, is_none, refl, sym, ap, ◌∙◌, arith}
 use Rattle.std.specs.Option.{option_map}
 use Rattle.wire_tcp.specs.TcpRepr.{TcpHeader, closed, header_len_of, len_if, no_ranges, normal, sack_len}
 

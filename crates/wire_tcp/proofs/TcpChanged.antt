@@ -1,5 +1,5 @@
 -- A header in which one field changed.
-use Rattle.std.proofs.Common.{ℕ, ◌≡◌, ◌≢◌, ◌≤◌, ◌<◌, ◌+◌, ◌-◌, ◌*◌, ◌%◌, Bool, false, IsTrue, List, ◌++◌, drop, length, take, Option, refl, sym, subst, ap, ◌∙◌, arith}
+use Rattle.std.proofs.Common.{ℕ, ◌≡◌, ◌≢◌, ◌≤◌, ◌<◌, ◌+◌, ◌-◌, ◌%◌, Bool, false, IsTrue, List, drop, length, take, refl, sym, subst, ap, ◌∙◌, arith}
 use Rattle.std.proofs.lemmas.List.{drop-drop}
 use Rattle.wire_field.specs.Field.{field, with_field}
 use Rattle.wire_field.proofs.Cells.{cells-drop}

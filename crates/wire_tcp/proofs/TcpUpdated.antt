@@ -1,5 +1,5 @@
 -- The checksum of a segment, updated.
-use Rattle.std.proofs.Common.{ℕ, ◌≡◌, ◌≤◌, ◌<◌, ◌+◌, ◌-◌, ◌*◌, ◌%◌, List, length, sum, refl, sym, subst, ap, ◌∙◌, arith}
+use Rattle.std.proofs.Common.{ℕ, ◌≡◌, ◌≢◌, ◌≤◌, ◌<◌, ◌+◌, ◌*◌, ◌%◌, Bool, false, List, length, sum, refl, sym, subst, ap, ◌∙◌, arith}
 use Rattle.wire_field.specs.Field.{field, with_field}
 use Rattle.wire_field.proofs.Spelled.{AreBytes}
 use Rattle.wire_field.proofs.Written.{AreBytes-with_field, length-with_field}
@@ -11,7 +11,9 @@ use Rattle.wire_checksum.specs.WordSum.{residue, sum_of_bytes, updated, words}
 use Rattle.wire_ends.specs.IpAddress.{octets_of}
 use Rattle.wire_ends.specs.declared.ip_address.IpAddress.{IpAddress}
 use Rattle.wire_ends.specs.declared.ip_protocol.IpProtocol.TheVariants as protocol
+use Rattle.wire_tcp.proofs.TcpChanged.{reads-checksum, reads-dst_port, reads-src_port}
 use Rattle.wire_tcp.specs.Tcp.{Verifies, with_updated_checksum}
+use Rattle.wire_tcp.specs.TcpRepr.{Reads, TcpHeader}
 
 -- the sum of the pseudo-header of a segment of n bytes
 abbrev pseudo : IpAddress → IpAddress → ℕ → ℕ
@@ -62,3 +64,35 @@ pub valid-dst_addr : (src old new : IpAddress) (bytes : List ℕ) → AreBytes b
     → Verifies src old bytes → Verifies src new (with_updated_checksum bytes (sum_of_bytes (octets_of old)) (sum_of_bytes (octets_of new)))
 valid-dst_addr src old new bytes are s o n room valid =
     valid-updated src old src new bytes bytes (sum (words (octets_of old))) (sum (words (octets_of new))) are s o s n room refl (omega arith) valid
+
+-- ---- the parsed value
+
+-- an updated source port changes only the source port of the value
+pub reads-updated_src_port : (src dst : IpAddress) (bytes : List ℕ) (x : ℕ) (verified : Bool) (v : TcpHeader) (payload : List ℕ) → AreBytes bytes → x < 65536 → x ≢ 0 → length (octets_of src) % 2 ≡ 0 → length (octets_of dst) % 2 ≡ 0
+    → Reads bytes src dst verified v payload → Reads (with_updated_checksum (with_field bytes 0 16 x) (field bytes 0 16) x) src dst verified (record v { src_port = x }) payload
+reads-updated_src_port src dst bytes x verified v payload are fits some s d r =
+    reads-checksum (with_field bytes 0 16 x) _ src dst src dst false verified (record v { src_port = x }) payload
+    (reads-src_port bytes x src dst verified false v payload are fits some r (λ no. cc))
+    (λ on. valid-word src dst bytes 0 x are fits (omega arith) s d (omega (arith, r.lengths.least)) (r.checksum on))
+
+-- an updated destination port changes only the destination port of the value
+pub reads-updated_dst_port : (src dst : IpAddress) (bytes : List ℕ) (x : ℕ) (verified : Bool) (v : TcpHeader) (payload : List ℕ) → AreBytes bytes → x < 65536 → x ≢ 0 → length (octets_of src) % 2 ≡ 0 → length (octets_of dst) % 2 ≡ 0
+    → Reads bytes src dst verified v payload → Reads (with_updated_checksum (with_field bytes 16 16 x) (field bytes 16 16) x) src dst verified (record v { dst_port = x }) payload
+reads-updated_dst_port src dst bytes x verified v payload are fits some s d r =
+    reads-checksum (with_field bytes 16 16 x) _ src dst src dst false verified (record v { dst_port = x }) payload
+    (reads-dst_port bytes x src dst verified false v payload are fits some r (λ no. cc))
+    (λ on. valid-word src dst bytes 1 x are fits (omega arith) s d (omega (arith, r.lengths.least)) (r.checksum on))
+
+-- the segment parses as before between the new source address and the old destination
+pub reads-updated_src_addr : (old dst new : IpAddress) (bytes : List ℕ) (verified : Bool) (v : TcpHeader) (payload : List ℕ) → AreBytes bytes → length (octets_of old) % 2 ≡ 0 → length (octets_of dst) % 2 ≡ 0 → length (octets_of new) % 2 ≡ 0
+    → Reads bytes old dst verified v payload → Reads (with_updated_checksum bytes (sum_of_bytes (octets_of old)) (sum_of_bytes (octets_of new))) new dst verified v payload
+reads-updated_src_addr old dst new bytes verified v payload are o d n r =
+    reads-checksum bytes _ old dst new dst verified verified v payload r
+    (λ on. valid-src_addr old dst new bytes are o d n (omega (arith, r.lengths.least)) (r.checksum on))
+
+-- the segment parses as before between the old source and the new destination address
+pub reads-updated_dst_addr : (src old new : IpAddress) (bytes : List ℕ) (verified : Bool) (v : TcpHeader) (payload : List ℕ) → AreBytes bytes → length (octets_of src) % 2 ≡ 0 → length (octets_of old) % 2 ≡ 0 → length (octets_of new) % 2 ≡ 0
+    → Reads bytes src old verified v payload → Reads (with_updated_checksum bytes (sum_of_bytes (octets_of old)) (sum_of_bytes (octets_of new))) src new verified v payload
+reads-updated_dst_addr src old new bytes verified v payload are s o n r =
+    reads-checksum bytes _ src old src new verified verified v payload r
+    (λ on. valid-dst_addr src old new bytes are s o n (omega (arith, r.lengths.least)) (r.checksum on))

@@ -1,11 +1,12 @@
 //! Setters of TCP segments that update the checksum too (RFC 1624).
 
-ghost use Rattle.std.specs.Prelude.{◌≡◌, ◌%◌, ◌≤◌, length};
+ghost use Rattle.std.specs.Prelude.{◌≡◌, ◌≢◌, ◌%◌, ◌≤◌, Bool, List, ℕ, length};
 ghost use Rattle.wire_checksum.specs.WordSum.{sum_of_bytes};
 ghost use Rattle.wire_ends.specs.IpAddress.{octets_of};
 ghost use Rattle.wire_ends.specs.declared.ip_address.IpAddress.{IpAddress};
 ghost use Rattle.wire_field.specs.Field.{field, with_field};
 ghost use Rattle.wire_tcp.specs.Tcp.{Becomes, Verifies, packet_bytes_mut, with_updated_checksum};
+ghost use Rattle.wire_tcp.specs.TcpRepr.{Reads, TcpHeader};
 
 use super::TcpPacketMut;
 use wire_checksum::checksum;
@@ -29,6 +30,9 @@ impl<'a> TcpPacketMut<'a> {
             Becomes self.old self.new (with_updated_checksum (with_field bytes 0 16 value) (field bytes 0 16) value) }
         ensures valid { (src dst : IpAddress) → length (octets_of src) % 2 ≡ 0 → length (octets_of dst) % 2 ≡ 0
             → Verifies src dst (packet_bytes_mut self.old) → Verifies src dst (packet_bytes_mut self.new) }
+        ensures reads { (src dst : IpAddress) (verified : Bool) (v : TcpHeader) (payload : List ℕ) → length (octets_of src) % 2 ≡ 0 → length (octets_of dst) % 2 ≡ 0
+            → value ≢ 0 → Reads (packet_bytes_mut self.old) src dst verified v payload
+            → Reads (packet_bytes_mut self.new) src dst verified (record v { src_port = value }) payload }
     {
         octets_fit(self.as_bytes());
         let old = self.src_port();
@@ -43,6 +47,9 @@ impl<'a> TcpPacketMut<'a> {
             Becomes self.old self.new (with_updated_checksum (with_field bytes 16 16 value) (field bytes 16 16) value) }
         ensures valid { (src dst : IpAddress) → length (octets_of src) % 2 ≡ 0 → length (octets_of dst) % 2 ≡ 0
             → Verifies src dst (packet_bytes_mut self.old) → Verifies src dst (packet_bytes_mut self.new) }
+        ensures reads { (src dst : IpAddress) (verified : Bool) (v : TcpHeader) (payload : List ℕ) → length (octets_of src) % 2 ≡ 0 → length (octets_of dst) % 2 ≡ 0
+            → value ≢ 0 → Reads (packet_bytes_mut self.old) src dst verified v payload
+            → Reads (packet_bytes_mut self.new) src dst verified (record v { dst_port = value }) payload }
     {
         octets_fit(self.as_bytes());
         let old = self.dst_port();
@@ -59,6 +66,10 @@ impl<'a> TcpPacketMut<'a> {
             → Verifies old.now dst (packet_bytes_mut self.old) → Verifies new.now dst (packet_bytes_mut self.new) }
         ensures valid_dst { (src : IpAddress) → length (octets_of src) % 2 ≡ 0
             → Verifies src old.now (packet_bytes_mut self.old) → Verifies src new.now (packet_bytes_mut self.new) }
+        ensures reads_src { (dst : IpAddress) (verified : Bool) (v : TcpHeader) (payload : List ℕ) → length (octets_of dst) % 2 ≡ 0
+            → Reads (packet_bytes_mut self.old) old.now dst verified v payload → Reads (packet_bytes_mut self.new) new.now dst verified v payload }
+        ensures reads_dst { (src : IpAddress) (verified : Bool) (v : TcpHeader) (payload : List ℕ) → length (octets_of src) % 2 ≡ 0
+            → Reads (packet_bytes_mut self.old) src old.now verified v payload → Reads (packet_bytes_mut self.new) src new.now verified v payload }
     {
         octets_fit(self.as_bytes());
         self.update_checksum(checksum::address(old), checksum::address(new));

@@ -1,5 +1,6 @@
 use Rattle.std.proofs.Common.{◌≡◌, ◌↔◌, IsTrue, false, rules, true}
-use Rattle.ip_nat.proofs.Translates.{bad-header, reads-checked}
+use Rattle.ip_nat.proofs.Translates.{bad-header}
+use Rattle.ip_wire.proofs.Ipv4Changed.{reads-verified}
 use Rattle.ip_wire.specs.Ipv4.{HasChecksum, packet_bytes}
 use Rattle.net_base.specs.Checksum.{verifies}
 use Rattle.ip_nat.proofs.nat.parse_header.Goals as goal
@@ -26,4 +27,4 @@ returns-clause-reads c =
     let verified : verifies c.ignored.result.ipv4 ≡ false = search rules in
     let reads = rw (verified, bytes) at c.parse.ensures.reads in
     let sums : IsTrue c.verify_checksum.result ↔ HasChecksum c.args.bytes.now = rw bytes at c.verify_checksum.ensures in
-    reads-checked c.args.bytes.now c.in-Ok.header ((reads c.in-Ok.header).0 c.in-Ok.is) (sums.0 (search rules))
+    reads-verified c.args.bytes.now false true c.in-Ok.header ((reads c.in-Ok.header).0 c.in-Ok.is) (λ _. sums.0 (search rules))

@@ -1,18 +1,32 @@
 use Rattle.std.proofs.Common.{◌≡◌, rules}
-use Rattle.ip_nat.proofs.Translates.{tcp-destination, tcp-source}
+use Rattle.ip_nat.proofs.Translates.{from-source, rewritten, to-destination}
+use Rattle.ip_nat.specs.Nat.{with_tcp_port}
+use Rattle.ip_nat.specs.declared.nat.Side.TheVariants.{Source, Destination}
+use Rattle.ip_wire.specs.Frame.{segment}
 use Rattle.ip_wire.specs.Tcp.{packet_bytes_mut}
+use Rattle.ip_wire.specs.TcpRepr.{Reads}
 use Rattle.ip_nat.proofs.nat.rewrite_tcp.Goals as goal
 
 pub returns-in-Source-clause-reads : goal.returns-in-Source-clause-reads
-returns-in-Source-clause-reads c =
+returns-in-Source-clause-reads c u payload =
     let view : packet_bytes_mut c.new_unchecked-segment.result ≡ c.args.bytes.now = search rules in
-    tcp-source c.args.side c.args.header c.args.bytes.now (packet_bytes_mut c.update_address.new.self) (packet_bytes_mut c.update_src_port.new.self) _ c.args.addr c.of.result c.args.port
-    c.in-Source.is (search rules) (search rules) (search rules) (search rules) c.requires.port (search rules) (search rules)
-    (rw view at c.update_address.ensures.valid_src) c.update_src_port.ensures.valid
+    let v = c.args.header in
+    let done = packet_bytes_mut c.update_src_port.new.self in
+    rewritten c.args.side Source v c.args.bytes.now done _ c.args.addr c.args.port (segment u payload) c.in-Source.is (search rules)
+    (λ r. (
+      r.0,
+      from-source Reads (with_tcp_port Source c.args.port) c.args.bytes.now (packet_bytes_mut c.update_address.new.self) done c.args.addr v.src_addr v.dst_addr c.of.result
+          (search rules) (search rules) (search rules) (rw view at c.update_address.ensures.reads_src) (λ s d b u q f g. c.update_src_port.ensures.reads s d b u q f g c.requires.port) u payload r.1,
+    ))
 
 pub returns-in-Destination-clause-reads : goal.returns-in-Destination-clause-reads
-returns-in-Destination-clause-reads c =
+returns-in-Destination-clause-reads c u payload =
     let view : packet_bytes_mut c.new_unchecked-segment.result ≡ c.args.bytes.now = search rules in
-    tcp-destination c.args.side c.args.header c.args.bytes.now (packet_bytes_mut c.update_address.new.self) (packet_bytes_mut c.update_dst_port.new.self) _ c.args.addr c.of.result c.args.port
-    c.in-Destination.is (search rules) (search rules) (search rules) (search rules) c.requires.port (search rules) (search rules)
-    (rw view at c.update_address.ensures.valid_dst) c.update_dst_port.ensures.valid
+    let v = c.args.header in
+    let done = packet_bytes_mut c.update_dst_port.new.self in
+    rewritten c.args.side Destination v c.args.bytes.now done _ c.args.addr c.args.port (segment u payload) c.in-Destination.is (search rules)
+    (λ r. (
+      r.0,
+      to-destination Reads (with_tcp_port Destination c.args.port) c.args.bytes.now (packet_bytes_mut c.update_address.new.self) done c.args.addr v.src_addr v.dst_addr c.of.result
+          (search rules) (search rules) (search rules) (rw view at c.update_address.ensures.reads_dst) (λ s d b u q f g. c.update_dst_port.ensures.reads s d b u q f g c.requires.port) u payload r.1,
+    ))

@@ -1,4 +1,3 @@
-use Rattle.std.proofs.Common.{refl}
 use Rattle.ip_replies.proofs.ArpReplies.{no_reply, replied}
 use Rattle.ip_replies.proofs.arp.reply.Goals as goal
 

@@ -1,4 +1,4 @@
-use Rattle.std.proofs.Common.{◌≡◌, ◌≢◌, ◌∙◌, Some, length, ap, refl, rules, subst, sym}
+use Rattle.std.proofs.Common.{◌≡◌, ◌≢◌, ◌∙◌, length, ap, refl, rules, subst}
 use Rattle.ip_replies.proofs.TcpReplies.{no_reply, replied, sent}
 use Rattle.ip_replies.specs.Interface.{IsForUs, header_back}
 use Rattle.ip_replies.specs.TcpReply.{Replies}

@@ -1,4 +1,3 @@
-use Rattle.std.proofs.Common.{rules}
 use Rattle.wire_tcp.proofs.NoRanges.{header_len-no_ranges, normal-no_ranges}
 use Rattle.wire_tcp.specs.TcpRepr.{header_of}
 use Rattle.wire_tcp.proofs.laws.no_ranges_tcp.Goals as goal
