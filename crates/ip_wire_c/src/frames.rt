@@ -132,6 +132,27 @@ impl FrameFields {
         udp::wrap(ports, src_addr, dst_addr, payload_len, packet);
     }
 
+    // Writes the headers of a frame with a UDP packet, and the packet.
+    #[inline(always)]
+    fn write_udp(&self, carrier: &IpRepr, payload: &[u8], out: &mut [u8])
+        requires expressible { is_expressible self.now.ip carrier.now ≡ true }
+        requires payload_len { length payload.now ≤ udp.max_payload_len }
+        requires room { 14 + header_len_of carrier.now + 8 + length payload.now ≤ length out.old }
+        ensures { let v = carrier.now in let end = 14 + header_len_of v + 8 + length payload.now in
+            out.new ≡ headers_bytes self.now v
+            ++ udp.bytes_of (ports_of self.now.src self.now.dst) payload.now (src_addr_of v) (dst_addr_of v) true
+            ++ drop end out.old }
+    {
+        let (headers, packet) = out.split_at_mut(self.headers_len(carrier));
+        self.emit_headers(carrier, headers);
+        let ports = UdpRepr {
+            src_port: self.src.port,
+            dst_port: self.dst.port,
+        };
+        let (src_addr, dst_addr) = (carrier.src_addr(), carrier.dst_addr());
+        udp::write(ports, src_addr, dst_addr, payload, packet);
+    }
+
     // Writes the headers of a frame with a TCP segment around a payload that is in `out` behind them.
     #[inline(always)]
     fn wrap_tcp(&self, carrier: &IpRepr, segment: &TcpRepr<'_>, payload_len: usize, out: &mut [u8])
@@ -178,8 +199,7 @@ impl FrameFields {
         if out.len() < end {
             return None;
         }
-        place(payload, start, out);
-        self.wrap_udp(&carrier, payload.len(), out);
+        self.write_udp(&carrier, payload, out);
         Some(end)
     }
 

@@ -58,3 +58,27 @@ pub fn wrap(
     header.emit_header(&mut packet, payload_len);
     packet.fill_checksum(&src_addr, &dst_addr);
 }
+
+/// Writes a packet between two addresses to the front of `out`. The checksum is computed from the
+/// values and the caller's payload: bytes that were just written are slow to read again.
+#[inline(always)]
+pub fn write(
+    header: UdpRepr,
+    src_addr: IpAddress,
+    dst_addr: IpAddress,
+    payload: &[u8],
+    out: &mut [u8],
+)
+    requires payload_len { length payload.now ≤ max_payload_len }
+    requires room { 8 + length payload.now ≤ length out.old }
+    requires family { version_of src_addr ≡ version_of dst_addr }
+    ensures { out.new ≡ bytes_of header payload.now src_addr dst_addr true ++ drop (8 + length payload.now) out.old }
+{
+    header.emit(
+        &mut UdpPacketMut::new_unchecked(out),
+        &src_addr,
+        &dst_addr,
+        payload,
+        &ChecksumCapabilities::default(),
+    );
+}
