@@ -9,3 +9,5 @@ mod Numbered
 mod StoredFrame
 mod StoredHeaders
 mod StoredParts
+mod TcpResummed
+mod UdpKept

@@ -182,7 +182,11 @@ fn rebuild_udp(ip_header: &IpRepr, bytes: &[u8], out: &mut [u8]) -> Option<usize
     let caps = ChecksumCapabilities::default();
     let packet = UdpPacket::new_unchecked(bytes);
     match UdpRepr::parse(&packet, &src_addr, &dst_addr, &caps) {
-        Ok(header) => udp::emit(header, src_addr, dst_addr, packet.payload(), &caps, out),
+        Ok(header) if packet.checksum() == 0 => {
+            udp::emit(header, src_addr, dst_addr, packet.payload(), &caps, out)
+        }
+        // No other packet has these values, this payload and a valid checksum.
+        Ok(_) => copy(&bytes[..usize::from(packet.len())], out),
         Err(_) => copy(bytes, out),
     }
 }
@@ -198,7 +202,17 @@ fn rebuild_tcp(ip_header: &IpRepr, bytes: &[u8], out: &mut [u8]) -> Option<usize
     let caps = ChecksumCapabilities::default();
     let packet = TcpPacket::new_unchecked(bytes);
     match TcpRepr::parse(&packet, &src_addr, &dst_addr, &caps) {
-        Ok(segment) => tcp::emit(&segment, src_addr, dst_addr, &caps, out),
+        Ok(segment) => {
+            let unsummed = ChecksumCapabilities::ignored();
+            match tcp::emit(&segment, src_addr, dst_addr, &unsummed, out) {
+                Some(len) => {
+                    let old = &bytes[..usize::from(packet.header_len())];
+                    tcp::put_checksum(old, bytes.len(), segment.header_len(), len, out);
+                    Some(len)
+                }
+                None => None,
+            }
+        }
         Err(_) => copy(bytes, out),
     }
 }

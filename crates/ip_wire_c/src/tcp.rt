@@ -1,15 +1,17 @@
 //! TCP segments.
 
-ghost use Rattle.std.specs.Prelude.{◌≡◌, ◌≤◌, ◌+◌, ◌++◌, [], Some, drop, length, slice_range};
+ghost use Rattle.std.specs.Prelude.{◌≡◌, ◌≤◌, ◌+◌, ◌++◌, [], Some, drop, length, slice_range, take};
 ghost use Rattle.net_base.specs.Checksum.{computes};
 ghost use Rattle.ip_wire.specs.IpAddress.{version_of};
 ghost use Rattle.ip_wire.specs.TcpRepr.{bytes_of, header_len_of, header_of};
+ghost use Rattle.ip_wire.specs.Field.{with_field};
 ghost use Rattle.ip_wire_c.specs.Headers.{segment_bytes};
+ghost use Rattle.ip_wire_c.specs.Resummed.{resummed};
 ghost use Rattle.ip_wire_c.specs.Written.{Fills};
 
 use crate::results::place;
 use crate::types::Tcp;
-use ip_wire::{IpAddress, TcpPacketMut, TcpRepr};
+use ip_wire::{IpAddress, TcpPacketMut, TcpRepr, checksum};
 use net_base::ChecksumCapabilities;
 
 // The byte of a header that holds its flags.
@@ -38,6 +40,22 @@ pub fn emit(
         caps,
     );
     Some(len)
+}
+
+/// Writes the checksum of a segment at the front of `out` that has 0 there, from a segment that was
+/// read between the same addresses with its checksum and has the same payload: the payload is not
+/// summed again. `old` is the header that was read, `old_len` the length of its segment.
+#[inline(always)]
+pub fn put_checksum(old: &[u8], old_len: usize, header_len: usize, len: usize, out: &mut [u8])
+    requires header { 20 ≤ header_len }
+    requires room { header_len ≤ length out.old }
+    ensures { out.new ≡ with_field out.old 128 16 (resummed old.now old_len (take header_len out.old) len) }
+{
+    let old_sum = checksum::combine(&[checksum::data(old), (old_len % 65_536) as u16]);
+    let new_sum = checksum::combine(&[checksum::data(&out[..header_len]), (len % 65_536) as u16]);
+    let checksum = checksum::update(0, old_sum, new_sum);
+    let mut packet = TcpPacketMut::new_unchecked(out);
+    packet.set_checksum(checksum);
 }
 
 impl Tcp {
