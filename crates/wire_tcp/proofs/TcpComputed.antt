@@ -101,21 +101,6 @@ Reads-is src dst verified bytes payload v r =
     same_header (header_with bytes v.control r.options.items) v (sym r.src_port) (sym r.dst_port) refl (sym r.seq_number) (sym r.ack_number) (sym r.window_len)
     (sym r.options.window_scale) (sym r.options.max_seg_size) (sym r.options.sack_permitted) (sym r.options.sack_ranges) (sym r.options.timestamp)
 
--- the conditions of the whole test
-conjuncts : (lengths sender receiver verified holds : Bool) → (lengths && not sender && not receiver && (not verified || holds)) ≡ true
-    → (lengths ≡ true) × (sender ≡ false) × (receiver ≡ false) × (IsTrue verified → holds ≡ true)
-conjuncts true false false true true e = (refl, refl, refl, λ on. refl)
-conjuncts true false false true false e = absurd (cc)
-conjuncts true false false false holds e = (refl, refl, refl, λ on. absurd (cc))
-conjuncts true false true verified holds e = absurd (cc)
-conjuncts true true receiver verified holds e = absurd (cc)
-conjuncts false sender receiver verified holds e = absurd (cc)
-
-together : (lengths sender receiver verified holds : Bool) → lengths ≡ true → sender ≡ false → receiver ≡ false → (IsTrue verified → holds ≡ true)
-    → (lengths && not sender && not receiver && (not verified || holds)) ≡ true
-together lengths sender receiver true holds l s r h = rw (l, s, r, h refl) refl
-together lengths sender receiver false holds l s r h = rw (l, s, r) refl
-
 -- a choice that returns a value
 chosen : (b : Bool) (o : Option TcpHeader) (v : TcpHeader) → (if b then o else None) ≡ Some v → (b ≡ true) × (o ≡ Some v)
 chosen true o v e = (refl, e)
@@ -133,16 +118,15 @@ tcp_of-reads : (src dst : IpAddress) (verified : Bool) (bytes : List ℕ) (v : T
 unfolding tcp_of
 tcp_of-reads src dst verified bytes v e =
     let (sound, given) = chosen (is_sound src dst verified bytes) (option_and_then (λ asked. option_map (header_with bytes asked) (items_in (options_of bytes))) (control_of bytes)) v e in
-    let (lengths, sender, receiver, holds) = conjuncts (has_lengths bytes) (field bytes 0 16 == 0) (field bytes 16 16 == 0) verified (segment_sum src dst bytes == 65535) sound in
     let (c, asks, made) = asked (control_of bytes) (λ asked. option_map (header_with bytes asked) (items_in (options_of bytes))) v given in
     let (items, are, is) = valued (items_in (options_of bytes)) (header_with bytes c) v made in
     let (tail, list) = (items_in-list (options_of bytes) items).0 are in
     subst (λ w. Reads bytes src dst verified w (payload_of bytes)) is (record {
-      lengths = has_lengths-HasLengths bytes lengths;
+      lengths = has_lengths-HasLengths bytes (grind (arith, nat_tests));
       sender = grind (arith, nat_tests);
       receiver = grind (arith, nat_tests);
       control = (control_of-Has bytes c).0 asks;
-      checksum = λ on. let full = holds on in grind (arith, nat_tests);
+      checksum = λ on. grind (arith, nat_tests);
       options = record {
         items = items;
         tail = tail;
@@ -161,18 +145,25 @@ tcp_of-reads src dst verified bytes v e =
       body = refl;
     })
 
+is_sound-read : (src dst : IpAddress) (verified : Bool) (bytes payload : List ℕ) (v : TcpHeader) → Reads bytes src dst verified v payload → is_sound src dst verified bytes ≡ true
+is_sound-read src dst true bytes payload v r =
+    let lengths = HasLengths-has_lengths bytes r.lengths in
+    let sender = r.sender in
+    let receiver = r.receiver in
+    let full = r.checksum refl in
+    grind (arith, nat_tests)
+is_sound-read src dst false bytes payload v r =
+    let lengths = HasLengths-has_lengths bytes r.lengths in
+    let sender = r.sender in
+    let receiver = r.receiver in
+    grind (arith, nat_tests)
+
 reads-tcp_of : (src dst : IpAddress) (verified : Bool) (bytes payload : List ℕ) (v : TcpHeader) → Reads bytes src dst verified v payload → tcp_of src dst verified bytes ≡ Some v
 unfolding tcp_of
 reads-tcp_of src dst verified bytes payload v r =
-    let sender = r.sender in
-    let receiver = r.receiver in
-    let from : (field bytes 0 16 == 0) ≡ false = grind (arith, nat_tests) in
-    let to : (field bytes 16 16 == 0) ≡ false = grind (arith, nat_tests) in
-    let sound = together (has_lengths bytes) (field bytes 0 16 == 0) (field bytes 16 16 == 0) verified (segment_sum src dst bytes == 65535) (HasLengths-has_lengths bytes r.lengths) from to
-    (λ on. let full = r.checksum on in grind (arith, nat_tests)) in
     let asks = (control_of-Has bytes v.control).1 r.control in
     let are = (items_in-list (options_of bytes) r.options.items).1 (r.options.tail, r.options.list) in
-    rw (sound, asks, are) (ap Some (Reads-is src dst verified bytes payload v r))
+    rw (is_sound-read src dst verified bytes payload v r, asks, are) (ap Some (Reads-is src dst verified bytes payload v r))
 
 -- the computed value is the one that the relation `Reads` defines
 pub tcp_of-Reads : (src dst : IpAddress) (verified : Bool) (bytes : List ℕ) (v : TcpHeader) → (tcp_of src dst verified bytes ≡ Some v) ↔ Reads bytes src dst verified v (payload_of bytes)

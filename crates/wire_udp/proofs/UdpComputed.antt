@@ -1,6 +1,7 @@
 -- `udp_of` computes the value that a UDP packet parses as.
-use Rattle.std.proofs.Common.{ℕ, zero, suc, ◌≡◌, ◌≢◌, ◌↔◌, ◌⊎◌, inl, inr, ◌==◌, ◌&&◌, ◌||◌, not, Bool, true, false, IsTrue, if◌then◌else◌, List, Some, Result, Ok, refl, subst, arith}
+use Rattle.std.proofs.Common.{ℕ, zero, suc, ◌≡◌, ◌≢◌, ◌↔◌, ◌⊎◌, inl, inr, ◌==◌, ◌&&◌, ◌||◌, not, Bool, true, false, IsTrue, if◌then◌else◌, List, take, Some, Result, Ok, refl, subst, arith}
 use Rattle.std.proofs.lemmas.Bool.Decides.{nat_tests}
+use Rattle.std.specs.Bool.{Decides}
 use Rattle.std.specs.Result.{result_ok}
 use Rattle.wire_field.proofs.Readings.{answer-computed}
 use Rattle.net_base.specs.declared.error.Error.{Error}
@@ -10,7 +11,7 @@ use Rattle.wire_ends.specs.declared.ip_address.IpAddress.TheVariants as address
 use Rattle.wire_ends.specs.declared.ip_version.IpVersion.TheVariants as version
 use Rattle.wire_field.specs.Field.{field}
 use Rattle.wire_field.proofs.Readings.{if-Some}
-use Rattle.wire_udp.specs.Udp.{HasChecksum, HasLengths, Reads, has_checksum, has_lengths, header_of, is_ipv4, is_read, payload_of, udp_of}
+use Rattle.wire_udp.specs.Udp.{HasChecksum, HasLengths, Reads, has_checksum, has_lengths, header_of, is_ipv4, is_read, packet_len, packet_sum, payload_of, udp_of}
 use Rattle.wire_udp.specs.declared.udp.repr.UdpRepr.{UdpRepr}
 
 -- each test is true exactly if the fact in its name is
@@ -25,63 +26,40 @@ has_lengths-HasLengths bytes h = record {
 pub HasLengths-has_lengths : (bytes : List ℕ) → HasLengths bytes → has_lengths bytes ≡ true
 HasLengths-has_lengths bytes h = grind (arith, nat_tests)
 
-is_ipv4-version : (a : IpAddress) → is_ipv4 a ≡ true → version_of a ≡ version.Ipv4
-is_ipv4-version (address.Ipv4 octets) e = refl
-is_ipv4-version (address.Ipv6 octets) e = absurd (cc)
-
-version-is_ipv4 : (a : IpAddress) → version_of a ≡ version.Ipv4 → is_ipv4 a ≡ true
-version-is_ipv4 (address.Ipv4 octets) e = refl
-version-is_ipv4 (address.Ipv6 octets) e = absurd (cc)
-
--- a choice between two tests, by whether a number is 0
-chosen : (n sum : ℕ) (four : Bool) (P : Type 0) → (four ≡ true → P) → (if n == 0 then four else (sum == 65535)) ≡ true → ((n ≡ 0) × P) ⊎ ((n ≢ 0) × (sum ≡ 65535))
-chosen zero sum four P is e = inl (refl, is e)
-chosen (suc n) sum four P is e = inr (omega arith, grind (arith, nat_tests))
-
-choosing : (n sum : ℕ) (four : Bool) (P : Type 0) → (P → four ≡ true) → ((n ≡ 0) × P) ⊎ ((n ≢ 0) × (sum ≡ 65535)) → (if n == 0 then four else (sum == 65535)) ≡ true
-choosing n sum four P is (inl (none, p)) = rw none (is p)
-choosing n sum four P is (inr (other, full)) =
-    let none : (n == 0) ≡ false = grind (arith, nat_tests) in
-    rw (none, full) refl
+is_ipv4-Decides : (a : IpAddress) → Decides (is_ipv4 a) (version_of a ≡ version.Ipv4)
+is_ipv4-Decides (address.Ipv4 octets) = (λ e. refl, λ e. refl)
+is_ipv4-Decides (address.Ipv6 octets) = (λ e. absurd (cc), λ e. absurd (cc))
 
 pub has_checksum-HasChecksum : (src dst : IpAddress) (bytes : List ℕ) → (has_checksum src dst bytes ≡ true) ↔ HasChecksum src dst bytes
-has_checksum-HasChecksum src dst bytes = (
-  chosen (field bytes 48 16) _ (is_ipv4 src) (version_of src ≡ version.Ipv4) (is_ipv4-version src),
-  choosing (field bytes 48 16) _ (is_ipv4 src) (version_of src ≡ version.Ipv4) (version-is_ipv4 src),
-)
-
--- the conditions of the whole test
-conjuncts : (lengths none verified holds : Bool) → (lengths && not none && (not verified || holds)) ≡ true → (lengths ≡ true) × (none ≡ false) × (IsTrue verified → holds ≡ true)
-conjuncts true false true true e = (refl, refl, λ on. refl)
-conjuncts true false true false e = absurd (cc)
-conjuncts true false false holds e = (refl, refl, λ on. absurd (cc))
-conjuncts true true verified holds e = absurd (cc)
-conjuncts false none verified holds e = absurd (cc)
-
-together : (lengths none verified holds : Bool) → lengths ≡ true → none ≡ false → (IsTrue verified → holds ≡ true) → (lengths && not none && (not verified || holds)) ≡ true
-together lengths none true holds l n h = rw (l, n, h refl) refl
-together lengths none false holds l n h = rw (l, n) refl
+has_checksum-HasChecksum src dst bytes =
+    by_field (field bytes 48 16) (packet_sum src dst (take (packet_len bytes) bytes))
+  where
+    by_field : (n sum : ℕ) → Decides (if n == 0 then is_ipv4 src else (sum == 65535)) (((n ≡ 0) × (version_of src ≡ version.Ipv4)) ⊎ ((n ≢ 0) × (sum ≡ 65535)))
+    by_field zero sum = (λ e. inl (refl, (is_ipv4-Decides src).0 e), λ h. elim h [ inl (none, is) ↦ (is_ipv4-Decides src).1 is | inr (some, full) ↦ absurd (some refl) ])
+    by_field (suc n) sum = (λ e. inr (omega arith, grind (arith, nat_tests)), λ h. elim h [ inl (none, is) ↦ absurd (omega (arith, none)) | inr (some, full) ↦ grind (arith, nat_tests) ])
 
 is_read-Reads : (src dst : IpAddress) (verified : Bool) (bytes : List ℕ) → is_read src dst verified bytes ≡ true
     → Reads bytes src dst verified (header_of bytes) (payload_of bytes)
-is_read-Reads src dst verified bytes h =
-    let (lengths, port, checksum) = conjuncts (has_lengths bytes) (field bytes 16 16 == 0) verified (has_checksum src dst bytes) h in
-    record {
-      lengths = has_lengths-HasLengths bytes lengths;
-      receiver = grind (arith, nat_tests);
-      checksum = λ on. (has_checksum-HasChecksum src dst bytes).0 (checksum on);
-      src_port = refl;
-      dst_port = refl;
-      body = refl;
-    }
+is_read-Reads src dst verified bytes h = record {
+  lengths = has_lengths-HasLengths bytes (grind (arith, nat_tests));
+  receiver = grind (arith, nat_tests);
+  checksum = λ on. (has_checksum-HasChecksum src dst bytes).0 (grind (arith, nat_tests));
+  src_port = refl;
+  dst_port = refl;
+  body = refl;
+}
 
 Reads-is_read : (src dst : IpAddress) (verified : Bool) (bytes : List ℕ) (v : UdpRepr) (payload : List ℕ) → Reads bytes src dst verified v payload
     → is_read src dst verified bytes ≡ true
-Reads-is_read src dst verified bytes v payload r =
-    let receiver = r.receiver in
-    let port : (field bytes 16 16 == 0) ≡ false = grind (arith, nat_tests) in
-    together (has_lengths bytes) (field bytes 16 16 == 0) verified (has_checksum src dst bytes) (HasLengths-has_lengths bytes r.lengths) port
-    (λ on. (has_checksum-HasChecksum src dst bytes).1 (r.checksum on))
+Reads-is_read src dst true bytes v payload f =
+    let receiver = f.receiver in
+    let lengths = HasLengths-has_lengths bytes f.lengths in
+    let checksum = (has_checksum-HasChecksum src dst bytes).1 (f.checksum refl) in
+    grind (arith, nat_tests)
+Reads-is_read src dst false bytes v payload f =
+    let receiver = f.receiver in
+    let lengths = HasLengths-has_lengths bytes f.lengths in
+    grind (arith, nat_tests)
 
 pub Reads-is : (src dst : IpAddress) (verified : Bool) (bytes : List ℕ) (v : UdpRepr) (payload : List ℕ) → Reads bytes src dst verified v payload → v ≡ header_of bytes
 Reads-is src dst verified bytes v payload r = rw (← r.src_port, ← r.dst_port) refl
