@@ -4,3 +4,4 @@ pub mod TcpLoan
 pub mod TcpRepr
 pub mod TcpReprText
 pub mod TcpText
+pub mod TcpSetters

@@ -4,11 +4,13 @@ ghost use Rattle.std.specs.Prelude.{◌≡◌, ◌≢◌, ◌⊎◌, ◌↔◌, 
 ghost use Rattle.wire_ends.specs.IpAddress.{version_of};
 ghost use Rattle.wire_ends.specs.declared.ip_address.IpAddress.{IpAddress};
 ghost use Rattle.wire_field.specs.Field.{field, with_field};
-ghost use Rattle.wire_tcp.specs.Tcp.{Verifies, header_len, payload_of, with_checksum};
+ghost use Rattle.wire_tcp.specs.Tcp.{Verifies, header_len, packet_bytes_mut, payload_of, with_checksum};
 ghost use Rattle.wire_tcp.specs.TcpRepr.{HasIdleRanges, Reads, bytes_of, header_len_of, header_of, no_ranges, normal, tcp_of};
+ghost use Rattle.wire_tcp.specs.TcpSetters.{after};
 
-use crate::tcp::TcpRepr;
+use crate::tcp::{TcpPacketMut, TcpRepr};
 use wire_ends::IpAddress;
+use wire_tcp_parts::TcpSeqNumber;
 
 /// The emitted segment, in a buffer of exactly its length, parses as the value's normal form and
 /// the same payload. A checksum that is verified must have been computed.
@@ -171,3 +173,59 @@ pub fn filled_checksum_reads_tcp(
     requires { Reads bytes.now src_addr dst_addr false (header_of value) value.payload.now }
     ensures { Reads (with_checksum src_addr dst_addr bytes.now) src_addr dst_addr true (header_of value.entry) value.entry.payload.now }
 {}
+
+/// A call of a setter.
+#[derive(Clone, Copy)]
+pub enum TcpSetting {
+    SrcPort(u16),
+    DstPort(u16),
+    SeqNumber(TcpSeqNumber),
+    AckNumber(TcpSeqNumber),
+    HeaderLen(u8),
+    Ns(bool),
+    Cwr(bool),
+    Ece(bool),
+    Urg(bool),
+    Ack(bool),
+    Psh(bool),
+    Rst(bool),
+    Syn(bool),
+    Fin(bool),
+    WindowLen(u16),
+    Checksum(u16),
+    UrgentAt(u16),
+}
+
+/// A setter writes its field of the header's diagram, and nothing else.
+pub fn setter_writes_one_field_tcp(packet: &mut TcpPacketMut<'_>, setting: TcpSetting)
+    requires { 20 ≤ length (packet_bytes_mut packet.old) }
+    ensures { packet_bytes_mut packet.new ≡ after setting (packet_bytes_mut packet.old) }
+{
+    match setting {
+        TcpSetting::SrcPort(x) => packet.set_src_port(x),
+        TcpSetting::DstPort(x) => packet.set_dst_port(x),
+        TcpSetting::SeqNumber(x) => packet.set_seq_number(x),
+        TcpSetting::AckNumber(x) => packet.set_ack_number(x),
+        TcpSetting::HeaderLen(x) => packet.set_header_len(x),
+        TcpSetting::Ns(x) => packet.set_ns(x),
+        TcpSetting::Cwr(x) => packet.set_cwr(x),
+        TcpSetting::Ece(x) => packet.set_ece(x),
+        TcpSetting::Urg(x) => packet.set_urg(x),
+        TcpSetting::Ack(x) => packet.set_ack(x),
+        TcpSetting::Psh(x) => packet.set_psh(x),
+        TcpSetting::Rst(x) => packet.set_rst(x),
+        TcpSetting::Syn(x) => packet.set_syn(x),
+        TcpSetting::Fin(x) => packet.set_fin(x),
+        TcpSetting::WindowLen(x) => packet.set_window_len(x),
+        TcpSetting::Checksum(x) => packet.set_checksum(x),
+        TcpSetting::UrgentAt(x) => packet.set_urgent_at(x),
+    }
+}
+
+/// Clearing the flags writes all nine, and the reserved bits, and nothing else.
+pub fn clear_flags_writes_the_flags_tcp(packet: &mut TcpPacketMut<'_>)
+    requires { 20 ≤ length (packet_bytes_mut packet.old) }
+    ensures { packet_bytes_mut packet.new ≡ with_field (packet_bytes_mut packet.old) 100 12 0 }
+{
+    packet.clear_flags();
+}
