@@ -1,14 +1,10 @@
 -- The fields of a header in the order of RFC 791's diagram, and which of them a setter writes.
-use Rattle.std.specs.Prelude.{ℕ, ◌/◌, if◌then◌else◌, List, [], ◌∷◌, slice_index, sum, take}
-use Rattle.wire_field.specs.Field.{with_field}
+use Rattle.std.specs.Prelude.{ℕ, ◌/◌, if◌then◌else◌, List, [], ◌∷◌}
+use Rattle.wire_field.specs.Diagram.{with_nth}
 use Rattle.byteorder.specs.Endian.{big_number}
 use Rattle.wire_ends.specs.Protocol.{number_of}
 use Rattle.wire_ipv4.specs.declared.laws.Ipv4Setting.{Ipv4Setting}
 use Rattle.wire_ipv4.specs.declared.laws.Ipv4Setting.TheVariants as set
-
--- the bytes with x in field k of a diagram, which lists the widths of its fields in order
-abbrev pub with_nth : List ℕ → ℕ → ℕ → List ℕ → List ℕ
-with_nth widths k x bytes = with_field bytes (sum (take k widths)) (slice_index widths k) x
 
 -- version, header length, service, congestion, total length; identification, three flags, offset; hop limit, protocol, checksum; addresses
 abbrev pub diagram : List ℕ

@@ -1,13 +1,9 @@
 -- The fields of a header in the order of RFC 9293's diagram, and which of them a setter writes.
-use Rattle.std.specs.Prelude.{ℕ, ◌/◌, if◌then◌else◌, List, [], ◌∷◌, slice_index, sum, take}
-use Rattle.wire_field.specs.Field.{with_field}
+use Rattle.std.specs.Prelude.{ℕ, ◌/◌, if◌then◌else◌, List, [], ◌∷◌}
+use Rattle.wire_field.specs.Diagram.{with_nth}
 use Rattle.wire_tcp_parts.specs.TcpSeq.{number}
 use Rattle.wire_tcp.specs.declared.laws.TcpSetting.{TcpSetting}
 use Rattle.wire_tcp.specs.declared.laws.TcpSetting.TheVariants as set
-
--- the bytes with x in field k of a diagram, which lists the widths of its fields in order
-abbrev pub with_nth : List ℕ → ℕ → ℕ → List ℕ → List ℕ
-with_nth widths k x bytes = with_field bytes (sum (take k widths)) (slice_index widths k) x
 
 -- ports; sequence number; acknowledgement number; offset, three reserved bits, nine flags, window; checksum, urgent pointer
 abbrev pub diagram : List ℕ

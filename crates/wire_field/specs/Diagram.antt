@@ -1,0 +1,11 @@
+-- A header as the list of its fields, by their widths in the RFC's diagram, in order.
+use Rattle.std.specs.Prelude.{ℕ, List, slice_index, sum, take}
+use Rattle.wire_field.specs.Field.{field, with_field}
+
+-- the number in field k of a diagram with these widths
+abbrev pub nth_field : List ℕ → ℕ → List ℕ → ℕ
+nth_field widths k bytes = field bytes (sum (take k widths)) (slice_index widths k)
+
+-- the bytes with x in field k of a diagram with these widths
+abbrev pub with_nth : List ℕ → ℕ → ℕ → List ℕ → List ℕ
+with_nth widths k x bytes = with_field bytes (sum (take k widths)) (slice_index widths k) x
