@@ -7,6 +7,7 @@
 # make quick      runs the tests and the program without proofs
 # make check CRATE=name
 #                 proves one crate and reuses earlier proofs
+# make statements renews docs/statements/, the record of all contracts and definitions
 # make test       runs the gate and all other tests; the gate's log is out/test.log
 # make test-all   runs make test, then the wrong bodies and controls that it leaves out (out/wrong.log)
 # make compare REFERENCE=program [SEED=n] [LINES=n]
@@ -50,7 +51,7 @@ endif
 endif
 
 .DELETE_ON_ERROR:
-.PHONY: run build install uninstall quick check test test-all compare compare-calls bench
+.PHONY: run build install uninstall quick check statements test test-all compare compare-calls bench
 
 run:
 	@test -r "$$FRAMES" && ! test -d "$$FRAMES" || $(call fail,cannot read $$FRAMES)
@@ -86,6 +87,9 @@ quick:
 check:
 	@test -n "$$CRATE" && test -d "crates/$$CRATE/src" || $(call fail,name a crate of crates.txt as CRATE=name)
 	@cd "crates/$$CRATE" && rt check
+
+statements:
+	@tests/statements.py --write
 
 test:
 	@tests/all

@@ -7,10 +7,11 @@ A condition is a `requires` of a call, or the `can_..` of an operator. Public ca
 `net_base` export, and all laws. Conditions that only one side has are printed, and the status is 1 then. TOP is the top of the
 repository.
 """
-import glob
 import os
 import re
 import sys
+
+from sources import Sources
 
 OPERATORS = {"can_add": "+", "can_sub": "-", "can_add_assign": "+="}
 
@@ -18,42 +19,6 @@ OPERATORS = {"can_add": "+", "can_sub": "-", "can_add_assign": "+="}
 def read(path):
     with open(path, encoding="utf-8") as file:
         return file.read()
-
-
-def exported(library):
-    """The names in the `pub use` lines of a library."""
-    return {name for names in re.findall(r"^pub use [^;]*::(\w+|{[^}]*});", library, re.M) for name in re.findall(r"\w+", names)}
-
-
-def clauses(head):
-    """The text between the braces of each `requires`, or of a member `ghost can_..`."""
-    for found in re.finditer(r"^ *(?:requires\*?(?: \w+)?|ghost can_\w+ =) {", head, re.M):
-        depth, end = 1, found.end()
-        while depth:
-            depth += {"{": 1, "}": -1}.get(head[end], 0)
-            end += 1
-        yield head[found.end() : end - 1]
-
-
-def functions(text):
-    """Each function and operator: the type it belongs to, its name and its head. In rt fmt's layout the body begins at a brace
-    at the indent of the function, or at the end of a signature without clauses."""
-    owner = trait = None
-    lines = text.split("\n")
-    for at, line in enumerate(lines):
-        block = re.match(r"impl(?:<.*?>)? (.* for )?(\w+)(<.*>)? {$", line)
-        if block:
-            trait, owner = block.group(1), block.group(2)
-        elif line == "}":
-            owner = trait = None
-        found = re.match(r"( *)pub fn (\w+)", line) or trait and re.match(r"(    )fn (\w+)", line)
-        member = trait and re.match(r"    ghost (can_\w+) =", line)
-        if found:
-            body = re.compile(found.group(1) + "{| *(?!requires|ensures)[^ ].* {}?$")
-            end = next(n for n in range(at, len(lines)) if body.match(lines[n]))
-            yield owner, found.group(2), "\n".join(lines[at : end + 1])
-        elif member:
-            yield owner, OPERATORS.get(member.group(1), member.group(1)), line
 
 
 def shown(clause):
@@ -64,24 +29,35 @@ def shown(clause):
     return re.sub(r"\.(?:now|old)\b", "", clause)
 
 
+def conditions(module):
+    """The conditions of the public functions and operators of a module: the type or nothing, the call, and the clause."""
+    for item in module.items:
+        is_block = item.kind == "impl"
+        for inner in item.items if is_block else [item]:
+            owner = item.owner() if is_block else ""
+            if inner.visibility == "pub" or is_block and item.trait():
+                yield from ((owner, inner.name, clause.text) for clause in inner.clauses if clause.kind == "requires")
+            if inner.kind == "ghost" and inner.name.startswith("can_"):
+                yield owner, OPERATORS.get(inner.name, inner.name), inner.text.partition(" = ")[2][1:-1]
+
+
 def in_the_sources(top):
     """All conditions, as pairs of a call and a clause. A mutable view has the name of the reading view."""
-    crates = os.path.join(top, "crates")
-    names = exported(read(crates + "/ip_wire/src/lib.rt")) | exported(read(crates + "/net_base/src/lib.rt"))
-    paths = [p for p in glob.glob(crates + "/*/src/**/*.rt", recursive=True) if re.search(r"/(net_base|ip_wire|wire_\w+)/src/", p)]
-    texts = {path: read(path) for path in paths}
+    sources = Sources(top)
+    names = {path[-1] for library in ("ip_wire", "net_base") for path in sources.exports(library)}
+    crates = [crate for name, crate in sources.crates.items() if re.fullmatch(r"net_base|ip_wire|wire_\w+", name)]
+    modules = [module for crate in crates for module in crate.modules.values()]
     views = {}
-    for text in texts.values():
-        for name, view in re.findall(r"^pub type (\w+)<'a> = (\w+View)<", text, re.M):
-            if not name.endswith("Mut"):
-                views[view] = views[name + "Mut"] = name
-    for path, text in texts.items():
-        module = "laws" if "/src/laws/" in path else os.path.basename(path)[:-3]
-        for owner, name, head in functions(text):
-            owner = views.get(owner, owner) or module
+    for item in (item for module in modules for item in module.items if item.kind == "type" and item.visibility == "pub"):
+        view = re.search(r"= (\w+View)<", item.text)
+        if view and not item.name.endswith("Mut"):
+            views[view.group(1)] = views[item.name + "Mut"] = item.name
+    for module in modules:
+        name = "laws" if "laws" in module.path else os.path.basename(module.file)[:-3]
+        for owner, call, clause in conditions(module):
+            owner = views.get(owner, owner) or name
             if owner in names or owner == "laws":
-                for clause in clauses(head):
-                    yield owner + "::" + name, shown(clause)
+                yield owner + "::" + call, shown(clause)
 
 
 def in_the_tables(document):
