@@ -12,6 +12,8 @@ import os
 import re
 import sys
 
+from sources import Sources
+
 NUMBERS = {"u8": "uint8_t", "u16": "uint16_t", "u32": "uint32_t", "i32": "int", "usize": "size_t", "isize": "ptrdiff_t"}
 SAME = {"char": "uint8_t", "int32_t": "int"}
 # The field has another name in Rattle, because `type` is a keyword.
@@ -46,15 +48,18 @@ def c_structs(text):
         yield name, re.findall(r"(\S[\w ]*?(?: \*)?) ?\b(\w+)(?:\[(\d+)\])?;", body)
 
 
-class Sources:
+class Library:
     """The sources of the C library. The doc line of a struct names it as C does."""
 
     def __init__(self, top):
-        self.text = "\n".join(read(path) for path in sorted(glob.glob(top + "/crates/ip_wire_c/src/**/*.rt", recursive=True)))
-        names = re.findall(r"^/// `struct (lk_\w+)`(?:(?!^pub struct).)*^pub struct (\w+)", self.text, re.M | re.S)
-        self.types = NUMBERS | {rust: "struct " + c for c, rust in names}
-        everything = "\n".join(map(read, glob.glob(top + "/crates/*/src/**/*.rt", recursive=True)))
-        self.constants = dict(re.findall(r"pub const (\w+): usize = (\d+);", everything))
+        crates = Sources(top).crates
+        everything = [item for crate in crates.values() for module in crate.modules.values() for item in module.items]
+        self.items = [item for module in crates["ip_wire_c"].modules.values() for item in module.items]
+        docs = {item.name: " ".join(item.docs) for item in self.items if item.kind == "struct"}
+        names = {rust: re.match(r"`(struct lk_\w+)`", doc) for rust, doc in docs.items()}
+        self.types = NUMBERS | {rust: found.group(1) for rust, found in names.items() if found}
+        constants = (re.fullmatch(r"const (\w+): usize = (\d+)", item.text) for item in everything if item.visibility == "pub")
+        self.constants = dict(found.groups() for found in constants if found)
 
     def name(self, rust):
         return self.types.get(re.sub(r"<.*", "", rust), rust)
@@ -71,19 +76,25 @@ class Sources:
             yield const + self.name(inner) + " *" if reference else self.name(inner)
 
     def calls(self):
-        head = r'extern "C" fn (lk_\w+)\((.*?)\)(?: -> (\w+))?\s*(?:requires|ensures|{)'
-        for name, parameters, result in re.findall(head, self.text, re.S):
-            types = [t for rust in re.findall(r"\w+: (&?(?:mut )?(?:\[.*?\]|[^,\s]+))", parameters) for t in self.c_types(rust)]
-            yield name, [*types, self.name(result) if result else "void"]
+        for item in self.items:
+            head = re.fullmatch(r'extern "C" fn (lk_\w+)\((.*)\)(?: -> (\w+))?', item.text)
+            if head:
+                name, parameters, result = head.groups()
+                found = re.findall(r"\w+: (&?(?:mut )?(?:\[.*?\]|[^,\s]+))", parameters)
+                types = [t for rust in found for t in self.c_types(rust)]
+                yield name, [*types, self.name(result) if result else "void"]
 
     def structs(self):
-        for rust, body in re.findall(r"#\[repr\(C\)\]\n(?:#[^\n]*\n)*pub struct (\w+)[^{]*{\n(.*?)\n}", self.text, re.S):
-            yield self.name(rust).removeprefix("struct "), list(self.fields(body))
+        for item in self.items:
+            if item.kind == "struct" and "repr(C)" in item.attributes:
+                fields = [field for member in item.members for field in self.fields(member)]
+                yield self.name(item.name).removeprefix("struct "), fields
 
-    def fields(self, body):
-        """The fields of a struct: a slice is a pointer and a count."""
-        declared = re.findall(r"^    pub (\w+): (?:\[(\w+); (\w+)\]|&'\w+ \[(\w+)\]|(\w+)),", body, re.M)
-        for name, array, length, slice_of, plain in declared:
+    def fields(self, member):
+        """The fields in C of a public field: a slice is a pointer and a count."""
+        declared = re.fullmatch(r"pub (\w+): (?:\[(\w+); (\w+)\]|&'\w+ \[(\w+)\]|(\w+))", member)
+        if declared:
+            name, array, length, slice_of, plain = declared.groups("")
             if slice_of:
                 yield "const " + self.name(slice_of) + " *", name, ""
                 yield "size_t", name.removesuffix("s") + "_count", ""
@@ -108,7 +119,7 @@ def unknown_names(top, header):
 
 def main(top):
     header = read(top + "/c/ip_wire.h")
-    sources = Sources(top)
+    sources = Library(top)
     calls = dict(c_calls(header))
     found = [
         *differences(calls, [*sources.calls(), *c_calls(read(top + "/c/cpu.c"))]),

@@ -3,9 +3,9 @@
 
     tests/conditions.py [TOP]
 
-A condition is a `requires` of a call, or the `can_..` of an operator. Public calls are those of the names that `ip_wire` and
-`net_base` export, and all laws. Conditions that only one side has are printed, and the status is 1 then. TOP is the top of the
-repository.
+A condition is a `requires` of a call, or the `can_..` of an operator. Public calls are those of the names that `ip_wire`
+and `net_base` export, and all laws. Conditions that only one side has are printed, and the status is 1 then. TOP is the top
+of the repository.
 """
 import os
 import re

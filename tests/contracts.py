@@ -16,7 +16,9 @@ TOKEN = re.compile(r"""
   | (?P<other>.)
 """, re.X | re.S)
 CLOSED_BY = {"(": ")", "[": "]", "{": "}"}
-SPEC_ITEM = re.compile(r"(?:abbrev|unfoldable|opaque|record|data|pub|use|mod|infix\w*|syntax|open|law)\b")
+SPEC_ITEM = re.compile(r"(?:abbrev|unfoldable|opaque|record|data|pub|mod|infix\w*|syntax)\b")
+# Its words, and its name.
+SPEC_HEAD = re.compile(rf"((?:{SPEC_ITEM.pattern} ?)+(?:\d+ )?)(\S+)")
 SPEC_COMMENT = re.compile(r'("(?:\\.|[^"\\])*")|\s*--.*')
 SPEC_SPACE = re.compile(r'("(?:\\.|[^"\\])*")|\s+')
 
@@ -215,7 +217,7 @@ class Reader:
         if self.accept("pub"):
             visibility = "pub" if self.peek() != "(" else f"pub({joined(self.balanced())})"
         words = []
-        while self.peek() in ("unsafe", "async", "extern", "ghost") or self.is_next("const", "fn") or self.is_next("const", "unsafe"):
+        while self.peek() in ("unsafe", "extern", "ghost") or self.is_next("const", "fn") or self.is_next("const", "unsafe"):
             words.append(self.take().text)
             if self.tokens[self.at].kind == "string":
                 words.append(self.take().text)
@@ -223,6 +225,8 @@ class Reader:
 
     def of_kind(self, item, words):
         item.kind = self.peek()
+        if item.kind in ("use", "mod") and any(a != "cfg(test)" or item.kind == "use" for a in item.attributes):
+            self.fail()
         if item.kind == "use":
             self.take()
             text = joined(self.until(";"))
@@ -282,7 +286,7 @@ class Reader:
             item.has_body = True
         elif not self.accept(";"):
             self.fail()
-        return None if "cfg(test)" in "".join(item.attributes) else item
+        return None if item.attributes else item
 
     def value(self, item, first):
         self.until(";")
@@ -377,9 +381,7 @@ def read_spec(text, file):
             is_public, line = line.startswith("pub "), re.sub(r"^(?:pub )?use ", "", line)
             uses += imports(line, True, is_public)
         elif not is_inner and SPEC_ITEM.match(line):
-            head = re.match(r"((?:(?:abbrev|unfoldable|opaque|record|data|pub|mod|infix\w*|syntax|open|law)\b ?)+(?:\d+ )?)(\S+)", line)
-            if not head:
-                raise ReadError(f"{file}: cannot read {line!r}")
+            head = SPEC_HEAD.match(line)
             definitions.append(Definition(head.group(1).strip(), head.group(2), [line], docs))
         elif definitions:
             definitions[-1].lines.append(line)

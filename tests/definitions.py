@@ -6,12 +6,11 @@
 Each name in the first column must be defined in a module of the heading. Each test, law and file of worked examples in the
 last column must exist. What does not exist is printed, and the status is 1 then. TOP is the top of the repository.
 """
+import functools
 import glob
 import os
 import re
 import sys
-
-from sources import Sources
 
 TESTS = {"addr": "addr_tests", "link": "link_tests", "ip": "ip_tests", "transport": "transport_tests"}
 PINS = {
@@ -24,26 +23,32 @@ PINS = {
 } | {pin: "crates/" + crate + "/src/tests/{}.rt" for pin, crate in TESTS.items()}
 
 
+@functools.cache
 def read(path):
     with open(path, encoding="utf-8") as file:
         return file.read()
 
 
 def modules(heading):
-    """The modules that a heading such as "`A` and `B` in `crate`" names, as pairs of a crate and a module."""
+    """The modules that a heading such as "`A` and `B` in `crate`" names, as paths."""
     for names, crate in re.findall(r"((?:`\w+`(?:, | and )?)+) in `(\w+)`", heading):
-        yield from ((crate, name) for name in re.findall(r"`(\w+)`", names))
+        yield from (f"crates/{crate}/specs/{name}.antt" for name in re.findall(r"`(\w+)`", names))
 
 
 def rows(document):
     """The rows below the headings of modules: the modules, the names of the definitions and the last cell."""
-    found = []
+    paths = []
     for line in document.split("\n"):
         cells = re.split(r" \|(?= |$)", line.strip())[:-1]
         if line.startswith("## "):
-            found = list(modules(line))
-        elif found and line.startswith("| ") and "Definition" not in cells[0]:
-            yield found, [span.split()[0] for span in re.findall(r"`([^`]+)`", cells[0])], cells[-1]
+            paths = list(modules(line))
+        elif paths and line.startswith("| ") and "Definition" not in cells[0]:
+            yield paths, [span.split()[0] for span in re.findall(r"`([^`]+)`", cells[0])], cells[-1]
+
+
+def is_defined(name, paths):
+    head = rf"^(?:abbrev |unfoldable |opaque |record |data |pub )+{re.escape(name)}(?![\w'])"
+    return any(re.search(head, read(path), re.M) for path in paths)
 
 
 def exists(pin):
@@ -55,13 +60,11 @@ def exists(pin):
 
 def main(top):
     os.chdir(top)
-    crates = Sources(top).crates
-    defined = {(crate.name, path[0], d.name) for crate in crates.values() for path, m in crate.specs.items() for d in m.items}
-    laws = {item.name for crate in crates.values() for path, m in crate.modules.items() if "laws" in path for item in m.items}
+    paths = glob.glob("crates/*/src/laws.rt") + glob.glob("crates/*/src/laws/*.rt")
+    laws = {law for path in paths for law in re.findall(r"^pub fn (\w+)", read(path), re.M)}
     missing = []
-    for found, names, last in rows(read("docs/DEFINITIONS.md")):
-        where = ", ".join(f"{module} of {crate}" for crate, module in found)
-        missing += [f"{name} is not defined in {where}" for name in names if not any((*m, name) in defined for m in found)]
+    for paths, names, last in rows(read("docs/DEFINITIONS.md")):
+        missing += [f"{name} is not defined in {', '.join(paths)}" for name in names if not is_defined(name, paths)]
         missing += [f"there is no {pin}" for pin in re.findall(r"`([^`]+)`", last) if not exists(pin)]
         for law in re.findall(r"\blaws? ((?:`\w+`(?:, | and )?)+)", last):
             missing += [f"there is no law {name}" for name in re.findall(r"`(\w+)`", law) if name not in laws]

@@ -1,8 +1,9 @@
 #!/usr/bin/env python3
 """Checks docs/REQUIREMENTS.md against the sources: tests/requirements.py [TOP]
 
-Each statement and test that the tables name must exist, and each row must name one. Each wrong body must have its control. Also,
-no library may name what allocates. What is wrong is printed, and the status is 1 then. TOP is the top of the repository.
+Each statement and test that the tables name must exist, and each row must name one. Each wrong body must have its control.
+Also, no library may name what allocates. What is wrong is printed, and the status is 1 then. TOP is the top of the
+repository.
 """
 import glob
 import itertools
@@ -124,8 +125,8 @@ def is_test(name):
 
 
 def rows(document):
-    """The rows of the tables with their line numbers: requirement, statements and tests. A row without a requirement continues
-    the one above it."""
+    """The rows of the tables with their line numbers: requirement, statements and tests. A row without a requirement
+    continues the one above it."""
     found = []
     for number, line in enumerate(document.split("\n"), 1):
         cells = [cell.strip() for cell in re.split(r" \|(?= |$)", line.strip().removeprefix("|"))][:-1]

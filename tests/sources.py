@@ -21,6 +21,7 @@ class Module:
     docs: list
     items: list
     uses: list
+    is_inline: bool = False  # It is written in the file of another module.
 
 
 @dataclass
@@ -41,6 +42,9 @@ class Sources:
             head = re.match(r"(\w+)(?: staticlib)?:", line)
             if head:
                 self.crates[head.group(1)] = self.crate(head.group(1))
+        modules = [m for crate in self.crates.values() for m in (*crate.modules.values(), *crate.specs.values())]
+        # The names of the items of code that definitions and contracts cite.
+        self.declared_names = {name for m in modules for use in m.uses if "declared" in use.path for name in use.path}
 
     def read(self, file):
         if file in self.edits:
@@ -67,14 +71,15 @@ class Sources:
         return crate
 
     def add_module(self, crate, file, path):
-        self.add_items(crate, file, path, *read_module(self.read(file), file))
+        self.add_items(crate, Module(file, path, *read_module(self.read(file), file)))
 
-    def add_items(self, crate, file, path, docs, items, uses):
-        crate.modules[path] = Module(file, path, docs, items, uses)
+    def add_items(self, crate, module):
+        file, path = module.file, module.path
+        crate.modules[path] = module
         base = f"crates/{crate.name}/src/" + "/".join(path)
-        for item in items:
+        for item in module.items:
             if item.kind == "mod" and item.has_body:
-                self.add_items(crate, file, (*path, item.name), item.docs, item.items, item.uses)
+                self.add_items(crate, Module(file, (*path, item.name), item.docs, item.items, item.uses, True))
             elif item.kind == "mod":
                 names = [f"{base.rstrip('/')}/{item.name}.rt", f"{base.rstrip('/')}/{item.name}/mod.rt"]
                 found = next((n for n in names if self.exists(n)), None)
@@ -99,17 +104,9 @@ class Sources:
     def target(self, crate, path, names, depth=0):
         """The full path that a `use` of these names in a module means. A name of another crate of the kit stays."""
         first, rest = names[0], names[1:]
-        if first == "crate":
-            path = ()
-        elif first in ("self", "super"):
-            path = path if first == "self" else path[:-1]
-        elif self.meaning(crate, path, first, depth) and (rest or self.meaning(crate, path, first, depth) != (crate, *path, first)):
-            return self.behind(self.meaning(crate, path, first, depth), rest, depth)
-        elif first in self.crates:
-            return self.behind((first,), rest, depth)
-        else:
-            return names
-        return self.behind((crate, *path), rest, depth)
+        starts = {"crate": (crate,), "self": (crate, *path), "super": (crate, *path[:-1])}
+        found = starts.get(first) or self.meaning(crate, path, first, depth) or (first in self.crates and (first,))
+        return self.behind(found, rest, depth) if found else names
 
     def behind(self, found, names, depth):
         """The meaning of names behind a full path."""

@@ -3,11 +3,12 @@
 
     tests/statements.py [--write]
 
-The record has a file for each library and program. It has all names that a library exports. Of each module it has the public
-functions with their conditions and promises, the public types and constants, the members of each `impl` and trait, all
-definitions of specs/, and where each imported name that these use is defined. It has no layout, comments, bodies or proofs, and
-no private item that nothing of this names. A law that returns or changes a value is recorded with its body, because it promises
-something of what the body does. Differences are printed, and the status is 1 then. `--write` renews the record.
+The record has a file for each library and program. It has all names that a library exports. Of each module it has the
+public functions with their conditions and promises, the public types and constants, the members of each `impl` and trait,
+all definitions of specs/, and where each imported name that these use is defined. It has no layout, comments, bodies or
+proofs, and no private item that nothing of this names. A law that returns or changes a value is recorded with its body,
+because it promises something of what the body does. Differences are printed, and the status is 1 then. `--write` renews the
+record.
 """
 import difflib
 import os
@@ -73,7 +74,7 @@ class Record:
         while found != self.types:
             self.types = set(found)
             words = names_in(line for module in self.crate.modules.values() for line in self.items(module.items))
-            found |= self.local & words
+            found |= self.local & (words | self.sources.declared_names)
         return found
 
     def lines(self):
@@ -95,8 +96,7 @@ class Record:
         given = [(use.name, self.path(use, target)) for use in module.uses if is_spec and use.is_public]
         if lines or given:
             file = module.file.removeprefix(f"crates/{self.crate.name}/")
-            name = "" if file.endswith(("/" + "/".join(module.path) + ".rt", ".antt")) or not module.path else "::".join(module.path)
-            yield from ["", " ".join(filter(None, (file, name)))]
+            yield from ["", file + (" mod " + module.path[-1] if module.is_inline else "")]
             yield from indented("pub " + line for line in shown_uses(given))
             yield from indented(self.uses(module.uses, lines, target))
             yield from indented(lines)
@@ -132,17 +132,22 @@ class Record:
                 yield from map(str, item.clauses)
                 if self.is_law and re.search("->|&mut", item.text):
                     yield f"body {{ {item.body} }}"
-        elif item.kind != "mod" and (item.visibility == "pub" or block in ("trait", "impl of a trait") or item.name in self.types and not block):
+        elif item.kind != "mod" and self.is_recorded(item, block):
             yield item.text
             yield from item.members
 
+    def is_recorded(self, item, block):
+        if block in ("trait", "impl of a trait") or item.kind == "ghost":
+            return True
+        return item.visibility == "pub" or not block and item.name in self.types
+
     def block(self, item):
-        if item.kind == "trait":
-            kind = "trait" if item.name in self.types else ""
-        else:
-            kind = ("impl of a trait" if item.trait() else "impl") if item.owner() in self.types or item.owner() not in self.local else ""
-        inner = list(self.items(item.items, kind)) if kind else []
-        if kind and (inner or kind != "impl"):
+        owner = item.name if item.kind == "trait" else item.owner()
+        if owner in self.local and owner not in self.types:
+            return
+        kind = "impl of a trait" if item.kind == "impl" and item.trait() else item.kind
+        inner = list(self.items(item.items, kind))
+        if inner or kind != "impl":
             yield item.text
             yield from self.uses(item.uses, inner, lambda use: use.path)
             yield from inner

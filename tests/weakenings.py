@@ -1,8 +1,8 @@
 #!/usr/bin/env python3
 """Tests that tests/statements.py notices weaker statements: tests/weakenings.py
 
-Each row edits some sources in memory. The record of the edited sources must differ from that of the sources, or must not, if the
-row changes no statement. Each old text stands once in its file. The last line counts the rows that passed and failed.
+Each row edits some sources in memory. The record of the edited sources must differ from that of the sources, or must not,
+if the row changes no statement. Each old text stands once in its file. The last line counts the rows that passed and failed.
 """
 import os
 import sys
@@ -41,6 +41,8 @@ BOTH_DST = "pub dst_port : v.dst_port ≡ field bytes 16 16\n"
 CLAUSES = [
     weaker("a promise is gone", (UDP, LENGTHS, "")),
     weaker("a promise in a comment", (UDP, LENGTHS, "/*" + LENGTHS + "*/")),
+    weaker("a promise in a comment in a comment", (UDP, LENGTHS, "/* /* */" + LENGTHS + "*/")),
+    weaker("a promise in a text", (UDP, LENGTHS + "    {", "    {\n        let _ = \"" + LENGTHS + "\";")),
     weaker("a promise moves to another function", (UDP, LENGTHS, ""), (UDP, HEADER_LEN, HEADER_LEN + LENGTHS)),
     weaker("a promise has another name", (UDP, "ensures lengths", "ensures sizes")),
     weaker("a promise becomes a condition", (UDP, "ensures lengths", "requires lengths")),
@@ -116,9 +118,14 @@ MODULES = [
     weaker("another type under the name of a type",
            ("ip_wire/src/lib.rt", "pub use net_base::{Error, Result};",
             "pub use net_base::Error;\npub use std::result::Result;")),
+    weaker("a law is exported to tests only",
+           (LAWS, "pub use wire_tcp::laws::word_changed;", "#[cfg(test)]\npub use wire_tcp::laws::word_changed;")),
+    weaker("a crate is gone", ("../crates.txt", "wire_udp: net_base", "# wire_udp: net_base")),
     weaker("a module is not public", ("wire_checksum/src/lib.rt", "pub mod checksum;", "mod checksum;")),
     weaker("a module is for tests only", ("wire_udp/src/udp.rt", "mod update;", "#[cfg(test)]\nmod update;")),
     weaker("a module is gone", ("wire_udp/src/udp.rt", "mod update;\n", "")),
+    weaker("another file for a module", ("wire_udp/src/udp.rt", "mod update;", "#[path = \"repr.rt\"]\nmod update;")),
+    weaker("items by a macro", ("wire_udp/src/udp.rt", "mod update;\n", "mod update;\nmake_calls! {}\n")),
 ]
 
 DEFINITIONS = [
@@ -147,6 +154,12 @@ DEFINITIONS = [
     weaker("a definition from another module",
            (UDP, "ghost use Rattle.wire_udp.specs.UdpText.{value_text};",
             "ghost use Rattle.wire_ethernet.specs.EthernetText.{value_text};")),
+    weaker("a type from another module, as a word",
+           (UDP_SPEC, "use Rattle.wire_udp.specs.declared.udp.repr.UdpRepr.{UdpRepr}",
+            "use Rattle.wire_ethernet.specs.declared.EthernetRepr.{EthernetRepr as UdpRepr}")),
+    weaker("variants under the names of others",
+           ("wire_tcp_parts/specs/TcpOption.antt", "TheVariants.{EndOfList, NoOperation,",
+            "TheVariants.{EndOfList as NoOperation, NoOperation as EndOfList,")),
     weaker("a definition from another module, as a word",
            ("wire_ends/specs/IpCidr.antt", "{IsIn as IsInBlock, ", "{IsWithin as IsInBlock, ")),
     weaker("an operator under the name of another", (UDP_VIEW, "{◌≡◌, ◌↔◌, ◌≤◌, ", "{◌↔◌, ◌≤◌, ◌≤◌ as ◌≡◌, ")),
@@ -174,7 +187,7 @@ THE_SAME = [
     same("a body", (UDP, "if packet.dst_port() == 0 {", "if 0 == packet.dst_port() {")),
     same("a private function",
          (UDP, "    // Writes all fields of the header.\n",
-          "    fn new() -> UdpRepr\n        ensures { result.src_port ≡ 0 }\n    {\n        UdpRepr { src_port: 0, dst_port: 0 }\n    }\n\n")),
+          "    fn none() -> UdpRepr\n        ensures { result.src_port ≡ 0 }\n    {\n        NONE\n    }\n\n")),
     same("a private constant", ("wire_udp/src/udp.rt", "mod packet;\n", "const UNUSED: usize = 9;\n\nmod packet;\n")),
     same("an import that nothing uses", (UDP, "{computes, verifies};", "{all_are, computes, verifies};")),
     same("a definition through a library",
@@ -192,7 +205,7 @@ def edited(row):
     """The texts of the edited files, by path."""
     texts = {}
     for name, old, new in row.changes:
-        file = "crates/" + name
+        file = os.path.normpath("crates/" + name)
         if file not in texts:
             with open(os.path.join(TOP, file), encoding="utf-8") as source:
                 texts[file] = source.read()
