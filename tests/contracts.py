@@ -94,7 +94,7 @@ class Definition:
 
 def without_first_generics(text):
     """The head of an `impl` behind `impl<..>`."""
-    text = text.removeprefix("unsafe ").removeprefix("impl")
+    text = re.sub("^(unsafe )?impl", "", text)
     if text.startswith("<"):
         depth = end = 0
         for end, char in enumerate(text):
@@ -109,8 +109,9 @@ def last_name(text):
     return (re.findall(r"\w+", re.sub(r"<.*", "", text)) or [text])[-1]
 
 
-def tokens_of(text, file):
-    docs, spaced, line, tokens = [], False, 1, []
+def tokens_of(text):
+    """The tokens of a .rt file, and the doc lines of the file itself."""
+    docs, file_docs, spaced, line, tokens = [], [], False, 1, []
     for found in TOKEN.finditer(text):
         kind, part = found.lastgroup, found.group()
         if kind == "hashes":
@@ -118,12 +119,12 @@ def tokens_of(text, file):
         if kind in ("space", "comment"):
             spaced = True
             if re.match(r"//[/!](?!/)", part):
-                docs.append(part[3:].removeprefix(" "))
+                (file_docs if part[2] == "!" else docs).append(re.sub("^ ", "", part[3:]))
         else:
             tokens.append(Token(kind, part, spaced, docs, line))
             docs, spaced = [], False
         line += part.count("\n")
-    return tokens, docs
+    return tokens, file_docs
 
 
 def joined(tokens):
@@ -144,7 +145,7 @@ class Reader:
 
     def __init__(self, text, file):
         self.file, self.at = file, 0
-        self.tokens, self.last_docs = tokens_of(text, file)
+        self.tokens, self.docs = tokens_of(text)
         while self.is_next("#", "!"):
             self.at += 2
             self.balanced()
@@ -319,7 +320,7 @@ def split_at_commas(tokens):
 def imports(text, is_ghost, is_public):
     """The names of an import such as `a::b::{c, d as e}`, or `Rattle.a.B.{c} `."""
     sep = "." if is_ghost else "::"
-    text = text.removesuffix(";").strip()
+    text = text.strip()
     found = re.fullmatch(re.escape(sep).join((r"(.*?)", r"\{(.*)\}")), text)
     if found:
         depth, first, names = 0, 0, found.group(2).strip()
@@ -340,11 +341,10 @@ def imports(text, is_ghost, is_public):
 def read_module(text, file):
     """The docs, items and imports of a .rt file."""
     reader = Reader(text, file)
-    docs = reader.tokens[0].docs if reader.tokens else reader.last_docs
     items, uses = reader.items()
     if reader.at < len(reader.tokens):
         reader.fail()
-    return docs, items, uses
+    return reader.docs, items, uses
 
 
 def spec_lines(text):

@@ -64,7 +64,7 @@ class Statements:
             for owner in (crate, module.path[-1] if module.path else ""):
                 self.add_call(owner, item)
         elif item.kind == "impl" and item.trait():
-            trait = item.trait().removeprefix("fmt::").removeprefix("ops::")
+            trait = item.trait().replace("fmt::", "")
             if any(inner.kind == "ghost" or inner.clauses for inner in item.items):
                 self.promises.add(f"{trait} for {item.owner()}")
         elif item.kind == "impl":
@@ -84,7 +84,7 @@ class Statements:
         if count:
             return sum(call.startswith(type_name + "::") and bool(names) for call, names in self.calls.items()) >= count
         if name.startswith("law "):
-            return name.removeprefix("law ") in self.laws
+            return name[len("law ") :] in self.laws
         if " for " in name:
             return name in self.promises
         call, _, clause = name.partition(".")
@@ -113,7 +113,7 @@ def is_test(name):
     if kind == "calls":
         return os.path.exists(f"tests/calls/{rest}.call") and os.path.exists(f"tests/calls/{rest}.txt")
     if name.startswith("wrong "):
-        *crate, edit = name.removeprefix("wrong ").split("/")
+        *crate, edit = name[len("wrong ") :].split("/")
         found = glob.glob(f"crates/{crate[0] if crate else '*'}/must-fail/{edit}.edit")
         return bool(found) and all(os.path.exists(path.replace("must-fail", "controls")) for path in found)
     if name.startswith("tests/all/"):
@@ -129,7 +129,7 @@ def rows(document):
     continues the one above it."""
     found = []
     for number, line in enumerate(document.split("\n"), 1):
-        cells = [cell.strip() for cell in re.split(r" \|(?= |$)", line.strip().removeprefix("|"))][:-1]
+        cells = [cell.strip() for cell in re.split(r" \|(?= |$)", line.strip().lstrip("|"))][:-1]
         if not line.startswith("| ") or len(cells) != 3 or cells[1] == "Statements":
             continue
         names = [[n for span in re.findall(r"`([^`]+)`", cell) for n in expanded(span)] for cell in cells[1:]]

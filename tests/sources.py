@@ -13,6 +13,8 @@ from dataclasses import dataclass
 
 from contracts import ReadError, read_module, read_spec
 
+WORD = re.compile(r"[^\W\d][\w']*")
+
 
 @dataclass
 class Module:
@@ -30,6 +32,15 @@ class Crate:
     is_program: bool
     modules: dict  # By path; the root is the empty path.
     specs: dict  # By name; the root is Lib.
+
+
+def words_of(text):
+    return set(WORD.findall(text))
+
+
+def is_named(name, words, text):
+    """Whether a text names what is imported under this name. An operator such as `◌≡◌` has no word."""
+    return name in words if WORD.fullmatch(name) else all(part in text for part in name.split("◌"))
 
 
 class Sources:
@@ -66,7 +77,7 @@ class Sources:
         for path in sorted(glob.glob(pattern, recursive=True)):
             file = os.path.relpath(path, self.top)
             definitions, uses = read_spec(self.read(file), file)
-            module = tuple(file.removesuffix(".antt").split("/")[3:])
+            module = tuple(file[: -len(".antt")].split("/")[3:])
             crate.specs[module] = Module(file, module, [], definitions, uses)
         return crate
 
@@ -88,6 +99,18 @@ class Sources:
                 self.add_module(crate, found, (*path, item.name))
 
     # ---- what a name means
+
+    def meanings(self, crate, module, uses, text):
+        """The names of these imports that a text in a module has, each with its full path."""
+        words = words_of(text)
+        for use in uses:
+            if is_named(use.name, words, text):
+                yield use.name, self.use_target(crate, module, use)
+
+    def use_target(self, crate, module, use):
+        """The full path of an import."""
+        is_spec = use.is_ghost or module.file.endswith(".antt")
+        return self.spec_target(use.path) if is_spec else self.target(crate.name, module.path, use.path)
 
     def meaning(self, crate, path, name, depth=0):
         """The full path of a name in a module of a crate, as a tuple, or None."""

@@ -16,7 +16,7 @@ import re
 import sys
 
 from contracts import ReadError
-from sources import Sources
+from sources import Sources, words_of
 
 TOP = os.path.dirname(os.path.dirname(os.path.abspath(__file__)))
 FOLDER = "docs/statements"
@@ -25,18 +25,7 @@ RENEW = "tests/statements.py --write"
 LEFT_OUT = {"test_support", "addr_tests", "link_tests", "ip_tests", "transport_tests"}
 # Attributes that change no statement.
 PLAIN = re.compile(r"(?:inline|allow|tactic|must_use|cold)\b")
-WORD = re.compile(r"[^\W\d][\w']*")
 SHOWN = 40
-
-
-def names_in(lines):
-    return set(WORD.findall("\n".join(lines)))
-
-
-def is_used(name, words, text):
-    if WORD.fullmatch(name):
-        return name in words
-    return all(part in text for part in name.split("◌"))
 
 
 def shown_path(path):
@@ -63,17 +52,18 @@ class Record:
     """The record of one crate."""
 
     def __init__(self, sources, crate):
-        self.sources, self.crate, self.is_law = sources, crate, False
+        self.sources, self.crate, self.module = sources, crate, None
         self.types = self.cited_types()
 
     def cited_types(self):
         """The names of the types and constants that are public, or that a recorded line names."""
-        items = [i for m in self.crate.modules.values() for i in m.items if i.kind not in ("fn", "impl", "mod", "ghost")]
+        modules = self.crate.modules.values()
+        items = [i for m in modules for i in m.items if i.kind not in ("fn", "impl", "mod", "ghost")]
         self.local = {item.name for item in items}
         self.types, found = set(), {item.name for item in items if item.visibility == "pub"}
         while found != self.types:
             self.types = set(found)
-            words = names_in(line for module in self.crate.modules.values() for line in self.items(module.items))
+            words = words_of("\n".join(line for module in modules for line in self.items(module.items)))
             found |= self.local & (words | self.sources.declared_names)
         return found
 
@@ -83,34 +73,29 @@ class Record:
             yield from ["", "exports"]
             for name, path in sorted(self.sources.exports(self.crate.name).items()):
                 yield f"    {'::'.join(name)} = {shown_path(path)}"
-        for path, module in sorted(self.crate.modules.items()):
-            self.is_law = "laws" in path
-            lines = list(self.items(module.items))
-            yield from self.section(module, lines, lambda use: self.sources.target(self.crate.name, path, use.path), False)
-        for path, module in sorted(self.crate.specs.items()):
-            lines = [line for d in module.items for line in [d.lines[0], *indented(d.lines[1:])]]
-            yield from self.section(module, lines, lambda use: use.path, True)
+        for _, module in sorted(self.crate.modules.items()):
+            self.module = module
+            yield from self.section([], list(self.items(module.items)))
+        for _, module in sorted(self.crate.specs.items()):
+            self.module = module
+            given = [(use.name, self.sources.use_target(self.crate, module, use)) for use in module.uses if use.is_public]
+            definitions = (line for d in module.items for line in [d.lines[0], *indented(d.lines[1:])])
+            yield from self.section([f"pub {line}" for line in shown_uses(given)], list(definitions))
 
-    def section(self, module, lines, target, is_spec):
+    def section(self, given, lines):
         """What is recorded of a module, below the name of its file and the imports that it uses."""
-        given = [(use.name, self.path(use, target)) for use in module.uses if is_spec and use.is_public]
-        if lines or given:
-            file = module.file.removeprefix(f"crates/{self.crate.name}/")
-            yield from ["", file + (" mod " + module.path[-1] if module.is_inline else "")]
-            yield from indented("pub " + line for line in shown_uses(given))
-            yield from indented(self.uses(module.uses, lines, target))
-            yield from indented(lines)
+        if given or lines:
+            file = self.module.file[len(f"crates/{self.crate.name}/") :]
+            yield from ["", file + (" mod " + self.module.path[-1] if self.module.is_inline else "")]
+            yield from indented([*given, *self.uses(self.module.uses, lines), *lines])
 
-    def path(self, use, target):
-        path = self.sources.spec_target(use.path) if use.is_ghost else target(use)
-        if path[0] == "Rattle" and path[1] in self.sources.crates and path[2] == "proofs":
-            raise ReadError(f"{self.crate.name} states something by {shown_path(path)}, which is not in specs/")
-        return path
-
-    def uses(self, uses, lines, target):
-        words, text = names_in(lines), "\n".join(lines)
-        used = [use for use in uses if is_used(use.name, words, text)]
-        return shown_uses((use.name, self.path(use, target)) for use in used)
+    def uses(self, uses, lines):
+        """The imports that these lines use."""
+        found = list(self.sources.meanings(self.crate, self.module, uses, "\n".join(lines)))
+        for _, path in found:
+            if path[0] == "Rattle" and path[1] in self.sources.crates and path[2] == "proofs":
+                raise ReadError(f"{self.module.file} states something by {shown_path(path)}, which is not in specs/")
+        return shown_uses(found)
 
     def items(self, items, block=""):
         for item in items:
@@ -126,15 +111,17 @@ class Record:
         if item.kind in ("impl", "trait"):
             yield from self.block(item)
         elif item.kind == "fn":
-            is_stated = item.visibility == "pub" or block == "trait" or block == "impl of a trait" and item.clauses
-            if is_stated:
-                yield item.text + (" { .. }" if block == "trait" and item.has_body else "")
-                yield from map(str, item.clauses)
-                if self.is_law and re.search("->|&mut", item.text):
-                    yield f"body {{ {item.body} }}"
+            if item.visibility == "pub" or block == "trait" or block == "impl of a trait" and item.clauses:
+                yield from self.function(item, block)
         elif item.kind != "mod" and self.is_recorded(item, block):
             yield item.text
             yield from item.members
+
+    def function(self, item, block):
+        yield item.text + (" { .. }" if block == "trait" and item.has_body else "")
+        yield from map(str, item.clauses)
+        if self.module and "laws" in self.module.path and re.search("->|&mut", item.text):
+            yield f"body {{ {item.body} }}"
 
     def is_recorded(self, item, block):
         if block in ("trait", "impl of a trait") or item.kind == "ghost":
@@ -149,7 +136,7 @@ class Record:
         inner = list(self.items(item.items, kind))
         if inner or kind != "impl":
             yield item.text
-            yield from self.uses(item.uses, inner, lambda use: use.path)
+            yield from self.uses(item.uses, inner) if self.module else []
             yield from inner
 
 
