@@ -161,9 +161,12 @@ def write(top, files):
     os.makedirs(os.path.join(top, FOLDER), exist_ok=True)
     for name in recorded(top).keys() - files.keys():
         os.remove(os.path.join(top, name))
+    old = recorded(top)
     for name, text in files.items():
-        with open(os.path.join(top, name), "w", encoding="utf-8") as file:
-            file.write(text)
+        if old.get(name) != text:
+            print(name)
+            with open(os.path.join(top, name), "w", encoding="utf-8") as file:
+                file.write(text)
 
 
 def differences(old, new):
