@@ -159,9 +159,9 @@ def recorded(top):
 
 def write(top, files):
     os.makedirs(os.path.join(top, FOLDER), exist_ok=True)
-    for name in recorded(top).keys() - files.keys():
-        os.remove(os.path.join(top, name))
     old = recorded(top)
+    for name in old.keys() - files.keys():
+        os.remove(os.path.join(top, name))
     for name, text in files.items():
         if old.get(name) != text:
             print(name)
