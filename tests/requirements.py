@@ -117,7 +117,8 @@ def is_test(name):
         found = glob.glob(f"crates/{crate[0] if crate else '*'}/must-fail/{edit}.edit")
         return bool(found) and all(os.path.exists(path.replace("must-fail", "controls")) for path in found)
     if name.startswith("tests/all/"):
-        return re.search(rf"^{name.split('/')[2]}\(\) {{", read("tests/all"), re.M) is not None
+        # It is defined, and used.
+        return len(re.findall(rf"\b{name.split('/')[2]}\b", read("tests/all"))) > 1
     if os.path.exists(name):
         return True
     file, _, function = name.rpartition("/")
