@@ -87,7 +87,7 @@ class Library:
     def structs(self):
         for item in self.items:
             if item.kind == "struct" and "repr(C)" in item.attributes:
-                fields = [field for member in item.members for field in self.fields(member)]
+                fields = [field for member in item.members for field in self.fields(member.text)]
                 yield self.name(item.name).removeprefix("struct "), fields
 
     def fields(self, member):

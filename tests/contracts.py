@@ -47,6 +47,14 @@ class Clause:
 
 
 @dataclass
+class Member:
+    """A field or a variant."""
+
+    text: str
+    docs: list
+
+
+@dataclass
 class Item:
     """An item of a module, an `impl` or a trait. A function has clauses, a block has items."""
 
@@ -57,7 +65,7 @@ class Item:
     attributes: list
     docs: list
     line: int
-    members: list = field(default_factory=list)  # The texts of fields and variants.
+    members: list = field(default_factory=list)
     clauses: list = field(default_factory=list)
     items: list = field(default_factory=list)
     uses: list = field(default_factory=list)
@@ -306,15 +314,15 @@ class Reader:
 
 
 def split_at_commas(tokens):
-    """The texts between the commas outside of brackets."""
+    """The members between the commas outside of brackets."""
     first = depth = 0
     for at, token in enumerate(tokens):
         depth += (token.text in "([{<") - (token.text in ")]}" or token.text == ">" and tokens[at - 1].text != "-")
         if token.text == "," and not depth:
-            yield joined(tokens[first:at])
+            yield Member(joined(tokens[first:at]), tokens[first].docs)
             first = at + 1
     if tokens[first:]:
-        yield joined(tokens[first:])
+        yield Member(joined(tokens[first:]), tokens[first].docs)
 
 
 def imports(text, is_ghost, is_public):
@@ -357,8 +365,7 @@ def spec_lines(text):
             continue
         line = SPEC_COMMENT.sub(lambda m: m.group(1) or "", line).rstrip()
         if not line:
-            if not lines or docs:
-                docs = []
+            docs = []
             continue
         indent = len(line) - len(line.lstrip())
         line = SPEC_SPACE.sub(lambda m: m.group(1) or " ", line.strip())
@@ -374,9 +381,9 @@ def spec_lines(text):
 
 @functools.lru_cache(None)
 def read_spec(text, file):
-    """The definitions and imports of a .antt file."""
-    definitions, uses = [], []
-    for is_inner, line, docs in spec_lines(text):
+    """The docs, definitions and imports of a .antt file."""
+    definitions, uses, lines = [], [], spec_lines(text)
+    for is_inner, line, docs in lines:
         if re.match(r"(?:pub )?use ", line):
             is_public, line = line.startswith("pub "), re.sub(r"^(?:pub )?use ", "", line)
             uses += imports(line, True, is_public)
@@ -387,4 +394,4 @@ def read_spec(text, file):
             definitions[-1].lines.append(line)
         else:
             raise ReadError(f"{file}: cannot read {line!r}")
-    return definitions, uses
+    return lines[0][2] if lines else [], definitions, uses

@@ -76,9 +76,8 @@ class Sources:
         pattern = os.path.join(self.top, folder, "specs", "**", "*.antt")
         for path in sorted(glob.glob(pattern, recursive=True)):
             file = os.path.relpath(path, self.top)
-            definitions, uses = read_spec(self.read(file), file)
             module = tuple(file[: -len(".antt")].split("/")[3:])
-            crate.specs[module] = Module(file, module, [], definitions, uses)
+            crate.specs[module] = Module(file, module, *read_spec(self.read(file), file))
         return crate
 
     def add_module(self, crate, file, path):

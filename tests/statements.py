@@ -115,7 +115,7 @@ class Record:
                 yield from self.function(item, block)
         elif item.kind != "mod" and self.is_recorded(item, block):
             yield item.text
-            yield from item.members
+            yield from (member.text for member in item.members)
 
     def function(self, item, block):
         yield item.text + (" { .. }" if block == "trait" and item.has_body else "")
