@@ -36,7 +36,7 @@ def conditions(module):
         for inner in item.items if is_block else [item]:
             owner = item.owner() if is_block else ""
             if inner.visibility == "pub" or is_block and item.trait():
-                yield from ((owner, inner.name, clause.text) for clause in inner.clauses if clause.kind == "requires")
+                yield from ((owner, inner.name, c.text) for c in inner.clauses if c.kind.startswith("requires"))
             if inner.kind == "ghost" and inner.name.startswith("can_"):
                 yield owner, OPERATORS.get(inner.name, inner.name), inner.text.partition(" = ")[2][1:-1]
 

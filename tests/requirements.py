@@ -74,7 +74,7 @@ class Statements:
 
     def add_call(self, owner, item):
         if item.kind == "fn" and item.visibility == "pub":
-            names = {clause.name for clause in item.clauses if clause.kind != "requires"}
+            names = {clause.name for clause in item.clauses if clause.kind.startswith("ensures")}
             self.calls.setdefault(f"{owner}::{item.name}", set()).update(names)
 
     def has(self, name):

@@ -8,6 +8,7 @@ import os
 import sys
 from collections import namedtuple
 from concurrent.futures import ProcessPoolExecutor
+from itertools import repeat
 
 from contracts import ReadError
 from sources import Sources
@@ -228,15 +229,11 @@ def failure(row, before):
     return "is not noticed" if row.is_noticed else "is noticed, although nothing that is stated changes"
 
 
-def failure_here(row):
-    return failure(row, failure_here.before)
-
-
 def main():
-    failure_here.before = record(Sources(TOP))
+    before = record(Sources(TOP))
     failed = 0
     with ProcessPoolExecutor(os.cpu_count()) as pool:
-        for row, reason in zip(ROWS, pool.map(failure_here, ROWS)):
+        for row, reason in zip(ROWS, pool.map(failure, ROWS, repeat(before), chunksize=8)):
             if reason:
                 failed += 1
                 print(f"FAILED: {row.name}: {reason}")
