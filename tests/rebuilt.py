@@ -130,7 +130,7 @@ def recorded():
     """The recorded frames that have a header, each with its rebuilt frame."""
     for path in sorted(glob.glob(f"{TOP}/tests/cases/*.hex")):
         with open(path, "rb") as lines, open(path[:-3] + "txt", "rb") as texts:
-            for line, text in zip(lines, texts.read().split(b"\n\n")):
+            for line, text in zip(lines, texts.read().split(b"\n\n")[:-1], strict=True):
                 *_, last = text.split(b"\n")
                 if last.startswith(b"again "):
                     yield bytes.fromhex(line.decode()), bytes.fromhex(last[6:].decode())
