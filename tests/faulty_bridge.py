@@ -6,6 +6,7 @@ tests/faulty_bridge.py LIBRARY FAULT DEVICE DEVICE      is examples/bridge.c ove
 
 `no fault` is the control: tests/kernel must notice nothing.
 """
+import contextlib
 import ctypes
 import fcntl
 import os
@@ -105,8 +106,9 @@ def main(library, name, *devices):
     while True:
         for device in select.select([left, right], [], [])[0]:
             frame = os.read(device, LONGEST)
-            sent = fault(out.raw[: rebuild(frame, len(frame), out, LONGEST)])
-            if sent:
+            length = rebuild(frame, len(frame), out, LONGEST)
+            sent = fault(ctypes.string_at(out, length))
+            with contextlib.suppress(OSError):  # The device may not be up yet.
                 os.write(right if device == left else left, sent)
 
 
