@@ -347,6 +347,7 @@ int lk_seq_compare(uint32_t a, uint32_t b);
  *   header   change                                  consequence
  *   IPv4     DSCP and ECN become 0                   marks of priority and congestion are lost
  *   IPv4     DF (don't fragment) is set              a router drops the packet if it is too long for a link
+ *   IPv4     the reserved flag becomes 0             it has no meaning (RFC 791)
  *   IPv4     identification becomes 0                a later fragment could not be told from others
  *   IPv4     options are removed                     a source route is lost, and the packet is delivered
  *   IPv6     traffic class and flow label become 0   marks of priority and congestion are lost
@@ -354,6 +355,9 @@ int lk_seq_compare(uint32_t a, uint32_t b);
  *   UDP      bytes past the UDP length are removed
  *   TCP      the urgent pointer and URG become 0     urgent data is no longer marked
  *   TCP      ECE and CWR become 0                    congestion is no longer reported
+ *   TCP      reserved bits become 0                  they have no meaning (RFC 9293)
+ *   TCP      without ACK the acknowledgement number  it means nothing there
+ *            becomes 0
  *   TCP      one of SYN, FIN, RST is kept, else PSH  FIN with PSH becomes FIN
  *   TCP      the last option of each kind is kept,   other options are removed; a window scale above 14
  *            of the kinds of struct lk_tcp_options   becomes 14

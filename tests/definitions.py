@@ -37,11 +37,13 @@ def modules(heading):
 
 def rows(document):
     """The rows below the headings of modules: the modules, the names of the definitions and the last cell."""
-    paths = []
+    paths, heading = [], ""
     for line in document.split("\n"):
         cells = re.split(r" \|(?= |$)", line.strip())[:-1]
         if line.startswith("## "):
-            paths = list(modules(line))
+            paths, heading = list(modules(line)), line
+        elif line.startswith("| Definition") and not paths:
+            sys.exit(f"docs/DEFINITIONS.md: no module is named by '{heading}'")
         elif paths and line.startswith("| ") and "Definition" not in cells[0]:
             yield paths, [span.split()[0] for span in re.findall(r"`([^`]+)`", cells[0])], cells[-1]
 

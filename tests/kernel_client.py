@@ -1,27 +1,27 @@
 #!/usr/bin/env python3
-"""The kernel's side of tests/kernel.
+"""The kernel's side of tests/kernel, for the two hosts.
 
-tests/kernel_client.py host DEVICE     exchanges packets with examples/host.c on this TAP device
-tests/kernel_client.py proved DEVICE   the same with examples/proved_host.c, which keeps no connection
-tests/kernel_client.py bridge PROCESS  sends TCP through examples/bridge.c to the namespace of this process
-tests/kernel_client.py loss PROCESS    the same where packets are lost
+tests/kernel_client.py host DEVICE    exchanges packets with examples/host.c on this TAP device
+tests/kernel_client.py proved DEVICE  the same with examples/proved_host.c, which keeps no connection
 
 Prints how many exchanges were right. The status is 1 if one was wrong, or if the kernel counted an error.
 """
-import os
 import random
 import select
 import socket
 import struct
-import subprocess
 import sys
 import threading
 import time
 
+import packets
+from packets import word_sum
+
 HOST_HARDWARE = bytes.fromhex("02000000aa07")
 HOSTS = ((socket.AF_INET, "10.77.0.1", "10.77.0.2"), (socket.AF_INET6, "fd77::1", "fd77::2"))
-BRIDGED = ((socket.AF_INET, "10.78.0.2"), (socket.AF_INET6, "fd78::2"))
-ECHO, CLOSED, MTU = 7, 9, 1500
+ECHO, CLOSED, PROBE, MTU = 7, 9, 39999, 1500
+UDP, TCP = socket.IPPROTO_UDP, socket.IPPROTO_TCP
+LATEST = 5  # seconds
 FIN, SYN, RST, ACK = 1, 2, 4, 16
 # Counters of /proc/net/snmp, netstat and snmp6 that must stay 0.
 ERRORS = ("InErrors", "InErrs", "InCsumErrors", "InHdrErrors", "InTruncatedPkts")
@@ -175,14 +175,6 @@ def tcp_aborted(family, address):
 # Frames that are built here, apart from the library and the kernel.
 
 
-def checksum(data):
-    data += bytes(len(data) % 2)
-    total = sum(struct.unpack(f">{len(data) // 2}H", data))
-    while total > 0xFFFF:
-        total = (total & 0xFFFF) + (total >> 16)
-    return total ^ 0xFFFF
-
-
 class Wire:
     """Frames to a host on a TAP device, over one version of IP."""
 
@@ -191,42 +183,57 @@ class Wire:
         self.is_proved = is_proved
         # The proved host has one segment size for both versions.
         self.max_seg_size = MTU - (60 if is_proved or self.version == 6 else 40)
-        self.addresses = socket.inet_pton(family, own) + socket.inet_pton(family, host)
+        self.addresses = [socket.inet_pton(family, own), socket.inet_pton(family, host)]
         self.sock = socket.socket(socket.AF_PACKET, socket.SOCK_RAW, socket.htons(3))
         self.sock.bind((device, 0))
-        self.own = self.sock.getsockname()[4]
+        self.hardware = [self.sock.getsockname()[4], HOST_HARDWARE]
 
-    def frame(self, protocol, body, at, fault=None, hardware=HOST_HARDWARE, options=b"", fragment=0x4000):
-        """A frame whose UDP or TCP checksum is at `at` of the body, with a fault."""
-        pseudo = self.addresses + struct.pack(">IHH", len(body), 0, protocol)
-        value = checksum(pseudo + body) or (0xFFFF if protocol == socket.IPPROTO_UDP else 0)
+    def packet(self, protocol, body, fault=None, options=b"", fragment=0x4000, is_answer=False):
+        """An IP packet with a UDP or TCP packet and a fault in a checksum."""
+        src, dst = self.addresses[::-1] if is_answer else self.addresses
+        at = 6 if protocol == UDP else 16
+        pseudo = packets.pseudo_header(src, dst, protocol, len(body))
+        value = 0xFFFF - word_sum(pseudo + body) or (0xFFFF if protocol == UDP else 0)
         if fault == "transport":
             value = value ^ 0x0100 or 0x1234
         if fault == "left out":
             value = 0
         body = body[:at] + struct.pack(">H", value) + body[at + 2 :]
         if self.version == 6:
-            header = struct.pack(">IHBB", 0x60000000, len(body), protocol, 64) + self.addresses
-        else:
-            front = struct.pack(">BBHHHBB", 0x45 + len(options) // 4, 0, 20 + len(options) + len(body), 0, fragment, 64, protocol)
-            value = checksum(front + bytes(2) + self.addresses + options) ^ (fault == "IPv4")
-            header = front + struct.pack(">H", value) + self.addresses + options
-        return hardware + self.own + (b"\x08\x00" if self.version == 4 else b"\x86\xdd") + header + body
+            return packets.header_ipv6(len(body), next_header=protocol, src=src, dst=dst) + body
+        header = packets.header(len(body), protocol=protocol, src=src, dst=dst, options=options, flags=fragment)
+        return header[:11] + bytes([header[11] ^ (fault == "IPv4")]) + header[12:] + body
 
-    def answer(self, frame, wait):
-        """The body of the host's next packet within `wait` seconds, or None."""
+    def frame(self, protocol, body, hardware=HOST_HARDWARE, **fields):
+        ethertype = packets.IPV4 if self.version == 4 else packets.IPV6
+        return packets.ethernet(ethertype, self.packet(protocol, body, **fields), hardware, self.hardware[0])
+
+    def reply(self, protocol, body):
+        """The frame with which the host replies."""
+        ethertype = packets.IPV4 if self.version == 4 else packets.IPV6
+        return packets.ethernet(ethertype, self.packet(protocol, body, is_answer=True), *self.hardware)
+
+    def answer(self, frame):
+        """The frame with which the host answers this one, or None. The host takes frames in their order, so the answer
+        to a probe comes after it. ARP is no answer, and neither is a packet to another port."""
+        from_port = 14 + (frame[14] % 16 * 4 if self.version == 4 else 40)
+        to_port = 36 if self.version == 4 else 56
+        marker, answers, end = random.randbytes(8), [], time.monotonic() + LATEST
         while select.select([self.sock], [], [], 0)[0]:
             self.sock.recv(70000)
         self.sock.send(frame)
-        end = time.monotonic() + wait
+        self.sock.send(self.frame(UDP, struct.pack(">HHHH", PROBE, ECHO, 16, 0) + marker))
         while select.select([self.sock], [], [], max(0, end - time.monotonic()))[0]:
             data, place = self.sock.recvfrom(70000)
-            if place[2] != socket.PACKET_OUTGOING and data[6:12] == HOST_HARDWARE:
-                return data[34 if self.version == 4 else 54 :]
+            if place[2] == socket.PACKET_OUTGOING or data[12:14] != frame[12:14]:
+                continue
+            if data.endswith(marker):
+                check("one answer at most", len(answers) < 2, frame.hex())
+                return answers[0] if answers else None
+            if data[to_port : to_port + 2] == frame[from_port : from_port + 2]:
+                answers.append(data)
+        check("answer to a probe", False, frame.hex())
         return None
-
-
-ANSWERED, SILENT = 2, 0.01  # seconds
 
 
 def wire_udp(wire):
@@ -234,26 +241,26 @@ def wire_udp(wire):
     for n in range(10):
         data = random.randbytes(random.randrange(1, 64))
         body = struct.pack(">HHHH", 40000 + n, ECHO, 8 + len(data), 0) + data
+        reply = wire.reply(UDP, struct.pack(">HHHH", ECHO, 40000 + n, 8 + len(data), 0) + data)
 
         def udp(**faults):
-            return wire.frame(socket.IPPROTO_UDP, body, 6, **faults)
+            return wire.frame(UDP, body, **faults)
 
-        check("frame UDP", (wire.answer(udp(), ANSWERED) or b"")[8:] == data, wire.version)
         silent = [udp(fault="transport"), udp(hardware=HOST_HARDWARE[::-1]), udp()[: -len(data) - 1]]
-        answered = []
+        answered = [udp(), udp() + b"padding"]
         if wire.version == 4:
             silent += [udp(fault="IPv4"), udp(fragment=0x2000)]
             answered += [udp(fault="left out"), udp(options=b"\x07\x07\x04" + bytes(5))]
         else:
             silent.append(udp(fault="left out"))
         for frame in silent:
-            check("frame dropped", wire.answer(frame, SILENT) is None, frame.hex())
+            check("frame dropped", wire.answer(frame) is None, frame.hex())
         for frame in answered:
-            check("frame UDP", (wire.answer(frame, ANSWERED) or b"")[8:] == data, frame.hex())
+            check("frame UDP", wire.answer(frame) == reply, frame.hex())
 
 
-def segment(port, seq, ack, flags, options=b"", data=b"", to=ECHO):
-    return struct.pack(">HHIIBBHHH", port, to, seq, ack, (20 + len(options)) << 2, flags, 1000, 0, 0) + options + data
+def segment(port, seq, ack, flags, options=b"", data=b"", to=ECHO, window=1000):
+    return struct.pack(">HHIIBBHHH", port, to, seq, ack, (20 + len(options)) << 2, flags, window, 0, 0) + options + data
 
 
 def options_of(answer):
@@ -273,20 +280,19 @@ def wire_syn(wire):
         seq, stamp, port = random.randrange(2**32), random.randbytes(4), 42000 + chosen
         options = b"\x02\x04\x05\xb4" * (chosen & 1) + b"\x01\x03\x03\x07" * (chosen >> 1 & 1)
         options += b"\x04\x02\x01\x01" * (chosen >> 2 & 1) + (b"\x01\x01\x08\x0a" + stamp + bytes(4)) * (chosen >> 3 & 1)
-        got = wire.answer(wire.frame(socket.IPPROTO_TCP, segment(port, seq, 0, SYN, options), 16), ANSWERED) or bytes(20)
-        found = options_of(got)
-        expected = {2: struct.pack(">H", wire.max_seg_size)}
-        if chosen & 2:
-            expected[3] = b"\x03"
-        if chosen & 4:
-            expected[4] = b""
+        got = wire.answer(wire.frame(TCP, segment(port, seq, 0, SYN, options))) or bytes(94)
+        body = got[34 if wire.version == 4 else 54 :]
+        # The host chooses its sequence number and its timestamp.
+        expected = struct.pack(">BBH", 2, 4, wire.max_seg_size) + b"\x03\x03\x03" * (chosen >> 1 & 1)
+        expected += b"\x04\x02" * (chosen >> 2 & 1)
         if chosen & 8:
-            check("SYN timestamp", found.pop(8, bytes(8))[4:] == stamp, got.hex())
-        fields = struct.unpack(">HHIIBBHHH", got[:20])
-        right = fields[:2] == (ECHO, port) and fields[3] == (seq + 1) % 2**32 and fields[5] == SYN | ACK
-        check("SYN", right and found == expected, (wire.version, chosen, got.hex()))
-        reset = wire.frame(socket.IPPROTO_TCP, segment(port, (seq + 1) % 2**32, 0, RST), 16)
-        check("RST to a connection", wire.answer(reset, SILENT) is None, chosen)
+            expected += b"\x08\x0a" + options_of(body).get(8, bytes(8))[:4] + stamp
+        expected += bytes(-len(expected) % 4)
+        own_seq, ack = struct.unpack(">I", body[4:8])[0], (seq + 1) % 2**32
+        syn = segment(ECHO, own_seq, ack, SYN | ACK, expected, to=port, window=65535)
+        check("SYN", got == wire.reply(TCP, syn), (wire.version, chosen, got.hex()))
+        reset = wire.frame(TCP, segment(port, ack, 0, RST))
+        check("RST to a connection", wire.answer(reset) is None, chosen)
 
 
 def wire_reset(wire):
@@ -296,16 +302,11 @@ def wire_reset(wire):
         is_ignored = flags & RST or (wire.is_proved and flags & SYN and flags & FIN)
         for data in (b"", b"abc"):
             seq, ack = random.randrange(2**32), random.randrange(2**32)
-            frame = wire.frame(socket.IPPROTO_TCP, segment(41000, seq, ack, flags, data=data, to=CLOSED), 16)
-            got = wire.answer(frame, SILENT if is_ignored else ANSWERED)
-            if is_ignored:
-                expected = None
-            elif flags & ACK:
-                expected = (CLOSED, 41000, ack, 0, 0x50, RST)
-            else:
-                length = len(data) + (flags & SYN > 0) + (flags & FIN > 0)
-                expected = (CLOSED, 41000, 0, (seq + length) % 2**32, 0x50, RST | ACK)
-            check("RST", (got and struct.unpack(">HHIIBB", got[:14])) == expected, (wire.version, flags, got))
+            got = wire.answer(wire.frame(TCP, segment(41000, seq, ack, flags, data=data, to=CLOSED)))
+            length = len(data) + (flags & SYN > 0) + (flags & FIN > 0)
+            numbers = (ack, 0, RST) if flags & ACK else (0, (seq + length) % 2**32, RST | ACK)
+            expected = None if is_ignored else wire.reply(TCP, segment(CLOSED, *numbers, to=41000, window=0))
+            check("RST", got == expected, (wire.version, flags, got and got.hex()))
 
 
 def tcp_answered(family, address):
@@ -332,75 +333,15 @@ def with_host(device, is_proved):
             exchange(wire)
 
 
-SERVER = """
-import socket, sys, threading
-def serve(sock):
-    while data := sock.recv(1 << 16):
-        sock.sendall(data)
-    sock.close()
-server = socket.create_server((sys.argv[1], 7), family=socket.AF_INET6 if ":" in sys.argv[1] else socket.AF_INET)
-print("ready", flush=True)
-while True:
-    threading.Thread(target=serve, args=(server.accept()[0],), daemon=True).start()
-"""
-
-
-def in_namespace(process, *command, **words):
-    return subprocess.Popen(["nsenter", "--target", process, "--net", *command], stdout=subprocess.PIPE, text=True, **words)
-
-
-def through_bridge(process, exchange):
-    """Exchanges TCP over each version with a server behind the bridge."""
-    for family, address in BRIDGED:
-        server = in_namespace(process, sys.executable, "-c", SERVER, address)
-        server.stdout.readline()
-        exchange(family, address)
-        server.kill()
-        server.wait()
-    there = in_namespace(process, sys.executable, __file__, "errors", "there").communicate()[0]
-    check("errors that the kernel counts there", there == "{}\n", there)
-
-
-def bridged(family, address):
-    for length in [0, 1, 1460, 1461, 100_000, 4 << 20] + [random.randrange(5000) for _ in range(20)]:
-        data = random.randbytes(length)
-        check("TCP through the bridge", echoed(family, address, data) == data, (address, length))
-    tcp_at_once(family, address)
-
-
-def sack_ranges():
-    """How many SACK ranges the kernel has used, as a sum of its counters."""
-    counters = kernel_counters()
-    return sum(counters[f"TcpExtTCPSack{name}"] for name in ("Shifted", "Merged", "ShiftFallback"))
-
-
-def lossy(family, address):
-    """Sends until the kernel has used a SACK range."""
-    before = sack_ranges()
-    for n in range(8):
-        data = random.randbytes(1 << 20)
-        check("TCP with loss", echoed(family, address, data) == data, address)
-        if n >= 3 and sack_ranges() > before:
-            return
-    check("SACK ranges that arrive", False, address)
-
-
-def main():
-    start = time.monotonic()
-    mode, place = sys.argv[1:3]
-    if mode == "errors":
-        print(kernel_errors())
-        return 0
-    before = kernel_errors()
-    if mode in ("host", "proved"):
-        with_host(place, mode == "proved")
-    else:
-        through_bridge(place, bridged if mode == "bridge" else lossy)
+def report(name, exchange, *place):
+    """Runs an exchange, prints what it counted, and returns the status of this test."""
+    start, before = time.monotonic(), kernel_errors()
+    exchange(*place)
     check("errors that the kernel counts", kernel_errors() == before == {}, kernel_errors())
     kinds = ", ".join(f"{kind} {count}" for kind, count in counts.items())
-    print(f"{mode}: {sum(counts.values())} exchanges, {len(wrong)} wrong, {time.monotonic() - start:.0f} s ({kinds})")
+    print(f"{name}: {sum(counts.values())} exchanges, {len(wrong)} wrong, {time.monotonic() - start:.0f} s ({kinds})")
     return 1 if wrong else 0
 
 
 if __name__ == "__main__":
-    sys.exit(main())
+    sys.exit(report(sys.argv[1], with_host, sys.argv[2], sys.argv[1] == "proved"))

@@ -335,7 +335,7 @@ def main():
             failed += 1
             print(f"FAILED: {case.name}\n{reason}")
     print(f"{len(CASES) - failed} passed, {failed} failed")
-    return 1 if failed else 0
+    return 1 if failed or not CASES else 0
 
 
 if __name__ == "__main__":

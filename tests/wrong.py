@@ -74,6 +74,9 @@ def tried(task):
 def main():
     os.chdir(TOP)
     names = sys.argv[1:] or sorted(os.listdir("crates"))
+    unknown = [name for name in names if not os.path.isdir(f"crates/{name}/src")]
+    if unknown:
+        sys.exit(f"tests/wrong.py: there is no crate {', '.join(unknown)}")
     os.makedirs("out", exist_ok=True)
     failed = [*unpaired(names)]
     print("".join(f"{line}\n" for line in failed), end="", flush=True)

@@ -6,6 +6,9 @@ ghost use Rattle.wire_checksum.specs.WordSum.{residue, sum_of_bytes, words};
 
 use std::simd::prelude::*;
 
+#[cfg(test)]
+mod tests;
+
 /// The sum that a total stands for. The words of a total are little-endian, so the two bytes of the
 /// folded total are swapped.
 #[inline]
@@ -79,7 +82,7 @@ fn apart(bytes: &[u8]) -> u64
     ensures { residue (256 * result) ≡ sum_of_bytes bytes.now }
 {
     if bytes.len() < 8 {
-        short(bytes)
+        plain(bytes)
     } else {
         long(bytes)
     }
@@ -94,18 +97,17 @@ fn long(bytes: &[u8]) -> u64
     if bytes.len() < 2048 {
         by_words(bytes, tail(bytes))
     } else {
-        by_chunks(bytes)
+        by_vectors(bytes)
     }
 }
 
-// The total of bytes: whole chunks of 2048 bytes by lanes, the rest by words.
+// The total of bytes: whole vectors of 32 bytes by lanes, the rest by the plain loop.
 #[inline(never)]
-fn by_chunks(bytes: &[u8]) -> u64
-    requires { 8 ≤ length bytes.now }
+fn by_vectors(bytes: &[u8]) -> u64
     ensures { residue (256 * result) ≡ sum_of_bytes bytes.now }
 {
-    let (chunks, rest) = bytes.split_at(bytes.len() / 2048 * 2048);
-    around(lanes(chunks), by_words(rest, tail(bytes)))
+    let (vectors, rest) = bytes.split_at(bytes.len() / 32 * 32);
+    around(lanes(vectors), plain(rest))
 }
 
 // Adds all whole words of 8 bytes to a total.
@@ -145,10 +147,10 @@ fn tail(bytes: &[u8]) -> u64
     }
 }
 
-// The total of fewer than 8 bytes.
+// The total of bytes, by a plain loop over their 16-bit words.
 #[inline]
-fn short(bytes: &[u8]) -> u64
-    requires { length bytes.now < 8 }
+fn plain(bytes: &[u8]) -> u64
+    requires { length bytes.now ≤ 8192 }
     ensures { residue (256 * result) ≡ sum_of_bytes bytes.now }
 {
     let (pairs, rest) = bytes.as_chunks::<2>();

@@ -1,6 +1,6 @@
 use Rattle.std.proofs.Common.{◌≡◌, ◌≤◌, ◌*◌, take, sum}
 use Rattle.wire_checksum.specs.WordSum.{residue, words}
-use Rattle.wire_checksum.proofs.totals.short.Given as goal
+use Rattle.wire_checksum.proofs.totals.plain.Given as goal
 
 abbrev pub invariant-loop-pair : goal.invariant-loop-pair
 invariant-loop-pair l = record {

@@ -2,7 +2,7 @@ use Rattle.std.proofs.Common.{◌≡◌, ◌+◌, ◌*◌, ◌/◌, length, sum,
 use Rattle.std.specs.Int.{from_le_bytes}
 use Rattle.wire_checksum.specs.WordSum.{residue, words}
 use Rattle.wire_checksum.proofs.WordLists.{words-of_2, chunk-step, chunks-end, words-of_0, words-of_1}
-use Rattle.wire_checksum.proofs.totals.short.Goals as goal
+use Rattle.wire_checksum.proofs.totals.plain.Goals as goal
 
 pub loop-pair-init : goal.loop-pair-init
 unfolding words
