@@ -59,7 +59,8 @@ enum SumWrite {
     Update(u16, u16),
     SrcPort(u16),
     DstPort(u16),
-    FromFirstEnd([u8; 4]),
+    /// From 192.168.1.1 to 203.0.113.5.
+    Address,
 }
 
 /// Makes the call on a UDP packet.
@@ -76,8 +77,9 @@ fn sum_udp(packet: &mut UdpPacketMut<'_>, write: SumWrite)
         SumWrite::Update(old, new) => packet.update_checksum(old, new),
         SumWrite::SrcPort(value) => packet.update_src_port(value),
         SumWrite::DstPort(value) => packet.update_dst_port(value),
-        SumWrite::FromFirstEnd([a, b, c, d]) => {
-            packet.update_address(&IpAddress::v4(192, 168, 1, 1), &IpAddress::v4(a, b, c, d));
+        SumWrite::Address => {
+            let (old, new) = (IpAddress::v4(192, 168, 1, 1), IpAddress::v4(203, 0, 113, 5));
+            packet.update_address(&old, &new);
         }
     }
 }
@@ -97,7 +99,7 @@ fn udp_checksums_are_written_alone_or_beside_one_field(rt: HostRuntime) {
         (SumWrite::Update(0x1234, 0x5678), 48, 0, [0, 0xbbbb]),
         (SumWrite::SrcPort(0x1234), 0, 0x1234, [0, 0xedcb]),
         (SumWrite::DstPort(0x1234), 16, 0x1234, [0, 0xedcb]),
-        (SumWrite::FromFirstEnd([203, 0, 113, 5]), 48, 0, [0, 0x85a3]),
+        (SumWrite::Address, 48, 0, [0, 0x85a3]),
     ] {
         for (old, sum) in [(0x00, sums[0]), (0xff, sums[1])] {
             let mut want = udp_over(old);
@@ -226,8 +228,9 @@ fn sum_tcp(packet: &mut TcpPacketMut<'_>, write: SumWrite)
         SumWrite::Update(old, new) => packet.update_checksum(old, new),
         SumWrite::SrcPort(value) => packet.update_src_port(value),
         SumWrite::DstPort(value) => packet.update_dst_port(value),
-        SumWrite::FromFirstEnd([a, b, c, d]) => {
-            packet.update_address(&IpAddress::v4(192, 168, 1, 1), &IpAddress::v4(a, b, c, d));
+        SumWrite::Address => {
+            let (old, new) = (IpAddress::v4(192, 168, 1, 1), IpAddress::v4(203, 0, 113, 5));
+            packet.update_address(&old, &new);
         }
     }
 }
@@ -240,12 +243,7 @@ fn tcp_checksums_are_written_alone_or_beside_one_field(rt: HostRuntime) {
         (SumWrite::Update(0x1234, 0x5678), 128, 0, [0xbbbb; 2]),
         (SumWrite::SrcPort(0x1234), 0, 0x1234, [0xedcb; 2]),
         (SumWrite::DstPort(0x1234), 16, 0x1234, [0xedcb; 2]),
-        (
-            SumWrite::FromFirstEnd([203, 0, 113, 5]),
-            128,
-            0,
-            [0x85a3; 2],
-        ),
+        (SumWrite::Address, 128, 0, [0x85a3; 2]),
     ] {
         for (old, sum) in [(0x00, sums[0]), (0xff, sums[1])] {
             let mut want = [old; 21];
