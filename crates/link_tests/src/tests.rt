@@ -3,3 +3,4 @@
 mod arp;
 mod common;
 mod ethernet;
+mod setters;

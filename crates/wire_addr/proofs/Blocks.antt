@@ -57,7 +57,7 @@ numbers_from_agree m n s xs ys are_xs are_ys e agree =
     ∙ sym (bit_at-number_of m (8 * m - 1 - i) i ys are_ys place))
 
 -- a bit behind the last octet is a zero
-behind : (m : ℕ) (xs : List ℕ) (k : ℕ) → AreOctets m xs → 8 * m ≤ k → bit_of xs k ≡ 0
+pub behind : (m : ℕ) (xs : List ℕ) (k : ℕ) → AreOctets m xs → 8 * m ≤ k → bit_of xs k ≡ 0
 behind m xs k are past =
     rw (get_or_past xs (k / 8) 0 (omega (arith, are.0))) (bit_at-zero (7 - k % 8))
 

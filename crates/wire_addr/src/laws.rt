@@ -1,17 +1,19 @@
 //! Laws of addresses and blocks, also of their derived order and hash. A law states a fact about
 //! definitions; its body does nothing.
 
-ghost use Rattle.std.specs.Prelude.{◌≡◌, ◌↔◌, true};
+ghost use Rattle.std.specs.Prelude.{◌≡◌, ◌↔◌, ℕ, true};
 ghost use Rattle.std.specs.Cmp.Lexicographic.{slice_cmp};
 ghost use Rattle.std.specs.Hash as hash;
 ghost use Rattle.std.specs.Ordering.{nat_cmp, ordering_reverse};
 ghost use Rattle.std.specs.declared.cmp.Ordering.TheVariants.{Equal};
-ghost use Rattle.wire_addr.specs.Block.{block_cmp, block_hash};
+ghost use Rattle.wire_addr.specs.Block.{IsGreatest, IsLeast, block_cmp, block_hash};
 ghost use Rattle.wire_addr.specs.BlockText.{ReadsIpv4Block, ReadsIpv6Block};
+ghost use Rattle.wire_addr.specs.Class.{HasScope};
+ghost use Rattle.wire_addr.specs.Prefix.{IsMasked, IsNetmask};
 ghost use Rattle.wire_addr.specs.Printed.{IsIpv6Print, block_text, dashed, dotted, ipv6_text};
 ghost use Rattle.wire_addr.specs.Read.{ReadsEthernet, ReadsIpv4, ReadsIpv6};
 
-use crate::{EthernetAddress, Ipv4Address, Ipv4Cidr, Ipv6Address, Ipv6Cidr};
+use crate::{EthernetAddress, Ipv4Address, Ipv4Cidr, Ipv6Address, Ipv6Cidr, Ipv6MulticastScope};
 use std::hash::Hash;
 
 /// `IsIpv6Print` holds of exactly one text of an address, and `ipv6_text` computes it.
@@ -115,3 +117,36 @@ pub fn ipv6_block_order(a: Ipv6Cidr, b: Ipv6Cidr)
     ensures order { ⟦<Ipv6Cidr as Ord>⟧.cmp a b ≡ block_cmp a b }
     ensures hash { ⟦<Ipv6Cidr as Hash>⟧.hash_input a ≡ block_hash a }
 {}
+
+/// A netmask has one prefix length, and a prefix length has one netmask.
+pub fn one_netmask(a: Ipv4Address, b: Ipv4Address)
+    ensures len { (n m : ℕ) → IsNetmask n a → IsNetmask m a → n ≡ m }
+    ensures mask { (n : ℕ) → IsNetmask n a → IsNetmask n b → a ≡ b }
+{
+    let _octets = (a.octets(), b.octets());
+}
+
+/// An address has one form with zeros behind its first `n` bits.
+pub fn one_masked_address(address: Ipv6Address, a: Ipv6Address, b: Ipv6Address)
+    ensures { (n : ℕ) → IsMasked n address a → IsMasked n address b → a ≡ b }
+{
+    let _octets = (a.octets(), b.octets());
+}
+
+/// A block has one first and one last address.
+pub fn one_block_end(block: Ipv4Cidr, a: Ipv4Address, b: Ipv4Address)
+    ensures first { IsLeast 4 block a → IsLeast 4 block b → a ≡ b }
+    ensures last { IsGreatest 4 block a → IsGreatest 4 block b → a ≡ b }
+{
+    let _octets = (a.octets(), b.octets());
+}
+
+/// An address has one scope.
+pub fn one_scope(address: Ipv6Address, a: Ipv6MulticastScope, b: Ipv6MulticastScope)
+    ensures { HasScope address a → HasScope address b → a ≡ b }
+{
+    let _multicast = address.is_multicast();
+    let _link_local = address.is_link_local();
+    let _unique_local = address.is_unique_local();
+    let _global = address.is_global_unicast();
+}

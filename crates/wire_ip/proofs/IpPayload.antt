@@ -1,5 +1,5 @@
 -- The payload length of a parsed packet.
-use Rattle.std.proofs.Common.{ℕ, ◌≡◌, ◌≤◌, ◌+◌, ◌-◌, ◌*◌, Bool, List, drop, length, take, sym, ◌∙◌, arith}
+use Rattle.std.proofs.Common.{ℕ, ◌≡◌, ◌≤◌, ◌-◌, Bool, List, drop, length, sym, ◌∙◌, arith}
 use Rattle.std.proofs.lemmas.List.{length-drop, length-take-le}
 use Rattle.wire_ipv4.specs.Ipv4 as ipv4
 use Rattle.wire_ipv6.specs.Ipv6 as ipv6

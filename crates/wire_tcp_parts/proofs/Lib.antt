@@ -1,5 +1,7 @@
 pub mod FirstItems
 pub mod Items
+mod ItemsWorked
+pub mod One
 pub mod OptionLists
 mod Prefixes
 pub mod Ranges
