@@ -1,5 +1,5 @@
 -- Requests to one host with the only reply to each, and frames that get none.
-use Rattle.std.proofs.Common.{ℕ, ◌≡◌, ◌∙◌, ◌++◌, [], ◌∷◌, List, inl, inr, None, Some, ap, refl, subst}
+use Rattle.std.proofs.Common.{ℕ, ◌≡◌, ◌∙◌, ◌++◌, [], ◌∷◌, List, inl, inr, None, Some, ap, refl, subst, sym}
 use Rattle.std.specs.Borrow.{Bor}
 use Rattle.std.specs.Prelude.{replicate}
 use Rattle.ip_host.specs.Host.{Answers, IsReply, IsReset, IsUnread, RepliesFrame}
@@ -13,6 +13,7 @@ use Rattle.ip_wire.specs.Arp.{arp_of}
 use Rattle.ip_wire.specs.Ethernet.{ethernet_of}
 use Rattle.ip_wire.specs.Frame.{Carried, Transport, datagram, frame_format, meaning_as, meaning_of, message, other, packet, segment}
 use Rattle.ip_wire.specs.FrameValue.{carried_of}
+use Rattle.ip_wire.specs.Ip.{with_payload_len}
 use Rattle.ip_wire.specs.Types.{ArpRepr, EthernetRepr, IpRepr}
 use Rattle.ip_wire.specs.declared.EthernetProtocol.TheVariants as ethertype
 use Rattle.ip_wire.specs.declared.Frame.{Frame}
@@ -55,7 +56,7 @@ unread-unanswered ports request header carried none (asked, is, r) = absurd (cc)
 -- ---- bytes
 
 -- the neighbour asks for our hardware address
-abbrev request : List ℕ
+request : List ℕ
 request =
     replicate 6 0xff
     ++ (2 ∷ 0 ∷ 0 ∷ 0 ∷ 0 ∷ 1 ∷ 0x08 ∷ 0x06 ∷ 0x00 ∷ 0x01 ∷ 0x08 ∷ 0x00 ∷ 0x06 ∷ 0x04 ∷ 0x00 ∷ 0x01 ∷ [])
@@ -65,8 +66,11 @@ abbrev request_link : EthernetRepr
 request_link = record { src_addr = them; dst_addr = record { 0 = replicate 6 0xff }; ethertype = ethertype.Arp }
 
 request-read : frame_format.read request ≡ Some (request_link, message question)
-unfolding ethernet_of arp_of
+unfolding request ethernet_of arp_of
 request-read = refl
+
+second : (n : EthernetRepr × Carried) (header : EthernetRepr) (carried : Carried) → Some n ≡ Some (header, carried) → n.1 ≡ carried
+second n header carried e = let same : n ≡ (header, carried) = cc in ap (λ (p : EthernetRepr × Carried). p.1) same
 
 message-only : (asked : Carried) (m : ArpRepr) → without_len asked ≡ message m → asked ≡ message m
 message-only (message v) m e = e
@@ -77,9 +81,8 @@ answered : (ports : Bor (List ℕ)) (answer : List ℕ) → Answers (host ports)
 answered ports answer a =
     let (asked_header, asked, reads, r) = a.replies in
     let computed = frame-read request asked_header asked reads in
-    let known = request-read in
-    let same : without_len asked ≡ message question = cc in
-    let is = message-only asked question same in
+    let same = second (request_link, message question) asked_header (without_len asked) (sym request-read ∙ computed) in
+    let is = message-only asked question (sym same) in
     let values = arp-only ports asked_header a.header a.carried (subst (λ c. IsReply (host ports) asked_header c a.header a.carried) is r) in
     meaning_of-read answer a.header a.carried a.reads ∙ ap (λ h. Some (meaning_as h a.carried)) values.0 ∙ ap (λ c. Some (meaning_as told_link c)) values.1
 
@@ -99,4 +102,7 @@ request-not_unread : ¬ IsUnread request
 request-not_unread none = let (v, m, whole, is) = frame-only request (request_link, message question) request-read in none v m whole
 
 request-no_reset : ¬ IsReset request
-request-no_reset r = absurd (let read = frame-read request r.header (packet r.ip (segment r.tcp r.payload)) r.reads in let known = request-read in cc)
+request-no_reset r =
+    let computed = frame-read request r.header (packet r.ip (segment r.tcp r.payload)) r.reads in
+    let same : message question ≡ packet (with_payload_len r.ip 0) (segment r.tcp r.payload) = second (request_link, message question) r.header _ (sym request-read ∙ computed) in
+    absurd (cc)
