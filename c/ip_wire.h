@@ -398,8 +398,11 @@ struct lk_host {
  *   any but RST to a closed TCP port       RST (section 3.10.7.1)
  *
  * - A frame gets an answer only if it is parsed as a whole and each checksum in it is valid.
- * - UDP and TCP must be for `hardware` and one of the two addresses, and from unicast addresses. ARP must be
- *   from a unicast hardware address.
+ * - UDP and TCP must be for `hardware` and one of the two addresses, and from a unicast hardware address. ARP
+ *   must be from a unicast hardware address.
+ * - UDP, TCP and ARP from these addresses get no answer: 0.0.0.0/8, 127.0.0.0/8, 224.0.0.0/4, 240.0.0.0/4, `::`,
+ *   `::1`, ::ffff:0:0/96, ff00::/8, `ipv4` and `ipv6` (RFC 1122, section 3.2.1.3; RFC 4291, section 2). But an ARP
+ *   probe, which is from 0.0.0.0, gets one (RFC 5227, section 2.1.1).
  * - A UDP packet gets none if its source port is 0 or `echo_port`, so two hosts do not echo for ever.
  * - SYN and ACK has `max_seg_size`. It has window scale, SACK permitted and timestamp if the SYN has them.
  * - No connection is kept: what follows the SYN gets RST.

@@ -4,7 +4,7 @@ ghost use Rattle.std.specs.Prelude.{◌≡◌, ◌==◌, IfOk, length, map, vec_
 ghost use Rattle.std.specs.List.{slice_split};
 ghost use Rattle.ip_calls.specs.Lines.{lines};
 
-use crate::{block, checksum, class, fragment, header, mask, options, tcp, text, udp};
+use crate::{block, checksum, class, fragment, header, host, mask, options, tcp, text, udp};
 use ip_wire::{EthernetAddress, IpAddress, IpCidr, IpEndpoint, Ipv4Cidr, Ipv6Cidr};
 use std::alloc::{AllocError, Global};
 
@@ -104,6 +104,7 @@ fn call(alloc: Global, line: &[u8]) -> Result<String, NoAnswer> {
         ["netmask", operands @ ..] => mask::from_netmask(alloc, operands),
         ["class", operands @ ..] => class::answer(alloc, operands),
         ["sum", operands @ ..] => checksum::answer(alloc, operands),
+        ["host", operands @ ..] => host::answer(alloc, operands),
         _ => Err(NoAnswer::Unknown),
     }
 }

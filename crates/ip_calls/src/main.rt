@@ -19,6 +19,10 @@
 //!   IPv6, `scope=` and the scope: `interface-local`, `link-local`, `admin-local`, `site-local`,
 //!   `organization-local`, `global` or `unknown`.
 //! - `sum OCTETS`: their Internet checksum, before its complement.
+//! - `host NAME LINK IPV4 IPV6 ECHO PORTS SEQ WIN MSS WS CLOCK ROOM FRAME`: NAME, and the octets of the
+//!   reply of a host to FRAME, or `-` if it writes none into a buffer of ROOM octets. LINK, IPV4 and
+//!   IPV6 are its addresses, ECHO is its UDP echo port, and PORTS are its open TCP ports, joined by
+//!   commas. The other operands are what these ports offer.
 //! - `eth TEXT`, `ip TEXT`, `cidr4 TEXT`, `cidr6 TEXT`, `cidr TEXT` and `endpoint TEXT`: `ok` and the
 //!   printed text of the parsed value, or `err`. The value is an Ethernet address, an IP address, a block of
 //!   IPv4, of IPv6 or of either, or an endpoint. TEXT is everything after the first space.
@@ -31,7 +35,8 @@
 //! exits with status 1.
 //!
 //! Proved: each line has an answer, the conditions of each call are met, and the answer to a text is the
-//! result of its parser and its printer. The other answers are compared with a reference.
+//! result of its parser and its printer. The other answers are compared with a reference. Replies are
+//! compared with those that the RFCs require.
 #![tactic(auto)]
 
 mod answer;
@@ -40,6 +45,7 @@ mod checksum;
 mod class;
 mod fragment;
 mod header;
+mod host;
 mod mask;
 mod operands;
 mod options;

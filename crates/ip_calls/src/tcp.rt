@@ -78,8 +78,8 @@ fn control_of(word: &str) -> Result<TcpControl, NoAnswer> {
     }
 }
 
-// The sequence number of these bits.
-fn seq_number_of(bits: u32) -> TcpSeqNumber {
+/// The sequence number of these bits.
+pub fn seq_number_of(bits: u32) -> TcpSeqNumber {
     TcpSeqNumber(bits.cast_signed())
 }
 

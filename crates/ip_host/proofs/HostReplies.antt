@@ -26,6 +26,10 @@ by_none host request no_arp no_echo no_tcp h c (asked, is, inl e) = no_arp h c (
 by_none host request no_arp no_echo no_tcp h c (asked, is, inr (inl e)) = no_echo h c (asked, is, e)
 by_none host request no_arp no_echo no_tcp h c (asked, is, inr (inr e)) = no_tcp h c (asked, is, e)
 
+-- an echo is a reply
+pub by_echo : (host : Host) (request f : Frame) → Gives (EchoesFrame host.interface host.echo_port request) (Some f) → Gives (RepliesFrame host request) (Some f)
+by_echo host request f gives = given (EchoesFrame host.interface host.echo_port request) (RepliesFrame host request) f (λ h c (asked, is, e). (asked, is, inr (inl e))) gives
+
 -- if there is no reply of the first two kinds, it is the reply of TCP
 pub by_tcp : (host : Host) (request : Frame) (result : Option Frame) → Gives (ArpRepliesFrame host.interface request) None
     → Gives (EchoesFrame host.interface host.echo_port request) None

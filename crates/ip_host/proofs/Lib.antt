@@ -1,2 +1,3 @@
 pub mod HostReplies
+pub mod HostWorked
 pub mod ReplyEnds

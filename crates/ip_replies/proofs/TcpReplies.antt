@@ -114,7 +114,7 @@ same_type (Ipv4 v) = refl
 same_type (Ipv6 v) = refl
 
 -- the contents of the reply
-abbrev reply_values : IpRepr → TcpHeader → frame.Carried
+abbrev pub reply_values : IpRepr → TcpHeader → frame.Carried
 reply_values v reply = frame.packet (header_before (header_back v) protocol.Tcp (header_len_of reply)) (frame.segment reply [])
 
 -- a frame with the reply to a segment is the reply

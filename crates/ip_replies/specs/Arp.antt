@@ -2,21 +2,21 @@
 use Rattle.std.specs.Prelude.{◌≡◌, List, ℕ, Some}
 use Rattle.ip_wire.specs.Frame.{Carried, IsReadWhole, message}
 use Rattle.ip_wire.specs.FrameValue.{carried_of}
-use Rattle.ip_wire.specs.Hardware.{IsUnicast}
 use Rattle.ip_wire.specs.declared.ArpOperation.TheVariants.{Request, Reply}
 use Rattle.ip_wire.specs.Types.{ArpRepr, EthernetAddress, EthernetRepr}
 use Rattle.ip_wire.specs.declared.ArpRepr.TheVariants.{EthernetIpv4}
 use Rattle.ip_wire.specs.declared.EthernetProtocol.TheVariants as ethertype
 use Rattle.ip_wire.specs.declared.Frame.{Frame}
+use Rattle.ip_replies.specs.Source.{IsAsker}
 use Rattle.ip_replies.specs.declared.interface.Interface.{Interface}
 
--- one station asks for our address, whatever its target hardware address is, and the reply names our hardware
--- address
+-- a station asks for our address, whatever its target hardware address is, and the reply names our hardware
+-- address. A station that uses our address itself gets no reply (RFC 5227, section 2.4).
 pub record IsArpReply (ours : Interface) (request : ArpRepr) (asker : EthernetAddress) (reply : ArpRepr) : Type 0 where
   pub asker_addr : List ℕ
   pub asked : EthernetAddress
   pub asks : request ≡ EthernetIpv4 Request asker asker_addr asked ours.ipv4_addr
-  pub from_station : IsUnicast asker.0
+  pub from_asker : IsAsker ours asker asker_addr
   pub tells : reply ≡ EthernetIpv4 Reply ours.hardware_addr ours.ipv4_addr asker asker_addr
 
 -- a frame with these values is such a request, and the other frame is the reply to it

@@ -1,23 +1,17 @@
--- The addresses of a host on one link, and the packets that it may reply to.
+-- The packets that a host on one link may reply to.
 use Rattle.std.specs.Prelude.{◌≡◌}
 use Rattle.ip_wire.specs.Hardware as hardware
 use Rattle.ip_wire.specs.Ip.{dst_addr_of, src_addr_of}
-use Rattle.ip_wire.specs.IpAddress.{IsUnicast}
-use Rattle.ip_wire.specs.Types.{EthernetRepr, IpAddress, IpRepr, Ipv4, Ipv6}
-use Rattle.ip_wire.specs.declared.IpAddress.TheVariants as address
+use Rattle.ip_wire.specs.Types.{EthernetRepr, IpRepr, Ipv4, Ipv6}
+use Rattle.ip_replies.specs.Source.{IsInvalidSource, IsOurs}
 use Rattle.ip_replies.specs.declared.interface.Interface.{Interface}
-
--- it is the interface's address of its version
-abbrev pub IsOurs : Interface → IpAddress → Type 0
-IsOurs ours (address.Ipv4 octets) = octets ≡ ours.ipv4_addr
-IsOurs ours (address.Ipv6 octets) = octets ≡ ours.ipv6_addr
 
 -- a packet from one other host to this interface only (RFC 1122, sections 3.2.1.3 and 3.3.6)
 pub record IsForUs (ours : Interface) (link : EthernetRepr) (v : IpRepr) : Type 0 where
   pub to_station : link.dst_addr ≡ ours.hardware_addr
   pub from_station : hardware.IsUnicast link.src_addr.0
   pub to_addr : IsOurs ours (dst_addr_of v)
-  pub from_addr : IsUnicast (src_addr_of v)
+  pub from_addr : ¬ IsInvalidSource ours (src_addr_of v)
 
 -- the header of a packet in the other direction, with hop limit 64
 abbrev pub header_back : IpRepr → IpRepr

@@ -1,5 +1,6 @@
 pub mod Arp
 pub mod Interface
 pub mod Reply
+pub mod Source
 pub mod TcpReply
 pub mod UdpEcho

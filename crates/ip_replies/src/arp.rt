@@ -11,7 +11,7 @@ use ip_wire::{ArpOperation, ArpRepr, Carried, EthernetAddress, Frame};
 use net_base::ChecksumCapabilities;
 
 /// The reply to a request for the IPv4 address, sent to the station that asks. `None` for any other frame,
-/// and if the source address is not unicast.
+/// if the hardware address of the sender is not unicast, and if its IPv4 address is neither a valid source nor 0.0.0.0.
 pub fn reply<'a>(request: &Frame<'_>, ours: &Interface) -> Option<Frame<'a>>
     ensures { Gives (ArpRepliesFrame ours.now request.now) result }
 {
@@ -35,7 +35,8 @@ fn reply_to(message: &ArpRepr, ours: &Interface) -> Option<(EthernetAddress, Arp
             source_protocol_addr,
             target_protocol_addr,
             ..
-        } if target_protocol_addr == ours.ipv4_addr && source_hardware_addr.is_unicast() => {
+        } if target_protocol_addr == ours.ipv4_addr
+            && ours.may_ask(&source_hardware_addr, &source_protocol_addr) => {
             let reply = ArpRepr::EthernetIpv4 {
                 operation: ArpOperation::Reply,
                 source_hardware_addr: ours.hardware_addr,

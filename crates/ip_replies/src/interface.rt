@@ -1,10 +1,13 @@
 //! The addresses of a host on one link.
 
 ghost use Rattle.std.specs.Prelude.{◌≡◌, ◌↔◌, IsTrue};
-ghost use Rattle.ip_replies.specs.Interface.{IsForUs, IsOurs, header_back};
+ghost use Rattle.ip_replies.specs.Interface.{IsForUs, header_back};
+ghost use Rattle.ip_replies.specs.Source.{IsAsker, IsInvalidSource, IsNoHost, IsOurs, IsThisHost, ipv4_reserved, ipv4_this_network, ipv6_mapped};
+ghost use Rattle.ip_wire.specs.Block.{IsIn};
 
 use ip_wire::{
-    EthernetAddress, EthernetRepr, IpAddress, IpRepr, Ipv4Address, Ipv4Repr, Ipv6Address, Ipv6Repr,
+    EthernetAddress, EthernetRepr, IpAddress, IpRepr, Ipv4Address, Ipv4Cidr, Ipv4Repr, Ipv6Address,
+    Ipv6Cidr, Ipv6Repr,
 };
 
 /// The hop limit of each reply.
@@ -29,6 +32,23 @@ impl Interface {
         }
     }
 
+    /// Returns `true` if no packet of another host has this source address (RFC 1122, section 3.2.1.3).
+    /// Among them are the addresses of the interface.
+    pub fn is_invalid_source(&self, addr: &IpAddress) -> bool
+        ensures { IsTrue result ↔ IsInvalidSource self.now addr.now }
+    {
+        is_this_host(addr) || is_no_host(addr) || self.has_addr(addr)
+    }
+
+    /// Returns `true` if an ARP request may come from this station with this address: the station is one,
+    /// and the address is a valid source, or 0.0.0.0 as in a probe (RFC 5227, section 2.1.1).
+    pub fn may_ask(&self, station: &EthernetAddress, addr: &Ipv4Address) -> bool
+        ensures { IsTrue result ↔ IsAsker self.now station.now addr.now }
+    {
+        station.is_unicast()
+            && (addr.is_unspecified() || !self.is_invalid_source(&IpAddress::Ipv4(*addr)))
+    }
+
     /// Returns `true` if a packet may get a reply: it goes from one other host to this interface only.
     /// Broadcast and multicast packets get no reply, in either direction (RFC 1122, sections 3.2.1.3 and 3.3.6).
     pub fn accepts(&self, link: &EthernetRepr, header: &IpRepr) -> bool
@@ -37,8 +57,51 @@ impl Interface {
         link.dst_addr == self.hardware_addr
             && link.src_addr.is_unicast()
             && self.has_addr(&header.dst_addr())
-            && header.src_addr().is_unicast()
+            && !self.is_invalid_source(&header.src_addr())
     }
+}
+
+// Whether a host means itself by the address: 0.0.0.0/8 and 127.0.0.0/8 (RFC 1122, section 3.2.1.3), `::` and
+// `::1` (RFC 4291, sections 2.5.2 and 2.5.3).
+fn is_this_host(addr: &IpAddress) -> bool
+    ensures { IsTrue result ↔ IsThisHost addr.now }
+{
+    match addr {
+        IpAddress::Ipv4(addr) => is_this_network(addr) || addr.is_loopback(),
+        IpAddress::Ipv6(addr) => addr.is_unspecified() || addr.is_loopback(),
+    }
+}
+
+// Whether no host has the address: 224.0.0.0/4 and 240.0.0.0/4 (RFC 1122, section 3.2.1.3), ff00::/8 and
+// ::ffff:0:0/96 (RFC 4291, sections 2.7 and 2.5.5.2).
+fn is_no_host(addr: &IpAddress) -> bool
+    ensures { IsTrue result ↔ IsNoHost addr.now }
+{
+    match addr {
+        IpAddress::Ipv4(addr) => addr.is_multicast() || is_reserved(addr),
+        IpAddress::Ipv6(addr) => addr.is_multicast() || is_mapped(addr),
+    }
+}
+
+// Whether the address is in 0.0.0.0/8.
+fn is_this_network(addr: &Ipv4Address) -> bool
+    ensures { IsTrue result ↔ IsIn ipv4_this_network addr.now }
+{
+    Ipv4Cidr::new(Ipv4Address::new(0, 0, 0, 0), 8).contains_addr(addr)
+}
+
+// Whether the address is in 240.0.0.0/4.
+fn is_reserved(addr: &Ipv4Address) -> bool
+    ensures { IsTrue result ↔ IsIn ipv4_reserved addr.now }
+{
+    Ipv4Cidr::new(Ipv4Address::new(240, 0, 0, 0), 4).contains_addr(addr)
+}
+
+// Whether the address is in ::ffff:0:0/96.
+fn is_mapped(addr: &Ipv6Address) -> bool
+    ensures { IsTrue result ↔ IsIn ipv6_mapped addr.now }
+{
+    Ipv6Cidr::new(Ipv6Address::new(0, 0, 0, 0, 0, 0xffff, 0, 0), 96).contains_addr(addr)
 }
 
 /// The header of a packet in the other direction, with hop limit 64.

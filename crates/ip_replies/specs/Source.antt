@@ -1,0 +1,45 @@
+-- Source addresses that no packet of another host has.
+use Rattle.std.specs.Prelude.{ℕ, ◌≡◌, ◌⊎◌, List, [], ◌∷◌}
+use Rattle.ip_wire.specs.Block.{Block, IsIn}
+use Rattle.ip_wire.specs.Class.{ipv4_loopback, ipv4_multicast, ipv4_unspecified, ipv6_block, ipv6_loopback, ipv6_multicast, ipv6_unspecified}
+use Rattle.ip_wire.specs.Hardware.{IsUnicast}
+use Rattle.ip_wire.specs.Types.{EthernetAddress, IpAddress}
+use Rattle.ip_wire.specs.declared.IpAddress.TheVariants.{Ipv4, Ipv6}
+use Rattle.ip_replies.specs.declared.interface.Interface.{Interface}
+
+-- this network, 0.0.0.0/8, which has the unspecified address (RFC 1122, section 3.2.1.3)
+abbrev pub ipv4_this_network : Block
+ipv4_this_network = record { address = 0 ∷ 0 ∷ 0 ∷ 0 ∷ []; prefix_len = 8 }
+
+-- reserved, 240.0.0.0/4, which has the limited broadcast address (RFC 1112, section 4)
+abbrev pub ipv4_reserved : Block
+ipv4_reserved = record { address = 240 ∷ 0 ∷ 0 ∷ 0 ∷ []; prefix_len = 4 }
+
+-- addresses that stand for IPv4 addresses, ::ffff:0:0/96 (RFC 4291, section 2.5.5.2)
+abbrev pub ipv6_mapped : Block
+ipv6_mapped = ipv6_block (0 ∷ 0 ∷ 0 ∷ 0 ∷ 0 ∷ 0xffff ∷ 0 ∷ 0 ∷ []) 96
+
+-- it is the interface's address of its version
+abbrev pub IsOurs : Interface → IpAddress → Type 0
+IsOurs ours (Ipv4 octets) = octets ≡ ours.ipv4_addr
+IsOurs ours (Ipv6 octets) = octets ≡ ours.ipv6_addr
+
+-- an address by which a host means itself: this network or loopback (RFC 1122, section 3.2.1.3), `::` or `::1` (RFC 4291,
+-- sections 2.5.2 and 2.5.3)
+abbrev pub IsThisHost : IpAddress → Type 0
+IsThisHost (Ipv4 octets) = IsIn ipv4_this_network octets ⊎ IsIn ipv4_loopback octets
+IsThisHost (Ipv6 octets) = (octets ≡ ipv6_unspecified) ⊎ (octets ≡ ipv6_loopback)
+
+-- an address that no host has: multicast, reserved (RFC 1122, section 3.2.1.3) or IPv4-mapped (RFC 4291, section 2.5.5.2)
+abbrev pub IsNoHost : IpAddress → Type 0
+IsNoHost (Ipv4 octets) = IsIn ipv4_multicast octets ⊎ IsIn ipv4_reserved octets
+IsNoHost (Ipv6 octets) = IsIn ipv6_multicast octets ⊎ IsIn ipv6_mapped octets
+
+-- no packet from another host has this source
+abbrev pub IsInvalidSource : Interface → IpAddress → Type 0
+IsInvalidSource ours addr = IsThisHost addr ⊎ (IsNoHost addr ⊎ IsOurs ours addr)
+
+-- the sender of an ARP request: one station with a valid source, or with 0.0.0.0 in a probe (RFC 5227, section 2.1.1)
+pub record IsAsker (ours : Interface) (station : EthernetAddress) (addr : List ℕ) : Type 0 where
+  pub from_station : IsUnicast station.0
+  pub from_addr : (addr ≡ ipv4_unspecified) ⊎ ¬ IsInvalidSource ours (Ipv4 addr)
