@@ -6,6 +6,7 @@ use Rattle.std.specs.Option.{option_map}
 use Rattle.byteorder.specs.Endian.{big_bytes}
 use Rattle.byteorder.specs.Numbers.{length-bytes_high_first}
 use Rattle.wire_field.specs.Field.{IsApart, field, span, with_field}
+use Rattle.wire_field.proofs.Behind.{drop-with_field}
 use Rattle.wire_field.proofs.Spelled.{AreBytes}
 use Rattle.wire_field.proofs.Written.{field-with_field_other, field-with_field_same, length-with_field}
 use Rattle.wire_ends.specs.declared.ip_address.IpAddress.{IpAddress}
@@ -31,12 +32,6 @@ other : (bytes : List ℕ) (first width x place size : ℕ) → AreBytes bytes �
 other bytes first width x place size are room n some apart =
     field-with_field_other bytes first width x place size are n.some some (omega (arith, room, n.inside)) apart
 
--- the length of the bytes up to the end of a written field
-front : (bytes : List ℕ) (first width word : ℕ) → first / 8 ≤ length bytes → length (take (first / 8) bytes ++ big_bytes (span first width) word) ≡ first / 8 + span first width
-front bytes first width word room =
-    let before : length (take (first / 8) bytes) ≡ first / 8 = length-take-le (first / 8) bytes room in
-    simp (length-append, before, length-bytes_high_first) refl
-
 -- the value with another control and other numbers
 reads-numbers : (bytes : List ℕ) (first width x : ℕ) (src dst : IpAddress) (verified : Bool) (v : TcpHeader) (payload : List ℕ) (asked : TcpControl) (seq : TcpSeqNumber) (ack : Option TcpSeqNumber)
     → AreBytes bytes → IsNumber first width → Reads bytes src dst verified v payload
@@ -48,7 +43,7 @@ reads-numbers bytes first width x src dst verified v payload asked seq ack are n
     let long : length new ≡ length bytes = length-with_field bytes first width x n.some (omega (arith, room, n.inside)) in
     let offset = other bytes first width x 96 4 are room n (omega arith) n.no_offset in
     let header : header_len new ≡ header_len bytes = ap (λ (m : ℕ). 4 * m) offset in
-    let behind : drop 20 new ≡ drop 20 bytes = drop-append-drop (first / 8 + span first width) bytes _ 20 (omega (arith, n.inside)) (front bytes first width _ (omega (arith, room, n.inside))) in
+    let behind : drop 20 new ≡ drop 20 bytes = drop-with_field bytes first width x 20 n.some n.inside room in
     let options = subst (λ (l : List ℕ). ReadsOptions l v) (sym (options_kept bytes new header behind)) r.options in
     let source = other bytes first width x 0 16 are room n (omega arith) (inl (omega (arith, n.behind_ports))) in
     let receiver = other bytes first width x 16 16 are room n (omega arith) (inl (omega (arith, n.behind_ports))) in
