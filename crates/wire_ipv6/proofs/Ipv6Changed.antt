@@ -1,11 +1,12 @@
 -- A header in which one field changed.
-use Rattle.std.proofs.Common.{ℕ, ◌≡◌, ◌≤◌, ◌<◌, ◌+◌, ◌*◌, List, ◌++◌, drop, length, slice_range, refl, sym, subst, ap, ◌∙◌, arith}
-use Rattle.wire_field.specs.Field.{field, with_field, with_range}
+use Rattle.std.proofs.Common.{ℕ, ◌≡◌, inl, inr, ◌≤◌, ◌<◌, ◌+◌, ◌*◌, List, ◌++◌, drop, length, slice_range, take, refl, sym, subst, ap, ◌∙◌, arith}
+use Rattle.wire_field.specs.Field.{IsApart, field, with_field, with_range}
+use Rattle.wire_field.proofs.Behind.{drop-with_field}
 use Rattle.wire_field.proofs.Cells.{cells, cells-all, cells-drop}
 use Rattle.wire_field.proofs.Spelled.{AreBytes}
-use Rattle.wire_field.proofs.Written.{field-with_field_same}
+use Rattle.wire_field.proofs.Written.{field-with_field_other, field-with_field_same, length-with_field}
 use Rattle.wire_ends.specs.Protocol.{protocol_of}
-use Rattle.wire_ipv6.specs.Ipv6.{Reads, total_len}
+use Rattle.wire_ipv6.specs.Ipv6.{Reads}
 use Rattle.wire_ipv6.specs.declared.ipv6.repr.Ipv6Repr.{Ipv6Repr}
 
 -- the lengths and the version are the same
@@ -86,3 +87,48 @@ reads-dst_addr bytes a v sixteen r =
     (r.next_header ∙ ap (λ (l : List ℕ). protocol_of (field l 48 8)) cut ∙ sym (ap (λ (l : List ℕ). protocol_of (field l 48 8)) changed))
     (r.src_addr ∙ ap (λ (l : List ℕ). slice_range l 8 24) cut ∙ sym (ap (λ (l : List ℕ). slice_range l 8 24) changed))
     (is ∙ sym (ap (λ (l : List ℕ). slice_range l 24 40) changed))
+
+-- ---- the fields in the first eight bytes
+
+-- the fields that stay where one of the first eight bytes is written
+record IsEarly (first width : ℕ) : Type 0 where
+  pub some : 0 < width
+  pub inside : first + width ≤ 64
+  pub no_version : IsApart first width 0 4
+  pub no_protocol : IsApart first width 48 8
+  pub no_hops : IsApart first width 56 8
+
+reads-early : (bytes : List ℕ) (first width x : ℕ) (v : Ipv6Repr) (n : ℕ) → AreBytes bytes → IsEarly first width → Reads bytes v
+    → n ≡ field (with_field bytes first width x) 32 16 → 40 + n ≤ length bytes → Reads (with_field bytes first width x) (record v { payload_len = n })
+reads-early bytes first width x v n are e r len fits =
+    let new = with_field bytes first width x in
+    let room = header_room bytes v r in
+    let inside : first + width ≤ 8 * length bytes = omega (arith, e.inside, room) in
+    let long : length new ≡ length bytes = length-with_field bytes first width x e.some inside in
+    let src : drop 8 new ≡ drop 8 bytes = drop-with_field bytes first width x 8 e.some e.inside (omega (arith, room)) in
+    let dst : drop 24 new ≡ drop 24 bytes = drop-with_field bytes first width x 24 e.some (omega (arith, e.inside)) (omega (arith, room)) in
+    let version : field new 0 4 ≡ field bytes 0 4 = field-with_field_other bytes first width x 0 4 are e.some (omega arith) inside e.no_version in
+    let protocol : field new 48 8 ≡ field bytes 48 8 = field-with_field_other bytes first width x 48 8 are e.some (omega arith) inside e.no_protocol in
+    let hops : field new 56 8 ≡ field bytes 56 8 = field-with_field_other bytes first width x 56 8 are e.some (omega arith) inside e.no_hops in
+    record {
+      lengths = omega (arith, long, len, fits);
+      version = version ∙ r.version;
+      payload_len = len;
+      next_header = r.next_header ∙ ap protocol_of (sym protocol);
+      hop_limit = r.hop_limit ∙ sym hops;
+      src_addr = r.src_addr ∙ ap (take 16) (sym src);
+      dst_addr = r.dst_addr ∙ ap (take 16) (sym dst);
+    }
+
+-- writing the payload length changes only the payload length of the value, if the bytes hold that payload
+pub reads-payload_len : (bytes : List ℕ) (n : ℕ) (v : Ipv6Repr) → AreBytes bytes → n < 65536 → 40 + n ≤ length bytes → Reads bytes v → Reads (with_field bytes 32 16 n) (record v { payload_len = n })
+reads-payload_len bytes n v are small fits r =
+    let e : IsEarly 32 16 = record { some = omega arith; inside = omega arith; no_version = inl (omega arith); no_protocol = inr (omega arith); no_hops = inr (omega arith) } in
+    reads-early bytes 32 16 n v n are e r (omega (arith, small, field-with_field_same bytes 32 16 n are (omega arith) (omega (arith, fits)))) fits
+
+-- the traffic class and the flow label are in no value
+pub reads-unread : (bytes : List ℕ) (first width x : ℕ) (v : Ipv6Repr) → AreBytes bytes → 0 < width → 4 ≤ first → first + width ≤ 32 → Reads bytes v → Reads (with_field bytes first width x) v
+reads-unread bytes first width x v are some low high r =
+    let e : IsEarly first width = record { some = some; inside = omega arith; no_version = inl (omega arith); no_protocol = inr (omega arith); no_hops = inr (omega arith) } in
+    let len = field-with_field_other bytes first width x 32 16 are some (omega arith) (omega (arith, high, header_room bytes v r)) (inr (omega arith)) in
+    reads-early bytes first width x v v.payload_len are e r (r.payload_len ∙ sym len) (omega (arith, r.payload_len, r.lengths))

@@ -6,9 +6,11 @@ mod Pairs
 pub mod Sums
 pub mod TcpChanged
 pub mod TcpComputed
+pub mod TcpCounted
 pub mod TcpEmitted
 pub mod TcpForms
 pub mod TcpLengths
+pub mod TcpNumbers
 pub mod TcpReadsBack
 mod TcpReprWorked
 pub mod TcpTexts

@@ -1,5 +1,5 @@
 -- `tcp_of` computes the value that a segment parses as.
-use Rattle.std.proofs.Common.{ℕ, zero, suc, ◌≡◌, ◌↔◌, ◌==◌, ◌&&◌, ◌||◌, not, ◌<◌, Bool, true, false, IsTrue, List, Option, Some, None, Result, Ok, Err, IfOk, OnErr, refl, sym, ap, subst, ◌∙◌, arith}
+use Rattle.std.proofs.Common.{ℕ, zero, suc, ◌≡◌, ◌↔◌, ◌<◌, Bool, true, false, List, Option, Some, None, Result, Ok, Err, IfOk, OnErr, refl, sym, ap, subst, ◌∙◌, arith}
 use Rattle.std.proofs.lemmas.Bool.Decides.{nat_tests}
 use Rattle.std.specs.Option.{option_and_then, option_map}
 use Rattle.std.specs.Prelude.{if◌then◌else◌}
@@ -7,7 +7,7 @@ use Rattle.std.specs.Result.{result_ok}
 use Rattle.net_base.specs.declared.error.Error.{Error}
 use Rattle.wire_ends.specs.declared.ip_address.IpAddress.{IpAddress}
 use Rattle.wire_field.specs.Field.{field}
-use Rattle.wire_tcp.specs.Tcp.{has_lengths, options_of, payload_of, segment_sum}
+use Rattle.wire_tcp.specs.Tcp.{options_of, payload_of}
 use Rattle.wire_tcp_parts.specs.TcpItems.{Item}
 use Rattle.wire_tcp_parts.specs.declared.tcp.control.TcpControl.{TcpControl}
 use Rattle.wire_tcp_parts.specs.declared.tcp.control.TcpControl.TheVariants as control

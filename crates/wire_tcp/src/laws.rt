@@ -1,16 +1,18 @@
-//! Laws of TCP segments. A law states a fact about definitions; its body does nothing.
+//! Laws of TCP segments. A law states a fact about definitions, or about the calls in its body.
 
-ghost use Rattle.std.specs.Prelude.{◌≡◌, ◌≢◌, ◌⊎◌, ◌↔◌, ◌+◌, ◌*◌, ◌%◌, ◌<◌, ◌≤◌, ℕ, [], Bool, IfSome, List, IsTrue, Some, false, true, length};
-ghost use Rattle.wire_ends.specs.IpAddress.{version_of};
+ghost use Rattle.std.specs.Prelude.{◌≡◌, ◌≢◌, ◌⊎◌, ◌↔◌, ◌+◌, ◌*◌, ◌%◌, ◌<◌, ◌≤◌, if◌then◌else◌, ℕ, [], Bool, IfSome, List, IsTrue, None, Some, false, true, length};
+ghost use Rattle.std.specs.Option.{option_map};
+ghost use Rattle.wire_ends.specs.IpAddress.{octets_of, version_of};
 ghost use Rattle.wire_ends.specs.declared.ip_address.IpAddress.{IpAddress};
 ghost use Rattle.wire_field.specs.Field.{field, with_field};
-ghost use Rattle.wire_tcp.specs.Tcp.{Verifies, header_len, packet_bytes_mut, payload_of, with_checksum};
-ghost use Rattle.wire_tcp.specs.TcpRepr.{HasIdleRanges, Reads, bytes_of, header_len_of, header_of, no_ranges, normal, tcp_of};
-ghost use Rattle.wire_tcp.specs.TcpSetters.{after};
+ghost use Rattle.wire_tcp.specs.Tcp.{HasLengths, Verifies, header_len, packet_bytes, packet_bytes_mut, payload_of, with_checksum, with_flag};
+ghost use Rattle.wire_tcp.specs.TcpRepr.{HasIdleRanges, IsQuiet, Reads, bytes_of, header_len_of, header_of, no_ranges, normal, seq_of, tcp_of};
+ghost use Rattle.wire_tcp.specs.TcpFields.{address_after, address_before, after, after_fill, after_update, got, quiet_of, with_no_flags, with_sums};
 
-use crate::tcp::{TcpPacketMut, TcpRepr};
+use crate::tcp::{TCP_HEADER_LEN, TcpPacket, TcpPacketMut, TcpRepr};
+use net_base::ChecksumCapabilities;
 use wire_ends::IpAddress;
-use wire_tcp_parts::TcpSeqNumber;
+use wire_tcp_parts::{TcpControl, TcpSeqNumber};
 
 /// The emitted segment, in a buffer of exactly its length, parses as the value's normal form and
 /// the same payload. A checksum that is verified must have been computed.
@@ -147,20 +149,38 @@ pub fn valid_checksum_reads_tcp(
         Reads bytes.now src_addr dst_addr true v payload ↔ (Reads bytes.now src_addr dst_addr false v payload × Verifies src_addr dst_addr bytes.now) }
 {}
 
-/// Writing one field changes one value, and no other. The checksum is not part of the value, and is
-/// not verified here.
+/// Writing one field changes one value, and no other. A flag is written beside no other one of SYN,
+/// FIN and RST. The reserved bits, NS, CWR, ECE, URG, the checksum and the urgent pointer are in no
+/// value. The checksum is not verified here.
 pub fn one_value_changes_tcp(
     bytes: &[u8],
     src_addr: IpAddress,
     dst_addr: IpAddress,
     value: TcpRepr<'_>,
     word: u16,
+    number: u32,
+    on: bool,
 )
     requires { Reads bytes.now src_addr dst_addr false (header_of value) value.payload.now }
     ensures src_port { word ≢ 0 → Reads (with_field bytes.now 0 16 word) src_addr dst_addr false (record (header_of value.entry) { src_port = word }) value.entry.payload.now }
     ensures dst_port { word ≢ 0 → Reads (with_field bytes.now 16 16 word) src_addr dst_addr false (record (header_of value.entry) { dst_port = word }) value.entry.payload.now }
+    ensures seq_number { Reads (with_field bytes.now 32 32 number) src_addr dst_addr false (record (header_of value.entry) { seq_number = seq_of number }) value.entry.payload.now }
+    ensures ack_number { let ack = option_map (λ old. seq_of number) value.entry.ack_number in
+        Reads (with_field bytes.now 64 32 number) src_addr dst_addr false (record (header_of value.entry) { ack_number = ack }) value.entry.payload.now }
+    ensures ack { let ack = if on then Some (seq_of (field bytes.now 64 32)) else None in
+        Reads (with_flag bytes.now 107 on) src_addr dst_addr false (record (header_of value.entry) { ack_number = ack }) value.entry.payload.now }
+    ensures psh { IsQuiet value.entry.control → let control = if on then TcpControl.Psh else TcpControl.None in
+        Reads (with_flag bytes.now 108 on) src_addr dst_addr false (record (header_of value.entry) { control = control }) value.entry.payload.now }
+    ensures rst { IsQuiet value.entry.control ⊎ (value.entry.control ≡ TcpControl.Rst) → let control = if on then TcpControl.Rst else quiet_of bytes.now in
+        Reads (with_flag bytes.now 109 on) src_addr dst_addr false (record (header_of value.entry) { control = control }) value.entry.payload.now }
+    ensures syn { IsQuiet value.entry.control ⊎ (value.entry.control ≡ TcpControl.Syn) → let control = if on then TcpControl.Syn else quiet_of bytes.now in
+        Reads (with_flag bytes.now 110 on) src_addr dst_addr false (record (header_of value.entry) { control = control }) value.entry.payload.now }
+    ensures fin { IsQuiet value.entry.control ⊎ (value.entry.control ≡ TcpControl.Fin) → let control = if on then TcpControl.Fin else quiet_of bytes.now in
+        Reads (with_flag bytes.now 111 on) src_addr dst_addr false (record (header_of value.entry) { control = control }) value.entry.payload.now }
     ensures window_len { Reads (with_field bytes.now 112 16 word) src_addr dst_addr false (record (header_of value.entry) { window_len = word }) value.entry.payload.now }
     ensures checksum { Reads (with_field bytes.now 128 16 word) src_addr dst_addr false (header_of value.entry) value.entry.payload.now }
+    ensures unread { (first width x : ℕ) → 0 < width → ((100 ≤ first) × (first + width ≤ 107)) ⊎ ((144 ≤ first) × (first + width ≤ 160))
+        → Reads (with_field bytes.now first width x) src_addr dst_addr false (header_of value.entry) value.entry.payload.now }
 {}
 
 /// A segment whose checksum `fill_checksum` wrote parses as before, with its checksum verified.
@@ -225,7 +245,151 @@ pub fn setter_writes_one_field_tcp(packet: &mut TcpPacketMut<'_>, setting: TcpSe
 /// Clearing the flags writes all nine, and the reserved bits, and nothing else.
 pub fn clear_flags_writes_the_flags_tcp(packet: &mut TcpPacketMut<'_>)
     requires { 20 ≤ length (packet_bytes_mut packet.old) }
-    ensures { packet_bytes_mut packet.new ≡ with_field (packet_bytes_mut packet.old) 100 12 0 }
+    ensures { packet_bytes_mut packet.new ≡ with_no_flags (packet_bytes_mut packet.old) }
 {
     packet.clear_flags();
+}
+
+/// A call of a getter.
+#[derive(Clone, Copy)]
+pub enum TcpGetting {
+    SrcPort,
+    DstPort,
+    SeqNumber,
+    AckNumber,
+    HeaderLen,
+    Ns,
+    Cwr,
+    Ece,
+    Urg,
+    Ack,
+    Psh,
+    Rst,
+    Syn,
+    Fin,
+    WindowLen,
+    Checksum,
+    UrgentAt,
+}
+
+/// A getter returns the number in its field of the header's diagram, in its unit.
+pub fn getters_read_fields_tcp(packet: &TcpPacket<'_>, getting: TcpGetting) -> u32
+    requires { 20 ≤ length (packet_bytes packet.now) }
+    ensures { result ≡ got getting (packet_bytes packet.now) }
+{
+    match getting {
+        TcpGetting::SrcPort => packet.src_port().into(),
+        TcpGetting::DstPort => packet.dst_port().into(),
+        TcpGetting::SeqNumber => packet.seq_number().0.cast_unsigned(),
+        TcpGetting::AckNumber => packet.ack_number().0.cast_unsigned(),
+        TcpGetting::HeaderLen => packet.header_len().into(),
+        TcpGetting::Ns => packet.ns().into(),
+        TcpGetting::Cwr => packet.cwr().into(),
+        TcpGetting::Ece => packet.ece().into(),
+        TcpGetting::Urg => packet.urg().into(),
+        TcpGetting::Ack => packet.ack().into(),
+        TcpGetting::Psh => packet.psh().into(),
+        TcpGetting::Rst => packet.rst().into(),
+        TcpGetting::Syn => packet.syn().into(),
+        TcpGetting::Fin => packet.fin().into(),
+        TcpGetting::WindowLen => packet.window_len().into(),
+        TcpGetting::Checksum => packet.checksum().into(),
+        TcpGetting::UrgentAt => packet.urgent_at().into(),
+    }
+}
+
+/// A call that writes the checksum too: for a new port, or for an old and a new address.
+#[derive(Clone, Copy)]
+pub enum TcpUpdate {
+    SrcPort(u16),
+    DstPort(u16),
+    Address(IpAddress, IpAddress),
+}
+
+/// An update writes its field of the header's diagram and the checksum, and nothing else. A valid
+/// checksum stays valid.
+pub fn update_writes_two_fields_tcp(packet: &mut TcpPacketMut<'_>, update: TcpUpdate)
+    requires { 20 ≤ length (packet_bytes_mut packet.old) }
+    ensures fields { packet_bytes_mut packet.new ≡ after_update update (packet_bytes_mut packet.old) }
+    ensures valid_src { (src dst : IpAddress) → length (octets_of src) % 2 ≡ 0 → length (octets_of dst) % 2 ≡ 0
+        → Verifies (address_before update src) dst (packet_bytes_mut packet.old) → Verifies (address_after update src) dst (packet_bytes_mut packet.new) }
+    ensures valid_dst { (src dst : IpAddress) → length (octets_of src) % 2 ≡ 0 → length (octets_of dst) % 2 ≡ 0
+        → Verifies src (address_before update dst) (packet_bytes_mut packet.old) → Verifies src (address_after update dst) (packet_bytes_mut packet.new) }
+{
+    match update {
+        TcpUpdate::SrcPort(x) => packet.update_src_port(x),
+        TcpUpdate::DstPort(x) => packet.update_dst_port(x),
+        TcpUpdate::Address(old, new) => packet.update_address(&old, &new),
+    }
+}
+
+/// Updating the checksum for changed words writes the checksum, and nothing else.
+pub fn update_checksum_writes_one_field_tcp(packet: &mut TcpPacketMut<'_>, old: u16, new: u16)
+    requires { 20 ≤ length (packet_bytes_mut packet.old) }
+    ensures { let bytes = packet_bytes_mut packet.old in packet_bytes_mut packet.new ≡ with_sums old new bytes bytes }
+{
+    packet.update_checksum(old, new);
+}
+
+/// Filling in the checksum writes the checksum, and nothing else. The segment then verifies.
+pub fn fill_checksum_writes_one_field_tcp(
+    packet: &mut TcpPacketMut<'_>,
+    src_addr: IpAddress,
+    dst_addr: IpAddress,
+)
+    requires header { 20 ≤ length (packet_bytes_mut packet.old) }
+    requires family { version_of src_addr ≡ version_of dst_addr }
+    ensures fields { packet_bytes_mut packet.new ≡ after_fill src_addr dst_addr (packet_bytes_mut packet.old) }
+    ensures valid { Verifies src_addr dst_addr (packet_bytes_mut packet.new) }
+{
+    packet.fill_checksum(&src_addr, &dst_addr);
+}
+
+/// The header's length and the lengths of options and payload agree. A segment uses one sequence
+/// number for each octet of its payload, for SYN and for FIN.
+pub fn lengths_agree_tcp(packet: &TcpPacket<'_>) -> bool
+    requires { HasLengths (packet_bytes packet.now) }
+    ensures { IsTrue result }
+{
+    let header_len = usize::from(packet.header_len());
+    let payload_len = packet.payload().len();
+    let flags = usize::from(packet.syn()) + usize::from(packet.fin());
+    header_len == TCP_HEADER_LEN + packet.options().len()
+        && packet.as_bytes().len() == header_len + payload_len
+        && packet.segment_len() == payload_len + flags
+}
+
+/// A parsed value uses as many sequence numbers as its segment.
+pub fn value_counts_as_segment_tcp(
+    packet: &TcpPacket<'_>,
+    src_addr: &IpAddress,
+    dst_addr: &IpAddress,
+    caps: &ChecksumCapabilities,
+) -> bool
+    requires { version_of src_addr.now ≡ version_of dst_addr.now }
+    ensures { IsTrue result }
+{
+    match TcpRepr::parse(packet, src_addr, dst_addr, caps) {
+        Ok(value) => value.segment_len() == packet.segment_len(),
+        Err(_) => true,
+    }
+}
+
+/// A parsed value is empty if its segment has no payload and none of SYN, FIN and RST.
+pub fn value_is_empty_as_segment_tcp(
+    packet: &TcpPacket<'_>,
+    src_addr: &IpAddress,
+    dst_addr: &IpAddress,
+    caps: &ChecksumCapabilities,
+) -> bool
+    requires { version_of src_addr.now ≡ version_of dst_addr.now }
+    ensures { IsTrue result }
+{
+    match TcpRepr::parse(packet, src_addr, dst_addr, caps) {
+        Ok(value) => {
+            let rst = usize::from(packet.rst());
+            value.is_empty() == (packet.segment_len() + rst == 0)
+        }
+        Err(_) => true,
+    }
 }

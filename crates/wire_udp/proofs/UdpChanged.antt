@@ -1,11 +1,11 @@
 -- A header in which one field changed.
-use Rattle.std.proofs.Common.{ℕ, ◌≡◌, ◌≢◌, ◌≤◌, ◌<◌, ◌+◌, ◌-◌, ◌*◌, ◌%◌, Bool, IsTrue, List, ◌++◌, drop, length, take, refl, sym, subst, ap, ◌∙◌, arith}
+use Rattle.std.proofs.Common.{ℕ, ◌≡◌, ◌≢◌, ◌≤◌, ◌<◌, ◌-◌, Bool, IsTrue, List, drop, length, take, refl, sym, subst, ap, ◌∙◌, arith}
 use Rattle.wire_field.specs.Field.{field, with_field}
 use Rattle.wire_field.proofs.Cells.{cells-drop}
 use Rattle.wire_field.proofs.Spelled.{AreBytes}
 use Rattle.wire_field.proofs.Written.{field-with_field_same}
 use Rattle.wire_ends.specs.declared.ip_address.IpAddress.{IpAddress}
-use Rattle.wire_udp.specs.Udp.{HasChecksum, HasLengths, Reads, packet_len}
+use Rattle.wire_udp.specs.Udp.{HasChecksum, Reads, packet_len}
 use Rattle.wire_udp.specs.declared.udp.repr.UdpRepr.{UdpRepr}
 
 -- the lengths are the same, and the bytes behind the header

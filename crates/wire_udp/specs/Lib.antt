@@ -1,3 +1,4 @@
 pub mod Udp
+pub mod UdpFields
 pub mod UdpLoan
 pub mod UdpText

@@ -1,13 +1,17 @@
-//! Laws of UDP. A law states a fact about definitions; its body does nothing.
+//! Laws of UDP. A law states a fact about definitions, or about the calls in its body.
 
-ghost use Rattle.std.specs.Prelude.{◌≡◌, ◌≢◌, ◌↔◌, ◌++◌, ◌≤◌, IsTrue, List, Some, false, length, true, ℕ};
-ghost use Rattle.wire_ends.specs.IpAddress.{version_of};
+ghost use Rattle.std.specs.Prelude.{◌≡◌, ◌≢◌, ◌↔◌, ◌++◌, ◌%◌, ◌≤◌, IsTrue, List, Some, false, length, true, ℕ};
+ghost use Rattle.wire_ends.specs.IpAddress.{octets_of, version_of};
+ghost use Rattle.wire_ends.specs.declared.ip_address.IpAddress.{IpAddress};
+ghost use Rattle.wire_field.specs.Diagram.{nth_field};
 ghost use Rattle.wire_field.specs.Field.{field, with_field};
-ghost use Rattle.wire_udp.specs.Udp.{HasChecksum, HasLengths, Reads, Verifies, bytes_of, max_payload_len, payload_of, udp_of, with_checksum};
+ghost use Rattle.wire_udp.specs.Udp.{HasChecksum, HasLengths, Reads, Verifies, bytes_of, max_payload_len, packet_bytes, packet_bytes_mut, payload_of, udp_of, with_checksum};
+ghost use Rattle.wire_udp.specs.UdpFields.{address_after, address_before, after, after_fill, after_update, diagram, got, with_sums};
 ghost use Rattle.wire_udp.specs.declared.udp.repr.UdpRepr.{UdpRepr};
 
-use crate::udp::UdpRepr;
+use crate::udp::{UDP_HEADER_LEN, UdpPacket, UdpPacketMut, UdpRepr};
 use wire_ends::IpAddress;
+use wire_field::laws::octets_fit;
 
 /// The emitted packet, with any bytes behind it, parses as the same value and payload. A checksum
 /// that is verified must have been computed.
@@ -108,3 +112,125 @@ pub fn one_value_changes_udp(
     ensures dst_port { word ≢ 0 → Reads (with_field bytes.now 16 16 word) src_addr dst_addr false (record value { dst_port = word }) payload.now }
     ensures checksum { Reads (with_field bytes.now 48 16 word) src_addr dst_addr false value payload.now }
 {}
+
+/// A call of a setter.
+#[derive(Clone, Copy)]
+pub enum UdpSetting {
+    SrcPort(u16),
+    DstPort(u16),
+    Len(u16),
+    Checksum(u16),
+}
+
+/// A setter writes its field of the header's diagram, and nothing else.
+pub fn setter_writes_one_field_udp(packet: &mut UdpPacketMut<'_>, setting: UdpSetting)
+    requires { 8 ≤ length (packet_bytes_mut packet.old) }
+    ensures { packet_bytes_mut packet.new ≡ after setting (packet_bytes_mut packet.old) }
+{
+    match setting {
+        UdpSetting::SrcPort(x) => packet.set_src_port(x),
+        UdpSetting::DstPort(x) => packet.set_dst_port(x),
+        UdpSetting::Len(x) => packet.set_len(x),
+        UdpSetting::Checksum(x) => packet.set_checksum(x),
+    }
+}
+
+/// A call of a getter.
+#[derive(Clone, Copy)]
+pub enum UdpGetting {
+    SrcPort,
+    DstPort,
+    Len,
+    Checksum,
+}
+
+/// A getter returns the number in its field of the header's diagram.
+pub fn getters_read_fields_udp(packet: &UdpPacket<'_>, getting: UdpGetting) -> u16
+    requires { 8 ≤ length (packet_bytes packet.now) }
+    ensures { result ≡ got getting (packet_bytes packet.now) }
+{
+    match getting {
+        UdpGetting::SrcPort => packet.src_port(),
+        UdpGetting::DstPort => packet.dst_port(),
+        UdpGetting::Len => packet.len(),
+        UdpGetting::Checksum => packet.checksum(),
+    }
+}
+
+/// A call that writes the checksum too: for a new port, or for an old and a new address.
+#[derive(Clone, Copy)]
+pub enum UdpUpdate {
+    SrcPort(u16),
+    DstPort(u16),
+    Address(IpAddress, IpAddress),
+}
+
+/// An update writes its field of the header's diagram and the checksum, and nothing else. A valid
+/// checksum stays valid.
+pub fn update_writes_two_fields_udp(packet: &mut UdpPacketMut<'_>, update: UdpUpdate)
+    requires header { 8 ≤ length (packet_bytes_mut packet.old) }
+    requires family { (address : IpAddress) → version_of (address_before update address) ≡ version_of (address_after update address) }
+    ensures fields { packet_bytes_mut packet.new ≡ after_update update (packet_bytes_mut packet.old) }
+    ensures valid_src { (src dst : IpAddress) → length (octets_of src) % 2 ≡ 0 → length (octets_of dst) % 2 ≡ 0 → HasLengths (packet_bytes_mut packet.old)
+        → HasChecksum (address_before update src) dst (packet_bytes_mut packet.old) → HasChecksum (address_after update src) dst (packet_bytes_mut packet.new) }
+    ensures valid_dst { (src dst : IpAddress) → length (octets_of src) % 2 ≡ 0 → length (octets_of dst) % 2 ≡ 0 → HasLengths (packet_bytes_mut packet.old)
+        → HasChecksum src (address_before update dst) (packet_bytes_mut packet.old) → HasChecksum src (address_after update dst) (packet_bytes_mut packet.new) }
+{
+    match update {
+        UdpUpdate::SrcPort(x) => packet.update_src_port(x),
+        UdpUpdate::DstPort(x) => packet.update_dst_port(x),
+        UdpUpdate::Address(old, new) => packet.update_address(&old, &new),
+    }
+}
+
+/// Updating the checksum for changed words writes the checksum, and nothing else.
+pub fn update_checksum_writes_one_field_udp(packet: &mut UdpPacketMut<'_>, old: u16, new: u16)
+    requires { 8 ≤ length (packet_bytes_mut packet.old) }
+    ensures { let bytes = packet_bytes_mut packet.old in packet_bytes_mut packet.new ≡ with_sums old new bytes bytes }
+{
+    packet.update_checksum(old, new);
+}
+
+/// Filling in the checksum writes the checksum, and nothing else. It is then valid, and not 0.
+pub fn fill_checksum_writes_one_field_udp(
+    packet: &mut UdpPacketMut<'_>,
+    src_addr: IpAddress,
+    dst_addr: IpAddress,
+)
+    requires lengths { HasLengths (packet_bytes_mut packet.old) }
+    requires family { version_of src_addr ≡ version_of dst_addr }
+    ensures fields { packet_bytes_mut packet.new ≡ after_fill src_addr dst_addr (packet_bytes_mut packet.old) }
+    ensures some { nth_field diagram 3 (packet_bytes_mut packet.new) ≢ 0 }
+    ensures valid { Verifies src_addr dst_addr (packet_bytes_mut packet.new) }
+{
+    octets_fit(packet.as_bytes());
+    packet.fill_checksum(&src_addr, &dst_addr);
+}
+
+/// The length field counts the header and the payload.
+pub fn lengths_agree_udp(packet: &UdpPacket<'_>, value: UdpRepr) -> bool
+    requires { HasLengths (packet_bytes packet.now) }
+    ensures { IsTrue result }
+{
+    value.header_len() == UDP_HEADER_LEN
+        && usize::from(packet.len()) == UDP_HEADER_LEN + packet.payload().len()
+}
+
+/// A checksum is valid if it verifies, except 0 over IPv6.
+pub fn checksum_verdicts_agree_udp(
+    packet: &UdpPacket<'_>,
+    src_addr: &IpAddress,
+    dst_addr: &IpAddress,
+) -> bool
+    requires lengths { HasLengths (packet_bytes packet.now) }
+    requires family { version_of src_addr.now ≡ version_of dst_addr.now }
+    ensures { IsTrue result }
+{
+    let none = packet.checksum() == 0;
+    let verifies = packet.verify_checksum(src_addr, dst_addr);
+    let valid = packet.has_valid_checksum(src_addr, dst_addr);
+    match src_addr {
+        IpAddress::Ipv4(_) => valid == verifies,
+        IpAddress::Ipv6(_) => valid == (verifies && !none),
+    }
+}

@@ -1,4 +1,4 @@
-use Rattle.std.proofs.Common.{inl, inr, true, false, ◌⊎◌, rules}
+use Rattle.std.proofs.Common.{inr, true, false, rules}
 use Rattle.wire_udp.proofs.UdpUpdated.{filled, reads-filled}
 use Rattle.wire_udp.proofs.laws.filled_checksum_verifies_udp.Goals as goal
 

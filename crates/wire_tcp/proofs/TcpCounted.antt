@@ -1,0 +1,58 @@
+-- The sequence numbers that a segment uses, and those that its value uses.
+use Rattle.std.proofs.Common.{ℕ, zero, suc, ◌≡◌, inl, inr, ◌↔◌, ◌+◌, ◌-◌, nat_eq, Bool, true, false, IsTrue, List, [], ◌∷◌, length, refl, subst, ap, ◌∙◌, arith, length-drop}
+use Rattle.std.proofs.Math.Dec.{eqb-suc-zero}
+use mathlib.Core.Bool.{beq}
+use Rattle.wire_ends.specs.declared.ip_address.IpAddress.{IpAddress}
+use Rattle.wire_field.specs.Field.{field}
+use Rattle.wire_tcp.specs.Tcp.{header_len, segment_len}
+use Rattle.wire_tcp.specs.TcpRepr.{HasControl, IsQuiet, Reads, TcpHeader}
+use Rattle.wire_tcp_parts.specs.TcpSeq.{control_len}
+use Rattle.wire_tcp_parts.specs.declared.tcp.control.TcpControl.{TcpControl}
+use Rattle.wire_tcp_parts.specs.declared.tcp.control.TcpControl.TheVariants as control
+
+-- SYN and FIN are the controls that count
+flags-counted : (bytes : List ℕ) (asked : TcpControl) → HasControl bytes asked → control_len asked ≡ field bytes 110 1 + field bytes 111 1
+flags-counted bytes control.Rst h = omega (arith, h.syn, h.fin)
+flags-counted bytes control.Syn h = omega (arith, h.syn, h.fin)
+flags-counted bytes control.Fin h = omega (arith, h.syn, h.fin)
+flags-counted bytes control.Psh (h, p) = omega (arith, h.syn, h.fin)
+flags-counted bytes control.None (h, p) = omega (arith, h.syn, h.fin)
+
+payload-counted : (bytes : List ℕ) (src dst : IpAddress) (verified : Bool) (v : TcpHeader) (payload : List ℕ) → Reads bytes src dst verified v payload → length payload ≡ length bytes - header_len bytes
+payload-counted bytes src dst verified v payload r = ap length r.body ∙ length-drop (header_len bytes) bytes
+
+-- a value uses as many sequence numbers as its segment
+pub counted : (bytes : List ℕ) (src dst : IpAddress) (verified : Bool) (v : TcpHeader) (payload : List ℕ) → Reads bytes src dst verified v payload → length payload + control_len v.control ≡ segment_len bytes
+counted bytes src dst verified v payload r = omega (arith, payload-counted bytes src dst verified v payload r, flags-counted bytes v.control r.control)
+
+-- a control is quiet where it uses no number and is not RST
+quiet : (bytes : List ℕ) (asked : TcpControl) → HasControl bytes asked → IsQuiet asked → field bytes 110 1 + field bytes 111 1 + field bytes 109 1 ≡ 0
+quiet bytes asked h (inl is) = let f = (subst (HasControl bytes) is h).0 in omega (arith, f.rst, f.syn, f.fin)
+quiet bytes asked h (inr is) = let f = (subst (HasControl bytes) is h).0 in omega (arith, f.rst, f.syn, f.fin)
+
+is_quiet : (bytes : List ℕ) (asked : TcpControl) → HasControl bytes asked → field bytes 110 1 + field bytes 111 1 + field bytes 109 1 ≡ 0 → IsQuiet asked
+is_quiet bytes control.Rst h none = absurd (omega (arith, h.rst, none))
+is_quiet bytes control.Syn h none = absurd (omega (arith, h.syn, none))
+is_quiet bytes control.Fin h none = absurd (omega (arith, h.fin, none))
+is_quiet bytes control.Psh h none = inr refl
+is_quiet bytes control.None h none = inl refl
+
+is_nil : (xs : List ℕ) → length xs ≡ 0 → xs ≡ []
+is_nil [] none = refl
+is_nil (x ∷ xs) none = absurd (omega (arith, none))
+
+-- a value is empty where its segment uses no number and has no RST
+pub empty : (bytes : List ℕ) (src dst : IpAddress) (verified : Bool) (v : TcpHeader) (payload : List ℕ) → Reads bytes src dst verified v payload
+    → ((payload ≡ []) × IsQuiet v.control) ↔ (segment_len bytes + field bytes 109 1 ≡ 0)
+empty bytes src dst verified v payload r =
+    let size = payload-counted bytes src dst verified v payload r in (
+      λ e. omega (arith, size, ap length e.0, quiet bytes v.control r.control e.1),
+      λ none. (is_nil payload (omega (arith, size, none)), is_quiet bytes v.control r.control (omega (arith, none))),
+    )
+
+-- a test for 0 answers as another test that holds in the same cases
+pub agree : (a : Bool) (n : ℕ) → (IsTrue a → n ≡ 0) → (n ≡ 0 → IsTrue a) → IsTrue (beq a (nat_eq n 0))
+agree true zero to from = refl
+agree true (suc n) to from = absurd (omega (arith, to refl))
+agree false zero to from = from refl
+agree false (suc n) to from = rw (eqb-suc-zero n) refl
