@@ -4,4 +4,7 @@
 #![tactic(auto)]
 
 pub mod emit;
+pub mod frames;
+pub mod rewrites;
+pub mod texts;
 pub mod values;
