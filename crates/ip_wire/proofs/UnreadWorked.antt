@@ -1,4 +1,5 @@
 -- What worked frames are not read as: no definition of a reading holds of too many of them.
+use Rattle.std.specs.Borrow.{Bor}
 use Rattle.std.proofs.Common.{ℕ, ◌≡◌, List, [], ◌∷◌, ◌++◌, inl, inr, None, Some, drop, take, refl, sym, ◌∙◌, arith, true≢false}
 use Rattle.ip_wire.proofs.TcpWorked as tcp_frames
 use Rattle.ip_wire.proofs.Worked as frames
@@ -6,16 +7,19 @@ use Rattle.ip_wire.specs.Frame.{Carried, CarriesMessage, CarriesPacket, CarriesT
 use Rattle.ip_wire.specs.FrameValue.{Computes, Parses, ParsesCarried, ParsesTransport, ReadsNormalOf}
 use Rattle.ip_wire.specs.declared.frame.Frame.{Frame}
 use Rattle.ip_wire.specs.declared.frame.carried.Carried as carried_value
+use Rattle.ip_wire.specs.declared.frame.carried.Carried.TheVariants as carried
 use Rattle.ip_wire.specs.declared.frame.transport.Transport as transport_value
+use Rattle.ip_wire.specs.declared.frame.transport.Transport.TheVariants as transport
 use Rattle.net_base.specs.Checksum.{all_are}
-use Rattle.net_base.specs.declared.Checksum.{Checksum}
 use Rattle.net_base.specs.declared.Checksum.TheVariants as when
 use Rattle.net_base.specs.declared.ChecksumCapabilities.{ChecksumCapabilities}
 use Rattle.wire_arp.proofs.ArpComputed.{arp_of-Reads}
 use Rattle.wire_arp.specs.Arp.{arp_of}
-use Rattle.ip_wire.specs.Types.{EthernetRepr, IpRepr, Ipv4, Ipv6}
+use Rattle.ip_wire.specs.Types.{ArpRepr, EthernetRepr, IpRepr, Ipv4, Ipv4Repr, Ipv6, Ipv6Repr, UdpRepr}
 use Rattle.wire_checksum.specs.WordSum.{residue, words}
+use Rattle.wire_tcp.specs.declared.TcpRepr.{TcpRepr}
 use Rattle.wire_ends.specs.declared.IpProtocol.TheVariants as protocol
+use Rattle.wire_ends.specs.declared.IpVersion.TheVariants as version
 use Rattle.wire_ethernet.specs.declared.EthernetProtocol.TheVariants as ethertype
 
 -- ---- packets
@@ -105,25 +109,44 @@ segment-parses t (read, is, reads) = segment-reads read reads
 
 -- ---- checksums that are computed where they are verified
 
--- this for UDP, and none of the others
-udp : Checksum → ChecksumCapabilities
-udp choice = record (all_are when.None) { udp = choice }
+-- a sender that computes no checksum
+abbrev none : ChecksumCapabilities
+none = all_are when.None
 
-nothing-verified : Computes (all_are when.None) (all_are when.None)
-nothing-verified = record {
-  ipv4 = λ verified. absurd (true≢false (sym verified));
-  udp = λ verified. absurd (true≢false (sym verified));
-  tcp = λ verified. absurd (true≢false (sym verified));
+-- no checksum counts that the frame does not have
+arp-computed : (v : ArpRepr) → Computes none all_checked (carried.Arp v)
+arp-computed v = record { ipv4 = λ has. absurd has; udp = λ has. absurd has; tcp = λ has. absurd has }
+
+ipv6-computed : (v : Ipv6Repr) (payload : Bor (List ℕ)) → Computes none all_checked (carried.Packet (Ipv6 v) (transport.Other payload))
+ipv6-computed v payload = record {
+  ipv4 = λ has. let apart : version.Ipv6 ≡ version.Ipv4 = has in absurd (cc);
+  udp = λ has. absurd has;
+  tcp = λ has. absurd has;
 }
 
-udp-computed : Computes (udp when.Tx) (udp when.Rx)
-unfolding udp
-udp-computed = record {
-  ipv4 = λ verified. absurd (true≢false (sym verified));
-  udp = λ verified. refl;
-  tcp = λ verified. absurd (true≢false (sym verified));
-}
+udp-computed : (v : IpRepr) (u : UdpRepr) (payload : Bor (List ℕ))
+    → Computes (record all_checked { tcp = when.None }) all_checked (carried.Packet v (transport.Udp u payload))
+udp-computed v u payload = record { ipv4 = λ has verified. refl; udp = λ has verified. refl; tcp = λ has. absurd has }
 
-udp-not_computed : ¬ Computes (udp when.Rx) (udp when.Rx)
-unfolding udp
-udp-not_computed computes = true≢false (sym (computes.udp refl))
+tcp-computed : (v : IpRepr) (u : TcpRepr) → Computes (record all_checked { udp = when.None }) all_checked (carried.Packet v (transport.Tcp u))
+tcp-computed v u = record { ipv4 = λ has verified. refl; udp = λ has. absurd has; tcp = λ has verified. refl }
+
+-- each checksum counts that the frame has and that is verified
+ipv4-not_computed : (v : Ipv4Repr) (t : transport_value.Transport)
+    → ¬ Computes (record all_checked { ipv4 = when.Rx }) all_checked (carried.Packet (Ipv4 v) t)
+ipv4-not_computed v t computes = true≢false (sym (computes.ipv4 refl refl))
+
+udp-not_computed : (v : IpRepr) (u : UdpRepr) (payload : Bor (List ℕ))
+    → ¬ Computes (record all_checked { udp = when.Rx }) all_checked (carried.Packet v (transport.Udp u payload))
+udp-not_computed v u payload computes = true≢false (sym (computes.udp (record {}) refl))
+
+tcp-not_computed : (v : IpRepr) (u : TcpRepr) → ¬ Computes (record all_checked { tcp = when.Rx }) all_checked (carried.Packet v (transport.Tcp u))
+tcp-not_computed v u computes = true≢false (sym (computes.tcp (record {}) refl))
+
+-- a checksum that is not verified may be left out
+unverified : (c : carried_value.Carried) → Computes none (all_are when.Tx) c
+unverified c = record {
+  ipv4 = λ has verified. absurd (true≢false (sym verified));
+  udp = λ has verified. absurd (true≢false (sym verified));
+  tcp = λ has verified. absurd (true≢false (sym verified));
+}

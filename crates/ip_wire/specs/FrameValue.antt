@@ -9,12 +9,14 @@ use Rattle.ip_wire.specs.declared.frame.carried.Carried.TheVariants as carried
 use Rattle.ip_wire.specs.declared.frame.transport.Transport.{Transport}
 use Rattle.ip_wire.specs.declared.frame.transport.Transport.TheVariants as transport
 use Rattle.net_base.specs.Checksum.{computes, verifies}
+use Rattle.net_base.specs.declared.Checksum.{Checksum}
 use Rattle.net_base.specs.declared.ChecksumCapabilities.{ChecksumCapabilities}
 use Rattle.ip_wire.specs.Types.{ArpRepr, EthernetAddress, EthernetProtocol, EthernetRepr, IpProtocol, IpRepr, Ipv4, Ipv4Repr, Ipv6}
 use Rattle.wire_arp.specs.Arp as arp
 use Rattle.wire_arp.specs.ArpText as arp_text
 use Rattle.wire_ends.specs.Protocol as protocols
 use Rattle.wire_ends.specs.declared.IpProtocol.TheVariants as protocol
+use Rattle.wire_ends.specs.declared.IpVersion.TheVariants as version
 use Rattle.wire_ethernet.specs.Ethernet as ethernet
 use Rattle.wire_ethernet.specs.declared.EthernetProtocol.TheVariants as ethertype
 use Rattle.wire_ip.specs.Ip as ip
@@ -211,16 +213,39 @@ normal_carried_of (carried.Arp v) = Some (frame.message (arp.normal v))
 normal_carried_of (carried.Packet v t) = option_map (frame.packet (ip.normal (with_payload_len v (transport_len t)))) (normal_transport_of t)
 normal_carried_of _ = None
 
+-- the bytes parse layer by layer as the normal forms of this header and of what it carries
+abbrev pub Composes : ChecksumCapabilities → List ℕ → EthernetRepr → Carried → Type 0
+Composes caps bytes header c =
+    (read : frame.Carried) × (normal_carried_of c ≡ Some read) × ReadsFrame caps bytes (ethernet.normal header) read
+
 -- the bytes parse as the normal form of this value
 abbrev pub ReadsNormalOf : ChecksumCapabilities → List ℕ → Frame → Type 0
-ReadsNormalOf caps bytes f =
-    (read : frame.Carried) × (normal_carried_of f.carried ≡ Some read) × ReadsFrame caps bytes (ethernet.normal f.header) read
+ReadsNormalOf caps bytes f = Composes caps bytes f.header f.carried
 
--- each checksum that the receiver verifies was computed by the sender
-pub record Computes (sent received : ChecksumCapabilities) : Type 0 where
-  pub ipv4 : IsTrue (verifies received.ipv4) → IsTrue (computes sent.ipv4)
-  pub udp : IsTrue (verifies received.udp) → IsTrue (computes sent.udp)
-  pub tcp : IsTrue (verifies received.tcp) → IsTrue (computes sent.tcp)
+-- ---- checksums
+
+-- the sender computed the checksum, if the receiver verifies it
+abbrev pub IsComputed : Checksum → Checksum → Type 0
+IsComputed sent received = IsTrue (verifies received) → IsTrue (computes sent)
+
+-- what a frame carries has an IPv4 header, a UDP header, a TCP header
+abbrev pub HasIpv4 : Carried → Type 0
+HasIpv4 (carried.Packet v t) = ip.version_of v ≡ version.Ipv4
+HasIpv4 _ = ⊥
+
+abbrev pub HasUdp : Carried → Type 0
+HasUdp (carried.Packet v (transport.Udp u payload)) = ⊤
+HasUdp _ = ⊥
+
+abbrev pub HasTcp : Carried → Type 0
+HasTcp (carried.Packet v (transport.Tcp u)) = ⊤
+HasTcp _ = ⊥
+
+-- each checksum of these headers that the receiver verifies was computed by the sender
+pub record Computes (sent received : ChecksumCapabilities) (c : Carried) : Type 0 where
+  pub ipv4 : HasIpv4 c → IsComputed sent.ipv4 received.ipv4
+  pub udp : HasUdp c → IsComputed sent.udp received.udp
+  pub tcp : HasTcp c → IsComputed sent.tcp received.tcp
 
 -- ---- frames that are put together
 

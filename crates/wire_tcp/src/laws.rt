@@ -6,7 +6,7 @@ ghost use Rattle.wire_ends.specs.IpAddress.{octets_of, version_of};
 ghost use Rattle.wire_ends.specs.declared.ip_address.IpAddress.{IpAddress};
 ghost use Rattle.wire_field.specs.Field.{field, with_field};
 ghost use Rattle.wire_tcp.specs.Tcp.{HasLengths, Verifies, header_len, packet_bytes, packet_bytes_mut, payload_of, with_checksum, with_flag};
-ghost use Rattle.wire_tcp.specs.TcpRepr.{HasIdleRanges, IsQuiet, Reads, bytes_of, header_len_of, header_of, no_ranges, normal, seq_of, tcp_of};
+ghost use Rattle.wire_tcp.specs.TcpRepr.{HasIdleRanges, IsQuiet, Reads, TcpHeader, bytes_of, header_len_of, header_of, no_ranges, normal, seq_of, tcp_of};
 ghost use Rattle.wire_tcp.specs.TcpFields.{address_after, address_before, after, after_fill, after_update, got, quiet_of, with_no_flags, with_sums};
 
 use crate::tcp::{TCP_HEADER_LEN, TcpPacket, TcpPacketMut, TcpRepr};
@@ -45,6 +45,13 @@ pub fn reads_once_tcp(
     requires other { Reads bytes.now src_addr dst_addr verified (header_of other) other.payload.now }
     ensures value { header_of value.entry ≡ header_of other.entry }
     ensures payload { value.entry.payload.now ≡ other.entry.payload.now }
+{}
+
+/// Bytes parse as at most one header and payload. This is `reads_once_tcp` also for a normal form that
+/// no `TcpRepr` of the caller has.
+pub fn one_reading_tcp(bytes: &[u8], src_addr: IpAddress, dst_addr: IpAddress, verified: bool)
+    ensures { (v w : TcpHeader) (payload other : List ℕ) → Reads bytes.now src_addr dst_addr verified v payload
+        → Reads bytes.now src_addr dst_addr verified w other → (v ≡ w) × (payload ≡ other) }
 {}
 
 /// `tcp_of` computes the value that the bytes parse as, if there is one.

@@ -2,7 +2,7 @@
 
 ghost use Rattle.std.specs.Prelude.{◌≡◌, ◌≢◌, ◌≤◌, ◌+◌, ◌++◌, [], IsTrue, length};
 ghost use Rattle.ip_wire.specs.Frame.{ReadsFrame, all_checked, datagram, message, other, packet, rebuilt, segment, type_of};
-ghost use Rattle.ip_wire.specs.FrameValue.{Agrees, Computes, Finds, Fits, ReadsNormalOf, frame_bytes};
+ghost use Rattle.ip_wire.specs.FrameValue.{Agrees, AgreesCarried, Composes, Computes, Finds, Fits, FitsCarried, ReadsNormalOf, carried_bytes, frame_bytes, normal_carried_of};
 ghost use Rattle.net_base.specs.Checksum.{computes, verifies};
 ghost use Rattle.wire_arp.specs.Arp as arp;
 ghost use Rattle.wire_ends.specs.Protocol as protocol;
@@ -21,36 +21,37 @@ use wire_ip::IpRepr;
 use wire_tcp::TcpRepr;
 use wire_udp::UdpRepr;
 
-/// The emitted frame, with any padding behind it, parses as the value's normal form. Its headers
-/// must name what follows them, and each checksum that the receiver verifies must be computed.
-pub fn frame_reads_back(
-    frame: &Frame<'_>,
+/// An Ethernet header and what it carries, emitted with any padding behind them, parse layer by
+/// layer as their normal forms. Each header must name what follows it. Of the checksums that these
+/// headers have, each that the receiver verifies must be computed.
+pub fn frame_composes(
+    header: EthernetRepr,
+    carried: &Carried<'_>,
     padding: &[u8],
     sent: ChecksumCapabilities,
     received: ChecksumCapabilities,
 )
-    requires agrees { Agrees frame.now }
-    requires fits { Fits frame.now }
-    requires checksums { Computes sent received }
-    ensures { ReadsNormalOf received (frame_bytes sent frame.now ++ padding.now) frame.now }
+    requires agrees { AgreesCarried header.ethertype carried.now }
+    requires fits { FitsCarried carried.now }
+    requires checksums { Computes sent received carried.now }
+    ensures { Composes received (ethernet.bytes_of header ++ carried_bytes sent carried.now ++ padding.now) header carried.now }
 {
-    let ethernet = frame.header;
-    match &frame.carried {
-        Carried::Arp(value) => frame_composes_arp(ethernet, *value, padding, received),
-        Carried::Packet(header, inner) => {
-            let mut filled = *header;
+    match carried {
+        Carried::Arp(value) => frame_composes_arp(header, *value, padding, received),
+        Carried::Packet(packet, inner) => {
+            let mut filled = *packet;
             match inner {
                 Transport::Udp(value, payload) => {
                     filled.set_payload_len(8 + payload.len());
-                    frame_composes_udp(ethernet, filled, *value, payload, padding, sent, received);
+                    frame_composes_udp(header, filled, *value, payload, padding, sent, received);
                 }
                 Transport::Tcp(value) => {
                     filled.set_payload_len(value.buffer_len());
-                    frame_composes_tcp(ethernet, filled, *value, padding, sent, received);
+                    frame_composes_tcp(header, filled, *value, padding, sent, received);
                 }
                 Transport::Other(payload) => {
                     filled.set_payload_len(payload.len());
-                    frame_composes_other(ethernet, filled, payload, padding, sent, received);
+                    frame_composes_other(header, filled, payload, padding, sent, received);
                 }
                 Transport::Unread(_) => {}
             }
@@ -59,15 +60,38 @@ pub fn frame_reads_back(
     }
 }
 
+/// The emitted frame, with any padding behind it, parses as the normal form of its value. The
+/// premises are those of `frame_composes`.
+pub fn frame_reads_back(
+    frame: &Frame<'_>,
+    padding: &[u8],
+    sent: ChecksumCapabilities,
+    received: ChecksumCapabilities,
+)
+    requires agrees { Agrees frame.now }
+    requires fits { Fits frame.now }
+    requires checksums { Computes sent received frame.now.carried }
+    ensures { ReadsNormalOf received (frame_bytes sent frame.now ++ padding.now) frame.now }
+{
+    let header = frame.header;
+    frame_composes(header, &frame.carried, padding, sent, received);
+}
+
+/// No bytes parse as the normal forms of two frames that differ in their normal forms.
+pub fn composes_once(bytes: &[u8], received: ChecksumCapabilities, a: &Frame<'_>, b: &Frame<'_>)
+    ensures { ReadsNormalOf received bytes.now a.now → ReadsNormalOf received bytes.now b.now
+        → (ethernet.normal a.now.header ≡ ethernet.normal b.now.header) × (normal_carried_of a.now.carried ≡ normal_carried_of b.now.carried) }
+{}
+
 /// A frame that is parsed leniently and emitted, with every checksum verified and computed, is the rebuilt
 /// frame.
 pub fn frame_rebuilds(bytes: &[u8], frame: &Frame<'_>)
     ensures { Finds all_checked bytes.now frame.now → frame_bytes all_checked frame.now ≡ rebuilt bytes.now }
 {}
 
-// A frame with matching Ethernet, IP and UDP headers, with any padding, parses as the normal forms
-// of its headers and its payload, if each verified checksum was computed.
-fn frame_composes_udp(
+/// A frame with matching Ethernet, IP and UDP headers, with any padding, parses as the normal forms
+/// of its headers and its payload, if each verified checksum was computed.
+pub fn frame_composes_udp(
     header: EthernetRepr,
     inner: IpRepr,
     value: UdpRepr,
@@ -87,8 +111,8 @@ fn frame_composes_udp(
         ReadsFrame received (ethernet.bytes_of header ++ (ip.bytes_of inner (computes sent.ipv4) ++ datagram_bytes) ++ padding.now) (ethernet.normal header) (packet (ip.normal inner) (datagram value payload.now)) }
 {}
 
-// The same for TCP: the segment parses as the normal form of its values.
-fn frame_composes_tcp(
+/// The same for TCP: the segment parses as the normal form of its values.
+pub fn frame_composes_tcp(
     header: EthernetRepr,
     inner: IpRepr,
     value: TcpRepr<'_>,
@@ -110,9 +134,9 @@ fn frame_composes_tcp(
         ReadsFrame received (ethernet.bytes_of header ++ (ip.bytes_of inner (computes sent.ipv4) ++ segment_bytes) ++ padding.now) (ethernet.normal header) (packet (ip.normal inner) (segment (tcp.normal v) payload)) }
 {}
 
-// A frame with an ARP packet and the EtherType of ARP, with any padding, parses as the normal forms
-// of both.
-fn frame_composes_arp(
+/// A frame with an ARP packet and the EtherType of ARP, with any padding, parses as the normal forms
+/// of both. It has no checksum.
+pub fn frame_composes_arp(
     header: EthernetRepr,
     value: ArpRepr,
     padding: &[u8],
@@ -122,9 +146,9 @@ fn frame_composes_arp(
     ensures { ReadsFrame received (ethernet.bytes_of header ++ arp.bytes_of value ++ padding.now) (ethernet.normal header) (message (arp.normal value)) }
 {}
 
-// A frame with matching headers and a payload of another protocol than UDP and TCP, with any
-// padding, parses as the normal forms of its headers and that payload.
-fn frame_composes_other(
+/// A frame with matching headers and a payload of another protocol than UDP and TCP, with any
+/// padding, parses as the normal forms of its headers and that payload.
+pub fn frame_composes_other(
     header: EthernetRepr,
     inner: IpRepr,
     payload: &[u8],
