@@ -177,7 +177,8 @@ struct lk_tcp_options {
 enum lk_network { LK_NO_NETWORK, LK_ARP, LK_IPV4, LK_IPV6 };
 enum lk_transport { LK_NO_TRANSPORT, LK_UDP, LK_TCP };
 
-/* Why a header was rejected. */
+/* Why a header was rejected. If several reasons apply to it, it is the first of them in this order. If several
+ * headers of a frame are wrong, the outermost of them is rejected, and no header behind it is read. */
 enum lk_reason {
     LK_READ,         /* no header was rejected */
     LK_TOO_SHORT,    /* fewer bytes than the shortest header */

@@ -4,7 +4,8 @@
     tests/definitions.py [TOP]
 
 Each name in the first column must be defined in a module of the heading. Each test, law and file of worked examples in the
-last column must exist. What does not exist is printed, and the status is 1 then. TOP is the top of the repository.
+last column must exist. Behind "too wide:", at the end of a row, there must be at least one of them, and nothing else. What does
+not exist is printed, and the status is 1 then. TOP is the top of the repository.
 """
 import functools
 import glob
@@ -21,6 +22,11 @@ PINS = {
     "calls": "tests/calls/{}.call",
     "tests": "tests/{}",
 } | {pin: "crates/" + crate + "/src/tests/{}.rt" for pin, crate in TESTS.items()}
+FILES = {
+    "uses": "crates/ip_uses/src/tests.rt",
+    "devices": "crates/ip_frames/src/tests/devices.rt",
+    "host": "crates/ip_host/src/tests.rt",
+}
 
 
 @functools.cache
@@ -53,11 +59,28 @@ def is_defined(name, paths):
     return any(re.search(head, read(path), re.M) for path in paths)
 
 
-def exists(pin):
+def path_of(pin):
+    """The pattern of the paths of a test, a C program or a file of such theorems; None for another name."""
     kind, _, name = pin.partition("/")
     if name:
-        return os.path.exists(PINS.get(kind, "{}").format(name))
-    return not pin.endswith("Worked") or bool(glob.glob(f"crates/*/proofs/{pin}.antt"))
+        return PINS.get(kind, "{}").format(name)
+    if pin.endswith(".c"):
+        return f"[ct]*/{pin}"
+    return f"crates/*/proofs/{pin}.antt" if pin.endswith(("Worked", "Once")) else FILES.get(pin)
+
+
+def exists(pin):
+    path = path_of(pin)
+    return path is None or bool(glob.glob(path))
+
+
+def wide_faults(last, laws):
+    """What is wrong with the mark "too wide:" in the last cell of a row, if it has one."""
+    _, mark, pins = last.partition("too wide:")
+    names = re.findall(r"`([^`]+)`", pins)
+    if mark and (not names or re.sub(r"`[^`]+`|laws?|and|[,\s]", "", pins)):
+        yield f"this mark names no law, test or file of theorems: {mark}{pins}"
+    yield from (f"{name} excludes nothing" for name in names if name not in laws and path_of(name) is None)
 
 
 def main(top):
@@ -68,6 +91,7 @@ def main(top):
     for paths, names, last in rows(read("docs/DEFINITIONS.md")):
         missing += [f"{name} is not defined in {', '.join(paths)}" for name in names if not is_defined(name, paths)]
         missing += [f"there is no {pin}" for pin in re.findall(r"`([^`]+)`", last) if not exists(pin)]
+        missing += wide_faults(last, laws)
         for law in re.findall(r"\blaws? ((?:`\w+`(?:, | and )?)+)", last):
             missing += [f"there is no law {name}" for name in re.findall(r"`(\w+)`", law) if name not in laws]
     print("".join(f"docs/DEFINITIONS.md: {line}\n" for line in missing), end="")

@@ -285,18 +285,13 @@ static void answers(int line, const struct lk_host *host, const uint8_t *frame, 
 static void hosts(void)
 {
     static const uint16_t ports[2] = {22, 80};
-    struct lk_host open = asked_host(ports, 2), closed = asked_host(ports, 1), mute = closed, wide = open;
-    uint8_t scaled[sizeof syn_ack];
+    struct lk_host open = asked_host(ports, 2), closed = asked_host(ports, 1), mute = closed;
     ANSWERS(&open, arp_request, arp_reply);
     ANSWERS(&open, ping, pong);
     ANSWERS(&open, ping6, pong6);
     ANSWERS(&open, syn, syn_ack);
     ANSWERS(&open, syn6, syn_ack6);
     ANSWERS(&open, ack6, ack_reset6);
-    wide.window_scale = 15; /* sent as 14, 7 more than in syn_ack; so the checksum is 7 less in this octet */
-    memcpy(scaled, syn_ack, sizeof scaled);
-    scaled[60] = 14, scaled[50] -= 7;
-    ANSWERS(&wide, syn, scaled);
     ANSWERS(&closed, syn, syn_reset);
     ANSWERS(&closed, syn6, syn_reset6);
     IGNORES(&open, arp_reply);
@@ -313,6 +308,40 @@ static void hosts(void)
     IGNORES(&mute, syn6);
     mute = open, mute.hardware[5] = 3;
     IGNORES(&mute, ping);
+}
+
+/* What an open port offers, and the checksum of its answer to `syn`. A scale above 14 is sent as 14. The
+ * checksum of `syn_ack`, 0x3dcb, changes with each number as RFC 1624 says. */
+static const struct {
+    uint16_t max_seg_size, window_len;
+    uint8_t window_scale, sent, checksum[2];
+} offers[] = {
+    {1460, 0x7210, 7, 7, {0x3d, 0xcb}},
+    {0, 0x7210, 7, 7, {0x43, 0x7f}},
+    {65535, 0x7210, 7, 7, {0x43, 0x7f}},
+    {1460, 0x7210, 0, 0, {0x44, 0xcb}},
+    {1460, 0x7210, 14, 14, {0x36, 0xcb}},
+    {1460, 0x7210, 15, 14, {0x36, 0xcb}},
+    {1460, 0x7210, 255, 14, {0x36, 0xcb}},
+    {1460, 0, 7, 7, {0xaf, 0xdb}},
+};
+
+static void host_offers(void)
+{
+    static const uint16_t ports[1] = {80};
+    for (size_t i = 0; i < sizeof offers / sizeof offers[0]; i++) {
+        struct lk_host host = asked_host(ports, 1);
+        uint8_t expected[sizeof syn_ack];
+        host.max_seg_size = offers[i].max_seg_size;
+        host.window_len = offers[i].window_len;
+        host.window_scale = offers[i].window_scale;
+        memcpy(expected, syn_ack, sizeof expected);
+        expected[48] = (uint8_t)(offers[i].window_len >> 8), expected[49] = (uint8_t)offers[i].window_len;
+        memcpy(expected + 50, offers[i].checksum, 2);
+        expected[56] = (uint8_t)(offers[i].max_seg_size >> 8), expected[57] = (uint8_t)offers[i].max_seg_size;
+        expected[60] = offers[i].sent;
+        ANSWERS(&host, syn, expected);
+    }
 }
 
 /* A host ignores a frame that is cut off, or in which a bit of an octet behind the Ethernet header is wrong. */
@@ -370,6 +399,8 @@ static void texts(void)
     check(__LINE__, is_addr("010.0.0.1", "10.0.0.1") && is_addr("::ffff:192.168.1.1", "::ffff:192.168.1.1"));
     check(__LINE__, is_block("10.1.2.3/8", "10.1.2.3/8", 1) && is_block("10.1.2.3/16", "10.1.2.3/16", 0));
     check(__LINE__, is_block("::/0", "::/0", 0) && is_block("0.0.0.0/0", "0.0.0.0/0", 1));
+    check(__LINE__, is_block("10.255.0.1/32", "10.255.0.1/32", 1) && is_block("10.255.0.0/32", "10.255.0.0/32", 0));
+    check(__LINE__, is_block("10.255.0.0/31", "10.255.0.0/31", 1) && is_block("::1/128", "::1/128", 0));
     check(__LINE__, is_endpoint("192.0.2.1:65535", "192.0.2.1:65535", 65535) && is_endpoint("192.0.2.1", "192.0.2.1:0", 0));
     check(__LINE__, is_endpoint("[FE80::1]:80", "[fe80::1]:80", 80) && is_endpoint("fe80::1", "[fe80::1]:0", 0));
     check(__LINE__, lk_ethernet_read("AB-cd-ef-0-0-1", 14, octets) == 1 && memcmp(octets, "\xab\xcd\xef\0\0\1", 6) == 0);
@@ -410,6 +441,7 @@ int main(void)
     frames();
     replies();
     hosts();
+    host_offers();
     damaged_frames();
     texts();
     classes();

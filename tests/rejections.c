@@ -97,10 +97,15 @@ static void network_layer(void)
     REJECTS(lk_emit_ip(WITH(ecn, 4), six, six, 0, 1, out, ROOM));
     REJECTS(lk_emit_ip(WITH(ident, 65536), four, four, 0, 1, out, ROOM));
     REJECTS(lk_emit_ip(WITH(ident, 1), six, six, 0, 1, out, ROOM));
+    REJECTS(lk_emit_ip(WITH(fragment_offset, 4), four, four, 0, 1, out, ROOM));
     REJECTS(lk_emit_ip(WITH(fragment_offset, 7), four, four, 0, 1, out, ROOM));
     REJECTS(lk_emit_ip(WITH(fragment_offset, 8), six, six, 0, 1, out, ROOM));
     REJECTS(lk_emit_ip(WITH(more_fragments, 1), six, six, 0, 1, out, ROOM));
     REJECTS(lk_emit_ip(WITH(flow_label, 1 << 20), six, six, 0, 1, out, ROOM));
+    NEEDS(20, cap, lk_emit_ip(WITH(dscp, 63), four, four, 0, 1, out, cap));
+    NEEDS(40, cap, lk_emit_ip(WITH(dscp, 63), six, six, 0, 1, out, cap));
+    NEEDS(20, cap, lk_emit_ip(WITH(ecn, 3), four, four, 0, 1, out, cap));
+    NEEDS(40, cap, lk_emit_ip(WITH(ecn, 3), six, six, 0, 1, out, cap));
     NEEDS(20, cap, lk_emit_ip(WITH(ident, 65535), four, four, 0, 1, out, cap));
     NEEDS(20, cap, lk_emit_ip(WITH(fragment_offset, 65528), four, four, 0, 1, out, cap));
     NEEDS(40, cap, lk_emit_ip(WITH(flow_label, (1 << 20) - 1), six, six, 0, 1, out, cap));

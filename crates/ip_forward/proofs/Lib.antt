@@ -1,1 +1,2 @@
 pub mod Forwards
+mod ForwardWorked

@@ -11,7 +11,8 @@ use ip_wire::{
 };
 use net_base::ChecksumCapabilities;
 
-/// Why a frame is not forwarded. The first of these that applies is returned.
+/// Why a frame is not forwarded. The checks run in this order: if several reasons apply, the first of
+/// them is returned.
 #[derive(Debug, Clone, Copy, PartialEq, Eq)]
 pub enum Rejection {
     /// The frame has no Ethernet header, or its EtherType is neither IPv4 nor IPv6.

@@ -8,3 +8,4 @@ pub mod UdpEnds
 pub mod Undone
 pub mod Words
 mod NatWorked
+mod TranslatedWorked

@@ -35,7 +35,8 @@ impl Side {
     }
 }
 
-/// Why a frame is not translated. The first of these that applies is returned.
+/// Why a frame is not translated. The checks run in this order: if several reasons apply, the first of
+/// them is returned.
 #[derive(Debug, Clone, Copy, PartialEq, Eq)]
 pub enum Rejection {
     /// The frame has no Ethernet header, or its EtherType is not IPv4.

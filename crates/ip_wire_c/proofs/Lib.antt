@@ -8,6 +8,8 @@ mod Ipv4Words
 mod Numbered
 mod StoredFrame
 mod StoredHeaders
+mod StoredOnce
 mod StoredParts
 mod TcpResummed
 mod UdpKept
+mod WrittenWorked

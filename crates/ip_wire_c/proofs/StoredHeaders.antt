@@ -112,6 +112,7 @@ stores-value frame v (EthernetIpv4 operation source_hardware source_protocol tar
       target_protocol_addr = refl;
       offset = refl;
       packet = refl;
+      part = refl;
       checksum = refl;
     },
     record { transport = refl; offset = refl; src_port = refl; dst_port = refl; checksum = refl; segment = refl },
@@ -169,6 +170,9 @@ stores-ipv4 frame v w r =
 traffic-class : (bytes : List ℕ) → 4 * (field bytes 4 8 / 4) + field bytes 4 8 % 4 ≡ field bytes 4 8
 traffic-class bytes = omega arith
 
+ecn-bits : (bytes : List ℕ) → field bytes 4 8 % 4 < 4
+ecn-bits bytes = omega arith
+
 -- the values behind an IPv6 header, with and without a fragment header
 record IsBehind (g : FrameFields) (w : Ipv6Repr) (bytes : List ℕ) (header : Option Ipv6FragmentRepr) : Type 0 where
   values : StoresIpv6 g.ip w bytes header
@@ -181,6 +185,7 @@ without-fragment f w bytes is none same = record {
     hop_limit = refl;
     flow_label = refl;
     traffic_class = traffic-class bytes;
+    ecn = ecn-bits bytes;
     ident = refl;
     fragment_offset = refl;
     more_fragments = refl;
@@ -198,6 +203,7 @@ with-fragment false f w bytes h is none same = record {
     hop_limit = refl;
     flow_label = refl;
     traffic_class = traffic-class bytes;
+    ecn = ecn-bits bytes;
     ident = refl;
     fragment_offset = refl;
     more_fragments = refl;
@@ -383,6 +389,7 @@ stores-transport f frame header v (segment u q) d read none (is, r) =
           flags = refl;
           urgent_at = refl;
           header_len = refl;
+          segment = refl;
         },
       );
       transport_offset = offset;

@@ -396,6 +396,11 @@ stores-unread frame v r network =
       link = record { src_addr = refl; dst_addr = refl; ethertype = refl };
       offset = refl;
       payload = record { len = refl; octets = rest-found frame };
+      network = refl;
+      network_offset = refl;
+      src_addr = refl;
+      dst_addr = refl;
+      part = refl;
       packet = refl;
       message = refl;
       transport = record { transport = refl; offset = refl; src_port = refl; dst_port = refl; checksum = refl; segment = refl };

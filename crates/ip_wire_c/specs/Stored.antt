@@ -21,7 +21,7 @@ use Rattle.ip_wire.specs.declared.IpProtocol.TheVariants as protocol
 use Rattle.ip_wire.specs.declared.Ipv6FragmentRepr.{Ipv6FragmentRepr}
 use Rattle.ip_wire.specs.declared.TcpControl.{TcpControl}
 use Rattle.ip_wire.specs.declared.TcpControl.TheVariants as control
-use Rattle.ip_wire_c.specs.Addresses.{addr_of}
+use Rattle.ip_wire_c.specs.Addresses.{addr_of, no_addr}
 use Rattle.ip_wire_c.specs.Codes.{network_code, reason_code, transport_code, verdict_code}
 use Rattle.ip_wire_c.specs.FrameFields.{arp_fault, ipv4_fault, ipv6_fault, no_arp, no_ip, no_tcp, tcp_fault, tcp_values, udp_fault}
 use Rattle.ip_wire_c.specs.Written.{flag}
@@ -59,6 +59,7 @@ pub record StoresArp (f : FrameFields) (asked : ArpOperation) (source_hardware s
   pub target_protocol_addr : f.dst.addr ≡ addr_of (address.Ipv4 target_protocol)
   pub offset : f.network_offset ≡ 14
   pub packet : f.ip ≡ no_ip
+  pub part : f.is_fragment ≡ 0
   pub checksum : f.ipv4_checksum ≡ verdict_code verdict.None
 
 abbrev pub StoresMessage : FrameFields → ArpRepr → Type 0
@@ -89,12 +90,14 @@ fragment_header_of v bytes = fragment_header_by v.next_header (payload_of bytes)
 abbrev pub says_fragment : Ipv6FragmentRepr → ℕ
 says_fragment v = flag (v.more_frags || not (v.frag_offset == 0))
 
--- the values of an IPv6 header, which the bytes begin with, and of a fragment header behind it, if there is one
+-- the values of an IPv6 header, which the bytes begin with, and of a fragment header behind it, if there is one; the
+-- traffic class is DSCP and, in its 2 lowest bits, ECN
 pub record StoresIpv6 (f : Ip) (v : Ipv6Repr) (bytes : List ℕ) (part : Option Ipv6FragmentRepr) : Type 0 where
   pub protocol : f.protocol ≡ number_of v.next_header
   pub hop_limit : f.hop_limit ≡ v.hop_limit
   pub flow_label : f.flow_label ≡ field bytes 12 20
   pub traffic_class : 4 * f.dscp + f.ecn ≡ field bytes 4 8
+  pub ecn : f.ecn < 4
   pub ident : f.ident ≡ option_map_or (λ v. v.ident) part 0
   pub fragment_offset : f.fragment_offset ≡ option_map_or (λ v. 8 * v.frag_offset) part 0
   pub more_fragments : f.more_fragments ≡ option_map_or (λ v. flag v.more_frags) part 0
@@ -161,6 +164,7 @@ pub record StoresSegment (f : FrameFields) (v : TcpHeader) (bytes : List ℕ) : 
   pub flags : f.tcp.flags ≡ field bytes 104 8
   pub urgent_at : f.tcp.urgent_at ≡ field bytes 144 16
   pub header_len : f.tcp.header_len ≡ tcp.header_len bytes
+  pub segment : f.tcp ≡ tcp_values bytes
 
 -- it stores the transport header that these bytes begin with
 abbrev pub StoresTransport : FrameFields → Transport → List ℕ → Type 0
@@ -278,6 +282,11 @@ pub record StoresUnread (f : FrameFields) (frame : List ℕ) (v : EthernetRepr) 
   pub link : StoresLink f.ethernet v
   pub offset : f.payload_offset ≡ 14
   pub payload : Locates f frame (drop 14 frame)
+  pub network : f.network ≡ network_code network.None
+  pub network_offset : f.network_offset ≡ 0
+  pub src_addr : f.src.addr ≡ no_addr
+  pub dst_addr : f.dst.addr ≡ no_addr
+  pub part : f.is_fragment ≡ 0
   pub packet : f.ip ≡ no_ip
   pub message : f.arp ≡ no_arp
   pub transport : HasNoTransport f

@@ -3,7 +3,8 @@
 ghost use Rattle.std.specs.Prelude.{◌≡◌};
 ghost use Rattle.ip_wire_c.specs.Codes.{network_code, reason_code, reason_of, text_of, transport_code, verdict_code};
 
-/// `enum lk_reason`: why a header was rejected.
+/// `enum lk_reason`: why a header was rejected. If several reasons apply to a header, it is the first of
+/// them in this order.
 #[derive(Clone, Copy)]
 pub enum Reason {
     /// No header was rejected.

@@ -98,3 +98,40 @@ fn rejects_what_is_no_packet(rt: HostRuntime) {
     );
     assert_eq!(rt; short, UDP);
 }
+
+/// Two faults in one frame: the first reason of `Rejection` that applies. A change of the IPv4 header
+/// without a new checksum is a fault as well.
+#[test]
+fn rejects_by_the_first_reason(rt: HostRuntime) {
+    for (changes, reason) in [
+        ([(13, 0x06), (14, 0x65)], Rejection::NotIp),
+        ([(13, 0x06), (22, 0x01)], Rejection::NotIp),
+        ([(14, 0x65), (25, 0xd5)], Rejection::BadHeader),
+        ([(14, 0x44), (22, 0x00)], Rejection::BadHeader),
+        ([(17, 0x21), (22, 0x01)], Rejection::BadHeader),
+        ([(22, 0x01), (25, 0xd4)], Rejection::WrongChecksum),
+        ([(22, 0x00), (25, 0xd4)], Rejection::WrongChecksum),
+    ] {
+        let mut frame = UDP;
+        for (at, octet) in changes {
+            frame[at] = octet;
+        }
+        let same = frame;
+        assert_eq!(rt; forward(&mut frame, SRC, DST), Err(reason));
+        assert_eq!(rt; frame, same);
+    }
+    for (changes, reason) in [
+        ([(13, 0xde), (14, 0x45)], Rejection::NotIp),
+        ([(13, 0xde), (21, 0x01)], Rejection::NotIp),
+        ([(14, 0x45), (21, 0x01)], Rejection::BadHeader),
+        ([(19, 0x11), (21, 0x00)], Rejection::BadHeader),
+    ] {
+        let mut frame = IPV6;
+        for (at, octet) in changes {
+            frame[at] = octet;
+        }
+        let same = frame;
+        assert_eq!(rt; forward(&mut frame, SRC, DST), Err(reason));
+        assert_eq!(rt; frame, same);
+    }
+}

@@ -212,3 +212,70 @@ fn rejects_other_frames(rt: HostRuntime) {
     );
     assert_eq!(rt; short, UDP);
 }
+
+/// Two faults in one frame: the first reason of `Rejection` that applies. Where the IPv4 checksum is to be
+/// valid, it was computed anew (octets 24 and 25).
+#[test]
+fn rejects_by_the_first_reason(rt: HostRuntime) {
+    for (changes, reason) in [
+        (
+            [(13, 0x06), (14, 0x65), (14, 0x65), (14, 0x65)],
+            Rejection::NotIpv4,
+        ),
+        (
+            [(13, 0x06), (20, 0x20), (20, 0x20), (20, 0x20)],
+            Rejection::NotIpv4,
+        ),
+        (
+            [(14, 0x65), (24, 0x21), (24, 0x21), (24, 0x21)],
+            Rejection::BadHeader,
+        ),
+        (
+            [(14, 0x44), (20, 0x20), (20, 0x20), (20, 0x20)],
+            Rejection::BadHeader,
+        ),
+        (
+            [(17, 0x21), (23, 0x01), (23, 0x01), (23, 0x01)],
+            Rejection::BadHeader,
+        ),
+        (
+            [(20, 0x20), (20, 0x20), (20, 0x20), (20, 0x20)],
+            Rejection::WrongChecksum,
+        ),
+        (
+            [(23, 0x01), (23, 0x01), (23, 0x01), (23, 0x01)],
+            Rejection::WrongChecksum,
+        ),
+        (
+            [(24, 0x21), (40, 0xd3), (40, 0xd3), (40, 0xd3)],
+            Rejection::WrongChecksum,
+        ),
+        (
+            [(20, 0x20), (23, 0x01), (24, 0x40), (25, 0xe4)],
+            Rejection::Fragment,
+        ),
+        (
+            [(20, 0x20), (24, 0x40), (40, 0xd3), (40, 0xd3)],
+            Rejection::Fragment,
+        ),
+        (
+            [(23, 0x01), (25, 0xe4), (40, 0xd3), (40, 0xd3)],
+            Rejection::OtherProtocol,
+        ),
+        (
+            [(36, 0x00), (37, 0x00), (39, 0x07), (40, 0xd3)],
+            Rejection::BadTransport,
+        ),
+    ] {
+        let mut frame = UDP;
+        for (at, octet) in changes {
+            frame[at] = octet;
+        }
+        let same = frame;
+        assert_eq!(rt;
+            translate(&mut frame, Side::Destination, inside(), 7),
+            Err(reason)
+        );
+        assert_eq!(rt; frame, same);
+    }
+}
