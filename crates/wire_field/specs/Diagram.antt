@@ -1,5 +1,5 @@
 -- A header as the list of its fields, by their widths in the RFC's diagram, in order.
-use Rattle.std.specs.Prelude.{ℕ, List, slice_index, sum, take}
+use Rattle.std.specs.Prelude.{ℕ, Bool, if◌then◌else◌, List, slice_index, sum, take}
 use Rattle.wire_field.specs.Field.{field, with_field}
 
 -- the number in field k of a diagram with these widths
@@ -9,3 +9,7 @@ nth_field widths k bytes = field bytes (sum (take k widths)) (slice_index widths
 -- the bytes with x in field k of a diagram with these widths
 abbrev pub with_nth : List ℕ → ℕ → ℕ → List ℕ → List ℕ
 with_nth widths k x bytes = with_field bytes (sum (take k widths)) (slice_index widths k) x
+
+-- a flag as the number in its field
+abbrev pub flag : Bool → ℕ
+flag x = if x then 1 else 0
