@@ -2,5 +2,6 @@ pub mod ArpComputed
 pub mod ArpEmitted
 pub mod ArpNormal
 pub mod ArpTexts
+mod ArpNumbers
 mod ArpViewed
 mod ArpWorked

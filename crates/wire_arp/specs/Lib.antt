@@ -1,2 +1,3 @@
 pub mod Arp
+pub mod ArpFields
 pub mod ArpText

@@ -1,10 +1,14 @@
-//! Laws of this crate's definitions. A law states a fact about definitions; its body does nothing.
+//! Laws of this crate. A law states a fact about definitions, or about the calls in its body.
 
 ghost use Rattle.std.specs.Prelude.{◌≡◌, ◌↔◌, ◌++◌, ◌≤◌, Some, length, true};
 ghost use Rattle.wire_addr.specs.Order.{named_cmp};
-ghost use Rattle.wire_arp.specs.Arp.{Reads, arp_of, bytes_of, hardware_number, is_unknown_hardware, is_unknown_operation, normal, operation_number};
+ghost use Rattle.wire_field.specs.Diagram.{nth_field};
+ghost use Rattle.wire_arp.specs.Arp.{HasLengths, Reads, arp_of, bytes_of, hardware_number, is_unknown_hardware, is_unknown_operation, normal, operation_number, packet_bytes, packet_bytes_mut};
+ghost use Rattle.wire_arp.specs.ArpFields.{Fits, IsGot, after, diagram, got, widths};
 
-use crate::arp::{ArpHardware, ArpOperation, ArpRepr};
+use crate::arp::{ArpHardware, ArpOperation, ArpPacket, ArpPacketMut, ArpRepr};
+use wire_ethernet::EthernetProtocol;
+use wire_field::laws::octets_fit;
 
 /// The packet of a value, with any bytes behind it, parses as the value's normal form.
 pub fn emit_reads_back_arp(value: ArpRepr, rest: &[u8])
@@ -47,3 +51,122 @@ pub fn arp_operation_order(a: ArpOperation, b: ArpOperation)
     ensures order { ⟦<ArpOperation as Ord>⟧.cmp a b ≡ named_cmp is_unknown_operation operation_number a b }
     ensures equal { (⟦<ArpOperation as PartialEq>⟧.eq a b ≡ true) ↔ (a ≡ b) }
 {}
+
+/// The fields of a packet for Ethernet and IPv4 are those of the diagram.
+pub fn ethernet_ipv4_has_the_diagram_arp(bytes: &[u8])
+    requires hardware { nth_field diagram 2 bytes.now ≡ 6 }
+    requires protocol { nth_field diagram 3 bytes.now ≡ 4 }
+    ensures { widths bytes.now ≡ diagram }
+{}
+
+/// A call of a setter.
+#[derive(Clone, Copy)]
+pub enum ArpSetting<'a> {
+    HardwareType(ArpHardware),
+    ProtocolType(EthernetProtocol),
+    HardwareLen(u8),
+    ProtocolLen(u8),
+    Operation(ArpOperation),
+    SourceHardwareAddr(&'a [u8]),
+    SourceProtocolAddr(&'a [u8]),
+    TargetHardwareAddr(&'a [u8]),
+    TargetProtocolAddr(&'a [u8]),
+}
+
+/// A setter writes its field, and nothing else. The places of the addresses are those before the write.
+pub fn setter_writes_one_field_arp(packet: &mut ArpPacketMut<'_>, setting: ArpSetting<'_>)
+    requires lengths { HasLengths (packet_bytes_mut packet.old) }
+    requires fits { Fits setting (packet_bytes_mut packet.old) }
+    ensures { packet_bytes_mut packet.new ≡ after setting.entry (packet_bytes_mut packet.old) }
+{
+    match setting {
+        ArpSetting::HardwareType(x) => packet.set_hardware_type(x),
+        ArpSetting::ProtocolType(x) => packet.set_protocol_type(x),
+        ArpSetting::HardwareLen(x) => packet.set_hardware_len(x),
+        ArpSetting::ProtocolLen(x) => packet.set_protocol_len(x),
+        ArpSetting::Operation(x) => packet.set_operation(x),
+        ArpSetting::SourceHardwareAddr(x) => {
+            octets_fit(x);
+            packet.set_source_hardware_addr(x)
+        }
+        ArpSetting::SourceProtocolAddr(x) => {
+            octets_fit(x);
+            packet.set_source_protocol_addr(x)
+        }
+        ArpSetting::TargetHardwareAddr(x) => {
+            octets_fit(x);
+            packet.set_target_hardware_addr(x)
+        }
+        ArpSetting::TargetProtocolAddr(x) => {
+            octets_fit(x);
+            packet.set_target_protocol_addr(x)
+        }
+    }
+}
+
+/// A call of a getter of a field before the addresses.
+#[derive(Clone, Copy)]
+pub enum ArpGetting {
+    HardwareType,
+    ProtocolType,
+    HardwareLen,
+    ProtocolLen,
+    Operation,
+}
+
+/// A getter returns the number in its field.
+pub fn getters_read_fields_arp(packet: &ArpPacket<'_>, getting: ArpGetting) -> u16
+    requires { 8 ≤ length (packet_bytes packet.now) }
+    ensures { result ≡ got getting (packet_bytes packet.now) }
+{
+    match getting {
+        ArpGetting::HardwareType => packet.hardware_type().number(),
+        ArpGetting::ProtocolType => packet.protocol_type().number(),
+        ArpGetting::HardwareLen => packet.hardware_len().into(),
+        ArpGetting::ProtocolLen => packet.protocol_len().into(),
+        ArpGetting::Operation => packet.operation().number(),
+    }
+}
+
+/// A call of the getter of an address.
+#[derive(Clone, Copy)]
+pub enum ArpAddressGetting {
+    SourceHardwareAddr,
+    SourceProtocolAddr,
+    TargetHardwareAddr,
+    TargetProtocolAddr,
+}
+
+/// A getter of an address returns its field, of the length that the packet names.
+pub fn address_getters_read_fields_arp<'a>(
+    packet: &ArpPacket<'a>,
+    getting: ArpAddressGetting,
+) -> &'a [u8]
+    requires { HasLengths (packet_bytes packet.now) }
+    ensures { IsGot getting result.now (packet_bytes packet.now) }
+{
+    octets_fit(packet.as_bytes());
+    match getting {
+        ArpAddressGetting::SourceHardwareAddr => packet.source_hardware_addr(),
+        ArpAddressGetting::SourceProtocolAddr => packet.source_protocol_addr(),
+        ArpAddressGetting::TargetHardwareAddr => packet.target_hardware_addr(),
+        ArpAddressGetting::TargetProtocolAddr => packet.target_protocol_addr(),
+    }
+}
+
+/// The same of the getters of a mutable view.
+pub fn mutable_address_getters_read_fields_arp<'a>(
+    packet: &'a ArpPacketMut<'_>,
+    getting: ArpAddressGetting,
+) -> &'a [u8]
+    requires { HasLengths (packet_bytes_mut packet.now) }
+    ensures { IsGot getting result.now (packet_bytes_mut packet.now) }
+{
+    octets_fit(packet.as_bytes());
+    match getting {
+        ArpAddressGetting::SourceHardwareAddr => packet.source_hardware_addr(),
+        ArpAddressGetting::SourceProtocolAddr => packet.source_protocol_addr(),
+        ArpAddressGetting::TargetHardwareAddr => packet.target_hardware_addr(),
+        ArpAddressGetting::TargetProtocolAddr => packet.target_protocol_addr(),
+    }
+}

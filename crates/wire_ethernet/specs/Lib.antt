@@ -1,2 +1,3 @@
 pub mod Ethernet
+pub mod EthernetFields
 pub mod EthernetLoan

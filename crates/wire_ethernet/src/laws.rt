@@ -1,10 +1,14 @@
-//! Laws of this crate's definitions. A law states a fact about definitions; its body does nothing.
+//! Laws of this crate. A law states a fact about definitions, or about the calls in its body.
 
 ghost use Rattle.std.specs.Prelude.{◌≡◌, ◌↔◌, ◌++◌, ◌≤◌, Some, length, true};
 ghost use Rattle.wire_addr.specs.Order.{named_cmp};
-ghost use Rattle.wire_ethernet.specs.Ethernet.{Reads, bytes_of, ethernet_of, is_unknown, normal, number_of};
+ghost use Rattle.wire_ethernet.specs.Ethernet.{Reads, bytes_of, ethernet_of, frame_bytes, frame_bytes_mut, is_unknown, normal, number_of};
+ghost use Rattle.wire_ethernet.specs.EthernetFields.{after, got};
 
-use crate::ethernet::{EthernetProtocol, EthernetRepr};
+use crate::ethernet::{EthernetFrame, EthernetFrameMut, EthernetProtocol, EthernetRepr};
+use byteorder::{ByteOrder, NetworkEndian};
+use wire_addr::EthernetAddress;
+use wire_field::laws::octets_fit;
 
 /// The header of a value, with any bytes behind it, parses as the value's normal form.
 pub fn emit_reads_back_ethernet(value: EthernetRepr, rest: &[u8])
@@ -40,3 +44,50 @@ pub fn ethernet_protocol_order(a: EthernetProtocol, b: EthernetProtocol)
     ensures order { ⟦<EthernetProtocol as Ord>⟧.cmp a b ≡ named_cmp is_unknown number_of a b }
     ensures equal { (⟦<EthernetProtocol as PartialEq>⟧.eq a b ≡ true) ↔ (a ≡ b) }
 {}
+
+/// A call of a setter.
+#[derive(Clone, Copy)]
+pub enum EthernetSetting {
+    DstAddr(EthernetAddress),
+    SrcAddr(EthernetAddress),
+    Ethertype(EthernetProtocol),
+}
+
+/// A setter writes its field of the header's diagram, and nothing else.
+pub fn setter_writes_one_field_ethernet(frame: &mut EthernetFrameMut<'_>, setting: EthernetSetting)
+    requires { 14 ≤ length (frame_bytes_mut frame.old) }
+    ensures { frame_bytes_mut frame.new ≡ after setting (frame_bytes_mut frame.old) }
+{
+    match setting {
+        EthernetSetting::DstAddr(x) => {
+            octets_fit(x.as_bytes());
+            frame.set_dst_addr(x)
+        }
+        EthernetSetting::SrcAddr(x) => {
+            octets_fit(x.as_bytes());
+            frame.set_src_addr(x)
+        }
+        EthernetSetting::Ethertype(x) => frame.set_ethertype(x),
+    }
+}
+
+/// A call of a getter.
+#[derive(Clone, Copy)]
+pub enum EthernetGetting {
+    DstAddr,
+    SrcAddr,
+    Ethertype,
+}
+
+/// A getter returns the number in its field of the header's diagram.
+pub fn getters_read_fields_ethernet(frame: &EthernetFrame<'_>, getting: EthernetGetting) -> u64
+    requires { 14 ≤ length (frame_bytes frame.now) }
+    ensures { result ≡ got getting (frame_bytes frame.now) }
+{
+    octets_fit(frame.as_bytes());
+    match getting {
+        EthernetGetting::DstAddr => NetworkEndian::read_u48(frame.dst_addr().as_bytes()),
+        EthernetGetting::SrcAddr => NetworkEndian::read_u48(frame.src_addr().as_bytes()),
+        EthernetGetting::Ethertype => frame.ethertype().number().into(),
+    }
+}

@@ -1,0 +1,21 @@
+use Rattle.std.proofs.Common.{◌≡◌, ◌≤◌, ◌∙◌, ℕ, List, length, arith, subst, sym}
+use Rattle.wire_field.proofs.Spelled.{AreBytes}
+use Rattle.wire_ipv4.specs.Ipv4.{HasChecksum, header_len, packet_bytes_mut}
+use Rattle.wire_ipv4.proofs.Ipv4Numbers.{filled, shape-filled}
+use Rattle.wire_ipv4.proofs.Ipv4Updated.{valid-filled}
+use Rattle.wire_ipv4.proofs.laws.fill_checksum_writes_one_field_ipv4.Goals as goal
+
+pub verify_checksum-requires : goal.verify_checksum-requires
+verify_checksum-requires c =
+    let (long, header) = shape-filled (packet_bytes_mut c.args.packet.now) c.requires.least in
+    let some : 1 ≤ length (packet_bytes_mut c.fill_checksum.new.self) = subst (λ (l : List ℕ). 1 ≤ length l) (sym c.fill_checksum.ensures.holds) (omega (arith, long, c.requires.least)) in
+    let room : header_len (packet_bytes_mut c.fill_checksum.new.self) ≤ length (packet_bytes_mut c.fill_checksum.new.self) =
+    subst (λ (l : List ℕ). header_len l ≤ length l) (sym c.fill_checksum.ensures.holds) (omega (arith, long, header, c.requires.header)) in
+    record { field = some; header = room }
+
+pub returns : goal.returns
+returns c =
+    let bytes = packet_bytes_mut c.args.packet.now in
+    let octets = subst AreBytes c.as_bytes.ensures c.octets_fit.ensures in
+    let valid = subst HasChecksum (sym c.fill_checksum.ensures.holds) (valid-filled (packet_bytes_mut c.args.packet.now) octets c.requires.least c.requires.field c.requires.header) in
+    record { written = c.fill_checksum.ensures.holds ∙ filled bytes octets c.requires.least; valid = valid; verified = c.verify_checksum.ensures.1 valid }
