@@ -73,6 +73,19 @@ pub fn no_more_bytes_udp(
     ensures { length (bytes_of value payload.now src_addr dst_addr computed) ≤ length bytes.now }
 {}
 
+/// A parsed payload is no longer than the longest one that a header can state.
+pub fn read_payload_fits_udp(
+    bytes: &[u8],
+    src_addr: IpAddress,
+    dst_addr: IpAddress,
+    verified: bool,
+    value: UdpRepr,
+    payload: &[u8],
+)
+    requires { Reads bytes.now src_addr dst_addr verified value payload.now }
+    ensures { length payload.now ≤ max_payload_len }
+{}
+
 /// A checksum that `fill_checksum` wrote is valid, and the packet parses as the same value with it.
 pub fn filled_checksum_verifies_udp(bytes: &[u8], src_addr: IpAddress, dst_addr: IpAddress)
     requires lengths { HasLengths bytes.now }

@@ -1,20 +1,25 @@
 //! What the constants are. A clause names a constant that is a number or a plain struct; one whose type
 //! has a Model is handed out, and the clause is on the result.
 
-ghost use Rattle.std.specs.Prelude.{◌≡◌, ◌∷◌, []};
+ghost use Rattle.std.specs.Prelude.{◌≡◌, ◌∷◌, [], None, replicate};
+ghost use Rattle.net_base.specs.Checksum.{all_are};
+ghost use Rattle.net_base.specs.declared.Checksum.TheVariants as checksum;
 ghost use Rattle.wire_addr.specs.Class.{ipv6_block};
 ghost use Rattle.wire_addr.specs.Octets.{octets_of};
+ghost use Rattle.wire_tcp_parts.specs.TcpSeq.{number};
 
+use net_base::ChecksumCapabilities;
 use wire_addr::{
     EthernetAddress, IPV4_MULTICAST_ALL_ROUTERS, IPV4_MULTICAST_ALL_SYSTEMS, IPV6_ADDR_SIZE,
     IPV6_LINK_LOCAL_ALL_MLDV2_ROUTERS, IPV6_LINK_LOCAL_ALL_NODES, IPV6_LINK_LOCAL_ALL_ROUTERS,
     IPV6_LINK_LOCAL_ALL_RPL_NODES, Ipv4Address, Ipv6Address, Ipv6Cidr, MAX_HARDWARE_ADDRESS_LEN,
 };
+use wire_ends::IpListenEndpoint;
 use wire_ethernet::ETHERNET_HEADER_LEN;
 use wire_ipv4::{IPV4_HEADER_LEN, IPV4_MAX_PAYLOAD_LEN, IPV4_MIN_MTU};
 use wire_ipv6::{IPV6_HEADER_LEN, IPV6_MAX_PAYLOAD_LEN, IPV6_MIN_MTU};
 use wire_tcp::{TCP_HEADER_LEN, TCP_MAX_HEADER_LEN};
-use wire_tcp_parts::SACK_BLOCKS;
+use wire_tcp_parts::{SACK_BLOCKS, TcpSeqNumber};
 use wire_udp::{UDP_HEADER_LEN, UDP_MAX_PAYLOAD_LEN};
 
 /// The lengths in octets: of headers without options, of the longest payloads, of addresses, and of the
@@ -84,4 +89,26 @@ pub fn constant_blocks() -> [Ipv6Cidr; 2]
         ∷ [] }
 {
     [Ipv6Cidr::LINK_LOCAL_PREFIX, Ipv6Cidr::SOLICITED_NODE_PREFIX]
+}
+
+/// The default values: an Ethernet address of zeros, every checksum verified and computed, a listening
+/// endpoint with port 0 for every address, and sequence number 0.
+pub fn constant_defaults() -> (
+    EthernetAddress,
+    ChecksumCapabilities,
+    IpListenEndpoint,
+    TcpSeqNumber,
+)
+    ensures ethernet_address { result.0.0 ≡ replicate 6 0 }
+    ensures checksums { result.1 ≡ all_are checksum.Both }
+    ensures address { result.2.addr ≡ None }
+    ensures port { result.2.port ≡ 0 }
+    ensures seq_number { number result.3 ≡ 0 }
+{
+    (
+        EthernetAddress::default(),
+        ChecksumCapabilities::default(),
+        IpListenEndpoint::default(),
+        TcpSeqNumber::default(),
+    )
 }
