@@ -1,11 +1,12 @@
 #!/usr/bin/env python3
-"""Compares the calls and structs of c/ip_wire.h with the sources of the C library.
+"""Compares the calls, structs and enums of c/ip_wire.h with the sources of the C library.
 
     tests/c_calls.py [TOP]
 
 Each call of the header must be a function of ip_wire_c or c/cpu.c with the same types, and the other way round. Each struct
-must have the same fields in the same order. Each name `lk_..` in README.md and docs/ must be in the header. Differences are
-printed, and the status is 1 then. TOP is the top of the repository. tests/install compares the header with the man page.
+must have the same fields in the same order, and each enum the same names and numbers. Each name `lk_..` in README.md and
+docs/ must be in the header. Differences are printed, and the status is 1 then. TOP is the top of the repository.
+tests/install compares the header with the man page.
 """
 import glob
 import os
@@ -18,6 +19,8 @@ NUMBERS = {"u8": "uint8_t", "u16": "uint16_t", "u32": "uint32_t", "i32": "int", 
 SAME = {"char": "uint8_t", "int32_t": "int"}
 # The field has another name in Rattle, because `type` is a keyword.
 FIELDS = {"ethertype": "type"}
+# The flags of a TCP header, from bit 0 on (RFC 9293, section 3.1).
+TCP_FLAGS = ("FIN", "SYN", "RST", "PSH", "ACK", "URG", "ECE", "CWR")
 
 
 def read(path):
@@ -46,6 +49,15 @@ def c_structs(text):
     """Each struct as a name with its fields: name, type and length of an array."""
     for name, body in re.findall(r"struct (lk_\w+) {(.*?)};", without_comments(text), re.S):
         yield name, re.findall(r"(\S[\w ]*?(?: \*)?) ?\b(\w+)(?:\[(\d+)\])?;", body)
+
+
+def c_enums(text):
+    """Each enum as a name with its names and numbers."""
+    for name, body in re.findall(r"enum (lk_\w+) {(.*?)}", without_comments(text), re.S):
+        numbers = {}
+        for word, number in re.findall(r"(\w+)(?: = (\d+))?", body):
+            numbers[word] = int(number) if number else max(numbers.values(), default=-1) + 1
+        yield name, numbers
 
 
 class Library:
@@ -90,6 +102,16 @@ class Library:
                 fields = [field for member in item.members for field in self.fields(member.text)]
                 yield self.name(item.name).removeprefix("struct "), fields
 
+    def enums(self):
+        yield "lk_tcp_flag", {"LK_" + flag: 1 << bit for bit, flag in enumerate(TCP_FLAGS)}
+        for item in self.items:
+            found = re.match(r"`enum (lk_\w+)`", " ".join(item.docs)) if item.kind == "enum" else None
+            if found:
+                name = found.group(1)
+                nothing = "NO_CHECKSUM" if name == "lk_verdict" else "NO_" + name.removeprefix("lk_").upper()
+                words = [re.sub(r"\B([A-Z])", r"_\1", member.text).upper() for member in item.members]
+                yield name, {"LK_" + (nothing if word == "NONE" else word): number for number, word in enumerate(words)}
+
     def fields(self, member):
         """The fields in C of a public field: a slice is a pointer and a count."""
         declared = re.fullmatch(r"pub (\w+): (?:\[(\w+); (\w+)\]|&'\w+ \[(\w+)\]|(\w+))", member)
@@ -124,6 +146,7 @@ def main(top):
     found = [
         *differences(calls, [*sources.calls(), *c_calls(read(top + "/c/cpu.c"))]),
         *differences(c_structs(header), sources.structs()),
+        *differences(c_enums(header), sources.enums()),
         *unknown_names(top, header),
     ]
     print("".join(line + "\n" for line in found), end="")

@@ -138,9 +138,9 @@ def send_tcp(process, *devices):
     sides = [Side(place, device) for place, device in zip(("self", process), devices)]
 
     def exchange(family, address):
+        for side in sides:
+            side.forget()
         for length in [0, 1, 1460, 1461] + [random.randrange(5000) for _ in range(20)]:
-            for side in sides:
-                side.forget()
             data = random.randbytes(length)
             check("TCP through the bridge", echoed(family, address, data) == data, (address, length))
             compare_kernel_frames(*sides)
@@ -159,8 +159,9 @@ def compare_kernel_frames(left, right):
         is_more = left.take(0.02) | right.take(0.02)
         if not is_more and len(left.handed) == len(right.came_out) and len(right.handed) == len(left.came_out):
             break
-    compare_frames("frame of the kernel", left.handed, right.came_out)
-    compare_frames("frame of the kernel", right.handed, left.came_out)
+    for here, there in ((left, right), (right, left)):
+        compare_frames("frame of the kernel", here.handed, there.came_out)
+        here.handed, there.came_out = [], []
 
 
 def sack_ranges():

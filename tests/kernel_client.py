@@ -19,9 +19,12 @@ from packets import word_sum
 
 HOST_HARDWARE = bytes.fromhex("02000000aa07")
 HOSTS = ((socket.AF_INET, "10.77.0.1", "10.77.0.2"), (socket.AF_INET6, "fd77::1", "fd77::2"))
-ECHO, CLOSED, PROBE, MTU = 7, 9, 39999, 1500
+ECHO, CLOSED, MTU = 7, 9, 1500
+# The ports of frames that are built here. The kernel gives no socket a port below 32768 by itself.
+PROBE, UDP_CLIENT, TCP_CLIENT, SYN_CLIENT = 19999, 20000, 21000, 22000
 UDP, TCP = socket.IPPROTO_UDP, socket.IPPROTO_TCP
 LATEST = 5  # seconds
+MOST_WRONG = 10
 FIN, SYN, RST, ACK = 1, 2, 4, 16
 # Counters of /proc/net/snmp, netstat and snmp6 that must stay 0.
 ERRORS = ("InErrors", "InErrs", "InCsumErrors", "InHdrErrors", "InTruncatedPkts")
@@ -34,6 +37,8 @@ def check(kind, holds, what=""):
     if not holds:
         wrong.append(kind)
         print(f"tests/kernel: wrong: {kind} {what}", file=sys.stderr)
+        if len(wrong) == MOST_WRONG:
+            sys.exit(f"tests/kernel: wrong {MOST_WRONG} times")
 
 
 def kernel_counters():
@@ -240,8 +245,8 @@ def wire_udp(wire):
     """What the host answers, and what it drops."""
     for n in range(10):
         data = random.randbytes(random.randrange(1, 64))
-        body = struct.pack(">HHHH", 40000 + n, ECHO, 8 + len(data), 0) + data
-        reply = wire.reply(UDP, struct.pack(">HHHH", ECHO, 40000 + n, 8 + len(data), 0) + data)
+        body = struct.pack(">HHHH", UDP_CLIENT + n, ECHO, 8 + len(data), 0) + data
+        reply = wire.reply(UDP, struct.pack(">HHHH", ECHO, UDP_CLIENT + n, 8 + len(data), 0) + data)
 
         def udp(**faults):
             return wire.frame(UDP, body, **faults)
@@ -277,7 +282,7 @@ def options_of(answer):
 def wire_syn(wire):
     """A SYN with each set of options, and what of them the answer has."""
     for chosen in range(16):
-        seq, stamp, port = random.randrange(2**32), random.randbytes(4), 42000 + chosen
+        seq, stamp, port = random.randrange(2**32), random.randbytes(4), SYN_CLIENT + chosen
         options = b"\x02\x04\x05\xb4" * (chosen & 1) + b"\x01\x03\x03\x07" * (chosen >> 1 & 1)
         options += b"\x04\x02\x01\x01" * (chosen >> 2 & 1) + (b"\x01\x01\x08\x0a" + stamp + bytes(4)) * (chosen >> 3 & 1)
         got = wire.answer(wire.frame(TCP, segment(port, seq, 0, SYN, options))) or bytes(94)
@@ -302,10 +307,10 @@ def wire_reset(wire):
         is_ignored = flags & RST or (wire.is_proved and flags & SYN and flags & FIN)
         for data in (b"", b"abc"):
             seq, ack = random.randrange(2**32), random.randrange(2**32)
-            got = wire.answer(wire.frame(TCP, segment(41000, seq, ack, flags, data=data, to=CLOSED)))
+            got = wire.answer(wire.frame(TCP, segment(TCP_CLIENT, seq, ack, flags, data=data, to=CLOSED)))
             length = len(data) + (flags & SYN > 0) + (flags & FIN > 0)
             numbers = (ack, 0, RST) if flags & ACK else (0, (seq + length) % 2**32, RST | ACK)
-            expected = None if is_ignored else wire.reply(TCP, segment(CLOSED, *numbers, to=41000, window=0))
+            expected = None if is_ignored else wire.reply(TCP, segment(CLOSED, *numbers, to=TCP_CLIENT, window=0))
             check("RST", got == expected, (wire.version, flags, got and got.hex()))
 
 
