@@ -1,8 +1,13 @@
-//! Laws of the checksum. A law states a fact about definitions; its body does nothing.
+//! Laws of the checksum. A law states a fact about definitions, and its body does nothing.
+//! `pseudo_header_by_version` compares calls: its body makes them.
 
-ghost use Rattle.std.specs.Prelude.{◌≡◌, ◌+◌, ◌*◌, ◌++◌, ◌%◌, ◌<◌, ◌≤◌, ◌∷◌, [], length, sum};
+ghost use Rattle.std.specs.Prelude.{◌≡◌, ◌+◌, ◌*◌, ◌++◌, ◌%◌, ◌<◌, ◌≤◌, ◌∷◌, [], length, replicate, sum, true};
 ghost use Rattle.wire_checksum.specs.WordSum.{IsSum, sum_of, sum_of_bytes, updated, words};
 ghost use Rattle.wire_field.specs.Field.{field, with_field};
+
+use crate::checksum;
+use wire_addr::{Ipv4Address, Ipv6Address};
+use wire_ends::{IpAddress, IpProtocol};
 
 /// `IsSum` holds of exactly one number, and `sum_of_bytes` computes it.
 pub fn sum_is_one_number(bytes: &[u8], other: u16)
@@ -28,3 +33,32 @@ pub fn updated_checksum_verifies(bytes: &[u8], checksum: usize, place: usize, wo
         let sum = updated (field changed (16 * checksum) 16) (field bytes.now (16 * place) 16) word in
         sum_of_bytes (with_field changed (16 * checksum) 16 sum) ≡ 65535 }
 {}
+
+/// The sum of a pseudo-header of one version is that of either version. The result says of both versions
+/// whether they agree.
+pub fn pseudo_header_by_version(
+    ipv4: [Ipv4Address; 2],
+    ipv6: [Ipv6Address; 2],
+    next_header: IpProtocol,
+    length: u32,
+) -> [bool; 2]
+    ensures { result ≡ replicate 2 true }
+{
+    let [src, dst] = ipv4;
+    let either = checksum::pseudo_header(
+        &IpAddress::Ipv4(src),
+        &IpAddress::Ipv4(dst),
+        next_header,
+        length,
+    );
+    let of_ipv4 = either == checksum::pseudo_header_v4(&src, &dst, next_header, length);
+    let [src, dst] = ipv6;
+    let either = checksum::pseudo_header(
+        &IpAddress::Ipv6(src),
+        &IpAddress::Ipv6(dst),
+        next_header,
+        length,
+    );
+    let of_ipv6 = either == checksum::pseudo_header_v6(&src, &dst, next_header, length);
+    [of_ipv4, of_ipv6]
+}
