@@ -64,9 +64,9 @@ def pong(v, payload=b"ping", dst_port=41319, src_port=ECHO, **frame):
     return replied(v, lambda src, dst: udp(payload, src_port, dst_port, src=src, dst=dst), UDP, **frame)
 
 
-def segment(v, flags=SYN, payload=b"", options=b"", src_port=60784, dst_port=OPEN, seq=SEQ, ack=ACKED, window=0xFAF0, urgent=0,
+def segment(v, control=SYN, payload=b"", options=b"", src_port=60784, dst_port=OPEN, seq=SEQ, ack=ACKED, window=0xFAF0, urgent=0,
             offset=None, checksum=None, **frame):
-    segment_of = lambda src, dst: tcp(payload, options, offset, flags, src_port, dst_port, seq, ack, window, checksum, urgent, src, dst)
+    segment_of = lambda src, dst: tcp(payload, options, offset, control, src_port, dst_port, seq, ack, window, checksum, urgent, src, dst)
     return framed(v, segment_of, TCP, **frame)
 
 
