@@ -220,6 +220,13 @@ pub fn getters_read_fields_ipv6_fragment(
     }
 }
 
+/// `check_len` accepts exactly the bytes that hold the header of a value.
+pub fn lengths_agree_ipv6_fragment(header: &Ipv6FragmentHeader<'_>, value: Ipv6FragmentRepr) -> bool
+    ensures { IsTrue result }
+{
+    header.check_len().is_ok() == (value.buffer_len() <= header.as_bytes().len())
+}
+
 /// A view, a view of that view and the slice taken out of it have the bytes that it was made of.
 /// `new_checked` accepts what `check_len` accepts.
 pub fn views_have_the_bytes_ipv6_fragment(bytes: &[u8]) -> bool
