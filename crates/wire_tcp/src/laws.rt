@@ -150,9 +150,9 @@ pub fn valid_checksum_reads_tcp(
         Reads bytes.now src_addr dst_addr true v payload ↔ (Reads bytes.now src_addr dst_addr false v payload × Verifies src_addr dst_addr bytes.now) }
 {}
 
-/// Writing one field changes one value, and no other. A flag is written beside no other one of SYN,
-/// FIN and RST. The reserved bits, NS, CWR, ECE, URG, the checksum and the urgent pointer are in no
-/// value. The checksum is not verified here.
+/// Writing one field changes one value, and no other. SYN, FIN, RST and PSH are written where no other
+/// one of SYN, FIN and RST is set. The reserved bits, NS, CWR, ECE, URG, the checksum and the urgent
+/// pointer are in no value. The checksum is not verified here.
 pub fn one_value_changes_tcp(
     bytes: &[u8],
     src_addr: IpAddress,
