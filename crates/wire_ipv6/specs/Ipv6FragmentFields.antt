@@ -1,7 +1,7 @@
 -- The fields of a fragment header behind its first two bytes, in the order of RFC 8200's diagram, and which of them each
 -- call reads or writes.
-use Rattle.std.specs.Prelude.{ℕ, if◌then◌else◌, List, [], ◌∷◌}
-use Rattle.wire_field.specs.Diagram.{nth_field, with_nth}
+use Rattle.std.specs.Prelude.{ℕ, List, [], ◌∷◌}
+use Rattle.wire_field.specs.Diagram.{flag, nth_field, with_nth}
 use Rattle.wire_ipv6.specs.declared.laws.Ipv6FragmentGetting.{Ipv6FragmentGetting}
 use Rattle.wire_ipv6.specs.declared.laws.Ipv6FragmentGetting.TheVariants as get
 use Rattle.wire_ipv6.specs.declared.laws.Ipv6FragmentSetting.{Ipv6FragmentSetting}
@@ -25,7 +25,7 @@ got getting = nth_field diagram (read_of getting)
 abbrev pub write_of : Ipv6FragmentSetting → ℕ × ℕ
 write_of (set.FragOffset x) = (0, x)
 write_of set.ClearReserved = (1, 0)
-write_of (set.MoreFrags x) = (2, if x then 1 else 0)
+write_of (set.MoreFrags x) = (2, flag x)
 write_of (set.Ident x) = (3, x)
 
 -- the bytes after a call of a setter

@@ -160,6 +160,18 @@ pub fn lengths_agree_ipv6(packet: &Ipv6Packet<'_>, value: Ipv6Repr) -> bool
         && packet.payload().len() == payload_len
 }
 
+/// A view, a view of that view and the slice taken out of it have the bytes that it was made of.
+/// `new_checked` accepts what `check_len` accepts.
+pub fn views_have_the_bytes_ipv6(bytes: &[u8]) -> bool
+    ensures { IsTrue result }
+{
+    let packet = Ipv6Packet::new_unchecked(bytes);
+    packet.as_bytes() == bytes
+        && packet.as_view().as_bytes() == bytes
+        && packet.into_inner() == bytes
+        && Ipv6Packet::new_checked(bytes).is_ok() == packet.check_len().is_ok()
+}
+
 /// A call that writes a fragment header.
 #[derive(Clone, Copy)]
 pub enum Ipv6FragmentSetting {
@@ -206,4 +218,23 @@ pub fn getters_read_fields_ipv6_fragment(
         Ipv6FragmentGetting::MoreFrags => header.more_frags().into(),
         Ipv6FragmentGetting::Ident => header.ident(),
     }
+}
+
+/// `check_len` accepts exactly the bytes that hold the header of a value.
+pub fn lengths_agree_ipv6_fragment(header: &Ipv6FragmentHeader<'_>, value: Ipv6FragmentRepr) -> bool
+    ensures { IsTrue result }
+{
+    header.check_len().is_ok() == (value.buffer_len() <= header.as_bytes().len())
+}
+
+/// A view, a view of that view and the slice taken out of it have the bytes that it was made of.
+/// `new_checked` accepts what `check_len` accepts.
+pub fn views_have_the_bytes_ipv6_fragment(bytes: &[u8]) -> bool
+    ensures { IsTrue result }
+{
+    let header = Ipv6FragmentHeader::new_unchecked(bytes);
+    header.as_bytes() == bytes
+        && header.as_view().as_bytes() == bytes
+        && header.into_inner() == bytes
+        && Ipv6FragmentHeader::new_checked(bytes).is_ok() == header.check_len().is_ok()
 }

@@ -3,7 +3,7 @@ use Rattle.std.specs.Prelude.{ℕ, ◌-◌, ◌*◌, ◌/◌, ◌==◌, if◌the
 use Rattle.wire_checksum.specs.WordSum.{sum_of_bytes, updated}
 use Rattle.wire_ends.specs.IpAddress.{octets_of}
 use Rattle.wire_ends.specs.declared.ip_address.IpAddress.{IpAddress}
-use Rattle.wire_field.specs.Diagram.{nth_field, with_nth}
+use Rattle.wire_field.specs.Diagram.{flag, nth_field, with_nth}
 use Rattle.wire_field.specs.Field.{with_field}
 use Rattle.wire_tcp.specs.Tcp.{segment_sum}
 use Rattle.wire_tcp_parts.specs.TcpSeq.{number}
@@ -55,15 +55,15 @@ write_of (set.DstPort x) = (1, x)
 write_of (set.SeqNumber x) = (2, number x)
 write_of (set.AckNumber x) = (3, number x)
 write_of (set.HeaderLen x) = (4, x / 4)
-write_of (set.Ns x) = (6, if x then 1 else 0)
-write_of (set.Cwr x) = (7, if x then 1 else 0)
-write_of (set.Ece x) = (8, if x then 1 else 0)
-write_of (set.Urg x) = (9, if x then 1 else 0)
-write_of (set.Ack x) = (10, if x then 1 else 0)
-write_of (set.Psh x) = (11, if x then 1 else 0)
-write_of (set.Rst x) = (12, if x then 1 else 0)
-write_of (set.Syn x) = (13, if x then 1 else 0)
-write_of (set.Fin x) = (14, if x then 1 else 0)
+write_of (set.Ns x) = (6, flag x)
+write_of (set.Cwr x) = (7, flag x)
+write_of (set.Ece x) = (8, flag x)
+write_of (set.Urg x) = (9, flag x)
+write_of (set.Ack x) = (10, flag x)
+write_of (set.Psh x) = (11, flag x)
+write_of (set.Rst x) = (12, flag x)
+write_of (set.Syn x) = (13, flag x)
+write_of (set.Fin x) = (14, flag x)
 write_of (set.WindowLen x) = (15, x)
 write_of (set.Checksum x) = (16, x)
 write_of (set.UrgentAt x) = (17, x)

@@ -12,6 +12,7 @@ ghost use Rattle.wire_tcp.specs.TcpFields.{address_after, address_before, after,
 use crate::tcp::{TCP_HEADER_LEN, TcpPacket, TcpPacketMut, TcpRepr};
 use net_base::ChecksumCapabilities;
 use wire_ends::IpAddress;
+use wire_field::laws::octets_fit;
 use wire_tcp_parts::{TcpControl, TcpSeqNumber};
 
 /// The emitted segment, in a buffer of exactly its length, parses as the value's normal form and
@@ -156,9 +157,9 @@ pub fn valid_checksum_reads_tcp(
         Reads bytes.now src_addr dst_addr true v payload ↔ (Reads bytes.now src_addr dst_addr false v payload × Verifies src_addr dst_addr bytes.now) }
 {}
 
-/// Writing one field changes one value, and no other. A flag is written beside no other one of SYN,
-/// FIN and RST. The reserved bits, NS, CWR, ECE, URG, the checksum and the urgent pointer are in no
-/// value. The checksum is not verified here.
+/// Writing one field changes one value, and no other. SYN, FIN, RST and PSH are written where no other
+/// one of SYN, FIN and RST is set. The reserved bits, NS, CWR, ECE, URG, the checksum and the urgent
+/// pointer are in no value. The checksum is not verified here.
 pub fn one_value_changes_tcp(
     bytes: &[u8],
     src_addr: IpAddress,
@@ -349,6 +350,7 @@ pub fn fill_checksum_writes_one_field_tcp(
     ensures fields { packet_bytes_mut packet.new ≡ after_fill src_addr dst_addr (packet_bytes_mut packet.old) }
     ensures valid { Verifies src_addr dst_addr (packet_bytes_mut packet.new) }
 {
+    octets_fit(packet.as_bytes());
     packet.fill_checksum(&src_addr, &dst_addr);
 }
 
@@ -364,6 +366,18 @@ pub fn lengths_agree_tcp(packet: &TcpPacket<'_>) -> bool
     header_len == TCP_HEADER_LEN + packet.options().len()
         && packet.as_bytes().len() == header_len + payload_len
         && packet.segment_len() == payload_len + flags
+}
+
+/// A view, a view of that view and the slice taken out of it have the bytes that it was made of.
+/// `new_checked` accepts what `check_len` accepts.
+pub fn views_have_the_bytes_tcp(bytes: &[u8]) -> bool
+    ensures { IsTrue result }
+{
+    let packet = TcpPacket::new_unchecked(bytes);
+    packet.as_bytes() == bytes
+        && packet.as_view().as_bytes() == bytes
+        && packet.into_inner() == bytes
+        && TcpPacket::new_checked(bytes).is_ok() == packet.check_len().is_ok()
 }
 
 /// A parsed value uses as many sequence numbers as its segment.

@@ -229,6 +229,18 @@ pub fn lengths_agree_udp(packet: &UdpPacket<'_>, value: UdpRepr) -> bool
         && usize::from(packet.len()) == UDP_HEADER_LEN + packet.payload().len()
 }
 
+/// A view, a view of that view and the slice taken out of it have the bytes that it was made of.
+/// `new_checked` accepts what `check_len` accepts.
+pub fn views_have_the_bytes_udp(bytes: &[u8]) -> bool
+    ensures { IsTrue result }
+{
+    let packet = UdpPacket::new_unchecked(bytes);
+    packet.as_bytes() == bytes
+        && packet.as_view().as_bytes() == bytes
+        && packet.into_inner() == bytes
+        && UdpPacket::new_checked(bytes).is_ok() == packet.check_len().is_ok()
+}
+
 /// A checksum is valid if it verifies, except 0 over IPv6.
 pub fn checksum_verdicts_agree_udp(
     packet: &UdpPacket<'_>,
