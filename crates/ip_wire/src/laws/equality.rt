@@ -9,8 +9,10 @@ use wire_addr::{
     Ipv6MulticastScope, RawHardwareAddress,
 };
 use wire_arp::ArpRepr;
+use wire_ends::laws::ip_protocol_order;
 use wire_ethernet::EthernetRepr;
-use wire_ipv6::Ipv6FragmentRepr;
+use wire_ipv4::{Ipv4FragKey, Ipv4Repr};
+use wire_ipv6::{Ipv6FragmentRepr, Ipv6Repr};
 use wire_tcp_parts::{TcpControl, TcpSeqNumber, TcpTimestampRepr};
 use wire_udp::UdpRepr;
 
@@ -49,3 +51,27 @@ pub fn eq_is_equality_capabilities(a: ChecksumCapabilities, b: ChecksumCapabilit
 pub fn eq_is_equality_raw(a: RawHardwareAddress, b: RawHardwareAddress)
     ensures { (⟦<RawHardwareAddress as PartialEq>⟧.eq a b ≡ true) ↔ (a ≡ b) }
 {}
+
+/// The same of `Ipv4Repr`.
+pub fn eq_is_equality_ipv4(a: Ipv4Repr, b: Ipv4Repr)
+    ensures { (⟦<Ipv4Repr as PartialEq>⟧.eq a b ≡ true) ↔ (a ≡ b) }
+{
+    eq_is_equality();
+    ip_protocol_order(a.next_header, b.next_header);
+}
+
+/// The same of `Ipv6Repr`.
+pub fn eq_is_equality_ipv6(a: Ipv6Repr, b: Ipv6Repr)
+    ensures { (⟦<Ipv6Repr as PartialEq>⟧.eq a b ≡ true) ↔ (a ≡ b) }
+{
+    eq_is_equality();
+    ip_protocol_order(a.next_header, b.next_header);
+}
+
+/// The same of `Ipv4FragKey`.
+pub fn eq_is_equality_frag_key(a: Ipv4FragKey, b: Ipv4FragKey)
+    ensures { (⟦<Ipv4FragKey as PartialEq>⟧.eq a b ≡ true) ↔ (a ≡ b) }
+{
+    eq_is_equality();
+    ip_protocol_order(a.protocol, b.protocol);
+}
