@@ -4,6 +4,7 @@
 #![tactic(auto)]
 
 pub mod emit;
+pub mod equality;
 pub mod frames;
 pub mod rewrites;
 pub mod texts;
