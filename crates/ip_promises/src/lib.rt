@@ -7,5 +7,7 @@ pub mod emit;
 pub mod equality;
 pub mod frames;
 pub mod rewrites;
+#[cfg(test)]
+mod tests;
 pub mod texts;
 pub mod values;
