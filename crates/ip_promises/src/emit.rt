@@ -1,7 +1,7 @@
 //! `emit` writes exactly the bytes of a value, over any old bytes, and leaves all others. The view is
 //! gone afterwards, and its buffer holds what was written.
 
-ghost use Rattle.std.specs.Prelude.{◌≡◌, ◌+◌, ◌≤◌, ◌++◌, drop, length};
+ghost use Rattle.std.specs.Prelude.{◌≡◌, ◌+◌, ◌≤◌, ◌++◌, [], drop, length};
 ghost use Rattle.net_base.specs.Checksum.{computes};
 ghost use Rattle.ip_wire.specs.Arp as arp;
 ghost use Rattle.ip_wire.specs.Ethernet as ethernet;
@@ -105,4 +105,21 @@ pub fn emit_tcp(
         dst_addr,
         caps,
     );
+}
+
+/// Writes a TCP segment to a buffer of its length.
+pub fn emit_tcp_alone(
+    value: &TcpRepr<'_>,
+    src_addr: &IpAddress,
+    dst_addr: &IpAddress,
+    buffer: &mut [u8],
+    caps: &ChecksumCapabilities,
+)
+    requires header_len { tcp.header_len_of (tcp.header_of value.now) ≤ 60 }
+    requires room { length buffer.old ≡ tcp.header_len_of (tcp.header_of value.now) + length value.now.payload.now }
+    requires family { version_of src_addr.now ≡ version_of dst_addr.now }
+    ensures { let v = tcp.header_of value.now in let payload = value.now.payload.now in
+        buffer.new ≡ tcp.bytes_of v payload src_addr.now dst_addr.now (computes caps.now.tcp) [] }
+{
+    emit_tcp(value, src_addr, dst_addr, buffer, caps);
 }

@@ -4,7 +4,10 @@
 #![tactic(auto)]
 
 pub mod emit;
+pub mod equality;
 pub mod frames;
 pub mod rewrites;
+#[cfg(test)]
+mod tests;
 pub mod texts;
 pub mod values;
