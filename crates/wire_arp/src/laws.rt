@@ -1,6 +1,6 @@
 //! Laws of this crate. A law states a fact about definitions, or about the calls in its body.
 
-ghost use Rattle.std.specs.Prelude.{◌≡◌, ◌↔◌, ◌++◌, ◌≤◌, Some, length, true};
+ghost use Rattle.std.specs.Prelude.{◌≡◌, ◌↔◌, ◌++◌, ◌≤◌, IsTrue, Some, length, true};
 ghost use Rattle.wire_addr.specs.Order.{named_cmp};
 ghost use Rattle.wire_field.specs.Diagram.{nth_field};
 ghost use Rattle.wire_arp.specs.Arp.{HasLengths, Reads, arp_of, bytes_of, hardware_number, is_unknown_hardware, is_unknown_operation, normal, operation_number, packet_bytes, packet_bytes_mut};
@@ -169,4 +169,16 @@ pub fn mutable_address_getters_read_fields_arp<'a>(
         ArpAddressGetting::TargetHardwareAddr => packet.target_hardware_addr(),
         ArpAddressGetting::TargetProtocolAddr => packet.target_protocol_addr(),
     }
+}
+
+/// A view, a view of that view and the slice taken out of it have the bytes that it was made of.
+/// `new_checked` accepts what `check_len` accepts.
+pub fn views_have_the_bytes_arp(bytes: &[u8]) -> bool
+    ensures { IsTrue result }
+{
+    let packet = ArpPacket::new_unchecked(bytes);
+    packet.as_bytes() == bytes
+        && packet.as_view().as_bytes() == bytes
+        && packet.into_inner() == bytes
+        && ArpPacket::new_checked(bytes).is_ok() == packet.check_len().is_ok()
 }

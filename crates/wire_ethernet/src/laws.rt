@@ -1,6 +1,6 @@
 //! Laws of this crate. A law states a fact about definitions, or about the calls in its body.
 
-ghost use Rattle.std.specs.Prelude.{◌≡◌, ◌↔◌, ◌++◌, ◌≤◌, Some, length, true};
+ghost use Rattle.std.specs.Prelude.{◌≡◌, ◌↔◌, ◌++◌, ◌≤◌, IsTrue, Some, length, true};
 ghost use Rattle.wire_addr.specs.Order.{named_cmp};
 ghost use Rattle.wire_ethernet.specs.Ethernet.{Reads, bytes_of, ethernet_of, frame_bytes, frame_bytes_mut, is_unknown, normal, number_of};
 ghost use Rattle.wire_ethernet.specs.EthernetFields.{after, got};
@@ -90,4 +90,16 @@ pub fn getters_read_fields_ethernet(frame: &EthernetFrame<'_>, getting: Ethernet
         EthernetGetting::SrcAddr => NetworkEndian::read_u48(frame.src_addr().as_bytes()),
         EthernetGetting::Ethertype => frame.ethertype().number().into(),
     }
+}
+
+/// A view, a view of that view and the slice taken out of it have the bytes that it was made of.
+/// `new_checked` accepts what `check_len` accepts.
+pub fn views_have_the_bytes_ethernet(bytes: &[u8]) -> bool
+    ensures { IsTrue result }
+{
+    let frame = EthernetFrame::new_unchecked(bytes);
+    frame.as_bytes() == bytes
+        && frame.as_view().as_bytes() == bytes
+        && frame.into_inner() == bytes
+        && EthernetFrame::new_checked(bytes).is_ok() == frame.check_len().is_ok()
 }
