@@ -11,6 +11,7 @@ use wire_addr::{
 use wire_arp::ArpRepr;
 use wire_ends::laws::ip_protocol_order;
 use wire_ethernet::EthernetRepr;
+use wire_ip::IpRepr;
 use wire_ipv4::{Ipv4FragKey, Ipv4Repr};
 use wire_ipv6::{Ipv6FragmentRepr, Ipv6Repr};
 use wire_tcp_parts::{TcpControl, TcpSeqNumber, TcpTimestampRepr};
@@ -74,4 +75,20 @@ pub fn eq_is_equality_frag_key(a: Ipv4FragKey, b: Ipv4FragKey)
 {
     eq_is_equality();
     ip_protocol_order(a.protocol, b.protocol);
+}
+
+/// The same of `IpRepr`.
+pub fn eq_is_equality_ip(a: IpRepr, b: IpRepr)
+    ensures { (⟦<IpRepr as PartialEq>⟧.eq a b ≡ true) ↔ (a ≡ b) }
+{
+    match a {
+        IpRepr::Ipv4(a) => match b {
+            IpRepr::Ipv4(b) => eq_is_equality_ipv4(a, b),
+            IpRepr::Ipv6(_) => {}
+        },
+        IpRepr::Ipv6(a) => match b {
+            IpRepr::Ipv6(b) => eq_is_equality_ipv6(a, b),
+            IpRepr::Ipv4(_) => {}
+        },
+    }
 }

@@ -1,4 +1,4 @@
-use Rattle.std.proofs.Common.{◌≡◌, ap}
+use Rattle.std.proofs.Common.{ap}
 use Rattle.ip_wire.proofs.Equalities.{both, numbers}
 use Rattle.wire_ipv4.specs.declared.Ipv4FragKey.{Ipv4FragKey}
 use Rattle.ip_wire.proofs.laws.equality.eq_is_equality_frag_key.Goals as goal

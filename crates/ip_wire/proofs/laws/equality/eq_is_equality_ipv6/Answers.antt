@@ -1,4 +1,4 @@
-use Rattle.std.proofs.Common.{◌≡◌, ap}
+use Rattle.std.proofs.Common.{ap}
 use Rattle.ip_wire.proofs.Equalities.{both, numbers}
 use Rattle.wire_ipv6.specs.declared.Ipv6Repr.{Ipv6Repr}
 use Rattle.ip_wire.proofs.laws.equality.eq_is_equality_ipv6.Goals as goal
