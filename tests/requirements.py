@@ -114,8 +114,8 @@ def is_test(name):
         return os.path.exists(f"tests/calls/{rest}.call") and os.path.exists(f"tests/calls/{rest}.txt")
     if name.startswith("wrong "):
         *crate, edit = name[len("wrong ") :].split("/")
-        found = glob.glob(f"crates/{crate[0] if crate else '*'}/must-fail/{edit}.edit")
-        return bool(found) and all(os.path.exists(path.replace("must-fail", "controls")) for path in found)
+        controls = glob.glob(f"crates/{crate[0] if crate else '*'}/controls/{edit}.edit")
+        return any(os.path.exists(path.replace("controls", kind)) for path in controls for kind in ("must-fail", "wrong-bodies"))
     if name.startswith("tests/all/"):
         # It is defined, and used.
         return len(re.findall(rf"\b{name.split('/')[2]}\b", read("tests/all"))) > 1
