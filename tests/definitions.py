@@ -13,19 +13,14 @@ import os
 import re
 import sys
 
-TESTS = {"addr": "addr_tests", "link": "link_tests", "ip": "ip_tests", "transport": "transport_tests"}
+TESTS = {name: name + "_tests" for name in ("addr", "link", "ip", "transport", "use")}
 PINS = {
-    "replies": "crates/ip_replies/src/tests/{}.rt",
-    "forward": "crates/ip_forward/src/tests/{}.rt",
-    "nat": "crates/ip_nat/src/tests/{}.rt",
     "cases": "tests/cases/{}.hex",
     "calls": "tests/calls/{}.call",
     "tests": "tests/{}",
 } | {pin: "crates/" + crate + "/src/tests/{}.rt" for pin, crate in TESTS.items()}
 FILES = {
-    "uses": "crates/ip_uses/src/tests.rt",
     "devices": "crates/ip_frames/src/tests/devices.rt",
-    "host": "crates/ip_host/src/tests.rt",
 }
 
 

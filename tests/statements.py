@@ -22,7 +22,7 @@ TOP = os.path.dirname(os.path.dirname(os.path.abspath(__file__)))
 FOLDER = "docs/statements"
 RENEW = "tests/statements.py --write"
 # Crates that only have tests.
-LEFT_OUT = {"test_support", "addr_tests", "link_tests", "ip_tests", "transport_tests"}
+LEFT_OUT = {"test_support", "addr_tests", "link_tests", "ip_tests", "transport_tests", "use_tests"}
 # Attributes that change no statement.
 PLAIN = re.compile(r"(?:inline|allow|tactic|must_use|cold)\b")
 SHOWN = 40

@@ -2,7 +2,5 @@
 #![tactic(auto)]
 
 mod router;
-#[cfg(test)]
-mod tests;
 
 pub use router::{Rejection, forward};

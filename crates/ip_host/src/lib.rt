@@ -4,7 +4,5 @@
 
 mod host;
 pub mod laws;
-#[cfg(test)]
-mod tests;
 
 pub use host::{Host, answer, reply};

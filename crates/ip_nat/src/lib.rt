@@ -3,7 +3,5 @@
 
 pub mod laws;
 mod nat;
-#[cfg(test)]
-mod tests;
 
 pub use nat::{Rejection, Side, translate};

@@ -7,7 +7,5 @@ pub mod emit;
 pub mod equality;
 pub mod frames;
 pub mod rewrites;
-#[cfg(test)]
-mod tests;
 pub mod texts;
 pub mod values;

@@ -7,8 +7,6 @@ mod emit;
 mod interface;
 pub mod tcp_answer;
 pub mod tcp_reply;
-#[cfg(test)]
-mod tests;
 pub mod udp_echo;
 
 pub use emit::send;

@@ -5,7 +5,5 @@ pub mod allow_list;
 pub mod flow_key;
 pub mod read_frame;
 pub mod route;
-#[cfg(test)]
-mod tests;
 pub mod verify_checksum;
 pub mod write_frame;

@@ -1,12 +1,12 @@
 //! A call of each kind.
 
-use crate::frames::settles;
-use crate::texts::{
+use ip_promises::frames::settles;
+use ip_promises::texts::{
     print_then_parse_ethernet, print_then_parse_ip, print_then_parse_ip_cidr,
     print_then_parse_ip_endpoint, print_then_parse_ipv4, print_then_parse_ipv4_cidr,
     print_then_parse_ipv6, print_then_parse_ipv6_cidr,
 };
-use crate::values::emit_then_parse_udp;
+use ip_promises::values::emit_then_parse_udp;
 use ip_wire::{
     EthernetAddress, IpAddress, IpCidr, IpEndpoint, Ipv4Address, Ipv4Cidr, Ipv6Address, Ipv6Cidr,
     UdpRepr,

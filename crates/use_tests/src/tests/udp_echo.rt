@@ -1,21 +1,8 @@
 //! The echo service.
 
+use super::captured::{ECHO_REPLY, ECHO_REQUEST};
 use super::ours;
-use crate::udp_echo::answer;
-
-/// A request over IPv4 as Linux sent it, with its UDP checksum completed.
-const REQUEST: [u8; 46] = [
-    0x02, 0x00, 0x00, 0x00, 0x00, 0x02, 0x02, 0x00, 0x00, 0x00, 0x00, 0x01, 0x08, 0x00, 0x45, 0x00,
-    0x00, 0x20, 0x21, 0x60, 0x40, 0x00, 0x40, 0x11, 0x95, 0x69, 0xc0, 0x00, 0x02, 0x01, 0xc0, 0x00,
-    0x02, 0x02, 0xa1, 0x67, 0x00, 0x07, 0x00, 0x0c, 0xfb, 0x92, 0x70, 0x69, 0x6e, 0x67,
-];
-
-/// The reply to it.
-const REPLY: [u8; 46] = [
-    0x02, 0x00, 0x00, 0x00, 0x00, 0x01, 0x02, 0x00, 0x00, 0x00, 0x00, 0x02, 0x08, 0x00, 0x45, 0x00,
-    0x00, 0x20, 0x00, 0x00, 0x40, 0x00, 0x40, 0x11, 0xb6, 0xc9, 0xc0, 0x00, 0x02, 0x02, 0xc0, 0x00,
-    0x02, 0x01, 0x00, 0x07, 0xa1, 0x67, 0x00, 0x0c, 0xfb, 0x92, 0x70, 0x69, 0x6e, 0x67,
-];
+use ip_replies::udp_echo::answer;
 
 /// A request over IPv6 as Linux sent it, with its checksum completed.
 const IPV6_REQUEST: [u8; 66] = [
@@ -38,11 +25,11 @@ const IPV6_REPLY: [u8; 66] = [
 #[test]
 fn echoes_a_packet(rt: HostRuntime) {
     let mut expected = [0xa5; 50];
-    expected[..46].copy_from_slice(&REPLY);
+    expected[..46].copy_from_slice(&ECHO_REPLY);
     let mut out = [0xa5; 50];
-    assert_eq!(rt; answer(&REQUEST, &ours(), 7, &mut out), Some(46));
+    assert_eq!(rt; answer(&ECHO_REQUEST, &ours(), 7, &mut out), Some(46));
     assert_eq!(rt; out, expected);
-    assert_eq!(rt; answer(&REQUEST, &ours(), 7, &mut out[..45]), None);
+    assert_eq!(rt; answer(&ECHO_REQUEST, &ours(), 7, &mut out[..45]), None);
     assert_eq!(rt; out, expected);
 }
 
@@ -59,7 +46,7 @@ fn echoes_a_packet_over_ipv6(rt: HostRuntime) {
 #[test]
 fn echoes_nothing_else(rt: HostRuntime) {
     let mut out = [0; 64];
-    let mut without = REQUEST;
+    let mut without = ECHO_REQUEST;
     without[40..42].copy_from_slice(&[0, 0]);
     assert_eq!(rt; answer(&without, &ours(), 7, &mut out), Some(46));
     for (at, octet) in [(5, 3), (6, 1), (37, 8), (29, 3)] {
@@ -72,12 +59,12 @@ fn echoes_nothing_else(rt: HostRuntime) {
         other[34..36].copy_from_slice(&[0, src_port]);
         assert_eq!(rt; answer(&other, &ours(), 7, &mut out), len);
     }
-    let mut wrong = REQUEST;
+    let mut wrong = ECHO_REQUEST;
     wrong[45] = 0x68;
     assert_eq!(rt; answer(&wrong, &ours(), 7, &mut out), None);
-    assert_eq!(rt; answer(&REQUEST, &ours(), 8, &mut out), None);
-    assert_eq!(rt; answer(&REPLY, &ours(), 7, &mut out), None);
-    assert_eq!(rt; answer(&REPLY[..13], &ours(), 7, &mut out), None);
+    assert_eq!(rt; answer(&ECHO_REQUEST, &ours(), 8, &mut out), None);
+    assert_eq!(rt; answer(&ECHO_REPLY, &ours(), 7, &mut out), None);
+    assert_eq!(rt; answer(&ECHO_REPLY[..13], &ours(), 7, &mut out), None);
     assert_eq!(rt; &out[46..], [0; 18].as_slice());
 }
 
@@ -92,7 +79,7 @@ fn echoes_to_one_host_alone(rt: HostRuntime) {
         ([0, 0, 0, 0], [0x57, 0x6b], None),
     ] {
         let mut out = [0; 64];
-        let mut other = REQUEST;
+        let mut other = ECHO_REQUEST;
         other[26..30].copy_from_slice(&src);
         other[24..26].copy_from_slice(&checksum);
         other[40..42].copy_from_slice(&[0, 0]);

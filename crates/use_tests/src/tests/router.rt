@@ -1,6 +1,6 @@
 //! One hop of a router. The expected frames have checksums that were computed anew.
 
-use crate::{Rejection, forward};
+use ip_forward::{Rejection, forward};
 use ip_wire::{EthernetAddress, Ipv4Packet};
 
 const SRC: EthernetAddress = EthernetAddress([0x02, 0x00, 0x00, 0x00, 0x00, 0x11]);

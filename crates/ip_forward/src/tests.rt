@@ -1,5 +1,0 @@
-//! Captured frames, forwarded and rejected.
-
-ghost use Rattle.std.specs.Prelude.{◌≡◌};
-
-mod router;

@@ -1,3 +1,0 @@
-//! Captured frames, translated and rejected.
-
-mod nat;
