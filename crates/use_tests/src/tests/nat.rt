@@ -1,6 +1,8 @@
 //! Translated frames. The checksums of the expected frames were computed by another
 //! program.
 
+ghost use Rattle.std.specs.Prelude.{◌≤◌, ◌≢◌, length};
+
 use super::captured::{DATA, SYN};
 use ip_nat::{Rejection, Side, translate};
 use ip_wire::Ipv4Address;
@@ -77,72 +79,66 @@ const PADDED_OUT: [u8; 56] = [
     0x6e, 0x67, 0xaa, 0xaa, 0xaa, 0xaa, 0xaa, 0xaa,
 ];
 
+/// The result of a translation, and the frame behind it in a buffer of zeros.
+fn translated(
+    bytes: &[u8],
+    side: Side,
+    addr: Ipv4Address,
+    port: u16,
+) -> (Result<(), Rejection>, [u8; 80])
+    requires room { length bytes.now ≤ 80 }
+    requires port { port ≢ 0 }
+{
+    let mut buffer = [0; 80];
+    buffer[..bytes.len()].copy_from_slice(bytes);
+    let result = translate(&mut buffer[..bytes.len()], side, addr, port);
+    (result, buffer)
+}
+
+/// These bytes in a buffer of zeros.
+fn padded(bytes: &[u8]) -> [u8; 80]
+    requires { length bytes.now ≤ 80 }
+{
+    let mut buffer = [0; 80];
+    buffer[..bytes.len()].copy_from_slice(bytes);
+    buffer
+}
+
 #[test]
 fn translates_out_and_in(rt: HostRuntime) {
-    let mut frame = UDP;
-    assert_eq!(rt;
-        translate(&mut frame, Side::Source, outside(), 40000),
-        Ok(())
-    );
-    assert_eq!(rt; frame, UDP_OUT);
-    assert_eq!(rt;
-        translate(&mut frame, Side::Source, inside(), 46563),
-        Ok(())
-    );
-    assert_eq!(rt; frame, UDP);
-    let mut frame = REPLY_IN;
-    assert_eq!(rt;
-        translate(&mut frame, Side::Destination, inside(), 46563),
-        Ok(())
-    );
-    assert_eq!(rt; frame, REPLY);
-    let mut frame = SYN;
-    assert_eq!(rt;
-        translate(&mut frame, Side::Source, outside(), 40001),
-        Ok(())
-    );
-    assert_eq!(rt; frame, SYN_OUT);
-    let mut frame = DATA_IN;
-    assert_eq!(rt;
-        translate(&mut frame, Side::Destination, inside(), 60784),
-        Ok(())
-    );
-    assert_eq!(rt; frame, DATA);
-    let mut frame = PADDED;
-    assert_eq!(rt;
-        translate(&mut frame, Side::Source, outside(), 40000),
-        Ok(())
-    );
-    assert_eq!(rt; frame, PADDED_OUT);
+    for (before, side, addr, port, after) in [
+        (&UDP[..], Side::Source, outside(), 40000, &UDP_OUT[..]),
+        (&UDP_OUT, Side::Source, inside(), 46563, &UDP),
+        (&REPLY_IN, Side::Destination, inside(), 46563, &REPLY),
+        (&SYN, Side::Source, outside(), 40001, &SYN_OUT),
+        (&DATA_IN, Side::Destination, inside(), 60784, &DATA),
+        (&PADDED, Side::Source, outside(), 40000, &PADDED_OUT),
+    ] {
+        let found = translated(before, side, addr, port);
+        assert_eq!(rt; found, (Ok(()), padded(after)));
+    }
 }
 
 /// A UDP checksum of 0 stays 0. A computed UDP checksum of 0 is written as 0xffff, that of TCP as 0.
 #[test]
 fn writes_checksums_of_0(rt: HostRuntime) {
-    let (mut frame, mut expected) = (UDP, UDP_OUT);
-    frame[40..42].copy_from_slice(&[0, 0]);
-    expected[40..42].copy_from_slice(&[0, 0]);
-    assert_eq!(rt;
-        translate(&mut frame, Side::Source, outside(), 40000),
-        Ok(())
-    );
-    assert_eq!(rt; frame, expected);
-    let (mut frame, mut expected) = (UDP, UDP_OUT);
-    expected[34..36].copy_from_slice(&[0x0e, 0x10]);
-    expected[40..42].copy_from_slice(&[0xff, 0xff]);
-    assert_eq!(rt;
-        translate(&mut frame, Side::Source, outside(), 0x0e10),
-        Ok(())
-    );
-    assert_eq!(rt; frame, expected);
-    let (mut frame, mut expected) = (SYN, SYN_OUT);
-    expected[34..36].copy_from_slice(&[0x4c, 0x26]);
-    expected[50..52].copy_from_slice(&[0, 0]);
-    assert_eq!(rt;
-        translate(&mut frame, Side::Source, outside(), 0x4c26),
-        Ok(())
-    );
-    assert_eq!(rt; frame, expected);
+    let (mut without, mut without_out) = (UDP, UDP_OUT);
+    without[40..42].copy_from_slice(&[0, 0]);
+    without_out[40..42].copy_from_slice(&[0, 0]);
+    let mut udp_out = UDP_OUT;
+    udp_out[34..36].copy_from_slice(&[0x0e, 0x10]);
+    udp_out[40..42].copy_from_slice(&[0xff, 0xff]);
+    let mut syn_out = SYN_OUT;
+    syn_out[34..36].copy_from_slice(&[0x4c, 0x26]);
+    syn_out[50..52].copy_from_slice(&[0, 0]);
+    for (before, port, after) in [
+        (&without[..], 40000, &without_out[..]),
+        (&UDP, 0x0e10, &udp_out),
+        (&SYN, 0x4c26, &syn_out),
+    ] {
+        let found = translated(before, Side::Source, outside(), port);
+        assert_eq!(rt; found, (Ok(()), padded(after)));
+    }
 }
 
 /// Changed octets: the EtherType, the version, the total length, the checksum; then, with a valid IPv4
@@ -177,23 +173,17 @@ fn rejects_other_frames(rt: HostRuntime) {
         for (at, octet) in changes {
             frame[at] = octet;
         }
-        let same = frame;
-        assert_eq!(rt;
-            translate(&mut frame, Side::Source, outside(), 40000),
-            Err(reason)
-        );
-        assert_eq!(rt; frame, same);
+        let found = translated(&frame, Side::Source, outside(), 40000);
+        assert_eq!(rt; found, (Err(reason), padded(&frame)));
     }
-    let mut short = UDP;
-    assert_eq!(rt;
-        translate(&mut short[..13], Side::Source, outside(), 40000),
-        Err(Rejection::NotIpv4)
-    );
-    assert_eq!(rt;
-        translate(&mut short[..14], Side::Source, outside(), 40000),
-        Err(Rejection::BadHeader)
-    );
-    assert_eq!(rt; short, UDP);
+}
+
+#[test]
+fn rejects_short_frames(rt: HostRuntime) {
+    for (len, reason) in [(13, Rejection::NotIpv4), (14, Rejection::BadHeader)] {
+        let found = translated(&UDP[..len], Side::Source, outside(), 40000);
+        assert_eq!(rt; found, (Err(reason), padded(&UDP[..len])));
+    }
 }
 
 /// Two faults in one frame: the first reason of `Rejection` that applies. Where the IPv4 checksum is to be
@@ -254,11 +244,7 @@ fn rejects_by_the_first_reason(rt: HostRuntime) {
         for (at, octet) in changes {
             frame[at] = octet;
         }
-        let same = frame;
-        assert_eq!(rt;
-            translate(&mut frame, Side::Destination, inside(), 7),
-            Err(reason)
-        );
-        assert_eq!(rt; frame, same);
+        let found = translated(&frame, Side::Destination, inside(), 7);
+        assert_eq!(rt; found, (Err(reason), padded(&frame)));
     }
 }

@@ -32,15 +32,18 @@ const IPV6: [u8; 70] = [
 #[test]
 fn forwards_ipv4_until_it_expires(rt: HostRuntime) {
     let mut frame = UDP;
-    assert!(rt; forward(&mut frame, SRC, DST).is_ok());
-    assert_eq!(rt; frame, UDP_FORWARDED);
+    let first = forward(&mut frame, SRC, DST);
+    assert_eq!(rt; (first, frame), (Ok(()), UDP_FORWARDED));
+    let mut hops = 0;
     for _ in 0..62 {
-        assert!(rt; forward(&mut frame, SRC, DST).is_ok());
-        assert!(rt; Ipv4Packet::new_unchecked(&frame[14..]).verify_checksum());
+        let result = forward(&mut frame, SRC, DST);
+        if result.is_ok() && Ipv4Packet::new_unchecked(&frame[14..]).verify_checksum() {
+            hops += 1;
+        }
     }
     let last = frame;
-    assert_eq!(rt; forward(&mut frame, SRC, DST), Err(Rejection::Expired));
-    assert_eq!(rt; frame, last);
+    let result = forward(&mut frame, SRC, DST);
+    assert_eq!(rt; (hops, result, frame), (62, Err(Rejection::Expired), last));
 }
 
 #[test]
@@ -50,12 +53,12 @@ fn forwards_ipv6_until_it_expires(rt: HostRuntime) {
     expected[6..12].copy_from_slice(&SRC.0);
     let mut frame = IPV6;
     for hop_limit in 1..255 {
-        assert!(rt; forward(&mut frame, SRC, DST).is_ok());
+        let result = forward(&mut frame, SRC, DST);
         expected[21] = 255 - hop_limit;
-        assert_eq!(rt; frame, expected);
+        assert_eq!(rt; (result, frame), (Ok(()), expected));
     }
-    assert_eq!(rt; forward(&mut frame, SRC, DST), Err(Rejection::Expired));
-    assert_eq!(rt; frame, expected);
+    let result = forward(&mut frame, SRC, DST);
+    assert_eq!(rt; (result, frame), (Err(Rejection::Expired), expected));
 }
 
 /// One octet changed: the EtherType, the version, the header length, the total length, the checksum, the
@@ -75,8 +78,8 @@ fn rejects_what_is_no_packet(rt: HostRuntime) {
         let mut frame = UDP;
         frame[at] = octet;
         let same = frame;
-        assert_eq!(rt; forward(&mut frame, SRC, DST), Err(reason));
-        assert_eq!(rt; frame, same);
+        let result = forward(&mut frame, SRC, DST);
+        assert_eq!(rt; (result, frame), (Err(reason), same));
     }
     for (at, octet, reason) in [
         (14, 0x45, Rejection::BadHeader),
@@ -87,16 +90,18 @@ fn rejects_what_is_no_packet(rt: HostRuntime) {
         let mut frame = IPV6;
         frame[at] = octet;
         let same = frame;
-        assert_eq!(rt; forward(&mut frame, SRC, DST), Err(reason));
-        assert_eq!(rt; frame, same);
+        let result = forward(&mut frame, SRC, DST);
+        assert_eq!(rt; (result, frame), (Err(reason), same));
     }
-    let mut short = UDP;
-    assert_eq!(rt; forward(&mut short[..13], SRC, DST), Err(Rejection::NotIp));
-    assert_eq!(rt;
-        forward(&mut short[..14], SRC, DST),
-        Err(Rejection::BadHeader)
-    );
-    assert_eq!(rt; short, UDP);
+}
+
+#[test]
+fn rejects_short_frames(rt: HostRuntime) {
+    for (len, reason) in [(13, Rejection::NotIp), (14, Rejection::BadHeader)] {
+        let mut short = UDP;
+        let result = forward(&mut short[..len], SRC, DST);
+        assert_eq!(rt; (result, short), (Err(reason), UDP));
+    }
 }
 
 /// Two faults in one frame: the first reason of `Rejection` that applies. A change of the IPv4 header
@@ -117,8 +122,8 @@ fn rejects_by_the_first_reason(rt: HostRuntime) {
             frame[at] = octet;
         }
         let same = frame;
-        assert_eq!(rt; forward(&mut frame, SRC, DST), Err(reason));
-        assert_eq!(rt; frame, same);
+        let result = forward(&mut frame, SRC, DST);
+        assert_eq!(rt; (result, frame), (Err(reason), same));
     }
     for (changes, reason) in [
         ([(13, 0xde), (14, 0x45)], Rejection::NotIp),
@@ -131,7 +136,7 @@ fn rejects_by_the_first_reason(rt: HostRuntime) {
             frame[at] = octet;
         }
         let same = frame;
-        assert_eq!(rt; forward(&mut frame, SRC, DST), Err(reason));
-        assert_eq!(rt; frame, same);
+        let result = forward(&mut frame, SRC, DST);
+        assert_eq!(rt; (result, frame), (Err(reason), same));
     }
 }
