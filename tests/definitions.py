@@ -18,6 +18,7 @@ PINS = {
     "replies": "crates/ip_replies/src/tests/{}.rt",
     "forward": "crates/ip_forward/src/tests/{}.rt",
     "nat": "crates/ip_nat/src/tests/{}.rt",
+    "promises": "crates/ip_promises/src/{}.rt",
     "cases": "tests/cases/{}.hex",
     "calls": "tests/calls/{}.call",
     "tests": "tests/{}",
