@@ -15,6 +15,7 @@ import sys
 
 TESTS = {name: name + "_tests" for name in ("addr", "link", "ip", "transport", "use")}
 PINS = {
+    "promises": "crates/ip_promises/src/{}.rt",
     "cases": "tests/cases/{}.hex",
     "calls": "tests/calls/{}.call",
     "tests": "tests/{}",

@@ -1,5 +1,9 @@
 //! A call of each kind.
 
+use ip_promises::equality::{
+    equal_values_carried, equal_values_frame, equal_values_tcp, equal_values_tcp_option,
+    equal_values_tcp_option_summary, equal_values_transport, equal_views_ipv4,
+};
 use ip_promises::frames::settles;
 use ip_promises::texts::{
     print_then_parse_ethernet, print_then_parse_ip, print_then_parse_ip_cidr,
@@ -8,8 +12,9 @@ use ip_promises::texts::{
 };
 use ip_promises::values::emit_then_parse_udp;
 use ip_wire::{
-    EthernetAddress, IpAddress, IpCidr, IpEndpoint, Ipv4Address, Ipv4Cidr, Ipv6Address, Ipv6Cidr,
-    UdpRepr,
+    Carried, EthernetAddress, EthernetProtocol, EthernetRepr, Frame, IpAddress, IpCidr, IpEndpoint,
+    Ipv4Address, Ipv4Cidr, Ipv4Packet, Ipv6Address, Ipv6Cidr, SACK_BLOCKS, TcpControl, TcpOption,
+    TcpOptionSummary, TcpRepr, TcpSeqNumber, Transport, UdpRepr,
 };
 use net_base::ChecksumCapabilities;
 use std::test::Fail;
@@ -83,4 +88,86 @@ fn a_frame_settles(rt: HostRuntime) {
     let mut second = [0xa5; 48];
     assert_eq!(rt; settles(&FRAME, &mut first, &mut second), 46);
     assert_eq!(rt; second, FRAME);
+}
+
+/// A segment with this payload.
+fn segment(payload: &[u8]) -> TcpRepr<'_> {
+    TcpRepr {
+        src_port: 48896,
+        dst_port: 80,
+        control: TcpControl::Psh,
+        seq_number: TcpSeqNumber(1),
+        ack_number: Some(TcpSeqNumber(2)),
+        window_len: 291,
+        window_scale: None,
+        max_seg_size: None,
+        sack_permitted: false,
+        sack_ranges: [None; SACK_BLOCKS],
+        timestamp: None,
+        payload,
+    }
+}
+
+#[test]
+fn references_to_equal_bytes_are_equal(rt: HostRuntime) {
+    let here = [0x0a, 0x0b];
+    let there = [0x0a, 0x0b];
+    let other = [0x0a, 0x0c];
+    assert!(rt; equal_values_tcp(&segment(&here), &segment(&there)));
+    assert!(rt; !equal_values_tcp(&segment(&here), &segment(&other)));
+    let view = Ipv4Packet::new_unchecked(&here);
+    assert!(rt; equal_views_ipv4(&view, &Ipv4Packet::new_unchecked(&there)));
+    assert!(rt; !equal_views_ipv4(&view, &Ipv4Packet::new_unchecked(&other)));
+}
+
+#[test]
+fn every_range_of_a_summary_is_compared(rt: HostRuntime) {
+    let mut summary = TcpOptionSummary::default();
+    assert!(rt; equal_values_tcp_option_summary(&summary, &TcpOptionSummary::default()));
+    summary.sack_ranges[SACK_BLOCKS - 1] = Some((1, 2));
+    assert!(rt; !equal_values_tcp_option_summary(&summary, &TcpOptionSummary::default()));
+}
+
+#[test]
+fn values_of_different_variants_differ(rt: HostRuntime) {
+    let bytes = [0x0a, 0x0b];
+    let unknown = TcpOption::Unknown {
+        kind: 30,
+        bytes: &bytes,
+    };
+    assert!(rt; equal_values_tcp_option(&unknown, &unknown));
+    assert!(rt; !equal_values_tcp_option(&unknown, &TcpOption::NoOperation));
+    let unread = Transport::Unread(&bytes);
+    assert!(rt; equal_values_transport(&unread, &unread));
+    assert!(rt; !equal_values_transport(&unread, &Transport::Other(&bytes)));
+    let packet = Ipv4Packet::new_unchecked(&bytes);
+    let fragment = Carried::Fragment(packet);
+    assert!(rt; equal_values_carried(&fragment, &fragment));
+    assert!(rt; !equal_values_carried(&fragment, &Carried::Unread(&bytes)));
+}
+
+/// A header of a frame.
+const HEADER: EthernetRepr = EthernetRepr {
+    src_addr: EthernetAddress([0x02, 0x00, 0x00, 0x00, 0x00, 0x01]),
+    dst_addr: EthernetAddress([0x02, 0x00, 0x00, 0x00, 0x00, 0x02]),
+    ethertype: EthernetProtocol::Unknown(0x88b5),
+};
+
+#[test]
+fn frames_over_equal_bytes_are_equal(rt: HostRuntime) {
+    let bytes = [[0x0a, 0x0b], [0x0a, 0x0b], [0x0a, 0x0c]];
+    let a = Frame {
+        header: HEADER,
+        carried: Carried::Unread(&bytes[0]),
+    };
+    let b = Frame {
+        header: HEADER,
+        carried: Carried::Unread(&bytes[1]),
+    };
+    let c = Frame {
+        header: HEADER,
+        carried: Carried::Unread(&bytes[2]),
+    };
+    assert!(rt; equal_values_frame(&a, &b));
+    assert!(rt; !equal_values_frame(&a, &c));
 }
