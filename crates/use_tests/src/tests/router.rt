@@ -32,8 +32,8 @@ const IPV6: [u8; 70] = [
 #[test]
 fn forwards_ipv4_until_it_expires(rt: HostRuntime) {
     let mut frame = UDP;
-    let first = forward(&mut frame, SRC, DST);
-    assert_eq!(rt; (first, frame), (Ok(()), UDP_FORWARDED));
+    let is_ok = forward(&mut frame, SRC, DST).is_ok();
+    assert_eq!(rt; (is_ok, frame), (true, UDP_FORWARDED));
     let mut hops = 0;
     for _ in 0..62 {
         let result = forward(&mut frame, SRC, DST);
@@ -53,9 +53,9 @@ fn forwards_ipv6_until_it_expires(rt: HostRuntime) {
     expected[6..12].copy_from_slice(&SRC.0);
     let mut frame = IPV6;
     for hop_limit in 1..255 {
-        let result = forward(&mut frame, SRC, DST);
+        let is_ok = forward(&mut frame, SRC, DST).is_ok();
         expected[21] = 255 - hop_limit;
-        assert_eq!(rt; (result, frame), (Ok(()), expected));
+        assert_eq!(rt; (is_ok, frame), (true, expected));
     }
     let result = forward(&mut frame, SRC, DST);
     assert_eq!(rt; (result, frame), (Err(Rejection::Expired), expected));

@@ -27,45 +27,38 @@ fn accepts_a_syn(rt: HostRuntime) {
     let mut expected = [0xa5; 80];
     expected[..74].copy_from_slice(&SYN_ACK);
     let mut out = [0xa5; 80];
-    assert_eq!(rt;
-        answer(&SYN, &ours(), &[22, 80], &OFFER, &mut out),
-        Some(74)
-    );
-    assert_eq!(rt; out, expected);
-    assert_eq!(rt;
-        answer(&SYN, &ours(), &[22, 80], &OFFER, &mut out[..73]),
-        None
-    );
-    assert_eq!(rt; out, expected);
+    let len = answer(&SYN, &ours(), &[22, 80], &OFFER, &mut out);
+    assert_eq!(rt; (len, out), (Some(74), expected));
+    let len = answer(&SYN, &ours(), &[22, 80], &OFFER, &mut out[..73]);
+    assert_eq!(rt; (len, out), (None, expected));
 }
 
 #[test]
 fn resets_a_syn_to_a_closed_port(rt: HostRuntime) {
     let mut out = [0; 54];
-    assert_eq!(rt; answer(&SYN, &ours(), &[22], &OFFER, &mut out), Some(54));
-    assert_eq!(rt; out, SYN_RESET);
+    let len = answer(&SYN, &ours(), &[22], &OFFER, &mut out);
+    assert_eq!(rt; (len, out), (Some(54), SYN_RESET));
     assert_eq!(rt; answer(&SYN_RESET, &ours(), &[], &OFFER, &mut out), None);
 }
 
 #[test]
 fn resets_an_acknowledgement(rt: HostRuntime) {
-    let asked = interface(1);
-    let mut out = [0; 54];
-    assert_eq!(rt; answer(&DATA, &asked, &[], &OFFER, &mut out), Some(54));
-    assert_eq!(rt; out, DATA_RESET);
-    assert_eq!(rt;
-        answer(&DATA, &asked, &[0xed70], &OFFER, &mut out),
-        Some(54)
-    );
-    assert_eq!(rt; out, DATA_RESET);
-    assert_eq!(rt; answer(&DATA, &ours(), &[], &OFFER, &mut out), None);
+    for (last, ports, expected) in [
+        (1, &[][..], (Some(54), DATA_RESET)),
+        (1, &[0xed70], (Some(54), DATA_RESET)),
+        (2, &[], (None, [0; 54])),
+    ] {
+        let mut out = [0; 54];
+        let len = answer(&DATA, &interface(last), ports, &OFFER, &mut out);
+        assert_eq!(rt; (len, out), expected);
+    }
 }
 
 #[test]
 fn resets_a_fin_over_ipv6(rt: HostRuntime) {
     let mut out = [0; 74];
-    assert_eq!(rt; answer(&FIN, &ours(), &[80], &OFFER, &mut out), Some(74));
-    assert_eq!(rt; out, FIN_RESET);
+    let len = answer(&FIN, &ours(), &[80], &OFFER, &mut out);
+    assert_eq!(rt; (len, out), (Some(74), FIN_RESET));
     assert_eq!(rt; answer(&FIN, &ours(), &[81], &OFFER, &mut out), None);
 }
 

@@ -27,10 +27,10 @@ fn echoes_a_packet(rt: HostRuntime) {
     let mut expected = [0xa5; 50];
     expected[..46].copy_from_slice(&ECHO_REPLY);
     let mut out = [0xa5; 50];
-    assert_eq!(rt; answer(&ECHO_REQUEST, &ours(), 7, &mut out), Some(46));
-    assert_eq!(rt; out, expected);
-    assert_eq!(rt; answer(&ECHO_REQUEST, &ours(), 7, &mut out[..45]), None);
-    assert_eq!(rt; out, expected);
+    let len = answer(&ECHO_REQUEST, &ours(), 7, &mut out);
+    assert_eq!(rt; (len, out), (Some(46), expected));
+    let len = answer(&ECHO_REQUEST, &ours(), 7, &mut out[..45]);
+    assert_eq!(rt; (len, out), (None, expected));
 }
 
 #[test]
@@ -38,34 +38,46 @@ fn echoes_a_packet_over_ipv6(rt: HostRuntime) {
     let mut expected = [0xa5; 70];
     expected[..66].copy_from_slice(&IPV6_REPLY);
     let mut out = [0xa5; 70];
-    assert_eq!(rt; answer(&IPV6_REQUEST, &ours(), 7, &mut out), Some(66));
-    assert_eq!(rt; out, expected);
+    let len = answer(&IPV6_REQUEST, &ours(), 7, &mut out);
+    assert_eq!(rt; (len, out), (Some(66), expected));
 }
 
-/// The request, without its UDP checksum, and with one octet changed.
+/// The request, without its UDP checksum, and with two octets changed.
 #[test]
 fn echoes_nothing_else(rt: HostRuntime) {
-    let mut out = [0; 64];
     let mut without = ECHO_REQUEST;
     without[40..42].copy_from_slice(&[0, 0]);
-    assert_eq!(rt; answer(&without, &ours(), 7, &mut out), Some(46));
-    for (at, octet) in [(5, 3), (6, 1), (37, 8), (29, 3)] {
+    for (at, octets, len) in [
+        (34, [0xa1, 0x67], Some(46)),
+        (4, [0x00, 0x03], None),
+        (6, [0x01, 0x00], None),
+        (36, [0x00, 0x08], None),
+        (28, [0x02, 0x03], None),
+        (34, [0x00, 0x00], None),
+        (34, [0x00, 0x07], None),
+        (34, [0x00, 0x08], Some(46)),
+    ] {
         let mut other = without;
-        other[at] = octet;
-        assert_eq!(rt; answer(&other, &ours(), 7, &mut out), None);
+        other[at..at + 2].copy_from_slice(&octets);
+        assert_eq!(rt; answer(&other, &ours(), 7, &mut [0; 46]), len);
     }
-    for (src_port, len) in [(0, None), (7, None), (8, Some(46))] {
-        let mut other = without;
-        other[34..36].copy_from_slice(&[0, src_port]);
-        assert_eq!(rt; answer(&other, &ours(), 7, &mut out), len);
-    }
+}
+
+/// A wrong checksum, another port, a reply, a part of an Ethernet header.
+#[test]
+fn echoes_no_other_frame(rt: HostRuntime) {
     let mut wrong = ECHO_REQUEST;
     wrong[45] = 0x68;
-    assert_eq!(rt; answer(&wrong, &ours(), 7, &mut out), None);
-    assert_eq!(rt; answer(&ECHO_REQUEST, &ours(), 8, &mut out), None);
-    assert_eq!(rt; answer(&ECHO_REPLY, &ours(), 7, &mut out), None);
-    assert_eq!(rt; answer(&ECHO_REPLY[..13], &ours(), 7, &mut out), None);
-    assert_eq!(rt; &out[46..], [0; 18].as_slice());
+    for (frame, port) in [
+        (&wrong[..], 7),
+        (&ECHO_REQUEST, 8),
+        (&ECHO_REPLY, 7),
+        (&ECHO_REPLY[..13], 7),
+    ] {
+        let mut out = [0; 64];
+        let len = answer(frame, &ours(), port, &mut out);
+        assert_eq!(rt; (len, out), (None, [0; 64]));
+    }
 }
 
 /// From 10.0.0.1, from broadcast, from a group and from the unspecified address, each with a valid IPv4

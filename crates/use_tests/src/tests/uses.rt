@@ -94,11 +94,9 @@ fn writes_a_frame(rt: HostRuntime) {
     expected[..46].copy_from_slice(&FRAME);
     let mut buffer = [0xa5; 48];
     let len = write_udp(&mut buffer, SRC, DST, header(), PORTS, &FRAME[42..]);
-    assert_eq!(rt; len, Some(46));
-    assert_eq!(rt; buffer, expected);
+    assert_eq!(rt; (len, buffer), (Some(46), expected));
     let len = write_udp(&mut buffer[..45], SRC, DST, header(), PORTS, &FRAME[42..]);
-    assert_eq!(rt; len, None);
-    assert_eq!(rt; buffer, expected);
+    assert_eq!(rt; (len, buffer), (None, expected));
 }
 
 #[test]
@@ -107,8 +105,7 @@ fn writes_a_frame_over_ipv6(rt: HostRuntime) {
     expected[..66].copy_from_slice(&IPV6_FRAME);
     let mut buffer = [0xa5; 68];
     let len = write_udp(&mut buffer, SRC, DST, ipv6_header(), IPV6_PORTS, &[0xff; 4]);
-    assert_eq!(rt; len, Some(66));
-    assert_eq!(rt; buffer, expected);
+    assert_eq!(rt; (len, buffer), (Some(66), expected));
 }
 
 #[test]
@@ -128,11 +125,11 @@ fn rejects_a_wrong_checksum(rt: HostRuntime) {
             Ipv4Address::new(192, 168, 1, 1),
             Ipv4Address::new(192, 168, 1, 2),
         );
-        assert_eq!(rt;
+        let found = (
             parse_udp_ports(&packet, src, dst, &verify).is_ok(),
-            verified
+            parse_udp_ports(&packet, src, dst, &trust).is_ok(),
         );
-        assert_eq!(rt; parse_udp_ports(&packet, src, dst, &trust).is_ok(), trusted);
+        assert_eq!(rt; found, (verified, trusted));
     }
 }
 
@@ -142,11 +139,15 @@ fn allows_the_addresses_of_its_blocks(rt: HostRuntime) {
         IpCidr::Ipv4(Ipv4Cidr::new(Ipv4Address::new(192, 168, 0, 0), 16)),
         IpCidr::Ipv6(Ipv6Cidr::LINK_LOCAL_PREFIX),
     ];
-    assert!(rt; is_allowed(&list, &IpAddress::v4(192, 168, 1, 1)));
-    assert!(rt; !is_allowed(&list, &IpAddress::v4(192, 169, 1, 1)));
-    assert!(rt; is_allowed(&list, &IpAddress::v6(0xfebf, 0, 0, 0, 0, 0, 0, 1)));
-    assert!(rt; !is_allowed(&list, &IpAddress::v6(0xfec0, 0, 0, 0, 0, 0, 0, 1)));
-    assert!(rt; !is_allowed(&[], &IpAddress::v4(192, 168, 1, 1)));
+    for (list, addr, allowed) in [
+        (&list[..], IpAddress::v4(192, 168, 1, 1), true),
+        (&list, IpAddress::v4(192, 169, 1, 1), false),
+        (&list, IpAddress::v6(0xfebf, 0, 0, 0, 0, 0, 0, 1), true),
+        (&list, IpAddress::v6(0xfec0, 0, 0, 0, 0, 0, 0, 1), false),
+        (&[], IpAddress::v4(192, 168, 1, 1), false),
+    ] {
+        assert_eq!(rt; is_allowed(list, &addr), allowed);
+    }
 }
 
 const ECHO_BACK: [u8; 46] = [
@@ -183,14 +184,25 @@ fn echo_key() -> FlowKey {
     }
 }
 
+/// The key of the SYN and its reply.
+fn syn_key() -> FlowKey {
+    FlowKey {
+        protocol: IpProtocol::Tcp,
+        low: IpEndpoint::new(IpAddress::v4(192, 0, 2, 1), 60784),
+        high: IpEndpoint::new(IpAddress::v4(192, 0, 2, 2), 80),
+    }
+}
+
 #[test]
 fn gives_both_directions_one_key(rt: HostRuntime) {
-    assert_eq!(rt; key_of(&ECHO_REQUEST), Some(echo_key()));
-    assert_eq!(rt; key_of(&ECHO_BACK), Some(echo_key()));
-    assert!(rt; key_of(&SYN).is_some());
-    assert_eq!(rt; key_of(&SYN), key_of(&SYN_ACK));
+    for (one, other, key) in [
+        (&ECHO_REQUEST[..], &ECHO_BACK[..], Some(echo_key())),
+        (&SYN, &SYN_ACK, Some(syn_key())),
+        (&FRAME[..45], &FRAME[..45], None),
+    ] {
+        assert_eq!(rt; [key_of(one), key_of(other)], [key, key]);
+    }
     assert!(rt; key_of(&IPV6_FRAME).is_some());
-    assert_eq!(rt; key_of(&FRAME[..45]), None);
 }
 
 /// The key of a flow between two ports of one host.
@@ -205,12 +217,15 @@ fn key_between(protocol: IpProtocol, src_port: u16, dst_port: u16) -> FlowKey {
 
 #[test]
 fn tells_flows_apart(rt: HostRuntime) {
-    assert!(rt; key_of(&SYN) != key_of(&ECHO_REQUEST));
-    assert!(rt; key_of(&FRAME) != key_of(&ECHO_REQUEST));
     let udp = IpProtocol::Udp;
-    assert_eq!(rt; key_between(udp, 9, 7), key_between(udp, 7, 9));
-    assert!(rt; key_between(udp, 9, 7) != key_between(IpProtocol::Tcp, 9, 7));
-    assert!(rt; key_between(udp, 9, 7) != key_between(udp, 9, 9));
+    let equal = [
+        key_of(&SYN) == key_of(&ECHO_REQUEST),
+        key_of(&FRAME) == key_of(&ECHO_REQUEST),
+        key_between(udp, 9, 7) == key_between(udp, 7, 9),
+        key_between(udp, 9, 7) == key_between(IpProtocol::Tcp, 9, 7),
+        key_between(udp, 9, 7) == key_between(udp, 9, 9),
+    ];
+    assert_eq!(rt; equal, [false, false, true, false, false]);
 }
 
 #[test]
@@ -232,20 +247,18 @@ fn chooses_the_longest_prefix(rt: HostRuntime) {
             next_hop: IpAddress::v6(0xfe80, 0, 0, 0, 0, 0, 0, 1),
         },
     ];
-    assert_eq!(rt; choose(&table, &IpAddress::v4(10, 1, 2, 3)), Some(table[1]));
-    assert_eq!(rt; choose(&table, &IpAddress::v4(10, 2, 2, 3)), Some(table[0]));
-    assert_eq!(rt; choose(&table, &IpAddress::v4(11, 2, 2, 3)), None);
-    let addr = IpAddress::v6(0x2001, 0xdb8, 1, 2, 3, 4, 5, 6);
-    assert_eq!(rt; choose(&table, &addr), Some(table[3]));
-    assert_eq!(rt; choose(&table[..3], &addr), None);
     let default = [route(0, 0, 0, 9), table[0]];
-    assert_eq!(rt;
-        choose(&default, &IpAddress::v4(11, 2, 2, 3)),
-        Some(default[0])
-    );
-    assert_eq!(rt;
-        choose(&default, &IpAddress::v4(10, 2, 2, 3)),
-        Some(default[1])
-    );
-    assert_eq!(rt; choose(&[], &IpAddress::v4(10, 2, 2, 3)), None);
+    let ipv6 = IpAddress::v6(0x2001, 0xdb8, 1, 2, 3, 4, 5, 6);
+    for (routes, addr, chosen) in [
+        (&table[..], IpAddress::v4(10, 1, 2, 3), Some(table[1])),
+        (&table, IpAddress::v4(10, 2, 2, 3), Some(table[0])),
+        (&table, IpAddress::v4(11, 2, 2, 3), None),
+        (&table, ipv6, Some(table[3])),
+        (&table[..3], ipv6, None),
+        (&default, IpAddress::v4(11, 2, 2, 3), Some(default[0])),
+        (&default, IpAddress::v4(10, 2, 2, 3), Some(default[1])),
+        (&[], IpAddress::v4(10, 2, 2, 3), None),
+    ] {
+        assert_eq!(rt; choose(routes, &addr), chosen);
+    }
 }
