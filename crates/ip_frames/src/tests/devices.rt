@@ -13,9 +13,9 @@ fn a_line_has_a_block(rt: HostRuntime) {
         let mut room = [0; 512];
         let mut source = MemorySource::new(input);
         let mut sink = MemorySink::new(&mut room);
-        assert_eq!(rt; run(rt.alloc(), &mut source, &mut sink), Ok(()));
-        assert_eq!(rt; sink.written(), output);
-        assert!(rt; sink.flushed());
+        let result = run(rt.alloc(), &mut source, &mut sink);
+        let found = (result, sink.written(), sink.flushed());
+        assert_eq!(rt; found, (Ok(()), output, true));
     }
 }
 
@@ -30,13 +30,9 @@ fn a_source_that_fails_leaves_nothing_written(rt: HostRuntime) {
                 failures: 0,
             };
             let mut sink = MemorySink::new(&mut room);
-            assert_eq!(rt;
-                run(rt.alloc(), &mut source, &mut sink),
-                Err(RunError::Read)
-            );
-            assert_eq!(rt; source.failures(), 1);
-            assert!(rt; sink.written().is_empty());
-            assert!(rt; !sink.flushed());
+            let result = run(rt.alloc(), &mut source, &mut sink);
+            let found = (result, source.failures(), sink.written(), sink.flushed());
+            assert_eq!(rt; found, (Err(RunError::Read), 1, &[][..], false));
         }
     }
 }
@@ -50,14 +46,13 @@ fn a_sink_that_is_full_has_the_beginning(rt: HostRuntime) {
             let mut source = MemorySource::new(input);
             let mut sink = MemorySink::new(&mut room[..n]);
             let result = run(rt.alloc(), &mut source, &mut sink);
-            assert_eq!(rt; sink.written(), &output[..n]);
-            if n < output.len() {
-                assert_eq!(rt; result, Err(RunError::Write));
-                assert_eq!(rt; sink.failures(), 1);
+            let (wanted, failures) = if n < output.len() {
+                (Err(RunError::Write), 1)
             } else {
-                assert_eq!(rt; result, Ok(()));
-                assert_eq!(rt; sink.failures(), 0);
-            }
+                (Ok(()), 0)
+            };
+            let found = (result, sink.written(), sink.failures());
+            assert_eq!(rt; found, (wanted, &output[..n], failures));
         }
     }
 }
@@ -76,12 +71,9 @@ fn a_sink_that_takes_no_byte_has_the_beginning(rt: HostRuntime) {
                 flushed: false,
                 can_flush: true,
             };
-            assert_eq!(rt;
-                run(rt.alloc(), &mut source, &mut sink),
-                Err(RunError::Write)
-            );
-            assert_eq!(rt; sink.written(), &output[..n]);
-            assert_eq!(rt; sink.failures(), 1);
+            let result = run(rt.alloc(), &mut source, &mut sink);
+            let found = (result, sink.written(), sink.failures());
+            assert_eq!(rt; found, (Err(RunError::Write), &output[..n], 1));
         }
     }
 }
@@ -99,13 +91,9 @@ fn a_flush_that_fails_is_a_write_that_fails(rt: HostRuntime) {
                 flushed: false,
                 can_flush: false,
             };
-            assert_eq!(rt;
-                run(rt.alloc(), &mut source, &mut sink),
-                Err(RunError::Write)
-            );
-            assert_eq!(rt; sink.written(), output);
-            assert!(rt; !sink.flushed());
-            assert_eq!(rt; sink.failures(), after);
+            let result = run(rt.alloc(), &mut source, &mut sink);
+            let found = (result, sink.written(), sink.flushed(), sink.failures());
+            assert_eq!(rt; found, (Err(RunError::Write), output, false, after));
         }
     }
 }
@@ -118,11 +106,9 @@ fn a_count_at_its_last_value_stays(rt: HostRuntime) {
         failures: u64::MAX,
     };
     let mut sink = MemorySink::new(&mut []);
-    assert_eq!(rt;
-        run(rt.alloc(), &mut source, &mut sink),
-        Err(RunError::Read)
-    );
-    assert_eq!(rt; source.failures(), u64::MAX);
+    let result = run(rt.alloc(), &mut source, &mut sink);
+    let found = (result, source.failures());
+    assert_eq!(rt; found, (Err(RunError::Read), u64::MAX));
 }
 
 #[test]

@@ -11,9 +11,9 @@ fn prints(rt: &impl Abort, alloc: Global, input: &[u8], output: &[u8]) {
     let mut room = [0; 512];
     let mut source = MemorySource::new(input);
     let mut sink = MemorySink::new(&mut room);
-    assert_eq!(rt; run(alloc, &mut source, &mut sink), Ok(()));
-    assert_eq!(rt; sink.written(), output);
-    assert!(rt; sink.flushed());
+    let result = run(alloc, &mut source, &mut sink);
+    let found = (result, sink.written(), sink.flushed());
+    assert_eq!(rt; found, (Ok(()), output, true));
 }
 
 #[test]

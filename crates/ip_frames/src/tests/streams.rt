@@ -87,9 +87,9 @@ fn an_interruption_is_no_failure(rt: HostRuntime) {
         ready: false,
     });
     let mut sink = MemorySink::new(&mut room);
-    assert_eq!(rt; run(rt.alloc(), &mut source, &mut sink), Ok(()));
-    assert_eq!(rt; sink.written(), OUTPUT);
-    assert_eq!(rt; source.failures(), 0);
+    let result = run(rt.alloc(), &mut source, &mut sink);
+    let found = (result, sink.written(), source.failures());
+    assert_eq!(rt; found, (Ok(()), OUTPUT, 0));
 }
 
 #[test]
@@ -99,14 +99,11 @@ fn a_writer_that_is_full_has_the_beginning(rt: HostRuntime) -> Result<(), RunErr
         assert!(rt; n < 64);
         let mut source = MemorySource::new(INPUT);
         let mut sink = StreamSink::new(rt.alloc(), &mut room[..n])?;
-        assert_eq!(rt;
-            run(rt.alloc(), &mut source, &mut sink),
-            Err(RunError::Write)
-        );
-        assert_eq!(rt; sink.failures(), 1);
-        assert!(rt; !sink.flushed());
+        let result = run(rt.alloc(), &mut source, &mut sink);
+        let (failures, flushed) = (sink.failures(), sink.flushed());
         drop(sink);
-        assert_eq!(rt; &room[..n], &OUTPUT[..n]);
+        let found = (result, failures, flushed, &room[..n]);
+        assert_eq!(rt; found, (Err(RunError::Write), 1, false, &OUTPUT[..n]));
     }
     Ok(())
 }
@@ -122,10 +119,10 @@ fn a_buffer_that_is_full_is_written(rt: HostRuntime) -> Result<(), RunError> {
     let mut written = Vec::new(rt.alloc());
     let mut source = StreamSource::new(input.as_slice());
     let mut sink = StreamSink::new(rt.alloc(), &mut written)?;
-    assert_eq!(rt; run(rt.alloc(), &mut source, &mut sink), Ok(()));
-    assert!(rt; sink.flushed());
+    let result = run(rt.alloc(), &mut source, &mut sink);
+    let flushed = sink.flushed();
     drop(sink);
-    assert!(rt; written == output);
+    assert_eq!(rt; (result, flushed, written == output), (Ok(()), true, true));
     Ok(())
 }
 
@@ -152,10 +149,10 @@ fn a_writer_that_is_interrupted_takes_all(rt: HostRuntime) -> Result<(), RunErro
     };
     let mut source = StreamSource::new(input.as_slice());
     let mut sink = StreamSink::new(rt.alloc(), writer)?;
-    assert_eq!(rt; run_streams(rt.alloc(), &mut source, &mut sink), Ok(()));
-    assert_eq!(rt; sink.failures(), 0);
+    let result = run_streams(rt.alloc(), &mut source, &mut sink);
+    let failures = sink.failures();
     drop(sink);
-    assert!(rt; taken == output);
+    assert_eq!(rt; (result, failures, taken == output), (Ok(()), 0, true));
     Ok(())
 }
 
@@ -168,11 +165,8 @@ fn what_was_reported_as_failed_is_not_written_again(rt: HostRuntime) -> Result<(
     };
     let mut source = StreamSource::new(INPUT);
     let mut sink = StreamSink::new(rt.alloc(), writer)?;
-    assert_eq!(rt;
-        run_streams(rt.alloc(), &mut source, &mut sink),
-        Err(RunError::Write)
-    );
+    let result = run_streams(rt.alloc(), &mut source, &mut sink);
     drop(sink);
-    assert!(rt; taken.is_empty());
+    assert_eq!(rt; (result, taken.is_empty()), (Err(RunError::Write), true));
     Ok(())
 }

@@ -197,17 +197,20 @@ fn parses_what_is_right(rt: HostRuntime) {
 
 #[test]
 fn keeps_what_does_not_parse(rt: HostRuntime) {
-    let mut sum = UDP;
+    let (mut sum, mut header) = (UDP, UDP);
     sum[41] = 0x4e;
-    assert!(rt; is_kept(&sum, IPV4_LINES));
-    let mut header = UDP;
     header[25] = 0x78;
-    let text = "EthernetII src=11-12-13-14-15-16 dst=01-02-03-04-05-06 type=IPv4";
-    assert!(rt; is_kept(&header, text));
-    assert!(rt; is_kept(&FRAGMENT, IPV4_LINES));
-    let text = "EthernetII src=11-12-13-14-15-16 dst=01-02-03-04-05-06 type=0x88cc";
-    assert!(rt; is_kept(&LLDP, text));
-    assert!(rt; !is_kept(&UDP[..13], ""));
+    let ipv4 = "EthernetII src=11-12-13-14-15-16 dst=01-02-03-04-05-06 type=IPv4";
+    let lldp = "EthernetII src=11-12-13-14-15-16 dst=01-02-03-04-05-06 type=0x88cc";
+    for (bytes, text, kept) in [
+        (&sum[..], IPV4_LINES, true),
+        (&header, ipv4, true),
+        (&FRAGMENT, IPV4_LINES, true),
+        (&LLDP, lldp, true),
+        (&UDP[..13], "", false),
+    ] {
+        assert_eq!(rt; is_kept(bytes, text), kept, "{text}");
+    }
 }
 
 /// Whether the payload of a packet with this header parses as UDP with these ports and this payload.
@@ -221,11 +224,14 @@ fn is_udp(header: &IpRepr, bytes: &[u8], ports: UdpRepr, payload: &[u8]) -> bool
 #[test]
 fn parses_a_payload_alone(rt: HostRuntime) {
     let header = ipv4(IpProtocol::Udp, 12);
-    assert!(rt; is_udp(&header, &UDP[34..], PORTS, &UDP[42..]));
-    assert!(rt; !is_udp(&header, &UDP[35..], PORTS, &UDP[42..]));
     let caps = ChecksumCapabilities::default();
-    assert!(rt; Carried::parse(EthernetProtocol::Ipv4, &UDP[14..], &caps).is_ok());
-    assert!(rt; Carried::parse(EthernetProtocol::Ipv6, &UDP[14..], &caps).is_err());
+    let found = [
+        is_udp(&header, &UDP[34..], PORTS, &UDP[42..]),
+        is_udp(&header, &UDP[35..], PORTS, &UDP[42..]),
+        Carried::parse(EthernetProtocol::Ipv4, &UDP[14..], &caps).is_ok(),
+        Carried::parse(EthernetProtocol::Ipv6, &UDP[14..], &caps).is_ok(),
+    ];
+    assert_eq!(rt; found, [true, false, true, false]);
 }
 
 #[test]
@@ -299,11 +305,14 @@ fn emit(bytes: &[u8], buffer: &mut [u8]) -> Option<usize> {
 #[test]
 fn puts_layers_together(rt: HostRuntime) {
     let other = IpProtocol::Unknown(99);
-    assert!(rt; is_built(ipv4(other, 0), PORTS, &UDP[42..], &UDP));
-    assert!(rt; is_built(ipv6(other, 0), PORTS_OVER_IPV6, &[0xff; 4], &UDP_OVER_IPV6));
-    assert!(rt; is_built_segment(ipv4(other, 0), SEGMENT, &SYN));
-    assert!(rt; is_built_other(ipv4(IpProtocol::Icmp, 0), &ECHO[34..], &ECHO));
-    assert!(rt; is_request(&ARP));
+    let built = [
+        is_built(ipv4(other, 0), PORTS, &UDP[42..], &UDP),
+        is_built(ipv6(other, 0), PORTS_OVER_IPV6, &[0xff; 4], &UDP_OVER_IPV6),
+        is_built_segment(ipv4(other, 0), SEGMENT, &SYN),
+        is_built_other(ipv4(IpProtocol::Icmp, 0), &ECHO[34..], &ECHO),
+        is_request(&ARP),
+    ];
+    assert_eq!(rt; built, [true; 5]);
 }
 
 /// The checksum at this index of the emitted frame, if the frame parses with another one there.
@@ -436,12 +445,19 @@ fn rejects_what_a_frame_cannot_hold(rt: HostRuntime) {
             "{src_port} {dst_port} {len}"
         );
     }
-    // Four ranges and a segment size take all 40 octets of options.
-    assert!(rt; holds_options(Some(1460), None));
-    assert!(rt; !holds_options(None, Some(TcpTimestampRepr::new(1, 2))));
-    assert!(rt; !holds_other(IpProtocol::Udp, &UDP[42..]));
-    assert!(rt; holds_other(IpProtocol::Icmp, &UDP[42..]));
-    assert!(rt; !holds_unread(&UDP[42..]));
+}
+
+#[test]
+fn rejects_other_values_that_a_frame_cannot_hold(rt: HostRuntime) {
+    let held = [
+        // Four ranges and a segment size take all 40 octets of options.
+        holds_options(Some(1460), None),
+        holds_options(None, Some(TcpTimestampRepr::new(1, 2))),
+        holds_other(IpProtocol::Udp, &UDP[42..]),
+        holds_other(IpProtocol::Icmp, &UDP[42..]),
+        holds_unread(&UDP[42..]),
+    ];
+    assert_eq!(rt; held, [true, false, false, true, false]);
 }
 
 /// Emits the frame if its buffer is long enough, and returns its length.
@@ -465,7 +481,10 @@ fn emits_nothing_where_there_is_no_room(rt: HostRuntime) {
     for room in [0, 13, 14, 41] {
         assert_eq!(rt; emit(&ARP, &mut buffer[..room]), None, "{room}");
     }
-    assert!(rt; is_written(&buffer, &[]));
-    assert_eq!(rt; emit_whole(&UDP, &mut buffer), 46);
-    assert!(rt; is_written(&buffer, &UDP));
+    let unwritten = is_written(&buffer, &[]);
+    let len = emit_whole(&UDP, &mut buffer);
+    assert_eq!(rt;
+        (unwritten, len, is_written(&buffer, &UDP)),
+        (true, 46, true)
+    );
 }
