@@ -11,3 +11,4 @@ pub mod rewrites;
 mod tests;
 pub mod texts;
 pub mod values;
+pub mod views;
