@@ -1,5 +1,7 @@
 //! A call of each kind.
 
+mod views;
+
 use crate::frames::settles;
 use crate::texts::{
     print_then_parse_ethernet, print_then_parse_ip, print_then_parse_ip_cidr,
