@@ -1,4 +1,4 @@
-use Rattle.std.proofs.Common.{◌≡◌, ◌∙◌, ◌++◌, [], append-nil, subst, sym}
+use Rattle.std.proofs.Common.{◌∙◌, ◌++◌, [], append-nil, subst, sym}
 use Rattle.ip_wire.specs.Ethernet as ethernet
 use Rattle.ip_wire.specs.Frame.{ReadsFrame, packet, segment}
 use Rattle.ip_wire.specs.Ip as ip
