@@ -9,3 +9,4 @@ pub mod frames;
 pub mod rewrites;
 pub mod texts;
 pub mod values;
+pub mod views;

@@ -11,6 +11,7 @@ mod router;
 mod tcp_answer;
 mod udp_echo;
 mod uses;
+mod views;
 
 use ip_replies::Interface;
 use ip_replies::tcp_reply::Offer;
