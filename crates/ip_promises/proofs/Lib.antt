@@ -1,1 +1,6 @@
+pub mod Agree
+pub mod Blocks
+pub mod Found
+pub mod Octets
+pub mod Options
 pub mod Parsed

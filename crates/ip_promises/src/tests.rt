@@ -1,5 +1,8 @@
 //! A call of each kind.
 
+use crate::calls::blocks::netmask_then_block;
+use crate::calls::hardware::eui_64_of_octets;
+use crate::calls::interfaces::solicited_node_of_octets;
 use crate::frames::settles;
 use crate::texts::{
     print_then_parse_ethernet, print_then_parse_ip, print_then_parse_ip_cidr,
@@ -83,4 +86,20 @@ fn a_frame_settles(rt: HostRuntime) {
     let mut second = [0xa5; 48];
     assert_eq!(rt; settles(&FRAME, &mut first, &mut second), 46);
     assert_eq!(rt; second, FRAME);
+}
+
+#[test]
+fn calls_agree(rt: HostRuntime) {
+    // The example of RFC 2464, section 4.
+    let ethernet = EthernetAddress([0x34, 0x56, 0x78, 0x9a, 0xbc, 0xde]);
+    let identifier = Some([0x36, 0x56, 0x78, 0xff, 0xfe, 0x9a, 0xbc, 0xde]);
+    assert_eq!(rt; eui_64_of_octets(ethernet), (identifier, identifier));
+    // The example of RFC 4291, section 2.7.1.
+    let node = Ipv6Address::new(0x4037, 0, 0, 0, 1, 0x800, 0x200e, 0x8c6c);
+    let group = [
+        0xff, 2, 0, 0, 0, 0, 0, 0, 0, 0, 0, 1, 0xff, 0x0e, 0x8c, 0x6c,
+    ];
+    assert_eq!(rt; solicited_node_of_octets(&node), (group, group));
+    let block = Ipv4Cidr::new(Ipv4Address::new(192, 0, 2, 1), 24);
+    assert_eq!(rt; netmask_then_block(&block), Ok(block));
 }
