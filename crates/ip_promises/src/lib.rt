@@ -3,6 +3,7 @@
 //! combines them.
 #![tactic(auto)]
 
+pub mod calls;
 pub mod emit;
 pub mod equality;
 pub mod frames;

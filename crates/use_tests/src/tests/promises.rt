@@ -1,5 +1,8 @@
 //! A call of each kind.
 
+use ip_promises::calls::blocks::netmask_then_block;
+use ip_promises::calls::hardware::eui_64_of_octets;
+use ip_promises::calls::interfaces::solicited_node_of_octets;
 use ip_promises::equality::{
     equal_values_carried, equal_values_frame, equal_values_tcp, equal_values_tcp_option,
     equal_values_tcp_option_summary, equal_values_transport, equal_views_ipv4,
@@ -170,4 +173,20 @@ fn frames_over_equal_bytes_are_equal(rt: HostRuntime) {
     };
     assert!(rt; equal_values_frame(&a, &b));
     assert!(rt; !equal_values_frame(&a, &c));
+}
+
+#[test]
+fn calls_agree(rt: HostRuntime) {
+    // The example of RFC 2464, section 4.
+    let ethernet = EthernetAddress([0x34, 0x56, 0x78, 0x9a, 0xbc, 0xde]);
+    let identifier = Some([0x36, 0x56, 0x78, 0xff, 0xfe, 0x9a, 0xbc, 0xde]);
+    assert_eq!(rt; eui_64_of_octets(ethernet), (identifier, identifier));
+    // The example of RFC 4291, section 2.7.1.
+    let node = Ipv6Address::new(0x4037, 0, 0, 0, 1, 0x800, 0x200e, 0x8c6c);
+    let group = [
+        0xff, 2, 0, 0, 0, 0, 0, 0, 0, 0, 0, 1, 0xff, 0x0e, 0x8c, 0x6c,
+    ];
+    let block = Ipv4Cidr::new(Ipv4Address::new(192, 0, 2, 1), 24);
+    let found = (solicited_node_of_octets(&node), netmask_then_block(&block));
+    assert_eq!(rt; found, ((group, group), Ok(block)));
 }
