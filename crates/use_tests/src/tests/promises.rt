@@ -23,37 +23,37 @@ use net_base::ChecksumCapabilities;
 use std::test::Fail;
 
 #[test]
-fn texts_are_parsed(rt: HostRuntime) -> Result<(), Fail> {
+fn texts_of_addresses_are_parsed(rt: HostRuntime) -> Result<(), Fail> {
     let ethernet = EthernetAddress([0x02, 0x00, 0x00, 0x00, 0x00, 0x01]);
     let ipv4 = Ipv4Address::new(192, 0, 2, 1);
     let ipv6 = Ipv6Address::new(0x2001, 0xdb8, 0, 0, 0, 0, 0, 1);
-    let ipv4_block = Ipv4Cidr::new(ipv4, 24);
-    let ipv6_block = Ipv6Cidr::new(ipv6, 32);
-    let block = IpCidr::Ipv6(ipv6_block);
-    let endpoint = IpEndpoint::new(IpAddress::Ipv6(ipv6), 80);
-    let alloc = rt.alloc();
-    assert_eq!(rt;
+    let (addr, alloc) = (IpAddress::Ipv4(ipv4), rt.alloc());
+    let found = (
         print_then_parse_ethernet(alloc, &ethernet)?,
-        Some(ethernet)
+        print_then_parse_ipv4(alloc, &ipv4)?,
+        print_then_parse_ipv6(alloc, &ipv6)?,
+        print_then_parse_ip(alloc, &addr)?,
     );
-    assert_eq!(rt; print_then_parse_ipv4(alloc, &ipv4)?, Some(ipv4));
-    assert_eq!(rt; print_then_parse_ipv6(alloc, &ipv6)?, Some(ipv6));
-    assert_eq!(rt;
-        print_then_parse_ip(alloc, &IpAddress::Ipv4(ipv4))?,
-        Some(IpAddress::Ipv4(ipv4))
-    );
-    assert_eq!(rt;
-        print_then_parse_ipv4_cidr(alloc, &ipv4_block)?,
-        Some(ipv4_block)
-    );
-    assert_eq!(rt;
-        print_then_parse_ipv6_cidr(alloc, &ipv6_block)?,
-        Some(ipv6_block)
-    );
-    assert_eq!(rt; print_then_parse_ip_cidr(alloc, &block)?, Some(block));
-    assert_eq!(rt;
+    assert_eq!(rt; found, (Some(ethernet), Some(ipv4), Some(ipv6), Some(addr)));
+    Ok(())
+}
+
+#[test]
+fn texts_of_blocks_and_endpoints_are_parsed(rt: HostRuntime) -> Result<(), Fail> {
+    let addr = Ipv6Address::new(0x2001, 0xdb8, 0, 0, 0, 0, 0, 1);
+    let ipv4 = Ipv4Cidr::new(Ipv4Address::new(192, 0, 2, 1), 24);
+    let ipv6 = Ipv6Cidr::new(addr, 32);
+    let endpoint = IpEndpoint::new(IpAddress::Ipv6(addr), 80);
+    let (block, alloc) = (IpCidr::Ipv6(ipv6), rt.alloc());
+    let found = (
+        print_then_parse_ipv4_cidr(alloc, &ipv4)?,
+        print_then_parse_ipv6_cidr(alloc, &ipv6)?,
+        print_then_parse_ip_cidr(alloc, &block)?,
         print_then_parse_ip_endpoint(alloc, &endpoint)?,
-        Some(endpoint)
+    );
+    assert_eq!(rt;
+        found,
+        (Some(ipv4), Some(ipv6), Some(block), Some(endpoint))
     );
     Ok(())
 }
@@ -74,8 +74,7 @@ fn a_udp_packet_is_emitted_and_parsed(rt: HostRuntime) {
     let caps = ChecksumCapabilities::default();
     let mut buffer = [0xa5; 12];
     let parsed = emit_then_parse_udp(value, &UDP[8..], &src, &dst, &mut buffer, &caps, &caps);
-    assert_eq!(rt; parsed, Ok(value));
-    assert_eq!(rt; buffer, UDP);
+    assert_eq!(rt; (parsed, buffer), (Ok(value), UDP));
 }
 
 /// A frame with that packet, and two bytes of padding.
@@ -89,8 +88,8 @@ pub const FRAME: [u8; 48] = [
 fn a_frame_settles(rt: HostRuntime) {
     let mut first = [0xa5; 48];
     let mut second = [0xa5; 48];
-    assert_eq!(rt; settles(&FRAME, &mut first, &mut second), 46);
-    assert_eq!(rt; second, FRAME);
+    let len = settles(&FRAME, &mut first, &mut second);
+    assert_eq!(rt; (len, second), (46, FRAME));
 }
 
 /// A segment with this payload.
@@ -116,19 +115,26 @@ fn references_to_equal_bytes_are_equal(rt: HostRuntime) {
     let here = [0x0a, 0x0b];
     let there = [0x0a, 0x0b];
     let other = [0x0a, 0x0c];
-    assert!(rt; equal_values_tcp(&segment(&here), &segment(&there)));
-    assert!(rt; !equal_values_tcp(&segment(&here), &segment(&other)));
     let view = Ipv4Packet::new_unchecked(&here);
-    assert!(rt; equal_views_ipv4(&view, &Ipv4Packet::new_unchecked(&there)));
-    assert!(rt; !equal_views_ipv4(&view, &Ipv4Packet::new_unchecked(&other)));
+    let found = [
+        equal_values_tcp(&segment(&here), &segment(&there)),
+        equal_values_tcp(&segment(&here), &segment(&other)),
+        equal_views_ipv4(&view, &Ipv4Packet::new_unchecked(&there)),
+        equal_views_ipv4(&view, &Ipv4Packet::new_unchecked(&other)),
+    ];
+    assert_eq!(rt; found, [true, false, true, false]);
 }
 
 #[test]
 fn every_range_of_a_summary_is_compared(rt: HostRuntime) {
-    let mut summary = TcpOptionSummary::default();
-    assert!(rt; equal_values_tcp_option_summary(&summary, &TcpOptionSummary::default()));
+    let empty = TcpOptionSummary::default();
+    let mut summary = empty;
     summary.sack_ranges[SACK_BLOCKS - 1] = Some((1, 2));
-    assert!(rt; !equal_values_tcp_option_summary(&summary, &TcpOptionSummary::default()));
+    let found = [
+        equal_values_tcp_option_summary(&empty, &TcpOptionSummary::default()),
+        equal_values_tcp_option_summary(&empty, &summary),
+    ];
+    assert_eq!(rt; found, [true, false]);
 }
 
 #[test]
@@ -138,15 +144,18 @@ fn values_of_different_variants_differ(rt: HostRuntime) {
         kind: 30,
         bytes: &bytes,
     };
-    assert!(rt; equal_values_tcp_option(&unknown, &unknown));
-    assert!(rt; !equal_values_tcp_option(&unknown, &TcpOption::NoOperation));
     let unread = Transport::Unread(&bytes);
-    assert!(rt; equal_values_transport(&unread, &unread));
-    assert!(rt; !equal_values_transport(&unread, &Transport::Other(&bytes)));
     let packet = Ipv4Packet::new_unchecked(&bytes);
     let fragment = Carried::Fragment(packet);
-    assert!(rt; equal_values_carried(&fragment, &fragment));
-    assert!(rt; !equal_values_carried(&fragment, &Carried::Unread(&bytes)));
+    let found = [
+        equal_values_tcp_option(&unknown, &unknown),
+        equal_values_tcp_option(&unknown, &TcpOption::NoOperation),
+        equal_values_transport(&unread, &unread),
+        equal_values_transport(&unread, &Transport::Other(&bytes)),
+        equal_values_carried(&fragment, &fragment),
+        equal_values_carried(&fragment, &Carried::Unread(&bytes)),
+    ];
+    assert_eq!(rt; found, [true, false, true, false, true, false]);
 }
 
 /// A header of a frame.
