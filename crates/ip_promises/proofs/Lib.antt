@@ -1,1 +1,3 @@
+mod FindsWorked
+mod FrameValueWorked
 pub mod Parsed
