@@ -4,5 +4,6 @@ pub mod Echoes
 pub mod Parsed
 pub mod RepliesWorked
 pub mod Sent
+mod SentWorked
 pub mod SourceWorked
 pub mod TcpReplies

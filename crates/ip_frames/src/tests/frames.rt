@@ -59,7 +59,7 @@ fn arp(rt: HostRuntime) {
 
 #[test]
 fn segments(rt: HostRuntime) {
-    let rows: [(&[u8], &[u8]); 2] = [
+    let rows: [(&[u8], &[u8]); 3] = [
         // Over IPv6, with padding.
         (
             b"01020304050611121314151686dd6000000000180640fe800000000000000000000000000001fe800000000000000000000000000002bf00005001234567000000005002012300dd0000aa0000ff000000000000",
@@ -67,6 +67,14 @@ fn segments(rt: HostRuntime) {
                 IPv6 src=fe80::1 dst=fe80::2 nxt_hdr=TCP hop_limit=64\n\
                 TCP src=48896 dst=80 syn seq=19088743 win=291 len=4\n\
                 again 01020304050611121314151686dd6000000000180640fe800000000000000000000000000001fe800000000000000000000000000002bf00005001234567000000005002012300dd0000aa0000ff\n\n",
+        ),
+        // With four SACK blocks behind two no-operations. The rebuilt header has its two octets of padding at the end.
+        (
+            b"01020304050611121314151608004500004c000040004006b758c0a80101c0a80102bf0000500123456789abcdefe0100123377c0000010105220000000100000002000000030000000400000005000000060000000700000008",
+            b"EthernetII src=11-12-13-14-15-16 dst=01-02-03-04-05-06 type=IPv4\n\
+                IPv4 src=192.168.1.1 dst=192.168.1.2 proto=TCP\n\
+                TCP src=48896 dst=80 seq=19088743 ack=2309737967 win=291 len=0 sACKr[Some((1, 2)), Some((3, 4)), Some((5, 6)), Some((7, 8))]\n\
+                again 01020304050611121314151608004500004c000040004006b758c0a80101c0a80102bf0000500123456789abcdefe0100123387d0000052200000001000000020000000300000004000000050000000600000007000000080000\n\n",
         ),
         // Rejected for its FIN and RST, with padding.
         (

@@ -401,6 +401,15 @@ fn counts_octets_and_numbers(rt: HostRuntime) {
         sack_ranges: FOUR_RANGES,
         ..ack()
     };
+    let permitted = TcpRepr {
+        sack_permitted: true,
+        ..ack()
+    };
+    // Its range is counted, although none is written beside SACK permitted.
+    let unwritten = TcpRepr {
+        sack_ranges: [Some((1, 2)), None, None, None],
+        ..permitted
+    };
     let data = TcpRepr {
         payload: syn().payload,
         ..flagged(TcpControl::Psh)
@@ -414,6 +423,8 @@ fn counts_octets_and_numbers(rt: HostRuntime) {
         (flagged(TcpControl::Rst), 20, 0, false),
         (long, 64, 0, true),
         (four, 64, 0, true),
+        (unwritten, 32, 0, true),
+        (permitted, 24, 0, true),
     ] {
         assert!(rt; value.payload.len() <= 4);
         let found = (value.header_len(), value.segment_len(), value.is_empty());

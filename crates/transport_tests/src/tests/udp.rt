@@ -303,6 +303,18 @@ fn asks_for_a_checksum_over_ipv6(rt: HostRuntime) {
 }
 
 #[test]
+fn rejects_a_checksum_of_0_between_ipv6_hosts(rt: HostRuntime) {
+    let src = IpAddress::v6(0xfe80, 0, 0, 0, 0, 0, 0, 1);
+    let dst = IpAddress::v6(0xfe80, 0, 0, 0, 0, 0, 0, 2);
+    let packet = UdpPacket::new_unchecked(&UNSUMMED);
+    let read = [
+        UdpRepr::parse(&packet, &src, &dst, &udp(Checksum::Both)),
+        UdpRepr::parse(&packet, &src, &dst, &udp(Checksum::None)),
+    ];
+    assert_eq!(rt; read, [Err(Error), Ok(HEADER)]);
+}
+
+#[test]
 fn verifies_whole_and_partial_checksums(rt: HostRuntime) -> std::result::Result<(), Fail> {
     let (src, dst) = ipv4_ends();
     let mut padded = [0x55; 14];
