@@ -151,6 +151,24 @@ static void network_layer(void)
            lk_emit_ip(&ipv6, &src6, &dst6, 1000, 1, out, ROOM));
 }
 
+/* Values that a call might take for a default, or for the end of a range: they are written as they are. */
+static void unusual_values(void)
+{
+    struct lk_addr src = addr("192.0.2.1"), dst = addr("198.51.100.7"), src6 = addr("2001:db8::1"), dst6 = addr("2001:db8:ffff::7");
+    struct lk_ip last = ip(0xffff, 0, 65528), ipv6 = ip(0, 0xfffff, 0), first;
+    struct lk_arp other = arp;
+    other.operation = 0x0102;
+    WRITES("0001080006040102020000000001c00002010600aabbccddc6336407", lk_emit_arp(&other, &src, &dst, out, ROOM));
+    last.dscp = ipv6.dscp = 63, last.ecn = ipv6.ecn = 3, last.protocol = 255;
+    last.hop_limit = ipv6.hop_limit = ipv6.protocol = 0;
+    WRITES("45ff0014ffff1fff00ffacb1c0000201c6336407", lk_emit_ip(&last, &src, &dst, 0, 1, out, ROOM));
+    WRITES("6fffffff0000000020010db800000000000000000000000120010db8ffff00000000000000000007",
+           lk_emit_ip(&ipv6, &src6, &dst6, 0, 1, out, ROOM));
+    memset(&first, 0, sizeof first);
+    first.hop_limit = 255;
+    WRITES("4500ffff00000000ff00cfc1c0000201c6336407", lk_emit_ip(&first, &src, &dst, 65515, 1, out, ROOM));
+}
+
 static void transport_layer(void)
 {
     struct lk_endpoint src = endpoint("192.0.2.1:5353"), dst = endpoint("198.51.100.7:53");
@@ -253,6 +271,32 @@ static void frames(void)
     WRAPS(tcp6, 54 + 48, lk_wrap_tcp_frame(&ipv6, &all, 5, out, ROOM));
     WRITES("0600aabbccdd02000000000108060001080006040002020000000001c00002010600aabbccddc6336407",
            lk_emit_arp_frame(&ipv4, out, ROOM));
+}
+
+/* Port 0 is written as it is, though a receiver may reject it. */
+static void port_zero(void)
+{
+    static const char udp4[] = "0600aabbccdd020000000001080045ba0021beef40003f118fe6c0000201c633640700000000000dca92de01ad02be";
+    static const char udp6[] = "0600aabbccdd02000000000186dd6baabcde000d113f20010db800000000000000000000000120010db8ffff0000"
+                               "000000000000000700000000000d5b55de01ad02be";
+    static const char tcp4[] = "0600aabbccdd020000000001080045ba002dbeef40003f068fe5c0000201c63364070000000089abcdef12345678"
+                               "5058feedf011cafede01ad02be";
+    static const char tcp6[] = "0600aabbccdd02000000000186dd6baabcde0019063f20010db800000000000000000000000120010db8ffff0000"
+                               "00000000000000070000000089abcdef123456785058feed80d4cafede01ad02be";
+    struct lk_frame ipv4 = headers("192.0.2.1", "198.51.100.7"), ipv6 = headers("2001:db8::1", "2001:db8:ffff::7");
+    struct lk_tcp_options none;
+    memset(&none, 0, sizeof none);
+    ipv6.ip.ident = 0, ipv6.ip.flow_label = 0xabcde;
+    WRITES("00000000000dca92de01ad02be", lk_emit_udp(&ipv4.src, &ipv4.dst, payload, 5, 1, out, ROOM));
+    WRITES("0000000089abcdef123456785058feedf011cafede01ad02be", lk_emit_tcp(&ipv4.tcp, &none, &ipv4.src, &ipv4.dst, payload, 5, 1, out, ROOM));
+    WRITES(udp4, lk_emit_udp_frame(&ipv4, payload, 5, out, ROOM));
+    WRITES(udp6, lk_emit_udp_frame(&ipv6, payload, 5, out, ROOM));
+    WRITES(tcp4, lk_emit_tcp_frame(&ipv4, &none, payload, 5, out, ROOM));
+    WRITES(tcp6, lk_emit_tcp_frame(&ipv6, &none, payload, 5, out, ROOM));
+    WRAPS(udp4, 42, lk_wrap_udp_frame(&ipv4, 5, out, ROOM));
+    WRAPS(udp6, 62, lk_wrap_udp_frame(&ipv6, 5, out, ROOM));
+    WRAPS(tcp4, 54, lk_wrap_tcp_frame(&ipv4, &none, 5, out, ROOM));
+    WRAPS(tcp6, 74, lk_wrap_tcp_frame(&ipv6, &none, 5, out, ROOM));
 }
 
 static void replies(void)
@@ -436,9 +480,11 @@ int main(void)
 {
     link_layer();
     network_layer();
+    unusual_values();
     transport_layer();
     longest_headers();
     frames();
+    port_zero();
     replies();
     hosts();
     host_offers();

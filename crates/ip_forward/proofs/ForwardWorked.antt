@@ -12,6 +12,7 @@ use Rattle.ip_wire.specs.Ipv4 as ipv4
 use Rattle.ip_wire.specs.Ipv4.{ipv4_of}
 use Rattle.ip_wire.specs.Types.{EthernetAddress, EthernetRepr, IpRepr, Ipv4, Ipv6}
 use Rattle.ip_wire.specs.declared.EthernetProtocol.TheVariants as ethertype
+use Rattle.ip_wire.specs.declared.IpProtocol.TheVariants as protocol
 use Rattle.ip_wire.specs.WordSum.{residue, words}
 
 -- the stations of the next link
@@ -46,6 +47,19 @@ wrong_checksum = frame 2 1 0x45 0x01 0x20 0xd5
 abbrev version_6 : List ℕ
 version_6 = frame 2 1 0x65 0x01 0x20 0xd5
 
+-- a fragment with options in its IPv4 header, and padding behind it
+abbrev part : ℕ → ℕ → ℕ → ℕ → List ℕ
+part to from hops high =
+    (2 ∷ 0 ∷ 0 ∷ 0 ∷ 0 ∷ to ∷ 2 ∷ 0 ∷ 0 ∷ 0 ∷ 0 ∷ from ∷ 0x08 ∷ 0x00 ∷ [])
+    ++ (0x46 ∷ 0x00 ∷ 0x00 ∷ 0x20 ∷ 0x0b ∷ 0xad ∷ 0x20 ∷ 0x64 ∷ hops ∷ 0x11 ∷ high ∷ 0xb7 ∷ 0xc0 ∷ 0x00 ∷ 0x02 ∷ 0x01 ∷ 0xc0 ∷ 0x00 ∷ 0x02 ∷ 0x02 ∷ [])
+    ++ (0x01 ∷ 0x01 ∷ 0x01 ∷ 0x00 ∷ 0x70 ∷ 0x69 ∷ 0x6e ∷ 0x67 ∷ 0x70 ∷ 0x6f ∷ 0x6e ∷ 0x67 ∷ 0xaa ∷ 0xaa ∷ 0xaa ∷ 0xaa ∷ [])
+
+abbrev fragment : List ℕ
+fragment = part 2 1 0xff 0x08
+
+abbrev fragment_forwarded : List ℕ
+fragment_forwarded = part 0x12 0x11 0xfe 0x09
+
 -- ---- the headers of these frames
 
 link-reads : (version hops high low : ℕ) → ethernet.Reads (frame 2 1 version hops high low) (ethernet.header_of (frame 2 1 version hops high low))
@@ -54,6 +68,13 @@ link-reads version hops high low = record { whole = omega arith; dst_addr = refl
 udp-reads : ipv4.Reads (drop 14 udp) true (ipv4.header_of (drop 14 udp))
 unfolding ipv4_of words residue
 udp-reads = (ipv4_of-Reads true (drop 14 udp) (ipv4.header_of (drop 14 udp))).0 refl
+
+fragment-link : ethernet.Reads fragment (ethernet.header_of fragment)
+fragment-link = record { whole = omega arith; dst_addr = refl; src_addr = refl; ethertype = refl }
+
+fragment-reads : ipv4.Reads (drop 14 fragment) true (ipv4.header_of (drop 14 fragment))
+unfolding ipv4_of words residue
+fragment-reads = (ipv4_of-Reads true (drop 14 fragment) (ipv4.header_of (drop 14 fragment))).0 refl
 
 expired-reads : ipv4.Reads (drop 14 expired) true (ipv4.header_of (drop 14 expired))
 unfolding ipv4_of words residue
@@ -84,6 +105,33 @@ forwarded-by new header (Ipv6 v) reads hop bytes = let version = reads.version i
 -- one frame alone is the result of a hop: any other bytes are excluded
 udp-forwarded : (new : List ℕ) (header : IpRepr) → IsForwarded udp new src dst header → new ≡ udp_forwarded
 udp-forwarded new header w = forwarded-by new header w.before w.carried.packet.reads w.hop w.bytes
+
+-- and one header alone is returned, the new one
+returned-by : (header before : IpRepr) → ReadsHeader (drop 14 udp) true before → header ≡ one_hop_less before
+    → header ≡ one_hop_less (Ipv4 (ipv4.header_of (drop 14 udp)))
+returned-by header (Ipv4 v) reads hop =
+    let is : v ≡ ipv4.header_of (drop 14 udp) = rw (← reads.payload_len, ← reads.hop_limit, ← reads.next_header, ← reads.src_addr, ← reads.dst_addr) refl in
+    hop ∙ ap (λ v. one_hop_less (Ipv4 v)) is
+returned-by header (Ipv6 v) reads hop = let version = reads.version in absurd (omega (arith, version))
+
+udp-returned : (new : List ℕ) (header : IpRepr) → IsForwarded udp new src dst header
+    → header ≡ Ipv4 (record { src_addr = 192 ∷ 0 ∷ 2 ∷ 1 ∷ []; dst_addr = 192 ∷ 0 ∷ 2 ∷ 2 ∷ []; next_header = protocol.Udp; payload_len = 12; hop_limit = 63 })
+udp-returned new header w = returned-by header w.before w.carried.packet.reads w.hop
+
+fragment-forwarded-by : (new : List ℕ) (header before : IpRepr) → ReadsHeader (drop 14 fragment) true before → header ≡ one_hop_less before
+    → new ≡ dst.0 ++ src.0 ++ slice_range fragment 12 14 ++ with_hop_limit before (drop 14 fragment) (hop_limit_of header)
+    → new ≡ fragment_forwarded
+unfolding words residue
+fragment-forwarded-by new header (Ipv4 v) reads hop bytes =
+    let less : hop_limit_of header ≡ v.hop_limit - 1 = ap hop_limit_of hop in
+    let read = reads.hop_limit in
+    let left : hop_limit_of header ≡ 0xfe = omega (arith, less, read) in
+    bytes ∙ rw left refl
+fragment-forwarded-by new header (Ipv6 v) reads hop bytes = let version = reads.version in absurd (omega (arith, version))
+
+-- fragmentation, options and padding make no difference
+fragment-forwarded : (new : List ℕ) (header : IpRepr) → IsForwarded fragment new src dst header → new ≡ fragment_forwarded
+fragment-forwarded new header w = fragment-forwarded-by new header w.before w.carried.packet.reads w.hop w.bytes
 
 -- a packet with its last hop is not forwarded
 last-hop : (h : IpRepr) → ReadsHeader (drop 14 expired) true h → ¬ (1 < hop_limit_of h)
@@ -116,6 +164,16 @@ udp-rejected-as Expired (Ipv6 v, carried, last) = let version = carried.reads.ve
 
 udp-rejected : (reason : Rejection) → ¬ IsRejected udp reason
 udp-rejected reason w = udp-rejected-as reason (w.whole (ethernet.header_of udp) (link-reads 0x45 0x40 0x20 0xd4))
+
+fragment-rejected-as : (reason : Rejection) → ¬ IsRejectedAs ethertype.Ipv4 (drop 14 fragment) reason
+fragment-rejected-as NotIp other = other (packet_header fragment) refl
+fragment-rejected-as BadHeader bad = bad.1 (packet_header fragment) (carries fragment false (reads-verified (drop 14 fragment) true false _ fragment-reads (λ on. fragment-reads.checksum refl)))
+fragment-rejected-as WrongChecksum wrong = wrong.1 (packet_header fragment) (carries fragment true fragment-reads)
+fragment-rejected-as Expired (Ipv4 v, carried, last) = let read = carried.reads.hop_limit in absurd (omega (arith, last, read))
+fragment-rejected-as Expired (Ipv6 v, carried, last) = let version = carried.reads.version in absurd (omega (arith, version))
+
+fragment-rejected : (reason : Rejection) → ¬ IsRejected fragment reason
+fragment-rejected reason w = fragment-rejected-as reason (w.whole (ethernet.header_of fragment) fragment-link)
 
 -- a packet with its last hop is rejected for this reason alone
 expired-rejected-as : (reason : Rejection) → IsRejectedAs ethertype.Ipv4 (drop 14 expired) reason → reason ≡ Expired

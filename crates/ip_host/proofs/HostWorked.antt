@@ -11,12 +11,14 @@ use Rattle.ip_replies.specs.TcpReply.{IsTcpReply}
 use Rattle.ip_wire.proofs.Meanings.{frame-only, frame-read, meaning_of-read, without_len}
 use Rattle.ip_wire.specs.Arp.{arp_of}
 use Rattle.ip_wire.specs.Ethernet.{ethernet_of}
-use Rattle.ip_wire.specs.Frame.{Carried, Transport, datagram, frame_format, meaning_as, meaning_of, message, other, packet, segment}
+use Rattle.ip_wire.specs.Frame.{Carried, IsReadWhole, Transport, datagram, frame_format, meaning_as, meaning_of, message, other, packet, segment}
 use Rattle.ip_wire.specs.FrameValue.{carried_of}
 use Rattle.ip_wire.specs.Ip.{with_payload_len}
+use Rattle.ip_wire.specs.TcpRepr.{TcpHeader}
 use Rattle.ip_wire.specs.Types.{ArpRepr, EthernetRepr, IpRepr}
 use Rattle.ip_wire.specs.declared.EthernetProtocol.TheVariants as ethertype
 use Rattle.ip_wire.specs.declared.Frame.{Frame}
+use Rattle.ip_wire.specs.declared.TcpControl.TheVariants as control
 
 -- the host with these open ports
 abbrev host : Bor (List ℕ) → Host
@@ -106,3 +108,13 @@ request-no_reset r =
     let computed = frame-read request r.header (packet r.ip (segment r.tcp r.payload)) r.reads in
     let same : message question ≡ packet (with_payload_len r.ip 0) (segment r.tcp r.payload) = second (request_link, message question) r.header _ (sym request-read ∙ computed) in
     absurd (cc)
+
+-- nor is a segment with another flag
+other_flag-no_reset : (bytes payload : List ℕ) (header : EthernetRepr) (ip : IpRepr) (tcp : TcpHeader) → IsReadWhole bytes header (packet ip (segment tcp payload))
+    → ¬ (tcp.control ≡ control.Rst) → ¬ IsReset bytes
+other_flag-no_reset bytes payload header ip tcp reads differs r =
+    let once = frame-read bytes header (packet ip (segment tcp payload)) reads in
+    let again = frame-read bytes r.header (packet r.ip (segment r.tcp r.payload)) r.reads in
+    let same : packet (with_payload_len ip 0) (segment tcp payload) ≡ packet (with_payload_len r.ip 0) (segment r.tcp r.payload) =
+    second (header, packet (with_payload_len ip 0) (segment tcp payload)) r.header _ (sym once ∙ again) in
+    let tcp_same : tcp ≡ r.tcp = cc in differs (ap (λ (t : TcpHeader). t.control) tcp_same ∙ r.reset)

@@ -13,6 +13,7 @@ use Rattle.ip_wire.specs.Ethernet as ethernet
 use Rattle.ip_wire.specs.Frame.{ReadsTransport, Transport, all_checked, datagram, ipv4_payload, other, segment}
 use Rattle.ip_wire.specs.Ipv4 as ipv4
 use Rattle.ip_wire.specs.Ipv4.{ipv4_of}
+use Rattle.ip_wire.specs.Tcp as tcp_header
 use Rattle.ip_wire.specs.Types.{EthernetRepr, Ipv4, Ipv4Repr}
 use Rattle.ip_wire.specs.Udp as udp_header
 use Rattle.ip_wire.specs.Udp.{udp_of}
@@ -64,6 +65,12 @@ icmp = packet 0x45 0x40 0x01 0x20 0xe4 0xd3
 abbrev wrong_udp : List ℕ
 wrong_udp = packet 0x45 0x40 0x11 0x20 0xd4 0xd3
 
+-- a TCP segment with a wrong checksum, which is one more than the right one
+abbrev wrong_tcp : List ℕ
+wrong_tcp =
+    (0x45 ∷ 0x00 ∷ 0x00 ∷ 0x28 ∷ 0x95 ∷ 0xf5 ∷ 0x40 ∷ 0x00 ∷ 0x40 ∷ 0x06 ∷ 0x20 ∷ 0xd7 ∷ 0xc0 ∷ 0x00 ∷ 0x02 ∷ 0x01 ∷ 0xc0 ∷ 0x00 ∷ 0x02 ∷ 0x02 ∷ [])
+    ++ (0xb5 ∷ 0xe3 ∷ 0x14 ∷ 0xe9 ∷ 0x00 ∷ 0x00 ∷ 0x00 ∷ 0x01 ∷ 0x00 ∷ 0x00 ∷ 0x00 ∷ 0x00 ∷ 0x50 ∷ 0x02 ∷ 0x10 ∷ 0x00 ∷ 0x51 ∷ 0x12 ∷ 0x00 ∷ 0x00 ∷ [])
+
 whole-reads : ipv4.Reads whole true (ipv4.header_of whole)
 unfolding ipv4_of words residue
 whole-reads = (ipv4_of-Reads true whole (ipv4.header_of whole)).0 refl
@@ -87,6 +94,10 @@ icmp-reads = (ipv4_of-Reads true icmp (ipv4.header_of icmp)).0 refl
 wrong_udp-reads : ipv4.Reads wrong_udp true (ipv4.header_of wrong_udp)
 unfolding ipv4_of words residue
 wrong_udp-reads = (ipv4_of-Reads true wrong_udp (ipv4.header_of wrong_udp)).0 refl
+
+wrong_tcp-reads : ipv4.Reads wrong_tcp true (ipv4.header_of wrong_tcp)
+unfolding ipv4_of words residue
+wrong_tcp-reads = (ipv4_of-Reads true wrong_tcp (ipv4.header_of wrong_tcp)).0 refl
 
 -- the checksum need not be verified
 unverified : (bytes : List ℕ) → ipv4.Reads bytes true (ipv4.header_of bytes) → ipv4.Reads bytes false (ipv4.header_of bytes)
@@ -127,6 +138,19 @@ wrong_udp-carries header (segment u payload) reads (type, inner) =
     let apart : protocol.Udp ≡ protocol.Tcp = sym reads.next_header ∙ type in absurd (cc)
 wrong_udp-carries header (other payload) reads (no_udp, no_tcp, rest) = no_udp reads.next_header
 
+wrong_tcp-sum : (header : Ipv4Repr) → ipv4.Reads wrong_tcp true header
+    → ¬ tcp_header.Verifies (address.Ipv4 header.src_addr) (address.Ipv4 header.dst_addr) (ipv4_payload wrong_tcp)
+unfolding words residue
+wrong_tcp-sum header reads sum = let is = rw (reads.src_addr, reads.dst_addr) at sum in absurd (omega (arith, is))
+
+-- nor does a TCP segment
+wrong_tcp-carries : (header : Ipv4Repr) (transport : Transport) → ipv4.Reads wrong_tcp true header
+    → ¬ ReadsTransport all_checked (Ipv4 header) (ipv4_payload wrong_tcp) transport
+wrong_tcp-carries header (datagram u payload) reads (type, inner) =
+    let apart : protocol.Tcp ≡ protocol.Udp = sym reads.next_header ∙ type in absurd (cc)
+wrong_tcp-carries header (segment u payload) reads (type, inner) = wrong_tcp-sum header reads (inner.checksum refl)
+wrong_tcp-carries header (other payload) reads (no_udp, no_tcp, rest) = no_tcp reads.next_header
+
 -- ---- no translation
 
 wrong_checksum-translated : (new : List ℕ) → ¬ IsTranslated (frame wrong_checksum) new Source outside 40000
@@ -143,6 +167,10 @@ icmp-translated new w =
 wrong_udp-translated : (new : List ℕ) → ¬ IsTranslated (frame wrong_udp) new Source outside 40000
 wrong_udp-translated new w =
     let (type, p, transport) = w.before.reads.reads_carried in wrong_udp-carries w.header w.transport p.0 transport
+
+wrong_tcp-translated : (new : List ℕ) → ¬ IsTranslated (frame wrong_tcp) new Source outside 40000
+wrong_tcp-translated new w =
+    let (type, p, transport) = w.before.reads.reads_carried in wrong_tcp-carries w.header w.transport p.0 transport
 
 -- ---- the reason of a rejection
 
@@ -231,3 +259,14 @@ wrong_udp-rejected-as BadTransport bad = refl
 
 wrong_udp-rejected : (reason : Rejection) → IsRejected (frame wrong_udp) reason → reason ≡ BadTransport
 wrong_udp-rejected reason w = wrong_udp-rejected-as reason (w.whole (ethernet.header_of (frame wrong_udp)) (link-reads wrong_udp))
+
+wrong_tcp-rejected-as : (reason : Rejection) → IsRejectedPacket wrong_tcp reason → reason ≡ BadTransport
+wrong_tcp-rejected-as NotIpv4 nothing = absurd nothing
+wrong_tcp-rejected-as BadHeader bad = absurd (bad (ipv4.header_of wrong_tcp) (unverified wrong_tcp wrong_tcp-reads))
+wrong_tcp-rejected-as WrongChecksum (header, wrong) = absurd (wrong (wrong_tcp-reads.checksum refl))
+wrong_tcp-rejected-as Fragment (header, part) = absurd (true≢false (sym part))
+wrong_tcp-rejected-as OtherProtocol (header, p, (no_udp, no_tcp, rest)) = absurd (no_tcp p.0.next_header)
+wrong_tcp-rejected-as BadTransport bad = refl
+
+wrong_tcp-rejected : (reason : Rejection) → IsRejected (frame wrong_tcp) reason → reason ≡ BadTransport
+wrong_tcp-rejected reason w = wrong_tcp-rejected-as reason (w.whole (ethernet.header_of (frame wrong_tcp)) (link-reads wrong_tcp))

@@ -186,6 +186,27 @@ fn rejects_short_frames(rt: HostRuntime) {
     }
 }
 
+/// A TCP segment with a changed checksum, a changed port, and a port 0 with a valid checksum.
+#[test]
+fn rejects_other_segments(rt: HostRuntime) {
+    for changes in [
+        [(51, 0xbe), (51, 0xbe), (51, 0xbe)],
+        [(37, 0x51), (37, 0x51), (37, 0x51)],
+        [(37, 0x00), (50, 0xd9), (51, 0x0d)],
+    ] {
+        let mut frame = SYN;
+        for (at, octet) in changes {
+            frame[at] = octet;
+        }
+        let same = frame;
+        assert_eq!(rt;
+            translate(&mut frame, Side::Destination, inside(), 80),
+            Err(Rejection::BadTransport)
+        );
+        assert_eq!(rt; frame, same);
+    }
+}
+
 /// Two faults in one frame: the first reason of `Rejection` that applies. Where the IPv4 checksum is to be
 /// valid, it was computed anew (octets 24 and 25).
 #[test]

@@ -1,7 +1,7 @@
 //! One hop of a router. The expected frames have checksums that were computed anew.
 
 use ip_forward::{Rejection, forward};
-use ip_wire::{EthernetAddress, Ipv4Packet};
+use ip_wire::{EthernetAddress, IpProtocol, IpRepr, Ipv4Address, Ipv4Packet, Ipv4Repr};
 
 const SRC: EthernetAddress = EthernetAddress([0x02, 0x00, 0x00, 0x00, 0x00, 0x11]);
 
@@ -29,11 +29,33 @@ const IPV6: [u8; 70] = [
     0x02, 0x00, 0x00, 0x00, 0x00, 0x02,
 ];
 
+/// A fragment with options in its IPv4 header and the highest hop limit, and padding behind it.
+const FRAGMENT: [u8; 50] = [
+    0x02, 0x00, 0x00, 0x00, 0x00, 0x02, 0x02, 0x00, 0x00, 0x00, 0x00, 0x01, 0x08, 0x00, 0x46, 0x00,
+    0x00, 0x20, 0x0b, 0xad, 0x20, 0x64, 0xff, 0x11, 0x08, 0xb7, 0xc0, 0x00, 0x02, 0x01, 0xc0, 0x00,
+    0x02, 0x02, 0x01, 0x01, 0x01, 0x00, 0x70, 0x69, 0x6e, 0x67, 0x70, 0x6f, 0x6e, 0x67, 0xaa, 0xaa,
+    0xaa, 0xaa,
+];
+
+const FRAGMENT_FORWARDED: [u8; 50] = [
+    0x02, 0x00, 0x00, 0x00, 0x00, 0x12, 0x02, 0x00, 0x00, 0x00, 0x00, 0x11, 0x08, 0x00, 0x46, 0x00,
+    0x00, 0x20, 0x0b, 0xad, 0x20, 0x64, 0xfe, 0x11, 0x09, 0xb7, 0xc0, 0x00, 0x02, 0x01, 0xc0, 0x00,
+    0x02, 0x02, 0x01, 0x01, 0x01, 0x00, 0x70, 0x69, 0x6e, 0x67, 0x70, 0x6f, 0x6e, 0x67, 0xaa, 0xaa,
+    0xaa, 0xaa,
+];
+
 #[test]
 fn forwards_ipv4_until_it_expires(rt: HostRuntime) {
     let mut frame = UDP;
-    let is_ok = forward(&mut frame, SRC, DST).is_ok();
-    assert_eq!(rt; (is_ok, frame), (true, UDP_FORWARDED));
+    let header = Ipv4Repr {
+        src_addr: Ipv4Address::new(192, 0, 2, 1),
+        dst_addr: Ipv4Address::new(192, 0, 2, 2),
+        next_header: IpProtocol::Udp,
+        payload_len: 12,
+        hop_limit: 63,
+    };
+    let result = forward(&mut frame, SRC, DST);
+    assert_eq!(rt; (result, frame), (Ok(IpRepr::Ipv4(header)), UDP_FORWARDED));
     let mut hops = 0;
     for _ in 0..62 {
         let result = forward(&mut frame, SRC, DST);
@@ -53,12 +75,21 @@ fn forwards_ipv6_until_it_expires(rt: HostRuntime) {
     expected[6..12].copy_from_slice(&SRC.0);
     let mut frame = IPV6;
     for hop_limit in 1..255 {
-        let is_ok = forward(&mut frame, SRC, DST).is_ok();
-        expected[21] = 255 - hop_limit;
-        assert_eq!(rt; (is_ok, frame), (true, expected));
+        let left = 255 - hop_limit;
+        let result = forward(&mut frame, SRC, DST).map(|header| header.hop_limit());
+        expected[21] = left;
+        assert_eq!(rt; (result, frame), (Ok(left), expected));
     }
     let result = forward(&mut frame, SRC, DST);
     assert_eq!(rt; (result, frame), (Err(Rejection::Expired), expected));
+}
+
+/// A router does not look at fragmentation, options or what is behind the packet.
+#[test]
+fn forwards_a_fragment_with_options(rt: HostRuntime) {
+    let mut frame = FRAGMENT;
+    let is_ok = forward(&mut frame, SRC, DST).is_ok();
+    assert_eq!(rt; (is_ok, frame), (true, FRAGMENT_FORWARDED));
 }
 
 /// One octet changed: the EtherType, the version, the header length, the total length, the checksum, the
