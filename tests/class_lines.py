@@ -1,13 +1,15 @@
 #!/usr/bin/env python3
 """Writes tests/calls/class.call, lines that ask for the classes of an address, and class.txt, the expected answers.
 
+    tests/class_lines.py [FOLDER]
+
 The answers come from the blocks that RFCs define, not from a reference program. The lines are the same in each run.
 """
 import ipaddress
 import itertools
 import random
 
-from record import TESTS
+from record import write_calls
 
 # The classes in the order of an answer, with the blocks that they are.
 CLASSES = {
@@ -96,11 +98,7 @@ HAND_WRITTEN = [
 
 def main():
     found = dict.fromkeys([*HAND_WRITTEN, *map(str, addresses())])
-    with open(f"{TESTS}/calls/class.call", "w", encoding="ascii") as file:
-        file.writelines(f"class {text}\n" for text in found)
-    with open(f"{TESTS}/calls/class.txt", "w", encoding="ascii") as file:
-        file.writelines(f"{answer(ipaddress.ip_address(text))}\n" for text in found)
-    print(f"class: {len(found)} lines")
+    write_calls("class", {f"class {text}": answer(ipaddress.ip_address(text)) for text in found})
 
 
 if __name__ == "__main__":

@@ -1,19 +1,19 @@
 #!/usr/bin/env python3
 """Writes tests/calls/host.call, frames that a host gets, and host.txt, the reply to each or `-`.
 
+    tests/host_lines.py [FOLDER]
+
 Each row is a frame that gets a reply, with one thing varied, which its name tells. The table of the row says by the RFCs whether
 there is a reply, and tests/host_packets.py builds it. So nothing here comes from the library.
 """
 import collections
 import dataclasses
 import itertools
-import os
 
 from host_packets import (ACK, ARP, BROADCAST, CLOSED, CWR, ECE, ECHO, FIN, IPV4, IPV6, OPEN, OTHER_LINK, OUR_LINK, PSH, RST,
                           SACK_PERMITTED, SYN, URG, Ipv4, Ipv6, accepted, addr, asked, mss, option, ping, pong, reset, scale, segment,
                           timestamps, told, udp)
-
-TESTS = os.path.dirname(os.path.abspath(__file__))
+from record import write_calls
 
 
 @dataclasses.dataclass
@@ -375,11 +375,8 @@ def main():
     found = list(rows())
     names = [one.name for one in found]
     assert len(set(names)) == len(names), [name for name, times in collections.Counter(names).items() if times > 1]
-    with open(f"{TESTS}/calls/host.call", "w", encoding="ascii") as file:
-        file.writelines(f"host {one.name} {one.host.words()} {one.frame.hex() or '-'}\n" for one in found)
-    with open(f"{TESTS}/calls/host.txt", "w", encoding="ascii") as file:
-        file.writelines(f"{one.name} {one.reply.hex() if one.reply else '-'}\n" for one in found)
-    print(f"host: {len(found)} lines, {sum(one.reply is not None for one in found)} with a reply")
+    write_calls("host", {f"host {one.name} {one.host.words()} {one.frame.hex() or '-'}":
+                         f"{one.name} {one.reply.hex() if one.reply else '-'}" for one in found})
 
 
 if __name__ == "__main__":

@@ -304,7 +304,17 @@ COMPARED = [
          "make compare-calls: false fails: Command '['false']' returned non-zero exit status 1.\n", 1),
 ]
 
-CASES = [*RECORDED_CAPTURES, *PCAP, *PCAPNG, *RECORDED_DUMPS, *DUMPS, *DEVICES, *COMPARED]
+
+def generated(tool, *kinds):
+    """A generator that writes the calls and answers that are recorded."""
+    same = " && ".join(f"cmp $d/{kind}.{end} tests/calls/{kind}.{end}" for kind in kinds for end in ("call", "txt"))
+    return Case(tool, f"d=$(mktemp -d) && trap 'rm -r $d' EXIT && tests/{tool} $d > $d/said && {same}", b"", "", "", 0)
+
+
+GENERATED = [generated("class_lines.py", "class"), generated("host_lines.py", "host"), generated("field_lines.py", "set", "get"),
+             generated("again_lines.py", "again")]
+
+CASES = [*RECORDED_CAPTURES, *PCAP, *PCAPNG, *RECORDED_DUMPS, *DUMPS, *DEVICES, *COMPARED, *GENERATED]
 
 
 def failure(case):

@@ -4,7 +4,9 @@ ghost use Rattle.std.specs.Prelude.{◌≡◌, ◌==◌, IfOk, length, map, vec_
 ghost use Rattle.std.specs.List.{slice_split};
 ghost use Rattle.ip_calls.specs.Lines.{lines};
 
-use crate::{block, checksum, class, fragment, header, host, mask, options, tcp, text, udp};
+use crate::{
+    again, block, checksum, class, fragment, get, header, host, mask, options, set, tcp, text, udp,
+};
 use ip_wire::{EthernetAddress, IpAddress, IpCidr, IpEndpoint, Ipv4Cidr, Ipv6Cidr};
 use std::alloc::{AllocError, Global};
 
@@ -104,6 +106,9 @@ fn call(alloc: Global, line: &[u8]) -> Result<String, NoAnswer> {
         ["netmask", operands @ ..] => mask::from_netmask(alloc, operands),
         ["class", operands @ ..] => class::answer(alloc, operands),
         ["sum", operands @ ..] => checksum::answer(alloc, operands),
+        ["set", operands @ ..] => set::answer(alloc, operands),
+        ["get", operands @ ..] => get::answer(alloc, operands),
+        ["again", operands @ ..] => again::answer(alloc, operands),
         ["host", operands @ ..] => host::answer(alloc, operands),
         _ => Err(NoAnswer::Unknown),
     }

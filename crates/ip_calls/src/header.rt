@@ -1,7 +1,7 @@
 //! Emission of IP headers.
 
 use crate::answer::NoAnswer;
-use crate::operands::{addresses, capabilities, read};
+use crate::operands::{addresses, computed, read};
 use ip_wire::{IpProtocol, IpRepr};
 use std::alloc::Global;
 
@@ -32,6 +32,6 @@ pub fn answer(alloc: Global, operands: &[&str]) -> Result<String, NoAnswer> {
         return Err(NoAnswer::Malformed);
     }
     let mut out = vec![in alloc; read(old)?; header.header_len()]?;
-    header.emit(out.as_mut_slice(), &capabilities(tx));
+    header.emit(out.as_mut_slice(), &computed(tx));
     Ok(hex::encode(alloc, out.as_slice())?)
 }

@@ -9,6 +9,13 @@
 //!   `fin` or `rst`. Each RANGE and TS is a pair `A,B`. There are `SACK_BLOCKS` RANGEs.
 //! - `udp SRC DST SPORT DPORT PAYLOAD TX OLD`, `header SRC DST PROTOCOL LEN HOPS TX OLD` and
 //!   `frag OFFSET MORE IDENT OLD`: the octets that are emitted.
+//! - `set VIEW CALL OPERAND.. OCTETS`: the octets after a call of a setter, as `set udp set_len 8 OCTETS`. VIEW
+//!   is `eth`, `arp`, `ipv4`, `ipv6`, `frag`, `udp` or `tcp`. The operands are those of CALL.
+//! - `get VIEW OCTETS`: what the getters of the view return, in the order of the fields.
+//! - `again FORMAT CHOICES OLD OCTETS`: the octets are parsed, and the value is emitted again. The answer is
+//!   the octets that are emitted, or `err` if the octets do not parse. FORMAT is `ipv4`, `ip`, `udp SRC DST`
+//!   or `tcp SRC DST`. CHOICES has a letter for each of IPv4, UDP, TCP, ICMPv4 and ICMPv6: `r` verifies
+//!   checksums, `t` computes them, `b` does both, and `n` does neither.
 //! - `walk OPTIONS`: the summary of TCP options, whether SACK is permitted, and the SACK ranges.
 //! - `block A/N B/M`: whether the first block contains the address B, and whether it contains the second
 //!   block; for IPv4 also its netmask, network and broadcast address.
@@ -35,21 +42,24 @@
 //! exits with status 1.
 //!
 //! Proved: each line has an answer, the conditions of each call are met, and the answer to a text is the
-//! result of its parser and its printer. The other answers are compared with a reference. Replies are
-//! compared with those that the RFCs require.
+//! result of its parser and its printer. The other answers are compared with a reference, or with answers
+//! that follow from RFCs.
 #![tactic(auto)]
 
+mod again;
 mod answer;
 mod block;
 mod checksum;
 mod class;
 mod fragment;
+mod get;
 mod header;
 mod host;
 mod mask;
 mod operands;
 mod options;
 mod run;
+mod set;
 mod tcp;
 mod text;
 mod udp;

@@ -75,7 +75,7 @@ pub fn flag(word: &str) -> bool {
 }
 
 /// Which checksums are computed: all or none.
-pub fn capabilities(word: &str) -> ChecksumCapabilities {
+pub fn computed(word: &str) -> ChecksumCapabilities {
     let checksum = if flag(word) {
         Checksum::Both
     } else {
@@ -87,5 +87,30 @@ pub fn capabilities(word: &str) -> ChecksumCapabilities {
         tcp: checksum,
         icmpv4: checksum,
         icmpv6: checksum,
+    }
+}
+
+/// The choices of five letters, for IPv4, UDP, TCP, ICMPv4 and ICMPv6.
+pub fn capabilities(word: &str) -> Result<ChecksumCapabilities, NoAnswer> {
+    let [ipv4, udp, tcp, icmpv4, icmpv6] = word.as_bytes() else {
+        return Err(NoAnswer::Malformed);
+    };
+    Ok(ChecksumCapabilities {
+        ipv4: choice(*ipv4)?,
+        udp: choice(*udp)?,
+        tcp: choice(*tcp)?,
+        icmpv4: choice(*icmpv4)?,
+        icmpv6: choice(*icmpv6)?,
+    })
+}
+
+// The choice of this letter.
+fn choice(letter: u8) -> Result<Checksum, NoAnswer> {
+    match letter {
+        b'n' => Ok(Checksum::None),
+        b'r' => Ok(Checksum::Rx),
+        b't' => Ok(Checksum::Tx),
+        b'b' => Ok(Checksum::Both),
+        _ => Err(NoAnswer::Malformed),
     }
 }

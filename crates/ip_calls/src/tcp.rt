@@ -1,7 +1,7 @@
 //! Emission of TCP segments.
 
 use crate::answer::NoAnswer;
-use crate::operands::{addresses, capabilities, flag, maybe, octets, pair, read};
+use crate::operands::{addresses, computed, flag, maybe, octets, pair, read};
 use ip_wire::{
     IpAddress, SACK_BLOCKS, TCP_MAX_HEADER_LEN, TcpControl, TcpPacketMut, TcpRepr, TcpSeqNumber,
     TcpTimestampRepr,
@@ -26,7 +26,7 @@ pub fn answer(alloc: Global, operands: &[&str]) -> Result<String, NoAnswer> {
         &mut TcpPacketMut::new_unchecked(out.as_mut_slice()),
         &src_addr,
         &dst_addr,
-        &capabilities(tx),
+        &computed(tx),
     );
     let digits = hex::encode(alloc, out.as_slice())?;
     Ok(format!(in alloc; "{header_len} {digits}")?)

@@ -1,7 +1,7 @@
 //! Emission of UDP packets.
 
 use crate::answer::NoAnswer;
-use crate::operands::{addresses, capabilities, octets, read};
+use crate::operands::{addresses, computed, octets, read};
 use ip_wire::{UDP_HEADER_LEN, UDP_MAX_PAYLOAD_LEN, UdpPacketMut, UdpRepr};
 use std::alloc::Global;
 
@@ -25,7 +25,7 @@ pub fn answer(alloc: Global, operands: &[&str]) -> Result<String, NoAnswer> {
         &src_addr,
         &dst_addr,
         payload.as_slice(),
-        &capabilities(tx),
+        &computed(tx),
     );
     Ok(hex::encode(alloc, out.as_slice())?)
 }

@@ -7,7 +7,6 @@ mod ipv4;
 mod ipv6;
 mod ipv6fragment;
 mod protocol;
-mod setters;
 
 use ip_wire::{IpProtocol, Ipv6Address, Ipv6Repr};
 

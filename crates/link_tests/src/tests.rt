@@ -3,4 +3,3 @@
 mod arp;
 mod common;
 mod ethernet;
-mod setters;

@@ -37,24 +37,6 @@ pub fn copy_to(buffer: &mut [u8], bytes: &[u8]) -> usize {
     buffer.len()
 }
 
-/// Writes `number` into the `width` bits from bit `start` on, cut to that width. Bit 0 is the highest bit of the
-/// first byte, as in the diagrams of the RFCs.
-pub fn write_bits(bytes: &mut [u8], start: u16, width: u16, number: u128) {
-    let mut rest = number;
-    let start = usize::from(start);
-    for place in (start..start + usize::from(width)).rev() {
-        let mask = 0x80 >> (place % 8);
-        if let Some(byte) = bytes.get_mut(place / 8) {
-            *byte = if rest % 2 == 1 {
-                *byte | mask
-            } else {
-                *byte & !mask
-            };
-        }
-        rest /= 2;
-    }
-}
-
 /// A writer that compares its input with expected bytes. It fails behind the last of them.
 #[derive(Drop)]
 struct Expecting<'a> {

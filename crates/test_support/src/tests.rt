@@ -1,6 +1,6 @@
-//! `prints`, on types whose `Display` is wrong, and `write_bits`.
+//! `prints`, on types whose `Display` is wrong.
 
-use super::{prints, write_bits};
+use super::prints;
 use std::fmt;
 use std::fmt::Display;
 
@@ -47,21 +47,4 @@ fn tells_errors_that_are_hidden_and_added(rt: HostRuntime) {
         prints(&Failing, "two words"),
     ];
     assert_eq!(rt; found, [true, false, false, false, false, false]);
-}
-
-#[test]
-fn writes_bits_from_the_highest_on(rt: HostRuntime) {
-    for (old, start, width, number, want) in [
-        (0x00, 0, 4, 0x6, [0x60, 0x00, 0x00]),
-        (0xff, 0, 4, 0x6, [0x6f, 0xff, 0xff]),
-        (0x00, 6, 4, 0b1001, [0x02, 0x40, 0x00]),
-        (0xff, 6, 4, 0b1001, [0xfe, 0x7f, 0xff]),
-        (0x00, 8, 16, 0x1_2345, [0x00, 0x23, 0x45]),
-        (0xff, 15, 1, 0, [0xff, 0xfe, 0xff]),
-        (0x00, 22, 4, 0xf, [0x00, 0x00, 0x03]),
-    ] {
-        let mut bytes = [old; 3];
-        write_bits(&mut bytes, start, width, number);
-        assert_eq!(rt; bytes, want);
-    }
 }

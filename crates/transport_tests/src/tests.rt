@@ -1,10 +1,8 @@
 //! Worked examples, byte by byte.
 
-mod capabilities;
 mod checksum;
 mod frame;
 mod nested;
-mod setters;
 mod sums;
 mod tcp;
 mod tcp_options;

@@ -12,7 +12,7 @@ use std::test::Fail;
 use test_support::{OLD, copy_to, prints};
 
 /// A datagram from 192.168.1.1 to 192.168.1.2.
-pub(super) const PACKET: [u8; 12] = [
+const PACKET: [u8; 12] = [
     0xbf, 0x00, 0x00, 0x35, 0x00, 0x0c, 0x12, 0x4d, 0xaa, 0x00, 0x00, 0xff,
 ];
 
@@ -22,18 +22,9 @@ const UNSUMMED: [u8; 12] = [
 ];
 
 /// A datagram from `fe80::1` to `ff02::1`.
-pub(super) const PACKET_OVER_IPV6: [u8; 12] = [
+const PACKET_OVER_IPV6: [u8; 12] = [
     0x00, 0x01, 0x00, 0x02, 0x00, 0x0c, 0x02, 0x4e, 0xff, 0xff, 0xff, 0xff,
 ];
-
-/// Its payload.
-pub(super) const PAYLOAD_OVER_IPV6: [u8; 4] = [0xff; 4];
-
-/// The values of its header.
-pub(super) const HEADER_OVER_IPV6: UdpRepr = UdpRepr {
-    src_port: 1,
-    dst_port: 2,
-};
 
 /// A datagram from 192.168.1.1 to 192.168.1.2 with no payload, whose checksum of 0 is sent as ffff.
 const SUM_OF_0: [u8; 8] = [0x00, 0x01, 0x7c, 0x89, 0x00, 0x08, 0xff, 0xff];
@@ -45,10 +36,10 @@ const SUM_OF_0_HEADER: UdpRepr = UdpRepr {
 };
 
 /// The payload of the first.
-pub(super) const PAYLOAD: [u8; 4] = [0xaa, 0x00, 0x00, 0xff];
+const PAYLOAD: [u8; 4] = [0xaa, 0x00, 0x00, 0xff];
 
 /// The values of the first header.
-pub(super) const HEADER: UdpRepr = UdpRepr {
+const HEADER: UdpRepr = UdpRepr {
     src_port: 48896,
     dst_port: 53,
 };
@@ -66,14 +57,14 @@ macro_rules! fields {
 }
 
 /// 192.168.1.1 and 192.168.1.2.
-pub(super) fn ipv4_ends() -> (IpAddress, IpAddress)
+fn ipv4_ends() -> (IpAddress, IpAddress)
     ensures { version_of result.0 ≡ version_of result.1 }
 {
     (IpAddress::v4(192, 168, 1, 1), IpAddress::v4(192, 168, 1, 2))
 }
 
 /// `fe80::1` and `ff02::1`.
-pub(super) fn ipv6_ends() -> (IpAddress, IpAddress)
+fn ipv6_ends() -> (IpAddress, IpAddress)
     ensures { version_of result.0 ≡ version_of result.1 }
 {
     (
@@ -285,12 +276,12 @@ fn reads_what_its_checksum_and_ports_allow(rt: HostRuntime) {
 
 #[test]
 fn asks_for_a_checksum_over_ipv6(rt: HostRuntime) {
+    let value = UdpRepr {
+        src_port: 1,
+        dst_port: 2,
+    };
     for (bytes, verified, unverified) in [
-        (
-            &PACKET_OVER_IPV6,
-            Ok(HEADER_OVER_IPV6),
-            Ok(HEADER_OVER_IPV6),
-        ),
+        (&PACKET_OVER_IPV6, Ok(value), Ok(value)),
         (&PACKET, Err(Error), Ok(HEADER)),
         (&UNSUMMED, Err(Error), Ok(HEADER)),
     ] {
