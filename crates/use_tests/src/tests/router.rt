@@ -56,16 +56,14 @@ fn forwards_ipv4_until_it_expires(rt: HostRuntime) {
     };
     let result = forward(&mut frame, SRC, DST);
     assert_eq!(rt; (result, frame), (Ok(IpRepr::Ipv4(header)), UDP_FORWARDED));
-    let mut hops = 0;
     for _ in 0..62 {
-        let result = forward(&mut frame, SRC, DST);
-        if result.is_ok() && Ipv4Packet::new_unchecked(&frame[14..]).verify_checksum() {
-            hops += 1;
-        }
+        let is_ok = forward(&mut frame, SRC, DST).is_ok();
+        let verified = Ipv4Packet::new_unchecked(&frame[14..]).verify_checksum();
+        assert_eq!(rt; (is_ok, verified), (true, true));
     }
     let last = frame;
     let result = forward(&mut frame, SRC, DST);
-    assert_eq!(rt; (hops, result, frame), (62, Err(Rejection::Expired), last));
+    assert_eq!(rt; (result, frame), (Err(Rejection::Expired), last));
 }
 
 #[test]

@@ -29,8 +29,9 @@ fn accepts_a_syn(rt: HostRuntime) {
     let mut out = [0xa5; 80];
     let len = answer(&SYN, &ours(), &[22, 80], &OFFER, &mut out);
     assert_eq!(rt; (len, out), (Some(74), expected));
-    let len = answer(&SYN, &ours(), &[22, 80], &OFFER, &mut out[..73]);
-    assert_eq!(rt; (len, out), (None, expected));
+    let mut short = [0xa5; 73];
+    let len = answer(&SYN, &ours(), &[22, 80], &OFFER, &mut short);
+    assert_eq!(rt; (len, short), (None, [0xa5; 73]));
 }
 
 #[test]

@@ -195,12 +195,14 @@ fn syn_key() -> FlowKey {
 
 #[test]
 fn gives_both_directions_one_key(rt: HostRuntime) {
-    for (one, other, key) in [
-        (&ECHO_REQUEST[..], &ECHO_BACK[..], Some(echo_key())),
-        (&SYN, &SYN_ACK, Some(syn_key())),
-        (&FRAME[..45], &FRAME[..45], None),
+    for (bytes, key) in [
+        (&ECHO_REQUEST[..], Some(echo_key())),
+        (&ECHO_BACK, Some(echo_key())),
+        (&SYN, Some(syn_key())),
+        (&SYN_ACK, Some(syn_key())),
+        (&FRAME[..45], None),
     ] {
-        assert_eq!(rt; [key_of(one), key_of(other)], [key, key]);
+        assert_eq!(rt; key_of(bytes), key);
     }
     assert!(rt; key_of(&IPV6_FRAME).is_some());
 }
@@ -247,18 +249,28 @@ fn chooses_the_longest_prefix(rt: HostRuntime) {
             next_hop: IpAddress::v6(0xfe80, 0, 0, 0, 0, 0, 0, 1),
         },
     ];
-    let default = [route(0, 0, 0, 9), table[0]];
     let ipv6 = IpAddress::v6(0x2001, 0xdb8, 1, 2, 3, 4, 5, 6);
-    for (routes, addr, chosen) in [
-        (&table[..], IpAddress::v4(10, 1, 2, 3), Some(table[1])),
-        (&table, IpAddress::v4(10, 2, 2, 3), Some(table[0])),
-        (&table, IpAddress::v4(11, 2, 2, 3), None),
-        (&table, ipv6, Some(table[3])),
-        (&table[..3], ipv6, None),
-        (&default, IpAddress::v4(11, 2, 2, 3), Some(default[0])),
-        (&default, IpAddress::v4(10, 2, 2, 3), Some(default[1])),
-        (&[], IpAddress::v4(10, 2, 2, 3), None),
-    ] {
-        assert_eq!(rt; choose(routes, &addr), chosen);
-    }
+    let found = [
+        choose(&table, &IpAddress::v4(10, 1, 2, 3)),
+        choose(&table, &IpAddress::v4(10, 2, 2, 3)),
+        choose(&table, &IpAddress::v4(11, 2, 2, 3)),
+        choose(&table, &ipv6),
+        choose(&table[..3], &ipv6),
+        choose(&[], &IpAddress::v4(10, 2, 2, 3)),
+    ];
+    let wanted = [
+        Some(table[1]),
+        Some(table[0]),
+        None,
+        Some(table[3]),
+        None,
+        None,
+    ];
+    assert_eq!(rt; found, wanted);
+    let default = [route(0, 0, 0, 9), table[0]];
+    let found = [
+        choose(&default, &IpAddress::v4(11, 2, 2, 3)),
+        choose(&default, &IpAddress::v4(10, 2, 2, 3)),
+    ];
+    assert_eq!(rt; found, [Some(default[0]), Some(default[1])]);
 }
