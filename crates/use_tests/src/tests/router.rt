@@ -57,9 +57,8 @@ fn forwards_ipv4_until_it_expires(rt: HostRuntime) {
     let result = forward(&mut frame, SRC, DST);
     assert_eq!(rt; (result, frame), (Ok(IpRepr::Ipv4(header)), UDP_FORWARDED));
     for _ in 0..62 {
-        let is_ok = forward(&mut frame, SRC, DST).is_ok();
-        let verified = Ipv4Packet::new_unchecked(&frame[14..]).verify_checksum();
-        assert_eq!(rt; (is_ok, verified), (true, true));
+        assert!(rt; forward(&mut frame, SRC, DST).is_ok());
+        assert!(rt; Ipv4Packet::new_unchecked(&frame[14..]).verify_checksum());
     }
     let last = frame;
     let result = forward(&mut frame, SRC, DST);
