@@ -7,8 +7,8 @@ The record has a file for each library and program. It has all names that a libr
 public functions with their conditions and promises, the public types and constants, the members of each `impl` and trait,
 all definitions of specs/, and where each imported name that these use is defined. It has no layout, comments, bodies or
 proofs, and no private item that nothing of this names. A law that returns or changes a value is recorded with its body,
-because it promises something of what the body does. Differences are printed, and the status is 1 then. `--write` renews the
-record.
+because it promises something of what the body does. So is each function of ip_promises, private ones too. Differences are
+printed, and the status is 1 then. `--write` renews the record.
 """
 import difflib
 import os
@@ -23,6 +23,8 @@ FOLDER = "docs/statements"
 RENEW = "tests/statements.py --write"
 # Crates that only have tests.
 LEFT_OUT = {"test_support", "addr_tests", "link_tests", "ip_tests", "transport_tests", "use_tests"}
+# The crates whose functions promise something of what their bodies do, beside the laws.
+PROMISES = {"ip_promises"}
 # Attributes that change no statement.
 PLAIN = re.compile(r"(?:inline|allow|tactic|must_use|cold)\b")
 SHOWN = 40
@@ -111,7 +113,8 @@ class Record:
         if item.kind in ("impl", "trait"):
             yield from self.block(item)
         elif item.kind == "fn":
-            if item.visibility == "pub" or block == "trait" or block == "impl of a trait" and item.clauses:
+            is_named = item.visibility == "pub" or self.crate.name in PROMISES
+            if is_named or block == "trait" or block == "impl of a trait" and item.clauses:
                 yield from self.function(item, block)
         elif item.kind != "mod" and self.is_recorded(item, block):
             yield item.text
@@ -120,7 +123,8 @@ class Record:
     def function(self, item, block):
         yield item.text + (" { .. }" if block == "trait" and item.has_body else "")
         yield from map(str, item.clauses)
-        if self.module and "laws" in self.module.path and re.search("->|&mut", item.text):
+        is_promise = self.module and ("laws" in self.module.path or self.crate.name in PROMISES)
+        if is_promise and re.search("->|&mut", item.text):
             yield f"body {{ {item.body} }}"
 
     def is_recorded(self, item, block):

@@ -1,5 +1,5 @@
 //! The result of a call is also that of another call, or of a second formula. If contract and body of
-//! a call are wrong in the same way, these proofs fail.
+//! one of the two are wrong in the same way, these proofs fail.
 
 pub mod blocks;
 pub mod classes;
