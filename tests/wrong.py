@@ -25,12 +25,12 @@ def edits(crate, kind):
 
 
 def unpaired(crates):
-    """The controls that have no wrong body, and the wrong bodies of the gate that have no control."""
+    """The controls that have no wrong body, and the wrong bodies that have no control."""
     for crate in crates:
         named = lambda kind: {os.path.basename(path) for path in edits(crate, kind)}
-        gate, controls = named("must-fail"), named("controls")
-        yield from (f"{crate}/controls/{name} has no wrong body" for name in sorted(controls - gate - named("wrong-bodies")))
-        yield from (f"{crate}/must-fail/{name} has no control" for name in sorted(gate - controls))
+        wrong, controls = named("must-fail") | named("wrong-bodies"), named("controls")
+        yield from (f"{crate}/controls/{name} has no wrong body" for name in sorted(controls - wrong))
+        yield from (f"{crate}: the wrong body {name} has no control" for name in sorted(wrong - controls))
 
 
 def copied(room, crate, kind):
