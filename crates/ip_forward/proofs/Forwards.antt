@@ -146,10 +146,6 @@ pub bad-ipv6 : (type : EthernetProtocol) (bytes : List ℕ) (answer : Result Ipv
 bad-ipv6 type bytes answer error named reads is =
     subst (λ t. IsRejectedAs t bytes BadHeader) (sym named) ((Ipv6 (ipv6.header_of bytes), refl), no-ipv6 bytes answer error reads is)
 
-not-named : (type : EthernetProtocol) → type ≢ ethertype.Ipv4 → type ≢ ethertype.Ipv6 → (h : IpRepr) → type ≢ type_of h
-not-named type no4 no6 (Ipv4 v) is = no4 is
-not-named type no4 no6 (Ipv6 v) is = no6 is
-
 -- a frame with an IPv6 header that parses carries that packet
 pub carries-ipv6 : (type : EthernetProtocol) (bytes : List ℕ) (v : Ipv6Repr) → type ≡ ethertype.Ipv6 → ipv6.Reads bytes v → CarriesAs type bytes true (Ipv6 v)
 carries-ipv6 type bytes v named r = record { names = named; reads = r }

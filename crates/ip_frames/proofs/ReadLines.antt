@@ -25,7 +25,7 @@ use Rattle.ip_wire.specs.TcpRepr as tcp
 use Rattle.ip_wire.specs.TcpText as tcp_text
 use Rattle.ip_wire.specs.Udp as udp
 use Rattle.ip_wire.specs.UdpText as udp_text
-use Rattle.ip_wire.specs.Types.{EthernetProtocol, EthernetRepr, IpProtocol, IpRepr, Ipv4, Ipv4Repr, Ipv6, Ipv6Repr, UdpRepr}
+use Rattle.ip_wire.specs.Types.{EthernetProtocol, EthernetRepr, IpRepr, Ipv4, Ipv4Repr, Ipv6, Ipv6Repr, UdpRepr}
 use Rattle.ip_wire.specs.declared.EthernetProtocol.TheVariants as ethertype
 use Rattle.ip_wire.specs.declared.IpProtocol.TheVariants as protocol
 
@@ -133,11 +133,6 @@ lines-tcp v bytes u payload (is, r) =
     let dst = dst_addr_of v in
     let read = (tcp_of-Reads src dst true bytes u).1 (subst (λ p. tcp.Reads bytes src dst true u p) r.body r) in
     ap (λ p. lines_of_protocol p v bytes) is ∙ line_with_verdict-read _ _ _ (ap is_some read)
-
-lines-other_protocol : (p : IpProtocol) (v : IpRepr) (bytes : List ℕ) → p ≢ protocol.Udp → p ≢ protocol.Tcp → lines_of_protocol p v bytes ≡ []
-lines-other_protocol protocol.Udp v bytes udp tcp = absurd (udp refl)
-lines-other_protocol protocol.Tcp v bytes udp tcp = absurd (tcp refl)
-lines-other_protocol _ v bytes udp tcp = refl
 
 pub lines-udp-unread : (v : IpRepr) (bytes : List ℕ) → next_header_of v ≡ protocol.Udp → ((t : Transport) → ¬ ReadsTransport all_checked v bytes t)
     → transport_lines v bytes ≡ ended (udp_text.packet_text bytes ++ verdict_behind udp_format v bytes)

@@ -11,7 +11,7 @@ use Rattle.net_base.specs.Checksum.{computes}
 use Rattle.net_base.specs.declared.ChecksumCapabilities.{ChecksumCapabilities}
 use Rattle.wire_ethernet.specs.Ethernet as ethernet
 use Rattle.wire_ip.specs.Ip as ip
-use Rattle.wire_ip.specs.Ip.{dst_addr_of, src_addr_of, version_of, with_payload_len}
+use Rattle.wire_ip.specs.Ip.{dst_addr_of, src_addr_of, with_payload_len}
 use Rattle.ip_wire.specs.Types.{EthernetRepr, IpRepr, Ipv4, Ipv6}
 
 -- a header has the same addresses and version with another length of its payload
@@ -22,10 +22,6 @@ src_addr-with (Ipv6 v) w n is = ap src_addr_of is
 pub dst_addr-with : (v w : IpRepr) (n : ℕ) → w ≡ with_payload_len v n → dst_addr_of w ≡ dst_addr_of v
 dst_addr-with (Ipv4 v) w n is = ap dst_addr_of is
 dst_addr-with (Ipv6 v) w n is = ap dst_addr_of is
-
-pub version_of-with : (v w : IpRepr) (n : ℕ) → w ≡ with_payload_len v n → version_of w ≡ version_of v
-version_of-with (Ipv4 v) w n is = ap version_of is
-version_of-with (Ipv6 v) w n is = ap version_of is
 
 pub back-packet : (sent received : ChecksumCapabilities) (header : EthernetRepr) (c : Carried) (v : IpRepr) (t : Transport) (inner : IpRepr) (s : frame.Transport) (q padding : List ℕ)
     → c ≡ carried.Packet v t → inner ≡ with_payload_len v (transport_len t) → normal_transport_of t ≡ Some s → q ≡ transport_bytes sent v t

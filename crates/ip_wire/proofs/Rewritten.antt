@@ -1,5 +1,5 @@
 -- What a frame is written as that was read.
-use Rattle.std.proofs.Common.{ℕ, ◌≡◌, ◌≢◌, ◌≤◌, ◌<◌, ◌+◌, ◌^◌, ◌++◌, ◌∙◌, inr, true, Bool, List, [], drop, length, slice_range, length-append, length-drop, refl, sym, ap, ap₂, subst, arith}
+use Rattle.std.proofs.Common.{ℕ, ◌≡◌, ◌≢◌, ◌≤◌, ◌<◌, ◌+◌, ◌^◌, ◌++◌, ◌∙◌, inr, true, List, [], drop, length, length-append, length-drop, refl, sym, ap, ap₂, subst, arith}
 use Rattle.ip_wire.proofs.Frames.{rebuilt-ipv4, rebuilt-ipv4-copied, rebuilt-ipv6, rebuilt-read}
 use Rattle.ip_wire.proofs.Layers.{length-part}
 use Rattle.ip_wire.proofs.ReadsOnce.{udp-computed}
@@ -8,7 +8,7 @@ use Rattle.ip_wire.proofs.TcpLayer.{rebuilt-tcp}
 use Rattle.ip_wire.proofs.UdpLayer.{rebuilt-udp}
 use Rattle.ip_wire.proofs.Unread.{payload-stays, transport_by-stays}
 use Rattle.ip_wire.specs.Frame as frame
-use Rattle.ip_wire.specs.Frame.{ReadsPacket, all_checked, datagram, ipv4_payload, packet_payload, rebuilt, rebuilt_transport_by, rebuilt_payload, rebuilt_transport, segment, type_of}
+use Rattle.ip_wire.specs.Frame.{ReadsPacket, all_checked, datagram, ipv4_payload, rebuilt, rebuilt_transport_by, rebuilt_payload, rebuilt_transport, segment, type_of}
 use Rattle.ip_wire.specs.FrameValue.{ReadsHeader, Finds, FindsCarried, FindsTransport, Fits, FitsCarried, FitsTransport, carried_bytes, carried_len, frame_bytes, frame_len, transport_bytes, transport_len}
 use Rattle.ip_wire.specs.declared.frame.carried.Carried.{Carried}
 use Rattle.ip_wire.specs.declared.frame.carried.Carried.TheVariants as carried
@@ -18,18 +18,12 @@ use Rattle.ip_wire.specs.declared.frame.Frame.{Frame}
 use Rattle.net_base.specs.Checksum.{computes, verifies}
 use Rattle.net_base.specs.declared.ChecksumCapabilities.{ChecksumCapabilities}
 use Rattle.wire_arp.proofs.ArpComputed.{arp_of-Reads}
-use Rattle.ip_wire.specs.Types.{EthernetAddress, EthernetProtocol, EthernetRepr, IpAddress, IpProtocol, IpRepr, Ipv4, Ipv4Repr, Ipv6, Ipv6Repr}
+use Rattle.ip_wire.specs.Types.{EthernetProtocol, IpAddress, IpProtocol, IpRepr, Ipv4, Ipv6}
 use Rattle.wire_ends.specs.declared.IpProtocol.TheVariants as protocol
 use Rattle.wire_ethernet.proofs.EthernetComputed.{ethernet_of-Reads}
 use Rattle.wire_ethernet.specs.Ethernet as ethernet
 use Rattle.wire_ip.specs.Ip.{bytes_of, dst_addr_of, next_header_of, src_addr_of, with_payload_len}
 use Rattle.wire_ipv4.proofs.Ipv4Computed.{ipv4_of-Reads}
-use Rattle.wire_arp.specs.Arp as arp
-use Rattle.wire_arp.specs.declared.ArpOperation.{ArpOperation}
-use Rattle.wire_arp.specs.declared.ArpRepr.TheVariants.{EthernetIpv4}
-use Rattle.wire_field.specs.Field.{field}
-use Rattle.wire_field.proofs.Cells.{cells-all}
-use Rattle.wire_ipv4.specs.Ipv4 as ipv4
 use Rattle.wire_ipv4.specs.Ipv4.{header_len, total_len}
 use Rattle.wire_ipv6.proofs.Ipv6Computed.{ipv6_of-Reads}
 use Rattle.wire_ipv6.specs.Ipv6 as ipv6
@@ -90,40 +84,6 @@ length-transport caps v (transport.Udp u payload) = simp length-append (omega ar
 length-transport caps v (transport.Tcp u) = tcp_layer.length-written (src_addr_of v) (dst_addr_of v) (tcp.header_of u) u.payload.now (computes caps.tcp)
 length-transport caps v (transport.Other payload) = refl
 length-transport caps v (transport.Unread kept) = refl
-
--- the addresses of a header make up its length
-length-ipv4 : (w : Ipv4Repr) (computed : Bool) → length w.src_addr ≡ 4 → length w.dst_addr ≡ 4 → length (ipv4.bytes_of w computed) ≡ 20
-length-ipv4 w computed s d = rw (cells-all 4 w.src_addr s, cells-all 4 w.dst_addr d) (omega arith)
-
-length-ipv6 : (w : Ipv6Repr) → length w.src_addr ≡ 16 → length w.dst_addr ≡ 16 → length (ipv6.bytes_of w) ≡ 40
-length-ipv6 w s d = rw (cells-all 16 w.src_addr s, cells-all 16 w.dst_addr d) (omega arith)
-
-length-arp : (operation : ArpOperation) (sha : EthernetAddress) (spa : List ℕ) (tha : EthernetAddress) (tpa : List ℕ) → length sha.0 ≡ 6 → length spa ≡ 4 → length tha.0 ≡ 6
-    → length tpa ≡ 4 → length (arp.bytes_of (EthernetIpv4 operation sha spa tha tpa)) ≡ 28
-length-arp operation sha spa tha tpa a b c d = rw (cells-all 6 sha.0 a, cells-all 4 spa b, cells-all 6 tha.0 c, cells-all 4 tpa d) (omega arith)
-
-length-ethernet : (v : EthernetRepr) → length v.dst_addr.0 ≡ 6 → length v.src_addr.0 ≡ 6 → length (ethernet.bytes_of v) ≡ 14
-length-ethernet v d s = rw (cells-all 6 v.dst_addr.0 d, cells-all 6 v.src_addr.0 s) (omega arith)
-
-length-carried : (caps sent : ChecksumCapabilities) (t : EthernetProtocol) (bytes : List ℕ) (c : Carried) → FindsCarried caps t bytes c
-    → length (carried_bytes sent c) ≡ carried_len c
-length-carried caps sent t bytes (carried.Arp v) (is, r) =
-    let whole = r.whole in
-    rw r.fields (length-arp (arp.operation_of (field bytes 48 16)) (record { 0 = slice_range bytes 8 14 }) (slice_range bytes 14 18) (record { 0 = slice_range bytes 18 24 }) (slice_range bytes 24 28)
-    (length-part bytes 8 14 (omega (arith, whole))) (length-part bytes 14 18 (omega (arith, whole)))
-    (length-part bytes 18 24 (omega (arith, whole))) (length-part bytes 24 28 (omega (arith, whole))))
-length-carried caps sent t bytes (carried.Packet (Ipv4 v) inner) (is, (r, part), found) =
-    let least = r.lengths.least in
-    let w = record v { payload_len = transport_len inner } in
-    let header = length-ipv4 w (computes sent.ipv4) (ap length r.src_addr ∙ length-part bytes 12 16 (omega (arith, least))) (ap length r.dst_addr ∙ length-part bytes 16 20 (omega (arith, least))) in
-    length-append (ipv4.bytes_of w (computes sent.ipv4)) (transport_bytes sent (Ipv4 v) inner) ∙ ap₂ ◌+◌ header (length-transport sent (Ipv4 v) inner)
-length-carried caps sent t bytes (carried.Packet (Ipv6 v) inner) (is, r, found) =
-    let whole = r.lengths in
-    let w = record v { payload_len = transport_len inner } in
-    let header = length-ipv6 w (ap length r.src_addr ∙ length-part bytes 8 24 (omega (arith, whole))) (ap length r.dst_addr ∙ length-part bytes 24 40 (omega (arith, whole))) in
-    length-append (ipv6.bytes_of w) (transport_bytes sent (Ipv6 v) inner) ∙ ap₂ ◌+◌ header (length-transport sent (Ipv6 v) inner)
-length-carried caps sent t bytes (carried.Fragment part) found = refl
-length-carried caps sent t bytes (carried.Unread kept) found = refl
 
 other-stays : (p : IpProtocol) (src dst : IpAddress) (bytes : List ℕ) → p ≢ protocol.Udp → p ≢ protocol.Tcp → rebuilt_transport_by p src dst bytes ≡ bytes
 other-stays protocol.Udp src dst bytes a b = absurd (a refl)

@@ -44,10 +44,6 @@ put_mid_more b old front new at k is place =
     let rest : drop at b ≡ drop at old = ap (drop at) is ∙ drop_at front (drop at old) at place in
     rw (head, rest, drop-drop k at old) (sym (append_assoc front new _))
 
--- a slice that is written in the middle
-pub put_mid_parts : (b new : List ℕ) (at k : ℕ) → put_mid at k b new ≡ (take at b ++ new) ++ drop (at + k) b
-put_mid_parts b new at k = rw (drop-drop k at b) (sym (append_assoc (take at b) new _))
-
 -- the next range, written at its index
 pub range_written : (xs : Ranges) (i start end : ℕ) (b old new : List ℕ) (at k : ℕ) → i < length xs → get_or xs i None ≡ Some (start, end) → b ≡ range_bytes (take i xs) ++ drop at old → at ≡ 8 * count_by is_some (take i xs) → k ≡ 8 → new ≡ big_bytes 4 start ++ big_bytes 4 end → put_mid at k b new ≡ range_bytes (take (i + 1) xs) ++ drop (at + 8) old
 range_written xs i start end b old new at k inside is done place eight written =

@@ -273,10 +273,6 @@ at_dotted before seen piece [] groups e =
     and_then_some _ (octets_read piece) groups read λ octets last same.
     (refl, may, (octets, octets_sound piece octets last, sym (same_Some _ _ same)))
 
-all_sound : (before : Option ℕ) (seen groups : List ℕ) → all_groups before seen ≡ Some groups → (length seen ≤ 8)
-all_sound None seen groups e = let (eight, same) = cond_some _ _ _ e in omega (arith, eqb-true _ _ eight)
-all_sound (Some n) seen groups e = let (few, same) = cond_some _ _ _ e in omega (arith, ltb-true _ _ few)
-
 -- ---- the text, recovered from its pieces
 
 -- the inner text begins with no colon, or it is the text without the first colon of `::`

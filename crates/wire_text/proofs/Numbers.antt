@@ -1,8 +1,8 @@
 -- The number parser returns exactly the number of the grammar.
-use Rattle.std.proofs.Common.{◌≡◌, ℕ, ◌<◌, ◌≤◌, ◌⊎◌, Bool, true, false, cond, List, [], ◌∷◌, length, get_or, Option, Some, None, refl, arith, inl, inr, lt-ltb, le-leb, le-ltb, nat_lt, nat_le, ◌*◌, ◌+◌, ◌^◌, take, length-take-le, le_trans, lit≤, min, mul-le-mul, ◌&&◌, subst, sym}
+use Rattle.std.proofs.Common.{◌≡◌, ℕ, ◌<◌, ◌≤◌, ◌⊎◌, Bool, true, false, cond, List, [], ◌∷◌, length, get_or, Option, Some, None, refl, arith, lt-ltb, le-leb, nat_lt, nat_le, ◌*◌, ◌+◌, ◌^◌, take, length-take-le, le_trans, lit≤, min, mul-le-mul, ◌&&◌, subst, sym}
 use Rattle.std.proofs.Math.Nat.{pow-le-pow_left, pow-le-pow_right}
 use Rattle.std.proofs.lemmas.Int.Digits.{digits_value-lt, digits_more, digits_value_more}
-use Rattle.std.proofs.lemmas.Bool.{and_right, ltb-true, leb-true, lt-leb, and_parts}
+use Rattle.std.proofs.lemmas.Bool.{ltb-true, leb-true, and_parts}
 use Rattle.std.proofs.lemmas.Option.{none-some}
 use Rattle.std.specs.List.{list_all}
 use Rattle.std.specs.Char.{is_digit, digit_value}
@@ -21,16 +21,6 @@ all_digits radix [] h = tt
 all_digits radix (c ∷ text) h =
     let (first, others) = and_parts _ _ h in
     (ltb-true (digit_value c) radix first, all_digits radix text others)
-
-pub number_wrong_length : (radix places most : ℕ) (text : List ℕ) → (length text ≡ 0) ⊎ (places < length text) → number_of radix places most text ≡ None
-unfolding number_of
-number_wrong_length radix places most text (inl none) = rw (le-ltb 0 (length text) (omega arith))
-number_wrong_length radix places most text (inr long) =
-    rw (and_right (nat_lt 0 (length text)) _ (lt-leb (length text) places long))
-
-pub number_not_digits : (radix places most : ℕ) (text : List ℕ) → 0 < length text → length text ≤ places → list_all (λ c. is_digit c radix) text ≡ false → number_of radix places most text ≡ None
-unfolding number_of
-number_not_digits radix places most text some short other = rw (lt-ltb _ _ some, le-leb _ _ short, other)
 
 pub number_digits : (radix places most : ℕ) (text : List ℕ) → 0 < length text → length text ≤ places → AllDigits radix text → number_of radix places most text ≡ cond (nat_le (digits_value radix text) most) (Some (digits_value radix text)) None
 unfolding number_of

@@ -1,31 +1,11 @@
 -- A text and its pieces between marks.
-use Rattle.std.proofs.Common.{◌≡◌, ℕ, ◌+◌, ◌-◌, ◌<◌, ◌≤◌, ◌≢◌, ◌==◌, Bool, true, false, cond, List, [], ◌∷◌, ◌++◌, length, take, drop, Some, None, refl, sym, ap, ◌∙◌, arith, position, ne_eqb, eq-eqb, All, ltb-false, append_assoc}
-use Rattle.std.proofs.lemmas.List.Elements.{All-from_get_or, All-nil, All-cons, All-append}
+use Rattle.std.proofs.Common.{◌≡◌, ℕ, ◌+◌, ◌-◌, ◌<◌, ◌≤◌, ◌≢◌, ◌==◌, false, List, [], ◌∷◌, ◌++◌, length, refl, sym, ap, ◌∙◌, arith, ne_eqb, eq-eqb, All, append_assoc}
+use Rattle.std.proofs.lemmas.List.Elements.{All-nil, All-cons, All-append}
 use Rattle.std.specs.Char.{digit_value}
 use Rattle.std.specs.Str.Parse.{AllDigits}
-use Rattle.std.proofs.lemmas.List.Sums.{fails_before_first}
-use Rattle.std.proofs.lemmas.Bool.{ltb-true}
-use Rattle.std.proofs.lemmas.Option.{none-some}
-use Rattle.std.proofs.lemmas.List.{take_rest}
-use Rattle.std.proofs.lemmas.List.Splits.{slice_split_first, slice_split_none, slice_split_at, length-slice_split}
+use Rattle.std.proofs.lemmas.List.Splits.{slice_split_none, slice_split_at, length-slice_split}
 use Rattle.std.specs.List.{join_with_byte}
-use Rattle.std.proofs.NetLemmas.Options.{cond_some}
 use Rattle.wire_text.specs.Reading.{pieces_of}
-
--- the first piece ends at the first mark
-pub pieces_at : (mark : ℕ) (text : List ℕ) (at : ℕ) → position (λ b. b == mark) text ≡ Some at → pieces_of mark text ≡ take at text ∷ pieces_of mark (take (length text - (at + 1)) (drop (at + 1) text))
-pieces_at mark text at e =
-    let (within, same) = cond_some _ _ _ e in
-    rw (take_rest text (at + 1), ← same) (slice_split_first (λ b. b == mark) text 0 (ltb-true _ _ within))
-
-none_test : {A : Type 0} (b : Bool) (x : A) → cond b (Some x) None ≡ None → b ≡ false
-none_test true x e = absurd (none-some x (sym e))
-none_test false x e = refl
-
-pub pieces_whole : (mark : ℕ) (text : List ℕ) → position (λ b. b == mark) text ≡ None → pieces_of mark text ≡ text ∷ []
-pieces_whole mark text e =
-    let past = ltb-false _ _ (none_test _ _ e) in
-    slice_split_none _ text (All-from_get_or (λ x. x == mark ≡ false) text 0 (λ k h. fails_before_first (λ b. b == mark) text k 0 (omega arith)))
 
 -- the piece contains no mark
 abbrev pub IsPiece : ℕ → List ℕ → Type 0

@@ -1,9 +1,8 @@
 -- Single steps of the parsers.
-use Rattle.std.proofs.Common.{◌≡◌, ◌≢◌, ℕ, zero, suc, ◌+◌, ◌-◌, ◌<◌, ◌≤◌, ◌==◌, nat_lt, nat_le, Bool, true, false, ◌&&◌, cond, List, [], ◌∷◌, ◌++◌, length, get_or, take, drop, replicate, bytes_eq, Option, Some, None, refl, sym, ap, ap₂, ◌∙◌, arith, inl, inr, le-leb, lit≤, length-append, lt-ltb, ne_eqb, eq-eqb, eqb-true, not, ◌⊎◌, take_all, Bor, is_some, IfSome}
+use Rattle.std.proofs.Common.{◌≡◌, ◌≢◌, ℕ, zero, suc, ◌+◌, ◌-◌, ◌<◌, ◌≤◌, ◌==◌, nat_lt, nat_le, Bool, true, false, ◌&&◌, cond, List, [], ◌∷◌, ◌++◌, length, get_or, take, drop, replicate, bytes_eq, Option, Some, None, refl, sym, ap, ◌∙◌, arith, inl, inr, lit≤, length-append, lt-ltb, ne_eqb, eq-eqb, eqb-true, not, ◌⊎◌, Bor, is_some, IfSome}
 use Rattle.std.proofs.lemmas.Bool.{cases_eq, true≢false, eqb-false, leb-true}
 use Rattle.std.proofs.lemmas.List.Splits.{join_with_byte-slice_split, slice_split_at}
 use Rattle.wire_text.specs.Grammar.{groups_of, mapped_groups, IsDotted}
-use Rattle.std.proofs.lemmas.List.{take_more}
 use Rattle.std.specs.List.{list_all, join_with_byte}
 use Rattle.std.specs.Bool.{then_some}
 use Rattle.wire_text.specs.Reading.{FilledFrom, ◌>>=◌, FirstPiece, octets_read, hex_octets_read, numbers_of, pieces_of, all_groups, may_end_dotted, groups_from, group_of, behind_elision, dotted_end, pieces_after, mapped_read, inner_text, groups_read}
@@ -40,13 +39,6 @@ six_octets mark text values done r filled len e = e ∙ counted 6 _ values done 
 zeros_test : (zeros : List ℕ) → list_all (λ g. g == 0) zeros ≡ bytes_eq (zeros ++ 0xffff ∷ []) (replicate (length zeros) 0 ++ 0xffff ∷ [])
 zeros_test [] = refl
 zeros_test (z ∷ zeros) = ap (λ b. (z == 0) && b) (zeros_test zeros)
-
-pub mark_test : (groups : List ℕ) (before : ℕ) (r : Bool) → 1 ≤ length groups → get_or groups (length groups - 1) 0 ≡ 0xffff → before ≤ 4 → length (take (length groups - 1) groups) ≡ before → r ≡ list_all (λ g. g == 0) (take (length groups - 1) groups) → r ≡ may_end_dotted (Some before) groups
-mark_test groups before r some last few len e =
-    let front = take (length groups - 1) groups in
-    let one : length groups - 1 + 1 ≡ length groups = omega arith in
-    let all : groups ≡ front ++ 0xffff ∷ [] = sym (take_all _ groups (omega arith)) ∙ ap (λ n. take n groups) (sym one) ∙ take_more groups (length groups - 1) 0 (omega arith) ∙ ap (λ g. front ++ g ∷ []) last in
-    rw (le-leb before 4 few) (e ∙ zeros_test front ∙ ap₂ (λ xs n. bytes_eq xs (replicate n 0 ++ 0xffff ∷ [])) (sym all) len)
 
 -- one iteration of the loop, by the kind of the piece
 module _ (before : Option ℕ) (seen piece : List ℕ) (pieces : List (List ℕ)) where
