@@ -37,25 +37,33 @@ abbrev pub with_tcp_port : Side → ℕ → TcpHeader → TcpHeader
 with_tcp_port Source port v = record v { src_port = port }
 with_tcp_port Destination port v = record v { dst_port = port }
 
+-- What is said of the ports of a transport: whether it has any, the one on a side, and the transport with another one there.
+pub record Ports : Type 1 where
+  pub exist : Type 0
+  pub at : Side → ℕ
+  pub replaced : Side → ℕ → Transport
+
+-- this one of two ports
+abbrev pub on_side : ℕ → ℕ → Side → ℕ
+on_side src dst Source = src
+on_side src dst Destination = dst
+
+abbrev pub ports_of : Transport → Ports
+ports_of (datagram v payload) =
+    record { exist = ⊤; at = on_side v.src_port v.dst_port; replaced = λ side port. datagram (with_udp_port side port v) payload }
+ports_of (segment v payload) =
+    record { exist = ⊤; at = on_side v.src_port v.dst_port; replaced = λ side port. segment (with_tcp_port side port v) payload }
+ports_of (other payload) = record { exist = ⊥; at = λ side. 0; replaced = λ side port. other payload }
+
 -- a UDP packet or a TCP segment: both have ports
 abbrev pub HasPorts : Transport → Type 0
-HasPorts (datagram v payload) = ⊤
-HasPorts (segment v payload) = ⊤
-HasPorts (other payload) = ⊥
+HasPorts t = (ports_of t).exist
 
--- its port on this side, or 0 for other protocols
 abbrev pub port_of : Side → Transport → ℕ
-port_of Source (datagram v payload) = v.src_port
-port_of Source (segment v payload) = v.src_port
-port_of Destination (datagram v payload) = v.dst_port
-port_of Destination (segment v payload) = v.dst_port
-port_of side (other payload) = 0
+port_of side t = (ports_of t).at side
 
--- the same packet with another port on this side
 abbrev pub with_port : Side → ℕ → Transport → Transport
-with_port side port (datagram v payload) = datagram (with_udp_port side port v) payload
-with_port side port (segment v payload) = segment (with_tcp_port side port v) payload
-with_port side port (other payload) = other payload
+with_port side port t = (ports_of t).replaced side port
 
 -- ---- bytes
 

@@ -1,6 +1,6 @@
 -- Whole frames as values: what they are parsed as, what they are emitted as, and what they print as.
 use Rattle.std.specs.Prelude.{List, ℕ, [], ⊤, ◌∷◌, ◌≡◌, ◌≢◌, ◌<◌, ◌≤◌, ◌++◌, ◌+◌, IsTrue, Option, Some, None, Result, Ok, Err, MatchOption, codes, decimal, drop, length, true}
-use Rattle.std.specs.Option.{option_map}
+use Rattle.std.specs.Option.{option_map, option_map_or}
 use Rattle.ip_wire.specs.Frame as frame
 use Rattle.ip_wire.specs.Frame.{ReadsCarried, ReadsFrame, ReadsPacket, ReadsTransport, packet_payload, type_of}
 use Rattle.ip_wire.specs.declared.frame.Frame.{Frame}
@@ -11,7 +11,7 @@ use Rattle.ip_wire.specs.declared.frame.transport.Transport.TheVariants as trans
 use Rattle.net_base.specs.Checksum.{computes, verifies}
 use Rattle.net_base.specs.declared.Checksum.{Checksum}
 use Rattle.net_base.specs.declared.ChecksumCapabilities.{ChecksumCapabilities}
-use Rattle.ip_wire.specs.Types.{ArpRepr, EthernetAddress, EthernetProtocol, EthernetRepr, IpProtocol, IpRepr, Ipv4, Ipv4Repr, Ipv6}
+use Rattle.ip_wire.specs.Types.{ArpRepr, EthernetAddress, EthernetProtocol, EthernetRepr, IpProtocol, IpRepr, Ipv4, Ipv4Repr, Ipv6, TcpHeader, UdpRepr}
 use Rattle.wire_arp.specs.Arp as arp
 use Rattle.wire_arp.specs.ArpText as arp_text
 use Rattle.wire_ends.specs.Protocol as protocols
@@ -38,14 +38,103 @@ Fills bytes len old new result =
     MatchOption result ((length old < len) × (new ≡ old))
     (λ n. (n ≡ len) × (n ≤ length old) × (new ≡ bytes ++ drop n old))
 
+-- a line behind the one before
+abbrev pub next_line : List ℕ → List ℕ
+next_line text = 10 ∷ text
+
 -- ---- what a packet carries
 
--- the values of a transport without borrows, where it was parsed
+-- What is said of one transport. A transport is added by one such record.
+pub record TransportDescription : Type 1 where
+  -- its values without borrows, where it was parsed
+  pub value : Option frame.Transport
+  -- the protocol that a header in front of it has to name; bytes of another protocol keep the header's own
+  pub protocol : Option IpProtocol
+  -- its bytes behind an IP header, and their number
+  pub bytes : ChecksumCapabilities → IpRepr → List ℕ
+  pub len : ℕ
+  -- the length fields of its header can hold its lengths
+  pub fits : Type 0
+  -- the protocol field of an IP header names it, and no port is 0 that must not be
+  pub named_by : IpRepr → Type 0
+  -- its line; bytes that are not parsed have none
+  pub text : List ℕ
+
+abbrev pub describe_udp : UdpRepr → List ℕ → TransportDescription
+describe_udp u payload = record {
+  value = Some (frame.datagram u payload);
+  protocol = Some protocol.Udp;
+  bytes = λ caps v. udp.bytes_of u payload (src_addr_of v) (dst_addr_of v) (computes caps.udp);
+  len = 8 + length payload;
+  fits = length payload ≤ udp.max_payload_len;
+  named_by = λ v. (protocols.number_of (ip.next_header_of v) ≡ 17) × (u.dst_port ≢ 0);
+  text = next_line (udp_text.value_text u ++ codes " len=" ++ decimal (length payload));
+}
+
+abbrev pub describe_tcp : TcpHeader → List ℕ → TransportDescription
+describe_tcp u payload = record {
+  value = Some (frame.segment u payload);
+  protocol = Some protocol.Tcp;
+  bytes = λ caps v. tcp.bytes_of u payload (src_addr_of v) (dst_addr_of v) (computes caps.tcp) [];
+  len = tcp.header_len_of u + length payload;
+  fits = tcp.header_len_of u ≤ 60;
+  named_by = λ v. (protocols.number_of (ip.next_header_of v) ≡ 6) × (u.src_port ≢ 0) × (u.dst_port ≢ 0);
+  text = next_line (tcp_text.value_text u (length payload));
+}
+
+abbrev pub describe_other : List ℕ → TransportDescription
+describe_other payload = record {
+  value = Some (frame.other payload);
+  protocol = None;
+  bytes = λ caps v. payload;
+  len = length payload;
+  fits = ⊤;
+  named_by = λ v. (ip.next_header_of (ip.normal v) ≢ protocol.Udp) × (ip.next_header_of (ip.normal v) ≢ protocol.Tcp);
+  text = [];
+}
+
+abbrev pub describe_unread : List ℕ → TransportDescription
+describe_unread kept = record {
+  value = None;
+  protocol = None;
+  bytes = λ caps v. kept;
+  len = length kept;
+  fits = ⊤;
+  named_by = λ v. ⊥;
+  text = [];
+}
+
+abbrev pub describe_transport : Transport → TransportDescription
+describe_transport (transport.Udp u payload) = describe_udp u payload.now
+describe_transport (transport.Tcp u) = describe_tcp (tcp.header_of u) u.payload.now
+describe_transport (transport.Other payload) = describe_other payload.now
+describe_transport (transport.Unread kept) = describe_unread kept.now
+
 abbrev pub transport_of : Transport → Option frame.Transport
-transport_of (transport.Udp v payload) = Some (frame.datagram v payload.now)
-transport_of (transport.Tcp v) = Some (frame.segment (tcp.header_of v) v.payload.now)
-transport_of (transport.Other bytes) = Some (frame.other bytes.now)
-transport_of (transport.Unread bytes) = None
+transport_of t = (describe_transport t).value
+
+abbrev pub transport_bytes : ChecksumCapabilities → IpRepr → Transport → List ℕ
+transport_bytes caps v t = (describe_transport t).bytes caps v
+
+abbrev pub transport_len : Transport → ℕ
+transport_len t = (describe_transport t).len
+
+abbrev pub FitsTransport : Transport → Type 0
+FitsTransport t = (describe_transport t).fits
+
+abbrev pub NamesTransport : IpRepr → Transport → Type 0
+NamesTransport v t = (describe_transport t).named_by v
+
+abbrev pub transport_text : Transport → List ℕ
+transport_text t = (describe_transport t).text
+
+-- the payload of a transport that was parsed
+abbrev pub transport_payload : Transport → Option (List ℕ)
+transport_payload t = option_map (λ read. (frame.describe_transport read).payload) (transport_of t)
+
+-- the normal form of what a packet carries
+abbrev pub normal_transport_of : Transport → Option frame.Transport
+normal_transport_of t = option_map frame.normal_transport (transport_of t)
 
 -- the payload of a packet with this header parses as this transport
 abbrev pub ParsesTransport : ChecksumCapabilities → IpRepr → List ℕ → Transport → Type 0
@@ -58,55 +147,11 @@ GivesTransport (Err e) read = ⊥
 
 -- the payload of a packet with this header parses as this transport, or it does not parse and its bytes are kept
 abbrev pub FindsTransport : ChecksumCapabilities → IpRepr → List ℕ → Transport → Type 0
-FindsTransport caps v bytes (transport.Udp u payload) = ReadsTransport caps v bytes (frame.datagram u payload.now)
-FindsTransport caps v bytes (transport.Tcp u) = ReadsTransport caps v bytes (frame.segment (tcp.header_of u) u.payload.now)
-FindsTransport caps v bytes (transport.Other payload) = ReadsTransport caps v bytes (frame.other payload.now)
-FindsTransport caps v bytes (transport.Unread kept) = ((t : frame.Transport) → ¬ ReadsTransport caps v bytes t) × (kept.now ≡ bytes)
-
--- the bytes of a transport behind an IP header
-abbrev pub transport_bytes : ChecksumCapabilities → IpRepr → Transport → List ℕ
-transport_bytes caps v (transport.Udp u payload) = udp.bytes_of u payload.now (src_addr_of v) (dst_addr_of v) (computes caps.udp)
-transport_bytes caps v (transport.Tcp u) = tcp.bytes_of (tcp.header_of u) u.payload.now (src_addr_of v) (dst_addr_of v) (computes caps.tcp) []
-transport_bytes caps v (transport.Other payload) = payload.now
-transport_bytes caps v (transport.Unread kept) = kept.now
-
--- their number
-abbrev pub transport_len : Transport → ℕ
-transport_len (transport.Udp u payload) = 8 + length payload.now
-transport_len (transport.Tcp u) = tcp.header_len_of (tcp.header_of u) + length u.payload.now
-transport_len (transport.Other payload) = length payload.now
-transport_len (transport.Unread kept) = length kept.now
-
--- the length fields of a UDP or TCP header can hold its lengths
-abbrev pub FitsTransport : Transport → Type 0
-FitsTransport (transport.Udp u payload) = length payload.now ≤ udp.max_payload_len
-FitsTransport (transport.Tcp u) = tcp.header_len_of (tcp.header_of u) ≤ 60
-FitsTransport _ = ⊤
-
--- the payload of a transport that was parsed
-abbrev pub transport_payload : Transport → Option (List ℕ)
-transport_payload (transport.Udp v payload) = Some payload.now
-transport_payload (transport.Tcp v) = Some v.payload.now
-transport_payload (transport.Other bytes) = Some bytes.now
-transport_payload (transport.Unread bytes) = None
+FindsTransport caps v bytes t =
+    MatchOption (transport_of t) (((read : frame.Transport) → ¬ ReadsTransport caps v bytes read) × (transport_bytes caps v t ≡ bytes))
+    (ReadsTransport caps v bytes)
 
 -- ---- what a frame carries
-
--- the values without borrows, where all of them were parsed
-abbrev pub carried_of : Carried → Option frame.Carried
-carried_of (carried.Arp v) = Some (frame.message v)
-carried_of (carried.Packet v t) = option_map (frame.packet v) (transport_of t)
-carried_of (carried.Fragment part) = None
-carried_of (carried.Unread bytes) = None
-
--- the payload of a frame of this type parses as these values
-abbrev pub ParsesCarried : ChecksumCapabilities → EthernetProtocol → List ℕ → Carried → Type 0
-ParsesCarried caps t bytes c = (read : frame.Carried) × (carried_of c ≡ Some read) × ReadsCarried caps t bytes read
-
--- the result is these values
-abbrev pub GivesCarried : {E : Type 0} → Result Carried E → frame.Carried → Type 0
-GivesCarried (Ok c) read = carried_of c ≡ Some read
-GivesCarried (Err e) read = ⊥
 
 -- the bytes begin with an IP header of the version that the type names, with its checksum where that is verified
 abbrev pub ReadsHeader : ChecksumCapabilities → EthernetProtocol → List ℕ → IpRepr → Type 0
@@ -117,42 +162,122 @@ pub record ReadsNothing (caps : ChecksumCapabilities) (t : EthernetProtocol) (by
   pub no_message : (v : ArpRepr) → t ≡ ethertype.Arp → ¬ arp.Reads bytes v
   pub no_header : (v : IpRepr) → ¬ ReadsHeader caps t bytes v
 
--- the payload of a frame of this type is parsed up to a header that does not parse, and the bytes from there on are kept
-abbrev pub FindsCarried : ChecksumCapabilities → EthernetProtocol → List ℕ → Carried → Type 0
-FindsCarried caps t bytes (carried.Arp v) = (t ≡ ethertype.Arp) × arp.Reads bytes v
-FindsCarried caps t bytes (carried.Packet v inner) =
-    (t ≡ type_of v) × ReadsPacket caps bytes v × FindsTransport caps v (packet_payload v bytes) inner
-FindsCarried caps t bytes (carried.Fragment part) =
-    (ipv4.packet_bytes part ≡ bytes) × (ipv4.is_fragment bytes ≡ true) × ((v : Ipv4Repr) × ReadsHeader caps t bytes (Ipv4 v))
-FindsCarried caps t bytes (carried.Unread kept) = ReadsNothing caps t bytes × (kept.now ≡ bytes)
-
 -- the bytes of an IP packet: its header has the length of the transport that follows it
 abbrev pub packet_bytes : ChecksumCapabilities → IpRepr → Transport → List ℕ
 packet_bytes caps v t = ip.bytes_of (with_payload_len v (transport_len t)) (computes caps.ipv4) ++ transport_bytes caps v t
 
--- the bytes of what a frame carries
+-- the text of an IP header
+abbrev pub header_text : IpRepr → List ℕ
+header_text (Ipv4 v) = ipv4_text.value_text v
+header_text (Ipv6 v) = ipv6_text.value_text v
+
+-- What is said of what a frame carries.
+pub record CarriedDescription : Type 1 where
+  -- its values without borrows, where all of them were parsed, and their normal form: an IP header has the length of the
+  -- payload that follows it
+  pub value : Option frame.Carried
+  pub normal : Option frame.Carried
+  -- its bytes, and their number
+  pub bytes : ChecksumCapabilities → List ℕ
+  pub len : ℕ
+  -- the innermost payload of what was parsed whole; ARP has none
+  pub payload : Option (List ℕ)
+  -- the length fields of its headers can hold their lengths
+  pub fits : Type 0
+  -- the EtherType names it, and what follows agrees in the same way
+  pub named_by : EthernetProtocol → Type 0
+  -- the payload of a frame of this type is parsed up to a header that does not parse, and the bytes from there on are kept
+  pub found_in : ChecksumCapabilities → EthernetProtocol → List ℕ → Type 0
+  -- its lines; bytes that are not parsed have none
+  pub text : List ℕ
+
+abbrev pub describe_message : ArpRepr → CarriedDescription
+describe_message v = record {
+  value = Some (frame.message v);
+  normal = Some (frame.message (arp.normal v));
+  bytes = λ caps. arp.bytes_of v;
+  len = 28;
+  payload = None;
+  fits = ⊤;
+  named_by = λ t. ethernet.number_of t ≡ 0x0806;
+  found_in = λ caps t bytes. (t ≡ ethertype.Arp) × arp.Reads bytes v;
+  text = next_line (arp_text.value_text v);
+}
+
+abbrev pub describe_packet : IpRepr → Transport → CarriedDescription
+describe_packet v inner = record {
+  value = option_map (frame.packet v) (transport_of inner);
+  normal = option_map (frame.packet (ip.normal (with_payload_len v (transport_len inner)))) (normal_transport_of inner);
+  bytes = λ caps. packet_bytes caps v inner;
+  len = ip.header_len_of v + transport_len inner;
+  payload = transport_payload inner;
+  fits = (transport_len inner ≤ ip.max_payload_len v) × FitsTransport inner;
+  named_by = λ t. (ethernet.number_of t ≡ ethernet.number_of (type_of v)) × NamesTransport v inner;
+  found_in = λ caps t bytes. (t ≡ type_of v) × ReadsPacket caps bytes v × FindsTransport caps v (packet_payload v bytes) inner;
+  text = next_line (header_text v) ++ transport_text inner;
+}
+
+-- bytes that are kept as they stand
+abbrev pub describe_kept : List ℕ → (ChecksumCapabilities → EthernetProtocol → List ℕ → Type 0) → List ℕ → CarriedDescription
+describe_kept kept found_in text = record {
+  value = None;
+  normal = None;
+  bytes = λ caps. kept;
+  len = length kept;
+  payload = None;
+  fits = ⊤;
+  named_by = λ t. ⊥;
+  found_in = found_in;
+  text = text;
+}
+
+-- a fragment of an IPv4 packet
+abbrev pub describe_fragment : List ℕ → CarriedDescription
+describe_fragment part =
+    describe_kept part (λ caps t bytes. (part ≡ bytes) × (ipv4.is_fragment bytes ≡ true) × ((v : Ipv4Repr) × ReadsHeader caps t bytes (Ipv4 v)))
+    (next_line (ipv4_text.packet_text part))
+
+abbrev pub describe_carried : Carried → CarriedDescription
+describe_carried (carried.Arp v) = describe_message v
+describe_carried (carried.Packet v inner) = describe_packet v inner
+describe_carried (carried.Fragment part) = describe_fragment (ipv4.packet_bytes part)
+describe_carried (carried.Unread kept) = describe_kept kept.now (λ caps t bytes. ReadsNothing caps t bytes × (kept.now ≡ bytes)) []
+
+abbrev pub carried_of : Carried → Option frame.Carried
+carried_of c = (describe_carried c).value
+
+abbrev pub normal_carried_of : Carried → Option frame.Carried
+normal_carried_of c = (describe_carried c).normal
+
 abbrev pub carried_bytes : ChecksumCapabilities → Carried → List ℕ
-carried_bytes caps (carried.Arp v) = arp.bytes_of v
-carried_bytes caps (carried.Packet v t) = packet_bytes caps v t
-carried_bytes caps (carried.Fragment part) = ipv4.packet_bytes part
-carried_bytes caps (carried.Unread kept) = kept.now
+carried_bytes caps c = (describe_carried c).bytes caps
 
--- their number
 abbrev pub carried_len : Carried → ℕ
-carried_len (carried.Arp v) = 28
-carried_len (carried.Packet v t) = ip.header_len_of v + transport_len t
-carried_len (carried.Fragment part) = length (ipv4.packet_bytes part)
-carried_len (carried.Unread kept) = length kept.now
+carried_len c = (describe_carried c).len
 
--- the length fields of its headers can hold their lengths
-abbrev pub FitsCarried : Carried → Type 0
-FitsCarried (carried.Packet v t) = (transport_len t ≤ ip.max_payload_len v) × FitsTransport t
-FitsCarried _ = ⊤
-
--- the innermost payload of what was parsed whole; ARP has none
 abbrev pub carried_payload : Carried → Option (List ℕ)
-carried_payload (carried.Packet v t) = transport_payload t
-carried_payload _ = None
+carried_payload c = (describe_carried c).payload
+
+abbrev pub FitsCarried : Carried → Type 0
+FitsCarried c = (describe_carried c).fits
+
+abbrev pub AgreesCarried : EthernetProtocol → Carried → Type 0
+AgreesCarried t c = (describe_carried c).named_by t
+
+abbrev pub FindsCarried : ChecksumCapabilities → EthernetProtocol → List ℕ → Carried → Type 0
+FindsCarried caps t bytes c = (describe_carried c).found_in caps t bytes
+
+abbrev pub carried_text : Carried → List ℕ
+carried_text c = (describe_carried c).text
+
+-- the payload of a frame of this type parses as these values
+abbrev pub ParsesCarried : ChecksumCapabilities → EthernetProtocol → List ℕ → Carried → Type 0
+ParsesCarried caps t bytes c = (read : frame.Carried) × (carried_of c ≡ Some read) × ReadsCarried caps t bytes read
+
+-- the result is these values
+abbrev pub GivesCarried : {E : Type 0} → Result Carried E → frame.Carried → Type 0
+GivesCarried (Ok c) read = carried_of c ≡ Some read
+GivesCarried (Err e) read = ⊥
 
 -- ---- whole frames
 
@@ -182,36 +307,9 @@ frame_len f = 14 + carried_len f.carried
 abbrev pub Fits : Frame → Type 0
 Fits f = FitsCarried f.carried
 
--- ---- layers that agree
-
--- the protocol field of an IP header names the transport behind it, and no port is 0 that must not be
-abbrev pub NamesTransport : IpRepr → Transport → Type 0
-NamesTransport v (transport.Udp u payload) = (protocols.number_of (ip.next_header_of v) ≡ 17) × (u.dst_port ≢ 0)
-NamesTransport v (transport.Tcp u) = (protocols.number_of (ip.next_header_of v) ≡ 6) × (u.src_port ≢ 0) × (u.dst_port ≢ 0)
-NamesTransport v (transport.Other payload) =
-    (ip.next_header_of (ip.normal v) ≢ protocol.Udp) × (ip.next_header_of (ip.normal v) ≢ protocol.Tcp)
-NamesTransport v (transport.Unread kept) = ⊥
-
--- the EtherType names what follows the Ethernet header, and what follows agrees in the same way
-abbrev pub AgreesCarried : EthernetProtocol → Carried → Type 0
-AgreesCarried t (carried.Arp v) = ethernet.number_of t ≡ 0x0806
-AgreesCarried t (carried.Packet v inner) = (ethernet.number_of t ≡ ethernet.number_of (type_of v)) × NamesTransport v inner
-AgreesCarried t (carried.Fragment part) = ⊥
-AgreesCarried t (carried.Unread kept) = ⊥
-
 -- each header names what follows it
 abbrev pub Agrees : Frame → Type 0
 Agrees f = AgreesCarried f.header.ethertype f.carried
-
--- the normal form of what a packet carries
-abbrev pub normal_transport_of : Transport → Option frame.Transport
-normal_transport_of t = option_map frame.normal_transport (transport_of t)
-
--- the normal form of what a frame carries: an IP header has the length of the payload that follows it
-abbrev pub normal_carried_of : Carried → Option frame.Carried
-normal_carried_of (carried.Arp v) = Some (frame.message (arp.normal v))
-normal_carried_of (carried.Packet v t) = option_map (frame.packet (ip.normal (with_payload_len v (transport_len t)))) (normal_transport_of t)
-normal_carried_of _ = None
 
 -- the bytes parse layer by layer as the normal forms of this header and of what it carries
 abbrev pub Composes : ChecksumCapabilities → List ℕ → EthernetRepr → Carried → Type 0
@@ -249,11 +347,9 @@ pub record Computes (sent received : ChecksumCapabilities) (c : Carried) : Type 
 
 -- ---- frames that are put together
 
--- the protocol field of a header in front of this transport; bytes of another protocol keep the header's own
+-- the protocol field of a header in front of this transport
 abbrev pub protocol_before : IpRepr → Transport → IpProtocol
-protocol_before v (transport.Udp u payload) = protocol.Udp
-protocol_before v (transport.Tcp u) = protocol.Tcp
-protocol_before v _ = ip.next_header_of v
+protocol_before v t = option_map_or (λ p. p) (describe_transport t).protocol (ip.next_header_of v)
 
 -- the header with this protocol and this length of its payload
 abbrev pub header_before : IpRepr → IpProtocol → ℕ → IpRepr
@@ -277,30 +373,6 @@ arp_frame src dst v = record {
   header = record { src_addr = src; dst_addr = dst; ethertype = ethertype.Arp };
   carried = carried.Arp v;
 }
-
--- ---- texts
-
--- a line behind the one before
-abbrev pub next_line : List ℕ → List ℕ
-next_line text = 10 ∷ text
-
--- the text of an IP header
-abbrev pub header_text : IpRepr → List ℕ
-header_text (Ipv4 v) = ipv4_text.value_text v
-header_text (Ipv6 v) = ipv6_text.value_text v
-
--- the line of what a packet carries; bytes that are not parsed have none
-abbrev pub transport_text : Transport → List ℕ
-transport_text (transport.Udp v payload) = next_line (udp_text.value_text v ++ codes " len=" ++ decimal (length payload.now))
-transport_text (transport.Tcp v) = next_line (tcp_text.value_text (tcp.header_of v) (length v.payload.now))
-transport_text _ = []
-
--- the lines of what a frame carries; bytes that are not parsed have none
-abbrev pub carried_text : Carried → List ℕ
-carried_text (carried.Arp v) = next_line (arp_text.value_text v)
-carried_text (carried.Packet v t) = next_line (header_text v) ++ transport_text t
-carried_text (carried.Fragment part) = next_line (ipv4_text.packet_text (ipv4.packet_bytes part))
-carried_text (carried.Unread kept) = []
 
 -- the text of a frame: a line for each layer, without a line end behind the last
 abbrev pub frame_text : Frame → List ℕ

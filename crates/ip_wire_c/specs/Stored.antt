@@ -4,7 +4,7 @@ use Rattle.std.specs.Option.{option_map_or}
 use Rattle.ip_wire.specs.Arp.{operation_number}
 use Rattle.ip_wire.specs.Ethernet as ethernet
 use Rattle.ip_wire.specs.Field.{field}
-use Rattle.ip_wire.specs.Frame.{Carried, Transport, datagram, message, other, packet, packet_payload, segment}
+use Rattle.ip_wire.specs.Frame.{Carried, Transport, datagram, describe_carried, message, other, packet, packet_payload, segment}
 use Rattle.ip_wire.specs.Ip.{dst_addr_of, next_header_of, src_addr_of}
 use Rattle.ip_wire.specs.Ipv4 as ipv4
 use Rattle.ip_wire.specs.Ipv6.{payload_of}
@@ -166,57 +166,55 @@ pub record StoresSegment (f : FrameFields) (v : TcpHeader) (bytes : List ℕ) : 
   pub header_len : f.tcp.header_len ≡ tcp.header_len bytes
   pub segment : f.tcp ≡ tcp_values bytes
 
--- it stores the transport header that these bytes begin with
+-- What the struct stores of a transport that was read.
+pub record StoredTransport : Type 1 where
+  -- it stores the header, which these bytes begin with
+  pub stores : FrameFields → List ℕ → Type 0
+  -- the header's length, in octets
+  pub header_len : List ℕ → ℕ
+  -- where the struct says that the header is which begins at this place, or 0
+  pub offset : ℕ → ℕ
+
+abbrev pub stored_transport : Transport → StoredTransport
+stored_transport (datagram v payload) = record { stores = λ f bytes. StoresDatagram f v; header_len = λ bytes. 8; offset = λ n. n }
+stored_transport (segment v payload) = record { stores = λ f bytes. StoresSegment f v bytes; header_len = tcp.header_len; offset = λ n. n }
+stored_transport (other payload) = record { stores = λ f bytes. HasNoTransport f; header_len = λ bytes. 0; offset = λ n. 0 }
+
 abbrev pub StoresTransport : FrameFields → Transport → List ℕ → Type 0
-StoresTransport f (datagram v payload) bytes = StoresDatagram f v
-StoresTransport f (segment v payload) bytes = StoresSegment f v bytes
-StoresTransport f (other payload) bytes = HasNoTransport f
+StoresTransport f t bytes = (stored_transport t).stores f bytes
 
 -- ---- the whole frame
 
--- it stores what the frame carries, these bytes
-abbrev pub StoresCarried : FrameFields → Carried → List ℕ → Type 0
-StoresCarried f (message v) bytes = StoresMessage f v × HasNoTransport f
-StoresCarried f (packet v transport) bytes = StoresHeader f v bytes × StoresTransport f transport (packet_payload v bytes)
-
--- the innermost payload
-abbrev pub transport_payload : Transport → List ℕ
-transport_payload (datagram v payload) = payload
-transport_payload (segment v payload) = payload
-transport_payload (other payload) = payload
-
-abbrev pub carried_payload : Carried → List ℕ
-carried_payload (message v) = []
-carried_payload (packet v transport) = transport_payload transport
-
--- the length of the headers between the Ethernet header and that payload, in octets
+-- the length of an IP header, which the bytes begin with, in octets
 abbrev pub network_len : IpRepr → List ℕ → ℕ
 network_len (Ipv4 v) bytes = ipv4.header_len bytes
 network_len (Ipv6 v) bytes = 40
 
-abbrev pub transport_len : Transport → List ℕ → ℕ
-transport_len (datagram v payload) bytes = 8
-transport_len (segment v payload) bytes = tcp.header_len bytes
-transport_len (other payload) bytes = 0
+-- What the struct stores of the payload of a frame that was read.
+pub record StoredCarried : Type 1 where
+  -- it stores what these bytes are
+  pub stores : FrameFields → List ℕ → Type 0
+  -- the length of the headers between the Ethernet header and the innermost payload, in octets
+  pub headers_len : List ℕ → ℕ
+  -- where the UDP or TCP header is, or 0
+  pub transport_offset : List ℕ → ℕ
 
-abbrev pub carried_len : Carried → List ℕ → ℕ
-carried_len (message v) bytes = 28
-carried_len (packet v transport) bytes = network_len v bytes + transport_len transport (packet_payload v bytes)
+abbrev pub stored_carried : Carried → StoredCarried
+stored_carried (message v) =
+    record { stores = λ f bytes. StoresMessage f v × HasNoTransport f; headers_len = λ bytes. 28; transport_offset = λ bytes. 0 }
+stored_carried (packet v inner) = record {
+  stores = λ f bytes. StoresHeader f v bytes × StoresTransport f inner (packet_payload v bytes);
+  headers_len = λ bytes. network_len v bytes + (stored_transport inner).header_len (packet_payload v bytes);
+  transport_offset = λ bytes. (stored_transport inner).offset (14 + network_len v bytes);
+}
+
+abbrev pub StoresCarried : FrameFields → Carried → List ℕ → Type 0
+StoresCarried f w bytes = (stored_carried w).stores f bytes
 
 -- the struct locates these bytes in the frame
 pub record Locates (f : FrameFields) (frame bytes : List ℕ) : Type 0 where
   pub len : f.payload_len ≡ length bytes
   pub octets : slice_range frame f.payload_offset (f.payload_offset + f.payload_len) ≡ bytes
-
--- where the UDP or TCP header is, or 0
-abbrev pub transport_offset_by : Transport → ℕ → ℕ
-transport_offset_by (datagram v payload) n = n
-transport_offset_by (segment v payload) n = n
-transport_offset_by (other payload) n = 0
-
-abbrev pub transport_offset_of : Carried → List ℕ → ℕ
-transport_offset_of (message v) bytes = 0
-transport_offset_of (packet v transport) bytes = transport_offset_by transport (14 + network_len v bytes)
 
 -- the struct stores the headers of a frame up to an IP header, and locates the payload of this one
 pub record StoresPacket (f : FrameFields) (frame : List ℕ) (v : EthernetRepr) (w : IpRepr) : Type 0 where
@@ -296,9 +294,9 @@ pub record Stores (f : FrameFields) (frame : List ℕ) (v : EthernetRepr) (w : C
   pub reason : f.reason ≡ reason_code reason.Read
   pub link : StoresLink f.ethernet v
   pub carried : StoresCarried f w (drop 14 frame)
-  pub transport_offset : f.transport_offset ≡ transport_offset_of w (drop 14 frame)
-  pub offset : f.payload_offset ≡ 14 + carried_len w (drop 14 frame)
-  pub payload : Locates f frame (carried_payload w)
+  pub transport_offset : f.transport_offset ≡ (stored_carried w).transport_offset (drop 14 frame)
+  pub offset : f.payload_offset ≡ 14 + (stored_carried w).headers_len (drop 14 frame)
+  pub payload : Locates f frame (describe_carried w).payload
 
 -- each checksum of the frame that is verified is right, or left out where it may be
 pub record HasVerdicts (caps : ChecksumCapabilities) (f : FrameFields) : Type 0 where
