@@ -128,24 +128,32 @@ reads-checksum bytes x verified checked v r valid =
     (r.hop_limit ∙ sym (subst H cut refl)) (r.next_header ∙ ap protocol_of (sym (subst P cut refl)))
     (r.src_addr ∙ sym (subst S cut refl)) (r.dst_addr ∙ sym (subst D cut refl))
 
--- a field between the header length and the total length, or between the total length and the hop limit, is no value
+-- a field between the header length and the total length, or between the total length and the hop limit, leaves version and lengths
+pub shape-no_value : (bytes : List ℕ) (first width x : ℕ) → AreBytes bytes → 0 < width
+    → ((8 ≤ first) × (first + width ≤ 16)) ⊎ ((32 ≤ first) × (first + width ≤ 64)) → 20 ≤ length bytes → SameShape bytes (with_field bytes first width x)
+shape-no_value bytes first width x are some place room =
+    let fits : first + width ≤ 8 * length bytes = elim place [ inl p ↦ omega (arith, p.1, room) | inr p ↦ omega (arith, p.1, room) ] in
+    let early : 8 ≤ first = elim place [ inl p ↦ p.0 | inr p ↦ omega (arith, p.0) ] in
+    let between : (16 + 16 ≤ first) ⊎ (first + width ≤ 16) = elim place [ inl p ↦ inr p.1 | inr p ↦ inl p.0 ] in
+    let other = field-with_field_other bytes first width x in
+    record {
+      long = length-with_field bytes first width x some fits;
+      version = other 0 4 are some (omega arith) fits (inl (omega (arith, early)));
+      header = ap (λ (n : ℕ). 4 * n) (other 4 4 are some (omega arith) fits (inl (omega (arith, early))));
+      total = other 16 16 are some (omega arith) fits between;
+    }
+
+-- such a field is no value
 pub reads-no_value : (bytes : List ℕ) (first width x : ℕ) (verified : Bool) (v : Ipv4Repr) → AreBytes bytes → 0 < width
     → ((8 ≤ first) × (first + width ≤ 16)) ⊎ ((32 ≤ first) × (first + width ≤ 64)) → Reads bytes verified v → Reads (with_field bytes first width x) false v
 reads-no_value bytes first width x verified v are some place r =
     let room = r.lengths.least in
     let fits : first + width ≤ 8 * length bytes = elim place [ inl p ↦ omega (arith, p.1, room) | inr p ↦ omega (arith, p.1, room) ] in
-    let early : 8 ≤ first = elim place [ inl p ↦ p.0 | inr p ↦ omega (arith, p.0) ] in
     let late : first + width ≤ 64 = elim place [ inl p ↦ omega (arith, p.1) | inr p ↦ p.1 ] in
-    let between : (16 + 16 ≤ first) ⊎ (first + width ≤ 16) = elim place [ inl p ↦ inr p.1 | inr p ↦ inl p.0 ] in
     let other = field-with_field_other bytes first width x in
     let after = AreBytes-with_field bytes first width x are some fits in
     let long = length-with_field bytes first width x some fits in
-    let shape : SameShape bytes (with_field bytes first width x) = record {
-      long = long;
-      version = other 0 4 are some (omega arith) fits (inl (omega (arith, early)));
-      header = ap (λ (n : ℕ). 4 * n) (other 4 4 are some (omega arith) fits (inl (omega (arith, early))));
-      total = other 16 16 are some (omega arith) fits between;
-    } in
+    let shape = shape-no_value bytes first width x are some place room in
     let addresses : (a : ℕ) → 12 ≤ a → a + 4 ≤ length bytes → slice_range bytes a (a + 4) ≡ slice_range (with_field bytes first width x) a (a + 4) = λ a from to.
     sym (number-range bytes a 4 are to) ∙ ap (big_bytes 4) (sym (other (8 * a) 32 are some (omega arith) fits (inr (omega (arith, late, from)))))
     ∙ number-range (with_field bytes first width x) a 4 after (omega (arith, to, long)) in

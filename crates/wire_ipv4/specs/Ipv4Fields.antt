@@ -1,5 +1,5 @@
 -- The fields of a header in the order of RFC 791's diagram, and which of them each call reads or writes.
-use Rattle.std.specs.Prelude.{ℕ, ◌-◌, ◌*◌, ◌/◌, List, [], ◌∷◌, slice_range, sum, take}
+use Rattle.std.specs.Prelude.{ℕ, ◌-◌, ◌*◌, ◌/◌, ◌%◌, List, [], ◌∷◌, slice_range, sum, take}
 use Rattle.wire_field.specs.Diagram.{flag, nth_field, with_nth}
 use Rattle.wire_field.specs.Field.{with_field}
 use Rattle.byteorder.specs.Endian.{big_bytes, big_number}
@@ -70,12 +70,16 @@ with_no_flags bytes = with_field bytes (sum (take 6 diagram)) (sum (slice_range 
 
 -- the setter of the field that such a call writes beside the checksum
 abbrev pub setting_of : Ipv4Update → Ipv4Setting
+setting_of (update.Dscp x) = set.Dscp x
+setting_of (update.Ecn x) = set.Ecn x
 setting_of (update.HopLimit x) = set.HopLimit x
 setting_of (update.SrcAddr x) = set.SrcAddr x
 setting_of (update.DstAddr x) = set.DstAddr x
 
--- the sum of the words that change, before and after; the hop limit is the high byte of a word
+-- what changes in the sum of the words, before and after: each field counts by its place in a word
 abbrev pub sums_of : Ipv4Update → List ℕ → ℕ × ℕ
+sums_of (update.Dscp x) bytes = (4 * nth_field diagram 2 bytes, 4 * (x % 64))
+sums_of (update.Ecn x) bytes = (nth_field diagram 3 bytes, x % 4)
 sums_of (update.HopLimit x) bytes = (256 * nth_field diagram 10 bytes, 256 * x)
 sums_of (update.SrcAddr x) bytes = (sum_of_bytes (big_bytes 4 (nth_field diagram 13 bytes)), sum_of_bytes x)
 sums_of (update.DstAddr x) bytes = (sum_of_bytes (big_bytes 4 (nth_field diagram 14 bytes)), sum_of_bytes x)

@@ -13,6 +13,7 @@ pub mod TcpLengths
 pub mod TcpNumbers
 pub mod TcpReadsBack
 mod TcpReprWorked
+pub mod TcpResized
 pub mod TcpTexts
 pub mod TcpUpdated
 mod TcpViewed

@@ -11,7 +11,7 @@ use Rattle.wire_checksum.specs.WordSum.{residue, sum_of_bytes, updated, words}
 use Rattle.wire_ends.specs.IpAddress.{octets_of}
 use Rattle.wire_ends.specs.declared.ip_address.IpAddress.{IpAddress}
 use Rattle.wire_ends.specs.declared.ip_protocol.IpProtocol.TheVariants as protocol
-use Rattle.wire_tcp.proofs.TcpChanged.{reads-checksum, reads-dst_port, reads-src_port}
+use Rattle.wire_tcp.proofs.TcpChanged.{reads-checksum, reads-dst_port, reads-src_port, reads-window_len}
 use Rattle.wire_tcp.specs.Tcp.{Verifies, with_updated_checksum}
 use Rattle.wire_tcp.specs.TcpRepr.{Reads, TcpHeader}
 
@@ -20,7 +20,7 @@ abbrev pseudo : IpAddress → IpAddress → ℕ → ℕ
 pseudo src dst n = pseudo_header_total src dst protocol.Tcp n
 
 -- a valid checksum stays valid if it is updated with the change of what it covers
-valid-updated : (src dst src' dst' : IpAddress) (bytes changed : List ℕ) (old new : ℕ) → AreBytes changed
+pub valid-updated : (src dst src' dst' : IpAddress) (bytes changed : List ℕ) (old new : ℕ) → AreBytes changed
     → length (octets_of src) % 2 ≡ 0 → length (octets_of dst) % 2 ≡ 0 → length (octets_of src') % 2 ≡ 0 → length (octets_of dst') % 2 ≡ 0
     → 18 ≤ length changed → length changed ≡ length bytes
     → pseudo src' dst' (length bytes) + sum (words changed) + old ≡ pseudo src dst (length bytes) + sum (words bytes) + new
@@ -82,6 +82,14 @@ reads-updated_dst_port src dst bytes x verified v payload are fits some s d r =
     reads-checksum (with_field bytes 16 16 x) _ src dst src dst false verified (record v { dst_port = x }) payload
     (reads-dst_port bytes x src dst verified false v payload are fits some r (λ no. cc))
     (λ on. valid-word src dst bytes 1 x are fits (omega arith) s d (omega (arith, r.lengths.least)) (r.checksum on))
+
+-- an updated window changes only the window of the value
+pub reads-updated_window_len : (src dst : IpAddress) (bytes : List ℕ) (x : ℕ) (verified : Bool) (v : TcpHeader) (payload : List ℕ) → AreBytes bytes → x < 65536 → length (octets_of src) % 2 ≡ 0 → length (octets_of dst) % 2 ≡ 0
+    → Reads bytes src dst verified v payload → Reads (with_updated_checksum (with_field bytes 112 16 x) (field bytes 112 16) x) src dst verified (record v { window_len = x }) payload
+reads-updated_window_len src dst bytes x verified v payload are fits s d r =
+    reads-checksum (with_field bytes 112 16 x) _ src dst src dst false verified (record v { window_len = x }) payload
+    (reads-window_len bytes x src dst verified false v payload are fits r (λ no. cc))
+    (λ on. valid-word src dst bytes 7 x are fits (omega arith) s d (omega (arith, r.lengths.least)) (r.checksum on))
 
 -- the segment parses as before between the new source address and the old destination
 pub reads-updated_src_addr : (old dst new : IpAddress) (bytes : List ℕ) (verified : Bool) (v : TcpHeader) (payload : List ℕ) → AreBytes bytes → length (octets_of old) % 2 ≡ 0 → length (octets_of dst) % 2 ≡ 0 → length (octets_of new) % 2 ≡ 0

@@ -4,4 +4,5 @@ pub mod TcpFixed
 pub mod TcpLoan
 pub mod TcpRepr
 pub mod TcpReprText
+pub mod TcpSegmentSize
 pub mod TcpText

@@ -82,12 +82,14 @@ with_no_flags bytes = with_field bytes (sum (take 5 diagram)) (sum (slice_range 
 abbrev pub with_update : TcpUpdate → List ℕ → List ℕ
 with_update (update.SrcPort x) bytes = with_nth diagram 0 x bytes
 with_update (update.DstPort x) bytes = with_nth diagram 1 x bytes
+with_update (update.WindowLen x) bytes = with_nth diagram 15 x bytes
 with_update (update.Address old new) bytes = bytes
 
 -- the sum of the words that change, before and after
 abbrev pub sums_of : TcpUpdate → List ℕ → ℕ × ℕ
 sums_of (update.SrcPort x) bytes = (nth_field diagram 0 bytes, x)
 sums_of (update.DstPort x) bytes = (nth_field diagram 1 bytes, x)
+sums_of (update.WindowLen x) bytes = (nth_field diagram 15 bytes, x)
 sums_of (update.Address old new) bytes = (sum_of_bytes (octets_of old), sum_of_bytes (octets_of new))
 
 -- the bytes with the checksum updated for words that change from the sum old to the sum new

@@ -306,11 +306,12 @@ pub fn getters_read_fields_tcp(packet: &TcpPacket<'_>, getting: TcpGetting) -> u
     }
 }
 
-/// A call that writes the checksum too: for a new port, or for an old and a new address.
+/// A call that writes the checksum too: for a new port or window, or for an old and a new address.
 #[derive(Clone, Copy)]
 pub enum TcpUpdate {
     SrcPort(u16),
     DstPort(u16),
+    WindowLen(u16),
     Address(IpAddress, IpAddress),
 }
 
@@ -327,6 +328,7 @@ pub fn update_writes_two_fields_tcp(packet: &mut TcpPacketMut<'_>, update: TcpUp
     match update {
         TcpUpdate::SrcPort(x) => packet.update_src_port(x),
         TcpUpdate::DstPort(x) => packet.update_dst_port(x),
+        TcpUpdate::WindowLen(x) => packet.update_window_len(x),
         TcpUpdate::Address(old, new) => packet.update_address(&old, &new),
     }
 }

@@ -4,6 +4,7 @@ mod ItemsWorked
 pub mod One
 pub mod OptionLists
 mod Prefixes
+pub mod Places
 pub mod Ranges
 pub mod Summaries
 mod TcpPartsWorked

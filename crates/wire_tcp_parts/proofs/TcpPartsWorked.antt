@@ -4,6 +4,7 @@ use Rattle.std.specs.List.{flat_map}
 use Rattle.std.specs.Prelude.{pos, negsuc}
 use Rattle.wire_tcp_parts.specs.TcpItems.{Item, item, first_blocks, segment_size_of, texts, timestamp_of, window_scale_of}
 use Rattle.wire_tcp_parts.specs.TcpOption.{option_text, rest_after}
+use Rattle.wire_tcp_parts.specs.TcpPlace.{segment_size_at}
 use Rattle.wire_tcp_parts.specs.TcpSeq.{distance, number}
 use Rattle.wire_tcp_parts.specs.TcpWalk.{Mark, first_of, mark_text}
 use Rattle.wire_tcp_parts.specs.declared.tcp.option.TcpOption.TheVariants.{EndOfList, SackRange}
@@ -22,6 +23,17 @@ texts-sizes = refl
 segment_size_of-sizes : segment_size_of sizes ≡ Some 536
 unfolding sizes
 segment_size_of-sizes = refl
+
+-- the data of the second; behind a no-operation
+segment_size_at-sizes : segment_size_at sizes ≡ Some 6
+unfolding sizes
+segment_size_at-sizes = refl
+
+segment_size_at-odd : segment_size_at (item 1 [] ∷ item 2 (0x05 ∷ 0xb4 ∷ []) ∷ item 4 [] ∷ []) ≡ Some 3
+segment_size_at-odd = refl
+
+segment_size_at-none : segment_size_at (item 4 [] ∷ item 1 [] ∷ []) ≡ None
+segment_size_at-none = refl
 
 window_scale_of-high : window_scale_of (item 3 (0x0f ∷ []) ∷ item 1 [] ∷ []) ≡ Some 15
 window_scale_of-high = refl

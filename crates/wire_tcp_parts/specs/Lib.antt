@@ -1,6 +1,7 @@
 pub mod TcpItems
 pub mod TcpOption
 pub mod TcpOptionLoan
+pub mod TcpPlace
 pub mod TcpSeq
 pub mod TcpSummary
 pub mod TcpWalk

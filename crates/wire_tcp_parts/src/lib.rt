@@ -7,5 +7,5 @@ mod tcp;
 
 pub use tcp::{
     SACK_BLOCKS, TcpControl, TcpOption, TcpOptionSummary, TcpSeqNumber, TcpTimestampGenerator,
-    TcpTimestampRepr, count_ranges, summarize, walk, write_option,
+    TcpTimestampRepr, count_ranges, max_segment_size_at, summarize, walk, write_option,
 };

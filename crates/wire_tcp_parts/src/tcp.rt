@@ -2,6 +2,7 @@
 
 mod control;
 mod option;
+mod place;
 mod seq_number;
 mod summary;
 mod timestamp;
@@ -9,6 +10,7 @@ pub mod walk;
 
 pub use control::TcpControl;
 pub use option::{TcpOption, count_ranges, write_option};
+pub use place::max_segment_size_at;
 pub use seq_number::TcpSeqNumber;
 pub use summary::{TcpOptionSummary, summarize};
 pub use timestamp::{TcpTimestampGenerator, TcpTimestampRepr};

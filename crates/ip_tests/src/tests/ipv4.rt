@@ -190,12 +190,23 @@ fn changed(start: usize, bytes: &[u8], checksum: [u8; 2]) -> [u8; 24]
 #[test]
 fn updates_the_checksum_with_a_field(rt: HostRuntime) {
     let address = Ipv4Address::new(203, 0, 113, 5);
-    let [mut fewer_hops, mut other_src, mut other_dst, mut same] = [IPV4_PACKET; 4];
+    let [
+        mut dscp,
+        mut ecn,
+        mut fewer_hops,
+        mut other_src,
+        mut other_dst,
+        mut same,
+    ] = [IPV4_PACKET; 6];
+    Ipv4PacketMut::new_unchecked(&mut dscp).update_dscp(64 + 46);
+    Ipv4PacketMut::new_unchecked(&mut ecn).update_ecn(4 + 3);
     Ipv4PacketMut::new_unchecked(&mut fewer_hops).update_hop_limit(63);
     Ipv4PacketMut::new_unchecked(&mut other_src).update_src_addr(address);
     Ipv4PacketMut::new_unchecked(&mut other_dst).update_dst_addr(address);
     Ipv4PacketMut::new_unchecked(&mut same).update_hop_limit(64);
     for (found, want) in [
+        (dscp, changed(1, &[0xb8], [0xd1, 0xc1])),
+        (ecn, changed(1, &[0x03], [0xd2, 0x76])),
         (fewer_hops, changed(8, &[63], [0xd3, 0x79])),
         (other_src, changed(12, &[203, 0, 113, 5], [0xba, 0x99])),
         (other_dst, changed(16, &[203, 0, 113, 5], [0xda, 0xb9])),

@@ -298,18 +298,24 @@ fn fills_in_a_checksum_of_0(rt: HostRuntime) {
 fn updates_the_checksum_with_a_field(rt: HostRuntime) {
     let (src, dst) = (IpAddress::v4(192, 168, 1, 1), IpAddress::v4(192, 168, 1, 2));
     let other = IpAddress::v4(203, 0, 113, 5);
-    let [mut ports, mut other_src, mut other_dst] = [SYN; 3];
+    let [mut ports, mut window, mut other_src, mut other_dst] = [SYN; 4];
     let mut packet = TcpPacketMut::new_unchecked(&mut ports);
     packet.update_src_port(0x1234);
     packet.update_dst_port(443);
     let with_ports = (packet.src_port(), packet.dst_port(), packet.checksum());
+    let mut packet = TcpPacketMut::new_unchecked(&mut window);
+    packet.update_window_len(0x2000);
+    let with_window = (packet.window_len(), packet.checksum());
     let mut packet = TcpPacketMut::new_unchecked(&mut other_src);
     packet.update_address(&src, &other);
     let from_other = packet.checksum();
     let mut packet = TcpPacketMut::new_unchecked(&mut other_dst);
     packet.update_address(&dst, &other);
-    let found = (with_ports, from_other, packet.checksum());
-    assert_eq!(rt; found, ((0x1234, 443, 0x25ef), 0x0031, 0x0032));
+    let found = (with_ports, with_window, from_other, packet.checksum());
+    assert_eq!(rt;
+        found,
+        ((0x1234, 443, 0x25ef), (0x2000, 0x5bb0), 0x0031, 0x0032)
+    );
 }
 
 #[test]

@@ -3,7 +3,9 @@
 ghost use Rattle.std.specs.Prelude.{◌≤◌};
 
 use super::tcp::SYN;
-use ip_wire::{Error, SACK_BLOCKS, TCP_HEADER_LEN, TcpOption, TcpOptionSummary, TcpPacket};
+use ip_wire::{
+    Error, SACK_BLOCKS, TCP_HEADER_LEN, TcpOption, TcpOptionSummary, TcpPacket, TcpPacketMut,
+};
 use std::process::Abort;
 use std::test::Fail;
 use test_support::{copy_to, prints};
@@ -220,6 +222,67 @@ fn reads_and_writes_each_option(rt: HostRuntime) {
             (Ok((end, option)), (text.len(), padded(text)))
         );
     }
+}
+
+// A SYN with these options, and with this checksum.
+fn syn_with(options: [u8; 12], checksum: [u8; 2]) -> [u8; 32] {
+    let mut bytes = [0; 32];
+    bytes[..TCP_HEADER_LEN].copy_from_slice(&SYN[..TCP_HEADER_LEN]);
+    bytes[12] = 0x80;
+    bytes[16..18].copy_from_slice(&checksum);
+    bytes[TCP_HEADER_LEN..].copy_from_slice(&options);
+    bytes
+}
+
+#[test]
+fn updates_the_segment_size(rt: HostRuntime) -> std::result::Result<(), Fail> {
+    for (options, checksum, size, new_options, new_checksum) in [
+        (
+            [2, 4, 0x05, 0xb4, 4, 2, 1, 1, 1, 3, 3, 10],
+            [0xe4, 0xbc],
+            1460,
+            [2, 4, 0x05, 0x14, 4, 2, 1, 1, 1, 3, 3, 10],
+            [0xe5, 0x5c],
+        ),
+        (
+            [1, 2, 4, 0x05, 0xb4, 3, 3, 10, 1, 1, 0, 0xff],
+            [0x37, 0x70],
+            1460,
+            [1, 2, 4, 0x05, 0x14, 3, 3, 10, 1, 1, 0, 0xff],
+            [0xd7, 0x70],
+        ),
+        (
+            [2, 4, 0x05, 0xb4, 2, 4, 0x02, 0x18, 0, 2, 4, 0xff],
+            [0xe4, 0xaf],
+            536,
+            [2, 4, 0x05, 0xb4, 2, 4, 0x05, 0x14, 0, 2, 4, 0xff],
+            [0xe1, 0xb3],
+        ),
+    ] {
+        let mut bytes = syn_with(options, checksum);
+        let mut packet = TcpPacketMut::new_checked(&mut bytes)?;
+        let found = packet.update_max_seg_size(1300);
+        assert_eq!(rt;
+            (found, bytes),
+            (Some(size), syn_with(new_options, new_checksum))
+        );
+    }
+    Ok(())
+}
+
+#[test]
+fn leaves_a_segment_without_a_size(rt: HostRuntime) -> std::result::Result<(), Fail> {
+    for options in [
+        [1, 0, 2, 4, 0x05, 0xb4, 0, 0, 0, 0, 0, 0],
+        [2, 4, 0x05, 0xb4, 3, 2, 1, 1, 1, 1, 1, 1],
+        [1, 3, 3, 10, 4, 2, 1, 1, 1, 1, 1, 1],
+    ] {
+        let mut bytes = syn_with(options, [0xaa, 0xbb]);
+        let mut packet = TcpPacketMut::new_checked(&mut bytes)?;
+        let found = packet.update_max_seg_size(1300);
+        assert_eq!(rt; (found, bytes), (None, syn_with(options, [0xaa, 0xbb])));
+    }
+    Ok(())
 }
 
 #[test]

@@ -1,6 +1,6 @@
 //! Setters of IPv4 packets that update the checksum of the header too (RFC 1624).
 
-ghost use Rattle.std.specs.Prelude.{◌≡◌, ◌*◌, ◌≤◌, Bool, length, slice_range};
+ghost use Rattle.std.specs.Prelude.{◌≡◌, ◌*◌, ◌%◌, ◌≤◌, Bool, length, slice_range};
 ghost use Rattle.wire_checksum.specs.WordSum.{sum_of_bytes};
 ghost use Rattle.wire_field.specs.Field.{field, with_field, with_range};
 ghost use Rattle.wire_ipv4.specs.Ipv4.{Becomes, HasChecksum, Reads, header_len, packet_bytes_mut, with_updated_checksum};
@@ -19,6 +19,38 @@ impl<'a> Ipv4PacketMut<'a> {
         ensures { Becomes self.old self.new (with_updated_checksum (packet_bytes_mut self.old) old new) }
     {
         self.set_checksum(checksum::update(self.checksum(), old, new));
+    }
+
+    /// Writes the differentiated services code point, cut to 6 bits, and updates the checksum.
+    pub fn update_dscp(&mut self, value: u8)
+        requires { 12 ≤ length (packet_bytes_mut self.old) }
+        ensures value { let bytes = packet_bytes_mut self.old in
+            Becomes self.old self.new (with_updated_checksum (with_field bytes 8 6 value) (4 * field bytes 8 6) (4 * (value % 64))) }
+        ensures valid { 20 ≤ header_len (packet_bytes_mut self.old) → header_len (packet_bytes_mut self.old) ≤ length (packet_bytes_mut self.old)
+            → HasChecksum (packet_bytes_mut self.old) → HasChecksum (packet_bytes_mut self.new) }
+        ensures reads { (v : Ipv4Repr) (verified : Bool) → Reads (packet_bytes_mut self.old) verified v
+            → Reads (packet_bytes_mut self.new) verified v }
+    {
+        octets_fit(self.as_bytes());
+        let old = u16::from(self.dscp()) << 2;
+        self.set_dscp(value);
+        self.update_checksum(old, u16::from(value % 64) << 2);
+    }
+
+    /// Writes the explicit congestion notification, cut to 2 bits, and updates the checksum.
+    pub fn update_ecn(&mut self, value: u8)
+        requires { 12 ≤ length (packet_bytes_mut self.old) }
+        ensures value { let bytes = packet_bytes_mut self.old in
+            Becomes self.old self.new (with_updated_checksum (with_field bytes 14 2 value) (field bytes 14 2) (value % 4)) }
+        ensures valid { 20 ≤ header_len (packet_bytes_mut self.old) → header_len (packet_bytes_mut self.old) ≤ length (packet_bytes_mut self.old)
+            → HasChecksum (packet_bytes_mut self.old) → HasChecksum (packet_bytes_mut self.new) }
+        ensures reads { (v : Ipv4Repr) (verified : Bool) → Reads (packet_bytes_mut self.old) verified v
+            → Reads (packet_bytes_mut self.new) verified v }
+    {
+        octets_fit(self.as_bytes());
+        let old = self.ecn();
+        self.set_ecn(value);
+        self.update_checksum(old.into(), (value % 4).into());
     }
 
     /// Writes the hop limit, and updates the checksum. A router calls it with one hop less.

@@ -255,7 +255,7 @@ impl<B: Octets> TcpView<B> {
     }
 
     // The bytes of the options.
-    fn option_bytes(&self) -> &[u8]
+    pub(super) fn option_bytes(&self) -> &[u8]
         requires begins { 20 ≤ header_len (B.octets (packet_slice self.now)) }
         requires ends { let bytes = B.octets (packet_slice self.now) in header_len bytes ≤ length bytes }
         ensures { result.now ≡ options_of (B.octets (packet_slice self.now)) }

@@ -1,0 +1,18 @@
+use Rattle.std.proofs.Common.{◌≡◌, ◌%◌, ℕ, List, subst, sym, rules}
+use Rattle.wire_field.proofs.Spelled.{AreBytes}
+use Rattle.wire_field.specs.Field.{field, with_field}
+use Rattle.wire_ipv4.specs.Ipv4.{HasChecksum, Reads, packet_bytes_mut, with_updated_checksum}
+use Rattle.wire_ipv4.proofs.Ipv4Updated.{reads-updated_ecn, valid-ecn}
+use Rattle.wire_ipv4.proofs.ipv4.update.Ipv4PacketMut.update_ecn.Goals as goal
+
+written : (c : goal.After-update_checksum)
+    → packet_bytes_mut c.update_checksum.new.self ≡ with_updated_checksum (with_field (packet_bytes_mut c.args.self.now) 14 2 c.args.value) (field (packet_bytes_mut c.args.self.now) 14 2) (c.args.value % 4)
+written c = search rules
+
+pub returns-clause-valid : goal.returns-clause-valid
+returns-clause-valid c header room valid = subst HasChecksum (sym (written c)) (valid-ecn (packet_bytes_mut c.args.self.now) c.args.value (subst AreBytes c.as_bytes.ensures c.octets_fit.ensures) header room valid)
+
+pub returns-clause-reads : goal.returns-clause-reads
+returns-clause-reads c v verified r =
+    subst (λ (l : List ℕ). Reads l verified v) (sym (written c))
+    (reads-updated_ecn (packet_bytes_mut c.args.self.now) c.args.value verified v (subst AreBytes c.as_bytes.ensures c.octets_fit.ensures) r)
