@@ -29,7 +29,7 @@ use Rattle.wire_udp.proofs.UdpComputed.{udp_of-Reads}
 use Rattle.wire_udp.specs.Udp.{udp_of}
 
 -- an option that is no value is none
-none_of : {A : Type 0} (o : Option A) → ((a : A) → ¬ (o ≡ Some a)) → o ≡ None
+pub none_of : {A : Type 0} (o : Option A) → ((a : A) → ¬ (o ≡ Some a)) → o ≡ None
 none_of None h = refl
 none_of (Some a) h = absurd (h a refl)
 

@@ -9,6 +9,7 @@ ghost use Rattle.wire_ethernet.specs.declared.EthernetRepr.{EthernetRepr};
 
 mod build;
 mod carried;
+mod packet;
 mod transport;
 
 pub use carried::Carried;

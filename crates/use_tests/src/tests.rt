@@ -4,6 +4,7 @@ ghost use Rattle.std.specs.Prelude.{◌≡◌};
 
 mod arp_answer;
 mod captured;
+mod hop_guard;
 mod host;
 mod nat;
 mod promises;

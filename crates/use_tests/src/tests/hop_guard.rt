@@ -1,0 +1,55 @@
+//! The hop limit check. A neighbour sends with hop limit 255 (RFC 5082, section 3).
+
+use super::captured::{ARP_REQUEST, ECHO_REQUEST, SYN};
+use ip_uses::hop_guard::is_near;
+
+/// The packet to the echo port with another hop limit, and the checksum of its IPv4 header.
+fn with_hop_limit(hop_limit: u8, checksum: [u8; 2]) -> [u8; 46] {
+    let mut frame = ECHO_REQUEST;
+    frame[22] = hop_limit;
+    frame[24..26].copy_from_slice(&checksum);
+    frame
+}
+
+#[test]
+fn accepts_packets_over_few_routers(rt: HostRuntime) {
+    let sent = with_hop_limit(255, [0xd6, 0x68]);
+    let routed = with_hop_limit(253, [0xd8, 0x68]);
+    for (frame, hops, near) in [
+        (&sent[..], 0, true),
+        (&routed, 1, false),
+        (&routed, 2, true),
+        (&ECHO_REQUEST, 190, false),
+        (&ECHO_REQUEST, 191, true),
+        (&SYN, 190, false),
+        (&SYN, 191, true),
+    ] {
+        assert_eq!(rt; is_near(frame, hops), near);
+    }
+}
+
+#[test]
+fn accepts_neighbours_over_ipv6(rt: HostRuntime) {
+    let mut frame = super::uses::IPV6_FRAME;
+    frame[21] = 255;
+    assert!(rt; is_near(&frame, 0));
+    frame[21] = 254;
+    assert!(rt; !is_near(&frame, 0));
+    assert!(rt; is_near(&frame, 1));
+}
+
+#[test]
+fn accepts_only_packets_that_parse(rt: HostRuntime) {
+    let sent = with_hop_limit(255, [0xd6, 0x68]);
+    let mut damaged = sent;
+    damaged[45] ^= 1;
+    for frame in [
+        &ARP_REQUEST[..],
+        &with_hop_limit(255, [0x95, 0x69]),
+        &damaged,
+        &sent[..45],
+        &[],
+    ] {
+        assert!(rt; !is_near(frame, 255));
+    }
+}
