@@ -1,13 +1,13 @@
--- The packet that is computed is the one that the frame reads as.
+-- The values that are computed are those that the frame reads as.
 use Rattle.std.proofs.Common.{ℕ, ◌≡◌, ◌≢◌, ◌↔◌, ◌∙◌, Bool, true, false, List, Option, Some, None, drop, refl, sym, ap, subst, if◌then◌else◌}
 use Rattle.std.specs.Option.{option_and_then, option_map}
 use Rattle.ip_wire.proofs.Found.{gives-frame}
 use Rattle.ip_wire.proofs.Layers.{option_and_then-Some, option_map-Some}
 use Rattle.ip_wire.proofs.ReadsOnce.{computed-one, udp-computed}
 use Rattle.ip_wire.proofs.Unread.{none_of}
-use Rattle.ip_wire.specs.Frame.{Carried, ReadsCarried, ReadsFrame, ReadsPacket, ReadsTransportBy, Transport, datagram, other, packet, packet_payload, segment, type_of}
+use Rattle.ip_wire.specs.Frame.{Carried, ReadsCarried, ReadsFrame, ReadsPacket, ReadsTransportBy, Transport, datagram, message, other, packet, packet_payload, segment, type_of}
 use Rattle.ip_wire.specs.FrameValue.{Parses, carried_of, transport_of}
-use Rattle.ip_wire.specs.Packet.{header_by, packet_behind, packet_of, transport_behind, transport_by}
+use Rattle.ip_wire.specs.Packet.{carried_by, frame_of, header_by, packet_in, packet_of, transport_behind, transport_by}
 use Rattle.ip_wire.specs.Types.{EthernetProtocol, EthernetRepr, IpAddress, IpProtocol, IpRepr, Ipv4, Ipv4Repr, Ipv6, Ipv6Repr}
 use Rattle.ip_wire.specs.declared.frame.Frame.{Frame}
 use Rattle.ip_wire.specs.declared.frame.carried.Carried.TheVariants as carried
@@ -15,6 +15,8 @@ use Rattle.ip_wire.specs.declared.frame.carried.Carried as value
 use Rattle.ip_wire.specs.declared.frame.transport.Transport as inner
 use Rattle.net_base.specs.Checksum.{verifies}
 use Rattle.net_base.specs.declared.ChecksumCapabilities.{ChecksumCapabilities}
+use Rattle.wire_arp.proofs.ArpComputed.{arp_of-Reads}
+use Rattle.wire_arp.specs.Arp.{arp_of}
 use Rattle.wire_ends.specs.declared.IpProtocol.TheVariants as protocol
 use Rattle.wire_ethernet.proofs.EthernetComputed.{ethernet_of-Reads}
 use Rattle.wire_ethernet.specs.Ethernet.{ethernet_of}
@@ -82,25 +84,65 @@ header-only caps (ethertype.Unknown n) bytes v e = absurd (cc)
 
 -- ---- the frame
 
+packets-only : (caps : ChecksumCapabilities) (t : EthernetProtocol) (bytes : List ℕ) (c : Carried)
+    → option_and_then (λ v. option_map (packet v) (transport_behind caps v bytes)) (header_by caps t bytes) ≡ Some c → ReadsCarried caps t bytes c
+packets-only caps t bytes c e =
+    let (v, header, behind) = option_and_then-Some (λ v. option_map (packet v) (transport_behind caps v bytes)) (header_by caps t bytes) c e in
+    let (s, found, is) = option_map-Some (packet v) (transport_behind caps v bytes) c behind in
+    let (type, read) = header-only caps t bytes v header in
+    subst (ReadsCarried caps t bytes) is (type, read, transport-only caps _ _ _ _ s found)
+
+carried-only : (caps : ChecksumCapabilities) (t : EthernetProtocol) (bytes : List ℕ) (c : Carried) → carried_by caps t bytes ≡ Some c → ReadsCarried caps t bytes c
+carried-only caps ethertype.Arp bytes c e =
+    let (v, read, is) = option_map-Some message (arp_of bytes) c e in
+    subst (ReadsCarried caps ethertype.Arp bytes) is (refl, (arp_of-Reads bytes v).0 read)
+carried-only caps ethertype.Ipv4 bytes c e = packets-only caps ethertype.Ipv4 bytes c e
+carried-only caps ethertype.Ipv6 bytes c e = packets-only caps ethertype.Ipv6 bytes c e
+carried-only caps (ethertype.Unknown n) bytes c e = packets-only caps (ethertype.Unknown n) bytes c e
+
+carried-read : (caps : ChecksumCapabilities) (t : EthernetProtocol) (bytes : List ℕ) (c : Carried) → ReadsCarried caps t bytes c → carried_by caps t bytes ≡ Some c
+carried-read caps t bytes (message v) (type, read) = rw (type, (arp_of-Reads bytes v).1 read) refl
+carried-read caps t bytes (packet (Ipv4 v) inner) (type, read, behind) =
+    rw (type, header-read caps ethertype.Ipv4 bytes (Ipv4 v) refl read, transport-read caps _ _ _ _ inner behind) refl
+carried-read caps t bytes (packet (Ipv6 v) inner) (type, read, behind) =
+    rw (type, header-read caps ethertype.Ipv6 bytes (Ipv6 v) refl read, transport-read caps _ _ _ _ inner behind) refl
+
+-- a frame has these values exactly if it reads as them
+pub frame_of-Reads : (caps : ChecksumCapabilities) (frame : List ℕ) (link : EthernetRepr) (c : Carried)
+    → (frame_of caps frame ≡ Some (link, c)) ↔ ReadsFrame caps frame link c
+unfolding frame_of
+frame_of-Reads caps frame link c = (
+  λ e.
+    let (l, header, behind) = option_and_then-Some (λ l. option_map (λ c. (l, c)) (carried_by caps l.ethertype (drop 14 frame))) (ethernet_of frame) (link, c) e in
+    let (d, found, is) = option_map-Some (λ c. (l, c)) (carried_by caps l.ethertype (drop 14 frame)) (link, c) behind in
+    let whole : ReadsFrame caps frame l d =
+    record { reads_header = (ethernet_of-Reads frame l).0 header; reads_carried = carried-only caps l.ethertype (drop 14 frame) d found } in
+    subst (λ (x : EthernetRepr × Carried). ReadsFrame caps frame x.0 x.1) is whole,
+  λ r. rw ((ethernet_of-Reads frame link).1 r.reads_header, carried-read caps link.ethertype (drop 14 frame) c r.reads_carried) refl,
+)
+
+-- a frame that reads as nothing has no values
+pub no-values : (caps : ChecksumCapabilities) (frame : List ℕ) → ((link : EthernetRepr) (c : Carried) → ¬ ReadsFrame caps frame link c) → frame_of caps frame ≡ None
+no-values caps frame none = none_of (frame_of caps frame) (λ (link, c) e. none link c ((frame_of-Reads caps frame link c).0 e))
+
+-- a frame that was parsed has the values of the result
+pub parsed-values : (caps : ChecksumCapabilities) (bytes : List ℕ) (f : Frame) → Parses caps bytes f
+    → (c : Carried) × (carried_of f.carried ≡ Some c) × (frame_of caps bytes ≡ Some (f.header, c))
+parsed-values caps bytes f (c, is, reads) = (c, is, (frame_of-Reads caps bytes f.header c).1 reads)
+
 packet-read : (caps : ChecksumCapabilities) (frame : List ℕ) (link : EthernetRepr) (v : IpRepr) (t : Transport) → ReadsFrame caps frame link (packet v t)
     → packet_of caps frame ≡ Some (link, v, t)
-unfolding packet_of
-packet-read caps frame link v t r =
-    let (type, read, inner) = r.reads_carried in
-    rw ((ethernet_of-Reads frame link).1 r.reads_header, header-read caps link.ethertype (drop 14 frame) v type read, transport-read caps _ _ _ _ t inner) refl
+packet-read caps frame link v t r = rw ((frame_of-Reads caps frame link (packet v t)).1 r) refl
+
+packet-in : (d : EthernetRepr × Carried) (link : EthernetRepr) (v : IpRepr) (t : Transport) → packet_in d ≡ Some (link, v, t) → d ≡ (link, packet v t)
+packet-in (l, packet w s) link v t e = cc
+packet-in (l, message w) link v t e = absurd (cc)
 
 packet-only : (caps : ChecksumCapabilities) (frame : List ℕ) (link : EthernetRepr) (v : IpRepr) (t : Transport) → packet_of caps frame ≡ Some (link, v, t)
     → ReadsFrame caps frame link (packet v t)
-unfolding packet_of
 packet-only caps frame link v t e =
-    let (l, header, behind) = option_and_then-Some (λ l. packet_behind caps l (drop 14 frame)) (ethernet_of frame) (link, v, t) e in
-    let (w, ip, inner) = option_and_then-Some (λ w. option_map (λ s. (l, w, s)) (transport_behind caps w (drop 14 frame))) (header_by caps l.ethertype (drop 14 frame)) (link, v, t) behind in
-    let (s, found, is) = option_map-Some (λ s. (l, w, s)) (transport_behind caps w (drop 14 frame)) (link, v, t) inner in
-    let (type, read) = header-only caps l.ethertype (drop 14 frame) w ip in
-    let whole : ReadsFrame caps frame l (packet w s) =
-    record { reads_header = (ethernet_of-Reads frame l).0 header; reads_carried = (type, read, transport-only caps _ _ _ _ s found) }
-    in
-    subst (λ (x : EthernetRepr × IpRepr × Transport). ReadsFrame caps frame x.0 (packet x.1 x.2)) is whole
+    let (d, found, is) = option_and_then-Some packet_in (frame_of caps frame) (link, v, t) e in
+    (frame_of-Reads caps frame link (packet v t)).0 (found ∙ ap Some (packet-in d link v t is))
 
 -- a frame has this packet exactly if it reads as it
 pub packet_of-Reads : (caps : ChecksumCapabilities) (frame : List ℕ) (link : EthernetRepr) (v : IpRepr) (t : Transport)

@@ -5,6 +5,7 @@ ghost use Rattle.std.specs.Option.{option_map};
 ghost use Rattle.ip_wire.specs.Frame as frame;
 ghost use Rattle.ip_wire.specs.Frame.{ReadsFrame};
 ghost use Rattle.ip_wire.specs.FrameValue.{Fills, Finds, Fits, Gives, Parses, carried_payload, frame_bytes, frame_len, frame_text};
+ghost use Rattle.ip_wire.specs.Packet.{IsFrame, frame_of};
 ghost use Rattle.wire_ethernet.specs.declared.EthernetRepr.{EthernetRepr};
 
 mod build;
@@ -48,6 +49,7 @@ impl<'a> Frame<'a> {
     /// transport. Fragments and unknown EtherTypes are errors.
     #[inline(always)]
     pub fn parse(bytes: &'a [u8], caps: &ChecksumCapabilities) -> Result<Frame<'a>>
+        ensures value { IsFrame (frame_of caps.now bytes.now) result }
         ensures ok { IfOk result (Parses caps.now bytes.now) }
         ensures reads { (v : EthernetRepr) (c : frame.Carried) → Gives result v c ↔ ReadsFrame caps.now bytes.now v c }
         ensures fits { IfOk result Fits }
