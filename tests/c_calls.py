@@ -4,9 +4,9 @@
     tests/c_calls.py [TOP]
 
 Each call of the header must be a function of ip_wire_c or c/cpu.c with the same types, and the other way round. Each struct
-must have the same fields in the same order, and each enum the same names and numbers. Each name `lk_..` in README.md and
-docs/ must be in the header. Differences are printed, and the status is 1 then. TOP is the top of the repository.
-tests/install compares the header with the man page.
+of c_structs must have the same fields in the same order, and each enum the same names and numbers. Each name `lk_..` in
+README.md and docs/ must be in the header. Differences are printed, and the status is 1 then. TOP is the top of the
+repository. tests/install compares the header with the man page.
 """
 import glob
 import os
@@ -66,7 +66,8 @@ class Library:
     def __init__(self, top):
         crates = Sources(top).crates
         everything = [item for crate in crates.values() for module in crate.modules.values() for item in module.items]
-        self.items = [item for module in crates["ip_wire_c"].modules.values() for item in module.items]
+        self.items = [item for name in ("c_structs", "ip_wire_c") for module in crates[name].modules.values()
+                      for item in module.items]
         docs = {item.name: " ".join(item.docs) for item in self.items if item.kind == "struct"}
         names = {rust: re.match(r"`(struct lk_\w+)`", doc) for rust, doc in docs.items()}
         self.types = NUMBERS | {rust: found.group(1) for rust, found in names.items() if found}

@@ -2,14 +2,12 @@
 
 ghost use Rattle.std.specs.Prelude.{◌≡◌, ◌≤◌, ◌+◌, length, pos};
 ghost use Rattle.std.specs.Option.{option_map};
-ghost use Rattle.ip_wire_c.specs.Codes.{reason_of, text_of};
-ghost use Rattle.ip_wire_c.specs.FrameFields.{fields_of};
-ghost use Rattle.ip_wire_c.specs.TcpOptions.{ReadsItems, tcp_options_of};
-ghost use Rattle.ip_wire_c.specs.Written.{IsRead, Writes};
+ghost use Rattle.c_structs.specs.Codes.{reason_of, text_of};
+ghost use Rattle.c_structs.specs.FrameFields.{fields_of};
+ghost use Rattle.c_structs.specs.TcpOptions.{ReadsItems, tcp_options_of};
+ghost use Rattle.c_structs.specs.Written.{IsRead, Writes};
 
-use crate::codes::Reason;
-use crate::results::{FAILED, print};
-use crate::types::{FrameFields, TcpOptions};
+use c_structs::{FAILED, FrameFields, Reason, TcpOptions, print};
 
 const VERSION_MAJOR: u32 = 0;
 

@@ -1,6 +1,6 @@
 use Rattle.std.proofs.Common.{SFits, w32, w64, rules}
 use Rattle.std.proofs.lemmas.Int.{to_z-of_z}
-use Rattle.ip_wire_c.proofs.Filled.{writes-filled}
+use Rattle.c_structs.proofs.Filled.{writes-filled}
 use Rattle.ip_wire_c.proofs.emit.lk_emit_tcp.Goals as goal
 
 pub returns : goal.returns

@@ -1,5 +1,5 @@
 use Rattle.std.proofs.Common.{SFits, w64, rules}
-use Rattle.ip_wire_c.proofs.Filled.{writes-filled}
+use Rattle.c_structs.proofs.Filled.{writes-filled}
 use Rattle.ip_wire_c.proofs.frames.lk_emit_udp_frame.Goals as goal
 
 pub returns : goal.returns

@@ -1,0 +1,19 @@
+-- The struct of a frame, by whether the frame holds an Ethernet header.
+use Rattle.std.proofs.Common.{ℕ, ◌≡◌, ◌≤◌, ◌<◌, nat_le, true, false, List, drop, length, refl, arith}
+use Rattle.std.proofs.lemmas.Bool.Decides.{nat_tests}
+use Rattle.ip_wire.specs.Ethernet.{ethernet_of, header_of}
+use Rattle.c_structs.specs.FrameFields.{fields_of, nothing_of, with_frame}
+
+-- the struct of a frame of fewer than 14 octets
+pub fields_of_short : (frame : List ℕ) → length frame < 14 → fields_of frame ≡ nothing_of (length frame)
+unfolding fields_of ethernet_of
+fields_of_short frame h =
+    let few : nat_le 14 (length frame) ≡ false = grind (arith, nat_tests) in
+    rw few refl
+
+-- the struct of a longer frame, which has an Ethernet header
+pub fields_of_long : (frame : List ℕ) → 14 ≤ length frame → fields_of frame ≡ with_frame (nothing_of (length frame)) (header_of frame) (drop 14 frame)
+unfolding fields_of ethernet_of
+fields_of_long frame h =
+    let enough : nat_le 14 (length frame) ≡ true = grind (arith, nat_tests) in
+    rw enough refl

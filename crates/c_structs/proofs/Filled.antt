@@ -1,0 +1,79 @@
+-- What fills the front of a slice.
+use Rattle.std.proofs.Common.{◌≡◌, ◌∙◌, ℕ, ℤ, pos, SFits, to_z, of_z, w64, ◌+◌, ◌≤◌, List, [], ◌++◌, Option, Some, None, drop, length, slice_range, take, ap, sym, append-nil, arith}
+use Rattle.std.proofs.lemmas.Grind.{common_steps}
+use Rattle.std.proofs.lemmas.Int.{to_z-of_z}
+use Rattle.c_structs.specs.Written.{Fills, Writes, returned}
+
+-- ---- a header in front of what it carries
+
+-- a header that fills the front of a slice
+pub front_filled : (header old front : List ℕ) (size : ℕ) → size ≤ length old → front ≡ header ++ drop size (take size old) → front ≡ header
+front_filled header old front size room e =
+    let none : drop size (take size old) ≡ [] = grind (arith, common_steps) in
+    e ∙ ap (λ rest. header ++ rest) none ∙ grind (arith, common_steps)
+
+-- both stand at the front of the slice, if what is carried stands at the front of the rest of it
+pub filled-behind : (header inner old front written new : List ℕ) (size len : ℕ) → size ≤ length old → length front ≡ size
+    → front ≡ written → written ≡ header ++ drop size (take size old) → len ≡ length inner → len ≤ length (drop size old) → new ≡ inner ++ drop len (drop size old)
+    → (size + len ≡ length (header ++ inner)) × (size + len ≤ length old) × (front ++ new ≡ (header ++ inner) ++ drop (size + len) old)
+filled-behind header inner old front written new size len room f is is_written n fits is_new =
+    let header_is = front_filled header old front size room (is ∙ is_written) in
+    (grind (arith, common_steps), grind (arith, common_steps), grind (arith, common_steps))
+
+-- ---- a part of the slice
+
+-- what is written into as many bytes as it takes stands at the front of the slice, and nothing follows it there
+pub filled-part : (bytes : List ℕ → List ℕ) (old front written rest : List ℕ) (len : ℕ) → len ≤ length old → length (bytes []) ≡ len
+    → front ≡ written → written ≡ bytes (drop len (take len old)) ++ drop len (take len old) → rest ≡ drop len old
+    → (len ≡ length (bytes [])) × (len ≤ length old) × (front ++ rest ≡ bytes [] ++ drop len old)
+filled-part bytes old front written rest len room size is is_written behind =
+    let none : drop len (take len old) ≡ [] = grind (arith, common_steps) in
+    let whole : front ≡ bytes [] = is ∙ is_written ∙ ap (λ part. bytes part ++ part) none ∙ append-nil (bytes []) in
+    (sym size, room, ap (λ part. part ++ rest) whole ∙ ap (λ part. bytes [] ++ part) behind)
+
+-- ---- what C gets
+
+filled-writes : (bytes : Option (List ℕ)) (old new : List ℕ) (len : Option ℕ) (answer : ℤ) → Fills bytes old new len → answer ≡ returned len
+    → Writes bytes old new answer
+filled-writes None old new len answer (none, stays) is = (is ∙ ap returned none, stays)
+filled-writes (Some bytes) old new None answer (short, stays) is = record {
+  fits = λ room. absurd (omega (arith, room, short));
+  no_room = λ less. (is, stays);
+}
+filled-writes (Some bytes) old new (Some n) answer (len, room, holds) is = record {
+  fits = λ _. (is ∙ ap pos len, holds ∙ ap (λ k. bytes ++ drop k old) len);
+  no_room = λ less. absurd (omega (arith, len, room, less));
+}
+
+-- a function that fills the front of `out` writes the bytes or returns that there is no room
+pub writes-filled : (bytes : Option (List ℕ)) (old new : List ℕ) (len : Option ℕ) (answer : ℤ) → Fills bytes old new len → answer ≡ returned len
+    → SFits w64 answer → Writes bytes old new (to_z w64 (of_z w64 answer))
+writes-filled bytes old new len answer fills is fits = filled-writes bytes old new len _ fills (to_z-of_z w64 answer fits ∙ is)
+
+-- ---- a front that is written in several steps
+
+-- a front that was written apart is the header, and the rest is unchanged
+pub filled-header : (header old front written rest : List ℕ) (size : ℕ) → front ≡ written → written ≡ header → rest ≡ drop size old
+    → front ++ rest ≡ header ++ drop size old
+filled-header header old front written rest size is is_header behind = ap (λ part. part ++ rest) (is ∙ is_header) ∙ ap (λ part. header ++ part) behind
+
+-- ---- a payload that is copied to its place
+
+placed-part : (old payload : List ℕ) (a : ℕ) → a + length payload ≤ length old
+    → slice_range (take a old ++ payload ++ drop (a + length payload) old) a (a + length payload) ≡ payload
+placed-part old payload a room = grind (arith, common_steps, room)
+
+placed-rest : (old payload : List ℕ) (a : ℕ) → a + length payload ≤ length old
+    → drop (a + length payload) (take a old ++ payload ++ drop (a + length payload) old) ≡ drop (a + length payload) old
+placed-rest old payload a room = grind (arith, common_steps, room)
+
+-- what is written around it there is what is written around it anywhere
+pub placed : (F : List ℕ → List ℕ) (payload old full new : List ℕ) (a : ℕ) → a + length payload ≤ length old
+    → full ≡ take a old ++ payload ++ drop (a + length payload) old
+    → new ≡ F (slice_range full a (a + length payload)) ++ drop (a + length payload) full
+    → new ≡ F payload ++ drop (a + length payload) old
+placed F payload old full new a room is holds =
+    let end = a + length payload in
+    let part = ap (λ s. slice_range s a end) is ∙ placed-part old payload a room in
+    let rest = ap (λ s. drop end s) is ∙ placed-rest old payload a room in
+    holds ∙ ap (λ s. F s ++ drop end full) part ∙ ap (λ s. F payload ++ s) rest

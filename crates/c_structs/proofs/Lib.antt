@@ -1,0 +1,15 @@
+mod Emitted
+mod FieldsOf
+pub mod Filled
+mod Framed
+mod Headed
+mod HostAnswers
+mod Ipv4Words
+mod Numbered
+mod StoredFrame
+mod StoredHeaders
+mod StoredOnce
+mod StoredParts
+mod TcpResummed
+mod UdpKept
+mod WrittenWorked

@@ -1,0 +1,40 @@
+use Rattle.std.proofs.Common.{◌≡◌, SFits, w64, rules}
+use Rattle.ip_host.proofs.HostReplies.{one_answer}
+use Rattle.ip_host.specs.Host.{IsReply, RepliesBytes, RepliesFrame}
+use Rattle.ip_replies.proofs.Parsed.{IsParsed, to_bytes, to_frame, unread}
+use Rattle.ip_replies.proofs.Sent.{sends}
+use Rattle.ip_wire.specs.Frame.{all_checked}
+use Rattle.c_structs.proofs.HostAnswers.{replied, silent, unanswered}
+use Rattle.c_structs.proofs.host.answer.Goals as goal
+
+pub returns-in-Some : goal.returns-in-Some
+returns-in-Some c =
+    let host = c.args.host.now in
+    let bytes = c.args.frame.now in
+    let request = c.in-Ok.request in
+    let caps : c.default.result ≡ all_checked = search rules in
+    let parsed : IsParsed request bytes = rw caps at c.in-Ok.ensures.reads in
+    let to = to_bytes (IsReply host) request bytes parsed in
+    let sent = sends (RepliesFrame host request) (RepliesBytes host bytes) c.in-Some.reply c.args.out.now c.send.new.out c.send.result c.in-Some.ensures c.send.ensures
+    to (to_frame (IsReply host) request bytes parsed) (one_answer host request) in
+    let fits : SFits w64 c.written.result = search rules in
+    let w = replied (RepliesFrame host request) (RepliesBytes host bytes) c.in-Some.reply _ _ _ _ c.in-Some.ensures to sent c.written.ensures fits in
+    record { answers = w; unread = unanswered host bytes _ _ _ w }
+
+pub returns-in-None : goal.returns-in-None
+returns-in-None c =
+    let host = c.args.host.now in
+    let bytes = c.args.frame.now in
+    let request = c.in-Ok.request in
+    let caps : c.default.result ≡ all_checked = search rules in
+    let parsed : IsParsed request bytes = rw caps at c.in-Ok.ensures.reads in
+    let w = silent (RepliesBytes host bytes) c.args.out.now (λ h d q. c.in-None.ensures h d (to_frame (IsReply host) request bytes parsed h d q)) in
+    record { answers = w; unread = unanswered host bytes _ _ _ w }
+
+pub returns-in-Err : goal.returns-in-Err
+returns-in-Err c =
+    let host = c.args.host.now in
+    let bytes = c.args.frame.now in
+    let caps : c.default.result ≡ all_checked = search rules in
+    let w = silent (RepliesBytes host bytes) c.args.out.now (unread (IsReply host) bytes (rw caps at c.in-Err.ensures.reads)) in
+    record { answers = w; unread = unanswered host bytes _ _ _ w }

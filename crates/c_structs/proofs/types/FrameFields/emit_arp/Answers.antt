@@ -1,0 +1,22 @@
+use Rattle.std.proofs.Common.{◌≡◌, ◌∙◌, ◌+◌, ◌++◌, Some, ap, refl, rules, subst, sym, take}
+use Rattle.std.specs.Option.{option_map}
+use Rattle.ip_wire.specs.Arp.{bytes_of}
+use Rattle.c_structs.proofs.Filled.{filled-behind}
+use Rattle.c_structs.specs.Frames.{arp_frame}
+use Rattle.c_structs.specs.Headers.{arp_value, link_bytes}
+use Rattle.c_structs.specs.Written.{Fills}
+use Rattle.c_structs.proofs.types.FrameFields.emit_arp.Goals as goal
+
+pub returns-in-Some : goal.returns-in-Some
+returns-in-Some c =
+    let f = c.args.self.now in
+    let old = c.args.out.now in
+    let link = link_bytes f.ethernet 2054 in
+    let inner = bytes_of c.in_ok-value.value in
+    let value : arp_value f.arp f.src.addr f.dst.addr ≡ Some c.in_ok-value.value = sym c.value.ensures ∙ c.in_ok-value.was in
+    let frame : arp_frame f ≡ Some (link ++ inner) = ap (λ o. option_map (λ packet. link ++ packet) (option_map bytes_of o)) value in
+    let front : c.split_at_mut-link.result.0.now ≡ take 14 old = search rules in
+    let is_front = rw front at c.emit-in-Some.ensures in
+    subst (λ o. Fills o old (c.emit-in-Some.new.out ++ c.emit.new.out) (Some (14 + c.in-Some.len))) (sym frame)
+    (filled-behind link inner old c.emit-in-Some.new.out _ c.emit.new.out 14 c.in-Some.len
+    (search rules) (search rules) refl is_front (search rules) (search rules) (search rules))

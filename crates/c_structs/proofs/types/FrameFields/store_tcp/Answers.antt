@@ -1,0 +1,42 @@
+use Rattle.std.proofs.Common.{◌≡◌, ◌∙◌, nat_lt, if◌then◌else◌, Bool, false, Option, None, Some, length, refl, sym, arith}
+use Rattle.std.proofs.lemmas.Bool.Decides.{nat_tests}
+use Rattle.std.specs.Option.{option_map_or}
+use Rattle.ip_wire.specs.Tcp as tcp
+use Rattle.ip_wire.specs.TcpRepr.{header_of, tcp_of}
+use Rattle.c_structs.specs.FrameFields.{behind, rejected, tcp_fault, with_tcp_header}
+use Rattle.c_structs.specs.declared.types.FrameFields.{FrameFields}
+use Rattle.c_structs.proofs.types.FrameFields.store_tcp.Goals as goal
+
+chosen-some : {A : Type 0} (b : Bool) (o : Option A) (a : A) (f g h : FrameFields) → b ≡ false → o ≡ Some a → (if b then f else option_map_or (λ v. g) o h) ≡ g
+chosen-some b o a f g h e is = rw (e, is) refl
+
+chosen-none : {A : Type 0} (b : Bool) (o : Option A) (f g h : FrameFields) → b ≡ false → o ≡ None → (if b then f else option_map_or (λ v. g) o h) ≡ h
+chosen-none b o f g h e is = rw (e, is) refl
+
+pub returns-in-Ok-clause-value : goal.returns-in-Ok-clause-value
+returns-in-Ok-clause-value c =
+    let bytes = c.args.bytes.now in
+    let src = c.args.src_addr.now in
+    let dst = c.args.dst_addr.now in
+    let next = with_tcp_header c.args.self.now src dst bytes in
+    let enough = c.if-bytes-lt-TCP_HEADER_LEN.false in
+    let long : nat_lt (length bytes) 20 ≡ false = grind (arith, nat_tests, enough) in
+    let read : tcp_of src dst false bytes ≡ Some (header_of c.in-Ok.field-0) = rw (c.new_unchecked-packet.ensures, c.ignored-caps.ensures) at c.in-Ok.ensures.value in
+    let made : c.step_behind.new.self ≡ behind next (tcp.header_len bytes) (length (tcp.payload_of bytes)) =
+    rw (c.step_behind.ensures, c.store_tcp_header.ensures, c.from.ensures, c.header_len.ensures, c.payload.ensures, c.new_unchecked-packet.ensures) refl
+    in
+    made ∙ sym (chosen-some (nat_lt (length bytes) 20) (tcp_of src dst false bytes) (header_of c.in-Ok.field-0) _ _ (rejected next (tcp_fault bytes)) long read)
+
+pub returns-in-Err-clause-value : goal.returns-in-Err-clause-value
+returns-in-Err-clause-value c =
+    let bytes = c.args.bytes.now in
+    let src = c.args.src_addr.now in
+    let dst = c.args.dst_addr.now in
+    let next = with_tcp_header c.args.self.now src dst bytes in
+    let enough = c.if-bytes-lt-TCP_HEADER_LEN.false in
+    let long : nat_lt (length bytes) 20 ≡ false = grind (arith, nat_tests, enough) in
+    let unread : tcp_of src dst false bytes ≡ None = rw (c.new_unchecked-packet.ensures, c.ignored-caps.ensures) at c.in-Err.ensures.value in
+    let made : c.reject-in-Err.new.self ≡ rejected next (tcp_fault bytes) =
+    rw (c.reject-in-Err.ensures, c.store_tcp_header.ensures, c.tcp_fault.ensures, c.new_unchecked-packet.ensures) refl
+    in
+    made ∙ sym (chosen-none (nat_lt (length bytes) 20) (tcp_of src dst false bytes) _ (behind next (tcp.header_len bytes) (length (tcp.payload_of bytes))) _ long unread)

@@ -1,0 +1,332 @@
+-- The values of a frame as the struct of C.
+use Rattle.std.specs.Prelude.{ℕ, ◌+◌, ◌*◌, ◌/◌, ◌%◌, ◌==◌, ◌||◌, not, nat_lt, is_none, if◌then◌else◌, false, List, drop, length, replicate, take}
+use Rattle.std.specs.Option.{option_map_or}
+use Rattle.ip_wire.specs.Arp as arp
+use Rattle.ip_wire.specs.Arp.{arp_of}
+use Rattle.ip_wire.specs.Ethernet as ethernet
+use Rattle.ip_wire.specs.Ethernet.{ethernet_of}
+use Rattle.ip_wire.specs.Field.{field}
+use Rattle.ip_wire.specs.Frame.{ipv4_payload}
+use Rattle.ip_wire.specs.Ip.{dst_addr_of, next_header_of, src_addr_of}
+use Rattle.ip_wire.specs.Ipv4 as ipv4
+use Rattle.ip_wire.specs.Ipv4.{ipv4_of}
+use Rattle.ip_wire.specs.Ipv6 as ipv6
+use Rattle.ip_wire.specs.Ipv6.{ipv6_of}
+use Rattle.ip_wire.specs.Ipv6Fragment as fragment
+use Rattle.ip_wire.specs.Tcp as tcp
+use Rattle.ip_wire.specs.TcpRepr.{control_of, tcp_of}
+use Rattle.ip_wire.specs.Udp as udp
+use Rattle.ip_wire.specs.Udp.{udp_of}
+use Rattle.ip_wire.specs.WordSum.{sum_of_bytes}
+use Rattle.ip_wire.specs.Types.{ArpRepr, EthernetProtocol, EthernetRepr, IpAddress, IpProtocol, IpRepr, Ipv4, Ipv4Repr, Ipv6, Ipv6Repr}
+use Rattle.ip_wire.specs.declared.ArpRepr.TheVariants.{EthernetIpv4}
+use Rattle.ip_wire.specs.declared.EthernetProtocol.TheVariants as ethertype
+use Rattle.ip_wire.specs.declared.IpAddress.TheVariants as address
+use Rattle.ip_wire.specs.declared.IpProtocol.TheVariants as protocol
+use Rattle.ip_wire.specs.declared.Ipv6FragmentRepr.{Ipv6FragmentRepr}
+use Rattle.c_structs.specs.Addresses.{endpoint_of, no_endpoint}
+use Rattle.c_structs.specs.Codes.{network_code, reason_code, transport_code, verdict_code}
+use Rattle.c_structs.specs.Written.{flag}
+use Rattle.c_structs.specs.declared.codes.Network.TheVariants as network
+use Rattle.c_structs.specs.declared.codes.Reason.{Reason}
+use Rattle.c_structs.specs.declared.codes.Reason.TheVariants as reason
+use Rattle.c_structs.specs.declared.codes.Transport.TheVariants as transport
+use Rattle.c_structs.specs.declared.codes.Verdict.{Verdict}
+use Rattle.c_structs.specs.declared.codes.Verdict.TheVariants as verdict
+use Rattle.c_structs.specs.declared.types.Arp.{Arp}
+use Rattle.c_structs.specs.declared.types.Ethernet.{Ethernet}
+use Rattle.c_structs.specs.declared.types.FrameFields.{FrameFields}
+use Rattle.c_structs.specs.declared.types.Ip.{Ip}
+use Rattle.c_structs.specs.declared.types.Tcp.{Tcp}
+
+-- ---- structs of zeros
+
+abbrev pub no_ethernet : Ethernet
+no_ethernet = record { src = replicate 6 0; dst = replicate 6 0; ethertype = 0 }
+
+abbrev pub no_arp : Arp
+no_arp = record { operation = 0; src_hardware = replicate 6 0; dst_hardware = replicate 6 0 }
+
+abbrev pub no_ip : Ip
+no_ip = record {
+  ident = 0;
+  flow_label = 0;
+  fragment_offset = 0;
+  protocol = 0;
+  hop_limit = 0;
+  dscp = 0;
+  ecn = 0;
+  more_fragments = 0;
+  dont_fragment = 0;
+}
+
+abbrev pub no_tcp : Tcp
+no_tcp = record { seq_number = 0; ack_number = 0; window_len = 0; urgent_at = 0; flags = 0; header_len = 0 }
+
+-- ---- where the payload is
+
+-- no header of this many bytes was parsed: they are too few for the first one
+abbrev pub nothing_of : ℕ → FrameFields
+nothing_of len = record {
+  network_offset = 0;
+  transport_offset = 0;
+  payload_offset = 0;
+  payload_len = len;
+  src = no_endpoint;
+  dst = no_endpoint;
+  ip = no_ip;
+  tcp = no_tcp;
+  ethernet = no_ethernet;
+  arp = no_arp;
+  reason = reason_code reason.TooShort;
+  network = network_code network.None;
+  transport = transport_code transport.None;
+  is_fragment = 0;
+  ipv4_checksum = verdict_code verdict.None;
+  transport_checksum = verdict_code verdict.None;
+}
+
+-- the payload begins behind a header of this length, and has this length
+abbrev pub behind : FrameFields → ℕ → ℕ → FrameFields
+behind f header_len len = record f { payload_offset = f.payload_offset + header_len; payload_len = len }
+
+-- the next header is rejected for this reason, so the payload begins at it
+abbrev pub rejected : FrameFields → Reason → FrameFields
+rejected f why = record f { reason = reason_code why }
+
+-- ---- why bytes that are no header are rejected: the first test that fails
+
+abbrev pub arp_fault : List ℕ → Reason
+arp_fault bytes = if nat_lt (length bytes) 28 then reason.TooShort else reason.OtherArp
+
+abbrev pub ipv4_fault : List ℕ → Reason
+ipv4_fault bytes =
+    if nat_lt (length bytes) 20 then reason.TooShort
+    else if not (field bytes 0 4 == 4) then reason.BadVersion
+    else reason.BadLength
+
+abbrev pub ipv6_fault : List ℕ → Reason
+ipv6_fault bytes =
+    if nat_lt (length bytes) 40 then reason.TooShort
+    else if not (field bytes 0 4 == 6) then reason.BadVersion
+    else reason.BadLength
+
+-- of at least 8 bytes
+abbrev pub udp_fault : List ℕ → Reason
+udp_fault bytes = if not (udp.has_lengths bytes) then reason.BadLength else reason.PortZero
+
+-- of at least 20 bytes
+abbrev pub tcp_fault : List ℕ → Reason
+tcp_fault bytes =
+    if not (tcp.has_lengths bytes) then reason.BadLength
+    else if field bytes 0 16 == 0 || (field bytes 16 16 == 0) then reason.PortZero
+    else if is_none (control_of bytes) then reason.BadFlags
+    else reason.BadOptions
+
+-- ---- what a checksum says
+
+abbrev pub ipv4_verdict : List ℕ → Verdict
+ipv4_verdict bytes = if sum_of_bytes (take (ipv4.header_len bytes) bytes) == 65535 then verdict.Right else verdict.Wrong
+
+-- 0 means that the sender computed none; over IPv6 it must compute one
+abbrev pub udp_verdict : IpAddress → IpAddress → List ℕ → Verdict
+udp_verdict src dst bytes =
+    if field bytes 48 16 == 0 then (if udp.is_ipv4 src then verdict.LeftOut else verdict.Wrong)
+    else if udp.packet_sum src dst (take (udp.packet_len bytes) bytes) == 65535 then verdict.Right
+    else if field bytes 48 16 == udp.pseudo_header_sum src dst bytes then verdict.LeftToDevice
+    else verdict.Wrong
+
+abbrev pub tcp_verdict : IpAddress → IpAddress → List ℕ → Verdict
+tcp_verdict src dst bytes =
+    if tcp.segment_sum src dst bytes == 65535 then verdict.Right
+    else if field bytes 128 16 == tcp.pseudo_header_sum src dst bytes then verdict.LeftToDevice
+    else verdict.Wrong
+
+-- ---- UDP and TCP
+
+-- the fields with the ports of a header, its first 4 octets
+abbrev pub with_ports : FrameFields → List ℕ → FrameFields
+with_ports f bytes = record f {
+  transport_offset = f.payload_offset;
+  src = record f.src { port = field bytes 0 16 };
+  dst = record f.dst { port = field bytes 16 16 };
+}
+
+-- the fields with those of a UDP header between two addresses; where the length is wrong, no checksum can be computed
+abbrev pub with_udp_header : FrameFields → IpAddress → IpAddress → List ℕ → FrameFields
+with_udp_header f src dst bytes = let next = with_ports f bytes in record next {
+  transport = transport_code transport.Udp;
+  transport_checksum = verdict_code (if udp.has_lengths bytes then udp_verdict src dst bytes else verdict.None);
+}
+
+-- the fields with those of a UDP packet; a rejected header is stored too, if it is there as a whole
+abbrev pub with_udp : FrameFields → IpAddress → IpAddress → List ℕ → FrameFields
+with_udp f src dst bytes =
+    if nat_lt (length bytes) 8 then rejected f reason.TooShort
+    else let next = with_udp_header f src dst bytes in
+    option_map_or (λ v. behind next 8 (length (udp.payload_of bytes))) (udp_of src dst false bytes) (rejected next (udp_fault bytes))
+
+-- the values of a TCP header without its ports
+abbrev pub tcp_values : List ℕ → Tcp
+tcp_values bytes = record {
+  seq_number = field bytes 32 32;
+  ack_number = field bytes 64 32;
+  window_len = field bytes 112 16;
+  urgent_at = field bytes 144 16;
+  flags = field bytes 104 8;
+  header_len = tcp.header_len bytes;
+}
+
+-- the fields with those of a TCP header between two addresses
+abbrev pub with_tcp_header : FrameFields → IpAddress → IpAddress → List ℕ → FrameFields
+with_tcp_header f src dst bytes = let next = with_ports f bytes in record next {
+  tcp = tcp_values bytes;
+  transport = transport_code transport.Tcp;
+  transport_checksum = verdict_code (tcp_verdict src dst bytes);
+}
+
+-- the fields with those of a TCP segment; a rejected header is stored too, if it is there as a whole
+abbrev pub with_tcp : FrameFields → IpAddress → IpAddress → List ℕ → FrameFields
+with_tcp f src dst bytes =
+    if nat_lt (length bytes) 20 then rejected f reason.TooShort
+    else let next = with_tcp_header f src dst bytes in
+    option_map_or (λ v. behind next (tcp.header_len bytes) (length (tcp.payload_of bytes))) (tcp_of src dst false bytes) (rejected next (tcp_fault bytes))
+
+-- the fields with those of what a packet of this protocol carries between two addresses, if it is UDP or TCP
+abbrev pub with_transport_by : FrameFields → IpProtocol → IpAddress → IpAddress → List ℕ → FrameFields
+with_transport_by f protocol.Udp src dst bytes = with_udp f src dst bytes
+with_transport_by f protocol.Tcp src dst bytes = with_tcp f src dst bytes
+with_transport_by f _ src dst bytes = f
+
+-- the fields with those of what a packet with this header carries
+abbrev pub with_payload : FrameFields → IpRepr → List ℕ → FrameFields
+with_payload f v bytes = with_transport_by f (next_header_of v) (src_addr_of v) (dst_addr_of v) bytes
+
+-- ---- ARP, IPv4 and IPv6
+
+-- the fields with those of an ARP packet, behind which there is only padding
+abbrev pub with_message : FrameFields → ArpRepr → FrameFields
+with_message f (EthernetIpv4 operation source_hardware source_protocol target_hardware target_protocol) =
+    let next = behind f 28 0 in record next {
+      network = network_code network.Arp;
+      network_offset = f.payload_offset;
+      src = endpoint_of (address.Ipv4 source_protocol) 0;
+      dst = endpoint_of (address.Ipv4 target_protocol) 0;
+      arp = record {
+        operation = arp.operation_number operation;
+        src_hardware = source_hardware.0;
+        dst_hardware = target_hardware.0;
+      };
+    }
+
+-- the same, if it is parsed
+abbrev pub with_arp : FrameFields → List ℕ → FrameFields
+with_arp f bytes = option_map_or (with_message f) (arp_of bytes) (rejected f (arp_fault bytes))
+
+-- the values of an IPv4 header without its addresses
+abbrev pub ipv4_values : List ℕ → Ipv4Repr → Ip
+ipv4_values bytes v = record {
+  ident = field bytes 32 16;
+  flow_label = 0;
+  fragment_offset = ipv4.fragment_offset bytes;
+  protocol = field bytes 72 8;
+  hop_limit = v.hop_limit;
+  dscp = field bytes 8 6;
+  ecn = field bytes 14 2;
+  more_fragments = field bytes 50 1;
+  dont_fragment = field bytes 49 1;
+}
+
+-- the fields with those of an IPv4 header
+abbrev pub with_ipv4_header : FrameFields → List ℕ → Ipv4Repr → FrameFields
+with_ipv4_header f bytes v =
+    let next = behind f (ipv4.header_len bytes) (length (ipv4_payload bytes)) in record next {
+      network = network_code network.Ipv4;
+      network_offset = f.payload_offset;
+      src = endpoint_of (address.Ipv4 v.src_addr) 0;
+      dst = endpoint_of (address.Ipv4 v.dst_addr) 0;
+      ip = ipv4_values bytes v;
+      is_fragment = flag (ipv4.is_fragment bytes);
+      ipv4_checksum = verdict_code (ipv4_verdict bytes);
+    }
+
+-- the fields with those of an IPv4 packet; the payload of a fragment is not parsed
+abbrev pub with_ipv4 : FrameFields → List ℕ → FrameFields
+with_ipv4 f bytes =
+    option_map_or (λ v. let next = with_ipv4_header f bytes v in
+    if ipv4.is_fragment bytes then next else with_payload next (Ipv4 v) (ipv4_payload bytes))
+    (ipv4_of false bytes) (rejected f (ipv4_fault bytes))
+
+-- the values of an IPv6 header without its addresses; the traffic class is a DSCP of 6 bits, and ECN behind it
+abbrev pub ipv6_values : Ip → List ℕ → Ipv6Repr → Ip
+ipv6_values f bytes v = record f {
+  flow_label = field bytes 12 20;
+  protocol = field bytes 48 8;
+  hop_limit = v.hop_limit;
+  dscp = field bytes 4 8 / 4;
+  ecn = field bytes 4 8 % 4;
+}
+
+-- the fields with those of an IPv6 header
+abbrev pub with_ipv6_header : FrameFields → List ℕ → Ipv6Repr → FrameFields
+with_ipv6_header f bytes v =
+    let next = behind f 40 (length (ipv6.payload_of bytes)) in record next {
+      network = network_code network.Ipv6;
+      network_offset = f.payload_offset;
+      src = endpoint_of (address.Ipv6 v.src_addr) 0;
+      dst = endpoint_of (address.Ipv6 v.dst_addr) 0;
+      ip = ipv6_values f.ip bytes v;
+    }
+
+-- the fields with those of an IPv6 fragment header; where it is alone, the packet is whole
+abbrev pub with_fragment_header : FrameFields → Ipv6FragmentRepr → FrameFields
+with_fragment_header f v = record f {
+  ip = record f.ip {
+    ident = v.ident;
+    fragment_offset = 8 * v.frag_offset;
+    more_fragments = flag v.more_frags;
+  };
+  is_fragment = flag (v.more_frags || not (v.frag_offset == 0));
+}
+
+-- the same, if the payload holds the whole header, whose values are behind its first 2 octets; the payload begins at it
+abbrev pub with_fragment : FrameFields → List ℕ → FrameFields
+with_fragment f bytes = if nat_lt (length bytes) 8 then f else with_fragment_header f (fragment.header_of (drop 2 bytes))
+
+-- the same, if the protocol of an IPv6 packet says that there is one
+abbrev pub with_fragment_by : FrameFields → IpProtocol → List ℕ → FrameFields
+with_fragment_by f protocol.Ipv6Frag bytes = with_fragment f bytes
+with_fragment_by f _ bytes = f
+
+-- the fields with those of an IPv6 packet
+abbrev pub with_ipv6 : FrameFields → List ℕ → FrameFields
+with_ipv6 f bytes =
+    option_map_or (λ v. let next = with_fragment_by (with_ipv6_header f bytes v) v.next_header (ipv6.payload_of bytes) in
+    with_payload next (Ipv6 v) (ipv6.payload_of bytes))
+    (ipv6_of bytes) (rejected f (ipv6_fault bytes))
+
+-- ---- Ethernet
+
+-- the fields with those of the payload of a frame of this type; that of another type is not parsed
+abbrev pub with_carried : FrameFields → EthernetProtocol → List ℕ → FrameFields
+with_carried f ethertype.Arp bytes = with_arp f bytes
+with_carried f ethertype.Ipv4 bytes = with_ipv4 f bytes
+with_carried f ethertype.Ipv6 bytes = with_ipv6 f bytes
+with_carried f (ethertype.Unknown n) bytes = f
+
+-- the fields with those of an Ethernet header, for a payload of this length
+abbrev pub with_link : FrameFields → EthernetRepr → ℕ → FrameFields
+with_link f v payload_len =
+    let next = behind f 14 payload_len in record next {
+      ethernet = record { src = v.src_addr.0; dst = v.dst_addr.0; ethertype = ethernet.number_of v.ethertype };
+      reason = reason_code reason.Read;
+    }
+
+-- the fields with those of a frame
+abbrev pub with_frame : FrameFields → EthernetRepr → List ℕ → FrameFields
+with_frame f v bytes = with_carried (with_link f v (length bytes)) v.ethertype bytes
+
+-- the values of a frame, up to a header that is rejected
+unfoldable pub fields_of : List ℕ → FrameFields
+fields_of frame =
+    option_map_or (λ v. with_frame (nothing_of (length frame)) v (drop 14 frame)) (ethernet_of frame) (nothing_of (length frame))

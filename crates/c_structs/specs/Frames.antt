@@ -1,0 +1,82 @@
+-- The bytes of whole frames that are written from the struct of a frame.
+use Rattle.std.specs.Prelude.{ℕ, ◌+◌, ◌&&◌, ◌==◌, nat_le, ◌++◌, Bool, true, List, length, slice_range, Option}
+use Rattle.std.specs.Option.{option_and_then, option_map}
+use Rattle.ip_wire.specs.Frame.{rebuilt}
+use Rattle.ip_wire.specs.Ip.{header_len_of}
+use Rattle.ip_wire.specs.Types.{IpRepr, Ipv4, Ipv6}
+use Rattle.c_structs.specs.Headers.{arp_bytes, header_bytes, ip_value, link_bytes, only_if, segment_header_len, tcp_bytes, udp_bytes}
+use Rattle.c_structs.specs.declared.types.Arp.{Arp}
+use Rattle.c_structs.specs.declared.types.Ethernet.{Ethernet}
+use Rattle.c_structs.specs.declared.types.FrameFields.{FrameFields}
+use Rattle.c_structs.specs.declared.types.Ip.{Ip}
+use Rattle.c_structs.specs.declared.types.TcpOptions.{TcpOptions}
+
+-- the EtherType of a packet with this header
+abbrev pub type_number : IpRepr → ℕ
+type_number (Ipv4 v) = 0x0800
+type_number (Ipv6 v) = 0x86dd
+
+-- whether the fields say that the packet is whole
+abbrev pub is_whole : Ip → Bool
+is_whole h = (h.fragment_offset == 0) && (h.more_fragments == 0)
+
+-- the values of the IP header before a packet of this protocol and length
+abbrev pub carrier : FrameFields → ℕ → ℕ → Option IpRepr
+carrier f number len = option_and_then (λ v. only_if (is_whole f.ip) v) (ip_value f.ip number f.src.addr f.dst.addr len)
+
+-- the Ethernet header and the IP header
+abbrev pub headers_bytes : FrameFields → IpRepr → List ℕ
+headers_bytes f v = link_bytes f.ethernet (type_number v) ++ header_bytes f.ip true v
+
+-- the frame of a packet of this protocol
+abbrev pub framed : FrameFields → ℕ → List ℕ → Option (List ℕ)
+framed f number packet = option_map (λ v. headers_bytes f v ++ packet) (carrier f number (length packet))
+
+-- a frame with a UDP packet
+abbrev pub udp_frame : FrameFields → List ℕ → Option (List ℕ)
+udp_frame f payload = option_and_then (framed f 17) (udp_bytes f.src f.dst payload true)
+
+-- a frame with a TCP segment
+abbrev pub tcp_frame : FrameFields → TcpOptions → List ℕ → Option (List ℕ)
+tcp_frame f o payload = option_and_then (framed f 6) (tcp_bytes f.tcp o f.src f.dst payload true)
+
+-- a frame with an ARP packet
+abbrev pub arp_frame : FrameFields → Option (List ℕ)
+arp_frame f = option_map (λ packet. link_bytes f.ethernet 0x0806 ++ packet) (arp_bytes f.arp f.src.addr f.dst.addr)
+
+-- ---- around a payload that is in place
+
+-- the bytes from first on, this many, if they are there
+abbrev pub part : List ℕ → ℕ → ℕ → Option (List ℕ)
+part bytes first len = only_if (nat_le (first + len) (length bytes)) (slice_range bytes first (first + len))
+
+-- a frame with a UDP packet around the payload in these bytes, which stands behind the headers
+abbrev pub udp_frame_around : FrameFields → ℕ → List ℕ → Option (List ℕ)
+udp_frame_around f len bytes =
+    option_and_then (λ v. option_and_then (udp_frame f) (part bytes (14 + header_len_of v + 8) len)) (carrier f 17 (8 + len))
+
+-- a frame with a TCP segment around the payload in these bytes, which stands behind the headers
+abbrev pub tcp_frame_around : FrameFields → TcpOptions → ℕ → List ℕ → Option (List ℕ)
+tcp_frame_around f o len bytes =
+    option_and_then (λ size. option_and_then (λ v. option_and_then (tcp_frame f o) (part bytes (14 + header_len_of v + size) len))
+    (carrier f 6 (size + len)))
+    (segment_header_len f.tcp o len)
+
+-- ---- replies
+
+-- the headers of the way back: the hardware addresses are exchanged
+abbrev pub back_link : Ethernet → Ethernet
+back_link h = record { src = h.dst; dst = h.src; ethertype = h.ethertype }
+
+abbrev pub back_arp : Arp → Arp
+back_arp h = record { operation = h.operation; src_hardware = h.dst_hardware; dst_hardware = h.src_hardware }
+
+-- the reply: the endpoints are exchanged too
+abbrev pub reply_to : FrameFields → FrameFields
+reply_to f = record f { src = f.dst; dst = f.src; ethernet = back_link f.ethernet; arp = back_arp f.arp }
+
+-- ---- rebuilding
+
+-- the rebuilt frame, if there is an Ethernet header
+abbrev pub rebuilt_of : List ℕ → Option (List ℕ)
+rebuilt_of frame = only_if (nat_le 14 (length frame)) (rebuilt frame)

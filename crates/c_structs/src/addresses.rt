@@ -1,0 +1,176 @@
+//! Addresses, blocks and endpoints, and their texts.
+
+ghost use Rattle.std.specs.Prelude.{◌≡◌, ◌≤◌, ◌∷◌, ◌++◌, ◌↔◌, IfSome, IsSomeAnd, IsTrue, Some, decimal, length, take};
+ghost use Rattle.ip_wire.specs.IpAddress.{address_text, version_of};
+ghost use Rattle.ip_wire.specs.IpCidr.{IsIn, cidr_text};
+ghost use Rattle.ip_wire.specs.Printed.{slash};
+ghost use Rattle.c_structs.specs.Addresses.{addr_of, block_of, block_struct, endpoint_struct, ip_endpoint_of, ip_of, pair_of};
+ghost use Rattle.c_structs.specs.Written.{Writes};
+
+use crate::results::print;
+use crate::types::{Addr, Block, Endpoint};
+use arrayvec::ArrayString;
+use ip_wire::{IpAddress, IpCidr, IpEndpoint, Ipv4Address, Ipv6Address};
+use itoa::Buffer;
+
+impl Addr {
+    /// The struct of an address.
+    #[inline(always)]
+    pub fn of(address: IpAddress) -> Addr
+        ensures { result ≡ addr_of address }
+    {
+        match address {
+            IpAddress::Ipv4(address) => {
+                let [a, b, c, d] = address.octets();
+                Addr {
+                    octets: [a, b, c, d, 0, 0, 0, 0, 0, 0, 0, 0, 0, 0, 0, 0],
+                    version: 4,
+                }
+            }
+            IpAddress::Ipv6(address) => {
+                let octets = address.octets();
+                Addr { octets, version: 6 }
+            }
+        }
+    }
+
+    /// The address. `None` if the version is neither 4 nor 6.
+    #[inline(always)]
+    pub fn ip(&self) -> Option<IpAddress>
+        ensures { result ≡ ip_of self.now }
+    {
+        match self.version {
+            4 => Some(IpAddress::Ipv4(self.ipv4())),
+            6 => Some(IpAddress::Ipv6(self.ipv6())),
+            _ => None,
+        }
+    }
+
+    /// This address, of this version, and another one. `None` if they have no version, or different
+    /// ones.
+    #[inline(always)]
+    pub fn pair(&self, version: u16, other: &Addr) -> Option<(IpAddress, IpAddress)>
+        requires { version ≡ self.now.version }
+        ensures value { result ≡ pair_of self.now other.now }
+        ensures family { IfSome result (λ pair. version_of pair.0 ≡ version_of pair.1) }
+    {
+        if other.version != version {
+            return None;
+        }
+        match version {
+            4 => Some((IpAddress::Ipv4(self.ipv4()), IpAddress::Ipv4(other.ipv4()))),
+            6 => Some((IpAddress::Ipv6(self.ipv6()), IpAddress::Ipv6(other.ipv6()))),
+            _ => None,
+        }
+    }
+
+    /// The octets as an IPv4 address.
+    #[inline(always)]
+    pub fn ipv4(&self) -> Ipv4Address
+        ensures { result ≡ take 4 self.now.octets }
+    {
+        Ipv4Address::new(
+            self.octets[0],
+            self.octets[1],
+            self.octets[2],
+            self.octets[3],
+        )
+    }
+
+    /// The octets as an IPv6 address.
+    #[inline(always)]
+    pub fn ipv6(&self) -> Ipv6Address
+        ensures { result ≡ self.now.octets }
+    {
+        Ipv6Address::from_octets(self.octets)
+    }
+}
+
+impl Block {
+    /// The struct of a block.
+    pub fn of(block: &IpCidr) -> Block
+        ensures { result ≡ block_struct block.now }
+    {
+        Block {
+            addr: Addr::of(block.address()),
+            prefix_len: u16::from(block.prefix_len()),
+        }
+    }
+
+    /// The block. `None` if there is no such version or prefix length.
+    pub fn cidr(&self) -> Option<IpCidr>
+        ensures { result ≡ block_of self.now }
+    {
+        let address = self.addr.ip()?;
+        let bits = match &address {
+            IpAddress::Ipv4(_) => 32,
+            IpAddress::Ipv6(_) => 128,
+        };
+        if self.prefix_len > bits {
+            return None;
+        }
+        Some(IpCidr::new(address, self.prefix_len as u8))
+    }
+
+    /// Whether an address is in the block. `false` if one of them has no value.
+    pub fn contains(&self, addr: &Addr) -> bool
+        ensures { IsTrue result ↔ IsSomeAnd (block_of self.now) (λ cidr. IsSomeAnd (ip_of addr.now) (IsIn cidr)) }
+    {
+        match (self.cidr(), addr.ip()) {
+            (Some(cidr), Some(address)) => cidr.contains_addr(&address),
+            _ => false,
+        }
+    }
+}
+
+impl Endpoint {
+    /// The struct of an endpoint.
+    pub fn of(endpoint: &IpEndpoint) -> Endpoint
+        ensures { result ≡ endpoint_struct endpoint.now }
+    {
+        Endpoint {
+            addr: Addr::of(endpoint.addr),
+            port: endpoint.port,
+        }
+    }
+
+    /// The endpoint. `None` if there is no such version.
+    pub fn ip(&self) -> Option<IpEndpoint>
+        ensures { result ≡ ip_endpoint_of self.now }
+    {
+        Some(IpEndpoint::new(self.addr.ip()?, self.port))
+    }
+}
+
+/// Prints an address.
+pub fn print_address(address: &IpAddress, out: &mut [u8]) -> isize
+    ensures { Writes (Some (address_text address.now)) out.old out.new result }
+{
+    match address {
+        IpAddress::Ipv4(address) => print(address.text().as_str(), out),
+        IpAddress::Ipv6(address) => print(address.text().as_str(), out),
+    }
+}
+
+/// Prints a block.
+pub fn print_block(block: &IpCidr, out: &mut [u8]) -> isize
+    ensures { Writes (Some (cidr_text block.now)) out.old out.new result }
+{
+    let prefix_len = block.prefix_len();
+    match block {
+        IpCidr::Ipv4(block) => print_prefix(block.address().text().as_str(), prefix_len, out),
+        IpCidr::Ipv6(block) => print_prefix(block.address().text().as_str(), prefix_len, out),
+    }
+}
+
+// Prints the text of an address, and the prefix length of a block.
+fn print_prefix(address: &str, prefix_len: u8, out: &mut [u8]) -> isize
+    requires { length address.now ≤ 39 }
+    ensures { Writes (Some (address.now ++ slash ∷ decimal prefix_len)) out.old out.new result }
+{
+    let mut text = ArrayString::<43>::new();
+    text.push_str(address);
+    text.push_str("/");
+    text.push_str(Buffer::new().format(prefix_len));
+    print(text.as_str(), out)
+}

@@ -1,0 +1,56 @@
+//! ARP packets.
+
+ghost use Rattle.std.specs.Prelude.{◌≡◌, Some};
+ghost use Rattle.ip_wire.specs.Arp.{bytes_of};
+ghost use Rattle.c_structs.specs.Headers.{arp_bytes, arp_value};
+ghost use Rattle.c_structs.specs.Written.{Fills};
+
+use crate::types::{Addr, Arp};
+use ip_wire::{ArpOperation, ArpPacketMut, ArpRepr, EthernetAddress, IpAddress};
+
+impl Arp {
+    /// The values of a packet between two addresses. `None` if they are no IPv4 addresses.
+    #[inline(always)]
+    pub fn value(&self, src: &Addr, dst: &Addr) -> Option<ArpRepr>
+        ensures { result ≡ arp_value self.now src.now dst.now }
+    {
+        let src_hardware = self.src_hardware;
+        let dst_hardware = self.dst_hardware;
+        if src.version != 4 {
+            return None;
+        }
+        let (src_addr, dst_addr) = src.pair(4, dst)?;
+        match (&src_addr, &dst_addr) {
+            (IpAddress::Ipv4(src_addr), IpAddress::Ipv4(dst_addr)) => Some(ArpRepr::EthernetIpv4 {
+                operation: ArpOperation::Unknown(self.operation),
+                source_hardware_addr: EthernetAddress(src_hardware),
+                source_protocol_addr: *src_addr,
+                target_hardware_addr: EthernetAddress(dst_hardware),
+                target_protocol_addr: *dst_addr,
+            }),
+            _ => None,
+        }
+    }
+
+    /// Writes a packet between two addresses to the front of `out` and returns its length. `None` if it
+    /// does not fit, or as for `value`.
+    #[inline(always)]
+    pub fn emit_between(&self, src: &Addr, dst: &Addr, out: &mut [u8]) -> Option<usize>
+        ensures { Fills (arp_bytes self.now src.now dst.now) out.old out.new result }
+    {
+        emit(self.value(src, dst)?, out)
+    }
+}
+
+/// Writes a packet to the front of `out` and returns its length. `None` if it does not fit.
+#[inline(always)]
+pub fn emit(value: ArpRepr, out: &mut [u8]) -> Option<usize>
+    ensures { Fills (Some (bytes_of value)) out.old out.new result }
+{
+    let len = value.buffer_len();
+    if out.len() < len {
+        return None;
+    }
+    value.emit(&mut ArpPacketMut::new_unchecked(out));
+    Some(len)
+}

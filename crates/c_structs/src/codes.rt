@@ -1,0 +1,118 @@
+//! The enums of `c/ip_wire.h`, whose numbers are stored in bytes.
+
+ghost use Rattle.std.specs.Prelude.{◌≡◌};
+ghost use Rattle.c_structs.specs.Codes.{network_code, reason_code, reason_of, text_of, transport_code, verdict_code};
+
+/// `enum lk_reason`: why a header was rejected. If several reasons apply to a header, it is the first of
+/// them in this order.
+#[derive(Clone, Copy)]
+pub enum Reason {
+    /// No header was rejected.
+    Read,
+    TooShort,
+    BadVersion,
+    BadLength,
+    OtherArp,
+    PortZero,
+    BadFlags,
+    BadOptions,
+}
+
+impl Reason {
+    /// Its number for C.
+    pub fn code(self) -> u8
+        ensures { result ≡ reason_code self }
+    {
+        self as u8
+    }
+
+    /// The reason with this number.
+    pub fn of(number: i32) -> Option<Reason>
+        ensures { result ≡ reason_of number }
+    {
+        match number {
+            0 => Some(Reason::Read),
+            1 => Some(Reason::TooShort),
+            2 => Some(Reason::BadVersion),
+            3 => Some(Reason::BadLength),
+            4 => Some(Reason::OtherArp),
+            5 => Some(Reason::PortZero),
+            6 => Some(Reason::BadFlags),
+            7 => Some(Reason::BadOptions),
+            _ => None,
+        }
+    }
+
+    /// Its text.
+    pub fn text(self) -> &'static str
+        ensures { result.now ≡ text_of self }
+    {
+        match self {
+            Reason::Read => "read",
+            Reason::TooShort => "too short",
+            Reason::BadVersion => "version",
+            Reason::BadLength => "length",
+            Reason::OtherArp => "other ARP",
+            Reason::PortZero => "port 0",
+            Reason::BadFlags => "several of SYN, FIN and RST",
+            Reason::BadOptions => "options",
+        }
+    }
+}
+
+/// `enum lk_network`: the network header of a frame.
+#[derive(Clone, Copy)]
+pub enum Network {
+    None,
+    Arp,
+    Ipv4,
+    Ipv6,
+}
+
+impl Network {
+    /// Its number for C.
+    pub fn code(self) -> u8
+        ensures { result ≡ network_code self }
+    {
+        self as u8
+    }
+}
+
+/// `enum lk_transport`: the transport header of a frame.
+#[derive(Clone, Copy)]
+pub enum Transport {
+    None,
+    Udp,
+    Tcp,
+}
+
+impl Transport {
+    /// Its number for C.
+    pub fn code(self) -> u8
+        ensures { result ≡ transport_code self }
+    {
+        self as u8
+    }
+}
+
+/// `enum lk_verdict`: what a checksum says.
+#[derive(Clone, Copy)]
+pub enum Verdict {
+    /// There is no checksum to verify.
+    None,
+    Right,
+    Wrong,
+    /// UDP over IPv4: the sender computed none.
+    LeftOut,
+    /// The field holds the sum of the pseudo-header alone (checksum offload).
+    LeftToDevice,
+}
+
+impl Verdict {
+    /// Its number for C.
+    pub fn code(self) -> u8
+        ensures { result ≡ verdict_code self }
+    {
+        self as u8
+    }
+}

@@ -1,0 +1,426 @@
+//! The values of a frame, stored in the struct of C.
+
+ghost use Rattle.std.specs.Prelude.{◌≡◌, ◌≤◌, ◌+◌, drop, length};
+ghost use Rattle.ip_wire.specs.IpAddress.{version_of};
+ghost use Rattle.ip_wire.specs.Ethernet as ethernet;
+ghost use Rattle.ip_wire.specs.Ipv4 as ipv4;
+ghost use Rattle.ip_wire.specs.Ipv6 as ipv6;
+ghost use Rattle.ip_wire.specs.Ipv6Fragment as fragment;
+ghost use Rattle.ip_wire.specs.Tcp as tcp;
+ghost use Rattle.ip_wire.specs.Udp as udp;
+ghost use Rattle.c_structs.specs.Addresses.{endpoint_of, no_endpoint};
+ghost use Rattle.c_structs.specs.FrameFields.{behind, fields_of, nothing_of, rejected, with_arp, with_fragment_by, with_fragment_header, with_frame, with_ipv4, with_ipv4_header, with_ipv6, with_ipv6_header, with_link, with_message, with_tcp, with_tcp_header, with_transport_by, with_udp, with_udp_header};
+
+use crate::codes::{Network, Reason, Transport, Verdict};
+use crate::faults::{ARP_LEN, arp_fault, ipv4_fault, ipv6_fault, tcp_fault, udp_fault};
+use crate::types::{Addr, Arp, Endpoint, Ethernet, FrameFields, Ip, Tcp};
+use crate::verdicts::{ipv4_verdict, tcp_verdict, udp_verdict};
+use ip_wire::{
+    ArpPacket, ArpRepr, ETHERNET_HEADER_LEN, EthernetAddress, EthernetFrame, EthernetProtocol,
+    IPV6_HEADER_LEN, IpAddress, IpProtocol, Ipv4Packet, Ipv4Repr, Ipv6FragmentHeader, Ipv6Packet,
+    Ipv6Repr, TCP_HEADER_LEN, TcpPacket, TcpRepr, UDP_HEADER_LEN, UdpPacket, UdpRepr,
+};
+use net_base::ChecksumCapabilities;
+
+// The length of an IPv6 fragment header, in octets (RFC 8200, section 4.5).
+const FRAGMENT_HEADER_LEN: usize = 8;
+
+impl Endpoint {
+    // An address of a header without ports.
+    #[inline(always)]
+    fn without_port(address: IpAddress) -> Endpoint
+        ensures { result ≡ endpoint_of address 0 }
+    {
+        Endpoint {
+            addr: Addr::of(address),
+            port: 0,
+        }
+    }
+
+    // No address.
+    fn none() -> Endpoint
+        ensures { result ≡ no_endpoint }
+    {
+        Endpoint {
+            addr: Addr {
+                octets: [0; 16],
+                version: 0,
+            },
+            port: 0,
+        }
+    }
+}
+
+impl FrameFields {
+    /// Stores the values of a frame, up to a header that is rejected.
+    pub fn read(&mut self, bytes: &[u8])
+        ensures value { self.new ≡ fields_of bytes.now }
+        ensures within { self.new.payload_offset + self.new.payload_len ≤ length bytes.now }
+    {
+        *self = FrameFields::nothing(bytes.len());
+        let frame = EthernetFrame::new_unchecked(bytes);
+        if frame.check_len().is_ok() {
+            self.store_frame(&frame);
+        }
+    }
+
+    // The fields of bytes that are too few for an Ethernet header.
+    fn nothing(len: usize) -> FrameFields
+        ensures { result ≡ nothing_of len }
+    {
+        FrameFields {
+            network_offset: 0,
+            transport_offset: 0,
+            payload_offset: 0,
+            payload_len: len,
+            src: Endpoint::none(),
+            dst: Endpoint::none(),
+            ip: Ip {
+                ident: 0,
+                flow_label: 0,
+                fragment_offset: 0,
+                protocol: 0,
+                hop_limit: 0,
+                dscp: 0,
+                ecn: 0,
+                more_fragments: 0,
+                dont_fragment: 0,
+            },
+            tcp: Tcp {
+                seq_number: 0,
+                ack_number: 0,
+                window_len: 0,
+                urgent_at: 0,
+                flags: 0,
+                header_len: 0,
+            },
+            ethernet: Ethernet {
+                src: [0; 6],
+                dst: [0; 6],
+                ethertype: 0,
+            },
+            arp: Arp {
+                operation: 0,
+                src_hardware: [0; 6],
+                dst_hardware: [0; 6],
+            },
+            reason: Reason::TooShort.code(),
+            network: Network::None.code(),
+            transport: Transport::None.code(),
+            is_fragment: 0,
+            ipv4_checksum: Verdict::None.code(),
+            transport_checksum: Verdict::None.code(),
+        }
+    }
+
+    // The payload begins behind a header of this length.
+    fn step_behind(&mut self, header_len: usize, payload_len: usize)
+        requires { self.old.payload_offset + header_len ≤ 200 }
+        ensures { self.new ≡ behind self.old header_len payload_len }
+    {
+        self.payload_offset += header_len;
+        self.payload_len = payload_len;
+    }
+
+    // The next header is rejected.
+    fn reject(&mut self, reason: Reason)
+        ensures { self.new ≡ rejected self.old reason }
+    {
+        self.reason = reason.code();
+    }
+
+    // A frame with a whole header.
+    fn store_frame(&mut self, frame: &EthernetFrame<'_>)
+        requires offset { self.old.payload_offset ≡ 0 }
+        requires header { 14 ≤ length (ethernet.frame_bytes frame.now) }
+        ensures value { let bytes = ethernet.frame_bytes frame.now in
+            self.new ≡ with_frame self.old (ethernet.header_of bytes) (drop 14 bytes) }
+        ensures within { self.new.payload_offset + self.new.payload_len ≤ length (ethernet.frame_bytes frame.now) }
+    {
+        self.store_link(frame);
+        match frame.ethertype() {
+            EthernetProtocol::Arp => self.store_arp(frame.payload()),
+            EthernetProtocol::Ipv4 => self.store_ipv4(frame.payload()),
+            EthernetProtocol::Ipv6 => self.store_ipv6(frame.payload()),
+            EthernetProtocol::Unknown(_) => {}
+        }
+    }
+
+    // An Ethernet header.
+    fn store_link(&mut self, frame: &EthernetFrame<'_>)
+        requires offset { self.old.payload_offset ≡ 0 }
+        requires header { 14 ≤ length (ethernet.frame_bytes frame.now) }
+        ensures { let bytes = ethernet.frame_bytes frame.now in
+            self.new ≡ with_link self.old (ethernet.header_of bytes) (length (drop 14 bytes)) }
+    {
+        let EthernetAddress(src) = frame.src_addr();
+        self.ethernet.src = src;
+        let EthernetAddress(dst) = frame.dst_addr();
+        self.ethernet.dst = dst;
+        self.ethernet.ethertype = frame.ethertype().number();
+        self.reason = Reason::Read.code();
+        self.step_behind(ETHERNET_HEADER_LEN, frame.payload().len());
+    }
+
+    // An ARP packet.
+    fn store_arp(&mut self, bytes: &[u8])
+        requires offset { self.old.payload_offset ≤ 14 }
+        requires len { self.old.payload_len ≡ length bytes.now }
+        ensures value { self.new ≡ with_arp self.old bytes.now }
+        ensures within { self.new.payload_offset + self.new.payload_len ≤ self.old.payload_offset + length bytes.now }
+    {
+        match ArpRepr::parse(&ArpPacket::new_unchecked(bytes)) {
+            Ok(message) => self.store_message(&message),
+            Err(_) => self.reject(arp_fault(bytes)),
+        }
+    }
+
+    // The values of an ARP packet, behind which there is only padding.
+    fn store_message(&mut self, message: &ArpRepr)
+        requires { self.old.payload_offset ≤ 14 }
+        ensures value { self.new ≡ with_message self.old message.now }
+        ensures offset { self.new.payload_offset ≡ self.old.payload_offset + 28 }
+        ensures len { self.new.payload_len ≡ 0 }
+    {
+        let ArpRepr::EthernetIpv4 {
+            operation,
+            source_hardware_addr,
+            source_protocol_addr,
+            target_hardware_addr,
+            target_protocol_addr,
+        } = *message;
+        self.network = Network::Arp.code();
+        self.network_offset = self.payload_offset;
+        self.src = Endpoint::without_port(IpAddress::Ipv4(source_protocol_addr));
+        self.dst = Endpoint::without_port(IpAddress::Ipv4(target_protocol_addr));
+        let (EthernetAddress(src_hardware), EthernetAddress(dst_hardware)) = (
+            source_hardware_addr,
+            target_hardware_addr,
+        );
+        self.arp.operation = operation.number();
+        self.arp.src_hardware = src_hardware;
+        self.arp.dst_hardware = dst_hardware;
+        self.step_behind(ARP_LEN, 0);
+    }
+
+    // An IPv4 packet. The payload of a fragment is not parsed.
+    fn store_ipv4(&mut self, bytes: &[u8])
+        requires offset { self.old.payload_offset ≤ 14 }
+        requires len { self.old.payload_len ≡ length bytes.now }
+        ensures value { self.new ≡ with_ipv4 self.old bytes.now }
+        ensures within { self.new.payload_offset + self.new.payload_len ≤ self.old.payload_offset + length bytes.now }
+    {
+        let packet = Ipv4Packet::new_unchecked(bytes);
+        match Ipv4Repr::parse(&packet, &ChecksumCapabilities::ignored()) {
+            Ok(header) => {
+                self.store_ipv4_header(&packet, &header);
+                if !packet.is_fragment() {
+                    let src_addr = IpAddress::Ipv4(header.src_addr);
+                    let dst_addr = IpAddress::Ipv4(header.dst_addr);
+                    self.store_transport(
+                        header.next_header,
+                        &src_addr,
+                        &dst_addr,
+                        packet.payload(),
+                    );
+                }
+            }
+            Err(_) => self.reject(ipv4_fault(&packet)),
+        }
+    }
+
+    // The header of an IPv4 packet.
+    fn store_ipv4_header(&mut self, packet: &Ipv4Packet<'_>, header: &Ipv4Repr)
+        requires offset { self.old.payload_offset ≤ 14 }
+        requires lengths { ipv4.HasLengths (ipv4.packet_bytes packet.now) }
+        ensures { self.new ≡ with_ipv4_header self.old (ipv4.packet_bytes packet.now) header.now }
+    {
+        self.network = Network::Ipv4.code();
+        self.network_offset = self.payload_offset;
+        self.src = Endpoint::without_port(IpAddress::Ipv4(header.src_addr));
+        self.dst = Endpoint::without_port(IpAddress::Ipv4(header.dst_addr));
+        self.ip.ident = u32::from(packet.ident());
+        self.ip.flow_label = 0;
+        self.ip.fragment_offset = packet.frag_offset();
+        self.ip.protocol = packet.as_bytes()[9];
+        self.ip.hop_limit = header.hop_limit;
+        self.ip.dscp = packet.dscp();
+        self.ip.ecn = packet.ecn();
+        self.ip.more_fragments = u8::from(packet.more_frags());
+        self.ip.dont_fragment = u8::from(packet.dont_frag());
+        self.is_fragment = u8::from(packet.is_fragment());
+        self.ipv4_checksum = ipv4_verdict(packet).code();
+        self.step_behind(usize::from(packet.header_len()), packet.payload().len());
+    }
+
+    // An IPv6 packet. The payload behind a fragment header is not parsed.
+    fn store_ipv6(&mut self, bytes: &[u8])
+        requires offset { self.old.payload_offset ≤ 14 }
+        requires len { self.old.payload_len ≡ length bytes.now }
+        ensures value { self.new ≡ with_ipv6 self.old bytes.now }
+        ensures within { self.new.payload_offset + self.new.payload_len ≤ self.old.payload_offset + length bytes.now }
+    {
+        let packet = Ipv6Packet::new_unchecked(bytes);
+        match Ipv6Repr::parse(&packet) {
+            Ok(header) => {
+                self.store_ipv6_header(&packet, &header);
+                self.store_fragment(header.next_header, packet.payload());
+                let src_addr = IpAddress::Ipv6(header.src_addr);
+                let dst_addr = IpAddress::Ipv6(header.dst_addr);
+                self.store_transport(header.next_header, &src_addr, &dst_addr, packet.payload());
+            }
+            Err(_) => self.reject(ipv6_fault(&packet)),
+        }
+    }
+
+    // The header of an IPv6 packet.
+    fn store_ipv6_header(&mut self, packet: &Ipv6Packet<'_>, header: &Ipv6Repr)
+        requires offset { self.old.payload_offset ≤ 14 }
+        requires lengths { ipv6.HasLengths (ipv6.packet_bytes packet.now) }
+        ensures { self.new ≡ with_ipv6_header self.old (ipv6.packet_bytes packet.now) header.now }
+    {
+        let traffic_class = packet.traffic_class();
+        self.network = Network::Ipv6.code();
+        self.network_offset = self.payload_offset;
+        self.src = Endpoint::without_port(IpAddress::Ipv6(header.src_addr));
+        self.dst = Endpoint::without_port(IpAddress::Ipv6(header.dst_addr));
+        self.ip.flow_label = packet.flow_label();
+        self.ip.protocol = packet.as_bytes()[6];
+        self.ip.hop_limit = header.hop_limit;
+        self.ip.dscp = traffic_class / 4;
+        self.ip.ecn = traffic_class % 4;
+        self.step_behind(IPV6_HEADER_LEN, packet.payload().len());
+    }
+
+    // The fragment header that the payload of an IPv6 packet begins with, if the protocol says so and
+    // it is there as a whole. The payload begins at it.
+    fn store_fragment(&mut self, protocol: IpProtocol, bytes: &[u8])
+        ensures { self.new ≡ with_fragment_by self.old protocol bytes.now }
+    {
+        if let IpProtocol::Ipv6Frag = protocol
+            && bytes.len() >= FRAGMENT_HEADER_LEN
+        {
+            self.store_fragment_header(&Ipv6FragmentHeader::new_unchecked(&bytes[2..]));
+        }
+    }
+
+    // A fragment header.
+    fn store_fragment_header(&mut self, header: &Ipv6FragmentHeader<'_>)
+        requires { 6 ≤ length (fragment.header_bytes header.now) }
+        ensures { self.new ≡ with_fragment_header self.old (fragment.header_of (fragment.header_bytes header.now)) }
+    {
+        let (offset, more_fragments) = (header.frag_offset(), header.more_frags());
+        self.ip.ident = header.ident();
+        self.ip.fragment_offset = 8 * offset;
+        self.ip.more_fragments = u8::from(more_fragments);
+        self.is_fragment = u8::from(more_fragments || offset != 0);
+    }
+
+    // The payload of a packet between two addresses.
+    #[inline(always)]
+    fn store_transport(
+        &mut self,
+        protocol: IpProtocol,
+        src_addr: &IpAddress,
+        dst_addr: &IpAddress,
+        bytes: &[u8],
+    )
+        requires offset { self.old.payload_offset ≤ 74 }
+        requires len { self.old.payload_len ≡ length bytes.now }
+        requires family { version_of src_addr.now ≡ version_of dst_addr.now }
+        ensures value { self.new ≡ with_transport_by self.old protocol src_addr.now dst_addr.now bytes.now }
+        ensures within { self.new.payload_offset + self.new.payload_len ≤ self.old.payload_offset + length bytes.now }
+    {
+        match protocol {
+            IpProtocol::Udp => self.store_udp(src_addr, dst_addr, bytes),
+            IpProtocol::Tcp => self.store_tcp(src_addr, dst_addr, bytes),
+            _ => {}
+        }
+    }
+
+    // A UDP packet. A rejected header is stored too, if it is there as a whole.
+    #[inline(always)]
+    fn store_udp(&mut self, src_addr: &IpAddress, dst_addr: &IpAddress, bytes: &[u8])
+        requires offset { self.old.payload_offset ≤ 74 }
+        requires len { self.old.payload_len ≡ length bytes.now }
+        requires family { version_of src_addr.now ≡ version_of dst_addr.now }
+        ensures value { self.new ≡ with_udp self.old src_addr.now dst_addr.now bytes.now }
+        ensures within { self.new.payload_offset + self.new.payload_len ≤ self.old.payload_offset + length bytes.now }
+    {
+        if bytes.len() < UDP_HEADER_LEN {
+            return self.reject(Reason::TooShort);
+        }
+        let packet = UdpPacket::new_unchecked(bytes);
+        self.store_udp_header(src_addr, dst_addr, &packet);
+        let caps = ChecksumCapabilities::ignored();
+        match UdpRepr::parse(&packet, src_addr, dst_addr, &caps) {
+            Ok(_) => self.step_behind(UDP_HEADER_LEN, packet.payload().len()),
+            Err(_) => self.reject(udp_fault(&packet)),
+        }
+    }
+
+    // The header of a UDP packet. If its length is wrong, no checksum can be computed.
+    #[inline(always)]
+    fn store_udp_header(
+        &mut self,
+        src_addr: &IpAddress,
+        dst_addr: &IpAddress,
+        packet: &UdpPacket<'_>,
+    )
+        requires header { 8 ≤ length (udp.packet_bytes packet.now) }
+        requires family { version_of src_addr.now ≡ version_of dst_addr.now }
+        ensures { self.new ≡ with_udp_header self.old src_addr.now dst_addr.now (udp.packet_bytes packet.now) }
+    {
+        self.transport = Transport::Udp.code();
+        self.transport_offset = self.payload_offset;
+        self.src.port = packet.src_port();
+        self.dst.port = packet.dst_port();
+        self.transport_checksum = udp_verdict(packet, src_addr, dst_addr).code();
+    }
+
+    // A TCP segment. A rejected header is stored too, if it is there as a whole.
+    #[inline(always)]
+    fn store_tcp(&mut self, src_addr: &IpAddress, dst_addr: &IpAddress, bytes: &[u8])
+        requires offset { self.old.payload_offset ≤ 74 }
+        requires len { self.old.payload_len ≡ length bytes.now }
+        requires family { version_of src_addr.now ≡ version_of dst_addr.now }
+        ensures value { self.new ≡ with_tcp self.old src_addr.now dst_addr.now bytes.now }
+        ensures within { self.new.payload_offset + self.new.payload_len ≤ self.old.payload_offset + length bytes.now }
+    {
+        if bytes.len() < TCP_HEADER_LEN {
+            return self.reject(Reason::TooShort);
+        }
+        let packet = TcpPacket::new_unchecked(bytes);
+        self.store_tcp_header(src_addr, dst_addr, &packet);
+        let caps = ChecksumCapabilities::ignored();
+        match TcpRepr::parse(&packet, src_addr, dst_addr, &caps) {
+            Ok(_) => self.step_behind(usize::from(packet.header_len()), packet.payload().len()),
+            Err(_) => self.reject(tcp_fault(&packet)),
+        }
+    }
+
+    // The header of a TCP segment.
+    #[inline(always)]
+    fn store_tcp_header(
+        &mut self,
+        src_addr: &IpAddress,
+        dst_addr: &IpAddress,
+        packet: &TcpPacket<'_>,
+    )
+        requires header { 20 ≤ length (tcp.packet_bytes packet.now) }
+        requires family { version_of src_addr.now ≡ version_of dst_addr.now }
+        ensures { self.new ≡ with_tcp_header self.old src_addr.now dst_addr.now (tcp.packet_bytes packet.now) }
+    {
+        self.transport = Transport::Tcp.code();
+        self.transport_offset = self.payload_offset;
+        self.src.port = packet.src_port();
+        self.dst.port = packet.dst_port();
+        self.tcp.seq_number = packet.seq_number().0.cast_unsigned();
+        self.tcp.ack_number = packet.ack_number().0.cast_unsigned();
+        self.tcp.window_len = packet.window_len();
+        self.tcp.urgent_at = packet.urgent_at();
+        self.tcp.flags = packet.as_bytes()[13];
+        self.tcp.header_len = packet.header_len();
+        self.transport_checksum = tcp_verdict(packet, src_addr, dst_addr).code();
+    }
+}

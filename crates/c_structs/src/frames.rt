@@ -1,0 +1,368 @@
+//! Whole frames.
+
+ghost use Rattle.std.specs.Prelude.{◌≡◌, ◌≤◌, ◌+◌, ◌++◌, [], IfSome, Some, drop, length, slice_range, true};
+ghost use Rattle.ip_wire.specs.Ip.{dst_addr_of, header_len_of, max_payload_len, payload_len_of, src_addr_of};
+ghost use Rattle.ip_wire.specs.TcpRepr as tcp;
+ghost use Rattle.ip_wire.specs.Udp as udp;
+ghost use Rattle.c_structs.specs.Frames.{arp_frame, back_arp, back_link, carrier, headers_bytes, reply_to, tcp_frame, tcp_frame_around, type_number, udp_frame, udp_frame_around};
+ghost use Rattle.c_structs.specs.Headers.{is_expressible, link_bytes, link_of, ports_of, segment_bytes, tcp_value};
+ghost use Rattle.c_structs.specs.Written.{Fills};
+
+use crate::results::place;
+use crate::types::{Arp, Ethernet, FrameFields, TcpOptions};
+use crate::{arp, udp};
+use ip_wire::{
+    ETHERNET_HEADER_LEN, EthernetAddress, EthernetFrameMut, EthernetProtocol, EthernetRepr, IpRepr,
+    TcpRepr, UDP_HEADER_LEN, UDP_MAX_PAYLOAD_LEN, UdpRepr,
+};
+
+// The protocols of IP.
+const TCP: u8 = 6;
+
+const UDP: u8 = 17;
+
+// EtherTypes.
+const IPV4: u16 = 0x0800;
+
+const ARP: u16 = 0x0806;
+
+const IPV6: u16 = 0x86dd;
+
+impl Ethernet {
+    /// Writes an Ethernet header of this type to the front of `out`.
+    #[inline(always)]
+    pub fn emit(&self, number: u16, out: &mut [u8])
+        requires { 14 ≤ length out.old }
+        ensures { out.new ≡ link_bytes self.now number ++ drop 14 out.old }
+    {
+        let src = self.src;
+        let dst = self.dst;
+        let value = EthernetRepr {
+            src_addr: EthernetAddress(src),
+            dst_addr: EthernetAddress(dst),
+            ethertype: EthernetProtocol::Unknown(number),
+        };
+        value.emit(&mut EthernetFrameMut::new_unchecked(out));
+    }
+
+    /// Writes the Ethernet header to the front of `out` and returns its length. `None` if it does not fit.
+    #[inline(always)]
+    pub fn try_emit(&self, out: &mut [u8]) -> Option<usize>
+        ensures { Fills (Some (link_bytes self.now self.now.ethertype)) out.old out.new result }
+    {
+        if out.len() < ETHERNET_HEADER_LEN {
+            return None;
+        }
+        self.emit(self.ethertype, out);
+        Some(ETHERNET_HEADER_LEN)
+    }
+
+    // The header of the way back.
+    fn reversed(&self) -> Ethernet
+        ensures { result ≡ back_link self.now }
+    {
+        let src = self.dst;
+        let dst = self.src;
+        Ethernet {
+            src,
+            dst,
+            ethertype: self.ethertype,
+        }
+    }
+}
+
+impl Arp {
+    // The same of ARP.
+    fn reversed(&self) -> Arp
+        ensures { result ≡ back_arp self.now }
+    {
+        let src_hardware = self.dst_hardware;
+        let dst_hardware = self.src_hardware;
+        Arp {
+            operation: self.operation,
+            src_hardware,
+            dst_hardware,
+        }
+    }
+}
+
+impl FrameFields {
+    /// Fills in the reply to this frame.
+    #[inline(always)]
+    pub fn fill_reply(&self, reply: &mut FrameFields)
+        ensures { reply.new ≡ reply_to self.now }
+    {
+        *reply = *self;
+        reply.src = self.dst;
+        reply.dst = self.src;
+        reply.ethernet = self.ethernet.reversed();
+        reply.arp = self.arp.reversed();
+    }
+
+    // The values of the IP header before a packet of this protocol, with a source of this version.
+    // `None` if it cannot be written or says that the packet is a fragment.
+    #[inline(always)]
+    fn carrier(&self, version: u16, protocol: u8, len: usize) -> Option<IpRepr>
+        requires { version ≡ self.now.src.addr.version }
+        ensures value { result ≡ carrier self.now protocol len }
+        ensures len { IfSome result (λ v. length (headers_bytes self.now v) ≡ 14 + header_len_of v) }
+    {
+        let value = self
+            .ip
+            .value(version, protocol, &self.src.addr, &self.dst.addr, len)?;
+        let is_whole = self.ip.fragment_offset == 0 && self.ip.more_fragments == 0;
+        is_whole.then_some(value)
+    }
+
+    // The length of the Ethernet header and this IP header, in octets.
+    #[inline(always)]
+    fn headers_len(&self, carrier: &IpRepr) -> usize
+        ensures { result ≡ 14 + header_len_of carrier.now }
+    {
+        ETHERNET_HEADER_LEN + carrier.header_len()
+    }
+
+    // Writes the Ethernet header and the IP header to the front of `out`.
+    #[inline(always)]
+    fn emit_headers(&self, carrier: &IpRepr, out: &mut [u8])
+        requires expressible { is_expressible self.now.ip carrier.now ≡ true }
+        requires room { length out.old ≡ 14 + header_len_of carrier.now }
+        ensures { out.new ≡ headers_bytes self.now carrier.now }
+    {
+        let (link, rest) = out.split_at_mut(ETHERNET_HEADER_LEN);
+        self.ethernet.emit(type_number(carrier), link);
+        self.ip.emit(carrier, true, rest);
+    }
+
+    // Writes the headers of a frame with a UDP packet around a payload that is in `out` behind them.
+    #[inline(always)]
+    fn wrap_udp(&self, carrier: &IpRepr, payload_len: usize, out: &mut [u8])
+        requires expressible { is_expressible self.now.ip carrier.now ≡ true }
+        requires payload_len { payload_len ≤ udp.max_payload_len }
+        requires room { 14 + header_len_of carrier.now + 8 + payload_len ≤ length out.old }
+        ensures { let v = carrier.now in let first = 14 + header_len_of v + 8 in
+            let payload = slice_range out.old first (first + payload_len) in
+            out.new ≡ headers_bytes self.now v
+            ++ udp.bytes_of (ports_of self.now.src self.now.dst) payload (src_addr_of v) (dst_addr_of v) true
+            ++ drop (first + payload_len) out.old }
+    {
+        let (headers, packet) = out.split_at_mut(self.headers_len(carrier));
+        self.emit_headers(carrier, headers);
+        let ports = UdpRepr {
+            src_port: self.src.port,
+            dst_port: self.dst.port,
+        };
+        let (src_addr, dst_addr) = (carrier.src_addr(), carrier.dst_addr());
+        udp::wrap(ports, src_addr, dst_addr, payload_len, packet);
+    }
+
+    // Writes the headers of a frame with a UDP packet, and the packet.
+    #[inline(always)]
+    fn write_udp(&self, carrier: &IpRepr, payload: &[u8], out: &mut [u8])
+        requires expressible { is_expressible self.now.ip carrier.now ≡ true }
+        requires payload_len { length payload.now ≤ udp.max_payload_len }
+        requires room { 14 + header_len_of carrier.now + 8 + length payload.now ≤ length out.old }
+        ensures { let v = carrier.now in let end = 14 + header_len_of v + 8 + length payload.now in
+            out.new ≡ headers_bytes self.now v
+            ++ udp.bytes_of (ports_of self.now.src self.now.dst) payload.now (src_addr_of v) (dst_addr_of v) true
+            ++ drop end out.old }
+    {
+        let (headers, packet) = out.split_at_mut(self.headers_len(carrier));
+        self.emit_headers(carrier, headers);
+        let ports = UdpRepr {
+            src_port: self.src.port,
+            dst_port: self.dst.port,
+        };
+        let (src_addr, dst_addr) = (carrier.src_addr(), carrier.dst_addr());
+        udp::write(ports, src_addr, dst_addr, payload, packet);
+    }
+
+    // Writes the headers of a frame with a TCP segment around a payload that is in `out` behind them.
+    #[inline(always)]
+    fn wrap_tcp(&self, carrier: &IpRepr, segment: &TcpRepr<'_>, payload_len: usize, out: &mut [u8])
+        requires expressible { is_expressible self.now.ip carrier.now ≡ true }
+        requires empty { segment.now.payload.now ≡ [] }
+        requires header_len { tcp.header_len_of (tcp.header_of segment.now) ≤ 60 }
+        requires room { 14 + header_len_of carrier.now + tcp.header_len_of (tcp.header_of segment.now) + payload_len ≤ length out.old }
+        ensures { let v = carrier.now in let u = tcp.header_of segment.now in
+            let first = 14 + header_len_of v + tcp.header_len_of u in
+            let payload = slice_range out.old first (first + payload_len) in
+            out.new ≡ headers_bytes self.now v
+            ++ segment_bytes self.now.tcp u payload (src_addr_of v) (dst_addr_of v) true
+            ++ drop (first + payload_len) out.old }
+    {
+        let (headers, packet) = out.split_at_mut(self.headers_len(carrier));
+        self.emit_headers(carrier, headers);
+        let (src_addr, dst_addr) = (carrier.src_addr(), carrier.dst_addr());
+        self.tcp
+            .wrap(segment, src_addr, dst_addr, payload_len, true, packet);
+    }
+
+    /// Writes a frame with a UDP packet and this payload, and returns its length.
+    pub fn emit_udp(&self, payload: &[u8], out: &mut [u8]) -> Option<usize>
+        ensures { Fills (udp_frame self.now payload.now) out.old out.new result }
+    {
+        match self.src.addr.version {
+            4 => self.emit_udp_from(4, payload, out),
+            version => self.emit_udp_from(version, payload, out),
+        }
+    }
+
+    // The same with a source of this version.
+    #[inline(always)]
+    fn emit_udp_from(&self, version: u16, payload: &[u8], out: &mut [u8]) -> Option<usize>
+        requires { version ≡ self.now.src.addr.version }
+        ensures { Fills (udp_frame self.now payload.now) out.old out.new result }
+    {
+        if payload.len() > UDP_MAX_PAYLOAD_LEN {
+            return None;
+        }
+        let carrier = self.carrier(version, UDP, UDP_HEADER_LEN + payload.len())?;
+        let start = self.headers_len(&carrier) + UDP_HEADER_LEN;
+        let end = start + payload.len();
+        if out.len() < end {
+            return None;
+        }
+        self.write_udp(&carrier, payload, out);
+        Some(end)
+    }
+
+    /// Writes a frame with a UDP packet around the payload in `out`, and returns its length.
+    pub fn emit_udp_around(&self, payload_len: usize, out: &mut [u8]) -> Option<usize>
+        ensures { Fills (udp_frame_around self.now payload_len out.old) out.old out.new result }
+    {
+        match self.src.addr.version {
+            4 => self.emit_udp_around_from(4, payload_len, out),
+            version => self.emit_udp_around_from(version, payload_len, out),
+        }
+    }
+
+    // The same with a source of this version.
+    #[inline(always)]
+    fn emit_udp_around_from(
+        &self,
+        version: u16,
+        payload_len: usize,
+        out: &mut [u8],
+    ) -> Option<usize>
+        requires { version ≡ self.now.src.addr.version }
+        ensures { Fills (udp_frame_around self.now payload_len out.old) out.old out.new result }
+    {
+        if payload_len > UDP_MAX_PAYLOAD_LEN {
+            return None;
+        }
+        let carrier = self.carrier(version, UDP, UDP_HEADER_LEN + payload_len)?;
+        let end = self.headers_len(&carrier) + UDP_HEADER_LEN + payload_len;
+        if out.len() < end {
+            return None;
+        }
+        self.wrap_udp(&carrier, payload_len, out);
+        Some(end)
+    }
+
+    /// Writes a frame with a TCP segment and this payload, and returns its length.
+    pub fn emit_tcp(&self, options: &TcpOptions, payload: &[u8], out: &mut [u8]) -> Option<usize>
+        ensures { Fills (tcp_frame self.now options.now payload.now) out.old out.new result }
+    {
+        match self.src.addr.version {
+            4 => self.emit_tcp_from(4, options, payload, out),
+            version => self.emit_tcp_from(version, options, payload, out),
+        }
+    }
+
+    // The same with a source of this version.
+    #[inline(always)]
+    fn emit_tcp_from(
+        &self,
+        version: u16,
+        options: &TcpOptions,
+        payload: &[u8],
+        out: &mut [u8],
+    ) -> Option<usize>
+        requires { version ≡ self.now.src.addr.version }
+        ensures { Fills (tcp_frame self.now options.now payload.now) out.old out.new result }
+    {
+        let (src_port, dst_port) = (self.src.port, self.dst.port);
+        let segment = self
+            .tcp
+            .segment(options, src_port, dst_port, payload.len())?;
+        let header_len = segment.header_len();
+        let carrier = self.carrier(version, TCP, header_len + payload.len())?;
+        let start = self.headers_len(&carrier) + header_len;
+        let end = start + payload.len();
+        if out.len() < end {
+            return None;
+        }
+        place(payload, start, out);
+        self.wrap_tcp(&carrier, &segment, payload.len(), out);
+        Some(end)
+    }
+
+    /// Writes a frame with a TCP segment around the payload in `out`, and returns its length.
+    pub fn emit_tcp_around(
+        &self,
+        options: &TcpOptions,
+        payload_len: usize,
+        out: &mut [u8],
+    ) -> Option<usize>
+        ensures { Fills (tcp_frame_around self.now options.now payload_len out.old) out.old out.new result }
+    {
+        match self.src.addr.version {
+            4 => self.emit_tcp_around_from(4, options, payload_len, out),
+            version => self.emit_tcp_around_from(version, options, payload_len, out),
+        }
+    }
+
+    // The same with a source of this version.
+    #[inline(always)]
+    fn emit_tcp_around_from(
+        &self,
+        version: u16,
+        options: &TcpOptions,
+        payload_len: usize,
+        out: &mut [u8],
+    ) -> Option<usize>
+        requires { version ≡ self.now.src.addr.version }
+        ensures { Fills (tcp_frame_around self.now options.now payload_len out.old) out.old out.new result }
+    {
+        let (src_port, dst_port) = (self.src.port, self.dst.port);
+        let segment = self.tcp.segment(options, src_port, dst_port, payload_len)?;
+        let header_len = segment.header_len();
+        let carrier = self.carrier(version, TCP, header_len + payload_len)?;
+        let end = self.headers_len(&carrier) + header_len + payload_len;
+        if out.len() < end {
+            return None;
+        }
+        self.wrap_tcp(&carrier, &segment, payload_len, out);
+        Some(end)
+    }
+
+    /// Writes a frame with an ARP packet, and returns its length.
+    pub fn emit_arp(&self, out: &mut [u8]) -> Option<usize>
+        ensures { Fills (arp_frame self.now) out.old out.new result }
+    {
+        let value = self.arp.value(&self.src.addr, &self.dst.addr)?;
+        if out.len() < ETHERNET_HEADER_LEN {
+            return None;
+        }
+        let (link, rest) = out.split_at_mut(ETHERNET_HEADER_LEN);
+        match arp::emit(value, rest) {
+            Some(len) => {
+                self.ethernet.emit(ARP, link);
+                Some(ETHERNET_HEADER_LEN + len)
+            }
+            None => None,
+        }
+    }
+}
+
+// The EtherType of a packet with this header.
+#[inline(always)]
+fn type_number(carrier: &IpRepr) -> u16
+    ensures { result ≡ type_number carrier.now }
+{
+    match carrier {
+        IpRepr::Ipv4(_) => IPV4,
+        IpRepr::Ipv6(_) => IPV6,
+    }
+}

@@ -1,0 +1,36 @@
+//! What holds of the definitions alone. The functions do nothing.
+
+ghost use Rattle.std.specs.Prelude.{◌≡◌, ◌↔◌, ◌≢◌, drop, false, true};
+ghost use Rattle.ip_wire.specs.Ethernet as ethernet;
+ghost use Rattle.ip_wire.specs.Frame.{Carried, ReadsFrame, type_of};
+ghost use Rattle.ip_wire.specs.Ip.{ReadsHeader};
+ghost use Rattle.ip_wire.specs.Ipv4 as ipv4;
+ghost use Rattle.ip_wire.specs.declared.EthernetProtocol.TheVariants as ethertype;
+ghost use Rattle.ip_wire.specs.Types.{EthernetRepr, IpRepr, Ipv4Repr};
+ghost use Rattle.c_structs.specs.FrameFields.{fields_of};
+ghost use Rattle.c_structs.specs.Stored.{HasVerdicts, Stores, StoresFragment, StoresRejected, StoresUnread, unchecked};
+
+use net_base::ChecksumCapabilities;
+
+/// The struct of a frame that is parsed whole stores each value of its headers under the name of the
+/// value, and locates the innermost payload. The verified checksums are valid exactly if their fields
+/// say that they are right, or for UDP that the sender left them out.
+pub fn fields_are_parsed(frame: &[u8], caps: ChecksumCapabilities)
+    ensures stores { (v : EthernetRepr) (w : Carried) → ReadsFrame unchecked frame.now v w → Stores (fields_of frame.now) frame.now v w }
+    ensures verdicts { (v : EthernetRepr) (w : Carried) → ReadsFrame unchecked frame.now v w
+        → (ReadsFrame caps frame.now v w) ↔ (HasVerdicts caps (fields_of frame.now)) }
+    ensures only { (fields_of frame.now).reason ≡ 0 → (fields_of frame.now).network ≢ 0 → (fields_of frame.now).is_fragment ≡ 0
+        → (v : EthernetRepr) × (w : Carried) × ReadsFrame unchecked frame.now v w }
+{}
+
+/// At a fragment of IPv4, at a rejected header and at an unknown EtherType the struct stores the values
+/// of the headers before it, and locates what follows them. It stores the ports and the values of a
+/// rejected UDP or TCP header too, unless this is too short, and the first test that fails.
+pub fn fields_before_are_parsed(frame: &[u8])
+    ensures fragment { (v : EthernetRepr) (w : Ipv4Repr) → ethernet.Reads frame.now v → v.ethertype ≡ ethertype.Ipv4
+        → ipv4.Reads (drop 14 frame.now) false w → ipv4.is_fragment (drop 14 frame.now) ≡ true → StoresFragment (fields_of frame.now) frame.now v w }
+    ensures rejected { (v : EthernetRepr) (w : IpRepr) → ethernet.Reads frame.now v → v.ethertype ≡ type_of w
+        → ReadsHeader (drop 14 frame.now) false w → (fields_of frame.now).reason ≢ 0 → StoresRejected (fields_of frame.now) frame.now v w }
+    ensures unread { (v : EthernetRepr) → ethernet.Reads frame.now v → (fields_of frame.now).network ≡ 0
+        → StoresUnread (fields_of frame.now) frame.now v }
+{}

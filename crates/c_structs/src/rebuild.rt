@@ -1,0 +1,208 @@
+//! Rebuilding a whole frame.
+
+ghost use Rattle.std.specs.Prelude.{◌≡◌, ◌≤◌, Some, length};
+ghost use Rattle.ip_wire.specs.Frame.{rebuilt_transport_by, rebuilt_packet, rebuilt_payload, rebuilt_transport};
+ghost use Rattle.ip_wire.specs.FrameValue.{header_before};
+ghost use Rattle.ip_wire.specs.Ip.{dst_addr_of, max_payload_len, next_header_of, src_addr_of};
+ghost use Rattle.ip_wire.specs.Protocol.{protocol_of};
+ghost use Rattle.ip_wire.specs.declared.EthernetProtocol.TheVariants.{Arp, Ipv4, Ipv6};
+ghost use Rattle.ip_wire.specs.declared.IpProtocol.TheVariants.{Tcp, Udp, Unknown};
+ghost use Rattle.c_structs.specs.Frames.{rebuilt_of};
+ghost use Rattle.c_structs.specs.Written.{Fills};
+
+use crate::results::copy;
+use crate::{arp, tcp, udp};
+use ip_wire::{
+    ArpPacket, ArpRepr, ETHERNET_HEADER_LEN, EthernetFrame, EthernetProtocol, IpProtocol, IpRepr,
+    Ipv4Packet, Ipv4Repr, Ipv6Packet, Ipv6Repr, TcpPacket, TcpRepr, UdpPacket, UdpRepr,
+};
+use net_base::ChecksumCapabilities;
+use wire_field::{array_at, write_front};
+
+// The byte of the protocol number in an IPv4 header (RFC 791, section 3.1), and of the next header in an
+// IPv6 header (RFC 8200, section 3).
+const IPV4_PROTOCOL: usize = 9;
+
+const IPV6_NEXT_HEADER: usize = 6;
+
+/// Writes a rebuilt frame to the front of `out` and returns its length. `None` if it does not fit, or if
+/// there is no Ethernet header.
+pub fn rebuild_frame(bytes: &[u8], out: &mut [u8]) -> Option<usize>
+    ensures { Fills (rebuilt_of bytes.now) out.old out.new result }
+{
+    if bytes.len() < ETHERNET_HEADER_LEN || out.len() < ETHERNET_HEADER_LEN {
+        return None;
+    }
+    let frame = EthernetFrame::new_unchecked(bytes);
+    let (front, rest) = out.split_at_mut(ETHERNET_HEADER_LEN);
+    match rebuild_payload(frame.ethertype(), frame.payload(), rest) {
+        Some(len) => {
+            // A header that was read is in its normal form.
+            write_front(front, &array_at::<ETHERNET_HEADER_LEN>(bytes, 0));
+            Some(ETHERNET_HEADER_LEN + len)
+        }
+        None => None,
+    }
+}
+
+// Rebuilds the payload of a frame with this EtherType.
+fn rebuild_payload(ethertype: EthernetProtocol, bytes: &[u8], out: &mut [u8]) -> Option<usize>
+    ensures { Fills (Some (rebuilt_payload ethertype bytes.now)) out.old out.new result }
+{
+    match ethertype {
+        EthernetProtocol::Ipv4 => rebuild_ipv4(bytes, out),
+        EthernetProtocol::Ipv6 => rebuild_ipv6(bytes, out),
+        EthernetProtocol::Arp => rebuild_arp(bytes, out),
+        EthernetProtocol::Unknown(_) => copy(bytes, out),
+    }
+}
+
+// Rebuilds an ARP packet; copies it if it does not parse.
+fn rebuild_arp(bytes: &[u8], out: &mut [u8]) -> Option<usize>
+    ensures { Fills (Some (rebuilt_payload Arp bytes.now)) out.old out.new result }
+{
+    match ArpRepr::parse(&ArpPacket::new_unchecked(bytes)) {
+        Ok(value) => arp::emit(value, out),
+        Err(_) => copy(bytes, out),
+    }
+}
+
+// Rebuilds an IPv4 packet; copies it if it does not parse with its checksum, or is a fragment.
+fn rebuild_ipv4(bytes: &[u8], out: &mut [u8]) -> Option<usize>
+    ensures { Fills (Some (rebuilt_payload Ipv4 bytes.now)) out.old out.new result }
+{
+    let packet = Ipv4Packet::new_unchecked(bytes);
+    match Ipv4Repr::parse(&packet, &ChecksumCapabilities::default()) {
+        Ok(header) if !packet.is_fragment() => {
+            rebuild_packet(
+                IpRepr::Ipv4(header),
+                bytes[IPV4_PROTOCOL],
+                packet.payload(),
+                out,
+            )
+        }
+        _ => copy(bytes, out),
+    }
+}
+
+// Rebuilds an IPv6 packet; copies it if it does not parse.
+fn rebuild_ipv6(bytes: &[u8], out: &mut [u8]) -> Option<usize>
+    ensures { Fills (Some (rebuilt_payload Ipv6 bytes.now)) out.old out.new result }
+{
+    let packet = Ipv6Packet::new_unchecked(bytes);
+    match Ipv6Repr::parse(&packet) {
+        Ok(header) => {
+            rebuild_packet(
+                IpRepr::Ipv6(header),
+                bytes[IPV6_NEXT_HEADER],
+                packet.payload(),
+                out,
+            )
+        }
+        Err(_) => copy(bytes, out),
+    }
+}
+
+// Rebuilds a packet with this header and protocol number. The payload length is set to that of the rebuilt
+// payload.
+#[inline(always)]
+fn rebuild_packet(header: IpRepr, protocol: u8, payload: &[u8], out: &mut [u8]) -> Option<usize>
+    requires len { length payload.now ≤ max_payload_len header }
+    requires protocol { next_header_of header ≡ protocol_of protocol }
+    ensures { Fills (Some (rebuilt_packet header payload.now)) out.old out.new result }
+{
+    let header_len = header.header_len();
+    if out.len() < header_len {
+        return None;
+    }
+    let (front, rest) = out.split_at_mut(header_len);
+    match rebuild_transport(&header, protocol, payload, rest) {
+        Some(payload_len) => {
+            let header = with_number(header, protocol, payload_len);
+            header.emit(front, &ChecksumCapabilities::default());
+            Some(header_len + payload_len)
+        }
+        None => None,
+    }
+}
+
+// The header with its protocol as a number, and with this payload length. A number is written as it is: the
+// name of a protocol would first be looked up in a table.
+#[inline(always)]
+fn with_number(header: IpRepr, protocol: u8, payload_len: usize) -> IpRepr
+    ensures { result ≡ header_before header (Unknown protocol) payload_len }
+{
+    let next_header = IpProtocol::Unknown(protocol);
+    match header {
+        IpRepr::Ipv4(header) => IpRepr::Ipv4(Ipv4Repr {
+            next_header,
+            payload_len,
+            ..header
+        }),
+        IpRepr::Ipv6(header) => IpRepr::Ipv6(Ipv6Repr {
+            next_header,
+            payload_len,
+            ..header
+        }),
+    }
+}
+
+// Rebuilds the payload of a packet with this header and protocol number. The number is compared here as it
+// is: its name in the header would have been looked up before.
+#[inline(always)]
+fn rebuild_transport(header: &IpRepr, protocol: u8, bytes: &[u8], out: &mut [u8]) -> Option<usize>
+    requires { next_header_of header.now ≡ protocol_of protocol }
+    ensures { Fills (Some (rebuilt_transport header.now bytes.now)) out.old out.new result }
+{
+    match IpProtocol::from(protocol) {
+        IpProtocol::Udp => rebuild_udp(header, bytes, out),
+        IpProtocol::Tcp => rebuild_tcp(header, bytes, out),
+        _ => copy(bytes, out),
+    }
+}
+
+// Rebuilds a UDP packet; copies it if it does not parse with its checksum.
+#[inline(always)]
+fn rebuild_udp(ip_header: &IpRepr, bytes: &[u8], out: &mut [u8]) -> Option<usize>
+    ensures { let src = src_addr_of ip_header.now in let dst = dst_addr_of ip_header.now in
+        Fills (Some (rebuilt_transport_by Udp src dst bytes.now)) out.old out.new result }
+{
+    let src_addr = ip_header.src_addr();
+    let dst_addr = ip_header.dst_addr();
+    let caps = ChecksumCapabilities::default();
+    let packet = UdpPacket::new_unchecked(bytes);
+    match UdpRepr::parse(&packet, &src_addr, &dst_addr, &caps) {
+        Ok(header) if packet.checksum() == 0 => {
+            udp::emit(header, src_addr, dst_addr, packet.payload(), &caps, out)
+        }
+        // No other packet has these values, this payload and a valid checksum.
+        Ok(_) => copy(&bytes[..usize::from(packet.len())], out),
+        Err(_) => copy(bytes, out),
+    }
+}
+
+// Rebuilds a TCP segment; copies it if it does not parse with its checksum.
+#[inline(always)]
+fn rebuild_tcp(ip_header: &IpRepr, bytes: &[u8], out: &mut [u8]) -> Option<usize>
+    ensures { let src = src_addr_of ip_header.now in let dst = dst_addr_of ip_header.now in
+        Fills (Some (rebuilt_transport_by Tcp src dst bytes.now)) out.old out.new result }
+{
+    let src_addr = ip_header.src_addr();
+    let dst_addr = ip_header.dst_addr();
+    let caps = ChecksumCapabilities::default();
+    let packet = TcpPacket::new_unchecked(bytes);
+    match TcpRepr::parse(&packet, &src_addr, &dst_addr, &caps) {
+        Ok(segment) => {
+            let unsummed = ChecksumCapabilities::ignored();
+            match tcp::emit(&segment, src_addr, dst_addr, &unsummed, out) {
+                Some(len) => {
+                    let old = &bytes[..usize::from(packet.header_len())];
+                    tcp::put_checksum(old, bytes.len(), segment.header_len(), len, out);
+                    Some(len)
+                }
+                None => None,
+            }
+        }
+        Err(_) => copy(bytes, out),
+    }
+}

@@ -1,0 +1,54 @@
+//! Results of C calls, and copies to a slice.
+
+ghost use Rattle.std.specs.Prelude.{◌≡◌, ◌+◌, ◌<◌, ◌≤◌, ◌^◌, ◌++◌, IfSome, Some, drop, length, take};
+ghost use Rattle.c_structs.specs.Written.{Fills, Writes, is_set, returned};
+
+/// The result of a call that wrote nothing. Its sum with any lengths is negative, and as a `usize`
+/// it is longer than any packet.
+pub const FAILED: isize = -(1 << 40);
+
+/// The length that was written, or `FAILED`.
+#[inline(always)]
+pub fn written(len: Option<usize>) -> isize
+    requires { IfSome len (λ n. n < 2 ^ 63) }
+    ensures { result ≡ returned len }
+{
+    match len {
+        Some(len) => len as isize,
+        None => FAILED,
+    }
+}
+
+/// Whether a C flag is set.
+#[inline(always)]
+pub fn is_set(number: i32) -> bool
+    ensures { result ≡ is_set number }
+{
+    number != 0
+}
+
+/// Copies bytes to the front of `out` and returns how many. `None` if they do not fit.
+pub fn copy(bytes: &[u8], out: &mut [u8]) -> Option<usize>
+    ensures { Fills (Some bytes.now) out.old out.new result }
+{
+    if out.len() < bytes.len() {
+        return None;
+    }
+    out[..bytes.len()].copy_from_slice(bytes);
+    Some(bytes.len())
+}
+
+/// Copies bytes to `out`, from byte `start` on.
+pub fn place(bytes: &[u8], start: usize, out: &mut [u8])
+    requires { start + length bytes.now ≤ length out.old }
+    ensures { out.new ≡ take start out.old ++ bytes.now ++ drop (start + length bytes.now) out.old }
+{
+    out[start..start + bytes.len()].copy_from_slice(bytes);
+}
+
+/// Writes a text to the front of `out`, and returns its length or `FAILED`.
+pub fn print(text: &str, out: &mut [u8]) -> isize
+    ensures { Writes (Some text.now) out.old out.new result }
+{
+    written(copy(text.as_bytes(), out))
+}

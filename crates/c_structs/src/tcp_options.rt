@@ -1,0 +1,70 @@
+//! The options of a TCP header, stored in the struct of C.
+
+ghost use Rattle.std.specs.Prelude.{◌≡◌, List, MatchOption};
+ghost use Rattle.ip_wire.specs.TcpItems.{Item};
+ghost use Rattle.ip_wire.specs.TcpSummary.{summary_of};
+ghost use Rattle.c_structs.specs.TcpOptions.{ReadsItems, range_of, tcp_options_of};
+
+use crate::types::{SackRange, TcpOptions};
+use ip_wire::{TcpOptionSummary, TcpPacket};
+
+// The largest window scale (RFC 7323, section 2.3).
+const MAX_WINDOW_SCALE: u8 = 14;
+
+impl SackRange {
+    // The range in this place, or zeros.
+    fn of(range: Option<(u32, u32)>) -> SackRange
+        ensures { result ≡ range_of range }
+    {
+        match range {
+            Some((left, right)) => SackRange { left, right },
+            None => SackRange { left: 0, right: 0 },
+        }
+    }
+}
+
+impl TcpOptions {
+    /// The options of a header. `None` if its lengths are wrong, or if an option before the end
+    /// mark is malformed.
+    pub fn read(header: &[u8]) -> Option<TcpOptions>
+        ensures { MatchOption result ((items : List Item) → ¬ (ReadsItems header.now items))
+            (λ v. (items : List Item) × ReadsItems header.now items × (v ≡ tcp_options_of items)) }
+    {
+        let packet = match TcpPacket::new_checked(header) {
+            Ok(packet) => packet,
+            Err(_) => return None,
+        };
+        match packet.options_summary() {
+            Ok(summary) => Some(TcpOptions::of(&summary)),
+            Err(_) => None,
+        }
+    }
+
+    // The options with these values.
+    fn of(summary: &TcpOptionSummary) -> TcpOptions
+        ensures { (items : List Item) → summary.now ≡ summary_of items → result ≡ tcp_options_of items }
+    {
+        let [first, second, third, fourth] = summary.sack_ranges;
+        let (tsval, tsecr) = summary.timestamp.unwrap_or((0, 0));
+        TcpOptions {
+            sack_ranges: [
+                SackRange::of(first),
+                SackRange::of(second),
+                SackRange::of(third),
+                SackRange::of(fourth),
+            ],
+            tsval,
+            tsecr,
+            max_seg_size: summary.max_segment_size.unwrap_or(0),
+            window_scale: summary.window_scale.unwrap_or(0).min(MAX_WINDOW_SCALE),
+            sack_permitted: u8::from(summary.sack_permitted),
+            sack_range_count: u8::from(first.is_some())
+                + u8::from(second.is_some())
+                + u8::from(third.is_some())
+                + u8::from(fourth.is_some()),
+            has_max_seg_size: u8::from(summary.max_segment_size.is_some()),
+            has_window_scale: u8::from(summary.window_scale.is_some()),
+            has_timestamp: u8::from(summary.timestamp.is_some()),
+        }
+    }
+}

@@ -1,0 +1,64 @@
+//! Verdicts on checksums.
+
+ghost use Rattle.std.specs.Prelude.{◌≡◌, ◌≤◌, if◌then◌else◌, length};
+ghost use Rattle.ip_wire.specs.IpAddress.{version_of};
+ghost use Rattle.ip_wire.specs.Ipv4 as ipv4;
+ghost use Rattle.ip_wire.specs.Tcp as tcp;
+ghost use Rattle.ip_wire.specs.Udp as udp;
+ghost use Rattle.c_structs.specs.FrameFields.{ipv4_verdict, tcp_verdict, udp_verdict};
+ghost use Rattle.c_structs.specs.declared.codes.Verdict.TheVariants as verdict;
+
+use crate::codes::Verdict;
+use ip_wire::{IpAddress, Ipv4Packet, TcpPacket, UdpPacket};
+
+/// The verdict on the checksum of an IPv4 header.
+#[inline(always)]
+pub fn ipv4_verdict(packet: &Ipv4Packet<'_>) -> Verdict
+    requires { ipv4.HasLengths (ipv4.packet_bytes packet.now) }
+    ensures { result ≡ ipv4_verdict (ipv4.packet_bytes packet.now) }
+{
+    if packet.verify_checksum() {
+        Verdict::Right
+    } else {
+        Verdict::Wrong
+    }
+}
+
+/// The verdict on the checksum of a UDP packet; `None` if its length is wrong.
+#[inline(always)]
+pub fn udp_verdict(packet: &UdpPacket<'_>, src_addr: &IpAddress, dst_addr: &IpAddress) -> Verdict
+    requires { version_of src_addr.now ≡ version_of dst_addr.now }
+    ensures { let bytes = udp.packet_bytes packet.now in
+        result ≡ (if udp.has_lengths bytes then udp_verdict src_addr.now dst_addr.now bytes else verdict.None) }
+{
+    if packet.check_len().is_err() {
+        Verdict::None
+    } else if packet.checksum() == 0 {
+        match src_addr {
+            IpAddress::Ipv4(_) => Verdict::LeftOut,
+            IpAddress::Ipv6(_) => Verdict::Wrong,
+        }
+    } else if packet.verify_checksum(src_addr, dst_addr) {
+        Verdict::Right
+    } else if packet.verify_partial_checksum(src_addr, dst_addr) {
+        Verdict::LeftToDevice
+    } else {
+        Verdict::Wrong
+    }
+}
+
+/// The verdict on the checksum of a TCP segment.
+#[inline(always)]
+pub fn tcp_verdict(packet: &TcpPacket<'_>, src_addr: &IpAddress, dst_addr: &IpAddress) -> Verdict
+    requires header { 18 ≤ length (tcp.packet_bytes packet.now) }
+    requires family { version_of src_addr.now ≡ version_of dst_addr.now }
+    ensures { result ≡ tcp_verdict src_addr.now dst_addr.now (tcp.packet_bytes packet.now) }
+{
+    if packet.verify_checksum(src_addr, dst_addr) {
+        Verdict::Right
+    } else if packet.verify_partial_checksum(src_addr, dst_addr) {
+        Verdict::LeftToDevice
+    } else {
+        Verdict::Wrong
+    }
+}
