@@ -229,7 +229,9 @@ class Checksum:
 
     def updates(self):
         """Each call that updates the checksum, over octets of each kind."""
-        words = {"ipv4": {"hop_limit": "Time to Live", "src_addr": "Source Address", "dst_addr": "Destination Address"}}
+        words = {"ipv4": {"hop_limit": "Time to Live", "dscp": "DSCP", "ecn": "ECN", "src_addr": "Source Address",
+                          "dst_addr": "Destination Address"},
+                 "tcp": {"src_port": "Source Port", "dst_port": "Destination Port", "window_len": "Window"}}
         by_call = words.get(self.view, {"src_port": "Source Port", "dst_port": "Destination Port"})
         forms = {field.call: field.form for field in self.header.fields}
         for old in self.olds():
@@ -241,7 +243,8 @@ class Checksum:
                     if value >> place[1]:
                         continue
                     new = written(old, place, value)
-                    sums = [word_sum(octets[place[0] // 8 : (place[0] + place[1]) // 8]) for octets in (old, new)]
+                    first, end = place[0] // 16 * 2, -(-(place[0] + place[1]) // 16) * 2
+                    sums = [word_sum(octets[first:end]) for octets in (old, new)]
                     yield set_line(self.view, f"update_{call}", old, self.changed(new, *sums), forms[call].operand(value))
             for before, after in CHANGED if self.view != "ipv4" else []:
                 yield set_line(self.view, "update_address", old, self.changed(old, word_sum(packed(before)), word_sum(packed(after))),
@@ -290,6 +293,31 @@ def zero_sums(view, protocol):
     yield set_line(view, "fill_checksum", octets, written(octets, header.place, 0xFFFF if view == "udp" else 0), src, dst)
 
 
+# TCP options, and where the last maximum segment size is in them, if they are well-formed and have one.
+SIZES = [("020405b4", 2), ("01020405b401010000", 3), ("0101020405b40101", 4), ("020405b402040218", 6), ("020405b40002040218000000", 2),
+         ("0402080a00000001000000020103030702040100", 18), ("", None), ("01010402", None), ("00020405b4000000", None), ("0203050102040201", None),
+         ("020405b40302ffff", None), ("020405b403000000", None), ("020405", 2)]
+
+
+def segment_sizes():
+    """Segments with each list of options; the sum is updated over the words that the size is in."""
+    header = Checksum("tcp")
+    for (options, at), value, checksum in itertools.product(SIZES, [0, 536, 1300, 0xFFFF], [0, 0x1234, 0xFFFF]):
+        octets = bytes.fromhex(options)
+        octets += bytes(-len(octets) % 4)
+        old = written(written(header.header.rng.randbytes(20), header.header.places["Offset"], 5 + len(octets) // 4), header.place, checksum)
+        old += octets + b"payload"
+        new = old
+        if at is not None:
+            place = 20 + at
+            new = old[:place] + value.to_bytes(2, "big") + old[place + 2 :]
+            first, end = place // 2 * 2, (place + 3) // 2 * 2
+            new = header.changed(new, word_sum(old[first:end]), word_sum(new[first:end]))
+        yield set_line("tcp", "update_max_seg_size", old, new, value)
+    yield set_line("tcp", "update_max_seg_size", written(bytes(20), header.header.places["Offset"], 4), None, 1300)
+    yield set_line("tcp", "update_max_seg_size", written(bytes(20), header.header.places["Offset"], 6), None, 1300)
+
+
 # ---- getters
 
 def get_line(view, octets, values):
@@ -326,6 +354,7 @@ def set_rows():
         yield from filled(view, protocol)
         yield from zero_sums(view, protocol)
         yield from Checksum(view).updates()
+    yield from segment_sizes()
     yield from [("set", MALFORMED), ("set icmp set_checksum 1 00000000", MALFORMED), ("set udp set_len 1 0", MALFORMED)]
 
 

@@ -3,17 +3,19 @@
 ghost use Rattle.std.specs.Prelude.{◌≤◌, length};
 ghost use Rattle.ip_wire.specs.Arp as arp;
 ghost use Rattle.ip_wire.specs.Ipv4 as ipv4;
+ghost use Rattle.ip_wire.specs.Ipv6 as ipv6;
+ghost use Rattle.ip_wire.specs.Ipv6Fragment as fragment;
 ghost use Rattle.ip_wire.specs.Tcp as tcp;
 ghost use Rattle.ip_wire.specs.Udp as udp;
 
 use crate::answer::NoAnswer;
-use crate::operands::{addresses, flag, octets, read};
+use crate::operands::{addresses, octets, read};
 use crate::tcp::seq_number_of;
 use ip_wire::{
     ArpHardware, ArpOperation, ArpPacketMut, ETHERNET_HEADER_LEN, EthernetFrameMut,
-    EthernetProtocol, IPV4_HEADER_LEN, IPV6_HEADER_LEN, IpProtocol, Ipv4PacketMut,
-    Ipv6FragmentHeaderMut, Ipv6PacketMut, TCP_HEADER_LEN, TcpPacketMut, UDP_HEADER_LEN,
-    UdpPacketMut,
+    EthernetProtocol, IPV4_HEADER_LEN, IPV6_HEADER_LEN, IpProtocol, Ipv4Address, Ipv4PacketMut,
+    Ipv6Address, Ipv6FragmentHeaderMut, Ipv6PacketMut, TCP_HEADER_LEN, TcpPacketMut,
+    UDP_HEADER_LEN, UdpPacketMut,
 };
 use std::alloc::Global;
 
@@ -42,40 +44,60 @@ fn set(alloc: Global, view: &str, call: &[&str], bytes: &mut [u8]) -> Result<(),
 }
 
 fn ethernet(call: &[&str], bytes: &mut [u8]) -> Result<(), NoAnswer> {
+    let [name, word] = call else {
+        return Err(NoAnswer::Malformed);
+    };
     if bytes.len() < ETHERNET_HEADER_LEN {
         return Err(NoAnswer::Malformed);
     }
     let mut frame = EthernetFrameMut::new_unchecked(bytes);
-    match call {
-        ["set_dst_addr", value] => frame.set_dst_addr(read(value)?),
-        ["set_src_addr", value] => frame.set_src_addr(read(value)?),
-        ["set_ethertype", value] => {
-            frame.set_ethertype(EthernetProtocol::from(read::<u16>(value)?));
-        }
+    if *name == "set_ethertype" {
+        frame.set_ethertype(EthernetProtocol::from(read::<u16>(word)?));
+        return Ok(());
+    }
+    let addr = read(word)?;
+    match *name {
+        "set_dst_addr" => frame.set_dst_addr(addr),
+        "set_src_addr" => frame.set_src_addr(addr),
         _ => return Err(NoAnswer::Malformed),
     }
     Ok(())
 }
 
 fn arp(alloc: Global, call: &[&str], bytes: &mut [u8]) -> Result<(), NoAnswer> {
+    let [name, word] = call else {
+        return Err(NoAnswer::Malformed);
+    };
     if bytes.len() < 8 {
         return Err(NoAnswer::Malformed);
     }
     let mut packet = ArpPacketMut::new_unchecked(bytes);
-    match call {
-        ["set_hardware_type", value] => {
-            packet.set_hardware_type(ArpHardware::from(read::<u16>(value)?));
-        }
-        ["set_protocol_type", value] => {
-            packet.set_protocol_type(EthernetProtocol::from(read::<u16>(value)?));
-        }
-        ["set_hardware_len", value] => packet.set_hardware_len(read(value)?),
-        ["set_protocol_len", value] => packet.set_protocol_len(read(value)?),
-        ["set_operation", value] => packet.set_operation(ArpOperation::from(read::<u16>(value)?)),
-        [name, value] => {
-            let value = octets(alloc, value)?;
-            return arp_address(name, value.as_slice(), &mut packet);
-        }
+    if name.ends_with("_addr") {
+        let addr = octets(alloc, word)?;
+        arp_address(name, addr.as_slice(), &mut packet)
+    } else {
+        arp_number(name, read(word)?, &mut packet)
+    }
+}
+
+fn arp_number(name: &str, value: u16, packet: &mut ArpPacketMut<'_>) -> Result<(), NoAnswer>
+    requires { 8 ≤ length (arp.packet_bytes_mut packet.old) }
+{
+    match name {
+        "set_hardware_type" => packet.set_hardware_type(ArpHardware::from(value)),
+        "set_protocol_type" => packet.set_protocol_type(EthernetProtocol::from(value)),
+        "set_operation" => packet.set_operation(ArpOperation::from(value)),
+        _ => return arp_len(name, octet(value)?, packet),
+    }
+    Ok(())
+}
+
+fn arp_len(name: &str, value: u8, packet: &mut ArpPacketMut<'_>) -> Result<(), NoAnswer>
+    requires { 8 ≤ length (arp.packet_bytes_mut packet.old) }
+{
+    match name {
+        "set_hardware_len" => packet.set_hardware_len(value),
+        "set_protocol_len" => packet.set_protocol_len(value),
         _ => return Err(NoAnswer::Malformed),
     }
     Ok(())
@@ -106,74 +128,127 @@ fn ipv4(call: &[&str], bytes: &mut [u8]) -> Result<(), NoAnswer> {
     }
     let mut packet = Ipv4PacketMut::new_unchecked(bytes);
     match call {
-        ["set_version", value] => packet.set_version(read(value)?),
-        ["set_header_len", value] => packet.set_header_len(read(value)?),
-        ["set_dscp", value] => packet.set_dscp(read(value)?),
-        ["set_ecn", value] => packet.set_ecn(read(value)?),
-        ["set_total_len", value] => packet.set_total_len(read(value)?),
-        ["set_ident", value] => packet.set_ident(read(value)?),
-        _ => return ipv4_fragment(call, &mut packet),
+        [name] => ipv4_alone(name, &mut packet),
+        [name, word] if name.ends_with("_addr") => ipv4_address(name, read(word)?, &mut packet),
+        [name, word] => ipv4_number(name, read(word)?, &mut packet),
+        ["update_checksum", old, new] => {
+            packet.update_checksum(read(old)?, read(new)?);
+            Ok(())
+        }
+        _ => Err(NoAnswer::Malformed),
     }
-    Ok(())
 }
 
-fn ipv4_fragment(call: &[&str], packet: &mut Ipv4PacketMut<'_>) -> Result<(), NoAnswer>
-    requires { 20 ≤ length (ipv4.packet_bytes_mut packet.old) }
-{
-    match call {
-        ["clear_flags"] => packet.clear_flags(),
-        ["set_dont_frag", value] => packet.set_dont_frag(flag(value)),
-        ["set_more_frags", value] => packet.set_more_frags(flag(value)),
-        ["set_frag_offset", value] => packet.set_frag_offset(read(value)?),
-        _ => return ipv4_end(call, packet),
-    }
-    Ok(())
-}
-
-// The fields behind the offset of a fragment.
-fn ipv4_end(call: &[&str], packet: &mut Ipv4PacketMut<'_>) -> Result<(), NoAnswer>
-    requires { 20 ≤ length (ipv4.packet_bytes_mut packet.old) }
-{
-    match call {
-        ["set_hop_limit", value] => packet.set_hop_limit(read(value)?),
-        ["set_next_header", value] => packet.set_next_header(IpProtocol::from(read::<u8>(value)?)),
-        ["set_checksum", value] => packet.set_checksum(read(value)?),
-        ["set_src_addr", value] => packet.set_src_addr(read(value)?),
-        ["set_dst_addr", value] => packet.set_dst_addr(read(value)?),
-        _ => return ipv4_checksum(call, packet),
-    }
-    Ok(())
-}
-
-fn ipv4_checksum(call: &[&str], packet: &mut Ipv4PacketMut<'_>) -> Result<(), NoAnswer>
+fn ipv4_alone(name: &str, packet: &mut Ipv4PacketMut<'_>) -> Result<(), NoAnswer>
     requires { 20 ≤ length (ipv4.packet_bytes_mut packet.old) }
 {
     let is_whole = usize::from(packet.header_len()) <= packet.as_bytes().len();
-    match call {
-        ["fill_checksum"] if is_whole => packet.fill_checksum(),
-        ["update_checksum", old, new] => packet.update_checksum(read(old)?, read(new)?),
-        ["update_hop_limit", value] => packet.update_hop_limit(read(value)?),
-        ["update_src_addr", value] => packet.update_src_addr(read(value)?),
-        ["update_dst_addr", value] => packet.update_dst_addr(read(value)?),
+    match name {
+        "clear_flags" => packet.clear_flags(),
+        "fill_checksum" if is_whole => packet.fill_checksum(),
+        _ => return Err(NoAnswer::Malformed),
+    }
+    Ok(())
+}
+
+fn ipv4_address(
+    name: &str,
+    value: Ipv4Address,
+    packet: &mut Ipv4PacketMut<'_>,
+) -> Result<(), NoAnswer>
+    requires { 20 ≤ length (ipv4.packet_bytes_mut packet.old) }
+{
+    match name {
+        "set_src_addr" => packet.set_src_addr(value),
+        "set_dst_addr" => packet.set_dst_addr(value),
+        "update_src_addr" => packet.update_src_addr(value),
+        "update_dst_addr" => packet.update_dst_addr(value),
+        _ => return Err(NoAnswer::Malformed),
+    }
+    Ok(())
+}
+
+fn ipv4_number(name: &str, value: u16, packet: &mut Ipv4PacketMut<'_>) -> Result<(), NoAnswer>
+    requires { 20 ≤ length (ipv4.packet_bytes_mut packet.old) }
+{
+    match name {
+        "set_total_len" => packet.set_total_len(value),
+        "set_ident" => packet.set_ident(value),
+        "set_frag_offset" => packet.set_frag_offset(value),
+        "set_checksum" => packet.set_checksum(value),
+        _ => return ipv4_octet(name, octet(value)?, packet),
+    }
+    Ok(())
+}
+
+fn ipv4_octet(name: &str, value: u8, packet: &mut Ipv4PacketMut<'_>) -> Result<(), NoAnswer>
+    requires { 20 ≤ length (ipv4.packet_bytes_mut packet.old) }
+{
+    match name {
+        "set_version" => packet.set_version(value),
+        "set_header_len" => packet.set_header_len(value),
+        "set_dscp" => packet.set_dscp(value),
+        "set_ecn" => packet.set_ecn(value),
+        "set_dont_frag" => packet.set_dont_frag(value == 1),
+        "set_more_frags" => packet.set_more_frags(value == 1),
+        "set_hop_limit" => packet.set_hop_limit(value),
+        "set_next_header" => packet.set_next_header(IpProtocol::from(value)),
+        "update_hop_limit" => packet.update_hop_limit(value),
+        "update_dscp" => packet.update_dscp(value),
+        "update_ecn" => packet.update_ecn(value),
         _ => return Err(NoAnswer::Malformed),
     }
     Ok(())
 }
 
 fn ipv6(call: &[&str], bytes: &mut [u8]) -> Result<(), NoAnswer> {
+    let [name, word] = call else {
+        return Err(NoAnswer::Malformed);
+    };
     if bytes.len() < IPV6_HEADER_LEN {
         return Err(NoAnswer::Malformed);
     }
     let mut packet = Ipv6PacketMut::new_unchecked(bytes);
-    match call {
-        ["set_version", value] => packet.set_version(read(value)?),
-        ["set_traffic_class", value] => packet.set_traffic_class(read(value)?),
-        ["set_flow_label", value] => packet.set_flow_label(read(value)?),
-        ["set_payload_len", value] => packet.set_payload_len(read(value)?),
-        ["set_next_header", value] => packet.set_next_header(IpProtocol::from(read::<u8>(value)?)),
-        ["set_hop_limit", value] => packet.set_hop_limit(read(value)?),
-        ["set_src_addr", value] => packet.set_src_addr(read(value)?),
-        ["set_dst_addr", value] => packet.set_dst_addr(read(value)?),
+    if name.ends_with("_addr") {
+        ipv6_address(name, read(word)?, &mut packet)
+    } else {
+        ipv6_number(name, read(word)?, &mut packet)
+    }
+}
+
+fn ipv6_address(
+    name: &str,
+    value: Ipv6Address,
+    packet: &mut Ipv6PacketMut<'_>,
+) -> Result<(), NoAnswer>
+    requires { 40 ≤ length (ipv6.packet_bytes_mut packet.old) }
+{
+    match name {
+        "set_src_addr" => packet.set_src_addr(value),
+        "set_dst_addr" => packet.set_dst_addr(value),
+        _ => return Err(NoAnswer::Malformed),
+    }
+    Ok(())
+}
+
+fn ipv6_number(name: &str, value: u32, packet: &mut Ipv6PacketMut<'_>) -> Result<(), NoAnswer>
+    requires { 40 ≤ length (ipv6.packet_bytes_mut packet.old) }
+{
+    if name == "set_flow_label" {
+        packet.set_flow_label(value);
+        return Ok(());
+    }
+    let value = word(value)?;
+    if name == "set_payload_len" {
+        packet.set_payload_len(value);
+        return Ok(());
+    }
+    let value = octet(value)?;
+    match name {
+        "set_version" => packet.set_version(value),
+        "set_traffic_class" => packet.set_traffic_class(value),
+        "set_next_header" => packet.set_next_header(IpProtocol::from(value)),
+        "set_hop_limit" => packet.set_hop_limit(value),
         _ => return Err(NoAnswer::Malformed),
     }
     Ok(())
@@ -185,10 +260,24 @@ fn fragment(call: &[&str], bytes: &mut [u8]) -> Result<(), NoAnswer> {
     }
     let mut header = Ipv6FragmentHeaderMut::new_unchecked(bytes);
     match call {
-        ["set_frag_offset", value] => header.set_frag_offset(read(value)?),
         ["clear_reserved"] => header.clear_reserved(),
-        ["set_more_frags", value] => header.set_more_frags(flag(value)),
         ["set_ident", value] => header.set_ident(read(value)?),
+        [name, value] => return fragment_number(name, read(value)?, &mut header),
+        _ => return Err(NoAnswer::Malformed),
+    }
+    Ok(())
+}
+
+fn fragment_number(
+    name: &str,
+    value: u16,
+    header: &mut Ipv6FragmentHeaderMut<'_>,
+) -> Result<(), NoAnswer>
+    requires { 6 ≤ length (fragment.header_bytes_mut header.old) }
+{
+    match name {
+        "set_frag_offset" => header.set_frag_offset(value),
+        "set_more_frags" => header.set_more_frags(value == 1),
         _ => return Err(NoAnswer::Malformed),
     }
     Ok(())
@@ -200,11 +289,22 @@ fn udp(call: &[&str], bytes: &mut [u8]) -> Result<(), NoAnswer> {
     }
     let mut packet = UdpPacketMut::new_unchecked(bytes);
     match call {
-        ["set_src_port", value] => packet.set_src_port(read(value)?),
-        ["set_dst_port", value] => packet.set_dst_port(read(value)?),
-        ["set_len", value] => packet.set_len(read(value)?),
-        ["set_checksum", value] => packet.set_checksum(read(value)?),
-        _ => return udp_checksum(call, &mut packet),
+        [name, word] => udp_number(name, read(word)?, &mut packet),
+        _ => udp_checksum(call, &mut packet),
+    }
+}
+
+fn udp_number(name: &str, value: u16, packet: &mut UdpPacketMut<'_>) -> Result<(), NoAnswer>
+    requires { 8 ≤ length (udp.packet_bytes_mut packet.old) }
+{
+    match name {
+        "set_src_port" => packet.set_src_port(value),
+        "set_dst_port" => packet.set_dst_port(value),
+        "set_len" => packet.set_len(value),
+        "set_checksum" => packet.set_checksum(value),
+        "update_src_port" => packet.update_src_port(value),
+        "update_dst_port" => packet.update_dst_port(value),
+        _ => return Err(NoAnswer::Malformed),
     }
     Ok(())
 }
@@ -214,16 +314,14 @@ fn udp_checksum(call: &[&str], packet: &mut UdpPacketMut<'_>) -> Result<(), NoAn
 {
     let is_whole = usize::from(packet.len()) <= packet.as_bytes().len();
     match call {
-        ["fill_checksum", src, dst] if is_whole => {
-            let (src, dst) = addresses(src, dst)?;
-            packet.fill_checksum(&src, &dst);
-        }
         ["update_checksum", old, new] => packet.update_checksum(read(old)?, read(new)?),
-        ["update_src_port", value] => packet.update_src_port(read(value)?),
-        ["update_dst_port", value] => packet.update_dst_port(read(value)?),
-        ["update_address", old, new] => {
-            let (old, new) = addresses(old, new)?;
-            packet.update_address(&old, &new);
+        [name, first, second] => {
+            let (first, second) = addresses(first, second)?;
+            match *name {
+                "fill_checksum" if is_whole => packet.fill_checksum(&first, &second),
+                "update_address" => packet.update_address(&first, &second),
+                _ => return Err(NoAnswer::Malformed),
+            }
         }
         _ => return Err(NoAnswer::Malformed),
     }
@@ -236,27 +334,49 @@ fn tcp(call: &[&str], bytes: &mut [u8]) -> Result<(), NoAnswer> {
     }
     let mut packet = TcpPacketMut::new_unchecked(bytes);
     match call {
-        ["set_src_port", value] => packet.set_src_port(read(value)?),
-        ["set_dst_port", value] => packet.set_dst_port(read(value)?),
-        ["set_seq_number", value] => packet.set_seq_number(seq_number_of(read(value)?)),
-        ["set_ack_number", value] => packet.set_ack_number(seq_number_of(read(value)?)),
-        _ => return tcp_end(call, &mut packet),
+        [name, word] => tcp_number(name, read(word)?, &mut packet),
+        _ => tcp_checksum(call, &mut packet),
+    }
+}
+
+fn tcp_number(name: &str, value: u32, packet: &mut TcpPacketMut<'_>) -> Result<(), NoAnswer>
+    requires { 20 ≤ length (tcp.packet_bytes_mut packet.old) }
+{
+    match name {
+        "set_seq_number" => packet.set_seq_number(seq_number_of(value)),
+        "set_ack_number" => packet.set_ack_number(seq_number_of(value)),
+        _ => return tcp_word(name, word(value)?, packet),
     }
     Ok(())
 }
 
-// The fields behind the two numbers.
-fn tcp_end(call: &[&str], packet: &mut TcpPacketMut<'_>) -> Result<(), NoAnswer>
+fn tcp_word(name: &str, value: u16, packet: &mut TcpPacketMut<'_>) -> Result<(), NoAnswer>
     requires { 20 ≤ length (tcp.packet_bytes_mut packet.old) }
 {
-    match call {
-        ["set_header_len", value] => packet.set_header_len(read(value)?),
-        ["clear_flags"] => packet.clear_flags(),
-        ["set_window_len", value] => packet.set_window_len(read(value)?),
-        ["set_checksum", value] => packet.set_checksum(read(value)?),
-        ["set_urgent_at", value] => packet.set_urgent_at(read(value)?),
-        _ => return tcp_checksum(call, packet),
+    match name {
+        "set_src_port" => packet.set_src_port(value),
+        "set_dst_port" => packet.set_dst_port(value),
+        "set_window_len" => packet.set_window_len(value),
+        "set_checksum" => packet.set_checksum(value),
+        "set_urgent_at" => packet.set_urgent_at(value),
+        "update_src_port" => packet.update_src_port(value),
+        "update_dst_port" => packet.update_dst_port(value),
+        "update_window_len" => packet.update_window_len(value),
+        "update_max_seg_size" => return tcp_segment_size(value, packet),
+        "set_header_len" => packet.set_header_len(octet(value)?),
+        _ => return tcp_flag(name, value == 1, packet),
     }
+    Ok(())
+}
+
+// The options have to be there.
+fn tcp_segment_size(value: u16, packet: &mut TcpPacketMut<'_>) -> Result<(), NoAnswer>
+    requires { 20 ≤ length (tcp.packet_bytes_mut packet.old) }
+{
+    if packet.check_len().is_err() {
+        return Err(NoAnswer::Malformed);
+    }
+    packet.update_max_seg_size(value);
     Ok(())
 }
 
@@ -264,15 +384,16 @@ fn tcp_checksum(call: &[&str], packet: &mut TcpPacketMut<'_>) -> Result<(), NoAn
     requires { 20 ≤ length (tcp.packet_bytes_mut packet.old) }
 {
     match call {
-        ["fill_checksum", src, dst] => {
-            let (src, dst) = addresses(src, dst)?;
-            packet.fill_checksum(&src, &dst);
-        }
+        ["clear_flags"] => packet.clear_flags(),
         ["update_checksum", old, new] => packet.update_checksum(read(old)?, read(new)?),
-        ["update_src_port", value] => packet.update_src_port(read(value)?),
-        ["update_dst_port", value] => packet.update_dst_port(read(value)?),
-        ["update_address", old, new] => packet.update_address(&read(old)?, &read(new)?),
-        [name, value] => return tcp_flag(name, flag(value), packet),
+        [name, first, second] => {
+            let (first, second) = addresses(first, second)?;
+            match *name {
+                "fill_checksum" => packet.fill_checksum(&first, &second),
+                "update_address" => packet.update_address(&first, &second),
+                _ => return Err(NoAnswer::Malformed),
+            }
+        }
         _ => return Err(NoAnswer::Malformed),
     }
     Ok(())
@@ -294,4 +415,14 @@ fn tcp_flag(name: &str, value: bool, packet: &mut TcpPacketMut<'_>) -> Result<()
         _ => return Err(NoAnswer::Malformed),
     }
     Ok(())
+}
+
+// A number of 16 bits.
+fn word(value: u32) -> Result<u16, NoAnswer> {
+    u16::try_from(value).map_err(|_| NoAnswer::Malformed)
+}
+
+// A number of 8 bits.
+fn octet(value: u16) -> Result<u8, NoAnswer> {
+    u8::try_from(value).map_err(|_| NoAnswer::Malformed)
 }
