@@ -1,14 +1,14 @@
 -- The packet that is computed is the one that the frame reads as.
-use Rattle.std.proofs.Common.{ℕ, ◌≡◌, ◌≢◌, ◌↔◌, ◌∙◌, Bool, true, false, List, Option, Some, None, drop, refl, sym, ap, subst, if◌then◌else◌}
-use Rattle.std.specs.Option.{option_and_then, option_map}
+use Rattle.std.proofs.Common.{ℕ, ◌≡◌, ◌≢◌, ◌↔◌, ◌∙◌, Bool, true, false, List, Some, None, drop, refl, sym, ap, subst, if◌then◌else◌}
+use Rattle.std.specs.Option.{option_map}
 use Rattle.ip_wire.proofs.Found.{gives-frame}
 use Rattle.ip_wire.proofs.Layers.{option_and_then-Some, option_map-Some}
-use Rattle.ip_wire.proofs.ReadsOnce.{computed-one, udp-computed}
+use Rattle.ip_wire.proofs.ReadsOnce.{udp-computed}
 use Rattle.ip_wire.proofs.Unread.{none_of}
-use Rattle.ip_wire.specs.Frame.{Carried, ReadsCarried, ReadsFrame, ReadsPacket, ReadsTransportBy, Transport, datagram, other, packet, packet_payload, segment, type_of}
+use Rattle.ip_wire.specs.Frame.{ReadsFrame, ReadsPacket, ReadsTransportBy, Transport, datagram, other, packet, segment, type_of}
 use Rattle.ip_wire.specs.FrameValue.{Parses, carried_of, transport_of}
 use Rattle.ip_wire.specs.Packet.{header_by, packet_behind, packet_of, transport_behind, transport_by}
-use Rattle.ip_wire.specs.Types.{EthernetProtocol, EthernetRepr, IpAddress, IpProtocol, IpRepr, Ipv4, Ipv4Repr, Ipv6, Ipv6Repr}
+use Rattle.ip_wire.specs.Types.{EthernetProtocol, EthernetRepr, IpAddress, IpProtocol, IpRepr, Ipv4, Ipv6}
 use Rattle.ip_wire.specs.declared.frame.Frame.{Frame}
 use Rattle.ip_wire.specs.declared.frame.carried.Carried.TheVariants as carried
 use Rattle.ip_wire.specs.declared.frame.carried.Carried as value

@@ -1,12 +1,12 @@
 -- Replies to frames, as values without borrows and as bytes.
 use Rattle.std.specs.Prelude.{ℕ, ◌≡◌, ◌<◌, ◌≤◌, ◌+◌, List, Option, Some, None, drop, length}
-use Rattle.ip_wire.specs.Ethernet as ethernet
+use Rattle.wire_ethernet.specs.Ethernet as ethernet
 use Rattle.ip_wire.specs.Frame.{Carried, IsReadWhole, Transport, datagram, message, other, packet, segment}
 use Rattle.ip_wire.specs.FrameValue.{Agrees, Fits, carried_of, frame_len, normal_carried_of}
-use Rattle.ip_wire.specs.Ip.{header_len_of}
-use Rattle.ip_wire.specs.TcpRepr as tcp
-use Rattle.ip_wire.specs.declared.EthernetRepr.{EthernetRepr}
-use Rattle.ip_wire.specs.declared.Frame.{Frame}
+use Rattle.wire_ip.specs.Ip.{header_len_of}
+use Rattle.wire_tcp.specs.TcpRepr as tcp
+use Rattle.ip_wire.specs.Types.{EthernetRepr}
+use Rattle.ip_wire.specs.declared.frame.Frame.{Frame}
 
 -- the frame has this header, and these contents
 abbrev pub HasValues : Frame → EthernetRepr → Carried → Type 0
@@ -32,6 +32,11 @@ IsSent f old new None = (length old < frame_len f) × (new ≡ old)
 IsSent f old new (Some len) =
     (len ≡ frame_len f) × (len ≤ length old) × (drop len new ≡ drop len old)
     × ((carried : Carried) × (carried_of f.carried ≡ Some carried) × IsReadWhole new f.header carried)
+
+-- the reply is sent; if there is none, the buffer is unchanged
+abbrev pub IsReplySent : Option Frame → List ℕ → List ℕ → Option ℕ → Type 0
+IsReplySent None old new result = (result ≡ None) × (new ≡ old)
+IsReplySent (Some f) old new result = IsSent f old new result
 
 -- the length of a transport packet
 abbrev pub transport_len : Transport → ℕ
