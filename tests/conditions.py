@@ -44,7 +44,8 @@ def conditions(module):
 def in_the_sources(top):
     """All conditions, as pairs of a call and a clause. A mutable view has the name of the reading view."""
     sources = Sources(top)
-    names = {path[-1] for library in ("ip_wire", "net_base") for path in sources.exports(library)}
+    exports = {path for library in ("ip_wire", "net_base") for path in sources.exports(library)}
+    names = {path[-1] for path in exports}
     crates = [crate for name, crate in sources.crates.items() if re.fullmatch(r"net_base|ip_wire|wire_\w+", name)]
     modules = [module for crate in crates for module in crate.modules.values()]
     views = {}
@@ -55,8 +56,11 @@ def in_the_sources(top):
     for module in modules:
         name = "laws" if "laws" in module.path else os.path.basename(module.file)[:-3]
         for owner, call, clause in conditions(module):
+            is_alone = not owner and (call,) in exports
             owner = views.get(owner, owner) or name
-            if owner in names or owner == "laws":
+            if is_alone:
+                yield call, shown(clause)
+            elif owner in names or owner == "laws":
                 yield owner + "::" + call, shown(clause)
 
 

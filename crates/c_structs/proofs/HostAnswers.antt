@@ -3,7 +3,7 @@ use Rattle.std.proofs.Common.{◌≡◌, ◌∙◌, inl, inr, ℕ, ℤ, pos, SFi
 use Rattle.std.proofs.lemmas.Int.{to_z-of_z}
 use Rattle.ip_host.specs.Host.{IsUnread, RepliesBytes}
 use Rattle.ip_host.specs.declared.host.Host.{Host}
-use Rattle.ip_replies.specs.Reply.{Gives, Sends}
+use Rattle.ip_wire.specs.Reply.{Gives, Sends}
 use Rattle.ip_wire.specs.Frame.{Carried}
 use Rattle.ip_wire.specs.declared.EthernetRepr.{EthernetRepr}
 use Rattle.ip_wire.specs.declared.Frame.{Frame}

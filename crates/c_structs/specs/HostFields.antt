@@ -3,7 +3,7 @@ use Rattle.std.specs.Prelude.{ℕ, ℤ, pos, ◌≡◌, ◌<◌, ◌⊎◌, List
 use Rattle.std.specs.Option.{option_and_then}
 use Rattle.ip_host.specs.Host.{RepliesBytes}
 use Rattle.ip_host.specs.declared.host.Host.{Host}
-use Rattle.ip_replies.specs.Reply.{IsWritten, reply_len}
+use Rattle.ip_wire.specs.Reply.{IsWritten, reply_len}
 use Rattle.ip_replies.specs.declared.tcp_reply.Offer.{Offer}
 use Rattle.ip_wire.specs.Frame.{Carried}
 use Rattle.ip_wire.specs.TcpRepr.{seq_of}

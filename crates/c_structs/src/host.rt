@@ -8,8 +8,8 @@ use crate::results::{FAILED, written};
 use crate::types::HostFields;
 use ip_host::{Host, reply};
 use ip_replies::tcp_reply::Offer;
-use ip_replies::{Interface, send};
-use ip_wire::{EthernetAddress, Frame, IpAddress, TcpSeqNumber};
+use ip_replies::Interface;
+use ip_wire::{EthernetAddress, Frame, IpAddress, TcpSeqNumber, send};
 use net_base::ChecksumCapabilities;
 
 impl<'a> HostFields<'a> {

@@ -7,7 +7,7 @@ use Rattle.ip_replies.proofs.ArpReplies as arp
 use Rattle.ip_replies.proofs.Echoes as echo
 use Rattle.ip_replies.proofs.TcpReplies as tcp
 use Rattle.ip_replies.specs.Arp.{ArpRepliesFrame}
-use Rattle.ip_replies.specs.Reply.{Gives, Sends}
+use Rattle.ip_wire.specs.Reply.{Gives, Sends}
 use Rattle.ip_replies.specs.TcpReply.{TcpRepliesFrame}
 use Rattle.ip_replies.specs.UdpEcho.{EchoesFrame}
 use Rattle.ip_wire.specs.Frame.{Carried}

@@ -2,12 +2,12 @@
 
 ghost use Rattle.std.specs.Prelude.{◌≡◌, IfSome, None};
 ghost use Rattle.ip_host.specs.Host.{Answers, IsUnread, RepliesBytes, RepliesFrame};
-ghost use Rattle.ip_replies.specs.Reply.{Gives, Sends};
+ghost use Rattle.ip_wire.specs.Reply.{Gives, Sends};
 ghost use Rattle.ip_wire.specs.FrameValue.{Fits};
 
 use ip_replies::tcp_reply::Offer;
-use ip_replies::{Interface, arp, send, tcp_answer, udp_echo};
-use ip_wire::Frame;
+use ip_replies::{Interface, arp, tcp_answer, udp_echo};
+use ip_wire::{Frame, send_reply};
 use net_base::ChecksumCapabilities;
 
 /// A host with one interface, and no connections.
@@ -44,10 +44,7 @@ pub fn answer(host: &Host<'_>, frame: &[u8], out: &mut [u8]) -> Option<usize>
     ensures answers { IfSome result (λ len. Answers host.now frame.now out.new) }
 {
     match Frame::parse(frame, &ChecksumCapabilities::default()) {
-        Ok(request) => match reply(host, &request) {
-            Some(reply) => send(&reply, out),
-            None => None,
-        },
+        Ok(request) => send_reply(&reply(host, &request), out),
         Err(_) => None,
     }
 }

@@ -7,7 +7,7 @@ use Rattle.ip_wire.specs.Types.{ArpRepr, EthernetAddress, EthernetRepr}
 use Rattle.ip_wire.specs.declared.Carried.TheVariants as carried
 use Rattle.ip_wire.specs.declared.Frame.{Frame}
 use Rattle.ip_replies.specs.Arp.{ArpRepliesFrame, IsArpReply}
-use Rattle.ip_replies.specs.Reply.{Gives, IsSendable}
+use Rattle.ip_wire.specs.Reply.{Gives, IsSendable}
 use Rattle.ip_replies.specs.declared.interface.Interface.{Interface}
 
 normal_reply : (ours : Interface) (m : ArpRepr) (asker : EthernetAddress) (reply : ArpRepr) → IsArpReply ours m asker reply → arp.normal reply ≡ reply

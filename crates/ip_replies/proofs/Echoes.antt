@@ -10,9 +10,9 @@ use Rattle.ip_wire.specs.Types.{EthernetRepr, IpRepr, Ipv4, Ipv6, UdpRepr}
 use Rattle.ip_wire.specs.declared.Frame.{Frame}
 use Rattle.ip_wire.specs.declared.IpProtocol.TheVariants as protocol
 use Rattle.ip_wire.specs.declared.Transport.TheVariants as transport
-use Rattle.ip_replies.proofs.Carries.{carries_udp}
+use Rattle.ip_wire.proofs.Carries.{carries_udp}
 use Rattle.ip_replies.specs.Interface.{IsForUs, header_back}
-use Rattle.ip_replies.specs.Reply.{Gives, IsSendable}
+use Rattle.ip_wire.specs.Reply.{Gives, IsSendable}
 use Rattle.ip_replies.specs.UdpEcho.{EchoesFrame}
 use Rattle.ip_replies.specs.declared.interface.Interface.{Interface}
 

@@ -5,7 +5,6 @@ use Rattle.ip_wire.proofs.Meanings.{frame-read}
 use Rattle.ip_wire.specs.Class.{ipv4_broadcast, ipv6_loopback, ipv6_unspecified}
 use Rattle.ip_wire.specs.Ethernet.{ethernet_of}
 use Rattle.ip_wire.specs.Frame.{Carried, datagram, message, packet, segment, type_of}
-use Rattle.ip_wire.specs.Hardware.{IsUnicast}
 use Rattle.ip_wire.specs.TcpRepr.{TcpHeader, no_ranges, seq_of}
 use Rattle.ip_wire.specs.Types.{ArpRepr, EthernetAddress, EthernetRepr, IpRepr, Ipv4, Ipv6, UdpRepr}
 use Rattle.ip_wire.specs.declared.ArpOperation.TheVariants.{Request, Reply}
@@ -19,7 +18,7 @@ use Rattle.ip_replies.proofs.SourceWorked.{ipv4-conflict, ours}
 use Rattle.ip_replies.proofs.TcpReplies.{reply_values}
 use Rattle.ip_replies.specs.Arp.{IsArpAnswer, IsArpReply}
 use Rattle.ip_replies.specs.Interface.{IsForUs}
-use Rattle.ip_replies.specs.Reply.{Gives, Sends, reply_len}
+use Rattle.ip_wire.specs.Reply.{Gives, Sends, reply_len}
 use Rattle.ip_replies.specs.Source.{IsAsker}
 use Rattle.ip_replies.specs.TcpReply.{IsTcpReply, Replies}
 use Rattle.ip_replies.specs.UdpEcho.{IsEcho}

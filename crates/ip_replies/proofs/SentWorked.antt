@@ -15,7 +15,7 @@ use Rattle.ip_wire.specs.declared.IpProtocol.TheVariants as protocol
 use Rattle.ip_wire.specs.declared.Transport.TheVariants as transport
 use Rattle.ip_replies.proofs.RepliesWorked.{link_back, ports, their_addr, them, told_link}
 use Rattle.ip_replies.proofs.SourceWorked.{ours}
-use Rattle.ip_replies.specs.Reply.{IsSendable, IsSent}
+use Rattle.ip_wire.specs.Reply.{IsSendable, IsSent}
 
 -- the reply to a question for our hardware address
 abbrev reply : Frame

@@ -15,9 +15,9 @@ use Rattle.ip_wire.specs.declared.TcpControl.TheVariants as control
 use Rattle.ip_wire.specs.declared.TcpRepr.{TcpRepr}
 use Rattle.ip_wire.specs.declared.TcpSeqNumber.{TcpSeqNumber}
 use Rattle.ip_wire.specs.declared.Transport.TheVariants as transport
-use Rattle.ip_replies.proofs.Carries.{carries_tcp}
+use Rattle.ip_wire.proofs.Carries.{carries_tcp}
 use Rattle.ip_replies.specs.Interface.{IsForUs, header_back}
-use Rattle.ip_replies.specs.Reply.{Gives, IsSendable}
+use Rattle.ip_wire.specs.Reply.{Gives, IsSendable}
 use Rattle.ip_replies.specs.TcpReply.{Replies, TcpRepliesFrame, back, closed_by, listen_by, reset_by, reset_for, syn_ack}
 use Rattle.ip_replies.specs.declared.interface.Interface.{Interface}
 use Rattle.ip_replies.specs.declared.tcp_reply.Offer.{Offer}

@@ -1,6 +1,5 @@
 pub mod Arp
 pub mod Interface
-pub mod Reply
 pub mod Source
 pub mod TcpReply
 pub mod UdpEcho

@@ -2,12 +2,11 @@
 
 ghost use Rattle.std.specs.Prelude.{◌≡◌, ◌↔◌, Some};
 ghost use Rattle.ip_replies.specs.Arp.{ArpRepliesBytes, ArpRepliesFrame, IsArpReply};
-ghost use Rattle.ip_replies.specs.Reply.{Gives, Sends};
+ghost use Rattle.ip_wire.specs.Reply.{Gives, Sends};
 ghost use Rattle.ip_wire.specs.declared.ArpRepr.{ArpRepr};
 
-use crate::emit::send;
 use crate::interface::Interface;
-use ip_wire::{ArpOperation, ArpRepr, Carried, EthernetAddress, Frame};
+use ip_wire::{ArpOperation, ArpRepr, Carried, EthernetAddress, Frame, send_reply};
 use net_base::ChecksumCapabilities;
 
 /// The reply to a request for the IPv4 address, sent to the station that asks. `None` for any other frame,
@@ -56,10 +55,7 @@ pub fn answer(bytes: &[u8], ours: &Interface, out: &mut [u8]) -> Option<usize>
     ensures { Sends (ArpRepliesBytes ours.now bytes.now) out.old out.new result }
 {
     match Frame::parse(bytes, &ChecksumCapabilities::default()) {
-        Ok(request) => match reply(&request, ours) {
-            Some(reply) => send(&reply, out),
-            None => None,
-        },
+        Ok(request) => send_reply(&reply(&request, ours), out),
         Err(_) => None,
     }
 }

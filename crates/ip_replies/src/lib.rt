@@ -3,11 +3,9 @@
 #![tactic(auto)]
 
 pub mod arp;
-mod emit;
 mod interface;
 pub mod tcp_answer;
 pub mod tcp_reply;
 pub mod udp_echo;
 
-pub use emit::send;
 pub use interface::{HOP_LIMIT, Interface};

@@ -1,13 +1,12 @@
 //! The replies of TCP to a segment without a connection, as frames.
 
-ghost use Rattle.ip_replies.specs.Reply.{Gives, Sends};
+ghost use Rattle.ip_wire.specs.Reply.{Gives, Sends};
 ghost use Rattle.ip_replies.specs.TcpReply.{TcpRepliesBytes, TcpRepliesFrame};
 ghost use Rattle.ip_wire.specs.FrameValue.{Fits};
 
-use crate::emit::send;
 use crate::interface::{Interface, header_back};
 use crate::tcp_reply::{Offer, reply_to};
-use ip_wire::{Carried, Frame, Transport};
+use ip_wire::{Carried, Frame, Transport, send_reply};
 use net_base::ChecksumCapabilities;
 
 /// The reply to a TCP segment for this interface, if these ports are open: SYN and ACK, or RST. `None`
@@ -56,10 +55,7 @@ pub fn answer(
     ensures { Sends (TcpRepliesBytes ours.now ports.now offer.now bytes.now) out.old out.new result }
 {
     match Frame::parse(bytes, &ChecksumCapabilities::default()) {
-        Ok(request) => match reply(&request, ours, ports, offer) {
-            Some(reply) => send(&reply, out),
-            None => None,
-        },
+        Ok(request) => send_reply(&reply(&request, ours, ports, offer), out),
         Err(_) => None,
     }
 }

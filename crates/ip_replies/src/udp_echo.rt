@@ -1,11 +1,10 @@
 //! The echo service of UDP (RFC 862): the payload of a packet returns to its sender.
 
-ghost use Rattle.ip_replies.specs.Reply.{Gives, Sends};
+ghost use Rattle.ip_wire.specs.Reply.{Gives, Sends};
 ghost use Rattle.ip_replies.specs.UdpEcho.{EchoesBytes, EchoesFrame};
 
-use crate::emit::send;
 use crate::interface::{Interface, header_back};
-use ip_wire::{Carried, Frame, Transport, UdpRepr};
+use ip_wire::{Carried, Frame, Transport, UdpRepr, send_reply};
 use net_base::ChecksumCapabilities;
 
 /// The reply to a UDP packet for this port: the same payload, with addresses and ports exchanged. `None`
@@ -42,10 +41,7 @@ pub fn answer(bytes: &[u8], ours: &Interface, port: u16, out: &mut [u8]) -> Opti
     ensures { Sends (EchoesBytes ours.now port bytes.now) out.old out.new result }
 {
     match Frame::parse(bytes, &ChecksumCapabilities::default()) {
-        Ok(request) => match echo(&request, ours, port) {
-            Some(reply) => send(&reply, out),
-            None => None,
-        },
+        Ok(request) => send_reply(&echo(&request, ours, port), out),
         Err(_) => None,
     }
 }

@@ -11,10 +11,12 @@ ghost use Rattle.wire_ethernet.specs.declared.EthernetRepr.{EthernetRepr};
 mod build;
 mod carried;
 mod packet;
+mod reply;
 mod transport;
 
 pub use carried::Carried;
 use net_base::{ChecksumCapabilities, Error, Result};
+pub use reply::{send, send_reply};
 use std::fmt;
 pub use transport::Transport;
 use wire_ethernet::{ETHERNET_HEADER_LEN, EthernetFrame, EthernetFrameMut, EthernetRepr};

@@ -1,8 +1,8 @@
 use Rattle.std.proofs.Common.{◌≡◌, SFits, w64, rules}
 use Rattle.ip_host.proofs.HostReplies.{one_answer}
 use Rattle.ip_host.specs.Host.{IsReply, RepliesBytes, RepliesFrame}
-use Rattle.ip_replies.proofs.Parsed.{IsParsed, to_bytes, to_frame, unread}
-use Rattle.ip_replies.proofs.Sent.{sends}
+use Rattle.ip_wire.proofs.Parsed.{IsParsed, to_bytes, to_frame, unread}
+use Rattle.ip_wire.proofs.Sent.{sends}
 use Rattle.ip_wire.specs.Frame.{all_checked}
 use Rattle.c_structs.proofs.HostAnswers.{replied, silent, unanswered}
 use Rattle.c_structs.proofs.host.answer.Goals as goal

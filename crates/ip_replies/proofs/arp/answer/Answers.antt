@@ -1,29 +1,20 @@
-use Rattle.std.proofs.Common.{◌≡◌, refl, rules}
+use Rattle.std.proofs.Common.{◌≡◌, rules}
 use Rattle.ip_replies.proofs.ArpReplies.{one_answer}
-use Rattle.ip_replies.proofs.Parsed.{IsParsed, to_bytes, to_frame, unread}
-use Rattle.ip_replies.proofs.Sent.{sends, silent}
-use Rattle.ip_replies.specs.Arp.{ArpRepliesBytes, ArpRepliesFrame, IsArpAnswer}
+use Rattle.ip_replies.specs.Arp.{ArpRepliesFrame, IsArpAnswer}
+use Rattle.ip_wire.proofs.Sent.{answered, sendable, unanswered}
 use Rattle.ip_wire.specs.Frame.{all_checked}
 use Rattle.ip_replies.proofs.arp.answer.Goals as goal
 
-pub returns-in-Some : goal.returns-in-Some
-returns-in-Some c =
-    let bytes = c.args.bytes.now in
-    let request = c.in-Ok.request in
-    let caps : c.default.result ≡ all_checked = search rules in
-    let parsed : IsParsed request bytes = rw caps at c.in-Ok.ensures.reads in
-    sends (ArpRepliesFrame c.args.ours.now request) (ArpRepliesBytes c.args.ours.now bytes) c.in-Some.reply c.args.out.now c.send.new.out c.send.result c.in-Some.ensures c.send.ensures
-    (to_bytes (λ asked_header. IsArpAnswer c.args.ours.now) request bytes parsed) (to_frame (λ asked_header. IsArpAnswer c.args.ours.now) request bytes parsed) (one_answer c.args.ours.now request)
+pub send_reply-requires : goal.send_reply-requires
+send_reply-requires c = sendable (ArpRepliesFrame c.args.ours.now c.in-Ok.request) c.reply.result c.reply.ensures
 
-pub returns-in-None : goal.returns-in-None
-returns-in-None c =
-    let bytes = c.args.bytes.now in
-    let request = c.in-Ok.request in
+pub returns-in-Ok : goal.returns-in-Ok
+returns-in-Ok c =
     let caps : c.default.result ≡ all_checked = search rules in
-    let parsed : IsParsed request bytes = rw caps at c.in-Ok.ensures.reads in
-    silent (ArpRepliesFrame c.args.ours.now request) (ArpRepliesBytes c.args.ours.now bytes) c.args.out.now c.in-None.ensures (to_frame (λ asked_header. IsArpAnswer c.args.ours.now) request bytes parsed)
+    answered (λ asked_header. IsArpAnswer c.args.ours.now) c.in-Ok.request c.args.bytes.now c.reply.result c.args.out.now c.send_reply.new.out c.send_reply.result
+    (rw caps at c.in-Ok.ensures.reads) c.reply.ensures c.send_reply.ensures (one_answer c.args.ours.now c.in-Ok.request)
 
 pub returns-in-Err : goal.returns-in-Err
 returns-in-Err c =
     let caps : c.default.result ≡ all_checked = search rules in
-    (refl, λ header carried q. absurd (unread (λ asked_header. IsArpAnswer c.args.ours.now) c.args.bytes.now (rw caps at c.in-Err.ensures.reads) header carried q))
+    unanswered (λ asked_header. IsArpAnswer c.args.ours.now) c.args.bytes.now c.args.out.now (rw caps at c.in-Err.ensures.reads)

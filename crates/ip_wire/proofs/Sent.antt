@@ -1,17 +1,19 @@
 -- An emitted frame is a reply.
-use Rattle.std.proofs.Common.{ℕ, ◌≡◌, ◌∙◌, ◌+◌, ◌≤◌, ◌++◌, List, Option, Some, None, drop, length, refl, sym, ap, subst, arith, length-append, length-drop}
+use Rattle.std.proofs.Common.{ℕ, ◌≡◌, ◌↔◌, ◌∙◌, ◌+◌, ◌≤◌, ◌++◌, List, Option, Some, None, drop, length, refl, sym, ap, subst, arith, length-append, length-drop}
+use Rattle.std.specs.Prelude.{IfSome}
 use Rattle.std.proofs.Math.Seq.{drop-append_seam}
+use Rattle.ip_wire.proofs.Parsed.{IsParsed, ToBytes, ToFrame, to_bytes, to_frame, unread}
 use Rattle.ip_wire.specs.Frame as frame
-use Rattle.ip_wire.specs.Ethernet as ethernet
+use Rattle.wire_ethernet.specs.Ethernet as ethernet
 use Rattle.ip_wire.specs.Frame.{IsReadWhole, all_checked}
 use Rattle.ip_wire.specs.FrameValue.{ReadsNormalOf, carried_len, carried_of, frame_len}
-use Rattle.ip_wire.specs.TcpRepr.{header_of}
-use Rattle.ip_wire.specs.declared.Carried.{Carried}
-use Rattle.ip_wire.specs.declared.Carried.TheVariants as carried
-use Rattle.ip_wire.specs.declared.EthernetRepr.{EthernetRepr}
-use Rattle.ip_wire.specs.declared.Frame.{Frame}
-use Rattle.ip_wire.specs.declared.Transport.TheVariants as transport
-use Rattle.ip_replies.specs.Reply.{Gives, IsSendable, IsSent, Sends, reply_len}
+use Rattle.wire_tcp.specs.TcpRepr.{header_of}
+use Rattle.ip_wire.specs.declared.frame.carried.Carried.{Carried}
+use Rattle.ip_wire.specs.declared.frame.carried.Carried.TheVariants as carried
+use Rattle.wire_ethernet.specs.declared.EthernetRepr.{EthernetRepr}
+use Rattle.ip_wire.specs.declared.frame.Frame.{Frame}
+use Rattle.ip_wire.specs.declared.frame.transport.Transport.TheVariants as transport
+use Rattle.ip_wire.specs.Reply.{Gives, IsReplySent, IsSendable, IsSent, Sends, reply_len}
 
 -- the bytes behind the emitted frame
 pub rest_stays : (bytes old new : List ℕ) (n : ℕ) → new ≡ bytes ++ drop n old → length new ≡ length old → n ≤ length old → drop n new ≡ drop n old
@@ -68,3 +70,25 @@ sends P Q f old new (Some n) (sendable, (h, c, values, p)) (len, fits, rest, (d,
 -- if there is no reply, nothing is sent
 pub silent : (P Q : EthernetRepr → frame.Carried → Type 0) (old : List ℕ) → Gives P None → ((h : EthernetRepr) (c : frame.Carried) → Q h c → P h c) → Sends Q old old None
 silent P Q old none from = (refl, λ h c q. absurd (none h c (from h c q)))
+
+-- ---- the answer to bytes: parse, reply, send
+
+-- each reply can be sent
+pub sendable : (P : EthernetRepr → frame.Carried → Type 0) (reply : Option Frame) → Gives P reply → IfSome reply IsSendable
+sendable P None none = tt
+sendable P (Some f) gives = gives.0
+
+-- the reply to the parsed frame is sent
+pub answered : (R : EthernetRepr → frame.Carried → EthernetRepr → frame.Carried → Type 0) (request : Frame) (bytes : List ℕ) (reply : Option Frame)
+    (old new : List ℕ) (result : Option ℕ) → IsParsed request bytes → Gives (ToFrame R request) reply → IsReplySent reply old new result
+    → ((h k : EthernetRepr) (c d : frame.Carried) → ToFrame R request h c → ToFrame R request k d → c ≡ d) → Sends (ToBytes R bytes) old new result
+answered R request bytes None old new result parsed none (is, stays) unique =
+    subst (λ r. Sends (ToBytes R bytes) old new r) (sym is)
+    (subst (λ l. Sends (ToBytes R bytes) old l None) (sym stays) (silent (ToFrame R request) (ToBytes R bytes) old none (to_frame R request bytes parsed)))
+answered R request bytes (Some f) old new result parsed gives sent unique =
+    sends (ToFrame R request) (ToBytes R bytes) f old new result gives sent (to_bytes R request bytes parsed) (to_frame R request bytes parsed) unique
+
+-- bytes that do not parse get no answer
+pub unanswered : (R : EthernetRepr → frame.Carried → EthernetRepr → frame.Carried → Type 0) (bytes old : List ℕ)
+    → ((v : EthernetRepr) (c : frame.Carried) → ⊥ ↔ IsReadWhole bytes v c) → Sends (ToBytes R bytes) old old None
+unanswered R bytes old none = (refl, λ h c q. absurd (unread R bytes none h c q))

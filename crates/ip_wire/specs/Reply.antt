@@ -1,12 +1,10 @@
 -- Replies to frames, as values without borrows and as bytes.
 use Rattle.std.specs.Prelude.{ℕ, ◌≡◌, ◌<◌, ◌≤◌, ◌+◌, List, Option, Some, None, drop, length}
-use Rattle.ip_wire.specs.Ethernet as ethernet
-use Rattle.ip_wire.specs.Frame.{Carried, IsReadWhole, Transport, datagram, message, other, packet, segment}
+use Rattle.wire_ethernet.specs.Ethernet as ethernet
+use Rattle.ip_wire.specs.Frame.{Carried, IsReadWhole, describe_carried}
 use Rattle.ip_wire.specs.FrameValue.{Agrees, Fits, carried_of, frame_len, normal_carried_of}
-use Rattle.ip_wire.specs.Ip.{header_len_of}
-use Rattle.ip_wire.specs.TcpRepr as tcp
-use Rattle.ip_wire.specs.declared.EthernetRepr.{EthernetRepr}
-use Rattle.ip_wire.specs.declared.Frame.{Frame}
+use Rattle.ip_wire.specs.Types.{EthernetRepr}
+use Rattle.ip_wire.specs.declared.frame.Frame.{Frame}
 
 -- the frame has this header, and these contents
 abbrev pub HasValues : Frame → EthernetRepr → Carried → Type 0
@@ -33,16 +31,14 @@ IsSent f old new (Some len) =
     (len ≡ frame_len f) × (len ≤ length old) × (drop len new ≡ drop len old)
     × ((carried : Carried) × (carried_of f.carried ≡ Some carried) × IsReadWhole new f.header carried)
 
--- the length of a transport packet
-abbrev pub transport_len : Transport → ℕ
-transport_len (datagram v payload) = 8 + length payload
-transport_len (segment v payload) = tcp.header_len_of v + length payload
-transport_len (other payload) = length payload
+-- the reply is sent; if there is none, the buffer is unchanged
+abbrev pub IsReplySent : Option Frame → List ℕ → List ℕ → Option ℕ → Type 0
+IsReplySent None old new result = (result ≡ None) × (new ≡ old)
+IsReplySent (Some f) old new result = IsSent f old new result
 
--- the length of a frame with this header and these contents
+-- the length of a frame with these contents
 abbrev pub reply_len : Carried → ℕ
-reply_len (message v) = 14 + 28
-reply_len (packet v transport) = 14 + (header_len_of v + transport_len transport)
+reply_len carried = 14 + (describe_carried carried).len
 
 -- a reply is at the front of the buffer and parses there, and the other bytes are unchanged
 pub record IsWritten (IsReply : EthernetRepr → Carried → Type 0) (old new : List ℕ) (len : ℕ) : Type 0 where

@@ -2,8 +2,8 @@
 use Rattle.std.proofs.Common.{ℕ, ◌≡◌, ◌↔◌, List, Some, refl, sym, subst}
 use Rattle.ip_wire.specs.Frame.{Carried, IsReadWhole}
 use Rattle.ip_wire.specs.FrameValue.{carried_of}
-use Rattle.ip_wire.specs.declared.EthernetRepr.{EthernetRepr}
-use Rattle.ip_wire.specs.declared.Frame.{Frame}
+use Rattle.wire_ethernet.specs.declared.EthernetRepr.{EthernetRepr}
+use Rattle.ip_wire.specs.declared.frame.Frame.{Frame}
 
 -- a reply, by the values of the frame and by the values that the bytes parse as
 abbrev pub ToFrame : (EthernetRepr → Carried → EthernetRepr → Carried → Type 0) → Frame → EthernetRepr → Carried → Type 0

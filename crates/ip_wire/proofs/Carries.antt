@@ -3,12 +3,12 @@ use Rattle.std.proofs.Common.{ℕ, ◌≡◌, List, Some}
 use Rattle.std.specs.Borrow.{Bor}
 use Rattle.ip_wire.specs.Frame as frame
 use Rattle.ip_wire.specs.FrameValue.{carried_of}
-use Rattle.ip_wire.specs.TcpRepr.{TcpHeader, header_of}
-use Rattle.ip_wire.specs.declared.Carried.{Carried}
-use Rattle.ip_wire.specs.declared.Carried.TheVariants as carried
+use Rattle.wire_tcp.specs.TcpRepr.{TcpHeader, header_of}
+use Rattle.ip_wire.specs.declared.frame.carried.Carried.{Carried}
+use Rattle.ip_wire.specs.declared.frame.carried.Carried.TheVariants as carried
 use Rattle.ip_wire.specs.Types.{IpRepr, UdpRepr}
-use Rattle.ip_wire.specs.declared.TcpRepr.{TcpRepr}
-use Rattle.ip_wire.specs.declared.Transport.TheVariants as transport
+use Rattle.wire_tcp.specs.declared.TcpRepr.{TcpRepr}
+use Rattle.ip_wire.specs.declared.frame.transport.Transport.TheVariants as transport
 
 -- a frame with the values of a UDP packet carries a UDP packet
 pub carries_udp : (c : Carried) (ip : IpRepr) (udp : UdpRepr) (octets : List ℕ) → carried_of c ≡ Some (frame.packet ip (frame.datagram udp octets))
