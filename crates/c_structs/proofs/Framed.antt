@@ -16,7 +16,7 @@ use Rattle.ip_wire.specs.Types.{IpAddress, IpRepr, Ipv4, Ipv4Repr, Ipv6, Ipv6Rep
 use Rattle.ip_wire.specs.declared.IpAddress.TheVariants as address
 use Rattle.ip_wire.specs.declared.IpProtocol.TheVariants as protocol
 use Rattle.c_structs.specs.Addresses.{pair_of}
-use Rattle.c_structs.specs.Frames.{carrier, framed, headers_bytes, is_whole, part, tcp_frame, udp_frame}
+use Rattle.c_structs.specs.Frames.{ip_header, framed, headers_bytes, is_whole, part, tcp_frame, udp_frame}
 use Rattle.c_structs.specs.Headers.{ip_between, ip_value, is_expressible, only_if, ports_of, segment_bytes, segment_header_len, segment_with_flags, tcp_bytes, tcp_value, udp_bytes}
 use Rattle.c_structs.specs.Written.{Fills}
 use Rattle.c_structs.specs.declared.types.FrameFields.{FrameFields}
@@ -57,13 +57,13 @@ addressed h number len (Some (address.Ipv6 a, address.Ipv6 b)) v e =
 addressed h number len (Some (address.Ipv4 a, address.Ipv6 b)) v e = absurd (none-some v e)
 addressed h number len (Some (address.Ipv6 a, address.Ipv4 b)) v e = absurd (none-some v e)
 
-pub carrier-value : (f : FrameFields) (number len : ℕ) (v : IpRepr) → carrier f number len ≡ Some v
+pub ip_header-value : (f : FrameFields) (number len : ℕ) (v : IpRepr) → ip_header f number len ≡ Some v
     → (is_expressible f.ip v ≡ true) × (pair_of f.src.addr f.dst.addr ≡ Some (src_addr_of v, dst_addr_of v))
-carrier-value f number len v e =
+ip_header-value f number len v e =
     addressed f.ip number len (pair_of f.src.addr f.dst.addr) v (filtered (is_whole f.ip) (ip_value f.ip number f.src.addr f.dst.addr len) v e)
 
 -- the frame of a packet, where it is written
-pub framed-packet : (f : FrameFields) (number : ℕ) (packet : List ℕ) (v : IpRepr) → carrier f number (length packet) ≡ Some v
+pub framed-packet : (f : FrameFields) (number : ℕ) (packet : List ℕ) (v : IpRepr) → ip_header f number (length packet) ≡ Some v
     → framed f number packet ≡ Some (headers_bytes f v ++ packet)
 framed-packet f number packet v e = ap (λ o. option_map (λ v. headers_bytes f v ++ packet) o) e
 
@@ -80,17 +80,17 @@ length-udp : (v : UdpRepr) (payload : List ℕ) (src dst : IpAddress) → length
 length-udp v payload src dst = simp length-append (omega arith)
 
 -- the frame of a UDP packet is its headers and the packet
-pub udp-framed : (f : FrameFields) (payload : List ℕ) (v : IpRepr) → length payload ≤ 65527 → carrier f 17 (8 + length payload) ≡ Some v
+pub udp-framed : (f : FrameFields) (payload : List ℕ) (v : IpRepr) → length payload ≤ 65527 → ip_header f 17 (8 + length payload) ≡ Some v
     → udp_frame f payload ≡ Some (headers_bytes f v ++ udp.bytes_of (ports_of f.src f.dst) payload (src_addr_of v) (dst_addr_of v) true)
 udp-framed f payload v fits e =
     let bytes = udp.bytes_of (ports_of f.src f.dst) payload (src_addr_of v) (dst_addr_of v) true in
-    let pair = (carrier-value f 17 (8 + length payload) v e).1 in
+    let pair = (ip_header-value f 17 (8 + length payload) v e).1 in
     let small : nat_le (length payload) 65527 ≡ true = grind (arith, nat_tests, fits) in
     let packet : udp_bytes f.src f.dst payload true ≡ Some bytes =
     ap (λ o. option_and_then (λ pair. only_if (nat_le (length payload) 65527) (udp.bytes_of (ports_of f.src f.dst) payload pair.0 pair.1 true)) o) pair
     ∙ ap (λ b. only_if b bytes) small in
     let size = length-udp (ports_of f.src f.dst) payload (src_addr_of v) (dst_addr_of v) in
-    ap (λ o. option_and_then (framed f 17) o) packet ∙ framed-packet f 17 bytes v (ap (carrier f 17) size ∙ e)
+    ap (λ o. option_and_then (framed f 17) o) packet ∙ framed-packet f 17 bytes v (ap (ip_header f 17) size ∙ e)
 
 -- ---- TCP
 
@@ -143,19 +143,19 @@ tcp-segment h o src dst payload computed u a b pair len is =
 -- the frame of a TCP segment is its headers and the segment
 pub tcp-framed : (f : FrameFields) (o : TcpOptions) (payload : List ℕ) (u : TcpHeader) (v : IpRepr)
     → segment_header_len f.tcp o (length payload) ≡ Some (header_len_of u) → u ≡ tcp_value f.tcp o f.src.port f.dst.port
-    → carrier f 6 (header_len_of u + length payload) ≡ Some v
+    → ip_header f 6 (header_len_of u + length payload) ≡ Some v
     → tcp_frame f o payload ≡ Some (headers_bytes f v ++ segment_bytes f.tcp u payload (src_addr_of v) (dst_addr_of v) true)
 tcp-framed f o payload u v len is e =
-    let pair = (carrier-value f 6 (header_len_of u + length payload) v e).1 in
+    let pair = (ip_header-value f 6 (header_len_of u + length payload) v e).1 in
     let packet = tcp-segment f.tcp o f.src f.dst payload true u (src_addr_of v) (dst_addr_of v) pair len is in
     let size = length-segment f.tcp u payload (src_addr_of v) (dst_addr_of v) true in
     ap (λ q. option_and_then (framed f 6) q) packet
-    ∙ framed-packet f 6 (segment_bytes f.tcp u payload (src_addr_of v) (dst_addr_of v) true) v (ap (carrier f 6) size ∙ e)
+    ∙ framed-packet f 6 (segment_bytes f.tcp u payload (src_addr_of v) (dst_addr_of v) true) v (ap (ip_header f 6) size ∙ e)
 
 -- no IP header can carry it
 pub tcp-unframed : (f : FrameFields) (o : TcpOptions) (payload : List ℕ) (u : TcpHeader) (pair : Option (IpAddress × IpAddress))
     → segment_header_len f.tcp o (length payload) ≡ Some (header_len_of u) → u ≡ tcp_value f.tcp o f.src.port f.dst.port
-    → carrier f 6 (header_len_of u + length payload) ≡ None
+    → ip_header f 6 (header_len_of u + length payload) ≡ None
     → option_and_then (framed f 6) (option_and_then (λ p. option_map (λ len. segment_bytes f.tcp (tcp_value f.tcp o f.src.port f.dst.port) payload p.0 p.1 true)
     (segment_header_len f.tcp o (length payload))) pair) ≡ None
 tcp-unframed f o payload u None len is e = refl
@@ -165,7 +165,7 @@ tcp-unframed f o payload u (Some (a, b)) len is e =
     let size : length bytes ≡ header_len_of u + length payload =
     length-segment f.tcp w payload a b true ∙ ap (λ (w : TcpHeader). header_len_of w + length payload) (sym is) in
     ap (λ (q : Option ℕ). option_and_then (framed f 6) (option_map (λ len. bytes) q)) len
-    ∙ ap (λ (q : Option IpRepr). option_map (λ v. headers_bytes f v ++ bytes) q) (ap (carrier f 6) size ∙ e)
+    ∙ ap (λ (q : Option IpRepr). option_map (λ v. headers_bytes f v ++ bytes) q) (ap (ip_header f 6) size ∙ e)
 
 -- ---- around a payload in place
 

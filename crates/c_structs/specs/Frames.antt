@@ -21,8 +21,8 @@ abbrev pub is_whole : Ip → Bool
 is_whole h = (h.fragment_offset == 0) && (h.more_fragments == 0)
 
 -- the values of the IP header before a packet of this protocol and length
-abbrev pub carrier : FrameFields → ℕ → ℕ → Option IpRepr
-carrier f number len = option_and_then (λ v. only_if (is_whole f.ip) v) (ip_value f.ip number f.src.addr f.dst.addr len)
+abbrev pub ip_header : FrameFields → ℕ → ℕ → Option IpRepr
+ip_header f number len = option_and_then (λ v. only_if (is_whole f.ip) v) (ip_value f.ip number f.src.addr f.dst.addr len)
 
 -- the Ethernet header and the IP header
 abbrev pub headers_bytes : FrameFields → IpRepr → List ℕ
@@ -30,7 +30,7 @@ headers_bytes f v = link_bytes f.ethernet (type_number v) ++ header_bytes f.ip t
 
 -- the frame of a packet of this protocol
 abbrev pub framed : FrameFields → ℕ → List ℕ → Option (List ℕ)
-framed f number packet = option_map (λ v. headers_bytes f v ++ packet) (carrier f number (length packet))
+framed f number packet = option_map (λ v. headers_bytes f v ++ packet) (ip_header f number (length packet))
 
 -- a frame with a UDP packet
 abbrev pub udp_frame : FrameFields → List ℕ → Option (List ℕ)
@@ -53,13 +53,13 @@ part bytes first len = only_if (nat_le (first + len) (length bytes)) (slice_rang
 -- a frame with a UDP packet around the payload in these bytes, which stands behind the headers
 abbrev pub udp_frame_around : FrameFields → ℕ → List ℕ → Option (List ℕ)
 udp_frame_around f len bytes =
-    option_and_then (λ v. option_and_then (udp_frame f) (part bytes (14 + header_len_of v + 8) len)) (carrier f 17 (8 + len))
+    option_and_then (λ v. option_and_then (udp_frame f) (part bytes (14 + header_len_of v + 8) len)) (ip_header f 17 (8 + len))
 
 -- a frame with a TCP segment around the payload in these bytes, which stands behind the headers
 abbrev pub tcp_frame_around : FrameFields → TcpOptions → ℕ → List ℕ → Option (List ℕ)
 tcp_frame_around f o len bytes =
     option_and_then (λ size. option_and_then (λ v. option_and_then (tcp_frame f o) (part bytes (14 + header_len_of v + size) len))
-    (carrier f 6 (size + len)))
+    (ip_header f 6 (size + len)))
     (segment_header_len f.tcp o len)
 
 -- ---- replies

@@ -4,7 +4,7 @@ ghost use Rattle.std.specs.Prelude.{◌≡◌, ◌≤◌, ◌+◌, ◌++◌, [],
 ghost use Rattle.ip_wire.specs.Ip.{dst_addr_of, header_len_of, max_payload_len, payload_len_of, src_addr_of};
 ghost use Rattle.ip_wire.specs.TcpRepr as tcp;
 ghost use Rattle.ip_wire.specs.Udp as udp;
-ghost use Rattle.c_structs.specs.Frames.{arp_frame, back_arp, back_link, carrier, headers_bytes, reply_to, tcp_frame, tcp_frame_around, type_number, udp_frame, udp_frame_around};
+ghost use Rattle.c_structs.specs.Frames.{arp_frame, back_arp, back_link, ip_header, headers_bytes, reply_to, tcp_frame, tcp_frame_around, type_number, udp_frame, udp_frame_around};
 ghost use Rattle.c_structs.specs.Headers.{is_expressible, link_bytes, link_of, ports_of, segment_bytes, tcp_value};
 ghost use Rattle.c_structs.specs.Written.{Fills};
 
@@ -102,9 +102,9 @@ impl FrameFields {
     // The values of the IP header before a packet of this protocol, with a source of this version.
     // `None` if it cannot be written or says that the packet is a fragment.
     #[inline(always)]
-    fn carrier(&self, version: u16, protocol: u8, len: usize) -> Option<IpRepr>
+    fn ip_header(&self, version: u16, protocol: u8, len: usize) -> Option<IpRepr>
         requires { version ≡ self.now.src.addr.version }
-        ensures value { result ≡ carrier self.now protocol len }
+        ensures value { result ≡ ip_header self.now protocol len }
         ensures len { IfSome result (λ v. length (headers_bytes self.now v) ≡ 14 + header_len_of v) }
     {
         let value = self
@@ -116,84 +116,90 @@ impl FrameFields {
 
     // The length of the Ethernet header and this IP header, in octets.
     #[inline(always)]
-    fn headers_len(&self, carrier: &IpRepr) -> usize
-        ensures { result ≡ 14 + header_len_of carrier.now }
+    fn headers_len(&self, ip_header: &IpRepr) -> usize
+        ensures { result ≡ 14 + header_len_of ip_header.now }
     {
-        ETHERNET_HEADER_LEN + carrier.header_len()
+        ETHERNET_HEADER_LEN + ip_header.header_len()
     }
 
     // Writes the Ethernet header and the IP header to the front of `out`.
     #[inline(always)]
-    fn emit_headers(&self, carrier: &IpRepr, out: &mut [u8])
-        requires expressible { is_expressible self.now.ip carrier.now ≡ true }
-        requires room { length out.old ≡ 14 + header_len_of carrier.now }
-        ensures { out.new ≡ headers_bytes self.now carrier.now }
+    fn emit_headers(&self, ip_header: &IpRepr, out: &mut [u8])
+        requires expressible { is_expressible self.now.ip ip_header.now ≡ true }
+        requires room { length out.old ≡ 14 + header_len_of ip_header.now }
+        ensures { out.new ≡ headers_bytes self.now ip_header.now }
     {
         let (link, rest) = out.split_at_mut(ETHERNET_HEADER_LEN);
-        self.ethernet.emit(type_number(carrier), link);
-        self.ip.emit(carrier, true, rest);
+        self.ethernet.emit(type_number(ip_header), link);
+        self.ip.emit(ip_header, true, rest);
     }
 
     // Writes the headers of a frame with a UDP packet around a payload that is in `out` behind them.
     #[inline(always)]
-    fn wrap_udp(&self, carrier: &IpRepr, payload_len: usize, out: &mut [u8])
-        requires expressible { is_expressible self.now.ip carrier.now ≡ true }
+    fn wrap_udp(&self, ip_header: &IpRepr, payload_len: usize, out: &mut [u8])
+        requires expressible { is_expressible self.now.ip ip_header.now ≡ true }
         requires payload_len { payload_len ≤ udp.max_payload_len }
-        requires room { 14 + header_len_of carrier.now + 8 + payload_len ≤ length out.old }
-        ensures { let v = carrier.now in let first = 14 + header_len_of v + 8 in
+        requires room { 14 + header_len_of ip_header.now + 8 + payload_len ≤ length out.old }
+        ensures { let v = ip_header.now in let first = 14 + header_len_of v + 8 in
             let payload = slice_range out.old first (first + payload_len) in
             out.new ≡ headers_bytes self.now v
             ++ udp.bytes_of (ports_of self.now.src self.now.dst) payload (src_addr_of v) (dst_addr_of v) true
             ++ drop (first + payload_len) out.old }
     {
-        let (headers, packet) = out.split_at_mut(self.headers_len(carrier));
-        self.emit_headers(carrier, headers);
+        let (headers, packet) = out.split_at_mut(self.headers_len(ip_header));
+        self.emit_headers(ip_header, headers);
         let ports = UdpRepr {
             src_port: self.src.port,
             dst_port: self.dst.port,
         };
-        let (src_addr, dst_addr) = (carrier.src_addr(), carrier.dst_addr());
+        let (src_addr, dst_addr) = (ip_header.src_addr(), ip_header.dst_addr());
         udp::wrap(ports, src_addr, dst_addr, payload_len, packet);
     }
 
     // Writes the headers of a frame with a UDP packet, and the packet.
     #[inline(always)]
-    fn write_udp(&self, carrier: &IpRepr, payload: &[u8], out: &mut [u8])
-        requires expressible { is_expressible self.now.ip carrier.now ≡ true }
+    fn write_udp(&self, ip_header: &IpRepr, payload: &[u8], out: &mut [u8])
+        requires expressible { is_expressible self.now.ip ip_header.now ≡ true }
         requires payload_len { length payload.now ≤ udp.max_payload_len }
-        requires room { 14 + header_len_of carrier.now + 8 + length payload.now ≤ length out.old }
-        ensures { let v = carrier.now in let end = 14 + header_len_of v + 8 + length payload.now in
+        requires room { 14 + header_len_of ip_header.now + 8 + length payload.now ≤ length out.old }
+        ensures { let v = ip_header.now in let end = 14 + header_len_of v + 8 + length payload.now in
             out.new ≡ headers_bytes self.now v
             ++ udp.bytes_of (ports_of self.now.src self.now.dst) payload.now (src_addr_of v) (dst_addr_of v) true
             ++ drop end out.old }
     {
-        let (headers, packet) = out.split_at_mut(self.headers_len(carrier));
-        self.emit_headers(carrier, headers);
+        let (headers, packet) = out.split_at_mut(self.headers_len(ip_header));
+        self.emit_headers(ip_header, headers);
         let ports = UdpRepr {
             src_port: self.src.port,
             dst_port: self.dst.port,
         };
-        let (src_addr, dst_addr) = (carrier.src_addr(), carrier.dst_addr());
+        let (src_addr, dst_addr) = (ip_header.src_addr(), ip_header.dst_addr());
         udp::write(ports, src_addr, dst_addr, payload, packet);
     }
 
     // Writes the headers of a frame with a TCP segment around a payload that is in `out` behind them.
     #[inline(always)]
-    fn wrap_tcp(&self, carrier: &IpRepr, segment: &TcpRepr<'_>, payload_len: usize, out: &mut [u8])
-        requires expressible { is_expressible self.now.ip carrier.now ≡ true }
+    fn wrap_tcp(
+        &self,
+        ip_header: &IpRepr,
+        segment: &TcpRepr<'_>,
+        payload_len: usize,
+        out: &mut [u8],
+    )
+        requires expressible { is_expressible self.now.ip ip_header.now ≡ true }
         requires empty { segment.now.payload.now ≡ [] }
         requires header_len { tcp.header_len_of (tcp.header_of segment.now) ≤ 60 }
-        requires room { 14 + header_len_of carrier.now + tcp.header_len_of (tcp.header_of segment.now) + payload_len ≤ length out.old }
-        ensures { let v = carrier.now in let u = tcp.header_of segment.now in
+        requires room { 14 + header_len_of ip_header.now + tcp.header_len_of (tcp.header_of segment.now) + payload_len ≤ length out.old }
+        ensures { let v = ip_header.now in let u = tcp.header_of segment.now in
             let first = 14 + header_len_of v + tcp.header_len_of u in
             let payload = slice_range out.old first (first + payload_len) in
             out.new ≡ headers_bytes self.now v
             ++ segment_bytes self.now.tcp u payload (src_addr_of v) (dst_addr_of v) true
             ++ drop (first + payload_len) out.old }
     {
-        let (headers, packet) = out.split_at_mut(self.headers_len(carrier));
-        self.emit_headers(carrier, headers);
-        let (src_addr, dst_addr) = (carrier.src_addr(), carrier.dst_addr());
+        let (headers, packet) = out.split_at_mut(self.headers_len(ip_header));
+        self.emit_headers(ip_header, headers);
+        let (src_addr, dst_addr) = (ip_header.src_addr(), ip_header.dst_addr());
         self.tcp
             .wrap(segment, src_addr, dst_addr, payload_len, true, packet);
     }
@@ -217,13 +223,13 @@ impl FrameFields {
         if payload.len() > UDP_MAX_PAYLOAD_LEN {
             return None;
         }
-        let carrier = self.carrier(version, UDP, UDP_HEADER_LEN + payload.len())?;
-        let start = self.headers_len(&carrier) + UDP_HEADER_LEN;
+        let ip_header = self.ip_header(version, UDP, UDP_HEADER_LEN + payload.len())?;
+        let start = self.headers_len(&ip_header) + UDP_HEADER_LEN;
         let end = start + payload.len();
         if out.len() < end {
             return None;
         }
-        self.write_udp(&carrier, payload, out);
+        self.write_udp(&ip_header, payload, out);
         Some(end)
     }
 
@@ -251,12 +257,12 @@ impl FrameFields {
         if payload_len > UDP_MAX_PAYLOAD_LEN {
             return None;
         }
-        let carrier = self.carrier(version, UDP, UDP_HEADER_LEN + payload_len)?;
-        let end = self.headers_len(&carrier) + UDP_HEADER_LEN + payload_len;
+        let ip_header = self.ip_header(version, UDP, UDP_HEADER_LEN + payload_len)?;
+        let end = self.headers_len(&ip_header) + UDP_HEADER_LEN + payload_len;
         if out.len() < end {
             return None;
         }
-        self.wrap_udp(&carrier, payload_len, out);
+        self.wrap_udp(&ip_header, payload_len, out);
         Some(end)
     }
 
@@ -287,14 +293,14 @@ impl FrameFields {
             .tcp
             .segment(options, src_port, dst_port, payload.len())?;
         let header_len = segment.header_len();
-        let carrier = self.carrier(version, TCP, header_len + payload.len())?;
-        let start = self.headers_len(&carrier) + header_len;
+        let ip_header = self.ip_header(version, TCP, header_len + payload.len())?;
+        let start = self.headers_len(&ip_header) + header_len;
         let end = start + payload.len();
         if out.len() < end {
             return None;
         }
         place(payload, start, out);
-        self.wrap_tcp(&carrier, &segment, payload.len(), out);
+        self.wrap_tcp(&ip_header, &segment, payload.len(), out);
         Some(end)
     }
 
@@ -328,12 +334,12 @@ impl FrameFields {
         let (src_port, dst_port) = (self.src.port, self.dst.port);
         let segment = self.tcp.segment(options, src_port, dst_port, payload_len)?;
         let header_len = segment.header_len();
-        let carrier = self.carrier(version, TCP, header_len + payload_len)?;
-        let end = self.headers_len(&carrier) + header_len + payload_len;
+        let ip_header = self.ip_header(version, TCP, header_len + payload_len)?;
+        let end = self.headers_len(&ip_header) + header_len + payload_len;
         if out.len() < end {
             return None;
         }
-        self.wrap_tcp(&carrier, &segment, payload_len, out);
+        self.wrap_tcp(&ip_header, &segment, payload_len, out);
         Some(end)
     }
 
@@ -358,10 +364,10 @@ impl FrameFields {
 
 // The EtherType of a packet with this header.
 #[inline(always)]
-fn type_number(carrier: &IpRepr) -> u16
-    ensures { result ≡ type_number carrier.now }
+fn type_number(ip_header: &IpRepr) -> u16
+    ensures { result ≡ type_number ip_header.now }
 {
-    match carrier {
+    match ip_header {
         IpRepr::Ipv4(_) => IPV4,
         IpRepr::Ipv6(_) => IPV6,
     }

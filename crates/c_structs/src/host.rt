@@ -7,8 +7,8 @@ ghost use Rattle.c_structs.specs.HostFields.{WritesAnswer, WritesReply, host_of,
 use crate::results::{FAILED, written};
 use crate::types::HostFields;
 use ip_host::{Host, reply};
-use ip_replies::tcp_reply::Offer;
 use ip_replies::Interface;
+use ip_replies::tcp_reply::Offer;
 use ip_wire::{EthernetAddress, Frame, IpAddress, TcpSeqNumber, send};
 use net_base::ChecksumCapabilities;
 

@@ -3,7 +3,7 @@ use Rattle.std.specs.Option.{option_and_then}
 use Rattle.ip_wire.specs.Ip.{header_len_of}
 use Rattle.ip_wire.specs.TcpRepr as tcp
 use Rattle.c_structs.proofs.Framed.{filled-front, length-there, part-there, tcp-framed}
-use Rattle.c_structs.specs.Frames.{carrier, part, tcp_frame, tcp_frame_around}
+use Rattle.c_structs.specs.Frames.{ip_header, part, tcp_frame, tcp_frame_around}
 use Rattle.c_structs.specs.Headers.{segment_header_len}
 use Rattle.c_structs.proofs.types.FrameFields.emit_tcp_around_from.Goals as goal
 
@@ -11,7 +11,7 @@ pub returns : goal.returns
 returns c =
     let f = c.args.self.now in
     let o = c.args.options.now in
-    let v = c.in_ok-carrier.carrier in
+    let v = c.in_ok-ip_header.ip_header in
     let u = tcp.header_of c.in_ok-segment.segment in
     let n = c.args.payload_len in
     let old = c.args.out.now in
@@ -19,11 +19,11 @@ returns c =
     let payload = slice_range old start (start + n) in
     let room : start + n ≤ length old = omega (arith, c.headers_len.ensures, c.header_len-header_len.ensures, c.if-out-end.false) in
     let size : length payload ≡ n = length-there old start n room in
-    let found : carrier f 6 (tcp.header_len_of u + n) ≡ Some v = rw c.header_len-header_len.ensures at (sym c.carrier.ensures.value ∙ c.in_ok-carrier.was) in
+    let found : ip_header f 6 (tcp.header_len_of u + n) ≡ Some v = rw c.header_len-header_len.ensures at (sym c.ip_header.ensures.value ∙ c.in_ok-ip_header.was) in
     let len : segment_header_len f.tcp o n ≡ Some (tcp.header_len_of u) = c.in_ok-segment.ensures.0 in
     let framed = tcp-framed f o payload u v (ap (λ k. segment_header_len f.tcp o k) size ∙ len) c.in_ok-segment.ensures.1
-    (ap (λ k. carrier f 6 (tcp.header_len_of u + k)) size ∙ found) in
-    let around = ap (λ q. option_and_then (λ len. option_and_then (λ v. option_and_then (tcp_frame f o) (part old (14 + header_len_of v + len) n)) (carrier f 6 (len + n))) q) len
+    (ap (λ k. ip_header f 6 (tcp.header_len_of u + k)) size ∙ found) in
+    let around = ap (λ q. option_and_then (λ len. option_and_then (λ v. option_and_then (tcp_frame f o) (part old (14 + header_len_of v + len) n)) (ip_header f 6 (len + n))) q) len
     ∙ ap (λ q. option_and_then (λ v. option_and_then (tcp_frame f o) (part old (14 + header_len_of v + tcp.header_len_of u) n)) q) found
     ∙ ap (λ q. option_and_then (tcp_frame f o) q) (part-there old start n room) ∙ framed in
     let same : length c.wrap_tcp.new.out ≡ length old = c.wrap_tcp.auto.out in

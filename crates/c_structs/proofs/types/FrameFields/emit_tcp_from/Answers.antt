@@ -3,7 +3,7 @@ use Rattle.ip_wire.specs.Ip.{dst_addr_of, header_len_of, src_addr_of}
 use Rattle.ip_wire.specs.TcpRepr as tcp
 use Rattle.c_structs.proofs.Filled.{placed}
 use Rattle.c_structs.proofs.Framed.{filled-front, length-segment, tcp-framed, tcp-unframed}
-use Rattle.c_structs.specs.Frames.{carrier, headers_bytes, tcp_frame}
+use Rattle.c_structs.specs.Frames.{ip_header, headers_bytes, tcp_frame}
 use Rattle.c_structs.specs.Addresses.{pair_of}
 use Rattle.c_structs.specs.Headers.{segment_bytes}
 use Rattle.c_structs.specs.Written.{Fills}
@@ -12,12 +12,12 @@ use Rattle.c_structs.proofs.types.FrameFields.emit_tcp_from.Goals as goal
 pub returns : goal.returns
 returns c =
     let f = c.args.self.now in
-    let v = c.in_ok-carrier.carrier in
+    let v = c.in_ok-ip_header.ip_header in
     let u = tcp.header_of c.in_ok-segment.segment in
     let payload = c.args.payload.now in
     let old = c.args.out.now in
     let start = 14 + header_len_of v + tcp.header_len_of u in
-    let found : carrier f 6 (tcp.header_len_of u + length payload) ≡ Some v = rw c.header_len-header_len.ensures at (sym c.carrier.ensures.value ∙ c.in_ok-carrier.was) in
+    let found : ip_header f 6 (tcp.header_len_of u + length payload) ≡ Some v = rw c.header_len-header_len.ensures at (sym c.ip_header.ensures.value ∙ c.in_ok-ip_header.was) in
     let room : start + length payload ≤ length old = omega (arith, c.headers_len.ensures, c.header_len-header_len.ensures, c.if-out-end.false) in
     let full = rw (c.headers_len.ensures, c.header_len-header_len.ensures) at c.place.ensures in
     let whole = placed (λ payload. headers_bytes f v ++ segment_bytes f.tcp u payload (src_addr_of v) (dst_addr_of v) true) payload old
@@ -27,28 +27,28 @@ returns c =
     (filled-front (tcp_frame f c.args.options.now payload) _ old c.wrap_tcp.new.out (start + length payload)
     (tcp-framed f c.args.options.now payload u v c.in_ok-segment.ensures.0 c.in_ok-segment.ensures.1 found) room same whole)
 
-pub returns-in_err-carrier : goal.returns-in_err-carrier
-returns-in_err-carrier c =
+pub returns-in_err-ip_header : goal.returns-in_err-ip_header
+returns-in_err-ip_header c =
     let f = c.args.self.now in
     let o = c.args.options.now in
     let u = tcp.header_of c.in_ok-segment.segment in
     let payload = c.args.payload.now in
-    let none : carrier f 6 (tcp.header_len_of u + length payload) ≡ None = rw c.header_len-header_len.ensures at (sym c.carrier.ensures.value ∙ c.in_err-carrier.was) in
+    let none : ip_header f 6 (tcp.header_len_of u + length payload) ≡ None = rw c.header_len-header_len.ensures at (sym c.ip_header.ensures.value ∙ c.in_err-ip_header.was) in
     let frame : tcp_frame f o payload ≡ None = tcp-unframed f o payload u (pair_of f.src.addr f.dst.addr) c.in_ok-segment.ensures.0 c.in_ok-segment.ensures.1 none in
-    let answer : c.from_residual-in_err-carrier.result ≡ None = search rules in
-    subst (λ q. Fills q c.args.out.now c.args.out.now c.from_residual-in_err-carrier.result) (sym frame) (answer, refl)
+    let answer : c.from_residual-in_err-ip_header.result ≡ None = search rules in
+    subst (λ q. Fills q c.args.out.now c.args.out.now c.from_residual-in_err-ip_header.result) (sym frame) (answer, refl)
 
 pub returns-then-out-end : goal.returns-then-out-end
 returns-then-out-end c =
     let f = c.args.self.now in
-    let v = c.in_ok-carrier.carrier in
+    let v = c.in_ok-ip_header.ip_header in
     let u = tcp.header_of c.in_ok-segment.segment in
     let payload = c.args.payload.now in
     let old = c.args.out.now in
     let segment = segment_bytes f.tcp u payload (src_addr_of v) (dst_addr_of v) true in
-    let found : carrier f 6 (tcp.header_len_of u + length payload) ≡ Some v = rw c.header_len-header_len.ensures at (sym c.carrier.ensures.value ∙ c.in_ok-carrier.was) in
+    let found : ip_header f 6 (tcp.header_len_of u + length payload) ≡ Some v = rw c.header_len-header_len.ensures at (sym c.ip_header.ensures.value ∙ c.in_ok-ip_header.was) in
     let size = length-segment f.tcp u payload (src_addr_of v) (dst_addr_of v) true in
     let whole = length-append (headers_bytes f v) segment in
-    let short : length old < length (headers_bytes f v ++ segment) = omega (arith, whole, size, c.headers_len.ensures, c.in_ok-carrier.ensures.len, c.header_len-header_len.ensures, c.if-out-end.true) in
+    let short : length old < length (headers_bytes f v ++ segment) = omega (arith, whole, size, c.headers_len.ensures, c.in_ok-ip_header.ensures.len, c.header_len-header_len.ensures, c.if-out-end.true) in
     let frame = tcp-framed f c.args.options.now payload u v c.in_ok-segment.ensures.0 c.in_ok-segment.ensures.1 found in
     subst (λ q. Fills q old old None) (sym frame) (short, refl)

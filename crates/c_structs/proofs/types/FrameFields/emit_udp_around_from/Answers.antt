@@ -2,13 +2,13 @@ use Rattle.std.proofs.Common.{◌≡◌, ◌∙◌, ◌+◌, ◌≤◌, Some, ap
 use Rattle.std.specs.Option.{option_and_then}
 use Rattle.ip_wire.specs.Ip.{header_len_of}
 use Rattle.c_structs.proofs.Framed.{filled-front, length-there, part-there, udp-framed}
-use Rattle.c_structs.specs.Frames.{carrier, part, udp_frame, udp_frame_around}
+use Rattle.c_structs.specs.Frames.{ip_header, part, udp_frame, udp_frame_around}
 use Rattle.c_structs.proofs.types.FrameFields.emit_udp_around_from.Goals as goal
 
 pub returns : goal.returns
 returns c =
     let f = c.args.self.now in
-    let v = c.in_ok-carrier.carrier in
+    let v = c.in_ok-ip_header.ip_header in
     let n = c.args.payload_len in
     let old = c.args.out.now in
     let start = 14 + header_len_of v + 8 in
@@ -16,8 +16,8 @@ returns c =
     let room : start + n ≤ length old = omega (arith, c.headers_len.ensures, c.if-out-end.false) in
     let size : length payload ≡ n = length-there old start n room in
     let fits : length payload ≤ 65527 = omega (arith, size, c.if-payload_len-gt-UDP_MAX_PAYLOAD_LEN.false) in
-    let found : carrier f 17 (8 + n) ≡ Some v = sym c.carrier.ensures.value ∙ c.in_ok-carrier.was in
-    let framed = udp-framed f payload v fits (ap (λ k. carrier f 17 (8 + k)) size ∙ found) in
+    let found : ip_header f 17 (8 + n) ≡ Some v = sym c.ip_header.ensures.value ∙ c.in_ok-ip_header.was in
+    let framed = udp-framed f payload v fits (ap (λ k. ip_header f 17 (8 + k)) size ∙ found) in
     let around = ap (λ q. option_and_then (λ v. option_and_then (udp_frame f) (part old (14 + header_len_of v + 8) n)) q) found
     ∙ ap (λ q. option_and_then (udp_frame f) q) (part-there old start n room) ∙ framed in
     let same : length c.wrap_udp.new.out ≡ length old = c.wrap_udp.auto.out in

@@ -9,7 +9,7 @@ use Rattle.c_structs.proofs.types.FrameFields.wrap_tcp.Goals as goal
 pub returns : goal.returns
 returns c =
     let f = c.args.self.now in
-    let v = c.args.carrier.now in
+    let v = c.args.ip_header.now in
     let u = tcp.header_of c.args.segment.now in
     let old = c.args.out.now in
     let behind : c.split_at_mut-headers.result.1.now ≡ drop (14 + header_len_of v) old = rw c.headers_len.ensures at c.split_at_mut-headers.ensures.back in

@@ -9,7 +9,7 @@ use Rattle.c_structs.proofs.types.FrameFields.wrap_udp.Goals as goal
 pub returns : goal.returns
 returns c =
     let f = c.args.self.now in
-    let v = c.args.carrier.now in
+    let v = c.args.ip_header.now in
     let old = c.args.out.now in
     let behind : c.split_at_mut-headers.result.1.now ≡ drop (14 + header_len_of v) old = rw c.headers_len.ensures at c.split_at_mut-headers.ensures.back in
     behind-headers (λ payload. bytes_of (ports_of f.src f.dst) payload (src_addr_of v) (dst_addr_of v) true) (headers_bytes f v) old c.emit_headers.new.out _ c.wrap.new.out
