@@ -6,7 +6,7 @@
 # make uninstall  removes the files that make install put there, with the same variables
 # make quick      runs the tests and the program without proofs
 # make check CRATE=name
-#                 proves one crate and reuses earlier proofs
+#                 proves one crate, over the libraries that make test proved if they are unchanged
 # make statements renews docs/statements/, the record of all contracts and definitions
 # make test       runs the gate and all other tests; the gate's log is out/test.log
 # make test-all   runs make test, then the wrong bodies and controls that it leaves out (out/wrong.log)
@@ -86,7 +86,7 @@ quick:
 
 check:
 	@test -n "$$CRATE" && test -d "crates/$$CRATE/src" || $(call fail,name a crate of crates.txt as CRATE=name)
-	@cd "crates/$$CRATE" && rt check
+	@tests/proved.py check "$$CRATE"; status=$$?; [ $$status = 3 ] || exit $$status; cd "crates/$$CRATE" && rt check
 
 statements:
 	@tests/statements.py --write
