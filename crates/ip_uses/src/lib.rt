@@ -4,6 +4,7 @@
 pub mod allow_list;
 pub mod flow_key;
 pub mod hop_guard;
+pub mod mss_clamp;
 pub mod read_frame;
 pub mod route;
 pub mod verify_checksum;

@@ -5,6 +5,7 @@ ghost use Rattle.std.specs.Prelude.{◌≡◌, ◌≤◌, ◌+◌, length};
 use super::captured::{ECHO_REQUEST, SYN};
 use ip_uses::allow_list::is_allowed;
 use ip_uses::flow_key::{Flow, FlowKey};
+use ip_uses::mss_clamp::clamp;
 use ip_uses::read_frame::udp_packet;
 use ip_uses::route::{Route, choose};
 use ip_uses::verify_checksum::{parse_udp_ports, verified_by_the_device};
@@ -273,4 +274,28 @@ fn chooses_the_longest_prefix(rt: HostRuntime) {
         choose(&default, &IpAddress::v4(10, 2, 2, 3)),
     ];
     assert_eq!(rt; found, [Some(default[0]), Some(default[1])]);
+}
+
+// The captured SYN with another checksum and maximum segment size.
+fn with_size(checksum: [u8; 2], size: [u8; 2]) -> [u8; 74] {
+    let mut frame = SYN;
+    frame[50..52].copy_from_slice(&checksum);
+    frame[56..58].copy_from_slice(&size);
+    frame
+}
+
+#[test]
+fn a_clamp_lowers_the_segment_size_of_a_syn(rt: HostRuntime) {
+    let mut no_syn = SYN;
+    no_syn[47] = 0x10;
+    for (frame, limit, lowered, want) in [
+        (SYN, 1300, true, with_size([0xd9, 0x5d], [0x05, 0x14])),
+        (SYN, 1459, true, with_size([0xd8, 0xbe], [0x05, 0xb3])),
+        (SYN, 1460, false, SYN),
+        (no_syn, 1300, false, no_syn),
+    ] {
+        let mut bytes = frame;
+        let found = clamp(&mut bytes[34..], limit);
+        assert_eq!(rt; (found, bytes), (lowered, want));
+    }
 }
