@@ -3,8 +3,8 @@ pub mod Items
 mod ItemsWorked
 pub mod One
 pub mod OptionLists
-mod Prefixes
+pub mod Prefixes
 pub mod Ranges
 pub mod Summaries
 mod TcpPartsWorked
-mod Walks
+pub mod Walks
