@@ -1,11 +1,12 @@
 #!/usr/bin/env python3
-"""Checks the tables of docs/DEFINITIONS.md against the sources.
+"""Checks the tables of docs/DEFINITIONS.md and docs/LEMMAS.md against the sources.
 
     tests/definitions.py [TOP]
 
 Each name in the first column must be defined in a module of the heading. Each test, law and file of worked examples in the
 last column must exist. Behind "too wide:", at the end of a row, there must be at least one of them, and nothing else. What does
-not exist is printed, and the status is 1 then. TOP is the top of the repository.
+not exist is printed, and the status is 1 then. Each lemma of docs/LEMMAS.md must be public in its module, and a crate above
+`ip_wire` must reach that module. TOP is the top of the repository.
 """
 import functools
 import glob
@@ -79,6 +80,27 @@ def wide_faults(last, laws):
     yield from (f"{name} excludes nothing" for name in names if name not in laws and path_of(name) is None)
 
 
+def reached():
+    """The paths of the modules of proofs that a crate above `ip_wire` reaches, by name."""
+    listed = re.findall(r"^pub (?:mod|use Rattle\.(\w+)\.proofs\.)\s*(\w+)$", read("crates/ip_wire/proofs/Lib.antt"), re.M)
+    return {module: f"crates/{crate or 'ip_wire'}/proofs/{module}.antt" for crate, module in listed}
+
+
+def hidden_lemmas(document):
+    """What is wrong with the lemmas of the document."""
+    modules = reached()
+    for line in document.split("\n"):
+        cells = re.split(r" \|(?= |$)", line.strip())
+        if not line.startswith("| `"):
+            continue
+        names, module = re.findall(r"`([^`]+)`", cells[0]), cells[1].strip("| `")
+        if module not in modules:
+            yield f"ip_wire/proofs does not give on {module}"
+        else:
+            yield from (f"{name} is not public in {modules[module]}" for name in names
+                        if not re.search(rf"^(?:abbrev )?pub {re.escape(name)} :", read(modules[module]), re.M))
+
+
 def main(top):
     os.chdir(top)
     paths = glob.glob("crates/*/src/laws.rt") + glob.glob("crates/*/src/laws/*.rt")
@@ -90,8 +112,10 @@ def main(top):
         missing += wide_faults(last, laws)
         for law in re.findall(r"\blaws? ((?:`\w+`(?:, | and )?)+)", last):
             missing += [f"there is no law {name}" for name in re.findall(r"`(\w+)`", law) if name not in laws]
-    print("".join(f"docs/DEFINITIONS.md: {line}\n" for line in missing), end="")
-    return 1 if missing else 0
+    faults = [f"docs/DEFINITIONS.md: {line}" for line in missing]
+    faults += [f"docs/LEMMAS.md: {line}" for line in hidden_lemmas(read("docs/LEMMAS.md"))]
+    print("".join(fault + "\n" for fault in faults), end="")
+    return 1 if faults else 0
 
 
 if __name__ == "__main__":

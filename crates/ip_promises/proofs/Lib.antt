@@ -7,3 +7,4 @@ mod FrameValueWorked
 pub mod Octets
 pub mod Options
 pub mod Parsed
+pub mod SackSearch

@@ -1,1 +1,2 @@
+pub mod Sack
 pub mod Same

@@ -9,6 +9,7 @@ mod host;
 mod nat;
 mod promises;
 mod router;
+mod sack;
 mod tcp_answer;
 mod udp_echo;
 mod uses;

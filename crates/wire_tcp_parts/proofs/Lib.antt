@@ -3,9 +3,9 @@ pub mod Items
 mod ItemsWorked
 pub mod One
 pub mod OptionLists
-mod Prefixes
 pub mod Places
+pub mod Prefixes
 pub mod Ranges
 pub mod Summaries
 mod TcpPartsWorked
-mod Walks
+pub mod Walks

@@ -238,7 +238,7 @@ one_long_walk bytes xs ys r t a b = elim (walks_compared mark_text IsMark mark_a
 
 -- ---- the first item of a kind
 
-first_of-append : (kind : ℕ) (xs ys : List Mark) → first_of kind xs ≡ None → first_of kind (xs ++ ys) ≡ first_of kind ys
+pub first_of-append : (kind : ℕ) (xs ys : List Mark) → first_of kind xs ≡ None → first_of kind (xs ++ ys) ≡ first_of kind ys
 first_of-append kind [] ys none = refl
 first_of-append kind (None ∷ xs) ys none = first_of-append kind xs ys none
 first_of-append kind (Some i ∷ xs) ys none = elim (cases_Bool (eqb i.kind kind)) [

@@ -115,3 +115,14 @@ pub fn subnet_has_its_address(block: &IpCidr, subnet: &IpCidr) -> (bool, bool)
         block.contains_addr(&subnet.address()),
     )
 }
+
+/// A block contains another one exactly if it contains its address, and its own prefix is not longer.
+pub fn subnet_by_prefix(block: &IpCidr, subnet: &IpCidr) -> (bool, bool, bool)
+    ensures { IsTrue result.0 ↔ (IsTrue result.1 × IsTrue result.2) }
+{
+    (
+        block.contains_subnet(subnet),
+        block.contains_addr(&subnet.address()),
+        block.prefix_len() <= subnet.prefix_len(),
+    )
+}

@@ -1,13 +1,15 @@
 //! Flags, timestamps and options of TCP.
 
-ghost use Rattle.std.specs.Prelude.{◌≡◌, ◌≤◌, IfOk, IfSome, IsOkAnd, length};
+ghost use Rattle.std.specs.Prelude.{◌≡◌, ◌↔◌, ◌≤◌, [], IfOk, IfSome, IsOkAnd, Ok, false, length, true};
 ghost use Rattle.std.specs.Option.{option_map};
 ghost use Rattle.ip_wire.specs.IpAddress.{version_of};
-ghost use Rattle.ip_wire.specs.Tcp.{header_len, packet_bytes};
+ghost use Rattle.ip_promises.specs.Sack.{AgreesWith};
+ghost use Rattle.ip_wire.specs.Tcp.{header_len, options_of, packet_bytes};
+ghost use Rattle.ip_wire.specs.TcpItems.{first_blocks};
 
 use ip_wire::{
-    IpAddress, Result, TcpControl, TcpOptionSummary, TcpPacket, TcpRepr, TcpTimestampGenerator,
-    TcpTimestampRepr, laws,
+    IpAddress, Result, SACK_BLOCKS, TcpControl, TcpOptionSummary, TcpPacket, TcpRepr,
+    TcpTimestampGenerator, TcpTimestampRepr, laws,
 };
 use net_base::ChecksumCapabilities;
 
@@ -57,6 +59,31 @@ pub fn options_of_parse<'a>(
     laws::one_option_list(packet.options());
     let parsed = TcpRepr::parse(packet, src_addr, dst_addr, caps);
     (parsed, packet.options_summary())
+}
+
+/// The search for SACK options goes on behind the end of the list, and the summary stops there. They agree
+/// exactly if the first option of the kind has the value of the last, or the list has none of the kind and the
+/// search behind its end finds none.
+pub fn sack_by_summary(
+    packet: &TcpPacket<'_>,
+) -> (
+    Result<bool>,
+    Result<[Option<(u32, u32)>; SACK_BLOCKS]>,
+    Result<TcpOptionSummary>,
+)
+    requires begins { 20 ≤ header_len (packet_bytes packet.now) }
+    requires ends { header_len (packet_bytes packet.now) ≤ length (packet_bytes packet.now) }
+    ensures permitted { let options = options_of (packet_bytes packet.now) in
+        IfOk result.2 (λ s. (result.0 ≡ Ok s.sack_permitted) ↔ AgreesWith options 4 (λ i. true) false s.sack_permitted) }
+    ensures ranges { let options = options_of (packet_bytes packet.now) in
+        IfOk result.2 (λ s. (result.1 ≡ Ok s.sack_ranges)
+        ↔ AgreesWith options 5 (λ i. first_blocks i.content) (first_blocks []) s.sack_ranges) }
+{
+    (
+        packet.selective_ack_permitted(),
+        packet.selective_ack_ranges(),
+        packet.options_summary(),
+    )
 }
 
 fn echoed(reply: Option<TcpTimestampRepr>) -> Option<u32>
