@@ -44,6 +44,13 @@ struct Expecting<'a> {
     agrees: bool,
 }
 
+impl Expecting<'_> {
+    /// Whether the input was all of the expected bytes, and began with them.
+    fn is_met(&self) -> bool {
+        self.agrees && self.rest.is_empty()
+    }
+}
+
 impl Write for Expecting<'_> {
     fn write_str(&mut self, text: &str) -> fmt::Result {
         let bytes = text.as_bytes();
@@ -61,17 +68,26 @@ impl Write for Expecting<'_> {
     }
 }
 
-/// Returns whether a value prints as this text, and fails exactly if its writer does: with room for fewer
-/// bytes it writes that many of the text and returns an error.
+/// Returns whether a value prints as this text, whatever width and precision the format asks for, and
+/// fails exactly if its writer does: with room for fewer bytes it writes that many of the text and returns
+/// an error.
 pub fn prints<T: Display>(value: &T, text: &str) -> bool {
     for room in 0..=text.len() {
-        let mut writer = Expecting {
-            rest: &text.as_bytes()[..room],
+        let (expected, is_whole) = (&text.as_bytes()[..room], room == text.len());
+        let mut plain = Expecting {
+            rest: expected,
             agrees: true,
         };
-        let result = write!(writer, "{value}");
-        let is_whole = room == text.len();
-        if !writer.agrees || !writer.rest.is_empty() || result.is_ok() != is_whole {
+        let result = write!(plain, "{value}");
+        let mut wide = Expecting {
+            rest: expected,
+            agrees: true,
+        };
+        let wide_result = write!(wide, "{value:-^60.2}");
+        if !plain.is_met() || !wide.is_met() {
+            return false;
+        }
+        if result.is_ok() != is_whole || wide_result.is_ok() != is_whole {
             return false;
         }
     }

@@ -2,16 +2,14 @@
 
 ghost use Rattle.std.specs.Prelude.{◌≡◌};
 
-mod arp_answer;
 mod captured;
 mod hop_guard;
 mod host;
 mod nat;
 mod promises;
+mod replies;
 mod router;
 mod sack;
-mod tcp_answer;
-mod udp_echo;
 mod uses;
 mod views;
 
@@ -19,18 +17,13 @@ use ip_replies::Interface;
 use ip_replies::tcp_reply::Offer;
 use ip_wire::{EthernetAddress, Ipv4Address, Ipv6Address, TcpSeqNumber};
 
-/// The host with this last octet in its addresses.
-fn interface(last: u8) -> Interface {
-    Interface {
-        hardware_addr: EthernetAddress([0x02, 0x00, 0x00, 0x00, 0x00, last]),
-        ipv4_addr: Ipv4Address::new(192, 0, 2, last),
-        ipv6_addr: Ipv6Address::new(0x2001, 0xdb8, 0, 0, 0, 0, 0, u16::from(last)),
-    }
-}
-
 /// The host that replies.
 fn ours() -> Interface {
-    interface(2)
+    Interface {
+        hardware_addr: EthernetAddress([0x02, 0x00, 0x00, 0x00, 0x00, 0x02]),
+        ipv4_addr: Ipv4Address::new(192, 0, 2, 2),
+        ipv6_addr: Ipv6Address::new(0x2001, 0xdb8, 0, 0, 0, 0, 0, 2),
+    }
 }
 
 /// What the SYN-ACKs of that host offer.

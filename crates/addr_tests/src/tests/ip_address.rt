@@ -1,34 +1,14 @@
-//! Addresses of either version.
+//! Addresses of either version. `tests/calls/worked_addresses.call` has more examples.
 
-use super::count_distinct;
-use ip_wire::{IpAddress, IpVersion, Ipv4Address, Ipv6Address};
+use ip_wire::{
+    EthernetAddress, IpAddress, IpCidr, IpVersion, Ipv4Address, Ipv6Address, TcpSeqNumber,
+};
 use std::net::{IpAddr, Ipv4Addr, Ipv6Addr};
-use std::test::Fail;
 use test_support::prints;
 
 /// The IPv4-mapped address of 1.2.3.4.
 fn mapped() -> IpAddress {
     IpAddress::v6(0, 0, 0, 0, 0, 0xffff, 0x102, 0x304)
-}
-
-#[test]
-fn prints_what_it_holds(rt: HostRuntime) {
-    for (address, version, text) in [
-        (
-            IpAddress::v4(192, 168, 1, 1),
-            IpVersion::Ipv4,
-            "192.168.1.1",
-        ),
-        (
-            IpAddress::v6(0xfe80, 0, 0, 0, 0, 0, 0, 1),
-            IpVersion::Ipv6,
-            "fe80::1",
-        ),
-        (mapped(), IpVersion::Ipv6, "::ffff:1.2.3.4"),
-    ] {
-        let found = (address.version(), prints(&address, text));
-        assert_eq!(rt; found, (version, true), "{text}");
-    }
 }
 
 #[test]
@@ -41,28 +21,11 @@ fn converts_from_an_address_of_a_version(rt: HostRuntime) {
         IpAddress::v4(1, 2, 3, 4),
         IpAddress::v6(0, 0, 0, 0, 0, 0, 0, 1),
     ];
-    assert_eq!(rt; found, expected);
-}
-
-#[test]
-fn has_classes(rt: HostRuntime) {
-    let found = [
-        IpAddress::v4(192, 168, 1, 1).is_unicast(),
-        IpAddress::v4(224, 0, 0, 1).is_multicast(),
-        IpAddress::v4(255, 255, 255, 255).is_broadcast(),
-        IpAddress::v6(0, 0, 0, 0, 0, 0, 0, 0).is_unspecified(),
-    ];
-    assert_eq!(rt; found, [true; 4]);
-}
-
-#[test]
-fn a_netmask_has_a_prefix_length(rt: HostRuntime) {
-    let found = [
-        IpAddress::v4(255, 255, 128, 0).prefix_len(),
-        IpAddress::v6(0xffff, 0x8000, 0, 0, 0, 0, 0, 0).prefix_len(),
-        IpAddress::v4(255, 255, 255, 1).prefix_len(),
-    ];
-    assert_eq!(rt; found, [Some(17), Some(17), None]);
+    let versions = [found[0].version(), found[1].version()];
+    assert_eq!(rt;
+        (found, versions),
+        (expected, [IpVersion::Ipv4, IpVersion::Ipv6])
+    );
 }
 
 #[test]
@@ -87,15 +50,17 @@ fn converts_to_and_from_std(rt: HostRuntime) {
 }
 
 #[test]
-fn is_ordered_by_version_and_octets(rt: HostRuntime) -> Result<(), Fail> {
-    let low = IpAddress::v4(9, 255, 255, 255);
-    let high = IpAddress::v4(255, 255, 255, 255);
-    let other = IpAddress::v6(0, 0, 0, 0, 0, 0, 0, 0);
-    let last = IpAddress::v6(0, 0, 0, 0, 0, 0, 0, 1);
-    let found = (
-        [low < high, high < other, other < last],
-        count_distinct(rt.alloc(), &[low, high, low, other, other])?,
-    );
-    assert_eq!(rt; found, ([true; 3], 3));
-    Ok(())
+fn ignores_the_width_of_a_format(rt: HostRuntime) {
+    let found = [
+        prints(&IpAddress::from(Ipv6Address::LOCALHOST), "::1"),
+        prints(
+            &IpCidr::new(IpAddress::v4(192, 0, 2, 1), 24),
+            "192.0.2.1/24",
+        ),
+        prints(&EthernetAddress([2, 0, 0, 0, 0, 1]), "02-00-00-00-00-01"),
+        prints(&TcpSeqNumber(-1), "4294967295"),
+        prints(&IpVersion::Ipv4, "IPv4"),
+        prints(&IpVersion::Ipv6, "IPv6"),
+    ];
+    assert_eq!(rt; found, [true; 6]);
 }

@@ -1,7 +1,6 @@
 //! Versions of the Internet Protocol.
 
 use ip_wire::{Error, IpVersion};
-use test_support::prints;
 
 #[test]
 fn parses_the_first_four_bits(rt: HostRuntime) {
@@ -18,18 +17,4 @@ fn parses_the_first_four_bits(rt: HostRuntime) {
     ] {
         assert_eq!(rt; IpVersion::of_packet(packet), version);
     }
-}
-
-#[test]
-fn prints_its_name(rt: HostRuntime) {
-    let found = [
-        prints(&IpVersion::Ipv4, "IPv4"),
-        prints(&IpVersion::Ipv6, "IPv6"),
-    ];
-    assert_eq!(rt; found, [true; 2]);
-}
-
-#[test]
-fn ipv4_is_less_than_ipv6(rt: HostRuntime) {
-    assert!(rt; IpVersion::Ipv4 < IpVersion::Ipv6);
 }

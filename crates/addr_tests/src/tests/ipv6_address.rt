@@ -1,4 +1,4 @@
-//! IPv6 addresses. `tests/calls` records classes and prefix lengths of more addresses.
+//! IPv6 addresses. `tests/calls/worked_addresses.call` has more examples.
 
 use ip_wire::{
     EthernetAddress, HardwareAddress, IPV6_ADDR_SIZE, IPV6_LINK_LOCAL_ALL_MLDV2_ROUTERS,
@@ -6,37 +6,6 @@ use ip_wire::{
     Ipv6Address, Ipv6Cidr, Ipv6MulticastScope,
 };
 use test_support::prints;
-
-#[test]
-fn prints_the_longest_run_of_zeros_as_two_colons(rt: HostRuntime) {
-    for (groups, text) in [
-        ([0x2001, 0, 0, 1, 0, 0, 0, 1], "2001:0:0:1::1"),
-        ([0x2001, 0xdb8, 0, 0, 1, 0, 0, 1], "2001:db8::1:0:0:1"),
-        ([0x2001, 0xdb8, 0, 1, 1, 1, 1, 1], "2001:db8:0:1:1:1:1:1"),
-        ([0, 0, 0, 0, 0, 0xffff, 0x102, 0x304], "::ffff:1.2.3.4"),
-        ([0, 0, 0, 0, 0, 0, 0x102, 0x304], "::102:304"),
-        ([0, 0, 0, 0, 0, 0, 0, 0], "::"),
-        ([0, 0, 0, 0, 0, 0, 0, 1], "::1"),
-        ([0xfe80, 0, 0, 0, 0, 0, 0, 1], "fe80::1"),
-        ([0xff02, 0, 0, 0, 0, 0, 0, 1], "ff02::1"),
-        ([1, 2, 3, 4, 5, 6, 7, 8], "1:2:3:4:5:6:7:8"),
-        ([1, 0, 0, 0, 0, 0, 0, 0], "1::"),
-        (
-            [0xa, 0xbc, 0xdef, 0x1234, 0x10, 0x100, 0x1000, 0],
-            "a:bc:def:1234:10:100:1000:0",
-        ),
-        (
-            [
-                0xffff, 0xffff, 0xffff, 0xffff, 0xffff, 0xffff, 0xffff, 0xffff,
-            ],
-            "ffff:ffff:ffff:ffff:ffff:ffff:ffff:ffff",
-        ),
-    ] {
-        let address = Ipv6Address::from(groups);
-        let found = (address.segments(), prints(&address, text));
-        assert_eq!(rt; found, (groups, true), "{text}");
-    }
-}
 
 #[test]
 fn converts_from_octets_and_groups(rt: HostRuntime) {
@@ -47,21 +16,11 @@ fn converts_from_octets_and_groups(rt: HostRuntime) {
     let found = (
         [Ipv6Address::from_octets(octets), Ipv6Address::from(octets)],
         address.octets(),
+        address.segments(),
         IPV6_ADDR_SIZE,
     );
-    assert_eq!(rt; found, ([address, address], octets, 16));
-}
-
-#[test]
-fn is_ordered_by_octets(rt: HostRuntime) {
-    let localhost = Ipv6Address::LOCALHOST;
-    let found = (
-        localhost.octets(),
-        Ipv6Address::UNSPECIFIED < localhost,
-        Ipv6Address::new(1, 0, 0, 0, 0, 0, 0, 0) > localhost,
-    );
-    let octets = [0, 0, 0, 0, 0, 0, 0, 0, 0, 0, 0, 0, 0, 0, 0, 1];
-    assert_eq!(rt; found, (octets, true, true));
+    let groups = [0xfe80, 0, 0, 0, 0x1011, 0x1213, 0x1415, 0x1617];
+    assert_eq!(rt; found, ([address, address], octets, groups, 16));
 }
 
 #[test]
@@ -90,28 +49,6 @@ fn converts_to_and_from_bits(rt: HostRuntime) {
         let found = (address.to_bits(), Ipv6Address::from_bits(bits));
         assert_eq!(rt; found, (bits, address));
     }
-}
-
-#[test]
-fn has_classes(rt: HostRuntime) {
-    let group = Ipv6Address::new(0xff02, 0, 0, 0, 0, 1, 0xff01, 101);
-    let found = [
-        Ipv6Address::UNSPECIFIED.is_unspecified(),
-        Ipv6Address::LOCALHOST.is_loopback(),
-        group.is_multicast(),
-        Ipv6Address::new(0xfd00, 0, 0, 201, 1, 1, 1, 1).is_unique_local(),
-        Ipv6Address::new(0xfe80, 0, 0, 0, 0, 0, 0, 1).is_link_local(),
-        Ipv6Address::new(0x2001, 0xdb8, 3, 0, 0, 0, 0, 1).is_global_unicast(),
-        group.is_solicited_node_multicast(),
-        Ipv6Address::LOCALHOST.x_is_unicast(),
-    ];
-    assert_eq!(rt; found, [true; 8]);
-}
-
-#[test]
-fn has_a_scope(rt: HostRuntime) {
-    let group = Ipv6Address::new(0xff05, 0, 0, 0, 0, 0, 0, 1);
-    assert_eq!(rt; group.x_multicast_scope(), Ipv6MulticastScope::SiteLocal);
 }
 
 #[test]
@@ -153,15 +90,6 @@ fn keeps_its_first_bits_under_a_mask(rt: HostRuntime) {
 }
 
 #[test]
-fn a_netmask_has_a_prefix_length(rt: HostRuntime) {
-    let found = [
-        Ipv6Address::new(0xffff, 0x8000, 0, 0, 0, 0, 0, 0).prefix_len(),
-        Ipv6Address::LOCALHOST.prefix_len(),
-    ];
-    assert_eq!(rt; found, [Some(17), None]);
-}
-
-#[test]
 fn its_solicited_node_address_has_its_last_three_octets(rt: HostRuntime) {
     for (groups, text) in [
         ([0xfe80, 0, 0, 0, 0, 0, 0, 1], "ff02::1:ff00:1"),
@@ -172,9 +100,7 @@ fn its_solicited_node_address_has_its_last_three_octets(rt: HostRuntime) {
     ] {
         let address = Ipv6Address::from(groups);
         assert!(rt; address.x_is_unicast());
-        let group = address.solicited_node();
-        let found = [prints(&group, text), group.is_solicited_node_multicast()];
-        assert_eq!(rt; found, [true; 2], "{text}");
+        assert!(rt; prints(&address.solicited_node(), text), "{text}");
     }
 }
 
@@ -200,12 +126,8 @@ fn an_interface_has_an_address_on_its_link(rt: HostRuntime) {
         let found = (
             Ipv6Address::from_link_prefix(&prefix, hardware),
             Ipv6Cidr::from_link_prefix(&prefix, hardware),
-            [
-                prefix.contains_addr(&address),
-                prefix.contains_subnet(&block),
-            ],
         );
-        assert_eq!(rt; found, (Some(address), Some(block), [true, true]));
+        assert_eq!(rt; found, (Some(address), Some(block)));
     }
 }
 

@@ -1,11 +1,24 @@
 //! Types with an order, each with values in ascending order.
 
-use super::count_distinct;
+use ip_wire::laws::order_agrees;
 use ip_wire::{
-    ArpHardware, ArpOperation, EthernetAddress, EthernetProtocol, IpAddress, IpProtocol, IpVersion,
-    Ipv4Address, Ipv4FragKey, Ipv6Address,
+    ArpHardware, ArpOperation, EthernetAddress, EthernetProtocol, IpAddress, IpCidr, IpEndpoint,
+    IpListenEndpoint, IpProtocol, IpVersion, Ipv4Address, Ipv4Cidr, Ipv4FragKey, Ipv6Address,
+    Ipv6Cidr,
 };
+use std::alloc::{AllocError, Global};
+use std::collections::HashSet;
+use std::hash::Hash;
 use std::test::Fail;
+
+/// The number of different values.
+fn count_distinct<T: Copy + Eq + Hash>(alloc: Global, values: &[T]) -> Result<usize, AllocError> {
+    let mut seen = HashSet::new(alloc);
+    for value in values {
+        seen.insert(*value)?;
+    }
+    Ok(seen.len())
+}
 
 /// Whether each value equals only itself, and is less than all later ones.
 fn are_in_order<T: Ord>(values: &[T]) -> bool {
@@ -103,6 +116,8 @@ fn orders_addresses_by_version_and_octets(rt: HostRuntime) {
             EthernetAddress([0, 0, 0, 0, 0, 0xff]),
             EthernetAddress([0, 0, 0, 0, 1, 0]),
             EthernetAddress([1, 0, 0, 0, 0, 0]),
+            EthernetAddress([1, 2, 3, 4, 5, 255]),
+            EthernetAddress([1, 2, 3, 4, 6, 0]),
             EthernetAddress::BROADCAST,
         ])
     );
@@ -116,10 +131,76 @@ fn orders_addresses_by_version_and_octets(rt: HostRuntime) {
             IpAddress::v6(0xfe80, 0, 0, 0, 0, 0, 0, 1),
         ])
     );
+    assert!(rt;
+        are_in_order(&[
+            Ipv4Address::new(9, 255, 255, 255),
+            Ipv4Address::new(10, 0, 0, 0),
+            Ipv4Address::new(10, 0, 0, 1),
+        ])
+    );
+    assert!(rt;
+        are_in_order(&[
+            Ipv6Address::UNSPECIFIED,
+            Ipv6Address::LOCALHOST,
+            Ipv6Address::new(1, 0, 0, 0, 0, 0, 0, 0),
+        ])
+    );
 }
 
 #[test]
-fn hashes_protocols_by_their_names_and_numbers(rt: HostRuntime) -> Result<(), Fail> {
+fn orders_blocks_by_address_and_prefix(rt: HostRuntime) {
+    assert!(rt;
+        are_in_order(&[
+            Ipv4Cidr::new(Ipv4Address::new(9, 255, 255, 255), 32),
+            Ipv4Cidr::new(Ipv4Address::new(10, 0, 0, 0), 8),
+            Ipv4Cidr::new(Ipv4Address::new(10, 0, 0, 0), 9),
+        ])
+    );
+    let (low, high) = (
+        Ipv6Address::new(0xfe80, 0, 0, 0, 0, 0, 0, 1),
+        Ipv6Address::new(0xfe80, 0, 0, 0, 0, 0, 0, 2),
+    );
+    order_agrees(&Ipv6Cidr::new(low, 128), &Ipv6Cidr::new(high, 10));
+    assert!(rt;
+        are_in_order(&[
+            Ipv6Cidr::new(low, 128),
+            Ipv6Cidr::new(high, 10),
+            Ipv6Cidr::new(high, 64),
+        ])
+    );
+    assert!(rt;
+        are_in_order(&[
+            IpCidr::new(IpAddress::v4(10, 0, 0, 0), 31),
+            IpCidr::new(IpAddress::v4(10, 0, 0, 0), 32),
+            IpCidr::new(IpAddress::v4(10, 0, 0, 1), 8),
+            IpCidr::new(IpAddress::v6(0, 0, 0, 0, 0, 0, 0, 0), 0),
+        ])
+    );
+}
+
+#[test]
+fn orders_endpoints_by_address_and_port(rt: HostRuntime) {
+    let ipv6 = IpAddress::from(Ipv6Address::UNSPECIFIED);
+    assert!(rt;
+        are_in_order(&[
+            IpEndpoint::new(IpAddress::v4(1, 2, 3, 4), 80),
+            IpEndpoint::new(IpAddress::v4(1, 2, 3, 4), 65535),
+            IpEndpoint::new(IpAddress::v4(1, 2, 3, 5), 1),
+            IpEndpoint::new(ipv6, 0),
+        ])
+    );
+    assert!(rt;
+        are_in_order(&[
+            IpListenEndpoint::from(65535),
+            IpListenEndpoint::from((IpAddress::v4(1, 2, 3, 4), 0)),
+            IpListenEndpoint::from((IpAddress::v4(1, 2, 3, 4), 65535)),
+            IpListenEndpoint::from((IpAddress::v4(1, 2, 3, 5), 1)),
+        ])
+    );
+}
+
+#[test]
+fn hashes_values_by_their_fields(rt: HostRuntime) -> Result<(), Fail> {
     let protocols = [
         IpProtocol::Tcp,
         IpProtocol::Udp,
@@ -128,6 +209,24 @@ fn hashes_protocols_by_their_names_and_numbers(rt: HostRuntime) -> Result<(), Fa
         IpProtocol::Unknown(0),
         IpProtocol::Tcp,
     ];
-    assert_eq!(rt; count_distinct(rt.alloc(), &protocols)?, 5);
+    let (low, high) = (IpAddress::v4(1, 2, 3, 4), IpAddress::v4(1, 2, 3, 5));
+    let blocks = [
+        IpCidr::new(low, 24),
+        IpCidr::new(low, 32),
+        IpCidr::new(high, 32),
+        IpCidr::new(low, 32),
+    ];
+    let endpoints = [
+        IpListenEndpoint::from(80),
+        IpListenEndpoint::from((low, 80)),
+        IpListenEndpoint::from((high, 80)),
+        IpListenEndpoint::from(80),
+    ];
+    let found = [
+        count_distinct(rt.alloc(), &protocols)?,
+        count_distinct(rt.alloc(), &blocks)?,
+        count_distinct(rt.alloc(), &endpoints)?,
+    ];
+    assert_eq!(rt; found, [5, 3, 3]);
     Ok(())
 }

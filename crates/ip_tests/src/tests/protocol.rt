@@ -1,32 +1,33 @@
-//! Protocol numbers.
+//! Protocol numbers. `tests/cases/shapes.hex` has the text of each.
 
 use ip_wire::IpProtocol;
 use test_support::prints;
 
 #[test]
 fn names_the_protocols_of_the_table(rt: HostRuntime) {
-    for (number, name, text) in [
-        (0, IpProtocol::HopByHop, "Hop-by-Hop"),
-        (1, IpProtocol::Icmp, "ICMP"),
-        (2, IpProtocol::Igmp, "IGMP"),
-        (6, IpProtocol::Tcp, "TCP"),
-        (17, IpProtocol::Udp, "UDP"),
-        (43, IpProtocol::Ipv6Route, "IPv6-Route"),
-        (44, IpProtocol::Ipv6Frag, "IPv6-Frag"),
-        (50, IpProtocol::IpSecEsp, "IPsec-ESP"),
-        (51, IpProtocol::IpSecAh, "IPsec-AH"),
-        (58, IpProtocol::Icmpv6, "ICMPv6"),
-        (59, IpProtocol::Ipv6NoNxt, "IPv6-NoNxt"),
-        (60, IpProtocol::Ipv6Opts, "IPv6-Opts"),
-        (3, IpProtocol::Unknown(3), "0x03"),
-        (0xfe, IpProtocol::Unknown(0xfe), "0xfe"),
+    for (number, name) in [
+        (0, IpProtocol::HopByHop),
+        (1, IpProtocol::Icmp),
+        (2, IpProtocol::Igmp),
+        (6, IpProtocol::Tcp),
+        (17, IpProtocol::Udp),
+        (43, IpProtocol::Ipv6Route),
+        (44, IpProtocol::Ipv6Frag),
+        (50, IpProtocol::IpSecEsp),
+        (51, IpProtocol::IpSecAh),
+        (58, IpProtocol::Icmpv6),
+        (59, IpProtocol::Ipv6NoNxt),
+        (60, IpProtocol::Ipv6Opts),
+        (3, IpProtocol::Unknown(3)),
+        (0xfe, IpProtocol::Unknown(0xfe)),
     ] {
-        let found = (IpProtocol::from(number), name.number(), prints(&name, text));
-        assert_eq!(rt; found, (name, number, true), "{text}");
+        let found = (IpProtocol::from(number), name.number());
+        assert_eq!(rt; found, (name, number));
     }
 }
 
 #[test]
 fn unlisted_protocols_come_last(rt: HostRuntime) {
-    assert!(rt; IpProtocol::Ipv6Opts < IpProtocol::Unknown(0));
+    let other = IpProtocol::Unknown(3);
+    assert!(rt; IpProtocol::Ipv6Opts < other && prints(&other, "0x03"));
 }

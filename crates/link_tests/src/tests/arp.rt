@@ -1,10 +1,9 @@
-//! ARP packets.
+//! ARP packets. `tests/calls/worked_headers.call` has more examples.
 
 use ip_wire::{
     ArpHardware, ArpOperation, ArpPacket, ArpPacketMut, ArpRepr, Error, EthernetAddress,
-    EthernetProtocol, Ipv4Address,
+    Ipv4Address,
 };
-use std::test::Fail;
 use test_support::{OLD, prints};
 
 /// A request from 33.34.35.36 for the hardware address of 65.66.67.68.
@@ -18,24 +17,14 @@ const SHORT: [u8; 12] = [
     0x00, 0x01, 0x86, 0xdd, 0x01, 0x01, 0x00, 0x02, 0x0a, 0x0b, 0x0c, 0x0d,
 ];
 
-/// The hardware addresses of that reply.
-const SOURCE_HARDWARE: [u8; 6] = [0x11, 0x12, 0x13, 0x14, 0x15, 0x16];
-
-const TARGET_HARDWARE: [u8; 6] = [0x31, 0x32, 0x33, 0x34, 0x35, 0x36];
-
-/// Its protocol addresses.
-const SOURCE_PROTOCOL: [u8; 4] = [33, 34, 35, 36];
-
-const TARGET_PROTOCOL: [u8; 4] = [65, 66, 67, 68];
-
-/// The values of that reply, with another operation.
+/// The values of the request, with another operation.
 fn value(operation: ArpOperation) -> ArpRepr {
     ArpRepr::EthernetIpv4 {
         operation,
-        source_hardware_addr: EthernetAddress(SOURCE_HARDWARE),
-        source_protocol_addr: Ipv4Address::from_octets(SOURCE_PROTOCOL),
-        target_hardware_addr: EthernetAddress(TARGET_HARDWARE),
-        target_protocol_addr: Ipv4Address::from_octets(TARGET_PROTOCOL),
+        source_hardware_addr: EthernetAddress([0x11, 0x12, 0x13, 0x14, 0x15, 0x16]),
+        source_protocol_addr: Ipv4Address::new(33, 34, 35, 36),
+        target_hardware_addr: EthernetAddress([0x31, 0x32, 0x33, 0x34, 0x35, 0x36]),
+        target_protocol_addr: Ipv4Address::new(65, 66, 67, 68),
     }
 }
 
@@ -50,6 +39,7 @@ fn names_hardware(rt: HostRuntime) {
         let found = (ArpHardware::from(number), hardware.number());
         assert_eq!(rt; found, (hardware, number));
     }
+    assert_eq!(rt; ArpHardware::Unknown(1).number(), 1);
 }
 
 #[test]
@@ -66,119 +56,16 @@ fn names_operations(rt: HostRuntime) {
 }
 
 #[test]
-fn a_listed_number_may_be_unnamed(rt: HostRuntime) {
-    let found = [
-        ArpHardware::Unknown(1).number(),
-        ArpOperation::Unknown(1).number(),
-    ];
-    assert_eq!(rt; found, [1, 1]);
-}
-
-/// What the getters of a view return for the fields of fixed length.
-macro_rules! fields {
-    ($packet:ident) => {
-        (
-            $packet.hardware_type(),
-            $packet.protocol_type(),
-            [$packet.hardware_len(), $packet.protocol_len()],
-            $packet.operation(),
-        )
-    };
-}
-
-/// The addresses that they return: hardware and protocol, of the source and the target.
-macro_rules! addresses {
-    ($packet:ident) => {
-        (
-            $packet.source_hardware_addr(),
-            $packet.source_protocol_addr(),
-            $packet.target_hardware_addr(),
-            $packet.target_protocol_addr(),
-        )
-    };
-}
-
-#[test]
-fn reads_every_field(rt: HostRuntime) -> std::result::Result<(), Fail> {
-    let packet = ArpPacket::new_checked(&PACKET)?;
-    let want = (
-        ArpHardware::Ethernet,
-        EthernetProtocol::Ipv4,
-        [6, 4],
-        ArpOperation::Request,
-    );
-    assert_eq!(rt; fields!(packet), want);
-    Ok(())
-}
-
-#[test]
-fn reads_addresses_and_all_bytes(rt: HostRuntime) -> std::result::Result<(), Fail> {
-    let packet = ArpPacket::new_checked(&PACKET)?;
-    let addresses = addresses!(packet);
-    let bytes = (packet.as_bytes(), packet.into_inner());
-    let want = (
-        SOURCE_HARDWARE.as_slice(),
-        SOURCE_PROTOCOL.as_slice(),
-        TARGET_HARDWARE.as_slice(),
-        TARGET_PROTOCOL.as_slice(),
-    );
-    assert_eq!(rt;
-        (addresses, bytes),
-        (want, (PACKET.as_slice(), PACKET.as_slice()))
-    );
-    Ok(())
-}
-
-#[test]
-fn a_writing_view_reads_every_field(rt: HostRuntime) -> std::result::Result<(), Fail> {
+fn a_view_has_all_bytes(rt: HostRuntime) {
     let mut buffer = SHORT;
-    let packet = ArpPacketMut::new_checked(&mut buffer)?;
-    let want = (
-        ArpHardware::Ethernet,
-        EthernetProtocol::Ipv6,
-        [1, 1],
-        ArpOperation::Reply,
-    );
-    assert_eq!(rt; fields!(packet), want);
-    Ok(())
-}
-
-#[test]
-fn reads_addresses_of_other_lengths(rt: HostRuntime) -> std::result::Result<(), Fail> {
-    let mut buffer = SHORT;
-    let packet = ArpPacketMut::new_checked(&mut buffer)?;
-    let want = (
-        [0x0a].as_slice(),
-        [0x0b].as_slice(),
-        [0x0c].as_slice(),
-        [0x0d].as_slice(),
-    );
+    let packet = ArpPacket::new_unchecked(&SHORT);
+    let mutable = ArpPacketMut::new_unchecked(&mut buffer);
     let is_whole = [
-        packet.as_bytes() == SHORT.as_slice(),
-        packet.as_view() == ArpPacket::new_unchecked(&SHORT),
+        mutable.as_view() == packet,
+        mutable.as_bytes() == packet.as_bytes(),
     ];
-    assert_eq!(rt; addresses!(packet), want);
-    assert_eq!(rt; is_whole, [true; 2]);
-    Ok(())
-}
-
-#[test]
-fn writes_every_field(rt: HostRuntime) -> std::result::Result<(), Fail> {
-    let mut buffer = [0xa5; 28];
-    let mut packet = ArpPacketMut::new_unchecked(&mut buffer);
-    packet.set_hardware_type(ArpHardware::Ethernet);
-    packet.set_protocol_type(EthernetProtocol::Ipv4);
-    packet.set_hardware_len(6);
-    packet.set_protocol_len(4);
-    packet.set_operation(ArpOperation::Request);
-    packet.set_source_hardware_addr(&SOURCE_HARDWARE);
-    packet.set_source_protocol_addr(&SOURCE_PROTOCOL);
-    packet.set_target_hardware_addr(&TARGET_HARDWARE);
-    packet.set_target_protocol_addr(&TARGET_PROTOCOL);
-    packet.check_len()?;
-    let written: &[u8] = packet.into_inner();
-    assert_eq!(rt; written, PACKET.as_slice());
-    Ok(())
+    let written: &[u8] = mutable.into_inner();
+    assert_eq!(rt; (is_whole, written), ([true; 2], packet.into_inner()));
 }
 
 /// What each check of the bytes returns.
@@ -233,9 +120,7 @@ fn writes_a_packet_and_leaves_the_rest(rt: HostRuntime) {
             want[..28].copy_from_slice(&PACKET);
             let mut buffer = [old; 30];
             value(operation).emit(&mut ArpPacketMut::new_unchecked(&mut buffer));
-            let read = ArpRepr::parse(&ArpPacket::new_unchecked(&buffer));
-            let request = value(ArpOperation::Request);
-            assert_eq!(rt; (buffer, read), (want, Ok(request)));
+            assert_eq!(rt; buffer, want);
         }
     }
     assert_eq!(rt; value(ArpOperation::Reply).buffer_len(), PACKET.len());
@@ -244,11 +129,6 @@ fn writes_a_packet_and_leaves_the_rest(rt: HostRuntime) {
 /// The text of the packet and of its values.
 const TEXT: &str =
     "ARP type=Ethernet+IPv4 src=11-12-13-14-15-16/33.34.35.36 tgt=31-32-33-34-35-36/65.66.67.68 op=Request";
-
-#[test]
-fn prints_values(rt: HostRuntime) {
-    assert!(rt; prints(&value(ArpOperation::Request), TEXT));
-}
 
 #[test]
 fn prints_packets(rt: HostRuntime) {
@@ -275,4 +155,5 @@ fn prints_packets(rt: HostRuntime) {
         let packet = ArpPacket::new_unchecked(bytes);
         assert!(rt; prints(&packet, text), "{text}");
     }
+    assert!(rt; prints(&value(ArpOperation::Request), TEXT));
 }

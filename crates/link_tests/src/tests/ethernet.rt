@@ -1,13 +1,9 @@
-//! Ethernet frames.
-
-ghost use Rattle.std.specs.Prelude.{◌≡◌, ◌+◌, length};
-ghost use Rattle.ip_wire.specs.Ethernet.{frame_bytes_mut};
+//! Ethernet frames. `tests/calls/worked_headers.call` has more examples.
 
 use ip_wire::{
     ETHERNET_HEADER_LEN, Error, EthernetAddress, EthernetFrame, EthernetFrameMut, EthernetProtocol,
     EthernetRepr,
 };
-use std::test::Fail;
 use test_support::{OLD, prints};
 
 /// The receiver of each frame.
@@ -42,64 +38,27 @@ fn header(ethertype: EthernetProtocol) -> EthernetRepr {
 }
 
 #[test]
-fn reads_every_field(rt: HostRuntime) -> Result<(), Fail> {
-    for (bytes, ethertype) in [
-        (IPV4_FRAME.as_slice(), EthernetProtocol::Ipv4),
-        (IPV6_FRAME.as_slice(), EthernetProtocol::Ipv6),
-    ] {
-        let frame = EthernetFrame::new_checked(bytes)?;
-        let fields = (frame.dst_addr(), frame.src_addr(), frame.ethertype());
-        let value = EthernetRepr::parse(&frame);
-        let parts = (frame.payload(), frame.as_bytes(), frame.into_inner());
-        assert_eq!(rt;
-            (fields, value, parts),
-            (
-                (FRAME_DST, FRAME_SRC, ethertype),
-                Ok(header(ethertype)),
-                (&bytes[14..], bytes, bytes)
-            )
-        );
-    }
-    Ok(())
-}
-
-/// Writes a frame, and returns the values of the getters.
-fn write(
-    frame: &mut EthernetFrameMut<'_>,
-    ethertype: EthernetProtocol,
-    payload: &[u8],
-) -> (EthernetAddress, EthernetAddress, EthernetProtocol)
-    requires { length (frame_bytes_mut frame.old) ≡ 14 + length payload.now }
-{
-    frame.set_dst_addr(FRAME_DST);
-    frame.set_src_addr(FRAME_SRC);
-    frame.set_ethertype(ethertype);
-    let fields = (frame.dst_addr(), frame.src_addr(), frame.ethertype());
-    frame.payload_mut().copy_from_slice(payload);
-    fields
+fn a_view_has_a_header_a_payload_and_all_bytes(rt: HostRuntime) {
+    let bytes = IPV6_FRAME.as_slice();
+    let frame = EthernetFrame::new_unchecked(bytes);
+    let value = EthernetRepr::parse(&frame);
+    let found = (frame.payload(), frame.as_bytes(), frame.into_inner());
+    assert_eq!(rt; value, Ok(header(EthernetProtocol::Ipv6)));
+    assert_eq!(rt; found, (&bytes[14..], bytes, bytes));
 }
 
 #[test]
-fn writes_every_field(rt: HostRuntime) -> Result<(), Fail> {
-    for (bytes, ethertype) in [
-        (IPV4_FRAME.as_slice(), EthernetProtocol::Ipv4),
-        (IPV6_FRAME.as_slice(), EthernetProtocol::Ipv6),
-    ] {
-        let mut buffer = [0xa5; 64];
-        assert!(rt; bytes.len() <= 64);
-        let mut frame = EthernetFrameMut::new_checked(&mut buffer[..bytes.len()])?;
-        let fields = write(&mut frame, ethertype, &bytes[14..]);
-        let is_whole = [
-            frame.as_view() == EthernetFrame::new_unchecked(bytes),
-            frame.as_bytes() == bytes,
-        ];
-        let written: &[u8] = frame.into_inner();
-        assert_eq!(rt;
-            (fields, is_whole, written),
-            ((FRAME_DST, FRAME_SRC, ethertype), [true; 2], bytes)
-        );
-    }
-    Ok(())
+fn a_mutable_view_lends_the_payload(rt: HostRuntime) {
+    let mut buffer = [0xa5; 54];
+    buffer[..14].copy_from_slice(&IPV6_FRAME[..14]);
+    let mut frame = EthernetFrameMut::new_unchecked(&mut buffer);
+    frame.payload_mut().copy_from_slice(&IPV6_FRAME[14..]);
+    let is_whole = [
+        frame.as_view() == EthernetFrame::new_unchecked(&IPV6_FRAME),
+        frame.as_bytes() == IPV6_FRAME.as_slice(),
+    ];
+    let written: &[u8] = frame.into_inner();
+    assert_eq!(rt; (is_whole, written), ([true; 2], IPV6_FRAME.as_slice()));
 }
 
 #[test]
