@@ -5,7 +5,7 @@
 
 The widths of the fields in each diagram must be those of the definition `diagram` of its module. Each field must have a row
 in `write_of`, unless its name says that it is reserved. Each setter of the view must be a row too, and both laws of the view
-must call what their rows name. tests/calls/set.call must have a line for each setter but those of UNRECORDED. What differs is printed, and the status is
+must call what their rows name. tests/calls/set.call must have a line for each setter. What differs is printed, and the status is
 1 then. TOP is the top of the repository.
 """
 import os
@@ -15,8 +15,6 @@ import sys
 import drawings
 
 RESERVED = {"0", "Res", "Rsrvd", "Reserved"}
-# The calls that `ip_calls` does not make yet, and that no line records therefore.
-UNRECORDED = {"update_dscp", "update_ecn", "update_window_len", "update_max_seg_size"}
 # The heading of a diagram, its module, the files of its setters, how many of the drawn fields the view leaves out in front, and
 # the view's word in the calls.
 VIEWS = [
@@ -57,7 +55,7 @@ def differences(heading, crate, name, files, front, word, drawn):
     source = "".join(read(f"crates/{crate}/src/{file}") for file in files)
     calls = set(re.findall(r"pub fn ((?:set|clear|fill|update)_\w+)\(&mut self", source))
     lines = read("tests/calls/set.call")
-    yield from (f"{heading}: no call of {call} is recorded" for call in sorted(calls - UNRECORDED) if f"set {word} {call} " not in lines)
+    yield from (f"{heading}: no call of {call} is recorded" for call in sorted(calls) if f"set {word} {call} " not in lines)
     setters = {call.removeprefix("set_") for call in calls if call.startswith("set_")}
     written = {snake(row) for row, _ in rows}
     yield from (f"{heading}: the law has no row for set_{setter}" for setter in sorted(setters - written))
