@@ -135,7 +135,9 @@ packet-read : (caps : ChecksumCapabilities) (frame : List ℕ) (link : EthernetR
 packet-read caps frame link v t r = rw ((frame_of-Reads caps frame link (packet v t)).1 r) refl
 
 packet-in : (d : EthernetRepr × Carried) (link : EthernetRepr) (v : IpRepr) (t : Transport) → packet_in d ≡ Some (link, v, t) → d ≡ (link, packet v t)
-packet-in (l, packet w s) link v t e = cc
+packet-in (l, packet w s) link v t e =
+    let same : (l, w, s) ≡ (link, v, t) = cc in
+    ap (λ (x : EthernetRepr × IpRepr × Transport). (x.0, packet x.1 x.2)) same
 packet-in (l, message w) link v t e = absurd (cc)
 
 packet-only : (caps : ChecksumCapabilities) (frame : List ℕ) (link : EthernetRepr) (v : IpRepr) (t : Transport) → packet_of caps frame ≡ Some (link, v, t)

@@ -22,3 +22,6 @@ returns-else-is_read-clause-reads c = λ v d.
 
 pub returns-else-is_read-clause-value : goal.returns-else-is_read-clause-value
 returns-else-is_read-clause-value c = no-values c.args.caps.now c.args.bytes.now (no-frame c.args.caps.now c.args.bytes.now c.in-Ok.frame c.in-Ok.ensures.value (sym c.is_read.ensures ∙ c.if-is_read.false))
+
+pub returns-in-Err-clause-value : goal.returns-in-Err-clause-value
+returns-in-Err-clause-value c = no-values c.args.caps.now c.args.bytes.now (λ link d r. let none = c.in-Err.ensures.ok.1 r.reads_header.whole in cc)
