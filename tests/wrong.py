@@ -81,7 +81,8 @@ def main():
     failed = [*unpaired(names)]
     print("".join(f"{line}\n" for line in failed), end="", flush=True)
     # Once, so that no copy proves the crates below its own.
-    subprocess.run([f"{TOP}/tests/progress.py", f"{TOP}/out/libraries.log", "rt", "lib"], cwd="crates/ip_wire", check=True)
+    library = "c_structs" if "ip_wire_c" in names else "ip_wire"
+    subprocess.run([f"{TOP}/tests/progress.py", f"{TOP}/out/libraries.log", "rt", "lib"], cwd=f"crates/{library}", check=True)
     tasks = [(crate, kind) for kind in ("wrong-bodies", "controls") for crate in names if edits(crate, kind)]
     tasks.sort(key=lambda task: -len(edits(*task)))
     with ThreadPoolExecutor(len(os.sched_getaffinity(0))) as pool, open("out/wrong.log", "w", encoding="utf-8") as log:
