@@ -40,14 +40,13 @@ fn accepts_neighbours_over_ipv6(rt: HostRuntime) {
 
 #[test]
 fn accepts_only_packets_that_parse(rt: HostRuntime) {
-    let sent = with_hop_limit(255, [0xd6, 0x68]);
-    let mut damaged = sent;
+    let mut damaged = with_hop_limit(255, [0xd6, 0x68]);
     damaged[45] ^= 1;
     for frame in [
         &ARP_REQUEST[..],
         &with_hop_limit(255, [0x95, 0x69]),
         &damaged,
-        &sent[..45],
+        &SYN[..73],
         &[],
     ] {
         assert!(rt; !is_near(frame, 255));
