@@ -3,14 +3,14 @@
 use crate::answer::NoAnswer;
 use crate::operands::{addresses, capabilities, octets, read};
 use ip_wire::{
-    IPV4_MAX_PAYLOAD_LEN, IpPacket, IpRepr, Ipv4Packet, Ipv4PacketMut, Ipv4Repr,
+    Frame, IPV4_MAX_PAYLOAD_LEN, IpPacket, IpRepr, Ipv4Packet, Ipv4PacketMut, Ipv4Repr,
     TCP_MAX_HEADER_LEN, TcpPacket, TcpPacketMut, TcpRepr, UDP_HEADER_LEN, UDP_MAX_PAYLOAD_LEN,
     UdpPacket, UdpPacketMut, UdpRepr,
 };
 use net_base::ChecksumCapabilities;
 use std::alloc::Global;
 
-/// The octets that are emitted: an IP header, or a packet of UDP or TCP. `err` if none is parsed.
+/// The octets that are emitted: an IP header, a packet of UDP or TCP, or a frame. `err` if none is parsed.
 pub fn answer(alloc: Global, operands: &[&str]) -> Result<String, NoAnswer> {
     let [format, ends @ .., choices, old, word] = operands else {
         return Err(NoAnswer::Malformed);
@@ -22,6 +22,7 @@ pub fn answer(alloc: Global, operands: &[&str]) -> Result<String, NoAnswer> {
         ("ip", []) => ip(alloc, bytes.as_slice(), &caps, old)?,
         ("udp", [src, dst]) => udp(alloc, src, dst, bytes.as_slice(), &caps, old)?,
         ("tcp", [src, dst]) => tcp(alloc, src, dst, bytes.as_slice(), &caps, old)?,
+        ("frame", []) => frame(alloc, bytes.as_slice(), &caps, old)?,
         _ => return Err(NoAnswer::Malformed),
     };
     match emitted {
@@ -105,5 +106,19 @@ fn tcp(
     let mut out = vec![in alloc; old; segment.buffer_len()]?;
     let mut emitted = TcpPacketMut::new_unchecked(out.as_mut_slice());
     segment.emit(&mut emitted, &src, &dst, caps);
+    Ok(Some(out))
+}
+
+fn frame(
+    alloc: Global,
+    bytes: &[u8],
+    caps: &ChecksumCapabilities,
+    old: u8,
+) -> Result<Option<Vec<u8>>, NoAnswer> {
+    let Ok(frame) = Frame::parse(bytes, caps) else {
+        return Ok(None);
+    };
+    let mut out = vec![in alloc; old; frame.buffer_len()]?;
+    frame.emit(out.as_mut_slice(), caps);
     Ok(Some(out))
 }

@@ -101,6 +101,7 @@ fn call(alloc: Global, line: &[u8]) -> Result<String, NoAnswer> {
         ["header", operands @ ..] => header::answer(alloc, operands),
         ["frag", operands @ ..] => fragment::answer(alloc, operands),
         ["walk", operands @ ..] => options::answer(alloc, operands),
+        ["option", operands @ ..] => options::first(alloc, operands),
         ["block", operands @ ..] => block::answer(alloc, operands),
         ["prefix", operands @ ..] => mask::prefix_len(alloc, operands),
         ["netmask", operands @ ..] => mask::from_netmask(alloc, operands),

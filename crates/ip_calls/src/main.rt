@@ -13,10 +13,13 @@
 //!   is `eth`, `arp`, `ipv4`, `ipv6`, `frag`, `udp` or `tcp`. The operands are those of CALL.
 //! - `get VIEW OCTETS`: what the getters of the view return, in the order of the fields.
 //! - `again FORMAT CHOICES OLD OCTETS`: the octets are parsed, and the value is emitted again. The answer is
-//!   the octets that are emitted, or `err` if the octets do not parse. FORMAT is `ipv4`, `ip`, `udp SRC DST`
-//!   or `tcp SRC DST`. CHOICES has a letter for each of IPv4, UDP, TCP, ICMPv4 and ICMPv6: `r` verifies
+//!   the octets that are emitted, or `err` if the octets do not parse. FORMAT is `ipv4`, `ip`, `udp SRC DST`,
+//!   `tcp SRC DST` or `frame`. CHOICES has a letter for each of IPv4, UDP, TCP, ICMPv4 and ICMPv6: `r` verifies
 //!   checksums, `t` computes them, `b` does both, and `n` does neither.
 //! - `walk OPTIONS`: the summary of TCP options, whether SACK is permitted, and the SACK ranges.
+//! - `option OCTETS`: the first TCP option and the number of octets behind it. Then the option, emitted into a
+//!   buffer of octets ff that is two longer, and the number of octets that `emit` leaves of the buffer. `err` if
+//!   there is no option.
 //! - `block A/N B/M`: whether the first block contains the address B, and whether it contains the second
 //!   block; for IPv4 also its netmask, network and broadcast address.
 //! - `prefix ADDRESS`: n if the address is n ones, followed by zeros, else `-`.

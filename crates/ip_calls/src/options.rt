@@ -2,7 +2,7 @@
 
 use crate::answer::NoAnswer;
 use crate::operands::octets;
-use ip_wire::{SACK_BLOCKS, TCP_HEADER_LEN, TcpOptionSummary, TcpPacket};
+use ip_wire::{SACK_BLOCKS, TCP_HEADER_LEN, TcpOption, TcpOptionSummary, TcpPacket};
 use net_base::Result as Parsed;
 use std::alloc::{AllocError, Global};
 use std::fmt::Debug;
@@ -29,6 +29,23 @@ pub fn answer(alloc: Global, operands: &[&str]) -> Result<String, NoAnswer> {
     let permitted = shown(alloc, packet.selective_ack_permitted())?;
     let ranges = shown(alloc, packet.selective_ack_ranges())?;
     Ok(format!(in alloc; "{summary} {permitted} {ranges}")?)
+}
+
+/// The first option, the number of octets behind it, the octets that it is emitted to, and the number of octets
+/// that are left of the buffer. The buffer is two octets longer than the option. `err` if there is no option.
+pub fn first(alloc: Global, operands: &[&str]) -> Result<String, NoAnswer> {
+    let [word] = operands else {
+        return Err(NoAnswer::Malformed);
+    };
+    let octets = octets(alloc, word)?;
+    let Ok((rest, option)) = TcpOption::parse(octets.as_slice()) else {
+        return Ok(String::from_str(alloc, "err")?);
+    };
+    let value = format!(in alloc; "{option:?}")?.replace(alloc, ' ', "")?;
+    let mut out = vec![in alloc; 0xff; option.buffer_len() + 2]?;
+    let left = option.emit(out.as_mut_slice()).len();
+    let digits = hex::encode(alloc, out.as_slice())?;
+    Ok(format!(in alloc; "{value} {} {digits} {left}", rest.len())?)
 }
 
 type Pair = Option<(u32, u32)>;

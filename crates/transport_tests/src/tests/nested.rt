@@ -1,15 +1,14 @@
 //! Views on payloads that other views borrow.
 
-use super::tcp::{SYN, ends};
+use super::tcp::SYN;
 use super::tcp_repr::syn;
-use super::{FRAME_DST, FRAME_SRC};
+use super::{FRAME_DST, FRAME_SRC, ipv4_ends};
 use ip_wire::{
     Error, EthernetFrame, EthernetFrameMut, EthernetProtocol, EthernetRepr, IpProtocol,
     Ipv4Address, Ipv4Packet, Ipv4PacketMut, Ipv4Repr, Ipv6Address, Ipv6FragmentHeaderMut,
     Ipv6FragmentRepr, Ipv6PacketMut, Ipv6Repr, Result, TcpPacket, TcpPacketMut,
 };
 use net_base::ChecksumCapabilities;
-use std::test::Fail;
 use test_support::{IPV4_PACKET, copy_to, ipv4_header};
 
 /// A packet in a frame, with two bytes of padding behind it.
@@ -20,7 +19,7 @@ const FRAME: [u8; 40] = [
 ];
 
 #[test]
-fn a_frame_is_written_view_by_view(rt: HostRuntime) -> std::result::Result<(), Fail> {
+fn a_frame_is_written_view_by_view(rt: HostRuntime) {
     let mut buffer = [0xa5; 40];
     let mut frame = EthernetFrameMut::new_unchecked(&mut buffer);
     let header = EthernetRepr {
@@ -38,10 +37,9 @@ fn a_frame_is_written_view_by_view(rt: HostRuntime) -> std::result::Result<(), F
         hop_limit: 64,
     };
     header.emit(&mut packet, &ChecksumCapabilities::default());
-    packet.check_len()?;
+    assert!(rt; packet.check_len().is_ok());
     let payload_len = copy_to(packet.payload_mut(), &[0xaa, 0x00, 0x00, 0xff]);
     assert_eq!(rt; (payload_len, buffer), (4, FRAME));
-    Ok(())
 }
 
 /// A fragment in a packet in a frame, with two bytes of padding behind it. Its frame header has no addresses.
@@ -67,9 +65,9 @@ fn write_fragment(bytes: &mut [u8]) -> usize {
 }
 
 #[test]
-fn a_fragment_is_written_view_by_view(rt: HostRuntime) -> std::result::Result<(), Fail> {
+fn a_fragment_is_written_view_by_view(rt: HostRuntime) {
     let mut buffer = [0xa5; 64];
-    let mut frame = EthernetFrameMut::new_checked(&mut buffer)?;
+    let mut frame = EthernetFrameMut::new_checked(&mut buffer).expect(&rt, "a frame");
     frame.set_ethertype(EthernetProtocol::Ipv6);
     let mut packet = Ipv6PacketMut::new_unchecked(frame.payload_mut());
     let header = Ipv6Repr {
@@ -80,10 +78,9 @@ fn a_fragment_is_written_view_by_view(rt: HostRuntime) -> std::result::Result<()
         hop_limit: 1,
     };
     header.emit(&mut packet);
-    packet.check_len()?;
+    assert!(rt; packet.check_len().is_ok());
     let payload_len = write_fragment(packet.payload_mut());
     assert_eq!(rt; (payload_len, buffer), (8, FRAGMENT_FRAME));
-    Ok(())
 }
 
 /// A segment in a packet in a frame, with two bytes of padding behind them.
@@ -97,7 +94,7 @@ const SEGMENT_FRAME: [u8; 60] = [
 /// Writes the segment with SYN, if there are as many bytes.
 fn write_segment(bytes: &mut [u8]) {
     let value = syn();
-    let (src, dst) = ends();
+    let (src, dst) = ipv4_ends();
     if value.header_len() == 20 && value.payload.len() == 4 && bytes.len() == SYN.len() {
         let mut segment = TcpPacketMut::new_unchecked(bytes);
         value.emit(&mut segment, &src, &dst, &ChecksumCapabilities::default());
@@ -111,7 +108,7 @@ fn segment_payload(bytes: &[u8]) -> Result<&[u8]> {
 }
 
 #[test]
-fn a_segment_is_written_through_three_views(rt: HostRuntime) -> std::result::Result<(), Fail> {
+fn a_segment_is_written_through_three_views(rt: HostRuntime) {
     let mut buffer = [0xa5; 60];
     let mut frame = EthernetFrameMut::new_unchecked(&mut buffer);
     let header = EthernetRepr {
@@ -129,13 +126,12 @@ fn a_segment_is_written_through_three_views(rt: HostRuntime) -> std::result::Res
         hop_limit: 64,
     };
     header.emit(&mut packet, &ChecksumCapabilities::default());
-    packet.check_len()?;
+    assert!(rt; packet.check_len().is_ok());
     write_segment(packet.payload_mut());
     assert_eq!(rt;
         (buffer, segment_payload(&buffer)),
         (SEGMENT_FRAME, Ok(&SYN[20..]))
     );
-    Ok(())
 }
 
 /// The payload of a packet in a frame. It is used after both views are gone.
