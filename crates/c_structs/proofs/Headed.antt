@@ -1,5 +1,5 @@
 -- A rebuilt frame begins with the Ethernet header that was read.
-use Rattle.std.proofs.Common.{ℕ, ◌≡◌, ◌∙◌, ◌≤◌, ◌<◌, ◌+◌, ◌-◌, ◌/◌, ◌%◌, ◌++◌, Bool, true, false, List, None, ap, arith, drop, length, length-append, nat_le, refl, slice_index, take}
+use Rattle.std.proofs.Common.{ℕ, ◌≡◌, ◌∙◌, ◌≤◌, ◌<◌, ◌+◌, ◌/◌, ◌%◌, ◌++◌, Bool, true, false, List, None, ap, arith, drop, length, length-append, nat_le, refl, slice_index, take}
 use Rattle.std.proofs.lemmas.Bool.Decides.{nat_tests}
 use Rattle.std.proofs.lemmas.List.{length-take-le}
 use Rattle.ip_wire.proofs.Frames.{rebuilt-read}

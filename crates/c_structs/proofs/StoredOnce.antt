@@ -1,21 +1,16 @@
 -- One struct alone stores the values of a frame: two structs that do differ at most in their verdicts on checksums.
 use Rattle.std.proofs.Common.{ℕ, ◌≡◌, ◌<◌, ◌≤◌, ◌⊎◌, inl, inr, ◌∙◌, nat_lt, Bool, true, false, List, drop, length, refl, sym, arith}
 use Rattle.std.proofs.lemmas.Bool.Decides.{nat_tests}
-use Rattle.ip_wire.specs.Arp.{operation_number}
 use Rattle.ip_wire.specs.Frame.{Carried, Transport, datagram, message, other, packet, packet_payload, segment}
 use Rattle.ip_wire.specs.Ip.{next_header_of}
-use Rattle.ip_wire.specs.Types.{ArpRepr, EthernetRepr, IpProtocol, IpRepr, Ipv4, Ipv4Repr, Ipv6, Ipv6Repr}
+use Rattle.ip_wire.specs.Types.{ArpRepr, EthernetRepr, IpProtocol, IpRepr, Ipv4, Ipv4Repr, Ipv6}
 use Rattle.ip_wire.specs.declared.ArpRepr.TheVariants.{EthernetIpv4}
 use Rattle.ip_wire.specs.declared.IpProtocol.TheVariants as protocol
-use Rattle.ip_wire.specs.declared.Ipv6FragmentRepr.{Ipv6FragmentRepr}
-use Rattle.c_structs.specs.FrameFields.{no_arp}
-use Rattle.c_structs.specs.Stored.{HasNoTransport, Locates, Stores, StoresCarried, StoresDatagram, StoresFragment, StoresHeader, StoresIpv4, StoresIpv6, StoresLink, StoresMessage, StoresPacket, StoresRejected, StoresRejectedBy, StoresRejectedTcp, StoresRejectedUdp, StoresSegment, StoresTooShort, StoresTransport, StoresUnread, StoresValues}
-use Rattle.c_structs.specs.declared.types.Addr.{Addr}
+use Rattle.c_structs.specs.Stored.{HasNoTransport, Stores, StoresFragment, StoresHeader, StoresLink, StoresMessage, StoresRejected, StoresRejectedBy, StoresRejectedTcp, StoresRejectedUdp, StoresTooShort, StoresTransport, StoresUnread, StoresValues}
 use Rattle.c_structs.specs.declared.types.Arp.{Arp}
 use Rattle.c_structs.specs.declared.types.Ethernet.{Ethernet}
 use Rattle.c_structs.specs.declared.types.FrameFields.{FrameFields}
 use Rattle.c_structs.specs.declared.types.Ip.{Ip}
-use Rattle.c_structs.specs.declared.types.Tcp.{Tcp}
 
 -- ---- parts of a struct
 

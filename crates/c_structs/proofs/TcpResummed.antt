@@ -1,5 +1,5 @@
 -- The checksum of a segment that is written again, from that of the segment that was read.
-use Rattle.std.proofs.Common.{ℕ, ◌≡◌, ◌∙◌, ◌≤◌, ◌<◌, ◌+◌, ◌*◌, ◌-◌, ◌/◌, ◌%◌, ◌++◌, true, List, [], ◌∷◌, Option, None, Some, append_assoc, append-nil, ap, arith, drop, length, length-append, refl, sum, sym, take}
+use Rattle.std.proofs.Common.{ℕ, ◌≡◌, ◌∙◌, ◌≤◌, ◌+◌, ◌-◌, ◌%◌, ◌++◌, true, List, [], None, Some, append_assoc, append-nil, ap, arith, drop, length, length-append, refl, sum, sym, take}
 use Rattle.std.proofs.lemmas.List.{take_at}
 use Rattle.ip_wire.proofs.UdpLayer.{AreWords}
 use Rattle.wire_checksum.proofs.PseudoSums.{sum-with_pseudo_header}
@@ -7,14 +7,14 @@ use Rattle.wire_checksum.proofs.Residues.{residue-add, residue-bound, residue-sm
 use Rattle.wire_checksum.proofs.Updated.{stays_computed}
 use Rattle.wire_checksum.proofs.WordLists.{sum-words-append, sum-words-split}
 use Rattle.wire_checksum.specs.PseudoHeader.{with_pseudo_header}
-use Rattle.wire_checksum.specs.WordSum.{residue, updated, words}
+use Rattle.wire_checksum.specs.WordSum.{residue, words}
 use Rattle.wire_ends.specs.IpAddress.{octets_of}
 use Rattle.wire_ends.specs.declared.ip_address.IpAddress.{IpAddress}
 use Rattle.wire_ends.specs.declared.ip_protocol.IpProtocol.TheVariants as protocol
 use Rattle.wire_field.specs.Field.{with_field}
 use Rattle.wire_tcp.proofs.Sums.{field-word}
 use Rattle.wire_tcp.proofs.TcpEmitted.{length-header_bytes}
-use Rattle.wire_tcp.specs.Tcp.{header_len, payload_of, segment_sum}
+use Rattle.wire_tcp.specs.Tcp.{header_len, segment_sum}
 use Rattle.wire_tcp.specs.TcpRepr.{Reads, TcpHeader, bytes_of, header_bytes, header_len_of, segment_with}
 use Rattle.c_structs.specs.Resummed.{resummed}
 use Rattle.c_structs.specs.Written.{Fills}

@@ -1,10 +1,10 @@
 -- What the results of calls exclude: each theorem refutes a wrong result of a small call.
-use Rattle.std.proofs.Common.{ℕ, ℤ, pos, ◌≡◌, ◌+◌, ◌<◌, List, [], ◌∷◌, Option, None, Some, inl, inr, arith, refl, sym, ap, ◌∙◌}
+use Rattle.std.proofs.Common.{ℕ, ℤ, pos, ◌≡◌, ◌+◌, List, [], ◌∷◌, Option, None, Some, inl, inr, arith, refl}
 use Rattle.std.specs.Prelude.{⊤}
 use Rattle.ip_wire.specs.Frame.{Carried}
 use Rattle.ip_wire.specs.Types.{EthernetRepr}
 use Rattle.c_structs.specs.HostFields.{WritesAnswer, WritesReply}
-use Rattle.c_structs.specs.Written.{Answers, Fills, IsRead, Writes, WritesBytes, failed}
+use Rattle.c_structs.specs.Written.{Answers, Fills, IsRead, Writes, failed}
 
 -- ---- questions
 

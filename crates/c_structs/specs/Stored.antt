@@ -1,5 +1,5 @@
 -- The struct of a frame, by the values that the frame is parsed as.
-use Rattle.std.specs.Prelude.{ℕ, ◌≡◌, ◌⊎◌, ◌↔◌, ◌≤◌, ◌<◌, ◌+◌, ◌*◌, ◌/◌, ◌%◌, ◌==◌, ◌||◌, not, nat_lt, if◌then◌else◌, IfSome, IsSome, IsTrue, Option, None, Some, List, [], drop, length, slice_range}
+use Rattle.std.specs.Prelude.{ℕ, ◌≡◌, ◌⊎◌, ◌↔◌, ◌≤◌, ◌<◌, ◌+◌, ◌*◌, ◌/◌, ◌%◌, ◌==◌, ◌||◌, not, nat_lt, if◌then◌else◌, IfSome, IsSome, IsTrue, Option, None, Some, List, drop, length, slice_range}
 use Rattle.std.specs.Option.{option_map_or}
 use Rattle.ip_wire.specs.Arp.{operation_number}
 use Rattle.ip_wire.specs.Ethernet as ethernet

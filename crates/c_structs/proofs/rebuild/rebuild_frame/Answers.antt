@@ -1,4 +1,4 @@
-use Rattle.std.proofs.Common.{◌≡◌, ◌∙◌, ◌≤◌, ◌<◌, ◌+◌, ◌++◌, ap, arith, drop, length, length-drop, nat_le, refl, rules, sym, take, true}
+use Rattle.std.proofs.Common.{◌≡◌, ◌∙◌, ◌≤◌, ◌<◌, ◌++◌, ap, arith, drop, length, length-drop, nat_le, refl, rules, take, true}
 use Rattle.std.proofs.lemmas.Bool.Decides.{nat_tests}
 use Rattle.ip_wire.specs.Ethernet.{frame_bytes, protocol_of}
 use Rattle.ip_wire.specs.Field.{field}

@@ -1,4 +1,4 @@
-use Rattle.std.proofs.Common.{◌≡◌, ◌∙◌, Some, None, arith, refl, slice_index, sym, ap}
+use Rattle.std.proofs.Common.{◌≡◌, ◌∙◌, Some, None, arith, refl, slice_index, ap}
 use Rattle.ip_wire.proofs.Frames.{rebuilt-ipv6, rebuilt-ipv6-copied}
 use Rattle.ip_wire.specs.Ipv6.{ipv6_of, payload_of}
 use Rattle.ip_wire.specs.Field.{field}

@@ -1,4 +1,4 @@
-use Rattle.std.proofs.Common.{◌≡◌, ◌∙◌, Some, None, ap, false, length, take, true, rules, arith}
+use Rattle.std.proofs.Common.{◌≡◌, ◌∙◌, Some, None, false, true, rules}
 use Rattle.ip_wire.proofs.TcpLayer.{rebuilt-tcp, rebuilt-tcp-copied}
 use Rattle.ip_wire.proofs.UdpLayer.{AreWords}
 use Rattle.ip_wire.specs.Ip.{dst_addr_of, src_addr_of}
