@@ -1,14 +1,14 @@
 -- The values that are computed are those that the frame reads as.
-use Rattle.std.proofs.Common.{ℕ, ◌≡◌, ◌≢◌, ◌↔◌, ◌∙◌, Bool, true, false, List, Option, Some, None, drop, refl, sym, ap, subst, if◌then◌else◌}
+use Rattle.std.proofs.Common.{ℕ, ◌≡◌, ◌≢◌, ◌↔◌, ◌∙◌, Bool, true, false, List, Some, None, drop, refl, sym, ap, subst, if◌then◌else◌}
 use Rattle.std.specs.Option.{option_and_then, option_map}
 use Rattle.ip_wire.proofs.Found.{gives-frame}
 use Rattle.ip_wire.proofs.Layers.{option_and_then-Some, option_map-Some}
-use Rattle.ip_wire.proofs.ReadsOnce.{computed-one, udp-computed}
+use Rattle.ip_wire.proofs.ReadsOnce.{udp-computed}
 use Rattle.ip_wire.proofs.Unread.{none_of}
-use Rattle.ip_wire.specs.Frame.{Carried, ReadsCarried, ReadsFrame, ReadsPacket, ReadsTransportBy, Transport, datagram, message, other, packet, packet_payload, segment, type_of}
+use Rattle.ip_wire.specs.Frame.{Carried, ReadsCarried, ReadsFrame, ReadsPacket, ReadsTransportBy, Transport, datagram, message, other, packet, segment, type_of}
 use Rattle.ip_wire.specs.FrameValue.{Parses, carried_of, transport_of}
 use Rattle.ip_wire.specs.Packet.{carried_by, frame_of, header_by, packet_in, packet_of, transport_behind, transport_by}
-use Rattle.ip_wire.specs.Types.{EthernetProtocol, EthernetRepr, IpAddress, IpProtocol, IpRepr, Ipv4, Ipv4Repr, Ipv6, Ipv6Repr}
+use Rattle.ip_wire.specs.Types.{EthernetProtocol, EthernetRepr, IpAddress, IpProtocol, IpRepr, Ipv4, Ipv6}
 use Rattle.ip_wire.specs.declared.frame.Frame.{Frame}
 use Rattle.ip_wire.specs.declared.frame.carried.Carried.TheVariants as carried
 use Rattle.ip_wire.specs.declared.frame.carried.Carried as value
@@ -113,11 +113,11 @@ pub frame_of-Reads : (caps : ChecksumCapabilities) (frame : List ℕ) (link : Et
 unfolding frame_of
 frame_of-Reads caps frame link c = (
   λ e.
-    let (l, header, behind) = option_and_then-Some (λ l. option_map (λ c. (l, c)) (carried_by caps l.ethertype (drop 14 frame))) (ethernet_of frame) (link, c) e in
-    let (d, found, is) = option_map-Some (λ c. (l, c)) (carried_by caps l.ethertype (drop 14 frame)) (link, c) behind in
-    let whole : ReadsFrame caps frame l d =
-    record { reads_header = (ethernet_of-Reads frame l).0 header; reads_carried = carried-only caps l.ethertype (drop 14 frame) d found } in
-    subst (λ (x : EthernetRepr × Carried). ReadsFrame caps frame x.0 x.1) is whole,
+      let (l, header, behind) = option_and_then-Some (λ l. option_map (λ c. (l, c)) (carried_by caps l.ethertype (drop 14 frame))) (ethernet_of frame) (link, c) e in
+      let (d, found, is) = option_map-Some (λ c. (l, c)) (carried_by caps l.ethertype (drop 14 frame)) (link, c) behind in
+      let whole : ReadsFrame caps frame l d =
+      record { reads_header = (ethernet_of-Reads frame l).0 header; reads_carried = carried-only caps l.ethertype (drop 14 frame) d found } in
+      subst (λ (x : EthernetRepr × Carried). ReadsFrame caps frame x.0 x.1) is whole,
   λ r. rw ((ethernet_of-Reads frame link).1 r.reads_header, carried-read caps link.ethertype (drop 14 frame) c r.reads_carried) refl,
 )
 
