@@ -105,13 +105,10 @@ fn counts_sequence_numbers(rt: HostRuntime) {
         sack_ranges: FOUR_RANGES,
         ..ack()
     };
-    let permitted = TcpRepr {
-        sack_permitted: true,
-        ..ack()
-    };
     let unwritten = TcpRepr {
+        sack_permitted: true,
         sack_ranges: [Some((1, 2)), None, None, None],
-        ..permitted
+        ..ack()
     };
     let data = TcpRepr {
         payload: syn().payload,
@@ -127,7 +124,6 @@ fn counts_sequence_numbers(rt: HostRuntime) {
         (long, 0, true),
         (four, 0, true),
         (unwritten, 0, true),
-        (permitted, 0, true),
     ] {
         assert!(rt; value.payload.len() <= 4);
         assert_eq!(rt;

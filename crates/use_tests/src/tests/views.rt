@@ -1,7 +1,7 @@
 //! Frames that are written through three views.
 
 use super::promises::FRAME;
-use ip_promises::views::{emit_then_parse_ipv4_udp, emit_then_parse_ipv6_tcp};
+use ip_promises::views::{emit_then_parse_tcp_frame, emit_then_parse_udp_frame};
 use ip_wire::{
     Carried, EthernetAddress, EthernetProtocol, EthernetRepr, Frame, IpProtocol, IpRepr,
     Ipv4Address, Ipv4Repr, Ipv6Address, Ipv6Repr, SACK_BLOCKS, TcpControl, TcpRepr, TcpSeqNumber,
@@ -20,13 +20,13 @@ fn a_udp_packet_is_written_view_by_view(rt: HostRuntime) {
         dst_addr: DST,
         ethertype: EthernetProtocol::Ipv4,
     };
-    let inner = Ipv4Repr {
+    let inner = IpRepr::Ipv4(Ipv4Repr {
         src_addr: Ipv4Address::new(192, 168, 1, 1),
         dst_addr: Ipv4Address::new(192, 168, 1, 2),
         next_header: IpProtocol::Udp,
         payload_len: 12,
         hop_limit: 64,
-    };
+    });
     let value = UdpRepr {
         src_port: 48896,
         dst_port: 53,
@@ -34,7 +34,7 @@ fn a_udp_packet_is_written_view_by_view(rt: HostRuntime) {
     let payload = [0xaa, 0x00, 0x00, 0xff];
     let caps = ChecksumCapabilities::default();
     let mut buffer = [0xa5; 46];
-    let parsed = emit_then_parse_ipv4_udp(
+    let parsed = emit_then_parse_udp_frame(
         &header,
         &inner,
         &value,
@@ -47,7 +47,7 @@ fn a_udp_packet_is_written_view_by_view(rt: HostRuntime) {
         parsed,
         Ok(Frame {
             header,
-            carried: Carried::Packet(IpRepr::Ipv4(inner), Transport::Udp(value, &payload)),
+            carried: Carried::Packet(inner, Transport::Udp(value, &payload)),
         })
     );
     assert_eq!(rt; buffer.as_slice(), &FRAME[..46]);
@@ -60,13 +60,13 @@ fn a_tcp_segment_is_written_view_by_view(rt: HostRuntime) {
         dst_addr: DST,
         ethertype: EthernetProtocol::Ipv6,
     };
-    let inner = Ipv6Repr {
+    let inner = IpRepr::Ipv6(Ipv6Repr {
         src_addr: Ipv6Address::new(0x2001, 0xdb8, 0, 0, 0, 0, 0, 1),
         dst_addr: Ipv6Address::new(0x2001, 0xdb8, 0, 0, 0, 0, 0, 2),
         next_header: IpProtocol::Tcp,
         payload_len: 24,
         hop_limit: 64,
-    };
+    });
     let value = TcpRepr {
         src_port: 48896,
         dst_port: 80,
@@ -83,12 +83,12 @@ fn a_tcp_segment_is_written_view_by_view(rt: HostRuntime) {
     };
     let caps = ChecksumCapabilities::default();
     let mut buffer = [0xa5; 78];
-    let parsed = emit_then_parse_ipv6_tcp(&header, &inner, &value, &mut buffer, &caps, &caps);
+    let parsed = emit_then_parse_tcp_frame(&header, &inner, &value, &mut buffer, &caps, &caps);
     assert_eq!(rt;
         parsed,
         Ok(Frame {
             header,
-            carried: Carried::Packet(IpRepr::Ipv6(inner), Transport::Tcp(value)),
+            carried: Carried::Packet(inner, Transport::Tcp(value)),
         })
     );
 }

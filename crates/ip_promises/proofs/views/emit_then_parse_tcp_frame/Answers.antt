@@ -2,14 +2,13 @@ use Rattle.std.proofs.Common.{◌∙◌, ◌++◌, [], append-nil, subst, sym}
 use Rattle.ip_wire.specs.Ethernet as ethernet
 use Rattle.ip_wire.specs.Frame.{ReadsFrame, packet, segment}
 use Rattle.ip_wire.specs.Ip as ip
-use Rattle.ip_wire.specs.Types.{Ipv6}
 use Rattle.ip_wire.specs.TcpRepr as tcp
 use Rattle.net_base.specs.Checksum.{computes}
-use Rattle.ip_promises.proofs.views.emit_then_parse_ipv6_tcp.Goals as goal
+use Rattle.ip_promises.proofs.views.emit_then_parse_tcp_frame.Goals as goal
 
 pub returns : goal.returns
 returns c =
-    let v = Ipv6 c.args.inner.now in
+    let v = c.args.inner.now in
     let sent = c.args.sent.now in
     let header = ethernet.normal c.args.header.now in
     let u = tcp.header_of c.args.value.now in
@@ -18,5 +17,5 @@ returns c =
     let bytes = tcp.bytes_of u payload (ip.src_addr_of v) (ip.dst_addr_of v) (computes sent.tcp) [] in
     let inner = ip.bytes_of v (computes sent.ipv4) ++ bytes in
     let link = ethernet.bytes_of c.args.header.now in
-    let whole = append-nil (link ++ inner) ∙ sym c.emit_ipv6_tcp.ensures in
+    let whole = append-nil (link ++ inner) ∙ sym c.emit_tcp_frame.ensures in
     (c.parse.ensures.reads header carried).1 (subst (λ bytes. ReadsFrame c.args.received.now bytes header carried) whole c.frame_composes_tcp.ensures)
