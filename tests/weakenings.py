@@ -67,7 +67,7 @@ CLAUSES = [
     weaker("a helper of a comparison returns less",
            ("ip_promises/src/calls/tcp.rt", "Some(timestamp) => Some(timestamp.tsecr),", "Some(_) => None,")),
     weaker("a frame is emitted without views",
-           ("ip_promises/src/views.rt", "    fill_ethernet(header, &mut frame);\n    fill_ipv4(inner, &mut packet, caps);\n    fill_udp(",
+           ("ip_promises/src/views.rt", "    fill_ethernet(header, &mut frame);\n    fill_ip(inner, middle, caps);\n    fill_udp(",
             "    value.emit(&mut datagram, &src_addr, &dst_addr, payload, caps);\n    fill_udp(")),
     weaker("a law returns numbers in place of constants",
            ("ip_wire/src/laws/constants.rt", "        Ipv4Address::UNSPECIFIED,\n",
