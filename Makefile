@@ -9,7 +9,6 @@
 #                 proves one crate, over the libraries that make test proved if they are unchanged
 # make statements renews docs/statements/, the record of all contracts and definitions
 # make test       runs the gate and all other tests; the gate's log is out/test.log
-# make test-all   runs make test, then the wrong bodies and controls that it leaves out (out/wrong.log)
 # make compare REFERENCE=program [SEED=n] [LINES=n]
 #                 feeds generated lines to the built program and to another one, and prints the first difference
 # make compare-calls REFERENCE=program [SEED=n] [LINES=n]
@@ -51,7 +50,7 @@ endif
 endif
 
 .DELETE_ON_ERROR:
-.PHONY: run build install uninstall quick check statements test test-all compare compare-calls bench
+.PHONY: run build install uninstall quick check statements test compare compare-calls bench
 
 run:
 	@test -r "$$FRAMES" && ! test -d "$$FRAMES" || $(call fail,cannot read $$FRAMES)
@@ -74,7 +73,7 @@ install: $(PROGRAM) $(LIBRARY)
 uninstall:
 	@c/install uninstall
 
-quick check test test-all: ready
+quick check test: ready
 
 .PHONY: ready
 ready:
@@ -93,10 +92,6 @@ statements:
 
 test:
 	@tests/all
-
-test-all:
-	@tests/all
-	@tests/wrong.py
 
 compare: $(PROGRAM)
 	@tests/compare.py $(PROGRAM) "$$SEED" "$$LINES" $(REFERENCE)

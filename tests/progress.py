@@ -8,7 +8,6 @@ import re
 import subprocess
 import sys
 import time
-from collections import Counter
 
 TOP = os.path.dirname(os.path.dirname(os.path.abspath(__file__)))
 # What a log says of what was loaded, proved or left for later.
@@ -43,29 +42,22 @@ def begun(crate):
 
 
 class Gate:
-    """rt ci: the crates in the order in which they end, then each wrong body, then what was built is run."""
+    """rt ci: the crates in the order in which they end, then what was built is run."""
 
     DONE = re.compile(r"rt: (\w+)(: its tests are)? (proved|NOT PROVED)")
-    TRIED = re.compile(r"rt: (\w+): trying its must-fail edits \((\d+)\)")
-    REJECTED = re.compile(r"rt: must-fail (\w+)/\S+ refused, as it must be")
     WELL = re.compile(r"rt: (\w+ ran\b.* wrote what|\w+: its tests passed|ok; )|\d+ passed, \d+ failed$")
 
     def __init__(self):
-        self.names, self.ended, self.tried, self.lines, self.inside = listed(), 0, Counter(), [], False
+        self.names, self.ended, self.lines, self.inside = listed(), 0, [], False
 
     def take(self, line):
-        done, tried, rejected = (it.match(line) for it in (self.DONE, self.TRIED, self.REJECTED))
+        done = self.DONE.match(line)
         if line.startswith("== "):
             self.lines, self.inside = [], True
             return
         self.lines.append(line)
         if done:
             self.tell(*done.groups())
-        elif tried:
-            self.tried[tried[1]] = int(tried[2])
-            say(f"{tried[1]}: {tried[2]} wrong bodies are tried")
-        elif rejected:
-            self.count(rejected[1])
         elif self.inside or not line.startswith("rt: ") and not self.WELL.match(line):
             return
         elif not self.WELL.match(line):
@@ -80,12 +72,6 @@ class Gate:
             say(f"{self.ended} of {len(self.names)}: {crate} {verdict}, {clock(time.time() - begun(crate))}")
         if verdict != "proved":
             show(self.lines)
-
-    def count(self, crate):
-        # Two lines of rt that come at once can stand in one, and then it was not read how many there are.
-        self.tried[crate] -= 1
-        if not self.tried[crate]:
-            say(f"{crate}: its wrong bodies are rejected")
 
     def end(self):
         pass

@@ -69,19 +69,24 @@ def is_kept(name, listed):
     return kept.exists() and kept.read_text() == sum_of(TOP, name, listed)
 
 
-def rattle(command, crate, *words):
+def words(command, crate):
+    """The command line of rattle for a crate, in its folder or a copy of that, or None if a library below was not kept."""
     listed = crates(TOP)
     stale = [name for name in sorted(below(crate, listed)) if not is_kept(name, listed)]
     if stale:
         print(f"not proved by make test as they are now: {', '.join(stale)}", file=sys.stderr)
-        return STALE
+        return None
     rlibs = {name: (KEPT if name in listed else kit() / "rlibs") / f"{name}.rlib" for name in ["std", *listed[crate][1]]}
     given = [word for name, rlib in rlibs.items() for word in ("--extern", f"{name}={rlib}")]
     given += ["-L", f"dependency={kit() / 'rlibs'}", "-L", f"dependency={KEPT}"]
     given += ["--antt-project", kit() / "rattle/logic/antt-project.json", "--logic-built", kit() / "logic_built"]
-    folder = TOP / "crates" / crate
-    root = "src/main.rt" if (folder / "src/main.rt").exists() else "src/lib.rt"
-    return subprocess.run(["rattle", command, "--crate-name", crate, *given, *words, root], cwd=folder, check=False).returncode
+    root = "src/main.rt" if (TOP / "crates" / crate / "src/main.rt").exists() else "src/lib.rt"
+    return ["rattle", command, "--crate-name", crate, *given, root]
+
+
+def rattle(command, crate, *more):
+    given = words(command, crate)
+    return subprocess.run([*given, *more], cwd=TOP / "crates" / crate, check=False).returncode if given else STALE
 
 
 def check(crate):

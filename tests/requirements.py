@@ -16,8 +16,6 @@ from sources import Sources
 DOCUMENT = "docs/REQUIREMENTS.md"
 # The crates and files of test functions, by the first word of their names in the tables.
 TESTS = {name: name + "_tests" for name in ("addr", "link", "ip", "transport", "use")} | {"frames": "ip_frames"}
-# The folders of the wrong bodies that the gate tries, and of those that it leaves out, by the first word of their names.
-WRONG_BODIES = {"wrong": "must-fail", "test-all": "wrong-bodies"}
 LIBRARY = re.compile(r"net_base|ip_wire|wire_\w+")
 # A function that allocates is given an allocator, and returns one of these types.
 ALLOCATES = re.compile(r"\b(alloc|AllocError|HostRuntime|Vec|String|Box|Rc|Arc)\b")
@@ -111,10 +109,10 @@ def is_test(name):
         return os.path.exists(f"tests/cases/{rest}.hex") and os.path.exists(f"tests/cases/{rest}.txt")
     if kind == "calls":
         return os.path.exists(f"tests/calls/{rest}.call") and os.path.exists(f"tests/calls/{rest}.txt")
-    if kind := WRONG_BODIES.get(name.partition(" ")[0]):
-        *crate, edit = name.partition(" ")[2].split("/")
-        found = glob.glob(f"crates/{crate[0] if crate else '*'}/{kind}/{edit}.edit")
-        return bool(found) and all(os.path.exists(path.replace(kind, "controls")) for path in found)
+    if name.startswith("wrong "):
+        *crate, edit = name.removeprefix("wrong ").split("/")
+        found = glob.glob(f"crates/{crate[0] if crate else '*'}/wrong-bodies/{edit}.edit")
+        return bool(found) and all(os.path.exists(path.replace("wrong-bodies", "controls")) for path in found)
     if name.startswith("tests/all/"):
         # It is defined, and used.
         return len(re.findall(rf"\b{name.split('/')[2]}\b", read("tests/all"))) > 1
