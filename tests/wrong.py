@@ -22,43 +22,47 @@ from concurrent.futures import ThreadPoolExecutor
 import proved
 
 TOP = pathlib.Path(__file__).resolve().parent.parent
-FUNCTION = re.compile(r"^( *)(?:pub(?:\([^)]*\))? )?(?:(?:const|unsafe|extern "C") )*fn (\w+)", re.M)
+FUNCTION = re.compile(r'^( *)(?:pub(?:\([^)]*\))? )?(?:(?:const|unsafe|extern "C") )*fn (\w+)', re.M)
 IMPL = re.compile(r"^impl(?:<.*?>)? (\w+)(?:<[^{]*>)?( for )?", re.M)
-VERDICT = re.compile(r"^fn (\w+)::(\S+): (.*)$", re.M)
+VERDICT = re.compile(r"^fn (\S+): (.*)$", re.M)
 # Why a function is not proved, where it is another function's fault alone.
 OF_ANOTHER = re.compile(r"no proof: it calls [^;]*$")
 
 
 class Edit:
-    """An edit of one or more lines of a crate's sources, which occur once: lines `file: PATH`, `old: LINE`, `new: LINE`."""
+    """An edit of lines of a crate's sources, each of which occurs once: lines `file: PATH`, `old: LINE`, `new: LINE`.
+
+    Its functions are those around the old lines. A line `fn: NAME` names another one instead, as rattle does or by the end of that.
+    """
 
     def __init__(self, path):
-        self.path, self.name, self.crate = path, path.stem, path.parts[-3]
-        self.pairs, self.paths = [], set()
+        self.path, self.crate, self.name = path, path.parts[-3], path.stem
+        self.pairs, named = [], []
         file = old = None
         for line in path.read_text(encoding="utf-8").splitlines():
             word, _, rest = line.partition(":")
             rest = rest.removeprefix(" ")
-            if word == "file":
-                file = rest.strip()
+            if word == "fn":
+                named.append(rest)
+            elif word == "file":
+                file = rest
             elif word == "old":
                 old = rest
             elif word == "new":
                 self.pairs.append((file, old, rest))
-                self.paths.add(self.path_of(file, old))
+        self.functions = set(named or (self.around(file, old) for file, old, _ in self.pairs))
 
-    def path_of(self, file, old):
-        """The path of the function around a text, or of its module where that is an item or an impl of a trait."""
+    def around(self, file, old):
+        """The function around a text, with the name of its type if it has one."""
         text = (TOP / "crates" / self.crate / file).read_text(encoding="utf-8")
         if text.count(old) != 1:
             sys.exit(f"{self.path.relative_to(TOP)}: {file} has this text {text.count(old)} times: {old}")
         end = text.index(old) + len(old)
-        module = [part for part in file.removeprefix("src/").removesuffix(".rt").split("/") if part not in ("lib", "main")]
-        for function in [*FUNCTION.finditer(text, 0, end)][-1:]:
-            impl = [*IMPL.finditer(text, 0, function.start())][-1:] if function[1] else []
-            if not any(it[2] for it in impl):
-                module += [*(it[1] for it in impl), function[2]]
-        return "::".join(module)
+        *_, function = [None, *FUNCTION.finditer(text, 0, end)]
+        *_, impl = [None, *IMPL.finditer(text, 0, function.start())] if function and function[1] else [None]
+        if not function or impl and impl[2]:
+            sys.exit(f"{self.path.relative_to(TOP)}: a line 'fn: NAME' must name the function that is not proved")
+        return f"{impl[1]}::{function[2]}" if impl else f"{pathlib.Path(file).stem}::{function[2]}"
 
     def apply(self, folder):
         for file, old, new in self.pairs:
@@ -78,17 +82,12 @@ def unpaired(crate):
     yield from (f"{crate}/wrong-bodies/{name} has no control" for name in sorted(wrong - controls))
 
 
-def overlap(one, other):
-    """Whether one path is the other, or the module or type around it."""
-    return f"{one}::".startswith(f"{other}::") or f"{other}::".startswith(f"{one}::")
-
-
 def rounds(wrong):
     """Lists of edits in which no two edit the same function."""
     lists = []
     for edit in wrong:
         for one in lists:
-            if not any(overlap(path, other) for before in one for path in edit.paths for other in before.paths):
+            if not any(edit.functions & other.functions for other in one):
                 one.append(edit)
                 break
         else:
@@ -103,7 +102,7 @@ class Trial:
         self.crate, self.words, self.log, self.faults, self.passed = crate, proved.words("check", crate), [], [], 0
 
     def verdicts(self, tried):
-        """What rattle says of each function, with the edits applied, by the function's path."""
+        """What rattle says of each function that it checks with the edits applied."""
         with tempfile.TemporaryDirectory() as room:
             folder = pathlib.Path(room)
             for part in ("src", "specs", "proofs"):
@@ -111,22 +110,22 @@ class Trial:
                     shutil.copytree(TOP / "crates" / self.crate / part, folder / part)
             for edit in tried:
                 edit.apply(folder)
-            only = [word for path in sorted(set().union(*(edit.paths for edit in tried))) for word in ("--only", path)]
+            only = [word for name in sorted(set().union(*(edit.functions for edit in tried))) for word in ("--only", name)]
             ran = subprocess.run([*self.words, "--jobs", "1", "--incremental", self.kept, *only], cwd=folder, stdin=subprocess.DEVNULL,
                                  stdout=subprocess.PIPE, stderr=subprocess.STDOUT, text=True, errors="replace")
         self.log.append(f"== {self.crate}: {' '.join(edit.name for edit in tried)}\n{ran.stdout}")
-        return {path: verdict for _, path, verdict in VERDICT.findall(ran.stdout)}
+        return VERDICT.findall(ran.stdout)
 
     def judge(self, tried, is_right, again):
         """Counts the edits whose functions have the verdict that they must have. Those to try alone go to `again`."""
         told = self.verdicts(tried)
         for edit in tried:
-            found = [told[path] for path in told if any(f"{path}::".startswith(f"{one}::") for one in edit.paths)]
+            found = [verdict for name, verdict in told if any(name.endswith(f"::{one}") for one in edit.functions)]
             if not found:
                 self.faults.append(f"{self.crate}/{edit.name} was not checked")
             elif is_right(found):
                 self.passed += 1
-            elif again is not None and all(verdict == "proved" or OF_ANOTHER.match(verdict) for verdict in found) and len(tried) > 1:
+            elif again is not None and len(tried) > 1 and any(OF_ANOTHER.match(it) for it in found):
                 again.append([edit])
             else:
                 self.faults.append(f"{self.crate}/{edit.name}: {'; '.join(sorted(set(found)))}")
