@@ -38,7 +38,7 @@ shifted_from_agree n s x y x_fits y_fits agree =
     same_from_bits_below n (x / 2 ^ s) (y / 2 ^ s) (shr_below x n s x_fits) (shr_below y n s y_fits)
     (λ i h. bit_at-shifted x s i ∙ agree (s + i) (omega arith) (omega arith) ∙ sym (bit_at-shifted y s i))
 
-pub agree_from_numbers : (m n s : ℕ) (xs ys : List ℕ) → AreOctets m xs → AreOctets m ys → n + s ≡ 8 * m
+agree_from_numbers : (m n s : ℕ) (xs ys : List ℕ) → AreOctets m xs → AreOctets m ys → n + s ≡ 8 * m
     → number_of xs / 2 ^ s ≡ number_of ys / 2 ^ s → AgreeFirst n xs ys
 agree_from_numbers m n s xs ys are_xs are_ys e same k lt =
     let place : suc (k + (8 * m - 1 - k)) ≡ 8 * m = omega arith in

@@ -4,4 +4,3 @@ pub mod ArpNormal
 pub mod ArpTexts
 mod ArpNumbers
 mod ArpViewed
-mod ArpWorked

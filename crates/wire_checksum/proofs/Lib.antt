@@ -1,4 +1,3 @@
-mod ChecksumWorked
 pub mod Ends
 pub mod Fours
 pub mod Joined

@@ -1,67 +1,41 @@
--- The texts and the order of addresses, blocks and endpoints, worked.
-use Rattle.std.proofs.Common.{◌≡◌, [], ◌∷◌, None, Some, codes, refl}
-use Rattle.std.specs.Fmt.{digits}
-use Rattle.std.specs.declared.cmp.Ordering.TheVariants.{Less}
-use Rattle.wire_addr.specs.Printed.{ipv6_text}
-use Rattle.wire_ends.specs.Endpoint.{endpoint_at, endpoint_cmp, endpoint_text, listening_at, listening_cmp, listening_on, listening_text}
-use Rattle.wire_ends.specs.IpAddress.{address_cmp}
-use Rattle.wire_ends.specs.IpCidr.{IsIn, block_at, cidr_cmp, cidr_text}
+-- An address and a text that the definitions exclude.
+use Rattle.std.proofs.Common.{◌≢◌, ℕ, zero, suc, ◌<◌, [], ◌∷◌, arith, codes, get_or, inl, inr, lit≤, refl}
+use Rattle.std.proofs.lemmas.Option.{none-some}
+use Rattle.wire_ends.specs.Endpoint.{ReadsEndpoint}
+use Rattle.wire_ends.specs.IpAddress.{ReadsAddress}
+use Rattle.wire_ends.specs.IpCidr.{IsIn, block_at}
 use Rattle.wire_ends.specs.declared.ip_address.IpAddress.{IpAddress}
 use Rattle.wire_ends.specs.declared.ip_address.IpAddress.TheVariants.{Ipv4, Ipv6}
-
-localhost : IpAddress
-localhost = Ipv4 (127 ∷ 0 ∷ 0 ∷ 1 ∷ [])
-
-loopback : IpAddress
-loopback = Ipv6 (0 ∷ 0 ∷ 0 ∷ 0 ∷ 0 ∷ 0 ∷ 0 ∷ 0 ∷ 0 ∷ 0 ∷ 0 ∷ 0 ∷ 0 ∷ 0 ∷ 0 ∷ 1 ∷ [])
-
-link_local : IpAddress
-link_local = Ipv6 (0xfe ∷ 0x80 ∷ 0 ∷ 0 ∷ 0 ∷ 0 ∷ 0 ∷ 0 ∷ 0 ∷ 0 ∷ 0 ∷ 0 ∷ 0 ∷ 0 ∷ 0 ∷ 1 ∷ [])
-
-mapped : IpAddress
-mapped = Ipv6 (0 ∷ 0 ∷ 0 ∷ 0 ∷ 0 ∷ 0 ∷ 0 ∷ 0 ∷ 0 ∷ 0 ∷ 0xff ∷ 0xff ∷ 1 ∷ 2 ∷ 3 ∷ 4 ∷ [])
-
-ipv4-printed : endpoint_text (endpoint_at localhost 80) ≡ codes "127.0.0.1:80"
-unfolding digits localhost
-ipv4-printed = refl
-
-ipv6-printed : endpoint_text (endpoint_at link_local 80) ≡ codes "[fe80::1]:80"
-unfolding digits ipv6_text link_local
-ipv6-printed = refl
-
-mapped-printed : endpoint_text (endpoint_at mapped 65535) ≡ codes "[::ffff:1.2.3.4]:65535"
-unfolding digits ipv6_text mapped
-mapped-printed = refl
-
-listening-printed : listening_text (Some link_local) 80 ≡ codes "[fe80::1]:80"
-unfolding digits ipv6_text link_local
-listening-printed = refl
-
-everywhere-printed : listening_text None 80 ≡ codes "*:80"
-unfolding digits
-everywhere-printed = refl
-
-block-printed : cidr_text (block_at localhost 8) ≡ codes "127.0.0.1/8"
-unfolding digits localhost
-block-printed = refl
-
-ipv4-before_ipv6 : address_cmp localhost loopback ≡ Less
-unfolding localhost loopback
-ipv4-before_ipv6 = refl
-
-no_address-first : listening_cmp (listening_on 65535) (listening_at (endpoint_at localhost 0)) ≡ Less
-unfolding localhost
-no_address-first = refl
-
-address-before_port : endpoint_cmp (endpoint_at localhost 65535) (endpoint_at (Ipv4 (127 ∷ 0 ∷ 0 ∷ 2 ∷ [])) 1) ≡ Less
-unfolding localhost
-address-before_port = refl
-
-address-before_prefix : cidr_cmp (block_at localhost 32) (block_at (Ipv4 (127 ∷ 0 ∷ 0 ∷ 2 ∷ [])) 8) ≡ Less
-unfolding localhost
-address-before_prefix = refl
+use Rattle.wire_ends.specs.declared.ip_endpoint.IpEndpoint.{IpEndpoint}
+use Rattle.wire_ends.proofs.EndTexts.{no_bracket}
+use Rattle.wire_text.specs.Grammar.{IsNumber}
+use Rattle.wire_text.specs.Reading.{number_of}
+use Rattle.wire_text.proofs.Apart.{ipv6_first, same_mark}
+use Rattle.wire_text.proofs.Endings.{ends_at}
+use Rattle.wire_text.proofs.Numbers.{number_complete}
 
 -- the block of all IPv4 addresses contains no IPv6 address
-other_version : ¬ (IsIn (block_at (Ipv4 (0 ∷ 0 ∷ 0 ∷ 0 ∷ [])) 0) loopback)
-unfolding loopback
+other_version : ¬ (IsIn (block_at (Ipv4 (0 ∷ 0 ∷ 0 ∷ 0 ∷ [])) 0) (Ipv6 (0 ∷ 0 ∷ 0 ∷ 0 ∷ 0 ∷ 0 ∷ 0 ∷ 0 ∷ 0 ∷ 0 ∷ 0 ∷ 0 ∷ 0 ∷ 0 ∷ 0 ∷ 1 ∷ [])))
 other_version is = is
+
+-- brackets without a port are rejected: there is no number behind the last colon
+behind_last : (k : ℕ) → 2 < k → k < 5 → get_or (codes "[::1]") k 0 ≢ 58
+behind_last zero low high e = omega arith
+behind_last (suc zero) low high e = omega arith
+behind_last (suc (suc zero)) low high e = omega arith
+behind_last (suc (suc (suc zero))) low high e = omega (arith, e)
+behind_last (suc (suc (suc (suc zero)))) low high e = omega (arith, e)
+behind_last (suc (suc (suc (suc (suc k))))) low high e = omega arith
+
+no_number : (n : ℕ) → ¬ (IsNumber 10 5 65535 (codes "1]") n)
+unfolding number_of
+no_number n h = none-some n (number_complete 10 5 65535 (codes "1]") n h)
+
+no_address : (addr : IpAddress) → ¬ (ReadsAddress (codes "[::1]") addr)
+no_address (Ipv4 octets) h = no_bracket (codes "[::1]") octets (codes "::1]") refl h
+no_address (Ipv6 octets) h = omega (arith, same_mark 91 58 (codes "[::1]") (lit≤ tt) (lit≤ tt) (record { front = []; rest = codes "::1]"; digits = tt; spelled = refl }) (ipv6_first (codes "[::1]") h.0 h.1))
+
+brackets-alone : (endpoint : IpEndpoint) → ¬ (ReadsEndpoint (codes "[::1]") endpoint)
+brackets-alone endpoint (inl h) = no_address endpoint.addr h.0
+brackets-alone endpoint (inr h) =
+    no_number endpoint.port (ends_at 58 5 65535 (lit≤ tt) (codes "[::1]") h.host_text endpoint.port 2 h.port (lit≤ tt) refl behind_last).1

@@ -2,4 +2,3 @@ pub mod EthernetComputed
 pub mod EthernetEmitted
 pub mod EthernetNormal
 mod EthernetViewed
-mod EthernetWorked

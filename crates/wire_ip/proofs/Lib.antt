@@ -2,4 +2,3 @@ pub mod IpComputed
 pub mod IpNormal
 pub mod IpPayload
 pub mod IpReadsBack
-mod IpWorked

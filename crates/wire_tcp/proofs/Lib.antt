@@ -12,11 +12,9 @@ pub mod TcpForms
 pub mod TcpLengths
 pub mod TcpNumbers
 pub mod TcpReadsBack
-mod TcpReprWorked
 pub mod TcpResized
 pub mod TcpTexts
 pub mod TcpUpdated
 mod TcpViewed
-mod TcpWorked
 pub mod ValueInRange
 mod WordChanged

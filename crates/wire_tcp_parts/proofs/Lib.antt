@@ -7,5 +7,4 @@ pub mod Places
 pub mod Prefixes
 pub mod Ranges
 pub mod Summaries
-mod TcpPartsWorked
 pub mod Walks

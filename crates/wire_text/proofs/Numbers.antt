@@ -1,5 +1,5 @@
 -- The number parser returns exactly the number of the grammar.
-use Rattle.std.proofs.Common.{◌≡◌, ℕ, ◌<◌, ◌≤◌, ◌⊎◌, Bool, true, false, cond, List, [], ◌∷◌, length, get_or, Option, Some, None, refl, arith, lt-ltb, le-leb, nat_lt, nat_le, ◌*◌, ◌+◌, ◌^◌, take, length-take-le, le_trans, lit≤, min, mul-le-mul, ◌&&◌, subst, sym}
+use Rattle.std.proofs.Common.{◌≡◌, ℕ, ◌<◌, ◌≤◌, Bool, true, false, cond, List, [], ◌∷◌, length, get_or, Option, Some, None, refl, arith, lt-ltb, le-leb, nat_lt, nat_le, ◌*◌, ◌+◌, ◌^◌, take, length-take-le, le_trans, lit≤, min, mul-le-mul, ◌&&◌, subst, sym}
 use Rattle.std.proofs.Math.Nat.{pow-le-pow_left, pow-le-pow_right}
 use Rattle.std.proofs.lemmas.Int.Digits.{digits_value-lt, digits_more, digits_value_more}
 use Rattle.std.proofs.lemmas.Bool.{ltb-true, leb-true, and_parts}

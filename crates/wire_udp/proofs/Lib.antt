@@ -4,4 +4,3 @@ pub mod UdpEmitted
 pub mod UdpReadsBack
 pub mod UdpUpdated
 mod UdpViewed
-mod UdpWorked
