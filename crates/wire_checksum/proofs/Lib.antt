@@ -1,7 +1,6 @@
 mod ChecksumWorked
 pub mod Ends
 pub mod Fours
-pub mod Joined
 pub mod Lanes
 pub mod Parts
 pub mod PseudoSums
@@ -9,5 +8,4 @@ pub mod Residues
 pub mod Rounds
 pub mod Updated
 pub mod UpdatedBytes
-pub mod Wholes
 pub mod WordLists
