@@ -1,12 +1,11 @@
 -- The computed value of an ARP packet is the one that it is read as.
-use Rattle.std.proofs.Common.{inl, inr, ℕ, ◌≡◌, ◌↔◌, ◌≤◌, true, List, ◌∷◌, Some, None, length, slice_range, take, bytes_eq, refl, subst, arith}
-use Rattle.std.proofs.lemmas.Bool.{cases_Bool}
+use Rattle.std.proofs.Common.{ℕ, ◌≡◌, ◌↔◌, ◌≤◌, List, ◌∷◌, Some, length, slice_range, take, refl, arith}
 use Rattle.std.proofs.lemmas.Bool.Decides.{nat_tests}
 use Rattle.std.proofs.lemmas.Slice.Eq.{bytes_eq-Decides}
 use Rattle.wire_addr.specs.declared.ethernet_address.EthernetAddress.{EthernetAddress}
 use Rattle.wire_field.specs.Field.{field}
 use Rattle.wire_field.proofs.Spelled.{AreBytes}
-use Rattle.wire_arp.specs.Arp.{Reads, arp_of, ethernet_ipv4, hardware_len, hardware_of, is_read, operation_of, protocol_len, value_of}
+use Rattle.wire_arp.specs.Arp.{Reads, arp_of, ethernet_ipv4, hardware_len, hardware_of, operation_of, protocol_len, value_of}
 use Rattle.wire_ethernet.specs.Ethernet.{protocol_of}
 use Rattle.wire_arp.specs.declared.arp.ArpHardware.TheVariants as hardware
 use Rattle.wire_arp.specs.declared.arp.ArpOperation.{ArpOperation}
@@ -14,29 +13,11 @@ use Rattle.wire_arp.specs.declared.arp.repr.ArpRepr.{ArpRepr}
 use Rattle.wire_arp.specs.declared.arp.repr.ArpRepr.TheVariants.{EthernetIpv4}
 use Rattle.wire_ethernet.specs.declared.ethernet.EthernetProtocol.TheVariants as protocol
 
--- the test says what reading asks for
-is_read-Reads : (bytes : List ℕ) → is_read bytes ≡ true → Reads bytes (value_of bytes)
-is_read-Reads bytes h =
-    let same = bytes_eq-Decides (take 6 bytes) ethernet_ipv4 in
-    record { whole = grind (arith, nat_tests); kind = same.0 (grind (arith, nat_tests)); fields = refl }
-
-Reads-is_read : (bytes : List ℕ) (v : ArpRepr) → Reads bytes v → is_read bytes ≡ true
-Reads-is_read bytes v r =
-    let same : bytes_eq (take 6 bytes) ethernet_ipv4 ≡ true = (bytes_eq-Decides (take 6 bytes) ethernet_ipv4).1 r.kind in
-    let whole = r.whole in
-    grind (arith, nat_tests)
-
 pub arp_of-Reads : (bytes : List ℕ) (v : ArpRepr) → (arp_of bytes ≡ Some v) ↔ Reads bytes v
 unfolding arp_of
-arp_of-Reads bytes v = (
-  λ e. elim (cases_Bool (is_read bytes)) [
-    | inl read ↦
-        let is : Some (value_of bytes) ≡ Some v = rw read at e in
-        subst (Reads bytes) (cc) (is_read-Reads bytes read)
-    | inr other ↦ let none : None ≡ Some v = rw other at e in absurd (cc)
-  ],
-  λ r. rw (Reads-is_read bytes v r, r.fields) refl,
-)
+arp_of-Reads bytes v =
+    let kind = bytes_eq-Decides (take 6 bytes) ethernet_ipv4 in
+    (λ e. grind (arith, nat_tests), λ r. grind (arith, nat_tests))
 
 -- ---- what a reader finds
 

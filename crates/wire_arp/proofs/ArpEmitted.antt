@@ -1,5 +1,5 @@
 -- What `emit` leaves, and what is read of the packet of a value.
-use Rattle.std.proofs.Common.{ℕ, ◌≡◌, ◌<◌, ◌≤◌, ◌^◌, List, [], ◌∷◌, ◌++◌, length, drop, slice_index, slice_range, refl, ◌∙◌, ◌+◌, ◌/◌, ◌%◌, arith}
+use Rattle.std.proofs.Common.{ℕ, ◌≡◌, ◌<◌, ◌≤◌, ◌^◌, List, [], ◌∷◌, ◌++◌, length, drop, slice_index, slice_range, refl, ◌∙◌, ◌+◌, arith}
 use borrow.Rule.Slice.PartMut.{put_mid}
 use Rattle.byteorder.specs.Endian.{big_bytes, big_number}
 use Rattle.wire_addr.specs.Octets.{AreOctets}
@@ -40,16 +40,7 @@ reads-bytes_of (EthernetIpv4 operation sha spa tha tpa) rest (small, h) =
 
 -- the first eight bytes are one number
 pub front_bytes : (n operation : ℕ) → operation < 2 ^ 16 → n ≡ 0x0001080006040000 + operation → big_bytes 8 n ≡ ethernet_ipv4 ++ big_bytes 2 operation
-front_bytes n operation small is =
-    let a : n / 72057594037927936 % 256 ≡ 0 = omega (arith, is, small) in
-    let b : n / 281474976710656 % 256 ≡ 1 = omega (arith, is, small) in
-    let c : n / 1099511627776 % 256 ≡ 8 = omega (arith, is, small) in
-    let d : n / 4294967296 % 256 ≡ 0 = omega (arith, is, small) in
-    let e : n / 16777216 % 256 ≡ 6 = omega (arith, is, small) in
-    let f : n / 65536 % 256 ≡ 4 = omega (arith, is, small) in
-    let g : n / 256 % 256 ≡ operation / 256 % 256 = omega (arith, is, small) in
-    let h : n % 256 ≡ operation % 256 = omega (arith, is, small) in
-    rw (a, b, c, d, e, f, g, h) refl
+front_bytes n operation small is = grind arith
 
 -- the four bytes of an address are those of its number
 pub address_bytes : (address : List ℕ) (n : ℕ) → AreOctets 4 address → n ≡ number_of address → big_bytes 4 n ≡ address

@@ -1,12 +1,12 @@
 -- Chunks of four words.
-use Rattle.std.proofs.Common.{◌≡◌, ℕ, ◌+◌, ◌*◌, ◌/◌, ◌%◌, ◌<◌, ◌≤◌, List, [], ◌∷◌, length, take, drop, get_or, sum, refl, sym, ◌∙◌, ap, arith, w64}
+use Rattle.std.proofs.Common.{◌≡◌, ℕ, ◌+◌, ◌*◌, ◌/◌, ◌%◌, ◌<◌, ◌≤◌, List, [], length, take, drop, get_or, sum, refl, sym, ◌∙◌, ap, arith, w64}
 use Rattle.std.specs.Int.{from_le_bytes}
 use Rattle.std.specs.Simd.{first_chunks}
 use Rattle.std.proofs.lemmas.List.{drop-drop, length-drop, length-take-le}
 use Rattle.std.proofs.Math.Nat.{mul-add}
 use Rattle.wire_checksum.specs.WordSum.{words, residue}
 use Rattle.wire_checksum.proofs.Residues.{residue-same, residue-add}
-use Rattle.wire_checksum.proofs.WordLists.{words-of_8, chunk-at, sum-words-split}
+use Rattle.wire_checksum.proofs.WordLists.{words-of_0, words-of_8, chunk-at, sum-words-split}
 
 -- the word at place k of a chunk
 abbrev pub word : ℕ → List ℕ → ℕ
@@ -33,17 +33,13 @@ words-of_32 xs e =
     let s2 = sum (words (take 8 (drop 16 xs))) in
     let s3 = sum (words (take 8 (drop 24 xs))) in
     let all : sum (words xs) ≡ s0 + s1 + s2 + s3 + sum (words (drop 32 xs)) = omega (arith, split 0 xs e (omega arith) (omega arith), split 8 xs e (omega arith) (omega arith), split 16 xs e (omega arith) (omega arith), split 24 xs e (omega arith) (omega arith)) in
-    let none : sum (words (drop 32 xs)) ≡ 0 = empty (drop 32 xs) (rw length-drop (omega arith)) in
+    let none : sum (words (drop 32 xs)) ≡ 0 = words-of_0 (drop 32 xs) (rw length-drop (omega arith)) in
     let a = residue-add (256 * word 0 xs) s0 (256 * word 1 xs) s1 (word-at 0 xs e (omega arith)) (word-at 1 xs e (omega arith)) in
     let b = residue-add (256 * word 0 xs + 256 * word 1 xs) (s0 + s1) (256 * word 2 xs) s2 a (word-at 2 xs e (omega arith)) in
     let c = residue-add (256 * word 0 xs + 256 * word 1 xs + 256 * word 2 xs) (s0 + s1 + s2) (256 * word 3 xs) s3 b (word-at 3 xs e (omega arith)) in
     let spread : 256 * four xs ≡ 256 * word 0 xs + 256 * word 1 xs + 256 * word 2 xs + 256 * word 3 xs = omega arith in
     let last : s0 + s1 + s2 + s3 ≡ sum (words xs) = omega (arith, all, none) in
     ap residue spread ∙ c ∙ ap residue last
-  where
-    empty : (l : List ℕ) → length l ≡ 0 → sum (words l) ≡ 0
-    empty [] h = refl
-    empty (x ∷ l) h = absurd (omega arith)
 
 -- carries that move from bit 64 to bit 0 keep the residue
 pub carried : (before after carries : ℕ) → after + 18446744073709551615 * carries ≡ before → (after ≡ 0 → carries ≡ 0) → residue (256 * after) ≡ residue (256 * before)

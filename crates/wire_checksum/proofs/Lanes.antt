@@ -26,9 +26,6 @@ next_odd odd ps = zip2 (λ o d. o + d) odd (map (λ x. x / 256) ps)
 -- the lanes of a vector are its pairs of bytes
 pub digits-pairs : (n : ℕ) (v : List ℕ) → length v ≡ 2 * n → Each1 (λ a. a < 256) v → digits_l 65536 n (number_l 256 v) ≡ pairs v
 digits-pairs zero [] e h = refl
-digits-pairs zero (x ∷ v) e h = absurd (omega arith)
-digits-pairs (suc n) [] e h = absurd (omega arith)
-digits-pairs (suc n) (x ∷ []) e h = absurd (omega arith)
 digits-pairs (suc n) (x ∷ y ∷ v) e h =
     let p : x < 256 = h.0 in
     let q : y < 256 = (h.1).0 in
@@ -37,44 +34,37 @@ digits-pairs (suc n) (x ∷ y ∷ v) e h =
     let b : (x + 256 * (y + 256 * m)) / 65536 ≡ m = omega arith in
     ap (λ k. k ∷ digits_l 65536 n ((x + 256 * (y + 256 * m)) / 65536)) a ∙ ap (λ k. (x + 256 * y) ∷ digits_l 65536 n k) b
     ∙ ap (λ l. (x + 256 * y) ∷ l) (digits-pairs n v (omega arith) (h.1).1)
+digits-pairs n other e h = absurd (omega arith)
 
 -- one more vector raises the bound of `odd` by 255
 pub odd-bound : (b : ℕ) (os v : List ℕ) → Each1 (λ a. a ≤ b) os → Each1 (λ a. a < 256) v → Each1 (λ a. a ≤ b + 255) (next_odd os (pairs v))
-odd-bound b [] v h k = tt
-odd-bound b (o ∷ os) [] h k = tt
-odd-bound b (o ∷ os) (x ∷ []) h k = tt
 odd-bound b (o ∷ os) (x ∷ y ∷ v) h k =
     let p : x < 256 = k.0 in
     let q : y < 256 = (k.1).0 in
     let r : o ≤ b = h.0 in
     (omega arith, odd-bound b os v h.1 (k.1).1)
+odd-bound b os other h k = tt
 
 -- the addition to `odd` does not overflow
 pub odd-fit : (b : ℕ) (os v : List ℕ) → b + 255 ≤ 65535 → Each1 (λ a. a ≤ b) os → Each1 (λ a. a < 256) v → Each2 (λ o d. Fits w16 (o + d)) os (map (λ x. x / 256) (pairs v))
-odd-fit b [] v room h k = tt
-odd-fit b (o ∷ os) [] room h k = tt
-odd-fit b (o ∷ os) (x ∷ []) room h k = tt
 odd-fit b (o ∷ os) (x ∷ y ∷ v) room h k =
     let p : x < 256 = k.0 in
     let q : y < 256 = (k.1).0 in
     let r : o ≤ b = h.0 in
     (record { fits = omega arith }, odd-fit b os v room h.1 (k.1).1)
+odd-fit b os other room h k = tt
 
 -- `odd` keeps its number of lanes
 pub odd-long : (n : ℕ) (os v : List ℕ) → length os ≡ n → length v ≡ 2 * n → length (next_odd os (pairs v)) ≡ n
 odd-long n [] v e f = e
-odd-long n (o ∷ os) [] e f = absurd (omega arith)
-odd-long n (o ∷ os) (x ∷ []) e f = absurd (omega arith)
-odd-long zero (o ∷ os) (x ∷ y ∷ v) e f = absurd (omega arith)
 odd-long (suc n) (o ∷ os) (x ∷ y ∷ v) e f = ap suc (odd-long n os v (omega arith) (omega arith))
+odd-long n (o ∷ os) other e f = absurd (omega arith)
 
 -- `all` keeps its number of lanes
 pub all-long : (n : ℕ) (al v : List ℕ) → length al ≡ n → length v ≡ 2 * n → length (next_all al (pairs v)) ≡ n
 all-long n [] v e f = e
-all-long n (a ∷ al) [] e f = absurd (omega arith)
-all-long n (a ∷ al) (x ∷ []) e f = absurd (omega arith)
-all-long zero (a ∷ al) (x ∷ y ∷ v) e f = absurd (omega arith)
 all-long (suc n) (a ∷ al) (x ∷ y ∷ v) e f = ap suc (all-long n al v (omega arith) (omega arith))
+all-long n (a ∷ al) other e f = absurd (omega arith)
 
 -- one lane, with one more pair
 lane : (a o x y : ℕ) → x < 256 → y < 256 → (a + (65536 - (o * 256) % 65536)) % 65536 + x < 65536
@@ -87,30 +77,19 @@ lane a o x y p q room =
 pub even-bound : (n b : ℕ) (al os v : List ℕ) → b + 255 ≤ 65535 → length al ≡ n → length os ≡ n → length v ≡ 2 * n → Each1 (λ a. a < 256) v → Each1 (λ a. a ≤ b) (evens n al os)
     → Each1 (λ a. a ≤ b + 255) (evens n (next_all al (pairs v)) (next_odd os (pairs v)))
 even-bound zero b [] os v room e f g h k = tt
-even-bound zero b (a ∷ al) os v room e f g h k = absurd (omega arith)
-even-bound (suc n) b [] os v room e f g h k = absurd (omega arith)
-even-bound (suc n) b (a ∷ al) [] v room e f g h k = absurd (omega arith)
-even-bound (suc n) b (a ∷ al) (o ∷ os) [] room e f g h k = absurd (omega arith)
-even-bound (suc n) b (a ∷ al) (o ∷ os) (x ∷ []) room e f g h k = absurd (omega arith)
 even-bound (suc n) b (a ∷ al) (o ∷ os) (x ∷ y ∷ v) room e f g h k =
     let p : x < 256 = h.0 in
     let q : y < 256 = (h.1).0 in
     let r : (a + (65536 - (o * 256) % 65536)) % 65536 ≤ b = k.0 in
     let s = lane a o x y p q (omega arith) in
     (omega (arith, s), even-bound n b al os v room (omega arith) (omega arith) (omega arith) (h.1).1 k.1)
+even-bound n b al os other room e f g h k = absurd (omega arith)
 
 -- one more vector adds the sum of its words
 pub even-sum : (n b : ℕ) (al os v : List ℕ) → b + 255 ≤ 65535 → length al ≡ n → length os ≡ n → length v ≡ 2 * n → Each1 (λ a. a < 256) v → Each1 (λ a. a ≤ b) (evens n al os)
     → 256 * sum_l (evens n (next_all al (pairs v)) (next_odd os (pairs v))) + sum_l (next_odd os (pairs v)) ≡ 256 * sum_l (evens n al os) + sum_l os + sum (words v)
 unfolding words
 even-sum zero b [] [] [] room e f g h k = refl
-even-sum zero b [] [] (x ∷ v) room e f g h k = absurd (omega arith)
-even-sum zero b [] (o ∷ os) v room e f g h k = absurd (omega arith)
-even-sum zero b (a ∷ al) os v room e f g h k = absurd (omega arith)
-even-sum (suc n) b [] os v room e f g h k = absurd (omega arith)
-even-sum (suc n) b (a ∷ al) [] v room e f g h k = absurd (omega arith)
-even-sum (suc n) b (a ∷ al) (o ∷ os) [] room e f g h k = absurd (omega arith)
-even-sum (suc n) b (a ∷ al) (o ∷ os) (x ∷ []) room e f g h k = absurd (omega arith)
 even-sum (suc n) b (a ∷ al) (o ∷ os) (x ∷ y ∷ v) room e f g h k =
     let p : x < 256 = h.0 in
     let q : y < 256 = (h.1).0 in
@@ -129,11 +108,10 @@ even-sum (suc n) b (a ∷ al) (o ∷ os) (x ∷ y ∷ v) room e f g h k =
   where
     combine : (first before x y d o ev od ev' od' t w : ℕ) → first ≡ before + x → d ≡ y → 256 * ev + od ≡ 256 * ev' + od' + t → w ≡ 256 * x + y + t → 256 * (first + ev) + ((o + d) + od) ≡ 256 * (before + ev') + (o + od') + w
     combine first before x y d o ev od ev' od' t w a b c e = omega arith
+even-sum n b al os other room e f g h k = absurd (omega arith)
 
 -- the even sums have as many lanes
 pub evens-long : (n : ℕ) (al os : List ℕ) → length al ≡ n → length os ≡ n → length (evens n al os) ≡ n
 evens-long zero [] os e f = refl
-evens-long zero (a ∷ al) os e f = absurd (omega arith)
-evens-long (suc n) [] os e f = absurd (omega arith)
-evens-long (suc n) (a ∷ al) [] e f = absurd (omega arith)
 evens-long (suc n) (a ∷ al) (o ∷ os) e f = ap suc (evens-long n al os (omega arith) (omega arith))
+evens-long n al os e f = absurd (omega arith)

@@ -1,6 +1,5 @@
 pub mod Ends
 pub mod Fours
-pub mod Joined
 pub mod Lanes
 pub mod Parts
 pub mod PseudoSums
@@ -8,5 +7,4 @@ pub mod Residues
 pub mod Rounds
 pub mod Updated
 pub mod UpdatedBytes
-pub mod Wholes
 pub mod WordLists

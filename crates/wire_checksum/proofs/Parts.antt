@@ -1,14 +1,12 @@
 -- Sums of words before and after a part of the bytes was replaced.
-use Rattle.std.proofs.Common.{ℕ, zero, suc, ◌≡◌, ◌≢◌, ◌+◌, ◌-◌, ◌*◌, ◌/◌, ◌%◌, ◌^◌, ◌<◌, ◌≤◌, List, [], ◌∷◌, ◌++◌, length, take, drop, slice_index, slice_range, sum, refl, sym, ap, ◌∙◌, append_assoc, length-append, arith}
+use Rattle.std.proofs.Common.{ℕ, zero, suc, ◌≡◌, ◌+◌, ◌-◌, ◌*◌, ◌/◌, ◌%◌, ◌^◌, ◌<◌, ◌≤◌, List, [], ◌∷◌, ◌++◌, length, take, drop, slice_index, slice_range, sum, refl, sym, ap, ◌∙◌, append_assoc, length-append, arith}
 use Rattle.std.proofs.lemmas.List.{drop-drop, drop-take, length-drop, length-take-le, take-take}
 use Rattle.std.proofs.Math.Seq.{take-append-add}
 use Rattle.byteorder.specs.Endian.{big_bytes, big_from}
 use Rattle.wire_checksum.specs.WordSum.{words}
 use Rattle.wire_checksum.proofs.WordLists.{sum-words-append, sum-words-cons, sum-words-split}
-use Rattle.wire_field.proofs.ByteLists.{AreBytes-take}
 use Rattle.wire_field.proofs.Cells.{whole_byte, word_high, word_low}
 use Rattle.wire_field.proofs.Spelled.{AreBytes}
-use Rattle.wire_field.proofs.Written.{length-with_field}
 use Rattle.wire_field.specs.Field.{behind, field, span, with_field, with_part, with_range}
 
 -- ---- a part at an even place
@@ -85,10 +83,9 @@ with_field-word bytes i x =
 
 -- the bytes from a place on
 from_place : (bytes : List ℕ) (n : ℕ) → suc (suc n) ≤ length bytes → drop n bytes ≡ slice_index bytes n ∷ slice_index bytes (suc n) ∷ drop (suc (suc n)) bytes
-from_place [] n room = absurd (omega arith)
-from_place (a ∷ []) zero room = absurd (omega arith)
 from_place (a ∷ b ∷ rest) zero room = refl
 from_place (a ∷ rest) (suc n) room = from_place rest n (omega arith)
+from_place other n room = absurd (omega arith)
 
 -- two bytes at an even place
 pub slice_range-two : (bytes : List ℕ) (n : ℕ) → n + 2 ≤ length bytes → slice_range bytes n (n + 2) ≡ slice_index bytes n ∷ slice_index bytes (suc n) ∷ []
@@ -188,8 +185,5 @@ sum-take-with_byte bytes n i x are inside room fits =
 
 -- the front of bytes whose first byte is not 0
 pub sum-take-positive : (bytes : List ℕ) (n : ℕ) → 2 ≤ n → n ≤ length bytes → 0 < slice_index bytes 0 → 0 < sum (words (take n bytes))
-sum-take-positive bytes zero whole room some = absurd (omega arith)
-sum-take-positive bytes (suc zero) whole room some = absurd (omega arith)
-sum-take-positive [] (suc (suc n)) whole room some = absurd (omega arith)
-sum-take-positive (x ∷ []) (suc (suc n)) whole room some = absurd (omega arith)
 sum-take-positive (x ∷ y ∷ rest) (suc (suc n)) whole room some = omega (arith, some, sum-words-cons x y (take n rest))
+sum-take-positive other n whole room some = absurd (omega arith)

@@ -1,7 +1,5 @@
 -- The checksum of bytes, updated after a part of what it covers changed.
-use Rattle.std.proofs.Common.{ℕ, ◌≡◌, ◌+◌, ◌-◌, ◌*◌, ◌<◌, ◌≤◌, inl, inr, List, length, take, sum, sym, ap, ◌∙◌, zero-add, arith}
-use Rattle.std.proofs.lemmas.Bool.{cases_lt}
-use Rattle.std.proofs.lemmas.List.{take_all}
+use Rattle.std.proofs.Common.{ℕ, zero, suc, ◌≡◌, ◌+◌, ◌-◌, ◌*◌, ◌<◌, ◌≤◌, List, length, take, sum, refl, sym, ap, ◌∙◌, zero-add, arith}
 use Rattle.wire_checksum.specs.WordSum.{residue, sum_of_bytes, updated, words}
 use Rattle.wire_checksum.proofs.Parts.{sum-take-with_field, sum-words-with_field}
 use Rattle.wire_checksum.proofs.Residues.{residue-of_zero}
@@ -42,25 +40,19 @@ pub updated-word : (bytes : List ℕ) (c p word : ℕ) → AreBytes bytes → 2 
     → 0 < sum_of_bytes (with_field (with_field bytes (16 * p) 16 word) (16 * c) 16 0) → sum_of_bytes bytes ≡ 65535
     → sum_of_bytes (with_field (with_field bytes (16 * p) 16 word) (16 * c) 16 (updated (field (with_field bytes (16 * p) 16 word) (16 * c) 16) (field bytes (16 * p) 16) word)) ≡ 65535
 updated-word bytes c p word are at_c at_p fits some valid =
-    let n = length bytes in
     let old = field bytes (16 * p) 16 in
     let changed = with_field bytes (16 * p) 16 word in
     let checksum = field changed (16 * c) 16 in
-    let u = updated checksum old word in
-    let long : length changed ≡ n = length-with_field bytes (16 * p) 16 word (omega arith) (omega (arith, at_p)) in
-    let zero_long : length (with_field changed (16 * c) 16 0) ≡ n = length-with_field changed (16 * c) 16 0 (omega arith) (omega (arith, long, at_c)) ∙ long in
-    let u_long : length (with_field changed (16 * c) 16 u) ≡ n = length-with_field changed (16 * c) 16 u (omega arith) (omega (arith, long, at_c)) ∙ long in
-    let all : take n bytes ≡ bytes = take_all n bytes (omega arith) in
-    let all_changed : take n changed ≡ changed = take_all n changed (omega (arith, long)) in
-    let all_zeroed : take n (with_field changed (16 * c) 16 0) ≡ with_field changed (16 * c) 16 0 = take_all n (with_field changed (16 * c) 16 0) (omega (arith, zero_long)) in
-    let all_updated : take n (with_field changed (16 * c) 16 u) ≡ with_field changed (16 * c) 16 u = take_all n (with_field changed (16 * c) 16 u) (omega (arith, u_long)) in
-    let change : sum (words (take n changed)) + old ≡ sum (words (take n bytes)) + word =
-    ap (λ (l : List ℕ). sum (words l) + old) all_changed ∙ sum-words-with_field bytes p word are at_p fits ∙ ap (λ (l : List ℕ). sum (words l) + word) (sym all) in
-    let positive : 0 < sum (words (take n (with_field changed (16 * c) 16 0))) =
-    elim (cases_lt 0 (sum (words (take n (with_field changed (16 * c) 16 0))))) [
-      | inl above ↦ above
-      | inr below ↦ absurd (omega (arith, some, residue-of_zero (sum (words (with_field changed (16 * c) 16 0))) (ap (λ (l : List ℕ). sum (words l)) (sym all_zeroed) ∙ omega (arith, below))))
-    ] in
-    let small : updated checksum (residue old) (residue word) ≡ u = updated-small checksum old word (omega arith) (omega (arith, fits)) in
-    ap sum_of_bytes (sym all_updated) ∙ ap (λ (v : ℕ). sum_of_bytes (take n (with_field changed (16 * c) 16 v))) (sym small)
-    ∙ updated-front bytes changed n c old word (AreBytes-with_field bytes (16 * p) 16 word are (omega arith) (omega (arith, at_p))) at_c (omega (arith, long)) change positive (ap sum_of_bytes all ∙ valid)
+    let changed_are = AreBytes-with_field bytes (16 * p) 16 word are (omega arith) (omega (arith, at_p)) in
+    let room : 2 * c + 2 ≤ length changed = omega (arith, at_c, length-with_field bytes (16 * p) 16 word (omega arith) (omega (arith, at_p))) in
+    let u = updated checksum (residue old) (residue word) in
+    let written = sum-words-with_field changed c u changed_are room (omega arith) in
+    let zeroed = sum-words-with_field changed c 0 changed_are room (omega arith) in
+    let positive = positive_total (sum (words (with_field changed (16 * c) 16 0))) some in
+    ap (λ (v : ℕ). sum_of_bytes (with_field changed (16 * c) 16 v)) (sym (updated-small checksum old word (omega arith) (omega (arith, fits))))
+    ∙ stays_valid (sum (words bytes)) (sum (words changed)) (sum (words (with_field changed (16 * c) 16 u))) checksum old word (omega arith)
+    (sum-words-with_field bytes p word are at_p fits) (omega (arith, written)) (omega (arith, zeroed, positive)) valid
+  where
+    positive_total : (total : ℕ) → 0 < residue total → 0 < total
+    positive_total zero h = absurd (omega (arith, h, residue-of_zero zero refl))
+    positive_total (suc n) h = omega arith

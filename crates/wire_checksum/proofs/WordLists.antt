@@ -1,5 +1,5 @@
 -- Words of joined bytes, and of the chunks of a slice.
-use Rattle.std.proofs.Common.{◌≡◌, ℕ, zero, suc, ◌+◌, ◌*◌, ◌%◌, ◌<◌, ◌≤◌, List, [], ◌∷◌, ◌++◌, length, take, drop, get_or, sum, refl, sym, ◌∙◌, ap, zero-add, arith, w16, w32, w64}
+use Rattle.std.proofs.Common.{◌≡◌, ℕ, zero, suc, ◌+◌, ◌*◌, ◌/◌, ◌%◌, ◌<◌, ◌≤◌, List, [], ◌∷◌, ◌++◌, length, take, drop, get_or, sum, refl, sym, ◌∙◌, ap, zero-add, arith, w16, w32, w64}
 use Rattle.std.specs.Int.{from_le_bytes}
 use Rattle.std.specs.Simd.{first_chunks}
 use Rattle.std.specs.Simd.Lanes.{number_l}
@@ -38,29 +38,15 @@ number-words (x ∷ y ∷ xs) =
 -- the number that 8 bytes spell, low byte first
 pub number-of_8 : (xs : List ℕ) → length xs ≡ 8 → from_le_bytes w64 xs ≡ number_l 256 xs
 number-of_8 (a ∷ b ∷ c ∷ d ∷ e ∷ f ∷ g ∷ h ∷ []) l = omega arith
-number-of_8 [] l = absurd (omega arith)
-number-of_8 (a ∷ []) l = absurd (omega arith)
-number-of_8 (a ∷ b ∷ []) l = absurd (omega arith)
-number-of_8 (a ∷ b ∷ c ∷ []) l = absurd (omega arith)
-number-of_8 (a ∷ b ∷ c ∷ d ∷ []) l = absurd (omega arith)
-number-of_8 (a ∷ b ∷ c ∷ d ∷ e ∷ []) l = absurd (omega arith)
-number-of_8 (a ∷ b ∷ c ∷ d ∷ e ∷ f ∷ []) l = absurd (omega arith)
-number-of_8 (a ∷ b ∷ c ∷ d ∷ e ∷ f ∷ g ∷ []) l = absurd (omega arith)
-number-of_8 (a ∷ b ∷ c ∷ d ∷ e ∷ f ∷ g ∷ h ∷ x ∷ xs) l = absurd (omega arith)
+number-of_8 other l = absurd (omega arith)
 
 number-of_4 : (xs : List ℕ) → length xs ≡ 4 → from_le_bytes w32 xs ≡ number_l 256 xs
 number-of_4 (a ∷ b ∷ c ∷ d ∷ []) l = omega arith
-number-of_4 [] l = absurd (omega arith)
-number-of_4 (a ∷ []) l = absurd (omega arith)
-number-of_4 (a ∷ b ∷ []) l = absurd (omega arith)
-number-of_4 (a ∷ b ∷ c ∷ []) l = absurd (omega arith)
-number-of_4 (a ∷ b ∷ c ∷ d ∷ e ∷ xs) l = absurd (omega arith)
+number-of_4 other l = absurd (omega arith)
 
 number-of_2 : (xs : List ℕ) → length xs ≡ 2 → from_le_bytes w16 xs ≡ number_l 256 xs
 number-of_2 (a ∷ b ∷ []) l = omega arith
-number-of_2 [] l = absurd (omega arith)
-number-of_2 (a ∷ []) l = absurd (omega arith)
-number-of_2 (a ∷ b ∷ c ∷ xs) l = absurd (omega arith)
+number-of_2 other l = absurd (omega arith)
 
 -- the little-endian number of 8 bytes stands for the sum of their words
 pub words-of_8 : (xs : List ℕ) → length xs ≡ 8 → residue (256 * from_le_bytes w64 xs) ≡ residue (sum (words xs))
@@ -78,8 +64,7 @@ words-of_2 xs l = ap (λ n. residue (256 * n)) (number-of_2 xs l) ∙ number-wor
 pub words-of_1 : (xs : List ℕ) → length xs ≡ 1 → sum (words xs) ≡ 256 * get_or xs 0 0
 unfolding words
 words-of_1 (a ∷ []) l = zero-add (256 * a)
-words-of_1 [] l = absurd (omega arith)
-words-of_1 (a ∷ b ∷ xs) l = absurd (omega arith)
+words-of_1 other l = absurd (omega arith)
 
 -- chunk i of n bytes is a slice of the bytes
 pub chunk-at : (n k i : ℕ) (xs d : List ℕ) → i < k → get_or (first_chunks n k xs) i d ≡ take n (drop (i * n) xs)
@@ -146,3 +131,11 @@ chunks-end n m i bytes rest s w ends even room cut so_far left =
     ap residue (mul-add 256 s w)
     ∙ residue-add (256 * s) (sum (words (take m bytes))) (256 * w) (sum (words (drop m bytes))) (so_far ∙ ap (λ j. residue (sum (words (take j bytes)))) ends) (left ∙ ap (λ l. residue (sum (words l))) cut)
     ∙ ap residue (sym (sum-words-split m bytes even room))
+
+-- a total of the bytes behind the last whole word of 8, with all whole words added, is a total of all bytes
+pub with-tail : (bytes : List ℕ) (t s : ℕ) → residue (256 * t) ≡ residue (sum (words (drop (length bytes / 8 * 8) bytes)))
+    → residue (256 * s) ≡ residue (256 * t + sum (words (take (length bytes / 8 * 8) bytes))) → residue (256 * s) ≡ residue (sum (words bytes))
+with-tail bytes t s a b =
+    let m = length bytes / 8 * 8 in
+    let split = sum-words-split m bytes (omega arith) (omega arith) in
+    b ∙ residue-add (256 * t) (sum (words (drop m bytes))) (sum (words (take m bytes))) (sum (words (take m bytes))) a refl ∙ ap residue (omega (arith, split))

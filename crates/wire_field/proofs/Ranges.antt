@@ -7,7 +7,7 @@ use Rattle.std.proofs.Math.Nat.{div-one, mod-eq_of_lt, pow-suc}
 use Rattle.std.specs.Int.{byte_at, bytes_high_first}
 use Rattle.byteorder.specs.Endian.{big_bytes, big_from, big_number}
 use Rattle.byteorder.specs.Numbers.{big_from-cons, big_from-lt, big_from-take}
-use Rattle.wire_field.specs.Field.{behind, field, span, with_field, with_part, with_range, word_at}
+use Rattle.wire_field.specs.Field.{behind, field, span, with_field, with_part, with_range}
 use Rattle.wire_field.proofs.ByteLists.{AreBytes-slice_range}
 use Rattle.wire_field.proofs.Spelled.{AreBytes, pow256}
 
@@ -23,8 +23,6 @@ byte-above q x p r s e = rw e (omega arith)
 -- the lowest n bytes of a number that ends in what n bytes spell are these bytes
 bytes-number : (n q : ℕ) (a : List ℕ) → AreBytes a → length a ≡ n → bytes_high_first n (q * 256 ^ n + big_from 0 n a) ≡ a
 bytes-number zero q [] are long = refl
-bytes-number zero q (x ∷ a) are long = absurd (omega (arith, long))
-bytes-number (suc n) q [] are long = absurd (omega (arith, long))
 bytes-number (suc n) q (x ∷ a) are long =
     let fits : x < 256 = are 0 in
     let small : big_from 0 n a < 2 ^ (8 * n) = rw (← pow256 n) (big_from-lt 0 n a (λ i. are (suc i))) in
@@ -35,6 +33,7 @@ bytes-number (suc n) q (x ∷ a) are long =
     let first : byte_at n ((q * 256 + x) * 256 ^ n + big_from 0 n a) ≡ x = byte-shifted n ((q * 256 + x) * 256 ^ n + big_from 0 n a) ∙ ap (λ (y : ℕ). y % 256) high ∙ low in
     let others = bytes-number n (q * 256 + x) a (λ i. are (suc i)) (omega (arith, long)) in
     ap (bytes_high_first (suc n)) whole ∙ rw (first, others) refl
+bytes-number n q other are long = absurd (omega (arith, long))
 
 -- a number of n bytes, written over all bits of another
 whole-part : (w n x : ℕ) → x < 256 ^ n → with_part w 0 (8 * n) x ≡ w / 256 ^ n * 256 ^ n + x

@@ -1,6 +1,7 @@
 -- The computed value of an IP header is the value that it parses as.
 use Rattle.std.proofs.Common.{ℕ, ◌≡◌, ◌↔◌, Bool, List, Option, Some, None, Result, Ok, Err, refl, subst}
-use Rattle.std.specs.Prelude.{IsErr, option_and_then, option_map}
+use Rattle.std.proofs.lemmas.Option.{option_and_then_some}
+use Rattle.std.specs.Prelude.{IsErr, option_map}
 use Rattle.std.specs.Result.{result_ok}
 use Rattle.net_base.specs.declared.error.Error.{Error}
 use Rattle.wire_ends.proofs.Versions.{IsOfVersion-packet_version, packet_version-IsOfVersion}
@@ -18,10 +19,6 @@ use Rattle.wire_ip.specs.declared.ip.repr.IpRepr.TheVariants.{Ipv4, Ipv6}
 use Rattle.wire_ipv6.specs.declared.ipv6.repr.Ipv6Repr.{Ipv6Repr}
 
 -- if mapping an option returned a value, the option had one
-and_then-Some : {V W : Type 0} (f : V → Option W) (o : Option V) (w : W) → option_and_then f o ≡ Some w → (v : V) × (o ≡ Some v) × (f v ≡ Some w)
-and_then-Some f (Some v) w e = (v, refl, e)
-and_then-Some f None w e = absurd (cc)
-
 map-Some : {V W : Type 0} (f : V → W) (o : Option V) (w : W) → option_map f o ≡ Some w → (v : V) × (o ≡ Some v) × (f v ≡ w)
 map-Some f (Some v) w e = (v, refl, cc)
 map-Some f None w e = absurd (cc)
@@ -39,9 +36,9 @@ header_of_version-Some verified bytes version.Ipv6 v e =
 ip_of-Some : (verified : Bool) (bytes : List ℕ) (v : IpRepr) → ip_of verified bytes ≡ Some v → Reads bytes verified v
 unfolding ip_of
 ip_of-Some verified bytes v e =
-    let (number, is, read) = and_then-Some (header_of_version verified bytes) (packet_version bytes) v e in
+    option_and_then_some (header_of_version verified bytes) (packet_version bytes) v e (λ number is read.
     let (same, header) = header_of_version-Some verified bytes number v read in
-    record { version = packet_version-IsOfVersion bytes (version_of v) (rw same is); header = header }
+    record { version = packet_version-IsOfVersion bytes (version_of v) (rw same is); header = header })
 
 -- a value that bytes parse as is the computed one
 pub Reads-ip_of : (verified : Bool) (bytes : List ℕ) (v : IpRepr) → Reads bytes verified v → ip_of verified bytes ≡ Some v

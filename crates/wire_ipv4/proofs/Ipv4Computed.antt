@@ -1,5 +1,5 @@
 -- The computed value of a header is the one that it is read as.
-use Rattle.std.proofs.Common.{ℕ, ◌≡◌, ◌↔◌, ◌==◌, Bool, true, false, List, ◌++◌, Some, None, codes, slice_range, refl, subst, arith}
+use Rattle.std.proofs.Common.{subst, ℕ, ◌≡◌, ◌↔◌, ◌==◌, Bool, true, false, List, ◌++◌, Some, None, codes, slice_range, refl, arith}
 use Rattle.std.proofs.lemmas.Bool.Decides.{nat_tests}
 use Rattle.wire_field.proofs.Readings.{if-Some}
 use Rattle.wire_field.specs.Field.{field}
@@ -9,15 +9,14 @@ use Rattle.wire_ends.specs.Protocol.{protocol_of}
 use Rattle.wire_ends.specs.declared.ip_protocol.IpProtocol.{IpProtocol}
 use Rattle.wire_ipv4.specs.declared.ipv4.repr.Ipv4Repr.{Ipv4Repr}
 
+-- a value that is read is the computed one
+pub Reads-is : (verified : Bool) (bytes : List ℕ) (v : Ipv4Repr) → Reads bytes verified v → v ≡ header_of bytes
+Reads-is verified bytes v r = rw (← r.payload_len, ← r.hop_limit, ← r.next_header, ← r.src_addr, ← r.dst_addr) refl
+
 -- the test says what reading asks for
 is_read-Reads : (verified : Bool) (bytes : List ℕ) → is_read verified bytes ≡ true → Reads bytes verified (header_of bytes)
 is_read-Reads verified bytes h = record {
-  lengths = record {
-    least = grind (arith, nat_tests);
-    header = grind (arith, nat_tests);
-    within = grind (arith, nat_tests);
-    whole = grind (arith, nat_tests);
-  };
+  lengths = grind (arith, nat_tests);
   version = grind (arith, nat_tests);
   checksum = λ on. grind (arith, nat_tests);
   payload_len = refl;
@@ -31,9 +30,6 @@ Reads-is_read : (verified : Bool) (bytes : List ℕ) (v : Ipv4Repr) → Reads by
 Reads-is_read true bytes v r = let sound = r.checksum refl in grind (arith, nat_tests)
 Reads-is_read false bytes v r = grind (arith, nat_tests)
 
-Reads-is : (verified : Bool) (bytes : List ℕ) (v : Ipv4Repr) → Reads bytes verified v → v ≡ header_of bytes
-Reads-is verified bytes v r = rw (← r.payload_len, ← r.hop_limit, ← r.next_header, ← r.src_addr, ← r.dst_addr) refl
-
 -- `ipv4_of` computes the value that `Reads` describes
 pub ipv4_of-Reads : (verified : Bool) (bytes : List ℕ) (v : Ipv4Repr) → (ipv4_of verified bytes ≡ Some v) ↔ Reads bytes verified v
 unfolding ipv4_of
@@ -41,9 +37,7 @@ ipv4_of-Reads verified bytes v = (
   λ e.
       let (read, is) = (if-Some (is_read verified bytes) (header_of bytes) v).0 e in
       subst (Reads bytes verified) is (is_read-Reads verified bytes read),
-  λ r.
-      let is = Reads-is verified bytes v r in
-      (if-Some (is_read verified bytes) (header_of bytes) v).1 (Reads-is_read verified bytes v r, cc),
+  λ r. let is = Reads-is verified bytes v r in (if-Some (is_read verified bytes) (header_of bytes) v).1 (Reads-is_read verified bytes v r, cc),
 )
 
 -- the text of a packet, by what it is read as without its checksum

@@ -1,5 +1,5 @@
 -- The fields of a header as numbers: what the laws over getters, setters and updates need.
-use Rattle.std.proofs.Common.{ℕ, ◌≡◌, ◌≤◌, ◌+◌, ◌*◌, ◌-◌, List, length, slice_range, take, refl, sym, ap, ◌∙◌, arith}
+use Rattle.std.proofs.Common.{ℕ, ◌≡◌, ◌≤◌, ◌+◌, ◌*◌, ◌-◌, List, length, slice_range, take, refl, ap, ◌∙◌, arith}
 use Rattle.byteorder.specs.Endian.{big_bytes, big_number}
 use Rattle.wire_addr.specs.Prefix.{number_of}
 use Rattle.wire_field.specs.Field.{field, with_field, with_range}
@@ -10,7 +10,7 @@ use Rattle.wire_field.proofs.Spelled.{AreBytes}
 use Rattle.wire_checksum.specs.WordSum.{sum_of_bytes}
 use Rattle.wire_ipv4.specs.Ipv4.{header_len, with_checksum, with_updated_checksum}
 use Rattle.wire_ipv4.specs.Ipv4Fields.{after_fill, with_sums}
-use Rattle.wire_ipv4.proofs.Ipv4Changed.{shape-checksum}
+use Rattle.wire_ipv4.proofs.Ipv4Changed.{sets-checksum}
 
 -- the number of an address is the one that its octets spell
 address-number : (a : List ℕ) → length a ≡ 4 → number_of a ≡ big_number 4 a
@@ -40,6 +40,6 @@ filled bytes are least =
 -- it leaves the lengths
 pub shape-filled : (bytes : List ℕ) → 20 ≤ length bytes → (length (with_checksum bytes) ≡ length bytes) × (header_len (with_checksum bytes) ≡ header_len bytes)
 shape-filled bytes least =
-    let first = shape-checksum bytes 0 least in
-    let second = shape-checksum (with_field bytes 80 16 0) (65535 - sum_of_bytes (take (header_len bytes) (with_field bytes 80 16 0))) (omega (arith, first.long, least)) in
+    let first = sets-checksum bytes 0 least in
+    let second = sets-checksum (with_field bytes 80 16 0) (65535 - sum_of_bytes (take (header_len bytes) (with_field bytes 80 16 0))) (omega (arith, first.long, least)) in
     (second.long ∙ first.long, second.header ∙ first.header)

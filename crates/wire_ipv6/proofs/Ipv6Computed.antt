@@ -1,10 +1,14 @@
 -- The computed value of a header is the value that it parses as.
-use Rattle.std.proofs.Common.{ℕ, ◌≡◌, ◌↔◌, true, List, Some, None, codes, refl, subst, arith}
+use Rattle.std.proofs.Common.{true, subst, ℕ, ◌≡◌, ◌↔◌, List, Some, None, codes, refl, arith}
 use Rattle.std.proofs.lemmas.Bool.Decides.{nat_tests}
 use Rattle.wire_field.proofs.Readings.{if-Some}
 use Rattle.wire_ipv6.specs.Ipv6.{Reads, header_of, ipv6_of, is_read}
 use Rattle.wire_ipv6.specs.Ipv6Text.{packet_text, value_text}
 use Rattle.wire_ipv6.specs.declared.ipv6.repr.Ipv6Repr.{Ipv6Repr}
+
+-- a value that bytes parse as is the computed one
+pub Reads-is : (bytes : List ℕ) (v : Ipv6Repr) → Reads bytes v → v ≡ header_of bytes
+Reads-is bytes v r = rw (← r.payload_len, ← r.next_header, ← r.hop_limit, ← r.src_addr, ← r.dst_addr) refl
 
 -- the test is true exactly if the lengths and the version are valid
 is_read-Reads : (bytes : List ℕ) → is_read bytes ≡ true → Reads bytes (header_of bytes)
@@ -18,12 +22,6 @@ is_read-Reads bytes h = record {
   dst_addr = refl;
 }
 
-Reads-is_read : (bytes : List ℕ) (v : Ipv6Repr) → Reads bytes v → is_read bytes ≡ true
-Reads-is_read bytes v r = grind (arith, nat_tests)
-
-Reads-is : (bytes : List ℕ) (v : Ipv6Repr) → Reads bytes v → v ≡ header_of bytes
-Reads-is bytes v r = rw (← r.payload_len, ← r.hop_limit, ← r.next_header, ← r.src_addr, ← r.dst_addr) refl
-
 -- bytes parse as a value exactly if it is the computed one
 pub ipv6_of-Reads : (bytes : List ℕ) (v : Ipv6Repr) → (ipv6_of bytes ≡ Some v) ↔ Reads bytes v
 unfolding ipv6_of
@@ -33,7 +31,8 @@ ipv6_of-Reads bytes v = (
       subst (Reads bytes) is (is_read-Reads bytes read),
   λ r.
       let is = Reads-is bytes v r in
-      (if-Some (is_read bytes) (header_of bytes) v).1 (Reads-is_read bytes v r, cc),
+      let read : is_read bytes ≡ true = grind (arith, nat_tests) in
+      (if-Some (is_read bytes) (header_of bytes) v).1 (read, cc),
 )
 
 -- the text of a packet, by the value that it parses as

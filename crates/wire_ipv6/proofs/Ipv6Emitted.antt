@@ -1,7 +1,7 @@
 -- The bytes of a header after the setters.
-use Rattle.std.proofs.Common.{ℕ, ◌≡◌, ◌≤◌, ◌<◌, ◌/◌, ◌%◌, List, ◌++◌, length, drop, refl, arith}
-use Rattle.wire_field.specs.Field.{with_field, with_part, with_range}
-use Rattle.wire_field.proofs.Cells.{cells-all, cells-drop, word_high, word_low}
+use Rattle.std.proofs.Common.{ℕ, ◌≡◌, ◌≤◌, ◌<◌, List, ◌++◌, length, drop, arith}
+use Rattle.wire_field.specs.Field.{with_field, with_range}
+use Rattle.wire_field.proofs.Cells.{cells-all, cells-drop}
 use Rattle.wire_ends.specs.Protocol.{number_of}
 use Rattle.wire_ipv6.specs.Ipv6.{bytes_of}
 use Rattle.wire_ipv6.specs.declared.ipv6.repr.Ipv6Repr.{Ipv6Repr}
@@ -14,22 +14,6 @@ pub record IsInRange (v : Ipv6Repr) : Type 0 where
   pub payload_len : v.payload_len ≤ 65535
   pub hop_limit : v.hop_limit < 256
 
--- single bytes after the writes
-first_byte : (n : ℕ) → with_part n 0 32 0x60000000 / 16777216 % 256 ≡ 0x60
-first_byte n = omega arith
-
-second_byte : (n : ℕ) → with_part n 0 32 0x60000000 / 65536 % 256 ≡ 0
-second_byte n = omega arith
-
-third_byte : (n : ℕ) → with_part n 0 32 0x60000000 / 256 % 256 ≡ 0
-third_byte n = omega arith
-
-fourth_byte : (n : ℕ) → with_part n 0 32 0x60000000 % 256 ≡ 0
-fourth_byte n = omega arith
-
-small_byte : (n x : ℕ) → x < 256 → with_part n 0 8 x % 256 ≡ x
-small_byte n x h = omega arith
-
 -- the writes of `emit`, in order
 abbrev pub written : List ℕ → Ipv6Repr → List ℕ
 written old v =
@@ -39,16 +23,5 @@ written old v =
 
 -- the writes of `emit` give the header, followed by the bytes that were behind it
 pub written-bytes_of : (old : List ℕ) (v : Ipv6Repr) → 40 ≤ length old → IsInRange v → written old v ≡ bytes_of v ++ drop 40 old
-written-bytes_of old v room h = rw (
-  cells-all 16 v.src_addr h.src_addr,
-  cells-all 16 v.dst_addr h.dst_addr,
-  cells-drop 40 old room,
-  first_byte,
-  second_byte,
-  third_byte,
-  fourth_byte,
-  word_high,
-  word_low,
-  small_byte _ v.hop_limit h.hop_limit,
-  small_byte _ (number_of v.next_header) h.next_header,
-) refl
+written-bytes_of old v room h =
+    rw (cells-all 16 v.src_addr h.src_addr, cells-all 16 v.dst_addr h.dst_addr, cells-drop 40 old room) (grind arith)

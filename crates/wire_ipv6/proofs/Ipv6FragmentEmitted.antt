@@ -1,44 +1,16 @@
 -- The bytes of a fragment header after the setters, and the value that they parse as.
-use Rattle.std.proofs.Common.{ℕ, ◌≡◌, ◌+◌, ◌*◌, ◌/◌, ◌%◌, ◌≤◌, ◌<◌, ◌^◌, ◌↔◌, Bool, true, false, IsTrue, List, ◌++◌, length, drop, refl, arith}
+use Rattle.std.proofs.Common.{ℕ, ◌≡◌, ◌+◌, ◌*◌, ◌%◌, ◌≤◌, ◌<◌, ◌^◌, ◌↔◌, Bool, true, false, IsTrue, List, ◌++◌, length, drop, refl, arith}
 use Rattle.byteorder.specs.Endian.{big_bytes}
-use Rattle.wire_field.specs.Field.{field, with_field, with_part}
+use Rattle.wire_field.specs.Field.{field, with_field}
 use Rattle.wire_field.proofs.Cells.{cells-drop}
 use Rattle.wire_ipv6.specs.Ipv6Fragment.{Reads, bytes_of, flag, normal}
 use Rattle.wire_ipv6.specs.declared.ipv6fragment.repr.Ipv6FragmentRepr.{Ipv6FragmentRepr}
-
--- single bytes after the writes
-offset_byte : (n offset more : ℕ) → more < 2 → with_part n 3 13 offset / 256 % 256 ≡ (offset % 2 ^ 13 * 8 + more) / 256 % 256
-offset_byte n offset more h = omega arith
-
-flags_byte : (a b offset more : ℕ) → more < 2
-    → with_part (with_part (a * 256 + (with_part (b * 1 + 0) 1 2 0 % 256 * 1 + 0)) 3 13 offset % 256 * 1 + 0) 0 1 more % 256 ≡ (offset % 2 ^ 13 * 8 + more) % 256
-flags_byte a b offset more h = omega arith
-
-ident_byte-0 : (n x : ℕ) → with_part n 0 32 x / 16777216 % 256 ≡ x / 16777216 % 256
-ident_byte-0 n x = omega arith
-
-ident_byte-1 : (n x : ℕ) → with_part n 0 32 x / 65536 % 256 ≡ x / 65536 % 256
-ident_byte-1 n x = omega arith
-
-ident_byte-2 : (n x : ℕ) → with_part n 0 32 x / 256 % 256 ≡ x / 256 % 256
-ident_byte-2 n x = omega arith
-
-ident_byte-3 : (n x : ℕ) → with_part n 0 32 x % 256 ≡ x % 256
-ident_byte-3 n x = omega arith
 
 -- the four writes of `emit` give the header, followed by the bytes that were behind it
 pub with_header : (old : List ℕ) (offset more ident : ℕ) → more < 2 → 6 ≤ length old
     → with_field (with_field (with_field (with_field old 13 2 0) 0 13 offset) 15 1 more) 16 32 ident
     ≡ (big_bytes 2 (offset % 2 ^ 13 * 8 + more) ++ big_bytes 4 ident) ++ drop 6 old
-with_header old offset more ident h room = rw (
-  cells-drop 6 old room,
-  offset_byte _ offset more h,
-  flags_byte _ _ offset more h,
-  ident_byte-0,
-  ident_byte-1,
-  ident_byte-2,
-  ident_byte-3,
-) refl
+with_header old offset more ident h room = rw (cells-drop 6 old room) (grind arith)
 
 -- the number of a flag has one bit, which is set exactly if the flag is
 pub flag-small : (set : Bool) → flag set < 2

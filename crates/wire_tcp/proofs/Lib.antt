@@ -1,4 +1,3 @@
-pub mod NoRanges
 pub mod OptionItems
 pub mod OptionLens
 pub mod OptionsBack
@@ -9,12 +8,8 @@ pub mod TcpComputed
 pub mod TcpCounted
 pub mod TcpEmitted
 pub mod TcpForms
-pub mod TcpLengths
-pub mod TcpNumbers
 pub mod TcpReadsBack
 pub mod TcpResized
 pub mod TcpTexts
-pub mod TcpUpdated
 mod TcpViewed
 pub mod ValueInRange
-mod WordChanged

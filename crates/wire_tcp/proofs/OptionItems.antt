@@ -40,9 +40,10 @@ more bytes i rest items lead (tail, l) = (
   },
 )
 
-mapped : (f : List Item → List Item) (o : Option (List Item)) (ys : List Item) → option_map f o ≡ Some ys → (xs : List Item) × (o ≡ Some xs) × (f xs ≡ ys)
-mapped f None ys e = absurd (cc)
-mapped f (Some xs) ys e = (xs, refl, cc)
+-- a mapped option that has a value has it of one
+pub mapped : {V W : Type 0} (f : V → W) (o : Option V) (w : W) → option_map f o ≡ Some w → (v : V) × (o ≡ Some v) × (f v ≡ w)
+mapped f None w e = absurd (cc)
+mapped f (Some v) w e = (v, refl, cc)
 
 -- the computed list with an item in front
 after : (n : ℕ) (o : Option (Item × List ℕ)) (items : List Item) → option_and_then (then_more n) o ≡ Some items

@@ -1,30 +1,26 @@
 -- An emitted header is never longer than a header that parses as the same value.
-use Rattle.std.proofs.Common.{◌≡◌, ℕ, zero, suc, ◌+◌, ◌-◌, ◌*◌, ◌%◌, ◌≤◌, inl, inr, Bool, true, false, cond, eqb, ltb, List, [], ◌∷◌, length, map, drop, count_by, min, Option, Some, None, is_some, arith, refl, sym, ap, ◌∙◌, length-append, length-drop, subst}
+use Rattle.std.proofs.Common.{◌≡◌, ℕ, zero, suc, ◌+◌, ◌-◌, ◌*◌, ◌%◌, ◌≤◌, inl, inr, Bool, true, false, cond, ltb, List, [], ◌∷◌, length, map, drop, count_by, min, Option, Some, None, is_some, arith, refl, ap, ◌∙◌, length-append, length-drop}
 use Rattle.std.specs.Option.{option_or, option_map, option_map_or}
 use Rattle.std.specs.List.{AllByRecursion, range_with_len}
-use Rattle.std.proofs.lemmas.Bool.{eqb-true, cases_Bool, ltb-true, ltb-false}
+use Rattle.std.proofs.lemmas.Bool.{cases_Bool, ltb-true, ltb-false}
+use Rattle.std.proofs.lemmas.Bool.Decides.{nat_tests}
 use Rattle.std.proofs.lemmas.List.{length-take-le}
 use Rattle.std.proofs.Math.Dec.{eqb-suc-zero}
 use Rattle.std.proofs.lemmas.List.Sums.{sum_by-cons}
 use Rattle.byteorder.specs.Endian.{big_number}
 use Rattle.wire_ends.specs.declared.ip_address.IpAddress.{IpAddress}
 use Rattle.wire_tcp.specs.Tcp.{header_len, options_of, payload_of}
-use Rattle.wire_tcp_parts.specs.TcpItems.{Item, item, IsItem, text, texts, block_at, first_blocks, last_of, is_of, is_timestamp, segment_size_of, window_scale_of, sack_permitted_of, sack_ranges_of, timestamp_of}
+use Rattle.wire_tcp_parts.specs.TcpItems.{Item, IsItem, text, texts, block_at, first_blocks, last_of, is_of, is_timestamp, segment_size_of, window_scale_of, sack_permitted_of, sack_ranges_of, timestamp_of}
 use Rattle.wire_tcp_parts.specs.declared.tcp.TheConstants.{SACK_BLOCKS}
-use Rattle.wire_tcp_parts.proofs.Summaries.{and_left, and_right}
 use Rattle.wire_tcp.proofs.TcpComputed.{tcp_of-Reads}
 use Rattle.wire_tcp.specs.TcpRepr.{Reads, ReadsOptions, TcpHeader, stamp_of, sack_len, len_if, header_len_of, tcp_of}
 
 -- the option length of one field is at most that of the later items and of this item
 field_step : {X : Type 0} (f : Item → X) (w : ℕ) (o : Option Item) (b : Bool) (i : Item) → len_if (is_some (option_map f (option_or o (cond b (Some i) None)))) w ≤ len_if (is_some (option_map f o)) w + len_if b w
-field_step f w (Some x) b i = omega arith
-field_step f w None true i = omega arith
-field_step f w None false i = omega arith
+field_step f w o b i = grind arith
 
 flag_step : (w : ℕ) (o : Option Item) (b : Bool) (i : Item) → len_if (is_some (option_or o (cond b (Some i) None))) w ≤ len_if (is_some o) w + len_if b w
-flag_step w (Some x) b i = omega arith
-flag_step w None true i = omega arith
-flag_step w None false i = omega arith
+flag_step w o b i = grind arith
 
 abbrev kept : List (Option (ℕ × ℕ)) → ℕ
 kept ranges = sack_len (count_by is_some ranges)
@@ -77,55 +73,13 @@ asked items =
 abbrev IsWeighed : Item → Type 0
 IsWeighed i = len_if (is_of 2 i) 4 + len_if (is_of 3 i) 3 + len_if (is_of 4 i) 2 + len_if (is_of 5 i) (kept (first_blocks i.content)) + len_if (is_timestamp i) 10 ≤ length (text i)
 
-weight_2 : (content : List ℕ) → length content ≡ 2 → IsWeighed (item 2 content)
-weight_2 content e = omega (arith, e)
+-- an item is at least as long as the option emitted for its value, if that of its ranges has at most this length
+weighed : (i : Item) (ranges : ℕ) → IsItem i → (i.kind ≡ 5 → ranges ≤ 2 + length i.content)
+    → len_if (is_of 2 i) 4 + len_if (is_of 3 i) 3 + len_if (is_of 4 i) 2 + len_if (is_of 5 i) ranges + len_if (is_timestamp i) 10 ≤ length (text i)
+weighed i ranges is most = grind (arith, nat_tests)
 
-weight_3 : (content : List ℕ) → length content ≡ 1 → IsWeighed (item 3 content)
-weight_3 content e = omega (arith, e)
-
-weight_4 : (content : List ℕ) → IsWeighed (item 4 content)
-weight_4 content = omega arith
-
-weight_5 : (content : List ℕ) (n : ℕ) → length content ≡ 8 * n → IsWeighed (item 5 content)
-weight_5 content n e = let k = kept-le content n e in omega (arith, k)
-
-len_if-le : (b : Bool) (n : ℕ) → len_if b n ≤ n
-len_if-le true n = omega arith
-len_if-le false n = omega arith
-
-weight_8 : (content : List ℕ) → length content ≡ 8 → IsWeighed (item 8 content)
-weight_8 content e = let l = len_if-le (eqb (length content) 8) 10 in omega (arith, e, l)
-
-weight_other : (i : Item) → eqb i.kind 2 ≡ false → eqb i.kind 3 ≡ false → eqb i.kind 4 ≡ false → eqb i.kind 5 ≡ false → is_timestamp i ≡ false → IsWeighed i
-weight_other i n₂ n₃ n₄ n₅ n₈ =
-    let e₂ = ap (λ b. len_if b 4) n₂ in
-    let e₃ = ap (λ b. len_if b 3) n₃ in
-    let e₄ = ap (λ b. len_if b 2) n₄ in
-    let e₅ = ap (λ b. len_if b (kept (first_blocks i.content))) n₅ in
-    let e₈ = ap (λ b. len_if b 10) n₈ in
-    omega (arith, e₂, e₃, e₄, e₅, e₈)
-
-at_kind : (i : Item) (k : ℕ) → eqb i.kind k ≡ true → IsWeighed (item k i.content) → IsWeighed i
-at_kind i k e h = subst (λ n. IsWeighed (item n i.content)) (sym (eqb-true i.kind k e)) h
-
--- an item is at least as long as the option emitted for its value
 weight : (i : Item) → IsItem i → IsWeighed i
-weight i is = elim (cases_Bool (eqb i.kind 2)) [
-  | inl y ↦ at_kind i 2 y (weight_2 i.content (is.segment_size (eqb-true i.kind 2 y)))
-  | inr n₂ ↦ elim (cases_Bool (eqb i.kind 3)) [
-    | inl y ↦ at_kind i 3 y (weight_3 i.content (is.window_scale (eqb-true i.kind 3 y)))
-    | inr n₃ ↦ elim (cases_Bool (eqb i.kind 4)) [
-      | inl y ↦ at_kind i 4 y (weight_4 i.content)
-      | inr n₄ ↦ elim (cases_Bool (eqb i.kind 5)) [
-        | inl y ↦ let n = is.sack_ranges (eqb-true i.kind 5 y) in at_kind i 5 y (weight_5 i.content n.0 n.2)
-        | inr n₅ ↦ elim (cases_Bool (is_timestamp i)) [
-          | inl y ↦ at_kind i 8 (and_left _ _ y) (weight_8 i.content (eqb-true (length i.content) 8 (and_right _ _ y)))
-          | inr n₈ ↦ weight_other i n₂ n₃ n₄ n₅ n₈
-        ]
-      ]
-    ]
-  ]
-]
+weight i is = weighed i (kept (first_blocks i.content)) is (λ e. let (n, some, whole) = is.sack_ranges e in kept-le i.content n whole)
 
 abbrev stamp_in : Item → ℕ × ℕ
 stamp_in i = (big_number 4 i.content, big_number 4 (drop 4 i.content))

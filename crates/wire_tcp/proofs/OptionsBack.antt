@@ -1,8 +1,9 @@
 -- Emitted options parse as those of the normal form.
-use Rattle.std.proofs.Common.{◌≡◌, ◌≢◌, ℕ, zero, suc, ◌+◌, ◌-◌, ◌*◌, ◌^◌, ◌<◌, ◌≤◌, inl, inr, Bool, true, false, cond, eqb, ltb, ◌||◌, List, [], ◌∷◌, ◌++◌, length, map, drop, get_or, count_by, replicate, Option, Some, None, is_some, is_none, arith, refl, sym, ap, ◌∙◌, min, subst, IfSome, length-append}
+use Rattle.std.proofs.Common.{◌≡◌, ℕ, zero, suc, ◌+◌, ◌-◌, ◌*◌, ◌^◌, ◌<◌, ◌≤◌, Bool, true, false, cond, eqb, ltb, ◌||◌, List, [], ◌∷◌, ◌++◌, length, map, drop, get_or, count_by, replicate, Option, Some, None, is_some, is_none, arith, refl, sym, ap, ◌∙◌, min, subst, IfSome, length-append}
 use Rattle.std.specs.Option.{option_or, option_map, option_map_or}
 use Rattle.std.specs.List.{AllByRecursion, flat_map, filter_map}
-use Rattle.std.proofs.lemmas.Bool.{eqb-true, cases_Bool, false_from_ne_true, lt-ltb, ltb-true, ltb-false}
+use Rattle.std.proofs.lemmas.Bool.{eqb-true, false_from_ne_true, lt-ltb, ltb-true}
+use Rattle.std.proofs.lemmas.Bool.Decides.{nat_tests}
 use Rattle.std.proofs.lemmas.List.FromFn.{fill_by_all}
 use Rattle.std.proofs.lemmas.List.{drop-drop, length-replicate, length-map}
 use Rattle.std.proofs.lemmas.List.Sums.{sum_by-cons, count_by-le-length}
@@ -18,12 +19,10 @@ use Rattle.wire_tcp_parts.specs.declared.tcp.timestamp.TcpTimestampRepr.{TcpTime
 use Rattle.wire_tcp.specs.TcpRepr.{IsInRange, ReadsOptions, TcpHeader, closed, items_of, no_ranges, normal, option_bytes, sack_items, segment_size_items, stamp_of, timestamp_items, window_scale_items}
 
 or_assoc : (a b c : Option Item) → option_or (option_or a b) c ≡ option_or a (option_or b c)
-or_assoc None b c = refl
-or_assoc (Some x) b c = refl
+or_assoc a b c = grind arith
 
 or_none : (a : Option Item) → option_or a None ≡ a
-or_none None = refl
-or_none (Some x) = refl
+or_none a = grind arith
 
 -- the last item of joined lists
 last_of-append : (p : Item → Bool) (xs ys : List Item) → last_of p (xs ++ ys) ≡ option_or (last_of p ys) (last_of p xs)
@@ -106,10 +105,7 @@ block_shape b b' x x' y y' p q r =
     ∙ ap (λ z. cond {A = Option Pair} b' (Some (big_number 4 x', big_number 4 z)) None) r
 
 ltb_shift : (n l : ℕ) → ltb (8 + n) (8 + l) ≡ ltb n l
-ltb_shift n l = elim (cases_Bool (ltb n l)) [
-  | inl y ↦ let h = ltb-true n l y in lt-ltb (8 + n) (8 + l) (omega (arith, h)) ∙ sym y
-  | inr y ↦ let h = ltb-false n l y in false_from_ne_true _ (λ e. let k = ltb-true (8 + n) (8 + l) e in omega (arith, h, k)) ∙ sym y
-]
+ltb_shift n l = grind (arith, nat_tests)
 
 block_shift : (p : Pair) (rest : List ℕ) (n : ℕ) → block_from (pair_bytes p ++ rest) (8 + n) ≡ block_from rest n
 block_shift p rest n =
@@ -191,32 +187,20 @@ all_append : (xs ys : List Item) → AllByRecursion IsItem xs → AllByRecursion
 all_append [] ys xa ya = ya
 all_append (x ∷ xs) ys xa ya = (xa.0, all_append xs ys xa.1 ya)
 
-plain_item : (kind : ℕ) (content : List ℕ) → 1 < kind → kind < 256 → kind ≢ 5 → length content ≤ 253 → (kind ≡ 2 → length content ≡ 2) → (kind ≡ 3 → length content ≡ 1) → (kind ≡ 4 → content ≡ []) → IsItem (item kind content)
-plain_item kind content low high other size two three four = record {
-  above = omega (arith, low);
-  below = high;
-  size = size;
-  no_operation = λ e. absurd (omega (arith, low, e));
-  segment_size = two;
-  window_scale = three;
-  sack_permitted = four;
-  sack_ranges = λ e. absurd (other e);
-}
-
 segment_items : (o : Option ℕ) → AllByRecursion IsItem (segment_size_items o)
 segment_items None = tt
-segment_items (Some n) = (plain_item 2 (big_bytes 2 n) (omega arith) (omega arith) (λ e. omega (arith, e)) (omega arith) (λ _. refl) (λ e. absurd (omega (arith, e))) (λ e. absurd (omega (arith, e))), tt)
+segment_items (Some n) = (grind arith, tt)
 
 scale_items : (o : Option ℕ) → AllByRecursion IsItem (window_scale_items o)
 scale_items None = tt
-scale_items (Some n) = (plain_item 3 (n ∷ []) (omega arith) (omega arith) (λ e. omega (arith, e)) (omega arith) (λ e. absurd (omega (arith, e))) (λ _. refl) (λ e. absurd (omega (arith, e))), tt)
+scale_items (Some n) = (grind arith, tt)
 
 stamp_items : (o : Option TcpTimestampRepr) → AllByRecursion IsItem (timestamp_items o)
 stamp_items None = tt
-stamp_items (Some t) = (plain_item 8 (big_bytes 4 t.tsval ++ big_bytes 4 t.tsecr) (omega arith) (omega arith) (λ e. omega (arith, e)) (omega arith) (λ e. absurd (omega (arith, e))) (λ e. absurd (omega (arith, e))) (λ e. absurd (omega (arith, e))), tt)
+stamp_items (Some t) = (grind arith, tt)
 
 sack_all : (s n : Bool) (count : ℕ) (bytes : List ℕ) → length bytes ≡ 8 * count → count ≤ SACK_BLOCKS → AllByRecursion IsItem (sack_list s (n || eqb count 0) bytes)
-sack_all true n count bytes long few = (plain_item 4 [] (omega arith) (omega arith) (λ e. omega (arith, e)) (omega arith) (λ e. absurd (omega (arith, e))) (λ e. absurd (omega (arith, e))) (λ _. refl), tt)
+sack_all true n count bytes long few = (grind arith, tt)
 sack_all false true count bytes long few = tt
 sack_all false false zero bytes long few = tt
 sack_all false false (suc count) bytes long few =

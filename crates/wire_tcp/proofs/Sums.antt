@@ -1,83 +1,108 @@
--- The sum of a segment with its checksum.
-use Rattle.std.proofs.Common.{ℕ, ◌≡◌, ◌≤◌, ◌<◌, ◌+◌, ◌-◌, ◌%◌, List, ◌++◌, length, sum, take, drop, refl, sym, ap, ◌∙◌, append_assoc, length-append, length-drop, arith}
-use Rattle.std.proofs.lemmas.List.{drop_at, length-take-le, take_at}
+-- The sum of a segment: with its checksum filled in or updated, and with one word changed.
+use Rattle.std.proofs.Common.{ℕ, ◌≡◌, ◌≢◌, ◌≤◌, ◌<◌, ◌+◌, ◌-◌, ◌*◌, ◌%◌, List, ◌++◌, length, slice_range, sum, take, drop, refl, sym, subst, ap, ◌∙◌, arith}
 use Rattle.byteorder.specs.Endian.{big_bytes}
 use Rattle.wire_ends.specs.declared.ip_address.IpAddress.{IpAddress}
-use Rattle.wire_field.proofs.Cells.{word_high, word_low}
-use Rattle.wire_field.specs.Field.{with_field}
+use Rattle.wire_field.proofs.Cells.{cells-drop, word_high, word_low}
+use Rattle.wire_field.proofs.Spelled.{AreBytes}
+use Rattle.wire_field.proofs.Written.{AreBytes-with_field, length-with_field}
+use Rattle.wire_field.specs.Field.{field, with_field}
+use Rattle.wire_checksum.proofs.Parts.{sum-words-with_field, sum-words-with_range, sum-words-word}
+use Rattle.wire_checksum.proofs.PseudoSums.{pseudo_header_total, sum-with_pseudo_header}
 use Rattle.wire_checksum.proofs.Residues.{residue-complement}
-use Rattle.wire_checksum.proofs.WordLists.{sum-words-append}
-use Rattle.wire_checksum.specs.PseudoHeader.{pseudo_header_bytes, with_pseudo_header}
+use Rattle.wire_checksum.proofs.Updated.{full, stays_valid, updated-small}
+use Rattle.wire_checksum.specs.PseudoHeader.{with_pseudo_header}
+use Rattle.wire_checksum.specs.WordSum.{residue, sum_of_bytes, updated, words}
 use Rattle.wire_ends.specs.IpAddress.{octets_of}
-use Rattle.wire_checksum.specs.WordSum.{residue, words}
 use Rattle.wire_ends.specs.declared.ip_protocol.IpProtocol.TheVariants as protocol
-use Rattle.wire_tcp.specs.Tcp.{Verifies, segment_sum, with_checksum}
+use Rattle.wire_tcp.specs.Tcp.{Verifies, segment_sum, with_checksum, with_updated_checksum}
 
--- a word at its index
-abbrev pub with_word : List ℕ → ℕ → ℕ → List ℕ
-with_word bytes n x = take n bytes ++ big_bytes 2 x ++ drop (n + 2) bytes
+-- the sum of the pseudo-header of a segment of n bytes
+abbrev pseudo : IpAddress → IpAddress → ℕ → ℕ
+pseudo src dst n = pseudo_header_total src dst protocol.Tcp n
+
+-- the total of a segment is that of its pseudo-header and its own
+total : (src dst : IpAddress) (bytes : List ℕ) (n : ℕ) → length (octets_of src) % 2 ≡ 0 → length (octets_of dst) % 2 ≡ 0 → length bytes ≡ n
+    → sum (words (with_pseudo_header src dst protocol.Tcp bytes)) ≡ pseudo src dst n + sum (words bytes)
+total src dst bytes n s d long =
+    sum-with_pseudo_header src dst protocol.Tcp bytes s d ∙ ap (λ (m : ℕ). pseudo src dst m + sum (words bytes)) long
+
+-- ---- the checksum field
 
 -- the checksum field is a word
-pub field-word : (bytes : List ℕ) (x : ℕ) → with_field bytes 128 16 x ≡ with_word bytes 16 x
+pub field-word : (bytes : List ℕ) (x : ℕ) → with_field bytes 128 16 x ≡ take 16 bytes ++ big_bytes 2 x ++ drop 18 bytes
 field-word bytes x = rw (word_high, word_low) refl
 
--- the bytes around the word are unchanged
-take-with_word : (bytes : List ℕ) (n x : ℕ) → n + 2 ≤ length bytes → take n (with_word bytes n x) ≡ take n bytes
-take-with_word bytes n x h =
-    ap (take n) (append_assoc (take n bytes) (big_bytes 2 x) (drop (n + 2) bytes)) ∙ take_at (take n bytes) (big_bytes 2 x ++ drop (n + 2) bytes) n (length-take-le n bytes (omega (arith, h)))
-
-drop-with_word : (bytes : List ℕ) (n x : ℕ) → n + 2 ≤ length bytes → drop (n + 2) (with_word bytes n x) ≡ drop (n + 2) bytes
-drop-with_word bytes n x h =
-    let front = length-take-le n bytes (omega (arith, h)) in
-    let long : length (take n bytes ++ big_bytes 2 x) ≡ n + 2 = length-append (take n bytes) (big_bytes 2 x) ∙ omega (arith, front) in
-    drop_at (take n bytes ++ big_bytes 2 x) (drop (n + 2) bytes) (n + 2) long
-
-length-with_word : (bytes : List ℕ) (n x : ℕ) → n + 2 ≤ length bytes → length (with_word bytes n x) ≡ length bytes
-length-with_word bytes n x h =
-    let front = length-take-le n bytes (omega (arith, h)) in
-    let behind = length-drop (n + 2) bytes in
-    length-append (take n bytes ++ big_bytes 2 x) (drop (n + 2) bytes) ∙ omega (arith, h, length-append (take n bytes) (big_bytes 2 x), front, behind)
-
--- of two writes to one word the second remains
-again : (bytes : List ℕ) (n x y : ℕ) → n + 2 ≤ length bytes → with_word (with_word bytes n x) n y ≡ with_word bytes n y
-again bytes n x y h = rw (take-with_word bytes n x h, drop-with_word bytes n x h) refl
-
-sum-words-word : (x : ℕ) → x < 65536 → sum (words (big_bytes 2 x)) ≡ x
+-- 0 in it adds nothing
+zeroed : (bytes : List ℕ) → 18 ≤ length bytes → sum (words (slice_range (with_field bytes 128 16 0) 16 18)) ≡ 0
 unfolding words
-sum-words-word x fits = omega arith
+zeroed bytes room = subst (λ (l : List ℕ). sum (words (slice_range (with_field l 128 16 0) 16 18)) ≡ 0) (sym (cells-drop 18 bytes room)) (omega arith)
 
--- writing the word adds it to the sum
-sum-words-with_word : (bytes : List ℕ) (n x : ℕ) → n % 2 ≡ 0 → n + 2 ≤ length bytes → x < 65536
-    → sum (words (with_word bytes n x)) ≡ sum (words (take n bytes)) + (x + sum (words (drop (n + 2) bytes)))
-sum-words-with_word bytes n x whole h fits =
-    let front = length-take-le n bytes (omega (arith, h)) in
-    let even : length (take n bytes) % 2 ≡ 0 = ap (λ (m : ℕ). m % 2) front ∙ whole in
-    ap (λ (l : List ℕ). sum (words l)) (append_assoc (take n bytes) (big_bytes 2 x) (drop (n + 2) bytes))
-    ∙ sum-words-append (take n bytes) (big_bytes 2 x ++ drop (n + 2) bytes) even
-    ∙ ap (λ (m : ℕ). sum (words (take n bytes)) + m) (sum-words-append (big_bytes 2 x) (drop (n + 2) bytes) refl ∙ ap (λ (m : ℕ). m + sum (words (drop (n + 2) bytes))) (sum-words-word x fits))
-
--- the same with the pseudo-header in front, which consists of whole words
-pub sum-words-segment : (src dst : IpAddress) (bytes : List ℕ) (n x : ℕ) → length (octets_of src) % 2 ≡ 0 → length (octets_of dst) % 2 ≡ 0 → n % 2 ≡ 0 → n + 2 ≤ length bytes → x < 65536
-    → sum (words (with_pseudo_header src dst protocol.Tcp (with_word bytes n x))) ≡ sum (words (with_pseudo_header src dst protocol.Tcp (with_word bytes n 0))) + x
-sum-words-segment src dst bytes n x s d whole h fits =
-    let header = pseudo_header_bytes (octets_of src) (octets_of dst) protocol.Tcp (length bytes) in
-    let even : length header % 2 ≡ 0 = simp length-append (omega arith) in
-    let of_len : (y : ℕ) → sum (words (with_pseudo_header src dst protocol.Tcp (with_word bytes n y))) ≡ sum (words header) + sum (words (with_word bytes n y)) = λ y.
-    ap (λ (m : ℕ). sum (words (pseudo_header_bytes (octets_of src) (octets_of dst) protocol.Tcp m ++ with_word bytes n y))) (length-with_word bytes n y h)
-    ∙ sum-words-append header (with_word bytes n y) even in
-    let with_x = of_len x ∙ ap (λ (m : ℕ). sum (words header) + m) (sum-words-with_word bytes n x whole h fits) in
-    let with_0 = of_len 0 ∙ ap (λ (m : ℕ). sum (words header) + m) (sum-words-with_word bytes n 0 whole h (omega arith)) in
-    with_x ∙ moved (sum (words header)) (sum (words (take n bytes))) (sum (words (drop (n + 2) bytes))) x ∙ ap (λ (m : ℕ). m + x) (sym with_0)
-  where
-    moved : (a b c x : ℕ) → a + (b + (x + c)) ≡ a + (b + (0 + c)) + x
-    moved a b c x = omega arith
-
--- a segment with its checksum is valid
+-- a segment whose checksum was filled in is valid
 pub verifies : (src dst : IpAddress) (bytes : List ℕ) → length (octets_of src) % 2 ≡ 0 → length (octets_of dst) % 2 ≡ 0 → 18 ≤ length bytes → Verifies src dst (with_checksum src dst bytes)
-verifies src dst bytes s d h =
-    let total = sum (words (with_pseudo_header src dst protocol.Tcp (with_word bytes 16 0))) in
-    let zeroed : with_field bytes 128 16 0 ≡ with_word bytes 16 0 = field-word bytes 0 in
-    let written : with_checksum src dst bytes ≡ with_word bytes 16 (65535 - residue total) =
-    ap (λ (z : List ℕ). with_field z 128 16 (65535 - segment_sum src dst z)) zeroed
-    ∙ field-word (with_word bytes 16 0) (65535 - residue total) ∙ again bytes 16 0 (65535 - residue total) h in
-    ap (segment_sum src dst) written ∙ ap residue (sum-words-segment src dst bytes 16 (65535 - residue total) s d refl h (omega arith)) ∙ residue-complement total
+verifies src dst bytes s d room =
+    let zero = with_field bytes 128 16 0 in
+    let n = length bytes in
+    let x = 65535 - segment_sum src dst zero in
+    let long : length zero ≡ n = length-with_field bytes 128 16 0 (omega arith) (omega (arith, room)) in
+    let after : length (with_field zero 128 16 x) ≡ n = length-with_field zero 128 16 x (omega arith) (omega (arith, long, room)) ∙ long in
+    let more = sum-words-with_range zero (big_bytes 2 x) 16 18 refl refl refl (omega (arith, long, room)) in
+    let word : sum (words (big_bytes 2 x)) ≡ x = sum-words-word x (omega arith) in
+    let is : sum (words (with_pseudo_header src dst protocol.Tcp (with_field zero 128 16 x))) ≡ sum (words (with_pseudo_header src dst protocol.Tcp zero)) + x =
+    omega (arith, total src dst zero n s d long, total src dst (with_field zero 128 16 x) n s d after, more, word, zeroed bytes room, ap (λ (l : List ℕ). sum (words l)) (field-word zero x)) in
+    ap residue is ∙ residue-complement (sum (words (with_pseudo_header src dst protocol.Tcp zero)))
+
+-- ---- an updated checksum
+
+-- a valid checksum stays valid if it is updated with the change of what it covers
+pub valid-updated : (src dst src' dst' : IpAddress) (bytes changed : List ℕ) (old new : ℕ) → AreBytes changed
+    → length (octets_of src) % 2 ≡ 0 → length (octets_of dst) % 2 ≡ 0 → length (octets_of src') % 2 ≡ 0 → length (octets_of dst') % 2 ≡ 0
+    → 18 ≤ length changed → length changed ≡ length bytes
+    → pseudo src' dst' (length bytes) + sum (words changed) + old ≡ pseudo src dst (length bytes) + sum (words bytes) + new
+    → Verifies src dst bytes → Verifies src' dst' (with_updated_checksum changed (residue old) (residue new))
+valid-updated src dst src' dst' bytes changed old new are s d s' d' room long change valid =
+    let n = length bytes in
+    let c = field changed 128 16 in
+    let u = updated c (residue old) (residue new) in
+    let after = with_field changed 128 16 u in
+    let after_long : length after ≡ n = length-with_field changed 128 16 u (omega arith) (omega (arith, room)) ∙ long in
+    let written = sum-words-with_field changed 8 u are (omega (arith, room)) (omega arith) in
+    let zeroed = sum-words-with_field changed 8 0 are (omega (arith, room)) (omega arith) in
+    ap residue (total src' dst' after n s' d' after_long)
+    ∙ stays_valid (pseudo src dst n + sum (words bytes)) (pseudo src' dst' n + sum (words changed)) (pseudo src' dst' n + sum (words after))
+    c old new (omega arith) change (omega (arith, written)) (omega (arith, zeroed)) (ap residue (sym (total src dst bytes n s d refl)) ∙ valid)
+
+-- the same for one word before the checksum, as a port
+pub valid-word : (src dst : IpAddress) (bytes : List ℕ) (i x : ℕ) → AreBytes bytes → x < 65536 → i < 8 → length (octets_of src) % 2 ≡ 0 → length (octets_of dst) % 2 ≡ 0 → 18 ≤ length bytes
+    → Verifies src dst bytes → Verifies src dst (with_updated_checksum (with_field bytes (16 * i) 16 x) (field bytes (16 * i) 16) x)
+valid-word src dst bytes i x are fits front s d room valid =
+    let changed = with_field bytes (16 * i) 16 x in
+    let old = field bytes (16 * i) 16 in
+    let long = length-with_field bytes (16 * i) 16 x (omega arith) (omega (arith, room, front)) in
+    subst (λ (u : ℕ). Verifies src dst (with_field changed 128 16 u)) (updated-small (field changed 128 16) old x (omega arith) (omega (arith, fits)))
+    (valid-updated src dst src dst bytes changed old x (AreBytes-with_field bytes (16 * i) 16 x are (omega arith) (omega (arith, room, front))) s d s d (omega (arith, long, room)) long
+    (omega (arith, sum-words-with_field bytes i x are (omega (arith, room, front)) fits)) valid)
+
+-- the same for one address of the pseudo-header
+pub valid-src_addr : (old dst new : IpAddress) (bytes : List ℕ) → AreBytes bytes → length (octets_of old) % 2 ≡ 0 → length (octets_of dst) % 2 ≡ 0 → length (octets_of new) % 2 ≡ 0 → 18 ≤ length bytes
+    → Verifies old dst bytes → Verifies new dst (with_updated_checksum bytes (sum_of_bytes (octets_of old)) (sum_of_bytes (octets_of new)))
+valid-src_addr old dst new bytes are o d n room valid =
+    valid-updated old dst new dst bytes bytes (sum (words (octets_of old))) (sum (words (octets_of new))) are o d n d room refl (omega arith) valid
+
+pub valid-dst_addr : (src old new : IpAddress) (bytes : List ℕ) → AreBytes bytes → length (octets_of src) % 2 ≡ 0 → length (octets_of old) % 2 ≡ 0 → length (octets_of new) % 2 ≡ 0 → 18 ≤ length bytes
+    → Verifies src old bytes → Verifies src new (with_updated_checksum bytes (sum_of_bytes (octets_of old)) (sum_of_bytes (octets_of new)))
+valid-dst_addr src old new bytes are s o n room valid =
+    valid-updated src old src new bytes bytes (sum (words (octets_of old))) (sum (words (octets_of new))) are s o s n room refl (omega arith) valid
+
+-- ---- a changed word
+
+-- changing one aligned word of a valid segment makes its checksum wrong, unless old and new word are congruent modulo 65535
+pub word_changed : (src dst : IpAddress) (bytes : List ℕ) (i x : ℕ) → length (octets_of src) % 2 ≡ 0 → length (octets_of dst) % 2 ≡ 0 → AreBytes bytes
+    → 2 * i + 2 ≤ length bytes → x < 65536 → x % 65535 ≢ field bytes (16 * i) 16 % 65535 → Verifies src dst bytes → ¬ Verifies src dst (with_field bytes (16 * i) 16 x)
+word_changed src dst bytes i x s d are room fits changed holds still =
+    let n = length bytes in
+    let new = with_field bytes (16 * i) 16 x in
+    let (k, was) = full _ holds in
+    let (m, is) = full _ still in
+    let before = total src dst bytes n s d refl in
+    let after = total src dst new n s d (length-with_field bytes (16 * i) 16 x (omega arith) (omega (arith, room))) in
+    changed (omega (arith, was, is, before, after, sum-words-with_field bytes i x are room fits))

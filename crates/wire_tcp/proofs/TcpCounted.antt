@@ -1,6 +1,7 @@
 -- The sequence numbers that a segment uses, and those that its value uses.
-use Rattle.std.proofs.Common.{ℕ, zero, suc, ◌≡◌, inl, inr, ◌↔◌, ◌+◌, ◌-◌, nat_eq, Bool, true, false, IsTrue, List, [], ◌∷◌, length, refl, subst, ap, ◌∙◌, arith, length-drop}
-use Rattle.std.proofs.Math.Dec.{eqb-suc-zero}
+use Rattle.std.proofs.Common.{ℕ, ◌≡◌, inl, inr, ◌↔◌, ◌+◌, ◌-◌, nat_eq, Bool, true, false, IsTrue, List, [], length, refl, subst, ap, ◌∙◌, arith, length-drop}
+use Rattle.std.proofs.lemmas.Bool.Decides.{nat_tests}
+use Rattle.std.proofs.lemmas.Grind.{common_steps}
 use mathlib.Core.Bool.{beq}
 use Rattle.wire_ends.specs.declared.ip_address.IpAddress.{IpAddress}
 use Rattle.wire_field.specs.Field.{field}
@@ -37,22 +38,16 @@ is_quiet bytes control.Fin h none = absurd (omega (arith, h.fin, none))
 is_quiet bytes control.Psh h none = inr refl
 is_quiet bytes control.None h none = inl refl
 
-is_nil : (xs : List ℕ) → length xs ≡ 0 → xs ≡ []
-is_nil [] none = refl
-is_nil (x ∷ xs) none = absurd (omega (arith, none))
-
 -- a value is empty where its segment uses no number and has no RST
 pub empty : (bytes : List ℕ) (src dst : IpAddress) (verified : Bool) (v : TcpHeader) (payload : List ℕ) → Reads bytes src dst verified v payload
     → ((payload ≡ []) × IsQuiet v.control) ↔ (segment_len bytes + field bytes 109 1 ≡ 0)
 empty bytes src dst verified v payload r =
     let size = payload-counted bytes src dst verified v payload r in (
       λ e. omega (arith, size, ap length e.0, quiet bytes v.control r.control e.1),
-      λ none. (is_nil payload (omega (arith, size, none)), is_quiet bytes v.control r.control (omega (arith, none))),
+      λ none. (let no_octet : length payload ≡ 0 = omega (arith, size, none) in grind (arith, common_steps), is_quiet bytes v.control r.control (omega (arith, none))),
     )
 
 -- a test for 0 answers as another test that holds in the same cases
 pub agree : (a : Bool) (n : ℕ) → (IsTrue a → n ≡ 0) → (n ≡ 0 → IsTrue a) → IsTrue (beq a (nat_eq n 0))
-agree true zero to from = refl
-agree true (suc n) to from = absurd (omega (arith, to refl))
-agree false zero to from = from refl
-agree false (suc n) to from = rw (eqb-suc-zero n) refl
+agree true n to from = grind (arith, nat_tests)
+agree false n to from = grind (arith, nat_tests)

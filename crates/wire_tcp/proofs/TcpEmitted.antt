@@ -79,23 +79,9 @@ texts_joined a b c d =
 -- with the zeros behind them they fill the header
 pub length-option_bytes : (v : TcpHeader) → 20 + length (option_bytes v) ≡ header_len_of v
 length-option_bytes v =
-    let a = segment_size_items v.max_seg_size in
-    let b = window_scale_items v.window_scale in
-    let c = sack_items v in
-    let d = timestamp_items v.timestamp in
-    let joined = ap length (texts_joined a b c d) in
-    let all = written_len v in
+    let joined = simp length-append at (ap length (texts_joined (segment_size_items v.max_seg_size) (window_scale_items v.window_scale) (sack_items v) (timestamp_items v.timestamp))) in
     let zeros = length-replicate {A = ℕ} (header_len_of v - 20 - length (texts (items_of v))) 0 in
-    omega (
-      arith,
-      all,
-      joined,
-      zeros,
-      length-append (texts (items_of v)) (replicate (header_len_of v - 20 - length (texts (items_of v))) 0),
-      length-append ((texts a ++ texts b) ++ texts c) (texts d),
-      length-append (texts a ++ texts b) (texts c),
-      length-append (texts a) (texts b),
-    )
+    omega (arith, written_len v, joined, zeros, length-append (texts (items_of v)) (replicate (header_len_of v - 20 - length (texts (items_of v))) 0))
 
 -- the emitted header has the computed length
 pub length-header_bytes : (v : TcpHeader) (checksum : ℕ) → length (header_bytes v checksum) ≡ header_len_of v
@@ -155,18 +141,7 @@ options_behind v old b₁ b₂ b₃ b₄ b₅ a₁ a₂ a₃ a₄ end size room 
     ap (λ (l : List ℕ). (l ++ t₃) ++ t₄) (append_assoc f₀ t₁ t₂) ∙ ap (λ (l : List ℕ). l ++ t₄) (append_assoc f₀ (t₁ ++ t₂) t₃) ∙ append_assoc f₀ ((t₁ ++ t₂) ++ t₃) t₄
     ∙ ap (λ (l : List ℕ). f₀ ++ l) (sym joined) in
     let left : end - a₄ ≡ header_len_of v - 20 - length (texts (items_of v)) =
-    omega (
-      arith,
-      size,
-      p₁,
-      p₂,
-      p₃,
-      p₄,
-      ap length joined,
-      length-append ((t₁ ++ t₂) ++ t₃) t₄,
-      length-append (t₁ ++ t₂) t₃,
-      length-append t₁ t₂,
-    ) in
+    omega (arith, size, p₁, p₂, p₃, p₄, simp length-append at (ap length joined)) in
     e₄ ∙ ap (λ (l : List ℕ). (l ++ zeros) ++ drop end old) front
     ∙ ap (λ (l : List ℕ). l ++ drop end old) (append_assoc f₀ (texts (items_of v)) zeros ∙ ap (λ (n : ℕ). f₀ ++ (texts (items_of v) ++ replicate n 0)) left)
 

@@ -1,5 +1,5 @@
 -- A parsed value is in range. It is normal, or the header of its normal form is shorter.
-use Rattle.std.proofs.Common.{ℕ, zero, suc, ◌≡◌, ◌⊎◌, inl, inr, ◌+◌, ◌-◌, ◌*◌, ◌^◌, ◌<◌, ◌≤◌, ◌||◌, ◌==◌, eqb, nat_lt, min, Bool, true, false, IsTrue, cond, List, [], ◌∷◌, ◌++◌, length, drop, map, count_by, replicate, Option, Some, None, IfSome, is_some, is_none, refl, sym, ap, subst, ◌∙◌, append_assoc, length-append, arith}
+use Rattle.std.proofs.Common.{ℕ, zero, suc, ◌≡◌, ◌↔◌, ◌⊎◌, if◌then◌else◌, false, inl, inr, ◌+◌, ◌-◌, ◌*◌, ◌^◌, ◌<◌, ◌≤◌, ◌||◌, ◌==◌, eqb, nat_lt, min, Bool, true, IsTrue, cond, List, [], ◌∷◌, ◌++◌, length, drop, map, count_by, replicate, Option, Some, None, IfSome, is_some, is_none, refl, sym, ap, subst, ◌∙◌, append_assoc, length-append, arith}
 use Rattle.std.specs.List.{AllByRecursion, range_with_len}
 use Rattle.std.specs.Option.{option_map, option_map_or, option_or}
 use Rattle.std.specs.Prelude.{⊤}
@@ -19,7 +19,6 @@ use Rattle.wire_tcp.specs.TcpRepr.{HasIdleRanges, IsInRange, IsSeq, Reads, TcpHe
 use Rattle.wire_tcp.proofs.OptionsBack.{Pair, closed_none, count_somes, min_twice, somes, somes_closed}
 use Rattle.wire_tcp_parts.proofs.Items.{text-other}
 use Rattle.wire_tcp.proofs.OptionLens.{header_len-read, some_map}
-use Rattle.wire_tcp.proofs.TcpComputed.{same_header}
 use Rattle.wire_tcp.proofs.TcpReadsBack.{IsWritable}
 
 -- ---- parsed blocks have no gaps
@@ -58,21 +57,9 @@ closed-blocks content = closed-shaped (first_blocks content) (shaped content SAC
 
 -- ---- normal, or a shorter header
 
-idle : (v : TcpHeader) → (v.sack_permitted || is_none v.ack_number) ≡ true → IsTrue v.sack_permitted ⊎ (v.ack_number ≡ None)
-idle v e = by v.sack_permitted v.ack_number e
-  where
-    by : (s : Bool) (o : Option TcpSeqNumber) → (s || is_none o) ≡ true → IsTrue s ⊎ (o ≡ None)
-    by true o e = inl refl
-    by false None e = inr refl
-    by false (Some x) e = absurd (cc)
-
-not_idle : (v : TcpHeader) → HasIdleRanges v → (v.sack_permitted || is_none v.ack_number) ≡ true
-not_idle v (some, inl permitted) = rw permitted refl
-not_idle v (some, inr none) = by v.sack_permitted (ap is_none none)
-  where
-    by : (s : Bool) → is_none v.ack_number ≡ true → (s || is_none v.ack_number) ≡ true
-    by true e = refl
-    by false e = e
+-- no range is emitted beside SACK permitted, or without an acknowledgement
+unwritten : (permitted : Bool) (o : Option TcpSeqNumber) → ((permitted || is_none o) ≡ true) ↔ (IsTrue permitted ⊎ (o ≡ None))
+unwritten permitted o = (λ e. grind arith, λ h. grind arith)
 
 -- a parsed value is normal unless it has ranges that are not emitted
 pub normal_or_idle : (src dst : IpAddress) (verified : Bool) (bytes payload : List ℕ) (v : TcpHeader) → Reads bytes src dst verified v payload → (normal v ≡ v) ⊎ HasIdleRanges v
@@ -81,7 +68,7 @@ normal_or_idle src dst verified bytes payload v r =
     let rs = v.sack_ranges in
     let cut : option_map (min 14) v.window_scale ≡ v.window_scale = ap (option_map (min 14)) r.options.window_scale ∙ min_twice (window_scale_of items) ∙ sym r.options.window_scale in
     let whole : closed rs ≡ rs = ap closed r.options.sack_ranges ∙ closed-blocks (option_map_or (λ i. i.content) (last_of (is_of 5) items) []) ∙ sym r.options.sack_ranges in
-    let is = λ (e : (normal v).sack_ranges ≡ rs). same_header (normal v) v refl refl refl refl refl refl cut refl refl e refl in
+    let is : (normal v).sack_ranges ≡ rs → normal v ≡ v = λ e i. record v { window_scale = cut i; sack_ranges = e i } in
     let chosen = λ (b : Bool) (e : (v.sack_permitted || is_none v.ack_number) ≡ b). ap (λ (b : Bool). cond b no_ranges (closed rs)) e in
     elim (cases_Bool (v.sack_permitted || is_none v.ack_number)) [
       | inl y ↦ elim (cases_Bool (eqb (count_by is_some rs) 0)) [
@@ -90,7 +77,7 @@ normal_or_idle src dst verified bytes payload v r =
             let places : length rs ≡ SACK_BLOCKS = ap length r.options.sack_ranges in
             let empty : rs ≡ no_ranges = sym whole ∙ closed_none (somes rs) (length rs) (sym (count_somes rs) ∙ none) ∙ ap (λ (n : ℕ). replicate {A = Option Pair} n None) places in
             inl (is (chosen true y ∙ sym empty))
-        | inr z ↦ inr (eqb-false (count_by is_some rs) 0 z, idle v y)
+        | inr z ↦ inr (eqb-false (count_by is_some rs) 0 z, (unwritten v.sack_permitted v.ack_number).0 y)
       ]
       | inr n ↦ inl (is (chosen false n ∙ whole))
     ]
@@ -102,7 +89,7 @@ idle-shorter v h =
     let some = h.0 in
     let there = ap (λ (b : Bool). cond b 0 (2 + 8 * count_by is_some rs)) (false_from_ne_true (eqb (count_by is_some rs) 0) (λ z. some (eqb-true (count_by is_some rs) 0 z))) in
     let left : sack_len (count_by is_some (normal v).sack_ranges) ≡ 0 =
-    ap (λ (b : Bool). sack_len (count_by is_some (cond b no_ranges (closed rs)))) (not_idle v h) in
+    ap (λ (b : Bool). sack_len (count_by is_some (cond b no_ranges (closed rs)))) ((unwritten v.sack_permitted v.ack_number).1 h.1) in
     let scale : len_if (is_some (normal v).window_scale) 3 ≡ len_if (is_some v.window_scale) 3 = ap (λ (b : Bool). len_if b 3) (some_map (min 14) v.window_scale) in
     omega (arith, some, there, left, scale)
 
@@ -110,6 +97,33 @@ idle-shorter v h =
 pub normal_or_shorter : (src dst : IpAddress) (verified : Bool) (bytes payload : List ℕ) (v : TcpHeader) → Reads bytes src dst verified v payload
     → (normal v ≡ v) ⊎ (header_len_of (normal v) < header_len_of v)
 normal_or_shorter src dst verified bytes payload v r = elim (normal_or_idle src dst verified bytes payload v r) [ inl e ↦ inl e | inr h ↦ inr (idle-shorter v h) ]
+
+-- ---- values without SACK ranges
+
+len_if-most : (b : Bool) (n : ℕ) → len_if b n ≤ n
+len_if-most true n = omega arith
+len_if-most false n = omega arith
+
+-- a value without SACK ranges has a header of at most 40 octets
+pub header_len-no_ranges : (v : TcpHeader) → v.sack_ranges ≡ no_ranges → header_len_of v ≤ 40
+header_len-no_ranges v none =
+    let sack : sack_len (count_by is_some v.sack_ranges) ≡ 0 = ap (λ (rs : List (Option (ℕ × ℕ))). sack_len (count_by is_some rs)) none in
+    omega (arith, sack, len_if-most (is_some v.max_seg_size) 4, len_if-most (is_some v.window_scale) 3, len_if-most v.sack_permitted 2, len_if-most (is_some v.timestamp) 10)
+
+scale_kept : (scale : Option ℕ) → IfSome scale (λ n. n ≤ 14) → option_map (min 14) scale ≡ scale
+scale_kept None h = refl
+scale_kept (Some n) h = ap Some (omega (arith, h))
+
+ranges_kept : (ranges : List (Option (ℕ × ℕ))) (unwritten : Bool) → ranges ≡ no_ranges → (if unwritten then no_ranges else closed ranges) ≡ ranges
+ranges_kept ranges true none = sym none
+ranges_kept ranges false none = ap closed none ∙ sym none
+
+-- a value without SACK ranges is normal if its window scale is at most 14
+pub normal-no_ranges : (v : TcpHeader) → v.sack_ranges ≡ no_ranges → IfSome v.window_scale (λ n. n ≤ 14) → normal v ≡ v
+normal-no_ranges v none small =
+    let scale = scale_kept v.window_scale small in
+    let ranges = ranges_kept v.sack_ranges (v.sack_permitted || is_none v.ack_number) none in
+    (λ i. record v { window_scale = scale i; sack_ranges = ranges i })
 
 -- ---- a parsed value is in range
 

@@ -60,29 +60,14 @@ header_len-bytes_of v src dst payload true most = header_len-segment v payload (
 header_len-bytes_of v src dst payload false most = header_len-segment v payload 0 most
 
 control-back : (v : TcpHeader) (payload : List ℕ) (checksum : ℕ) → HasControl (segment_with v payload checksum) v.control
-control-back v payload checksum = by v.control refl
+control-back v payload checksum = by (ack_part v.ack_number) v.control refl
   where
-    by : (c : TcpControl) → v.control ≡ c → HasControl (segment_with v payload checksum) c
-    by control.None e =
-        let a = ack_part v.ack_number in
-        let f = ap flag_of e in
-        (record { rst = omega (arith, a.1, a.2, f); syn = omega (arith, a.1, a.2, f); fin = omega (arith, a.1, a.2, f) }, omega (arith, a.1, a.2, f))
-    by control.Psh e =
-        let a = ack_part v.ack_number in
-        let f = ap flag_of e in
-        (record { rst = omega (arith, a.1, a.2, f); syn = omega (arith, a.1, a.2, f); fin = omega (arith, a.1, a.2, f) }, omega (arith, a.1, a.2, f))
-    by control.Syn e =
-        let a = ack_part v.ack_number in
-        let f = ap flag_of e in
-        record { rst = omega (arith, a.1, a.2, f); syn = omega (arith, a.1, a.2, f); fin = omega (arith, a.1, a.2, f) }
-    by control.Fin e =
-        let a = ack_part v.ack_number in
-        let f = ap flag_of e in
-        record { rst = omega (arith, a.1, a.2, f); syn = omega (arith, a.1, a.2, f); fin = omega (arith, a.1, a.2, f) }
-    by control.Rst e =
-        let a = ack_part v.ack_number in
-        let f = ap flag_of e in
-        record { rst = omega (arith, a.1, a.2, f); syn = omega (arith, a.1, a.2, f); fin = omega (arith, a.1, a.2, f) }
+    by : (k : ℕ) × (k < 2) × ((if is_some v.ack_number then 16 else 0) ≡ 16 * k) → (c : TcpControl) → v.control ≡ c → HasControl (segment_with v payload checksum) c
+    by (k, bit, ack) control.None e = let f = ap flag_of e in grind arith
+    by (k, bit, ack) control.Psh e = let f = ap flag_of e in grind arith
+    by (k, bit, ack) control.Syn e = let f = ap flag_of e in grind arith
+    by (k, bit, ack) control.Fin e = let f = ap flag_of e in grind arith
+    by (k, bit, ack) control.Rst e = let f = ap flag_of e in grind arith
 
 ack-back : (v : TcpHeader) (payload : List ℕ) (checksum : ℕ) → IfSome v.ack_number IsSeq → v.ack_number ≡ ack_number_of (segment_with v payload checksum)
 ack-back v payload checksum fits = by v.ack_number refl

@@ -1,10 +1,11 @@
 -- A segment with another maximum segment size in its options.
 use Rattle.std.proofs.Common.{ℕ, ◌≡◌, ◌≤◌, ◌<◌, ◌+◌, ◌-◌, ◌%◌, Bool, false, List, [], ◌∷◌, ◌++◌, length, sum, take, drop, Option, Some, None, refl, sym, subst, ap, ◌∙◌, append_assoc, length-append, arith}
 use Rattle.std.specs.Option.{option_and_then, option_map, option_map_or}
-use Rattle.std.proofs.Math.Seq.{drop-append-add, take-append-add}
-use Rattle.std.proofs.lemmas.List.{drop-append-le, drop-drop, drop_at, length-drop, length-take-le, take-append-drop, take-append-le, take_at}
+use Rattle.std.proofs.lemmas.Option.{option_and_then_some}
+use Rattle.std.proofs.lemmas.List.{drop-append-le, drop-drop, drop-take, length-drop, length-take-le, take-append-drop, take-append-le, take-take}
+use Rattle.std.proofs.lemmas.Slice.{drop-append-drop}
 use Rattle.byteorder.specs.Endian.{big_bytes, big_number}
-use Rattle.wire_checksum.proofs.Parts.{sum-words-with_range}
+use Rattle.wire_checksum.proofs.Parts.{sum-words-with_range, take-with_range}
 use Rattle.wire_checksum.specs.WordSum.{words}
 use Rattle.wire_ends.specs.IpAddress.{octets_of}
 use Rattle.wire_ends.specs.declared.ip_address.IpAddress.{IpAddress}
@@ -12,110 +13,80 @@ use Rattle.wire_field.specs.Field.{field, with_range}
 use Rattle.wire_field.proofs.ByteLists.{AreBytes-append, AreBytes-bytes_high_first, AreBytes-drop, AreBytes-take}
 use Rattle.wire_field.proofs.Cells.{cells-all}
 use Rattle.wire_field.proofs.Spelled.{AreBytes}
-use Rattle.wire_tcp.proofs.OptionItems.{items_in-list}
-use Rattle.wire_tcp.proofs.TcpChanged.{SameFlags, control_kept, reads-checksum}
-use Rattle.wire_tcp.proofs.TcpUpdated.{valid-updated}
+use Rattle.wire_tcp.proofs.OptionItems.{items_in-list, mapped}
+use Rattle.wire_tcp.proofs.Sums.{valid-updated}
+use Rattle.wire_tcp.proofs.TcpChanged.{control_kept, receiver_read, reads-checksum, sender_read}
+use Rattle.wire_tcp.proofs.TcpComputed.{Reads-is, reads-with}
 use Rattle.wire_tcp.specs.Tcp.{Verifies, header_len, options_of, payload_of}
-use Rattle.wire_tcp.specs.TcpRepr.{Reads, TcpHeader, ack_number_of, items_in, seq_of, stamp_of}
+use Rattle.wire_tcp.specs.TcpRepr.{Reads, TcpHeader, header_with, items_in}
 use Rattle.wire_tcp.specs.TcpSegmentSize.{max_seg_size_at, max_seg_size_of, with_max_seg_size, with_size_at}
 use Rattle.wire_tcp_parts.proofs.Places.{no_size, resized, sized_at}
 use Rattle.wire_tcp_parts.specs.TcpItems.{IsOptionList, Item, segment_size_of}
 use Rattle.wire_tcp_parts.specs.TcpPlace.{segment_size_at}
 use Rattle.wire_tcp_parts.specs.TcpSummary.{HasNoList}
+use Rattle.wire_tcp_parts.specs.declared.tcp.control.TcpControl.{TcpControl}
 
 -- ---- other octets in the options
-
--- a part is replaced in the middle of three
-in_middle : (front middle behind part : List ℕ) (at i : ℕ) → at ≡ length front + i → i + 2 ≤ length middle
-    → with_range (front ++ (middle ++ behind)) at (at + 2) part ≡ front ++ with_range middle i (i + 2) part ++ behind
-in_middle front middle behind part at i is inside =
-    let whole = front ++ (middle ++ behind) in
-    let kept : take at whole ≡ front ++ take i middle =
-    ap (λ (n : ℕ). take n whole) is ∙ take-append-add front (middle ++ behind) i ∙ ap (λ (l : List ℕ). front ++ l) (take-append-le i middle behind (omega (arith, inside))) in
-    let last : at + 2 ≡ length front + (i + 2) = omega (arith, is) in
-    let left : drop (at + 2) whole ≡ drop (i + 2) middle ++ behind =
-    ap (λ (n : ℕ). drop n whole) last ∙ drop-append-add front (middle ++ behind) (i + 2) ∙ drop-append-le (i + 2) middle behind inside in
-    ap (λ (l : List ℕ). l ++ part ++ drop (at + 2) whole) kept
-    ∙ ap (λ (l : List ℕ). (front ++ take i middle) ++ part ++ l) left
-    ∙ sym (append_assoc ((front ++ take i middle) ++ part) (drop (i + 2) middle) behind)
-    ∙ ap (λ (l : List ℕ). l ++ drop (i + 2) middle ++ behind) (append_assoc front (take i middle) part)
-    ∙ ap (λ (l : List ℕ). l ++ behind) (append_assoc front (take i middle ++ part) (drop (i + 2) middle))
-
--- the bytes as their fixed header, their options and their payload
-parts : (bytes : List ℕ) → 20 ≤ header_len bytes → bytes ≡ take 20 bytes ++ (options_of bytes ++ payload_of bytes)
-parts bytes begins =
-    let n = header_len bytes in
-    let e : 20 + (n - 20) ≡ n = omega (arith, begins) in
-    sym (take-append-drop 20 bytes)
-    ∙ ap (λ (l : List ℕ). take 20 bytes ++ l) (sym (take-append-drop (n - 20) (drop 20 bytes)))
-    ∙ ap (λ (l : List ℕ). take 20 bytes ++ (options_of bytes ++ l)) (drop-drop (n - 20) 20 bytes ∙ ap (λ (k : ℕ). drop k bytes) e)
 
 options_long : (bytes : List ℕ) → 20 ≤ header_len bytes → header_len bytes ≤ length bytes → length (options_of bytes) ≡ header_len bytes - 20
 options_long bytes begins ends = length-take-le (header_len bytes - 20) (drop 20 bytes) (omega (arith, length-drop 20 bytes, begins, ends))
 
--- the fields of the fixed header
-record SameFields (old new : List ℕ) : Type 0 where
+-- what the first twenty bytes tell is the same
+record SameFixed (old new : List ℕ) : Type 0 where
   header : header_len new ≡ header_len old
-  flags : SameFlags old new
-  src_port : field new 0 16 ≡ field old 0 16
-  dst_port : field new 16 16 ≡ field old 16 16
-  seq_number : field new 32 32 ≡ field old 32 32
-  ack_number : ack_number_of new ≡ ack_number_of old
-  window_len : field new 112 16 ≡ field old 112 16
+  flags : field new 108 4 ≡ field old 108 4
+  values : (asked : TcpControl) (items : List Item) → header_with new asked items ≡ header_with old asked items
 
-same_fields : (front old new : List ℕ) → length front ≡ 20 → SameFields (front ++ old) (front ++ new)
-same_fields front old new long = subst (λ (f : List ℕ). SameFields (f ++ old) (f ++ new)) (sym (cells-all 20 front long)) (record {
-  header = refl;
-  flags = record { psh = refl; rst = refl; syn = refl; fin = refl };
-  src_port = refl;
-  dst_port = refl;
-  seq_number = refl;
-  ack_number = refl;
-  window_len = refl;
-})
+same_fixed : (front old new : List ℕ) → length front ≡ 20 → SameFixed (front ++ old) (front ++ new)
+same_fixed front old new long = subst (λ (f : List ℕ). SameFixed (f ++ old) (f ++ new)) (sym (cells-all 20 front long)) (record { header = refl; flags = refl; values = λ asked items. refl })
 
--- the bytes with two other octets in the options
-record Replaced (bytes new : List ℕ) (options : List ℕ) : Type 0 where
-  is : new ≡ with_range bytes 20 (header_len bytes) options
-  same : SameFields bytes new
+-- the bytes with other octets in the options
+record Replaced (bytes new options : List ℕ) : Type 0 where
+  same : SameFixed bytes new
   long : length new ≡ length bytes
   options_are : options_of new ≡ options
   payload_is : payload_of new ≡ payload_of bytes
+  is : new ≡ with_range bytes 20 (header_len bytes) options
 
 -- the options of the bytes after two of their octets were replaced
-replaced : (bytes : List ℕ) (at i n : ℕ) → 20 ≤ header_len bytes → header_len bytes ≤ length bytes → at ≡ 20 + i → i + 2 ≤ length (options_of bytes)
-    → Replaced bytes (with_range bytes at (at + 2) (big_bytes 2 n)) (with_range (options_of bytes) i (i + 2) (big_bytes 2 n))
-replaced bytes at i n begins ends is inside =
+replaced : (bytes part : List ℕ) (i : ℕ) → 20 ≤ header_len bytes → header_len bytes ≤ length bytes → length part ≡ 2 → i + 2 ≤ length (options_of bytes)
+    → Replaced bytes (with_range bytes (20 + i) (20 + i + 2) part) (with_range (options_of bytes) i (i + 2) part)
+replaced bytes part i begins ends two inside =
     let header = header_len bytes in
-    let front = take 20 bytes in
-    let options = options_of bytes in
-    let new = with_range bytes at (at + 2) (big_bytes 2 n) in
-    let changed = with_range options i (i + 2) (big_bytes 2 n) in
-    let twenty : length front ≡ 20 = length-take-le 20 bytes (omega (arith, begins, ends)) in
+    let new = with_range bytes (20 + i) (20 + i + 2) part in
+    let options = with_range (options_of bytes) i (i + 2) part in
     let size = options_long bytes begins ends in
-    let same_size : length changed ≡ length options =
-    length-append (take i options ++ big_bytes 2 n) (drop (i + 2) options) ∙ omega (arith, length-append (take i options) (big_bytes 2 n), length-take-le i options (omega (arith, inside)), length-drop (i + 2) options, inside) in
-    let joined : new ≡ front ++ changed ++ payload_of bytes =
-    ap (λ (l : List ℕ). with_range l at (at + 2) (big_bytes 2 n)) (parts bytes begins) ∙ in_middle front options (payload_of bytes) (big_bytes 2 n) at i (omega (arith, is, twenty)) inside in
-    let apart : new ≡ front ++ (changed ++ payload_of bytes) = joined ∙ append_assoc front changed (payload_of bytes) in
-    let fields : SameFields bytes new = subst (λ (l : List ℕ). SameFields l new) (sym (parts bytes begins)) (subst (SameFields (front ++ (options ++ payload_of bytes))) (sym apart) (same_fields front (options ++ payload_of bytes) (changed ++ payload_of bytes) twenty)) in
-    let behind : drop 20 new ≡ changed ++ payload_of bytes = ap (drop 20) apart ∙ drop_at front (changed ++ payload_of bytes) 20 twenty in
-    let to_end : length (front ++ changed) ≡ header = length-append front changed ∙ omega (arith, twenty, same_size, size, begins) in
+    let front : length (take (20 + i) bytes) ≡ 20 + i = length-take-le (20 + i) bytes (omega (arith, inside, size, begins, ends)) in
+    let both : length (take (20 + i) bytes ++ part) ≡ 20 + i + 2 = length-append (take (20 + i) bytes) part ∙ omega (arith, front, two) in
+    let long : length new ≡ length bytes = length-append (take (20 + i) bytes ++ part) (drop (20 + i + 2) bytes) ∙ omega (arith, both, length-drop (20 + i + 2) bytes, inside, size, begins, ends) in
+    let fixed : take 20 new ≡ take 20 bytes =
+    take-append-le 20 (take (20 + i) bytes ++ part) (drop (20 + i + 2) bytes) (omega (arith, both)) ∙ take-append-le 20 (take (20 + i) bytes) part (omega (arith, front)) ∙ take-take 20 (20 + i) bytes (omega arith) in
+    let same : SameFixed bytes new =
+    subst (λ (l : List ℕ). SameFixed l new) (take-append-drop 20 bytes) (subst (SameFixed (take 20 bytes ++ drop 20 bytes)) (ap (λ (f : List ℕ). f ++ drop 20 new) (sym fixed) ∙ take-append-drop 20 new)
+    (same_fixed (take 20 bytes) (drop 20 bytes) (drop 20 new) (length-take-le 20 bytes (omega (arith, begins, ends))))) in
+    let behind : drop 20 new ≡ with_range (drop 20 bytes) i (i + 2) part =
+    drop-append-le 20 (take (20 + i) bytes ++ part) (drop (20 + i + 2) bytes) (omega (arith, both))
+    ∙ ap (λ (l : List ℕ). l ++ drop (20 + i + 2) bytes) (drop-append-le 20 (take (20 + i) bytes) part (omega (arith, front)) ∙ ap (λ (l : List ℕ). l ++ part) (drop-take 20 i bytes))
+    ∙ ap (λ (l : List ℕ). take i (drop 20 bytes) ++ part ++ l) (ap (λ (n : ℕ). drop n bytes) (omega arith) ∙ sym (drop-drop (i + 2) 20 bytes)) in
+    let options_are : options_of new ≡ options =
+    ap (λ (n : ℕ). take (n - 20) (drop 20 new)) same.header ∙ ap (take (header - 20)) behind
+    ∙ take-with_range (drop 20 bytes) part i (i + 2) (header - 20) (omega (arith, two)) (omega (arith, inside, size)) (omega (arith, inside, size, length-drop 20 bytes, begins, ends)) in
+    let payload_is : payload_of new ≡ payload_of bytes =
+    ap (λ (n : ℕ). drop n new) same.header ∙ drop-append-drop (20 + i + 2) bytes (take (20 + i) bytes ++ part) header (omega (arith, inside, size, begins)) both in
+    let after : drop (header - 20) (drop 20 new) ≡ payload_of bytes =
+    drop-drop (header - 20) 20 new ∙ ap (λ (n : ℕ). drop n new) (omega (arith, begins, same.header)) ∙ payload_is in
     record {
-      is = joined;
-      same = fields;
-      long = ap length joined ∙ length-append (front ++ changed) (payload_of bytes) ∙ omega (arith, to_end, length-drop header bytes, ends);
-      options_are = ap (λ (k : ℕ). take (k - 20) (drop 20 new)) fields.header ∙ ap (take (header - 20)) behind ∙ take_at changed (payload_of bytes) (header - 20) (same_size ∙ size);
-      payload_is = ap (λ (k : ℕ). drop k new) fields.header ∙ ap (drop header) joined ∙ drop_at (front ++ changed) (payload_of bytes) header to_end;
+      same = same;
+      long = long;
+      options_are = options_are;
+      payload_is = payload_is;
+      is = sym (take-append-drop 20 new)
+          ∙ ap (λ (f : List ℕ). f ++ drop 20 new) fixed
+          ∙ ap (λ (l : List ℕ). take 20 bytes ++ l) (sym (take-append-drop (header - 20) (drop 20 new)))
+          ∙ ap (λ (l : List ℕ). take 20 bytes ++ (take (header - 20) (drop 20 new) ++ l)) after
+          ∙ ap (λ (l : List ℕ). take 20 bytes ++ (l ++ payload_of bytes)) (ap (λ (n : ℕ). take (n - 20) (drop 20 new)) (sym same.header) ∙ options_are)
+          ∙ sym (append_assoc (take 20 bytes) options (payload_of bytes));
     }
-
--- the header's length stays
-pub header_len-replaced : (bytes : List ℕ) (at n : ℕ) → 20 ≤ at → at + 2 ≤ header_len bytes → header_len bytes ≤ length bytes
-    → (header_len (with_range bytes at (at + 2) (big_bytes 2 n)) ≡ header_len bytes) × (length (with_range bytes at (at + 2) (big_bytes 2 n)) ≡ length bytes)
-header_len-replaced bytes at n begins inside ends =
-    let least : 20 ≤ header_len bytes = omega (arith, begins, inside) in
-    let r = replaced bytes at (at - 20) n least ends (omega (arith, begins)) (omega (arith, options_long bytes least ends, begins, inside)) in
-    (r.same.header, r.long)
 
 -- ---- the checksum
 
@@ -124,19 +95,16 @@ AreBytes-with_two bytes at n are =
     AreBytes-append (take at bytes ++ big_bytes 2 n) (drop (at + 2) bytes) (AreBytes-append (take at bytes) (big_bytes 2 n) (AreBytes-take at bytes are) (AreBytes-bytes_high_first 2 n)) (AreBytes-drop (at + 2) bytes are)
 
 -- a valid checksum stays valid
-valid-at : (src dst : IpAddress) (bytes : List ℕ) (at i n : ℕ) → AreBytes bytes → length (octets_of src) % 2 ≡ 0 → length (octets_of dst) % 2 ≡ 0
-    → 20 ≤ header_len bytes → header_len bytes ≤ length bytes → at ≡ 20 + i → i + 2 ≤ length (options_of bytes)
-    → Verifies src dst bytes → Verifies src dst (with_size_at bytes n at)
-valid-at src dst bytes at i n are s d begins ends is inside valid =
-    let new = with_range bytes at (at + 2) (big_bytes 2 n) in
-    let r = replaced bytes at i n begins ends is inside in
-    let options = options_of bytes in
-    let changed = options_of new in
-    let size : length changed ≡ header_len bytes - 20 = options_long new (omega (arith, r.same.header, begins)) (omega (arith, r.same.header, r.long, ends)) ∙ omega (arith, r.same.header) in
-    let total = sum-words-with_range bytes changed 20 (header_len bytes) refl (omega (arith, size, begins)) (omega (arith, size, begins)) ends in
-    let joined : new ≡ with_range bytes 20 (header_len bytes) changed = r.is ∙ ap (with_range bytes 20 (header_len bytes)) (sym r.options_are) in
-    let sums = ap (λ (l : List ℕ). sum (words l)) joined in
-    valid-updated src dst src dst bytes new (sum (words options)) (sum (words changed)) (AreBytes-with_two bytes at n are) s d s d (omega (arith, r.long, begins, ends)) r.long
+valid-at : (src dst : IpAddress) (bytes : List ℕ) (i n : ℕ) → AreBytes bytes → length (octets_of src) % 2 ≡ 0 → length (octets_of dst) % 2 ≡ 0
+    → 20 ≤ header_len bytes → header_len bytes ≤ length bytes → i + 2 ≤ length (options_of bytes)
+    → Verifies src dst bytes → Verifies src dst (with_size_at bytes n (20 + i))
+valid-at src dst bytes i n are s d begins ends inside valid =
+    let new = with_range bytes (20 + i) (20 + i + 2) (big_bytes 2 n) in
+    let r = replaced bytes (big_bytes 2 n) i begins ends refl inside in
+    let size : length (options_of new) ≡ header_len bytes - 20 = options_long new (omega (arith, r.same.header, begins)) (omega (arith, r.same.header, r.long, ends)) ∙ omega (arith, r.same.header) in
+    let total = sum-words-with_range bytes (options_of new) 20 (header_len bytes) refl (omega (arith, size, begins)) (omega (arith, size, begins)) ends in
+    let sums = ap (λ (l : List ℕ). sum (words l)) (r.is ∙ ap (with_range bytes 20 (header_len bytes)) (sym r.options_are)) in
+    valid-updated src dst src dst bytes new (sum (words (options_of bytes))) (sum (words (options_of new))) (AreBytes-with_two bytes (20 + i) n are) s d s d (omega (arith, r.long, begins, ends)) r.long
     (omega (arith, total, sums)) valid
 
 -- ---- the value
@@ -145,84 +113,56 @@ reads-at : (src dst : IpAddress) (bytes : List ℕ) (i n : ℕ) (verified : Bool
     → (r : Reads bytes src dst verified v payload) → segment_size_at r.options.items ≡ Some i
     → Reads (with_size_at bytes n (20 + i)) src dst verified (record v { max_seg_size = Some n }) payload
 reads-at src dst bytes i n verified v payload are fits s d r found =
-    let at = 20 + i in
-    let new = with_range bytes at (at + 2) (big_bytes 2 n) in
+    let new = with_range bytes (20 + i) (20 + i + 2) (big_bytes 2 n) in
     let begins = r.lengths.header in
     let ends = r.lengths.whole in
     let inside = (sized_at (options_of bytes) r.options.items r.options.tail i r.options.list found).0 in
-    let p = replaced bytes at i n begins ends refl inside in
+    let p = replaced bytes (big_bytes 2 n) i begins ends refl inside in
     let o = resized (options_of bytes) r.options.items r.options.tail i n fits r.options.list found in
-    let unsummed : Reads new src dst false (record v { max_seg_size = Some n }) payload = record {
+    let options : header_with bytes v.control o.others ≡ record (header_with bytes v.control r.options.items) { max_seg_size = Some n } = rw (o.size, o.scale, o.permitted, o.ranges, o.stamps) refl in
+    let is : header_with new v.control o.others ≡ record v { max_seg_size = Some n } =
+    p.same.values v.control o.others ∙ options ∙ ap (λ (h : TcpHeader). record h { max_seg_size = Some n }) (Reads-is bytes src dst verified v payload r) in
+    let unsummed = reads-with new src dst false v.control o.others r.options.tail (record {
       lengths = record {
         least = omega (arith, p.long, r.lengths.least);
         header = omega (arith, p.same.header, begins);
         whole = omega (arith, p.long, p.same.header, ends);
       };
-      sender = λ none. r.sender (sym p.same.src_port ∙ none);
-      receiver = λ none. r.receiver (sym p.same.dst_port ∙ none);
-      control = control_kept bytes new p.same.flags v.control r.control;
+      sender = λ none. sender_read bytes src dst verified v payload r (ap (λ (h : TcpHeader). h.src_port) (sym is) ∙ none);
+      receiver = λ none. receiver_read bytes src dst verified v payload r (ap (λ (h : TcpHeader). h.dst_port) (sym is) ∙ none);
       checksum = λ no. cc;
-      options = record {
-        items = o.others;
-        tail = r.options.tail;
-        list = subst (λ (l : List ℕ). IsOptionList l o.others r.options.tail) (sym p.options_are) o.list;
-        max_seg_size = sym o.size;
-        window_scale = r.options.window_scale ∙ ap (option_map (λ m. Rattle.std.specs.Prelude.min 14 m)) (sym o.scale);
-        sack_permitted = r.options.sack_permitted ∙ sym o.permitted;
-        sack_ranges = r.options.sack_ranges ∙ sym o.ranges;
-        timestamp = r.options.timestamp ∙ ap (option_map stamp_of) (sym o.stamps);
-      };
-      src_port = r.src_port ∙ sym p.same.src_port;
-      dst_port = r.dst_port ∙ sym p.same.dst_port;
-      seq_number = r.seq_number ∙ ap seq_of (sym p.same.seq_number);
-      ack_number = r.ack_number ∙ sym p.same.ack_number;
-      window_len = r.window_len ∙ sym p.same.window_len;
-      body = r.body ∙ sym p.payload_is;
-    } in
-    reads-checksum new _ src dst src dst false verified (record v { max_seg_size = Some n }) payload unsummed
-    (λ on. valid-at src dst bytes at i n are s d begins ends refl inside (r.checksum on))
+    }) (control_kept bytes new p.same.flags v.control r.control) (subst (λ (l : List ℕ). IsOptionList l o.others r.options.tail) (sym p.options_are) o.list) in
+    reads-checksum new _ src dst src dst false verified (record v { max_seg_size = Some n }) payload
+    (subst (λ (h : TcpHeader). Reads new src dst false h payload) is (subst (Reads new src dst false (header_with new v.control o.others)) (p.payload_is ∙ sym r.body) unsummed))
+    (λ on. valid-at src dst bytes i n are s d begins ends inside (r.checksum on))
 
 -- ---- the size that counts
 
 -- the index that the walk finds
 pub place_found : (options : List ℕ) (at : Option ℕ) → ((items : List Item) (tail : List ℕ) → IsOptionList options items tail → at ≡ segment_size_at items) → (HasNoList options → at ≡ None)
     → option_map (λ n. 20 + n) at ≡ option_map (λ n. 20 + n) (option_and_then segment_size_at (items_in options))
-place_found options at listed malformed = ap (option_map (λ n. 20 + n)) (by (items_in options) refl)
+place_found options at listed malformed = by (items_in options) refl
   where
-    by : (o : Option (List Item)) → items_in options ≡ o → at ≡ option_and_then segment_size_at (items_in options)
-    by (Some items) e =
-        let (tail, list) = (items_in-list options items).0 e in
-        listed items tail list ∙ ap (option_and_then segment_size_at) (sym e)
-    by None e =
-        let no_list : HasNoList options = λ items tail list. let some = sym e ∙ (items_in-list options items).1 (tail, list) in absurd (cc) in
-        malformed no_list ∙ ap (option_and_then segment_size_at) (sym e)
+    by : (o : Option (List Item)) → items_in options ≡ o → option_map (λ n. 20 + n) at ≡ option_map (λ n. 20 + n) (option_and_then segment_size_at o)
+    by (Some items) e = let (tail, list) = (items_in-list options items).0 e in ap (option_map (λ n. 20 + n)) (listed items tail list)
+    by None e = ap (option_map (λ n. 20 + n)) (malformed (λ items tail list. let some = sym e ∙ (items_in-list options items).1 (tail, list) in absurd (cc)))
 
 -- the items whose size stands at an index
 record Found (bytes : List ℕ) (at : ℕ) : Type 0 where
   items : List Item
-  tail : List ℕ
   i : ℕ
   is : at ≡ 20 + i
   computed : items_in (options_of bytes) ≡ Some items
-  list : IsOptionList (options_of bytes) items tail
-  here : segment_size_at items ≡ Some i
   inside : i + 2 ≤ length (options_of bytes)
   size : segment_size_of items ≡ Some (big_number 2 (drop i (options_of bytes)))
 
 found : (bytes : List ℕ) (at : ℕ) → max_seg_size_at bytes ≡ Some at → Found bytes at
-found bytes at e = by (items_in (options_of bytes)) refl
-  where
-    by : (o : Option (List Item)) → items_in (options_of bytes) ≡ o → Found bytes at
-    by None is = let none = ap (λ (o : Option (List Item)). option_map (λ n. 20 + n) (option_and_then segment_size_at o)) (sym is) ∙ e in absurd (cc)
-    by (Some items) is = at_index (segment_size_at items) refl
-      where
-        at_index : (o : Option ℕ) → segment_size_at items ≡ o → Found bytes at
-        at_index None absent = let none = ap (option_map (λ n. 20 + n)) (sym absent) ∙ ap (λ (o : Option (List Item)). option_map (λ n. 20 + n) (option_and_then segment_size_at o)) (sym is) ∙ e in absurd (cc)
-        at_index (Some i) here =
-            let (tail, list) = (items_in-list (options_of bytes) items).0 is in
-            let (inside, size) = sized_at (options_of bytes) items tail i list here in
-            let same : Some (20 + i) ≡ Some at = ap (option_map (λ n. 20 + n)) (sym here) ∙ ap (λ (o : Option (List Item)). option_map (λ n. 20 + n) (option_and_then segment_size_at o)) (sym is) ∙ e in
-            record { items = items; tail = tail; i = i; is = cc; computed = is; list = list; here = here; inside = inside; size = size }
+found bytes at e =
+    let (i, placed, is) = mapped (λ n. 20 + n) (option_and_then segment_size_at (items_in (options_of bytes))) at e in
+    option_and_then_some segment_size_at (items_in (options_of bytes)) i placed (λ items computed here.
+    let (tail, list) = (items_in-list (options_of bytes) items).0 computed in
+    let (inside, size) = sized_at (options_of bytes) items tail i list here in
+    record { items = items; i = i; is = sym is; computed = computed; inside = inside; size = size })
 
 two_in_front : (l rest : List ℕ) → 2 ≤ length l → big_number 2 (l ++ rest) ≡ big_number 2 l
 two_in_front [] rest some = absurd (omega arith)
@@ -234,11 +174,10 @@ pub size_found : (bytes : List ℕ) (at : ℕ) → 20 ≤ header_len bytes → h
 size_found bytes at begins ends e =
     let f = found bytes at e in
     let options = options_of bytes in
-    let twenty : length (take 20 bytes) ≡ 20 = length-take-le 20 bytes (omega (arith, begins, ends)) in
     let behind : drop at bytes ≡ drop f.i options ++ payload_of bytes =
-    ap (λ (n : ℕ). drop n bytes) f.is ∙ sym (drop-drop f.i 20 bytes) ∙ ap (λ (l : List ℕ). drop f.i (drop 20 l)) (parts bytes begins)
-    ∙ ap (drop f.i) (drop_at (take 20 bytes) (options ++ payload_of bytes) 20 twenty)
-    ∙ drop-append-le f.i options (payload_of bytes) (omega (arith, f.inside)) in
+    ap (λ (n : ℕ). drop n bytes) f.is ∙ sym (drop-drop f.i 20 bytes) ∙ ap (drop f.i) (sym (take-append-drop (header_len bytes - 20) (drop 20 bytes)))
+    ∙ drop-append-le f.i options (drop (header_len bytes - 20) (drop 20 bytes)) (omega (arith, f.inside))
+    ∙ ap (λ (l : List ℕ). drop f.i options ++ l) (drop-drop (header_len bytes - 20) 20 bytes ∙ ap (λ (n : ℕ). drop n bytes) (omega (arith, begins))) in
     ap (λ (l : List ℕ). Some (big_number 2 l)) behind
     ∙ ap Some (two_in_front (drop f.i options) (payload_of bytes) (omega (arith, length-drop f.i options, f.inside)))
     ∙ sym f.size ∙ ap (option_and_then segment_size_of) (sym f.computed)
@@ -248,21 +187,16 @@ pub written_found : (bytes : List ℕ) (at n : ℕ) → max_seg_size_at bytes �
 written_found bytes at n e = ap (λ (o : Option ℕ). option_map_or (with_size_at bytes n) o bytes) (sym e)
 
 -- without an index there is no size, and the bytes stay
-pub none_found : (bytes : List ℕ) (n : ℕ) → max_seg_size_at bytes ≡ None → (None ≡ max_seg_size_of bytes) × (bytes ≡ with_max_seg_size bytes n)
-none_found bytes n e = (
-  by (items_in (options_of bytes)) refl,
-  ap (λ (o : Option ℕ). option_map_or (with_size_at bytes n) o bytes) (sym e),
-)
+none_at : (o : Option (List Item)) → option_map (λ n. 20 + n) (option_and_then segment_size_at o) ≡ None → None ≡ option_and_then segment_size_of o
+none_at None e = refl
+none_at (Some items) e = ap (option_map (λ i. big_number 2 i.content)) (sym (no_size items (unplaced (segment_size_at items) e)))
   where
     unplaced : (o : Option ℕ) → option_map (λ n. 20 + n) o ≡ None → o ≡ None
     unplaced None e = refl
     unplaced (Some n) e = absurd (cc)
 
-    by : (o : Option (List Item)) → items_in (options_of bytes) ≡ o → None ≡ max_seg_size_of bytes
-    by (Some items) is =
-        let none = unplaced (segment_size_at items) (ap (λ (o : Option (List Item)). option_map (λ n. 20 + n) (option_and_then segment_size_at o)) (sym is) ∙ e) in
-        ap (option_map (λ i. big_number 2 i.content)) (sym (no_size items none)) ∙ ap (option_and_then segment_size_of) (sym is)
-    by None is = ap (option_and_then segment_size_of) (sym is)
+pub none_found : (bytes : List ℕ) (n : ℕ) → max_seg_size_at bytes ≡ None → (None ≡ max_seg_size_of bytes) × (bytes ≡ with_max_seg_size bytes n)
+none_found bytes n e = (none_at (items_in (options_of bytes)) e, ap (λ (o : Option ℕ). option_map_or (with_size_at bytes n) o bytes) (sym e))
 
 -- a valid checksum stays valid
 pub valid-resized : (src dst : IpAddress) (bytes : List ℕ) (n : ℕ) → AreBytes bytes → length (octets_of src) % 2 ≡ 0 → length (octets_of dst) % 2 ≡ 0 → 20 ≤ header_len bytes → header_len bytes ≤ length bytes
@@ -272,7 +206,7 @@ valid-resized src dst bytes n are s d begins ends valid = by (max_seg_size_at by
     by : (o : Option ℕ) → max_seg_size_at bytes ≡ o → Verifies src dst (with_max_seg_size bytes n)
     by (Some at) e =
         let f = found bytes at e in
-        subst (Verifies src dst) (written_found bytes at n e) (valid-at src dst bytes at f.i n are s d begins ends f.is f.inside valid)
+        subst (Verifies src dst) (ap (with_size_at bytes n) (sym f.is) ∙ written_found bytes at n e) (valid-at src dst bytes f.i n are s d begins ends f.inside valid)
     by None e = subst (Verifies src dst) (none_found bytes n e).1 valid
 
 -- only the size of the value changes

@@ -4,6 +4,7 @@ use Rattle.std.specs.Fmt.{◌++?◌, char_count, comma_space, debug_items, debug
 use Rattle.std.specs.Option.{option_map_or}
 use Rattle.std.specs.Prelude.{if◌then◌else◌}
 use Rattle.std.proofs.lemmas.Bool.{false_from_ne_true, eqb-true}
+use Rattle.std.proofs.lemmas.Bool.Decides.{nat_tests}
 use Rattle.std.proofs.lemmas.List.{append-nil}
 use Rattle.wire_field.specs.Field.{field}
 use Rattle.wire_tcp.specs.Tcp.{HasLengths, has_lengths, header_len, options_of}
@@ -14,8 +15,8 @@ use Rattle.wire_tcp_parts.specs.declared.tcp.option.TcpOption.{TcpOption}
 use Rattle.wire_tcp_parts.specs.declared.tcp.option.TcpOption.TheVariants.{EndOfList, NoOperation, MaxSegmentSize, WindowScale, SackPermitted, SackRange, TimeStamp, Unknown}
 use Rattle.wire_tcp_parts.proofs.FirstItems.{Leads-first_item, first_item-Leads, first_item-None}
 use Rattle.wire_tcp_parts.proofs.OptionLists.{head-text, nil-text, shorter}
-use Rattle.wire_tcp_parts.proofs.Summaries.{and_left, and_right, scale_is}
-use Rattle.wire_tcp.proofs.TcpLengths.{HasLengths-has_lengths, has_lengths-HasLengths}
+use Rattle.wire_tcp_parts.proofs.Summaries.{scale_is}
+use Rattle.wire_tcp.proofs.TcpComputed.{has_lengths-Decides}
 
 -- what `{:08x}` prints
 pub padded_hex_word : (n : ℕ) → padded_integral (format_spec 32 0 4 8 (2 ^ 64 - 1)) false [] (digits 16 false n) ≡ hex_word n
@@ -122,9 +123,6 @@ options_text-malformed (kind ∷ rest) some h =
     ∙ ap (λ (o : Option (Item × List ℕ)). option_map_or (λ d. item_text d.0 ++ options_text_within (length rest) d.1) o (codes " (wire::Error)"))
     (first_item-None (kind ∷ rest) (λ i r l. h.no_item i r l.is l.joined))
 
-other : (i : Item) (n : ℕ) → i.kind ≢ n → (i.kind == n) ≡ false
-other i n h = false_from_ne_true (i.kind == n) (λ e. h (eqb-true i.kind n e))
-
 -- the text of an option is that of its item
 pub shown-item : (o : TcpOption) (i : Item) → IsReading o i → shown o ≡ item_text i
 shown-item EndOfList i reading = absurd reading
@@ -136,13 +134,10 @@ shown-item SackPermitted i reading = rw reading refl
 shown-item (SackRange ranges) i (kind, e) = rw (kind, e) refl
 shown-item (TimeStamp tsval tsecr) i (kind, len, a, b) = rw (kind, len, a, b) refl
 shown-item (Unknown kind bytes) i (above, short, same, e) =
-    let n1 = other i 1 (λ h. absurd (omega (arith, h, same, above))) in
-    let n2 = other i 2 (λ h. absurd (omega (arith, h, same, above))) in
-    let n3 = other i 3 (λ h. absurd (omega (arith, h, same, above))) in
-    let n4 = other i 4 (λ h. absurd (omega (arith, h, same, above))) in
-    let n5 = other i 5 (λ h. absurd (omega (arith, h, same, above))) in
-    let n8 : is_timestamp i ≡ false = false_from_ne_true _ (λ y. short (sym same ∙ eqb-true i.kind 8 (and_left _ _ y)) (eqb-true (length i.content) 8 (and_right _ _ y))) in
-    ap (λ (k : ℕ). codes " opt(" ++ decimal k ++ codes ")") (sym same) ∙ rw (n1, n2, n3, n4, n5, n8) refl
+    let none : (n : ℕ) → n < 6 → (i.kind == n) ≡ false = λ n small. grind (arith, nat_tests) in
+    let no_stamp : is_timestamp i ≡ false = grind (arith, nat_tests) in
+    ap (λ (k : ℕ). codes " opt(" ++ decimal k ++ codes ")") (sym same)
+    ∙ rw (none 1 (omega arith), none 2 (omega arith), none 3 (omega arith), none 4 (omega arith), none 5 (omega arith), no_stamp) refl
 
 -- ---- the text of a segment
 
@@ -151,11 +146,11 @@ pub packet_text-some : (bytes : List ℕ) → HasLengths bytes
     → packet_text bytes ≡ ports_text (field bytes 0 16) (field bytes 16 16) ++ (flags_text bytes ++ (fields_text bytes ++ options_text (options_of bytes)))
 unfolding packet_text
 packet_text-some bytes h =
-    rw (HasLengths-has_lengths bytes h) refl
+    rw ((has_lengths-Decides bytes).1 h) refl
 
 -- the text of bytes with invalid lengths
 pub packet_text-none : (bytes : List ℕ) → ¬ HasLengths bytes → packet_text bytes ≡ codes "TCP (wire::Error)"
 unfolding packet_text
 packet_text-none bytes h =
-    let short = false_from_ne_true (has_lengths bytes) (λ e. h (has_lengths-HasLengths bytes e)) in
+    let short = false_from_ne_true (has_lengths bytes) (λ e. h ((has_lengths-Decides bytes).0 e)) in
     rw short refl

@@ -1,5 +1,5 @@
 -- The values of Rust types are in range.
-use Rattle.std.proofs.Common.{rules, ◌<◌, ◌^◌, List, [], ◌∷◌, Option, Some, None, IfSome}
+use Rattle.std.proofs.Common.{rules, ◌≢◌, ◌≤◌, ◌<◌, ◌^◌, List, [], ◌∷◌, Option, Some, None, IfSome}
 use Rattle.std.specs.List.{AllByRecursion}
 use base.Fml.{Fml}
 use denote.Array.{each}
@@ -10,10 +10,11 @@ use denote.Struct.Declared.{row}
 use denote.Struct.Tuple.{Tuple}
 use mir.Val.{Val}
 use Rattle.std.specs.contracts.option.Option as option
-use Rattle.wire_tcp.specs.TcpRepr.{IsInRange, header_of}
+use Rattle.wire_tcp.specs.TcpRepr.{IsInRange, header_len_of, header_of}
 use Rattle.wire_tcp.specs.contracts.tcp.repr.TcpRepr.{the_type}
 use Rattle.wire_tcp.specs.declared.tcp.repr.TcpRepr.{TcpRepr}
 use Rattle.wire_tcp.proofs.OptionsBack.{Pair}
+use Rattle.wire_tcp.proofs.TcpReadsBack.{IsWritable}
 
 -- a fact about each element of an array
 each_says : {X : Type 0} (says : X → List Val → Fml) (P : X → Type 0) → ((x : X) (vals : List Val) → shadow (says x vals) → P x)
@@ -42,3 +43,8 @@ value_in_range a v vals s = record {
   sack_ranges = each_says (option.the_row (Tuple (u32 ∷ u32 ∷ []))).own_val (λ r. IfSome r (λ r. (r.0 < 2 ^ 32) × (r.1 < 2 ^ 32))) range_says v.sack_ranges s.1.1.1.1.1.1.1.1.1.1.1.0.0 s.1.1.1.1.1.1.1.1.1.1.1.0.1.1;
   timestamp = search rules;
 }
+
+-- so a value with ports and a header that is not too long can be emitted
+pub value_is_writable : (a : NamedLft) (v : TcpRepr) (vals : List Val) → shadow ((row (the_type a)).own_val v vals) → v.src_port ≢ 0 → v.dst_port ≢ 0 → header_len_of (header_of v) ≤ 60
+    → IsWritable (header_of v)
+value_is_writable a v vals s sender receiver most = record { in_range = value_in_range a v vals s; sender = sender; receiver = receiver; most = most }

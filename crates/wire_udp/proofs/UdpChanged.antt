@@ -1,91 +1,66 @@
--- A header in which one field changed.
-use Rattle.std.proofs.Common.{ℕ, ◌≡◌, ◌≢◌, ◌≤◌, ◌<◌, ◌-◌, Bool, IsTrue, List, drop, length, take, refl, sym, subst, ap, ◌∙◌, arith}
-use Rattle.wire_field.specs.Field.{field, with_field}
+-- A packet in which a field of the header changed.
+use Rattle.std.proofs.Common.{ℕ, ◌≡◌, ◌≢◌, ◌<◌, ◌-◌, Bool, IsTrue, List, drop, length, take, refl, sym, subst, ap, ◌∙◌, arith}
+use Rattle.wire_field.specs.Field.{with_field}
 use Rattle.wire_field.proofs.Cells.{cells-drop}
-use Rattle.wire_field.proofs.Spelled.{AreBytes}
-use Rattle.wire_field.proofs.Written.{field-with_field_same}
 use Rattle.wire_ends.specs.declared.ip_address.IpAddress.{IpAddress}
-use Rattle.wire_udp.specs.Udp.{HasChecksum, Reads, packet_len}
+use Rattle.wire_udp.proofs.UdpComputed.{Reads-is}
+use Rattle.wire_udp.specs.Udp.{HasChecksum, Reads, header_of, packet_len}
 use Rattle.wire_udp.specs.declared.udp.repr.UdpRepr.{UdpRepr}
 
--- the lengths are the same, and the bytes behind the header
-pub record SameShape (old new : List ℕ) : Type 0 where
-  pub long : length new ≡ length old
-  pub len : packet_len new ≡ packet_len old
-  pub behind : drop 8 new ≡ drop 8 old
+-- the new bytes have the same lengths, the same bytes behind the header, and values that f makes of the old ones
+record Sets (old new : List ℕ) (f : UdpRepr → UdpRepr) : Type 0 where
+  long : length new ≡ length old
+  len : packet_len new ≡ packet_len old
+  behind : drop 8 new ≡ drop 8 old
+  values : header_of new ≡ f (header_of old)
 
-pub reads-changed : (old new : List ℕ) (src dst src' dst' : IpAddress) (verified checked : Bool) (v w : UdpRepr) (payload : List ℕ) → Reads old src dst verified v payload → SameShape old new
-    → (IsTrue checked → HasChecksum src' dst' new) → w.src_port ≡ field new 0 16 → w.dst_port ≡ field new 16 16 → w.dst_port ≢ 0 → Reads new src' dst' checked w payload
-reads-changed old new src dst src' dst' verified checked v w payload r s valid src_port dst_port receiver = record {
-  lengths = record {
-    least = omega (arith, s.long, r.lengths.least);
-    header = omega (arith, s.len, r.lengths.header);
-    whole = omega (arith, s.long, s.len, r.lengths.whole);
-  };
-  receiver = λ none. receiver (dst_port ∙ none);
-  checksum = valid;
-  src_port = src_port;
-  dst_port = dst_port;
-  body = r.body ∙ ap (take (packet_len old - 8)) (sym s.behind) ∙ ap (λ (m : ℕ). take (m - 8) (drop 8 new)) (sym s.len);
-}
+-- the new bytes parse as the values that f makes of the old ones
+reads-set : (old new : List ℕ) (f : UdpRepr → UdpRepr) (src dst src' dst' : IpAddress) (verified checked : Bool) (v : UdpRepr) (payload : List ℕ) → Reads old src dst verified v payload → Sets old new f
+    → (IsTrue checked → HasChecksum src' dst' new) → (f v).dst_port ≢ 0 → Reads new src' dst' checked (f v) payload
+reads-set old new f src dst src' dst' verified checked v payload r s valid receiver =
+    let is : f v ≡ header_of new = ap f (Reads-is src dst verified old v payload r) ∙ sym s.values in
+    record {
+      lengths = record {
+        least = omega (arith, s.long, r.lengths.least);
+        header = omega (arith, s.len, r.lengths.header);
+        whole = omega (arith, s.long, s.len, r.lengths.whole);
+      };
+      receiver = λ none. receiver (ap (λ (h : UdpRepr). h.dst_port) is ∙ none);
+      checksum = valid;
+      src_port = ap (λ (h : UdpRepr). h.src_port) is;
+      dst_port = ap (λ (h : UdpRepr). h.dst_port) is;
+      body = r.body ∙ ap (take (packet_len old - 8)) (sym s.behind) ∙ ap (λ (m : ℕ). take (m - 8) (drop 8 new)) (sym s.len);
+    }
 
-receiver-read : (bytes : List ℕ) (src dst : IpAddress) (verified : Bool) (v : UdpRepr) (payload : List ℕ) → Reads bytes src dst verified v payload → v.dst_port ≢ 0
-receiver-read bytes src dst verified v payload r none = r.receiver (sym r.dst_port ∙ none)
-
--- ---- each field
-
--- writing the source port keeps the lengths and the payload
-pub shape-src_port : (bytes : List ℕ) (x : ℕ) → 8 ≤ length bytes → SameShape bytes (with_field bytes 0 16 x)
-shape-src_port bytes x room =
-    subst (λ (l : List ℕ). SameShape l (with_field l 0 16 x)) (sym (cells-drop 8 bytes room)) (record { long = refl; len = refl; behind = refl })
+receiver_read : (bytes : List ℕ) (src dst : IpAddress) (verified : Bool) (v : UdpRepr) (payload : List ℕ) → Reads bytes src dst verified v payload → v.dst_port ≢ 0
+receiver_read bytes src dst verified v payload r none = r.receiver (sym r.dst_port ∙ none)
 
 -- writing the source port changes only the source port of the value
-pub reads-src_port : (bytes : List ℕ) (x : ℕ) (src dst : IpAddress) (verified checked : Bool) (v : UdpRepr) (payload : List ℕ) → AreBytes bytes → x < 65536 → Reads bytes src dst verified v payload
+pub reads-src_port : (bytes : List ℕ) (x : ℕ) (src dst : IpAddress) (verified checked : Bool) (v : UdpRepr) (payload : List ℕ) → x < 65536 → Reads bytes src dst verified v payload
     → (IsTrue checked → HasChecksum src dst (with_field bytes 0 16 x)) → Reads (with_field bytes 0 16 x) src dst checked (record v { src_port = x }) payload
-reads-src_port bytes x src dst verified checked v payload are fits r valid =
-    let room = r.lengths.least in
-    let other : field (with_field bytes 0 16 x) 16 16 ≡ field bytes 16 16 = subst (λ (l : List ℕ). field (with_field l 0 16 x) 16 16 ≡ field l 16 16) (sym (cells-drop 8 bytes room)) refl in
-    reads-changed bytes (with_field bytes 0 16 x) src dst src dst verified checked v (record v { src_port = x }) payload r (shape-src_port bytes x room) valid
-    (omega (arith, fits, field-with_field_same bytes 0 16 x are (omega arith) (omega (arith, room)))) (r.dst_port ∙ sym other) (receiver-read bytes src dst verified v payload r)
-
--- writing the destination port keeps the lengths and the payload
-pub shape-dst_port : (bytes : List ℕ) (x : ℕ) → 8 ≤ length bytes → SameShape bytes (with_field bytes 16 16 x)
-shape-dst_port bytes x room =
-    subst (λ (l : List ℕ). SameShape l (with_field l 16 16 x)) (sym (cells-drop 8 bytes room)) (record { long = refl; len = refl; behind = refl })
+reads-src_port bytes x src dst verified checked v payload fits r valid =
+    reads-set bytes (with_field bytes 0 16 x) (λ h. record h { src_port = x }) src dst src dst verified checked v payload r
+    (subst (λ (l : List ℕ). Sets l (with_field l 0 16 x) (λ h. record h { src_port = x })) (sym (cells-drop 8 bytes r.lengths.least)) (record { long = refl; len = refl; behind = refl; values = grind arith }))
+    valid (receiver_read bytes src dst verified v payload r)
 
 -- writing the destination port changes only the destination port of the value
-pub reads-dst_port : (bytes : List ℕ) (x : ℕ) (src dst : IpAddress) (verified checked : Bool) (v : UdpRepr) (payload : List ℕ) → AreBytes bytes → x < 65536 → x ≢ 0 → Reads bytes src dst verified v payload
+pub reads-dst_port : (bytes : List ℕ) (x : ℕ) (src dst : IpAddress) (verified checked : Bool) (v : UdpRepr) (payload : List ℕ) → x < 65536 → x ≢ 0 → Reads bytes src dst verified v payload
     → (IsTrue checked → HasChecksum src dst (with_field bytes 16 16 x)) → Reads (with_field bytes 16 16 x) src dst checked (record v { dst_port = x }) payload
-reads-dst_port bytes x src dst verified checked v payload are fits some r valid =
-    let room = r.lengths.least in
-    let other : field (with_field bytes 16 16 x) 0 16 ≡ field bytes 0 16 = subst (λ (l : List ℕ). field (with_field l 16 16 x) 0 16 ≡ field l 0 16) (sym (cells-drop 8 bytes room)) refl in
-    reads-changed bytes (with_field bytes 16 16 x) src dst src dst verified checked v (record v { dst_port = x }) payload r (shape-dst_port bytes x room) valid
-    (r.src_port ∙ sym other) (omega (arith, fits, field-with_field_same bytes 16 16 x are (omega arith) (omega (arith, room)))) some
-
--- writing the checksum keeps the lengths and the payload
-pub shape-checksum : (bytes : List ℕ) (x : ℕ) → 8 ≤ length bytes → SameShape bytes (with_field bytes 48 16 x)
-shape-checksum bytes x room =
-    subst (λ (l : List ℕ). SameShape l (with_field l 48 16 x)) (sym (cells-drop 8 bytes room)) (record { long = refl; len = refl; behind = refl })
+reads-dst_port bytes x src dst verified checked v payload fits some r valid =
+    reads-set bytes (with_field bytes 16 16 x) (λ h. record h { dst_port = x }) src dst src dst verified checked v payload r
+    (subst (λ (l : List ℕ). Sets l (with_field l 16 16 x) (λ h. record h { dst_port = x })) (sym (cells-drop 8 bytes r.lengths.least)) (record { long = refl; len = refl; behind = refl; values = grind arith }))
+    valid some
 
 -- the checksum is not part of the value, and it alone depends on the addresses
 pub reads-checksum : (bytes : List ℕ) (x : ℕ) (src dst src' dst' : IpAddress) (verified checked : Bool) (v : UdpRepr) (payload : List ℕ) → Reads bytes src dst verified v payload
     → (IsTrue checked → HasChecksum src' dst' (with_field bytes 48 16 x)) → Reads (with_field bytes 48 16 x) src' dst' checked v payload
 reads-checksum bytes x src dst src' dst' verified checked v payload r valid =
-    let room = r.lengths.least in
-    let cut = sym (cells-drop 8 bytes room) in
-    let first : field (with_field bytes 48 16 x) 0 16 ≡ field bytes 0 16 = subst (λ (l : List ℕ). field (with_field l 48 16 x) 0 16 ≡ field l 0 16) cut refl in
-    let second : field (with_field bytes 48 16 x) 16 16 ≡ field bytes 16 16 = subst (λ (l : List ℕ). field (with_field l 48 16 x) 16 16 ≡ field l 16 16) cut refl in
-    reads-changed bytes (with_field bytes 48 16 x) src dst src' dst' verified checked v v payload r (shape-checksum bytes x room) valid
-    (r.src_port ∙ sym first) (r.dst_port ∙ sym second) (receiver-read bytes src dst verified v payload r)
+    reads-set bytes (with_field bytes 48 16 x) (λ h. h) src dst src' dst' verified checked v payload r
+    (subst (λ (l : List ℕ). Sets l (with_field l 48 16 x) (λ h. h)) (sym (cells-drop 8 bytes r.lengths.least)) (record { long = refl; len = refl; behind = refl; values = refl }))
+    valid (receiver_read bytes src dst verified v payload r)
 
 -- the same bytes with other addresses, or with a valid checksum verified
 pub reads-verified : (bytes : List ℕ) (src dst src' dst' : IpAddress) (verified checked : Bool) (v : UdpRepr) (payload : List ℕ) → Reads bytes src dst verified v payload
     → (IsTrue checked → HasChecksum src' dst' bytes) → Reads bytes src' dst' checked v payload
-reads-verified bytes src dst src' dst' verified checked v payload r valid = record {
-  lengths = r.lengths;
-  receiver = r.receiver;
-  checksum = valid;
-  src_port = r.src_port;
-  dst_port = r.dst_port;
-  body = r.body;
-}
+reads-verified bytes src dst src' dst' verified checked v payload r valid =
+    reads-set bytes bytes (λ h. h) src dst src' dst' verified checked v payload r (record { long = refl; len = refl; behind = refl; values = refl }) valid (receiver_read bytes src dst verified v payload r)

@@ -1,7 +1,6 @@
 -- An emitted UDP packet parses as the value and the payload from which it was emitted.
-use Rattle.std.proofs.Common.{ℕ, ◌≡◌, ◌≢◌, ◌≤◌, ◌<◌, ◌+◌, ◌-◌, ◌%◌, ◌==◌, ◌⊎◌, inl, inr, Bool, true, false, IsTrue, List, ◌++◌, length, sum, take, refl, sym, ap, ◌∙◌, length-append, arith}
+use Rattle.std.proofs.Common.{ℕ, ◌≡◌, ◌≢◌, ◌≤◌, ◌<◌, ◌+◌, ◌-◌, ◌%◌, ◌⊎◌, inl, inr, Bool, true, false, IsTrue, List, ◌++◌, length, sum, take, refl, sym, ap, ◌∙◌, length-append, arith}
 use Rattle.std.proofs.Math.Seq.{take-append_seam}
-use Rattle.std.proofs.lemmas.Bool.{cases_lt}
 use Rattle.std.proofs.lemmas.Bool.Decides.{nat_tests}
 use Rattle.wire_ends.specs.declared.ip_address.IpAddress.{IpAddress}
 use Rattle.wire_checksum.proofs.Residues.{residue-bound, residue-complement, residue-of_zero, residue-same}
@@ -10,7 +9,6 @@ use Rattle.wire_checksum.specs.PseudoHeader.{pseudo_header_bytes, with_pseudo_he
 use Rattle.wire_ends.specs.IpAddress.{octets_of}
 use Rattle.wire_checksum.specs.WordSum.{residue, words}
 use Rattle.wire_ends.specs.declared.ip_protocol.IpProtocol.TheVariants as protocol
-use Rattle.wire_udp.proofs.UdpEmitted.{packet_len-packet_with, take-packet_with}
 use Rattle.wire_udp.specs.Udp.{Reads, bytes_of, checksum_for, header_bytes, packet_len, packet_sum, packet_with}
 use Rattle.wire_udp.specs.declared.udp.repr.UdpRepr.{UdpRepr}
 
@@ -23,16 +21,21 @@ pub record IsInRange (v : UdpRepr) (payload : List ℕ) (src dst : IpAddress) : 
   pub src_octets : length (octets_of src) % 2 ≡ 0
   pub dst_octets : length (octets_of dst) % 2 ≡ 0
 
+-- the length of a packet is the length of header and payload
+packet_len-packet_with : (v : UdpRepr) (payload rest : List ℕ) (checksum : ℕ) → length payload ≤ 65527 → packet_len (packet_with v payload checksum ++ rest) ≡ 8 + length payload
+packet_len-packet_with v payload rest checksum fits = omega arith
+
+-- cut to that length, the bytes are the packet
+take-packet_with : (v : UdpRepr) (payload rest : List ℕ) (checksum : ℕ) → length payload ≤ 65527
+    → take (packet_len (packet_with v payload checksum ++ rest)) (packet_with v payload checksum ++ rest) ≡ packet_with v payload checksum
+take-packet_with v payload rest checksum fits =
+    let packet = packet_with v payload checksum in
+    let long : packet_len (packet ++ rest) ≡ length packet = packet_len-packet_with v payload rest checksum fits ∙ omega arith in
+    ap (λ (n : ℕ). take n (packet ++ rest)) long ∙ take-append_seam packet rest
+
 -- the checksum for a sum
 pub checksum_for-cases : (sum : ℕ) → sum ≤ 65535 → ((sum ≡ 65535) × (checksum_for sum ≡ 65535)) ⊎ ((sum < 65535) × (checksum_for sum ≡ 65535 - sum))
-checksum_for-cases sum h = elim (cases_lt sum 65535) [
-  | inl below ↦
-      let some : (65535 - sum == 0) ≡ false = grind (arith, nat_tests) in
-      inr (below, rw some refl)
-  | inr full ↦
-      let none : (65535 - sum == 0) ≡ true = grind (arith, nat_tests) in
-      inl (omega arith, rw none refl)
-]
+checksum_for-cases sum h = grind (arith, nat_tests)
 
 -- it is not 0
 pub checksum_for-bounds : (sum : ℕ) → sum ≤ 65535 → (1 ≤ checksum_for sum) × (checksum_for sum ≤ 65535)

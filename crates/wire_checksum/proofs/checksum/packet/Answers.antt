@@ -1,6 +1,6 @@
 use Rattle.std.proofs.Common.{◌≡◌, ◌%◌, ◌∙◌, length, rules}
 use Rattle.wire_ends.specs.IpAddress.{octets_of}
-use Rattle.wire_checksum.proofs.Joined.{total-with_pseudo_header}
+use Rattle.wire_checksum.proofs.PseudoSums.{total-with_pseudo_header}
 use Rattle.wire_checksum.proofs.checksum.packet.Goals as goal
 
 pub returns : goal.returns

@@ -30,12 +30,7 @@ five : (ns : List ℕ) → length ns ≡ 5 → get_or ns 0 0 < 4294967296 → ge
 five (a ∷ b ∷ c ∷ d ∷ e ∷ []) long i j k l m =
     folded a b c d e (upper a) (upper b) (upper c) (upper d) (upper e) (lower a) (lower b) (lower c) (lower d) (lower e)
     (halves a i) (halves b j) (halves c k) (halves d l) (halves e m) ∙ sym (total a b c d e)
-five [] long i j k l m = absurd (omega arith)
-five (a ∷ []) long i j k l m = absurd (omega arith)
-five (a ∷ b ∷ []) long i j k l m = absurd (omega arith)
-five (a ∷ b ∷ c ∷ []) long i j k l m = absurd (omega arith)
-five (a ∷ b ∷ c ∷ d ∷ []) long i j k l m = absurd (omega arith)
-five (a ∷ b ∷ c ∷ d ∷ e ∷ f ∷ more) long i j k l m = absurd (omega arith)
+five other long i j k l m = absurd (omega arith)
 
 pub returns : goal.returns
 returns c =

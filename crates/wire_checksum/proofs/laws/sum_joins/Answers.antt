@@ -1,4 +1,4 @@
-use Rattle.wire_checksum.proofs.Joined.{sum-joins}
+use Rattle.wire_checksum.proofs.PseudoSums.{sum-joins}
 use Rattle.wire_checksum.proofs.laws.sum_joins.Goals as goal
 
 pub returns : goal.returns

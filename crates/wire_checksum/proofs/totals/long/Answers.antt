@@ -1,4 +1,4 @@
-use Rattle.wire_checksum.proofs.Wholes.{with-tail}
+use Rattle.wire_checksum.proofs.WordLists.{with-tail}
 use Rattle.wire_checksum.proofs.totals.long.Goals as goal
 
 pub returns-then-bytes-lt2048 : goal.returns-then-bytes-lt2048

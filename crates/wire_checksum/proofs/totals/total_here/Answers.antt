@@ -1,4 +1,4 @@
-use Rattle.wire_checksum.proofs.Wholes.{with-tail}
+use Rattle.wire_checksum.proofs.WordLists.{with-tail}
 use Rattle.wire_checksum.proofs.totals.total_here.Goals as goal
 
 pub returns-else-bytes-ge320 : goal.returns-else-bytes-ge320

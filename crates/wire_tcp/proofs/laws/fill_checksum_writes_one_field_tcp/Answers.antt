@@ -1,5 +1,4 @@
-use Rattle.std.proofs.Common.{◌≡◌, ◌%◌, length, sym, subst, ◌∙◌, arith, rules}
-use Rattle.wire_ends.specs.IpAddress.{octets_of}
+use Rattle.std.proofs.Common.{sym, subst, ◌∙◌, arith, rules}
 use Rattle.wire_field.proofs.Rewritten.{with_field-twice}
 use Rattle.wire_field.proofs.Spelled.{AreBytes}
 use Rattle.wire_tcp.proofs.Sums.{verifies}
@@ -13,7 +12,5 @@ returns-clause-fields c =
 
 pub returns-clause-valid : goal.returns-clause-valid
 returns-clause-valid c =
-    let src : length (octets_of c.args.src_addr) % 2 ≡ 0 = search rules in
-    let dst : length (octets_of c.args.dst_addr) % 2 ≡ 0 = search rules in
     subst (Verifies c.args.src_addr c.args.dst_addr) (sym c.fill_checksum.ensures.holds)
-    (verifies c.args.src_addr c.args.dst_addr (packet_bytes_mut c.args.packet.now) src dst (omega (arith, c.requires.header)))
+    (verifies c.args.src_addr c.args.dst_addr (packet_bytes_mut c.args.packet.now) (search rules) (search rules) (omega (arith, c.requires.header)))

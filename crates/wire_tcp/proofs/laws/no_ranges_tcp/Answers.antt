@@ -1,4 +1,4 @@
-use Rattle.wire_tcp.proofs.NoRanges.{header_len-no_ranges, normal-no_ranges}
+use Rattle.wire_tcp.proofs.TcpForms.{header_len-no_ranges, normal-no_ranges}
 use Rattle.wire_tcp.specs.TcpRepr.{header_of}
 use Rattle.wire_tcp.proofs.laws.no_ranges_tcp.Goals as goal
 

@@ -1,8 +1,9 @@
-use Rattle.std.proofs.Common.{◌≡◌, ◌%◌, ℕ, List, subst, sym, rules}
+use Rattle.std.proofs.Common.{◌≡◌, ◌%◌, inl, false, subst, sym, arith, rules}
 use Rattle.wire_field.proofs.Spelled.{AreBytes}
 use Rattle.wire_field.specs.Field.{field, with_field}
-use Rattle.wire_ipv4.specs.Ipv4.{HasChecksum, Reads, packet_bytes_mut, with_updated_checksum}
-use Rattle.wire_ipv4.proofs.Ipv4Updated.{reads-updated_ecn, valid-ecn}
+use Rattle.wire_ipv4.specs.Ipv4.{HasChecksum, packet_bytes_mut, with_updated_checksum}
+use Rattle.wire_ipv4.proofs.Ipv4Changed.{reads-no_value, reads-summed}
+use Rattle.wire_ipv4.proofs.Ipv4Updated.{valid-ecn}
 use Rattle.wire_ipv4.proofs.ipv4.update.Ipv4PacketMut.update_ecn.Goals as goal
 
 written : (c : goal.After-update_checksum)
@@ -14,5 +15,5 @@ returns-clause-valid c header room valid = subst HasChecksum (sym (written c)) (
 
 pub returns-clause-reads : goal.returns-clause-reads
 returns-clause-reads c v verified r =
-    subst (λ (l : List ℕ). Reads l verified v) (sym (written c))
-    (reads-updated_ecn (packet_bytes_mut c.args.self.now) c.args.value verified v (subst AreBytes c.as_bytes.ensures c.octets_fit.ensures) r)
+    reads-summed (with_field (packet_bytes_mut c.args.self.now) 14 2 c.args.value) _ _ false verified v (written c)
+    (reads-no_value (packet_bytes_mut c.args.self.now) 14 2 c.args.value verified v (subst AreBytes c.as_bytes.ensures c.octets_fit.ensures) (omega arith) (inl (omega arith, omega arith)) r) (λ on. returns-clause-valid c r.lengths.header (omega (arith, r.lengths.within, r.lengths.whole)) (r.checksum on))

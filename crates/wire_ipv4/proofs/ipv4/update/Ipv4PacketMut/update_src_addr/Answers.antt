@@ -1,26 +1,21 @@
-use Rattle.std.proofs.Common.{◌≡◌, ℕ, List, length, slice_range, subst, sym, rules}
+use Rattle.std.proofs.Common.{◌≡◌, slice_range, false, subst, sym, arith, rules}
 use Rattle.wire_checksum.specs.WordSum.{sum_of_bytes}
 use Rattle.wire_field.proofs.Spelled.{AreBytes}
 use Rattle.wire_field.specs.Field.{with_range}
-use Rattle.wire_ipv4.specs.Ipv4.{HasChecksum, Reads, packet_bytes_mut, with_updated_checksum}
-use Rattle.wire_ipv4.proofs.Ipv4Updated.{reads-updated_src_addr, valid-src_addr}
+use Rattle.wire_ipv4.specs.Ipv4.{HasChecksum, packet_bytes_mut, with_updated_checksum}
+use Rattle.wire_ipv4.proofs.Ipv4Changed.{reads-src_addr, reads-summed}
+use Rattle.wire_ipv4.proofs.Ipv4Updated.{valid-src_addr}
 use Rattle.wire_ipv4.proofs.ipv4.update.Ipv4PacketMut.update_src_addr.Goals as goal
 
 written : (c : goal.After-update_checksum)
     → packet_bytes_mut c.update_checksum.new.self ≡ with_updated_checksum (with_range (packet_bytes_mut c.args.self.now) 12 16 c.args.value) (sum_of_bytes (slice_range (packet_bytes_mut c.args.self.now) 12 16)) (sum_of_bytes c.args.value)
 written c = search rules
 
-octets : (c : goal.After-update_checksum) → AreBytes c.args.value
-octets c = search rules
-
-four : (c : goal.After-update_checksum) → length c.args.value ≡ 4
-four c = search rules
-
 pub returns-clause-valid : goal.returns-clause-valid
 returns-clause-valid c header room valid =
-    subst HasChecksum (sym (written c)) (valid-src_addr (packet_bytes_mut c.args.self.now) c.args.value (subst AreBytes c.as_bytes.ensures c.octets_fit.ensures) (octets c) (four c) header room valid)
+    subst HasChecksum (sym (written c)) (valid-src_addr (packet_bytes_mut c.args.self.now) c.args.value (subst AreBytes c.as_bytes.ensures c.octets_fit.ensures) (search rules) (search rules) header room valid)
 
 pub returns-clause-reads : goal.returns-clause-reads
 returns-clause-reads c v verified r =
-    subst (λ (l : List ℕ). Reads l verified (record v { src_addr = c.args.value })) (sym (written c))
-    (reads-updated_src_addr (packet_bytes_mut c.args.self.now) c.args.value verified v (subst AreBytes c.as_bytes.ensures c.octets_fit.ensures) (octets c) (four c) r)
+    reads-summed (with_range (packet_bytes_mut c.args.self.now) 12 16 c.args.value) _ _ false verified (record v { src_addr = c.args.value }) (written c)
+    (reads-src_addr (packet_bytes_mut c.args.self.now) c.args.value verified false v (search rules) r (λ no. cc)) (λ on. returns-clause-valid c r.lengths.header (omega (arith, r.lengths.within, r.lengths.whole)) (r.checksum on))

@@ -1,9 +1,9 @@
-use Rattle.std.proofs.Common.{◌≡◌, ℕ, List, subst, sym, arith, rules}
+use Rattle.std.proofs.Common.{◌≡◌, false, subst, sym, arith, rules}
 use Rattle.wire_field.proofs.Spelled.{AreBytes}
 use Rattle.wire_field.specs.Field.{field, with_field}
 use Rattle.wire_tcp.specs.Tcp.{Verifies, packet_bytes_mut, with_updated_checksum}
-use Rattle.wire_tcp.proofs.TcpUpdated.{reads-updated_dst_port, valid-word}
-use Rattle.wire_tcp.specs.TcpRepr.{Reads}
+use Rattle.wire_tcp.proofs.Sums.{valid-word}
+use Rattle.wire_tcp.proofs.TcpChanged.{reads-dst_port, reads-summed}
 use Rattle.wire_tcp.proofs.tcp.update.TcpPacketMut.update_dst_port.Goals as goal
 
 written : (c : goal.After-update_checksum)
@@ -16,5 +16,5 @@ returns-clause-valid c src dst s d valid =
 
 pub returns-clause-reads : goal.returns-clause-reads
 returns-clause-reads c src dst verified v payload s d some r =
-    subst (λ (l : List ℕ). Reads l src dst verified (record v { dst_port = c.args.value }) payload) (sym (written c))
-    (reads-updated_dst_port src dst (packet_bytes_mut c.args.self.now) c.args.value verified v payload (subst AreBytes c.as_bytes.ensures c.octets_fit.ensures) (search rules) some s d r)
+    reads-summed (with_field (packet_bytes_mut c.args.self.now) 16 16 c.args.value) _ _ src dst src dst false verified (record v { dst_port = c.args.value }) payload (written c)
+    (reads-dst_port (packet_bytes_mut c.args.self.now) c.args.value src dst verified false v payload (search rules) some r (λ no. cc)) (λ on. returns-clause-valid c src dst s d (r.checksum on))

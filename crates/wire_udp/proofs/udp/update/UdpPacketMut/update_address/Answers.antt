@@ -1,38 +1,31 @@
-use Rattle.std.proofs.Common.{◌≡◌, ◌%◌, ℕ, List, length, subst, sym, rules}
+use Rattle.std.proofs.Common.{◌≡◌, subst, sym, refl, arith, rules}
 use Rattle.wire_checksum.specs.WordSum.{sum_of_bytes}
 use Rattle.wire_ends.specs.IpAddress.{octets_of}
 use Rattle.wire_field.proofs.Spelled.{AreBytes}
-use Rattle.wire_udp.specs.Udp.{HasChecksum, Reads, packet_bytes_mut, with_updated_checksum}
-use Rattle.wire_udp.proofs.UdpUpdated.{reads-updated_dst_addr, reads-updated_src_addr, valid-dst_addr, valid-src_addr}
+use Rattle.wire_udp.specs.Udp.{HasChecksum, packet_bytes_mut, with_updated_checksum}
+use Rattle.wire_udp.proofs.UdpUpdated.{reads-updated, valid-addresses}
 use Rattle.wire_udp.proofs.udp.update.UdpPacketMut.update_address.Goals as goal
 
 written : (c : goal.After-update_checksum)
     → packet_bytes_mut c.update_checksum.new.self ≡ with_updated_checksum (packet_bytes_mut c.args.self.now) (sum_of_bytes (octets_of c.args.old.now)) (sum_of_bytes (octets_of c.args.new.now))
 written c = search rules
 
-even_old : (c : goal.After-update_checksum) → length (octets_of c.args.old.now) % 2 ≡ 0
-even_old c = search rules
-
-even_new : (c : goal.After-update_checksum) → length (octets_of c.args.new.now) % 2 ≡ 0
-even_new c = search rules
-
-bytes : (c : goal.After-update_checksum) → AreBytes (packet_bytes_mut c.args.self.now)
-bytes c = subst AreBytes c.as_bytes.ensures c.octets_fit.ensures
-
 pub returns-clause-valid_src : goal.returns-clause-valid_src
 returns-clause-valid_src c dst d lengths valid =
-    subst (HasChecksum c.args.new.now dst) (sym (written c)) (valid-src_addr c.args.old.now dst c.args.new.now (packet_bytes_mut c.args.self.now) (bytes c) (even_old c) d (even_new c) c.requires.family lengths valid)
+    subst (HasChecksum c.args.new.now dst) (sym (written c))
+    (valid-addresses c.args.old.now dst c.args.new.now dst (packet_bytes_mut c.args.self.now) (octets_of c.args.old.now) (octets_of c.args.new.now)
+    (subst AreBytes c.as_bytes.ensures c.octets_fit.ensures) (search rules) d (search rules) d c.requires.family lengths (omega arith) valid)
 
 pub returns-clause-valid_dst : goal.returns-clause-valid_dst
 returns-clause-valid_dst c src s lengths valid =
-    subst (HasChecksum src c.args.new.now) (sym (written c)) (valid-dst_addr src c.args.old.now c.args.new.now (packet_bytes_mut c.args.self.now) (bytes c) s (even_old c) (even_new c) lengths valid)
+    subst (HasChecksum src c.args.new.now) (sym (written c))
+    (valid-addresses src c.args.old.now src c.args.new.now (packet_bytes_mut c.args.self.now) (octets_of c.args.old.now) (octets_of c.args.new.now)
+    (subst AreBytes c.as_bytes.ensures c.octets_fit.ensures) s (search rules) s (search rules) refl lengths (omega arith) valid)
 
 pub returns-clause-reads_src : goal.returns-clause-reads_src
 returns-clause-reads_src c dst verified v payload d r =
-    subst (λ (l : List ℕ). Reads l c.args.new.now dst verified v payload) (sym (written c))
-    (reads-updated_src_addr c.args.old.now dst c.args.new.now (packet_bytes_mut c.args.self.now) verified v payload (bytes c) (even_old c) d (even_new c) c.requires.family r)
+    reads-updated (packet_bytes_mut c.args.self.now) _ _ _ c.args.old.now dst c.args.new.now dst verified verified v payload (written c) r (λ on. returns-clause-valid_src c dst d r.lengths (r.checksum on))
 
 pub returns-clause-reads_dst : goal.returns-clause-reads_dst
 returns-clause-reads_dst c src verified v payload s r =
-    subst (λ (l : List ℕ). Reads l src c.args.new.now verified v payload) (sym (written c))
-    (reads-updated_dst_addr src c.args.old.now c.args.new.now (packet_bytes_mut c.args.self.now) verified v payload (bytes c) s (even_old c) (even_new c) r)
+    reads-updated (packet_bytes_mut c.args.self.now) _ _ _ src c.args.old.now src c.args.new.now verified verified v payload (written c) r (λ on. returns-clause-valid_dst c src s r.lengths (r.checksum on))
