@@ -13,10 +13,10 @@ use Rattle.ip_wire.specs.declared.TcpControl.{TcpControl}
 use Rattle.ip_wire.specs.declared.TcpControl.TheVariants as control
 use Rattle.c_structs.specs.Codes.{network_code, transport_code, verdict_code}
 use Rattle.c_structs.specs.FrameFields.{arp_fault, behind, ipv4_fault, ipv6_fault, nothing_of, rejected, tcp_fault, udp_fault, with_fragment_by, with_ipv4_header, with_ipv6_header, with_link, with_message, with_tcp_header, with_udp_header}
-use Rattle.c_structs.specs.declared.codes.Network.TheVariants as network
+use Rattle.c_structs.specs.declared.codes.NetworkKind.TheVariants as network
 use Rattle.c_structs.specs.declared.codes.Reason.{Reason}
 use Rattle.c_structs.specs.declared.codes.Reason.TheVariants as reason
-use Rattle.c_structs.specs.declared.codes.Transport.TheVariants as transport
+use Rattle.c_structs.specs.declared.codes.TransportKind.TheVariants as transport
 use Rattle.c_structs.specs.declared.codes.Verdict.TheVariants as verdict
 use Rattle.c_structs.specs.declared.types.FrameFields.{FrameFields}
 use Rattle.net_base.specs.Checksum.{all_are, verifies}
