@@ -1,5 +1,5 @@
 -- What fills the front of a slice.
-use Rattle.std.proofs.Common.{◌≡◌, ◌∙◌, ℕ, ℤ, pos, SFits, to_z, of_z, w64, ◌+◌, ◌≤◌, List, [], ◌++◌, Option, Some, None, drop, length, slice_range, take, ap, sym, append-nil, arith}
+use Rattle.std.proofs.Common.{◌≡◌, ◌∙◌, ℕ, ℤ, pos, SFits, to_z, of_z, w64, ◌+◌, ◌≤◌, List, [], ◌++◌, Option, Some, None, drop, length, slice_range, take, ap, arith}
 use Rattle.std.proofs.lemmas.Grind.{common_steps}
 use Rattle.std.proofs.lemmas.Int.{to_z-of_z}
 use Rattle.c_structs.specs.Written.{Fills, Writes, returned}
@@ -19,17 +19,6 @@ pub filled-behind : (header inner old front written new : List ℕ) (size len : 
 filled-behind header inner old front written new size len room f is is_written n fits is_new =
     let header_is = front_filled header old front size room (is ∙ is_written) in
     (grind (arith, common_steps), grind (arith, common_steps), grind (arith, common_steps))
-
--- ---- a part of the slice
-
--- what is written into as many bytes as it takes stands at the front of the slice, and nothing follows it there
-pub filled-part : (bytes : List ℕ → List ℕ) (old front written rest : List ℕ) (len : ℕ) → len ≤ length old → length (bytes []) ≡ len
-    → front ≡ written → written ≡ bytes (drop len (take len old)) ++ drop len (take len old) → rest ≡ drop len old
-    → (len ≡ length (bytes [])) × (len ≤ length old) × (front ++ rest ≡ bytes [] ++ drop len old)
-filled-part bytes old front written rest len room size is is_written behind =
-    let none : drop len (take len old) ≡ [] = grind (arith, common_steps) in
-    let whole : front ≡ bytes [] = is ∙ is_written ∙ ap (λ part. bytes part ++ part) none ∙ append-nil (bytes []) in
-    (sym size, room, ap (λ part. part ++ rest) whole ∙ ap (λ part. bytes [] ++ part) behind)
 
 -- ---- what C gets
 

@@ -76,7 +76,7 @@ filled-front frame bytes old new n e room same is =
 
 -- ---- UDP
 
-length-udp : (v : UdpRepr) (payload : List ℕ) (src dst : IpAddress) → length (udp.bytes_of v payload src dst true) ≡ 8 + length payload
+pub length-udp : (v : UdpRepr) (payload : List ℕ) (src dst : IpAddress) → length (udp.bytes_of v payload src dst true) ≡ 8 + length payload
 length-udp v payload src dst = simp length-append (omega arith)
 
 -- the frame of a UDP packet is its headers and the packet

@@ -8,7 +8,6 @@ mod Ipv4Words
 mod Numbered
 mod StoredFrame
 mod StoredHeaders
-mod StoredOnce
 mod StoredParts
 mod TcpResummed
 mod UdpKept

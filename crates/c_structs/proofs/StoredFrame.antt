@@ -1,5 +1,5 @@
 -- The struct of a frame that is parsed whole stores its values.
-use Rattle.std.proofs.Common.{ℕ, ◌≡◌, ◌∙◌, ◌↔◌, ◌≢◌, ◌⊎◌, inl, inr, ◌==◌, if◌then◌else◌, Bool, true, false, IsTrue, List, Some, drop, take, refl, sym, arith}
+use Rattle.std.proofs.Common.{ℕ, ◌≡◌, ◌∙◌, ◌↔◌, ◌≢◌, ◌⊎◌, inl, inr, ◌==◌, nat_lt, if◌then◌else◌, Bool, true, false, IsTrue, List, Some, ap, drop, length, take, refl, sym, arith}
 use Rattle.std.proofs.lemmas.Bool.{eqb-true}
 use Rattle.ip_wire.proofs.ArpComputed.{arp_of-Reads}
 use Rattle.ip_wire.proofs.Ipv4Computed.{ipv4_of-Reads}
@@ -10,7 +10,7 @@ use Rattle.ip_wire.proofs.TcpChanged as tcp_changed
 use Rattle.ip_wire.proofs.UdpChanged as udp_changed
 use Rattle.ip_wire.specs.Arp.{arp_of}
 use Rattle.ip_wire.specs.Frame.{Carried, ReadsTransportBy, ReadsFrame, ReadsPacket, Transport, datagram, ipv4_payload, message, other, packet, packet_payload, segment}
-use Rattle.ip_wire.specs.Ip.{dst_addr_of, next_header_of, src_addr_of}
+use Rattle.ip_wire.specs.Ip.{ReadsHeader, dst_addr_of, next_header_of, src_addr_of}
 use Rattle.ip_wire.specs.Ipv4 as ipv4
 use Rattle.ip_wire.specs.Ipv4.{ipv4_of}
 use Rattle.ip_wire.specs.Ipv6 as ipv6
@@ -20,14 +20,16 @@ use Rattle.ip_wire.specs.Udp as udp
 use Rattle.ip_wire.specs.Types.{ArpRepr, EthernetProtocol, EthernetRepr, IpAddress, IpProtocol, IpRepr, Ipv4, Ipv4Repr, Ipv6, Ipv6Repr}
 use Rattle.ip_wire.specs.declared.ArpRepr.TheVariants.{EthernetIpv4}
 use Rattle.ip_wire.specs.declared.EthernetProtocol.TheVariants as ethertype
-use Rattle.c_structs.proofs.StoredHeaders.{fields_of-linked, headed, headed-plain, linked, other-chosen, stores-ipv4, stores-ipv6, stores-transport, stores-value, transported, with_transport_by-read}
+use Rattle.ip_wire.specs.declared.IpProtocol.TheVariants as protocol
+use Rattle.c_structs.proofs.StoredHeaders.{fields_of-linked, is-headed, is-transported, other-chosen, with_transport_by-read}
 use Rattle.c_structs.specs.Codes.{verdict_code}
 use Rattle.c_structs.specs.FrameFields.{fields_of, udp_verdict, with_carried, with_fragment_by, with_ipv4_header, with_ipv6_header, with_message, with_payload}
 use Rattle.c_structs.specs.declared.codes.Verdict.{Verdict}
 use Rattle.c_structs.specs.declared.codes.Verdict.TheVariants as verdict
 use Rattle.ip_wire.specs.Field.{field}
-use Rattle.c_structs.specs.Stored.{HasVerdicts, Stores, unchecked}
+use Rattle.c_structs.specs.Stored.{HasVerdicts, Stores, headed, linked, struct_of, transported, unchecked}
 use Rattle.c_structs.specs.declared.types.FrameFields.{FrameFields}
+use Rattle.c_structs.specs.declared.types.Ip.{Ip}
 use Rattle.net_base.specs.Checksum.{verifies}
 use Rattle.net_base.specs.declared.ChecksumCapabilities.{ChecksumCapabilities}
 
@@ -52,43 +54,66 @@ pub with_carried-choice : (f : FrameFields) (t : EthernetProtocol) (bytes : List
     → with_carried f t bytes ≡ (if ipv4.is_fragment bytes then with_ipv4_header f bytes w else with_payload (with_ipv4_header f bytes w) (Ipv4 w) (ipv4_payload bytes))
 with_carried-choice f t bytes w type read = rw (type, read) refl
 
--- the struct of a frame with a packet
-fields_of-packet : (frame : List ℕ) (v : EthernetRepr) (w : IpRepr) (t : Transport) → ReadsFrame unchecked frame v (packet w t)
-    → fields_of frame ≡ transported (headed frame v w) (src_addr_of w) (dst_addr_of w) (packet_payload w (drop 14 frame)) t
-fields_of-packet frame v (Ipv4 w) t r =
+-- the struct of a frame that is parsed whole
+fields_of-read : (frame : List ℕ) (v : EthernetRepr) (w : Carried) → ReadsFrame unchecked frame v w → fields_of frame ≡ struct_of frame v w
+fields_of-read frame v (message w) r =
+    let (type, inner) = r.reads_carried in
+    let read = (arp_of-Reads (drop 14 frame) w).1 inner in
+    fields_of-linked frame v r.reads_header ∙ with_carried-arp (linked frame v) v.ethertype (drop 14 frame) w type read
+fields_of-read frame v (packet (Ipv4 w) t) r =
     let bytes = drop 14 frame in
     let (type, (header, whole), inner) = r.reads_carried in
     let read = (ipv4_of-Reads false bytes w).1 header in
     fields_of-linked frame v r.reads_header ∙ with_carried-ipv4 (linked frame v) v.ethertype bytes w type read whole
     ∙ with_transport_by-read (headed frame v (Ipv4 w)) w.next_header (src_addr_of (Ipv4 w)) (dst_addr_of (Ipv4 w)) (ipv4_payload bytes) t inner
-fields_of-packet frame v (Ipv6 w) t r =
+fields_of-read frame v (packet (Ipv6 w) t) r =
     let bytes = drop 14 frame in
     let (type, header, inner) = r.reads_carried in
     let read = (ipv6_of-Reads bytes w).1 header in
     fields_of-linked frame v r.reads_header ∙ with_carried-ipv6 (linked frame v) v.ethertype bytes w type read
     ∙ with_transport_by-read (headed frame v (Ipv6 w)) w.next_header (src_addr_of (Ipv6 w)) (dst_addr_of (Ipv6 w)) (ipv6.payload_of bytes) t inner
 
--- the struct of a frame with an ARP packet
-fields_of-message : (frame : List ℕ) (v : EthernetRepr) (w : ArpRepr) → ReadsFrame unchecked frame v (message w)
-    → fields_of frame ≡ with_message (linked frame v) w
-fields_of-message frame v w r =
-    let (type, inner) = r.reads_carried in
-    let read = (arp_of-Reads (drop 14 frame) w).1 inner in
-    fields_of-linked frame v r.reads_header ∙ with_carried-arp (linked frame v) v.ethertype (drop 14 frame) w type read
+-- what a transport header leaves as it is
+record KeepsHeader (f g : FrameFields) : Type 0 where
+  network : g.network ≡ f.network
+  checksum : g.ipv4_checksum ≡ f.ipv4_checksum
+  ip : g.ip ≡ f.ip
 
--- the struct of a frame that is read stores its values
-pub stores-read : (frame : List ℕ) (v : EthernetRepr) (w : Carried) → ReadsFrame unchecked frame v w → Stores (fields_of frame) frame v w
-stores-read frame v (message w) r = rw (fields_of-message frame v w r) (stores-value frame v w)
-stores-read frame v (packet (Ipv4 w) t) r =
-    let (type, (header, whole), inner) = r.reads_carried in
-    let (read, none) = headed-plain frame v (Ipv4 w) in
-    rw (fields_of-packet frame v (Ipv4 w) t r) (stores-transport (headed frame v (Ipv4 w)) frame v (Ipv4 w) t (stores-ipv4 frame v w header) read none inner)
-stores-read frame v (packet (Ipv6 w) t) r =
+kept : (f : FrameFields) (src dst : IpAddress) (bytes : List ℕ) (t : Transport) → KeepsHeader f (transported f src dst bytes t)
+kept f src dst bytes (datagram u q) = record { network = refl; checksum = refl; ip = refl }
+kept f src dst bytes (segment u q) = record { network = refl; checksum = refl; ip = refl }
+kept f src dst bytes (other q) = record { network = refl; checksum = refl; ip = refl }
+
+-- the header of a packet that is no fragment
+plain : (bytes : List ℕ) (w : IpRepr) → ReadsPacket unchecked bytes w → ReadsHeader bytes false w
+plain bytes (Ipv4 w) r = r.0
+plain bytes (Ipv6 w) r = r
+
+stores-struct : (frame : List ℕ) (v : EthernetRepr) (w : Carried) → ReadsFrame unchecked frame v w → Stores (struct_of frame v w) frame v w
+stores-struct frame v (message (EthernetIpv4 operation source_hardware source_protocol target_hardware target_protocol)) r =
+    record { fields = refl; values = tt; payload = record { len = refl; octets = refl } }
+stores-struct frame v (packet w t) r =
+    let bytes = packet_payload w (drop 14 frame) in
     let (type, header, inner) = r.reads_carried in
-    let (read, none) = headed-plain frame v (Ipv6 w) in
-    rw (fields_of-packet frame v (Ipv6 w) t r) (stores-transport (headed frame v (Ipv6 w)) frame v (Ipv6 w) t (stores-ipv6 frame v w header) read none inner)
+    let h = is-headed frame v w (plain (drop 14 frame) w header) in
+    let d = is-transported (headed frame v w) (next_header_of w) (src_addr_of w) (dst_addr_of w) frame bytes t h.payload inner in
+    let k = kept (headed frame v w) (src_addr_of w) (dst_addr_of w) bytes t in
+    record { fields = refl; values = (ap (λ (i : Ip). i.protocol) k.ip ∙ h.protocol, d.values); payload = d.payload }
+
+-- the struct of a frame that is parsed whole stores its values
+pub stores-read : (frame : List ℕ) (v : EthernetRepr) (w : Carried) → ReadsFrame unchecked frame v w → Stores (fields_of frame) frame v w
+stores-read frame v w r = rw (fields_of-read frame v w r) (stores-struct frame v w r)
 
 -- ---- checksums
+
+-- a choice of two structs with this network header
+pub chosen-network : (b : Bool) (f g : FrameFields) (n : ℕ) → f.network ≡ n → g.network ≡ n → (if b then f else g).network ≡ n
+chosen-network true f g n a b = a
+chosen-network false f g n a b = b
+
+pub fragment-network : (f : FrameFields) (p : IpProtocol) (bytes : List ℕ) → (with_fragment_by f p bytes).network ≡ f.network
+fragment-network f protocol.Ipv6Frag bytes = chosen-network (nat_lt (length bytes) 8) f _ f.network refl refl
+fragment-network f p bytes = refl
 
 -- the first of two verdicts, where the second is not "right"
 choice-is : (b : Bool) (y : Verdict) → verdict_code y ≢ 1 → (verdict_code (if b then verdict.Right else y) ≡ 1) ↔ (b ≡ true)
@@ -136,7 +161,7 @@ packet-verdict caps frame v (Ipv4 w) (r, whole) = (
   λ h. (ipv4_changed.reads-verified (drop 14 frame) false (verifies caps.ipv4) w r (λ on. (sum-is _ verdict.Wrong not-right).0 (h on refl)), whole),
 )
 packet-verdict caps frame v (Ipv6 w) r =
-    let is : (headed frame v (Ipv6 w)).network ≡ 3 = (stores-ipv6 frame v w r).packet.network in
+    let is : (headed frame v (Ipv6 w)).network ≡ 3 = fragment-network (with_ipv6_header (linked frame v) (drop 14 frame) w) w.next_header (ipv6.payload_of (drop 14 frame)) in
     (λ s on net. absurd (omega (arith, net, is)), λ h. r)
 
 -- the verdict on what a packet carries
@@ -159,13 +184,6 @@ transport-verdict caps f p src dst bytes (segment u q) none (is, r) = (
 transport-verdict caps f p src dst bytes (other q) none r =
     (λ s. (λ on net. absurd (omega (arith, none, net)), λ on net. absurd (omega (arith, none, net))), λ h. r)
 
--- what a transport header leaves as it is
-kept-network : (f : FrameFields) (src dst : IpAddress) (bytes : List ℕ) (t : Transport)
-    → ((transported f src dst bytes t).network ≡ f.network) × ((transported f src dst bytes t).ipv4_checksum ≡ f.ipv4_checksum)
-kept-network f src dst bytes (datagram u q) = (refl, refl)
-kept-network f src dst bytes (segment u q) = (refl, refl)
-kept-network f src dst bytes (other q) = (refl, refl)
-
 -- an ARP packet has no checksum
 message-verdicts : (caps : ChecksumCapabilities) (frame : List ℕ) (v : EthernetRepr) (w : ArpRepr) → ReadsFrame unchecked frame v (message w)
     → ReadsFrame caps frame v (message w) ↔ HasVerdicts caps (with_message (linked frame v) w)
@@ -177,24 +195,23 @@ message-verdicts caps frame v (EthernetIpv4 operation source_hardware source_pro
 -- the checksums that are verified hold exactly where the struct says so
 pub verdicts-read : (caps : ChecksumCapabilities) (frame : List ℕ) (v : EthernetRepr) (w : Carried) → ReadsFrame unchecked frame v w
     → ReadsFrame caps frame v w ↔ HasVerdicts caps (fields_of frame)
-verdicts-read caps frame v (message w) r = rw (fields_of-message frame v w r) (message-verdicts caps frame v w r)
+verdicts-read caps frame v (message w) r = rw (fields_of-read frame v (message w) r) (message-verdicts caps frame v w r)
 verdicts-read caps frame v (packet w t) r =
     let (type, header, inner) = r.reads_carried in
     let f = headed frame v w in
     let bytes = packet_payload w (drop 14 frame) in
-    let src = src_addr_of w in
-    let dst = dst_addr_of w in
-    let k = kept-network f src dst bytes t in
+    let k = kept f (src_addr_of w) (dst_addr_of w) bytes t in
+    let h = is-headed frame v w (plain (drop 14 frame) w header) in
     let network = packet-verdict caps frame v w header in
-    let transport = transport-verdict caps f (next_header_of w) src dst bytes t (headed-plain frame v w).1.transport inner in
-    rw (fields_of-packet frame v w t r) (
+    let transport = transport-verdict caps f (next_header_of w) (src_addr_of w) (dst_addr_of w) bytes t h.transport inner in
+    rw (fields_of-read frame v (packet w t) r) (
       λ s. record {
-        ipv4 = λ on net. k.1 ∙ network.0 s.reads_carried.1 on (sym k.0 ∙ net);
+        ipv4 = λ on net. k.checksum ∙ network.0 s.reads_carried.1 on (sym k.network ∙ net);
         udp = (transport.0 s.reads_carried.2).0;
         tcp = (transport.0 s.reads_carried.2).1;
       },
       λ h. record {
         reads_header = r.reads_header;
-        reads_carried = (type, network.1 (λ on net. sym k.1 ∙ h.ipv4 on (k.0 ∙ net)), transport.1 (h.udp, h.tcp));
+        reads_carried = (type, network.1 (λ on net. sym k.checksum ∙ h.ipv4 on (k.network ∙ net)), transport.1 (h.udp, h.tcp));
       },
     )

@@ -1,6 +1,5 @@
 -- The struct of a frame that is not parsed whole stores the values of the headers before.
-use Rattle.std.proofs.Common.{ℕ, ◌≡◌, ◌≢◌, ◌≤◌, ◌<◌, ◌⊎◌, inl, inr, ◌∙◌, ◌==◌, ◌||◌, not, nat_lt, is_none, if◌then◌else◌, Bool, true, false, List, Option, Some, None, drop, length, refl, sym, ap, subst, arith}
-use Rattle.std.proofs.lemmas.Bool.Decides.{nat_tests}
+use Rattle.std.proofs.Common.{ℕ, ◌≡◌, ◌≢◌, ◌⊎◌, inl, inr, ◌∙◌, ◌==◌, ◌||◌, not, nat_lt, is_none, if◌then◌else◌, Bool, true, false, List, Option, Some, None, drop, length, refl, ap, arith}
 use Rattle.std.specs.Option.{option_map_or}
 use Rattle.ip_wire.proofs.ArpComputed.{arp_of-Reads}
 use Rattle.ip_wire.proofs.EthernetComputed.{ethernet_of-Reads}
@@ -11,8 +10,8 @@ use Rattle.ip_wire.proofs.UdpComputed.{udp_of-Reads}
 use Rattle.ip_wire.specs.Arp.{arp_of}
 use Rattle.ip_wire.specs.Ethernet as ethernet
 use Rattle.ip_wire.specs.Ethernet.{ethernet_of}
-use Rattle.ip_wire.specs.Frame.{Carried, ReadsTransportBy, ReadsCarried, ReadsFrame, Transport, datagram, ipv4_payload, message, other, packet, segment, type_of}
-use Rattle.ip_wire.specs.Ip.{ReadsHeader, dst_addr_of, src_addr_of}
+use Rattle.ip_wire.specs.Frame.{Carried, ReadsTransportBy, ReadsCarried, ReadsFrame, Transport, datagram, ipv4_payload, message, other, packet, packet_payload, segment, type_of}
+use Rattle.ip_wire.specs.Ip.{ReadsHeader, dst_addr_of, next_header_of, src_addr_of}
 use Rattle.ip_wire.specs.Ipv4 as ipv4
 use Rattle.ip_wire.specs.Ipv4.{ipv4_of}
 use Rattle.ip_wire.specs.Ipv6 as ipv6
@@ -27,15 +26,16 @@ use Rattle.ip_wire.specs.declared.IpProtocol.TheVariants as protocol
 use Rattle.ip_wire.specs.Field.{field}
 use Rattle.ip_wire.specs.TcpRepr.{control_of}
 use Rattle.ip_wire.specs.declared.ArpRepr.TheVariants.{EthernetIpv4}
-use Rattle.c_structs.proofs.StoredFrame.{with_carried-choice, with_carried-ipv4, with_carried-ipv6}
-use Rattle.c_structs.proofs.StoredHeaders.{fields_of-linked, first-chosen, headed, headed-plain, kept-header, linked, rest-found, stores-ipv4, stores-ipv6}
+use Rattle.c_structs.proofs.StoredFrame.{chosen-network, fragment-network, with_carried-choice, with_carried-ipv4, with_carried-ipv6}
+use Rattle.c_structs.proofs.StoredHeaders.{fields_of-linked, first-chosen, is-headed, rest-found}
 use Rattle.c_structs.specs.Codes.{reason_code}
 use Rattle.c_structs.specs.FrameFields.{arp_fault, behind, fields_of, ipv4_fault, ipv6_fault, rejected, tcp_fault, udp_fault, with_arp, with_carried, with_fragment_by, with_ipv4, with_ipv4_header, with_ipv6, with_ipv6_header, with_message, with_payload, with_tcp_header, with_transport_by, with_udp_header}
-use Rattle.c_structs.specs.Stored.{HasNoTransport, StoresFragment, StoresPacket, StoresRejected, StoresRejectedBy, StoresRejectedTcp, StoresRejectedUdp, StoresTooShort, StoresUnread, fragment_header_by, network_fault, says_fragment, unchecked}
+use Rattle.c_structs.specs.Stored.{StoresFragment, StoresRejected, StoresRejectedBy, StoresUnread, headed, linked, network_fault, unchecked}
 use Rattle.c_structs.specs.Written.{flag}
 use Rattle.c_structs.specs.declared.codes.Reason.{Reason}
 use Rattle.c_structs.specs.declared.codes.Reason.TheVariants as reason
 use Rattle.c_structs.specs.declared.types.FrameFields.{FrameFields}
+use Rattle.c_structs.specs.declared.types.Ip.{Ip}
 
 -- ---- faults
 
@@ -180,136 +180,74 @@ pub stores-fragment : (frame : List ℕ) (v : EthernetRepr) (w : Ipv4Repr) → e
 stores-fragment frame v w link type r part =
     let bytes = drop 14 frame in
     let is = fields_of-linked frame v link ∙ with_carried-fragment (linked frame v) v.ethertype bytes w type ((ipv4_of-Reads false bytes w).1 r) part in
-    rw is (record {
-      reason = refl;
-      part = ap flag part;
-      packet = stores-ipv4 frame v w r;
-      transport = (headed-plain frame v (Ipv4 w)).1;
-    })
+    let h = is-headed frame v (Ipv4 w) r in
+    rw is (record { part = ap flag part; fields = refl; values = h.protocol; payload = h.payload })
 
 -- ---- a rejected transport header
 
--- an IP header is stored in a struct with the same fields of it and the same payload
-kept-packet : (f g : FrameFields) (frame : List ℕ) (v : EthernetRepr) (w : IpRepr) → g ≡ record g {
-  payload_offset = f.payload_offset;
-  payload_len = f.payload_len;
-  ethernet = f.ethernet;
-  network = f.network;
-  network_offset = f.network_offset;
-  src = record g.src { addr = f.src.addr };
-  dst = record g.dst { addr = f.dst.addr };
-  ip = f.ip;
-  is_fragment = f.is_fragment;
-  arp = f.arp;
-} → StoresPacket f frame v w → StoresPacket g frame v w
-kept-packet f g frame v w is d = subst (λ g. StoresPacket g frame v w) (sym is) (record {
-  link = d.link;
-  packet = kept-header f _ w (drop 14 frame) refl d.packet;
-  offset = d.offset;
-  payload = record { len = d.payload.len; octets = d.payload.octets };
-})
+-- what a rejected transport header leaves as it is
+record KeepsPayload (f g : FrameFields) : Type 0 where
+  part : g.is_fragment ≡ f.is_fragment
+  ip : g.ip ≡ f.ip
+  offset : g.payload_offset ≡ f.payload_offset
+  len : g.payload_len ≡ f.payload_len
 
--- one of two ways in which a header is rejected
-abbrev Outcome : FrameFields → FrameFields → FrameFields → List ℕ → ℕ → Reason → Type 0
-Outcome f next g bytes least why = ((length bytes < least) × (g ≡ rejected f reason.TooShort)) ⊎ ((least ≤ length bytes) × (g ≡ rejected next why))
+kept-payload : (b : Bool) (f g h : FrameFields) → KeepsPayload f g → KeepsPayload f h → KeepsPayload f (if b then g else h)
+kept-payload true f g h c d = c
+kept-payload false f g h c d = d
 
-is-short : (n k : ℕ) → nat_lt n k ≡ true → n < k
-is-short n k h = grind (arith, nat_tests)
+rejected-by : {A : Type 0} (b : Bool) (o : Option A) (f g h : FrameFields) → g.reason ≡ 0 → (if b then f else option_map_or (λ v. g) o h).reason ≢ 0
+    → (if b then f else option_map_or (λ v. g) o h) ≡ (if b then f else h)
+rejected-by true o f g h read fault = refl
+rejected-by false None f g h read fault = refl
+rejected-by false (Some a) f g h read fault = absurd (fault read)
 
-is-not-short : (n k : ℕ) → nat_lt n k ≡ false → k ≤ n
-is-not-short n k h = grind (arith, nat_tests)
+-- what is stored of a transport header that is rejected, and what is not
+record IsRejected (f g : FrameFields) (p : IpProtocol) (src dst : IpAddress) (bytes : List ℕ) : Type 0 where
+  stores : StoresRejectedBy p g f src dst bytes
+  keeps : KeepsPayload f g
 
-outcome-by : {A : Type 0} (b : Bool) (o : Option A) (f next h : FrameFields) (why : Reason) → h.reason ≡ 0
-    → (if b then rejected f reason.TooShort else option_map_or (λ v. h) o (rejected next why)).reason ≢ 0
-    → ((b ≡ true) × ((if b then rejected f reason.TooShort else option_map_or (λ v. h) o (rejected next why)) ≡ rejected f reason.TooShort))
-    ⊎ ((b ≡ false) × ((if b then rejected f reason.TooShort else option_map_or (λ v. h) o (rejected next why)) ≡ rejected next why))
-outcome-by true o f next h why read fault = inl (refl, refl)
-outcome-by false None f next h why read fault = inr (refl, refl)
-outcome-by false (Some a) f next h why read fault = absurd (fault read)
-
-udp-outcome : (f : FrameFields) (src dst : IpAddress) (bytes : List ℕ) → f.reason ≡ 0 → (with_transport_by f protocol.Udp src dst bytes).reason ≢ 0
-    → Outcome f (with_udp_header f src dst bytes) (with_transport_by f protocol.Udp src dst bytes) bytes 8 (udp_fault bytes)
-udp-outcome f src dst bytes read fault =
-    elim (outcome-by (nat_lt (length bytes) 8) (udp_of src dst false bytes) f (with_udp_header f src dst bytes) (behind (with_udp_header f src dst bytes) 8 (length (udp.payload_of bytes))) (udp_fault bytes) read fault) [
-      | inl (b, is) ↦ inl (is-short (length bytes) 8 b, is)
-      | inr (b, is) ↦ inr (is-not-short (length bytes) 8 b, is)
-    ]
-
-tcp-outcome : (f : FrameFields) (src dst : IpAddress) (bytes : List ℕ) → f.reason ≡ 0 → (with_transport_by f protocol.Tcp src dst bytes).reason ≢ 0
-    → Outcome f (with_tcp_header f src dst bytes) (with_transport_by f protocol.Tcp src dst bytes) bytes 20 (tcp_fault bytes)
-tcp-outcome f src dst bytes read fault =
-    elim (outcome-by (nat_lt (length bytes) 20) (tcp_of src dst false bytes) f (with_tcp_header f src dst bytes) (behind (with_tcp_header f src dst bytes) (tcp_bytes.header_len bytes) (length (tcp_bytes.payload_of bytes))) (tcp_fault bytes) read fault) [
-      | inl (b, is) ↦ inl (is-short (length bytes) 20 b, is)
-      | inr (b, is) ↦ inr (is-not-short (length bytes) 20 b, is)
-    ]
-
-stores-too-short : (f g : FrameFields) → HasNoTransport f → g ≡ rejected f reason.TooShort → StoresTooShort g
-stores-too-short f g none is = rw is (record {
-  reason = refl;
-  transport = record {
-    transport = none.transport;
-    offset = none.offset;
-    src_port = none.src_port;
-    dst_port = none.dst_port;
-    checksum = none.checksum;
-    segment = none.segment;
-  };
-})
-
-stores-udp : (f g : FrameFields) (src dst : IpAddress) (bytes : List ℕ) → HasNoTransport f → g ≡ rejected (with_udp_header f src dst bytes) (udp_fault bytes) → StoresRejectedUdp g bytes
-stores-udp f g src dst bytes none is = rw is (record {
-  reason = refl;
-  transport = refl;
-  ports = record { offset = refl; src_port = refl; dst_port = refl };
-  segment = none.segment;
-})
-
-stores-tcp : (f g : FrameFields) (src dst : IpAddress) (bytes : List ℕ) → g ≡ rejected (with_tcp_header f src dst bytes) (tcp_fault bytes) → StoresRejectedTcp g bytes
-stores-tcp f g src dst bytes is = rw is (record {
-  reason = refl;
-  transport = refl;
-  ports = record { offset = refl; src_port = refl; dst_port = refl };
-  segment = refl;
-})
-
--- what a rejected transport header leaves, and what it stores
-record IsRejected (f g : FrameFields) (p : IpProtocol) (frame bytes : List ℕ) (v : EthernetRepr) (w : IpRepr) : Type 0 where
-  packet : StoresPacket g frame v w
-  transport : StoresRejectedBy g p bytes
-
-between-rejected : (f : FrameFields) (p : IpProtocol) (src dst : IpAddress) (frame bytes : List ℕ) (v : EthernetRepr) (w : IpRepr) → f.reason ≡ 0 → HasNoTransport f → StoresPacket f frame v w
-    → (with_transport_by f p src dst bytes).reason ≢ 0 → IsRejected f (with_transport_by f p src dst bytes) p frame bytes v w
-between-rejected f protocol.Udp src dst frame bytes v w read none d fault = elim (udp-outcome f src dst bytes read fault) [
-  | inl (few, is) ↦ record {
-    packet = subst (λ g. StoresPacket g frame v w) (sym is) (kept-packet f (rejected f reason.TooShort) frame v w refl d);
-    transport = (λ h. stores-too-short f _ none is, λ h. absurd (omega (arith, few, h)));
-  }
-  | inr (enough, is) ↦ record {
-    packet = subst (λ g. StoresPacket g frame v w) (sym is) (kept-packet f (rejected (with_udp_header f src dst bytes) (udp_fault bytes)) frame v w refl d);
-    transport = (λ h. absurd (omega (arith, enough, h)), λ h. stores-udp f _ src dst bytes none is);
-  }
-]
-between-rejected f protocol.Tcp src dst frame bytes v w read none d fault = elim (tcp-outcome f src dst bytes read fault) [
-  | inl (few, is) ↦ record {
-    packet = subst (λ g. StoresPacket g frame v w) (sym is) (kept-packet f (rejected f reason.TooShort) frame v w refl d);
-    transport = (λ h. stores-too-short f _ none is, λ h. absurd (omega (arith, few, h)));
-  }
-  | inr (enough, is) ↦ record {
-    packet = subst (λ g. StoresPacket g frame v w) (sym is) (kept-packet f (rejected (with_tcp_header f src dst bytes) (tcp_fault bytes)) frame v w refl d);
-    transport = (λ h. absurd (omega (arith, enough, h)), λ h. stores-tcp f _ src dst bytes is);
-  }
-]
-between-rejected f p src dst frame bytes v w read none d fault = absurd (fault read)
+is-rejected : (f : FrameFields) (p : IpProtocol) (src dst : IpAddress) (bytes : List ℕ) → f.reason ≡ 0 → (with_transport_by f p src dst bytes).reason ≢ 0
+    → IsRejected f (with_transport_by f p src dst bytes) p src dst bytes
+is-rejected f protocol.Udp src dst bytes read fault =
+    let next = with_udp_header f src dst bytes in
+    let is = rejected-by (nat_lt (length bytes) 8) (udp_of src dst false bytes) (rejected f reason.TooShort) (behind next 8 (length (udp.payload_of bytes))) (rejected next (udp_fault bytes)) read fault in
+    record {
+      stores = is;
+      keeps = rw is (kept-payload (nat_lt (length bytes) 8) f _ _ (record { part = refl; ip = refl; offset = refl; len = refl }) (record { part = refl; ip = refl; offset = refl; len = refl }));
+    }
+is-rejected f protocol.Tcp src dst bytes read fault =
+    let next = with_tcp_header f src dst bytes in
+    let is = rejected-by (nat_lt (length bytes) 20) (tcp_of src dst false bytes) (rejected f reason.TooShort) (behind next (tcp_bytes.header_len bytes) (length (tcp_bytes.payload_of bytes))) (rejected next (tcp_fault bytes)) read fault in
+    record {
+      stores = is;
+      keeps = rw is (kept-payload (nat_lt (length bytes) 20) f _ _ (record { part = refl; ip = refl; offset = refl; len = refl }) (record { part = refl; ip = refl; offset = refl; len = refl }));
+    }
+is-rejected f p src dst bytes read fault = absurd (fault read)
 
 -- no header behind a fragment header is rejected
-rejected-part : (g : FrameFields) (p : IpProtocol) (bytes : List ℕ) → StoresRejectedBy g p bytes → fragment_header_by p bytes ≡ None
-rejected-part g protocol.Ipv6Frag bytes h = absurd h
-rejected-part g p bytes h = refl
+rejected-part : (f g headers : FrameFields) (p : IpProtocol) (src dst : IpAddress) (bytes payload : List ℕ) → StoresRejectedBy p g headers src dst bytes → with_fragment_by f p payload ≡ f
+rejected-part f g headers protocol.Ipv6Frag src dst bytes payload h = absurd h
+rejected-part f g headers p src dst bytes payload h = refl
 
 -- the fragment's struct is not chosen where a header is rejected
 rejected-whole : (f g : FrameFields) (b : Bool) → f.reason ≡ 0 → (if b then f else g).reason ≢ 0 → b ≡ false
 rejected-whole f g true read fault = absurd (fault read)
 rejected-whole f g false read fault = refl
+
+-- the struct of a packet that is no fragment and whose transport header is rejected
+stores-behind : (frame : List ℕ) (v : EthernetRepr) (w : IpRepr) → ReadsHeader (drop 14 frame) false w → let g = with_payload (headed frame v w) w (packet_payload w (drop 14 frame)) in
+    g.reason ≢ 0 → (StoresRejectedBy (next_header_of w) g (headed frame v w) (src_addr_of w) (dst_addr_of w) (packet_payload w (drop 14 frame)) → (headed frame v w).is_fragment ≡ 0)
+    → StoresRejected g frame v w
+stores-behind frame v w r fault part =
+    let h = is-headed frame v w r in
+    let d = is-rejected (headed frame v w) (next_header_of w) (src_addr_of w) (dst_addr_of w) (packet_payload w (drop 14 frame)) h.reason fault in
+    record {
+      part = d.keeps.part ∙ part d.stores;
+      fields = d.stores;
+      values = ap (λ (i : Ip). i.protocol) d.keeps.ip ∙ h.protocol;
+      payload = record { len = d.keeps.len ∙ h.payload.len; octets = rw (d.keeps.offset, d.keeps.len) h.payload.octets };
+    }
 
 -- the struct of a packet whose transport header is rejected stores the headers
 pub stores-rejected : (frame : List ℕ) (v : EthernetRepr) (w : IpRepr) → ethernet.Reads frame v → v.ethertype ≡ type_of w → ReadsHeader (drop 14 frame) false w
@@ -324,19 +262,13 @@ stores-rejected frame v (Ipv4 w) link type r fault =
     let chosen : with_carried f v.ethertype bytes ≡ (if ipv4.is_fragment bytes then g else inner) = with_carried-choice f v.ethertype bytes w type read in
     let whole = rejected-whole g inner (ipv4.is_fragment bytes) refl (rw (is ∙ chosen) at fault) in
     let all = is ∙ with_carried-ipv4 f v.ethertype bytes w type read whole in
-    let none = (headed-plain frame v (Ipv4 w)).1 in
-    let d = between-rejected g w.next_header (src_addr_of (Ipv4 w)) (dst_addr_of (Ipv4 w)) frame (ipv4_payload bytes) v (Ipv4 w) refl none (stores-ipv4 frame v w r) (rw all at fault) in
-    rw all (record { part = d.packet.packet.part ∙ ap flag whole; packet = d.packet; transport = d.transport })
+    rw all (stores-behind frame v (Ipv4 w) r (rw all at fault) (λ stores. ap flag whole))
 stores-rejected frame v (Ipv6 w) link type r fault =
     let bytes = drop 14 frame in
-    let f = linked frame v in
-    let g = headed frame v (Ipv6 w) in
+    let f = with_ipv6_header (linked frame v) bytes w in
     let read = (ipv6_of-Reads bytes w).1 r in
-    let all = fields_of-linked frame v link ∙ with_carried-ipv6 f v.ethertype bytes w type read in
-    let (zero, none) = headed-plain frame v (Ipv6 w) in
-    let d = between-rejected g w.next_header (src_addr_of (Ipv6 w)) (dst_addr_of (Ipv6 w)) frame (ipv6.payload_of bytes) v (Ipv6 w) zero none (stores-ipv6 frame v w r) (rw all at fault) in
-    let part = rejected-part _ w.next_header (ipv6.payload_of bytes) d.transport in
-    rw all (record { part = d.packet.packet.part ∙ ap (λ o. option_map_or says_fragment o 0) part; packet = d.packet; transport = d.transport })
+    let all = fields_of-linked frame v link ∙ with_carried-ipv6 (linked frame v) v.ethertype bytes w type read in
+    rw all (stores-behind frame v (Ipv6 w) r (rw all at fault) (λ stores. ap (λ (g : FrameFields). g.is_fragment) (rejected-part f _ _ w.next_header _ _ _ (ipv6.payload_of bytes) stores)))
 
 -- ---- a rejected network header, or an unknown type
 
@@ -350,14 +282,6 @@ between-network : (f : FrameFields) (p : IpProtocol) (src dst : IpAddress) (byte
 between-network f protocol.Udp src dst bytes = kept-network (nat_lt (length bytes) 8) (udp_of src dst false bytes) f (behind (with_udp_header f src dst bytes) 8 (length (udp.payload_of bytes))) (with_udp_header f src dst bytes) (udp_fault bytes) refl refl
 between-network f protocol.Tcp src dst bytes = kept-network (nat_lt (length bytes) 20) (tcp_of src dst false bytes) f (behind (with_tcp_header f src dst bytes) (tcp_bytes.header_len bytes) (length (tcp_bytes.payload_of bytes))) (with_tcp_header f src dst bytes) (tcp_fault bytes) refl refl
 between-network f p src dst bytes = refl
-
-chosen-network : (b : Bool) (f g : FrameFields) (n : ℕ) → f.network ≡ n → g.network ≡ n → (if b then f else g).network ≡ n
-chosen-network true f g n a b = a
-chosen-network false f g n a b = b
-
-fragment-network : (f : FrameFields) (p : IpProtocol) (bytes : List ℕ) → (with_fragment_by f p bytes).network ≡ f.network
-fragment-network f protocol.Ipv6Frag bytes = chosen-network (nat_lt (length bytes) 8) f _ f.network refl refl
-fragment-network f p bytes = refl
 
 arp-network : (f : FrameFields) (w : ArpRepr) → (with_message f w).network ≡ 0 → ⊥
 arp-network f (EthernetIpv4 operation source_hardware source_protocol target_hardware target_protocol) e = omega (arith, e)
@@ -391,17 +315,4 @@ pub stores-unread : (frame : List ℕ) (v : EthernetRepr) → ethernet.Reads fra
 stores-unread frame v r network =
     let is = fields_of-linked frame v r in
     let all = is ∙ carried-unread (linked frame v) v.ethertype (drop 14 frame) refl (rw is at network) in
-    rw all (record {
-      reason = refl;
-      link = record { src_addr = refl; dst_addr = refl; ethertype = refl };
-      offset = refl;
-      payload = record { len = refl; octets = rest-found frame };
-      network = refl;
-      network_offset = refl;
-      src_addr = refl;
-      dst_addr = refl;
-      part = refl;
-      packet = refl;
-      message = refl;
-      transport = record { transport = refl; offset = refl; src_port = refl; dst_port = refl; checksum = refl; segment = refl };
-    })
+    rw all (record { fields = refl; payload = record { len = refl; octets = rest-found frame } })

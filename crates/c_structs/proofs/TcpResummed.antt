@@ -12,6 +12,7 @@ use Rattle.wire_ends.specs.IpAddress.{octets_of}
 use Rattle.wire_ends.specs.declared.ip_address.IpAddress.{IpAddress}
 use Rattle.wire_ends.specs.declared.ip_protocol.IpProtocol.TheVariants as protocol
 use Rattle.wire_field.specs.Field.{with_field}
+use Rattle.wire_field.specs.Filled as filled
 use Rattle.wire_tcp.proofs.Sums.{field-word}
 use Rattle.wire_tcp.proofs.TcpEmitted.{length-header_bytes}
 use Rattle.wire_tcp.specs.Tcp.{header_len, segment_sum}
@@ -77,24 +78,24 @@ length-segment : (v : TcpHeader) (p : List ℕ) (x : ℕ) → length (segment_wi
 length-segment v p x = length-append (header_bytes v x) p ∙ ap (λ (m : ℕ). m + length p) (length-header_bytes v x)
 
 -- there is no room with any checksum
-pub fills-None : (v : TcpHeader) (src dst : IpAddress) (p old new : List ℕ) → Fills (Some (segment_with v p 0)) old new None → Fills (Some (bytes_of v p src dst true [])) old new None
-fills-None v src dst p old new (short, same) =
-    (omega (arith, short, length-segment v p 0, length-segment v p (65535 - segment_sum src dst (segment_with v p 0 ++ []))), same)
+pub fills-None : (v : TcpHeader) (src dst : IpAddress) (p old new : List ℕ) → filled.Fills (segment_with v p 0) (header_len_of v + length p) old new None
+    → Fills (Some (bytes_of v p src dst true [])) old new None
+fills-None v src dst p old new (short, same) = (omega (arith, short, length-segment v p (65535 - segment_sum src dst (segment_with v p 0 ++ []))), same)
 
 -- the header is in the slice
-pub header-room : (v : TcpHeader) (p old new : List ℕ) (n : ℕ) → Fills (Some (segment_with v p 0)) old new (Some n) → header_len_of v ≤ length new
+pub header-room : (v : TcpHeader) (p old new : List ℕ) (n : ℕ) → filled.Fills (segment_with v p 0) (header_len_of v + length p) old new (Some n) → header_len_of v ≤ length new
 header-room v p old new n (len, room, is) =
     omega (arith, length-segment v p 0, ap length is, length-append (segment_with v p 0) (drop n old))
 
 -- the checksum is written into what fills it
 pub fills-Some : (v : TcpHeader) (src dst : IpAddress) (bytes p old unsummed new : List ℕ) (n : ℕ) → AreWords src dst → Reads bytes src dst true v p
-    → Fills (Some (segment_with v p 0)) old unsummed (Some n)
+    → filled.Fills (segment_with v p 0) (header_len_of v + length p) old unsummed (Some n)
     → new ≡ with_field unsummed 128 16 (resummed (take (header_len bytes) bytes) (length bytes) (take (header_len_of v) unsummed) n)
     → Fills (Some (bytes_of v p src dst true [])) old new (Some n)
 fills-Some v src dst bytes p old unsummed new n w r (len, room, is) e = (
-  omega (arith, len, length-segment v p 0, length-segment v p (65535 - segment_sum src dst (segment_with v p 0 ++ []))),
+  omega (arith, len, length-segment v p (65535 - segment_sum src dst (segment_with v p 0 ++ []))),
   room,
   e ∙ ap (λ (b : List ℕ). with_field b 128 16 (resummed (take (header_len bytes) bytes) (length bytes) (take (header_len_of v) b) n)) is
-      ∙ ap (λ (m : ℕ). with_field (segment_with v p 0 ++ drop n old) 128 16 (resummed (take (header_len bytes) bytes) (length bytes) (take (header_len_of v) (segment_with v p 0 ++ drop n old)) m)) len
+      ∙ ap (λ (m : ℕ). with_field (segment_with v p 0 ++ drop n old) 128 16 (resummed (take (header_len bytes) bytes) (length bytes) (take (header_len_of v) (segment_with v p 0 ++ drop n old)) m)) (len ∙ sym (length-segment v p 0))
       ∙ resummed-written v src dst bytes p (drop n old) w r,
 )

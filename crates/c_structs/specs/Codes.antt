@@ -1,11 +1,11 @@
 -- The numbers of the enums of `c/ip_wire.h`.
 use Rattle.std.specs.Prelude.{ℕ, ℤ, pos, negsuc, ◌==◌, if◌then◌else◌, Option, None, Some, List, codes}
-use Rattle.c_structs.specs.declared.codes.Network.{Network}
-use Rattle.c_structs.specs.declared.codes.Network.TheVariants as network
+use Rattle.c_structs.specs.declared.codes.NetworkKind.{NetworkKind}
+use Rattle.c_structs.specs.declared.codes.NetworkKind.TheVariants as network
 use Rattle.c_structs.specs.declared.codes.Reason.{Reason}
 use Rattle.c_structs.specs.declared.codes.Reason.TheVariants as reason
-use Rattle.c_structs.specs.declared.codes.Transport.{Transport}
-use Rattle.c_structs.specs.declared.codes.Transport.TheVariants as transport
+use Rattle.c_structs.specs.declared.codes.TransportKind.{TransportKind}
+use Rattle.c_structs.specs.declared.codes.TransportKind.TheVariants as transport
 use Rattle.c_structs.specs.declared.codes.Verdict.{Verdict}
 use Rattle.c_structs.specs.declared.codes.Verdict.TheVariants as verdict
 
@@ -19,13 +19,13 @@ reason_code reason.PortZero = 5
 reason_code reason.BadFlags = 6
 reason_code reason.BadOptions = 7
 
-abbrev pub network_code : Network → ℕ
+abbrev pub network_code : NetworkKind → ℕ
 network_code network.None = 0
 network_code network.Arp = 1
 network_code network.Ipv4 = 2
 network_code network.Ipv6 = 3
 
-abbrev pub transport_code : Transport → ℕ
+abbrev pub transport_code : TransportKind → ℕ
 transport_code transport.None = 0
 transport_code transport.Udp = 1
 transport_code transport.Tcp = 2

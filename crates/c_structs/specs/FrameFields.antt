@@ -27,10 +27,10 @@ use Rattle.ip_wire.specs.declared.Ipv6FragmentRepr.{Ipv6FragmentRepr}
 use Rattle.c_structs.specs.Addresses.{endpoint_of, no_endpoint}
 use Rattle.c_structs.specs.Codes.{network_code, reason_code, transport_code, verdict_code}
 use Rattle.c_structs.specs.Written.{flag}
-use Rattle.c_structs.specs.declared.codes.Network.TheVariants as network
+use Rattle.c_structs.specs.declared.codes.NetworkKind.TheVariants as network
 use Rattle.c_structs.specs.declared.codes.Reason.{Reason}
 use Rattle.c_structs.specs.declared.codes.Reason.TheVariants as reason
-use Rattle.c_structs.specs.declared.codes.Transport.TheVariants as transport
+use Rattle.c_structs.specs.declared.codes.TransportKind.TheVariants as transport
 use Rattle.c_structs.specs.declared.codes.Verdict.{Verdict}
 use Rattle.c_structs.specs.declared.codes.Verdict.TheVariants as verdict
 use Rattle.c_structs.specs.declared.types.Arp.{Arp}

@@ -1,6 +1,7 @@
 -- What the calls for C return and write.
-use Rattle.std.specs.Prelude.{ℕ, ℤ, pos, negsuc, ◌≡◌, ◌≤◌, ◌<◌, ◌⊎◌, ◌++◌, not, Bool, if◌then◌else◌, List, drop, length, Option, None, Some, MatchOption}
+use Rattle.std.specs.Prelude.{ℕ, ℤ, pos, negsuc, ◌≡◌, ◌≤◌, ◌<◌, ◌⊎◌, ◌++◌, not, Bool, if◌then◌else◌, List, drop, length, Option, None, Some}
 use Rattle.std.specs.Ordering.{int_eq}
+use Rattle.ip_wire.specs.Filled as filled
 
 -- what a call returns that could not write: -(1 << 40)
 abbrev pub failed : ℤ
@@ -9,9 +10,7 @@ failed = negsuc 1099511627775
 -- the bytes are at the front of the slice, and their length is returned; if there are none, or if they do not fit, the slice stays
 abbrev pub Fills : Option (List ℕ) → List ℕ → List ℕ → Option ℕ → Type 0
 Fills None old new answer = (answer ≡ None) × (new ≡ old)
-Fills (Some bytes) old new answer =
-    MatchOption answer ((length old < length bytes) × (new ≡ old))
-    (λ n. (n ≡ length bytes) × (n ≤ length old) × (new ≡ bytes ++ drop n old))
+Fills (Some bytes) old new answer = filled.Fills bytes (length bytes) old new answer
 
 -- what C gets in place of an optional length
 abbrev pub returned : Option ℕ → ℤ

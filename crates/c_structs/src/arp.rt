@@ -1,12 +1,11 @@
 //! ARP packets.
 
-ghost use Rattle.std.specs.Prelude.{◌≡◌, Some};
-ghost use Rattle.ip_wire.specs.Arp.{bytes_of};
+ghost use Rattle.std.specs.Prelude.{◌≡◌};
 ghost use Rattle.c_structs.specs.Headers.{arp_bytes, arp_value};
 ghost use Rattle.c_structs.specs.Written.{Fills};
 
 use crate::types::{Addr, Arp};
-use ip_wire::{ArpOperation, ArpPacketMut, ArpRepr, EthernetAddress, IpAddress};
+use ip_wire::{ArpOperation, ArpRepr, EthernetAddress, IpAddress};
 
 impl Arp {
     /// The values of a packet between two addresses. `None` if they are no IPv4 addresses.
@@ -38,19 +37,6 @@ impl Arp {
     pub fn emit_between(&self, src: &Addr, dst: &Addr, out: &mut [u8]) -> Option<usize>
         ensures { Fills (arp_bytes self.now src.now dst.now) out.old out.new result }
     {
-        emit(self.value(src, dst)?, out)
+        self.value(src, dst)?.try_emit(out)
     }
-}
-
-/// Writes a packet to the front of `out` and returns its length. `None` if it does not fit.
-#[inline(always)]
-pub fn emit(value: ArpRepr, out: &mut [u8]) -> Option<usize>
-    ensures { Fills (Some (bytes_of value)) out.old out.new result }
-{
-    let len = value.buffer_len();
-    if out.len() < len {
-        return None;
-    }
-    value.emit(&mut ArpPacketMut::new_unchecked(out));
-    Some(len)
 }

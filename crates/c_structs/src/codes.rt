@@ -60,16 +60,16 @@ impl Reason {
     }
 }
 
-/// `enum lk_network`: the network header of a frame.
+/// `enum lk_network`: which network header a frame has.
 #[derive(Clone, Copy)]
-pub enum Network {
+pub enum NetworkKind {
     None,
     Arp,
     Ipv4,
     Ipv6,
 }
 
-impl Network {
+impl NetworkKind {
     /// Its number for C.
     pub fn code(self) -> u8
         ensures { result ≡ network_code self }
@@ -78,15 +78,15 @@ impl Network {
     }
 }
 
-/// `enum lk_transport`: the transport header of a frame.
+/// `enum lk_transport`: which transport header a frame has.
 #[derive(Clone, Copy)]
-pub enum Transport {
+pub enum TransportKind {
     None,
     Udp,
     Tcp,
 }
 
-impl Transport {
+impl TransportKind {
     /// Its number for C.
     pub fn code(self) -> u8
         ensures { result ≡ transport_code self }

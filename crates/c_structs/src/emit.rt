@@ -7,7 +7,6 @@ ghost use Rattle.c_structs.specs.Headers.{only_if, tcp_bytes, udp_bytes};
 ghost use Rattle.c_structs.specs.Written.{Fills};
 
 use crate::types::{Endpoint, Tcp, TcpOptions};
-use crate::udp;
 use ip_wire::{IpAddress, UDP_MAX_PAYLOAD_LEN, UdpRepr};
 use net_base::ChecksumCapabilities;
 
@@ -63,7 +62,7 @@ fn emit_udp_between(
     } else {
         ChecksumCapabilities::ignored()
     };
-    udp::emit(ports, src_addr, dst_addr, payload, &caps, out)
+    ports.try_emit(out, &src_addr, &dst_addr, payload, &caps)
 }
 
 /// Writes a TCP segment to the front of `out` and returns its length. `None` if it does not fit, if the

@@ -11,7 +11,7 @@ ghost use Rattle.ip_wire.specs.Udp as udp;
 ghost use Rattle.c_structs.specs.Addresses.{endpoint_of, no_endpoint};
 ghost use Rattle.c_structs.specs.FrameFields.{behind, fields_of, nothing_of, rejected, with_arp, with_fragment_by, with_fragment_header, with_frame, with_ipv4, with_ipv4_header, with_ipv6, with_ipv6_header, with_link, with_message, with_tcp, with_tcp_header, with_transport_by, with_udp, with_udp_header};
 
-use crate::codes::{Network, Reason, Transport, Verdict};
+use crate::codes::{NetworkKind, Reason, TransportKind, Verdict};
 use crate::faults::{ARP_LEN, arp_fault, ipv4_fault, ipv6_fault, tcp_fault, udp_fault};
 use crate::types::{Addr, Arp, Endpoint, Ethernet, FrameFields, Ip, Tcp};
 use crate::verdicts::{ipv4_verdict, tcp_verdict, udp_verdict};
@@ -105,8 +105,8 @@ impl FrameFields {
                 dst_hardware: [0; 6],
             },
             reason: Reason::TooShort.code(),
-            network: Network::None.code(),
-            transport: Transport::None.code(),
+            network: NetworkKind::None.code(),
+            transport: TransportKind::None.code(),
             is_fragment: 0,
             ipv4_checksum: Verdict::None.code(),
             transport_checksum: Verdict::None.code(),
@@ -189,7 +189,7 @@ impl FrameFields {
             target_hardware_addr,
             target_protocol_addr,
         } = *message;
-        self.network = Network::Arp.code();
+        self.network = NetworkKind::Arp.code();
         self.network_offset = self.payload_offset;
         self.src = Endpoint::without_port(IpAddress::Ipv4(source_protocol_addr));
         self.dst = Endpoint::without_port(IpAddress::Ipv4(target_protocol_addr));
@@ -235,7 +235,7 @@ impl FrameFields {
         requires lengths { ipv4.HasLengths (ipv4.packet_bytes packet.now) }
         ensures { self.new ≡ with_ipv4_header self.old (ipv4.packet_bytes packet.now) header.now }
     {
-        self.network = Network::Ipv4.code();
+        self.network = NetworkKind::Ipv4.code();
         self.network_offset = self.payload_offset;
         self.src = Endpoint::without_port(IpAddress::Ipv4(header.src_addr));
         self.dst = Endpoint::without_port(IpAddress::Ipv4(header.dst_addr));
@@ -280,7 +280,7 @@ impl FrameFields {
         ensures { self.new ≡ with_ipv6_header self.old (ipv6.packet_bytes packet.now) header.now }
     {
         let traffic_class = packet.traffic_class();
-        self.network = Network::Ipv6.code();
+        self.network = NetworkKind::Ipv6.code();
         self.network_offset = self.payload_offset;
         self.src = Endpoint::without_port(IpAddress::Ipv6(header.src_addr));
         self.dst = Endpoint::without_port(IpAddress::Ipv6(header.dst_addr));
@@ -371,7 +371,7 @@ impl FrameFields {
         requires family { version_of src_addr.now ≡ version_of dst_addr.now }
         ensures { self.new ≡ with_udp_header self.old src_addr.now dst_addr.now (udp.packet_bytes packet.now) }
     {
-        self.transport = Transport::Udp.code();
+        self.transport = TransportKind::Udp.code();
         self.transport_offset = self.payload_offset;
         self.src.port = packet.src_port();
         self.dst.port = packet.dst_port();
@@ -411,7 +411,7 @@ impl FrameFields {
         requires family { version_of src_addr.now ≡ version_of dst_addr.now }
         ensures { self.new ≡ with_tcp_header self.old src_addr.now dst_addr.now (tcp.packet_bytes packet.now) }
     {
-        self.transport = Transport::Tcp.code();
+        self.transport = TransportKind::Tcp.code();
         self.transport_offset = self.payload_offset;
         self.src.port = packet.src_port();
         self.dst.port = packet.dst_port();

@@ -10,7 +10,7 @@ ghost use Rattle.c_structs.specs.Written.{Fills};
 
 use crate::results::place;
 use crate::types::{Arp, Ethernet, FrameFields, TcpOptions};
-use crate::{arp, udp};
+use crate::udp;
 use ip_wire::{
     ETHERNET_HEADER_LEN, EthernetAddress, EthernetFrameMut, EthernetProtocol, EthernetRepr, IpRepr,
     TcpRepr, UDP_HEADER_LEN, UDP_MAX_PAYLOAD_LEN, UdpRepr,
@@ -352,7 +352,7 @@ impl FrameFields {
             return None;
         }
         let (link, rest) = out.split_at_mut(ETHERNET_HEADER_LEN);
-        match arp::emit(value, rest) {
+        match value.try_emit(rest) {
             Some(len) => {
                 self.ethernet.emit(ARP, link);
                 Some(ETHERNET_HEADER_LEN + len)

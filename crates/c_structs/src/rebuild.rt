@@ -2,22 +2,20 @@
 
 ghost use Rattle.std.specs.Prelude.{◌≡◌, ◌≤◌, Some, length};
 ghost use Rattle.ip_wire.specs.Frame.{rebuilt_transport_by, rebuilt_packet, rebuilt_payload, rebuilt_transport};
-ghost use Rattle.ip_wire.specs.FrameValue.{header_before};
 ghost use Rattle.ip_wire.specs.Ip.{dst_addr_of, max_payload_len, next_header_of, src_addr_of};
 ghost use Rattle.ip_wire.specs.Protocol.{protocol_of};
 ghost use Rattle.ip_wire.specs.declared.EthernetProtocol.TheVariants.{Arp, Ipv4, Ipv6};
-ghost use Rattle.ip_wire.specs.declared.IpProtocol.TheVariants.{Tcp, Udp, Unknown};
+ghost use Rattle.ip_wire.specs.declared.IpProtocol.TheVariants.{Tcp, Udp};
 ghost use Rattle.c_structs.specs.Frames.{rebuilt_of};
 ghost use Rattle.c_structs.specs.Written.{Fills};
 
-use crate::results::copy;
-use crate::{arp, tcp, udp};
+use crate::tcp;
 use ip_wire::{
     ArpPacket, ArpRepr, ETHERNET_HEADER_LEN, EthernetFrame, EthernetProtocol, IpProtocol, IpRepr,
     Ipv4Packet, Ipv4Repr, Ipv6Packet, Ipv6Repr, TcpPacket, TcpRepr, UdpPacket, UdpRepr,
 };
 use net_base::ChecksumCapabilities;
-use wire_field::{array_at, write_front};
+use wire_field::{array_at, try_copy, write_front};
 
 // The byte of the protocol number in an IPv4 header (RFC 791, section 3.1), and of the next header in an
 // IPv6 header (RFC 8200, section 3).
@@ -53,7 +51,7 @@ fn rebuild_payload(ethertype: EthernetProtocol, bytes: &[u8], out: &mut [u8]) ->
         EthernetProtocol::Ipv4 => rebuild_ipv4(bytes, out),
         EthernetProtocol::Ipv6 => rebuild_ipv6(bytes, out),
         EthernetProtocol::Arp => rebuild_arp(bytes, out),
-        EthernetProtocol::Unknown(_) => copy(bytes, out),
+        EthernetProtocol::Unknown(_) => try_copy(out, bytes),
     }
 }
 
@@ -62,8 +60,8 @@ fn rebuild_arp(bytes: &[u8], out: &mut [u8]) -> Option<usize>
     ensures { Fills (Some (rebuilt_payload Arp bytes.now)) out.old out.new result }
 {
     match ArpRepr::parse(&ArpPacket::new_unchecked(bytes)) {
-        Ok(value) => arp::emit(value, out),
-        Err(_) => copy(bytes, out),
+        Ok(value) => value.try_emit(out),
+        Err(_) => try_copy(out, bytes),
     }
 }
 
@@ -81,7 +79,7 @@ fn rebuild_ipv4(bytes: &[u8], out: &mut [u8]) -> Option<usize>
                 out,
             )
         }
-        _ => copy(bytes, out),
+        _ => try_copy(out, bytes),
     }
 }
 
@@ -99,7 +97,7 @@ fn rebuild_ipv6(bytes: &[u8], out: &mut [u8]) -> Option<usize>
                 out,
             )
         }
-        Err(_) => copy(bytes, out),
+        Err(_) => try_copy(out, bytes),
     }
 }
 
@@ -118,32 +116,12 @@ fn rebuild_packet(header: IpRepr, protocol: u8, payload: &[u8], out: &mut [u8]) 
     let (front, rest) = out.split_at_mut(header_len);
     match rebuild_transport(&header, protocol, payload, rest) {
         Some(payload_len) => {
-            let header = with_number(header, protocol, payload_len);
+            // A number is written as it is: the name of a protocol would first be looked up in a table.
+            let header = header.before(IpProtocol::Unknown(protocol), payload_len);
             header.emit(front, &ChecksumCapabilities::default());
             Some(header_len + payload_len)
         }
         None => None,
-    }
-}
-
-// The header with its protocol as a number, and with this payload length. A number is written as it is: the
-// name of a protocol would first be looked up in a table.
-#[inline(always)]
-fn with_number(header: IpRepr, protocol: u8, payload_len: usize) -> IpRepr
-    ensures { result ≡ header_before header (Unknown protocol) payload_len }
-{
-    let next_header = IpProtocol::Unknown(protocol);
-    match header {
-        IpRepr::Ipv4(header) => IpRepr::Ipv4(Ipv4Repr {
-            next_header,
-            payload_len,
-            ..header
-        }),
-        IpRepr::Ipv6(header) => IpRepr::Ipv6(Ipv6Repr {
-            next_header,
-            payload_len,
-            ..header
-        }),
     }
 }
 
@@ -157,7 +135,7 @@ fn rebuild_transport(header: &IpRepr, protocol: u8, bytes: &[u8], out: &mut [u8]
     match IpProtocol::from(protocol) {
         IpProtocol::Udp => rebuild_udp(header, bytes, out),
         IpProtocol::Tcp => rebuild_tcp(header, bytes, out),
-        _ => copy(bytes, out),
+        _ => try_copy(out, bytes),
     }
 }
 
@@ -173,11 +151,11 @@ fn rebuild_udp(ip_header: &IpRepr, bytes: &[u8], out: &mut [u8]) -> Option<usize
     let packet = UdpPacket::new_unchecked(bytes);
     match UdpRepr::parse(&packet, &src_addr, &dst_addr, &caps) {
         Ok(header) if packet.checksum() == 0 => {
-            udp::emit(header, src_addr, dst_addr, packet.payload(), &caps, out)
+            header.try_emit(out, &src_addr, &dst_addr, packet.payload(), &caps)
         }
         // No other packet has these values, this payload and a valid checksum.
-        Ok(_) => copy(&bytes[..usize::from(packet.len())], out),
-        Err(_) => copy(bytes, out),
+        Ok(_) => try_copy(out, &bytes[..usize::from(packet.len())]),
+        Err(_) => try_copy(out, bytes),
     }
 }
 
@@ -194,7 +172,7 @@ fn rebuild_tcp(ip_header: &IpRepr, bytes: &[u8], out: &mut [u8]) -> Option<usize
     match TcpRepr::parse(&packet, &src_addr, &dst_addr, &caps) {
         Ok(segment) => {
             let unsummed = ChecksumCapabilities::ignored();
-            match tcp::emit(&segment, src_addr, dst_addr, &unsummed, out) {
+            match segment.try_emit(out, &src_addr, &dst_addr, &unsummed) {
                 Some(len) => {
                     let old = &bytes[..usize::from(packet.header_len())];
                     tcp::put_checksum(old, bytes.len(), segment.header_len(), len, out);
@@ -203,6 +181,6 @@ fn rebuild_tcp(ip_header: &IpRepr, bytes: &[u8], out: &mut [u8]) -> Option<usize
                 None => None,
             }
         }
-        Err(_) => copy(bytes, out),
+        Err(_) => try_copy(out, bytes),
     }
 }

@@ -1,7 +1,9 @@
 //! Results of C calls, and copies to a slice.
 
 ghost use Rattle.std.specs.Prelude.{◌≡◌, ◌+◌, ◌<◌, ◌≤◌, ◌^◌, ◌++◌, IfSome, Some, drop, length, take};
-ghost use Rattle.c_structs.specs.Written.{Fills, Writes, is_set, returned};
+ghost use Rattle.c_structs.specs.Written.{Writes, is_set, returned};
+
+use wire_field::try_copy;
 
 /// The result of a call that wrote nothing. Its sum with any lengths is negative, and as a `usize`
 /// it is longer than any packet.
@@ -27,17 +29,6 @@ pub fn is_set(number: i32) -> bool
     number != 0
 }
 
-/// Copies bytes to the front of `out` and returns how many. `None` if they do not fit.
-pub fn copy(bytes: &[u8], out: &mut [u8]) -> Option<usize>
-    ensures { Fills (Some bytes.now) out.old out.new result }
-{
-    if out.len() < bytes.len() {
-        return None;
-    }
-    out[..bytes.len()].copy_from_slice(bytes);
-    Some(bytes.len())
-}
-
 /// Copies bytes to `out`, from byte `start` on.
 pub fn place(bytes: &[u8], start: usize, out: &mut [u8])
     requires { start + length bytes.now ≤ length out.old }
@@ -50,5 +41,5 @@ pub fn place(bytes: &[u8], start: usize, out: &mut [u8])
 pub fn print(text: &str, out: &mut [u8]) -> isize
     ensures { Writes (Some text.now) out.old out.new result }
 {
-    written(copy(text.as_bytes(), out))
+    written(try_copy(out, text.as_bytes()))
 }

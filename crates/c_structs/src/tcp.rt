@@ -1,13 +1,11 @@
 //! TCP segments.
 
-ghost use Rattle.std.specs.Prelude.{◌≡◌, ◌≤◌, ◌+◌, ◌++◌, [], Some, drop, length, slice_range, take};
-ghost use Rattle.net_base.specs.Checksum.{computes};
+ghost use Rattle.std.specs.Prelude.{◌≡◌, ◌≤◌, ◌+◌, ◌++◌, [], drop, length, slice_range, take};
 ghost use Rattle.ip_wire.specs.IpAddress.{version_of};
-ghost use Rattle.ip_wire.specs.TcpRepr.{bytes_of, header_len_of, header_of};
+ghost use Rattle.ip_wire.specs.TcpRepr.{header_len_of, header_of};
 ghost use Rattle.ip_wire.specs.Field.{with_field};
 ghost use Rattle.c_structs.specs.Headers.{segment_bytes};
 ghost use Rattle.c_structs.specs.Resummed.{resummed};
-ghost use Rattle.c_structs.specs.Written.{Fills};
 
 use crate::results::place;
 use crate::types::Tcp;
@@ -16,31 +14,6 @@ use net_base::ChecksumCapabilities;
 
 // The byte of a header that holds its flags.
 const FLAGS: usize = 13;
-
-/// Writes a segment between two addresses to the front of `out` and returns its length. `None` if it
-/// does not fit.
-#[inline(always)]
-pub fn emit(
-    segment: &TcpRepr<'_>,
-    src_addr: IpAddress,
-    dst_addr: IpAddress,
-    caps: &ChecksumCapabilities,
-    out: &mut [u8],
-) -> Option<usize>
-    requires header_len { header_len_of (header_of segment.now) ≤ 60 }
-    requires family { version_of src_addr ≡ version_of dst_addr }
-    ensures { Fills (Some (bytes_of (header_of segment.now) segment.now.payload.now src_addr dst_addr (computes caps.now.tcp) [])) out.old out.new result }
-{
-    let len = segment.buffer_len();
-    let (front, _) = out.split_at_mut_checked(len)?;
-    segment.emit(
-        &mut TcpPacketMut::new_unchecked(front),
-        &src_addr,
-        &dst_addr,
-        caps,
-    );
-    Some(len)
-}
 
 /// Writes the checksum of a segment at the front of `out` that has 0 there, from a segment that was
 /// read between the same addresses with its checksum and has the same payload: the payload is not

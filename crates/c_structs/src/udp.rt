@@ -1,42 +1,11 @@
 //! UDP packets.
 
-ghost use Rattle.std.specs.Prelude.{◌≡◌, ◌≤◌, ◌+◌, ◌++◌, Some, drop, length, slice_range, true};
+ghost use Rattle.std.specs.Prelude.{◌≡◌, ◌≤◌, ◌+◌, ◌++◌, drop, length, slice_range, true};
 ghost use Rattle.ip_wire.specs.IpAddress.{version_of};
 ghost use Rattle.ip_wire.specs.Udp.{bytes_of, max_payload_len};
-ghost use Rattle.net_base.specs.Checksum.{computes};
-ghost use Rattle.c_structs.specs.Written.{Fills};
 
 use ip_wire::{IpAddress, UDP_HEADER_LEN, UdpPacketMut, UdpRepr};
 use net_base::ChecksumCapabilities;
-
-/// Writes a packet between two addresses to the front of `out` and returns its length. `None` if it
-/// does not fit.
-#[inline(always)]
-pub fn emit(
-    header: UdpRepr,
-    src_addr: IpAddress,
-    dst_addr: IpAddress,
-    payload: &[u8],
-    caps: &ChecksumCapabilities,
-    out: &mut [u8],
-) -> Option<usize>
-    requires payload_len { length payload.now ≤ max_payload_len }
-    requires family { version_of src_addr ≡ version_of dst_addr }
-    ensures { Fills (Some (bytes_of header payload.now src_addr dst_addr (computes caps.now.udp))) out.old out.new result }
-{
-    let len = UDP_HEADER_LEN + payload.len();
-    if out.len() < len {
-        return None;
-    }
-    header.emit(
-        &mut UdpPacketMut::new_unchecked(out),
-        &src_addr,
-        &dst_addr,
-        payload,
-        caps,
-    );
-    Some(len)
-}
 
 /// Writes the header of a packet between two addresses around a payload that is in `out` behind it.
 #[inline(always)]

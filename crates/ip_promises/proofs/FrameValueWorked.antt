@@ -3,7 +3,8 @@
 use Rattle.std.proofs.Common.{ℕ, ◌≡◌, ◌∙◌, ◌≤◌, ◌<◌, List, [], ◌∷◌, None, Some, drop, length, false, ap, arith, refl}
 use Rattle.std.specs.Borrow.{Bor}
 use Rattle.std.specs.Prelude.{slice_index}
-use Rattle.ip_wire.specs.FrameValue.{Agrees, Fills, Fits, FitsTransport}
+use Rattle.ip_wire.specs.FrameValue.{Agrees, Fits, FitsTransport}
+use Rattle.ip_wire.specs.Filled.{Fills}
 use Rattle.ip_wire.specs.Ipv4.{Reading}
 use Rattle.ip_wire.specs.TcpRepr.{seq_of}
 use Rattle.ip_wire.specs.Types.{ArpRepr, EthernetProtocol, IpRepr, Ipv4, Ipv4Repr, Ipv6, Ipv6Repr, UdpRepr}

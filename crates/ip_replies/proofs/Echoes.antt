@@ -3,8 +3,8 @@ use Rattle.std.proofs.Common.{ℕ, ◌≡◌, ◌≢◌, ◌∙◌, ◌≤◌, �
 use Rattle.std.specs.Borrow.{Bor}
 use Rattle.ip_wire.specs.Frame as frame
 use Rattle.ip_wire.specs.Frame.{type_of}
-use Rattle.ip_wire.specs.FrameValue.{Agrees, Fits, carried_of, frame_around, header_before}
-use Rattle.ip_wire.specs.Ip.{max_payload_len}
+use Rattle.ip_wire.specs.FrameValue.{Agrees, Fits, carried_of, frame_around}
+use Rattle.ip_wire.specs.Ip.{header_before, max_payload_len}
 use Rattle.ip_wire.specs.declared.Carried.TheVariants as carried
 use Rattle.ip_wire.specs.Types.{EthernetRepr, IpRepr, Ipv4, Ipv6, UdpRepr}
 use Rattle.ip_wire.specs.declared.Frame.{Frame}

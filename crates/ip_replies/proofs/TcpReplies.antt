@@ -4,7 +4,8 @@ use Rattle.std.specs.Prelude.{is_none, is_some, ◌||◌, if◌then◌else◌}
 use Rattle.std.specs.Option.{option_map}
 use Rattle.ip_wire.specs.Frame as frame
 use Rattle.ip_wire.specs.Frame.{type_of}
-use Rattle.ip_wire.specs.FrameValue.{Agrees, Fits, carried_of, frame_around, header_before, transport_len}
+use Rattle.ip_wire.specs.FrameValue.{Agrees, Fits, carried_of, frame_around, transport_len}
+use Rattle.ip_wire.specs.Ip.{header_before}
 use Rattle.ip_wire.specs.TcpRepr.{TcpHeader, closed, header_len_of, header_of, len_if, no_ranges, normal}
 use Rattle.ip_wire.specs.declared.Carried.TheVariants as carried
 use Rattle.ip_wire.specs.Types.{EthernetRepr, IpRepr, Ipv4, Ipv6}

@@ -2,7 +2,8 @@
 use Rattle.std.specs.Prelude.{ℕ, ◌≡◌, ◌≢◌, ◌+◌, ◌%◌, ◌^◌, ◌⊎◌, Contains, List, [], Option, Some, None, false, length, min}
 use Rattle.std.specs.Option.{option_map}
 use Rattle.ip_wire.specs.Frame.{Carried, IsReadWhole, packet, segment, type_of}
-use Rattle.ip_wire.specs.FrameValue.{carried_of, header_before}
+use Rattle.ip_wire.specs.FrameValue.{carried_of}
+use Rattle.ip_wire.specs.Ip.{header_before}
 use Rattle.ip_wire.specs.TcpRepr.{TcpHeader, header_len_of, no_ranges, seq_of}
 use Rattle.ip_wire.specs.TcpSeq.{control_len, number}
 use Rattle.ip_wire.specs.Types.{EthernetRepr, IpRepr}

@@ -1,8 +1,8 @@
 -- The echo service of UDP (RFC 862).
 use Rattle.std.specs.Prelude.{ℕ, ◌≡◌, ◌≢◌, ◌≤◌, ◌+◌, List, Some, length}
 use Rattle.ip_wire.specs.Frame.{Carried, IsReadWhole, datagram, packet, type_of}
-use Rattle.ip_wire.specs.FrameValue.{carried_of, header_before}
-use Rattle.ip_wire.specs.Ip.{max_payload_len}
+use Rattle.ip_wire.specs.FrameValue.{carried_of}
+use Rattle.ip_wire.specs.Ip.{header_before, max_payload_len}
 use Rattle.ip_wire.specs.Types.{EthernetRepr, IpRepr, UdpRepr}
 use Rattle.ip_wire.specs.declared.Frame.{Frame}
 use Rattle.ip_wire.specs.declared.IpProtocol.TheVariants as protocol

@@ -1,9 +1,9 @@
 -- Frames that are put together agree and fit.
 use Rattle.std.proofs.Common.{◌≤◌, refl}
-use Rattle.ip_wire.specs.FrameValue.{Agrees, Fits, FitsTransport, NamesTransport, frame_around, header_before, protocol_before, transport_len}
+use Rattle.ip_wire.specs.FrameValue.{Agrees, Fits, FitsTransport, NamesTransport, frame_around, protocol_before, transport_len}
 use Rattle.ip_wire.specs.declared.frame.transport.Transport.{Transport}
 use Rattle.ip_wire.specs.Types.{EthernetAddress, IpRepr, Ipv4, Ipv6}
-use Rattle.wire_ip.specs.Ip.{max_payload_len}
+use Rattle.wire_ip.specs.Ip.{header_before, max_payload_len}
 
 -- the header names the transport, so the layers agree
 pub agrees-around : (src dst : EthernetAddress) (v : IpRepr) (t : Transport) → NamesTransport (header_before v (protocol_before v t) (transport_len t)) t

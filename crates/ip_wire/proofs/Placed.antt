@@ -21,11 +21,3 @@ behind header inner old front written carried size len room fits is filled below
     let alone = is ∙ header_alone header old written size room filled in
     let rest = length-drop size old in
     (omega (arith, room, fits, rest), joined header inner old front carried size len room fits alone below)
-
--- what is written into a part that it fills stands at the front of the slice, whatever follows it
-pub filled : (bytes : List ℕ → List ℕ) (old front written rest : List ℕ) (len : ℕ) → len ≤ length old → front ≡ written
-    → written ≡ bytes (drop len (take len old)) ++ drop len (take len old) → rest ≡ drop len old → front ++ rest ≡ bytes [] ++ drop len old
-filled bytes old front written rest len room is alone behind =
-    let none : drop len (take len old) ≡ [] = grind (arith, common_steps) in
-    let whole : front ≡ bytes [] = is ∙ alone ∙ ap (λ part. bytes part ++ part) none ∙ append-nil (bytes []) in
-    ap (λ part. part ++ rest) whole ∙ ap (λ part. bytes [] ++ part) behind

@@ -20,7 +20,7 @@ use Rattle.wire_ends.specs.declared.IpVersion.TheVariants as version
 use Rattle.wire_ethernet.specs.Ethernet as ethernet
 use Rattle.wire_ethernet.specs.declared.EthernetProtocol.TheVariants as ethertype
 use Rattle.wire_ip.specs.Ip as ip
-use Rattle.wire_ip.specs.Ip.{dst_addr_of, src_addr_of, with_payload_len}
+use Rattle.wire_ip.specs.Ip.{dst_addr_of, header_before, src_addr_of, with_payload_len}
 use Rattle.wire_ipv4.specs.Ipv4 as ipv4
 use Rattle.wire_ipv4.specs.Ipv4Text as ipv4_text
 use Rattle.wire_ipv6.specs.Ipv6Text as ipv6_text
@@ -30,13 +30,6 @@ use Rattle.wire_udp.specs.Udp as udp
 use Rattle.wire_udp.specs.UdpText as udp_text
 
 -- ---- what is written
-
--- the bytes, so many of them, stand at the front of the slice and their number is returned; where they do not fit, the slice
--- stays as it is
-abbrev pub Fills : List ℕ → ℕ → List ℕ → List ℕ → Option ℕ → Type 0
-Fills bytes len old new result =
-    MatchOption result ((length old < len) × (new ≡ old))
-    (λ n. (n ≡ len) × (n ≤ length old) × (new ≡ bytes ++ drop n old))
 
 -- a line behind the one before
 abbrev pub next_line : List ℕ → List ℕ
@@ -350,11 +343,6 @@ pub record Computes (sent received : ChecksumCapabilities) (c : Carried) : Type 
 -- the protocol field of a header in front of this transport
 abbrev pub protocol_before : IpRepr → Transport → IpProtocol
 protocol_before v t = option_map_or (λ p. p) (describe_transport t).protocol (ip.next_header_of v)
-
--- the header with this protocol and this length of its payload
-abbrev pub header_before : IpRepr → IpProtocol → ℕ → IpRepr
-header_before (Ipv4 v) p n = Ipv4 (record v { next_header = p; payload_len = n })
-header_before (Ipv6 v) p n = Ipv6 (record v { next_header = p; payload_len = n })
 
 -- the packet with the protocol and the length of what it carries in its header
 abbrev pub packet_around : IpRepr → Transport → Carried

@@ -4,9 +4,10 @@ ghost use Rattle.std.specs.Prelude.{◌≡◌, ◌<◌, ◌≤◌, ◌^◌, ◌+
 ghost use Rattle.std.specs.Option.{option_map};
 ghost use Rattle.ip_wire.specs.Frame as frame;
 ghost use Rattle.ip_wire.specs.Frame.{ReadsFrame};
-ghost use Rattle.ip_wire.specs.FrameValue.{Fills, Finds, Fits, Gives, Parses, carried_payload, frame_bytes, frame_len, frame_text};
+ghost use Rattle.ip_wire.specs.FrameValue.{Finds, Fits, Gives, Parses, carried_payload, frame_bytes, frame_len, frame_text};
 ghost use Rattle.ip_wire.specs.Packet.{IsFrame, frame_of};
 ghost use Rattle.wire_ethernet.specs.declared.EthernetRepr.{EthernetRepr};
+ghost use Rattle.wire_field.specs.Filled.{Fills};
 
 mod build;
 mod carried;

@@ -2,6 +2,7 @@
 
 ghost use Rattle.std.specs.Prelude.{◌≡◌, ◌+◌, ◌≤◌, ◌++◌, drop, length, slice_range};
 ghost use Rattle.wire_field.specs.Field.{with_range};
+ghost use Rattle.wire_field.specs.Filled.{Fills};
 
 use byteorder::{ByteOrder, NetworkEndian};
 
@@ -33,6 +34,19 @@ pub fn write_six(bytes: &mut [u8], six: &[u8; 6])
 {
     NetworkEndian::write_u32(bytes, NetworkEndian::read_u32(six));
     NetworkEndian::write_u16(&mut bytes[4..6], NetworkEndian::read_u16(&six[4..6]));
+}
+
+/// Copies `part` to the front of the bytes and returns its length. `None` if it does not fit; then nothing is
+/// written.
+#[inline(always)]
+pub fn try_copy(bytes: &mut [u8], part: &[u8]) -> Option<usize>
+    ensures { Fills part.now (length part.now) bytes.old bytes.new result }
+{
+    if bytes.len() < part.len() {
+        return None;
+    }
+    bytes[..part.len()].copy_from_slice(part);
+    Some(part.len())
 }
 
 /// Copies `part` to the bytes, from byte `first` on, and leaves all other bytes. An empty part is tested

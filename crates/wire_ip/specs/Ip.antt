@@ -53,6 +53,11 @@ abbrev pub with_payload_len : IpRepr → ℕ → IpRepr
 with_payload_len (Ipv4 v) len = Ipv4 (record v { payload_len = len })
 with_payload_len (Ipv6 v) len = Ipv6 (record v { payload_len = len })
 
+-- the header with this protocol and this length of its payload
+abbrev pub header_before : IpRepr → IpProtocol → ℕ → IpRepr
+header_before (Ipv4 v) p n = Ipv4 (record v { next_header = p; payload_len = n })
+header_before (Ipv6 v) p n = Ipv6 (record v { next_header = p; payload_len = n })
+
 -- the length of its header
 abbrev pub header_len_of : IpRepr → ℕ
 header_len_of (Ipv4 v) = 20

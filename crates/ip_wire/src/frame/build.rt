@@ -1,9 +1,10 @@
 //! Frames whose layers agree: EtherType, protocol and lengths are filled in.
 
 ghost use Rattle.std.specs.Prelude.{◌≡◌, ◌↔◌, IfOk, IsOk, IsTrue, length};
-ghost use Rattle.ip_wire.specs.FrameValue.{Agrees, Fits, NamesTransport, arp_frame, frame_around, header_before, protocol_before, transport_len};
+ghost use Rattle.ip_wire.specs.FrameValue.{Agrees, Fits, NamesTransport, arp_frame, frame_around, protocol_before, transport_len};
 ghost use Rattle.ip_wire.specs.Frame.{type_of};
 ghost use Rattle.ip_wire.specs.declared.frame.transport.Transport.TheVariants as transport;
+ghost use Rattle.wire_ip.specs.Ip.{header_before};
 
 use super::{Carried, Frame, Transport};
 use net_base::{Error, Result};
@@ -12,8 +13,6 @@ use wire_arp::ArpRepr;
 use wire_ends::IpProtocol;
 use wire_ethernet::{EthernetProtocol, EthernetRepr};
 use wire_ip::IpRepr;
-use wire_ipv4::Ipv4Repr;
-use wire_ipv6::Ipv6Repr;
 use wire_tcp::TcpRepr;
 use wire_udp::UdpRepr;
 
@@ -82,12 +81,12 @@ impl<'a> Frame<'a> {
         if len > header.max_payload_len() {
             return Err(Error);
         }
-        let (ethertype, filled) = fill(header, protocol(&header, &inner), len);
+        let filled = header.before(protocol(&header, &inner), len);
         Ok(Frame {
             header: EthernetRepr {
                 src_addr,
                 dst_addr,
-                ethertype,
+                ethertype: ethertype_of(&header),
             },
             carried: Carried::Packet(filled, inner),
         })
@@ -121,26 +120,12 @@ fn protocol(header: &IpRepr, inner: &Transport<'_>) -> IpProtocol
     }
 }
 
-// The EtherType of a header's version, and the header with this protocol and payload length.
-fn fill(header: IpRepr, next_header: IpProtocol, payload_len: usize) -> (EthernetProtocol, IpRepr)
-    ensures { result ≡ (type_of header, header_before header next_header payload_len) }
+// The EtherType of a header's version.
+fn ethertype_of(header: &IpRepr) -> EthernetProtocol
+    ensures { result ≡ type_of header.now }
 {
     match header {
-        IpRepr::Ipv4(value) => (
-            EthernetProtocol::Ipv4,
-            IpRepr::Ipv4(Ipv4Repr {
-                next_header,
-                payload_len,
-                ..value
-            }),
-        ),
-        IpRepr::Ipv6(value) => (
-            EthernetProtocol::Ipv6,
-            IpRepr::Ipv6(Ipv6Repr {
-                next_header,
-                payload_len,
-                ..value
-            }),
-        ),
+        IpRepr::Ipv4(_) => EthernetProtocol::Ipv4,
+        IpRepr::Ipv6(_) => EthernetProtocol::Ipv6,
     }
 }

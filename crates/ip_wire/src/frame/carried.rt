@@ -4,15 +4,16 @@ ghost use Rattle.std.specs.Prelude.{◌≡◌, ◌<◌, ◌≤◌, ◌+◌, ◌�
 ghost use Rattle.std.specs.Option.{option_map};
 ghost use Rattle.ip_wire.specs.Frame as frame;
 ghost use Rattle.ip_wire.specs.Frame.{ReadsCarried};
-ghost use Rattle.ip_wire.specs.FrameValue.{FindsCarried, Fills, FitsCarried, FitsTransport, GivesCarried, ParsesCarried, carried_bytes, carried_len, carried_of, carried_payload, carried_text, packet_bytes, transport_len};
-ghost use Rattle.wire_arp.specs.Arp as arp;
+ghost use Rattle.ip_wire.specs.FrameValue.{FindsCarried, FitsCarried, FitsTransport, GivesCarried, ParsesCarried, carried_bytes, carried_len, carried_of, carried_payload, carried_text, packet_bytes, transport_len};
+ghost use Rattle.wire_field.specs.Filled.{Fills};
 ghost use Rattle.wire_ip.specs.Ip as ip;
 
-use super::transport::{Transport, copy};
+use super::Transport;
 use net_base::{ChecksumCapabilities, Error, Result};
 use std::fmt;
-use wire_arp::{ArpPacket, ArpPacketMut, ArpRepr};
+use wire_arp::{ArpPacket, ArpRepr};
 use wire_ethernet::EthernetProtocol;
+use wire_field::try_copy;
 use wire_ip::IpRepr;
 use wire_ipv4::{Ipv4Packet, Ipv4Repr};
 use wire_ipv6::{Ipv6Packet, Ipv6Repr};
@@ -135,25 +136,12 @@ impl<'a> Carried<'a> {
         ensures { Fills (carried_bytes caps.now self.now) (carried_len self.now) out.old out.new result }
     {
         match self {
-            Carried::Arp(value) => emit_arp(value, out),
+            Carried::Arp(value) => value.try_emit(out),
             Carried::Packet(header, inner) => emit_packet(header, inner, out, caps),
-            Carried::Fragment(packet) => copy(packet.as_bytes(), out),
-            Carried::Unread(bytes) => copy(bytes, out),
+            Carried::Fragment(packet) => try_copy(out, packet.as_bytes()),
+            Carried::Unread(bytes) => try_copy(out, bytes),
         }
     }
-}
-
-// Writes an ARP packet to the front of `out`.
-#[inline(always)]
-fn emit_arp(value: &ArpRepr, out: &mut [u8]) -> Option<usize>
-    ensures { Fills (arp.bytes_of value.now) 28 out.old out.new result }
-{
-    let len = value.buffer_len();
-    if out.len() < len {
-        return None;
-    }
-    value.emit(&mut ArpPacketMut::new_unchecked(out));
-    Some(len)
 }
 
 // Writes an IP packet to the front of `out`: the transport first, since the header has its length.

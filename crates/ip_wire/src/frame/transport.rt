@@ -1,21 +1,19 @@
 //! The payload of an IP packet, as a value.
 
-ghost use Rattle.std.specs.Prelude.{◌≡◌, ◌<◌, ◌≤◌, ◌+◌, ◌↔◌, ◌^◌, [], IfOk, IsTrue, Some, is_some, length};
+ghost use Rattle.std.specs.Prelude.{◌≡◌, ◌<◌, ◌↔◌, ◌^◌, IfOk, IsTrue, Some, is_some};
 ghost use Rattle.std.specs.Option.{option_map};
 ghost use Rattle.ip_wire.specs.Frame as frame;
 ghost use Rattle.ip_wire.specs.Frame.{ReadsTransport};
-ghost use Rattle.ip_wire.specs.FrameValue.{Fills, FindsTransport, FitsTransport, GivesTransport, ParsesTransport, transport_bytes, transport_len, transport_of, transport_payload, transport_text};
-ghost use Rattle.net_base.specs.Checksum.{computes};
-ghost use Rattle.wire_ip.specs.Ip.{dst_addr_of, src_addr_of};
-ghost use Rattle.wire_tcp.specs.TcpRepr as tcp;
-ghost use Rattle.wire_udp.specs.Udp as udp;
+ghost use Rattle.ip_wire.specs.FrameValue.{FindsTransport, FitsTransport, GivesTransport, ParsesTransport, transport_bytes, transport_len, transport_of, transport_payload, transport_text};
+ghost use Rattle.wire_field.specs.Filled.{Fills};
 
 use net_base::{ChecksumCapabilities, Error, Result};
 use std::fmt;
 use wire_ends::IpProtocol;
+use wire_field::try_copy;
 use wire_ip::IpRepr;
-use wire_tcp::{TCP_MAX_HEADER_LEN, TcpPacket, TcpPacketMut, TcpRepr};
-use wire_udp::{UDP_HEADER_LEN, UDP_MAX_PAYLOAD_LEN, UdpPacket, UdpPacketMut, UdpRepr};
+use wire_tcp::{TCP_MAX_HEADER_LEN, TcpPacket, TcpRepr};
+use wire_udp::{UDP_HEADER_LEN, UDP_MAX_PAYLOAD_LEN, UdpPacket, UdpRepr};
 
 /// The payload of an IP packet, by the protocol that its header names.
 #[derive(Debug, Clone, Copy, PartialEq, Eq)]
@@ -133,73 +131,15 @@ impl<'a> Transport<'a> {
         ensures { Fills (transport_bytes caps.now header.now self.now) (transport_len self.now) out.old out.new result }
     {
         match self {
-            Transport::Udp(value, payload) => emit_udp(value, header, payload, out, caps),
-            Transport::Tcp(value) => emit_tcp(value, header, out, caps),
-            Transport::Other(bytes) | Transport::Unread(bytes) => copy(bytes, out),
+            Transport::Udp(value, payload) => {
+                value.try_emit(out, &header.src_addr(), &header.dst_addr(), payload, caps)
+            }
+            Transport::Tcp(value) => {
+                value.try_emit(out, &header.src_addr(), &header.dst_addr(), caps)
+            }
+            Transport::Other(bytes) | Transport::Unread(bytes) => try_copy(out, bytes),
         }
     }
-}
-
-// Writes a UDP packet behind this header to the front of `out`.
-#[inline(always)]
-fn emit_udp(
-    value: &UdpRepr,
-    header: &IpRepr,
-    payload: &[u8],
-    out: &mut [u8],
-    caps: &ChecksumCapabilities,
-) -> Option<usize>
-    requires { length payload.now ≤ udp.max_payload_len }
-    ensures { let v = header.now in
-        Fills (udp.bytes_of value.now payload.now (src_addr_of v) (dst_addr_of v) (computes caps.now.udp)) (8 + length payload.now) out.old out.new result }
-{
-    let len = UDP_HEADER_LEN + payload.len();
-    if out.len() < len {
-        return None;
-    }
-    value.emit(
-        &mut UdpPacketMut::new_unchecked(out),
-        &header.src_addr(),
-        &header.dst_addr(),
-        payload,
-        caps,
-    );
-    Some(len)
-}
-
-// Writes a TCP segment behind this header to the front of `out`.
-#[inline(always)]
-fn emit_tcp(
-    value: &TcpRepr<'_>,
-    header: &IpRepr,
-    out: &mut [u8],
-    caps: &ChecksumCapabilities,
-) -> Option<usize>
-    requires { tcp.header_len_of (tcp.header_of value.now) ≤ 60 }
-    ensures { let v = header.now in let u = value.now in
-        Fills (tcp.bytes_of (tcp.header_of u) u.payload.now (src_addr_of v) (dst_addr_of v) (computes caps.now.tcp) []) (tcp.header_len_of (tcp.header_of u) + length u.payload.now) out.old out.new result }
-{
-    let len = value.buffer_len();
-    let (front, _) = out.split_at_mut_checked(len)?;
-    value.emit(
-        &mut TcpPacketMut::new_unchecked(front),
-        &header.src_addr(),
-        &header.dst_addr(),
-        caps,
-    );
-    Some(len)
-}
-
-/// Copies bytes to the front of `out`, and returns their number. None if they do not fit.
-#[inline(always)]
-pub fn copy(bytes: &[u8], out: &mut [u8]) -> Option<usize>
-    ensures { Fills bytes.now (length bytes.now) out.old out.new result }
-{
-    if out.len() < bytes.len() {
-        return None;
-    }
-    out[..bytes.len()].copy_from_slice(bytes);
-    Some(bytes.len())
 }
 
 /// A line of its own, behind a line end, for UDP and TCP; nothing for other bytes.

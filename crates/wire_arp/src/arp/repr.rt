@@ -4,6 +4,7 @@ ghost use Rattle.std.specs.Prelude.{◌≡◌, ◌↔◌, ◌≤◌, ◌++◌, I
 ghost use Rattle.std.specs.Result.{result_ok};
 ghost use Rattle.wire_arp.specs.Arp.{Becomes, HasLengths, Reads, arp_of, bytes_of, ethernet_ipv4, packet_bytes, packet_bytes_mut};
 ghost use Rattle.wire_arp.specs.ArpText.{value_text};
+ghost use Rattle.wire_field.specs.Filled.{Fills};
 ghost use Rattle.wire_arp.specs.declared.arp.repr.ArpRepr.{ArpRepr};
 
 use super::text::OperationWord;
@@ -94,6 +95,20 @@ impl ArpRepr {
                 );
             }
         }
+    }
+
+    /// As `emit`, to the front of `out`, and returns the length of the packet. `None` if it does not fit; then
+    /// nothing is written.
+    #[inline(always)]
+    pub fn try_emit(&self, out: &mut [u8]) -> Option<usize>
+        ensures { Fills (bytes_of self.now) 28 out.old out.new result }
+    {
+        let len = self.buffer_len();
+        if out.len() < len {
+            return None;
+        }
+        self.emit(&mut ArpPacketMut::new_unchecked(out));
+        Some(len)
     }
 }
 

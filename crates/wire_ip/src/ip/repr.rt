@@ -4,7 +4,7 @@ ghost use Rattle.std.specs.Prelude.{◌≡◌, ◌↔◌, ◌≤◌, ◌<◌, �
 ghost use Rattle.std.specs.Result.{result_ok};
 ghost use Rattle.net_base.specs.Checksum.{computes, verifies};
 ghost use Rattle.wire_ends.specs.IpAddress as address;
-ghost use Rattle.wire_ip.specs.Ip.{Reads, bytes_of, dst_addr_of, header_len_of, hop_limit_of, ip_of, max_payload_len, next_header_of, packet_bytes, payload_len_of, src_addr_of, version_of, with_payload_len};
+ghost use Rattle.wire_ip.specs.Ip.{Reads, bytes_of, dst_addr_of, header_before, header_len_of, hop_limit_of, ip_of, max_payload_len, next_header_of, packet_bytes, payload_len_of, src_addr_of, version_of, with_payload_len};
 ghost use Rattle.wire_ip.specs.declared.ip.repr.IpRepr.{IpRepr};
 ghost use Rattle.wire_ip.specs.declared.ip.repr.IpRepr.TheVariants.{Ipv4, Ipv6};
 
@@ -149,6 +149,25 @@ impl IpRepr {
         match self {
             IpRepr::Ipv4(value) => value.payload_len = length,
             IpRepr::Ipv6(value) => value.payload_len = length,
+        }
+    }
+
+    /// The header before a payload of this protocol and this length in octets.
+    #[inline(always)]
+    pub fn before(self, next_header: IpProtocol, payload_len: usize) -> IpRepr
+        ensures { result ≡ header_before self next_header payload_len }
+    {
+        match self {
+            IpRepr::Ipv4(header) => IpRepr::Ipv4(Ipv4Repr {
+                next_header,
+                payload_len,
+                ..header
+            }),
+            IpRepr::Ipv6(header) => IpRepr::Ipv6(Ipv6Repr {
+                next_header,
+                payload_len,
+                ..header
+            }),
         }
     }
 

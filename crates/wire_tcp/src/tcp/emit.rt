@@ -1,9 +1,10 @@
 //! `TcpRepr::emit`.
 
-ghost use Rattle.std.specs.Prelude.{◌≡◌, ◌+◌, ◌≤◌, ◌++◌, drop, length};
+ghost use Rattle.std.specs.Prelude.{◌≡◌, ◌+◌, ◌≤◌, ◌++◌, [], drop, length};
 ghost use Rattle.net_base.specs.Checksum.{computes};
 ghost use Rattle.wire_ends.specs.IpAddress.{version_of};
 ghost use Rattle.wire_field.specs.Field.{with_range};
+ghost use Rattle.wire_field.specs.Filled.{Fills};
 ghost use Rattle.wire_tcp.specs.Tcp.{Becomes, packet_bytes_mut};
 ghost use Rattle.wire_tcp_parts.specs.TcpItems.{texts};
 ghost use Rattle.wire_tcp.specs.TcpFixed.{fixed_bytes};
@@ -45,6 +46,29 @@ impl TcpRepr<'_> {
         if caps.tcp.tx() {
             for_emit::write_checksum(packet, &fixed, src_addr, dst_addr);
         }
+    }
+
+    /// As `emit`, to the front of `out`, and returns the length of the segment. `None` if it does not fit; then
+    /// nothing is written. A checksum covers the segment alone.
+    #[inline(always)]
+    pub fn try_emit(
+        &self,
+        out: &mut [u8],
+        src_addr: &IpAddress,
+        dst_addr: &IpAddress,
+        caps: &ChecksumCapabilities,
+    ) -> Option<usize>
+        requires header_len { header_len_of (header_of self.now) ≤ 60 }
+        requires family { version_of src_addr.now ≡ version_of dst_addr.now }
+        ensures { let v = header_of self.now in let payload = self.now.payload.now in
+            let bytes = bytes_of v payload src_addr.now dst_addr.now (computes caps.now.tcp) [] in
+            Fills bytes (header_len_of v + length payload) out.old out.new result }
+    {
+        let len = self.buffer_len();
+        let (front, _) = out.split_at_mut_checked(len)?;
+        let mut packet = TcpPacketMut::new_unchecked(front);
+        self.emit(&mut packet, src_addr, dst_addr, caps);
+        Some(len)
     }
 
     // The first 20 octets of the header, with 0 as checksum.

@@ -4,6 +4,7 @@ ghost use Rattle.std.specs.Prelude.{◌≡◌, ◌↔◌, ◌≤◌, ◌+◌, �
 ghost use Rattle.std.specs.Result.{result_ok};
 ghost use Rattle.net_base.specs.Checksum.{computes, verifies};
 ghost use Rattle.wire_ends.specs.IpAddress.{version_of};
+ghost use Rattle.wire_field.specs.Filled.{Fills};
 ghost use Rattle.wire_udp.specs.Udp.{Becomes, HasLengths, Reads, bytes_of, checksum_for, header_bytes, max_payload_len, packet_bytes, packet_bytes_mut, packet_sum, packet_with, payload_of, udp_of};
 ghost use Rattle.wire_udp.specs.UdpText.{value_text};
 ghost use Rattle.wire_udp.specs.declared.udp.repr.UdpRepr.{UdpRepr};
@@ -92,6 +93,31 @@ impl UdpRepr {
         };
         self.emit_fields(packet, payload.len(), checksum);
         packet.set_payload(payload);
+    }
+
+    /// As `emit`, to the front of `out`, and returns the length of the packet. `None` if it does not fit; then
+    /// nothing is written.
+    #[inline(always)]
+    pub fn try_emit(
+        &self,
+        out: &mut [u8],
+        src_addr: &IpAddress,
+        dst_addr: &IpAddress,
+        payload: &[u8],
+        caps: &ChecksumCapabilities,
+    ) -> Option<usize>
+        requires payload_len { length payload.now ≤ max_payload_len }
+        requires family { version_of src_addr.now ≡ version_of dst_addr.now }
+        ensures { let bytes = bytes_of self.now payload.now src_addr.now dst_addr.now (computes caps.now.udp) in
+            Fills bytes (UDP_HEADER_LEN + length payload.now) out.old out.new result }
+    {
+        let len = UDP_HEADER_LEN + payload.len();
+        if out.len() < len {
+            return None;
+        }
+        let mut packet = UdpPacketMut::new_unchecked(out);
+        self.emit(&mut packet, src_addr, dst_addr, payload, caps);
+        Some(len)
     }
 
     // Writes all fields of the header.

@@ -25,7 +25,7 @@ returns-in_default c =
           inr (ap (λ slice. is_fragment slice.now) (sym c.new_unchecked-packet.ensures) ∙ sym w.is_fragment.ensures ∙ w.if-not-is_fragment.false)
       | in_default-via-in_default w ↦ inl (rw (caps, c.new_unchecked-packet.ensures) at w.in_default.ensures.value)
     ] in
-    rw (rebuilt-ipv4-copied bytes copied) c.copy.ensures
+    rw (rebuilt-ipv4-copied bytes copied) c.try_copy.ensures
 
 pub rebuild_packet-requires-clause-protocol : goal.rebuild_packet-requires-clause-protocol
 rebuild_packet-requires-clause-protocol c =

@@ -16,7 +16,7 @@ pub returns-in-Err : goal.returns-in-Err
 returns-in-Err c =
     let bytes = c.args.bytes.now in
     let unread : ipv6_of bytes ≡ None = rw c.new_unchecked-packet.ensures at c.in-Err.ensures.value in
-    rw (rebuilt-ipv6-copied bytes unread) c.copy.ensures
+    rw (rebuilt-ipv6-copied bytes unread) c.try_copy.ensures
 
 pub rebuild_packet-requires-clause-protocol : goal.rebuild_packet-requires-clause-protocol
 rebuild_packet-requires-clause-protocol c =

@@ -1,8 +1,7 @@
 use Rattle.std.proofs.Common.{◌≡◌, ◌∙◌, ap, length, refl, rules, take, true}
 use Rattle.ip_wire.proofs.Frames.{rebuilt_transport-fits}
 use Rattle.ip_wire.specs.Frame.{rebuilt_transport}
-use Rattle.ip_wire.specs.FrameValue.{header_before}
-use Rattle.ip_wire.specs.Ip.{bytes_of, with_payload_len}
+use Rattle.ip_wire.specs.Ip.{bytes_of, header_before, with_payload_len}
 use Rattle.ip_wire.specs.declared.IpProtocol.TheVariants.{Unknown}
 use Rattle.c_structs.proofs.Filled.{filled-behind}
 use Rattle.c_structs.proofs.Numbered.{bytes_of-number, fits-number, header_len_of-number}
@@ -14,7 +13,7 @@ emit-requires-clause-payload_len c =
     let header = c.args.header in
     let inner = rebuilt_transport header c.args.payload.now in
     let count : c.in-Some.payload_len ≡ length inner = search rules in
-    let numbered : c.with_number-header.result ≡ header_before header (Unknown c.args.protocol) (length inner) = c.with_number-header.ensures ∙ ap (header_before header (Unknown c.args.protocol)) count in
+    let numbered : c.before-header.result ≡ header_before header (Unknown c.args.protocol) (length inner) = c.before-header.ensures ∙ ap (header_before header (Unknown c.args.protocol)) count in
     rw numbered (fits-number header c.args.protocol (length inner) (rebuilt_transport-fits header c.args.payload.now c.requires.len))
 
 pub returns-in-Some : goal.returns-in-Some
@@ -23,7 +22,7 @@ returns-in-Some c =
     let inner = rebuilt_transport header c.args.payload.now in
     let old = c.args.out.now in
     let count : c.in-Some.payload_len ≡ length inner = search rules in
-    let numbered : c.with_number-header.result ≡ header_before header (Unknown c.args.protocol) (length inner) = c.with_number-header.ensures ∙ ap (header_before header (Unknown c.args.protocol)) count in
+    let numbered : c.before-header.result ≡ header_before header (Unknown c.args.protocol) (length inner) = c.before-header.ensures ∙ ap (header_before header (Unknown c.args.protocol)) count in
     let caps : computes c.default.result.ipv4 ≡ true = search rules in
     let same = header_len_of-number header c.args.protocol (length inner) in
     let bytes = bytes_of-number header c.args.protocol (length inner) c.requires.protocol in

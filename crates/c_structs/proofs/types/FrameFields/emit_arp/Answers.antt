@@ -16,7 +16,7 @@ returns-in-Some c =
     let value : arp_value f.arp f.src.addr f.dst.addr ≡ Some c.in_ok-value.value = sym c.value.ensures ∙ c.in_ok-value.was in
     let frame : arp_frame f ≡ Some (link ++ inner) = ap (λ o. option_map (λ packet. link ++ packet) (option_map bytes_of o)) value in
     let front : c.split_at_mut-link.result.0.now ≡ take 14 old = search rules in
-    let is_front = rw front at c.emit-in-Some.ensures in
-    subst (λ o. Fills o old (c.emit-in-Some.new.out ++ c.emit.new.out) (Some (14 + c.in-Some.len))) (sym frame)
-    (filled-behind link inner old c.emit-in-Some.new.out _ c.emit.new.out 14 c.in-Some.len
+    let is_front = rw front at c.emit.ensures in
+    subst (λ o. Fills o old (c.emit.new.out ++ c.try_emit.new.out) (Some (14 + c.in-Some.len))) (sym frame)
+    (filled-behind link inner old c.emit.new.out _ c.try_emit.new.out 14 c.in-Some.len
     (search rules) (search rules) refl is_front (search rules) (search rules) (search rules))

@@ -1,7 +1,7 @@
 use Rattle.std.proofs.Common.{◌≤◌, refl, rules}
 use Rattle.ip_wire.proofs.Built.{agrees-around, fits-around}
-use Rattle.ip_wire.specs.FrameValue.{FitsTransport, NamesTransport, header_before, protocol_before, transport_len}
-use Rattle.wire_ip.specs.Ip.{max_payload_len}
+use Rattle.ip_wire.specs.FrameValue.{FitsTransport, NamesTransport, protocol_before, transport_len}
+use Rattle.wire_ip.specs.Ip.{header_before, max_payload_len}
 use Rattle.ip_wire.proofs.frame.Frame.packet.Goals as goal
 
 pub returns-clause-ok : goal.returns-clause-ok

@@ -1,0 +1,9 @@
+-- What a call returns that writes to the front of a slice, or nothing.
+use Rattle.std.specs.Prelude.{ℕ, ◌≡◌, ◌≤◌, ◌<◌, ◌++◌, List, Option, MatchOption, drop, length}
+
+-- the bytes, so many of them, stand at the front of the slice and their number is returned; where they do not fit, the slice
+-- stays as it is
+abbrev pub Fills : List ℕ → ℕ → List ℕ → List ℕ → Option ℕ → Type 0
+Fills bytes len old new result =
+    MatchOption result ((length old < len) × (new ≡ old))
+    (λ n. (n ≡ len) × (n ≤ length old) × (new ≡ bytes ++ drop n old))
