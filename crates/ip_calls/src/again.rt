@@ -1,124 +1,145 @@
 //! Packets that are parsed and emitted again, under a choice of checksums.
 
-use crate::answer::NoAnswer;
-use crate::operands::{addresses, capabilities, octets, read};
+ghost use Rattle.std.specs.Prelude.{◌≡◌, IfOk, vec_len};
+ghost use Rattle.ip_wire.specs.IpAddress.{version_of};
+
+use crate::operands::Operands;
 use ip_wire::{
-    Frame, IPV4_MAX_PAYLOAD_LEN, IpPacket, IpRepr, Ipv4Packet, Ipv4PacketMut, Ipv4Repr,
+    Frame, IPV4_MAX_PAYLOAD_LEN, IpAddress, IpPacket, IpRepr, Ipv4Packet, Ipv4PacketMut, Ipv4Repr,
     TCP_MAX_HEADER_LEN, TcpPacket, TcpPacketMut, TcpRepr, UDP_HEADER_LEN, UDP_MAX_PAYLOAD_LEN,
     UdpPacket, UdpPacketMut, UdpRepr,
 };
 use net_base::ChecksumCapabilities;
-use std::alloc::Global;
+use std::alloc::{AllocError, Global};
 
 /// The octets that are emitted: an IP header, a packet of UDP or TCP, or a frame. `err` if none is parsed.
-pub fn answer(alloc: Global, operands: &[&str]) -> Result<String, NoAnswer> {
-    let [format, ends @ .., choices, old, word] = operands else {
-        return Err(NoAnswer::Malformed);
+pub fn answer(alloc: Global, operands: &mut Operands<'_>) -> Result<String, AllocError> {
+    let format = operands.word();
+    let (src, dst) = match format {
+        "udp" | "tcp" => operands.addresses(),
+        _ => (IpAddress::v4(0, 0, 0, 0), IpAddress::v4(0, 0, 0, 0)),
     };
-    let (caps, old) = (capabilities(choices)?, read(old)?);
-    let bytes = octets(alloc, word)?;
-    let emitted = match (*format, ends) {
-        ("ipv4", []) => ipv4(alloc, bytes.as_slice(), &caps, old)?,
-        ("ip", []) => ip(alloc, bytes.as_slice(), &caps, old)?,
-        ("udp", [src, dst]) => udp(alloc, src, dst, bytes.as_slice(), &caps, old)?,
-        ("tcp", [src, dst]) => tcp(alloc, src, dst, bytes.as_slice(), &caps, old)?,
-        ("frame", []) => frame(alloc, bytes.as_slice(), &caps, old)?,
-        _ => return Err(NoAnswer::Malformed),
+    let (caps, old) = (operands.capabilities(), operands.number());
+    let octets = operands.octets(alloc)?;
+    let packet = Packet {
+        alloc,
+        bytes: octets.as_slice(),
+        caps,
+        old,
     };
-    match emitted {
-        Some(emitted) => Ok(hex::encode(alloc, emitted.as_slice())?),
-        None => Ok(String::from_str(alloc, "err")?),
+    let emitted = match format {
+        "ipv4" => packet.ipv4(operands),
+        "ip" => packet.ip(operands),
+        "udp" => packet.udp(&src, &dst, operands),
+        "tcp" => packet.tcp(&src, &dst, operands),
+        "frame" => packet.frame(),
+        _ => {
+            operands.refuse();
+            Ok(None)
+        }
+    };
+    match emitted? {
+        Some(emitted) => hex::encode(alloc, emitted.as_slice()),
+        None => String::from_str(alloc, "err"),
     }
 }
 
-fn ipv4(
+// Bytes that are parsed, which checksums count, and the octet that buffers are filled with.
+#[derive(Drop)]
+struct Packet<'a> {
     alloc: Global,
-    bytes: &[u8],
-    caps: &ChecksumCapabilities,
+    bytes: &'a [u8],
+    caps: ChecksumCapabilities,
     old: u8,
-) -> Result<Option<Vec<u8>>, NoAnswer> {
-    let Ok(header) = Ipv4Repr::parse(&Ipv4Packet::new_unchecked(bytes), caps) else {
-        return Ok(None);
-    };
-    if header.payload_len > IPV4_MAX_PAYLOAD_LEN {
-        return Err(NoAnswer::Malformed);
-    }
-    let mut out = vec![in alloc; old; header.buffer_len()]?;
-    header.emit(&mut Ipv4PacketMut::new_unchecked(out.as_mut_slice()), caps);
-    Ok(Some(out))
 }
 
-fn ip(
-    alloc: Global,
-    bytes: &[u8],
-    caps: &ChecksumCapabilities,
-    old: u8,
-) -> Result<Option<Vec<u8>>, NoAnswer> {
-    let Ok(header) = IpRepr::parse(&IpPacket::new_unchecked(bytes), caps) else {
-        return Ok(None);
-    };
-    if header.payload_len() > header.max_payload_len() {
-        return Err(NoAnswer::Malformed);
+// Each of these returns what is emitted of one format, or nothing if the bytes do not parse.
+impl Packet<'_> {
+    // A buffer of this length.
+    fn buffer(&self, len: usize) -> Result<Vec<u8>, AllocError>
+        ensures { IfOk result (λ out. vec_len out ≡ len) }
+    {
+        vec![in self.alloc; self.old; len]
     }
-    let mut out = vec![in alloc; old; header.header_len()]?;
-    header.emit(out.as_mut_slice(), caps);
-    Ok(Some(out))
-}
 
-fn udp(
-    alloc: Global,
-    src: &str,
-    dst: &str,
-    bytes: &[u8],
-    caps: &ChecksumCapabilities,
-    old: u8,
-) -> Result<Option<Vec<u8>>, NoAnswer> {
-    let (src, dst) = addresses(src, dst)?;
-    let packet = UdpPacket::new_unchecked(bytes);
-    let Ok(header) = UdpRepr::parse(&packet, &src, &dst, caps) else {
-        return Ok(None);
-    };
-    let payload = packet.payload();
-    if payload.len() > UDP_MAX_PAYLOAD_LEN {
-        return Err(NoAnswer::Malformed);
+    fn ipv4(&self, operands: &mut Operands<'_>) -> Result<Option<Vec<u8>>, AllocError> {
+        let Ok(header) = Ipv4Repr::parse(&Ipv4Packet::new_unchecked(self.bytes), &self.caps) else {
+            return Ok(None);
+        };
+        if header.payload_len > IPV4_MAX_PAYLOAD_LEN {
+            operands.refuse();
+            return Ok(None);
+        }
+        let mut out = self.buffer(header.buffer_len())?;
+        let mut emitted = Ipv4PacketMut::new_unchecked(out.as_mut_slice());
+        header.emit(&mut emitted, &self.caps);
+        Ok(Some(out))
     }
-    let mut out = vec![in alloc; old; UDP_HEADER_LEN + payload.len()]?;
-    let mut emitted = UdpPacketMut::new_unchecked(out.as_mut_slice());
-    header.emit(&mut emitted, &src, &dst, payload, caps);
-    Ok(Some(out))
-}
 
-fn tcp(
-    alloc: Global,
-    src: &str,
-    dst: &str,
-    bytes: &[u8],
-    caps: &ChecksumCapabilities,
-    old: u8,
-) -> Result<Option<Vec<u8>>, NoAnswer> {
-    let (src, dst) = addresses(src, dst)?;
-    let Ok(segment) = TcpRepr::parse(&TcpPacket::new_unchecked(bytes), &src, &dst, caps) else {
-        return Ok(None);
-    };
-    if segment.header_len() > TCP_MAX_HEADER_LEN {
-        return Err(NoAnswer::Malformed);
+    fn ip(&self, operands: &mut Operands<'_>) -> Result<Option<Vec<u8>>, AllocError> {
+        let Ok(header) = IpRepr::parse(&IpPacket::new_unchecked(self.bytes), &self.caps) else {
+            return Ok(None);
+        };
+        if header.payload_len() > header.max_payload_len() {
+            operands.refuse();
+            return Ok(None);
+        }
+        let mut out = self.buffer(header.header_len())?;
+        header.emit(out.as_mut_slice(), &self.caps);
+        Ok(Some(out))
     }
-    let mut out = vec![in alloc; old; segment.buffer_len()]?;
-    let mut emitted = TcpPacketMut::new_unchecked(out.as_mut_slice());
-    segment.emit(&mut emitted, &src, &dst, caps);
-    Ok(Some(out))
-}
 
-fn frame(
-    alloc: Global,
-    bytes: &[u8],
-    caps: &ChecksumCapabilities,
-    old: u8,
-) -> Result<Option<Vec<u8>>, NoAnswer> {
-    let Ok(frame) = Frame::parse(bytes, caps) else {
-        return Ok(None);
-    };
-    let mut out = vec![in alloc; old; frame.buffer_len()]?;
-    frame.emit(out.as_mut_slice(), caps);
-    Ok(Some(out))
+    fn udp(
+        &self,
+        src: &IpAddress,
+        dst: &IpAddress,
+        operands: &mut Operands<'_>,
+    ) -> Result<Option<Vec<u8>>, AllocError>
+        requires { version_of src.now ≡ version_of dst.now }
+    {
+        let packet = UdpPacket::new_unchecked(self.bytes);
+        let Ok(header) = UdpRepr::parse(&packet, src, dst, &self.caps) else {
+            return Ok(None);
+        };
+        let payload = packet.payload();
+        if payload.len() > UDP_MAX_PAYLOAD_LEN {
+            operands.refuse();
+            return Ok(None);
+        }
+        let mut out = self.buffer(UDP_HEADER_LEN + payload.len())?;
+        let mut emitted = UdpPacketMut::new_unchecked(out.as_mut_slice());
+        header.emit(&mut emitted, src, dst, payload, &self.caps);
+        Ok(Some(out))
+    }
+
+    fn tcp(
+        &self,
+        src: &IpAddress,
+        dst: &IpAddress,
+        operands: &mut Operands<'_>,
+    ) -> Result<Option<Vec<u8>>, AllocError>
+        requires { version_of src.now ≡ version_of dst.now }
+    {
+        let packet = TcpPacket::new_unchecked(self.bytes);
+        let Ok(segment) = TcpRepr::parse(&packet, src, dst, &self.caps) else {
+            return Ok(None);
+        };
+        if segment.header_len() > TCP_MAX_HEADER_LEN {
+            operands.refuse();
+            return Ok(None);
+        }
+        let mut out = self.buffer(segment.buffer_len())?;
+        let mut emitted = TcpPacketMut::new_unchecked(out.as_mut_slice());
+        segment.emit(&mut emitted, src, dst, &self.caps);
+        Ok(Some(out))
+    }
+
+    fn frame(&self) -> Result<Option<Vec<u8>>, AllocError> {
+        let Ok(frame) = Frame::parse(self.bytes, &self.caps) else {
+            return Ok(None);
+        };
+        let mut out = self.buffer(frame.buffer_len())?;
+        frame.emit(out.as_mut_slice(), &self.caps);
+        Ok(Some(out))
+    }
 }

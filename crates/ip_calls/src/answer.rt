@@ -4,28 +4,10 @@ ghost use Rattle.std.specs.Prelude.{◌≡◌, ◌==◌, IfOk, length, map, vec_
 ghost use Rattle.std.specs.List.{slice_split};
 ghost use Rattle.ip_calls.specs.Lines.{lines};
 
-use crate::{
-    again, block, checksum, class, fragment, get, header, host, mask, options, set, tcp, text, udp,
-};
+use crate::operands::Operands;
+use crate::{again, block, class, emit, get, host, options, set, tcp, text};
 use ip_wire::{EthernetAddress, IpAddress, IpCidr, IpEndpoint, Ipv4Cidr, Ipv6Cidr};
 use std::alloc::{AllocError, Global};
-
-/// Why no call was made for a line.
-#[derive(Clone, Copy, Debug, PartialEq, Eq)]
-pub enum NoAnswer {
-    /// There is no call of that kind.
-    Unknown,
-    /// The operands are not those of the call.
-    Malformed,
-    /// Memory ran out.
-    Memory,
-}
-
-impl From<AllocError> for NoAnswer {
-    fn from(_e: AllocError) -> NoAnswer {
-        NoAnswer::Memory
-    }
-}
 
 /// The answers to the lines of the input, in their order.
 pub fn answers(alloc: Global, input: &[u8]) -> Result<Vec<String>, AllocError>
@@ -57,18 +39,8 @@ fn parts(alloc: Global, text: &[u8]) -> Result<Vec<&[u8]>, AllocError>
     text.split(|b| *b == b'\n').collect(alloc)
 }
 
-// The answer to a line.
+// The answer to a line. The text of a parser is everything after the first space.
 fn answer(alloc: Global, line: &[u8]) -> Result<String, AllocError> {
-    match asked(alloc, line) {
-        Ok(text) => Ok(text),
-        Err(NoAnswer::Unknown) => String::from_str(alloc, "unknown"),
-        Err(NoAnswer::Malformed) => String::from_str(alloc, "malformed"),
-        Err(NoAnswer::Memory) => Err(AllocError),
-    }
-}
-
-// The answer of the library to a line. The text of a parser is everything after the first space.
-fn asked(alloc: Global, line: &[u8]) -> Result<String, NoAnswer> {
     let (kind, text) = split_kind(line);
     match kind {
         b"eth" => text::answer::<EthernetAddress>(alloc, text),
@@ -90,27 +62,38 @@ fn split_kind(line: &[u8]) -> (&[u8], &[u8]) {
 }
 
 // The answer of a call with words as operands.
-fn call(alloc: Global, line: &[u8]) -> Result<String, NoAnswer> {
+fn call(alloc: Global, line: &[u8]) -> Result<String, AllocError> {
     let Ok(line) = str::from_utf8(line) else {
-        return Err(NoAnswer::Unknown);
+        return String::from_str(alloc, "unknown");
     };
     let words: Vec<&str> = line.split(' ').collect(alloc)?;
-    match words.as_slice() {
-        ["tcp", operands @ ..] => tcp::answer(alloc, operands),
-        ["udp", operands @ ..] => udp::answer(alloc, operands),
-        ["header", operands @ ..] => header::answer(alloc, operands),
-        ["frag", operands @ ..] => fragment::answer(alloc, operands),
-        ["walk", operands @ ..] => options::answer(alloc, operands),
-        ["option", operands @ ..] => options::first(alloc, operands),
-        ["block", operands @ ..] => block::answer(alloc, operands),
-        ["prefix", operands @ ..] => mask::prefix_len(alloc, operands),
-        ["netmask", operands @ ..] => mask::from_netmask(alloc, operands),
-        ["class", operands @ ..] => class::answer(alloc, operands),
-        ["sum", operands @ ..] => checksum::answer(alloc, operands),
-        ["set", operands @ ..] => set::answer(alloc, operands),
-        ["get", operands @ ..] => get::answer(alloc, operands),
-        ["again", operands @ ..] => again::answer(alloc, operands),
-        ["host", operands @ ..] => host::answer(alloc, operands),
-        _ => Err(NoAnswer::Unknown),
+    let mut operands = Operands::new(words.as_slice());
+    match result(alloc, &mut operands)? {
+        None => String::from_str(alloc, "unknown"),
+        Some(text) if operands.is_whole() => Ok(text),
+        Some(_) => String::from_str(alloc, "malformed"),
     }
+}
+
+// The text of the call that the first word names, if there is one. The operands tell whether it counts.
+fn result(alloc: Global, operands: &mut Operands<'_>) -> Result<Option<String>, AllocError> {
+    let text = match operands.word() {
+        "tcp" => tcp::answer(alloc, operands),
+        "udp" => emit::udp(alloc, operands),
+        "header" => emit::header(alloc, operands),
+        "frag" => emit::fragment(alloc, operands),
+        "walk" => options::answer(alloc, operands),
+        "option" => options::first(alloc, operands),
+        "block" => block::answer(alloc, operands),
+        "prefix" => block::prefix_len(alloc, operands),
+        "netmask" => block::from_netmask(alloc, operands),
+        "class" => class::answer(alloc, operands),
+        "sum" => emit::sum(alloc, operands),
+        "set" => set::answer(alloc, operands),
+        "get" => get::answer(alloc, operands),
+        "again" => again::answer(alloc, operands),
+        "host" => host::answer(alloc, operands),
+        _ => return Ok(None),
+    };
+    Ok(Some(text?))
 }

@@ -1,17 +1,14 @@
 //! Classes of addresses.
 
-use crate::answer::NoAnswer;
-use crate::operands::read;
+use crate::operands::Operands;
+use crate::text::push_all;
 use ip_wire::{IpAddress, Ipv4Address, Ipv6Address, Ipv6MulticastScope};
 use std::alloc::{AllocError, Global};
 
 /// The names of the classes that contain an address, separated by spaces, and then the scope of an
 /// IPv6 address.
-pub fn answer(alloc: Global, operands: &[&str]) -> Result<String, NoAnswer> {
-    let [word] = operands else {
-        return Err(NoAnswer::Malformed);
-    };
-    let address: IpAddress = read(word)?;
+pub fn answer(alloc: Global, operands: &mut Operands<'_>) -> Result<String, AllocError> {
+    let address = operands.address();
     let mut text = String::new(alloc);
     match address {
         IpAddress::Ipv4(ipv4) => push_ipv4(&address, &ipv4, &mut text)?,
@@ -31,7 +28,7 @@ fn push_ipv4(address: &IpAddress, ipv4: &Ipv4Address, text: &mut String) -> Resu
         (address.is_unicast(), "unicast"),
     ] {
         if contains {
-            push_word(name, text)?;
+            push_all(&[name], text)?;
         }
     }
     Ok(())
@@ -51,19 +48,11 @@ fn push_ipv6(address: &IpAddress, ipv6: &Ipv6Address, text: &mut String) -> Resu
         (address.is_unicast(), "unicast"),
     ] {
         if contains {
-            push_word(name, text)?;
+            push_all(&[name], text)?;
         }
     }
-    push_word("scope=", text)?;
+    push_all(&["scope="], text)?;
     text.push_str(scope_name(ipv6.x_multicast_scope()))
-}
-
-// Appends a word, with a space before it unless it is the first.
-fn push_word(word: &str, text: &mut String) -> Result<(), AllocError> {
-    if !text.is_empty() {
-        text.push(' ')?;
-    }
-    text.push_str(word)
 }
 
 // The name of a scope.

@@ -1,10 +1,7 @@
 //! The values of getters.
 
-ghost use Rattle.std.specs.Prelude.{◌≤◌, length};
-ghost use Rattle.ip_wire.specs.Tcp as tcp;
-
-use crate::answer::NoAnswer;
-use crate::operands::{NOTHING, octets};
+use crate::operands::{NOTHING, Operands};
+use crate::text::push_all;
 use ip_wire::{
     ArpPacket, EthernetFrame, IPV4_HEADER_LEN, IPV6_HEADER_LEN, Ipv4Packet, Ipv6FragmentHeader,
     Ipv6Packet, TCP_HEADER_LEN, TcpPacket, UDP_HEADER_LEN, UdpPacket,
@@ -12,52 +9,49 @@ use ip_wire::{
 use std::alloc::{AllocError, Global};
 
 /// What the getters of a view return, in the order of the fields.
-pub fn answer(alloc: Global, operands: &[&str]) -> Result<String, NoAnswer> {
-    let [view, word] = operands else {
-        return Err(NoAnswer::Malformed);
-    };
-    let bytes = octets(alloc, word)?;
+pub fn answer(alloc: Global, operands: &mut Operands<'_>) -> Result<String, AllocError> {
+    let view = operands.word();
+    let octets = operands.octets(alloc)?;
+    let bytes = octets.as_slice();
     let mut text = String::new(alloc);
-    get(alloc, view, bytes.as_slice(), &mut text)?;
+    match view {
+        "eth" => ethernet(bytes, &mut text),
+        "arp" => arp(alloc, bytes, &mut text),
+        "ipv4" => ipv4(bytes, &mut text),
+        "ipv6" => ipv6(bytes, &mut text),
+        "frag" => fragment(bytes, &mut text),
+        "udp" => udp(bytes, &mut text),
+        "tcp" => tcp(bytes, &mut text),
+        _ => Ok(()),
+    }?;
+    if text.is_empty() {
+        operands.refuse();
+    }
     Ok(text)
 }
 
-// Appends the values of the view of that name. The octets have to hold its header.
-fn get(alloc: Global, view: &str, bytes: &[u8], text: &mut String) -> Result<(), NoAnswer> {
-    match view {
-        "eth" => ethernet(bytes, text),
-        "arp" => arp(alloc, bytes, text),
-        "ipv4" => ipv4(bytes, text),
-        "ipv6" => ipv6(bytes, text),
-        "frag" => fragment(bytes, text),
-        "udp" => udp(bytes, text),
-        "tcp" => tcp(bytes, text),
-        _ => Err(NoAnswer::Malformed),
-    }
-}
+// Each of these appends the values of one view, or nothing if the octets do not hold its header.
 
-fn ethernet(bytes: &[u8], text: &mut String) -> Result<(), NoAnswer> {
+fn ethernet(bytes: &[u8], text: &mut String) -> Result<(), AllocError> {
     let Ok(frame) = EthernetFrame::new_checked(bytes) else {
-        return Err(NoAnswer::Malformed);
+        return Ok(());
     };
-    let (dst, src) = (frame.dst_addr(), frame.src_addr());
-    Ok(write!(text, "{dst} {src} {}", frame.ethertype().number())?)
+    push_all(&[frame.dst_addr(), frame.src_addr()], text)?;
+    push_all(&[frame.ethertype().number()], text)
 }
 
-fn arp(alloc: Global, bytes: &[u8], text: &mut String) -> Result<(), NoAnswer> {
+fn arp(alloc: Global, bytes: &[u8], text: &mut String) -> Result<(), AllocError> {
     let Ok(packet) = ArpPacket::new_checked(bytes) else {
-        return Err(NoAnswer::Malformed);
+        return Ok(());
     };
-    let (hardware, protocol) = (
+    let numbers = [
         packet.hardware_type().number(),
         packet.protocol_type().number(),
-    );
-    let (hardware_len, protocol_len) = (packet.hardware_len(), packet.protocol_len());
-    let operation = packet.operation().number();
-    write!(
-        text,
-        "{hardware} {protocol} {hardware_len} {protocol_len} {operation}"
-    )?;
+        packet.hardware_len().into(),
+        packet.protocol_len().into(),
+        packet.operation().number(),
+    ];
+    push_all(&numbers, text)?;
     for address in [
         packet.source_hardware_addr(),
         packet.source_protocol_addr(),
@@ -70,87 +64,85 @@ fn arp(alloc: Global, bytes: &[u8], text: &mut String) -> Result<(), NoAnswer> {
         } else {
             digits.as_str()
         };
-        write!(text, " {word}")?;
+        push_all(&[word], text)?;
     }
     Ok(())
 }
 
-fn ipv4(bytes: &[u8], text: &mut String) -> Result<(), NoAnswer> {
+fn ipv4(bytes: &[u8], text: &mut String) -> Result<(), AllocError> {
     if bytes.len() < IPV4_HEADER_LEN {
-        return Err(NoAnswer::Malformed);
+        return Ok(());
     }
     let packet = Ipv4Packet::new_unchecked(bytes);
-    let (version, header_len) = (packet.version(), packet.header_len());
-    let (dscp, ecn, total_len) = (packet.dscp(), packet.ecn(), packet.total_len());
-    write!(
-        text,
-        "{version} {header_len} {dscp} {ecn} {total_len} {}",
-        packet.ident()
-    )?;
-    let (dont_frag, more_frags) = (packet.dont_frag(), packet.more_frags());
-    write!(text, " {dont_frag} {more_frags} {}", packet.frag_offset())?;
-    let (hop_limit, next_header) = (packet.hop_limit(), packet.next_header().number());
-    write!(text, " {hop_limit} {next_header} {}", packet.checksum())?;
-    Ok(write!(text, " {} {}", packet.src_addr(), packet.dst_addr())?)
+    let numbers = [
+        packet.version().into(),
+        packet.header_len().into(),
+        packet.dscp().into(),
+        packet.ecn().into(),
+        packet.total_len(),
+        packet.ident(),
+    ];
+    push_all(&numbers, text)?;
+    push_all(&[packet.dont_frag(), packet.more_frags()], text)?;
+    let numbers = [
+        packet.frag_offset(),
+        packet.hop_limit().into(),
+        packet.next_header().number().into(),
+        packet.checksum(),
+    ];
+    push_all(&numbers, text)?;
+    push_all(&[packet.src_addr(), packet.dst_addr()], text)
 }
 
-fn ipv6(bytes: &[u8], text: &mut String) -> Result<(), NoAnswer> {
+fn ipv6(bytes: &[u8], text: &mut String) -> Result<(), AllocError> {
     if bytes.len() < IPV6_HEADER_LEN {
-        return Err(NoAnswer::Malformed);
+        return Ok(());
     }
     let packet = Ipv6Packet::new_unchecked(bytes);
-    let (version, traffic_class) = (packet.version(), packet.traffic_class());
-    write!(text, "{version} {traffic_class} {}", packet.flow_label())?;
-    let (payload_len, hop_limit) = (packet.payload_len(), packet.hop_limit());
-    let next_header = packet.next_header().number();
-    write!(text, " {payload_len} {next_header} {hop_limit}")?;
-    Ok(write!(text, " {} {}", packet.src_addr(), packet.dst_addr())?)
+    let numbers = [
+        packet.version().into(),
+        packet.traffic_class().into(),
+        packet.flow_label(),
+        packet.payload_len().into(),
+        packet.next_header().number().into(),
+        packet.hop_limit().into(),
+    ];
+    push_all(&numbers, text)?;
+    push_all(&[packet.src_addr(), packet.dst_addr()], text)
 }
 
-fn fragment(bytes: &[u8], text: &mut String) -> Result<(), NoAnswer> {
+fn fragment(bytes: &[u8], text: &mut String) -> Result<(), AllocError> {
     let Ok(header) = Ipv6FragmentHeader::new_checked(bytes) else {
-        return Err(NoAnswer::Malformed);
+        return Ok(());
     };
-    let (frag_offset, more_frags) = (header.frag_offset(), header.more_frags());
-    Ok(write!(text, "{frag_offset} {more_frags} {}", header.ident())?)
+    push_all(&[header.frag_offset()], text)?;
+    push_all(&[header.more_frags()], text)?;
+    push_all(&[header.ident()], text)
 }
 
-fn udp(bytes: &[u8], text: &mut String) -> Result<(), NoAnswer> {
+fn udp(bytes: &[u8], text: &mut String) -> Result<(), AllocError> {
     if bytes.len() < UDP_HEADER_LEN {
-        return Err(NoAnswer::Malformed);
+        return Ok(());
     }
     let packet = UdpPacket::new_unchecked(bytes);
-    let (src_port, dst_port) = (packet.src_port(), packet.dst_port());
-    Ok(write!(
-        text,
-        "{src_port} {dst_port} {} {}",
+    let numbers = [
+        packet.src_port(),
+        packet.dst_port(),
         packet.len(),
-        packet.checksum()
-    )?)
+        packet.checksum(),
+    ];
+    push_all(&numbers, text)
 }
 
-fn tcp(bytes: &[u8], text: &mut String) -> Result<(), NoAnswer> {
+fn tcp(bytes: &[u8], text: &mut String) -> Result<(), AllocError> {
     if bytes.len() < TCP_HEADER_LEN {
-        return Err(NoAnswer::Malformed);
+        return Ok(());
     }
     let packet = TcpPacket::new_unchecked(bytes);
-    let (src_port, dst_port) = (packet.src_port(), packet.dst_port());
-    let (seq, ack) = (packet.seq_number(), packet.ack_number());
-    write!(
-        text,
-        "{src_port} {dst_port} {seq} {ack} {}",
-        packet.header_len()
-    )?;
-    push_flags(&packet, text)?;
-    let (window_len, checksum) = (packet.window_len(), packet.checksum());
-    Ok(write!(text, " {window_len} {checksum} {}", packet.urgent_at())?)
-}
-
-// Appends the flags of a TCP header.
-fn push_flags(packet: &TcpPacket<'_>, text: &mut String) -> Result<(), AllocError>
-    requires { 20 ≤ length (tcp.packet_bytes packet.now) }
-{
-    for flag in [
+    push_all(&[packet.src_port(), packet.dst_port()], text)?;
+    push_all(&[packet.seq_number(), packet.ack_number()], text)?;
+    push_all(&[packet.header_len()], text)?;
+    let flags = [
         packet.ns(),
         packet.cwr(),
         packet.ece(),
@@ -160,8 +152,8 @@ fn push_flags(packet: &TcpPacket<'_>, text: &mut String) -> Result<(), AllocErro
         packet.rst(),
         packet.syn(),
         packet.fin(),
-    ] {
-        write!(text, " {flag}")?;
-    }
-    Ok(())
+    ];
+    push_all(&flags, text)?;
+    let numbers = [packet.window_len(), packet.checksum(), packet.urgent_at()];
+    push_all(&numbers, text)
 }

@@ -1,79 +1,57 @@
 //! The replies of a host to frames.
 
-use crate::answer::NoAnswer;
-use crate::operands::{NOTHING, octets, read};
-use crate::tcp::seq_number_of;
+use crate::operands::{NOTHING, Operands};
 use ip_host::Host;
 use ip_replies::Interface;
 use ip_replies::tcp_reply::Offer;
-use std::alloc::Global;
+use ip_wire::EthernetAddress;
+use std::alloc::{AllocError, Global};
 
 /// The largest buffer for a reply, in octets.
 const MAX_ROOM: usize = 1 << 17;
 
 /// The name of the line, and the octets of the reply.
-pub fn answer(alloc: Global, operands: &[&str]) -> Result<String, NoAnswer> {
-    let [
-        name,
-        hardware_addr,
-        ipv4_addr,
-        ipv6_addr,
-        echo_port,
-        open_ports,
-        offer @ ..,
-        room,
-        frame,
-    ] = operands
-    else {
-        return Err(NoAnswer::Malformed);
-    };
-    let open_ports = ports(alloc, open_ports)?;
+pub fn answer(alloc: Global, operands: &mut Operands<'_>) -> Result<String, AllocError> {
+    let name = operands.word();
+    let interface = interface(operands);
+    let echo_port = operands.number();
+    let open_ports = operands.numbers(alloc)?;
     let host = Host {
-        interface: Interface {
-            hardware_addr: read(hardware_addr)?,
-            ipv4_addr: read(ipv4_addr)?,
-            ipv6_addr: read(ipv6_addr)?,
-        },
-        echo_port: read(echo_port)?,
+        interface,
+        echo_port,
         open_ports: open_ports.as_slice(),
-        offer: offer_of(offer)?,
+        offer: offer(operands),
     };
-    let frame = octets(alloc, frame)?;
-    let room: usize = read(room)?;
+    let room: usize = operands.number();
+    let frame = operands.octets(alloc)?;
     if room > MAX_ROOM {
-        return Err(NoAnswer::Malformed);
+        operands.refuse();
+        return Ok(String::new(alloc));
     }
     let mut out = vec![in alloc; 0; room]?;
     let reply = match ip_host::answer(&host, frame.as_slice(), out.as_mut_slice()) {
         Some(len) => hex::encode(alloc, &out.as_slice()[..len])?,
         None => String::from_str(alloc, NOTHING)?,
     };
-    Ok(format!(in alloc; "{name} {reply}")?)
+    format!(in alloc; "{name} {reply}")
 }
 
-// Numbers joined by commas, and no numbers for `-`.
-fn ports(alloc: Global, word: &str) -> Result<Vec<u16>, NoAnswer> {
-    let mut ports = Vec::new(alloc);
-    if word == NOTHING {
-        return Ok(ports);
+// The addresses of a host.
+fn interface(operands: &mut Operands<'_>) -> Interface {
+    Interface {
+        hardware_addr: operands.number::<EthernetAddress>(),
+        ipv4_addr: operands.ipv4(),
+        ipv6_addr: operands.ipv6(),
     }
-    for port in word.split(',') {
-        let port = read(port)?;
-        ports.push(port).map_err(|_| NoAnswer::Memory)?;
-    }
-    Ok(ports)
 }
 
 // What the open ports offer.
-fn offer_of(operands: &[&str]) -> Result<Offer, NoAnswer> {
-    let [initial, window_len, max_seg_size, window_scale, clock] = operands else {
-        return Err(NoAnswer::Malformed);
-    };
-    Ok(Offer {
-        initial: seq_number_of(read(initial)?),
-        window_len: read(window_len)?,
-        max_seg_size: read(max_seg_size)?,
-        window_scale: read(window_scale)?,
-        clock: read(clock)?,
-    })
+fn offer(operands: &mut Operands<'_>) -> Offer {
+    Offer {
+        initial: operands.seq_number(),
+        window_len: operands.number(),
+        max_seg_size: operands.number(),
+        window_scale: operands.number(),
+        clock: operands.number(),
+    }
 }

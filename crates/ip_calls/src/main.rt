@@ -52,20 +52,16 @@
 mod again;
 mod answer;
 mod block;
-mod checksum;
 mod class;
-mod fragment;
+mod emit;
 mod get;
-mod header;
 mod host;
-mod mask;
 mod operands;
 mod options;
 mod run;
 mod set;
 mod tcp;
 mod text;
-mod udp;
 
 use crate::run::run;
 use std::process::ExitCode;

@@ -1,116 +1,250 @@
 //! Operands of calls, parsed from words.
 
-ghost use Rattle.std.specs.Prelude.{◌≡◌, IfOk};
+ghost use Rattle.std.specs.Prelude.{◌≡◌};
 ghost use Rattle.ip_wire.specs.IpAddress.{version_of};
 
-use crate::answer::NoAnswer;
 use hex::FromHexError;
-use ip_wire::IpAddress;
+use ip_wire::{IpAddress, Ipv4Address, Ipv6Address, TcpSeqNumber};
 use net_base::{Checksum, ChecksumCapabilities};
-use std::alloc::Global;
+use std::alloc::{AllocError, Global};
 use std::str::FromStr;
 
 /// The word for no value.
 pub const NOTHING: &str = "-";
 
-/// Parses a word as a number, an address or a block.
-pub fn read<T: FromStr>(word: &str) -> Result<T, NoAnswer>
-where
-    T::Err: Drop,
-{
-    match word.parse() {
-        Ok(value) => Ok(value),
-        Err(_) => Err(NoAnswer::Malformed),
+/// The words of a line that are not parsed yet. A word that is missing or does not parse makes the
+/// line malformed, and is read as a default value. So only `is_whole` has to be tested, at the end.
+#[derive(Drop)]
+pub struct Operands<'a> {
+    words: &'a [&'a str],
+    malformed: bool,
+}
+
+impl<'a> Operands<'a> {
+    /// The operands of a line of these words.
+    pub fn new(words: &'a [&'a str]) -> Self {
+        Operands {
+            words,
+            malformed: false,
+        }
+    }
+
+    /// Whether all words were read, and each was one that the call takes.
+    pub fn is_whole(&self) -> bool {
+        self.words.is_empty() && !self.malformed
+    }
+
+    /// Makes the line malformed.
+    pub fn refuse(&mut self) {
+        self.malformed = true;
+    }
+
+    /// The next word.
+    pub fn word(&mut self) -> &'a str {
+        match self.words {
+            [word, rest @ ..] => {
+                self.words = rest;
+                word
+            }
+            [] => {
+                self.refuse();
+                ""
+            }
+        }
+    }
+
+    /// The last word.
+    pub fn last(&mut self) -> &'a str {
+        match self.words {
+            [rest @ .., word] => {
+                self.words = rest;
+                word
+            }
+            [] => {
+                self.refuse();
+                ""
+            }
+        }
+    }
+
+    /// A number.
+    pub fn number<T: FromStr + Default + Copy>(&mut self) -> T
+    where
+        T::Err: Drop,
+    {
+        self.value(T::default())
+    }
+
+    /// An address or a block.
+    pub fn value<T: FromStr + Copy>(&mut self, default: T) -> T
+    where
+        T::Err: Drop,
+    {
+        let word = self.word();
+        self.parsed(word, default)
+    }
+
+    // A word that was read.
+    fn parsed<T: FromStr + Copy>(&mut self, word: &str, default: T) -> T
+    where
+        T::Err: Drop,
+    {
+        let value = word.parse().ok();
+        self.malformed |= value.is_none();
+        value.unwrap_or(default)
+    }
+
+    /// A number, and `None` for `-`.
+    pub fn maybe<T: FromStr + Default + Copy>(&mut self) -> Option<T>
+    where
+        T::Err: Drop,
+    {
+        if self.skips_nothing() {
+            None
+        } else {
+            Some(self.number())
+        }
+    }
+
+    // Whether the next word is `-`, which is then read.
+    fn skips_nothing(&mut self) -> bool {
+        match self.words {
+            [word, rest @ ..] if *word == NOTHING => {
+                self.words = rest;
+                true
+            }
+            _ => false,
+        }
+    }
+
+    /// Two numbers joined by a comma, and `None` for `-`.
+    pub fn pair(&mut self) -> Option<(u32, u32)> {
+        if self.skips_nothing() {
+            return None;
+        }
+        let (first, second) = self.word().split_once(',').unwrap_or(("", ""));
+        Some((self.parsed(first, 0), self.parsed(second, 0)))
+    }
+
+    /// Numbers joined by commas, and no numbers for `-`.
+    pub fn numbers(&mut self, alloc: Global) -> Result<Vec<u16>, AllocError> {
+        let mut numbers = Vec::new(alloc);
+        if self.skips_nothing() {
+            return Ok(numbers);
+        }
+        for word in self.word().split(',') {
+            numbers.push(self.parsed(word, 0))?;
+        }
+        Ok(numbers)
+    }
+
+    /// A sequence number, as its bits.
+    pub fn seq_number(&mut self) -> TcpSeqNumber {
+        seq_number_of(self.number())
+    }
+
+    /// An IPv4 address.
+    pub fn ipv4(&mut self) -> Ipv4Address {
+        self.value(Ipv4Address::UNSPECIFIED)
+    }
+
+    /// An IPv6 address.
+    pub fn ipv6(&mut self) -> Ipv6Address {
+        self.value(Ipv6Address::UNSPECIFIED)
+    }
+
+    /// An address of either version.
+    pub fn address(&mut self) -> IpAddress {
+        self.value(IpAddress::Ipv4(Ipv4Address::UNSPECIFIED))
+    }
+
+    /// Two addresses of one version.
+    pub fn addresses(&mut self) -> (IpAddress, IpAddress)
+        ensures { version_of result.0 ≡ version_of result.1 }
+    {
+        let (src, dst) = (self.address(), self.address());
+        if src.version() == dst.version() {
+            (src, dst)
+        } else {
+            self.refuse();
+            (src, src)
+        }
+    }
+
+    /// Octets of hex digits, and no octets for `-`.
+    pub fn octets(&mut self, alloc: Global) -> Result<Vec<u8>, AllocError> {
+        let word = self.word();
+        self.octets_of(alloc, word)
+    }
+
+    /// The octets of a word that was read.
+    pub fn octets_of(&mut self, alloc: Global, word: &str) -> Result<Vec<u8>, AllocError> {
+        if word == NOTHING {
+            return Ok(Vec::new(alloc));
+        }
+        match hex::decode(alloc, word) {
+            Ok(octets) => Ok(octets),
+            Err(FromHexError::OutOfMemory) => Err(AllocError),
+            Err(_) => {
+                self.refuse();
+                Ok(Vec::new(alloc))
+            }
+        }
+    }
+
+    /// Whether the word is `1`.
+    pub fn flag(&mut self) -> bool {
+        self.word() == "1"
+    }
+
+    /// Which checksums are computed: all for `1`, else none.
+    pub fn computed(&mut self) -> ChecksumCapabilities {
+        let checksum = if self.flag() {
+            Checksum::Both
+        } else {
+            Checksum::Rx
+        };
+        ChecksumCapabilities {
+            ipv4: checksum,
+            udp: checksum,
+            tcp: checksum,
+            icmpv4: checksum,
+            icmpv6: checksum,
+        }
+    }
+
+    /// The choices of five letters, for IPv4, UDP, TCP, ICMPv4 and ICMPv6.
+    pub fn capabilities(&mut self) -> ChecksumCapabilities {
+        let word = self.word();
+        let [ipv4, udp, tcp, icmpv4, icmpv6] = word.as_bytes() else {
+            self.refuse();
+            return ChecksumCapabilities::default();
+        };
+        ChecksumCapabilities {
+            ipv4: self.choice(*ipv4),
+            udp: self.choice(*udp),
+            tcp: self.choice(*tcp),
+            icmpv4: self.choice(*icmpv4),
+            icmpv6: self.choice(*icmpv6),
+        }
+    }
+
+    // The choice of this letter.
+    fn choice(&mut self, letter: u8) -> Checksum {
+        match letter {
+            b'n' => Checksum::None,
+            b'r' => Checksum::Rx,
+            b't' => Checksum::Tx,
+            b'b' => Checksum::Both,
+            _ => {
+                self.refuse();
+                Checksum::None
+            }
+        }
     }
 }
 
-/// The same, and `None` for `-`.
-pub fn maybe<T: FromStr>(word: &str) -> Result<Option<T>, NoAnswer>
-where
-    T::Err: Drop,
-{
-    if word == NOTHING {
-        Ok(None)
-    } else {
-        Ok(Some(read(word)?))
-    }
-}
-
-/// Two numbers joined by a comma, and `None` for `-`.
-pub fn pair(word: &str) -> Result<Option<(u32, u32)>, NoAnswer> {
-    if word == NOTHING {
-        return Ok(None);
-    }
-    let (first, second) = word.split_once(',').ok_or(NoAnswer::Malformed)?;
-    Ok(Some((read(first)?, read(second)?)))
-}
-
-/// Octets of hex digits, and no octets for `-`.
-pub fn octets(alloc: Global, word: &str) -> Result<Vec<u8>, NoAnswer> {
-    if word == NOTHING {
-        return Ok(Vec::new(alloc));
-    }
-    match hex::decode(alloc, word) {
-        Ok(octets) => Ok(octets),
-        Err(FromHexError::OutOfMemory) => Err(NoAnswer::Memory),
-        Err(_) => Err(NoAnswer::Malformed),
-    }
-}
-
-/// Two addresses of one version.
-pub fn addresses(src: &str, dst: &str) -> Result<(IpAddress, IpAddress), NoAnswer>
-    ensures { IfOk result (λ ends. version_of ends.0 ≡ version_of ends.1) }
-{
-    let (src, dst): (IpAddress, IpAddress) = (read(src)?, read(dst)?);
-    if src.version() == dst.version() {
-        Ok((src, dst))
-    } else {
-        Err(NoAnswer::Malformed)
-    }
-}
-
-/// Whether the word is `1`.
-pub fn flag(word: &str) -> bool {
-    word == "1"
-}
-
-/// Which checksums are computed: all or none.
-pub fn computed(word: &str) -> ChecksumCapabilities {
-    let checksum = if flag(word) {
-        Checksum::Both
-    } else {
-        Checksum::Rx
-    };
-    ChecksumCapabilities {
-        ipv4: checksum,
-        udp: checksum,
-        tcp: checksum,
-        icmpv4: checksum,
-        icmpv6: checksum,
-    }
-}
-
-/// The choices of five letters, for IPv4, UDP, TCP, ICMPv4 and ICMPv6.
-pub fn capabilities(word: &str) -> Result<ChecksumCapabilities, NoAnswer> {
-    let [ipv4, udp, tcp, icmpv4, icmpv6] = word.as_bytes() else {
-        return Err(NoAnswer::Malformed);
-    };
-    Ok(ChecksumCapabilities {
-        ipv4: choice(*ipv4)?,
-        udp: choice(*udp)?,
-        tcp: choice(*tcp)?,
-        icmpv4: choice(*icmpv4)?,
-        icmpv6: choice(*icmpv6)?,
-    })
-}
-
-// The choice of this letter.
-fn choice(letter: u8) -> Result<Checksum, NoAnswer> {
-    match letter {
-        b'n' => Ok(Checksum::None),
-        b'r' => Ok(Checksum::Rx),
-        b't' => Ok(Checksum::Tx),
-        b'b' => Ok(Checksum::Both),
-        _ => Err(NoAnswer::Malformed),
-    }
+/// The sequence number of these bits.
+pub fn seq_number_of(bits: u32) -> TcpSeqNumber {
+    TcpSeqNumber(bits.cast_signed())
 }
