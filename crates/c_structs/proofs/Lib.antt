@@ -12,4 +12,4 @@ mod StoredOnce
 mod StoredParts
 mod TcpResummed
 mod UdpKept
-mod WrittenWorked
+mod WrittenOnce

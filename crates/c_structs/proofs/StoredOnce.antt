@@ -1,6 +1,6 @@
 -- One struct alone stores the values of a frame: two structs that do differ at most in their verdicts on checksums.
-use Rattle.std.proofs.Common.{ℕ, ◌≡◌, ◌<◌, ◌≤◌, ◌⊎◌, inl, inr, ◌∙◌, nat_lt, Bool, true, false, List, drop, length, refl, sym, arith}
-use Rattle.std.proofs.lemmas.Bool.Decides.{nat_tests}
+use Rattle.std.proofs.Common.{ℕ, ◌≡◌, inl, inr, ◌∙◌, List, drop, length, refl, sym, arith}
+use Rattle.std.proofs.lemmas.Bool.{cases_lt}
 use Rattle.ip_wire.specs.Frame.{Carried, Transport, datagram, message, other, packet, packet_payload, segment}
 use Rattle.ip_wire.specs.Ip.{next_header_of}
 use Rattle.ip_wire.specs.Types.{ArpRepr, EthernetRepr, IpProtocol, IpRepr, Ipv4, Ipv4Repr, Ipv6}
@@ -274,20 +274,12 @@ same-rejected_tcp f g bytes a b = record {
   };
 }
 
--- a number is less than the other one, or it is not
-below-by : (n k : ℕ) (b : Bool) → nat_lt n k ≡ b → (n < k) ⊎ (k ≤ n)
-below-by n k true e = inl (grind (arith, nat_tests))
-below-by n k false e = inr (grind (arith, nat_tests))
-
-below-or-not : (n k : ℕ) → (n < k) ⊎ (k ≤ n)
-below-or-not n k = below-by n k (nat_lt n k) refl
-
 same-rejected : (f g : FrameFields) (p : IpProtocol) (bytes : List ℕ) → StoresRejectedBy f p bytes → StoresRejectedBy g p bytes → SameRejected f g
-same-rejected f g protocol.Udp bytes a b = elim (below-or-not (length bytes) 8) [
+same-rejected f g protocol.Udp bytes a b = elim (cases_lt (length bytes) 8) [
   | inl few ↦ same-too_short f g (a.0 few) (b.0 few)
   | inr enough ↦ same-rejected_udp f g bytes (a.1 enough) (b.1 enough)
 ]
-same-rejected f g protocol.Tcp bytes a b = elim (below-or-not (length bytes) 20) [
+same-rejected f g protocol.Tcp bytes a b = elim (cases_lt (length bytes) 20) [
   | inl few ↦ same-too_short f g (a.0 few) (b.0 few)
   | inr enough ↦ same-rejected_tcp f g bytes (a.1 enough) (b.1 enough)
 ]
