@@ -4,9 +4,9 @@
     tests/definitions.py [TOP]
 
 Each name in the first column must be defined in a module of the heading. Each test, law and file of worked examples in the
-last column must exist. Behind "too wide:", at the end of a row, there must be at least one of them, and nothing else. What does
-not exist is printed, and the status is 1 then. Each lemma of docs/LEMMAS.md must be public in its module, and a crate above
-`ip_wire` must reach that module. TOP is the top of the repository.
+last column must exist. Behind "too wide:", at the end of a row, there must be at least one of them or a proof of a call, and
+nothing else. What does not exist is printed, and the status is 1 then. Each lemma of docs/LEMMAS.md must be public in its
+module, and a crate above `ip_wire` must reach that module. TOP is the top of the repository.
 """
 import functools
 import glob
@@ -30,6 +30,12 @@ FILES = {
 def read(path):
     with open(path, encoding="utf-8") as file:
         return file.read()
+
+
+@functools.cache
+def calls():
+    """The names of all functions of the sources."""
+    return {name for path in glob.glob("crates/*/src/**/*.rt", recursive=True) for name in re.findall(r"\bfn (\w+)", read(path))}
 
 
 def modules(heading):
@@ -74,10 +80,12 @@ def exists(pin):
 def wide_faults(last, laws):
     """What is wrong with the mark "too wide:" in the last cell of a row, if it has one."""
     _, mark, pins = last.partition("too wide:")
-    names = re.findall(r"`([^`]+)`", pins)
-    if mark and (not names or re.sub(r"`[^`]+`|laws?|and|[,\s]", "", pins)):
-        yield f"this mark names no law, test or file of theorems: {mark}{pins}"
+    proved = re.findall(r"proof of `(\w+)`", pins)
+    names = re.findall(r"`([^`]+)`", re.sub(r"proof of `\w+`", "", pins))
+    if mark and (not names + proved or re.sub(r"(proof of )?`[^`]+`|laws?|and|[,\s]", "", pins)):
+        yield f"this mark names no law, call, test or file of theorems: {mark}{pins}"
     yield from (f"{name} excludes nothing" for name in names if name not in laws and path_of(name) is None)
+    yield from (f"there is no call {name}" for name in proved if name not in calls())
 
 
 def reached():

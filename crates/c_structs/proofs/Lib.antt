@@ -11,4 +11,4 @@ mod StoredHeaders
 mod StoredParts
 mod TcpResummed
 mod UdpKept
-mod WrittenWorked
+mod WrittenOnce

@@ -1,2 +1,2 @@
 pub mod Forwards
-mod ForwardWorked
+mod ForwardOnce

@@ -3,9 +3,6 @@ use Rattle.std.proofs.Common.{ℕ, ◌≡◌, inl, inr, List, Option, Some, None
 use Rattle.std.specs.Prelude.{IfSome}
 use Rattle.ip_host.specs.Host.{Answers, IsUnread, RepliesBytes, RepliesFrame}
 use Rattle.ip_host.specs.declared.host.Host.{Host}
-use Rattle.ip_replies.proofs.ArpReplies as arp
-use Rattle.ip_replies.proofs.Echoes as echo
-use Rattle.ip_replies.proofs.TcpReplies as tcp
 use Rattle.ip_replies.specs.Arp.{ArpRepliesFrame}
 use Rattle.ip_wire.specs.Reply.{Gives, Sends}
 use Rattle.ip_replies.specs.TcpReply.{TcpRepliesFrame}
@@ -37,22 +34,6 @@ pub by_tcp : (host : Host) (request : Frame) (result : Option Frame) → Gives (
 by_tcp host request None no_arp no_echo no_tcp = by_none host request no_arp no_echo no_tcp
 by_tcp host request (Some f) no_arp no_echo gives =
     given (TcpRepliesFrame host.interface host.open_ports.now host.offer request) (RepliesFrame host request) f (λ h c (asked, is, e). (asked, is, inr (inr e))) gives
-
--- ---- there is a reply
-
--- two replies of a host to one frame carry the same
-pub one_answer : (host : Host) (request : Frame) (h k : EthernetRepr) (c d : Carried) → RepliesFrame host request h c → RepliesFrame host request k d → c ≡ d
-one_answer host request h k c d (asked, is, inl e) (other, also, inl g) = arp.one_answer host.interface request h k c d (asked, is, e) (other, also, g)
-one_answer host request h k c d (asked, is, inr (inl e)) (other, also, inr (inl g)) =
-    echo.one_echo host.interface host.echo_port request h k c d (asked, is, e) (other, also, g)
-one_answer host request h k c d (asked, is, inr (inr e)) (other, also, inr (inr g)) =
-    tcp.one_answer host.interface host.open_ports.now host.offer request h k c d (asked, is, e) (other, also, g)
-one_answer host request h k c d (asked, is, inl e) (other, also, inr (inl g)) = absurd (let a = e.asks in let b = g.asks in cc)
-one_answer host request h k c d (asked, is, inl e) (other, also, inr (inr g)) = absurd (let a = e.asks in let b = g.asks in cc)
-one_answer host request h k c d (asked, is, inr (inl e)) (other, also, inl g) = absurd (let a = e.asks in let b = g.asks in cc)
-one_answer host request h k c d (asked, is, inr (inl e)) (other, also, inr (inr g)) = absurd (let a = e.asks in let b = g.asks in cc)
-one_answer host request h k c d (asked, is, inr (inr e)) (other, also, inl g) = absurd (let a = e.asks in let b = g.asks in cc)
-one_answer host request h k c d (asked, is, inr (inr e)) (other, also, inr (inl g)) = absurd (let a = e.asks in let b = g.asks in cc)
 
 -- ---- the same for bytes
 

@@ -1,3 +1,3 @@
+pub mod HostOnce
 pub mod HostReplies
-pub mod HostWorked
 pub mod ReplyEnds

@@ -7,5 +7,4 @@ pub mod Translates
 pub mod UdpEnds
 pub mod Undone
 pub mod Words
-mod NatWorked
-mod TranslatedWorked
+mod NatOnce

@@ -1,9 +1,8 @@
 pub mod Agree
 pub mod Blocks
 pub mod Equal
-mod FindsWorked
 pub mod Found
-mod FrameValueWorked
+mod FrameOnce
 pub mod Octets
 pub mod Options
 pub mod Parsed

@@ -5,6 +5,7 @@ use Rattle.std.specs.Option.{option_map_or}
 use Rattle.std.specs.Prelude.{Err, IfOk, Ok, Result}
 use Rattle.std.proofs.lemmas.Bool.{cases_Bool}
 use Rattle.net_base.specs.declared.Error.{Error}
+use Rattle.ip_wire.proofs.One.{one_answer}
 use Rattle.ip_wire.proofs.OptionLists.{one_list}
 use Rattle.ip_wire.proofs.Walks.{Marks, first_of-append, long, long_on, one_long_walk, stuck_walk}
 use Rattle.ip_wire.specs.TcpItems.{IsItem, IsOptionList, Item, first_blocks, is_of, last_of, text, texts}
@@ -35,12 +36,6 @@ first_of-front kind (Some j ∷ xs) ys i found = elim (cases_Bool (eqb j.kind ki
   | inl y ↦ rw y (rw y at found)
   | inr n ↦ rw n (first_of-front kind xs ys i (rw n at found))
 ]
-
--- bytes have one answer
-one_answer : {A : Type 0} (bytes : List ℕ) (kind : ℕ) (f : Item → A) (default : A) (a b : Result A Error) → Answers bytes kind f default a → Answers bytes kind f default b → a ≡ b
-one_answer bytes kind f default a b (xs, r, long_a, is) (ys, s, long_b, also) =
-    let (same, rest) = one_long_walk bytes xs ys r s long_a long_b in
-    is ∙ ap (λ l. answer_of f default (first_of kind l) r) same ∙ ap (λ t. answer_of f default (first_of kind ys) t) rest ∙ sym also
 
 -- the search passes the list, and then the bytes behind it
 on_behind : {A : Type 0} (options : List ℕ) (items : List Item) (tail : List ℕ) (kind : ℕ) (f : Item → A) (default : A) (a : Result A Error)

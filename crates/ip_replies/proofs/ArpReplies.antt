@@ -3,7 +3,7 @@ use Rattle.std.proofs.Common.{◌≡◌, ◌∙◌, Some, None, refl, sym, ap, s
 use Rattle.ip_wire.specs.Arp as arp
 use Rattle.ip_wire.specs.Frame as frame
 use Rattle.ip_wire.specs.FrameValue.{arp_frame, carried_of}
-use Rattle.ip_wire.specs.Types.{ArpRepr, EthernetAddress, EthernetRepr}
+use Rattle.ip_wire.specs.Types.{ArpRepr, EthernetAddress}
 use Rattle.ip_wire.specs.declared.Carried.TheVariants as carried
 use Rattle.ip_wire.specs.declared.Frame.{Frame}
 use Rattle.ip_replies.specs.Arp.{ArpRepliesFrame, IsArpReply}
@@ -37,16 +37,3 @@ no_reply ours request m carries none header carried (asked, is, e) =
     let mine : carried_of request.carried ≡ Some (frame.message m) = ap carried_of carries in
     let same : e.request ≡ m = cc in
     none e.asker e.reply (subst (λ x. IsArpReply ours x e.asker e.reply) same e.replies)
-
--- two replies to one ARP request carry the same
-pub one_answer : (ours : Interface) (request : Frame) (h k : EthernetRepr) (c d : frame.Carried) → ArpRepliesFrame ours request h c → ArpRepliesFrame ours request k d → c ≡ d
-one_answer ours request h k c d (asked, is, e) (other, also, g) =
-    let asks = e.asks in
-    let other_asks = g.asks in
-    let same : e.request ≡ g.request = cc in
-    let first = e.replies.asks in
-    let second = g.replies.asks in
-    let told = e.replies.tells in
-    let other_told = g.replies.tells in
-    let reply : e.reply ≡ g.reply = cc in
-    e.carries ∙ ap frame.message reply ∙ sym g.carries

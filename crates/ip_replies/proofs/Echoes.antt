@@ -28,7 +28,7 @@ echo_values v u octets = frame.packet (header_before (header_back v) protocol.Ud
 abbrev pub echo_of : Interface → EthernetRepr → IpRepr → UdpRepr → Bor (List ℕ) → Frame
 echo_of ours link v u payload = frame_around ours.hardware_addr link.src_addr (header_back v) (transport.Udp (swapped u) payload)
 
-same_type : (v : IpRepr) → type_of (header_back v) ≡ type_of v
+pub same_type : (v : IpRepr) → type_of (header_back v) ≡ type_of v
 same_type (Ipv4 v) = refl
 same_type (Ipv6 v) = refl
 
@@ -94,14 +94,3 @@ no_echo ours port request none header carried (asked, same, e) =
     let found = carries_udp request.carried e.ip e.udp e.payload (same ∙ ap Some e.asks) in
     none e.ip e.udp found.0 found.1 e.to_port e.from_other e.for_us
     (agreed ours request.header e.ip e.udp found.0 e.from_port (subst (λ (l : List ℕ). 8 + length l ≤ max_payload_len e.ip) (sym found.2) e.fits))
-
--- a UDP packet for the port has a reply
-pub one_echo : (ours : Interface) (port : ℕ) (request : Frame) (h k : EthernetRepr) (c d : frame.Carried) → EchoesFrame ours port request h c → EchoesFrame ours port request k d → c ≡ d
-one_echo ours port request h k c d (asked, same, e) (other, also, g) =
-    let first = e.asks in
-    let second = g.asks in
-    let asks : frame.packet e.ip (frame.datagram e.udp e.payload) ≡ frame.packet g.ip (frame.datagram g.udp g.payload) = cc in
-    let ip : e.ip ≡ g.ip = cc in
-    let udp : e.udp ≡ g.udp = cc in
-    let payload : e.payload ≡ g.payload = cc in
-    e.echoes ∙ ap (λ v. echo_values v e.udp e.payload) ip ∙ ap (λ u. echo_values g.ip u e.payload) udp ∙ ap (λ l. echo_values g.ip g.udp l) payload ∙ sym g.echoes

@@ -1,6 +1,4 @@
 pub mod ArpReplies
 pub mod Echoes
-pub mod RepliesWorked
-mod SentWorked
-pub mod SourceWorked
+pub mod RepliesOnce
 pub mod TcpReplies

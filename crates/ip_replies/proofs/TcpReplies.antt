@@ -17,6 +17,7 @@ use Rattle.ip_wire.specs.declared.TcpRepr.{TcpRepr}
 use Rattle.ip_wire.specs.declared.TcpSeqNumber.{TcpSeqNumber}
 use Rattle.ip_wire.specs.declared.Transport.TheVariants as transport
 use Rattle.ip_wire.proofs.Carries.{carries_tcp}
+use Rattle.ip_replies.proofs.Echoes.{same_type}
 use Rattle.ip_replies.specs.Interface.{IsForUs, header_back}
 use Rattle.ip_wire.specs.Reply.{Gives, IsSendable}
 use Rattle.ip_replies.specs.TcpReply.{Replies, TcpRepliesFrame, back, closed_by, listen_by, reset_by, reset_for, syn_ack}
@@ -77,13 +78,6 @@ plain ports offer asked len reply (inl (has, is)) =
     plain_listen asked.control asked.ack_number asked (reset_for asked 0) (syn_ack offer asked) reply (plain_reset asked.ack_number asked _) (plain_syn_ack offer asked) is
 plain ports offer asked len reply (inr (lacks, is)) = plain_closed asked.control asked (reset_for asked len) reply (plain_reset asked.ack_number asked _) is
 
--- there is at most one reply
-pub one_reply : (ports : List ℕ) (offer : Offer) (asked : TcpHeader) (len : ℕ) (a b : TcpHeader) → Replies ports offer asked len a → Replies ports offer asked len b → a ≡ b
-one_reply ports offer asked len a b (inl (has, is)) (inl (also, same)) = cc
-one_reply ports offer asked len a b (inl (has, is)) (inr (lacks, same)) = absurd (lacks has)
-one_reply ports offer asked len a b (inr (lacks, is)) (inl (has, same)) = absurd (lacks has)
-one_reply ports offer asked len a b (inr (lacks, is)) (inr (also, same)) = cc
-
 -- ---- frames
 
 abbrev pub frame_of : Interface → EthernetRepr → IpRepr → TcpRepr → Frame
@@ -109,10 +103,6 @@ sendable ours link (Ipv6 v) t agrees fits same =
 ports_of : (ours : Interface) (link : EthernetRepr) (v : IpRepr) (t : TcpRepr) → Agrees (frame_of ours link v t) → (t.src_port ≢ 0) × (t.dst_port ≢ 0)
 ports_of ours link (Ipv4 v) t agrees = (agrees.1.1, agrees.1.2)
 ports_of ours link (Ipv6 v) t agrees = (agrees.1.1, agrees.1.2)
-
-same_type : (v : IpRepr) → type_of (header_back v) ≡ type_of v
-same_type (Ipv4 v) = refl
-same_type (Ipv6 v) = refl
 
 -- the contents of the reply
 abbrev pub reply_values : IpRepr → TcpHeader → frame.Carried
@@ -173,21 +163,6 @@ no_reply ours ports offer request none header carried (asked, same, e) =
     let replies = subst (λ (x : TcpHeader). Replies ports offer x (length e.payload) e.reply) (sym found.2) e.replies in
     none e.ip t e.reply found.1 e.for_us (λ z. e.from_port (ap (λ (x : TcpHeader). x.src_port) (sym found.2) ∙ z)) (λ z. e.to_port (ap (λ (x : TcpHeader). x.dst_port) (sym found.2) ∙ z))
     (subst (λ (l : List ℕ). Replies ports offer (header_of t) (length l) e.reply) (sym found.3) replies)
-
--- two replies to one segment carry the same
-pub one_answer : (ours : Interface) (ports : List ℕ) (offer : Offer) (request : Frame) (h k : EthernetRepr) (c d : frame.Carried)
-    → TcpRepliesFrame ours ports offer request h c → TcpRepliesFrame ours ports offer request k d → c ≡ d
-one_answer ours ports offer request h k c d (asked, same, e) (other, also, g) =
-    let asked_is = e.asks in
-    let other_is = g.asks in
-    let asks : frame.packet e.ip (frame.segment e.tcp e.payload) ≡ frame.packet g.ip (frame.segment g.tcp g.payload) = cc in
-    let ip : e.ip ≡ g.ip = cc in
-    let tcp : e.tcp ≡ g.tcp = cc in
-    let payload : e.payload ≡ g.payload = cc in
-    let first = subst (λ (x : TcpHeader). Replies ports offer x (length e.payload) e.reply) tcp e.replies in
-    let second = subst (λ (l : List ℕ). Replies ports offer g.tcp (length l) e.reply) payload first in
-    let reply = one_reply ports offer g.tcp (length g.payload) e.reply g.reply second g.replies in
-    e.carries ∙ ap (λ v. reply_values v e.reply) ip ∙ ap (λ r. reply_values g.ip r) reply ∙ sym g.carries
 
 -- a reply that cannot be emitted is no reply
 pub sent : (ours : Interface) (ports : List ℕ) (offer : Offer) (request : Frame) (v : IpRepr) (t r : TcpRepr) → t.src_port ≢ 0 → t.dst_port ≢ 0

@@ -141,6 +141,26 @@ fn writes_checksums_of_0(rt: HostRuntime) {
     }
 }
 
+/// An IPv4 checksum of 0xffff, which no sender computes, becomes 0 when the translation is undone (RFC 1624,
+/// section 4).
+#[test]
+fn undoes_an_unusual_checksum(rt: HostRuntime) {
+    let (mut full, mut full_out) = (UDP, UDP_OUT);
+    full[18..20].copy_from_slice(&[0xb6, 0xc9]);
+    full[24..26].copy_from_slice(&[0xff, 0xff]);
+    full_out[18..20].copy_from_slice(&[0xb6, 0xc9]);
+    full_out[24..26].copy_from_slice(&[0x85, 0xf7]);
+    let mut back = full;
+    back[24..26].copy_from_slice(&[0, 0]);
+    for (before, addr, port, after) in [
+        (&full, outside(), 40000, &full_out),
+        (&full_out, inside(), 46563, &back),
+    ] {
+        let found = translated(before, Side::Source, addr, port);
+        assert_eq!(rt; found, (Ok(()), padded(after)));
+    }
+}
+
 /// Changed octets: the EtherType, the version, the total length, the checksum; then, with a valid IPv4
 /// checksum, a fragment, another protocol, and a wrong UDP checksum.
 #[test]

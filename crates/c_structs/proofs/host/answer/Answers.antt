@@ -1,6 +1,7 @@
 use Rattle.std.proofs.Common.{◌≡◌, SFits, w64, rules}
-use Rattle.ip_host.proofs.HostReplies.{one_answer}
+use Rattle.ip_host.proofs.HostOnce.{reply-once}
 use Rattle.ip_host.specs.Host.{IsReply, RepliesBytes, RepliesFrame}
+use Rattle.ip_replies.proofs.RepliesOnce.{one_answer}
 use Rattle.ip_wire.proofs.Parsed.{IsParsed, to_bytes, to_frame, unread}
 use Rattle.ip_wire.proofs.Sent.{sends}
 use Rattle.ip_wire.specs.Frame.{all_checked}
@@ -16,7 +17,7 @@ returns-in-Some c =
     let parsed : IsParsed request bytes = rw caps at c.in-Ok.ensures.reads in
     let to = to_bytes (IsReply host) request bytes parsed in
     let sent = sends (RepliesFrame host request) (RepliesBytes host bytes) c.in-Some.reply c.args.out.now c.send.new.out c.send.result c.in-Some.ensures c.send.ensures
-    to (to_frame (IsReply host) request bytes parsed) (one_answer host request) in
+    to (to_frame (IsReply host) request bytes parsed) (one_answer (IsReply host) (reply-once host) request) in
     let fits : SFits w64 c.written.result = search rules in
     let w = replied (RepliesFrame host request) (RepliesBytes host bytes) c.in-Some.reply _ _ _ _ c.in-Some.ensures to sent c.written.ensures fits in
     record { answers = w; unread = unanswered host bytes _ _ _ w }

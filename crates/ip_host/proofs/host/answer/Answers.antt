@@ -1,7 +1,9 @@
 use Rattle.std.proofs.Common.{◌≡◌, refl, rules}
-use Rattle.ip_host.proofs.HostReplies.{answers, one_answer}
+use Rattle.ip_host.proofs.HostOnce.{reply-once}
+use Rattle.ip_host.proofs.HostReplies.{answers}
 use Rattle.ip_host.proofs.HostReplies as host_replies
 use Rattle.ip_host.specs.Host.{IsReply, RepliesFrame}
+use Rattle.ip_replies.proofs.RepliesOnce.{one_answer}
 use Rattle.ip_wire.proofs.Sent.{answered, sendable, unanswered}
 use Rattle.ip_wire.specs.Frame.{all_checked}
 use Rattle.ip_host.proofs.host.answer.Goals as goal
@@ -15,7 +17,7 @@ returns-in-Ok c =
     let bytes = c.args.frame.now in
     let caps : c.default.result ≡ all_checked = search rules in
     let s = answered (IsReply host) c.in-Ok.request bytes c.reply.result c.args.out.now c.send_reply.new.out c.send_reply.result
-    (rw caps at c.in-Ok.ensures.reads) c.reply.ensures c.send_reply.ensures (one_answer host c.in-Ok.request) in
+    (rw caps at c.in-Ok.ensures.reads) c.reply.ensures c.send_reply.ensures (one_answer (IsReply host) (reply-once host) c.in-Ok.request) in
     record { sends = s; unread = host_replies.unanswered host bytes _ _ _ s; answers = answers host bytes _ _ _ s }
 
 pub returns-in-Err : goal.returns-in-Err

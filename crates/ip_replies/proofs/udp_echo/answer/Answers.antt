@@ -1,5 +1,5 @@
 use Rattle.std.proofs.Common.{◌≡◌, rules}
-use Rattle.ip_replies.proofs.Echoes.{one_echo}
+use Rattle.ip_replies.proofs.RepliesOnce.{echo-once, one_answer}
 use Rattle.ip_replies.specs.UdpEcho.{EchoesFrame, IsEcho}
 use Rattle.ip_wire.proofs.Sent.{answered, sendable, unanswered}
 use Rattle.ip_wire.specs.Frame.{all_checked}
@@ -12,7 +12,7 @@ pub returns-in-Ok : goal.returns-in-Ok
 returns-in-Ok c =
     let caps : c.default.result ≡ all_checked = search rules in
     answered (IsEcho c.args.ours.now c.args.port) c.in-Ok.request c.args.bytes.now c.echo.result c.args.out.now c.send_reply.new.out c.send_reply.result
-    (rw caps at c.in-Ok.ensures.reads) c.echo.ensures c.send_reply.ensures (one_echo c.args.ours.now c.args.port c.in-Ok.request)
+    (rw caps at c.in-Ok.ensures.reads) c.echo.ensures c.send_reply.ensures (one_answer (IsEcho c.args.ours.now c.args.port) (echo-once c.args.ours.now c.args.port) c.in-Ok.request)
 
 pub returns-in-Err : goal.returns-in-Err
 returns-in-Err c =

@@ -1,0 +1,99 @@
+-- A frame has one result of a translation, or one reason of a rejection.
+use Rattle.std.proofs.Common.{◌≡◌, ◌∙◌, true, false, List, ℕ, Option, Some, None, drop, refl, sym, ap, subst, true≢false}
+use Rattle.ip_nat.proofs.Translates.{carried}
+use Rattle.ip_nat.specs.Nat.{CarriesPorts, HasPorts, IsIpv4Frame, IsRejected, IsRejectedPacket, IsTranslated}
+use Rattle.ip_nat.specs.declared.nat.Rejection.{Rejection}
+use Rattle.ip_nat.specs.declared.nat.Rejection.TheVariants.{NotIpv4, BadHeader, WrongChecksum, Fragment, OtherProtocol, BadTransport}
+use Rattle.ip_nat.specs.declared.nat.Side.{Side}
+use Rattle.ip_wire.proofs.EthernetComputed.{ethernet_of-Reads}
+use Rattle.ip_wire.proofs.Ipv4Changed.{reads-verified}
+use Rattle.ip_wire.proofs.Ipv4Computed.{ipv4_of-Reads}
+use Rattle.ip_wire.proofs.ReadsOnce.{computed-one, transport-once}
+use Rattle.ip_wire.specs.Ethernet as ethernet
+use Rattle.ip_wire.specs.Ethernet.{ethernet_of}
+use Rattle.ip_wire.specs.Frame.{ReadsTransport, Transport, all_checked, ipv4_payload, other}
+use Rattle.ip_wire.specs.Ipv4 as ipv4
+use Rattle.ip_wire.specs.Types.{EthernetProtocol, EthernetRepr, Ipv4, Ipv4Repr}
+use Rattle.ip_wire.specs.declared.EthernetProtocol.TheVariants as ethertype
+use Rattle.ip_wire.specs.declared.IpAddress.TheVariants as address
+
+translated-once : (old new new' : List ℕ) (side : Side) (addr : List ℕ) (port : ℕ) → IsTranslated old new side addr port → IsTranslated old new' side addr port → new ≡ new'
+translated-once old new new' side addr port a b = a.bytes ∙ sym b.bytes
+
+-- ---- the reason of a rejection
+
+header-once : (bytes : List ℕ) (v w : Ipv4Repr) → ipv4.Reads bytes true v → ipv4.Reads bytes true w → v ≡ w
+header-once bytes v w a b = computed-one _ v w ((ipv4_of-Reads true bytes v).1 a) ((ipv4_of-Reads true bytes w).1 b)
+
+unverified : (bytes : List ℕ) (v : Ipv4Repr) → ipv4.Reads bytes true v → ipv4.Reads bytes false v
+unverified bytes v r = reads-verified bytes true false v r (λ _. r.checksum refl)
+
+moved : (bytes : List ℕ) (v w : Ipv4Repr) (t : Transport) → ipv4.Reads bytes true v → ipv4.Reads bytes true w → ReadsTransport all_checked (Ipv4 v) (ipv4_payload bytes) t
+    → ReadsTransport all_checked (Ipv4 w) (ipv4_payload bytes) t
+moved bytes v w t a b = subst (λ x. ReadsTransport all_checked (Ipv4 x) (ipv4_payload bytes) t) (header-once bytes v w a b)
+
+reason-once : (bytes : List ℕ) (r s : Rejection) → IsRejectedPacket bytes r → IsRejectedPacket bytes s → r ≡ s
+reason-once bytes NotIpv4 s a b = absurd a
+reason-once bytes r NotIpv4 a b = absurd b
+reason-once bytes BadHeader BadHeader a b = refl
+reason-once bytes BadHeader WrongChecksum none ((v, reads), wrong) = absurd (none v reads)
+reason-once bytes BadHeader Fragment none ((v, reads), part) = absurd (none v (unverified bytes v reads))
+reason-once bytes BadHeader OtherProtocol none (v, p, rest) = absurd (none v (unverified bytes v p.0))
+reason-once bytes BadHeader BadTransport none (v, p, rest) = absurd (none v (unverified bytes v p.0))
+reason-once bytes WrongChecksum BadHeader ((v, reads), wrong) none = absurd (none v reads)
+reason-once bytes WrongChecksum WrongChecksum a b = refl
+reason-once bytes WrongChecksum Fragment (read, wrong) ((v, reads), part) = absurd (wrong (reads.checksum refl))
+reason-once bytes WrongChecksum OtherProtocol (read, wrong) (v, p, rest) = absurd (wrong (p.0.checksum refl))
+reason-once bytes WrongChecksum BadTransport (read, wrong) (v, p, rest) = absurd (wrong (p.0.checksum refl))
+reason-once bytes Fragment BadHeader ((v, reads), part) none = absurd (none v (unverified bytes v reads))
+reason-once bytes Fragment WrongChecksum ((v, reads), part) (read, wrong) = absurd (wrong (reads.checksum refl))
+reason-once bytes Fragment Fragment a b = refl
+reason-once bytes Fragment OtherProtocol (read, part) (v, p, rest) = absurd (true≢false (sym part ∙ p.1))
+reason-once bytes Fragment BadTransport (read, part) (v, p, rest) = absurd (true≢false (sym part ∙ p.1))
+reason-once bytes OtherProtocol BadHeader (v, p, rest) none = absurd (none v (unverified bytes v p.0))
+reason-once bytes OtherProtocol WrongChecksum (v, p, rest) (read, wrong) = absurd (wrong (p.0.checksum refl))
+reason-once bytes OtherProtocol Fragment (v, p, rest) (read, part) = absurd (true≢false (sym part ∙ p.1))
+reason-once bytes OtherProtocol OtherProtocol a b = refl
+reason-once bytes OtherProtocol BadTransport (v, p, rest) (w, q, bad) = absurd (bad (other (ipv4_payload bytes)) (moved bytes v w (other (ipv4_payload bytes)) p.0 q.0 rest))
+reason-once bytes BadTransport BadHeader (v, p, bad) none = absurd (none v (unverified bytes v p.0))
+reason-once bytes BadTransport WrongChecksum (v, p, bad) (read, wrong) = absurd (wrong (p.0.checksum refl))
+reason-once bytes BadTransport Fragment (v, p, bad) (read, part) = absurd (true≢false (sym part ∙ p.1))
+reason-once bytes BadTransport OtherProtocol (v, p, bad) (w, q, rest) = absurd (bad (other (ipv4_payload bytes)) (moved bytes w v (other (ipv4_payload bytes)) q.0 p.0 rest))
+reason-once bytes BadTransport BadTransport a b = refl
+
+-- by the EtherType, and by the Ethernet header
+rejected-as : (frame : List ℕ) (type : EthernetProtocol) (link : EthernetRepr) (r s : Rejection) → link.ethertype ≡ type → ethernet.Reads frame link
+    → IsRejected frame r → IsRejected frame s → r ≡ s
+rejected-as frame ethertype.Ipv4 link r s named reads a b =
+    let is : IsIpv4Frame frame link = record { reads = reads; names = named } in reason-once (drop 14 frame) r s (a.whole link is) (b.whole link is)
+rejected-as frame _ link r s named reads a b =
+    let none : (v : EthernetRepr) → ¬ IsIpv4Frame frame v = λ v f.
+    (let same = computed-one _ link v ((ethernet_of-Reads frame link).1 reads) ((ethernet_of-Reads frame v).1 f.reads) in
+    let apart = sym named ∙ ap (λ (w : EthernetRepr). w.ethertype) same ∙ f.names in cc) in
+    a.short none ∙ sym (b.short none)
+
+rejected-by : (frame : List ℕ) (link : Option EthernetRepr) (r s : Rejection) → ethernet_of frame ≡ link → IsRejected frame r → IsRejected frame s → r ≡ s
+rejected-by frame (Some v) r s is a b = rejected-as frame v.ethertype v r s refl ((ethernet_of-Reads frame v).0 is) a b
+rejected-by frame None r s is a b =
+    let none : (v : EthernetRepr) → ¬ IsIpv4Frame frame v = λ v f. (let read = sym is ∙ (ethernet_of-Reads frame v).1 f.reads in cc) in
+    a.short none ∙ sym (b.short none)
+
+rejected-once : (frame : List ℕ) (r s : Rejection) → IsRejected frame r → IsRejected frame s → r ≡ s
+rejected-once frame r s a b = rejected-by frame (ethernet_of frame) r s refl a b
+
+-- a frame that is translated is rejected for no reason
+carried-unrejected : (bytes : List ℕ) (v : Ipv4Repr) (t : Transport) (r : Rejection) → CarriesPorts bytes v t → ¬ IsRejectedPacket bytes r
+carried-unrejected bytes v t NotIpv4 c why = why
+carried-unrejected bytes v t BadHeader c none = none v (unverified bytes v c.reads.0)
+carried-unrejected bytes v t WrongChecksum c (read, wrong) = wrong (c.reads.0.checksum refl)
+carried-unrejected bytes v t Fragment c (read, part) = true≢false (sym part ∙ c.reads.1)
+carried-unrejected bytes v t OtherProtocol c (w, p, rest) =
+    let none = moved bytes w v (other (ipv4_payload bytes)) p.0 c.reads.0 rest in
+    subst HasPorts (transport-once all_checked v.next_header (address.Ipv4 v.src_addr) (address.Ipv4 v.dst_addr) (ipv4_payload bytes) t (other (ipv4_payload bytes)) c.carries none) c.ports
+carried-unrejected bytes v t BadTransport c (w, p, bad) = bad t (moved bytes v w t c.reads.0 p.0 c.carries)
+
+translated-unrejected : (old new : List ℕ) (side : Side) (addr : List ℕ) (port : ℕ) (r : Rejection) → IsTranslated old new side addr port → ¬ IsRejected old r
+translated-unrejected old new side addr port r a why =
+    let reads = a.before.reads in
+    let is : IsIpv4Frame old a.link = record { reads = reads.reads_header; names = reads.reads_carried.0 } in
+    carried-unrejected (drop 14 old) a.header a.transport r (carried old a.link a.header a.transport a.before) (why.whole a.link is)
