@@ -1,11 +1,11 @@
 //! Whole frames.
 
 ghost use Rattle.std.specs.Prelude.{◌≡◌, ◌≤◌, ◌+◌, ◌++◌, [], IfSome, Some, drop, length, slice_range, true};
-ghost use Rattle.ip_wire.specs.Ip.{dst_addr_of, header_len_of, max_payload_len, payload_len_of, src_addr_of};
+ghost use Rattle.ip_wire.specs.Ip.{dst_addr_of, header_len_of, src_addr_of};
 ghost use Rattle.ip_wire.specs.TcpRepr as tcp;
 ghost use Rattle.ip_wire.specs.Udp as udp;
 ghost use Rattle.c_structs.specs.Frames.{arp_frame, back_arp, back_link, ip_header, headers_bytes, reply_to, tcp_frame, tcp_frame_around, type_number, udp_frame, udp_frame_around};
-ghost use Rattle.c_structs.specs.Headers.{is_expressible, link_bytes, link_of, ports_of, segment_bytes, tcp_value};
+ghost use Rattle.c_structs.specs.Headers.{is_expressible, link_bytes, ports_of, segment_bytes};
 ghost use Rattle.c_structs.specs.Written.{Fills};
 
 use crate::results::place;

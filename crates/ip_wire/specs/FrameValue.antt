@@ -1,5 +1,5 @@
 -- Whole frames as values: what they are parsed as, what they are emitted as, and what they print as.
-use Rattle.std.specs.Prelude.{List, ℕ, [], ⊤, ◌∷◌, ◌≡◌, ◌≢◌, ◌<◌, ◌≤◌, ◌++◌, ◌+◌, IsTrue, Option, Some, None, Result, Ok, Err, MatchOption, codes, decimal, drop, length, true}
+use Rattle.std.specs.Prelude.{List, ℕ, [], ⊤, ◌∷◌, ◌≡◌, ◌≢◌, ◌≤◌, ◌++◌, ◌+◌, IsTrue, Option, Some, None, Result, Ok, Err, MatchOption, codes, decimal, drop, length, true}
 use Rattle.std.specs.Option.{option_map, option_map_or}
 use Rattle.ip_wire.specs.Frame as frame
 use Rattle.ip_wire.specs.Frame.{ReadsCarried, ReadsFrame, ReadsPacket, ReadsTransport, packet_payload, type_of}

@@ -1,4 +1,5 @@
-use Rattle.std.proofs.Common.{◌≡◌, ◌∙◌, ◌+◌, ◌++◌, Some, ap, refl, rules, subst, sym, take}
+use Rattle.std.proofs.Common.{◌≡◌, ◌∙◌, ◌+◌, ◌++◌, Some, ap, arith, length, refl, rules, subst, sym, take}
+use Rattle.std.proofs.lemmas.Grind.{common_steps}
 use Rattle.std.specs.Option.{option_map}
 use Rattle.ip_wire.specs.Arp.{bytes_of}
 use Rattle.c_structs.proofs.Filled.{filled-behind}
@@ -17,6 +18,9 @@ returns-in-Some c =
     let frame : arp_frame f ≡ Some (link ++ inner) = ap (λ o. option_map (λ packet. link ++ packet) (option_map bytes_of o)) value in
     let front : c.split_at_mut-link.result.0.now ≡ take 14 old = search rules in
     let is_front = rw front at c.emit.ensures in
+    let (len, room, is) = c.in-Some.ensures in
+    let same = c.try_emit.auto.out in
+    let size : c.in-Some.len ≡ length inner = grind (arith, common_steps, room, same, is) in
     subst (λ o. Fills o old (c.emit.new.out ++ c.try_emit.new.out) (Some (14 + c.in-Some.len))) (sym frame)
     (filled-behind link inner old c.emit.new.out _ c.try_emit.new.out 14 c.in-Some.len
-    (search rules) (search rules) refl is_front (search rules) (search rules) (search rules))
+    (search rules) (search rules) refl is_front size (search rules) (search rules))
