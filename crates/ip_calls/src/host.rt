@@ -4,7 +4,6 @@ use crate::operands::{NOTHING, Operands};
 use ip_host::Host;
 use ip_replies::Interface;
 use ip_replies::tcp_reply::Offer;
-use ip_wire::EthernetAddress;
 use std::alloc::{AllocError, Global};
 
 /// The largest buffer for a reply, in octets.
@@ -39,7 +38,7 @@ pub fn answer(alloc: Global, operands: &mut Operands<'_>) -> Result<String, Allo
 // The addresses of a host.
 fn interface(operands: &mut Operands<'_>) -> Interface {
     Interface {
-        hardware_addr: operands.number::<EthernetAddress>(),
+        hardware_addr: operands.ethernet(),
         ipv4_addr: operands.ipv4(),
         ipv6_addr: operands.ipv6(),
     }

@@ -37,9 +37,9 @@
 //!   printed text of the parsed value, or `err`. The value is an Ethernet address, an IP address, a block of
 //!   IPv4, of IPv6 or of either, or an endpoint. TEXT is everything after the first space.
 //!
-//! TX is 1 if checksums are computed. MORE and SACKP are 1 for yes. The buffer is filled with the octet
-//! OLD before the call. The answer is `unknown` for an unknown kind, and `malformed` for operands that
-//! the call does not take.
+//! TX is 1 if checksums are computed. MORE, SACKP and the flags of setters are 1 for yes. The buffer is
+//! filled with the octet OLD before the call. The answer is `unknown` for an unknown kind, and `malformed`
+//! for operands that the call does not take.
 //!
 //! If reading or writing fails or memory runs out, the program prints one line on standard error and
 //! exits with status 1.

@@ -4,7 +4,7 @@ ghost use Rattle.std.specs.Prelude.{◌≡◌};
 ghost use Rattle.ip_wire.specs.IpAddress.{version_of};
 
 use hex::FromHexError;
-use ip_wire::{IpAddress, Ipv4Address, Ipv6Address, TcpSeqNumber};
+use ip_wire::{EthernetAddress, IpAddress, Ipv4Address, Ipv6Address, TcpSeqNumber};
 use net_base::{Checksum, ChecksumCapabilities};
 use std::alloc::{AllocError, Global};
 use std::str::FromStr;
@@ -141,6 +141,11 @@ impl<'a> Operands<'a> {
     /// A sequence number, as its bits.
     pub fn seq_number(&mut self) -> TcpSeqNumber {
         seq_number_of(self.number())
+    }
+
+    /// An Ethernet address.
+    pub fn ethernet(&mut self) -> EthernetAddress {
+        self.value(EthernetAddress::default())
     }
 
     /// An IPv4 address.

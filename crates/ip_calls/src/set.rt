@@ -6,9 +6,9 @@ ghost use Rattle.ip_wire.specs.Tcp as tcp;
 
 use crate::operands::Operands;
 use ip_wire::{
-    ArpPacketMut, ETHERNET_HEADER_LEN, EthernetAddress, EthernetFrameMut, IPV4_HEADER_LEN,
-    IPV6_HEADER_LEN, Ipv4PacketMut, Ipv6FragmentHeaderMut, Ipv6PacketMut, TCP_HEADER_LEN,
-    TcpPacketMut, UDP_HEADER_LEN, UdpPacketMut,
+    ArpPacketMut, ETHERNET_HEADER_LEN, EthernetFrameMut, IPV4_HEADER_LEN, IPV6_HEADER_LEN,
+    Ipv4PacketMut, Ipv6FragmentHeaderMut, Ipv6PacketMut, TCP_HEADER_LEN, TcpPacketMut,
+    UDP_HEADER_LEN, UdpPacketMut,
 };
 use std::alloc::{AllocError, Global};
 
@@ -36,8 +36,8 @@ fn ethernet(call: &str, operands: &mut Operands<'_>, bytes: &mut [u8]) {
     }
     let mut frame = EthernetFrameMut::new_unchecked(bytes);
     match call {
-        "set_dst_addr" => frame.set_dst_addr(operands.number::<EthernetAddress>()),
-        "set_src_addr" => frame.set_src_addr(operands.number::<EthernetAddress>()),
+        "set_dst_addr" => frame.set_dst_addr(operands.ethernet()),
+        "set_src_addr" => frame.set_src_addr(operands.ethernet()),
         "set_ethertype" => frame.set_ethertype(operands.number::<u16>().into()),
         _ => operands.refuse(),
     }

@@ -11,7 +11,7 @@ ghost use Rattle.ip_wire.specs.Ipv4Text.{packet_text};
 
 use crate::transport::push_transport;
 use ip_wire::{
-    ArpPacket, Carried, EthernetProtocol, Frame, IpProtocol, IpRepr, Ipv4Packet, Ipv4Repr,
+    ArpPacket, ArpRepr, Carried, EthernetProtocol, Frame, IpProtocol, IpRepr, Ipv4Packet, Ipv4Repr,
     Ipv6FragmentHeader, Ipv6Packet, Transport,
 };
 use net_base::ChecksumCapabilities;
@@ -24,11 +24,18 @@ pub fn push_payload(frame: &Frame<'_>, bytes: &[u8], text: &mut String) -> Resul
     ensures { OnOk result (AddsText text.old text.new (payload_lines frame.now.header.ethertype bytes.now)) }
 {
     match &frame.carried {
-        Carried::Arp(_) => push_arp(bytes, text),
+        Carried::Arp(value) => push_message(value, text),
         Carried::Packet(header, inner) => push_packet(header, inner, bytes, text),
         Carried::Fragment(packet) => push_fragment(packet, text),
         Carried::Unread(bytes) => push_unread(frame.header.ethertype, bytes, text),
     }
+}
+
+// Appends the line of an ARP packet that parses.
+fn push_message(value: &ArpRepr, text: &mut String) -> Result<(), AllocError>
+    ensures { OnOk result (AddsText text.old text.new (ended (arp_texts.value_text value.now))) }
+{
+    writeln!(text, "{value}")
 }
 
 // Appends the line of an ARP packet.
@@ -51,14 +58,14 @@ fn push_packet(
     ensures { OnOk result (AddsText text.old text.new (payload_lines (type_of header.now) bytes.now)) }
 {
     match header {
-        IpRepr::Ipv4(_) => {
+        IpRepr::Ipv4(value) => {
             let packet = Ipv4Packet::new_unchecked(bytes);
-            writeln!(text, "{packet}")?;
+            writeln!(text, "{value}")?;
             push_transport(header, inner, packet.payload(), text)
         }
         IpRepr::Ipv6(value) => {
             let packet = Ipv6Packet::new_unchecked(bytes);
-            writeln!(text, "{packet}")?;
+            writeln!(text, "{value}")?;
             match value.next_header {
                 IpProtocol::Ipv6Frag => push_fragment_header(packet.payload(), text),
                 _ => push_transport(header, inner, packet.payload(), text),

@@ -1,6 +1,6 @@
 //! The line of a UDP packet or a TCP segment.
 
-ghost use Rattle.std.specs.Prelude.{◌≡◌, ◌++◌, OnOk};
+ghost use Rattle.std.specs.Prelude.{◌≡◌, ◌++◌, OnOk, codes, decimal, length};
 ghost use Rattle.ip_frames.specs.Output.{AddsText, ended, tcp_format, transport_lines, udp_format, unread_verdict, verdict_behind};
 ghost use Rattle.ip_wire.specs.Frame as frame;
 ghost use Rattle.ip_wire.specs.Frame.{ReadsTransport, all_checked};
@@ -15,7 +15,7 @@ use net_base::ChecksumCapabilities;
 use std::alloc::AllocError;
 
 /// Appends the line of the payload of an IP packet to `text`. The value says what was parsed of
-/// `bytes`, and the views print the fields that it does not hold.
+/// `bytes`. Views print what a value does not hold.
 pub fn push_transport(
     header: &IpRepr,
     inner: &Transport<'_>,
@@ -26,7 +26,7 @@ pub fn push_transport(
     ensures { OnOk result (AddsText text.old text.new (transport_lines header.now bytes.now)) }
 {
     match inner {
-        Transport::Udp(..) => push_udp(&UdpPacket::new_unchecked(bytes), "", text),
+        Transport::Udp(ports, payload) => push_datagram(ports, payload, text),
         Transport::Tcp(_) => push_tcp(&TcpPacket::new_unchecked(bytes), "", text),
         Transport::Other(_) => Ok(()),
         Transport::Unread(_) => push_unread(header, bytes, text),
@@ -49,6 +49,14 @@ fn push_unread(header: &IpRepr, bytes: &[u8], text: &mut String) -> Result<(), A
         }
         _ => Ok(()),
     }
+}
+
+// Appends the line of a UDP packet that parses.
+fn push_datagram(ports: &UdpRepr, payload: &[u8], text: &mut String) -> Result<(), AllocError>
+    ensures { OnOk result (AddsText text.old text.new (ended (udp_texts.value_text ports.now ++ codes " len=" ++ decimal (length payload.now)))) }
+{
+    let len = payload.len();
+    writeln!(text, "{ports} len={len}")
 }
 
 // Appends the line of a UDP packet, with this note.

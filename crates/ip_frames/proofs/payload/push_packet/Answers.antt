@@ -8,7 +8,7 @@ use Rattle.ip_frames.proofs.payload.push_packet.Goals as goal
 pub returns-in_ok-writeln-in-Ipv4 : goal.returns-in_ok-writeln-in-Ipv4
 returns-in_ok-writeln-in-Ipv4 c =
     let bytes = c.args.bytes.now in
-    let lines = lines-ipv4 c.args.header.now c.in-Ipv4.field-0 bytes c.in-Ipv4.is c.requires.packet in
+    let lines = lines-ipv4 c.args.header.now c.in-Ipv4.value bytes c.in-Ipv4.is c.requires.packet in
     let payload : c.payload.result.now ≡ ipv4_payload bytes = rw c.new_unchecked-packet.ensures at c.payload.ensures in
     rw (lines, ← payload) (grind (arith, common_steps))
 
