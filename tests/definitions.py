@@ -14,7 +14,7 @@ import os
 import re
 import sys
 
-TESTS = {name: name + "_tests" for name in ("addr", "link", "ip", "transport", "use")}
+TESTS = {name: name + "_tests" for name in ("wire", "use")}
 PINS = {
     "promises": "crates/ip_promises/src/{}.rt",
     "cases": "tests/cases/{}.hex",

@@ -15,7 +15,7 @@ from sources import Sources
 
 DOCUMENT = "docs/REQUIREMENTS.md"
 # The crates and files of test functions, by the first word of their names in the tables.
-TESTS = {name: name + "_tests" for name in ("addr", "link", "ip", "transport", "use")} | {"frames": "ip_frames"}
+TESTS = {name: name + "_tests" for name in ("wire", "use")} | {"frames": "ip_frames"}
 LIBRARY = re.compile(r"net_base|ip_wire|wire_\w+")
 # A function that allocates is given an allocator, and returns one of these types.
 ALLOCATES = re.compile(r"\b(alloc|AllocError|HostRuntime|Vec|String|Box|Rc|Arc)\b")

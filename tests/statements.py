@@ -22,7 +22,7 @@ TOP = os.path.dirname(os.path.dirname(os.path.abspath(__file__)))
 FOLDER = "docs/statements"
 RENEW = "tests/statements.py --write"
 # Crates that only have tests.
-LEFT_OUT = {"test_support", "addr_tests", "link_tests", "ip_tests", "transport_tests", "use_tests"}
+LEFT_OUT = {"wire_tests", "use_tests"}
 # The crates whose functions promise something of what their bodies do, beside the laws.
 PROMISES = {"ip_promises"}
 # Attributes that change no statement.

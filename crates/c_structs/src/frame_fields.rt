@@ -113,7 +113,7 @@ impl FrameFields {
         }
     }
 
-    // The payload begins behind a header of this length.
+    // Moves the payload behind a header of this length.
     fn step_behind(&mut self, header_len: usize, payload_len: usize)
         requires { self.old.payload_offset + header_len ≤ 200 }
         ensures { self.new ≡ behind self.old header_len payload_len }
@@ -122,14 +122,14 @@ impl FrameFields {
         self.payload_len = payload_len;
     }
 
-    // The next header is rejected.
+    // Stores why the next header is rejected.
     fn reject(&mut self, reason: Reason)
         ensures { self.new ≡ rejected self.old reason }
     {
         self.reason = reason.code();
     }
 
-    // A frame with a whole header.
+    // Stores a frame with a whole header.
     fn store_frame(&mut self, frame: &EthernetFrame<'_>)
         requires offset { self.old.payload_offset ≡ 0 }
         requires header { 14 ≤ length (ethernet.frame_bytes frame.now) }
@@ -146,7 +146,7 @@ impl FrameFields {
         }
     }
 
-    // An Ethernet header.
+    // Stores an Ethernet header.
     fn store_link(&mut self, frame: &EthernetFrame<'_>)
         requires offset { self.old.payload_offset ≡ 0 }
         requires header { 14 ≤ length (ethernet.frame_bytes frame.now) }
@@ -162,7 +162,7 @@ impl FrameFields {
         self.step_behind(ETHERNET_HEADER_LEN, frame.payload().len());
     }
 
-    // An ARP packet.
+    // Stores an ARP packet.
     fn store_arp(&mut self, bytes: &[u8])
         requires offset { self.old.payload_offset ≤ 14 }
         requires len { self.old.payload_len ≡ length bytes.now }
@@ -175,7 +175,7 @@ impl FrameFields {
         }
     }
 
-    // The values of an ARP packet, behind which there is only padding.
+    // Stores the values of an ARP packet, behind which there is only padding.
     fn store_message(&mut self, message: &ArpRepr)
         requires { self.old.payload_offset ≤ 14 }
         ensures value { self.new ≡ with_message self.old message.now }
@@ -203,7 +203,7 @@ impl FrameFields {
         self.step_behind(ARP_LEN, 0);
     }
 
-    // An IPv4 packet. The payload of a fragment is not parsed.
+    // Stores an IPv4 packet. The payload of a fragment is not parsed.
     fn store_ipv4(&mut self, bytes: &[u8])
         requires offset { self.old.payload_offset ≤ 14 }
         requires len { self.old.payload_len ≡ length bytes.now }
@@ -229,7 +229,7 @@ impl FrameFields {
         }
     }
 
-    // The header of an IPv4 packet.
+    // Stores the header of an IPv4 packet.
     fn store_ipv4_header(&mut self, packet: &Ipv4Packet<'_>, header: &Ipv4Repr)
         requires offset { self.old.payload_offset ≤ 14 }
         requires lengths { ipv4.HasLengths (ipv4.packet_bytes packet.now) }
@@ -253,7 +253,7 @@ impl FrameFields {
         self.step_behind(usize::from(packet.header_len()), packet.payload().len());
     }
 
-    // An IPv6 packet. The payload behind a fragment header is not parsed.
+    // Stores an IPv6 packet. The payload behind a fragment header is not parsed.
     fn store_ipv6(&mut self, bytes: &[u8])
         requires offset { self.old.payload_offset ≤ 14 }
         requires len { self.old.payload_len ≡ length bytes.now }
@@ -273,7 +273,7 @@ impl FrameFields {
         }
     }
 
-    // The header of an IPv6 packet.
+    // Stores the header of an IPv6 packet.
     fn store_ipv6_header(&mut self, packet: &Ipv6Packet<'_>, header: &Ipv6Repr)
         requires offset { self.old.payload_offset ≤ 14 }
         requires lengths { ipv6.HasLengths (ipv6.packet_bytes packet.now) }
@@ -292,7 +292,7 @@ impl FrameFields {
         self.step_behind(IPV6_HEADER_LEN, packet.payload().len());
     }
 
-    // The fragment header that the payload of an IPv6 packet begins with, if the protocol says so and
+    // Stores the fragment header that the payload of an IPv6 packet begins with, if the protocol says so and
     // it is there as a whole. The payload begins at it.
     fn store_fragment(&mut self, protocol: IpProtocol, bytes: &[u8])
         ensures { self.new ≡ with_fragment_by self.old protocol bytes.now }
@@ -304,7 +304,7 @@ impl FrameFields {
         }
     }
 
-    // A fragment header.
+    // Stores a fragment header.
     fn store_fragment_header(&mut self, header: &Ipv6FragmentHeader<'_>)
         requires { 6 ≤ length (fragment.header_bytes header.now) }
         ensures { self.new ≡ with_fragment_header self.old (fragment.header_of (fragment.header_bytes header.now)) }
@@ -316,7 +316,7 @@ impl FrameFields {
         self.is_fragment = u8::from(more_fragments || offset != 0);
     }
 
-    // The payload of a packet between two addresses.
+    // Stores the payload of a packet between two addresses.
     #[inline(always)]
     fn store_transport(
         &mut self,
@@ -338,7 +338,7 @@ impl FrameFields {
         }
     }
 
-    // A UDP packet. A rejected header is stored too, if it is there as a whole.
+    // Stores a UDP packet. A rejected header is stored too, if it is there as a whole.
     #[inline(always)]
     fn store_udp(&mut self, src_addr: &IpAddress, dst_addr: &IpAddress, bytes: &[u8])
         requires offset { self.old.payload_offset ≤ 74 }
@@ -359,7 +359,7 @@ impl FrameFields {
         }
     }
 
-    // The header of a UDP packet. If its length is wrong, no checksum can be computed.
+    // Stores the header of a UDP packet. If its length is wrong, no checksum can be computed.
     #[inline(always)]
     fn store_udp_header(
         &mut self,
@@ -378,7 +378,7 @@ impl FrameFields {
         self.transport_checksum = udp_verdict(packet, src_addr, dst_addr).code();
     }
 
-    // A TCP segment. A rejected header is stored too, if it is there as a whole.
+    // Stores a TCP segment. A rejected header is stored too, if it is there as a whole.
     #[inline(always)]
     fn store_tcp(&mut self, src_addr: &IpAddress, dst_addr: &IpAddress, bytes: &[u8])
         requires offset { self.old.payload_offset ≤ 74 }
@@ -399,7 +399,7 @@ impl FrameFields {
         }
     }
 
-    // The header of a TCP segment.
+    // Stores the header of a TCP segment.
     #[inline(always)]
     fn store_tcp_header(
         &mut self,

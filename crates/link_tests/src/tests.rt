@@ -1,5 +1,0 @@
-//! Worked examples, byte by byte.
-
-mod arp;
-mod common;
-mod ethernet;

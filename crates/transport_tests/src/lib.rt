@@ -1,5 +1,0 @@
-//! Tests of checksums, UDP and TCP, and of views on payloads that other views borrow.
-#![tactic(auto)]
-
-#[cfg(test)]
-mod tests;

@@ -1,0 +1,13 @@
+//! CIDR blocks of IPv6 addresses. `tests/calls/worked_addresses.call` has more examples.
+
+use super::support::prints;
+use ip_wire::Ipv6Cidr;
+
+#[test]
+fn constants_print_as_their_standards_write_them(rt: HostRuntime) {
+    let found = [
+        prints(&Ipv6Cidr::LINK_LOCAL_PREFIX, "fe80::/10"),
+        prints(&Ipv6Cidr::SOLICITED_NODE_PREFIX, "ff02::1:ff00:0/104"),
+    ];
+    assert_eq!(rt; found, [true; 2]);
+}

@@ -1,0 +1,33 @@
+//! Protocol numbers. `tests/cases/shapes.hex` has the text of each.
+
+use super::support::prints;
+use ip_wire::IpProtocol;
+
+#[test]
+fn names_the_protocols_of_the_table(rt: HostRuntime) {
+    for (number, name) in [
+        (0, IpProtocol::HopByHop),
+        (1, IpProtocol::Icmp),
+        (2, IpProtocol::Igmp),
+        (6, IpProtocol::Tcp),
+        (17, IpProtocol::Udp),
+        (43, IpProtocol::Ipv6Route),
+        (44, IpProtocol::Ipv6Frag),
+        (50, IpProtocol::IpSecEsp),
+        (51, IpProtocol::IpSecAh),
+        (58, IpProtocol::Icmpv6),
+        (59, IpProtocol::Ipv6NoNxt),
+        (60, IpProtocol::Ipv6Opts),
+        (3, IpProtocol::Unknown(3)),
+        (0xfe, IpProtocol::Unknown(0xfe)),
+    ] {
+        let found = (IpProtocol::from(number), name.number());
+        assert_eq!(rt; found, (name, number));
+    }
+}
+
+#[test]
+fn unlisted_protocols_come_last(rt: HostRuntime) {
+    let other = IpProtocol::Unknown(3);
+    assert!(rt; IpProtocol::Ipv6Opts < other && prints(&other, "0x03"));
+}
