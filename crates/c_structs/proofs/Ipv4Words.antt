@@ -37,19 +37,19 @@ joined a b c d e p q r s t i j k l m = rw (i, j, k, l, m) (ap (λ x. p ++ (q ++ 
 
 -- the words of a header with these fields
 pub ipv4-words : (h : Ip) (v : Ipv4Repr) (w0 w1 w2 w3 w4 : ℕ)
-    → h.ident < 65536 → h.fragment_offset < 65536 → v.payload_len < 65516 → v.hop_limit < 256 → number_of v.next_header < 256
-    → w0 ≡ (17664 + (4 * (h.dscp % 64) + h.ecn % 4)) * 65536 + (20 + v.payload_len)
+    → h.dscp < 64 → h.ecn < 4 → h.ident < 65536 → h.fragment_offset < 65536 → v.payload_len < 65516 → v.hop_limit < 256 → number_of v.next_header < 256
+    → w0 ≡ (17664 + (4 * h.dscp + h.ecn)) * 65536 + (20 + v.payload_len)
     → w1 ≡ h.ident * 65536 + flag (is_yes h.dont_fragment) * 16384 + flag (is_yes h.more_fragments) * 8192 + h.fragment_offset / 8
     → w2 ≡ v.hop_limit * 16777216 + number_of v.next_header * 65536
     → w3 ≡ address.number_of v.src_addr → AreOctets 4 v.src_addr → w4 ≡ address.number_of v.dst_addr → AreOctets 4 v.dst_addr
     → flat_map (big_bytes 4) (w0 ∷ w1 ∷ w2 ∷ w3 ∷ w4 ∷ []) ≡ with_ipv4_fields h (bytes_of v false)
-ipv4-words h v w0 w1 w2 w3 w4 ident fragment payload hops protocol is0 is1 is2 is3 src is4 dst =
+ipv4-words h v w0 w1 w2 w3 w4 dscp ecn ident fragment payload hops protocol is0 is1 is2 is3 src is4 dst =
     let bytes = with_ipv4_fields h (bytes_of v false) in
     let first = flag-small (is_yes h.dont_fragment) in
     let second = flag-small (is_yes h.more_fragments) in
     let n = h.fragment_offset / 8 in
     let small : n < 8192 = omega (arith, fragment) in
-    let service_is : slice_index bytes 1 ≡ 4 * (h.dscp % 64) + h.ecn % 4 = omega arith in
+    let service_is : slice_index bytes 1 ≡ 4 * h.dscp + h.ecn = omega (arith, dscp, ecn) in
     let high : slice_index bytes 6 ≡ 64 * flag (is_yes h.dont_fragment) + 32 * flag (is_yes h.more_fragments) + n / 256 = omega (arith, first, second, small) in
     let low : slice_index bytes 7 ≡ n % 256 = omega (arith, small) in
     let ident_high : slice_index bytes 4 ≡ h.ident / 256 = omega (arith, ident) in
@@ -59,8 +59,8 @@ ipv4-words h v w0 w1 w2 w3 w4 ident fragment payload hops protocol is0 is1 is2 i
     (69 ∷ slice_index bytes 1 ∷ slice_index bytes 2 ∷ slice_index bytes 3 ∷ [])
     (slice_index bytes 4 ∷ slice_index bytes 5 ∷ slice_index bytes 6 ∷ slice_index bytes 7 ∷ [])
     (v.hop_limit ∷ number_of v.next_header ∷ 0 ∷ 0 ∷ []) v.src_addr v.dst_addr
-    (rw (service_is, len_high) (spelled w0 69 (4 * (h.dscp % 64) + h.ecn % 4) ((20 + v.payload_len) / 256) ((20 + v.payload_len) % 256)
-    (omega arith) (omega arith) (omega (arith, payload)) (omega arith) (omega (arith, is0))))
+    (rw (service_is, len_high) (spelled w0 69 (4 * h.dscp + h.ecn) ((20 + v.payload_len) / 256) ((20 + v.payload_len) % 256)
+    (omega arith) (omega (arith, dscp, ecn)) (omega (arith, payload)) (omega arith) (omega (arith, is0))))
     (rw (ident_high, ident_low, high, low) (spelled w1 (h.ident / 256) (h.ident % 256) (64 * flag (is_yes h.dont_fragment) + 32 * flag (is_yes h.more_fragments) + n / 256) (n % 256)
     (omega (arith, ident)) (omega arith) (omega (arith, first, second, small)) (omega arith) (omega (arith, is1))))
     (spelled w2 v.hop_limit (number_of v.next_header) 0 0 hops protocol (omega arith) (omega arith) (omega (arith, is2)))

@@ -158,6 +158,8 @@ impl Ip {
     #[inline(always)]
     fn emit_ipv4(&self, value: &Ipv4Repr, computed: bool, out: &mut [u8])
         requires payload_len { value.now.payload_len ≤ ipv4.max_payload_len }
+        requires dscp { self.now.dscp < 64 }
+        requires ecn { self.now.ecn < 4 }
         requires ident { self.now.ident < 65536 }
         requires room { 20 ≤ length out.old }
         ensures { out.new ≡ header_bytes self.now computed (Ipv4 value.now) ++ drop 20 out.old }
@@ -174,11 +176,13 @@ impl Ip {
     #[inline(always)]
     fn ipv4_words(&self, value: Ipv4Repr) -> [u32; 5]
         requires payload_len { value.payload_len ≤ ipv4.max_payload_len }
+        requires dscp { self.now.dscp < 64 }
+        requires ecn { self.now.ecn < 4 }
         requires ident { self.now.ident < 65536 }
         ensures value { flat_map (big_bytes 4) result ≡ with_ipv4_fields self.now (ipv4.bytes_of value false) }
         ensures no_checksum { slice_index result 2 % 65536 ≡ 0 }
     {
-        let service = u32::from(4 * (self.dscp % 64) + self.ecn % 4);
+        let service = u32::from(4 * self.dscp + self.ecn);
         let total_len = (IPV4_HEADER_LEN + value.payload_len) as u32;
         let dont_fragment = u32::from(self.dont_fragment != 0);
         let more_fragments = u32::from(self.more_fragments != 0);
