@@ -69,7 +69,7 @@ def is_kept(name, listed):
     return kept.exists() and kept.read_text() == sum_of(TOP, name, listed)
 
 
-def words(command, crate):
+def command_line(command, crate):
     """The command line of rattle for a crate, in its folder or a copy of that, or None if a library below was not kept."""
     listed = crates(TOP)
     stale = [name for name in sorted(below(crate, listed)) if not is_kept(name, listed)]
@@ -85,7 +85,7 @@ def words(command, crate):
 
 
 def rattle(command, crate, *more):
-    given = words(command, crate)
+    given = command_line(command, crate)
     return subprocess.run([*given, *more], cwd=TOP / "crates" / crate, check=False).returncode if given else STALE
 
 

@@ -99,7 +99,8 @@ class Trial:
     """The edits of one crate, each round over what the rounds before it proved."""
 
     def __init__(self, crate):
-        self.crate, self.words, self.log, self.faults, self.passed = crate, proved.words("check", crate), [], [], 0
+        self.crate, self.command_line = crate, proved.command_line("check", crate)
+        self.log, self.faults, self.passed = [], [], 0
 
     def verdicts(self, tried):
         """What rattle says of each function that it checks with the edits applied."""
@@ -111,7 +112,7 @@ class Trial:
             for edit in tried:
                 edit.apply(folder)
             only = [word for name in sorted(set().union(*(edit.functions for edit in tried))) for word in ("--only", name)]
-            ran = subprocess.run([*self.words, "--jobs", "1", "--incremental", self.kept, *only], cwd=folder, stdin=subprocess.DEVNULL,
+            ran = subprocess.run([*self.command_line, "--jobs", "1", "--incremental", self.kept, *only], cwd=folder, stdin=subprocess.DEVNULL,
                                  stdout=subprocess.PIPE, stderr=subprocess.STDOUT, text=True, errors="replace")
         self.log.append(f"== {self.crate}: {' '.join(edit.name for edit in tried)}\n{ran.stdout}")
         return VERDICT.findall(ran.stdout)
@@ -147,7 +148,7 @@ def main():
         sys.exit(f"tests/wrong.py: there is no crate {', '.join(unknown)}")
     faults = [fault for crate in crates for fault in unpaired(crate)]
     trials = [Trial(crate) for crate in crates if edits(crate, "wrong-bodies")]
-    if not all(trial.words for trial in trials):
+    if not all(trial.command_line for trial in trials):
         sys.exit(proved.STALE)
     trials.sort(key=lambda trial: -len(edits(trial.crate, "wrong-bodies")))
     passed = 0
