@@ -6,8 +6,8 @@ that function. The edit of the same name in crates/CRATE/controls/ puts a correc
 form into the same place, and that function must be proved.
 
 A proof of a function cites only the contracts of the functions that it calls. So edits of different
-functions are applied together, and the functions are checked alone, over the libraries that
-make test proved. What rattle prints is in out/wrong.log. The last line counts them.
+functions are applied together, and only these functions are checked, over the libraries that
+make test proved. What rattle prints is in out/wrong.log. The last line counts the edits.
 """
 import collections
 import os
@@ -25,14 +25,15 @@ TOP = pathlib.Path(__file__).resolve().parent.parent
 FUNCTION = re.compile(r'^( *)(?:pub(?:\([^)]*\))? )?(?:(?:const|unsafe|extern "C") )*fn (\w+)', re.M)
 IMPL = re.compile(r"^impl(?:<.*?>)? (\w+)(?:<[^{]*>)?( for )?", re.M)
 VERDICT = re.compile(r"^fn (\S+): (.*)$", re.M)
-# Why a function is not proved, where it is another function's fault alone.
+# A function that is proved, or has no proof only because of another function, or of which the prover cannot tell.
+NOT_REJECTED = re.compile(r"proved$|no proof: it calls [^;]*$|could not tell")
 OF_ANOTHER = re.compile(r"no proof: it calls [^;]*$")
 
 
 class Edit:
     """An edit of lines of a crate's sources, each of which occurs once: lines `file: PATH`, `old: LINE`, `new: LINE`.
 
-    Its functions are those around the old lines. A line `fn: NAME` names another one instead, as rattle does or by the end of that.
+    Its functions are those around the old lines. A line `fn: NAME` names one instead: the name that rattle prints, or the end of it.
     """
 
     def __init__(self, path):
@@ -76,10 +77,10 @@ def edits(crate, kind):
 
 
 def unpaired(crate):
-    """The controls that have no wrong body, and the wrong bodies that have no control."""
-    wrong, controls = ({edit.name for edit in edits(crate, kind)} for kind in ("wrong-bodies", "controls"))
-    yield from (f"{crate}/controls/{name} has no wrong body" for name in sorted(controls - wrong))
-    yield from (f"{crate}/wrong-bodies/{name} has no control" for name in sorted(wrong - controls))
+    """The controls that have no wrong body of the same functions, and the wrong bodies that have no such control."""
+    wrong, controls = ({edit.name: edit.functions for edit in edits(crate, kind)} for kind in ("wrong-bodies", "controls"))
+    yield from (f"{crate}/controls/{name} has no wrong body" for name in controls if wrong.get(name) != controls[name])
+    yield from (f"{crate}/wrong-bodies/{name} has no control" for name in wrong if wrong[name] != controls.get(name))
 
 
 def rounds(wrong):
@@ -136,7 +137,7 @@ class Trial:
             self.judge(edits(self.crate, "controls"), lambda found: all(it == "proved" for it in found), None)
             left = collections.deque(rounds(edits(self.crate, "wrong-bodies")))
             while left:
-                self.judge(left.popleft(), lambda found: any(it != "proved" and not OF_ANOTHER.match(it) for it in found), left)
+                self.judge(left.popleft(), lambda found: not all(NOT_REJECTED.match(it) for it in found), left)
         return self
 
 
