@@ -2,12 +2,17 @@
 """Runs a command of rt and says what it is at, a line a crate: tests/progress.py LOG rt COMMAND..
 
 LOG gets all that the command says. Of a failure its own lines are printed too. The status is the command's.
+Each library that the gate proves is kept at once in the folder `proved` beside LOG. The file `proved/all` says
+that the gate has ended.
 """
 import os
+import pathlib
 import re
 import subprocess
 import sys
 import time
+
+import proved
 
 TOP = os.path.dirname(os.path.dirname(os.path.abspath(__file__)))
 # What a log says of what was loaded, proved or left for later.
@@ -44,14 +49,19 @@ def begun(crate):
 class Gate:
     """rt ci: the crates in the order in which they end, then what was built is run."""
 
+    LOADS = re.compile(r"rt: (\w+) (?:proved|is kept: )")
     DONE = re.compile(r"rt: (\w+)(: its tests are)? (proved|NOT PROVED)")
     WELL = re.compile(r"rt: (\w+ ran\b.* wrote what|\w+: its tests passed|ok; )|\d+ passed, \d+ failed$")
 
-    def __init__(self):
+    def __init__(self, folder):
         self.names, self.ended, self.lines, self.inside = listed(), 0, [], False
+        self.kept = folder / "proved"
+        self.kept.mkdir()
 
     def take(self, line):
-        done = self.DONE.match(line)
+        done, loads = self.DONE.match(line), self.LOADS.match(line)
+        if loads:
+            proved.keep(loads[1], self.kept)
         if line.startswith("== "):
             self.lines, self.inside = [], True
             return
@@ -73,8 +83,8 @@ class Gate:
         if verdict != "proved":
             show(self.lines)
 
-    def end(self):
-        pass
+    def end(self, _):
+        (self.kept / "all").touch()
 
 
 class Build:
@@ -95,16 +105,17 @@ class Build:
             place = self.names.index(self.crate) + 1
             say(f"{place} of {len(self.names)}: {self.crate} {verdict}, {clock(time.time() - self.since)}")
 
-    def end(self):
-        show(self.lines)
+    def end(self, failed):
+        if failed:
+            show(self.lines)
 
 
 def main():
     if len(sys.argv) < 3:
         sys.exit(__doc__.strip())
-    log, command = os.path.abspath(sys.argv[1]), sys.argv[2:]
-    os.makedirs(os.path.dirname(log), exist_ok=True)
-    teller = Gate() if command[1:] == ["ci"] else Build()
+    log, command = pathlib.Path(sys.argv[1]).absolute(), sys.argv[2:]
+    log.parent.mkdir(parents=True, exist_ok=True)
+    teller = Gate(log.parent) if command[1:] == ["ci"] else Build()
     say(f"the log is {log}")
     how = {"stdin": subprocess.DEVNULL, "stdout": subprocess.PIPE, "stderr": subprocess.STDOUT, "text": True, "errors": "replace"}
     with open(log, "w", encoding="utf-8") as file, subprocess.Popen(command, **how) as run:
@@ -112,8 +123,8 @@ def main():
             file.write(line)
             file.flush()
             teller.take(line.rstrip("\n"))
+    teller.end(run.returncode)
     if run.returncode:
-        teller.end()
         say(f"{' '.join(command)} failed: see {log}")
     sys.exit(abs(run.returncode))
 

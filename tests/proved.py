@@ -1,7 +1,6 @@
 #!/usr/bin/env python3
-"""Keeps the libraries that the gate proved, and runs rattle over them, so that none is proved again.
+"""Runs rattle over the libraries that the gate proved, so that none is proved again.
 
-    tests/proved.py keep FOLDER            keeps those of a copy of the repository, in out/proved
     tests/proved.py rattle COMMAND CRATE WORD..
                                            runs `rattle COMMAND` on crates/CRATE over the kept libraries
     tests/proved.py check CRATE            proves crates/CRATE, and keeps what it proved for the next check
@@ -27,56 +26,53 @@ def kit():
     return pathlib.Path(told.strip()).parent
 
 
-def crates(top):
+@functools.cache
+def crates():
     """The kinds and the libraries of the crates in crates.txt, by their names."""
-    lines = (line.partition("#")[0].partition(":") for line in (top / "crates.txt").read_text().splitlines())
+    lines = (line.partition("#")[0].partition(":") for line in (TOP / "crates.txt").read_text().splitlines())
     return {head.split()[0]: (head.split()[1:], below.split()) for head, _, below in lines if head.strip()}
 
 
-def below(name, listed):
+def below(name):
     """The libraries of the repository under this crate."""
     found = set()
-    for library in listed[name][1]:
-        if library in listed:
-            found |= {library} | below(library, listed)
+    for library in crates()[name][1]:
+        if library in crates():
+            found |= {library} | below(library)
     return found
 
 
-def sum_of(top, name, listed):
+@functools.cache
+def sum_of(name):
     """A sum of what the proof of a library reads, beside the libraries under it: the kit, its line of crates.txt, its sources."""
-    seen = hashlib.sha256((kit() / "KIT-ID").read_bytes() + repr(listed[name]).encode())
+    seen = hashlib.sha256((kit() / "KIT-ID").read_bytes() + repr(crates()[name]).encode())
     for part in ("src", "specs", "proofs"):
-        for path in sorted((top / "crates" / name / part).rglob("*")):
+        for path in sorted((TOP / "crates" / name / part).rglob("*")):
             if path.is_file():
-                seen.update(repr((str(path.relative_to(top)), path.read_bytes())).encode())
+                seen.update(repr((str(path.relative_to(TOP)), path.read_bytes())).encode())
     return seen.hexdigest()
 
 
-def keep(folder):
-    copy = pathlib.Path(folder)
-    listed = crates(copy)
-    shutil.rmtree(KEPT, ignore_errors=True)
-    KEPT.mkdir(parents=True)
-    for name in listed:
-        built = copy / "crates" / name / "out" / "rlib" / f"{name}.rlib"
-        if built.is_dir():
-            shutil.copytree(built, KEPT / f"{name}.rlib")
-            (KEPT / f"{name}.sum").write_text(sum_of(copy, name, listed))
+def keep(name, folder):
+    """Keeps the library that the gate proved here, in a folder for those of another copy of the repository."""
+    built = TOP / "crates" / name / "out" / "rlib" / f"{name}.rlib"
+    if built.is_dir():
+        shutil.copytree(built, folder / f"{name}.rlib")
+        (folder / f"{name}.sum").write_text(sum_of(name))
 
 
-def is_kept(name, listed):
-    kept = KEPT / f"{name}.sum"
-    return kept.exists() and kept.read_text() == sum_of(TOP, name, listed)
+def stale(crate):
+    """The libraries under a crate that were not kept as they are now."""
+    def is_kept(name):
+        kept = KEPT / f"{name}.sum"
+        return kept.exists() and kept.read_text() == sum_of(name)
+
+    return [name for name in sorted(below(crate)) if not is_kept(name)]
 
 
 def command_line(command, crate):
-    """The command line of rattle for a crate, in its folder or a copy of that, or None if a library below was not kept."""
-    listed = crates(TOP)
-    stale = [name for name in sorted(below(crate, listed)) if not is_kept(name, listed)]
-    if stale:
-        print(f"not proved by make test as they are now: {', '.join(stale)}", file=sys.stderr)
-        return None
-    rlibs = {name: (KEPT if name in listed else kit() / "rlibs") / f"{name}.rlib" for name in ["std", *listed[crate][1]]}
+    """The command line of rattle for a crate, in its folder or a copy of that, over the kept libraries."""
+    rlibs = {name: (KEPT if name in crates() else kit() / "rlibs") / f"{name}.rlib" for name in ["std", *crates()[crate][1]]}
     given = [word for name, rlib in rlibs.items() for word in ("--extern", f"{name}={rlib}")]
     given += ["-L", f"dependency={kit() / 'rlibs'}", "-L", f"dependency={KEPT}"]
     given += ["--antt-project", kit() / "rattle/logic/antt-project.json", "--logic-built", kit() / "logic_built"]
@@ -85,8 +81,11 @@ def command_line(command, crate):
 
 
 def rattle(command, crate, *more):
-    given = command_line(command, crate)
-    return subprocess.run([*given, *more], cwd=TOP / "crates" / crate, check=False).returncode if given else STALE
+    lacking = stale(crate)
+    if lacking:
+        print(f"not proved by make test as they are now: {', '.join(lacking)}", file=sys.stderr)
+        return STALE
+    return subprocess.run([*command_line(command, crate), *more], cwd=TOP / "crates" / crate, check=False).returncode
 
 
 def check(crate):
@@ -97,8 +96,6 @@ def check(crate):
 
 if __name__ == "__main__":
     match sys.argv[1:]:
-        case ["keep", folder]:
-            keep(folder)
         case ["rattle", command, crate, *words]:
             sys.exit(rattle(command, crate, *words))
         case ["check", crate]:

@@ -1,5 +1,5 @@
 #!/usr/bin/env python3
-"""Tries the wrong bodies and their controls: tests/wrong.py [CRATE..]
+"""Tries the wrong bodies and their controls: tests/wrong.py [--beside-gate] [CRATE..]
 
 An edit in crates/CRATE/wrong-bodies/ puts a wrong body into a function, and the prover must reject
 that function. The edit of the same name in crates/CRATE/controls/ puts a correct body of the same
@@ -7,7 +7,8 @@ form into the same place, and that function must be proved.
 
 A proof of a function cites only the contracts of the functions that it calls. So edits of different
 functions are applied together, and only these functions are checked, over the libraries that
-make test proved. What rattle prints is in out/wrong.log. The last line counts the edits.
+make test proved. While the gate still runs, each crate is tried as soon as the libraries under it
+are proved. What rattle prints is in out/wrong.log. The last line counts the edits.
 """
 import collections
 import os
@@ -17,6 +18,7 @@ import shutil
 import subprocess
 import sys
 import tempfile
+import time
 from concurrent.futures import ThreadPoolExecutor
 
 import proved
@@ -100,8 +102,7 @@ class Trial:
     """The edits of one crate, each round over what the rounds before it proved."""
 
     def __init__(self, crate):
-        self.crate, self.command_line = crate, proved.command_line("check", crate)
-        self.log, self.faults, self.passed = [], [], 0
+        self.crate, self.log, self.faults, self.passed = crate, [], [], 0
 
     def verdicts(self, tried):
         """What rattle says of each function that it checks with the edits applied."""
@@ -113,8 +114,8 @@ class Trial:
             for edit in tried:
                 edit.apply(folder)
             only = [word for name in sorted(set().union(*(edit.functions for edit in tried))) for word in ("--only", name)]
-            ran = subprocess.run([*self.command_line, "--jobs", "1", "--incremental", self.kept, *only], cwd=folder, stdin=subprocess.DEVNULL,
-                                 stdout=subprocess.PIPE, stderr=subprocess.STDOUT, text=True, errors="replace")
+            words = [*proved.command_line("check", self.crate), "--jobs", "1", "--incremental", self.kept, *only]
+            ran = subprocess.run(words, cwd=folder, stdin=subprocess.DEVNULL, stdout=subprocess.PIPE, stderr=subprocess.STDOUT, text=True, errors="replace")
         self.log.append(f"== {self.crate}: {' '.join(edit.name for edit in tried)}\n{ran.stdout}")
         return VERDICT.findall(ran.stdout)
 
@@ -138,28 +139,42 @@ class Trial:
             left = collections.deque(rounds(edits(self.crate, "wrong-bodies")))
             while left:
                 self.judge(left.popleft(), lambda found: not all(NOT_REJECTED.match(it) for it in found), left)
-        return self
+
+
+def ready(trials, beside_gate):
+    """The trials, each when the libraries under its crate are kept."""
+    left = list(trials)
+    while left:
+        is_over = not beside_gate or (proved.KEPT / "all").exists()
+        begins = [trial for trial in left if not proved.stale(trial.crate)]
+        yield from begins
+        left = [trial for trial in left if trial not in begins]
+        if is_over:
+            break
+        time.sleep(1)
+    for trial in left:
+        trial.faults.append(f"{trial.crate}: the libraries under it were not proved by make test as they are now")
 
 
 def main():
-    given = sys.argv[1:]
+    beside_gate = sys.argv[1:2] == ["--beside-gate"]
+    given = sys.argv[2:] if beside_gate else sys.argv[1:]
     crates = given or sorted(path.parent.name for path in TOP.glob("crates/*/wrong-bodies"))
     unknown = [crate for crate in crates if not (TOP / "crates" / crate / "src").is_dir()]
     if unknown:
         sys.exit(f"tests/wrong.py: there is no crate {', '.join(unknown)}")
     faults = [fault for crate in crates for fault in unpaired(crate)]
     trials = [Trial(crate) for crate in crates if edits(crate, "wrong-bodies")]
-    if not all(trial.command_line for trial in trials):
-        sys.exit(proved.STALE)
     trials.sort(key=lambda trial: -len(edits(trial.crate, "wrong-bodies")))
-    passed = 0
     (TOP / "out").mkdir(exist_ok=True)
-    with ThreadPoolExecutor(len(os.sched_getaffinity(0))) as pool, open(TOP / "out/wrong.log", "w", encoding="utf-8") as log:
-        for trial in pool.map(Trial.run, trials):
-            log.write("".join(trial.log))
-            passed, faults = passed + trial.passed, faults + trial.faults
+    with ThreadPoolExecutor(len(os.sched_getaffinity(0))) as pool:
+        tried = [pool.submit(trial.run) for trial in ready(trials, beside_gate)]
+    for it in tried:
+        it.result()
+    (TOP / "out/wrong.log").write_text("".join(it for trial in trials for it in trial.log), encoding="utf-8")
+    faults += [fault for trial in trials for fault in trial.faults]
     print("".join(f"FAILED: {fault}\n" for fault in faults), end="")
-    print(f"{passed} wrong bodies and controls are as they must be, and {len(faults)} are not")
+    print(f"{sum(trial.passed for trial in trials)} wrong bodies and controls are as they must be, and {len(faults)} are not")
     sys.exit(bool(faults))
 
 
