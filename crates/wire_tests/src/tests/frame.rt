@@ -232,55 +232,52 @@ fn holds(header: &IpRepr, transport: Transport<'_>) -> bool {
     Frame::packet(FRAME_SRC, FRAME_DST, *header, transport).is_ok()
 }
 
+/// Whether a frame with this IP header can hold a UDP packet with these ports and so many octets of payload.
+fn holds_udp(header: &IpRepr, src_port: u16, dst_port: u16, len: usize) -> bool {
+    let zeros = [0; 65_536];
+    let ports = UdpRepr { src_port, dst_port };
+    match zeros.get(..len) {
+        Some(payload) => holds(header, Transport::Udp(ports, payload)),
+        None => false,
+    }
+}
+
 #[test]
 fn rejects_what_a_frame_cannot_hold(rt: HostRuntime) {
     let (over_ipv4, over_ipv6) = (ipv4(IpProtocol::Udp, 0), ipv6(IpProtocol::Udp, 0));
-    let long = [0; 65_536];
-    let ports = PORTS_OVER_IPV6;
-    let from_none = UdpRepr {
-        src_port: 0,
-        ..ports
-    };
-    let to_none = UdpRepr {
-        dst_port: 0,
-        ..ports
-    };
-    assert!(rt; holds(&over_ipv4, Transport::Udp(ports, &long[..65_507])));
-    assert!(rt; !holds(&over_ipv4, Transport::Udp(ports, &long[..65_508])));
-    assert!(rt; holds(&over_ipv6, Transport::Udp(ports, &long[..65_527])));
-    assert!(rt; !holds(&over_ipv6, Transport::Udp(ports, &long[..65_528])));
-    assert!(rt; holds(&over_ipv4, Transport::Udp(from_none, &[])));
-    assert!(rt; !holds(&over_ipv4, Transport::Udp(to_none, &[])));
+    assert!(rt; holds_udp(&over_ipv4, 1, 2, 65_507));
+    assert!(rt; !holds_udp(&over_ipv4, 1, 2, 65_508));
+    assert!(rt; holds_udp(&over_ipv6, 1, 2, 65_527));
+    assert!(rt; !holds_udp(&over_ipv6, 1, 2, 65_528));
+    assert!(rt; holds_udp(&over_ipv4, 0, 2, 0));
+    assert!(rt; !holds_udp(&over_ipv4, 1, 0, 0));
+}
+
+/// Whether a frame over IPv4 can hold the SYN with other ports and so many octets of payload.
+fn holds_tcp(src_port: u16, dst_port: u16, len: usize) -> bool {
+    let zeros = [0; 65_536];
+    let header = ipv4(IpProtocol::Tcp, 0);
+    match zeros.get(..len) {
+        Some(payload) => {
+            let segment = TcpRepr {
+                src_port,
+                dst_port,
+                payload,
+                ..SEGMENT
+            };
+            holds(&header, Transport::Tcp(segment))
+        }
+        None => false,
+    }
 }
 
 #[test]
 fn rejects_segments_that_a_frame_cannot_hold(rt: HostRuntime) {
-    let header = ipv4(IpProtocol::Tcp, 0);
-    let long = [0; 65_536];
     // The header of the segment has 24 octets.
-    let longest = TcpRepr {
-        payload: &long[..65_491],
-        ..SEGMENT
-    };
-    let too_long = TcpRepr {
-        payload: &long[..65_492],
-        ..SEGMENT
-    };
-    let from_none = TcpRepr {
-        src_port: 0,
-        ..SEGMENT
-    };
-    let to_none = TcpRepr {
-        dst_port: 0,
-        ..SEGMENT
-    };
-    let held = [
-        holds(&header, Transport::Tcp(longest)),
-        holds(&header, Transport::Tcp(too_long)),
-        holds(&header, Transport::Tcp(from_none)),
-        holds(&header, Transport::Tcp(to_none)),
-    ];
-    assert!(rt; held == [true, false, false, false]);
+    assert!(rt; holds_tcp(49152, 80, 65_491));
+    assert!(rt; !holds_tcp(49152, 80, 65_492));
+    assert!(rt; !holds_tcp(0, 80, 0));
+    assert!(rt; !holds_tcp(49152, 0, 0));
 }
 
 #[test]
