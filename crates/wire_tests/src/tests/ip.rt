@@ -38,18 +38,21 @@ fn has_payload(bytes: &[u8], payload: &[u8]) -> bool {
 }
 
 #[test]
+fn a_view_has_the_payload_of_its_version(rt: HostRuntime) {
+    assert!(rt; has_payload(&IPV4_PACKET, &IPV4_PACKET[20..]));
+    assert!(rt; has_payload(&IPV6_PACKET, &IPV6_PACKET[40..]));
+    assert!(rt; !has_payload(&IPV4_PACKET[..23], &IPV4_PACKET[20..23]));
+}
+
+#[test]
 fn padding_is_no_payload(rt: HostRuntime) {
     let (mut padded, mut longer) = ([0; 26], IPV6_PACKET);
     padded[..24].copy_from_slice(&IPV4_PACKET);
     longer[5] = 10;
-    let mut version_5 = padded;
-    version_5[0] = 0x55;
-    assert!(rt; has_payload(&IPV4_PACKET, &IPV4_PACKET[20..]));
-    assert!(rt; has_payload(&IPV6_PACKET, &IPV6_PACKET[40..]));
     assert!(rt; has_payload(&padded, &IPV4_PACKET[20..]));
     assert!(rt; has_payload(&longer, &IPV6_PACKET[40..50]));
-    assert!(rt; !has_payload(&IPV4_PACKET[..23], &IPV4_PACKET[20..23]));
-    assert!(rt; !has_payload(&version_5, &IPV4_PACKET[20..]));
+    padded[0] = 0x55;
+    assert!(rt; !has_payload(&padded, &IPV4_PACKET[20..]));
 }
 
 #[test]
