@@ -10,6 +10,7 @@ mod promises;
 mod replies;
 mod router;
 mod sack;
+mod udp_frames;
 mod uses;
 mod views;
 
@@ -34,3 +35,12 @@ const OFFER: Offer = Offer {
     window_scale: 7,
     clock: 0x5566_7788,
 };
+
+/// Writes octets to some places of a frame.
+fn change(frame: &mut [u8], octets: &[(usize, u8)]) {
+    for (at, octet) in octets {
+        if let Some(changed) = frame.get_mut(*at) {
+            *changed = *octet;
+        }
+    }
+}

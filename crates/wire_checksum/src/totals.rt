@@ -6,9 +6,6 @@ ghost use Rattle.wire_checksum.specs.WordSum.{residue, sum_of_bytes, words};
 
 use std::simd::prelude::*;
 
-#[cfg(test)]
-mod tests;
-
 /// The sum that a total stands for. The words of a total are little-endian, so the two bytes of the
 /// folded total are swapped.
 #[inline]

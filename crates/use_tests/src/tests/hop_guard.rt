@@ -1,13 +1,14 @@
 //! The hop limit check. A neighbour sends with hop limit 255 (RFC 5082, section 3).
 
 use super::captured::{ARP_REQUEST, ECHO_REQUEST, SYN};
+use super::change;
 use ip_uses::hop_guard::is_near;
 
 /// The packet to the echo port with another hop limit, and the checksum of its IPv4 header.
 fn with_hop_limit(hop_limit: u8, checksum: [u8; 2]) -> [u8; 46] {
     let mut frame = ECHO_REQUEST;
-    frame[22] = hop_limit;
-    frame[24..26].copy_from_slice(&checksum);
+    let [high, low] = checksum;
+    change(&mut frame, &[(22, hop_limit), (24, high), (25, low)]);
     frame
 }
 
@@ -24,13 +25,13 @@ fn accepts_packets_over_few_routers(rt: HostRuntime) {
         (&SYN, 190, false),
         (&SYN, 191, true),
     ] {
-        assert_eq!(rt; is_near(frame, hops), near);
+        assert!(rt; is_near(frame, hops) == near, "{hops}");
     }
 }
 
 #[test]
 fn accepts_neighbours_over_ipv6(rt: HostRuntime) {
-    let mut frame = super::uses::IPV6_FRAME;
+    let mut frame = super::udp_frames::IPV6_FRAME;
     frame[21] = 255;
     assert!(rt; is_near(&frame, 0));
     frame[21] = 254;

@@ -15,23 +15,27 @@ fn host(open_ports: &[u16]) -> Host<'_> {
     }
 }
 
-/// Each kind of request with its reply. The bytes behind the reply are unchanged, and so is a buffer that
-/// is too short.
+/// Whether the host sends this reply. The bytes behind a reply are unchanged, and so is a buffer that is too
+/// short.
+fn replies(host: &Host<'_>, request: &[u8], reply: &[u8]) -> bool {
+    let len = reply.len();
+    if len == 0 || len > 80 {
+        return false;
+    }
+    let mut expected = [0xa5; 80];
+    expected[..len].copy_from_slice(reply);
+    let mut out = [0xa5; 80];
+    let whole = answer(host, request, &mut out);
+    let is_written = whole == Some(len) && out == expected;
+    let short = answer(host, request, &mut out[..len - 1]);
+    is_written && short.is_none() && out == expected
+}
+
 #[test]
 fn answers_each_kind(rt: HostRuntime) {
-    for (ports, request, reply) in [
-        (&[][..], &ARP_REQUEST[..], &ARP_REPLY[..]),
-        (&[], &ECHO_REQUEST, &ECHO_REPLY),
-        (&[22, 80], &SYN, &SYN_ACK),
-        (&[22], &SYN, &SYN_RESET),
-    ] {
-        let len = reply.len();
-        let mut expected = [0xa5; 80];
-        expected[..len].copy_from_slice(reply);
-        let mut out = [0xa5; 80];
-        let found = answer(&host(ports), request, &mut out);
-        assert_eq!(rt; (found, out), (Some(len), expected));
-        let found = answer(&host(ports), request, &mut out[..len - 1]);
-        assert_eq!(rt; (found, out), (None, expected));
-    }
+    let (none, one, two) = (host(&[]), host(&[22]), host(&[22, 80]));
+    assert!(rt; replies(&none, &ARP_REQUEST, &ARP_REPLY));
+    assert!(rt; replies(&none, &ECHO_REQUEST, &ECHO_REPLY));
+    assert!(rt; replies(&two, &SYN, &SYN_ACK));
+    assert!(rt; replies(&one, &SYN, &SYN_RESET));
 }

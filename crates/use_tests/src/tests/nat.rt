@@ -1,9 +1,8 @@
 //! Translated frames. The checksums of the expected frames were computed by another
 //! program.
 
-ghost use Rattle.std.specs.Prelude.{◌≤◌, ◌≢◌, length};
-
 use super::captured::{DATA, SYN};
+use super::change;
 use ip_nat::{Rejection, Side, translate};
 use ip_wire::Ipv4Address;
 
@@ -79,66 +78,55 @@ const PADDED_OUT: [u8; 56] = [
     0x6e, 0x67, 0xaa, 0xaa, 0xaa, 0xaa, 0xaa, 0xaa,
 ];
 
-/// The result of a translation, and the frame behind it in a buffer of zeros.
-fn translated(
-    bytes: &[u8],
+/// Whether the translation of a frame has this result, and makes this frame of it.
+fn gives(
+    before: &[u8],
     side: Side,
     addr: Ipv4Address,
     port: u16,
-) -> (Result<(), Rejection>, [u8; 80])
-    requires room { length bytes.now ≤ 80 }
-    requires port { port ≢ 0 }
-{
+    expected: Result<(), Rejection>,
+    after: &[u8],
+) -> bool {
+    let len = before.len();
+    if len > 80 || port == 0 {
+        return false;
+    }
     let mut buffer = [0; 80];
-    buffer[..bytes.len()].copy_from_slice(bytes);
-    let result = translate(&mut buffer[..bytes.len()], side, addr, port);
-    (result, buffer)
+    buffer[..len].copy_from_slice(before);
+    translate(&mut buffer[..len], side, addr, port) == expected && &buffer[..len] == after
 }
 
-/// These bytes in a buffer of zeros.
-fn padded(bytes: &[u8]) -> [u8; 80]
-    requires { length bytes.now ≤ 80 }
-{
-    let mut buffer = [0; 80];
-    buffer[..bytes.len()].copy_from_slice(bytes);
-    buffer
+/// Whether a frame is translated to this frame.
+fn becomes(before: &[u8], side: Side, addr: Ipv4Address, port: u16, after: &[u8]) -> bool {
+    gives(before, side, addr, port, Ok(()), after)
 }
 
 #[test]
 fn translates_out_and_in(rt: HostRuntime) {
-    for (before, side, addr, port, after) in [
-        (&UDP[..], Side::Source, outside(), 40000, &UDP_OUT[..]),
-        (&UDP_OUT, Side::Source, inside(), 46563, &UDP),
-        (&REPLY_IN, Side::Destination, inside(), 46563, &REPLY),
-        (&SYN, Side::Source, outside(), 40001, &SYN_OUT),
-        (&DATA_IN, Side::Destination, inside(), 60784, &DATA),
-        (&PADDED, Side::Source, outside(), 40000, &PADDED_OUT),
-    ] {
-        let found = translated(before, side, addr, port);
-        assert_eq!(rt; found, (Ok(()), padded(after)));
-    }
+    let (source, destination) = (Side::Source, Side::Destination);
+    assert!(rt; becomes(&UDP, source, outside(), 40000, &UDP_OUT));
+    assert!(rt; becomes(&UDP_OUT, source, inside(), 46563, &UDP));
+    assert!(rt; becomes(&REPLY_IN, destination, inside(), 46563, &REPLY));
+    assert!(rt; becomes(&SYN, source, outside(), 40001, &SYN_OUT));
+    assert!(rt; becomes(&DATA_IN, destination, inside(), 60784, &DATA));
+    assert!(rt; becomes(&PADDED, source, outside(), 40000, &PADDED_OUT));
 }
 
 /// A UDP checksum of 0 stays 0. A computed UDP checksum of 0 is written as 0xffff, that of TCP as 0.
 #[test]
 fn writes_checksums_of_0(rt: HostRuntime) {
     let (mut without, mut without_out) = (UDP, UDP_OUT);
-    without[40..42].copy_from_slice(&[0, 0]);
-    without_out[40..42].copy_from_slice(&[0, 0]);
-    let mut udp_out = UDP_OUT;
-    udp_out[34..36].copy_from_slice(&[0x0e, 0x10]);
-    udp_out[40..42].copy_from_slice(&[0xff, 0xff]);
-    let mut syn_out = SYN_OUT;
-    syn_out[34..36].copy_from_slice(&[0x4c, 0x26]);
-    syn_out[50..52].copy_from_slice(&[0, 0]);
-    for (before, port, after) in [
-        (&without[..], 40000, &without_out[..]),
-        (&UDP, 0x0e10, &udp_out),
-        (&SYN, 0x4c26, &syn_out),
-    ] {
-        let found = translated(before, Side::Source, outside(), port);
-        assert_eq!(rt; found, (Ok(()), padded(after)));
-    }
+    change(&mut without, &[(40, 0), (41, 0)]);
+    change(&mut without_out, &[(40, 0), (41, 0)]);
+    let (mut udp_out, mut syn_out) = (UDP_OUT, SYN_OUT);
+    change(
+        &mut udp_out,
+        &[(34, 0x0e), (35, 0x10), (40, 0xff), (41, 0xff)],
+    );
+    change(&mut syn_out, &[(34, 0x4c), (35, 0x26), (50, 0), (51, 0)]);
+    assert!(rt; becomes(&without, Side::Source, outside(), 40000, &without_out));
+    assert!(rt; becomes(&UDP, Side::Source, outside(), 0x0e10, &udp_out));
+    assert!(rt; becomes(&SYN, Side::Source, outside(), 0x4c26, &syn_out));
 }
 
 /// An IPv4 checksum of 0xffff, which no sender computes, becomes 0 when the translation is undone (RFC 1624,
@@ -146,19 +134,28 @@ fn writes_checksums_of_0(rt: HostRuntime) {
 #[test]
 fn undoes_an_unusual_checksum(rt: HostRuntime) {
     let (mut full, mut full_out) = (UDP, UDP_OUT);
-    full[18..20].copy_from_slice(&[0xb6, 0xc9]);
-    full[24..26].copy_from_slice(&[0xff, 0xff]);
-    full_out[18..20].copy_from_slice(&[0xb6, 0xc9]);
-    full_out[24..26].copy_from_slice(&[0x85, 0xf7]);
+    change(&mut full, &[(18, 0xb6), (19, 0xc9), (24, 0xff), (25, 0xff)]);
+    change(
+        &mut full_out,
+        &[(18, 0xb6), (19, 0xc9), (24, 0x85), (25, 0xf7)],
+    );
     let mut back = full;
-    back[24..26].copy_from_slice(&[0, 0]);
-    for (before, addr, port, after) in [
-        (&full, outside(), 40000, &full_out),
-        (&full_out, inside(), 46563, &back),
-    ] {
-        let found = translated(before, Side::Source, addr, port);
-        assert_eq!(rt; found, (Ok(()), padded(after)));
-    }
+    change(&mut back, &[(24, 0), (25, 0)]);
+    assert!(rt; becomes(&full, Side::Source, outside(), 40000, &full_out));
+    assert!(rt; becomes(&full_out, Side::Source, inside(), 46563, &back));
+}
+
+/// Whether the UDP packet with these octets is rejected for this reason, and stays as it is.
+fn rejects(
+    changes: &[(usize, u8)],
+    side: Side,
+    addr: Ipv4Address,
+    port: u16,
+    reason: Rejection,
+) -> bool {
+    let mut frame = UDP;
+    change(&mut frame, changes);
+    gives(&frame, side, addr, port, Err(reason), &frame)
 }
 
 /// Changed octets: the EtherType, the version, the total length, the checksum; then, with a valid IPv4
@@ -166,65 +163,51 @@ fn undoes_an_unusual_checksum(rt: HostRuntime) {
 #[test]
 fn rejects_other_frames(rt: HostRuntime) {
     for (changes, reason) in [
-        ([(13, 0x06), (13, 0x06), (13, 0x06)], Rejection::NotIpv4),
-        ([(12, 0x86), (13, 0xdd), (13, 0xdd)], Rejection::NotIpv4),
-        ([(14, 0x65), (14, 0x65), (14, 0x65)], Rejection::BadHeader),
-        ([(17, 0x21), (17, 0x21), (17, 0x21)], Rejection::BadHeader),
+        (&[(13, 0x06)][..], Rejection::NotIpv4),
+        (&[(12, 0x86), (13, 0xdd)], Rejection::NotIpv4),
+        (&[(14, 0x65)], Rejection::BadHeader),
+        (&[(17, 0x21)], Rejection::BadHeader),
+        (&[(24, 0x21)], Rejection::WrongChecksum),
+        (&[(20, 0x20), (24, 0x40), (25, 0xd4)], Rejection::Fragment),
         (
-            [(24, 0x21), (24, 0x21), (24, 0x21)],
-            Rejection::WrongChecksum,
-        ),
-        ([(20, 0x20), (24, 0x40), (25, 0xd4)], Rejection::Fragment),
-        ([(21, 0x01), (24, 0x20), (25, 0xd3)], Rejection::Fragment),
-        (
-            [(23, 0x01), (24, 0x20), (25, 0xe4)],
+            &[(23, 0x01), (24, 0x20), (25, 0xe4)],
             Rejection::OtherProtocol,
         ),
-        (
-            [(40, 0xd3), (40, 0xd3), (40, 0xd3)],
-            Rejection::BadTransport,
-        ),
-        (
-            [(39, 0x0d), (39, 0x0d), (39, 0x0d)],
-            Rejection::BadTransport,
-        ),
+        (&[(40, 0xd3)], Rejection::BadTransport),
+        (&[(39, 0x0d)], Rejection::BadTransport),
     ] {
-        let mut frame = UDP;
-        for (at, octet) in changes {
-            frame[at] = octet;
-        }
-        let found = translated(&frame, Side::Source, outside(), 40000);
-        assert_eq!(rt; found, (Err(reason), padded(&frame)));
+        assert!(rt;
+            rejects(changes, Side::Source, outside(), 40000, reason),
+            "{changes:?}"
+        );
     }
+}
+
+/// Whether these bytes are rejected for this reason, and stay as they are.
+fn rejects_bytes(bytes: &[u8], reason: Rejection) -> bool {
+    gives(bytes, Side::Source, outside(), 40000, Err(reason), bytes)
 }
 
 #[test]
 fn rejects_short_frames(rt: HostRuntime) {
-    for (len, reason) in [(13, Rejection::NotIpv4), (14, Rejection::BadHeader)] {
-        let found = translated(&UDP[..len], Side::Source, outside(), 40000);
-        assert_eq!(rt; found, (Err(reason), padded(&UDP[..len])));
-    }
+    assert!(rt; rejects_bytes(&UDP[..13], Rejection::NotIpv4));
+    assert!(rt; rejects_bytes(&UDP[..14], Rejection::BadHeader));
+}
+
+/// Whether the SYN with these octets is rejected, and stays as it is.
+fn rejects_syn(changes: &[(usize, u8)]) -> bool {
+    let mut frame = SYN;
+    change(&mut frame, changes);
+    let rejected = Err(Rejection::BadTransport);
+    gives(&frame, Side::Destination, inside(), 80, rejected, &frame)
 }
 
 /// A TCP segment with a changed checksum, a changed port, and a port 0 with a valid checksum.
 #[test]
 fn rejects_other_segments(rt: HostRuntime) {
-    for changes in [
-        [(51, 0xbe), (51, 0xbe), (51, 0xbe)],
-        [(37, 0x51), (37, 0x51), (37, 0x51)],
-        [(37, 0x00), (50, 0xd9), (51, 0x0d)],
-    ] {
-        let mut frame = SYN;
-        for (at, octet) in changes {
-            frame[at] = octet;
-        }
-        let same = frame;
-        assert_eq!(rt;
-            translate(&mut frame, Side::Destination, inside(), 80),
-            Err(Rejection::BadTransport)
-        );
-        assert_eq!(rt; frame, same);
-    }
+    assert!(rt; rejects_syn(&[(51, 0xbe)]));
+    assert!(rt; rejects_syn(&[(37, 0x51)]));
+    assert!(rt; rejects_syn(&[(37, 0x00), (50, 0xd9), (51, 0x0d)]));
 }
 
 /// Two faults in one frame: the first reason of `Rejection` that applies. Where the IPv4 checksum is to be
@@ -232,60 +215,31 @@ fn rejects_other_segments(rt: HostRuntime) {
 #[test]
 fn rejects_by_the_first_reason(rt: HostRuntime) {
     for (changes, reason) in [
+        (&[(13, 0x06), (14, 0x65)][..], Rejection::NotIpv4),
+        (&[(13, 0x06), (20, 0x20)], Rejection::NotIpv4),
+        (&[(14, 0x65), (24, 0x21)], Rejection::BadHeader),
+        (&[(14, 0x44), (20, 0x20)], Rejection::BadHeader),
+        (&[(17, 0x21), (23, 0x01)], Rejection::BadHeader),
+        (&[(20, 0x20)], Rejection::WrongChecksum),
+        (&[(23, 0x01)], Rejection::WrongChecksum),
+        (&[(24, 0x21), (40, 0xd3)], Rejection::WrongChecksum),
         (
-            [(13, 0x06), (14, 0x65), (14, 0x65), (14, 0x65)],
-            Rejection::NotIpv4,
-        ),
-        (
-            [(13, 0x06), (20, 0x20), (20, 0x20), (20, 0x20)],
-            Rejection::NotIpv4,
-        ),
-        (
-            [(14, 0x65), (24, 0x21), (24, 0x21), (24, 0x21)],
-            Rejection::BadHeader,
-        ),
-        (
-            [(14, 0x44), (20, 0x20), (20, 0x20), (20, 0x20)],
-            Rejection::BadHeader,
-        ),
-        (
-            [(17, 0x21), (23, 0x01), (23, 0x01), (23, 0x01)],
-            Rejection::BadHeader,
-        ),
-        (
-            [(20, 0x20), (20, 0x20), (20, 0x20), (20, 0x20)],
-            Rejection::WrongChecksum,
-        ),
-        (
-            [(23, 0x01), (23, 0x01), (23, 0x01), (23, 0x01)],
-            Rejection::WrongChecksum,
-        ),
-        (
-            [(24, 0x21), (40, 0xd3), (40, 0xd3), (40, 0xd3)],
-            Rejection::WrongChecksum,
-        ),
-        (
-            [(20, 0x20), (23, 0x01), (24, 0x40), (25, 0xe4)],
+            &[(20, 0x20), (23, 0x01), (24, 0x40), (25, 0xe4)],
             Rejection::Fragment,
         ),
+        (&[(20, 0x20), (24, 0x40), (40, 0xd3)], Rejection::Fragment),
         (
-            [(20, 0x20), (24, 0x40), (40, 0xd3), (40, 0xd3)],
-            Rejection::Fragment,
-        ),
-        (
-            [(23, 0x01), (25, 0xe4), (40, 0xd3), (40, 0xd3)],
+            &[(23, 0x01), (25, 0xe4), (40, 0xd3)],
             Rejection::OtherProtocol,
         ),
         (
-            [(36, 0x00), (37, 0x00), (39, 0x07), (40, 0xd3)],
+            &[(36, 0x00), (37, 0x00), (39, 0x07), (40, 0xd3)],
             Rejection::BadTransport,
         ),
     ] {
-        let mut frame = UDP;
-        for (at, octet) in changes {
-            frame[at] = octet;
-        }
-        let found = translated(&frame, Side::Destination, inside(), 7);
-        assert_eq!(rt; found, (Err(reason), padded(&frame)));
+        assert!(rt;
+            rejects(changes, Side::Destination, inside(), 7, reason),
+            "{changes:?}"
+        );
     }
 }

@@ -1,5 +1,6 @@
 //! A call of each kind.
 
+use super::udp_frames::FRAME;
 use ip_promises::calls::blocks::netmask_then_block;
 use ip_promises::calls::hardware::eui_64_of_octets;
 use ip_promises::calls::interfaces::solicited_node_of_octets;
@@ -28,13 +29,10 @@ fn texts_of_addresses_are_parsed(rt: HostRuntime) -> Result<(), Fail> {
     let ipv4 = Ipv4Address::new(192, 0, 2, 1);
     let ipv6 = Ipv6Address::new(0x2001, 0xdb8, 0, 0, 0, 0, 0, 1);
     let (addr, alloc) = (IpAddress::Ipv4(ipv4), rt.alloc());
-    let found = (
-        print_then_parse_ethernet(alloc, &ethernet)?,
-        print_then_parse_ipv4(alloc, &ipv4)?,
-        print_then_parse_ipv6(alloc, &ipv6)?,
-        print_then_parse_ip(alloc, &addr)?,
-    );
-    assert_eq!(rt; found, (Some(ethernet), Some(ipv4), Some(ipv6), Some(addr)));
+    assert!(rt; print_then_parse_ethernet(alloc, &ethernet)? == Some(ethernet));
+    assert!(rt; print_then_parse_ipv4(alloc, &ipv4)? == Some(ipv4));
+    assert!(rt; print_then_parse_ipv6(alloc, &ipv6)? == Some(ipv6));
+    assert!(rt; print_then_parse_ip(alloc, &addr)? == Some(addr));
     Ok(())
 }
 
@@ -45,23 +43,12 @@ fn texts_of_blocks_and_endpoints_are_parsed(rt: HostRuntime) -> Result<(), Fail>
     let ipv6 = Ipv6Cidr::new(addr, 32);
     let endpoint = IpEndpoint::new(IpAddress::Ipv6(addr), 80);
     let (block, alloc) = (IpCidr::Ipv6(ipv6), rt.alloc());
-    let found = (
-        print_then_parse_ipv4_cidr(alloc, &ipv4)?,
-        print_then_parse_ipv6_cidr(alloc, &ipv6)?,
-        print_then_parse_ip_cidr(alloc, &block)?,
-        print_then_parse_ip_endpoint(alloc, &endpoint)?,
-    );
-    assert_eq!(rt;
-        found,
-        (Some(ipv4), Some(ipv6), Some(block), Some(endpoint))
-    );
+    assert!(rt; print_then_parse_ipv4_cidr(alloc, &ipv4)? == Some(ipv4));
+    assert!(rt; print_then_parse_ipv6_cidr(alloc, &ipv6)? == Some(ipv6));
+    assert!(rt; print_then_parse_ip_cidr(alloc, &block)? == Some(block));
+    assert!(rt; print_then_parse_ip_endpoint(alloc, &endpoint)? == Some(endpoint));
     Ok(())
 }
-
-/// A UDP packet between 192.168.1.1 and 192.168.1.2, from port 48896 to port 53.
-const UDP: [u8; 12] = [
-    0xbf, 0x00, 0x00, 0x35, 0x00, 0x0c, 0x12, 0x4d, 0xaa, 0x00, 0x00, 0xff,
-];
 
 #[test]
 fn a_udp_packet_is_emitted_and_parsed(rt: HostRuntime) {
@@ -73,23 +60,21 @@ fn a_udp_packet_is_emitted_and_parsed(rt: HostRuntime) {
     let dst = IpAddress::v4(192, 168, 1, 2);
     let caps = ChecksumCapabilities::default();
     let mut buffer = [0xa5; 12];
-    let parsed = emit_then_parse_udp(value, &UDP[8..], &src, &dst, &mut buffer, &caps, &caps);
-    assert_eq!(rt; (parsed, buffer), (Ok(value), UDP));
+    let payload = &FRAME[42..];
+    let parsed = emit_then_parse_udp(value, payload, &src, &dst, &mut buffer, &caps, &caps);
+    assert!(rt; parsed == Ok(value));
+    assert!(rt; buffer.as_slice() == &FRAME[34..]);
 }
-
-/// A frame with that packet, and two bytes of padding.
-pub const FRAME: [u8; 48] = [
-    0x01, 0x02, 0x03, 0x04, 0x05, 0x06, 0x11, 0x12, 0x13, 0x14, 0x15, 0x16, 0x08, 0x00, 0x45, 0x00,
-    0x00, 0x20, 0x00, 0x00, 0x40, 0x00, 0x40, 0x11, 0xb7, 0x79, 0xc0, 0xa8, 0x01, 0x01, 0xc0, 0xa8,
-    0x01, 0x02, 0xbf, 0x00, 0x00, 0x35, 0x00, 0x0c, 0x12, 0x4d, 0xaa, 0x00, 0x00, 0xff, 0xa5, 0xa5,
-];
 
 #[test]
 fn a_frame_settles(rt: HostRuntime) {
+    let mut padded = [0xa5; 48];
+    padded[..46].copy_from_slice(&FRAME);
     let mut first = [0xa5; 48];
     let mut second = [0xa5; 48];
-    let len = settles(&FRAME, &mut first, &mut second);
-    assert_eq!(rt; (len, second), (46, FRAME));
+    let len = settles(&padded, &mut first, &mut second);
+    assert!(rt; len == 46);
+    assert!(rt; second == padded);
 }
 
 /// A segment with this payload.
@@ -189,13 +174,13 @@ fn calls_agree(rt: HostRuntime) {
     // The example of RFC 2464, section 4.
     let ethernet = EthernetAddress([0x34, 0x56, 0x78, 0x9a, 0xbc, 0xde]);
     let identifier = Some([0x36, 0x56, 0x78, 0xff, 0xfe, 0x9a, 0xbc, 0xde]);
-    assert_eq!(rt; eui_64_of_octets(ethernet), (identifier, identifier));
+    assert!(rt; eui_64_of_octets(ethernet) == (identifier, identifier));
     // The example of RFC 4291, section 2.7.1.
     let node = Ipv6Address::new(0x4037, 0, 0, 0, 1, 0x800, 0x200e, 0x8c6c);
     let group = [
         0xff, 2, 0, 0, 0, 0, 0, 0, 0, 0, 0, 1, 0xff, 0x0e, 0x8c, 0x6c,
     ];
     let block = Ipv4Cidr::new(Ipv4Address::new(192, 0, 2, 1), 24);
-    let found = (solicited_node_of_octets(&node), netmask_then_block(&block));
-    assert_eq!(rt; found, ((group, group), Ok(block)));
+    assert!(rt; solicited_node_of_octets(&node) == (group, group));
+    assert!(rt; netmask_then_block(&block) == Ok(block));
 }

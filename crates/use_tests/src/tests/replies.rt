@@ -8,19 +8,22 @@ use ip_replies::{arp, tcp_answer, udp_echo};
 fn replies_to_a_request(rt: HostRuntime) {
     let mut out = [0; 42];
     let len = arp::answer(&ARP_REQUEST, &ours(), &mut out);
-    assert_eq!(rt; (len, out), (Some(42), ARP_REPLY));
+    assert!(rt; len == Some(42));
+    assert!(rt; out == ARP_REPLY);
 }
 
 #[test]
 fn echoes_a_packet(rt: HostRuntime) {
     let mut out = [0; 46];
     let len = udp_echo::answer(&ECHO_REQUEST, &ours(), 7, &mut out);
-    assert_eq!(rt; (len, out), (Some(46), ECHO_REPLY));
+    assert!(rt; len == Some(46));
+    assert!(rt; out == ECHO_REPLY);
 }
 
 #[test]
 fn accepts_a_syn(rt: HostRuntime) {
     let mut out = [0; 74];
     let len = tcp_answer::answer(&SYN, &ours(), &[22, 80], &OFFER, &mut out);
-    assert_eq!(rt; (len, out), (Some(74), SYN_ACK));
+    assert!(rt; len == Some(74));
+    assert!(rt; out == SYN_ACK);
 }

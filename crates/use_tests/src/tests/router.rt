@@ -1,5 +1,6 @@
 //! One hop of a router. The expected frames have checksums that were computed anew.
 
+use super::change;
 use ip_forward::{Rejection, forward};
 use ip_wire::{EthernetAddress, IpProtocol, IpRepr, Ipv4Address, Ipv4Packet, Ipv4Repr};
 
@@ -44,6 +45,22 @@ const FRAGMENT_FORWARDED: [u8; 50] = [
     0xaa, 0xaa,
 ];
 
+/// The hop limit that a frame is forwarded with, or why it is not forwarded.
+fn hop(frame: &mut [u8]) -> Result<u8, Rejection> {
+    match forward(frame, SRC, DST) {
+        Ok(header) => Ok(header.hop_limit()),
+        Err(reason) => Err(reason),
+    }
+}
+
+/// Whether a frame has a whole IPv4 packet whose header has a valid checksum.
+fn is_valid(frame: &[u8; 46]) -> bool {
+    match Ipv4Packet::new_checked(&frame[14..]) {
+        Ok(packet) => packet.verify_checksum(),
+        Err(_) => false,
+    }
+}
+
 #[test]
 fn forwards_ipv4_until_it_expires(rt: HostRuntime) {
     let mut frame = UDP;
@@ -54,15 +71,15 @@ fn forwards_ipv4_until_it_expires(rt: HostRuntime) {
         payload_len: 12,
         hop_limit: 63,
     };
-    let result = forward(&mut frame, SRC, DST);
-    assert_eq!(rt; (result, frame), (Ok(IpRepr::Ipv4(header)), UDP_FORWARDED));
+    assert!(rt; forward(&mut frame, SRC, DST) == Ok(IpRepr::Ipv4(header)));
+    assert!(rt; frame == UDP_FORWARDED);
     for _ in 0..62 {
-        assert!(rt; forward(&mut frame, SRC, DST).is_ok());
-        assert!(rt; Ipv4Packet::new_unchecked(&frame[14..]).verify_checksum());
+        assert!(rt; hop(&mut frame).is_ok());
+        assert!(rt; is_valid(&frame));
     }
     let last = frame;
-    let result = forward(&mut frame, SRC, DST);
-    assert_eq!(rt; (result, frame), (Err(Rejection::Expired), last));
+    assert!(rt; hop(&mut frame) == Err(Rejection::Expired));
+    assert!(rt; frame == last);
 }
 
 #[test]
@@ -73,20 +90,36 @@ fn forwards_ipv6_until_it_expires(rt: HostRuntime) {
     let mut frame = IPV6;
     for hop_limit in 1..255 {
         let left = 255 - hop_limit;
-        let result = forward(&mut frame, SRC, DST).map(|header| header.hop_limit());
         expected[21] = left;
-        assert_eq!(rt; (result, frame), (Ok(left), expected));
+        assert!(rt; hop(&mut frame) == Ok(left), "{left}");
+        assert!(rt; frame == expected, "{left}");
     }
-    let result = forward(&mut frame, SRC, DST);
-    assert_eq!(rt; (result, frame), (Err(Rejection::Expired), expected));
+    assert!(rt; hop(&mut frame) == Err(Rejection::Expired));
+    assert!(rt; frame == expected);
 }
 
 /// A router does not look at fragmentation, options or what is behind the packet.
 #[test]
 fn forwards_a_fragment_with_options(rt: HostRuntime) {
     let mut frame = FRAGMENT;
-    let is_ok = forward(&mut frame, SRC, DST).is_ok();
-    assert_eq!(rt; (is_ok, frame), (true, FRAGMENT_FORWARDED));
+    assert!(rt; hop(&mut frame).is_ok());
+    assert!(rt; frame == FRAGMENT_FORWARDED);
+}
+
+/// Whether the frame over IPv4 with these octets is rejected for this reason, and stays as it is.
+fn rejects(changes: &[(usize, u8)], reason: Rejection) -> bool {
+    let mut frame = UDP;
+    change(&mut frame, changes);
+    let same = frame;
+    hop(&mut frame) == Err(reason) && frame == same
+}
+
+/// The same for the frame over IPv6.
+fn rejects_ipv6(changes: &[(usize, u8)], reason: Rejection) -> bool {
+    let mut frame = IPV6;
+    change(&mut frame, changes);
+    let same = frame;
+    hop(&mut frame) == Err(reason) && frame == same
 }
 
 /// One octet changed: the EtherType, the version, the header length, the total length, the checksum, the
@@ -103,11 +136,7 @@ fn rejects_what_is_no_packet(rt: HostRuntime) {
         (25, 0xd5, Rejection::WrongChecksum),
         (22, 0x01, Rejection::WrongChecksum),
     ] {
-        let mut frame = UDP;
-        frame[at] = octet;
-        let same = frame;
-        let result = forward(&mut frame, SRC, DST);
-        assert_eq!(rt; (result, frame), (Err(reason), same));
+        assert!(rt; rejects(&[(at, octet)], reason), "{at} {octet}");
     }
     for (at, octet, reason) in [
         (14, 0x45, Rejection::BadHeader),
@@ -115,21 +144,16 @@ fn rejects_what_is_no_packet(rt: HostRuntime) {
         (21, 0x01, Rejection::Expired),
         (21, 0x00, Rejection::Expired),
     ] {
-        let mut frame = IPV6;
-        frame[at] = octet;
-        let same = frame;
-        let result = forward(&mut frame, SRC, DST);
-        assert_eq!(rt; (result, frame), (Err(reason), same));
+        assert!(rt; rejects_ipv6(&[(at, octet)], reason), "{at} {octet}");
     }
 }
 
 #[test]
 fn rejects_short_frames(rt: HostRuntime) {
-    for (len, reason) in [(13, Rejection::NotIp), (14, Rejection::BadHeader)] {
-        let mut short = UDP;
-        let result = forward(&mut short[..len], SRC, DST);
-        assert_eq!(rt; (result, short), (Err(reason), UDP));
-    }
+    let mut short = UDP;
+    assert!(rt; hop(&mut short[..13]) == Err(Rejection::NotIp));
+    assert!(rt; hop(&mut short[..14]) == Err(Rejection::BadHeader));
+    assert!(rt; short == UDP);
 }
 
 /// Two faults in one frame: the first reason of `Rejection` that applies. A change of the IPv4 header
@@ -145,13 +169,7 @@ fn rejects_by_the_first_reason(rt: HostRuntime) {
         ([(22, 0x01), (25, 0xd4)], Rejection::WrongChecksum),
         ([(22, 0x00), (25, 0xd4)], Rejection::WrongChecksum),
     ] {
-        let mut frame = UDP;
-        for (at, octet) in changes {
-            frame[at] = octet;
-        }
-        let same = frame;
-        let result = forward(&mut frame, SRC, DST);
-        assert_eq!(rt; (result, frame), (Err(reason), same));
+        assert!(rt; rejects(&changes, reason), "{changes:?}");
     }
     for (changes, reason) in [
         ([(13, 0xde), (14, 0x45)], Rejection::NotIp),
@@ -159,12 +177,6 @@ fn rejects_by_the_first_reason(rt: HostRuntime) {
         ([(14, 0x45), (21, 0x01)], Rejection::BadHeader),
         ([(19, 0x11), (21, 0x00)], Rejection::BadHeader),
     ] {
-        let mut frame = IPV6;
-        for (at, octet) in changes {
-            frame[at] = octet;
-        }
-        let same = frame;
-        let result = forward(&mut frame, SRC, DST);
-        assert_eq!(rt; (result, frame), (Err(reason), same));
+        assert!(rt; rejects_ipv6(&changes, reason), "{changes:?}");
     }
 }

@@ -1,8 +1,10 @@
 //! Each use, on frames that are listed byte by byte.
 
-ghost use Rattle.std.specs.Prelude.{◌≡◌, ◌≤◌, ◌+◌, length};
+ghost use Rattle.std.specs.Prelude.{◌≤◌};
 
 use super::captured::{ECHO_REQUEST, SYN};
+use super::change;
+use super::udp_frames::{DST, FRAME, IPV6_FRAME, SRC};
 use ip_uses::allow_list::is_allowed;
 use ip_uses::flow_key::{Flow, FlowKey};
 use ip_uses::mss_clamp::clamp;
@@ -11,31 +13,10 @@ use ip_uses::route::{Route, choose};
 use ip_uses::verify_checksum::{parse_udp_ports, verified_by_the_device};
 use ip_uses::write_frame::write_udp;
 use ip_wire::{
-    EthernetAddress, Frame, IpAddress, IpCidr, IpEndpoint, IpProtocol, IpRepr, Ipv4Address,
-    Ipv4Cidr, Ipv4Repr, Ipv6Address, Ipv6Cidr, Ipv6Repr, UdpRepr,
+    Frame, IpAddress, IpCidr, IpEndpoint, IpProtocol, IpRepr, Ipv4Address, Ipv4Cidr, Ipv4Repr,
+    Ipv6Address, Ipv6Cidr, Ipv6Repr, UdpRepr,
 };
 use net_base::ChecksumCapabilities;
-
-/// A frame from 192.168.1.1 to 192.168.1.2 over IPv4.
-const FRAME: [u8; 46] = [
-    0x01, 0x02, 0x03, 0x04, 0x05, 0x06, 0x11, 0x12, 0x13, 0x14, 0x15, 0x16, 0x08, 0x00, 0x45, 0x00,
-    0x00, 0x20, 0x00, 0x00, 0x40, 0x00, 0x40, 0x11, 0xb7, 0x79, 0xc0, 0xa8, 0x01, 0x01, 0xc0, 0xa8,
-    0x01, 0x02, 0xbf, 0x00, 0x00, 0x35, 0x00, 0x0c, 0x12, 0x4d, 0xaa, 0x00, 0x00, 0xff,
-];
-
-/// A frame from `fe80::1` to `ff02::1`.
-pub const IPV6_FRAME: [u8; 66] = [
-    0x01, 0x02, 0x03, 0x04, 0x05, 0x06, 0x11, 0x12, 0x13, 0x14, 0x15, 0x16, 0x86, 0xdd, 0x60, 0x00,
-    0x00, 0x00, 0x00, 0x0c, 0x11, 0x40, 0xfe, 0x80, 0x00, 0x00, 0x00, 0x00, 0x00, 0x00, 0x00, 0x00,
-    0x00, 0x00, 0x00, 0x00, 0x00, 0x01, 0xff, 0x02, 0x00, 0x00, 0x00, 0x00, 0x00, 0x00, 0x00, 0x00,
-    0x00, 0x00, 0x00, 0x00, 0x00, 0x01, 0x00, 0x01, 0x00, 0x02, 0x00, 0x0c, 0x02, 0x4e, 0xff, 0xff,
-    0xff, 0xff,
-];
-
-/// The stations of both frames.
-const SRC: EthernetAddress = EthernetAddress([0x11, 0x12, 0x13, 0x14, 0x15, 0x16]);
-
-const DST: EthernetAddress = EthernetAddress([0x01, 0x02, 0x03, 0x04, 0x05, 0x06]);
 
 /// The header of the packet in the first frame.
 fn header() -> IpRepr {
@@ -70,23 +51,27 @@ const IPV6_PORTS: UdpRepr = UdpRepr {
     dst_port: 2,
 };
 
+/// Whether the first frame is read with another octet.
+fn reads_with(at: usize, octet: u8) -> bool {
+    let mut frame = FRAME;
+    change(&mut frame, &[(at, octet)]);
+    udp_packet(&frame).is_some()
+}
+
 #[test]
 fn reads_the_packet_of_a_frame(rt: HostRuntime) {
     let mut padded = [0; 60];
     padded[..46].copy_from_slice(&FRAME);
-    assert_eq!(rt; udp_packet(&padded), Some((header(), PORTS, &FRAME[42..])));
-    for (at, byte) in [(12, 0x86), (14, 0x65), (25, 0x78), (23, 0x06), (45, 0xfe)] {
-        let mut other = FRAME;
-        other[at] = byte;
-        assert!(rt; udp_packet(&other).is_none(), "{at}");
+    let found = udp_packet(&padded);
+    assert!(rt; found == Some((header(), PORTS, &FRAME[42..])));
+    for (at, octet) in [(12, 0x86), (14, 0x65), (25, 0x78), (23, 0x06), (45, 0xfe)] {
+        assert!(rt; !reads_with(at, octet), "{at}");
     }
     for end in [0, 13, 14, 45] {
         assert!(rt; udp_packet(&FRAME[..end]).is_none(), "{end}");
     }
-    assert_eq!(rt;
-        udp_packet(&IPV6_FRAME),
-        Some((ipv6_header(), IPV6_PORTS, &IPV6_FRAME[62..]))
-    );
+    let found = udp_packet(&IPV6_FRAME);
+    assert!(rt; found == Some((ipv6_header(), IPV6_PORTS, &IPV6_FRAME[62..])));
 }
 
 #[test]
@@ -95,9 +80,11 @@ fn writes_a_frame(rt: HostRuntime) {
     expected[..46].copy_from_slice(&FRAME);
     let mut buffer = [0xa5; 48];
     let len = write_udp(&mut buffer, SRC, DST, header(), PORTS, &FRAME[42..]);
-    assert_eq!(rt; (len, buffer), (Some(46), expected));
+    assert!(rt; len == Some(46));
+    assert!(rt; buffer == expected);
     let len = write_udp(&mut buffer[..45], SRC, DST, header(), PORTS, &FRAME[42..]);
-    assert_eq!(rt; (len, buffer), (None, expected));
+    assert!(rt; len.is_none());
+    assert!(rt; buffer == expected);
 }
 
 #[test]
@@ -106,32 +93,30 @@ fn writes_a_frame_over_ipv6(rt: HostRuntime) {
     expected[..66].copy_from_slice(&IPV6_FRAME);
     let mut buffer = [0xa5; 68];
     let len = write_udp(&mut buffer, SRC, DST, ipv6_header(), IPV6_PORTS, &[0xff; 4]);
-    assert_eq!(rt; (len, buffer), (Some(66), expected));
+    assert!(rt; len == Some(66));
+    assert!(rt; buffer == expected);
+}
+
+/// Whether the packet in the first frame is read with this checksum, if checksums are verified and if not.
+fn is_read(checksum: [u8; 2]) -> [bool; 2] {
+    let mut packet = [0; 12];
+    packet.copy_from_slice(&FRAME[34..]);
+    packet[6..8].copy_from_slice(&checksum);
+    let src = Ipv4Address::new(192, 168, 1, 1);
+    let dst = Ipv4Address::new(192, 168, 1, 2);
+    let verify = ChecksumCapabilities::default();
+    [
+        parse_udp_ports(&packet, src, dst, &verify).is_ok(),
+        parse_udp_ports(&packet, src, dst, &verified_by_the_device()).is_ok(),
+    ]
 }
 
 #[test]
 fn rejects_a_wrong_checksum(rt: HostRuntime) {
-    let verify = ChecksumCapabilities::default();
-    let trust = verified_by_the_device();
-    for (checksum, verified, trusted) in [
-        ([0x12, 0x4d], true, true),
-        ([0x12, 0x4e], false, true),
-        ([0x00, 0x00], true, true),
-        ([0x83, 0x71], false, true),
-    ] {
-        let mut packet = [0; 12];
-        packet.copy_from_slice(&FRAME[34..]);
-        packet[6..8].copy_from_slice(&checksum);
-        let (src, dst) = (
-            Ipv4Address::new(192, 168, 1, 1),
-            Ipv4Address::new(192, 168, 1, 2),
-        );
-        let found = (
-            parse_udp_ports(&packet, src, dst, &verify).is_ok(),
-            parse_udp_ports(&packet, src, dst, &trust).is_ok(),
-        );
-        assert_eq!(rt; found, (verified, trusted));
-    }
+    assert!(rt; is_read([0x12, 0x4d]) == [true, true]);
+    assert!(rt; is_read([0x12, 0x4e]) == [false, true]);
+    assert!(rt; is_read([0x00, 0x00]) == [true, true]);
+    assert!(rt; is_read([0x83, 0x71]) == [false, true]);
 }
 
 #[test]
@@ -147,7 +132,7 @@ fn allows_the_addresses_of_its_blocks(rt: HostRuntime) {
         (&list, IpAddress::v6(0xfec0, 0, 0, 0, 0, 0, 0, 1), false),
         (&[], IpAddress::v4(192, 168, 1, 1), false),
     ] {
-        assert_eq!(rt; is_allowed(list, &addr), allowed);
+        assert!(rt; is_allowed(list, &addr) == allowed, "{addr}");
     }
 }
 
@@ -196,15 +181,11 @@ fn syn_key() -> FlowKey {
 
 #[test]
 fn gives_both_directions_one_key(rt: HostRuntime) {
-    for (bytes, key) in [
-        (&ECHO_REQUEST[..], Some(echo_key())),
-        (&ECHO_BACK, Some(echo_key())),
-        (&SYN, Some(syn_key())),
-        (&SYN_ACK, Some(syn_key())),
-        (&FRAME[..45], None),
-    ] {
-        assert_eq!(rt; key_of(bytes), key);
-    }
+    assert!(rt; key_of(&ECHO_REQUEST) == Some(echo_key()));
+    assert!(rt; key_of(&ECHO_BACK) == Some(echo_key()));
+    assert!(rt; key_of(&SYN) == Some(syn_key()));
+    assert!(rt; key_of(&SYN_ACK) == Some(syn_key()));
+    assert!(rt; key_of(&FRAME[..45]).is_none());
     assert!(rt; key_of(&IPV6_FRAME).is_some());
 }
 
@@ -251,51 +232,42 @@ fn chooses_the_longest_prefix(rt: HostRuntime) {
         },
     ];
     let ipv6 = IpAddress::v6(0x2001, 0xdb8, 1, 2, 3, 4, 5, 6);
-    let found = [
-        choose(&table, &IpAddress::v4(10, 1, 2, 3)),
-        choose(&table, &IpAddress::v4(10, 2, 2, 3)),
-        choose(&table, &IpAddress::v4(11, 2, 2, 3)),
-        choose(&table, &ipv6),
-        choose(&table[..3], &ipv6),
-        choose(&[], &IpAddress::v4(10, 2, 2, 3)),
-    ];
-    let wanted = [
-        Some(table[1]),
-        Some(table[0]),
-        None,
-        Some(table[3]),
-        None,
-        None,
-    ];
-    assert_eq!(rt; found, wanted);
+    assert!(rt; choose(&table, &IpAddress::v4(10, 1, 2, 3)) == Some(table[1]));
+    assert!(rt; choose(&table, &IpAddress::v4(10, 2, 2, 3)) == Some(table[0]));
+    assert!(rt; choose(&table, &IpAddress::v4(11, 2, 2, 3)).is_none());
+    assert!(rt; choose(&table, &ipv6) == Some(table[3]));
+    assert!(rt; choose(&table[..3], &ipv6).is_none());
+    assert!(rt; choose(&[], &IpAddress::v4(10, 2, 2, 3)).is_none());
     let default = [route(0, 0, 0, 9), table[0]];
-    let found = [
-        choose(&default, &IpAddress::v4(11, 2, 2, 3)),
-        choose(&default, &IpAddress::v4(10, 2, 2, 3)),
-    ];
-    assert_eq!(rt; found, [Some(default[0]), Some(default[1])]);
+    assert!(rt; choose(&default, &IpAddress::v4(11, 2, 2, 3)) == Some(default[0]));
+    assert!(rt; choose(&default, &IpAddress::v4(10, 2, 2, 3)) == Some(default[1]));
 }
 
-// The captured SYN with another checksum and maximum segment size.
+/// The captured SYN with another checksum and maximum segment size.
 fn with_size(checksum: [u8; 2], size: [u8; 2]) -> [u8; 74] {
     let mut frame = SYN;
-    frame[50..52].copy_from_slice(&checksum);
-    frame[56..58].copy_from_slice(&size);
+    let ([a, b], [c, d]) = (checksum, size);
+    change(&mut frame, &[(50, a), (51, b), (56, c), (57, d)]);
     frame
+}
+
+/// Whether the clamp lowers the segment size in a frame, and the frame then.
+fn clamped(frame: [u8; 74], limit: u16) -> (bool, [u8; 74]) {
+    let mut bytes = frame;
+    let lowered = clamp(&mut bytes[34..], limit);
+    (lowered, bytes)
 }
 
 #[test]
 fn a_clamp_lowers_the_segment_size_of_a_syn(rt: HostRuntime) {
     let mut no_syn = SYN;
     no_syn[47] = 0x10;
-    for (frame, limit, lowered, want) in [
-        (SYN, 1300, true, with_size([0xd9, 0x5d], [0x05, 0x14])),
-        (SYN, 1459, true, with_size([0xd8, 0xbe], [0x05, 0xb3])),
-        (SYN, 1460, false, SYN),
-        (no_syn, 1300, false, no_syn),
-    ] {
-        let mut bytes = frame;
-        let found = clamp(&mut bytes[34..], limit);
-        assert_eq!(rt; (found, bytes), (lowered, want));
-    }
+    let (low, lower) = (
+        with_size([0xd8, 0xbe], [0x05, 0xb3]),
+        with_size([0xd9, 0x5d], [0x05, 0x14]),
+    );
+    assert!(rt; clamped(SYN, 1300) == (true, lower));
+    assert!(rt; clamped(SYN, 1459) == (true, low));
+    assert!(rt; clamped(SYN, 1460) == (false, SYN));
+    assert!(rt; clamped(no_syn, 1300) == (false, no_syn));
 }

@@ -1,6 +1,6 @@
 //! ARP packets. `tests/calls/worked_headers.call` has more examples.
 
-use super::support::{OLD, prints};
+use super::support::{OLD, has_front, prints};
 use ip_wire::{
     ArpHardware, ArpOperation, ArpPacket, ArpPacketMut, ArpRepr, Error, EthernetAddress,
     Ipv4Address,
@@ -28,31 +28,31 @@ fn value(operation: ArpOperation) -> ArpRepr {
     }
 }
 
+/// Whether the number and the hardware type convert to each other.
+fn is_hardware(number: u16, hardware: ArpHardware) -> bool {
+    ArpHardware::from(number) == hardware && hardware.number() == number
+}
+
 #[test]
 fn names_hardware(rt: HostRuntime) {
-    for (number, hardware) in [
-        (1, ArpHardware::Ethernet),
-        (0, ArpHardware::Unknown(0)),
-        (2, ArpHardware::Unknown(2)),
-        (0x0100, ArpHardware::Unknown(0x0100)),
-    ] {
-        let found = (ArpHardware::from(number), hardware.number());
-        assert_eq!(rt; found, (hardware, number));
-    }
-    assert_eq!(rt; ArpHardware::Unknown(1).number(), 1);
+    assert!(rt; is_hardware(1, ArpHardware::Ethernet));
+    assert!(rt; is_hardware(0, ArpHardware::Unknown(0)));
+    assert!(rt; is_hardware(2, ArpHardware::Unknown(2)));
+    assert!(rt; is_hardware(0x0100, ArpHardware::Unknown(0x0100)));
+    assert!(rt; ArpHardware::Unknown(1).number() == 1);
+}
+
+/// Whether the number and the operation convert to each other.
+fn is_operation(number: u16, operation: ArpOperation) -> bool {
+    ArpOperation::from(number) == operation && operation.number() == number
 }
 
 #[test]
 fn names_operations(rt: HostRuntime) {
-    for (number, operation) in [
-        (1, ArpOperation::Request),
-        (2, ArpOperation::Reply),
-        (0, ArpOperation::Unknown(0)),
-        (3, ArpOperation::Unknown(3)),
-    ] {
-        let found = (ArpOperation::from(number), operation.number());
-        assert_eq!(rt; found, (operation, number));
-    }
+    assert!(rt; is_operation(1, ArpOperation::Request));
+    assert!(rt; is_operation(2, ArpOperation::Reply));
+    assert!(rt; is_operation(0, ArpOperation::Unknown(0)));
+    assert!(rt; is_operation(3, ArpOperation::Unknown(3)));
 }
 
 #[test]
@@ -60,23 +60,21 @@ fn a_view_has_all_bytes(rt: HostRuntime) {
     let mut buffer = SHORT;
     let packet = ArpPacket::new_unchecked(&SHORT);
     let mutable = ArpPacketMut::new_unchecked(&mut buffer);
-    let is_whole = [
-        mutable.as_view() == packet,
-        mutable.as_bytes() == packet.as_bytes(),
-    ];
+    assert!(rt; mutable.as_view() == packet);
+    assert!(rt; mutable.as_bytes() == packet.as_bytes());
     let written: &[u8] = mutable.into_inner();
-    assert_eq!(rt; (is_whole, written), ([true; 2], packet.into_inner()));
+    assert!(rt; written == packet.into_inner());
 }
 
-/// What each check of the bytes returns.
-fn checks(bytes: &mut [u8]) -> [ip_wire::Result<()>; 5] {
+/// Whether each check accepts the bytes.
+fn checks(bytes: &mut [u8]) -> [bool; 5] {
     let view = ArpPacket::new_unchecked(bytes);
     [
-        view.check_len(),
-        ArpRepr::parse(&view).and(Ok(())),
-        ArpPacket::new_checked(bytes).and(Ok(())),
-        ArpPacketMut::new_unchecked(bytes).check_len(),
-        ArpPacketMut::new_checked(bytes).and(Ok(())),
+        view.check_len().is_ok(),
+        ArpRepr::parse(&view).is_ok(),
+        ArpPacket::new_checked(bytes).is_ok(),
+        ArpPacketMut::new_unchecked(bytes).check_len().is_ok(),
+        ArpPacketMut::new_checked(bytes).is_ok(),
     ]
 }
 
@@ -84,46 +82,59 @@ fn checks(bytes: &mut [u8]) -> [ip_wire::Result<()>; 5] {
 fn rejects_less_than_the_packet(rt: HostRuntime) {
     let mut buffer = PACKET;
     for len in 0..=28 {
-        let want = if len < 28 { Err(Error) } else { Ok(()) };
-        assert_eq!(rt; checks(&mut buffer[..len]), [want; 5]);
+        assert!(rt; checks(&mut buffer[..len]) == [len == 28; 5], "{len}");
     }
-    assert_eq!(rt; buffer, PACKET);
+    assert!(rt; buffer == PACKET);
+}
+
+/// Whether the packet with another byte has a valid length, and parses as the values with this operation.
+fn reads_with(place: usize, byte: u8, fits: bool, operation: Option<ArpOperation>) -> bool {
+    let mut buffer = PACKET;
+    if let Some(changed) = buffer.get_mut(place) {
+        *changed = byte;
+    }
+    let packet = ArpPacket::new_unchecked(&buffer);
+    let want = match operation {
+        Some(operation) => Ok(value(operation)),
+        None => Err(Error),
+    };
+    packet.check_len().is_ok() == fits && ArpRepr::parse(&packet) == want
 }
 
 #[test]
 fn reads_ethernet_and_ipv4_alone(rt: HostRuntime) {
-    for (place, byte, check, read) in [
-        (7, 0x01, Ok(()), Ok(value(ArpOperation::Request))),
-        (7, 0x02, Ok(()), Ok(value(ArpOperation::Reply))),
-        (6, 0x01, Ok(()), Ok(value(ArpOperation::Unknown(0x0101)))),
-        (0, 0x01, Ok(()), Err(Error)),
-        (1, 0x02, Ok(()), Err(Error)),
-        (3, 0x06, Ok(()), Err(Error)),
-        (4, 0x05, Ok(()), Err(Error)),
-        (4, 0x07, Err(Error), Err(Error)),
-        (5, 0x03, Ok(()), Err(Error)),
-        (5, 0x05, Err(Error), Err(Error)),
+    for (place, byte, fits, operation) in [
+        (7, 0x01, true, Some(ArpOperation::Request)),
+        (7, 0x02, true, Some(ArpOperation::Reply)),
+        (6, 0x01, true, Some(ArpOperation::Unknown(0x0101))),
+        (0, 0x01, true, None),
+        (1, 0x02, true, None),
+        (3, 0x06, true, None),
+        (4, 0x05, true, None),
+        (4, 0x07, false, None),
+        (5, 0x03, true, None),
+        (5, 0x05, false, None),
     ] {
-        let mut buffer = PACKET;
-        buffer[place] = byte;
-        let packet = ArpPacket::new_unchecked(&buffer);
-        let found = (packet.check_len(), ArpRepr::parse(&packet));
-        assert_eq!(rt; found, (check, read));
+        assert!(rt; reads_with(place, byte, fits, operation), "{place} {byte}");
     }
+}
+
+/// Whether exactly the bytes of the packet are written for a value, whatever the buffer held before.
+fn emits(value: &ArpRepr) -> bool {
+    for old in OLD {
+        let mut buffer = [old; 30];
+        value.emit(&mut ArpPacketMut::new_unchecked(&mut buffer));
+        if !has_front(&buffer, &PACKET, old) {
+            return false;
+        }
+    }
+    value.buffer_len() == PACKET.len()
 }
 
 #[test]
 fn writes_a_packet_and_leaves_the_rest(rt: HostRuntime) {
-    for operation in [ArpOperation::Request, ArpOperation::Unknown(1)] {
-        for old in OLD {
-            let mut want = [old; 30];
-            want[..28].copy_from_slice(&PACKET);
-            let mut buffer = [old; 30];
-            value(operation).emit(&mut ArpPacketMut::new_unchecked(&mut buffer));
-            assert_eq!(rt; buffer, want);
-        }
-    }
-    assert_eq!(rt; value(ArpOperation::Reply).buffer_len(), PACKET.len());
+    assert!(rt; emits(&value(ArpOperation::Request)));
+    assert!(rt; emits(&value(ArpOperation::Unknown(1))));
 }
 
 /// The text of the packet and of its values.

@@ -15,33 +15,33 @@ fn the_error_prints_its_path(rt: HostRuntime) {
     assert!(rt; is_an_error_that_prints(&Error, "wire::Error"));
 }
 
+/// Whether the library verifies and computes a checksum, by this choice.
+fn is_left(checksum: Checksum) -> [bool; 2] {
+    [checksum.rx(), checksum.tx()]
+}
+
 #[test]
 fn checksums_are_left_to_the_library_by_the_table(rt: HostRuntime) {
-    for (checksum, rx, tx) in [
-        (Checksum::Both, true, true),
-        (Checksum::Rx, true, false),
-        (Checksum::Tx, false, true),
-        (Checksum::None, false, false),
-    ] {
-        assert_eq!(rt; (checksum.rx(), checksum.tx()), (rx, tx));
-    }
+    assert!(rt; is_left(Checksum::Both) == [true, true]);
+    assert!(rt; is_left(Checksum::Rx) == [true, false]);
+    assert!(rt; is_left(Checksum::Tx) == [false, true]);
+    assert!(rt; is_left(Checksum::None) == [false, false]);
+}
+
+/// The choices for the five protocols.
+fn choices(caps: &ChecksumCapabilities) -> [Checksum; 5] {
+    [caps.ipv4, caps.udp, caps.tcp, caps.icmpv4, caps.icmpv6]
 }
 
 #[test]
 fn all_checksums_are_left_to_the_library_by_default(rt: HostRuntime) {
-    let all = ChecksumCapabilities::default();
-    let found = [all.ipv4, all.udp, all.tcp, all.icmpv4, all.icmpv6];
-    assert_eq!(rt;
-        (found, Checksum::default()),
-        ([Checksum::Both; 5], Checksum::Both)
-    );
+    assert!(rt; choices(&ChecksumCapabilities::default()) == [Checksum::Both; 5]);
+    assert!(rt; Checksum::default() == Checksum::Both);
 }
 
 #[test]
 fn no_checksum_is_left_to_the_library_where_they_are_ignored(rt: HostRuntime) {
-    let none = ChecksumCapabilities::ignored();
-    let found = [none.ipv4, none.udp, none.tcp, none.icmpv4, none.icmpv6];
-    assert_eq!(rt; found, [Checksum::None; 5]);
+    assert!(rt; choices(&ChecksumCapabilities::ignored()) == [Checksum::None; 5]);
 }
 
 #[test]
@@ -51,5 +51,6 @@ fn media_differ(rt: HostRuntime) {
 
 #[test]
 fn hosts_accept_576_octets_and_ipv6_links_1280(rt: HostRuntime) {
-    assert_eq!(rt; (IPV4_MIN_MTU, IPV6_MIN_MTU), (576, 1280));
+    assert!(rt; IPV4_MIN_MTU == 576);
+    assert!(rt; IPV6_MIN_MTU == 1280);
 }

@@ -3,7 +3,8 @@
 use ip_wire::EthernetAddress;
 
 /// Whether an address is unicast, multicast, locally administered and broadcast.
-fn classes(address: EthernetAddress) -> [bool; 4] {
+fn classes(octets: [u8; 6]) -> [bool; 4] {
+    let address = EthernetAddress(octets);
     [
         address.is_unicast(),
         address.is_multicast(),
@@ -31,40 +32,36 @@ fn distinguishes_unicast_from_multicast(rt: HostRuntime) {
             [false, true, true, false],
         ),
     ] {
-        let address = EthernetAddress(octets);
-        assert_eq!(rt; classes(address), expected, "{address}");
+        assert!(rt; classes(octets) == expected, "{octets:?}");
     }
 }
 
 #[test]
 fn broadcast_is_all_ones(rt: HostRuntime) {
-    let address = EthernetAddress::BROADCAST;
-    let same = EthernetAddress::from_bytes(&[0xff; 6]);
-    let found = (same.as_bytes(), classes(address));
-    assert_eq!(rt; found, ([0xff; 6].as_slice(), [false, true, true, true]));
+    let ones = [0xff; 6];
+    assert!(rt; EthernetAddress::from_bytes(&ones) == EthernetAddress::BROADCAST);
+    assert!(rt; EthernetAddress::BROADCAST.as_bytes() == ones.as_slice());
+    assert!(rt; classes(ones) == [false, true, true, true]);
+}
+
+/// Whether an address has this modified EUI-64.
+fn has_eui_64(octets: [u8; 6], eui_64: [u8; 8]) -> bool {
+    EthernetAddress(octets).as_eui_64() == Some(eui_64)
 }
 
 #[test]
 fn has_a_modified_eui_64(rt: HostRuntime) {
-    for (octets, identifier) in [
-        (
-            [0x02, 0x00, 0x00, 0x00, 0x00, 0x01],
-            [0x00, 0x00, 0x00, 0xff, 0xfe, 0x00, 0x00, 0x01],
-        ),
-        (
-            [0x34, 0x56, 0x78, 0x9a, 0xbc, 0xde],
-            [0x36, 0x56, 0x78, 0xff, 0xfe, 0x9a, 0xbc, 0xde],
-        ),
-        (
-            [0xaa, 0xbb, 0xcc, 0xdd, 0xee, 0xff],
-            [0xa8, 0xbb, 0xcc, 0xff, 0xfe, 0xdd, 0xee, 0xff],
-        ),
-    ] {
-        assert_eq!(rt; EthernetAddress(octets).as_eui_64(), Some(identifier));
-    }
+    let (one, other) = (
+        [0x02, 0, 0, 0, 0, 0x01],
+        [0x34, 0x56, 0x78, 0x9a, 0xbc, 0xde],
+    );
+    assert!(rt; has_eui_64(one, [0, 0, 0, 0xff, 0xfe, 0, 0, 0x01]));
+    assert!(rt; has_eui_64(other, [0x36, 0x56, 0x78, 0xff, 0xfe, 0x9a, 0xbc, 0xde]));
+    let last = [0xaa, 0xbb, 0xcc, 0xdd, 0xee, 0xff];
+    assert!(rt; has_eui_64(last, [0xa8, 0xbb, 0xcc, 0xff, 0xfe, 0xdd, 0xee, 0xff]));
 }
 
 #[test]
 fn is_zeros_by_default(rt: HostRuntime) {
-    assert_eq!(rt; EthernetAddress::default(), EthernetAddress([0; 6]));
+    assert!(rt; EthernetAddress::default() == EthernetAddress([0; 6]));
 }

@@ -4,14 +4,9 @@ use ip_wire::{IpAddress, IpCidr, Ipv4Address, Ipv4Cidr, Ipv6Address, Ipv6Cidr};
 
 #[test]
 fn converts_from_a_block_of_a_version(rt: HostRuntime) {
-    let found = [
-        IpCidr::from(Ipv4Cidr::new(Ipv4Address::new(10, 0, 0, 0), 8)),
-        IpCidr::from(Ipv6Cidr::new(Ipv6Address::LOCALHOST, 128)),
-    ];
-    let expected = [
-        IpCidr::new(IpAddress::v4(10, 0, 0, 0), 8),
-        IpCidr::new(IpAddress::v6(0, 0, 0, 0, 0, 0, 0, 1), 128),
-    ];
-    let lens = [found[0].prefix_len(), found[1].prefix_len()];
-    assert_eq!(rt; (found, lens), (expected, [8, 128]));
+    let v4 = IpCidr::from(Ipv4Cidr::new(Ipv4Address::new(10, 0, 0, 0), 8));
+    let v6 = IpCidr::from(Ipv6Cidr::new(Ipv6Address::LOCALHOST, 128));
+    assert!(rt; v4 == IpCidr::new(IpAddress::v4(10, 0, 0, 0), 8));
+    assert!(rt; v6 == IpCidr::new(IpAddress::v6(0, 0, 0, 0, 0, 0, 0, 1), 128));
+    assert!(rt; [v4.prefix_len(), v6.prefix_len()] == [8, 128]);
 }

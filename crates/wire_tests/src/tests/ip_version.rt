@@ -15,6 +15,6 @@ fn parses_the_first_four_bits(rt: HostRuntime) {
         ([0xff].as_slice(), Err(Error)),
         ([].as_slice(), Err(Error)),
     ] {
-        assert_eq!(rt; IpVersion::of_packet(packet), version);
+        assert!(rt; IpVersion::of_packet(packet) == version, "{packet:?}");
     }
 }

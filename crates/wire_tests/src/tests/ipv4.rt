@@ -1,7 +1,7 @@
 //! IPv4 headers. `tests/calls/worked_headers.call` has more examples.
 
 use super::IPV4_FRAGMENT;
-use super::support::{IPV4_PACKET, OLD, ipv4_header, prints};
+use super::support::{IPV4_PACKET, OLD, has_front, ipv4_header, prints};
 use ip_wire::{IPV4_HEADER_LEN, IpProtocol, Ipv4FragKey, Ipv4Packet, Ipv4PacketMut, Ipv4Repr};
 use net_base::ChecksumCapabilities;
 
@@ -20,39 +20,38 @@ fn a_mutable_view_lends_the_payload(rt: HostRuntime) {
     if let Ok(mut packet) = Ipv4PacketMut::new_checked(&mut buffer) {
         packet.payload_mut().fill(0xaa);
     }
-    assert_eq!(rt; buffer, want);
+    assert!(rt; buffer == want);
 }
 
-/// What each check of the bytes returns.
-pub(super) fn checks(bytes: &mut [u8]) -> [ip_wire::Result<()>; 6] {
+/// Whether each check accepts the bytes.
+pub(super) fn checks(bytes: &mut [u8]) -> [bool; 6] {
     let view = Ipv4Packet::new_unchecked(bytes);
     [
-        view.check_len(),
-        Ipv4Repr::parse(&view, &ChecksumCapabilities::default()).and(Ok(())),
-        Ipv4Repr::parse(&view, &ChecksumCapabilities::ignored()).and(Ok(())),
-        Ipv4Packet::new_checked(bytes).and(Ok(())),
-        Ipv4PacketMut::new_unchecked(bytes).check_len(),
-        Ipv4PacketMut::new_checked(bytes).and(Ok(())),
+        view.check_len().is_ok(),
+        Ipv4Repr::parse(&view, &ChecksumCapabilities::default()).is_ok(),
+        Ipv4Repr::parse(&view, &ChecksumCapabilities::ignored()).is_ok(),
+        Ipv4Packet::new_checked(bytes).is_ok(),
+        Ipv4PacketMut::new_unchecked(bytes).check_len().is_ok(),
+        Ipv4PacketMut::new_checked(bytes).is_ok(),
     ]
+}
+
+/// Whether the packet is a fragment with these flags and this offset.
+fn is_fragment(word: u16) -> bool {
+    let mut bytes = IPV4_PACKET;
+    let [high, low] = word.to_be_bytes();
+    bytes[6] = high;
+    bytes[7] = low;
+    Ipv4Packet::new_unchecked(&bytes).is_fragment()
 }
 
 #[test]
 fn a_fragment_has_an_offset_or_more_behind_it(rt: HostRuntime) {
-    for (word, expected) in [
-        (0x0000u16, false),
-        (0x4000, false),
-        (0x8000, false),
-        (0x2000, true),
-        (0x0001, true),
-        (0x1fff, true),
-        (0x3fff, true),
-    ] {
-        let mut bytes = IPV4_PACKET;
-        let [high, low] = word.to_be_bytes();
-        bytes[6] = high;
-        bytes[7] = low;
-        let packet = Ipv4Packet::new_unchecked(&bytes);
-        assert_eq!(rt; packet.is_fragment(), expected);
+    for word in [0x0000, 0x4000, 0x8000] {
+        assert!(rt; !is_fragment(word), "{word}");
+    }
+    for word in [0x2000, 0x0001, 0x1fff, 0x3fff] {
+        assert!(rt; is_fragment(word), "{word}");
     }
 }
 
@@ -68,11 +67,17 @@ fn keys_tell_packets_apart(rt: HostRuntime) {
     let read = Ipv4Packet::new_unchecked(&buffer).get_key();
     buffer[5] = 1;
     let earlier = Ipv4PacketMut::new_unchecked(&mut buffer).get_key();
-    assert_eq!(rt; (read, earlier < key), (key, true));
+    assert!(rt; read == key);
+    assert!(rt; earlier < key);
 }
 
 /// The text of the packet and of its header's values.
 const TEXT: &str = "IPv4 src=17.18.19.20 dst=33.34.35.36 proto=ICMP";
+
+/// Whether a packet of these bytes prints as this text.
+fn prints_as(bytes: &[u8], text: &str) -> bool {
+    prints(&Ipv4Packet::new_unchecked(bytes), text)
+}
 
 #[test]
 fn prints_the_header(rt: HostRuntime) {
@@ -95,24 +100,27 @@ fn prints_the_header(rt: HostRuntime) {
         (&IPV4_PACKET[..19], "IPv4 (wire::Error)"),
         (&[], "IPv4 (wire::Error)"),
     ] {
-        let packet = Ipv4Packet::new_unchecked(bytes);
-        assert!(rt; prints(&packet, text), "{text}");
+        assert!(rt; prints_as(bytes, text), "{text}");
     }
     assert!(rt; prints(&ipv4_header(), TEXT));
+}
+
+/// A buffer of such bytes, after the header with TCP is written to it.
+fn emitted(old: u8) -> [u8; 24] {
+    let mut buffer = [old; 24];
+    let value = Ipv4Repr {
+        next_header: IpProtocol::Unknown(6),
+        ..ipv4_header()
+    };
+    let caps = ChecksumCapabilities::default();
+    value.emit(&mut Ipv4PacketMut::new_unchecked(&mut buffer), &caps);
+    buffer
 }
 
 #[test]
 fn writes_a_header_and_leaves_the_rest(rt: HostRuntime) {
     for old in OLD {
-        let mut want = [old; 24];
-        want[..20].copy_from_slice(&TCP_HEADER);
-        let mut buffer = [old; 24];
-        let value = Ipv4Repr {
-            next_header: IpProtocol::Unknown(6),
-            ..ipv4_header()
-        };
-        let caps = ChecksumCapabilities::default();
-        value.emit(&mut Ipv4PacketMut::new_unchecked(&mut buffer), &caps);
-        assert_eq!(rt; (buffer, value.buffer_len()), (want, IPV4_HEADER_LEN));
+        assert!(rt; has_front(&emitted(old), &TCP_HEADER, old), "{old}");
     }
+    assert!(rt; ipv4_header().buffer_len() == IPV4_HEADER_LEN);
 }

@@ -15,17 +15,15 @@ fn constants_print_as_their_standards_write_them(rt: HostRuntime) {
     }
 }
 
+/// Whether the octets and the bits convert to each other.
+fn are_bits_of(octets: [u8; 4], bits: u32) -> bool {
+    Ipv4Address::from_octets(octets).to_bits() == bits
+        && Ipv4Address::from_bits(bits).octets() == octets
+}
+
 #[test]
 fn converts_to_and_from_bits(rt: HostRuntime) {
-    for (octets, bits) in [
-        ([0, 0, 0, 0], 0),
-        ([192, 168, 1, 2], 0xc0a8_0102),
-        ([255, 255, 255, 255], 0xffff_ffff),
-    ] {
-        let found = (
-            Ipv4Address::from_octets(octets).to_bits(),
-            Ipv4Address::from_bits(bits).octets(),
-        );
-        assert_eq!(rt; found, (bits, octets));
-    }
+    assert!(rt; are_bits_of([0, 0, 0, 0], 0));
+    assert!(rt; are_bits_of([192, 168, 1, 2], 0xc0a8_0102));
+    assert!(rt; are_bits_of([255, 255, 255, 255], 0xffff_ffff));
 }

@@ -1,6 +1,6 @@
 //! IPv6 headers. `tests/calls/worked_headers.call` has more examples.
 
-use super::support::{OLD, prints};
+use super::support::{OLD, has_front, prints};
 use super::{IPV6_PACKET, ipv6_header};
 use ip_wire::{IPV6_HEADER_LEN, Ipv6Packet, Ipv6PacketMut, Ipv6Repr};
 
@@ -14,59 +14,66 @@ fn a_mutable_view_lends_the_payload(rt: HostRuntime) {
         packet.payload_mut().fill(0xaa);
     }
     let packet = Ipv6Packet::new_unchecked(&buffer);
-    let lens = [packet.header_len(), packet.total_len()];
-    assert_eq!(rt; (buffer, lens), (want, [40, 50]));
+    assert!(rt; [packet.header_len(), packet.total_len()] == [40, 50]);
+    assert!(rt; buffer == want);
 }
 
-/// What each check of the bytes returns.
-pub(super) fn checks(bytes: &mut [u8]) -> [ip_wire::Result<()>; 5] {
+/// Whether each check accepts the bytes.
+pub(super) fn checks(bytes: &mut [u8]) -> [bool; 5] {
     let view = Ipv6Packet::new_unchecked(bytes);
     [
-        view.check_len(),
-        Ipv6Repr::parse(&view).and(Ok(())),
-        Ipv6Packet::new_checked(bytes).and(Ok(())),
-        Ipv6PacketMut::new_unchecked(bytes).check_len(),
-        Ipv6PacketMut::new_checked(bytes).and(Ok(())),
+        view.check_len().is_ok(),
+        Ipv6Repr::parse(&view).is_ok(),
+        Ipv6Packet::new_checked(bytes).is_ok(),
+        Ipv6PacketMut::new_unchecked(bytes).check_len().is_ok(),
+        Ipv6PacketMut::new_checked(bytes).is_ok(),
     ]
+}
+
+/// Whether the packet with this first octet has a valid length, and whether it parses.
+fn reads_with(first: u8) -> [bool; 2] {
+    let mut buffer = IPV6_PACKET;
+    buffer[0] = first;
+    let packet = Ipv6Packet::new_unchecked(&buffer);
+    [packet.check_len().is_ok(), Ipv6Repr::parse(&packet).is_ok()]
 }
 
 #[test]
 fn rejects_another_version(rt: HostRuntime) {
-    for first in [0x40, 0x70] {
-        let mut buffer = IPV6_PACKET;
-        buffer[0] = first;
-        let packet = Ipv6Packet::new_unchecked(&buffer);
-        assert!(rt; packet.check_len().is_ok() && Ipv6Repr::parse(&packet).is_err());
-    }
+    assert!(rt; reads_with(0x40) == [true, false]);
+    assert!(rt; reads_with(0x70) == [true, false]);
+}
+
+/// A buffer of such bytes, after the header is written to it.
+fn emitted(old: u8) -> [u8; 42] {
+    let mut buffer = [old; 42];
+    ipv6_header().emit(&mut Ipv6PacketMut::new_unchecked(&mut buffer));
+    buffer
 }
 
 #[test]
 fn writes_a_header_and_leaves_the_rest(rt: HostRuntime) {
     for old in OLD {
-        let mut want = [old; 42];
-        want[..40].copy_from_slice(&IPV6_PACKET[..40]);
-        let mut buffer = [old; 42];
-        let value = ipv6_header();
-        value.emit(&mut Ipv6PacketMut::new_unchecked(&mut buffer));
-        assert_eq!(rt; (buffer, value.buffer_len()), (want, IPV6_HEADER_LEN));
+        assert!(rt; has_front(&emitted(old), &IPV6_PACKET[..40], old), "{old}");
     }
+    assert!(rt; ipv6_header().buffer_len() == IPV6_HEADER_LEN);
 }
 
 /// The text of the packet and of its header's values.
 const TEXT: &str = "IPv6 src=fe80::1 dst=ff02::1 nxt_hdr=UDP hop_limit=64";
 
+/// Whether a packet of these bytes prints as this text.
+fn prints_as(bytes: &[u8], text: &str) -> bool {
+    prints(&Ipv6Packet::new_unchecked(bytes), text)
+}
+
 #[test]
 fn prints_the_header(rt: HostRuntime) {
     let mut version_4 = IPV6_PACKET;
     version_4[0] = 0x40;
-    for (bytes, text) in [
-        (IPV6_PACKET.as_slice(), TEXT),
-        (version_4.as_slice(), "IPv6 (wire::Error)"),
-        (&IPV6_PACKET[..51], "IPv6 (wire::Error)"),
-        (&[], "IPv6 (wire::Error)"),
-    ] {
-        let packet = Ipv6Packet::new_unchecked(bytes);
-        assert!(rt; prints(&packet, text), "{text}");
-    }
+    assert!(rt; prints_as(&IPV6_PACKET, TEXT));
+    assert!(rt; prints_as(&version_4, "IPv6 (wire::Error)"));
+    assert!(rt; prints_as(&IPV6_PACKET[..51], "IPv6 (wire::Error)"));
+    assert!(rt; prints_as(&[], "IPv6 (wire::Error)"));
     assert!(rt; prints(&ipv6_header(), TEXT));
 }

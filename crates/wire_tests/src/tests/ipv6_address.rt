@@ -13,14 +13,12 @@ fn converts_from_octets_and_groups(rt: HostRuntime) {
         0xfe, 0x80, 0, 0, 0, 0, 0, 0, 0x10, 0x11, 0x12, 0x13, 0x14, 0x15, 0x16, 0x17,
     ];
     let address = Ipv6Address::new(0xfe80, 0, 0, 0, 0x1011, 0x1213, 0x1415, 0x1617);
-    let found = (
-        [Ipv6Address::from_octets(octets), Ipv6Address::from(octets)],
-        address.octets(),
-        address.segments(),
-        IPV6_ADDR_SIZE,
-    );
     let groups = [0xfe80, 0, 0, 0, 0x1011, 0x1213, 0x1415, 0x1617];
-    assert_eq!(rt; found, ([address, address], octets, groups, 16));
+    assert!(rt; Ipv6Address::from_octets(octets) == address);
+    assert!(rt; Ipv6Address::from(octets) == address);
+    assert!(rt; address.octets() == octets);
+    assert!(rt; address.segments() == groups);
+    assert!(rt; IPV6_ADDR_SIZE == 16);
 }
 
 #[test]
@@ -37,113 +35,88 @@ fn constants_print_as_their_standards_write_them(rt: HostRuntime) {
     }
 }
 
+/// Whether the address and the bits convert to each other.
+fn are_bits_of(address: Ipv6Address, bits: u128) -> bool {
+    address.to_bits() == bits && Ipv6Address::from_bits(bits) == address
+}
+
 #[test]
 fn converts_to_and_from_bits(rt: HostRuntime) {
-    for (address, bits) in [
-        (Ipv6Address::LOCALHOST, 1),
-        (
-            Ipv6Address::new(0x0123, 0x4567, 0x89ab, 0xcdef, 0, 0, 0xfedc, 0xba98),
-            0x0123_4567_89ab_cdef_0000_0000_fedc_ba98,
-        ),
-    ] {
-        let found = (address.to_bits(), Ipv6Address::from_bits(bits));
-        assert_eq!(rt; found, (bits, address));
-    }
+    let address = Ipv6Address::new(0x0123, 0x4567, 0x89ab, 0xcdef, 0, 0, 0xfedc, 0xba98);
+    assert!(rt; are_bits_of(Ipv6Address::LOCALHOST, 1));
+    assert!(rt; are_bits_of(address, 0x0123_4567_89ab_cdef_0000_0000_fedc_ba98));
 }
 
 #[test]
 fn a_number_of_more_than_four_bits_has_no_scope(rt: HostRuntime) {
-    for (number, scope) in [
-        (0x02, Ipv6MulticastScope::LinkLocal),
-        (0x0e, Ipv6MulticastScope::Global),
-        (0x0f, Ipv6MulticastScope::Unknown),
-        (0x10, Ipv6MulticastScope::Unknown),
-        (0x12, Ipv6MulticastScope::Unknown),
-        (0xfe, Ipv6MulticastScope::Unknown),
-    ] {
-        assert_eq!(rt; Ipv6MulticastScope::from(number), scope, "{number}");
+    assert!(rt; Ipv6MulticastScope::from(0x02) == Ipv6MulticastScope::LinkLocal);
+    assert!(rt; Ipv6MulticastScope::from(0x0e) == Ipv6MulticastScope::Global);
+    for number in [0x0f, 0x10, 0x12, 0xfe] {
+        let scope = Ipv6MulticastScope::from(number);
+        assert!(rt; scope == Ipv6MulticastScope::Unknown, "{number}");
     }
 }
 
 #[test]
 fn keeps_its_first_bits_under_a_mask(rt: HostRuntime) {
     let address = Ipv6Address::new(0x0123, 0x4567, 0x89ab, 0, 0, 0, 0, 1);
-    let found = [
-        address.mask(0),
-        address.mask(11),
-        address.mask(15),
-        address.mask(26),
-        address.mask(127),
-        address.mask(128),
+    let eleven = [0x01, 0x20, 0, 0, 0, 0, 0, 0, 0, 0, 0, 0, 0, 0, 0, 0];
+    let fifteen = [0x01, 0x22, 0, 0, 0, 0, 0, 0, 0, 0, 0, 0, 0, 0, 0, 0];
+    let twenty_six = [0x01, 0x23, 0x45, 0x40, 0, 0, 0, 0, 0, 0, 0, 0, 0, 0, 0, 0];
+    let all_but_one = [
+        0x01, 0x23, 0x45, 0x67, 0x89, 0xab, 0, 0, 0, 0, 0, 0, 0, 0, 0, 0,
     ];
-    let expected = [
-        [0; 16],
-        [0x01, 0x20, 0, 0, 0, 0, 0, 0, 0, 0, 0, 0, 0, 0, 0, 0],
-        [0x01, 0x22, 0, 0, 0, 0, 0, 0, 0, 0, 0, 0, 0, 0, 0, 0],
-        [0x01, 0x23, 0x45, 0x40, 0, 0, 0, 0, 0, 0, 0, 0, 0, 0, 0, 0],
-        [
-            0x01, 0x23, 0x45, 0x67, 0x89, 0xab, 0, 0, 0, 0, 0, 0, 0, 0, 0, 0,
-        ],
-        address.octets(),
-    ];
-    assert_eq!(rt; found, expected);
+    assert!(rt; address.mask(0) == [0; 16]);
+    assert!(rt; address.mask(11) == eleven);
+    assert!(rt; address.mask(15) == fifteen);
+    assert!(rt; address.mask(26) == twenty_six);
+    assert!(rt; address.mask(127) == all_but_one);
+    assert!(rt; address.mask(128) == address.octets());
+}
+
+/// Whether the solicited-node address of a unicast address prints as this text.
+fn has_node(groups: [u16; 8], text: &str) -> bool {
+    let address = Ipv6Address::from(groups);
+    address.x_is_unicast() && prints(&address.solicited_node(), text)
 }
 
 #[test]
 fn its_solicited_node_address_has_its_last_three_octets(rt: HostRuntime) {
-    for (groups, text) in [
-        ([0xfe80, 0, 0, 0, 0, 0, 0, 1], "ff02::1:ff00:1"),
-        (
-            [0x2001, 0xdb8, 0, 0, 0, 0, 0x12ab, 0xcdef],
-            "ff02::1:ffab:cdef",
-        ),
-    ] {
-        let address = Ipv6Address::from(groups);
-        assert!(rt; address.x_is_unicast());
-        assert!(rt; prints(&address.solicited_node(), text), "{text}");
-    }
+    let global = [0x2001, 0xdb8, 0, 0, 0, 0, 0x12ab, 0xcdef];
+    assert!(rt; has_node([0xfe80, 0, 0, 0, 0, 0, 0, 1], "ff02::1:ff00:1"));
+    assert!(rt; has_node(global, "ff02::1:ffab:cdef"));
+}
+
+/// Whether a prefix and a hardware address make this address, and its block of 64 bits.
+fn makes(prefix: &Ipv6Cidr, hardware: HardwareAddress, groups: [u16; 8]) -> bool {
+    let address = Ipv6Address::from(groups);
+    Ipv6Address::from_link_prefix(prefix, hardware) == Some(address)
+        && Ipv6Cidr::from_link_prefix(prefix, hardware) == Some(Ipv6Cidr::new(address, 64))
 }
 
 #[test]
 fn an_interface_has_an_address_on_its_link(rt: HostRuntime) {
     let link = Ipv6Cidr::new(Ipv6Address::new(0xfe80, 0, 0, 0, 0, 0, 0, 0), 64);
     let network = Ipv6Cidr::new(Ipv6Address::new(0x2001, 0xdb8, 3, 0, 0, 0, 0, 0), 64);
-    for (prefix, octets, groups) in [
-        (
-            link,
-            [0x02, 0, 0, 0, 0, 0x01],
-            [0xfe80, 0, 0, 0, 0, 0xff, 0xfe00, 1],
-        ),
-        (
-            network,
-            [0xaa, 0xbb, 0xcc, 0xdd, 0xee, 0xff],
-            [0x2001, 0xdb8, 3, 0, 0xa8bb, 0xccff, 0xfedd, 0xeeff],
-        ),
-    ] {
-        let hardware = HardwareAddress::Ethernet(EthernetAddress(octets));
-        let address = Ipv6Address::from(groups);
-        let block = Ipv6Cidr::new(address, 64);
-        let found = (
-            Ipv6Address::from_link_prefix(&prefix, hardware),
-            Ipv6Cidr::from_link_prefix(&prefix, hardware),
-        );
-        assert_eq!(rt; found, (Some(address), Some(block)));
-    }
+    let one = HardwareAddress::Ethernet(EthernetAddress([0x02, 0, 0, 0, 0, 0x01]));
+    let octets = [0xaa, 0xbb, 0xcc, 0xdd, 0xee, 0xff];
+    let other = HardwareAddress::Ethernet(EthernetAddress(octets));
+    let groups = [0x2001, 0xdb8, 3, 0, 0xa8bb, 0xccff, 0xfedd, 0xeeff];
+    assert!(rt; makes(&link, one, [0xfe80, 0, 0, 0, 0, 0xff, 0xfe00, 1]));
+    assert!(rt; makes(&network, other, groups));
+}
+
+/// Whether a prefix and a hardware address make no address and no block.
+fn makes_none(prefix: &Ipv6Cidr, hardware: HardwareAddress) -> bool {
+    Ipv6Address::from_link_prefix(prefix, hardware).is_none()
+        && Ipv6Cidr::from_link_prefix(prefix, hardware).is_none()
 }
 
 #[test]
 fn an_interface_has_no_address_on_other_links(rt: HostRuntime) {
     let ethernet = HardwareAddress::Ethernet(EthernetAddress([0x02, 0, 0, 0, 0, 0x01]));
     let prefix = Ipv6Address::new(0xfe80, 0, 0, 0, 0, 0, 0, 0);
-    for (link, hardware) in [
-        (Ipv6Cidr::new(prefix, 63), ethernet),
-        (Ipv6Cidr::new(prefix, 72), ethernet),
-        (Ipv6Cidr::new(prefix, 64), HardwareAddress::Ip),
-    ] {
-        let found = (
-            Ipv6Address::from_link_prefix(&link, hardware),
-            Ipv6Cidr::from_link_prefix(&link, hardware),
-        );
-        assert_eq!(rt; found, (None, None));
-    }
+    assert!(rt; makes_none(&Ipv6Cidr::new(prefix, 63), ethernet));
+    assert!(rt; makes_none(&Ipv6Cidr::new(prefix, 72), ethernet));
+    assert!(rt; makes_none(&Ipv6Cidr::new(prefix, 64), HardwareAddress::Ip));
 }

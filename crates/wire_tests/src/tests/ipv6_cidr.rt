@@ -5,9 +5,6 @@ use ip_wire::Ipv6Cidr;
 
 #[test]
 fn constants_print_as_their_standards_write_them(rt: HostRuntime) {
-    let found = [
-        prints(&Ipv6Cidr::LINK_LOCAL_PREFIX, "fe80::/10"),
-        prints(&Ipv6Cidr::SOLICITED_NODE_PREFIX, "ff02::1:ff00:0/104"),
-    ];
-    assert_eq!(rt; found, [true; 2]);
+    assert!(rt; prints(&Ipv6Cidr::LINK_LOCAL_PREFIX, "fe80::/10"));
+    assert!(rt; prints(&Ipv6Cidr::SOLICITED_NODE_PREFIX, "ff02::1:ff00:0/104"));
 }

@@ -1,52 +1,50 @@
 //! IPv6 fragment headers. `tests/calls/worked_headers.call` has more examples.
 
-use super::support::{OLD, prints};
-use ip_wire::{Error, Ipv6FragmentHeader, Ipv6FragmentHeaderMut, Ipv6FragmentRepr};
+use super::support::{OLD, has_front, prints};
+use ip_wire::{Ipv6FragmentHeader, Ipv6FragmentHeaderMut, Ipv6FragmentRepr};
 
 /// The header of a last fragment.
 const LAST: [u8; 6] = [0x0a, 0x00, 0x00, 0x01, 0x09, 0x32];
 
-/// The values of the header of a last fragment.
-fn last() -> Ipv6FragmentRepr {
+/// The values of a header.
+fn value(frag_offset: u16, more_frags: bool, ident: u32) -> Ipv6FragmentRepr {
     Ipv6FragmentRepr {
-        frag_offset: 320,
-        more_frags: false,
-        ident: 67890,
+        frag_offset,
+        more_frags,
+        ident,
     }
+}
+
+/// Whether a header parses as these values.
+fn parses(bytes: [u8; 6], want: Ipv6FragmentRepr) -> bool {
+    Ipv6FragmentRepr::parse(&Ipv6FragmentHeader::new_unchecked(&bytes)) == Ok(want)
 }
 
 #[test]
 fn parses_every_field(rt: HostRuntime) {
-    let first = Ipv6FragmentRepr {
-        frag_offset: 0,
-        more_frags: true,
-        ident: 12345,
-    };
-    let far = Ipv6FragmentRepr {
-        frag_offset: 8191,
-        more_frags: false,
-        ident: u32::MAX,
-    };
-    for (bytes, value) in [
-        (LAST, last()),
-        ([0x0a, 0x06, 0x00, 0x01, 0x09, 0x32], last()),
-        ([0x00, 0x01, 0x00, 0x00, 0x30, 0x39], first),
-        ([0xff, 0xf8, 0xff, 0xff, 0xff, 0xff], far),
-    ] {
-        let header = Ipv6FragmentHeader::new_unchecked(&bytes);
-        assert_eq!(rt; Ipv6FragmentRepr::parse(&header), Ok(value));
-    }
+    let last = value(320, false, 67890);
+    assert!(rt; parses(LAST, last));
+    assert!(rt; parses([0x0a, 0x06, 0x00, 0x01, 0x09, 0x32], last));
+    assert!(rt; parses([0x00, 0x01, 0x00, 0x00, 0x30, 0x39], value(0, true, 12345)));
+    assert!(rt;
+        parses(
+            [0xff, 0xf8, 0xff, 0xff, 0xff, 0xff],
+            value(8191, false, u32::MAX)
+        )
+    );
 }
 
-/// What each check of the bytes returns.
-fn checks(bytes: &mut [u8]) -> [ip_wire::Result<()>; 5] {
+/// Whether each check accepts the bytes.
+fn checks(bytes: &mut [u8]) -> [bool; 5] {
     let header = Ipv6FragmentHeader::new_unchecked(bytes);
     [
-        header.check_len(),
-        Ipv6FragmentRepr::parse(&header).and(Ok(())),
-        Ipv6FragmentHeader::new_checked(bytes).and(Ok(())),
-        Ipv6FragmentHeaderMut::new_unchecked(bytes).check_len(),
-        Ipv6FragmentHeaderMut::new_checked(bytes).and(Ok(())),
+        header.check_len().is_ok(),
+        Ipv6FragmentRepr::parse(&header).is_ok(),
+        Ipv6FragmentHeader::new_checked(bytes).is_ok(),
+        Ipv6FragmentHeaderMut::new_unchecked(bytes)
+            .check_len()
+            .is_ok(),
+        Ipv6FragmentHeaderMut::new_checked(bytes).is_ok(),
     ]
 }
 
@@ -54,51 +52,48 @@ fn checks(bytes: &mut [u8]) -> [ip_wire::Result<()>; 5] {
 fn rejects_less_than_a_header(rt: HostRuntime) {
     let mut buffer = LAST;
     for len in 0..=6 {
-        let want = if len < 6 { Err(Error) } else { Ok(()) };
-        let bytes = &mut buffer[..len];
-        assert_eq!(rt; checks(bytes), [want; 5]);
+        assert!(rt; checks(&mut buffer[..len]) == [len == 6; 5], "{len}");
     }
     let header = Ipv6FragmentHeader::new_unchecked(&buffer);
-    let all = (header.as_bytes(), header.into_inner());
-    assert_eq!(rt; all, (LAST.as_slice(), LAST.as_slice()));
+    assert!(rt; header.as_bytes() == LAST.as_slice());
+    assert!(rt; header.into_inner() == LAST.as_slice());
+}
+
+/// The offset of a header that is written over such bytes, and all octets of the buffer.
+fn emitted(value: &Ipv6FragmentRepr, old: u8) -> (u16, [u8; 8]) {
+    let mut buffer = [old; 8];
+    let mut header = Ipv6FragmentHeaderMut::new_unchecked(&mut buffer);
+    value.emit(&mut header);
+    let frag_offset = header.as_view().frag_offset();
+    (frag_offset, buffer)
 }
 
 #[test]
 fn emits_a_header_and_leaves_the_rest(rt: HostRuntime) {
-    let far = Ipv6FragmentRepr {
-        frag_offset: 9000,
-        more_frags: false,
-        ident: 1,
-    };
+    let far = value(9000, false, 1);
     for old in OLD {
-        let mut buffer = [old; 8];
-        let mut header = Ipv6FragmentHeaderMut::new_unchecked(&mut buffer);
-        far.emit(&mut header);
+        let (frag_offset, buffer) = emitted(&far, old);
         // An offset has 13 bits.
-        let frag_offset = header.as_view().frag_offset();
-        let written: &[u8] = header.into_inner();
-        let want = [0x19, 0x40, 0x00, 0x00, 0x00, 0x01, old, old];
-        assert_eq!(rt; (frag_offset, written), (808, want.as_slice()));
+        assert!(rt; frag_offset == 808);
+        assert!(rt;
+            has_front(&buffer, &[0x19, 0x40, 0x00, 0x00, 0x00, 0x01], old),
+            "{old}"
+        );
     }
+}
+
+/// Whether values and their header print as this text.
+fn prints_as(value: &Ipv6FragmentRepr, text: &str) -> bool {
+    let mut buffer = [0xff; 6];
+    value.emit(&mut Ipv6FragmentHeaderMut::new_unchecked(&mut buffer));
+    prints(value, text) && prints(&Ipv6FragmentHeader::new_unchecked(&buffer), text)
 }
 
 #[test]
 fn prints_its_values(rt: HostRuntime) {
-    let more = Ipv6FragmentRepr {
-        frag_offset: 8191,
-        more_frags: true,
-        ident: 0,
-    };
-    for (value, text) in [
-        (last(), "IPv6 Fragment offset=320 more=false ident=67890"),
-        (more, "IPv6 Fragment offset=8191 more=true ident=0"),
-    ] {
-        let mut buffer = [0xff; 6];
-        value.emit(&mut Ipv6FragmentHeaderMut::new_unchecked(&mut buffer));
-        let header = Ipv6FragmentHeader::new_unchecked(&buffer);
-        let found = [prints(&value, text), prints(&header, text)];
-        assert_eq!(rt; found, [true; 2], "{text}");
-    }
+    let (last, more) = (value(320, false, 67890), value(8191, true, 0));
+    assert!(rt; prints_as(&last, "IPv6 Fragment offset=320 more=false ident=67890"));
+    assert!(rt; prints_as(&more, "IPv6 Fragment offset=8191 more=true ident=0"));
 }
 
 #[test]

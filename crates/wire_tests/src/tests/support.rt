@@ -36,6 +36,19 @@ pub fn copy_to(buffer: &mut [u8], bytes: &[u8]) -> usize {
     buffer.len()
 }
 
+/// Whether a buffer begins with these bytes, and holds only the old byte behind them.
+pub fn has_front(buffer: &[u8], front: &[u8], old: u8) -> bool {
+    if buffer.len() < front.len() {
+        return false;
+    }
+    for byte in &buffer[front.len()..] {
+        if *byte != old {
+            return false;
+        }
+    }
+    &buffer[..front.len()] == front
+}
+
 /// A writer that compares its input with expected bytes. It fails behind the last of them.
 #[derive(Drop)]
 struct Expecting<'a> {

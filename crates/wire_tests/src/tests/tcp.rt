@@ -3,8 +3,7 @@
 use super::ipv4_ends;
 use super::support::copy_to;
 use ip_wire::{
-    Error, TcpControl, TcpPacket, TcpPacketMut, TcpSeqNumber, TcpTimestampGenerator,
-    TcpTimestampRepr,
+    TcpControl, TcpPacket, TcpPacketMut, TcpSeqNumber, TcpTimestampGenerator, TcpTimestampRepr,
 };
 use std::cmp::Ordering;
 
@@ -28,10 +27,10 @@ const PAYLOAD: [u8; 4] = [0xaa, 0x00, 0x00, 0xff];
 #[test]
 fn reads_options_payload_and_all_bytes(rt: HostRuntime) {
     let packet = TcpPacket::new_checked(&SEGMENT).expect(&rt, "a segment");
-    let parts = (packet.options(), packet.payload());
-    assert_eq!(rt; parts, (OPTIONS.as_slice(), PAYLOAD.as_slice()));
-    let bytes = (packet.as_bytes(), packet.into_inner());
-    assert_eq!(rt; bytes, (SEGMENT.as_slice(), SEGMENT.as_slice()));
+    assert!(rt; packet.options() == OPTIONS.as_slice());
+    assert!(rt; packet.payload() == PAYLOAD.as_slice());
+    assert!(rt; packet.as_bytes() == SEGMENT.as_slice());
+    assert!(rt; packet.into_inner() == SEGMENT.as_slice());
 }
 
 #[test]
@@ -39,93 +38,105 @@ fn writes_options_and_payload(rt: HostRuntime) {
     let mut buffer = [0xa5; 28];
     buffer[..20].copy_from_slice(&SEGMENT[..20]);
     let mut packet = TcpPacketMut::new_checked(&mut buffer).expect(&rt, "a segment");
-    let is_read = packet.seq_number() == TcpSeqNumber(0x0123_4567) && packet.header_len() == 24;
-    let options_len = copy_to(packet.options_mut(), &OPTIONS);
+    assert!(rt; packet.seq_number() == TcpSeqNumber(0x0123_4567));
+    assert!(rt; packet.header_len() == 24);
+    assert!(rt; copy_to(packet.options_mut(), &OPTIONS) == 4);
     assert!(rt; packet.check_len().is_ok());
-    let payload_len = copy_to(packet.payload_mut(), &PAYLOAD);
-    let is_whole = packet.as_view().as_bytes() == SEGMENT.as_slice();
+    assert!(rt; copy_to(packet.payload_mut(), &PAYLOAD) == 4);
+    assert!(rt; packet.as_view().as_bytes() == SEGMENT.as_slice());
     let written: &[u8] = packet.into_inner();
-    assert_eq!(rt;
-        (is_read, options_len, payload_len, is_whole, written),
-        (true, 4, 4, true, SEGMENT.as_slice())
-    );
+    assert!(rt; written == SEGMENT.as_slice());
+}
+
+/// Whether each check accepts the bytes.
+fn checks(bytes: &mut [u8]) -> [bool; 4] {
+    [
+        TcpPacket::new_unchecked(bytes).check_len().is_ok(),
+        TcpPacketMut::new_unchecked(bytes).check_len().is_ok(),
+        TcpPacket::new_checked(bytes).is_ok(),
+        TcpPacketMut::new_checked(bytes).is_ok(),
+    ]
 }
 
 #[test]
 fn rejects_less_than_the_header(rt: HostRuntime) {
-    for (segment, header_len) in [(SYN.as_slice(), 20), (&SEGMENT, 24)] {
-        let mut buffer = [0; 28];
-        assert!(rt; segment.len() <= 28);
-        buffer[..segment.len()].copy_from_slice(segment);
-        for len in 0..=segment.len() {
-            let is_whole = len >= header_len;
-            let bytes = &mut buffer[..len];
-            let found = [
-                TcpPacket::new_unchecked(bytes).check_len().is_ok(),
-                TcpPacketMut::new_unchecked(bytes).check_len().is_ok(),
-                TcpPacket::new_checked(bytes).is_ok(),
-                TcpPacketMut::new_checked(bytes).is_ok(),
-            ];
-            assert_eq!(rt; found, [is_whole; 4], "{len}");
-        }
+    let (mut syn, mut segment) = (SYN, SEGMENT);
+    for len in 0..=24 {
+        assert!(rt; checks(&mut syn[..len]) == [len >= 20; 4], "{len}");
     }
+    for len in 0..=28 {
+        assert!(rt; checks(&mut segment[..len]) == [len >= 24; 4], "{len}");
+    }
+}
+
+/// Whether the segment with SYN has a valid length where its 13th octet, which has the header length, is this.
+fn fits(octet: u8) -> bool {
+    let mut buffer = SYN;
+    buffer[12] = octet;
+    TcpPacket::new_unchecked(&buffer).check_len().is_ok()
 }
 
 #[test]
 fn rejects_impossible_header_lengths(rt: HostRuntime) {
-    for (first, want) in [
-        (0x00, Err(Error)),
-        (0x40, Err(Error)),
-        (0x50, Ok(())),
-        (0x60, Ok(())),
-        (0x70, Err(Error)),
-        (0xf0, Err(Error)),
-    ] {
-        let mut buffer = SYN;
-        buffer[12] = first;
-        assert_eq!(rt; TcpPacket::new_unchecked(&buffer).check_len(), want);
-    }
+    assert!(rt; !fits(0x00));
+    assert!(rt; !fits(0x40));
+    assert!(rt; fits(0x50));
+    assert!(rt; fits(0x60));
+    assert!(rt; !fits(0x70));
+    assert!(rt; !fits(0xf0));
+}
+
+/// Whether this checksum of the segment with SYN is that of the whole, and that of the pseudo-header alone.
+fn verifies(checksum: u16) -> [bool; 2] {
+    let (src, dst) = ipv4_ends();
+    let mut buffer = SYN;
+    let mut packet = TcpPacketMut::new_unchecked(&mut buffer);
+    packet.set_checksum(checksum);
+    [
+        packet.verify_checksum(&src, &dst),
+        packet.verify_partial_checksum(&src, &dst),
+    ]
 }
 
 #[test]
 fn verifies_whole_and_partial_checksums(rt: HostRuntime) {
-    let (src, dst) = ipv4_ends();
-    for (checksum, whole, partial) in [
-        (0x7a8d, true, false),
-        (0x7a8e, false, false),
-        (0x8372, false, true),
-        (0x0000, false, false),
-    ] {
-        let mut buffer = SYN;
-        let mut packet = TcpPacketMut::new_unchecked(&mut buffer);
-        packet.set_checksum(checksum);
-        let found = [
-            packet.verify_checksum(&src, &dst),
-            packet.verify_partial_checksum(&src, &dst),
-        ];
-        assert_eq!(rt; found, [whole, partial]);
-    }
+    assert!(rt; verifies(0x7a8d) == [true, false]);
+    assert!(rt; verifies(0x7a8e) == [false, false]);
+    assert!(rt; verifies(0x8372) == [false, true]);
+    assert!(rt; verifies(0x0000) == [false, false]);
 }
 
 #[test]
 fn counts_sequence_numbers(rt: HostRuntime) {
     let syn = TcpPacket::new_checked(&SYN).expect(&rt, "a segment");
     let segment = TcpPacket::new_checked(&SEGMENT).expect(&rt, "a segment");
-    assert_eq!(rt; [syn.segment_len(), segment.segment_len()], [5, 5]);
+    assert!(rt; [syn.segment_len(), segment.segment_len()] == [5, 5]);
+}
+
+/// Whether a flag takes so many sequence numbers, and is this flag without PSH.
+fn counts(control: TcpControl, len: usize, quashed: TcpControl) -> bool {
+    control.len() == len && control.quash_psh() == quashed
 }
 
 #[test]
 fn flags_count_and_are_quashed_by_the_table(rt: HostRuntime) {
-    for (control, len, quashed) in [
-        (TcpControl::None, 0, TcpControl::None),
-        (TcpControl::Psh, 0, TcpControl::None),
-        (TcpControl::Syn, 1, TcpControl::Syn),
-        (TcpControl::Fin, 1, TcpControl::Fin),
-        (TcpControl::Rst, 0, TcpControl::Rst),
-    ] {
-        let found = (control.len(), control.quash_psh());
-        assert_eq!(rt; found, (len, quashed));
-    }
+    assert!(rt; counts(TcpControl::None, 0, TcpControl::None));
+    assert!(rt; counts(TcpControl::Psh, 0, TcpControl::None));
+    assert!(rt; counts(TcpControl::Syn, 1, TcpControl::Syn));
+    assert!(rt; counts(TcpControl::Fin, 1, TcpControl::Fin));
+    assert!(rt; counts(TcpControl::Rst, 0, TcpControl::Rst));
+}
+
+/// Whether two numbers are in this order by every comparison.
+fn are_ordered(a: i32, b: i32, order: Ordering) -> bool {
+    let (a, b) = (TcpSeqNumber(a), TcpSeqNumber(b));
+    let (before, after) = (order == Ordering::Less, order == Ordering::Greater);
+    let min = if before { a } else { b };
+    let max = if after { a } else { b };
+    a.seq_cmp(b) == order
+        && [a.seq_lt(b), a.seq_gt(b)] == [before, after]
+        && [a.seq_le(b), a.seq_ge(b)] == [!after, !before]
+        && [a.min(b), a.max(b)] == [min, max]
 }
 
 #[test]
@@ -141,15 +152,7 @@ fn orders_sequence_numbers(rt: HostRuntime) {
         (i32::MAX, 0, Ordering::Greater),
         (i32::MIN, 1, Ordering::Greater),
     ] {
-        let (a, b) = (TcpSeqNumber(a), TcpSeqNumber(b));
-        let (before, after) = (order == Ordering::Less, order == Ordering::Greater);
-        let compared = [a.seq_lt(b), a.seq_gt(b), a.seq_le(b), a.seq_ge(b)];
-        let min = if before { a } else { b };
-        let max = if after { a } else { b };
-        assert_eq!(rt;
-            (a.seq_cmp(b), compared, [a.min(b), a.max(b)]),
-            (order, [before, after, !after, !before], [min, max])
-        );
+        assert!(rt; are_ordered(a, b, order), "{a} {b}");
     }
 }
 
@@ -158,9 +161,11 @@ fn counts_modulo_2_to_the_32(rt: HostRuntime) {
     let (first, last) = (TcpSeqNumber(i32::MIN), TcpSeqNumber(i32::MAX));
     let mut next = last;
     next += 1;
-    let found = [next, last + 1, next - 1, TcpSeqNumber::default()];
-    assert_eq!(rt; found, [first, first, last, TcpSeqNumber(0)]);
-    assert_eq!(rt; next - last, 1);
+    assert!(rt; next == first);
+    assert!(rt; last + 1 == first);
+    assert!(rt; next - 1 == last);
+    assert!(rt; TcpSeqNumber::default() == TcpSeqNumber(0));
+    assert!(rt; next - last == 1);
 }
 
 /// A clock that always returns the same time.
@@ -176,11 +181,8 @@ fn replies_to_timestamps(rt: HostRuntime) {
         tsval: 100,
         tsecr: 7,
     });
-    let found = [
-        stamp.generate_reply(Some(clock)),
-        stamp.generate_reply(None),
-        TcpTimestampRepr::generate_reply_with_tsval(Some(clock), 7),
-        TcpTimestampRepr::generate_reply_with_tsval(None, 7),
-    ];
-    assert_eq!(rt; found, [reply, None, reply, None]);
+    assert!(rt; stamp.generate_reply(Some(clock)) == reply);
+    assert!(rt; stamp.generate_reply(None).is_none());
+    assert!(rt; TcpTimestampRepr::generate_reply_with_tsval(Some(clock), 7) == reply);
+    assert!(rt; TcpTimestampRepr::generate_reply_with_tsval(None, 7).is_none());
 }

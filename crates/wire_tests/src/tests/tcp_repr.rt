@@ -52,7 +52,7 @@ fn a_checksum_covers_the_whole_buffer(rt: HostRuntime) {
         let mut packet = TcpPacketMut::new_unchecked(&mut buffer);
         value.emit(&mut packet, &src, &dst, &ChecksumCapabilities::default());
     }
-    assert_eq!(rt; buffer, want);
+    assert!(rt; buffer == want);
 }
 
 /// A segment with SACK permitted and one range, which is not emitted beside it.
@@ -67,9 +67,15 @@ const UNACKNOWLEDGED: [u8; 40] = [
     0x7a, 0x8d, 0x00, 0x00, 0x05, 0x12, 0, 0, 0, 1, 0, 0, 0, 2, 0, 0, 0, 3, 0, 0, 0, 4, 0, 0,
 ];
 
+/// Whether a segment of these bytes parses as these values, with its checksum ignored.
+fn reads(bytes: &[u8], value: &TcpRepr<'_>) -> bool {
+    let (src, dst) = ipv4_ends();
+    let packet = TcpPacket::new_unchecked(bytes);
+    TcpRepr::parse(&packet, &src, &dst, &ChecksumCapabilities::ignored()) == Ok(*value)
+}
+
 #[test]
 fn reads_segments(rt: HostRuntime) {
-    let (src, dst) = ipv4_ends();
     let permitted = TcpRepr {
         sack_permitted: true,
         sack_ranges: [Some((1, 2)), None, None, None],
@@ -80,15 +86,14 @@ fn reads_segments(rt: HostRuntime) {
         sack_ranges: [Some((1, 2)), Some((3, 4)), None, None],
         ..ack()
     };
-    let ignored = ChecksumCapabilities::ignored();
-    for (bytes, value) in [
-        (&SYN[..], syn()),
-        (&PERMITTED, permitted),
-        (&UNACKNOWLEDGED, unacknowledged),
-    ] {
-        let packet = TcpPacket::new_unchecked(bytes);
-        assert_eq!(rt; TcpRepr::parse(&packet, &src, &dst, &ignored), Ok(value));
-    }
+    assert!(rt; reads(&SYN, &syn()));
+    assert!(rt; reads(&PERMITTED, &permitted));
+    assert!(rt; reads(&UNACKNOWLEDGED, &unacknowledged));
+}
+
+/// Whether values take so many sequence numbers, and whether they are empty.
+fn counts(value: &TcpRepr<'_>, segment_len: usize, is_empty: bool) -> bool {
+    value.payload.len() <= 4 && value.segment_len() == segment_len && value.is_empty() == is_empty
 }
 
 #[test]
@@ -114,81 +119,77 @@ fn counts_sequence_numbers(rt: HostRuntime) {
         payload: syn().payload,
         ..flagged(TcpControl::Psh)
     };
-    for (value, segment_len, is_empty) in [
-        (syn(), 5, false),
-        (ack(), 0, true),
-        (flagged(TcpControl::Psh), 0, true),
-        (data, 4, false),
-        (flagged(TcpControl::Fin), 1, false),
-        (flagged(TcpControl::Rst), 0, false),
-        (long, 0, true),
-        (four, 0, true),
-        (unwritten, 0, true),
-    ] {
-        assert!(rt; value.payload.len() <= 4);
-        assert_eq!(rt;
-            (value.segment_len(), value.is_empty()),
-            (segment_len, is_empty)
-        );
-    }
+    assert!(rt; counts(&syn(), 5, false));
+    assert!(rt; counts(&ack(), 0, true));
+    assert!(rt; counts(&flagged(TcpControl::Psh), 0, true));
+    assert!(rt; counts(&data, 4, false));
+    assert!(rt; counts(&flagged(TcpControl::Fin), 1, false));
+    assert!(rt; counts(&flagged(TcpControl::Rst), 0, false));
+    assert!(rt; counts(&long, 0, true));
+    assert!(rt; counts(&four, 0, true));
+    assert!(rt; counts(&unwritten, 0, true));
 }
 
 #[test]
 fn prints_values(rt: HostRuntime) {
-    for (value, text) in [
-        (syn(), "TCP src=48896 dst=80 syn seq=19088743 win=291 len=4"),
-        (
-            TcpRepr {
-                max_seg_size: Some(1460),
-                ..flagged(TcpControl::Psh)
-            },
-            "TCP src=48896 dst=80 psh seq=19088743 ack=162254319 win=291 len=0 mss=1460",
-        ),
-        (
-            flagged(TcpControl::Fin),
-            "TCP src=48896 dst=80 fin seq=19088743 ack=162254319 win=291 len=0",
-        ),
-        (
-            flagged(TcpControl::Rst),
-            "TCP src=48896 dst=80 rst seq=19088743 ack=162254319 win=291 len=0",
-        ),
-    ] {
-        assert!(rt; prints(&value, text), "{text}");
-    }
+    let sized = TcpRepr {
+        max_seg_size: Some(1460),
+        ..flagged(TcpControl::Psh)
+    };
+    let fin = "TCP src=48896 dst=80 fin seq=19088743 ack=162254319 win=291 len=0";
+    let rst = "TCP src=48896 dst=80 rst seq=19088743 ack=162254319 win=291 len=0";
+    assert!(rt;
+        prints(
+            &syn(),
+            "TCP src=48896 dst=80 syn seq=19088743 win=291 len=4"
+        )
+    );
+    assert!(rt;
+        prints(
+            &sized,
+            "TCP src=48896 dst=80 psh seq=19088743 ack=162254319 win=291 len=0 mss=1460"
+        )
+    );
+    assert!(rt; prints(&flagged(TcpControl::Fin), fin));
+    assert!(rt; prints(&flagged(TcpControl::Rst), rst));
+}
+
+/// Whether a segment of these bytes prints as this text.
+fn prints_as(bytes: &[u8], text: &str) -> bool {
+    prints(&TcpPacket::new_unchecked(bytes), text)
+}
+
+/// The segment with SYN, with another 13th octet, which has the header length.
+fn with_length(octet: u8) -> [u8; 24] {
+    let mut segment = SYN;
+    segment[12] = octet;
+    segment
 }
 
 #[test]
 fn prints_segments(rt: HostRuntime) {
-    let mut cut = SYN;
-    cut[12] = 0x60;
-    let mut short = SYN;
-    short[12] = 0x40;
-    let mut long = SYN;
-    long[12] = 0xf0;
-    for (bytes, text) in [
-        (
-            SYN.as_slice(),
-            "TCP src=48896 dst=80 syn seq=19088743 win=291 len=4",
-        ),
-        (
+    let header = "TCP src=48896 dst=80 syn seq=19088743 win=291 len=0";
+    assert!(rt; prints_as(&SYN, "TCP src=48896 dst=80 syn seq=19088743 win=291 len=4"));
+    assert!(rt;
+        prints_as(
             &SEGMENT,
-            "TCP src=48896 dst=80 fin rst seq=19088743 ack=2309737967 win=291 urg=513 len=4 ws=12",
-        ),
-        (
-            &cut,
-            "TCP src=48896 dst=80 syn seq=19088743 win=291 len=0 (wire::Error)",
-        ),
-        (
-            &SYN[..20],
-            "TCP src=48896 dst=80 syn seq=19088743 win=291 len=0",
-        ),
-        (&short, "TCP (wire::Error)"),
-        (&long, "TCP (wire::Error)"),
-        (&SYN[..19], "TCP (wire::Error)"),
-        (&SEGMENT[..23], "TCP (wire::Error)"),
-        (&[], "TCP (wire::Error)"),
-    ] {
-        let packet = TcpPacket::new_unchecked(bytes);
-        assert!(rt; prints(&packet, text), "{text}");
-    }
+            "TCP src=48896 dst=80 fin rst seq=19088743 ack=2309737967 win=291 urg=513 len=4 ws=12"
+        )
+    );
+    assert!(rt;
+        prints_as(
+            &with_length(0x60),
+            "TCP src=48896 dst=80 syn seq=19088743 win=291 len=0 (wire::Error)"
+        )
+    );
+    assert!(rt; prints_as(&SYN[..20], header));
+}
+
+#[test]
+fn prints_an_error_for_no_segment(rt: HostRuntime) {
+    assert!(rt; prints_as(&with_length(0x40), "TCP (wire::Error)"));
+    assert!(rt; prints_as(&with_length(0xf0), "TCP (wire::Error)"));
+    assert!(rt; prints_as(&SYN[..19], "TCP (wire::Error)"));
+    assert!(rt; prints_as(&SEGMENT[..23], "TCP (wire::Error)"));
+    assert!(rt; prints_as(&[], "TCP (wire::Error)"));
 }

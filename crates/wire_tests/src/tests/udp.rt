@@ -1,7 +1,7 @@
 //! UDP packets.
 
-use super::support::{OLD, copy_to, prints};
-use super::{ipv4_ends, ipv6_ends};
+use super::support::{OLD, copy_to, has_front, prints};
+use super::{IPV6_PACKET, ipv4_ends, ipv6_ends};
 use ip_wire::{UDP_HEADER_LEN, UdpPacket, UdpPacketMut, UdpRepr};
 use net_base::ChecksumCapabilities;
 
@@ -13,11 +13,6 @@ pub(super) const PACKET: [u8; 12] = [
 /// The same without its checksum.
 const UNSUMMED: [u8; 12] = [
     0xbf, 0x00, 0x00, 0x35, 0x00, 0x0c, 0x00, 0x00, 0xaa, 0x00, 0x00, 0xff,
-];
-
-/// A packet from `fe80::1` to `ff02::1`.
-const PACKET_OVER_IPV6: [u8; 12] = [
-    0x00, 0x01, 0x00, 0x02, 0x00, 0x0c, 0x02, 0x4e, 0xff, 0xff, 0xff, 0xff,
 ];
 
 /// The payload of the first.
@@ -34,9 +29,9 @@ fn padding_is_no_payload(rt: HostRuntime) {
     let mut buffer = [0x55; 14];
     buffer[..12].copy_from_slice(&PACKET);
     let packet = UdpPacket::new_checked(&buffer).expect(&rt, "a packet");
-    assert_eq!(rt; packet.payload(), PAYLOAD.as_slice());
-    let bytes = (packet.as_bytes(), packet.into_inner());
-    assert_eq!(rt; bytes, (buffer.as_slice(), buffer.as_slice()));
+    assert!(rt; packet.payload() == PAYLOAD.as_slice());
+    assert!(rt; packet.as_bytes() == buffer.as_slice());
+    assert!(rt; packet.into_inner() == buffer.as_slice());
 }
 
 #[test]
@@ -46,118 +41,127 @@ fn writes_the_payload(rt: HostRuntime) {
     let mut buffer = [0x55; 14];
     buffer[..8].copy_from_slice(&PACKET[..8]);
     let mut packet = UdpPacketMut::new_checked(&mut buffer).expect(&rt, "a packet");
-    let fields = [
-        packet.src_port(),
-        packet.dst_port(),
-        packet.len(),
-        packet.checksum(),
-    ];
-    let payload_len = copy_to(packet.payload_mut(), &PAYLOAD);
-    let is_whole = packet.as_bytes() == want.as_slice();
+    assert!(rt; [packet.src_port(), packet.dst_port()] == [48896, 53]);
+    assert!(rt; [packet.len(), packet.checksum()] == [12, 0x124d]);
+    assert!(rt; copy_to(packet.payload_mut(), &PAYLOAD) == 4);
+    assert!(rt; packet.as_bytes() == want.as_slice());
     let written: &[u8] = packet.into_inner();
-    assert_eq!(rt;
-        (fields, payload_len, is_whole, written),
-        ([48896, 53, 12, 0x124d], 4, true, want.as_slice())
-    );
+    assert!(rt; written == want.as_slice());
+}
+
+/// Whether each check accepts the bytes.
+fn checks(bytes: &mut [u8]) -> [bool; 4] {
+    [
+        UdpPacket::new_unchecked(bytes).check_len().is_ok(),
+        UdpPacketMut::new_unchecked(bytes).check_len().is_ok(),
+        UdpPacket::new_checked(bytes).is_ok(),
+        UdpPacketMut::new_checked(bytes).is_ok(),
+    ]
 }
 
 #[test]
 fn rejects_less_than_the_packet(rt: HostRuntime) {
     let mut buffer = PACKET;
     for len in 0..=12 {
-        let bytes = &mut buffer[..len];
-        let found = [
-            UdpPacket::new_unchecked(bytes).check_len().is_ok(),
-            UdpPacketMut::new_unchecked(bytes).check_len().is_ok(),
-            UdpPacket::new_checked(bytes).is_ok(),
-            UdpPacketMut::new_checked(bytes).is_ok(),
-        ];
-        assert_eq!(rt; found, [len == 12; 4], "{len}");
+        assert!(rt; checks(&mut buffer[..len]) == [len == 12; 4], "{len}");
+    }
+}
+
+/// The number of octets of the payload where the length field has this number.
+fn payload_len(len: u8) -> Option<usize> {
+    let mut buffer = PACKET;
+    buffer[5] = len;
+    match UdpPacket::new_checked(&buffer) {
+        Ok(packet) => Some(packet.payload().len()),
+        Err(_) => None,
     }
 }
 
 #[test]
 fn reads_what_its_length_allows(rt: HostRuntime) {
-    for (len, payload_len) in [
-        (0, None),
-        (7, None),
-        (8, Some(0)),
-        (12, Some(4)),
-        (13, None),
-    ] {
-        let mut buffer = PACKET;
-        buffer[5] = len;
-        let found = match UdpPacket::new_checked(&buffer) {
-            Ok(packet) => Some(packet.payload().len()),
-            Err(_) => None,
-        };
-        assert!(rt; found == payload_len, "{len}");
+    assert!(rt; payload_len(0).is_none());
+    assert!(rt; payload_len(7).is_none());
+    assert!(rt; payload_len(8) == Some(0));
+    assert!(rt; payload_len(12) == Some(4));
+    assert!(rt; payload_len(13).is_none());
+}
+
+/// Whether this checksum of the packet is that of the whole, and that of the pseudo-header alone.
+fn verifies(checksum: u16) -> Option<[bool; 2]> {
+    let (src, dst) = ipv4_ends();
+    let mut buffer = [0x55; 14];
+    buffer[..12].copy_from_slice(&PACKET);
+    let mut packet = UdpPacketMut::new_unchecked(&mut buffer);
+    packet.set_checksum(checksum);
+    if packet.check_len().is_err() {
+        return None;
     }
+    Some([
+        packet.verify_checksum(&src, &dst),
+        packet.verify_partial_checksum(&src, &dst),
+    ])
 }
 
 #[test]
 fn verifies_whole_and_partial_checksums(rt: HostRuntime) {
-    let (src, dst) = ipv4_ends();
-    for (checksum, whole, partial) in [
-        (0x124d, true, false),
-        (0x124e, false, false),
-        (0x8371, false, true),
-        (0x0000, true, false),
-    ] {
-        let mut buffer = [0x55; 14];
-        buffer[..12].copy_from_slice(&PACKET);
-        let mut packet = UdpPacketMut::new_unchecked(&mut buffer);
-        packet.set_checksum(checksum);
-        assert!(rt; packet.check_len().is_ok());
-        let found = [
-            packet.verify_checksum(&src, &dst),
-            packet.verify_partial_checksum(&src, &dst),
-        ];
-        assert_eq!(rt; found, [whole, partial]);
+    assert!(rt; verifies(0x124d) == Some([true, false]));
+    assert!(rt; verifies(0x124e) == Some([false, false]));
+    assert!(rt; verifies(0x8371) == Some([false, true]));
+    assert!(rt; verifies(0x0000) == Some([true, false]));
+}
+
+/// Whether the packet has a valid checksum over IPv4 and over IPv6.
+fn is_valid_over(bytes: &[u8]) -> Option<[bool; 2]> {
+    let (v4_src, v4_dst) = ipv4_ends();
+    let (v6_src, v6_dst) = ipv6_ends();
+    match UdpPacket::new_checked(bytes) {
+        Ok(packet) => Some([
+            packet.has_valid_checksum(&v4_src, &v4_dst),
+            packet.has_valid_checksum(&v6_src, &v6_dst),
+        ]),
+        Err(_) => None,
     }
 }
 
 #[test]
 fn a_checksum_is_left_out_over_ipv4_only(rt: HostRuntime) {
-    let (v4_src, v4_dst) = ipv4_ends();
-    let (v6_src, v6_dst) = ipv6_ends();
-    for (bytes, over_ipv4, over_ipv6) in [
-        (PACKET, true, false),
-        (PACKET_OVER_IPV6, false, true),
-        (UNSUMMED, true, false),
-    ] {
-        let packet = UdpPacket::new_checked(&bytes).expect(&rt, "a packet");
-        let found = [
-            packet.has_valid_checksum(&v4_src, &v4_dst),
-            packet.has_valid_checksum(&v6_src, &v6_dst),
-        ];
-        assert_eq!(rt; found, [over_ipv4, over_ipv6]);
-    }
+    assert!(rt; is_valid_over(&PACKET) == Some([true, false]));
+    assert!(rt; is_valid_over(&IPV6_PACKET[40..]) == Some([false, true]));
+    assert!(rt; is_valid_over(&UNSUMMED) == Some([true, false]));
+}
+
+/// A buffer of such bytes, after the packet is written to it.
+fn emitted(old: u8) -> [u8; 14] {
+    let (src, dst) = ipv4_ends();
+    let caps = ChecksumCapabilities::default();
+    let mut buffer = [old; 14];
+    let mut packet = UdpPacketMut::new_unchecked(&mut buffer);
+    HEADER.emit(&mut packet, &src, &dst, &PAYLOAD, &caps);
+    buffer
 }
 
 #[test]
 fn writes_a_packet_and_leaves_the_rest(rt: HostRuntime) {
-    let (src, dst) = ipv4_ends();
-    let caps = ChecksumCapabilities::default();
-    assert!(rt; HEADER.header_len() == UDP_HEADER_LEN);
     for old in OLD {
-        let mut want = [old; 14];
-        want[..12].copy_from_slice(&PACKET);
-        let mut buffer = [old; 14];
-        let mut packet = UdpPacketMut::new_unchecked(&mut buffer);
-        HEADER.emit(&mut packet, &src, &dst, &PAYLOAD, &caps);
-        assert!(rt; buffer == want, "{old}");
+        assert!(rt; has_front(&emitted(old), &PACKET, old), "{old}");
     }
+    assert!(rt; HEADER.header_len() == UDP_HEADER_LEN);
+}
+
+/// A buffer of such bytes, after the header alone is written to it.
+fn emitted_header(old: u8) -> [u8; 10] {
+    let mut buffer = [old; 10];
+    HEADER.emit_header(&mut UdpPacketMut::new_unchecked(&mut buffer), 4);
+    buffer
 }
 
 #[test]
 fn writes_a_header_alone(rt: HostRuntime) {
     for old in OLD {
-        let mut want = [old; 10];
-        want[..8].copy_from_slice(&UNSUMMED[..8]);
-        let mut buffer = [old; 10];
-        HEADER.emit_header(&mut UdpPacketMut::new_unchecked(&mut buffer), 4);
-        assert!(rt; buffer == want, "{old}");
+        assert!(rt;
+            has_front(&emitted_header(old), &UNSUMMED[..8], old),
+            "{old}"
+        );
     }
 }
 
