@@ -83,7 +83,7 @@ INLINE uint64_t total_of_few(const uint8_t *ptr, size_t len)
     return len & 4 ? sum + load_32(ptr) : sum;
 }
 
-/* From 128 bytes on by two chains. What is left behind the last whole eight bytes is the end of the last eight bytes. */
+/* From 128 bytes on by two chains. What is behind the last whole eight bytes is the end of the last eight bytes. */
 INLINE uint64_t total(const uint8_t *ptr, size_t len)
 {
     if (len < 8)
