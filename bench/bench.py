@@ -6,7 +6,8 @@ bench/bench.py [--calls LIBRARY.so] [--program PROGRAM [WORD..]]
 LIBRARY.so has the calls of c/ip_wire.h (bench/reference.rs has them over smoltcp): they are
 timed in one process with ours, and with those of bench/floor.c. PROGRAM is timed on the same
 lines as ours. Where there is one, "speed" is its time divided by ours, so that 1.00 is as fast
-and 2.00 twice as fast. The tables are in Markdown; some rows are drawn in out/speed.svg.
+and 2.00 twice as fast. Times are medians; the last two cells of a call are ratios of the least
+times. The tables are in Markdown; some rows are drawn in out/speed.svg.
 """
 import os
 import random
@@ -79,11 +80,20 @@ def compile_c(*words):
         give_up(f"{COMPILER} rejects {' '.join(words)}")
 
 
+def machine():
+    """The processor, and the compiler of the floor."""
+    with open("/proc/cpuinfo", encoding="utf-8") as lines:
+        names = (line.partition(":")[2].strip() for line in lines if line.startswith("model name"))
+        processor = next(names, "unknown processor")
+    return f"{processor}; {run_compiler('--version').stdout.splitlines()[0]}"
+
+
 def time_calls(room, reference):
     program, floor = f"{room}/calls", f"{room}/floor.so"
     jumps = FLOOR_JUMPS if "clang" in run_compiler("--version").stdout else f"-Wa,{FLOOR_JUMPS}"
     compile_c("-O3", "-falign-functions=64", jumps, "-shared", "-fPIC", "-o", floor, FLOOR)
     compile_c("-O2", "-o", program, CALLS, LIBRARY, "-ldl")
+    print(f"{machine()}\n")
     table = []
     with subprocess.Popen([program, floor] + reference, stdout=subprocess.PIPE, text=True) as timing:
         for line in timing.stdout:

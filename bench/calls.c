@@ -3,8 +3,9 @@
  *
  * usage: calls FLOOR.so [REFERENCE.so]
  *
- * Each row is the median of many rounds. A round times the libraries in turn, so that what else the machine does meets
- * all of them. Before each block of rows the time of a call that does nothing says how fast the machine is just then. */
+ * Each row has the medians of many rounds; its last two cells are ratios of the least times. A round times the libraries
+ * in turn, so that what else the machine does meets all of them. Before each block of rows the time of a call that does
+ * nothing says how fast the machine is just then. */
 #define _POSIX_C_SOURCE 200809L
 #include <dlfcn.h>
 #include <stddef.h>
@@ -78,10 +79,15 @@ static int compare(const void *a, const void *b)
     return (x > y) - (x < y);
 }
 
-static double median(double samples[ROUNDS])
+/* The time of a call, in nanoseconds; 0 where there is no such call. */
+struct time {
+    double median, least;
+};
+
+static struct time time_of(double samples[ROUNDS])
 {
     qsort(samples, ROUNDS, sizeof samples[0], compare);
-    return samples[ROUNDS / 2];
+    return (struct time){samples[ROUNDS / 2], samples[0]};
 }
 
 /* Compares what is no padding. */
@@ -97,9 +103,11 @@ static int agree(const struct row *row, const struct library *ours, const struct
 {
     static __typeof__(out) stored;
     memset(&out, 0, sizeof out);
+    next_frame = 0;
     uint64_t answer = row->call(ours, row);
     stored = out;
     memset(&out, 0, sizeof out);
+    next_frame = 0;
     return row->call(other, row) == answer && is_same_frame(&out.frame, &stored.frame)
            && memcmp(&out.options, &stored.options, sizeof out.options) == 0
            && memcmp(out.bytes, stored.bytes, sizeof out.bytes) == 0;
@@ -113,13 +121,16 @@ static void print_cell(int digits, double value)
         printf(" %9s |", "");
 }
 
-static void print_row(const struct row *row, const double ns[LIBRARIES])
+static void print_row(const struct row *row, const struct time times[LIBRARIES])
 {
+    const struct time ours = times[OURS];
     printf("| %-34s | %7zu |", row->name, row->size);
     for (int i = 0; i < LIBRARIES; i++)
-        print_cell(1, ns[i]);
-    print_cell(2, ns[REFERENCE] / ns[OURS]);
-    print_cell(2, ns[FLOOR] / ns[OURS]);
+        print_cell(1, times[i].median);
+    print_cell(2, times[REFERENCE].median / ours.median);
+    print_cell(2, times[FLOOR].median / ours.median);
+    print_cell(2, times[REFERENCE].least / ours.least);
+    print_cell(2, times[FLOOR].least / ours.least);
     printf("\n");
     fflush(stdout);
 }
@@ -128,7 +139,7 @@ static void run(const struct row *row, const libraries all)
 {
     static const char *const names[LIBRARIES] = {"ours", "the reference", "the floor"};
     static double samples[LIBRARIES][ROUNDS];
-    double ns[LIBRARIES] = {0};
+    struct time times[LIBRARIES] = {0};
     row->prepare(row);
     uint64_t calls = calls_of_a_sample(all[OURS], row);
     for (int round = 0; round < ROUNDS; round++)
@@ -137,11 +148,11 @@ static void run(const struct row *row, const libraries all)
                 samples[i][round] = nanoseconds(all[i], row, calls) / (double)calls;
     for (int i = 0; i < LIBRARIES; i++)
         if (all[i]) {
-            ns[i] = median(samples[i]);
+            times[i] = time_of(samples[i]);
             if (!agree(row, all[OURS], all[i]))
                 fprintf(stderr, "calls: %s, %zu bytes: %s answers otherwise\n", row->name, row->size, names[i]);
         }
-    print_row(row, ns);
+    print_row(row, times);
 }
 
 static int do_nothing(const struct lk_block *of, const struct lk_addr *addr)
@@ -214,8 +225,8 @@ int main(int argc, char **argv)
         reference = load(argv[2], 1);
         all[REFERENCE] = of_texts[REFERENCE] = &reference;
     }
-    printf("| Call | Bytes | ours ns | reference ns | floor ns | speed | floor / ours |\n");
-    printf("|---|---|---|---|---|---|---|\n");
+    printf("| Call | Bytes | ours ns | reference ns | floor ns | speed | floor / ours | least: speed | floor / ours |\n"
+           "|---|---|---|---|---|---|---|---|---|\n");
     for (size_t i = 0; i < COUNT(packet_blocks); i++)
         run_block(&packet_blocks[i], NULL, all);
     for (size_t i = 0; i < COUNT(headers); i++)

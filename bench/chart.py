@@ -25,7 +25,7 @@ def times(table):
     rows = {}
     for line in table:
         cells = [cell.strip() for cell in line.strip().strip("|").split("|")]
-        if len(cells) == 7 and cells[1].isdigit():
+        if len(cells) == 9 and cells[1].isdigit():
             named = zip(("ours", "reference", "floor"), cells[2:5])
             rows[cells[0], int(cells[1])] = {name: float(cell) for name, cell in named if cell}
     return rows

@@ -108,13 +108,13 @@ ptrdiff_t lk_emit_ip(const struct lk_ip *header, const struct lk_addr *src, cons
 
 INLINE uint32_t ports(uint16_t src, uint16_t dst) { return swap_16(src) | (uint32_t)swap_16(dst) << 16; }
 
-/* Writes a UDP header before a payload that is behind it already; the ports are as they are in memory. */
-INLINE void write_udp(uint32_t both, uint64_t addresses, size_t len, int computed, uint8_t *out)
+/* Writes a UDP header before a payload with this total; the ports are as they are in memory. */
+INLINE void write_udp(uint32_t both, uint64_t addresses, size_t len, uint64_t of_payload, int computed, uint8_t *out)
 {
     uint64_t header = both | (uint64_t)swap_16((uint16_t)(UDP_LEN + len)) << 32;
     if (computed) {
         uint64_t pseudo = pseudo_total(addresses, PROTOCOL_UDP, UDP_LEN + len);
-        uint16_t sum = fold(around(around(pseudo, header), total(out + UDP_LEN, len)));
+        uint16_t sum = fold(around(around(pseudo, header), of_payload));
         header |= (uint64_t)(sum == 0xffff ? sum : (uint16_t)~sum) << 48;
     }
     store_64(out, header);
@@ -125,8 +125,9 @@ ptrdiff_t lk_emit_udp(const struct lk_endpoint *src, const struct lk_endpoint *d
 {
     if (!is_one_version(&src->addr, &dst->addr) || len > 65535 - UDP_LEN || cap < UDP_LEN + len)
         return LK_FAILED;
+    uint64_t of_payload = computed ? total(ptr, len) : 0;
     memcpy(out + UDP_LEN, ptr, len);
-    write_udp(ports(src->port, dst->port), endpoints_total(&src->addr, &dst->addr), len, computed, out);
+    write_udp(ports(src->port, dst->port), endpoints_total(&src->addr, &dst->addr), len, of_payload, computed, out);
     return (ptrdiff_t)(UDP_LEN + len);
 }
 
@@ -197,20 +198,19 @@ INLINE void write_options(const struct lk_tcp_options *options, uint8_t *out, co
         *out++ = 0;
 }
 
-/* Writes a TCP header of this length before a payload that is behind it already. */
-INLINE void write_tcp(const struct lk_tcp *tcp, const struct lk_tcp_options *options, uint32_t both, uint64_t addresses,
-                      size_t header_len, size_t len, int computed, uint8_t *out)
+/* Writes a TCP header before its options, where this is the total of the options and the payload. */
+INLINE void write_tcp(const struct lk_tcp *tcp, uint32_t both, uint64_t addresses, size_t header_len, size_t len,
+                      uint64_t of_rest, int computed, uint8_t *out)
 {
     uint64_t front = both | (uint64_t)swap_32(tcp->seq_number) << 32;
     uint64_t back = swap_32(tcp->ack_number) | header_len << 34 | (uint64_t)tcp->flags << 40
                     | (uint64_t)swap_16(tcp->window_len) << 48;
     uint32_t urgent = (uint32_t)swap_16(tcp->urgent_at) << 16;
-    write_options(options, out + TCP_LEN, out + header_len);
     uint16_t checksum = 0;
     if (computed) {
         uint64_t pseudo = pseudo_total(addresses, PROTOCOL_TCP, header_len + len);
         uint64_t header = around(around(front, back), urgent);
-        checksum = (uint16_t)~fold(around(around(pseudo, header), total(out + TCP_LEN, header_len - TCP_LEN + len)));
+        checksum = (uint16_t)~fold(around(around(pseudo, header), of_rest));
     }
     store_64(out, front);
     store_64(out + 8, back);
@@ -225,7 +225,9 @@ ptrdiff_t lk_emit_tcp(const struct lk_tcp *header, const struct lk_tcp_options *
         || cap < header_len + len)
         return LK_FAILED;
     memcpy(out + header_len, ptr, len);
-    write_tcp(header, options, ports(src->port, dst->port), endpoints_total(&src->addr, &dst->addr), header_len, len,
+    write_options(options, out + TCP_LEN, out + header_len);
+    uint64_t of_rest = computed ? total(out + TCP_LEN, header_len - TCP_LEN + len) : 0;
+    write_tcp(header, ports(src->port, dst->port), endpoints_total(&src->addr, &dst->addr), header_len, len, of_rest,
               computed, out);
     return (ptrdiff_t)(header_len + len);
 }
@@ -258,10 +260,11 @@ INLINE ptrdiff_t write_udp_frame(const struct lk_frame *headers, const uint8_t *
     size_t at = transport_at(headers, UDP_LEN, len, cap);
     if (!at)
         return LK_FAILED;
+    uint64_t of_payload = total(ptr ? ptr : out + at + UDP_LEN, len);
     if (ptr)
         memcpy(out + at + UDP_LEN, ptr, len);
-    write_udp(ports(headers->src.port, headers->dst.port), endpoints_total(&headers->src.addr, &headers->dst.addr), len, 1,
-              out + at);
+    write_udp(ports(headers->src.port, headers->dst.port), endpoints_total(&headers->src.addr, &headers->dst.addr), len,
+              of_payload, 1, out + at);
     write_front(headers, PROTOCOL_UDP, UDP_LEN + len, out);
     return (ptrdiff_t)(at + UDP_LEN + len);
 }
@@ -286,8 +289,10 @@ INLINE ptrdiff_t write_tcp_frame(const struct lk_frame *headers, const struct lk
         return LK_FAILED;
     if (ptr)
         memcpy(out + at + header_len, ptr, len);
-    write_tcp(&headers->tcp, options, ports(headers->src.port, headers->dst.port),
-              endpoints_total(&headers->src.addr, &headers->dst.addr), header_len, len, 1, out + at);
+    write_options(options, out + at + TCP_LEN, out + at + header_len);
+    write_tcp(&headers->tcp, ports(headers->src.port, headers->dst.port),
+              endpoints_total(&headers->src.addr, &headers->dst.addr), header_len, len,
+              total(out + at + TCP_LEN, header_len - TCP_LEN + len), 1, out + at);
     write_front(headers, PROTOCOL_TCP, header_len + len, out);
     return (ptrdiff_t)(at + header_len + len);
 }
@@ -342,11 +347,13 @@ INLINE size_t copy(const uint8_t *ptr, size_t len, uint8_t *out, size_t cap, siz
     return at + len;
 }
 
-INLINE size_t rebuild_udp(const struct packet *packet, size_t len, uint8_t *out, size_t cap, size_t at)
+/* A packet with a right checksum is built again as it is. */
+INLINE size_t rebuild_udp(const struct packet *packet, size_t len, uint8_t checksum, uint8_t *out, size_t cap, size_t at)
 {
-    size_t end = copy(packet->payload + UDP_LEN, len - UDP_LEN, out, cap, at + UDP_LEN);
-    if (end)
-        write_udp(load_32(packet->payload), addresses_total(packet), len - UDP_LEN, 1, out + at);
+    size_t end = copy(packet->payload, len, out, cap, at);
+    if (end && checksum == LK_LEFT_OUT)
+        write_udp(load_32(packet->payload), addresses_total(packet), len - UDP_LEN,
+                  total(packet->payload + UDP_LEN, len - UDP_LEN), 1, out + at);
     return end;
 }
 
@@ -356,7 +363,7 @@ INLINE uint8_t kept_flags(uint8_t flags)
     return flags & (flags & (LK_SYN | LK_FIN | LK_RST) ? LK_SYN | LK_FIN | LK_RST | LK_ACK : LK_PSH | LK_ACK);
 }
 
-INLINE size_t rebuild_tcp(const struct packet *packet, size_t len, uint8_t *out, size_t cap, size_t at)
+INLINE size_t rebuild_tcp(const struct packet *packet, size_t len, uint64_t of_payload, uint8_t *out, size_t cap, size_t at)
 {
     const uint8_t *ptr = packet->payload;
     struct lk_tcp_options options;
@@ -370,8 +377,11 @@ INLINE size_t rebuild_tcp(const struct packet *packet, size_t len, uint8_t *out,
     size_t header_len = tcp_len(&options), end = copy(ptr + len, packet->len - len, out, cap, at + header_len);
     if (!(ptr[13] & LK_ACK))
         options.sack_range_count = 0; /* zeros take their place */
-    if (end)
-        write_tcp(&tcp, &options, load_32(ptr), addresses_total(packet), header_len, packet->len - len, 1, out + at);
+    if (!end)
+        return 0;
+    write_options(&options, out + at + TCP_LEN, out + at + header_len);
+    write_tcp(&tcp, load_32(ptr), addresses_total(packet), header_len, packet->len - len,
+              around(total(out + at + TCP_LEN, header_len - TCP_LEN), of_payload), 1, out + at);
     return end;
 }
 
@@ -381,11 +391,14 @@ INLINE size_t rebuild_transport(const struct packet *packet, uint8_t *out, size_
     if (packet->protocol == PROTOCOL_UDP && read_udp(packet, &len) == LK_READ) {
         uint8_t checksum = udp_verdict(packet, len);
         if (checksum == LK_RIGHT || checksum == LK_LEFT_OUT)
-            return rebuild_udp(packet, len, out, cap, at);
+            return rebuild_udp(packet, len, checksum, out, cap, at);
     }
-    if (packet->protocol == PROTOCOL_TCP && read_tcp(packet, &len) == LK_READ
-        && verdict(packet, packet->len, 16) == LK_RIGHT)
-        return rebuild_tcp(packet, len, out, cap, at);
+    if (packet->protocol == PROTOCOL_TCP && read_tcp(packet, &len) == LK_READ) {
+        uint64_t pseudo = pseudo_total(addresses_total(packet), packet->protocol, packet->len);
+        uint64_t of_payload = total(packet->payload + len, packet->len - len);
+        if (holds(around(around(pseudo, total_of_words(packet->payload, len)), of_payload)))
+            return rebuild_tcp(packet, len, of_payload, out, cap, at);
+    }
     return copy(packet->payload, packet->len, out, cap, at);
 }
 

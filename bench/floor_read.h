@@ -1,4 +1,5 @@
 /* lk_read_frame and lk_read_tcp_options by hand: straight code with all checks that the library makes. */
+#include <tmmintrin.h>
 #include "../c/ip_wire.h"
 #include "sums.h"
 
@@ -110,8 +111,16 @@ INLINE size_t option_len(const uint8_t *ptr, const uint8_t *end)
     return len;
 }
 
+/* The usual options of data: two of no operation and a timestamp. */
+INLINE int is_stamp_alone(const uint8_t *ptr, const uint8_t *end)
+{
+    return end - ptr == 12 && load_32(ptr) == 0x0a080101;
+}
+
 INLINE int has_options(const uint8_t *ptr, const uint8_t *end)
 {
+    if (is_stamp_alone(ptr, end))
+        return 1;
     while (ptr != end && *ptr != OPTION_END) {
         size_t len = *ptr == OPTION_NONE ? 1 : option_len(ptr, end);
         if (!len)
@@ -176,6 +185,12 @@ INLINE void store_option(const uint8_t *ptr, size_t len, struct lk_tcp_options *
 INLINE int read_options(const uint8_t *ptr, const uint8_t *end, struct lk_tcp_options *options)
 {
     *options = (struct lk_tcp_options){.tsval = 0};
+    if (is_stamp_alone(ptr, end)) {
+        options->has_timestamp = 1;
+        options->tsval = swap_32(load_32(ptr + 4));
+        options->tsecr = swap_32(load_32(ptr + 8));
+        return 1;
+    }
     for (size_t len; ptr != end && *ptr != OPTION_END; ptr += len) {
         len = *ptr == OPTION_NONE ? 1 : option_len(ptr, end);
         if (!len)
@@ -339,9 +354,9 @@ INLINE int store_arp(const uint8_t *ptr, size_t len, struct lk_frame *frame)
     return LK_READ;
 }
 
-INLINE int store_network(const uint8_t *ptr, size_t len, struct lk_frame *frame)
+INLINE int store_network(uint16_t type, const uint8_t *ptr, size_t len, struct lk_frame *frame)
 {
-    switch (frame->ethernet.type) {
+    switch (type) {
     case TYPE_ARP:
         return store_arp(ptr, len, frame);
     case TYPE_IPV4:
@@ -361,15 +376,29 @@ INLINE void clear(struct lk_frame *frame)
     to[0] = to[1] = to[2] = to[3] = to[4] = to[5] = to[6] = to[7] = to[8] = (pair){0};
 }
 
+/* By one shuffle of 16 bytes. The last two clear the first field behind the header. */
+INLINE void store_ethernet(const uint8_t *ptr, struct lk_frame *frame)
+{
+    _Static_assert(offsetof(struct lk_frame, arp) == offsetof(struct lk_frame, ethernet) + 14, "ARP's operation is cleared");
+    const __m128i order = _mm_setr_epi8(6, 7, 8, 9, 10, 11, 0, 1, 2, 3, 4, 5, 13, 12, -1, -1);
+    __m128i bytes = _mm_loadu_si128((const __m128i *)ptr);
+    _mm_storeu_si128((__m128i *)&frame->ethernet, _mm_shuffle_epi8(bytes, order));
+}
+
 int lk_read_frame(const uint8_t *ptr, size_t len, struct lk_frame *frame)
 {
     clear(frame);
     frame->payload_len = len;
     if (len < ETHERNET_LEN)
         return frame->reason = LK_TOO_SHORT;
-    memcpy(frame->ethernet.dst, ptr, 6);
-    memcpy(frame->ethernet.src, ptr + 6, 6);
-    frame->ethernet.type = swap_16(load_16(ptr + 12));
+    uint16_t type = swap_16(load_16(ptr + 12));
+    if (len >= 16) {
+        store_ethernet(ptr, frame);
+    } else {
+        memcpy(frame->ethernet.dst, ptr, 6);
+        memcpy(frame->ethernet.src, ptr + 6, 6);
+        frame->ethernet.type = type;
+    }
     follow(frame, ETHERNET_LEN, len - ETHERNET_LEN);
-    return frame->reason = (uint8_t)store_network(ptr + ETHERNET_LEN, len - ETHERNET_LEN, frame);
+    return frame->reason = (uint8_t)store_network(type, ptr + ETHERNET_LEN, len - ETHERNET_LEN, frame);
 }

@@ -7,6 +7,7 @@ import statistics
 GROUPS = [
     ("checksum", r"checksum", 0.90, None),
     ("read a frame", r"read (ARP|IPv4|IPv6|(UDP|TCP)/.*)", 0.80, 0.60),
+    ("read mixed frames", r"read mixed frames.*", None, None),
     ("read TCP options", r"read options .*", 0.80, 0.60),
     ("emit one layer", r"emit (?!frame).*", 0.90, 0.70),
     ("emit a whole frame", r"emit frame .*", 0.90, 0.70),
@@ -21,8 +22,8 @@ def rows(table):
     """(call, speed, floor / ours) of each line of a Markdown table; a ratio that it lacks is None."""
     for line in table:
         cells = [cell.strip() for cell in line.strip().strip("|").split("|")]
-        if len(cells) == 7 and cells[1].isdigit():
-            yield cells[0], *(float(cell) if cell else None for cell in cells[5:])
+        if len(cells) == 9 and cells[1].isdigit():
+            yield cells[0], *(float(cell) if cell else None for cell in cells[5:7])
 
 
 def group_of(call):

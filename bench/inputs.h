@@ -122,6 +122,53 @@ static void prepare_tcp(const struct lk_frame *headers, const struct row *row)
 static void prepare_tcp_ipv4(const struct row *row) { prepare_tcp(&ipv4_headers, row); }
 static void prepare_tcp_ipv6(const struct row *row) { prepare_tcp(&ipv6_headers, row); }
 
+/* Frames as of a link, of all kinds and lengths in no order, and which of them is read next. */
+enum { COLD_FRAMES = 1 << 14, COLD_ROOM = 4096 };
+static uint8_t room_of_frames[COLD_FRAMES][COLD_ROOM]; /* more than the caches hold */
+static struct {
+    const uint8_t *ptr;
+    size_t len;
+} frames[COLD_FRAMES];
+static size_t frame_count, next_frame;
+
+/* A quarter are of IPv6, and a fifth are of UDP. Half of the TCP segments have a timestamp. */
+static size_t write_any_frame(uint32_t random, uint8_t *to)
+{
+    static const uint16_t sizes[] = {0, 0, 6, 48, 120, 512, 1400, MOST_PAYLOAD};
+    struct lk_frame of = random % 4 ? ipv4_headers : ipv6_headers;
+    struct lk_tcp_options options = {.has_timestamp = random >> 2 & 1};
+    size_t len = sizes[random >> 3 & 7];
+    of.tcp = (struct lk_tcp){.flags = LK_ACK, .window_len = 502};
+    if (random / 64 % 5 == 0)
+        return (size_t)lk_emit_udp_frame(&of, payload, len, to, COLD_ROOM);
+    return (size_t)lk_emit_tcp_frame(&of, &options, payload, len, to, COLD_ROOM);
+}
+
+/* Each frame is behind the one before, or in a page of its own. */
+static void prepare_frames(size_t count, int apart)
+{
+    uint32_t random = 1;
+    uint8_t *to = room_of_frames[0];
+    prepare_bytes(NULL);
+    frame_count = count;
+    for (size_t i = 0; i < count; i++) {
+        random = random * 1664525 + 1013904223;
+        if (apart)
+            to = room_of_frames[i];
+        frames[i].ptr = to;
+        frames[i].len = write_any_frame(random >> 12, to);
+        to += frames[i].len;
+    }
+}
+
+static void prepare_mixed(const struct row *row) { prepare_frames(row->size, 0); }
+
+static void prepare_cold(const struct row *row)
+{
+    (void)row;
+    prepare_frames(COLD_FRAMES, 1);
+}
+
 /* Addresses of four kinds: eight groups of all lengths, zeros in one place and in two, and an IPv4
  * address in the last four octets. */
 static struct lk_addr addresses[ADDRESSES];

@@ -12,6 +12,17 @@ static uint64_t call_read(const struct library *library, const struct row *row)
     return (uint64_t)library->read_frame(bytes, frame_len, &out.frame);
 }
 
+/* Reads as many frames as the row says. */
+static uint64_t call_read_frames(const struct library *library, const struct row *row)
+{
+    uint64_t answers = 0;
+    for (size_t i = 0; i < row->size; i++) {
+        answers += (uint64_t)library->read_frame(frames[next_frame].ptr, frames[next_frame].len, &out.frame);
+        next_frame = (next_frame + 1) % frame_count;
+    }
+    return answers;
+}
+
 static uint64_t call_read_options(const struct library *library, const struct row *row)
 {
     (void)row;
@@ -164,6 +175,12 @@ static const size_t sizes[] = {0, 64, MOST_PAYLOAD};
 static const struct row option_rows[] = {{"read options", prepare_tcp_ipv4, call_read_options, .computed = 1}};
 static const size_t no_size[] = {0};
 
+static const struct row mixed_rows[] = {
+    {"read mixed frames", prepare_mixed, call_read_frames, .computed = 1},
+    {"read mixed frames, cold", prepare_cold, call_read_frames, .computed = 1},
+};
+static const size_t mixed_counts[] = {1024};
+
 static const struct row arp_rows[] = {
     {"read ARP", prepare_arp, call_read, .computed = 1},
     {"emit ARP", prepare_arp, call_emit_arp, .computed = 1},
@@ -233,7 +250,7 @@ struct block {
 
 static const struct block packet_blocks[] = {
     BLOCK(checksum_rows, checksum_sizes), BLOCK(arp_rows, arp_sizes),     BLOCK(ip_rows, sizes),
-    BLOCK(udp_rows, sizes),               BLOCK(contains_rows, no_size),
+    BLOCK(udp_rows, sizes),               BLOCK(contains_rows, no_size),  BLOCK(mixed_rows, mixed_counts),
 };
 static const struct block tcp_blocks[] = {BLOCK(tcp_rows, sizes), BLOCK(option_rows, no_size)};
 static const struct block address_block = BLOCK(address_rows, address_counts);

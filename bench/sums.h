@@ -56,6 +56,25 @@ INLINE uint64_t add_32_bytes(uint64_t sum, const uint8_t *ptr)
     return sum;
 }
 
+INLINE uint64_t add_16_bytes(uint64_t sum, const uint8_t *ptr)
+{
+    __asm__("addq (%1), %0\n\tadcq 8(%1), %0\n\tadcq $0, %0"
+            : "+r"(sum)
+            : "r"(ptr), "m"(*(const uint8_t(*)[16])ptr)
+            : "cc");
+    return sum;
+}
+
+INLINE uint64_t add_64_bytes(uint64_t sum, const uint8_t *ptr)
+{
+    __asm__("addq (%1), %0\n\tadcq 8(%1), %0\n\tadcq 16(%1), %0\n\tadcq 24(%1), %0\n\t"
+            "adcq 32(%1), %0\n\tadcq 40(%1), %0\n\tadcq 48(%1), %0\n\tadcq 56(%1), %0\n\tadcq $0, %0"
+            : "+r"(sum)
+            : "r"(ptr), "m"(*(const uint8_t(*)[64])ptr)
+            : "cc");
+    return sum;
+}
+
 INLINE uint64_t total_of_few(const uint8_t *ptr, size_t len)
 {
     uint64_t sum = len & 1 ? ptr[len - 1] : 0;
@@ -64,29 +83,33 @@ INLINE uint64_t total_of_few(const uint8_t *ptr, size_t len)
     return len & 4 ? sum + load_32(ptr) : sum;
 }
 
-/* By two chains. What is left behind the last whole eight bytes is the end of the last eight bytes. */
+/* From 128 bytes on by two chains. What is behind the last whole eight bytes is the end of the last eight bytes. */
 INLINE uint64_t total(const uint8_t *ptr, size_t len)
 {
     if (len < 8)
         return total_of_few(ptr, len);
     uint64_t sum = len % 8 ? load_64(ptr + len - 8) >> (64 - 8 * (len % 8)) : 0;
-    uint64_t other = 0;
-    for (; len >= 64; len -= 64, ptr += 64) {
-        sum = add_32_bytes(sum, ptr);
-        other = add_32_bytes(other, ptr + 32);
+    if (len >= 128) {
+        uint64_t other = 0;
+        for (; len >= 128; len -= 128, ptr += 128) {
+            sum = add_64_bytes(sum, ptr);
+            other = add_64_bytes(other, ptr + 64);
+        }
+        sum = around(sum, other);
+    }
+    if (len & 64) {
+        sum = add_64_bytes(sum, ptr);
+        ptr += 64;
     }
     if (len & 32) {
-        other = add_32_bytes(other, ptr);
+        sum = add_32_bytes(sum, ptr);
         ptr += 32;
     }
     if (len & 16) {
-        sum = around(sum, load_64(ptr));
-        other = around(other, load_64(ptr + 8));
+        sum = add_16_bytes(sum, ptr);
         ptr += 16;
     }
-    if (len & 8)
-        sum = around(sum, load_64(ptr));
-    return around(sum, other);
+    return len & 8 ? around(sum, load_64(ptr)) : sum;
 }
 
 /* For what is rare, so that its registers are not kept free elsewhere. */
@@ -123,6 +146,15 @@ static OUTLINE uint64_t total_of_many(const uint8_t *ptr, size_t len)
 INLINE uint64_t total_of_20(const uint8_t *ptr)
 {
     return (uint64_t)load_32(ptr) + load_32(ptr + 4) + load_32(ptr + 8) + load_32(ptr + 12) + load_32(ptr + 16);
+}
+
+/* Of a header of 20 to 60 octets in words of 4. */
+INLINE uint64_t total_of_words(const uint8_t *ptr, size_t len)
+{
+    uint64_t sum = total_of_20(ptr);
+    for (size_t i = 20; i < len; i += 4)
+        sum += load_32(ptr + i);
+    return sum;
 }
 
 /* The sum of a total, in the order of memory. */

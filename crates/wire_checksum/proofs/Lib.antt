@@ -1,5 +1,5 @@
+pub mod Chains
 pub mod Ends
-pub mod Fours
 pub mod Lanes
 pub mod Parts
 pub mod PseudoSums

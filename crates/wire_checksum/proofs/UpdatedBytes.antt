@@ -1,5 +1,5 @@
 -- The checksum of bytes, updated after a part of what it covers changed.
-use Rattle.std.proofs.Common.{ℕ, zero, suc, ◌≡◌, ◌+◌, ◌-◌, ◌*◌, ◌<◌, ◌≤◌, List, length, take, sum, refl, sym, ap, ◌∙◌, zero-add, arith}
+use Rattle.std.proofs.Common.{ℕ, zero, suc, ◌≡◌, ◌+◌, ◌*◌, ◌<◌, ◌≤◌, List, length, take, sum, refl, sym, ap, ◌∙◌, zero-add, arith}
 use Rattle.wire_checksum.specs.WordSum.{residue, sum_of_bytes, updated, words}
 use Rattle.wire_checksum.proofs.Parts.{sum-take-with_field, sum-words-with_field}
 use Rattle.wire_checksum.proofs.Residues.{residue-of_zero}

@@ -6,7 +6,7 @@ ghost use Rattle.wire_ends.specs.IpAddress.{octets_of, version_of};
 ghost use Rattle.wire_checksum.specs.PseudoHeader.{pseudo_header_bytes, with_pseudo_header};
 ghost use Rattle.wire_checksum.specs.WordSum.{residue, sum_of, sum_of_bytes, updated};
 
-use crate::totals::{around, finish, total, total_here, total_of_words};
+use crate::totals::{around, finish, sum_here, total, total_of_words};
 use wire_addr::{Ipv4Address, Ipv6Address};
 use wire_ends::{IpAddress, IpProtocol};
 
@@ -48,7 +48,7 @@ pub fn data(bytes: &[u8]) -> u16
 {
     match <&[u8; 20]>::try_from(bytes) {
         Ok(header) => finish(total_of_words(header)),
-        Err(_) => finish(total_here(bytes)),
+        Err(_) => sum_here(bytes),
     }
 }
 

@@ -51,47 +51,57 @@ pub fn around(a: u64, b: u64) -> u64
     (sum % (1 << 64)) as u64 + (sum >> 64) as u64
 }
 
-/// The total of bytes, as a call. Inlined into `checksum::packet`, `total_here` makes `parse` larger and
-/// slower, also where no checksum is verified.
+/// The sum of bytes. It is inlined for 8 to 255 bytes, and a call for other lengths.
+#[inline(always)]
+pub fn sum_here(bytes: &[u8]) -> u16
+    ensures { result ≡ sum_of_bytes bytes.now }
+{
+    if bytes.len() < 8 || bytes.len() >= 256 {
+        sum_apart(bytes)
+    } else {
+        finish(one_chain(bytes, tail(bytes)))
+    }
+}
+
+// Each of these calls is the last step of its caller, so that no caller keeps a stack frame for it.
+#[inline(never)]
+fn sum_apart(bytes: &[u8]) -> u16
+    ensures { result ≡ sum_of_bytes bytes.now }
+{
+    if bytes.len() < 8 || bytes.len() >= 2048 {
+        sum_of_total(bytes)
+    } else {
+        finish(by_words(bytes, tail(bytes)))
+    }
+}
+
+#[inline(never)]
+fn sum_of_total(bytes: &[u8]) -> u16
+    ensures { result ≡ sum_of_bytes bytes.now }
+{
+    finish(total(bytes))
+}
+
+/// The total of bytes, as a call. Inlined into `checksum::packet`, it makes `parse` larger and slower,
+/// also where no checksum is verified.
 #[inline(never)]
 pub fn total(bytes: &[u8]) -> u64
     ensures { residue (256 * result) ≡ sum_of_bytes bytes.now }
 {
-    total_here(bytes)
-}
-
-/// The total of bytes, inlined.
-#[inline(always)]
-pub fn total_here(bytes: &[u8]) -> u64
-    ensures { residue (256 * result) ≡ sum_of_bytes bytes.now }
-{
-    if bytes.len() < 8 || bytes.len() >= 320 {
-        apart(bytes)
+    if bytes.len() < 8 || bytes.len() >= 256 {
+        total_apart(bytes)
     } else {
         one_chain(bytes, tail(bytes))
     }
 }
 
-// The total of fewer than 8 or at least 320 bytes. It is out of line, so that the code for all
-// other lengths has no call.
 #[inline(never)]
-fn apart(bytes: &[u8]) -> u64
+fn total_apart(bytes: &[u8]) -> u64
     ensures { residue (256 * result) ≡ sum_of_bytes bytes.now }
 {
     if bytes.len() < 8 {
         plain(bytes)
-    } else {
-        long(bytes)
-    }
-}
-
-// The total of at least 8 bytes.
-#[inline]
-fn long(bytes: &[u8]) -> u64
-    requires { 8 ≤ length bytes.now }
-    ensures { residue (256 * result) ≡ sum_of_bytes bytes.now }
-{
-    if bytes.len() < 2048 {
+    } else if bytes.len() < 2048 {
         by_words(bytes, tail(bytes))
     } else {
         by_vectors(bytes)
@@ -108,11 +118,11 @@ fn by_vectors(bytes: &[u8]) -> u64
 }
 
 // Adds all whole words of 8 bytes to a total.
-#[inline]
+#[inline(always)]
 fn by_words(bytes: &[u8], start: u64) -> u64
     ensures { residue (256 * result) ≡ residue (256 * start + sum (words (take (length bytes.now / 8 * 8) bytes.now))) }
 {
-    let (front, rest) = bytes.split_at(bytes.len() / 64 * 64);
+    let (front, rest) = bytes.split_at(bytes.len() / 128 * 128);
     two_chains(front, one_chain(rest, start))
 }
 
@@ -161,31 +171,57 @@ fn plain(bytes: &[u8]) -> u64
     }
 }
 
-// Adds a word and a carry to a number. Returns the low 64 bits and the carry.
-#[inline]
-fn add(number: u64, word: u64, carry: u64) -> (u64, u64)
-    requires { carry ≤ 1 }
-    ensures value { result.0 + 18446744073709551616 * result.1 ≡ number + word + carry }
-    ensures carry { result.1 ≤ 1 }
+// Adds a word to a chain, which is a number and the carry that the last addition left. The carry is
+// added with the word.
+#[inline(always)]
+fn add(chain: (u64, u64), word: &[u8; 8]) -> (u64, u64)
+    requires { chain.0 + chain.1 < 2 ^ 64 }
+    ensures value { residue (256 * (result.0 + result.1)) ≡ residue (256 * (chain.0 + chain.1) + sum (words word.now)) }
+    ensures small { result.0 + result.1 < 2 ^ 64 }
 {
-    let sum = u128::from(number) + u128::from(word) + u128::from(carry);
+    let sum = u128::from(chain.0) + u128::from(u64::from_le_bytes(*word)) + u128::from(chain.1);
     ((sum % (1 << 64)) as u64, (sum >> 64) as u64)
 }
 
-// Adds four words and a carry to a number, each word with the carry of the one before. Returns the
-// low 64 bits and the last carry.
-#[inline]
-fn add_four(number: u64, chunk: &[u8; 32], carry: u64) -> (u64, u64)
-    requires { carry ≤ 1 }
-    ensures value { residue (256 * (result.0 + result.1)) ≡ residue (256 * (number + carry) + sum (words chunk.now)) }
-    ensures carry { result.1 ≤ 1 }
-    ensures small { result.0 + result.1 < 2 ^ 64 + carry }
+// Adds two words to a chain.
+#[inline(always)]
+fn add_two(chain: (u64, u64), bytes: &[u8; 16]) -> (u64, u64)
+    requires { chain.0 + chain.1 < 2 ^ 64 }
+    ensures value { residue (256 * (result.0 + result.1)) ≡ residue (256 * (chain.0 + chain.1) + sum (words bytes.now)) }
+    ensures small { result.0 + result.1 < 2 ^ 64 }
 {
-    let (words, _) = chunk.as_chunks::<8>();
-    let (sum, carry) = add(number, u64::from_le_bytes(words[0]), carry);
-    let (sum, carry) = add(sum, u64::from_le_bytes(words[1]), carry);
-    let (sum, carry) = add(sum, u64::from_le_bytes(words[2]), carry);
-    add(sum, u64::from_le_bytes(words[3]), carry)
+    let (halves, _) = bytes.as_chunks::<8>();
+    add(add(chain, &halves[0]), &halves[1])
+}
+
+// Adds four words to a chain.
+#[inline(always)]
+fn add_four(chain: (u64, u64), bytes: &[u8; 32]) -> (u64, u64)
+    requires { chain.0 + chain.1 < 2 ^ 64 }
+    ensures value { residue (256 * (result.0 + result.1)) ≡ residue (256 * (chain.0 + chain.1) + sum (words bytes.now)) }
+    ensures small { result.0 + result.1 < 2 ^ 64 }
+{
+    let (halves, _) = bytes.as_chunks::<16>();
+    add_two(add_two(chain, &halves[0]), &halves[1])
+}
+
+// Adds four words to a total.
+#[inline(always)]
+fn add_chunk(start: u64, bytes: &[u8; 32]) -> u64
+    ensures { residue (256 * result) ≡ residue (256 * start + sum (words bytes.now)) }
+{
+    let (sum, carry) = add_four((start, 0), bytes);
+    sum + carry
+}
+
+// Adds eight words to a total.
+#[inline(always)]
+fn add_eight(start: u64, bytes: &[u8; 64]) -> u64
+    ensures { residue (256 * result) ≡ residue (256 * start + sum (words bytes.now)) }
+{
+    let (halves, _) = bytes.as_chunks::<32>();
+    let (sum, carry) = add_four(add_four((start, 0), &halves[0]), &halves[1]);
+    sum + carry
 }
 
 // Adds all whole words of 8 bytes to a total. The words behind the chunks come first, which needs
@@ -197,8 +233,7 @@ fn one_chain(bytes: &[u8], start: u64) -> u64
     let (chunks, rest) = bytes.as_chunks::<32>();
     let mut sum = last_words(rest, start);
     for chunk in chunks {
-        let (next, carry) = add_four(sum, chunk, 0);
-        sum = next + carry;
+        sum = add_chunk(sum, chunk);
     }
     sum
 }
@@ -223,26 +258,22 @@ fn last_words(bytes: &[u8], start: u64) -> u64
     sum
 }
 
-// Adds whole chunks of eight words to a total. Each half of a chunk has its own sum, so that one
-// addition need not wait for the other. The carry of the first half goes into the second.
+// Adds whole blocks of 128 bytes to a total. Each half of a block has its own sum, so that one addition
+// need not wait for the other.
 #[inline]
 fn two_chains(bytes: &[u8], start: u64) -> u64
-    requires { length bytes.now % 64 ≡ 0 }
+    requires { length bytes.now % 128 ≡ 0 }
     ensures { residue (256 * result) ≡ residue (256 * start + sum (words bytes.now)) }
 {
-    let (chunks, _) = bytes.as_chunks::<64>();
+    let (blocks, _) = bytes.as_chunks::<128>();
     let mut first = start;
     let mut second: u64 = 0;
-    let mut carries: u64 = 0;
-    for chunk in chunks {
-        let (halves, _) = chunk.as_chunks::<32>();
-        let (sum, carry) = add_four(first, &halves[0], 0);
-        first = sum;
-        let (sum, carry) = add_four(second, &halves[1], carry);
-        second = sum;
-        carries += carry;
+    for block in blocks {
+        let (halves, _) = block.as_chunks::<64>();
+        first = add_eight(first, &halves[0]);
+        second = add_eight(second, &halves[1]);
     }
-    around(around(first, second), carries)
+    around(first, second)
 }
 
 // The total of whole vectors of 32 bytes.

@@ -1,4 +1,4 @@
-use Rattle.std.proofs.Common.{◌≡◌, ◌+◌, ◌-◌, ℕ, sym, ap, ◌∙◌, arith}
+use Rattle.std.proofs.Common.{◌≡◌, ◌+◌, ◌-◌, ℕ, ap, ◌∙◌, arith}
 use Rattle.wire_checksum.specs.WordSum.{residue, updated}
 use Rattle.wire_checksum.proofs.Updated.{stays_computed, stays_valid, updated-small}
 use Rattle.wire_checksum.proofs.checksum.update.Goals as goal

@@ -2,7 +2,7 @@ use Rattle.std.proofs.Common.{◌≡◌, ◌+◌, ◌*◌, ◌%◌, ◌++◌, �
 use Rattle.wire_ends.specs.IpAddress.{octets_of}
 use Rattle.wire_checksum.specs.PseudoHeader.{pseudo_header_bytes}
 use Rattle.wire_checksum.specs.WordSum.{residue, sum_of_bytes}
-use Rattle.wire_checksum.proofs.Fours.{and_more}
+use Rattle.wire_checksum.proofs.Chains.{and_more}
 use Rattle.wire_checksum.proofs.PseudoSums.{total-joins, total-with_pseudo_header}
 use Rattle.wire_checksum.proofs.for_emit.packet.Goals as goal
 

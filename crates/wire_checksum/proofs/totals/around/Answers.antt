@@ -1,6 +1,6 @@
 use Rattle.std.proofs.Common.{◌+◌, ◌*◌, ◌/◌, ◌%◌, ap, ◌∙◌, arith}
 use Rattle.wire_checksum.specs.WordSum.{residue}
-use Rattle.wire_checksum.proofs.Fours.{carried}
+use Rattle.wire_checksum.proofs.Chains.{carried}
 use Rattle.wire_checksum.proofs.totals.around.Goals as goal
 
 pub returns : goal.returns

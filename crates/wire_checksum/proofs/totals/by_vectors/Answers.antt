@@ -1,5 +1,5 @@
 use Rattle.std.proofs.Common.{◌*◌, ◌/◌, length, arith}
-use Rattle.wire_checksum.proofs.Fours.{ends}
+use Rattle.wire_checksum.proofs.Chains.{ends}
 use Rattle.wire_checksum.proofs.totals.by_vectors.Goals as goal
 
 pub returns : goal.returns

@@ -1,4 +1,4 @@
-use Rattle.std.proofs.Common.{ℕ, ◌≡◌, ◌+◌, ◌-◌, ◌*◌, ◌/◌, ◌%◌, length, sum, take, drop, ◌∙◌, ap, refl, sym, arith}
+use Rattle.std.proofs.Common.{◌≡◌, ◌+◌, ◌-◌, ◌*◌, ◌/◌, ◌%◌, length, sum, take, drop, ◌∙◌, ap, refl, sym, arith}
 use Rattle.std.proofs.lemmas.List.{length-drop, length-take-le}
 use Rattle.std.proofs.Math.Seq.{take-add}
 use Rattle.wire_checksum.specs.WordSum.{words, residue}
@@ -11,7 +11,7 @@ returns c =
     let bytes = c.args.bytes.now in
     let front = c.split_at.result.0.now in
     let rest = c.split_at.result.1.now in
-    let n = length bytes / 64 * 64 in
+    let n = length bytes / 128 * 128 in
     let m = length rest / 8 * 8 in
     let long : length rest ≡ length bytes - n = ap length c.split_at.ensures.back ∙ length-drop n bytes in
     let whole : length bytes / 8 * 8 ≡ n + m = omega (arith, long) in
