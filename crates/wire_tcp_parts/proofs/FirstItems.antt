@@ -36,7 +36,8 @@ no_content : (content : List ℕ) → length content ≡ 0 → content ≡ []
 no_content [] e = refl
 no_content (x ∷ xs) e = absurd (omega arith)
 
-is_item : (kind : ℕ) (content : List ℕ) → kind ≢ 0 → kind ≢ 1 → is_sized kind (length content) ≡ true → IsItem (item kind content)
+-- a kind and data of a length that the kind allows are an item
+pub is_item : (kind : ℕ) (content : List ℕ) → kind ≢ 0 → kind ≢ 1 → is_sized kind (length content) ≡ true → IsItem (item kind content)
 is_item kind content some other h = record {
   above = omega (arith, some);
   below = grind (arith, nat_tests);

@@ -1,5 +1,5 @@
 -- How one more item changes the summary of the options.
-use Rattle.std.proofs.Common.{◌≡◌, ℕ, Bool, true, false, cond, eqb, ◌&&◌, List, [], ◌∷◌, ◌++◌, length, drop, Option, Some, None, is_some, Result, Ok, Err, OnErr, arith, ◌<◌, refl, sym, ap, ◌∙◌}
+use Rattle.std.proofs.Common.{◌≡◌, ℕ, Bool, true, false, cond, eqb, ◌&&◌, List, [], ◌∷◌, ◌++◌, length, get_or, drop, Option, Some, None, is_some, Result, Ok, Err, OnErr, arith, ◌<◌, refl, sym, ap, ◌∙◌}
 use Rattle.std.specs.Option.{option_or, option_map, option_map_or}
 use Rattle.std.proofs.lemmas.Bool.{eqb-true, eq-eqb, false_from_ne_true}
 use Rattle.byteorder.specs.Endian.{big_number}
@@ -98,6 +98,11 @@ noted_stamp s xs i e kind size =
 -- the number in a single byte
 pub scale_is : (content : List ℕ) (n : ℕ) → content ≡ n ∷ [] → n ≡ big_number 1 content
 scale_is content n e = let b = ap (big_number 1) e in omega (arith, b)
+
+pub only_byte : (content : List ℕ) → length content ≡ 1 → get_or content 0 0 ≡ big_number 1 content
+only_byte [] e = absurd (omega arith)
+only_byte (x ∷ []) e = scale_is (x ∷ []) x refl
+only_byte (x ∷ y ∷ l) e = absurd (omega arith)
 
 -- an error and a fact
 pub on_err : {X E P : Type 0} (r : Result X E) → P → OnErr r P
