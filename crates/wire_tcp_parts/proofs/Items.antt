@@ -37,6 +37,19 @@ IsItem-bare = record {
   sack_ranges = λ e. absurd (omega (arith, e));
 }
 
+-- whole blocks are the data of a SACK item
+pub IsItem-ranges : (kind : ℕ) (content : List ℕ) (n : ℕ) → kind ≡ 5 → 0 < n → length content ≡ 8 * n → length content ≤ 253 → IsItem (item kind content)
+IsItem-ranges kind content n k some whole size = record {
+  above = omega arith;
+  below = omega arith;
+  size = size;
+  no_operation = λ e. absurd (omega (arith, e));
+  segment_size = λ e. absurd (omega (arith, e));
+  window_scale = λ e. absurd (omega (arith, e));
+  sack_permitted = λ e. absurd (omega (arith, e));
+  sack_ranges = λ _. (n, some, whole);
+}
+
 -- bytes that begin with an item begin with the option that the item parses as
 pub Begins-from_item : (o : TcpOption) (bytes rest : List ℕ) (i : Item) → IsItem i → IsReading o i → bytes ≡ text i ++ rest → Begins o bytes rest
 Begins-from_item EndOfList bytes rest i is reading e = absurd reading
