@@ -1,10 +1,10 @@
 //! The parts of printed addresses, appended to a string of fixed capacity.
 
-ghost use Rattle.std.specs.Prelude.{◌≡◌, ◌+◌, ◌*◌, ◌/◌, ◌%◌, ◌<◌, ◌≤◌, [], ◌∷◌, ◌++◌, decimal, drop, length, take};
+ghost use Rattle.std.specs.Prelude.{◌≡◌, ◌+◌, ◌*◌, ◌/◌, ◌%◌, ◌<◌, ◌≤◌, [], ◌∷◌, ◌++◌, decimal, drop, length};
 ghost use Rattle.std.specs.Char.{digit_char};
 ghost use Rattle.std.specs.Str.{IsAscii};
 ghost use Rattle.arrayvec.specs.ArrayString.{array_string_len};
-ghost use Rattle.wire_addr.specs.Printed.{colon_hex, dotted, hex, hex_byte};
+ghost use Rattle.wire_addr.specs.Printed.{WritesAt, colon_hex, dotted, hex, hex_byte};
 
 use arrayvec::ArrayString;
 
@@ -42,8 +42,7 @@ fn decimal_digits(n: u8) -> [u8; 3]
 #[inline(always)]
 fn write_bytes(out: &mut [u8], at: usize, bytes: &[u8]) -> usize
     requires { at + length bytes.now ≤ length out.old }
-    ensures end { result ≡ at + length bytes.now }
-    ensures bytes { out.new ≡ take at out.old ++ bytes.now ++ drop (at + length bytes.now) out.old }
+    ensures { WritesAt out.old bytes.now at out.new result }
 {
     let end = at + bytes.len();
     out[at..end].copy_from_slice(bytes);
@@ -54,8 +53,7 @@ fn write_bytes(out: &mut [u8], at: usize, bytes: &[u8]) -> usize
 #[inline(always)]
 fn write_decimal(out: &mut [u8], at: usize, n: u8) -> usize
     requires { at + 3 ≤ length out.old }
-    ensures end { result ≡ at + length (decimal n) }
-    ensures bytes { out.new ≡ take at out.old ++ decimal n ++ drop (at + length (decimal n)) out.old }
+    ensures written { WritesAt out.old (decimal n) at out.new result }
     ensures most { result ≤ at + 3 }
 {
     let digits = decimal_digits(n);
