@@ -3,7 +3,7 @@
 ghost use Rattle.std.specs.Prelude.{◌≡◌, ◌≤◌, ◌∷◌, ◌++◌, ◌↔◌, IfSome, IsSomeAnd, IsTrue, Some, decimal, length, take};
 ghost use Rattle.ip_wire.specs.IpAddress.{address_text, version_of};
 ghost use Rattle.ip_wire.specs.IpCidr.{IsIn, cidr_text};
-ghost use Rattle.ip_wire.specs.Printed.{slash};
+ghost use Rattle.ip_wire.specs.Printed.{dotted, slash};
 ghost use Rattle.c_structs.specs.Addresses.{addr_of, block_of, block_struct, endpoint_struct, ip_endpoint_of, ip_of, pair_of};
 ghost use Rattle.c_structs.specs.Written.{Writes};
 
@@ -12,6 +12,9 @@ use crate::types::{Addr, Block, Endpoint};
 use arrayvec::ArrayString;
 use ip_wire::{IpAddress, IpCidr, IpEndpoint, Ipv4Address, Ipv6Address};
 use itoa::Buffer;
+
+// The length of the longest printed IPv4 address.
+const MAX_IPV4_TEXT_LEN: usize = 15;
 
 impl Addr {
     /// The struct of an address.
@@ -147,9 +150,19 @@ pub fn print_address(address: &IpAddress, out: &mut [u8]) -> isize
     ensures { Writes (Some (address_text address.now)) out.old out.new result }
 {
     match address {
-        IpAddress::Ipv4(address) => print(address.text().as_str(), out),
+        IpAddress::Ipv4(address) => print_ipv4(address, out),
         IpAddress::Ipv6(address) => print(address.text().as_str(), out),
     }
+}
+
+// Prints an IPv4 address, straight to `out` if there is room for the longest text.
+fn print_ipv4(address: &Ipv4Address, out: &mut [u8]) -> isize
+    ensures { Writes (Some (dotted address.now)) out.old out.new result }
+{
+    if out.len() < MAX_IPV4_TEXT_LEN {
+        return print(address.text().as_str(), out);
+    }
+    address.write_text(out) as isize
 }
 
 /// Prints a block.

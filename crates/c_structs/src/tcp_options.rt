@@ -1,9 +1,10 @@
 //! The options of a TCP header, stored in the struct of C.
 
-ghost use Rattle.std.specs.Prelude.{◌≡◌, List, MatchOption};
+ghost use Rattle.std.specs.Prelude.{◌≡◌, List, pos};
 ghost use Rattle.ip_wire.specs.TcpItems.{Item};
 ghost use Rattle.ip_wire.specs.TcpSummary.{summary_of};
 ghost use Rattle.c_structs.specs.TcpOptions.{ReadsItems, range_of, tcp_options_of};
+ghost use Rattle.c_structs.specs.Written.{IsRead, flag};
 
 use crate::types::{SackRange, TcpOptions};
 use ip_wire::{TcpOptionSummary, TcpPacket};
@@ -24,23 +25,31 @@ impl SackRange {
 }
 
 impl TcpOptions {
-    /// The options of a header. `None` if its lengths are wrong, or if an option before the end
-    /// mark is malformed.
-    pub fn read(header: &[u8]) -> Option<TcpOptions>
-        ensures { MatchOption result ((items : List Item) → ¬ (ReadsItems header.now items))
-            (λ v. (items : List Item) × ReadsItems header.now items × (v ≡ tcp_options_of items)) }
+    /// Stores the options of a header, and returns `true`. Returns `false` and stores nothing if its
+    /// lengths are wrong, or if an option before the end mark is malformed.
+    pub fn read(&mut self, header: &[u8]) -> bool
+        ensures { IsRead ReadsItems tcp_options_of header.now self.old self.new (pos (flag result)) }
     {
         let packet = match TcpPacket::new_checked(header) {
             Ok(packet) => packet,
-            Err(_) => return None,
+            Err(_) => return false,
         };
+        // The common case has stores of its own, which the compiler does not merge with those of a walk.
+        if packet.options().is_empty() {
+            *self = TcpOptions::of(&TcpOptionSummary::default());
+            return true;
+        }
         match packet.options_summary() {
-            Ok(summary) => Some(TcpOptions::of(&summary)),
-            Err(_) => None,
+            Ok(summary) => {
+                *self = TcpOptions::of(&summary);
+                true
+            }
+            Err(_) => false,
         }
     }
 
     // The options with these values.
+    #[inline(always)]
     fn of(summary: &TcpOptionSummary) -> TcpOptions
         ensures { (items : List Item) → summary.now ≡ summary_of items → result ≡ tcp_options_of items }
     {

@@ -41,13 +41,7 @@ pub extern "C" fn lk_read_frame(bytes: &[u8], frame: &mut FrameFields) -> i32
 pub extern "C" fn lk_read_tcp_options(header: &[u8], options: &mut TcpOptions) -> i32
     ensures { IsRead ReadsItems tcp_options_of header.now options.old options.new result }
 {
-    match TcpOptions::read(header) {
-        Some(read) => {
-            *options = read;
-            1
-        }
-        None => 0,
-    }
+    i32::from(options.read(header))
 }
 
 /// Prints a reason. Returns the length of the text, at most 32, or -(1 << 40) if it does not fit or

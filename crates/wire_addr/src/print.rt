@@ -1,10 +1,10 @@
 //! The parts of printed addresses, appended to a string of fixed capacity.
 
-ghost use Rattle.std.specs.Prelude.{◌≡◌, ◌+◌, ◌*◌, ◌<◌, ◌≤◌, ◌++◌, decimal, length};
+ghost use Rattle.std.specs.Prelude.{◌≡◌, ◌+◌, ◌*◌, ◌/◌, ◌%◌, ◌<◌, ◌≤◌, [], ◌∷◌, ◌++◌, decimal, drop, length};
 ghost use Rattle.std.specs.Char.{digit_char};
 ghost use Rattle.std.specs.Str.{IsAscii};
 ghost use Rattle.arrayvec.specs.ArrayString.{array_string_len};
-ghost use Rattle.wire_addr.specs.Printed.{colon_hex, dotted, hex, hex_byte};
+ghost use Rattle.wire_addr.specs.Printed.{WritesAt, colon_hex, dotted, hex, hex_byte};
 
 use arrayvec::ArrayString;
 
@@ -31,13 +31,63 @@ fn push_ascii<const CAP: usize>(text: &mut ArrayString<CAP>, bytes: &[u8])
     text.push_str(unsafe { str::from_utf8_unchecked(bytes) });
 }
 
+/// The decimal digits of a number, the hundreds first.
+fn decimal_digits(n: u8) -> [u8; 3]
+    ensures { result ≡ (48 + n / 100) ∷ (48 + n / 10 % 10) ∷ (48 + n % 10) ∷ [] }
+{
+    [b'0' + n / 100, b'0' + n / 10 % 10, b'0' + n % 10]
+}
+
+/// Copies bytes to `out`, from byte `at` on, and returns where they end.
+#[inline(always)]
+fn write_bytes(out: &mut [u8], at: usize, bytes: &[u8]) -> usize
+    requires { at + length bytes.now ≤ length out.old }
+    ensures { WritesAt out.old bytes.now at out.new result }
+{
+    let end = at + bytes.len();
+    out[at..end].copy_from_slice(bytes);
+    end
+}
+
+/// Writes a number in decimal to `out`, from byte `at` on, and returns where it ends.
+#[inline(always)]
+fn write_decimal(out: &mut [u8], at: usize, n: u8) -> usize
+    requires { at + 3 ≤ length out.old }
+    ensures written { WritesAt out.old (decimal n) at out.new result }
+    ensures most { result ≤ at + 3 }
+{
+    let digits = decimal_digits(n);
+    match n {
+        100.. => write_bytes(out, at, &digits),
+        10.. => write_bytes(out, at, &digits[1..]),
+        _ => write_bytes(out, at, &digits[2..]),
+    }
+}
+
+/// Writes four decimal numbers joined by `.` to the front of `out`, and returns their length.
+pub(crate) fn write_dotted(out: &mut [u8], octets: [u8; 4]) -> usize
+    requires { 15 ≤ length out.old }
+    ensures len { result ≡ length (dotted octets) }
+    ensures bytes { out.new ≡ dotted octets ++ drop result out.old }
+    ensures most { result ≤ 15 }
+{
+    let [a, b, c, d] = octets;
+    let first = write_decimal(out, 0, a);
+    let dot = write_bytes(out, first, b".");
+    let second = write_decimal(out, dot, b);
+    let dot = write_bytes(out, second, b".");
+    let third = write_decimal(out, dot, c);
+    let dot = write_bytes(out, third, b".");
+    write_decimal(out, dot, d)
+}
+
 /// Appends a number in decimal.
 fn push_decimal<const CAP: usize>(text: &mut ArrayString<CAP>, n: u8)
     requires { array_string_len text.old + 3 ≤ CAP }
     ensures bytes { text.new.bytes ≡ text.old.bytes ++ decimal n }
     ensures len { array_string_len text.new ≤ array_string_len text.old + 3 }
 {
-    let digits = [b'0' + n / 100, b'0' + n / 10 % 10, b'0' + n % 10];
+    let digits = decimal_digits(n);
     match n {
         100.. => push_ascii(text, &digits),
         10.. => push_ascii(text, &digits[1..]),

@@ -1,42 +1,24 @@
 -- The first item of bytes, computed.
-use Rattle.std.proofs.Common.{ℕ, ◌≡◌, ◌≢◌, ◌+◌, ◌-◌, ◌/◌, ◌%◌, ◌≤◌, ◌==◌, ◌&&◌, ◌||◌, inl, inr, not, Bool, true, false, List, [], ◌∷◌, ◌++◌, length, drop, take, Option, Some, None, refl, sym, ap, subst, ◌∙◌, length-append, arith}
-use Rattle.std.specs.Prelude.{if◌then◌else◌, nat_le, nat_lt, slice_index}
-use Rattle.std.proofs.lemmas.Bool.{cases_Bool, eq-eqb, eqb-true, eqb-false, lt-ltb}
+use Rattle.std.proofs.Common.{ℕ, ◌≡◌, ◌≢◌, ◌+◌, ◌-◌, ◌/◌, ◌≤◌, ◌==◌, ◌&&◌, inl, inr, Bool, true, false, List, [], ◌∷◌, ◌++◌, length, drop, take, Option, Some, None, refl, sym, ap, subst, ◌∙◌, length-append, arith}
+use Rattle.std.specs.Prelude.{if◌then◌else◌, nat_le, slice_index}
+use Rattle.std.proofs.lemmas.Bool.{cases_Bool, eqb-true, eqb-false}
 use Rattle.std.proofs.lemmas.Bool.Decides.{nat_tests}
 use Rattle.std.proofs.lemmas.List.{drop_at, length-take-le, take_at}
 use Rattle.wire_tcp_parts.specs.TcpItems.{Item, IsItem, first_item, is_sized, item, text}
 use Rattle.wire_tcp_parts.proofs.Items.{IsItem-bare, text-bare, text-other, text_here}
 use Rattle.wire_tcp_parts.proofs.Summaries.{and_right}
 
--- a test that implies another
-implied : (p q : Bool) → (p ≡ true → q ≡ true) → (not p || q) ≡ true
-implied true q h = h refl
-implied false q h = refl
-
--- both of two tests are true
-both : (p q : Bool) → p ≡ true → q ≡ true → (p && q) ≡ true
-both p q h k = rw (h, k) refl
-
 -- the data of an item have a length that its kind allows
 sized : (i : Item) → IsItem i → is_sized i.kind (length i.content) ≡ true
 sized i is =
-    let below = is.below in
-    let size = is.size in
-    let low : nat_lt i.kind 256 ≡ true = grind (arith, nat_tests) in
-    let short : nat_le (length i.content) 253 ≡ true = grind (arith, nat_tests) in
-    both _ _ (both _ _ (both _ _ (both _ _ (both _ _ low short)
-    (implied _ _ (λ e. eq-eqb (length i.content) 2 (is.segment_size (eqb-true i.kind 2 e)))))
-    (implied _ _ (λ e. eq-eqb (length i.content) 1 (is.window_scale (eqb-true i.kind 3 e)))))
-    (implied _ _ (λ e. eq-eqb (length i.content) 0 (ap length (is.sack_permitted (eqb-true i.kind 4 e))))))
-    (implied _ _ (λ e.
-    let (n, some, whole) = is.sack_ranges (eqb-true i.kind 5 e) in
-    both _ _ (lt-ltb 0 (length i.content) (omega arith)) (eq-eqb (length i.content % 8) 0 (omega arith))))
+    grind (arith, nat_tests)
 
 no_content : (content : List ℕ) → length content ≡ 0 → content ≡ []
 no_content [] e = refl
 no_content (x ∷ xs) e = absurd (omega arith)
 
-is_item : (kind : ℕ) (content : List ℕ) → kind ≢ 0 → kind ≢ 1 → is_sized kind (length content) ≡ true → IsItem (item kind content)
+-- a kind and data of a length that the kind allows are an item
+pub is_item : (kind : ℕ) (content : List ℕ) → kind ≢ 0 → kind ≢ 1 → is_sized kind (length content) ≡ true → IsItem (item kind content)
 is_item kind content some other h = record {
   above = omega (arith, some);
   below = grind (arith, nat_tests);
@@ -100,27 +82,18 @@ first_item-Leads (kind ∷ r) i rest e =
     } in
     subst (λ (j : Item). Leads (kind ∷ r) j rest) is (subst (Leads (kind ∷ r) (item kind (take size behind))) left lead)) e
 
-third : (a b c : Bool) (y z : Option (Item × List ℕ)) → a ≡ false → b ≡ false → c ≡ true → (if a then None else if b then y else if c then z else None) ≡ z
-third a b c y z p q r = rw (p, q, r) refl
-
 with_length : (i : Item) (rest : List ℕ) → IsItem i → i.kind ≢ 1 → first_item (i.kind ∷ (2 + length i.content) ∷ (i.content ++ rest)) ≡ Some (i, rest)
 unfolding first_item
 with_length i rest is other =
-    let size : 2 + length i.content - 2 ≡ length i.content = omega arith in
+    let n = length i.content in
+    let size : 2 + n - 2 ≡ n = omega arith in
     let above = is.above in
-    let behind = i.content ++ rest in
     let some : (i.kind == 0) ≡ false = grind (arith, nat_tests) in
     let no : (i.kind == 1) ≡ false = grind (arith, nat_tests) in
     let long = length-append i.content rest in
-    let two : nat_le 2 (2 + length i.content) ≡ true = grind (arith, nat_tests) in
-    let room : nat_le (2 + length i.content - 2) (length behind) ≡ true = grind (arith, nat_tests) in
-    let fits : is_sized i.kind (2 + length i.content - 2) ≡ true = ap (is_sized i.kind) size ∙ sized i is in
-    let test : (nat_le 2 (2 + length i.content) && nat_le (2 + length i.content - 2) (length behind) && is_sized i.kind (2 + length i.content - 2)) ≡ true =
-    both _ _ (both _ _ two room) fits in
-    third (i.kind == 0) (i.kind == 1) _ _ _ some no test
-    ∙ ap (λ (s : ℕ). Some (item i.kind (take s behind), drop s behind)) size
-    ∙ ap (λ (l : List ℕ). Some (item i.kind l, drop (length i.content) behind)) (take_at i.content rest (length i.content) refl)
-    ∙ ap (λ (l : List ℕ). Some (i, l)) (drop_at i.content rest (length i.content) refl)
+    let two : nat_le 2 (2 + n) ≡ true = grind (arith, nat_tests) in
+    let room : nat_le n (length (i.content ++ rest)) ≡ true = grind (arith, nat_tests) in
+    rw (some, no, two, size, room, sized i is, take_at i.content rest n refl, drop_at i.content rest n refl) refl
 
 bare : (rest : List ℕ) → first_item (1 ∷ rest) ≡ Some (item 1 [], rest)
 unfolding first_item

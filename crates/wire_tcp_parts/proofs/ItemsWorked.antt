@@ -1,6 +1,7 @@
 -- Items, tails and options that the definitions exclude.
-use Rattle.std.proofs.Common.{ℕ, ◌≡◌, List, [], ◌∷◌, ◌++◌, ap, arith, lit<, lit≤, refl, sym, ◌∙◌}
+use Rattle.std.proofs.Common.{ℕ, ◌≡◌, List, [], ◌∷◌, ◌++◌, ap, arith, refl, sym, ◌∙◌}
 use Rattle.byteorder.specs.Endian.{big_number}
+use Rattle.wire_tcp_parts.proofs.FirstItems.{is_item}
 use Rattle.wire_tcp_parts.proofs.Items.{IsItem-bare}
 use Rattle.wire_tcp_parts.proofs.OptionLists.{text_apart}
 use Rattle.wire_tcp_parts.specs.TcpItems.{Item, IsItem, IsTail, item, text}
@@ -44,16 +45,7 @@ size = item 2 (0x05 ∷ 0xb4 ∷ [])
 
 IsItem-size : IsItem size
 unfolding size
-IsItem-size = record {
-  above = lit< tt;
-  below = lit< tt;
-  size = lit≤ tt;
-  no_operation = λ e. absurd (omega (arith, e));
-  segment_size = λ _. refl;
-  window_scale = λ e. absurd (omega (arith, e));
-  sack_permitted = λ e. absurd (omega (arith, e));
-  sack_ranges = λ e. absurd (omega (arith, e));
-}
+IsItem-size = is_item 2 (0x05 ∷ 0xb4 ∷ []) (λ e. omega (arith, e)) (λ e. omega (arith, e)) refl
 
 -- the item of these bytes
 only-size : (i : Item) (rest : List ℕ) → IsItem i → 0x02 ∷ 0x04 ∷ 0x05 ∷ 0xb4 ∷ [] ≡ text i ++ rest → (i ≡ size) × (rest ≡ [])

@@ -1,17 +1,14 @@
 -- Bytes have at most one option list. If a walk stops before the end of the list, they have none.
-use Rattle.std.proofs.Common.{ℕ, ◌≡◌, ◌≢◌, ◌+◌, ◌<◌, inl, inr, eqb, List, [], ◌∷◌, ◌++◌, length, take, drop, refl, sym, ap, ◌∙◌, append_assoc, length-append, arith}
+use Rattle.std.proofs.Common.{ℕ, ◌≡◌, ◌<◌, inl, inr, eqb, List, [], ◌∷◌, ◌++◌, length, refl, sym, ap, ◌∙◌, append_assoc, length-append, arith}
 use Rattle.std.specs.List.{AllByRecursion}
 use Rattle.std.proofs.lemmas.Bool.{cases_Bool, eqb-false, eqb-true}
-use Rattle.std.proofs.lemmas.List.{append-nil, drop_at, take_at}
-use Rattle.wire_tcp_parts.specs.TcpItems.{Item, item, IsItem, IsOptionList, IsTail, text, texts}
+use Rattle.std.proofs.lemmas.List.{append-nil}
+use Rattle.wire_tcp_parts.specs.TcpItems.{Item, IsItem, IsOptionList, IsTail, text, texts}
 use Rattle.wire_tcp_parts.specs.TcpOption.{BeginsNothing}
 use Rattle.wire_tcp_parts.specs.TcpSummary.{HasNoList}
+use Rattle.wire_tcp_parts.proofs.FirstItems.{Leads-first_item}
 use Rattle.wire_tcp_parts.proofs.Items.{text-bare, text-other}
 use Rattle.wire_tcp_parts.proofs.Prefixes.{Walked, walk_on, walks_compared}
-
--- a kind and data make an item
-same_item : (i j : Item) → i.kind ≡ j.kind → i.content ≡ j.content → i ≡ j
-same_item i j p q = ap (λ (k : ℕ). item k i.content) p ∙ ap (item j.kind) q
 
 -- a text begins with its kind
 pub text_head : (i : Item) → (rest : List ℕ) × (text i ≡ i.kind ∷ rest)
@@ -34,43 +31,13 @@ nil-text i rest e =
     let cells : [] ≡ i.kind ∷ (h.0 ++ rest) = e ∙ ap (λ (t : List ℕ). t ++ rest) h.1 in
     cc
 
-both_bare : (i j : Item) (a b : List ℕ) → IsItem i → IsItem j → i.kind ≡ 1 → j.kind ≡ 1 → text i ++ a ≡ text j ++ b → (i ≡ j) × (a ≡ b)
-both_bare i j a b is js p q e =
-    let cells : 1 ∷ a ≡ 1 ∷ b = ap (λ (t : List ℕ). t ++ a) (sym (text-bare i p)) ∙ e ∙ ap (λ (t : List ℕ). t ++ b) (text-bare j q) in
-    (same_item i j (p ∙ sym q) (is.no_operation p ∙ sym (js.no_operation q)), cc)
-
-one_bare : (i j : Item) (a b : List ℕ) → i.kind ≡ 1 → j.kind ≢ 1 → text i ++ a ≡ text j ++ b → ⊥
-one_bare i j a b p q e =
-    let cells : 1 ∷ a ≡ j.kind ∷ (2 + length j.content) ∷ (j.content ++ b) = ap (λ (t : List ℕ). t ++ a) (sym (text-bare i p)) ∙ e ∙ ap (λ (t : List ℕ). t ++ b) (text-other j q) in
-    let kind : 1 ≡ j.kind = cc in
-    q (sym kind)
-
--- equal bytes that begin with items other than no-operation begin with the same item
-pub no_bare : (i j : Item) (a b : List ℕ) → i.kind ≢ 1 → j.kind ≢ 1 → text i ++ a ≡ text j ++ b → (i ≡ j) × (a ≡ b)
-no_bare i j a b p q e =
-    let cells : i.kind ∷ (2 + length i.content) ∷ (i.content ++ a) ≡ j.kind ∷ (2 + length j.content) ∷ (j.content ++ b) =
-    ap (λ (t : List ℕ). t ++ a) (sym (text-other i p)) ∙ e ∙ ap (λ (t : List ℕ). t ++ b) (text-other j q) in
-    let kind : i.kind ≡ j.kind = cc in
-    let long : 2 + length i.content ≡ 2 + length j.content = cc in
-    let size : length j.content ≡ length i.content = omega arith in
-    let more : i.content ++ a ≡ j.content ++ b = cc in
-    let n = length i.content in (
-      same_item i j kind (sym (take_at i.content a n refl) ∙ ap (take n) more ∙ take_at j.content b n size),
-      sym (drop_at i.content a n refl) ∙ ap (drop n) more ∙ drop_at j.content b n size,
-    )
-
 -- no item's text begins another's
 pub text_apart : (i j : Item) (a b : List ℕ) → IsItem i → IsItem j → text i ++ a ≡ text j ++ b → (i ≡ j) × (a ≡ b)
-text_apart i j a b is js e = elim (cases_Bool (eqb i.kind 1)) [
-  | inl y ↦ elim (cases_Bool (eqb j.kind 1)) [
-    | inl z ↦ both_bare i j a b is js (eqb-true i.kind 1 y) (eqb-true j.kind 1 z) e
-    | inr z ↦ absurd (one_bare i j a b (eqb-true i.kind 1 y) (eqb-false j.kind 1 z) e)
-  ]
-  | inr y ↦ elim (cases_Bool (eqb j.kind 1)) [
-    | inl z ↦ absurd (one_bare j i b a (eqb-true j.kind 1 z) (eqb-false i.kind 1 y) (sym e))
-    | inr z ↦ no_bare i j a b (eqb-false i.kind 1 y) (eqb-false j.kind 1 z) e
-  ]
-]
+text_apart i j a b is js e =
+    let left = Leads-first_item (text i ++ a) i a (record { is = is; joined = refl }) in
+    let right = Leads-first_item (text i ++ a) j b (record { is = js; joined = e }) in
+    let same : (i, a) ≡ (j, b) = cc in
+    (ap (λ (d : Item × List ℕ). d.0) same, ap (λ (d : Item × List ℕ). d.1) same)
 
 -- items that a walk has passed
 abbrev pub Items : List ℕ → List Item → List ℕ → Type 0

@@ -8,8 +8,10 @@ use Rattle.std.proofs.lemmas.List.{drop_at, take_at}
 use Rattle.byteorder.specs.Endian.{big_bytes, big_number}
 use Rattle.wire_field.specs.Field.{with_range}
 use Rattle.wire_field.proofs.Cells.{cells-all}
+use Rattle.wire_tcp_parts.proofs.FirstItems.{is_item}
 use Rattle.wire_tcp_parts.proofs.Items.{text-other}
 use Rattle.wire_tcp_parts.proofs.OptionLists.{Items, one_list}
+use Rattle.wire_tcp_parts.proofs.Summaries.{map_cond, or_cond}
 use Rattle.wire_tcp_parts.specs.TcpItems.{IsItem, IsOptionList, IsTail, Item, first_blocks, is_of, is_timestamp, item, last_of, sack_permitted_of, sack_ranges_of, segment_size_of, stamps, text, texts, timestamp_of, window_scale_of}
 use Rattle.wire_tcp_parts.specs.TcpOption.{IsReading}
 use Rattle.wire_tcp_parts.specs.TcpPlace.{segment_size_at}
@@ -17,14 +19,6 @@ use Rattle.wire_tcp_parts.specs.declared.tcp.option.TcpOption.{TcpOption}
 use Rattle.wire_tcp_parts.specs.declared.tcp.option.TcpOption.TheVariants.{EndOfList, NoOperation, MaxSegmentSize, WindowScale, SackPermitted, SackRange, TimeStamp, Unknown}
 
 -- ---- the index
-
-or_cond : (b : Bool) (n : ℕ) (o d : Option ℕ) → option_or (cond b (Some n) o) d ≡ cond b (Some n) (option_or o d)
-or_cond true n o d = refl
-or_cond false n o d = refl
-
-map_cond : (f : ℕ → ℕ) (b : Bool) (n : ℕ) (o : Option ℕ) → option_map f (cond b (Some n) o) ≡ cond b (Some (f n)) (option_map f o)
-map_cond f true n o = refl
-map_cond f false n o = refl
 
 -- with one more item at the end
 pub segment_size_at-more : (xs : List Item) (i : Item) → segment_size_at (xs ++ i ∷ []) ≡ cond (is_of 2 i) (Some (length (texts xs) + 2)) (segment_size_at xs)
@@ -137,16 +131,7 @@ abbrev pub sized : ℕ → Item
 sized n = item 2 (big_bytes 2 n)
 
 is_sized : (n : ℕ) → IsItem (sized n)
-is_sized n = record {
-  above = omega arith;
-  below = omega arith;
-  size = omega arith;
-  no_operation = λ e. absurd (omega (arith, e));
-  segment_size = λ _. refl;
-  window_scale = λ e. absurd (omega (arith, e));
-  sack_permitted = λ e. absurd (omega (arith, e));
-  sack_ranges = λ e. absurd (omega (arith, e));
-}
+is_sized n = is_item 2 (big_bytes 2 n) (λ e. omega (arith, e)) (λ e. omega (arith, e)) refl
 
 each-around : (before : List Item) (i j : Item) (after : List Item) → IsItem j → AllByRecursion IsItem (before ++ i ∷ after) → AllByRecursion IsItem (before ++ j ∷ after)
 each-around [] i j after is all = (is, all.1)

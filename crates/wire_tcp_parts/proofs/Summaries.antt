@@ -1,5 +1,5 @@
 -- How one more item changes the summary of the options.
-use Rattle.std.proofs.Common.{◌≡◌, ℕ, Bool, true, false, cond, eqb, ◌&&◌, List, [], ◌∷◌, ◌++◌, length, drop, Option, Some, None, is_some, Result, Ok, Err, OnErr, arith, ◌<◌, refl, sym, ap, ◌∙◌}
+use Rattle.std.proofs.Common.{◌≡◌, ℕ, Bool, true, false, cond, eqb, ◌&&◌, List, [], ◌∷◌, ◌++◌, length, get_or, drop, Option, Some, None, is_some, Result, Ok, Err, OnErr, arith, ◌<◌, refl, sym, ap, ◌∙◌}
 use Rattle.std.specs.Option.{option_or, option_map, option_map_or}
 use Rattle.std.proofs.lemmas.Bool.{eqb-true, eq-eqb, false_from_ne_true}
 use Rattle.byteorder.specs.Endian.{big_number}
@@ -7,13 +7,14 @@ use Rattle.wire_tcp_parts.specs.TcpItems.{Item, item, first_blocks, last_of, is_
 use Rattle.wire_tcp_parts.specs.TcpSummary.{summary_of}
 use Rattle.wire_tcp_parts.specs.declared.tcp.summary.TcpOptionSummary.{TcpOptionSummary}
 
-or_cond : (b : Bool) (i : Item) (o d : Option Item) → option_or (cond b (Some i) o) d ≡ cond b (Some i) (option_or o d)
-or_cond true i o d = refl
-or_cond false i o d = refl
+-- a choice between two options
+pub or_cond : {X : Type 0} (b : Bool) (x : X) (o d : Option X) → option_or (cond b (Some x) o) d ≡ cond b (Some x) (option_or o d)
+or_cond true x o d = refl
+or_cond false x o d = refl
 
-map_cond : {X : Type 0} (f : Item → X) (b : Bool) (i : Item) (o : Option Item) → option_map f (cond b (Some i) o) ≡ cond b (Some (f i)) (option_map f o)
-map_cond f true i o = refl
-map_cond f false i o = refl
+pub map_cond : {X Y : Type 0} (f : X → Y) (b : Bool) (x : X) (o : Option X) → option_map f (cond b (Some x) o) ≡ cond b (Some (f x)) (option_map f o)
+map_cond f true x o = refl
+map_cond f false x o = refl
 
 ranges_cond : (b : Bool) (i : Item) (o : Option Item) → first_blocks (option_map_or (λ i. i.content) (cond b (Some i) o) []) ≡ cond b (first_blocks i.content) (first_blocks (option_map_or (λ i. i.content) o []))
 ranges_cond true i o = refl
@@ -48,32 +49,22 @@ with_item i s = record {
   timestamp = cond (is_timestamp i) (Some (big_number 4 i.content, big_number 4 (drop 4 i.content))) s.timestamp;
 }
 
-abbrev made : Option ℕ → Option ℕ → Bool → List (Option (ℕ × ℕ)) → Option (ℕ × ℕ) → TcpOptionSummary
-made a b c d e = record { max_segment_size = a; window_scale = b; sack_permitted = c; sack_ranges = d; timestamp = e }
-
-same_made : (a a' b b' : Option ℕ) (c c' : Bool) (d d' : List (Option (ℕ × ℕ))) (e e' : Option (ℕ × ℕ)) → a ≡ a' → b ≡ b' → c ≡ c' → d ≡ d' → e ≡ e' → made a b c d e ≡ made a' b' c' d' e'
-same_made a a' b b' c c' d d' e e' p q r s t = ap (λ x. made x b c d e) p ∙ ap (λ x. made a' x c d e) q ∙ ap (λ x. made a' b' x d e) r ∙ ap (λ x. made a' b' c' x e) s ∙ ap (made a' b' c' d') t
-
-abbrev size_in : Item → ℕ
-size_in i = big_number 2 i.content
-
-abbrev scale_in : Item → ℕ
-scale_in i = big_number 1 i.content
-
-abbrev ranges_in : Item → List (Option (ℕ × ℕ))
-ranges_in i = first_blocks i.content
-
 abbrev stamp_in : Item → ℕ × ℕ
 stamp_in i = (big_number 4 i.content, big_number 4 (drop 4 i.content))
 
 pub summary_of_more : (xs : List Item) (i : Item) → summary_of (xs ++ i ∷ []) ≡ with_item i (summary_of xs)
-summary_of_more xs i =
-    same_made _ _ _ _ _ _ _ _ _ _
-    (ap (option_map size_in) (last_of_more (is_of 2) xs i) ∙ map_cond size_in (eqb i.kind 2) i (last_of (is_of 2) xs))
-    (ap (option_map scale_in) (last_of_more (is_of 3) xs i) ∙ map_cond scale_in (eqb i.kind 3) i (last_of (is_of 3) xs))
-    (ap is_some (last_of_more (is_of 4) xs i) ∙ some_cond (eqb i.kind 4) i (last_of (is_of 4) xs))
-    (ap (λ o. first_blocks (option_map_or (λ i. i.content) o [])) (last_of_more (is_of 5) xs i) ∙ ranges_cond (eqb i.kind 5) i (last_of (is_of 5) xs))
-    (ap (option_map stamp_in) (last_of_more is_timestamp xs i) ∙ map_cond stamp_in (is_timestamp i) i (last_of is_timestamp xs))
+summary_of_more xs i = rw (
+  last_of_more (is_of 2) xs i,
+  map_cond (λ (i : Item). big_number 2 i.content) (eqb i.kind 2) i (last_of (is_of 2) xs),
+  last_of_more (is_of 3) xs i,
+  map_cond (λ (i : Item). big_number 1 i.content) (eqb i.kind 3) i (last_of (is_of 3) xs),
+  last_of_more (is_of 4) xs i,
+  some_cond (eqb i.kind 4) i (last_of (is_of 4) xs),
+  last_of_more (is_of 5) xs i,
+  ranges_cond (eqb i.kind 5) i (last_of (is_of 5) xs),
+  last_of_more is_timestamp xs i,
+  map_cond stamp_in (is_timestamp i) i (last_of is_timestamp xs),
+) refl
 
 -- a summary of the items before, and an item of kind k
 pub noted : (s : TcpOptionSummary) (xs : List Item) (i : Item) (k : ℕ) → s ≡ summary_of xs → i.kind ≡ k → with_item (item k i.content) s ≡ summary_of (xs ++ i ∷ [])
@@ -87,8 +78,8 @@ noted_other s xs i e high other =
     let n4 : eqb i.kind 4 ≡ false = false_from_ne_true _ (λ y. omega (arith, eqb-true i.kind 4 y)) in
     let n5 : eqb i.kind 5 ≡ false = false_from_ne_true _ (λ y. omega (arith, eqb-true i.kind 5 y)) in
     let n8 : is_timestamp i ≡ false = false_from_ne_true _ (λ y. other (eqb-true i.kind 8 (and_left _ _ y)) (eqb-true (length i.content) 8 (and_right _ _ y))) in
-    sym (same_made _ _ _ _ _ _ _ _ _ _ (ap (λ b. cond b (Some (size_in i)) s.max_segment_size) n2) (ap (λ b. cond b (Some (scale_in i)) s.window_scale) n3) (ap (λ b. cond b true s.sack_permitted) n4) (ap (λ b. cond b (ranges_in i) s.sack_ranges) n5) (ap (λ b. cond b (Some (stamp_in i)) s.timestamp) n8))
-    ∙ ap (with_item i) e ∙ sym (summary_of_more xs i)
+    let same : with_item i s ≡ s = rw (n2, n3, n4, n5, n8) refl in
+    sym same ∙ ap (with_item i) e ∙ sym (summary_of_more xs i)
 
 -- a timestamp of 8 data bytes
 pub noted_stamp : (s : TcpOptionSummary) (xs : List Item) (i : Item) → s ≡ summary_of xs → i.kind ≡ 8 → length i.content ≡ 8 → record s { timestamp = Some (stamp_in i) } ≡ summary_of (xs ++ i ∷ [])
@@ -98,6 +89,11 @@ noted_stamp s xs i e kind size =
 -- the number in a single byte
 pub scale_is : (content : List ℕ) (n : ℕ) → content ≡ n ∷ [] → n ≡ big_number 1 content
 scale_is content n e = let b = ap (big_number 1) e in omega (arith, b)
+
+pub only_byte : (content : List ℕ) → length content ≡ 1 → get_or content 0 0 ≡ big_number 1 content
+only_byte [] e = absurd (omega arith)
+only_byte (x ∷ []) e = scale_is (x ∷ []) x refl
+only_byte (x ∷ y ∷ l) e = absurd (omega arith)
 
 -- an error and a fact
 pub on_err : {X E P : Type 0} (r : Result X E) → P → OnErr r P

@@ -1,69 +1,18 @@
 -- Longest walks: each list of bytes has exactly one, and a walk that stops is it.
-use Rattle.std.proofs.Common.{ℕ, zero, suc, ◌≡◌, ◌≢◌, ◌<◌, ◌≤◌, ◌+◌, ◌-◌, ◌*◌, ◌/◌, ◌%◌, ◌⊎◌, inl, inr, false, eqb, List, [], ◌∷◌, ◌++◌, length, get_or, take, drop, Option, Some, None, Ok, Err, refl, sym, ap, subst, ◌∙◌, append_assoc, length-append, arith}
+use Rattle.std.proofs.Common.{ℕ, zero, suc, ◌≡◌, ◌≢◌, ◌<◌, ◌≤◌, ◌+◌, ◌⊎◌, inl, inr, false, eqb, List, [], ◌∷◌, ◌++◌, length, get_or, Option, Some, None, Ok, Err, refl, sym, ap, subst, ◌∙◌, append_assoc, length-append, arith}
 use Rattle.std.specs.List.{AllByRecursion, flat_map}
-use Rattle.std.proofs.lemmas.Bool.{cases_Bool, cases_lt, eq-eqb, eqb-false, eqb-true}
+use Rattle.std.proofs.lemmas.Bool.{cases_Bool, eq-eqb, eqb-true}
 use Rattle.std.proofs.lemmas.List.{append-nil}
-use Rattle.wire_tcp_parts.proofs.Items.{IsItem-bare, text-other, text_here}
-use Rattle.wire_tcp_parts.proofs.OptionLists.{head-text, nil-text, no_bare, text_apart, text_head}
+use Rattle.wire_tcp_parts.proofs.FirstItems.{Leads-first_item, first_item-Leads}
+use Rattle.wire_tcp_parts.proofs.OptionLists.{head-text, nil-text, text_apart, text_head}
 use Rattle.wire_tcp_parts.proofs.Prefixes.{Goes, Walked, walk_on, walks_compared}
-use Rattle.wire_tcp_parts.specs.TcpItems.{Item, item, IsItem, first_blocks, text}
+use Rattle.wire_tcp_parts.specs.TcpItems.{Item, IsItem, first_blocks, first_item, text}
 use Rattle.wire_tcp_parts.specs.TcpOption.{Begins, BeginsNothing, IsReading, ranges_in}
 use Rattle.wire_tcp_parts.specs.TcpWalk.{Answers, FindsFirst, IsFirst, IsLongWalk, IsMark, IsWalk, Mark, answer_of, first_of, mark_text}
 use Rattle.wire_tcp_parts.specs.declared.tcp.option.TcpOption.{TcpOption}
 use Rattle.wire_tcp_parts.specs.declared.tcp.option.TcpOption.TheVariants.{EndOfList, NoOperation, MaxSegmentSize, WindowScale, SackPermitted, SackRange, TimeStamp, Unknown}
 
 -- ---- which bytes begin with an item or a mark
-
-abbrev Decided : Type 0 → Type 0
-Decided P = P ⊎ (P → ⊥)
-
-both : {P Q : Type 0} → Decided P → Decided Q → Decided (P × Q)
-both (inl p) (inl q) = inl (p, q)
-both (inl p) (inr n) = inr (λ x. n x.1)
-both (inr n) q = inr (λ x. n x.0)
-
-implied : {P Q : Type 0} → Decided P → Decided Q → Decided (P → Q)
-implied p (inl q) = inl (λ x. q)
-implied (inl p) (inr n) = inr (λ f. n (f p))
-implied (inr m) (inr n) = inl (λ x. absurd (m x))
-
-same : (m n : ℕ) → Decided (m ≡ n)
-same m n = elim (cases_Bool (eqb m n)) [ inl y ↦ inl (eqb-true m n y) | inr z ↦ inr (eqb-false m n z) ]
-
-below : (m n : ℕ) → Decided (m < n)
-below m n = elim (cases_lt m n) [ inl y ↦ inl y | inr z ↦ inr (λ y. omega arith) ]
-
-empty : (l : List ℕ) → Decided (l ≡ [])
-empty [] = inl refl
-empty (x ∷ l) = inr (λ e. cc)
-
-blocks : (l : List ℕ) → Decided ((n : ℕ) × (0 < n) × (length l ≡ 8 * n))
-blocks l = elim (same (length l % 8) 0) [
-  | inl whole ↦ elim (below 0 (length l)) [
-    | inl some ↦ inl (length l / 8, omega arith, omega arith)
-    | inr none ↦ inr (λ b. omega (arith, b.1, b.2))
-  ]
-  | inr cut ↦ inr (λ b. omega (arith, b.1, b.2))
-]
-
--- whether a kind and data are an item
-decided : (i : Item) → Decided (IsItem i)
-decided i =
-    elim (both (both (below 0 i.kind) (both (below i.kind 256) (below (length i.content) 254)))
-    (both (both (implied (same i.kind 1) (empty i.content)) (implied (same i.kind 2) (same (length i.content) 2)))
-    (both (implied (same i.kind 3) (same (length i.content) 1)) (both (implied (same i.kind 4) (empty i.content)) (implied (same i.kind 5) (blocks i.content)))))) [
-      | inl y ↦ inl (record {
-        above = y.0.0;
-        below = y.0.1.0;
-        size = omega (arith, y.0.1.1);
-        no_operation = y.1.0.0;
-        segment_size = y.1.0.1;
-        window_scale = y.1.1.0;
-        sack_permitted = y.1.1.1.0;
-        sack_ranges = y.1.1.1.1;
-      })
-      | inr n ↦ inr (λ is. n (((is.above, (is.below, omega (arith, is.size))), ((is.no_operation, is.segment_size), (is.window_scale, (is.sack_permitted, is.sack_ranges))))))
-    ]
 
 -- the bytes begin with an item, a mark, or neither
 pub record Starts (bytes : List ℕ) : Type 0 where
@@ -72,52 +21,19 @@ pub record Starts (bytes : List ℕ) : Type 0 where
   pub is : IsMark mark
   pub joined : bytes ≡ mark_text mark ++ rest
 
--- a kind and a length, and the bytes behind them
-starts_with : (k l : ℕ) (r : List ℕ) → k ≢ 0 → k ≢ 1 → Starts (k ∷ l ∷ r) ⊎ BeginsNothing (k ∷ l ∷ r)
-starts_with k l r some other = elim (both (below 1 l) (below (l - 2) (suc (length r)))) [
-  | inl y ↦
-      let i = item k (take (l - 2) r) in
-      let size : l ≡ 2 + (l - 2) = omega (arith, y.0) in
-      let joined : k ∷ l ∷ r ≡ text i ++ drop (l - 2) r = ap (λ (x : ℕ). k ∷ x ∷ r) size ∙ text_here k (l - 2) r other (omega (arith, y.1)) in
-      elim (decided i) [
-        | inl is ↦ inl (record { mark = Some i; rest = drop (l - 2) r; is = is; joined = joined })
-        | inr not ↦ inr (record {
-          no_mark = λ rest e. some (first_is k 0 (l ∷ r) rest e);
-          no_item = λ j rest is e.
-              let j_other : j.kind ≢ 1 = λ one. other (head-text j k (l ∷ r) rest e ∙ one) in
-              let one = no_bare i j (drop (l - 2) r) rest other j_other (sym joined ∙ e) in
-              not (subst IsItem (sym one.0) is);
-        })
-      ]
-  | inr n ↦ inr (record {
-    no_mark = λ rest e. some (first_is k 0 (l ∷ r) rest e);
-    no_item = λ j rest is e.
-        let j_other : j.kind ≢ 1 = λ one. other (head-text j k (l ∷ r) rest e ∙ one) in
-        let cells : k ∷ l ∷ r ≡ j.kind ∷ (2 + length j.content) ∷ (j.content ++ rest) = e ∙ ap (λ (t : List ℕ). t ++ rest) (text-other j j_other) in
-        let size : l ≡ 2 + length j.content = cc in
-        let behind : r ≡ j.content ++ rest = cc in
-        let many : length r ≡ length j.content + length rest = ap length behind ∙ length-append j.content rest in
-        n (omega arith, omega arith);
-  })
-]
-  where
-    first_is : (x y : ℕ) (xs ys : List ℕ) → x ∷ xs ≡ y ∷ ys → x ≡ y
-    first_is x y xs ys e = cc
-
 starts : (bytes : List ℕ) → Starts bytes ⊎ BeginsNothing bytes
 starts [] = inr (record { no_mark = λ rest e. cc; no_item = λ i rest is e. nil-text i rest e })
 starts (zero ∷ r) = inl (record { mark = None; rest = r; is = tt; joined = refl })
-starts (suc zero ∷ r) = inl (record { mark = Some (item 1 []); rest = r; is = IsItem-bare; joined = refl })
-starts (suc (suc k) ∷ []) = inr (record {
-  no_mark = λ rest e. cc;
-  no_item = λ i rest is e.
-      let kind = head-text i (suc (suc k)) [] rest e in
-      let other : i.kind ≢ 1 = λ one. omega (arith, kind, one) in
-      let cells : suc (suc k) ∷ [] ≡ i.kind ∷ (2 + length i.content) ∷ (i.content ++ rest) = e ∙ ap (λ (t : List ℕ). t ++ rest) (text-other i other) in
-      let none : [] ≡ (2 + length i.content) ∷ (i.content ++ rest) = cc in
-      cc;
-})
-starts (suc (suc k) ∷ l ∷ r) = starts_with (suc (suc k)) l r (λ e. omega (arith, e)) (λ e. omega (arith, e))
+starts (suc k ∷ r) = go (first_item (suc k ∷ r)) refl
+  where
+    go : (o : Option (Item × List ℕ)) → first_item (suc k ∷ r) ≡ o → Starts (suc k ∷ r) ⊎ BeginsNothing (suc k ∷ r)
+    go (Some (i, rest)) e =
+        let l = first_item-Leads (suc k ∷ r) i rest e in
+        inl (record { mark = Some i; rest = rest; is = l.is; joined = l.joined })
+    go None e = inr (record {
+      no_mark = λ rest m. cc;
+      no_item = λ i rest is joined. let found = Leads-first_item (suc k ∷ r) i rest (record { is = is; joined = joined }) in cc;
+    })
 
 -- ---- walks
 

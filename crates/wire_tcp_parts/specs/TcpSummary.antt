@@ -1,6 +1,7 @@
 -- The values of the options of a header.
 use Rattle.std.specs.Prelude.{ℕ, ◌≡◌, List}
-use Rattle.wire_tcp_parts.specs.TcpItems.{Item, IsOptionList, sack_permitted_of, sack_ranges_of, segment_size_of, timestamp_of, window_scale_of}
+use Rattle.wire_tcp_parts.specs.TcpItems.{Item, IsOptionList, first_blocks, sack_permitted_of, sack_ranges_of, segment_size_of, timestamp_of, window_scale_of}
+use Rattle.wire_tcp_parts.specs.declared.tcp.summary.OptionValues.{OptionValues}
 use Rattle.wire_tcp_parts.specs.declared.tcp.summary.TcpOptionSummary.{TcpOptionSummary}
 
 -- the last item of each kind counts
@@ -20,3 +21,13 @@ Summarizes bytes summary = (items : List Item) × (tail : List ℕ) × IsOptionL
 -- the bytes have no option list
 abbrev pub HasNoList : List ℕ → Type 0
 HasNoList bytes = (items : List Item) (tail : List ℕ) → IsOptionList bytes items tail → ⊥
+
+-- the values of a walk as a summary
+abbrev pub summary_in : OptionValues → TcpOptionSummary
+summary_in values = record {
+  max_segment_size = values.max_segment_size;
+  window_scale = values.window_scale;
+  sack_permitted = values.sack_permitted;
+  sack_ranges = first_blocks values.sack_blocks.now;
+  timestamp = values.timestamp;
+}

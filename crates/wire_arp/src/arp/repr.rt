@@ -97,8 +97,8 @@ impl ArpRepr {
         }
     }
 
-    /// As `emit`, to the front of `out`, and returns the length of the packet. `None` if it does not fit; then
-    /// nothing is written.
+    /// As `emit`, to the front of `out`, and returns the length of the packet in octets. `None` if it
+    /// does not fit; then nothing is written.
     #[inline(always)]
     pub fn try_emit(&self, out: &mut [u8]) -> Option<usize>
         ensures { Fills (bytes_of self.now) 28 out.old out.new result }

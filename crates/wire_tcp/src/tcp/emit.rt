@@ -48,8 +48,8 @@ impl TcpRepr<'_> {
         }
     }
 
-    /// As `emit`, to the front of `out`, and returns the length of the segment. `None` if it does not fit; then
-    /// nothing is written. A checksum covers the segment alone.
+    /// As `emit`, to the front of `out`, and returns the length of the segment in octets. `None` if it
+    /// does not fit; then nothing is written. A checksum covers the segment alone.
     #[inline(always)]
     pub fn try_emit(
         &self,

@@ -1,10 +1,10 @@
 //! Options of a header, one at a time (RFC 9293, section 3.1; RFC 2018; RFC 7323).
 
-ghost use Rattle.std.specs.Prelude.{◌≡◌, ◌+◌, ◌*◌, ◌%◌, ◌<◌, ◌≤◌, ◌∷◌, ◌++◌, IfOk, OnErr, count_by, drop, is_some, length};
+ghost use Rattle.std.specs.Prelude.{◌≡◌, ◌+◌, ◌*◌, ◌%◌, ◌<◌, ◌≤◌, ◌∷◌, ◌++◌, IfOk, OnErr, count_by, drop, is_some, length, slice_index};
 ghost use Rattle.std.specs.Borrow.{sem};
 ghost use Rattle.byteorder.specs.Endian.{big_bytes};
 ghost use Rattle.wire_tcp_parts.specs.TcpOptionLoan.{LendsRest, LocatesRest};
-ghost use Rattle.wire_tcp_parts.specs.TcpItems.{IsItem, block_at, first_blocks, item};
+ghost use Rattle.wire_tcp_parts.specs.TcpItems.{IsItem, block_at, first_blocks, is_sized, item, text};
 ghost use Rattle.wire_tcp_parts.specs.TcpOption.{Begins, BeginsNothing, IsEmittable, IsReading, option_len, option_text, range_bytes, ranges_in, rest_after};
 
 use super::SACK_BLOCKS;
@@ -66,39 +66,30 @@ impl<'a> TcpOption<'a> {
         if kind == OPT_NOP {
             return Ok((&buffer[1..], TcpOption::NoOperation));
         }
-        if buffer.len() < 2 {
-            return Err(Error);
-        }
-        let len = usize::from(buffer[1]);
-        if len < 2 || buffer.len() < len {
-            return Err(Error);
-        }
-        let option = TcpOption::from_item(kind, &buffer[2..len])?;
-        Ok((&buffer[len..], option))
+        let (rest, content) = split_item(buffer)?;
+        Ok((rest, TcpOption::of_item(kind, content)))
     }
 
     // The option of this kind with these data bytes.
     #[inline(always)]
-    fn from_item(kind: u8, bytes: &'a [u8]) -> Result<TcpOption<'a>>
-        requires kind { 1 < kind }
-        requires size { length bytes.now ≤ 253 }
-        ensures ok { let i = item kind bytes.now in
-            IfOk result (λ option. IsItem i × IsReading option i) }
-        ensures err { OnErr result (¬ IsItem (item kind bytes.now)) }
+    fn of_item(kind: u8, content: &'a [u8]) -> TcpOption<'a>
+        requires above { 1 < kind }
+        requires item { IsItem (item kind content.now) }
+        ensures { IsReading result (item kind content.now) }
     {
-        match (kind, bytes.len()) {
-            (OPT_MSS, 2) => Ok(TcpOption::MaxSegmentSize(NetworkEndian::read_u16(bytes))),
-            (OPT_WS, 1) => Ok(TcpOption::WindowScale(bytes[0])),
-            (OPT_SACKPERM, 0) => Ok(TcpOption::SackPermitted),
-            (OPT_SACKRNG, len) if len > 0 && len % 8 == 0 => {
-                Ok(TcpOption::SackRange(first_blocks(bytes)))
-            }
-            (OPT_MSS | OPT_WS | OPT_SACKPERM | OPT_SACKRNG, _) => Err(Error),
-            (OPT_TSTAMP, 8) => Ok(TcpOption::TimeStamp {
-                tsval: NetworkEndian::read_u32(bytes),
-                tsecr: NetworkEndian::read_u32(&bytes[4..]),
-            }),
-            _ => Ok(TcpOption::Unknown { kind, bytes }),
+        match kind {
+            OPT_MSS => TcpOption::MaxSegmentSize(NetworkEndian::read_u16(content)),
+            OPT_WS => TcpOption::WindowScale(content[0]),
+            OPT_SACKPERM => TcpOption::SackPermitted,
+            OPT_SACKRNG => TcpOption::SackRange(first_blocks(content)),
+            OPT_TSTAMP if content.len() == 8 => TcpOption::TimeStamp {
+                tsval: NetworkEndian::read_u32(content),
+                tsecr: NetworkEndian::read_u32(&content[4..]),
+            },
+            _ => TcpOption::Unknown {
+                kind,
+                bytes: content,
+            },
         }
     }
 
@@ -140,6 +131,40 @@ impl<'a> TcpOption<'a> {
         ensures value { result.now ≡ rest_after self.now buffer.old }
     {
         write_and_locate_rest(buffer, self).lend()
+    }
+}
+
+// The bytes behind the first option, and the data of that option, which has a length byte.
+#[inline(always)]
+pub(super) fn split_item(buffer: &[u8]) -> Result<(&[u8], &[u8])>
+    requires filled { 0 < length buffer.now }
+    requires kind { 1 < slice_index buffer.now 0 }
+    ensures ok { IfOk result (λ read. let i = item (slice_index buffer.now 0) read.1.now in
+        IsItem i × (buffer.now ≡ text i ++ read.0.now)) }
+    ensures err { OnErr result (BeginsNothing buffer.now) }
+{
+    if buffer.len() < 2 {
+        return Err(Error);
+    }
+    let len = usize::from(buffer[1]);
+    if len < 2 || buffer.len() < len || !is_sized(buffer[0], len - 2) {
+        return Err(Error);
+    }
+    Ok((&buffer[len..], &buffer[2..len]))
+}
+
+// Whether an option of this kind can have `size` bytes of data.
+#[inline(always)]
+fn is_sized(kind: u8, size: usize) -> bool
+    requires { size ≤ 253 }
+    ensures { result ≡ is_sized kind size }
+{
+    match kind {
+        OPT_MSS => size == 2,
+        OPT_WS => size == 1,
+        OPT_SACKPERM => size == 0,
+        OPT_SACKRNG => size > 0 && size % 8 == 0,
+        _ => true,
     }
 }
 
@@ -198,18 +223,20 @@ fn write_and_locate_rest<'b>(buffer: &'b mut [u8], option: &TcpOption<'_>) -> Lo
 
 // The first blocks in the data of a SACK option.
 #[inline(always)]
-fn first_blocks(content: &[u8]) -> [Option<(u32, u32)>; SACK_BLOCKS]
+pub(super) fn first_blocks(content: &[u8]) -> [Option<(u32, u32)>; SACK_BLOCKS]
     requires { length content.now % 8 ≡ 0 }
     ensures { result ≡ first_blocks content.now }
 {
-    let mut blocks = [None; SACK_BLOCKS];
-    for i in 0..SACK_BLOCKS {
-        blocks[i] = block_at(content, i);
-    }
-    blocks
+    [
+        block_at(content, 0),
+        block_at(content, 1),
+        block_at(content, 2),
+        block_at(content, 3),
+    ]
 }
 
 // Block `i` in the data of a SACK option, if there is one.
+#[inline(always)]
 fn block_at(content: &[u8], i: usize) -> Option<(u32, u32)>
     requires whole { length content.now % 8 ≡ 0 }
     requires kept { i < SACK_BLOCKS }

@@ -95,8 +95,8 @@ impl UdpRepr {
         packet.set_payload(payload);
     }
 
-    /// As `emit`, to the front of `out`, and returns the length of the packet. `None` if it does not fit; then
-    /// nothing is written.
+    /// As `emit`, to the front of `out`, and returns the length of the packet in octets. `None` if it
+    /// does not fit; then nothing is written.
     #[inline(always)]
     pub fn try_emit(
         &self,
