@@ -2,7 +2,7 @@
 use Rattle.std.proofs.Common.{ℕ, ◌≡◌, ◌≤◌, ◌<◌, ◌+◌, ◌^◌, Bool, true, IsTrue, List, [], ◌++◌, Option, Some, drop, length, refl, sym, ap, subst, ◌∙◌, append-nil, length-append, arith}
 use Rattle.std.specs.Option.{option_map}
 use Rattle.ip_wire.proofs.FrameOf.{header-only, header-read}
-use Rattle.ip_wire.proofs.Layers.{HasForms-normal, IsLayer, Layer, ReadsNormal, byte-lt, length-part, part-behind}
+use Rattle.ip_wire.proofs.Layers.{IsLayer, Layer, ReadsNormal, byte-lt, length-part, part-behind}
 use Rattle.ip_wire.proofs.Options.{option_map-Some}
 use Rattle.ip_wire.proofs.UdpLayer.{AreWords}
 use Rattle.ip_wire.specs.Frame.{ReadsPacket, all_checked, header_by, packet_payload, type_of, type_of_version}
@@ -199,7 +199,7 @@ AreWords-ip t bytes v p e =
 
 -- ---- the layer
 
-pub ReadsNormal-ip : (t : EthernetProtocol) → ReadsNormal (ip t)
+ReadsNormal-ip : (t : EthernetProtocol) → ReadsNormal (ip t)
 ReadsNormal-ip t bytes v p e =
     let (u, d) = ip_packet_of-IsPacket t bytes v p e in
     ap (λ w. normal (with_payload_len w 0)) (sym d.values) ∙ normal-aside bytes u d.reads ∙ d.values
@@ -244,9 +244,8 @@ IsLayer-ip t = record {
   written_bytes = λ bytes v p q h e k.
       let (u, d) = ip_packet_of-IsPacket t bytes v p e in
       rw (written t bytes v u p q d) (AreBytes-append (bytes_of (with_payload_len u (length q)) true) q (AreBytes-header bytes u (length q) h d.reads) k);
-  reads_back = λ bytes v p q h e fits.
-      let (u, d) = ip_packet_of-IsPacket t bytes v p e in
-      ap (ip_packet_of t) (written t bytes v u p q d) ∙ written-read t bytes v u p q d fits ∙ ap (λ w. Some (w, q)) (sym (ReadsNormal-ip t bytes v p e));
+  reads_back = λ bytes v p q e fits.
+      let (u, d) = ip_packet_of-IsPacket t bytes v p e in ap (ip_packet_of t) (written t bytes v u p q d) ∙ written-read t bytes v u p q d fits;
   no_longer = λ bytes v p q e fits. let (u, d) = ip_packet_of-IsPacket t bytes v p e in rw (written t bytes v u p q d) (written-longer t bytes v u p q d fits);
-  forms = HasForms-normal (ip t) (ReadsNormal-ip t);
+  normal_read = ReadsNormal-ip t;
 }
