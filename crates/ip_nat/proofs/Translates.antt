@@ -52,25 +52,16 @@ ended-len v side old new port bytes (other payload) are r = ap length (ended-oth
 even : (a : List ℕ) → length a ≡ 4 → length a % 2 ≡ 0
 even a e = omega (arith, e)
 
--- a packet from a new source, by the contracts of both setters
-pub from-source : {V : Type 0} (Reads : List ℕ → IpAddress → IpAddress → Bool → V → List ℕ → Type 0) (put : V → V) (old mid new addr src dst : List ℕ) (from : IpAddress)
-    → from ≡ address.Ipv4 src → length addr ≡ 4 → length dst ≡ 4
+-- A packet with a new address at one of its ends, by the contracts of both setters. The relation takes the address of this
+-- end and that of the other.
+pub moved-end : {V : Type 0} (Reads : List ℕ → IpAddress → IpAddress → Bool → V → List ℕ → Type 0) (put : V → V) (old mid new addr own far : List ℕ) (from : IpAddress)
+    → from ≡ address.Ipv4 own → length addr ≡ 4 → length far ≡ 4
     → ((d : IpAddress) (verified : Bool) (u : V) (payload : List ℕ) → length (octets_of d) % 2 ≡ 0 → Reads old from d verified u payload → Reads mid (address.Ipv4 addr) d verified u payload)
     → ((s d : IpAddress) (verified : Bool) (u : V) (payload : List ℕ) → length (octets_of s) % 2 ≡ 0 → length (octets_of d) % 2 ≡ 0 → Reads mid s d verified u payload → Reads new s d verified (put u) payload)
-    → (u : V) (payload : List ℕ) → Reads old (address.Ipv4 src) (address.Ipv4 dst) true u payload → Reads new (address.Ipv4 addr) (address.Ipv4 dst) true (put u) payload
-from-source {V} Reads put old mid new addr src dst from was four four' first second u payload r =
-    second (address.Ipv4 addr) (address.Ipv4 dst) true u payload (even addr four) (even dst four')
-    (first (address.Ipv4 dst) true u payload (even dst four') (subst (λ (a : IpAddress). Reads old a (address.Ipv4 dst) true u payload) (sym was) r))
-
--- a packet to a new destination, in the same way
-pub to-destination : {V : Type 0} (Reads : List ℕ → IpAddress → IpAddress → Bool → V → List ℕ → Type 0) (put : V → V) (old mid new addr src dst : List ℕ) (to : IpAddress)
-    → to ≡ address.Ipv4 dst → length addr ≡ 4 → length src ≡ 4
-    → ((s : IpAddress) (verified : Bool) (u : V) (payload : List ℕ) → length (octets_of s) % 2 ≡ 0 → Reads old s to verified u payload → Reads mid s (address.Ipv4 addr) verified u payload)
-    → ((s d : IpAddress) (verified : Bool) (u : V) (payload : List ℕ) → length (octets_of s) % 2 ≡ 0 → length (octets_of d) % 2 ≡ 0 → Reads mid s d verified u payload → Reads new s d verified (put u) payload)
-    → (u : V) (payload : List ℕ) → Reads old (address.Ipv4 src) (address.Ipv4 dst) true u payload → Reads new (address.Ipv4 src) (address.Ipv4 addr) true (put u) payload
-to-destination {V} Reads put old mid new addr src dst to was four four' first second u payload r =
-    second (address.Ipv4 src) (address.Ipv4 addr) true u payload (even src four') (even addr four)
-    (first (address.Ipv4 src) true u payload (even src four') (subst (λ (a : IpAddress). Reads old (address.Ipv4 src) a true u payload) (sym was) r))
+    → (u : V) (payload : List ℕ) → Reads old (address.Ipv4 own) (address.Ipv4 far) true u payload → Reads new (address.Ipv4 addr) (address.Ipv4 far) true (put u) payload
+moved-end {V} Reads put old mid new addr own far from was four four' first second u payload r =
+    second (address.Ipv4 addr) (address.Ipv4 far) true u payload (even addr four) (even far four')
+    (first (address.Ipv4 far) true u payload (even far four') (subst (λ (a : IpAddress). Reads old a (address.Ipv4 far) true u payload) (sym was) r))
 
 -- the same for a side and bytes that are equal to these
 pub rewritten : (side on : Side) (v : Ipv4Repr) (old done new addr : List ℕ) (port : ℕ) (t : Transport) → side ≡ on → new ≡ done → Rewrites v old done on addr port t → Rewrites v old new side addr port t

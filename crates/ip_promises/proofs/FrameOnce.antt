@@ -1,15 +1,14 @@
 -- A lenient parse has one result, and so has a frame that is emitted.
-use Rattle.std.proofs.Common.{ℕ, ◌≡◌, ◌∙◌, ◌++◌, List, Option, None, Some, ap, arith, drop, refl, subst, sym, true≢false}
+use Rattle.std.proofs.Common.{ℕ, ◌≡◌, ◌∙◌, ◌++◌, List, [], Option, None, Some, ap, arith, drop, refl, subst, sym, true≢false}
+use Rattle.std.specs.Option.{option_map_or}
 use Rattle.ip_promises.specs.Same.{SameCarried, SameFrame, SameTransport}
 use Rattle.ip_wire.proofs.ArpComputed.{arp_of-Reads}
 use Rattle.ip_wire.proofs.EthernetComputed.{ethernet_of-Reads}
-use Rattle.ip_wire.proofs.ReadsOnce.{computed-one, not-arp, packet-once, transport-once}
-use Rattle.ip_wire.specs.Frame as frame
-use Rattle.ip_wire.specs.Frame.{ReadsTransport, datagram, other, packet_payload, segment}
+use Rattle.ip_wire.proofs.Found.{transport-found}
+use Rattle.ip_wire.proofs.ReadsOnce.{computed-one, not-arp, packet-once}
+use Rattle.ip_wire.specs.Frame.{packet_payload}
 use Rattle.ip_wire.specs.Filled.{Fills}
-use Rattle.ip_wire.specs.FrameValue.{Finds, FindsCarried, FindsTransport}
-use Rattle.ip_wire.specs.Ip.{dst_addr_of, next_header_of, src_addr_of}
-use Rattle.ip_wire.specs.TcpRepr.{header_of}
+use Rattle.ip_wire.specs.FrameValue.{Finds, FindsCarried, FindsTransport, kept_of, transport_of}
 use Rattle.ip_wire.specs.Types.{EthernetProtocol, EthernetRepr, IpRepr, Ipv4, Ipv6}
 use Rattle.ip_wire.specs.declared.Carried.{Carried}
 use Rattle.ip_wire.specs.declared.Carried.TheVariants as carried
@@ -30,27 +29,24 @@ fills-once bytes len old new new' (Some n) (Some m) (size, fits, is) (also, room
 
 -- ---- what a packet carries
 
-read-once : (caps : ChecksumCapabilities) (v : IpRepr) (bytes : List ℕ) (t u : frame.Transport) → ReadsTransport caps v bytes t → ReadsTransport caps v bytes u → t ≡ u
-read-once caps v bytes = transport-once caps (next_header_of v) (src_addr_of v) (dst_addr_of v) bytes
+-- kept bytes are all of them
+kept-found : (caps : ChecksumCapabilities) (v : IpRepr) (bytes : List ℕ) (t : Transport) → FindsTransport caps v bytes t → kept_of t ≡ option_map_or (λ _. []) (transport_of t) bytes
+kept-found caps v bytes (transport.Unread p) found = found.1
+kept-found caps v bytes (transport.Udp u p) found = refl
+kept-found caps v bytes (transport.Tcp u) found = refl
+kept-found caps v bytes (transport.Other p) found = refl
 
-transport-found : (caps : ChecksumCapabilities) (v : IpRepr) (bytes : List ℕ) (t u : Transport) → FindsTransport caps v bytes t → FindsTransport caps v bytes u → SameTransport t u
-transport-found caps v bytes (transport.Udp u p) (transport.Udp w q) a b = let same = read-once caps v bytes (datagram u p.now) (datagram w q.now) a b in (cc, cc)
-transport-found caps v bytes (transport.Tcp u) (transport.Tcp w) a b =
-    let same = read-once caps v bytes (segment (header_of u) u.payload.now) (segment (header_of w) w.payload.now) a b in (cc, cc)
-transport-found caps v bytes (transport.Other p) (transport.Other q) a b = a.2 ∙ sym b.2
-transport-found caps v bytes (transport.Unread p) (transport.Unread q) a b = a.1 ∙ sym b.1
-transport-found caps v bytes (transport.Udp u p) (transport.Tcp w) a b = absurd (let apart = sym a.0 ∙ b.0 in cc)
-transport-found caps v bytes (transport.Udp u p) (transport.Other q) a b = absurd (b.0 a.0)
-transport-found caps v bytes (transport.Udp u p) (transport.Unread q) a b = absurd (b.0 (datagram u p.now) a)
-transport-found caps v bytes (transport.Tcp u) (transport.Udp w q) a b = absurd (let apart = sym a.0 ∙ b.0 in cc)
-transport-found caps v bytes (transport.Tcp u) (transport.Other q) a b = absurd (b.1 a.0)
-transport-found caps v bytes (transport.Tcp u) (transport.Unread q) a b = absurd (b.0 (segment (header_of u) u.payload.now) a)
-transport-found caps v bytes (transport.Other p) (transport.Udp w q) a b = absurd (a.0 b.0)
-transport-found caps v bytes (transport.Other p) (transport.Tcp w) a b = absurd (a.1 b.0)
-transport-found caps v bytes (transport.Other p) (transport.Unread q) a b = absurd (b.0 (other p.now) a)
-transport-found caps v bytes (transport.Unread p) (transport.Udp w q) a b = absurd (a.0 (datagram w q.now) b)
-transport-found caps v bytes (transport.Unread p) (transport.Tcp w) a b = absurd (a.0 (segment (header_of w) w.payload.now) b)
-transport-found caps v bytes (transport.Unread p) (transport.Other q) a b = absurd (a.0 (other q.now) b)
+same-transport : (t u : Transport) → transport_of t ≡ transport_of u → kept_of t ≡ kept_of u → SameTransport t u
+same-transport (transport.Udp u p) (transport.Udp w q) e kept = (cc, cc)
+same-transport (transport.Tcp u) (transport.Tcp w) e kept = (cc, cc)
+same-transport (transport.Other p) (transport.Other q) e kept = cc
+same-transport (transport.Unread p) (transport.Unread q) e kept = kept
+same-transport _ _ e kept = absurd (cc)
+
+transports-found : (caps : ChecksumCapabilities) (v : IpRepr) (bytes : List ℕ) (t u : Transport) → FindsTransport caps v bytes t → FindsTransport caps v bytes u → SameTransport t u
+transports-found caps v bytes t u a b =
+    let same : transport_of t ≡ transport_of u = sym (transport-found caps v bytes t a) ∙ transport-found caps v bytes u b in
+    same-transport t u same (kept-found caps v bytes t a ∙ ap (λ o. option_map_or (λ _. []) o bytes) same ∙ sym (kept-found caps v bytes u b))
 
 -- ---- what a frame carries
 
@@ -58,7 +54,7 @@ carried-found : (caps : ChecksumCapabilities) (t : EthernetProtocol) (bytes : Li
 carried-found caps t bytes (carried.Arp v) (carried.Arp w) (type, a) (named, b) = computed-one _ v w ((arp_of-Reads bytes v).1 a) ((arp_of-Reads bytes w).1 b)
 carried-found caps t bytes (carried.Packet v inner) (carried.Packet w outer) (type, a, found) (named, b, also) =
     let same : v ≡ w = packet-once caps bytes v w (sym type ∙ named) a b in
-    (same, transport-found caps w (packet_payload w bytes) inner outer (subst (λ x. FindsTransport caps x (packet_payload x bytes) inner) same found) also)
+    (same, transports-found caps w (packet_payload w bytes) inner outer (subst (λ x. FindsTransport caps x (packet_payload x bytes) inner) same found) also)
 carried-found caps t bytes (carried.Fragment p) (carried.Fragment q) a b = a.0 ∙ sym b.0
 carried-found caps t bytes (carried.Unread p) (carried.Unread q) a b = a.1 ∙ sym b.1
 carried-found caps t bytes (carried.Arp v) (carried.Packet w inner) a b = absurd (not-arp w (sym b.0 ∙ a.0))

@@ -1,7 +1,6 @@
--- ARP is a layer.
-use Rattle.std.proofs.Common.{ℕ, ◌≡◌, ◌≤◌, ◌^◌, ◌<◌, List, [], ◌∷◌, Some, length, refl, sym, ap, subst, append-nil, arith}
-use Rattle.ip_wire.proofs.Layers.{HasForms-normal, IsLayer, ReadsNormal, length-part, read-parts}
-use Rattle.ip_wire.specs.Frame.{arp}
+-- An ARP packet that is read, written again.
+use Rattle.std.proofs.Common.{ℕ, inl, ◌≡◌, ◌^◌, ◌<◌, List, [], Some, length, refl, sym, ap, subst, append-nil, arith}
+use Rattle.ip_wire.proofs.Layers.{IsLeaf, length-part}
 use Rattle.wire_field.proofs.ByteLists.{AreBytes-append, AreBytes-bytes_high_first, AreBytes-slice_range, AreBytes-tested}
 use Rattle.wire_field.proofs.Cells.{cells-all}
 use Rattle.wire_field.proofs.Spelled.{AreBytes}
@@ -13,11 +12,6 @@ use Rattle.std.specs.Int.{bytes_high_first}
 use Rattle.wire_arp.specs.Arp.{Reads, arp_of, bytes_of, ethernet_ipv4, normal, operation_number, operation_of}
 use Rattle.wire_arp.specs.declared.ArpRepr.{ArpRepr}
 use Rattle.wire_arp.specs.declared.ArpRepr.TheVariants.{EthernetIpv4}
-
--- what reading says
-pub read-Reads : (bytes : List ℕ) (v : ArpRepr) (p : List ℕ) → arp.read bytes ≡ Some (v, p) → Reads bytes v × (p ≡ [])
-read-Reads bytes v p e =
-    let (read, rest) = read-parts (arp_of bytes) [] v p e in ((arp_of-Reads bytes v).0 read, sym rest)
 
 -- what was read has a packet
 in_range : (bytes : List ℕ) (v : ArpRepr) → Reads bytes v → IsInRange v
@@ -45,14 +39,6 @@ written-read bytes v r =
     let back = subst (λ written. Reads written (normal v)) (append-nil (bytes_of v)) (reads-bytes_of v [] (in_range bytes v r)) in
     (arp_of-Reads (bytes_of v) (normal v)).1 back
 
--- of no bytes there are no fewer
-none-longer : (p q : List ℕ) → p ≡ [] → length q ≤ length p → q ≡ []
-none-longer p [] e fits = refl
-none-longer p (x ∷ q) e fits = absurd (omega (arith, ap length e, fits))
-
-pub ReadsNormal-arp : ReadsNormal arp
-ReadsNormal-arp bytes v p e = normal-read bytes v (read-Reads bytes v p e).0
-
 AreBytes-written : (bytes : List ℕ) (v : ArpRepr) → AreBytes bytes → Reads bytes v → AreBytes (bytes_of v)
 AreBytes-written bytes v h r =
     let part = λ (from to : ℕ). AreBytes-slice_range bytes from to h in
@@ -61,18 +47,11 @@ AreBytes-written bytes v h r =
     let fixed = AreBytes-append ethernet_ipv4 (bytes_high_first 2 (operation_number (operation_of (field bytes 48 16)))) front number in
     subst (λ w. AreBytes (bytes_of w)) (sym r.fields) (search (AreBytes-append, fixed, part))
 
-pub IsLayer-arp : IsLayer arp
-IsLayer-arp = record {
-  payload_bytes = λ bytes v p h e. subst AreBytes (sym (read-Reads bytes v p e).1) (λ i. omega arith);
-  written_bytes = λ bytes v p q h e k. AreBytes-written bytes v h (read-Reads bytes v p e).0;
-  reads_back = λ bytes v p q h e fits.
-      let (r, none) = read-Reads bytes v p e in
-      rw (written-read bytes v r, none-longer p q none fits) refl;
-  no_longer = λ bytes v p q e fits.
-      let (r, none) = read-Reads bytes v p e in
-      let whole = r.whole in
-      let written = length-bytes_of v (in_range bytes v r) in
-      let nothing = ap length none in
-      omega (arith, written, whole, nothing);
-  forms = HasForms-normal arp ReadsNormal-arp;
+pub IsLeaf-arp : (bytes : List ℕ) (v : ArpRepr) → Reads bytes v → IsLeaf arp_of bytes_of normal bytes v
+IsLeaf-arp bytes v r = record {
+  are_bytes = λ h. AreBytes-written bytes v h r;
+  reads_back = λ h. written-read bytes v r;
+  no_longer = let whole = r.whole in let written = length-bytes_of v (in_range bytes v r) in omega (arith, written, whole);
+  twice = ap normal (normal-read bytes v r);
+  normal_or_shorter = inl (normal-read bytes v r);
 }

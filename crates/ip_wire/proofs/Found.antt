@@ -1,17 +1,18 @@
--- What is found in a frame, and what is read of it.
-use Rattle.std.proofs.Common.{ℕ, ◌≡◌, ◌≢◌, ◌↔◌, ◌∙◌, true, false, List, None, Some, drop, is_some, refl, sym, ap, subst}
-use Rattle.ip_wire.proofs.ReadsOnce.{carried-once, computed-one, frame-once, not-arp, packet-once, transport-once, udp-computed}
+-- What is found in a frame is what is computed of it.
+use Rattle.std.proofs.Common.{ℕ, ◌≡◌, ◌↔◌, ◌∙◌, IsSome, List, Option, None, Some, drop, refl, sym, ap}
+use Rattle.std.specs.Option.{option_map}
+use Rattle.std.specs.Prelude.{MatchOption}
+use Rattle.ip_wire.proofs.FrameOf.{carried-only, carried-packet, carried-read, frame_of-Reads, transport-only, transport-read}
+use Rattle.ip_wire.proofs.Options.{none_of, option_map-Some, value}
 use Rattle.ip_wire.specs.Frame as frame
-use Rattle.ip_wire.specs.Frame.{ReadsCarried, ReadsFrame, ReadsPacket, ReadsTransport, datagram, message, other, packet, segment, type_of}
-use Rattle.ip_wire.specs.FrameValue.{ReadsHeader, ReadsNothing, Finds, FindsCarried, FindsTransport, Parses, ParsesCarried, ParsesTransport, carried_of, transport_of}
+use Rattle.ip_wire.specs.Frame.{ReadsCarried, ReadsFrame, ReadsTransport, carried_by, frame_of, message, packet, transport_by}
+use Rattle.ip_wire.specs.FrameValue.{Finds, FindsCarried, FindsTransport, Parses, ParsesCarried, ParsesTransport, ReadsHeader, ReadsNothing, carried_of, transport_bytes, transport_of}
 use Rattle.ip_wire.specs.declared.frame.carried.Carried.{Carried}
 use Rattle.ip_wire.specs.declared.frame.carried.Carried.TheVariants as carried
 use Rattle.ip_wire.specs.declared.frame.transport.Transport.{Transport}
-use Rattle.ip_wire.specs.declared.frame.transport.Transport.TheVariants as transport
 use Rattle.ip_wire.specs.declared.frame.Frame.{Frame}
 use Rattle.net_base.specs.Checksum.{verifies}
 use Rattle.net_base.specs.declared.ChecksumCapabilities.{ChecksumCapabilities}
-use Rattle.wire_ends.specs.declared.IpProtocol.TheVariants as protocol
 use Rattle.wire_arp.specs.Arp as arp
 use Rattle.ip_wire.specs.Types.{ArpRepr, EthernetProtocol, EthernetRepr, IpRepr, Ipv4, Ipv4Repr, Ipv6, Ipv6Repr}
 use Rattle.wire_ipv4.specs.Ipv4 as ipv4
@@ -19,142 +20,96 @@ use Rattle.wire_ipv6.specs.Ipv6 as ipv6
 use Rattle.wire_ethernet.proofs.EthernetComputed.{ethernet_of-Reads}
 use Rattle.wire_ethernet.specs.declared.EthernetProtocol.TheVariants as ethertype
 use Rattle.wire_ip.specs.Ip.{dst_addr_of, next_header_of, src_addr_of}
-use Rattle.wire_tcp.specs.TcpRepr.{HasNoReading}
-use Rattle.wire_udp.specs.Udp.{udp_of}
 
 -- ---- what a packet carries
 
-pub none-udp : (caps : ChecksumCapabilities) (v : IpRepr) (bytes : List ℕ) → next_header_of v ≡ protocol.Udp
-    → udp_of (src_addr_of v) (dst_addr_of v) (verifies caps.udp) bytes ≡ None → (t : frame.Transport) → ReadsTransport caps v bytes t → ⊥
-none-udp caps v bytes p e (datagram u q) r =
-    let found = udp-computed (src_addr_of v) (dst_addr_of v) (verifies caps.udp) bytes u q r.1 in
-    let apart = sym e ∙ found in
-    cc
-none-udp caps v bytes p e (segment u q) r = let apart = sym p ∙ r.0 in cc
-none-udp caps v bytes p e (other q) r = r.0 p
+pub transport-found : (caps : ChecksumCapabilities) (v : IpRepr) (bytes : List ℕ) (t : Transport) → FindsTransport caps v bytes t
+    → transport_by caps (next_header_of v) (src_addr_of v) (dst_addr_of v) bytes ≡ transport_of t
+transport-found caps v bytes t found = by (transport_of t) found
+  where
+    by : (o : Option frame.Transport)
+        → MatchOption o (((read : frame.Transport) → ¬ ReadsTransport caps v bytes read) × (transport_bytes caps v t ≡ bytes)) (ReadsTransport caps v bytes)
+        → transport_by caps (next_header_of v) (src_addr_of v) (dst_addr_of v) bytes ≡ o
+    by None f = none_of _ (λ read e. f.0 read (transport-only caps _ _ _ bytes read e))
+    by (Some read) f = transport-read caps _ _ _ bytes read f
 
-pub none-tcp : (caps : ChecksumCapabilities) (v : IpRepr) (bytes : List ℕ) → next_header_of v ≡ protocol.Tcp
-    → HasNoReading bytes (src_addr_of v) (dst_addr_of v) (verifies caps.tcp) → (t : frame.Transport) → ReadsTransport caps v bytes t → ⊥
-none-tcp caps v bytes p e (datagram u q) r = let apart = sym p ∙ r.0 in cc
-none-tcp caps v bytes p e (segment u q) r = e u q r.1
-none-tcp caps v bytes p e (other q) r = r.1 p
+pub gives-transport : (caps : ChecksumCapabilities) (v : IpRepr) (bytes : List ℕ) (t : Transport) → FindsTransport caps v bytes t
+    → (s : frame.Transport) → (transport_of t ≡ Some s) ↔ ReadsTransport caps v bytes s
+gives-transport caps v bytes t found s =
+    let is = transport-found caps v bytes t found in
+    (λ e. transport-only caps _ _ _ bytes s (is ∙ e), λ r. sym is ∙ transport-read caps _ _ _ bytes s r)
 
-pub found-transport : (caps : ChecksumCapabilities) (v : IpRepr) (bytes : List ℕ) (t : Transport) → FindsTransport caps v bytes t
-    → is_some (transport_of t) ≡ true → ParsesTransport caps v bytes t
-found-transport caps v bytes (transport.Udp u payload) f e = (_, refl, f)
-found-transport caps v bytes (transport.Tcp u) f e = (_, refl, f)
-found-transport caps v bytes (transport.Other payload) f e = (_, refl, f)
-found-transport caps v bytes (transport.Unread kept) f e = absurd (cc)
+pub parses-transport : (caps : ChecksumCapabilities) (v : IpRepr) (bytes : List ℕ) (t : Transport) → FindsTransport caps v bytes t
+    → IsSome (transport_of t) → ParsesTransport caps v bytes t
+parses-transport caps v bytes t found some =
+    let (read, is) = value (transport_of t) some in (read, is, (gives-transport caps v bytes t found read).0 is)
 
-pub no-transport : (caps : ChecksumCapabilities) (v : IpRepr) (bytes : List ℕ) (t : Transport) → FindsTransport caps v bytes t
-    → is_some (transport_of t) ≡ false → (s : frame.Transport) → ReadsTransport caps v bytes s → ⊥
-no-transport caps v bytes (transport.Udp u payload) f e s r = cc
-no-transport caps v bytes (transport.Tcp u) f e s r = cc
-no-transport caps v bytes (transport.Other payload) f e s r = cc
-no-transport caps v bytes (transport.Unread kept) f e s r = f.0 s r
+-- bytes that are not read as the protocol of their header are not read
+pub unread-transport : (caps : ChecksumCapabilities) (v : IpRepr) (bytes : List ℕ) → transport_by caps (next_header_of v) (src_addr_of v) (dst_addr_of v) bytes ≡ None
+    → (t : frame.Transport) → ¬ ReadsTransport caps v bytes t
+unread-transport caps v bytes none t r = let apart = sym none ∙ transport-read caps _ _ _ bytes t r in cc
 
 -- ---- what a frame carries
 
-pub found-carried : (caps : ChecksumCapabilities) (t : EthernetProtocol) (bytes : List ℕ) (c : Carried) → FindsCarried caps t bytes c
-    → is_some (carried_of c) ≡ true → ParsesCarried caps t bytes c
-found-carried caps t bytes (carried.Arp v) f e = (_, refl, f)
-found-carried caps t bytes (carried.Packet v (transport.Udp u payload)) f e = (_, refl, f)
-found-carried caps t bytes (carried.Packet v (transport.Tcp u)) f e = (_, refl, f)
-found-carried caps t bytes (carried.Packet v (transport.Other payload)) f e = (_, refl, f)
-found-carried caps t bytes (carried.Packet v (transport.Unread kept)) f e = absurd (cc)
-found-carried caps t bytes (carried.Fragment part) f e = absurd (cc)
-found-carried caps t bytes (carried.Unread kept) f e = absurd (cc)
-
--- bytes of a type are nothing that is read where they are not what the type names
-ipv4-header : (caps : ChecksumCapabilities) (t : EthernetProtocol) (bytes : List ℕ) → t ≡ ethertype.Ipv4 → ((w : Ipv4Repr) → ¬ ipv4.Reads bytes (verifies caps.ipv4) w)
-    → (v : IpRepr) → ¬ ReadsHeader caps t bytes v
-ipv4-header caps t bytes is none (Ipv4 v) (type, r) = none v r
-ipv4-header caps t bytes is none (Ipv6 v) (type, r) = let apart = sym is ∙ type in cc
-
-pub nothing-ipv4 : (caps : ChecksumCapabilities) (t : EthernetProtocol) (bytes : List ℕ) → t ≡ ethertype.Ipv4 → ((w : Ipv4Repr) → ¬ ipv4.Reads bytes (verifies caps.ipv4) w)
+pub reads-nothing : (caps : ChecksumCapabilities) (t : EthernetProtocol) (bytes : List ℕ) → ((w : ArpRepr) → t ≡ ethertype.Arp → ¬ arp.Reads bytes w)
+    → ((w : Ipv4Repr) → t ≡ ethertype.Ipv4 → ¬ ipv4.Reads bytes (verifies caps.ipv4) w) → ((w : Ipv6Repr) → t ≡ ethertype.Ipv6 → ¬ ipv6.Reads bytes w)
     → ReadsNothing caps t bytes
-nothing-ipv4 caps t bytes is none = record { no_message = λ v type r. let apart = sym is ∙ type in cc; no_header = ipv4-header caps t bytes is none }
+reads-nothing caps t bytes no_arp no_ipv4 no_ipv6 = record { no_message = no_arp; no_header = no_header }
+  where
+    no_header : (v : IpRepr) → ¬ ReadsHeader caps t bytes v
+    no_header (Ipv4 v) (type, r) = no_ipv4 v type r
+    no_header (Ipv6 v) (type, r) = no_ipv6 v type r
 
-ipv6-header : (caps : ChecksumCapabilities) (t : EthernetProtocol) (bytes : List ℕ) → t ≡ ethertype.Ipv6 → ((w : Ipv6Repr) → ¬ ipv6.Reads bytes w)
-    → (v : IpRepr) → ¬ ReadsHeader caps t bytes v
-ipv6-header caps t bytes is none (Ipv4 v) (type, r) = let apart = sym is ∙ type in cc
-ipv6-header caps t bytes is none (Ipv6 v) (type, r) = none v r
+nothing-read : (caps : ChecksumCapabilities) (t : EthernetProtocol) (bytes : List ℕ) → ReadsNothing caps t bytes → (d : frame.Carried) → ¬ ReadsCarried caps t bytes d
+nothing-read caps t bytes none (message w) (type, r) = none.no_message w type r
+nothing-read caps t bytes none (packet (Ipv4 w) s) (type, (r, whole), inner) = none.no_header (Ipv4 w) (type, r)
+nothing-read caps t bytes none (packet (Ipv6 w) s) (type, r, inner) = none.no_header (Ipv6 w) (type, r)
 
-pub nothing-ipv6 : (caps : ChecksumCapabilities) (t : EthernetProtocol) (bytes : List ℕ) → t ≡ ethertype.Ipv6 → ((w : Ipv6Repr) → ¬ ipv6.Reads bytes w)
-    → ReadsNothing caps t bytes
-nothing-ipv6 caps t bytes is none = record { no_message = λ v type r. let apart = sym is ∙ type in cc; no_header = ipv6-header caps t bytes is none }
+pub carried-found : (caps : ChecksumCapabilities) (t : EthernetProtocol) (bytes : List ℕ) (c : Carried) → FindsCarried caps t bytes c
+    → carried_by caps t bytes ≡ carried_of c
+carried-found caps t bytes (carried.Arp v) found = carried-read caps t bytes (message v) found
+carried-found caps t bytes (carried.Packet v inner) (type, read, found) =
+    carried-packet caps t bytes v type read ∙ ap (option_map (packet v)) (transport-found caps v (frame.packet_payload v bytes) inner found)
+carried-found caps t bytes (carried.Fragment part) (lent, is_part, (v, (type, read))) = rw (type, is_part) refl
+carried-found caps t bytes (carried.Unread kept) (nothing, is) =
+    none_of (carried_by caps t bytes) (λ d e. nothing-read caps t bytes nothing d (carried-only caps t bytes d e))
 
-no-header : (caps : ChecksumCapabilities) (t : EthernetProtocol) (bytes : List ℕ) → t ≢ ethertype.Ipv4 → t ≢ ethertype.Ipv6 → (v : IpRepr) → ¬ ReadsHeader caps t bytes v
-no-header caps t bytes a b (Ipv4 v) (type, r) = a type
-no-header caps t bytes a b (Ipv6 v) (type, r) = b type
+pub gives-carried : (caps : ChecksumCapabilities) (t : EthernetProtocol) (bytes : List ℕ) (c : Carried) → FindsCarried caps t bytes c
+    → (d : frame.Carried) → (carried_of c ≡ Some d) ↔ ReadsCarried caps t bytes d
+gives-carried caps t bytes c found d =
+    let is = carried-found caps t bytes c found in
+    (λ e. carried-only caps t bytes d (is ∙ e), λ r. sym is ∙ carried-read caps t bytes d r)
 
-pub nothing-arp : (caps : ChecksumCapabilities) (t : EthernetProtocol) (bytes : List ℕ) → t ≡ ethertype.Arp → ((w : ArpRepr) → ¬ arp.Reads bytes w) → ReadsNothing caps t bytes
-nothing-arp caps t bytes is none = record {
-  no_message = λ v type r. none v r;
-  no_header = no-header caps t bytes (λ type. let apart = sym is ∙ type in cc) (λ type. let apart = sym is ∙ type in cc);
-}
-
-pub nothing-unknown : (caps : ChecksumCapabilities) (t : EthernetProtocol) (bytes : List ℕ) (n : ℕ) → t ≡ ethertype.Unknown n → ReadsNothing caps t bytes
-nothing-unknown caps t bytes n is = record {
-  no_message = λ v type r. let apart = sym is ∙ type in cc;
-  no_header = no-header caps t bytes (λ type. let apart = sym is ∙ type in cc) (λ type. let apart = sym is ∙ type in cc);
-}
-
-pub no-carried : (caps : ChecksumCapabilities) (t : EthernetProtocol) (bytes : List ℕ) (c : Carried) → FindsCarried caps t bytes c
-    → is_some (carried_of c) ≡ false → (d : frame.Carried) → ReadsCarried caps t bytes d → ⊥
-no-carried caps t bytes (carried.Arp v) f e d r = cc
-no-carried caps t bytes (carried.Packet v (transport.Udp u payload)) f e d r = cc
-no-carried caps t bytes (carried.Packet v (transport.Tcp u)) f e d r = cc
-no-carried caps t bytes (carried.Packet v (transport.Other payload)) f e d r = cc
-no-carried caps t bytes (carried.Packet v (transport.Unread kept)) (type, read, found) e (message w) r = not-arp v (sym type ∙ r.0)
-no-carried caps t bytes (carried.Packet v (transport.Unread kept)) (type, read, found) e (packet w s) (named, again, inner) =
-    let same : w ≡ v = packet-once caps bytes w v (sym named ∙ type) again read in
-    found.0 s (subst (λ x. ReadsTransport caps x (frame.packet_payload x bytes) s) same inner)
-no-carried caps t bytes (carried.Fragment part) (lent, is_part, (v, (type, read))) e (message w) r = let apart = sym type ∙ r.0 in cc
-no-carried caps t bytes (carried.Fragment part) (lent, is_part, (v, (type, read))) e (packet (Ipv4 w) s) (named, (again, whole), inner) =
-    let apart = sym is_part ∙ whole in cc
-no-carried caps t bytes (carried.Fragment part) (lent, is_part, (v, (type, read))) e (packet (Ipv6 w) s) (named, again, inner) =
-    let apart = sym type ∙ named in cc
-no-carried caps t bytes (carried.Unread kept) (nothing, _) e (message w) (type, r) = nothing.no_message w type r
-no-carried caps t bytes (carried.Unread kept) (nothing, _) e (packet (Ipv4 w) s) (named, (again, whole), inner) = nothing.no_header (Ipv4 w) (named, again)
-no-carried caps t bytes (carried.Unread kept) (nothing, _) e (packet (Ipv6 w) s) (named, again, inner) = nothing.no_header (Ipv6 w) (named, again)
+pub parses-carried : (caps : ChecksumCapabilities) (t : EthernetProtocol) (bytes : List ℕ) (c : Carried) → FindsCarried caps t bytes c
+    → IsSome (carried_of c) → ParsesCarried caps t bytes c
+parses-carried caps t bytes c found some =
+    let (read, is) = value (carried_of c) some in (read, is, (gives-carried caps t bytes c found read).0 is)
 
 -- ---- whole frames
 
-pub found-frame : (caps : ChecksumCapabilities) (bytes : List ℕ) (f : Frame) → Finds caps bytes f → is_some (carried_of f.carried) ≡ true → Parses caps bytes f
-found-frame caps bytes f found e =
-    let (read, is, reads) = found-carried caps f.header.ethertype (drop 14 bytes) f.carried found.carried e in
-    (read, is, record { reads_header = found.header; reads_carried = reads })
+pub frame-found : (caps : ChecksumCapabilities) (bytes : List ℕ) (f : Frame) → Finds caps bytes f
+    → frame_of caps bytes ≡ option_map (λ c. (f.header, c)) (carried_of f.carried)
+unfolding frame_of
+frame-found caps bytes f found =
+    rw ((ethernet_of-Reads bytes f.header).1 found.header, carried-found caps f.header.ethertype (drop 14 bytes) f.carried found.carried) refl
 
-pub no-frame : (caps : ChecksumCapabilities) (bytes : List ℕ) (f : Frame) → Finds caps bytes f → is_some (carried_of f.carried) ≡ false
-    → (v : EthernetRepr) (d : frame.Carried) → ReadsFrame caps bytes v d → ⊥
-no-frame caps bytes f found e v d r =
-    let same : v ≡ f.header = computed-one _ v f.header ((ethernet_of-Reads bytes v).1 r.reads_header) ((ethernet_of-Reads bytes f.header).1 found.header) in
-    no-carried caps f.header.ethertype (drop 14 bytes) f.carried found.carried e d
-    (subst (λ (w : EthernetRepr). ReadsCarried caps w.ethertype (drop 14 bytes) d) same r.reads_carried)
-
--- ---- what is read of them is one value
-
-pub gives-transport : (caps : ChecksumCapabilities) (v : IpRepr) (bytes : List ℕ) (t : Transport) → ParsesTransport caps v bytes t
-    → (s : frame.Transport) → (transport_of t ≡ Some s) ↔ ReadsTransport caps v bytes s
-gives-transport caps v bytes t (read, is, reads) s = (
-  λ gives. subst (λ x. ReadsTransport caps v bytes x) (computed-one (transport_of t) read s is gives) reads,
-  λ reading. is ∙ ap Some (transport-once caps _ _ _ bytes read s reads reading),
-)
-
-pub gives-carried : (caps : ChecksumCapabilities) (t : EthernetProtocol) (bytes : List ℕ) (c : Carried) → ParsesCarried caps t bytes c
-    → (d : frame.Carried) → (carried_of c ≡ Some d) ↔ ReadsCarried caps t bytes d
-gives-carried caps t bytes c (read, is, reads) d = (
-  λ gives. subst (λ x. ReadsCarried caps t bytes x) (computed-one (carried_of c) read d is gives) reads,
-  λ reading. is ∙ ap Some (carried-once caps t bytes read d reads reading),
-)
-
-pub gives-frame : (caps : ChecksumCapabilities) (bytes : List ℕ) (f : Frame) → Parses caps bytes f
+pub gives-frame : (caps : ChecksumCapabilities) (bytes : List ℕ) (f : Frame) → Finds caps bytes f
     → (v : EthernetRepr) (d : frame.Carried) → ((f.header ≡ v) × (carried_of f.carried ≡ Some d)) ↔ ReadsFrame caps bytes v d
-gives-frame caps bytes f (read, is, reads) v d = (
-  λ gives. subst (λ w. ReadsFrame caps bytes w d) gives.0
-      (subst (λ x. ReadsFrame caps bytes f.header x) (computed-one (carried_of f.carried) read d is gives.1) reads),
-  λ reading.
-      let (header, same) = frame-once caps bytes f.header v read d reads reading in
-      (header, is ∙ ap Some same),
-)
+gives-frame caps bytes f found v d =
+    let is = frame-found caps bytes f found in (
+      λ (header, e). (frame_of-Reads caps bytes v d).0 (is ∙ ap (option_map (λ c. (f.header, c))) e ∙ ap (λ h. Some (h, d)) header),
+      λ r.
+          let (c, e, same) = option_map-Some (λ c. (f.header, c)) (carried_of f.carried) (v, d) (sym is ∙ (frame_of-Reads caps bytes v d).1 r) in
+          (ap (λ (x : EthernetRepr × frame.Carried). x.0) same, e ∙ ap (λ (x : EthernetRepr × frame.Carried). Some x.1) same),
+    )
+
+-- a frame of which everything was parsed has the values of the result
+pub values-found : (caps : ChecksumCapabilities) (bytes : List ℕ) (f : Frame) → Finds caps bytes f → IsSome (carried_of f.carried)
+    → (c : frame.Carried) × (carried_of f.carried ≡ Some c) × (frame_of caps bytes ≡ Some (f.header, c))
+values-found caps bytes f found some =
+    let (c, is) = value (carried_of f.carried) some in
+    (c, is, frame-found caps bytes f found ∙ ap (option_map (λ d. (f.header, d))) is)
+
+pub parses-frame : (caps : ChecksumCapabilities) (bytes : List ℕ) (f : Frame) → Finds caps bytes f → IsSome (carried_of f.carried) → Parses caps bytes f
+parses-frame caps bytes f found some =
+    let (c, is, _) = values-found caps bytes f found some in (c, is, (gives-frame caps bytes f found f.header c).0 (refl, is))

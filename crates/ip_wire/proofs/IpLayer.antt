@@ -1,31 +1,29 @@
 -- IP is a layer.
-use Rattle.std.proofs.Common.{ℕ, ◌≡◌, ◌≤◌, ◌<◌, ◌+◌, ◌^◌, if◌then◌else◌, Bool, true, false, IsTrue, List, [], ◌++◌, Option, Some, None, drop, length, refl, sym, ap, subst, ◌∙◌, append-nil, length-append, arith}
-use Rattle.ip_wire.proofs.Layers.{HasForms-normal, IsLayer, ReadsNormal, byte-lt, length-part, option_and_then-Some, part-behind}
+use Rattle.std.proofs.Common.{ℕ, ◌≡◌, ◌≤◌, ◌<◌, ◌+◌, ◌^◌, Bool, true, IsTrue, List, [], ◌++◌, Option, Some, drop, length, refl, sym, ap, subst, ◌∙◌, append-nil, length-append, arith}
+use Rattle.std.specs.Option.{option_map}
+use Rattle.ip_wire.proofs.FrameOf.{header-only, header-read}
+use Rattle.ip_wire.proofs.Layers.{IsLayer, Layer, ReadsNormal, byte-lt, length-part, part-behind}
+use Rattle.ip_wire.proofs.Options.{option_map-Some}
 use Rattle.ip_wire.proofs.UdpLayer.{AreWords}
-use Rattle.ip_wire.specs.Frame.{ReadsPacket, all_checked, ip, ip_packet_of, is_ipv4_fragment, packet_payload, transport_behind, whole_packet}
+use Rattle.ip_wire.specs.Frame.{ReadsPacket, all_checked, header_by, packet_payload, type_of, type_of_version}
 use Rattle.net_base.specs.Checksum.{verifies}
 use Rattle.net_base.specs.declared.ChecksumCapabilities.{ChecksumCapabilities}
 use Rattle.wire_ends.proofs.Protocols.{number_of-protocol_of}
 use Rattle.wire_ends.specs.Protocol.{number_of}
-use Rattle.ip_wire.specs.Types.{IpRepr, IpVersion, Ipv4, Ipv4Repr, Ipv6, Ipv6Repr}
+use Rattle.ip_wire.specs.Types.{EthernetProtocol, IpRepr, Ipv4, Ipv4Repr, Ipv6, Ipv6Repr}
 use Rattle.wire_ends.specs.declared.IpVersion.TheVariants as version
 use Rattle.wire_field.proofs.ByteLists.{AreBytes-append, AreBytes-cons, AreBytes-part, AreBytes-slice_range}
 use Rattle.wire_field.proofs.Cells.{cells-all}
 use Rattle.wire_field.proofs.Spelled.{AreBytes}
 use Rattle.wire_field.specs.Field.{field}
-use Rattle.wire_ip.proofs.IpComputed.{header_of_version-Some}
 use Rattle.wire_ip.proofs.IpReadsBack.{IsInRange}
-use Rattle.wire_ip.specs.Ip.{ReadsHeader, bytes_of, dst_addr_of, header_len_of, header_of_version, normal, payload_len_of, src_addr_of, version_of, with_payload_len}
-use Rattle.wire_ipv4.proofs.Ipv4Computed.{ipv4_of-Reads}
+use Rattle.wire_ip.specs.Ip.{bytes_of, dst_addr_of, header_len_of, normal, payload_len_of, src_addr_of, version_of, with_payload_len}
 use Rattle.wire_ipv4.proofs.Ipv4Normal as ipv4_normal
 use Rattle.wire_ipv4.proofs.Ipv4ReadsBack as ipv4_back
 use Rattle.wire_ipv4.specs.Ipv4 as ipv4
-use Rattle.wire_ipv4.specs.Ipv4.{ipv4_of}
-use Rattle.wire_ipv6.proofs.Ipv6Computed.{ipv6_of-Reads}
 use Rattle.wire_ipv6.proofs.Ipv6Normal as ipv6_normal
 use Rattle.wire_ipv6.proofs.Ipv6ReadsBack as ipv6_back
 use Rattle.wire_ipv6.specs.Ipv6 as ipv6
-use Rattle.wire_ipv6.specs.Ipv6.{ipv6_of}
 
 -- ---- packets that are read
 
@@ -79,42 +77,41 @@ AreBytes-payload : (bytes : List ℕ) (u : IpRepr) → AreBytes bytes → AreByt
 AreBytes-payload bytes (Ipv4 u) h = AreBytes-slice_range bytes (ipv4.header_len bytes) (ipv4.total_len bytes) h
 AreBytes-payload bytes (Ipv6 u) h = AreBytes-slice_range bytes 40 (ipv6.total_len bytes) h
 
--- ---- what is computed of them
+-- ---- as a layer
 
--- what is read of a version, unless it is a fragment, is a packet
-ReadsPacket-whole : (bytes : List ℕ) (u : IpRepr) → ReadsHeader bytes true u → is_ipv4_fragment u bytes ≡ false → ReadsPacket all_checked bytes u
-ReadsPacket-whole bytes (Ipv4 u) r whole = (r, whole)
-ReadsPacket-whole bytes (Ipv6 u) r whole = r
+-- the header's values without the length of the payload, and the payload
+unfoldable pub ip_packet_of : EthernetProtocol → List ℕ → Option (IpRepr × List ℕ)
+ip_packet_of t bytes = option_map (λ v. (with_payload_len v 0, packet_payload v bytes)) (header_by all_checked t bytes)
 
-pub ip_packet_of-Reads : (bytes : List ℕ) (u : IpRepr) → ReadsPacket all_checked bytes u
-    → ip_packet_of (version_of u) bytes ≡ Some (with_payload_len u 0, packet_payload u bytes)
+-- a header in a frame of this type, which tells where the payload ends
+abbrev pub ip : EthernetProtocol → Layer IpRepr
+ip t = record {
+  read = ip_packet_of t;
+  write = λ v payload. bytes_of (with_payload_len v (length payload)) true ++ payload;
+  normal = λ v. normal (with_payload_len v 0);
+}
+
+pub ip_packet_of-Reads : (t : EthernetProtocol) (bytes : List ℕ) (u : IpRepr) → t ≡ type_of u → ReadsPacket all_checked bytes u
+    → ip_packet_of t bytes ≡ Some (with_payload_len u 0, packet_payload u bytes)
 unfolding ip_packet_of
-ip_packet_of-Reads bytes (Ipv4 u) (r, whole) = rw ((ipv4_of-Reads true bytes u).1 r, whole) refl
-ip_packet_of-Reads bytes (Ipv6 u) r = rw ((ipv6_of-Reads bytes u).1 r) refl
+ip_packet_of-Reads t bytes u type r = ap (option_map (λ v. (with_payload_len v 0, packet_payload v bytes))) (header-read all_checked t bytes u type r)
 
 -- the header that values of a layer were read from, which has the payload's length, and the payload
-pub record IsPacket (n : IpVersion) (bytes : List ℕ) (v : IpRepr) (p : List ℕ) (u : IpRepr) : Type 0 where
-  pub version : version_of u ≡ n
+pub record IsPacket (t : EthernetProtocol) (bytes : List ℕ) (v : IpRepr) (p : List ℕ) (u : IpRepr) : Type 0 where
+  pub type : t ≡ type_of u
   pub reads : ReadsPacket all_checked bytes u
   pub values : with_payload_len u 0 ≡ v
   pub payload : packet_payload u bytes ≡ p
 
--- a choice that gives a value where the test fails
-else-Some : {A : Type 0} (b : Bool) (o : Option A) (d : A) → (if b then None else o) ≡ Some d → (b ≡ false) × (o ≡ Some d)
-else-Some true o d e = absurd (cc)
-else-Some false o d e = (refl, e)
-
-pub ip_packet_of-IsPacket : (n : IpVersion) (bytes : List ℕ) (v : IpRepr) (p : List ℕ) → ip_packet_of n bytes ≡ Some (v, p) → (u : IpRepr) × IsPacket n bytes v p u
+pub ip_packet_of-IsPacket : (t : EthernetProtocol) (bytes : List ℕ) (v : IpRepr) (p : List ℕ) → ip_packet_of t bytes ≡ Some (v, p) → (u : IpRepr) × IsPacket t bytes v p u
 unfolding ip_packet_of
-ip_packet_of-IsPacket n bytes v p e =
-    let (u, found, packet) = option_and_then-Some (whole_packet bytes) (header_of_version true bytes n) (v, p) e in
-    let (version, header) = header_of_version-Some true bytes n u found in
-    let (whole, some) = else-Some (is_ipv4_fragment u bytes) (Some (with_payload_len u 0, packet_payload u bytes)) (v, p) packet in
-    let pair : (with_payload_len u 0, packet_payload u bytes) ≡ (v, p) = cc some in (
+ip_packet_of-IsPacket t bytes v p e =
+    let (u, found, pair) = option_map-Some (λ v. (with_payload_len v 0, packet_payload v bytes)) (header_by all_checked t bytes) (v, p) e in
+    let (type, reads) = header-only all_checked t bytes u found in (
       u,
       record {
-        version = version;
-        reads = ReadsPacket-whole bytes u header whole;
+        type = type;
+        reads = reads;
         values = ap (λ (d : IpRepr × List ℕ). d.0) pair;
         payload = ap (λ (d : IpRepr × List ℕ). d.1) pair;
       },
@@ -181,14 +178,10 @@ pub record SetsLen (u : IpRepr) (m n : ℕ) : Type 0 where
   pub last : with_payload_len (with_payload_len u m) n ≡ with_payload_len u n
   pub normal_form : normal (with_payload_len u n) ≡ with_payload_len (normal u) n
   pub version : version_of (normal (with_payload_len u n)) ≡ version_of u
-  pub transport : transport_behind (with_payload_len u n) ≡ transport_behind u
 
 pub sets_len : (u : IpRepr) (m n : ℕ) → SetsLen u m n
-sets_len (Ipv4 u) m n = record { payload_len = refl; header_len = refl; own = refl; last = refl; normal_form = refl; version = refl; transport = refl }
-sets_len (Ipv6 u) m n = record { payload_len = refl; header_len = refl; own = refl; last = refl; normal_form = refl; version = refl; transport = refl }
-
-pub header_len_of-with : (u : IpRepr) (n : ℕ) → header_len_of (with_payload_len u n) ≡ header_len_of u
-header_len_of-with u n = (sets_len u 0 n).header_len
+sets_len (Ipv4 u) m n = record { payload_len = refl; header_len = refl; own = refl; last = refl; normal_form = refl; version = refl }
+sets_len (Ipv6 u) m n = record { payload_len = refl; header_len = refl; own = refl; last = refl; normal_form = refl; version = refl }
 
 -- values that were read are normal without it too
 pub normal-aside : (bytes : List ℕ) (u : IpRepr) → ReadsPacket all_checked bytes u → normal (with_payload_len (with_payload_len u 0) 0) ≡ with_payload_len u 0
@@ -199,31 +192,31 @@ words : (u : IpRepr) → IsInRange u → AreWords (src_addr_of u) (dst_addr_of u
 words (Ipv4 u) h = record { src_octets = omega (arith, h.src_addr); dst_octets = omega (arith, h.dst_addr) }
 words (Ipv6 u) h = record { src_octets = omega (arith, h.src_addr); dst_octets = omega (arith, h.dst_addr) }
 
-pub AreWords-ip : (n : IpVersion) (bytes : List ℕ) (v : IpRepr) (p : List ℕ) → ip_packet_of n bytes ≡ Some (v, p) → AreWords (src_addr_of v) (dst_addr_of v)
-AreWords-ip n bytes v p e =
-    let (u, d) = ip_packet_of-IsPacket n bytes v p e in
+pub AreWords-ip : (t : EthernetProtocol) (bytes : List ℕ) (v : IpRepr) (p : List ℕ) → ip_packet_of t bytes ≡ Some (v, p) → AreWords (src_addr_of v) (dst_addr_of v)
+AreWords-ip t bytes v p e =
+    let (u, d) = ip_packet_of-IsPacket t bytes v p e in
     subst (λ w. AreWords (src_addr_of w) (dst_addr_of w)) d.values (words (with_payload_len u 0) ((ReadsPacket-IsHeader all_checked bytes u d.reads).in_range 0 (omega arith)))
 
 -- ---- the layer
 
-pub ReadsNormal-ip : (n : IpVersion) → ReadsNormal (ip n)
-ReadsNormal-ip n bytes v p e =
-    let (u, d) = ip_packet_of-IsPacket n bytes v p e in
+ReadsNormal-ip : (t : EthernetProtocol) → ReadsNormal (ip t)
+ReadsNormal-ip t bytes v p e =
+    let (u, d) = ip_packet_of-IsPacket t bytes v p e in
     ap (λ w. normal (with_payload_len w 0)) (sym d.values) ∙ normal-aside bytes u d.reads ∙ d.values
 
-module _ (n : IpVersion) (bytes : List ℕ) (v u : IpRepr) (p q : List ℕ) (d : IsPacket n bytes v p u) where
+module _ (t : EthernetProtocol) (bytes : List ℕ) (v u : IpRepr) (p q : List ℕ) (d : IsPacket t bytes v p u) where
   -- the header that is written before a payload
   abbrev header : IpRepr
   header = with_payload_len u (length q)
 
-  written : (ip n).write v q ≡ bytes_of header true ++ q
+  written : (ip t).write v q ≡ bytes_of header true ++ q
   written = ap (λ w. bytes_of (with_payload_len w (length q)) true ++ q) (sym d.values) ∙ ap (λ w. bytes_of w true ++ q) (sets_len u 0 (length q)).last
 
   -- it can be written if the payload is no longer
   in_range : length q ≤ length p → IsInRange header
   in_range fits = let len = ap length d.payload in (ReadsPacket-IsHeader all_checked bytes u d.reads).in_range (length q) (omega (arith, len, fits))
 
-  written-read : length q ≤ length p → ip_packet_of n (bytes_of header true ++ q) ≡ Some (v, q)
+  written-read : length q ≤ length p → ip_packet_of t (bytes_of header true ++ q) ≡ Some (v, q)
   written-read fits =
       let len = (sets_len u 0 (length q)).payload_len in
       let same = λ (rest : List ℕ). bytes_of header true ++ rest in
@@ -234,8 +227,7 @@ module _ (n : IpVersion) (bytes : List ℕ) (v u : IpRepr) (p q : List ℕ) (d :
       ∙ (sets_len u (length q) 0).last
       ∙ d.values
       in
-      ap (λ k. ip_packet_of k (same q)) (sym ((sets_len u 0 (length q)).version ∙ d.version))
-      ∙ ip_packet_of-Reads (same q) (normal header) read
+      ip_packet_of-Reads t (same q) (normal header) (d.type ∙ ap type_of_version (sym (sets_len u 0 (length q)).version)) read
       ∙ ap (λ x. Some (x, packet_payload (normal header) (same q))) values
       ∙ ap (λ x. Some (v, x)) payload
 
@@ -243,18 +235,17 @@ module _ (n : IpVersion) (bytes : List ℕ) (v u : IpRepr) (p q : List ℕ) (d :
   written-longer fits =
       let whole = (ReadsPacket-IsHeader all_checked bytes u d.reads).whole in
       let payload = ap length d.payload in
-      let len = length-header header true (in_range fits) ∙ header_len_of-with u (length q) in
+      let len = length-header header true (in_range fits) ∙ (sets_len u 0 (length q)).header_len in
       rw length-append (omega (arith, len, payload, whole))
 
-pub IsLayer-ip : (n : IpVersion) → IsLayer (ip n)
-IsLayer-ip n = record {
-  payload_bytes = λ bytes v p h e. let (u, d) = ip_packet_of-IsPacket n bytes v p e in subst AreBytes d.payload (AreBytes-payload bytes u h);
+pub IsLayer-ip : (t : EthernetProtocol) → IsLayer (ip t)
+IsLayer-ip t = record {
+  payload_bytes = λ bytes v p h e. let (u, d) = ip_packet_of-IsPacket t bytes v p e in subst AreBytes d.payload (AreBytes-payload bytes u h);
   written_bytes = λ bytes v p q h e k.
-      let (u, d) = ip_packet_of-IsPacket n bytes v p e in
-      rw (written n bytes v u p q d) (AreBytes-append (bytes_of (with_payload_len u (length q)) true) q (AreBytes-header bytes u (length q) h d.reads) k);
-  reads_back = λ bytes v p q h e fits.
-      let (u, d) = ip_packet_of-IsPacket n bytes v p e in
-      ap (ip_packet_of n) (written n bytes v u p q d) ∙ written-read n bytes v u p q d fits ∙ ap (λ w. Some (w, q)) (sym (ReadsNormal-ip n bytes v p e));
-  no_longer = λ bytes v p q e fits. let (u, d) = ip_packet_of-IsPacket n bytes v p e in rw (written n bytes v u p q d) (written-longer n bytes v u p q d fits);
-  forms = HasForms-normal (ip n) (ReadsNormal-ip n);
+      let (u, d) = ip_packet_of-IsPacket t bytes v p e in
+      rw (written t bytes v u p q d) (AreBytes-append (bytes_of (with_payload_len u (length q)) true) q (AreBytes-header bytes u (length q) h d.reads) k);
+  reads_back = λ bytes v p q e fits.
+      let (u, d) = ip_packet_of-IsPacket t bytes v p e in ap (ip_packet_of t) (written t bytes v u p q d) ∙ written-read t bytes v u p q d fits;
+  no_longer = λ bytes v p q e fits. let (u, d) = ip_packet_of-IsPacket t bytes v p e in rw (written t bytes v u p q d) (written-longer t bytes v u p q d fits);
+  normal_read = ReadsNormal-ip t;
 }

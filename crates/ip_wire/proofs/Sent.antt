@@ -1,18 +1,19 @@
 -- An emitted frame is a reply.
 use Rattle.std.proofs.Common.{ℕ, ◌≡◌, ◌↔◌, ◌∙◌, ◌+◌, ◌≤◌, ◌++◌, List, Option, Some, None, drop, length, refl, sym, ap, subst, arith, length-append, length-drop}
+use Rattle.std.specs.Option.{option_map_or}
 use Rattle.std.specs.Prelude.{IfSome}
 use Rattle.std.proofs.Math.Seq.{drop-append_seam}
+use Rattle.ip_wire.proofs.Options.{option_map-Some}
 use Rattle.ip_wire.proofs.Parsed.{IsParsed, ToBytes, ToFrame, to_bytes, to_frame, unread}
 use Rattle.ip_wire.specs.Frame as frame
 use Rattle.wire_ethernet.specs.Ethernet as ethernet
-use Rattle.ip_wire.specs.Frame.{IsReadWhole, all_checked}
-use Rattle.ip_wire.specs.FrameValue.{ReadsNormalOf, carried_len, carried_of, frame_len}
-use Rattle.wire_tcp.specs.TcpRepr.{header_of}
+use Rattle.ip_wire.specs.Frame.{IsReadWhole, all_checked, describe_transport}
+use Rattle.ip_wire.specs.FrameValue.{ReadsNormalOf, carried_len, carried_of, frame_len, kept_of, transport_of}
+use Rattle.wire_ip.specs.Ip.{header_len_of}
 use Rattle.ip_wire.specs.declared.frame.carried.Carried.{Carried}
 use Rattle.ip_wire.specs.declared.frame.carried.Carried.TheVariants as carried
 use Rattle.wire_ethernet.specs.declared.EthernetRepr.{EthernetRepr}
 use Rattle.ip_wire.specs.declared.frame.Frame.{Frame}
-use Rattle.ip_wire.specs.declared.frame.transport.Transport.TheVariants as transport
 use Rattle.ip_wire.specs.Reply.{Gives, IsReplySent, IsSendable, IsSent, Sends, reply_len}
 
 -- the bytes behind the emitted frame
@@ -40,9 +41,9 @@ is_sent f bytes padding old new n sendable (len, fits, is) same behind (read, no
 -- the length of a frame depends only on its values
 same_len : (c : Carried) (values : frame.Carried) → carried_of c ≡ Some values → 14 + carried_len c ≡ reply_len values
 same_len (carried.Arp v) values e = let is : frame.message v ≡ values = cc in ap reply_len is
-same_len (carried.Packet v (transport.Udp u payload)) values e = let is : frame.packet v (frame.datagram u payload.now) ≡ values = cc in ap reply_len is
-same_len (carried.Packet v (transport.Tcp u)) values e = let is : frame.packet v (frame.segment (header_of u) u.payload.now) ≡ values = cc in ap reply_len is
-same_len (carried.Packet v (transport.Other bytes)) values e = let is : frame.packet v (frame.other bytes.now) ≡ values = cc in ap reply_len is
+same_len (carried.Packet v inner) values e =
+    let (t, is, same) = option_map-Some (frame.packet v) (transport_of inner) values e in
+    ap (λ o. 14 + (header_len_of v + option_map_or (λ read. (describe_transport read).len) o (length (kept_of inner)))) is ∙ ap reply_len same
 same_len _ values e = absurd (cc)
 
 -- an emitted frame has the values of the only reply

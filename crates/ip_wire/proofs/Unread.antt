@@ -1,21 +1,18 @@
 -- What is not read stays.
-use Rattle.std.proofs.Common.{ℕ, ◌≡◌, ◌<◌, ◌/◌, ◌%◌, inl, inr, true, List, [], ◌∷◌, ◌++◌, Option, Some, None, drop, length, slice_range, refl, sym, ap, subst, ◌∙◌, arith}
+use Rattle.std.proofs.Common.{ℕ, ◌≡◌, ◌<◌, ◌/◌, ◌%◌, inl, inr, true, List, ◌∷◌, ◌++◌, Option, Some, None, drop, length, slice_range, refl, sym, ap, subst, ◌∙◌, arith}
 use Rattle.std.specs.Int.{bytes_high_first}
-use Rattle.std.specs.Option.{option_map}
+use Rattle.std.specs.Option.{option_map_or}
+use Rattle.ip_wire.proofs.FrameOf.{header-only, transport-only}
 use Rattle.ip_wire.proofs.Frames.{rebuilt-ip, rebuilt-read}
-use Rattle.ip_wire.proofs.IpLayer.{ReadsPacket-IsHeader, ip_packet_of-IsPacket, sets_len}
-use Rattle.ip_wire.proofs.Layers.{rebuilt_by-None}
-use Rattle.ip_wire.proofs.TcpLayer.{rebuilt-tcp-copied}
-use Rattle.ip_wire.proofs.UdpLayer.{rebuilt-udp-copied}
-use Rattle.ip_wire.specs.Frame.{CarriesMessage, CarriesPacket, CarriesTransport, ReadsPacket, ReadsTransportBy, all_checked, arp, datagram, ethernet, ip, ip_packet_of, packet_format, packet_payload, rebuilt, rebuilt_payload, rebuilt_transport, rebuilt_transport_by, segment, type_of, type_of_version}
+use Rattle.ip_wire.proofs.IpLayer.{ReadsPacket-IsHeader, sets_len}
+use Rattle.ip_wire.proofs.Options.{none_of}
+use Rattle.ip_wire.specs.Frame.{CarriesMessage, CarriesPacket, CarriesTransport, ReadsPacket, ReadsTransportBy, Transport, all_checked, datagram, describe_transport, header_by, other, packet_payload, rebuilt, rebuilt_packet, rebuilt_payload, rebuilt_transport_by, segment, transport_by, type_of}
 use Rattle.wire_field.proofs.Cells.{cells-drop}
 use Rattle.wire_field.proofs.Spelled.{AreBytes}
 use Rattle.wire_field.specs.Field.{field}
-use Rattle.ip_wire.specs.Types.{ArpRepr, EthernetProtocol, EthernetRepr, IpAddress, IpProtocol, IpRepr, IpVersion, UdpRepr}
-use Rattle.wire_ends.specs.declared.IpProtocol.TheVariants as protocol
+use Rattle.ip_wire.specs.Types.{ArpRepr, EthernetProtocol, EthernetRepr, IpAddress, IpProtocol, IpRepr, UdpRepr}
 use Rattle.wire_ip.specs.Ip as ip_header
-use Rattle.wire_ip.specs.Ip.{dst_addr_of, next_header_of, payload_len_of, src_addr_of, version_of, with_payload_len}
-use Rattle.wire_ends.specs.declared.IpVersion.TheVariants as version
+use Rattle.wire_ip.specs.Ip.{dst_addr_of, next_header_of, payload_len_of, src_addr_of, with_payload_len}
 use Rattle.wire_arp.proofs.ArpComputed.{arp_of-Reads}
 use Rattle.wire_arp.specs.Arp as arp_packet
 use Rattle.wire_arp.specs.Arp.{arp_of}
@@ -23,30 +20,15 @@ use Rattle.wire_ethernet.proofs.EthernetComputed.{ethernet_of-Reads}
 use Rattle.wire_ethernet.proofs.EthernetNormal.{number_of-protocol_of}
 use Rattle.wire_ethernet.specs.Ethernet.{Reads, bytes_of, ethernet_of, number_of}
 use Rattle.wire_ethernet.specs.declared.EthernetProtocol.TheVariants as ethertype
-use Rattle.wire_tcp.proofs.TcpComputed.{tcp_of-Reads}
-use Rattle.wire_tcp.specs.TcpRepr.{TcpHeader, tcp_of}
-use Rattle.wire_udp.proofs.UdpComputed.{udp_of-Reads}
-use Rattle.wire_udp.specs.Udp.{udp_of}
-
--- an option that is no value is none
-pub none_of : {A : Type 0} (o : Option A) → ((a : A) → ¬ (o ≡ Some a)) → o ≡ None
-none_of None h = refl
-none_of (Some a) h = absurd (h a refl)
-
-packet-stays : (n : IpVersion) (bytes : List ℕ) → ((w : IpRepr) → version_of w ≡ n → ¬ ReadsPacket all_checked bytes w) → (packet_format n).rebuilt bytes ≡ bytes
-packet-stays n bytes h =
-    rebuilt_by-None (ip n) rebuilt_transport bytes
-    (none_of (ip_packet_of n bytes) (λ d e. let (u, is) = ip_packet_of-IsPacket n bytes d.0 d.1 e in h u is.version is.reads))
+use Rattle.wire_tcp.specs.TcpRepr.{TcpHeader}
 
 -- what a frame of this type carries, if it is no ARP packet or IP packet that is read
 pub payload-stays : (t : EthernetProtocol) (bytes : List ℕ) → ((w : ArpRepr) → t ≡ ethertype.Arp → ¬ arp_packet.Reads bytes w)
     → ((w : IpRepr) → t ≡ type_of w → ¬ ReadsPacket all_checked bytes w) → rebuilt_payload t bytes ≡ bytes
-payload-stays ethertype.Ipv4 bytes h k = packet-stays version.Ipv4 bytes (λ w is. k w (ap type_of_version (sym is)))
-payload-stays ethertype.Ipv6 bytes h k = packet-stays version.Ipv6 bytes (λ w is. k w (ap type_of_version (sym is)))
-payload-stays ethertype.Arp bytes h k =
-    let unread = none_of (arp_of bytes) (λ w e. h w refl ((arp_of-Reads bytes w).0 e)) in
-    rebuilt_by-None arp (λ v rest. []) bytes (ap (option_map (λ (v : ArpRepr). (v, []))) unread)
-payload-stays (ethertype.Unknown n) bytes h k = refl
+payload-stays ethertype.Arp bytes h k = ap (λ o. option_map_or arp_packet.bytes_of o bytes) (none_of (arp_of bytes) (λ w e. h w refl ((arp_of-Reads bytes w).0 e)))
+payload-stays t bytes h k =
+    let unread = none_of (header_by all_checked t bytes) (λ v e. let (type, read) = header-only all_checked t bytes v e in k v type read) in
+    ap (λ o. option_map_or (λ v. rebuilt_packet v (packet_payload v bytes)) o bytes) unread
 
 -- the header that was read, written again
 header-again : (a b c d e f g h i j k l m n : ℕ) (rest : List ℕ) → m < 256 → n < 256
@@ -74,15 +56,18 @@ header-stays frame v are r =
 
 -- ---- what a packet carries
 
-pub transport_by-stays : (t : IpProtocol) (src dst : IpAddress) (bytes : List ℕ)
+transport_by-stays : (t : IpProtocol) (src dst : IpAddress) (bytes : List ℕ)
     → ((v : UdpRepr) (payload : List ℕ) → ¬ ReadsTransportBy all_checked t src dst bytes (datagram v payload))
     → ((v : TcpHeader) (payload : List ℕ) → ¬ ReadsTransportBy all_checked t src dst bytes (segment v payload))
     → rebuilt_transport_by t src dst bytes ≡ bytes
-transport_by-stays protocol.Udp src dst bytes h k =
-    rebuilt-udp-copied src dst bytes (none_of (udp_of src dst true bytes) (λ v e. h v _ (refl, (udp_of-Reads src dst true bytes v).0 e)))
-transport_by-stays protocol.Tcp src dst bytes h k =
-    rebuilt-tcp-copied src dst bytes (none_of (tcp_of src dst true bytes) (λ v e. k v _ (refl, (tcp_of-Reads src dst true bytes v).0 e)))
-transport_by-stays _ src dst bytes h k = refl
+transport_by-stays t src dst bytes h k = by (transport_by all_checked t src dst bytes) (λ read. transport-only all_checked t src dst bytes read)
+  where
+    by : (o : Option Transport) → ((read : Transport) → o ≡ Some read → ReadsTransportBy all_checked t src dst bytes read)
+        → option_map_or (λ read. (describe_transport read).bytes all_checked src dst) o bytes ≡ bytes
+    by None only = refl
+    by (Some (datagram v p)) only = absurd (h v p (only (datagram v p) refl))
+    by (Some (segment v p)) only = absurd (k v p (only (segment v p) refl))
+    by (Some (other p)) only = (only (other p) refl).2
 
 transport-stays : (w : IpRepr) (bytes : List ℕ) → ReadsPacket all_checked bytes w → ¬ CarriesTransport w (packet_payload w bytes)
     → rebuilt_payload (type_of w) bytes ≡ ip_header.bytes_of w true ++ packet_payload w bytes
@@ -109,8 +94,7 @@ payload-unread-stays frame v w r type read h =
 header-or-stays : (frame : List ℕ) (read : Option EthernetRepr) → ethernet_of frame ≡ read → AreBytes frame
     → ¬ CarriesMessage frame → ¬ CarriesPacket frame → rebuilt frame ≡ frame
 unfolding rebuilt
-header-or-stays frame None e are message packet =
-    rebuilt_by-None ethernet (λ v. rebuilt_payload v.ethertype) frame (ap (option_map (λ (v : EthernetRepr). (v, drop 14 frame))) e)
+header-or-stays frame None e are message packet = rw e refl
 header-or-stays frame (Some v) e are message packet =
     let r = (ethernet_of-Reads frame v).0 e in
     let stays = payload-stays v.ethertype (drop 14 frame) (λ w type read. message (v, w, record { reads_header = r; reads_carried = (type, read) }))

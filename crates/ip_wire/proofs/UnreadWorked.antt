@@ -5,7 +5,6 @@ use Rattle.std.proofs.Common.{ℕ, ◌≡◌, ◌∙◌, ◌++◌, List, [], ◌
 use Rattle.ip_wire.specs.Frame.{CarriesMessage, CarriesPacket, CarriesTransport, ReadsPacket, all_checked}
 use Rattle.ip_wire.specs.FrameValue.{Computes}
 use Rattle.ip_wire.specs.Types.{ArpRepr, IpRepr, Ipv4, Ipv6, Ipv6Repr, UdpRepr}
-use Rattle.ip_wire.specs.declared.frame.carried.Carried as carried_value
 use Rattle.ip_wire.specs.declared.frame.carried.Carried.TheVariants as carried
 use Rattle.ip_wire.specs.declared.frame.transport.Transport.TheVariants as transport
 use Rattle.net_base.specs.Checksum.{all_are}
@@ -95,26 +94,18 @@ none = all_are when.None
 
 -- those of headers that the frame does not have
 arp-computed : (v : ArpRepr) → Computes none all_checked (carried.Arp v)
-arp-computed v = record { ipv4 = λ has. absurd has; udp = λ has. absurd has; tcp = λ has. absurd has }
+arp-computed v = record {}
 
 ipv6-computed : (v : Ipv6Repr) (payload : Bor (List ℕ)) → Computes none all_checked (carried.Packet (Ipv6 v) (transport.Other payload))
-ipv6-computed v payload = record {
-  ipv4 = λ has. let apart : version.Ipv6 ≡ version.Ipv4 = has in absurd (cc);
-  udp = λ has. absurd has;
-  tcp = λ has. absurd has;
-}
+ipv6-computed v payload = (λ has. let apart : version.Ipv6 ≡ version.Ipv4 = has in absurd (cc), record {})
 
 udp-computed : (v : IpRepr) (u : UdpRepr) (payload : Bor (List ℕ))
     → Computes (record all_checked { tcp = when.None }) all_checked (carried.Packet v (transport.Udp u payload))
-udp-computed v u payload = record { ipv4 = λ has verified. refl; udp = λ has verified. refl; tcp = λ has. absurd has }
+udp-computed v u payload = (λ has verified. refl, λ verified. refl)
 
 tcp-computed : (v : IpRepr) (u : TcpRepr) → Computes (record all_checked { udp = when.None }) all_checked (carried.Packet v (transport.Tcp u))
-tcp-computed v u = record { ipv4 = λ has verified. refl; udp = λ has. absurd has; tcp = λ has verified. refl }
+tcp-computed v u = (λ has verified. refl, λ verified. refl)
 
 -- those that are not verified
-unverified : (c : carried_value.Carried) → Computes none (all_are when.Tx) c
-unverified c = record {
-  ipv4 = λ has verified. absurd (true≢false (sym verified));
-  udp = λ has verified. absurd (true≢false (sym verified));
-  tcp = λ has verified. absurd (true≢false (sym verified));
-}
+unverified : (v : IpRepr) (u : UdpRepr) (payload : Bor (List ℕ)) → Computes none (all_are when.Tx) (carried.Packet v (transport.Udp u payload))
+unverified v u payload = (λ has verified. absurd (true≢false (sym verified)), λ verified. absurd (true≢false (sym verified)))

@@ -1,21 +1,18 @@
 -- Whole frames as values: what they are parsed as, what they are emitted as, and what they print as.
-use Rattle.std.specs.Prelude.{List, ℕ, [], ⊤, ◌∷◌, ◌≡◌, ◌≢◌, ◌≤◌, ◌++◌, ◌+◌, IsTrue, Option, Some, None, Result, Ok, Err, MatchOption, codes, decimal, drop, length, true}
-use Rattle.std.specs.Option.{option_map, option_map_or}
+use Rattle.std.specs.Prelude.{List, ℕ, [], ⊤, ◌≡◌, ◌≤◌, ◌++◌, ◌+◌, Option, Some, None, Result, Ok, Err, MatchOption, drop, length, true}
+use Rattle.std.specs.Option.{option_and_then, option_map, option_map_or}
 use Rattle.ip_wire.specs.Frame as frame
-use Rattle.ip_wire.specs.Frame.{ReadsCarried, ReadsFrame, ReadsPacket, ReadsTransport, packet_payload, type_of}
+use Rattle.ip_wire.specs.Frame.{IsComputed, ReadsCarried, ReadsFrame, ReadsPacket, ReadsTransport, describe_transport, next_line, packet_payload, type_of}
 use Rattle.ip_wire.specs.declared.frame.Frame.{Frame}
 use Rattle.ip_wire.specs.declared.frame.carried.Carried.{Carried}
 use Rattle.ip_wire.specs.declared.frame.carried.Carried.TheVariants as carried
 use Rattle.ip_wire.specs.declared.frame.transport.Transport.{Transport}
 use Rattle.ip_wire.specs.declared.frame.transport.Transport.TheVariants as transport
 use Rattle.net_base.specs.Checksum.{computes, verifies}
-use Rattle.net_base.specs.declared.Checksum.{Checksum}
 use Rattle.net_base.specs.declared.ChecksumCapabilities.{ChecksumCapabilities}
-use Rattle.ip_wire.specs.Types.{ArpRepr, EthernetAddress, EthernetProtocol, EthernetRepr, IpProtocol, IpRepr, Ipv4, Ipv4Repr, Ipv6, TcpHeader, UdpRepr}
+use Rattle.ip_wire.specs.Types.{ArpRepr, EthernetAddress, EthernetProtocol, EthernetRepr, IpProtocol, IpRepr, Ipv4, Ipv4Repr, Ipv6}
 use Rattle.wire_arp.specs.Arp as arp
 use Rattle.wire_arp.specs.ArpText as arp_text
-use Rattle.wire_ends.specs.Protocol as protocols
-use Rattle.wire_ends.specs.declared.IpProtocol.TheVariants as protocol
 use Rattle.wire_ends.specs.declared.IpVersion.TheVariants as version
 use Rattle.wire_ethernet.specs.Ethernet as ethernet
 use Rattle.wire_ethernet.specs.declared.EthernetProtocol.TheVariants as ethertype
@@ -25,105 +22,41 @@ use Rattle.wire_ipv4.specs.Ipv4 as ipv4
 use Rattle.wire_ipv4.specs.Ipv4Text as ipv4_text
 use Rattle.wire_ipv6.specs.Ipv6Text as ipv6_text
 use Rattle.wire_tcp.specs.TcpRepr as tcp
-use Rattle.wire_tcp.specs.TcpReprText as tcp_text
-use Rattle.wire_udp.specs.Udp as udp
-use Rattle.wire_udp.specs.UdpText as udp_text
-
--- ---- what is written
-
--- a line behind the one before
-abbrev pub next_line : List ℕ → List ℕ
-next_line text = 10 ∷ text
 
 -- ---- what a packet carries
 
--- What is said of one transport. A transport is added by one such record.
-pub record TransportDescription : Type 1 where
-  -- its values without borrows, where it was parsed
-  pub value : Option frame.Transport
-  -- the protocol that a header in front of it has to name; bytes of another protocol keep the header's own
-  pub protocol : Option IpProtocol
-  -- its bytes behind an IP header, and their number
-  pub bytes : ChecksumCapabilities → IpRepr → List ℕ
-  pub len : ℕ
-  -- the length fields of its header can hold its lengths
-  pub fits : Type 0
-  -- the protocol field of an IP header names it, and no port is 0 that must not be
-  pub named_by : IpRepr → Type 0
-  -- its line; bytes that are not parsed have none
-  pub text : List ℕ
-
-abbrev pub describe_udp : UdpRepr → List ℕ → TransportDescription
-describe_udp u payload = record {
-  value = Some (frame.datagram u payload);
-  protocol = Some protocol.Udp;
-  bytes = λ caps v. udp.bytes_of u payload (src_addr_of v) (dst_addr_of v) (computes caps.udp);
-  len = 8 + length payload;
-  fits = length payload ≤ udp.max_payload_len;
-  named_by = λ v. (protocols.number_of (ip.next_header_of v) ≡ 17) × (u.dst_port ≢ 0);
-  text = next_line (udp_text.value_text u ++ codes " len=" ++ decimal (length payload));
-}
-
-abbrev pub describe_tcp : TcpHeader → List ℕ → TransportDescription
-describe_tcp u payload = record {
-  value = Some (frame.segment u payload);
-  protocol = Some protocol.Tcp;
-  bytes = λ caps v. tcp.bytes_of u payload (src_addr_of v) (dst_addr_of v) (computes caps.tcp) [];
-  len = tcp.header_len_of u + length payload;
-  fits = tcp.header_len_of u ≤ 60;
-  named_by = λ v. (protocols.number_of (ip.next_header_of v) ≡ 6) × (u.src_port ≢ 0) × (u.dst_port ≢ 0);
-  text = next_line (tcp_text.value_text u (length payload));
-}
-
-abbrev pub describe_other : List ℕ → TransportDescription
-describe_other payload = record {
-  value = Some (frame.other payload);
-  protocol = None;
-  bytes = λ caps v. payload;
-  len = length payload;
-  fits = ⊤;
-  named_by = λ v. (ip.next_header_of (ip.normal v) ≢ protocol.Udp) × (ip.next_header_of (ip.normal v) ≢ protocol.Tcp);
-  text = [];
-}
-
-abbrev pub describe_unread : List ℕ → TransportDescription
-describe_unread kept = record {
-  value = None;
-  protocol = None;
-  bytes = λ caps v. kept;
-  len = length kept;
-  fits = ⊤;
-  named_by = λ v. ⊥;
-  text = [];
-}
-
-abbrev pub describe_transport : Transport → TransportDescription
-describe_transport (transport.Udp u payload) = describe_udp u payload.now
-describe_transport (transport.Tcp u) = describe_tcp (tcp.header_of u) u.payload.now
-describe_transport (transport.Other payload) = describe_other payload.now
-describe_transport (transport.Unread kept) = describe_unread kept.now
-
+-- the values of a transport that was parsed, without borrows
 abbrev pub transport_of : Transport → Option frame.Transport
-transport_of t = (describe_transport t).value
+transport_of (transport.Udp u payload) = Some (frame.datagram u payload.now)
+transport_of (transport.Tcp u) = Some (frame.segment (tcp.header_of u) u.payload.now)
+transport_of (transport.Other payload) = Some (frame.other payload.now)
+transport_of (transport.Unread kept) = None
+
+-- the bytes that were not parsed
+abbrev pub kept_of : Transport → List ℕ
+kept_of (transport.Unread kept) = kept.now
+kept_of _ = []
 
 abbrev pub transport_bytes : ChecksumCapabilities → IpRepr → Transport → List ℕ
-transport_bytes caps v t = (describe_transport t).bytes caps v
+transport_bytes caps v t =
+    option_map_or (λ read. (describe_transport read).bytes caps (src_addr_of v) (dst_addr_of v)) (transport_of t) (kept_of t)
 
 abbrev pub transport_len : Transport → ℕ
-transport_len t = (describe_transport t).len
+transport_len t = option_map_or (λ read. (describe_transport read).len) (transport_of t) (length (kept_of t))
 
 abbrev pub FitsTransport : Transport → Type 0
-FitsTransport t = (describe_transport t).fits
+FitsTransport t = MatchOption (transport_of t) ⊤ (λ read. (describe_transport read).fits)
 
 abbrev pub NamesTransport : IpRepr → Transport → Type 0
-NamesTransport v t = (describe_transport t).named_by v
+NamesTransport v t = MatchOption (transport_of t) ⊥ (λ read. (describe_transport read).named_by v)
 
+-- its line; bytes that are not parsed have none
 abbrev pub transport_text : Transport → List ℕ
-transport_text t = (describe_transport t).text
+transport_text t = option_map_or (λ read. (describe_transport read).text) (transport_of t) []
 
 -- the payload of a transport that was parsed
 abbrev pub transport_payload : Transport → Option (List ℕ)
-transport_payload t = option_map (λ read. (frame.describe_transport read).payload) (transport_of t)
+transport_payload t = option_map (λ read. (describe_transport read).payload) (transport_of t)
 
 -- the normal form of what a packet carries
 abbrev pub normal_transport_of : Transport → Option frame.Transport
@@ -179,6 +112,8 @@ pub record CarriedDescription : Type 1 where
   pub fits : Type 0
   -- the EtherType names it, and what follows agrees in the same way
   pub named_by : EthernetProtocol → Type 0
+  -- the sender computed each of its checksums that the receiver verifies
+  pub computed : ChecksumCapabilities → ChecksumCapabilities → Type 0
   -- the payload of a frame of this type is parsed up to a header that does not parse, and the bytes from there on are kept
   pub found_in : ChecksumCapabilities → EthernetProtocol → List ℕ → Type 0
   -- its lines; bytes that are not parsed have none
@@ -193,6 +128,7 @@ describe_message v = record {
   payload = None;
   fits = ⊤;
   named_by = λ t. ethernet.number_of t ≡ 0x0806;
+  computed = λ sent received. ⊤;
   found_in = λ caps t bytes. (t ≡ ethertype.Arp) × arp.Reads bytes v;
   text = next_line (arp_text.value_text v);
 }
@@ -206,6 +142,9 @@ describe_packet v inner = record {
   payload = transport_payload inner;
   fits = (transport_len inner ≤ ip.max_payload_len v) × FitsTransport inner;
   named_by = λ t. (ethernet.number_of t ≡ ethernet.number_of (type_of v)) × NamesTransport v inner;
+  computed = λ sent received.
+      (ip.version_of v ≡ version.Ipv4 → IsComputed sent.ipv4 received.ipv4)
+      × MatchOption (transport_of inner) ⊤ (λ read. (describe_transport read).computed sent received);
   found_in = λ caps t bytes. (t ≡ type_of v) × ReadsPacket caps bytes v × FindsTransport caps v (packet_payload v bytes) inner;
   text = next_line (header_text v) ++ transport_text inner;
 }
@@ -220,6 +159,7 @@ describe_kept kept found_in text = record {
   payload = None;
   fits = ⊤;
   named_by = λ t. ⊥;
+  computed = λ sent received. ⊤;
   found_in = found_in;
   text = text;
 }
@@ -313,36 +253,15 @@ Composes caps bytes header c =
 abbrev pub ReadsNormalOf : ChecksumCapabilities → List ℕ → Frame → Type 0
 ReadsNormalOf caps bytes f = Composes caps bytes f.header f.carried
 
--- ---- checksums
-
--- the sender computed the checksum, if the receiver verifies it
-abbrev pub IsComputed : Checksum → Checksum → Type 0
-IsComputed sent received = IsTrue (verifies received) → IsTrue (computes sent)
-
--- what a frame carries has an IPv4 header, a UDP header, a TCP header
-abbrev pub HasIpv4 : Carried → Type 0
-HasIpv4 (carried.Packet v t) = ip.version_of v ≡ version.Ipv4
-HasIpv4 _ = ⊥
-
-abbrev pub HasUdp : Carried → Type 0
-HasUdp (carried.Packet v (transport.Udp u payload)) = ⊤
-HasUdp _ = ⊥
-
-abbrev pub HasTcp : Carried → Type 0
-HasTcp (carried.Packet v (transport.Tcp u)) = ⊤
-HasTcp _ = ⊥
-
 -- each checksum of these headers that the receiver verifies was computed by the sender
-pub record Computes (sent received : ChecksumCapabilities) (c : Carried) : Type 0 where
-  pub ipv4 : HasIpv4 c → IsComputed sent.ipv4 received.ipv4
-  pub udp : HasUdp c → IsComputed sent.udp received.udp
-  pub tcp : HasTcp c → IsComputed sent.tcp received.tcp
+abbrev pub Computes : ChecksumCapabilities → ChecksumCapabilities → Carried → Type 0
+Computes sent received c = (describe_carried c).computed sent received
 
 -- ---- frames that are put together
 
 -- the protocol field of a header in front of this transport
 abbrev pub protocol_before : IpRepr → Transport → IpProtocol
-protocol_before v t = option_map_or (λ p. p) (describe_transport t).protocol (ip.next_header_of v)
+protocol_before v t = option_map_or (λ p. p) (option_and_then (λ read. (describe_transport read).protocol) (transport_of t)) (ip.next_header_of v)
 
 -- the packet with the protocol and the length of what it carries in its header
 abbrev pub packet_around : IpRepr → Transport → Carried

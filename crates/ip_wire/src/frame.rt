@@ -3,9 +3,9 @@
 ghost use Rattle.std.specs.Prelude.{◌≡◌, ◌<◌, ◌≤◌, ◌^◌, ◌++◌, ◌↔◌, IfOk, IsOk, Some, drop, length};
 ghost use Rattle.std.specs.Option.{option_map};
 ghost use Rattle.ip_wire.specs.Frame as frame;
-ghost use Rattle.ip_wire.specs.Frame.{ReadsFrame};
 ghost use Rattle.ip_wire.specs.FrameValue.{Finds, Fits, Gives, Parses, carried_payload, frame_bytes, frame_len, frame_text};
-ghost use Rattle.ip_wire.specs.Packet.{IsFrame, frame_of};
+ghost use Rattle.ip_wire.specs.Frame.{ReadsFrame, frame_of};
+ghost use Rattle.ip_wire.specs.Packet.{IsFrame};
 ghost use Rattle.wire_ethernet.specs.declared.EthernetRepr.{EthernetRepr};
 ghost use Rattle.wire_field.specs.Filled.{Fills};
 

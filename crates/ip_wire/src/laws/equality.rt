@@ -9,7 +9,7 @@ use wire_addr::{
     Ipv6MulticastScope, RawHardwareAddress,
 };
 use wire_arp::ArpRepr;
-use wire_ends::laws::ip_protocol_order;
+use wire_ends::IpProtocol;
 use wire_ethernet::EthernetRepr;
 use wire_ip::IpRepr;
 use wire_ipv4::{Ipv4FragKey, Ipv4Repr};
@@ -34,6 +34,7 @@ pub fn eq_is_equality()
     ensures ipv6_cidr { IsEquality ⟦<Ipv6Cidr as PartialEq>⟧.eq }
     ensures ethernet { IsEquality ⟦<EthernetRepr as PartialEq>⟧.eq }
     ensures arp { IsEquality ⟦<ArpRepr as PartialEq>⟧.eq }
+    ensures ip_protocol { IsEquality ⟦<IpProtocol as PartialEq>⟧.eq }
     ensures ipv6_fragment { IsEquality ⟦<Ipv6FragmentRepr as PartialEq>⟧.eq }
     ensures udp { IsEquality ⟦<UdpRepr as PartialEq>⟧.eq }
     ensures tcp_control { IsEquality ⟦<TcpControl as PartialEq>⟧.eq }
@@ -53,42 +54,18 @@ pub fn eq_is_equality_raw(a: RawHardwareAddress, b: RawHardwareAddress)
     ensures { (⟦<RawHardwareAddress as PartialEq>⟧.eq a b ≡ true) ↔ (a ≡ b) }
 {}
 
-/// The same of `Ipv4Repr`.
-pub fn eq_is_equality_ipv4(a: Ipv4Repr, b: Ipv4Repr)
-    ensures { (⟦<Ipv4Repr as PartialEq>⟧.eq a b ≡ true) ↔ (a ≡ b) }
+/// The same of the headers of both versions, and of the key of a fragment.
+pub fn eq_is_equality_headers()
+    ensures ipv4 { IsEquality ⟦<Ipv4Repr as PartialEq>⟧.eq }
+    ensures ipv6 { IsEquality ⟦<Ipv6Repr as PartialEq>⟧.eq }
+    ensures frag_key { IsEquality ⟦<Ipv4FragKey as PartialEq>⟧.eq }
 {
     eq_is_equality();
-    ip_protocol_order(a.next_header, b.next_header);
-}
-
-/// The same of `Ipv6Repr`.
-pub fn eq_is_equality_ipv6(a: Ipv6Repr, b: Ipv6Repr)
-    ensures { (⟦<Ipv6Repr as PartialEq>⟧.eq a b ≡ true) ↔ (a ≡ b) }
-{
-    eq_is_equality();
-    ip_protocol_order(a.next_header, b.next_header);
-}
-
-/// The same of `Ipv4FragKey`.
-pub fn eq_is_equality_frag_key(a: Ipv4FragKey, b: Ipv4FragKey)
-    ensures { (⟦<Ipv4FragKey as PartialEq>⟧.eq a b ≡ true) ↔ (a ≡ b) }
-{
-    eq_is_equality();
-    ip_protocol_order(a.protocol, b.protocol);
 }
 
 /// The same of `IpRepr`.
-pub fn eq_is_equality_ip(a: IpRepr, b: IpRepr)
-    ensures { (⟦<IpRepr as PartialEq>⟧.eq a b ≡ true) ↔ (a ≡ b) }
+pub fn eq_is_equality_ip()
+    ensures { IsEquality ⟦<IpRepr as PartialEq>⟧.eq }
 {
-    match a {
-        IpRepr::Ipv4(a) => match b {
-            IpRepr::Ipv4(b) => eq_is_equality_ipv4(a, b),
-            IpRepr::Ipv6(_) => {}
-        },
-        IpRepr::Ipv6(a) => match b {
-            IpRepr::Ipv6(b) => eq_is_equality_ipv6(a, b),
-            IpRepr::Ipv4(_) => {}
-        },
-    }
+    eq_is_equality_headers();
 }

@@ -1,5 +1,5 @@
-use Rattle.ip_wire.proofs.Meanings.{meaning_of-only, meaning_of-read}
-use Rattle.ip_wire.proofs.Settles.{value}
+use Rattle.ip_wire.proofs.Options.{value}
+use Rattle.ip_wire.proofs.Settles.{meaning_of-only, meaning_of-read}
 use Rattle.ip_wire.specs.Frame.{meaning_of}
 use Rattle.ip_wire.proofs.laws.meaning_is_read.Goals as goal
 

@@ -8,7 +8,7 @@ use Rattle.ip_promises.proofs.equality.comparisons.payloads.Goals as goal
 pub returns : goal.returns
 returns c (Arp v) (Arp w) = c.eq_is_equality.ensures.arp v w
 returns c (Arp _) _ = apart
-returns c (Packet v t) (Packet w u) = also (c.ip_headers.ensures v w) (c.transports.ensures t u)
+returns c (Packet v t) (Packet w u) = also (c.eq_is_equality_ip.ensures v w) (c.transports.ensures t u)
 returns c (Packet _ _) _ = apart
 returns c (Fragment p) (Fragment q) = pointwise_decides unsigned_Decides (packet_bytes p) (packet_bytes q)
 returns c (Fragment _) _ = apart

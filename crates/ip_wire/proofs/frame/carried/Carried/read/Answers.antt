@@ -1,5 +1,5 @@
 use Rattle.std.proofs.Common.{◌≡◌, ◌∙◌, ap, false, refl, slice_range, sym, true}
-use Rattle.ip_wire.proofs.Found.{nothing-arp, nothing-ipv4, nothing-ipv6, nothing-unknown}
+use Rattle.ip_wire.proofs.Found.{reads-nothing}
 use Rattle.wire_ipv4.specs.Ipv4.{header_len, is_fragment, total_len}
 use Rattle.wire_ipv6.specs.Ipv6.{payload_of}
 use Rattle.ip_wire.proofs.frame.carried.Carried.read.Goals as goal
@@ -19,8 +19,11 @@ returns-in-Ok-2 c =
 
 pub returns-in-Err : goal.returns-in-Err
 returns-in-Err c =
-    let none = rw c.new_unchecked-packet.ensures at c.in-Err.ensures.reads in
-    (nothing-ipv4 c.args.caps.now c.args.ethertype c.args.bytes.now c.in-Ipv4.is (λ w r. let apart = (none w).1 r in cc), refl)
+    let none = rw c.new_unchecked-packet.ensures at c.in-Err.ensures.reads in (
+      reads-nothing c.args.caps.now c.args.ethertype c.args.bytes.now (λ w type r. let apart = sym c.in-Ipv4.is ∙ type in cc)
+          (λ w type r. let apart = (none w).1 r in cc) (λ w type r. let apart = sym c.in-Ipv4.is ∙ type in cc),
+      refl,
+    )
 
 pub returns-in-Ok-parse : goal.returns-in-Ok-parse
 returns-in-Ok-parse c =
@@ -30,8 +33,11 @@ returns-in-Ok-parse c =
 
 pub returns-in-Err-parse : goal.returns-in-Err-parse
 returns-in-Err-parse c =
-    let none = rw c.new_unchecked-packet-in-Ipv6.ensures at c.in-Err-parse.ensures.reads in
-    (nothing-ipv6 c.args.caps.now c.args.ethertype c.args.bytes.now c.in-Ipv6.is (λ w r. let apart = (none w).1 r in cc), refl)
+    let none = rw c.new_unchecked-packet-in-Ipv6.ensures at c.in-Err-parse.ensures.reads in (
+      reads-nothing c.args.caps.now c.args.ethertype c.args.bytes.now (λ w type r. let apart = sym c.in-Ipv6.is ∙ type in cc)
+          (λ w type r. let apart = sym c.in-Ipv6.is ∙ type in cc) (λ w type r. let apart = (none w).1 r in cc),
+      refl,
+    )
 
 pub returns-in-Ok-parse-2 : goal.returns-in-Ok-parse-2
 returns-in-Ok-parse-2 c =
@@ -40,8 +46,15 @@ returns-in-Ok-parse-2 c =
 
 pub returns-in-Err-parse-2 : goal.returns-in-Err-parse-2
 returns-in-Err-parse-2 c =
-    let none = rw c.new_unchecked.ensures at c.in-Err-parse-2.ensures.reads in
-    (nothing-arp c.args.caps.now c.args.ethertype c.args.bytes.now c.in-Arp.is (λ w r. let apart = (none w).1 r in cc), refl)
+    let none = rw c.new_unchecked.ensures at c.in-Err-parse-2.ensures.reads in (
+      reads-nothing c.args.caps.now c.args.ethertype c.args.bytes.now (λ w type r. let apart = (none w).1 r in cc)
+          (λ w type r. let apart = sym c.in-Arp.is ∙ type in cc) (λ w type r. let apart = sym c.in-Arp.is ∙ type in cc),
+      refl,
+    )
 
 pub returns-in-Unknown : goal.returns-in-Unknown
-returns-in-Unknown c = (nothing-unknown c.args.caps.now c.args.ethertype c.args.bytes.now _ c.in-Unknown.is, refl)
+returns-in-Unknown c = (
+  reads-nothing c.args.caps.now c.args.ethertype c.args.bytes.now (λ w type r. let apart = sym c.in-Unknown.is ∙ type in cc)
+      (λ w type r. let apart = sym c.in-Unknown.is ∙ type in cc) (λ w type r. let apart = sym c.in-Unknown.is ∙ type in cc),
+  refl,
+)

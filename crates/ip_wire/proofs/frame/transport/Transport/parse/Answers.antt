@@ -1,14 +1,15 @@
 use Rattle.std.proofs.Common.{◌∙◌, sym}
-use Rattle.ip_wire.proofs.Found.{found-transport, gives-transport, no-transport}
+use Rattle.ip_wire.proofs.Found.{gives-transport, parses-transport}
+use Rattle.ip_wire.proofs.Options.{lacks}
 use Rattle.ip_wire.proofs.frame.transport.Transport.parse.Goals as goal
 
 pub returns-then-is_read-clause-ok : goal.returns-then-is_read-clause-ok
-returns-then-is_read-clause-ok c = found-transport c.args.caps.now c.args.header.now c.args.bytes.now c.read-value.result c.read-value.ensures (sym c.is_read.ensures ∙ c.if-is_read.true)
+returns-then-is_read-clause-ok c = parses-transport c.args.caps.now c.args.header.now c.args.bytes.now c.read-value.result c.read-value.ensures (sym c.is_read.ensures ∙ c.if-is_read.true)
 
 pub returns-then-is_read-clause-reads : goal.returns-then-is_read-clause-reads
-returns-then-is_read-clause-reads c = gives-transport c.args.caps.now c.args.header.now c.args.bytes.now c.read-value.result
-    (found-transport c.args.caps.now c.args.header.now c.args.bytes.now c.read-value.result c.read-value.ensures (sym c.is_read.ensures ∙ c.if-is_read.true))
+returns-then-is_read-clause-reads c = gives-transport c.args.caps.now c.args.header.now c.args.bytes.now c.read-value.result c.read-value.ensures
 
 pub returns-else-is_read-clause-reads : goal.returns-else-is_read-clause-reads
 returns-else-is_read-clause-reads c = λ s.
-    ((λ none. absurd none), no-transport c.args.caps.now c.args.header.now c.args.bytes.now c.read-value.result c.read-value.ensures (sym c.is_read.ensures ∙ c.if-is_read.false) s)
+    let none = lacks _ (sym c.is_read.ensures ∙ c.if-is_read.false) in
+    ((λ gives. absurd gives), λ r. let apart = sym none ∙ (gives-transport c.args.caps.now c.args.header.now c.args.bytes.now c.read-value.result c.read-value.ensures s).1 r in cc)
