@@ -60,7 +60,16 @@ fn fields(summary: TcpOptionSummary) -> Fields {
 // The debug form of a value without its spaces, or `err`.
 fn shown<T: Debug + Drop>(alloc: Global, value: Parsed<T>) -> Result<String, AllocError> {
     match value {
-        Ok(value) => format!(in alloc; "{value:?}")?.replace(alloc, ' ', ""),
+        Ok(value) => without_spaces(alloc, format!(in alloc; "{value:?}")?.as_str()),
         Err(_) => String::from_str(alloc, "err"),
     }
+}
+
+// A text without its spaces.
+fn without_spaces(alloc: Global, text: &str) -> Result<String, AllocError> {
+    let mut rest = String::new(alloc);
+    for part in text.split(' ') {
+        rest.push_str(part)?;
+    }
+    Ok(rest)
 }
