@@ -3,86 +3,68 @@
 use crate::devices::{FrameSink, FrameSource};
 use crate::memory::{MemorySink, MemorySource};
 use crate::run::{RunError, run};
-use crate::tests::examples::EXAMPLES;
+use crate::tests::examples::examples;
 use crate::tests::fakes::{FailingSource, StuckSink};
+use crate::tests::runs::{ROOM, leaves, prints, sticks};
 use std::alloc::AllocError;
 
 #[test]
 fn a_line_has_a_block(rt: HostRuntime) {
-    for (input, output) in EXAMPLES {
-        let mut room = [0; 512];
-        let mut source = MemorySource::new(input);
-        let mut sink = MemorySink::new(&mut room);
-        let result = run(rt.alloc(), &mut source, &mut sink);
-        let found = (result, sink.written(), sink.flushed());
-        assert_eq!(rt; found, (Ok(()), output, true));
+    for (input, output) in examples() {
+        prints(&rt, rt.alloc(), input, output);
     }
 }
 
 #[test]
 fn a_source_that_fails_leaves_nothing_written(rt: HostRuntime) {
-    for (input, _) in EXAMPLES {
+    let wanted = (Err(RunError::Read), &[][..], false, 0);
+    for (input, _) in examples() {
+        assert!(rt; input.len() < ROOM);
         for left in 0..=input.len() {
-            let mut room = [0; 512];
             let mut source = FailingSource {
                 rest: input,
                 left,
                 failures: 0,
             };
-            let mut sink = MemorySink::new(&mut room);
-            let result = run(rt.alloc(), &mut source, &mut sink);
-            let found = (result, source.failures(), sink.written(), sink.flushed());
-            assert_eq!(rt; found, (Err(RunError::Read), 1, &[][..], false));
+            leaves(&rt, rt.alloc(), &mut source, ROOM, wanted);
+            assert_eq!(rt; source.failures(), 1);
         }
     }
 }
 
 #[test]
 fn a_sink_that_is_full_has_the_beginning(rt: HostRuntime) {
-    for (input, output) in EXAMPLES {
-        for n in 0..=output.len() {
-            let mut room = [0; 512];
-            assert!(rt; n <= 512);
+    for (input, output) in examples() {
+        for n in 0..output.len() {
             let mut source = MemorySource::new(input);
-            let mut sink = MemorySink::new(&mut room[..n]);
-            let result = run(rt.alloc(), &mut source, &mut sink);
-            let (wanted, failures) = if n < output.len() {
-                (Err(RunError::Write), 1)
-            } else {
-                (Ok(()), 0)
-            };
-            let found = (result, sink.written(), sink.failures());
-            assert_eq!(rt; found, (wanted, &output[..n], failures));
+            let wanted = (Err(RunError::Write), &output[..n], false, 1);
+            leaves(&rt, rt.alloc(), &mut source, n, wanted);
         }
+        let mut source = MemorySource::new(input);
+        leaves(
+            &rt,
+            rt.alloc(),
+            &mut source,
+            output.len(),
+            (Ok(()), output, true, 0),
+        );
     }
 }
 
 #[test]
 fn a_sink_that_takes_no_byte_has_the_beginning(rt: HostRuntime) {
-    for (input, output) in EXAMPLES {
+    for (input, output) in examples() {
         for n in 0..output.len() {
-            let mut room = [0; 512];
-            assert!(rt; n <= 512);
-            let mut source = MemorySource::new(input);
-            let mut sink = StuckSink {
-                room: &mut room[..n],
-                len: 0,
-                failures: 0,
-                flushed: false,
-                can_flush: true,
-            };
-            let result = run(rt.alloc(), &mut source, &mut sink);
-            let found = (result, sink.written(), sink.failures());
-            assert_eq!(rt; found, (Err(RunError::Write), &output[..n], 1));
+            sticks(&rt, rt.alloc(), input, &output[..n]);
         }
     }
 }
 
 #[test]
 fn a_flush_that_fails_is_a_write_that_fails(rt: HostRuntime) {
-    for (input, output) in EXAMPLES {
+    for (input, output) in examples() {
         for (before, after) in [(0, 1), (u64::MAX - 1, u64::MAX), (u64::MAX, u64::MAX)] {
-            let mut room = [0; 512];
+            let mut room = [0; ROOM];
             let mut source = MemorySource::new(input);
             let mut sink = StuckSink {
                 room: &mut room,
@@ -105,10 +87,9 @@ fn a_count_at_its_last_value_stays(rt: HostRuntime) {
         left: 0,
         failures: u64::MAX,
     };
-    let mut sink = MemorySink::new(&mut []);
-    let result = run(rt.alloc(), &mut source, &mut sink);
-    let found = (result, source.failures());
-    assert_eq!(rt; found, (Err(RunError::Read), u64::MAX));
+    let wanted = (Err(RunError::Read), &[][..], false, 0);
+    leaves(&rt, rt.alloc(), &mut source, 0, wanted);
+    assert_eq!(rt; source.failures(), u64::MAX);
 }
 
 #[test]

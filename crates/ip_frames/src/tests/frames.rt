@@ -1,20 +1,6 @@
 //! What the program writes for lines, and for frames of one format each.
 
-use crate::devices::FrameSink;
-use crate::memory::{MemorySink, MemorySource};
-use crate::run::run;
-use std::alloc::Global;
-use std::process::Abort;
-
-// Runs over an input, and compares the output.
-fn prints(rt: &impl Abort, alloc: Global, input: &[u8], output: &[u8]) {
-    let mut room = [0; 512];
-    let mut source = MemorySource::new(input);
-    let mut sink = MemorySink::new(&mut room);
-    let result = run(alloc, &mut source, &mut sink);
-    let found = (result, sink.written(), sink.flushed());
-    assert_eq!(rt; found, (Ok(()), output, true));
-}
+use crate::tests::runs::prints;
 
 #[test]
 fn lines(rt: HostRuntime) {

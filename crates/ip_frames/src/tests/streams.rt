@@ -2,10 +2,11 @@
 
 ghost use Rattle.std.specs.Prelude.{Some};
 
-use crate::devices::{FrameSink, FrameSource};
-use crate::memory::{MemorySink, MemorySource};
-use crate::run::{RunError, run};
-use crate::streams::{StreamSink, StreamSource, run_streams};
+use crate::devices::FrameSource;
+use crate::run::RunError;
+use crate::streams::StreamSource;
+use crate::tests::runs::{ROOM, leaves, streams};
+use std::alloc::AllocError;
 use std::io::{self, ErrorKind, Read, Write};
 
 const INPUT: &[u8] = b"\n0g\n";
@@ -81,35 +82,39 @@ impl Write for FailingWriter<'_> {
 
 #[test]
 fn an_interruption_is_no_failure(rt: HostRuntime) {
-    let mut room = [0; 64];
     let mut source = StreamSource::new(InterruptedReader {
         rest: INPUT,
         ready: false,
     });
-    let mut sink = MemorySink::new(&mut room);
-    let result = run(rt.alloc(), &mut source, &mut sink);
-    let found = (result, sink.written(), source.failures());
-    assert_eq!(rt; found, (Ok(()), OUTPUT, 0));
+    leaves(
+        &rt,
+        rt.alloc(),
+        &mut source,
+        ROOM,
+        (Ok(()), OUTPUT, true, 0),
+    );
+    assert_eq!(rt; source.failures(), 0);
 }
 
 #[test]
-fn a_writer_that_is_full_has_the_beginning(rt: HostRuntime) -> Result<(), RunError> {
+fn a_writer_that_is_full_has_the_beginning(rt: HostRuntime) -> Result<(), AllocError> {
     for n in 0..OUTPUT.len() {
-        let mut room = [0; 64];
-        assert!(rt; n < 64);
-        let mut source = MemorySource::new(INPUT);
-        let mut sink = StreamSink::new(rt.alloc(), &mut room[..n])?;
-        let result = run(rt.alloc(), &mut source, &mut sink);
-        let (failures, flushed) = (sink.failures(), sink.flushed());
-        drop(sink);
-        let found = (result, failures, flushed, &room[..n]);
-        assert_eq!(rt; found, (Err(RunError::Write), 1, false, &OUTPUT[..n]));
+        let mut room = [0; ROOM];
+        assert!(rt; n < ROOM);
+        streams(
+            &rt,
+            rt.alloc(),
+            INPUT,
+            &mut room[..n],
+            (Err(RunError::Write), 1, false),
+        )?;
+        assert_eq!(rt; &room[..n], &OUTPUT[..n]);
     }
     Ok(())
 }
 
 #[test]
-fn a_buffer_that_is_full_is_written(rt: HostRuntime) -> Result<(), RunError> {
+fn a_buffer_that_is_full_is_written(rt: HostRuntime) -> Result<(), AllocError> {
     let mut input = Vec::new(rt.alloc());
     let mut output = Vec::new(rt.alloc());
     for _ in 0..10000 {
@@ -117,20 +122,21 @@ fn a_buffer_that_is_full_is_written(rt: HostRuntime) -> Result<(), RunError> {
         output.extend_from_slice(OUTPUT)?;
     }
     let mut written = Vec::new(rt.alloc());
-    let mut source = StreamSource::new(input.as_slice());
-    let mut sink = StreamSink::new(rt.alloc(), &mut written)?;
-    let result = run(rt.alloc(), &mut source, &mut sink);
-    let flushed = sink.flushed();
-    drop(sink);
-    assert_eq!(rt; (result, flushed, written == output), (Ok(()), true, true));
+    streams(
+        &rt,
+        rt.alloc(),
+        input.as_slice(),
+        &mut written,
+        (Ok(()), 0, true),
+    )?;
+    assert!(rt; written == output);
     Ok(())
 }
 
 // The last block does not fit the buffer.
 #[test]
-fn a_writer_that_is_interrupted_takes_all(rt: HostRuntime) -> Result<(), RunError> {
-    let mut zeros = Vec::new(rt.alloc());
-    zeros.resize(80000, b'0')?;
+fn a_writer_that_is_interrupted_takes_all(rt: HostRuntime) -> Result<(), AllocError> {
+    let zeros = vec![in rt.alloc(); b'0'; 80000]?;
     let mut input = Vec::new(rt.alloc());
     input.extend_from_slice(INPUT)?;
     input.extend_from_slice(zeros.as_slice())?;
@@ -147,26 +153,20 @@ fn a_writer_that_is_interrupted_takes_all(rt: HostRuntime) -> Result<(), RunErro
         taken: &mut taken,
         ready: false,
     };
-    let mut source = StreamSource::new(input.as_slice());
-    let mut sink = StreamSink::new(rt.alloc(), writer)?;
-    let result = run_streams(rt.alloc(), &mut source, &mut sink);
-    let failures = sink.failures();
-    drop(sink);
-    assert_eq!(rt; (result, failures, taken == output), (Ok(()), 0, true));
+    streams(&rt, rt.alloc(), input.as_slice(), writer, (Ok(()), 0, true))?;
+    assert!(rt; taken == output);
     Ok(())
 }
 
 #[test]
-fn what_was_reported_as_failed_is_not_written_again(rt: HostRuntime) -> Result<(), RunError> {
+fn what_was_reported_as_failed_is_not_written_again(rt: HostRuntime) -> Result<(), AllocError> {
     let mut taken = Vec::new(rt.alloc());
     let writer = FailingWriter {
         taken: &mut taken,
         failed: false,
     };
-    let mut source = StreamSource::new(INPUT);
-    let mut sink = StreamSink::new(rt.alloc(), writer)?;
-    let result = run_streams(rt.alloc(), &mut source, &mut sink);
-    drop(sink);
-    assert_eq!(rt; (result, taken.is_empty()), (Err(RunError::Write), true));
+    let wanted = (Err(RunError::Write), 1, false);
+    streams(&rt, rt.alloc(), INPUT, writer, wanted)?;
+    assert!(rt; taken.is_empty());
     Ok(())
 }
