@@ -2,25 +2,33 @@
 
 ghost use Rattle.std.specs.Prelude.{◌≡◌, ◌≤◌, ◌+◌, drop, length};
 ghost use Rattle.ip_wire.specs.IpAddress.{version_of};
+ghost use Rattle.ip_wire.specs.Arp as arp;
 ghost use Rattle.ip_wire.specs.Ethernet as ethernet;
+ghost use Rattle.ip_wire.specs.Frame.{ipv4_payload};
 ghost use Rattle.ip_wire.specs.Ipv4 as ipv4;
 ghost use Rattle.ip_wire.specs.Ipv6 as ipv6;
 ghost use Rattle.ip_wire.specs.Ipv6Fragment as fragment;
+ghost use Rattle.ip_wire.specs.Protocol.{protocol_of};
 ghost use Rattle.ip_wire.specs.Tcp as tcp;
 ghost use Rattle.ip_wire.specs.Udp as udp;
 ghost use Rattle.c_structs.specs.Addresses.{endpoint_of, no_endpoint};
-ghost use Rattle.c_structs.specs.FrameFields.{behind, fields_of, nothing_of, rejected, with_arp, with_fragment_by, with_fragment_header, with_frame, with_ipv4, with_ipv4_header, with_ipv6, with_ipv6_header, with_link, with_message, with_tcp, with_tcp_header, with_transport_by, with_udp, with_udp_header};
+ghost use Rattle.c_structs.specs.FrameFields.{behind, fields_of, nothing_of, rejected, udp_fault, with_arp, with_fragment_by, with_fragment_header, with_frame, with_ipv4, with_ipv4_header, with_ipv6, with_ipv6_header, with_link, with_message, with_tcp, with_tcp_header, with_transport_by, with_udp, with_udp_header};
 
 use crate::codes::{NetworkKind, Reason, TransportKind, Verdict};
 use crate::faults::{ARP_LEN, arp_fault, ipv4_fault, ipv6_fault, tcp_fault, udp_fault};
 use crate::types::{Addr, Arp, Endpoint, Ethernet, FrameFields, Ip, Tcp};
 use crate::verdicts::{ipv4_verdict, tcp_verdict, udp_verdict};
+use byteorder::{ByteOrder, NetworkEndian};
 use ip_wire::{
     ArpPacket, ArpRepr, ETHERNET_HEADER_LEN, EthernetAddress, EthernetFrame, EthernetProtocol,
-    IPV6_HEADER_LEN, IpAddress, IpProtocol, Ipv4Packet, Ipv4Repr, Ipv6FragmentHeader, Ipv6Packet,
-    Ipv6Repr, TCP_HEADER_LEN, TcpPacket, TcpRepr, UDP_HEADER_LEN, UdpPacket, UdpRepr,
+    IPV6_HEADER_LEN, IpAddress, IpProtocol, Ipv4Address, Ipv4Packet, Ipv4Repr, Ipv6FragmentHeader,
+    Ipv6Packet, Ipv6Repr, TCP_HEADER_LEN, TcpPacket, TcpRepr, UDP_HEADER_LEN, UdpPacket, UdpRepr,
 };
 use net_base::ChecksumCapabilities;
+use wire_field::array_at;
+
+// The byte of the EtherType in an Ethernet header.
+const ETHERTYPE: usize = 12;
 
 // The length of an IPv6 fragment header, in octets (RFC 8200, section 4.5).
 const FRAGMENT_HEADER_LEN: usize = 8;
@@ -137,11 +145,13 @@ impl FrameFields {
             self.new ≡ with_frame self.old (ethernet.header_of bytes) (drop 14 bytes) }
         ensures within { self.new.payload_offset + self.new.payload_len ≤ length (ethernet.frame_bytes frame.now) }
     {
+        let ethertype = NetworkEndian::read_u16(&frame.as_bytes()[ETHERTYPE..ETHERNET_HEADER_LEN]);
+        let payload = frame.payload();
         self.store_link(frame);
-        match frame.ethertype() {
-            EthernetProtocol::Arp => self.store_arp(frame.payload()),
-            EthernetProtocol::Ipv4 => self.store_ipv4(frame.payload()),
-            EthernetProtocol::Ipv6 => self.store_ipv6(frame.payload()),
+        match EthernetProtocol::from(ethertype) {
+            EthernetProtocol::Arp => self.store_arp(payload),
+            EthernetProtocol::Ipv4 => self.store_ipv4(payload),
+            EthernetProtocol::Ipv6 => self.store_ipv6(payload),
             EthernetProtocol::Unknown(_) => {}
         }
     }
@@ -153,11 +163,11 @@ impl FrameFields {
         ensures { let bytes = ethernet.frame_bytes frame.now in
             self.new ≡ with_link self.old (ethernet.header_of bytes) (length (drop 14 bytes)) }
     {
+        self.ethernet.ethertype = frame.ethertype().number();
         let EthernetAddress(src) = frame.src_addr();
         self.ethernet.src = src;
         let EthernetAddress(dst) = frame.dst_addr();
         self.ethernet.dst = dst;
-        self.ethernet.ethertype = frame.ethertype().number();
         self.reason = Reason::Read.code();
         self.step_behind(ETHERNET_HEADER_LEN, frame.payload().len());
     }
@@ -170,36 +180,29 @@ impl FrameFields {
         ensures within { self.new.payload_offset + self.new.payload_len ≤ self.old.payload_offset + length bytes.now }
     {
         match ArpRepr::parse(&ArpPacket::new_unchecked(bytes)) {
-            Ok(message) => self.store_message(&message),
+            Ok(_) => self.store_message(bytes),
             Err(_) => self.reject(arp_fault(bytes)),
         }
     }
 
-    // Stores the values of an ARP packet, behind which there is only padding.
-    fn store_message(&mut self, message: &ArpRepr)
-        requires { self.old.payload_offset ≤ 14 }
-        ensures value { self.new ≡ with_message self.old message.now }
+    // Stores the values of an ARP packet for Ethernet and IPv4, behind which there is only padding. They
+    // are copied from the packet one by one.
+    fn store_message(&mut self, bytes: &[u8])
+        requires offset { self.old.payload_offset ≤ 14 }
+        requires whole { 28 ≤ length bytes.now }
+        ensures value { self.new ≡ with_message self.old (arp.value_of bytes.now) }
         ensures offset { self.new.payload_offset ≡ self.old.payload_offset + 28 }
         ensures len { self.new.payload_len ≡ 0 }
     {
-        let ArpRepr::EthernetIpv4 {
-            operation,
-            source_hardware_addr,
-            source_protocol_addr,
-            target_hardware_addr,
-            target_protocol_addr,
-        } = *message;
         self.network = NetworkKind::Arp.code();
         self.network_offset = self.payload_offset;
-        self.src = Endpoint::without_port(IpAddress::Ipv4(source_protocol_addr));
-        self.dst = Endpoint::without_port(IpAddress::Ipv4(target_protocol_addr));
-        let (EthernetAddress(src_hardware), EthernetAddress(dst_hardware)) = (
-            source_hardware_addr,
-            target_hardware_addr,
-        );
-        self.arp.operation = operation.number();
-        self.arp.src_hardware = src_hardware;
-        self.arp.dst_hardware = dst_hardware;
+        let src_addr = Ipv4Address::from_octets(array_at(bytes, 14));
+        self.src = Endpoint::without_port(IpAddress::Ipv4(src_addr));
+        let dst_addr = Ipv4Address::from_octets(array_at(bytes, 24));
+        self.dst = Endpoint::without_port(IpAddress::Ipv4(dst_addr));
+        self.arp.operation = ArpPacket::new_unchecked(bytes).operation().number();
+        self.arp.src_hardware = array_at(bytes, 8);
+        self.arp.dst_hardware = array_at(bytes, 18);
         self.step_behind(ARP_LEN, 0);
     }
 
@@ -213,28 +216,29 @@ impl FrameFields {
         let packet = Ipv4Packet::new_unchecked(bytes);
         match Ipv4Repr::parse(&packet, &ChecksumCapabilities::ignored()) {
             Ok(header) => {
-                self.store_ipv4_header(&packet, &header);
-                if !packet.is_fragment() {
+                let is_fragment = packet.is_fragment();
+                let payload = packet.payload();
+                self.store_ipv4_header(&packet, &header, payload.len());
+                if !is_fragment {
                     let src_addr = IpAddress::Ipv4(header.src_addr);
                     let dst_addr = IpAddress::Ipv4(header.dst_addr);
-                    self.store_transport(
-                        header.next_header,
-                        &src_addr,
-                        &dst_addr,
-                        packet.payload(),
-                    );
+                    let protocol = self.ip.protocol;
+                    self.store_transport(protocol, &src_addr, &dst_addr, payload);
                 }
             }
             Err(_) => self.reject(ipv4_fault(&packet)),
         }
     }
 
-    // Stores the header of an IPv4 packet.
-    fn store_ipv4_header(&mut self, packet: &Ipv4Packet<'_>, header: &Ipv4Repr)
+    // Stores the header of an IPv4 packet with a payload of this length.
+    fn store_ipv4_header(&mut self, packet: &Ipv4Packet<'_>, header: &Ipv4Repr, payload_len: usize)
         requires offset { self.old.payload_offset ≤ 14 }
         requires lengths { ipv4.HasLengths (ipv4.packet_bytes packet.now) }
+        requires payload { payload_len ≡ length (ipv4_payload (ipv4.packet_bytes packet.now)) }
         ensures { self.new ≡ with_ipv4_header self.old (ipv4.packet_bytes packet.now) header.now }
     {
+        let header_len = usize::from(packet.header_len());
+        let is_fragment = packet.is_fragment();
         self.network = NetworkKind::Ipv4.code();
         self.network_offset = self.payload_offset;
         self.src = Endpoint::without_port(IpAddress::Ipv4(header.src_addr));
@@ -248,9 +252,9 @@ impl FrameFields {
         self.ip.ecn = packet.ecn();
         self.ip.more_fragments = u8::from(packet.more_frags());
         self.ip.dont_fragment = u8::from(packet.dont_frag());
-        self.is_fragment = u8::from(packet.is_fragment());
+        self.is_fragment = u8::from(is_fragment);
         self.ipv4_checksum = ipv4_verdict(packet).code();
-        self.step_behind(usize::from(packet.header_len()), packet.payload().len());
+        self.step_behind(header_len, payload_len);
     }
 
     // Stores an IPv6 packet. The payload behind a fragment header is not parsed.
@@ -263,20 +267,23 @@ impl FrameFields {
         let packet = Ipv6Packet::new_unchecked(bytes);
         match Ipv6Repr::parse(&packet) {
             Ok(header) => {
-                self.store_ipv6_header(&packet, &header);
-                self.store_fragment(header.next_header, packet.payload());
+                let payload = packet.payload();
+                self.store_ipv6_header(&packet, &header, payload.len());
+                let protocol = self.ip.protocol;
+                self.store_fragment(protocol, payload);
                 let src_addr = IpAddress::Ipv6(header.src_addr);
                 let dst_addr = IpAddress::Ipv6(header.dst_addr);
-                self.store_transport(header.next_header, &src_addr, &dst_addr, packet.payload());
+                self.store_transport(protocol, &src_addr, &dst_addr, payload);
             }
             Err(_) => self.reject(ipv6_fault(&packet)),
         }
     }
 
-    // Stores the header of an IPv6 packet.
-    fn store_ipv6_header(&mut self, packet: &Ipv6Packet<'_>, header: &Ipv6Repr)
+    // Stores the header of an IPv6 packet with a payload of this length.
+    fn store_ipv6_header(&mut self, packet: &Ipv6Packet<'_>, header: &Ipv6Repr, payload_len: usize)
         requires offset { self.old.payload_offset ≤ 14 }
         requires lengths { ipv6.HasLengths (ipv6.packet_bytes packet.now) }
+        requires payload { payload_len ≡ length (ipv6.payload_of (ipv6.packet_bytes packet.now)) }
         ensures { self.new ≡ with_ipv6_header self.old (ipv6.packet_bytes packet.now) header.now }
     {
         let traffic_class = packet.traffic_class();
@@ -289,15 +296,17 @@ impl FrameFields {
         self.ip.hop_limit = header.hop_limit;
         self.ip.dscp = traffic_class / 4;
         self.ip.ecn = traffic_class % 4;
-        self.step_behind(IPV6_HEADER_LEN, packet.payload().len());
+        self.step_behind(IPV6_HEADER_LEN, payload_len);
     }
 
-    // Stores the fragment header that the payload of an IPv6 packet begins with, if the protocol says so and
-    // it is there as a whole. The payload begins at it.
-    fn store_fragment(&mut self, protocol: IpProtocol, bytes: &[u8])
-        ensures { self.new ≡ with_fragment_by self.old protocol bytes.now }
+    // Stores the fragment header that the payload of an IPv6 packet begins with, if the protocol number says
+    // so and it is there as a whole. The payload begins at it.
+    fn store_fragment(&mut self, protocol: u8, bytes: &[u8])
+        ensures value { self.new ≡ with_fragment_by self.old (protocol_of protocol) bytes.now }
+        ensures offset { self.new.payload_offset ≡ self.old.payload_offset }
+        ensures len { self.new.payload_len ≡ self.old.payload_len }
     {
-        if let IpProtocol::Ipv6Frag = protocol
+        if let IpProtocol::Ipv6Frag = IpProtocol::from(protocol)
             && bytes.len() >= FRAGMENT_HEADER_LEN
         {
             self.store_fragment_header(&Ipv6FragmentHeader::new_unchecked(&bytes[2..]));
@@ -316,11 +325,12 @@ impl FrameFields {
         self.is_fragment = u8::from(more_fragments || offset != 0);
     }
 
-    // Stores the payload of a packet between two addresses.
+    // Stores the payload of a packet with this protocol number between two addresses. The number is compared
+    // here as it is: its name in the header would have been looked up before.
     #[inline(always)]
     fn store_transport(
         &mut self,
-        protocol: IpProtocol,
+        protocol: u8,
         src_addr: &IpAddress,
         dst_addr: &IpAddress,
         bytes: &[u8],
@@ -328,10 +338,10 @@ impl FrameFields {
         requires offset { self.old.payload_offset ≤ 74 }
         requires len { self.old.payload_len ≡ length bytes.now }
         requires family { version_of src_addr.now ≡ version_of dst_addr.now }
-        ensures value { self.new ≡ with_transport_by self.old protocol src_addr.now dst_addr.now bytes.now }
+        ensures value { self.new ≡ with_transport_by self.old (protocol_of protocol) src_addr.now dst_addr.now bytes.now }
         ensures within { self.new.payload_offset + self.new.payload_len ≤ self.old.payload_offset + length bytes.now }
     {
-        match protocol {
+        match IpProtocol::from(protocol) {
             IpProtocol::Udp => self.store_udp(src_addr, dst_addr, bytes),
             IpProtocol::Tcp => self.store_tcp(src_addr, dst_addr, bytes),
             _ => {}
@@ -351,12 +361,32 @@ impl FrameFields {
             return self.reject(Reason::TooShort);
         }
         let packet = UdpPacket::new_unchecked(bytes);
-        self.store_udp_header(src_addr, dst_addr, &packet);
         let caps = ChecksumCapabilities::ignored();
         match UdpRepr::parse(&packet, src_addr, dst_addr, &caps) {
-            Ok(_) => self.step_behind(UDP_HEADER_LEN, packet.payload().len()),
-            Err(_) => self.reject(udp_fault(&packet)),
+            Ok(_) => {
+                let payload_len = packet.payload().len();
+                self.store_udp_header(src_addr, dst_addr, &packet);
+                self.step_behind(UDP_HEADER_LEN, payload_len);
+            }
+            Err(_) => self.store_rejected_udp(*src_addr, *dst_addr, &packet),
         }
+    }
+
+    // Stores the header of a UDP packet that is rejected.
+    #[cold]
+    fn store_rejected_udp(
+        &mut self,
+        src_addr: IpAddress,
+        dst_addr: IpAddress,
+        packet: &UdpPacket<'_>,
+    )
+        requires header { 8 ≤ length (udp.packet_bytes packet.now) }
+        requires family { version_of src_addr ≡ version_of dst_addr }
+        ensures { let bytes = udp.packet_bytes packet.now in
+            self.new ≡ rejected (with_udp_header self.old src_addr dst_addr bytes) (udp_fault bytes) }
+    {
+        self.store_udp_header(&src_addr, &dst_addr, packet);
+        self.reject(udp_fault(packet));
     }
 
     // Stores the header of a UDP packet. If its length is wrong, no checksum can be computed.
@@ -371,11 +401,12 @@ impl FrameFields {
         requires family { version_of src_addr.now ≡ version_of dst_addr.now }
         ensures { self.new ≡ with_udp_header self.old src_addr.now dst_addr.now (udp.packet_bytes packet.now) }
     {
+        let verdict = udp_verdict(packet, src_addr, dst_addr);
         self.transport = TransportKind::Udp.code();
         self.transport_offset = self.payload_offset;
         self.src.port = packet.src_port();
         self.dst.port = packet.dst_port();
-        self.transport_checksum = udp_verdict(packet, src_addr, dst_addr).code();
+        self.transport_checksum = verdict.code();
     }
 
     // Stores a TCP segment. A rejected header is stored too, if it is there as a whole.

@@ -1,6 +1,7 @@
 //! Verdicts on checksums.
 
-ghost use Rattle.std.specs.Prelude.{◌≡◌, ◌≤◌, if◌then◌else◌, length};
+ghost use Rattle.std.specs.Prelude.{◌≡◌, ◌≤◌, ◌==◌, if◌then◌else◌, length};
+ghost use Rattle.ip_wire.specs.Field.{field};
 ghost use Rattle.ip_wire.specs.IpAddress.{version_of};
 ghost use Rattle.ip_wire.specs.Ipv4 as ipv4;
 ghost use Rattle.ip_wire.specs.Tcp as tcp;
@@ -40,7 +41,21 @@ pub fn udp_verdict(packet: &UdpPacket<'_>, src_addr: &IpAddress, dst_addr: &IpAd
         }
     } else if packet.verify_checksum(src_addr, dst_addr) {
         Verdict::Right
-    } else if packet.verify_partial_checksum(src_addr, dst_addr) {
+    } else {
+        partial_udp_verdict(packet, *src_addr, *dst_addr)
+    }
+}
+
+// The verdict on a checksum of UDP that is not right. A valid checksum needs no addresses in memory, so
+// they are passed by value.
+#[cold]
+fn partial_udp_verdict(packet: &UdpPacket<'_>, src_addr: IpAddress, dst_addr: IpAddress) -> Verdict
+    requires header { 8 ≤ length (udp.packet_bytes packet.now) }
+    requires family { version_of src_addr ≡ version_of dst_addr }
+    ensures { let bytes = udp.packet_bytes packet.now in
+        result ≡ (if field bytes 48 16 == udp.pseudo_header_sum src_addr dst_addr bytes then verdict.LeftToDevice else verdict.Wrong) }
+{
+    if packet.verify_partial_checksum(&src_addr, &dst_addr) {
         Verdict::LeftToDevice
     } else {
         Verdict::Wrong
@@ -56,7 +71,20 @@ pub fn tcp_verdict(packet: &TcpPacket<'_>, src_addr: &IpAddress, dst_addr: &IpAd
 {
     if packet.verify_checksum(src_addr, dst_addr) {
         Verdict::Right
-    } else if packet.verify_partial_checksum(src_addr, dst_addr) {
+    } else {
+        partial_tcp_verdict(packet, *src_addr, *dst_addr)
+    }
+}
+
+// The verdict on a checksum of TCP that is not right.
+#[cold]
+fn partial_tcp_verdict(packet: &TcpPacket<'_>, src_addr: IpAddress, dst_addr: IpAddress) -> Verdict
+    requires header { 18 ≤ length (tcp.packet_bytes packet.now) }
+    requires family { version_of src_addr ≡ version_of dst_addr }
+    ensures { let bytes = tcp.packet_bytes packet.now in
+        result ≡ (if field bytes 128 16 == tcp.pseudo_header_sum src_addr dst_addr bytes then verdict.LeftToDevice else verdict.Wrong) }
+{
+    if packet.verify_partial_checksum(&src_addr, &dst_addr) {
         Verdict::LeftToDevice
     } else {
         Verdict::Wrong
