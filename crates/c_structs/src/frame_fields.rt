@@ -145,6 +145,7 @@ impl FrameFields {
             self.new ≡ with_frame self.old (ethernet.header_of bytes) (drop 14 bytes) }
         ensures within { self.new.payload_offset + self.new.payload_len ≤ length (ethernet.frame_bytes frame.now) }
     {
+        // Read before anything is stored: the compiler does not know that the struct and the frame are apart.
         let ethertype = NetworkEndian::read_u16(&frame.as_bytes()[ETHERTYPE..ETHERNET_HEADER_LEN]);
         let payload = frame.payload();
         self.store_link(frame);
@@ -216,10 +217,9 @@ impl FrameFields {
         let packet = Ipv4Packet::new_unchecked(bytes);
         match Ipv4Repr::parse(&packet, &ChecksumCapabilities::ignored()) {
             Ok(header) => {
-                let is_fragment = packet.is_fragment();
                 let payload = packet.payload();
                 self.store_ipv4_header(&packet, &header, payload.len());
-                if !is_fragment {
+                if self.is_fragment == 0 {
                     let src_addr = IpAddress::Ipv4(header.src_addr);
                     let dst_addr = IpAddress::Ipv4(header.dst_addr);
                     let protocol = self.ip.protocol;
@@ -238,7 +238,6 @@ impl FrameFields {
         ensures { self.new ≡ with_ipv4_header self.old (ipv4.packet_bytes packet.now) header.now }
     {
         let header_len = usize::from(packet.header_len());
-        let is_fragment = packet.is_fragment();
         self.network = NetworkKind::Ipv4.code();
         self.network_offset = self.payload_offset;
         self.src = Endpoint::without_port(IpAddress::Ipv4(header.src_addr));
@@ -252,7 +251,7 @@ impl FrameFields {
         self.ip.ecn = packet.ecn();
         self.ip.more_fragments = u8::from(packet.more_frags());
         self.ip.dont_fragment = u8::from(packet.dont_frag());
-        self.is_fragment = u8::from(is_fragment);
+        self.is_fragment = u8::from(packet.is_fragment());
         self.ipv4_checksum = ipv4_verdict(packet).code();
         self.step_behind(header_len, payload_len);
     }

@@ -1,4 +1,4 @@
-use Rattle.std.proofs.Common.{◌≡◌, ◌∙◌, Some, ap, false, refl, sym}
+use Rattle.std.proofs.Common.{◌≡◌, ◌∙◌, Bool, Some, ap, true, false, refl, sym, arith}
 use Rattle.ip_wire.specs.Field.{field}
 use Rattle.ip_wire.specs.Frame.{ipv4_payload}
 use Rattle.ip_wire.specs.Ipv4.{ipv4_of, is_fragment}
@@ -8,19 +8,24 @@ use Rattle.ip_wire.specs.declared.EthernetProtocol.TheVariants as ethertype
 use Rattle.ip_wire.specs.declared.IpAddress.TheVariants as address
 use Rattle.c_structs.proofs.StoredFrame.{with_carried-ipv4}
 use Rattle.c_structs.specs.FrameFields.{with_ipv4_header, with_transport_by}
+use Rattle.c_structs.specs.Written.{flag}
 use Rattle.c_structs.proofs.types.FrameFields.store_ipv4.Goals as goal
 
-pub returns-then-not-is_fragment-clause-value : goal.returns-then-not-is_fragment-clause-value
-returns-then-not-is_fragment-clause-value c =
+not-flagged : (b : Bool) → flag b ≡ 0 → b ≡ false
+not-flagged true e = absurd (omega (arith, e))
+not-flagged false e = refl
+
+pub returns-then-self-eq0-clause-value : goal.returns-then-self-eq0-clause-value
+returns-then-self-eq0-clause-value c =
     let f = c.args.self.now in
     let bytes = c.args.bytes.now in
     let w = c.in-Ok.header in
     let read : ipv4_of false bytes ≡ Some w = rw (c.new_unchecked-packet.ensures, c.ignored.ensures) at c.in-Ok.ensures.value in
-    let whole : is_fragment bytes ≡ false = ap (λ slice. is_fragment slice.now) (sym c.new_unchecked-packet.ensures) ∙ sym c.is_fragment-is_fragment.ensures ∙ c.if-not-is_fragment.true in
     let named : w.next_header ≡ protocol_of (field bytes 72 8) = rw c.new_unchecked-packet.ensures at ((c.in-Ok.ensures.reads w).0 refl).next_header in
     let next = with_ipv4_header f bytes w in
     let payload = ipv4_payload bytes in
     let header : c.store_ipv4_header.new.self ≡ next = rw c.new_unchecked-packet.ensures at c.store_ipv4_header.ensures in
+    let whole : is_fragment bytes ≡ false = not-flagged (is_fragment bytes) (rw header at c.if-self-eq0.true) in
     let inner : c.payload-payload.result.now ≡ payload = rw c.new_unchecked-packet.ensures at c.payload-payload.ensures in
     let made : c.store_transport.new.self ≡ with_transport_by next (protocol_of (field bytes 72 8)) (address.Ipv4 w.src_addr) (address.Ipv4 w.dst_addr) payload =
     rw (header, inner) at c.store_transport.ensures.value
