@@ -23,6 +23,20 @@ static uint64_t call_read_frames(const struct library *library, const struct row
     return answers;
 }
 
+/* The same with the prefetches of man/ip_wire.3. */
+static uint64_t call_read_frames_ahead(const struct library *library, const struct row *row)
+{
+    const struct row one = {.size = 1};
+    uint64_t answers = 0;
+    for (size_t i = 0; i < row->size; i++) {
+        const uint8_t *later = frames[(next_frame + 8) % frame_count].ptr;
+        __builtin_prefetch(later);
+        __builtin_prefetch(later + 64);
+        answers += call_read_frames(library, &one);
+    }
+    return answers;
+}
+
 static uint64_t call_read_options(const struct library *library, const struct row *row)
 {
     (void)row;
@@ -178,6 +192,7 @@ static const size_t no_size[] = {0};
 static const struct row mixed_rows[] = {
     {"read mixed frames", prepare_mixed, call_read_frames, .computed = 1},
     {"read mixed frames, cold", prepare_cold, call_read_frames, .computed = 1},
+    {"read mixed frames, cold, prefetch", prepare_cold, call_read_frames_ahead, .computed = 1},
 };
 static const size_t mixed_counts[] = {1024};
 

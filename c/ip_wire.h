@@ -232,7 +232,10 @@ struct lk_frame {
  * - Behind an unknown EtherType or protocol all bytes are payload, and so are IPv6 extension headers.
  *   IPv4 options are skipped.
  * - If an IPv6 fragment header follows the IPv6 header directly, its values are stored, and the payload
- *   begins at the fragment header. */
+ *   begins at the fragment header.
+ *
+ * A loop over many short frames that are not in the caches, each in a buffer of its own, is faster if it
+ * prefetches the first 128 octets of the frame 8 places ahead (EXAMPLES in the man page). */
 int lk_read_frame(const uint8_t *ptr, size_t len, struct lk_frame *frame);
 
 /* Stores the options of a TCP header. `ptr` is its first octet and `len` its length: in a frame that was
