@@ -9,6 +9,7 @@ mod Numbered
 mod StoredFrame
 mod StoredHeaders
 mod StoredParts
+mod TcpFronts
 mod TcpResummed
 mod UdpKept
 mod WrittenOnce

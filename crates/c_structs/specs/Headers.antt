@@ -1,8 +1,9 @@
 -- The bytes that are written for the structs of headers.
 use Rattle.std.specs.Prelude.{ℕ, ◌+◌, ◌*◌, ◌/◌, ◌%◌, ◌&&◌, ◌||◌, ◌==◌, not, nat_le, nat_lt, if◌then◌else◌, ◌++◌, Bool, false, List, length, map, slice_get, Option, None, Some}
 use Rattle.std.specs.Bool.{then_some}
-use Rattle.std.specs.List.{range_with_len}
+use Rattle.std.specs.List.{flat_map, range_with_len}
 use Rattle.std.specs.Option.{option_and_then, option_map}
+use Rattle.byteorder.specs.Endian.{big_bytes}
 use Rattle.ip_wire.specs.Arp as arp
 use Rattle.ip_wire.specs.Ethernet as ethernet
 use Rattle.ip_wire.specs.Field.{with_field}
@@ -147,6 +148,10 @@ range_at n ranges k = if nat_lt k n then option_map (λ r. (r.left, r.right)) (s
 abbrev pub first_ranges : ℕ → List SackRange → List (Option (ℕ × ℕ))
 first_ranges n ranges = map (range_at n ranges) (range_with_len 0 (length ranges))
 
+-- the edges of ranges: each its left edge, then its right edge
+abbrev pub edges : List SackRange → List ℕ
+edges ranges = flat_map (λ (r : SackRange). big_bytes 4 r.left ++ big_bytes 4 r.right) ranges
+
 -- a value, if the number stands for yes
 abbrev pub where_set : {T : Type 0} → ℕ → T → Option T
 where_set n x = only_if (is_yes n) x
@@ -171,6 +176,10 @@ tcp_value h o src_port dst_port = record {
 abbrev pub no_tcp : Tcp
 no_tcp = record { seq_number = 0; ack_number = 0; window_len = 0; urgent_at = 0; flags = 0; header_len = 0 }
 
+-- the values of a header with these options and zeros
+abbrev pub options_value : TcpOptions → TcpHeader
+options_value o = tcp_value no_tcp o 0 0
+
 -- the length of a header with these options, whatever its other values
 abbrev pub options_header_len : TcpOptions → ℕ
 options_header_len o = tcp.header_len_of (tcp_value no_tcp o 0 0)
@@ -183,6 +192,12 @@ tcp_header_len o =
 -- whether at most one of FIN, SYN and RST, the lowest three flags, is set
 abbrev pub has_one_control : ℕ → Bool
 has_one_control flags = let low = flags % 8 in nat_le low 2 || (low == 4)
+
+-- the first 20 octets of a header of this length, with 0 as checksum
+abbrev pub front_bytes : Tcp → ℕ → ℕ → ℕ → List ℕ
+front_bytes h src_port dst_port header_len =
+    big_bytes 2 src_port ++ big_bytes 2 dst_port ++ big_bytes 4 h.seq_number ++ big_bytes 4 h.ack_number
+    ++ big_bytes 1 (header_len / 4 * 16) ++ big_bytes 1 h.flags ++ big_bytes 2 h.window_len ++ big_bytes 2 0 ++ big_bytes 2 h.urgent_at
 
 -- the segment before its checksum: the header with flags and urgent pointer, and the payload
 abbrev pub segment_with_flags : Tcp → TcpHeader → List ℕ → List ℕ

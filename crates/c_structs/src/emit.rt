@@ -9,6 +9,7 @@ ghost use Rattle.c_structs.specs.Written.{Fills};
 use crate::types::{Endpoint, Tcp, TcpOptions};
 use ip_wire::{IpAddress, UDP_MAX_PAYLOAD_LEN, UdpRepr};
 use net_base::ChecksumCapabilities;
+use wire_field::write_at;
 
 /// Writes a UDP packet to the front of `out` and returns its length. `None` if it does not fit, if its
 /// payload is too long, or if the addresses have no version or different ones.
@@ -66,7 +67,7 @@ fn emit_udp_between(
 }
 
 /// Writes a TCP segment to the front of `out` and returns its length. `None` if it does not fit, if the
-/// addresses have no version or different ones, or if `Tcp::segment` has none.
+/// addresses have no version or different ones, or if `Tcp::header_len` has none.
 #[inline(always)]
 pub fn emit_tcp(
     header: &Tcp,
@@ -80,11 +81,22 @@ pub fn emit_tcp(
     ensures { Fills (tcp_bytes header.now options.now src.now dst.now payload.now computed) out.old out.new result }
 {
     let (src_addr, dst_addr) = src.addr.pair(src.addr.version, &dst.addr)?;
-    let segment = header.segment(options, src.port, dst.port, payload.len())?;
-    let len = segment.header_len() + payload.len();
+    let header_len = header.header_len(options, payload.len())?;
+    let len = header_len + payload.len();
     if out.len() < len {
         return None;
     }
-    header.emit(&segment, src_addr, dst_addr, payload, computed, out);
+    write_at(out, header_len, payload);
+    let ports = (src.port, dst.port);
+    header.wrap(
+        options,
+        ports,
+        src_addr,
+        dst_addr,
+        header_len,
+        payload.len(),
+        computed,
+        out,
+    );
     Some(len)
 }

@@ -1,20 +1,19 @@
 //! Whole frames.
 
-ghost use Rattle.std.specs.Prelude.{◌≡◌, ◌≤◌, ◌+◌, ◌++◌, [], IfSome, Some, drop, length, slice_range, true};
+ghost use Rattle.std.specs.Prelude.{◌≡◌, ◌≤◌, ◌+◌, ◌++◌, IfSome, Some, drop, length, slice_range, true};
 ghost use Rattle.ip_wire.specs.Ip.{dst_addr_of, header_len_of, src_addr_of};
-ghost use Rattle.ip_wire.specs.TcpRepr as tcp;
 ghost use Rattle.ip_wire.specs.Udp as udp;
 ghost use Rattle.c_structs.specs.Frames.{arp_frame, back_arp, back_link, ip_header, headers_bytes, reply_to, tcp_frame, tcp_frame_around, type_number, udp_frame, udp_frame_around};
-ghost use Rattle.c_structs.specs.Headers.{is_expressible, link_bytes, ports_of, segment_bytes};
+ghost use Rattle.c_structs.specs.Headers.{is_expressible, link_bytes, options_header_len, ports_of, segment_bytes, tcp_value};
 ghost use Rattle.c_structs.specs.Written.{Fills};
 
-use crate::results::place;
 use crate::types::{Arp, Ethernet, FrameFields, TcpOptions};
 use crate::udp;
 use ip_wire::{
     ETHERNET_HEADER_LEN, EthernetAddress, EthernetFrameMut, EthernetProtocol, EthernetRepr, IpRepr,
-    TcpRepr, UDP_HEADER_LEN, UDP_MAX_PAYLOAD_LEN, UdpRepr,
+    UDP_HEADER_LEN, UDP_MAX_PAYLOAD_LEN, UdpRepr,
 };
+use wire_field::write_at;
 
 // The protocols of IP.
 const TCP: u8 = 6;
@@ -182,16 +181,18 @@ impl FrameFields {
     fn wrap_tcp(
         &self,
         ip_header: &IpRepr,
-        segment: &TcpRepr<'_>,
+        options: &TcpOptions,
+        header_len: usize,
         payload_len: usize,
         out: &mut [u8],
     )
         requires expressible { is_expressible self.now.ip ip_header.now ≡ true }
-        requires empty { segment.now.payload.now ≡ [] }
-        requires header_len { tcp.header_len_of (tcp.header_of segment.now) ≤ 60 }
-        requires room { 14 + header_len_of ip_header.now + tcp.header_len_of (tcp.header_of segment.now) + payload_len ≤ length out.old }
-        ensures { let v = ip_header.now in let u = tcp.header_of segment.now in
-            let first = 14 + header_len_of v + tcp.header_len_of u in
+        requires few { options.now.sack_range_count ≤ length options.now.sack_ranges }
+        requires value { header_len ≡ options_header_len options.now }
+        requires most { header_len ≤ 60 }
+        requires room { 14 + header_len_of ip_header.now + header_len + payload_len ≤ length out.old }
+        ensures { let v = ip_header.now in let u = tcp_value self.now.tcp options.now self.now.src.port self.now.dst.port in
+            let first = 14 + header_len_of v + header_len in
             let payload = slice_range out.old first (first + payload_len) in
             out.new ≡ headers_bytes self.now v
             ++ segment_bytes self.now.tcp u payload (src_addr_of v) (dst_addr_of v) true
@@ -199,9 +200,18 @@ impl FrameFields {
     {
         let (headers, packet) = out.split_at_mut(self.headers_len(ip_header));
         self.emit_headers(ip_header, headers);
+        let ports = (self.src.port, self.dst.port);
         let (src_addr, dst_addr) = (ip_header.src_addr(), ip_header.dst_addr());
-        self.tcp
-            .wrap(segment, src_addr, dst_addr, payload_len, true, packet);
+        self.tcp.wrap(
+            options,
+            ports,
+            src_addr,
+            dst_addr,
+            header_len,
+            payload_len,
+            true,
+            packet,
+        );
     }
 
     /// Writes a frame with a UDP packet and this payload, and returns its length.
@@ -288,19 +298,15 @@ impl FrameFields {
         requires { version ≡ self.now.src.addr.version }
         ensures { Fills (tcp_frame self.now options.now payload.now) out.old out.new result }
     {
-        let (src_port, dst_port) = (self.src.port, self.dst.port);
-        let segment = self
-            .tcp
-            .segment(options, src_port, dst_port, payload.len())?;
-        let header_len = segment.header_len();
+        let header_len = self.tcp.header_len(options, payload.len())?;
         let ip_header = self.ip_header(version, TCP, header_len + payload.len())?;
         let start = self.headers_len(&ip_header) + header_len;
         let end = start + payload.len();
         if out.len() < end {
             return None;
         }
-        place(payload, start, out);
-        self.wrap_tcp(&ip_header, &segment, payload.len(), out);
+        write_at(out, start, payload);
+        self.wrap_tcp(&ip_header, options, header_len, payload.len(), out);
         Some(end)
     }
 
@@ -331,15 +337,13 @@ impl FrameFields {
         requires { version ≡ self.now.src.addr.version }
         ensures { Fills (tcp_frame_around self.now options.now payload_len out.old) out.old out.new result }
     {
-        let (src_port, dst_port) = (self.src.port, self.dst.port);
-        let segment = self.tcp.segment(options, src_port, dst_port, payload_len)?;
-        let header_len = segment.header_len();
+        let header_len = self.tcp.header_len(options, payload_len)?;
         let ip_header = self.ip_header(version, TCP, header_len + payload_len)?;
         let end = self.headers_len(&ip_header) + header_len + payload_len;
         if out.len() < end {
             return None;
         }
-        self.wrap_tcp(&ip_header, &segment, payload_len, out);
+        self.wrap_tcp(&ip_header, options, header_len, payload_len, out);
         Some(end)
     }
 

@@ -1,6 +1,6 @@
-//! Results of C calls, and copies to a slice.
+//! Results of C calls.
 
-ghost use Rattle.std.specs.Prelude.{◌≡◌, ◌+◌, ◌<◌, ◌≤◌, ◌^◌, ◌++◌, IfSome, Some, drop, length, take};
+ghost use Rattle.std.specs.Prelude.{◌≡◌, ◌<◌, ◌^◌, IfSome, Some};
 ghost use Rattle.c_structs.specs.Written.{Writes, is_set, returned};
 
 use wire_field::try_copy;
@@ -27,14 +27,6 @@ pub fn is_set(number: i32) -> bool
     ensures { result ≡ is_set number }
 {
     number != 0
-}
-
-/// Copies bytes to `out`, from byte `start` on.
-pub fn place(bytes: &[u8], start: usize, out: &mut [u8])
-    requires { start + length bytes.now ≤ length out.old }
-    ensures { out.new ≡ take start out.old ++ bytes.now ++ drop (start + length bytes.now) out.old }
-{
-    out[start..start + bytes.len()].copy_from_slice(bytes);
 }
 
 /// Writes a text to the front of `out`, and returns its length or `FAILED`.

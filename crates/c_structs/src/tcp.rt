@@ -1,19 +1,17 @@
 //! TCP segments.
 
-ghost use Rattle.std.specs.Prelude.{◌≡◌, ◌≤◌, ◌+◌, ◌++◌, [], drop, length, slice_range, take};
+ghost use Rattle.std.specs.Prelude.{◌≡◌, ◌≤◌, ◌<◌, ◌+◌, ◌++◌, ◌%◌, drop, flat_map, if◌then◌else◌, length, slice_index, slice_range, take};
+ghost use Rattle.byteorder.specs.Endian.{big_bytes};
 ghost use Rattle.ip_wire.specs.IpAddress.{version_of};
-ghost use Rattle.ip_wire.specs.TcpRepr.{header_len_of, header_of};
 ghost use Rattle.ip_wire.specs.Field.{with_field};
-ghost use Rattle.c_structs.specs.Headers.{segment_bytes};
+ghost use Rattle.ip_wire.specs.Tcp.{with_checksum};
+ghost use Rattle.c_structs.specs.Headers.{front_bytes, options_header_len, segment_bytes, tcp_value};
 ghost use Rattle.c_structs.specs.Resummed.{resummed};
 
-use crate::results::place;
-use crate::types::Tcp;
-use ip_wire::{IpAddress, TcpPacketMut, TcpRepr, checksum};
-use net_base::ChecksumCapabilities;
-
-// The byte of a header that holds its flags.
-const FLAGS: usize = 13;
+use crate::types::{Tcp, TcpOptions};
+use byteorder::{ByteOrder, NetworkEndian};
+use ip_wire::{IpAddress, IpProtocol, TCP_HEADER_LEN, TcpPacketMut, checksum};
+use wire_checksum::for_emit;
 
 /// Writes the checksum of a segment at the front of `out` that has 0 there, from a segment that was
 /// read between the same addresses with its checksum and has the same payload: the payload is not
@@ -32,60 +30,100 @@ pub fn put_checksum(old: &[u8], old_len: usize, header_len: usize, len: usize, o
 }
 
 impl Tcp {
-    /// Writes the header of a segment between two addresses around a payload that is in `out` behind
-    /// it. `value` has the values and an empty payload. The checksum is 0 unless it is computed.
+    /// Writes a header with these options and ports between two addresses, around a payload that is in
+    /// `out` behind it. The first 20 octets are written last, with their checksum, and are not read
+    /// again: bytes that were just written are slow to read. The checksum is 0 unless it is computed.
     #[inline(always)]
     pub fn wrap(
         &self,
-        value: &TcpRepr<'_>,
+        options: &TcpOptions,
+        ports: (u16, u16),
         src_addr: IpAddress,
         dst_addr: IpAddress,
+        header_len: usize,
         payload_len: usize,
         computed: bool,
         out: &mut [u8],
     )
-        requires empty { value.now.payload.now ≡ [] }
-        requires header_len { header_len_of (header_of value.now) ≤ 60 }
-        requires room { header_len_of (header_of value.now) + payload_len ≤ length out.old }
+        requires few { options.now.sack_range_count ≤ length options.now.sack_ranges }
+        requires value { header_len ≡ options_header_len options.now }
+        requires most { header_len ≤ 60 }
+        requires room { header_len + payload_len ≤ length out.old }
         requires family { version_of src_addr ≡ version_of dst_addr }
-        ensures { let v = header_of value.now in let end = header_len_of v + payload_len in
-            let payload = slice_range out.old (header_len_of v) end in
+        ensures { let v = tcp_value self.now options.now ports.0 ports.1 in let end = header_len + payload_len in
+            let payload = slice_range out.old header_len end in
             out.new ≡ segment_bytes self.now v payload src_addr dst_addr computed ++ drop end out.old }
     {
-        let (segment, _) = out.split_at_mut(value.header_len() + payload_len);
-        value.emit(
-            &mut TcpPacketMut::new_unchecked(segment),
-            &src_addr,
-            &dst_addr,
-            &ChecksumCapabilities::ignored(),
-        );
-        segment[FLAGS] = self.flags;
-        let mut segment = TcpPacketMut::new_unchecked(segment);
-        segment.set_urgent_at(self.urgent_at);
+        options.emit(header_len, out);
+        let rest = &out[TCP_HEADER_LEN..header_len + payload_len];
+        let words = self.front(ports, src_addr, dst_addr, header_len, rest, computed);
+        write_front(&words, out);
+    }
+
+    // The words of the first 20 octets before the rest of a segment. The checksum is 0 unless it is
+    // computed.
+    #[inline(always)]
+    fn front(
+        &self,
+        ports: (u16, u16),
+        src_addr: IpAddress,
+        dst_addr: IpAddress,
+        header_len: usize,
+        rest: &[u8],
+        computed: bool,
+    ) -> [u32; 5]
+        requires most { header_len ≤ 60 }
+        requires family { version_of src_addr ≡ version_of dst_addr }
+        ensures { let bytes = front_bytes self.now ports.0 ports.1 header_len ++ rest.now in
+            flat_map (big_bytes 4) result ++ rest.now ≡ (if computed then with_checksum src_addr dst_addr bytes else bytes) }
+    {
+        let words = self.words(ports, header_len);
         if computed {
-            segment.fill_checksum(&src_addr, &dst_addr);
+            summed(words, src_addr, dst_addr, rest)
+        } else {
+            words
         }
     }
 
-    /// Writes a segment between two addresses to the front of `out`, as `wrap` does, with its payload.
+    // The words of the first 20 octets, of 32 bits each. Their checksum is 0.
     #[inline(always)]
-    pub fn emit(
-        &self,
-        value: &TcpRepr<'_>,
-        src_addr: IpAddress,
-        dst_addr: IpAddress,
-        payload: &[u8],
-        computed: bool,
-        out: &mut [u8],
-    )
-        requires empty { value.now.payload.now ≡ [] }
-        requires header_len { header_len_of (header_of value.now) ≤ 60 }
-        requires room { header_len_of (header_of value.now) + length payload.now ≤ length out.old }
-        requires family { version_of src_addr ≡ version_of dst_addr }
-        ensures { let v = header_of value.now in let end = header_len_of v + length payload.now in
-            out.new ≡ segment_bytes self.now v payload.now src_addr dst_addr computed ++ drop end out.old }
+    fn words(&self, ports: (u16, u16), header_len: usize) -> [u32; 5]
+        requires { header_len ≤ 60 }
+        ensures value { flat_map (big_bytes 4) result ≡ front_bytes self.now ports.0 ports.1 header_len }
+        ensures no_checksum { slice_index result 4 < 65536 }
     {
-        place(payload, value.header_len(), out);
-        self.wrap(value, src_addr, dst_addr, payload.len(), computed, out);
+        let offset = (header_len / 4 * 16) as u32;
+        [
+            u32::from(ports.0) * 65536 + u32::from(ports.1),
+            self.seq_number,
+            self.ack_number,
+            offset * 16777216 + u32::from(self.flags) * 65536 + u32::from(self.window_len),
+            u32::from(self.urgent_at),
+        ]
     }
+}
+
+// The words of a header with the checksum of a segment. The rest of the segment follows them.
+#[inline(always)]
+fn summed(words: [u32; 5], src_addr: IpAddress, dst_addr: IpAddress, rest: &[u8]) -> [u32; 5]
+    requires no_checksum { slice_index words 4 < 65536 }
+    requires family { version_of src_addr ≡ version_of dst_addr }
+    ensures { flat_map (big_bytes 4) result ++ rest.now ≡ with_checksum src_addr dst_addr (flat_map (big_bytes 4) words ++ rest.now) }
+{
+    let mut front = [0; TCP_HEADER_LEN];
+    NetworkEndian::write_u32_into(&words, &mut front);
+    let sum = for_emit::packet(src_addr, dst_addr, IpProtocol::Tcp, &front, rest);
+    let mut words = words;
+    words[4] += u32::from(!sum) * 65536;
+    words
+}
+
+// Writes the first 20 octets of a header.
+#[inline(always)]
+fn write_front(words: &[u32; 5], out: &mut [u8])
+    requires { 20 ≤ length out.old }
+    ensures { out.new ≡ flat_map (big_bytes 4) words.now ++ drop 20 out.old }
+{
+    let (front, _) = out.split_at_mut(TCP_HEADER_LEN);
+    NetworkEndian::write_u32_into(words, front);
 }

@@ -1,56 +1,28 @@
-use Rattle.std.proofs.Common.{◌≡◌, ◌∙◌, ◌+◌, ◌≤◌, ◌<◌, false, if◌then◌else◌, ap, sym, take, length, slice_range, slice_set, rules, arith}
-use Rattle.std.proofs.lemmas.Grind.{common_steps}
-use Rattle.net_base.specs.Checksum.{computes}
-use Rattle.ip_wire.specs.Tcp.{packet_bytes_mut, with_checksum}
-use Rattle.ip_wire.specs.TcpRepr.{header_len_of, header_of}
-use Rattle.c_structs.proofs.Emitted.{header-before, segment-flags}
-use Rattle.c_structs.proofs.Filled.{filled-header}
-use Rattle.c_structs.specs.Headers.{segment_bytes, segment_with_flags}
+use Rattle.std.proofs.Common.{◌≡◌, ◌∙◌, ◌+◌, ◌++◌, arith, drop, if◌then◌else◌, rules, slice_range, sym}
+use Rattle.ip_wire.specs.Tcp.{with_checksum}
+use Rattle.ip_wire.specs.TcpRepr.{option_bytes}
+use Rattle.wire_tcp.proofs.TcpEmitted.{length-option_bytes}
+use Rattle.c_structs.proofs.TcpFronts.{behind-here, front-written, options-there, rest-here, segment-parts}
+use Rattle.c_structs.specs.Headers.{front_bytes, options_value, segment_with_flags, tcp_value}
 use Rattle.c_structs.proofs.types.Tcp.wrap.Goals as goal
 
-pub returns-then-computed : goal.returns-then-computed
-returns-then-computed c =
+pub returns : goal.returns
+returns c =
     let h = c.args.self.now in
-    let v = header_of c.args.value.now in
+    let o = c.args.options.now in
+    let p = c.args.ports.0 in
+    let q = c.args.ports.1 in
     let old = c.args.out.now in
-    let end = header_len_of v + c.args.payload_len in
-    let payload = slice_range old (header_len_of v) end in
-    let src = c.args.src_addr in
-    let dst = c.args.dst_addr in
-    let caps : computes c.ignored.result.tcp ≡ false = search rules in
-    let part : packet_bytes_mut c.new_unchecked.result ≡ take end old = search rules in
-    let start = header-before v c.args.value.now.payload.now old _ c.emit.new.packet.buffer.now src dst c.args.payload_len c.requires.empty part (rw caps at c.emit.ensures.holds) in
-    let size : length (take end old) ≡ end = grind (arith, common_steps, c.requires.room) in
-    let kept : length c.emit.new.packet.buffer.now ≡ end = c.emit.ensures.same_length ∙ ap length part ∙ size in
-    let long : 14 ≤ length c.emit.new.packet.buffer.now = omega (arith, kept) in
-    let small : h.flags < 256 = search rules in
-    let marked : packet_bytes_mut c.new_unchecked-segment.result ≡ slice_set c.emit.new.packet.buffer.now 13 h.flags = search rules in
-    let flagged = segment-flags h v payload c.emit.new.packet.buffer.now _ c.set_urgent_at.new.self.buffer.now start long small marked c.set_urgent_at.ensures.holds in
-    let summed = c.fill_checksum.ensures.holds ∙ ap (with_checksum src dst) flagged in
-    let whole = segment_with_flags h v payload in
-    let chosen = sym (ap (λ b. if b then with_checksum src dst whole else whole) c.if-computed.true) in
-    filled-header (segment_bytes h v payload src dst c.args.computed) old _ c.fill_checksum.new.self.buffer.now c.split_at_mut-segment.result.1.now end
-    (search rules) (summed ∙ chosen) (search rules)
-
-pub returns-else-computed : goal.returns-else-computed
-returns-else-computed c =
-    let h = c.args.self.now in
-    let v = header_of c.args.value.now in
-    let old = c.args.out.now in
-    let end = header_len_of v + c.args.payload_len in
-    let payload = slice_range old (header_len_of v) end in
-    let src = c.args.src_addr in
-    let dst = c.args.dst_addr in
-    let caps : computes c.ignored.result.tcp ≡ false = search rules in
-    let part : packet_bytes_mut c.new_unchecked.result ≡ take end old = search rules in
-    let start = header-before v c.args.value.now.payload.now old _ c.emit.new.packet.buffer.now src dst c.args.payload_len c.requires.empty part (rw caps at c.emit.ensures.holds) in
-    let size : length (take end old) ≡ end = grind (arith, common_steps, c.requires.room) in
-    let kept : length c.emit.new.packet.buffer.now ≡ end = c.emit.ensures.same_length ∙ ap length part ∙ size in
-    let long : 14 ≤ length c.emit.new.packet.buffer.now = omega (arith, kept) in
-    let small : h.flags < 256 = search rules in
-    let marked : packet_bytes_mut c.new_unchecked-segment.result ≡ slice_set c.emit.new.packet.buffer.now 13 h.flags = search rules in
-    let flagged = segment-flags h v payload c.emit.new.packet.buffer.now _ c.set_urgent_at.new.self.buffer.now start long small marked c.set_urgent_at.ensures.holds in
-    let whole = segment_with_flags h v payload in
-    let chosen = sym (ap (λ b. if b then with_checksum src dst whole else whole) c.if-computed.false) in
-    filled-header (segment_bytes h v payload src dst c.args.computed) old _ c.set_urgent_at.new.self.buffer.now c.split_at_mut-segment.result.1.now end
-    (search rules) (flagged ∙ chosen) (search rules)
+    let n = c.args.payload_len in
+    let size = c.args.header_len in
+    let payload = slice_range old size (size + n) in
+    let options = option_bytes (options_value o) in
+    let o1 = c.emit.new.out in
+    let long = length-option_bytes (options_value o) ∙ sym c.requires.value in
+    let there = options-there old o1 options size (omega (arith, c.requires.room, long)) c.emit.ensures in
+    let rest : slice_range o1 20 (size + n) ≡ options ++ payload = rest-here old o1 options size n long there in
+    let made = rw rest at c.front-words.ensures in
+    front-written (λ bytes. if c.args.computed then with_checksum c.args.src_addr c.args.dst_addr bytes else bytes) (front_bytes h p q size) _ (options ++ payload)
+    (segment_with_flags h (tcp_value h o p q) payload) (drop (size + n) old) o1 c.write_front.new.out made
+    (segment-parts h o p q size payload c.requires.value c.requires.most (search rules) (search rules))
+    (behind-here old o1 options size n there) c.write_front.ensures
