@@ -6,6 +6,9 @@ ghost use Rattle.wire_checksum.specs.WordSum.{residue, sum_of_bytes, words};
 
 use std::simd::prelude::*;
 
+// From this length on bytes do not fit into the fastest cache, and lanes are faster than chains.
+const LONG: usize = 32_768;
+
 /// The sum that a total stands for. The words of a total are little-endian, so the two bytes of the
 /// folded total are swapped.
 #[inline]
@@ -68,7 +71,7 @@ pub fn sum_here(bytes: &[u8]) -> u16
 fn sum_apart(bytes: &[u8]) -> u16
     ensures { result ≡ sum_of_bytes bytes.now }
 {
-    if bytes.len() < 8 || bytes.len() >= 2048 {
+    if bytes.len() < 8 || bytes.len() >= LONG {
         sum_of_total(bytes)
     } else {
         finish(by_words(bytes, tail(bytes)))
@@ -101,7 +104,7 @@ fn total_apart(bytes: &[u8]) -> u64
 {
     if bytes.len() < 8 {
         plain(bytes)
-    } else if bytes.len() < 2048 {
+    } else if bytes.len() < LONG {
         by_words(bytes, tail(bytes))
     } else {
         by_vectors(bytes)

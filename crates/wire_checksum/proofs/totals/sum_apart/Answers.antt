@@ -2,5 +2,5 @@ use Rattle.std.proofs.Common.{◌∙◌}
 use Rattle.wire_checksum.proofs.WordLists.{with-tail}
 use Rattle.wire_checksum.proofs.totals.sum_apart.Goals as goal
 
-pub returns-else-bytes-ge2048 : goal.returns-else-bytes-ge2048
-returns-else-bytes-ge2048 c = c.finish.ensures ∙ with-tail c.args.bytes.now c.tail.result c.by_words.result c.tail.ensures c.by_words.ensures
+pub returns-else-bytes-ge-LONG : goal.returns-else-bytes-ge-LONG
+returns-else-bytes-ge-LONG c = c.finish.ensures ∙ with-tail c.args.bytes.now c.tail.result c.by_words.result c.tail.ensures c.by_words.ensures
