@@ -124,11 +124,13 @@ impl Block {
         }
         let prefix_len = self.prefix_len;
         match addr.version {
-            4 if prefix_len <= 32 => {
-                Ipv4Cidr::new(self.addr.ipv4(), prefix_len as u8).contains_addr(&addr.ipv4())
+            4 => {
+                prefix_len <= 32
+                    && Ipv4Cidr::new(self.addr.ipv4(), prefix_len as u8).contains_addr(&addr.ipv4())
             }
-            6 if prefix_len <= 128 => {
-                Ipv6Cidr::new(self.addr.ipv6(), prefix_len as u8).contains_addr(&addr.ipv6())
+            6 => {
+                prefix_len <= 128
+                    && Ipv6Cidr::new(self.addr.ipv6(), prefix_len as u8).contains_addr(&addr.ipv6())
             }
             _ => false,
         }

@@ -13,16 +13,16 @@ impl Arp {
     pub fn value(&self, src: &Addr, dst: &Addr) -> Option<ArpRepr>
         ensures { result ≡ arp_value self.now src.now dst.now }
     {
-        if src.version != 4 || dst.version != 4 {
-            return None;
+        match (src.version, dst.version) {
+            (4, 4) => Some(ArpRepr::EthernetIpv4 {
+                operation: ArpOperation::Unknown(self.operation),
+                source_hardware_addr: EthernetAddress(self.src_hardware),
+                source_protocol_addr: src.ipv4(),
+                target_hardware_addr: EthernetAddress(self.dst_hardware),
+                target_protocol_addr: dst.ipv4(),
+            }),
+            _ => None,
         }
-        Some(ArpRepr::EthernetIpv4 {
-            operation: ArpOperation::Unknown(self.operation),
-            source_hardware_addr: EthernetAddress(self.src_hardware),
-            source_protocol_addr: src.ipv4(),
-            target_hardware_addr: EthernetAddress(self.dst_hardware),
-            target_protocol_addr: dst.ipv4(),
-        })
     }
 
     /// Writes a packet between two addresses to the front of `out` and returns its length. `None` if it
