@@ -1,19 +1,12 @@
 -- Headers that are written in place, in several steps.
-use Rattle.std.proofs.Common.{◌≡◌, ◌∙◌, ℕ, ◌+◌, ◌-◌, ◌*◌, ◌%◌, ◌≤◌, ◌<◌, false, List, [], ◌++◌, drop, length, take, slice_set, slice_range, ap, sym, append-nil, arith}
+use Rattle.std.proofs.Common.{◌≡◌, ◌∙◌, ℕ, ◌+◌, ◌-◌, ◌%◌, ◌≤◌, ◌<◌, false, List, [], ◌++◌, drop, length, take, slice_set, slice_range, ap, sym, append-nil, arith}
 use Rattle.std.proofs.lemmas.Grind.{common_steps}
 use Rattle.std.proofs.lemmas.List.{drop-take}
 use Rattle.ip_wire.specs.Field.{with_field, with_part, word_at}
 use Rattle.ip_wire.specs.TcpRepr.{TcpHeader, bytes_of, header_bytes, header_len_of}
 use Rattle.ip_wire.specs.declared.IpAddress.{IpAddress}
-use Rattle.c_structs.specs.Headers.{segment_with_flags, with_ipv6_fields}
-use Rattle.c_structs.specs.declared.types.Ip.{Ip}
+use Rattle.c_structs.specs.Headers.{segment_with_flags}
 use Rattle.c_structs.specs.declared.types.Tcp.{Tcp}
-
--- ---- IP
-
--- an IPv6 header after both fields are written, in this order
-pub ipv6-fields : (h : Ip) (b0 b1 b2 : List ℕ) → b1 ≡ with_field b0 4 8 (4 * h.dscp + h.ecn) → b2 ≡ with_field b1 12 20 h.flow_label → b2 ≡ with_ipv6_fields h b0
-ipv6-fields h b0 b1 b2 e1 e2 = e2 ∙ ap (λ b. with_field b 12 20 h.flow_label) e1
 
 -- ---- TCP
 

@@ -5,6 +5,7 @@ mod Framed
 mod Headed
 mod HostAnswers
 mod Ipv4Words
+mod Ipv6Words
 mod Numbered
 mod StoredFrame
 mod StoredHeaders
