@@ -1,10 +1,10 @@
-mod Emitted
 mod FieldsOf
 pub mod Filled
 mod Framed
 mod Headed
 mod HostAnswers
 mod Ipv4Words
+mod Ipv6Words
 mod Numbered
 mod StoredFrame
 mod StoredHeaders

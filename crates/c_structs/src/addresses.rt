@@ -10,7 +10,7 @@ ghost use Rattle.c_structs.specs.Written.{Writes};
 use crate::results::print;
 use crate::types::{Addr, Block, Endpoint};
 use arrayvec::ArrayString;
-use ip_wire::{IpAddress, IpCidr, IpEndpoint, Ipv4Address, Ipv6Address};
+use ip_wire::{IpAddress, IpCidr, IpEndpoint, Ipv4Address, Ipv4Cidr, Ipv6Address, Ipv6Cidr};
 use itoa::Buffer;
 
 // The length of the longest printed IPv4 address.
@@ -119,8 +119,19 @@ impl Block {
     pub fn contains(&self, addr: &Addr) -> bool
         ensures { IsTrue result ↔ IsSomeAnd (block_of self.now) (λ cidr. IsSomeAnd (ip_of addr.now) (IsIn cidr)) }
     {
-        match (self.cidr(), addr.ip()) {
-            (Some(cidr), Some(address)) => cidr.contains_addr(&address),
+        if addr.version != self.addr.version {
+            return false;
+        }
+        let prefix_len = self.prefix_len;
+        match addr.version {
+            4 => {
+                prefix_len <= 32
+                    && Ipv4Cidr::new(self.addr.ipv4(), prefix_len as u8).contains_addr(&addr.ipv4())
+            }
+            6 => {
+                prefix_len <= 128
+                    && Ipv6Cidr::new(self.addr.ipv6(), prefix_len as u8).contains_addr(&addr.ipv6())
+            }
             _ => false,
         }
     }

@@ -5,7 +5,7 @@ ghost use Rattle.c_structs.specs.Headers.{arp_bytes, arp_value};
 ghost use Rattle.c_structs.specs.Written.{Fills};
 
 use crate::types::{Addr, Arp};
-use ip_wire::{ArpOperation, ArpRepr, EthernetAddress, IpAddress};
+use ip_wire::{ArpOperation, ArpRepr, EthernetAddress};
 
 impl Arp {
     /// The values of a packet between two addresses. `None` if they are no IPv4 addresses.
@@ -13,19 +13,13 @@ impl Arp {
     pub fn value(&self, src: &Addr, dst: &Addr) -> Option<ArpRepr>
         ensures { result ≡ arp_value self.now src.now dst.now }
     {
-        let src_hardware = self.src_hardware;
-        let dst_hardware = self.dst_hardware;
-        if src.version != 4 {
-            return None;
-        }
-        let (src_addr, dst_addr) = src.pair(4, dst)?;
-        match (&src_addr, &dst_addr) {
-            (IpAddress::Ipv4(src_addr), IpAddress::Ipv4(dst_addr)) => Some(ArpRepr::EthernetIpv4 {
+        match (src.version, dst.version) {
+            (4, 4) => Some(ArpRepr::EthernetIpv4 {
                 operation: ArpOperation::Unknown(self.operation),
-                source_hardware_addr: EthernetAddress(src_hardware),
-                source_protocol_addr: *src_addr,
-                target_hardware_addr: EthernetAddress(dst_hardware),
-                target_protocol_addr: *dst_addr,
+                source_hardware_addr: EthernetAddress(self.src_hardware),
+                source_protocol_addr: src.ipv4(),
+                target_hardware_addr: EthernetAddress(self.dst_hardware),
+                target_protocol_addr: dst.ipv4(),
             }),
             _ => None,
         }

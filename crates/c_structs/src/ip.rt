@@ -13,9 +13,7 @@ ghost use Rattle.c_structs.specs.Written.{Fills};
 
 use crate::types::{Addr, Ip};
 use byteorder::{ByteOrder, NetworkEndian};
-use ip_wire::{
-    IPV4_HEADER_LEN, IPV6_HEADER_LEN, IpProtocol, IpRepr, Ipv4Repr, Ipv6PacketMut, Ipv6Repr,
-};
+use ip_wire::{IPV4_HEADER_LEN, IPV6_HEADER_LEN, IpProtocol, IpRepr, Ipv4Repr, Ipv6Repr};
 use wire_checksum::for_emit;
 
 impl Ip {
@@ -131,10 +129,10 @@ impl Ip {
         match value {
             IpRepr::Ipv4(_) => self.ident < 1 << 16 && self.fragment_offset % 8 == 0,
             IpRepr::Ipv6(_) => {
-                self.ident == 0
+                self.flow_label < 1 << 20
+                    && self.ident == 0
                     && self.fragment_offset == 0
                     && self.more_fragments == 0
-                    && self.flow_label < 1 << 20
             }
         }
     }
@@ -203,13 +201,36 @@ impl Ip {
         requires payload_len { value.now.payload_len ≤ 65535 }
         requires dscp { self.now.dscp < 64 }
         requires ecn { self.now.ecn < 4 }
+        requires flow_label { self.now.flow_label < 1048576 }
         requires room { 40 ≤ length out.old }
         ensures { out.new ≡ with_ipv6_fields self.now (ipv6.bytes_of value.now) ++ drop 40 out.old }
     {
+        let words = self.ipv6_words(*value);
         let (front, _) = out.split_at_mut(IPV6_HEADER_LEN);
-        let mut packet = Ipv6PacketMut::new_unchecked(front);
-        value.emit(&mut packet);
-        packet.set_traffic_class(4 * self.dscp + self.ecn);
-        packet.set_flow_label(self.flow_label);
+        NetworkEndian::write_u64_into(&words, front);
+    }
+
+    // The words of an IPv6 header, of 64 bits each.
+    #[inline(always)]
+    fn ipv6_words(&self, value: Ipv6Repr) -> [u64; 5]
+        requires payload_len { value.payload_len ≤ 65535 }
+        requires dscp { self.now.dscp < 64 }
+        requires ecn { self.now.ecn < 4 }
+        requires flow_label { self.now.flow_label < 1048576 }
+        ensures { flat_map (big_bytes 8) result ≡ with_ipv6_fields self.now (ipv6.bytes_of value) }
+    {
+        let service = u32::from(4 * self.dscp + self.ecn);
+        let first = 0x6000_0000 + service * 1048576 + self.flow_label;
+        let protocol = u32::from(u8::from(value.next_header));
+        let second = value.payload_len as u32 * 65536 + protocol * 256 + u32::from(value.hop_limit);
+        let src = value.src_addr.octets();
+        let dst = value.dst_addr.octets();
+        [
+            u64::from(first) * 4294967296 + u64::from(second),
+            NetworkEndian::read_u64(&src[..8]),
+            NetworkEndian::read_u64(&src[8..]),
+            NetworkEndian::read_u64(&dst[..8]),
+            NetworkEndian::read_u64(&dst[8..]),
+        ]
     }
 }

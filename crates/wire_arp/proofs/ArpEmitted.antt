@@ -1,11 +1,9 @@
 -- What `emit` leaves, and what is read of the packet of a value.
-use Rattle.std.proofs.Common.{ℕ, ◌≡◌, ◌<◌, ◌≤◌, ◌^◌, List, [], ◌∷◌, ◌++◌, length, drop, slice_index, slice_range, refl, ◌∙◌, ◌+◌, arith}
+use Rattle.std.proofs.Common.{ℕ, ◌≡◌, ◌<◌, ◌≤◌, ◌^◌, List, ◌++◌, length, drop, slice_range, refl, ◌+◌, arith}
 use borrow.Rule.Slice.PartMut.{put_mid}
-use Rattle.byteorder.specs.Endian.{big_bytes, big_number}
-use Rattle.wire_addr.specs.Octets.{AreOctets}
-use Rattle.wire_addr.specs.Prefix.{number_of}
+use Rattle.byteorder.specs.Endian.{big_bytes}
 use Rattle.wire_field.specs.Field.{field}
-use Rattle.wire_field.proofs.Cells.{cells-all, cells-drop, four_bytes}
+use Rattle.wire_field.proofs.Cells.{cells-all, cells-drop}
 use Rattle.wire_arp.proofs.ArpComputed.{value_of-fields}
 use Rattle.wire_arp.specs.Arp.{Reads, bytes_of, ethernet_ipv4, normal, operation_number, operation_of}
 use Rattle.wire_arp.specs.declared.arp.repr.ArpRepr.{ArpRepr}
@@ -42,26 +40,12 @@ reads-bytes_of (EthernetIpv4 operation sha spa tha tpa) rest (small, h) =
 pub front_bytes : (n operation : ℕ) → operation < 2 ^ 16 → n ≡ 0x0001080006040000 + operation → big_bytes 8 n ≡ ethernet_ipv4 ++ big_bytes 2 operation
 front_bytes n operation small is = grind arith
 
--- the four bytes of an address are those of its number
-pub address_bytes : (address : List ℕ) (n : ℕ) → AreOctets 4 address → n ≡ number_of address → big_bytes 4 n ≡ address
-address_bytes address n h is =
-    let e = cells-all 4 address h.0 in
-    let m : n ≡ big_number 4 address = is ∙ rw e refl in
-    let all : slice_index address 0 ∷ slice_index address 1 ∷ slice_index address 2 ∷ slice_index address 3 ∷ [] ≡ address = rw e refl in
-    four_bytes address n h.1 m ∙ all
-
--- the five writes leave the packet, then the bytes that stood behind it
-pub packet_written : (operation : ℕ) (sha spa tha tpa old front a b c d : List ℕ) → AreAddresses sha spa tha tpa → 28 ≤ length old
-    → front ≡ (ethernet_ipv4 ++ big_bytes 2 operation) ++ drop 8 old → a ≡ sha ++ drop 6 (slice_range front 8 14)
-    → b ≡ spa ++ drop 4 (slice_range (put_mid 8 6 front a) 14 18) → c ≡ tha ++ drop 6 (slice_range (put_mid 14 4 (put_mid 8 6 front a) b) 18 24)
-    → d ≡ tpa ++ drop 4 (slice_range (put_mid 18 6 (put_mid 14 4 (put_mid 8 6 front a) b) c) 24 28)
-    → put_mid 24 4 (put_mid 18 6 (put_mid 14 4 (put_mid 8 6 front a) b) c) d
-    ≡ (ethernet_ipv4 ++ big_bytes 2 operation ++ sha ++ spa ++ tha ++ tpa) ++ drop 28 old
-packet_written operation sha spa tha tpa old front a b c d h room one two three four five =
+-- both writes leave the packet, then the bytes that stood behind it
+pub packet_written : (operation : ℕ) (sha spa tha tpa old front a : List ℕ) → AreAddresses sha spa tha tpa → 28 ≤ length old
+    → front ≡ (ethernet_ipv4 ++ big_bytes 2 operation) ++ drop 8 old → a ≡ (sha ++ spa ++ tha ++ tpa) ++ drop 20 (slice_range front 8 28)
+    → put_mid 8 20 front a ≡ (ethernet_ipv4 ++ big_bytes 2 operation ++ sha ++ spa ++ tha ++ tpa) ++ drop 28 old
+packet_written operation sha spa tha tpa old front a h room one two =
     rw (
-      five,
-      four,
-      three,
       two,
       one,
       cells-all 6 sha h.source_hardware,

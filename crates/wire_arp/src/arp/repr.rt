@@ -14,7 +14,7 @@ use net_base::{Error, Result};
 use std::fmt;
 use wire_addr::{EthernetAddress, Ipv4Address};
 use wire_ethernet::EthernetProtocol;
-use wire_field::{array_at, write_six};
+use wire_field::{array_at, write_front};
 
 /// The length of an Ethernet address, in octets.
 const ETHERNET_ADDR_LEN: u8 = 6;
@@ -134,7 +134,8 @@ fn is_ethernet_ipv4(bytes: &[u8]) -> bool
     )
 }
 
-// Writes a packet of Ethernet and IPv4 to the front.
+// Writes a packet of Ethernet and IPv4 to the front. The addresses are one array, so that the compiler
+// moves them with two stores.
 #[inline(always)]
 fn write_ethernet_ipv4(
     bytes: &mut [u8],
@@ -147,11 +148,13 @@ fn write_ethernet_ipv4(
     requires { 28 ≤ length bytes.old }
     ensures { bytes.new ≡ bytes_of (ArpRepr.EthernetIpv4 operation source_hardware_addr source_protocol_addr target_hardware_addr target_protocol_addr) ++ drop 28 bytes.old }
 {
+    let [a, b, c, d, e, f] = source_hardware_addr.0;
+    let [g, h, i, j] = source_protocol_addr.octets();
+    let [k, l, m, n, o, p] = target_hardware_addr.0;
+    let [q, r, s, t] = target_protocol_addr.octets();
+    let addresses = [a, b, c, d, e, f, g, h, i, j, k, l, m, n, o, p, q, r, s, t];
     NetworkEndian::write_u64(bytes, ETHERNET_IPV4 + u64::from(operation.number()));
-    write_six(&mut bytes[8..14], &source_hardware_addr.0);
-    NetworkEndian::write_u32(&mut bytes[14..18], source_protocol_addr.to_bits());
-    write_six(&mut bytes[18..24], &target_hardware_addr.0);
-    NetworkEndian::write_u32(&mut bytes[24..28], target_protocol_addr.to_bits());
+    write_front(&mut bytes[8..28], &addresses);
 }
 
 /// The addresses and the operation.
