@@ -1,10 +1,11 @@
--- The values of a frame that was parsed, and its packet.
+-- The values of a frame that was parsed, and its packet, and those of a packet without a frame.
 use Rattle.std.specs.Prelude.{◌≡◌, List, ℕ, Option, Some, None, Result, Ok, Err}
 use Rattle.std.specs.Option.{option_and_then}
-use Rattle.ip_wire.specs.Frame.{Carried, Transport, frame_of, message, packet}
+use Rattle.ip_wire.specs.Frame.{Carried, ReadsCarried, Transport, frame_of, message, packet, type_of}
 use Rattle.ip_wire.specs.FrameValue.{carried_of, transport_of}
 use Rattle.ip_wire.specs.Types.{EthernetRepr, IpRepr}
 use Rattle.ip_wire.specs.declared.frame.Frame.{Frame}
+use Rattle.ip_wire.specs.declared.frame.packet.Packet.{Packet}
 use Rattle.ip_wire.specs.declared.frame.transport.Transport as value
 use Rattle.net_base.specs.declared.ChecksumCapabilities.{ChecksumCapabilities}
 
@@ -26,3 +27,15 @@ IsFrame found (Err e) = found ≡ None
 abbrev pub IsPacket : {E : Type 0} → Option (EthernetRepr × IpRepr × Transport) → Result (EthernetRepr × IpRepr × value.Transport) E → Type 0
 IsPacket found (Ok (link, v, inner)) = (t : Transport) × (transport_of inner ≡ Some t) × (found ≡ Some (link, v, t))
 IsPacket found (Err e) = found ≡ None
+
+-- ---- without a frame
+
+-- the bytes parse as this packet, by the rules of the version of its header
+abbrev pub ParsesPacket : ChecksumCapabilities → List ℕ → Packet → Type 0
+ParsesPacket caps bytes p =
+    (t : Transport) × (transport_of p.inner ≡ Some t) × ReadsCarried caps (type_of p.header) bytes (packet p.header t)
+
+-- the result is a packet of this header and this transport
+abbrev pub GivesPacket : {E : Type 0} → Result Packet E → IpRepr → Transport → Type 0
+GivesPacket (Ok p) v t = (p.header ≡ v) × (transport_of p.inner ≡ Some t)
+GivesPacket (Err e) v t = ⊥

@@ -17,6 +17,7 @@ mod transport;
 
 pub use carried::Carried;
 use net_base::{ChecksumCapabilities, Error, Result};
+pub use packet::Packet;
 pub use reply::{send, send_reply};
 use std::fmt;
 pub use transport::Transport;

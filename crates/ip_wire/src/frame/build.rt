@@ -2,7 +2,7 @@
 
 ghost use Rattle.std.specs.Prelude.{◌≡◌, ◌↔◌, IfOk, IsOk, IsTrue, length};
 ghost use Rattle.ip_wire.specs.FrameValue.{Agrees, Fits, NamesTransport, arp_frame, frame_around, protocol_before, transport_len};
-ghost use Rattle.ip_wire.specs.Frame.{type_of};
+ghost use Rattle.ip_wire.specs.Frame.{type_of_version};
 ghost use Rattle.ip_wire.specs.declared.frame.transport.Transport.TheVariants as transport;
 ghost use Rattle.wire_ip.specs.Ip.{header_before};
 
@@ -10,7 +10,7 @@ use super::{Carried, Frame, Transport};
 use net_base::{Error, Result};
 use wire_addr::EthernetAddress;
 use wire_arp::ArpRepr;
-use wire_ends::IpProtocol;
+use wire_ends::{IpProtocol, IpVersion};
 use wire_ethernet::{EthernetProtocol, EthernetRepr};
 use wire_ip::IpRepr;
 use wire_tcp::TcpRepr;
@@ -86,7 +86,7 @@ impl<'a> Frame<'a> {
             header: EthernetRepr {
                 src_addr,
                 dst_addr,
-                ethertype: ethertype_of(&header),
+                ethertype: ethertype_of(header.version()),
             },
             carried: Carried::Packet(filled, inner),
         })
@@ -120,12 +120,13 @@ fn protocol(header: &IpRepr, inner: &Transport<'_>) -> IpProtocol
     }
 }
 
-// The EtherType of a header's version.
-fn ethertype_of(header: &IpRepr) -> EthernetProtocol
-    ensures { result ≡ type_of header.now }
+// The EtherType of a frame with a packet of this version.
+#[inline(always)]
+pub(super) fn ethertype_of(version: IpVersion) -> EthernetProtocol
+    ensures { result ≡ type_of_version version }
 {
-    match header {
-        IpRepr::Ipv4(_) => EthernetProtocol::Ipv4,
-        IpRepr::Ipv6(_) => EthernetProtocol::Ipv6,
+    match version {
+        IpVersion::Ipv4 => EthernetProtocol::Ipv4,
+        IpVersion::Ipv6 => EthernetProtocol::Ipv6,
     }
 }

@@ -1,10 +1,11 @@
 //! Whole frames.
 
 use super::support::{has_front, prints};
+use super::tcp_repr::syn;
 use super::{FRAME_DST, FRAME_SRC};
 use ip_wire::{
     ArpOperation, ArpRepr, Carried, EthernetAddress, EthernetProtocol, Frame, IpProtocol, IpRepr,
-    Ipv4Address, Ipv4Repr, Ipv6Address, Ipv6Repr, TcpControl, TcpRepr, TcpSeqNumber,
+    Ipv4Address, Ipv4Repr, Ipv6Address, Ipv6Repr, Packet, TcpControl, TcpRepr, TcpSeqNumber,
     TcpTimestampRepr, Transport, UdpRepr,
 };
 use net_base::ChecksumCapabilities;
@@ -52,6 +53,14 @@ const ARP: [u8; 42] = [
     0x01, 0x02, 0x03, 0x04, 0x05, 0x06, 0x11, 0x12, 0x13, 0x14, 0x15, 0x16, 0x08, 0x06, 0x00, 0x01,
     0x08, 0x00, 0x06, 0x04, 0x00, 0x01, 0x11, 0x12, 0x13, 0x14, 0x15, 0x16, 0x21, 0x22, 0x23, 0x24,
     0x31, 0x32, 0x33, 0x34, 0x35, 0x36, 0x41, 0x42, 0x43, 0x44,
+];
+
+/// A SYN from `fe80::1` to `fe80::2` with four octets, without an Ethernet header.
+const PACKET: [u8; 64] = [
+    0x60, 0x00, 0x00, 0x00, 0x00, 0x18, 0x06, 0x40, 0xfe, 0x80, 0x00, 0x00, 0x00, 0x00, 0x00, 0x00,
+    0x00, 0x00, 0x00, 0x00, 0x00, 0x00, 0x00, 0x01, 0xfe, 0x80, 0x00, 0x00, 0x00, 0x00, 0x00, 0x00,
+    0x00, 0x00, 0x00, 0x00, 0x00, 0x00, 0x00, 0x02, 0xbf, 0x00, 0x00, 0x50, 0x01, 0x23, 0x45, 0x67,
+    0x00, 0x00, 0x00, 0x00, 0x50, 0x02, 0x01, 0x23, 0x00, 0xdd, 0x00, 0x00, 0xaa, 0x00, 0x00, 0xff,
 ];
 
 /// The Link Layer Discovery Protocol.
@@ -199,6 +208,35 @@ fn parses_a_payload_alone(rt: HostRuntime) {
     let packet = &UDP[14..];
     assert!(rt; Carried::parse(EthernetProtocol::Ipv4, packet, &caps).is_ok());
     assert!(rt; Carried::parse(EthernetProtocol::Ipv6, packet, &caps).is_err());
+}
+
+#[test]
+fn parses_an_ipv4_packet_without_an_ethernet_header(rt: HostRuntime) {
+    let caps = ChecksumCapabilities::default();
+    let packet = Packet {
+        header: ipv4(IpProtocol::Udp, 12),
+        inner: Transport::Udp(PORTS, &UDP[42..]),
+    };
+    assert!(rt; Packet::parse(&UDP[14..], &caps) == Ok(packet));
+    assert!(rt; Packet::parse(&FRAGMENT[14..], &caps).is_err());
+    assert!(rt; Packet::parse(&ARP[14..], &caps).is_err());
+}
+
+#[test]
+fn parses_an_ipv6_packet_without_an_ethernet_header(rt: HostRuntime) {
+    let caps = ChecksumCapabilities::default();
+    let header = Ipv6Repr {
+        src_addr: Ipv6Address::new(0xfe80, 0, 0, 0, 0, 0, 0, 1),
+        dst_addr: Ipv6Address::new(0xfe80, 0, 0, 0, 0, 0, 0, 2),
+        next_header: IpProtocol::Tcp,
+        payload_len: 24,
+        hop_limit: 64,
+    };
+    let packet = Packet {
+        header: IpRepr::Ipv6(header),
+        inner: Transport::Tcp(syn()),
+    };
+    assert!(rt; Packet::parse(&PACKET, &caps) == Ok(packet));
 }
 
 #[test]
