@@ -1,0 +1,175 @@
+/* A capture of valid frames, and what the library stores of each, as tshark prints it. */
+#include <stdio.h>
+#include <stdlib.h>
+#include <string.h>
+#include "judge.h"
+
+static FILE *rows;
+
+/* ---- fields ---- */
+
+static void write_text(const char *text)
+{
+    fprintf(rows, "\t%s", text);
+}
+
+static void write_number(int is_there, unsigned long number)
+{
+    if (is_there)
+        fprintf(rows, "\t%lu", number);
+    else
+        write_text("");
+}
+
+static void write_hardware(int is_there, const uint8_t *octets)
+{
+    write_text("");
+    for (int i = 0; is_there && i < 6; i++)
+        fprintf(rows, i == 0 ? "%02x" : ":%02x", octets[i]);
+}
+
+static void write_addr(int is_there, const struct lk_addr *addr)
+{
+    char text[LK_ADDR_TEXT];
+    if (is_there)
+        lk_print_addr(addr, text, sizeof text);
+    write_text(is_there ? text : "");
+}
+
+/* Wireshark's PROTO_CHECKSUM_E_..: 0 bad, 1 good, 2 unverified, 3 not present. It has none for LK_LEFT_TO_DEVICE. */
+static void write_verdict(int is_there, unsigned verdict)
+{
+    static const char *const statuses[] = {"2", "1", "0", "3", "partial"};
+    write_text(is_there ? statuses[verdict] : "");
+}
+
+/* ---- rows: the fields are those of tests/judge/tshark.py ---- */
+
+static void write_ip(const struct lk_frame *frame)
+{
+    int is_ipv4 = frame->network == LK_IPV4, is_ipv6 = frame->network == LK_IPV6;
+    int has_fragment_header = is_ipv6 && frame->ip.protocol == 44;
+    write_addr(is_ipv4, &frame->src.addr);
+    write_addr(is_ipv4, &frame->dst.addr);
+    write_number(is_ipv4, frame->ip.dscp);
+    write_number(is_ipv4, frame->ip.ecn);
+    write_number(is_ipv4, frame->ip.ident);
+    write_number(is_ipv4, frame->ip.dont_fragment);
+    write_number(is_ipv4, frame->ip.more_fragments);
+    write_number(is_ipv4, frame->ip.fragment_offset);
+    write_number(is_ipv4, frame->ip.hop_limit);
+    write_number(is_ipv4, frame->ip.protocol);
+    write_verdict(is_ipv4, frame->ipv4_checksum);
+    write_addr(is_ipv6, &frame->src.addr);
+    write_addr(is_ipv6, &frame->dst.addr);
+    write_number(is_ipv6, frame->ip.dscp);
+    write_number(is_ipv6, frame->ip.ecn);
+    write_number(is_ipv6, frame->ip.flow_label);
+    write_number(is_ipv6, frame->ip.protocol);
+    write_number(is_ipv6, frame->ip.hop_limit);
+    write_number(has_fragment_header, frame->ip.fragment_offset);
+    write_number(has_fragment_header, frame->ip.more_fragments);
+    write_number(has_fragment_header, frame->ip.ident);
+}
+
+static void write_transport(const struct lk_frame *frame)
+{
+    int is_udp = frame->transport == LK_UDP, is_tcp = frame->transport == LK_TCP;
+    write_number(is_udp, frame->src.port);
+    write_number(is_udp, frame->dst.port);
+    write_number(is_udp, 8 + frame->payload_len);
+    write_verdict(is_udp, frame->transport_checksum);
+    write_number(is_tcp, frame->src.port);
+    write_number(is_tcp, frame->dst.port);
+    write_number(is_tcp, frame->tcp.seq_number);
+    write_number(is_tcp, frame->tcp.ack_number);
+    write_number(is_tcp, frame->tcp.header_len);
+    write_number(is_tcp, frame->tcp.flags);
+    write_number(is_tcp, frame->tcp.window_len);
+    write_number(is_tcp, frame->tcp.urgent_at);
+    write_number(is_tcp, frame->payload_len);
+    write_verdict(is_tcp, frame->transport_checksum);
+}
+
+static void write_row(const struct lk_frame *frame)
+{
+    int is_arp = frame->network == LK_ARP;
+    fprintf(rows, "%zu", made.len);
+    write_hardware(1, frame->ethernet.dst);
+    write_hardware(1, frame->ethernet.src);
+    write_number(1, frame->ethernet.type);
+    write_number(is_arp, frame->arp.operation);
+    write_hardware(is_arp, frame->arp.src_hardware);
+    write_addr(is_arp, &frame->src.addr);
+    write_hardware(is_arp, frame->arp.dst_hardware);
+    write_addr(is_arp, &frame->dst.addr);
+    write_ip(frame);
+    write_transport(frame);
+    fprintf(rows, "\n");
+}
+
+/* ---- the capture ---- */
+
+/* A little-endian number of a pcap file. */
+static void put_number(FILE *file, uint32_t number, int octets)
+{
+    for (int i = 0; i < octets; i++)
+        fputc((int)(number >> 8 * i & 0xff), file);
+}
+
+static void begin_capture(FILE *file)
+{
+    put_number(file, 0xa1b2c3d4, 4);
+    put_number(file, 2, 2);
+    put_number(file, 4, 2);
+    put_number(file, 0, 4);
+    put_number(file, 0, 4);
+    put_number(file, 0x40000, 4);
+    put_number(file, 1, 4);
+}
+
+static void add_frame(FILE *file)
+{
+    put_number(file, 0, 4);
+    put_number(file, 0, 4);
+    put_number(file, (uint32_t)made.len, 4);
+    put_number(file, (uint32_t)made.len, 4);
+    fwrite(made.octets, 1, made.len, file);
+}
+
+/* Whether tshark dissects just the headers that lk_read_frame reads. It dissects the transport of a first fragment
+ * too, and what other protocols carry. It calls a TCP checksum bad that is 0xffff instead of 0, but by RFC 1071 the
+ * sum is right. */
+static int is_comparable(const struct lk_frame *frame)
+{
+    if (frame->reason != LK_READ)
+        return 0;
+    if (frame->transport == LK_TCP)
+        return get_word(made.octets + frame->transport_offset + 16) != 0xffff;
+    return frame->network == LK_ARP || frame->transport == LK_UDP || frame->ip.fragment_offset != 0;
+}
+
+void write_capture(const char *capture, const char *rows_name, unsigned long count)
+{
+    FILE *file = fopen(capture, "wb");
+    struct lk_frame frame;
+    rows = fopen(rows_name, "w");
+    if (!file || !rows) {
+        perror("judge: capture");
+        exit(2);
+    }
+    begin_capture(file);
+    while (count > 0) {
+        make_valid();
+        lk_read_frame(made.octets, made.len, &frame);
+        if (!is_comparable(&frame))
+            continue;
+        add_frame(file);
+        write_row(&frame);
+        count--;
+    }
+    if (fclose(file) != 0 || fclose(rows) != 0) {
+        perror("judge: capture");
+        exit(2);
+    }
+}

@@ -1,0 +1,247 @@
+/* Twenty faults of a library, to test that the judge notices them. Each stands between the judge and the library
+ * (ld --wrap), and the variable FAULT of the environment chooses it by its number. */
+#include <stdio.h>
+#include <stdlib.h>
+#include <string.h>
+#include "ip_wire.h"
+
+enum fault {
+    NO_FAULT,
+    PORTS_SWAPPED,
+    HOP_LIMIT_OFF_BY_ONE,
+    RIGHT_FOR_WRONG,
+    PADDING_IN_PAYLOAD,
+    WINDOW_SCALE_15,
+    OCTET_PAST_THE_END,
+    OUT_CHANGED_AFTER_FAILURE,
+    FAILURES_OUT_OF_ORDER,
+    REASONS_OUT_OF_ORDER,
+    FIVE_SACK_RANGES,
+    URG_KEPT,
+    IDENTIFICATION_KEPT,
+    ANSWER_TO_MULTICAST,
+    TRANSPORT_KEPT,
+    HEADER_CUT_FOR_TOO_SHORT,
+    CHECKSUM_CUT_MISSED,
+    UDP_UPDATE_OF_0,
+    SCOPE_ACCEPTED,
+    TEXT_NOT_SHORTEST,
+    NULL_MISSING,
+    FAULTS
+};
+
+static enum fault fault;
+
+/* Names the fault in the first line of the output. */
+__attribute__((constructor)) static void choose(void)
+{
+    static const char *const names[FAULTS] = {
+        "none", "ports swapped", "hop limit off by one", "LK_RIGHT for a wrong checksum", "padding in payload_len",
+        "window scale 15", "an octet written past the end", "out changed after a failure", "failures out of order",
+        "reasons out of order", "five SACK ranges accepted", "URG kept in a rebuilt frame",
+        "identification kept in a rebuilt frame", "an answer to a multicast address", "transport of a rejected header",
+        "LK_HEADER_CUT for LK_TOO_SHORT", "LK_CHECKSUM_CUT missed", "a UDP checksum of 0 updated", "a scope accepted",
+        "an IPv6 text that is not the shortest", "the terminating null missing",
+    };
+    const char *number = getenv("FAULT");
+    fault = number ? (enum fault)atoi(number) : NO_FAULT;
+    printf("fault %d: %s\n", (int)fault, fault < FAULTS ? names[fault] : "there is no such fault");
+    fflush(stdout);
+}
+
+/* ---- the library behind this file ---- */
+
+int __real_lk_read_frame(const uint8_t *ptr, size_t len, struct lk_frame *frame);
+int __real_lk_read_captured(const uint8_t *ptr, size_t captured, size_t len, struct lk_frame *frame);
+int __real_lk_read_tcp_options(const uint8_t *ptr, size_t len, struct lk_tcp_options *options);
+ptrdiff_t __real_lk_emit_udp(const struct lk_endpoint *src, const struct lk_endpoint *dst, const uint8_t *ptr,
+                             size_t len, int computed, uint8_t *out, size_t cap);
+ptrdiff_t __real_lk_emit_udp_frame(const struct lk_frame *headers, const uint8_t *ptr, size_t len, uint8_t *out,
+                                   size_t cap);
+ptrdiff_t __real_lk_emit_tcp(const struct lk_tcp *header, const struct lk_tcp_options *options,
+                             const struct lk_endpoint *src, const struct lk_endpoint *dst, const uint8_t *ptr,
+                             size_t len, int computed, uint8_t *out, size_t cap);
+ptrdiff_t __real_lk_tcp_header_len(const struct lk_tcp_options *options);
+ptrdiff_t __real_lk_rebuild(const uint8_t *ptr, size_t len, uint8_t *out, size_t cap);
+ptrdiff_t __real_lk_answer(const struct lk_host *host, const uint8_t *ptr, size_t len, uint8_t *out, size_t cap);
+uint16_t __real_lk_update_udp_checksum(uint16_t checksum, uint16_t before, uint16_t after);
+int __real_lk_parse_addr(const char *text, size_t len, struct lk_addr *addr);
+ptrdiff_t __real_lk_print_addr(const struct lk_addr *addr, char *out, size_t cap);
+ptrdiff_t __real_lk_print_endpoint(const struct lk_endpoint *endpoint, char *out, size_t cap);
+
+/* ---- reading ---- */
+
+static int controls(unsigned flags)
+{
+    return (flags & LK_SYN) / LK_SYN + (flags & LK_FIN) / LK_FIN + (flags & LK_RST) / LK_RST;
+}
+
+static void spoil_frame(struct lk_frame *frame, size_t len)
+{
+    uint16_t port = frame->src.port;
+    if (fault == PORTS_SWAPPED) {
+        frame->src.port = frame->dst.port;
+        frame->dst.port = port;
+    }
+    if (fault == HOP_LIMIT_OFF_BY_ONE && frame->network >= LK_IPV4)
+        frame->ip.hop_limit--;
+    if (fault == RIGHT_FOR_WRONG && frame->transport_checksum == LK_WRONG)
+        frame->transport_checksum = LK_RIGHT;
+    if (fault == PADDING_IN_PAYLOAD && frame->transport != LK_NO_TRANSPORT)
+        frame->payload_len = len - frame->payload_offset;
+    if (fault == REASONS_OUT_OF_ORDER && frame->reason == LK_PORT_ZERO && controls(frame->tcp.flags) > 1)
+        frame->reason = LK_BAD_FLAGS;
+    if (fault == TRANSPORT_KEPT && frame->rejected != LK_NO_TRANSPORT)
+        frame->transport = frame->rejected;
+    if (fault == HEADER_CUT_FOR_TOO_SHORT && frame->reason == LK_TOO_SHORT && len >= 14)
+        frame->reason = LK_HEADER_CUT;
+    if (fault == CHECKSUM_CUT_MISSED && frame->transport_checksum == LK_CHECKSUM_CUT)
+        frame->transport_checksum = LK_WRONG;
+}
+
+int __wrap_lk_read_frame(const uint8_t *ptr, size_t len, struct lk_frame *frame)
+{
+    __real_lk_read_frame(ptr, len, frame);
+    if (fault != HEADER_CUT_FOR_TOO_SHORT)
+        spoil_frame(frame, len);
+    return frame->reason;
+}
+
+int __wrap_lk_read_captured(const uint8_t *ptr, size_t captured, size_t len, struct lk_frame *frame)
+{
+    __real_lk_read_captured(ptr, captured, len, frame);
+    if (fault == HEADER_CUT_FOR_TOO_SHORT || fault == CHECKSUM_CUT_MISSED)
+        spoil_frame(frame, len);
+    return frame->reason;
+}
+
+int __wrap_lk_read_tcp_options(const uint8_t *ptr, size_t len, struct lk_tcp_options *options)
+{
+    struct lk_tcp_option option = {0, 0, 0};
+    int result = __real_lk_read_tcp_options(ptr, len, options);
+    while (fault == WINDOW_SCALE_15 && result && lk_next_tcp_option(ptr, len, &option) == 1)
+        if (option.kind == 3)
+            options->window_scale = ptr[option.offset + 2] > 15 ? 15 : ptr[option.offset + 2];
+    return result;
+}
+
+/* ---- writing ---- */
+
+ptrdiff_t __wrap_lk_emit_udp(const struct lk_endpoint *src, const struct lk_endpoint *dst, const uint8_t *ptr,
+                             size_t len, int computed, uint8_t *out, size_t cap)
+{
+    ptrdiff_t result = __real_lk_emit_udp(src, dst, ptr, len, computed, out, cap);
+    if (fault == OCTET_PAST_THE_END && result > 0)
+        out[result] = 0;
+    return result;
+}
+
+ptrdiff_t __wrap_lk_emit_tcp(const struct lk_tcp *header, const struct lk_tcp_options *options,
+                             const struct lk_endpoint *src, const struct lk_endpoint *dst, const uint8_t *ptr,
+                             size_t len, int computed, uint8_t *out, size_t cap)
+{
+    ptrdiff_t result = __real_lk_emit_tcp(header, options, src, dst, ptr, len, computed, out, cap);
+    if (fault == OUT_CHANGED_AFTER_FAILURE && result < 0 && cap != 0 && cap <= LK_MAX_LEN)
+        out[0] ^= 1;
+    return result;
+}
+
+ptrdiff_t __wrap_lk_emit_udp_frame(const struct lk_frame *headers, const uint8_t *ptr, size_t len, uint8_t *out,
+                                   size_t cap)
+{
+    ptrdiff_t result = __real_lk_emit_udp_frame(headers, ptr, len, out, cap);
+    if (fault == FAILURES_OUT_OF_ORDER && result == LK_NO_PORT && headers->ip.hop_limit == 0)
+        return LK_NO_HOP_LIMIT;
+    return result;
+}
+
+ptrdiff_t __wrap_lk_tcp_header_len(const struct lk_tcp_options *options)
+{
+    struct lk_tcp_options four = *options;
+    if (fault == FIVE_SACK_RANGES && four.sack_range_count == 5)
+        four.sack_range_count = 4;
+    return __real_lk_tcp_header_len(&four);
+}
+
+/* Changes a word of a header and the checksum over it. */
+static void change_word(uint8_t *word, unsigned value, uint8_t *checksum)
+{
+    uint16_t before = (uint16_t)(word[0] << 8 | word[1]), sum = (uint16_t)(checksum[0] << 8 | checksum[1]);
+    sum = lk_update_checksum(sum, before, (uint16_t)value);
+    word[0] = (uint8_t)(value >> 8);
+    word[1] = (uint8_t)value;
+    checksum[0] = (uint8_t)(sum >> 8);
+    checksum[1] = (uint8_t)sum;
+}
+
+ptrdiff_t __wrap_lk_rebuild(const uint8_t *ptr, size_t len, uint8_t *out, size_t cap)
+{
+    ptrdiff_t result = __real_lk_rebuild(ptr, len, out, cap);
+    struct lk_frame frame, rebuilt;
+    uint8_t *tcp;
+    if (result < 0 || (fault != URG_KEPT && fault != IDENTIFICATION_KEPT))
+        return result;
+    __real_lk_read_frame(ptr, len, &frame);
+    __real_lk_read_frame(out, (size_t)result, &rebuilt);
+    tcp = out + rebuilt.transport_offset;
+    if (fault == URG_KEPT && rebuilt.transport == LK_TCP && frame.transport_checksum == LK_RIGHT &&
+        frame.tcp.flags & LK_URG)
+        change_word(tcp + 12, (unsigned)(tcp[12] << 8 | tcp[13] | LK_URG), tcp + 16);
+    if (fault == IDENTIFICATION_KEPT && rebuilt.network == LK_IPV4)
+        change_word(out + 18, frame.ip.ident, out + 24);
+    return result;
+}
+
+ptrdiff_t __wrap_lk_answer(const struct lk_host *host, const uint8_t *ptr, size_t len, uint8_t *out, size_t cap)
+{
+    static uint8_t unicast[0x20000];
+    ptrdiff_t result;
+    if (fault != ANSWER_TO_MULTICAST || len < 14 || len > sizeof unicast || (ptr[6] & 1) == 0)
+        return __real_lk_answer(host, ptr, len, out, cap);
+    memcpy(unicast, ptr, len);
+    unicast[6] ^= 1;
+    result = __real_lk_answer(host, unicast, len, out, cap);
+    if (result > 0)
+        out[0] ^= 1;
+    return result;
+}
+
+/* ---- checksums and texts ---- */
+
+uint16_t __wrap_lk_update_udp_checksum(uint16_t checksum, uint16_t before, uint16_t after)
+{
+    if (fault == UDP_UPDATE_OF_0 && checksum == 0)
+        return lk_update_checksum(checksum, before, after);
+    return __real_lk_update_udp_checksum(checksum, before, after);
+}
+
+int __wrap_lk_parse_addr(const char *text, size_t len, struct lk_addr *addr)
+{
+    const char *scope = fault == SCOPE_ACCEPTED && len != 0 && len <= LK_MAX_LEN ? memchr(text, '%', len) : 0;
+    return __real_lk_parse_addr(text, scope ? (size_t)(scope - text) : len, addr);
+}
+
+/* Writes "0::" for "::". */
+ptrdiff_t __wrap_lk_print_addr(const struct lk_addr *addr, char *out, size_t cap)
+{
+    ptrdiff_t len = __real_lk_print_addr(addr, out, cap);
+    if (fault != TEXT_NOT_SHORTEST || len < 2 || out[0] != ':' || (size_t)len + 1 >= cap)
+        return len;
+    memmove(out + 1, out, (size_t)len + 1);
+    out[0] = '0';
+    return len + 1;
+}
+
+ptrdiff_t __wrap_lk_print_endpoint(const struct lk_endpoint *endpoint, char *out, size_t cap)
+{
+    char before[LK_ENDPOINT_TEXT];
+    size_t kept = cap < sizeof before ? cap : sizeof before;
+    ptrdiff_t len;
+    if (fault != NULL_MISSING || cap > LK_MAX_LEN)
+        return __real_lk_print_endpoint(endpoint, out, cap);
+    memcpy(before, out, kept);
+    len = __real_lk_print_endpoint(endpoint, out, cap);
+    if (len >= 0 && (size_t)len < kept)
+        out[len] = before[len];
+    return len;
+}

@@ -1,0 +1,355 @@
+/* Makes values and frames. Few addresses and ports are common, so that they often match those of a host. */
+#include <string.h>
+#include "judge.h"
+
+struct made made;
+
+/* ---- values ---- */
+
+void any_hardware(uint8_t *octets)
+{
+    static const uint8_t common[][6] = {
+        {2, 0, 0, 0, 0, 1}, {2, 0, 0, 0, 0, 2}, {0xff, 0xff, 0xff, 0xff, 0xff, 0xff}, {1, 0, 0x5e, 0, 0, 1}, {0},
+    };
+    size_t pick = below(20);
+    fill(octets, 6);
+    if (pick < 19)
+        memcpy(octets, common[pick < 15 ? pick % 2 : pick - 14 < 5 ? pick - 14 : 0], 6);
+}
+
+struct lk_addr any_addr(unsigned version)
+{
+    static const char *const ipv4[] = {
+        "0.0.0.0", "0.1.2.3", "127.0.0.1", "224.0.0.1", "239.255.255.255", "240.0.0.1", "255.255.255.255", "1.0.0.0",
+    };
+    static const char *const ipv6[] = {
+        "::", "::1", "::ffff:192.0.2.1", "ff02::1", "ff00::", "fe80::1", "::2", "2001:db8:0:0:1::",
+    };
+    const char *text = version == 4 ? ipv4[below(8)] : ipv6[below(8)];
+    struct lk_addr addr = {{0}, (uint16_t)version};
+    size_t pick = below(16);
+    if (pick < 12)
+        text = version == 4 ? (pick % 2 ? "192.0.2.1" : "192.0.2.2") : pick % 2 ? "2001:db8::1" : "2001:db8::2";
+    if (addr_len(&addr) != 0)
+        model_parse_addr(text, strlen(text), &addr);
+    if (pick == 15)
+        fill(addr.octets, addr_len(&addr));
+    if (pick == 14) /* beside a special address */
+        addr.octets[one_in(2) ? 0 : addr_len(&addr) - (addr_len(&addr) != 0)] ^= (uint8_t)(1u << below(8));
+    return addr;
+}
+
+unsigned any_version(void)
+{
+    return one_in(16) ? (unsigned)below(8) : one_in(64) ? (unsigned)any() & 0xffff : one_in(2) ? 4 : 6;
+}
+
+unsigned any_port(void)
+{
+    static const unsigned common[] = {7, 80, 443, 5000};
+    return one_in(24) ? 0 : one_in(6) ? (unsigned)any() & 0xffff : common[below(4)];
+}
+
+struct lk_host any_host_for(const struct lk_frame *frame)
+{
+    static uint16_t ports[4];
+    struct lk_host host;
+    fill(&host, sizeof host);
+    fill(ports, sizeof ports);
+    host.open_ports = ports;
+    host.open_port_count = below(5); /* Open: a count above LK_MAX_LEN is used, and the ports are not there. */
+    host.ipv4 = any_addr(one_in(100) ? any_version() : 4);
+    host.ipv6 = any_addr(one_in(100) ? any_version() : 6);
+    any_hardware(host.hardware);
+    host.echo_port = (uint16_t)any_port();
+    host.window_scale = (uint8_t)(one_in(8) ? any() : below(17));
+    if (!one_in(8))
+        memcpy(host.hardware, frame->ethernet.dst, 6);
+    if (!one_in(8) && frame->dst.addr.version == 4)
+        host.ipv4 = frame->dst.addr;
+    if (!one_in(8) && frame->dst.addr.version == 6)
+        host.ipv6 = frame->dst.addr;
+    if (!one_in(4))
+        host.echo_port = frame->dst.port;
+    if (!one_in(4))
+        ports[below(4)] = frame->dst.port;
+    return host;
+}
+
+/* ---- TCP options ---- */
+
+static size_t any_option(uint8_t *out)
+{
+    static const uint8_t kinds[] = {0, 1, 2, 3, 4, 5, 8}, lens[] = {1, 1, 4, 3, 2, 10, 10};
+    size_t pick = below(20) % 8, len;
+    fill(out, 44);
+    if (pick == 0 && !one_in(4))
+        pick = 1;
+    if (pick == 7) { /* another kind */
+        out[1] = (uint8_t)(2 + below(6));
+        return out[1];
+    }
+    out[0] = kinds[pick];
+    len = lens[pick] + (out[0] == 5 ? 8 * below(4) : 0);
+    if (len > 1)
+        out[1] = (uint8_t)(one_in(100) ? below(44) : len + (one_in(100) ? 1 : 0) - (one_in(100) ? 1 : 0));
+    if (out[0] == 3 && !one_in(4))
+        out[2] %= 17;
+    return len;
+}
+
+/* Puts options into at most 40 octets, and returns their length, a multiple of 4. */
+static size_t any_options(uint8_t *out)
+{
+    uint8_t room[44 * 12];
+    size_t len = 0, most = one_in(3) ? 0 : 4 * below(11);
+    while (len < most)
+        len += any_option(room + len);
+    if (!one_in(16))
+        while (len > most && len > 0) { /* ends with padding, and not within an option */
+            size_t at = 0, next = 0;
+            while (next < len) {
+                at = next;
+                next += room[at] <= 1 ? 1 : room[at + 1] >= 2 ? room[at + 1] : 2;
+            }
+            len = at;
+        }
+    for (size_t i = len; i < most; i++)
+        room[i] = (uint8_t)below(2);
+    memcpy(out, room, most);
+    return most;
+}
+
+static unsigned any_flags(void)
+{
+    static const uint8_t common[] = {LK_SYN, LK_SYN, LK_SYN | LK_ACK, LK_ACK, LK_ACK | LK_PSH, LK_FIN | LK_ACK, LK_FIN,
+                                     LK_RST, LK_RST | LK_ACK, LK_PSH, LK_SYN | LK_ECE | LK_CWR, 0};
+    unsigned flags = one_in(8) ? (unsigned)any() & 0xff : common[below(12)];
+    return one_in(8) ? flags ^ 1u << below(8) : flags;
+}
+
+size_t any_tcp_header(uint8_t *out)
+{
+    size_t len = 20 + any_options(out + 20);
+    fill(out, 20);
+    put_word(out, any_port());
+    put_word(out + 2, any_port());
+    out[12] = (uint8_t)(len / 4 << 4 | (one_in(8) ? below(16) : 0));
+    out[13] = (uint8_t)any_flags();
+    return len;
+}
+
+/* ---- frames ---- */
+
+/* A transport that ends at `most` or before it. */
+static void make_tcp(size_t most)
+{
+    size_t at = made.transport, len = any_tcp_header(made.octets + at), payload_len = any_len(most - at - len);
+    fill(made.octets + at + len, payload_len);
+    made.end = at + len + payload_len;
+}
+
+static void make_udp(size_t most)
+{
+    size_t at = made.transport, len = 8 + any_len(most - at - 8), more = one_in(8) ? below(9) : 0;
+    if (at + len + more > most)
+        more = 0;
+    fill(made.octets + at, len + more);
+    put_word(made.octets + at, any_port());
+    put_word(made.octets + at + 2, any_port());
+    put_word(made.octets + at + 4, (unsigned)len);
+    made.end = at + len + more;
+}
+
+/* What an IP header at `at` carries. Returns its protocol. */
+static unsigned make_carried(size_t at, int is_ipv6)
+{
+    static const uint8_t others[] = {0, 1, 43, 44, 50, 58, 60, 89};
+    size_t pick = below(16), most = (is_ipv6 ? at : 14) + 65535, len;
+    if (pick < 14) {
+        made.transport = at;
+        if (pick < 7)
+            make_udp(most);
+        else
+            make_tcp(most);
+        if (one_in(64))
+            made.end = at + below(24); /* too short for its header, or for its length field */
+        return pick < 7 ? 17 : 6;
+    }
+    len = any_len(most - at);
+    fill(made.octets + at, len);
+    made.end = at + len;
+    if (is_ipv6 && one_in(2) && len >= 4) { /* a fragment header, often of an atomic fragment */
+        if (one_in(2))
+            put_word(made.octets + at + 2, (unsigned)any() & 6);
+        return 44;
+    }
+    return one_in(4) ? (unsigned)any() & 0xff : others[below(8)];
+}
+
+static void make_ipv4(void)
+{
+    uint8_t *ptr = made.octets + 14;
+    size_t header_len = 20 + (one_in(4) ? 4 * below(11) : 0);
+    fill(ptr, header_len);
+    ptr[0] = (uint8_t)(0x40 | header_len / 4);
+    if (!one_in(16))
+        put_word(ptr + 6, ((unsigned)any() & 0x8000) * one_in(8) + 0x4000 * one_in(2));
+    if (one_in(8))
+        ptr[8] = (uint8_t)below(3);
+    ptr[9] = (uint8_t)make_carried(14 + header_len, 0);
+    put_word(ptr + 2, (unsigned)(made.end - 14));
+    memcpy(ptr + 12, any_addr(4).octets, 4);
+    memcpy(ptr + 16, any_addr(4).octets, 4);
+}
+
+static void make_ipv6(void)
+{
+    uint8_t *ptr = made.octets + 14;
+    fill(ptr, 8);
+    ptr[0] = 0x60 | (ptr[0] & 15);
+    ptr[6] = (uint8_t)make_carried(54, 1);
+    put_word(ptr + 4, (unsigned)(made.end - 54));
+    memcpy(ptr + 8, any_addr(6).octets, 16);
+    memcpy(ptr + 24, any_addr(6).octets, 16);
+}
+
+static void make_arp(void)
+{
+    struct lk_arp arp;
+    struct lk_addr src = any_addr(4), dst = any_addr(4);
+    arp.operation = (uint16_t)(one_in(8) ? any() : 1 + below(2));
+    any_hardware(arp.src_hardware);
+    any_hardware(arp.dst_hardware);
+    made.end = 14 + put_arp(&arp, &src, &dst, made.octets + 14);
+}
+
+static void make_fields(void)
+{
+    size_t pick = below(20);
+    made.transport = 0;
+    any_hardware(made.octets);
+    any_hardware(made.octets + 6);
+    put_word(made.octets + 12, pick < 9 ? 0x0800 : pick < 16 ? 0x86dd : pick < 19 ? 0x0806 : (unsigned)any() & 0xffff);
+    if (pick < 9) {
+        make_ipv4();
+    } else if (pick < 16) {
+        make_ipv6();
+    } else if (pick < 19) {
+        make_arp();
+    } else {
+        made.end = 14 + any_len(2000);
+        fill(made.octets + 14, made.end - 14);
+    }
+    made.len = made.end + (one_in(2) ? 0 : below(one_in(2048) ? 60000 : 30));
+    fill(made.octets + made.end, made.len - made.end);
+}
+
+/* ---- checksums ---- */
+
+static struct lk_addr addr_at(size_t at, unsigned version)
+{
+    struct lk_addr addr = {{0}, (uint16_t)version};
+    memcpy(addr.octets, made.octets + at, addr_len(&addr));
+    return addr;
+}
+
+/* Fills in the checksum of `len` octets of a transport, in one of many ways. */
+static void sum_transport(uint8_t *ptr, unsigned protocol, size_t len, size_t field_at, unsigned version)
+{
+    struct lk_addr src = addr_at(version == 4 ? 26 : 22, version), dst = addr_at(version == 4 ? 30 : 38, version);
+    size_t pick = below(24), spare = len - 2 - len % 2;
+    unsigned partial = pseudo_sum(&src, &dst, protocol, ptr, len, 0), sum;
+    put_word(ptr + field_at, pick == 20 || pick == 19 ? partial : 0);
+    if ((pick == 19 || pick == 18) && spare > field_at) { /* the spare word makes it right */
+        put_word(ptr + spare, 0);
+        put_word(ptr + spare, 0xffff - pseudo_sum(&src, &dst, protocol, ptr, len, len));
+    }
+    sum = 0xffff - pseudo_sum(&src, &dst, protocol, ptr, len, len);
+    if (pick < 18)
+        put_word(ptr + field_at, sum == 0 && protocol == 17 ? 0xffff : sum);
+    else if (pick == 18 && one_in(2))
+        put_word(ptr + field_at, 0xffff);
+    else if (pick == 21)
+        put_word(ptr + field_at, (unsigned)any() & 0xffff);
+    else if (pick == 22)
+        put_word(ptr + field_at, 0xffff);
+}
+
+/* Sums what the fields say, as far as it is there. */
+static void sum_fields(void)
+{
+    uint8_t *ptr = made.octets + 14, *transport = made.octets + made.transport;
+    unsigned version = get_word(made.octets + 12) == 0x0800 ? 4 : 6;
+    size_t header_len = 4u * (ptr[0] & 15), len = made.end - made.transport;
+    if (version == 4 && made.len > 34 && header_len >= 20 && 14 + header_len <= made.len) {
+        put_word(ptr + 10, 0);
+        put_word(ptr + 10, one_in(24) ? (unsigned)any() & 0xffff : 0xffffu - model_checksum(ptr, header_len));
+    }
+    if (made.transport == 0 || len < 8)
+        return;
+    if (version == 4 ? ptr[9] == 6 : ptr[6] == 6)
+        sum_transport(transport, 6, len, 16, version);
+    else if (get_word(transport + 4) >= 8 && get_word(transport + 4) <= len)
+        sum_transport(transport, 17, get_word(transport + 4), 6, version);
+}
+
+void make_valid(void)
+{
+    make_fields();
+    sum_fields();
+}
+
+/* ---- changes ---- */
+
+/* Changes a field of a header: its octet or word becomes 0, a limit, or one more or less. */
+static void change_field(void)
+{
+    size_t from = made.transport != 0 && one_in(2) ? made.transport : one_in(8) ? 0 : 14, at = from + below(24);
+    unsigned word = get_word(made.octets + at);
+    switch (below(6)) {
+    case 0:
+        made.octets[at] = one_in(2) ? 0 : 0xff;
+        break;
+    case 1:
+        put_word(made.octets + at, one_in(2) ? 0 : 0xffff);
+        break;
+    case 2:
+        put_word(made.octets + at, word + 1);
+        break;
+    case 3:
+        put_word(made.octets + at, word - 1);
+        break;
+    case 4:
+        made.octets[at] ^= (uint8_t)(1u << below(8));
+        break;
+    default:
+        made.octets[at] = (uint8_t)(made.octets[at] + (one_in(2) ? 0x10 : 0xf0));
+    }
+}
+
+static void change_len(void)
+{
+    if (one_in(2))
+        made.len = below(made.len + 1);
+    else if (one_in(2) && made.len > 0)
+        made.len--;
+    else
+        made.octets[made.len++] = (uint8_t)any();
+}
+
+void make_frame(void)
+{
+    make_fields();
+    while (one_in(3))
+        change_field();
+    sum_fields();
+    while (one_in(8) && made.len > 0)
+        made.octets[below(made.len)] ^= (uint8_t)(1u << below(8));
+    if (one_in(12))
+        change_len();
+    if (one_in(200)) {
+        made.len = any_len(3000);
+        fill(made.octets, made.len);
+    }
+}

@@ -1,0 +1,99 @@
+/* What the files of the judge share. */
+#ifndef JUDGE_H
+#define JUDGE_H
+
+#include "model.h"
+
+/* ---- support.c: random values, which follow from the seed and the number of the case ---- */
+
+void begin_case(uint64_t seed, uint64_t number);
+uint64_t any(void);
+size_t below(size_t bound);
+int one_in(size_t count);
+void fill(void *ptr, size_t len);
+
+/* A length that is mostly short, at times long, and seldom up to `most`. */
+size_t any_len(size_t most);
+
+/* A length that is never used. */
+size_t unused_len(void);
+
+/* ---- support.c: calls that are compared ---- */
+
+struct call {
+    const char *name;
+    unsigned long count;
+    struct call *next;
+};
+
+#define CALL(function)                              \
+    do {                                            \
+        static struct call call = {#function, 0, 0}; \
+        begin_call(&call);                          \
+    } while (0)
+
+void catch_crashes(void);
+void begin_call(struct call *call);
+void print_counts(void);
+
+/* Copies an argument between guard pages, directly behind the first or before the second one. A call may read what
+ * is `given`, and change a `room`. */
+void *given(const char *name, const void *data, size_t len);
+void *room(const void *data, size_t len);
+
+/* Reports the first difference and ends the program. `end_call` also tests that what was given is unchanged. */
+void end_call(ptrdiff_t wanted, ptrdiff_t came);
+void same_octets(const char *name, const void *wanted, const void *came, size_t len);
+void same_text(const char *name, const char *wanted, const char *came);
+void same_frame(const struct lk_frame *wanted, const struct lk_frame *came);
+void same_options(const struct lk_tcp_options *wanted, const struct lk_tcp_options *came);
+
+/* ---- frames.c: values and frames ---- */
+
+void any_hardware(uint8_t *octets);
+struct lk_addr any_addr(unsigned version);
+unsigned any_version(void);
+unsigned any_port(void);
+
+/* A host to which this frame is sent, mostly. */
+struct lk_host any_host_for(const struct lk_frame *frame);
+
+/* A header of a TCP segment with any options, up to 60 octets. Returns its length. */
+size_t any_tcp_header(uint8_t *out);
+
+/* The frame that was made last. */
+struct made {
+    uint8_t octets[MODEL_ROOM];
+    size_t len;
+    size_t transport; /* where its UDP or TCP header is; 0: none */
+    size_t end;       /* where its packet ends */
+};
+extern struct made made;
+
+/* Makes a frame of any kind, with right, wrong, partial or no checksums. */
+void make_valid(void);
+
+/* The same, and then changes fields before the checksums, and bits and the length behind them. */
+void make_frame(void);
+
+/* ---- cases_read.c, cases_write.c, cases_text.c ---- */
+
+void read_whole(void);
+void read_cut(void);
+void read_options(void);
+void rebuild_frame(void);
+void answer_frame(void);
+void emit_frame(void);
+void wrap_frame(void);
+void emit_layer(void);
+void reply_frame(void);
+void parse_text(void);
+void print_text(void);
+void sum_octets(void);
+void classify_addr(void);
+void name_number(void);
+
+/* Writes a capture of valid frames, and what lk_read_frame stores of each as tshark prints it. */
+void write_capture(const char *capture, const char *rows, unsigned long count);
+
+#endif

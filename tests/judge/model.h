@@ -1,0 +1,116 @@
+/* A model of the C interface: for each call of c/ip_wire.h the same arguments and results, written from the
+ * comments of that header and from the RFCs alone. It is slow and simple, so that it can be checked by reading.
+ * "Open" in a comment says that the header leaves a case open, and which answer the model takes. */
+#ifndef MODEL_H
+#define MODEL_H
+
+#include "ip_wire.h"
+
+/* Room for the longest frame of the model. */
+#define MODEL_ROOM 0x20000
+
+/* ---- model_base.c: fields, addresses, sums and sequence numbers ---- */
+
+unsigned get_word(const uint8_t *ptr);
+uint32_t get_long(const uint8_t *ptr);
+void put_word(uint8_t *ptr, unsigned value);
+void put_long(uint8_t *ptr, uint32_t value);
+
+/* A length above LK_MAX_LEN is never used. */
+size_t used_len(size_t len);
+
+/* The number of octets of an address: 4, 16 or 0. */
+size_t addr_len(const struct lk_addr *addr);
+int is_in(const struct lk_addr *addr, const char *block);
+
+/* The one's complement sum of the pseudo-header of RFC 768, RFC 9293 and RFC 8200, followed by `len` octets. */
+uint16_t pseudo_sum(const struct lk_addr *src, const struct lk_addr *dst, unsigned protocol, const uint8_t *ptr,
+                    size_t len, size_t summed);
+
+const char *model_failure_name(ptrdiff_t failure);
+const char *model_reason_name(int reason);
+int model_contains(const struct lk_block *block, const struct lk_addr *addr);
+int model_is_multicast(const struct lk_addr *addr);
+int model_is_unicast(const struct lk_addr *addr);
+uint16_t model_checksum(const uint8_t *ptr, size_t len);
+uint16_t model_update_checksum(uint16_t checksum, uint16_t before, uint16_t after);
+uint16_t model_update_checksum_addr(uint16_t checksum, const struct lk_addr *before, const struct lk_addr *after);
+uint16_t model_update_udp_checksum(uint16_t checksum, uint16_t before, uint16_t after);
+uint16_t model_update_udp_checksum_addr(uint16_t checksum, const struct lk_addr *before, const struct lk_addr *after);
+uint32_t model_add_seq(uint32_t seq, uint32_t steps);
+int32_t model_subtract_seq(uint32_t a, uint32_t b);
+int model_compare_seq(uint32_t a, uint32_t b);
+
+/* ---- model_text.c ---- */
+
+int model_parse_addr(const char *text, size_t len, struct lk_addr *addr);
+int model_parse_block(const char *text, size_t len, struct lk_block *block);
+int model_parse_endpoint(const char *text, size_t len, struct lk_endpoint *endpoint);
+int model_parse_ethernet(const char *text, size_t len, uint8_t *octets);
+ptrdiff_t model_print_addr(const struct lk_addr *addr, char *out, size_t cap);
+ptrdiff_t model_print_block(const struct lk_block *block, char *out, size_t cap);
+ptrdiff_t model_print_endpoint(const struct lk_endpoint *endpoint, char *out, size_t cap);
+ptrdiff_t model_print_ethernet(const uint8_t *octets, char *out, size_t cap);
+
+/* ---- model_options.c ---- */
+
+/* Whether an option of a TCP header is malformed before the end mark. */
+int is_malformed(const uint8_t *header, size_t header_len);
+
+/* The length of these options with padding, or above 40. */
+size_t options_len(const struct lk_tcp_options *options);
+
+/* Writes options, sorted by their kinds. There are zeros for SACK ranges beside SACK permitted, or if `has_ranges`
+ * is 0. */
+void put_options(const struct lk_tcp_options *options, int has_ranges, uint8_t *out);
+
+int model_read_tcp_options(const uint8_t *ptr, size_t len, struct lk_tcp_options *options);
+int model_next_tcp_option(const uint8_t *ptr, size_t len, struct lk_tcp_option *option);
+
+/* ---- model_read.c ---- */
+
+int model_read_frame(const uint8_t *ptr, size_t len, struct lk_frame *frame);
+int model_read_packet(const uint8_t *ptr, size_t len, struct lk_frame *frame);
+int model_read_captured(const uint8_t *ptr, size_t captured, size_t len, struct lk_frame *frame);
+int model_read_captured_packet(const uint8_t *ptr, size_t captured, size_t len, struct lk_frame *frame);
+
+/* ---- model_emit.c ---- */
+
+/* Write a header, or a header with its payload, whatever the fields are. They return the length. */
+size_t put_ethernet(const struct lk_ethernet *header, unsigned type, uint8_t *out);
+size_t put_arp(const struct lk_arp *header, const struct lk_addr *src, const struct lk_addr *dst, uint8_t *out);
+size_t put_ip(const struct lk_ip *header, const struct lk_addr *src, const struct lk_addr *dst, unsigned protocol,
+              size_t payload_len, int computed, uint8_t *out);
+size_t put_udp(const struct lk_endpoint *src, const struct lk_endpoint *dst, const uint8_t *ptr, size_t len,
+               int computed, uint8_t *out);
+size_t put_tcp(const struct lk_tcp *header, const struct lk_tcp_options *options, int has_ranges,
+               const struct lk_endpoint *src, const struct lk_endpoint *dst, const uint8_t *ptr, size_t len,
+               int computed, uint8_t *out);
+
+ptrdiff_t model_emit_udp_frame(const struct lk_frame *headers, const uint8_t *ptr, size_t len, uint8_t *out,
+                               size_t cap);
+ptrdiff_t model_emit_tcp_frame(const struct lk_frame *headers, const struct lk_tcp_options *options,
+                               const uint8_t *ptr, size_t len, uint8_t *out, size_t cap);
+ptrdiff_t model_wrap_udp_frame(const struct lk_frame *headers, size_t len, uint8_t *out, size_t cap);
+ptrdiff_t model_wrap_tcp_frame(const struct lk_frame *headers, const struct lk_tcp_options *options, size_t len,
+                               uint8_t *out, size_t cap);
+ptrdiff_t model_tcp_header_len(const struct lk_tcp_options *options);
+ptrdiff_t model_emit_arp_frame(const struct lk_frame *headers, uint8_t *out, size_t cap);
+ptrdiff_t model_emit_ethernet(const struct lk_ethernet *header, uint8_t *out, size_t cap);
+ptrdiff_t model_emit_arp(const struct lk_arp *header, const struct lk_addr *src, const struct lk_addr *dst,
+                         uint8_t *out, size_t cap);
+ptrdiff_t model_emit_ip(const struct lk_ip *header, const struct lk_addr *src, const struct lk_addr *dst,
+                        size_t payload_len, int computed, uint8_t *out, size_t cap);
+ptrdiff_t model_emit_udp(const struct lk_endpoint *src, const struct lk_endpoint *dst, const uint8_t *ptr,
+                         size_t len, int computed, uint8_t *out, size_t cap);
+ptrdiff_t model_emit_tcp(const struct lk_tcp *header, const struct lk_tcp_options *options,
+                         const struct lk_endpoint *src, const struct lk_endpoint *dst, const uint8_t *ptr,
+                         size_t len, int computed, uint8_t *out, size_t cap);
+
+/* ---- model_host.c ---- */
+
+void model_reply(struct lk_frame *frame);
+ptrdiff_t model_rebuild(const uint8_t *ptr, size_t len, uint8_t *out, size_t cap);
+ptrdiff_t model_answer(const struct lk_host *host, const uint8_t *ptr, size_t len, uint8_t *out, size_t cap);
+
+#endif

@@ -1,0 +1,185 @@
+/* The model of addresses, sums, sequence numbers and names. */
+#include <string.h>
+#include "model.h"
+
+unsigned get_word(const uint8_t *ptr)
+{
+    return (unsigned)ptr[0] << 8 | ptr[1];
+}
+
+uint32_t get_long(const uint8_t *ptr)
+{
+    return (uint32_t)get_word(ptr) << 16 | get_word(ptr + 2);
+}
+
+void put_word(uint8_t *ptr, unsigned value)
+{
+    ptr[0] = (uint8_t)(value >> 8);
+    ptr[1] = (uint8_t)value;
+}
+
+void put_long(uint8_t *ptr, uint32_t value)
+{
+    put_word(ptr, value >> 16);
+    put_word(ptr + 2, value & 0xffff);
+}
+
+size_t used_len(size_t len)
+{
+    return len > LK_MAX_LEN ? 0 : len;
+}
+
+size_t addr_len(const struct lk_addr *addr)
+{
+    return addr->version == 4 ? 4 : addr->version == 6 ? 16 : 0;
+}
+
+/* ---- names ---- */
+
+const char *model_failure_name(ptrdiff_t failure)
+{
+    static const char *const names[] = {
+        "LK_NO_VERSION", "LK_TWO_VERSIONS", "LK_BAD_PREFIX", "LK_NO_PORT", "LK_NO_HOP_LIMIT", "LK_BAD_FIELD",
+        "LK_TWO_CONTROLS", "LK_OPTIONS_TOO_LONG", "LK_PAYLOAD_TOO_LONG", "LK_NO_HEADER", "LK_NO_ROOM",
+    };
+    for (int number = 1; number <= 11; number++)
+        if (failure == LK_FAILURE(number))
+            return names[number - 1];
+    return "no failure"; /* Open: a sum of a failure and lengths. */
+}
+
+const char *model_reason_name(int reason)
+{
+    static const char *const names[] = {
+        "LK_READ", "LK_TOO_SHORT", "LK_BAD_VERSION", "LK_BAD_LENGTH", "LK_OTHER_ARP", "LK_PORT_ZERO",
+        "LK_BAD_FLAGS", "LK_BAD_OPTIONS", "LK_HEADER_CUT",
+    };
+    return reason >= LK_READ && reason <= LK_HEADER_CUT ? names[reason] : "no reason"; /* Open: LK_READ. */
+}
+
+/* ---- addresses ---- */
+
+static int get_bit(const uint8_t *octets, size_t bit)
+{
+    return octets[bit / 8] >> (7 - bit % 8) & 1;
+}
+
+/* Open: no address is in a block whose prefix is too long. */
+int model_contains(const struct lk_block *block, const struct lk_addr *addr)
+{
+    size_t len = addr_len(addr);
+    if (len == 0 || addr->version != block->addr.version || block->prefix_len > 8 * len)
+        return 0;
+    for (size_t bit = 0; bit < block->prefix_len; bit++)
+        if (get_bit(addr->octets, bit) != get_bit(block->addr.octets, bit))
+            return 0;
+    return 1;
+}
+
+int is_in(const struct lk_addr *addr, const char *text)
+{
+    struct lk_block block;
+    return model_parse_block(text, strlen(text), &block) && model_contains(&block, addr);
+}
+
+int model_is_multicast(const struct lk_addr *addr)
+{
+    return is_in(addr, "224.0.0.0/4") || is_in(addr, "ff00::/8");
+}
+
+/* Open: an address without a version is not unicast. */
+int model_is_unicast(const struct lk_addr *addr)
+{
+    return addr_len(addr) != 0 && !model_is_multicast(addr) && !is_in(addr, "0.0.0.0/32") && !is_in(addr, "::/128") &&
+           !is_in(addr, "255.255.255.255/32");
+}
+
+/* ---- checksums ---- */
+
+/* One's complement addition: the carry is added again. */
+static unsigned add_words(unsigned a, unsigned b)
+{
+    unsigned sum = a + b;
+    return sum > 0xffff ? sum - 0xffff : sum;
+}
+
+uint16_t model_checksum(const uint8_t *ptr, size_t len)
+{
+    unsigned sum = 0;
+    for (size_t i = 0; i < used_len(len); i++)
+        sum = add_words(sum, i % 2 == 0 ? (unsigned)ptr[i] << 8 : ptr[i]);
+    return (uint16_t)sum;
+}
+
+uint16_t pseudo_sum(const struct lk_addr *src, const struct lk_addr *dst, unsigned protocol, const uint8_t *ptr,
+                    size_t len, size_t summed)
+{
+    static uint8_t copy[40 + MODEL_ROOM];
+    size_t half = addr_len(src), at = 2 * half;
+    memcpy(copy, src->octets, half);
+    memcpy(copy + half, dst->octets, half);
+    if (src->version == 6) {
+        put_long(copy + at, (uint32_t)len);
+        put_long(copy + at + 4, protocol);
+        at += 8;
+    } else {
+        put_word(copy + at, protocol);
+        put_word(copy + at + 2, (unsigned)len);
+        at += 4;
+    }
+    if (summed != 0)
+        memcpy(copy + at, ptr, summed);
+    return model_checksum(copy, at + summed);
+}
+
+/* RFC 1624, equation 3: the complement of the sum of ~HC, ~m and m'. */
+uint16_t model_update_checksum(uint16_t checksum, uint16_t before, uint16_t after)
+{
+    unsigned sum = ~checksum & 0xffff;
+    sum = add_words(sum, ~before & 0xffff);
+    sum = add_words(sum, after);
+    return (uint16_t)~sum;
+}
+
+/* Open: an address counts as the sum of its words, which differs from one word after the other where the old sum is
+ * 0. Open: addresses of two versions, or of none. */
+uint16_t model_update_checksum_addr(uint16_t checksum, const struct lk_addr *before, const struct lk_addr *after)
+{
+    return model_update_checksum(checksum, model_checksum(before->octets, addr_len(before)),
+                                 model_checksum(after->octets, addr_len(after)));
+}
+
+uint16_t model_update_udp_checksum(uint16_t checksum, uint16_t before, uint16_t after)
+{
+    uint16_t updated = model_update_checksum(checksum, before, after);
+    return checksum == 0 ? 0 : updated == 0 ? 0xffff : updated;
+}
+
+uint16_t model_update_udp_checksum_addr(uint16_t checksum, const struct lk_addr *before, const struct lk_addr *after)
+{
+    uint16_t updated = model_update_checksum_addr(checksum, before, after);
+    return checksum == 0 ? 0 : updated == 0 ? 0xffff : updated;
+}
+
+/* ---- sequence numbers ---- */
+
+uint32_t model_add_seq(uint32_t seq, uint32_t steps)
+{
+    return (uint32_t)(((uint64_t)seq + steps) % ((uint64_t)1 << 32));
+}
+
+int32_t model_subtract_seq(uint32_t a, uint32_t b)
+{
+    int64_t distance = (int64_t)a - b;
+    if (distance >= (int64_t)1 << 31)
+        distance -= (int64_t)1 << 32;
+    if (distance < -((int64_t)1 << 31))
+        distance += (int64_t)1 << 32;
+    return (int32_t)distance;
+}
+
+int model_compare_seq(uint32_t a, uint32_t b)
+{
+    int32_t distance = model_subtract_seq(a, b);
+    return distance < 0 ? -1 : distance > 0;
+}
