@@ -1,0 +1,217 @@
+//! Addresses, CIDR blocks and endpoints, and their texts.
+
+use crate::sys::{self, library, Library};
+use crate::Error;
+use core::ffi::c_char;
+use core::fmt;
+use core::net::{IpAddr, Ipv4Addr, Ipv6Addr, SocketAddr};
+use core::str::{from_utf8, FromStr};
+
+impl From<IpAddr> for sys::Addr {
+    fn from(addr: IpAddr) -> Self {
+        let mut octets = [0; 16];
+        match addr {
+            IpAddr::V4(addr) => octets[..4].copy_from_slice(&addr.octets()),
+            IpAddr::V6(addr) => octets = addr.octets(),
+        }
+        Self { octets, version: if addr.is_ipv4() { 4 } else { 6 } }
+    }
+}
+
+impl From<SocketAddr> for sys::Endpoint {
+    fn from(endpoint: SocketAddr) -> Self {
+        Self { addr: endpoint.ip().into(), port: endpoint.port() }
+    }
+}
+
+impl sys::Addr {
+    /// The address, if there is one.
+    pub fn ip(&self) -> Option<IpAddr> {
+        let [a, b, c, d, ..] = self.octets;
+        match self.version {
+            4 => Some(Ipv4Addr::new(a, b, c, d).into()),
+            6 => Some(Ipv6Addr::from(self.octets).into()),
+            _ => None,
+        }
+    }
+}
+
+impl sys::Endpoint {
+    /// The address with its port, if there is one.
+    pub fn socket_addr(&self) -> Option<SocketAddr> {
+        Some(SocketAddr::new(self.addr.ip()?, self.port))
+    }
+}
+
+/// A text does not parse.
+#[derive(Clone, Copy, Debug, PartialEq, Eq, Hash)]
+pub struct ParseError;
+
+impl fmt::Display for ParseError {
+    fn fmt(&self, f: &mut fmt::Formatter<'_>) -> fmt::Result {
+        f.pad("the text does not parse")
+    }
+}
+
+impl core::error::Error for ParseError {}
+
+/// Parses by a call that stores a value and returns whether the text parses.
+fn parse<T: Default>(
+    text: &str,
+    call: impl FnOnce(Library, *const c_char, usize, &mut T) -> i32,
+) -> Result<T, ParseError> {
+    let mut value = T::default();
+    match call(library(), text.as_ptr().cast(), text.len(), &mut value) {
+        0 => Err(ParseError),
+        _ => Ok(value),
+    }
+}
+
+/// Formats what a call prints, which has less than 48 bytes.
+fn print(f: &mut fmt::Formatter<'_>, call: impl FnOnce(Library, *mut c_char, usize) -> isize) -> fmt::Result {
+    let mut out = [0u8; 48];
+    let len = usize::try_from(call(library(), out.as_mut_ptr().cast(), out.len()));
+    let text = out.get(..len.map_err(|_| fmt::Error)?).ok_or(fmt::Error)?;
+    f.pad(from_utf8(text).map_err(|_| fmt::Error)?)
+}
+
+/// Parses an IPv4 or IPv6 address. Other than by `core`, leading zeros are accepted and are decimal.
+///
+/// ```
+/// assert_eq!(ip_wire::parse_addr("192.0.2.010").unwrap().to_string(), "192.0.2.10");
+/// assert!(ip_wire::parse_addr("fe80::1%eth0").is_err());
+/// ```
+pub fn parse_addr(text: &str) -> Result<IpAddr, ParseError> {
+    // SAFETY: the text has `len` bytes, and `addr` is written alone.
+    let addr: sys::Addr = parse(text, |c, ptr, len, addr| unsafe { c.lk_parse_addr(ptr, len, addr) })?;
+    addr.ip().ok_or(ParseError)
+}
+
+/// Parses an address, ':' and a port, with an IPv6 address in brackets; or an address alone, with port 0.
+///
+/// ```
+/// assert_eq!(ip_wire::parse_endpoint("[2001:db8::1]:53").unwrap().port(), 53);
+/// assert_eq!(ip_wire::parse_endpoint("192.0.2.1").unwrap().port(), 0);
+/// ```
+pub fn parse_endpoint(text: &str) -> Result<SocketAddr, ParseError> {
+    // SAFETY: the text has `len` bytes, and `endpoint` is written alone.
+    let endpoint: sys::Endpoint =
+        parse(text, |c, ptr, len, endpoint| unsafe { c.lk_parse_endpoint(ptr, len, endpoint) })?;
+    endpoint.socket_addr().ok_or(ParseError)
+}
+
+/// Whether the address is neither multicast, nor unspecified (0.0.0.0, ::), nor 255.255.255.255.
+pub fn is_unicast(addr: IpAddr) -> bool {
+    // SAFETY: the address is read alone.
+    unsafe { library().lk_is_unicast(&addr.into()) != 0 }
+}
+
+/// An Ethernet address. Its text is six groups of 1 or 2 hex digits, all joined by '-' or all by ':'.
+///
+/// ```
+/// let addr: ip_wire::EthernetAddr = "2:0:0:0:aa:7".parse().unwrap();
+/// assert_eq!(addr.to_string(), "02-00-00-00-aa-07");
+/// ```
+#[derive(Clone, Copy, Debug, Default, PartialEq, Eq, PartialOrd, Ord, Hash)]
+pub struct EthernetAddr(pub [u8; 6]);
+
+impl EthernetAddr {
+    /// The address of all stations.
+    pub const BROADCAST: Self = Self([0xff; 6]);
+}
+
+impl From<[u8; 6]> for EthernetAddr {
+    fn from(octets: [u8; 6]) -> Self {
+        Self(octets)
+    }
+}
+
+impl FromStr for EthernetAddr {
+    type Err = ParseError;
+
+    fn from_str(text: &str) -> Result<Self, ParseError> {
+        // SAFETY: the text has `len` bytes, and `octets` has the 6 that are written.
+        parse(text, |c, ptr, len, octets: &mut [u8; 6]| unsafe {
+            c.lk_parse_ethernet(ptr, len, octets.as_mut_ptr())
+        })
+        .map(Self)
+    }
+}
+
+impl fmt::Display for EthernetAddr {
+    fn fmt(&self, f: &mut fmt::Formatter<'_>) -> fmt::Result {
+        // SAFETY: there are the 6 octets that are read, and `cap` bytes at `out`.
+        print(f, |c, out, cap| unsafe { c.lk_print_ethernet(self.0.as_ptr(), out, cap) })
+    }
+}
+
+/// A CIDR block: the addresses that have the first `prefix_len` bits of `addr`.
+///
+/// ```
+/// let block: ip_wire::Block = "10.1.2.3/8".parse().unwrap();
+/// assert!(block.contains("10.255.0.1".parse().unwrap()));
+/// assert_eq!(block.to_string(), "10.1.2.3/8"); // the address keeps all its bits
+/// ```
+#[derive(Clone, Copy, Debug, PartialEq, Eq, Hash)]
+pub struct Block {
+    addr: IpAddr,
+    prefix_len: u8,
+}
+
+impl Block {
+    /// Fails with [`Error::BadPrefix`] if the prefix is longer than the address.
+    pub fn new(addr: IpAddr, prefix_len: u8) -> Result<Self, Error> {
+        let most = if addr.is_ipv4() { 32 } else { 128 };
+        if prefix_len > most {
+            return Err(Error::BadPrefix);
+        }
+        Ok(Self { addr, prefix_len })
+    }
+
+    /// The address, with all its bits.
+    pub fn addr(&self) -> IpAddr {
+        self.addr
+    }
+
+    /// At most 32 for IPv4, 128 for IPv6.
+    pub fn prefix_len(&self) -> u8 {
+        self.prefix_len
+    }
+
+    /// Whether the address is in the block. No address is in a block of the other version.
+    pub fn contains(&self, addr: IpAddr) -> bool {
+        // SAFETY: both values are read alone.
+        unsafe { library().lk_contains(&self.to_c(), &addr.into()) != 0 }
+    }
+
+    fn to_c(self) -> sys::Block {
+        sys::Block { addr: self.addr.into(), prefix_len: self.prefix_len.into() }
+    }
+}
+
+impl TryFrom<(IpAddr, u8)> for Block {
+    type Error = Error;
+
+    fn try_from((addr, prefix_len): (IpAddr, u8)) -> Result<Self, Error> {
+        Self::new(addr, prefix_len)
+    }
+}
+
+impl FromStr for Block {
+    type Err = ParseError;
+
+    fn from_str(text: &str) -> Result<Self, ParseError> {
+        // SAFETY: the text has `len` bytes, and `block` is written alone.
+        let block: sys::Block =
+            parse(text, |c, ptr, len, block| unsafe { c.lk_parse_block(ptr, len, block) })?;
+        let prefix_len = block.prefix_len.try_into().map_err(|_| ParseError)?;
+        Self::new(block.addr.ip().ok_or(ParseError)?, prefix_len).map_err(|_| ParseError)
+    }
+}
+
+impl fmt::Display for Block {
+    fn fmt(&self, f: &mut fmt::Formatter<'_>) -> fmt::Result {
+        // SAFETY: the block is read alone, and there are `cap` bytes at `out`.
+        print(f, |c, out, cap| unsafe { c.lk_print_block(&self.to_c(), out, cap) })
+    }
+}

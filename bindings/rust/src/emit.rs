@@ -1,0 +1,166 @@
+//! Writing frames.
+
+use crate::sys::{self, library, Library};
+use crate::{Arp, Error, Ethernet, Headers, Tcp, TcpOptions};
+use core::net::IpAddr;
+
+/// Writes by a call that returns the length of what it wrote, or a failure.
+pub(crate) fn write(
+    out: &mut [u8],
+    call: impl FnOnce(Library, *mut u8, usize) -> isize,
+) -> Result<&mut [u8], Error> {
+    let written = call(library(), out.as_mut_ptr(), out.len());
+    match usize::try_from(written) {
+        Ok(len) => Ok(&mut out[..len]),
+        Err(_) => Err(Error::of_failure(written)),
+    }
+}
+
+/// Each call returns the frame at the beginning of `out`. EtherType, protocol, lengths and checksums are
+/// filled in. After a failure `out` is unchanged:
+///
+/// - [`Error::TwoVersions`],
+/// - [`Error::NoPort`]: the destination port is 0, or the source port of TCP,
+/// - [`Error::NoHopLimit`],
+/// - [`Error::BadField`]: a field of `ip` has more bits than the header, or says that this is a fragment,
+/// - [`Error::TwoControls`], [`Error::OptionsTooLong`] and [`Error::PayloadTooLong`],
+/// - [`Error::NoRoom`].
+///
+/// The frame without its first 14 octets is the packet, for example for a TUN device.
+impl Headers {
+    /// Writes a whole frame with a UDP packet.
+    ///
+    /// ```
+    /// use ip_wire::{Error, Ethernet, Headers, Ip};
+    ///
+    /// let headers = Headers {
+    ///     ethernet: Ethernet::new([2, 0, 0, 0, 0, 1].into(), [2, 0, 0, 0, 0, 2].into()),
+    ///     src: "[2001:db8::1]:4000".parse().unwrap(),
+    ///     dst: "[2001:db8::2]:53".parse().unwrap(),
+    ///     ip: Ip::default(),
+    /// };
+    /// let mut out = [0; 80];
+    /// assert_eq!(headers.emit_udp(b"ping", &mut out).unwrap().len(), 66);
+    /// assert_eq!(headers.emit_udp(b"ping", &mut out[..65]), Err(Error::NoRoom));
+    /// ```
+    pub fn emit_udp<'o>(&self, payload: &[u8], out: &'o mut [u8]) -> Result<&'o mut [u8], Error> {
+        // SAFETY: the headers are read alone, there are `len` bytes at `ptr` and `cap` bytes at `out`.
+        write(out, |c, out, cap| unsafe {
+            c.lk_emit_udp_frame(&self.fields(), payload.as_ptr(), payload.len(), out, cap)
+        })
+    }
+
+    /// Writes a whole frame with a TCP segment.
+    pub fn emit_tcp<'o>(
+        &self,
+        tcp: &Tcp,
+        options: &TcpOptions,
+        payload: &[u8],
+        out: &'o mut [u8],
+    ) -> Result<&'o mut [u8], Error> {
+        let (fields, options) = (self.tcp_fields(tcp), (*options).into());
+        // SAFETY: the headers and options are read alone, there are `len` bytes at `ptr` and `cap` bytes at `out`.
+        write(out, |c, out, cap| unsafe {
+            c.lk_emit_tcp_frame(&fields, &options, payload.as_ptr(), payload.len(), out, cap)
+        })
+    }
+
+    /// Where the payload of a UDP packet begins: at 42 over IPv4, at 62 over IPv6.
+    pub fn udp_payload_offset(&self) -> usize {
+        self.transport_offset() + 8
+    }
+
+    /// Where the payload of a TCP segment with these options begins. Fails with [`Error::OptionsTooLong`].
+    pub fn tcp_payload_offset(&self, options: &TcpOptions) -> Result<usize, Error> {
+        Ok(self.transport_offset() + options.header_len()?)
+    }
+
+    /// Writes the headers before a payload that is in `out` already, at [`Headers::udp_payload_offset`].
+    ///
+    /// ```
+    /// # use ip_wire::{Ethernet, Headers, Ip};
+    /// # let headers = Headers {
+    /// #     ethernet: Ethernet::default(),
+    /// #     src: "192.0.2.1:4000".parse().unwrap(),
+    /// #     dst: "192.0.2.2:53".parse().unwrap(),
+    /// #     ip: Ip::default(),
+    /// # };
+    /// let (mut wrapped, mut emitted) = ([0; 64], [0; 64]);
+    /// wrapped[headers.udp_payload_offset()..][..4].copy_from_slice(b"ping");
+    /// assert_eq!(headers.wrap_udp(4, &mut wrapped), headers.emit_udp(b"ping", &mut emitted));
+    /// ```
+    pub fn wrap_udp<'o>(&self, payload_len: usize, out: &'o mut [u8]) -> Result<&'o mut [u8], Error> {
+        // SAFETY: the headers are read alone, and there are `cap` bytes at `out`.
+        write(out, |c, out, cap| unsafe { c.lk_wrap_udp_frame(&self.fields(), payload_len, out, cap) })
+    }
+
+    /// Writes the headers before a payload that is in `out` already, at [`Headers::tcp_payload_offset`].
+    pub fn wrap_tcp<'o>(
+        &self,
+        tcp: &Tcp,
+        options: &TcpOptions,
+        payload_len: usize,
+        out: &'o mut [u8],
+    ) -> Result<&'o mut [u8], Error> {
+        let (fields, options) = (self.tcp_fields(tcp), (*options).into());
+        // SAFETY: the headers and options are read alone, and there are `cap` bytes at `out`.
+        write(out, |c, out, cap| unsafe { c.lk_wrap_tcp_frame(&fields, &options, payload_len, out, cap) })
+    }
+
+    fn transport_offset(&self) -> usize {
+        if self.src.is_ipv4() {
+            34
+        } else {
+            54
+        }
+    }
+
+    fn tcp_fields(&self, tcp: &Tcp) -> sys::Frame {
+        sys::Frame { tcp: (*tcp).into(), ..self.fields() }
+    }
+}
+
+impl Arp {
+    /// Writes a whole frame of 42 octets, with EtherType ARP. Fails with [`Error::NoRoom`].
+    ///
+    /// ```
+    /// use ip_wire::{Arp, Ethernet, EthernetAddr, Frame};
+    ///
+    /// let own = EthernetAddr([2, 0, 0, 0, 0, 1]);
+    /// let arp = Arp {
+    ///     operation: Arp::REQUEST,
+    ///     src_hardware: own,
+    ///     dst_hardware: EthernetAddr::default(),
+    ///     src: [192, 0, 2, 1].into(),
+    ///     dst: [192, 0, 2, 2].into(),
+    /// };
+    /// let mut out = [0; 42];
+    /// let frame = arp.emit(&Ethernet::new(own, EthernetAddr::BROADCAST), &mut out).unwrap();
+    /// assert_eq!(Frame::parse(frame).arp(), Some(arp));
+    /// ```
+    pub fn emit<'o>(&self, ethernet: &Ethernet, out: &'o mut [u8]) -> Result<&'o mut [u8], Error> {
+        let endpoint = |addr| sys::Endpoint { addr: IpAddr::V4(addr).into(), port: 0 };
+        let fields = sys::Frame {
+            ethernet: (*ethernet).into(),
+            arp: sys::Arp {
+                operation: self.operation,
+                src_hardware: self.src_hardware.0,
+                dst_hardware: self.dst_hardware.0,
+            },
+            src: endpoint(self.src),
+            dst: endpoint(self.dst),
+            ..sys::Frame::default()
+        };
+        // SAFETY: the headers are read alone, and there are `cap` bytes at `out`.
+        write(out, |c, out, cap| unsafe { c.lk_emit_arp_frame(&fields, out, cap) })
+    }
+}
+
+/// Parses an Ethernet frame, and emits each header again from its values, with new lengths and checksums and
+/// without padding. `ip_wire.h` has the table of what changes. The rebuilt frame is at most as long as the frame.
+///
+/// Fails with [`Error::NoHeader`] if the frame has less than 14 octets, and with [`Error::NoRoom`].
+pub fn rebuild<'o>(frame: &[u8], out: &'o mut [u8]) -> Result<&'o mut [u8], Error> {
+    // SAFETY: there are `len` bytes at `ptr`, and `cap` bytes at `out`.
+    write(out, |c, out, cap| unsafe { c.lk_rebuild(frame.as_ptr(), frame.len(), out, cap) })
+}

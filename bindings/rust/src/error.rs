@@ -1,0 +1,123 @@
+//! The enums: what the library says in numbers.
+
+use core::fmt;
+
+/// Declares an enum whose values have the numbers from 1 on in C, and texts.
+macro_rules! numbered {
+    ($(#[$meta:meta])* enum $name:ident { $($variant:ident: $text:literal,)* }) => {
+        $(#[$meta])*
+        #[derive(Clone, Copy, Debug, PartialEq, Eq, Hash)]
+        #[non_exhaustive]
+        pub enum $name {
+            $(#[doc = concat!($text, ".")] $variant,)*
+        }
+
+        impl $name {
+            const ALL: &'static [Self] = &[$(Self::$variant),*];
+
+            /// The value of a number. 0 is none.
+            pub(crate) fn of_number(number: usize) -> Option<Self> {
+                Some(Self::ALL[number.checked_sub(1)?]) // the header has no other numbers
+            }
+        }
+
+        impl fmt::Display for $name {
+            fn fmt(&self, f: &mut fmt::Formatter<'_>) -> fmt::Result {
+                f.pad(match self {
+                    $(Self::$variant => $text,)*
+                })
+            }
+        }
+    };
+}
+
+numbered! {
+    /// Why a call wrote nothing. If several failures apply to a call, it is the first of them.
+    enum Error {
+        NoVersion: "an address has another version than the call can write",
+        TwoVersions: "one address is IPv4, the other IPv6",
+        BadPrefix: "the prefix length is above 32 for IPv4, or above 128 for IPv6",
+        NoPort: "a port is 0 that a receiver rejects",
+        NoHopLimit: "the hop limit is 0",
+        BadField: "a field of the IP header has a value that this header has no place for",
+        TwoControls: "more than one of SYN, FIN and RST is set",
+        OptionsTooLong: "the TCP options have more than 40 octets, or more than 4 SACK ranges",
+        PayloadTooLong: "the payload is longer than the length field can say",
+        NoHeader: "the frame to be rebuilt is shorter than an Ethernet header",
+        NoRoom: "the result is longer than the buffer",
+    }
+}
+
+impl core::error::Error for Error {}
+
+impl Error {
+    /// The failure that a call returned, which is below 0.
+    pub(crate) fn of_failure(failure: isize) -> Self {
+        Self::of_number(failure.unsigned_abs() >> 40).expect("a failure of ip_wire.h")
+    }
+}
+
+numbered! {
+    /// Why a header was rejected. If several reasons apply to it, it is the first of them.
+    enum Reason {
+        TooShort: "there are fewer bytes than the shortest header has",
+        BadVersion: "the IP version is not that of the EtherType, or neither 4 nor 6",
+        BadLength: "a length field does not fit",
+        OtherArp: "ARP is for other addresses than Ethernet and IPv4",
+        PortZero: "a port is 0",
+        BadFlags: "TCP has more than one of SYN, FIN and RST",
+        BadOptions: "a TCP option is malformed",
+        HeaderCut: "the header was not captured as a whole",
+    }
+}
+
+impl core::error::Error for Reason {}
+
+numbered! {
+    /// What a checksum says.
+    enum Verdict {
+        Right: "the checksum is right",
+        Wrong: "the checksum is wrong",
+        LeftOut: "the sender computed no checksum (UDP over IPv4)",
+        LeftToDevice: "the checksum is of the pseudo-header alone (checksum offload)",
+        ChecksumCut: "not all octets that the checksum covers were captured",
+    }
+}
+
+numbered! {
+    /// The protocol behind the Ethernet header.
+    enum Network {
+        Arp: "ARP",
+        Ipv4: "IPv4",
+        Ipv6: "IPv6",
+    }
+}
+
+numbered! {
+    /// The protocol behind the IP header.
+    enum Transport {
+        Udp: "UDP",
+        Tcp: "TCP",
+    }
+}
+
+/// Why a receiver should drop a frame.
+#[derive(Clone, Copy, Debug, PartialEq, Eq, Hash)]
+#[non_exhaustive]
+pub enum Defect {
+    /// A header was rejected.
+    Rejected(Reason),
+    /// The checksum of IPv4, UDP or TCP is wrong.
+    WrongChecksum,
+}
+
+impl fmt::Display for Defect {
+    fn fmt(&self, f: &mut fmt::Formatter<'_>) -> fmt::Result {
+        match self {
+            Self::Rejected(reason) => write!(f, "a header was rejected: {reason}"),
+            Self::WrongChecksum => f.pad("a checksum is wrong"),
+        }
+    }
+}
+
+impl core::error::Error for Defect {}

@@ -1,0 +1,231 @@
+//! Parsed frames and packets.
+
+use crate::sys::{self, library, Library};
+use crate::{Arp, Defect, Ethernet, Headers, Ip, Network, Reason, Tcp, TcpOptions, Transport, Verdict};
+use core::ffi::c_int;
+use core::net::{IpAddr, SocketAddr};
+
+/// A parsed frame or packet. It borrows the bytes.
+///
+/// Parsing always succeeds: the headers before a rejected one are there, and [`Frame::payload`] begins at
+/// the rejected header. A receiver that trusts the payload calls [`Frame::check`] first.
+///
+/// - The payload begins behind the last header that was read. It ends at the length in this header or in
+///   one before it, so padding is no payload.
+/// - Behind an unknown EtherType or protocol all bytes are payload, and so are IPv6 extension headers.
+/// - IPv4 options are skipped.
+/// - If an IPv6 fragment header follows the IPv6 header, its values are there. The payload begins at it.
+///
+/// A call that writes cannot be given the bytes of a frame as its buffer, because they are borrowed:
+///
+/// ```compile_fail,E0502
+/// let mut bytes = [0; 64];
+/// let frame = ip_wire::Frame::parse(&bytes);
+/// let _ = ip_wire::rebuild(frame.payload(), &mut bytes);
+/// ```
+#[derive(Clone, Copy, Debug)]
+pub struct Frame<'a> {
+    bytes: &'a [u8],
+    fields: sys::Frame,
+    is_packet: bool,
+}
+
+impl<'a> Frame<'a> {
+    /// Parses an Ethernet frame.
+    pub fn parse(bytes: &'a [u8]) -> Self {
+        // SAFETY: there are `len` bytes at `ptr`, and `fields` is written alone.
+        Self::read(bytes, false, |c, fields| unsafe { c.lk_read_frame(bytes.as_ptr(), bytes.len(), fields) })
+    }
+
+    /// Parses a packet that begins with its IPv4 or IPv6 header: of a TUN device, of a capture of raw
+    /// packets, or behind VLAN tags.
+    pub fn parse_packet(bytes: &'a [u8]) -> Self {
+        // SAFETY: there are `len` bytes at `ptr`, and `fields` is written alone.
+        Self::read(bytes, true, |c, fields| unsafe { c.lk_read_packet(bytes.as_ptr(), bytes.len(), fields) })
+    }
+
+    /// Parses a frame of `len` octets of which only the first ones were captured. `captured` is not used
+    /// behind `len`.
+    ///
+    /// A header that was not captured as a whole is rejected with [`Reason::HeaderCut`].
+    pub fn parse_captured(captured: &'a [u8], len: usize) -> Self {
+        let bytes = &captured[..captured.len().min(len)];
+        // SAFETY: there are `bytes.len()` bytes at `ptr`, and `fields` is written alone.
+        Self::read(bytes, false, |c, fields| unsafe {
+            c.lk_read_captured(bytes.as_ptr(), bytes.len(), len, fields)
+        })
+    }
+
+    /// The same for a packet that begins with its IPv4 or IPv6 header.
+    pub fn parse_captured_packet(captured: &'a [u8], len: usize) -> Self {
+        let bytes = &captured[..captured.len().min(len)];
+        // SAFETY: there are `bytes.len()` bytes at `ptr`, and `fields` is written alone.
+        Self::read(bytes, true, |c, fields| unsafe {
+            c.lk_read_captured_packet(bytes.as_ptr(), bytes.len(), len, fields)
+        })
+    }
+
+    #[inline]
+    fn read(bytes: &'a [u8], is_packet: bool, call: impl FnOnce(Library, &mut sys::Frame) -> c_int) -> Self {
+        let mut fields = sys::Frame::default();
+        call(library(), &mut fields);
+        Self { bytes, fields, is_packet }
+    }
+
+    /// The bytes that were parsed.
+    pub fn bytes(&self) -> &'a [u8] {
+        self.bytes
+    }
+
+    /// Fails if a header was rejected, or a checksum is wrong.
+    pub fn check(&self) -> Result<(), Defect> {
+        match self.rejected() {
+            Some(reason) => Err(Defect::Rejected(reason)),
+            None if self.has_wrong_checksum() => Err(Defect::WrongChecksum),
+            None => Ok(()),
+        }
+    }
+
+    /// Why a header was rejected, if one was.
+    pub fn rejected(&self) -> Option<Reason> {
+        Reason::of_number(self.fields.reason.into())
+    }
+
+    /// Whether the checksum of IPv4, UDP or TCP is wrong.
+    pub fn has_wrong_checksum(&self) -> bool {
+        [self.ipv4_checksum(), self.transport_checksum()].contains(&Some(Verdict::Wrong))
+    }
+
+    /// The checksum of the IPv4 header. `None`: there is no such header.
+    pub fn ipv4_checksum(&self) -> Option<Verdict> {
+        Verdict::of_number(self.fields.ipv4_checksum.into())
+    }
+
+    /// The checksum of UDP or TCP. `None`: there is no such header, or a UDP header whose length field does
+    /// not fit.
+    pub fn transport_checksum(&self) -> Option<Verdict> {
+        Verdict::of_number(self.fields.transport_checksum.into())
+    }
+
+    /// The Ethernet header. `None`: the frame is too short, or a packet was parsed.
+    pub fn ethernet(&self) -> Option<Ethernet> {
+        let is_there = !self.is_packet && self.fields.payload_offset >= 14;
+        is_there.then(|| self.fields.ethernet.into())
+    }
+
+    /// The protocol of the ARP or IP header that was read.
+    pub fn network(&self) -> Option<Network> {
+        Network::of_number(self.fields.network.into())
+    }
+
+    /// The ARP packet that was read.
+    pub fn arp(&self) -> Option<Arp> {
+        let fields = &self.fields;
+        match (self.network()?, fields.src.addr.ip()?, fields.dst.addr.ip()?) {
+            (Network::Arp, IpAddr::V4(src), IpAddr::V4(dst)) => Some(Arp {
+                operation: fields.arp.operation,
+                src_hardware: fields.arp.src_hardware.into(),
+                dst_hardware: fields.arp.dst_hardware.into(),
+                src,
+                dst,
+            }),
+            _ => None,
+        }
+    }
+
+    /// The IP header that was read.
+    pub fn ip(&self) -> Option<Ip> {
+        (self.network()? != Network::Arp).then(|| self.fields.ip.into())
+    }
+
+    /// The sender in the ARP or IP header. The port is 0 unless a UDP or TCP header is there.
+    pub fn src(&self) -> Option<SocketAddr> {
+        self.fields.src.socket_addr()
+    }
+
+    /// The receiver in the ARP or IP header. The port is 0 unless a UDP or TCP header is there.
+    pub fn dst(&self) -> Option<SocketAddr> {
+        self.fields.dst.socket_addr()
+    }
+
+    /// Whether this is a part of an IP packet, so that its payload is not parsed.
+    pub fn is_fragment(&self) -> bool {
+        self.fields.is_fragment != 0
+    }
+
+    /// The protocol of the UDP or TCP header that was read.
+    pub fn transport(&self) -> Option<Transport> {
+        Transport::of_number(self.fields.transport.into())
+    }
+
+    /// The protocol of the UDP or TCP header that was rejected, but whose ports are in `src` and `dst`.
+    pub fn rejected_transport(&self) -> Option<Transport> {
+        Transport::of_number(self.fields.rejected.into())
+    }
+
+    /// The TCP header that was read.
+    pub fn tcp(&self) -> Option<Tcp> {
+        (self.transport()? == Transport::Tcp).then(|| self.fields.tcp.into())
+    }
+
+    /// The TCP header that was rejected, if it is not too short. RFC 9293 needs it for RST.
+    pub fn rejected_tcp(&self) -> Option<Tcp> {
+        (self.rejected_transport()? == Transport::Tcp).then(|| self.fields.tcp.into())
+    }
+
+    /// The bytes of the TCP header that was read, with its options: for [`RawOptions::new`].
+    ///
+    /// [`RawOptions::new`]: crate::RawOptions::new
+    pub fn tcp_header(&self) -> Option<&'a [u8]> {
+        self.tcp()?;
+        let start = self.fields.transport_offset;
+        self.bytes.get(start..)?.get(..self.fields.tcp.header_len.into())
+    }
+
+    /// The options of the TCP header that was read.
+    pub fn tcp_options(&self) -> Option<TcpOptions> {
+        TcpOptions::parse(self.tcp_header()?)
+    }
+
+    /// Where the ARP or IP header begins. `None` if there is none.
+    pub fn network_offset(&self) -> Option<usize> {
+        self.network().map(|_| self.fields.network_offset)
+    }
+
+    /// Where the UDP or TCP header begins, also a rejected one. `None` if there is none.
+    pub fn transport_offset(&self) -> Option<usize> {
+        self.transport().or(self.rejected_transport()).map(|_| self.fields.transport_offset)
+    }
+
+    /// Where the payload begins.
+    pub fn payload_offset(&self) -> usize {
+        self.fields.payload_offset
+    }
+
+    /// The length of the payload in the whole frame, also of what was not captured.
+    pub fn payload_len(&self) -> usize {
+        self.fields.payload_len
+    }
+
+    /// The payload, as far as it was captured.
+    pub fn payload(&self) -> &'a [u8] {
+        let rest = self.bytes.get(self.fields.payload_offset..).unwrap_or(&[]);
+        &rest[..rest.len().min(self.fields.payload_len)]
+    }
+
+    /// The headers that were read, to emit them again. `None` unless it is an IP packet.
+    pub fn headers(&self) -> Option<Headers> {
+        self.ip()?;
+        Headers::of_fields(&self.fields)
+    }
+
+    /// The headers of the reply: the addresses and ports are exchanged. The IP header is that of a new packet,
+    /// with the same DSCP. `None` unless it is an IP packet.
+    pub fn reply(&self) -> Option<Headers> {
+        self.ip()?;
+        let mut fields = self.fields;
+        // SAFETY: the copy is written alone.
+        unsafe { library().lk_reply(&mut fields) };
+        Headers::of_fields(&fields)
+    }
+}

@@ -1,0 +1,57 @@
+//! A host without connections.
+
+use crate::emit::write;
+use crate::{sys, Error, EthernetAddr, SeqNumber};
+use core::net::{IpAddr, Ipv4Addr, Ipv6Addr};
+
+/// A host with one interface and no connections.
+#[derive(Clone, Copy, Debug, PartialEq, Eq, Hash)]
+pub struct Host<'a> {
+    /// The open TCP ports.
+    pub open_ports: &'a [u16],
+    /// Its IPv4 address.
+    pub ipv4: Ipv4Addr,
+    /// Its IPv6 address.
+    pub ipv6: Ipv6Addr,
+    /// Its Ethernet address.
+    pub hardware: EthernetAddr,
+    /// The UDP port that echoes. Port 0 is none.
+    pub echo_port: Option<u16>,
+    /// What an open port sends: hard to guess, another for each connection (RFC 9293, section 3.4.1).
+    pub seq_number: SeqNumber,
+    /// What an open port sends as its timestamp.
+    pub tsval: u32,
+    /// What an open port sends as its window, in octets; not scaled, because it is sent with SYN.
+    pub window_len: u16,
+    /// What an open port sends as its segment size, in octets.
+    pub max_seg_size: u16,
+    /// What an open port sends as its window scale, in bits; more than 14 is sent as 14.
+    pub window_scale: u8,
+}
+
+impl Host<'_> {
+    /// Writes the answer to an Ethernet frame. `None`: the frame gets no answer. Fails with
+    /// [`Error::NoRoom`].
+    ///
+    /// It replies to ARP for `ipv4`, echoes UDP, answers SYN to an open port with SYN and ACK, and other segments
+    /// with RST. `ip_wire.h` has the whole table.
+    pub fn answer<'o>(&self, frame: &[u8], out: &'o mut [u8]) -> Result<Option<&'o mut [u8]>, Error> {
+        let host = sys::Host {
+            open_ports: self.open_ports.as_ptr(),
+            open_port_count: self.open_ports.len(),
+            ipv4: IpAddr::V4(self.ipv4).into(),
+            ipv6: IpAddr::V6(self.ipv6).into(),
+            hardware: self.hardware.0,
+            echo_port: self.echo_port.unwrap_or(0),
+            seq_number: self.seq_number.0,
+            tsval: self.tsval,
+            window_len: self.window_len,
+            max_seg_size: self.max_seg_size,
+            window_scale: self.window_scale,
+        };
+        // SAFETY: the host and its ports are read alone, there are `len` bytes at `ptr` and `cap` bytes at `out`.
+        let answer =
+            write(out, |c, out, cap| unsafe { c.lk_answer(&host, frame.as_ptr(), frame.len(), out, cap) })?;
+        Ok(if answer.is_empty() { None } else { Some(answer) })
+    }
+}

@@ -1,0 +1,78 @@
+//! Ethernet II, ARP, IPv4, IPv6, UDP and TCP packets: safe calls of the C library `ip_wire`, every
+//! contract of which is proved. `man 3 ip_wire` and `ip_wire.h` describe its behaviour in full.
+//!
+//! The crate is `no_std`, has no dependencies and allocates nothing. It is used by its path, as
+//! `ip_wire = { path = "bindings/rust" }`. It needs the installed C library (`make install`), which
+//! `build.rs` finds by `pkg-config` and links statically, or as a shared library if `IP_WIRE_SHARED=1` is set.
+//!
+//! ```
+//! use ip_wire::{Frame, Transport};
+//!
+//! fn pong<'o>(bytes: &[u8], out: &'o mut [u8]) -> Option<&'o mut [u8]> {
+//!     let frame = Frame::parse(bytes);
+//!     frame.check().ok()?; // no header was rejected, and no checksum is wrong
+//!     if frame.transport() != Some(Transport::Udp) || frame.payload() != b"ping" {
+//!         return None;
+//!     }
+//!     frame.reply()?.emit_udp(b"pong", out).ok()
+//! }
+//!
+//! # use ip_wire::{Ethernet, Headers, Ip};
+//! # let headers = Headers {
+//! #     ethernet: Ethernet::default(),
+//! #     src: "192.0.2.1:46563".parse().unwrap(),
+//! #     dst: "192.0.2.2:5353".parse().unwrap(),
+//! #     ip: Ip::default(),
+//! # };
+//! # let (mut ping, mut out) = ([0; 64], [0; 64]);
+//! # let ping = headers.emit_udp(b"ping", &mut ping).unwrap();
+//! let reply = Frame::parse(pong(ping, &mut out).unwrap());
+//! assert_eq!(reply.payload(), b"pong");
+//! assert_eq!(reply.dst(), "192.0.2.1:46563".parse().ok());
+//! ```
+//!
+//! # Panics
+//!
+//! The library needs an x86-64-v2 processor (SSE4.2 and POPCNT). On an older one each call panics, but
+//! for [`cpu_supported`]. So it does if another version than 0.2 of the shared library was loaded.
+//! Nothing else panics.
+
+#![no_std]
+#![deny(unsafe_op_in_unsafe_fn)]
+#![warn(missing_docs)]
+
+#[cfg(not(all(target_arch = "x86_64", target_pointer_width = "64")))]
+compile_error!("the C library ip_wire is for x86-64 alone");
+
+#[cfg(test)]
+extern crate std;
+
+mod addr;
+pub mod checksum;
+mod emit;
+mod error;
+mod frame;
+mod headers;
+mod host;
+mod sys;
+mod tcp;
+
+pub use addr::{is_unicast, parse_addr, parse_endpoint, Block, EthernetAddr, ParseError};
+pub use emit::rebuild;
+pub use error::{Defect, Error, Network, Reason, Transport, Verdict};
+pub use frame::Frame;
+pub use headers::{Arp, Ethernet, Headers, Ip};
+pub use host::Host;
+pub use tcp::{
+    RawOption, RawOptions, SackRange, SackRanges, SeqNumber, Tcp, TcpFlags, TcpOptions, Timestamp,
+};
+
+/// Whether the processor has what the library needs.
+pub fn cpu_supported() -> bool {
+    sys::cpu_supported()
+}
+
+/// The version of the C library that is linked: major, minor and patch.
+pub fn version() -> (u32, u32, u32) {
+    sys::version()
+}

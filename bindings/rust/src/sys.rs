@@ -1,0 +1,277 @@
+//! The declarations of `ip_wire.h`.
+//!
+//! `library()` is the only way to the calls: it checks that the processor can run the library, and that
+//! the library has the version of these declarations.
+
+use core::ffi::{c_char, c_int};
+use core::sync::atomic::{AtomicBool, Ordering};
+
+/// Declares the structs. For the tests it also lists them.
+macro_rules! structs {
+    ($($(#[$meta:meta])* struct $name:ident = $c_name:ident { $($field:ident: $type:ty,)* })*) => {
+        $(
+            $(#[$meta])*
+            #[repr(C)]
+            #[derive(Clone, Copy, Debug)]
+            pub struct $name {
+                $(pub $field: $type,)*
+            }
+        )*
+
+        /// Each struct: its names here and in C, its size, and the name, offset and size of each field.
+        #[cfg(test)]
+        pub const STRUCTS: &[(&str, &str, usize, &[(&str, usize, usize)])] = &[$((
+            stringify!($name),
+            stringify!($c_name),
+            size_of::<$name>(),
+            &[$((stringify!($field), core::mem::offset_of!($name, $field), size_of::<$type>()),)*],
+        ),)*];
+    };
+}
+
+/// Declares the calls, and makes each a method of `Library`. For the tests it also lists them.
+macro_rules! calls {
+    ($(fn $name:ident($($argument:ident: $type:ty),*) $(-> $result:ty)?;)*) => {
+        mod c {
+            use super::*;
+
+            extern "C" {
+                $(pub fn $name($($argument: $type),*) $(-> $result)?;)*
+            }
+        }
+
+        impl Library {
+            $(
+                #[inline]
+                pub unsafe fn $name(self, $($argument: $type),*) $(-> $result)? {
+                    // SAFETY: the caller keeps the rules of the header.
+                    unsafe { c::$name($($argument),*) }
+                }
+            )*
+        }
+
+        /// Each call: its name, and the types of its parameters and of its result.
+        #[cfg(test)]
+        pub const CALLS: &[(&str, &[&str], &str)] = &[$((
+            stringify!($name),
+            &[$(stringify!($type)),*],
+            concat!($(stringify!($result))?),
+        ),)*];
+    };
+}
+
+structs! {
+    #[derive(Default)]
+    struct Addr = lk_addr {
+        octets: [u8; 16],
+        version: u16,
+    }
+
+    #[derive(Default)]
+    struct Endpoint = lk_endpoint {
+        addr: Addr,
+        port: u16,
+    }
+
+    #[derive(Default)]
+    struct Block = lk_block {
+        addr: Addr,
+        prefix_len: u16,
+    }
+
+    #[derive(Default)]
+    struct Ethernet = lk_ethernet {
+        src: [u8; 6],
+        dst: [u8; 6],
+        r#type: u16,
+    }
+
+    #[derive(Default)]
+    struct Arp = lk_arp {
+        operation: u16,
+        src_hardware: [u8; 6],
+        dst_hardware: [u8; 6],
+    }
+
+    #[derive(Default)]
+    struct Ip = lk_ip {
+        ident: u32,
+        flow_label: u32,
+        fragment_offset: u16,
+        protocol: u8,
+        hop_limit: u8,
+        dscp: u8,
+        ecn: u8,
+        more_fragments: u8,
+        dont_fragment: u8,
+    }
+
+    #[derive(Default)]
+    struct Tcp = lk_tcp {
+        seq_number: u32,
+        ack_number: u32,
+        window_len: u16,
+        urgent_at: u16,
+        flags: u8,
+        header_len: u8,
+    }
+
+    #[derive(Default)]
+    struct SackRange = lk_sack_range {
+        left: u32,
+        right: u32,
+    }
+
+    #[derive(Default)]
+    struct TcpOptions = lk_tcp_options {
+        sack_ranges: [SackRange; 4],
+        tsval: u32,
+        tsecr: u32,
+        max_seg_size: u16,
+        window_scale: u8,
+        sack_permitted: u8,
+        sack_range_count: u8,
+        has_max_seg_size: u8,
+        has_window_scale: u8,
+        has_timestamp: u8,
+    }
+
+    #[derive(Default)]
+    struct TcpOption = lk_tcp_option {
+        offset: u8,
+        kind: u8,
+        len: u8,
+    }
+
+    #[derive(Default)]
+    struct Frame = lk_frame {
+        network_offset: usize,
+        transport_offset: usize,
+        payload_offset: usize,
+        payload_len: usize,
+        src: Endpoint,
+        dst: Endpoint,
+        ip: Ip,
+        tcp: Tcp,
+        ethernet: Ethernet,
+        arp: Arp,
+        reason: u8,
+        network: u8,
+        transport: u8,
+        rejected: u8,
+        is_fragment: u8,
+        ipv4_checksum: u8,
+        transport_checksum: u8,
+    }
+
+    struct Host = lk_host {
+        open_ports: *const u16,
+        open_port_count: usize,
+        ipv4: Addr,
+        ipv6: Addr,
+        hardware: [u8; 6],
+        echo_port: u16,
+        seq_number: u32,
+        tsval: u32,
+        window_len: u16,
+        max_seg_size: u16,
+        window_scale: u8,
+    }
+}
+
+calls! {
+    fn lk_parse_addr(text: *const c_char, len: usize, addr: *mut Addr) -> c_int;
+    fn lk_parse_block(text: *const c_char, len: usize, block: *mut Block) -> c_int;
+    fn lk_print_block(block: *const Block, out: *mut c_char, cap: usize) -> isize;
+    fn lk_contains(block: *const Block, addr: *const Addr) -> c_int;
+    fn lk_parse_endpoint(text: *const c_char, len: usize, endpoint: *mut Endpoint) -> c_int;
+    fn lk_parse_ethernet(text: *const c_char, len: usize, octets: *mut u8) -> c_int;
+    fn lk_print_ethernet(octets: *const u8, out: *mut c_char, cap: usize) -> isize;
+    fn lk_is_unicast(addr: *const Addr) -> c_int;
+    fn lk_read_frame(ptr: *const u8, len: usize, frame: *mut Frame) -> c_int;
+    fn lk_read_packet(ptr: *const u8, len: usize, frame: *mut Frame) -> c_int;
+    fn lk_read_captured(ptr: *const u8, captured: usize, len: usize, frame: *mut Frame) -> c_int;
+    fn lk_read_captured_packet(ptr: *const u8, captured: usize, len: usize, frame: *mut Frame) -> c_int;
+    fn lk_read_tcp_options(ptr: *const u8, len: usize, options: *mut TcpOptions) -> c_int;
+    fn lk_next_tcp_option(ptr: *const u8, len: usize, option: *mut TcpOption) -> c_int;
+    fn lk_reply(frame: *mut Frame);
+    fn lk_emit_udp_frame(
+        headers: *const Frame, ptr: *const u8, len: usize, out: *mut u8, cap: usize
+    ) -> isize;
+    fn lk_emit_tcp_frame(
+        headers: *const Frame, options: *const TcpOptions, ptr: *const u8, len: usize, out: *mut u8, cap: usize
+    ) -> isize;
+    fn lk_wrap_udp_frame(headers: *const Frame, len: usize, out: *mut u8, cap: usize) -> isize;
+    fn lk_wrap_tcp_frame(
+        headers: *const Frame, options: *const TcpOptions, len: usize, out: *mut u8, cap: usize
+    ) -> isize;
+    fn lk_tcp_header_len(options: *const TcpOptions) -> isize;
+    fn lk_emit_arp_frame(headers: *const Frame, out: *mut u8, cap: usize) -> isize;
+    fn lk_checksum(ptr: *const u8, len: usize) -> u16;
+    fn lk_update_checksum(checksum: u16, before: u16, after: u16) -> u16;
+    fn lk_update_checksum_addr(checksum: u16, before: *const Addr, after: *const Addr) -> u16;
+    fn lk_update_udp_checksum(checksum: u16, before: u16, after: u16) -> u16;
+    fn lk_update_udp_checksum_addr(checksum: u16, before: *const Addr, after: *const Addr) -> u16;
+    fn lk_add_seq(seq: u32, steps: u32) -> u32;
+    fn lk_subtract_seq(a: u32, b: u32) -> i32;
+    fn lk_compare_seq(a: u32, b: u32) -> c_int;
+    fn lk_rebuild(ptr: *const u8, len: usize, out: *mut u8, cap: usize) -> isize;
+    fn lk_answer(host: *const Host, ptr: *const u8, len: usize, out: *mut u8, cap: usize) -> isize;
+}
+
+extern "C" {
+    fn lk_version() -> u32;
+    fn lk_cpu_supported() -> c_int;
+}
+
+/// The permission to call the library, which only `library` gives.
+#[derive(Clone, Copy)]
+pub struct Library(());
+
+/// The version of the declarations above. Another minor version may have other structs.
+const VERSION: (u32, u32) = (0, 2);
+
+static IS_CHECKED: AtomicBool = AtomicBool::new(false);
+
+/// Gives the permission, or panics.
+#[inline]
+pub fn library() -> Library {
+    if !IS_CHECKED.load(Ordering::Relaxed) {
+        check();
+    }
+    Library(())
+}
+
+#[cold]
+fn check() {
+    assert!(cpu_supported(), "ip_wire needs an x86-64-v2 processor (SSE4.2 and POPCNT)");
+    let (major, minor, patch) = version_of_library();
+    assert!(
+        (major, minor) == VERSION,
+        "the crate ip_wire needs version {}.{} of the C library, and the linked one is {major}.{minor}.{patch}",
+        VERSION.0,
+        VERSION.1,
+    );
+    IS_CHECKED.store(true, Ordering::Relaxed);
+}
+
+pub fn cpu_supported() -> bool {
+    // SAFETY: this call takes nothing, and runs on every x86-64 processor.
+    unsafe { lk_cpu_supported() != 0 }
+}
+
+/// Major, minor and patch. The processor must be supported.
+fn version_of_library() -> (u32, u32, u32) {
+    // SAFETY: this call takes nothing. `check` has looked at the processor.
+    let version = unsafe { lk_version() };
+    (version >> 16, version >> 8 & 255, version & 255)
+}
+
+pub fn version() -> (u32, u32, u32) {
+    library();
+    version_of_library()
+}
+
+#[cfg(test)]
+#[path = "sys_tests.rs"]
+mod tests;

@@ -1,0 +1,167 @@
+//! Frames and packets are parsed.
+
+mod common;
+
+use common::{ipv4, ipv6, CLIENT, SERVER};
+use ip_wire::*;
+
+fn udp(headers: &Headers, payload: &[u8]) -> Vec<u8> {
+    headers.emit_udp(payload, &mut [0; 200]).unwrap().to_vec()
+}
+
+fn tcp(headers: &Headers, flags: TcpFlags, options: &TcpOptions) -> Vec<u8> {
+    let header = Tcp { seq_number: SeqNumber(7), window_len: 1000, flags, ..Tcp::default() };
+    headers.emit_tcp(&header, options, b"data", &mut [0; 200]).unwrap().to_vec()
+}
+
+#[test]
+fn a_udp_frame_has_its_values() {
+    for (headers, network) in [(ipv4(), Network::Ipv4), (ipv6(), Network::Ipv6)] {
+        let mut bytes = udp(&headers, b"ping");
+        bytes.extend([0xee; 20]); // padding
+        let frame = Frame::parse(&bytes);
+        assert_eq!(frame.check(), Ok(()));
+        assert_eq!((frame.network(), frame.transport()), (Some(network), Some(Transport::Udp)));
+        assert_eq!((frame.src(), frame.dst()), (Some(headers.src), Some(headers.dst)));
+        assert_eq!((frame.payload(), frame.payload_len()), (&b"ping"[..], 4));
+        assert_eq!(frame.payload_offset(), headers.udp_payload_offset());
+        assert_eq!(frame.network_offset(), Some(14));
+        assert_eq!(frame.transport_offset(), Some(headers.udp_payload_offset() - 8));
+        assert_eq!(frame.ethernet().unwrap().src.0, CLIENT);
+        assert_eq!(frame.ethernet().unwrap().dst.0, SERVER);
+        assert_eq!(frame.ip().unwrap().hop_limit, 64);
+        assert_eq!(frame.ip().unwrap().protocol, 17);
+        assert_eq!(frame.ipv4_checksum().is_some(), network == Network::Ipv4);
+        assert_eq!(frame.transport_checksum(), Some(Verdict::Right));
+        assert_eq!((frame.arp(), frame.tcp(), frame.tcp_options()), (None, None, None));
+        assert!(!frame.is_fragment());
+    }
+}
+
+#[test]
+fn a_tcp_frame_has_its_values() {
+    let options = TcpOptions { max_seg_size: Some(1460), window_scale: Some(7), ..TcpOptions::default() };
+    let bytes = tcp(&ipv6(), TcpFlags::SYN, &options);
+    let frame = Frame::parse(&bytes);
+    let header = frame.tcp().unwrap();
+    assert_eq!((header.seq_number, header.window_len), (SeqNumber(7), 1000));
+    assert_eq!(header.flags, TcpFlags::SYN);
+    assert_eq!(frame.tcp_options(), Some(options));
+    assert_eq!(frame.tcp_header().unwrap().len(), options.header_len().unwrap());
+    let kinds: Vec<_> = RawOptions::new(frame.tcp_header().unwrap()).map(|o| o.unwrap().kind).collect();
+    assert!(kinds.contains(&2) && kinds.contains(&3));
+    assert_eq!(frame.rejected_tcp(), None);
+}
+
+#[test]
+fn a_rejected_header_is_there_in_parts() {
+    let mut bytes = tcp(&ipv4(), TcpFlags::SYN, &TcpOptions::default());
+    bytes[14 + 20 + 13] |= 1; // FIN
+    let frame = Frame::parse(&bytes);
+    assert_eq!(frame.rejected(), Some(Reason::BadFlags));
+    assert_eq!(frame.check(), Err(Defect::Rejected(Reason::BadFlags)));
+    assert_eq!((frame.transport(), frame.rejected_transport()), (None, Some(Transport::Tcp)));
+    assert_eq!(frame.tcp(), None);
+    assert_eq!(frame.rejected_tcp().unwrap().flags, TcpFlags::SYN | TcpFlags::FIN);
+    assert_eq!((frame.src(), frame.transport_offset()), (Some(ipv4().src), Some(34)));
+    assert_eq!(frame.payload(), &bytes[34..]);
+
+    let frame = Frame::parse(&bytes[..13]);
+    assert_eq!((frame.rejected(), frame.ethernet()), (Some(Reason::TooShort), None));
+    assert_eq!((frame.network(), frame.src(), frame.payload()), (None, None, &bytes[..13]));
+}
+
+#[test]
+fn a_wrong_checksum_is_a_defect() {
+    let mut bytes = udp(&ipv4(), b"ping");
+    *bytes.last_mut().unwrap() ^= 1;
+    let frame = Frame::parse(&bytes);
+    assert_eq!((frame.rejected(), frame.transport_checksum()), (None, Some(Verdict::Wrong)));
+    assert_eq!(frame.check(), Err(Defect::WrongChecksum));
+    assert_eq!(frame.check().unwrap_err().to_string(), "a checksum is wrong");
+}
+
+#[test]
+fn a_packet_has_no_ethernet_header() {
+    let bytes = udp(&ipv6(), b"ping");
+    let frame = Frame::parse_packet(&bytes[14..]);
+    assert_eq!((frame.check(), frame.payload()), (Ok(()), &b"ping"[..]));
+    assert_eq!((frame.ethernet(), frame.network_offset()), (None, Some(0)));
+    assert_eq!(frame.payload_offset(), 48);
+    assert_eq!(Frame::parse_packet(&[0; 40]).rejected(), Some(Reason::BadVersion));
+}
+
+#[test]
+fn a_captured_frame_is_cut() {
+    let bytes = udp(&ipv4(), b"ping");
+    let frame = Frame::parse_captured(&bytes[..44], bytes.len());
+    assert_eq!((frame.rejected(), frame.transport()), (None, Some(Transport::Udp)));
+    assert_eq!(frame.transport_checksum(), Some(Verdict::ChecksumCut));
+    assert_eq!((frame.payload(), frame.payload_len()), (&b"pi"[..], 4));
+
+    let frame = Frame::parse_captured(&bytes[..41], bytes.len());
+    assert_eq!(frame.rejected(), Some(Reason::HeaderCut));
+    assert_eq!(frame.payload(), &bytes[34..41]);
+
+    let frame = Frame::parse_captured_packet(&bytes[14..43], bytes.len() - 14);
+    assert_eq!((frame.payload(), frame.payload_len(), frame.ethernet()), (&b"p"[..], 4, None));
+
+    // More bytes than the frame has, and a length of which the library uses nothing.
+    assert_eq!(Frame::parse_captured(&bytes, 41).bytes(), &bytes[..41]);
+    assert_eq!(Frame::parse_captured(&bytes, usize::MAX).bytes(), &bytes[..]);
+}
+
+/// The address of the first byte of a slice, and the one behind its last byte.
+fn ends(bytes: &[u8]) -> (*const u8, *const u8) {
+    let range = bytes.as_ptr_range();
+    (range.start, range.end)
+}
+
+/// Looks at all of a frame, and tests that its slices are within the bytes.
+fn look_at(frame: &Frame, bytes: &[u8]) {
+    let (start, end) = ends(bytes);
+    for slice in [frame.payload(), frame.bytes(), frame.tcp_header().unwrap_or(bytes)] {
+        assert!(ends(slice).0 >= start && ends(slice).1 <= end);
+    }
+    assert!(frame.payload().len() <= frame.payload_len());
+    let options = RawOptions::new(frame.tcp_header().unwrap_or(frame.payload()));
+    for option in options.flatten().filter(|option| !option.data.is_empty()) {
+        assert!(ends(option.data).0 >= start && ends(option.data).1 <= end);
+    }
+    let _ = format!("{frame:?} {:?} {:?} {:?}", frame.check(), frame.arp(), frame.tcp_options());
+    if let Some(headers) = frame.headers() {
+        assert_eq!((Some(headers.src), Some(headers.ip)), (frame.src(), frame.ip()));
+        assert_eq!(frame.reply().unwrap().dst, headers.src);
+    }
+}
+
+#[test]
+fn any_bytes_are_parsed() {
+    let options = TcpOptions { sack_permitted: true, max_seg_size: Some(536), ..TcpOptions::default() };
+    let frames = [
+        udp(&ipv4(), b"ping"),
+        udp(&ipv6(), b"ping"),
+        tcp(&ipv4(), TcpFlags::SYN, &options),
+        tcp(&ipv6(), TcpFlags::ACK, &options),
+    ];
+    let mut random = 1u32;
+    for bytes in &frames {
+        for len in 0..=bytes.len() {
+            look_at(&Frame::parse(&bytes[..len]), &bytes[..len]);
+            look_at(&Frame::parse_packet(&bytes[14.min(len)..len]), bytes);
+            for whole in [0, len / 2, len, bytes.len(), 1 << 40, usize::MAX] {
+                look_at(&Frame::parse_captured(&bytes[..len], whole), bytes);
+                look_at(&Frame::parse_captured_packet(&bytes[14.min(len)..len], whole), bytes);
+            }
+        }
+        for _ in 0..5000 {
+            let mut changed = bytes.clone();
+            for _ in 0..2 {
+                random = random.wrapping_mul(1664525).wrapping_add(1013904223);
+                let at = (random >> 8) as usize % changed.len();
+                changed[at] = (random >> 24) as u8;
+            }
+            look_at(&Frame::parse(&changed), &changed);
+        }
+    }
+}

@@ -1,0 +1,90 @@
+//! Texts, CIDR blocks, checksums and sequence numbers.
+
+use ip_wire::*;
+use std::net::{IpAddr, SocketAddr};
+
+#[test]
+fn addresses_parse_as_by_core() {
+    for text in ["0.0.0.0", "255.255.255.255", "::", "::1", "2001:db8::1:0:0:1", "::ffff:192.0.2.1", "fe80::"]
+    {
+        let addr: IpAddr = text.parse().unwrap();
+        assert_eq!(parse_addr(text), Ok(addr));
+        assert_eq!(parse_addr(&addr.to_string()), Ok(addr));
+        assert_eq!(parse_endpoint(text), Ok(SocketAddr::new(addr, 0)));
+        let endpoint = SocketAddr::new(addr, 8080);
+        assert_eq!(parse_endpoint(&endpoint.to_string()), Ok(endpoint));
+        let block = Block::new(addr, 32).unwrap();
+        assert_eq!(block.to_string(), format!("{addr}/32"));
+        assert_eq!(block.to_string().parse(), Ok(block));
+    }
+    for text in ["", "1.2.3", "1.2.3.256", "::1%lo", "1::2::3", "1.2.3.4 ", "1.2.3.4\0"] {
+        assert_eq!(parse_addr(text), Err(ParseError));
+        assert_eq!(text.parse::<Block>(), Err(ParseError));
+    }
+    assert_eq!(parse_endpoint("1.2.3.4:65536"), Err(ParseError));
+    assert_eq!(ParseError.to_string(), "the text does not parse");
+}
+
+#[test]
+fn blocks_contain() {
+    let block: Block = "192.0.2.77/24".parse().unwrap();
+    assert_eq!((block.addr(), block.prefix_len()), ([192, 0, 2, 77].into(), 24));
+    assert!(block.contains([192, 0, 2, 255].into()));
+    assert!(!block.contains([192, 0, 3, 0].into()));
+    assert!(!Block::new([0; 16].into(), 0).unwrap().contains([192, 0, 2, 1].into()));
+    assert_eq!(Block::try_from(([1, 2, 3, 4].into(), 33)), Err(Error::BadPrefix));
+    assert_eq!(Block::new([0; 16].into(), 129), Err(Error::BadPrefix));
+    assert_eq!("10.0.0.0/33".parse::<Block>(), Err(ParseError));
+    assert_eq!("10.0.0.0/".parse::<Block>(), Err(ParseError));
+}
+
+#[test]
+fn unicast_is_neither_of_three() {
+    for (text, expected) in
+        [("192.0.2.1", true), ("224.0.0.1", false), ("255.255.255.255", false), ("::", false)]
+    {
+        assert_eq!(is_unicast(text.parse().unwrap()), expected);
+    }
+}
+
+#[test]
+fn hardware_addresses_have_texts() {
+    let addr = EthernetAddr([0xab, 0xcd, 0xef, 0, 0, 1]);
+    assert_eq!("AB:cd:ef:0:00:1".parse(), Ok(addr));
+    assert_eq!(addr.to_string(), "ab-cd-ef-00-00-01");
+    assert_eq!(format!("{addr:>19}"), "  ab-cd-ef-00-00-01");
+    for text in ["ab:cd-ef:0:0:1", "ab:cd:ef:0:0", "ab:cd:ef:0:0:1:", "é"] {
+        assert_eq!(text.parse::<EthernetAddr>(), Err(ParseError));
+    }
+}
+
+#[test]
+fn checksums_are_updated() {
+    let before = [0x45, 0, 0, 0x20, 192, 0, 2, 1];
+    let after = [0x45, 0, 0, 0x54, 198, 51, 100, 9];
+    let checksum = checksum::update(!checksum::sum(&before), 0x20, 0x54);
+    let checksum = checksum::update_addr(checksum, [192, 0, 2, 1].into(), [198, 51, 100, 9].into());
+    assert_eq!(checksum, !checksum::sum(&after));
+    assert_eq!(checksum::sum(&[]), 0);
+    assert_eq!(checksum::sum(&[0x12]), 0x1200);
+    assert_eq!(checksum::update_udp(0, 1, 2), 0);
+    assert_eq!(checksum::update_udp_addr(0, [0; 16].into(), [1; 16].into()), 0);
+    assert_eq!(checksum::update_udp(1, 0, 1), 0xffff);
+}
+
+#[test]
+fn sequence_numbers_wrap() {
+    let (a, b) = (SeqNumber(u32::MAX), SeqNumber(3));
+    assert_eq!((a + 4, b - a, a - b), (b, 4, -4));
+    assert!(a.is_before(b) && !b.is_before(a) && !a.is_before(a));
+    let far = a + (1 << 31);
+    assert!(a.is_before(far) && far.is_before(a));
+    assert_eq!(far - a, i32::MIN);
+}
+
+#[test]
+fn the_library_has_this_version() {
+    assert!(cpu_supported());
+    let (major, minor, _) = version();
+    assert_eq!((major, minor), (0, 2));
+}
