@@ -1,5 +1,6 @@
 # make run        prints the frames of examples/frames.hex, or of FRAMES=file
-# make build      proves the programs and the C library, and builds them (the library in out/lib)
+# make build      proves the programs and the C library, and builds them (the library in out/lib, its man
+#                 pages in out/man)
 # make install [PREFIX=/usr/local] [DESTDIR=] [LIBDIR=PREFIX/lib]
 #                 installs the C library, its header and man pages, and ip_frames; first builds what is
 #                 not built yet, and installs nothing if a proof fails
@@ -35,6 +36,8 @@ PROGRAM := crates/ip_frames/out/ip_frames
 CALLS := crates/ip_calls/out/ip_calls
 ARCHIVE := crates/ip_wire_c/out/libip_wire_c.a
 LIBRARY := out/lib/libip_wire.a
+# The last page that c/pages writes stands for all of them.
+PAGES := out/man/man3/ip_wire.3
 FIND_SOURCES := find crates.txt crates -name out -prune -o \( -name '*.rt' -o -name '*.antt' -o -name crates.txt \)
 SOURCES := $(shell $(FIND_SOURCES) -print)
 
@@ -62,15 +65,15 @@ run:
 		exec < "$$FRAMES"; cd crates/ip_frames && rt try; \
 	fi
 
-build: $(PROGRAM) $(CALLS) $(LIBRARY)
+build: $(PROGRAM) $(CALLS) $(LIBRARY) $(PAGES)
 	@echo $(PROGRAM)
 	@echo $(CALLS)
 	@echo $(LIBRARY)
 
-install: $(PROGRAM) $(LIBRARY)
+install: $(PROGRAM) $(LIBRARY) $(PAGES)
 	@c/install install
 
-uninstall:
+uninstall: $(PAGES)
 	@c/install uninstall
 
 quick check test: ready
@@ -112,7 +115,11 @@ $(PROGRAM) $(CALLS) $(ARCHIVE): $(SOURCES)
 	@cd $(@D)/.. && ../../tests/progress.py ../../out/$(@F).log rt $(COMMAND)
 	@touch $@
 
+$(PAGES): c/pages c/ip_wire.h man/ip_wire.3
+	@$(CAN_WRITE)
+	@c/pages $(@D)
+
 # The shared library is beside the static one.
-$(LIBRARY): $(ARCHIVE) c/link c/version c/cpu.c c/ip_wire.h c/ip_wire.map
+$(LIBRARY): $(ARCHIVE) c/link c/version c/cpu.c c/names.c c/ip_wire.h c/ip_wire.map
 	@$(CAN_WRITE)
 	@c/link $(ARCHIVE) $(@D)

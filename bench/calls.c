@@ -46,8 +46,8 @@ static struct library load(const char *path, int has_texts)
     PACKET_CALLS(LOAD)
     if (has_texts) {
         TEXT_CALLS(LOAD)
-        *(void **)&library.ipv4_read_by_core = symbol(handle, path, "core_ipv4_read");
-        *(void **)&library.ipv6_read_by_core = symbol(handle, path, "core_ipv6_read");
+        *(void **)&library.ipv4_parsed_by_core = symbol(handle, path, "core_parse_ipv4");
+        *(void **)&library.ipv6_parsed_by_core = symbol(handle, path, "core_parse_ipv6");
     }
     return library;
 }
@@ -163,7 +163,7 @@ static int do_nothing(const struct lk_block *of, const struct lk_addr *addr)
 
 static void run_nothing(void)
 {
-    static const struct library nothing = {.block_contains = do_nothing};
+    static const struct library nothing = {.contains = do_nothing};
     static const struct row row = {.name = "a null call", .prepare = prepare_bytes, .call = call_contains_ipv4};
     run(&row, (libraries){&nothing});
 }
@@ -195,14 +195,14 @@ static void run_text(const char *what, const char *name, const char *by, const c
     run(&(struct row){.name = full, .prepare = prepare_text, .call = call, .size = strlen(text), .text = text}, all);
 }
 
-/* Each text read, and what it is read as printed. */
+/* Each text parsed, and its value printed. */
 static void run_texts(const libraries all)
 {
     run_nothing();
     for (size_t i = 0; i < COUNT(text_rows); i++) {
         const char *text = text_rows[i].text, *name = text_rows[i].name;
-        run_text("read", name, "", text, text_rows[i].read, all);
-        run_text("read", name, ", by core::net", text, text_rows[i].read_by_core, all);
+        run_text("parse", name, "", text, text_rows[i].parse, all);
+        run_text("parse", name, ", by core::net", text, text_rows[i].parse_by_core, all);
         run_text("print", name, "", text, text_rows[i].print, all);
     }
 }
@@ -213,8 +213,8 @@ int main(int argc, char **argv)
     static const struct library ours = {
         PACKET_CALLS(OWN)
         TEXT_CALLS(OWN)
-        .ipv4_read_by_core = lk_addr_read,
-        .ipv6_read_by_core = lk_addr_read,
+        .ipv4_parsed_by_core = lk_parse_addr,
+        .ipv6_parsed_by_core = lk_parse_addr,
     };
     struct library floor, reference;
     libraries all = {[OURS] = &ours, [FLOOR] = &floor}, of_texts = {[OURS] = &ours};

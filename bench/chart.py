@@ -12,7 +12,7 @@ ROWS = [
     ("emit frame TCP/IPv6 SYN", 0),
     ("rebuild UDP/IPv6", 64),
     ("rebuild TCP/IPv4 data", 64),
-    ("read IPv6 full", 38),
+    ("parse IPv6 full", 38),
     ("print IPv6 full", 38),
 ]
 SERIES = [("ours", "ip_wire", "#0b6e99"), ("reference", "smoltcp", "#b8bec4"), ("floor", "C by hand", "#e0a030")]

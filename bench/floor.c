@@ -1,11 +1,11 @@
 /* The calls of c/ip_wire.h on packets, by hand: straight code with all checks that they make, to see how far the
  * machine goes. bench/bench.py builds it as a shared library, for the processors that the library needs. */
-#include "floor_read.h"
+#include "floor_failures.h"
 
 uint16_t lk_checksum(const uint8_t *ptr, size_t len)
 {
     if (len >= LONG)
-        return swap_16(fold(total_of_many(ptr, len)));
+        return len > LK_MAX_LEN ? 0 : swap_16(fold(total_of_many(ptr, len)));
     if (len != 20)
         return swap_16(fold(total(ptr, len)));
     return swap_16(fold(total_of_20(ptr)));
@@ -19,15 +19,10 @@ INLINE uint64_t endpoints_total(const struct lk_addr *src, const struct lk_addr 
     return ipv6_total(src->octets, dst->octets);
 }
 
-INLINE int is_one_version(const struct lk_addr *src, const struct lk_addr *dst)
-{
-    return src->version == dst->version && (src->version == 4 || src->version == 6);
-}
-
 ptrdiff_t lk_emit_ethernet(const struct lk_ethernet *header, uint8_t *out, size_t cap)
 {
-    if (cap < ETHERNET_LEN)
-        return LK_FAILED;
+    if (!reaches(cap, ETHERNET_LEN))
+        return LK_NO_ROOM;
     memcpy(out, header->dst, 6);
     memcpy(out + 6, header->src, 6);
     store_16(out + 12, swap_16(header->type));
@@ -37,8 +32,8 @@ ptrdiff_t lk_emit_ethernet(const struct lk_ethernet *header, uint8_t *out, size_
 ptrdiff_t lk_emit_arp(const struct lk_arp *header, const struct lk_addr *src, const struct lk_addr *dst, uint8_t *out,
                       size_t cap)
 {
-    if (cap < ARP_LEN || src->version != 4 || dst->version != 4)
-        return LK_FAILED;
+    if (!reaches(cap, ARP_LEN) || src->version != 4 || dst->version != 4)
+        return arp_failure(src, dst);
     memcpy(out, ethernet_ipv4, 6);
     store_16(out + 6, swap_16(header->operation));
     memcpy(out + 8, header->src_hardware, 6);
@@ -73,20 +68,6 @@ INLINE void write_ipv6(const struct lk_ip *ip, const uint8_t *src, const uint8_t
     memcpy(out + 24, dst, 16);
 }
 
-/* Whether the header can have these fields: an IPv6 header has none of a fragment. */
-INLINE int fits(const struct lk_ip *ip, uint16_t version)
-{
-    if (ip->dscp > 63 || ip->ecn > 3)
-        return 0;
-    if (version == 4)
-        return ip->ident <= 0xffff && ip->fragment_offset % 8 == 0;
-    return ip->flow_label <= 0xfffff && !(ip->ident | ip->fragment_offset | ip->more_fragments);
-}
-
-INLINE size_t ip_len(uint16_t version) { return version == 4 ? IPV4_LEN : IPV6_LEN; }
-
-INLINE size_t most_payload(uint16_t version) { return version == 4 ? 65535 - IPV4_LEN : 65535; }
-
 INLINE void write_ip(const struct lk_ip *ip, const struct lk_addr *src, const struct lk_addr *dst, uint8_t protocol,
                      size_t payload_len, int computed, uint8_t *out)
 {
@@ -100,8 +81,8 @@ ptrdiff_t lk_emit_ip(const struct lk_ip *header, const struct lk_addr *src, cons
                      size_t payload_len, int computed, uint8_t *out, size_t cap)
 {
     if (!is_one_version(src, dst) || !fits(header, src->version) || payload_len > most_payload(src->version)
-        || cap < ip_len(src->version))
-        return LK_FAILED;
+        || !reaches(cap, ip_len(src->version)))
+        return ip_failure(header, src, dst, payload_len);
     write_ip(header, src, dst, header->protocol, payload_len, computed, out);
     return (ptrdiff_t)ip_len(src->version);
 }
@@ -123,39 +104,18 @@ INLINE void write_udp(uint32_t both, uint64_t addresses, size_t len, uint64_t of
 ptrdiff_t lk_emit_udp(const struct lk_endpoint *src, const struct lk_endpoint *dst, const uint8_t *ptr, size_t len,
                       int computed, uint8_t *out, size_t cap)
 {
-    if (!is_one_version(&src->addr, &dst->addr) || len > 65535 - UDP_LEN || cap < UDP_LEN + len)
-        return LK_FAILED;
+    if (!is_one_version(&src->addr, &dst->addr) || !dst->port || len > 65535 - UDP_LEN || !reaches(cap, UDP_LEN + len))
+        return udp_failure(src, dst, len);
     uint64_t of_payload = computed ? total(ptr, len) : 0;
     memcpy(out + UDP_LEN, ptr, len);
     write_udp(ports(src->port, dst->port), endpoints_total(&src->addr, &dst->addr), len, of_payload, computed, out);
     return (ptrdiff_t)(UDP_LEN + len);
 }
 
-INLINE size_t tcp_len(const struct lk_tcp_options *options)
-{
-    size_t len = TCP_LEN;
-    if (options->has_max_seg_size)
-        len += 4;
-    if (options->has_window_scale)
-        len += 3;
-    if (options->sack_permitted)
-        len += 2;
-    if (options->sack_range_count)
-        len += 2 + 8 * (size_t)options->sack_range_count;
-    if (options->has_timestamp)
-        len += 10;
-    return (len + 3) / 4 * 4;
-}
-
-INLINE int fits_tcp(const struct lk_tcp *tcp, const struct lk_tcp_options *options)
-{
-    return options->sack_range_count <= 4 && tcp_len(options) <= MOST_TCP_LEN && !has_two_controls(tcp->flags);
-}
-
 ptrdiff_t lk_tcp_header_len(const struct lk_tcp_options *options)
 {
     if (options->sack_range_count > 4 || tcp_len(options) > MOST_TCP_LEN)
-        return LK_FAILED;
+        return LK_OPTIONS_TOO_LONG;
     return (ptrdiff_t)tcp_len(options);
 }
 
@@ -221,9 +181,9 @@ ptrdiff_t lk_emit_tcp(const struct lk_tcp *header, const struct lk_tcp_options *
                       const struct lk_endpoint *dst, const uint8_t *ptr, size_t len, int computed, uint8_t *out, size_t cap)
 {
     size_t header_len = tcp_len(options);
-    if (!is_one_version(&src->addr, &dst->addr) || !fits_tcp(header, options) || len > 65535 - header_len
-        || cap < header_len + len)
-        return LK_FAILED;
+    if (!is_one_version(&src->addr, &dst->addr) || !src->port || !dst->port || !fits_tcp(header, options)
+        || len > 65535 - header_len || !reaches(cap, header_len + len))
+        return tcp_failure(header, options, src, dst, len);
     memcpy(out + header_len, ptr, len);
     write_options(options, out + TCP_LEN, out + header_len);
     uint64_t of_rest = computed ? total(out + TCP_LEN, header_len - TCP_LEN + len) : 0;
@@ -246,11 +206,10 @@ INLINE void write_front(const struct lk_frame *headers, uint8_t protocol, size_t
 INLINE size_t transport_at(const struct lk_frame *headers, size_t header_len, size_t len, size_t cap)
 {
     uint16_t version = headers->src.addr.version;
-    if (!is_one_version(&headers->src.addr, &headers->dst.addr) || !fits(&headers->ip, version)
-        || headers->ip.fragment_offset || headers->ip.more_fragments)
+    if (!is_one_version(&headers->src.addr, &headers->dst.addr) || !fits_whole(&headers->ip, version))
         return 0;
     size_t at = ETHERNET_LEN + ip_len(version);
-    if (len > most_payload(version) - header_len || cap < at + header_len + len)
+    if (len > most_payload(version) - header_len || !reaches(cap, at + header_len + len))
         return 0;
     return at;
 }
@@ -258,8 +217,8 @@ INLINE size_t transport_at(const struct lk_frame *headers, size_t header_len, si
 INLINE ptrdiff_t write_udp_frame(const struct lk_frame *headers, const uint8_t *ptr, size_t len, uint8_t *out, size_t cap)
 {
     size_t at = transport_at(headers, UDP_LEN, len, cap);
-    if (!at)
-        return LK_FAILED;
+    if (!at || !headers->dst.port)
+        return udp_frame_failure(headers, len);
     uint64_t of_payload = total(ptr ? ptr : out + at + UDP_LEN, len);
     if (ptr)
         memcpy(out + at + UDP_LEN, ptr, len);
@@ -283,10 +242,10 @@ INLINE ptrdiff_t write_tcp_frame(const struct lk_frame *headers, const struct lk
                                  size_t len, uint8_t *out, size_t cap)
 {
     if (!fits_tcp(&headers->tcp, options))
-        return LK_FAILED;
+        return tcp_frame_failure(headers, options, len);
     size_t header_len = tcp_len(options), at = transport_at(headers, header_len, len, cap);
-    if (!at)
-        return LK_FAILED;
+    if (!at || !headers->src.port || !headers->dst.port)
+        return tcp_frame_failure(headers, options, len);
     if (ptr)
         memcpy(out + at + header_len, ptr, len);
     write_options(options, out + at + TCP_LEN, out + at + header_len);
@@ -311,16 +270,16 @@ ptrdiff_t lk_wrap_tcp_frame(const struct lk_frame *headers, const struct lk_tcp_
 
 ptrdiff_t lk_emit_arp_frame(const struct lk_frame *headers, uint8_t *out, size_t cap)
 {
-    if (cap < ETHERNET_LEN + ARP_LEN
+    if (!reaches(cap, ETHERNET_LEN + ARP_LEN)
         || lk_emit_arp(&headers->arp, &headers->src.addr, &headers->dst.addr, out + ETHERNET_LEN, ARP_LEN) != ARP_LEN)
-        return LK_FAILED;
+        return arp_failure(&headers->src.addr, &headers->dst.addr);
     memcpy(out, headers->ethernet.dst, 6);
     memcpy(out + 6, headers->ethernet.src, 6);
     store_16(out + 12, swap_16(TYPE_ARP));
     return ETHERNET_LEN + ARP_LEN;
 }
 
-int lk_block_contains(const struct lk_block *block, const struct lk_addr *addr)
+int lk_contains(const struct lk_block *block, const struct lk_addr *addr)
 {
     uint16_t prefix_len = block->prefix_len;
     if (block->addr.version != addr->version)
@@ -429,8 +388,10 @@ INLINE size_t rebuild_ipv6(const uint8_t *ptr, size_t len, uint8_t *out, size_t 
 
 ptrdiff_t lk_rebuild(const uint8_t *ptr, size_t len, uint8_t *out, size_t cap)
 {
-    if (len < ETHERNET_LEN || cap < ETHERNET_LEN)
-        return LK_FAILED;
+    if (!reaches(len, ETHERNET_LEN))
+        return LK_NO_HEADER;
+    if (!reaches(cap, ETHERNET_LEN))
+        return LK_NO_ROOM;
     const uint8_t *payload = ptr + ETHERNET_LEN;
     uint16_t type = swap_16(load_16(ptr + 12));
     size_t end;
@@ -442,7 +403,7 @@ ptrdiff_t lk_rebuild(const uint8_t *ptr, size_t len, uint8_t *out, size_t cap)
     else
         end = copy(payload, type == TYPE_ARP && is_arp(payload, len) ? ARP_LEN : len, out, cap, ETHERNET_LEN);
     if (!end)
-        return LK_FAILED;
+        return LK_NO_ROOM;
     memcpy(out, ptr, ETHERNET_LEN);
     return (ptrdiff_t)end;
 }

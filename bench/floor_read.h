@@ -10,6 +10,9 @@ enum { OPTION_END, OPTION_NONE, OPTION_SIZE, OPTION_SCALE, OPTION_PERMITTED, OPT
 
 static const uint8_t ethernet_ipv4[8] = {0, 1, 8, 0, 6, 4};
 
+/* Whether a length is at least that many octets; one above LK_MAX_LEN is none. */
+INLINE int reaches(size_t len, size_t least) { return len - least <= LK_MAX_LEN - least; }
+
 /* An IP packet that was parsed. Its payload is what the headers behind it are parsed from. */
 struct packet {
     const uint8_t *header;
@@ -204,7 +207,7 @@ INLINE int read_options(const uint8_t *ptr, const uint8_t *end, struct lk_tcp_op
 int lk_read_tcp_options(const uint8_t *ptr, size_t len, struct lk_tcp_options *options)
 {
     struct lk_tcp_options read;
-    if (len < TCP_LEN)
+    if (!reaches(len, TCP_LEN))
         return 0;
     size_t header_len = ptr[12] / 16 * 4;
     if (header_len < TCP_LEN || len < header_len || !read_options(ptr + TCP_LEN, ptr + header_len, &read))
@@ -220,6 +223,14 @@ INLINE void follow(struct lk_frame *frame, size_t header_len, size_t payload_len
     frame->payload_len = payload_len;
 }
 
+/* The header whose fields are stored is rejected. */
+COLD int reject_transport(struct lk_frame *frame, int reason)
+{
+    frame->rejected = frame->transport;
+    frame->transport = LK_NO_TRANSPORT;
+    return reason;
+}
+
 INLINE int store_udp(const struct packet *packet, struct lk_frame *frame)
 {
     size_t len = 0;
@@ -231,10 +242,11 @@ INLINE int store_udp(const struct packet *packet, struct lk_frame *frame)
     frame->src.port = swap_16(load_16(packet->payload));
     frame->dst.port = swap_16(load_16(packet->payload + 2));
     if (reason == LK_BAD_LENGTH)
-        return reason;
+        return reject_transport(frame, reason);
     frame->transport_checksum = udp_verdict(packet, len);
-    if (reason == LK_READ)
-        follow(frame, UDP_LEN, len - UDP_LEN);
+    if (reason != LK_READ)
+        return reject_transport(frame, reason);
+    follow(frame, UDP_LEN, len - UDP_LEN);
     return reason;
 }
 
@@ -258,8 +270,9 @@ INLINE int store_tcp(const struct packet *packet, struct lk_frame *frame)
         .header_len = (uint8_t)len,
     };
     frame->transport_checksum = verdict(packet, packet->len, 16);
-    if (reason == LK_READ)
-        follow(frame, len, packet->len - len);
+    if (reason != LK_READ)
+        return reject_transport(frame, reason);
+    follow(frame, len, packet->len - len);
     return reason;
 }
 
@@ -354,11 +367,9 @@ INLINE int store_arp(const uint8_t *ptr, size_t len, struct lk_frame *frame)
     return LK_READ;
 }
 
-INLINE int store_network(uint16_t type, const uint8_t *ptr, size_t len, struct lk_frame *frame)
+INLINE int store_ip(uint16_t type, const uint8_t *ptr, size_t len, struct lk_frame *frame)
 {
     switch (type) {
-    case TYPE_ARP:
-        return store_arp(ptr, len, frame);
     case TYPE_IPV4:
         return store_ipv4(ptr, len, frame);
     case TYPE_IPV6:
@@ -388,9 +399,10 @@ INLINE void store_ethernet(const uint8_t *ptr, struct lk_frame *frame)
 int lk_read_frame(const uint8_t *ptr, size_t len, struct lk_frame *frame)
 {
     clear(frame);
-    frame->payload_len = len;
-    if (len < ETHERNET_LEN)
+    if (!reaches(len, ETHERNET_LEN)) {
+        frame->payload_len = reaches(len, 0) ? len : 0;
         return frame->reason = LK_TOO_SHORT;
+    }
     uint16_t type = swap_16(load_16(ptr + 12));
     if (len >= 16) {
         store_ethernet(ptr, frame);
@@ -400,5 +412,7 @@ int lk_read_frame(const uint8_t *ptr, size_t len, struct lk_frame *frame)
         frame->ethernet.type = type;
     }
     follow(frame, ETHERNET_LEN, len - ETHERNET_LEN);
-    return frame->reason = (uint8_t)store_network(type, ptr + ETHERNET_LEN, len - ETHERNET_LEN, frame);
+    if (type == TYPE_ARP) /* apart, so that no registers are saved for it */
+        return frame->reason = (uint8_t)store_arp(ptr + ETHERNET_LEN, len - ETHERNET_LEN, frame);
+    return frame->reason = (uint8_t)store_ip(type, ptr + ETHERNET_LEN, len - ETHERNET_LEN, frame);
 }

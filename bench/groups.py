@@ -13,7 +13,7 @@ GROUPS = [
     ("emit a whole frame", r"emit frame .*", 0.90, 0.70),
     ("rebuild", r"rebuild .*", 0.80, 0.60),
     ("an address in a block", r".*contains.*", None, None),
-    ("read texts", r"read .*", None, None),
+    ("parse texts", r"parse .*", None, None),
     ("print texts", r"print .*", None, None),
 ]
 

@@ -13,15 +13,15 @@ enum {
 /* The calls of a library: on packets, of which the floor has all, and of texts. */
 #define PACKET_CALLS(X)                                                                                     \
     X(checksum) X(read_frame) X(read_tcp_options) X(rebuild) X(emit_arp) X(emit_ip) X(emit_udp) X(emit_tcp) \
-    X(emit_arp_frame) X(emit_udp_frame) X(emit_tcp_frame) X(block_contains)
-#define TEXT_CALLS(X) X(addr_read) X(block_read) X(addr_print) X(block_print) X(endpoint_print)
+    X(emit_arp_frame) X(emit_udp_frame) X(emit_tcp_frame) X(contains)
+#define TEXT_CALLS(X) X(parse_addr) X(parse_block) X(print_addr) X(print_block) X(print_endpoint)
 #define CALL(name) __typeof__(lk_##name) *name;
 
 struct library {
     PACKET_CALLS(CALL)
     TEXT_CALLS(CALL)
-    __typeof__(lk_addr_read) *ipv4_read_by_core; /* ours beside Rust's core::net */
-    __typeof__(lk_addr_read) *ipv6_read_by_core;
+    __typeof__(lk_parse_addr) *ipv4_parsed_by_core; /* ours beside Rust's core::net */
+    __typeof__(lk_parse_addr) *ipv6_parsed_by_core;
 };
 
 /* The TCP headers by their options. */
@@ -205,18 +205,18 @@ static void prepare_texts(const struct row *row)
     size_t end = 0;
     prepare_addresses(row);
     for (size_t i = 0; i < ADDRESSES; i++) {
-        end += (size_t)lk_addr_print(&addresses[i], texts + end, sizeof texts - end);
+        end += (size_t)lk_print_addr(&addresses[i], texts + end, sizeof texts - end);
         text_ends[i] = end;
     }
 }
 
-/* What a text is read as, to be printed: an address with a port, or a block. */
+/* What a text is parsed as, to be printed: an address with a port, or a block. */
 static struct lk_endpoint endpoint;
 static struct lk_block block;
 
 static void prepare_text(const struct row *row)
 {
-    lk_addr_read(row->text, row->size, &endpoint.addr);
-    lk_block_read(row->text, row->size, &block);
+    lk_parse_addr(row->text, row->size, &endpoint.addr);
+    lk_parse_block(row->text, row->size, &block);
     endpoint.port = 8080;
 }

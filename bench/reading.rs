@@ -1,10 +1,10 @@
 //! `lk_read_frame` and `lk_read_tcp_options` over smoltcp 0.14. smoltcp does not say why it rejects a
-//! header, so that the reason is always `LK_BAD_LENGTH`.
+//! header, so that the reason is always `LK_BAD_LENGTH`. Of four SACK ranges it keeps three.
 
+use crate::input;
 use crate::structs::*;
 use smoltcp::phy::ChecksumCapabilities;
 use smoltcp::wire::*;
-use std::slice::from_raw_parts;
 
 const READ: u8 = 0;
 const REJECTED: u8 = 3;
@@ -119,7 +119,18 @@ impl Frame {
         self.ip.ecn = packet.traffic_class() & 3;
         self.ip.flow_label = packet.flow_label();
         self.follow(packet.header_len(), packet.payload().len());
+        if header.next_header == IpProtocol::Ipv6Frag && packet.payload().len() >= 8 {
+            self.store_fragment(&Ipv6FragmentHeader::new_checked(&packet.payload()[2..])?);
+        }
         self.store_transport(&header.into(), packet.payload())
+    }
+
+    /// The payload begins at the fragment header.
+    fn store_fragment(&mut self, header: &Ipv6FragmentHeader<&[u8]>) {
+        self.ip.ident = header.ident();
+        self.ip.fragment_offset = 8 * header.frag_offset();
+        self.ip.more_fragments = header.more_frags().into();
+        self.is_fragment = (header.more_frags() || header.frag_offset() != 0).into();
     }
 
     fn store_transport(&mut self, ip: &IpRepr, bytes: &[u8]) -> Result<()> {
@@ -130,14 +141,28 @@ impl Frame {
         }
     }
 
+    /// The header is rejected until it is accepted.
+    fn store_ports(&mut self, transport: u8, src_port: u16, dst_port: u16) {
+        self.rejected = transport;
+        self.transport_offset = self.payload_offset;
+        self.src.port = src_port;
+        self.dst.port = dst_port;
+    }
+
+    fn accept(&mut self, transport: u8, header_len: usize, payload_len: usize) {
+        self.rejected = 0;
+        self.transport = transport;
+        self.follow(header_len, payload_len);
+    }
+
     fn store_udp(&mut self, ip: &IpRepr, bytes: &[u8]) -> Result<()> {
         let (src, dst) = (ip.src_addr(), ip.dst_addr());
-        let packet = UdpPacket::new_checked(bytes)?;
-        let header = UdpRepr::parse(&packet, &src, &dst, &ChecksumCapabilities::ignored())?;
-        self.transport = UDP;
-        self.transport_offset = self.payload_offset;
-        self.src.port = header.src_port;
-        self.dst.port = header.dst_port;
+        if bytes.len() < 8 {
+            return Err(Error);
+        }
+        let packet = UdpPacket::new_unchecked(bytes);
+        self.store_ports(UDP, packet.src_port(), packet.dst_port());
+        packet.check_len()?;
         self.transport_checksum = if packet.checksum() == 0 {
             if self.network == IPV4 { LEFT_OUT } else { WRONG }
         } else if packet.verify_checksum(&src, &dst) {
@@ -147,22 +172,22 @@ impl Frame {
         } else {
             WRONG
         };
-        self.follow(8, packet.payload().len());
+        UdpRepr::parse(&packet, &src, &dst, &ChecksumCapabilities::ignored())?;
+        self.accept(UDP, 8, packet.payload().len());
         Ok(())
     }
 
     fn store_tcp(&mut self, ip: &IpRepr, bytes: &[u8]) -> Result<()> {
         let (src, dst) = (ip.src_addr(), ip.dst_addr());
-        let packet = TcpPacket::new_checked(bytes)?;
-        let header = TcpRepr::parse(&packet, &src, &dst, &ChecksumCapabilities::ignored())?;
-        self.transport = TCP;
-        self.transport_offset = self.payload_offset;
-        self.src.port = header.src_port;
-        self.dst.port = header.dst_port;
+        if bytes.len() < 20 {
+            return Err(Error);
+        }
+        let packet = TcpPacket::new_unchecked(bytes);
+        self.store_ports(TCP, packet.src_port(), packet.dst_port());
         self.tcp = Tcp {
-            seq_number: header.seq_number.0 as u32,
+            seq_number: packet.seq_number().0 as u32,
             ack_number: packet.ack_number().0 as u32,
-            window_len: header.window_len,
+            window_len: packet.window_len(),
             urgent_at: packet.urgent_at(),
             flags: flags(&packet),
             header_len: packet.header_len(),
@@ -174,7 +199,9 @@ impl Frame {
         } else {
             WRONG
         };
-        self.follow(packet.header_len().into(), header.payload.len());
+        packet.check_len()?;
+        let header = TcpRepr::parse(&packet, &src, &dst, &ChecksumCapabilities::ignored())?;
+        self.accept(TCP, packet.header_len().into(), header.payload.len());
         Ok(())
     }
 }
@@ -194,8 +221,9 @@ fn flags(packet: &TcpPacket<&[u8]>) -> u8 {
 #[unsafe(no_mangle)]
 pub unsafe extern "C" fn lk_read_frame(ptr: *const u8, len: usize, frame: *mut Frame) -> i32 {
     let frame = unsafe { &mut *frame };
-    *frame = Frame::nothing(len);
-    let read = frame.store(unsafe { from_raw_parts(ptr, len) });
+    let bytes = unsafe { input(ptr, len) };
+    *frame = Frame::nothing(bytes.len());
+    let read = frame.store(bytes);
     frame.reason = if read.is_ok() { READ } else { REJECTED };
     frame.reason.into()
 }
@@ -241,7 +269,7 @@ pub unsafe extern "C" fn lk_read_tcp_options(
     len: usize,
     stored: *mut TcpOptions,
 ) -> i32 {
-    match options(unsafe { from_raw_parts(ptr, len) }) {
+    match options(unsafe { input(ptr, len) }) {
         Ok(found) => {
             unsafe { *stored = found };
             1

@@ -5,7 +5,9 @@
 //! IPv6, UDP and TCP.
 //!
 //! smoltcp's values have no fields for DSCP, ECN, identifications, flow labels, the urgent pointer, URG, ECE and
-//! CWR. Calls that are to write these fail. IPv4 headers have the flag DF.
+//! CWR, and none for acknowledgement numbers and SACK ranges without ACK. Calls that are to write these fail. IPv4
+//! headers have the flag DF. smoltcp does not say why a call fails, so
+//! that the failure is always `LK_NO_ROOM`.
 
 mod reading;
 mod structs;
@@ -16,7 +18,29 @@ use smoltcp::wire::*;
 use std::slice::{from_raw_parts, from_raw_parts_mut};
 use structs::*;
 
-const FAILED: isize = -(1 << 40);
+const NO_ROOM: isize = -(11 << 40);
+const MAX_LEN: usize = (1 << 40) - 1;
+
+/// An input; one that is too long counts as empty.
+unsafe fn input<'a>(ptr: *const u8, len: usize) -> &'a [u8] {
+    if len == 0 || len > MAX_LEN { &[] } else { unsafe { from_raw_parts(ptr, len) } }
+}
+
+/// The room of an output.
+unsafe fn output<'a>(out: *mut u8, cap: usize) -> &'a mut [u8] {
+    if cap == 0 || cap > MAX_LEN { &mut [] } else { unsafe { from_raw_parts_mut(out, cap) } }
+}
+
+/// A payload and the room of an output. There is none for a payload that is too long.
+unsafe fn payload_and_room<'a>(
+    ptr: *const u8,
+    len: usize,
+    out: *mut u8,
+    cap: usize,
+) -> (&'a [u8], &'a mut [u8]) {
+    let cap = if len > MAX_LEN { 0 } else { cap };
+    unsafe { (input(ptr, len), output(out, cap)) }
+}
 
 fn capabilities(computed: i32) -> ChecksumCapabilities {
     if computed == 0 {
@@ -27,14 +51,14 @@ fn capabilities(computed: i32) -> ChecksumCapabilities {
 }
 
 fn written(len: Result<usize>) -> isize {
-    len.map_or(FAILED, |len| len as isize)
+    len.map_or(NO_ROOM, |len| len as isize)
 }
 
 /// # Safety
 /// As `c/ip_wire.h` asks, here and below.
 #[unsafe(no_mangle)]
 pub unsafe extern "C" fn lk_checksum(ptr: *const u8, len: usize) -> u16 {
-    checksum::data(unsafe { from_raw_parts(ptr, len) })
+    checksum::data(unsafe { input(ptr, len) })
 }
 
 /// The address of a struct, if it has a version.
@@ -44,6 +68,11 @@ fn address(addr: &Addr) -> Result<IpAddress> {
         (6, octets) => Ok(IpAddress::Ipv6(octets.into())),
         _ => Err(Error),
     }
+}
+
+/// Two addresses of one version.
+fn pair(src: &Addr, dst: &Addr) -> Result<(IpAddress, IpAddress)> {
+    if src.version == dst.version { Ok((address(src)?, address(dst)?)) } else { Err(Error) }
 }
 
 fn ipv4(addr: &Addr) -> Result<Ipv4Address> {
@@ -74,15 +103,15 @@ pub unsafe extern "C" fn lk_emit_arp(
     out: *mut u8,
     cap: usize,
 ) -> isize {
-    written(emit_arp(header, src, dst, unsafe { from_raw_parts_mut(out, cap) }))
+    written(emit_arp(header, src, dst, unsafe { output(out, cap) }))
 }
 
 /// The IP header of a struct, if smoltcp has its values.
 fn ip_header(ip: &Ip, src: &Addr, dst: &Addr, protocol: u8, payload_len: usize) -> Result<IpRepr> {
-    let (src, dst) = (address(src)?, address(dst)?);
+    let (src, dst) = pair(src, dst)?;
     let most = if src.version() == IpVersion::Ipv4 { 65_515 } else { 65_535 };
     let odd = ip.ident | ip.flow_label | u32::from(ip.fragment_offset) | u32::from(ip.more_fragments);
-    if odd != 0 || ip.dscp | ip.ecn != 0 || src.version() != dst.version() || payload_len > most {
+    if odd != 0 || ip.dscp | ip.ecn != 0 || ip.hop_limit == 0 || payload_len > most {
         return Err(Error);
     }
     Ok(IpRepr::new(src, dst, protocol.into(), payload_len, ip.hop_limit))
@@ -98,7 +127,7 @@ pub unsafe extern "C" fn lk_emit_ip(
     out: *mut u8,
     cap: usize,
 ) -> isize {
-    let out = unsafe { from_raw_parts_mut(out, cap) };
+    let out = unsafe { output(out, cap) };
     written(ip_header(header, src, dst, header.protocol, payload_len).and_then(|ip| {
         let room = out.get_mut(..ip.header_len()).ok_or(Error)?;
         ip.emit(room, &capabilities(computed));
@@ -115,7 +144,7 @@ fn emit_datagram(
     out: &mut [u8],
 ) -> Result<usize> {
     let len = header.header_len() + payload.len();
-    if payload.len() > 65_527 || out.len() < len {
+    if header.dst_port == 0 || payload.len() > 65_527 || out.len() < len {
         return Err(Error);
     }
     header.emit(
@@ -139,10 +168,13 @@ pub unsafe extern "C" fn lk_emit_udp(
     out: *mut u8,
     cap: usize,
 ) -> isize {
-    let (payload, out) = unsafe { (from_raw_parts(ptr, len), from_raw_parts_mut(out, cap)) };
+    let (payload, out) = unsafe { payload_and_room(ptr, len, out, cap) };
     let header = UdpRepr { src_port: src.port, dst_port: dst.port };
-    let (Ok(src), Ok(dst)) = (address(&src.addr), address(&dst.addr)) else { return FAILED };
-    written(emit_datagram(header, src, dst, payload, &capabilities(computed), out))
+    let caps = capabilities(computed);
+    written(
+        pair(&src.addr, &dst.addr)
+            .and_then(|(src, dst)| emit_datagram(header, src, dst, payload, &caps, out)),
+    )
 }
 
 /// The segment of a struct, if smoltcp has its values.
@@ -152,6 +184,10 @@ fn segment<'a>(
     ports: (u16, u16),
     payload: &'a [u8],
 ) -> Result<TcpRepr<'a>> {
+    let acks = tcp.ack_number != 0 || options.sack_range_count != 0;
+    if ports.0 == 0 || ports.1 == 0 || tcp.flags & 16 == 0 && acks {
+        return Err(Error);
+    }
     let given = options.sack_ranges.get(..options.sack_range_count.into()).ok_or(Error)?;
     // smoltcp has three places.
     let mut sack_ranges = [None; 3];
@@ -191,7 +227,7 @@ fn emit_segment(
     out: &mut [u8],
 ) -> Result<usize> {
     let len = segment.buffer_len();
-    if segment.header_len() > 60 || out.len() < len {
+    if segment.header_len() > 60 || len > 65_535 || out.len() < len {
         return Err(Error);
     }
     segment.emit(&mut TcpPacket::new_unchecked(&mut out[..len]), &src_addr, &dst_addr, caps);
@@ -210,13 +246,12 @@ pub unsafe extern "C" fn lk_emit_tcp(
     out: *mut u8,
     cap: usize,
 ) -> isize {
-    let (payload, out) = unsafe { (from_raw_parts(ptr, len), from_raw_parts_mut(out, cap)) };
-    let (Ok(src_addr), Ok(dst_addr)) = (address(&src.addr), address(&dst.addr)) else { return FAILED };
+    let (payload, out) = unsafe { payload_and_room(ptr, len, out, cap) };
     let caps = capabilities(computed);
-    written(
-        segment(header, options, (src.port, dst.port), payload)
-            .and_then(|segment| emit_segment(&segment, src_addr, dst_addr, &caps, out)),
-    )
+    written(pair(&src.addr, &dst.addr).and_then(|(src_addr, dst_addr)| {
+        let segment = segment(header, options, (src.port, dst.port), payload)?;
+        emit_segment(&segment, src_addr, dst_addr, &caps, out)
+    }))
 }
 
 /// Writes the Ethernet header of a frame, and returns the rest.
@@ -237,7 +272,7 @@ fn emit_ethernet<'a>(
 
 #[unsafe(no_mangle)]
 pub unsafe extern "C" fn lk_emit_arp_frame(headers: &Frame, out: *mut u8, cap: usize) -> isize {
-    let out = unsafe { from_raw_parts_mut(out, cap) };
+    let out = unsafe { output(out, cap) };
     written(emit_ethernet(headers, EthernetProtocol::Arp, out).and_then(|rest| {
         Ok(14 + emit_arp(&headers.arp, &headers.src.addr, &headers.dst.addr, rest)?)
     }))
@@ -273,7 +308,7 @@ pub unsafe extern "C" fn lk_emit_udp_frame(
     out: *mut u8,
     cap: usize,
 ) -> isize {
-    let (payload, out) = unsafe { (from_raw_parts(ptr, len), from_raw_parts_mut(out, cap)) };
+    let (payload, out) = unsafe { payload_and_room(ptr, len, out, cap) };
     let header = UdpRepr { src_port: headers.src.port, dst_port: headers.dst.port };
     written(emit_frame(headers, 17, 8 + len, out, |src, dst, rest| {
         emit_datagram(header, src, dst, payload, &ChecksumCapabilities::default(), rest)
@@ -289,7 +324,7 @@ pub unsafe extern "C" fn lk_emit_tcp_frame(
     out: *mut u8,
     cap: usize,
 ) -> isize {
-    let (payload, out) = unsafe { (from_raw_parts(ptr, len), from_raw_parts_mut(out, cap)) };
+    let (payload, out) = unsafe { payload_and_room(ptr, len, out, cap) };
     let ports = (headers.src.port, headers.dst.port);
     written(segment(&headers.tcp, options, ports, payload).and_then(|segment| {
         emit_frame(headers, 6, segment.buffer_len(), out, |src, dst, rest| {
@@ -309,7 +344,7 @@ pub fn cidr(block: &Block) -> Result<IpCidr> {
 }
 
 #[unsafe(no_mangle)]
-pub extern "C" fn lk_block_contains(block: &Block, addr: &Addr) -> i32 {
+pub extern "C" fn lk_contains(block: &Block, addr: &Addr) -> i32 {
     let (Ok(block), Ok(addr)) = (cidr(block), address(addr)) else { return 0 };
     i32::from(block.address().version() == addr.version() && block.contains_addr(&addr))
 }
@@ -404,6 +439,6 @@ fn rebuild(frame: &[u8], out: &mut [u8]) -> Result<usize> {
 
 #[unsafe(no_mangle)]
 pub unsafe extern "C" fn lk_rebuild(ptr: *const u8, len: usize, out: *mut u8, cap: usize) -> isize {
-    let frame = unsafe { from_raw_parts(ptr, len) };
-    written(rebuild(frame, unsafe { from_raw_parts_mut(out, cap) }))
+    let frame = unsafe { input(ptr, len) };
+    written(rebuild(frame, unsafe { output(out, cap) }))
 }

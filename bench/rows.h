@@ -98,37 +98,37 @@ static uint64_t call_contains_ipv4(const struct library *library, const struct r
 {
     static const struct lk_block of_ipv4 = {IPV4(0), 24};
     (void)row;
-    return (uint64_t)library->block_contains(&of_ipv4, &ipv4_headers.dst.addr);
+    return (uint64_t)library->contains(&of_ipv4, &ipv4_headers.dst.addr);
 }
 
 static uint64_t call_contains_ipv6(const struct library *library, const struct row *row)
 {
     static const struct lk_block of_ipv6 = {IPV6(0xfe, 0x80, 1), 64};
     (void)row;
-    return (uint64_t)library->block_contains(&of_ipv6, &ipv6_headers.dst.addr);
+    return (uint64_t)library->contains(&of_ipv6, &ipv6_headers.dst.addr);
 }
 
 static uint64_t call_print_all(const struct library *library, const struct row *row)
 {
     size_t written = 0;
     for (size_t i = 0; i < row->size; i++)
-        written += (size_t)library->addr_print(&addresses[i], (char *)out.bytes + written, sizeof out.bytes - written);
+        written += (size_t)library->print_addr(&addresses[i], (char *)out.bytes + written, sizeof out.bytes - written);
     return written;
 }
 
-static uint64_t call_read_all(const struct library *library, const struct row *row)
+static uint64_t call_parse_all(const struct library *library, const struct row *row)
 {
     uint64_t found = 0;
     size_t begin = 0;
     for (size_t i = 0; i < row->size; i++) {
-        found += (uint64_t)library->addr_read(texts + begin, text_ends[i] - begin, &endpoint.addr);
+        found += (uint64_t)library->parse_addr(texts + begin, text_ends[i] - begin, &endpoint.addr);
         begin = text_ends[i];
     }
     return found;
 }
 
-/* A call that reads the text of a row, and one that prints what it was read as. */
-#define READ(name, value)                                                              \
+/* A call that parses the text of a row, and one that prints its value. */
+#define PARSE(name, value)                                                             \
     static uint64_t name(const struct library *library, const struct row *row)         \
     {                                                                                  \
         return (uint64_t)library->name(row->text, row->size, &value);                  \
@@ -140,13 +140,13 @@ static uint64_t call_read_all(const struct library *library, const struct row *r
         return (uint64_t)library->name(&value, (char *)out.bytes, sizeof out.bytes);          \
     }
 
-READ(addr_read, endpoint.addr)
-READ(ipv4_read_by_core, endpoint.addr)
-READ(ipv6_read_by_core, endpoint.addr)
-READ(block_read, block)
-PRINT(addr_print, endpoint.addr)
-PRINT(block_print, block)
-PRINT(endpoint_print, endpoint)
+PARSE(parse_addr, endpoint.addr)
+PARSE(ipv4_parsed_by_core, endpoint.addr)
+PARSE(ipv6_parsed_by_core, endpoint.addr)
+PARSE(parse_block, block)
+PRINT(print_addr, endpoint.addr)
+PRINT(print_block, block)
+PRINT(print_endpoint, endpoint)
 
 #define COUNT(array) (sizeof(array) / sizeof(array)[0])
 
@@ -211,31 +211,31 @@ static const struct row contains_rows[] = {
 
 static const struct row address_rows[] = {
     {"print addresses", prepare_addresses, call_print_all, .computed = 1},
-    {"read addresses", prepare_texts, call_read_all, .computed = 1},
+    {"parse addresses", prepare_texts, call_parse_all, .computed = 1},
 };
 static const size_t address_counts[] = {ADDRESSES};
 
-/* Texts of all shapes, and how each is read and printed. */
+/* Texts of all shapes, and how each is parsed and printed. */
 static const struct {
     const char *text;
     const char *name;
-    uint64_t (*read)(const struct library *, const struct row *);
-    uint64_t (*read_by_core)(const struct library *, const struct row *);
+    uint64_t (*parse)(const struct library *, const struct row *);
+    uint64_t (*parse_by_core)(const struct library *, const struct row *);
     uint64_t (*print)(const struct library *, const struct row *);
 } text_rows[] = {
-    {"1.2.3.4", "IPv4 short", addr_read, ipv4_read_by_core, addr_print},
-    {"192.168.100.200", "IPv4 long", addr_read, ipv4_read_by_core, addr_print},
-    {"::", "IPv6 ::", addr_read, ipv6_read_by_core, addr_print},
-    {"::1", "IPv6 ::1", addr_read, ipv6_read_by_core, addr_print},
-    {"2001:db8::1:0:0:1", "IPv6 elided", addr_read, ipv6_read_by_core, addr_print},
-    {"fe80::1011:1213:1415:1617", "IPv6 link-local", addr_read, ipv6_read_by_core, addr_print},
-    {"2001:db8:1234:5678:9abc:def0:1234:5678", "IPv6 full", addr_read, ipv6_read_by_core, addr_print},
-    {"2001:DB8:ABCD:EF01:2345:6789:ABCD:EF01", "IPv6 upper case", addr_read, ipv6_read_by_core, addr_print},
-    {"::ffff:192.168.1.1", "IPv6 mapped", addr_read, ipv6_read_by_core, addr_print},
-    {"192.168.1.10/24", "IPv4 block", block_read, NULL, block_print},
-    {"2001:db8:1234::/48", "IPv6 block", block_read, NULL, block_print},
-    {"192.168.1.10", "IPv4 endpoint", NULL, NULL, endpoint_print},
-    {"2001:db8::1", "IPv6 endpoint", NULL, NULL, endpoint_print},
+    {"1.2.3.4", "IPv4 short", parse_addr, ipv4_parsed_by_core, print_addr},
+    {"192.168.100.200", "IPv4 long", parse_addr, ipv4_parsed_by_core, print_addr},
+    {"::", "IPv6 ::", parse_addr, ipv6_parsed_by_core, print_addr},
+    {"::1", "IPv6 ::1", parse_addr, ipv6_parsed_by_core, print_addr},
+    {"2001:db8::1:0:0:1", "IPv6 elided", parse_addr, ipv6_parsed_by_core, print_addr},
+    {"fe80::1011:1213:1415:1617", "IPv6 link-local", parse_addr, ipv6_parsed_by_core, print_addr},
+    {"2001:db8:1234:5678:9abc:def0:1234:5678", "IPv6 full", parse_addr, ipv6_parsed_by_core, print_addr},
+    {"2001:DB8:ABCD:EF01:2345:6789:ABCD:EF01", "IPv6 upper case", parse_addr, ipv6_parsed_by_core, print_addr},
+    {"::ffff:192.168.1.1", "IPv6 mapped", parse_addr, ipv6_parsed_by_core, print_addr},
+    {"192.168.1.10/24", "IPv4 block", parse_block, NULL, print_block},
+    {"2001:db8:1234::/48", "IPv6 block", parse_block, NULL, print_block},
+    {"192.168.1.10", "IPv4 endpoint", NULL, NULL, print_endpoint},
+    {"2001:db8::1", "IPv6 endpoint", NULL, NULL, print_endpoint},
 };
 
 /* TCP headers by their options: none, those of a SYN, of data, and of a duplicate acknowledgement. */

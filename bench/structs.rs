@@ -100,6 +100,7 @@ pub struct Frame {
     pub reason: u8,
     pub network: u8,
     pub transport: u8,
+    pub rejected: u8,
     pub is_fragment: u8,
     pub ipv4_checksum: u8,
     pub transport_checksum: u8,

@@ -1,11 +1,10 @@
-//! The calls of `c/ip_wire.h` that read and print texts, over smoltcp 0.14 and Rust's `core::net`.
+//! The calls of `c/ip_wire.h` that parse and print texts, over smoltcp 0.14 and Rust's `core::net`.
 
 use crate::reading::addr;
 use crate::structs::*;
-use crate::{FAILED, address, cidr};
+use crate::{NO_ROOM, address, cidr, input, output};
 use smoltcp::wire::*;
 use std::fmt::{self, Write};
-use std::slice::{from_raw_parts, from_raw_parts_mut};
 use std::str::FromStr;
 
 /// The front of a slice that has been written.
@@ -24,64 +23,69 @@ impl fmt::Write for Front<'_> {
     }
 }
 
-/// Stores what a text is read as, if it is one.
+/// Stores what a text is parsed as, if it is one.
 unsafe fn store<T: FromStr, V>(
     text: *const u8,
     len: usize,
     stored: *mut V,
     value: impl Fn(T) -> V,
 ) -> i32 {
-    let text = std::str::from_utf8(unsafe { from_raw_parts(text, len) });
+    let text = std::str::from_utf8(unsafe { input(text, len) });
     let Some(read) = text.ok().and_then(|text| text.parse().ok()) else { return 0 };
     unsafe { *stored = value(read) };
     1
 }
 
 #[unsafe(no_mangle)]
-pub unsafe extern "C" fn lk_addr_read(text: *const u8, len: usize, stored: *mut Addr) -> i32 {
+pub unsafe extern "C" fn lk_parse_addr(text: *const u8, len: usize, stored: *mut Addr) -> i32 {
     unsafe { store(text, len, stored, addr) }
 }
 
-/// The same by core::net's own readers.
+/// The same by core::net's own parsers.
 #[unsafe(no_mangle)]
-pub unsafe extern "C" fn core_ipv4_read(text: *const u8, len: usize, stored: *mut Addr) -> i32 {
+pub unsafe extern "C" fn core_parse_ipv4(text: *const u8, len: usize, stored: *mut Addr) -> i32 {
     unsafe { store(text, len, stored, |read: core::net::Ipv4Addr| addr(read.into())) }
 }
 
 #[unsafe(no_mangle)]
-pub unsafe extern "C" fn core_ipv6_read(text: *const u8, len: usize, stored: *mut Addr) -> i32 {
+pub unsafe extern "C" fn core_parse_ipv6(text: *const u8, len: usize, stored: *mut Addr) -> i32 {
     unsafe { store(text, len, stored, |read: core::net::Ipv6Addr| addr(read.into())) }
 }
 
 #[unsafe(no_mangle)]
-pub unsafe extern "C" fn lk_block_read(text: *const u8, len: usize, stored: *mut Block) -> i32 {
+pub unsafe extern "C" fn lk_parse_block(text: *const u8, len: usize, stored: *mut Block) -> i32 {
     let value = |read: IpCidr| Block { addr: addr(read.address()), prefix_len: read.prefix_len().into() };
     unsafe { store(text, len, stored, value) }
 }
 
-/// Writes the text of a value to the front of a slice.
+/// Writes the text of a value to the front of a slice, and a null behind it if there is room.
 unsafe fn print(value: Result<impl fmt::Display>, out: *mut u8, cap: usize) -> isize {
-    let slice = unsafe { from_raw_parts_mut(out, cap) };
+    let slice = unsafe { output(out, cap) };
     let mut front = Front { slice, len: 0 };
     match value.map(|value| write!(front, "{value}")) {
-        Ok(Ok(())) => front.len as isize,
-        _ => FAILED,
+        Ok(Ok(())) => {
+            if let Some(end) = front.slice.get_mut(front.len) {
+                *end = 0;
+            }
+            front.len as isize
+        }
+        _ => NO_ROOM,
     }
 }
 
 #[unsafe(no_mangle)]
-pub unsafe extern "C" fn lk_addr_print(value: &Addr, out: *mut u8, cap: usize) -> isize {
+pub unsafe extern "C" fn lk_print_addr(value: &Addr, out: *mut u8, cap: usize) -> isize {
     unsafe { print(address(value), out, cap) }
 }
 
 #[unsafe(no_mangle)]
-pub unsafe extern "C" fn lk_block_print(value: &Block, out: *mut u8, cap: usize) -> isize {
+pub unsafe extern "C" fn lk_print_block(value: &Block, out: *mut u8, cap: usize) -> isize {
     unsafe { print(cidr(value), out, cap) }
 }
 
 /// With brackets, which smoltcp doesn't print.
 #[unsafe(no_mangle)]
-pub unsafe extern "C" fn lk_endpoint_print(value: &Endpoint, out: *mut u8, cap: usize) -> isize {
+pub unsafe extern "C" fn lk_print_endpoint(value: &Endpoint, out: *mut u8, cap: usize) -> isize {
     match address(&value.addr) {
         Ok(IpAddress::Ipv6(address)) => unsafe {
             print(Ok(format_args!("[{address}]:{}", value.port)), out, cap)

@@ -18,7 +18,7 @@ static void print_bytes(const char *name, const uint8_t *ptr, ptrdiff_t len)
 static struct lk_addr read_addr(const char *text)
 {
     struct lk_addr addr;
-    if (!lk_addr_read(text, strlen(text), &addr))
+    if (!lk_parse_addr(text, strlen(text), &addr))
         printf("%s is no address\n", text), memset(&addr, 0, sizeof addr);
     return addr;
 }
@@ -26,7 +26,7 @@ static struct lk_addr read_addr(const char *text)
 static struct lk_endpoint read_endpoint(const char *text)
 {
     struct lk_endpoint endpoint;
-    if (!lk_endpoint_read(text, strlen(text), &endpoint))
+    if (!lk_parse_endpoint(text, strlen(text), &endpoint))
         printf("%s is no endpoint\n", text), memset(&endpoint, 0, sizeof endpoint);
     return endpoint;
 }
@@ -34,7 +34,7 @@ static struct lk_endpoint read_endpoint(const char *text)
 static void print_addr(const struct lk_addr *addr)
 {
     char text[39];
-    ptrdiff_t len = lk_addr_print(addr, text, sizeof text);
+    ptrdiff_t len = lk_print_addr(addr, text, sizeof text);
     if (len >= 0)
         printf("address %.*s\n", (int)len, text);
 }
@@ -43,12 +43,10 @@ static void print_addr(const struct lk_addr *addr)
 static void print_frame(const uint8_t *ptr, size_t len)
 {
     struct lk_frame frame;
-    char text[32];
     int reason = lk_read_frame(ptr, len, &frame);
-    if (reason != LK_READ) {
-        ptrdiff_t text_len = lk_reason_print(reason, text, sizeof text);
-        printf("the header at octet %zu is rejected: %.*s\n", frame.payload_offset, (int)text_len, text);
-    } else if (frame.transport != LK_NO_TRANSPORT)
+    if (reason != LK_READ)
+        printf("the header at octet %zu is rejected: %s\n", frame.payload_offset, lk_reason_name(reason));
+    else if (frame.transport != LK_NO_TRANSPORT)
         printf("%s from port %u to %u, payload at %zu, checksum right: %d\n", frame.transport == LK_TCP ? "TCP" : "UDP",
                (unsigned)frame.src.port, (unsigned)frame.dst.port, frame.payload_offset, frame.transport_checksum == LK_RIGHT);
     else
@@ -58,12 +56,12 @@ static void print_frame(const uint8_t *ptr, size_t len)
 /* Answers a frame with a UDP packet: the same payload goes back to where it came from. */
 static void answer(const uint8_t *ptr, size_t len)
 {
-    struct lk_frame frame, reply;
+    struct lk_frame frame;
     uint8_t out[80];
     if (lk_read_frame(ptr, len, &frame) != LK_READ || frame.transport != LK_UDP)
         return;
-    lk_reply(&frame, &reply);
-    print_bytes("answer", out, lk_emit_udp_frame(&reply, ptr + frame.payload_offset, frame.payload_len, out, sizeof out));
+    lk_reply(&frame);
+    print_bytes("answer", out, lk_emit_udp_frame(&frame, ptr + frame.payload_offset, frame.payload_len, out, sizeof out));
 }
 
 /* Reads texts, and prints some of them again. */
@@ -77,21 +75,21 @@ static void read_texts(void)
     char out[43];
     ptrdiff_t len;
 
-    if (lk_ethernet_read(hardware, strlen(hardware), octets)) {
-        len = lk_ethernet_print(octets, out, sizeof out);
+    if (lk_parse_ethernet(hardware, strlen(hardware), octets)) {
+        len = lk_print_ethernet(octets, out, sizeof out);
         printf("%s is %.*s\n", hardware, (int)len, out);
     }
     print_addr(&addr);
-    if (lk_addr_read(zeros, strlen(zeros), &addr)) {
-        len = lk_addr_print(&addr, out, sizeof out);
+    if (lk_parse_addr(zeros, strlen(zeros), &addr)) {
+        len = lk_print_addr(&addr, out, sizeof out);
         printf("%s is %.*s\n", zeros, (int)len, out);
     }
-    printf("%s: %d\n", zone, lk_addr_read(zone, strlen(zone), &addr));
-    if (lk_block_read(block, strlen(block), &parsed)) {
-        len = lk_block_print(&parsed, out, sizeof out);
-        printf("%.*s has 10.255.0.1: %d\n", (int)len, out, lk_block_contains(&parsed, &member));
+    printf("%s: %d\n", zone, lk_parse_addr(zone, strlen(zone), &addr));
+    if (lk_parse_block(block, strlen(block), &parsed)) {
+        len = lk_print_block(&parsed, out, sizeof out);
+        printf("%.*s has 10.255.0.1: %d\n", (int)len, out, lk_contains(&parsed, &member));
     }
-    printf("%s: %d\n", long_prefix, lk_block_read(long_prefix, strlen(long_prefix), &parsed));
+    printf("%s: %d\n", long_prefix, lk_parse_block(long_prefix, strlen(long_prefix), &parsed));
 }
 
 int main(void)
@@ -141,10 +139,10 @@ int main(void)
     print_bytes("header", out, lk_emit_ip(&ip, &client6.addr, &server6.addr, 12, 1, out, sizeof out));
     print_bytes("a payload too long:", out, lk_emit_ip(&ip, &client6.addr, &server6.addr, 65536, 1, out, sizeof out));
     print_addr(&client6.addr);
-    printf("in 192.168.0.0/16: %d\n", lk_block_contains(&site, &client.addr));
-    printf("in fe80::1/64: %d\n", lk_block_contains(&link, &server6.addr));
+    printf("in 192.168.0.0/16: %d\n", lk_contains(&site, &client.addr));
+    printf("in fe80::1/64: %d\n", lk_contains(&link, &server6.addr));
     print_addr(&mapped);
-    printf("room for 6 octets: %d\n", lk_addr_print(&client6.addr, (char *)out, 6) == LK_FAILED);
+    printf("room for 6 octets: %d\n", lk_print_addr(&client6.addr, (char *)out, 6) == LK_NO_ROOM);
 
     print_bytes("UDP over IPv4", out, lk_emit_udp(&client, &server, payload, 4, 1, out, sizeof out));
     print_bytes("UDP over IPv6", out, lk_emit_udp(&client6, &server6, payload, 4, 1, out, sizeof out));

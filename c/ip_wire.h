@@ -1,4 +1,4 @@
-/* ip_wire: Ethernet II, ARP, IPv4, IPv6, UDP and TCP packets for C and C++.
+/* ip_wire: Ethernet II, ARP, IPv4, IPv6, UDP and TCP packets for C and C++. `lk_` stands for Lerkvist.
  *
  * The library needs an x86-64-v2 processor (SSE4.2 and POPCNT). Call lk_cpu_supported() first if the
  * program may run on an older one: every other call may stop there with an illegal instruction.
@@ -7,11 +7,17 @@
  *   Calls may run in many threads at once, if none writes memory that another one uses.
  * - What a call writes must not overlap another argument.
  * - A pointer may be null only if its length or `cap` is 0.
- * - A call that writes to `out` returns the number of bytes that it wrote, from `out[0]` on, or LK_FAILED.
- *   After LK_FAILED `out` is unchanged.
- * - lk_.._is_.., lk_.._contains and lk_cpu_supported return 1 for yes and 0 for no.
+ * - A call that writes to `out` returns the number of bytes that it wrote, from `out[0]` on, or a failure,
+ *   which is negative. After a failure `out` is unchanged.
+ * - A length above LK_MAX_LEN is never used: an input of that length counts as empty, a payload as too long,
+ *   and an output as one without room.
+ * - lk_is_.., lk_contains and lk_cpu_supported return 1 for yes and 0 for no.
  * - Fields that an initializer leaves out are 0. A 0 in `version`, in a field `has_..` or in a count means
- *   that there is no such value. A 0 in any other field is written as 0. */
+ *   that there is no such value. A hop limit of 0, and a port of 0 that a receiver rejects, are failures. A 0
+ *   in any other field is written as 0.
+ *
+ * A call that does something begins with its verb: `parse` and `print` are for texts, `read` and `emit` for
+ * headers. A call that only tells something is named after it, as lk_tcp_header_len. */
 #ifndef IP_WIRE_H
 #define IP_WIRE_H
 
@@ -23,7 +29,7 @@ extern "C" {
 #endif
 
 #define LK_VERSION_MAJOR 0
-#define LK_VERSION_MINOR 1
+#define LK_VERSION_MINOR 2
 #define LK_VERSION_PATCH 0
 
 /* Returns the version of the library that is linked: major * 65536 + minor * 256 + patch. */
@@ -32,9 +38,57 @@ uint32_t lk_version(void);
 /* Whether the processor has what the library needs. This call runs on every x86-64 processor. */
 int lk_cpu_supported(void);
 
-/* The result of a call that wrote nothing. Any sum of it and lengths is negative, and as a `size_t` it is
- * longer than any packet, so the next call rejects it. */
-#define LK_FAILED (-((ptrdiff_t)1 << 40))
+/* ---- failures ---- */
+
+/* The longest input or output of a call, in octets: 2^40 - 1. */
+#define LK_MAX_LEN (((size_t)1 << 40) - 1)
+
+/* Why a call wrote nothing. If several failures apply to a call, it is the first of them in this order. Any sum
+ * of a failure and lengths is negative, and as a `size_t` it is above LK_MAX_LEN, so the next call fails too. */
+#define LK_FAILURE(number) (-(ptrdiff_t)(number) * ((ptrdiff_t)1 << 40))
+#define LK_NO_VERSION LK_FAILURE(1)       /* an address has another version than the call can write */
+#define LK_TWO_VERSIONS LK_FAILURE(2)     /* one address is IPv4, the other IPv6 */
+#define LK_BAD_PREFIX LK_FAILURE(3)       /* a prefix length above 32 for IPv4, above 128 for IPv6 */
+#define LK_NO_PORT LK_FAILURE(4)          /* a port is 0 that a receiver rejects */
+#define LK_NO_HOP_LIMIT LK_FAILURE(5)     /* the hop limit is 0 */
+#define LK_BAD_FIELD LK_FAILURE(6)        /* a field of `struct lk_ip` that this header has no place for */
+#define LK_TWO_CONTROLS LK_FAILURE(7)     /* more than one of SYN, FIN and RST */
+#define LK_OPTIONS_TOO_LONG LK_FAILURE(8) /* TCP options of more than 40 octets, or more than 4 SACK ranges */
+#define LK_PAYLOAD_TOO_LONG LK_FAILURE(9) /* the payload is longer than the length field can say */
+#define LK_NO_HEADER LK_FAILURE(10)       /* the frame to be rebuilt is shorter than an Ethernet header */
+#define LK_NO_ROOM LK_FAILURE(11)         /* the result is longer than `cap` */
+
+/* Returns the name of a failure, as "LK_NO_ROOM", or "no failure". The text is constant. */
+const char *lk_failure_name(ptrdiff_t failure);
+
+/* A buffer that is filled from front to back:
+ *
+ *     struct lk_out out = {buffer, sizeof buffer, 0, 0};
+ *     lk_append(&out, lk_emit_ethernet(&link, out.ptr, out.cap));
+ *     lk_append(&out, lk_emit_arp(&arp, &src, &dst, out.ptr, out.cap));
+ *     if (out.failure) ...
+ *
+ * After a failure there is no room left, so that nothing more is written. */
+struct lk_out {
+    uint8_t *ptr;      /* where the next call writes */
+    size_t cap;        /* the room from there on */
+    size_t len;        /* the number of octets that were written */
+    ptrdiff_t failure; /* the first failure; 0: none */
+};
+
+/* Steps behind what a call wrote at `out->ptr`, or keeps its failure. */
+static inline void lk_append(struct lk_out *out, ptrdiff_t written)
+{
+    if (written < 0) {
+        if (out->failure == 0)
+            out->failure = written;
+        out->cap = 0;
+    } else {
+        out->ptr += written;
+        out->cap -= (size_t)written;
+        out->len += (size_t)written;
+    }
+}
 
 /* ---- addresses ---- */
 
@@ -58,50 +112,56 @@ struct lk_block {
     uint16_t prefix_len; /* at most 32 for IPv4, 128 for IPv6 */
 };
 
-/* A text is `len` bytes, without a terminating null. lk_.._read parses the whole text, stores the value and
- * returns 1. It returns 0 and stores nothing if the text does not parse.
+/* A text is `len` bytes. lk_parse_.. parses the whole text, stores the value and returns 1. It returns 0 and
+ * stores nothing if the text does not parse.
  *
  * Hex digits may have either case. Leading zeros are accepted and are decimal. The scope of an IPv6
  * address (%eth0) is rejected. Dotted octets are accepted only at the end of an IPv4-mapped address
- * (::ffff:192.168.1.1).
+ * (::ffff:192.168.1.1), in which a `::` must stand directly before `ffff`.
  *
- * lk_.._print writes a text without a terminating null. It returns LK_FAILED if `cap` is less than the
- * length of the text, or if a version or prefix length is out of range. */
+ * lk_print_.. writes a text and returns its length, without a terminating null. It writes the null too if
+ * `cap` is more than the length. A buffer of LK_.._TEXT bytes always has room for both. */
+#define LK_ADDR_TEXT 40
+#define LK_BLOCK_TEXT 44
+#define LK_ENDPOINT_TEXT 48
+#define LK_ETHERNET_TEXT 18
 
 /* IPv4: four numbers of 1 to 3 digits, joined by '.'. IPv6: RFC 4291, section 2.2. */
-int lk_addr_read(const char *text, size_t len, struct lk_addr *addr);
+int lk_parse_addr(const char *text, size_t len, struct lk_addr *addr);
 
-/* At most 15 bytes for IPv4, 39 for IPv6 (RFC 5952). */
-ptrdiff_t lk_addr_print(const struct lk_addr *addr, char *out, size_t cap);
+/* IPv6 by RFC 5952. Fails with LK_NO_VERSION. */
+ptrdiff_t lk_print_addr(const struct lk_addr *addr, char *out, size_t cap);
 
-/* An address, '/' and the prefix length. The address keeps all its bits: it is not cut to the prefix. */
-int lk_block_read(const char *text, size_t len, struct lk_block *block);
+/* An address, '/' and the prefix length, of 1 or 2 digits for IPv4, of 1 to 3 for IPv6. The address keeps all
+ * its bits: it is not cut to the prefix. */
+int lk_parse_block(const char *text, size_t len, struct lk_block *block);
 
-/* At most 18 bytes for IPv4, 43 for IPv6. */
-ptrdiff_t lk_block_print(const struct lk_block *block, char *out, size_t cap);
+/* Fails with LK_NO_VERSION or LK_BAD_PREFIX. */
+ptrdiff_t lk_print_block(const struct lk_block *block, char *out, size_t cap);
 
 /* Whether the address is in the block. No address is in a block of the other version. */
-int lk_block_contains(const struct lk_block *block, const struct lk_addr *addr);
+int lk_contains(const struct lk_block *block, const struct lk_addr *addr);
 
-/* An address, ':' and a port, with an IPv6 address in brackets; or an address alone, with port 0. */
-int lk_endpoint_read(const char *text, size_t len, struct lk_endpoint *endpoint);
+/* An address, ':' and a port of 1 to 5 digits, with an IPv6 address in brackets; or an address alone, without
+ * brackets, which has port 0. */
+int lk_parse_endpoint(const char *text, size_t len, struct lk_endpoint *endpoint);
 
-/* At most 21 bytes for IPv4, 47 for IPv6. */
-ptrdiff_t lk_endpoint_print(const struct lk_endpoint *endpoint, char *out, size_t cap);
+/* Fails with LK_NO_VERSION. */
+ptrdiff_t lk_print_endpoint(const struct lk_endpoint *endpoint, char *out, size_t cap);
 
 /* An Ethernet address, 6 octets: six groups of 1 or 2 hex digits, all joined by '-' or all by ':'. */
-int lk_ethernet_read(const char *text, size_t len, uint8_t *octets);
+int lk_parse_ethernet(const char *text, size_t len, uint8_t *octets);
 
-/* Always 17 bytes: six pairs of hex digits, joined by '-'. */
-ptrdiff_t lk_ethernet_print(const uint8_t *octets, char *out, size_t cap);
+/* Six pairs of hex digits, joined by '-'. */
+ptrdiff_t lk_print_ethernet(const uint8_t *octets, char *out, size_t cap);
 
 /* Whether the address is a multicast address (224.0.0.0/4, ff00::/8). */
-int lk_addr_is_multicast(const struct lk_addr *addr);
+int lk_is_multicast(const struct lk_addr *addr);
 
 /* Whether the address is neither multicast, nor unspecified (0.0.0.0, ::), nor 255.255.255.255. */
-int lk_addr_is_unicast(const struct lk_addr *addr);
+int lk_is_unicast(const struct lk_addr *addr);
 
-/* ---- headers: read by lk_read_frame, and written by the calls lk_emit_.. ---- */
+/* ---- headers: stored by lk_read_.., and written by the calls lk_emit_.. ---- */
 
 struct lk_ethernet {
     uint8_t src[6];
@@ -122,7 +182,7 @@ struct lk_ip {
     uint32_t flow_label;      /* IPv6: 20 bits */
     uint16_t fragment_offset; /* in octets, a multiple of 8 */
     uint8_t protocol;         /* 6: TCP, 17: UDP */
-    uint8_t hop_limit;        /* 64 is usual; a router drops a packet that has 0 */
+    uint8_t hop_limit;        /* 64 is usual; 0 is read, and cannot be written */
     uint8_t dscp;             /* 6 bits; of IPv6 those of the traffic class */
     uint8_t ecn;              /* 2 bits */
     uint8_t more_fragments;
@@ -148,7 +208,8 @@ struct lk_tcp {
     uint16_t window_len; /* in octets, before scaling */
     uint16_t urgent_at;  /* the urgent pointer */
     uint8_t flags;       /* a sum of `lk_tcp_flag` */
-    uint8_t header_len;  /* in octets, 20 to 60; set by lk_read_frame, not used by the calls lk_emit_.. */
+    uint8_t header_len;  /* in octets, 20 to 60; of a rejected header what it says, 0 to 60; not used by the calls
+                          * lk_emit_.. */
 };
 
 /* A range of received data (RFC 2018), from `left` up to `right`, without `right`. */
@@ -182,13 +243,17 @@ enum lk_transport { LK_NO_TRANSPORT, LK_UDP, LK_TCP };
 enum lk_reason {
     LK_READ,         /* no header was rejected */
     LK_TOO_SHORT,    /* fewer bytes than the shortest header */
-    LK_BAD_VERSION,  /* another version than the EtherType names */
+    LK_BAD_VERSION,  /* another version than the EtherType names; a packet of neither version */
     LK_BAD_LENGTH,   /* a length field that does not fit */
     LK_OTHER_ARP,    /* ARP for other addresses than Ethernet and IPv4 */
     LK_PORT_ZERO,    /* UDP: destination port 0; TCP: a port 0 */
     LK_BAD_FLAGS,    /* TCP: more than one of SYN, FIN and RST */
-    LK_BAD_OPTIONS   /* TCP: a malformed option before the end mark */
+    LK_BAD_OPTIONS,  /* TCP: a malformed option before the end mark */
+    LK_HEADER_CUT    /* the header was not captured as a whole */
 };
+
+/* Returns the name of a reason, as "LK_PORT_ZERO", or "no reason". The text is constant. */
+const char *lk_reason_name(int reason);
 
 /* What a checksum says. */
 enum lk_verdict {
@@ -196,24 +261,26 @@ enum lk_verdict {
     LK_RIGHT,
     LK_WRONG,
     LK_LEFT_OUT,        /* UDP over IPv4: the sender computed none */
-    LK_LEFT_TO_DEVICE   /* only the pseudo-header is summed: checksum offload */
+    LK_LEFT_TO_DEVICE,  /* only the pseudo-header is summed: checksum offload */
+    LK_CHECKSUM_CUT     /* not all octets that it covers were captured */
 };
 
 /* A frame. The fields of a header that is not there are 0. */
 struct lk_frame {
-    size_t network_offset;   /* of the ARP or IP header, from the first octet of the frame */
-    size_t transport_offset; /* of the UDP or TCP header */
+    size_t network_offset;   /* of the ARP or IP header, from the first octet of the frame or packet */
+    size_t transport_offset; /* of the UDP or TCP header, also of a rejected one that is stored */
     size_t payload_offset;   /* of the payload */
     size_t payload_len;      /* ends within the frame, before its padding */
-    struct lk_endpoint src;  /* the sender; the port is 0 unless a UDP or TCP header was read */
+    struct lk_endpoint src;  /* the sender; the port is 0 unless a UDP or TCP header is stored */
     struct lk_endpoint dst;
     struct lk_ip ip;
     struct lk_tcp tcp;
     struct lk_ethernet ethernet;
     struct lk_arp arp;
     uint8_t reason;             /* an `lk_reason` */
-    uint8_t network;            /* an `lk_network` */
-    uint8_t transport;          /* an `lk_transport` */
+    uint8_t network;            /* an `lk_network`: the header that was read */
+    uint8_t transport;          /* an `lk_transport`: the header that was read */
+    uint8_t rejected;           /* an `lk_transport`: the header that was rejected, but is stored */
     uint8_t is_fragment;        /* 1: a part of an IP packet, so its payload is not parsed */
     uint8_t ipv4_checksum;      /* an `lk_verdict` */
     uint8_t transport_checksum; /* an `lk_verdict` */
@@ -226,17 +293,40 @@ struct lk_frame {
  * - The payload begins behind the last header that was read. It ends at the length in this header or in
  *   one before it, so padding is no payload.
  * - At a rejected header the values of the headers before it are stored, and the payload begins at the
- *   rejected header. The fields of a rejected UDP or TCP header are stored too, unless it is too short,
- *   and its checksum is verified. For a UDP header that is rejected as LK_BAD_LENGTH the verdict is
+ *   rejected header. `network` and `transport` name only headers that were read.
+ * - The fields of a rejected UDP or TCP header are stored too, unless it is too short: `rejected` names it. RFC
+ *   9293 needs them for RST. For a UDP header that is rejected as LK_BAD_LENGTH the verdict is
  *   LK_NO_CHECKSUM, because it does not say which octets are summed.
  * - Behind an unknown EtherType or protocol all bytes are payload, and so are IPv6 extension headers.
  *   IPv4 options are skipped.
- * - If an IPv6 fragment header follows the IPv6 header directly, its values are stored, and the payload
- *   begins at the fragment header.
+ * - If an IPv6 fragment header follows the IPv6 header directly and is there as a whole, its values are stored.
+ *   The payload begins at it. `is_fragment` is 0 if it is of an atomic fragment, which is a whole packet
+ *   (RFC 6946), but what follows the fragment header is not parsed either.
  *
  * A loop over many short frames that are not in the caches, each in a buffer of its own, is faster if it
- * prefetches the first 128 octets of the frame 8 places ahead (EXAMPLES in the man page). */
+ * prefetches the first 128 octets of the frame 8 places ahead (EXAMPLES in ip_wire(3)). */
 int lk_read_frame(const uint8_t *ptr, size_t len, struct lk_frame *frame);
+
+/* The same for a packet that begins with its IPv4 or IPv6 header: of a TUN device, of a capture of raw packets
+ * or cooked frames, or behind VLAN tags. `ethernet` is 0. */
+int lk_read_packet(const uint8_t *ptr, size_t len, struct lk_frame *frame);
+
+/* The same two for a frame or packet of `len` octets of which only the first `captured` are at `ptr`, as in a
+ * capture with a snapshot length. Lengths in headers are compared with `len`, and the headers that are there are
+ * stored as if all was there. If `captured` is more than `len`, only the first `len` octets count.
+ *
+ * - A header that was not captured as a whole is rejected with LK_HEADER_CUT, unless the frame is too short for it
+ *   (LK_TOO_SHORT). Nothing of it is stored. No field of it is tested, but the version by which a packet is read.
+ *   A packet of which no octet was captured has no version: LK_TOO_SHORT only if `len` is 0.
+ * - IPv4 options that were cut give LK_HEADER_CUT after the tests of version and lengths; nothing of the header is
+ *   stored. TCP options that were cut give it after the tests of lengths, ports and flags; the fields are stored, and
+ *   `rejected` is LK_TCP.
+ * - An IPv6 fragment header that was cut gives LK_HEADER_CUT, and the fields of the IPv6 header are stored.
+ * - If a TCP or UDP checksum covers octets that were not captured, its verdict is LK_CHECKSUM_CUT. But a UDP checksum
+ *   of 0 is LK_LEFT_OUT, or LK_WRONG over IPv6.
+ * - `payload_len` is that of the whole frame: the payload may end behind the captured octets. */
+int lk_read_captured(const uint8_t *ptr, size_t captured, size_t len, struct lk_frame *frame);
+int lk_read_captured_packet(const uint8_t *ptr, size_t captured, size_t len, struct lk_frame *frame);
 
 /* Stores the options of a TCP header. `ptr` is its first octet and `len` its length: in a frame that was
  * read, `frame + f.transport_offset` and `f.tcp.header_len`. Returns 0 and stores nothing if an option
@@ -244,58 +334,75 @@ int lk_read_frame(const uint8_t *ptr, size_t len, struct lk_frame *frame);
  * kind the last option counts. */
 int lk_read_tcp_options(const uint8_t *ptr, size_t len, struct lk_tcp_options *options);
 
-/* Prints an `lk_reason`, as "port 0". At most 32 bytes. */
-ptrdiff_t lk_reason_print(int reason, char *out, size_t cap);
+/* Where an option of a TCP header is. */
+struct lk_tcp_option {
+    uint8_t offset; /* of its first octet in the header; 0: before the first option */
+    uint8_t kind;   /* 0: the end mark, 1: padding; of the others the data is behind 2 octets */
+    uint8_t len;    /* of the whole option, in octets */
+};
+
+/* Steps to the next option of a TCP header, and returns 1. Begin with a struct of zeros. Returns 0 if there is none
+ * left, or -1 if the next one is malformed, or if the header is shorter than 20 octets or than it says; then
+ * `option` is unchanged. `ptr` and `len` are as for lk_read_tcp_options. Options of every kind are stored, in their
+ * order, with padding. Nothing follows the end mark.
+ *
+ *     struct lk_tcp_option option = {0, 0, 0};
+ *     while (lk_next_tcp_option(ptr, len, &option) == 1)
+ *         ... ptr[option.offset] ... */
+int lk_next_tcp_option(const uint8_t *ptr, size_t len, struct lk_tcp_option *option);
 
 /* ---- writing ---- */
 
-/* Fills in the reply to a frame that was read: Ethernet addresses and endpoints are exchanged, and ARP's
- * hardware addresses too. All other fields are copied. */
-void lk_reply(const struct lk_frame *frame, struct lk_frame *reply);
+/* Turns a frame that was read into its reply, in place: Ethernet addresses, endpoints and ARP's hardware addresses
+ * are exchanged. The IP header becomes that of a new packet: hop limit 64, ECN 0, identification 0 with DF (a bit
+ * that IPv6 does not have), no flow label, no fragment. All else stays, DSCP and the fields of ARP and TCP
+ * among it. */
+void lk_reply(struct lk_frame *frame);
 
 /* Writes a whole frame with a UDP packet: Ethernet header, IPv4 or IPv6 header, UDP header and the `len`
  * octets at `ptr`. Uses `ethernet.src`, `ethernet.dst`, `src`, `dst` and `ip` of `headers`; EtherType,
- * protocol, lengths and checksums are filled in. Returns the length of the frame, or LK_FAILED if
+ * protocol, lengths and checksums are filled in. Returns the length of the frame, or a failure:
  *
- * - it does not fit into `cap` octets, or `len` is more than the IP packet can carry,
- * - the two addresses have no version or different versions,
- * - lk_emit_ip would reject `ip`, or `ip` says that the packet is a fragment. */
+ * - LK_NO_VERSION and LK_TWO_VERSIONS,
+ * - LK_NO_PORT: the destination port is 0,
+ * - LK_NO_HOP_LIMIT and LK_BAD_FIELD, as by lk_emit_ip, or if `ip` says that the packet is a fragment,
+ * - LK_PAYLOAD_TOO_LONG: `len` is above 65507 over IPv4, above 65527 over IPv6,
+ * - LK_NO_ROOM. */
 ptrdiff_t lk_emit_udp_frame(const struct lk_frame *headers, const uint8_t *ptr, size_t len, uint8_t *out,
                             size_t cap);
 
-/* The same with a TCP segment. Uses `tcp` of `headers` too. Returns LK_FAILED also if the options take
- * more than 40 octets, `sack_range_count` is more than 4, or more than one of SYN, FIN and RST is set. */
+/* The same with a TCP segment. Uses `tcp` of `headers` too. Fails also with LK_NO_PORT if the source port is 0,
+ * and with LK_TWO_CONTROLS and LK_OPTIONS_TOO_LONG. Header and payload have at most 65515 octets over IPv4, 65535
+ * over IPv6. */
 ptrdiff_t lk_emit_tcp_frame(const struct lk_frame *headers, const struct lk_tcp_options *options,
                             const uint8_t *ptr, size_t len, uint8_t *out, size_t cap);
 
-/* Writes the headers of such a frame before a payload that is in `out` already. The payload has `len` octets.
- * It begins at octet 42 for UDP over IPv4, and 62 over IPv6; for TCP at octet 34 or 54, plus
+/* Writes the headers of a frame with UDP or TCP before a payload that is in `out` already. The payload has `len`
+ * octets. It begins at octet 42 for UDP over IPv4, and 62 over IPv6; for TCP at octet 34 or 54, plus
  * lk_tcp_header_len(options). The result is that of lk_emit_.._frame with the same payload. */
 ptrdiff_t lk_wrap_udp_frame(const struct lk_frame *headers, size_t len, uint8_t *out, size_t cap);
 ptrdiff_t lk_wrap_tcp_frame(const struct lk_frame *headers, const struct lk_tcp_options *options,
                             size_t len, uint8_t *out, size_t cap);
 
-/* Returns the length of a TCP header with these options, 20 to 60, or LK_FAILED if they do not fit. */
+/* Returns the length of a TCP header with these options, 20 to 60, or LK_OPTIONS_TOO_LONG. */
 ptrdiff_t lk_tcp_header_len(const struct lk_tcp_options *options);
 
-/* Writes a whole frame, 42 octets, with the ARP packet of `arp`, `src.addr` and `dst.addr`. Returns LK_FAILED
- * if it does not fit, or if an address is no IPv4 address. */
+/* Writes a whole frame, 42 octets, with the ARP packet of `arp`, `src.addr` and `dst.addr`. Fails with LK_NO_VERSION
+ * unless both are IPv4 addresses, and with LK_NO_ROOM. */
 ptrdiff_t lk_emit_arp_frame(const struct lk_frame *headers, uint8_t *out, size_t cap);
 
-/* The layers one by one. Each writes one header, or a header with its payload, at `out[0]`, and returns
- * LK_FAILED if it does not fit into `cap` octets. A checksum is computed unless `computed` is 0; then it
- * is 0. */
+/* The layers one by one. Each writes one header, or a header with its payload, at `out[0]`. A checksum is
+ * computed unless `computed` is 0; then it is 0. The failures are those of lk_emit_.._frame. */
 
 /* Writes an Ethernet header, 14 octets. */
 ptrdiff_t lk_emit_ethernet(const struct lk_ethernet *header, uint8_t *out, size_t cap);
 
-/* Writes an ARP packet, 28 octets. Returns LK_FAILED also if an address is no IPv4 address. */
+/* Writes an ARP packet, 28 octets. */
 ptrdiff_t lk_emit_arp(const struct lk_arp *header, const struct lk_addr *src, const struct lk_addr *dst,
                       uint8_t *out, size_t cap);
 
 /* Writes an IPv4 header of 20 octets or an IPv6 header of 40 octets, by the version of the addresses, for
- * a payload of `payload_len` octets: at most 65515 for IPv4 and 65535 for IPv6. Returns LK_FAILED also if
- * the addresses have no version or different versions, or if
+ * a payload of `payload_len` octets: at most 65515 for IPv4 and 65535 for IPv6. Fails with LK_BAD_FIELD if
  *
  * - `dscp` is more than 63 or `ecn` more than 3,
  * - IPv4: `ident` is more than 65535, or `fragment_offset` is no multiple of 8,
@@ -306,14 +413,13 @@ ptrdiff_t lk_emit_arp(const struct lk_arp *header, const struct lk_addr *src, co
 ptrdiff_t lk_emit_ip(const struct lk_ip *header, const struct lk_addr *src, const struct lk_addr *dst,
                      size_t payload_len, int computed, uint8_t *out, size_t cap);
 
-/* Writes a UDP header and the `len` octets at `ptr`, at most 65527. Port 0 is written as it is: a receiver
- * rejects destination port 0. */
+/* Writes a UDP header and the `len` octets at `ptr`, at most 65527. */
 ptrdiff_t lk_emit_udp(const struct lk_endpoint *src, const struct lk_endpoint *dst, const uint8_t *ptr,
                       size_t len, int computed, uint8_t *out, size_t cap);
 
-/* Writes a TCP header with its options and the `len` octets at `ptr`, together at most 65535. Options and
- * flags are rejected as by lk_emit_tcp_frame. `ack_number` and `urgent_at` are written whatever the flags
- * are. SACK ranges beside `sack_permitted` are not written; zeros are written instead. */
+/* Writes a TCP header with its options and the `len` octets at `ptr`, together at most 65535. `ack_number` and
+ * `urgent_at` are written whatever the flags are. SACK ranges beside `sack_permitted` are not written; zeros are
+ * written instead. */
 ptrdiff_t lk_emit_tcp(const struct lk_tcp *header, const struct lk_tcp_options *options,
                       const struct lk_endpoint *src, const struct lk_endpoint *dst, const uint8_t *ptr,
                       size_t len, int computed, uint8_t *out, size_t cap);
@@ -324,52 +430,79 @@ ptrdiff_t lk_emit_tcp(const struct lk_tcp *header, const struct lk_tcp_options *
  * big-endian words. An odd last byte is the high byte of a word. The sum is 0 only if every byte is 0. */
 uint16_t lk_checksum(const uint8_t *ptr, size_t len);
 
-/* Returns the checksum field after a 16-bit word that it covers changed from `before` to `after`
- * (RFC 1624). */
-uint16_t lk_checksum_update(uint16_t checksum, uint16_t before, uint16_t after);
+/* Return the checksum field after a part of what it covers changed from `before` to `after` (RFC 1624): a 16-bit
+ * word, as a port, or an address of the pseudo-header or of the IPv4 header. Call once for each changed part.
+ *
+ * UDP has calls of its own: a field of 0, which means that there is no checksum, stays 0, and a computed 0 becomes
+ * 0xffff (RFC 768). The first two calls are for IPv4, TCP and ICMP. */
+uint16_t lk_update_checksum(uint16_t checksum, uint16_t before, uint16_t after);
+uint16_t lk_update_checksum_addr(uint16_t checksum, const struct lk_addr *before, const struct lk_addr *after);
+uint16_t lk_update_udp_checksum(uint16_t checksum, uint16_t before, uint16_t after);
+uint16_t lk_update_udp_checksum_addr(uint16_t checksum, const struct lk_addr *before, const struct lk_addr *after);
 
 /* TCP sequence numbers, modulo 2^32 (RFC 9293, section 3.4). */
 
 /* Returns the number `steps` after `seq`. */
-uint32_t lk_seq_add(uint32_t seq, uint32_t steps);
+uint32_t lk_add_seq(uint32_t seq, uint32_t steps);
 
 /* Returns how far `a` is after `b`; below 0 if it is before `b`. At a distance of 2^31 it is -2^31. */
-int32_t lk_seq_distance(uint32_t a, uint32_t b);
+int32_t lk_subtract_seq(uint32_t a, uint32_t b);
 
 /* Returns -1 if `a` is before `b`, 0 if they are equal, 1 if it is after. At a distance of 2^31 each is
  * before the other. */
-int lk_seq_compare(uint32_t a, uint32_t b);
+int lk_compare_seq(uint32_t a, uint32_t b);
 
 /* ---- rebuilding ---- */
 
 /* Parses an Ethernet frame, emits each header again from its values, and returns the length of this
- * rebuilt frame, which is at most `len`: a `cap` of `len` always suffices. Returns LK_FAILED if `len` is
- * less than 14, or if the rebuilt frame does not fit into `cap` octets.
+ * rebuilt frame, which is at most `len`: a `cap` of `len` always suffices. Fails with LK_NO_HEADER if `len` is
+ * less than 14, and with LK_NO_ROOM.
  *
- * A rebuilt frame has new lengths and checksums, and no padding. These values change:
+ * These fields change:
  *
- *   header   change                                  consequence
- *   IPv4     DSCP and ECN become 0                   marks of priority and congestion are lost
- *   IPv4     DF (don't fragment) is set              a router drops the packet if it is too long for a link
- *   IPv4     the reserved flag becomes 0             it has no meaning (RFC 791)
- *   IPv4     identification becomes 0                a later fragment could not be told from others
- *   IPv4     options are removed                     a source route is lost, and the packet is delivered
- *   IPv6     traffic class and flow label become 0   marks of priority and congestion are lost
- *   UDP      a checksum is computed                  also where the sender left it out
- *   UDP      bytes past the UDP length are removed
- *   TCP      the urgent pointer and URG become 0     urgent data is no longer marked
- *   TCP      ECE and CWR become 0                    congestion is no longer reported
- *   TCP      reserved bits become 0                  they have no meaning (RFC 9293)
- *   TCP      without ACK the acknowledgement number  it means nothing there
- *            becomes 0
- *   TCP      one of SYN, FIN, RST is kept, else PSH  FIN with PSH becomes FIN
- *   TCP      the last option of each kind is kept,   other options are removed; a window scale above 14
- *            of the kinds of struct lk_tcp_options   becomes 14
- *   TCP      SACK ranges beside SACK permitted or    they mean nothing there
- *            without ACK are removed
+ *   header    field                               change             consequence
+ *   Ethernet  padding                             removed            a short frame is padded again before it is sent
+ *   IPv4      IHL                                 becomes 5          no options follow
+ *   IPv4      DSCP and ECN                        becomes 0          marks of priority and congestion are lost
+ *   IPv4      total length and header checksum    computed
+ *   IPv4      identification                      becomes 0          a later fragment could not be told from others
+ *   IPv4      reserved flag                       becomes 0          it has no meaning (RFC 791)
+ *   IPv4      DF                                  becomes 1          a router drops the packet if it is too long
+ *   IPv4      options                             removed            a source route ends at its next address
+ *   IPv6      traffic class and flow label        becomes 0          marks of priority, congestion and flow are lost
+ *   IPv6      payload length                      computed
+ *   IPv6      payload of a jumbogram              removed            only the header is left (RFC 2675)
+ *   UDP       octets behind the length            removed            UDP options are lost
+ *   UDP       checksum of 0                       computed           it does not protect the path up to here
+ *   TCP       acknowledgement number without ACK  becomes 0          it has no meaning (RFC 9293, section 3.1)
+ *   TCP       data offset and checksum            computed
+ *   TCP       reserved bits                       becomes 0          one is AE: AccECN does not report congestion
+ *   TCP       CWR and ECE                         becomes 0          ECN is not negotiated, congestion not reported
+ *   TCP       URG and urgent pointer              becomes 0          urgent data is no longer marked
+ *   TCP       PSH beside SYN, FIN or RST          becomes 0          FIN implies PSH (RFC 9293, section 3.10.7.4)
+ *   TCP       options of other kinds              removed            MPTCP is not used; a TCP-AO segment is dropped
+ *   TCP       timestamps of other than 10 octets  removed            they have no meaning (RFC 7323, section 3.2)
+ *   TCP       options but the last of each kind   removed            a receiver may use the first one instead
+ *   TCP       no-operation options                removed            options may no longer be aligned
+ *   TCP       octets behind the end mark          removed            they have no meaning (RFC 9293, section 3.1)
+ *   TCP       order of options                    sorted by kind     it has no meaning
+ *   TCP       window scale above 14               becomes 14         a receiver uses 14 too (RFC 7323, section 2.3)
+ *   TCP       SACK ranges beside SACK permitted   replaced by zeros  no segment may have both (RFC 2018, section 2)
+ *   TCP       SACK ranges without ACK             replaced by zeros  only an ACK has ranges (RFC 2018, section 4)
  *
- * Copied unchanged are a fragment of an IPv4 packet, a packet that does not parse or has a wrong checksum,
- * and the payload of any other type or protocol. */
+ * All other fields are kept. Options of other kinds are those that `struct lk_tcp_options` has no field for. Zeros
+ * are end marks: with those in place of SACK ranges the header keeps its length.
+ *
+ * Copied unchanged, with the padding behind it, is
+ *
+ * - an ARP, IPv4 or IPv6 packet that does not parse, or has a wrong IPv4 header checksum,
+ * - a fragment of an IPv4 packet,
+ * - the payload of any other EtherType.
+ *
+ * Copied unchanged behind a rebuilt IP header, without padding, is
+ *
+ * - a UDP or TCP packet that does not parse, or has a wrong checksum,
+ * - the payload of any other protocol, such as an IPv6 extension header with what follows. */
 ptrdiff_t lk_rebuild(const uint8_t *ptr, size_t len, uint8_t *out, size_t cap);
 
 /* ---- a host ---- */
@@ -377,7 +510,7 @@ ptrdiff_t lk_rebuild(const uint8_t *ptr, size_t len, uint8_t *out, size_t cap);
 /* A host with one interface and no connections. */
 struct lk_host {
     const uint16_t *open_ports; /* the open TCP ports */
-    size_t open_port_count;
+    size_t open_port_count;     /* as many must be there: a count is not compared with LK_MAX_LEN */
     struct lk_addr ipv4;        /* an IPv4 address */
     struct lk_addr ipv6;        /* an IPv6 address */
     uint8_t hardware[6];        /* an Ethernet address */
@@ -390,9 +523,8 @@ struct lk_host {
     uint8_t window_scale;       /* in bits; more than 14 is sent as 14 */
 };
 
-/* Writes the answer of a host to an Ethernet frame. Returns its length, or 0 if the frame gets no answer.
- * Returns LK_FAILED if the answer does not fit into `cap` octets, or if `ipv4` is no IPv4 address or `ipv6`
- * no IPv6 address.
+/* Writes the answer of a host to an Ethernet frame. Returns its length, or 0 if the frame gets no answer. Fails
+ * with LK_NO_VERSION if `ipv4` is no IPv4 address or `ipv6` no IPv6 address, and with LK_NO_ROOM.
  *
  *   frame                                  answer
  *   an ARP request for `ipv4`              an ARP reply
@@ -411,8 +543,7 @@ struct lk_host {
  * - SYN and ACK has `max_seg_size`. It has window scale, SACK permitted and timestamp if the SYN has them.
  * - No connection is kept: what follows the SYN gets RST.
  * - ICMPv6 is not answered: a neighbour must know the Ethernet address of `ipv6` by other means. */
-ptrdiff_t lk_host_answer(const struct lk_host *host, const uint8_t *ptr, size_t len, uint8_t *out,
-                         size_t cap);
+ptrdiff_t lk_answer(const struct lk_host *host, const uint8_t *ptr, size_t len, uint8_t *out, size_t cap);
 
 #ifdef __cplusplus
 }

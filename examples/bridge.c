@@ -54,7 +54,7 @@ static void forward(int from, int to, struct count *count)
     ssize_t len;
     while ((len = read(from, in, sizeof in)) > 0) {
         ptrdiff_t rebuilt = lk_rebuild(in, (size_t)len, out, sizeof out);
-        if (rebuilt == LK_FAILED || write(to, out, (size_t)rebuilt) != rebuilt) {
+        if (rebuilt < 0 || write(to, out, (size_t)rebuilt) != rebuilt) {
             count->dropped++;
             continue;
         }

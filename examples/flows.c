@@ -1,29 +1,64 @@
-/* Prints the flows of a capture: one line per protocol and pair of endpoints, both directions together.
- *     flows CAPTURE [BLOCK..]
- * If CIDR blocks are given, a flow with an address outside of all of them is marked "not allowed", and the
- * exit status is then 3. Frames that were cut off when they were captured are rejected. */
+/* Prints the flows of a capture, those with most octets first. Each is one line, as this:
+ *
+ *     TCP 192.0.2.1:40000 192.0.2.2:443 packets 3+2 octets 306+440 time 0.050000 s rate 119.4 kbit/s
+ *         rtt 20.000+0.500 ms syn 2,4,8,1,3+2,4,8,1,3 wrong 1
+ *
+ * The first end sent the first packet. Each sum has what the first end sent, and what the second sent. Octets are those
+ * of the frames, captured or not. `rtt` is the shortest time until the second end echoed a timestamp of the first (RFC
+ * 7323), and the other way round: a round trip takes their sum. `syn` has the kinds of the TCP options of SYN, in
+ * order. `wrong` counts packets with a wrong checksum, without those whose checksum was left to the device. */
 #include <ip_wire.h>
+#include <inttypes.h>
 #include <pcap/pcap.h>
 #include <stdio.h>
 #include <stdlib.h>
 #include <string.h>
+#include <sys/random.h>
+#include <unistd.h>
 
-enum { MOST_BLOCKS = 256 };
+enum { MOST_BLOCKS = 256, MOST_OPTIONS = 40, REASONS = LK_HEADER_CUT + 1 };
+enum echo { NO_TIMESTAMP, WAITS, ECHOED };
 
-struct flow {
-    struct lk_endpoint low, high; /* in the order of their bytes */
-    uint8_t protocol;
-    uint64_t packets, octets;
+/* What is left of a frame: `captured` of its `len` octets are at `ptr`. */
+struct part {
+    const uint8_t *ptr;
+    size_t captured, len;
 };
 
-/* An open hash table. A flow with no packets is an empty place. */
+/* What one endpoint sent. */
+struct side {
+    uint64_t packets, octets;
+    int64_t sent_at, rtt; /* in nanoseconds; `rtt` is -1 if no timestamp was echoed */
+    uint32_t tsval;       /* the last one whose echo was waited for */
+    uint8_t echo;         /* an `echo` */
+    uint8_t option_count;
+    uint8_t options[MOST_OPTIONS]; /* the kinds of those of SYN */
+};
+
+/* It has no padding, so its bytes are its value. */
+struct key {
+    struct lk_endpoint ends[2];
+    uint16_t protocol;
+};
+
+struct flow {
+    struct key key; /* of the first packet, from `ends[0]` to `ends[1]` */
+    struct side sides[2];
+    int64_t begin, end; /* in nanoseconds */
+    uint64_t wrong;
+};
+
+/* An open hash table: a place is 0, or 1 plus the index of a flow. At most half of them are used. */
 struct table {
-    struct flow *places;
+    struct flow *flows;
+    uint32_t *places;
     size_t size, used; /* `size` is a power of 2 */
 };
 
 static struct lk_block blocks[MOST_BLOCKS];
 static size_t block_count;
+static uint64_t seed[2];
+static size_t others, rejected[REASONS]; /* frames without a flow */
 
 static _Noreturn void give_up(const char *what, const char *why)
 {
@@ -31,143 +66,327 @@ static _Noreturn void give_up(const char *what, const char *why)
     exit(1);
 }
 
-static int is_same(const struct flow *a, const struct flow *b)
+/* ---- the table ---- */
+
+/* Multiplies by a random key, and folds the product. So nobody can choose endpoints that meet in the table. */
+static size_t hash(const struct key *key)
 {
-    return a->protocol == b->protocol && memcmp(&a->low, &b->low, sizeof a->low) == 0
-           && memcmp(&a->high, &b->high, sizeof a->high) == 0;
+    uint64_t words[6] = {0}, sum = seed[0];
+    memcpy(words, key, sizeof *key);
+    for (int i = 0; i < 6; i++) {
+        __extension__ unsigned __int128 product = (unsigned __int128)(sum ^ words[i]) * seed[1];
+        sum = (uint64_t)product ^ (uint64_t)(product >> 64);
+    }
+    return (size_t)sum;
 }
 
-/* FNV-1a. Endpoints have no padding, so their bytes are their value. */
-static size_t hash(const struct flow *flow)
+/* The place of a key, or the empty place where it belongs. */
+static uint32_t *find(const struct table *table, const struct key *key)
 {
-    uint64_t sum = 0xcbf29ce484222325u ^ flow->protocol;
-    for (size_t i = 0; i < sizeof flow->low; i++)
-        sum = (sum ^ ((const uint8_t *)&flow->low)[i]) * 0x100000001b3u;
-    for (size_t i = 0; i < sizeof flow->high; i++)
-        sum = (sum ^ ((const uint8_t *)&flow->high)[i]) * 0x100000001b3u;
-    return (size_t)(sum ^ sum >> 32);
-}
-
-/* The place of a flow, or the empty place where it belongs. */
-static struct flow *find(const struct table *table, const struct flow *flow)
-{
-    size_t at = hash(flow) & (table->size - 1);
-    while (table->places[at].packets != 0 && !is_same(&table->places[at], flow))
+    size_t at = hash(key) & (table->size - 1);
+    while (table->places[at] != 0 && memcmp(&table->flows[table->places[at] - 1].key, key, sizeof *key) != 0)
         at = (at + 1) & (table->size - 1);
     return &table->places[at];
 }
 
-static struct table new_table(size_t size)
+static void resize(struct table *table, size_t size)
 {
-    struct table table = {calloc(size, sizeof *table.places), size, 0};
-    if (table.places == NULL)
-        give_up("table of flows", "out of memory");
-    return table;
-}
-
-static void grow(struct table *table)
-{
-    struct table larger = new_table(2 * table->size);
-    for (size_t i = 0; i < table->size; i++)
-        if (table->places[i].packets != 0)
-            *find(&larger, &table->places[i]) = table->places[i];
-    larger.used = table->used;
     free(table->places);
-    *table = larger;
+    table->size = size;
+    table->places = calloc(size, sizeof *table->places);
+    struct flow *flows = realloc(table->flows, size / 2 * sizeof *flows);
+    if (table->places == NULL || flows == NULL || size > UINT32_MAX)
+        give_up("table of flows", "out of memory");
+    table->flows = flows;
+    for (size_t i = 0; i < table->used; i++)
+        *find(table, &table->flows[i].key) = (uint32_t)i + 1;
 }
 
-static void count(struct table *table, const struct lk_frame *frame, size_t octets)
+/* The flow of a packet. `side` says which end sent it. */
+static struct flow *flow_of(struct table *table, const struct lk_frame *frame, int64_t now, int *side)
 {
-    struct flow flow = {frame->src, frame->dst, frame->ip.protocol, 0, 0};
-    if (memcmp(&frame->src, &frame->dst, sizeof frame->src) > 0) {
-        flow.low = frame->dst;
-        flow.high = frame->src;
-    }
+    struct key key = {{frame->src, frame->dst}, frame->ip.protocol};
+    struct key back = {{frame->dst, frame->src}, frame->ip.protocol};
     if (2 * table->used >= table->size)
-        grow(table);
-    struct flow *place = find(table, &flow);
-    if (place->packets == 0) {
-        *place = flow;
-        table->used++;
-    }
-    place->packets++;
-    place->octets += octets;
+        resize(table, 2 * table->size);
+    uint32_t *place = find(table, &key), *other = *place != 0 ? place : find(table, &back);
+    *side = *place == 0 && *other != 0;
+    if (*other != 0)
+        return &table->flows[*other - 1];
+    struct flow flow = {.key = key, .begin = now, .end = now};
+    flow.sides[0].rtt = flow.sides[1].rtt = -1;
+    table->flows[table->used] = flow;
+    *place = (uint32_t)++table->used;
+    return &table->flows[*place - 1];
 }
+
+/* ---- packets ---- */
+
+/* A timestamp waits for its echo, and those behind it do not. An echo of a later one ends that too. */
+static void count_timestamp(struct side *sender, struct side *receiver, const struct lk_tcp_options *options,
+                            int has_ack, int64_t now)
+{
+    if (has_ack && receiver->echo == WAITS && lk_compare_seq(options->tsecr, receiver->tsval) >= 0) {
+        int64_t rtt = now - receiver->sent_at;
+        if (options->tsecr == receiver->tsval && rtt >= 0 && (receiver->rtt < 0 || rtt < receiver->rtt))
+            receiver->rtt = rtt;
+        receiver->echo = ECHOED;
+    }
+    if (sender->echo == NO_TIMESTAMP || (sender->echo == ECHOED && lk_compare_seq(options->tsval, sender->tsval) > 0)) {
+        sender->echo = WAITS;
+        sender->tsval = options->tsval;
+        sender->sent_at = now;
+    }
+}
+
+static void count_tcp(struct side *sender, struct side *receiver, const uint8_t *header, const struct lk_tcp *tcp,
+                      int64_t now)
+{
+    struct lk_tcp_option option = {0, 0, 0};
+    struct lk_tcp_options options;
+    if (tcp->flags & LK_SYN && sender->option_count == 0)
+        while (lk_next_tcp_option(header, tcp->header_len, &option) == 1)
+            sender->options[sender->option_count++] = option.kind;
+    if (lk_read_tcp_options(header, tcp->header_len, &options) && options.has_timestamp)
+        count_timestamp(sender, receiver, &options, tcp->flags & LK_ACK, now);
+}
+
+static void count(struct table *table, const struct lk_frame *frame, const uint8_t *ptr, size_t octets, int64_t now)
+{
+    int side;
+    struct flow *flow = flow_of(table, frame, now, &side);
+    struct side *sender = &flow->sides[side], *receiver = &flow->sides[!side];
+    sender->packets++;
+    sender->octets += octets;
+    flow->begin = now < flow->begin ? now : flow->begin;
+    flow->end = now > flow->end ? now : flow->end;
+    flow->wrong += frame->ipv4_checksum == LK_WRONG || frame->transport_checksum == LK_WRONG;
+    if (frame->transport == LK_TCP)
+        count_tcp(sender, receiver, ptr + frame->transport_offset, &frame->tcp, now);
+}
+
+/* The links that are known: the length of the header, and where it has the EtherType; -1: it has none. */
+static const struct link {
+    int number;
+    size_t header_len;
+    int type_at;
+} links[] = {{DLT_EN10MB, 14, 12}, {DLT_LINUX_SLL, 16, 14}, {DLT_LINUX_SLL2, 20, 0}, {DLT_NULL, 4, -1},
+             {DLT_LOOP, 4, -1},    {DLT_RAW, 0, -1},        {DLT_IPV4, 0, -1},       {DLT_IPV6, 0, -1}};
+
+/* Returns NULL if the link is not known. */
+static const struct link *link_of(int number)
+{
+    for (size_t i = 0; i < sizeof links / sizeof links[0]; i++)
+        if (links[i].number == number)
+            return &links[i];
+    return NULL;
+}
+
+/* Skips the header of the link and VLAN tags. Returns the EtherType, 0 if there is none, or -1 if a header is cut. */
+static int skip_headers(const struct link *link, struct part *part)
+{
+    size_t header_len = link->header_len;
+    int type, type_at = link->type_at;
+    do {
+        if (part->captured < header_len)
+            return -1;
+        type = type_at < 0 ? 0 : part->ptr[type_at] << 8 | part->ptr[type_at + 1];
+        part->ptr += header_len;
+        part->captured -= header_len;
+        part->len -= header_len;
+        header_len = 4;
+        type_at = 2;
+    } while (type == 0x8100 || type == 0x88a8);
+    return type;
+}
+
+/* Parses a frame of the capture, and returns its reason. Then `part` begins with what was parsed. */
+static int read_part(const struct link *link, struct part *part, struct lk_frame *frame)
+{
+    struct part packet = *part;
+    int type = skip_headers(link, &packet);
+    if (link->number == DLT_EN10MB && type >= 0 && packet.ptr - part->ptr == 14) /* no tag */
+        return lk_read_captured(part->ptr, part->captured, part->len, frame);
+    memset(frame, 0, sizeof *frame);
+    if (type < 0)
+        return packet.captured < packet.len ? LK_HEADER_CUT : LK_TOO_SHORT;
+    if (type != 0 && type != 0x0800 && type != 0x86dd)
+        return LK_READ;
+    *part = packet;
+    int reason = lk_read_captured_packet(part->ptr, part->captured, part->len, frame);
+    int is_other = frame->network == (type == 0x0800 ? LK_IPV6 : LK_IPV4);
+    return type != 0 && is_other ? LK_BAD_VERSION : reason;
+}
+
+/* Returns whether the capture was read to its end. */
+static int count_capture(pcap_t *capture, const struct link *link, struct table *table)
+{
+    struct pcap_pkthdr *header;
+    const u_char *bytes;
+    int next;
+    while ((next = pcap_next_ex(capture, &header, &bytes)) == 1) {
+        struct lk_frame frame;
+        struct part part = {bytes, header->caplen < header->len ? header->caplen : header->len, header->len};
+        int64_t now = (int64_t)header->ts.tv_sec * 1000000000 + header->ts.tv_usec;
+        int reason = read_part(link, &part, &frame);
+        int has_ports = reason == LK_READ || (reason == LK_HEADER_CUT && frame.rejected != LK_NO_TRANSPORT);
+        if (!has_ports)
+            rejected[reason]++;
+        else if (frame.network == LK_IPV4 || frame.network == LK_IPV6)
+            count(table, &frame, part.ptr, header->len, now);
+        else
+            others++;
+    }
+    return next != PCAP_ERROR;
+}
+
+/* ---- output ---- */
 
 static int is_allowed(const struct lk_addr *addr)
 {
     for (size_t i = 0; i < block_count; i++)
-        if (lk_block_contains(&blocks[i], addr))
+        if (lk_contains(&blocks[i], addr))
             return 1;
     return block_count == 0;
 }
 
-static int by_packets(const void *a, const void *b)
+static uint64_t octets_of(const struct flow *flow)
 {
-    const struct flow *x = a, *y = b;
-    if (x->packets != y->packets)
-        return x->packets < y->packets ? 1 : -1;
-    int order = memcmp(&x->low, &y->low, sizeof x->low);
-    return order != 0 ? order : memcmp(&x->high, &y->high, sizeof x->high);
+    return flow->sides[0].octets + flow->sides[1].octets;
 }
 
-/* Prints the flows, those with most packets first, and returns how many are not allowed. */
-static size_t print_flows(struct table *table)
+static int by_octets(const void *a, const void *b)
+{
+    const struct flow *x = a, *y = b;
+    if (octets_of(x) != octets_of(y))
+        return octets_of(x) < octets_of(y) ? 1 : -1;
+    return memcmp(&x->key, &y->key, sizeof x->key);
+}
+
+static void print_times(const struct flow *flow)
+{
+    const struct side *sides = flow->sides;
+    double seconds = (double)(flow->end - flow->begin) / 1e9;
+    printf(" time %.6f s", seconds);
+    if (seconds > 0)
+        printf(" rate %.1f kbit/s", (double)octets_of(flow) * 8 / seconds / 1000);
+    if (sides[0].rtt >= 0 && sides[1].rtt >= 0)
+        printf(" rtt %.3f+%.3f ms", (double)sides[0].rtt / 1e6, (double)sides[1].rtt / 1e6);
+}
+
+static void print_flow(const struct flow *flow, int allowed)
+{
+    const struct lk_endpoint *ends = flow->key.ends;
+    const struct side *sides = flow->sides;
+    int protocol = flow->key.protocol;
+    printf(protocol == 6 ? "TCP" : protocol == 17 ? "UDP" : "protocol %d", protocol);
+    for (int i = 0; i < 2; i++) {
+        char text[LK_ENDPOINT_TEXT];
+        if (ends[0].port != 0 || ends[1].port != 0)
+            lk_print_endpoint(&ends[i], text, sizeof text);
+        else
+            lk_print_addr(&ends[i].addr, text, sizeof text);
+        printf(" %s", text);
+    }
+    printf(" packets %" PRIu64 "+%" PRIu64 " octets %" PRIu64 "+%" PRIu64, sides[0].packets, sides[1].packets,
+           sides[0].octets, sides[1].octets);
+    print_times(flow);
+    if (sides[0].option_count + sides[1].option_count > 0)
+        printf(" syn ");
+    for (int k = 0; k < sides[0].option_count; k++)
+        printf("%s%d", k > 0 ? "," : "", sides[0].options[k]);
+    for (int k = 0; k < sides[1].option_count; k++)
+        printf("%s%d", k > 0 ? "," : "+", sides[1].options[k]);
+    if (flow->wrong > 0)
+        printf(" wrong %" PRIu64, flow->wrong);
+    puts(allowed ? "" : " not allowed");
+}
+
+/* Prints the flows, at most `most` of them, and returns how many of all are not allowed. */
+static size_t print_flows(struct table *table, size_t most)
 {
     size_t outside = 0;
-    qsort(table->places, table->size, sizeof *table->places, by_packets);
-    for (const struct flow *flow = table->places; flow < table->places + table->used; flow++) {
-        char low[47], high[47], number[16];
-        int allowed = is_allowed(&flow->low.addr) && is_allowed(&flow->high.addr);
-        snprintf(number, sizeof number, "protocol %u", (unsigned)flow->protocol);
-        printf("%s %.*s %.*s packets %llu octets %llu%s\n",
-               flow->protocol == 6 ? "TCP" : flow->protocol == 17 ? "UDP" : number,
-               (int)lk_endpoint_print(&flow->low, low, sizeof low), low,
-               (int)lk_endpoint_print(&flow->high, high, sizeof high), high,
-               (unsigned long long)flow->packets, (unsigned long long)flow->octets, allowed ? "" : " not allowed");
+    qsort(table->flows, table->used, sizeof *table->flows, by_octets);
+    for (size_t i = 0; i < table->used; i++) {
+        const struct flow *flow = &table->flows[i];
+        int allowed = is_allowed(&flow->key.ends[0].addr) && is_allowed(&flow->key.ends[1].addr);
+        if (i < most)
+            print_flow(flow, allowed);
         outside += !allowed;
     }
     return outside;
 }
 
+static void print_sums(const struct table *table)
+{
+    size_t all = 0;
+    for (int i = 0; i < REASONS; i++)
+        all += rejected[i];
+    printf("flows %zu, other frames %zu, rejected frames %zu", table->used, others, all);
+    for (int i = 0; i < REASONS; i++)
+        if (rejected[i] > 0)
+            printf(", %s %zu", lk_reason_name(i), rejected[i]);
+    putchar('\n');
+}
+
+static _Noreturn void explain(void)
+{
+    fprintf(stderr,
+            "usage: flows [-n COUNT] CAPTURE [BLOCK..]\n"
+            "  -n COUNT  print only the COUNT flows with most octets\n"
+            "  CAPTURE   a file of Ethernet, raw or cooked packets; - is the standard input\n"
+            "  BLOCK     a CIDR block, at most %d of them: a flow with an address outside of all of them is marked\n"
+            "            \"not allowed\", and the exit status is then 3\n",
+            MOST_BLOCKS);
+    exit(2);
+}
+
+/* Returns how many flows are to be printed, and stores the blocks. The capture is argv[optind]. */
+static size_t read_arguments(int argc, char **argv)
+{
+    size_t most = SIZE_MAX;
+    char *end = "";
+    for (int letter; (letter = getopt(argc, argv, "n:")) != -1;) {
+        if (letter != 'n')
+            explain();
+        most = strtoul(optarg, &end, 10);
+        if (*optarg < '0' || *optarg > '9' || *end != '\0')
+            give_up(optarg, "not a count");
+    }
+    if (optind == argc || argc - optind - 1 > MOST_BLOCKS)
+        explain();
+    for (int i = optind + 1; i < argc; i++)
+        if (!lk_parse_block(argv[i], strlen(argv[i]), &blocks[block_count++]))
+            give_up(argv[i], "not a CIDR block, as 192.0.2.0/24 or 2001:db8::/32");
+    return most;
+}
+
 int main(int argc, char **argv)
 {
     char error[PCAP_ERRBUF_SIZE];
-    struct table table = new_table(1024);
-    unsigned long long others = 0, rejected = 0;
-    struct pcap_pkthdr *header;
-    const u_char *bytes;
-    int next;
-
-    if (argc < 2 || argc - 2 > MOST_BLOCKS) {
-        fprintf(stderr, "usage: flows CAPTURE [BLOCK..], with at most %d blocks\n", MOST_BLOCKS);
-        return 2;
-    }
+    struct table table = {NULL, NULL, 0, 0};
     if (!lk_cpu_supported())
         give_up("processor", "it has no SSE4.2 or no POPCNT");
-    for (int i = 2; i < argc; i++)
-        if (!lk_block_read(argv[i], strlen(argv[i]), &blocks[block_count++]))
-            give_up(argv[i], "not a CIDR block, as 192.0.2.0/24 or 2001:db8::/32");
-
-    pcap_t *capture = pcap_open_offline(argv[1], error);
+    size_t most = read_arguments(argc, argv);
+    const char *name = argv[optind];
+    pcap_t *capture = pcap_open_offline_with_tstamp_precision(name, PCAP_TSTAMP_PRECISION_NANO, error);
     if (capture == NULL)
         give_up("capture", error);
-    if (pcap_datalink(capture) != DLT_EN10MB)
-        give_up(argv[1], "not a capture of Ethernet frames");
-    while ((next = pcap_next_ex(capture, &header, &bytes)) == 1) {
-        struct lk_frame frame;
-        if (lk_read_frame(bytes, header->caplen, &frame) != LK_READ)
-            rejected++;
-        else if (frame.network == LK_IPV4 || frame.network == LK_IPV6)
-            count(&table, &frame, header->len);
-        else
-            others++;
-    }
-    if (next == PCAP_ERROR)
-        give_up(argv[1], pcap_geterr(capture));
-    size_t outside = print_flows(&table);
-    printf("flows %zu, other frames %llu, rejected frames %llu\n", table.used, others, rejected);
+    const struct link *link = link_of(pcap_datalink(capture));
+    if (link == NULL)
+        give_up(name, "neither Ethernet nor raw nor cooked packets");
+    if (getentropy(seed, sizeof seed) != 0)
+        give_up("random numbers", "there are none");
+    resize(&table, 1024);
+    int is_whole = count_capture(capture, link, &table);
+    size_t outside = print_flows(&table, most);
+    print_sums(&table);
+    if (!is_whole)
+        give_up(name, pcap_geterr(capture));
+    if (fflush(stdout) != 0 || ferror(stdout))
+        give_up("output", "it cannot be written");
     pcap_close(capture);
+    free(table.flows);
     free(table.places);
     return outside > 0 ? 3 : 0;
 }

@@ -55,17 +55,17 @@ static void end(int signal)
 /* Sends the frame in `out`, if it could be written. */
 static void send_out(ptrdiff_t len)
 {
-    if (len != LK_FAILED && write(device, out, (size_t)len) == len)
+    if (len > 0 && write(device, out, (size_t)len) == len)
         frames_out++;
 }
 
 /* The headers of the reply to a frame. */
 static struct lk_frame headers_to(const struct lk_frame *in)
 {
-    struct lk_frame reply;
-    lk_reply(in, &reply);
+    struct lk_frame reply = *in;
+    lk_reply(&reply);
     memcpy(reply.ethernet.src, own_hardware, 6);
-    reply.ip = (struct lk_ip){.hop_limit = HOP_LIMIT, .dont_fragment = 1};
+    reply.ip.dscp = 0;
     reply.tcp = (struct lk_tcp){.flags = 0};
     return reply;
 }
@@ -101,7 +101,7 @@ static void reset(const struct lk_frame *in, size_t payload_len)
     } else {
         uint32_t len = (uint32_t)payload_len + !!(flags & LK_SYN) + !!(flags & LK_FIN);
         reply.tcp.flags |= LK_ACK;
-        reply.tcp.ack_number = lk_seq_add(in->tcp.seq_number, len);
+        reply.tcp.ack_number = lk_add_seq(in->tcp.seq_number, len);
     }
     send_out(lk_emit_tcp_frame(&reply, &none, NULL, 0, out, sizeof out));
 }
@@ -169,13 +169,13 @@ static void send_data(struct connection *c, int owed)
         len = len < window ? len : window;
         len = len < most ? len : most;
         send_segment(c, LK_PSH, c->sent_to, c->data + sent, len);
-        c->sent_to = lk_seq_add(c->sent_to, (uint32_t)len);
+        c->sent_to = lk_add_seq(c->sent_to, (uint32_t)len);
         sent += len;
         owed = 0;
     }
     if (c->fin_received && !c->fin_sent && sent == c->held) {
         send_segment(c, LK_FIN, c->sent_to, NULL, 0);
-        c->sent_to = lk_seq_add(c->sent_to, 1);
+        c->sent_to = lk_add_seq(c->sent_to, 1);
         c->fin_sent = 1;
         owed = 0;
     }
@@ -191,18 +191,18 @@ static void open_connection(struct connection *c, const struct lk_frame *in, con
     c->peer = *options;
     c->state = SYN_RECEIVED;
     c->ts_recent = options->tsval;
-    c->next = lk_seq_add(in->tcp.seq_number, 1);
+    c->next = lk_add_seq(in->tcp.seq_number, 1);
     if (getrandom(&c->sent_from, sizeof c->sent_from, 0) < 0)
         c->sent_from = milliseconds();
-    c->sent_to = lk_seq_add(c->sent_from, 1);
+    c->sent_to = lk_add_seq(c->sent_from, 1);
     send_segment(c, LK_SYN, c->sent_from, NULL, 0);
 }
 
 /* Drops what the peer acknowledges. Returns 0 if the connection has ended by that. */
 static int acknowledge(struct connection *c, const struct lk_tcp *tcp)
 {
-    int32_t newly = lk_seq_distance(tcp->ack_number, c->sent_from);
-    if (newly < 0 || lk_seq_compare(tcp->ack_number, c->sent_to) > 0)
+    int32_t newly = lk_subtract_seq(tcp->ack_number, c->sent_from);
+    if (newly < 0 || lk_compare_seq(tcp->ack_number, c->sent_to) > 0)
         return 1; /* it is old, or was never sent */
     if (c->fin_sent && tcp->ack_number == c->sent_to) {
         c->state = FREE; /* the peer has closed, and has all */
@@ -218,7 +218,7 @@ static int acknowledge(struct connection *c, const struct lk_tcp *tcp)
 /* Takes what is new of a payload, as far as there is room. */
 static void take(struct connection *c, const struct lk_frame *in, const uint8_t *payload)
 {
-    int32_t before = lk_seq_distance(c->next, in->tcp.seq_number);
+    int32_t before = lk_subtract_seq(c->next, in->tcp.seq_number);
     size_t skip = before > 0 ? (size_t)before : 0, room = BUFFER - c->held;
     if (c->fin_received || before < 0 || skip > in->payload_len)
         return;
@@ -229,13 +229,13 @@ static void take(struct connection *c, const struct lk_frame *in, const uint8_t 
         c->fin_received = (in->tcp.flags & LK_FIN) != 0;
     memcpy(c->data + c->held, payload + skip, len);
     c->held += len;
-    c->next = lk_seq_add(c->next, (uint32_t)len + (uint32_t)c->fin_received);
+    c->next = lk_add_seq(c->next, (uint32_t)len + (uint32_t)c->fin_received);
 }
 
 static void on_segment(struct connection *c, const struct lk_frame *in, const struct lk_tcp_options *options,
                        const uint8_t *payload)
 {
-    int32_t before = lk_seq_distance(c->next, in->tcp.seq_number);
+    int32_t before = lk_subtract_seq(c->next, in->tcp.seq_number);
     if ((in->tcp.flags & (LK_SYN | LK_RST | LK_ACK)) != LK_ACK) {
         if (in->tcp.flags & LK_SYN)
             send_segment(c, 0, c->sent_to, NULL, 0);
@@ -284,7 +284,7 @@ static int is_for_us(const struct lk_frame *in)
 {
     const struct lk_addr *own = in->network == LK_IPV4 ? &own_ipv4 : &own_ipv6;
     return memcmp(in->ethernet.dst, own_hardware, 6) == 0 && memcmp(&in->dst.addr, own, sizeof *own) == 0
-           && lk_addr_is_unicast(&in->src.addr) && in->transport != LK_NO_TRANSPORT;
+           && lk_is_unicast(&in->src.addr) && in->transport != LK_NO_TRANSPORT;
 }
 
 static void on_frame(const uint8_t *frame, size_t len)
@@ -309,9 +309,9 @@ static void on_frame(const uint8_t *frame, size_t len)
 
 static int read_own(char **words)
 {
-    return lk_ethernet_read(words[0], strlen(words[0]), own_hardware)
-           && lk_addr_read(words[1], strlen(words[1]), &own_ipv4) && own_ipv4.version == 4
-           && lk_addr_read(words[2], strlen(words[2]), &own_ipv6) && own_ipv6.version == 6;
+    return lk_parse_ethernet(words[0], strlen(words[0]), own_hardware)
+           && lk_parse_addr(words[1], strlen(words[1]), &own_ipv4) && own_ipv4.version == 4
+           && lk_parse_addr(words[2], strlen(words[2]), &own_ipv6) && own_ipv6.version == 6;
 }
 
 /* Stores its MTU too. */

@@ -1,4 +1,4 @@
-/* The proved host on a TAP device (Linux). lk_host_answer writes each answer, so this program has no octet of
+/* The proved host on a TAP device (Linux). lk_answer writes each answer, so this program has no octet of
  * a packet: it reads frames, and sends what it gets for them.
  *     proved_host DEVICE HARDWARE_ADDRESS IPV4_ADDRESS IPV6_ADDRESS [TCP_PORT..]
  * Makes the device, unless it exists, and prints "ready". It answers ARP for its IPv4 address, echoes what
@@ -23,9 +23,9 @@ enum { MOST_PORTS = 16, LONGEST_FRAME = 65535 + 18 };
 
 static int read_host(char **words, struct lk_host *host)
 {
-    return lk_ethernet_read(words[0], strlen(words[0]), host->hardware)
-           && lk_addr_read(words[1], strlen(words[1]), &host->ipv4) && host->ipv4.version == 4
-           && lk_addr_read(words[2], strlen(words[2]), &host->ipv6) && host->ipv6.version == 6;
+    return lk_parse_ethernet(words[0], strlen(words[0]), host->hardware)
+           && lk_parse_addr(words[1], strlen(words[1]), &host->ipv4) && host->ipv4.version == 4
+           && lk_parse_addr(words[2], strlen(words[2]), &host->ipv6) && host->ipv6.version == 6;
 }
 
 static int open_device(const char *name)
@@ -51,7 +51,7 @@ static void serve(int device, struct lk_host *host)
     static uint8_t frame[LONGEST_FRAME], out[LONGEST_FRAME];
     ssize_t len;
     while ((len = read(device, frame, sizeof frame)) > 0 && renew(host)) {
-        ptrdiff_t answer = lk_host_answer(host, frame, (size_t)len, out, sizeof out);
+        ptrdiff_t answer = lk_answer(host, frame, (size_t)len, out, sizeof out);
         if (answer > 0 && write(device, out, (size_t)answer) != answer)
             return;
     }

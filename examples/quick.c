@@ -7,16 +7,16 @@ int main(void)
     static const uint8_t frame[] = "\2\0\0\0\0\2\2\0\0\0\0\1\x08\0"  /* Ethernet */
         "\x45\0\0\x20\0\0\x40\0\x40\x11\xb6\xc9\xc0\0\2\1\xc0\0\2\2" /* IPv4 */
         "\xb5\xe3\x14\xe9\0\x0c\0\0" "ping";                         /* UDP */
-    struct lk_frame f, reply;
+    struct lk_frame f;
     uint8_t out[1514];
-    char src[47];
+    char src[LK_ENDPOINT_TEXT];
     if (lk_read_frame(frame, sizeof frame - 1, &f) != LK_READ || f.transport != LK_UDP
         || f.ipv4_checksum == LK_WRONG || f.transport_checksum == LK_WRONG)
         return 1;
-    printf("%.*s from %.*s\n", (int)f.payload_len, (const char *)frame + f.payload_offset,
-           (int)lk_endpoint_print(&f.src, src, sizeof src), src);
-    lk_reply(&f, &reply);
-    ptrdiff_t len = lk_emit_udp_frame(&reply, (const uint8_t *)"pong", 4, out, sizeof out);
+    lk_print_endpoint(&f.src, src, sizeof src);
+    printf("%.*s from %s\n", (int)f.payload_len, (const char *)frame + f.payload_offset, src);
+    lk_reply(&f);
+    ptrdiff_t len = lk_emit_udp_frame(&f, (const uint8_t *)"pong", 4, out, sizeof out);
     printf("the reply has %td octets\n", len);
-    return len == LK_FAILED;
+    return len < 0;
 }

@@ -3,10 +3,11 @@
 
     tests/c_calls.py [TOP]
 
-Each call of the header must be a function of ip_wire_c or c/cpu.c with the same types, and the other way round. Each struct
-of c_structs must have the same fields in the same order, and each enum the same names and numbers. Each name `lk_..` in
+Each call of the header must be a function of ip_wire_c, c/cpu.c or c/names.c with the same types, and the other way round.
+Each struct of c_structs must have the same fields in the same order, and each enum and each failure the same names and numbers.
+`lk_append` and its struct are in the header only. Each name `lk_..` in
 README.md and docs/ must be in the header. Differences are printed, and the status is 1 then. TOP is the top of the
-repository. tests/install compares the header with the man page.
+repository. tests/install compares the header with the man pages.
 """
 import glob
 import os
@@ -19,6 +20,9 @@ NUMBERS = {"u8": "uint8_t", "u16": "uint16_t", "u32": "uint32_t", "i32": "int", 
 SAME = {"char": "uint8_t", "int32_t": "int"}
 # The field has another name in Rattle, because `type` is a keyword.
 FIELDS = {"ethertype": "type"}
+# What is in C.
+OF_C = ("/c/cpu.c", "/c/names.c")
+HEADER_ONLY = ("lk_out",)
 # The flags of a TCP header, from bit 0 on (RFC 9293, section 3.1).
 TCP_FLAGS = ("FIN", "SYN", "RST", "PSH", "ACK", "URG", "ECE", "CWR")
 
@@ -40,15 +44,21 @@ def c_type(declared):
 
 def c_calls(text):
     """Each prototype or definition as a name with its types: those of the parameters, then that of the result."""
-    for result, name, parameters in re.findall(r"(\w+) +(lk_\w+)\(([^()]*)\)\s*[;{]", without_comments(text)):
+    text = re.sub(r"static inline [^{]*{.*?\n}", "", without_comments(text), flags=re.S)
+    for result, name, parameters in re.findall(r"(\w+ +|\w+ \*)(lk_\w+)\(([^()]*)\)\s*[;{]", text):
         types = [] if parameters.strip() == "void" else [c_type(p) for p in parameters.split(",")]
-        yield name, [*types, c_type(result)]
+        yield name, [*types, c_type(result) if "*" not in result else "const char *"]
 
 
 def c_structs(text):
     """Each struct as a name with its fields: name, type and length of an array."""
     for name, body in re.findall(r"struct (lk_\w+) {(.*?)};", without_comments(text), re.S):
         yield name, re.findall(r"(\S[\w ]*?(?: \*)?) ?\b(\w+)(?:\[(\d+)\])?;", body)
+
+
+def c_failures(text):
+    """The names of the failures with their numbers."""
+    return {name: int(number) for name, number in re.findall(r"#define (LK_\w+) LK_FAILURE\((\d+)\)", text)}
 
 
 def c_enums(text):
@@ -113,6 +123,11 @@ class Library:
                 words = [re.sub(r"\B([A-Z])", r"_\1", member.text).upper() for member in item.members]
                 yield name, {"LK_" + (nothing if word == "NONE" else word): number for number, word in enumerate(words)}
 
+    def failures(self):
+        failure = next(item for item in self.items if item.kind == "enum" and item.name == "Failure")
+        words = [re.sub(r"\B([A-Z])", r"_\1", member.text).upper() for member in failure.members]
+        return {"LK_" + word: number for number, word in enumerate(words, 1)}
+
     def fields(self, member):
         """The fields in C of a public field: a slice is a pointer and a count."""
         declared = re.fullmatch(r"pub (\w+): (?:\[(\w+); (\w+)\]|&'\w+ \[(\w+)\]|(\w+))", member)
@@ -145,8 +160,9 @@ def main(top):
     sources = Library(top)
     calls = dict(c_calls(header))
     found = [
-        *differences(calls, [*sources.calls(), *c_calls(read(top + "/c/cpu.c"))]),
-        *differences(c_structs(header), sources.structs()),
+        *differences(calls, [*sources.calls(), *(call for name in OF_C for call in c_calls(read(top + name)))]),
+        *differences((it for it in c_structs(header) if it[0] not in HEADER_ONLY), sources.structs()),
+        *differences(c_failures(header), sources.failures()),
         *differences(c_enums(header), sources.enums()),
         *unknown_names(top, header),
     ]

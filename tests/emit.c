@@ -67,7 +67,7 @@ static struct lk_addr addr(const char *text)
 {
     struct lk_addr addr;
     memset(&addr, OLD, sizeof addr);
-    check(__LINE__, lk_addr_read(text, strlen(text), &addr) == 1);
+    check(__LINE__, lk_parse_addr(text, strlen(text), &addr) == 1);
     return addr;
 }
 
@@ -75,7 +75,7 @@ static struct lk_endpoint endpoint(const char *text)
 {
     struct lk_endpoint endpoint;
     memset(&endpoint, OLD, sizeof endpoint);
-    check(__LINE__, lk_endpoint_read(text, strlen(text), &endpoint) == 1);
+    check(__LINE__, lk_parse_endpoint(text, strlen(text), &endpoint) == 1);
     return endpoint;
 }
 
@@ -160,9 +160,9 @@ static void unusual_values(void)
     other.operation = 0x0102;
     WRITES("0001080006040102020000000001c00002010600aabbccddc6336407", lk_emit_arp(&other, &src, &dst, out, ROOM));
     last.dscp = ipv6.dscp = 63, last.ecn = ipv6.ecn = 3, last.protocol = 255;
-    last.hop_limit = ipv6.hop_limit = ipv6.protocol = 0;
-    WRITES("45ff0014ffff1fff00ffacb1c0000201c6336407", lk_emit_ip(&last, &src, &dst, 0, 1, out, ROOM));
-    WRITES("6fffffff0000000020010db800000000000000000000000120010db8ffff00000000000000000007",
+    last.hop_limit = ipv6.hop_limit = 1, ipv6.protocol = 0;
+    WRITES("45ff0014ffff1fff01ffabb1c0000201c6336407", lk_emit_ip(&last, &src, &dst, 0, 1, out, ROOM));
+    WRITES("6fffffff0000000120010db800000000000000000000000120010db8ffff00000000000000000007",
            lk_emit_ip(&ipv6, &src6, &dst6, 0, 1, out, ROOM));
     memset(&first, 0, sizeof first);
     first.hop_limit = 255;
@@ -273,45 +273,35 @@ static void frames(void)
            lk_emit_arp_frame(&ipv4, out, ROOM));
 }
 
-/* Port 0 is written as it is, though a receiver may reject it. */
-static void port_zero(void)
+/* A source port of 0 is written: the sender of UDP needs no answer (RFC 768). */
+static void no_source_port(void)
 {
-    static const char udp4[] = "0600aabbccdd020000000001080045ba0021beef40003f118fe6c0000201c633640700000000000dca92de01ad02be";
+    static const char udp4[] = "0600aabbccdd020000000001080045ba0021beef40003f118fe6c0000201c633640700000009000dca89de01ad02be";
     static const char udp6[] = "0600aabbccdd02000000000186dd6baabcde000d113f20010db800000000000000000000000120010db8ffff0000"
-                               "000000000000000700000000000d5b55de01ad02be";
-    static const char tcp4[] = "0600aabbccdd020000000001080045ba002dbeef40003f068fe5c0000201c63364070000000089abcdef12345678"
-                               "5058feedf011cafede01ad02be";
-    static const char tcp6[] = "0600aabbccdd02000000000186dd6baabcde0019063f20010db800000000000000000000000120010db8ffff0000"
-                               "00000000000000070000000089abcdef123456785058feed80d4cafede01ad02be";
-    struct lk_frame ipv4 = headers("192.0.2.1", "198.51.100.7"), ipv6 = headers("2001:db8::1", "2001:db8:ffff::7");
-    struct lk_tcp_options none;
-    memset(&none, 0, sizeof none);
+                               "000000000000000700000009000d5b4cde01ad02be";
+    struct lk_frame ipv4 = headers("192.0.2.1", "198.51.100.7:9"), ipv6 = headers("2001:db8::1", "[2001:db8:ffff::7]:9");
     ipv6.ip.ident = 0, ipv6.ip.flow_label = 0xabcde;
-    WRITES("00000000000dca92de01ad02be", lk_emit_udp(&ipv4.src, &ipv4.dst, payload, 5, 1, out, ROOM));
-    WRITES("0000000089abcdef123456785058feedf011cafede01ad02be", lk_emit_tcp(&ipv4.tcp, &none, &ipv4.src, &ipv4.dst, payload, 5, 1, out, ROOM));
+    WRITES("00000009000dca89de01ad02be", lk_emit_udp(&ipv4.src, &ipv4.dst, payload, 5, 1, out, ROOM));
     WRITES(udp4, lk_emit_udp_frame(&ipv4, payload, 5, out, ROOM));
     WRITES(udp6, lk_emit_udp_frame(&ipv6, payload, 5, out, ROOM));
-    WRITES(tcp4, lk_emit_tcp_frame(&ipv4, &none, payload, 5, out, ROOM));
-    WRITES(tcp6, lk_emit_tcp_frame(&ipv6, &none, payload, 5, out, ROOM));
     WRAPS(udp4, 42, lk_wrap_udp_frame(&ipv4, 5, out, ROOM));
     WRAPS(udp6, 62, lk_wrap_udp_frame(&ipv6, 5, out, ROOM));
-    WRAPS(tcp4, 54, lk_wrap_tcp_frame(&ipv4, &none, 5, out, ROOM));
-    WRAPS(tcp6, 74, lk_wrap_tcp_frame(&ipv6, &none, 5, out, ROOM));
 }
 
 static void replies(void)
 {
-    struct lk_frame frame = headers("192.0.2.1:5353", "198.51.100.7:53"), reply, back;
-    memset(&reply, OLD, sizeof reply);
-    memset(&back, OLD, sizeof back);
-    lk_reply(&frame, &reply);
+    static const struct lk_ip fresh = {0, 0, 0, 6, 64, 46, 0, 0, 1};
+    struct lk_frame frame = headers("192.0.2.1:5353", "198.51.100.7:53"), reply = frame, back;
+    frame.ip.protocol = reply.ip.protocol = 6;
+    lk_reply(&reply);
     check(__LINE__, memcmp(&reply.src, &frame.dst, sizeof frame.dst) == 0 && memcmp(&reply.dst, &frame.src, sizeof frame.src) == 0);
     check(__LINE__, memcmp(reply.ethernet.src, ethernet.dst, 6) == 0 && memcmp(reply.ethernet.dst, ethernet.src, 6) == 0);
     check(__LINE__, memcmp(reply.arp.src_hardware, arp.dst_hardware, 6) == 0 && memcmp(reply.arp.dst_hardware, arp.src_hardware, 6) == 0);
-    check(__LINE__, reply.ethernet.type == 0x88b5 && reply.arp.operation == 2 && memcmp(&reply.ip, &frame.ip, sizeof frame.ip) == 0);
+    check(__LINE__, reply.ethernet.type == 0x88b5 && reply.arp.operation == 2 && memcmp(&reply.ip, &fresh, sizeof fresh) == 0);
     check(__LINE__, memcmp(&reply.tcp, &frame.tcp, sizeof frame.tcp) == 0 && reply.payload_len == frame.payload_len);
     check(__LINE__, reply.network_offset == frame.network_offset && reply.transport_checksum == frame.transport_checksum);
-    lk_reply(&reply, &back);
+    back = reply;
+    lk_reply(&back);
     check(__LINE__, memcmp(&back.src, &frame.src, sizeof frame.src) == 0 && memcmp(&back.ethernet, &ethernet, sizeof ethernet) == 0);
 }
 
@@ -319,7 +309,7 @@ static void replies(void)
 static void answers(int line, const struct lk_host *host, const uint8_t *frame, size_t len, const uint8_t *answer, size_t answer_len)
 {
     memset(out, OLD, sizeof out);
-    ptrdiff_t written = lk_host_answer(host, frame, len, out, ROOM);
+    ptrdiff_t written = lk_answer(host, frame, len, out, ROOM);
     check(line, holds_bytes(answer, answer_len, written));
 }
 
@@ -410,18 +400,18 @@ static int is_block(const char *text, const char *printed, int member)
     struct lk_addr ten = addr("10.255.0.1");
     char text_out[43];
     memset(&block, OLD, sizeof block);
-    if (!lk_block_read(text, strlen(text), &block))
+    if (!lk_parse_block(text, strlen(text), &block))
         return 0;
-    ptrdiff_t len = lk_block_print(&block, text_out, sizeof text_out);
+    ptrdiff_t len = lk_print_block(&block, text_out, sizeof text_out);
     return len == (ptrdiff_t)strlen(printed) && memcmp(text_out, printed, strlen(printed)) == 0
-        && lk_block_contains(&block, &ten) == member;
+        && lk_contains(&block, &ten) == member;
 }
 
 static int is_addr(const char *text, const char *printed)
 {
     struct lk_addr address = addr(text);
     char text_out[39];
-    ptrdiff_t len = lk_addr_print(&address, text_out, sizeof text_out);
+    ptrdiff_t len = lk_print_addr(&address, text_out, sizeof text_out);
     return len == (ptrdiff_t)strlen(printed) && memcmp(text_out, printed, strlen(printed)) == 0;
 }
 
@@ -429,7 +419,7 @@ static int is_endpoint(const char *text, const char *printed, uint16_t port)
 {
     struct lk_endpoint e = endpoint(text);
     char text_out[47];
-    ptrdiff_t len = lk_endpoint_print(&e, text_out, sizeof text_out);
+    ptrdiff_t len = lk_print_endpoint(&e, text_out, sizeof text_out);
     return e.port == port && len == (ptrdiff_t)strlen(printed) && memcmp(text_out, printed, strlen(printed)) == 0;
 }
 
@@ -447,19 +437,19 @@ static void texts(void)
     check(__LINE__, is_block("10.255.0.0/31", "10.255.0.0/31", 1) && is_block("::1/128", "::1/128", 0));
     check(__LINE__, is_endpoint("192.0.2.1:65535", "192.0.2.1:65535", 65535) && is_endpoint("192.0.2.1", "192.0.2.1:0", 0));
     check(__LINE__, is_endpoint("[FE80::1]:80", "[fe80::1]:80", 80) && is_endpoint("fe80::1", "[fe80::1]:0", 0));
-    check(__LINE__, lk_ethernet_read("AB-cd-ef-0-0-1", 14, octets) == 1 && memcmp(octets, "\xab\xcd\xef\0\0\1", 6) == 0);
-    check(__LINE__, lk_ethernet_print(octets, text, 17) == 17 && memcmp(text, "ab-cd-ef-00-00-01", 17) == 0);
+    check(__LINE__, lk_parse_ethernet("AB-cd-ef-0-0-1", 14, octets) == 1 && memcmp(octets, "\xab\xcd\xef\0\0\1", 6) == 0);
+    check(__LINE__, lk_print_ethernet(octets, text, 17) == 17 && memcmp(text, "ab-cd-ef-00-00-01", 17) == 0);
 }
 
 static void classes(void)
 {
     struct lk_addr group = addr("239.255.255.255"), host = addr("223.255.255.255"), all = addr("255.255.255.255"), none = addr("0.0.0.0");
     struct lk_addr group6 = addr("ff02::1"), host6 = addr("fe80::1"), none6 = addr("::"), no_version = {{1}, 0};
-    check(__LINE__, lk_addr_is_multicast(&group) == 1 && lk_addr_is_multicast(&group6) == 1);
-    check(__LINE__, !lk_addr_is_multicast(&host) && !lk_addr_is_multicast(&host6) && !lk_addr_is_multicast(&no_version));
-    check(__LINE__, lk_addr_is_unicast(&host) == 1 && lk_addr_is_unicast(&host6) == 1);
-    check(__LINE__, !lk_addr_is_unicast(&group) && !lk_addr_is_unicast(&group6) && !lk_addr_is_unicast(&all));
-    check(__LINE__, !lk_addr_is_unicast(&none) && !lk_addr_is_unicast(&none6) && !lk_addr_is_unicast(&no_version));
+    check(__LINE__, lk_is_multicast(&group) == 1 && lk_is_multicast(&group6) == 1);
+    check(__LINE__, !lk_is_multicast(&host) && !lk_is_multicast(&host6) && !lk_is_multicast(&no_version));
+    check(__LINE__, lk_is_unicast(&host) == 1 && lk_is_unicast(&host6) == 1);
+    check(__LINE__, !lk_is_unicast(&group) && !lk_is_unicast(&group6) && !lk_is_unicast(&all));
+    check(__LINE__, !lk_is_unicast(&none) && !lk_is_unicast(&none6) && !lk_is_unicast(&no_version));
 }
 
 static void numbers(void)
@@ -467,13 +457,20 @@ static void numbers(void)
     static const uint8_t rfc1071[8] = {0x00, 0x01, 0xf2, 0x03, 0xf4, 0xf5, 0xf6, 0xf7};
     check(__LINE__, lk_checksum(rfc1071, 8) == 0xddf2 && lk_checksum(rfc1071, 7) == 0xdcfb);
     /* RFC 1624, section 4: the checksum 0xdd2f, and 0x5555 changed to 0x3285 */
-    check(__LINE__, lk_checksum_update(0xdd2f, 0x5555, 0x3285) == 0x0000);
-    check(__LINE__, lk_checksum_update(0x8fe6, 0x3f11, 0x3e11) == 0x90e6);
-    check(__LINE__, lk_seq_add(0xfffffff0, 0x20) == 0x10 && lk_seq_add(5, 0xffffffff) == 4);
-    check(__LINE__, lk_seq_distance(0x10, 0xfffffff0) == 0x20 && lk_seq_distance(0xfffffff0, 0x10) == -0x20);
-    check(__LINE__, lk_seq_distance(7, 7) == 0 && lk_seq_distance(0x80000007, 7) == INT32_MIN);
-    check(__LINE__, lk_seq_compare(0xfffffff0, 0x10) == -1 && lk_seq_compare(0x10, 0xfffffff0) == 1 && lk_seq_compare(9, 9) == 0);
-    check(__LINE__, lk_seq_compare(0, 0x80000000) == -1 && lk_seq_compare(0x80000000, 0) == -1);
+    check(__LINE__, lk_update_checksum(0xdd2f, 0x5555, 0x3285) == 0x0000);
+    check(__LINE__, lk_update_checksum(0x8fe6, 0x3f11, 0x3e11) == 0x90e6);
+    check(__LINE__, lk_update_udp_checksum(0xdd2f, 0x5555, 0x3285) == 0xffff && lk_update_udp_checksum(0, 0x5555, 0x3285) == 0);
+    struct lk_addr inside = addr("192.0.2.1"), outside = addr("198.51.100.7"), old6 = addr("2001:db8::1"), new6 = addr("fe80::ff");
+    check(__LINE__, lk_update_checksum_addr(0xb1e6, &inside, &outside) == 0x49ad);
+    check(__LINE__, lk_update_checksum_addr(0x1c46, &old6, &new6) == 0x4a80);
+    check(__LINE__, lk_update_checksum_addr(0x6839, &inside, &outside) == 0);
+    check(__LINE__, lk_update_udp_checksum_addr(0x6839, &inside, &outside) == 0xffff);
+    check(__LINE__, lk_update_udp_checksum_addr(0, &inside, &outside) == 0);
+    check(__LINE__, lk_add_seq(0xfffffff0, 0x20) == 0x10 && lk_add_seq(5, 0xffffffff) == 4);
+    check(__LINE__, lk_subtract_seq(0x10, 0xfffffff0) == 0x20 && lk_subtract_seq(0xfffffff0, 0x10) == -0x20);
+    check(__LINE__, lk_subtract_seq(7, 7) == 0 && lk_subtract_seq(0x80000007, 7) == INT32_MIN);
+    check(__LINE__, lk_compare_seq(0xfffffff0, 0x10) == -1 && lk_compare_seq(0x10, 0xfffffff0) == 1 && lk_compare_seq(9, 9) == 0);
+    check(__LINE__, lk_compare_seq(0, 0x80000000) == -1 && lk_compare_seq(0x80000000, 0) == -1);
 }
 
 int main(void)
@@ -484,7 +481,7 @@ int main(void)
     transport_layer();
     longest_headers();
     frames();
-    port_zero();
+    no_source_port();
     replies();
     hosts();
     host_offers();

@@ -172,9 +172,12 @@ static struct lk_frame tcp(struct lk_frame frame, uint8_t header_len, uint8_t fl
     return frame;
 }
 
+/* The last header is rejected. That of a transport is named apart. */
 static struct lk_frame rejected(struct lk_frame frame, uint8_t reason)
 {
     frame.reason = reason;
+    frame.rejected = frame.transport;
+    frame.transport = LK_NO_TRANSPORT;
     return frame;
 }
 
@@ -193,11 +196,8 @@ static struct lk_frame with_bad_ipv4_checksum(struct lk_frame frame)
 
 /* ---- frames */
 
-static void reads(const char *name, const uint8_t *ptr, size_t len, struct lk_frame expected)
+static void fields_differ(const char *name, struct lk_frame found, struct lk_frame expected)
 {
-    struct lk_frame found;
-    memset(&found, 0xa5, sizeof found);
-    differs(name, "the result", (unsigned long long)lk_read_frame(ptr, len, &found), expected.reason);
 #define FIELD(field) differs(name, #field, found.field, expected.field)
 #define OCTETS(field) octets_differ(name, #field, found.field, expected.field, sizeof found.field)
     FIELD(network_offset);
@@ -234,10 +234,55 @@ static void reads(const char *name, const uint8_t *ptr, size_t len, struct lk_fr
     FIELD(reason);
     FIELD(network);
     FIELD(transport);
+    FIELD(rejected);
     FIELD(is_fragment);
     FIELD(ipv4_checksum);
     FIELD(transport_checksum);
 #undef FIELD
+}
+
+/* What is expected of the packet in a frame, read without its Ethernet header. */
+static struct lk_frame packet_of(struct lk_frame frame)
+{
+    memset(&frame.ethernet, 0, sizeof frame.ethernet);
+    if (frame.network != LK_NO_NETWORK)
+        frame.network_offset -= 14;
+    if (frame.transport_offset != 0)
+        frame.transport_offset -= 14;
+    frame.payload_offset -= 14;
+    return frame;
+}
+
+static void reads(const char *name, const uint8_t *ptr, size_t len, struct lk_frame expected)
+{
+    struct lk_frame found;
+    memset(&found, 0xa5, sizeof found);
+    differs(name, "the result", (unsigned long long)lk_read_frame(ptr, len, &found), expected.reason);
+    fields_differ(name, found, expected);
+    if (expected.network != LK_IPV4 && expected.network != LK_IPV6)
+        return;
+    memset(&found, 0xa5, sizeof found);
+    differs(name, "the result of the packet", (unsigned long long)lk_read_packet(ptr + 14, len - 14, &found), expected.reason);
+    fields_differ(name, found, packet_of(expected));
+}
+
+/* Packets whose first four bits are no version, or one whose header does not fit. */
+static void rejects_packets(void)
+{
+    static const uint8_t octets[40] = {0x45}, version5[40] = {0x55}, version6[40] = {0x60, 0, 0, 0, 0, 1};
+    static const struct {
+        const uint8_t *ptr;
+        size_t len;
+        uint8_t reason;
+    } rows[] = {{NULL, 0, LK_TOO_SHORT}, {octets, 19, LK_TOO_SHORT}, {octets, 20, LK_BAD_LENGTH}, {version5, 1, LK_BAD_VERSION},
+                {version5, 40, LK_BAD_VERSION}, {version6, 39, LK_TOO_SHORT}, {version6, 40, LK_BAD_LENGTH}};
+    for (size_t i = 0; i < sizeof rows / sizeof rows[0]; i++) {
+        struct lk_frame found, expected = nothing(rows[i].len);
+        memset(&found, 0xa5, sizeof found);
+        expected.reason = rows[i].reason;
+        differs("a packet", "the result", (unsigned long long)lk_read_packet(rows[i].ptr, rows[i].len, &found), rows[i].reason);
+        fields_differ("a packet", found, expected);
+    }
 }
 
 #define READS(frame, expected) reads(#frame, frame, sizeof frame, expected)
@@ -333,116 +378,38 @@ static void reads_each_flag(void)
     }
 }
 
-/* ---- TCP options */
+/* ---- names, and the version */
 
-static struct lk_tcp_options ranges(uint8_t count)
+#define NAMES(call, value) differs(#value, "the name", strcmp(call(value), #value) != 0, 0)
+
+static void names(void)
 {
-    struct lk_tcp_options options;
-    memset(&options, 0, sizeof options);
-    options.sack_range_count = count;
-    for (uint32_t i = 0; i < count; i++) {
-        options.sack_ranges[i].left = 0x10203040 + i;
-        options.sack_ranges[i].right = 0x50607080 + i;
-    }
-    return options;
-}
-
-static struct lk_tcp_options size_and_scale(uint16_t max_seg_size, uint8_t window_scale)
-{
-    struct lk_tcp_options options = ranges(0);
-    options.max_seg_size = max_seg_size;
-    options.has_max_seg_size = max_seg_size != 0;
-    options.window_scale = window_scale;
-    options.has_window_scale = 1;
-    return options;
-}
-
-static struct lk_tcp_options each_option(void)
-{
-    struct lk_tcp_options options = size_and_scale(0x05b4, 7);
-    options.sack_permitted = 1;
-    options.tsval = 0x81828384;
-    options.tsecr = 0x91929394;
-    options.has_timestamp = 1;
-    return options;
-}
-
-static void reads_options(const char *name, const uint8_t *ptr, size_t len, int result,
-                          struct lk_tcp_options expected)
-{
-    struct lk_tcp_options found;
-    memset(&found, 0xa5, sizeof found);
-    differs(name, "the result", (unsigned long long)lk_read_tcp_options(ptr, len, &found), result);
-    for (size_t i = 0; i < 4; i++) {
-        differs(name, "a left edge", found.sack_ranges[i].left, expected.sack_ranges[i].left);
-        differs(name, "a right edge", found.sack_ranges[i].right, expected.sack_ranges[i].right);
-    }
-#define FIELD(field) differs(name, #field, found.field, expected.field)
-    FIELD(tsval);
-    FIELD(tsecr);
-    FIELD(max_seg_size);
-    FIELD(window_scale);
-    FIELD(sack_permitted);
-    FIELD(sack_range_count);
-    FIELD(has_max_seg_size);
-    FIELD(has_window_scale);
-    FIELD(has_timestamp);
-#undef FIELD
-}
-
-#define READS_OPTIONS(header, expected) reads_options(#header, header, sizeof header, 1, expected)
-#define REJECTS_OPTIONS(header, len) reads_options(#header, header, len, 0, unchanged)
-
-static void reads_all_options(void)
-{
-    struct lk_tcp_options unchanged;
-    memset(&unchanged, 0xa5, sizeof unchanged);
-    READS_OPTIONS(all_options, each_option());
-    READS_OPTIONS(four_ranges, ranges(4));
-    READS_OPTIONS(two_ranges, ranges(2));
-    READS_OPTIONS(repeated, size_and_scale(0x0202, 14)); /* a scale of 15 counts as 14 */
-    READS_OPTIONS(behind_end, size_and_scale(0, 5));
-    READS_OPTIONS(no_options, ranges(0));
-    REJECTS_OPTIONS(bad_option, sizeof bad_option);
-    REJECTS_OPTIONS(bad_offset, sizeof bad_offset);
-    REJECTS_OPTIONS(no_options, 19);
-    REJECTS_OPTIONS(all_options, sizeof all_options - 1);
-    REJECTS_OPTIONS(all_options, 0);
-}
-
-/* ---- reasons, and the version */
-
-static void prints(int reason, size_t cap, const char *expected)
-{
-    char out[33];
-    memset(out, '?', sizeof out);
-    ptrdiff_t len = lk_reason_print(reason, out, cap);
-    if (!expected) {
-        differs("lk_reason_print", "LK_FAILED", len == LK_FAILED, 1);
-        differs("lk_reason_print", "the first byte", (unsigned char)out[0], '?');
-        return;
-    }
-    size_t expected_len = strlen(expected);
-    differs("lk_reason_print", "the length", (unsigned long long)len, expected_len);
-    differs(expected, "the text", memcmp(out, expected, expected_len) != 0, 0);
-    differs(expected, "the byte behind it", (unsigned char)out[expected_len], '?');
-}
-
-static void prints_reasons(void)
-{
-    prints(LK_READ, 32, "read");
-    prints(LK_TOO_SHORT, 32, "too short");
-    prints(LK_BAD_VERSION, 32, "version");
-    prints(LK_BAD_LENGTH, 32, "length");
-    prints(LK_OTHER_ARP, 32, "other ARP");
-    prints(LK_PORT_ZERO, 32, "port 0");
-    prints(LK_BAD_FLAGS, 32, "several of SYN, FIN and RST");
-    prints(LK_BAD_OPTIONS, 32, "options");
-    prints(LK_PORT_ZERO, 6, "port 0");
-    prints(LK_PORT_ZERO, 5, NULL);
-    prints(LK_BAD_OPTIONS + 1, 32, NULL);
-    prints(-1, 32, NULL);
-    prints(256, 32, NULL);
+    NAMES(lk_reason_name, LK_READ);
+    NAMES(lk_reason_name, LK_TOO_SHORT);
+    NAMES(lk_reason_name, LK_BAD_VERSION);
+    NAMES(lk_reason_name, LK_BAD_LENGTH);
+    NAMES(lk_reason_name, LK_OTHER_ARP);
+    NAMES(lk_reason_name, LK_PORT_ZERO);
+    NAMES(lk_reason_name, LK_BAD_FLAGS);
+    NAMES(lk_reason_name, LK_BAD_OPTIONS);
+    NAMES(lk_reason_name, LK_HEADER_CUT);
+    NAMES(lk_failure_name, LK_NO_VERSION);
+    NAMES(lk_failure_name, LK_TWO_VERSIONS);
+    NAMES(lk_failure_name, LK_BAD_PREFIX);
+    NAMES(lk_failure_name, LK_NO_PORT);
+    NAMES(lk_failure_name, LK_NO_HOP_LIMIT);
+    NAMES(lk_failure_name, LK_BAD_FIELD);
+    NAMES(lk_failure_name, LK_TWO_CONTROLS);
+    NAMES(lk_failure_name, LK_OPTIONS_TOO_LONG);
+    NAMES(lk_failure_name, LK_PAYLOAD_TOO_LONG);
+    NAMES(lk_failure_name, LK_NO_HEADER);
+    NAMES(lk_failure_name, LK_NO_ROOM);
+    differs("lk_reason_name", "-1", strcmp(lk_reason_name(-1), "no reason") != 0, 0);
+    differs("lk_reason_name", "9", strcmp(lk_reason_name(LK_HEADER_CUT + 1), "no reason") != 0, 0);
+    differs("lk_failure_name", "0", strcmp(lk_failure_name(0), "no failure") != 0, 0);
+    differs("lk_failure_name", "-1", strcmp(lk_failure_name(-1), "no failure") != 0, 0);
+    differs("lk_failure_name", "12", strcmp(lk_failure_name(LK_FAILURE(12)), "no failure") != 0, 0);
+    differs("lk_failure_name", "the least number", strcmp(lk_failure_name(PTRDIFF_MIN), "no failure") != 0, 0);
 }
 
 int main(void)
@@ -453,9 +420,9 @@ int main(void)
     rejects_network_headers();
     rejects_udp_headers();
     rejects_tcp_headers();
+    rejects_packets();
     reads_each_flag();
-    reads_all_options();
-    prints_reasons();
+    names();
     differs("lk_version", "the result", lk_version(),
             LK_VERSION_MAJOR * 65536 + LK_VERSION_MINOR * 256 + LK_VERSION_PATCH);
     return failures != 0;

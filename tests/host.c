@@ -1,4 +1,4 @@
-/* Calls lk_host_answer for each line `host` of the standard input, and writes what crates/ip_calls writes for it. A line is a name, a
+/* Calls lk_answer for each line `host` of the standard input, and writes what crates/ip_calls writes for it. A line is a name, a
  * host, the octets of its buffer, and a frame. */
 #include <ctype.h>
 #include <stdint.h>
@@ -39,7 +39,7 @@ static struct lk_addr addr(void)
 {
     struct lk_addr found;
     const char *text = word();
-    if (lk_addr_read(text, strlen(text), &found) != 1)
+    if (lk_parse_addr(text, strlen(text), &found) != 1)
         stop("no address", text);
     return found;
 }
@@ -96,9 +96,9 @@ static ptrdiff_t answer(const char *name, const struct lk_host *asked, size_t le
     ptrdiff_t whole, written;
     size_t at;
     memset(out, OLD, ROOM);
-    whole = lk_host_answer(asked, frame, len, again, ROOM);
-    written = lk_host_answer(asked, frame, len, out, room);
-    if (written != (whole > (ptrdiff_t)room ? LK_FAILED : whole))
+    whole = lk_answer(asked, frame, len, again, ROOM);
+    written = lk_answer(asked, frame, len, out, room);
+    if (written != (whole > (ptrdiff_t)room ? LK_NO_ROOM : whole))
         stop("another length", name);
     for (at = written > 0 ? (size_t)written : 0; at < ROOM; at++)
         if (out[at] != OLD)

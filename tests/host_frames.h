@@ -126,8 +126,8 @@ static struct lk_host asked_host(const uint16_t *ports, size_t count)
     memset(&host, 0, sizeof host);
     host.open_ports = ports;
     host.open_port_count = count;
-    lk_addr_read("192.0.2.2", 9, &host.ipv4);
-    lk_addr_read("2001:db8::2", 11, &host.ipv6);
+    lk_parse_addr("192.0.2.2", 9, &host.ipv4);
+    lk_parse_addr("2001:db8::2", 11, &host.ipv6);
     memcpy(host.hardware, "\2\0\0\0\0\2", 6);
     host.echo_port = 7;
     host.seq_number = 0x0a0b0c0d;

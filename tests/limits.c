@@ -205,8 +205,8 @@ static void reply_fields(void)
     for (size_t i = 0; i < sizeof octets; i++)
         octets[i] = (uint8_t)(i + 1);
     memcpy(&frame, octets, sizeof frame);
-    memset(&reply, 0, sizeof reply);
-    lk_reply(&frame, &reply);
+    reply = frame;
+    lk_reply(&reply);
 #define BECOMES(to, from) differs("lk_reply", #to, memcmp(&reply.to, &frame.from, sizeof reply.to) != 0, 0)
 #define STAYS(field) BECOMES(field, field)
     STAYS(network_offset);
@@ -215,7 +215,15 @@ static void reply_fields(void)
     STAYS(payload_len);
     BECOMES(src, dst);
     BECOMES(dst, src);
-    STAYS(ip);
+    STAYS(ip.protocol);
+    STAYS(ip.dscp);
+    differs("lk_reply", "ip.hop_limit", reply.ip.hop_limit, 64);
+    differs("lk_reply", "ip.dont_fragment", reply.ip.dont_fragment, 1);
+    differs("lk_reply", "ip.ident", reply.ip.ident, 0);
+    differs("lk_reply", "ip.flow_label", reply.ip.flow_label, 0);
+    differs("lk_reply", "ip.fragment_offset", reply.ip.fragment_offset, 0);
+    differs("lk_reply", "ip.more_fragments", reply.ip.more_fragments, 0);
+    differs("lk_reply", "ip.ecn", reply.ip.ecn, 0);
     STAYS(tcp.seq_number);
     STAYS(tcp.ack_number);
     STAYS(tcp.window_len);
@@ -231,6 +239,7 @@ static void reply_fields(void)
     STAYS(reason);
     STAYS(network);
     STAYS(transport);
+    STAYS(rejected);
     STAYS(is_fragment);
     STAYS(ipv4_checksum);
     STAYS(transport_checksum);

@@ -1,5 +1,5 @@
 #!/usr/bin/env python3
-"""The rebuilt frame by the rules of docs/ARCHITECTURE.md ("Rebuilt frames"), without the library.
+"""The rebuilt frame by the rules of c/ip_wire.h (`lk_rebuild`), without the library.
 
     tests/rebuilt.py
 

@@ -57,7 +57,7 @@ struct lk_host any_host_for(const struct lk_frame *frame)
     fill(&host, sizeof host);
     fill(ports, sizeof ports);
     host.open_ports = ports;
-    host.open_port_count = below(5); /* Open: a count above LK_MAX_LEN is used, and the ports are not there. */
+    host.open_port_count = below(5);
     host.ipv4 = any_addr(one_in(100) ? any_version() : 4);
     host.ipv6 = any_addr(one_in(100) ? any_version() : 6);
     any_hardware(host.hardware);

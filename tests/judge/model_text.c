@@ -3,12 +3,6 @@
 #include <string.h>
 #include "model.h"
 
-/* The library accepts fewer texts than the header names: behind "::" it accepts dotted octets only where the text goes
- * on with "ffff:", and rejects ::0:ffff:192.168.1.1. 0: as the header says. */
-#ifndef AS_LIBRARY
-#define AS_LIBRARY 1
-#endif
-
 /* A part of a text. */
 struct part {
     const char *ptr;
@@ -132,9 +126,7 @@ static int parse_ipv6(struct part text, uint8_t *octets)
     memset(octets, 0, 16);
     memcpy(octets, head, (size_t)head_len);
     memcpy(octets + 16 - tail_len, tail, (size_t)tail_len);
-    if (AS_LIBRARY && is_dotted && gap && tail_len != 6)
-        return 0;
-    return !is_dotted || memcmp(octets, mapped, 12) == 0;
+    return !is_dotted || (memcmp(octets, mapped, 12) == 0 && (!gap || tail_len == 6));
 }
 
 static int parse_addr(struct part text, struct lk_addr *addr)

@@ -1,5 +1,5 @@
 -- Whole frames: the headers before a packet, and the packet.
-use Rattle.std.proofs.Common.{◌≡◌, ◌∙◌, ℕ, ◌+◌, ◌-◌, ◌≤◌, Bool, true, false, List, ◌++◌, Option, Some, None, drop, length, take, slice_range, nat_le, ap, append_assoc, sym, refl, subst, length-append, arith}
+use Rattle.std.proofs.Common.{◌≡◌, ◌≢◌, ◌∙◌, ℕ, ◌+◌, ◌-◌, ◌≤◌, ◌&&◌, Bool, true, false, List, ◌++◌, Option, Some, None, drop, length, take, slice_range, nat_le, ap, append_assoc, sym, refl, subst, length-append, arith}
 use Rattle.std.proofs.lemmas.Bool.Decides.{nat_tests}
 use Rattle.std.proofs.lemmas.Grind.{common_steps}
 use Rattle.std.proofs.lemmas.List.{drop-drop}
@@ -17,7 +17,7 @@ use Rattle.ip_wire.specs.declared.IpAddress.TheVariants as address
 use Rattle.ip_wire.specs.declared.IpProtocol.TheVariants as protocol
 use Rattle.c_structs.specs.Addresses.{pair_of}
 use Rattle.c_structs.specs.Frames.{ip_header, framed, headers_bytes, is_whole, part, tcp_frame, udp_frame}
-use Rattle.c_structs.specs.Headers.{ip_between, ip_value, is_expressible, only_if, ports_of, segment_bytes, segment_header_len, segment_with_flags, tcp_bytes, tcp_value, udp_bytes}
+use Rattle.c_structs.specs.Headers.{ends_of, has_port, ip_between, ip_value, is_expressible, only_if, ports_of, segment_bytes, segment_header_len, segment_with_flags, tcp_bytes, tcp_value, udp_bytes}
 use Rattle.c_structs.specs.Written.{Fills}
 use Rattle.c_structs.specs.declared.types.FrameFields.{FrameFields}
 use Rattle.c_structs.specs.declared.types.Endpoint.{Endpoint}
@@ -25,10 +25,10 @@ use Rattle.c_structs.specs.declared.types.Ip.{Ip}
 use Rattle.c_structs.specs.declared.types.Tcp.{Tcp}
 use Rattle.c_structs.specs.declared.types.TcpOptions.{TcpOptions}
 
-same-Some : {T : Type 0} (x y : T) → Some x ≡ Some y → x ≡ y
+pub same-Some : {T : Type 0} (x y : T) → Some x ≡ Some y → x ≡ y
 same-Some x y e = ap (λ o. unwrap_or o x) e
 
-only_if-Some : {T : Type 0} (b : Bool) (x y : T) → only_if b x ≡ Some y → (b ≡ true) × (x ≡ y)
+pub only_if-Some : {T : Type 0} (b : Bool) (x y : T) → only_if b x ≡ Some y → (b ≡ true) × (x ≡ y)
 only_if-Some true x y e = (refl, same-Some x y e)
 only_if-Some false x y e = absurd (none-some y e)
 
@@ -62,6 +62,38 @@ pub ip_header-value : (f : FrameFields) (number len : ℕ) (v : IpRepr) → ip_h
 ip_header-value f number len v e =
     addressed f.ip number len (pair_of f.src.addr f.dst.addr) v (filtered (is_whole f.ip) (ip_value f.ip number f.src.addr f.dst.addr len) v e)
 
+-- the addresses of two endpoints with ports
+ends-there : (ports : Bool) (src dst : Endpoint) (a b : IpAddress) → ports ≡ true → pair_of src.addr dst.addr ≡ Some (a, b) → ends_of ports src dst ≡ Some (a, b)
+ends-there ports src dst a b has pair =
+    ap (λ p. option_and_then (λ pair. only_if p pair) (pair_of src.addr dst.addr)) has ∙ ap (λ o. option_and_then (λ pair. only_if true pair) o) pair
+
+-- without them there are none
+pub no-ends : (ports : Bool) (src dst : Endpoint) → ports ≡ false → ends_of ports src dst ≡ None
+no-ends ports src dst none =
+    ap (λ p. option_and_then (λ pair. only_if p pair) (pair_of src.addr dst.addr)) none ∙ dropped (pair_of src.addr dst.addr)
+  where
+    dropped : (o : Option (IpAddress × IpAddress)) → option_and_then (λ pair. only_if false pair) o ≡ None
+    dropped None = refl
+    dropped (Some pair) = refl
+
+pub none-after : {A B : Type 0} (f : A → Option B) (o : Option A) → ((x : A) → f x ≡ None) → option_and_then f o ≡ None
+none-after f None each = refl
+none-after f (Some x) each = each x
+
+-- no packet goes to port 0
+pub udp-unsent : (f : FrameFields) (payload : List ℕ) → f.dst.port ≡ 0 → udp_frame f payload ≡ None
+udp-unsent f payload zero =
+    let none : has_port f.dst ≡ false = grind (arith, nat_tests, zero) in
+    ap (λ o. option_and_then (framed f 17) (option_and_then (λ pair. only_if (nat_le (length payload) 65527) (udp.bytes_of (ports_of f.src f.dst) payload pair.0 pair.1 true)) o))
+    (no-ends (has_port f.dst) f.src f.dst none)
+
+-- no segment is between ports of which one is 0
+pub tcp-unsent : (f : FrameFields) (o : TcpOptions) (payload : List ℕ) → has_port f.src && has_port f.dst ≡ false → tcp_frame f o payload ≡ None
+tcp-unsent f o payload none =
+    let size = segment_header_len f.tcp o (length payload) in
+    let bytes = λ (p : IpAddress × IpAddress). segment_bytes f.tcp (tcp_value f.tcp o f.src.port f.dst.port) payload p.0 p.1 true in
+    ap (λ q. option_and_then (framed f 6) (option_and_then (λ p. option_map (λ len. bytes p) size) q)) (no-ends (has_port f.src && has_port f.dst) f.src f.dst none)
+
 -- the frame of a packet, where it is written
 pub framed-packet : (f : FrameFields) (number : ℕ) (packet : List ℕ) (v : IpRepr) → ip_header f number (length packet) ≡ Some v
     → framed f number packet ≡ Some (headers_bytes f v ++ packet)
@@ -80,11 +112,12 @@ pub length-udp : (v : UdpRepr) (payload : List ℕ) (src dst : IpAddress) → le
 length-udp v payload src dst = simp length-append (omega arith)
 
 -- the frame of a UDP packet is its headers and the packet
-pub udp-framed : (f : FrameFields) (payload : List ℕ) (v : IpRepr) → length payload ≤ 65527 → ip_header f 17 (8 + length payload) ≡ Some v
+pub udp-framed : (f : FrameFields) (payload : List ℕ) (v : IpRepr) → f.dst.port ≢ 0 → length payload ≤ 65527 → ip_header f 17 (8 + length payload) ≡ Some v
     → udp_frame f payload ≡ Some (headers_bytes f v ++ udp.bytes_of (ports_of f.src f.dst) payload (src_addr_of v) (dst_addr_of v) true)
-udp-framed f payload v fits e =
+udp-framed f payload v port fits e =
     let bytes = udp.bytes_of (ports_of f.src f.dst) payload (src_addr_of v) (dst_addr_of v) true in
-    let pair = (ip_header-value f 17 (8 + length payload) v e).1 in
+    let has : has_port f.dst ≡ true = grind (arith, nat_tests, port) in
+    let pair = ends-there (has_port f.dst) f.src f.dst _ _ has (ip_header-value f 17 (8 + length payload) v e).1 in
     let small : nat_le (length payload) 65527 ≡ true = grind (arith, nat_tests, fits) in
     let packet : udp_bytes f.src f.dst payload true ≡ Some bytes =
     ap (λ o. option_and_then (λ pair. only_if (nat_le (length payload) 65527) (udp.bytes_of (ports_of f.src f.dst) payload pair.0 pair.1 true)) o) pair
@@ -132,22 +165,24 @@ length-segment h u payload src dst true =
 
 -- a segment between two addresses, if its header can be written
 pub tcp-segment : (h : Tcp) (o : TcpOptions) (src dst : Endpoint) (payload : List ℕ) (computed : Bool) (u : TcpHeader) (a b : IpAddress)
-    → pair_of src.addr dst.addr ≡ Some (a, b) → segment_header_len h o (length payload) ≡ Some (header_len_of u) → u ≡ tcp_value h o src.port dst.port
+    → src.port ≢ 0 → dst.port ≢ 0 → pair_of src.addr dst.addr ≡ Some (a, b) → segment_header_len h o (length payload) ≡ Some (header_len_of u) → u ≡ tcp_value h o src.port dst.port
     → tcp_bytes h o src dst payload computed ≡ Some (segment_bytes h u payload a b computed)
-tcp-segment h o src dst payload computed u a b pair len is =
+tcp-segment h o src dst payload computed u a b from to pair len is =
+    let has : has_port src && has_port dst ≡ true = grind (arith, nat_tests, from, to) in
+    let ends = ends-there (has_port src && has_port dst) src dst a b has pair in
     let bytes = λ (p : IpAddress × IpAddress). segment_bytes h (tcp_value h o src.port dst.port) payload p.0 p.1 computed in
-    ap (λ q. option_and_then (λ p. option_map (λ len. bytes p) (segment_header_len h o (length payload))) q) pair
+    ap (λ q. option_and_then (λ p. option_map (λ len. bytes p) (segment_header_len h o (length payload))) q) ends
     ∙ ap (λ q. option_map (λ len. bytes (a, b)) q) len
     ∙ ap (λ w. Some (segment_bytes h w payload a b computed)) (sym is)
 
 -- the frame of a TCP segment is its headers and the segment
-pub tcp-framed : (f : FrameFields) (o : TcpOptions) (payload : List ℕ) (u : TcpHeader) (v : IpRepr)
+pub tcp-framed : (f : FrameFields) (o : TcpOptions) (payload : List ℕ) (u : TcpHeader) (v : IpRepr) → f.src.port ≢ 0 → f.dst.port ≢ 0
     → segment_header_len f.tcp o (length payload) ≡ Some (header_len_of u) → u ≡ tcp_value f.tcp o f.src.port f.dst.port
     → ip_header f 6 (header_len_of u + length payload) ≡ Some v
     → tcp_frame f o payload ≡ Some (headers_bytes f v ++ segment_bytes f.tcp u payload (src_addr_of v) (dst_addr_of v) true)
-tcp-framed f o payload u v len is e =
+tcp-framed f o payload u v from to len is e =
     let pair = (ip_header-value f 6 (header_len_of u + length payload) v e).1 in
-    let packet = tcp-segment f.tcp o f.src f.dst payload true u (src_addr_of v) (dst_addr_of v) pair len is in
+    let packet = tcp-segment f.tcp o f.src f.dst payload true u (src_addr_of v) (dst_addr_of v) from to pair len is in
     let size = length-segment f.tcp u payload (src_addr_of v) (dst_addr_of v) true in
     ap (λ q. option_and_then (framed f 6) q) packet
     ∙ framed-packet f 6 (segment_bytes f.tcp u payload (src_addr_of v) (dst_addr_of v) true) v (ap (ip_header f 6) size ∙ e)

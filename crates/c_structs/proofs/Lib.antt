@@ -1,11 +1,26 @@
+pub mod CapturedOf
+mod CutArp
+mod CutBytes
+pub mod CutFrame
+mod CutIpv4
+mod CutIpv6
+mod CutOf
+mod CutTcp
+mod CutUdp
+mod CutWorked
+mod Exact
+mod ExactFrames
 mod FieldsOf
 pub mod Filled
 mod Framed
 mod Headed
 mod HostAnswers
+mod InFrame
 mod Ipv4Words
 mod Ipv6Words
 mod Numbered
+mod RejectedApart
+mod Steps
 mod StoredFrame
 mod StoredHeaders
 mod StoredParts

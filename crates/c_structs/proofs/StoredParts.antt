@@ -29,7 +29,7 @@ use Rattle.ip_wire.specs.declared.ArpRepr.TheVariants.{EthernetIpv4}
 use Rattle.c_structs.proofs.StoredFrame.{chosen-network, fragment-network, with_carried-choice, with_carried-ipv4, with_carried-ipv6}
 use Rattle.c_structs.proofs.StoredHeaders.{fields_of-linked, first-chosen, is-headed, rest-found}
 use Rattle.c_structs.specs.Codes.{reason_code}
-use Rattle.c_structs.specs.FrameFields.{arp_fault, behind, fields_of, ipv4_fault, ipv6_fault, rejected, tcp_fault, udp_fault, with_arp, with_carried, with_fragment_by, with_ipv4, with_ipv4_header, with_ipv6, with_ipv6_header, with_message, with_payload, with_tcp_header, with_transport_by, with_udp_header}
+use Rattle.c_structs.specs.FrameFields.{arp_fault, behind, fields_of, ipv4_fault, ipv6_fault, rejected, rejected_transport, tcp_fault, udp_fault, with_arp, with_carried, with_fragment_by, with_ipv4, with_ipv4_header, with_ipv6, with_ipv6_header, with_message, with_payload, with_tcp_header, with_transport_by, with_udp_header}
 use Rattle.c_structs.specs.Stored.{StoresFragment, StoresRejected, StoresRejectedBy, StoresUnread, headed, linked, network_fault, unchecked}
 use Rattle.c_structs.specs.Written.{flag}
 use Rattle.c_structs.specs.declared.codes.Reason.{Reason}
@@ -45,8 +45,8 @@ given None = inl refl
 given (Some a) = inr (a, refl)
 
 -- the number of a fault is not that of "read"
-record IsFault (why : Reason) : Type 0 where
-  other : reason_code why ≢ 0
+pub record IsFault (why : Reason) : Type 0 where
+  pub other : reason_code why ≢ 0
 
 one-test : (b : Bool) (x y : Reason) → IsFault x → IsFault y → IsFault (if b then x else y)
 one-test true x y a c = a
@@ -73,6 +73,9 @@ bad-flags = record { other = λ e. absurd (omega (arith, e)) }
 bad-options : IsFault reason.BadOptions
 bad-options = record { other = λ e. absurd (omega (arith, e)) }
 
+header-cut : IsFault reason.HeaderCut
+header-cut = record { other = λ e. absurd (omega (arith, e)) }
+
 arp-faulty : (bytes : List ℕ) → IsFault (arp_fault bytes)
 arp-faulty bytes = one-test (nat_lt (length bytes) 28) _ _ too-short other-arp
 
@@ -82,20 +85,21 @@ ipv4-faulty bytes = one-test (nat_lt (length bytes) 20) _ _ too-short (one-test 
 ipv6-faulty : (bytes : List ℕ) → IsFault (ipv6_fault bytes)
 ipv6-faulty bytes = one-test (nat_lt (length bytes) 40) _ _ too-short (one-test (not (field bytes 0 4 == 6)) _ _ bad-version bad-length)
 
-udp-faulty : (bytes : List ℕ) → IsFault (udp_fault bytes)
+pub udp-faulty : (bytes : List ℕ) → IsFault (udp_fault bytes)
 udp-faulty bytes = one-test (not (udp.has_lengths bytes)) _ _ bad-length port-zero
 
-tcp-faulty : (bytes : List ℕ) → IsFault (tcp_fault bytes)
-tcp-faulty bytes =
-    one-test (not (tcp_bytes.has_lengths bytes)) _ _ bad-length (
+pub tcp-faulty : (bytes : List ℕ) (len : ℕ) → IsFault (tcp_fault bytes len)
+tcp-faulty bytes len =
+    one-test (nat_lt (tcp_bytes.header_len bytes) 20 || nat_lt len (tcp_bytes.header_len bytes)) _ _ bad-length (
     one-test (field bytes 0 16 == 0 || (field bytes 16 16 == 0)) _ _ port-zero (
-    one-test (is_none (control_of bytes)) _ _ bad-flags bad-options))
+    one-test (is_none (control_of bytes)) _ _ bad-flags (
+    one-test (nat_lt (length bytes) (tcp_bytes.header_len bytes)) _ _ header-cut bad-options)))
 
 -- ---- what is not parsed
 
 -- a header that is not rejected has a value
 chosen-read : {A : Type 0} (b : Bool) (o : Option A) (f g h : FrameFields) (why : Reason) → IsFault why
-    → (if b then rejected f reason.TooShort else option_map_or (λ v. g) o (rejected h why)).reason ≡ 0 → (a : A) × (o ≡ Some a)
+    → (if b then rejected f reason.TooShort else option_map_or (λ v. g) o (rejected_transport h why)).reason ≡ 0 → (a : A) × (o ≡ Some a)
 chosen-read true o f g h why fault read = absurd (too-short.other read)
 chosen-read false None f g h why fault read = absurd (fault.other read)
 chosen-read false (Some a) f g h why fault read = (a, refl)
@@ -106,7 +110,7 @@ between-only f protocol.Udp src dst bytes read =
     let (u, is) = chosen-read (nat_lt (length bytes) 8) (udp_of src dst false bytes) f (behind (with_udp_header f src dst bytes) 8 (length (udp.payload_of bytes))) (with_udp_header f src dst bytes) (udp_fault bytes) (udp-faulty bytes) read in
     (datagram u (udp.payload_of bytes), (refl, (udp_of-Reads src dst false bytes u).0 is))
 between-only f protocol.Tcp src dst bytes read =
-    let (u, is) = chosen-read (nat_lt (length bytes) 20) (tcp_of src dst false bytes) f (behind (with_tcp_header f src dst bytes) (tcp_bytes.header_len bytes) (length (tcp_bytes.payload_of bytes))) (with_tcp_header f src dst bytes) (tcp_fault bytes) (tcp-faulty bytes) read in
+    let (u, is) = chosen-read (nat_lt (length bytes) 20) (tcp_of src dst false bytes) f (behind (with_tcp_header f src dst bytes) (tcp_bytes.header_len bytes) (length (tcp_bytes.payload_of bytes))) (with_tcp_header f src dst bytes) (tcp_fault bytes (length bytes)) (tcp-faulty bytes (length bytes)) read in
     (segment u (tcp_bytes.payload_of bytes), (refl, (tcp_of-Reads src dst false bytes u).0 is))
 between-only f p src dst bytes read = (other bytes, ((λ is. absurd (cc)), (λ is. absurd (cc)), refl))
 
@@ -211,14 +215,14 @@ is-rejected : (f : FrameFields) (p : IpProtocol) (src dst : IpAddress) (bytes : 
     → IsRejected f (with_transport_by f p src dst bytes) p src dst bytes
 is-rejected f protocol.Udp src dst bytes read fault =
     let next = with_udp_header f src dst bytes in
-    let is = rejected-by (nat_lt (length bytes) 8) (udp_of src dst false bytes) (rejected f reason.TooShort) (behind next 8 (length (udp.payload_of bytes))) (rejected next (udp_fault bytes)) read fault in
+    let is = rejected-by (nat_lt (length bytes) 8) (udp_of src dst false bytes) (rejected f reason.TooShort) (behind next 8 (length (udp.payload_of bytes))) (rejected_transport next (udp_fault bytes)) read fault in
     record {
       stores = is;
       keeps = rw is (kept-payload (nat_lt (length bytes) 8) f _ _ (record { part = refl; ip = refl; offset = refl; len = refl }) (record { part = refl; ip = refl; offset = refl; len = refl }));
     }
 is-rejected f protocol.Tcp src dst bytes read fault =
     let next = with_tcp_header f src dst bytes in
-    let is = rejected-by (nat_lt (length bytes) 20) (tcp_of src dst false bytes) (rejected f reason.TooShort) (behind next (tcp_bytes.header_len bytes) (length (tcp_bytes.payload_of bytes))) (rejected next (tcp_fault bytes)) read fault in
+    let is = rejected-by (nat_lt (length bytes) 20) (tcp_of src dst false bytes) (rejected f reason.TooShort) (behind next (tcp_bytes.header_len bytes) (length (tcp_bytes.payload_of bytes))) (rejected_transport next (tcp_fault bytes (length bytes))) read fault in
     record {
       stores = is;
       keeps = rw is (kept-payload (nat_lt (length bytes) 20) f _ _ (record { part = refl; ip = refl; offset = refl; len = refl }) (record { part = refl; ip = refl; offset = refl; len = refl }));
@@ -273,14 +277,14 @@ stores-rejected frame v (Ipv6 w) link type r fault =
 -- ---- a rejected network header, or an unknown type
 
 kept-network : {A : Type 0} (b : Bool) (o : Option A) (f g h : FrameFields) (why : Reason) → g.network ≡ f.network → h.network ≡ f.network
-    → (if b then rejected f reason.TooShort else option_map_or (λ v. g) o (rejected h why)).network ≡ f.network
+    → (if b then rejected f reason.TooShort else option_map_or (λ v. g) o (rejected_transport h why)).network ≡ f.network
 kept-network true o f g h why a c = refl
 kept-network false None f g h why a c = c
 kept-network false (Some v) f g h why a c = a
 
 between-network : (f : FrameFields) (p : IpProtocol) (src dst : IpAddress) (bytes : List ℕ) → (with_transport_by f p src dst bytes).network ≡ f.network
 between-network f protocol.Udp src dst bytes = kept-network (nat_lt (length bytes) 8) (udp_of src dst false bytes) f (behind (with_udp_header f src dst bytes) 8 (length (udp.payload_of bytes))) (with_udp_header f src dst bytes) (udp_fault bytes) refl refl
-between-network f protocol.Tcp src dst bytes = kept-network (nat_lt (length bytes) 20) (tcp_of src dst false bytes) f (behind (with_tcp_header f src dst bytes) (tcp_bytes.header_len bytes) (length (tcp_bytes.payload_of bytes))) (with_tcp_header f src dst bytes) (tcp_fault bytes) refl refl
+between-network f protocol.Tcp src dst bytes = kept-network (nat_lt (length bytes) 20) (tcp_of src dst false bytes) f (behind (with_tcp_header f src dst bytes) (tcp_bytes.header_len bytes) (length (tcp_bytes.payload_of bytes))) (with_tcp_header f src dst bytes) (tcp_fault bytes (length bytes)) refl refl
 between-network f p src dst bytes = refl
 
 arp-network : (f : FrameFields) (w : ArpRepr) → (with_message f w).network ≡ 0 → ⊥

@@ -81,6 +81,7 @@ nothing_of len = record {
   reason = reason_code reason.TooShort;
   network = network_code network.None;
   transport = transport_code transport.None;
+  rejected = transport_code transport.None;
   is_fragment = 0;
   ipv4_checksum = verdict_code verdict.None;
   transport_checksum = verdict_code verdict.None;
@@ -93,6 +94,10 @@ behind f header_len len = record f { payload_offset = f.payload_offset + header_
 -- the next header is rejected for this reason, so the payload begins at it
 abbrev pub rejected : FrameFields → Reason → FrameFields
 rejected f why = record f { reason = reason_code why }
+
+-- the transport header, whose fields are stored, is rejected for this reason
+abbrev pub rejected_transport : FrameFields → Reason → FrameFields
+rejected_transport f why = let next = rejected f why in record next { transport = transport_code transport.None; rejected = f.transport }
 
 -- ---- why bytes that are no header are rejected: the first test that fails
 
@@ -115,12 +120,13 @@ ipv6_fault bytes =
 abbrev pub udp_fault : List ℕ → Reason
 udp_fault bytes = if not (udp.has_lengths bytes) then reason.BadLength else reason.PortZero
 
--- of at least 20 bytes
-abbrev pub tcp_fault : List ℕ → Reason
-tcp_fault bytes =
-    if not (tcp.has_lengths bytes) then reason.BadLength
+-- of a segment of this length, of which at least the first 20 bytes were captured
+abbrev pub tcp_fault : List ℕ → ℕ → Reason
+tcp_fault bytes len =
+    if nat_lt (tcp.header_len bytes) 20 || nat_lt len (tcp.header_len bytes) then reason.BadLength
     else if field bytes 0 16 == 0 || (field bytes 16 16 == 0) then reason.PortZero
     else if is_none (control_of bytes) then reason.BadFlags
+    else if nat_lt (length bytes) (tcp.header_len bytes) then reason.HeaderCut
     else reason.BadOptions
 
 -- ---- what a checksum says
@@ -128,13 +134,20 @@ tcp_fault bytes =
 abbrev pub ipv4_verdict : List ℕ → Verdict
 ipv4_verdict bytes = if sum_of_bytes (take (ipv4.header_len bytes) bytes) == 65535 then verdict.Right else verdict.Wrong
 
--- 0 means that the sender computed none; over IPv6 it must compute one
+-- a UDP checksum of 0 means that the sender computed none; over IPv6 it must compute one
+abbrev pub zero_udp_verdict : IpAddress → Verdict
+zero_udp_verdict src = if udp.is_ipv4 src then verdict.LeftOut else verdict.Wrong
+
 abbrev pub udp_verdict : IpAddress → IpAddress → List ℕ → Verdict
 udp_verdict src dst bytes =
-    if field bytes 48 16 == 0 then (if udp.is_ipv4 src then verdict.LeftOut else verdict.Wrong)
+    if field bytes 48 16 == 0 then zero_udp_verdict src
     else if udp.packet_sum src dst (take (udp.packet_len bytes) bytes) == 65535 then verdict.Right
     else if field bytes 48 16 == udp.pseudo_header_sum src dst bytes then verdict.LeftToDevice
     else verdict.Wrong
+
+-- of a UDP packet that was not captured as a whole
+abbrev pub cut_udp_verdict : IpAddress → List ℕ → Verdict
+cut_udp_verdict src bytes = if field bytes 48 16 == 0 then zero_udp_verdict src else verdict.ChecksumCut
 
 abbrev pub tcp_verdict : IpAddress → IpAddress → List ℕ → Verdict
 tcp_verdict src dst bytes =
@@ -152,19 +165,23 @@ with_ports f bytes = record f {
   dst = record f.dst { port = field bytes 16 16 };
 }
 
+-- the fields with those of a UDP header whose checksum has this verdict
+abbrev pub with_udp_fields : FrameFields → List ℕ → Verdict → FrameFields
+with_udp_fields f bytes v = let next = with_ports f bytes in record next {
+  transport = transport_code transport.Udp;
+  transport_checksum = verdict_code v;
+}
+
 -- the fields with those of a UDP header between two addresses; where the length is wrong, no checksum can be computed
 abbrev pub with_udp_header : FrameFields → IpAddress → IpAddress → List ℕ → FrameFields
-with_udp_header f src dst bytes = let next = with_ports f bytes in record next {
-  transport = transport_code transport.Udp;
-  transport_checksum = verdict_code (if udp.has_lengths bytes then udp_verdict src dst bytes else verdict.None);
-}
+with_udp_header f src dst bytes = with_udp_fields f bytes (if udp.has_lengths bytes then udp_verdict src dst bytes else verdict.None)
 
 -- the fields with those of a UDP packet; a rejected header is stored too, if it is there as a whole
 abbrev pub with_udp : FrameFields → IpAddress → IpAddress → List ℕ → FrameFields
 with_udp f src dst bytes =
     if nat_lt (length bytes) 8 then rejected f reason.TooShort
     else let next = with_udp_header f src dst bytes in
-    option_map_or (λ v. behind next 8 (length (udp.payload_of bytes))) (udp_of src dst false bytes) (rejected next (udp_fault bytes))
+    option_map_or (λ v. behind next 8 (length (udp.payload_of bytes))) (udp_of src dst false bytes) (rejected_transport next (udp_fault bytes))
 
 -- the values of a TCP header without its ports
 abbrev pub tcp_values : List ℕ → Tcp
@@ -177,20 +194,24 @@ tcp_values bytes = record {
   header_len = tcp.header_len bytes;
 }
 
--- the fields with those of a TCP header between two addresses
-abbrev pub with_tcp_header : FrameFields → IpAddress → IpAddress → List ℕ → FrameFields
-with_tcp_header f src dst bytes = let next = with_ports f bytes in record next {
+-- the fields with those of a TCP header whose checksum has this verdict
+abbrev pub with_tcp_fields : FrameFields → List ℕ → Verdict → FrameFields
+with_tcp_fields f bytes v = let next = with_ports f bytes in record next {
   tcp = tcp_values bytes;
   transport = transport_code transport.Tcp;
-  transport_checksum = verdict_code (tcp_verdict src dst bytes);
+  transport_checksum = verdict_code v;
 }
+
+-- the fields with those of a TCP header between two addresses
+abbrev pub with_tcp_header : FrameFields → IpAddress → IpAddress → List ℕ → FrameFields
+with_tcp_header f src dst bytes = with_tcp_fields f bytes (tcp_verdict src dst bytes)
 
 -- the fields with those of a TCP segment; a rejected header is stored too, if it is there as a whole
 abbrev pub with_tcp : FrameFields → IpAddress → IpAddress → List ℕ → FrameFields
 with_tcp f src dst bytes =
     if nat_lt (length bytes) 20 then rejected f reason.TooShort
     else let next = with_tcp_header f src dst bytes in
-    option_map_or (λ v. behind next (tcp.header_len bytes) (length (tcp.payload_of bytes))) (tcp_of src dst false bytes) (rejected next (tcp_fault bytes))
+    option_map_or (λ v. behind next (tcp.header_len bytes) (length (tcp.payload_of bytes))) (tcp_of src dst false bytes) (rejected_transport next (tcp_fault bytes (length bytes)))
 
 -- the fields with those of what a packet of this protocol carries between two addresses, if it is UDP or TCP
 abbrev pub with_transport_by : FrameFields → IpProtocol → IpAddress → IpAddress → List ℕ → FrameFields
@@ -237,10 +258,10 @@ ipv4_values bytes v = record {
   dont_fragment = field bytes 49 1;
 }
 
--- the fields with those of an IPv4 header
-abbrev pub with_ipv4_header : FrameFields → List ℕ → Ipv4Repr → FrameFields
-with_ipv4_header f bytes v =
-    let next = behind f (ipv4.header_len bytes) (length (ipv4_payload bytes)) in record next {
+-- the fields with those of an IPv4 header in front of a payload of this length
+abbrev pub with_ipv4_fields : FrameFields → List ℕ → Ipv4Repr → ℕ → FrameFields
+with_ipv4_fields f bytes v payload_len =
+    let next = behind f (ipv4.header_len bytes) payload_len in record next {
       network = network_code network.Ipv4;
       network_offset = f.payload_offset;
       src = endpoint_of (address.Ipv4 v.src_addr) 0;
@@ -249,6 +270,10 @@ with_ipv4_header f bytes v =
       is_fragment = flag (ipv4.is_fragment bytes);
       ipv4_checksum = verdict_code (ipv4_verdict bytes);
     }
+
+-- the same for the payload in these bytes
+abbrev pub with_ipv4_header : FrameFields → List ℕ → Ipv4Repr → FrameFields
+with_ipv4_header f bytes v = with_ipv4_fields f bytes v (length (ipv4_payload bytes))
 
 -- the fields with those of an IPv4 packet; the payload of a fragment is not parsed
 abbrev pub with_ipv4 : FrameFields → List ℕ → FrameFields
@@ -267,16 +292,20 @@ ipv6_values f bytes v = record f {
   ecn = field bytes 4 8 % 4;
 }
 
--- the fields with those of an IPv6 header
-abbrev pub with_ipv6_header : FrameFields → List ℕ → Ipv6Repr → FrameFields
-with_ipv6_header f bytes v =
-    let next = behind f 40 (length (ipv6.payload_of bytes)) in record next {
+-- the fields with those of an IPv6 header in front of a payload of this length
+abbrev pub with_ipv6_fields : FrameFields → List ℕ → Ipv6Repr → ℕ → FrameFields
+with_ipv6_fields f bytes v payload_len =
+    let next = behind f 40 payload_len in record next {
       network = network_code network.Ipv6;
       network_offset = f.payload_offset;
       src = endpoint_of (address.Ipv6 v.src_addr) 0;
       dst = endpoint_of (address.Ipv6 v.dst_addr) 0;
       ip = ipv6_values f.ip bytes v;
     }
+
+-- the same for the payload in these bytes
+abbrev pub with_ipv6_header : FrameFields → List ℕ → Ipv6Repr → FrameFields
+with_ipv6_header f bytes v = with_ipv6_fields f bytes v (length (ipv6.payload_of bytes))
 
 -- the fields with those of an IPv6 fragment header; where it is alone, the packet is whole
 abbrev pub with_fragment_header : FrameFields → Ipv6FragmentRepr → FrameFields
@@ -304,6 +333,21 @@ with_ipv6 f bytes =
     option_map_or (λ v. let next = with_fragment_by (with_ipv6_header f bytes v) v.next_header (ipv6.payload_of bytes) in
     with_payload next (Ipv6 v) (ipv6.payload_of bytes))
     (ipv6_of bytes) (rejected f (ipv6_fault bytes))
+
+-- the fields with those of an IP packet of either version
+abbrev pub with_packet : FrameFields → List ℕ → FrameFields
+with_packet f bytes =
+    if field bytes 0 4 == 4 then with_ipv4 f bytes
+    else if field bytes 0 4 == 6 then with_ipv6 f bytes
+    else rejected f reason.BadVersion
+
+-- nothing of a packet without an Ethernet header is parsed yet
+abbrev pub bare_of : ℕ → FrameFields
+bare_of len = rejected (nothing_of len) reason.Read
+
+-- the values of a packet without an Ethernet header, up to a header that is rejected
+unfoldable pub packet_fields_of : List ℕ → FrameFields
+packet_fields_of bytes = if nat_lt (length bytes) 1 then nothing_of (length bytes) else with_packet (bare_of (length bytes)) bytes
 
 -- ---- Ethernet
 

@@ -71,9 +71,23 @@ back_link h = record { src = h.dst; dst = h.src; ethertype = h.ethertype }
 abbrev pub back_arp : Arp → Arp
 back_arp h = record { operation = h.operation; src_hardware = h.dst_hardware; dst_hardware = h.src_hardware }
 
+-- the IP header of a new packet, which has protocol and DSCP of the other one; with DF it needs no identification (RFC 6864)
+abbrev pub back_ip : Ip → Ip
+back_ip h = record {
+  ident = 0;
+  flow_label = 0;
+  fragment_offset = 0;
+  protocol = h.protocol;
+  hop_limit = 64;
+  dscp = h.dscp;
+  ecn = 0;
+  more_fragments = 0;
+  dont_fragment = 1;
+}
+
 -- the reply: the endpoints are exchanged too
 abbrev pub reply_to : FrameFields → FrameFields
-reply_to f = record f { src = f.dst; dst = f.src; ethernet = back_link f.ethernet; arp = back_arp f.arp }
+reply_to f = record f { src = f.dst; dst = f.src; ip = back_ip f.ip; ethernet = back_link f.ethernet; arp = back_arp f.arp }
 
 -- ---- rebuilding
 

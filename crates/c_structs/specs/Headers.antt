@@ -94,9 +94,10 @@ abbrev pub has_place : Ip → IpRepr → Bool
 has_place h (Ipv4 v) = nat_lt h.ident 65536 && (h.fragment_offset % 8 == 0)
 has_place h (Ipv6 v) = (h.ident == 0) && (h.fragment_offset == 0) && (h.more_fragments == 0) && nat_lt h.flow_label 1048576
 
--- whether the header can say all that
+-- whether the header can say all that, and no router drops the packet for its hop limit
 abbrev pub is_expressible : Ip → IpRepr → Bool
-is_expressible h v = nat_le (payload_len_of v) (max_payload_len v) && nat_lt h.dscp 64 && nat_lt h.ecn 4 && has_place h v
+is_expressible h v =
+    nat_le (payload_len_of v) (max_payload_len v) && nat_lt 0 h.hop_limit && nat_lt h.dscp 64 && nat_lt h.ecn 4 && has_place h v
 
 -- the values of a header of this protocol, if it can be written
 abbrev pub ip_value : Ip → ℕ → Addr → Addr → ℕ → Option IpRepr
@@ -128,6 +129,13 @@ ip_bytes h src dst len computed = option_map (header_bytes h computed) (ip_value
 
 -- ---- UDP
 
+abbrev pub has_port : Endpoint → Bool
+has_port e = not (e.port == 0)
+
+-- the addresses of two endpoints, if they have one version and the ports are right
+abbrev pub ends_of : Bool → Endpoint → Endpoint → Option (IpAddress × IpAddress)
+ends_of has_ports src dst = option_and_then (λ pair. only_if has_ports pair) (pair_of src.addr dst.addr)
+
 -- the ports of a UDP header
 abbrev pub ports_of : Endpoint → Endpoint → UdpRepr
 ports_of src dst = record { src_port = src.port; dst_port = dst.port }
@@ -136,7 +144,7 @@ ports_of src dst = record { src_port = src.port; dst_port = dst.port }
 abbrev pub udp_bytes : Endpoint → Endpoint → List ℕ → Bool → Option (List ℕ)
 udp_bytes src dst payload computed =
     option_and_then (λ pair. only_if (nat_le (length payload) udp.max_payload_len) (udp.bytes_of (ports_of src dst) payload pair.0 pair.1 computed))
-    (pair_of src.addr dst.addr)
+    (ends_of (has_port dst) src dst)
 
 -- ---- TCP
 
@@ -221,4 +229,4 @@ abbrev pub tcp_bytes : Tcp → TcpOptions → Endpoint → Endpoint → List ℕ
 tcp_bytes h o src dst payload computed =
     option_and_then (λ pair. option_map (λ len. segment_bytes h (tcp_value h o src.port dst.port) payload pair.0 pair.1 computed)
     (segment_header_len h o (length payload)))
-    (pair_of src.addr dst.addr)
+    (ends_of (has_port src && has_port dst) src dst)

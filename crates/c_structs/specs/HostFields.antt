@@ -1,5 +1,5 @@
 -- A host as the struct of C, and what the call for it returns and writes.
-use Rattle.std.specs.Prelude.{ℕ, ℤ, pos, ◌≡◌, ◌<◌, ◌⊎◌, List, length, Option, None, Some}
+use Rattle.std.specs.Prelude.{ℕ, ℤ, pos, ◌≡◌, ◌<◌, ◌≤◌, ◌⊎◌, List, length, Option, None, Some}
 use Rattle.std.specs.Option.{option_and_then}
 use Rattle.ip_host.specs.Host.{RepliesBytes}
 use Rattle.ip_host.specs.declared.host.Host.{Host}
@@ -10,7 +10,8 @@ use Rattle.ip_wire.specs.TcpRepr.{seq_of}
 use Rattle.ip_wire.specs.Types.{EthernetRepr, IpAddress}
 use Rattle.ip_wire.specs.declared.IpAddress.TheVariants.{Ipv4, Ipv6}
 use Rattle.c_structs.specs.Addresses.{ip_of}
-use Rattle.c_structs.specs.Written.{failed}
+use Rattle.c_structs.specs.Written.{failure_code, max_len}
+use Rattle.c_structs.specs.declared.failures.Failure.TheVariants as failure
 use Rattle.c_structs.specs.declared.types.HostFields.{HostFields}
 
 -- what the open ports offer
@@ -41,11 +42,12 @@ host_of h = option_and_then (λ ipv4. option_and_then (λ ipv6. host_with h ipv4
 -- the reply is written to the front of the slice and its length is returned; or there is one that does not fit; or there is none
 abbrev pub WritesReply : (EthernetRepr → Carried → Type 0) → List ℕ → List ℕ → ℤ → Type 0
 WritesReply IsReply old new answer =
-    ((len : ℕ) × (answer ≡ pos len) × IsWritten IsReply old new len)
-    ⊎ (((answer ≡ failed) × (new ≡ old) × ((header : EthernetRepr) × (carried : Carried) × IsReply header carried × (length old < reply_len carried)))
+    ((len : ℕ) × (answer ≡ pos len) × (length old ≤ max_len) × IsWritten IsReply old new len)
+    ⊎ (((answer ≡ failure_code failure.NoRoom) × (new ≡ old)
+    × ((header : EthernetRepr) × (carried : Carried) × IsReply header carried × ((length old < reply_len carried) ⊎ (max_len < length old))))
     ⊎ ((answer ≡ pos 0) × (new ≡ old) × ((header : EthernetRepr) (carried : Carried) → ¬ IsReply header carried)))
 
 -- the same for the reply of a host to a frame; without a host nothing is written
 abbrev pub WritesAnswer : Option Host → List ℕ → List ℕ → List ℕ → ℤ → Type 0
-WritesAnswer None frame old new answer = (answer ≡ failed) × (new ≡ old)
+WritesAnswer None frame old new answer = (answer ≡ failure_code failure.NoVersion) × (new ≡ old)
 WritesAnswer (Some host) frame old new answer = WritesReply (RepliesBytes host frame) old new answer

@@ -1,5 +1,6 @@
 -- The struct of a frame, by the values that the frame is parsed as.
-use Rattle.std.specs.Prelude.{ℕ, ◌≡◌, ◌⊎◌, ◌↔◌, ◌+◌, ◌/◌, ◌%◌, nat_lt, if◌then◌else◌, IfSome, IsSome, IsTrue, List, drop, length, slice_range, ⊤}
+use Rattle.std.specs.Prelude.{ℕ, ◌≡◌, ◌⊎◌, ◌↔◌, ◌==◌, ◌&&◌, ◌+◌, ◌/◌, ◌%◌, nat_lt, if◌then◌else◌, IfSome, IsSome, IsTrue, List, drop, length, slice_range, ⊤}
+use Rattle.ip_wire.specs.Field.{field}
 use Rattle.ip_wire.specs.Frame.{Carried, Transport, datagram, describe_carried, message, other, packet, packet_payload, segment}
 use Rattle.ip_wire.specs.Ip.{dst_addr_of, next_header_of, src_addr_of}
 use Rattle.ip_wire.specs.Ipv6.{payload_of}
@@ -12,7 +13,7 @@ use Rattle.ip_wire.specs.declared.IpProtocol.TheVariants as protocol
 use Rattle.ip_wire.specs.declared.TcpControl.{TcpControl}
 use Rattle.ip_wire.specs.declared.TcpControl.TheVariants as control
 use Rattle.c_structs.specs.Codes.{network_code, transport_code, verdict_code}
-use Rattle.c_structs.specs.FrameFields.{arp_fault, behind, ipv4_fault, ipv6_fault, nothing_of, rejected, tcp_fault, udp_fault, with_fragment_by, with_ipv4_header, with_ipv6_header, with_link, with_message, with_tcp_header, with_udp_header}
+use Rattle.c_structs.specs.FrameFields.{arp_fault, behind, ipv4_fault, ipv6_fault, nothing_of, rejected, rejected_transport, tcp_fault, udp_fault, with_fragment_by, with_ipv4_header, with_ipv6_header, with_link, with_message, with_tcp_header, with_udp_header}
 use Rattle.c_structs.specs.declared.codes.NetworkKind.TheVariants as network
 use Rattle.c_structs.specs.declared.codes.Reason.{Reason}
 use Rattle.c_structs.specs.declared.codes.Reason.TheVariants as reason
@@ -53,12 +54,12 @@ struct_of frame v (packet w t) = transported (headed frame v w) (src_addr_of w) 
 -- of a UDP header that is rejected, which the bytes begin with unless they are too few
 abbrev pub rejected_udp : FrameFields → IpAddress → IpAddress → List ℕ → FrameFields
 rejected_udp f src dst bytes =
-    if nat_lt (length bytes) 8 then rejected f reason.TooShort else rejected (with_udp_header f src dst bytes) (udp_fault bytes)
+    if nat_lt (length bytes) 8 then rejected f reason.TooShort else rejected_transport (with_udp_header f src dst bytes) (udp_fault bytes)
 
 -- of such a TCP header
 abbrev pub rejected_tcp : FrameFields → IpAddress → IpAddress → List ℕ → FrameFields
 rejected_tcp f src dst bytes =
-    if nat_lt (length bytes) 20 then rejected f reason.TooShort else rejected (with_tcp_header f src dst bytes) (tcp_fault bytes)
+    if nat_lt (length bytes) 20 then rejected f reason.TooShort else rejected_transport (with_tcp_header f src dst bytes) (tcp_fault bytes (length bytes))
 
 -- why the header of a frame of this type is rejected; of another type none is
 abbrev pub network_fault : EthernetProtocol → List ℕ → Reason
@@ -146,3 +147,20 @@ pub record HasVerdicts (caps : ChecksumCapabilities) (f : FrameFields) : Type 0 
   pub udp : IsTrue (verifies caps.udp) → f.transport ≡ transport_code transport.Udp
       → (f.transport_checksum ≡ verdict_code verdict.Right) ⊎ (f.transport_checksum ≡ verdict_code verdict.LeftOut)
   pub tcp : IsTrue (verifies caps.tcp) → f.transport ≡ transport_code transport.Tcp → f.transport_checksum ≡ verdict_code verdict.Right
+
+-- ---- a packet in a frame
+
+-- a frame of this type holds IP packets of the version that these bytes begin with
+abbrev pub IsTypeOf : EthernetProtocol → List ℕ → Type 0
+IsTypeOf ethertype.Ipv4 bytes = field bytes 0 4 ≡ 4
+IsTypeOf ethertype.Ipv6 bytes = field bytes 0 4 ≡ 6
+IsTypeOf _ bytes = ⊥
+
+-- the struct of a packet behind an Ethernet header, by that of the packet alone; each header that is stored begins 14 octets further on
+abbrev pub in_frame : EthernetRepr → FrameFields → FrameFields
+in_frame v f = record f {
+  network_offset = if f.network == 0 then 0 else f.network_offset + 14;
+  transport_offset = if f.transport == 0 && (f.rejected == 0) then 0 else f.transport_offset + 14;
+  payload_offset = f.payload_offset + 14;
+  ethernet = (with_link f v 0).ethernet;
+}

@@ -1,13 +1,13 @@
 //! Addresses, blocks and endpoints, and their texts.
 
-ghost use Rattle.std.specs.Prelude.{◌≡◌, ◌≤◌, ◌∷◌, ◌++◌, ◌↔◌, IfSome, IsSomeAnd, IsTrue, Some, decimal, length, take};
+ghost use Rattle.std.specs.Prelude.{◌≡◌, ◌≤◌, ◌∷◌, ◌++◌, ◌↔◌, IfSome, IsSomeAnd, IsTrue, None, Some, decimal, length, take};
 ghost use Rattle.ip_wire.specs.IpAddress.{address_text, version_of};
 ghost use Rattle.ip_wire.specs.IpCidr.{IsIn, cidr_text};
 ghost use Rattle.ip_wire.specs.Printed.{dotted, slash};
 ghost use Rattle.c_structs.specs.Addresses.{addr_of, block_of, block_struct, endpoint_struct, ip_endpoint_of, ip_of, pair_of};
-ghost use Rattle.c_structs.specs.Written.{Writes};
+ghost use Rattle.c_structs.specs.Written.{Prints};
 
-use crate::results::print;
+use crate::results::{MAX_LEN, end_text, print};
 use crate::types::{Addr, Block, Endpoint};
 use arrayvec::ArrayString;
 use ip_wire::{IpAddress, IpCidr, IpEndpoint, Ipv4Address, Ipv4Cidr, Ipv6Address, Ipv6Cidr};
@@ -158,7 +158,7 @@ impl Endpoint {
 
 /// Prints an address.
 pub fn print_address(address: &IpAddress, out: &mut [u8]) -> isize
-    ensures { Writes (Some (address_text address.now)) out.old out.new result }
+    ensures { Prints (Some (address_text address.now)) None out.old out.new result }
 {
     match address {
         IpAddress::Ipv4(address) => print_ipv4(address, out),
@@ -168,17 +168,19 @@ pub fn print_address(address: &IpAddress, out: &mut [u8]) -> isize
 
 // Prints an IPv4 address, straight to `out` if there is room for the longest text.
 fn print_ipv4(address: &Ipv4Address, out: &mut [u8]) -> isize
-    ensures { Writes (Some (dotted address.now)) out.old out.new result }
+    ensures { Prints (Some (dotted address.now)) None out.old out.new result }
 {
-    if out.len() < MAX_IPV4_TEXT_LEN {
+    if out.len() < MAX_IPV4_TEXT_LEN || out.len() > MAX_LEN {
         return print(address.text().as_str(), out);
     }
-    address.write_text(out) as isize
+    let len = address.write_text(out);
+    end_text(len, out);
+    len as isize
 }
 
 /// Prints a block.
 pub fn print_block(block: &IpCidr, out: &mut [u8]) -> isize
-    ensures { Writes (Some (cidr_text block.now)) out.old out.new result }
+    ensures { Prints (Some (cidr_text block.now)) None out.old out.new result }
 {
     let prefix_len = block.prefix_len();
     match block {
@@ -190,7 +192,7 @@ pub fn print_block(block: &IpCidr, out: &mut [u8]) -> isize
 // Prints the text of an address, and the prefix length of a block.
 fn print_prefix(address: &str, prefix_len: u8, out: &mut [u8]) -> isize
     requires { length address.now ≤ 39 }
-    ensures { Writes (Some (address.now ++ slash ∷ decimal prefix_len)) out.old out.new result }
+    ensures { Prints (Some (address.now ++ slash ∷ decimal prefix_len)) None out.old out.new result }
 {
     let mut text = ArrayString::<43>::new();
     text.push_str(address);

@@ -1,7 +1,7 @@
 //! The enums of `c/ip_wire.h`, whose numbers are stored in bytes.
 
 ghost use Rattle.std.specs.Prelude.{◌≡◌};
-ghost use Rattle.c_structs.specs.Codes.{network_code, reason_code, reason_of, text_of, transport_code, verdict_code};
+ghost use Rattle.c_structs.specs.Codes.{network_code, reason_code, transport_code, verdict_code};
 
 /// `enum lk_reason`: why a header was rejected. If several reasons apply to a header, it is the first of
 /// them in this order.
@@ -16,6 +16,8 @@ pub enum Reason {
     PortZero,
     BadFlags,
     BadOptions,
+    /// Not all octets of the header were captured.
+    HeaderCut,
 }
 
 impl Reason {
@@ -24,39 +26,6 @@ impl Reason {
         ensures { result ≡ reason_code self }
     {
         self as u8
-    }
-
-    /// The reason with this number.
-    pub fn of(number: i32) -> Option<Reason>
-        ensures { result ≡ reason_of number }
-    {
-        match number {
-            0 => Some(Reason::Read),
-            1 => Some(Reason::TooShort),
-            2 => Some(Reason::BadVersion),
-            3 => Some(Reason::BadLength),
-            4 => Some(Reason::OtherArp),
-            5 => Some(Reason::PortZero),
-            6 => Some(Reason::BadFlags),
-            7 => Some(Reason::BadOptions),
-            _ => None,
-        }
-    }
-
-    /// Its text.
-    pub fn text(self) -> &'static str
-        ensures { result.now ≡ text_of self }
-    {
-        match self {
-            Reason::Read => "read",
-            Reason::TooShort => "too short",
-            Reason::BadVersion => "version",
-            Reason::BadLength => "length",
-            Reason::OtherArp => "other ARP",
-            Reason::PortZero => "port 0",
-            Reason::BadFlags => "several of SYN, FIN and RST",
-            Reason::BadOptions => "options",
-        }
     }
 }
 
@@ -106,6 +75,8 @@ pub enum Verdict {
     LeftOut,
     /// The field holds the sum of the pseudo-header alone (checksum offload).
     LeftToDevice,
+    /// It covers octets that were not captured.
+    ChecksumCut,
 }
 
 impl Verdict {

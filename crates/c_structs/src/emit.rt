@@ -1,6 +1,6 @@
 //! UDP packets and TCP segments between endpoints.
 
-ghost use Rattle.std.specs.Prelude.{◌≡◌, length, nat_le};
+ghost use Rattle.std.specs.Prelude.{◌≡◌, ◌≢◌, length, nat_le};
 ghost use Rattle.ip_wire.specs.IpAddress.{version_of};
 ghost use Rattle.ip_wire.specs.Udp.{bytes_of, max_payload_len};
 ghost use Rattle.c_structs.specs.Headers.{only_if, tcp_bytes, udp_bytes};
@@ -11,8 +11,8 @@ use ip_wire::{IpAddress, UDP_MAX_PAYLOAD_LEN, UdpRepr};
 use net_base::ChecksumCapabilities;
 use wire_field::write_at;
 
-/// Writes a UDP packet to the front of `out` and returns its length. `None` if it does not fit, if its
-/// payload is too long, or if the addresses have no version or different ones.
+/// Writes a UDP packet to the front of `out` and returns its length. `None` if it does not fit, or if there is an
+/// `udp_failure`.
 #[inline(always)]
 pub fn emit_udp(
     src: &Endpoint,
@@ -23,6 +23,9 @@ pub fn emit_udp(
 ) -> Option<usize>
     ensures { Fills (udp_bytes src.now dst.now payload.now computed) out.old out.new result }
 {
+    if dst.port == 0 {
+        return None;
+    }
     let ports = UdpRepr {
         src_port: src.port,
         dst_port: dst.port,
@@ -66,8 +69,8 @@ fn emit_udp_between(
     ports.try_emit(out, &src_addr, &dst_addr, payload, &caps)
 }
 
-/// Writes a TCP segment to the front of `out` and returns its length. `None` if it does not fit, if the
-/// addresses have no version or different ones, or if `Tcp::header_len` has none.
+/// Writes a TCP segment to the front of `out` and returns its length. `None` if it does not fit, or if there is
+/// a `Tcp::failure`.
 #[inline(always)]
 pub fn emit_tcp(
     header: &Tcp,
@@ -78,6 +81,27 @@ pub fn emit_tcp(
     computed: bool,
     out: &mut [u8],
 ) -> Option<usize>
+    ensures { Fills (tcp_bytes header.now options.now src.now dst.now payload.now computed) out.old out.new result }
+{
+    if src.port == 0 || dst.port == 0 {
+        return None;
+    }
+    emit_segment(header, options, src, dst, payload, computed, out)
+}
+
+// Writes a segment between two ports.
+#[inline(always)]
+fn emit_segment(
+    header: &Tcp,
+    options: &TcpOptions,
+    src: &Endpoint,
+    dst: &Endpoint,
+    payload: &[u8],
+    computed: bool,
+    out: &mut [u8],
+) -> Option<usize>
+    requires src_port { src.now.port ≢ 0 }
+    requires dst_port { dst.now.port ≢ 0 }
     ensures { Fills (tcp_bytes header.now options.now src.now dst.now payload.now computed) out.old out.new result }
 {
     let (src_addr, dst_addr) = src.addr.pair(src.addr.version, &dst.addr)?;

@@ -8,7 +8,9 @@ ghost use Rattle.ip_wire.specs.Udp as udp;
 ghost use Rattle.c_structs.specs.FrameFields.{arp_fault, ipv4_fault, ipv6_fault, tcp_fault, udp_fault};
 
 use crate::codes::Reason;
-use ip_wire::{IPV4_HEADER_LEN, IPV6_HEADER_LEN, Ipv4Packet, Ipv6Packet, TcpPacket, UdpPacket};
+use ip_wire::{
+    IPV4_HEADER_LEN, IPV6_HEADER_LEN, Ipv4Packet, Ipv6Packet, TCP_HEADER_LEN, TcpPacket, UdpPacket,
+};
 
 /// The length of an ARP packet for Ethernet and IPv4, in octets.
 pub const ARP_LEN: usize = 28;
@@ -65,18 +67,21 @@ pub fn udp_fault(packet: &UdpPacket<'_>) -> Reason
     }
 }
 
-/// Why a TCP header of at least 20 octets is rejected.
+/// Why the header of a TCP segment of `len` octets is rejected, of which at least 20 were captured.
 #[cold]
-pub fn tcp_fault(packet: &TcpPacket<'_>) -> Reason
+pub fn tcp_fault(packet: &TcpPacket<'_>, len: usize) -> Reason
     requires { 20 ≤ length (tcp.packet_bytes packet.now) }
-    ensures { result ≡ tcp_fault (tcp.packet_bytes packet.now) }
+    ensures { result ≡ tcp_fault (tcp.packet_bytes packet.now) len }
 {
-    if packet.check_len().is_err() {
+    let header_len = usize::from(packet.header_len());
+    if header_len < TCP_HEADER_LEN || len < header_len {
         Reason::BadLength
     } else if packet.src_port() == 0 || packet.dst_port() == 0 {
         Reason::PortZero
     } else if u8::from(packet.syn()) + u8::from(packet.fin()) + u8::from(packet.rst()) > 1 {
         Reason::BadFlags
+    } else if packet.as_bytes().len() < header_len {
+        Reason::HeaderCut
     } else {
         Reason::BadOptions
     }

@@ -1,28 +1,24 @@
 //! The values of a frame, stored in the struct of C.
 
 ghost use Rattle.std.specs.Prelude.{◌≡◌, ◌≤◌, ◌+◌, drop, length};
-ghost use Rattle.ip_wire.specs.IpAddress.{version_of};
 ghost use Rattle.ip_wire.specs.Arp as arp;
 ghost use Rattle.ip_wire.specs.Ethernet as ethernet;
-ghost use Rattle.ip_wire.specs.Frame.{ipv4_payload};
 ghost use Rattle.ip_wire.specs.Ipv4 as ipv4;
 ghost use Rattle.ip_wire.specs.Ipv6 as ipv6;
 ghost use Rattle.ip_wire.specs.Ipv6Fragment as fragment;
 ghost use Rattle.ip_wire.specs.Protocol.{protocol_of};
-ghost use Rattle.ip_wire.specs.Tcp as tcp;
-ghost use Rattle.ip_wire.specs.Udp as udp;
 ghost use Rattle.c_structs.specs.Addresses.{endpoint_of, no_endpoint};
-ghost use Rattle.c_structs.specs.FrameFields.{behind, fields_of, nothing_of, rejected, udp_fault, with_arp, with_fragment_by, with_fragment_header, with_frame, with_ipv4, with_ipv4_header, with_ipv6, with_ipv6_header, with_link, with_message, with_tcp, with_tcp_header, with_transport_by, with_udp, with_udp_header};
+ghost use Rattle.c_structs.specs.FrameFields.{behind, fields_of, nothing_of, packet_fields_of, rejected, with_arp, with_fragment_by, with_fragment_header, with_frame, with_ipv4, with_ipv4_fields, with_ipv6, with_ipv6_fields, with_link, with_message, with_packet};
 
 use crate::codes::{NetworkKind, Reason, TransportKind, Verdict};
-use crate::faults::{ARP_LEN, arp_fault, ipv4_fault, ipv6_fault, tcp_fault, udp_fault};
+use crate::faults::{ARP_LEN, arp_fault, ipv4_fault, ipv6_fault};
 use crate::types::{Addr, Arp, Endpoint, Ethernet, FrameFields, Ip, Tcp};
-use crate::verdicts::{ipv4_verdict, tcp_verdict, udp_verdict};
+use crate::verdicts::ipv4_verdict;
 use byteorder::{ByteOrder, NetworkEndian};
 use ip_wire::{
     ArpPacket, ArpRepr, ETHERNET_HEADER_LEN, EthernetAddress, EthernetFrame, EthernetProtocol,
     IPV6_HEADER_LEN, IpAddress, IpProtocol, Ipv4Address, Ipv4Packet, Ipv4Repr, Ipv6FragmentHeader,
-    Ipv6Packet, Ipv6Repr, TCP_HEADER_LEN, TcpPacket, TcpRepr, UDP_HEADER_LEN, UdpPacket, UdpRepr,
+    Ipv6Packet, Ipv6Repr,
 };
 use net_base::ChecksumCapabilities;
 use wire_field::array_at;
@@ -31,7 +27,7 @@ use wire_field::array_at;
 const ETHERTYPE: usize = 12;
 
 // The length of an IPv6 fragment header, in octets (RFC 8200, section 4.5).
-const FRAGMENT_HEADER_LEN: usize = 8;
+pub(super) const FRAGMENT_HEADER_LEN: usize = 8;
 
 impl Endpoint {
     // An address of a header without ports.
@@ -61,6 +57,7 @@ impl Endpoint {
 
 impl FrameFields {
     /// Stores the values of a frame, up to a header that is rejected.
+    #[inline(always)]
     pub fn read(&mut self, bytes: &[u8])
         ensures value { self.new ≡ fields_of bytes.now }
         ensures within { self.new.payload_offset + self.new.payload_len ≤ length bytes.now }
@@ -72,8 +69,38 @@ impl FrameFields {
         }
     }
 
-    // The fields of bytes that are too few for an Ethernet header.
-    fn nothing(len: usize) -> FrameFields
+    /// Stores the values of an IP packet without an Ethernet header, up to a header that is rejected.
+    #[inline(always)]
+    pub fn read_packet(&mut self, bytes: &[u8])
+        ensures value { self.new ≡ packet_fields_of bytes.now }
+        ensures within { self.new.payload_offset + self.new.payload_len ≤ length bytes.now }
+    {
+        *self = FrameFields::nothing(bytes.len());
+        if !bytes.is_empty() {
+            self.reason = Reason::Read.code();
+            self.store_packet(bytes);
+        }
+    }
+
+    // Stores an IP packet of either version.
+    #[inline(always)]
+    fn store_packet(&mut self, bytes: &[u8])
+        requires offset { self.old.payload_offset ≤ 14 }
+        requires len { self.old.payload_len ≡ length bytes.now }
+        requires version { 1 ≤ length bytes.now }
+        ensures value { self.new ≡ with_packet self.old bytes.now }
+        ensures within { self.new.payload_offset + self.new.payload_len ≤ self.old.payload_offset + length bytes.now }
+    {
+        match Ipv4Packet::new_unchecked(bytes).version() {
+            4 => self.store_ipv4(bytes),
+            6 => self.store_ipv6(bytes),
+            _ => self.reject(Reason::BadVersion),
+        }
+    }
+
+    // The fields of bytes that are too few for the first header.
+    #[inline(always)]
+    pub(super) fn nothing(len: usize) -> FrameFields
         ensures { result ≡ nothing_of len }
     {
         FrameFields {
@@ -115,6 +142,7 @@ impl FrameFields {
             reason: Reason::TooShort.code(),
             network: NetworkKind::None.code(),
             transport: TransportKind::None.code(),
+            rejected: TransportKind::None.code(),
             is_fragment: 0,
             ipv4_checksum: Verdict::None.code(),
             transport_checksum: Verdict::None.code(),
@@ -122,7 +150,7 @@ impl FrameFields {
     }
 
     // Moves the payload behind a header of this length.
-    fn step_behind(&mut self, header_len: usize, payload_len: usize)
+    pub(super) fn step_behind(&mut self, header_len: usize, payload_len: usize)
         requires { self.old.payload_offset + header_len ≤ 200 }
         ensures { self.new ≡ behind self.old header_len payload_len }
     {
@@ -131,13 +159,14 @@ impl FrameFields {
     }
 
     // Stores why the next header is rejected.
-    fn reject(&mut self, reason: Reason)
+    pub(super) fn reject(&mut self, reason: Reason)
         ensures { self.new ≡ rejected self.old reason }
     {
         self.reason = reason.code();
     }
 
     // Stores a frame with a whole header.
+    #[inline(always)]
     fn store_frame(&mut self, frame: &EthernetFrame<'_>)
         requires offset { self.old.payload_offset ≡ 0 }
         requires header { 14 ≤ length (ethernet.frame_bytes frame.now) }
@@ -148,7 +177,7 @@ impl FrameFields {
         // Read before anything is stored: the compiler does not know that the struct and the frame are apart.
         let ethertype = NetworkEndian::read_u16(&frame.as_bytes()[ETHERTYPE..ETHERNET_HEADER_LEN]);
         let payload = frame.payload();
-        self.store_link(frame);
+        self.store_link(frame, payload.len());
         match EthernetProtocol::from(ethertype) {
             EthernetProtocol::Arp => self.store_arp(payload),
             EthernetProtocol::Ipv4 => self.store_ipv4(payload),
@@ -157,12 +186,12 @@ impl FrameFields {
         }
     }
 
-    // Stores an Ethernet header.
-    fn store_link(&mut self, frame: &EthernetFrame<'_>)
+    // Stores the Ethernet header of a frame with a payload of this length.
+    #[inline(always)]
+    pub(super) fn store_link(&mut self, frame: &EthernetFrame<'_>, payload_len: usize)
         requires offset { self.old.payload_offset ≡ 0 }
         requires header { 14 ≤ length (ethernet.frame_bytes frame.now) }
-        ensures { let bytes = ethernet.frame_bytes frame.now in
-            self.new ≡ with_link self.old (ethernet.header_of bytes) (length (drop 14 bytes)) }
+        ensures { self.new ≡ with_link self.old (ethernet.header_of (ethernet.frame_bytes frame.now)) payload_len }
     {
         self.ethernet.ethertype = frame.ethertype().number();
         let EthernetAddress(src) = frame.src_addr();
@@ -170,15 +199,15 @@ impl FrameFields {
         let EthernetAddress(dst) = frame.dst_addr();
         self.ethernet.dst = dst;
         self.reason = Reason::Read.code();
-        self.step_behind(ETHERNET_HEADER_LEN, frame.payload().len());
+        self.step_behind(ETHERNET_HEADER_LEN, payload_len);
     }
 
     // Stores an ARP packet.
-    fn store_arp(&mut self, bytes: &[u8])
+    pub(super) fn store_arp(&mut self, bytes: &[u8])
         requires offset { self.old.payload_offset ≤ 14 }
-        requires len { self.old.payload_len ≡ length bytes.now }
+        requires len { length bytes.now ≤ self.old.payload_len }
         ensures value { self.new ≡ with_arp self.old bytes.now }
-        ensures within { self.new.payload_offset + self.new.payload_len ≤ self.old.payload_offset + length bytes.now }
+        ensures within { self.new.payload_offset + self.new.payload_len ≤ self.old.payload_offset + self.old.payload_len }
     {
         match ArpRepr::parse(&ArpPacket::new_unchecked(bytes)) {
             Ok(_) => self.store_message(bytes),
@@ -208,11 +237,12 @@ impl FrameFields {
     }
 
     // Stores an IPv4 packet. The payload of a fragment is not parsed.
-    fn store_ipv4(&mut self, bytes: &[u8])
+    #[inline(always)]
+    pub(super) fn store_ipv4(&mut self, bytes: &[u8])
         requires offset { self.old.payload_offset ≤ 14 }
-        requires len { self.old.payload_len ≡ length bytes.now }
+        requires len { length bytes.now ≤ self.old.payload_len }
         ensures value { self.new ≡ with_ipv4 self.old bytes.now }
-        ensures within { self.new.payload_offset + self.new.payload_len ≤ self.old.payload_offset + length bytes.now }
+        ensures within { self.new.payload_offset + self.new.payload_len ≤ self.old.payload_offset + self.old.payload_len }
     {
         let packet = Ipv4Packet::new_unchecked(bytes);
         match Ipv4Repr::parse(&packet, &ChecksumCapabilities::ignored()) {
@@ -231,11 +261,17 @@ impl FrameFields {
     }
 
     // Stores the header of an IPv4 packet with a payload of this length.
-    fn store_ipv4_header(&mut self, packet: &Ipv4Packet<'_>, header: &Ipv4Repr, payload_len: usize)
+    #[inline(always)]
+    pub(super) fn store_ipv4_header(
+        &mut self,
+        packet: &Ipv4Packet<'_>,
+        header: &Ipv4Repr,
+        payload_len: usize,
+    )
         requires offset { self.old.payload_offset ≤ 14 }
-        requires lengths { ipv4.HasLengths (ipv4.packet_bytes packet.now) }
-        requires payload { payload_len ≡ length (ipv4_payload (ipv4.packet_bytes packet.now)) }
-        ensures { self.new ≡ with_ipv4_header self.old (ipv4.packet_bytes packet.now) header.now }
+        requires least { 20 ≤ length (ipv4.packet_bytes packet.now) }
+        requires header { ipv4.header_len (ipv4.packet_bytes packet.now) ≤ length (ipv4.packet_bytes packet.now) }
+        ensures { self.new ≡ with_ipv4_fields self.old (ipv4.packet_bytes packet.now) header.now payload_len }
     {
         let header_len = usize::from(packet.header_len());
         self.network = NetworkKind::Ipv4.code();
@@ -257,11 +293,12 @@ impl FrameFields {
     }
 
     // Stores an IPv6 packet. The payload behind a fragment header is not parsed.
-    fn store_ipv6(&mut self, bytes: &[u8])
+    #[inline(always)]
+    pub(super) fn store_ipv6(&mut self, bytes: &[u8])
         requires offset { self.old.payload_offset ≤ 14 }
-        requires len { self.old.payload_len ≡ length bytes.now }
+        requires len { length bytes.now ≤ self.old.payload_len }
         ensures value { self.new ≡ with_ipv6 self.old bytes.now }
-        ensures within { self.new.payload_offset + self.new.payload_len ≤ self.old.payload_offset + length bytes.now }
+        ensures within { self.new.payload_offset + self.new.payload_len ≤ self.old.payload_offset + self.old.payload_len }
     {
         let packet = Ipv6Packet::new_unchecked(bytes);
         match Ipv6Repr::parse(&packet) {
@@ -279,11 +316,16 @@ impl FrameFields {
     }
 
     // Stores the header of an IPv6 packet with a payload of this length.
-    fn store_ipv6_header(&mut self, packet: &Ipv6Packet<'_>, header: &Ipv6Repr, payload_len: usize)
+    #[inline(always)]
+    pub(super) fn store_ipv6_header(
+        &mut self,
+        packet: &Ipv6Packet<'_>,
+        header: &Ipv6Repr,
+        payload_len: usize,
+    )
         requires offset { self.old.payload_offset ≤ 14 }
-        requires lengths { ipv6.HasLengths (ipv6.packet_bytes packet.now) }
-        requires payload { payload_len ≡ length (ipv6.payload_of (ipv6.packet_bytes packet.now)) }
-        ensures { self.new ≡ with_ipv6_header self.old (ipv6.packet_bytes packet.now) header.now }
+        requires header { 40 ≤ length (ipv6.packet_bytes packet.now) }
+        ensures { self.new ≡ with_ipv6_fields self.old (ipv6.packet_bytes packet.now) header.now payload_len }
     {
         let traffic_class = packet.traffic_class();
         self.network = NetworkKind::Ipv6.code();
@@ -313,7 +355,8 @@ impl FrameFields {
     }
 
     // Stores a fragment header.
-    fn store_fragment_header(&mut self, header: &Ipv6FragmentHeader<'_>)
+    #[inline(always)]
+    pub(super) fn store_fragment_header(&mut self, header: &Ipv6FragmentHeader<'_>)
         requires { 6 ≤ length (fragment.header_bytes header.now) }
         ensures { self.new ≡ with_fragment_header self.old (fragment.header_of (fragment.header_bytes header.now)) }
     {
@@ -322,135 +365,5 @@ impl FrameFields {
         self.ip.fragment_offset = 8 * offset;
         self.ip.more_fragments = u8::from(more_fragments);
         self.is_fragment = u8::from(more_fragments || offset != 0);
-    }
-
-    // Stores the payload of a packet with this protocol number between two addresses. The number is compared
-    // here as it is: its name in the header would have been looked up before.
-    #[inline(always)]
-    fn store_transport(
-        &mut self,
-        protocol: u8,
-        src_addr: &IpAddress,
-        dst_addr: &IpAddress,
-        bytes: &[u8],
-    )
-        requires offset { self.old.payload_offset ≤ 74 }
-        requires len { self.old.payload_len ≡ length bytes.now }
-        requires family { version_of src_addr.now ≡ version_of dst_addr.now }
-        ensures value { self.new ≡ with_transport_by self.old (protocol_of protocol) src_addr.now dst_addr.now bytes.now }
-        ensures within { self.new.payload_offset + self.new.payload_len ≤ self.old.payload_offset + length bytes.now }
-    {
-        match IpProtocol::from(protocol) {
-            IpProtocol::Udp => self.store_udp(src_addr, dst_addr, bytes),
-            IpProtocol::Tcp => self.store_tcp(src_addr, dst_addr, bytes),
-            _ => {}
-        }
-    }
-
-    // Stores a UDP packet. A rejected header is stored too, if it is there as a whole.
-    #[inline(always)]
-    fn store_udp(&mut self, src_addr: &IpAddress, dst_addr: &IpAddress, bytes: &[u8])
-        requires offset { self.old.payload_offset ≤ 74 }
-        requires len { self.old.payload_len ≡ length bytes.now }
-        requires family { version_of src_addr.now ≡ version_of dst_addr.now }
-        ensures value { self.new ≡ with_udp self.old src_addr.now dst_addr.now bytes.now }
-        ensures within { self.new.payload_offset + self.new.payload_len ≤ self.old.payload_offset + length bytes.now }
-    {
-        if bytes.len() < UDP_HEADER_LEN {
-            return self.reject(Reason::TooShort);
-        }
-        let packet = UdpPacket::new_unchecked(bytes);
-        let caps = ChecksumCapabilities::ignored();
-        match UdpRepr::parse(&packet, src_addr, dst_addr, &caps) {
-            Ok(_) => {
-                let payload_len = packet.payload().len();
-                self.store_udp_header(src_addr, dst_addr, &packet);
-                self.step_behind(UDP_HEADER_LEN, payload_len);
-            }
-            Err(_) => self.store_rejected_udp(*src_addr, *dst_addr, &packet),
-        }
-    }
-
-    // Stores the header of a UDP packet that is rejected.
-    #[cold]
-    fn store_rejected_udp(
-        &mut self,
-        src_addr: IpAddress,
-        dst_addr: IpAddress,
-        packet: &UdpPacket<'_>,
-    )
-        requires header { 8 ≤ length (udp.packet_bytes packet.now) }
-        requires family { version_of src_addr ≡ version_of dst_addr }
-        ensures { let bytes = udp.packet_bytes packet.now in
-            self.new ≡ rejected (with_udp_header self.old src_addr dst_addr bytes) (udp_fault bytes) }
-    {
-        self.store_udp_header(&src_addr, &dst_addr, packet);
-        self.reject(udp_fault(packet));
-    }
-
-    // Stores the header of a UDP packet. If its length is wrong, no checksum can be computed.
-    #[inline(always)]
-    fn store_udp_header(
-        &mut self,
-        src_addr: &IpAddress,
-        dst_addr: &IpAddress,
-        packet: &UdpPacket<'_>,
-    )
-        requires header { 8 ≤ length (udp.packet_bytes packet.now) }
-        requires family { version_of src_addr.now ≡ version_of dst_addr.now }
-        ensures { self.new ≡ with_udp_header self.old src_addr.now dst_addr.now (udp.packet_bytes packet.now) }
-    {
-        let verdict = udp_verdict(packet, src_addr, dst_addr);
-        self.transport = TransportKind::Udp.code();
-        self.transport_offset = self.payload_offset;
-        self.src.port = packet.src_port();
-        self.dst.port = packet.dst_port();
-        self.transport_checksum = verdict.code();
-    }
-
-    // Stores a TCP segment. A rejected header is stored too, if it is there as a whole.
-    #[inline(always)]
-    fn store_tcp(&mut self, src_addr: &IpAddress, dst_addr: &IpAddress, bytes: &[u8])
-        requires offset { self.old.payload_offset ≤ 74 }
-        requires len { self.old.payload_len ≡ length bytes.now }
-        requires family { version_of src_addr.now ≡ version_of dst_addr.now }
-        ensures value { self.new ≡ with_tcp self.old src_addr.now dst_addr.now bytes.now }
-        ensures within { self.new.payload_offset + self.new.payload_len ≤ self.old.payload_offset + length bytes.now }
-    {
-        if bytes.len() < TCP_HEADER_LEN {
-            return self.reject(Reason::TooShort);
-        }
-        let packet = TcpPacket::new_unchecked(bytes);
-        self.store_tcp_header(src_addr, dst_addr, &packet);
-        let caps = ChecksumCapabilities::ignored();
-        match TcpRepr::parse(&packet, src_addr, dst_addr, &caps) {
-            Ok(_) => self.step_behind(usize::from(packet.header_len()), packet.payload().len()),
-            Err(_) => self.reject(tcp_fault(&packet)),
-        }
-    }
-
-    // Stores the header of a TCP segment.
-    #[inline(always)]
-    fn store_tcp_header(
-        &mut self,
-        src_addr: &IpAddress,
-        dst_addr: &IpAddress,
-        packet: &TcpPacket<'_>,
-    )
-        requires header { 20 ≤ length (tcp.packet_bytes packet.now) }
-        requires family { version_of src_addr.now ≡ version_of dst_addr.now }
-        ensures { self.new ≡ with_tcp_header self.old src_addr.now dst_addr.now (tcp.packet_bytes packet.now) }
-    {
-        self.transport = TransportKind::Tcp.code();
-        self.transport_offset = self.payload_offset;
-        self.src.port = packet.src_port();
-        self.dst.port = packet.dst_port();
-        self.tcp.seq_number = packet.seq_number().0.cast_unsigned();
-        self.tcp.ack_number = packet.ack_number().0.cast_unsigned();
-        self.tcp.window_len = packet.window_len();
-        self.tcp.urgent_at = packet.urgent_at();
-        self.tcp.flags = packet.as_bytes()[13];
-        self.tcp.header_len = packet.header_len();
-        self.transport_checksum = tcp_verdict(packet, src_addr, dst_addr).code();
     }
 }

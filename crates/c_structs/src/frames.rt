@@ -1,14 +1,15 @@
 //! Whole frames.
 
-ghost use Rattle.std.specs.Prelude.{◌≡◌, ◌≤◌, ◌+◌, ◌++◌, IfSome, Some, drop, length, slice_range, true};
+ghost use Rattle.std.specs.Prelude.{◌≡◌, ◌≢◌, ◌≤◌, ◌+◌, ◌++◌, IfSome, Some, drop, length, slice_range, true};
 ghost use Rattle.ip_wire.specs.Ip.{dst_addr_of, header_len_of, src_addr_of};
 ghost use Rattle.ip_wire.specs.Udp as udp;
-ghost use Rattle.c_structs.specs.Frames.{arp_frame, back_arp, back_link, ip_header, headers_bytes, reply_to, tcp_frame, tcp_frame_around, type_number, udp_frame, udp_frame_around};
+ghost use Rattle.c_structs.specs.Frames.{arp_frame, back_arp, back_ip, back_link, ip_header, is_whole, headers_bytes, reply_to, tcp_frame, tcp_frame_around, type_number, udp_frame, udp_frame_around};
 ghost use Rattle.c_structs.specs.Headers.{is_expressible, link_bytes, options_header_len, ports_of, segment_bytes, tcp_value};
 ghost use Rattle.c_structs.specs.Written.{Fills};
 
-use crate::types::{Arp, Ethernet, FrameFields, TcpOptions};
+use crate::types::{Arp, Ethernet, FrameFields, Ip, TcpOptions};
 use crate::udp;
+use ip_replies::HOP_LIMIT;
 use ip_wire::{
     ETHERNET_HEADER_LEN, EthernetAddress, EthernetFrameMut, EthernetProtocol, EthernetRepr, IpRepr,
     UDP_HEADER_LEN, UDP_MAX_PAYLOAD_LEN, UdpRepr,
@@ -70,6 +71,33 @@ impl Ethernet {
     }
 }
 
+impl Ip {
+    /// Whether the fields say that the packet is whole.
+    #[inline(always)]
+    pub(crate) fn is_whole(&self) -> bool
+        ensures { result ≡ is_whole self.now }
+    {
+        self.fragment_offset == 0 && self.more_fragments == 0
+    }
+
+    // The header of a new packet that answers this one: only protocol and DSCP stay.
+    fn of_reply(&self) -> Ip
+        ensures { result ≡ back_ip self.now }
+    {
+        Ip {
+            ident: 0,
+            flow_label: 0,
+            fragment_offset: 0,
+            protocol: self.protocol,
+            hop_limit: HOP_LIMIT,
+            dscp: self.dscp,
+            ecn: 0,
+            more_fragments: 0,
+            dont_fragment: 1,
+        }
+    }
+}
+
 impl Arp {
     // The same of ARP.
     fn reversed(&self) -> Arp
@@ -86,16 +114,16 @@ impl Arp {
 }
 
 impl FrameFields {
-    /// Fills in the reply to this frame.
-    #[inline(always)]
-    pub fn fill_reply(&self, reply: &mut FrameFields)
-        ensures { reply.new ≡ reply_to self.now }
+    /// Turns a frame into its reply: the way back, by a new IP packet.
+    pub fn turn(&mut self)
+        ensures { self.new ≡ reply_to self.old }
     {
-        *reply = *self;
-        reply.src = self.dst;
-        reply.dst = self.src;
-        reply.ethernet = self.ethernet.reversed();
-        reply.arp = self.arp.reversed();
+        let src = self.dst;
+        self.dst = self.src;
+        self.src = src;
+        self.ethernet = self.ethernet.reversed();
+        self.arp = self.arp.reversed();
+        self.ip = self.ip.of_reply();
     }
 
     // The values of the IP header before a packet of this protocol, with a source of this version.
@@ -109,8 +137,7 @@ impl FrameFields {
         let value = self
             .ip
             .value(version, protocol, &self.src.addr, &self.dst.addr, len)?;
-        let is_whole = self.ip.fragment_offset == 0 && self.ip.more_fragments == 0;
-        is_whole.then_some(value)
+        self.ip.is_whole().then_some(value)
     }
 
     // The length of the Ethernet header and this IP header, in octets.
@@ -218,6 +245,9 @@ impl FrameFields {
     pub fn emit_udp(&self, payload: &[u8], out: &mut [u8]) -> Option<usize>
         ensures { Fills (udp_frame self.now payload.now) out.old out.new result }
     {
+        if self.dst.port == 0 {
+            return None;
+        }
         match self.src.addr.version {
             4 => self.emit_udp_from(4, payload, out),
             version => self.emit_udp_from(version, payload, out),
@@ -227,7 +257,8 @@ impl FrameFields {
     // The same with a source of this version.
     #[inline(always)]
     fn emit_udp_from(&self, version: u16, payload: &[u8], out: &mut [u8]) -> Option<usize>
-        requires { version ≡ self.now.src.addr.version }
+        requires version { version ≡ self.now.src.addr.version }
+        requires dst_port { self.now.dst.port ≢ 0 }
         ensures { Fills (udp_frame self.now payload.now) out.old out.new result }
     {
         if payload.len() > UDP_MAX_PAYLOAD_LEN {
@@ -247,6 +278,9 @@ impl FrameFields {
     pub fn emit_udp_around(&self, payload_len: usize, out: &mut [u8]) -> Option<usize>
         ensures { Fills (udp_frame_around self.now payload_len out.old) out.old out.new result }
     {
+        if self.dst.port == 0 {
+            return None;
+        }
         match self.src.addr.version {
             4 => self.emit_udp_around_from(4, payload_len, out),
             version => self.emit_udp_around_from(version, payload_len, out),
@@ -261,7 +295,8 @@ impl FrameFields {
         payload_len: usize,
         out: &mut [u8],
     ) -> Option<usize>
-        requires { version ≡ self.now.src.addr.version }
+        requires version { version ≡ self.now.src.addr.version }
+        requires dst_port { self.now.dst.port ≢ 0 }
         ensures { Fills (udp_frame_around self.now payload_len out.old) out.old out.new result }
     {
         if payload_len > UDP_MAX_PAYLOAD_LEN {
@@ -280,6 +315,9 @@ impl FrameFields {
     pub fn emit_tcp(&self, options: &TcpOptions, payload: &[u8], out: &mut [u8]) -> Option<usize>
         ensures { Fills (tcp_frame self.now options.now payload.now) out.old out.new result }
     {
+        if self.src.port == 0 || self.dst.port == 0 {
+            return None;
+        }
         match self.src.addr.version {
             4 => self.emit_tcp_from(4, options, payload, out),
             version => self.emit_tcp_from(version, options, payload, out),
@@ -295,7 +333,9 @@ impl FrameFields {
         payload: &[u8],
         out: &mut [u8],
     ) -> Option<usize>
-        requires { version ≡ self.now.src.addr.version }
+        requires version { version ≡ self.now.src.addr.version }
+        requires src_port { self.now.src.port ≢ 0 }
+        requires dst_port { self.now.dst.port ≢ 0 }
         ensures { Fills (tcp_frame self.now options.now payload.now) out.old out.new result }
     {
         let header_len = self.tcp.header_len(options, payload.len())?;
@@ -319,6 +359,9 @@ impl FrameFields {
     ) -> Option<usize>
         ensures { Fills (tcp_frame_around self.now options.now payload_len out.old) out.old out.new result }
     {
+        if self.src.port == 0 || self.dst.port == 0 {
+            return None;
+        }
         match self.src.addr.version {
             4 => self.emit_tcp_around_from(4, options, payload_len, out),
             version => self.emit_tcp_around_from(version, options, payload_len, out),
@@ -334,7 +377,9 @@ impl FrameFields {
         payload_len: usize,
         out: &mut [u8],
     ) -> Option<usize>
-        requires { version ≡ self.now.src.addr.version }
+        requires version { version ≡ self.now.src.addr.version }
+        requires src_port { self.now.src.port ≢ 0 }
+        requires dst_port { self.now.dst.port ≢ 0 }
         ensures { Fills (tcp_frame_around self.now options.now payload_len out.old) out.old out.new result }
     {
         let header_len = self.tcp.header_len(options, payload_len)?;

@@ -115,6 +115,7 @@ impl Ip {
         ensures { result ≡ is_expressible self.now value.now }
     {
         value.payload_len() <= value.max_payload_len()
+            && self.hop_limit > 0
             && self.dscp < 64
             && self.ecn < 4
             && self.has_place(value)

@@ -1,6 +1,6 @@
-//! What holds of the definitions alone. The functions do nothing.
+//! What holds of the stored values. Most functions do nothing: what they say holds of the definitions alone.
 
-ghost use Rattle.std.specs.Prelude.{◌≡◌, ◌↔◌, ◌≢◌, drop, false, true};
+ghost use Rattle.std.specs.Prelude.{◌≡◌, ◌↔◌, ◌≢◌, ◌≤◌, drop, false, length, true};
 ghost use Rattle.ip_wire.specs.Ethernet as ethernet;
 ghost use Rattle.ip_wire.specs.Frame.{Carried, ReadsFrame, type_of};
 ghost use Rattle.ip_wire.specs.Ip.{ReadsHeader};
@@ -8,8 +8,13 @@ ghost use Rattle.ip_wire.specs.Ipv4 as ipv4;
 ghost use Rattle.ip_wire.specs.declared.EthernetProtocol.TheVariants as ethertype;
 ghost use Rattle.ip_wire.specs.Types.{EthernetRepr, IpRepr, Ipv4Repr};
 ghost use Rattle.c_structs.specs.FrameFields.{fields_of};
-ghost use Rattle.c_structs.specs.Stored.{HasVerdicts, Stores, StoresFragment, StoresRejected, StoresUnread, unchecked};
+ghost use Rattle.c_structs.specs.Stored.{HasVerdicts, IsTypeOf, Stores, StoresFragment, StoresRejected, StoresUnread, in_frame, unchecked};
 
+mod failures;
+
+use crate::types::FrameFields;
+pub use failures::failures_are_exact;
+use ip_wire::ETHERNET_HEADER_LEN;
 use net_base::ChecksumCapabilities;
 
 /// The struct of a frame that is parsed whole stores each value of its headers under the name of the
@@ -34,3 +39,19 @@ pub fn fields_before_are_parsed(frame: &[u8])
     ensures unread { (v : EthernetRepr) → ethernet.Reads frame.now v → (fields_of frame.now).network ≡ 0
         → StoresUnread (fields_of frame.now) frame.now v }
 {}
+
+/// `transport` names no header where one is rejected, and `rejected` none where none is.
+pub fn rejected_is_no_transport(frame: &[u8])
+    ensures rejected { (fields_of frame.now).reason ≢ 0 → (fields_of frame.now).transport ≡ 0 }
+    ensures parsed { (fields_of frame.now).reason ≡ 0 → (fields_of frame.now).rejected ≡ 0 }
+{}
+
+/// The struct of a packet in a frame is that of the packet alone, with the values of the Ethernet header, and
+/// with each offset 14 more.
+pub fn frame_has_packet(frame: &[u8], whole: &mut FrameFields, packet: &mut FrameFields)
+    requires { 14 ≤ length frame.now }
+    ensures { (v : EthernetRepr) → ethernet.Reads frame.now v → IsTypeOf v.ethertype (drop 14 frame.now) → whole.new ≡ in_frame v packet.new }
+{
+    whole.read(frame);
+    packet.read_packet(&frame[ETHERNET_HEADER_LEN..]);
+}

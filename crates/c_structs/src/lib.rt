@@ -4,8 +4,11 @@
 
 mod addresses;
 mod arp;
+mod captured;
+mod checksums;
 mod codes;
 mod emit;
+mod failures;
 mod faults;
 mod frame_fields;
 mod frames;
@@ -18,15 +21,19 @@ mod tcp;
 mod tcp_bytes;
 mod tcp_len;
 mod tcp_options;
+mod tcp_steps;
+mod transport_fields;
 mod types;
 mod udp;
 mod verdicts;
 
 pub use addresses::{print_address, print_block};
-pub use codes::Reason;
+pub use checksums::{address_sum, update_udp};
 pub use emit::{emit_tcp, emit_udp};
+pub use failures::{Failure, arp_failure, rebuild_failure, udp_failure};
 pub use rebuild::rebuild_frame;
-pub use results::{FAILED, is_set, print, written};
+pub use results::{MAX_LEN, failed, is_set, print, usable, within};
 pub use types::{
-    Addr, Arp, Block, Endpoint, Ethernet, FrameFields, HostFields, Ip, SackRange, Tcp, TcpOptions,
+    Addr, Arp, Block, Endpoint, Ethernet, FrameFields, HostFields, Ip, SackRange, Tcp,
+    TcpOptionPlace, TcpOptions,
 };

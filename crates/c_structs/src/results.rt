@@ -1,24 +1,40 @@
-//! Results of C calls.
+//! Results of C calls, and texts.
 
-ghost use Rattle.std.specs.Prelude.{◌≡◌, ◌<◌, ◌^◌, IfSome, Some};
-ghost use Rattle.c_structs.specs.Written.{Writes, is_set, returned};
+ghost use Rattle.std.specs.Prelude.{◌≡◌, ◌≤◌, None, Some, length};
+ghost use Rattle.c_structs.specs.Written.{Prints, failed_by, is_set, max_len, usable, with_end, within};
 
-use wire_field::try_copy;
+use crate::failures::Failure;
 
-/// The result of a call that wrote nothing. Its sum with any lengths is negative, and as a `usize`
-/// it is longer than any packet.
-pub const FAILED: isize = -(1 << 40);
+/// The longest input or output of a call, in octets.
+pub const MAX_LEN: usize = (1 << 40) - 1;
 
-/// The length that was written, or `FAILED`.
+/// An input. One that is longer than `MAX_LEN` counts as empty.
 #[inline(always)]
-pub fn written(len: Option<usize>) -> isize
-    requires { IfSome len (λ n. n < 2 ^ 63) }
-    ensures { result ≡ returned len }
+#[tactic(auto, unfolding(crate::specs::Written::within))]
+pub fn within(bytes: &[u8]) -> &[u8]
+    ensures value { result.now ≡ within bytes.now }
+    ensures no_longer { length result.now ≤ length bytes.now }
+    ensures fits { length result.now ≤ max_len }
 {
-    match len {
-        Some(len) => len as isize,
-        None => FAILED,
-    }
+    if bytes.len() <= MAX_LEN { bytes } else { &[] }
+}
+
+/// A number of octets. One that is above `MAX_LEN` counts as 0.
+#[inline(always)]
+#[tactic(auto, unfolding(crate::specs::Written::usable))]
+pub fn usable(len: usize) -> usize
+    ensures value { result ≡ usable len }
+    ensures no_longer { result ≤ len }
+{
+    if len <= MAX_LEN { len } else { 0 }
+}
+
+/// What a call returns that wrote nothing: its failure, or that there was no room.
+#[inline(always)]
+pub fn failed(failure: Option<Failure>) -> isize
+    ensures { result ≡ failed_by failure }
+{
+    failure.unwrap_or(Failure::NoRoom).code()
 }
 
 /// Whether a C flag is set.
@@ -29,9 +45,26 @@ pub fn is_set(number: i32) -> bool
     number != 0
 }
 
-/// Writes a text to the front of `out`, and returns its length or `FAILED`.
+/// Prints a text: writes it to the front of `out`, with a null behind it if there is room, and returns its
+/// length, or that there is no room for the text.
 pub fn print(text: &str, out: &mut [u8]) -> isize
-    ensures { Writes (Some text.now) out.old out.new result }
+    ensures { Prints (Some text.now) None out.old out.new result }
 {
-    written(try_copy(out, text.as_bytes()))
+    let len = text.len();
+    if len > out.len() || out.len() > MAX_LEN {
+        return Failure::NoRoom.code();
+    }
+    out[..len].copy_from_slice(text.as_bytes());
+    end_text(len, out);
+    len as isize
+}
+
+/// Writes a null behind a text of this length, if there is room.
+#[inline(always)]
+pub fn end_text(len: usize, out: &mut [u8])
+    ensures { out.new ≡ with_end out.old len }
+{
+    if len < out.len() {
+        out[len] = 0;
+    }
 }

@@ -72,7 +72,7 @@ impl Tcp {
 
     // Whether at most one of FIN, SYN and RST is set.
     #[inline(always)]
-    fn has_one_control(&self) -> bool
+    pub(crate) fn has_one_control(&self) -> bool
         ensures { result ≡ has_one_control self.now.flags }
     {
         let low = self.flags % 8;

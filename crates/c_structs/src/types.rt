@@ -79,7 +79,7 @@ pub struct Tcp {
     pub urgent_at: u16,
     /// FIN is 1, SYN 2, RST 4, PSH 8, ACK 16, URG 32, ECE 64, CWR 128.
     pub flags: u8,
-    /// In octets, 20 to 60.
+    /// In octets, 20 to 60; of a rejected header 0 to 60.
     pub header_len: u8,
 }
 
@@ -109,6 +109,18 @@ pub struct TcpOptions {
     pub has_timestamp: u8,
 }
 
+/// `struct lk_tcp_option`: where an option of a TCP header is.
+#[repr(C)]
+#[derive(Clone, Copy)]
+pub struct TcpOptionPlace {
+    /// Of its first octet in the header; 0 before the first option.
+    pub offset: u8,
+    /// 0 for the end mark, 1 for padding.
+    pub kind: u8,
+    /// Of the whole option, in octets.
+    pub len: u8,
+}
+
 /// `struct lk_frame`: the values of a frame, and where its headers and its payload are.
 #[repr(C)]
 #[derive(Clone, Copy)]
@@ -131,6 +143,8 @@ pub struct FrameFields {
     pub network: u8,
     /// 1 for UDP, 2 for TCP.
     pub transport: u8,
+    /// The same of a rejected header whose fields are stored.
+    pub rejected: u8,
     pub is_fragment: u8,
     pub ipv4_checksum: u8,
     pub transport_checksum: u8,

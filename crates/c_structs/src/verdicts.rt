@@ -6,7 +6,7 @@ ghost use Rattle.ip_wire.specs.IpAddress.{version_of};
 ghost use Rattle.ip_wire.specs.Ipv4 as ipv4;
 ghost use Rattle.ip_wire.specs.Tcp as tcp;
 ghost use Rattle.ip_wire.specs.Udp as udp;
-ghost use Rattle.c_structs.specs.FrameFields.{ipv4_verdict, tcp_verdict, udp_verdict};
+ghost use Rattle.c_structs.specs.FrameFields.{cut_udp_verdict, ipv4_verdict, tcp_verdict, udp_verdict, zero_udp_verdict};
 ghost use Rattle.c_structs.specs.declared.codes.Verdict.TheVariants as verdict;
 
 use crate::codes::Verdict;
@@ -15,7 +15,8 @@ use ip_wire::{IpAddress, Ipv4Packet, TcpPacket, UdpPacket};
 /// The verdict on the checksum of an IPv4 header.
 #[inline(always)]
 pub fn ipv4_verdict(packet: &Ipv4Packet<'_>) -> Verdict
-    requires { ipv4.HasLengths (ipv4.packet_bytes packet.now) }
+    requires field { 1 ≤ length (ipv4.packet_bytes packet.now) }
+    requires header { ipv4.header_len (ipv4.packet_bytes packet.now) ≤ length (ipv4.packet_bytes packet.now) }
     ensures { result ≡ ipv4_verdict (ipv4.packet_bytes packet.now) }
 {
     if packet.verify_checksum() {
@@ -35,14 +36,34 @@ pub fn udp_verdict(packet: &UdpPacket<'_>, src_addr: &IpAddress, dst_addr: &IpAd
     if packet.check_len().is_err() {
         Verdict::None
     } else if packet.checksum() == 0 {
-        match src_addr {
-            IpAddress::Ipv4(_) => Verdict::LeftOut,
-            IpAddress::Ipv6(_) => Verdict::Wrong,
-        }
+        zero_udp_verdict(src_addr)
     } else if packet.verify_checksum(src_addr, dst_addr) {
         Verdict::Right
     } else {
         partial_udp_verdict(packet, *src_addr, *dst_addr)
+    }
+}
+
+/// The verdict on the checksum of a UDP packet that was not captured as a whole.
+pub fn cut_udp_verdict(packet: &UdpPacket<'_>, src_addr: &IpAddress) -> Verdict
+    requires { 8 ≤ length (udp.packet_bytes packet.now) }
+    ensures { result ≡ cut_udp_verdict src_addr.now (udp.packet_bytes packet.now) }
+{
+    if packet.checksum() == 0 {
+        zero_udp_verdict(src_addr)
+    } else {
+        Verdict::ChecksumCut
+    }
+}
+
+// The verdict on a checksum field of 0 in UDP.
+#[inline(always)]
+fn zero_udp_verdict(src_addr: &IpAddress) -> Verdict
+    ensures { result ≡ zero_udp_verdict src_addr.now }
+{
+    match src_addr {
+        IpAddress::Ipv4(_) => Verdict::LeftOut,
+        IpAddress::Ipv6(_) => Verdict::Wrong,
     }
 }
 

@@ -1,6 +1,6 @@
 //! Addresses, blocks and endpoints, and their texts.
 
-ghost use Rattle.std.specs.Prelude.{◌≡◌, IsSomeAnd, Some};
+ghost use Rattle.std.specs.Prelude.{◌≡◌, IsSomeAnd, None, Some};
 ghost use Rattle.std.specs.Option.{option_map};
 ghost use Rattle.ip_wire.specs.Endpoint.{ReadsEndpoint, endpoint_text};
 ghost use Rattle.ip_wire.specs.IpAddress.{IsMulticast, IsUnicast, ReadsAddress, address_text};
@@ -8,17 +8,18 @@ ghost use Rattle.ip_wire.specs.IpCidr.{IsIn, ReadsCidr, cidr_text};
 ghost use Rattle.ip_wire.specs.Printed.{dashed};
 ghost use Rattle.ip_wire.specs.Read.{ReadsEthernet};
 ghost use Rattle.c_structs.specs.Addresses.{addr_of, block_of, block_struct, endpoint_struct, ethernet_octets, ip_endpoint_of, ip_of};
-ghost use Rattle.c_structs.specs.Written.{Answers, IsRead, Writes};
+ghost use Rattle.c_structs.specs.Failures.{addr_failure, block_failure};
+ghost use Rattle.c_structs.specs.Written.{Answers, IsRead, Prints, within};
 
-use c_structs::{Addr, Block, Endpoint, FAILED, print, print_address, print_block};
+use c_structs::{Addr, Block, Endpoint, failed, print, print_address, print_block, within};
 use ip_wire::{EthernetAddress, IpAddress, IpCidr, IpEndpoint};
 
 /// Parses the text of an address, stores the address, and returns 1. Returns 0 if it is no such text.
 #[unsafe(no_mangle)]
-pub extern "C" fn lk_addr_read(text: &[u8], addr: &mut Addr) -> i32
-    ensures { IsRead ReadsAddress addr_of text.now addr.old addr.new result }
+pub extern "C" fn lk_parse_addr(text: &[u8], addr: &mut Addr) -> i32
+    ensures { IsRead ReadsAddress addr_of (within text.now) addr.old addr.new result }
 {
-    match IpAddress::parse_ascii(text) {
+    match IpAddress::parse_ascii(within(text)) {
         Ok(address) => {
             *addr = Addr::of(address);
             1
@@ -29,21 +30,21 @@ pub extern "C" fn lk_addr_read(text: &[u8], addr: &mut Addr) -> i32
 
 /// Prints an address.
 #[unsafe(no_mangle)]
-pub extern "C" fn lk_addr_print(addr: &Addr, out: &mut [u8]) -> isize
-    ensures { Writes (option_map address_text (ip_of addr.now)) out.old out.new result }
+pub extern "C" fn lk_print_addr(addr: &Addr, out: &mut [u8]) -> isize
+    ensures { Prints (option_map address_text (ip_of addr.now)) (addr_failure addr.now) out.old out.new result }
 {
     match addr.ip() {
         Some(address) => print_address(&address, out),
-        None => FAILED,
+        None => failed(addr.failure()),
     }
 }
 
 /// Parses the text of a block, stores the block, and returns 1. Returns 0 if it is no such text.
 #[unsafe(no_mangle)]
-pub extern "C" fn lk_block_read(text: &[u8], block: &mut Block) -> i32
-    ensures { IsRead ReadsCidr block_struct text.now block.old block.new result }
+pub extern "C" fn lk_parse_block(text: &[u8], block: &mut Block) -> i32
+    ensures { IsRead ReadsCidr block_struct (within text.now) block.old block.new result }
 {
-    match IpCidr::parse_ascii(text) {
+    match IpCidr::parse_ascii(within(text)) {
         Ok(cidr) => {
             *block = Block::of(&cidr);
             1
@@ -54,18 +55,18 @@ pub extern "C" fn lk_block_read(text: &[u8], block: &mut Block) -> i32
 
 /// Prints a block.
 #[unsafe(no_mangle)]
-pub extern "C" fn lk_block_print(block: &Block, out: &mut [u8]) -> isize
-    ensures { Writes (option_map cidr_text (block_of block.now)) out.old out.new result }
+pub extern "C" fn lk_print_block(block: &Block, out: &mut [u8]) -> isize
+    ensures { Prints (option_map cidr_text (block_of block.now)) (block_failure block.now) out.old out.new result }
 {
     match block.cidr() {
         Some(block) => print_block(&block, out),
-        None => FAILED,
+        None => failed(block.failure()),
     }
 }
 
 /// Whether an address is in a block.
 #[unsafe(no_mangle)]
-pub extern "C" fn lk_block_contains(block: &Block, addr: &Addr) -> i32
+pub extern "C" fn lk_contains(block: &Block, addr: &Addr) -> i32
     ensures { Answers (IsSomeAnd (block_of block.now) (λ cidr. IsSomeAnd (ip_of addr.now) (IsIn cidr))) result }
 {
     i32::from(block.contains(addr))
@@ -73,10 +74,10 @@ pub extern "C" fn lk_block_contains(block: &Block, addr: &Addr) -> i32
 
 /// Parses the text of an endpoint, stores the endpoint, and returns 1. Returns 0 if it is no such text.
 #[unsafe(no_mangle)]
-pub extern "C" fn lk_endpoint_read(text: &[u8], endpoint: &mut Endpoint) -> i32
-    ensures { IsRead ReadsEndpoint endpoint_struct text.now endpoint.old endpoint.new result }
+pub extern "C" fn lk_parse_endpoint(text: &[u8], endpoint: &mut Endpoint) -> i32
+    ensures { IsRead ReadsEndpoint endpoint_struct (within text.now) endpoint.old endpoint.new result }
 {
-    match IpEndpoint::parse_ascii(text) {
+    match IpEndpoint::parse_ascii(within(text)) {
         Ok(parsed) => {
             *endpoint = Endpoint::of(&parsed);
             1
@@ -87,22 +88,22 @@ pub extern "C" fn lk_endpoint_read(text: &[u8], endpoint: &mut Endpoint) -> i32
 
 /// Prints an endpoint.
 #[unsafe(no_mangle)]
-pub extern "C" fn lk_endpoint_print(endpoint: &Endpoint, out: &mut [u8]) -> isize
-    ensures { Writes (option_map endpoint_text (ip_endpoint_of endpoint.now)) out.old out.new result }
+pub extern "C" fn lk_print_endpoint(endpoint: &Endpoint, out: &mut [u8]) -> isize
+    ensures { Prints (option_map endpoint_text (ip_endpoint_of endpoint.now)) (addr_failure endpoint.now.addr) out.old out.new result }
 {
     match endpoint.ip() {
         Some(endpoint) => print(endpoint.text().as_str(), out),
-        None => FAILED,
+        None => failed(endpoint.addr.failure()),
     }
 }
 
 /// Parses the text of an Ethernet address, stores its octets, and returns 1. Returns 0 if it is no such
 /// text.
 #[unsafe(no_mangle)]
-pub extern "C" fn lk_ethernet_read(text: &[u8], octets: &mut [u8; 6]) -> i32
-    ensures { IsRead ReadsEthernet ethernet_octets text.now octets.old octets.new result }
+pub extern "C" fn lk_parse_ethernet(text: &[u8], octets: &mut [u8; 6]) -> i32
+    ensures { IsRead ReadsEthernet ethernet_octets (within text.now) octets.old octets.new result }
 {
-    match EthernetAddress::parse_ascii(text) {
+    match EthernetAddress::parse_ascii(within(text)) {
         Ok(address) => {
             let read = address.0;
             *octets = read;
@@ -114,15 +115,15 @@ pub extern "C" fn lk_ethernet_read(text: &[u8], octets: &mut [u8; 6]) -> i32
 
 /// Prints an Ethernet address.
 #[unsafe(no_mangle)]
-pub extern "C" fn lk_ethernet_print(octets: &[u8; 6], out: &mut [u8]) -> isize
-    ensures { Writes (Some (dashed octets.now)) out.old out.new result }
+pub extern "C" fn lk_print_ethernet(octets: &[u8; 6], out: &mut [u8]) -> isize
+    ensures { Prints (Some (dashed octets.now)) None out.old out.new result }
 {
     print(EthernetAddress(*octets).text().as_str(), out)
 }
 
 /// Whether an address is a multicast address.
 #[unsafe(no_mangle)]
-pub extern "C" fn lk_addr_is_multicast(addr: &Addr) -> i32
+pub extern "C" fn lk_is_multicast(addr: &Addr) -> i32
     ensures { Answers (IsSomeAnd (ip_of addr.now) IsMulticast) result }
 {
     match addr.ip() {
@@ -133,7 +134,7 @@ pub extern "C" fn lk_addr_is_multicast(addr: &Addr) -> i32
 
 /// Whether an address is neither multicast, nor unspecified, nor 255.255.255.255.
 #[unsafe(no_mangle)]
-pub extern "C" fn lk_addr_is_unicast(addr: &Addr) -> i32
+pub extern "C" fn lk_is_unicast(addr: &Addr) -> i32
     ensures { Answers (IsSomeAnd (ip_of addr.now) IsUnicast) result }
 {
     match addr.ip() {

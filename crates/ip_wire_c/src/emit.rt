@@ -1,27 +1,46 @@
 //! The layers of a frame, one by one.
 
-ghost use Rattle.std.specs.Prelude.{◌≡◌, Some};
+ghost use Rattle.std.specs.Prelude.{◌≡◌, None, Some, length, pos};
+ghost use Rattle.std.specs.Option.{option_map_or};
+ghost use Rattle.c_structs.specs.Failures.{arp_failure, ip_failure, options_failure, tcp_failure, udp_failure};
 ghost use Rattle.c_structs.specs.Headers.{arp_bytes, ip_bytes, link_bytes, tcp_bytes, tcp_header_len, udp_bytes};
-ghost use Rattle.c_structs.specs.Written.{Writes, is_set, returned};
+ghost use Rattle.c_structs.specs.Written.{Writes, failed_by, is_set};
 
 use c_structs::{
-    Addr, Arp, Endpoint, Ethernet, Ip, Tcp, TcpOptions, emit_tcp, emit_udp, is_set, written,
+    Addr, Arp, Endpoint, Ethernet, Ip, MAX_LEN, Tcp, TcpOptions, arp_failure, emit_tcp, emit_udp,
+    failed, is_set, udp_failure,
 };
 
 /// Writes an Ethernet header.
 #[unsafe(no_mangle)]
 pub extern "C" fn lk_emit_ethernet(header: &Ethernet, out: &mut [u8]) -> isize
-    ensures { Writes (Some (link_bytes header.now header.now.ethertype)) out.old out.new result }
+    ensures { Writes (Some (link_bytes header.now header.now.ethertype)) None out.old out.new result }
 {
-    written(header.try_emit(out))
+    let len = if out.len() <= MAX_LEN {
+        header.try_emit(out)
+    } else {
+        None
+    };
+    match len {
+        Some(len) => len as isize,
+        None => failed(None),
+    }
 }
 
 /// Writes an ARP packet.
 #[unsafe(no_mangle)]
 pub extern "C" fn lk_emit_arp(header: &Arp, src: &Addr, dst: &Addr, out: &mut [u8]) -> isize
-    ensures { Writes (arp_bytes header.now src.now dst.now) out.old out.new result }
+    ensures { Writes (arp_bytes header.now src.now dst.now) (arp_failure src.now dst.now) out.old out.new result }
 {
-    written(header.emit_between(src, dst, out))
+    let len = if out.len() <= MAX_LEN {
+        header.emit_between(src, dst, out)
+    } else {
+        None
+    };
+    match len {
+        Some(len) => len as isize,
+        None => failed(arp_failure(src, dst)),
+    }
 }
 
 /// Writes an IPv4 or IPv6 header.
@@ -34,9 +53,17 @@ pub extern "C" fn lk_emit_ip(
     computed: i32,
     out: &mut [u8],
 ) -> isize
-    ensures { Writes (ip_bytes header.now src.now dst.now payload_len (is_set computed)) out.old out.new result }
+    ensures { Writes (ip_bytes header.now src.now dst.now payload_len (is_set computed)) (ip_failure header.now src.now dst.now payload_len) out.old out.new result }
 {
-    written(header.emit_between(src, dst, payload_len, is_set(computed), out))
+    let len = if out.len() <= MAX_LEN {
+        header.emit_between(src, dst, payload_len, is_set(computed), out)
+    } else {
+        None
+    };
+    match len {
+        Some(len) => len as isize,
+        None => failed(header.failure(src, dst, payload_len)),
+    }
 }
 
 /// Writes a UDP header and its payload.
@@ -48,9 +75,17 @@ pub extern "C" fn lk_emit_udp(
     computed: i32,
     out: &mut [u8],
 ) -> isize
-    ensures { Writes (udp_bytes src.now dst.now payload.now (is_set computed)) out.old out.new result }
+    ensures { Writes (udp_bytes src.now dst.now payload.now (is_set computed)) (udp_failure src.now dst.now (length payload.now)) out.old out.new result }
 {
-    written(emit_udp(src, dst, payload, is_set(computed), out))
+    let len = if out.len() <= MAX_LEN {
+        emit_udp(src, dst, payload, is_set(computed), out)
+    } else {
+        None
+    };
+    match len {
+        Some(len) => len as isize,
+        None => failed(udp_failure(src, dst, payload.len())),
+    }
 }
 
 /// Writes a TCP header with its options and its payload.
@@ -64,15 +99,27 @@ pub extern "C" fn lk_emit_tcp(
     computed: i32,
     out: &mut [u8],
 ) -> isize
-    ensures { Writes (tcp_bytes header.now options.now src.now dst.now payload.now (is_set computed)) out.old out.new result }
+    ensures { Writes (tcp_bytes header.now options.now src.now dst.now payload.now (is_set computed))
+        (tcp_failure header.now options.now src.now dst.now (length payload.now)) out.old out.new result }
 {
-    written(emit_tcp(header, options, src, dst, payload, is_set(computed), out))
+    let len = if out.len() <= MAX_LEN {
+        emit_tcp(header, options, src, dst, payload, is_set(computed), out)
+    } else {
+        None
+    };
+    match len {
+        Some(len) => len as isize,
+        None => failed(header.failure(options, src, dst, payload.len())),
+    }
 }
 
-/// The length of a TCP header with these options, or `LK_FAILED` if they do not fit.
+/// The length of a TCP header with these options. Fails if they do not fit.
 #[unsafe(no_mangle)]
 pub extern "C" fn lk_tcp_header_len(options: &TcpOptions) -> isize
-    ensures { result ≡ returned (tcp_header_len options.now) }
+    ensures { result ≡ option_map_or pos (tcp_header_len options.now) (failed_by (options_failure options.now)) }
 {
-    written(options.header_len())
+    match options.header_len() {
+        Some(len) => len as isize,
+        None => failed(options.failure()),
+    }
 }

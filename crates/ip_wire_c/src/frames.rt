@@ -1,25 +1,34 @@
 //! Whole frames.
 
-ghost use Rattle.std.specs.Prelude.{◌≡◌};
+ghost use Rattle.std.specs.Prelude.{◌≡◌, length};
+ghost use Rattle.c_structs.specs.Failures.{arp_failure, tcp_frame_failure, udp_frame_failure};
 ghost use Rattle.c_structs.specs.Frames.{arp_frame, reply_to, tcp_frame, tcp_frame_around, udp_frame, udp_frame_around};
 ghost use Rattle.c_structs.specs.Written.{Writes};
 
-use c_structs::{FrameFields, TcpOptions, written};
+use c_structs::{FrameFields, MAX_LEN, TcpOptions, arp_failure, failed};
 
-/// Fills in the reply to a frame that was read.
+/// Turns a frame that was read into its reply.
 #[unsafe(no_mangle)]
-pub extern "C" fn lk_reply(frame: &FrameFields, reply: &mut FrameFields)
-    ensures { reply.new ≡ reply_to frame.now }
+pub extern "C" fn lk_reply(frame: &mut FrameFields)
+    ensures { frame.new ≡ reply_to frame.old }
 {
-    frame.fill_reply(reply);
+    frame.turn();
 }
 
 /// Writes a whole frame with a UDP packet and this payload.
 #[unsafe(no_mangle)]
 pub extern "C" fn lk_emit_udp_frame(headers: &FrameFields, payload: &[u8], out: &mut [u8]) -> isize
-    ensures { Writes (udp_frame headers.now payload.now) out.old out.new result }
+    ensures { Writes (udp_frame headers.now payload.now) (udp_frame_failure headers.now (length payload.now)) out.old out.new result }
 {
-    written(headers.emit_udp(payload, out))
+    let len = if out.len() <= MAX_LEN {
+        headers.emit_udp(payload, out)
+    } else {
+        None
+    };
+    match len {
+        Some(len) => len as isize,
+        None => failed(headers.udp_failure(payload.len())),
+    }
 }
 
 /// Writes a whole frame with a TCP segment and this payload.
@@ -30,9 +39,17 @@ pub extern "C" fn lk_emit_tcp_frame(
     payload: &[u8],
     out: &mut [u8],
 ) -> isize
-    ensures { Writes (tcp_frame headers.now options.now payload.now) out.old out.new result }
+    ensures { Writes (tcp_frame headers.now options.now payload.now) (tcp_frame_failure headers.now options.now (length payload.now)) out.old out.new result }
 {
-    written(headers.emit_tcp(options, payload, out))
+    let len = if out.len() <= MAX_LEN {
+        headers.emit_tcp(options, payload, out)
+    } else {
+        None
+    };
+    match len {
+        Some(len) => len as isize,
+        None => failed(headers.tcp_failure(options, payload.len())),
+    }
 }
 
 /// Writes a frame with a UDP packet around a payload that is in `out` already.
@@ -42,9 +59,17 @@ pub extern "C" fn lk_wrap_udp_frame(
     payload_len: usize,
     out: &mut [u8],
 ) -> isize
-    ensures { Writes (udp_frame_around headers.now payload_len out.old) out.old out.new result }
+    ensures { Writes (udp_frame_around headers.now payload_len out.old) (udp_frame_failure headers.now payload_len) out.old out.new result }
 {
-    written(headers.emit_udp_around(payload_len, out))
+    let len = if out.len() <= MAX_LEN {
+        headers.emit_udp_around(payload_len, out)
+    } else {
+        None
+    };
+    match len {
+        Some(len) => len as isize,
+        None => failed(headers.udp_failure(payload_len)),
+    }
 }
 
 /// Writes a frame with a TCP segment around a payload that is in `out` already.
@@ -55,15 +80,31 @@ pub extern "C" fn lk_wrap_tcp_frame(
     payload_len: usize,
     out: &mut [u8],
 ) -> isize
-    ensures { Writes (tcp_frame_around headers.now options.now payload_len out.old) out.old out.new result }
+    ensures { Writes (tcp_frame_around headers.now options.now payload_len out.old) (tcp_frame_failure headers.now options.now payload_len) out.old out.new result }
 {
-    written(headers.emit_tcp_around(options, payload_len, out))
+    let len = if out.len() <= MAX_LEN {
+        headers.emit_tcp_around(options, payload_len, out)
+    } else {
+        None
+    };
+    match len {
+        Some(len) => len as isize,
+        None => failed(headers.tcp_failure(options, payload_len)),
+    }
 }
 
 /// Writes a whole frame with an ARP packet.
 #[unsafe(no_mangle)]
 pub extern "C" fn lk_emit_arp_frame(headers: &FrameFields, out: &mut [u8]) -> isize
-    ensures { Writes (arp_frame headers.now) out.old out.new result }
+    ensures { Writes (arp_frame headers.now) (arp_failure headers.now.src.addr headers.now.dst.addr) out.old out.new result }
 {
-    written(headers.emit_arp(out))
+    let len = if out.len() <= MAX_LEN {
+        headers.emit_arp(out)
+    } else {
+        None
+    };
+    match len {
+        Some(len) => len as isize,
+        None => failed(arp_failure(&headers.src.addr, &headers.dst.addr)),
+    }
 }

@@ -4,30 +4,57 @@ ghost use Rattle.std.specs.Prelude.{◌≡◌, ◌↔◌, ◌+◌, ◌%◌, ◌^
 ghost use Rattle.std.specs.Int.{cast_signed, w32};
 ghost use Rattle.ip_wire.specs.TcpRepr.{seq_of};
 ghost use Rattle.ip_wire.specs.TcpSeq.{IsAfter, IsBefore, distance};
+ghost use Rattle.c_structs.specs.Checksums.{address_sum, updated_udp};
+ghost use Rattle.c_structs.specs.Written.{within};
 ghost use Rattle.ip_wire.specs.WordSum.{sum_of_bytes, updated};
 
+use c_structs::{Addr, address_sum, update_udp, within};
 use ip_wire::{TcpSeqNumber, checksum};
 use std::cmp::Ordering;
 
 /// The Internet checksum of bytes before its complement (`ip_wire::checksum::data`).
 #[unsafe(no_mangle)]
 pub extern "C" fn lk_checksum(bytes: &[u8]) -> u16
-    ensures { result ≡ sum_of_bytes bytes.now }
+    ensures { result ≡ sum_of_bytes (within bytes.now) }
 {
-    checksum::data(bytes)
+    checksum::data(within(bytes))
 }
 
 /// The checksum field after a 16-bit word that it covers changed (`ip_wire::checksum::update`).
 #[unsafe(no_mangle)]
-pub extern "C" fn lk_checksum_update(checksum: u16, before: u16, after: u16) -> u16
+pub extern "C" fn lk_update_checksum(checksum: u16, before: u16, after: u16) -> u16
     ensures { result ≡ updated checksum before after }
 {
     checksum::update(checksum, before, after)
 }
 
+/// The same after an address changed.
+#[unsafe(no_mangle)]
+pub extern "C" fn lk_update_checksum_addr(checksum: u16, before: &Addr, after: &Addr) -> u16
+    ensures { result ≡ updated checksum (address_sum before.now) (address_sum after.now) }
+{
+    checksum::update(checksum, address_sum(before), address_sum(after))
+}
+
+/// The checksum field of UDP after a 16-bit word that it covers changed.
+#[unsafe(no_mangle)]
+pub extern "C" fn lk_update_udp_checksum(checksum: u16, before: u16, after: u16) -> u16
+    ensures { result ≡ updated_udp checksum before after }
+{
+    update_udp(checksum, before, after)
+}
+
+/// The same after an address changed.
+#[unsafe(no_mangle)]
+pub extern "C" fn lk_update_udp_checksum_addr(checksum: u16, before: &Addr, after: &Addr) -> u16
+    ensures { result ≡ updated_udp checksum (address_sum before.now) (address_sum after.now) }
+{
+    update_udp(checksum, address_sum(before), address_sum(after))
+}
+
 /// The number `steps` after `seq`, modulo 2<sup>32</sup>.
 #[unsafe(no_mangle)]
-pub extern "C" fn lk_seq_add(seq: u32, steps: u32) -> u32
+pub extern "C" fn lk_add_seq(seq: u32, steps: u32) -> u32
     ensures { result ≡ (seq + steps) % 2 ^ 32 }
 {
     seq.wrapping_add(steps)
@@ -35,7 +62,7 @@ pub extern "C" fn lk_seq_add(seq: u32, steps: u32) -> u32
 
 /// How far `a` is after `b`, or below 0 how far it is before `b`.
 #[unsafe(no_mangle)]
-pub extern "C" fn lk_seq_distance(a: u32, b: u32) -> i32
+pub extern "C" fn lk_subtract_seq(a: u32, b: u32) -> i32
     ensures { result ≡ cast_signed w32 (distance (seq_of a) (seq_of b)) }
 {
     a.wrapping_sub(b).cast_signed()
@@ -44,7 +71,7 @@ pub extern "C" fn lk_seq_distance(a: u32, b: u32) -> i32
 /// -1 if `a` is before `b`, 0 if they are equal, 1 if it is after. At a distance of 2<sup>31</sup> each is
 /// before the other.
 #[unsafe(no_mangle)]
-pub extern "C" fn lk_seq_compare(a: u32, b: u32) -> i32
+pub extern "C" fn lk_compare_seq(a: u32, b: u32) -> i32
     ensures before { (result ≡ negsuc 0) ↔ IsBefore (seq_of a) (seq_of b) }
     ensures same { (result ≡ pos 0) ↔ (a ≡ b) }
     ensures after { (result ≡ pos 1) ↔ IsAfter (seq_of a) (seq_of b) }

@@ -1,24 +1,24 @@
 //! Calls that read frames.
 
-ghost use Rattle.std.specs.Prelude.{◌≡◌, ◌≤◌, ◌+◌, length, pos};
-ghost use Rattle.std.specs.Option.{option_map};
-ghost use Rattle.c_structs.specs.Codes.{reason_of, text_of};
-ghost use Rattle.c_structs.specs.FrameFields.{fields_of};
+ghost use Rattle.std.specs.Prelude.{List, ℕ, ◌++◌, ◌≡◌, ◌≤◌, ◌+◌, ◌-◌, length, pos, take};
+ghost use Rattle.c_structs.specs.Captured.{IsCutOf, captured_of, captured_packet_of};
+ghost use Rattle.c_structs.specs.FrameFields.{fields_of, packet_fields_of};
 ghost use Rattle.c_structs.specs.TcpOptions.{ReadsItems, tcp_options_of};
-ghost use Rattle.c_structs.specs.Written.{IsRead, Writes};
+ghost use Rattle.c_structs.specs.TcpSteps.{step};
+ghost use Rattle.c_structs.specs.Written.{IsRead, max_len, usable, within};
 
-use c_structs::{FAILED, FrameFields, Reason, TcpOptions, print};
+use c_structs::{FrameFields, TcpOptionPlace, TcpOptions, usable, within};
 
 const VERSION_MAJOR: u32 = 0;
 
-const VERSION_MINOR: u32 = 1;
+const VERSION_MINOR: u32 = 2;
 
 const VERSION_PATCH: u32 = 0;
 
 /// The version of the library: major * 65536 + minor * 256 + patch.
 #[unsafe(no_mangle)]
 pub extern "C" fn lk_version() -> u32
-    ensures { result ≡ 256 }
+    ensures { result ≡ 512 }
 {
     VERSION_MAJOR * 65536 + VERSION_MINOR * 256 + VERSION_PATCH
 }
@@ -27,11 +27,89 @@ pub extern "C" fn lk_version() -> u32
 /// checksum is no reason to reject.
 #[unsafe(no_mangle)]
 pub extern "C" fn lk_read_frame(bytes: &[u8], frame: &mut FrameFields) -> i32
-    ensures fields { frame.new ≡ fields_of bytes.now }
+    ensures fields { frame.new ≡ fields_of (within bytes.now) }
     ensures within { frame.new.payload_offset + frame.new.payload_len ≤ length bytes.now }
-    ensures reason { result ≡ pos (fields_of bytes.now).reason }
+    ensures reason { result ≡ pos (fields_of (within bytes.now)).reason }
 {
-    frame.read(bytes);
+    frame.read(within(bytes));
+    i32::from(frame.reason)
+}
+
+/// Parses an IP packet without an Ethernet header, by the version in its first octet, as `lk_read_frame`
+/// does.
+#[unsafe(no_mangle)]
+pub extern "C" fn lk_read_packet(bytes: &[u8], frame: &mut FrameFields) -> i32
+    ensures fields { frame.new ≡ packet_fields_of (within bytes.now) }
+    ensures within { frame.new.payload_offset + frame.new.payload_len ≤ length bytes.now }
+    ensures reason { result ≡ pos (packet_fields_of (within bytes.now)).reason }
+{
+    frame.read_packet(within(bytes));
+    i32::from(frame.reason)
+}
+
+/// Parses the first octets of an Ethernet frame of `len` octets, as `lk_read_frame` does, and stores all
+/// headers that are there. Lengths in headers are compared with `len`. A header that was not captured as a
+/// whole is rejected. If more octets than `len` were captured, only the first `len` count.
+#[unsafe(no_mangle)]
+pub extern "C" fn lk_read_captured(captured: &[u8], len: usize, frame: &mut FrameFields) -> i32
+    ensures fields { let bytes = within captured.now in frame.new ≡ captured_of (take (usable len) bytes) (usable len - length bytes) }
+    ensures whole { let bytes = within captured.now in usable len ≤ length bytes → frame.new ≡ fields_of (take (usable len) bytes) }
+    ensures cut { let bytes = within captured.now in
+        (rest : List ℕ) → length bytes + length rest ≡ usable len → IsCutOf frame.new (fields_of (bytes ++ rest)) }
+    ensures within { frame.new.payload_offset + frame.new.payload_len ≤ len }
+    ensures reason { result ≡ pos frame.new.reason }
+{
+    read_captured(within(captured), usable(len), frame)
+}
+
+/// The same for an IP packet without an Ethernet header, as `lk_read_packet`.
+#[unsafe(no_mangle)]
+pub extern "C" fn lk_read_captured_packet(
+    captured: &[u8],
+    len: usize,
+    frame: &mut FrameFields,
+) -> i32
+    ensures fields { let bytes = within captured.now in frame.new ≡ captured_packet_of (take (usable len) bytes) (usable len - length bytes) }
+    ensures whole { let bytes = within captured.now in usable len ≤ length bytes → frame.new ≡ packet_fields_of (take (usable len) bytes) }
+    ensures cut { let bytes = within captured.now in
+        (rest : List ℕ) → length bytes + length rest ≡ usable len → IsCutOf frame.new (packet_fields_of (bytes ++ rest)) }
+    ensures within { frame.new.payload_offset + frame.new.payload_len ≤ len }
+    ensures reason { result ≡ pos frame.new.reason }
+{
+    read_captured_packet(within(captured), usable(len), frame)
+}
+
+// The same for a length that can be used.
+#[inline(always)]
+fn read_captured(captured: &[u8], len: usize, frame: &mut FrameFields) -> i32
+    requires { length captured.now ≤ max_len }
+    ensures fields { frame.new ≡ captured_of (take len captured.now) (len - length captured.now) }
+    ensures whole { len ≤ length captured.now → frame.new ≡ fields_of (take len captured.now) }
+    ensures cut { (rest : List ℕ) → length captured.now + length rest ≡ len → IsCutOf frame.new (fields_of (captured.now ++ rest)) }
+    ensures within { frame.new.payload_offset + frame.new.payload_len ≤ len }
+    ensures reason { result ≡ pos frame.new.reason }
+{
+    if len <= captured.len() {
+        return lk_read_frame(&captured[..len], frame);
+    }
+    frame.read_captured(captured, len);
+    i32::from(frame.reason)
+}
+
+// The same for a length that can be used.
+#[inline(always)]
+fn read_captured_packet(captured: &[u8], len: usize, frame: &mut FrameFields) -> i32
+    requires { length captured.now ≤ max_len }
+    ensures fields { frame.new ≡ captured_packet_of (take len captured.now) (len - length captured.now) }
+    ensures whole { len ≤ length captured.now → frame.new ≡ packet_fields_of (take len captured.now) }
+    ensures cut { (rest : List ℕ) → length captured.now + length rest ≡ len → IsCutOf frame.new (packet_fields_of (captured.now ++ rest)) }
+    ensures within { frame.new.payload_offset + frame.new.payload_len ≤ len }
+    ensures reason { result ≡ pos frame.new.reason }
+{
+    if len <= captured.len() {
+        return lk_read_packet(&captured[..len], frame);
+    }
+    frame.read_captured_packet(captured, len);
     i32::from(frame.reason)
 }
 
@@ -39,19 +117,17 @@ pub extern "C" fn lk_read_frame(bytes: &[u8], frame: &mut FrameFields) -> i32
 /// wrong, or if an option before the end mark is malformed.
 #[unsafe(no_mangle)]
 pub extern "C" fn lk_read_tcp_options(header: &[u8], options: &mut TcpOptions) -> i32
-    ensures { IsRead ReadsItems tcp_options_of header.now options.old options.new result }
+    ensures { IsRead ReadsItems tcp_options_of (within header.now) options.old options.new result }
 {
-    i32::from(options.read(header))
+    if options.read(within(header)) { 1 } else { 0 }
 }
 
-/// Prints a reason. Returns the length of the text, at most 32, or -(1 << 40) if it does not fit or
-/// if there is no such reason.
+/// Steps to the next option of a TCP header, and returns 1. Returns 0 if there is none, and -1 if it is
+/// malformed or the lengths of the header are wrong; then nothing is stored.
 #[unsafe(no_mangle)]
-pub extern "C" fn lk_reason_print(reason: i32, out: &mut [u8]) -> isize
-    ensures { Writes (option_map text_of (reason_of reason)) out.old out.new result }
+pub extern "C" fn lk_next_tcp_option(header: &[u8], option: &mut TcpOptionPlace) -> i32
+    ensures returned { result ≡ (step (within header.now) option.old).0 }
+    ensures stored { option.new ≡ (step (within header.now) option.old).1 }
 {
-    match Reason::of(reason) {
-        Some(reason) => print(reason.text(), out),
-        None => FAILED,
-    }
+    option.step(within(header))
 }

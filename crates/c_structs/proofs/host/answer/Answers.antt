@@ -1,4 +1,4 @@
-use Rattle.std.proofs.Common.{◌≡◌, SFits, w64, rules}
+use Rattle.std.proofs.Common.{◌≡◌, ◌≤◌, SFits, length, w64, rules}
 use Rattle.ip_host.proofs.HostOnce.{reply-once}
 use Rattle.ip_host.specs.Host.{IsReply, RepliesBytes, RepliesFrame}
 use Rattle.ip_replies.proofs.RepliesOnce.{one_answer}
@@ -6,6 +6,7 @@ use Rattle.ip_wire.proofs.Parsed.{IsParsed, to_bytes, to_frame, unread}
 use Rattle.ip_wire.proofs.Sent.{sends}
 use Rattle.ip_wire.specs.Frame.{all_checked}
 use Rattle.c_structs.proofs.HostAnswers.{replied, silent, unanswered}
+use Rattle.c_structs.specs.Written.{max_len}
 use Rattle.c_structs.proofs.host.answer.Goals as goal
 
 pub returns-in-Some : goal.returns-in-Some
@@ -16,10 +17,11 @@ returns-in-Some c =
     let caps : c.default.result ≡ all_checked = search rules in
     let parsed : IsParsed request bytes = rw caps at c.in-Ok.ensures.reads in
     let to = to_bytes (IsReply host) request bytes parsed in
-    let sent = sends (RepliesFrame host request) (RepliesBytes host bytes) c.in-Some.reply c.args.out.now c.send.new.out c.send.result c.in-Some.ensures c.send.ensures
-    to (to_frame (IsReply host) request bytes parsed) (one_answer (IsReply host) (reply-once host) request) in
-    let fits : SFits w64 c.written.result = search rules in
-    let w = replied (RepliesFrame host request) (RepliesBytes host bytes) c.in-Some.reply _ _ _ _ c.in-Some.ensures to sent c.written.ensures fits in
+    let sent = λ (room : length c.args.out.now ≤ max_len).
+    sends (RepliesFrame host request) (RepliesBytes host bytes) c.in-Some.reply c.args.out.now c.send_within.new.out c.send_within.result c.in-Some.ensures
+    (c.send_within.ensures.within room) to (to_frame (IsReply host) request bytes parsed) (one_answer (IsReply host) (reply-once host) request) in
+    let fits : SFits w64 c.sent.result = search rules in
+    let w = replied (RepliesFrame host request) (RepliesBytes host bytes) c.in-Some.reply _ _ _ _ c.in-Some.ensures to c.send_within.ensures.beyond sent c.sent.ensures fits in
     record { answers = w; unread = unanswered host bytes _ _ _ w }
 
 pub returns-in-None : goal.returns-in-None

@@ -28,7 +28,7 @@ returns c =
     let size : length payload ≡ n = length-there old start n room in
     let found : ip_header f 6 (tcp.header_len_of u + n) ≡ Some v = rw is at (sym c.ip_header.ensures.value ∙ c.in_ok-ip_header.was) in
     let len : segment_header_len f.tcp o n ≡ Some (tcp.header_len_of u) = (rw is at c.in_ok-header_len.ensures.0) in
-    let framed = tcp-framed f o payload u v (ap (λ k. segment_header_len f.tcp o k) size ∙ len) refl
+    let framed = tcp-framed f o payload u v c.requires.src_port c.requires.dst_port (ap (λ k. segment_header_len f.tcp o k) size ∙ len) refl
     (ap (λ k. ip_header f 6 (tcp.header_len_of u + k)) size ∙ found) in
     let around = ap (λ q. option_and_then (λ len. option_and_then (λ v. option_and_then (tcp_frame f o) (part old (14 + header_len_of v + len) n)) (ip_header f 6 (len + n))) q) len
     ∙ ap (λ q. option_and_then (λ v. option_and_then (tcp_frame f o) (part old (14 + header_len_of v + tcp.header_len_of u) n)) q) found

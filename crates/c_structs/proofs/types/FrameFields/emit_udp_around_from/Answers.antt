@@ -17,7 +17,7 @@ returns c =
     let size : length payload ≡ n = length-there old start n room in
     let fits : length payload ≤ 65527 = omega (arith, size, c.if-payload_len-gt-UDP_MAX_PAYLOAD_LEN.false) in
     let found : ip_header f 17 (8 + n) ≡ Some v = sym c.ip_header.ensures.value ∙ c.in_ok-ip_header.was in
-    let framed = udp-framed f payload v fits (ap (λ k. ip_header f 17 (8 + k)) size ∙ found) in
+    let framed = udp-framed f payload v c.requires.dst_port fits (ap (λ k. ip_header f 17 (8 + k)) size ∙ found) in
     let around = ap (λ q. option_and_then (λ v. option_and_then (udp_frame f) (part old (14 + header_len_of v + 8) n)) q) found
     ∙ ap (λ q. option_and_then (udp_frame f) q) (part-there old start n room) ∙ framed in
     let same : length c.wrap_udp.new.out ≡ length old = c.wrap_udp.auto.out in

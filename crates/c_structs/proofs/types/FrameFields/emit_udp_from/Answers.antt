@@ -15,4 +15,4 @@ returns c =
     let found : ip_header f 17 (8 + length payload) ≡ Some v = sym c.ip_header.ensures.value ∙ c.in_ok-ip_header.was in
     let room : start + length payload ≤ length old = omega (arith, c.headers_len-start.ensures, c.if-out-end.false) in
     let same : length c.write_udp.new.out ≡ length old = c.write_udp.auto.out in
-    rw c.headers_len-start.ensures (filled-front (udp_frame f payload) _ old c.write_udp.new.out (start + length payload) (udp-framed f payload v fits found) room same c.write_udp.ensures)
+    rw c.headers_len-start.ensures (filled-front (udp_frame f payload) _ old c.write_udp.new.out (start + length payload) (udp-framed f payload v c.requires.dst_port fits found) room same c.write_udp.ensures)

@@ -24,9 +24,9 @@ returns-then-self-eq0-clause-value c =
     let named : w.next_header ≡ protocol_of (field bytes 72 8) = rw c.new_unchecked-packet.ensures at ((c.in-Ok.ensures.reads w).0 refl).next_header in
     let next = with_ipv4_header f bytes w in
     let payload = ipv4_payload bytes in
-    let header : c.store_ipv4_header.new.self ≡ next = rw c.new_unchecked-packet.ensures at c.store_ipv4_header.ensures in
-    let whole : is_fragment bytes ≡ false = not-flagged (is_fragment bytes) (rw header at c.if-self-eq0.true) in
     let inner : c.payload-payload.result.now ≡ payload = rw c.new_unchecked-packet.ensures at c.payload-payload.ensures in
+    let header : c.store_ipv4_header.new.self ≡ next = rw (c.new_unchecked-packet.ensures, inner) at c.store_ipv4_header.ensures in
+    let whole : is_fragment bytes ≡ false = not-flagged (is_fragment bytes) (rw header at c.if-self-eq0.true) in
     let made : c.store_transport.new.self ≡ with_transport_by next (protocol_of (field bytes 72 8)) (address.Ipv4 w.src_addr) (address.Ipv4 w.dst_addr) payload =
     rw (header, inner) at c.store_transport.ensures.value
     in

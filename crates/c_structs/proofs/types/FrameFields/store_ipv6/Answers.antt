@@ -18,8 +18,8 @@ returns-in-Ok-clause-value c =
     let named : w.next_header ≡ protocol_of (field bytes 48 8) = rw c.new_unchecked-packet.ensures at ((c.in-Ok.ensures.reads w).0 refl).next_header in
     let next = with_ipv6_header f bytes w in
     let payload = payload_of bytes in
-    let header : c.store_ipv6_header.new.self ≡ next = rw c.new_unchecked-packet.ensures at c.store_ipv6_header.ensures in
     let inner : c.payload-payload.result.now ≡ payload = rw c.new_unchecked-packet.ensures at c.payload-payload.ensures in
+    let header : c.store_ipv6_header.new.self ≡ next = rw (c.new_unchecked-packet.ensures, inner) at c.store_ipv6_header.ensures in
     let part : c.store_fragment.new.self ≡ with_fragment_by next (protocol_of (field bytes 48 8)) payload = rw (header, inner) at c.store_fragment.ensures.value in
     let made : c.store_transport.new.self ≡ with_transport_by (with_fragment_by next (protocol_of (field bytes 48 8)) payload) (protocol_of (field bytes 48 8)) (address.Ipv6 w.src_addr) (address.Ipv6 w.dst_addr) payload =
     rw (part, header, inner) at c.store_transport.ensures.value

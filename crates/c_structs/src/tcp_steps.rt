@@ -1,0 +1,82 @@
+//! The options of a TCP header one by one, each by its place.
+
+ghost use Rattle.std.specs.Prelude.{◌≡◌, ◌+◌, ◌<◌, ◌≤◌, length};
+ghost use Rattle.c_structs.specs.TcpSteps.{is_end_mark, next_at, place_at, step, step_to};
+
+use crate::types::TcpOptionPlace;
+use ip_wire::{TCP_HEADER_LEN, TcpOption, TcpPacket};
+
+impl TcpOptionPlace {
+    /// Steps to the next option of a header, and returns 1. Returns 0 if there is none, and -1 if it is
+    /// malformed or the lengths of the header are wrong; then nothing is stored.
+    pub fn step(&mut self, header: &[u8]) -> i32
+        ensures returned { result ≡ (step header.now self.old).0 }
+        ensures stored { self.new ≡ (step header.now self.old).1 }
+    {
+        let packet = match TcpPacket::new_checked(header) {
+            Ok(packet) => packet,
+            Err(_) => return -1,
+        };
+        if self.is_end_mark() {
+            return 0;
+        }
+        let options = packet.options();
+        let at = self.next_at();
+        if at >= options.len() {
+            return 0;
+        }
+        let (_, rest) = options.split_at(at);
+        self.step_to(rest, at)
+    }
+
+    // Whether this is the end mark, behind which there is no option.
+    fn is_end_mark(&self) -> bool
+        ensures { result ≡ is_end_mark self.now }
+    {
+        self.offset != 0 && self.kind == 0
+    }
+
+    // Where the option behind this one begins. Zeros stand before the first one.
+    fn next_at(&self) -> usize
+        ensures { result ≡ next_at self.now }
+    {
+        if self.offset == 0 {
+            return 0;
+        }
+        (usize::from(self.offset) + usize::from(self.len)).saturating_sub(TCP_HEADER_LEN)
+    }
+
+    // Steps to the option that begins here.
+    #[tactic(auto, using(crate::proofs::Steps::item_steps, crate::proofs::Steps::nothing_steps))]
+    fn step_to(&mut self, rest: &[u8], at: usize) -> i32
+        requires some { 0 < length rest.now }
+        requires few { at + length rest.now ≤ 40 }
+        ensures returned { result ≡ (step_to rest.now at self.old).0 }
+        ensures stored { self.new ≡ (step_to rest.now at self.old).1 }
+    {
+        if rest[0] == 0 {
+            *self = TcpOptionPlace::at(at, 0, 1);
+            return 1;
+        }
+        match TcpOption::parse(rest) {
+            Ok((behind, _)) => {
+                *self = TcpOptionPlace::at(at, rest[0], rest.len() - behind.len());
+                1
+            }
+            Err(_) => -1,
+        }
+    }
+
+    // The place of an option that begins so many octets behind the first 20 of the header.
+    fn at(at: usize, kind: u8, len: usize) -> TcpOptionPlace
+        requires at { at ≤ 40 }
+        requires len { len ≤ 40 }
+        ensures { result ≡ place_at at kind len }
+    {
+        TcpOptionPlace {
+            offset: (TCP_HEADER_LEN + at) as u8,
+            kind,
+            len: len as u8,
+        }
+    }
+}
