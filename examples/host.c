@@ -1,11 +1,14 @@
 /* A host on a TAP device (Linux). It answers ARP for its IPv4 address, echoes what comes to port 7 by UDP
  * and TCP over IPv4 and IPv6, and refuses every other connection (RFC 9293, section 3.10.7.1).
  *     host DEVICE HARDWARE_ADDRESS IPV4_ADDRESS IPV6_ADDRESS
- * Makes the device, unless it exists, and prints "ready". SIGINT and SIGTERM end it: then it prints counts.
+ * Makes the device, unless it exists, and prints "ready". SIGINT and SIGTERM end it: then it prints counts. It
+ * ends with status 1 if the device is deleted. While the device is down, it waits.
  *
- * Not supported: retransmission (a TAP device loses nothing), reassembly, and ICMPv6, so that a peer needs
- * the hardware address of the IPv6 address in its table of neighbours. */
+ * Not supported: congestion control (it sends what the peer's window takes), segments out of order (they are
+ * dropped, and come again), keep-alive, reassembly of IP fragments, and ICMPv6, so that a peer needs the hardware
+ * address of the IPv6 address in its table of neighbours. */
 #define _GNU_SOURCE
+#include <errno.h>
 #include <fcntl.h>
 #include <ip_wire.h>
 #include <linux/if_tun.h>
@@ -17,12 +20,15 @@
 #include <string.h>
 #include <sys/ioctl.h>
 #include <sys/random.h>
+#include <sys/signalfd.h>
 #include <sys/socket.h>
 #include <time.h>
 #include <unistd.h>
 
-enum { ECHO_PORT = 7, HOP_LIMIT = 64, SCALE = 3, BUFFER = 1 << 18, CONNECTIONS = 64, LONGEST_FRAME = 65535 + 18 };
-enum { ARP_REQUEST = 1, ARP_REPLY = 2 };
+enum { ECHO_PORT = 7, SCALE = 3, BUFFER = 1 << 18, CONNECTIONS = 64, LONGEST_FRAME = 65535 + 18 };
+enum { ARP_REQUEST = 1, ARP_REPLY = 2, DUPLICATES = 3, FRAMES_AT_ONCE = 64 };
+/* The retransmission timer, in milliseconds. A silent peer is dropped after 3 minutes, a half-open one after 1. */
+enum { FIRST_RTO = 1000, LEAST_RTO = 1000, RTO_AFTER_LOST_SYN = 3000, MOST_RTO = 60000, TRIES = 7, SYN_TRIES = 5 };
 
 struct connection {
     enum { FREE, SYN_RECEIVED, OPEN } state;
@@ -33,26 +39,25 @@ struct connection {
     uint32_t next;                  /* the number that is expected next */
     uint32_t window;                /* what the peer takes, in octets */
     uint32_t room_told, ts_recent;
+    unsigned long opened;           /* how many were opened before */
+    int64_t deadline;               /* of the timer, in milliseconds; 0: it is off */
+    int64_t srtt, rttvar, rto;      /* RFC 6298 */
+    int64_t timed_at;               /* when the octet before `timed_seq` was sent, if `is_timed` */
+    uint32_t timed_seq, recover;    /* `recover`: after a loss the `sent_to` of that time; else `sent_from` */
+    int is_timed, tries, duplicates;
     size_t held;                    /* octets of `data`; the first has the number `sent_from` */
     uint8_t data[BUFFER];
 };
 
 static uint8_t own_hardware[6];
 static struct lk_addr own_ipv4, own_ipv6;
-static int device;
+static int device, signals;
 static size_t mtu;
 static struct connection connections[CONNECTIONS];
 static uint8_t out[LONGEST_FRAME];
-static unsigned long frames_in, frames_out, rejected, wrong_checksums;
-static volatile sig_atomic_t is_ended;
+static unsigned long frames_in, frames_out, rejected, wrong_checksums, opened;
 
-static void end(int signal)
-{
-    (void)signal;
-    is_ended = 1;
-}
-
-/* Sends the frame in `out`, if it could be written. */
+/* Sends the frame in `out`, if it could be written. A frame is lost while the device is down. */
 static void send_out(ptrdiff_t len)
 {
     if (len > 0 && write(device, out, (size_t)len) == len)
@@ -106,18 +111,18 @@ static void reset(const struct lk_frame *in, size_t payload_len)
     send_out(lk_emit_tcp_frame(&reply, &none, NULL, 0, out, sizeof out));
 }
 
-static uint32_t milliseconds(void)
+static int64_t milliseconds(void)
 {
     struct timespec now;
     clock_gettime(CLOCK_MONOTONIC, &now);
-    return (uint32_t)(now.tv_sec * 1000 + now.tv_nsec / 1000000);
+    return (int64_t)now.tv_sec * 1000 + now.tv_nsec / 1000000;
 }
 
 /* The options of a segment that is no SYN. */
 static struct lk_tcp_options options_of(const struct connection *c)
 {
     struct lk_tcp_options options = {.has_timestamp = c->peer.has_timestamp, .tsecr = c->ts_recent};
-    options.tsval = options.has_timestamp ? milliseconds() : 0;
+    options.tsval = options.has_timestamp ? (uint32_t)milliseconds() : 0;
     return options;
 }
 
@@ -160,6 +165,67 @@ static size_t longest_payload(const struct connection *c)
     return most > header_len + 64 ? most - header_len : 64;
 }
 
+/* Measures the round trip up to the acknowledgement of `timed_seq` (RFC 6298, section 2). */
+static void measure(struct connection *c)
+{
+    int64_t rtt = milliseconds() - c->timed_at + 1, difference = c->srtt > rtt ? c->srtt - rtt : rtt - c->srtt;
+    c->rttvar = c->srtt == 0 ? rtt / 2 : (3 * c->rttvar + difference) / 4;
+    c->srtt = c->srtt == 0 ? rtt : (7 * c->srtt + rtt) / 8;
+    c->rto = c->srtt + (c->rttvar > 0 ? 4 * c->rttvar : 1);
+    c->rto = c->rto < LEAST_RTO ? LEAST_RTO : c->rto > MOST_RTO ? MOST_RTO : c->rto;
+    c->is_timed = 0;
+}
+
+/* Counts what was sent for the first time. One round trip is measured at a time. */
+static void count_sent(struct connection *c, size_t len)
+{
+    c->sent_to = lk_add_seq(c->sent_to, (uint32_t)len);
+    if (!c->is_timed) {
+        c->is_timed = 1;
+        c->timed_at = milliseconds();
+        c->timed_seq = c->sent_to;
+    }
+}
+
+/* Sends the first segment again. If the window is closed, this is one octet, as a probe. By Karn's rule a round
+ * trip is not measured over it. */
+static void retransmit(struct connection *c)
+{
+    size_t len = longest_payload(c), window = c->window > 0 ? c->window : 1;
+    len = len < window ? len : window;
+    len = len < c->held ? len : c->held;
+    c->is_timed = 0;
+    send_segment(c, c->state == SYN_RECEIVED ? LK_SYN : len == 0 ? LK_FIN : LK_PSH, c->sent_from, c->data, len);
+    if (lk_subtract_seq(c->sent_to, c->sent_from) < (int32_t)len)
+        c->sent_to = lk_add_seq(c->sent_from, (uint32_t)len);
+}
+
+/* The retransmission timer has expired (RFC 6298, section 5). */
+static void on_timeout(struct connection *c)
+{
+    if (++c->tries > (c->state == SYN_RECEIVED ? SYN_TRIES : TRIES)) {
+        c->state = FREE;
+        return;
+    }
+    retransmit(c);
+    c->recover = c->sent_to;
+    c->rto = 2 * c->rto < MOST_RTO ? 2 * c->rto : MOST_RTO;
+    c->deadline = milliseconds() + c->rto;
+}
+
+/* Returns how long the next timer runs, in milliseconds; -1 if none does. */
+static int run_timers(void)
+{
+    int64_t now = milliseconds(), wait = -1;
+    for (struct connection *c = connections; c < connections + CONNECTIONS; c++) {
+        if (c->state != FREE && c->deadline != 0 && c->deadline <= now)
+            on_timeout(c);
+        if (c->state != FREE && c->deadline != 0 && (wait < 0 || c->deadline - now < wait))
+            wait = c->deadline - now;
+    }
+    return (int)wait;
+}
+
 /* Sends what the peer takes, then FIN if it is due; else an acknowledgement if it is `owed`. */
 static void send_data(struct connection *c, int owed)
 {
@@ -169,18 +235,22 @@ static void send_data(struct connection *c, int owed)
         len = len < window ? len : window;
         len = len < most ? len : most;
         send_segment(c, LK_PSH, c->sent_to, c->data + sent, len);
-        c->sent_to = lk_add_seq(c->sent_to, (uint32_t)len);
+        count_sent(c, len);
         sent += len;
         owed = 0;
     }
     if (c->fin_received && !c->fin_sent && sent == c->held) {
         send_segment(c, LK_FIN, c->sent_to, NULL, 0);
-        c->sent_to = lk_add_seq(c->sent_to, 1);
+        count_sent(c, 1);
         c->fin_sent = 1;
         owed = 0;
     }
     if (owed || (c->room_told < most && BUFFER - c->held >= BUFFER / 2))
         send_segment(c, 0, c->sent_to, NULL, 0);
+    if (c->sent_to == c->sent_from && c->held == 0)
+        c->deadline = 0; /* nothing waits for an acknowledgement or a window */
+    else if (c->deadline == 0)
+        c->deadline = milliseconds() + c->rto;
 }
 
 /* A SYN to the port of echo. */
@@ -193,25 +263,64 @@ static void open_connection(struct connection *c, const struct lk_frame *in, con
     c->ts_recent = options->tsval;
     c->next = lk_add_seq(in->tcp.seq_number, 1);
     if (getrandom(&c->sent_from, sizeof c->sent_from, 0) < 0)
-        c->sent_from = milliseconds();
-    c->sent_to = lk_add_seq(c->sent_from, 1);
+        c->sent_from = (uint32_t)milliseconds();
+    c->sent_to = c->sent_from;
+    c->opened = opened++;
+    c->rto = FIRST_RTO;
     send_segment(c, LK_SYN, c->sent_from, NULL, 0);
+    count_sent(c, 1);
+    c->deadline = c->timed_at + c->rto;
 }
 
-/* Drops what the peer acknowledges. Returns 0 if the connection has ended by that. */
-static int acknowledge(struct connection *c, const struct lk_tcp *tcp)
+/* Drops what the peer acknowledges. Returns 1 if what was sent before a loss is not all acknowledged (RFC 6582): then
+ * the next segment is lost, too. */
+static int drop_acknowledged(struct connection *c, uint32_t ack_number)
 {
-    int32_t newly = lk_subtract_seq(tcp->ack_number, c->sent_from);
-    if (newly < 0 || lk_compare_seq(tcp->ack_number, c->sent_to) > 0)
+    size_t newly = ack_number - c->sent_from;
+    memmove(c->data, c->data + newly, c->held - newly);
+    c->held -= newly;
+    c->sent_from = ack_number;
+    c->deadline = 0;
+    c->duplicates = c->tries = 0;
+    if (c->is_timed && lk_compare_seq(ack_number, c->timed_seq) >= 0)
+        measure(c);
+    if (lk_compare_seq(ack_number, c->recover) < 0)
+        return 1;
+    c->recover = ack_number;
+    return 0;
+}
+
+/* Whether this is the third duplicate acknowledgement (RFC 5681, section 2), so that a segment is lost. */
+static int is_third_duplicate(struct connection *c, const struct lk_frame *in, int has_ranges, uint32_t window)
+{
+    int is_duplicate = in->payload_len == 0 && !(in->tcp.flags & LK_FIN) && (window == c->window || has_ranges);
+    if (!is_duplicate || ++c->duplicates != DUPLICATES || c->recover != c->sent_from)
+        return 0;
+    c->recover = c->sent_to;
+    return 1;
+}
+
+/* Takes the acknowledgement and the window of a segment. Returns 0 if the connection has ended by that. */
+static int acknowledge(struct connection *c, const struct lk_frame *in, const struct lk_tcp_options *options)
+{
+    uint32_t ack_number = in->tcp.ack_number;
+    uint32_t window = (uint32_t)in->tcp.window_len << (c->peer.has_window_scale ? c->peer.window_scale : 0);
+    int is_lost = c->window == 0 && window > 0; /* a probe */
+    if (lk_compare_seq(ack_number, c->sent_from) < 0 || lk_compare_seq(ack_number, c->sent_to) > 0)
         return 1; /* it is old, or was never sent */
-    if (c->fin_sent && tcp->ack_number == c->sent_to) {
+    if (c->fin_sent && ack_number == c->sent_to) {
         c->state = FREE; /* the peer has closed, and has all */
         return 0;
     }
-    memmove(c->data, c->data + newly, c->held - (size_t)newly);
-    c->held -= (size_t)newly;
-    c->sent_from = tcp->ack_number;
-    c->window = (uint32_t)tcp->window_len << (c->peer.has_window_scale ? c->peer.window_scale : 0);
+    if (ack_number != c->sent_from)
+        is_lost |= drop_acknowledged(c, ack_number);
+    else if (c->sent_to != c->sent_from)
+        is_lost |= is_third_duplicate(c, in, options->sack_range_count > 0, window);
+    c->window = window;
+    if (window == 0)
+        c->tries = 0; /* a peer that closes its window is alive */
+    if (is_lost && c->sent_to != c->sent_from)
+        retransmit(c);
     return 1;
 }
 
@@ -237,7 +346,9 @@ static void on_segment(struct connection *c, const struct lk_frame *in, const st
 {
     int32_t before = lk_subtract_seq(c->next, in->tcp.seq_number);
     if ((in->tcp.flags & (LK_SYN | LK_RST | LK_ACK)) != LK_ACK) {
-        if (in->tcp.flags & LK_SYN)
+        if (c->state == SYN_RECEIVED && in->tcp.flags == LK_SYN && before == 1)
+            retransmit(c);
+        else if (in->tcp.flags & LK_SYN)
             send_segment(c, 0, c->sent_to, NULL, 0);
         else if ((in->tcp.flags & LK_RST) && before == 0)
             c->state = FREE;
@@ -249,16 +360,21 @@ static void on_segment(struct connection *c, const struct lk_frame *in, const st
             return;
         }
         c->state = OPEN;
-        c->sent_from = c->sent_to;
+        c->sent_from = c->recover = c->sent_to;
+        c->deadline = c->tries = 0;
+        c->rto = RTO_AFTER_LOST_SYN;
+        if (c->is_timed)
+            measure(c);
     }
     if (options->has_timestamp && before >= 0)
         c->ts_recent = options->tsval;
-    if (!acknowledge(c, &in->tcp))
+    if (!acknowledge(c, in, options))
         return;
     take(c, in, payload);
-    send_data(c, in->payload_len > 0 || (in->tcp.flags & LK_FIN));
+    send_data(c, in->payload_len > 0 || (in->tcp.flags & LK_FIN) || before > 0);
 }
 
+/* A new connection takes a free place, or that of the oldest one which is half open. */
 static void on_tcp(const struct lk_frame *in, const uint8_t *frame)
 {
     struct connection *unused = NULL;
@@ -266,13 +382,14 @@ static void on_tcp(const struct lk_frame *in, const uint8_t *frame)
     if (!lk_read_tcp_options(frame + in->transport_offset, in->tcp.header_len, &options))
         return;
     for (struct connection *c = connections; c < connections + CONNECTIONS; c++) {
-        if (c->state == FREE) {
-            unused = c;
-        } else if (memcmp(&c->headers.dst, &in->src, sizeof in->src) == 0
-                   && memcmp(&c->headers.src, &in->dst, sizeof in->dst) == 0) {
+        if (c->state != FREE && memcmp(&c->headers.dst, &in->src, sizeof in->src) == 0
+            && memcmp(&c->headers.src, &in->dst, sizeof in->dst) == 0) {
             on_segment(c, in, &options, frame + in->payload_offset);
             return;
         }
+        if (c->state != OPEN && (unused == NULL || c->state < unused->state
+                                 || (c->state == unused->state && c->opened < unused->opened)))
+            unused = c;
     }
     if ((in->tcp.flags & (LK_SYN | LK_ACK | LK_RST)) != LK_SYN || in->dst.port != ECHO_PORT || unused == NULL)
         reset(in, in->payload_len);
@@ -284,7 +401,7 @@ static int is_for_us(const struct lk_frame *in)
 {
     const struct lk_addr *own = in->network == LK_IPV4 ? &own_ipv4 : &own_ipv6;
     return memcmp(in->ethernet.dst, own_hardware, 6) == 0 && memcmp(&in->dst.addr, own, sizeof *own) == 0
-           && lk_is_unicast(&in->src.addr) && in->transport != LK_NO_TRANSPORT;
+           && lk_is_unicast(&in->src.addr) && (in->transport != LK_NO_TRANSPORT || in->rejected == LK_TCP);
 }
 
 static void on_frame(const uint8_t *frame, size_t len)
@@ -314,40 +431,54 @@ static int read_own(char **words)
            && lk_parse_addr(words[2], strlen(words[2]), &own_ipv6) && own_ipv6.version == 6;
 }
 
-/* Stores its MTU too. */
+/* Stores its MTU too. SIGINT and SIGTERM are read from `signals` from now on. */
 static int open_device(const char *name)
 {
+    sigset_t ends;
     struct ifreq request = {.ifr_flags = IFF_TAP | IFF_NO_PI};
     int any = socket(AF_INET, SOCK_DGRAM, 0);
     snprintf(request.ifr_name, sizeof request.ifr_name, "%s", name);
     device = open("/dev/net/tun", O_RDWR | O_NONBLOCK | O_CLOEXEC);
-    if (any < 0 || device < 0 || ioctl(device, TUNSETIFF, &request) < 0 || ioctl(any, SIOCGIFMTU, &request) < 0)
+    sigemptyset(&ends);
+    sigaddset(&ends, SIGINT);
+    sigaddset(&ends, SIGTERM);
+    sigprocmask(SIG_BLOCK, &ends, NULL);
+    signals = signalfd(-1, &ends, SFD_CLOEXEC);
+    if (any < 0 || device < 0 || signals < 0 || ioctl(device, TUNSETIFF, &request) < 0
+        || ioctl(any, SIOCGIFMTU, &request) < 0)
         return 0;
     mtu = (size_t)request.ifr_mtu;
     close(any);
     return 1;
 }
 
-/* Signals come only while it waits, so that none is missed. */
-static void serve(void)
+/* Reads some frames, so that signals and timers have their turn. Returns 0 if the device has been deleted. */
+static int read_frames(void)
 {
     static uint8_t frame[LONGEST_FRAME];
-    struct sigaction action = {.sa_handler = end};
-    struct pollfd incoming = {.fd = device, .events = POLLIN};
-    sigset_t ends, before;
-    ssize_t len;
-    sigemptyset(&ends);
-    sigaddset(&ends, SIGINT);
-    sigaddset(&ends, SIGTERM);
-    sigprocmask(SIG_BLOCK, &ends, &before);
-    sigaction(SIGINT, &action, NULL);
-    sigaction(SIGTERM, &action, NULL);
+    for (int count = 0; count < FRAMES_AT_ONCE; count++) {
+        ssize_t len = read(device, frame, sizeof frame);
+        if (len < 0)
+            return errno == EAGAIN || errno == EINTR || errno == EIO;
+        frames_in++;
+        on_frame(frame, (size_t)len);
+    }
+    return 1;
+}
+
+static int serve(const char *name)
+{
+    struct pollfd fds[2] = {{.fd = signals, .events = POLLIN}, {.fd = device, .events = POLLIN}};
     printf("ready\n");
     fflush(stdout);
-    while (!is_ended) {
-        ppoll(&incoming, 1, NULL, &before);
-        for (; (len = read(device, frame, sizeof frame)) > 0; frames_in++)
-            on_frame(frame, (size_t)len);
+    for (;;) {
+        poll(fds, 2, run_timers());
+        if (fds[0].revents != 0)
+            return 0;
+        if ((fds[1].revents & (POLLERR | POLLHUP | POLLNVAL)) || !read_frames()) {
+            fprintf(stderr, "host: %s: the device was deleted\n", name);
+            return 1;
+        }
     }
 }
 
@@ -361,8 +492,8 @@ int main(int argc, char **argv)
         perror(argv[1]);
         return 1;
     }
-    serve();
+    int status = serve(argv[1]);
     printf("frames read %lu, written %lu, rejected %lu, wrong checksums %lu\n", frames_in, frames_out, rejected,
            wrong_checksums);
-    return 0;
+    return status;
 }

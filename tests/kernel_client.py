@@ -3,13 +3,21 @@
 
 tests/kernel_client.py host DEVICE    exchanges packets with examples/host.c on this TAP device
 tests/kernel_client.py proved DEVICE  the same with examples/proved_host.c, which keeps no connection
+tests/kernel_client.py silent DEVICE  is a silent peer of examples/host.c: many SYNs, a closed window, a loss
+tests/kernel_client.py down DEVICE    sets the device down and up within a connection
+tests/kernel_client.py lost DEVICE TAP
+                                      exchanges packets over the device TAP. Copies frames between it and the DEVICE
+                                      of examples/host.c, but loses some
 
 Prints how many exchanges were right. The status is 1 if one was wrong, or if the kernel counted an error.
 """
+import fcntl
+import os
 import random
 import select
 import socket
 import struct
+import subprocess
 import sys
 import threading
 import time
@@ -338,6 +346,110 @@ def with_host(device, is_proved):
             exchange(wire)
 
 
+def segments_to(wire, seconds):
+    """The TCP segments from the host, each as its port, sequence number, flags and length."""
+    found, end = [], time.monotonic() + seconds
+    while select.select([wire.sock], [], [], max(0, end - time.monotonic()))[0]:
+        data, place = wire.sock.recvfrom(70000)
+        if place[2] != socket.PACKET_OUTGOING and data[12:14] == b"\x08\x00" and data[23] == TCP:
+            port, seq = struct.unpack(">HI", data[36:42])
+            found.append((port, seq, data[47], int.from_bytes(data[16:18], "big") - 20 - (data[46] >> 4) * 4))
+    return found
+
+
+def many_syns(wire):
+    """More SYNs than the host keeps connections. Each gets SYN and ACK, and the last 64 get it again after a second.
+    A later connection works."""
+    for n in range(200):
+        wire.sock.send(wire.frame(TCP, segment(SYN_CLIENT + n, random.randrange(2**32), 0, SYN)))
+    ports = [port for port, _, flags, _ in segments_to(wire, 1.8) if flags == SYN | ACK]
+    for n in range(200):
+        check("SYN of many", ports.count(SYN_CLIENT + n) == (2 if n >= 200 - 64 else 1), n)
+    for _ in range(3):
+        check("TCP after many SYNs", echoed(*HOSTS[0][::2], b"after") == b"after")
+
+
+def silent_peer(device):
+    """What the host sends again to a peer of an address that the kernel does not have."""
+    wire = Wire(device, HOSTS[0][0], "10.77.0.99", HOSTS[0][2], False)
+    many_syns(wire)
+    wire.sock.send(wire.frame(TCP, segment(TCP_CLIENT, 0, 0, SYN)))
+    seq = next((seq for port, seq, _, _ in segments_to(wire, 0.2) if port == TCP_CLIENT), 0)
+
+    def sent_after(seconds, own_seq, ack, flags=ACK, window=1000, data=b"", count=1):
+        """What the host sends after `count` equal segments: the sequence numbers from its SYN on, and the lengths."""
+        for _ in range(count):
+            body = segment(TCP_CLIENT, own_seq, (seq + ack) % 2**32, flags, data=data, window=window)
+            wire.sock.send(wire.frame(TCP, body))
+        found = segments_to(wire, seconds)
+        return [((place - seq) % 2**32, length) for port, place, _, length in found if port == TCP_CLIENT]
+
+    # It acknowledges, and sends an octet after 1 and 3 seconds.
+    check("closed window", sent_after(3.5, 1, 1, window=0, data=bytes(700)) == [(1, 0), (1, 1), (1, 1)])
+    check("window that opens", sent_after(0.2, 701, 1) == [(1, 536), (537, 164)])
+    check("data", sent_after(0.2, 701, 701, data=bytes(700)) == [(701, 536), (1237, 164)])
+    check("two duplicates", sent_after(0.2, 1401, 701, count=2) == [])
+    check("third duplicate", sent_after(0.2, 1401, 701) == [(701, 536)])
+    check("partial acknowledgement", sent_after(0.2, 1401, 1237) == [(1237, 164)])
+    check("keep-alive", sent_after(0.2, 1400, 1401) == [(1401, 0)])
+    check("FIN", sent_after(0.2, 1401, 1401, ACK | FIN) == [(1401, 0)])
+    check("end", sent_after(0.2, 1402, 1402) == [])
+
+
+def down_and_up(device):
+    """What is sent while the device is down arrives when it is up again."""
+    family, _, host = HOSTS[0]
+    with socket.create_connection((host, ECHO), timeout=5) as sock:
+        for text in (b"first", b"second", b"third"):
+            if text == b"second":
+                subprocess.run(["ip", "link", "set", device, "down"], check=True)
+            sock.sendall(text)
+            if text == b"second":
+                time.sleep(0.3)
+                subprocess.run(["ip", "link", "set", device, "up"], check=True)
+            check("TCP over a device that was down", received(sock) == text, text)
+    check("TCP after a device that was down", echoed(family, host, bytes(20_000)) == bytes(20_000))
+
+
+def copy_frames(host, kernel, is_lost, lost):
+    """Copies frames between the device of the host, a socket, and the kernel's device, a file."""
+    while True:
+        for file in select.select([host, kernel], [], [])[0]:
+            frame, place = (os.read(kernel, 70000), None) if file == kernel else host.recvfrom(70000)
+            if place and place[2] == socket.PACKET_OUTGOING:
+                continue
+            if is_lost(frame, file == kernel):
+                lost.append(frame)
+            elif file == kernel:
+                host.send(frame)
+            else:
+                os.write(kernel, frame)
+
+
+def lossy(device, tap):
+    """Connections over a path that loses frames: first the first SYN, SYN and ACK, and FIN of each side, then 2 %."""
+    host = socket.socket(socket.AF_PACKET, socket.SOCK_RAW, socket.htons(3))
+    host.setsockopt(socket.SOL_SOCKET, socket.SO_RCVBUF, 1 << 24)
+    host.bind((device, 0))
+    kernel = os.open("/dev/net/tun", os.O_RDWR)
+    fcntl.ioctl(kernel, 0x400454CA, struct.pack("16sH22x", tap.encode(), 0x1002))  # TUNSETIFF, IFF_TAP | IFF_NO_PI
+    lost, seen, percent = [], set(), 0
+
+    def is_lost(frame, is_to_host):
+        if frame[12:14] != b"\x08\x00" or frame[23] != TCP:
+            return False
+        key = (frame[47] & (SYN | FIN), is_to_host)
+        is_first = key[0] != 0 and key not in seen
+        seen.add(key)
+        return random.randrange(100) < percent if percent else is_first
+
+    threading.Thread(target=copy_frames, args=(host, kernel, is_lost, lost), daemon=True).start()
+    for percent, data, least in ((0, bytes(5000), 4), (2, random.randbytes(1 << 20), 20)):
+        lost.clear()
+        check("TCP with loss", echoed(socket.AF_INET, "10.79.0.2", data) == data, percent)
+        check("lost frames", len(lost) >= least, len(lost))
+
+
 def report(name, exchange, *place):
     """Runs an exchange, prints what it counted, and returns the status of this test."""
     start, before = time.monotonic(), kernel_errors()
@@ -349,4 +461,6 @@ def report(name, exchange, *place):
 
 
 if __name__ == "__main__":
-    sys.exit(report(sys.argv[1], with_host, sys.argv[2], sys.argv[1] == "proved"))
+    exchanges = {"host": lambda device: with_host(device, False), "proved": lambda device: with_host(device, True),
+                 "silent": silent_peer, "down": down_and_up, "lost": lossy}
+    sys.exit(report(sys.argv[1], exchanges[sys.argv[1]], *sys.argv[2:]))
