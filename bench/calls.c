@@ -36,7 +36,7 @@ static void *symbol(void *handle, const char *path, const char *name)
     return found;
 }
 
-static struct library load(const char *path, int has_texts)
+static struct library load(const char *path, int is_floor)
 {
 #define LOAD(name) *(void **)&library.name = symbol(handle, path, "lk_" #name);
     struct library library = {0};
@@ -44,7 +44,9 @@ static struct library load(const char *path, int has_texts)
     if (!handle)
         give_up("cannot load a library", dlerror());
     PACKET_CALLS(LOAD)
-    if (has_texts) {
+    if (is_floor) {
+        ROUTER_CALLS(LOAD)
+    } else {
         TEXT_CALLS(LOAD)
         *(void **)&library.ipv4_parsed_by_core = symbol(handle, path, "core_parse_ipv4");
         *(void **)&library.ipv6_parsed_by_core = symbol(handle, path, "core_parse_ipv6");
@@ -141,6 +143,7 @@ static void run(const struct row *row, const libraries all)
     static double samples[LIBRARIES][ROUNDS];
     struct time times[LIBRARIES] = {0};
     row->prepare(row);
+    next_frame = 0;
     uint64_t calls = calls_of_a_sample(all[OURS], row);
     for (int round = 0; round < ROUNDS; round++)
         for (int i = 0; i < LIBRARIES; i++)
@@ -212,17 +215,18 @@ int main(int argc, char **argv)
 #define OWN(name) .name = lk_##name,
     static const struct library ours = {
         PACKET_CALLS(OWN)
+        ROUTER_CALLS(OWN)
         TEXT_CALLS(OWN)
         .ipv4_parsed_by_core = lk_parse_addr,
         .ipv6_parsed_by_core = lk_parse_addr,
     };
     struct library floor, reference;
-    libraries all = {[OURS] = &ours, [FLOOR] = &floor}, of_texts = {[OURS] = &ours};
+    libraries all = {[OURS] = &ours, [FLOOR] = &floor}, of_texts = {[OURS] = &ours}, of_router = {[OURS] = &ours, [FLOOR] = &floor};
     if (argc != 2 && argc != 3)
         give_up("usage", "calls FLOOR.so [REFERENCE.so]");
-    floor = load(argv[1], 0);
+    floor = load(argv[1], 1);
     if (argc == 3) {
-        reference = load(argv[2], 1);
+        reference = load(argv[2], 0);
         all[REFERENCE] = of_texts[REFERENCE] = &reference;
     }
     printf("| Call | Bytes | ours ns | reference ns | floor ns | speed | floor / ours | least: speed | floor / ours |\n"
@@ -232,6 +236,7 @@ int main(int argc, char **argv)
     for (size_t i = 0; i < COUNT(headers); i++)
         for (size_t j = 0; j < COUNT(tcp_blocks); j++)
             run_block(&tcp_blocks[j], &headers[i], all);
+    run_block(&router_block, NULL, of_router);
     run_block(&address_block, NULL, of_texts);
     run_texts(of_texts);
     return 0;

@@ -1,6 +1,6 @@
 /* The calls of c/ip_wire.h on packets, by hand: straight code with all checks that they make, to see how far the
  * machine goes. bench/bench.py builds it as a shared library, for the processors that the library needs. */
-#include "floor_failures.h"
+#include "floor_route.h"
 
 uint16_t lk_checksum(const uint8_t *ptr, size_t len)
 {

@@ -12,6 +12,7 @@ GROUPS = [
     ("emit one layer", r"emit (?!frame).*", 0.90, 0.70),
     ("emit a whole frame", r"emit frame .*", 0.90, 0.70),
     ("rebuild", r"rebuild .*", 0.80, 0.60),
+    ("forward, translate", r"(forward|translate) .*", 0.90, None),
     ("an address in a block", r".*contains.*", None, None),
     ("parse texts", r"parse .*", None, None),
     ("print texts", r"print .*", None, None),

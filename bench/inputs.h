@@ -10,15 +10,18 @@ enum {
     MOST_TEXT = 39, /* of an address */
 };
 
-/* The calls of a library: on packets, of which the floor has all, and of texts. */
+/* The calls of a library: on packets, of a router, and of texts. The floor has all but those of texts, the reference all
+ * but those of a router. */
 #define PACKET_CALLS(X)                                                                                     \
     X(checksum) X(read_frame) X(read_tcp_options) X(rebuild) X(emit_arp) X(emit_ip) X(emit_udp) X(emit_tcp) \
     X(emit_arp_frame) X(emit_udp_frame) X(emit_tcp_frame) X(contains)
+#define ROUTER_CALLS(X) X(forward) X(translate)
 #define TEXT_CALLS(X) X(parse_addr) X(parse_block) X(print_addr) X(print_block) X(print_endpoint)
 #define CALL(name) __typeof__(lk_##name) *name;
 
 struct library {
     PACKET_CALLS(CALL)
+    ROUTER_CALLS(CALL)
     TEXT_CALLS(CALL)
     __typeof__(lk_parse_addr) *ipv4_parsed_by_core; /* ours beside Rust's core::net */
     __typeof__(lk_parse_addr) *ipv6_parsed_by_core;

@@ -94,6 +94,45 @@ static uint64_t call_rebuild(const struct library *library, const struct row *ro
     return (uint64_t)library->rebuild(bytes, frame_len, OUT);
 }
 
+/* Copies of the frame by turns, since what was just written is slow to load. Each is renewed before its hop limit is
+ * used up. */
+static uint8_t *next_on_its_way(void)
+{
+    static uint8_t copies[32][1600];
+    uint8_t *copy = copies[next_frame % 32];
+    if (next_frame++ % 1024 < 32)
+        memcpy(copy, bytes, frame_len);
+    return copy;
+}
+
+/* Stores a frame to be compared, if it is the first of its turn. */
+static void store_first(const uint8_t *frame)
+{
+    if (next_frame % 1024 == 1)
+        memcpy(out.bytes, frame, frame_len);
+}
+
+static uint64_t call_forward(const struct library *library, const struct row *row)
+{
+    const struct lk_ethernet *ethernet = &ipv4_headers.ethernet;
+    (void)row;
+    uint8_t *frame = next_on_its_way();
+    uint64_t answer = (uint64_t)library->forward(frame, frame_len, ethernet->dst, ethernet->src);
+    store_first(frame);
+    return answer;
+}
+
+/* The source is one of two endpoints by turns. */
+static uint64_t call_translate(const struct library *library, const struct row *row)
+{
+    static const struct lk_endpoint ends[] = {{IPV4(7), 40000}, {IPV4(8), 50001}};
+    (void)row;
+    uint8_t *frame = next_on_its_way();
+    uint64_t answer = (uint64_t)library->translate(frame, frame_len, LK_SOURCE, &ends[next_frame / 32 % 2]);
+    store_first(frame);
+    return answer;
+}
+
 static uint64_t call_contains_ipv4(const struct library *library, const struct row *row)
 {
     static const struct lk_block of_ipv4 = {IPV4(0), 24};
@@ -254,6 +293,19 @@ static const struct header headers[] = {
       .sack_ranges = {{1460, 2920}, {4380, 5840}, {7300, 8760}}}},
 };
 
+/* A segment of data. */
+static void prepare_data(const struct row *row)
+{
+    prepare_tcp_ipv4(&(struct row){.size = row->size, .header = &headers[2]});
+}
+
+static const struct row router_rows[] = {
+    {"forward UDP/IPv4", prepare_udp_ipv4, call_forward, .computed = 1},
+    {"forward UDP/IPv6", prepare_udp_ipv6, call_forward, .computed = 1},
+    {"translate UDP/IPv4", prepare_udp_ipv4, call_translate, .computed = 1},
+    {"translate TCP/IPv4", prepare_data, call_translate, .computed = 1},
+};
+
 /* Rows that are timed one after the other, each with each size. */
 struct block {
     const struct row *rows;
@@ -268,4 +320,5 @@ static const struct block packet_blocks[] = {
     BLOCK(udp_rows, sizes),               BLOCK(contains_rows, no_size),  BLOCK(mixed_rows, mixed_counts),
 };
 static const struct block tcp_blocks[] = {BLOCK(tcp_rows, sizes), BLOCK(option_rows, no_size)};
+static const struct block router_block = BLOCK(router_rows, sizes);
 static const struct block address_block = BLOCK(address_rows, address_counts);
