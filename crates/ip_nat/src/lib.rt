@@ -3,5 +3,7 @@
 
 pub mod laws;
 mod nat;
+mod packet;
 
 pub use nat::{Rejection, Side, translate};
+pub use packet::Packet;

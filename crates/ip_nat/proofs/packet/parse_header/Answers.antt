@@ -3,7 +3,7 @@ use Rattle.ip_nat.proofs.Translates.{bad-header}
 use Rattle.ip_wire.proofs.Ipv4Changed.{reads-verified}
 use Rattle.ip_wire.specs.Ipv4.{HasChecksum, packet_bytes}
 use Rattle.net_base.specs.Checksum.{verifies}
-use Rattle.ip_nat.proofs.nat.parse_header.Goals as goal
+use Rattle.ip_nat.proofs.packet.parse_header.Goals as goal
 
 pub returns-in_default-clause-rejected : goal.returns-in_default-clause-rejected
 returns-in_default-clause-rejected c =

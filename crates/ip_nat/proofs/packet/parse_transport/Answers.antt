@@ -1,7 +1,7 @@
 use Rattle.std.proofs.Common.{◌≡◌, rules, subst}
 use Rattle.ip_wire.specs.Frame.{all_checked}
 use Rattle.ip_wire.specs.FrameValue.{GivesTransport}
-use Rattle.ip_nat.proofs.nat.accept_transport.Goals as goal
+use Rattle.ip_nat.proofs.packet.parse_transport.Goals as goal
 
 pub returns-in-Err-clause-rejected : goal.returns-in-Err-clause-rejected
 returns-in-Err-clause-rejected c =

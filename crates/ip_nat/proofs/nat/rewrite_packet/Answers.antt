@@ -5,7 +5,7 @@ use Rattle.ip_nat.specs.Nat.{CarriesPorts, translated_packet, with_addr, with_ad
 use Rattle.ip_wire.specs.Field.{with_range}
 use Rattle.ip_wire.specs.Frame.{ipv4_payload}
 use Rattle.ip_wire.specs.Ipv4.{Reads, header_len, total_len}
-use Rattle.ip_nat.proofs.nat.rewrite.Goals as goal
+use Rattle.ip_nat.proofs.nat.rewrite_packet.Goals as goal
 
 done : (c : goal.After-slice_known-5-1) → IsWritten c.args.side c.args.header c.args.packet.now c.set_addr.new.packet c.args.addr c.args.port
 done c =
@@ -26,7 +26,7 @@ done c =
     (λ w r. c.set_addr.ensures.reads w (subst (λ (l : List ℕ). Reads l true w) (sym inner) r))
 
 pub returns-clause-carries : goal.returns-clause-carries
-returns-clause-carries c t h = subst (λ (l : List ℕ). CarriesPorts l (with_addr c.args.side c.args.addr c.args.header) (with_port c.args.side c.args.port t)) (search rules) ((done c).carries t h)
+returns-clause-carries c t a h = subst (λ (l : List ℕ). CarriesPorts l (with_addr c.args.side c.args.addr c.args.header) (with_port c.args.side c.args.port t)) (search rules) ((done c).carries t a h)
 
 pub returns-clause-bytes : goal.returns-clause-bytes
 returns-clause-bytes c = subst (λ (l : List ℕ). l ≡ translated_packet c.args.side c.args.addr c.args.port c.args.packet.now) (search rules) (done c).as_said
