@@ -7,4 +7,4 @@ pub mod Translates
 pub mod UdpEnds
 pub mod Undone
 pub mod Words
-mod NatOnce
+pub mod NatOnce

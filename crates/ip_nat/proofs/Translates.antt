@@ -20,7 +20,7 @@ use Rattle.ip_nat.proofs.Headers.{keeps, reads-inner, same-inner}
 use Rattle.ip_nat.proofs.Payloads.{drop-front, range-len, range-part}
 use Rattle.ip_nat.proofs.TcpEnds.{tcp-len}
 use Rattle.ip_nat.proofs.UdpEnds.{udp-ended}
-use Rattle.ip_nat.specs.Nat.{AllowsPort, Carries, CarriesPorts, HasPorts, IsIpv4Frame, IsRejected, IsRejectedPacket, IsTranslated, IsUntranslated, LacksChecksum, Rewrites, addr_at, addr_of, port_bit, translated_packet, with_addr, with_address, with_end, with_end_by, with_port}
+use Rattle.ip_nat.specs.Nat.{AllowsPort, Carries, CarriesPorts, HasPorts, IsIpv4Frame, IsRejected, IsRejectedPacket, IsTranslated, IsUntranslated, LacksChecksum, RefusesPort, Rewrites, addr_at, addr_of, port_bit, translated_packet, with_addr, with_address, with_end, with_end_by, with_port}
 use Rattle.ip_nat.specs.declared.nat.Rejection.{Rejection}
 use Rattle.ip_nat.specs.declared.nat.Rejection.TheVariants.{NotIpv4, ZeroPort}
 use Rattle.ip_nat.specs.declared.nat.Side.{Side}
@@ -283,6 +283,12 @@ other-rejected frame answer link reads is names = record {
 pub untranslated : (frame : List ℕ) (side : Side) (port : ℕ) (reason : Rejection) → IsRejected frame reason → IsUntranslated frame side port reason
 untranslated frame side port ZeroPort why = let other : ZeroPort ≡ NotIpv4 = why.short (λ link is. (why.whole link is).2) in absurd (cc)
 untranslated frame side port _ why = why
+
+-- a frame whose port is refused is not translated
+pub refused : {T : Type 0} (answer : Result T Rejection) (frame : List ℕ) (side : Side) (port : ℕ) → IfErr answer (λ reason. reason ≡ ZeroPort)
+    → IfErr answer (λ _. RefusesPort frame side port) → IfErr answer (IsUntranslated frame side port)
+refused (Ok v) frame side port is why = tt
+refused (Err reason) frame side port is why = subst (IsUntranslated frame side port) (sym is) why
 
 -- an IPv4 packet that does not parse is rejected for its header
 pub bad-header : (bytes : List ℕ) (answer : Result Ipv4Repr Error) (error : Error)

@@ -1,7 +1,7 @@
 //! Network address translation of one address and port (RFC 3022, sections 2.2 and 4.1).
 
 ghost use Rattle.std.specs.Prelude.{◌≡◌, ◌≤◌, List, ℕ, IfErr, OnErr, OnOk, length, true};
-ghost use Rattle.ip_nat.specs.Nat.{AllowsPort, CarriesPorts, IsPacket, IsTranslated, IsUntranslated, Rewrites, addr_of, translated_packet, with_addr, with_address, with_end, with_port, with_tcp_end, with_udp_end};
+ghost use Rattle.ip_nat.specs.Nat.{AllowsPort, CarriesPorts, IsPacket, IsTranslated, IsUntranslated, RefusesPort, Rewrites, addr_of, translated_packet, with_addr, with_address, with_end, with_port, with_tcp_end, with_udp_end};
 ghost use Rattle.ip_wire.specs.Frame as whole;
 ghost use Rattle.ip_wire.specs.Frame.{ReadsTransport, all_checked};
 ghost use Rattle.ip_wire.specs.Ipv4 as ipv4;
@@ -83,8 +83,8 @@ impl Packet {
     ) -> Result<(), Rejection>
         requires { IsPacket frame.old self.now }
         ensures translated { OnOk result (IsTranslated frame.old frame.new side addr port) }
-        ensures reason { IfErr result (λ reason. reason ≡ Rejection.ZeroPort) }
-        ensures rejected { IfErr result (IsUntranslated frame.old side port) }
+        ensures rejected { IfErr result (λ reason. reason ≡ Rejection.ZeroPort) }
+        ensures refused { OnErr result (RefusesPort frame.old side port) }
         ensures unchanged { OnErr result (frame.new ≡ frame.old) }
     {
         if !self.allows_port(side, port) {

@@ -40,9 +40,9 @@ impl Packet {
         }
     }
 
-    /// Returns `true` if a receiver accepts the packet with this port on this side. Only a UDP packet may
-    /// have port 0, as its source (RFC 768).
-    pub fn allows_port(&self, side: Side, port: u16) -> bool
+    // Returns `true` if a receiver accepts the packet with this port on this side. Only a UDP packet may
+    // have port 0, as its source (RFC 768).
+    pub(super) fn allows_port(&self, side: Side, port: u16) -> bool
         ensures { (transport : whole.Transport) → HasPorts transport → Describes self.now transport → IsTrue result ↔ AllowsPort side transport port }
     {
         match side {
