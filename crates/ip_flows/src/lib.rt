@@ -1,0 +1,13 @@
+//! The table of mappings of a NAT: which outside port stands for which inside endpoint (RFC 4787, RFC 5382).
+#![tactic(auto)]
+
+mod choice;
+mod mapping;
+mod nat;
+mod state;
+mod table;
+
+pub use mapping::{Ipv4Endpoint, Mapping};
+pub use nat::Nat;
+pub use state::{Event, Protocol, TcpState};
+pub use table::{find, open};
