@@ -1,8 +1,8 @@
 use Rattle.std.proofs.Common.{◌≡◌, ◌+◌, sym, subst, take}
-use Rattle.ip_uses.proofs.RouteSteps.{Chosen, passed, taken}
-use Rattle.ip_uses.specs.Route.{Leads}
-use Rattle.ip_uses.proofs.route.choose.Goals.{then-contains_addr, else-contains_addr}
-use Rattle.ip_uses.proofs.route.choose.Goals as goal
+use Rattle.ip_routes.proofs.RouteSteps.{Chosen, passed, taken}
+use Rattle.ip_routes.specs.Route.{Leads}
+use Rattle.ip_routes.proofs.route.choose.Goals.{then-contains_addr, else-contains_addr}
+use Rattle.ip_routes.proofs.route.choose.Goals as goal
 
 pub loop-route-preserved : goal.loop-route-preserved
 loop-route-preserved c =

@@ -2,8 +2,8 @@
 use Rattle.std.proofs.Common.{◌≡◌, ◌∙◌, ◌+◌, ◌<◌, ◌≤◌, ◌++◌, ◌∷◌, [], ◌⊎◌, inl, inr, ℕ, List, All, MatchOption, Option, None, Some, length, get_or, take, refl, sym, subst, ap, append_assoc, arith}
 use Rattle.std.proofs.lemmas.List.{take_more}
 use Rattle.std.proofs.lemmas.List.Elements.{All-append, All-cons, All-more, All-nil, All-push, All-weaker}
-use Rattle.ip_uses.specs.Route.{IsBetter, IsChosen, Leads}
-use Rattle.ip_uses.specs.declared.route.Route.{Route}
+use Rattle.ip_routes.specs.Route.{IsBetter, IsChosen, Leads}
+use Rattle.ip_routes.specs.declared.route.Route.{Route}
 use Rattle.ip_wire.specs.IpCidr.{block_prefix_len}
 use Rattle.ip_wire.specs.declared.IpAddress.{IpAddress}
 

@@ -1,6 +1,6 @@
 -- Routes: among the blocks that contain an address, the longest prefix decides (RFC 1812, section 5.2.4.3).
 use Rattle.std.specs.Prelude.{◌≡◌, ◌<◌, ◌≤◌, ◌⊎◌, ◌++◌, ◌∷◌, All, List}
-use Rattle.ip_uses.specs.declared.route.Route.{Route}
+use Rattle.ip_routes.specs.declared.route.Route.{Route}
 use Rattle.ip_wire.specs.IpCidr.{IsIn, block_prefix_len}
 use Rattle.ip_wire.specs.declared.IpAddress.{IpAddress}
 

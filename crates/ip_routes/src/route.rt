@@ -1,16 +1,18 @@
 //! The choice of a route (RFC 1812, section 5.2.4.3): the longest prefix that contains the address.
 
 ghost use Rattle.std.specs.Prelude.{◌≡◌, ◌≤◌, ◌<◌, All, MatchOption};
-ghost use Rattle.ip_uses.specs.Route.{IsBetter, IsChosen, Leads};
+ghost use Rattle.ip_routes.specs.Route.{IsBetter, IsChosen, Leads};
 ghost use Rattle.ip_wire.specs.IpCidr.{block_prefix_len};
 
 use ip_wire::{IpAddress, IpCidr};
 
-/// Where packets to the addresses of a block go next.
+/// Where packets to the addresses of a block go next: to a router, or without one to the destination
+/// itself, which is on the link of the interface.
 #[derive(Debug, Clone, Copy, PartialEq, Eq)]
 pub struct Route {
     pub block: IpCidr,
-    pub next_hop: IpAddress,
+    pub next_hop: Option<IpAddress>,
+    pub interface: u16,
 }
 
 /// The route with the longest prefix whose block contains the address, and of several the first. `None`
