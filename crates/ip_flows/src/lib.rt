@@ -2,6 +2,7 @@
 #![tactic(auto)]
 
 mod choice;
+pub mod laws;
 mod mapping;
 mod nat;
 mod state;
