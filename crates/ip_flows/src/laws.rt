@@ -4,7 +4,7 @@
 ghost use Rattle.std.specs.Prelude.{All, IfSome, List, None, Some, false, length, true, ℕ, ◌<◌, ◌≡◌, ◌≢◌, ◌≤◌};
 ghost use Rattle.ip_flows.specs.Mapping.{expiry};
 ghost use Rattle.ip_flows.specs.State.{ends_connection, protocol_of, shortest_timeout, state_of, timeout_of};
-ghost use Rattle.ip_flows.specs.Table.{IsFree, IsTable, IsUnmapped, MapsTo, Opens, mapping_at};
+ghost use Rattle.ip_flows.specs.Table.{IsFree, IsTable, IsUnmapped, MapsTo, Opens, free_mapping, mapping_at};
 ghost use Rattle.ip_flows.specs.declared.mapping.Ipv4Endpoint.{Ipv4Endpoint};
 ghost use Rattle.ip_flows.specs.declared.mapping.Mapping.{Mapping};
 ghost use Rattle.ip_flows.specs.declared.state.Protocol.{Protocol};
@@ -144,6 +144,11 @@ pub fn opened_port_is_one(
 /// The invariant stays true while time passes.
 pub fn table_stays_with_time(nat: &Nat, mappings: &[Mapping])
     ensures { (now later : ℕ) → now ≤ later → IsTable nat.now mappings.now now → IsTable nat.now mappings.now later }
+{}
+
+/// A free mapping is all zeros.
+pub fn free_mapping_is_zero()
+    ensures { Mapping.FREE ≡ free_mapping }
 {}
 
 /// A table whose mappings are all free satisfies the invariant, as one of zeros does.
