@@ -1,12 +1,12 @@
 -- What `open` and `find` do, from the mapping that they choose.
-use Rattle.std.proofs.Common.{ℕ, ◌≡◌, ◌∙◌, ◌<◌, List, length, refl, sym, ap, subst, arith, get_or}
+use Rattle.std.proofs.Common.{ℕ, ◌≡◌, ◌∙◌, ◌<◌, List, length, refl, sym, ap, subst, get_or}
 use Rattle.std.proofs.Math.ListN.{set}
 use Rattle.std.proofs.lemmas.Bool.{cond_both}
 use Rattle.std.proofs.lemmas.List.{get_or_default}
 use Rattle.ip_flows.proofs.Places.{place-lt}
 use Rattle.ip_flows.proofs.Tables.{again-table, made-table}
-use Rattle.ip_flows.specs.Mapping.{IsOf, after_inbound, after_outbound, inside_of, is_shared, new_mapping}
-use Rattle.ip_flows.specs.State.{ends_connection, protocol_of}
+use Rattle.ip_flows.specs.Mapping.{IsOf, after_inbound, after_outbound, inside_of, new_mapping}
+use Rattle.ip_flows.specs.State.{protocol_of}
 use Rattle.ip_flows.specs.Table.{Chooses, HasPort, IsFirst, IsFree, IsTable, IsUnmapped, MapsTo, Opens, free_mapping, kept, made, mapping_at, place_of}
 use Rattle.ip_flows.specs.declared.mapping.Ipv4Endpoint.{Ipv4Endpoint}
 use Rattle.ip_flows.specs.declared.mapping.Mapping.{Mapping}
@@ -27,11 +27,11 @@ pub kept-opens : (nat : Nat) (old : List Mapping) (now : ℕ) (event : Event) (i
     → Opens nat old (set old (place_of nat (protocol_of event) port) m) now event inside remote port
 kept-opens nat old now event inside remote port m d first is =
     let same : m ≡ after_outbound nat now event remote (mapping_at nat old (protocol_of event) port) =
-      is ∙ ap (after_outbound nat now event remote) (read-at nat old now event port inside d first.holds) in
+    is ∙ ap (after_outbound nat now event remote) (read-at nat old now event port inside d first.holds) in
     record {
       mapping = m;
       chosen = subst (Chooses nat old now event inside remote port) (sym same) (kept first);
-      becomes = refl
+      becomes = refl;
     }
 
 pub kept-table : (nat : Nat) (old : List Mapping) (now : ℕ) (event : Event) (inside remote : Ipv4Endpoint) (port : ℕ) (m d : Mapping)
@@ -40,7 +40,7 @@ pub kept-table : (nat : Nat) (old : List Mapping) (now : ℕ) (event : Event) (i
     → IsTable nat old now → IsTable nat (set old (place_of nat (protocol_of event) port) m) now
 kept-table nat old now event inside remote port m d mapped is table =
     let same : m ≡ after_outbound nat now event remote (mapping_at nat old (protocol_of event) port) =
-      is ∙ ap (after_outbound nat now event remote) (read-at nat old now event port inside d mapped) in
+    is ∙ ap (after_outbound nat now event remote) (read-at nat old now event port inside d mapped) in
     again-table nat old now (protocol_of event) port m inside mapped (subst (IsOf inside) (sym same) mapped.leads) table
 
 -- ---- a mapping that is new
@@ -52,7 +52,7 @@ pub made-opens : (nat : Nat) (old : List Mapping) (now : ℕ) (event : Event) (i
 made-opens nat old now event inside remote port m unmapped first is = record {
   mapping = m;
   chosen = subst (Chooses nat old now event inside remote port) (sym is) (made unmapped first);
-  becomes = refl
+  becomes = refl;
 }
 
 pub new-table : (nat : Nat) (old : List Mapping) (now : ℕ) (event : Event) (inside remote : Ipv4Endpoint) (port : ℕ) (m : Mapping)
@@ -75,10 +75,10 @@ pub found-table : (nat : Nat) (old : List Mapping) (now : ℕ) (event : Event) (
     → IsTable nat old now → IsTable nat (set old (place_of nat (protocol_of event) port) m) now
 found-table nat old now event remote port m d exists live is table =
     let at : get_or old (place_of nat (protocol_of event) port) d ≡ mapping_at nat old (protocol_of event) port =
-      get_or_default old (place_of nat (protocol_of event) port) d free_mapping (place-lt nat (length old) (protocol_of event) port exists) in
+    get_or_default old (place_of nat (protocol_of event) port) d free_mapping (place-lt nat (length old) (protocol_of event) port exists) in
     let same : m ≡ after_inbound nat now event remote (mapping_at nat old (protocol_of event) port) = is ∙ ap (after_inbound nat now event remote) at in
     let inside : Ipv4Endpoint = inside_of (mapping_at nat old (protocol_of event) port) in
     let mapped : MapsTo nat old now (protocol_of event) port inside =
-      record { exists = exists; live = subst (λ (x : Mapping). now < x.expires) at live; leads = (refl, refl) } in
+    record { exists = exists; live = subst (λ (x : Mapping). now < x.expires) at live; leads = (refl, refl) } in
     again-table nat old now (protocol_of event) port m inside mapped
     (subst (IsOf inside) (sym same) (after_inbound-inside nat now event remote (mapping_at nat old (protocol_of event) port) inside mapped.leads)) table

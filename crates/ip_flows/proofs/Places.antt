@@ -1,5 +1,5 @@
 -- The places of mappings: ports apart have places apart, and a write changes one of them.
-use Rattle.std.proofs.Common.{ℕ, ◌≡◌, ◌≢◌, ◌∙◌, ◌+◌, ◌-◌, ◌*◌, ◌/◌, ◌<◌, ◌≤◌, ◌==◌, ◌⊎◌, inl, inr, cond, false, true, List, length, min, refl, sym, ap, subst, arith, get_or, get_or-set_other, get_or-set_same}
+use Rattle.std.proofs.Common.{ℕ, ◌≡◌, ◌≢◌, ◌∙◌, ◌+◌, ◌-◌, ◌*◌, ◌/◌, ◌<◌, ◌≤◌, ◌==◌, ◌⊎◌, inl, inr, List, length, min, refl, sym, ap, subst, arith, get_or, get_or-set_other, get_or-set_same}
 use Rattle.std.proofs.Math.ListN.{set, length-set}
 use Rattle.std.proofs.lemmas.Bool.{cases_eq, cond-false, cond-true, eq-eqb, ne_eqb}
 use Rattle.ip_flows.specs.Mapping.{IsOf}
@@ -64,7 +64,7 @@ changed nat old now a b p q m e h new =
       | inl same ↦
           let both = place-apart nat b a q p exists.least h.least same in
           let is : mapping_at nat (set old (place_of nat a p) m) b q ≡ m =
-            ap (λ (i : ℕ). get_or (set old (place_of nat a p) m) i free_mapping) same ∙ same-at nat old a p m h in
+          ap (λ (i : ℕ). get_or (set old (place_of nat a p) m) i free_mapping) same ∙ same-at nat old a p m h in
           inr (record { protocol = both.0; port = both.1; leads = subst (IsOf e) is new.leads; live = subst (λ (x : Mapping). now < x.expires) is new.live })
       | inr apart ↦
           let is = other-at nat old a b p q m apart in
@@ -79,5 +79,5 @@ stays nat old now a b p q m e apart was =
     record {
       exists = subst (λ n. HasPort nat n q) (sym (length-set old (place_of nat a p) m)) was.exists;
       live = subst (λ (x : Mapping). now < x.expires) is was.live;
-      leads = subst (IsOf e) is was.leads
+      leads = subst (IsOf e) is was.leads;
     }

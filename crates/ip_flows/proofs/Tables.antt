@@ -1,9 +1,9 @@
 -- Writes that keep the invariant of the table.
-use Rattle.std.proofs.Common.{ℕ, ◌≡◌, ◌∙◌, ◌<◌, ◌⊎◌, inl, inr, List, length, refl, sym, ap, subst, arith}
+use Rattle.std.proofs.Common.{ℕ, ◌≡◌, ◌∙◌, inl, inr, List, length, sym, subst}
 use Rattle.std.proofs.Math.ListN.{set, length-set}
-use Rattle.ip_flows.proofs.Places.{IsThere, changed}
+use Rattle.ip_flows.proofs.Places.{changed}
 use Rattle.ip_flows.specs.Mapping.{IsOf}
-use Rattle.ip_flows.specs.Table.{HasPort, IsCandidate, IsTable, IsUnmapped, MapsTo, mapping_at, place_of}
+use Rattle.ip_flows.specs.Table.{HasPort, IsCandidate, IsTable, IsUnmapped, MapsTo, place_of}
 use Rattle.ip_flows.specs.declared.mapping.Ipv4Endpoint.{Ipv4Endpoint}
 use Rattle.ip_flows.specs.declared.mapping.Mapping.{Mapping}
 use Rattle.ip_flows.specs.declared.nat.Nat.{Nat}
@@ -32,8 +32,8 @@ pub again-table : (nat : Nat) (old : List Mapping) (now : ℕ) (a : Protocol) (p
     → IsTable nat old now → IsTable nat (set old (place_of nat a p) m) now
 again-table nat old now a p m i was of table = record {
   placed = λ b q e new. subst (λ n. IsCandidate nat n e q) (sym (length-set old (place_of nat a p) m))
-    (table.placed b q e (again nat old now a b p q m i e was of new));
-  apart = λ b q r e first second. table.apart b q r e (again nat old now a b p q m i e was of first) (again nat old now a b p r m i e was of second)
+      (table.placed b q e (again nat old now a b p q m i e was of new));
+  apart = λ b q r e first second. table.apart b q r e (again nat old now a b p q m i e was of first) (again nat old now a b p r m i e was of second);
 }
 
 -- ---- a mapping that is new
@@ -42,25 +42,25 @@ pub made-table : (nat : Nat) (old : List Mapping) (now : ℕ) (a : Protocol) (p 
     → IsCandidate nat (length old) i p → IsUnmapped nat old now a i → IsOf i m → IsTable nat old now → IsTable nat (set old (place_of nat a p) m) now
 made-table nat old now a p m i exists candidate unmapped of table =
     let none : (b : Protocol) (q : ℕ) (e : Ipv4Endpoint) → b ≡ a → IsOf e m → ¬ MapsTo nat old now b q e = λ b q e same leads was.
-      (let here : MapsTo nat old now a q e = subst (λ x. MapsTo nat old now x q e) same was in
-      let mine : MapsTo nat old now a q i = subst (λ x. MapsTo nat old now a q x) (same-end m e i leads of) here in
-      unmapped q (table.placed a q i mine) mine) in
+    (let here : MapsTo nat old now a q e = subst (λ x. MapsTo nat old now x q e) same was in
+    let mine : MapsTo nat old now a q i = subst (λ x. MapsTo nat old now a q x) (same-end m e i leads of) here in
+    unmapped q (table.placed a q i mine) mine) in
     record {
       placed = λ b q e new. subst (λ n. IsCandidate nat n e q) (sym (length-set old (place_of nat a p) m))
-        (elim (changed nat old now a b p q m e exists new) [
-          | inl old ↦ table.placed b q e old
-          | inr there ↦
-              let first : IsCandidate nat (length old) e p = subst (λ x. IsCandidate nat (length old) x p) (same-end m i e of there.leads) candidate in
-              subst (λ x. IsCandidate nat (length old) e x) (sym there.port) first
-        ]);
+          (elim (changed nat old now a b p q m e exists new) [
+            | inl old ↦ table.placed b q e old
+            | inr there ↦
+                let first : IsCandidate nat (length old) e p = subst (λ x. IsCandidate nat (length old) x p) (same-end m i e of there.leads) candidate in
+                subst (λ x. IsCandidate nat (length old) e x) (sym there.port) first
+          ]);
       apart = λ b q r e first second. elim (changed nat old now a b p q m e exists first) [
         | inl was ↦ elim (changed nat old now a b p r m e exists second) [
-            | inl other ↦ table.apart b q r e was other
-            | inr there ↦ absurd (none b q e there.protocol there.leads was)
-          ]
+          | inl other ↦ table.apart b q r e was other
+          | inr there ↦ absurd (none b q e there.protocol there.leads was)
+        ]
         | inr here ↦ elim (changed nat old now a b p r m e exists second) [
-            | inl other ↦ absurd (none b r e here.protocol here.leads other)
-            | inr there ↦ here.port ∙ sym there.port
-          ]
-      ]
+          | inl other ↦ absurd (none b r e here.protocol here.leads other)
+          | inr there ↦ here.port ∙ sym there.port
+        ]
+      ];
     }

@@ -1,5 +1,5 @@
 -- One mapping, and how packets change it.
-use Rattle.std.specs.Prelude.{ℕ, ◌≡◌, ◌+◌, ◌-◌, ◌^◌, ◌==◌, min, Bool, true, false, not, ◌&&◌, ◌||◌, if◌then◌else◌, [], ◌∷◌}
+use Rattle.std.specs.Prelude.{ℕ, ◌≡◌, ◌+◌, ◌-◌, ◌^◌, ◌==◌, min, Bool, not, ◌&&◌, ◌||◌, if◌then◌else◌, [], ◌∷◌}
 use Rattle.std.specs.Str.{bytes_eq}
 use Rattle.ip_flows.specs.State.{byte_of, ends_connection, next_state, protocol_of, state_of, timeout_of}
 use Rattle.ip_flows.specs.declared.mapping.Ipv4Endpoint.{Ipv4Endpoint}
@@ -43,7 +43,7 @@ new_mapping inside remote = record {
   remote_port = remote.port;
   state = 0;
   shared = 0;
-  unused = 0 ∷ 0 ∷ []
+  unused = 0 ∷ 0 ∷ [];
 }
 
 -- the mapping after its inside endpoint sent a packet: the time-out starts anew
@@ -54,7 +54,7 @@ after_outbound nat now event remote m =
     record m {
       expires = expiry now (timeout_of nat (protocol_of event) state);
       state = byte_of state;
-      shared = if shared then 1 else 0
+      shared = if shared then 1 else 0;
     }
 
 -- the mapping after a remote endpoint sent a packet: a FIN or RST of its one remote endpoint ends the connection, and

@@ -1,5 +1,5 @@
 -- The state of a TCP connection as a NAT sees it, and the time-outs (RFC 4787, section 4.3; RFC 5382, section 5).
-use Rattle.std.specs.Prelude.{ℕ, ◌==◌, Bool, true, false, if◌then◌else◌}
+use Rattle.std.specs.Prelude.{ℕ, ◌==◌, min, Bool, true, false, if◌then◌else◌}
 use Rattle.ip_flows.specs.declared.nat.Nat.{Nat}
 use Rattle.ip_flows.specs.declared.state.Event.{Event}
 use Rattle.ip_flows.specs.declared.state.Event.TheVariants as event
@@ -56,3 +56,8 @@ timeout_of nat protocol.Udp state = nat.udp_timeout
 timeout_of nat protocol.Tcp Established = nat.tcp_timeout
 timeout_of nat protocol.Tcp Opening = nat.tcp_transitory_timeout
 timeout_of nat protocol.Tcp Closing = nat.tcp_transitory_timeout
+
+-- the shortest time-out of a protocol
+abbrev pub shortest_timeout : Nat → Protocol → ℕ
+shortest_timeout nat protocol.Udp = nat.udp_timeout
+shortest_timeout nat protocol.Tcp = min nat.tcp_timeout nat.tcp_transitory_timeout

@@ -1,9 +1,9 @@
 -- The table of mappings: where a mapping may lie, which inside endpoint an outside port leads to, and what `open` and
 -- `find` do.
-use Rattle.std.specs.Prelude.{ℕ, ◌≡◌, ◌≢◌, ◌+◌, ◌-◌, ◌*◌, ◌/◌, ◌%◌, ◌<◌, ◌≤◌, ◌==◌, ◌⊎◌, min, if◌then◌else◌, Option, Some, None, List, [], ◌∷◌, ◌++◌, length, slice_index, slice_index_or, slice_set}
+use Rattle.std.specs.Prelude.{ℕ, ◌≡◌, ◌≢◌, ◌+◌, ◌-◌, ◌*◌, ◌/◌, ◌%◌, ◌<◌, ◌≤◌, ◌==◌, ◌⊎◌, min, if◌then◌else◌, Option, Some, None, List, [], ◌∷◌, length, slice_index, slice_index_or, slice_set}
 use Rattle.std.specs.Hash.DefaultHasher as sip
 use Rattle.std.specs.Int.{w16, w64, to_le_bytes}
-use Rattle.ip_flows.specs.Mapping.{IsOf, after_inbound, after_outbound, inside_of, new_mapping}
+use Rattle.ip_flows.specs.Mapping.{IsOf, after_inbound, after_outbound, new_mapping}
 use Rattle.ip_flows.specs.State.{protocol_of}
 use Rattle.ip_flows.specs.declared.mapping.Ipv4Endpoint.{Ipv4Endpoint}
 use Rattle.ip_flows.specs.declared.mapping.Mapping.{Mapping}
@@ -12,7 +12,6 @@ use Rattle.ip_flows.specs.declared.state.Event.{Event}
 use Rattle.ip_flows.specs.declared.state.Protocol.{Protocol}
 use Rattle.ip_flows.specs.declared.state.Protocol.TheVariants.{Udp, Tcp}
 use Rattle.ip_flows.specs.declared.choice.Choice.{Choice}
-use Rattle.ip_flows.specs.declared.choice.Choice.TheVariants as Choice
 
 -- ---- ports
 
@@ -40,7 +39,7 @@ free_mapping = record {
   remote_port = 0;
   state = 0;
   shared = 0;
-  unused = 0 ∷ 0 ∷ []
+  unused = 0 ∷ 0 ∷ [];
 }
 
 -- the mapping of an outside port
@@ -106,9 +105,9 @@ IsUnmapped nat mappings now protocol inside =
 -- each live mapping lies at a candidate of its inside endpoint, and no endpoint has two live mappings of a protocol
 pub record IsTable (nat : Nat) (mappings : List Mapping) (now : ℕ) : Type 0 where
   pub placed : (protocol : Protocol) (port : ℕ) (inside : Ipv4Endpoint) → MapsTo nat mappings now protocol port inside
-    → IsCandidate nat (length mappings) inside port
+      → IsCandidate nat (length mappings) inside port
   pub apart : (protocol : Protocol) (port other : ℕ) (inside : Ipv4Endpoint) → MapsTo nat mappings now protocol port inside
-    → MapsTo nat mappings now protocol other inside → port ≡ other
+      → MapsTo nat mappings now protocol other inside → port ≡ other
 
 -- ---- calls
 
@@ -116,11 +115,11 @@ pub record IsTable (nat : Nat) (mappings : List Mapping) (now : ℕ) : Type 0 wh
 pub data Chooses (nat : Nat) (mappings : List Mapping) (now : ℕ) (event : Event) (inside remote : Ipv4Endpoint) (port : ℕ) : Mapping → Type 0 where
   -- the first live mapping of the endpoint
   kept : IsFirst (λ p. MapsTo nat mappings now (protocol_of event) p inside) nat (length mappings) inside port
-    → Chooses nat mappings now event inside remote port (after_outbound nat now event remote (mapping_at nat mappings (protocol_of event) port))
+      → Chooses nat mappings now event inside remote port (after_outbound nat now event remote (mapping_at nat mappings (protocol_of event) port))
   -- if there is none, a new one at the first port that is free
   made : IsUnmapped nat mappings now (protocol_of event) inside
-    → IsFirst (IsFree nat mappings now (protocol_of event)) nat (length mappings) inside port
-    → Chooses nat mappings now event inside remote port (after_outbound nat now event remote (new_mapping inside remote))
+      → IsFirst (IsFree nat mappings now (protocol_of event)) nat (length mappings) inside port
+      → Chooses nat mappings now event inside remote port (after_outbound nat now event remote (new_mapping inside remote))
 
 -- `open` gives this outside port, and writes its mapping alone
 pub record Opens (nat : Nat) (old new : List Mapping) (now : ℕ) (event : Event) (inside remote : Ipv4Endpoint) (port : ℕ) : Type 0 where
@@ -138,7 +137,7 @@ IsFull nat mappings now protocol inside =
 pub record Finds (nat : Nat) (old new : List Mapping) (now : ℕ) (event : Event) (port : ℕ) (remote inside : Ipv4Endpoint) : Type 0 where
   pub mapped : MapsTo nat old now (protocol_of event) port inside
   pub becomes : new ≡ slice_set old (place_of nat (protocol_of event) port)
-    (after_inbound nat now event remote (mapping_at nat old (protocol_of event) port))
+      (after_inbound nat now event remote (mapping_at nat old (protocol_of event) port))
 
 -- ---- what a search gives
 

@@ -27,7 +27,14 @@ pub(crate) fn has_port(nat: &Nat, mappings: &[Mapping], port: usize) -> bool
 }
 
 // Returns `true` if the outside port has a live mapping of this inside endpoint.
-fn maps_to(nat: &Nat, mappings: &[Mapping], now: u64, protocol: Protocol, port: usize, inside: &Ipv4Endpoint) -> bool
+fn maps_to(
+    nat: &Nat,
+    mappings: &[Mapping],
+    now: u64,
+    protocol: Protocol,
+    port: usize,
+    inside: &Ipv4Endpoint,
+) -> bool
     ensures { IsTrue result ↔ MapsTo nat.now mappings.now now protocol port inside.now }
 {
     if !has_port(nat, mappings, port) {
@@ -84,7 +91,13 @@ fn free_port(
 }
 
 // The outside port of an inside endpoint.
-pub(crate) fn choose(nat: &Nat, mappings: &[Mapping], now: u64, protocol: Protocol, inside: &Ipv4Endpoint) -> Choice
+pub(crate) fn choose(
+    nat: &Nat,
+    mappings: &[Mapping],
+    now: u64,
+    protocol: Protocol,
+    inside: &Ipv4Endpoint,
+) -> Choice
     ensures { Chosen nat.now mappings.now now protocol inside.now result }
 {
     let own = usize::from(inside.port);

@@ -2,12 +2,13 @@
 #![tactic(auto)]
 
 mod choice;
+pub mod laws;
 mod mapping;
 mod nat;
 mod state;
 mod table;
 
 pub use mapping::{Ipv4Endpoint, Mapping};
-pub use nat::Nat;
+pub use nat::{Nat, TCP_TIMEOUT, TCP_TRANSITORY_TIMEOUT, UDP_TIMEOUT};
 pub use state::{Event, Protocol, TcpState};
 pub use table::{find, open};

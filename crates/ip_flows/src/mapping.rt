@@ -66,7 +66,10 @@ impl Mapping {
     pub fn inside(&self) -> Ipv4Endpoint
         ensures { result ≡ inside_of self.now }
     {
-        Ipv4Endpoint { addr: Ipv4Address::from_octets(self.inside), port: self.inside_port }
+        Ipv4Endpoint {
+            addr: Ipv4Address::from_octets(self.inside),
+            port: self.inside_port,
+        }
     }
 
     // Returns `true` if this is the inside endpoint.
@@ -91,7 +94,13 @@ impl Mapping {
     }
 
     // The mapping after its inside endpoint sent a packet to this remote endpoint.
-    pub(crate) fn after_outbound(&self, nat: &Nat, now: u64, event: Event, remote: &Ipv4Endpoint) -> Mapping
+    pub(crate) fn after_outbound(
+        &self,
+        nat: &Nat,
+        now: u64,
+        event: Event,
+        remote: &Ipv4Endpoint,
+    ) -> Mapping
         ensures { result ≡ after_outbound nat.now now event remote.now self.now }
     {
         let shared = self.is_shared(remote);
@@ -109,14 +118,22 @@ impl Mapping {
     }
 
     // The mapping after this remote endpoint sent a packet to its outside port.
-    pub(crate) fn after_inbound(&self, nat: &Nat, now: u64, event: Event, remote: &Ipv4Endpoint) -> Mapping
+    pub(crate) fn after_inbound(
+        &self,
+        nat: &Nat,
+        now: u64,
+        event: Event,
+        remote: &Ipv4Endpoint,
+    ) -> Mapping
         ensures { result ≡ after_inbound nat.now now event remote.now self.now }
     {
         if !event.ends_connection() || self.is_shared(remote) {
             return *self;
         }
         Mapping {
-            expires: self.expires.min(expiry(now, nat.timeout(Protocol::Tcp, TcpState::Closing))),
+            expires: self
+                .expires
+                .min(expiry(now, nat.timeout(Protocol::Tcp, TcpState::Closing))),
             inside: self.inside,
             remote: self.remote,
             inside_port: self.inside_port,

@@ -6,7 +6,17 @@ ghost use Rattle.ip_flows.specs.Table.{hash_of, place_of, ports, run_len, run_st
 
 use crate::mapping::{Ipv4Endpoint, Mapping};
 use crate::state::{Protocol, TcpState};
+use ip_wire::Ipv4Address;
 use std::hash::{DefaultHasher, Hasher};
+
+/// The usual time-out of UDP: 5 minutes (RFC 4787, REQ-5).
+pub const UDP_TIMEOUT: u64 = 300_000;
+
+/// The usual time-out of an established TCP connection: 2 hours and 4 minutes (RFC 5382, REQ-5).
+pub const TCP_TIMEOUT: u64 = 7_440_000;
+
+/// The usual time-out of a TCP connection that opens or closes: 4 minutes (RFC 5382, REQ-5).
+pub const TCP_TRANSITORY_TIMEOUT: u64 = 240_000;
 
 // The candidates of an endpoint, without its own port.
 const RUN_LEN: usize = 63;
@@ -32,6 +42,22 @@ pub struct Nat {
 }
 
 impl Nat {
+    /// A NAT with the usual time-outs.
+    pub fn new(key: [u64; 2], outside: Ipv4Address, first_port: u16) -> Nat
+        ensures { result ≡ record { key = key; udp_timeout = 300000; tcp_timeout = 7440000; tcp_transitory_timeout = 240000;
+            outside = outside; first_port = first_port; unused = 0 } }
+    {
+        Nat {
+            key,
+            udp_timeout: UDP_TIMEOUT,
+            tcp_timeout: TCP_TIMEOUT,
+            tcp_transitory_timeout: TCP_TRANSITORY_TIMEOUT,
+            outside: outside.octets(),
+            first_port,
+            unused: 0,
+        }
+    }
+
     // The time-out of a mapping in this state.
     pub(crate) fn timeout(&self, protocol: Protocol, state: TcpState) -> u64
         ensures { result ≡ timeout_of self.now protocol state }

@@ -1,8 +1,4 @@
 use Rattle.std.proofs.Common.{refl}
-use Rattle.std.proofs.Math.ListN.{set}
-use Rattle.ip_flows.specs.State.{protocol_of}
-use Rattle.ip_flows.specs.Table.{IsTable, Opens, place_of}
-use Rattle.ip_flows.specs.declared.mapping.Mapping.{Mapping}
 use Rattle.ip_flows.proofs.Calls.{found-table}
 use Rattle.ip_flows.proofs.table.find.Goals as goal
 

@@ -1,8 +1,3 @@
-use Rattle.std.proofs.Common.{ℕ, ◌≡◌, List, sym, subst}
-use Rattle.std.proofs.Math.ListN.{set}
-use Rattle.ip_flows.specs.State.{protocol_of}
-use Rattle.ip_flows.specs.Table.{IsTable, Opens, place_of}
-use Rattle.ip_flows.specs.declared.mapping.Mapping.{Mapping}
 use Rattle.ip_flows.proofs.Calls.{kept-opens, kept-table, made-opens, new-table}
 use Rattle.ip_flows.proofs.table.open.Goals as goal
 
