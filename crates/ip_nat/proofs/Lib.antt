@@ -1,5 +1,6 @@
 pub mod Ends
 pub mod Headers
+pub mod Mapped
 pub mod Payloads
 pub mod Residues
 pub mod TcpEnds

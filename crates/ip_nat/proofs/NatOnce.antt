@@ -6,7 +6,7 @@ use Rattle.ip_nat.specs.declared.packet.Packet.{Packet}
 use Rattle.ip_nat.proofs.Undone.{undone}
 use Rattle.ip_wire.proofs.Spelled.{AreBytes}
 use Rattle.ip_nat.specs.declared.nat.Rejection.{Rejection}
-use Rattle.ip_nat.specs.declared.nat.Rejection.TheVariants.{NotIpv4, BadHeader, WrongChecksum, Fragment, OtherProtocol, BadTransport, ZeroPort}
+use Rattle.ip_nat.specs.declared.nat.Rejection.TheVariants.{NotIpv4, BadHeader, WrongChecksum, Fragment, OtherProtocol, BadTransport, ZeroPort, NoMapping, NoFreePort}
 use Rattle.ip_nat.specs.declared.nat.Side.{Side}
 use Rattle.ip_nat.specs.declared.nat.Side.TheVariants.{Source, Destination}
 use Rattle.ip_wire.proofs.EthernetComputed.{ethernet_of-Reads}
@@ -40,7 +40,11 @@ reason-once : (bytes : List ℕ) (r s : Rejection) → IsRejectedPacket bytes r 
 reason-once bytes NotIpv4 s a b = absurd a
 reason-once bytes r NotIpv4 a b = absurd b
 reason-once bytes ZeroPort s (v, p, none) b = absurd none
+reason-once bytes NoMapping s (v, p, none) b = absurd none
+reason-once bytes NoFreePort s (v, p, none) b = absurd none
 reason-once bytes r ZeroPort a (v, p, none) = absurd none
+reason-once bytes r NoMapping a (v, p, none) = absurd none
+reason-once bytes r NoFreePort a (v, p, none) = absurd none
 reason-once bytes BadHeader BadHeader a b = refl
 reason-once bytes BadHeader WrongChecksum none ((v, reads), wrong) = absurd (none v reads)
 reason-once bytes BadHeader Fragment none ((v, reads), part) = absurd (none v (unverified bytes v reads))
@@ -94,6 +98,8 @@ carried-unrejected bytes v t BadHeader c none = none v (unverified bytes v c.rea
 carried-unrejected bytes v t WrongChecksum c (read, wrong) = wrong (c.reads.0.checksum refl)
 carried-unrejected bytes v t Fragment c (read, part) = true≢false (sym part ∙ c.reads.1)
 carried-unrejected bytes v t ZeroPort c (w, p, none) = none
+carried-unrejected bytes v t NoMapping c (w, p, none) = none
+carried-unrejected bytes v t NoFreePort c (w, p, none) = none
 carried-unrejected bytes v t OtherProtocol c (w, p, rest) =
     let none = moved bytes w v (other (ipv4_payload bytes)) p.0 c.reads.0 rest in
     subst HasPorts (transport-once all_checked v.next_header (address.Ipv4 v.src_addr) (address.Ipv4 v.dst_addr) (ipv4_payload bytes) t (other (ipv4_payload bytes)) c.carries none) c.ports

@@ -50,8 +50,12 @@ pub enum Rejection {
     OtherProtocol,
     /// The UDP or TCP header does not parse, or its checksum is wrong.
     BadTransport,
-    /// The port to write is 0, and a receiver would reject it.
+    /// The port to write is 0, and a receiver would reject it. For `translate_out`: the source port is 0.
     ZeroPort,
+    /// The destination is not the outside address, or no live mapping has its port.
+    NoMapping,
+    /// No outside port is free for the source.
+    NoFreePort,
 }
 
 /// Writes an address and a port into the UDP or TCP packet of a frame over IPv4, and updates the

@@ -2,11 +2,13 @@
 
 ghost use Rattle.std.specs.Prelude.{◌≡◌, ◌↔◌, IfErr, IfOk, IsTrue, true};
 ghost use Rattle.ip_nat.specs.Nat.{AllowsPort, CarriesPorts, Describes, HasPorts, IsPacket, IsRejected, IsRejectedPacket, IsRejectedTransport};
+ghost use Rattle.ip_nat.specs.Flows.{destination_of, event_of, source_of};
 ghost use Rattle.ip_wire.specs.Frame as whole;
 ghost use Rattle.ip_wire.specs.Frame.{ReadsTransport, all_checked};
 ghost use Rattle.ip_wire.specs.Ipv4 as ipv4;
 
 use crate::nat::{Rejection, Side};
+use ip_flows::{Event, Ipv4Endpoint};
 use ip_wire::{
     ETHERNET_HEADER_LEN, EthernetFrame, EthernetProtocol, EthernetRepr, IpRepr, Ipv4Packet,
     Ipv4Repr, TcpControl, Transport,
@@ -37,6 +39,34 @@ impl Packet {
         match link.ethertype {
             EthernetProtocol::Ipv4 => parse_packet(&frame[ETHERNET_HEADER_LEN..]),
             _ => Err(Rejection::NotIpv4),
+        }
+    }
+
+    pub fn src(&self) -> Ipv4Endpoint
+        ensures { result ≡ source_of self.now }
+    {
+        Ipv4Endpoint {
+            addr: self.header.src_addr,
+            port: self.src_port,
+        }
+    }
+
+    pub fn dst(&self) -> Ipv4Endpoint
+        ensures { result ≡ destination_of self.now }
+    {
+        Ipv4Endpoint {
+            addr: self.header.dst_addr,
+            port: self.dst_port,
+        }
+    }
+
+    /// What a table of mappings looks at: the protocol, and the control flag of a TCP segment.
+    pub fn event(&self) -> Event
+        ensures { result ≡ event_of self.now }
+    {
+        match self.control {
+            Some(control) => Event::Tcp(control),
+            None => Event::Udp,
         }
     }
 
