@@ -1,5 +1,6 @@
 pub mod Ends
 pub mod Headers
+pub mod Mapped
 pub mod Payloads
 pub mod Residues
 pub mod TcpEnds
@@ -7,4 +8,4 @@ pub mod Translates
 pub mod UdpEnds
 pub mod Undone
 pub mod Words
-mod NatOnce
+pub mod NatOnce

@@ -1,17 +1,21 @@
 -- A frame has one result of a translation, or one reason of a rejection.
-use Rattle.std.proofs.Common.{◌≡◌, ◌∙◌, true, false, List, ℕ, Option, Some, None, drop, refl, sym, ap, subst, true≢false}
+use Rattle.std.proofs.Common.{◌≡◌, ◌∙◌, ◌<◌, true, false, List, ℕ, Option, Some, None, Result, Ok, Err, IfOk, IfErr, drop, length, refl, sym, ap, subst, true≢false}
 use Rattle.ip_nat.proofs.Translates.{carried}
-use Rattle.ip_nat.specs.Nat.{CarriesPorts, HasPorts, IsIpv4Frame, IsRejected, IsRejectedPacket, IsTranslated}
+use Rattle.ip_nat.specs.Nat.{AllowsPort, Carries, CarriesPorts, HasPorts, IsIpv4Frame, IsRejected, IsRejectedPacket, IsTranslated, IsUntranslated, with_addr, with_port, addr_of, port_of, on_side, Describes, HasUsualChecksums, IsPacket}
+use Rattle.ip_nat.specs.declared.packet.Packet.{Packet}
+use Rattle.ip_nat.proofs.Undone.{undone}
+use Rattle.ip_wire.proofs.Spelled.{AreBytes}
 use Rattle.ip_nat.specs.declared.nat.Rejection.{Rejection}
-use Rattle.ip_nat.specs.declared.nat.Rejection.TheVariants.{NotIpv4, BadHeader, WrongChecksum, Fragment, OtherProtocol, BadTransport}
+use Rattle.ip_nat.specs.declared.nat.Rejection.TheVariants.{NotIpv4, BadHeader, WrongChecksum, Fragment, OtherProtocol, BadTransport, ZeroPort, NoMapping, NoFreePort}
 use Rattle.ip_nat.specs.declared.nat.Side.{Side}
+use Rattle.ip_nat.specs.declared.nat.Side.TheVariants.{Source, Destination}
 use Rattle.ip_wire.proofs.EthernetComputed.{ethernet_of-Reads}
 use Rattle.ip_wire.proofs.Ipv4Changed.{reads-verified}
 use Rattle.ip_wire.proofs.Ipv4Computed.{ipv4_of-Reads}
 use Rattle.ip_wire.proofs.ReadsOnce.{computed-one, transport-once}
 use Rattle.ip_wire.specs.Ethernet as ethernet
 use Rattle.ip_wire.specs.Ethernet.{ethernet_of}
-use Rattle.ip_wire.specs.Frame.{ReadsTransport, Transport, all_checked, ipv4_payload, other}
+use Rattle.ip_wire.specs.Frame.{ReadsTransport, Transport, all_checked, datagram, ipv4_payload, other, segment}
 use Rattle.ip_wire.specs.Ipv4 as ipv4
 use Rattle.ip_wire.specs.Types.{EthernetProtocol, EthernetRepr, Ipv4, Ipv4Repr}
 use Rattle.ip_wire.specs.declared.EthernetProtocol.TheVariants as ethertype
@@ -35,6 +39,12 @@ moved bytes v w t a b = subst (λ x. ReadsTransport all_checked (Ipv4 x) (ipv4_p
 reason-once : (bytes : List ℕ) (r s : Rejection) → IsRejectedPacket bytes r → IsRejectedPacket bytes s → r ≡ s
 reason-once bytes NotIpv4 s a b = absurd a
 reason-once bytes r NotIpv4 a b = absurd b
+reason-once bytes ZeroPort s (v, p, none) b = absurd none
+reason-once bytes NoMapping s (v, p, none) b = absurd none
+reason-once bytes NoFreePort s (v, p, none) b = absurd none
+reason-once bytes r ZeroPort a (v, p, none) = absurd none
+reason-once bytes r NoMapping a (v, p, none) = absurd none
+reason-once bytes r NoFreePort a (v, p, none) = absurd none
 reason-once bytes BadHeader BadHeader a b = refl
 reason-once bytes BadHeader WrongChecksum none ((v, reads), wrong) = absurd (none v reads)
 reason-once bytes BadHeader Fragment none ((v, reads), part) = absurd (none v (unverified bytes v reads))
@@ -87,13 +97,94 @@ carried-unrejected bytes v t NotIpv4 c why = why
 carried-unrejected bytes v t BadHeader c none = none v (unverified bytes v c.reads.0)
 carried-unrejected bytes v t WrongChecksum c (read, wrong) = wrong (c.reads.0.checksum refl)
 carried-unrejected bytes v t Fragment c (read, part) = true≢false (sym part ∙ c.reads.1)
+carried-unrejected bytes v t ZeroPort c (w, p, none) = none
+carried-unrejected bytes v t NoMapping c (w, p, none) = none
+carried-unrejected bytes v t NoFreePort c (w, p, none) = none
 carried-unrejected bytes v t OtherProtocol c (w, p, rest) =
     let none = moved bytes w v (other (ipv4_payload bytes)) p.0 c.reads.0 rest in
     subst HasPorts (transport-once all_checked v.next_header (address.Ipv4 v.src_addr) (address.Ipv4 v.dst_addr) (ipv4_payload bytes) t (other (ipv4_payload bytes)) c.carries none) c.ports
 carried-unrejected bytes v t BadTransport c (w, p, bad) = bad t (moved bytes v w t c.reads.0 p.0 c.carries)
 
-translated-unrejected : (old new : List ℕ) (side : Side) (addr : List ℕ) (port : ℕ) (r : Rejection) → IsTranslated old new side addr port → ¬ IsRejected old r
-translated-unrejected old new side addr port r a why =
-    let reads = a.before.reads in
-    let is : IsIpv4Frame old a.link = record { reads = reads.reads_header; names = reads.reads_carried.0 } in
-    carried-unrejected (drop 14 old) a.header a.transport r (carried old a.link a.header a.transport a.before) (why.whole a.link is)
+carries-unrejected : (frame : List ℕ) (link : EthernetRepr) (v : Ipv4Repr) (t : Transport) (r : Rejection) → Carries frame link v t → ¬ IsRejected frame r
+carries-unrejected frame link v t r c why =
+    let is : IsIpv4Frame frame link = record { reads = c.reads.reads_header; names = c.reads.reads_carried.0 } in
+    carried-unrejected (drop 14 frame) v t r (carried frame link v t c) (why.whole link is)
+
+-- a frame carries one transport
+transport-of-one : (frame : List ℕ) (k l : EthernetRepr) (v w : Ipv4Repr) (t u : Transport) → Carries frame k v t → Carries frame l w u → t ≡ u
+transport-of-one frame k l v w t u a b =
+    let bytes = drop 14 frame in
+    let p = carried frame k v t a in
+    let q = carried frame l w u b in
+    transport-once all_checked v.next_header (address.Ipv4 v.src_addr) (address.Ipv4 v.dst_addr) (ipv4_payload bytes) t u p.carries (moved bytes w v u q.reads.0 p.reads.0 q.carries)
+
+-- a port that was parsed is accepted
+allowed : (v : Ipv4Repr) (bytes : List ℕ) (side : Side) (port : ℕ) (t : Transport) → HasPorts t → ReadsTransport all_checked (Ipv4 v) bytes (with_port side port t)
+    → AllowsPort side t port
+allowed v bytes Source port (datagram u payload) h r = tt
+allowed v bytes Destination port (datagram u payload) h r = λ zero. r.1.receiver (sym r.1.dst_port ∙ zero)
+allowed v bytes Source port (segment u payload) h r = λ zero. r.1.sender (sym r.1.src_port ∙ zero)
+allowed v bytes Destination port (segment u payload) h r = λ zero. r.1.receiver (sym r.1.dst_port ∙ zero)
+allowed v bytes side port (other payload) h r = absurd h
+
+translated-unrejected : (old new : List ℕ) (side : Side) (addr : List ℕ) (port : ℕ) (r : Rejection) → IsTranslated old new side addr port → ¬ IsUntranslated old side port r
+translated-unrejected old new side addr port ZeroPort a why =
+    let after = carried new a.link (with_addr side addr a.header) (with_port side port a.transport) a.after in
+    let accepts = allowed (with_addr side addr a.header) (ipv4_payload (drop 14 new)) side port a.transport a.before.ports after.carries in
+    why.refused (subst (λ t. AllowsPort side t port) (transport-of-one old a.link why.link a.header why.header a.transport why.transport a.before why.carries) accepts)
+translated-unrejected old new side addr port r a why = carries-unrejected old a.link a.header a.transport r a.before why
+
+-- ---- the way back
+
+-- the port of a packet on a side
+described-port : (side : Side) (p : Packet) (t : Transport) → Describes p t → on_side p.src_port p.dst_port side ≡ port_of side t
+described-port Source p t d = d.src_port
+described-port Destination p t d = d.dst_port
+
+-- a frame carries one header
+header-of-one : (frame : List ℕ) (k l : EthernetRepr) (v w : Ipv4Repr) (t u : Transport) → Carries frame k v t → Carries frame l w u → v ≡ w
+header-of-one frame k l v w t u a b = header-once (drop 14 frame) v w (carried frame k v t a).reads.0 (carried frame l w u b).reads.0
+
+-- the port that a transport had is accepted after another one was written
+allowed-back : (v : Ipv4Repr) (bytes : List ℕ) (side : Side) (port : ℕ) (t : Transport) → HasPorts t → ReadsTransport all_checked (Ipv4 v) bytes t
+    → AllowsPort side (with_port side port t) (port_of side t)
+allowed-back v bytes Source port (datagram u payload) h r = tt
+allowed-back v bytes Destination port (datagram u payload) h r = λ zero. r.1.receiver (sym r.1.dst_port ∙ zero)
+allowed-back v bytes Source port (segment u payload) h r = λ zero. r.1.sender (sym r.1.src_port ∙ zero)
+allowed-back v bytes Destination port (segment u payload) h r = λ zero. r.1.receiver (sym r.1.dst_port ∙ zero)
+allowed-back v bytes side port (other payload) h r = absurd h
+
+-- a translated frame may get its port back
+back-untranslated : (old new : List ℕ) (side : Side) (addr : List ℕ) (port : ℕ) (r : Rejection) (was : IsTranslated old new side addr port)
+    → ¬ IsUntranslated new side (port_of side was.transport) r
+back-untranslated old new side addr port ZeroPort was why =
+    let v = was.header in
+    let t = was.transport in
+    let read = carried old was.link v t was.before in
+    let accepts = allowed-back v (ipv4_payload (drop 14 old)) side port t was.before.ports read.carries in
+    let same = transport-of-one new was.link why.link (with_addr side addr v) why.header (with_port side port t) why.transport was.after why.carries in
+    why.refused (subst (λ u. AllowsPort side u (port_of side t)) same accepts)
+back-untranslated old new side addr port r was why = carries-unrejected new was.link (with_addr side addr was.header) (with_port side port was.transport) r was.after why
+
+-- the result of the way back, for the address and the port of the packet that the frame carried
+pub goes-back : {T : Type 0} (answer : Result T Rejection) (old new back : List ℕ) (p : Packet) (side : Side) (addr was_addr : List ℕ) (port was_port : ℕ) → IsPacket old p
+    → IsTranslated old new side addr port → was_addr ≡ addr_of side p.header → was_port ≡ on_side p.src_port p.dst_port side
+    → AreBytes old → length addr ≡ 4 → port < 65536 → HasUsualChecksums old
+    → IfOk answer (λ _. IsTranslated new back side was_addr was_port) → IfErr answer (IsUntranslated new side was_port)
+    → (back ≡ old) × IfErr answer (λ _. ⊥)
+goes-back (Ok v) old new back p side addr was_addr port was_port is was at from are four fits usual done why =
+    let same_header = header-of-one old is.link was.link p.header was.header is.transport was.transport is.carries was.before in
+    let same_transport = transport-of-one old is.link was.link p.header was.header is.transport was.transport is.carries was.before in
+    let to_addr : was_addr ≡ addr_of side was.header = at ∙ ap (addr_of side) same_header in
+    let to_port : was_port ≡ port_of side was.transport = from ∙ described-port side p is.transport is.described ∙ ap (port_of side) same_transport in
+    (undone old new back side addr port was are four fits usual (rw (sym to_addr, sym to_port) done), tt)
+goes-back (Err r) old new back p side addr was_addr port was_port is was at from are four fits usual done why =
+    let same_transport = transport-of-one old is.link was.link p.header was.header is.transport was.transport is.carries was.before in
+    let to_port : was_port ≡ port_of side was.transport = from ∙ described-port side p is.transport is.described ∙ ap (port_of side) same_transport in
+    absurd (back-untranslated old new side addr port r was (subst (λ (k : ℕ). IsUntranslated new side k r) to_port why))
+
+untranslated-once : (frame : List ℕ) (side : Side) (port : ℕ) (r s : Rejection) → IsUntranslated frame side port r → IsUntranslated frame side port s → r ≡ s
+untranslated-once frame side port ZeroPort ZeroPort a b = refl
+untranslated-once frame side port ZeroPort s a b = absurd (carries-unrejected frame a.link a.header a.transport s a.carries b)
+untranslated-once frame side port r ZeroPort a b = absurd (carries-unrejected frame b.link b.header b.transport r b.carries a)
+untranslated-once frame side port r s a b = rejected-once frame r s a b

@@ -20,9 +20,9 @@ use Rattle.ip_nat.proofs.Headers.{keeps, reads-inner, same-inner}
 use Rattle.ip_nat.proofs.Payloads.{drop-front, range-len, range-part}
 use Rattle.ip_nat.proofs.TcpEnds.{tcp-len}
 use Rattle.ip_nat.proofs.UdpEnds.{udp-ended}
-use Rattle.ip_nat.specs.Nat.{Carries, CarriesPorts, HasPorts, IsIpv4Frame, IsRejected, IsRejectedPacket, IsTranslated, LacksChecksum, Rewrites, addr_at, addr_of, port_bit, translated_packet, with_addr, with_address, with_end, with_end_by, with_port}
+use Rattle.ip_nat.specs.Nat.{AllowsPort, Carries, CarriesPorts, HasPorts, IsIpv4Frame, IsRejected, IsRejectedPacket, IsTranslated, IsUntranslated, LacksChecksum, RefusesPort, Rewrites, addr_at, addr_of, port_bit, translated_packet, with_addr, with_address, with_end, with_end_by, with_port}
 use Rattle.ip_nat.specs.declared.nat.Rejection.{Rejection}
-use Rattle.ip_nat.specs.declared.nat.Rejection.TheVariants.{NotIpv4}
+use Rattle.ip_nat.specs.declared.nat.Rejection.TheVariants.{NotIpv4, ZeroPort}
 use Rattle.ip_nat.specs.declared.nat.Side.{Side}
 use Rattle.ip_nat.specs.declared.nat.Side.TheVariants.{Source, Destination}
 
@@ -80,17 +80,17 @@ ended-by update side on v old mid done new addr port is at first second =
 pub rewrites-udp : (v : Ipv4Repr) (old new : List ℕ) (side : Side) (addr : List ℕ) (port : ℕ) → v.next_header ≡ protocol.Udp
     → ((u : UdpRepr) (payload : List ℕ) → Rewrites v old new side addr port (datagram u payload))
     → (t : Transport) → Rewrites v old new side addr port t
-rewrites-udp v old new side addr port is step (datagram u payload) r = step u payload r
-rewrites-udp v old new side addr port is step (segment u payload) r = let differs : protocol.Udp ≡ protocol.Tcp = sym is ∙ r.0 in absurd (cc)
-rewrites-udp v old new side addr port is step (other payload) r = absurd (r.0 is)
+rewrites-udp v old new side addr port is step (datagram u payload) a r = step u payload a r
+rewrites-udp v old new side addr port is step (segment u payload) a r = let differs : protocol.Udp ≡ protocol.Tcp = sym is ∙ r.0 in absurd (cc)
+rewrites-udp v old new side addr port is step (other payload) a r = absurd (r.0 is)
 
 -- the translated payload of a TCP packet is its translated segment
 pub rewrites-tcp : (v : Ipv4Repr) (old new : List ℕ) (side : Side) (addr : List ℕ) (port : ℕ) → v.next_header ≡ protocol.Tcp
     → ((u : TcpHeader) (payload : List ℕ) → Rewrites v old new side addr port (segment u payload))
     → (t : Transport) → Rewrites v old new side addr port t
-rewrites-tcp v old new side addr port is step (datagram u payload) r = let differs : protocol.Tcp ≡ protocol.Udp = sym is ∙ r.0 in absurd (cc)
-rewrites-tcp v old new side addr port is step (segment u payload) r = step u payload r
-rewrites-tcp v old new side addr port is step (other payload) r = absurd (r.1 is)
+rewrites-tcp v old new side addr port is step (datagram u payload) a r = let differs : protocol.Tcp ≡ protocol.Udp = sym is ∙ r.0 in absurd (cc)
+rewrites-tcp v old new side addr port is step (segment u payload) a r = step u payload a r
+rewrites-tcp v old new side addr port is step (other payload) a r = absurd (r.1 is)
 
 -- ---- the packet
 
@@ -117,11 +117,11 @@ inner-payload bytes part v r e =
 
 -- a packet with a new payload, then with a new address
 pub packet-carries : (bytes part new : List ℕ) (v : Ipv4Repr) (side : Side) (addr : List ℕ) (port : ℕ) (t : Transport) → length addr ≡ 4
-    → CarriesPorts bytes v t → length part ≡ length (ipv4_payload bytes) → Rewrites v (ipv4_payload bytes) part side addr port t
+    → AllowsPort side t port → CarriesPorts bytes v t → length part ≡ length (ipv4_payload bytes) → Rewrites v (ipv4_payload bytes) part side addr port t
     → new ≡ with_address side addr (with_range bytes (ipv4.header_len bytes) (ipv4.total_len bytes) part)
     → ((w : Ipv4Repr) → ipv4.Reads (with_range bytes (ipv4.header_len bytes) (ipv4.total_len bytes) part) true w → ipv4.Reads new true (with_addr side addr w))
     → CarriesPorts new (with_addr side addr v) (with_port side port t)
-packet-carries bytes part new v side addr port t four c e rewrites at step =
+packet-carries bytes part new v side addr port t four allowed c e rewrites at step =
     let h = ipv4.header_len bytes in
     let n = ipv4.total_len bytes in
     let r = c.reads.0 in
@@ -134,7 +134,7 @@ packet-carries bytes part new v side addr port t four c e rewrites at step =
     let payload : ipv4_payload new ≡ part = ap ipv4_payload at ∙ k.payload ∙ inner-payload bytes part v r e in
     record {
       reads = (step v (reads-inner bytes part v r len), fragment);
-      carries = subst (λ (l : List ℕ). ReadsTransport all_checked (Ipv4 (with_addr side addr v)) l (with_port side port t)) (sym payload) (rewrites c.carries);
+      carries = subst (λ (l : List ℕ). ReadsTransport all_checked (Ipv4 (with_addr side addr v)) l (with_port side port t)) (sym payload) (rewrites allowed c.carries);
       ports = has_ports side port t c.ports;
     }
 
@@ -155,7 +155,7 @@ packet-bytes bytes part new v side addr port r is at =
 
 -- the same for a packet that is written
 pub record IsWritten (side : Side) (v : Ipv4Repr) (bytes new addr : List ℕ) (port : ℕ) : Type 0 where
-  pub carries : (t : Transport) → CarriesPorts bytes v t → CarriesPorts new (with_addr side addr v) (with_port side port t)
+  pub carries : (t : Transport) → AllowsPort side t port → CarriesPorts bytes v t → CarriesPorts new (with_addr side addr v) (with_port side port t)
   pub as_said : new ≡ translated_packet side addr port bytes
 
 pub written : (side : Side) (v : Ipv4Repr) (bytes part new addr : List ℕ) (port : ℕ) → length addr ≡ 4 → ipv4.Reads bytes true v → length part ≡ length (ipv4_payload bytes)
@@ -164,7 +164,7 @@ pub written : (side : Side) (v : Ipv4Repr) (bytes part new addr : List ℕ) (por
     → ((w : Ipv4Repr) → ipv4.Reads (with_range bytes (ipv4.header_len bytes) (ipv4.total_len bytes) part) true w → ipv4.Reads new true (with_addr side addr w))
     → IsWritten side v bytes new addr port
 written side v bytes part new addr port four r e rewrites is at step = record {
-  carries = λ t c. packet-carries bytes part new v side addr port t four c e (rewrites t) at step;
+  carries = λ t a c. packet-carries bytes part new v side addr port t four a c e (rewrites t) at step;
   as_said = packet-bytes bytes part new v side addr port r is at;
 }
 
@@ -279,6 +279,17 @@ other-rejected frame answer link reads is names = record {
   short = λ _. refl;
 }
 
+-- a frame that is not parsed is not translated, for the same reason
+pub untranslated : (frame : List ℕ) (side : Side) (port : ℕ) (reason : Rejection) → IsRejected frame reason → IsUntranslated frame side port reason
+untranslated frame side port ZeroPort why = let other : ZeroPort ≡ NotIpv4 = why.short (λ link is. (why.whole link is).2) in absurd (cc)
+untranslated frame side port _ why = why
+
+-- a frame whose port is refused is not translated
+pub refused : {T : Type 0} (answer : Result T Rejection) (frame : List ℕ) (side : Side) (port : ℕ) → IfErr answer (λ reason. reason ≡ ZeroPort)
+    → IfErr answer (λ _. RefusesPort frame side port) → IfErr answer (IsUntranslated frame side port)
+refused (Ok v) frame side port is why = tt
+refused (Err reason) frame side port is why = subst (IsUntranslated frame side port) (sym is) why
+
 -- an IPv4 packet that does not parse is rejected for its header
 pub bad-header : (bytes : List ℕ) (answer : Result Ipv4Repr Error) (error : Error)
     → ((v : Ipv4Repr) → (answer ≡ Ok v) ↔ ipv4.Reads bytes false v) → answer ≡ Err error → (v : Ipv4Repr) → ¬ ipv4.Reads bytes false v
@@ -290,6 +301,6 @@ if-err (Ok v) P Q implies h = h
 if-err (Err e) P Q implies h = implies e h
 
 -- if P implies Q, a value with P has Q
-pub if-ok : (answer : Result Ipv4Repr Rejection) (P Q : Ipv4Repr → Type 0) → ((v : Ipv4Repr) → P v → Q v) → IfOk answer P → IfOk answer Q
+pub if-ok : {T : Type 0} (answer : Result T Rejection) (P Q : T → Type 0) → ((v : T) → P v → Q v) → IfOk answer P → IfOk answer Q
 if-ok (Ok v) P Q implies h = implies v h
 if-ok (Err e) P Q implies h = h

@@ -1,11 +1,12 @@
 -- Network address translation of one address and port (RFC 3022, sections 2.2 and 4.1), with updated checksums (RFC 1624).
-use Rattle.std.specs.Prelude.{ℕ, ⊤, ◌≡◌, ◌≢◌, ◌↔◌, ◌++◌, IsTrue, false, true, List, drop, take, slice_range}
+use Rattle.std.specs.Prelude.{ℕ, ⊤, ◌≡◌, ◌≢◌, ◌↔◌, ◌++◌, IsTrue, false, true, List, Option, Some, None, drop, take, slice_range}
 use Rattle.ip_wire.specs.Ethernet as ethernet
 use Rattle.ip_wire.specs.Field.{field, with_field, with_range}
 use Rattle.ip_wire.specs.Frame.{IsReadWhole, ReadsPacket, ReadsTransport, Transport, all_checked, datagram, ipv4_payload, other, packet, segment}
 use Rattle.ip_wire.specs.Ipv4 as ipv4
 use Rattle.ip_wire.specs.Protocol.{protocol_of}
 use Rattle.ip_wire.specs.Tcp as tcp
+use Rattle.ip_wire.specs.declared.TcpControl.{TcpControl}
 use Rattle.ip_wire.specs.TcpRepr.{TcpHeader}
 use Rattle.ip_wire.specs.Udp as udp
 use Rattle.ip_wire.specs.WordSum.{sum_of_bytes}
@@ -13,9 +14,10 @@ use Rattle.ip_wire.specs.declared.EthernetProtocol.TheVariants as ethertype
 use Rattle.ip_wire.specs.Types.{EthernetRepr, IpProtocol, Ipv4, Ipv4Repr, UdpRepr}
 use Rattle.ip_wire.specs.declared.IpProtocol.TheVariants as protocol
 use Rattle.ip_nat.specs.declared.nat.Rejection.{Rejection}
-use Rattle.ip_nat.specs.declared.nat.Rejection.TheVariants.{NotIpv4, BadHeader, WrongChecksum, Fragment, OtherProtocol, BadTransport}
+use Rattle.ip_nat.specs.declared.nat.Rejection.TheVariants.{NotIpv4, BadHeader, WrongChecksum, Fragment, OtherProtocol, BadTransport, ZeroPort}
 use Rattle.ip_nat.specs.declared.nat.Side.{Side}
 use Rattle.ip_nat.specs.declared.nat.Side.TheVariants.{Source, Destination}
+use Rattle.ip_nat.specs.declared.packet.Packet.{Packet}
 
 -- ---- values
 
@@ -64,6 +66,23 @@ port_of side t = (ports_of t).at side
 
 abbrev pub with_port : Side → ℕ → Transport → Transport
 with_port side port t = (ports_of t).replaced side port
+
+-- a receiver accepts this port on this side: any source port of a UDP packet, where 0 means that no reply is expected
+-- (RFC 768), else any port but 0
+abbrev pub AllowsPort : Side → Transport → ℕ → Type 0
+AllowsPort Source (datagram v payload) port = ⊤
+AllowsPort _ _ port = port ≢ 0
+
+-- the control flag of a TCP segment
+abbrev pub control_of : Transport → Option TcpControl
+control_of (segment v payload) = Some v.control
+control_of _ = None
+
+-- the ports and the control flag of this packet are those of the transport
+pub record Describes (p : Packet) (transport : Transport) : Type 0 where
+  pub src_port : p.src_port ≡ port_of Source transport
+  pub dst_port : p.dst_port ≡ port_of Destination transport
+  pub control : p.control ≡ control_of transport
 
 -- ---- bytes
 
@@ -128,11 +147,12 @@ pub record CarriesPorts (bytes : List ℕ) (header : Ipv4Repr) (transport : Tran
   pub carries : ReadsTransport all_checked (Ipv4 header) (ipv4_payload bytes) transport
   pub ports : HasPorts transport
 
--- bytes that parse as this transport behind this header parse after the change as the transport with the other port,
--- behind the header with the other address
+-- if a receiver accepts the other port: bytes that parse as this transport behind this header parse after the change as the
+-- transport with the other port, behind the header with the other address
 abbrev pub Rewrites : Ipv4Repr → List ℕ → List ℕ → Side → List ℕ → ℕ → Transport → Type 0
 Rewrites header old new side addr port transport =
-    ReadsTransport all_checked (Ipv4 header) old transport
+    AllowsPort side transport port
+    → ReadsTransport all_checked (Ipv4 header) old transport
     → ReadsTransport all_checked (Ipv4 (with_addr side addr header)) new (with_port side port transport)
 
 -- the frame has this Ethernet header, with EtherType IPv4
@@ -145,13 +165,20 @@ pub record Carries (frame : List ℕ) (link : EthernetRepr) (header : Ipv4Repr) 
   pub reads : IsReadWhole frame link (packet (Ipv4 header) transport)
   pub ports : HasPorts transport
 
--- the reason why the payload of a packet with this header is not translated
+-- the frame carries this packet
+pub record IsPacket (frame : List ℕ) (p : Packet) : Type 0 where
+  pub link : EthernetRepr
+  pub transport : Transport
+  pub carries : Carries frame link p.header transport
+  pub described : Describes p transport
+
+-- the reason why the payload of a packet with this header is not parsed
 abbrev pub IsRejectedTransport : Ipv4Repr → List ℕ → Rejection → Type 0
 IsRejectedTransport header bytes OtherProtocol = ReadsTransport all_checked (Ipv4 header) bytes (other bytes)
 IsRejectedTransport header bytes BadTransport = (transport : Transport) → ¬ ReadsTransport all_checked (Ipv4 header) bytes transport
 IsRejectedTransport header bytes _ = ⊥
 
--- the reason why the packet in an IPv4 frame is not translated
+-- the reason why the packet in an IPv4 frame is not parsed
 abbrev pub IsRejectedPacket : List ℕ → Rejection → Type 0
 IsRejectedPacket bytes NotIpv4 = ⊥
 IsRejectedPacket bytes BadHeader = (header : Ipv4Repr) → ¬ ipv4.Reads bytes false header
@@ -160,10 +187,23 @@ IsRejectedPacket bytes Fragment = ((header : Ipv4Repr) × ipv4.Reads bytes true 
 IsRejectedPacket bytes reason =
     (header : Ipv4Repr) × ReadsPacket all_checked bytes (Ipv4 header) × IsRejectedTransport header (ipv4_payload bytes) reason
 
--- the reason why a frame is not translated: that of its packet, or that it is no IPv4 frame
+-- the reason why a frame is not parsed: that of its packet, or that it is no IPv4 frame
 pub record IsRejected (frame : List ℕ) (reason : Rejection) : Type 0 where
   pub whole : (link : EthernetRepr) → IsIpv4Frame frame link → IsRejectedPacket (drop 14 frame) reason
   pub short : ((link : EthernetRepr) → ¬ IsIpv4Frame frame link) → reason ≡ NotIpv4
+
+-- the frame carries a packet that no receiver accepts with this port on this side
+pub record RefusesPort (frame : List ℕ) (side : Side) (port : ℕ) : Type 0 where
+  pub link : EthernetRepr
+  pub header : Ipv4Repr
+  pub transport : Transport
+  pub carries : Carries frame link header transport
+  pub refused : ¬ AllowsPort side transport port
+
+-- the reason why a frame does not get this port on this side: it is not parsed, or no receiver accepts the port
+abbrev pub IsUntranslated : List ℕ → Side → ℕ → Rejection → Type 0
+IsUntranslated frame side port ZeroPort = RefusesPort frame side port
+IsUntranslated frame side port reason = IsRejected frame reason
 
 -- ---- before and after
 

@@ -1,9 +1,10 @@
-//! Laws of this crate's definitions. A law states a fact about definitions; its body does nothing.
+//! Laws of this crate. A law states a fact about definitions, or about several calls.
 
-ghost use Rattle.std.specs.Prelude.{◌≡◌, List, ℕ};
-ghost use Rattle.ip_nat.specs.Nat.{HasUsualChecksums, IsTranslated, addr_of, port_of};
+ghost use Rattle.std.specs.Prelude.{◌≡◌, IfErr, List, ℕ};
+ghost use Rattle.ip_nat.specs.Nat.{HasUsualChecksums, IsTranslated, IsUntranslated, addr_of, port_of};
 
-use crate::nat::Side;
+use crate::nat::{Rejection, Side, translate};
+use crate::packet::Packet;
 use ip_wire::Ipv4Address;
 use ip_wire::laws::octets_fit;
 
@@ -17,4 +18,25 @@ pub fn translation_is_undone(frame: &[u8], side: Side, addr: Ipv4Address, port: 
         → back ≡ frame.now }
 {
     octets_fit(frame);
+}
+
+/// If a frame is translated, a second call with the old address and port is not rejected, and it restores the original
+/// bytes. Otherwise the frame is unchanged.
+pub fn translate_back(
+    frame: &mut [u8],
+    side: Side,
+    addr: Ipv4Address,
+    port: u16,
+) -> Result<(), Rejection>
+    requires { HasUsualChecksums frame.old }
+    ensures same { frame.new ≡ frame.old }
+    ensures rejected { IfErr result (IsUntranslated frame.old side port) }
+{
+    octets_fit(frame);
+    let packet = Packet::parse(frame)?;
+    packet.rewrite(frame, side, addr, port)?;
+    match side {
+        Side::Source => translate(frame, side, packet.header.src_addr, packet.src_port),
+        Side::Destination => translate(frame, side, packet.header.dst_addr, packet.dst_port),
+    }
 }

@@ -1,7 +1,11 @@
-//! Network address translation of one address and port, in place.
+//! Network address translation in place: of one address and port, and by a table of mappings.
 #![tactic(auto)]
 
+mod flows;
 pub mod laws;
 mod nat;
+mod packet;
 
+pub use flows::{translate_in, translate_out};
 pub use nat::{Rejection, Side, translate};
+pub use packet::Packet;

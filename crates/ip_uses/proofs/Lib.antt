@@ -1,3 +1,2 @@
 pub mod FlowKeys
 pub mod Rejected
-pub mod RouteSteps

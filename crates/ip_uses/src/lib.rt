@@ -6,6 +6,5 @@ pub mod flow_key;
 pub mod hop_guard;
 pub mod mss_clamp;
 pub mod read_frame;
-pub mod route;
 pub mod verify_checksum;
 pub mod write_frame;

@@ -3,6 +3,7 @@
 ghost use Rattle.std.specs.Prelude.{◌≡◌};
 
 mod captured;
+mod flows;
 mod hop_guard;
 mod host;
 mod nat;

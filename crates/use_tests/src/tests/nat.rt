@@ -3,8 +3,8 @@
 
 use super::captured::{DATA, SYN};
 use super::change;
-use ip_nat::{Rejection, Side, translate};
-use ip_wire::Ipv4Address;
+use ip_nat::{Packet, Rejection, Side, translate};
+use ip_wire::{IpProtocol, Ipv4Address, TcpControl};
 
 /// The address of a host.
 fn inside() -> Ipv4Address {
@@ -88,7 +88,7 @@ fn gives(
     after: &[u8],
 ) -> bool {
     let len = before.len();
-    if len > 80 || port == 0 {
+    if len > 80 {
         return false;
     }
     let mut buffer = [0; 80];
@@ -127,6 +127,18 @@ fn writes_checksums_of_0(rt: HostRuntime) {
     assert!(rt; becomes(&without, Side::Source, outside(), 40000, &without_out));
     assert!(rt; becomes(&UDP, Side::Source, outside(), 0x0e10, &udp_out));
     assert!(rt; becomes(&SYN, Side::Source, outside(), 0x4c26, &syn_out));
+}
+
+/// The source port of a UDP packet may be 0.
+#[test]
+fn writes_a_udp_source_of_0(rt: HostRuntime) {
+    let (mut from_0, mut to_0) = (UDP, UDP_OUT);
+    change(&mut from_0, &[(34, 0), (35, 0), (40, 0x88), (41, 0x18)]);
+    change(&mut to_0, &[(34, 0), (35, 0), (40, 0x0e), (41, 0x10)]);
+    assert!(rt; becomes(&UDP, Side::Source, outside(), 0, &to_0));
+    assert!(rt; becomes(&to_0, Side::Source, inside(), 46563, &UDP));
+    assert!(rt; becomes(&from_0, Side::Source, outside(), 40000, &UDP_OUT));
+    assert!(rt; becomes(&UDP_OUT, Side::Source, inside(), 0, &from_0));
 }
 
 /// An IPv4 checksum of 0xffff, which no sender computes, becomes 0 when the translation is undone (RFC 1624,
@@ -180,6 +192,38 @@ fn rejects_other_frames(rt: HostRuntime) {
             rejects(changes, Side::Source, outside(), 40000, reason),
             "{changes:?}"
         );
+    }
+}
+
+/// A port of 0 that no receiver accepts. It is the last reason.
+#[test]
+fn rejects_a_port_of_0(rt: HostRuntime) {
+    let zero = Err(Rejection::ZeroPort);
+    assert!(rt; gives(&REPLY_IN, Side::Destination, inside(), 0, zero, &REPLY_IN));
+    assert!(rt; gives(&SYN, Side::Source, outside(), 0, zero, &SYN));
+    assert!(rt; gives(&DATA_IN, Side::Destination, inside(), 0, zero, &DATA_IN));
+    let bad = Rejection::BadTransport;
+    assert!(rt; rejects(&[(40, 0xd3)], Side::Destination, inside(), 0, bad));
+}
+
+/// What a NAT needs of the UDP packet and of the two TCP segments.
+#[test]
+fn parses_packets(rt: HostRuntime) {
+    for (frame, protocol, src_port, dst_port, control) in [
+        (&UDP[..], IpProtocol::Udp, 46563, 5353, None),
+        (&SYN, IpProtocol::Tcp, 60784, 80, Some(TcpControl::Syn)),
+        (&DATA, IpProtocol::Tcp, 80, 60784, Some(TcpControl::Psh)),
+    ] {
+        let parses = match Packet::parse(frame) {
+            Ok(packet) => {
+                packet.header.next_header == protocol
+                    && packet.src_port == src_port
+                    && packet.dst_port == dst_port
+                    && packet.control == control
+            }
+            Err(_) => false,
+        };
+        assert!(rt; parses, "{frame:?}");
     }
 }
 

@@ -1,0 +1,74 @@
+-- Frames that go out and come in by a table of mappings.
+use Rattle.std.proofs.Common.{IfErr, IfOk, ℕ, ◌≡◌, ◌≢◌, ◌<◌, Bool, Decides, bytes_eq, false, not, true, true≢false, List, Result, Ok, Err, inl, inr, refl, sym, subst, ◌∙◌, arith}
+use Rattle.std.proofs.lemmas.Bool.{cases_lt}
+use Rattle.std.proofs.lemmas.Slice.Eq.{bytes_eq-Decides}
+use Rattle.ip_flows.specs.declared.Mapping.{Mapping}
+use Rattle.ip_flows.specs.declared.Nat.{Nat}
+use Rattle.ip_wire.specs.Frame.{Transport, datagram, other, segment}
+use Rattle.ip_flows.specs.Table.{Finds}
+use Rattle.ip_flows.specs.declared.Ipv4Endpoint.{Ipv4Endpoint}
+use Rattle.ip_nat.specs.Flows.{IsKeptInside, IsKeptOutside, event_of, source_of}
+use Rattle.ip_nat.specs.Nat.{AllowsPort, IsPacket, IsRejected, RefusesPort}
+use Rattle.ip_nat.specs.declared.packet.Packet.{Packet}
+use Rattle.ip_nat.specs.declared.nat.Rejection.{Rejection}
+use Rattle.ip_nat.specs.declared.nat.Rejection.TheVariants.{NotIpv4, ZeroPort, NoMapping, NoFreePort}
+use Rattle.ip_nat.specs.declared.nat.Side.{Side}
+use Rattle.ip_nat.specs.declared.nat.Side.TheVariants.{Source, Destination}
+
+-- ---- frames that do not parse
+
+parse-reason : (frame : List ℕ) (reason : Rejection) → IsRejected frame reason → (reason ≢ ZeroPort) × (reason ≢ NoMapping) × (reason ≢ NoFreePort)
+parse-reason frame ZeroPort why = let is : ZeroPort ≡ NotIpv4 = why.short (λ link is. (why.whole link is).2) in absurd (cc)
+parse-reason frame NoMapping why = let is : NoMapping ≡ NotIpv4 = why.short (λ link is. (why.whole link is).2) in absurd (cc)
+parse-reason frame NoFreePort why = let is : NoFreePort ≡ NotIpv4 = why.short (λ link is. (why.whole link is).2) in absurd (cc)
+parse-reason frame _ why = (λ is. cc, λ is. cc, λ is. cc)
+
+-- a frame that does not parse does not go out
+pub kept-inside : (nat : Nat) (mappings : List Mapping) (now : ℕ) (frame : List ℕ) (reason : Rejection) → IsRejected frame reason → IsKeptInside nat mappings now frame reason
+kept-inside nat mappings now frame ZeroPort why = absurd ((parse-reason frame ZeroPort why).0 refl)
+kept-inside nat mappings now frame NoFreePort why = absurd ((parse-reason frame NoFreePort why).2 refl)
+kept-inside nat mappings now frame _ why = why
+
+-- and does not come in
+pub kept-outside : (nat : Nat) (mappings : List Mapping) (now : ℕ) (frame : List ℕ) (reason : Rejection) → IsRejected frame reason → IsKeptOutside nat mappings mappings now frame reason
+kept-outside nat mappings now frame ZeroPort why = absurd ((parse-reason frame ZeroPort why).0 refl)
+kept-outside nat mappings now frame NoMapping why = absurd ((parse-reason frame NoMapping why).1 refl)
+kept-outside nat mappings now frame _ why = (why, refl)
+
+-- ---- addresses
+
+-- bytes that were compared and do not differ are equal
+pub undiffering : (a b : List ℕ) (differ : Bool) → differ ≡ not (bytes_eq a b) → differ ≡ false → a ≡ b
+undiffering a b differ is none = by_test (bytes_eq a b) (bytes_eq-Decides a b) (sym is ∙ none)
+  where
+    by_test : (test : Bool) → Decides test (a ≡ b) → not test ≡ false → a ≡ b
+    by_test true is h = is.0 refl
+    by_test false is h = absurd (true≢false h)
+
+-- ---- ports
+
+-- a receiver accepts every port but 0
+some-port : (side : Side) (t : Transport) (port : ℕ) → port ≢ 0 → AllowsPort side t port
+some-port Source (datagram v payload) port some = tt
+some-port Source (segment v payload) port some = some
+some-port Source (other payload) port some = some
+some-port Destination (datagram v payload) port some = some
+some-port Destination (segment v payload) port some = some
+some-port Destination (other payload) port some = some
+
+-- a port that is refused is 0
+pub refused-zero : (frame : List ℕ) (side : Side) (port : ℕ) → RefusesPort frame side port → port ≡ 0
+refused-zero frame side port why = elim (cases_lt 0 port) [
+  | inl some ↦ absurd (why.refused (some-port side why.transport port (λ zero. omega (arith, zero, some))))
+  | inr none ↦ omega (arith, none)
+]
+
+-- a frame whose mapping leads to port 0 does not come in
+pub in-zero : {T : Type 0} (answer : Result T Rejection) (nat : Nat) (old new : List Mapping) (now : ℕ) (frame : List ℕ) (p : Packet) (inside : Ipv4Endpoint)
+    → IsPacket frame p → p.header.dst_addr ≡ nat.outside → Finds nat old new now (event_of p) p.dst_port (source_of p) inside
+    → IfErr answer (λ reason. reason ≡ ZeroPort) → IfErr answer (λ _. RefusesPort frame Destination inside.port)
+    → IfErr answer (IsKeptOutside nat old new now frame)
+in-zero (Ok v) nat old new now frame p inside carries outside finds is why = tt
+in-zero (Err reason) nat old new now frame p inside carries outside finds is why =
+    subst (IsKeptOutside nat old new now frame) (sym is)
+    (record { packet = p; carries = carries; outside = outside; inside = inside; finds = finds; zero = refused-zero frame Destination inside.port why })

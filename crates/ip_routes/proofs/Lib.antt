@@ -1,0 +1,7 @@
+pub mod Chosen
+pub mod Climbs
+pub mod Elements
+pub mod Finds
+pub mod Links
+pub mod Places
+pub mod RouteSteps

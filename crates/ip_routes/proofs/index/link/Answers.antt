@@ -1,0 +1,28 @@
+use Rattle.std.proofs.Common.{ℕ, ◌≡◌, ◌∙◌, ◌<◌, ◌≤◌, length, get_or, [], arith, sym, ap, subst}
+use Rattle.std.proofs.lemmas.List.{get_or_default}
+use Rattle.ip_routes.specs.Index.{AreLinked, Encloses, node_at, node_with, place}
+use Rattle.ip_routes.specs.declared.index.Node.{Node}
+use Rattle.ip_routes.proofs.Links.{alike_places, alike_set, links_more}
+use Rattle.ip_routes.proofs.index.link.Goals as goal
+
+-- what an index reads behind a list of nodes
+abbrev unread : Node
+unread = record { high = 0; low = 0; route = 0; above = 0; version = 0; prefix_len = 0; unused = [] }
+
+pub loop-i-preserved : goal.loop-i-preserved
+loop-i-preserved c =
+    let nodes = c.loop-i.nodes in
+    let i = c.loop-i.i in
+    let old = c.args.nodes.now in
+    let node = get_or nodes i unread in
+    let below : i < length nodes = omega arith in
+    let same : node ≡ node_at nodes i = get_or_default nodes i unread (node_with 0 0 0 0) below in
+    let kept = c.loop-i.invariant in
+    record {
+      same = alike_set nodes i c.climb-above.result node same ∙ kept.same;
+      linked = λ sorted.
+          let ordered = alike_places old nodes (sym kept.same) sorted in
+          links_more nodes i c.climb-above.result node below same (kept.linked sorted) c.climb-above.ensures.within c.climb-above.ensures.encloses
+          (c.climb-above.ensures.last ordered (kept.linked sorted)
+          (λ k less. subst (λ n. place (node_at nodes k) ≤ place n) (sym same) (ordered k i (node_with 0 0 0 0) (omega (arith, less)) below)));
+    }
