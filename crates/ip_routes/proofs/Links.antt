@@ -43,7 +43,6 @@ alike_link xs ys k above alike link = record {
   nearest = λ j from below encloses. link.nearest j from below (alike_enclose ys xs j k (sym alike) encloses);
 }
 
-
 -- the node at a place with another link changes nothing else
 pub alike_set : (xs : List Node) (i above : ℕ) (node : Node) → node ≡ node_at xs i → AreAlike (set xs i (record node { above = above })) xs
 alike_set xs i above node is = map-set_same unlinked xs i (record node { above = above }) (node_with 0 0 0 0) (ap unlinked is)

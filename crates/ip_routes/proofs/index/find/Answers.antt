@@ -20,9 +20,9 @@ returns-in-0 c blocks index =
     let start = c.partition_point-start.result in
     let sorted : IsNonDecreasingBy place nodes = placed blocks index.made nodes index.filled index.moved index.sorted in
     let point = IsPartitionPoint-from_clause (λ (n : Node). leb (place n) (place target)) nodes start c.partition_point-start.ensures.partitioned
-        (IsPartitionedBy-leb place nodes (place target) sorted) (λ a r f' k. search (rules, leb_from_iff)) in
+    (IsPartitionedBy-leb place nodes (place target) sorted) (λ a r f' k. search (rules, leb_from_iff)) in
     let f = finds nodes c.args.addr.now target start c.climb.result c.target-target.ensures.value c.target-target.ensures.octets sorted index.linked
-        c.partition_point-start.ensures.bound point c.climb.ensures.within c.climb.ensures.encloses c.climb.ensures.last in
+    c.partition_point-start.ensures.bound point c.climb.ensures.within c.climb.ensures.encloses c.climb.ensures.last in
     nothing blocks nodes c.args.addr.now start c.climb.result index f c.in-0.is
 
 pub returns-in_default : goal.returns-in_default
@@ -32,9 +32,9 @@ returns-in_default c blocks index =
     let start = c.partition_point-start.result in
     let sorted : IsNonDecreasingBy place nodes = placed blocks index.made nodes index.filled index.moved index.sorted in
     let point = IsPartitionPoint-from_clause (λ (n : Node). leb (place n) (place target)) nodes start c.partition_point-start.ensures.partitioned
-        (IsPartitionedBy-leb place nodes (place target) sorted) (λ a r f' k. search (rules, leb_from_iff)) in
+    (IsPartitionedBy-leb place nodes (place target) sorted) (λ a r f' k. search (rules, leb_from_iff)) in
     let f = finds nodes c.args.addr.now target start c.climb.result c.target-target.ensures.value c.target-target.ensures.octets sorted index.linked
-        c.partition_point-start.ensures.bound point c.climb.ensures.within c.climb.ensures.encloses c.climb.ensures.last in
+    c.partition_point-start.ensures.bound point c.climb.ensures.within c.climb.ensures.encloses c.climb.ensures.last in
     let some : 0 < c.climb.result = omega (arith, c.in_default) in
     let below : c.climb.result - 1 < length nodes = omega (arith, some, f.within, f.low) in
     let same = get_or_default nodes (c.climb.result - 1) (node_with 0 0 0 0) unread below in

@@ -16,9 +16,10 @@ loop-i-preserved c =
     let inside : i < length routes = c.loop-i-test.true in
     let room : i < length nodes = omega (arith, inside, c.requires.len) in
     let block : block_at blocks i ≡ c.index-routes-i.result.block =
-        get_or-map block_of routes i c.index-routes-i.result (block_at [] 0) inside ∙ ap (λ (r : Route). r.block) (sym c.index-routes-i.is) in
+    get_or-map block_of routes i c.index-routes-i.result (block_at [] 0) inside ∙ ap (λ (r : Route). r.block) (sym c.index-routes-i.is) in
     let P : ℕ → Type 0 = λ k. IsBlock (block_at blocks k) × (node_at (set nodes i node) k ≡ node_of (block_at blocks k) k) in
     below_more P i
-    (λ k less. let before = c.loop-i.invariant k less in (before.0, get_or-set_other nodes i k node d (omega (arith, less)) ∙ before.1))
-    (subst IsBlock (sym block) c.new.ensures.valid,
-     get_or-set_same nodes i node d room ∙ c.new.ensures.value ∙ ap (λ b. node_of b i) (sym block))
+    (λ k less. let before = c.loop-i.invariant k less in (before.0, get_or-set_other nodes i k node d (omega (arith, less)) ∙ before.1)) (
+      subst IsBlock (sym block) c.new.ensures.valid,
+      get_or-set_same nodes i node d room ∙ c.new.ensures.value ∙ ap (λ b. node_of b i) (sym block),
+    )
