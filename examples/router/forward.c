@@ -142,6 +142,8 @@ void on_frame(struct router *router, uint16_t from, struct packet *packet)
         /* It does not parse, so that it is rejected. */
         int rejection = lk_forward(packet->frame, packet->len, no_hardware, no_hardware);
         reject(router, rejection != LK_NOT_REJECTED ? rejection : LK_BAD_HEADER);
+    } else if (in.ipv4_checksum == LK_WRONG) {
+        reject(router, LK_WRONG_CHECKSUM);
     } else if (may_pass(router, from, &in)) {
         struct lk_addr dst = in.dst.addr;
         packet->len = ETHERNET_LEN + packet_len(packet->frame + ETHERNET_LEN);

@@ -1,0 +1,481 @@
+#!/usr/bin/env python3
+"""The kernel's side of tests/kernel, for examples/router.c.
+
+tests/kernel_router.py taps PROGRAM     exchanges packets through a router on TAP devices, and compares all frames
+tests/kernel_router.py sockets PROGRAM  through a router on packet sockets, with the offloads of the kernel
+tests/kernel_router.py faults PROGRAM   while devices fail, queues are full, and hostile frames come
+
+This process is a host on one side, and a namespace of its own is the host on the other side. Prints how many exchanges
+were right. The status is 1 if one was wrong, or if a kernel counted an error.
+"""
+import random
+import shutil
+import signal
+import socket
+import sys
+import time
+
+import compare
+import packets
+from forwarded import Router, with_header_checksum
+from kernel_bridge import is_hex
+from kernel_client import check, echoed, report, tcp_at_once, tcp_turns, udp_lengths, wrong
+from kernel_links import ELSEWHERE, LATEST, SELF, Here, Namespace, Program, WideSide, no_errors, ping, settle, udp_echo
+from rebuilt import recorded
+
+HOSTS = {"left": bytes.fromhex("020000000102"), "right": bytes.fromhex("020000000202")}
+HARDWARE = {"left": bytes.fromhex("02000000aa01"), "right": bytes.fromhex("02000000aa02")}
+CONFIG = """
+# The links, and what is behind the host on the left and behind another router on the right.
+address 10.1.0.1/24 dev left
+address fd01::1/64 dev left
+address 10.2.0.1/24 dev right
+address fd02::1/64 dev right
+route 203.0.113.0/24 via 10.1.0.9 dev left
+route 3fff::/20 via fd01::9 dev left
+route 198.18.0.0/15 via 10.2.0.9 dev right
+route 2001:db8::/32 via fd02::9 dev right
+neighbour fd01::2 lladdr 02:00:00:00:01:02 dev left
+neighbour fd02::2 lladdr 02:00:00:00:02:02 dev right
+""" + "".join(f"neighbour {addr} lladdr {ELSEWHERE.hex(':')} dev {name}\n" for addr, name in (
+    ("10.1.0.9", "left"), ("fd01::9", "left"), ("10.2.0.9", "right"), ("fd02::9", "right")))
+OF_TAPS = CONFIG + "".join(f"lladdr {addr.hex(':')} dev {name}\n" for name, addr in HARDWARE.items())
+MODEL = Router(
+    HARDWARE,
+    [("10.1.0.1/24", "left"), ("fd01::1/64", "left"), ("10.2.0.1/24", "right"), ("fd02::1/64", "right")],
+    [("203.0.113.0/24", ELSEWHERE, "left"), ("3fff::/20", ELSEWHERE, "left"), ("198.18.0.0/15", ELSEWHERE, "right"),
+     ("2001:db8::/32", ELSEWHERE, "right")],
+    {socket_addr: HOSTS[name] for name, ends in (("left", ("10.1.0.2", "fd01::2")), ("right", ("10.2.0.2", "fd02::2")))
+     for socket_addr in map(__import__("ipaddress").ip_address, ends)})
+SERVERS = ((socket.AF_INET, "10.2.0.2"), (socket.AF_INET6, "fd02::2"))
+HOST = """
+    ip link set {name} down address {hardware} && ip link set {name} up
+    ip address replace 10.{n}.0.2/24 dev {name} && ip address replace fd0{n}::2/64 dev {name} nodad
+    ip route replace default via 10.{n}.0.1 && ip -6 route replace default via fd0{n}::1 dev {name}
+    ip -6 neighbour replace fd0{n}::1 lladdr {router} dev {name}
+"""
+RANDOM_FRAMES, FLOOD, AT_ONCE, MOST_WRONG = 12_000, 60_000, 64, 3
+ARP = b"\x08\x06"
+
+
+def set_host(namespace, name):
+    namespace.run(HOST.format(name=name, n=1 + (name == "right"), hardware=HOSTS[name].hex(":"), router=HARDWARE[name].hex(":")))
+
+
+def start_on_taps(room, there, program, config=OF_TAPS, **words):
+    """The router in the namespace `room`, with a TAP device in this one and one in that of the other host."""
+    router = Program(room, program, config, ["tap:left", "tap:right"], **words)
+    room.run(f"ip link set left netns {SELF} && ip link set right netns {there.process}")
+    set_host(Here(), "left")
+    set_host(there, "right")
+    return router
+
+
+def make_pairs(room, there):
+    """Pairs of virtual Ethernet devices from the namespace of the router to both hosts."""
+    for name, namespace in (("left", Here()), ("right", there)):
+        room.run(f"ip link add dev {name} address {HARDWARE[name].hex(':')} type veth peer name {name} netns {namespace.process}")
+        room.run(f"ip link set {name} addrgenmode none && ip link set {name} up")
+        set_host(namespace, name)
+
+
+def start_on_pairs(room, there, program):
+    make_pairs(room, there)
+    return Program(room, program, CONFIG, ["packet:left", "packet:right"])
+
+
+# ---- frames
+
+
+def compare_lists(kind, expected, came_out):
+    for n in range(max(len(expected), len(came_out))):
+        right, found = (frames[n] if n < len(frames) else None for frames in (expected, came_out))
+        check(kind, right == found, f"\n    is    {found and found.hex()}\n    not   {right and right.hex()}")
+        if right != found:
+            return
+
+
+def compare_sides(kind, sides, model=MODEL):
+    """The frames of the kernels on both sides."""
+    settle(*sides.values())
+    expected = {name: [] for name in sides}
+    for name, side in sides.items():
+        for frame in side.handed:
+            to, out = model.fate(frame, name)
+            if out:
+                expected[to].append(out)
+    for name, side in sides.items():
+        compare_lists(kind, expected[name], [frame for frame in side.came_out if frame[12:14] != ARP])
+        side.handed, side.came_out = [], []
+
+
+def hostile_frames(count, name):
+    """Recorded frames, random ones, and changed ones to the router on this side. Most could be routed."""
+    lines = (line.strip() for line in compare.corpus(random.randrange(1 << 32), count))
+    frames = [frame for frame, _ in recorded()] + [bytes.fromhex(line.decode()) for line in lines if is_hex(line)]
+    for frame in frames[-count:] if count < len(frames) else frames:
+        frame = routed(frame, name) if len(frame) >= 34 and frame[12:14] in (b"\x08\0", b"\x86\xdd") else frame
+        if 14 <= len(frame) <= 1514 and frame[12:14] not in (b"\x81\0", b"\x88\xa8"):
+            yield frame
+
+
+def routed(frame, name):
+    """The frame from an address of this side to one of the other side, mostly."""
+    chance, other = random.random(), {"left": "right", "right": "left"}[name]
+    blocks = {"left": (bytes([203, 0, 113]), b"\x3f\xff\x0f"), "right": (bytes([198, 18, 7]), b"\x20\x01\x0d\xb8")}
+    is_ipv6 = frame[12] == 0x86
+    at, size = (22, 16) if is_ipv6 else (26, 4)
+    for place, side in ((at, name), (at + size, other)):
+        if random.random() < 0.9 and len(frame) >= at + 2 * size:
+            front = blocks[side][is_ipv6]
+            frame = frame[:place] + (front + random.randbytes(size - len(front))) + frame[place + size :]
+    if not is_ipv6 and chance < 0.9:
+        header_len = max(20, frame[14] % 16 * 4)
+        frame = frame[:14] + with_header_checksum(frame[14 : 14 + header_len]) + frame[14 + header_len :]
+    return (HARDWARE[name] if chance < 0.95 else ELSEWHERE) + frame[6:]
+
+
+def random_frames(router, sides, count, model=MODEL, make=hostile_frames):
+    """What comes out of the router, and what it counts, for frames in both directions by turns."""
+    made = {name: list(make(count // 2, name)) for name in sides}
+    before, fates = router.counters(), []
+    for at in range(0, count // 2, AT_ONCE):
+        for name, here in sides.items():
+            there = sides["right" if name == "left" else "left"]
+            there.forget()
+            chunk = made[name][at : at + AT_ONCE]
+            found = [model.fate(frame, name) for frame in chunk]
+            for frame in chunk:
+                here.sock.send(frame)
+            expected = [out for to, out in found if out and sides.get(to) is there]
+            end = time.monotonic() + LATEST
+            while len(there.came_out) < len(expected) and there.take(max(0, end - time.monotonic())):
+                there.came_out = [frame for frame in there.came_out if frame.startswith(ELSEWHERE)]
+            compare_lists("frame", expected, there.came_out)
+            fates += [why for why, out in found if not out]
+            if len(wrong) >= MOST_WRONG:
+                return
+    compare_counters(router, before, fates)
+
+
+def compare_counters(router, before, fates):
+    """The reasons that the router counts. The kernels send to groups too."""
+    after = router.counters()
+    for why in sorted(set(fates) - {"ARP", "group or broadcast"}):
+        counted = after.get(why, 0) - before.get(why, 0)
+        check("counter", counted == fates.count(why), (why, counted, fates.count(why)))
+
+
+# ---- exchanges
+
+
+def udp(sides):
+    """UDP packets of every length: one frame, and fragments. Without a checksum, and with IP options."""
+    for family, address in SERVERS:
+        udp_lengths(family, address)
+        for length in [*range(1400, 65508, 997), 65507]:
+            data = random.randbytes(length - 20 * (family == socket.AF_INET6))
+            check("UDP in fragments", udp_echo(family, (address, 7), data) == data, (address, length))
+    compare_sides("frame of the kernel", sides)
+    for n in range(64):
+        data = random.randbytes(n)
+        for option in ((socket.SOL_SOCKET, 11, 1), (socket.IPPROTO_IP, socket.IP_TOS, 4 * n + n % 4),
+                       (socket.IPPROTO_IP, socket.IP_OPTIONS, b"\x01" * (n % 40) + b"\0"), (socket.IPPROTO_IP, socket.IP_TTL, 2 + n)):
+            check("UDP with an option", udp_echo(socket.AF_INET, ("10.2.0.2", 7), data, options=[option]) == data, option)
+    compare_sides("frame of the kernel", sides)
+
+
+def echo_requests():
+    for family, address in SERVERS:
+        for n in range(40):
+            check("ping", ping(family, address, random.randbytes(random.randrange(1400)), n), (address, n))
+
+
+def tcp(sides):
+    for family, address in SERVERS:
+        settle(*sides.values())
+        compare_sides("frame of the kernel", sides)
+        for length in [0, 1, 1460, 1461] + [random.randrange(5000) for _ in range(10)]:
+            data = random.randbytes(length)
+            check("TCP", echoed(family, address, data) == data, (address, length))
+            compare_sides("frame of the kernel", sides)
+        data = random.randbytes(4 << 20)
+        check("TCP", echoed(family, address, data) == data, (address, len(data)))
+        tcp_turns(family, address)
+        tcp_at_once(family, address)
+        for side in sides.values():
+            side.forget()
+
+
+def last_hop(router):
+    """A packet with hop limit 1 goes no further."""
+    before = router.counters()
+    for n in range(20):
+        with socket.socket(socket.AF_INET, socket.SOCK_DGRAM) as sock:
+            sock.setsockopt(socket.IPPROTO_IP, socket.IP_TTL, 1)
+            sock.sendto(b"x", ("10.2.0.2", 7))
+    time.sleep(0.1)
+    compare_counters(router, before, ["LK_EXPIRED"] * 20)
+
+
+def asked_for(side, addr):
+    """How many ARP requests for an address came out."""
+    side.take()
+    return sum(frame[12:14] == ARP and frame[38:42] == socket.inet_aton(addr) and frame[21] == 1 for frame in side.came_out)
+
+
+def silent_neighbour(router, sides, there):
+    """One request a second at most for an address, and the latest packets are kept until the reply."""
+    before = router.counters()
+    with socket.socket(socket.AF_INET, socket.SOCK_DGRAM) as sock:
+        for _ in range(24):
+            sock.sendto(b"", ("10.2.0.99", 7))
+            time.sleep(0.1)
+        count = asked_for(sides["right"], "10.2.0.99")
+        check("ARP requests", count == 3, count)
+        for n in range(80):
+            sock.sendto(bytes([n]), ("10.2.0.98", 7))
+    with there.entered(), socket.socket(socket.AF_INET, socket.SOCK_DGRAM) as server:
+        server.settimeout(LATEST)
+        there.run("ip address add 10.2.0.98/32 dev right")
+        server.bind(("10.2.0.98", 7))
+        check("packets that waited", [server.recv(9)[0] for _ in range(64)] == list(range(16, 80)))
+    compare_counters(router, before, ["no neighbour"] * (24 + 16))
+    there.run("ip address delete 10.2.0.98/32 dev right")
+    sides["right"].forget()
+
+
+def arp_replies(sides):
+    """The router replies for its own address on this link, also to a probe, and for no other one."""
+    side, own, host = sides["left"], socket.inet_aton("10.1.0.1"), socket.inet_aton("10.1.0.2")
+    for addr, sender in ((own, host), (own, bytes(4)), (socket.inet_aton("10.2.0.1"), host), (host, bytes(4))):
+        settle(side)
+        side.forget()
+        request = packets.arp(1, sha=HOSTS["left"], spa=sender, tpa=addr)
+        side.sock.send(packets.ethernet(packets.ARP, request, b"\xff" * 6, HOSTS["left"]))
+        side.take(0.2)
+        reply = packets.arp(2, sha=HARDWARE["left"], spa=addr, tha=HOSTS["left"], tpa=sender)
+        expected = [packets.ethernet(packets.ARP, reply, HOSTS["left"], HARDWARE["left"])] if addr == own else []
+        compare_lists("ARP", expected, [frame for frame in side.came_out if frame[12:14] == ARP])
+
+
+def on_taps(program):
+    room, there = Namespace(), Namespace()
+    router = start_on_taps(room, there, program)
+    server = there.serve(*(address for _, address in SERVERS))
+    sides = {"left": WideSide(SELF, "left"), "right": WideSide(there.process, "right")}
+    for exchange, place in ((udp, (sides,)), (echo_requests, ()), (tcp, (sides,)), (last_hop, (router,)),
+                            (silent_neighbour, (router, sides, there)), (arp_replies, (sides,)),
+                            (random_frames, (router, sides, RANDOM_FRAMES))):
+        exchange(*place)
+    # Short queues lose packets.
+    Here().run("ip link set left txqueuelen 8")
+    there.run("ip link set right txqueuelen 8")
+    for family, address in SERVERS:
+        data = random.randbytes(1 << 20)
+        check("TCP with loss", echoed(family, address, data) == data, address)
+    no_errors(there)
+    router.ends("of a router on TAP devices")
+    server.kill()
+
+
+# ---- packet sockets
+
+
+def offloads(sides):
+    """Large frames of the kernel, whose checksums are left to the device, go on as they came."""
+    whole, longest = MODEL.but(longest=65535, least=60), 0
+    for family, address in SERVERS:
+        for length in range(0, 1400, 7):
+            data = random.randbytes(length)
+            check("UDP", udp_echo(family, (address, 7), data) == data, (address, length))
+        compare_sides("frame of the kernel", sides, whole)
+        for length in (1, 5000, 1 << 20):
+            data = random.randbytes(length)
+            check("TCP", echoed(family, address, data) == data, (address, length))
+            settle(*sides.values())
+            longest = max(longest, *map(len, sides["left"].handed))
+            compare_sides("frame of the kernel", sides, whole)
+    check("frames of 64 KB", longest > 60_000, longest)
+    tcp_at_once(*SERVERS[0])
+
+
+def tagged_frames(router, sides):
+    """The kernel takes the tag of a VLAN out of a frame. The router drops it: it is from another link."""
+    side, before = sides["left"], router.counters()
+    packet = packets.header(8, protocol=17, src=socket.inet_aton("10.1.0.2"), dst=socket.inet_aton("10.2.0.2")) + bytes(8)
+    for tag in (b"\x81\0\0\x05", b"\x88\xa8\0\x05", b"\x81\0\x20\0"):
+        side.sock.send(HARDWARE["left"] + HOSTS["left"] + tag + b"\x08\0" + packet)
+    time.sleep(0.1)
+    compare_counters(router, before, ["VLAN tag"] * 3)
+
+
+def short_frames(sides):
+    """Padding is zeros, whatever it was before."""
+    for n in range(30):
+        side = sides["right"]
+        side.forget()
+        data = packets.udp(bytes([n]) * n, 9, 9, src=bytes([10, 1, 0, 2]), dst=bytes([198, 18, 0, 1]))
+        frame = packets.packet(data, b"padding of the sender" * (n % 3), protocol=17, src=bytes([10, 1, 0, 2]), dst=bytes([198, 18, 0, 1]))
+        frame = HARDWARE["left"] + HOSTS["left"] + frame[12:]
+        sides["left"].sock.send(frame)
+        side.take(LATEST)
+        compare_lists("padding", [MODEL.but(least=60).fate(frame, "left")[1]], [f for f in side.came_out if f.startswith(ELSEWHERE)])
+
+
+def on_sockets(program):
+    room, there = Namespace(), Namespace()
+    router = start_on_pairs(room, there, program)
+    server = there.serve(*(address for _, address in SERVERS))
+    sides = {"left": WideSide(SELF, "left"), "right": WideSide(there.process, "right")}
+    padded = MODEL.but(least=60)
+    offloads(sides)
+    tagged_frames(router, sides)
+    short_frames(sides)
+    random_frames(router, sides, RANDOM_FRAMES, padded)
+    no_errors(there)
+    router.ends("of a router on packet sockets")
+    server.kill()
+
+
+# ---- faults
+
+
+def works(what):
+    for family, address in SERVERS:
+        end, data, found = time.monotonic() + LATEST, random.randbytes(1000), None
+        while found != data and time.monotonic() < end:
+            found = udp_echo(family, (address, 7), data)
+        check("after a fault", found == data, (what, address, found))
+
+
+def flood(sides, count=FLOOD):
+    """Hostile frames, as fast as they can be sent."""
+    for name, side in sides.items():
+        frames = list(hostile_frames(count // 8, name))
+        for _ in range(4):
+            for frame in frames:
+                try:
+                    side.sock.send(frame)
+                except OSError:  # the queue is full, or the device is down
+                    time.sleep(0.0001)
+            random.shuffle(frames)
+        side.forget()
+
+
+def processor_time(router):
+    with open(f"/proc/{router.process.pid}/stat", encoding="ascii") as stat:
+        return sum(map(int, stat.read().rsplit(")", 1)[1].split()[11:13]))
+
+
+def is_idle(router, what):
+    """It does not spin: it takes less than a tenth of a processor."""
+    before = processor_time(router)
+    time.sleep(0.5)
+    check("idle", processor_time(router) - before < 5, what)
+
+
+def taps_fail(router, room, there, sides):
+    flood(sides)
+    works("hostile frames")
+    Here().run("ip link set left down")
+    is_idle(router, "a device that is down")
+    set_host(Here(), "left")
+    works("a device that was down")
+    there.run("ip link set right down")
+    udp_echo(socket.AF_INET, SERVERS[0][::-1][:1] + (7,), b"lost")
+    check("lost", router.counters()["right lost"] > 0)
+    set_host(there, "right")
+    works("the other device was down")
+    there.run("ip link delete right")
+    check("a deleted device", router.waits_for("router: right: the device is gone"))
+    is_idle(router, "a deleted device")
+    room.run("ip tuntap add right mode tap")
+    check("a device that is back", router.waits_for("router: right: the device is back"))
+    room.run(f"ip link set right netns {there.process}")
+    set_host(there, "right")
+    works("a device that was deleted")
+
+
+def sockets_fail(router, room, there, sides):
+    flood(sides)
+    works("hostile frames")
+    for name in HOSTS:
+        room.run(f"ip link set {name} down")
+        is_idle(router, "an interface that is down")
+        room.run(f"ip link set {name} up")
+        works("an interface that was down")
+    full_socket(router, sides)
+    room.run("ip link delete left && ip link delete right")
+    for name in HOSTS:
+        check("a deleted interface", router.waits_for(f"router: {name}: the device is gone"))
+    is_idle(router, "deleted interfaces")
+    make_pairs(room, there)
+    for name in HOSTS:
+        check("an interface that is back", router.waits_for(f"router: {name}: the device is back"))
+    works("deleted interfaces")
+
+
+def full_socket(router, sides):
+    """More comes than the socket takes, while the router stands still."""
+    router.process.send_signal(signal.SIGSTOP)
+    for _ in range(20_000):
+        sides["left"].sock.send(HARDWARE["left"] + bytes(1494))
+    router.process.send_signal(signal.SIGCONT)
+    works("a full socket")
+    time.sleep(1.1)  # until the router looks at its sockets again
+    check("missed", router.counters()["left missed"] > 0)
+
+
+def full_queue(router, room):
+    """The queue of the interface takes less than what comes."""
+    if not shutil.which("tc"):
+        return
+    room.run("tc qdisc add dev right root tbf rate 2mbit burst 4kb limit 8kb")
+    with socket.socket(socket.AF_INET, socket.SOCK_DGRAM) as sock:
+        for _ in range(500):
+            sock.sendto(bytes(1000), ("10.2.0.2", 9))
+            time.sleep(0.0005)
+    check("lost", router.counters()["right lost"] > 0)
+    room.run("tc qdisc delete dev right root")
+    works("a full queue")
+
+
+def ended_in_each_state(room, there, program):
+    """SIGTERM is taken at once."""
+    def held(_):
+        with socket.socket(socket.AF_INET, socket.SOCK_DGRAM) as sock:
+            sock.sendto(b"", ("10.2.0.77", 7))
+
+    def busy(router):
+        sides = {"left": WideSide(SELF, "left")}
+        flood(sides, 4000)
+
+    states = {"idle": lambda router: None, "packets that wait": held, "hostile frames": busy,
+              "a device that is down": lambda router: there.run("ip link set right down"),
+              "a deleted device": lambda router: there.run("ip link delete right")}
+    for what, reach in states.items():
+        router = start_on_taps(room, there, program)
+        reach(router)
+        router.ends(what)
+
+
+def with_faults(program):
+    for start, fail in ((start_on_taps, taps_fail), (start_on_pairs, sockets_fail)):
+        room, there = Namespace(), Namespace()
+        router = start(room, there, program)
+        server = there.serve(*(address for _, address in SERVERS))
+        works("the start")
+        fail(router, room, there, {"left": WideSide(SELF, "left"), "right": WideSide(there.process, "right")})
+        if start is start_on_pairs:
+            full_queue(router, room)
+        router.ends("after faults")
+        server.kill()
+        server.wait()
+    Here().run("ip link delete left")
+    ended_in_each_state(Namespace(), Namespace(), program)
+
+
+if __name__ == "__main__":
+    modes = {"taps": on_taps, "sockets": on_sockets, "faults": with_faults}
+    sys.exit(report(f"router {sys.argv[1]}", modes[sys.argv[1]], *sys.argv[2:]))
