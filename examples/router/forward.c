@@ -115,9 +115,9 @@ static void send_on(struct router *router, uint16_t from, struct packet *packet,
         drop(router, TOO_LONG);
         return;
     }
-    int rejection = router->before_send != NULL ? router->before_send(router, from, to, packet) : LK_NOT_REJECTED;
-    if (rejection == LK_NOT_REJECTED)
-        rejection = lk_forward(packet->frame, packet->len, interface->hardware, no_hardware);
+    int rejection = lk_forward(packet->frame, packet->len, interface->hardware, no_hardware);
+    if (rejection == LK_NOT_REJECTED && router->before_send != NULL)
+        rejection = router->before_send(router, from, to, packet);
     if (rejection != LK_NOT_REJECTED) {
         reject(router, rejection);
         return;
