@@ -135,10 +135,10 @@ def set_hosts(there):
     there.run(f"ip address replace {SERVERS[1]}/24 dev right")
 
 
-def start_on_pairs(room, there, program):
+def start_on_pairs(room, there, program, **words):
     make_pairs(room, there)
     set_hosts(there)
-    return Program(room, program, CONFIG, ["packet:right", "packet:left"])
+    return Program(room, program, CONFIG, ["packet:right", "packet:left"], **words)
 
 
 # ---- frames
@@ -164,17 +164,19 @@ def packet_with_ports():
 
 def nat_frames(model):
     """Makes hostile frames. Most that come in, and some that go out, are for an outside port that leads inside, but not to
-    the kernel."""
+    the kernel. No packet that is dropped later opens a mapping, because the model would not see its port."""
     def make(count, name):
-        ports = {17: [9], 6: [9]}
-        for (protocol, port), (addr, _) in model.inside.items():
-            ports[protocol] += [port] * (addr[0] == 203)
+        ports = {17: [], 6: []}
+        for (protocol, port), (addr, inside_port) in model.inside.items():
+            ports[protocol] += [port] * (addr[0] == 203 and (name == "right" or inside_port != 0))
         for frame in hostile_frames(count, name):
             frame = frame if random.random() < 0.4 else routed(packet_with_ports(), name)
             packet = Packet(frame)
             is_valid = packet.is_whole and packet.is_summed and packet.version == 4 and len(packet.payload) >= 4
-            if is_valid and random.random() < (0.7 if name == "right" else 0.1):
-                port = random.choice(ports.get(packet.protocol, [9])) if random.random() < 0.8 else random.randrange(1024)
+            known = ports.get(packet.protocol) if is_valid else None
+            is_hairpin = name == "left" and known and packet.hop_limit > 1 and random.random() < 0.1
+            if is_hairpin or (is_valid and name == "right" and random.random() < 0.7):
+                port = random.choice(known) if known and (is_hairpin or random.random() < 0.8) else random.randrange(1024)
                 frame = frame[:30] + model.outside.packed + frame[34:]
                 at = 14 + packet.header_len + 2
                 frame = with_header(frame[:at] + port.to_bytes(2, "big") + frame[at + 2 :], packet.header_len)
@@ -315,8 +317,8 @@ def on_taps(program):
     sides = {"left": WideSide(SELF, "left"), "right": WideSide(there.process, "right")}
     udp(sides, model)
     tcp(sides, model)
-    for _ in range(2): # the second time many mappings are there
-        random_frames(nat, sides, RANDOM_FRAMES // 2, model, nat_frames(model))
+    for _ in range(2):  # the second time many mappings are there
+        random_frames(nat, sides, RANDOM_FRAMES // 2, model, nat_frames(model), 1)
     for exchange, place in ((mappings, ()), (from_outside, (nat, there)), (hairpin, ()), (not_translated, (nat,))):
         exchange(*place)
     no_errors(there)
@@ -342,7 +344,7 @@ def on_sockets(program):
     tcp_at_once(socket.AF_INET, SERVERS[1])
     hairpin()
     learn_from(model, sides)
-    random_frames(nat, sides, RANDOM_FRAMES // 4, model.but(least=60), nat_frames(model))
+    random_frames(nat, sides, RANDOM_FRAMES // 4, model.but(least=60), nat_frames(model), 1)
     no_errors(there)
     nat.ends("of a NAT on packet sockets")
     server.kill()

@@ -3,15 +3,13 @@
 
 tests/kernel_router.py taps PROGRAM     exchanges packets through a router on TAP devices, and compares all frames
 tests/kernel_router.py sockets PROGRAM  through a router on packet sockets, with the offloads of the kernel
-tests/kernel_router.py faults PROGRAM   while devices fail, queues are full, and hostile frames come
 
 This process is a host on one side, and a namespace of its own is the host on the other side. Prints how many exchanges
 were right. The status is 1 if one was wrong, or if a kernel counted an error.
 """
+import functools
 import ipaddress
 import random
-import shutil
-import signal
 import socket
 import sys
 import time
@@ -55,7 +53,7 @@ HOST = """
     ip route replace default via 10.{n}.0.1 && ip -6 route replace default via fd0{n}::1 dev {name}
     ip -6 neighbour replace fd0{n}::1 lladdr {router} dev {name}
 """
-RANDOM_FRAMES, FLOOD, AT_ONCE, MOST_WRONG = 6_000, 60_000, 64, 3
+RANDOM_FRAMES, AT_ONCE, MOST_WRONG = 6_000, 64, 3
 ARP = b"\x08\x06"
 
 
@@ -80,9 +78,9 @@ def make_pairs(room, there):
         set_host(namespace, name)
 
 
-def start_on_pairs(room, there, program):
+def start_on_pairs(room, there, program, **words):
     make_pairs(room, there)
-    return Program(room, program, CONFIG, ["packet:left", "packet:right"])
+    return Program(room, program, CONFIG, ["packet:left", "packet:right"], **words)
 
 
 # ---- frames
@@ -111,11 +109,16 @@ def compare_sides(kind, sides, model=MODEL):
         side.handed, side.came_out = [], []
 
 
+@functools.cache
+def made_frames():
+    """Recorded frames, random ones, and changed ones."""
+    lines = (line.strip() for line in compare.corpus(random.randrange(1 << 32), RANDOM_FRAMES))
+    return [frame for frame, _ in recorded()] + [bytes.fromhex(line.decode()) for line in lines if is_hex(line)]
+
+
 def hostile_frames(count, name):
-    """Recorded frames, random ones, and changed ones to the router on this side. Most could be routed."""
-    lines = (line.strip() for line in compare.corpus(random.randrange(1 << 32), count))
-    frames = [frame for frame, _ in recorded()] + [bytes.fromhex(line.decode()) for line in lines if is_hex(line)]
-    for frame in frames[-count:] if count < len(frames) else frames:
+    """Some of them, most of which could be routed from this side to the other one."""
+    for frame in random.choices(made_frames(), k=count):
         frame = routed(frame, name) if len(frame) >= 34 and frame[12:14] in (b"\x08\0", b"\x86\xdd") else frame
         if 14 <= len(frame) <= 1514 and frame[12:14] not in (b"\x81\0", b"\x88\xa8"):
             yield frame
@@ -137,13 +140,13 @@ def routed(frame, name):
     return (HARDWARE[name] if chance < 0.95 else ELSEWHERE) + frame[6:]
 
 
-def random_frames(router, sides, count, model=MODEL, make=hostile_frames):
+def random_frames(router, sides, count, model=MODEL, make=hostile_frames, at_once=AT_ONCE):
     """What comes out of the router, and what it counts, for frames in both directions by turns."""
     made = {name: list(make(count // 2, name)) for name in sides}
     before, fates = router.counters(), []
-    for at in range(0, count // 2, AT_ONCE):
+    for at in range(0, count // 2, at_once):
         for name in sides:
-            fates += send_chunk(sides, name, made[name][at : at + AT_ONCE], model)
+            fates += send_chunk(sides, name, made[name][at : at + at_once], model)
             if len(wrong) >= MOST_WRONG:
                 return
     compare_counters(router, before, fates)
@@ -355,144 +358,6 @@ def on_sockets(program):
     server.kill()
 
 
-# ---- faults
-
-
-def works(what):
-    for family, address in SERVERS:
-        end, data, found = time.monotonic() + LATEST, random.randbytes(1000), None
-        while found != data and time.monotonic() < end:
-            found = udp_echo(family, (address, 7), data)
-        check("after a fault", found == data, (what, address, found))
-
-
-def flood(sides, count=FLOOD):
-    """Hostile frames, as fast as they can be sent."""
-    for name, side in sides.items():
-        frames = list(hostile_frames(count // 8, name))
-        for _ in range(4):
-            for frame in frames:
-                try:
-                    side.sock.send(frame)
-                except OSError:  # the queue is full, or the device is down
-                    time.sleep(0.0001)
-            random.shuffle(frames)
-        side.forget()
-
-
-def processor_time(router):
-    with open(f"/proc/{router.process.pid}/stat", encoding="ascii") as stat:
-        return sum(map(int, stat.read().rsplit(")", 1)[1].split()[11:13]))
-
-
-def is_idle(router, what):
-    """It does not spin: it takes less than a tenth of a processor."""
-    before = processor_time(router)
-    time.sleep(0.5)
-    check("idle", processor_time(router) - before < 5, what)
-
-
-def taps_fail(router, room, there, sides):
-    flood(sides)
-    works("hostile frames")
-    Here().run("ip link set left down")
-    is_idle(router, "a device that is down")
-    set_host(Here(), "left")
-    works("a device that was down")
-    there.run("ip link set right down")
-    udp_echo(socket.AF_INET, SERVERS[0][::-1][:1] + (7,), b"lost")
-    check("lost", router.counters()["right lost"] > 0)
-    set_host(there, "right")
-    works("the other device was down")
-    there.run("ip link delete right")
-    check("a deleted device", router.waits_for("router: right: the device is gone"))
-    is_idle(router, "a deleted device")
-    room.run("ip tuntap add right mode tap")
-    check("a device that is back", router.waits_for("router: right: the device is back"))
-    room.run(f"ip link set right netns {there.process}")
-    set_host(there, "right")
-    works("a device that was deleted")
-
-
-def sockets_fail(router, room, there, sides):
-    flood(sides)
-    works("hostile frames")
-    for name in HOSTS:
-        room.run(f"ip link set {name} down")
-        is_idle(router, "an interface that is down")
-        room.run(f"ip link set {name} up")
-        works("an interface that was down")
-    full_socket(router, sides)
-    room.run("ip link delete left && ip link delete right")
-    for name in HOSTS:
-        check("a deleted interface", router.waits_for(f"router: {name}: the device is gone"))
-    is_idle(router, "deleted interfaces")
-    make_pairs(room, there)
-    for name in HOSTS:
-        check("an interface that is back", router.waits_for(f"router: {name}: the device is back"))
-    works("deleted interfaces")
-
-
-def full_socket(router, sides):
-    """More comes than the socket takes, while the router stands still."""
-    router.process.send_signal(signal.SIGSTOP)
-    for _ in range(20_000):
-        sides["left"].sock.send(HARDWARE["left"] + bytes(1494))
-    router.process.send_signal(signal.SIGCONT)
-    works("a full socket")
-    time.sleep(1.1)  # until the router looks at its sockets again
-    check("missed", router.counters()["left missed"] > 0)
-
-
-def full_queue(router, room):
-    """The queue of the interface takes less than what comes."""
-    if not shutil.which("tc"):
-        return
-    room.run("tc qdisc add dev right root tbf rate 2mbit burst 4kb limit 8kb")
-    with socket.socket(socket.AF_INET, socket.SOCK_DGRAM) as sock:
-        for _ in range(500):
-            sock.sendto(bytes(1000), ("10.2.0.2", 9))
-            time.sleep(0.0005)
-    check("lost", router.counters()["right lost"] > 0)
-    room.run("tc qdisc delete dev right root")
-    works("a full queue")
-
-
-def ended_in_each_state(room, there, program):
-    """SIGTERM is taken at once."""
-    def held(_):
-        with socket.socket(socket.AF_INET, socket.SOCK_DGRAM) as sock:
-            sock.sendto(b"", ("10.2.0.77", 7))
-
-    def busy(router):
-        sides = {"left": WideSide(SELF, "left")}
-        flood(sides, 4000)
-
-    states = {"idle": lambda router: None, "packets that wait": held, "hostile frames": busy,
-              "a device that is down": lambda router: there.run("ip link set right down"),
-              "a deleted device": lambda router: there.run("ip link delete right")}
-    for what, reach in states.items():
-        router = start_on_taps(room, there, program)
-        reach(router)
-        router.ends(what)
-
-
-def with_faults(program):
-    for start, fail in ((start_on_taps, taps_fail), (start_on_pairs, sockets_fail)):
-        room, there = Namespace(), Namespace()
-        router = start(room, there, program)
-        server = there.serve(*(address for _, address in SERVERS))
-        works("the start")
-        fail(router, room, there, {"left": WideSide(SELF, "left"), "right": WideSide(there.process, "right")})
-        if start is start_on_pairs:
-            full_queue(router, room)
-        router.ends("after faults")
-        server.kill()
-        server.wait()
-    Here().run("ip link delete left")
-    ended_in_each_state(Namespace(), Namespace(), program)
-
-
 if __name__ == "__main__":
-    modes = {"taps": on_taps, "sockets": on_sockets, "faults": with_faults}
+    modes = {"taps": on_taps, "sockets": on_sockets}
     sys.exit(report(f"router {sys.argv[1]}", modes[sys.argv[1]], *sys.argv[2:]))
