@@ -134,6 +134,9 @@ def routed(frame, name):
         if random.random() < 0.9 and len(frame) >= at + 2 * size:
             front = blocks[side][is_ipv6]
             frame = frame[:place] + (front + random.randbytes(size - len(front))) + frame[place + size :]
+    if random.random() < 0.05:
+        hop_limit = 21 if is_ipv6 else 22
+        frame = frame[:hop_limit] + random.choice((b"\0", b"\1")) + frame[hop_limit + 1 :]
     if not is_ipv6 and chance < 0.9:
         header_len = max(20, frame[14] % 16 * 4)
         frame = frame[:14] + with_header_checksum(frame[14 : 14 + header_len]) + frame[14 + header_len :]
