@@ -3,7 +3,7 @@
  * The interfaces and FILE are those of router.c. Packets to OUTSIDE get its first IPv4 address, and ports of this
  * address lead back to the hosts inside. Between inside interfaces packets are routed as they are. Only UDP and TCP
  * over IPv4 pass OUTSIDE: ICMP, fragments and IPv6 are dropped. */
-#include "router/router.h"
+#include "routing/router.h"
 
 #include <stdio.h>
 #include <stdlib.h>

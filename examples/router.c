@@ -4,7 +4,7 @@
  * FILE has their addresses, and static routes and neighbours. -n: accept packets from any source.
  *
  * Prints "ready", and its counters at SIGUSR1. SIGINT and SIGTERM end it. */
-#include "router/router.h"
+#include "routing/router.h"
 
 #include <stdio.h>
 #include <string.h>
