@@ -91,7 +91,6 @@ def sockets_fail(router, room, there, sides):
         room.run(f"ip link set {name} up")
         works("an interface that was down")
     full_socket(router, sides)
-    room.run("ip link delete left && ip link delete right")
     for name in HOSTS:
         check("a deleted interface", router.waits_for(f"router: {name}: the device is gone"))
     is_idle(router, "deleted interfaces")
@@ -195,7 +194,6 @@ def neighbours_grow_old(program, env):
     check("another Ethernet address", frames_to(side, other, False) != [])
     router.ends("with a fast clock")
     server.kill()
-    room.run("ip link delete left && ip link delete right")
 
 
 def mappings_end(program, env):
@@ -222,7 +220,6 @@ def mappings_end(program, env):
         check("a connection that was idle", sock.recv(99) == b"idle")
     nat.ends("with a fast clock")
     server.kill()
-    room.run("ip link delete left && ip link delete right")
 
 
 def with_fast_clock(router, nat, clock):

@@ -1,4 +1,5 @@
 """Namespaces, links and programs for kernel_router.py and kernel_nat.py."""
+import atexit
 import contextlib
 import os
 import re
@@ -58,6 +59,7 @@ class Namespace:
         self.keeper = subprocess.Popen(["unshare", "--net", "sh", "-c", "echo ready && exec sleep 900"], stdout=subprocess.PIPE)
         self.keeper.stdout.readline()
         self.process = str(self.keeper.pid)
+        atexit.register(self.keeper.kill)
         self.run("ip link set lo up")
 
     def run(self, script):

@@ -72,6 +72,7 @@ def start_on_taps(room, there, program, config=OF_TAPS, **words):
 
 def make_pairs(room, there):
     """Pairs of virtual Ethernet devices from the namespace of the router to both hosts."""
+    Here().run("ip link delete left 2> /dev/null || true")  # of a namespace that has not ended yet
     for name, namespace in (("left", Here()), ("right", there)):
         room.run(f"ip link add dev {name} address {HARDWARE[name].hex(':')} type veth peer name {name} netns {namespace.process}")
         room.run(f"ip link set {name} addrgenmode none && ip link set {name} up")
