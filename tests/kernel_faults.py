@@ -91,6 +91,7 @@ def sockets_fail(router, room, there, sides):
         room.run(f"ip link set {name} up")
         works("an interface that was down")
     full_socket(router, sides)
+    room.run("ip link delete left && ip link delete right")
     for name in HOSTS:
         check("a deleted interface", router.waits_for(f"router: {name}: the device is gone"))
     is_idle(router, "deleted interfaces")
