@@ -11,13 +11,14 @@ import functools
 import ipaddress
 import random
 import socket
+import subprocess
 import sys
 import time
 
 import compare
 import packets
 from forwarded import Router, with_header_checksum
-from kernel_bridge import is_hex
+from kernel_bridge import in_namespace, is_hex
 from kernel_client import check, echoed, report, tcp_at_once, tcp_turns, udp_lengths, wrong
 from kernel_links import ELSEWHERE, LATEST, SELF, Here, Namespace, Program, WideSide, no_errors, ping, settle, udp_echo
 from rebuilt import recorded
@@ -279,8 +280,36 @@ def arp_replies(sides):
         compare_lists("ARP", expected, [frame for frame in side.came_out if frame[12:14] == ARP])
 
 
+BAD_LINES = (
+    ("address 10.1.0.1 dev left", "not an address with a prefix length"),
+    ("route 10.1.0.0/33 dev left", "not a block"),
+    ("route 10.0.0.0/8 via fd01::9 dev left", "not the address of a next hop"),
+    ("neighbour 10.1.0.2 lladdr 02:00 dev left", "not an address and an Ethernet address"),
+    ("lladdr 01:00:00:00:00:01 dev left", "not an Ethernet address of a host"),
+    ("address 10.1.0.1/24 dev middle", "no such interface"),
+    ("address 10.1.0.1/24", "the line does not end in: dev NAME"),
+    ("gateway 10.1.0.1 dev left", "not a line of this file"),
+    ("route 10.0.0.0/8 by 10.1.0.9 dev left", "not a line of this file"),
+    ("# " + 600 * "x", "the line is too long"),
+    (" ".join("x" * 9), "too many words"),
+)
+
+
+def bad_files(room, program):
+    """A line that is wrong ends the program, with a message."""
+    for line, message in BAD_LINES:
+        with open(f"{program}.bad", "w", encoding="ascii") as file:
+            file.write(f"# a comment\n\naddress 10.1.0.1/24 dev left\n{line}\n")
+        got = in_namespace(room.process, program, f"{program}.bad", "tap:left", stderr=subprocess.PIPE).communicate()[1]
+        check("a wrong line", got == f"router: {program}.bad:4: {message}\n", (line, got))
+    for word in ("left", "tap:", "veth:left", "packet:left", "tap:" + 16 * "x"):
+        got = in_namespace(room.process, program, f"{program}.bad", word, stderr=subprocess.PIPE).communicate()[1]
+        check("a wrong interface", got.startswith(f"router: {word}: ") and got.count("\n") == 1, (word, got))
+
+
 def on_taps(program):
     room, there = Namespace(), Namespace()
+    bad_files(room, program)
     router = start_on_taps(room, there, program)
     server = there.serve(*(address for _, address in SERVERS))
     sides = {"left": WideSide(SELF, "left"), "right": WideSide(there.process, "right")}
