@@ -1,4 +1,5 @@
 """Packets as octets, right where nothing else is asked for."""
+import struct
 
 DST = bytes.fromhex("020000000002")
 SRC = bytes.fromhex("020000000001")
@@ -11,7 +12,7 @@ HOST_B = bytes([192, 0, 2, 2])
 def word_sum(data):
     """The one's complement sum of 16-bit words (RFC 1071)."""
     data += b"\0" * (len(data) % 2)
-    total = sum(int.from_bytes(data[i : i + 2], "big") for i in range(0, len(data), 2))
+    total = sum(struct.unpack(f">{len(data) // 2}H", data))
     while total >> 16:
         total = (total & 0xFFFF) + (total >> 16)
     return total

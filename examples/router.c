@@ -1,0 +1,23 @@
+/* A router on TAP devices and on interfaces of the kernel (Linux). docs/ROUTER.md shows how to start it.
+ *     router [-n] FILE INTERFACE..
+ * Each INTERFACE is tap:NAME, a TAP device that it makes unless it exists, or packet:NAME, an interface of the kernel.
+ * FILE has their addresses, and static routes and neighbours. -n: accept packets from any source.
+ *
+ * Prints "ready", and its counters at SIGUSR1. SIGINT and SIGTERM end it. */
+#include "routing/router.h"
+
+#include <stdio.h>
+#include <string.h>
+
+int main(int argc, char **argv)
+{
+    int options = argc > 1 && strcmp(argv[1], "-n") == 0;
+    struct router router = {.name = "router", .accepts_any_source = options};
+    if (argc < 3 + options) {
+        fprintf(stderr, "usage: router [-n] FILE tap:NAME|packet:NAME..\n");
+        return 2;
+    }
+    if (!start(&router, argv[1 + options], argv + 2 + options, (size_t)(argc - 2 - options)))
+        return 1;
+    return serve(&router);
+}

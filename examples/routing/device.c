@@ -1,0 +1,293 @@
+/* TAP devices and packet sockets. Both exchange frames with a virtio header, so that a frame with offloads
+ * goes on as it came. */
+#define _GNU_SOURCE
+#include "router.h"
+
+#include <arpa/inet.h>
+#include <errno.h>
+#include <fcntl.h>
+#include <linux/if_ether.h>
+#include <linux/if_packet.h>
+#include <linux/if_tun.h>
+#include <stdio.h>
+#include <string.h>
+#include <sys/ioctl.h>
+#include <sys/random.h>
+#include <sys/socket.h>
+#include <sys/uio.h>
+#include <unistd.h>
+
+enum { HEADER = sizeof(struct virtio_net_hdr), PARTS = 2, SOCKET_ROOM = 1 << 24 };
+
+static int open_tap(struct interface *interface)
+{
+    struct ifreq request = {.ifr_flags = IFF_TAP | IFF_NO_PI | IFF_VNET_HDR};
+    memcpy(request.ifr_name, interface->name, IFNAMSIZ);
+    interface->device = open("/dev/net/tun", O_RDWR | O_NONBLOCK | O_CLOEXEC);
+    if (interface->device < 0 || ioctl(interface->device, TUNSETIFF, &request) < 0)
+        return 0;
+    memcpy(interface->name, request.ifr_name, IFNAMSIZ);
+    interface->index = if_nametoindex(interface->name);
+    return 1;
+}
+
+static int open_socket(struct interface *interface)
+{
+    static const int on = 1, room = SOCKET_ROOM;
+    struct sockaddr_ll place = {.sll_family = AF_PACKET, .sll_protocol = htons(ETH_P_ALL)};
+    interface->index = if_nametoindex(interface->name);
+    place.sll_ifindex = (int)interface->index;
+    int device = interface->device = socket(AF_PACKET, SOCK_RAW | SOCK_NONBLOCK | SOCK_CLOEXEC, 0);
+    if (device < 0 || interface->index == 0)
+        return 0;
+    setsockopt(device, SOL_SOCKET, SO_RCVBUFFORCE, &room, sizeof room);
+    return setsockopt(device, SOL_PACKET, PACKET_VNET_HDR, &on, sizeof on) == 0
+           && setsockopt(device, SOL_PACKET, PACKET_AUXDATA, &on, sizeof on) == 0
+           && setsockopt(device, SOL_PACKET, PACKET_IGNORE_OUTGOING, &on, sizeof on) == 0
+           && bind(device, (struct sockaddr *)&place, sizeof place) == 0;
+}
+
+/* Reads the MTU, and the Ethernet address of a socket's interface. A TAP device that was moved to another network
+ * namespace keeps the MTU that it had. */
+static int read_settings(struct interface *interface)
+{
+    struct ifreq request = {.ifr_flags = 0};
+    int any = socket(AF_INET, SOCK_DGRAM | SOCK_CLOEXEC, 0), is_read = 1;
+    memcpy(request.ifr_name, interface->name, IFNAMSIZ);
+    if (any >= 0 && ioctl(any, SIOCGIFMTU, &request) == 0)
+        interface->mtu = (size_t)request.ifr_mtu;
+    if (!interface->is_tap) {
+        is_read = any >= 0 && ioctl(any, SIOCGIFHWADDR, &request) == 0 && request.ifr_hwaddr.sa_family == 1;
+        if (is_read)
+            memcpy(interface->hardware, request.ifr_hwaddr.sa_data, 6);
+    }
+    close(any);
+    return is_read;
+}
+
+static int open_device(struct interface *interface)
+{
+    if ((interface->is_tap ? open_tap : open_socket)(interface) && read_settings(interface))
+        return 1;
+    if (interface->device >= 0)
+        close(interface->device);
+    interface->device = -1;
+    return 0;
+}
+
+int open_interface(const char *program, const char *word, struct interface *interface)
+{
+    const char *colon = strchr(word, ':');
+    size_t kind_len = colon ? (size_t)(colon - word) : 0;
+    *interface = (struct interface){.device = -1, .is_tap = kind_len == 3 && memcmp(word, "tap", 3) == 0};
+    if ((!interface->is_tap && !(kind_len == 6 && memcmp(word, "packet", 6) == 0)) || strlen(colon + 1) >= IFNAMSIZ
+        || colon[1] == 0) {
+        fprintf(stderr, "%s: %s: neither tap:NAME nor packet:NAME\n", program, word);
+        return 0;
+    }
+    strcpy(interface->name, colon + 1);
+    /* A locally administered address, if the file does not name another one. */
+    if (getrandom(interface->hardware, 6, 0) != 6)
+        return 0;
+    interface->hardware[0] = 2;
+    if (!open_device(interface)) {
+        fprintf(stderr, "%s: %s: %s\n", program, word, strerror(errno));
+        return 0;
+    }
+    return 1;
+}
+
+static int is_there(const struct interface *interface)
+{
+    struct ifreq request = {.ifr_flags = 0};
+    char name[IFNAMSIZ];
+    return interface->is_tap ? ioctl(interface->device, TUNGETIFF, &request) == 0
+                             : if_indextoname(interface->index, name) != NULL;
+}
+
+static void count_missed(struct interface *interface)
+{
+    struct tpacket_stats stats;
+    socklen_t len = sizeof stats;
+    if (getsockopt(interface->device, SOL_PACKET, PACKET_STATISTICS, &stats, &len) == 0)
+        interface->missed += stats.tp_drops;
+}
+
+void check_interface(const char *program, struct interface *interface)
+{
+    if (interface->device >= 0 && !is_there(interface)) {
+        close(interface->device);
+        interface->device = -1;
+        fprintf(stderr, "%s: %s: the device is gone\n", program, interface->name);
+    } else if (interface->device >= 0) {
+        read_settings(interface);
+        if (!interface->is_tap)
+            count_missed(interface);
+    } else if (if_nametoindex(interface->name) != 0 && open_device(interface)) {
+        fprintf(stderr, "%s: %s: the device is back\n", program, interface->name);
+    }
+}
+
+/* What a device reads or writes: the virtio header and the frame. */
+static void set_parts(struct iovec parts[PARTS], struct packet *packet, size_t len)
+{
+    parts[0] = (struct iovec){&packet->offload, HEADER};
+    parts[1] = (struct iovec){packet->frame, len};
+}
+
+/* ---- receiving ---- */
+
+static size_t receive_from_tap(struct interface *interface, struct packet *packets)
+{
+    size_t count = 0;
+    for (; count < FRAMES_AT_ONCE; count++) {
+        struct iovec parts[PARTS];
+        set_parts(parts, &packets[count], sizeof packets->frame);
+        ssize_t len = readv(interface->device, parts, PARTS);
+        if (len < HEADER)
+            break;
+        packets[count].len = (size_t)len - HEADER;
+        packets[count].is_tagged = 0;
+    }
+    return count;
+}
+
+static int has_tag(struct msghdr *message)
+{
+    for (struct cmsghdr *part = CMSG_FIRSTHDR(message); part != NULL; part = CMSG_NXTHDR(message, part)) {
+        struct tpacket_auxdata aux;
+        if (part->cmsg_level == SOL_PACKET && part->cmsg_type == PACKET_AUXDATA) {
+            memcpy(&aux, CMSG_DATA(part), sizeof aux);
+            return (aux.tp_status & TP_STATUS_VLAN_VALID) != 0;
+        }
+    }
+    return 0;
+}
+
+static size_t receive_from_socket(struct interface *interface, struct packet *packets)
+{
+    static struct mmsghdr messages[FRAMES_AT_ONCE];
+    static struct iovec parts[FRAMES_AT_ONCE][PARTS];
+    static _Alignas(struct cmsghdr) char control[FRAMES_AT_ONCE][CMSG_SPACE(sizeof(struct tpacket_auxdata))];
+    for (int i = 0; i < FRAMES_AT_ONCE; i++) {
+        set_parts(parts[i], &packets[i], sizeof packets->frame);
+        messages[i].msg_hdr = (struct msghdr){.msg_iov = parts[i], .msg_iovlen = PARTS, .msg_control = control[i],
+                                              .msg_controllen = sizeof control[i]};
+    }
+    int received = recvmmsg(interface->device, messages, FRAMES_AT_ONCE, 0, NULL);
+    size_t count = 0;
+    for (; received > 0 && count < (size_t)received; count++) {
+        packets[count].len = messages[count].msg_len > HEADER ? messages[count].msg_len - HEADER : 0;
+        packets[count].is_tagged = has_tag(&messages[count].msg_hdr);
+    }
+    return count;
+}
+
+size_t receive(struct interface *interface, struct packet *packets)
+{
+    size_t count = (interface->is_tap ? receive_from_tap : receive_from_socket)(interface, packets);
+    for (size_t i = 0; i < count; i++)
+        packets[i].offload.flags &= VIRTIO_NET_HDR_F_NEEDS_CSUM;
+    interface->received += count;
+    return count;
+}
+
+/* ---- sending ---- */
+
+size_t pad(uint8_t *frame, size_t len)
+{
+    if (len >= SHORTEST_FRAME)
+        return len;
+    memset(frame + len, 0, SHORTEST_FRAME - len);
+    return SHORTEST_FRAME;
+}
+
+void send_later(struct interface *interface, struct packet *packet)
+{
+    interface->queue[interface->queued++] = packet;
+}
+
+static void count_sent(struct interface *interface, int is_sent)
+{
+    if (is_sent)
+        interface->sent++;
+    else
+        interface->lost++;
+}
+
+static void flush_socket(struct interface *interface)
+{
+    static struct mmsghdr messages[FRAMES_AT_ONCE];
+    static struct iovec parts[FRAMES_AT_ONCE][PARTS];
+    for (size_t i = 0; i < interface->queued; i++) {
+        set_parts(parts[i], interface->queue[i], interface->queue[i]->len);
+        messages[i].msg_hdr = (struct msghdr){.msg_iov = parts[i], .msg_iovlen = PARTS};
+    }
+    for (size_t done = 0; done < interface->queued;) {
+        int sent = sendmmsg(interface->device, messages + done, (unsigned)(interface->queued - done), 0);
+        interface->sent += sent > 0 ? (unsigned long)sent : 0;
+        interface->lost += sent <= 0;
+        done += sent > 0 ? (size_t)sent : 1;
+    }
+}
+
+void flush(struct interface *interface)
+{
+    if (!interface->is_tap)
+        flush_socket(interface);
+    for (size_t i = 0; interface->is_tap && i < interface->queued; i++) {
+        struct iovec parts[PARTS];
+        set_parts(parts, interface->queue[i], interface->queue[i]->len);
+        count_sent(interface, writev(interface->device, parts, PARTS) > 0);
+    }
+    interface->queued = 0;
+}
+
+void send_now(struct interface *interface, const struct virtio_net_hdr *offload, const uint8_t *frame, size_t len)
+{
+    struct iovec parts[PARTS] = {{(void *)(uintptr_t)offload, HEADER}, {(void *)(uintptr_t)frame, len}};
+    count_sent(interface, writev(interface->device, parts, PARTS) > 0);
+}
+
+/* ---- checksums that are left to the device ---- */
+
+/* Where the UDP or TCP checksum of a packet is, or null if the device has nothing to compute. */
+static uint8_t *open_checksum(struct packet *packet)
+{
+    size_t place = (size_t)packet->offload.csum_start + packet->offload.csum_offset;
+    int is_open = (packet->offload.flags & VIRTIO_NET_HDR_F_NEEDS_CSUM) && place + 2 <= packet->len;
+    return is_open ? packet->frame + place : NULL;
+}
+
+static void store_word(uint8_t *place, uint16_t word)
+{
+    place[0] = (uint8_t)(word >> 8);
+    place[1] = (uint8_t)word;
+}
+
+void complete_checksum(struct packet *packet)
+{
+    size_t start = packet->offload.csum_start;
+    uint8_t *place = open_checksum(packet);
+    if (place == NULL)
+        return;
+    uint16_t checksum = (uint16_t)~lk_checksum(packet->frame + start, packet->len - start);
+    int is_udp = packet->offload.csum_offset == 6;
+    store_word(place, is_udp && checksum == 0 ? 0xffff : checksum);
+    if (packet->offload.gso_type == VIRTIO_NET_HDR_GSO_NONE)
+        packet->offload = (struct virtio_net_hdr){.flags = 0};
+}
+
+void uncomplete_checksum(struct packet *packet)
+{
+    struct lk_frame f;
+    uint8_t pseudo[36] = {0}, *place = open_checksum(packet);
+    if (place == NULL)
+        return;
+    lk_read_captured(packet->frame, packet->offload.csum_start, packet->len, &f);
+    memcpy(pseudo, f.src.addr.octets, 16);
+    memcpy(pseudo + 16, f.dst.addr.octets, 16);
+    store_word(pseudo + 32, f.ip.protocol);
+    store_word(pseudo + 34, (uint16_t)(packet->len - packet->offload.csum_start));
+    store_word(place, lk_checksum(pseudo, sizeof pseudo));
+}

@@ -1,0 +1,175 @@
+/* The way of a packet through a router (RFC 1812, section 5.2.1). */
+#include "router.h"
+
+#include <stdio.h>
+#include <string.h>
+
+/* The longest IP header with the Ethernet header before it. Nothing behind it is parsed, so no payload is summed. */
+enum { LONGEST_HEADERS = ETHERNET_LEN + 60 };
+
+static const uint8_t no_hardware[6];
+
+void drop(struct router *router, enum drop why)
+{
+    router->drops[why]++;
+}
+
+static void reject(struct router *router, int rejection)
+{
+    router->rejections[rejection]++;
+}
+
+static int is_link_local(const struct lk_addr *addr)
+{
+    const uint8_t *octets = addr->octets;
+    return addr->version == 4 ? octets[0] == 169 && octets[1] == 254 : octets[0] == 0xfe && (octets[1] & 0xc0) == 0x80;
+}
+
+/* An address to which no router forwards (RFC 1812, section 5.3.7; RFC 4291, section 2.5). */
+static int is_reserved(const struct lk_addr *addr)
+{
+    static const uint8_t zeros[15];
+    const uint8_t *octets = addr->octets;
+    return addr->version == 4 ? octets[0] == 0 || octets[0] == 127 || octets[0] >= 240
+                              : memcmp(octets, zeros, 15) == 0 && octets[15] <= 1;
+}
+
+static int is_broadcast(const struct lk_addr *addr)
+{
+    static const uint8_t ones[4] = {255, 255, 255, 255};
+    return addr->version == 4 && memcmp(addr->octets, ones, 4) == 0;
+}
+
+/* Whether a packet may be forwarded by its addresses. If not, it is counted. */
+static int may_pass(struct router *router, uint16_t from, const struct lk_frame *in)
+{
+    const struct interface *interface = &router->interfaces[from];
+    int rejection = LK_NOT_REJECTED;
+    if ((in->ethernet.dst[0] & 1) || lk_is_multicast(&in->dst.addr) || is_broadcast(&in->dst.addr)) {
+        drop(router, GROUP);
+    } else if (memcmp(in->ethernet.dst, interface->hardware, 6) != 0) {
+        drop(router, OTHER_LINK);
+    } else if (is_link_local(&in->dst.addr) || is_link_local(&in->src.addr)) {
+        drop(router, LINK_LOCAL);
+    } else if (is_reserved(&in->dst.addr)) {
+        drop(router, RESERVED);
+    } else {
+        if (!router->accepts_any_source)
+            rejection = lk_check_source(router->routes, router->route_count, router->nodes, router->route_count,
+                                        &in->src.addr, from);
+        if (rejection == LK_NOT_REJECTED)
+            return 1;
+        reject(router, rejection);
+    }
+    return 0;
+}
+
+/* The length of an IP packet whose header was parsed, in octets. */
+static size_t packet_len(const uint8_t *header)
+{
+    return header[0] >> 4 == 4 ? (size_t)header[2] << 8 | header[3] : 40 + ((size_t)header[4] << 8 | header[5]);
+}
+
+/* The length of the longest IP packet that this one becomes on its way: that of its segments, if the device makes them.
+ * Behind the headers each has `gso_size` octets. */
+static size_t longest_len(const struct packet *packet)
+{
+    const struct virtio_net_hdr *offload = &packet->offload;
+    size_t start = offload->csum_start;
+    if (offload->gso_type == VIRTIO_NET_HDR_GSO_NONE || start < ETHERNET_LEN || start + 20 > packet->len)
+        return packet->len - ETHERNET_LEN;
+    int kind = offload->gso_type & ~VIRTIO_NET_HDR_GSO_ECN;
+    int is_tcp = kind == VIRTIO_NET_HDR_GSO_TCPV4 || kind == VIRTIO_NET_HDR_GSO_TCPV6;
+    size_t header_len = is_tcp ? packet->frame[start + 12] / 16 * 4u : 8;
+    return start - ETHERNET_LEN + header_len + offload->gso_size;
+}
+
+/* Returns the next hop of a destination, and stores its interface; or null, then the packet is counted. */
+static const struct lk_addr *next_hop(struct router *router, const struct lk_addr *dst, uint16_t *to)
+{
+    ptrdiff_t place = lk_choose_route(router->nodes, router->route_count, dst);
+    const struct lk_route *route = place < 0 ? NULL : &router->routes[place];
+    if (route == NULL)
+        drop(router, NO_WAY);
+    else if (route->interface == TO_ROUTER)
+        drop(router, FOR_ROUTER);
+    else if (route->interface == TO_BROADCAST)
+        drop(router, GROUP);
+    else if (router->interfaces[route->interface].device < 0)
+        router->interfaces[route->interface].lost++;
+    else
+        *to = route->interface;
+    if (route == NULL || route->interface >= TO_BROADCAST || router->interfaces[route->interface].device < 0)
+        return NULL;
+    return route->next_hop.version != 0 ? &route->next_hop : dst;
+}
+
+static void send_on(struct router *router, uint16_t from, struct packet *packet, const struct lk_addr *dst)
+{
+    uint16_t to = 0;
+    const struct lk_addr *hop = next_hop(router, dst, &to);
+    if (hop == NULL)
+        return;
+    struct interface *interface = &router->interfaces[to];
+    if (longest_len(packet) > interface->mtu) {
+        drop(router, TOO_LONG);
+        return;
+    }
+    int rejection = lk_forward(packet->frame, packet->len, interface->hardware, no_hardware);
+    if (rejection == LK_NOT_REJECTED && router->before_send != NULL)
+        rejection = router->before_send(router, from, to, packet);
+    if (rejection != LK_NOT_REJECTED) {
+        reject(router, rejection);
+        return;
+    }
+    if (!interface->is_tap)
+        packet->len = pad(packet->frame, packet->len);
+    send_to_neighbour(router, to, hop, packet);
+}
+
+void on_frame(struct router *router, uint16_t from, struct packet *packet)
+{
+    struct lk_frame in;
+    size_t captured = packet->len < LONGEST_HEADERS ? packet->len : LONGEST_HEADERS;
+    int reason = lk_read_captured(packet->frame, captured, packet->len, &in);
+    router->frames++;
+    if (packet->is_tagged) {
+        drop(router, TAGGED);
+    } else if (in.network == LK_ARP) {
+        if (reason == LK_READ)
+            on_arp(router, from, &in);
+    } else if (in.network == LK_NO_NETWORK) {
+        /* It does not parse, so that it is rejected. */
+        int rejection = lk_forward(packet->frame, packet->len, no_hardware, no_hardware);
+        reject(router, rejection != LK_NOT_REJECTED ? rejection : LK_BAD_HEADER);
+    } else if (in.ipv4_checksum == LK_WRONG) {
+        reject(router, LK_WRONG_CHECKSUM);
+    } else if (may_pass(router, from, &in)) {
+        struct lk_addr dst = in.dst.addr;
+        packet->len = ETHERNET_LEN + packet_len(packet->frame + ETHERNET_LEN);
+        int rejection = router->before_route != NULL ? router->before_route(router, from, packet, &dst) : LK_NOT_REJECTED;
+        if (rejection != LK_NOT_REJECTED)
+            reject(router, rejection);
+        else
+            send_on(router, from, packet, &dst);
+    }
+}
+
+void print_counts(const struct router *router)
+{
+    static const char *const names[DROPS] = {
+        "other link address", "VLAN tag", "group or broadcast", "link-local", "reserved address", "for the router", "no route",
+        "too long", "no neighbour",
+    };
+    printf("frames %lu, forwarded %lu, ARP %lu\n", router->frames, router->forwarded, router->arp);
+    for (int why = 0; why < DROPS; why++)
+        if (router->drops[why] != 0)
+            printf("dropped: %s %lu\n", names[why], router->drops[why]);
+    for (int why = 0; why < REJECTIONS; why++)
+        if (router->rejections[why] != 0)
+            printf("dropped: %s %lu\n", lk_rejection_name(why), router->rejections[why]);
+    for (const struct interface *one = router->interfaces; one < router->interfaces + router->interface_count; one++)
+        printf("%s: received %lu, sent %lu, lost %lu, missed %lu%s\n", one->name, one->received, one->sent, one->lost,
+               one->missed, one->device < 0 ? ", gone" : "");
+    fflush(stdout);
+}

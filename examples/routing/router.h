@@ -1,0 +1,124 @@
+/* What router.c and nat.c share: interfaces, a neighbour cache, routes, and the way of a packet. */
+#ifndef ROUTER_H
+#define ROUTER_H
+
+#include <ip_wire.h>
+#include <linux/virtio_net.h>
+#include <net/if.h>
+
+enum { ETHERNET_LEN = 14, LONGEST_FRAME = ETHERNET_LEN + 65535, SHORTEST_FRAME = 60, FRAMES_AT_ONCE = 64 };
+
+/* A frame from a device, with what its sender left to the device. A frame with an `offload.gso_type` becomes many
+ * frames on its way. One with VIRTIO_NET_HDR_F_NEEDS_CSUM has no UDP or TCP checksum yet. */
+struct packet {
+    size_t len;    /* of the frame, in octets */
+    int is_tagged; /* the kernel has taken a VLAN tag out of it */
+    struct virtio_net_hdr offload;
+    uint8_t frame[LONGEST_FRAME];
+};
+
+struct interface {
+    char name[IFNAMSIZ];
+    int is_tap;          /* else it is a packet socket on an interface of the kernel */
+    int device;          /* -1: the device is gone */
+    unsigned index;      /* of the kernel's interface */
+    size_t mtu;          /* in octets */
+    uint8_t hardware[6]; /* its Ethernet address */
+    struct packet *queue[FRAMES_AT_ONCE];
+    size_t queued;
+    unsigned long received, sent;
+    unsigned long lost;   /* could not be sent: the device is down or gone, or its queue is full */
+    unsigned long missed; /* came while the socket was full */
+};
+
+/* An address of the router, with the block of its link. */
+struct address {
+    struct lk_block block;
+    uint16_t interface;
+};
+
+/* Numbers of routes that lead to no interface: the router's own addresses, and directed broadcasts. */
+enum { TO_ROUTER = 65535, TO_BROADCAST = 65534, MOST_INTERFACES = 65534 };
+
+/* Why a packet is dropped, beside the reasons of `lk_rejection`. */
+enum drop {
+    OTHER_LINK,   /* another Ethernet address */
+    TAGGED,       /* a VLAN tag */
+    GROUP,        /* for a group or a broadcast, or its Ethernet address is one */
+    LINK_LOCAL,   /* from or for a link-local address */
+    RESERVED,     /* for 0.0.0.0/8, 127.0.0.0/8, 240.0.0.0/4, ::, ::1 */
+    FOR_ROUTER,   /* for an address of the router */
+    NO_WAY,       /* no route */
+    TOO_LONG,     /* longer than the MTU of the next link */
+    NO_NEIGHBOUR, /* no reply to ARP, or an IPv6 neighbour that is not in the file */
+    DROPS
+};
+
+enum { REJECTIONS = LK_OTHER_INTERFACE + 1 };
+
+struct router {
+    const char *name;             /* of the program */
+    struct interface *interfaces;
+    size_t interface_count;
+    struct address *addresses;
+    size_t address_count;
+    struct lk_route *routes;
+    struct lk_route_node *nodes;
+    size_t route_count;
+    struct neighbours *neighbours;
+    int64_t now;                  /* in milliseconds */
+    int accepts_any_source;
+    unsigned long frames, forwarded, arp;
+    unsigned long drops[DROPS], rejections[REJECTIONS];
+    /* Steps of a NAT; null: none. Each returns an lk_rejection. */
+    int (*before_route)(struct router *router, uint16_t from, struct packet *packet, struct lk_addr *dst);
+    int (*before_send)(struct router *router, uint16_t from, uint16_t to, struct packet *packet);
+};
+
+/* ---- device.c ---- */
+
+/* Reads "tap:NAME" or "packet:NAME", and opens it. Returns 0 if that fails, with a message. */
+int open_interface(const char *program, const char *word, struct interface *interface);
+/* Reads at most FRAMES_AT_ONCE frames, and returns their number. */
+size_t receive(struct interface *interface, struct packet *packets);
+/* Keeps a packet for the next `flush`. Until then the packet must stay. */
+void send_later(struct interface *interface, struct packet *packet);
+void flush(struct interface *interface);
+void send_now(struct interface *interface, const struct virtio_net_hdr *offload, const uint8_t *frame, size_t len);
+/* Fills a frame up to the shortest length of Ethernet, and returns its length. There must be room for it. */
+size_t pad(uint8_t *frame, size_t len);
+/* Looks whether the device is gone or has come back, and reads its MTU again. */
+void check_interface(const char *program, struct interface *interface);
+/* Computes the UDP or TCP checksum that the sender left to the device, and undoes this. */
+void complete_checksum(struct packet *packet);
+void uncomplete_checksum(struct packet *packet);
+
+/* ---- neighbour.c ---- */
+
+struct neighbours *make_neighbours(void);
+/* Returns 0 if there is no room. */
+int add_neighbour(struct neighbours *neighbours, uint16_t interface, const struct lk_addr *addr, const uint8_t *hardware);
+/* Sends a frame to a neighbour, now or when it has replied to ARP. */
+void send_to_neighbour(struct router *router, uint16_t to, const struct lk_addr *addr, struct packet *packet);
+void on_arp(struct router *router, uint16_t from, const struct lk_frame *in);
+/* To be called once a second. */
+void ask_again(struct router *router);
+
+/* ---- config.c ---- */
+
+/* Reads the file with addresses, routes and neighbours. Returns 0 if that fails, with a message. */
+int read_config(struct router *router, const char *path);
+
+/* ---- forward.c ---- */
+
+void on_frame(struct router *router, uint16_t from, struct packet *packet);
+void drop(struct router *router, enum drop why);
+void print_counts(const struct router *router);
+
+/* ---- serve.c ---- */
+
+/* Opens the interfaces, reads the file, and forwards until SIGTERM or SIGINT. Returns the status of the program. */
+int start(struct router *router, const char *config, char **words, size_t count);
+int serve(struct router *router);
+
+#endif

@@ -1,0 +1,396 @@
+#!/usr/bin/env python3
+"""The kernel's side of tests/kernel, for examples/router.c.
+
+tests/kernel_router.py taps PROGRAM     exchanges packets through a router on TAP devices, and compares all frames
+tests/kernel_router.py sockets PROGRAM  through a router on packet sockets, with the offloads of the kernel
+
+This process is a host on one side, and a namespace of its own is the host on the other side. Prints how many exchanges
+were right. The status is 1 if one was wrong, or if a kernel counted an error.
+"""
+import functools
+import ipaddress
+import random
+import socket
+import subprocess
+import sys
+import time
+
+import compare
+import packets
+from forwarded import Router, with_header_checksum
+from kernel_bridge import in_namespace, is_hex
+from kernel_client import check, echoed, report, tcp_at_once, tcp_turns, udp_lengths, wrong
+from kernel_links import ELSEWHERE, LATEST, SELF, Here, Namespace, Program, WideSide, no_errors, ping, settle, udp_echo
+from rebuilt import recorded
+
+HOSTS = {"left": bytes.fromhex("020000000102"), "right": bytes.fromhex("020000000202")}
+HARDWARE = {"left": bytes.fromhex("02000000aa01"), "right": bytes.fromhex("02000000aa02")}
+CONFIG = """
+# The links, and what is behind the host on the left and behind another router on the right.
+address 10.1.0.1/24 dev left
+address fd01::1/64 dev left
+address 10.2.0.1/24 dev right
+address fd02::1/64 dev right
+route 203.0.113.0/24 via 10.1.0.9 dev left
+route 3fff::/20 via fd01::9 dev left
+route 198.18.0.0/15 via 10.2.0.9 dev right
+route 2001:db8::/32 via fd02::9 dev right
+neighbour fd01::2 lladdr 02:00:00:00:01:02 dev left
+neighbour fd02::2 lladdr 02:00:00:00:02:02 dev right
+""" + "".join(f"neighbour {addr} lladdr {ELSEWHERE.hex(':')} dev {name}\n" for addr, name in (
+    ("10.1.0.9", "left"), ("fd01::9", "left"), ("10.2.0.9", "right"), ("fd02::9", "right")))
+OF_TAPS = CONFIG + "".join(f"lladdr {addr.hex(':')} dev {name}\n" for name, addr in HARDWARE.items())
+MODEL = Router(
+    HARDWARE,
+    [("10.1.0.1/24", "left"), ("fd01::1/64", "left"), ("10.2.0.1/24", "right"), ("fd02::1/64", "right")],
+    [("203.0.113.0/24", ELSEWHERE, "left"), ("3fff::/20", ELSEWHERE, "left"), ("198.18.0.0/15", ELSEWHERE, "right"),
+     ("2001:db8::/32", ELSEWHERE, "right")],
+    {ipaddress.ip_address(addr): HOSTS[name] for addr, name in (
+        ("10.1.0.2", "left"), ("fd01::2", "left"), ("10.2.0.2", "right"), ("fd02::2", "right"))})
+SERVERS = ((socket.AF_INET, "10.2.0.2"), (socket.AF_INET6, "fd02::2"))
+HOST = """
+    ip link set {name} down address {hardware} && ip link set {name} up
+    ip address replace 10.{n}.0.2/24 dev {name} && ip address replace fd0{n}::2/64 dev {name} nodad
+    ip route replace default via 10.{n}.0.1 && ip -6 route replace default via fd0{n}::1 dev {name}
+    ip -6 neighbour replace fd0{n}::1 lladdr {router} dev {name}
+"""
+RANDOM_FRAMES, AT_ONCE, MOST_WRONG = 6_000, 64, 3
+ARP = b"\x08\x06"
+
+
+def set_host(namespace, name):
+    namespace.run(HOST.format(name=name, n=1 + (name == "right"), hardware=HOSTS[name].hex(":"), router=HARDWARE[name].hex(":")))
+
+
+def start_on_taps(room, there, program, config=OF_TAPS, **words):
+    """The router in the namespace `room`, with a TAP device in this one and one in that of the other host."""
+    router = Program(room, program, config, ["tap:left", "tap:right"], **words)
+    room.run(f"ip link set left netns {SELF} && ip link set right netns {there.process}")
+    set_host(Here(), "left")
+    set_host(there, "right")
+    return router
+
+
+def make_pairs(room, there):
+    """Pairs of virtual Ethernet devices from the namespace of the router to both hosts."""
+    Here().run("ip link delete left 2> /dev/null || true")  # of a namespace that has not ended yet
+    for name, namespace in (("left", Here()), ("right", there)):
+        room.run(f"ip link add dev {name} address {HARDWARE[name].hex(':')} type veth peer name {name} netns {namespace.process}")
+        room.run(f"ip link set {name} addrgenmode none && ip link set {name} up")
+        set_host(namespace, name)
+
+
+def start_on_pairs(room, there, program, **words):
+    make_pairs(room, there)
+    return Program(room, program, CONFIG, ["packet:left", "packet:right"], **words)
+
+
+# ---- frames
+
+
+def compare_lists(kind, expected, came_out):
+    for n in range(max(len(expected), len(came_out))):
+        right, found = (frames[n] if n < len(frames) else None for frames in (expected, came_out))
+        right = right(found or b"") if callable(right) else right
+        check(kind, right == found, f"\n    is    {found and found.hex()}\n    not   {right and right.hex()}")
+        if right != found:
+            return
+
+
+def compare_sides(kind, sides, model=MODEL):
+    """The frames of the kernels on both sides."""
+    settle(*sides.values())
+    expected = {name: [] for name in sides}
+    for name, side in sides.items():
+        for frame in side.handed:
+            to, out = model.fate(frame, name)
+            if out:
+                expected[to].append(out)
+    for name, side in sides.items():
+        compare_lists(kind, expected[name], [frame for frame in side.came_out if frame[12:14] != ARP])
+        side.handed, side.came_out = [], []
+
+
+@functools.cache
+def made_frames():
+    """Recorded frames, random ones, and changed ones."""
+    lines = (line.strip() for line in compare.corpus(random.randrange(1 << 32), RANDOM_FRAMES))
+    return [frame for frame, _ in recorded()] + [bytes.fromhex(line.decode()) for line in lines if is_hex(line)]
+
+
+def hostile_frames(count, name):
+    """Some of them, most of which could be routed from this side to the other one."""
+    for frame in random.choices(made_frames(), k=count):
+        frame = routed(frame, name) if len(frame) >= 34 and frame[12:14] in (b"\x08\0", b"\x86\xdd") else frame
+        if 14 <= len(frame) <= 1514 and frame[12:14] not in (b"\x81\0", b"\x88\xa8"):
+            yield frame
+
+
+def routed(frame, name):
+    """The frame from an address of this side to one of the other side, mostly."""
+    chance, other = random.random(), {"left": "right", "right": "left"}[name]
+    blocks = {"left": (bytes([203, 0, 113]), b"\x3f\xff\x0f"), "right": (bytes([198, 18, 7]), b"\x20\x01\x0d\xb8")}
+    is_ipv6 = frame[12] == 0x86
+    at, size = (22, 16) if is_ipv6 else (26, 4)
+    for place, side in ((at, name), (at + size, other)):
+        if random.random() < 0.9 and len(frame) >= at + 2 * size:
+            front = blocks[side][is_ipv6]
+            frame = frame[:place] + (front + random.randbytes(size - len(front))) + frame[place + size :]
+    if random.random() < 0.05:
+        hop_limit = 21 if is_ipv6 else 22
+        frame = frame[:hop_limit] + random.choice((b"\0", b"\1")) + frame[hop_limit + 1 :]
+    if not is_ipv6 and chance < 0.9:
+        header_len = max(20, frame[14] % 16 * 4)
+        frame = frame[:14] + with_header_checksum(frame[14 : 14 + header_len]) + frame[14 + header_len :]
+    return (HARDWARE[name] if chance < 0.95 else ELSEWHERE) + frame[6:]
+
+
+def random_frames(router, sides, count, model=MODEL, make=hostile_frames, at_once=AT_ONCE):
+    """What comes out of the router, and what it counts, for frames in both directions by turns."""
+    made = {name: list(make(count // 2, name)) for name in sides}
+    before, fates = router.counters(), []
+    for at in range(0, count // 2, at_once):
+        for name in sides:
+            fates += send_chunk(sides, name, made[name][at : at + at_once], model)
+            if len(wrong) >= MOST_WRONG:
+                return
+    compare_counters(router, before, fates)
+
+
+def send_chunk(sides, name, chunk, model):
+    """Sends frames, compares those that come out, and returns why the others are dropped."""
+    fates, end = [model.fate(frame, name) for frame in chunk], time.monotonic() + LATEST
+    expected = {to: [out for place, out in fates if out and place == to] for to in sides}
+    for side in sides.values():
+        side.forget()
+    for frame in chunk:
+        sides[name].sock.send(frame)
+    for to, side in sides.items():
+        while len(side.came_out) < len(expected[to]) and side.take(max(0, end - time.monotonic())):
+            side.came_out = [frame for frame in side.came_out if frame.startswith(ELSEWHERE)]
+    for to, side in sides.items():
+        compare_lists("frame", expected[to], side.came_out)
+    return [why for why, out in fates if not out]
+
+
+def compare_counters(router, before, fates):
+    """The reasons that the router counts, once it has taken all frames. The kernels send to groups too."""
+    expected = {why: fates.count(why) for why in set(fates) - {"ARP", "group or broadcast"}}
+    end = time.monotonic() + LATEST
+    while True:
+        after = router.counters()
+        found = {why: after.get(why, 0) - before.get(why, 0) for why in expected}
+        if found == expected or time.monotonic() > end:
+            break
+        time.sleep(0.02)
+    for why, count in expected.items():
+        check("counter", found[why] == count, (why, found[why], count))
+
+
+# ---- exchanges
+
+
+def udp(sides):
+    """UDP packets of every length: one frame, and fragments. Without a checksum, and with IP options."""
+    for family, address in SERVERS:
+        udp_lengths(family, address)
+        for length in [*range(1400, 65508, 997), 65507]:
+            data = random.randbytes(length - 20 * (family == socket.AF_INET6))
+            check("UDP in fragments", udp_echo(family, (address, 7), data) == data, (address, length))
+    compare_sides("frame of the kernel", sides)
+    for n in range(64):
+        data = random.randbytes(n)
+        for option in ((socket.SOL_SOCKET, 11, 1), (socket.IPPROTO_IP, socket.IP_TOS, 4 * n + n % 4),
+                       (socket.IPPROTO_IP, socket.IP_OPTIONS, b"\x01" * (n % 40) + b"\0"), (socket.IPPROTO_IP, socket.IP_TTL, 2 + n)):
+            check("UDP with an option", udp_echo(socket.AF_INET, ("10.2.0.2", 7), data, options=[option]) == data, option)
+    compare_sides("frame of the kernel", sides)
+
+
+def echo_requests():
+    for family, address in SERVERS:
+        for n in range(40):
+            check("ping", ping(family, address, random.randbytes(random.randrange(1400)), n), (address, n))
+
+
+def tcp(sides):
+    for family, address in SERVERS:
+        settle(*sides.values())
+        compare_sides("frame of the kernel", sides)
+        for length in [0, 1, 1460, 1461] + [random.randrange(5000) for _ in range(10)]:
+            data = random.randbytes(length)
+            check("TCP", echoed(family, address, data) == data, (address, length))
+            compare_sides("frame of the kernel", sides)
+        data = random.randbytes(4 << 20)
+        check("TCP", echoed(family, address, data) == data, (address, len(data)))
+        tcp_turns(family, address)
+        tcp_at_once(family, address)
+        for side in sides.values():
+            side.forget()
+
+
+def last_hop(router):
+    """A packet with hop limit 1 goes no further."""
+    before = router.counters()
+    for n in range(20):
+        with socket.socket(socket.AF_INET, socket.SOCK_DGRAM) as sock:
+            sock.setsockopt(socket.IPPROTO_IP, socket.IP_TTL, 1)
+            sock.sendto(b"x", ("10.2.0.2", 7))
+    time.sleep(0.1)
+    compare_counters(router, before, ["LK_EXPIRED"] * 20)
+
+
+def asked_for(side, addr):
+    """How many ARP requests for an address came out."""
+    side.take()
+    return sum(frame[12:14] == ARP and frame[38:42] == socket.inet_aton(addr) and frame[21] == 1 for frame in side.came_out)
+
+
+def silent_neighbour(router, sides, there):
+    """One request a second at most for an address, and the latest packets are kept until the reply."""
+    before = router.counters()
+    with socket.socket(socket.AF_INET, socket.SOCK_DGRAM) as sock:
+        for _ in range(24):
+            sock.sendto(b"", ("10.2.0.99", 7))
+            time.sleep(0.1)
+        count = asked_for(sides["right"], "10.2.0.99")
+        check("ARP requests", count == 3, count)
+        for n in range(80):
+            sock.sendto(bytes([n]), ("10.2.0.98", 7))
+    with there.entered(), socket.socket(socket.AF_INET, socket.SOCK_DGRAM) as server:
+        server.settimeout(LATEST)
+        there.run("ip address add 10.2.0.98/32 dev right")
+        server.bind(("10.2.0.98", 7))
+        check("packets that waited", [server.recv(9)[0] for _ in range(64)] == list(range(16, 80)))
+    compare_counters(router, before, ["no neighbour"] * (24 + 16))
+    there.run("ip address delete 10.2.0.98/32 dev right")
+    sides["right"].forget()
+
+
+def arp_replies(sides):
+    """The router replies for its own address on this link, also to a probe, and for no other one."""
+    side, own, host = sides["left"], socket.inet_aton("10.1.0.1"), socket.inet_aton("10.1.0.2")
+    for addr, sender in ((own, host), (own, bytes(4)), (socket.inet_aton("10.2.0.1"), host), (host, bytes(4))):
+        settle(side)
+        side.forget()
+        request = packets.arp(1, sha=HOSTS["left"], spa=sender, tpa=addr)
+        side.sock.send(packets.ethernet(packets.ARP, request, b"\xff" * 6, HOSTS["left"]))
+        side.take(0.2)
+        reply = packets.arp(2, sha=HARDWARE["left"], spa=addr, tha=HOSTS["left"], tpa=sender)
+        expected = [packets.ethernet(packets.ARP, reply, HOSTS["left"], HARDWARE["left"])] if addr == own else []
+        compare_lists("ARP", expected, [frame for frame in side.came_out if frame[12:14] == ARP])
+
+
+BAD_LINES = (
+    ("address 10.1.0.1 dev left", "not an address with a prefix length"),
+    ("route 10.1.0.0/33 dev left", "not a block"),
+    ("route 10.0.0.0/8 via fd01::9 dev left", "not the address of a next hop"),
+    ("neighbour 10.1.0.2 lladdr 02:00 dev left", "not an address and an Ethernet address"),
+    ("lladdr 01:00:00:00:00:01 dev left", "not an Ethernet address of a host"),
+    ("address 10.1.0.1/24 dev middle", "no such interface"),
+    ("address 10.1.0.1/24", "the line does not end in: dev NAME"),
+    ("gateway 10.1.0.1 dev left", "not a line of this file"),
+    ("route 10.0.0.0/8 by 10.1.0.9 dev left", "not a line of this file"),
+    ("# " + 600 * "x", "the line is too long"),
+    (" ".join("x" * 9), "too many words"),
+)
+
+
+def bad_files(room, program):
+    """A line that is wrong ends the program, with a message."""
+    for line, message in BAD_LINES:
+        with open(f"{program}.bad", "w", encoding="ascii") as file:
+            file.write(f"# a comment\n\naddress 10.1.0.1/24 dev left\n{line}\n")
+        got = in_namespace(room.process, program, f"{program}.bad", "tap:left", stderr=subprocess.PIPE).communicate()[1]
+        check("a wrong line", got == f"router: {program}.bad:4: {message}\n", (line, got))
+    for word in ("left", "tap:", "veth:left", "packet:left", "tap:" + 16 * "x"):
+        got = in_namespace(room.process, program, f"{program}.bad", word, stderr=subprocess.PIPE).communicate()[1]
+        check("a wrong interface", got.startswith(f"router: {word}: ") and got.count("\n") == 1, (word, got))
+
+
+def on_taps(program):
+    room, there = Namespace(), Namespace()
+    bad_files(room, program)
+    router = start_on_taps(room, there, program)
+    server = there.serve(*(address for _, address in SERVERS))
+    sides = {"left": WideSide(SELF, "left"), "right": WideSide(there.process, "right")}
+    for exchange, place in ((udp, (sides,)), (echo_requests, ()), (tcp, (sides,)), (last_hop, (router,)),
+                            (silent_neighbour, (router, sides, there)), (arp_replies, (sides,)),
+                            (random_frames, (router, sides, RANDOM_FRAMES))):
+        exchange(*place)
+    # Short queues lose packets.
+    Here().run("ip link set left txqueuelen 8")
+    there.run("ip link set right txqueuelen 8")
+    for family, address in SERVERS:
+        data = random.randbytes(1 << 20)
+        check("TCP with loss", echoed(family, address, data) == data, address)
+    no_errors(there)
+    router.ends("of a router on TAP devices")
+    server.kill()
+
+
+# ---- packet sockets
+
+
+def offloads(sides):
+    """Large frames of the kernel, whose checksums are left to the device, go on as they came."""
+    whole, longest = MODEL.but(longest=65535, least=60), 0
+    for family, address in SERVERS:
+        for length in range(0, 1400, 7):
+            data = random.randbytes(length)
+            check("UDP", udp_echo(family, (address, 7), data) == data, (address, length))
+        compare_sides("frame of the kernel", sides, whole)
+        for length in (1, 5000, 1 << 20):
+            data = random.randbytes(length)
+            check("TCP", echoed(family, address, data) == data, (address, length))
+            longest = max(longest, longest_handed(sides["left"]))
+            compare_sides("frame of the kernel", sides, whole)
+    check("frames of 64 KB", longest > 60_000, longest)
+    tcp_at_once(*SERVERS[0])
+
+
+def longest_handed(side):
+    settle(side)
+    return max(map(len, side.handed), default=0)
+
+
+def tagged_frames(router, sides):
+    """The kernel takes the tag of a VLAN out of a frame. The router drops it: it is from another link."""
+    side, before = sides["left"], router.counters()
+    packet = packets.header(8, protocol=17, src=socket.inet_aton("10.1.0.2"), dst=socket.inet_aton("10.2.0.2")) + bytes(8)
+    for tag in (b"\x81\0\0\x05", b"\x88\xa8\0\x05", b"\x81\0\x20\0"):
+        side.sock.send(HARDWARE["left"] + HOSTS["left"] + tag + b"\x08\0" + packet)
+    time.sleep(0.1)
+    compare_counters(router, before, ["VLAN tag"] * 3)
+
+
+def short_frames(sides):
+    """Padding is zeros, whatever it was before."""
+    for n in range(30):
+        side = sides["right"]
+        side.forget()
+        data = packets.udp(bytes([n]) * n, 9, 9, src=bytes([10, 1, 0, 2]), dst=bytes([198, 18, 0, 1]))
+        frame = packets.packet(data, b"padding of the sender" * (n % 3), protocol=17, src=bytes([10, 1, 0, 2]), dst=bytes([198, 18, 0, 1]))
+        frame = HARDWARE["left"] + HOSTS["left"] + frame[12:]
+        sides["left"].sock.send(frame)
+        side.take(LATEST)
+        compare_lists("padding", [MODEL.but(least=60).fate(frame, "left")[1]], [f for f in side.came_out if f.startswith(ELSEWHERE)])
+
+
+def on_sockets(program):
+    room, there = Namespace(), Namespace()
+    router = start_on_pairs(room, there, program)
+    server = there.serve(*(address for _, address in SERVERS))
+    sides = {"left": WideSide(SELF, "left"), "right": WideSide(there.process, "right")}
+    padded = MODEL.but(least=60)
+    offloads(sides)
+    tagged_frames(router, sides)
+    short_frames(sides)
+    random_frames(router, sides, RANDOM_FRAMES, padded)
+    no_errors(there)
+    router.ends("of a router on packet sockets")
+    server.kill()
+
+
+if __name__ == "__main__":
+    modes = {"taps": on_taps, "sockets": on_sockets}
+    sys.exit(report(f"router {sys.argv[1]}", modes[sys.argv[1]], *sys.argv[2:]))
