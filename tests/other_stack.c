@@ -1,15 +1,15 @@
 /* A host over lwIP, a network stack of another ancestry than Linux's and this library's (Linux).
- *     other_stack -d DEVICE -m HARDWARE_ADDRESS -a ADDRESS/PREFIX [-g GATEWAY] [-n HARDWARE_ADDRESS] [-l ONE_IN] [-s LARGEST] [SERVER]
- *
- * It sends and receives frames by a packet socket on the device, which must have no address of the kernel, and no
- * checksum offload. So the other end can be a program on a TAP device, or the peer of a veth device.
- *
+ *     other_stack -d DEVICE -m HARDWARE_ADDRESS -a ADDRESS/PREFIX [OPTION..] [SERVER]
  * With SERVER, an address, it exchanges UDP and TCP with port 7 there, compares each octet that comes back, and prints
- * what it counted. TCP echoes have up to LARGEST octets. The status is 1 if something was wrong. Without SERVER it
- * echoes at its own port 7, prints "ready", and runs until a signal ends it.
+ * what it counted. The status is 1 if something was wrong. Without SERVER it echoes at its own port 7, prints "ready",
+ * and runs until a signal ends it.
+ *     -g ADDRESS           of the router (IPv4)
+ *     -n HARDWARE_ADDRESS  of the next hop (IPv6): it is not asked for
+ *     -l COUNT             loses one in so many frames, each way
+ *     -s OCTETS            the largest TCP echo
  *
- * -g is the IPv4 address of the router. -n is the hardware address of the next hop for IPv6, which is not asked for.
- * -l loses one in so many frames, each way. */
+ * It sends and receives frames by a packet socket on the device, on which the kernel must have no address. The other
+ * end is a program on this TAP device, or the peer of this veth device without checksum offload. */
 #define _GNU_SOURCE
 #include <arpa/inet.h>
 #include <linux/if_packet.h>
@@ -20,6 +20,7 @@
 #include <lwip/timeouts.h>
 #include <lwip/udp.h>
 #include <net/if.h>
+#include <netinet/ether.h>
 #include <netif/ethernet.h>
 #include <poll.h>
 #include <stdarg.h>
@@ -29,7 +30,7 @@
 #include <sys/socket.h>
 #include <unistd.h>
 
-enum { ECHO_PORT = 7, MTU = 1500, LONGEST_FRAME = 65535 + 18, LARGEST = 10000000, FRAMES_AT_ONCE = 64, MOST_WRONG = 10 };
+enum { ECHO_PORT = 7, MTU = 1500, LONGEST_FRAME = 65535 + 18, FRAMES_AT_ONCE = 64, LARGEST = 10000000, MOST_WRONG = 10 };
 /* In milliseconds. With loss, a UDP packet is sent again after a while. */
 enum { PATIENCE = 60000, UDP_PATIENCE = 200, UDP_TRIES = 25 };
 
@@ -84,6 +85,8 @@ static void receive_frames(void)
         ssize_t len = recv(frames, bytes, sizeof bytes, MSG_DONTWAIT);
         if (len <= 0 || len > UINT16_MAX)
             return;
+        if (!(bytes[0] & 1) && memcmp(bytes, netif.hwaddr, ETH_HWADDR_LEN) != 0)
+            continue;
         frames_in++;
         struct pbuf *frame = is_lost() ? NULL : pbuf_alloc(PBUF_RAW, (u16_t)len, PBUF_RAM);
         if (frame != NULL && (pbuf_take(frame, bytes, (u16_t)len) != ERR_OK || netif.input(frame, &netif) != ERR_OK))
@@ -258,8 +261,8 @@ static void echo_tcp(const ip_addr_t *server, size_t len)
 
 static void be_client(const ip_addr_t *server, size_t largest)
 {
-    static const size_t sizes[] = {0, 1, 2, 100, 535, 536, 537, 1439, 1440, 1441, 1459, 1460, 1461, 2920, 20000, 65535, 65536, 1000000,
-                                   LARGEST};
+    static const size_t sizes[] = {0,    1,    2,    100,  535,   536,   537,   1439,    1440,   1441,
+                                   1459, 1460, 1461, 2920, 20000, 65535, 65536, 1000000, LARGEST};
     size_t most = MTU - (IP_IS_V6_VAL(*server) ? 48 : 28), udp = 0, tcp = 0;
     for (size_t i = 0; i < sizeof data; i++)
         data[i] = (uint8_t)random();
@@ -270,7 +273,8 @@ static void be_client(const ip_addr_t *server, size_t largest)
             echo_tcp(server, sizes[i]);
             tcp++;
         }
-    printf("UDP echoes %zu, TCP echoes %zu, %lu wrong; frames in %lu, out %lu, lost %lu\n", udp, tcp, wrong, frames_in, frames_out, lost);
+    printf("UDP echoes %zu, TCP echoes %zu, %lu wrong; frames in %lu, out %lu, lost %lu\n", udp, tcp, wrong, frames_in,
+           frames_out, lost);
 }
 
 /* ---- the server ---- */
@@ -374,15 +378,15 @@ static _Noreturn void be_server(void)
 
 static _Noreturn void explain(void)
 {
-    fprintf(stderr, "usage: other_stack -d DEVICE -m HARDWARE_ADDRESS -a ADDRESS/PREFIX [-g GATEWAY] [-n HARDWARE_ADDRESS]\n"
-                    "                   [-l ONE_IN] [-s LARGEST] [SERVER]\n");
+    fprintf(stderr, "usage: other_stack -d DEVICE -m HARDWARE_ADDRESS -a ADDRESS/PREFIX [OPTION..] [SERVER]\n");
     exit(2);
 }
 
 static void open_socket(const char *device)
 {
     int yes = 1, room = 1 << 24;
-    struct sockaddr_ll place = {.sll_family = AF_PACKET, .sll_protocol = htons(3), .sll_ifindex = (int)if_nametoindex(device)};
+    struct sockaddr_ll place = {
+        .sll_family = AF_PACKET, .sll_protocol = htons(ETH_P_ALL), .sll_ifindex = (int)if_nametoindex(device)};
     frames = socket(AF_PACKET, SOCK_RAW, 0);
     setsockopt(frames, SOL_SOCKET, SO_RCVBUFFORCE, &room, sizeof room);
     setsockopt(frames, SOL_PACKET, PACKET_IGNORE_OUTGOING, &yes, sizeof yes);
@@ -394,7 +398,7 @@ static void set_address(char *text, const char *gateway)
 {
     char *slash = strchr(text, '/');
     int prefix = slash != NULL ? atoi(slash + 1) : 0;
-    ip_addr_t addr, router = IPADDR4_INIT(0), mask;
+    ip_addr_t addr, router = IPADDR4_INIT(0);
     if (slash != NULL)
         *slash = 0;
     if (!ipaddr_aton(text, &addr) || (gateway != NULL && !ipaddr_aton(gateway, &router)))
@@ -403,24 +407,39 @@ static void set_address(char *text, const char *gateway)
         netif_ip6_addr_set(&netif, 0, ip_2_ip6(&addr));
         netif_ip6_addr_set_state(&netif, 0, IP6_ADDR_PREFERRED);
     } else {
-        ip_addr_set_ip4_u32(&mask, prefix == 0 ? 0 : htonl(UINT32_MAX << (32 - prefix)));
-        netif_set_addr(&netif, ip_2_ip4(&addr), ip_2_ip4(&mask), ip_2_ip4(&router));
+        ip4_addr_t mask = {.addr = prefix == 0 ? 0 : htonl(UINT32_MAX << (32 - prefix))};
+        netif_set_addr(&netif, ip_2_ip4(&addr), &mask, ip_2_ip4(&router));
     }
 }
 
 static void read_hardware(const char *text, uint8_t *octets)
 {
-    if (sscanf(text, "%hhx:%hhx:%hhx:%hhx:%hhx:%hhx", octets, octets + 1, octets + 2, octets + 3, octets + 4, octets + 5) != 6)
+    const struct ether_addr *addr = ether_aton(text);
+    if (addr == NULL)
         explain();
+    memcpy(octets, addr, ETH_HWADDR_LEN);
+}
+
+static void start(const char *device, const char *hardware, char *address, const char *gateway)
+{
+    srandom((unsigned)getpid());
+    open_socket(device);
+    lwip_init();
+    netif_add(&netif, NULL, NULL, NULL, NULL, start_device, ethernet_input);
+    read_hardware(hardware, netif.hwaddr);
+    set_address(address, gateway);
+    netif_set_default(&netif);
+    netif_set_up(&netif);
 }
 
 int main(int argc, char **argv)
 {
-    char *device = NULL, *address = NULL, *gateway = NULL, *hardware = NULL;
+    const char *device = NULL, *gateway = NULL, *hardware = NULL;
+    char *address = NULL;
     size_t largest = LARGEST;
     ip_addr_t server;
     int option;
-    while ((option = getopt(argc, argv, "d:m:a:g:n:l:s:")) != -1)
+    while ((option = getopt(argc, argv, "d:m:a:g:n:l:s:")) != -1) {
         switch (option) {
         case 'd': device = optarg; break;
         case 'm': hardware = optarg; break;
@@ -431,15 +450,11 @@ int main(int argc, char **argv)
         case 's': largest = strtoul(optarg, NULL, 10); break;
         default: explain();
         }
-    if (device == NULL || hardware == NULL || address == NULL || argc > optind + 1 || (argc == optind + 1 && !ipaddr_aton(argv[optind], &server)))
+    }
+    if (device == NULL || hardware == NULL || address == NULL || argc > optind + 1
+        || (argc == optind + 1 && !ipaddr_aton(argv[optind], &server)))
         explain();
-    open_socket(device);
-    lwip_init();
-    netif_add(&netif, NULL, NULL, NULL, NULL, start_device, ethernet_input);
-    read_hardware(hardware, netif.hwaddr);
-    set_address(address, gateway);
-    netif_set_default(&netif);
-    netif_set_up(&netif);
+    start(device, hardware, address, gateway);
     if (optind == argc)
         be_server();
     be_client(&server, largest);
