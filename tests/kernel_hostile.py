@@ -1,14 +1,18 @@
 #!/usr/bin/env python3
 """What tests/kernel does to examples/host.c that no right peer does.
 
-tests/kernel_hostile.py flood DEVICE    sends 60,000 hostile frames
-tests/kernel_hostile.py acks DEVICE     counts the acknowledgements of segments
-tests/kernel_hostile.py queue DEVICE PROCESS
-                                        exchanges packets over short queues, and after the host has stopped for a while
-tests/kernel_hostile.py open DEVICE PROCESS, retransmitting DEVICE PROCESS, full DEVICE PROCESS
-                                        leaves the host in a state, for SIGTERM: `full` sends the signal by itself
+tests/kernel_hostile.py WHAT DEVICE PROCESS
+    flood           sends 60,000 hostile frames to examples/host.c
+    acks            counts the acknowledgements of segments
+    queue           exchanges packets over short queues, and after the host was stopped for a while
+    open            leaves connections open
+    retransmitting  leaves a connection whose peer acknowledges nothing
+    full            fills the queue of frames to the host, and sends it SIGTERM while more come
+    proved          sends 60,000 hostile frames to examples/proved_host.c, and sets its device down and up
+    bridge          the same for examples/bridge.c from DEVICE to the device `far`, and sends it SIGTERM while more come
 
-The frames are built here, apart from the library. The status is 1 if something was wrong.
+PROCESS is the program on this TAP device. The frames are built here, apart from the library. The status is 1 if
+something was wrong.
 """
 import os
 import random
@@ -24,9 +28,10 @@ import time
 import compare
 import kernel_client as client
 import packets
-from kernel_client import ACK, ECHO, FIN, HOST_HARDWARE, HOSTS, RST, SYN, TCP, TCP_CLIENT, UDP, UDP_CLIENT, check, segment
+from kernel_client import (ACK, ECHO, FIN, HOST_HARDWARE, HOSTS, RST, SYN, TCP, TCP_CLIENT, UDP, UDP_CLIENT, check,
+                           segment)
 
-FLOOD, AT_ONCE, CORPUS = 60_000, 250, 5000
+FLOOD, AT_ONCE, CORPUS = 60_000, 250, 3000
 # Addresses of this network that the kernel does not have, so that it does not answer for them.
 OTHERS = ("10.77.0.99", "fd77::99")
 
@@ -44,36 +49,44 @@ def tcp_of(frame):
 
 
 def segments_until(wire, port, end, most=1000):
-    """The segments from the host to a port: (time, acknowledgement number, flags, length of the payload)."""
+    """The segments between the host and a port: (time, sequence and acknowledgement number, flags, payload length)."""
     found = []
     while len(found) < most and select.select([wire.sock], [], [], max(0, end - time.monotonic()))[0]:
         data, place = wire.sock.recvfrom(70000)
-        body = tcp_of(data) if place[2] != socket.PACKET_OUTGOING else None
-        if body and body[2:4] == port.to_bytes(2, "big"):
-            ack = int.from_bytes(body[8:12], "big")
-            found.append((time.monotonic(), ack, body[13], len(body) - (body[12] >> 4) * 4))
+        body = tcp_of(data)
+        if body and place[2] != socket.PACKET_OUTGOING and body[2:4] == port.to_bytes(2, "big"):
+            length = len(body) - (body[12] >> 4) * 4
+            found.append((time.monotonic(), *struct.unpack(">II", body[4:12]), body[13], length))
     return found
+
+
+def answer_to(wire, port, *fields):
+    """The first segment from the host to a port after this one: sequence and acknowledgement number, and flags."""
+    while select.select([wire.sock], [], [], 0)[0]:
+        wire.sock.recv(70000)
+    wire.sock.send(wire.frame(TCP, segment(port, *fields)))
+    found = segments_until(wire, port, time.monotonic() + client.LATEST, 1)
+    check("answer to a segment", found, fields)
+    return found[0][1:4] if found else (0, 0, 0)
 
 
 def opened(wire, port, options=b"", window=1000):
     """Opens a connection, also if there is one from this port. Returns the next number of each side."""
-    for _ in range(2):
+    for _ in range(4):
         seq = random.randrange(2**32)
-        body = tcp_of(wire.answer(wire.frame(TCP, segment(port, seq, 0, SYN, options))) or bytes(60)) or bytes(20)
-        own, ack = struct.unpack(">II", body[4:12])
-        if body[13] == SYN | ACK:
-            wire.sock.send(wire.frame(TCP, segment(port, (seq + 1) % 2**32, (own + 1) % 2**32, ACK, window=window)))
-            return (seq + 1) % 2**32, (own + 1) % 2**32
+        own, ack, flags = answer_to(wire, port, seq, 0, SYN, options)
+        if flags == SYN | ACK and ack == (seq + 1) % 2**32:
+            own = (own + 1) % 2**32
+            wire.sock.send(wire.frame(TCP, segment(port, ack, own, ACK, window=window)))
+            return ack, own
         wire.sock.send(wire.frame(TCP, segment(port, ack, 0, RST)))
-    check("SYN and ACK", False, body.hex())
+    check("SYN and ACK", False, (port, ack, flags))
     return 0, 0
 
 
-def closed(wire, port):
-    """Ends the connection from a port, whatever its numbers are: the answer to SYN has the number for RST."""
-    for flags in (SYN, SYN):
-        body = tcp_of(wire.answer(wire.frame(TCP, segment(port, 1, 0, flags))) or bytes(60)) or bytes(20)
-        wire.sock.send(wire.frame(TCP, segment(port, int.from_bytes(body[8:12], "big"), 0, RST)))
+def close(wire, port):
+    """Ends the connection from a port, or one that SYN opens: the answer has the number for RST."""
+    wire.sock.send(wire.frame(TCP, segment(port, answer_to(wire, port, 1, 0, SYN)[1], 0, RST)))
 
 
 def valid_frames(wire):
@@ -101,29 +114,54 @@ def random_segment(rng, port, seq, ack):
     return segment(port, near(seq), near(ack), flags, options, data, window=rng.choice((0, 1, 1000, 65535)))
 
 
-def hostile_frames(rng, pair):
-    """Frames without end: a third of the corpus of make compare, a third changes of valid frames, and a third segments
-    of open connections, all to the host."""
-    corpus, valid, ports = [], [frame for wire in pair for frame in valid_frames(wire)], 8
+def recorded_frames(rng):
+    """Frames of the corpus of make compare."""
     for line in compare.corpus(rng.randrange(2**32), CORPUS):
         try:
-            corpus.append(bytes.fromhex(line.decode()))
+            yield bytes.fromhex(line.decode())
         except ValueError:
             pass
+
+
+def hostile_frames(rng, pair):
+    """A third are of the corpus of make compare, a third changes of valid frames, and a third segments of open
+    connections, all to the host."""
+    recorded, ports = list(recorded_frames(rng)), range(TCP_CLIENT, TCP_CLIENT + 8)
+    valid = [frame for wire in pair for frame in valid_frames(wire)]
     for n in range(FLOOD):
         if n % AT_ONCE == 0:
-            wire, port = pair[n // AT_ONCE % 2], TCP_CLIENT + n // AT_ONCE % ports
+            wire, port = pair[n // AT_ONCE % 2], ports[n // AT_ONCE % len(ports)]
             numbers = opened(wire, port, rng.choice((b"", b"\x01\x03\x03\x0e\x04\x02\x01\x01")))
         kind = rng.randrange(3)
         if kind == 0:
-            yield HOST_HARDWARE + rng.choice(corpus)[6:]
+            yield HOST_HARDWARE + rng.choice(recorded)[6:]
         elif kind == 1:
             yield compare.changed(rng, rng.choice(valid))
         else:
             yield wire.frame(TCP, random_segment(rng, port, *numbers))
-    for port in range(TCP_CLIENT, TCP_CLIENT + ports):
+    for port in ports:
         for wire in pair:
-            closed(wire, port)
+            close(wire, port)
+
+
+def send_flood(sock, frames, is_alive):
+    """Sends frames, and tests now and then that the program is alive."""
+    sent = 0
+    for frame in frames:
+        try:
+            sock.send(frame)
+            sent += 1
+        except OSError:  # it is too short or too long for the device
+            continue
+        if sent % AT_ONCE == 0:
+            check("alive in a flood", is_alive(), sent)
+    check("hostile frames", sent > FLOOD * 0.95, sent)
+
+
+def answers_udp(wire):
+    """Whether the host answers. The port is that of no other frame."""
+    body = struct.pack(">HHHH", UDP_CLIENT + 1, ECHO, 12, 0) + random.randbytes(4)
+    return wire.answer(wire.frame(UDP, body)) is not None
 
 
 def answers_correctly(pair):
@@ -132,30 +170,89 @@ def answers_correctly(pair):
             exchange(wire)
         for length in (0, 1, 20_000, 300_000):
             data = random.randbytes(length)
-            check("TCP echo after it", client.echoed(family, host, data) == data, (host, length))
+            check("TCP echo after a flood", client.echoed(family, host, data) == data, (host, length))
 
 
-def flood(device):
-    """After the frames, and between them, the host answers; a connection that was open stays so."""
-    pair, rng, sent = wires(device), random.Random(random.randrange(2**32)), 0
-    probe = [wire.frame(UDP, struct.pack(">HHHH", UDP_CLIENT, ECHO, 12, 0) + b"data") for wire in pair]
+def flood(device, _):
+    """The host answers between the frames and after them. A connection that was open stays so."""
+    pair = wires(device)
     with socket.create_connection((HOSTS[0][2], ECHO), timeout=5) as sock:
-        for frame in hostile_frames(rng, pair):
-            try:
-                pair[0].sock.send(frame)
-                sent += 1
-            except OSError:  # it is too short or too long for the device
-                continue
-            if sent % AT_ONCE == 0:
-                at = sent // AT_ONCE % 2
-                check("answer in a flood", pair[at].answer(probe[at]) is not None, sent)
+        send_flood(pair[0].sock, hostile_frames(random, pair), lambda: answers_udp(random.choice(pair)))
         sock.sendall(b"still open")
         check("TCP open during a flood", client.received(sock) == b"still open")
-    check("hostile frames", sent > FLOOD * 0.95, sent)
     answers_correctly(pair)
 
 
-def acks(device):
+def set_link(device, *words):
+    subprocess.run(["ip", "link", "set", device, *words], check=True)
+
+
+def changed_frames(known):
+    """Changed frames, all to the hardware address of the host: so the kernel takes none, and counts no error."""
+    known = list(known)
+    return (HOST_HARDWARE + compare.changed(random, random.choice(known))[6:] for _ in range(FLOOD * 11 // 10))
+
+
+def proved(device, process):
+    """It keeps no connection. Its device goes down before it answers a frame."""
+    pair = wires(device)
+    known = [*recorded_frames(random), *(1000 * [frame for wire in pair for frame in valid_frames(wire)])]
+    send_flood(pair[0].sock, changed_frames(known), lambda: answers_udp(random.choice(pair)))
+    for _ in range(3):
+        os.kill(int(process), signal.SIGSTOP)
+        pair[0].sock.send(pair[0].frame(UDP, struct.pack(">HHHH", UDP_CLIENT, ECHO, 12, 0) + b"data"))
+        set_link(device, "down")
+        os.kill(int(process), signal.SIGCONT)
+        time.sleep(0.05)
+        set_link(device, "up")
+        pair = wires(device)
+        check("answer after a device was down", answers_udp(pair[0]))
+
+
+def forwards(wire, far):
+    """Whether a frame that goes into the bridge comes out at the other device."""
+    marker, end = random.randbytes(8), time.monotonic() + client.LATEST
+    wire.sock.send(wire.frame(UDP, struct.pack(">HHHH", UDP_CLIENT, ECHO, 16, 0) + marker))
+    while select.select([far.sock], [], [], max(0, end - time.monotonic()))[0]:
+        if far.sock.recv(70000).endswith(marker):
+            return True
+    return False
+
+
+def bridge(device, process):
+    """It forwards between hostile frames, and after each device was down."""
+    wire, far = wires(device)[0], wires("far")[0]
+    send_flood(wire.sock, changed_frames(recorded_frames(random)), lambda: forwards(wire, far))
+    for name in (device, "far"):
+        set_link(name, "down")
+        set_link(name, "up")
+        wire, far = wires(device)[0], wires("far")[0]
+        check("frame after a device was down", forwards(wire, far), name)
+    ends_in_a_flood(wire, process)
+
+
+def ends_in_a_flood(wire, process):
+    """Whether the program ends by SIGTERM while two processes send frames as fast as they can."""
+    frame = wire.frame(UDP, struct.pack(">HHHH", UDP_CLIENT, ECHO, 8, 0))
+    senders = []
+    for _ in range(2):
+        senders.append(os.fork())
+        if senders[-1] == 0:
+            end = time.monotonic() + 2
+            while time.monotonic() < end:
+                send_all(wire, [frame] * 1000)
+            os._exit(0)
+    end = os.pidfd_open(int(process))
+    time.sleep(0.1)
+    os.kill(int(process), signal.SIGTERM)
+    os.kill(int(process), signal.SIGCONT)
+    check("SIGTERM in a flood", select.select([end], [], [], 1)[0])
+    for sender in senders:
+        os.kill(sender, signal.SIGKILL)
+        os.waitpid(sender, 0)
+
+
+def acks(device, _):
     """One acknowledgement for two segments, one in time for a single one, and at once around a gap."""
     wire = wires(device)[0]
     seq, ack = opened(wire, TCP_CLIENT, b"\x02\x04\x05\xb4", window=0)
@@ -168,7 +265,7 @@ def acks(device):
             body = segment(TCP_CLIENT, (seq + offset) % 2**32, ack, ACK, data=data, window=0)
             wire.sock.send(wire.frame(TCP, body))
         found = segments_until(wire, TCP_CLIENT, begin + wait)
-        return [(place - seq) % 2**32 for _, place, _, _ in found], [when - begin for when, _, _, _ in found]
+        return [(place[2] - seq) % 2**32 for place in found], [place[0] - begin for place in found]
 
     found, _ = sent(*range(0, 100_000, 1000))
     check("one acknowledgement for two segments", found == list(range(2000, 100_001, 2000)), found)
@@ -178,79 +275,75 @@ def acks(device):
     check("acknowledgement of a gap", found == [101_000], (found, times))
     found, times = sent(103_000, 101_000, wait=0.05)
     check("acknowledgement of a closed gap", found == [101_000, 104_000], (found, times))
-    closed(wire, TCP_CLIENT)
+    close(wire, TCP_CLIENT)
     in_a_bulk_transfer(wire)
 
 
 def in_a_bulk_transfer(wire):
-    """The same for a peer that sends 1 MB, and reads only when the buffers are full."""
-    family, own, host = HOSTS[0]
+    """The same for the kernel, which sends 1 MB, and reads nothing before the buffers are full."""
+    host, data, back = HOSTS[0][2], bytes(1 << 20), 0
     with socket.create_connection((host, ECHO), timeout=5) as sock:
-        port, data = sock.getsockname()[1], bytes(1 << 20)
         thread = threading.Thread(target=sock.sendall, args=(data,), daemon=True)
         thread.start()
-        pure = len(segments := segments_until(wire, port, time.monotonic() + 0.5, 100_000))
-        pure = sum(length == 0 for _, _, _, length in segments)
-        octets = max((place for _, place, _, _ in segments), default=0)
-        back = 0
-        while back < len(data) and (more := client.received(sock)) and isinstance(more, bytes):
+        found = segments_until(wire, sock.getsockname()[1], time.monotonic() + 0.5, 100_000)
+        while back < len(data) and isinstance(more := client.received(sock), bytes) and more:
             back += len(more)
-        check("bulk transfer", back == len(data), back)
         thread.join(5)
-    print(f"a bulk transfer: {pure} acknowledgements without data among {len(segments)} segments of the host, {octets}")
+    acks, segments = sum(place[4] == 0 for place in found), (found[-1][2] - found[0][2]) % 2**32 / wire.max_seg_size
+    check("bulk transfer", back == len(data) and 100 < segments and acks <= segments / 2 + 10, (back, acks, segments))
 
 
-def queue(device, process):
-    """Queues of two frames lose many. A host that stopped goes on."""
-    family, _, host = HOSTS[0]
-    subprocess.run(["ip", "link", "set", device, "txqueuelen", "2"], check=True)
-    data = random.randbytes(1 << 19)
-    check("TCP over a short queue", client.echoed(family, host, data) == data)
-    subprocess.run(["ip", "link", "set", device, "txqueuelen", "1000"], check=True)
-    with socket.create_connection((host, ECHO), timeout=5) as sock:
-        os.kill(int(process), signal.SIGSTOP)
-        fill(device)
-        sock.sendall(b"while it is stopped")
-        os.kill(int(process), signal.SIGCONT)
-        check("TCP after a full queue", client.received(sock) == b"while it is stopped")
-    check("TCP echo after a full queue", client.echoed(family, host, data) == data)
-
-
-def fill(device, count=3000):
-    """More frames than the queue of the device takes."""
-    wire = wires(device)[0]
-    frame = wire.frame(UDP, struct.pack(">HHHH", UDP_CLIENT, ECHO, 1008, 0) + bytes(1000))
-    for _ in range(count):
+def send_all(wire, frames):
+    for frame in frames:
         try:
             wire.sock.send(frame)
         except OSError:  # the queue is full
             pass
 
 
-def open_state(device, _):
-    for n in range(30):
-        opened(wires(device)[n % 2], TCP_CLIENT + n)
+def fill(wire):
+    """Sends more frames than the queue of the device takes."""
+    send_all(wire, [wire.frame(UDP, struct.pack(">HHHH", UDP_CLIENT, ECHO, 1008, 0) + bytes(1000))] * 3000)
 
 
-def retransmitting_state(device, _):
+def queue(device, process):
+    """Queues of two frames lose many. A host that was stopped goes on."""
+    (family, _, host), data = HOSTS[0], random.randbytes(1 << 19)
+    set_link(device, "txqueuelen", "2")
+    check("TCP over a short queue", client.echoed(family, host, data) == data)
+    set_link(device, "txqueuelen", "1000")
+    with socket.create_connection((host, ECHO), timeout=5) as sock:
+        os.kill(int(process), signal.SIGSTOP)
+        fill(wires(device)[0])
+        sock.sendall(b"while it is stopped")
+        os.kill(int(process), signal.SIGCONT)
+        check("TCP after a full queue", client.received(sock) == b"while it is stopped")
+    check("TCP echo after a full queue", client.echoed(family, host, data) == data)
+
+
+def leave_open(device, _):
+    for wire in wires(device):
+        for port in range(TCP_CLIENT, TCP_CLIENT + 15):
+            opened(wire, port)
+
+
+def leave_retransmitting(device, _):
     """The peer acknowledges nothing."""
     wire = wires(device)[0]
     seq, ack = opened(wire, TCP_CLIENT)
     wire.sock.send(wire.frame(TCP, segment(TCP_CLIENT, seq, ack, ACK, data=b"data")))
     found = segments_until(wire, TCP_CLIENT, time.monotonic() + 3, 2)
-    check("retransmission", [length for _, _, _, length in found] == [4, 4], found)
+    check("retransmission", [place[4] for place in found] == [4, 4], found)
 
 
-def full_state(device, process):
-    """The queue is full when the signal comes, and more frames come."""
+def leave_full(device, process):
+    wire = wires(device)[0]
     os.kill(int(process), signal.SIGSTOP)
-    fill(device)
-    os.kill(int(process), signal.SIGTERM)
-    os.kill(int(process), signal.SIGCONT)
-    fill(device, 20_000)
+    fill(wire)
+    ends_in_a_flood(wire, process)
 
 
 if __name__ == "__main__":
-    exchanges = {"flood": flood, "acks": acks, "queue": queue, "open": open_state, "retransmitting": retransmitting_state,
-                 "full": full_state}
+    exchanges = {"flood": flood, "acks": acks, "queue": queue, "open": leave_open, "full": leave_full,
+                 "retransmitting": leave_retransmitting, "proved": proved, "bridge": bridge}
     sys.exit(client.report(sys.argv[1], exchanges[sys.argv[1]], *sys.argv[2:]))
