@@ -1,15 +1,18 @@
 -- An IPv4 header with another payload, and with another address.
-use Rattle.std.proofs.Common.{ℕ, ◌≡◌, ◌≤◌, ◌+◌, ◌-◌, true, List, ◌++◌, length, drop, take, slice_range, refl, sym, ap, subst, ◌∙◌, arith, length-append, length-drop}
+use Rattle.std.proofs.Common.{ℕ, ◌≡◌, ◌≤◌, ◌+◌, ◌-◌, false, true, List, ◌++◌, length, drop, take, slice_range, refl, sym, ap, subst, ◌∙◌, arith, length-append, length-drop}
 use Rattle.std.proofs.lemmas.List.{drop-drop, length-take-le, take-append-drop}
 use Rattle.ip_wire.specs.Field.{field, with_range}
 use Rattle.ip_wire.specs.Frame.{ipv4_payload}
-use Rattle.ip_wire.specs.Ipv4.{Reads, header_len, is_fragment, total_len}
+use Rattle.ip_wire.specs.Ipv4.{HasChecksum, Reads, header_len, is_fragment, total_len}
 use Rattle.ip_wire.specs.Protocol.{protocol_of}
 use Rattle.ip_wire.specs.WordSum.{sum_of_bytes}
 use Rattle.ip_wire.specs.declared.Ipv4Repr.{Ipv4Repr}
 use Rattle.ip_wire.proofs.Cells.{cells, cells-all}
+use Rattle.ip_wire.proofs.Ipv4Changed.{reads-dst_addr, reads-src_addr, reads-summed}
+use Rattle.ip_wire.proofs.Spelled.{AreBytes}
+use Rattle.wire_ipv4.proofs.Ipv4Updated.{valid-dst_addr, valid-src_addr}
 use Rattle.ip_nat.proofs.Payloads.{range-front, range-len, range-past}
-use Rattle.ip_nat.specs.Nat.{addr_at, with_address}
+use Rattle.ip_nat.specs.Nat.{addr_at, with_addr, with_address}
 use Rattle.ip_nat.specs.declared.nat.Side.{Side}
 use Rattle.ip_nat.specs.declared.nat.Side.TheVariants.{Source, Destination}
 
@@ -133,3 +136,13 @@ keeps side bytes addr room least four =
       long = ap length apart ∙ length-append (with_address side addr (take 20 bytes)) (drop 20 bytes) ∙ omega (arith, at.long, length-drop 20 bytes, room);
       written = subst (λ (l : List ℕ). addr_at side (with_address side addr l) ≡ addr) is at.written;
     }
+
+-- a packet with another address, and a checksum that is updated for it, has the header with this address
+pub reads-address : (side : Side) (bytes new addr : List ℕ) (v : Ipv4Repr) → AreBytes bytes → AreBytes addr → length addr ≡ 4
+    → new ≡ with_address side addr bytes → Reads bytes true v → Reads new true (with_addr side addr v)
+reads-address Source bytes new addr v are octets four is r =
+    reads-summed (with_range bytes 12 16 addr) new _ false true (record v { src_addr = addr }) is (reads-src_addr bytes addr true false v four r (λ no. cc))
+    (λ on. subst HasChecksum (sym is) (valid-src_addr bytes addr are octets four r.lengths.header (omega (arith, r.lengths.within, r.lengths.whole)) (r.checksum on)))
+reads-address Destination bytes new addr v are octets four is r =
+    reads-summed (with_range bytes 16 20 addr) new _ false true (record v { dst_addr = addr }) is (reads-dst_addr bytes addr true false v four r (λ no. cc))
+    (λ on. subst HasChecksum (sym is) (valid-dst_addr bytes addr are octets four r.lengths.header (omega (arith, r.lengths.within, r.lengths.whole)) (r.checksum on)))

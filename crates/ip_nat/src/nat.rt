@@ -12,7 +12,7 @@ use crate::packet::Packet;
 use ip_wire::laws::octets_fit;
 use ip_wire::{
     ETHERNET_HEADER_LEN, IpAddress, IpProtocol, IpRepr, Ipv4Address, Ipv4Packet, Ipv4PacketMut,
-    Ipv4Repr, TcpPacketMut, UdpPacketMut,
+    Ipv4Repr, TcpPacketMut, UdpPacketMut, checksum,
 };
 
 /// The end of a packet, source or destination, whose address and port are replaced.
@@ -123,10 +123,20 @@ fn set_addr(packet: &mut [u8], side: Side, addr: Ipv4Address)
     ensures reads { (v : Ipv4Repr) → ipv4.Reads packet.old true v → ipv4.Reads packet.new true (with_addr side addr v) }
     ensures bytes { packet.new ≡ with_address side addr packet.old }
 {
+    octets_fit(packet);
     let mut packet = Ipv4PacketMut::new_unchecked(packet);
+    let new = checksum::address(&IpAddress::Ipv4(addr));
     match side {
-        Side::Source => packet.update_src_addr(addr),
-        Side::Destination => packet.update_dst_addr(addr),
+        Side::Source => {
+            let old = checksum::address(&IpAddress::Ipv4(packet.src_addr()));
+            packet.set_src_addr(addr);
+            packet.update_checksum(old, new);
+        }
+        Side::Destination => {
+            let old = checksum::address(&IpAddress::Ipv4(packet.dst_addr()));
+            packet.set_dst_addr(addr);
+            packet.update_checksum(old, new);
+        }
     }
 }
 
