@@ -4,7 +4,7 @@
 ghost use Rattle.std.specs.Prelude.{All, IfSome, List, None, Some, false, length, true, ℕ, ◌<◌, ◌≡◌, ◌≢◌, ◌≤◌};
 ghost use Rattle.ip_flows.specs.Mapping.{expiry};
 ghost use Rattle.ip_flows.specs.State.{ends_connection, protocol_of, shortest_timeout, state_of, timeout_of};
-ghost use Rattle.ip_flows.specs.Table.{IsFree, IsTable, IsUnmapped, MapsTo, Opens, free_mapping, mapping_at};
+ghost use Rattle.ip_flows.specs.Table.{IsFree, IsFull, IsTable, IsUnmapped, MapsTo, Opens, free_mapping, mapping_at};
 ghost use Rattle.ip_flows.specs.declared.mapping.Ipv4Endpoint.{Ipv4Endpoint};
 ghost use Rattle.ip_flows.specs.declared.mapping.Mapping.{Mapping};
 ghost use Rattle.ip_flows.specs.declared.state.Protocol.{Protocol};
@@ -96,7 +96,7 @@ pub fn outbound_packets_restart_the_time_out(
 }
 
 /// A packet from outside extends no mapping. It changes one only if it is a TCP segment with FIN or RST, and the mapping
-/// has one remote endpoint (RFC 5382, REQ-5: the end of one connection does not end another).
+/// has one remote endpoint. So the end of one connection does not end another (RFC 5382, REQ-5, holds for each).
 pub fn inbound_packets_extend_nothing(
     nat: &Nat,
     mappings: &mut [Mapping],
@@ -113,8 +113,7 @@ pub fn inbound_packets_extend_nothing(
     find(nat, mappings, now, event, port, remote)
 }
 
-/// An established mapping with several remote endpoints stays established: no segment shortens its time-out (RFC 5382,
-/// REQ-5).
+/// An established mapping with several remote endpoints stays established: no segment shortens its time-out.
 pub fn shared_mapping_stays_established(event: Event) -> TcpState
     ensures { result ≡ TcpState.Established }
 {
@@ -127,7 +126,7 @@ pub fn port_has_one_endpoint(nat: &Nat, mappings: &[Mapping], now: u64)
         → MapsTo nat.now mappings.now now protocol port second → first ≡ second }
 {}
 
-/// The call has one possible outcome.
+/// `open` has one possible outcome.
 pub fn opened_port_is_one(
     nat: &Nat,
     now: u64,
@@ -139,6 +138,8 @@ pub fn opened_port_is_one(
         → Opens nat.now old other now event inside.now remote.now second → port ≡ second }
     ensures table { (old new other : List Mapping) (port second : ℕ) → Opens nat.now old new now event inside.now remote.now port
         → Opens nat.now old other now event inside.now remote.now second → new ≡ other }
+    ensures full { (old new : List Mapping) (port : ℕ) → Opens nat.now old new now event inside.now remote.now port
+        → ¬ IsFull nat.now old now (protocol_of event) inside.now }
 {}
 
 /// The invariant stays true while time passes.

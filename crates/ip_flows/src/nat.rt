@@ -44,8 +44,15 @@ pub struct Nat {
 impl Nat {
     /// A NAT with the usual time-outs.
     pub fn new(key: [u64; 2], outside: Ipv4Address, first_port: u16) -> Nat
-        ensures { result ≡ record { key = key; udp_timeout = 300000; tcp_timeout = 7440000; tcp_transitory_timeout = 240000;
-            outside = outside; first_port = first_port; unused = 0 } }
+        ensures { result ≡ record {
+          key = key;
+          udp_timeout = 300000;
+          tcp_timeout = 7440000;
+          tcp_transitory_timeout = 240000;
+          outside = outside;
+          first_port = first_port;
+          unused = 0;
+        } }
     {
         Nat {
             key,
