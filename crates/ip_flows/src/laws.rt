@@ -75,7 +75,8 @@ pub fn other_mappings_stay(
     remote: &Ipv4Endpoint,
 ) -> Option<u16>
     ensures { (protocol : Protocol) (port : ℕ) (other : Ipv4Endpoint)
-        → MapsTo nat.now mappings.old now protocol port other → ¬ ((protocol ≡ protocol_of event) × (other ≡ inside.now))
+        → MapsTo nat.now mappings.old now protocol port other
+        → ¬ ((protocol ≡ protocol_of event) × (other ≡ inside.now))
         → mapping_at nat.now mappings.new protocol port ≡ mapping_at nat.now mappings.old protocol port }
 {
     open(nat, mappings, now, event, inside, remote)
@@ -108,9 +109,11 @@ pub fn inbound_packets_extend_nothing(
     remote: &Ipv4Endpoint,
 ) -> Option<Ipv4Endpoint>
     ensures extends { (protocol : Protocol) (other : ℕ)
-        → (mapping_at nat.now mappings.new protocol other).expires ≤ (mapping_at nat.now mappings.old protocol other).expires }
+        → (mapping_at nat.now mappings.new protocol other).expires
+        ≤ (mapping_at nat.now mappings.old protocol other).expires }
     ensures open { ends_connection event ≡ false → mappings.new ≡ mappings.old }
-    ensures shared { (mapping_at nat.now mappings.old (protocol_of event) port).shared ≢ 0 → mappings.new ≡ mappings.old }
+    ensures shared { (mapping_at nat.now mappings.old (protocol_of event) port).shared ≢ 0
+        → mappings.new ≡ mappings.old }
 {
     find(nat, mappings, now, event, port, remote)
 }
@@ -126,7 +129,8 @@ pub fn shared_mapping_stays_established(event: Event) -> TcpState
 /// An outside port stands for one inside endpoint.
 pub fn port_has_one_endpoint(nat: &Nat, mappings: &[Mapping], now: u64)
     ensures { (protocol : Protocol) (port : ℕ) (first second : Ipv4Endpoint)
-        → MapsTo nat.now mappings.now now protocol port first → MapsTo nat.now mappings.now now protocol port second → first ≡ second }
+        → MapsTo nat.now mappings.now now protocol port first
+        → MapsTo nat.now mappings.now now protocol port second → first ≡ second }
 {}
 
 /// `open` has one possible outcome.
