@@ -1,5 +1,5 @@
 -- One block is chosen, and a source has one fault.
-use Rattle.std.proofs.Common.{ℕ, ◌≡◌, ◌≢◌, ◌∙◌, ◌<◌, ◌≤◌, List, Option, None, Some, inl, inr, refl, sym, ap, arith}
+use Rattle.std.proofs.Common.{ℕ, ◌≡◌, ◌∙◌, List, Option, None, Some, inl, inr, refl, sym, arith}
 use Rattle.std.proofs.lemmas.Bool.{cases_order}
 use Rattle.std.proofs.lemmas.Option.{none-some, same_Some}
 use Rattle.ip_routes.specs.Index.{IsChosenAt}
@@ -20,17 +20,17 @@ one_fault : (src : IpAddress) (interface : ℕ) (back : Option ℕ) (a b : Optio
     → a ≡ b
 one_fault src interface back None None x y = refl
 one_fault src interface back None (Some Martian) x y = absurd (x.0 y)
-one_fault src interface back None (Some NoRoute) x y = absurd (none-some (sym y.1 ∙ x.1))
-one_fault src interface back None (Some OtherInterface) x y = absurd (y.1.2 (same_Some (sym y.1.1 ∙ x.1)))
+one_fault src interface back None (Some NoRoute) x y = absurd (none-some interface (sym y.1 ∙ x.1))
+one_fault src interface back None (Some OtherInterface) x y = absurd (y.1.2 (same_Some y.1.0 interface (sym y.1.1 ∙ x.1)))
 one_fault src interface back (Some Martian) None x y = absurd (y.0 x)
 one_fault src interface back (Some Martian) (Some Martian) x y = refl
 one_fault src interface back (Some Martian) (Some NoRoute) x y = absurd (y.0 x)
 one_fault src interface back (Some Martian) (Some OtherInterface) x y = absurd (y.0 x)
-one_fault src interface back (Some NoRoute) None x y = absurd (none-some (sym x.1 ∙ y.1))
+one_fault src interface back (Some NoRoute) None x y = absurd (none-some interface (sym x.1 ∙ y.1))
 one_fault src interface back (Some NoRoute) (Some Martian) x y = absurd (x.0 y)
 one_fault src interface back (Some NoRoute) (Some NoRoute) x y = refl
-one_fault src interface back (Some NoRoute) (Some OtherInterface) x y = absurd (none-some (sym x.1 ∙ y.1.1))
-one_fault src interface back (Some OtherInterface) None x y = absurd (x.1.2 (same_Some (sym x.1.1 ∙ y.1)))
+one_fault src interface back (Some NoRoute) (Some OtherInterface) x y = absurd (none-some y.1.0 (sym x.1 ∙ y.1.1))
+one_fault src interface back (Some OtherInterface) None x y = absurd (x.1.2 (same_Some x.1.0 interface (sym x.1.1 ∙ y.1)))
 one_fault src interface back (Some OtherInterface) (Some Martian) x y = absurd (x.0 y)
-one_fault src interface back (Some OtherInterface) (Some NoRoute) x y = absurd (none-some (sym y.1 ∙ x.1.1))
+one_fault src interface back (Some OtherInterface) (Some NoRoute) x y = absurd (none-some x.1.0 (sym y.1 ∙ x.1.1))
 one_fault src interface back (Some OtherInterface) (Some OtherInterface) x y = refl
