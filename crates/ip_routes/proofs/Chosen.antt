@@ -1,5 +1,5 @@
 -- The node that a search finds is that of the chosen block.
-use Rattle.std.proofs.Common.{ℕ, ◌≡◌, ◌∙◌, ◌+◌, ◌-◌, ◌*◌, ◌/◌, ◌^◌, ◌<◌, ◌≤◌, ◌⊎◌, ◌↔◌, ◌++◌, ◌∷◌, [], All, Bool, IsTrue, List, inl, inr, true, false, leb, drop, get_or, length, map, take, refl, sym, ap, subst, arith}
+use Rattle.std.proofs.Common.{ℕ, ◌≡◌, ◌∙◌, ◌+◌, ◌-◌, ◌^◌, ◌<◌, ◌≤◌, ◌⊎◌, ◌↔◌, ◌++◌, ◌∷◌, [], All, Bool, IsTrue, List, inl, inr, true, false, leb, drop, get_or, length, map, take, refl, sym, ap, subst, arith}
 use Rattle.std.specs.List.Sorted.{IsNonDecreasingBy, IsPartitionPoint}
 use Rattle.std.proofs.Math.ListN.{get_or-map as get_or-map_at}
 use Rattle.std.proofs.lemmas.Bool.{cases_lt, false≢true, le-leb, leb-false, leb-true, lt-leb}

@@ -1,11 +1,11 @@
 -- The nodes whose blocks contain an address.
-use Rattle.std.proofs.Common.{ℕ, ◌≡◌, ◌↔◌, ◌∙◌, ◌+◌, ◌-◌, ◌*◌, ◌/◌, ◌%◌, ◌^◌, ◌<◌, ◌≤◌, ◌⊎◌, inl, inr, List, [], ◌∷◌, suc, length, get_or, refl, sym, ap, ap₂, subst, arith, bit_and, eqb, eq-eqb}
-use Rattle.std.proofs.lemmas.Bool.{cases_lt, cases_order}
-use Rattle.std.proofs.lemmas.Nat.{mul-add-lt, pow-add, pow_pos, shl-shr, shr-shr, shr_split, shl_below, shr_le}
+use Rattle.std.proofs.Common.{ℕ, ◌≡◌, ◌↔◌, ◌∙◌, ◌+◌, ◌-◌, ◌*◌, ◌/◌, ◌^◌, ◌<◌, ◌≤◌, ◌⊎◌, inl, inr, List, [], ◌∷◌, suc, length, get_or, refl, sym, ap, subst, arith, bit_and, eq-eqb}
+use Rattle.std.proofs.lemmas.Bool.{cases_lt}
+use Rattle.std.proofs.lemmas.Nat.{mul-add-lt, pow-add, shl-shr, shr-shr, shr_split, shl_below}
 use Rattle.std.proofs.Math.Nat.{div-mul-le_self, mul_assoc}
 use Rattle.ip_wire.proofs.Blocks.{member-test, number-under_mask, numbers_from_agree}
 use Rattle.ip_routes.proofs.Places.{prefix_of, same_prefix, shorter_prefix}
-use Rattle.ip_routes.specs.Index.{Encloses, IsBlock, first_bits, node_of, node_with, place, rank, target_of, version_number}
+use Rattle.ip_routes.specs.Index.{IsBlock, first_bits, node_of, node_with, place, rank, target_of, version_number}
 use Rattle.ip_routes.specs.declared.index.Node.{Node}
 use Rattle.ip_wire.specs.IpAddress.{IsAddress}
 use Rattle.ip_wire.specs.IpCidr.{IsIn, block_address, block_prefix_len}

@@ -1,9 +1,9 @@
 -- The numbers that order the nodes, and the prefixes of these numbers.
-use Rattle.std.proofs.Common.{ℕ, ◌≡◌, ◌↔◌, ◌∙◌, ◌+◌, ◌-◌, ◌*◌, ◌/◌, ◌^◌, ◌<◌, ◌≤◌, inl, inr, refl, sym, ap, ap₂, subst, arith, nat_cmp, Ordering}
+use Rattle.std.proofs.Common.{ℕ, ◌≡◌, ◌↔◌, ◌∙◌, ◌+◌, ◌-◌, ◌*◌, ◌/◌, ◌^◌, ◌<◌, ◌≤◌, inl, inr, sym, ap, ap₂, subst, arith, nat_cmp}
 use Rattle.std.specs.Ordering.{ordering_then}
 use Rattle.std.specs.declared.cmp.Ordering.TheVariants.{Less, Equal, Greater}
-use Rattle.std.proofs.lemmas.Bool.{cases_lt, cases_order}
-use Rattle.std.proofs.lemmas.Nat.{mul-add-lt, pow-add, pow_pos, same_from_place, shr-shr, shr_split, shr_below, le-div}
+use Rattle.std.proofs.lemmas.Bool.{cases_order}
+use Rattle.std.proofs.lemmas.Nat.{mul-add-lt, pow-add, pow_pos, same_from_place, shr-shr, shr_below}
 use Rattle.std.proofs.Math.Nat.{div-mul-le_self, le-div_iff_mul-le, mul-add-div_right, mul_assoc}
 use Rattle.ip_routes.specs.Index.{place, rank}
 use Rattle.ip_routes.specs.declared.index.Node.{Node}

@@ -1,12 +1,11 @@
-use Rattle.std.proofs.Common.{ℕ, List, rules, ◌≡◌, ◌-◌, ◌<◌, ◌≤◌, leb, true, false, get_or, length, [], sym, ap, subst, arith}
-use Rattle.std.specs.List.Sorted.{IsNonDecreasingBy, IsPartitionPoint}
+use Rattle.std.proofs.Common.{rules, ◌-◌, ◌<◌, leb, length, [], subst, arith}
+use Rattle.std.specs.List.Sorted.{IsNonDecreasingBy}
 use Rattle.std.proofs.lemmas.List.{get_or_default}
 use Rattle.std.proofs.lemmas.List.Sorted.{IsPartitionPoint-from_clause, IsPartitionedBy-leb}
-use Rattle.ip_routes.proofs.Chosen.{Finds, chosen, finds, leb_from_iff, nothing}
+use Rattle.ip_routes.proofs.Chosen.{chosen, finds, leb_from_iff, nothing}
 use Rattle.ip_routes.proofs.Elements.{placed}
-use Rattle.ip_routes.specs.Index.{IsChosenAt, IsIndex, node_at, node_with, place, target_of}
+use Rattle.ip_routes.specs.Index.{IsChosenAt, node_with, place}
 use Rattle.ip_routes.specs.declared.index.Node.{Node}
-use Rattle.ip_wire.specs.declared.IpCidr.{IpCidr}
 use Rattle.ip_routes.proofs.index.find.Goals as goal
 
 -- what an index reads behind a list of nodes

@@ -1,8 +1,7 @@
-use Rattle.std.proofs.Common.{ℕ, ◌≡◌, ◌∙◌, ◌<◌, [], below_more, get_or, get_or-set_other, get_or-set_same, length, map, set, sym, ap, subst, arith}
+use Rattle.std.proofs.Common.{ℕ, ◌≡◌, ◌∙◌, ◌<◌, [], below_more, get_or-set_other, get_or-set_same, length, map, set, sym, ap, subst, arith}
 use Rattle.std.proofs.lemmas.List.{get_or-map}
 use Rattle.ip_routes.specs.Index.{IsBlock, block_at, block_of, node_at, node_of, node_with}
 use Rattle.ip_routes.specs.declared.route.Route.{Route}
-use Rattle.ip_wire.specs.declared.IpCidr.{IpCidr}
 use Rattle.ip_routes.proofs.index.index.Goals as goal
 
 pub loop-i-preserved : goal.loop-i-preserved

@@ -1,4 +1,4 @@
-use Rattle.std.proofs.Common.{◌≡◌, ◌∙◌, true, eqb, ltb, sym, arith, eq-eqb}
+use Rattle.std.proofs.Common.{◌≡◌, ◌∙◌, true, ltb, sym, arith, eq-eqb}
 use Rattle.std.proofs.lemmas.Bool.{eqb-true}
 use Rattle.ip_routes.proofs.Places.{same_block}
 use Rattle.ip_routes.proofs.index.Node.encloses.Goals.{then-self-inner, else-self-inner}
