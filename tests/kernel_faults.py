@@ -109,7 +109,6 @@ def full_socket(router, sides):
         sides["left"].sock.send(HARDWARE["left"] + bytes(1494))
     router.process.send_signal(signal.SIGCONT)
     works("a full socket")
-    time.sleep(1.1)  # until the router looks at its sockets again
     check("missed", router.counters()["left missed"] > 0)
 
 

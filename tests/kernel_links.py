@@ -6,6 +6,7 @@ import re
 import select
 import signal
 import socket
+import struct
 import subprocess
 import sys
 import time
@@ -16,7 +17,7 @@ from packets import word_sum
 
 TOP = os.path.dirname(os.path.dirname(os.path.abspath(__file__)))
 LATEST = 5  # seconds
-SO_RCVBUFFORCE = 33
+SO_RCVBUFFORCE, SOL_PACKET, PACKET_STATISTICS = 33, 263, 6
 SELF = str(os.getpid())
 # No host has this address, so no kernel takes a frame to it.
 ELSEWHERE = bytes.fromhex("02000000ee0e")
@@ -151,7 +152,9 @@ class Program:
 
 
 class WideSide(Side):
-    """A side that keeps many frames until they are taken."""
+    """A side that keeps many frames until they are taken: in a user namespace fewer, so that it may lose some."""
+
+    is_short = False
 
     def __init__(self, process, device):
         super().__init__(process, device)
@@ -160,11 +163,22 @@ class WideSide(Side):
         except PermissionError:  # in a user namespace
             self.sock.setsockopt(socket.SOL_SOCKET, socket.SO_RCVBUF, 1 << 27)
 
+    def has_lost(self):
+        """Whether it has lost frames since they were last forgotten."""
+        self.is_short |= struct.unpack("II", self.sock.getsockopt(SOL_PACKET, PACKET_STATISTICS, 8))[1] > 0
+        return self.is_short
+
+    def forget(self):
+        super().forget()
+        self.has_lost()
+        self.is_short = False
+
 
 def settle(*sides):
-    """Takes frames on all sides until no more come."""
+    """Takes frames on all sides until no more come. Whether none was lost."""
     while any([side.take(0.02) for side in sides]):
         pass
+    return not any([side.has_lost() for side in sides])
 
 
 def udp_echo(family, place, data, source=None, options=()):

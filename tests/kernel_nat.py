@@ -49,7 +49,7 @@ class Nat(Router):
              ("3fff::/20", ELSEWHERE, "left"), ("2001:db8::/32", ELSEWHERE, "right")],
             {ipaddress.ip_address(addr): HOSTS[name] for addrs, name in ((INSIDE, "left"), (SERVERS, "right")) for addr in addrs})
         self.outside = ipaddress.ip_address(OUTSIDE)
-        self.ports, self.inside = {}, {}
+        self.ports, self.inside, self.is_complete = {}, {}, True
 
     def outside_port(self, packet):
         """The outside port of a packet that leaves: its own port, if that is free. Else the NAT chooses one, and the port
@@ -188,12 +188,20 @@ def with_header(frame, header_len):
     return frame[:14] + with_header_checksum(frame[14 : 14 + header_len]) + frame[14 + header_len :]
 
 
+def compare_random(nat, sides, count, model):
+    """One frame at a time, because the model has to see each outside port before the next frame."""
+    if model.is_complete:
+        random_frames(nat, sides, count, model, nat_frames(model), 1)
+    else:
+        print("tests/kernel: skipped: random frames: the capture has lost frames that open mappings")
+
+
 # ---- exchanges
 
 
 def learn_from(model, sides):
     """Opens the mappings of frames that are not compared."""
-    settle(*sides.values())
+    model.is_complete &= settle(*sides.values())
     for frame in sides["left"].handed:
         model.fate(frame, "left")
     for side in sides.values():
@@ -223,20 +231,20 @@ def seen_connection(source, server):
 
 def udp(sides, model):
     udp_lengths(socket.AF_INET, SERVERS[0])
-    compare_sides("frame of the kernel", sides, model)
+    model.is_complete &= compare_sides("frame of the kernel", sides, model)
     for n in range(64):
         for option in ((socket.SOL_SOCKET, 11, 1), (socket.IPPROTO_IP, socket.IP_TOS, 4 * n + n % 4),
                        (socket.IPPROTO_IP, socket.IP_OPTIONS, b"\x01" * (n % 40) + b"\0")):
             data = random.randbytes(n)
             check("UDP with an option", udp_echo(socket.AF_INET, (SERVERS[1], 7), data, options=[option]) == data, option)
-    compare_sides("frame of the kernel", sides, model)
+    model.is_complete &= compare_sides("frame of the kernel", sides, model)
 
 
 def tcp(sides, model):
     for length in [0, 1, 1460, 1461] + [random.randrange(5000) for _ in range(10)]:
         data = random.randbytes(length)
         check("TCP", echoed(socket.AF_INET, SERVERS[0], data) == data, length)
-        compare_sides("frame of the kernel", sides, model)
+        model.is_complete &= compare_sides("frame of the kernel", sides, model)
     data = random.randbytes(4 << 20)
     check("TCP", echoed(socket.AF_INET, SERVERS[0], data) == data, len(data))
     tcp_turns(socket.AF_INET, SERVERS[1])
@@ -318,7 +326,7 @@ def on_taps(program):
     udp(sides, model)
     tcp(sides, model)
     for _ in range(2):  # the second time many mappings are there
-        random_frames(nat, sides, RANDOM_FRAMES // 2, model, nat_frames(model), 1)
+        compare_random(nat, sides, RANDOM_FRAMES // 2, model)
     for exchange, place in ((mappings, ()), (from_outside, (nat, there)), (hairpin, ()), (not_translated, (nat,))):
         exchange(*place)
     no_errors(there)
@@ -344,7 +352,7 @@ def on_sockets(program):
     tcp_at_once(socket.AF_INET, SERVERS[1])
     hairpin()
     learn_from(model, sides)
-    random_frames(nat, sides, RANDOM_FRAMES // 4, model.but(least=60), nat_frames(model), 1)
+    compare_random(nat, sides, RANDOM_FRAMES // 4, model.but(least=60))
     no_errors(there)
     nat.ends("of a NAT on packet sockets")
     server.kill()

@@ -98,8 +98,12 @@ def compare_lists(kind, expected, came_out):
 
 
 def compare_sides(kind, sides, model=MODEL):
-    """The frames of the kernels on both sides."""
-    settle(*sides.values())
+    """The frames of the kernels on both sides. Returns False if some were lost, so that they cannot be compared."""
+    if not settle(*sides.values()):
+        print("tests/kernel: skipped: a comparison: the capture has lost frames")
+        for side in sides.values():
+            side.forget()
+        return False
     expected = {name: [] for name in sides}
     for name, side in sides.items():
         for frame in side.handed:
@@ -109,6 +113,7 @@ def compare_sides(kind, sides, model=MODEL):
     for name, side in sides.items():
         compare_lists(kind, expected[name], [frame for frame in side.came_out if frame[12:14] != ARP])
         side.handed, side.came_out = [], []
+    return True
 
 
 @functools.cache
@@ -331,7 +336,7 @@ def on_taps(program):
 # ---- packet sockets
 
 
-def offloads(sides):
+def offloads(router, sides):
     """Large frames of the kernel, whose checksums are left to the device, go on as they came."""
     whole, longest = MODEL.but(longest=65535, least=60), 0
     for family, address in SERVERS:
@@ -343,6 +348,10 @@ def offloads(sides):
             data = random.randbytes(length)
             check("TCP", echoed(family, address, data) == data, (address, length))
             longest = max(longest, longest_handed(sides["left"]))
+            counters = router.counters()
+            if counters["left missed"] + counters["right missed"] > 0:  # in a user namespace its sockets are short
+                print("tests/kernel: skipped: a comparison: the sockets of the router are short")
+                break
             compare_sides("frame of the kernel", sides, whole)
     check("frames of 64 KB", longest > 60_000, longest)
     tcp_at_once(*SERVERS[0])
@@ -382,7 +391,7 @@ def on_sockets(program):
     server = there.serve(*(address for _, address in SERVERS))
     sides = {"left": WideSide(SELF, "left"), "right": WideSide(there.process, "right")}
     padded = MODEL.but(least=60)
-    offloads(sides)
+    offloads(router, sides)
     tagged_frames(router, sides)
     short_frames(sides)
     random_frames(router, sides, RANDOM_FRAMES, padded)

@@ -40,6 +40,8 @@ static int open_socket(struct interface *interface)
     int device = interface->device = socket(AF_PACKET, SOCK_RAW | SOCK_NONBLOCK | SOCK_CLOEXEC, 0);
     if (device < 0 || interface->index == 0)
         return 0;
+    /* As much as the limit of the kernel allows, and all of it if the program may pass that limit. */
+    setsockopt(device, SOL_SOCKET, SO_RCVBUF, &room, sizeof room);
     setsockopt(device, SOL_SOCKET, SO_RCVBUFFORCE, &room, sizeof room);
     return setsockopt(device, SOL_PACKET, PACKET_VNET_HDR, &on, sizeof on) == 0
            && setsockopt(device, SOL_PACKET, PACKET_AUXDATA, &on, sizeof on) == 0
@@ -105,11 +107,12 @@ static int is_there(const struct interface *interface)
                              : if_indextoname(interface->index, name) != NULL;
 }
 
-static void count_missed(struct interface *interface)
+void count_missed(struct interface *interface)
 {
     struct tpacket_stats stats;
     socklen_t len = sizeof stats;
-    if (getsockopt(interface->device, SOL_PACKET, PACKET_STATISTICS, &stats, &len) == 0)
+    if (!interface->is_tap && interface->device >= 0
+        && getsockopt(interface->device, SOL_PACKET, PACKET_STATISTICS, &stats, &len) == 0)
         interface->missed += stats.tp_drops;
 }
 
@@ -121,8 +124,6 @@ void check_interface(const char *program, struct interface *interface)
         fprintf(stderr, "%s: %s: the device is gone\n", program, interface->name);
     } else if (interface->device >= 0) {
         read_settings(interface);
-        if (!interface->is_tap)
-            count_missed(interface);
     } else if (if_nametoindex(interface->name) != 0 && open_device(interface)) {
         fprintf(stderr, "%s: %s: the device is back\n", program, interface->name);
     }

@@ -155,7 +155,7 @@ void on_frame(struct router *router, uint16_t from, struct packet *packet)
     }
 }
 
-void print_counts(const struct router *router)
+void print_counts(struct router *router)
 {
     static const char *const names[DROPS] = {
         "other link address", "VLAN tag", "group or broadcast", "link-local", "reserved address", "for the router", "no route",
@@ -168,8 +168,10 @@ void print_counts(const struct router *router)
     for (int why = 0; why < REJECTIONS; why++)
         if (router->rejections[why] != 0)
             printf("dropped: %s %lu\n", lk_rejection_name(why), router->rejections[why]);
-    for (const struct interface *one = router->interfaces; one < router->interfaces + router->interface_count; one++)
+    for (struct interface *one = router->interfaces; one < router->interfaces + router->interface_count; one++) {
+        count_missed(one);
         printf("%s: received %lu, sent %lu, lost %lu, missed %lu%s\n", one->name, one->received, one->sent, one->lost,
                one->missed, one->device < 0 ? ", gone" : "");
+    }
     fflush(stdout);
 }

@@ -89,6 +89,8 @@ void send_now(struct interface *interface, const struct virtio_net_hdr *offload,
 size_t pad(uint8_t *frame, size_t len);
 /* Looks whether the device is gone or has come back, and reads its MTU again. */
 void check_interface(const char *program, struct interface *interface);
+/* Adds to `missed` what the kernel has counted since the last call. */
+void count_missed(struct interface *interface);
 /* Computes the UDP or TCP checksum that the sender left to the device, and undoes this. */
 void complete_checksum(struct packet *packet);
 void uncomplete_checksum(struct packet *packet);
@@ -113,7 +115,7 @@ int read_config(struct router *router, const char *path);
 
 void on_frame(struct router *router, uint16_t from, struct packet *packet);
 void drop(struct router *router, enum drop why);
-void print_counts(const struct router *router);
+void print_counts(struct router *router);
 
 /* ---- serve.c ---- */
 

@@ -62,7 +62,7 @@ static void print_interfaces(const struct router *router)
 }
 
 /* Returns 0 if the program is to end. */
-static int take_signals(const struct router *router, int signals)
+static int take_signals(struct router *router, int signals)
 {
     struct signalfd_siginfo signal;
     while (read(signals, &signal, sizeof signal) == sizeof signal) {
