@@ -8,5 +8,6 @@ pub mod TcpEnds
 pub mod Translates
 pub mod UdpEnds
 pub mod Undone
+pub mod WayBack
 pub mod Words
 pub mod NatOnce
