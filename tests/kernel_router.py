@@ -362,6 +362,25 @@ def longest_handed(side):
     return max(map(len, side.handed), default=0)
 
 
+def smaller_mtu(router, room):
+    """A packet that is longer than the next MTU is dropped, and so is a large frame if its segments are."""
+    room.run("ip link set right mtu 1000")
+    time.sleep(1.2)  # until the router looks at its interfaces again
+    before = router.counters()
+    with socket.socket(socket.AF_INET, socket.SOCK_DGRAM) as sock:
+        for length in (973, 1400):
+            sock.sendto(bytes(length), ("10.2.0.2", 7))
+    compare_counters(router, before, ["too long"] * 2)
+    check("UDP of the MTU", udp_echo(socket.AF_INET, ("10.2.0.2", 7), bytes(972)) == bytes(972))
+    with socket.create_connection(("10.2.0.2", 7), timeout=10) as sock:
+        sock.sendall(bytes(5000))
+        time.sleep(0.1)
+        count = router.counters()["too long"] - before.get("too long", 0)
+        check("a large frame with long segments", count > 2, count)
+        room.run("ip link set right mtu 1500")
+        check("TCP with another MTU", len(sock.recv(5000, socket.MSG_WAITALL)) == 5000)
+
+
 def tagged_frames(router, sides):
     """The kernel takes the tag of a VLAN out of a frame. The router drops it: it is from another link."""
     side, before = sides["left"], router.counters()
@@ -392,6 +411,7 @@ def on_sockets(program):
     sides = {"left": WideSide(SELF, "left"), "right": WideSide(there.process, "right")}
     padded = MODEL.but(least=60)
     offloads(router, sides)
+    smaller_mtu(router, room)
     tagged_frames(router, sides)
     short_frames(sides)
     random_frames(router, sides, RANDOM_FRAMES, padded)

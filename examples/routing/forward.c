@@ -88,19 +88,16 @@ static size_t longest_len(const struct packet *packet)
 static const struct lk_addr *next_hop(struct router *router, const struct lk_addr *dst, uint16_t *to)
 {
     ptrdiff_t place = lk_choose_route(router->nodes, router->route_count, dst);
-    const struct lk_route *route = place < 0 ? NULL : &router->routes[place];
-    if (route == NULL)
+    if (place < 0) {
         drop(router, NO_WAY);
-    else if (route->interface == TO_ROUTER)
-        drop(router, FOR_ROUTER);
-    else if (route->interface == TO_BROADCAST)
-        drop(router, GROUP);
-    else if (router->interfaces[route->interface].device < 0)
-        router->interfaces[route->interface].lost++;
-    else
-        *to = route->interface;
-    if (route == NULL || route->interface >= TO_BROADCAST || router->interfaces[route->interface].device < 0)
         return NULL;
+    }
+    const struct lk_route *route = &router->routes[place];
+    if (route->interface == TO_ROUTER || route->interface == TO_BROADCAST) {
+        drop(router, route->interface == TO_ROUTER ? FOR_ROUTER : GROUP);
+        return NULL;
+    }
+    *to = route->interface;
     return route->next_hop.version != 0 ? &route->next_hop : dst;
 }
 
