@@ -100,7 +100,8 @@ void uncomplete_checksum(struct packet *packet);
 
 struct neighbours *make_neighbours(void);
 /* Returns 0 if there is no room. */
-int add_neighbour(struct neighbours *neighbours, uint16_t interface, const struct lk_addr *addr, const uint8_t *hardware);
+int add_neighbour(struct neighbours *neighbours, uint16_t interface, const struct lk_addr *addr,
+                  const uint8_t *hardware);
 /* Sends a frame to a neighbour, now or when it has replied to ARP. */
 void send_to_neighbour(struct router *router, uint16_t to, const struct lk_addr *addr, struct packet *packet);
 void on_arp(struct router *router, uint16_t from, const struct lk_frame *in);
