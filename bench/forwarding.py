@@ -55,7 +55,7 @@ def frame_of(size):
 
 def compiled(room, name, *sources):
     library = os.environ.get("LIBRARY", f"{TOP}/out/lib/libip_wire.a")
-    subprocess.run(["cc", "-O2", f"-I{os.environ.get('INCLUDE', TOP + '/c')}", "-o", f"{room}/{name}", *sources, library], check=True)
+    subprocess.run(["cc", "-O2", f"-I{TOP}/c", "-o", f"{room}/{name}", *sources, library], check=True)
     return f"{room}/{name}"
 
 

@@ -206,8 +206,10 @@ def udp(sides):
     for n in range(64):
         data = random.randbytes(n)
         for option in ((socket.SOL_SOCKET, 11, 1), (socket.IPPROTO_IP, socket.IP_TOS, 4 * n + n % 4),
-                       (socket.IPPROTO_IP, socket.IP_OPTIONS, b"\x01" * (n % 40) + b"\0"), (socket.IPPROTO_IP, socket.IP_TTL, 2 + n)):
-            check("UDP with an option", udp_echo(socket.AF_INET, ("10.2.0.2", 7), data, options=[option]) == data, option)
+                       (socket.IPPROTO_IP, socket.IP_OPTIONS, b"\x01" * (n % 40) + b"\0"),
+                       (socket.IPPROTO_IP, socket.IP_TTL, 2 + n)):
+            found = udp_echo(socket.AF_INET, ("10.2.0.2", 7), data, options=[option])
+            check("UDP with an option", found == data, option)
     compare_sides("frame of the kernel", sides)
 
 
@@ -378,7 +380,8 @@ def smaller_mtu(router, room):
         count = router.counters()["too long"] - before.get("too long", 0)
         check("a large frame with long segments", count > 2, count)
         room.run("ip link set right mtu 1500")
-        check("TCP with another MTU", len(sock.recv(5000, socket.MSG_WAITALL)) == 5000)
+        with sock.makefile("rb") as file:
+            check("TCP with another MTU", len(file.read(5000)) == 5000)
 
 
 def tagged_frames(router, sides):
@@ -397,11 +400,13 @@ def short_frames(sides):
         side = sides["right"]
         side.forget()
         data = packets.udp(bytes([n]) * n, 9, 9, src=bytes([10, 1, 0, 2]), dst=bytes([198, 18, 0, 1]))
-        frame = packets.packet(data, b"padding of the sender" * (n % 3), protocol=17, src=bytes([10, 1, 0, 2]), dst=bytes([198, 18, 0, 1]))
+        padding = b"padding of the sender" * (n % 3)
+        frame = packets.packet(data, padding, protocol=17, src=bytes([10, 1, 0, 2]), dst=bytes([198, 18, 0, 1]))
         frame = HARDWARE["left"] + HOSTS["left"] + frame[12:]
         sides["left"].sock.send(frame)
         side.take(LATEST)
-        compare_lists("padding", [MODEL.but(least=60).fate(frame, "left")[1]], [f for f in side.came_out if f.startswith(ELSEWHERE)])
+        came_out = [frame for frame in side.came_out if frame.startswith(ELSEWHERE)]
+        compare_lists("padding", [MODEL.but(least=60).fate(frame, "left")[1]], came_out)
 
 
 def on_sockets(program):
