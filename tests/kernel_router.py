@@ -98,22 +98,27 @@ def compare_lists(kind, expected, came_out):
 
 
 def compare_sides(kind, sides, model=MODEL):
-    """The frames of the kernels on both sides. Returns False if some were lost, so that they cannot be compared."""
-    if not settle(*sides.values()):
-        print("tests/kernel: skipped: a comparison: the capture has lost frames")
-        for side in sides.values():
-            side.forget()
-        return False
-    expected = {name: [] for name in sides}
+    """The frames of the kernels on both sides, once all have come. Returns False if some were lost, so that they cannot be
+    compared."""
+    end = time.monotonic() + LATEST
+    while True:
+        if not settle(*sides.values()):
+            print("tests/kernel: skipped: a comparison: the capture has lost frames")
+            break
+        expected = {name: [] for name in sides}
+        for name, side in sides.items():
+            for to, out in (model.fate(frame, name) for frame in side.handed):
+                if out:
+                    expected[to].append(out)
+        came_out = {name: [frame for frame in side.came_out if frame[12:14] != ARP] for name, side in sides.items()}
+        if all(len(expected[name]) <= len(came_out[name]) for name in sides) or time.monotonic() > end:
+            break
+    is_complete = not any(side.has_lost() for side in sides.values())
     for name, side in sides.items():
-        for frame in side.handed:
-            to, out = model.fate(frame, name)
-            if out:
-                expected[to].append(out)
-    for name, side in sides.items():
-        compare_lists(kind, expected[name], [frame for frame in side.came_out if frame[12:14] != ARP])
-        side.handed, side.came_out = [], []
-    return True
+        side.forget()
+        if is_complete:
+            compare_lists(kind, expected[name], came_out[name])
+    return is_complete
 
 
 @functools.cache
@@ -254,15 +259,16 @@ def asked_for(side, addr):
 
 def silent_neighbour(router, sides, there):
     """One request a second at most for an address, and the latest packets are kept until the reply."""
-    before = router.counters()
+    before, start = router.counters(), time.monotonic()
     with socket.socket(socket.AF_INET, socket.SOCK_DGRAM) as sock:
         for _ in range(24):
             sock.sendto(b"", ("10.2.0.99", 7))
             time.sleep(0.1)
-        count = asked_for(sides["right"], "10.2.0.99")
-        check("ARP requests", count == 3, count)
+        count, seconds = asked_for(sides["right"], "10.2.0.99"), time.monotonic() - start
+        check("ARP requests", seconds - 1 < count < seconds + 1, (count, seconds))
         for n in range(80):
             sock.sendto(bytes([n]), ("10.2.0.98", 7))
+        time.sleep(0.3)  # a second before the next request
     with there.entered(), socket.socket(socket.AF_INET, socket.SOCK_DGRAM) as server:
         server.settimeout(LATEST)
         there.run("ip address add 10.2.0.98/32 dev right")
