@@ -25,6 +25,12 @@ address 10.2.0.1/24 dev right
 route 198.18.0.0/15 via 10.2.0.9 dev right
 neighbour 10.2.0.9 lladdr {ELSEWHERE.hex(':')} dev right
 """
+KERNEL = f"""
+sysctl -qw net.ipv4.ip_forward=1
+ip address add 10.1.0.1/24 dev left && ip address add 10.2.0.1/24 dev right
+ip route add 198.18.0.0/15 via 10.2.0.9
+ip neighbour add 10.2.0.9 lladdr {ELSEWHERE.hex(':')} dev right
+"""
 LLADDR = "lladdr 02:00:00:00:aa:01 dev left\n"
 ROUTER, HOST = bytes.fromhex("02000000aa01"), bytes.fromhex("020000000102")
 SRC, DST = bytes([10, 1, 0, 2]), bytes([198, 18, 0, 1])
@@ -49,7 +55,7 @@ def frame_of(size):
 
 def compiled(room, name, *sources):
     library = os.environ.get("LIBRARY", f"{TOP}/out/lib/libip_wire.a")
-    subprocess.run(["cc", "-O2", f"-I{os.environ.get('INCLUDE', TOP + '/c')}", "-o", f"{room}/{name}", *sources, library], check=True)
+    subprocess.run(["cc", "-O2", f"-I{TOP}/c", "-o", f"{room}/{name}", *sources, library], check=True)
     return f"{room}/{name}"
 
 
@@ -67,14 +73,15 @@ class Path:
         self.left, self.middle, self.right, self.process = Namespace(), Namespace(), Namespace(), None
         if not is_taps:
             for name, host in (("left", self.left), ("right", self.right)):
-                self.middle.run(f"ip link add {name} address 02:00:00:00:aa:0{1 + (name == 'right')} type veth peer name {name} netns {host.process}")
+                address = f"02:00:00:00:aa:0{1 + (name == 'right')}"
+                self.middle.run(f"ip link add {name} address {address} type veth peer name {name} netns {host.process}")
                 self.middle.run(f"ip link set {name} addrgenmode none up")
         if command:
-            self.process = subprocess.Popen(["nsenter", "--target", self.middle.process, "--net", *command], stdout=subprocess.PIPE)
+            command = ["nsenter", "--target", self.middle.process, "--net", *command]
+            self.process = subprocess.Popen(command, stdout=subprocess.PIPE)
             self.process.stdout.readline()
         else:
-            self.middle.run("sysctl -qw net.ipv4.ip_forward=1; ip address add 10.1.0.1/24 dev left; ip address add 10.2.0.1/24 dev right; "
-                            f"ip route add 198.18.0.0/15 via 10.2.0.9; ip neighbour add 10.2.0.9 lladdr {ELSEWHERE.hex(':')} dev right")
+            self.middle.run(KERNEL)
         for name, host in (("left", self.left), ("right", self.right)):
             if is_taps:
                 self.middle.run(f"ip link set {name} netns {host.process}")

@@ -35,8 +35,8 @@ static void store_dst(const struct packet *packet, struct lk_addr *dst)
     memcpy(dst->octets, packet->frame + ETHERNET_LEN + 16, 4);
 }
 
-/* A packet for the outside address goes to the host inside. One that comes from inside is first translated as if it left
- * (hairpinning, RFC 4787, section 6). */
+/* A packet for the outside address goes to the host inside. One that comes from inside is first translated as if it
+ * left (hairpinning, RFC 4787, section 6). */
 static int before_route(struct router *router, uint16_t from, struct packet *packet, struct lk_addr *dst)
 {
     int is_outside_address = dst->version == 4 && memcmp(dst->octets, nat.outside, 4) == 0, rejection = LK_NOT_REJECTED;

@@ -1,5 +1,5 @@
-/* Faults for examples/router.c and nat.c, linked with --wrap for the three calls. The variable FAULT is the number of one;
- * with 0 there is none. */
+/* Faults for examples/router.c and nat.c, linked with --wrap for the three calls. The variable FAULT is the number of
+ * one; with 0 there is none. */
 #include <ip_wire.h>
 #include <stdlib.h>
 #include <string.h>

@@ -23,8 +23,8 @@ import kernel_router
 from kernel_client import check, echoed, report, wrong
 from kernel_links import LATEST, SELF, Here, Namespace, WideSide, settle, udp_echo
 from kernel_nat import INSIDE, OUTSIDE, bound, nat_frames, seen_by
-from kernel_router import (ARP, HARDWARE, HOSTS, MODEL, SERVERS, hostile_frames, make_pairs, random_frames, set_host, start_on_pairs,
-                           start_on_taps)
+from kernel_router import (ARP, HARDWARE, HOSTS, MODEL, SERVERS, hostile_frames, make_pairs, random_frames, set_host,
+                           start_on_pairs, start_on_taps)
 
 FLOOD, FEW = 60_000, 600
 
@@ -169,8 +169,10 @@ def with_sockets(program):
 
 
 def frames_to(side, hardware, is_arp):
+    """IP packets or ARP requests that came out to this Ethernet address."""
     side.take()
-    return [frame for frame in side.came_out if frame[:6] == hardware and (frame[12:14] == ARP) == is_arp]
+    return [frame for frame in side.came_out if frame[:6] == hardware
+            and (frame[12:14] == ARP and frame[21] == 1 if is_arp else frame[12:14] != ARP)]
 
 
 def neighbours_grow_old(program, env):
@@ -181,11 +183,11 @@ def neighbours_grow_old(program, env):
     works("the start")
     side, other = WideSide(there.process, "right"), bytes.fromhex("020000000203")
     check("a fresh neighbour", not frames_to(side, HOSTS["right"], True))
-    time.sleep(1.3)
+    time.sleep(2.2)
     udp_echo(socket.AF_INET, ("10.2.0.2", 7), b"old")
     check("a question to an old neighbour", len(frames_to(side, HOSTS["right"], True)) == 1)
     there.run(f"ip link set right address {other.hex(':')}")
-    time.sleep(1.3)
+    time.sleep(2.2)
     end = time.monotonic() + LATEST
     with socket.socket(socket.AF_INET, socket.SOCK_DGRAM) as sock:
         while not frames_to(side, other, False) and time.monotonic() < end:
@@ -203,19 +205,19 @@ def mappings_end(program, env):
     server = there.serve(*kernel_nat.SERVERS)
     with bound(socket.SOCK_DGRAM, (INSIDE[0], 5000)) as sock, there.entered(), bound(socket.SOCK_DGRAM, ("10.2.0.3", 99)) as far:
         check("port that is kept", seen_by(sock, "10.2.0.2") == (OUTSIDE, 5000))
-        for n in range(8):
-            time.sleep(0.2)
+        for n in range(5):
+            time.sleep(0.5)
             sock.sendto(b"alive", ("10.2.0.3", 99))
             check("a mapping that is used", far.recvfrom(99) == (b"alive", (OUTSIDE, 5000)), n)
         far.sendto(b"in time", (OUTSIDE, 5000))
         check("a live mapping", sock.recv(99) == b"in time")
-        time.sleep(1)
+        time.sleep(2)
         before = nat.counters().get("LK_NO_MAPPING", 0)
         far.sendto(b"too late", (OUTSIDE, 5000))
         time.sleep(0.1)
         check("a mapping that has ended", nat.counters().get("LK_NO_MAPPING", 0) == before + 1)
     with socket.create_connection(("10.2.0.2", 7), timeout=5) as sock:
-        time.sleep(1)
+        time.sleep(2)
         sock.sendall(b"idle")
         check("a connection that was idle", sock.recv(99) == b"idle")
     nat.ends("with a fast clock")
@@ -223,7 +225,7 @@ def mappings_end(program, env):
 
 
 def with_fast_clock(router, nat, clock):
-    for program, exchange, factor in ((router, neighbours_grow_old, 60), (nat, mappings_end, 600)):
+    for program, exchange, factor in ((router, neighbours_grow_old, 30), (nat, mappings_end, 200)):
         exchange(program, os.environ | {"LD_PRELOAD": clock, "FAST_CLOCK": str(factor)})
 
 

@@ -18,7 +18,8 @@ import packets
 from forwarded import DESTINATION, SOURCE, Packet, Router, has_ports, port_of, translated, with_header_checksum
 from kernel_client import check, echoed, report, tcp_at_once, tcp_turns, udp_lengths
 from kernel_links import ELSEWHERE, SELF, Here, Namespace, Program, WideSide, no_errors, settle, udp_echo
-from kernel_router import HARDWARE, HOSTS, RANDOM_FRAMES, compare_counters, compare_sides, hostile_frames, longest_handed, make_pairs, random_frames, routed, set_host
+from kernel_router import (HARDWARE, HOSTS, RANDOM_FRAMES, compare_counters, compare_sides, hostile_frames, longest_handed,
+                           make_pairs, random_frames, routed, set_host)
 from packets import word_sum
 
 OUTSIDE, INSIDE = "10.2.0.1", ("10.1.0.2", "10.1.0.3")
@@ -155,11 +156,13 @@ def with_checksums(frame):
 
 def packet_with_ports():
     """A valid UDP packet or TCP segment."""
-    data, options = random.randbytes(random.choice((0, 1, 7, 100, 1001))), random.choice((b"", b"", b"\2\4\5\xb4", b"\1\1\x08\x0a" + bytes(8)))
+    data = random.randbytes(random.choice((0, 1, 7, 100, 1001)))
+    options = random.choice((b"", b"", b"\2\4\5\xb4", b"\1\1\x08\x0a" + bytes(8)))
     ports = {"src_port": random.choice((53, 5353, random.randrange(1, 65536))), "dst_port": random.randrange(1, 65536)}
     body = packets.udp(data, **ports) if random.random() < 0.6 else packets.tcp(data, options, **ports)
-    fields = {"service": random.randrange(256), "ident": random.randrange(65536), "hop_limit": random.randrange(1, 256)}
-    return packets.packet(body, protocol=17 if len(body) == 8 + len(data) else 6, options=b"\1" * random.choice((0, 0, 4, 40)), **fields)
+    fields = {"service": random.randrange(256), "ident": random.randrange(65536), "hop_limit": random.randrange(1, 256),
+              "protocol": 17 if len(body) == 8 + len(data) else 6, "options": b"\1" * random.choice((0, 0, 4, 40))}
+    return packets.packet(body, **fields)
 
 
 def nat_frames(model):

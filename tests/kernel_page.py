@@ -38,7 +38,8 @@ def is_printed(shown, lines):
 def main(programs):
     page = os.path.join(os.path.dirname(os.path.dirname(os.path.abspath(__file__))), "docs/ROUTER.md")
     os.chdir(programs)
-    shell = subprocess.Popen(["bash"], stdin=subprocess.PIPE, stdout=subprocess.PIPE, stderr=subprocess.STDOUT, text=True, bufsize=1)
+    shell = subprocess.Popen(["bash"], stdin=subprocess.PIPE, stdout=subprocess.PIPE, stderr=subprocess.STDOUT, text=True,
+                             bufsize=1)
     lines, count = [], 0
     threading.Thread(target=lambda: lines.extend(line.rstrip("\n") for line in shell.stdout), daemon=True).start()
     for command, shown in commands(page):

@@ -15,13 +15,15 @@ static void *grown(void *list, size_t count, size_t size)
     return is_full ? realloc(list, (count ? 2 * count : 1) * size) : list;
 }
 
-static int add_route(struct router *router, const struct lk_block *block, const struct lk_addr *next_hop, uint16_t interface)
+static int add_route(struct router *router, const struct lk_block *block, const struct lk_addr *next_hop,
+                     uint16_t interface)
 {
     void *list = grown(router->routes, router->route_count, sizeof *router->routes);
     if (list == NULL)
         return 0;
     router->routes = list;
-    router->routes[router->route_count++] = (struct lk_route){.block = *block, .next_hop = *next_hop, .interface = interface};
+    router->routes[router->route_count++] =
+        (struct lk_route){.block = *block, .next_hop = *next_hop, .interface = interface};
     return 1;
 }
 
@@ -107,8 +109,8 @@ static struct lk_block one_host(const struct lk_block *block, int bits)
     unsigned prefix_len = block->prefix_len;
     struct lk_block host = *block;
     for (unsigned bit = prefix_len; bit < 32; bit++) {
-        uint8_t mask = (uint8_t)(0x80 >> bit % 8);
-        host.addr.octets[bit / 8] = (uint8_t)(bits ? host.addr.octets[bit / 8] | mask : host.addr.octets[bit / 8] & ~mask);
+        uint8_t *octet = &host.addr.octets[bit / 8], mask = (uint8_t)(0x80 >> bit % 8);
+        *octet = (uint8_t)(bits ? *octet | mask : *octet & ~mask);
     }
     host.prefix_len = 32;
     return host;
@@ -123,14 +125,16 @@ static int add_routes_of_addresses(struct router *router)
         const struct address *own = &router->addresses[i];
         struct lk_block self = own->block;
         self.prefix_len = self.addr.version == 4 ? 32 : 128;
-        is_added = add_route(router, &self, &on_link, TO_ROUTER) && add_route(router, &own->block, &on_link, own->interface);
+        is_added = add_route(router, &self, &on_link, TO_ROUTER)
+                   && add_route(router, &own->block, &on_link, own->interface);
     }
     for (size_t i = 0; i < router->address_count && is_added; i++) {
         const struct lk_block *block = &router->addresses[i].block;
         if (block->addr.version != 4 || block->prefix_len > 30)
             continue;
         struct lk_block zeros = one_host(block, 0), ones = one_host(block, 1);
-        is_added = add_route(router, &zeros, &on_link, TO_BROADCAST) && add_route(router, &ones, &on_link, TO_BROADCAST);
+        is_added = add_route(router, &zeros, &on_link, TO_BROADCAST)
+                   && add_route(router, &ones, &on_link, TO_BROADCAST);
     }
     return is_added;
 }

@@ -70,8 +70,8 @@ static size_t packet_len(const uint8_t *header)
     return header[0] >> 4 == 4 ? (size_t)header[2] << 8 | header[3] : 40 + ((size_t)header[4] << 8 | header[5]);
 }
 
-/* The length of the longest IP packet that this one becomes on its way: that of its segments, if the device makes them.
- * Behind the headers each has `gso_size` octets. */
+/* The length of the longest IP packet that this one becomes on its way: that of its segments, if the device makes
+ * them. Behind the headers each has `gso_size` octets. */
 static size_t longest_len(const struct packet *packet)
 {
     const struct virtio_net_hdr *offload = &packet->offload;
@@ -88,19 +88,16 @@ static size_t longest_len(const struct packet *packet)
 static const struct lk_addr *next_hop(struct router *router, const struct lk_addr *dst, uint16_t *to)
 {
     ptrdiff_t place = lk_choose_route(router->nodes, router->route_count, dst);
-    const struct lk_route *route = place < 0 ? NULL : &router->routes[place];
-    if (route == NULL)
+    if (place < 0) {
         drop(router, NO_WAY);
-    else if (route->interface == TO_ROUTER)
-        drop(router, FOR_ROUTER);
-    else if (route->interface == TO_BROADCAST)
-        drop(router, GROUP);
-    else if (router->interfaces[route->interface].device < 0)
-        router->interfaces[route->interface].lost++;
-    else
-        *to = route->interface;
-    if (route == NULL || route->interface >= TO_BROADCAST || router->interfaces[route->interface].device < 0)
         return NULL;
+    }
+    const struct lk_route *route = &router->routes[place];
+    if (route->interface == TO_ROUTER || route->interface == TO_BROADCAST) {
+        drop(router, route->interface == TO_ROUTER ? FOR_ROUTER : GROUP);
+        return NULL;
+    }
+    *to = route->interface;
     return route->next_hop.version != 0 ? &route->next_hop : dst;
 }
 
@@ -147,7 +144,9 @@ void on_frame(struct router *router, uint16_t from, struct packet *packet)
     } else if (may_pass(router, from, &in)) {
         struct lk_addr dst = in.dst.addr;
         packet->len = ETHERNET_LEN + packet_len(packet->frame + ETHERNET_LEN);
-        int rejection = router->before_route != NULL ? router->before_route(router, from, packet, &dst) : LK_NOT_REJECTED;
+        int rejection = LK_NOT_REJECTED;
+        if (router->before_route != NULL)
+            rejection = router->before_route(router, from, packet, &dst);
         if (rejection != LK_NOT_REJECTED)
             reject(router, rejection);
         else
@@ -158,8 +157,8 @@ void on_frame(struct router *router, uint16_t from, struct packet *packet)
 void print_counts(struct router *router)
 {
     static const char *const names[DROPS] = {
-        "other link address", "VLAN tag", "group or broadcast", "link-local", "reserved address", "for the router", "no route",
-        "too long", "no neighbour",
+        "other link address", "VLAN tag", "group or broadcast", "link-local",   "reserved address",
+        "for the router",     "no route", "too long",           "no neighbour",
     };
     printf("frames %lu, forwarded %lu, ARP %lu\n", router->frames, router->forwarded, router->arp);
     for (int why = 0; why < DROPS; why++)

@@ -62,7 +62,8 @@ static struct neighbour *find(struct neighbours *neighbours, uint16_t interface,
 {
     struct neighbour *set = set_of(neighbours, interface, addr);
     for (int way = 0; way < WAYS; way++)
-        if (set[way].state != FREE && set[way].interface == interface && memcmp(&set[way].addr, addr, sizeof *addr) == 0)
+        if (set[way].state != FREE && set[way].interface == interface
+            && memcmp(&set[way].addr, addr, sizeof *addr) == 0)
             return &set[way];
     return NULL;
 }
@@ -87,8 +88,8 @@ static void give_up(struct router *router, struct neighbour *neighbour)
     }
 }
 
-/* The place of a set for a new neighbour: a free one, or that of the neighbour which was not heard of for longest, first
- * of those that never replied. Null: all are in the file. */
+/* The place of a set for a new neighbour: a free one, or that of the neighbour which was not heard of for longest,
+ * first of those that never replied. Null: all are in the file. */
 static struct neighbour *place_in(struct neighbour *set)
 {
     struct neighbour *place = NULL;
@@ -113,7 +114,8 @@ static struct neighbour *add(struct router *router, uint16_t interface, const st
     return place;
 }
 
-int add_neighbour(struct neighbours *neighbours, uint16_t interface, const struct lk_addr *addr, const uint8_t *hardware)
+int add_neighbour(struct neighbours *neighbours, uint16_t interface, const struct lk_addr *addr,
+                  const uint8_t *hardware)
 {
     struct neighbour *place = find(neighbours, interface, addr);
     if (place == NULL)
@@ -161,7 +163,8 @@ static void ask(struct router *router, struct neighbour *neighbour)
         return;
     neighbour->asked_at = router->now;
     neighbour->requests++;
-    struct lk_frame request = {.src = {.addr = *own}, .dst = {.addr = neighbour->addr}, .arp = {.operation = ARP_REQUEST}};
+    struct lk_frame request = {
+        .src = {.addr = *own}, .dst = {.addr = neighbour->addr}, .arp = {.operation = ARP_REQUEST}};
     memcpy(request.ethernet.src, interface->hardware, 6);
     memcpy(request.arp.src_hardware, interface->hardware, 6);
     if (neighbour->state == KNOWN)

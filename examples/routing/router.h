@@ -91,19 +91,21 @@ size_t pad(uint8_t *frame, size_t len);
 void check_interface(const char *program, struct interface *interface);
 /* Adds to `missed` what the kernel has counted since the last call. */
 void count_missed(struct interface *interface);
-/* Computes the UDP or TCP checksum that the sender left to the device, and undoes this. */
+/* Computes the UDP or TCP checksum that the sender left to the device. */
 void complete_checksum(struct packet *packet);
+/* Leaves the checksum of a frame that becomes many frames to the device again. */
 void uncomplete_checksum(struct packet *packet);
 
 /* ---- neighbour.c ---- */
 
 struct neighbours *make_neighbours(void);
 /* Returns 0 if there is no room. */
-int add_neighbour(struct neighbours *neighbours, uint16_t interface, const struct lk_addr *addr, const uint8_t *hardware);
+int add_neighbour(struct neighbours *neighbours, uint16_t interface, const struct lk_addr *addr,
+                  const uint8_t *hardware);
 /* Sends a frame to a neighbour, now or when it has replied to ARP. */
 void send_to_neighbour(struct router *router, uint16_t to, const struct lk_addr *addr, struct packet *packet);
 void on_arp(struct router *router, uint16_t from, const struct lk_frame *in);
-/* To be called once a second. */
+/* Repeats requests, and drops packets whose neighbour does not reply. To be called once a second. */
 void ask_again(struct router *router);
 
 /* ---- config.c ---- */
@@ -113,14 +115,16 @@ int read_config(struct router *router, const char *path);
 
 /* ---- forward.c ---- */
 
+/* Forwards the packet of a frame that came in, or takes an ARP packet. Changes the packet. */
 void on_frame(struct router *router, uint16_t from, struct packet *packet);
 void drop(struct router *router, enum drop why);
 void print_counts(struct router *router);
 
 /* ---- serve.c ---- */
 
-/* Opens the interfaces, reads the file, and forwards until SIGTERM or SIGINT. Returns the status of the program. */
+/* Opens the interfaces, and reads the file. Returns 0 if that fails, with a message. */
 int start(struct router *router, const char *config, char **words, size_t count);
+/* Forwards until SIGTERM or SIGINT. Returns the status of the program. */
 int serve(struct router *router);
 
 #endif
