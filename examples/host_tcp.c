@@ -88,10 +88,11 @@ static size_t ip_header_len(const struct connection *c)
     return c->headers.network == LK_IPV6 ? 40 : 20;
 }
 
+/* After a gap the window stays, so that the peer sees duplicate acknowledgements (RFC 5681, section 2). */
 static void send_segment(struct connection *c, uint8_t flags, uint32_t seq_number, const uint8_t *ptr, size_t len)
 {
     struct lk_tcp_options options = options_of(c);
-    uint32_t room = (uint32_t)(BUFFER - c->held), window = room;
+    uint32_t room = c->later_from != c->later_to ? c->room_told : (uint32_t)(BUFFER - c->held), window = room;
     if (flags & LK_SYN) {
         options.has_max_seg_size = 1;
         options.max_seg_size = (uint16_t)(mtu - ip_header_len(c) - 20);
