@@ -326,7 +326,7 @@ def fill(wire):
 
 def queue(device, process):
     """Queues of two frames lose many. A host that was stopped goes on."""
-    (family, _, host), data = HOSTS[0], random.randbytes(1 << 19)
+    (family, _, host), data = HOSTS[0], random.randbytes(1 << 17)
     set_link(device, "txqueuelen", "2")
     check("TCP over a short queue", client.echoed(family, host, data) == data)
     set_link(device, "txqueuelen", "1000")
