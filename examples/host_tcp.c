@@ -14,6 +14,7 @@
 enum { SCALE = 3, BUFFER = 1 << 18, CONNECTIONS = 64, DUPLICATES = 3, SEGMENTS_PER_ACK = 2 };
 /* In milliseconds. A silent peer is dropped after 3 minutes, a half-open one after 1. */
 enum { FIRST_RTO = 1000, LEAST_RTO = 1000, RTO_AFTER_LOST_SYN = 3000, MOST_RTO = 60000, ACK_DELAY = 100 };
+enum { CHALLENGE_INTERVAL = 500 };
 enum { TRIES = 7, SYN_TRIES = 5 };
 
 struct connection {
@@ -30,6 +31,7 @@ struct connection {
     int segments;                   /* received since the last one that was sent */
     unsigned long opened;           /* how many were opened before */
     int64_t deadline, ack_deadline; /* of the timers, in milliseconds; 0: off */
+    int64_t challenged;             /* when the last challenge acknowledgement was sent */
     int64_t srtt, rttvar, rto;      /* RFC 6298 */
     int64_t timed_at;               /* when the octet before `timed_seq` was sent, if `is_timed` */
     uint32_t timed_seq, recover;    /* `recover`: after a loss the `sent_to` of that time; else `sent_from` */
@@ -88,10 +90,11 @@ static size_t ip_header_len(const struct connection *c)
     return c->headers.network == LK_IPV6 ? 40 : 20;
 }
 
+/* After a gap the window stays, so that the peer sees duplicate acknowledgements (RFC 5681, section 2). */
 static void send_segment(struct connection *c, uint8_t flags, uint32_t seq_number, const uint8_t *ptr, size_t len)
 {
     struct lk_tcp_options options = options_of(c);
-    uint32_t room = (uint32_t)(BUFFER - c->held), window = room;
+    uint32_t room = c->later_from != c->later_to ? c->room_told : (uint32_t)(BUFFER - c->held), window = room;
     if (flags & LK_SYN) {
         options.has_max_seg_size = 1;
         options.max_seg_size = (uint16_t)(mtu - ip_header_len(c) - 20);
@@ -116,6 +119,17 @@ static void send_segment(struct connection *c, uint8_t flags, uint32_t seq_numbe
 static void send_ack(struct connection *c)
 {
     send_segment(c, 0, c->sent_to, NULL, 0);
+}
+
+/* Answers a segment that is not acceptable (RFC 5961). One without octets gets an answer twice in a second at most, so
+ * that two hosts do not answer each other without end. */
+static void challenge(struct connection *c, const struct lk_frame *in)
+{
+    int64_t now = milliseconds();
+    if (in->payload_len == 0 && !(in->tcp.flags & (LK_SYN | LK_FIN)) && now - c->challenged < CHALLENGE_INTERVAL)
+        return;
+    c->challenged = now;
+    send_ack(c);
 }
 
 /* The most octets of a segment. */
@@ -291,7 +305,7 @@ static int acknowledge(struct connection *c, const struct lk_frame *in, const st
     uint32_t window = (uint32_t)in->tcp.window_len << (c->peer.has_window_scale ? c->peer.window_scale : 0);
     int is_lost = c->window == 0 && window > 0; /* a probe */
     if (lk_compare_seq(ack_number, c->sent_to) > 0) {
-        send_ack(c);
+        challenge(c, in);
         return 0;
     }
     if (lk_compare_seq(ack_number, c->sent_from) < 0)
@@ -347,7 +361,7 @@ static int take(struct connection *c, const struct lk_frame *in, const uint8_t *
     }
     if (gap == 0) {
         advance(c, to);
-    } else {
+    } else if (len > 0) {
         c->later_from = had_gap && lk_compare_seq(c->later_from, from) < 0 ? c->later_from : from;
         c->later_to = had_gap && lk_compare_seq(c->later_to, to) > 0 ? c->later_to : to;
     }
@@ -375,9 +389,9 @@ static void on_segment(struct connection *c, const struct lk_frame *in, const st
         if (before == 0)
             c->state = FREE;
         else if (is_acceptable(c, in))
-            send_ack(c);
+            challenge(c, in);
     } else if ((flags & LK_SYN) || !is_acceptable(c, in)) {
-        send_ack(c);
+        challenge(c, in);
     } else if (c->state == SYN_RECEIVED && (flags & LK_ACK) && in->tcp.ack_number != c->sent_to) {
         reset(in, in->payload_len);
     } else if (flags & LK_ACK) {

@@ -49,14 +49,15 @@ def tcp_of(frame):
 
 
 def segments_until(wire, port, end, most=1000):
-    """The segments between the host and a port: (time, sequence and acknowledgement number, flags, payload length)."""
+    """The segments from the host to a port: (time, sequence and acknowledgement number, flags, length of the payload,
+    window)."""
     found = []
     while len(found) < most and select.select([wire.sock], [], [], max(0, end - time.monotonic()))[0]:
         data, place = wire.sock.recvfrom(70000)
         body = tcp_of(data)
         if body and place[2] != socket.PACKET_OUTGOING and body[2:4] == port.to_bytes(2, "big"):
-            length = len(body) - (body[12] >> 4) * 4
-            found.append((time.monotonic(), *struct.unpack(">II", body[4:12]), body[13], length))
+            seq, ack, offset, flags, window = struct.unpack(">IIBBH", body[4:16])
+            found.append((time.monotonic(), seq, ack, flags, len(body) - (offset >> 4) * 4, window))
     return found
 
 
@@ -257,26 +258,43 @@ def acks(device, _):
     wire = wires(device)[0]
     seq, ack = opened(wire, TCP_CLIENT, b"\x02\x04\x05\xb4", window=0)
 
-    def sent(*offsets, wait=0.3, length=1000):
-        """What the host acknowledges within this time, in octets after `seq`, and when."""
+    def sent(*offsets, wait=0.3):
+        """What the host acknowledges within this time after segments of 1000 octets: octets after `seq`, and when. A
+        probe of the closed window is left out."""
         begin = time.monotonic()
         for offset in offsets:
-            data = bytes(length)
-            body = segment(TCP_CLIENT, (seq + offset) % 2**32, ack, ACK, data=data, window=0)
+            body = segment(TCP_CLIENT, (seq + offset) % 2**32, ack, ACK, data=bytes(1000), window=0)
             wire.sock.send(wire.frame(TCP, body))
-        found = segments_until(wire, TCP_CLIENT, begin + wait)
+        found = [place for place in segments_until(wire, TCP_CLIENT, begin + wait) if place[4] == 0]
         return [(place[2] - seq) % 2**32 for place in found], [place[0] - begin for place in found]
 
     found, _ = sent(*range(0, 100_000, 1000))
-    check("one acknowledgement for two segments", found == list(range(2000, 100_001, 2000)), found)
+    check("one acknowledgement for two segments", 50 <= len(found) <= 55 and found[-1] == 100_000, found)
     found, times = sent(100_000, wait=0.5)
-    check("delayed acknowledgement", found == [101_000] and 0.01 < times[0], (found, times))
-    found, times = sent(102_000, wait=0.05)
-    check("acknowledgement of a gap", found == [101_000], (found, times))
-    found, times = sent(103_000, 101_000, wait=0.05)
-    check("acknowledgement of a closed gap", found == [101_000, 104_000], (found, times))
+    check("delayed acknowledgement", found == [101_000] and 0.09 < times[0], (found, times))
+    found, times = sent(102_000)
+    check("acknowledgement of a gap", found == [101_000] and times[0] < 0.09, (found, times))
+    found, times = sent(103_000, 101_000)
+    check("acknowledgement of a closed gap", found == [101_000, 104_000] and times[1] < 0.09, (found, times))
     close(wire, TCP_CLIENT)
+    of_duplicates(wire)
     in_a_bulk_transfer(wire)
+
+
+def of_duplicates(wire):
+    """After a gap the window stays, although the peer acknowledges octets. Else these would be no duplicates."""
+    seq, ack = opened(wire, TCP_CLIENT, b"\x02\x04\x05\xb4", window=10_000)
+    for offset in (0, 1000, 2000):
+        wire.sock.send(wire.frame(TCP, segment(TCP_CLIENT, (seq + offset) % 2**32, ack, ACK, data=bytes(1000))))
+    segments_until(wire, TCP_CLIENT, time.monotonic() + 0.9, 3)
+    for offset in (4000, 5000, 6000):
+        number = (ack + offset // 2) % 2**32
+        body = segment(TCP_CLIENT, (seq + offset) % 2**32, number, ACK, data=bytes(1000))
+        wire.sock.send(wire.frame(TCP, body))
+    found = segments_until(wire, TCP_CLIENT, time.monotonic() + 0.9, 3)
+    check("duplicates", len(found) == 3 and len({place[2:] for place in found}) == 1, found)
+    check("duplicate", found and found[0][2:5] == ((seq + 3000) % 2**32, ACK, 0), found)
+    close(wire, TCP_CLIENT)
 
 
 def in_a_bulk_transfer(wire):
@@ -308,7 +326,7 @@ def fill(wire):
 
 def queue(device, process):
     """Queues of two frames lose many. A host that was stopped goes on."""
-    (family, _, host), data = HOSTS[0], random.randbytes(1 << 19)
+    (family, _, host), data = HOSTS[0], random.randbytes(1 << 17)
     set_link(device, "txqueuelen", "2")
     check("TCP over a short queue", client.echoed(family, host, data) == data)
     set_link(device, "txqueuelen", "1000")

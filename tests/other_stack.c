@@ -33,7 +33,7 @@
 enum { ECHO_PORT = 7, MTU = 1500, LONGEST_FRAME = 65535 + 18, FRAMES_AT_ONCE = 64 };
 enum { LARGEST = 10000000, MOST_WRONG = 10 };
 /* In milliseconds. With loss, a UDP packet is sent again after a while. */
-enum { PATIENCE = 60000, UDP_PATIENCE = 50, UDP_TRIES = 50 };
+enum { PATIENCE = 120000, UDP_PATIENCE = 50, UDP_TRIES = 50 };
 
 static struct netif netif;
 static struct eth_addr next_hop; /* for IPv6 */
