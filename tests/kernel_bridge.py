@@ -30,18 +30,7 @@ RANDOM_FRAMES = 4000
 AT_ONCE = 16
 LATEST = 5  # seconds
 MOST_WRONG = 3
-
-SERVER = """
-import socket, sys, threading
-def serve(sock):
-    while data := sock.recv(1 << 16):
-        sock.sendall(data)
-    sock.close()
-server = socket.create_server((sys.argv[1], 7), family=socket.AF_INET6 if ":" in sys.argv[1] else socket.AF_INET)
-print("ready", flush=True)
-while True:
-    threading.Thread(target=serve, args=(server.accept()[0],), daemon=True).start()
-"""
+ECHO_SERVER = os.path.join(os.path.dirname(os.path.abspath(__file__)), "echo_server.py")
 
 
 def set_namespace(file):
@@ -125,7 +114,7 @@ def in_namespace(process, *command, **words):
 def with_servers(process, exchange):
     """An exchange over each version of IP with a server behind the bridge."""
     for family, address in SERVERS:
-        server = in_namespace(process, sys.executable, "-c", SERVER, address)
+        server = in_namespace(process, ECHO_SERVER, address)
         server.stdout.readline()
         exchange(family, address)
         server.kill()

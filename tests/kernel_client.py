@@ -5,6 +5,7 @@ tests/kernel_client.py host DEVICE    exchanges packets with examples/host.c on 
 tests/kernel_client.py proved DEVICE  the same with examples/proved_host.c, which keeps no connection
 tests/kernel_client.py silent DEVICE  is a silent peer of examples/host.c: many SYNs, a closed window, a loss
 tests/kernel_client.py down DEVICE    sets the device down and up within a connection
+tests/kernel_client.py address ADDRESS  exchanges packets with an echo server
 tests/kernel_client.py lost DEVICE TAP
                                       exchanges packets over the device TAP. Copies frames between it and the DEVICE
                                       of examples/host.c, but loses some
@@ -346,6 +347,12 @@ def with_host(device, is_proved):
             exchange(wire)
 
 
+def with_address(address):
+    """A host behind a router or a NAT."""
+    for exchange in (udp_lengths, tcp_echo):
+        exchange(socket.AF_INET, address)
+
+
 def segments_to(wire, seconds):
     """The TCP segments from the host, each as its port, sequence number, flags and length."""
     found, end = [], time.monotonic() + seconds
@@ -465,5 +472,5 @@ def report(name, exchange, *place):
 
 if __name__ == "__main__":
     exchanges = {"host": lambda device: with_host(device, False), "proved": lambda device: with_host(device, True),
-                 "silent": silent_peer, "down": down_and_up, "lost": lossy}
+                 "silent": silent_peer, "down": down_and_up, "lost": lossy, "address": with_address}
     sys.exit(report(sys.argv[1], exchanges[sys.argv[1]], *sys.argv[2:]))

@@ -22,36 +22,6 @@ SELF = str(os.getpid())
 # No host has this address, so no kernel takes a frame to it.
 ELSEWHERE = bytes.fromhex("02000000ee0e")
 
-# Echoes UDP and TCP on port 7 of each address. A UDP packet to port 9 is answered with the address that it came from,
-# and a connection to port 9 too.
-SERVER = """
-import select, socket, sys, threading
-def echo(sock):
-    while data := sock.recv(1 << 16):
-        sock.sendall(data)
-    sock.close()
-def tell(sock):
-    sock.sendall(repr(sock.getpeername()[:2]).encode())
-    sock.close()
-files = {}
-for addr in sys.argv[1:]:
-    family = socket.AF_INET6 if ":" in addr else socket.AF_INET
-    for port in 7, 9:
-        server = socket.create_server((addr, port), family=family, backlog=64)
-        sock = socket.socket(family, socket.SOCK_DGRAM)
-        sock.setsockopt(socket.SOL_SOCKET, socket.SO_RCVBUF, 1 << 24)
-        sock.bind((addr, port))
-        files[server], files[sock] = (echo, tell)[port == 9], port
-print("ready", flush=True)
-while True:
-    for file in select.select(list(files), [], [])[0]:
-        if callable(files[file]):
-            threading.Thread(target=files[file], args=(file.accept()[0],), daemon=True).start()
-        else:
-            data, place = file.recvfrom(1 << 16)
-            file.sendto(repr(place[:2]).encode() if files[file] == 9 else data, place)
-"""
-
 
 class Namespace:
     """A network namespace, which a process keeps."""
@@ -67,7 +37,7 @@ class Namespace:
         subprocess.run(["nsenter", "--target", self.process, "--net", "sh", "-ec", script], check=True)
 
     def serve(self, *addresses):
-        server = in_namespace(self.process, sys.executable, "-c", SERVER, *addresses)
+        server = in_namespace(self.process, f"{TOP}/tests/echo_server.py", *addresses)
         server.stdout.readline()
         return server
 
