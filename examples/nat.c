@@ -73,7 +73,7 @@ static int find_outside_address(const struct router *router)
 
 int main(int argc, char **argv)
 {
-    struct router router = {.name = "nat", .before_route = before_route, .before_send = before_send};
+    static struct router router = {.name = "nat", .before_route = before_route, .before_send = before_send};
     if (argc < 4) {
         fprintf(stderr, "usage: nat FILE OUTSIDE INSIDE..\n");
         return 2;

@@ -11,12 +11,13 @@
 
 int main(int argc, char **argv)
 {
+    static struct router router = {.name = "router"};
     int options = argc > 1 && strcmp(argv[1], "-n") == 0;
-    struct router router = {.name = "router", .accepts_any_source = options};
     if (argc < 3 + options) {
         fprintf(stderr, "usage: router [-n] FILE tap:NAME|packet:NAME..\n");
         return 2;
     }
+    router.accepts_any_source = options;
     if (!start(&router, argv[1 + options], argv + 2 + options, (size_t)(argc - 2 - options)))
         return 1;
     return serve(&router);
