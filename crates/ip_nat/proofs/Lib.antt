@@ -10,4 +10,5 @@ pub mod UdpEnds
 pub mod Undone
 pub mod WayBack
 pub mod Words
+pub mod Zeros
 pub mod NatOnce

@@ -1,10 +1,7 @@
 -- A frame has one result of a translation, or one reason of a rejection.
-use Rattle.std.proofs.Common.{◌≡◌, ◌∙◌, ◌<◌, true, false, List, ℕ, Option, Some, None, Result, Ok, Err, IfOk, IfErr, drop, length, refl, sym, ap, subst, true≢false}
+use Rattle.std.proofs.Common.{◌≡◌, ◌∙◌, true, false, List, ℕ, Option, Some, None, drop, refl, sym, ap, subst, true≢false}
 use Rattle.ip_nat.proofs.Translates.{carried}
-use Rattle.ip_nat.specs.Nat.{AllowsPort, Carries, CarriesPorts, HasPorts, IsIpv4Frame, IsRejected, IsRejectedPacket, IsTranslated, IsUntranslated, with_addr, with_port, addr_of, port_of, on_side, Describes, HasUsualChecksums, IsPacket}
-use Rattle.ip_nat.specs.declared.packet.Packet.{Packet}
-use Rattle.ip_nat.proofs.Undone.{undone}
-use Rattle.ip_wire.proofs.Spelled.{AreBytes}
+use Rattle.ip_nat.specs.Nat.{AllowsPort, Carries, CarriesPorts, HasPorts, IsIpv4Frame, IsRejected, IsRejectedPacket, IsTranslated, IsUntranslated, with_addr, with_port}
 use Rattle.ip_nat.specs.declared.nat.Rejection.{Rejection}
 use Rattle.ip_nat.specs.declared.nat.Rejection.TheVariants.{NotIpv4, BadHeader, WrongChecksum, Fragment, OtherProtocol, BadTransport, ZeroPort, NoMapping, NoFreePort}
 use Rattle.ip_nat.specs.declared.nat.Side.{Side}
