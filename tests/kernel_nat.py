@@ -78,6 +78,7 @@ class Nat(Router):
     def leaves(self, frame):
         packet = Packet(frame)
         why = "LK_NOT_IP" if packet.version == 6 else has_ports(packet)
+        why = "LK_ZERO_PORT" if not why and port_of(packet, SOURCE) == 0 else why
         return (why, None) if why else (None, translated(frame, SOURCE, self.outside.packed, self.outside_port(packet)))
 
     def comes_in(self, frame):
@@ -86,8 +87,6 @@ class Nat(Router):
         inside = None if why else self.inside.get((packet.protocol, port_of(packet, DESTINATION)))
         if not why and (packet.dst != self.outside or inside is None):
             why = "LK_NO_MAPPING"
-        elif not why and inside[1] == 0:
-            why = "LK_ZERO_PORT"
         return (why, None) if why else (None, translated(frame, DESTINATION, *inside))
 
     def known_fate(self, frame, came_in):
@@ -158,7 +157,7 @@ def packet_with_ports():
     """A valid UDP packet or TCP segment."""
     data = random.randbytes(random.choice((0, 1, 7, 100, 1001)))
     options = random.choice((b"", b"", b"\2\4\5\xb4", b"\1\1\x08\x0a" + bytes(8)))
-    ports = {"src_port": random.choice((53, 5353, random.randrange(1, 65536))), "dst_port": random.randrange(1, 65536)}
+    ports = {"src_port": random.choice((0, 53, 5353, random.randrange(1, 65536))), "dst_port": random.randrange(1, 65536)}
     body = packets.udp(data, **ports) if random.random() < 0.6 else packets.tcp(data, options, **ports)
     fields = {"service": random.randrange(256), "ident": random.randrange(65536), "hop_limit": random.randrange(1, 256),
               "protocol": 17 if len(body) == 8 + len(data) else 6, "options": b"\1" * random.choice((0, 0, 4, 40))}
@@ -170,8 +169,8 @@ def nat_frames(model):
     the kernel. No packet that is dropped later opens a mapping, because the model would not see its port."""
     def make(count, name):
         ports = {17: [], 6: []}
-        for (protocol, port), (addr, inside_port) in model.inside.items():
-            ports[protocol] += [port] * (addr[0] == 203 and (name == "right" or inside_port != 0))
+        for (protocol, port), (addr, _) in model.inside.items():
+            ports[protocol] += [port] * (addr[0] == 203)
         for frame in hostile_frames(count, name):
             frame = frame if random.random() < 0.4 else routed(packet_with_ports(), name)
             packet = Packet(frame)
@@ -353,9 +352,9 @@ def on_sockets(program):
         longest = max(longest, longest_handed(sides["left"]))
     check("frames of 64 KB", longest > 60_000, longest)
     tcp_at_once(socket.AF_INET, SERVERS[1])
-    hairpin()
     learn_from(model, sides)
     compare_random(nat, sides, RANDOM_FRAMES // 4, model.but(least=60))
+    hairpin()
     no_errors(there)
     nat.ends("of a NAT on packet sockets")
     server.kill()
