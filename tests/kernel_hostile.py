@@ -324,11 +324,19 @@ def fill(wire):
     send_all(wire, [wire.frame(UDP, struct.pack(">HHHH", UDP_CLIENT, ECHO, 1008, 0) + bytes(1000))] * 3000)
 
 
+def dropped_frames(device):
+    """How many frames to the program the device has dropped, since its queue was full."""
+    with open("/proc/net/dev", encoding="ascii") as file:
+        counts = dict(line.split(":") for line in file if ":" in line)
+    return next(int(words.split()[11]) for name, words in counts.items() if name.strip() == device)
+
+
 def queue(device, process):
-    """Queues of two frames lose many. A host that was stopped goes on."""
-    (family, _, host), data = HOSTS[0], random.randbytes(1 << 17)
-    set_link(device, "txqueuelen", "2")
+    """A queue of four frames loses some. A host that was stopped goes on."""
+    (family, _, host), data = HOSTS[0], random.randbytes(1 << 19)
+    set_link(device, "txqueuelen", "4")
     check("TCP over a short queue", client.echoed(family, host, data) == data)
+    check("lost frames", dropped_frames(device) > 0)
     set_link(device, "txqueuelen", "1000")
     with socket.create_connection((host, ECHO), timeout=5) as sock:
         os.kill(int(process), signal.SIGSTOP)
