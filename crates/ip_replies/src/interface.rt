@@ -61,9 +61,9 @@ impl Interface {
     }
 }
 
-// Whether a host means itself by the address: 0.0.0.0/8 and 127.0.0.0/8 (RFC 1122, section 3.2.1.3), `::` and
-// `::1` (RFC 4291, sections 2.5.2 and 2.5.3).
-fn is_this_host(addr: &IpAddress) -> bool
+/// Returns `true` for an address by which a host means itself: in 0.0.0.0/8 or 127.0.0.0/8 (RFC 1122,
+/// section 3.2.1.3), `::` or `::1` (RFC 4291, sections 2.5.2 and 2.5.3).
+pub fn is_this_host(addr: &IpAddress) -> bool
     ensures { IsTrue result ↔ IsThisHost addr.now }
 {
     match addr {
@@ -72,9 +72,9 @@ fn is_this_host(addr: &IpAddress) -> bool
     }
 }
 
-// Whether no host has the address: 224.0.0.0/4 and 240.0.0.0/4 (RFC 1122, section 3.2.1.3), ff00::/8 and
-// ::ffff:0:0/96 (RFC 4291, sections 2.7 and 2.5.5.2).
-fn is_no_host(addr: &IpAddress) -> bool
+/// Returns `true` for an address that no host has: in 224.0.0.0/4 or 240.0.0.0/4 (RFC 1122, section
+/// 3.2.1.3), ff00::/8 or ::ffff:0:0/96 (RFC 4291, sections 2.7 and 2.5.5.2).
+pub fn is_no_host(addr: &IpAddress) -> bool
     ensures { IsTrue result ↔ IsNoHost addr.now }
 {
     match addr {

@@ -8,4 +8,4 @@ pub mod tcp_answer;
 pub mod tcp_reply;
 pub mod udp_echo;
 
-pub use interface::{HOP_LIMIT, Interface};
+pub use interface::{HOP_LIMIT, Interface, is_no_host, is_this_host};

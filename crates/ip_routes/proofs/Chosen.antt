@@ -1,5 +1,5 @@
 -- The node that a search finds is that of the chosen block.
-use Rattle.std.proofs.Common.{ℕ, ◌≡◌, ◌∙◌, ◌+◌, ◌-◌, ◌*◌, ◌/◌, ◌^◌, ◌<◌, ◌≤◌, ◌⊎◌, ◌↔◌, ◌++◌, ◌∷◌, [], All, Bool, IsTrue, List, inl, inr, true, false, leb, drop, get_or, length, map, take, refl, sym, ap, subst, arith}
+use Rattle.std.proofs.Common.{ℕ, ◌≡◌, ◌∙◌, ◌+◌, ◌-◌, ◌^◌, ◌<◌, ◌≤◌, ◌⊎◌, ◌↔◌, ◌++◌, ◌∷◌, [], All, Bool, IsTrue, List, inl, inr, true, false, leb, drop, get_or, length, map, take, refl, sym, ap, subst, arith}
 use Rattle.std.specs.List.Sorted.{IsNonDecreasingBy, IsPartitionPoint}
 use Rattle.std.proofs.Math.ListN.{get_or-map as get_or-map_at}
 use Rattle.std.proofs.lemmas.Bool.{cases_lt, false≢true, le-leb, leb-false, leb-true, lt-leb}
@@ -56,11 +56,11 @@ worse blocks nodes addr start found i j index f some i_within of j_within member
       | inr above ↦ absurd (outside nodes addr start found f (block_at blocks j) j k above node.1 other member)
       | inl before ↦
           let up : rank (node_at nodes k) ≤ rank (node_at nodes q) =
-              index.sorted k q (node_with 0 0 0 0) (omega (arith, before)) (omega (arith, some, f.within, f.low)) in
+          index.sorted k q (node_with 0 0 0 0) (omega (arith, before)) (omega (arith, some, f.within, f.low)) in
           let a_route : (node_at nodes k).route < 2 ^ 32 = omega (arith, other.route_is, j_within, index.count) in
           let b_route : (node_at nodes q).route < 2 ^ 32 = omega (arith, of.route_is, i_within, index.count) in
           elim (better (node_at nodes k) (node_at nodes q) (place (target_of addr)) a_route b_route up ((other.leads addr f.octets).0 member)
-              (f.encloses some).1 of.aligned (omega (arith, other.len_fits)) (omega (arith, of.len_fits))) [
+          (f.encloses some).1 of.aligned (omega (arith, other.len_fits)) (omega (arith, of.len_fits))) [
             | inl less ↦ inl (omega (arith, less, other.len, of.len))
             | inr (same, earlier) ↦ inr (sym other.len ∙ same ∙ of.len, omega (arith, earlier, other.route_is, of.route_is))
           ]
@@ -74,7 +74,7 @@ chosen blocks nodes addr start found index f some =
     let i = node.0 in
     let of : IsNodeOf (block_at blocks i) i (node_at nodes q) = node.2 in
     let all : (j : ℕ) → j < length blocks → IsIn (block_at blocks j) addr → IsWorse blocks i j =
-        λ j j_within member. worse blocks nodes addr start found i j index f some node.1 of j_within member in
+    λ j j_within member. worse blocks nodes addr start found i j index f some node.1 of j_within member in
     subst (IsChosenAt blocks addr) (sym of.route_is) (record {
       within = node.1;
       leads = (of.leads addr f.octets).1 (f.encloses some).1;
@@ -102,7 +102,7 @@ pub finds : (nodes : List Node) (addr : IpAddress) (target : Node) (start found 
     → IsPartitionPoint (λ n. leb (place n) (place target) ≡ true) (λ n. leb (place n) (place target) ≡ false) nodes start → found ≤ start
     → (0 < found → Encloses (node_at nodes (found - 1)) target)
     → (IsNonDecreasingBy place nodes → AreLinked nodes start → ((k : ℕ) → k < start → place (node_at nodes k) ≤ place target)
-        → IsNearest nodes found start target)
+    → IsNearest nodes found start target)
     → Finds nodes addr start found
 finds nodes addr target start found is octets sorted linked low point within encloses nearest =
     let d = node_with 0 0 0 0 in
@@ -132,7 +132,7 @@ route_chosen routes addr i route c is =
     let blocks = map block_of routes in
     let within : i < length routes = subst (λ n. i < n) (length-map routes block_of) c.within in
     let at : (j : ℕ) (d : Route) → j < length routes → block_at blocks j ≡ (get_or routes j d).block =
-        λ j d below. get_or-map block_of routes j d (block_at [] 0) below in
+    λ j d below. get_or-map block_of routes j d (block_at [] 0) below in
     let here : block_at blocks i ≡ route.block = at i route within ∙ ap (λ (r : Route). r.block) (sym is) in
     let len : block_prefix_len (block_at blocks i) ≡ block_prefix_len route.block = ap block_prefix_len here in
     record {
@@ -150,6 +150,6 @@ route_chosen routes addr i route c is =
           let inside : i + 1 + j < length routes = omega (arith, below, length-drop (i + 1) routes) in
           let same = at (i + 1 + j) d inside ∙ ap (λ (r : Route). r.block) (sym (get_or-drop (i + 1) routes j d)) in
           let le = c.no_longer (i + 1 + j) (omega arith) (subst (λ n. i + 1 + j < n) (sym (length-map routes block_of)) inside)
-              (subst (λ block. IsIn block addr) (sym same) leads) in
+          (subst (λ block. IsIn block addr) (sym same) leads) in
           omega (arith, le, len, ap block_prefix_len same);
     }

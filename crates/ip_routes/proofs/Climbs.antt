@@ -1,5 +1,5 @@
 -- The way from a node to those around it.
-use Rattle.std.proofs.Common.{ℕ, ◌≡◌, ◌∙◌, ◌+◌, ◌-◌, ◌*◌, ◌/◌, ◌^◌, ◌<◌, ◌≤◌, List, inl, inr, length, refl, sym, ap, subst, arith}
+use Rattle.std.proofs.Common.{ℕ, ◌≡◌, ◌∙◌, ◌-◌, ◌/◌, ◌^◌, ◌<◌, ◌≤◌, List, inl, inr, length, sym, subst, arith}
 use Rattle.std.specs.List.Sorted.{IsNonDecreasingBy}
 use Rattle.std.proofs.lemmas.Bool.{cases_lt, cases_eq}
 use Rattle.std.proofs.lemmas.Nat.{pow_pos}
@@ -16,8 +16,10 @@ around first middle last low high apart not_last (shorter, same) =
     let shared : place middle / d ≡ place first / d = between d (place first) (place middle) (place last) (pow_pos (128 - first.prefix_len)) low high same in
     elim (cases_lt first.prefix_len middle.prefix_len) [
       | inl less ↦ apart (less, sym shared)
-      | inr more ↦ not_last (omega (arith, more, shorter),
-          shorter_prefix (128 - first.prefix_len) (128 - middle.prefix_len) (place middle) (place last) (omega (arith, more)) (shared ∙ same))
+      | inr more ↦ not_last (
+        omega (arith, more, shorter),
+        shorter_prefix (128 - first.prefix_len) (128 - middle.prefix_len) (place middle) (place last) (omega (arith, more)) (shared ∙ same),
+      )
     ]
 
 -- behind a node that does not enclose it, the search goes on with the link of that node
@@ -30,10 +32,10 @@ climbs nodes above from start inner some low high sorted linked places apart is 
     elim (cases_lt k from) [
       | inr behind ↦ nearest k behind below
       | inl before ↦ elim (cases_eq k q) [
-          | inl at ↦ subst (λ k. ¬ Encloses (node_at nodes k) inner) (sym at) apart
-          | inr other ↦
-              let less : k < q = omega (arith, before, other, some) in
-              around (node_at nodes k) (node_at nodes q) inner (sorted k q _ (omega (arith, less)) (omega (arith, some, low, high)))
-              (places q (omega (arith, some, low))) (link.nearest k (subst (λ a. a ≤ k) is from_above) less) apart
-        ]
+        | inl at ↦ subst (λ k. ¬ Encloses (node_at nodes k) inner) (sym at) apart
+        | inr other ↦
+            let less : k < q = omega (arith, before, other, some) in
+            around (node_at nodes k) (node_at nodes q) inner (sorted k q _ (omega (arith, less)) (omega (arith, some, low, high)))
+            (places q (omega (arith, some, low))) (link.nearest k (subst (λ a. a ≤ k) is from_above) less) apart
+      ]
     ]

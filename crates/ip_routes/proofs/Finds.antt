@@ -1,11 +1,11 @@
 -- The nodes whose blocks contain an address.
-use Rattle.std.proofs.Common.{ℕ, ◌≡◌, ◌↔◌, ◌∙◌, ◌+◌, ◌-◌, ◌*◌, ◌/◌, ◌%◌, ◌^◌, ◌<◌, ◌≤◌, ◌⊎◌, inl, inr, List, [], ◌∷◌, suc, length, get_or, refl, sym, ap, ap₂, subst, arith, bit_and, eqb, eq-eqb}
-use Rattle.std.proofs.lemmas.Bool.{cases_lt, cases_order}
-use Rattle.std.proofs.lemmas.Nat.{mul-add-lt, pow-add, pow_pos, shl-shr, shr-shr, shr_split, shl_below, shr_le}
+use Rattle.std.proofs.Common.{ℕ, ◌≡◌, ◌↔◌, ◌∙◌, ◌+◌, ◌-◌, ◌*◌, ◌/◌, ◌^◌, ◌<◌, ◌≤◌, ◌⊎◌, inl, inr, List, [], ◌∷◌, suc, length, get_or, refl, sym, ap, subst, arith, bit_and, eq-eqb}
+use Rattle.std.proofs.lemmas.Bool.{cases_lt}
+use Rattle.std.proofs.lemmas.Nat.{mul-add-lt, pow-add, shl-shr, shr-shr, shr_split, shl_below}
 use Rattle.std.proofs.Math.Nat.{div-mul-le_self, mul_assoc}
 use Rattle.ip_wire.proofs.Blocks.{member-test, number-under_mask, numbers_from_agree}
 use Rattle.ip_routes.proofs.Places.{prefix_of, same_prefix, shorter_prefix}
-use Rattle.ip_routes.specs.Index.{Encloses, IsBlock, first_bits, node_of, node_with, place, rank, target_of, version_number}
+use Rattle.ip_routes.specs.Index.{IsBlock, first_bits, node_of, node_with, place, rank, target_of, version_number}
 use Rattle.ip_routes.specs.declared.index.Node.{Node}
 use Rattle.ip_wire.specs.IpAddress.{IsAddress}
 use Rattle.ip_wire.specs.IpCidr.{IsIn, block_address, block_prefix_len}
@@ -29,7 +29,7 @@ agree_from_numbers m n xs ys are_xs are_ys le same =
     let mask = 2 ^ (8 * m) - 2 ^ s in
     let bound : s ≤ 8 * m = omega arith in
     let e : bit_and (number_of xs) mask ≡ bit_and (number_of ys) mask =
-        number-under_mask m s xs are_xs bound ∙ ap (λ q. q * 2 ^ s) same ∙ sym (number-under_mask m s ys are_ys bound) in
+    number-under_mask m s xs are_xs bound ∙ ap (λ q. q * 2 ^ s) same ∙ sym (number-under_mask m s ys are_ys bound) in
     (member-test m n (number_of xs) (number_of ys) mask xs ys are_xs are_ys le refl refl refl).0 (eq-eqb _ _ e)
 
 -- octets agree in their first bits exactly if the prefixes of their numbers do
@@ -47,7 +47,7 @@ raised x n le =
 -- a block contains an address exactly if both have the same version and prefix
 pub is_in : (block : IpCidr) (addr : IpAddress) → IsBlock block → IsAddress addr
     → IsIn block addr ↔ ((version_number (block_address block) ≡ version_number addr)
-        × (first_bits (block_address block) / 2 ^ (128 - block_prefix_len block) ≡ first_bits addr / 2 ^ (128 - block_prefix_len block)))
+    × (first_bits (block_address block) / 2 ^ (128 - block_prefix_len block) ≡ first_bits addr / 2 ^ (128 - block_prefix_len block)))
 is_in (Ipv4 block) (ip.Ipv4 octets) (are, le) is =
     let told = agrees 4 block.prefix_len block.address octets are is le in
     let up = raised (number_of block.address) block.prefix_len le in
@@ -101,7 +101,7 @@ whole v f n le =
 
 same_places : (v w f x n : ℕ) → n ≤ 128 → f < 2 ^ 128 → x < 2 ^ 128
     → ((v ≡ w) × (f / 2 ^ (128 - n) ≡ x / 2 ^ (128 - n)))
-      ↔ ((v * 2 ^ 128 + f / 2 ^ (128 - n) * 2 ^ (128 - n)) / 2 ^ (128 - n) ≡ (w * 2 ^ 128 + x) / 2 ^ (128 - n))
+    ↔ ((v * 2 ^ 128 + f / 2 ^ (128 - n) * 2 ^ (128 - n)) / 2 ^ (128 - n) ≡ (w * 2 ^ 128 + x) / 2 ^ (128 - n))
 same_places v w f x n le f_fits x_fits =
     let z = 128 - n in
     let m = f / 2 ^ z * 2 ^ z in
@@ -128,9 +128,10 @@ node_of-IsNodeOf block route valid =
       leads = λ addr is.
           let there : place (target_of addr) ≡ version_number addr * 2 ^ 128 + first_bits addr = place_with (version_number addr) (first_bits addr) 129 0 in
           let told = is_in block addr valid is in
-          let same = same_places v (version_number addr) f (first_bits addr) n le (first_bits-lt (block_address block) valid.0) (first_bits-lt addr is) in
-          (λ member. ap (λ p. p / 2 ^ z) here ∙ same.0 (told.0 member) ∙ ap (λ p. p / 2 ^ z) (sym there),
-           λ e. told.1 (same.1 (ap (λ p. p / 2 ^ z) (sym here) ∙ e ∙ ap (λ p. p / 2 ^ z) there)));
+          let same = same_places v (version_number addr) f (first_bits addr) n le (first_bits-lt (block_address block) valid.0) (first_bits-lt addr is) in (
+            λ member. ap (λ p. p / 2 ^ z) here ∙ same.0 (told.0 member) ∙ ap (λ p. p / 2 ^ z) (sym there),
+            λ e. told.1 (same.1 (ap (λ p. p / 2 ^ z) (sym here) ∙ e ∙ ap (λ p. p / 2 ^ z) there)),
+          );
       aligned = ap (λ p. p / 2 ^ z * 2 ^ z) here ∙ whole v f n le ∙ sym here;
     }
 

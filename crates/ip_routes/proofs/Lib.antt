@@ -5,3 +5,4 @@ pub mod Finds
 pub mod Links
 pub mod Places
 pub mod RouteSteps
+mod RoutesOnce

@@ -1,5 +1,5 @@
 -- The links of the nodes, one node at a time.
-use Rattle.std.proofs.Common.{ℕ, ◌≡◌, ◌∙◌, ◌+◌, ◌-◌, ◌*◌, ◌/◌, ◌^◌, ◌<◌, ◌≤◌, List, [], inl, inr, get_or, length, map, set, refl, sym, ap, subst, arith, get_or-set_other, get_or-set_same}
+use Rattle.std.proofs.Common.{ℕ, ◌≡◌, ◌∙◌, ◌+◌, ◌-◌, ◌<◌, ◌≤◌, List, inl, inr, get_or, length, map, set, sym, ap, subst, arith, get_or-set_other, get_or-set_same}
 use Rattle.std.specs.List.Sorted.{IsNonDecreasingBy}
 use Rattle.std.proofs.Math.ListN.{get_or-map}
 use Rattle.std.proofs.Math.Seq.{map-set_same}
@@ -42,7 +42,6 @@ alike_link xs ys k above alike link = record {
   encloses = λ some. alike_enclose xs ys (above - 1) k alike (link.encloses some);
   nearest = λ j from below encloses. link.nearest j from below (alike_enclose ys xs j k (sym alike) encloses);
 }
-
 
 -- the node at a place with another link changes nothing else
 pub alike_set : (xs : List Node) (i above : ℕ) (node : Node) → node ≡ node_at xs i → AreAlike (set xs i (record node { above = above })) xs

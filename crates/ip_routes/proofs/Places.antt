@@ -1,9 +1,9 @@
 -- The numbers that order the nodes, and the prefixes of these numbers.
-use Rattle.std.proofs.Common.{ℕ, ◌≡◌, ◌↔◌, ◌∙◌, ◌+◌, ◌-◌, ◌*◌, ◌/◌, ◌^◌, ◌<◌, ◌≤◌, inl, inr, refl, sym, ap, ap₂, subst, arith, nat_cmp, Ordering}
+use Rattle.std.proofs.Common.{ℕ, ◌≡◌, ◌↔◌, ◌∙◌, ◌+◌, ◌-◌, ◌*◌, ◌/◌, ◌^◌, ◌<◌, ◌≤◌, inl, inr, sym, ap, ap₂, subst, arith, nat_cmp}
 use Rattle.std.specs.Ordering.{ordering_then}
 use Rattle.std.specs.declared.cmp.Ordering.TheVariants.{Less, Equal, Greater}
-use Rattle.std.proofs.lemmas.Bool.{cases_lt, cases_order}
-use Rattle.std.proofs.lemmas.Nat.{mul-add-lt, pow-add, pow_pos, same_from_place, shr-shr, shr_split, shr_below, le-div}
+use Rattle.std.proofs.lemmas.Bool.{cases_order}
+use Rattle.std.proofs.lemmas.Nat.{mul-add-lt, pow-add, pow_pos, same_from_place, shr-shr, shr_below}
 use Rattle.std.proofs.Math.Nat.{div-mul-le_self, le-div_iff_mul-le, mul-add-div_right, mul_assoc}
 use Rattle.ip_routes.specs.Index.{place, rank}
 use Rattle.ip_routes.specs.declared.index.Node.{Node}
@@ -23,12 +23,12 @@ cmp_greater a b h = grind (arith, h)
 pub then_cmp : (m a b x y : ℕ) → x < m → y < m → ordering_then (nat_cmp a b) (nat_cmp x y) ≡ nat_cmp (a * m + x) (b * m + y)
 then_cmp m a b x y x_fits y_fits = elim (cases_order a b) [
   | inl same ↦ elim (cases_order x y) [
-      | inl low ↦ ap₂ ordering_then (cmp_equal a b same) (cmp_equal x y low) ∙ sym (cmp_equal (a * m + x) (b * m + y) (ap₂ (λ a x. a * m + x) same low))
-      | inr (inl low) ↦ ap₂ ordering_then (cmp_equal a b same) (cmp_less x y low)
-          ∙ sym (cmp_less (a * m + x) (b * m + y) (let e : a * m ≡ b * m = ap (λ a. a * m) same in omega (arith, e, low)))
-      | inr (inr low) ↦ ap₂ ordering_then (cmp_equal a b same) (cmp_greater x y low)
-          ∙ sym (cmp_greater (a * m + x) (b * m + y) (let e : a * m ≡ b * m = ap (λ a. a * m) same in omega (arith, e, low)))
-    ]
+    | inl low ↦ ap₂ ordering_then (cmp_equal a b same) (cmp_equal x y low) ∙ sym (cmp_equal (a * m + x) (b * m + y) (ap₂ (λ a x. a * m + x) same low))
+    | inr (inl low) ↦ ap₂ ordering_then (cmp_equal a b same) (cmp_less x y low)
+        ∙ sym (cmp_less (a * m + x) (b * m + y) (let e : a * m ≡ b * m = ap (λ a. a * m) same in omega (arith, e, low)))
+    | inr (inr low) ↦ ap₂ ordering_then (cmp_equal a b same) (cmp_greater x y low)
+        ∙ sym (cmp_greater (a * m + x) (b * m + y) (let e : a * m ≡ b * m = ap (λ a. a * m) same in omega (arith, e, low)))
+  ]
   | inr (inl high) ↦ ap (λ o. ordering_then o (nat_cmp x y)) (cmp_less a b high)
       ∙ sym (cmp_less (a * m + x) (b * m + y) (omega (arith, mul-add-lt a m x b high x_fits)))
   | inr (inr high) ↦ ap (λ o. ordering_then o (nat_cmp x y)) (cmp_greater a b high)
@@ -57,7 +57,7 @@ pub same_prefix : (n s v w x y : ℕ) → x < 2 ^ (n + s) → y < 2 ^ (n + s)
 same_prefix n s v w x y x_fits y_fits = (
   λ (high, low). prefix_of n s v x ∙ ap₂ (λ v x. v * 2 ^ n + x) high low ∙ sym (prefix_of n s w y),
   λ same. same_from_place v (x / 2 ^ s) w (y / 2 ^ s) (2 ^ n) (shr_below x n s x_fits) (shr_below y n s y_fits)
-    (sym (prefix_of n s v x) ∙ same ∙ prefix_of n s w y)
+      (sym (prefix_of n s v x) ∙ same ∙ prefix_of n s w y),
 )
 
 -- a number between two with one prefix has it too
@@ -80,22 +80,23 @@ same_block n a b x y x_is y_is x_fits y_fits =
     let s = 128 - n in
     let e : 128 - s + s ≡ 128 = omega arith in
     let P : ℕ → Type 0 = λ k. x < 2 ^ k → y < 2 ^ k
-        → ((a.version ≡ b.version) × (x / 2 ^ s ≡ y / 2 ^ s)) ↔ ((a.version * 2 ^ k + x) / 2 ^ s ≡ (b.version * 2 ^ k + y) / 2 ^ s) in
+    → ((a.version ≡ b.version) × (x / 2 ^ s ≡ y / 2 ^ s)) ↔ ((a.version * 2 ^ k + x) / 2 ^ s ≡ (b.version * 2 ^ k + y) / 2 ^ s) in
     let Q : ℕ → ℕ → Type 0 = λ x y. ((a.version ≡ b.version) × (x / 2 ^ s ≡ y / 2 ^ s))
-        ↔ ((a.version * 2 ^ 128 + x) / 2 ^ s ≡ (b.version * 2 ^ 128 + y) / 2 ^ s) in
-    let whole : Q x y = subst P e (same_prefix (128 - s) s a.version b.version x y) x_fits y_fits in
-    (λ both. ap (λ x. (a.version * 2 ^ 128 + x) / 2 ^ s) (sym x_is) ∙ whole.0 both ∙ ap (λ y. (b.version * 2 ^ 128 + y) / 2 ^ s) y_is,
-     λ same. whole.1 (ap (λ x. (a.version * 2 ^ 128 + x) / 2 ^ s) x_is ∙ same ∙ ap (λ y. (b.version * 2 ^ 128 + y) / 2 ^ s) (sym y_is)))
+    ↔ ((a.version * 2 ^ 128 + x) / 2 ^ s ≡ (b.version * 2 ^ 128 + y) / 2 ^ s) in
+    let whole : Q x y = subst P e (same_prefix (128 - s) s a.version b.version x y) x_fits y_fits in (
+      λ both. ap (λ x. (a.version * 2 ^ 128 + x) / 2 ^ s) (sym x_is) ∙ whole.0 both ∙ ap (λ y. (b.version * 2 ^ 128 + y) / 2 ^ s) y_is,
+      λ same. whole.1 (ap (λ x. (a.version * 2 ^ 128 + x) / 2 ^ s) x_is ∙ same ∙ ap (λ y. (b.version * 2 ^ 128 + y) / 2 ^ s) (sym y_is)),
+    )
 
 -- the order of the nodes
 pub rank_cmp : (a b : Node) (x y : ℕ) → x ≡ a.high * 2 ^ 64 + a.low → y ≡ b.high * 2 ^ 64 + b.low → x < 2 ^ 128 → y < 2 ^ 128
     → a.prefix_len < 2 ^ 8 → b.prefix_len < 2 ^ 8 → a.route < 2 ^ 32 → b.route < 2 ^ 32
     → ordering_then (ordering_then (ordering_then (nat_cmp a.version b.version) (nat_cmp x y)) (nat_cmp a.prefix_len b.prefix_len)) (nat_cmp b.route a.route)
-      ≡ nat_cmp (rank a) (rank b)
+    ≡ nat_cmp (rank a) (rank b)
 rank_cmp a b x y x_is y_is x_fits y_fits a_len b_len a_route b_route =
     let first : ordering_then (nat_cmp a.version b.version) (nat_cmp x y) ≡ nat_cmp (place a) (place b) =
-        then_cmp (2 ^ 128) a.version b.version x y x_fits y_fits
-        ∙ ap₂ (λ x y. nat_cmp (a.version * 2 ^ 128 + x) (b.version * 2 ^ 128 + y)) x_is y_is in
+    then_cmp (2 ^ 128) a.version b.version x y x_fits y_fits
+    ∙ ap₂ (λ x y. nat_cmp (a.version * 2 ^ 128 + x) (b.version * 2 ^ 128 + y)) x_is y_is in
     let last : nat_cmp b.route a.route ≡ nat_cmp (2 ^ 32 - 1 - a.route) (2 ^ 32 - 1 - b.route) = turned_cmp (2 ^ 32) a.route b.route a_route b_route in
     ap₂ (λ o. ordering_then (ordering_then o (nat_cmp a.prefix_len b.prefix_len))) first last
     ∙ ap (λ o. ordering_then o (nat_cmp (2 ^ 32 - 1 - a.route) (2 ^ 32 - 1 - b.route))) (then_cmp (2 ^ 8) (place a) (place b) a.prefix_len b.prefix_len a_len b_len)

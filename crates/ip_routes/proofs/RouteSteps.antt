@@ -1,5 +1,5 @@
 -- The choice of a route, one route at a time.
-use Rattle.std.proofs.Common.{◌≡◌, ◌∙◌, ◌+◌, ◌<◌, ◌≤◌, ◌++◌, ◌∷◌, [], ◌⊎◌, inl, inr, ℕ, List, All, MatchOption, Option, None, Some, length, get_or, take, refl, sym, subst, ap, append_assoc, arith}
+use Rattle.std.proofs.Common.{◌≡◌, ◌∙◌, ◌+◌, ◌<◌, ◌≤◌, ◌++◌, ◌∷◌, [], inl, inr, ℕ, List, All, MatchOption, Option, None, Some, length, get_or, take, refl, sym, subst, ap, append_assoc, arith}
 use Rattle.std.proofs.lemmas.List.{take_more}
 use Rattle.std.proofs.lemmas.List.Elements.{All-append, All-cons, All-more, All-nil, All-push, All-weaker}
 use Rattle.ip_routes.specs.Route.{IsBetter, IsChosen, Leads}

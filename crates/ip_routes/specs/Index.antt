@@ -1,6 +1,6 @@
 -- An index of blocks: nodes in the order of their first addresses, each with a link to the next larger block around it.
 -- Of the blocks that contain an address, the last in this order has the longest prefix.
-use Rattle.std.specs.Prelude.{ℕ, ◌≡◌, ◌+◌, ◌-◌, ◌*◌, ◌/◌, ◌%◌, ◌^◌, ◌<◌, ◌≤◌, List, [], ◌∷◌, length, map, replicate, slice_index_or}
+use Rattle.std.specs.Prelude.{ℕ, ◌≡◌, ◌+◌, ◌-◌, ◌*◌, ◌/◌, ◌%◌, ◌^◌, ◌<◌, ◌≤◌, List, length, map, replicate, slice_index_or}
 use Rattle.std.specs.List.Sorted.{IsNonDecreasingBy, IsPermutation}
 use Rattle.ip_routes.specs.declared.index.Node.{Node}
 use Rattle.ip_routes.specs.declared.route.Route.{Route}

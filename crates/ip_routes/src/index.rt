@@ -89,7 +89,9 @@ impl Node {
         let (len, other_len) = (self.prefix_len, other.prefix_len);
         let (route, other_route) = (self.route, other.route);
         let place = self.version.cmp(&other.version).then(bits.cmp(&other_bits));
-        place.then(len.cmp(&other_len)).then(other_route.cmp(&route))
+        place
+            .then(len.cmp(&other_len))
+            .then(other_route.cmp(&route))
     }
 
     // Whether its prefix is shorter, and the other block has it too.
@@ -120,7 +122,11 @@ fn masked(bits: u128, prefix_len: u8) -> u128
     ensures { result ≡ bits / 2 ^ (128 - prefix_len) * 2 ^ (128 - prefix_len) }
 {
     let zeros = 128 - prefix_len;
-    if zeros == 128 { 0 } else { bits >> zeros << zeros }
+    if zeros == 128 {
+        0
+    } else {
+        bits >> zeros << zeros
+    }
 }
 
 fn first_bits(addr: &IpAddress) -> u128

@@ -10,6 +10,7 @@ mod nat;
 mod promises;
 mod replies;
 mod router;
+mod routes;
 mod sack;
 mod udp_frames;
 mod uses;

@@ -1,7 +1,5 @@
 //! Each use, on frames that are listed byte by byte.
 
-ghost use Rattle.std.specs.Prelude.{◌≤◌};
-
 use super::captured::{ECHO_REQUEST, SYN};
 use super::change;
 use super::udp_frames::{DST, FRAME, IPV6_FRAME, SRC};
@@ -9,7 +7,6 @@ use ip_uses::allow_list::is_allowed;
 use ip_uses::flow_key::{Flow, FlowKey};
 use ip_uses::mss_clamp::clamp;
 use ip_uses::read_frame::udp_packet;
-use ip_uses::route::{Route, choose};
 use ip_uses::verify_checksum::{parse_udp_ports, verified_by_the_device};
 use ip_uses::write_frame::write_udp;
 use ip_wire::{
@@ -210,37 +207,6 @@ fn tells_flows_apart(rt: HostRuntime) {
         key_between(udp, 9, 7) == key_between(udp, 9, 9),
     ];
     assert_eq!(rt; equal, [false, false, true, false, false]);
-}
-
-#[test]
-fn chooses_the_longest_prefix(rt: HostRuntime) {
-    let route = |a: u8, b: u8, prefix_len: u8, hop: u8|
-        requires { prefix_len ≤ 32 }
-    {
-        Route {
-            block: IpCidr::new(IpAddress::v4(a, b, 0, 0), prefix_len),
-            next_hop: IpAddress::v4(192, 0, 2, hop),
-        }
-    };
-    let table = [
-        route(10, 0, 8, 1),
-        route(10, 1, 16, 2),
-        route(10, 0, 8, 3),
-        Route {
-            block: IpCidr::new(IpAddress::v6(0x2001, 0xdb8, 0, 0, 0, 0, 0, 0), 32),
-            next_hop: IpAddress::v6(0xfe80, 0, 0, 0, 0, 0, 0, 1),
-        },
-    ];
-    let ipv6 = IpAddress::v6(0x2001, 0xdb8, 1, 2, 3, 4, 5, 6);
-    assert!(rt; choose(&table, &IpAddress::v4(10, 1, 2, 3)) == Some(table[1]));
-    assert!(rt; choose(&table, &IpAddress::v4(10, 2, 2, 3)) == Some(table[0]));
-    assert!(rt; choose(&table, &IpAddress::v4(11, 2, 2, 3)).is_none());
-    assert!(rt; choose(&table, &ipv6) == Some(table[3]));
-    assert!(rt; choose(&table[..3], &ipv6).is_none());
-    assert!(rt; choose(&[], &IpAddress::v4(10, 2, 2, 3)).is_none());
-    let default = [route(0, 0, 0, 9), table[0]];
-    assert!(rt; choose(&default, &IpAddress::v4(11, 2, 2, 3)) == Some(default[0]));
-    assert!(rt; choose(&default, &IpAddress::v4(10, 2, 2, 3)) == Some(default[1]));
 }
 
 /// The captured SYN with another checksum and maximum segment size.

@@ -1,10 +1,9 @@
-use Rattle.std.proofs.Common.{List, rules, ◌≡◌, ◌^◌, ◌<◌, length, map, sym, subst, arith}
+use Rattle.std.proofs.Common.{rules, map, sym, subst, arith}
 use Rattle.std.specs.List.Sorted.{IsNonDecreasingBy, IsPermutation}
 use Rattle.std.proofs.lemmas.List.Sorted.{IsNonDecreasingBy-from_sort_by, IsPermutation-map}
 use Rattle.ip_routes.proofs.Elements.{placed}
 use Rattle.ip_routes.proofs.Links.{alike_ranks}
-use Rattle.ip_routes.specs.Index.{IsIndex, rank, unlinked}
-use Rattle.ip_routes.specs.declared.index.Node.{Node}
+use Rattle.ip_routes.specs.Index.{rank, unlinked}
 use Rattle.ip_routes.proofs.index.arrange.Goals as goal
 
 pub returns : goal.returns

@@ -1,4 +1,4 @@
-use Rattle.std.proofs.Common.{ℕ, ◌≡◌, ◌∙◌, ◌<◌, ◌≤◌, All, Bor, List, MatchOption, Option, None, Some, arith, length, map, sym, subst}
+use Rattle.std.proofs.Common.{ℕ, ◌≡◌, ◌<◌, ◌≤◌, All, Bor, List, MatchOption, Option, None, Some, arith, length, map, sym, subst}
 use Rattle.std.specs.List.{HoldsAt}
 use Rattle.std.specs.Option.{option_copied}
 use Rattle.std.proofs.lemmas.List.{length-map}
@@ -23,8 +23,8 @@ returns-in_err-place c index =
     let routes = c.args.routes.now in
     let addr = c.args.addr.now in
     let none : All (λ block. ¬ IsIn block addr) (map block_of routes) =
-        subst (λ r. MatchOption r (All (λ block. ¬ IsIn block addr) (map block_of routes)) (IsChosenAt (map block_of routes) addr)) c.in_err-place.was
-        (c.find.ensures (map block_of routes) index) in
+    subst (λ r. MatchOption r (All (λ block. ¬ IsIn block addr) (map block_of routes)) (IsChosenAt (map block_of routes) addr)) c.in_err-place.was
+    (c.find.ensures (map block_of routes) index) in
     subst (λ r. MatchOption r (All (λ route. ¬ Leads addr route) routes) (IsChosen routes addr)) (sym c.from_residual.ensures) (none_leads routes addr none)
 
 pub returns : goal.returns
@@ -32,7 +32,7 @@ returns c index =
     let routes = c.args.routes.now in
     let addr = c.args.addr.now in
     let chosen : IsChosenAt (map block_of routes) addr c.in_ok-place.place =
-        subst (λ r. MatchOption r (All (λ block. ¬ IsIn block addr) (map block_of routes)) (IsChosenAt (map block_of routes) addr)) c.in_ok-place.was
-        (c.find.ensures (map block_of routes) index) in
+    subst (λ r. MatchOption r (All (λ block. ¬ IsIn block addr) (map block_of routes)) (IsChosenAt (map block_of routes) addr)) c.in_ok-place.was
+    (c.find.ensures (map block_of routes) index) in
     subst (λ r. MatchOption r (All (λ route. ¬ Leads addr route) routes) (IsChosen routes addr)) (sym c.copied.ensures)
     (read routes addr c.in_ok-place.place c.get.result c.get.ensures.lookup.3 chosen)

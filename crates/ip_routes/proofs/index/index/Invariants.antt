@@ -1,4 +1,4 @@
-use Rattle.std.proofs.Common.{ℕ, ◌≡◌, ◌<◌, ◌≤◌, length, map}
+use Rattle.std.proofs.Common.{ℕ, ◌≡◌, ◌<◌, map}
 use Rattle.ip_routes.specs.Index.{IsBlock, block_at, block_of, node_at, node_of}
 use Rattle.ip_routes.proofs.index.index.Given as goal
 

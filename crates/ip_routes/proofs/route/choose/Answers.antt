@@ -1,4 +1,4 @@
-use Rattle.std.proofs.Common.{◌≡◌, ◌+◌, sym, subst, take}
+use Rattle.std.proofs.Common.{◌+◌, sym, subst, take}
 use Rattle.ip_routes.proofs.RouteSteps.{Chosen, passed, taken}
 use Rattle.ip_routes.specs.Route.{Leads}
 use Rattle.ip_routes.proofs.route.choose.Goals.{then-contains_addr, else-contains_addr}
