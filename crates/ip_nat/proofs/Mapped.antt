@@ -1,5 +1,5 @@
 -- Frames that go out and come in by a table of mappings.
-use Rattle.std.proofs.Common.{IfErr, IfOk, ℕ, ◌≡◌, ◌≢◌, ◌<◌, Bool, Decides, bytes_eq, false, not, true, true≢false, List, Result, Ok, Err, inl, inr, refl, sym, subst, ◌∙◌, arith}
+use Rattle.std.proofs.Common.{IfErr, ℕ, ◌≡◌, ◌≢◌, Bool, Decides, bytes_eq, false, not, true, true≢false, List, Result, Ok, Err, inl, inr, refl, sym, subst, ◌∙◌, arith}
 use Rattle.std.proofs.lemmas.Bool.{cases_lt}
 use Rattle.std.proofs.lemmas.Slice.Eq.{bytes_eq-Decides}
 use Rattle.ip_flows.specs.declared.Mapping.{Mapping}

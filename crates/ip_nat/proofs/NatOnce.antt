@@ -105,13 +105,13 @@ carried-unrejected bytes v t OtherProtocol c (w, p, rest) =
     subst HasPorts (transport-once all_checked v.next_header (address.Ipv4 v.src_addr) (address.Ipv4 v.dst_addr) (ipv4_payload bytes) t (other (ipv4_payload bytes)) c.carries none) c.ports
 carried-unrejected bytes v t BadTransport c (w, p, bad) = bad t (moved bytes v w t c.reads.0 p.0 c.carries)
 
-carries-unrejected : (frame : List ℕ) (link : EthernetRepr) (v : Ipv4Repr) (t : Transport) (r : Rejection) → Carries frame link v t → ¬ IsRejected frame r
+pub carries-unrejected : (frame : List ℕ) (link : EthernetRepr) (v : Ipv4Repr) (t : Transport) (r : Rejection) → Carries frame link v t → ¬ IsRejected frame r
 carries-unrejected frame link v t r c why =
     let is : IsIpv4Frame frame link = record { reads = c.reads.reads_header; names = c.reads.reads_carried.0 } in
     carried-unrejected (drop 14 frame) v t r (carried frame link v t c) (why.whole link is)
 
 -- a frame carries one transport
-transport-of-one : (frame : List ℕ) (k l : EthernetRepr) (v w : Ipv4Repr) (t u : Transport) → Carries frame k v t → Carries frame l w u → t ≡ u
+pub transport-of-one : (frame : List ℕ) (k l : EthernetRepr) (v w : Ipv4Repr) (t u : Transport) → Carries frame k v t → Carries frame l w u → t ≡ u
 transport-of-one frame k l v w t u a b =
     let bytes = drop 14 frame in
     let p = carried frame k v t a in
@@ -142,7 +142,7 @@ described-port Source p t d = d.src_port
 described-port Destination p t d = d.dst_port
 
 -- a frame carries one header
-header-of-one : (frame : List ℕ) (k l : EthernetRepr) (v w : Ipv4Repr) (t u : Transport) → Carries frame k v t → Carries frame l w u → v ≡ w
+pub header-of-one : (frame : List ℕ) (k l : EthernetRepr) (v w : Ipv4Repr) (t u : Transport) → Carries frame k v t → Carries frame l w u → v ≡ w
 header-of-one frame k l v w t u a b = header-once (drop 14 frame) v w (carried frame k v t a).reads.0 (carried frame l w u b).reads.0
 
 -- the port that a transport had is accepted after another one was written

@@ -1,7 +1,7 @@
 -- Frames that go out and come in by a table of mappings (RFC 3022, section 4.1; RFC 4787).
-use Rattle.std.specs.Prelude.{ℕ, ◌≡◌, ◌≢◌, List, Option, Some, None}
+use Rattle.std.specs.Prelude.{ℕ, ◌≡◌, ◌≢◌, ◌<◌, List, Option, Some, None}
 use Rattle.ip_flows.specs.State.{protocol_of}
-use Rattle.ip_flows.specs.Table.{Finds, IsFull, MapsTo, Opens}
+use Rattle.ip_flows.specs.Table.{Finds, IsFull, MapsTo, Opens, mapping_at}
 use Rattle.ip_flows.specs.declared.Event.{Event}
 use Rattle.ip_flows.specs.declared.Event.TheVariants as event
 use Rattle.ip_flows.specs.declared.Ipv4Endpoint.{Ipv4Endpoint}
@@ -100,3 +100,32 @@ abbrev pub IsKeptOutside : Nat → List Mapping → List Mapping → ℕ → Lis
 IsKeptOutside nat old new now frame ZeroPort = LeadsToZero nat old new now frame
 IsKeptOutside nat old new now frame NoMapping = IsUnmappedFrame nat old now frame × (new ≡ old)
 IsKeptOutside nat old new now frame reason = IsRejected frame reason × (new ≡ old)
+
+-- ---- answers
+
+-- the mapping of this port has not expired
+abbrev pub IsLive : Nat → List Mapping → ℕ → Protocol → ℕ → Type 0
+IsLive nat mappings now protocol port = now < (mapping_at nat mappings protocol port).expires
+
+-- any frames pass through the NAT, from this table on, until it is the last one; each comes before the mapping of this
+-- port expires
+pub data Passes (nat : Nat) (protocol : Protocol) (port : ℕ) (last : List Mapping) : List Mapping → Type 0 where
+  passes_none : Passes nat protocol port last last
+  passes_out : (old new : List Mapping) (now : ℕ) (before after : List ℕ) → IsLive nat old now protocol port → GoesOut nat old new now before after
+      → Passes nat protocol port last new → Passes nat protocol port last old
+  passes_in : (old new : List Mapping) (now : ℕ) (before after : List ℕ) → IsLive nat old now protocol port → ComesIn nat old new now before after
+      → Passes nat protocol port last new → Passes nat protocol port last old
+  bounces : (old new : List Mapping) (now : ℕ) (frame : List ℕ) → IsLive nat old now protocol port → LeadsToZero nat old new now frame
+      → Passes nat protocol port last new → Passes nat protocol port last old
+
+-- A frame answers another one, which went out: it is for the source that this one then had, by the same protocol. Any frames
+-- may have passed since, and the mapping has not expired.
+pub record IsAnswer (nat : Nat) (mappings later : List Mapping) (now : ℕ) (sent answer : List ℕ) : Type 0 where
+  pub packet : Packet
+  pub carries : IsPacket sent packet
+  pub reply : Packet
+  pub replies : IsPacket answer reply
+  pub to : destination_of reply ≡ source_of packet
+  pub protocol : flow_protocol reply ≡ flow_protocol packet
+  pub passes : Passes nat (flow_protocol packet) packet.src_port later mappings
+  pub live : IsLive nat later now (flow_protocol packet) packet.src_port

@@ -1,10 +1,15 @@
 //! Laws of this crate. A law states a fact about definitions, or about several calls.
 
-ghost use Rattle.std.specs.Prelude.{◌≡◌, IfErr, List, ℕ};
-ghost use Rattle.ip_nat.specs.Nat.{HasUsualChecksums, IsTranslated, IsUntranslated, addr_of, port_of};
+ghost use Rattle.std.specs.Prelude.{◌≡◌, IfErr, List, MatchResult, OnOk, ℕ};
+ghost use Rattle.ip_nat.specs.Flows.{IsAnswer};
+ghost use Rattle.ip_nat.specs.Nat.{HasUsualChecksums, IsPacket, IsTranslated, IsUntranslated, addr_of, port_of};
+ghost use Rattle.ip_nat.specs.declared.nat.Side.TheVariants.{Destination};
+ghost use Rattle.ip_nat.specs.declared.packet.Packet.{Packet};
 
+use crate::flows::{translate_in, translate_out};
 use crate::nat::{Rejection, Side, translate};
 use crate::packet::Packet;
+use ip_flows::{Mapping, Nat};
 use ip_wire::Ipv4Address;
 use ip_wire::laws::octets_fit;
 
@@ -39,4 +44,24 @@ pub fn translate_back(
         Side::Source => translate(frame, side, packet.header.src_addr, packet.src_port),
         Side::Destination => translate(frame, side, packet.header.dst_addr, packet.dst_port),
     }
+}
+
+/// A packet goes out, and an answer comes in to its new source before the mapping expires, whatever passed through the NAT
+/// since: the destination of the answer becomes the source that the packet had. `later` is the table as the answer
+/// finds it.
+pub fn answer_comes_back(
+    nat: &Nat,
+    mappings: &mut [Mapping],
+    sent: u64,
+    frame: &mut [u8],
+    later: &mut [Mapping],
+    now: u64,
+    answer: &mut [u8],
+) -> (Result<(), Rejection>, Result<(), Rejection>)
+    ensures { OnOk result.0 ((packet : Packet) → IsPacket frame.old packet → IsAnswer nat.now mappings.new later.old now frame.new answer.old
+        → MatchResult result.1 (λ _. IsTranslated answer.old answer.new Destination packet.header.src_addr packet.src_port) (λ _. ⊥)) }
+{
+    let out = translate_out(nat, mappings, sent, frame);
+    let back = translate_in(nat, later, now, answer);
+    (out, back)
 }

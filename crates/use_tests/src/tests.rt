@@ -7,6 +7,7 @@ mod flows;
 mod hop_guard;
 mod host;
 mod nat;
+mod nat_table;
 mod promises;
 mod replies;
 mod router;

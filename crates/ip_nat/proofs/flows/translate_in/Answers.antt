@@ -1,7 +1,6 @@
 use Rattle.std.proofs.Common.{◌≡◌, ◌∙◌, rules, sym}
 use Rattle.std.proofs.lemmas.Result.{on_ok_weaker}
 use Rattle.ip_nat.proofs.Mapped.{in-zero, kept-outside, undiffering}
-use Rattle.ip_nat.specs.Nat.{IsTranslated}
 use Rattle.ip_nat.proofs.flows.translate_in.Goals as goal
 
 pub returns-in_err-packet-clause-rejected : goal.returns-in_err-packet-clause-rejected

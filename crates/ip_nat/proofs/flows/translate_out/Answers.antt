@@ -1,7 +1,6 @@
 use Rattle.std.proofs.Common.{◌≡◌, rules}
 use Rattle.std.proofs.lemmas.Result.{IfErr-weaker, on_err_weaker, on_ok_weaker}
 use Rattle.ip_nat.proofs.Mapped.{kept-inside, refused-zero}
-use Rattle.ip_nat.specs.Nat.{IsTranslated}
 use Rattle.ip_nat.specs.declared.nat.Side.TheVariants.{Source}
 use Rattle.ip_nat.proofs.flows.translate_out.Goals as goal
 
