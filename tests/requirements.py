@@ -49,7 +49,7 @@ class Statements:
                 for item in module.items:
                     self.add(crate.name, module, item)
             self.definitions |= {f"{path[-1]}.{d.name}" for path, module in crate.specs.items() for d in module.items}
-        self.laws = {name[-1] for crate in ("ip_wire", "ip_nat", "ip_host", "c_structs")
+        self.laws = {name[-1] for crate in ("ip_wire", "ip_nat", "ip_flows", "ip_host", "c_structs")
                      for name in sources.exports(crate) if name[0] == "laws"}
 
     def add(self, crate, module, item):

@@ -193,6 +193,16 @@ table-once nat old new other now event inside remote p q a b =
     let mapping = chosen-mapping nat old now event inside remote p q a.mapping b.mapping port a.chosen b.chosen in
     a.becomes ∙ (λ i. set old (place_of nat (protocol_of event) (port i)) (mapping i)) ∙ sym b.becomes
 
+chosen-room : (nat : Nat) (old : List Mapping) (now : ℕ) (event : Event) (inside remote : Ipv4Endpoint) (p : ℕ) (m : Mapping) → Chooses nat old now event inside remote p m
+    → ¬ IsFull nat old now (protocol_of event) inside
+chosen-room nat old now event inside remote p m (kept a) full = (full p a.candidate a.holds.exists).1 a.holds.leads
+chosen-room nat old now event inside remote p m (made none a) full =
+    let live = full p a.candidate a.holds.exists in omega (arith, live.0, a.holds.expired)
+
+pub room : (nat : Nat) (old new : List Mapping) (now : ℕ) (event : Event) (inside remote : Ipv4Endpoint) (p : ℕ) → Opens nat old new now event inside remote p
+    → ¬ IsFull nat old now (protocol_of event) inside
+room nat old new now event inside remote p o = chosen-room nat old now event inside remote p o.mapping o.chosen
+
 -- ---- time
 
 earlier : (nat : Nat) (mappings : List Mapping) (now later : ℕ) (protocol : Protocol) (port : ℕ) (inside : Ipv4Endpoint) → now ≤ later

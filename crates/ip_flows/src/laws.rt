@@ -1,10 +1,10 @@
-//! What `open` and `find` mean for a NAT. Each law is proved of the calls in its body, or of definitions if its body is
-//! empty.
+//! What `open` and `find` mean for a NAT. Each law is proved of the calls in its body, or of
+//! definitions if its body is empty.
 
 ghost use Rattle.std.specs.Prelude.{All, IfSome, List, None, Some, false, length, true, ℕ, ◌<◌, ◌≡◌, ◌≢◌, ◌≤◌};
 ghost use Rattle.ip_flows.specs.Mapping.{expiry};
 ghost use Rattle.ip_flows.specs.State.{ends_connection, protocol_of, shortest_timeout, state_of, timeout_of};
-ghost use Rattle.ip_flows.specs.Table.{IsFree, IsTable, IsUnmapped, MapsTo, Opens, free_mapping, mapping_at};
+ghost use Rattle.ip_flows.specs.Table.{IsFree, IsFull, IsTable, IsUnmapped, MapsTo, Opens, free_mapping, mapping_at};
 ghost use Rattle.ip_flows.specs.declared.mapping.Ipv4Endpoint.{Ipv4Endpoint};
 ghost use Rattle.ip_flows.specs.declared.mapping.Mapping.{Mapping};
 ghost use Rattle.ip_flows.specs.declared.state.Protocol.{Protocol};
@@ -14,8 +14,9 @@ use crate::nat::Nat;
 use crate::state::{Event, TcpState};
 use crate::table::{find, open};
 
-/// A packet goes out, and an answer comes in before the time-out: it goes to the inside endpoint that sent the packet,
-/// from whichever remote endpoint it comes (RFC 4787, REQ-8: endpoint-independent filtering).
+/// A packet goes out, and an answer comes in before the time-out: it goes to the inside endpoint
+/// that sent the packet, from whichever remote endpoint it comes (RFC 4787, REQ-8:
+/// endpoint-independent filtering).
 pub fn answer_comes_back(
     nat: &Nat,
     mappings: &mut [Mapping],
@@ -73,7 +74,8 @@ pub fn other_mappings_stay(
     inside: &Ipv4Endpoint,
     remote: &Ipv4Endpoint,
 ) -> Option<u16>
-    ensures { (protocol : Protocol) (port : ℕ) (other : Ipv4Endpoint) → MapsTo nat.now mappings.old now protocol port other
+    ensures { (protocol : Protocol) (port : ℕ) (other : Ipv4Endpoint)
+        → MapsTo nat.now mappings.old now protocol port other
         → ¬ ((protocol ≡ protocol_of event) × (other ≡ inside.now))
         → mapping_at nat.now mappings.new protocol port ≡ mapping_at nat.now mappings.old protocol port }
 {
@@ -95,8 +97,9 @@ pub fn outbound_packets_restart_the_time_out(
     open(nat, mappings, now, event, inside, remote)
 }
 
-/// A packet from outside extends no mapping. It changes one only if it is a TCP segment with FIN or RST, and the mapping
-/// has one remote endpoint (RFC 5382, REQ-5: the end of one connection does not end another).
+/// A packet from outside extends no mapping. It changes one only if it is a TCP segment with FIN or
+/// RST, and the mapping has one remote endpoint. So the end of one connection does not end another
+/// (RFC 5382, REQ-5, holds for each).
 pub fn inbound_packets_extend_nothing(
     nat: &Nat,
     mappings: &mut [Mapping],
@@ -105,16 +108,18 @@ pub fn inbound_packets_extend_nothing(
     port: u16,
     remote: &Ipv4Endpoint,
 ) -> Option<Ipv4Endpoint>
-    ensures extends { (protocol : Protocol) (other : ℕ) → (mapping_at nat.now mappings.new protocol other).expires
+    ensures extends { (protocol : Protocol) (other : ℕ)
+        → (mapping_at nat.now mappings.new protocol other).expires
         ≤ (mapping_at nat.now mappings.old protocol other).expires }
     ensures open { ends_connection event ≡ false → mappings.new ≡ mappings.old }
-    ensures shared { (mapping_at nat.now mappings.old (protocol_of event) port).shared ≢ 0 → mappings.new ≡ mappings.old }
+    ensures shared { (mapping_at nat.now mappings.old (protocol_of event) port).shared ≢ 0
+        → mappings.new ≡ mappings.old }
 {
     find(nat, mappings, now, event, port, remote)
 }
 
-/// An established mapping with several remote endpoints stays established: no segment shortens its time-out (RFC 5382,
-/// REQ-5).
+/// An established mapping with several remote endpoints stays established: no segment shortens its
+/// time-out.
 pub fn shared_mapping_stays_established(event: Event) -> TcpState
     ensures { result ≡ TcpState.Established }
 {
@@ -123,11 +128,12 @@ pub fn shared_mapping_stays_established(event: Event) -> TcpState
 
 /// An outside port stands for one inside endpoint.
 pub fn port_has_one_endpoint(nat: &Nat, mappings: &[Mapping], now: u64)
-    ensures { (protocol : Protocol) (port : ℕ) (first second : Ipv4Endpoint) → MapsTo nat.now mappings.now now protocol port first
+    ensures { (protocol : Protocol) (port : ℕ) (first second : Ipv4Endpoint)
+        → MapsTo nat.now mappings.now now protocol port first
         → MapsTo nat.now mappings.now now protocol port second → first ≡ second }
 {}
 
-/// The call has one possible outcome.
+/// `open` has one possible outcome.
 pub fn opened_port_is_one(
     nat: &Nat,
     now: u64,
@@ -135,10 +141,15 @@ pub fn opened_port_is_one(
     inside: &Ipv4Endpoint,
     remote: &Ipv4Endpoint,
 )
-    ensures port { (old new other : List Mapping) (port second : ℕ) → Opens nat.now old new now event inside.now remote.now port
+    ensures port { (old new other : List Mapping) (port second : ℕ)
+        → Opens nat.now old new now event inside.now remote.now port
         → Opens nat.now old other now event inside.now remote.now second → port ≡ second }
-    ensures table { (old new other : List Mapping) (port second : ℕ) → Opens nat.now old new now event inside.now remote.now port
+    ensures table { (old new other : List Mapping) (port second : ℕ)
+        → Opens nat.now old new now event inside.now remote.now port
         → Opens nat.now old other now event inside.now remote.now second → new ≡ other }
+    ensures full { (old new : List Mapping) (port : ℕ)
+        → Opens nat.now old new now event inside.now remote.now port
+        → ¬ IsFull nat.now old now (protocol_of event) inside.now }
 {}
 
 /// The invariant stays true while time passes.

@@ -1,4 +1,5 @@
-//! The table of mappings of a NAT: which outside port stands for which inside endpoint (RFC 4787, RFC 5382).
+//! The table of mappings of a NAT: which outside port stands for which inside endpoint (RFC 4787,
+//! RFC 5382).
 #![tactic(auto)]
 
 mod choice;

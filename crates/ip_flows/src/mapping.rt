@@ -14,7 +14,8 @@ pub struct Ipv4Endpoint {
     pub port: u16,
 }
 
-/// The mapping of one outside port and protocol. Any bytes are a value; all zeros are no live mapping.
+/// The mapping of one outside port and protocol. Any bytes are a value; all zeros are no live
+/// mapping.
 #[repr(C)]
 #[derive(Clone, Copy)]
 pub struct Mapping {

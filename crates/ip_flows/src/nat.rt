@@ -27,12 +27,14 @@ const RUN_LEN: usize = 63;
 pub struct Nat {
     /// Random and secret: without it nobody can choose endpoints that compete for the same ports.
     pub key: [u64; 2],
-    /// How long a UDP mapping lives after the last packet of its inside host. RFC 4787, REQ-5: at least 2 minutes, 5 by
-    /// default.
+    /// How long a UDP mapping lives after the last packet of its inside host. RFC 4787, REQ-5: at
+    /// least 2 minutes, 5 by default.
     pub udp_timeout: u64,
-    /// The same of a TCP mapping with an established connection. RFC 5382, REQ-5: at least 2 hours and 4 minutes.
+    /// The same of a TCP mapping with an established connection. RFC 5382, REQ-5: at least 2 hours
+    /// and 4 minutes.
     pub tcp_timeout: u64,
-    /// The same of a TCP mapping whose connection opens or closes. RFC 5382, REQ-5: at least 4 minutes.
+    /// The same of a TCP mapping whose connection opens or closes. RFC 5382, REQ-5: at least 4
+    /// minutes.
     pub tcp_transitory_timeout: u64,
     /// The outside IPv4 address.
     pub outside: [u8; 4],
@@ -44,8 +46,15 @@ pub struct Nat {
 impl Nat {
     /// A NAT with the usual time-outs.
     pub fn new(key: [u64; 2], outside: Ipv4Address, first_port: u16) -> Nat
-        ensures { result ≡ record { key = key; udp_timeout = 300000; tcp_timeout = 7440000; tcp_transitory_timeout = 240000;
-            outside = outside; first_port = first_port; unused = 0 } }
+        ensures { result ≡ record {
+          key = key;
+          udp_timeout = 300000;
+          tcp_timeout = 7440000;
+          tcp_transitory_timeout = 240000;
+          outside = outside;
+          first_port = first_port;
+          unused = 0;
+        } }
     {
         Nat {
             key,

@@ -74,7 +74,8 @@ impl TcpState {
         }
     }
 
-    /// The state after a packet of the inside host. `shared`: the mapping serves more than one remote endpoint.
+    /// The state after a packet of the inside host. `shared`: the mapping serves more than one
+    /// remote endpoint.
     pub fn next(self, shared: bool, event: Event) -> TcpState
         ensures { result ≡ next_state shared self event }
     {

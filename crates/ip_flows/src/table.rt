@@ -11,8 +11,9 @@ use crate::mapping::{Ipv4Endpoint, Mapping};
 use crate::nat::Nat;
 use crate::state::Event;
 
-/// The outside port of an inside endpoint that sends a packet to a remote endpoint. Makes a mapping if the endpoint has
-/// none: at its own port if that is free, else at another one. Restarts the time-out. `None` if no candidate is free.
+/// The outside port of an inside endpoint that sends a packet to a remote endpoint. Makes a mapping
+/// if the endpoint has none: at its own port if that is free, else at another one. Restarts the
+/// time-out. `None` if no candidate is free.
 pub fn open(
     nat: &Nat,
     mappings: &mut [Mapping],
@@ -43,8 +44,8 @@ pub fn open(
     }
 }
 
-/// The inside endpoint of an outside port to which a remote endpoint sends a packet. `None` if the port has no live mapping.
-/// Does not restart the time-out.
+/// The inside endpoint of an outside port to which a remote endpoint sends a packet. `None` if the
+/// port has no live mapping. Does not restart the time-out.
 pub fn find(
     nat: &Nat,
     mappings: &mut [Mapping],
@@ -54,7 +55,8 @@ pub fn find(
     remote: &Ipv4Endpoint,
 ) -> Option<Ipv4Endpoint>
     ensures found { IfSome result (Finds nat.now mappings.old mappings.new now event port remote.now) }
-    ensures none { IfNone result ((inside : Ipv4Endpoint) → ¬ MapsTo nat.now mappings.old now (protocol_of event) port inside) }
+    ensures none { IfNone result ((inside : Ipv4Endpoint)
+        → ¬ MapsTo nat.now mappings.old now (protocol_of event) port inside) }
     ensures unchanged { IfNone result (mappings.new ≡ mappings.old) }
     ensures keeps { IsTable nat.now mappings.old now → IsTable nat.now mappings.new now }
 {
