@@ -553,6 +553,151 @@ struct lk_host {
  * - ICMPv6 is not answered: a neighbour must know the Ethernet address of `ipv6` by other means. */
 ptrdiff_t lk_answer(const struct lk_host *host, const uint8_t *ptr, size_t len, uint8_t *out, size_t cap);
 
+/* ---- one hop, and NAT of one packet ---- */
+
+/* Why a frame is not forwarded, translated or accepted. If several reasons apply, it is the first in this order. */
+enum lk_rejection {
+    LK_NOT_REJECTED,
+    LK_NO_IPV4,        /* lk_translate: the endpoint to be written has no IPv4 address */
+    LK_NOT_IP,         /* no Ethernet header, or an EtherType other than IPv4 and IPv6; for NAT other than IPv4 */
+    LK_BAD_HEADER,     /* the version of the IP header does not match the EtherType, or its lengths do not fit */
+    LK_WRONG_CHECKSUM, /* of the IPv4 header */
+    LK_EXPIRED,        /* the hop limit is 0 or 1 */
+    LK_FRAGMENT,       /* NAT: the packet is a fragment */
+    LK_OTHER_PROTOCOL, /* NAT: the packet carries neither UDP nor TCP */
+    LK_BAD_TRANSPORT,  /* NAT: the UDP or TCP header is rejected (lk_reason), or its checksum is wrong */
+    LK_ZERO_PORT,      /* NAT: the port to be written is 0, and a receiver would reject the packet; for lk_translate_out
+                        * the source port is 0, so that no answer could come back */
+    LK_NO_MAPPING,     /* lk_translate_in: no live mapping has this outside address and port */
+    LK_NO_FREE_PORT,   /* lk_translate_out: no outside port is free for this endpoint */
+    LK_MARTIAN,        /* lk_check_source: no host may send from this address */
+    LK_NO_ROUTE,       /* lk_check_source: there is no route back */
+    LK_OTHER_INTERFACE /* lk_check_source: the route back leads to another interface */
+};
+
+/* Returns the name of a rejection, as "LK_EXPIRED", or "no rejection". The text is constant. */
+const char *lk_rejection_name(int rejection);
+
+/* Forwards the packet of an Ethernet frame by one hop, in place (RFC 1812, section 5.3.1; RFC 8200, section 3). `src`
+ * and `dst` are the new Ethernet addresses, 6 octets each. The hop limit becomes one less, and the checksum of an IPv4
+ * header is updated (RFC 1624). All other octets stay: IPv4 options, the payload and padding are not looked at.
+ *
+ * Returns LK_NOT_REJECTED, LK_NOT_IP, LK_BAD_HEADER, LK_WRONG_CHECKSUM or LK_EXPIRED. If it is not 0, the frame is
+ * unchanged. */
+int lk_forward(uint8_t *frame, size_t len, const uint8_t *src, const uint8_t *dst);
+
+/* The end of a packet whose address and port are replaced. */
+enum lk_side { LK_SOURCE, LK_DESTINATION };
+
+/* Writes an IPv4 address and a port into the UDP or TCP packet of an Ethernet frame, in place (RFC 3022), and updates
+ * the checksums, as lk_update_.. do. A UDP checksum of 0 stays 0. Any `side` but 0 is the destination.
+ *
+ * Returns LK_NOT_REJECTED, or a rejection from LK_NO_IPV4 to LK_ZERO_PORT, but not LK_EXPIRED. If it is not 0, the
+ * frame is unchanged. The source port of UDP may be 0 (RFC 768), so that it gets no LK_ZERO_PORT. */
+int lk_translate(uint8_t *frame, size_t len, int side, const struct lk_endpoint *end);
+
+/* ---- routes ---- */
+
+/* A route. The struct has no padding. */
+struct lk_route {
+    struct lk_block block;   /* the destinations */
+    struct lk_addr next_hop; /* the next router; version 0: the destinations are on the link */
+    uint16_t interface;      /* a number that the caller chooses */
+};
+
+/* A node of an index. It is private: only lk_index_routes writes it. */
+struct lk_route_node {
+    uint64_t high;
+    uint64_t low;
+    uint32_t route;
+    uint32_t above;
+    uint8_t version;
+    uint8_t prefix_len;
+    uint8_t unused[6];
+};
+
+/* Writes the index of a list of routes, one node for each, and returns the number of routes. The index is valid as long
+ * as the routes do not change. Fails with LK_NO_VERSION or LK_BAD_PREFIX if a block is none, and with LK_NO_ROOM if
+ * there are more routes than nodes, or more than 2^32 - 1. After a failure the nodes are unspecified.
+ *
+ * A router reads a frame, checks its source, and forwards it by the route:
+ *
+ *     if (lk_read_frame(frame, len, &f) != LK_READ ||
+ *         lk_check_source(routes, count, nodes, count, &f.src.addr, interface) != LK_NOT_REJECTED)
+ *         return;
+ *     ptrdiff_t i = lk_choose_route(nodes, count, &f.dst.addr);
+ *     if (i >= 0 && lk_forward(frame, len, own_hardware(routes[i].interface), next_hardware(&routes[i], &f.dst.addr)) == 0)
+ *         send_by(routes[i].interface, frame, len); */
+ptrdiff_t lk_index_routes(const struct lk_route *routes, size_t count, struct lk_route_node *nodes, size_t node_count);
+
+/* Returns the place in the list of the route with the longest prefix that contains the address, of several the first,
+ * or -1 if none contains it. `count` is the number of routes. An address without a version has no route. */
+ptrdiff_t lk_choose_route(const struct lk_route_node *nodes, size_t count, const struct lk_addr *addr);
+
+/* Whether a router may accept a packet from `src` that came in by `interface`. Returns LK_NOT_REJECTED, or
+ *
+ * - LK_MARTIAN for 0.0.0.0/8, 127.0.0.0/8, 224.0.0.0/4, 240.0.0.0/4, `::`, `::1`, ::ffff:0:0/96, ff00::/8, and an
+ *   address without a version (RFC 1122, section 3.2.1.3; RFC 1812, section 5.3.7; RFC 4291, section 2),
+ * - LK_NO_ROUTE or LK_OTHER_INTERFACE, by the route to `src` (strict reverse path forwarding, RFC 3704, section 2.2). */
+int lk_check_source(const struct lk_route *routes, size_t route_count, const struct lk_route_node *nodes, size_t count,
+                    const struct lk_addr *src, uint16_t interface);
+
+/* ---- NAT ---- */
+
+/* A NAT with one outside address. */
+struct lk_nat {
+    uint64_t key[2];                 /* random and secret: else endpoints can be chosen that compete for one port */
+    uint64_t udp_timeout;            /* of a UDP mapping, in milliseconds: 300000 (RFC 4787, REQ-5) */
+    uint64_t tcp_timeout;            /* of an established TCP connection: 7440000 (RFC 5382, REQ-5) */
+    uint64_t tcp_transitory_timeout; /* of one that opens or closes: 240000 */
+    uint8_t outside[4];              /* the outside IPv4 address */
+    uint16_t first_port;             /* the first outside port; 0: no port */
+    uint16_t unused;
+};
+
+/* A mapping. It is private: only lk_translate_out and lk_translate_in write it. Zeros: a free one. */
+struct lk_mapping {
+    uint64_t expires;
+    uint8_t inside[4];
+    uint8_t remote[4];
+    uint16_t inside_port;
+    uint16_t remote_port;
+    uint8_t state;
+    uint8_t shared;
+    uint8_t unused[2];
+};
+
+/* Translate the source of a packet that leaves, and the destination of a packet that comes in, in place, as
+ * lk_translate does. `mappings` are two for each outside port, zeros at first: `mappings[2 * n]` is the UDP mapping of
+ * port `first_port + n`, and `mappings[2 * n + 1]` its TCP mapping. `now` is a clock in milliseconds that never goes
+ * back.
+ *
+ *     static struct lk_mapping mappings[2 * 64512];
+ *     struct lk_nat nat = {{random64(), random64()}, 300000, 7440000, 240000, {203, 0, 113, 9}, 1024, 0};
+ *     for (;;) {
+ *         ... receive a frame
+ *         int rejection = is_from_inside ? lk_translate_out(&nat, mappings, 2 * 64512, now(), frame, len)
+ *                                        : lk_translate_in(&nat, mappings, 2 * 64512, now(), frame, len);
+ *         if (rejection == LK_NOT_REJECTED)
+ *             ... forward the frame
+ *     }
+ *
+ * - Both return an lk_rejection. If it is not 0, the frame is unchanged. LK_NO_IPV4 and LK_EXPIRED are not among them.
+ * - A mapping belongs to one inside endpoint, whatever the remote endpoints are (RFC 4787, REQ-1). What any remote
+ *   endpoint sends to its outside port comes in (REQ-8).
+ * - An endpoint without a live mapping gets a new one: for its own port if that is free, else for the first free port
+ *   of 63 in a row, which follow from the key and the endpoint, or of all ports if there are fewer. LK_NO_FREE_PORT:
+ *   all of these have live mappings.
+ * - A mapping is live until its time-out has passed since the last packet of its inside endpoint. Packets that come in
+ *   do not keep it alive (REQ-6).
+ * - A TCP mapping has `tcp_timeout` after its inside endpoint sent a segment without SYN, FIN and RST, and
+ *   `tcp_transitory_timeout` before it, after a FIN or RST of either side, and after another SYN. After FIN or RST only
+ *   a SYN begins anew. In a mapping of several remote endpoints, FIN, RST and SYN do not end `tcp_timeout`. */
+int lk_translate_out(const struct lk_nat *nat, struct lk_mapping *mappings, size_t count, uint64_t now, uint8_t *frame,
+                     size_t len);
+int lk_translate_in(const struct lk_nat *nat, struct lk_mapping *mappings, size_t count, uint64_t now, uint8_t *frame,
+                    size_t len);
+
 #ifdef __cplusplus
 }
 #endif

@@ -23,3 +23,14 @@ const char *lk_failure_name(ptrdiff_t failure)
             return names[i];
     return "no failure";
 }
+
+const char *lk_rejection_name(int rejection)
+{
+    static const char *const names[] = {
+        "LK_NOT_REJECTED",  "LK_NO_IPV4",   "LK_NOT_IP",       "LK_BAD_HEADER", "LK_WRONG_CHECKSUM",
+        "LK_EXPIRED",       "LK_FRAGMENT",  "LK_OTHER_PROTOCOL", "LK_BAD_TRANSPORT", "LK_ZERO_PORT",
+        "LK_NO_MAPPING",    "LK_NO_FREE_PORT", "LK_MARTIAN",   "LK_NO_ROUTE",   "LK_OTHER_INTERFACE",
+    };
+    const int count = sizeof names / sizeof names[0];
+    return rejection >= 0 && rejection < count ? names[rejection] : "no rejection";
+}

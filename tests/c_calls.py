@@ -4,7 +4,8 @@
     tests/c_calls.py [TOP]
 
 Each call of the header must be a function of ip_wire_c, c/cpu.c or c/names.c with the same types, and the other way round.
-Each struct of c_structs must have the same fields in the same order, and each enum and each failure the same names and numbers.
+Each struct with `repr(C)` must have the same fields in the same order, and each enum and each failure the same names and
+numbers.
 `lk_append` and its struct are in the header only. Each name `lk_..` in
 README.md and docs/ must be in the header. Differences are printed, and the status is 1 then. TOP is the top of the
 repository. tests/install compares the header with the man pages.
@@ -16,13 +17,17 @@ import sys
 
 from sources import Sources
 
-NUMBERS = {"u8": "uint8_t", "u16": "uint16_t", "u32": "uint32_t", "i32": "int", "usize": "size_t", "isize": "ptrdiff_t"}
+NUMBERS = {"u8": "uint8_t", "u16": "uint16_t", "u32": "uint32_t", "u64": "uint64_t", "i32": "int", "usize": "size_t",
+           "isize": "ptrdiff_t"}
 SAME = {"char": "uint8_t", "int32_t": "int"}
 # The field has another name in Rattle, because `type` is a keyword.
 FIELDS = {"ethertype": "type"}
 # What is in C.
 OF_C = ("/c/cpu.c", "/c/names.c")
 HEADER_ONLY = ("lk_out",)
+# The crates of the structs and calls. The first ones are used without C too, and their structs have other names there.
+OF_LIBRARY = ("ip_routes", "ip_flows", "c_structs", "c_routing", "ip_wire_c")
+STRUCTS = {"Node": "struct lk_route_node", "Mapping": "struct lk_mapping", "Nat": "struct lk_nat"}
 # The flags of a TCP header, from bit 0 on (RFC 9293, section 3.1).
 TCP_FLAGS = ("FIN", "SYN", "RST", "PSH", "ACK", "URG", "ECE", "CWR")
 
@@ -76,11 +81,12 @@ class Library:
     def __init__(self, top):
         crates = Sources(top).crates
         everything = [item for crate in crates.values() for module in crate.modules.values() for item in module.items]
-        self.items = [item for name in ("c_structs", "ip_wire_c") for module in crates[name].modules.values()
+        self.items = [item for name in OF_LIBRARY for module in crates[name].modules.values()
                       for item in module.items]
+        self.sides = next(item for item in everything if item.kind == "enum" and item.name == "Side")
         docs = {item.name: " ".join(item.docs) for item in self.items if item.kind == "struct"}
         names = {rust: re.match(r"`(struct lk_\w+)`", doc) for rust, doc in docs.items()}
-        self.types = NUMBERS | {rust: found.group(1) for rust, found in names.items() if found}
+        self.types = NUMBERS | STRUCTS | {rust: found.group(1) for rust, found in names.items() if found}
         constants = (re.fullmatch(r"const (\w+): usize = (\d+)", item.text) for item in everything if item.visibility == "pub")
         self.constants = dict(found.groups() for found in constants if found)
 
@@ -115,6 +121,7 @@ class Library:
 
     def enums(self):
         yield "lk_tcp_flag", {"LK_" + flag: 1 << bit for bit, flag in enumerate(TCP_FLAGS)}
+        yield "lk_side", {"LK_" + member.text.upper(): number for number, member in enumerate(self.sides.members)}
         for item in self.items:
             found = re.match(r"`enum (lk_\w+)`", " ".join(item.docs)) if item.kind == "enum" else None
             if found:
@@ -129,8 +136,8 @@ class Library:
         return {"LK_" + word: number for number, word in enumerate(words, 1)}
 
     def fields(self, member):
-        """The fields in C of a public field: a slice is a pointer and a count."""
-        declared = re.fullmatch(r"pub (\w+): (?:\[(\w+); (\w+)\]|&'\w+ \[(\w+)\]|(\w+))", member)
+        """The fields in C of a field: a slice is a pointer and a count."""
+        declared = re.fullmatch(r"(?:pub )?(\w+): (?:\[(\w+); (\w+)\]|&'\w+ \[(\w+)\]|(\w+))", member)
         if declared:
             name, array, length, slice_of, plain = declared.groups("")
             if slice_of:

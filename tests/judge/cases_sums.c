@@ -146,6 +146,13 @@ static void name_reason(int reason)
     same_text("the result", model_reason_name(reason), lk_reason_name(reason));
 }
 
+static void name_rejection(int rejection)
+{
+    CALL(lk_rejection_name);
+    given("rejection", &rejection, sizeof rejection);
+    same_text("the result", model_rejection_name(rejection), lk_rejection_name(rejection));
+}
+
 static void tell_version(void)
 {
     CALL(lk_version);
@@ -181,6 +188,8 @@ void name_number(void)
     name_failure(one_in(2) ? (ptrdiff_t)below(100) : (ptrdiff_t)any());
     name_reason((int)below(12) - 1);
     name_reason((int)any());
+    name_rejection((int)below(18) - 1);
+    name_rejection((int)any());
     tell_version();
     append_headers();
 }

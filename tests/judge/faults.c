@@ -1,4 +1,4 @@
-/* Twenty faults of a library, to test that the judge notices them. Each stands between the judge and the library
+/* Twenty-eight faults of a library, to test that the judge notices them. Each stands between the judge and the library
  * (ld --wrap), and the variable FAULT of the environment chooses it by its number. */
 #include <stdio.h>
 #include <stdlib.h>
@@ -27,6 +27,14 @@ enum fault {
     SCOPE_ACCEPTED,
     TEXT_NOT_SHORTEST,
     NULL_MISSING,
+    STATIONS_EXCHANGED,
+    HEADER_SUM_LEFT,
+    SIDE_OF_ONE_OCTET,
+    LAST_OF_EQUAL_ROUTES,
+    RESERVED_SOURCE_ACCEPTED,
+    KEPT_ALIVE_BY_INBOUND,
+    FILTERED_BY_REMOTE,
+    LIVE_FOR_TOO_LONG,
     FAULTS
 };
 
@@ -41,7 +49,10 @@ __attribute__((constructor)) static void choose(void)
         "reasons out of order", "five SACK ranges accepted", "URG kept in a rebuilt frame",
         "identification kept in a rebuilt frame", "an answer to a multicast address", "transport of a rejected header",
         "LK_HEADER_CUT for LK_TOO_SHORT", "LK_CHECKSUM_CUT missed", "a UDP checksum of 0 updated", "a scope accepted",
-        "an IPv6 text that is not the shortest", "the terminating null missing",
+        "an IPv6 text that is not the shortest", "the terminating null missing", "stations exchanged",
+        "header checksum not updated", "only the lowest octet of a side counts", "the last of equal routes",
+        "a reserved source accepted", "a mapping kept alive by what comes in", "packets of other remotes rejected",
+        "a mapping live for a millisecond too long",
     };
     const char *number = getenv("FAULT");
     fault = number ? (enum fault)atoi(number) : NO_FAULT;
@@ -68,6 +79,14 @@ uint16_t __real_lk_update_udp_checksum(uint16_t checksum, uint16_t before, uint1
 int __real_lk_parse_addr(const char *text, size_t len, struct lk_addr *addr);
 ptrdiff_t __real_lk_print_addr(const struct lk_addr *addr, char *out, size_t cap);
 ptrdiff_t __real_lk_print_endpoint(const struct lk_endpoint *endpoint, char *out, size_t cap);
+int __real_lk_forward(uint8_t *frame, size_t len, const uint8_t *src, const uint8_t *dst);
+int __real_lk_translate(uint8_t *frame, size_t len, int side, const struct lk_endpoint *end);
+ptrdiff_t __real_lk_index_routes(const struct lk_route *routes, size_t count, struct lk_route_node *nodes,
+                                 size_t node_count);
+int __real_lk_check_source(const struct lk_route *routes, size_t route_count, const struct lk_route_node *nodes,
+                           size_t count, const struct lk_addr *src, uint16_t interface);
+int __real_lk_translate_in(const struct lk_nat *nat, struct lk_mapping *mappings, size_t count, uint64_t now,
+                           uint8_t *frame, size_t len);
 
 /* ---- reading ---- */
 
@@ -244,4 +263,67 @@ ptrdiff_t __wrap_lk_print_endpoint(const struct lk_endpoint *endpoint, char *out
     if (len >= 0 && (size_t)len < kept)
         out[len] = before[len];
     return len;
+}
+
+/* ---- a router and NAT ---- */
+
+int __wrap_lk_forward(uint8_t *frame, size_t len, const uint8_t *src, const uint8_t *dst)
+{
+    uint8_t sum[2] = {0, 0};
+    int result, is_ipv4 = len >= 34 && len <= LK_MAX_LEN && frame[12] == 8 && frame[13] == 0;
+    if (is_ipv4)
+        memcpy(sum, frame + 24, 2);
+    if (fault == STATIONS_EXCHANGED)
+        result = __real_lk_forward(frame, len, dst, src);
+    else
+        result = __real_lk_forward(frame, len, src, dst);
+    if (fault == HEADER_SUM_LEFT && result == LK_NOT_REJECTED && is_ipv4)
+        memcpy(frame + 24, sum, 2);
+    return result;
+}
+
+int __wrap_lk_translate(uint8_t *frame, size_t len, int side, const struct lk_endpoint *end)
+{
+    return __real_lk_translate(frame, len, fault == SIDE_OF_ONE_OCTET ? side & 0xff : side, end);
+}
+
+/* Indexes the routes from the last to the first. */
+ptrdiff_t __wrap_lk_index_routes(const struct lk_route *routes, size_t count, struct lk_route_node *nodes,
+                                 size_t node_count)
+{
+    static struct lk_route reversed[64];
+    ptrdiff_t result;
+    if (fault != LAST_OF_EQUAL_ROUTES || count > 64)
+        return __real_lk_index_routes(routes, count, nodes, node_count);
+    for (size_t i = 0; i < count; i++)
+        reversed[count - 1 - i] = routes[i];
+    result = __real_lk_index_routes(reversed, count, nodes, node_count);
+    for (ptrdiff_t i = 0; i < result; i++)
+        nodes[i].route = (uint32_t)count - 1 - nodes[i].route;
+    return result;
+}
+
+int __wrap_lk_check_source(const struct lk_route *routes, size_t route_count, const struct lk_route_node *nodes,
+                           size_t count, const struct lk_addr *src, uint16_t interface)
+{
+    int result = __real_lk_check_source(routes, route_count, nodes, count, src, interface);
+    return fault == RESERVED_SOURCE_ACCEPTED && src->version == 4 && src->octets[0] >= 240 ? LK_NOT_REJECTED : result;
+}
+
+int __wrap_lk_translate_in(const struct lk_nat *nat, struct lk_mapping *mappings, size_t count, uint64_t now,
+                           uint8_t *frame, size_t len)
+{
+    uint64_t time = fault == LIVE_FOR_TOO_LONG && now > 0 ? now - 1 : now;
+    struct lk_mapping *mapping;
+    struct lk_frame f;
+    int result;
+    lk_read_frame(frame, len, &f);
+    mapping = mappings + 2 * (size_t)(f.dst.port - nat->first_port) + (f.transport == LK_TCP);
+    if (fault == FILTERED_BY_REMOTE && f.dst.port >= nat->first_port && mapping < mappings + count &&
+        memcmp(mapping->remote, f.src.addr.octets, 4) != 0 && mapping->expires > now)
+        return LK_NO_MAPPING;
+    result = __real_lk_translate_in(nat, mappings, count, time, frame, len);
+    if (fault == KEPT_ALIVE_BY_INBOUND && result == LK_NOT_REJECTED && f.transport == LK_UDP)
+        mapping->expires = now + nat->udp_timeout;
+    return result;
 }

@@ -17,12 +17,14 @@ static void run_case(uint64_t seed, uint64_t number)
 {
     static void (*const cases[])(void) = {
         read_whole, rebuild_frame, answer_frame, emit_frame, wrap_frame, emit_layer, reply_frame, read_options,
-        parse_text, print_text, sum_octets, classify_addr, name_number, answer_frame, read_whole, rebuild_frame,
+        parse_text, print_text, sum_octets, classify_addr, name_number, choose_route, answer_frame, forward_frame,
     };
     const size_t count = sizeof cases / sizeof *cases;
     begin_case(seed, number);
     if (number % 128 == 127)
         read_cut();
+    else if (number % 128 == 63)
+        translate_frames();
     else
         cases[number % count]();
 }

@@ -76,7 +76,8 @@ void make_valid(void);
 /* The same, and then changes fields before the checksums, and bits and the length behind them. */
 void make_frame(void);
 
-/* ---- cases_read.c, cases_write.c, cases_text.c ---- */
+/* ---- cases_read.c, cases_write.c, cases_text.c, cases_sums.c, cases_route.c,
+ * cases_nat.c ---- */
 
 void read_whole(void);
 void read_cut(void);
@@ -92,6 +93,9 @@ void print_text(void);
 void sum_octets(void);
 void classify_addr(void);
 void name_number(void);
+void forward_frame(void);
+void choose_route(void);
+void translate_frames(void);
 
 /* Writes a capture of valid frames, and what lk_read_frame stores of each as tshark prints it. */
 void write_capture(const char *capture, const char *rows, unsigned long count);

@@ -29,6 +29,7 @@ uint16_t pseudo_sum(const struct lk_addr *src, const struct lk_addr *dst, unsign
 
 const char *model_failure_name(ptrdiff_t failure);
 const char *model_reason_name(int reason);
+const char *model_rejection_name(int rejection);
 int model_contains(const struct lk_block *block, const struct lk_addr *addr);
 int model_is_multicast(const struct lk_addr *addr);
 int model_is_unicast(const struct lk_addr *addr);
@@ -112,5 +113,47 @@ ptrdiff_t model_emit_tcp(const struct lk_tcp *header, const struct lk_tcp_option
 void model_reply(struct lk_frame *frame);
 ptrdiff_t model_rebuild(const uint8_t *ptr, size_t len, uint8_t *out, size_t cap);
 ptrdiff_t model_answer(const struct lk_host *host, const uint8_t *ptr, size_t len, uint8_t *out, size_t cap);
+
+/* ---- model_route.c ---- */
+
+/* Why NAT rejects a frame. The frame is parsed too. */
+int nat_rejection(const uint8_t *octets, size_t len, struct lk_frame *frame);
+
+/* Writes an IPv4 address and a port into a frame that NAT does not reject. */
+void write_end(uint8_t *octets, const struct lk_frame *frame, int side, const struct lk_endpoint *end);
+
+int model_forward(uint8_t *octets, size_t len, const uint8_t *src, const uint8_t *dst);
+int model_translate(uint8_t *octets, size_t len, int side, const struct lk_endpoint *end);
+
+/* The model has no index: it searches the routes one by one. */
+ptrdiff_t model_index_routes(const struct lk_route *routes, size_t count, size_t node_count);
+ptrdiff_t model_choose_route(const struct lk_route *routes, size_t count, const struct lk_addr *addr);
+int model_check_source(const struct lk_route *routes, size_t count, const struct lk_addr *src, unsigned interface);
+
+/* ---- model_nat.c ---- */
+
+enum model_phase { MODEL_OPENING, MODEL_ESTABLISHED, MODEL_CLOSING };
+
+struct model_mapping {
+    int is_tcp;
+    unsigned port; /* the outside port */
+    struct lk_endpoint inside;
+    struct lk_endpoint remote;
+    int has_many_remotes;
+    enum model_phase phase;
+    uint64_t expires;
+};
+
+/* A list of mappings, in any order. */
+struct model_table {
+    struct model_mapping mappings[512];
+    size_t count;
+};
+
+/* `chosen` is the outside port that the library took, for a new mapping. */
+int model_translate_out(const struct lk_nat *nat, struct model_table *table, size_t count, uint64_t now,
+                        uint8_t *octets, size_t len, unsigned chosen);
+int model_translate_in(const struct lk_nat *nat, struct model_table *table, size_t count, uint64_t now,
+                       uint8_t *octets, size_t len);
 
 #endif

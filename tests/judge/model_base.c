@@ -57,6 +57,17 @@ const char *model_reason_name(int reason)
     return reason >= LK_READ && reason <= LK_HEADER_CUT ? names[reason] : "no reason"; /* Open: LK_READ. */
 }
 
+const char *model_rejection_name(int rejection)
+{
+    static const char *const names[] = {
+        "LK_NOT_REJECTED", "LK_NO_IPV4", "LK_NOT_IP", "LK_BAD_HEADER", "LK_WRONG_CHECKSUM", "LK_EXPIRED", "LK_FRAGMENT",
+        "LK_OTHER_PROTOCOL", "LK_BAD_TRANSPORT", "LK_ZERO_PORT", "LK_NO_MAPPING", "LK_NO_FREE_PORT", "LK_MARTIAN",
+        "LK_NO_ROUTE", "LK_OTHER_INTERFACE",
+    };
+    /* Open: LK_NOT_REJECTED. */
+    return rejection >= LK_NOT_REJECTED && rejection <= LK_OTHER_INTERFACE ? names[rejection] : "no rejection";
+}
+
 /* ---- addresses ---- */
 
 static int get_bit(const uint8_t *octets, size_t bit)

@@ -1,0 +1,7 @@
+mod Forwards
+mod NatCalls
+mod RouteChoice
+mod RouteLists
+mod Tables
+mod Translations
+mod Within

@@ -1,0 +1,59 @@
+-- The route that is chosen by the index of the blocks.
+use Rattle.std.proofs.Common.{ℕ, ◌≡◌, ◌<◌, ◌≤◌, All, IsSomeAnd, List, MatchOption, Option, None, Some, arith, length, map, slice_index_or, subst, subst₂, sym}
+use Rattle.ip_routes.specs.Index as index
+use Rattle.ip_routes.specs.Index.{IsChosenAt}
+use Rattle.ip_wire.specs.IpCidr.{IsIn, block_prefix_len}
+use Rattle.ip_wire.specs.declared.IpAddress.{IpAddress}
+use Rattle.ip_wire.specs.declared.IpCidr.{IpCidr}
+use Rattle.c_structs.specs.Addresses.{ip_of}
+use Rattle.c_structs.specs.declared.types.Addr.{Addr}
+use Rattle.c_routing.proofs.RouteLists.{listed-at, prefix-with, same-length}
+use Rattle.c_routing.specs.Routes.{IsChosen, Leads, destinations, route_at}
+use Rattle.c_routing.specs.declared.routes.Route.{Route}
+
+leads-in : (route : Route) (block : IpCidr) (addr : Addr) (ip : IpAddress) → destinations route ≡ Some block → ip_of addr ≡ Some ip → Leads addr route → IsIn block ip
+leads-in route block addr ip is at leads =
+    subst (λ o. IsSomeAnd o (IsIn block)) at (subst (λ o. IsSomeAnd o (λ b. IsSomeAnd (ip_of addr) (IsIn b))) is leads)
+
+in-leads : (route : Route) (block : IpCidr) (addr : Addr) (ip : IpAddress) → destinations route ≡ Some block → ip_of addr ≡ Some ip → IsIn block ip → Leads addr route
+in-leads route block addr ip is at inside =
+    subst (λ o. IsSomeAnd o (λ b. IsSomeAnd (ip_of addr) (IsIn b))) (sym is) (subst (λ o. IsSomeAnd o (IsIn block)) (sym at) inside)
+
+prefix-of : (route : Route) (block : IpCidr) → destinations route ≡ Some block → block_prefix_len block ≡ route.block.prefix_len
+prefix-of route block is = prefix-with route.block.prefix_len (ip_of route.block.addr) block is
+
+-- the block of the route at a place, and its prefix
+block-at : (routes : List Route) (blocks : List IpCidr) (i : ℕ) → map destinations routes ≡ map Some blocks → i < length routes
+    → destinations (route_at routes i) ≡ Some (index.block_at blocks i)
+block-at routes blocks i listed within = listed-at routes blocks i _ listed within
+
+prefix-at : (routes : List Route) (blocks : List IpCidr) (i : ℕ) → map destinations routes ≡ map Some blocks → i < length routes
+    → block_prefix_len (index.block_at blocks i) ≡ (route_at routes i).block.prefix_len
+prefix-at routes blocks i listed within = prefix-of (route_at routes i) _ (block-at routes blocks i listed within)
+
+chosen-at : (routes : List Route) (blocks : List IpCidr) (addr : Addr) (ip : IpAddress) (i : ℕ) → map destinations routes ≡ map Some blocks → ip_of addr ≡ Some ip
+    → i < length routes → IsChosenAt blocks ip i → IsChosen routes addr i
+chosen-at routes blocks addr ip i listed at here it = record {
+  within = here;
+  leads = in-leads (route_at routes i) _ addr ip (block-at routes blocks i listed here) at it.leads;
+  shorter = λ j before leads.
+      let there : j < length routes = omega (arith, before, here) in
+      subst₂ (λ m n. m < n) (prefix-at routes blocks j listed there) (prefix-at routes blocks i listed here)
+      (it.shorter j before (leads-in (route_at routes j) _ addr ip (block-at routes blocks j listed there) at leads));
+  no_longer = λ j behind there leads.
+      subst₂ (λ m n. m ≤ n) (prefix-at routes blocks j listed there) (prefix-at routes blocks i listed here)
+      (it.no_longer j behind (subst (λ n. j < n) (same-length routes blocks listed) there) (leads-in (route_at routes j) _ addr ip (block-at routes blocks j listed there) at leads));
+}
+
+none-leads : (routes : List Route) (blocks : List IpCidr) (addr : Addr) (ip : IpAddress) → map destinations routes ≡ map Some blocks → ip_of addr ≡ Some ip
+    → All (λ block. ¬ IsIn block ip) blocks → All (λ route. ¬ Leads addr route) routes
+none-leads routes blocks addr ip listed at none i d within leads =
+    none i _ (subst (λ n. i < n) (same-length routes blocks listed) within) (leads-in (slice_index_or routes i d) _ addr ip (listed-at routes blocks i d listed within) at leads)
+
+-- what is found for the blocks is found for the routes
+pub found-route : (routes : List Route) (blocks : List IpCidr) (addr : Addr) (ip : IpAddress) (found : Option ℕ) → map destinations routes ≡ map Some blocks
+    → ip_of addr ≡ Some ip → MatchOption found (All (λ block. ¬ IsIn block ip) blocks) (IsChosenAt blocks ip)
+    → MatchOption found (All (λ route. ¬ Leads addr route) routes) (IsChosen routes addr)
+found-route routes blocks addr ip None listed at none = none-leads routes blocks addr ip listed at none
+found-route routes blocks addr ip (Some i) listed at it =
+    chosen-at routes blocks addr ip i listed at (subst (λ n. i < n) (sym (same-length routes blocks listed)) it.within) it

@@ -1,0 +1,17 @@
+-- What the call that forwards a frame returns and writes.
+use Rattle.std.specs.Prelude.{ℕ, ℤ, pos, ◌≡◌, ◌≤◌, ◌⊎◌, List, length}
+use Rattle.ip_forward.specs.Forward.{IsForwarded, IsRejected}
+use Rattle.ip_forward.specs.declared.router.Rejection.{Rejection}
+use Rattle.ip_wire.specs.Types.{EthernetAddress, IpRepr}
+use Rattle.c_structs.specs.Written.{max_len, within}
+use Rattle.c_routing.specs.Rejections.{of_forward, rejection_code}
+
+-- the station with these octets as its address
+abbrev pub station : List ℕ → EthernetAddress
+station octets = record { 0 = octets }
+
+-- 0 is returned, and the frame is forwarded between the two stations; or the number of the reason, and the frame stays
+abbrev pub Forwards : List ℕ → List ℕ → EthernetAddress → EthernetAddress → ℤ → Type 0
+Forwards old new src dst answer =
+    ((answer ≡ pos 0) × (length old ≤ max_len) × ((header : IpRepr) × IsForwarded old new src dst header))
+    ⊎ ((reason : Rejection) × (answer ≡ pos (rejection_code (of_forward reason))) × IsRejected (within old) reason × (new ≡ old))

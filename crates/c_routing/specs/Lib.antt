@@ -1,0 +1,7 @@
+pub mod Forwarded
+pub mod Lengths
+pub mod Nat
+pub mod Rejections
+pub mod Routes
+pub mod Sources
+pub mod Translated

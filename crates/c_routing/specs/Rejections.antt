@@ -1,0 +1,57 @@
+-- The numbers of `enum lk_rejection` in `c/ip_wire.h`.
+use Rattle.std.specs.Prelude.{ℕ, None, Option, Some}
+use Rattle.c_routing.specs.declared.rejections.Rejection.{Rejection}
+use Rattle.c_routing.specs.declared.rejections.Rejection.TheVariants as rejection
+use Rattle.ip_forward.specs.declared.router.Rejection.{Rejection as HopRejection}
+use Rattle.ip_forward.specs.declared.router.Rejection.TheVariants as hop
+use Rattle.ip_nat.specs.declared.nat.Rejection.{Rejection as NatRejection}
+use Rattle.ip_nat.specs.declared.nat.Rejection.TheVariants as nat
+use Rattle.ip_routes.specs.declared.source.SourceFault.{SourceFault}
+use Rattle.ip_routes.specs.declared.source.SourceFault.TheVariants as source
+
+abbrev pub rejection_code : Rejection → ℕ
+rejection_code rejection.NotRejected = 0
+rejection_code rejection.NoIpv4 = 1
+rejection_code rejection.NotIp = 2
+rejection_code rejection.BadHeader = 3
+rejection_code rejection.WrongChecksum = 4
+rejection_code rejection.Expired = 5
+rejection_code rejection.Fragment = 6
+rejection_code rejection.OtherProtocol = 7
+rejection_code rejection.BadTransport = 8
+rejection_code rejection.ZeroPort = 9
+rejection_code rejection.NoMapping = 10
+rejection_code rejection.NoFreePort = 11
+rejection_code rejection.Martian = 12
+rejection_code rejection.NoRoute = 13
+rejection_code rejection.OtherInterface = 14
+
+-- the rejection of a router
+abbrev pub of_forward : HopRejection → Rejection
+of_forward hop.NotIp = rejection.NotIp
+of_forward hop.BadHeader = rejection.BadHeader
+of_forward hop.WrongChecksum = rejection.WrongChecksum
+of_forward hop.Expired = rejection.Expired
+
+-- the rejection of NAT
+abbrev pub of_nat : NatRejection → Rejection
+of_nat nat.NotIpv4 = rejection.NotIp
+of_nat nat.BadHeader = rejection.BadHeader
+of_nat nat.WrongChecksum = rejection.WrongChecksum
+of_nat nat.Fragment = rejection.Fragment
+of_nat nat.OtherProtocol = rejection.OtherProtocol
+of_nat nat.BadTransport = rejection.BadTransport
+of_nat nat.ZeroPort = rejection.ZeroPort
+of_nat nat.NoMapping = rejection.NoMapping
+of_nat nat.NoFreePort = rejection.NoFreePort
+
+-- the rejection for a source
+abbrev pub of_source : SourceFault → Rejection
+of_source source.Martian = rejection.Martian
+of_source source.NoRoute = rejection.NoRoute
+of_source source.OtherInterface = rejection.OtherInterface
+
+-- its number, or that of none
+abbrev pub source_code : Option SourceFault → ℕ
+source_code None = rejection_code rejection.NotRejected
+source_code (Some fault) = rejection_code (of_source fault)

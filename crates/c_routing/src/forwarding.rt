@@ -1,0 +1,22 @@
+//! One hop of a router.
+
+ghost use Rattle.c_routing.specs.Forwarded.{Forwards, station};
+
+use crate::rejections::Rejection;
+use c_structs::MAX_LEN;
+use ip_forward::forward;
+use ip_wire::EthernetAddress;
+
+/// Forwards the packet of a frame between two stations, in place: one hop less, and new link addresses. Returns 0, or
+/// the number of the reason.
+pub fn forward_frame(frame: &mut [u8], src: &[u8; 6], dst: &[u8; 6]) -> i32
+    ensures { Forwards frame.old frame.new (station src.now) (station dst.now) result }
+{
+    if frame.len() > MAX_LEN {
+        return Rejection::NotIp.code();
+    }
+    match forward(frame, EthernetAddress(*src), EthernetAddress(*dst)) {
+        Ok(_) => 0,
+        Err(reason) => Rejection::of_forward(reason).code(),
+    }
+}

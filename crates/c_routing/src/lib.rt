@@ -1,0 +1,17 @@
+//! The steps of a router and of NAT on frames, as the calls of `c/ip_wire.h` make them. `ip_wire_c` exports them to C.
+#![tactic(auto)]
+
+mod forwarding;
+mod lengths;
+mod nat;
+mod rejections;
+mod routes;
+mod sources;
+mod translation;
+
+pub use forwarding::forward_frame;
+pub use nat::{translate_in, translate_out};
+pub use rejections::Rejection;
+pub use routes::{Route, choose_route, index_routes};
+pub use sources::check_addr;
+pub use translation::translate_frame;

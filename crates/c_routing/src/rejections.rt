@@ -1,0 +1,90 @@
+//! Why a frame is rejected, as the numbers of `c/ip_wire.h`.
+
+ghost use Rattle.std.specs.Prelude.{◌≡◌, pos};
+ghost use Rattle.c_routing.specs.Rejections.{of_forward, of_nat, of_source, rejection_code};
+
+use ip_routes::source::SourceFault;
+
+/// `enum lk_rejection`: why a frame is not forwarded, translated or accepted. If several reasons apply, it is the
+/// first of them in this order.
+#[derive(Clone, Copy)]
+pub enum Rejection {
+    NotRejected,
+    /// The endpoint to be written has no IPv4 address.
+    NoIpv4,
+    /// No Ethernet header, or an EtherType that the call does not take.
+    NotIp,
+    /// The version of the IP header does not match the EtherType, or its lengths are invalid.
+    BadHeader,
+    /// The checksum of the IPv4 header is wrong.
+    WrongChecksum,
+    /// The hop limit is 0 or 1.
+    Expired,
+    /// The packet is a fragment.
+    Fragment,
+    /// The packet carries neither UDP nor TCP.
+    OtherProtocol,
+    /// The UDP or TCP header does not parse, or its checksum is wrong.
+    BadTransport,
+    /// The port to be written is 0, and a receiver would reject it.
+    ZeroPort,
+    /// No live mapping has this outside address and port.
+    NoMapping,
+    /// No outside port is free.
+    NoFreePort,
+    /// No host may send from this address.
+    Martian,
+    /// There is no route back.
+    NoRoute,
+    /// The route back leads to another interface.
+    OtherInterface,
+}
+
+impl Rejection {
+    /// Its number for C.
+    pub fn code(self) -> i32
+        ensures { result ≡ pos (rejection_code self) }
+    {
+        i32::from(self as u8)
+    }
+
+    /// The rejection of a router.
+    pub fn of_forward(reason: ip_forward::Rejection) -> Rejection
+        ensures { result ≡ of_forward reason }
+    {
+        match reason {
+            ip_forward::Rejection::NotIp => Rejection::NotIp,
+            ip_forward::Rejection::BadHeader => Rejection::BadHeader,
+            ip_forward::Rejection::WrongChecksum => Rejection::WrongChecksum,
+            ip_forward::Rejection::Expired => Rejection::Expired,
+        }
+    }
+
+    /// The rejection of NAT.
+    pub fn of_nat(reason: ip_nat::Rejection) -> Rejection
+        ensures { result ≡ of_nat reason }
+    {
+        match reason {
+            ip_nat::Rejection::NotIpv4 => Rejection::NotIp,
+            ip_nat::Rejection::BadHeader => Rejection::BadHeader,
+            ip_nat::Rejection::WrongChecksum => Rejection::WrongChecksum,
+            ip_nat::Rejection::Fragment => Rejection::Fragment,
+            ip_nat::Rejection::OtherProtocol => Rejection::OtherProtocol,
+            ip_nat::Rejection::BadTransport => Rejection::BadTransport,
+            ip_nat::Rejection::ZeroPort => Rejection::ZeroPort,
+            ip_nat::Rejection::NoMapping => Rejection::NoMapping,
+            ip_nat::Rejection::NoFreePort => Rejection::NoFreePort,
+        }
+    }
+
+    /// The rejection for a source.
+    pub fn of_source(fault: SourceFault) -> Rejection
+        ensures { result ≡ of_source fault }
+    {
+        match fault {
+            SourceFault::Martian => Rejection::Martian,
+            SourceFault::NoRoute => Rejection::NoRoute,
+            SourceFault::OtherInterface => Rejection::OtherInterface,
+        }
+    }
+}

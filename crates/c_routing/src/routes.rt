@@ -1,0 +1,105 @@
+//! Routes: their index, and the choice of a route.
+
+ghost use Rattle.std.specs.Prelude.{◌≡◌, ◌<◌, ◌^◌, ◌&&◌, All, List, MatchOption, Some, is_none, length, map, nat_le, nat_lt};
+ghost use Rattle.std.specs.List.{list_any};
+ghost use Rattle.c_structs.specs.Addresses.{ip_of};
+ghost use Rattle.c_routing.specs.Lengths.{in_bounds};
+ghost use Rattle.c_routing.specs.Routes.{Chooses, Indexes, IsChosen, IsIndexOf, Leads, destinations, index_failure};
+ghost use Rattle.ip_routes.specs.Index.{IsIndex};
+ghost use Rattle.ip_wire.specs.declared.IpCidr.{IpCidr};
+
+use crate::lengths::in_bounds;
+use c_structs::{Addr, Block, Failure, usable};
+use ip_routes::index::{Node, arrange, find};
+
+/// `struct lk_route`: a route.
+#[repr(C)]
+#[derive(Clone, Copy)]
+pub struct Route {
+    /// The destinations.
+    pub block: Block,
+    /// The next router. Without a version the destinations are on the link.
+    pub next_hop: Addr,
+    /// A number that the caller chooses.
+    pub interface: u16,
+}
+
+/// Writes the index of a list of routes, one node for each, and returns their number. Fails with `NoVersion`,
+/// `BadPrefix` and `NoRoom`; then the nodes are unspecified.
+pub fn index_routes(routes: &[Route], nodes: &mut [Node]) -> isize
+    ensures { Indexes (in_bounds routes.now) nodes.old nodes.new result }
+{
+    let routes = in_bounds(routes);
+    if let Some(failure) = index_failure(routes, usable(nodes.len())) {
+        return failure.code();
+    }
+    let count = routes.len();
+    index(routes, &mut nodes[..count]);
+    count as isize
+}
+
+// Why these routes get no index of so many nodes.
+fn index_failure(routes: &[Route], room: usize) -> Option<Failure>
+    ensures { result ≡ index_failure routes.now room }
+{
+    if lacks_version(routes) {
+        Some(Failure::NoVersion)
+    } else if lacks_block(routes) {
+        Some(Failure::BadPrefix)
+    } else if has_room(routes.len(), room) {
+        None
+    } else {
+        Some(Failure::NoRoom)
+    }
+}
+
+fn lacks_version(routes: &[Route]) -> bool
+    ensures { result ≡ list_any (λ route. is_none (ip_of route.block.addr)) routes.now }
+{
+    routes.iter().any(|route| route.block.addr.ip().is_none())
+}
+
+fn lacks_block(routes: &[Route]) -> bool
+    ensures { result ≡ list_any (λ route. is_none (destinations route)) routes.now }
+{
+    routes.iter().any(|route| route.block.cidr().is_none())
+}
+
+fn has_room(count: usize, room: usize) -> bool
+    ensures { result ≡ nat_le count room && nat_lt count (2 ^ 32) }
+{
+    count <= room && count <= u32::MAX as usize
+}
+
+// Makes the index of routes that have blocks.
+fn index(routes: &[Route], nodes: &mut [Node])
+    requires len { length nodes.old ≡ length routes.now }
+    requires within { length routes.now < 2 ^ 32 }
+    ensures { (blocks : List IpCidr) → map destinations routes.now ≡ map Some blocks → IsIndex blocks nodes.new }
+{
+    for i in 0..routes.len() {
+        if let Some(block) = routes[i].block.cidr() {
+            nodes[i] = Node::new(&block, i as u32);
+        }
+    }
+    arrange(nodes);
+}
+
+/// The place of the route with the longest prefix that contains an address, of several the first; -1 if there is none.
+pub fn choose_route(nodes: &[Node], addr: &Addr) -> isize
+    ensures { (routes : List Route) → IsIndexOf routes (in_bounds nodes.now) → Chooses routes addr.now result }
+{
+    match choose(in_bounds(nodes), addr) {
+        Some(place) => place as isize,
+        None => -1,
+    }
+}
+
+/// The same place, if there is a route.
+pub fn choose(nodes: &[Node], addr: &Addr) -> Option<u32>
+    ensures { (routes : List Route) → IsIndexOf routes nodes.now
+        → MatchOption result (All (λ route. ¬ Leads addr.now route) routes) (IsChosen routes addr.now) }
+{
+    let addr = addr.ip()?;
+    find(nodes, &addr)
+}

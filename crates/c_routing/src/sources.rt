@@ -1,0 +1,49 @@
+//! The sources that a router accepts.
+
+ghost use Rattle.std.specs.Prelude.{◌≡◌, pos};
+ghost use Rattle.c_routing.specs.Lengths.{in_bounds};
+ghost use Rattle.c_routing.specs.Rejections.{source_code};
+ghost use Rattle.c_routing.specs.Routes.{IsIndexOf};
+ghost use Rattle.c_routing.specs.Sources.{ChecksAddr, IsBack};
+
+use crate::lengths::in_bounds;
+use crate::rejections::Rejection;
+use crate::routes::{Route, choose};
+use c_structs::Addr;
+use ip_routes::index::Node;
+use ip_routes::source::{SourceFault, check_source};
+
+/// Whether a router accepts a packet from this address that came in by an interface. Returns 0, or the number of the
+/// reason.
+pub fn check_addr(routes: &[Route], nodes: &[Node], src: &Addr, interface: u16) -> i32
+    ensures { IsIndexOf (in_bounds routes.now) (in_bounds nodes.now) → ChecksAddr (in_bounds routes.now) src.now interface result }
+{
+    match src.ip() {
+        Some(addr) => {
+            let back = back(in_bounds(routes), in_bounds(nodes), src);
+            code(check_source(&addr, interface, back))
+        }
+        None => Rejection::Martian.code(),
+    }
+}
+
+// The interface of the route back to an address.
+fn back(routes: &[Route], nodes: &[Node], addr: &Addr) -> Option<u16>
+    ensures { IsIndexOf routes.now nodes.now → IsBack routes.now addr.now result }
+{
+    let place = choose(nodes, addr)?;
+    match routes.get(place as usize) {
+        Some(route) => Some(route.interface),
+        None => None,
+    }
+}
+
+// The number of a fault, or 0.
+fn code(fault: Option<SourceFault>) -> i32
+    ensures { result ≡ pos (source_code fault) }
+{
+    match fault {
+        Some(fault) => Rejection::of_source(fault).code(),
+        None => Rejection::NotRejected.code(),
+    }
+}

@@ -1,0 +1,25 @@
+//! One hop of a router, and NAT of one packet.
+
+ghost use Rattle.c_routing.specs.Forwarded.{Forwards, station};
+ghost use Rattle.c_routing.specs.Translated.{Translates, side_of};
+
+use c_routing::{forward_frame, translate_frame};
+use c_structs::Endpoint;
+
+/// Forwards the packet of a frame between two stations. Returns 0, or why it is not forwarded; then the frame is
+/// unchanged.
+#[unsafe(no_mangle)]
+pub extern "C" fn lk_forward(frame: &mut [u8], src: &[u8; 6], dst: &[u8; 6]) -> i32
+    ensures { Forwards frame.old frame.new (station src.now) (station dst.now) result }
+{
+    forward_frame(frame, src, dst)
+}
+
+/// Writes another address and port into the packet of a frame. Returns 0, or why it is not translated; then the frame
+/// is unchanged.
+#[unsafe(no_mangle)]
+pub extern "C" fn lk_translate(frame: &mut [u8], side: i32, end: &Endpoint) -> i32
+    ensures { Translates frame.old frame.new (side_of side) end.now result }
+{
+    translate_frame(frame, side, end)
+}

@@ -1,0 +1,152 @@
+/* Cases of NAT with a table: many packets in a row, of few endpoints, with time between them. */
+#include <string.h>
+#include "judge.h"
+
+enum { PORTS = 140 };
+
+static struct lk_nat nat;
+static struct lk_mapping mappings[2 * PORTS];
+static struct model_table table;
+static size_t mapping_count;
+static uint64_t now;
+static uint8_t wanted[MODEL_ROOM];
+
+/* Few outside ports, mostly about a port that inside endpoints have. */
+static void begin_nat(void)
+{
+    memset(&table, 0, sizeof table);
+    memset(mappings, 0, sizeof mappings);
+    fill(&nat, sizeof nat);
+    mapping_count = one_in(16) ? below(2 * PORTS) : below(16);
+    nat.udp_timeout = below(60);
+    nat.tcp_timeout = one_in(8) ? UINT64_MAX : below(200);
+    nat.tcp_transitory_timeout = below(40);
+    nat.first_port = (uint16_t)(one_in(16) ? 0 : one_in(4) ? 65536 - below(12) : any_port() - below(4));
+    memcpy(nat.outside, any_addr(4).octets, 4);
+    now = one_in(8) ? UINT64_MAX - below(1000) : below(1000);
+}
+
+/* A UDP or TCP packet over IPv4, mostly. */
+static void make_packet(void)
+{
+    struct lk_frame frame;
+    for (int tries = 0; tries < 6; tries++) {
+        if (one_in(8))
+            make_frame();
+        else
+            make_valid();
+        if (nat_rejection(made.octets, made.len, &frame) == LK_NOT_REJECTED)
+            return;
+    }
+}
+
+/* Sends it to an outside port, mostly. */
+static void address_packet(void)
+{
+    struct lk_frame frame;
+    struct lk_endpoint end = {{{0}, 4}, (uint16_t)(nat.first_port + below(mapping_count / 2 + 2))};
+    memcpy(end.addr.octets, nat.outside, 4);
+    if (nat_rejection(made.octets, made.len, &frame) == LK_NOT_REJECTED && end.port != 0 && !one_in(16))
+        write_end(made.octets, &frame, LK_DESTINATION, &end);
+}
+
+/* The arguments of a call. The mappings and the frame may change. */
+struct placed {
+    const struct lk_nat *nat;
+    struct lk_mapping *mappings;
+    uint8_t *frame;
+};
+
+static struct placed place_arguments(size_t len)
+{
+    struct placed it;
+    memcpy(wanted, made.octets, len);
+    it.nat = given("nat", &nat, sizeof nat);
+    given("mappings", mappings, mapping_count * sizeof *mappings);
+    given("now", &now, sizeof now);
+    given("frame", made.octets, len);
+    it.mappings = room(mappings, mapping_count * sizeof *mappings);
+    it.frame = room(made.octets, len);
+    return it;
+}
+
+/* Calls the library with the frame that was made last, of which `placed_len` octets are there. */
+static int library_out(struct placed *it, size_t placed_len, size_t len)
+{
+    CALL(lk_translate_out);
+    *it = place_arguments(placed_len);
+    return lk_translate_out(it->nat, it->mappings, mapping_count, now, it->frame, len);
+}
+
+static int library_in(struct placed *it, size_t placed_len, size_t len)
+{
+    CALL(lk_translate_in);
+    *it = place_arguments(placed_len);
+    return lk_translate_in(it->nat, it->mappings, mapping_count, now, it->frame, len);
+}
+
+static void end_nat(int rejection, int came, const struct placed *it, size_t len)
+{
+    end_call(rejection, came);
+    same_octets("frame", wanted, it->frame, len);
+    if (came != LK_NOT_REJECTED)
+        same_octets("mappings", mappings, it->mappings, mapping_count * sizeof *mappings);
+    else
+        memcpy(mappings, it->mappings, mapping_count * sizeof *mappings);
+}
+
+static void translate_out(size_t placed_len, size_t len)
+{
+    struct placed it;
+    struct lk_frame frame;
+    int came = library_out(&it, placed_len, len);
+    model_read_frame(it.frame, placed_len, &frame);
+    end_nat(model_translate_out(&nat, &table, mapping_count, now, wanted, len, came == 0 ? frame.src.port : 0), came,
+            &it, placed_len);
+}
+
+static void translate_in(size_t placed_len, size_t len)
+{
+    struct placed it;
+    int came = library_in(&it, placed_len, len);
+    end_nat(model_translate_in(&nat, &table, mapping_count, now, wanted, len), came, &it, placed_len);
+}
+
+/* Any mappings: what comes is open, but nothing outside may be accessed. */
+static void translate_by_anything(void)
+{
+    struct placed it;
+    fill(mappings, mapping_count * sizeof *mappings);
+    make_packet();
+    end_call(1, library_out(&it, made.len, made.len) >= 0);
+    address_packet();
+    end_call(1, library_in(&it, made.len, made.len) >= 0);
+}
+
+static void pass_time(void)
+{
+    uint64_t step = one_in(2) ? 0 : below(one_in(8) ? 100 : 12);
+    now = step > UINT64_MAX - now ? UINT64_MAX : now + step;
+}
+
+void translate_frames(void)
+{
+    size_t steps = 4 + below(one_in(16) ? 200 : 24);
+    begin_nat();
+    while (steps-- > 0) {
+        make_packet();
+        if (one_in(2)) {
+            translate_out(made.len, made.len);
+        } else {
+            address_packet();
+            translate_in(made.len, made.len);
+        }
+        pass_time();
+    }
+    if (one_in(64))
+        translate_out(0, unused_len());
+    if (one_in(64))
+        translate_in(0, unused_len());
+    if (one_in(32))
+        translate_by_anything();
+}

@@ -1,0 +1,146 @@
+/* The model of a router, and of NAT for one packet. */
+#include <string.h>
+#include "model.h"
+
+/* ---- what a frame carries ---- */
+
+/* Why the IP header of a frame is rejected. The frame is parsed too. */
+static int network_rejection(const uint8_t *octets, size_t len, struct lk_frame *frame)
+{
+    model_read_frame(octets, len, frame);
+    if (len < 14 || (frame->ethernet.type != 0x0800 && frame->ethernet.type != 0x86dd))
+        return LK_NOT_IP;
+    if (frame->network == LK_NO_NETWORK)
+        return LK_BAD_HEADER;
+    return frame->ipv4_checksum == LK_WRONG ? LK_WRONG_CHECKSUM : LK_NOT_REJECTED;
+}
+
+int nat_rejection(const uint8_t *octets, size_t len, struct lk_frame *frame)
+{
+    int rejection = network_rejection(octets, len, frame);
+    if (rejection == LK_NOT_IP || frame->ethernet.type == 0x86dd)
+        return LK_NOT_IP;
+    if (rejection != LK_NOT_REJECTED)
+        return rejection;
+    if (frame->is_fragment)
+        return LK_FRAGMENT;
+    if (frame->ip.protocol != 6 && frame->ip.protocol != 17)
+        return LK_OTHER_PROTOCOL;
+    if (frame->reason != LK_READ || (frame->transport_checksum != LK_RIGHT && frame->transport_checksum != LK_LEFT_OUT))
+        return LK_BAD_TRANSPORT;
+    return LK_NOT_REJECTED;
+}
+
+/* ---- a router ---- */
+
+int model_forward(uint8_t *octets, size_t len, const uint8_t *src, const uint8_t *dst)
+{
+    struct lk_frame frame;
+    int rejection = network_rejection(octets, used_len(len), &frame);
+    uint8_t *header = octets + 14;
+    unsigned before;
+    if (rejection != LK_NOT_REJECTED)
+        return rejection;
+    if (frame.ip.hop_limit <= 1)
+        return LK_EXPIRED;
+    memcpy(octets, dst, 6);
+    memcpy(octets + 6, src, 6);
+    if (frame.network == LK_IPV6) {
+        header[7]--;
+        return LK_NOT_REJECTED;
+    }
+    before = get_word(header + 8);
+    header[8]--;
+    put_word(header + 10, model_update_checksum((uint16_t)get_word(header + 10), (uint16_t)before,
+                                                (uint16_t)get_word(header + 8)));
+    return LK_NOT_REJECTED;
+}
+
+/* ---- NAT of one packet ---- */
+
+static void update_sum(uint8_t *field, int is_udp, const struct lk_addr *before, const struct lk_addr *after)
+{
+    uint16_t sum = (uint16_t)get_word(field);
+    put_word(field, is_udp ? model_update_udp_checksum_addr(sum, before, after)
+                           : model_update_checksum_addr(sum, before, after));
+}
+
+static void write_port(uint8_t *port_at, uint8_t *field, int is_udp, unsigned port)
+{
+    uint16_t sum = (uint16_t)get_word(field), before = (uint16_t)get_word(port_at);
+    put_word(port_at, port);
+    put_word(field, is_udp ? model_update_udp_checksum(sum, before, (uint16_t)port)
+                           : model_update_checksum(sum, before, (uint16_t)port));
+}
+
+void write_end(uint8_t *octets, const struct lk_frame *frame, int side, const struct lk_endpoint *end)
+{
+    uint8_t *header = octets + 14, *transport = octets + frame->transport_offset;
+    int is_udp = frame->transport == LK_UDP;
+    uint8_t *field = transport + (is_udp ? 6 : 16);
+    const struct lk_addr *before = side == LK_SOURCE ? &frame->src.addr : &frame->dst.addr;
+    update_sum(field, is_udp, before, &end->addr);
+    write_port(transport + (side == LK_SOURCE ? 0 : 2), field, is_udp, end->port);
+    memcpy(header + (side == LK_SOURCE ? 12 : 16), end->addr.octets, 4);
+    update_sum(header + 10, 0, before, &end->addr);
+}
+
+int model_translate(uint8_t *octets, size_t len, int side, const struct lk_endpoint *end)
+{
+    struct lk_frame frame;
+    int rejection = nat_rejection(octets, used_len(len), &frame);
+    if (end->addr.version != 4)
+        return LK_NO_IPV4;
+    if (rejection != LK_NOT_REJECTED)
+        return rejection;
+    if (end->port == 0 && (frame.transport == LK_TCP || side != LK_SOURCE))
+        return LK_ZERO_PORT;
+    write_end(octets, &frame, side == LK_SOURCE ? LK_SOURCE : LK_DESTINATION, end);
+    return LK_NOT_REJECTED;
+}
+
+/* ---- routes ---- */
+
+ptrdiff_t model_index_routes(const struct lk_route *routes, size_t count, size_t node_count)
+{
+    size_t used = used_len(count);
+    for (size_t i = 0; i < used; i++)
+        if (addr_len(&routes[i].block.addr) == 0)
+            return LK_NO_VERSION;
+    for (size_t i = 0; i < used; i++)
+        if (routes[i].block.prefix_len > 8 * addr_len(&routes[i].block.addr))
+            return LK_BAD_PREFIX;
+    return used > used_len(node_count) ? LK_NO_ROOM : (ptrdiff_t)used;
+}
+
+ptrdiff_t model_choose_route(const struct lk_route *routes, size_t count, const struct lk_addr *addr)
+{
+    ptrdiff_t chosen = -1;
+    for (size_t i = 0; i < count; i++)
+        if (model_contains(&routes[i].block, addr) &&
+            (chosen < 0 || routes[i].block.prefix_len > routes[chosen].block.prefix_len))
+            chosen = (ptrdiff_t)i;
+    return chosen;
+}
+
+/* RFC 1122, section 3.2.1.3; RFC 1812, section 5.3.7; RFC 4291, sections 2.5 and 2.7. */
+static int is_martian(const struct lk_addr *src)
+{
+    static const char *const blocks[] = {
+        "0.0.0.0/8", "127.0.0.0/8", "224.0.0.0/4", "240.0.0.0/4", "::/128", "::1/128", "::ffff:0:0/96", "ff00::/8",
+    };
+    for (int i = 0; i < 8; i++)
+        if (is_in(src, blocks[i]))
+            return 1;
+    return addr_len(src) == 0;
+}
+
+int model_check_source(const struct lk_route *routes, size_t count, const struct lk_addr *src, unsigned interface)
+{
+    ptrdiff_t route = model_choose_route(routes, count, src);
+    if (is_martian(src))
+        return LK_MARTIAN;
+    if (route < 0)
+        return LK_NO_ROUTE;
+    return routes[route].interface == interface ? LK_NOT_REJECTED : LK_OTHER_INTERFACE;
+}
