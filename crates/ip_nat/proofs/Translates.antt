@@ -168,11 +168,6 @@ written side v bytes part new addr port four r e rewrites is at step = record {
   as_said = packet-bytes bytes part new v side addr port r is at;
 }
 
--- a packet with another address on this side
-pub readdressed : (side on : Side) (done new addr : List ℕ) (v : Ipv4Repr) → side ≡ on → new ≡ done → ipv4.Reads done true (with_addr on addr v) → ipv4.Reads new true (with_addr side addr v)
-readdressed side on done new addr v is at r =
-    subst (λ (s : Side). ipv4.Reads new true (with_addr s addr v)) (sym is) (subst (λ (l : List ℕ). ipv4.Reads l true (with_addr on addr v)) (sym at) r)
-
 -- ---- the frame
 
 -- the Ethernet header, followed by the packet

@@ -1,5 +1,4 @@
-use Rattle.std.proofs.Common.{subst, rules}
-use Rattle.ip_wire.proofs.Spelled.{AreBytes}
+use Rattle.std.proofs.Common.{rules}
 use Rattle.ip_nat.proofs.Headers.{reads-address}
 use Rattle.ip_nat.proofs.nat.set_addr.Goals as goal
 
