@@ -1,8 +1,8 @@
 -- The node that a search finds is that of the chosen block.
-use Rattle.std.proofs.Common.{ℕ, ◌≡◌, ◌∙◌, ◌+◌, ◌-◌, ◌^◌, ◌<◌, ◌≤◌, ◌⊎◌, ◌↔◌, ◌++◌, ◌∷◌, [], All, Bool, IsTrue, List, inl, inr, true, false, leb, drop, get_or, length, map, take, refl, sym, ap, subst, arith}
-use Rattle.std.specs.List.Sorted.{IsNonDecreasingBy, IsPartitionPoint}
+use Rattle.std.proofs.Common.{ℕ, ◌≡◌, ◌∙◌, ◌+◌, ◌-◌, ◌^◌, ◌<◌, ◌≤◌, ◌⊎◌, ◌++◌, ◌∷◌, [], All, List, inl, inr, drop, get_or, length, map, take, sym, ap, subst, arith}
+use Rattle.std.specs.List.Sorted.{IsNonDecreasingBy}
 use Rattle.std.proofs.Math.ListN.{get_or-map as get_or-map_at}
-use Rattle.std.proofs.lemmas.Bool.{cases_lt, false≢true, le-leb, leb-false, leb-true, lt-leb}
+use Rattle.std.proofs.lemmas.Bool.{cases_lt}
 use Rattle.std.proofs.lemmas.List.{drop_more, get_or-drop, get_or-map, get_or-take, get_or_default, length-drop, length-map, length-take, take-append-drop}
 use Rattle.ip_routes.proofs.Elements.{block_node, node_block}
 use Rattle.ip_routes.proofs.Finds.{IsNodeOf, better, beyond}

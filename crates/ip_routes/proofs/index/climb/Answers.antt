@@ -1,4 +1,4 @@
-use Rattle.std.proofs.Common.{◌≡◌, ◌-◌, ◌<◌, ◌≤◌, length, get_or, [], arith, ap, subst}
+use Rattle.std.proofs.Common.{◌≡◌, ◌-◌, ◌<◌, ◌≤◌, length, get_or, arith, ap, subst}
 use Rattle.std.proofs.lemmas.List.{get_or_default}
 use Rattle.ip_routes.specs.Index.{Encloses, node_at, node_with}
 use Rattle.ip_routes.specs.declared.index.Node.{Node}

@@ -1,7 +1,6 @@
-use Rattle.std.proofs.Common.{◌≡◌, ◌∙◌, ◌<◌, ◌≤◌, length, get_or, [], arith, sym, subst}
+use Rattle.std.proofs.Common.{◌≡◌, ◌∙◌, ◌<◌, ◌≤◌, length, get_or, arith, sym, subst}
 use Rattle.std.proofs.lemmas.List.{get_or_default}
 use Rattle.ip_routes.specs.Index.{node_at, node_with, place}
-use Rattle.ip_routes.specs.declared.index.Node.{Node}
 use Rattle.ip_routes.proofs.Links.{alike_places, alike_set, links_more}
 use Rattle.ip_routes.proofs.Splits.{unread}
 use Rattle.ip_routes.proofs.index.link.Goals as goal

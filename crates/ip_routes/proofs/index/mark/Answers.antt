@@ -1,7 +1,6 @@
-use Rattle.std.proofs.Common.{◌≡◌, ◌∙◌, ◌<◌, ◌≤◌, length, get_or, set, [], arith, sym, subst}
+use Rattle.std.proofs.Common.{◌≡◌, ◌∙◌, ◌<◌, length, get_or, arith}
 use Rattle.std.proofs.lemmas.List.{get_or_default, length-set}
 use Rattle.ip_routes.specs.Index.{node_at, node_with}
-use Rattle.ip_routes.specs.declared.index.Node.{Node}
 use Rattle.ip_routes.proofs.Links.{unmarked_set}
 use Rattle.ip_routes.proofs.Splits.{unread}
 use Rattle.ip_routes.proofs.index.mark.Goals as goal
