@@ -10,9 +10,11 @@ HOST_B = bytes([192, 0, 2, 2])
 
 def word_sum(data):
     """The one's complement sum of 16-bit words (RFC 1071)."""
-    total = int.from_bytes(data + b"\0" * (len(data) % 2), "big")
-    # 65536 leaves 1 modulo 65535, so a word counts the same in any place.
-    return total % 0xFFFF or 0xFFFF * (total > 0)
+    data += b"\0" * (len(data) % 2)
+    total = sum(int.from_bytes(data[i : i + 2], "big") for i in range(0, len(data), 2))
+    while total >> 16:
+        total = (total & 0xFFFF) + (total >> 16)
+    return total
 
 
 def ethernet(ethertype, payload=b"", dst=DST, src=SRC):
