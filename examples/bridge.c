@@ -1,8 +1,10 @@
 /* Forwards Ethernet frames between two TAP devices, and rebuilds each frame on its way (Linux).
  *     bridge DEVICE DEVICE
  * Makes the devices, unless they exist, and prints "ready". SIGINT and SIGTERM end it: then it prints how
- * many frames it forwarded in each direction. What rebuilding changes is in the table of ip_wire.h. */
+ * many frames it forwarded in each direction. It ends with status 1 if a device is deleted. A frame to a
+ * device that is down is dropped. What rebuilding changes is in the table of ip_wire.h. */
 #define _GNU_SOURCE
+#include <errno.h>
 #include <fcntl.h>
 #include <ip_wire.h>
 #include <linux/if_tun.h>
@@ -13,21 +15,14 @@
 #include <stdlib.h>
 #include <string.h>
 #include <sys/ioctl.h>
+#include <sys/signalfd.h>
 #include <unistd.h>
 
-enum { LONGEST_FRAME = 65535 + 18 };
+enum { LONGEST_FRAME = 65535 + 18, FRAMES_AT_ONCE = 64 };
 
 struct count {
     unsigned long forwarded, changed, dropped;
 };
-
-static volatile sig_atomic_t is_ended;
-
-static void end(int signal)
-{
-    (void)signal;
-    is_ended = 1;
-}
 
 static _Noreturn void give_up(const char *what)
 {
@@ -47,12 +42,29 @@ static int open_device(const char *name)
     return device;
 }
 
-/* Forwards the frames that are there now. */
-static void forward(int from, int to, struct count *count)
+/* Returns a file from which SIGINT and SIGTERM are read. */
+static int open_signals(void)
+{
+    sigset_t ends;
+    sigemptyset(&ends);
+    sigaddset(&ends, SIGINT);
+    sigaddset(&ends, SIGTERM);
+    sigprocmask(SIG_BLOCK, &ends, NULL);
+    int signals = signalfd(-1, &ends, SFD_CLOEXEC);
+    if (signals < 0)
+        give_up("signalfd");
+    return signals;
+}
+
+/* Forwards some frames, so that the other direction and signals have their turn. Returns 0 if the device `from` has
+ * been deleted. */
+static int forward(int from, int to, struct count *count)
 {
     static uint8_t in[LONGEST_FRAME], out[LONGEST_FRAME];
-    ssize_t len;
-    while ((len = read(from, in, sizeof in)) > 0) {
+    for (int left = FRAMES_AT_ONCE; left > 0; left--) {
+        ssize_t len = read(from, in, sizeof in);
+        if (len < 0)
+            return errno == EAGAIN || errno == EINTR || errno == EIO;
         ptrdiff_t rebuilt = lk_rebuild(in, (size_t)len, out, sizeof out);
         if (rebuilt < 0 || write(to, out, (size_t)rebuilt) != rebuilt) {
             count->dropped++;
@@ -60,6 +72,22 @@ static void forward(int from, int to, struct count *count)
         }
         count->forwarded++;
         count->changed += rebuilt != len || memcmp(in, out, (size_t)len) != 0;
+    }
+    return 1;
+}
+
+/* Returns the status of the program. */
+static int serve(struct pollfd *fds, struct count *there, struct count *back)
+{
+    for (;;) {
+        poll(fds, 3, -1);
+        if (fds[2].revents != 0)
+            return 0;
+        if (((fds[0].revents | fds[1].revents) & (POLLERR | POLLHUP | POLLNVAL))
+            || !forward(fds[0].fd, fds[1].fd, there) || !forward(fds[1].fd, fds[0].fd, back)) {
+            fprintf(stderr, "bridge: a device was deleted\n");
+            return 1;
+        }
     }
 }
 
@@ -71,9 +99,7 @@ static void print_count(const char *from, const char *to, const struct count *co
 
 int main(int argc, char **argv)
 {
-    struct sigaction action = {.sa_handler = end};
     struct count there = {0, 0, 0}, back = {0, 0, 0};
-    sigset_t ends, before;
 
     if (argc != 3) {
         fprintf(stderr, "usage: bridge DEVICE DEVICE\n");
@@ -83,30 +109,15 @@ int main(int argc, char **argv)
         fprintf(stderr, "bridge: the processor has no SSE4.2 or no POPCNT\n");
         return 1;
     }
-    struct pollfd devices[2] = {
+    struct pollfd fds[3] = {
         {.fd = open_device(argv[1]), .events = POLLIN},
         {.fd = open_device(argv[2]), .events = POLLIN},
+        {.fd = open_signals(), .events = POLLIN},
     };
-    /* The signals come only while the program waits, so that none is missed. */
-    sigemptyset(&ends);
-    sigaddset(&ends, SIGINT);
-    sigaddset(&ends, SIGTERM);
-    sigprocmask(SIG_BLOCK, &ends, &before);
-    sigaction(SIGINT, &action, NULL);
-    sigaction(SIGTERM, &action, NULL);
     printf("ready\n");
     fflush(stdout);
-    while (!is_ended) {
-        /* A device that is down is polled again after a while. */
-        static const struct timespec pause = {.tv_nsec = 10000000};
-        if (ppoll(devices, 2, NULL, &before) < 0)
-            continue;
-        if ((devices[0].revents | devices[1].revents) & POLLERR)
-            ppoll(NULL, 0, &pause, &before);
-        forward(devices[0].fd, devices[1].fd, &there);
-        forward(devices[1].fd, devices[0].fd, &back);
-    }
+    int status = serve(fds, &there, &back);
     print_count(argv[1], argv[2], &there);
     print_count(argv[2], argv[1], &back);
-    return 0;
+    return status;
 }

@@ -3,6 +3,7 @@
  *     proved_host DEVICE HARDWARE_ADDRESS IPV4_ADDRESS IPV6_ADDRESS [TCP_PORT..]
  * Makes the device, unless it exists, and prints "ready". It answers ARP for its IPv4 address, echoes what
  * comes to port 7 by UDP, answers a SYN to one of the TCP ports, and refuses all else that comes by TCP.
+ * A signal ends it. It ends with status 1 if the device is deleted. While the device is down, it waits.
  *
  * Not supported: TCP connections (host.c has them), and ICMPv6, so that a peer needs the hardware address of
  * the IPv6 address in its table of neighbours. */
@@ -45,15 +46,15 @@ static int renew(struct lk_host *host)
     return getrandom(&host->seq_number, sizeof host->seq_number, 0) == (ssize_t)sizeof host->seq_number;
 }
 
-/* Ends if the device fails. */
+/* Returns when the device is deleted. */
 static void serve(int device, struct lk_host *host)
 {
     static uint8_t frame[LONGEST_FRAME], out[LONGEST_FRAME];
     ssize_t len;
-    while ((len = read(device, frame, sizeof frame)) > 0 && renew(host)) {
+    while ((len = read(device, frame, sizeof frame)) >= 0 && renew(host)) {
         ptrdiff_t answer = lk_answer(host, frame, (size_t)len, out, sizeof out);
-        if (answer > 0 && write(device, out, (size_t)answer) != answer)
-            return;
+        if (answer > 0 && write(device, out, (size_t)answer) < 0)
+            continue; /* the device is down, so the answer is lost */
     }
 }
 

@@ -358,13 +358,16 @@ def segments_to(wire, seconds):
 
 
 def many_syns(wire):
-    """More SYNs than the host keeps connections. Each gets SYN and ACK, and the last 64 get it again after a second.
-    A later connection works."""
-    for n in range(200):
-        wire.sock.send(wire.frame(TCP, segment(SYN_CLIENT + n, random.randrange(2**32), 0, SYN)))
-    ports = [port for port, _, flags, _ in segments_to(wire, 1.8) if flags == SYN | ACK]
-    for n in range(200):
-        check("SYN of many", ports.count(SYN_CLIENT + n) == (2 if n >= 200 - 64 else 1), n)
+    """More SYNs than the host keeps connections. Each gets SYN and ACK, and the last 63 get it again after a second. A
+    connection that was open stays so, and a later one works."""
+    with socket.create_connection(HOSTS[0][2:] + (ECHO,), timeout=5) as sock:
+        for n in range(200):
+            wire.sock.send(wire.frame(TCP, segment(SYN_CLIENT + n, random.randrange(2**32), 0, SYN)))
+        ports = [port for port, _, flags, _ in segments_to(wire, 1.8) if flags == SYN | ACK]
+        for n in range(200):
+            check("SYN of many", ports.count(SYN_CLIENT + n) == (2 if n >= 200 - 63 else 1), n)
+        sock.sendall(b"still open")
+        check("TCP open during many SYNs", received(sock) == b"still open")
     for _ in range(3):
         check("TCP after many SYNs", echoed(*HOSTS[0][::2], b"after") == b"after")
 
