@@ -69,7 +69,11 @@ class Router:
         self.hardware, self.neighbours = hardware, neighbours
         self.own = {ipaddress.ip_interface(text).ip for text, _ in addresses}
         links = [(ipaddress.ip_interface(text).network, None, name) for text, name in addresses]
-        self.routes = links + [(ipaddress.ip_network(block), next_hop, name) for block, next_hop, name in routes]
+        routes = links + [(ipaddress.ip_network(block), next_hop, name) for block, next_hop, name in routes]
+        self.routes = {}
+        for route in routes:  # of equal blocks the first
+            self.routes.setdefault(route[0], route)
+        self.lengths = sorted({(block.version, block.prefixlen) for block in self.routes}, reverse=True)
         self.broadcasts = {addr for block, _, _ in links if block.version == 4 for addr in (block[0], block[-1])}
 
     def but(self, **changes):
@@ -80,8 +84,11 @@ class Router:
 
     def choose(self, addr):
         """The route with the longest prefix, as the three values, or None."""
-        found = [route for route in self.routes if route[0].version == addr.version and addr in route[0]]
-        return max(found, key=lambda route: route[0].prefixlen, default=None)
+        for version, length in self.lengths:
+            block = ipaddress.ip_network((addr.packed, length), strict=False) if version == addr.version else None
+            if block in self.routes:
+                return self.routes[block]
+        return None
 
     def rejected_source(self, addr, came_in):
         if is_in(addr, MARTIANS):

@@ -40,9 +40,9 @@ neighbour fd02::2 lladdr 02:00:00:00:02:02 dev right
 """ + "".join(f"neighbour {addr} lladdr {ELSEWHERE.hex(':')} dev {name}\n" for addr, name in (
     ("10.1.0.9", "left"), ("fd01::9", "left"), ("10.2.0.9", "right"), ("fd02::9", "right")))
 OF_TAPS = CONFIG + "".join(f"lladdr {addr.hex(':')} dev {name}\n" for name, addr in HARDWARE.items())
+ADDRESSES = [("10.1.0.1/24", "left"), ("fd01::1/64", "left"), ("10.2.0.1/24", "right"), ("fd02::1/64", "right")]
 MODEL = Router(
-    HARDWARE,
-    [("10.1.0.1/24", "left"), ("fd01::1/64", "left"), ("10.2.0.1/24", "right"), ("fd02::1/64", "right")],
+    HARDWARE, ADDRESSES,
     [("203.0.113.0/24", ELSEWHERE, "left"), ("3fff::/20", ELSEWHERE, "left"), ("198.18.0.0/15", ELSEWHERE, "right"),
      ("2001:db8::/32", ELSEWHERE, "right")],
     {ipaddress.ip_address(addr): HOSTS[name] for addr, name in (
@@ -293,6 +293,33 @@ def arp_replies(sides):
         compare_lists("ARP", expected, [frame for frame in side.came_out if frame[12:14] == ARP])
 
 
+def many_routes(room, program):
+    """The longest prefix of 10,000 routes, half of which lead back to the left."""
+    routes = {}
+    while len(routes) < 10_000:
+        length = random.choice((8, 12, 16, 20, 24, 24, 24, 28, 32))
+        number = random.randrange(0x0B << 24, 0x40 << 24) >> 32 - length << 32 - length
+        routes[f"{ipaddress.ip_address(number)}/{length}"] = random.choice((("10.1.0.9", "left"), ("10.2.0.9", "right")))
+    lines = "".join(f"route {block} via {hop} dev {name}\n" for block, (hop, name) in routes.items())
+    there = Namespace()
+    router = start_on_taps(room, there, program, OF_TAPS + lines)
+    model = Router(HARDWARE, ADDRESSES, [(block, ELSEWHERE, name) for block, (_, name) in routes.items()], {})
+    sides, source = {"left": WideSide(SELF, "left"), "right": WideSide(there.process, "right")}, bytes([10, 1, 0, 2])
+    blocks = random.sample(list(routes), 1000)
+    for _ in range(10):
+        addresses = [(random.choice(blocks), random.randrange(0x0B << 24, 0x40 << 24)) for _ in range(AT_ONCE)]
+        chunk = [packets.packet(b"", src=source, dst=packed_in(block, number)) for block, number in addresses]
+        send_chunk(sides, "left", [HARDWARE["left"] + HOSTS["left"] + frame[12:] for frame in chunk], model)
+    router.ends("with many routes")
+
+
+def packed_in(block, number):
+    """An address of the block, mostly, else any one."""
+    block = ipaddress.ip_network(block)
+    inside = int(block[0]) | number & int(block.hostmask)
+    return (inside if number % 4 else number).to_bytes(4, "big")
+
+
 BAD_LINES = (
     ("address 10.1.0.1 dev left", "not an address with a prefix length"),
     ("route 10.1.0.0/33 dev left", "not a block"),
@@ -323,6 +350,7 @@ def bad_files(room, program):
 def on_taps(program):
     room, there = Namespace(), Namespace()
     bad_files(room, program)
+    many_routes(room, program)
     router = start_on_taps(room, there, program)
     server = there.serve(*(address for _, address in SERVERS))
     sides = {"left": WideSide(SELF, "left"), "right": WideSide(there.process, "right")}
