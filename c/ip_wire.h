@@ -10,7 +10,7 @@
  * - A call that writes to `out` returns the number of bytes that it wrote, from `out[0]` on, or a failure,
  *   which is negative. After a failure `out` is unchanged.
  * - A length above LK_MAX_LEN is never used: an input of that length counts as empty, a payload as too long,
- *   and an output as one without room.
+ *   and an output as one without room. The counts of routes, nodes and mappings are such lengths too.
  * - lk_is_.., lk_contains and lk_cpu_supported return 1 for yes and 0 for no.
  * - Fields that an initializer leaves out are 0. A 0 in `version`, in a field `has_..` or in a count means
  *   that there is no such value. A hop limit of 0, and a port of 0 that a receiver rejects, are failures. A 0
@@ -566,7 +566,7 @@ enum lk_rejection {
     LK_FRAGMENT,       /* NAT: the packet is a fragment */
     LK_OTHER_PROTOCOL, /* NAT: the packet carries neither UDP nor TCP */
     LK_BAD_TRANSPORT,  /* NAT: the UDP or TCP header is rejected (lk_reason), or its checksum is wrong */
-    LK_ZERO_PORT,      /* NAT: the port to be written is 0, and a receiver would reject the packet; for lk_translate_out
+    LK_ZERO_PORT,      /* NAT: the port to be written is 0, and a receiver would reject the packet; lk_translate_out:
                         * the source port is 0, so that no answer could come back */
     LK_NO_MAPPING,     /* lk_translate_in: no live mapping has this outside address and port */
     LK_NO_FREE_PORT,   /* lk_translate_out: no outside port is free for this endpoint */
@@ -618,16 +618,22 @@ struct lk_route_node {
 };
 
 /* Writes the index of a list of routes, one node for each, and returns the number of routes. The index is valid as long
- * as the routes do not change. Fails with LK_NO_VERSION or LK_BAD_PREFIX if a block is none, and with LK_NO_ROOM if
- * there are more routes than nodes, or more than 2^32 - 1. After a failure the nodes are unspecified.
+ * as the routes do not change. Fails with LK_NO_VERSION or LK_BAD_PREFIX if the block of a route is invalid, and with
+ * LK_NO_ROOM if there are more routes than nodes, or more than 2^32 - 1. After a failure the nodes are unspecified.
  *
- * A router reads a frame, checks its source, and forwards it by the route:
+ * A router checks the source of a frame, and forwards it by the route to its destination. Packets for the router
+ * itself, multicast and link-local packets are not forwarded:
  *
- *     if (lk_read_frame(frame, len, &f) != LK_READ ||
- *         lk_check_source(routes, count, nodes, count, &f.src.addr, interface) != LK_NOT_REJECTED)
+ *     lk_read_frame(frame, len, &f);
+ *     if (lk_check_source(routes, count, nodes, count, &f.src.addr, interface) != LK_NOT_REJECTED)
+ *         return;
+ *     if (!lk_is_unicast(&f.dst.addr) || is_own(&f.dst.addr) || is_link_local(&f))
  *         return;
  *     ptrdiff_t i = lk_choose_route(nodes, count, &f.dst.addr);
- *     if (i >= 0 && lk_forward(frame, len, own_hardware(routes[i].interface), next_hardware(&routes[i], &f.dst.addr)) == 0)
+ *     if (i < 0)
+ *         return;
+ *     const uint8_t *next = hardware_of(&routes[i], &f.dst.addr), *own = own_hardware(routes[i].interface);
+ *     if (lk_forward(frame, len, own, next) == LK_NOT_REJECTED)
  *         send_by(routes[i].interface, frame, len); */
 ptrdiff_t lk_index_routes(const struct lk_route *routes, size_t count, struct lk_route_node *nodes, size_t node_count);
 
@@ -638,8 +644,10 @@ ptrdiff_t lk_choose_route(const struct lk_route_node *nodes, size_t count, const
 /* Whether a router may accept a packet from `src` that came in by `interface`. Returns LK_NOT_REJECTED, or
  *
  * - LK_MARTIAN for 0.0.0.0/8, 127.0.0.0/8, 224.0.0.0/4, 240.0.0.0/4, `::`, `::1`, ::ffff:0:0/96, ff00::/8, and an
- *   address without a version (RFC 1122, section 3.2.1.3; RFC 1812, section 5.3.7; RFC 4291, section 2),
- * - LK_NO_ROUTE or LK_OTHER_INTERFACE, by the route to `src` (strict reverse path forwarding, RFC 3704, section 2.2). */
+ *   address without a version (RFC 1122, section 3.2.1.3; RFC 1812, section 5.3.7; RFC 4291, section 2), but not
+ *   for link-local addresses,
+ * - LK_NO_ROUTE or LK_OTHER_INTERFACE, by the route to `src` (strict reverse path forwarding, RFC 3704, section
+ *   2.2). */
 int lk_check_source(const struct lk_route *routes, size_t route_count, const struct lk_route_node *nodes, size_t count,
                     const struct lk_addr *src, uint16_t interface);
 
@@ -673,17 +681,18 @@ struct lk_mapping {
  * port `first_port + n`, and `mappings[2 * n + 1]` its TCP mapping. `now` is a clock in milliseconds that never goes
  * back.
  *
- *     static struct lk_mapping mappings[2 * 64512];
+ *     enum { COUNT = 2 * (65536 - 1024) };
+ *     static struct lk_mapping mappings[COUNT];
  *     struct lk_nat nat = {{random64(), random64()}, 300000, 7440000, 240000, {203, 0, 113, 9}, 1024, 0};
- *     for (;;) {
- *         ... receive a frame
- *         int rejection = is_from_inside ? lk_translate_out(&nat, mappings, 2 * 64512, now(), frame, len)
- *                                        : lk_translate_in(&nat, mappings, 2 * 64512, now(), frame, len);
- *         if (rejection == LK_NOT_REJECTED)
- *             ... forward the frame
- *     }
  *
- * - Both return an lk_rejection. If it is not 0, the frame is unchanged. LK_NO_IPV4 and LK_EXPIRED are not among them.
+ *     if (is_from_inside)
+ *         rejection = lk_translate_out(&nat, mappings, COUNT, milliseconds(), frame, len);
+ *     else
+ *         rejection = lk_translate_in(&nat, mappings, COUNT, milliseconds(), frame, len);
+ *     if (rejection == LK_NOT_REJECTED)
+ *         ... forward the frame
+ *
+ * - Both return an `lk_rejection`. If it is not 0, the frame is unchanged. LK_NO_IPV4 and LK_EXPIRED are not among them.
  * - A mapping belongs to one inside endpoint, whatever the remote endpoints are (RFC 4787, REQ-1). What any remote
  *   endpoint sends to its outside port comes in (REQ-8).
  * - An endpoint without a live mapping gets a new one: for its own port if that is free, else for the first free port

@@ -1,85 +1,13 @@
-/* The router and NAT of the C library: a worked frame for each result, and values at their limits. The checksums were
- * computed by another program. */
-#include <stdio.h>
-#include <string.h>
-#include "../c/ip_wire.h"
-
-enum { ROOM = 96, OLD = 0xa5 };
-
-static int failures;
-
-static void check(int line, int holds)
-{
-    if (holds)
-        return;
-    fprintf(stderr, "routing.c:%d: does not hold\n", line);
-    failures++;
-}
-
-#define CHECK(fact) check(__LINE__, fact)
+/* The router and the routes of the C library: a worked frame for each result, and values at their limits. */
+#include "routing_frames.h"
 
 static const uint8_t src[6] = {2, 0, 0, 0, 0, 0x11}, dst[6] = {2, 0, 0, 0, 0, 0x12};
 
-/* A UDP packet over IPv4, and the same after one hop, and from 203.0.113.9, port 40000. */
-static const uint8_t udp[46] = {
-    0x02, 0x00, 0x00, 0x00, 0x00, 0x02, 0x02, 0x00, 0x00, 0x00, 0x00, 0x01, 0x08, 0x00, 0x45, 0x00,
-    0x00, 0x20, 0x95, 0xf5, 0x40, 0x00, 0x40, 0x11, 0x20, 0xd4, 0xc0, 0x00, 0x02, 0x01, 0xc0, 0x00,
-    0x02, 0x02, 0xb5, 0xe3, 0x14, 0xe9, 0x00, 0x0c, 0xd2, 0x34, 0x70, 0x69, 0x6e, 0x67,
-};
+/* The UDP packet and the fragment after one hop. */
 static const uint8_t udp_forwarded[46] = {
     0x02, 0x00, 0x00, 0x00, 0x00, 0x12, 0x02, 0x00, 0x00, 0x00, 0x00, 0x11, 0x08, 0x00, 0x45, 0x00,
     0x00, 0x20, 0x95, 0xf5, 0x40, 0x00, 0x3f, 0x11, 0x21, 0xd4, 0xc0, 0x00, 0x02, 0x01, 0xc0, 0x00,
     0x02, 0x02, 0xb5, 0xe3, 0x14, 0xe9, 0x00, 0x0c, 0xd2, 0x34, 0x70, 0x69, 0x6e, 0x67,
-};
-static const uint8_t udp_out[46] = {
-    0x02, 0x00, 0x00, 0x00, 0x00, 0x02, 0x02, 0x00, 0x00, 0x00, 0x00, 0x01, 0x08, 0x00, 0x45, 0x00,
-    0x00, 0x20, 0x95, 0xf5, 0x40, 0x00, 0x40, 0x11, 0xa6, 0xcb, 0xcb, 0x00, 0x71, 0x09, 0xc0, 0x00,
-    0x02, 0x02, 0x9c, 0x40, 0x14, 0xe9, 0x00, 0x0c, 0x71, 0xcf, 0x70, 0x69, 0x6e, 0x67,
-};
-
-/* Its reply, and the same as it comes in. */
-static const uint8_t reply[46] = {
-    0x02, 0x00, 0x00, 0x00, 0x00, 0x01, 0x02, 0x00, 0x00, 0x00, 0x00, 0x02, 0x08, 0x00, 0x45, 0x00,
-    0x00, 0x20, 0xd5, 0x7e, 0x40, 0x00, 0x40, 0x11, 0xe1, 0x4a, 0xc0, 0x00, 0x02, 0x02, 0xc0, 0x00,
-    0x02, 0x01, 0x14, 0xe9, 0xb5, 0xe3, 0x00, 0x0c, 0xd2, 0x2e, 0x70, 0x6f, 0x6e, 0x67,
-};
-static const uint8_t reply_in[46] = {
-    0x02, 0x00, 0x00, 0x00, 0x00, 0x01, 0x02, 0x00, 0x00, 0x00, 0x00, 0x02, 0x08, 0x00, 0x45, 0x00,
-    0x00, 0x20, 0xd5, 0x7e, 0x40, 0x00, 0x40, 0x11, 0x67, 0x42, 0xc0, 0x00, 0x02, 0x02, 0xcb, 0x00,
-    0x71, 0x09, 0x14, 0xe9, 0x9c, 0x40, 0x00, 0x0c, 0x71, 0xc9, 0x70, 0x6f, 0x6e, 0x67,
-};
-
-/* A SYN, and the same from 203.0.113.9, port 40001. */
-static const uint8_t syn[74] = {
-    0x02, 0x00, 0x00, 0x00, 0x00, 0x02, 0x02, 0x00, 0x00, 0x00, 0x00, 0x01, 0x08, 0x00, 0x45, 0x00,
-    0x00, 0x3c, 0x53, 0xbc, 0x40, 0x00, 0x40, 0x06, 0x62, 0xfc, 0xc0, 0x00, 0x02, 0x01, 0xc0, 0x00,
-    0x02, 0x02, 0xed, 0x70, 0x00, 0x50, 0x80, 0x03, 0xa2, 0x8d, 0x00, 0x00, 0x00, 0x00, 0xa0, 0x02,
-    0xfa, 0xf0, 0xd8, 0xbd, 0x00, 0x00, 0x02, 0x04, 0x05, 0xb4, 0x04, 0x02, 0x08, 0x0a, 0x39, 0xd3,
-    0xa6, 0x25, 0x00, 0x00, 0x00, 0x00, 0x01, 0x03, 0x03, 0x0a,
-};
-static const uint8_t syn_out[74] = {
-    0x02, 0x00, 0x00, 0x00, 0x00, 0x02, 0x02, 0x00, 0x00, 0x00, 0x00, 0x01, 0x08, 0x00, 0x45, 0x00,
-    0x00, 0x3c, 0x53, 0xbc, 0x40, 0x00, 0x40, 0x06, 0xe8, 0xf3, 0xcb, 0x00, 0x71, 0x09, 0xc0, 0x00,
-    0x02, 0x02, 0x9c, 0x41, 0x00, 0x50, 0x80, 0x03, 0xa2, 0x8d, 0x00, 0x00, 0x00, 0x00, 0xa0, 0x02,
-    0xfa, 0xf0, 0xaf, 0xe4, 0x00, 0x00, 0x02, 0x04, 0x05, 0xb4, 0x04, 0x02, 0x08, 0x0a, 0x39, 0xd3,
-    0xa6, 0x25, 0x00, 0x00, 0x00, 0x00, 0x01, 0x03, 0x03, 0x0a,
-};
-
-/* A router solicitation over IPv6, with hop limit 255. */
-static const uint8_t ipv6[70] = {
-    0x33, 0x33, 0x00, 0x00, 0x00, 0x02, 0x02, 0x00, 0x00, 0x00, 0x00, 0x02, 0x86, 0xdd, 0x60, 0x00,
-    0x00, 0x00, 0x00, 0x10, 0x3a, 0xff, 0xfe, 0x80, 0x00, 0x00, 0x00, 0x00, 0x00, 0x00, 0x00, 0x00,
-    0x00, 0xff, 0xfe, 0x00, 0x00, 0x02, 0xff, 0x02, 0x00, 0x00, 0x00, 0x00, 0x00, 0x00, 0x00, 0x00,
-    0x00, 0x00, 0x00, 0x00, 0x00, 0x02, 0x85, 0x00, 0x7b, 0x2a, 0x00, 0x00, 0x00, 0x00, 0x01, 0x01,
-    0x02, 0x00, 0x00, 0x00, 0x00, 0x02,
-};
-
-/* A fragment with options in its header and the highest hop limit, and padding behind it; and after one hop. */
-static const uint8_t fragment[50] = {
-    0x02, 0x00, 0x00, 0x00, 0x00, 0x02, 0x02, 0x00, 0x00, 0x00, 0x00, 0x01, 0x08, 0x00, 0x46, 0x00,
-    0x00, 0x20, 0x0b, 0xad, 0x20, 0x64, 0xff, 0x11, 0x08, 0xb7, 0xc0, 0x00, 0x02, 0x01, 0xc0, 0x00,
-    0x02, 0x02, 0x01, 0x01, 0x01, 0x00, 0x70, 0x69, 0x6e, 0x67, 0x70, 0x6f, 0x6e, 0x67, 0xaa, 0xaa,
-    0xaa, 0xaa,
 };
 static const uint8_t fragment_forwarded[50] = {
     0x02, 0x00, 0x00, 0x00, 0x00, 0x12, 0x02, 0x00, 0x00, 0x00, 0x00, 0x11, 0x08, 0x00, 0x46, 0x00,
@@ -87,36 +15,6 @@ static const uint8_t fragment_forwarded[50] = {
     0x02, 0x02, 0x01, 0x01, 0x01, 0x00, 0x70, 0x69, 0x6e, 0x67, 0x70, 0x6f, 0x6e, 0x67, 0xaa, 0xaa,
     0xaa, 0xaa,
 };
-
-/* ---- changed frames */
-
-/* An octet that gets another value. */
-struct change {
-    size_t at;
-    uint8_t octet;
-};
-
-enum { CHANGES = 5 };
-
-/* The frame of the last case, with old octets behind it. `len` is the length that the call is given. */
-static uint8_t frame[ROOM];
-
-/* Copies a frame and changes it. Octet 0 is no change: it ends the list. */
-static void begin(const uint8_t *octets, size_t len, const struct change changes[CHANGES])
-{
-    memset(frame, OLD, sizeof frame);
-    memcpy(frame, octets, len);
-    for (int i = 0; i < CHANGES && changes && changes[i].at; i++)
-        frame[changes[i].at] = changes[i].octet;
-}
-
-static int is_now(const uint8_t *octets, size_t len)
-{
-    for (size_t i = len; i < ROOM; i++)
-        if (frame[i] != OLD)
-            return 0;
-    return memcmp(frame, octets, len) == 0;
-}
 
 /* ---- a router */
 
@@ -173,85 +71,112 @@ static void forward(void)
     CHECK(lk_forward(frame, (size_t)LK_NO_ROOM, src, dst) == LK_NOT_IP && is_now(udp, sizeof udp));
 }
 
-/* ---- NAT of one packet */
+/* ---- routes */
 
-static const struct lk_endpoint inside = {{{192, 0, 2, 1}, 4}, 46563}, outside = {{{203, 0, 113, 9}, 4}, 40000};
+/* Blocks in blocks, over both versions. The third one is the first again. */
+static const struct lk_route routes[] = {
+    {{{{10, 0, 0, 0}, 4}, 8}, {{192, 0, 2, 1}, 4}, 1},
+    {{{{10, 1, 0, 0}, 4}, 16}, {{0}, 0}, 2},
+    {{{{10, 9, 9, 9}, 4}, 8}, {{192, 0, 2, 3}, 4}, 3},
+    {{{{10, 1, 2, 3}, 4}, 32}, {{192, 0, 2, 4}, 4}, 4},
+    {{{{0}, 6}, 0}, {{0xfe, 0x80, 0, 0, 0, 0, 0, 0, 0, 0, 0, 0, 0, 0, 0, 1}, 6}, 65535},
+    {{{{0x20, 0x01, 0x0d, 0xb8}, 6}, 33}, {{0}, 0}, 6},
+    {{{{127, 0, 0, 0}, 4}, 8}, {{0}, 0}, 1},
+};
+enum { ROUTES = sizeof routes / sizeof routes[0] };
 
 static const struct {
-    const uint8_t *octets;
-    size_t len;
-    struct change changes[CHANGES];
-    int rejection;
-} not_translated[] = {
-    {udp, 13, {{0, 0}}, LK_NOT_IP},
-    {ipv6, 70, {{0, 0}}, LK_NOT_IP},
-    {udp, 46, {{13, 0x06}}, LK_NOT_IP},
-    {udp, 45, {{0, 0}}, LK_BAD_HEADER},
-    {udp, 46, {{14, 0x65}}, LK_BAD_HEADER},
-    {fragment, 50, {{24, 0}}, LK_WRONG_CHECKSUM},
-    {fragment, 50, {{0, 0}}, LK_FRAGMENT},
-    {udp, 46, {{23, 0x10}, {25, 0xd5}}, LK_OTHER_PROTOCOL},
-    {udp, 46, {{39, 0x07}}, LK_BAD_TRANSPORT},
-    {udp, 46, {{36, 0}, {37, 0}, {40, 0xe7}, {41, 0x1d}}, LK_BAD_TRANSPORT},
-    {udp, 46, {{45, 0x68}}, LK_BAD_TRANSPORT},
-    {udp, 46, {{40, 0x84}, {41, 0x21}}, LK_BAD_TRANSPORT}, /* checksum offload */
-    {syn, 74, {{47, 0x03}}, LK_BAD_TRANSPORT},
-    {syn, 74, {{73, 0x0b}}, LK_BAD_TRANSPORT},
+    struct lk_addr addr;
+    ptrdiff_t route;
+} choices[] = {
+    {{{10, 0, 0, 0}, 4}, 0},
+    {{{10, 255, 255, 255}, 4}, 0},
+    {{{11, 0, 0, 0}, 4}, -1},
+    {{{9, 255, 255, 255}, 4}, -1},
+    {{{10, 1, 0, 0}, 4}, 1},
+    {{{10, 1, 255, 255}, 4}, 1},
+    {{{10, 2, 0, 0}, 4}, 0},
+    {{{10, 1, 2, 3}, 4}, 3},
+    {{{10, 1, 2, 4}, 4}, 1},
+    {{{0}, 6}, 4},
+    {{{0x20, 0x01, 0x0d, 0xb8, 0x7f, 0xff}, 6}, 5},
+    {{{0x20, 0x01, 0x0d, 0xb8, 0x80}, 6}, 4},
+    {{{10, 1, 2, 3}, 0}, -1},
+    {{{10, 1, 2, 3}, 5}, -1},
 };
 
-static void translate_rejects(void)
+static void choose(void)
 {
-    uint8_t before[ROOM];
-    for (size_t i = 0; i < sizeof not_translated / sizeof not_translated[0]; i++) {
-        struct lk_endpoint end = outside;
-        begin(not_translated[i].octets, not_translated[i].len, not_translated[i].changes);
-        memcpy(before, frame, ROOM);
-        for (int side = LK_SOURCE; side <= LK_DESTINATION; side++)
-            for (end.port = 0; end.port <= 1; end.port++)
-                check((int)i, lk_translate(frame, not_translated[i].len, side, &end) == not_translated[i].rejection &&
-                                  memcmp(before, frame, ROOM) == 0);
-        end.addr.version = 6;
-        check((int)i, lk_translate(frame, not_translated[i].len, LK_SOURCE, &end) == LK_NO_IPV4 &&
-                          memcmp(before, frame, ROOM) == 0);
-    }
-    CHECK(lk_translate(0, 0, LK_SOURCE, &outside) == LK_NOT_IP);
-    begin(udp, sizeof udp, 0);
-    CHECK(lk_translate(frame, LK_MAX_LEN + 1, LK_SOURCE, &outside) == LK_NOT_IP && is_now(udp, sizeof udp));
+    struct lk_route_node nodes[ROUTES + 1], behind;
+    memset(nodes, OLD, sizeof nodes);
+    behind = nodes[ROUTES];
+    CHECK(lk_index_routes(routes, ROUTES, nodes, ROUTES + 1) == ROUTES);
+    CHECK(memcmp(&nodes[ROUTES], &behind, sizeof behind) == 0);
+    for (size_t i = 0; i < sizeof choices / sizeof choices[0]; i++)
+        check((int)i, lk_choose_route(nodes, ROUTES, &choices[i].addr) == choices[i].route);
+    CHECK(lk_choose_route(0, 0, &choices[0].addr) == -1);
+    CHECK(lk_choose_route(nodes, LK_MAX_LEN + 1, &choices[0].addr) == -1);
+    CHECK(lk_choose_route(nodes, (size_t)LK_NO_ROOM, &choices[0].addr) == -1);
 }
 
-static void translate_ports_of_0(void)
+/* The first failure of the list in c/ip_wire.h that applies. */
+static void index_fails(void)
 {
-    static const struct change no_checksum[CHANGES] = {{40, 0}, {41, 0}};
-    struct lk_endpoint no_port = outside;
-    no_port.port = 0;
-    begin(udp, sizeof udp, 0);
-    CHECK(lk_translate(frame, sizeof udp, LK_DESTINATION, &no_port) == LK_ZERO_PORT && is_now(udp, sizeof udp));
-    CHECK(lk_translate(frame, sizeof udp, LK_SOURCE, &no_port) == 0 && frame[34] == 0 && frame[35] == 0);
-    CHECK(lk_translate(frame, sizeof udp, LK_SOURCE, &inside) == 0 && is_now(udp, sizeof udp));
-    begin(syn, sizeof syn, 0);
-    CHECK(lk_translate(frame, sizeof syn, LK_SOURCE, &no_port) == LK_ZERO_PORT && is_now(syn, sizeof syn));
-    CHECK(lk_translate(frame, sizeof syn, LK_DESTINATION, &no_port) == LK_ZERO_PORT && is_now(syn, sizeof syn));
-    begin(udp, sizeof udp, no_checksum);
-    CHECK(lk_translate(frame, sizeof udp, LK_SOURCE, &outside) == 0 && frame[40] == 0 && frame[41] == 0);
+    struct lk_route_node nodes[ROUTES];
+    struct lk_route changed[ROUTES];
+    memcpy(changed, routes, sizeof routes);
+    CHECK(lk_index_routes(routes, ROUTES, nodes, ROUTES - 1) == LK_NO_ROOM);
+    CHECK(lk_index_routes(routes, ROUTES, nodes, LK_MAX_LEN + 1) == LK_NO_ROOM);
+    CHECK(lk_index_routes(0, 0, 0, 0) == 0);
+    CHECK(lk_index_routes(routes, LK_MAX_LEN + 1, nodes, ROUTES) == 0);
+    changed[1].block.prefix_len = 33;
+    CHECK(lk_index_routes(changed, ROUTES, nodes, ROUTES) == LK_BAD_PREFIX);
+    CHECK(lk_index_routes(changed, ROUTES, nodes, 0) == LK_BAD_PREFIX);
+    changed[4].block.prefix_len = 128;
+    changed[1].block.prefix_len = 16;
+    CHECK(lk_index_routes(changed, ROUTES, nodes, ROUTES) == ROUTES);
+    changed[4].block.prefix_len = 129;
+    CHECK(lk_index_routes(changed, ROUTES, nodes, ROUTES) == LK_BAD_PREFIX);
+    changed[5].block.addr.version = 0;
+    CHECK(lk_index_routes(changed, ROUTES, nodes, ROUTES) == LK_NO_VERSION);
+    changed[5].block.addr.version = 260;
+    CHECK(lk_index_routes(changed, ROUTES, nodes, 0) == LK_NO_VERSION);
 }
 
-static void translate(void)
+static const struct {
+    struct lk_addr src;
+    uint16_t interface;
+    int rejection;
+} sources[] = {
+    {{{10, 0, 0, 1}, 4}, 1, LK_NOT_REJECTED},
+    {{{10, 0, 0, 1}, 4}, 3, LK_OTHER_INTERFACE},
+    {{{10, 1, 2, 3}, 4}, 4, LK_NOT_REJECTED},
+    {{{10, 1, 2, 3}, 4}, 2, LK_OTHER_INTERFACE},
+    {{{11, 0, 0, 1}, 4}, 1, LK_NO_ROUTE},
+    {{{0x20, 0x01}, 6}, 65535, LK_NOT_REJECTED},
+    {{{127, 0, 0, 1}, 4}, 1, LK_MARTIAN},
+    {{{0, 255, 255, 255}, 4}, 1, LK_MARTIAN},
+    {{{224, 0, 0, 1}, 4}, 1, LK_MARTIAN},
+    {{{255, 255, 255, 255}, 4}, 1, LK_MARTIAN},
+    {{{240, 0, 0, 1}, 4}, 1, LK_MARTIAN},
+    {{{0}, 6}, 65535, LK_MARTIAN},
+    {{{0, 0, 0, 0, 0, 0, 0, 0, 0, 0, 0, 0, 0, 0, 0, 1}, 6}, 65535, LK_MARTIAN},
+    {{{0, 0, 0, 0, 0, 0, 0, 0, 0, 0, 0, 0, 0, 0, 0, 2}, 6}, 65535, LK_NOT_REJECTED},
+    {{{0, 0, 0, 0, 0, 0, 0, 0, 0, 0, 0xff, 0xff, 192, 0, 2, 1}, 6}, 65535, LK_MARTIAN},
+    {{{0xff, 0x02}, 6}, 65535, LK_MARTIAN},
+    {{{0xfe, 0x80}, 6}, 65535, LK_NOT_REJECTED},
+    {{{10, 0, 0, 1}, 0}, 1, LK_MARTIAN},
+};
+
+static void check_sources(void)
 {
-    struct lk_endpoint other = outside;
-    begin(udp, sizeof udp, 0);
-    CHECK(lk_translate(frame, sizeof udp, LK_SOURCE, &outside) == 0 && is_now(udp_out, sizeof udp));
-    CHECK(lk_translate(frame, sizeof udp, LK_SOURCE, &inside) == 0 && is_now(udp, sizeof udp));
-    begin(reply_in, sizeof reply_in, 0);
-    CHECK(lk_translate(frame, sizeof reply, LK_DESTINATION, &inside) == 0 && is_now(reply, sizeof reply));
-    begin(reply_in, sizeof reply_in, 0);
-    CHECK(lk_translate(frame, sizeof reply, 256, &inside) == 0 && is_now(reply, sizeof reply));
-    begin(reply_in, sizeof reply_in, 0);
-    CHECK(lk_translate(frame, sizeof reply, -1, &inside) == 0 && is_now(reply, sizeof reply));
-    begin(syn, sizeof syn, 0);
-    other.port = 40001;
-    CHECK(lk_translate(frame, sizeof syn, LK_SOURCE, &other) == 0 && is_now(syn_out, sizeof syn));
-    translate_ports_of_0();
-    translate_rejects();
+    struct lk_route_node nodes[ROUTES];
+    CHECK(lk_index_routes(routes, ROUTES, nodes, ROUTES) == ROUTES);
+    for (size_t i = 0; i < sizeof sources / sizeof sources[0]; i++)
+        check((int)i, lk_check_source(routes, ROUTES, nodes, ROUTES, &sources[i].src, sources[i].interface) ==
+                          sources[i].rejection);
+    CHECK(lk_check_source(0, 0, 0, 0, &sources[0].src, 1) == LK_NO_ROUTE);
+    CHECK(lk_check_source(routes, ROUTES, nodes, LK_MAX_LEN + 1, &sources[0].src, 1) == LK_NO_ROUTE);
 }
 
 /* ---- names */
@@ -268,7 +193,9 @@ static void names(void)
 int main(void)
 {
     forward();
-    translate();
+    choose();
+    index_fails();
+    check_sources();
     names();
     return failures != 0;
 }
