@@ -1,7 +1,8 @@
 /* A router on TAP devices and on interfaces of the kernel (Linux). docs/ROUTER.md shows how to start it.
  *     router [-n] FILE INTERFACE..
  * Each INTERFACE is tap:NAME, a TAP device that it makes unless it exists, or packet:NAME, an interface of the kernel.
- * FILE has their addresses, and static routes and neighbours. -n: accept packets from any source.
+ * FILE has their addresses, and static routes and neighbours. -n: take packets that come from elsewhere than the route
+ * back to their source leads.
  *
  * Prints "ready", and its counters at SIGUSR1. SIGINT and SIGTERM end it. */
 #include "routing/router.h"
@@ -17,7 +18,7 @@ int main(int argc, char **argv)
         fprintf(stderr, "usage: router [-n] FILE tap:NAME|packet:NAME..\n");
         return 2;
     }
-    router.accepts_any_source = options;
+    router.takes_any_way = options;
     if (!start(&router, argv[1 + options], argv + 2 + options, (size_t)(argc - 2 - options)))
         return 1;
     return serve(&router);

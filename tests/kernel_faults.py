@@ -263,7 +263,7 @@ def faults_are_noticed(router, nat):
         found = wrong_with(start_on_taps, router, number, lambda: (MODEL, hostile_frames))
         check("fault", (found > 0) == (number > 0), (name, found))
     found = wrong_with(start_on_taps, router, 0, lambda: (MODEL, hostile_frames), ("-n",))
-    check("fault", found > 0, ("no source filter", found))
+    check("fault", found > 0, ("no reverse-path check", found))
     for number, name in enumerate(("no fault", *NAT_FAULTS)):
         number += (len(ROUTER_FAULTS) - 1) * (number > 0)
         found = wrong_with(kernel_nat.start_on_taps, nat, number, nat_model)

@@ -44,7 +44,6 @@ static int is_broadcast(const struct lk_addr *addr)
 static int may_pass(struct router *router, uint16_t from, const struct lk_frame *in)
 {
     const struct interface *interface = &router->interfaces[from];
-    int rejection = LK_NOT_REJECTED;
     if ((in->ethernet.dst[0] & 1) || lk_is_multicast(&in->dst.addr) || is_broadcast(&in->dst.addr)) {
         drop(router, GROUP);
     } else if (memcmp(in->ethernet.dst, interface->hardware, 6) != 0) {
@@ -54,10 +53,9 @@ static int may_pass(struct router *router, uint16_t from, const struct lk_frame 
     } else if (is_reserved(&in->dst.addr)) {
         drop(router, RESERVED);
     } else {
-        if (!router->accepts_any_source)
-            rejection = lk_check_source(router->routes, router->route_count, router->nodes, router->route_count,
+        int rejection = lk_check_source(router->routes, router->route_count, router->nodes, router->route_count,
                                         &in->src.addr, from);
-        if (rejection == LK_NOT_REJECTED)
+        if (rejection == LK_NOT_REJECTED || (router->takes_any_way && rejection != LK_MARTIAN))
             return 1;
         reject(router, rejection);
     }

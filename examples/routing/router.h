@@ -67,7 +67,7 @@ struct router {
     size_t route_count;
     struct neighbours *neighbours;
     int64_t now;                  /* in milliseconds */
-    int accepts_any_source;
+    int takes_any_way;            /* a packet may come from elsewhere than the route back to its source leads */
     unsigned long frames, forwarded, arp;
     unsigned long drops[DROPS], rejections[REJECTIONS];
     /* Steps of a NAT; null: none. Each returns an lk_rejection. */
