@@ -619,7 +619,7 @@ struct lk_route_node {
 
 /* Writes the index of a list of routes, one node for each, and returns the number of routes. The index is valid as long
  * as the routes do not change. Fails with LK_NO_VERSION or LK_BAD_PREFIX if the block of a route is invalid, and with
- * LK_NO_ROOM if there are more routes than nodes, or more than 2^32 - 1. After a failure the nodes are unspecified.
+ * LK_NO_ROOM if there are more routes than nodes, or more than 2^32 - 1. After a failure the nodes are unchanged.
  *
  * A router checks the source of a frame, and forwards it by the route to its destination. Packets for the router
  * itself, multicast and link-local packets are not forwarded:

@@ -57,10 +57,10 @@ pub record WritesIndex (routes : List Route) (old new : List Node) (answer : ℤ
   pub index : IsIndexOf routes (take (length routes) new)
   pub behind : drop (length routes) new ≡ drop (length routes) old
 
--- the same, or a failure is returned
+-- the same, or a failure is returned and the nodes stay
 abbrev pub Indexes : List Route → List Node → List Node → ℤ → Type 0
 Indexes routes old new answer =
-    MatchOption (index_failure routes (usable (length old))) (WritesIndex routes old new answer) (λ why. answer ≡ failure_code why)
+    MatchOption (index_failure routes (usable (length old))) (WritesIndex routes old new answer) (λ why. (answer ≡ failure_code why) × (new ≡ old))
 
 -- ---- look-ups
 

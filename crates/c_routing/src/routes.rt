@@ -25,7 +25,7 @@ pub struct Route {
 }
 
 /// Writes the index of a list of routes, one node for each, and returns their number. Fails with `NoVersion`,
-/// `BadPrefix` and `NoRoom`; then the nodes are unspecified.
+/// `BadPrefix` and `NoRoom`; then the nodes are unchanged.
 pub fn index_routes(routes: &[Route], nodes: &mut [Node]) -> isize
     ensures { Indexes (in_bounds routes.now) nodes.old nodes.new result }
 {
