@@ -1,12 +1,12 @@
 -- The node that a search finds is that of the chosen block.
-use Rattle.std.proofs.Common.{ℕ, ◌≡◌, ◌∙◌, ◌+◌, ◌-◌, ◌^◌, ◌<◌, ◌≤◌, ◌⊎◌, ◌↔◌, ◌++◌, ◌∷◌, [], All, Bool, IsTrue, List, inl, inr, true, false, leb, drop, get_or, length, map, take, refl, sym, ap, subst, arith}
-use Rattle.std.specs.List.Sorted.{IsNonDecreasingBy, IsPartitionPoint}
+use Rattle.std.proofs.Common.{ℕ, ◌≡◌, ◌∙◌, ◌+◌, ◌-◌, ◌^◌, ◌<◌, ◌≤◌, ◌⊎◌, ◌++◌, ◌∷◌, [], All, List, inl, inr, drop, get_or, length, map, take, sym, ap, subst, arith}
+use Rattle.std.specs.List.Sorted.{IsNonDecreasingBy}
 use Rattle.std.proofs.Math.ListN.{get_or-map as get_or-map_at}
-use Rattle.std.proofs.lemmas.Bool.{cases_lt, false≢true, le-leb, leb-false, leb-true, lt-leb}
+use Rattle.std.proofs.lemmas.Bool.{cases_lt}
 use Rattle.std.proofs.lemmas.List.{drop_more, get_or-drop, get_or-map, get_or-take, get_or_default, length-drop, length-map, length-take, take-append-drop}
 use Rattle.ip_routes.proofs.Elements.{block_node, node_block}
 use Rattle.ip_routes.proofs.Finds.{IsNodeOf, better, beyond}
-use Rattle.ip_routes.specs.Index.{AreLinked, Encloses, IsChosenAt, IsIndex, IsNearest, block_at, block_of, node_at, node_with, place, rank, target_of}
+use Rattle.ip_routes.specs.Index.{AreLinked, Encloses, IsChosenAt, IsIndex, IsNearest, IsSplit, block_at, block_of, node_at, node_with, place, rank, target_of}
 use Rattle.ip_routes.specs.Route.{IsChosen, Leads}
 use Rattle.ip_routes.specs.declared.index.Node.{Node}
 use Rattle.ip_routes.specs.declared.route.Route.{Route}
@@ -88,34 +88,21 @@ chosen blocks nodes addr start found index f some =
       ];
     })
 
--- the test of `partition_point`
-pub leb_from_iff : (r : Bool) (m n : ℕ) → (IsTrue r ↔ (m ≤ n)) → r ≡ leb m n
-leb_from_iff true m n told = sym (le-leb m n (told.0 refl))
-leb_from_iff false m n told = elim (cases_lt n m) [
-  | inl less ↦ sym (lt-leb m n less)
-  | inr more ↦ absurd (false≢true (told.1 more))
-]
-
--- what `partition_point` and the climb tell
+-- what the search for the address and the climb tell
 pub finds : (nodes : List Node) (addr : IpAddress) (target : Node) (start found : ℕ) → target ≡ target_of addr → IsAddress addr → IsNonDecreasingBy place nodes
-    → AreLinked nodes (length nodes) → start ≤ length nodes
-    → IsPartitionPoint (λ n. leb (place n) (place target) ≡ true) (λ n. leb (place n) (place target) ≡ false) nodes start → found ≤ start
+    → AreLinked nodes (length nodes) → start ≤ length nodes → IsSplit nodes start start target → found ≤ start
     → (0 < found → Encloses (node_at nodes (found - 1)) target)
     → (IsNonDecreasingBy place nodes → AreLinked nodes start → ((k : ℕ) → k < start → place (node_at nodes k) ≤ place target)
     → IsNearest nodes found start target)
     → Finds nodes addr start found
-finds nodes addr target start found is octets sorted linked low point within encloses nearest =
-    let d = node_with 0 0 0 0 in
-    record {
-      octets = octets;
-      behind = λ k after below.
-          subst (λ t. place t < place (node_at nodes k)) is (leb-false (place (node_at nodes k)) (place target) (point.1 k d after below));
-      low = low;
-      within = within;
-      encloses = λ some. subst (λ t. Encloses (node_at nodes (found - 1)) t) is (encloses some);
-      nearest = subst (λ t. IsNearest nodes found start t) is (nearest sorted (λ k below. linked k (omega (arith, below, low)))
-          (λ k below. leb-true (place (node_at nodes k)) (place target) (point.0 k d (omega arith) below)));
-    }
+finds nodes addr target start found is octets sorted linked low split within encloses nearest = record {
+  octets = octets;
+  behind = λ k after below. subst (λ t. place t < place (node_at nodes k)) is (split.1 k after below);
+  low = low;
+  within = within;
+  encloses = λ some. subst (λ t. Encloses (node_at nodes (found - 1)) t) is (encloses some);
+  nearest = subst (λ t. IsNearest nodes found start t) is (nearest sorted (λ k below. linked k (omega (arith, below, low))) split.0);
+}
 
 -- ---- routes
 

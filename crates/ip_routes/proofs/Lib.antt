@@ -5,4 +5,5 @@ pub mod Finds
 pub mod Links
 pub mod Places
 pub mod RouteSteps
+pub mod Splits
 mod RoutesOnce

@@ -5,7 +5,8 @@ use Rattle.std.proofs.Math.ListN.{get_or-map}
 use Rattle.std.proofs.Math.Seq.{map-set_same}
 use Rattle.std.proofs.lemmas.Bool.{cases_lt}
 use Rattle.std.proofs.lemmas.List.{length-map}
-use Rattle.ip_routes.specs.Index.{AreLinked, Encloses, IsLink, IsNearest, node_at, node_with, place, rank, unlinked}
+use Rattle.std.proofs.lemmas.Simd.{map-map}
+use Rattle.ip_routes.specs.Index.{AreLinked, Encloses, IsLink, IsNearest, node_at, node_with, place, rank, unlinked, unmarked}
 use Rattle.ip_routes.specs.declared.index.Node.{Node}
 
 -- lists with the same nodes but for their links
@@ -70,3 +71,24 @@ links_more xs i above node within is linked before encloses nearest k below =
           subst (λ k. IsLink ys k (node_at ys k).above) at
           (subst (λ n. IsLink ys i n) (ap (λ (n : Node). n.above) (sym written)) (alike_link xs ys i above alike link))
     ]
+
+-- ---- hints
+
+-- lists with the same nodes but for their hints
+abbrev pub AreUnmarkedAlike : List Node → List Node → Type 0
+AreUnmarkedAlike xs ys = map unmarked xs ≡ map unmarked ys
+
+pub unmarked_alike : (xs ys : List Node) → AreUnmarkedAlike xs ys → AreAlike xs ys
+unmarked_alike xs ys same = sym (map-map unlinked unmarked xs) ∙ ap (map unlinked) same ∙ map-map unlinked unmarked ys
+
+-- they have the same links
+pub unmarked_linked : (xs ys : List Node) (n : ℕ) → AreUnmarkedAlike xs ys → AreLinked xs n → AreLinked ys n
+unmarked_linked xs ys n same linked k below =
+    let d = node_with 0 0 0 0 in
+    let at : unmarked (node_at xs k) ≡ unmarked (node_at ys k) =
+    sym (get_or-map unmarked xs k d) ∙ ap (λ l. get_or l k (unmarked d)) same ∙ get_or-map unmarked ys k d in
+    subst (λ n. IsLink ys k n) (ap (λ (n : Node). n.above) at) (alike_link xs ys k (node_at xs k).above (unmarked_alike xs ys same) (linked k below))
+
+-- another hint changes nothing else
+pub unmarked_set : (xs : List Node) (i hint : ℕ) (node : Node) → node ≡ node_at xs i → AreUnmarkedAlike (set xs i (record node { hint = hint })) xs
+unmarked_set xs i hint node is = map-set_same unmarked xs i (record node { hint = hint }) (node_with 0 0 0 0) (ap unmarked is)

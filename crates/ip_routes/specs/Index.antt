@@ -58,7 +58,8 @@ node_with version bits prefix_len route = record {
   above = 0;
   version = version;
   prefix_len = prefix_len;
-  unused = replicate 6 0;
+  unused = replicate 2 0;
+  hint = 0;
 }
 
 -- the node of a block, without a link: its first address is the prefix, then zeros
@@ -71,8 +72,12 @@ node_of block route =
 abbrev pub target_of : IpAddress → Node
 target_of addr = node_with (version_number addr) (first_bits addr) 129 0
 
+-- without what only helps the search: the hint, and the link too
+abbrev pub unmarked : Node → Node
+unmarked node = record node { hint = 0 }
+
 abbrev pub unlinked : Node → Node
-unlinked node = record node { above = 0 }
+unlinked node = record node { above = 0; hint = 0 }
 
 -- the node at a place; behind the list zeros
 abbrev pub node_at : List Node → ℕ → Node
@@ -86,6 +91,11 @@ place node = node.version * 2 ^ 128 + (node.high * 2 ^ 64 + node.low)
 -- route first
 abbrev pub rank : Node → ℕ
 rank node = (place node * 2 ^ 8 + node.prefix_len) * 2 ^ 32 + (2 ^ 32 - 1 - node.route)
+
+-- the nodes before one place are up to another node, and those from a second place on are behind it
+abbrev pub IsSplit : List Node → ℕ → ℕ → Node → Type 0
+IsSplit nodes low high node = ((k : ℕ) → k < low → place (node_at nodes k) ≤ place node)
+    × ((k : ℕ) → high ≤ k → k < length nodes → place node < place (node_at nodes k))
 
 -- the block of the first node is larger, and contains that of the second
 abbrev pub Encloses : Node → Node → Type 0

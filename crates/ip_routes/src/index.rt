@@ -3,7 +3,7 @@
 ghost use Rattle.std.specs.Prelude.{◌≡◌, ◌↔◌, ◌+◌, ◌-◌, ◌*◌, ◌/◌, ◌%◌, ◌^◌, ◌≤◌, ◌<◌, All, IsTrue, List, MatchOption, ℕ, length, map};
 ghost use Rattle.std.specs.Ordering.{nat_cmp};
 ghost use Rattle.std.specs.List.Sorted.{IsNonDecreasingBy};
-ghost use Rattle.ip_routes.specs.Index.{AreLinked, Encloses, IsBlock, IsChosenAt, IsFilled, IsIndex, IsNearest, block_of, first_bits, node_at, node_of, node_with, place, rank, target_of, unlinked, version_number};
+ghost use Rattle.ip_routes.specs.Index.{AreLinked, Encloses, IsBlock, IsChosenAt, IsFilled, IsIndex, IsNearest, IsSplit, block_of, first_bits, node_at, node_of, node_with, place, rank, target_of, unlinked, unmarked, version_number};
 ghost use Rattle.ip_routes.specs.Route.{IsChosen, Leads};
 ghost use Rattle.ip_wire.specs.IpAddress.{IsAddress};
 ghost use Rattle.ip_wire.specs.IpCidr.{IsIn};
@@ -29,7 +29,9 @@ pub struct Node {
     above: u32,
     version: u8,
     prefix_len: u8,
-    unused: [u8; 6],
+    unused: [u8; 2],
+    // where a search for an address in one part of all addresses may begin
+    hint: u32,
 }
 
 impl Node {
@@ -62,7 +64,8 @@ impl Node {
             above: 0,
             version,
             prefix_len,
-            unused: [0; 6],
+            unused: [0; 2],
+            hint: 0,
         }
     }
 
@@ -92,6 +95,14 @@ impl Node {
         place
             .then(len.cmp(&other_len))
             .then(other_route.cmp(&route))
+    }
+
+    // The part that has its first address, if all addresses are divided into this many: first those of IPv4.
+    fn part(&self, parts: u64) -> u64
+        ensures { result < 2 ^ 32 }
+    {
+        let half = if self.version == 6 { 1 << 31 } else { 0 };
+        (half + (self.high >> 33)).wrapping_mul(parts) >> 32
     }
 
     // Whether its prefix is shorter, and the other block has it too.
@@ -155,6 +166,7 @@ pub fn arrange(nodes: &mut [Node])
 {
     nodes.sort_unstable_by(|a, b| a.by_rank(b));
     link(nodes);
+    mark(nodes);
 }
 
 // Finds the next larger block around each.
@@ -168,6 +180,34 @@ fn link(nodes: &mut [Node])
         let above = climb(nodes, i, &node) as u32;
         nodes[i] = Node { above, ..node };
     }
+}
+
+// Stores for each part of the addresses where its nodes begin. This only saves time.
+fn mark(nodes: &mut [Node])
+    requires { length nodes.old < 2 ^ 32 }
+    ensures { map unmarked nodes.new ≡ map unmarked nodes.old }
+{
+    let mut place = 0;
+    for part in 0..nodes.len() {
+        place = first_in(nodes, place, part);
+        let node = nodes[part];
+        nodes[part] = Node {
+            hint: place as u32,
+            ..node
+        };
+    }
+}
+
+// The first place from this one on whose node is not before a part.
+fn first_in(nodes: &[Node], from: usize, part: usize) -> usize
+    requires { from ≤ length nodes.now }
+    ensures { result ≤ length nodes.now }
+{
+    let mut place = from;
+    while place < nodes.len() && nodes[place].part(nodes.len() as u64) < part as u64 {
+        place += 1;
+    }
+    place
 }
 
 // One more than the place of the last of the nodes before `start` that enclose another, or 0.
@@ -194,6 +234,56 @@ fn climb(nodes: &[Node], start: usize, inner: &Node) -> usize
     0
 }
 
+// Two places around that of an address, which the hints tell: no node before the first is behind the
+// address, and all nodes from the second on are. Both ends of the array if the hints are wrong.
+fn bounds(nodes: &[Node], target: &Node) -> (usize, usize)
+    ensures order { result.0 ≤ result.1 }
+    ensures within { result.1 ≤ length nodes.now }
+    ensures split { IsNonDecreasingBy place nodes.now → IsSplit nodes.now result.0 result.1 target.now }
+{
+    let part = target.part(nodes.len() as u64) as usize;
+    if part + 1 >= nodes.len() {
+        return (0, nodes.len());
+    }
+    let (low, high) = (nodes[part].hint, nodes[part + 1].hint);
+    checked(nodes, low as usize, high as usize, target)
+}
+
+// These two places if they are around that of an address, else both ends.
+fn checked(nodes: &[Node], low: usize, high: usize, target: &Node) -> (usize, usize)
+    ensures order { result.0 ≤ result.1 }
+    ensures within { result.1 ≤ length nodes.now }
+    ensures split { IsNonDecreasingBy place nodes.now → IsSplit nodes.now result.0 result.1 target.now }
+{
+    if low > high || high > nodes.len() {
+        return (0, nodes.len());
+    }
+    if low > 0 && !nodes[low - 1].is_up_to(target) {
+        return (0, nodes.len());
+    }
+    if high < nodes.len() && nodes[high].is_up_to(target) {
+        return (0, nodes.len());
+    }
+    (low, high)
+}
+
+// The number of nodes whose first address is not behind an address.
+fn count_up_to(nodes: &[Node], target: &Node) -> usize
+    ensures within { result ≤ length nodes.now }
+    ensures split { IsNonDecreasingBy place nodes.now → IsSplit nodes.now result result target.now }
+{
+    let (mut low, mut high) = bounds(nodes, target);
+    while low < high {
+        let middle = low + (high - low) / 2;
+        if nodes[middle].is_up_to(target) {
+            low = middle + 1;
+        } else {
+            high = middle;
+        }
+    }
+    low
+}
+
 /// The place of the route with the longest prefix whose block contains the address, and of several the
 /// first. `None` if no block contains it.
 pub fn find(nodes: &[Node], addr: &IpAddress) -> Option<u32>
@@ -201,7 +291,7 @@ pub fn find(nodes: &[Node], addr: &IpAddress) -> Option<u32>
         → MatchOption result (All (λ block. ¬ IsIn block addr.now) blocks) (IsChosenAt blocks addr.now) }
 {
     let target = Node::target(addr);
-    let start = nodes.partition_point(|node| node.is_up_to(&target));
+    let start = count_up_to(nodes, &target);
     match climb(nodes, start, &target) {
         0 => None,
         found => Some(nodes[found - 1].route),

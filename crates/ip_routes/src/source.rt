@@ -1,6 +1,6 @@
 //! The sources that a router accepts (RFC 1812, sections 5.3.7 and 5.3.8; RFC 3704, section 2.2).
 
-ghost use Rattle.std.specs.Prelude.{◌≡◌, ◌↔◌, ◌⊎◌, IsTrue, MatchOption, Option, ℕ, map};
+ghost use Rattle.std.specs.Prelude.{◌↔◌, IsTrue, Option, ℕ, map};
 ghost use Rattle.ip_routes.specs.Index.{IsIndex, block_of};
 ghost use Rattle.ip_routes.specs.Source.{ChecksSource, IsBack, IsMartian};
 

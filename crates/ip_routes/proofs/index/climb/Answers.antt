@@ -1,13 +1,10 @@
-use Rattle.std.proofs.Common.{◌≡◌, ◌-◌, ◌<◌, ◌≤◌, length, get_or, [], arith, ap, subst}
+use Rattle.std.proofs.Common.{◌≡◌, ◌-◌, ◌<◌, ◌≤◌, length, get_or, arith, ap, subst}
 use Rattle.std.proofs.lemmas.List.{get_or_default}
 use Rattle.ip_routes.specs.Index.{Encloses, node_at, node_with}
 use Rattle.ip_routes.specs.declared.index.Node.{Node}
 use Rattle.ip_routes.proofs.Climbs.{climbs}
+use Rattle.ip_routes.proofs.Splits.{unread}
 use Rattle.ip_routes.proofs.index.climb.Goals as goal
-
--- what an index reads behind a list of nodes
-abbrev unread : Node
-unread = record { high = 0; low = 0; route = 0; above = 0; version = 0; prefix_len = 0; unused = [] }
 
 pub loop-from-preserved : goal.loop-from-preserved
 loop-from-preserved c =

@@ -1,40 +1,30 @@
-use Rattle.std.proofs.Common.{rules, ◌-◌, ◌<◌, leb, length, [], subst, arith}
+use Rattle.std.proofs.Common.{◌-◌, ◌<◌, length, subst, arith}
 use Rattle.std.specs.List.Sorted.{IsNonDecreasingBy}
 use Rattle.std.proofs.lemmas.List.{get_or_default}
-use Rattle.std.proofs.lemmas.List.Sorted.{IsPartitionPoint-from_clause, IsPartitionedBy-leb}
-use Rattle.ip_routes.proofs.Chosen.{chosen, finds, leb_from_iff, nothing}
+use Rattle.ip_routes.proofs.Chosen.{chosen, finds, nothing}
 use Rattle.ip_routes.proofs.Elements.{placed}
 use Rattle.ip_routes.specs.Index.{IsChosenAt, node_with, place}
 use Rattle.ip_routes.specs.declared.index.Node.{Node}
+use Rattle.ip_routes.proofs.Splits.{unread}
 use Rattle.ip_routes.proofs.index.find.Goals as goal
-
--- what an index reads behind a list of nodes
-abbrev unread : Node
-unread = record { high = 0; low = 0; route = 0; above = 0; version = 0; prefix_len = 0; unused = [] }
 
 pub returns-in-0 : goal.returns-in-0
 returns-in-0 c blocks index =
     let nodes = c.args.nodes.now in
-    let target = c.target-target.result in
-    let start = c.partition_point-start.result in
+    let start = c.count_up_to-start in
     let sorted : IsNonDecreasingBy place nodes = placed blocks index.made nodes index.filled index.moved index.sorted in
-    let point = IsPartitionPoint-from_clause (λ (n : Node). leb (place n) (place target)) nodes start c.partition_point-start.ensures.partitioned
-    (IsPartitionedBy-leb place nodes (place target) sorted) (λ a r f' k. search (rules, leb_from_iff)) in
-    let f = finds nodes c.args.addr.now target start c.climb.result c.target-target.ensures.value c.target-target.ensures.octets sorted index.linked
-    c.partition_point-start.ensures.bound point c.climb.ensures.within c.climb.ensures.encloses c.climb.ensures.last in
-    nothing blocks nodes c.args.addr.now start c.climb.result index f c.in-0.is
+    let f = finds nodes c.args.addr.now c.target-target.result start.result c.climb.result c.target-target.ensures.value c.target-target.ensures.octets sorted
+    index.linked start.ensures.within (start.ensures.split sorted) c.climb.ensures.within c.climb.ensures.encloses c.climb.ensures.last in
+    nothing blocks nodes c.args.addr.now start.result c.climb.result index f c.in-0.is
 
 pub returns-in_default : goal.returns-in_default
 returns-in_default c blocks index =
     let nodes = c.args.nodes.now in
-    let target = c.target-target.result in
-    let start = c.partition_point-start.result in
+    let start = c.count_up_to-start in
     let sorted : IsNonDecreasingBy place nodes = placed blocks index.made nodes index.filled index.moved index.sorted in
-    let point = IsPartitionPoint-from_clause (λ (n : Node). leb (place n) (place target)) nodes start c.partition_point-start.ensures.partitioned
-    (IsPartitionedBy-leb place nodes (place target) sorted) (λ a r f' k. search (rules, leb_from_iff)) in
-    let f = finds nodes c.args.addr.now target start c.climb.result c.target-target.ensures.value c.target-target.ensures.octets sorted index.linked
-    c.partition_point-start.ensures.bound point c.climb.ensures.within c.climb.ensures.encloses c.climb.ensures.last in
+    let f = finds nodes c.args.addr.now c.target-target.result start.result c.climb.result c.target-target.ensures.value c.target-target.ensures.octets sorted
+    index.linked start.ensures.within (start.ensures.split sorted) c.climb.ensures.within c.climb.ensures.encloses c.climb.ensures.last in
     let some : 0 < c.climb.result = omega (arith, c.in_default) in
     let below : c.climb.result - 1 < length nodes = omega (arith, some, f.within, f.low) in
     let same = get_or_default nodes (c.climb.result - 1) (node_with 0 0 0 0) unread below in
-    subst (λ (n : Node). IsChosenAt blocks c.args.addr.now n.route) same (chosen blocks nodes c.args.addr.now start c.climb.result index f some)
+    subst (λ (n : Node). IsChosenAt blocks c.args.addr.now n.route) same (chosen blocks nodes c.args.addr.now start.result c.climb.result index f some)

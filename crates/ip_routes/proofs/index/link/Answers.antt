@@ -1,13 +1,9 @@
-use Rattle.std.proofs.Common.{◌≡◌, ◌∙◌, ◌<◌, ◌≤◌, length, get_or, [], arith, sym, subst}
+use Rattle.std.proofs.Common.{◌≡◌, ◌∙◌, ◌<◌, ◌≤◌, length, get_or, arith, sym, subst}
 use Rattle.std.proofs.lemmas.List.{get_or_default}
 use Rattle.ip_routes.specs.Index.{node_at, node_with, place}
-use Rattle.ip_routes.specs.declared.index.Node.{Node}
 use Rattle.ip_routes.proofs.Links.{alike_places, alike_set, links_more}
+use Rattle.ip_routes.proofs.Splits.{unread}
 use Rattle.ip_routes.proofs.index.link.Goals as goal
-
--- what an index reads behind a list of nodes
-abbrev unread : Node
-unread = record { high = 0; low = 0; route = 0; above = 0; version = 0; prefix_len = 0; unused = [] }
 
 pub loop-i-preserved : goal.loop-i-preserved
 loop-i-preserved c =

@@ -1,0 +1,9 @@
+use Rattle.std.proofs.Common.{◌≤◌, length}
+use Rattle.ip_routes.proofs.Links.{AreUnmarkedAlike}
+use Rattle.ip_routes.proofs.index.mark.Given as goal
+
+abbrev pub invariant-loop-part : goal.invariant-loop-part
+invariant-loop-part l = record {
+  within : l.place ≤ length l.nodes;
+  same : AreUnmarkedAlike l.nodes l.fn.nodes;
+}
