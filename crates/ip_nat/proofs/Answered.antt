@@ -46,12 +46,12 @@ written nat old new a b p q m inside here is was own =
       | inr apart ↦ record { exists = exists; leads = subst (IsOf inside) (sym (at ∙ other-at nat old a b p q m apart)) was.leads }
     ]
 
-chosen-exists : (nat : Nat) (old : List Mapping) (now : ℕ) (event : Event) (inside remote : Ipv4Endpoint) (port : ℕ) (m : Mapping)
+pub chosen-exists : (nat : Nat) (old : List Mapping) (now : ℕ) (event : Event) (inside remote : Ipv4Endpoint) (port : ℕ) (m : Mapping)
     → Chooses nat old now event inside remote port m → HasPort nat (length old) port
 chosen-exists nat old now event inside remote port m (kept first) = first.holds.exists
 chosen-exists nat old now event inside remote port m (made free first) = first.holds.exists
 
-chosen-leads : (nat : Nat) (old : List Mapping) (now : ℕ) (event : Event) (inside remote : Ipv4Endpoint) (port : ℕ) (m : Mapping)
+pub chosen-leads : (nat : Nat) (old : List Mapping) (now : ℕ) (event : Event) (inside remote : Ipv4Endpoint) (port : ℕ) (m : Mapping)
     → Chooses nat old now event inside remote port m → IsOf inside m
 chosen-leads nat old now event inside remote port m (kept first) = first.holds.leads
 chosen-leads nat old now event inside remote port m (made free first) = (refl, refl)

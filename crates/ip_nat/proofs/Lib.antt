@@ -8,5 +8,7 @@ pub mod TcpEnds
 pub mod Translates
 pub mod UdpEnds
 pub mod Undone
+pub mod WayBack
 pub mod Words
+pub mod Zeros
 pub mod NatOnce

@@ -101,6 +101,10 @@ IsKeptOutside nat old new now frame ZeroPort = LeadsToZero nat old new now frame
 IsKeptOutside nat old new now frame NoMapping = IsUnmappedFrame nat old now frame × (new ≡ old)
 IsKeptOutside nat old new now frame reason = IsRejected frame reason × (new ≡ old)
 
+-- no live mapping leads to port 0
+abbrev pub LeadsToPorts : Nat → List Mapping → ℕ → Type 0
+LeadsToPorts nat mappings now = (protocol : Protocol) (port : ℕ) (inside : Ipv4Endpoint) → MapsTo nat mappings now protocol port inside → inside.port ≢ 0
+
 -- ---- answers
 
 -- the mapping of this port has not expired

@@ -1,7 +1,7 @@
 //! Laws of this crate. A law states a fact about definitions, or about several calls.
 
-ghost use Rattle.std.specs.Prelude.{◌≡◌, IfErr, List, MatchResult, OnOk, ℕ};
-ghost use Rattle.ip_nat.specs.Flows.{IsAnswer};
+ghost use Rattle.std.specs.Prelude.{◌≡◌, ◌≢◌, IfErr, List, MatchResult, OnErr, OnOk, ℕ};
+ghost use Rattle.ip_nat.specs.Flows.{IsAnswer, LeadsToPorts};
 ghost use Rattle.ip_nat.specs.Nat.{HasUsualChecksums, IsPacket, IsTranslated, IsUntranslated, addr_of, port_of};
 ghost use Rattle.ip_nat.specs.declared.nat.Side.TheVariants.{Destination};
 ghost use Rattle.ip_nat.specs.declared.packet.Packet.{Packet};
@@ -44,6 +44,32 @@ pub fn translate_back(
         Side::Source => translate(frame, side, packet.header.src_addr, packet.src_port),
         Side::Destination => translate(frame, side, packet.header.dst_addr, packet.dst_port),
     }
+}
+
+/// A table whose live mappings lead to no port 0, as an empty one, stays so.
+pub fn no_mapping_leads_to_zero(
+    nat: &Nat,
+    mappings: &mut [Mapping],
+    now: u64,
+    frame: &mut [u8],
+) -> Result<(), Rejection>
+    ensures { LeadsToPorts nat.now mappings.old now → LeadsToPorts nat.now mappings.new now }
+{
+    translate_out(nat, mappings, now, frame)
+}
+
+/// With such a table, no frame that comes in is rejected as `ZeroPort`, and a rejected frame does not change the table.
+pub fn no_frame_comes_in_to_zero(
+    nat: &Nat,
+    mappings: &mut [Mapping],
+    now: u64,
+    frame: &mut [u8],
+) -> Result<(), Rejection>
+    ensures keeps { LeadsToPorts nat.now mappings.old now → LeadsToPorts nat.now mappings.new now }
+    ensures reason { LeadsToPorts nat.now mappings.old now → IfErr result (λ reason. reason ≢ Rejection.ZeroPort) }
+    ensures table { LeadsToPorts nat.now mappings.old now → OnErr result (mappings.new ≡ mappings.old) }
+{
+    translate_in(nat, mappings, now, frame)
 }
 
 /// A packet goes out, and an answer comes in to its new source before the mapping expires, whatever passed through the NAT

@@ -42,6 +42,7 @@ impl Packet {
         }
     }
 
+    /// The endpoint that sent it.
     pub fn src(&self) -> Ipv4Endpoint
         ensures { result ≡ source_of self.now }
     {
@@ -51,6 +52,7 @@ impl Packet {
         }
     }
 
+    /// The endpoint that it is for.
     pub fn dst(&self) -> Ipv4Endpoint
         ensures { result ≡ destination_of self.now }
     {

@@ -160,6 +160,80 @@ fn preserves_the_port(rt: HostRuntime) {
     );
 }
 
+/// A packet from 192.0.2.3 port 7000 to the outside port of the first source needs both calls (RFC 4787, REQ-9).
+#[test]
+fn connects_two_inside_hosts(rt: HostRuntime) {
+    let nat = nat(40000);
+    let mut mappings = [Mapping::FREE; 4];
+    let (mut sent, mut outside, mut delivered) = (UDP, UDP, UDP);
+    change(
+        &mut sent,
+        &[
+            (24, 0xa6),
+            (25, 0xca),
+            (29, 0x03),
+            (30, 0xcb),
+            (32, 0x71),
+            (33, 0x09),
+            (34, 0x1b),
+            (35, 0x58),
+            (36, 0x9c),
+            (37, 0x40),
+            (40, 0x6b),
+            (41, 0x5f),
+        ],
+    );
+    change(
+        &mut outside,
+        &[
+            (24, 0x2c),
+            (25, 0xc4),
+            (26, 0xcb),
+            (28, 0x71),
+            (29, 0x09),
+            (30, 0xcb),
+            (32, 0x71),
+            (33, 0x09),
+            (34, 0x9c),
+            (35, 0x41),
+            (36, 0x9c),
+            (37, 0x40),
+            (40, 0x70),
+            (41, 0x6f),
+        ],
+    );
+    change(
+        &mut delivered,
+        &[
+            (24, 0xa6),
+            (25, 0xcc),
+            (26, 0xcb),
+            (28, 0x71),
+            (29, 0x09),
+            (33, 0x01),
+            (34, 0x9c),
+            (35, 0x41),
+            (36, 0xb5),
+            (37, 0xe3),
+            (40, 0xd0),
+            (41, 0xd4),
+        ],
+    );
+    assert!(rt; gives(&nat, &mut mappings, 0, Way::Out, &UDP, Ok(()), &UDP_OUT));
+    assert!(rt; gives(&nat, &mut mappings, 0, Way::Out, &sent, Ok(()), &outside));
+    assert!(rt;
+        gives(
+            &nat,
+            &mut mappings,
+            0,
+            Way::In,
+            &outside,
+            Ok(()),
+            &delivered
+        )
+    );
+}
+
 /// The second source has port 46564 and finds the only outside port in use. Frames that do not go out make no mapping.
 #[test]
 fn keeps_frames_inside(rt: HostRuntime) {

@@ -1,6 +1,6 @@
 use Rattle.std.proofs.Common.{◌≡◌, IfErr, ap, rules, sym}
 use Rattle.std.proofs.lemmas.Result.{IfErr-weaker}
-use Rattle.ip_nat.proofs.NatOnce.{goes-back}
+use Rattle.ip_nat.proofs.WayBack.{goes-back}
 use Rattle.ip_nat.proofs.Translates.{untranslated}
 use Rattle.ip_nat.specs.Nat.{addr_of, on_side}
 use Rattle.ip_nat.proofs.laws.translate_back.Goals as goal
