@@ -613,7 +613,8 @@ struct lk_route_node {
     uint32_t above;
     uint8_t version;
     uint8_t prefix_len;
-    uint8_t unused[6];
+    uint8_t unused[2];
+    uint32_t hint;
 };
 
 /* Writes the index of a list of routes, one node for each, and returns the number of routes. The index is valid as long
