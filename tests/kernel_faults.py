@@ -20,8 +20,8 @@ import time
 
 import kernel_nat
 import kernel_router
-from kernel_client import check, echoed, report, wrong
-from kernel_links import LATEST, SELF, Here, Namespace, WideSide, settle, udp_echo
+from kernel_client import check, report, wrong
+from kernel_links import LATEST, SELF, Here, Namespace, WideSide, udp_echo
 from kernel_nat import INSIDE, OUTSIDE, bound, nat_frames, seen_by
 from kernel_router import (ARP, HARDWARE, HOSTS, MODEL, SERVERS, hostile_frames, make_pairs, random_frames, set_host,
                            start_on_pairs, start_on_taps)

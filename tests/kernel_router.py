@@ -320,6 +320,27 @@ def packed_in(block, number):
     return (inside if number % 4 else number).to_bytes(4, "big")
 
 
+def three_interfaces(room, program):
+    """Packets from each of three interfaces to each of them."""
+    there, hardware = Namespace(), HARDWARE | {"third": bytes.fromhex("02000000aa03")}
+    names = list(enumerate(hardware, 1))
+    config = "".join(f"address 10.{n}.0.1/24 dev {name}\nlladdr {hardware[name].hex(':')} dev {name}\n"
+                     f"route 198.18.{n}.0/24 via 10.{n}.0.9 dev {name}\n"
+                     f"neighbour 10.{n}.0.9 lladdr {ELSEWHERE.hex(':')} dev {name}\n" for n, name in names)
+    router = Program(room, program, config, [f"tap:{name}" for name in hardware])
+    for name in hardware:
+        room.run(f"ip link set {name} netns {there.process}")
+        there.run(f"ip link set {name} up")
+    model = Router(hardware, [(f"10.{n}.0.1/24", name) for n, name in names],
+                   [(f"198.18.{n}.0/24", ELSEWHERE, name) for n, name in names], {})
+    sides = {name: WideSide(there.process, name) for name in hardware}
+    for n, name in names * 4:
+        ends = [(random.choice((n, n, 1)), random.randint(1, 4)) for _ in range(AT_ONCE)]
+        chunk = [packets.packet(random.randbytes(9), src=bytes([198, 18, src, 7]), dst=bytes([198, 18, dst, 8])) for src, dst in ends]
+        send_chunk(sides, name, [hardware[name] + HOSTS["left"] + frame[12:] for frame in chunk], model)
+    router.ends("with three interfaces")
+
+
 BAD_LINES = (
     ("address 10.1.0.1 dev left", "not an address with a prefix length"),
     ("route 10.1.0.0/33 dev left", "not a block"),
@@ -351,6 +372,7 @@ def on_taps(program):
     room, there = Namespace(), Namespace()
     bad_files(room, program)
     many_routes(room, program)
+    three_interfaces(room, program)
     router = start_on_taps(room, there, program)
     server = there.serve(*(address for _, address in SERVERS))
     sides = {"left": WideSide(SELF, "left"), "right": WideSide(there.process, "right")}
