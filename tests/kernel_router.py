@@ -117,7 +117,9 @@ def compare_sides(kind, sides, model=MODEL):
     for name, side in sides.items():
         side.forget()
         if is_complete:
-            compare_lists(kind, expected[name], came_out[name])
+            # The kernel may change the order of frames that two processors send.
+            order = list if any(map(callable, expected[name])) else sorted
+            compare_lists(kind, order(expected[name]), order(came_out[name]))
     return is_complete
 
 
