@@ -237,6 +237,8 @@ int main(int argc, char **argv)
         for (size_t j = 0; j < COUNT(tcp_blocks); j++)
             run_block(&tcp_blocks[j], &headers[i], all);
     run_block(&router_block, NULL, of_router);
+    for (size_t i = 0; i < COUNT(route_blocks); i++)
+        run_block(&route_blocks[i], NULL, (libraries){&ours});
     run_block(&address_block, NULL, of_texts);
     run_texts(of_texts);
     return 0;

@@ -223,3 +223,36 @@ static void prepare_text(const struct row *row)
     lk_parse_block(row->text, row->size, &block);
     endpoint.port = 8080;
 }
+
+/* Routes with the prefix lengths of IPv4 routes in the Internet, roughly, and destinations: half of them in a route. */
+enum { MOST_ROUTES = 1000000, DESTINATIONS = 1 << 16 };
+static struct lk_route routes[MOST_ROUTES];
+static struct lk_route_node nodes[MOST_ROUTES];
+static struct lk_addr destinations[DESTINATIONS];
+
+static struct lk_addr random_ipv4(uint32_t *random)
+{
+    struct lk_addr addr = {.version = 4};
+    for (int i = 0; i < 4; i++) {
+        *random = *random * 1664525 + 1013904223;
+        addr.octets[i] = (uint8_t)(*random >> 24);
+    }
+    addr.octets[0] = (uint8_t)(1 + addr.octets[0] % 223);
+    return addr;
+}
+
+static void prepare_routes(const struct row *row)
+{
+    static const uint8_t lens[16] = {24, 24, 24, 24, 24, 24, 24, 24, 24, 23, 23, 22, 22, 21, 20, 16};
+    uint32_t random = 1;
+    for (size_t i = 0; i < row->size; i++) {
+        struct lk_addr addr = random_ipv4(&random);
+        routes[i] = (struct lk_route){.block = {addr, lens[random >> 20 & 15]}};
+    }
+    for (size_t i = 0; i < DESTINATIONS; i++) {
+        destinations[i] = random_ipv4(&random);
+        if (i % 2)
+            destinations[i] = routes[random % row->size].block.addr;
+    }
+    lk_index_routes(routes, row->size, nodes, row->size);
+}

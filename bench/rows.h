@@ -133,6 +133,19 @@ static uint64_t call_translate(const struct library *library, const struct row *
     return answer;
 }
 
+/* The other libraries have no routes. */
+static uint64_t call_choose_route(const struct library *library, const struct row *row)
+{
+    (void)library;
+    return (uint64_t)lk_choose_route(nodes, row->size, &destinations[next_frame++ % DESTINATIONS]);
+}
+
+static uint64_t call_index_routes(const struct library *library, const struct row *row)
+{
+    (void)library;
+    return (uint64_t)lk_index_routes(routes, row->size, nodes, row->size);
+}
+
 static uint64_t call_contains_ipv4(const struct library *library, const struct row *row)
 {
     static const struct lk_block of_ipv4 = {IPV4(0), 24};
@@ -306,6 +319,12 @@ static const struct row router_rows[] = {
     {"translate TCP/IPv4", prepare_data, call_translate, .computed = 1},
 };
 
+/* Their sizes are numbers of routes. */
+static const struct row choose_rows[] = {{"choose a route", prepare_routes, call_choose_route, .computed = 1}};
+static const size_t choose_counts[] = {1000, 100000, MOST_ROUTES};
+static const struct row index_rows[] = {{"index routes", prepare_routes, call_index_routes, .computed = 1}};
+static const size_t index_counts[] = {1000, 100000};
+
 /* Rows that are timed one after the other, each with each size. */
 struct block {
     const struct row *rows;
@@ -321,4 +340,5 @@ static const struct block packet_blocks[] = {
 };
 static const struct block tcp_blocks[] = {BLOCK(tcp_rows, sizes), BLOCK(option_rows, no_size)};
 static const struct block router_block = BLOCK(router_rows, sizes);
+static const struct block route_blocks[] = {BLOCK(choose_rows, choose_counts), BLOCK(index_rows, index_counts)};
 static const struct block address_block = BLOCK(address_rows, address_counts);
