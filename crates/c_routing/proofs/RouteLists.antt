@@ -108,7 +108,7 @@ written routes old made answer none same index is =
     let front : take (length routes) (made ++ drop (length routes) old) ≡ made = subst (λ n. take n (made ++ drop (length routes) old) ≡ made) same (take-append_seam made _) in
     let behind : drop (length routes) (made ++ drop (length routes) old) ≡ drop (length routes) old =
     subst (λ n. drop n (made ++ drop (length routes) old) ≡ drop (length routes) old) same (drop-append_seam made _) in
-    subst (λ o. MatchOption o (WritesIndex routes old (made ++ drop (length routes) old) answer) (λ why. answer ≡ failure_code why)) (sym none) (record {
+    subst (λ o. MatchOption o (WritesIndex routes old (made ++ drop (length routes) old) answer) (λ why. (answer ≡ failure_code why) × (made ++ drop (length routes) old ≡ old))) (sym none) (record {
       count = is;
       index = subst (IsIndexOf routes) (sym front) (record { blocks = blocks; listed = listed; index = index blocks listed });
       behind = behind;

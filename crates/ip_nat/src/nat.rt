@@ -78,6 +78,7 @@ pub fn translate(
 impl Packet {
     /// Writes an address and a port into the frame that this packet was parsed from, as `translate` does, without
     /// parsing it again. Rejects only a port of 0.
+    #[inline(always)]
     pub fn rewrite(
         &self,
         frame: &mut [u8],
@@ -102,6 +103,7 @@ impl Packet {
 }
 
 // Writes the address and the port into a packet with this header.
+#[inline(always)]
 fn rewrite_packet(header: Ipv4Repr, packet: &mut [u8], side: Side, addr: Ipv4Address, port: u16)
     requires carries { (transport : whole.Transport) × CarriesPorts packet.old header transport }
     ensures carries { (transport : whole.Transport) → AllowsPort side transport port
@@ -118,6 +120,7 @@ fn rewrite_packet(header: Ipv4Repr, packet: &mut [u8], side: Side, addr: Ipv4Add
 }
 
 // Writes the address into an IPv4 packet, and updates the checksum of its header.
+#[inline(always)]
 fn set_addr(packet: &mut [u8], side: Side, addr: Ipv4Address)
     requires { 20 ≤ length packet.old }
     ensures reads { (v : Ipv4Repr) → ipv4.Reads packet.old true v → ipv4.Reads packet.new true (with_addr side addr v) }
@@ -141,6 +144,7 @@ fn set_addr(packet: &mut [u8], side: Side, addr: Ipv4Address)
 }
 
 // Writes the address and the port into the payload of such a packet.
+#[inline(always)]
 fn rewrite_transport(header: Ipv4Repr, payload: &mut [u8], side: Side, addr: Ipv4Address, port: u16)
     requires reads { (transport : whole.Transport) × ReadsTransport all_checked (IpRepr.Ipv4 header) payload.old transport }
     ensures reads { (transport : whole.Transport) → Rewrites header payload.old payload.new side addr port transport }
@@ -153,6 +157,7 @@ fn rewrite_transport(header: Ipv4Repr, payload: &mut [u8], side: Side, addr: Ipv
     }
 }
 
+#[inline(always)]
 fn rewrite_udp(header: Ipv4Repr, bytes: &mut [u8], side: Side, addr: Ipv4Address, port: u16)
     requires len { 8 ≤ length bytes.old }
     ensures reads { (v : UdpRepr) (payload : List ℕ) → Rewrites header bytes.old bytes.new side addr port (whole.datagram v payload) }
@@ -166,6 +171,7 @@ fn rewrite_udp(header: Ipv4Repr, bytes: &mut [u8], side: Side, addr: Ipv4Address
     }
 }
 
+#[inline(always)]
 fn rewrite_tcp(header: Ipv4Repr, bytes: &mut [u8], side: Side, addr: Ipv4Address, port: u16)
     requires len { 20 ≤ length bytes.old }
     ensures reads { (v : TcpHeader) (payload : List ℕ) → Rewrites header bytes.old bytes.new side addr port (whole.segment v payload) }

@@ -29,6 +29,7 @@ pub struct Packet {
 impl Packet {
     /// Parses the packet in a frame, and verifies its checksums. Rejects a frame for the first reason of
     /// `Rejection` that applies, up to `BadTransport`.
+    #[inline(always)]
     pub fn parse(frame: &[u8]) -> Result<Packet, Rejection>
         ensures packet { IfOk result (IsPacket frame.now) }
         ensures rejected { IfErr result (IsRejected frame.now) }
@@ -84,6 +85,7 @@ impl Packet {
     }
 }
 
+#[inline(always)]
 fn parse_packet(bytes: &[u8]) -> Result<Packet, Rejection>
     ensures packet { IfOk result (λ p. (transport : whole.Transport) × CarriesPorts bytes.now p.header transport × Describes p transport) }
     ensures rejected { IfErr result (IsRejectedPacket bytes.now) }
@@ -96,6 +98,7 @@ fn parse_packet(bytes: &[u8]) -> Result<Packet, Rejection>
     parse_transport(&header, packet.payload())
 }
 
+#[inline(always)]
 fn parse_header(bytes: &[u8]) -> Result<Ipv4Repr, Rejection>
     ensures reads { IfOk result (ipv4.Reads bytes.now true) }
     ensures rejected { IfErr result (IsRejectedPacket bytes.now) }
@@ -111,6 +114,7 @@ fn parse_header(bytes: &[u8]) -> Result<Ipv4Repr, Rejection>
 }
 
 // The packet with this IPv4 header and payload.
+#[inline(always)]
 fn parse_transport(header: &Ipv4Repr, payload: &[u8]) -> Result<Packet, Rejection>
     ensures header { IfOk result (λ p. p.header ≡ header.now) }
     ensures packet { IfOk result (λ p. (transport : whole.Transport) × ReadsTransport all_checked (IpRepr.Ipv4 header.now) payload.now transport × HasPorts transport × Describes p transport) }
