@@ -58,7 +58,8 @@ class Declarations(unittest.TestCase):
 
     def test_calls(self):
         plain = {"int": ctypes.c_int, "size_t": ctypes.c_size_t, "ptrdiff_t": ctypes.c_ssize_t, "void": None,
-                 "uint16_t": ctypes.c_uint16, "uint32_t": ctypes.c_uint32, "int32_t": ctypes.c_int32,
+                 "uint16_t": ctypes.c_uint16, "uint32_t": ctypes.c_uint32, "uint64_t": ctypes.c_uint64,
+                 "int32_t": ctypes.c_int32,
                  "const char *": ctypes.c_char_p, "const uint8_t *": ctypes.c_char_p,
                  "char *": ctypes.c_void_p, "uint8_t *": ctypes.c_void_p}  # fmt: skip
 
