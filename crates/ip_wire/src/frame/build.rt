@@ -19,6 +19,7 @@ use wire_udp::UdpRepr;
 impl<'a> Frame<'a> {
     /// A frame with a UDP packet. Protocol and payload length of `header` are filled in. An error for
     /// destination port 0, and for a payload over 65,507 bytes over IPv4 or 65,527 over IPv6.
+    #[inline(always)]
     pub fn udp(
         src_addr: EthernetAddress,
         dst_addr: EthernetAddress,
@@ -35,6 +36,7 @@ impl<'a> Frame<'a> {
     /// A frame with a TCP segment. Protocol and payload length of `header` are filled in. An error for
     /// port 0, for options that take more than 40 bytes, and for a segment over 65,515 bytes over IPv4 or
     /// 65,535 over IPv6.
+    #[inline(always)]
     pub fn tcp(
         src_addr: EthernetAddress,
         dst_addr: EthernetAddress,
@@ -65,6 +67,7 @@ impl<'a> Frame<'a> {
     /// protocol; `Transport::Other` keeps the protocol of `header`. An error for what would not be parsed
     /// again: `Unread`, an `Other` of protocol 6 or 17, a TCP port 0, a UDP destination port 0, a payload
     /// or TCP options that are too long.
+    #[inline(always)]
     pub fn packet(
         src_addr: EthernetAddress,
         dst_addr: EthernetAddress,
@@ -95,6 +98,7 @@ impl<'a> Frame<'a> {
 
 // Whether a packet with this header can carry the transport: no port is 0 that must not be, and bytes of
 // another protocol do not name UDP or TCP.
+#[inline(always)]
 fn can_name(header: &IpRepr, inner: &Transport<'_>) -> bool
     ensures { IsTrue result ↔ NamesTransport (header_before header.now (protocol_before header.now inner.now) (transport_len inner.now)) inner.now }
 {
@@ -110,6 +114,7 @@ fn can_name(header: &IpRepr, inner: &Transport<'_>) -> bool
 }
 
 // The protocol of a transport; other bytes keep that of the header.
+#[inline(always)]
 fn protocol(header: &IpRepr, inner: &Transport<'_>) -> IpProtocol
     ensures { result ≡ protocol_before header.now inner.now }
 {

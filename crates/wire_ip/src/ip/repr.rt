@@ -157,18 +157,19 @@ impl IpRepr {
     pub fn before(self, next_header: IpProtocol, payload_len: usize) -> IpRepr
         ensures { result ≡ header_before self next_header payload_len }
     {
-        match self {
-            IpRepr::Ipv4(header) => IpRepr::Ipv4(Ipv4Repr {
-                next_header,
-                payload_len,
-                ..header
-            }),
-            IpRepr::Ipv6(header) => IpRepr::Ipv6(Ipv6Repr {
-                next_header,
-                payload_len,
-                ..header
-            }),
+        // In place: a value that is rebuilt by version is copied field by field.
+        let mut header = self;
+        match &mut header {
+            IpRepr::Ipv4(value) => {
+                value.next_header = next_header;
+                value.payload_len = payload_len;
+            }
+            IpRepr::Ipv6(value) => {
+                value.next_header = next_header;
+                value.payload_len = payload_len;
+            }
         }
+        header
     }
 
     /// The hop limit, or the time to live of IPv4.
