@@ -5,6 +5,7 @@ pub mod HexDigits
 pub mod Ipv6
 pub mod Joined
 pub mod Numbers
+pub mod Pairs
 pub mod Pieces
 pub mod Readers
 pub mod Rejections

@@ -23,7 +23,7 @@ const HEX_DIGITS: [u8; 256] = [
 
 /// The value of a hex digit, and 16 for any other byte. It takes fewer steps than `char::to_digit`.
 #[inline(always)]
-fn hex_digit(byte: u8) -> u32
+pub(crate) fn hex_digit(byte: u8) -> u32
     ensures { result ≡ min 16 (digit_value byte) }
 {
     HEX_DIGITS[byte as usize] as u32

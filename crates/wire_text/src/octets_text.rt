@@ -1,11 +1,11 @@
 //! Octets joined by a mark.
 
-ghost use Rattle.std.specs.Prelude.{◌≡◌, ◌≤◌, ◌<◌, length};
+ghost use Rattle.std.specs.Prelude.{◌≡◌, ◌≤◌, ◌<◌, ◌∷◌, [], true, IfSome, length};
 ghost use Rattle.std.specs.Char.{digit_value};
-ghost use Rattle.wire_text.specs.Grammar.{IsDotted, IsHexOctets, IsHexText, Reads};
+ghost use Rattle.wire_text.specs.Grammar.{IsDotted, IsHexOctets, IsHexText, IsNumber, Reads};
 ghost use Rattle.wire_text.specs.Reading.{FilledFrom, numbers_of, octets_read, pieces_of};
 
-use crate::number_text::first_piece;
+use crate::number_text::{first_piece, hex_digit};
 
 /// Fills `values` from numbers joined by the mark. Returns whether the text has exactly that many.
 #[inline(always)]
@@ -48,10 +48,58 @@ fn hex_octets_joined(text: &[u8], mark: u8) -> Option<[u8; 6]>
     fill(text, mark, 16, 2, &mut octets).then_some(octets)
 }
 
+/// The value of two hex digits, and whether both bytes are digits.
+#[inline(always)]
+fn two_digits(high: u8, low: u8) -> (u8, bool)
+    ensures { result.1 ≡ true → IsNumber 16 2 255 (high ∷ low ∷ []) result.0 }
+{
+    let (high, low) = (hex_digit(high), hex_digit(low));
+    (((high * 16 + low) % 256) as u8, (high < 16) & (low < 16))
+}
+
+/// The octets of six pairs of hex digits joined by this mark, the usual form; one test covers all bytes.
+#[inline(always)]
+fn six_pairs(text: &[u8; 17], mark: u8) -> Option<[u8; 6]>
+    ensures { IfSome result (λ octets. IsHexOctets mark text.now octets) }
+{
+    let marks = (text[2] == mark)
+        & (text[5] == mark)
+        & (text[8] == mark)
+        & (text[11] == mark)
+        & (text[14] == mark);
+    let (a, a_holds) = two_digits(text[0], text[1]);
+    let (b, b_holds) = two_digits(text[3], text[4]);
+    let (c, c_holds) = two_digits(text[6], text[7]);
+    let (d, d_holds) = two_digits(text[9], text[10]);
+    let (e, e_holds) = two_digits(text[12], text[13]);
+    let (f, f_holds) = two_digits(text[15], text[16]);
+    let all = marks & a_holds & b_holds & c_holds & d_holds & e_holds & f_holds;
+    all.then_some([a, b, c, d, e, f])
+}
+
+/// The octets of a text of six pairs.
+#[inline(always)]
+fn pairs(text: &[u8]) -> Option<[u8; 6]>
+    ensures { IfSome result (λ octets. IsHexText text.now octets) }
+{
+    let chunk = text.first_chunk::<17>()?;
+    if text.len() > 17 {
+        return None;
+    }
+    if text[2] == b'-' {
+        six_pairs(chunk, b'-')
+    } else {
+        six_pairs(chunk, b':')
+    }
+}
+
 /// The octets of six hex numbers, joined all by dashes or all by colons.
 pub fn hex_octets(text: &[u8]) -> Option<[u8; 6]>
     ensures { Reads IsHexText text.now result }
 {
+    if let Some(octets) = pairs(text) {
+        return Some(octets);
+    }
     if let Some(octets) = hex_octets_joined(text, b'-') {
         Some(octets)
     } else {
