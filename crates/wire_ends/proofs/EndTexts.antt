@@ -1,5 +1,5 @@
 -- Texts of addresses, blocks and endpoints of either version: which ones are rejected, and that each has one value.
-use Rattle.std.proofs.Common.{◌≡◌, ◌≢◌, ℕ, List, [], ◌∷◌, ◌++◌, ◌≤◌, Option, Some, Result, Err, MatchOption, Bor, length, take, drop, refl, sym, ap, ◌∙◌, subst, arith, lit≤, inl, inr, take_at, length-append}
+use Rattle.std.proofs.Common.{◌≡◌, ◌≢◌, ℕ, List, [], ◌∷◌, ◌++◌, ◌≤◌, Option, Some, Result, Ok, Err, MatchOption, Bor, length, take, drop, refl, sym, ap, ◌∙◌, subst, arith, lit≤, ◌⊎◌, inl, inr, take_at, length-append}
 use Rattle.std.specs.Net.Grammar.{Parses}
 use Rattle.std.specs.Option.{ok_or}
 use Rattle.std.specs.Result.{IsErr}
@@ -9,7 +9,7 @@ use Rattle.wire_addr.specs.Printed.{ipv6_text}
 use Rattle.wire_addr.specs.Read.{ReadsIpv4, ReadsIpv6}
 use Rattle.wire_addr.proofs.BlockTexts.{one_block}
 use Rattle.wire_addr.proofs.Readings.{ipv4_once, ipv6_once, not_both}
-use Rattle.wire_ends.specs.Endpoint.{ReadsEndpoint, ReadsHost, bracketed, endpoint_text, host_text}
+use Rattle.wire_ends.specs.Endpoint.{IsWithPort, ReadsEndpoint, ReadsHost, bracketed, endpoint_text, host_text}
 use Rattle.wire_ends.specs.IpAddress.{ReadsAddress, address_text}
 use Rattle.wire_ends.specs.IpCidr.{ReadsCidr}
 use Rattle.wire_ends.specs.declared.ip_address.IpAddress.{IpAddress}
@@ -65,27 +65,32 @@ no_inner_host text inner e none (ip.Ipv6 octets) h =
 
 -- ---- endpoints
 
--- a text that is no address and does not end in a port is no endpoint
-pub no_port_text : {E F : Type 0} (text : List ℕ) (found : Option (Bor (List ℕ) × ℕ)) (e u : E) (result : Result IpEndpoint F) → Err e ≡ ok_or found u → MatchOption found ((front : List ℕ) (n : ℕ) → ¬ (EndsInNumber 58 5 65535 text front n)) (λ f. EndsInNumber 58 5 65535 text f.0.now f.1) → ((addr : IpAddress) → ¬ (ReadsAddress text addr)) → IsErr result → Parses ReadsEndpoint text result
-no_port_text text found e u result same h alone failed =
+-- a text that does not end in a port has none
+pub no_port_text : {E F : Type 0} (text : List ℕ) (found : Option (Bor (List ℕ) × ℕ)) (e u : E) (result : Result IpEndpoint F) → Err e ≡ ok_or found u → MatchOption found ((front : List ℕ) (n : ℕ) → ¬ (EndsInNumber 58 5 65535 text front n)) (λ f. EndsInNumber 58 5 65535 text f.0.now f.1) → IsErr result → Parses IsWithPort text result
+no_port_text text found e u result same h failed =
     let none = was_none _ _ found e u same h in
-    rejected ReadsEndpoint text result failed (λ endpoint.
-    elim [
-      | inl k ↦ alone endpoint.addr k.0
-      | inr k ↦ none k.host_text endpoint.port k.port
-    ])
+    rejected IsWithPort text result failed (λ endpoint k. none k.host_text endpoint.port k.port)
 
--- a text that is no address, and whose front is no host, is no endpoint
-pub no_host_text : {F : Type 0} (text : List ℕ) (found : Option (Bor (List ℕ) × ℕ)) (front : Bor (List ℕ)) (n : ℕ) (result : Result IpEndpoint F) → found ≡ Some (front, n) → MatchOption found ((front : List ℕ) (n : ℕ) → ¬ (EndsInNumber 58 5 65535 text front n)) (λ f. EndsInNumber 58 5 65535 text f.0.now f.1) → ((addr : IpAddress) → ¬ (ReadsAddress text addr)) → ((addr : IpAddress) → ¬ (ReadsHost front.now addr)) → IsErr result → Parses ReadsEndpoint text result
-no_host_text text found front n result same h alone none failed =
+-- nor one whose front is no host
+pub no_host_text : {F : Type 0} (text : List ℕ) (found : Option (Bor (List ℕ) × ℕ)) (front : Bor (List ℕ)) (n : ℕ) (result : Result IpEndpoint F) → found ≡ Some (front, n) → MatchOption found ((front : List ℕ) (n : ℕ) → ¬ (EndsInNumber 58 5 65535 text front n)) (λ f. EndsInNumber 58 5 65535 text f.0.now f.1) → ((addr : IpAddress) → ¬ (ReadsHost front.now addr)) → IsErr result → Parses IsWithPort text result
+no_host_text text found front n result same h none failed =
     let ends = was_some _ _ found (front, n) same h in
-    rejected ReadsEndpoint text result failed (λ endpoint.
-    elim [
-      | inl k ↦ alone endpoint.addr k.0
-      | inr k ↦
-          let (here, _) = ends_once 58 5 65535 (lit≤ tt) text k.host_text front.now endpoint.port n k.port ends in
-          none endpoint.addr (subst (λ t. ReadsHost t endpoint.addr) here k.host)
-    ])
+    rejected IsWithPort text result failed (λ endpoint k.
+    let (here, _) = ends_once 58 5 65535 (lit≤ tt) text k.host_text front.now endpoint.port n k.port ends in
+    none endpoint.addr (subst (λ t. ReadsHost t endpoint.addr) here k.host))
+
+-- an address alone, with port 0
+abbrev pub IsAlone : List ℕ → IpEndpoint → Type 0
+IsAlone text endpoint = ReadsAddress text endpoint.addr × (endpoint.port ≡ 0)
+
+-- a text is parsed as one form if it is not the other
+pub first_form : {A E : Type 0} (R S : List ℕ → A → Type 0) (text : List ℕ) (result : Result A E) → ((a : A) → ¬ (S text a)) → Parses R text result → Parses (λ t a. R t a ⊎ S t a) text result
+first_form R S text (Ok a) none h = inl h
+first_form R S text (Err e) none h = λ a. elim [ inl r ↦ h a r | inr s ↦ none a s ]
+
+pub second_form : {A E : Type 0} (R S : List ℕ → A → Type 0) (text : List ℕ) (result : Result A E) → ((a : A) → ¬ (R text a)) → Parses S text result → Parses (λ t a. R t a ⊎ S t a) text result
+second_form R S text (Ok a) none h = inr h
+second_form R S text (Err e) none h = λ a. elim [ inl r ↦ none a r | inr s ↦ h a s ]
 
 -- ---- printed
 

@@ -4,7 +4,8 @@ ghost use Rattle.std.specs.Prelude.{◌≡◌, ◌≢◌, ℕ, List, MatchOption
 ghost use Rattle.std.specs.Net.Grammar.{Parses};
 ghost use Rattle.std.specs.Net.Socket.{IsPlainSocket};
 ghost use Rattle.std.specs.declared.net.socket_addr.SocketAddr.TheVariants.{V4, V6};
-ghost use Rattle.wire_ends.specs.Endpoint.{IsAtPair, ReadsEndpoint, ReadsHost, bracketed, endpoint_at, endpoint_text};
+ghost use Rattle.wire_ends.specs.Endpoint.{IsAtPair, IsWithPort, ReadsEndpoint, ReadsHost, bracketed, endpoint_at, endpoint_text};
+ghost use Rattle.wire_ends.specs.IpAddress.{ReadsAddress};
 ghost use Rattle.wire_ends.specs.StdNet.{endpoint_of};
 
 use crate::IpAddress;
@@ -35,11 +36,20 @@ impl IpEndpoint {
     pub fn parse_ascii(text: &[u8]) -> Result<IpEndpoint, ()>
         ensures { Parses ReadsEndpoint text.now result }
     {
-        if let Ok(addr) = IpAddress::parse_ascii(text) {
-            return Ok(IpEndpoint::new(addr, 0));
+        // Tries the likely form first. An IPv4 address alone has at most 15 bytes.
+        let is_dotted = text.len() > 15
+            && ((text[1] == b'.') | (text[2] == b'.') | (text[3] == b'.'));
+        if is_dotted || text.first() == Some(&b'[') {
+            match with_port(text) {
+                Ok(endpoint) => Ok(endpoint),
+                Err(()) => alone(text),
+            }
+        } else {
+            match alone(text) {
+                Ok(endpoint) => Ok(endpoint),
+                Err(()) => with_port(text),
+            }
         }
-        let (address, port) = number_behind(text, b':', 5, 65535).ok_or(())?;
-        Ok(IpEndpoint::new(host(address)?, port as u16))
     }
 
     /// The printed text: the address, `:` and the port in decimal. An IPv6 address is in brackets (RFC 5952,
@@ -133,6 +143,24 @@ fn host(text: &[u8]) -> Result<IpAddress, ()>
     match in_brackets(text) {
         Some(inner) => Ok(IpAddress::Ipv6(Ipv6Address::parse_ascii(inner)?)),
         None => Ok(IpAddress::Ipv4(Ipv4Address::parse_ascii(text)?)),
+    }
+}
+
+/// Parses an address, `:` and a port.
+fn with_port(text: &[u8]) -> Result<IpEndpoint, ()>
+    ensures { Parses IsWithPort text.now result }
+{
+    let (address, port) = number_behind(text, b':', 5, 65535).ok_or(())?;
+    Ok(IpEndpoint::new(host(address)?, port as u16))
+}
+
+/// Parses an address without a port.
+fn alone(text: &[u8]) -> Result<IpEndpoint, ()>
+    ensures { Parses (λ text endpoint. ReadsAddress text endpoint.addr × (endpoint.port ≡ 0)) text.now result }
+{
+    match IpAddress::parse_ascii(text) {
+        Ok(addr) => Ok(IpEndpoint::new(addr, 0)),
+        Err(()) => Err(()),
     }
 }
 

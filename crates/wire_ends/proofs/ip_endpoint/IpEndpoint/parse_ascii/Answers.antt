@@ -1,10 +1,9 @@
-use Rattle.wire_ends.proofs.EndTexts.{no_host_text, no_port_text}
+use Rattle.wire_ends.proofs.EndTexts.{IsAlone, first_form, second_form}
+use Rattle.wire_ends.specs.Endpoint.{IsWithPort}
 use Rattle.wire_ends.proofs.ip_endpoint.IpEndpoint.parse_ascii.Goals as goal
 
-pub returns-in_err-address : goal.returns-in_err-address
-returns-in_err-address c =
-    no_port_text c.args.text.now _ _ _ _ c.in_err-address.ensures.value c.number_behind.ensures.value c.in_default.ensures c.from_residual.ensures.0
+pub returns-in-Err : goal.returns-in-Err
+returns-in-Err c = first_form IsAlone IsWithPort c.args.text.now c.alone.result c.in-Err.ensures c.alone.ensures
 
-pub returns-in_err-host : goal.returns-in_err-host
-returns-in_err-host c =
-    no_host_text c.args.text.now _ _ _ _ c.in_ok-address.ensures.ok_part c.number_behind.ensures.value c.in_default.ensures c.in_err-host.ensures c.from_residual-in_err-host.ensures.0
+pub returns-in-Err-alone : goal.returns-in-Err-alone
+returns-in-Err-alone c = second_form IsAlone IsWithPort c.args.text.now c.with_port-in-Err-alone.result c.in-Err-alone.ensures c.with_port-in-Err-alone.ensures
