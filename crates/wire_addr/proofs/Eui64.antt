@@ -7,7 +7,7 @@ use Rattle.std.specs.Prelude.{slice_range}
 use Rattle.wire_addr.specs.Hardware.{with_local_inverted}
 
 -- an array of six as its items
-six_items : (octets : List ℕ) → length octets ≡ 6
+pub six_items : (octets : List ℕ) → length octets ≡ 6
     → octets ≡ get_or octets 0 0 ∷ get_or octets 1 0 ∷ get_or octets 2 0 ∷ get_or octets 3 0 ∷ get_or octets 4 0 ∷ get_or octets 5 0 ∷ []
 six_items octets six = text_from_reads octets _ six (refl, (refl, (refl, (refl, (refl, (refl, tt))))))
 

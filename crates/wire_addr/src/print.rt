@@ -1,28 +1,15 @@
 //! The parts of printed addresses, appended to a string of fixed capacity.
 
-ghost use Rattle.std.specs.Prelude.{◌≡◌, ◌+◌, ◌*◌, ◌/◌, ◌%◌, ◌<◌, ◌≤◌, [], ◌∷◌, ◌++◌, decimal, drop, length};
-ghost use Rattle.std.specs.Char.{digit_char};
+ghost use Rattle.std.specs.Prelude.{◌≡◌, ◌+◌, ◌*◌, ◌/◌, ◌%◌, ◌≤◌, [], ◌∷◌, ◌++◌, decimal, drop, length, take};
 ghost use Rattle.std.specs.Str.{IsAscii};
 ghost use Rattle.arrayvec.specs.ArrayString.{array_string_len};
-ghost use Rattle.wire_addr.specs.Printed.{WritesAt, colon_hex, dotted, hex, hex_byte};
+ghost use Rattle.wire_addr.specs.Printed.{WritesAt, colon_hex, dotted, hex};
 
+use crate::tables::{decimal_dots, hex_pair};
 use arrayvec::ArrayString;
 
-/// The lower-case digit of a number.
-fn hex_digit(n: u16) -> u8
-    requires { n < 16 }
-    ensures value { result ≡ digit_char n }
-    ensures ascii { result < 128 }
-{
-    if n < 10 {
-        b'0' + n as u8
-    } else {
-        b'a' + (n - 10) as u8
-    }
-}
-
 /// Appends ASCII bytes. There must be room, here and below.
-fn push_ascii<const CAP: usize>(text: &mut ArrayString<CAP>, bytes: &[u8])
+pub(crate) fn push_ascii<const CAP: usize>(text: &mut ArrayString<CAP>, bytes: &[u8])
     requires ascii { IsAscii bytes.now }
     requires room { array_string_len text.old + length bytes.now ≤ CAP }
     ensures bytes { text.new.bytes ≡ text.old.bytes ++ bytes.now }
@@ -81,18 +68,51 @@ pub(crate) fn write_dotted(out: &mut [u8], octets: [u8; 4]) -> usize
     write_decimal(out, dot, d)
 }
 
+/// Appends the first bytes of some ASCII bytes. There must be room for all of them.
+#[inline(always)]
+fn push_front<const CAP: usize>(text: &mut ArrayString<CAP>, bytes: &[u8], len: usize)
+    requires ascii { IsAscii bytes.now }
+    requires front { len ≤ length bytes.now }
+    requires room { array_string_len text.old + length bytes.now ≤ CAP }
+    ensures bytes { text.new.bytes ≡ text.old.bytes ++ take len bytes.now }
+    ensures len { array_string_len text.new ≡ array_string_len text.old + len }
+{
+    let end = text.len() + len;
+    push_ascii(text, bytes);
+    text.truncate(end);
+}
+
+/// The number of decimal digits.
+#[inline(always)]
+fn decimal_len(n: u8) -> usize
+    ensures len { result ≡ length (decimal n) }
+    ensures most { result ≤ 3 }
+{
+    match n {
+        100.. => 3,
+        10.. => 2,
+        _ => 1,
+    }
+}
+
 /// Appends a number in decimal.
+#[inline(always)]
 fn push_decimal<const CAP: usize>(text: &mut ArrayString<CAP>, n: u8)
     requires { array_string_len text.old + 3 ≤ CAP }
     ensures bytes { text.new.bytes ≡ text.old.bytes ++ decimal n }
     ensures len { array_string_len text.new ≤ array_string_len text.old + 3 }
 {
-    let digits = decimal_digits(n);
-    match n {
-        100.. => push_ascii(text, &digits),
-        10.. => push_ascii(text, &digits[1..]),
-        _ => push_ascii(text, &digits[2..]),
-    }
+    push_front(text, &decimal_dots(n)[..3], decimal_len(n));
+}
+
+/// Appends a number in decimal and a `.`.
+#[inline(always)]
+fn push_decimal_dot<const CAP: usize>(text: &mut ArrayString<CAP>, n: u8)
+    requires { array_string_len text.old + 4 ≤ CAP }
+    ensures bytes { text.new.bytes ≡ text.old.bytes ++ decimal n ++ 46 ∷ [] }
+    ensures len { array_string_len text.new ≤ array_string_len text.old + 4 }
+{
+    push_front(text, &decimal_dots(n), decimal_len(n) + 1);
 }
 
 /// Appends four decimal numbers joined by `.`.
@@ -101,23 +121,10 @@ pub(crate) fn push_dotted<const CAP: usize>(text: &mut ArrayString<CAP>, octets:
     ensures { text.new.bytes ≡ text.old.bytes ++ dotted octets }
 {
     let [a, b, c, d] = octets;
-    push_decimal(text, a);
-    text.push_str(".");
-    push_decimal(text, b);
-    text.push_str(".");
-    push_decimal(text, c);
-    text.push_str(".");
+    push_decimal_dot(text, a);
+    push_decimal_dot(text, b);
+    push_decimal_dot(text, c);
     push_decimal(text, d);
-}
-
-/// Appends an octet as two hex digits.
-pub(crate) fn push_hex_byte<const CAP: usize>(text: &mut ArrayString<CAP>, octet: u8)
-    requires { array_string_len text.old + 2 ≤ CAP }
-    ensures bytes { text.new.bytes ≡ text.old.bytes ++ hex_byte octet }
-    ensures len { array_string_len text.new ≡ array_string_len text.old + 2 }
-{
-    let octet = u16::from(octet);
-    push_ascii(text, &[hex_digit(octet / 16), hex_digit(octet % 16)]);
 }
 
 /// Appends a group in hex with no leading zeros.
@@ -126,12 +133,9 @@ fn push_hex<const CAP: usize>(text: &mut ArrayString<CAP>, group: u16)
     ensures bytes { text.new.bytes ≡ text.old.bytes ++ hex group }
     ensures len { array_string_len text.new ≤ array_string_len text.old + 4 }
 {
-    let digits = [
-        hex_digit(group / 0x1000),
-        hex_digit(group / 0x100 % 16),
-        hex_digit(group / 0x10 % 16),
-        hex_digit(group % 16),
-    ];
+    let (a, b) = hex_pair((group / 0x100) as u8);
+    let (c, d) = hex_pair((group % 0x100) as u8);
+    let digits = [a, b, c, d];
     match group {
         0x1000.. => push_ascii(text, &digits),
         0x100.. => push_ascii(text, &digits[1..]),
