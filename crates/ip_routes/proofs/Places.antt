@@ -60,6 +60,22 @@ same_prefix n s v w x y x_fits y_fits = (
       (sym (prefix_of n s v x) ∙ same ∙ prefix_of n s w y),
 )
 
+-- the first 64 bits of a number of 128, or fewer
+pub first_word : (n h l : ℕ) → n ≤ 64 → l < 2 ^ 64 → (h * 2 ^ 64 + l) / 2 ^ (128 - n) ≡ h / 2 ^ (64 - n)
+first_word n h l few l_fits =
+    let e : 128 - n ≡ 64 + (64 - n) = omega (arith, few) in
+    let high : (h * 2 ^ 64 + l) / 2 ^ 64 ≡ h = omega (arith, l_fits) in
+    ap (λ s. (h * 2 ^ 64 + l) / 2 ^ s) e ∙ sym (shr-shr (h * 2 ^ 64 + l) 64 (64 - n)) ∙ ap (λ v. v / 2 ^ (64 - n)) high
+
+-- numbers of 128 bits have the same prefix of more than 64 exactly if they have the same first word and the rest is the same in the second
+pub both_words : (n h k l m : ℕ) → 64 < n → l < 2 ^ 64 → m < 2 ^ 64
+    → ((h ≡ k) × (l / 2 ^ (128 - n) ≡ m / 2 ^ (128 - n))) ↔ ((h * 2 ^ 64 + l) / 2 ^ (128 - n) ≡ (k * 2 ^ 64 + m) / 2 ^ (128 - n))
+both_words n h k l m many l_fits m_fits =
+    let s = 128 - n in
+    let e : 64 - s + s ≡ 64 = omega (arith, many) in
+    let P : ℕ → Type 0 = λ w. l < 2 ^ w → m < 2 ^ w → ((h ≡ k) × (l / 2 ^ s ≡ m / 2 ^ s)) ↔ ((h * 2 ^ w + l) / 2 ^ s ≡ (k * 2 ^ w + m) / 2 ^ s) in
+    subst P e (same_prefix (64 - s) s h k l m) l_fits m_fits
+
 -- a number between two with one prefix has it too
 pub between : (d x y z : ℕ) → 0 < d → x ≤ y → y ≤ z → x / d ≡ z / d → y / d ≡ x / d
 between d x y z pos low high same =

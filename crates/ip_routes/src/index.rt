@@ -97,33 +97,56 @@ impl Node {
             .then(other_route.cmp(&route))
     }
 
-    // The part that has its first address, if all addresses are divided into this many: first those of IPv4.
-    fn part(&self, parts: u64) -> u64
-        ensures { result < 2 ^ 32 }
+    // Its first address among all addresses, first those of IPv4, as if there were 2^64 of them.
+    fn fraction(&self) -> u64 {
+        let half = if self.version == 6 { 1 << 63 } else { 0 };
+        half + (self.high >> 1)
+    }
+
+    // The number of first bits that the first addresses have in common.
+    fn common_bits(&self, other: &Node) -> u32 {
+        (self.bits() ^ other.bits()).leading_zeros()
+    }
+
+    // The 64 bits of its first address behind these.
+    fn behind(&self, shift: u32) -> u64
+        requires { shift < 128 }
     {
-        let half = if self.version == 6 { 1 << 31 } else { 0 };
-        (half + (self.high >> 33)).wrapping_mul(parts) >> 32
+        ((self.bits() << shift) >> 64) as u64
+    }
+
+    // Whether it has these first bits in common with another, and is in one of the first `count` divisions.
+    fn is_before(&self, other: &Node, bits: u32, divisions: usize, count: usize) -> bool
+        requires { bits < 128 }
+    {
+        self.common_bits(other) >= bits && share(self.behind(bits), divisions) < count
     }
 
     // Whether its prefix is shorter, and the other block has it too.
     fn encloses(&self, inner: &Node) -> bool
         ensures { IsTrue result ↔ Encloses self.now inner.now }
     {
-        let (bits, inner_bits) = (self.bits(), inner.bits());
-        self.prefix_len < inner.prefix_len
-            && self.version == inner.version
-            && prefix(bits, self.prefix_len) == prefix(inner_bits, self.prefix_len)
+        self.prefix_len < inner.prefix_len && self.leads(inner)
     }
-}
 
-// The first `prefix_len` of 128 bits, as a number.
-fn prefix(bits: u128, prefix_len: u8) -> u128
-    ensures { result ≡ bits / 2 ^ (128 - prefix_len) }
-{
-    match prefix_len {
-        0 => 0,
-        1..=127 => bits >> (128 - prefix_len),
-        _ => bits,
+    // Whether the first address of the other block begins with its prefix.
+    fn leads(&self, other: &Node) -> bool
+        ensures { IsTrue result ↔ (place self.now / 2 ^ (128 - self.now.prefix_len) ≡ place other.now / 2 ^ (128 - self.now.prefix_len)) }
+    {
+        let len = self.prefix_len;
+        let (high, other_high) = (self.high, other.high);
+        let (low, other_low) = (self.low, other.low);
+        if self.version != other.version {
+            false
+        } else if len == 0 {
+            true
+        } else if len <= 64 {
+            let zeros = 64 - len;
+            high >> zeros == other_high >> zeros
+        } else {
+            let zeros = 128u8.saturating_sub(len);
+            high == other_high && low >> zeros == other_low >> zeros
+        }
     }
 }
 
@@ -182,32 +205,110 @@ fn link(nodes: &mut [Node])
     }
 }
 
-// Stores for each part of the addresses where its nodes begin. This only saves time.
+// Stores where a search may begin. This only saves time. All addresses are divided into equal parts, and
+// the first hints tell where the nodes of each part begin. A part of many nodes has some of the other hints.
 fn mark(nodes: &mut [Node])
     requires { length nodes.old < 2 ^ 32 }
     ensures { map unmarked nodes.new ≡ map unmarked nodes.old }
 {
-    let mut place = 0;
-    for part in 0..nodes.len() {
-        place = first_in(nodes, place, part);
+    let parts = parts(nodes.len());
+    let bits = shift_bits(nodes.len());
+    let mut low = 0;
+    for part in 0..parts {
+        let high = first_behind(nodes, low, part);
+        let shift = mark_part(nodes, low, high);
         let node = nodes[part];
         nodes[part] = Node {
+            hint: (low as u32) << bits | shift,
+            ..node
+        };
+        low = high;
+    }
+}
+
+// The first place from this one on whose node is behind a part.
+fn first_behind(nodes: &[Node], from: usize, part: usize) -> usize
+    requires { from ≤ length nodes.now }
+    ensures order { from ≤ result }
+    ensures within { result ≤ length nodes.now }
+{
+    let parts = parts(nodes.len());
+    let mut place = from;
+    while place < nodes.len() && share(nodes[place].fraction(), parts) <= part {
+        place += 1;
+    }
+    place
+}
+
+// Stores in the hints of the part with these nodes where those of each division of it begin, if it has more
+// than a few nodes and these are not too much alike. Returns the number of first bits that its nodes have in
+// common, but for one of 16 at each end: the bits behind these choose the division of a node that begins with
+// them. The most that a hint can tell stands for nodes that are too much alike.
+fn mark_part(nodes: &mut [Node], low: usize, high: usize) -> u32
+    requires order { low ≤ high }
+    requires within { (high ≤ length nodes.old) × (length nodes.old < 2 ^ 32) }
+    ensures { map unmarked nodes.new ≡ map unmarked nodes.old }
+{
+    if high - low <= FEW {
+        return 0;
+    }
+    let others = (high - low) / 16;
+    let usual = nodes[low + others];
+    let shift = usual.common_bits(&nodes[high - 1 - others]);
+    let most = (1 << shift_bits(nodes.len())) - 1;
+    if shift >= most {
+        return most;
+    }
+    let first = parts(nodes.len()) + low / 4;
+    let count = high / 4 - low / 4;
+    let mut place = first_alike(nodes, low, high, &usual, shift);
+    for i in 0..count {
+        while place < high && nodes[place].is_before(&usual, shift, count, i) {
+            place += 1;
+        }
+        let node = nodes[first + i];
+        nodes[first + i] = Node {
             hint: place as u32,
             ..node
         };
     }
+    shift
 }
 
-// The first place from this one on whose node is not before a part.
-fn first_in(nodes: &[Node], from: usize, part: usize) -> usize
-    requires { from ≤ length nodes.now }
-    ensures { result ≤ length nodes.now }
+// The first place from this one on whose node has these first bits in common with another.
+fn first_alike(nodes: &[Node], from: usize, high: usize, other: &Node, bits: u32) -> usize
+    requires order { from ≤ high }
+    requires within { high ≤ length nodes.now }
+    ensures { result ≤ high }
 {
     let mut place = from;
-    while place < nodes.len() && nodes[place].part(nodes.len() as u64) < part as u64 {
+    while place < high && nodes[place].common_bits(other) < bits {
         place += 1;
     }
     place
+}
+
+// A part with no more nodes has no hints of its own.
+const FEW: usize = 8;
+
+// The number of parts. There is a hint for each, and one for every four nodes.
+fn parts(len: usize) -> usize
+    ensures { result ≡ len - len / 4 }
+{
+    len - len / 4
+}
+
+// The number of bits of a part's hint that tell which bits choose the division.
+fn shift_bits(len: usize) -> u32
+    ensures { result ≤ 7 }
+{
+    len.leading_zeros().saturating_sub(32).min(7)
+}
+
+// The part of a number below 2^64, if these numbers are divided into so many equal parts.
+fn share(number: u64, count: usize) -> usize {
+    let product = u128::from(number).wrapping_mul(count as u128);
+    (product >> 64) as usize
 }
 
 // One more than the place of the last of the nodes before `start` that enclose another, or 0.
@@ -241,30 +342,65 @@ fn bounds(nodes: &[Node], target: &Node) -> (usize, usize)
     ensures within { result.1 ≤ length nodes.now }
     ensures split { IsNonDecreasingBy place nodes.now → IsSplit nodes.now result.0 result.1 target.now }
 {
-    let part = target.part(nodes.len() as u64) as usize;
-    if part + 1 >= nodes.len() {
+    let parts = parts(nodes.len());
+    let part = share(target.fraction(), parts);
+    if part >= parts.saturating_sub(1) {
         return (0, nodes.len());
     }
-    let (low, high) = (nodes[part].hint, nodes[part + 1].hint);
-    checked(nodes, low as usize, high as usize, target)
-}
-
-// These two places if they are around that of an address, else both ends.
-fn checked(nodes: &[Node], low: usize, high: usize, target: &Node) -> (usize, usize)
-    ensures order { result.0 ≤ result.1 }
-    ensures within { result.1 ≤ length nodes.now }
-    ensures split { IsNonDecreasingBy place nodes.now → IsSplit nodes.now result.0 result.1 target.now }
-{
+    let bits = shift_bits(nodes.len());
+    let (hint, next) = (nodes[part].hint, nodes[part + 1].hint);
+    let (low, high) = ((hint >> bits) as usize, (next >> bits) as usize);
     if low > high || high > nodes.len() {
         return (0, nodes.len());
     }
+    let most = (1 << bits) - 1;
+    let shift = hint & most;
+    if high - low > FEW && shift != most {
+        let (inner_low, inner_high) = division(nodes, low, high, target, shift);
+        if splits(nodes, inner_low, inner_high, target) {
+            return (inner_low, inner_high);
+        }
+    }
+    if splits(nodes, low, high, target) {
+        (low, high)
+    } else {
+        (0, nodes.len())
+    }
+}
+
+// The places around that of an address, which the hints of the part with these nodes tell.
+fn division(nodes: &[Node], low: usize, high: usize, target: &Node, shift: u32) -> (usize, usize)
+    requires many { low + 8 < high }
+    requires within { high ≤ length nodes.now }
+    requires shift { shift < 128 }
+{
+    let first = parts(nodes.len()) + low / 4;
+    let last = high / 4 - low / 4 - 1;
+    let i = share(target.behind(shift), last + 1);
+    if i < last {
+        let (low, high) = (nodes[first + i].hint, nodes[first + i + 1].hint);
+        (low as usize, high as usize)
+    } else {
+        (nodes[first + last].hint as usize, high)
+    }
+}
+
+// Whether these two places are around that of an address.
+fn splits(nodes: &[Node], low: usize, high: usize, target: &Node) -> bool
+    ensures order { IsTrue result → low ≤ high }
+    ensures within { IsTrue result → high ≤ length nodes.now }
+    ensures split { IsTrue result → IsNonDecreasingBy place nodes.now → IsSplit nodes.now low high target.now }
+{
+    if low > high || high > nodes.len() {
+        return false;
+    }
     if low > 0 && !nodes[low - 1].is_up_to(target) {
-        return (0, nodes.len());
+        return false;
     }
     if high < nodes.len() && nodes[high].is_up_to(target) {
-        return (0, nodes.len());
+        return false;
     }
-    (low, high)
+    true
 }
 
 // The number of nodes whose first address is not behind an address.

@@ -174,6 +174,27 @@ fn finds_what_the_linear_choice_finds(rt: HostRuntime) {
     assert!(rt; found < 2000);
 }
 
+/// Few nodes are found by the hints of the parts alone, more by the hints of a division.
+#[test]
+fn finds_the_same_in_a_table_of_any_size(rt: HostRuntime) {
+    let mut state = 0x2545_f491_4f6c_dd1d;
+    let mut routes = [route("", "", 0); 48];
+    for (i, route) in routes.iter_mut().enumerate() {
+        route.block = near_block(next(&mut state));
+        route.interface = i as u16;
+    }
+    for size in 0..=routes.len() {
+        let (routes, _) = routes.split_at(size);
+        let mut nodes = [Node::new(&IpCidr::new(IpAddress::v4(0, 0, 0, 0), 0), 0); 48];
+        let (nodes, _) = nodes.split_at_mut(size);
+        index(routes, nodes);
+        for _ in 0..20 {
+            let addr = near(next(&mut state));
+            assert!(rt; choose_by_index(routes, nodes, &addr) == choose(routes, &addr));
+        }
+    }
+}
+
 #[test]
 fn accepts_the_sources_that_a_route_leads_back_to(rt: HostRuntime) {
     let martian = Some(SourceFault::Martian);

@@ -4,6 +4,6 @@ use Rattle.ip_routes.proofs.index.mark.Given as goal
 
 abbrev pub invariant-loop-part : goal.invariant-loop-part
 invariant-loop-part l = record {
-  within : l.place ≤ length l.nodes;
+  within : l.low ≤ length l.nodes;
   same : AreUnmarkedAlike l.nodes l.fn.nodes;
 }

@@ -2,11 +2,11 @@ use Rattle.std.proofs.Common.{ℕ, ◌-◌, ◌<◌, ◌≤◌, length, get_or, 
 use Rattle.std.proofs.lemmas.Bool.{cases_lt}
 use Rattle.ip_routes.specs.Index.{node_at, place}
 use Rattle.ip_routes.proofs.Splits.{split_before, split_behind, unread}
-use Rattle.ip_routes.proofs.index.checked.Goals.{else-low-gt0-via-then-low-gt0+else-not-is_up_to, else-low-gt0-via-else-low-gt0, else-high-nodes-2-via-then-high-nodes-2+else-is_up_to, else-high-nodes-2-via-else-high-nodes-2}
-use Rattle.ip_routes.proofs.index.checked.Goals as goal
+use Rattle.ip_routes.proofs.index.splits.Goals.{else-low-gt0-via-then-low-gt0+else-not-is_up_to, else-low-gt0-via-else-low-gt0, else-high-nodes-2-via-then-high-nodes-2+else-is_up_to, else-high-nodes-2-via-else-high-nodes-2}
+use Rattle.ip_routes.proofs.index.splits.Goals as goal
 
 pub returns-clause-split : goal.returns-clause-split
-returns-clause-split c sorted =
+returns-clause-split c t sorted =
     let nodes = c.args.nodes.now in
     let target = c.args.target.now in
     let low = c.args.low in
