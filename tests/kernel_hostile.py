@@ -81,6 +81,8 @@ def opened(wire, port, options=b"", window=1000):
             wire.sock.send(wire.frame(TCP, segment(port, ack, own, ACK, window=window)))
             return ack, own
         wire.sock.send(wire.frame(TCP, segment(port, ack, 0, RST)))
+        # What was the answer to an earlier segment may still be on its way, as may be the numbers in it.
+        time.sleep(0.1)
     check("SYN and ACK", False, (port, ack, flags))
     return 0, 0
 
