@@ -357,6 +357,8 @@ impl fmt::Display for Ipv6Address {
     ghost output = { λ octets. Some (ipv6_text octets) };
 
     fn fmt<W: fmt::Write>(&self, f: &mut fmt::Formatter<W>) -> fmt::Result {
-        f.write_str(self.text().as_str())
+        let mut text = ArrayString::<39>::new();
+        self.push_to(&mut text);
+        f.write_str(text.as_str())
     }
 }
