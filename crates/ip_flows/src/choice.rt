@@ -41,7 +41,7 @@ fn maps_to(
         return false;
     }
     let mapping = &mappings[nat.place(protocol, port)];
-    now < mapping.expires && mapping.is_of(inside)
+    mapping.is_of(inside) && now < mapping.expires
 }
 
 // Returns `true` if the outside port has no live mapping.

@@ -77,7 +77,7 @@ impl Mapping {
     pub(crate) fn is_of(&self, inside: &Ipv4Endpoint) -> bool
         ensures { IsTrue result ↔ IsOf inside.now self.now }
     {
-        self.inside == inside.addr.octets() && self.inside_port == inside.port
+        self.inside_port == inside.port && self.inside == inside.addr.octets()
     }
 
     // Returns `true` if this is the remote endpoint.
