@@ -148,7 +148,7 @@ def with_checksums(frame):
     """The frame with a computed UDP or TCP checksum."""
     packet = Packet(frame)
     least = {17: 8, 6: 20}.get(packet.protocol) if packet.is_whole and packet.version == 4 and not packet.is_fragment else None
-    if least is None or len(packet.payload) < least or random.random() < 0.1:
+    if least is None or len(packet.payload) < least:
         return frame
     return translated(frame, SOURCE, packet.ends[SOURCE], port_of(packet, SOURCE))
 
@@ -182,7 +182,7 @@ def nat_frames(model):
                 frame = frame[:30] + model.outside.packed + frame[34:]
                 at = 14 + packet.header_len + 2
                 frame = with_header(frame[:at] + port.to_bytes(2, "big") + frame[at + 2 :], packet.header_len)
-            yield with_checksums(frame)
+            yield frame if random.random() < 0.1 else with_checksums(frame)
     return make
 
 
@@ -202,12 +202,18 @@ def compare_random(nat, sides, count, model):
 
 
 def learn_from(model, sides):
-    """Opens the mappings of frames that are not compared."""
+    """Opens the mappings of frames that are not compared. The kernel may have left their checksums to the device."""
     model.is_complete &= settle(*sides.values())
     for frame in sides["left"].handed:
-        model.fate(frame, "left")
+        model.fate(with_checksums(frame), "left")
     for side in sides.values():
         side.handed, side.came_out = [], []
+
+
+def free_ports(model):
+    """Eight outside ports, from which no mapping leads inside."""
+    taken = {port for _, port in model.inside}
+    return random.sample([port for port in range(FIRST_PORT, 65536) if port not in taken], 8)
 
 
 def bound(kind, source):
@@ -254,9 +260,9 @@ def tcp(sides, model):
     learn_from(model, sides)
 
 
-def mappings():
+def mappings(ports):
     """Both servers see one endpoint, and with the port of the host if it is free (RFC 4787, REQ-1; RFC 5382, REQ-1)."""
-    for port in (5000, 5001, 40000):
+    for port in ports:
         with bound(socket.SOCK_DGRAM, (INSIDE[0], port)) as first, bound(socket.SOCK_DGRAM, (INSIDE[1], port)) as second:
             for server in SERVERS:
                 check("port that is kept", seen_by(first, server) == (OUTSIDE, port), port)
@@ -269,21 +275,22 @@ def mappings():
         check("one port for two hosts", len(others) == 1 and others != {(OUTSIDE, port)}, others)
 
 
-def from_outside(nat, there):
+def from_outside(ports, nat, there):
     """Any server reaches an outside port that leads inside (endpoint-independent filtering), and no other port."""
-    before = nat.counters()
-    with bound(socket.SOCK_DGRAM, (INSIDE[0], 5100)) as sock:
-        check("port that is kept", seen_by(sock, SERVERS[0]) == (OUTSIDE, 5100))
+    (port, other), before = ports, nat.counters()
+    with bound(socket.SOCK_DGRAM, (INSIDE[0], port)) as sock:
+        check("port that is kept", seen_by(sock, SERVERS[0]) == (OUTSIDE, port), port)
         with there.entered(), bound(socket.SOCK_DGRAM, (SERVERS[1], 5555)) as server:
-            server.sendto(b"unasked", (OUTSIDE, 5100))
-            server.sendto(b"lost", (OUTSIDE, 5102))
+            server.sendto(b"unasked", (OUTSIDE, port))
+            server.sendto(b"lost", (OUTSIDE, other))
         check("from another server", sock.recvfrom(99) == (b"unasked", (SERVERS[1], 5555)))
     compare_counters(nat, before, ["LK_NO_MAPPING"])
 
 
-def hairpin():
+def hairpin(ports):
     """Two hosts inside reach each other by their outside endpoints, which they see too (RFC 4787, REQ-9)."""
-    with bound(socket.SOCK_DGRAM, (INSIDE[0], 5200)) as first, bound(socket.SOCK_DGRAM, (INSIDE[1], 5200)) as second:
+    of_udp, of_server, of_client = ports
+    with bound(socket.SOCK_DGRAM, (INSIDE[0], of_udp)) as first, bound(socket.SOCK_DGRAM, (INSIDE[1], of_udp)) as second:
         ends = [seen_by(first, SERVERS[0]), seen_by(second, SERVERS[0])]
         for n in range(50):
             data = random.randbytes(n)
@@ -291,14 +298,14 @@ def hairpin():
             check("hairpin", second.recvfrom(99) == (data, ends[0]), n)
             second.sendto(data, ends[0])
             check("hairpin", first.recvfrom(99) == (data, ends[1]), n)
-    with bound(socket.SOCK_STREAM, (INSIDE[1], 5300)) as server:
-        place = seen_connection((INSIDE[1], 5300), SERVERS[0])
+    with bound(socket.SOCK_STREAM, (INSIDE[1], of_server)) as server:
+        place = seen_connection((INSIDE[1], of_server), SERVERS[0])
         server.listen()
-        with bound(socket.SOCK_STREAM, (INSIDE[0], 5301)) as sock:
+        with bound(socket.SOCK_STREAM, (INSIDE[0], of_client)) as sock:
             sock.connect(place)
             own = server.accept()
             sock.sendall(b"x" * 1000)
-            check("hairpin", own[1] == (OUTSIDE, 5301) and own[0].recv(2000) == b"x" * 1000, own[1])
+            check("hairpin", own[1] == (OUTSIDE, of_client) and own[0].recv(2000) == b"x" * 1000, own[1])
             own[0].close()
 
 
@@ -329,8 +336,11 @@ def on_taps(program):
     tcp(sides, model)
     for _ in range(2):  # the second time many mappings are there
         compare_random(nat, sides, RANDOM_FRAMES // 2, model)
-    for exchange, place in ((mappings, ()), (from_outside, (nat, there)), (hairpin, ()), (not_translated, (nat,))):
-        exchange(*place)
+    ports = free_ports(model)
+    mappings(ports[:3])
+    from_outside(ports[3:5], nat, there)
+    hairpin(ports[5:])
+    not_translated(nat)
     no_errors(there)
     nat.ends("of a NAT")
     server.kill()
@@ -354,7 +364,7 @@ def on_sockets(program):
     tcp_at_once(socket.AF_INET, SERVERS[1])
     learn_from(model, sides)
     compare_random(nat, sides, RANDOM_FRAMES // 4, model.but(least=60))
-    hairpin()
+    hairpin(free_ports(model)[:3])
     no_errors(there)
     nat.ends("of a NAT on packet sockets")
     server.kill()
