@@ -1,6 +1,6 @@
 //! Endpoints: an address with a port.
 
-ghost use Rattle.std.specs.Prelude.{◌≡◌, ◌≢◌, ℕ, List, MatchOption, Some};
+ghost use Rattle.std.specs.Prelude.{◌≡◌, ◌≢◌, [], ℕ, List, MatchOption, Some};
 ghost use Rattle.std.specs.Net.Grammar.{Parses};
 ghost use Rattle.std.specs.Net.Socket.{IsPlainSocket};
 ghost use Rattle.std.specs.declared.net.socket_addr.SocketAddr.TheVariants.{V4, V6};
@@ -58,6 +58,16 @@ impl IpEndpoint {
         ensures { result.bytes ≡ endpoint_text self.now }
     {
         let mut text = ArrayString::new();
+        self.push_to(&mut text);
+        text
+    }
+
+    // Appends the printed text. There must be room.
+    #[inline(always)]
+    fn push_to(&self, text: &mut ArrayString<47>)
+        requires { text.old.bytes ≡ [] }
+        ensures { text.new.bytes ≡ endpoint_text self.now }
+    {
         match self.addr {
             IpAddress::Ipv4(addr) => text.push_str(addr.text().as_str()),
             IpAddress::Ipv6(addr) => {
@@ -68,7 +78,6 @@ impl IpEndpoint {
         }
         text.push_str(":");
         text.push_str(Buffer::new().format(self.port));
-        text
     }
 }
 
@@ -122,7 +131,9 @@ impl fmt::Display for IpEndpoint {
     ghost output = { λ endpoint. Some (endpoint_text endpoint) };
 
     fn fmt<W: fmt::Write>(&self, f: &mut fmt::Formatter<W>) -> fmt::Result {
-        f.write_str(self.text().as_str())
+        let mut text = ArrayString::new();
+        self.push_to(&mut text);
+        f.write_str(text.as_str())
     }
 }
 
