@@ -30,7 +30,7 @@ pub struct Node {
     version: u8,
     prefix_len: u8,
     unused: [u8; 2],
-    // where a search for an address in one part of all addresses may begin
+    // where a search may begin: `mark` tells for which addresses
     hint: u32,
 }
 
@@ -206,24 +206,32 @@ fn link(nodes: &mut [Node])
 }
 
 // Stores where a search may begin. This only saves time. All addresses are divided into equal parts, and
-// the first hints tell where the nodes of each part begin. A part of many nodes has some of the other hints.
+// the first hints tell where the nodes of each part begin, and which bits choose a division of it. A part of
+// many nodes has some of the other hints, which tell where the nodes of each division begin.
 fn mark(nodes: &mut [Node])
     requires { length nodes.old < 2 ^ 32 }
     ensures { map unmarked nodes.new ≡ map unmarked nodes.old }
 {
     let parts = parts(nodes.len());
     let bits = shift_bits(nodes.len());
+    for place in parts..nodes.len() {
+        set_hint(nodes, place, 0);
+    }
     let mut low = 0;
     for part in 0..parts {
         let high = first_behind(nodes, low, part);
         let shift = mark_part(nodes, low, high);
-        let node = nodes[part];
-        nodes[part] = Node {
-            hint: (low as u32) << bits | shift,
-            ..node
-        };
+        set_hint(nodes, part, (low as u32) << bits | shift);
         low = high;
     }
+}
+
+fn set_hint(nodes: &mut [Node], place: usize, hint: u32)
+    requires { place < length nodes.old }
+    ensures { map unmarked nodes.new ≡ map unmarked nodes.old }
+{
+    let node = nodes[place];
+    nodes[place] = Node { hint, ..node };
 }
 
 // The first place from this one on whose node is behind a part.
@@ -243,7 +251,7 @@ fn first_behind(nodes: &[Node], from: usize, part: usize) -> usize
 // Stores in the hints of the part with these nodes where those of each division of it begin, if it has more
 // than a few nodes and these are not too much alike. Returns the number of first bits that its nodes have in
 // common, but for one of 16 at each end: the bits behind these choose the division of a node that begins with
-// them. The most that a hint can tell stands for nodes that are too much alike.
+// them. The most that a hint can tell stands for nodes that are too much alike, and 0 for few nodes.
 fn mark_part(nodes: &mut [Node], low: usize, high: usize) -> u32
     requires order { low ≤ high }
     requires within { (high ≤ length nodes.old) × (length nodes.old < 2 ^ 32) }
@@ -266,11 +274,7 @@ fn mark_part(nodes: &mut [Node], low: usize, high: usize) -> u32
         while place < high && nodes[place].is_before(&usual, shift, count, i) {
             place += 1;
         }
-        let node = nodes[first + i];
-        nodes[first + i] = Node {
-            hint: place as u32,
-            ..node
-        };
+        set_hint(nodes, first + i, place as u32);
     }
     shift
 }

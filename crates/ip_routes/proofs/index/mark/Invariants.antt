@@ -2,6 +2,9 @@ use Rattle.std.proofs.Common.{◌≤◌, length}
 use Rattle.ip_routes.proofs.Links.{AreUnmarkedAlike}
 use Rattle.ip_routes.proofs.index.mark.Given as goal
 
+abbrev pub invariant-loop-place : goal.invariant-loop-place
+invariant-loop-place l = AreUnmarkedAlike l.nodes l.fn.nodes
+
 abbrev pub invariant-loop-part : goal.invariant-loop-part
 invariant-loop-part l = record {
   within : l.low ≤ length l.nodes;
