@@ -36,10 +36,8 @@ impl IpEndpoint {
     pub fn parse_ascii(text: &[u8]) -> Result<IpEndpoint, ()>
         ensures { Parses ReadsEndpoint text.now result }
     {
-        // Tries the likely form first. An IPv4 address alone has at most 15 bytes.
-        let is_dotted = text.len() > 15
-            && ((text[1] == b'.') | (text[2] == b'.') | (text[3] == b'.'));
-        if is_dotted || text.first() == Some(&b'[') {
+        // The likely form is tried first.
+        if seems_to_have_a_port(text) {
             match with_port(text) {
                 Ok(endpoint) => Ok(endpoint),
                 Err(()) => alone(text),
@@ -62,7 +60,7 @@ impl IpEndpoint {
         text
     }
 
-    // Appends the printed text. There must be room.
+    // Writes the printed text into an empty string.
     #[inline(always)]
     fn push_to(&self, text: &mut ArrayString<47>)
         requires { text.old.bytes ≡ [] }
@@ -155,6 +153,21 @@ fn host(text: &[u8]) -> Result<IpAddress, ()>
         Some(inner) => Ok(IpAddress::Ipv6(Ipv6Address::parse_ascii(inner)?)),
         None => Ok(IpAddress::Ipv4(Ipv4Address::parse_ascii(text)?)),
     }
+}
+
+/// Whether the text begins with a bracket, or as an IPv4 address and has a colon near its end.
+fn seems_to_have_a_port(text: &[u8]) -> bool {
+    let len = text.len();
+    if len < 8 {
+        return false;
+    }
+    let is_dotted = (text[1] == b'.') | (text[2] == b'.') | (text[3] == b'.');
+    let has_colon = (text[len - 2] == b':')
+        | (text[len - 3] == b':')
+        | (text[len - 4] == b':')
+        | (text[len - 5] == b':')
+        | (text[len - 6] == b':');
+    text[0] == b'[' || is_dotted & has_colon
 }
 
 /// Parses an address, `:` and a port.
