@@ -1,6 +1,6 @@
 //! Octets joined by a mark.
 
-ghost use Rattle.std.specs.Prelude.{◌≡◌, ◌≤◌, ◌<◌, ◌∷◌, [], true, IfSome, length};
+ghost use Rattle.std.specs.Prelude.{◌≡◌, ◌↔◌, ◌≤◌, ◌<◌, ◌∷◌, [], true, IsTrue, length};
 ghost use Rattle.std.specs.Char.{digit_value};
 ghost use Rattle.wire_text.specs.Grammar.{IsDotted, IsHexOctets, IsHexText, IsNumber, Reads};
 ghost use Rattle.wire_text.specs.Reading.{FilledFrom, numbers_of, octets_read, pieces_of};
@@ -51,17 +51,21 @@ fn hex_octets_joined(text: &[u8], mark: u8) -> Option<[u8; 6]>
 /// The value of two hex digits, and whether both bytes are digits.
 #[inline(always)]
 fn two_digits(high: u8, low: u8) -> (u8, bool)
-    ensures { result.1 ≡ true → IsNumber 16 2 255 (high ∷ low ∷ []) result.0 }
+    ensures value { result.1 ≡ true → IsNumber 16 2 255 (high ∷ low ∷ []) result.0 }
+    ensures digits { digit_value high < 16 → digit_value low < 16 → result.1 ≡ true }
 {
     let (high, low) = (hex_digit(high), hex_digit(low));
     (((high * 16 + low) % 256) as u8, (high < 16) & (low < 16))
 }
 
-/// The octets of six pairs of hex digits joined by this mark, the usual form; one test covers all bytes.
+/// The octets of six pairs of hex digits joined by this mark; one test covers all bytes but the first.
 #[inline(always)]
 fn six_pairs(text: &[u8; 17], mark: u8) -> Option<[u8; 6]>
-    ensures { IfSome result (λ octets. IsHexOctets mark text.now octets) }
+    ensures { Reads (IsHexOctets mark) text.now result }
 {
+    if hex_digit(text[0]) > 15 {
+        return None;
+    }
     let marks = (text[2] == mark)
         & (text[5] == mark)
         & (text[8] == mark)
@@ -77,28 +81,36 @@ fn six_pairs(text: &[u8; 17], mark: u8) -> Option<[u8; 6]>
     all.then_some([a, b, c, d, e, f])
 }
 
-/// The octets of a text of six pairs.
+/// The octets of a text of 17 bytes, the usual form: each of the six numbers has two digits.
 #[inline(always)]
-fn pairs(text: &[u8]) -> Option<[u8; 6]>
-    ensures { IfSome result (λ octets. IsHexText text.now octets) }
+fn pairs(text: &[u8; 17]) -> Option<[u8; 6]>
+    ensures { Reads IsHexText text.now result }
 {
-    let chunk = text.first_chunk::<17>()?;
-    if text.len() > 17 {
-        return None;
-    }
     if text[2] == b'-' {
-        six_pairs(chunk, b'-')
+        six_pairs(text, b'-')
     } else {
-        six_pairs(chunk, b':')
+        six_pairs(text, b':')
     }
+}
+
+/// Whether the text is longer than six numbers of two digits with five marks.
+#[inline(always)]
+fn is_too_long(text: &[u8]) -> bool
+    ensures { IsTrue result ↔ (17 < length text.now) }
+{
+    text.len() > 17
 }
 
 /// The octets of six hex numbers, joined all by dashes or all by colons.
 pub fn hex_octets(text: &[u8]) -> Option<[u8; 6]>
     ensures { Reads IsHexText text.now result }
 {
-    if let Some(octets) = pairs(text) {
-        return Some(octets);
+    if let Some(chunk) = text.first_chunk::<17>() {
+        return if is_too_long(text) {
+            None
+        } else {
+            pairs(chunk)
+        };
     }
     if let Some(octets) = hex_octets_joined(text, b'-') {
         Some(octets)
