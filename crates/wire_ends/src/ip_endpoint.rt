@@ -156,21 +156,26 @@ fn host(text: &[u8]) -> Result<IpAddress, ()>
 }
 
 /// Whether the text begins with a bracket, or as an IPv4 address and has a colon near its end.
+#[inline(always)]
 fn seems_to_have_a_port(text: &[u8]) -> bool {
     let len = text.len();
     if len < 8 {
         return false;
     }
     let is_dotted = (text[1] == b'.') | (text[2] == b'.') | (text[3] == b'.');
-    let has_colon = (text[len - 2] == b':')
-        | (text[len - 3] == b':')
-        | (text[len - 4] == b':')
-        | (text[len - 5] == b':')
-        | (text[len - 6] == b':');
-    text[0] == b'[' || is_dotted & has_colon
+    if (text[0] <= b'9') & is_dotted {
+        (text[len - 2] == b':')
+            | (text[len - 3] == b':')
+            | (text[len - 4] == b':')
+            | (text[len - 5] == b':')
+            | (text[len - 6] == b':')
+    } else {
+        text[0] == b'['
+    }
 }
 
 /// Parses an address, `:` and a port.
+#[inline(always)]
 fn with_port(text: &[u8]) -> Result<IpEndpoint, ()>
     ensures { Parses IsWithPort text.now result }
 {
@@ -179,6 +184,7 @@ fn with_port(text: &[u8]) -> Result<IpEndpoint, ()>
 }
 
 /// Parses an address without a port.
+#[inline(always)]
 fn alone(text: &[u8]) -> Result<IpEndpoint, ()>
     ensures { Parses (λ text endpoint. ReadsAddress text endpoint.addr × (endpoint.port ≡ 0)) text.now result }
 {
