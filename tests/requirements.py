@@ -2,8 +2,8 @@
 """Checks docs/REQUIREMENTS.md against the sources: tests/requirements.py [TOP]
 
 Each statement and test that the tables name must exist, and each row must name one. Each wrong body must have its control.
-Also, no library may name what allocates. What is wrong is printed, and the status is 1 then. TOP is the top of the
-repository.
+Also, no library may name what allocates, each public type of the libraries for Rattle must have Debug, and the crates above
+`ip_wire` name none below it. What is wrong is printed, and the status is 1 then. TOP is the top of the repository.
 """
 import glob
 import itertools
@@ -17,6 +17,10 @@ DOCUMENT = "docs/REQUIREMENTS.md"
 # The crates and files of test functions, by the first word of their names in the tables.
 TESTS = {name: name + "_tests" for name in ("wire", "use")} | {"frames": "ip_frames"}
 LIBRARY = re.compile(r"net_base|ip_wire|wire_\w+")
+# The libraries whose types a Rattle program uses: those of `wire_*` through `ip_wire`.
+SHOWN = re.compile(r"net_base|ip_(?!wire_c)\w+")
+# The crates that use the layer through `ip_wire` and `net_base` only.
+ABOVE = re.compile(r"ip_(?!wire\b)\w+|use_tests")
 # A function that allocates is given an allocator, and returns one of these types.
 ALLOCATES = re.compile(r"\b(alloc|AllocError|HostRuntime|Vec|String|Box|Rc|Arc)\b")
 
@@ -149,6 +153,31 @@ def allocations(sources):
                     yield f"{module.file}:{number}: {found.group()}: a library takes no memory"
 
 
+def types_without_debug(sources):
+    """The public types of `net_base`, `ip_wire` and the crates above them that neither derive nor implement Debug."""
+    shown, types = set(), {}
+    for crate in sources.crates.values():
+        for path, module in crate.modules.items():
+            for item in module.items:
+                if item.kind in ("struct", "enum"):
+                    types[(crate.name, *path, item.name)] = f"{module.file}: {item.name}"
+                    if any(re.match(r"derive\(.*\bDebug\b", attribute) for attribute in item.attributes):
+                        shown.add((crate.name, item.name))
+                elif item.kind == "impl" and item.trait() in ("Debug", "fmt::Debug"):
+                    shown.add((crate.name, item.owner()))
+    public = {tuple(path) for name in sources.crates if SHOWN.fullmatch(name) for path in sources.exports(name).values()}
+    lacking = sorted(path for path in types if path in public and (path[0], path[-1]) not in shown)
+    return [f"{types[path]} has no Debug" for path in lacking]
+
+
+def wire_crates_named():
+    """The lines of crates.txt in which a crate above `ip_wire` names a crate below it."""
+    for number, line in enumerate(read("crates.txt").split("\n"), 1):
+        name, _, below = line.partition(":")
+        if ABOVE.fullmatch(name):
+            yield from (f"crates.txt:{number}: {name} names {it}" for it in below.split() if it.startswith("wire_"))
+
+
 def main(top):
     os.chdir(top)
     sources = Sources(".")
@@ -158,7 +187,7 @@ def main(top):
     for number, _, named, tests in found:
         wrong += [f"{DOCUMENT}:{number}: there is no statement {name}" for name in named if not statements.has(name)]
         wrong += [f"{DOCUMENT}:{number}: there is no test {name}" for name in tests if not is_test(name)]
-    wrong += allocations(sources)
+    wrong += [*allocations(sources), *types_without_debug(sources), *wire_crates_named()]
     print("".join(line + "\n" for line in wrong), end="")
     return 1 if wrong or not found else 0
 

@@ -17,7 +17,7 @@ pub struct Ipv4Endpoint {
 /// The mapping of one outside port and protocol. Any bytes are a value; all zeros are no live
 /// mapping.
 #[repr(C)]
-#[derive(Clone, Copy)]
+#[derive(Debug, Clone, Copy)]
 pub struct Mapping {
     /// The mapping is live before this time. In milliseconds.
     pub expires: u64,

@@ -23,7 +23,7 @@ const RUN_LEN: usize = 63;
 
 /// The parameters of a NAT. Times are in milliseconds.
 #[repr(C)]
-#[derive(Clone, Copy)]
+#[derive(Debug, Clone, Copy)]
 pub struct Nat {
     /// Random and secret: without it nobody can choose endpoints that compete for the same ports.
     pub key: [u64; 2],

@@ -10,7 +10,7 @@ use Rattle.ip_wire.specs.declared.Ipv4Repr.{Ipv4Repr}
 use Rattle.ip_wire.proofs.Cells.{cells, cells-all}
 use Rattle.ip_wire.proofs.Ipv4Changed.{reads-dst_addr, reads-src_addr, reads-summed}
 use Rattle.ip_wire.proofs.Spelled.{AreBytes}
-use Rattle.wire_ipv4.proofs.Ipv4Updated.{valid-dst_addr, valid-src_addr}
+use Rattle.ip_wire.proofs.Ipv4Updated.{valid-dst_addr, valid-src_addr}
 use Rattle.ip_nat.proofs.Payloads.{range-front, range-len, range-past}
 use Rattle.ip_nat.specs.Nat.{addr_at, with_addr, with_address}
 use Rattle.ip_nat.specs.declared.nat.Side.{Side}

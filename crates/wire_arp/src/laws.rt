@@ -60,7 +60,7 @@ pub fn ethernet_ipv4_has_the_diagram_arp(bytes: &[u8])
 {}
 
 /// A call of a setter.
-#[derive(Clone, Copy)]
+#[derive(Debug, Clone, Copy)]
 pub enum ArpSetting<'a> {
     HardwareType(ArpHardware),
     ProtocolType(EthernetProtocol),
@@ -105,7 +105,7 @@ pub fn setter_writes_one_field_arp(packet: &mut ArpPacketMut<'_>, setting: ArpSe
 }
 
 /// A call of a getter of a field before the addresses.
-#[derive(Clone, Copy)]
+#[derive(Debug, Clone, Copy)]
 pub enum ArpGetting {
     HardwareType,
     ProtocolType,
@@ -129,7 +129,7 @@ pub fn getters_read_fields_arp(packet: &ArpPacket<'_>, getting: ArpGetting) -> u
 }
 
 /// A call of the getter of an address.
-#[derive(Clone, Copy)]
+#[derive(Debug, Clone, Copy)]
 pub enum ArpAddressGetting {
     SourceHardwareAddr,
     SourceProtocolAddr,

@@ -46,7 +46,7 @@ pub fn ethernet_protocol_order(a: EthernetProtocol, b: EthernetProtocol)
 {}
 
 /// A call of a setter.
-#[derive(Clone, Copy)]
+#[derive(Debug, Clone, Copy)]
 pub enum EthernetSetting {
     DstAddr(EthernetAddress),
     SrcAddr(EthernetAddress),
@@ -72,7 +72,7 @@ pub fn setter_writes_one_field_ethernet(frame: &mut EthernetFrameMut<'_>, settin
 }
 
 /// A call of a getter.
-#[derive(Clone, Copy)]
+#[derive(Debug, Clone, Copy)]
 pub enum EthernetGetting {
     DstAddr,
     SrcAddr,

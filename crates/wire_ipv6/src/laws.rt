@@ -88,7 +88,7 @@ pub fn no_more_bytes_ipv6_fragment(bytes: &[u8], value: Ipv6FragmentRepr)
 {}
 
 /// A call of a setter.
-#[derive(Clone, Copy)]
+#[derive(Debug, Clone, Copy)]
 pub enum Ipv6Setting {
     Version(u8),
     TrafficClass(u8),
@@ -118,7 +118,7 @@ pub fn setter_writes_one_field_ipv6(packet: &mut Ipv6PacketMut<'_>, setting: Ipv
 }
 
 /// A call of a getter.
-#[derive(Clone, Copy)]
+#[derive(Debug, Clone, Copy)]
 pub enum Ipv6Getting {
     Version,
     TrafficClass,
@@ -173,7 +173,7 @@ pub fn views_have_the_bytes_ipv6(bytes: &[u8]) -> bool
 }
 
 /// A call that writes a fragment header.
-#[derive(Clone, Copy)]
+#[derive(Debug, Clone, Copy)]
 pub enum Ipv6FragmentSetting {
     FragOffset(u16),
     ClearReserved,
@@ -198,7 +198,7 @@ pub fn setter_writes_one_field_ipv6_fragment(
 }
 
 /// A call of a getter of a fragment header.
-#[derive(Clone, Copy)]
+#[derive(Debug, Clone, Copy)]
 pub enum Ipv6FragmentGetting {
     FragOffset,
     MoreFrags,

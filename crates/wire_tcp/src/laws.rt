@@ -203,7 +203,7 @@ pub fn filled_checksum_reads_tcp(
 {}
 
 /// A call of a setter.
-#[derive(Clone, Copy)]
+#[derive(Debug, Clone, Copy)]
 pub enum TcpSetting {
     SrcPort(u16),
     DstPort(u16),
@@ -259,7 +259,7 @@ pub fn clear_flags_writes_the_flags_tcp(packet: &mut TcpPacketMut<'_>)
 }
 
 /// A call of a getter.
-#[derive(Clone, Copy)]
+#[derive(Debug, Clone, Copy)]
 pub enum TcpGetting {
     SrcPort,
     DstPort,
@@ -307,7 +307,7 @@ pub fn getters_read_fields_tcp(packet: &TcpPacket<'_>, getting: TcpGetting) -> u
 }
 
 /// A call that writes the checksum too: for a new port or window, or for an old and a new address.
-#[derive(Clone, Copy)]
+#[derive(Debug, Clone, Copy)]
 pub enum TcpUpdate {
     SrcPort(u16),
     DstPort(u16),

@@ -127,7 +127,7 @@ pub fn one_value_changes_udp(
 {}
 
 /// A call of a setter.
-#[derive(Clone, Copy)]
+#[derive(Debug, Clone, Copy)]
 pub enum UdpSetting {
     SrcPort(u16),
     DstPort(u16),
@@ -149,7 +149,7 @@ pub fn setter_writes_one_field_udp(packet: &mut UdpPacketMut<'_>, setting: UdpSe
 }
 
 /// A call of a getter.
-#[derive(Clone, Copy)]
+#[derive(Debug, Clone, Copy)]
 pub enum UdpGetting {
     SrcPort,
     DstPort,
@@ -171,7 +171,7 @@ pub fn getters_read_fields_udp(packet: &UdpPacket<'_>, getting: UdpGetting) -> u
 }
 
 /// A call that writes the checksum too: for a new port, or for an old and a new address.
-#[derive(Clone, Copy)]
+#[derive(Debug, Clone, Copy)]
 pub enum UdpUpdate {
     SrcPort(u16),
     DstPort(u16),
