@@ -3,7 +3,9 @@
 
 An edit in crates/CRATE/wrong-bodies/ puts a wrong body into a function, and the prover must reject
 that function. The edit of the same name in crates/CRATE/controls/ puts a correct body of the same
-form into the same place, and that function must be proved.
+form into the same place, and that function must be proved. A rejection is not decisive if the proof
+of the function cites a name that the edit took away: it shows nothing of the contract, and counts
+as a failure.
 
 A proof of a function cites only the contracts of the functions that it calls. So edits of different
 functions are applied together, and only these functions are checked, over the libraries that
@@ -27,8 +29,11 @@ TOP = pathlib.Path(__file__).resolve().parent.parent
 FUNCTION = re.compile(r'^( *)(?:pub(?:\([^)]*\))? )?(?:(?:const|unsafe|extern "C") )*fn (\w+)', re.M)
 IMPL = re.compile(r"^impl(?:<.*?>)? (\w+)(?:<[^{]*>)?( for )?", re.M)
 VERDICT = re.compile(r"^fn (\S+): (.*)$", re.M)
+# The folder of a proof that cites a name which is gone. What is missing may be on a further line of the error.
+NAME_GONE = re.compile(r"^\./proofs/(\S+)/\w+\.antt:\d+:\d+: error: .*(?:\n  .*)*?has no (?:field|lemma|`)", re.M)
+NOT_DECISIVE = "not decisive, since its proof cites a name that the edit took away"
 # A function that is proved, or has no proof only because of another function, or of which the prover cannot tell.
-NOT_REJECTED = re.compile(r"proved$|no proof: it calls [^;]*$|could not tell")
+NOT_REJECTED = re.compile(rf"proved$|no proof: it calls [^;]*$|could not tell|{NOT_DECISIVE}")
 OF_ANOTHER = re.compile(r"no proof: it calls [^;]*$")
 
 
@@ -117,7 +122,8 @@ class Trial:
             words = [*proved.command_line("check", self.crate), "--jobs", "1", "--incremental", self.kept, *only]
             ran = subprocess.run(words, cwd=folder, stdin=subprocess.DEVNULL, stdout=subprocess.PIPE, stderr=subprocess.STDOUT, text=True, errors="replace")
         self.log.append(f"== {self.crate}: {' '.join(edit.name for edit in tried)}\n{ran.stdout}")
-        return VERDICT.findall(ran.stdout)
+        gone = {f"{self.crate}::{folder.replace('/', '::')}" for folder in NAME_GONE.findall(ran.stdout)}
+        return [(name, NOT_DECISIVE if name in gone else verdict) for name, verdict in VERDICT.findall(ran.stdout)]
 
     def judge(self, tried, is_right, again):
         """Counts the edits whose functions have the verdict that they must have. Those to try alone go to `again`."""
