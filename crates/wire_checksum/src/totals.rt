@@ -6,8 +6,8 @@ ghost use Rattle.wire_checksum.specs.WordSum.{residue, sum_of_bytes, words};
 
 use std::simd::prelude::*;
 
-// From this length on bytes do not fit into the fastest cache, and lanes are faster than chains.
-const LONG: usize = 32_768;
+// From this length on whole vectors are summed by lanes. Fewer bytes are summed faster by chains.
+const LONG: usize = 8_192;
 
 /// The sum that a total stands for. The words of a total are little-endian, so the two bytes of the
 /// folded total are swapped.
@@ -315,4 +315,22 @@ fn by_lanes(bytes: &[u8]) -> u64
     let even = all - (odd << u16x16::splat(8));
     let even = u64::from(even.cast::<u32>().strict_reduce_sum());
     256 * even + u64::from(odd.cast::<u32>().strict_reduce_sum())
+}
+
+#[cfg(test)]
+mod tests {
+    use super::{finish, plain};
+    use crate::checksum::data;
+
+    #[test]
+    fn sums_as_the_plain_loop(rt: HostRuntime) {
+        let mut bytes = [0; 300];
+        for (i, byte) in bytes.iter_mut().enumerate() {
+            *byte = (i * 7 % 256) as u8 ^ (i / 37) as u8;
+        }
+        for len in 0..=300 {
+            let part = &bytes[..len];
+            assert_eq!(rt; data(part), finish(plain(part)), "of {len} bytes");
+        }
+    }
 }
