@@ -9,6 +9,7 @@ ghost use Rattle.wire_ipv4.specs.Ipv4Text.{value_text};
 ghost use Rattle.wire_ipv4.specs.declared.ipv4.repr.Ipv4Repr.{Ipv4Repr};
 
 use super::{IPV4_HEADER_LEN, Ipv4Packet, Ipv4PacketMut};
+use byteorder::{ByteOrder, NetworkEndian};
 use net_base::{ChecksumCapabilities, Error, Result};
 use std::fmt;
 use wire_addr::Ipv4Address;
@@ -90,14 +91,16 @@ impl Ipv4Repr {
         requires { self.payload_len ≤ max_payload_len }
         ensures { result ≡ header_with self checksum }
     {
-        let [a, b] = ((IPV4_HEADER_LEN + self.payload_len) as u16).to_be_bytes();
         let (hop_limit, protocol) = (self.hop_limit, u8::from(self.next_header));
-        let [c, d] = checksum.to_be_bytes();
-        let [e, f, g, h] = self.src_addr.octets();
-        let [i, j, k, l] = self.dst_addr.octets();
-        [
-            0x45, 0, a, b, 0, 0, DONT_FRAG, 0, hop_limit, protocol, c, d, e, f, g, h, i, j, k, l,
-        ]
+        let [a, b, c, d] = self.src_addr.octets();
+        let [e, f, g, h] = self.dst_addr.octets();
+        let mut header = [
+            0x45, 0, 0, 0, 0, 0, DONT_FRAG, 0, hop_limit, protocol, 0, 0, a, b, c, d, e, f, g, h,
+        ];
+        let total_len = (IPV4_HEADER_LEN + self.payload_len) as u16;
+        NetworkEndian::write_u16(&mut header[2..4], total_len);
+        NetworkEndian::write_u16(&mut header[10..12], checksum);
+        header
     }
 }
 

@@ -8,9 +8,9 @@ returns c =
     let src : length v.src_addr ≡ 4 = search rules in
     let dst : length v.dst_addr ≡ 4 = search rules in
     rw (
-      c.to_be_bytes.ensures,
+      c.write_u16-2.ensures,
+      c.write_u16.ensures,
       c.from-protocol.ensures,
-      c.to_be_bytes-2.ensures,
       c.octets.ensures,
       c.octets-2.ensures,
       cells-all 4 v.src_addr src,
