@@ -8,7 +8,7 @@ ghost use Rattle.c_structs.specs.Checksums.{address_sum, updated_udp};
 ghost use Rattle.c_structs.specs.Written.{within};
 ghost use Rattle.ip_wire.specs.WordSum.{sum_of_bytes, updated};
 
-use c_structs::{Addr, MAX_LEN, address_sum, update_udp};
+use c_structs::{Addr, address_sum, update_udp, within};
 use ip_wire::{TcpSeqNumber, checksum};
 use std::cmp::Ordering;
 
@@ -17,10 +17,7 @@ use std::cmp::Ordering;
 pub extern "C" fn lk_checksum(bytes: &[u8]) -> u16
     ensures { result ≡ sum_of_bytes (within bytes.now) }
 {
-    if bytes.len() > MAX_LEN {
-        return 0;
-    }
-    checksum::data(bytes)
+    checksum::data(within(bytes))
 }
 
 /// The checksum field after a 16-bit word that it covers changed (`ip_wire::checksum::update`).
