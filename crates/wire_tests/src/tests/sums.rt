@@ -64,3 +64,37 @@ fn sums_of_many_bytes(rt: HostRuntime) {
         assert_eq!(rt; data(&bytes), sum);
     }
 }
+
+// Mixed bytes: the high bytes of the numbers that a linear congruential generator modulo 2^32 returns.
+fn mixed(alloc: Global, len: usize) -> Result<Vec<u8>, AllocError> {
+    let mut bytes = vec![in alloc; 0; len]?;
+    let mut number: u32 = 1;
+    for byte in bytes.iter_mut() {
+        number = number.wrapping_mul(1_103_515_245).wrapping_add(12_345);
+        *byte = (number >> 24) as u8;
+    }
+    Ok(bytes)
+}
+
+// The expected sums are Python's, of the same bytes. Lanes begin at 8,192 bytes.
+#[test]
+fn sums_of_mixed_bytes(rt: HostRuntime) {
+    for (len, sum) in [
+        (8_191, 0x4686),
+        (8_192, 0x477e),
+        (8_193, 0x9c7e),
+        (8_223, 0xea5f),
+        (8_224, 0xeaad),
+        (8_225, 0xe0ae),
+        (16_384, 0xf088),
+        (16_415, 0xe098),
+        (32_767, 0x3a4c),
+        (32_768, 0x3acc),
+        (32_799, 0xba63),
+        (40_961, 0x9e2f),
+        (65_537, 0xa4c4),
+    ] {
+        let bytes = mixed(rt.alloc(), len).expect(&rt, "memory");
+        assert!(rt; data(&bytes) == sum, "of {len} bytes");
+    }
+}
