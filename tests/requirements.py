@@ -21,6 +21,7 @@ LIBRARY = re.compile(r"net_base|ip_wire|wire_\w+")
 SHOWN = re.compile(r"net_base|ip_(?!wire_c)\w+")
 # The crates that use the layer through `ip_wire` and `net_base` only.
 ABOVE = re.compile(r"ip_(?!wire\b)\w+|use_tests")
+TEST_FUNCTION = re.compile(r"#\[test\]\n(?: *#.*\n)* *fn (\w+)\(")
 # A function that allocates is given an allocator, and returns one of these types.
 ALLOCATES = re.compile(r"\b(alloc|AllocError|HostRuntime|Vec|String|Box|Rc|Arc)\b")
 
@@ -99,7 +100,7 @@ def test_functions(path):
     kind, _, file = path.partition("/")
     crates = [TESTS[kind]] if file and kind in TESTS else sorted(TESTS.values())
     paths = [f"crates/{crate}/src/tests/{file or kind}.rt" for crate in crates]
-    found = [re.findall(r"#\[test\]\n(?:#.*\n)*fn (\w+)\(", read(p)) for p in paths if os.path.exists(p)]
+    found = [TEST_FUNCTION.findall(read(p)) for p in paths if os.path.exists(p)]
     return found[0] if len(found) == 1 else []
 
 
@@ -122,6 +123,9 @@ def is_test(name):
         return len(re.findall(rf"\b{name.split('/')[2]}\b", read("tests/all"))) > 1
     if os.path.exists(name):
         return True
+    module, _, function = name.rpartition("::")
+    if os.path.exists(module):
+        return function in TEST_FUNCTION.findall(read(module))
     file, _, function = name.rpartition("/")
     return function in test_functions(file)
 
@@ -144,10 +148,10 @@ def rows(document):
 
 
 def allocations(sources):
-    """The places of the libraries that name what allocates."""
+    """The places of the libraries that name what allocates, but for tests, which end a module."""
     for crate in sources.crates.values():
         for module in crate.modules.values() if LIBRARY.fullmatch(crate.name) else []:
-            for number, line in enumerate(sources.read(module.file).split("\n"), 1):
+            for number, line in enumerate(sources.read(module.file).partition("#[cfg(test)]")[0].split("\n"), 1):
                 found = ALLOCATES.search(re.sub(r'//.*|"(?:\\.|[^"\\])*"', "", line))
                 if found and not line.startswith("ghost use"):
                     yield f"{module.file}:{number}: {found.group()}: a library takes no memory"
