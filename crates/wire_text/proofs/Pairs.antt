@@ -1,7 +1,8 @@
 -- Six pairs of hex digits joined by a mark.
-use Rattle.std.proofs.Common.{◌≡◌, ◌≢◌, ℕ, zero, suc, ◌*◌, ◌+◌, ◌-◌, ◌%◌, ◌<◌, ◌≤◌, ◌&&◌, ◌==◌, Bool, true, false, MatchOption, List, [], ◌∷◌, ◌++◌, drop, length, length-append, get_or, min, refl, sym, ap, subst, ◌∙◌, arith, lit≤, nat_lt, eqb-true, eq-eqb, Option, Some, None, inl, inr}
+use Rattle.std.proofs.Common.{◌≡◌, ◌≢◌, ◌⊎◌, ℕ, zero, suc, ◌*◌, ◌+◌, ◌-◌, ◌%◌, ◌<◌, ◌≤◌, ◌&&◌, ◌==◌, Bool, true, false, MatchOption, List, [], ◌∷◌, ◌++◌, drop, length, length-append, get_or, min, refl, sym, ap, subst, ◌∙◌, arith, lit≤, nat_lt, eqb-true, eq-eqb, Option, Some, None, inl, inr}
 use Rattle.std.proofs.lemmas.Bool.{and_parts, ltb-true}
 use Rattle.std.proofs.lemmas.Slice.Eq.{text_from_reads}
+use Rattle.std.proofs.lemmas.Option.{same_Some, none-some}
 use Rattle.std.specs.Bool.{then_some}
 use Rattle.std.specs.Char.{digit_value}
 use Rattle.std.specs.List.{join_with_byte}
@@ -194,3 +195,49 @@ by_colons text (Some octets) none h = inr h
 pub too_long : (text octets : List ℕ) → 17 < length text → ¬ (IsHexText text octets)
 too_long text octets long (inl h) = absurd (omega (arith, six_short 45 text octets h))
 too_long text octets long (inr h) = absurd (omega (arith, six_short 58 text octets h))
+
+-- ---- the byte after the first number
+
+first_long : (mark : ℕ) (piece : List ℕ) (pieces : List (List ℕ)) → length piece ≤ length (join_with_byte mark (piece ∷ pieces))
+first_long mark piece [] = omega arith
+first_long mark piece (next ∷ pieces) = omega (arith, length-append piece (mark ∷ join_with_byte mark (next ∷ pieces)))
+
+-- the mark is the third byte after two digits, and else the second
+abbrev pub HasFirstMark : ℕ → List ℕ → Type 0
+HasFirstMark mark text =
+    (3 ≤ length text) × (((digit_value (get_or text 1 0) < 16) × (get_or text 2 0 ≡ mark)) ⊎ (get_or text 1 0 ≡ mark))
+
+pub first_found : (mark : ℕ) (text octets : List ℕ) → IsHexOctets mark text octets → HasFirstMark mark text
+first_found mark text octets h = subst (HasFirstMark mark) (sym h.0.joined) (by h.0.pieces octets h.0.each h.1)
+  where
+    by : (pieces : List (List ℕ)) (values : List ℕ) → EachReads (IsNumber 16 2 255) pieces values → length values ≡ 6 → HasFirstMark mark (join_with_byte mark pieces)
+    by [] [] each six = absurd (omega (arith, six))
+    by [] (v ∷ values) each six = absurd each
+    by (piece ∷ pieces) [] each six = absurd each
+    by (piece ∷ []) (v ∷ []) each six = absurd (omega (arith, six))
+    by (piece ∷ []) (v ∷ w ∷ values) each six = absurd each.1
+    by (piece ∷ next ∷ pieces) (v ∷ []) each six = absurd each.1
+    by ([] ∷ next ∷ pieces) (v ∷ w ∷ values) each six = absurd (omega (arith, each.0.digits.0))
+    by ((a ∷ []) ∷ next ∷ pieces) (v ∷ w ∷ values) each six = (omega (arith, each.1.0.digits.0, first_long mark next pieces), inr refl)
+    by ((a ∷ b ∷ []) ∷ next ∷ pieces) (v ∷ w ∷ values) each six = (omega arith, inl (each.0.digits.1.1.0, refl))
+    by ((a ∷ b ∷ c ∷ piece) ∷ next ∷ pieces) (v ∷ w ∷ values) each six = absurd (omega (arith, each.0.places_fit))
+
+pub third_byte : (mark : ℕ) (text : List ℕ) → 16 ≤ digit_value mark → digit_value (get_or text 1 0) < 16 → HasFirstMark mark text → get_or text 2 0 ≡ mark
+third_byte mark text apart digit (long, inl (_, same)) = same
+third_byte mark text apart digit (long, inr same) = absurd (omega (arith, apart, digit, ap digit_value same))
+
+pub second_byte : (mark : ℕ) (text : List ℕ) → 16 ≤ digit_value (get_or text 1 0) → HasFirstMark mark text → get_or text 1 0 ≡ mark
+second_byte mark text other (long, inl (digit, _)) = absurd (omega (arith, other, digit))
+second_byte mark text other (long, inr same) = same
+
+-- a text whose first mark is another byte has no value with this mark
+pub not_with : (mark other : ℕ) (text : List ℕ) → mark ≢ other → ((octets : List ℕ) → IsHexOctets mark text octets → Some other ≡ Some mark) → (octets : List ℕ) → ¬ (IsHexOctets mark text octets)
+not_with mark other text differ first octets h = differ (sym (same_Some other mark (first octets h)))
+
+-- a text with no first mark has no value
+pub without_mark : (text : List ℕ) (result : Option (List ℕ)) → result ≡ None → ((mark : ℕ) (octets : List ℕ) → 16 ≤ digit_value mark → IsHexOctets mark text octets → None ≡ Some mark) → Reads IsHexText text result
+without_mark text (Some octets) none first = absurd (cc)
+without_mark text None none first = λ octets. elim [
+  | inl h ↦ none-some 45 (first 45 octets (lit≤ tt) h)
+  | inr h ↦ none-some 58 (first 58 octets (lit≤ tt) h)
+]

@@ -1,6 +1,6 @@
 //! Octets joined by a mark.
 
-ghost use Rattle.std.specs.Prelude.{◌≡◌, ◌↔◌, ◌≤◌, ◌<◌, ◌∷◌, [], true, IsTrue, length};
+ghost use Rattle.std.specs.Prelude.{◌≡◌, ◌↔◌, ◌≤◌, ◌<◌, ◌∷◌, [], ℕ, List, true, IsTrue, Some, length};
 ghost use Rattle.std.specs.Char.{digit_value};
 ghost use Rattle.wire_text.specs.Grammar.{IsDotted, IsHexOctets, IsHexText, IsNumber, Reads};
 ghost use Rattle.wire_text.specs.Reading.{FilledFrom, numbers_of, octets_read, pieces_of};
@@ -93,6 +93,30 @@ fn pairs(text: &[u8; 17]) -> Option<[u8; 6]>
     }
 }
 
+/// The byte after the first number, of one or two digits, if there is one.
+#[inline(always)]
+fn first_mark(text: &[u8]) -> Option<u8>
+    ensures { (mark : ℕ) (octets : List ℕ) → 16 ≤ digit_value mark → IsHexOctets mark text.now octets → result ≡ Some mark }
+{
+    let [_, second, third, ..] = text else {
+        return None
+    };
+    let is_digit = hex_digit(*second) < 16;
+    Some(if is_digit { *third } else { *second })
+}
+
+/// The octets of six hex numbers joined by the byte after the first.
+#[inline(always)]
+fn numbers(text: &[u8]) -> Option<[u8; 6]>
+    ensures { Reads IsHexText text.now result }
+{
+    match first_mark(text)? {
+        b'-' => hex_octets_joined(text, b'-'),
+        b':' => hex_octets_joined(text, b':'),
+        _ => None,
+    }
+}
+
 /// Whether the text is longer than six numbers of two digits with five marks.
 #[inline(always)]
 fn is_too_long(text: &[u8]) -> bool
@@ -112,9 +136,5 @@ pub fn hex_octets(text: &[u8]) -> Option<[u8; 6]>
             pairs(chunk)
         };
     }
-    if let Some(octets) = hex_octets_joined(text, b'-') {
-        Some(octets)
-    } else {
-        hex_octets_joined(text, b':')
-    }
+    numbers(text)
 }
