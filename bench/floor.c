@@ -119,43 +119,68 @@ ptrdiff_t lk_tcp_header_len(const struct lk_tcp_options *options)
     return (ptrdiff_t)tcp_len(options);
 }
 
-INLINE uint8_t *write_sack(const struct lk_tcp_options *options, uint8_t *out)
+/* Adds the total of some octets that begin at an even or an odd place. */
+INLINE uint64_t add_at(uint64_t sum, uint64_t piece, size_t is_odd)
 {
-    if (options->sack_permitted) {
-        store_16(out, OPTION_PERMITTED | 2 << 8);
-        return out + 2;
-    }
-    if (!options->sack_range_count)
-        return out;
-    store_16(out, (uint16_t)(OPTION_RANGES | (2 + 8 * options->sack_range_count) << 8));
-    out += 2;
-    for (size_t i = 0; i < options->sack_range_count; i++, out += 8) {
-        store_32(out, swap_32(options->sack_ranges[i].left));
-        store_32(out + 4, swap_32(options->sack_ranges[i].right));
-    }
-    return out;
+    return around(sum, is_odd & 1 ? piece << 8 | piece >> 56 : piece);
 }
 
-INLINE void write_options(const struct lk_tcp_options *options, uint8_t *out, const uint8_t *end)
+/* Writes two numbers, and returns their total. */
+INLINE uint64_t write_pair(const uint32_t *numbers, uint8_t *out)
 {
+    uint64_t both = load_64((const uint8_t *)numbers);
+    both = __builtin_bswap64(both << 32 | both >> 32);
+    store_64(out, both);
+    return both;
+}
+
+/* Writes the option with SACK ranges, and returns its total. */
+INLINE uint64_t write_ranges(const struct lk_tcp_options *options, uint8_t *out)
+{
+    uint64_t sum = OPTION_RANGES | (2 + 8 * (unsigned)options->sack_range_count) << 8;
+    store_16(out, (uint16_t)sum);
+    out += 2;
+    for (size_t i = 0; i < options->sack_range_count; i++, out += 8)
+        sum = around(sum, write_pair(&options->sack_ranges[i].left, out));
+    return sum;
+}
+
+/* Writes options, and zeros after them, and returns their total. */
+INLINE uint64_t write_options(const struct lk_tcp_options *options, uint8_t *const first, const uint8_t *end)
+{
+    uint8_t *out = first;
+    uint64_t sum = 0;
+    size_t is_odd = 0;
+    if (first == end)
+        return 0;
     if (options->has_max_seg_size) {
-        store_32(out, OPTION_SIZE | 4 << 8 | (uint32_t)swap_16(options->max_seg_size) << 16);
+        sum = OPTION_SIZE | 4 << 8 | (uint32_t)swap_16(options->max_seg_size) << 16;
+        store_32(out, (uint32_t)sum);
         out += 4;
     }
     if (options->has_window_scale) {
         store_16(out, OPTION_SCALE | 3 << 8);
         out[2] = options->window_scale;
+        sum += OPTION_SCALE | 3 << 8 | (uint32_t)options->window_scale << 16;
+        is_odd = 1;
         out += 3;
     }
-    out = write_sack(options, out);
+    if (options->sack_permitted) {
+        store_16(out, OPTION_PERMITTED | 2 << 8);
+        sum = add_at(sum, OPTION_PERMITTED | 2 << 8, is_odd);
+        out += 2;
+    } else if (options->sack_range_count) {
+        sum = add_at(sum, write_ranges(options, out), is_odd);
+        out += 2 + 8 * options->sack_range_count;
+    }
     if (options->has_timestamp) {
         store_16(out, OPTION_TIMESTAMP | 10 << 8);
-        store_32(out + 2, swap_32(options->tsval));
-        store_32(out + 6, swap_32(options->tsecr));
+        sum = add_at(sum, around(OPTION_TIMESTAMP | 10 << 8, write_pair(&options->tsval, out + 2)), is_odd);
         out += 10;
     }
     while (out != end)
         *out++ = 0;
+    return sum;
 }
 
 /* Writes a TCP header before its options, where this is the total of the options and the payload. */
@@ -184,9 +209,9 @@ ptrdiff_t lk_emit_tcp(const struct lk_tcp *header, const struct lk_tcp_options *
     if (!is_one_version(&src->addr, &dst->addr) || !src->port || !dst->port || !fits_tcp(header, options)
         || len > 65535 - header_len || !reaches(cap, header_len + len))
         return tcp_failure(header, options, src, dst, len);
+    uint64_t of_rest = computed ? total(ptr, len) : 0;
     memcpy(out + header_len, ptr, len);
-    write_options(options, out + TCP_LEN, out + header_len);
-    uint64_t of_rest = computed ? total(out + TCP_LEN, header_len - TCP_LEN + len) : 0;
+    of_rest = around(of_rest, write_options(options, out + TCP_LEN, out + header_len));
     write_tcp(header, ports(src->port, dst->port), endpoints_total(&src->addr, &dst->addr), header_len, len, of_rest,
               computed, out);
     return (ptrdiff_t)(header_len + len);
@@ -246,12 +271,12 @@ INLINE ptrdiff_t write_tcp_frame(const struct lk_frame *headers, const struct lk
     size_t header_len = tcp_len(options), at = transport_at(headers, header_len, len, cap);
     if (!at || !headers->src.port || !headers->dst.port)
         return tcp_frame_failure(headers, options, len);
+    uint64_t of_rest = total(ptr ? ptr : out + at + header_len, len);
     if (ptr)
         memcpy(out + at + header_len, ptr, len);
-    write_options(options, out + at + TCP_LEN, out + at + header_len);
+    of_rest = around(of_rest, write_options(options, out + at + TCP_LEN, out + at + header_len));
     write_tcp(&headers->tcp, ports(headers->src.port, headers->dst.port),
-              endpoints_total(&headers->src.addr, &headers->dst.addr), header_len, len,
-              total(out + at + TCP_LEN, header_len - TCP_LEN + len), 1, out + at);
+              endpoints_total(&headers->src.addr, &headers->dst.addr), header_len, len, of_rest, 1, out + at);
     write_front(headers, PROTOCOL_TCP, header_len + len, out);
     return (ptrdiff_t)(at + header_len + len);
 }
@@ -270,31 +295,37 @@ ptrdiff_t lk_wrap_tcp_frame(const struct lk_frame *headers, const struct lk_tcp_
 
 ptrdiff_t lk_emit_arp_frame(const struct lk_frame *headers, uint8_t *out, size_t cap)
 {
-    if (!reaches(cap, ETHERNET_LEN + ARP_LEN)
-        || lk_emit_arp(&headers->arp, &headers->src.addr, &headers->dst.addr, out + ETHERNET_LEN, ARP_LEN) != ARP_LEN)
+    const struct lk_arp *arp = &headers->arp;
+    if (!reaches(cap, ETHERNET_LEN + ARP_LEN) || headers->src.addr.version != 4 || headers->dst.addr.version != 4)
         return arp_failure(&headers->src.addr, &headers->dst.addr);
-    memcpy(out, headers->ethernet.dst, 6);
-    memcpy(out + 6, headers->ethernet.src, 6);
-    store_16(out + 12, swap_16(TYPE_ARP));
+    /* `src` and `dst` become the Ethernet header, with the first two octets of ARP. */
+    const __m128i order = _mm_setr_epi8(6, 7, 8, 9, 10, 11, 0, 1, 2, 3, 4, 5, -1, -1, -1, -1);
+    const __m128i type = _mm_setr_epi8(0, 0, 0, 0, 0, 0, 0, 0, 0, 0, 0, 0, 8, 6, 0, 1);
+    __m128i link = _mm_loadu_si128((const __m128i *)&headers->ethernet);
+    _mm_storeu_si128((__m128i *)out, _mm_or_si128(_mm_shuffle_epi8(link, order), type));
+    store_64(out + 16, 0x04060008 | (uint64_t)swap_16(arp->operation) << 32);
+    memcpy(out + 22, arp->src_hardware, 6);
+    memcpy(out + 28, headers->src.addr.octets, 4);
+    memcpy(out + 32, arp->dst_hardware, 6);
+    memcpy(out + 38, headers->dst.addr.octets, 4);
     return ETHERNET_LEN + ARP_LEN;
 }
 
 int lk_contains(const struct lk_block *block, const struct lk_addr *addr)
 {
-    uint16_t prefix_len = block->prefix_len;
-    if (block->addr.version != addr->version)
-        return 0;
-    if (addr->version == 4) {
-        uint32_t differs = swap_32(load_32(block->addr.octets) ^ load_32(addr->octets));
-        return prefix_len <= 32 && (uint64_t)differs >> (32 - prefix_len) == 0;
+    uint32_t versions = (uint32_t)block->addr.version << 16 | addr->version;
+    uint64_t prefix_len = block->prefix_len;
+    if (versions == 0x00040004) {
+        uint64_t differs = (uint64_t)swap_32(load_32(block->addr.octets) ^ load_32(addr->octets)) << 32;
+        return (prefix_len <= 32) & ((differs >> 1 >> ((63 - prefix_len) & 63)) == 0); /* for 0 the shift is 64 */
     }
-    uint64_t high = __builtin_bswap64(load_64(block->addr.octets) ^ load_64(addr->octets));
-    uint64_t low = __builtin_bswap64(load_64(block->addr.octets + 8) ^ load_64(addr->octets + 8));
-    if (addr->version != 6 || prefix_len > 128)
+    if (versions != 0x00060006 || prefix_len > 128)
         return 0;
+    uint64_t high = __builtin_bswap64(load_64(block->addr.octets) ^ load_64(addr->octets));
     if (prefix_len <= 64)
-        return prefix_len == 0 || high >> (64 - prefix_len) == 0;
-    return high == 0 && low >> (128 - prefix_len) == 0;
+        return !prefix_len || high >> ((64 - prefix_len) & 63) == 0;
+    uint64_t low = __builtin_bswap64(load_64(block->addr.octets + 8) ^ load_64(addr->octets + 8));
+    return (high | low >> (128 - prefix_len)) == 0;
 }
 
 /* What writes behind `at` octets returns where it ends, or 0 if that is past `cap`. */
@@ -332,15 +363,29 @@ INLINE size_t rebuild_tcp(const struct packet *packet, size_t len, uint64_t of_p
         .window_len = swap_16(load_16(ptr + 14)),
         .flags = kept_flags(ptr[13]),
     };
+    /* Without options the header keeps its length. So does one with a timestamp after two NOPs: they become zeros after
+     * the timestamp. */
+    if (len == TCP_LEN || is_stamp_alone(ptr + TCP_LEN, ptr + len)) {
+        size_t end = copy(ptr + len, packet->len - len, out, cap, at + len);
+        if (!end)
+            return 0;
+        if (len != TCP_LEN) {
+            uint64_t both = load_64(ptr + TCP_LEN + 4);
+            store_32(out + at + TCP_LEN, 0x0a08 | (uint32_t)both << 16);
+            store_64(out + at + TCP_LEN + 4, both >> 16);
+            of_payload = around(of_payload, around(both, 0x0a08));
+        }
+        write_tcp(&tcp, load_32(ptr), addresses_total(packet), len, packet->len - len, of_payload, 1, out + at);
+        return end;
+    }
     read_options(ptr + TCP_LEN, ptr + len, &options);
     size_t header_len = tcp_len(&options), end = copy(ptr + len, packet->len - len, out, cap, at + header_len);
     if (!(ptr[13] & LK_ACK))
         options.sack_range_count = 0; /* zeros take their place */
     if (!end)
         return 0;
-    write_options(&options, out + at + TCP_LEN, out + at + header_len);
-    write_tcp(&tcp, load_32(ptr), addresses_total(packet), header_len, packet->len - len,
-              around(total(out + at + TCP_LEN, header_len - TCP_LEN), of_payload), 1, out + at);
+    of_payload = around(of_payload, write_options(&options, out + at + TCP_LEN, out + at + header_len));
+    write_tcp(&tcp, load_32(ptr), addresses_total(packet), header_len, packet->len - len, of_payload, 1, out + at);
     return end;
 }
 
