@@ -1,5 +1,5 @@
 /* Times the calls of the C library, and beside them those of a reference (reference.rs) and of a floor (floor.c), which
- * are libraries with the same calls.
+ * are libraries with the same calls. Each is called as a C program calls it: in a loop, with nothing between two calls.
  *
  * usage: calls FLOOR.so [REFERENCE.so]
  *
@@ -17,8 +17,8 @@
 enum { ROUNDS = 201 };
 enum { OURS, REFERENCE, FLOOR, LIBRARIES };
 
-/* Of each kind the one that is there, or null. */
-typedef const struct library *libraries[LIBRARIES];
+/* Those that are there. */
+static const struct library *libraries[LIBRARIES];
 
 static _Noreturn void give_up(const char *what, const char *why)
 {
@@ -57,12 +57,9 @@ static struct library load(const char *path, int is_floor)
 static double nanoseconds(const struct library *library, const struct row *row, uint64_t calls)
 {
     struct timespec start, end;
-    uint64_t answers = 0;
     clock_gettime(CLOCK_MONOTONIC, &start);
-    for (uint64_t i = 0; i < calls; i++)
-        answers += row->call(library, row);
+    sink += row->repeat(library, row, calls);
     clock_gettime(CLOCK_MONOTONIC, &end);
-    sink += answers;
     return (double)(end.tv_sec - start.tv_sec) * 1e9 + (double)(end.tv_nsec - start.tv_nsec);
 }
 
@@ -106,11 +103,11 @@ static int agree(const struct row *row, const struct library *ours, const struct
     static __typeof__(out) stored;
     memset(&out, 0, sizeof out);
     next_frame = 0;
-    uint64_t answer = row->call(ours, row);
+    uint64_t answer = row->repeat(ours, row, 1);
     stored = out;
     memset(&out, 0, sizeof out);
     next_frame = 0;
-    return row->call(other, row) == answer && is_same_frame(&out.frame, &stored.frame)
+    return row->repeat(other, row, 1) == answer && is_same_frame(&out.frame, &stored.frame)
            && memcmp(&out.options, &stored.options, sizeof out.options) == 0
            && memcmp(out.bytes, stored.bytes, sizeof out.bytes) == 0;
 }
@@ -137,22 +134,30 @@ static void print_row(const struct row *row, const struct time times[LIBRARIES])
     fflush(stdout);
 }
 
-static void run(const struct row *row, const libraries all)
+/* Whether a library has the call of a row. */
+static int has(int library, const struct row *row)
+{
+    if (!libraries[library] || library == OURS)
+        return libraries[library] != NULL;
+    return row->owners == IN_ALL || row->owners == (library == FLOOR ? IN_FLOOR : IN_REFERENCE);
+}
+
+static void run(const struct row *row)
 {
     static const char *const names[LIBRARIES] = {"ours", "the reference", "the floor"};
     static double samples[LIBRARIES][ROUNDS];
     struct time times[LIBRARIES] = {0};
     row->prepare(row);
     next_frame = 0;
-    uint64_t calls = calls_of_a_sample(all[OURS], row);
+    uint64_t calls = calls_of_a_sample(libraries[OURS], row);
     for (int round = 0; round < ROUNDS; round++)
         for (int i = 0; i < LIBRARIES; i++)
-            if (all[i])
-                samples[i][round] = nanoseconds(all[i], row, calls) / (double)calls;
+            if (has(i, row))
+                samples[i][round] = nanoseconds(libraries[i], row, calls) / (double)calls;
     for (int i = 0; i < LIBRARIES; i++)
-        if (all[i]) {
+        if (has(i, row)) {
             times[i] = time_of(samples[i]);
-            if (!agree(row, all[OURS], all[i]))
+            if (!agree(row, libraries[OURS], libraries[i]))
                 fprintf(stderr, "calls: %s, %zu bytes: %s answers otherwise\n", row->name, row->size, names[i]);
         }
     print_row(row, times);
@@ -167,47 +172,18 @@ static int do_nothing(const struct lk_block *of, const struct lk_addr *addr)
 static void run_nothing(void)
 {
     static const struct library nothing = {.contains = do_nothing};
-    static const struct row row = {.name = "a null call", .prepare = prepare_bytes, .call = call_contains_ipv4};
-    run(&row, (libraries){&nothing});
+    static const struct row row = {.name = "a null call", .prepare = prepare_bytes, .repeat = call_contains_ipv4};
+    const struct library *ours = libraries[OURS];
+    libraries[OURS] = &nothing;
+    run(&row);
+    libraries[OURS] = ours;
 }
 
-/* The rows of a block, with a header where they are of TCP. */
-static void run_block(const struct block *of, const struct header *header, const libraries all)
+static void run_after_nothing(const struct row *row)
 {
-    run_nothing();
-    for (size_t i = 0; i < of->row_count; i++)
-        for (size_t j = 0; j < of->size_count; j++) {
-            char name[48];
-            struct row row = of->rows[i];
-            snprintf(name, sizeof name, "%s%s", row.name, header ? header->name : "");
-            row.name = name;
-            row.size = of->sizes[j];
-            row.header = header;
-            run(&row, all);
-        }
-}
-
-/* A row of what is done with a text, where there is a call for it. */
-static void run_text(const char *what, const char *name, const char *by, const char *text,
-                     uint64_t (*call)(const struct library *, const struct row *), const libraries all)
-{
-    if (!call)
-        return;
-    char full[48];
-    snprintf(full, sizeof full, "%s %s%s", what, name, by);
-    run(&(struct row){.name = full, .prepare = prepare_text, .call = call, .size = strlen(text), .text = text}, all);
-}
-
-/* Each text parsed, and its value printed. */
-static void run_texts(const libraries all)
-{
-    run_nothing();
-    for (size_t i = 0; i < COUNT(text_rows); i++) {
-        const char *text = text_rows[i].text, *name = text_rows[i].name;
-        run_text("parse", name, "", text, text_rows[i].parse, all);
-        run_text("parse", name, ", by core::net", text, text_rows[i].parse_by_core, all);
-        run_text("print", name, "", text, text_rows[i].print, all);
-    }
+    if (row->is_first)
+        run_nothing();
+    run(row);
 }
 
 int main(int argc, char **argv)
@@ -217,29 +193,22 @@ int main(int argc, char **argv)
         PACKET_CALLS(OWN)
         ROUTER_CALLS(OWN)
         TEXT_CALLS(OWN)
+        OWN_CALLS(OWN)
         .ipv4_parsed_by_core = lk_parse_addr,
         .ipv6_parsed_by_core = lk_parse_addr,
     };
-    struct library floor, reference;
-    libraries all = {[OURS] = &ours, [FLOOR] = &floor}, of_texts = {[OURS] = &ours}, of_router = {[OURS] = &ours, [FLOOR] = &floor};
+    static struct library floor, reference;
     if (argc != 2 && argc != 3)
         give_up("usage", "calls FLOOR.so [REFERENCE.so]");
     floor = load(argv[1], 1);
+    libraries[OURS] = &ours;
+    libraries[FLOOR] = &floor;
     if (argc == 3) {
         reference = load(argv[2], 0);
-        all[REFERENCE] = of_texts[REFERENCE] = &reference;
+        libraries[REFERENCE] = &reference;
     }
     printf("| Call | Bytes | ours ns | reference ns | floor ns | speed | floor / ours | least: speed | floor / ours |\n"
            "|---|---|---|---|---|---|---|---|---|\n");
-    for (size_t i = 0; i < COUNT(packet_blocks); i++)
-        run_block(&packet_blocks[i], NULL, all);
-    for (size_t i = 0; i < COUNT(headers); i++)
-        for (size_t j = 0; j < COUNT(tcp_blocks); j++)
-            run_block(&tcp_blocks[j], &headers[i], all);
-    run_block(&router_block, NULL, of_router);
-    for (size_t i = 0; i < COUNT(route_blocks); i++)
-        run_block(&route_blocks[i], NULL, (libraries){&ours});
-    run_block(&address_block, NULL, of_texts);
-    run_texts(of_texts);
+    visit_rows(run_after_nothing);
     return 0;
 }

@@ -10,40 +10,59 @@ enum {
     MOST_TEXT = 39, /* of an address */
 };
 
-/* The calls of a library: on packets, of a router, and of texts. The floor has all but those of texts, the reference all
- * but those of a router. */
+/* The calls of a library: on packets, of a router, of texts, and those that only ours has. The floor has the first two
+ * kinds, the reference the first and the third. */
 #define PACKET_CALLS(X)                                                                                     \
     X(checksum) X(read_frame) X(read_tcp_options) X(rebuild) X(emit_arp) X(emit_ip) X(emit_udp) X(emit_tcp) \
     X(emit_arp_frame) X(emit_udp_frame) X(emit_tcp_frame) X(contains)
 #define ROUTER_CALLS(X) X(forward) X(translate)
 #define TEXT_CALLS(X) X(parse_addr) X(parse_block) X(print_addr) X(print_block) X(print_endpoint)
+#define OWN_CALLS(X)                                                                           \
+    X(index_routes) X(choose_route) X(check_source) X(translate_out) X(translate_in) X(answer) \
+    X(parse_endpoint) X(parse_ethernet) X(print_ethernet)
 #define CALL(name) __typeof__(lk_##name) *name;
 
 struct library {
     PACKET_CALLS(CALL)
     ROUTER_CALLS(CALL)
     TEXT_CALLS(CALL)
+    OWN_CALLS(CALL)
     __typeof__(lk_parse_addr) *ipv4_parsed_by_core; /* ours beside Rust's core::net */
     __typeof__(lk_parse_addr) *ipv6_parsed_by_core;
 };
 
-/* The TCP headers by their options. */
+enum owners { IN_OURS, IN_FLOOR, IN_REFERENCE, IN_ALL };
+
+/* A TCP header by its options. */
 struct header {
     const char *name;
     struct lk_tcp tcp;
     struct lk_tcp_options options;
+    int has_nops; /* two, before the timestamp: not what the libraries emit */
 };
 
-/* One row: its input, and what is timed, with so many bytes of payload or for a checksum, with a TCP
- * header, or on a text of so many bytes. */
+struct row;
+
+/* Calls a function of a library so many times, and returns the sum of its answers. */
+typedef uint64_t repeater(const struct library *, const struct row *, uint64_t times);
+
+/* What is timed: a call, and its input. */
+struct call {
+    const char *name;
+    void (*prepare)(const struct row *);
+    repeater *repeat;
+};
+
 struct row {
     const char *name;
     void (*prepare)(const struct row *);
-    uint64_t (*call)(const struct library *, const struct row *);
-    size_t size;
-    int computed;
+    repeater *repeat;
+    size_t size; /* the bytes of a payload, of padding, to be summed or of a text; the number of routes or frames */
     const struct header *header;
     const char *text;
+    enum owners owners; /* the libraries that have the call */
+    int is_first;       /* of a block of rows */
+    unsigned counted;   /* tests/counts counts the instructions of so many calls; 0: it does not count this row */
 };
 
 static uint8_t bytes[MOST_BYTES];
@@ -113,13 +132,27 @@ static void prepare_udp_ipv6(const struct row *row) { prepare_udp(&ipv6_headers,
 
 static struct lk_frame tcp_headers; /* of the segment in the frame */
 
+/* Puts two NOPs before the timestamp of a TCP header, instead of the two zeros after it. */
+static void move_timestamp(uint8_t *header)
+{
+    uint8_t *options = header + 20, *checksum = header + 16;
+    uint16_t updated = lk_update_checksum((uint16_t)(checksum[0] << 8 | checksum[1]), 0, 0x0101);
+    memmove(options + 2, options, 10);
+    memset(options, 1, 2);
+    checksum[0] = (uint8_t)(updated >> 8);
+    checksum[1] = (uint8_t)updated;
+}
+
 static void prepare_tcp(const struct lk_frame *headers, const struct row *row)
 {
+    const size_t transport_at = headers->src.addr.version == 4 ? 34 : 54;
     const struct lk_tcp_options *options = &row->header->options;
     prepare_bytes(row);
     tcp_headers = *headers;
     tcp_headers.tcp = row->header->tcp;
     frame_len = (size_t)lk_emit_tcp_frame(&tcp_headers, options, payload, row->size, bytes, sizeof bytes);
+    if (row->header->has_nops)
+        move_timestamp(bytes + transport_at);
 }
 
 static void prepare_tcp_ipv4(const struct row *row) { prepare_tcp(&ipv4_headers, row); }
@@ -147,7 +180,7 @@ static size_t write_any_frame(uint32_t random, uint8_t *to)
     return (size_t)lk_emit_tcp_frame(&of, &options, payload, len, to, COLD_ROOM);
 }
 
-/* Each frame is behind the one before, or in a page of its own. */
+/* Each frame follows the one before, or is in a page of its own. */
 static void prepare_frames(size_t count, int apart)
 {
     uint32_t random = 1;
@@ -213,46 +246,42 @@ static void prepare_texts(const struct row *row)
     }
 }
 
-/* What a text is parsed as, to be printed: an address with a port, or a block. */
+/* What a text is parsed as, to be printed: an address with a port, a block, or an Ethernet address. */
 static struct lk_endpoint endpoint;
 static struct lk_block block;
+static uint8_t hardware[6];
 
 static void prepare_text(const struct row *row)
 {
     lk_parse_addr(row->text, row->size, &endpoint.addr);
     lk_parse_block(row->text, row->size, &block);
+    lk_parse_ethernet(row->text, row->size, hardware);
     endpoint.port = 8080;
 }
 
-/* Routes with the prefix lengths of IPv4 routes in the Internet, roughly, and destinations: half of them in a route. */
-enum { MOST_ROUTES = 1000000, DESTINATIONS = 1 << 16 };
-static struct lk_route routes[MOST_ROUTES];
-static struct lk_route_node nodes[MOST_ROUTES];
-static struct lk_addr destinations[DESTINATIONS];
+/* Calls a function of a library again and again, as a C program does: between two calls only the arguments are loaded. */
+#define REPEAT(name, function, ...)                                                            \
+    static uint64_t name(const struct library *library, const struct row *row, uint64_t times) \
+    {                                                                                          \
+        __typeof__(library->function) call = library->function;                                \
+        uint64_t answers = 0;                                                                  \
+        (void)row;                                                                             \
+        for (uint64_t i = 0; i < times; i++)                                                   \
+            answers += (uint64_t)call(__VA_ARGS__);                                            \
+        return answers;                                                                        \
+    }
 
-static struct lk_addr random_ipv4(uint32_t *random)
-{
-    struct lk_addr addr = {.version = 4};
-    for (int i = 0; i < 4; i++) {
-        *random = *random * 1664525 + 1013904223;
-        addr.octets[i] = (uint8_t)(*random >> 24);
-    }
-    addr.octets[0] = (uint8_t)(1 + addr.octets[0] % 223);
-    return addr;
-}
+#define COUNT(array) (sizeof(array) / sizeof(array)[0])
 
-static void prepare_routes(const struct row *row)
-{
-    static const uint8_t lens[16] = {24, 24, 24, 24, 24, 24, 24, 24, 24, 23, 23, 22, 22, 21, 20, 16};
-    uint32_t random = 1;
-    for (size_t i = 0; i < row->size; i++) {
-        struct lk_addr addr = random_ipv4(&random);
-        routes[i] = (struct lk_route){.block = {addr, lens[random >> 20 & 15]}};
-    }
-    for (size_t i = 0; i < DESTINATIONS; i++) {
-        destinations[i] = random_ipv4(&random);
-        if (i % 2)
-            destinations[i] = routes[random % row->size].block.addr;
-    }
-    lk_index_routes(routes, row->size, nodes, row->size);
-}
+/* Rows that are timed one after the other, each with each size. */
+struct block {
+    const struct call *rows;
+    size_t row_count;
+    const size_t *sizes;
+    size_t size_count;
+    enum owners owners;
+    unsigned counted;
+};
+#define BLOCK(rows, sizes, owners, counted) {rows, COUNT(rows), sizes, COUNT(sizes), owners, counted}
+
+typedef void visitor(const struct row *);

@@ -1,0 +1,201 @@
+/* What a router, a NAT and a host are timed on. */
+#include "inputs.h"
+
+/* Tables of routes, and destinations. */
+enum { MOST_ROUTES = 1000000, DESTINATIONS = 1 << 16 };
+static struct lk_route routes[MOST_ROUTES];
+static struct lk_route_node nodes[MOST_ROUTES];
+static struct lk_addr destinations[DESTINATIONS];
+
+static uint8_t random_octet(uint32_t *random)
+{
+    *random = *random * 1664525 + 1013904223;
+    return (uint8_t)(*random >> 24);
+}
+
+static struct lk_addr random_ipv4(uint32_t *random)
+{
+    struct lk_addr addr = {.version = 4};
+    for (int i = 0; i < 4; i++)
+        addr.octets[i] = random_octet(random);
+    addr.octets[0] = (uint8_t)(1 + addr.octets[0] % 223);
+    return addr;
+}
+
+/* An address in 2001:db8::/32. */
+static struct lk_addr random_ipv6(uint32_t *random)
+{
+    struct lk_addr addr = {{0x20, 0x01, 0x0d, 0xb8}, 6};
+    for (int i = 4; i < 16; i++)
+        addr.octets[i] = random_octet(random);
+    return addr;
+}
+
+/* With the prefix lengths of IPv4 routes in the Internet, roughly. Half of the destinations are in a route. */
+static void prepare_routes(const struct row *row)
+{
+    static const uint8_t lens[16] = {24, 24, 24, 24, 24, 24, 24, 24, 24, 23, 23, 22, 22, 21, 20, 16};
+    uint32_t random = 1;
+    for (size_t i = 0; i < row->size; i++) {
+        struct lk_addr addr = random_ipv4(&random);
+        routes[i] = (struct lk_route){.block = {addr, lens[random >> 20 & 15]}};
+    }
+    for (size_t i = 0; i < DESTINATIONS; i++) {
+        destinations[i] = random_ipv4(&random);
+        if (i % 2)
+            destinations[i] = routes[random % row->size].block.addr;
+    }
+    lk_index_routes(routes, row->size, nodes, row->size);
+}
+
+/* In the order of an index. */
+static void prepare_ordered_routes(const struct row *row)
+{
+    for (size_t i = 0; i < row->size; i++)
+        routes[i] = (struct lk_route){.block = {{{10, (uint8_t)(i >> 16), (uint8_t)(i >> 8), (uint8_t)i}, 4}, 32}};
+}
+
+/* As of a small router: a default route, and prefixes of its own. Half of the destinations are in one of these. The
+ * interfaces are two. */
+static void prepare_few_routes(const struct row *row)
+{
+    uint32_t random = 1;
+    routes[0] = (struct lk_route){.block = {.addr = {.version = 4}}};
+    for (size_t i = 1; i < row->size; i++)
+        routes[i] = (struct lk_route){.block = {random_ipv4(&random), i % 2 ? 16 : 24}, .interface = i % 2};
+    for (size_t i = 0; i < DESTINATIONS; i++) {
+        destinations[i] = random_ipv4(&random);
+        if (i % 2)
+            destinations[i] = routes[1 + random % (row->size - 1)].block.addr;
+    }
+    lk_index_routes(routes, row->size, nodes, row->size);
+}
+
+/* The same with IPv6: the last half of the routes are a default route and prefixes of 2001:db8::/32. */
+static void prepare_dual_stack(const struct row *row)
+{
+    uint32_t random = 1;
+    size_t half = row->size / 2;
+    prepare_few_routes(&(struct row){.size = half});
+    routes[half] = (struct lk_route){.block = {.addr = {.version = 6}}};
+    for (size_t i = half + 1; i < row->size; i++)
+        routes[i] = (struct lk_route){.block = {random_ipv6(&random), i % 2 ? 48 : 64}, .interface = i % 2};
+    for (size_t i = 0; i < DESTINATIONS; i += 4) {
+        destinations[i] = random_ipv6(&random);
+        destinations[i + 1] = routes[half + 1 + random % (half - 1)].block.addr;
+    }
+    lk_index_routes(routes, row->size, nodes, row->size);
+}
+
+/* A default route, and many routes in one block, 2001:db8::/32. Four of five destinations are outside of this block, and
+ * have its first 16 or 24 bits. */
+static void prepare_own_block(const struct row *row)
+{
+    uint32_t random = 1;
+    routes[0] = (struct lk_route){.block = {.addr = {.version = 6}}};
+    for (size_t i = 1; i < row->size; i++)
+        routes[i] = (struct lk_route){.block = {random_ipv6(&random), 64}};
+    for (size_t i = 0; i < DESTINATIONS; i++) {
+        destinations[i] = random_ipv6(&random);
+        if (i % 5 == 0)
+            destinations[i] = routes[1 + random % (row->size - 1)].block.addr;
+        else
+            destinations[i].octets[2 + i % 2] ^= 0x20;
+    }
+    lk_index_routes(routes, row->size, nodes, row->size);
+}
+
+/* Flows through a NAT, and for each a frame, which `frames` has. Every other inside port is an outside port too. */
+enum { FLOWS = 256, OUTSIDE_PORTS = 512, FEW_PORTS = 64 };
+static const struct lk_nat nat = {
+    .key = {0x0123456789abcdef, 0xfedcba9876543210},
+    .udp_timeout = 300000,
+    .tcp_timeout = 7440000,
+    .tcp_transitory_timeout = 240000,
+    .outside = {203, 0, 113, 9},
+    .first_port = 1024,
+};
+static struct lk_mapping mappings[2 * OUTSIDE_PORTS];
+
+static size_t write_flow(size_t flow, int is_tcp, size_t len, uint8_t *to)
+{
+    static const struct lk_tcp_options no_options;
+    struct lk_frame of = ipv4_headers;
+    uint16_t port = (uint16_t)(flow % 2 ? nat.first_port + flow * 37 % OUTSIDE_PORTS : 40000 + flow);
+    of.tcp = (struct lk_tcp){.flags = LK_ACK, .window_len = 502};
+    of.src = (struct lk_endpoint){{{10, 0, (uint8_t)(flow / 64), (uint8_t)(1 + flow % 64)}, 4}, port};
+    of.dst = (struct lk_endpoint){{{198, 51, 100, 1}, 4}, 443};
+    if (is_tcp)
+        return (size_t)lk_emit_tcp_frame(&of, &no_options, payload, len, to, COLD_ROOM);
+    return (size_t)lk_emit_udp_frame(&of, payload, len, to, COLD_ROOM);
+}
+
+static void prepare_flows(const struct row *row, int is_tcp)
+{
+    prepare_bytes(row);
+    memset(mappings, 0, sizeof mappings);
+    frame_count = FLOWS;
+    for (size_t i = 0; i < FLOWS; i++) {
+        frames[i].ptr = room_of_frames[i];
+        frames[i].len = write_flow(i, is_tcp, row->size, room_of_frames[i]);
+    }
+}
+
+/* Makes a mapping for each flow, and turns the frame into the answer to it. */
+static void prepare_answers(const struct row *row, int is_tcp)
+{
+    prepare_flows(row, is_tcp);
+    for (size_t i = 0; i < FLOWS; i++) {
+        struct lk_frame of;
+        lk_translate_out(&nat, mappings, COUNT(mappings), 0, room_of_frames[i], frames[i].len);
+        lk_read_frame(frames[i].ptr, frames[i].len, &of);
+        lk_reply(&of);
+        if (is_tcp)
+            lk_wrap_tcp_frame(&of, &(struct lk_tcp_options){.tsval = 0}, row->size, room_of_frames[i], COLD_ROOM);
+        else
+            lk_wrap_udp_frame(&of, row->size, room_of_frames[i], COLD_ROOM);
+    }
+}
+
+static void prepare_udp_flows(const struct row *row) { prepare_flows(row, 0); }
+static void prepare_tcp_flows(const struct row *row) { prepare_flows(row, 1); }
+static void prepare_udp_answers(const struct row *row) { prepare_answers(row, 0); }
+static void prepare_tcp_answers(const struct row *row) { prepare_answers(row, 1); }
+
+/* Frames to a host that has the destination of `ipv4_headers`. */
+static const uint16_t open_ports[] = {22, 53, 80, 443};
+static const struct lk_host host = {
+    .open_ports = open_ports,
+    .open_port_count = COUNT(open_ports),
+    .ipv4 = IPV4(2),
+    .ipv6 = IPV6(0xfe, 0x80, 2),
+    .hardware = {2, 0, 0, 0, 0, 2},
+    .echo_port = 53,
+    .window_len = 64240,
+    .max_seg_size = 1460,
+    .window_scale = 7,
+};
+
+static void prepare_arp_request(const struct row *row)
+{
+    struct lk_frame of = ipv4_headers;
+    prepare_bytes(row);
+    of.arp.operation = 1;
+    frame_len = (size_t)lk_emit_arp_frame(&of, bytes, sizeof bytes);
+}
+
+static void prepare_syn(const struct row *row)
+{
+    static const struct header syn = {.tcp = {.flags = LK_SYN, .window_len = 64240},
+                                      .options = {.has_max_seg_size = 1, .max_seg_size = 1460, .sack_permitted = 1,
+                                                  .has_timestamp = 1, .tsval = 0x12345678}};
+    prepare_tcp_ipv4(&(struct row){.size = row->size, .header = &syn});
+}
+
+/* A segment of data, with a timestamp. */
+static void prepare_data(const struct row *row)
+{
+    static const struct header data = {.tcp = {.flags = LK_PSH | LK_ACK, .window_len = 502},
+                                       .options = {.has_timestamp = 1, .tsval = 0x12345678, .tsecr = 0x23456789}};
+    prepare_tcp_ipv4(&(struct row){.size = row->size, .header = &data});
+}

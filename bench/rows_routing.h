@@ -1,0 +1,145 @@
+/* The rows of a router, a NAT and a host. */
+#include "inputs_routing.h"
+
+/* Copies of the frame by turns, since what was just written is slow to load. Each is renewed before its hop limit is
+ * used up. */
+static uint8_t *next_on_its_way(void)
+{
+    static uint8_t copies[32][1600];
+    uint8_t *copy = copies[next_frame % 32];
+    if (next_frame++ % 1024 < 32)
+        memcpy(copy, bytes, frame_len);
+    return copy;
+}
+
+/* Stores a frame to be compared, if it is the first of its turn. */
+static void store_first(const uint8_t *frame)
+{
+    if (next_frame % 1024 == 1)
+        memcpy(out.bytes, frame, frame_len);
+}
+
+static uint64_t call_forward(const struct library *library, const struct row *row, uint64_t times)
+{
+    const struct lk_ethernet *ethernet = &ipv4_headers.ethernet;
+    __typeof__(library->forward) forward = library->forward;
+    uint64_t answers = 0;
+    (void)row;
+    for (uint64_t i = 0; i < times; i++) {
+        uint8_t *frame = next_on_its_way();
+        answers += (uint64_t)forward(frame, frame_len, ethernet->dst, ethernet->src);
+        store_first(frame);
+    }
+    return answers;
+}
+
+/* The source is one of two endpoints by turns. */
+static uint64_t call_translate(const struct library *library, const struct row *row, uint64_t times)
+{
+    static const struct lk_endpoint ends[] = {{IPV4(7), 40000}, {IPV4(8), 50001}};
+    __typeof__(library->translate) translate = library->translate;
+    uint64_t answers = 0;
+    (void)row;
+    for (uint64_t i = 0; i < times; i++) {
+        uint8_t *frame = next_on_its_way();
+        answers += (uint64_t)translate(frame, frame_len, LK_SOURCE, &ends[next_frame / 32 % 2]);
+        store_first(frame);
+    }
+    return answers;
+}
+
+#define NEXT_DESTINATION &destinations[next_frame++ % DESTINATIONS]
+REPEAT(call_choose_route, choose_route, nodes, row->size, NEXT_DESTINATION)
+REPEAT(call_check_source, check_source, routes, row->size, nodes, row->size, NEXT_DESTINATION, 1)
+REPEAT(call_index_routes, index_routes, routes, row->size, nodes, row->size)
+
+/* Copies of the frames by turns. */
+static uint8_t *next_copy(size_t *len)
+{
+    enum { COPIES = 32 };
+    static uint8_t copies[COPIES][1600];
+    if (next_frame % COPIES == 0)
+        for (size_t i = 0; i < COPIES; i++)
+            memcpy(copies[i], frames[(next_frame + i) % frame_count].ptr, frames[(next_frame + i) % frame_count].len);
+    *len = frames[next_frame % frame_count].len;
+    return copies[next_frame++ % COPIES];
+}
+
+/* Calls of a NAT with so many ports, each at a time that depends on the number of the call. */
+#define NAT_CALLS(name, function, ports, now)                                                  \
+    static uint64_t name(const struct library *library, const struct row *row, uint64_t times) \
+    {                                                                                          \
+        uint64_t answers = 0;                                                                  \
+        (void)row;                                                                             \
+        for (uint64_t i = 0; i < times; i++) {                                                 \
+            size_t len;                                                                        \
+            uint8_t *copy = next_copy(&len);                                                   \
+            answers += (uint64_t)library->function(&nat, mappings, 2 * ports, now, copy, len); \
+        }                                                                                      \
+        return answers;                                                                        \
+    }
+
+NAT_CALLS(call_nat_out, translate_out, OUTSIDE_PORTS, 1)
+NAT_CALLS(call_nat_in, translate_in, OUTSIDE_PORTS, 1)
+/* In each turn the mappings of the turn before have expired. */
+NAT_CALLS(call_nat_new, translate_out, OUTSIDE_PORTS, (next_frame - 1) / FLOWS * (nat.tcp_timeout + 1))
+NAT_CALLS(call_nat_full, translate_out, FEW_PORTS, 1)
+
+REPEAT(call_answer, answer, &host, bytes, frame_len, OUT)
+
+static const struct call forward_rows[] = {
+    {"forward UDP/IPv4", prepare_udp_ipv4, call_forward},
+    {"forward UDP/IPv6", prepare_udp_ipv6, call_forward},
+    {"translate UDP/IPv4", prepare_udp_ipv4, call_translate},
+    {"translate TCP/IPv4", prepare_data, call_translate},
+};
+static const size_t forward_sizes[] = {0, 64, MOST_PAYLOAD};
+
+/* Their sizes are numbers of routes. */
+static const struct call choose_rows[] = {{"choose a route", prepare_routes, call_choose_route}};
+static const size_t choose_counts[] = {1000, 100000}, most_routes[] = {MOST_ROUTES};
+static const struct call few_rows[] = {
+    {"choose a route, small table", prepare_few_routes, call_choose_route},
+    {"check a source, small table", prepare_few_routes, call_check_source},
+};
+static const size_t few_counts[] = {12};
+static const struct call dual_rows[] = {
+    {"choose a route, dual stack", prepare_dual_stack, call_choose_route},
+    {"check a source, dual stack", prepare_dual_stack, call_check_source},
+};
+static const size_t dual_counts[] = {20};
+static const struct call own_rows[] = {{"choose a route beside a block", prepare_own_block, call_choose_route}};
+static const size_t own_counts[] = {100, 10000};
+static const struct call index_rows[] = {
+    {"index routes", prepare_routes, call_index_routes},
+    {"index routes in order", prepare_ordered_routes, call_index_routes},
+};
+static const size_t index_counts[] = {12, 500}, many_routes[] = {1000, 100000};
+
+static const struct call nat_rows[] = {
+    {"NAT out UDP", prepare_udp_flows, call_nat_out},
+    {"NAT out TCP", prepare_tcp_flows, call_nat_out},
+    {"NAT in UDP", prepare_udp_answers, call_nat_in},
+    {"NAT in TCP", prepare_tcp_answers, call_nat_in},
+    {"NAT out UDP, new", prepare_udp_flows, call_nat_new},
+    {"NAT out TCP, new", prepare_tcp_flows, call_nat_new},
+    {"NAT out UDP, no port", prepare_udp_flows, call_nat_full},
+};
+static const size_t nat_sizes[] = {64};
+
+static const struct call host_rows[] = {
+    {"answer ARP", prepare_arp_request, call_answer},
+    {"answer UDP/IPv4", prepare_udp_ipv4, call_answer},
+    {"answer TCP/IPv4 SYN", prepare_syn, call_answer},
+    {"answer TCP/IPv4 data", prepare_data, call_answer},
+};
+static const size_t host_sizes[] = {0};
+
+/* Of a look-up and of NAT, tests/counts counts as many calls as show each way through the table. */
+static const struct block routing_blocks[] = {
+    BLOCK(forward_rows, forward_sizes, IN_FLOOR, 1),  BLOCK(few_rows, few_counts, IN_OURS, 256),
+    BLOCK(dual_rows, dual_counts, IN_OURS, 256),      BLOCK(choose_rows, choose_counts, IN_OURS, 1000),
+    BLOCK(choose_rows, most_routes, IN_OURS, 0),      BLOCK(own_rows, own_counts, IN_OURS, 256),
+    BLOCK(index_rows, index_counts, IN_OURS, 1),      BLOCK(index_rows, many_routes, IN_OURS, 0),
+    BLOCK(nat_rows, nat_sizes, IN_OURS, FLOWS),       BLOCK(host_rows, host_sizes, IN_OURS, 1),
+};
