@@ -17,9 +17,11 @@ enum {
     X(emit_arp_frame) X(emit_udp_frame) X(emit_tcp_frame) X(contains)
 #define ROUTER_CALLS(X) X(forward) X(translate)
 #define TEXT_CALLS(X) X(parse_addr) X(parse_block) X(print_addr) X(print_block) X(print_endpoint)
-#define OWN_CALLS(X)                                                                           \
-    X(index_routes) X(choose_route) X(check_source) X(translate_out) X(translate_in) X(answer) \
-    X(parse_endpoint) X(parse_ethernet) X(print_ethernet)
+#define OWN_CALLS(X)                                                                                   \
+    X(index_routes) X(choose_route) X(check_source) X(translate_out) X(translate_in) X(answer)         \
+    X(parse_endpoint) X(parse_ethernet) X(print_ethernet) X(read_packet) X(read_captured)              \
+    X(next_tcp_option) X(wrap_udp_frame) X(wrap_tcp_frame) X(update_checksum) X(update_checksum_addr)  \
+    X(update_udp_checksum) X(update_udp_checksum_addr)
 #define CALL(name) __typeof__(lk_##name) *name;
 
 struct library {

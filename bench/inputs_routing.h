@@ -106,7 +106,7 @@ static void prepare_own_block(const struct row *row)
 }
 
 /* Flows through a NAT, and for each a frame, which `frames` has. Every other inside port is an outside port too. */
-enum { FLOWS = 256, OUTSIDE_PORTS = 512, FEW_PORTS = 64 };
+enum { FLOWS = 256, OUTSIDE_PORTS = 512, FEW_PORTS = 32 };
 static const struct lk_nat nat = {
     .key = {0x0123456789abcdef, 0xfedcba9876543210},
     .udp_timeout = 300000,
@@ -133,7 +133,6 @@ static size_t write_flow(size_t flow, int is_tcp, size_t len, uint8_t *to)
 static void prepare_flows(const struct row *row, int is_tcp)
 {
     prepare_bytes(row);
-    memset(mappings, 0, sizeof mappings);
     frame_count = FLOWS;
     for (size_t i = 0; i < FLOWS; i++) {
         frames[i].ptr = room_of_frames[i];
@@ -141,13 +140,27 @@ static void prepare_flows(const struct row *row, int is_tcp)
     }
 }
 
-/* Makes a mapping for each flow, and turns the frame into the answer to it. */
-static void prepare_answers(const struct row *row, int is_tcp)
+/* Makes a mapping for each flow, as long as there are ports. */
+static void prepare_mappings(const struct row *row, int is_tcp, size_t ports)
 {
+    memset(mappings, 0, sizeof mappings);
     prepare_flows(row, is_tcp);
+    for (size_t i = 0; i < FLOWS; i++)
+        lk_translate_out(&nat, mappings, 2 * ports, 0, room_of_frames[i], frames[i].len);
+}
+
+static void prepare_out(const struct row *row, int is_tcp, size_t ports)
+{
+    prepare_mappings(row, is_tcp, ports);
+    prepare_flows(row, is_tcp);
+}
+
+/* The frames are answers to the flows. */
+static void prepare_in(const struct row *row, int is_tcp)
+{
+    prepare_mappings(row, is_tcp, OUTSIDE_PORTS);
     for (size_t i = 0; i < FLOWS; i++) {
         struct lk_frame of;
-        lk_translate_out(&nat, mappings, COUNT(mappings), 0, room_of_frames[i], frames[i].len);
         lk_read_frame(frames[i].ptr, frames[i].len, &of);
         lk_reply(&of);
         if (is_tcp)
@@ -157,10 +170,11 @@ static void prepare_answers(const struct row *row, int is_tcp)
     }
 }
 
-static void prepare_udp_flows(const struct row *row) { prepare_flows(row, 0); }
-static void prepare_tcp_flows(const struct row *row) { prepare_flows(row, 1); }
-static void prepare_udp_answers(const struct row *row) { prepare_answers(row, 0); }
-static void prepare_tcp_answers(const struct row *row) { prepare_answers(row, 1); }
+static void prepare_udp_out(const struct row *row) { prepare_out(row, 0, OUTSIDE_PORTS); }
+static void prepare_tcp_out(const struct row *row) { prepare_out(row, 1, OUTSIDE_PORTS); }
+static void prepare_udp_full(const struct row *row) { prepare_out(row, 0, FEW_PORTS); }
+static void prepare_udp_in(const struct row *row) { prepare_in(row, 0); }
+static void prepare_tcp_in(const struct row *row) { prepare_in(row, 1); }
 
 /* Frames to a host that has the destination of `ipv4_headers`. */
 static const uint16_t open_ports[] = {22, 53, 80, 443};

@@ -55,6 +55,30 @@ static const struct lk_block block_of_ipv4 = {IPV4(0), 24}, block_of_ipv6 = {IPV
 REPEAT(call_contains_ipv4, contains, &block_of_ipv4, &ipv4_headers.dst.addr)
 REPEAT(call_contains_ipv6, contains, &block_of_ipv6, &ipv6_headers.dst.addr)
 
+/* Calls that only ours has. */
+REPEAT(call_read_packet, read_packet, bytes + 14, frame_len - 14, &out.frame)
+REPEAT(call_read_captured, read_captured, bytes, 64, frame_len, &out.frame)
+REPEAT(call_wrap_udp_frame, wrap_udp_frame, &ipv4_headers, row->size, OUT)
+REPEAT(call_wrap_tcp_frame, wrap_tcp_frame, &tcp_headers, &row->header->options, row->size, OUT)
+REPEAT(call_update, update_checksum, 0x1234, 0x5678, 0x9abc)
+REPEAT(call_update_addr, update_checksum_addr, 0x1234, &ipv4_headers.src.addr, &ipv4_headers.dst.addr)
+REPEAT(call_update_udp, update_udp_checksum, 0x1234, 0x5678, 0x9abc)
+REPEAT(call_update_udp_addr, update_udp_checksum_addr, 0x1234, &ipv6_headers.src.addr, &ipv6_headers.dst.addr)
+
+/* Steps through all options of a header. */
+static uint64_t call_next_options(const struct library *library, const struct row *row, uint64_t times)
+{
+    __typeof__(library->next_tcp_option) next = library->next_tcp_option;
+    uint64_t answers = 0;
+    (void)row;
+    for (uint64_t i = 0; i < times; i++) {
+        struct lk_tcp_option option = {0, 0, 0};
+        while (next(bytes + 34, 60, &option) == 1)
+            answers++;
+    }
+    return answers;
+}
+
 static uint64_t call_print_all(const struct library *library, const struct row *row, uint64_t times)
 {
     __typeof__(library->print_addr) print = library->print_addr;
@@ -228,6 +252,26 @@ static const struct block tcp_blocks[] = {
 };
 static const struct block address_block = BLOCK(address_rows, address_counts, IN_REFERENCE, 1);
 
+static const struct call own_rows[] = {
+    {"read packet UDP/IPv4", prepare_udp_ipv4, call_read_packet},
+    {"read captured UDP/IPv4", prepare_udp_ipv4, call_read_captured},
+    {"wrap frame UDP/IPv4", prepare_udp_ipv4, call_wrap_udp_frame},
+};
+static const struct call own_tcp_rows[] = {
+    {"wrap frame TCP/IPv4", prepare_tcp_ipv4, call_wrap_tcp_frame},
+    {"next options", prepare_tcp_ipv4, call_next_options},
+};
+static const struct call update_rows[] = {
+    {"update checksum", prepare_bytes, call_update},
+    {"update checksum, address", prepare_bytes, call_update_addr},
+    {"update UDP checksum", prepare_bytes, call_update_udp},
+    {"update UDP checksum, address", prepare_bytes, call_update_udp_addr},
+};
+static const size_t own_sizes[] = {64};
+static const struct block own_block = BLOCK(own_rows, own_sizes, IN_OURS, 1);
+static const struct block own_tcp_block = BLOCK(own_tcp_rows, own_sizes, IN_OURS, 1);
+static const struct block update_block = BLOCK(update_rows, no_size, IN_OURS, 1);
+
 /* Visits the rows of a block, each with each size and with a header where they are of TCP. */
 static void visit_block(const struct block *block, const struct header *header, visitor *visit)
 {
@@ -278,6 +322,9 @@ static void visit_rows(visitor *visit)
                 visit_block(&tcp_blocks[j], &headers[i], visit);
     for (size_t i = 0; i < COUNT(routing_blocks); i++)
         visit_block(&routing_blocks[i], NULL, visit);
+    visit_block(&own_block, NULL, visit);
+    visit_block(&own_tcp_block, &headers[1], visit);
+    visit_block(&update_block, NULL, visit);
     visit_block(&address_block, NULL, visit);
     visit_texts(address_texts, COUNT(address_texts), IN_REFERENCE, visit);
     visit_texts(own_texts, COUNT(own_texts), IN_OURS, visit);

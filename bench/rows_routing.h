@@ -81,9 +81,9 @@ static uint8_t *next_copy(size_t *len)
 
 NAT_CALLS(call_nat_out, translate_out, OUTSIDE_PORTS, 1)
 NAT_CALLS(call_nat_in, translate_in, OUTSIDE_PORTS, 1)
-/* In each turn the mappings of the turn before have expired. */
-NAT_CALLS(call_nat_new, translate_out, OUTSIDE_PORTS, (next_frame - 1) / FLOWS * (nat.tcp_timeout + 1))
 NAT_CALLS(call_nat_full, translate_out, FEW_PORTS, 1)
+/* In each turn the mappings of the turn before have expired. */
+NAT_CALLS(call_nat_expired, translate_out, OUTSIDE_PORTS, ((next_frame - 1) / FLOWS + 1) * (nat.tcp_timeout + 1))
 
 REPEAT(call_answer, answer, &host, bytes, frame_len, OUT)
 
@@ -108,22 +108,22 @@ static const struct call dual_rows[] = {
     {"check a source, dual stack", prepare_dual_stack, call_check_source},
 };
 static const size_t dual_counts[] = {20};
-static const struct call own_rows[] = {{"choose a route beside a block", prepare_own_block, call_choose_route}};
-static const size_t own_counts[] = {100, 10000};
+static const struct call beside_rows[] = {{"choose a route beside a block", prepare_own_block, call_choose_route}};
+static const size_t beside_counts[] = {100, 10000};
 static const struct call index_rows[] = {
     {"index routes", prepare_routes, call_index_routes},
     {"index routes in order", prepare_ordered_routes, call_index_routes},
 };
-static const size_t index_counts[] = {12, 500}, many_routes[] = {1000, 100000};
+static const size_t index_counts[] = {12, 200}, many_routes[] = {1000, 100000};
 
 static const struct call nat_rows[] = {
-    {"NAT out UDP", prepare_udp_flows, call_nat_out},
-    {"NAT out TCP", prepare_tcp_flows, call_nat_out},
-    {"NAT in UDP", prepare_udp_answers, call_nat_in},
-    {"NAT in TCP", prepare_tcp_answers, call_nat_in},
-    {"NAT out UDP, new", prepare_udp_flows, call_nat_new},
-    {"NAT out TCP, new", prepare_tcp_flows, call_nat_new},
-    {"NAT out UDP, no port", prepare_udp_flows, call_nat_full},
+    {"NAT out UDP", prepare_udp_out, call_nat_out},
+    {"NAT out TCP", prepare_tcp_out, call_nat_out},
+    {"NAT in UDP", prepare_udp_in, call_nat_in},
+    {"NAT in TCP", prepare_tcp_in, call_nat_in},
+    {"NAT out UDP, expired", prepare_udp_out, call_nat_expired},
+    {"NAT out TCP, expired", prepare_tcp_out, call_nat_expired},
+    {"NAT out UDP, few ports", prepare_udp_full, call_nat_full},
 };
 static const size_t nat_sizes[] = {64};
 
@@ -135,11 +135,11 @@ static const struct call host_rows[] = {
 };
 static const size_t host_sizes[] = {0};
 
-/* Of a look-up and of NAT, tests/counts counts as many calls as show each way through the table. */
+/* Of look-ups and of NAT so many calls are counted that the ways through the tables are among them. */
 static const struct block routing_blocks[] = {
-    BLOCK(forward_rows, forward_sizes, IN_FLOOR, 1),  BLOCK(few_rows, few_counts, IN_OURS, 256),
-    BLOCK(dual_rows, dual_counts, IN_OURS, 256),      BLOCK(choose_rows, choose_counts, IN_OURS, 1000),
-    BLOCK(choose_rows, most_routes, IN_OURS, 0),      BLOCK(own_rows, own_counts, IN_OURS, 256),
-    BLOCK(index_rows, index_counts, IN_OURS, 1),      BLOCK(index_rows, many_routes, IN_OURS, 0),
-    BLOCK(nat_rows, nat_sizes, IN_OURS, FLOWS),       BLOCK(host_rows, host_sizes, IN_OURS, 1),
+    BLOCK(forward_rows, forward_sizes, IN_FLOOR, 1), BLOCK(few_rows, few_counts, IN_OURS, 128),
+    BLOCK(dual_rows, dual_counts, IN_OURS, 128),     BLOCK(choose_rows, choose_counts, IN_OURS, 256),
+    BLOCK(choose_rows, most_routes, IN_OURS, 0),     BLOCK(beside_rows, beside_counts, IN_OURS, 128),
+    BLOCK(index_rows, index_counts, IN_OURS, 1),     BLOCK(index_rows, many_routes, IN_OURS, 0),
+    BLOCK(nat_rows, nat_sizes, IN_OURS, 64),         BLOCK(host_rows, host_sizes, IN_OURS, 1),
 };

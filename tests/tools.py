@@ -314,7 +314,28 @@ def generated(tool, *kinds):
 GENERATED = [generated("class_lines.py", "class"), generated("host_lines.py", "host"), generated("field_lines.py", "set", "get"),
              generated("again_lines.py", "again")]
 
-CASES = [*RECORDED_CAPTURES, *PCAP, *PCAPNG, *RECORDED_DUMPS, *DUMPS, *DEVICES, *COMPARED, *GENERATED]
+def counts(name, record, counted, output, status):
+    """Two records of tests/counts, a row in a word: its call, bytes and instructions."""
+    files = [f"<(printf '%s\\n' {' '.join(rows.split())} | tr , ' ')" for rows in (record, counted)]
+    said = "If this is meant, or a gain, renew the record in the same commit: tests/counts --write\n" if status else ""
+    return Case(f"counts: {name}", f"tests/counts --compare {files[0]} {files[1]}", b"", output + said, "", status)
+
+
+COUNTS = [
+    counts("equal", "read,0,105 sum,20,29", "read,0,105 sum,20,29", "2 rows of counts, 0 differ\n", 0),
+    counts("within 2 in 100, or 3", "read,0,1000 sum,20,29", "read,0,1020 sum,20,26", "2 rows of counts, 0 differ\n", 0),
+    counts("3 in 100", "read,0,1000 read,64,1000", "read,0,1030 read,64,1000",
+           "read, 0: 1030 instructions, 30 more than recorded\n2 rows of counts, 1 differ\n", 1),
+    counts("4 of few", "sum,20,29", "sum,20,33", "sum, 20: 33 instructions, 4 more than recorded\n1 rows of counts, 1 differ\n", 1),
+    counts("a gain", "read,0,1000", "read,0,900",
+           "read, 0: 900 instructions, 100 fewer than recorded\n1 rows of counts, 1 differ\n", 1),
+    counts("a new row", "read,0,105", "read,0,105 read,18,105",
+           "read, 18: 105 instructions, not recorded\n2 rows of counts, 1 differ\n", 1),
+    counts("a missing row", "read,0,105 read,18,105", "read,0,105",
+           "read, 18: recorded, but there is no such row\n1 rows of counts, 1 differ\n", 1),
+]
+
+CASES = [*RECORDED_CAPTURES, *PCAP, *PCAPNG, *RECORDED_DUMPS, *DUMPS, *DEVICES, *COMPARED, *GENERATED, *COUNTS]
 
 
 def failure(case):
