@@ -1,5 +1,5 @@
 -- What fills the front of a slice.
-use Rattle.std.proofs.Common.{◌≡◌, ◌∙◌, ℕ, ℤ, pos, SFits, to_z, of_z, w64, ◌+◌, ◌≤◌, ◌<◌, inl, inr, true, false, nat_le, if◌then◌else◌, List, [], ◌++◌, Option, Some, None, drop, length, slice_range, take, ap, subst, sym, arith}
+use Rattle.std.proofs.Common.{◌≡◌, ◌∙◌, ℕ, ℤ, pos, SFits, to_z, of_z, w64, ◌+◌, ◌≤◌, ◌<◌, inl, inr, true, nat_le, if◌then◌else◌, List, [], ◌++◌, Option, Some, None, drop, length, slice_range, take, ap, subst, sym, arith}
 use Rattle.std.proofs.lemmas.Bool.Decides.{nat_tests}
 use Rattle.std.proofs.lemmas.Grind.{common_steps}
 use Rattle.std.proofs.lemmas.Int.{to_z-of_z, to_z_pos}
@@ -74,13 +74,6 @@ unfolding within
 within-is bytes room =
     let fits : nat_le (length bytes) max_len ≡ true = grind (arith, nat_tests, room) in
     ap (λ b. if b then bytes else []) fits
-
--- an input that is too long counts as empty
-pub within-not : (bytes : List ℕ) → max_len < length bytes → within bytes ≡ []
-unfolding within
-within-not bytes long =
-    let fails : nat_le (length bytes) max_len ≡ false = grind (arith, nat_tests, long) in
-    ap (λ b. if b then bytes else []) fails
 
 -- ---- a front that is written in several steps
 
