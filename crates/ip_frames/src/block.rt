@@ -9,6 +9,7 @@ ghost use Rattle.ip_wire.specs.FrameValue.{Finds, Fits, frame_bytes, frame_len};
 
 use crate::payload::push_payload;
 use hex::FromHexError;
+use hex_digits::{Digits, write_digits};
 use ip_wire::{EthernetFrame, Frame, laws};
 use net_base::ChecksumCapabilities;
 use std::alloc::{AllocError, Global};
@@ -35,7 +36,7 @@ impl Room {
     }
 
     /// The room with the block of an input line in it.
-    pub fn with_block(self, line: &[u8]) -> Result<Room, AllocError>
+    pub fn with_block(self, line: &[u8], digits: &Digits) -> Result<Room, AllocError>
         ensures { IfOk result (λ room. room.block.items ≡ block_of line.now) }
     {
         let Room {
@@ -44,7 +45,7 @@ impl Room {
             block,
         } = self;
         let mut text = empty_text(block);
-        let mut block = match decode(line, &mut frame) {
+        let mut block = match decode(line, digits, &mut frame) {
             Ok(()) => with_frame(text, frame.as_slice(), &mut again)?,
             Err(FromHexError::OutOfMemory) => return Err(AllocError),
             Err(_) => {
@@ -69,10 +70,9 @@ fn empty_text(mut bytes: Vec<u8>) -> String
     String::from_utf8(bytes).unwrap()
 }
 
-// Decodes the digits of a line into `frame`. Out of line, the loop over the digits has its values
-// in registers.
+// Decodes the digits of a line into `frame`. Not inlined: inlined, the loop spills its registers.
 #[inline(never)]
-fn decode(line: &[u8], frame: &mut Vec<u8>) -> Result<(), FromHexError>
+fn decode(line: &[u8], digits: &Digits, frame: &mut Vec<u8>) -> Result<(), FromHexError>
     ensures ok { OnOk result (decode_of line.now ≡ Ok frame.new.items) }
     ensures err { IfErr result (λ e. (e ≡ OutOfMemory) ⊎ (decode_of line.now ≡ Err e)) }
 {
@@ -80,7 +80,7 @@ fn decode(line: &[u8], frame: &mut Vec<u8>) -> Result<(), FromHexError>
         return Err(FromHexError::OddLength);
     }
     frame.resize(line.len() / 2, 0)?;
-    hex::decode_to_slice(line, frame.as_mut_slice())
+    digits.decode(line, frame.as_mut_slice())
 }
 
 // The text, followed by the lines of a frame. The last line has the rebuilt frame, which is made in
@@ -142,6 +142,6 @@ fn push_digits(bytes: &[u8], text: &mut Vec<u8>) -> Result<(), AllocError>
     let len = bytes.len().checked_mul(2).ok_or(AllocError)?;
     let end = start.checked_add(len).ok_or(AllocError)?;
     text.resize(end, 0)?;
-    hex::encode_to_slice(bytes, &mut text[start..]).unwrap();
+    write_digits(bytes, &mut text[start..]);
     Ok(())
 }

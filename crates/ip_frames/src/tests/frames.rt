@@ -4,7 +4,13 @@ use crate::tests::runs::prints;
 
 #[test]
 fn lines(rt: HostRuntime) {
-    let rows: [(&[u8], &[u8]); 6] = [
+    let rows: [(&[u8], &[u8]); 7] = [
+        // Each digit, in both cases.
+        (
+            b"0123456789abcdefABCDEF000000",
+            b"EthernetII src=cd-ef-ab-cd-ef-00 dst=01-23-45-67-89-ab type=0x0000\n\
+                again 0123456789abcdefabcdef000000\n\n",
+        ),
         (b"abc\n01 02\n\xff\n", b"not hex\n\nnot hex\n\nnot hex\n\n"),
         (b"0102", b"EthernetII (wire::Error)\n\n"),
         (b"0102\r", b"not hex\n\n"),
@@ -17,6 +23,17 @@ fn lines(rt: HostRuntime) {
     ];
     for (input, output) in rows {
         prints(&rt, rt.alloc(), input, output);
+    }
+}
+
+// Each byte that is no digit, but a line feed, which ends the line.
+#[test]
+fn other_bytes(rt: HostRuntime) {
+    for c in 0..=u8::MAX {
+        if !c.is_ascii_hexdigit() && c != b'\n' {
+            let input = [c, b'0', b'0', b'\n', b'0', c, b'0', b'0'];
+            prints(&rt, rt.alloc(), input.as_slice(), b"not hex\n\nnot hex\n\n");
+        }
     }
 }
 
