@@ -6,6 +6,7 @@ ghost use Rattle.ip_calls.specs.Lines.{lines};
 
 use crate::operands::Operands;
 use crate::{again, block, class, emit, get, host, options, set, tcp, text};
+use hex_digits::Digits;
 use ip_wire::{EthernetAddress, IpAddress, IpCidr, IpEndpoint, Ipv4Cidr, Ipv6Cidr};
 use std::alloc::{AllocError, Global};
 
@@ -14,9 +15,10 @@ pub fn answers(alloc: Global, input: &[u8]) -> Result<Vec<String>, AllocError>
     ensures { IfOk result (λ texts. vec_len texts ≡ length (lines input.now)) }
 {
     let lines = lines_of(alloc, input)?;
+    let digits = Digits::new();
     let mut texts = Vec::new(alloc);
     for line in lines.as_slice() {
-        texts.push(answer(alloc, line)?)?;
+        texts.push(answer(alloc, &digits, line)?)?;
     }
     Ok(texts)
 }
@@ -40,7 +42,7 @@ fn parts(alloc: Global, text: &[u8]) -> Result<Vec<&[u8]>, AllocError>
 }
 
 // The answer to a line. The text of a parser is everything after the first space.
-fn answer(alloc: Global, line: &[u8]) -> Result<String, AllocError> {
+fn answer(alloc: Global, digits: &Digits, line: &[u8]) -> Result<String, AllocError> {
     let (kind, text) = split_kind(line);
     match kind {
         b"eth" => text::answer::<EthernetAddress>(alloc, text),
@@ -49,7 +51,7 @@ fn answer(alloc: Global, line: &[u8]) -> Result<String, AllocError> {
         b"cidr6" => text::answer::<Ipv6Cidr>(alloc, text),
         b"cidr" => text::answer::<IpCidr>(alloc, text),
         b"endpoint" => text::answer::<IpEndpoint>(alloc, text),
-        _ => call(alloc, line),
+        _ => call(alloc, digits, line),
     }
 }
 
@@ -62,12 +64,12 @@ fn split_kind(line: &[u8]) -> (&[u8], &[u8]) {
 }
 
 // The answer of a call with words as operands.
-fn call(alloc: Global, line: &[u8]) -> Result<String, AllocError> {
+fn call(alloc: Global, digits: &Digits, line: &[u8]) -> Result<String, AllocError> {
     let Ok(line) = str::from_utf8(line) else {
         return String::from_str(alloc, "unknown");
     };
     let words: Vec<&str> = line.split(' ').collect(alloc)?;
-    let mut operands = Operands::new(words.as_slice());
+    let mut operands = Operands::new(words.as_slice(), digits);
     match result(alloc, &mut operands)? {
         None => String::from_str(alloc, "unknown"),
         Some(text) if operands.is_whole() => Ok(text),

@@ -3,7 +3,7 @@
 ghost use Rattle.std.specs.Prelude.{◌≡◌};
 ghost use Rattle.ip_wire.specs.IpAddress.{version_of};
 
-use hex::FromHexError;
+use hex_digits::Digits;
 use ip_wire::{EthernetAddress, IpAddress, Ipv4Address, Ipv6Address, TcpSeqNumber};
 use net_base::{Checksum, ChecksumCapabilities};
 use std::alloc::{AllocError, Global};
@@ -17,14 +17,16 @@ pub const NOTHING: &str = "-";
 #[derive(Drop)]
 pub struct Operands<'a> {
     words: &'a [&'a str],
+    digits: &'a Digits,
     malformed: bool,
 }
 
 impl<'a> Operands<'a> {
     /// The operands of a line of these words.
-    pub fn new(words: &'a [&'a str]) -> Self {
+    pub fn new(words: &'a [&'a str], digits: &'a Digits) -> Self {
         Operands {
             words,
+            digits,
             malformed: false,
         }
     }
@@ -187,14 +189,16 @@ impl<'a> Operands<'a> {
         if word == NOTHING {
             return Ok(Vec::new(alloc));
         }
-        match hex::decode(alloc, word) {
-            Ok(octets) => Ok(octets),
-            Err(FromHexError::OutOfMemory) => Err(AllocError),
-            Err(_) => {
-                self.refuse();
-                Ok(Vec::new(alloc))
-            }
+        let mut octets = vec![in alloc; 0; word.len() / 2]?;
+        if self
+            .digits
+            .decode(word.as_bytes(), octets.as_mut_slice())
+            .is_err()
+        {
+            self.refuse();
+            octets.clear();
         }
+        Ok(octets)
     }
 
     /// Whether the word is `1`.
