@@ -44,25 +44,25 @@ alike_link xs ys k above alike link = record {
   nearest = λ j from below encloses. link.nearest j from below (alike_enclose ys xs j k (sym alike) encloses);
 }
 
--- the node at a place with another link changes nothing else
-pub alike_set : (xs : List Node) (i above : ℕ) (node : Node) → node ≡ node_at xs i → AreAlike (set xs i (record node { above = above })) xs
-alike_set xs i above node is = map-set_same unlinked xs i (record node { above = above }) (node_with 0 0 0 0) (ap unlinked is)
+-- the node at a place with another link and no hint changes nothing else
+pub alike_set : (xs : List Node) (i above : ℕ) (node : Node) → node ≡ node_at xs i → AreAlike (set xs i (record node { above = above; hint = 0 })) xs
+alike_set xs i above node is = map-set_same unlinked xs i (record node { above = above; hint = 0 }) (node_with 0 0 0 0) (ap unlinked is)
 
 -- one more link
 pub links_more : (xs : List Node) (i above : ℕ) (node : Node) → i < length xs → node ≡ node_at xs i → AreLinked xs i
     → above ≤ i → (0 < above → Encloses (node_at xs (above - 1)) node) → IsNearest xs above i node
-    → AreLinked (set xs i (record node { above = above })) (i + 1)
+    → AreLinked (set xs i (record node { above = above; hint = 0 })) (i + 1)
 links_more xs i above node within is linked before encloses nearest k below =
-    let ys = set xs i (record node { above = above }) in
+    let ys = set xs i (record node { above = above; hint = 0 }) in
     let alike : AreAlike xs ys = sym (alike_set xs i above node is) in
     let d = node_with 0 0 0 0 in
     elim (cases_lt k i) [
       | inl earlier ↦
-          let same : node_at ys k ≡ node_at xs k = get_or-set_other xs i k (record node { above = above }) d (omega (arith, earlier)) in
+          let same : node_at ys k ≡ node_at xs k = get_or-set_other xs i k (record node { above = above; hint = 0 }) d (omega (arith, earlier)) in
           subst (λ n. IsLink ys k n) (ap (λ (n : Node). n.above) (sym same)) (alike_link xs ys k (node_at xs k).above alike (linked k earlier))
       | inr later ↦
           let at : i ≡ k = omega (arith, later, below) in
-          let written : node_at ys i ≡ record node { above = above } = get_or-set_same xs i (record node { above = above }) d within in
+          let written : node_at ys i ≡ record node { above = above; hint = 0 } = get_or-set_same xs i (record node { above = above; hint = 0 }) d within in
           let link : IsLink xs i above = record {
             before = before;
             encloses = λ some. subst (λ n. Encloses (node_at xs (above - 1)) n) is (encloses some);

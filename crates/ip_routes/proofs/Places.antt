@@ -1,6 +1,7 @@
 -- The numbers that order the nodes, and the prefixes of these numbers.
 use Rattle.std.proofs.Common.{ℕ, ◌≡◌, ◌↔◌, ◌∙◌, ◌+◌, ◌-◌, ◌*◌, ◌/◌, ◌^◌, ◌<◌, ◌≤◌, inl, inr, sym, ap, ap₂, subst, arith, nat_cmp}
 use Rattle.std.specs.Ordering.{ordering_then}
+use Rattle.std.specs.declared.cmp.Ordering.{Ordering}
 use Rattle.std.specs.declared.cmp.Ordering.TheVariants.{Less, Equal, Greater}
 use Rattle.std.proofs.lemmas.Bool.{cases_order}
 use Rattle.std.proofs.lemmas.Nat.{mul-add-lt, pow-add, pow_pos, same_from_place, shr-shr, shr_below}
@@ -105,18 +106,37 @@ same_block n a b x y x_is y_is x_fits y_fits =
     )
 
 -- the order of the nodes
-pub rank_cmp : (a b : Node) (x y : ℕ) → x ≡ a.high * 2 ^ 64 + a.low → y ≡ b.high * 2 ^ 64 + b.low → x < 2 ^ 128 → y < 2 ^ 128
+pub rank_cmp : (a b : Node) → a.high < 2 ^ 64 → b.high < 2 ^ 64 → a.low < 2 ^ 64 → b.low < 2 ^ 64
     → a.prefix_len < 2 ^ 8 → b.prefix_len < 2 ^ 8 → a.route < 2 ^ 32 → b.route < 2 ^ 32
-    → ordering_then (ordering_then (ordering_then (nat_cmp a.version b.version) (nat_cmp x y)) (nat_cmp a.prefix_len b.prefix_len)) (nat_cmp b.route a.route)
-    ≡ nat_cmp (rank a) (rank b)
-rank_cmp a b x y x_is y_is x_fits y_fits a_len b_len a_route b_route =
-    let first : ordering_then (nat_cmp a.version b.version) (nat_cmp x y) ≡ nat_cmp (place a) (place b) =
-    then_cmp (2 ^ 128) a.version b.version x y x_fits y_fits
-    ∙ ap₂ (λ x y. nat_cmp (a.version * 2 ^ 128 + x) (b.version * 2 ^ 128 + y)) x_is y_is in
-    let last : nat_cmp b.route a.route ≡ nat_cmp (2 ^ 32 - 1 - a.route) (2 ^ 32 - 1 - b.route) = turned_cmp (2 ^ 32) a.route b.route a_route b_route in
-    ap₂ (λ o. ordering_then (ordering_then o (nat_cmp a.prefix_len b.prefix_len))) first last
-    ∙ ap (λ o. ordering_then o (nat_cmp (2 ^ 32 - 1 - a.route) (2 ^ 32 - 1 - b.route))) (then_cmp (2 ^ 8) (place a) (place b) a.prefix_len b.prefix_len a_len b_len)
-    ∙ then_cmp (2 ^ 32) (place a * 2 ^ 8 + a.prefix_len) (place b * 2 ^ 8 + b.prefix_len) (2 ^ 32 - 1 - a.route) (2 ^ 32 - 1 - b.route) (omega arith) (omega arith)
+    → ordering_then (nat_cmp a.version b.version) (ordering_then (nat_cmp a.high b.high) (ordering_then (nat_cmp a.low b.low)
+    (ordering_then (nat_cmp a.prefix_len b.prefix_len) (nat_cmp b.route a.route)))) ≡ nat_cmp (rank a) (rank b)
+rank_cmp a b a_high b_high a_low b_low a_len b_len a_route b_route =
+    let rest : Node → ℕ = λ n. 2 ^ 32 - 1 - n.route in
+    let by_len : Node → ℕ = λ n. n.prefix_len * 2 ^ 32 + rest n in
+    let by_low : Node → ℕ = λ n. n.low * 2 ^ 40 + by_len n in
+    let by_high : Node → ℕ = λ n. n.high * 2 ^ 104 + by_low n in
+    let whole : (n : Node) → n.version * 2 ^ 168 + by_high n ≡ rank n = λ n. omega arith in
+    ap (λ o. ordering_then (nat_cmp a.version b.version) (ordering_then (nat_cmp a.high b.high) (ordering_then (nat_cmp a.low b.low)
+    (ordering_then (nat_cmp a.prefix_len b.prefix_len) o)))) (turned_cmp (2 ^ 32) a.route b.route a_route b_route)
+    ∙ ap (λ o. ordering_then (nat_cmp a.version b.version) (ordering_then (nat_cmp a.high b.high) (ordering_then (nat_cmp a.low b.low) o)))
+    (then_cmp (2 ^ 32) a.prefix_len b.prefix_len (rest a) (rest b) (omega arith) (omega arith))
+    ∙ ap (λ o. ordering_then (nat_cmp a.version b.version) (ordering_then (nat_cmp a.high b.high) o))
+    (then_cmp (2 ^ 40) a.low b.low (by_len a) (by_len b) (omega (arith, a_len)) (omega (arith, b_len)))
+    ∙ ap (λ o. ordering_then (nat_cmp a.version b.version) o)
+    (then_cmp (2 ^ 104) a.high b.high (by_low a) (by_low b) (omega (arith, a_low, a_len)) (omega (arith, b_low, b_len)))
+    ∙ then_cmp (2 ^ 168) a.version b.version (by_high a) (by_high b) (omega (arith, a_high, a_low, a_len)) (omega (arith, b_high, b_low, b_len))
+    ∙ ap₂ nat_cmp (whole a) (whole b)
+
+-- numbers that differ decide an order, and equal ones leave it to the next
+pub ahead : (a b : ℕ) (next : Ordering) → ¬ (a ≡ b) → nat_cmp a b ≡ ordering_then (nat_cmp a b) next
+ahead a b next differ = elim (cases_order a b) [
+  | inl same ↦ absurd (differ same)
+  | inr (inl less) ↦ cmp_less a b less ∙ sym (ap (λ o. ordering_then o next) (cmp_less a b less))
+  | inr (inr more) ↦ cmp_greater a b more ∙ sym (ap (λ o. ordering_then o next) (cmp_greater a b more))
+]
+
+pub level : (a b : ℕ) (next : Ordering) → a ≡ b → next ≡ ordering_then (nat_cmp a b) next
+level a b next same = sym (ap (λ o. ordering_then o next) (cmp_equal a b same))
 
 -- nodes in order have their places in order
 pub place_from_rank : (a b : Node) → a.prefix_len < 2 ^ 8 → b.prefix_len < 2 ^ 8 → rank a ≤ rank b → place a ≤ place b

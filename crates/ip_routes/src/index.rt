@@ -9,6 +9,9 @@ ghost use Rattle.ip_wire.specs.IpAddress.{IsAddress};
 ghost use Rattle.ip_wire.specs.IpCidr.{IsIn};
 ghost use Rattle.ip_wire.specs.declared.IpCidr.{IpCidr};
 
+mod hints;
+
+use self::hints::{SMALL, hinted, mark};
 use crate::route::Route;
 use ip_wire::{IpAddress, IpCidr};
 use std::cmp::Ordering;
@@ -30,7 +33,7 @@ pub struct Node {
     version: u8,
     prefix_len: u8,
     unused: [u8; 2],
-    // where a search may begin: `mark` tells for which addresses
+    // where a search may begin (`hints`)
     hint: u32,
 }
 
@@ -80,27 +83,35 @@ impl Node {
     fn is_up_to(&self, other: &Node) -> bool
         ensures { IsTrue result ↔ (place self.now ≤ place other.now) }
     {
-        let (bits, other_bits) = (self.bits(), other.bits());
-        self.version < other.version || self.version == other.version && bits <= other_bits
+        let (high, other_high) = (self.high, other.high);
+        let (low, other_low) = (self.low, other.low);
+        if self.version != other.version {
+            return self.version < other.version;
+        }
+        if high != other_high {
+            return high < other_high;
+        }
+        low <= other_low
     }
 
     // The order of the nodes in an index.
     fn by_rank(&self, other: &Node) -> Ordering
         ensures { result ≡ nat_cmp (rank self.now) (rank other.now) }
     {
-        let (bits, other_bits) = (self.bits(), other.bits());
+        let (high, other_high) = (self.high, other.high);
+        let (low, other_low) = (self.low, other.low);
         let (len, other_len) = (self.prefix_len, other.prefix_len);
         let (route, other_route) = (self.route, other.route);
-        let place = self.version.cmp(&other.version).then(bits.cmp(&other_bits));
-        place
-            .then(len.cmp(&other_len))
-            .then(other_route.cmp(&route))
-    }
-
-    // Its first address among all addresses, first those of IPv4, as if there were 2^64 of them.
-    fn fraction(&self) -> u64 {
-        let half = if self.version == 6 { 1 << 63 } else { 0 };
-        half + (self.high >> 1)
+        if self.version != other.version {
+            return self.version.cmp(&other.version);
+        }
+        if high != other_high {
+            return high.cmp(&other_high);
+        }
+        if low != other_low {
+            return low.cmp(&other_low);
+        }
+        len.cmp(&other_len).then(other_route.cmp(&route))
     }
 
     // The number of first bits that the first addresses have in common.
@@ -108,18 +119,11 @@ impl Node {
         (self.bits() ^ other.bits()).leading_zeros()
     }
 
-    // The 64 bits of its first address behind these.
-    fn behind(&self, shift: u32) -> u64
+    // The 64 bits of its first address after these.
+    fn after(&self, shift: u32) -> u64
         requires { shift < 128 }
     {
         ((self.bits() << shift) >> 64) as u64
-    }
-
-    // Whether it has these first bits in common with another, and is in one of the first `count` divisions.
-    fn is_before(&self, other: &Node, bits: u32, divisions: usize, count: usize) -> bool
-        requires { bits < 128 }
-    {
-        self.common_bits(other) >= bits && share(self.behind(bits), divisions) < count
     }
 
     // Whether its prefix is shorter, and the other block has it too.
@@ -192,7 +196,7 @@ pub fn arrange(nodes: &mut [Node])
     mark(nodes);
 }
 
-// Finds the next larger block around each.
+// Finds the next larger block around each, and sets the hints to 0.
 fn link(nodes: &mut [Node])
     requires { length nodes.old < 2 ^ 32 }
     ensures same { map unlinked nodes.new ≡ map unlinked nodes.old }
@@ -201,118 +205,12 @@ fn link(nodes: &mut [Node])
     for i in 0..nodes.len() {
         let node = nodes[i];
         let above = climb(nodes, i, &node) as u32;
-        nodes[i] = Node { above, ..node };
+        nodes[i] = Node {
+            above,
+            hint: 0,
+            ..node
+        };
     }
-}
-
-// Stores where a search may begin. This only saves time. All addresses are divided into equal parts, and
-// the first hints tell where the nodes of each part begin, and which bits choose a division of it. A part of
-// many nodes has some of the other hints, which tell where the nodes of each division begin.
-fn mark(nodes: &mut [Node])
-    requires { length nodes.old < 2 ^ 32 }
-    ensures { map unmarked nodes.new ≡ map unmarked nodes.old }
-{
-    let parts = parts(nodes.len());
-    let bits = shift_bits(nodes.len());
-    for place in parts..nodes.len() {
-        set_hint(nodes, place, 0);
-    }
-    let mut low = 0;
-    for part in 0..parts {
-        let high = first_behind(nodes, low, part);
-        let shift = mark_part(nodes, low, high);
-        set_hint(nodes, part, (low as u32) << bits | shift);
-        low = high;
-    }
-}
-
-fn set_hint(nodes: &mut [Node], place: usize, hint: u32)
-    requires { place < length nodes.old }
-    ensures { map unmarked nodes.new ≡ map unmarked nodes.old }
-{
-    let node = nodes[place];
-    nodes[place] = Node { hint, ..node };
-}
-
-// The first place from this one on whose node is behind a part.
-fn first_behind(nodes: &[Node], from: usize, part: usize) -> usize
-    requires { from ≤ length nodes.now }
-    ensures order { from ≤ result }
-    ensures within { result ≤ length nodes.now }
-{
-    let parts = parts(nodes.len());
-    let mut place = from;
-    while place < nodes.len() && share(nodes[place].fraction(), parts) <= part {
-        place += 1;
-    }
-    place
-}
-
-// Stores in the hints of the part with these nodes where those of each division of it begin, if it has more
-// than a few nodes and these are not too much alike. Returns the number of first bits that its nodes have in
-// common, but for one of 16 at each end: the bits behind these choose the division of a node that begins with
-// them. The most that a hint can tell stands for nodes that are too much alike, and 0 for few nodes.
-fn mark_part(nodes: &mut [Node], low: usize, high: usize) -> u32
-    requires order { low ≤ high }
-    requires within { (high ≤ length nodes.old) × (length nodes.old < 2 ^ 32) }
-    ensures { map unmarked nodes.new ≡ map unmarked nodes.old }
-{
-    if high - low <= FEW {
-        return 0;
-    }
-    let others = (high - low) / 16;
-    let usual = nodes[low + others];
-    let shift = usual.common_bits(&nodes[high - 1 - others]);
-    let most = (1 << shift_bits(nodes.len())) - 1;
-    if shift >= most {
-        return most;
-    }
-    let first = parts(nodes.len()) + low / 4;
-    let count = high / 4 - low / 4;
-    let mut place = first_alike(nodes, low, high, &usual, shift);
-    for i in 0..count {
-        while place < high && nodes[place].is_before(&usual, shift, count, i) {
-            place += 1;
-        }
-        set_hint(nodes, first + i, place as u32);
-    }
-    shift
-}
-
-// The first place from this one on whose node has these first bits in common with another.
-fn first_alike(nodes: &[Node], from: usize, high: usize, other: &Node, bits: u32) -> usize
-    requires order { from ≤ high }
-    requires within { high ≤ length nodes.now }
-    ensures { result ≤ high }
-{
-    let mut place = from;
-    while place < high && nodes[place].common_bits(other) < bits {
-        place += 1;
-    }
-    place
-}
-
-// A part with no more nodes has no hints of its own.
-const FEW: usize = 8;
-
-// The number of parts. There is a hint for each, and one for every four nodes.
-fn parts(len: usize) -> usize
-    ensures { result ≡ len - len / 4 }
-{
-    len - len / 4
-}
-
-// The number of bits of a part's hint that tell which bits choose the division.
-fn shift_bits(len: usize) -> u32
-    ensures { result ≤ 7 }
-{
-    len.leading_zeros().saturating_sub(32).min(7)
-}
-
-// The part of a number below 2^64, if these numbers are divided into so many equal parts.
-fn share(number: u64, count: usize) -> usize {
-    let product = u128::from(number).wrapping_mul(count as u128);
-    (product >> 64) as usize
 }
 
 // One more than the place of the last of the nodes before `start` that enclose another, or 0.
@@ -339,32 +237,16 @@ fn climb(nodes: &[Node], start: usize, inner: &Node) -> usize
     0
 }
 
-// Two places around that of an address, which the hints tell: no node before the first is behind the
-// address, and all nodes from the second on are. Both ends of the array if the hints are wrong.
+// Two places around that of an address: those of the hints, or both ends of the array if the hints are wrong.
 fn bounds(nodes: &[Node], target: &Node) -> (usize, usize)
     ensures order { result.0 ≤ result.1 }
     ensures within { result.1 ≤ length nodes.now }
     ensures split { IsNonDecreasingBy place nodes.now → IsSplit nodes.now result.0 result.1 target.now }
 {
-    let parts = parts(nodes.len());
-    let part = share(target.fraction(), parts);
-    if part >= parts.saturating_sub(1) {
+    if nodes.len() <= SMALL {
         return (0, nodes.len());
     }
-    let bits = shift_bits(nodes.len());
-    let (hint, next) = (nodes[part].hint, nodes[part + 1].hint);
-    let (low, high) = ((hint >> bits) as usize, (next >> bits) as usize);
-    if low > high || high > nodes.len() {
-        return (0, nodes.len());
-    }
-    let most = (1 << bits) - 1;
-    let shift = hint & most;
-    if high - low > FEW && shift != most {
-        let (inner_low, inner_high) = division(nodes, low, high, target, shift);
-        if splits(nodes, inner_low, inner_high, target) {
-            return (inner_low, inner_high);
-        }
-    }
+    let (low, high) = hinted(nodes, target);
     if splits(nodes, low, high, target) {
         (low, high)
     } else {
@@ -372,24 +254,7 @@ fn bounds(nodes: &[Node], target: &Node) -> (usize, usize)
     }
 }
 
-// The places around that of an address, which the hints of the part with these nodes tell.
-fn division(nodes: &[Node], low: usize, high: usize, target: &Node, shift: u32) -> (usize, usize)
-    requires many { low + 8 < high }
-    requires within { high ≤ length nodes.now }
-    requires shift { shift < 128 }
-{
-    let first = parts(nodes.len()) + low / 4;
-    let last = high / 4 - low / 4 - 1;
-    let i = share(target.behind(shift), last + 1);
-    if i < last {
-        let (low, high) = (nodes[first + i].hint, nodes[first + i + 1].hint);
-        (low as usize, high as usize)
-    } else {
-        (nodes[first + last].hint as usize, high)
-    }
-}
-
-// Whether these two places are around that of an address.
+// Whether the nodes before the first place are at or before an address, and those from the second place on after it.
 fn splits(nodes: &[Node], low: usize, high: usize, target: &Node) -> bool
     ensures order { IsTrue result → low ≤ high }
     ensures within { IsTrue result → high ≤ length nodes.now }
@@ -407,7 +272,7 @@ fn splits(nodes: &[Node], low: usize, high: usize, target: &Node) -> bool
     true
 }
 
-// The number of nodes whose first address is not behind an address.
+// The number of nodes whose first address is at or before an address.
 fn count_up_to(nodes: &[Node], target: &Node) -> usize
     ensures within { result ≤ length nodes.now }
     ensures split { IsNonDecreasingBy place nodes.now → IsSplit nodes.now result result target.now }

@@ -174,18 +174,18 @@ fn finds_what_the_linear_choice_finds(rt: HostRuntime) {
     assert!(rt; found < 2000);
 }
 
-/// Few nodes are found by the hints of the parts alone, more by the hints of a division.
+/// Small tables have no hints, larger ones hints of parts, and the largest here hints of divided parts.
 #[test]
 fn finds_the_same_in_a_table_of_any_size(rt: HostRuntime) {
     let mut state = 0x2545_f491_4f6c_dd1d;
-    let mut routes = [route("", "", 0); 48];
+    let mut routes = [route("", "", 0); 72];
     for (i, route) in routes.iter_mut().enumerate() {
         route.block = near_block(next(&mut state));
         route.interface = i as u16;
     }
     for size in 0..=routes.len() {
         let (routes, _) = routes.split_at(size);
-        let mut nodes = [Node::new(&IpCidr::new(IpAddress::v4(0, 0, 0, 0), 0), 0); 48];
+        let mut nodes = [Node::new(&IpCidr::new(IpAddress::v4(0, 0, 0, 0), 0), 0); 72];
         let (nodes, _) = nodes.split_at_mut(size);
         index(routes, nodes);
         for _ in 0..20 {

@@ -1,9 +1,9 @@
 use Rattle.std.proofs.Common.{◌≤◌, length}
 use Rattle.ip_routes.proofs.Links.{AreUnmarkedAlike}
-use Rattle.ip_routes.proofs.index.mark.Given as goal
+use Rattle.ip_routes.proofs.index.hints.mark_version.Given as goal
 
-abbrev pub invariant-loop-place : goal.invariant-loop-place
-invariant-loop-place l = AreUnmarkedAlike l.nodes l.fn.nodes
+abbrev pub invariant-loop-i : goal.invariant-loop-i
+invariant-loop-i l = AreUnmarkedAlike l.nodes l.fn.nodes
 
 abbrev pub invariant-loop-part : goal.invariant-loop-part
 invariant-loop-part l = record {

@@ -3,7 +3,7 @@ use Rattle.std.proofs.lemmas.List.{get_or_default}
 use Rattle.ip_routes.specs.Index.{node_at, node_with}
 use Rattle.ip_routes.proofs.Links.{unmarked_set}
 use Rattle.ip_routes.proofs.Splits.{unread}
-use Rattle.ip_routes.proofs.index.set_hint.Goals as goal
+use Rattle.ip_routes.proofs.index.hints.set_hint.Goals as goal
 
 pub returns : goal.returns
 returns c =
