@@ -11,7 +11,9 @@ pub struct Digest {
 impl Digest {
     /// The digest of nothing.
     pub fn new() -> Digest {
-        Digest { lanes: [0; 4] }
+        Digest {
+            lanes: [1, 2, 3, 4],
+        }
     }
 
     /// Adds a number.
@@ -20,32 +22,69 @@ impl Digest {
         self.lanes[0] = mixed(self.lanes[0], word);
     }
 
-    /// Adds octets, and how many there are.
+    /// Adds four numbers.
+    #[inline]
+    pub fn add_row(&mut self, row: [u64; 4]) {
+        self.lanes = with_row(self.lanes, row);
+    }
+
+    /// Adds the first 64 bytes of a frame, and its length.
+    pub fn add_headers(&mut self, frame: &[u8]) {
+        self.add(frame.len() as u64);
+        self.add_bytes(frame.get(..64).unwrap_or(frame));
+    }
+
+    /// Adds bytes, and how many there are. The last rows and words overlap, which takes less time than a loop.
     pub fn add_bytes(&mut self, bytes: &[u8]) {
-        let (words, rest) = bytes.as_chunks::<8>();
-        let (rows, words) = words.as_chunks::<4>();
-        for [a, b, c, d] in rows {
-            self.lanes = [
-                mixed(self.lanes[0], u64::from_le_bytes(*a)),
-                mixed(self.lanes[1], u64::from_le_bytes(*b)),
-                mixed(self.lanes[2], u64::from_le_bytes(*c)),
-                mixed(self.lanes[3], u64::from_le_bytes(*d)),
-            ];
+        let (words, _) = bytes.as_chunks::<8>();
+        let (rows, _) = words.as_chunks::<4>();
+        let mut lanes = self.lanes;
+        for row in rows {
+            lanes = with_row(lanes, numbers(row));
         }
-        for word in words {
-            self.add(u64::from_le_bytes(*word));
+        match words.last_chunk::<4>() {
+            Some(row) => lanes = with_row(lanes, numbers(row)),
+            None => {
+                for word in words {
+                    lanes[0] = mixed(lanes[0], u64::from_le_bytes(*word));
+                }
+            }
         }
-        for byte in rest {
-            self.add(u64::from(*byte));
-        }
-        self.add(bytes.len() as u64);
+        let last = match bytes.last_chunk::<8>() {
+            Some(word) => u64::from_le_bytes(*word),
+            None => bytes
+                .iter()
+                .fold(0, |word, byte| word << 8 | u64::from(*byte)),
+        };
+        self.lanes = with_row(lanes, [last, bytes.len() as u64, 0, 0]);
     }
 }
 
-// Each word counts by its place.
+#[inline]
+fn with_row(lanes: [u64; 4], row: [u64; 4]) -> [u64; 4] {
+    [
+        mixed(lanes[0], row[0]),
+        mixed(lanes[1], row[1]),
+        mixed(lanes[2], row[2]),
+        mixed(lanes[3], row[3]),
+    ]
+}
+
+#[inline]
+fn numbers(row: &[[u8; 8]; 4]) -> [u64; 4] {
+    let [a, b, c, d] = row;
+    [
+        u64::from_le_bytes(*a),
+        u64::from_le_bytes(*b),
+        u64::from_le_bytes(*c),
+        u64::from_le_bytes(*d),
+    ]
+}
+
+// Each word counts by its value and by its place.
 #[inline]
 fn mixed(sum: u64, word: u64) -> u64 {
-    sum.rotate_left(7).wrapping_add(word)
+    (sum.rotate_left(23) ^ word).wrapping_mul(0x9e37_79b9_7f4a_7c15)
 }
 
 impl fmt::Display for Digest {

@@ -13,7 +13,7 @@ use net_base::ChecksumCapabilities;
 use std::alloc::{AllocError, Global};
 
 /// Room for each frame that is made here.
-pub const ROOM: usize = 2048;
+pub const ROOM: usize = 1600;
 
 const POOL_LEN: usize = 65536;
 
@@ -24,6 +24,34 @@ pub fn pool(alloc: Global, random: &mut Random) -> std::result::Result<Vec<u8>, 
         pool.extend_from_slice(&random.word().to_le_bytes())?;
     }
     Ok(pool)
+}
+
+/// What frames carry.
+#[derive(Clone, Copy)]
+pub enum Kind {
+    /// All that crosses a link.
+    Any,
+    /// TCP over IPv4.
+    TcpIpv4,
+    /// UDP over IPv4.
+    UdpIpv4,
+    /// UDP over IPv6.
+    UdpIpv6,
+}
+
+impl Kind {
+    /// Writes a frame, and returns its length.
+    pub fn put(self, random: &mut Random, pool: &[u8], out: &mut [u8]) -> usize {
+        let (is_ipv6, is_tcp) = match self {
+            Kind::Any => return put_frame(random, pool, out),
+            Kind::TcpIpv4 => (false, true),
+            Kind::UdpIpv4 => (false, false),
+            Kind::UdpIpv6 => (true, false),
+        };
+        let header = header_of(random, is_ipv6, 128);
+        let ports = (port(random), port(random));
+        put_packet(random, pool, header, ports, is_tcp, out)
+    }
 }
 
 /// Writes the next frame, and returns its length.
@@ -101,7 +129,12 @@ pub fn ipv6(random: &mut Random) -> Ipv6Address {
 
 fn header(random: &mut Random) -> IpRepr {
     let hop_limit = 2 + random.below(250) as u8;
-    if random.below(5) < 2 {
+    let is_ipv6 = random.below(5) < 2;
+    header_of(random, is_ipv6, hop_limit)
+}
+
+fn header_of(random: &mut Random, is_ipv6: bool, hop_limit: u8) -> IpRepr {
+    if is_ipv6 {
         IpRepr::Ipv6(Ipv6Repr {
             src_addr: ipv6(random),
             dst_addr: ipv6(random),

@@ -6,6 +6,7 @@
 #![tactic(auto)]
 
 mod capture;
+mod derived;
 mod digest;
 mod frames;
 mod nat;

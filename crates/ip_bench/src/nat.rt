@@ -1,11 +1,12 @@
 //! A NAT translates packets of many flows that begin and end, and their answers.
 
+use crate::derived::{Frames, half_at};
 use crate::digest::Digest;
-use crate::frames::{ROOM, pool, put_packet};
+use crate::frames::{Kind, pool};
 use crate::random::Random;
 use ip_flows::{Mapping, Nat};
 use ip_nat::{Rejection, translate_in, translate_out};
-use ip_wire::{IpProtocol, IpRepr, Ipv4Address, Ipv4Repr};
+use ip_wire::Ipv4Address;
 use std::alloc::{AllocError, Global};
 
 // The ports from 1024 on, of UDP and of TCP.
@@ -28,34 +29,22 @@ pub fn run(alloc: Global, random: &mut Random, count: u32) -> Result<Digest, All
     let nat = Nat::new([random.word(), random.word()], outside, 1024);
     let mut mappings = vec![in alloc; Mapping::FREE; MAPPINGS]?;
     let pool = pool(alloc, random)?;
-    let mut room = vec![in alloc; 0; ROOM]?;
+    let mut tcp = Frames::new(alloc, Kind::TcpIpv4)?;
+    let mut udp = Frames::new(alloc, Kind::UdpIpv4)?;
     let mut digest = Digest::new();
     for i in 0..count {
         let now = u64::from(i) / 4;
         let flow = flow_of(first.wrapping_add(i / 64).wrapping_add(random.below(FLOWS)));
-        let (len, port) = {
-            let len = put(
-                random,
-                pool.as_slice(),
-                &flow,
-                flow.inside,
-                flow.remote,
-                room.as_mut_slice(),
-            );
-            let frame = room.as_mut_slice().get_mut(..len).unwrap_or(&mut []);
+        let frames = if flow.is_tcp { &mut tcp } else { &mut udp };
+        let port = {
+            let (places, frame) = frames.next(random, pool.as_slice());
+            places.set_ipv4(frame, flow.inside, flow.remote);
             let outcome = translate_out(&nat, mappings.as_mut_slice(), now, frame);
             add(&outcome, frame, &mut digest);
-            (len, port_at(frame, 34))
+            half_at(frame, 34)
         };
-        let len = put(
-            random,
-            pool.as_slice(),
-            &flow,
-            flow.remote,
-            (outside, port),
-            room.as_mut_slice(),
-        );
-        let frame = room.as_mut_slice().get_mut(..len).unwrap_or(&mut []);
+        let (places, frame) = frames.next(random, pool.as_slice());
+        places.set_ipv4(frame, flow.remote, (outside, port));
         let outcome = translate_in(&nat, mappings.as_mut_slice(), now, frame);
         add(&outcome, frame, &mut digest);
     }
@@ -80,38 +69,14 @@ fn flow_of(number: u32) -> Flow {
     }
 }
 
-fn put(
-    random: &mut Random,
-    pool: &[u8],
-    flow: &Flow,
-    src: (Ipv4Address, u16),
-    dst: (Ipv4Address, u16),
-    out: &mut [u8],
-) -> usize {
-    let header = IpRepr::Ipv4(Ipv4Repr {
-        src_addr: src.0,
-        dst_addr: dst.0,
-        next_header: IpProtocol::Udp,
-        payload_len: 0,
-        hop_limit: 64,
-    });
-    put_packet(random, pool, header, (src.1, dst.1), flow.is_tcp, out)
-}
-
-fn port_at(frame: &[u8], at: usize) -> u16 {
-    match frame.get(at..).and_then(|rest| rest.first_chunk::<2>()) {
-        Some(port) => u16::from_be_bytes(*port),
-        None => 0,
-    }
-}
-
+// A translation verifies the payload, so that a changed one shows when its frame is used again.
 fn add(outcome: &Result<(), Rejection>, frame: &[u8], digest: &mut Digest) {
     let reason = match outcome {
         Ok(()) => 0,
         Err(reason) => code(*reason),
     };
     digest.add(reason);
-    digest.add_bytes(frame);
+    digest.add_headers(frame);
 }
 
 fn code(reason: Rejection) -> u64 {

@@ -2,15 +2,16 @@
 
 ghost use Rattle.std.specs.Prelude.{◌≡◌, ◌≤◌, length};
 
+use crate::derived::Frames;
 use crate::digest::Digest;
-use crate::frames::{ROOM, pool, port, put_packet, station};
+use crate::frames::{Kind, pool, port, station};
 use crate::random::Random;
 use crate::texts::add_octets;
 use ip_forward::{Rejection, forward};
 use ip_routes::index::{self, Node};
 use ip_routes::route::Route;
 use ip_routes::source::{SourceFault, check_source_by_index};
-use ip_wire::{IpAddress, IpCidr, IpProtocol, IpRepr, Ipv4Address, Ipv6Address};
+use ip_wire::{IpAddress, IpCidr, IpRepr, Ipv4Address, Ipv6Address};
 use std::alloc::{AllocError, Global};
 
 /// What a table of routes looks like.
@@ -115,22 +116,21 @@ pub fn run(
     let mut digest = Digest::new();
     make_index(routes.as_slice(), nodes.as_mut_slice());
     let pool = pool(alloc, random)?;
-    let mut room = vec![in alloc; 0; ROOM]?;
+    let mut ipv4 = Frames::new(alloc, Kind::UdpIpv4)?;
+    let mut ipv6 = Frames::new(alloc, Kind::UdpIpv6)?;
     for _ in 0..count {
-        let is_ipv6 = is_ipv6(random);
-        let src = table.address(random, is_ipv6);
-        let dst = table.address(random, is_ipv6);
-        let header = header(src, dst);
         let ports = (port(random), port(random));
-        let len = put_packet(
-            random,
-            pool.as_slice(),
-            header,
-            ports,
-            false,
-            room.as_mut_slice(),
-        );
-        let frame = room.as_mut_slice().get_mut(..len).unwrap_or(&mut []);
+        let (src, dst, frame) = if is_ipv6(random) {
+            let (src, dst) = (table.ipv6(random), table.ipv6(random));
+            let (places, frame) = ipv6.next(random, pool.as_slice());
+            places.set_ipv6(frame, (src, ports.0), (dst, ports.1));
+            (IpAddress::Ipv6(src), IpAddress::Ipv6(dst), frame)
+        } else {
+            let (src, dst) = (table.ipv4(random), table.ipv4(random));
+            let (places, frame) = ipv4.next(random, pool.as_slice());
+            places.set_ipv4(frame, (src, ports.0), (dst, ports.1));
+            (IpAddress::Ipv4(src), IpAddress::Ipv4(dst), frame)
+        };
         let fault = check_source_by_index(routes.as_slice(), nodes.as_slice(), &src, 1);
         let route = index::choose(routes.as_slice(), nodes.as_slice(), &dst);
         let forwarded = forward(frame, station(random), station(random));
@@ -149,23 +149,19 @@ fn make_index(routes: &[Route], nodes: &mut [Node])
     }
 }
 
-fn header(src: IpAddress, dst: IpAddress) -> IpRepr {
-    if src.version() == dst.version() {
-        IpRepr::new(src, dst, IpProtocol::Udp, 0, 61)
-    } else {
-        IpRepr::new(src, src, IpProtocol::Udp, 0, 61)
-    }
-}
-
 fn add_route(route: &Option<Route>, digest: &mut Digest) {
-    match route {
-        Some(route) => {
-            digest.add(u64::from(route.interface) + u64::from(route.block.prefix_len()));
-            if let Some(next_hop) = route.next_hop {
-                add_octets(&next_hop, digest);
-            }
+    let Some(route) = route else {
+        digest.add(u64::MAX);
+        return;
+    };
+    let choice = u64::from(route.interface) << 8 | u64::from(route.block.prefix_len());
+    match route.next_hop {
+        Some(IpAddress::Ipv4(addr)) => digest.add(u64::from(addr.to_bits()) << 32 | choice),
+        Some(next_hop) => {
+            digest.add(choice);
+            add_octets(&next_hop, digest);
         }
-        None => digest.add(u64::MAX),
+        None => digest.add(choice | 1 << 24),
     }
 }
 
