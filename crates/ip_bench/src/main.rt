@@ -1,23 +1,33 @@
-//! The workloads of `bench/run`: one job that a user of the library waits for, on input that it makes from a
+//! The workloads of `bench/run`: each is a job that a user of the library waits for, on input that it makes from a
 //! seed. It prints a digest of all results.
 //!
-//! `ip_bench JOB SEED COUNT`, where JOB is `capture`, `print`, `texts`, `routes`, `nested` or `nat`, and COUNT
-//! is the number of frames, texts or packets. `ip_bench all SEED COUNT` runs each job.
+//! `ip_bench JOB SEED COUNT`, where JOB is `capture`, `print`, `texts`, `routes`, `nested`, `nat` or `tables`, and
+//! COUNT is the number of frames, texts, packets or look-ups. `ip_bench all SEED COUNT` runs each job.
+//! `ip_bench lines SEED COUNT` writes lines of hex digits for the program `ip_frames`.
 #![tactic(auto)]
 
 mod capture;
 mod derived;
 mod digest;
 mod frames;
+mod lines;
 mod nat;
 mod print;
 mod random;
 mod routes;
+mod tables;
 mod texts;
 
+use crate::digest::Digest;
 use crate::random::Random;
+use std::alloc::{AllocError, Global};
+use std::io::Write;
 use std::process::ExitCode;
 use std::{env, io};
+
+const JOBS: [&str; 8] = [
+    "capture", "print", "texts", "routes", "nested", "nat", "tables", "lines",
+];
 
 fn main(rt: HostRuntime) -> io::Result<ExitCode> {
     let mut words = env::args(&rt)?.skip(1);
@@ -36,30 +46,38 @@ fn main(rt: HostRuntime) -> io::Result<ExitCode> {
 fn run(rt: &HostRuntime, job: &str, seed: u32, count: u32) -> io::Result<ExitCode> {
     let alloc = rt.alloc();
     let mut random = Random::new(seed);
-    let all = job == "all";
-    if all || job == "capture" {
-        let digest = capture::run(alloc, &mut random, count)?;
-        println!(rt; "capture {digest}")?;
+    if job == "lines" {
+        let lines = lines::lines(alloc, &mut random, count)?;
+        rt.stdout().write_all(lines.as_slice())?;
+        return Ok(ExitCode::SUCCESS);
     }
-    if all || job == "print" {
-        let digest = print::run(alloc, &mut random, count)?;
-        println!(rt; "print {digest}")?;
-    }
-    if all || job == "texts" {
-        let digest = texts::run(alloc, &mut random, count)?;
-        println!(rt; "texts {digest}")?;
-    }
-    if all || job == "routes" {
-        let digest = routes::run(alloc, &mut random, count, &routes::INTERNET)?;
-        println!(rt; "routes {digest}")?;
-    }
-    if all || job == "nested" {
-        let digest = routes::run(alloc, &mut random, count, &routes::NESTED)?;
-        println!(rt; "nested {digest}")?;
-    }
-    if all || job == "nat" {
-        let digest = nat::run(alloc, &mut random, count)?;
-        println!(rt; "nat {digest}")?;
+    for name in JOBS {
+        if job == name || job == "all" {
+            let digest = digest_of(alloc, &mut random, name, count)?;
+            println!(rt; "{name} {digest}")?;
+        }
     }
     Ok(ExitCode::SUCCESS)
+}
+
+fn digest_of(
+    alloc: Global,
+    random: &mut Random,
+    job: &str,
+    count: u32,
+) -> Result<Digest, AllocError> {
+    match job {
+        "capture" => capture::run(alloc, random, count),
+        "print" => print::run(alloc, random, count),
+        "texts" => texts::run(alloc, random, count),
+        "routes" => routes::run(alloc, random, count, &routes::INTERNET),
+        "nested" => routes::run(alloc, random, count, &routes::NESTED),
+        "nat" => nat::run(alloc, random, count),
+        "tables" => tables::run(alloc, random, count),
+        _ => {
+            let mut digest = Digest::new();
+            digest.add_bytes(lines::lines(alloc, random, count)?.as_slice());
+            Ok(digest)
+        }
+    }
 }

@@ -141,7 +141,7 @@ pub fn run(
     Ok(digest)
 }
 
-fn make_index(routes: &[Route], nodes: &mut [Node])
+pub fn make_index(routes: &[Route], nodes: &mut [Node])
     requires { length nodes.old ≡ length routes.now }
 {
     if routes.len() < 1 << 32 {
@@ -149,7 +149,7 @@ fn make_index(routes: &[Route], nodes: &mut [Node])
     }
 }
 
-fn add_route(route: &Option<Route>, digest: &mut Digest) {
+pub fn add_route(route: &Option<Route>, digest: &mut Digest) {
     let Some(route) = route else {
         digest.add(u64::MAX);
         return;
