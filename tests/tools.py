@@ -335,7 +335,34 @@ COUNTS = [
            "read, 18: recorded, but there is no such row\n1 rows of counts, 1 differ\n", 1),
 ]
 
-CASES = [*RECORDED_CAPTURES, *PCAP, *PCAPNG, *RECORDED_DUMPS, *DUMPS, *DEVICES, *COMPARED, *GENERATED, *COUNTS]
+# Two checkouts in $d, with scripts as the programs of the workloads.
+CHECKOUTS = r"""d=$(mktemp -d) && trap 'rm -r $d' EXIT && mkdir -p $d/old/bench $d/old/crates/{low,ip_bench,ip_frames}/{src,out} &&
+    printf 'low:\nip_bench: low\nip_frames: low\n' > $d/old/crates.txt && touch $d/old/crates/low/src/lib.rt &&
+    printf 'one ip_bench 1 SEED\ntwo ip_bench 2 SEED | ip_frames 3\n' > $d/old/bench/workloads.txt &&
+    printf '#!/bin/sh\necho "$@"\n' > $d/old/crates/ip_bench/out/ip_bench &&
+    printf '#!/bin/sh\n[ "$(cat) $@" = "2 7 3" ]\n' > $d/old/crates/ip_frames/out/ip_frames &&
+    chmod +x $d/old/crates/*/out/* && cp -a $d/old $d/new && cd $d/new"""
+
+
+def timed(name, change, output="", error="", status=1):
+    """Two checkouts that are timed after a change of the second one."""
+    command = f"top=$PWD; {CHECKOUTS} && {change} && $top/bench/run ../old . 7 | cut -d '|' -f 2"
+    return Case(f"bench/run: {name}", command, b"", output, re.compile(f"bench/run: {error}\n" if error else ""), status)
+
+
+TIMED = [
+    timed("equal checkouts", "true", " NAME \n---\n one \n two \n", status=0),
+    timed("another output", "echo 'echo 4' >> crates/ip_frames/out/ip_frames", error="two: the outputs differ"),
+    timed("a program that fails", "echo 'exit 3' >> crates/ip_frames/out/ip_frames", error=".*/new/.*/ip_frames ended with status 3"),
+    timed("no program", "rm crates/ip_frames/out/ip_frames", error=".*/new/.*/ip_frames is not built"),
+    timed("an older program", "touch -d '+1 hour' crates/low/src/lib.rt", error=".*/new/.*/ip_bench is older than .*/low/src/lib.rt: .*"),
+    timed("an older program, by crates.txt", "touch -d '+1 hour' crates.txt", error=".*/ip_bench is older than .*/crates.txt: .*"),
+    timed("other workloads", "echo >> bench/workloads.txt", error="bench/workloads.txt is not the same in .*/old and .*/new"),
+    timed("another ip_bench", "touch crates/ip_bench/src/main.rt", error="crates/ip_bench/src/main.rt is not the same in .*"),
+    timed("another crate", "echo > crates/low/src/lib.rt && touch crates/*/out/*", " NAME \n---\n one \n two \n", status=0),
+]
+
+CASES = [*RECORDED_CAPTURES, *PCAP, *PCAPNG, *RECORDED_DUMPS, *DUMPS, *DEVICES, *COMPARED, *GENERATED, *COUNTS, *TIMED]
 
 
 def failure(case):
