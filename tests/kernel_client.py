@@ -229,9 +229,10 @@ class Wire:
 
     def answer(self, frame):
         """The frame with which the host answers this one, or None. The host takes frames in their order, so the answer
-        to a probe comes after it. ARP is no answer, and neither is a packet to another port."""
+        to a probe comes after it. ARP is no answer, and neither is a packet between other ports."""
         from_port = 14 + (frame[14] % 16 * 4 if self.version == 4 else 40)
-        to_port = 36 if self.version == 4 else 56
+        at = 34 if self.version == 4 else 54
+        ports = frame[from_port + 2 : from_port + 4] + frame[from_port : from_port + 2]
         marker, answers, end = random.randbytes(8), [], time.monotonic() + LATEST
         while select.select([self.sock], [], [], 0)[0]:
             self.sock.recv(70000)
@@ -244,7 +245,7 @@ class Wire:
             if data.endswith(marker):
                 check("one answer at most", len(answers) < 2, frame.hex())
                 return answers[0] if answers else None
-            if data[to_port : to_port + 2] == frame[from_port : from_port + 2]:
+            if data[at : at + 4] == ports:
                 answers.append(data)
         check("answer to a probe", False, frame.hex())
         return None
