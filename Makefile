@@ -29,13 +29,15 @@ LINES ?= 100000
 PREFIX ?= /usr/local
 DESTDIR ?=
 LIBDIR ?=
-# Recipes read these as environment variables, so that a value may contain any character.
+# Recipes read these as environment variables, so that a value may contain any character. On the command line of make a
+# dollar is written twice.
 export FRAMES CRATE REFERENCE_BENCH SEED LINES PREFIX DESTDIR LIBDIR
 
 PROGRAM := crates/ip_frames/out/ip_frames
 CALLS := crates/ip_calls/out/ip_calls
 ARCHIVE := crates/ip_wire_c/out/libip_wire_c.a
 LIBRARY := out/lib/libip_wire.a
+SHARED := out/lib/libip_wire.so.$(shell c/version)
 # The last page that c/pages writes stands for all of them.
 PAGES := out/man/man3/ip_wire.3
 FIND_SOURCES := find crates.txt crates -name out -prune -o \( -name '*.rt' -o -name '*.antt' -o -name crates.txt \)
@@ -61,16 +63,17 @@ run:
 		$(PROGRAM) < "$$FRAMES"; \
 	else \
 		$(HAS_RT); \
-		echo 'not built yet, so run without proofs (make build proves first)' >&2; \
+		test -x $(PROGRAM) && why='older than its sources' || why='not built yet'; \
+		echo "$$why, so run without proofs (make build proves first)" >&2; \
 		exec < "$$FRAMES"; cd crates/ip_frames && rt try; \
 	fi
 
-build: $(PROGRAM) $(CALLS) $(LIBRARY) $(PAGES)
+build: $(PROGRAM) $(CALLS) $(LIBRARY) $(SHARED) $(PAGES)
 	@echo $(PROGRAM)
 	@echo $(CALLS)
 	@echo $(LIBRARY)
 
-install: $(PROGRAM) $(LIBRARY) $(PAGES)
+install: $(PROGRAM) $(LIBRARY) $(SHARED) $(PAGES)
 	@c/install install
 
 uninstall: $(PAGES)
@@ -119,7 +122,10 @@ $(PAGES): c/pages c/ip_wire.h man/ip_wire.3
 	@$(CAN_WRITE)
 	@c/pages $(@D)
 
-# The shared library is beside the static one.
+# The shared library is made with the static one. It is made again if it is missing.
+$(SHARED): | $(LIBRARY)
+	@test -e $@ || c/link $(ARCHIVE) $(@D)
+
 $(LIBRARY): $(ARCHIVE) c/link c/version c/cpu.c c/names.c c/ip_wire.h c/ip_wire.map
 	@$(CAN_WRITE)
 	@c/link $(ARCHIVE) $(@D)

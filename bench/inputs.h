@@ -91,9 +91,9 @@ static struct {
     }
 #define ENDS(version) (version == 4 ? &ipv4_headers : &ipv6_headers)
 
-/* The protocol is one that the library does not parse, ICMP and ICMPv6. */
-static const struct lk_frame ipv4_headers = HEADERS(IPV4(1), IPV4(2), 1);
-static const struct lk_frame ipv6_headers = HEADERS(IPV6(0xfe, 0x80, 1), IPV6(0xff, 0x02, 1), 58);
+/* The protocol is one for experiments (RFC 3692), which no library parses. */
+static const struct lk_frame ipv4_headers = HEADERS(IPV4(1), IPV4(2), 253);
+static const struct lk_frame ipv6_headers = HEADERS(IPV6(0xfe, 0x80, 1), IPV6(0xff, 0x02, 1), 253);
 
 static void prepare_bytes(const struct row *row)
 {

@@ -1,4 +1,4 @@
-/* ip_wire: Ethernet II, ARP, IPv4, IPv6, UDP and TCP packets for C and C++. `lk_` stands for Lerkvist.
+/* ip_wire: Ethernet II, ARP, IPv4, IPv6, ICMP, UDP and TCP packets for C and C++. `lk_` stands for Lerkvist.
  *
  * The library needs an x86-64-v2 processor (SSE4.2 and POPCNT). Call lk_cpu_supported() first if the
  * program may run on an older one: every other call may stop there with an illegal instruction.
@@ -183,7 +183,7 @@ struct lk_ip {
     uint32_t ident;           /* IPv4: 16 bits; IPv6: of the fragment header */
     uint32_t flow_label;      /* IPv6: 20 bits */
     uint16_t fragment_offset; /* in octets, a multiple of 8 */
-    uint8_t protocol;         /* 6: TCP, 17: UDP, 44: an IPv6 fragment header */
+    uint8_t protocol;         /* 1: ICMP, 6: TCP, 17: UDP, 44: an IPv6 fragment header, 58: ICMPv6 */
     uint8_t hop_limit;        /* 64 is usual; 0 is read, and cannot be written */
     uint8_t dscp;             /* 6 bits; of IPv6 those of the traffic class */
     uint8_t ecn;              /* 2 bits */
@@ -235,10 +235,29 @@ struct lk_tcp_options {
     uint8_t has_timestamp;
 };
 
+/* The header of an ICMP message (RFC 792; over IPv6 RFC 4443) without its checksum. Behind it are the data of an echo,
+ * or the beginning of the packet that an error is about. */
+struct lk_icmp {
+    uint32_t word; /* octets 4 to 7: of an echo, identifier * 65536 + sequence number; of errors, an MTU or a pointer */
+    uint8_t type;
+    uint8_t code;
+};
+
+/* A neighbour solicitation or advertisement (RFC 4861, sections 4.3 and 4.4). */
+struct lk_ndisc {
+    struct lk_addr target; /* an IPv6 address */
+    uint8_t hardware[6];   /* the link-layer address option: of the source in a solicitation, else of the target */
+    uint8_t has_hardware;  /* 1: there is this option */
+    uint8_t is_advert;     /* 1: an advertisement */
+    uint8_t is_router;     /* the flags of an advertisement: R, */
+    uint8_t is_solicited;  /* S */
+    uint8_t overrides;     /* and O */
+};
+
 /* ---- reading ---- */
 
 enum lk_network { LK_NO_NETWORK, LK_ARP, LK_IPV4, LK_IPV6 };
-enum lk_transport { LK_NO_TRANSPORT, LK_UDP, LK_TCP };
+enum lk_transport { LK_NO_TRANSPORT, LK_UDP, LK_TCP, LK_ICMP };
 
 /* Why a header was rejected. If several reasons apply to it, it is the first of them in this order. If several
  * headers of a frame are wrong, the outermost of them is rejected, and no header behind it is read. */
@@ -270,7 +289,7 @@ enum lk_verdict {
 /* A frame. The fields of a header that is not there are 0. */
 struct lk_frame {
     size_t network_offset;   /* of the ARP or IP header, from the first octet of the frame or packet */
-    size_t transport_offset; /* of the UDP or TCP header, also of a rejected one that is stored */
+    size_t transport_offset; /* of the UDP, TCP or ICMP header, also of a rejected one that is stored */
     size_t payload_offset;   /* of the payload */
     size_t payload_len;      /* ends within the frame, before its padding */
     struct lk_endpoint src;  /* the sender; the port is 0 unless a UDP or TCP header is stored */
@@ -286,6 +305,8 @@ struct lk_frame {
     uint8_t is_fragment;        /* 1: a part of an IP packet, so its payload is not parsed */
     uint8_t ipv4_checksum;      /* an `lk_verdict` */
     uint8_t transport_checksum; /* an `lk_verdict` */
+    uint8_t unused[5];          /* not stored */
+    struct lk_icmp icmp;
 };
 
 /* Parses an Ethernet frame, stores its values, and returns LK_READ or why a header was rejected. A wrong
@@ -301,6 +322,9 @@ struct lk_frame {
  *   LK_NO_CHECKSUM, because it does not say which octets are summed.
  * - Behind an unknown EtherType or protocol all bytes are payload, and so are IPv6 extension headers.
  *   IPv4 options are skipped.
+ * - An ICMP message is a packet of protocol 1 over IPv4, or 58 over IPv6, with at least 8 octets. Its payload begins
+ *   behind these 8 octets: it is the data of an echo, or the packet that an error quotes. No type or code is rejected,
+ *   and the checksum is LK_RIGHT or LK_WRONG. A shorter message has no transport: all of it is payload.
  * - If an IPv6 fragment header follows the IPv6 header directly and is there as a whole, its values are stored.
  *   The payload begins at it. `is_fragment` is 0 if it is of an atomic fragment, which is a whole packet
  *   (RFC 6946), but what follows the fragment header is not parsed either.
@@ -325,8 +349,9 @@ int lk_read_packet(const uint8_t *ptr, size_t len, struct lk_frame *frame);
  *   stored. TCP options that were cut give it after the tests of lengths, ports and flags; the fields are stored, and
  *   `rejected` is LK_TCP.
  * - An IPv6 fragment header that was cut gives LK_HEADER_CUT, and the fields of the IPv6 header are stored.
- * - If a TCP or UDP checksum covers octets that were not captured, its verdict is LK_CHECKSUM_CUT. But a UDP checksum
- *   of 0 is LK_LEFT_OUT, or LK_WRONG over IPv6.
+ * - If a TCP, UDP or ICMP checksum covers octets that were not captured, its verdict is LK_CHECKSUM_CUT. But a UDP
+ *   checksum of 0 is LK_LEFT_OUT, or LK_WRONG over IPv6.
+ * - An ICMP message of which fewer than 8 octets were captured has no transport, and no header is rejected.
  * - `payload_len` is that of the whole frame: the payload may end behind the captured octets. */
 int lk_read_captured(const uint8_t *ptr, size_t captured, size_t len, struct lk_frame *frame);
 int lk_read_captured_packet(const uint8_t *ptr, size_t captured, size_t len, struct lk_frame *frame);
@@ -361,7 +386,7 @@ int lk_next_tcp_option(const uint8_t *ptr, size_t len, struct lk_tcp_option *opt
 
 /* Turns a frame that was read into its reply, in place: Ethernet addresses, endpoints and ARP's hardware addresses
  * are exchanged. The IP header becomes that of a new packet: hop limit 64, ECN 0, identification 0 with DF (a bit
- * that IPv6 does not have), no flow label, no fragment. All else stays, DSCP and the fields of ARP and TCP
+ * that IPv6 does not have), no flow label, no fragment. All else stays, DSCP and the fields of ARP, TCP and ICMP
  * among it. */
 void lk_reply(struct lk_frame *frame);
 
@@ -389,6 +414,12 @@ ptrdiff_t lk_emit_tcp_frame(const struct lk_frame *headers, const struct lk_tcp_
 ptrdiff_t lk_wrap_udp_frame(const struct lk_frame *headers, size_t len, uint8_t *out, size_t cap);
 ptrdiff_t lk_wrap_tcp_frame(const struct lk_frame *headers, const struct lk_tcp_options *options,
                             size_t len, uint8_t *out, size_t cap);
+
+/* Writes a whole frame with an ICMP message, as lk_emit_udp_frame does with a UDP packet: the header `icmp` of `headers`
+ * and the `len` octets at `ptr`, at most 65507 over IPv4 and 65527 over IPv6. The protocol is 1 over IPv4 and 58 over
+ * IPv6. No port is used. */
+ptrdiff_t lk_emit_icmp_frame(const struct lk_frame *headers, const uint8_t *ptr, size_t len, uint8_t *out,
+                             size_t cap);
 
 /* Returns the length of a TCP header with these options, 20 to 60, or LK_OPTIONS_TOO_LONG. */
 ptrdiff_t lk_tcp_header_len(const struct lk_tcp_options *options);
@@ -429,6 +460,11 @@ ptrdiff_t lk_emit_udp(const struct lk_endpoint *src, const struct lk_endpoint *d
 ptrdiff_t lk_emit_tcp(const struct lk_tcp *header, const struct lk_tcp_options *options,
                       const struct lk_endpoint *src, const struct lk_endpoint *dst, const uint8_t *ptr,
                       size_t len, int computed, uint8_t *out, size_t cap);
+
+/* Writes the header of an ICMP message and the `len` octets at `ptr`, at most 65527. Between IPv6 addresses the checksum
+ * covers a pseudo-header too. */
+ptrdiff_t lk_emit_icmp(const struct lk_icmp *header, const struct lk_addr *src, const struct lk_addr *dst,
+                       const uint8_t *ptr, size_t len, int computed, uint8_t *out, size_t cap);
 
 /* ---- checksums and sequence numbers ---- */
 
@@ -512,22 +548,42 @@ int lk_compare_seq(uint32_t a, uint32_t b);
  * - the payload of any other protocol, such as an IPv6 extension header with what follows. */
 ptrdiff_t lk_rebuild(const uint8_t *ptr, size_t len, uint8_t *out, size_t cap);
 
+/* ---- neighbour discovery ---- */
+
+/* Reads a neighbour solicitation or advertisement from an Ethernet frame, stores it and returns 1. Returns 0 and stores
+ * nothing if the frame carries none that is valid (RFC 4861, sections 7.1.1 and 7.1.2):
+ *
+ * - The hop limit must be 255, the checksum right, and the code 0.
+ * - The target must be no multicast address. Each option must have a length above 0 and end within the message, and a
+ *   link-layer address option must have 8 octets. Options of other kinds are skipped; of several the first counts.
+ * - A solicitation from `::` must be for a solicited-node group, without the option.
+ * - An advertisement for a multicast address must not be solicited. */
+int lk_read_ndisc(const uint8_t *frame, size_t len, struct lk_ndisc *ndisc);
+
+/* Writes a whole frame with a neighbour solicitation or advertisement, 78 octets, or 86 with the option. Uses
+ * `ethernet.src`, `ethernet.dst`, `src.addr` and `dst.addr` of `headers`. The hop limit is 255; traffic class and flow
+ * label are 0. Fails with LK_NO_VERSION unless `src.addr`, `dst.addr` and `target` are IPv6 addresses, and with
+ * LK_NO_ROOM. What lk_read_ndisc rejects for its addresses or flags is written too. */
+ptrdiff_t lk_emit_ndisc_frame(const struct lk_frame *headers, const struct lk_ndisc *ndisc, uint8_t *out, size_t cap);
+
 /* ---- a host ---- */
 
 /* A host with one interface and no connections. */
 struct lk_host {
-    const uint16_t *open_ports; /* the open TCP ports */
-    size_t open_port_count;     /* as many must be there: a count is not compared with LK_MAX_LEN */
-    struct lk_addr ipv4;        /* an IPv4 address */
-    struct lk_addr ipv6;        /* an IPv6 address */
-    uint8_t hardware[6];        /* an Ethernet address */
-    uint16_t echo_port;         /* the UDP port that echoes; 0: none */
+    const uint16_t *open_ports;     /* the open TCP ports */
+    size_t open_port_count;         /* as many must be there: a count is not compared with LK_MAX_LEN */
+    const uint16_t *open_udp_ports; /* the UDP ports that the caller serves: what they get is not answered */
+    size_t open_udp_port_count;     /* as many must be there too */
+    struct lk_addr ipv4;            /* an IPv4 address */
+    struct lk_addr ipv6;            /* an IPv6 address */
+    uint8_t hardware[6];            /* an Ethernet address */
+    uint16_t echo_port;             /* the UDP port that echoes; 0: none */
     /* what an open port sends */
-    uint32_t seq_number;        /* hard to guess, another for each connection (RFC 9293, section 3.4.1) */
-    uint32_t tsval;             /* the timestamp */
-    uint16_t window_len;        /* in octets; not scaled, because it is sent with SYN */
-    uint16_t max_seg_size;      /* in octets */
-    uint8_t window_scale;       /* in bits; more than 14 is sent as 14 */
+    uint32_t seq_number;            /* hard to guess, another for each connection (RFC 9293, section 3.4.1) */
+    uint32_t tsval;                 /* the timestamp */
+    uint16_t window_len;            /* in octets; not scaled, because it is sent with SYN */
+    uint16_t max_seg_size;          /* in octets */
+    uint8_t window_scale;           /* in bits; more than 14 is sent as 14 */
 };
 
 /* Writes the answer of a host to an Ethernet frame. Returns its length, or 0 if the frame gets no answer. Fails
@@ -535,7 +591,10 @@ struct lk_host {
  *
  *   frame                                  answer
  *   an ARP request for `ipv4`              an ARP reply
+ *   a neighbour solicitation for `ipv6`    a neighbour advertisement (RFC 4861, section 7.2.4)
+ *   an echo request                        an echo reply with the same data (RFC 1122, 3.2.2.6; RFC 4443, 4.2)
  *   a UDP packet to `echo_port`            the same payload, to its sender (RFC 862)
+ *   a UDP packet to a closed port          an ICMP error, port unreachable (RFC 1122, 4.1.3.1; RFC 4443, 3.1)
  *   SYN without ACK to an open TCP port    SYN and ACK (RFC 9293, section 3.10.7.2)
  *   ACK without RST to an open TCP port    RST
  *   any but RST to a closed TCP port       RST (section 3.10.7.1)
@@ -546,12 +605,58 @@ struct lk_host {
  * - UDP, TCP and ARP from these addresses get no answer: 0.0.0.0/8, 127.0.0.0/8, 224.0.0.0/4, 240.0.0.0/4, `::`,
  *   `::1`, ::ffff:0:0/96, ff00::/8, `ipv4` and `ipv6` (RFC 1122, section 3.2.1.3; RFC 4291, section 2). But an ARP
  *   probe, which is from 0.0.0.0, gets one (RFC 5227, section 2.1.1).
- * - A UDP packet gets none if its source port is 0 or `echo_port`, so two hosts do not echo for ever.
+ * - A UDP packet for `echo_port` gets none if its source port is 0 or `echo_port`. So two hosts with one echo port do
+ *   not echo for ever.
  * - SYN and ACK has `max_seg_size`. It has window scale, SACK permitted and timestamp if the SYN has them.
  * - No connection is kept: what follows the SYN gets RST, with window 0 and without options.
  * - The answer is a new IP packet, as that of lk_reply, with DSCP 0.
- * - ICMPv6 is not answered: a neighbour must know the Ethernet address of `ipv6` by other means. */
+ * - A solicitation must be valid for lk_read_ndisc, and sent to `ipv6` or its solicited-node group. The advertisement
+ *   goes to the hardware address in the option, or to the sender of the frame; for a solicitation from `::` to all
+ *   nodes.
+ * - ICMP errors are written as by lk_emit_icmp_error. */
 ptrdiff_t lk_answer(const struct lk_host *host, const uint8_t *ptr, size_t len, uint8_t *out, size_t cap);
+
+/* ---- ICMP errors ---- */
+
+/* An interface of a host or router. */
+struct lk_interface {
+    struct lk_addr ipv4; /* an IPv4 address; 0.0.0.0: none */
+    struct lk_addr ipv6; /* an IPv6 address; `::`: none */
+    uint8_t hardware[6]; /* an Ethernet address */
+};
+
+/* Why a packet was dropped, and the ICMP error about it: its type and code over IPv4, and over IPv6. */
+enum lk_problem {
+    LK_NO_PROBLEM,
+    LK_HOP_LIMIT_EXPIRED, /* 11, 0 and 3, 0: only if the hop limit is 0 or 1 */
+    LK_PACKET_TOO_BIG,    /* 3, 4 and 2, 0: only if the packet is longer than `mtu`, and over IPv4 has DF */
+    LK_ROUTE_MISSING,     /* 3, 0 and 1, 0 */
+    LK_NEIGHBOUR_MISSING, /* 3, 1 and 1, 3: the next hop has no hardware address */
+    LK_PORT_CLOSED,       /* 3, 3 and 1, 4 */
+    LK_PROHIBITED         /* 3, 13 and 1, 1: a filter rejects it */
+};
+
+/* Writes an Ethernet frame with an ICMP error about a frame that came in by an interface, to its sender. `frame` is as
+ * it came in. Returns the length of the error, or 0 if the frame may get none. Fails with LK_NO_VERSION if `ipv4` is no
+ * IPv4 address or `ipv6` no IPv6 address, and with LK_NO_ROOM. `mtu` is used for LK_PACKET_TOO_BIG only: the length of
+ * the longest packet that the next link takes.
+ *
+ * The error quotes as much of the packet as fits into 576 octets over IPv4, 1280 over IPv6 (RFC 1812, section 4.3.2.3;
+ * RFC 4443, section 2.4 c), so a `cap` of 1294 always suffices. No error is sent in these cases (RFC 1122, section
+ * 3.2.2; RFC 4443, section 2.4 e).
+ *
+ * - The frame is not for `hardware`, or not from a unicast hardware address.
+ * - The version, the lengths or the IPv4 header checksum of the packet are wrong.
+ * - It is from a source that lk_check_source calls LK_MARTIAN, or from an address of the interface.
+ * - It is for a multicast or broadcast address, or for another that no host has.
+ * - It is a fragment other than the first, or any fragment of IPv6.
+ * - It carries an ICMP message that is no query: an error, a redirect or an unknown type.
+ * - It is IPv6 with other extension headers, behind which an ICMP error may be.
+ * - The interface has no address of its version.
+ *
+ * The caller limits the rate (RFC 1812, section 4.3.2.8; RFC 4443, section 2.4 f). */
+ptrdiff_t lk_emit_icmp_error(const struct lk_interface *own, int problem, uint32_t mtu, const uint8_t *frame,
+                             size_t len, uint8_t *out, size_t cap);
 
 /* ---- one hop, and NAT of one packet ---- */
 
@@ -564,11 +669,12 @@ enum lk_rejection {
     LK_WRONG_CHECKSUM, /* of the IPv4 header */
     LK_EXPIRED,        /* the hop limit is 0 or 1 */
     LK_FRAGMENT,       /* NAT: the packet is a fragment */
-    LK_OTHER_PROTOCOL, /* NAT: the packet carries neither UDP nor TCP */
-    LK_BAD_TRANSPORT,  /* NAT: the UDP or TCP header is rejected (lk_reason), or its checksum is wrong */
+    LK_OTHER_PROTOCOL, /* NAT: the packet carries neither UDP nor TCP, nor an ICMP message that is translated */
+    LK_BAD_TRANSPORT,  /* NAT: the UDP or TCP header is rejected (lk_reason), or the checksum is wrong, also of ICMP */
     LK_ZERO_PORT,      /* NAT: the port to be written is 0, and a receiver would reject the packet; lk_translate_out:
                         * the source port is 0, so that no answer could come back */
-    LK_NO_MAPPING,     /* lk_translate_in: no live mapping has this outside address and port */
+    LK_NO_MAPPING,     /* lk_translate_in: no live mapping has this outside address and port; also of a packet that an
+                        * ICMP error quotes; an echo request that comes in, or an echo reply that leaves */
     LK_NO_FREE_PORT,   /* lk_translate_out: no outside port is free for this endpoint */
     LK_MARTIAN,        /* lk_check_source: no host may send from this address */
     LK_NO_ROUTE,       /* lk_check_source: there is no route back */
@@ -590,7 +696,9 @@ int lk_forward(uint8_t *frame, size_t len, const uint8_t *src, const uint8_t *ds
 enum lk_side { LK_SOURCE, LK_DESTINATION };
 
 /* Writes an IPv4 address and a port into the UDP or TCP packet of an Ethernet frame, in place (RFC 3022), and updates
- * the checksums, as lk_update_.. do. A UDP checksum of 0 stays 0. Any `side` but 0 is the destination.
+ * the checksums, as lk_update_.. do. A UDP checksum of 0 stays 0. Any `side` but 0 is the destination. The identifier
+ * of an ICMP echo message counts as its port on either side, and may be 0. Its checksum is computed anew. Other ICMP
+ * messages get LK_OTHER_PROTOCOL.
  *
  * Returns LK_NOT_REJECTED, or a rejection from LK_NO_IPV4 to LK_ZERO_PORT, but not LK_EXPIRED. If it is not 0, the
  * frame is unchanged. The source port of UDP may be 0 (RFC 768), so that it gets no LK_ZERO_PORT. */
@@ -659,6 +767,7 @@ struct lk_nat {
     uint64_t udp_timeout;            /* of a UDP mapping, in milliseconds: 300000 (RFC 4787, REQ-5) */
     uint64_t tcp_timeout;            /* of an established TCP connection: 7440000 (RFC 5382, REQ-5) */
     uint64_t tcp_transitory_timeout; /* of one that opens or closes: 240000 */
+    uint64_t icmp_timeout;           /* of an ICMP mapping: 60000 (RFC 5508, REQ-2) */
     uint8_t outside[4];              /* the outside IPv4 address */
     uint16_t first_port;             /* the first outside port; 0: no port */
     uint16_t unused;
@@ -677,13 +786,13 @@ struct lk_mapping {
 };
 
 /* Translate the source of a packet that leaves, and the destination of a packet that comes in, in place, as
- * lk_translate does. `mappings` are two for each outside port, zeros at first: `mappings[2 * n]` is the UDP mapping of
- * port `first_port + n`, and `mappings[2 * n + 1]` its TCP mapping. `now` is a clock in milliseconds that never goes
- * back.
+ * lk_translate does. `mappings` are three for each outside port, zeros at first: `mappings[3 * n]` is the UDP mapping
+ * of port `first_port + n`, `mappings[3 * n + 1]` its TCP mapping, and `mappings[3 * n + 2]` its ICMP mapping, of an
+ * echo identifier. `now` is a clock in milliseconds that never goes back.
  *
- *     enum { COUNT = 2 * (65536 - 1024) };
+ *     enum { COUNT = 3 * (65536 - 1024) };
  *     static struct lk_mapping mappings[COUNT];
- *     struct lk_nat nat = {{random64(), random64()}, 300000, 7440000, 240000, {203, 0, 113, 9}, 1024, 0};
+ *     struct lk_nat nat = {{random64(), random64()}, 300000, 7440000, 240000, 60000, {203, 0, 113, 9}, 1024, 0};
  *
  *     if (is_from_inside)
  *         rejection = lk_translate_out(&nat, mappings, COUNT, milliseconds(), frame, len);
@@ -702,7 +811,12 @@ struct lk_mapping {
  *   do not keep it alive (REQ-6).
  * - A TCP mapping has `tcp_timeout` after its inside endpoint sent a segment without SYN, FIN and RST, and
  *   `tcp_transitory_timeout` before it, after a FIN or RST of either side, and after another SYN. After FIN or RST only
- *   a SYN begins anew. In a mapping of several remote endpoints, FIN, RST and SYN do not end `tcp_timeout`. */
+ *   a SYN begins anew. In a mapping of several remote endpoints, FIN, RST and SYN do not end `tcp_timeout`.
+ * - Echo requests go out, and echo replies come in (RFC 5508, section 3). The others get LK_NO_MAPPING.
+ * - An ICMP error is translated with the packet that it quotes, of which at least the IPv4 header and 8 octets must be
+ *   there (RFC 5508, section 4). One that comes in quotes a packet of a live mapping, from its outside port; one that
+ *   leaves quotes a packet to the inside endpoint of a live mapping. All checksums are updated. An error neither
+ *   restarts a time-out nor ends a connection. Errors about other packets get LK_NO_MAPPING. */
 int lk_translate_out(const struct lk_nat *nat, struct lk_mapping *mappings, size_t count, uint64_t now, uint8_t *frame,
                      size_t len);
 int lk_translate_in(const struct lk_nat *nat, struct lk_mapping *mappings, size_t count, uint64_t now, uint8_t *frame,

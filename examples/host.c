@@ -1,12 +1,13 @@
-/* A host on a TAP device (Linux). It answers ARP for its IPv4 address, echoes what comes to port 7 by UDP
- * and TCP over IPv4 and IPv6, and refuses every other connection. host_tcp.c has its TCP.
+/* A host on a TAP device (Linux). It echoes what comes to port 7 by UDP and TCP over IPv4 and IPv6, and refuses every
+ * other connection. lk_answer answers all but TCP: also ping, ARP, neighbour solicitations, and UDP to other ports.
+ * host_tcp.c has its TCP.
  *     host DEVICE HARDWARE_ADDRESS IPV4_ADDRESS IPV6_ADDRESS
  * Makes the device, unless it exists, and prints "ready". SIGINT and SIGTERM end it: then it prints counts. It
  * ends with status 1 if the device is deleted. While the device is down, it waits.
  *
- * Not supported: reassembly of IP fragments, ICMP, and ICMPv6, so that a peer needs the hardware address of the
- * IPv6 address in its table of neighbours. */
+ * Not supported: reassembly of IP fragments. ICMP errors that come in are ignored. */
 #define _GNU_SOURCE
+#include "error_limit.h"
 #include "host_tcp.h"
 #include <errno.h>
 #include <fcntl.h>
@@ -21,11 +22,11 @@
 #include <sys/socket.h>
 #include <unistd.h>
 
-enum { LONGEST_FRAME = 65535 + 18, ARP_REQUEST = 1, ARP_REPLY = 2, FRAMES_AT_ONCE = 64 };
+enum { LONGEST_FRAME = 65535 + 18, FRAMES_AT_ONCE = 64 };
 
 size_t mtu;
-static uint8_t own_hardware[6];
-static struct lk_addr own_ipv4, own_ipv6;
+static struct lk_host own = {.echo_port = ECHO_PORT};
+static struct error_limit limit;
 static int device, signals;
 static uint8_t out[LONGEST_FRAME];
 static unsigned long frames_in, frames_out, rejected, wrong_checksums;
@@ -41,27 +42,17 @@ struct lk_frame headers_to(const struct lk_frame *in)
 {
     struct lk_frame reply = *in;
     lk_reply(&reply);
-    memcpy(reply.ethernet.src, own_hardware, 6);
+    memcpy(reply.ethernet.src, own.hardware, 6);
     reply.ip.dscp = 0;
     reply.tcp = (struct lk_tcp){.flags = 0};
     return reply;
 }
 
-static void on_arp(const struct lk_frame *in)
+static void answer(const uint8_t *frame, size_t len)
 {
-    if (in->arp.operation != ARP_REQUEST || memcmp(&in->dst.addr, &own_ipv4, sizeof own_ipv4) != 0)
-        return;
-    struct lk_frame reply = headers_to(in);
-    memcpy(reply.arp.src_hardware, own_hardware, 6);
-    reply.arp.operation = ARP_REPLY;
-    send_out(lk_emit_arp_frame(&reply, out, sizeof out));
-}
-
-static void on_udp(const struct lk_frame *in, const uint8_t *payload)
-{
-    struct lk_frame reply = headers_to(in);
-    if (in->dst.port == ECHO_PORT && in->src.port != 0)
-        send_out(lk_emit_udp_frame(&reply, payload, in->payload_len, out, sizeof out));
+    ptrdiff_t answer_len = lk_answer(&own, frame, len, out, sizeof out);
+    if (answer_len > 0 && may_send(&limit, milliseconds(), out, (size_t)answer_len))
+        send_out(answer_len);
 }
 
 void send_tcp(const struct lk_frame *headers, const struct lk_tcp_options *options, const uint8_t *ptr, size_t len)
@@ -71,9 +62,15 @@ void send_tcp(const struct lk_frame *headers, const struct lk_tcp_options *optio
 
 static int is_for_us(const struct lk_frame *in)
 {
-    const struct lk_addr *own = in->network == LK_IPV4 ? &own_ipv4 : &own_ipv6;
-    return memcmp(in->ethernet.dst, own_hardware, 6) == 0 && memcmp(&in->dst.addr, own, sizeof *own) == 0
-           && lk_is_unicast(&in->src.addr) && (in->transport != LK_NO_TRANSPORT || in->rejected == LK_TCP);
+    const struct lk_addr *addr = in->network == LK_IPV4 ? &own.ipv4 : &own.ipv6;
+    return memcmp(in->ethernet.dst, own.hardware, 6) == 0 && memcmp(&in->dst.addr, addr, sizeof *addr) == 0
+           && lk_is_unicast(&in->src.addr);
+}
+
+static int has_wrong_checksum(const struct lk_frame *in)
+{
+    int verdict = in->transport_checksum;
+    return in->ipv4_checksum == LK_WRONG || verdict == LK_WRONG || verdict == LK_LEFT_TO_DEVICE;
 }
 
 static void on_frame(const uint8_t *frame, size_t len)
@@ -82,25 +79,21 @@ static void on_frame(const uint8_t *frame, size_t len)
     int reason = lk_read_frame(frame, len, &in);
     if (reason != LK_READ)
         rejected++;
-    if (in.network == LK_ARP && reason == LK_READ) {
-        on_arp(&in);
-    } else if (is_for_us(&in)) {
-        if (in.ipv4_checksum == LK_WRONG || (in.transport_checksum != LK_RIGHT && in.transport_checksum != LK_LEFT_OUT))
-            wrong_checksums++;
-        else if (reason == LK_BAD_FLAGS)
-            reset(&in, in.payload_len - in.tcp.header_len); /* here the payload begins at the TCP header */
-        else if (reason == LK_READ && in.transport == LK_TCP)
-            on_tcp(&in, frame);
-        else if (reason == LK_READ)
-            on_udp(&in, frame + in.payload_offset);
-    }
+    if (has_wrong_checksum(&in))
+        wrong_checksums++;
+    else if (in.transport != LK_TCP && in.rejected != LK_TCP)
+        answer(frame, len);
+    else if (is_for_us(&in) && reason == LK_BAD_FLAGS)
+        reset(&in, in.payload_len - in.tcp.header_len); /* here the payload begins at the TCP header */
+    else if (is_for_us(&in) && reason == LK_READ)
+        on_tcp(&in, frame);
 }
 
 static int read_own(char **words)
 {
-    return lk_parse_ethernet(words[0], strlen(words[0]), own_hardware)
-           && lk_parse_addr(words[1], strlen(words[1]), &own_ipv4) && own_ipv4.version == 4
-           && lk_parse_addr(words[2], strlen(words[2]), &own_ipv6) && own_ipv6.version == 6;
+    return lk_parse_ethernet(words[0], strlen(words[0]), own.hardware)
+           && lk_parse_addr(words[1], strlen(words[1]), &own.ipv4) && own.ipv4.version == 4
+           && lk_parse_addr(words[2], strlen(words[2]), &own.ipv6) && own.ipv6.version == 6;
 }
 
 /* Stores its MTU too. SIGINT and SIGTERM are read from `signals` from now on. */

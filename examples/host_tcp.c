@@ -61,7 +61,7 @@ void reset(const struct lk_frame *in, size_t payload_len)
     send_tcp(&reply, &none, NULL, 0);
 }
 
-static int64_t milliseconds(void)
+int64_t milliseconds(void)
 {
     struct timespec now;
     clock_gettime(CLOCK_MONOTONIC, &now);

@@ -1,4 +1,4 @@
-/* The two parts of the host: host.c has the device, ARP and UDP, host_tcp.c has TCP. */
+/* The two parts of the host: host.c has the device and all answers but those of TCP, host_tcp.c has TCP. */
 #ifndef HOST_TCP_H
 #define HOST_TCP_H
 #include <ip_wire.h>
@@ -12,6 +12,9 @@ void on_tcp(const struct lk_frame *in, const uint8_t *frame);
 
 /* Rejects a segment of no connection (RFC 9293, section 3.10.7.1). */
 void reset(const struct lk_frame *in, size_t payload_len);
+
+/* Returns the time of a clock that never goes back. */
+int64_t milliseconds(void);
 
 /* Runs the timers that are due. Returns how long the next one runs, in milliseconds; -1 if none does. */
 int run_timers(void);

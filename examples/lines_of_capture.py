@@ -98,7 +98,7 @@ def read_pcapng(source):
             link_types.add(interfaces[-1].link_type)
         elif kind in PACKET_READERS:
             yield read_packet(PACKET_READERS[kind], order, body, interfaces)
-    if link_types and ETHERNET not in link_types:
+    if ETHERNET not in link_types:
         raise Failure(f"no Ethernet in this capture: {link_type_list(link_types)}")
 
 
@@ -198,6 +198,8 @@ def read_packet(reader, order, body, interfaces):
 
 def link_type_list(link_types):
     numbers = ", ".join(map(str, sorted(link_types)))
+    if not link_types:
+        return "no interface"
     return f"link type {numbers}" if len(link_types) == 1 else f"link types {numbers}"
 
 
@@ -226,7 +228,7 @@ def report_counts(counts, skipped, dropped):
     if counts["with fcs"]:
         frame_lines.report(f"frame check sequence removed: {counted(counts['with fcs'], 'frame')}")
     if skipped:
-        frame_lines.report(f"skipped, not Ethernet ({link_type_list(skipped)}): {counted(skipped.total(), 'packet')}")
+        frame_lines.report(f"skipped, not Ethernet ({link_type_list(skipped)}): {counted(sum(skipped.values()), 'packet')}")
 
 
 if __name__ == "__main__":

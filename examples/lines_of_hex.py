@@ -17,27 +17,34 @@ The rules, for each line:
   2. A line that begins with a time, as 17:03:33.759133 or 1795367013.759133, is tcpdump's
      summary of a packet. It is skipped, and so are the indented lines behind it, up to the
      dump. With -v they may have offsets of their own, but are indented deeper than the dump.
-  3. An offset is four or more hex digits, perhaps after 0x, with a colon or two spaces
+  3. An offset is four to eight hex digits, perhaps after 0x, with a colon or two spaces
      behind them. Offset 0 begins a frame. Any other offset must be the number of bytes
      that the frame has so far, and the line continues that frame.
   4. Behind an offset the bytes end at the first two spaces. What follows is the text
-     column, which has at most one character for each byte.
-  5. Any other line is a frame of its own. If it ends in a comma or a backslash, the next
+     column, which has at most one character for each byte. If one line of a frame has it,
+     each line has it. The last line of the input has a line end. Without either of them
+     the dump was cut off, which is an error.
+  5. A line such as "Frame (98 bytes):" says what the next bytes with offsets are. They are
+     skipped unless it begins with "Frame": tshark -x repeats bytes that it put together
+     from several frames. A frame with another number of bytes is an error.
+  6. Any other line is a frame of its own. If it ends in a comma or a backslash, the next
      line continues it.
-  6. A line in none of these forms is an error.
+  7. A line in none of these forms is an error.
 
-tcpdump -x and -X leave the Ethernet header out: use -xx or -XX, without -t. xxd -p breaks long
-frames into lines: use xxd -p -c 0. The dumps of hexdump and od are not supported.
+tcpdump -x and -X leave the Ethernet header out: use -xx or -XX, without -t. The number of frames
+that look so is reported on standard error. xxd -p breaks long frames into lines: use xxd -p -c 0.
+The dumps of hexdump and od are not supported.
 """
 import re
 
 import frame_lines
-from frame_lines import Failure
+from frame_lines import Failure, counted
 
 BYTE = "[0-9a-fA-F]{2}"
 SUMMARY = re.compile(r"\s*(\d+  )?(\d{4}-\d\d-\d\d )?(\d\d:\d\d:\d\d|\d+)\.\d+ ", re.ASCII)
 DEEPER_THAN_THE_DUMP = re.compile(r"(?:\t| {8})[ \t]")
-OFFSET = re.compile(r"(?:0x)?([0-9a-fA-F]{4,})(?:: *|  +)(?=\S)")
+OFFSET = re.compile(r"(?:0x)?([0-9a-fA-F]{4,8})(?:: *|  +)(?=\S)")
+VIEW = re.compile(r"(\S.*) \((\d+) bytes?\):", re.ASCII)
 BYTES_BEHIND_OFFSET = re.compile(rf"(?:{BYTE})+(?: (?:{BYTE})+)*(?=  |$)")
 STREAM = re.compile(rf"(?:{BYTE})+")
 ESCAPED = re.compile(rf'("?)((?:\\x{BYTE})+)\1 *\\?')
@@ -55,12 +62,26 @@ class Reader:
         self.continues = False
         # Whether the last line is a part of tcpdump's summary.
         self.in_summary = False
+        # The frame has lines with offsets, and one of them has a text column.
+        self.is_dumped = False
+        self.has_text = False
+        # The bytes with offsets are no frame. Their number, if a line before them says it.
+        self.is_skipped = False
+        self.said_len = None
+        # How many frames begin with an IP header.
+        self.ip_count = 0
 
     def read_line(self, line):
         """The frames that end before this line or with it."""
         text = line.strip()
         offset = OFFSET.match(text)
         if not text or text.startswith("#"):
+            return
+        view = VIEW.fullmatch(text)
+        if view and not self.continues:
+            yield from self.end()
+            self.is_skipped = not view[1].startswith("Frame")
+            self.said_len = int(view[2])
             return
         if not self.continues and self.is_summary(line, offset):
             self.in_summary = True
@@ -83,12 +104,17 @@ class Reader:
         if not octets:
             raise Failure("no bytes in hex behind the offset")
         data = bytes.fromhex(octets[0])
-        if len(text[octets.end() :].strip()) > len(data):
+        column = text[octets.end() :].strip()
+        if len(column) > len(data):
             raise Failure("the text column is longer than the bytes")
-        if offset == 0:
+        if offset == 0 and self.frame:
             yield from self.end()
-        elif offset != len(self.frame):
+        if offset != len(self.frame):
             raise Failure(f"offset {offset:04x}, but {len(self.frame):04x} is expected")
+        if self.has_text and not column and data.strip(b" "):
+            raise Failure("the text column is missing: the line is cut off")
+        self.is_dumped = True
+        self.has_text |= bool(column)
         self.frame += data
 
     def read_single(self, text):
@@ -103,9 +129,23 @@ class Reader:
 
     def end(self):
         """The frame so far, if there is one."""
-        if self.frame:
-            yield bytes(self.frame)
+        frame = bytes(self.frame)
+        if frame and self.said_len not in (None, len(frame)):
+            raise Failure(f"{counted(len(frame), 'byte')}, but {self.said_len} are expected")
+        if frame and not self.is_skipped:
+            self.ip_count += self.is_dumped and is_ip_packet(frame)
+            yield frame
         self.frame = bytearray()
+        if frame:
+            self.is_dumped = self.has_text = self.is_skipped = False
+            self.said_len = None
+
+
+def is_ip_packet(data):
+    """Whether the bytes are an IPv4 or IPv6 packet by its version and length, without an Ethernet header."""
+    if len(data) >= 20 and data[0] >> 4 == 4:
+        return int.from_bytes(data[2:4], "big") == len(data)
+    return len(data) >= 40 and data[0] >> 4 == 6 and 40 + int.from_bytes(data[4:6], "big") == len(data)
 
 
 def single_bytes(text):
@@ -123,14 +163,20 @@ def read_frames(source, _arguments):
     """The frames of the lines of a text."""
     reader = Reader()
     number = 0
+    line = b""
     for number, line in enumerate(source, 1):
         try:
             yield from reader.read_line(line.decode("utf-8-sig", "replace").rstrip())
         except Failure as failure:
             raise Failure(f"line {number}: {failure}") from None
-    if reader.continues:
+    if reader.continues or reader.is_dumped and not line.endswith(b"\n"):
         raise Failure(f"line {number}: the frame is cut off")
-    yield from reader.end()
+    try:
+        yield from reader.end()
+    except Failure as failure:
+        raise Failure(f"line {number}: {failure}") from None
+    if reader.ip_count:
+        frame_lines.report(f"without an Ethernet header, as tcpdump -x prints them: {counted(reader.ip_count, 'packet')}")
 
 
 if __name__ == "__main__":

@@ -1,13 +1,14 @@
 /* The proved host on a TAP device (Linux). lk_answer writes each answer, so this program has no octet of
  * a packet: it reads frames, and sends what it gets for them.
  *     proved_host DEVICE HARDWARE_ADDRESS IPV4_ADDRESS IPV6_ADDRESS [TCP_PORT..]
- * Makes the device, unless it exists, and prints "ready". It answers ARP for its IPv4 address, echoes what
- * comes to port 7 by UDP, answers a SYN to one of the TCP ports, and refuses all else that comes by TCP.
- * A signal ends it. It ends with status 1 if the device is deleted. While the device is down, it waits.
+ * Makes the device, unless it exists, and prints "ready". It answers ARP, neighbour solicitations and ping for its
+ * addresses, echoes what comes to port 7 by UDP, answers a SYN to one of the TCP ports, and refuses all else that
+ * comes by UDP and TCP. A signal ends it. It ends with status 1 if the device is deleted. While the device is down, it
+ * waits.
  *
- * Not supported: TCP connections (host.c has them), and ICMPv6, so that a peer needs the hardware address of
- * the IPv6 address in its table of neighbours. */
+ * Not supported: TCP connections (host.c has them), and reassembly of IP fragments. */
 #define _GNU_SOURCE
+#include "error_limit.h"
 #include <fcntl.h>
 #include <ip_wire.h>
 #include <linux/if_tun.h>
@@ -37,12 +38,17 @@ static int open_device(const char *name)
     return device < 0 || ioctl(device, TUNSETIFF, &request) < 0 ? -1 : device;
 }
 
-/* Chooses what the next SYN says: a sequence number that nobody guesses, and the clock in milliseconds. */
-static int renew(struct lk_host *host)
+static int64_t milliseconds(void)
 {
     struct timespec now;
     clock_gettime(CLOCK_MONOTONIC, &now);
-    host->tsval = (uint32_t)(now.tv_sec * 1000 + now.tv_nsec / 1000000);
+    return (int64_t)now.tv_sec * 1000 + now.tv_nsec / 1000000;
+}
+
+/* Chooses what the next SYN says: a sequence number that nobody guesses, and the time. */
+static int renew(struct lk_host *host)
+{
+    host->tsval = (uint32_t)milliseconds();
     return getrandom(&host->seq_number, sizeof host->seq_number, 0) == (ssize_t)sizeof host->seq_number;
 }
 
@@ -50,10 +56,12 @@ static int renew(struct lk_host *host)
 static void serve(int device, struct lk_host *host)
 {
     static uint8_t frame[LONGEST_FRAME], out[LONGEST_FRAME];
+    static struct error_limit limit;
     ssize_t len;
     while ((len = read(device, frame, sizeof frame)) >= 0 && renew(host)) {
         ptrdiff_t answer = lk_answer(host, frame, (size_t)len, out, sizeof out);
-        if (answer > 0 && write(device, out, (size_t)answer) < 0)
+        if (answer > 0 && may_send(&limit, milliseconds(), out, (size_t)answer)
+            && write(device, out, (size_t)answer) < 0)
             continue; /* the device is down, so the answer is lost */
     }
 }

@@ -21,13 +21,15 @@ NUMBERS = {"u8": "uint8_t", "u16": "uint16_t", "u32": "uint32_t", "u64": "uint64
            "isize": "ptrdiff_t"}
 SAME = {"char": "uint8_t", "int32_t": "int"}
 # The field has another name in Rattle, because `type` is a keyword.
-FIELDS = {"ethertype": "type"}
+FIELDS = {"ethertype": "type", "msg_type": "type"}
 # What is in C.
 OF_C = ("/c/cpu.c", "/c/names.c")
 HEADER_ONLY = ("lk_out",)
 # The crates of the structs and calls. The first ones are used without C too, and their structs have other names there.
-OF_LIBRARY = ("ip_routes", "ip_flows", "c_structs", "c_routing", "ip_wire_c")
+OF_LIBRARY = ("ip_routes", "ip_flows", "c_structs", "c_icmp", "c_routing", "ip_wire_c")
 STRUCTS = {"Node": "struct lk_route_node", "Mapping": "struct lk_mapping", "Nat": "struct lk_nat"}
+# The fields of this struct are fields of the one around it in C, and then come the octets that align it.
+INNER = {"FrameFields": 5}
 # The flags of a TCP header, from bit 0 on (RFC 9293, section 3.1).
 TCP_FLAGS = ("FIN", "SYN", "RST", "PSH", "ACK", "URG", "ECE", "CWR")
 
@@ -116,8 +118,16 @@ class Library:
     def structs(self):
         for item in self.items:
             if item.kind == "struct" and "repr(C)" in item.attributes:
-                fields = [field for member in item.members for field in self.fields(member.text)]
-                yield self.name(item.name).removeprefix("struct "), fields
+                if item.name not in INNER:
+                    yield self.name(item.name).removeprefix("struct "), self.struct_fields(item)
+
+    def struct_fields(self, item):
+        return [field for member in item.members for field in self.fields(member.text)]
+
+    def inner(self, name):
+        """The fields of a struct within another one, and the octets behind them."""
+        item = next(item for item in self.items if item.kind == "struct" and item.name == name)
+        return [*self.struct_fields(item), ("uint8_t", "unused", str(INNER[name]))]
 
     def enums(self):
         yield "lk_tcp_flag", {"LK_" + flag: 1 << bit for bit, flag in enumerate(TCP_FLAGS)}
@@ -140,7 +150,9 @@ class Library:
         declared = re.fullmatch(r"(?:pub )?(\w+): (?:\[(\w+); (\w+)\]|&'\w+ \[(\w+)\]|(\w+))", member)
         if declared:
             name, array, length, slice_of, plain = declared.groups("")
-            if slice_of:
+            if plain in INNER:
+                yield from self.inner(plain)
+            elif slice_of:
                 yield "const " + self.name(slice_of) + " *", name, ""
                 yield "size_t", name.removesuffix("s") + "_count", ""
             else:

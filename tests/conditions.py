@@ -3,9 +3,9 @@
 
     tests/conditions.py [TOP]
 
-A condition is a `requires` of a call, or the `can_..` of an operator. Public calls are those of the names that `ip_wire`
-and `net_base` export, and all laws. Conditions that only one side has are printed, and the status is 1 then. TOP is the top
-of the repository.
+A condition is a `requires` of a call, or the `can_..` of an operator. Public calls are those of the names that `ip_wire`,
+`net_base`, `wire_icmp` and `wire_ndisc` export, and all laws. Conditions that only one side has are printed, and the status is 1
+then. TOP is the top of the repository.
 """
 import os
 import re
@@ -44,7 +44,7 @@ def conditions(module):
 def in_the_sources(top):
     """All conditions, as pairs of a call and a clause. A mutable view has the name of the reading view."""
     sources = Sources(top)
-    exports = {path for library in ("ip_wire", "net_base") for path in sources.exports(library)}
+    exports = {path for library in ("ip_wire", "net_base", "wire_icmp", "wire_ndisc") for path in sources.exports(library)}
     names = {path[-1] for path in exports}
     crates = [crate for name, crate in sources.crates.items() if re.fullmatch(r"net_base|ip_wire|wire_\w+", name)]
     modules = [module for crate in crates for module in crate.modules.values()]

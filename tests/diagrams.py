@@ -16,7 +16,7 @@ import drawings
 
 RESERVED = {"0", "Res", "Rsrvd", "Reserved"}
 # The heading of a diagram, its module, the files of its setters, how many of the drawn fields the view leaves out in front, and
-# the view's word in the calls.
+# the view's word in the calls, if they are recorded.
 VIEWS = [
     ("Ethernet II", "wire_ethernet", "Ethernet", ["ethernet.rt"], 0, "eth"),
     ("ARP", "wire_arp", "Arp", ["arp/packet_mut.rt"], 0, "arp"),
@@ -25,6 +25,7 @@ VIEWS = [
     ("IPv6 fragment header", "wire_ipv6", "Ipv6Fragment", ["ipv6fragment/header_mut.rt"], 2, "frag"),
     ("UDP", "wire_udp", "Udp", ["udp/packet_mut.rt", "udp/update.rt"], 0, "udp"),
     ("TCP", "wire_tcp", "Tcp", ["tcp/packet_mut.rt", "tcp/update.rt"], 0, "tcp"),
+    ("ICMP", "wire_icmp", "Icmp", ["icmp/packet_mut.rt"], 0, None),
 ]
 
 
@@ -55,7 +56,7 @@ def differences(heading, crate, name, files, front, word, drawn):
     source = "".join(read(f"crates/{crate}/src/{file}") for file in files)
     calls = set(re.findall(r"pub fn ((?:set|clear|fill|update)_\w+)\(&mut self", source))
     lines = read("tests/calls/set.call")
-    yield from (f"{heading}: no call of {call} is recorded" for call in sorted(calls) if f"set {word} {call} " not in lines)
+    yield from (f"{heading}: no call of {call} is recorded" for call in sorted(calls) if word and f"set {word} {call} " not in lines)
     setters = {call.removeprefix("set_") for call in calls if call.startswith("set_")}
     written = {snake(row) for row, _ in rows}
     yield from (f"{heading}: the law has no row for set_{setter}" for setter in sorted(setters - written))

@@ -319,6 +319,7 @@ static void answers(int line, const struct lk_host *host, const uint8_t *frame, 
 static void hosts(void)
 {
     static const uint16_t ports[2] = {22, 80};
+    static const uint16_t served[1] = {7};
     struct lk_host open = asked_host(ports, 2), closed = asked_host(ports, 1), mute = closed;
     ANSWERS(&open, arp_request, arp_reply);
     ANSWERS(&open, ping, pong);
@@ -331,6 +332,7 @@ static void hosts(void)
     IGNORES(&open, arp_reply);
     IGNORES(&open, pong);
     IGNORES(&open, syn_reset);
+    mute.open_udp_ports = served, mute.open_udp_port_count = 1;
     mute.echo_port = 0;
     IGNORES(&mute, ping);
     mute.echo_port = 9;

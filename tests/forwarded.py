@@ -3,11 +3,12 @@ computed anew from all octets that they cover."""
 import copy
 import ipaddress
 
+import icmp
 import packets
 from packets import ARP, IPV4, IPV6, word_sum
 from rebuilt import FIN, RST, SYN, is_summed, last_options, number
 
-UDP, TCP = 17, 6
+UDP, TCP, ICMP = 17, 6, 1
 SOURCE, DESTINATION = 0, 1
 ARP_FRONT = bytes([0, 1, 8, 0, 6, 4])
 LINK_LOCAL = [ipaddress.ip_network(block) for block in ("169.254.0.0/16", "fe80::/10")]
@@ -64,10 +65,15 @@ class Router:
 
     # The longest packet and the shortest frame that leaves.
     longest, least = 1500, 0
+    # The errors about packets that are dropped.
+    errors = {"LK_EXPIRED": icmp.EXPIRED, "too long": icmp.TOO_BIG, "no route": icmp.NO_ROUTE, "no neighbour": icmp.NO_NEIGHBOUR}
 
     def __init__(self, hardware, addresses, routes, neighbours):
         self.hardware, self.neighbours = hardware, neighbours
         self.own = {ipaddress.ip_interface(text).ip for text, _ in addresses}
+        # The first address of each version on an interface.
+        interfaces = [(ipaddress.ip_interface(text), name) for text, name in addresses[::-1]]
+        self.first = {(name, one.version): one.ip.packed for one, name in interfaces}
         links = [(ipaddress.ip_interface(text).network, None, name) for text, name in addresses]
         routes = links + [(ipaddress.ip_network(block), next_hop, name) for block, next_hop, name in routes]
         self.routes = {}
@@ -125,6 +131,18 @@ class Router:
         why = self.refused(packet, came_in)
         return (why, None) if why else self.sent_on(frame, packet)
 
+    def is_from_router(self, frame):
+        """Whether the router itself sends this frame."""
+        return frame[12:14] == ARP.to_bytes(2, "big") or Packet(frame).src in self.own
+
+    def error(self, frame, came_in, why):
+        """The frame with the error about a frame that is dropped for this reason, or None."""
+        if why not in self.errors:
+            return None
+        own = self.first[came_in, Packet(frame).version]
+        found = icmp.error(frame, self.hardware[came_in], own, self.errors[why], self.longest)
+        return found and found.ljust(self.least, b"\0")
+
     def sent_on(self, frame, packet):
         if packet.dst in self.own:
             return "for the router", None
@@ -148,17 +166,25 @@ class Router:
 
 
 def has_ports(packet):
-    """Why a packet has no ports that can be translated, or None."""
+    """Why a packet cannot be translated, or None. The identifier of an ICMP echo is its port."""
     if packet.is_fragment:
         return "LK_FRAGMENT"
-    if packet.protocol not in (UDP, TCP):
+    if packet.protocol not in (UDP, TCP, ICMP):
+        return "LK_OTHER_PROTOCOL"
+    if packet.protocol == ICMP and is_valid(packet) and not is_icmp_error(packet) and packet.payload[:2] not in (b"\0\0", b"\x08\0"):
         return "LK_OTHER_PROTOCOL"
     return None if is_valid(packet) else "LK_BAD_TRANSPORT"
 
 
+def is_icmp_error(packet):
+    return packet.protocol == ICMP and packet.payload[:1] in (b"\3", b"\x0b", b"\x0c")
+
+
 def is_valid(packet):
-    """Whether a UDP packet or TCP segment parses, with a valid checksum."""
+    """Whether a UDP packet, TCP segment or ICMP message parses, with a valid checksum."""
     body = packet.payload
+    if packet.protocol == ICMP:
+        return len(body) >= 8 and is_summed(body)
     if packet.protocol == UDP:
         length = number(body[4:6])
         if len(body) < 8 or not 8 <= length <= len(body) or not number(body[2:4]):
@@ -171,19 +197,77 @@ def is_valid(packet):
     return is_read and is_summed(packets.pseudo_header(*packet.ends, TCP, len(body)) + body)
 
 
+def port_at(protocol, side):
+    """Where the port is in a packet of this protocol."""
+    return 4 if protocol == ICMP else 2 * side
+
+
 def port_of(packet, side):
-    return number(packet.payload[2 * side : 2 * side + 2])
+    at = port_at(packet.protocol, side)
+    return number(packet.payload[at : at + 2])
+
+
+def with_end(header, body, side, addr, port):
+    """The header and what is behind it, with another address and port on this side. The checksum of the header is computed."""
+    at, place = 12 + 4 * side, port_at(header[9], side)
+    header = with_header_checksum(header[:at] + addr + header[at + 4 :])
+    return header, body[:place] + port.to_bytes(2, "big") + body[place + 2 :]
 
 
 def translated(frame, side, addr, port):
     """The frame with another address and port on this side, with computed checksums."""
     packet = Packet(frame)
-    at = 12 + 4 * side
-    header = with_header_checksum(packet.header[:at] + addr + packet.header[at + 4 :])
-    body = packet.payload[: 2 * side] + port.to_bytes(2, "big") + packet.payload[2 * side + 2 :]
-    place, length = (6, number(body[4:6])) if packet.protocol == UDP else (16, len(body))
-    if packet.protocol == TCP or body[6:8] != b"\0\0":
+    header, body = with_end(packet.header, packet.payload, side, addr, port)
+    place, length = {UDP: (6, number(body[4:6])), TCP: (16, len(body)), ICMP: (2, len(body))}[packet.protocol]
+    if packet.protocol != UDP or body[6:8] != b"\0\0":
         zeroed = body[:place] + b"\0\0" + body[place + 2 :]
-        value = 0xFFFF - word_sum(packets.pseudo_header(header[12:16], header[16:20], packet.protocol, length) + zeroed[:length])
+        front = b"" if packet.protocol == ICMP else packets.pseudo_header(header[12:16], header[16:20], packet.protocol, length)
+        value = 0xFFFF - word_sum(front + zeroed[:length])
         body = body[:place] + (value or 0xFFFF * (packet.protocol == UDP)).to_bytes(2, "big") + body[place + 2 :]
     return frame[:14] + header + body + frame[14 + packet.total_len :]
+
+
+# ---- the packet that an ICMP error quotes (RFC 5508, section 4)
+
+
+def quoted_end(packet, side):
+    """The protocol, address and port of the quoted packet on this side, or None if it cannot be translated."""
+    quoted = packet.payload[8:]
+    header_len = quoted[0] % 16 * 4 if quoted else 0
+    if not quoted or quoted[0] >> 4 != 4 or header_len < 20 or len(quoted) < header_len + 8 or not is_summed(quoted[:header_len]):
+        return None
+    protocol, body = quoted[9], quoted[header_len:]
+    is_known = protocol in (UDP, TCP) or (protocol == ICMP and body[0] == (8 if side == SOURCE else 0))
+    if number(quoted[6:8]) & 0x1FFF or not is_known:
+        return None
+    at = port_at(protocol, side)
+    return protocol, quoted[12 + 4 * side : 16 + 4 * side], number(body[at : at + 2])
+
+
+def with_quoted(frame, side, addr, port):
+    """The frame with an error that quotes a packet with another address and port, and its own other side with this address.
+    The checksum of the quoted packet changes by as much as what it covers: it may have been wrong or cut."""
+    packet = Packet(frame)
+    old, header_len = packet.payload[8:], packet.payload[8] % 16 * 4
+    header, body = with_end(old[:header_len], old[header_len:], side, addr, port)
+    place = {UDP: 6, TCP: 16, ICMP: 2}[old[9]]
+    is_there = len(body) >= place + 2 and (old[9] != UDP or body[6:8] != b"\0\0")
+    if is_there:
+        before = old[header_len:][:4] if old[9] != ICMP else old[header_len + 4 :][:2]
+        after = body[:4] if old[9] != ICMP else body[4:6]
+        if old[9] != ICMP:
+            before, after = before + old[12:20], after + header[12:20]
+        total = (0xFFFF - number(body[place : place + 2])) + (0xFFFF - word_sum(before)) + word_sum(after)
+        body = body[:place] + updated(total, old[9] == UDP) + body[place + 2 :]
+    message = packet.payload[:2] + b"\0\0" + packet.payload[4:8] + header + body
+    message = message[:2] + (0xFFFF - word_sum(message)).to_bytes(2, "big") + message[4:]
+    at = 12 + 4 * (1 - side)
+    outer = with_header_checksum(packet.header[:at] + addr + packet.header[at + 4 :])
+    return frame[:14] + outer + message + frame[14 + packet.total_len :]
+
+
+def updated(total, is_udp):
+    """The checksum field of this sum of words (RFC 1624)."""
+    while total > 0xFFFF:
+        total = (total & 0xFFFF) + (total >> 16)
+    return (0xFFFF - total or 0xFFFF * is_udp).to_bytes(2, "big")

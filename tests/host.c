@@ -13,7 +13,7 @@
 
 static char line[2 * ROOM];
 static uint8_t frame[ROOM], out[ROOM], again[ROOM];
-static uint16_t ports[PORTS];
+static uint16_t udp_ports[PORTS], ports[PORTS];
 
 static void stop(const char *why, const char *name)
 {
@@ -56,14 +56,14 @@ static size_t octets(const char *text, uint8_t *bytes)
     return len;
 }
 
-/* Reads the open ports. Returns their number. */
-static size_t open_ports(char *text)
+/* Reads ports, joined by commas. Returns their number. */
+static size_t read_ports(char *text, uint16_t *found)
 {
     size_t count = 0;
     if (strcmp(text, "-") == 0)
         return 0;
     for (; count < PORTS; text++) {
-        ports[count++] = (uint16_t)strtoul(text, &text, 10);
+        found[count++] = (uint16_t)strtoul(text, &text, 10);
         if (*text != ',')
             return count;
     }
@@ -79,7 +79,9 @@ static struct lk_host host(void)
     found.ipv4 = addr();
     found.ipv6 = addr();
     found.echo_port = (uint16_t)number();
-    found.open_port_count = open_ports(word());
+    found.open_udp_port_count = read_ports(word(), udp_ports);
+    found.open_udp_ports = udp_ports;
+    found.open_port_count = read_ports(word(), ports);
     found.open_ports = ports;
     found.seq_number = (uint32_t)number();
     found.window_len = (uint16_t)number();

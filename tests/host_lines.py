@@ -10,9 +10,10 @@ import collections
 import dataclasses
 import itertools
 
-from host_packets import (ACK, ARP, BROADCAST, CLOSED, CWR, ECE, ECHO, FIN, IPV4, IPV6, OPEN, OTHER_LINK, OUR_LINK, PSH, RST,
-                          SACK_PERMITTED, SYN, URG, Ipv4, Ipv6, accepted, addr, asked, mss, option, ping, pong, reset, scale, segment,
-                          timestamps, told, udp)
+from host_packets import (ACK, ALL_NODES, ARP, BROADCAST, CLOSED, CWR, ECE, ECHO, FIN, IPV4, IPV6, NODE_GROUP, OPEN, OTHER_LINK, OUR_LINK,
+                          PSH, RST, SACK_PERMITTED, SYN, THEIR_LINK, URG, Ipv4, Ipv6, accepted, addr, advertised, asked, echo_reply,
+                          echo_request, group_link, lladdr, mss, option, ping, pong, reset, scale, segment, solicited, timestamps, told,
+                          udp, unreachable)
 from record import write_calls
 
 
@@ -20,6 +21,7 @@ from record import write_calls
 class Host:
     """The host that gets the frame, and the octets of the buffer for its reply."""
     echo: int = ECHO
+    udp: tuple = ()
     ports: tuple = (22, OPEN)
     seq: int = 0x0A0B0C0D
     window: int = 0x7210
@@ -29,9 +31,9 @@ class Host:
     room: int = 1 << 17
 
     def words(self):
-        ports = ",".join(map(str, self.ports)) or "-"
-        return f"{OUR_LINK.hex('-')} 192.0.2.2 2001:db8::2 {self.echo} {ports} {self.seq} {self.window} {self.mss} {self.scale} " \
-               f"{self.clock} {self.room}"
+        udp_ports, tcp_ports = (",".join(map(str, ports)) or "-" for ports in (self.udp, self.ports))
+        return f"{OUR_LINK.hex('-')} 192.0.2.2 2001:db8::2 {self.echo} {udp_ports} {tcp_ports} {self.seq} {self.window} {self.mss} " \
+               f"{self.scale} {self.clock} {self.room}"
 
 
 VERSIONS = [Ipv4, Ipv6]
@@ -47,7 +49,7 @@ def row(name, frame, reply, **host):
 
 # The requests of each version, with their replies, as functions of the frame's and the reply's fields.
 REQUESTS = [("echo", ping, pong), ("syn", segment, accepted),
-            ("closed", lambda v, **f: segment(v, dst_port=CLOSED, **f), reset)]
+            ("closed", lambda v, **f: segment(v, dst_port=CLOSED, **f), reset), ("icmp", echo_request, echo_reply)]
 
 # Link destinations that are not the host's (RFC 1122, section 3.3.6).
 NOT_OUR_LINK = {"broadcast": BROADCAST, "all-hosts": bytes.fromhex("01005e000001"), "all-nodes": bytes.fromhex("333300000001"),
@@ -159,16 +161,111 @@ def cut_rows(v, name, ask, reply):
         yield row(f"{name}-room-{room}", frame, answer if fits else None, room=room)
 
 
+def unserved(v, name, frame, **host):
+    """A UDP packet for a port that the host does not serve gets an error (RFC 1122, section 4.1.3.1; RFC 4443, section 3.1)."""
+    return row(name, frame, unreachable(v, frame), **host)
+
+
+def unserved_rows(v):
+    name = f"unserved{v.name}"
+    ask = lambda v, **fields: ping(v, dst_port=CLOSED, **fields)
+    answer = lambda v, **fields: unreachable(v, ask(v))
+    for table in [link_rows, address_rows, header_rows, ipv4_rows if v.name == "4" else ipv6_rows, cut_rows]:
+        for one in table(v, name, ask, answer):
+            yield one._replace(reply=unreachable(v, one.frame) if one.reply else None)
+    # A packet is quoted up to 548 octets over IPv4, and up to 1,232 over IPv6.
+    limit = {"4": 548 - 28, "6": 1232 - 48}[v.name]
+    for size in [0, 1, limit - 1, limit, limit + 1, 1400]:
+        yield unserved(v, f"{name}-payload-{size}", ask(v, payload=bytes(3 * i % 251 for i in range(size))))
+    yield unserved(v, f"{name}-from-port-0", ask(v, src_port=0))
+    yield unserved(v, f"{name}-from-port-7", ask(v, src_port=ECHO))
+    for mask in WRONG:
+        yield row(f"{name}-checksum-wrong-{mask:04x}", turned(ask(v), v.front + 6, mask), None)
+
+
+def icmp_rows(v):
+    """Echo requests. A host replies to those alone: errors and other messages have no reply here."""
+    name = f"icmp{v.name}"
+    for size in [0, 1, 2, 3, 1472, 65535 - 8 - 20 * (v.name == "4")]:
+        payload = bytes(3 * i % 251 for i in range(size)) if size < 2000 else b"\xa5" * size
+        yield row(f"{name}-payload-{size}", echo_request(v, payload), echo_reply(v, payload))
+    for word in [0, 1, 0xFFFF, 0x1_0000, 0xFFFF_FFFF]:
+        yield row(f"{name}-word-{word:08x}", echo_request(v, word=word), echo_reply(v, word=word))
+    for kind in range(256):
+        if kind != {"4": 8, "6": 128}[v.name]:
+            yield row(f"{name}-type-{kind}", echo_request(v, kind=kind, payload=bytes(28)), None)
+    for code in [1, 255]:
+        yield row(f"{name}-code-{code}", echo_request(v, code=code), None)
+    for mask in WRONG:
+        yield row(f"{name}-checksum-wrong-{mask:04x}", turned(echo_request(v), v.front + 2, mask), None)
+    yield row(f"{name}-checksum-left-out", echo_request(v, checksum=0), None)
+    for protocol in [0, 2, {"4": 58, "6": 1}[v.name], 255]:
+        yield row(f"{name}-protocol-{protocol}", echo_request(v, protocol=protocol), None)
+
+
+def solicited_rows():
+    """Neighbour solicitations (RFC 4861, sections 7.1.1 and 7.2.4)."""
+    name, none = "solicited", addr("::")
+    yield row(f"{name}-right", solicited(), advertised())
+    yield row(f"{name}-to-ours", solicited(dst=Ipv6.ours), advertised())
+    yield row(f"{name}-to-ours-without-option", solicited(dst=Ipv6.ours, options=b""), advertised())
+    yield row(f"{name}-to-group-without-option", solicited(options=b""), advertised())
+    yield row(f"{name}-option-names-another", solicited(options=lladdr(1, OTHER_LINK)), advertised(link=OTHER_LINK))
+    yield row(f"{name}-link-of-another", solicited(link_src=OTHER_LINK), advertised())
+    yield row(f"{name}-link-of-another-without-option", solicited(link_src=OTHER_LINK, options=b""), advertised(link=OTHER_LINK))
+    to_all = advertised(to=ALL_NODES, link=group_link(ALL_NODES), flags=0x2000_0000)
+    yield row(f"{name}-from-unspecified", solicited(src=none, options=b""), to_all)
+    yield row(f"{name}-from-unspecified-with-option", solicited(src=none), None)
+    yield row(f"{name}-from-unspecified-to-ours", solicited(src=none, options=b"", dst=Ipv6.ours), None)
+    for what, link in GROUP_LINKS.items():
+        yield row(f"{name}-option-names-{what}", solicited(options=lladdr(1, link)), None)
+        yield row(f"{name}-from-link-{what}", solicited(link_src=link), None)
+    for what, link in {**NOT_OUR_LINK, "ours": OUR_LINK}.items():
+        yield row(f"{name}-to-group-link-{what}", solicited(link_dst=link), None)
+    for what, link in NOT_OUR_LINK.items():
+        yield row(f"{name}-to-ours-link-{what}", solicited(dst=Ipv6.ours, link_dst=link), None)
+    for dst in ["2001:db8::3", "ff02::1", "ff02::1:ff00:3", "ff05::1:ff00:2", "fe80::2"]:
+        yield row(f"{name}-to-{dst}", solicited(dst=addr(dst)), None)
+    for target in ["2001:db8::3", "::", "ff02::1:ff00:2", "fe80::2"]:
+        yield row(f"{name}-for-{target}", solicited(target=addr(target)), None)
+    for src, is_valid in SOURCES["6"]:
+        if src != "::":
+            yield row(f"{name}-from-{src}", solicited(src=addr(src)), advertised(to=addr(src)) if is_valid else None)
+    for hop_limit in [0, 1, 64, 254]:
+        yield row(f"{name}-hop-limit-{hop_limit}", solicited(hop_limit=hop_limit), None)
+    for code in [1, 255]:
+        yield row(f"{name}-code-{code}", solicited(code=code), None)
+    for mask in WRONG:
+        yield row(f"{name}-checksum-wrong-{mask:04x}", turned(solicited(), Ipv6.front + 2, mask), None)
+    # Unknown options are skipped, and the first of several counts (RFC 4861, section 4.6).
+    nonce = bytes([14, 1, 1, 2, 3, 4, 5, 6])
+    yield row(f"{name}-nonce-before", solicited(options=nonce + lladdr(1, OTHER_LINK)), advertised(link=OTHER_LINK))
+    yield row(f"{name}-nonce-behind", solicited(options=lladdr(1, OTHER_LINK) + nonce), advertised(link=OTHER_LINK))
+    yield row(f"{name}-option-of-an-advertisement", solicited(options=lladdr(2, OTHER_LINK)), advertised())
+    yield row(f"{name}-two-options", solicited(options=lladdr(1, OTHER_LINK) + lladdr(1, OUR_LINK)), advertised(link=OTHER_LINK))
+    for what, options in {"of-length-0": bytes([1, 0]) + THEIR_LINK, "unknown-of-length-0": bytes([14, 0]) + bytes(6), "cut": lladdr(1, THEIR_LINK)[:7],
+                          "too-long": bytes([1, 2]) + THEIR_LINK, "of-16-octets": bytes([1, 2]) + bytes(14), "of-one-octet": b"\1"}.items():
+        yield row(f"{name}-option-{what}", solicited(options=options), None)
+    yield row(f"{name}-target-cut", solicited(target=Ipv6.ours[:15], options=b""), None)
+    yield row(f"{name}-padding", solicited(padding=bytes(6)), advertised())
+    yield row(f"{name}-extension-header-0", extended(Ipv6, lambda v: solicited(), 0), None)
+    frame, size = solicited(), len(advertised())
+    for room, fits in [(0, False), (size - 1, False), (size, True), (size + 1, True)]:
+        yield row(f"{name}-room-{room}", frame, advertised() if fits else None, room=room)
+
+
 def udp_rows(v):
     name = f"echo{v.name}"
-    for port in [0, 6, 8, 0x0700, 0x8007, 80, 0xFFFF]:
-        yield row(f"{name}-to-port-{port}", ping(v, dst_port=port), None)
+    yield row(f"{name}-to-port-0", ping(v, dst_port=0), None)
+    for port in [6, 8, 0x0700, 0x8007, 80, 0xFFFF]:
+        yield unserved(v, f"{name}-to-port-{port}", ping(v, dst_port=port))
+        yield row(f"{name}-to-port-{port}-that-is-served", ping(v, dst_port=port), None, udp=(9, port))
     # Port 0 is no reply port (RFC 768); a packet from the echo port may be an echo.
     for port, answered in [(0, False), (ECHO, False), (1, True), (6, True), (8, True), (0x0700, True), (80, True), (0xFFFF, True)]:
         yield row(f"{name}-from-port-{port}", ping(v, src_port=port), pong(v, dst_port=port) if answered else None)
     for echo in [1, 8, 80, 0xFFFF]:
         yield row(f"{name}-port-{echo}-serves", ping(v, dst_port=echo), pong(v, src_port=echo), echo=echo)
-        yield row(f"{name}-port-{echo}-not-7", ping(v), None, echo=echo)
+        yield unserved(v, f"{name}-port-{echo}-not-7", ping(v), echo=echo)
         yield row(f"{name}-port-{echo}-to-itself", ping(v, src_port=echo, dst_port=echo), None, echo=echo)
         yield row(f"{name}-port-{echo}-from-7", ping(v, src_port=7, dst_port=echo), pong(v, dst_port=7, src_port=echo), echo=echo)
     yield row(f"{name}-port-0-is-off", ping(v, dst_port=0), None, echo=0)
@@ -365,8 +462,9 @@ def rows():
         for name, ask, reply in REQUESTS:
             for table in [link_rows, address_rows, header_rows, ipv4_rows if v.name == "4" else ipv6_rows, cut_rows]:
                 yield from table(v, f"{name}{v.name}", ask, reply)
-        for table in [udp_rows, udp_field_rows, flag_rows, number_rows, port_rows, option_rows, offer_rows, ignored_rows]:
+        for table in [udp_rows, udp_field_rows, unserved_rows, icmp_rows, flag_rows, number_rows, port_rows, option_rows, offer_rows, ignored_rows]:
             yield from table(v)
+    yield from solicited_rows()
     yield from asked_rows()
     yield from asker_rows()
 

@@ -1,6 +1,7 @@
 """Frames to a host and the replies to them, right where nothing else is asked for. Nothing here comes from the library."""
 import ipaddress
 
+import icmp
 from packets import ARP, IPV4, IPV6, arp, ethernet, header, header_ipv6, tcp, udp
 
 OUR_LINK = bytes.fromhex("020000000002")
@@ -20,7 +21,7 @@ def addr(text):
 class Ipv4:
     name = "4"
     ours, theirs = addr("192.0.2.2"), addr("192.0.2.1")
-    ethertype = IPV4
+    ethertype, icmp = IPV4, icmp.ICMP
     # Where the transport begins in a frame without options.
     front = 34
 
@@ -32,7 +33,7 @@ class Ipv4:
 class Ipv6:
     name = "6"
     ours, theirs = addr("2001:db8::2"), addr("2001:db8::1")
-    ethertype = IPV6
+    ethertype, icmp = IPV6, icmp.ICMPV6
     front = 54
 
     @staticmethod
@@ -76,6 +77,58 @@ def reset(v, flags=SYN, length=None, seq=SEQ, ack=ACKED, src_port=CLOSED, dst_po
     numbers = {"flags": RST, "seq": ack, "ack": 0} if flags & ACK else {"flags": RST | ACK, "seq": 0, "ack": (seq + length) % (1 << 32)}
     return replied(v, lambda src, dst: tcp(b"", src_port=src_port, dst_port=dst_port, window=0, src=src, dst=dst, **numbers), TCP,
                    **frame)
+
+
+def summed(message, checksum):
+    """The ICMP message, with this checksum in place of the right one if it is given."""
+    return message if checksum is None else message[:2] + checksum.to_bytes(2, "big") + message[4:]
+
+
+# An identifier and a sequence number.
+ECHO_WORD = 0x1234_0001
+
+
+def echo_request(v, payload=b"ping ping", word=ECHO_WORD, kind=None, code=0, checksum=None, **frame):
+    kind = icmp.ECHO_REQUEST[int(v.name)] if kind is None else kind
+    message_of = lambda src, dst: summed(icmp.message(kind, code, word, payload, src, dst), checksum)
+    return framed(v, message_of, frame.pop("protocol", v.icmp), **frame)
+
+
+def echo_reply(v, payload=b"ping ping", word=ECHO_WORD, **frame):
+    """The same identifier, sequence number and data (RFC 1122, section 3.2.2.6; RFC 4443, section 4.2)."""
+    return replied(v, lambda src, dst: icmp.message(icmp.ECHO_REPLY[int(v.name)], 0, word, payload, src, dst), v.icmp, **frame)
+
+
+def unreachable(v, frame):
+    """Port unreachable about the packet of a frame, to its sender (RFC 1122, section 4.1.3.1; RFC 4443, section 3.1)."""
+    return icmp.error(frame, OUR_LINK, v.ours, icmp.CLOSED)
+
+
+# The solicited-node group of 2001:db8::2 (RFC 4291, section 2.7.1), and the station of a group (RFC 2464, section 7).
+NODE_GROUP = addr("ff02::1:ff00:2")
+ALL_NODES = addr("ff02::1")
+
+
+def group_link(group):
+    return b"\x33\x33" + group[12:]
+
+
+def lladdr(kind, link):
+    """The option with a link-layer address (RFC 4861, section 4.6.1)."""
+    return bytes([kind, 1]) + link
+
+
+def solicited(target=Ipv6.ours, options=lladdr(1, THEIR_LINK), code=0, checksum=None, dst=NODE_GROUP, link_dst=None, hop_limit=255, **frame):
+    """A neighbour solicitation (RFC 4861, section 4.3)."""
+    message_of = lambda src, to: summed(icmp.message(icmp.SOLICITATION, code, 0, target + options, src, to), checksum)
+    link_dst = (group_link(dst) if dst[0] == 0xFF else OUR_LINK) if link_dst is None else link_dst
+    return framed(Ipv6, message_of, icmp.ICMPV6, dst=dst, link_dst=link_dst, hop_limit=hop_limit, **frame)
+
+
+def advertised(to=Ipv6.theirs, link=THEIR_LINK, flags=0x6000_0000):
+    """The advertisement (RFC 4861, section 7.2.4): solicited, and it overrides."""
+    message_of = lambda src, dst: icmp.message(icmp.ADVERTISEMENT, 0, flags, Ipv6.ours + lladdr(2, OUR_LINK), src, dst)
+    return framed(Ipv6, message_of, icmp.ICMPV6, link, OUR_LINK, src=Ipv6.ours, dst=to, hop_limit=255)
 
 
 def option(kind, *numbers):

@@ -15,16 +15,18 @@ import random
 import shutil
 import signal
 import socket
+import subprocess
 import sys
 import time
 
+import kernel_icmp
 import kernel_nat
 import kernel_router
 from kernel_client import check, report, wrong
 from kernel_links import LATEST, SELF, Here, Namespace, WideSide, udp_echo
 from kernel_nat import INSIDE, OUTSIDE, bound, nat_frames, seen_by
-from kernel_router import (ARP, HARDWARE, HOSTS, MODEL, SERVERS, hostile_frames, make_pairs, random_frames, set_host,
-                           start_on_pairs, start_on_taps)
+from kernel_router import ARP, MODEL, SERVERS, make_pairs, random_frames, set_host, start_on_pairs, start_on_taps
+from routed_frames import HARDWARE, HOSTS, hostile_frames
 
 FLOOD, FEW = 60_000, 600
 
@@ -234,40 +236,69 @@ def with_fast_clock(router, nat, clock):
 # By the numbers of tests/faulty_router.c.
 ROUTER_FAULTS = ("no fault", "the hop limit is kept", "the checksum is kept", "the sender's Ethernet address is kept",
                  "an octet of the payload is changed", "DSCP and ECN are cleared", "a packet with hop limit 1 passes")
+ERROR_FAULTS = ("an error about an error", "an error quotes another octet", "an error from another address", "no limit of errors")
 NAT_FAULTS = ("another outside port", "the checksum of UDP and TCP is kept", "no UDP checksum", "another inside port",
-              "a packet for no mapping passes")
+              "a packet for no mapping passes", "the packet in an error is kept")
 
 
-def wrong_with(start, program, fault, make_model, options=()):
-    """How many frames or counters are wrong with this fault."""
+def wrong_with(start, program, fault, exchange, options=()):
+    """How much is wrong with this fault."""
     room, there = Namespace(), Namespace()
     router = start(room, there, program, options=options, env=os.environ | {"FAULT": str(fault)})
     sides, before = {"left": WideSide(SELF, "left"), "right": WideSide(there.process, "right")}, len(wrong)
-    model, make = make_model()
     kernel_router.LATEST = 0.5 if fault or options else LATEST
     with contextlib.redirect_stderr(io.StringIO()), contextlib.suppress(SystemExit):
-        for _ in range(2):
-            random_frames(router, sides, FEW, model, make, 1)
+        exchange(router, sides, room, there)
     found = len(wrong) - before
     del wrong[before:]
     router.ends(f"fault {fault}")
     return found
 
 
-def faults_are_noticed(router, nat):
-    def nat_model():
-        model = kernel_nat.Nat()
-        return model, nat_frames(model)
+def random_ones(model, make):
+    def exchange(router, sides, *_):
+        for _ in range(2):
+            random_frames(router, sides, FEW, model, make, 1)
+    return exchange
 
-    for number, name in enumerate(ROUTER_FAULTS):
-        found = wrong_with(start_on_taps, router, number, lambda: (MODEL, hostile_frames))
+
+def of_errors(_router, sides, *_):
+    kernel_icmp.untold(sides)
+    kernel_icmp.errors_are_limited(sides["left"])
+
+
+def of_mtus(_router, _sides, room, there):
+    server = there.serve(*(address for _, address in SERVERS))
+    kernel_icmp.smaller_link(room, there)
+    server.kill()
+    Here().run("ip link delete left")
+
+
+def has_pairs():
+    """Whether there are virtual Ethernet devices."""
+    command = "ip link add veth0 type veth peer name veth1 2> /dev/null && ip link delete veth0"
+    return subprocess.run(command, shell=True, check=False).returncode == 0
+
+
+def faults_are_noticed(router, nat):
+    routed, names = random_ones(MODEL, hostile_frames), (*ROUTER_FAULTS, *ERROR_FAULTS, "another MTU", *NAT_FAULTS)
+    for number, name in enumerate(names):
+        start, program, exchange = start_on_taps, router, routed
+        if name in ERROR_FAULTS:
+            exchange = of_errors
+        elif name == "another MTU":
+            if not has_pairs():
+                continue
+            start, exchange = start_on_pairs, of_mtus
+        elif name in NAT_FAULTS:
+            model = kernel_nat.Nat()
+            start, program, exchange = kernel_nat.start_on_taps, nat, random_ones(model, nat_frames(model))
+        found = wrong_with(start, program, number, exchange)
         check("fault", (found > 0) == (number > 0), (name, found))
-    found = wrong_with(start_on_taps, router, 0, lambda: (MODEL, hostile_frames), ("-n",))
-    check("fault", found > 0, ("no reverse-path check", found))
-    for number, name in enumerate(("no fault", *NAT_FAULTS)):
-        number += (len(ROUTER_FAULTS) - 1) * (number > 0)
-        found = wrong_with(kernel_nat.start_on_taps, nat, number, nat_model)
-        check("fault", (found > 0) == (number > 0), (name, found))
+    model = kernel_nat.Nat()
+    check("no fault", wrong_with(kernel_nat.start_on_taps, nat, 0, random_ones(model, nat_frames(model))) == 0)
+    check("no fault", wrong_with(start_on_taps, router, 0, of_errors) == 0)
+    check("fault", wrong_with(start_on_taps, router, 0, routed, ("-n",)) > 0, "no reverse-path check")
 
 
 if __name__ == "__main__":

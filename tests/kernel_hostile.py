@@ -26,10 +26,12 @@ import threading
 import time
 
 import compare
+import icmp
 import kernel_client as client
 import packets
 from kernel_client import (ACK, ECHO, FIN, HOST_HARDWARE, HOSTS, RST, SYN, TCP, TCP_CLIENT, UDP, UDP_CLIENT, check,
                            segment)
+from kernel_links import ping
 
 FLOOD, AT_ONCE, CORPUS = 60_000, 250, 3000
 # Addresses of this network that the kernel does not have, so that it does not answer for them.
@@ -101,6 +103,16 @@ def valid_frames(wire):
     yield wire.frame(UDP, struct.pack(">HHHH", UDP_CLIENT, ECHO, 13, 0) + b"hello")
     yield wire.frame(TCP, segment(TCP_CLIENT, 1, 0, SYN, options))
     yield wire.frame(TCP, segment(TCP_CLIENT, 2, 1, ACK | 8, options[12 - 2 :] + bytes(2), b"data"))
+    src, dst = wire.addresses
+    echo = icmp.echo_request(src, dst, 1, 2, bytes(range(50)))
+    yield icmp.framed(echo, src, dst, wire.hardware[0], HOST_HARDWARE)
+    closed = wire.frame(UDP, struct.pack(">HHHH", UDP_CLIENT, client.CLOSED, 13, 0) + b"hello")
+    yield closed
+    error = icmp.message(*icmp.CLOSED[wire.version], 0, closed[14:], src, dst)
+    yield icmp.framed(error, src, dst, wire.hardware[0], HOST_HARDWARE)
+    if wire.version == 6:
+        group, hardware = icmp.group_of(dst)
+        yield icmp.framed(icmp.solicitation(dst, src, group, wire.hardware[0]), src, group, wire.hardware[0], hardware, 255)
 
 
 def random_segment(rng, port, seq, ack):
@@ -174,6 +186,8 @@ def answers_correctly(pair):
         for length in (0, 1, 20_000, 300_000):
             data = random.randbytes(length)
             check("TCP echo after a flood", client.echoed(family, host, data) == data, (host, length))
+        for length in (0, 1, 1400):
+            check("ping after a flood", ping(family, host, random.randbytes(length), length), (host, length))
 
 
 def flood(device, _):

@@ -1,4 +1,4 @@
-"""Namespaces, links and programs for kernel_router.py and kernel_nat.py."""
+"""Namespaces, links and programs for kernel_router.py, kernel_nat.py and kernel_icmp.py."""
 import atexit
 import contextlib
 import os
@@ -18,6 +18,11 @@ from packets import word_sum
 TOP = os.path.dirname(os.path.dirname(os.path.abspath(__file__)))
 LATEST = 5  # seconds
 SO_RCVBUFFORCE, SOL_PACKET, PACKET_STATISTICS = 33, 263, 6
+# By the version of IP: the level of options; IP_RECVERR, IP_TTL and IP_MTU_DISCOVER; where an error has the address.
+MTU_DISCOVER = 10
+ERROR_OPTIONS = {socket.AF_INET: (socket.IPPROTO_IP, 11, socket.IP_TTL, MTU_DISCOVER, slice(20, 24)),
+                 socket.AF_INET6: (socket.IPPROTO_IPV6, 25, socket.IPV6_UNICAST_HOPS, 23, slice(24, 40))}
+PMTUDISC_PROBE = 3
 SELF = str(os.getpid())
 # No host has this address, so no kernel takes a frame to it.
 ELSEWHERE = bytes.fromhex("02000000ee0e")
@@ -166,21 +171,43 @@ def udp_echo(family, place, data, source=None, options=()):
             return error
 
 
-def ping(family, address, data, number):
+def ping(family, address, data, number, source=None, wait=LATEST):
     """Whether an ICMP echo comes back."""
     is_ipv4 = family == socket.AF_INET
     with socket.socket(family, socket.SOCK_RAW, socket.IPPROTO_ICMP if is_ipv4 else socket.IPPROTO_ICMPV6) as sock:
+        if source:
+            sock.bind((source, 0))
         body = number.to_bytes(2, "big") * 2 + data
         front = bytes([8 if is_ipv4 else 128, 0])
         total = 0xFFFF - word_sum(front + b"\0\0" + body) if is_ipv4 else 0
         sock.sendto(front + total.to_bytes(2, "big") + body, (address, 0))
-        end = time.monotonic() + LATEST
+        end = time.monotonic() + wait
         while select.select([sock], [], [], max(0, end - time.monotonic()))[0]:
             answer = sock.recv(70000)
             answer = answer[(answer[0] & 15) * 4 :] if is_ipv4 else answer
             if answer[:1] == (b"\0" if is_ipv4 else b"\x81") and answer[4:] == body:
                 return True
     return False
+
+
+def udp_error(family, place, data=b"", hop_limit=64, source=None):
+    """The ICMP error about a UDP packet: its type and code, the number behind them, and who sent it; or None."""
+    level, recverr, hops, discover, place_of_addr = ERROR_OPTIONS[family]
+    with socket.socket(family, socket.SOCK_DGRAM) as sock:
+        for option, value in ((recverr, 1), (hops, hop_limit), (discover, PMTUDISC_PROBE)):
+            sock.setsockopt(level, option, value)
+        if source:
+            sock.bind(source)
+        sock.connect(place)  # so that the error must quote this address
+        sock.send(data)
+        poll = select.poll()
+        poll.register(sock, select.POLLERR)
+        if not poll.poll(LATEST * 1000):
+            return None
+        for _, _, told in sock.recvmsg(1, 1000, socket.MSG_ERRQUEUE)[1]:
+            _, _, kind, code, _, number, _ = struct.unpack("=IBBBBII", told[:16])
+            return kind, code, number, socket.inet_ntop(family, told[place_of_addr])
+    return None
 
 
 def no_errors(*namespaces):

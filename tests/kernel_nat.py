@@ -8,6 +8,7 @@ This process is two hosts inside, and a namespace of its own is two servers outs
 The status is 1 if one was wrong, or if a kernel counted an error.
 """
 import ast
+import copy
 import ipaddress
 import random
 import socket
@@ -15,13 +16,15 @@ import sys
 import time
 
 import packets
-from forwarded import DESTINATION, SOURCE, Packet, Router, has_ports, port_of, translated, with_header_checksum
+import icmp
+from forwarded import (DESTINATION, ICMP, SOURCE, Packet, Router, has_ports, is_icmp_error, port_at, port_of, quoted_end, translated,
+                       with_header_checksum, with_quoted)
 from kernel_client import check, echoed, report, tcp_at_once, tcp_turns, udp_lengths
 from kernel_links import ELSEWHERE, SELF, Here, Namespace, Program, WideSide, no_errors, settle, udp_echo
-from kernel_router import (HARDWARE, HOSTS, RANDOM_FRAMES, compare_counters, compare_sides, hostile_frames, longest_handed,
-                           make_pairs, random_frames, routed, set_host)
-from packets import word_sum
+from kernel_router import ARP, compare_counters, compare_sides, longest_handed, make_pairs, random_frames, set_host
+from routed_frames import HARDWARE, HOSTS, RANDOM_FRAMES, hostile_frames, routed
 
+TIMESTAMP = 13
 OUTSIDE, INSIDE = "10.2.0.1", ("10.1.0.2", "10.1.0.3")
 FIRST_PORT = 1024
 CONFIG = """
@@ -78,20 +81,52 @@ class Nat(Router):
     def leaves(self, frame):
         packet = Packet(frame)
         why = "LK_NOT_IP" if packet.version == 6 else has_ports(packet)
-        why = "LK_ZERO_PORT" if not why and port_of(packet, SOURCE) == 0 else why
+        if not why and is_icmp_error(packet):
+            return self.error_passes(frame, packet, DESTINATION)
+        if not why and packet.protocol == ICMP:
+            why = "LK_NO_MAPPING" if packet.payload[0] == 0 else None
+        elif not why and port_of(packet, SOURCE) == 0:
+            why = "LK_ZERO_PORT"
         return (why, None) if why else (None, translated(frame, SOURCE, self.outside.packed, self.outside_port(packet)))
 
     def comes_in(self, frame):
         packet = Packet(frame)
         why = "LK_NOT_IP" if packet.version == 6 else has_ports(packet)
+        if not why and is_icmp_error(packet):
+            return self.error_passes(frame, packet, SOURCE)
+        if not why and packet.protocol == ICMP and packet.payload[0] != 0:
+            why = "LK_NO_MAPPING"
         inside = None if why else self.inside.get((packet.protocol, port_of(packet, DESTINATION)))
         if not why and (packet.dst != self.outside or inside is None):
             why = "LK_NO_MAPPING"
         return (why, None) if why else (None, translated(frame, DESTINATION, *inside))
 
+    def error_passes(self, frame, packet, side):
+        """An ICMP error that comes in quotes the source of a mapping, and one that leaves quotes a destination inside."""
+        end = quoted_end(packet, side)
+        if end is None:
+            return "LK_BAD_TRANSPORT", None
+        if side == DESTINATION:
+            port = self.ports.get(end)
+            return ("LK_NO_MAPPING", None) if port is None else (None, with_quoted(frame, side, self.outside.packed, port))
+        inside = self.inside.get((end[0], end[2])) if packet.dst == self.outside and end[1] == self.outside.packed else None
+        return ("LK_NO_MAPPING", None) if inside is None else (None, with_quoted(frame, side, *inside))
+
+    def is_from_router(self, frame):
+        return frame[12:14] == ARP or frame[20:21] == b"\x3a" and frame[54:55] in (b"\x87", b"\x88")
+
+    def error(self, frame, came_in, why):
+        """A host inside that wrote to the outside address is told by this address."""
+        is_hairpin = why in self.errors and came_in == "left" and Packet(frame).dst == self.outside
+        other = copy.copy(self)
+        other.first = self.first | ({("left", 4): self.outside.packed} if is_hairpin else {})
+        return Router.error(other, frame, came_in, why)
+
     def known_fate(self, frame, came_in):
         packet = Packet(frame)
         why = self.refused(packet, came_in)
+        if not why and packet.dst == self.outside and is_ping(packet):
+            return ("answered" if is_answered(packet) else "for the router"), None
         frame = frame if why else frame[: 14 + packet.total_len]
         is_hairpin = not why and came_in == "left" and packet.dst == self.outside
         if is_hairpin:
@@ -121,6 +156,16 @@ class Nat(Router):
         return to, out_of
 
 
+def is_ping(packet):
+    """An echo request: the NAT answers it itself."""
+    is_icmp = packet.version == 4 and not packet.is_fragment and packet.protocol == ICMP
+    return is_icmp and len(packet.payload) >= 8 and packet.payload[0] == 8
+
+
+def is_answered(packet):
+    return icmp.is_valid(packet.payload, *packet.ends) and packet.payload[1] == 0 and not packet.frame[6] & 1
+
+
 def start_on_taps(room, there, program, **words):
     nat = Program(room, program, OF_TAPS, ["tap:right", "tap:left"], **words)
     room.run(f"ip link set left netns {SELF} && ip link set right netns {there.process}")
@@ -135,32 +180,35 @@ def set_hosts(there):
     there.run(f"ip address replace {SERVERS[1]}/24 dev right")
 
 
-def start_on_pairs(room, there, program, **words):
+def start_on_pairs(room, there, program, lines="", **words):
     make_pairs(room, there)
     set_hosts(there)
-    return Program(room, program, CONFIG, ["packet:right", "packet:left"], **words)
+    return Program(room, program, CONFIG + lines, ["packet:right", "packet:left"], **words)
 
 
 # ---- frames
 
 
 def with_checksums(frame):
-    """The frame with a computed UDP or TCP checksum."""
+    """The frame with a computed UDP, TCP or ICMP checksum."""
     packet = Packet(frame)
-    least = {17: 8, 6: 20}.get(packet.protocol) if packet.is_whole and packet.version == 4 and not packet.is_fragment else None
+    least = {17: 8, 6: 20, 1: 8}.get(packet.protocol) if packet.is_whole and packet.version == 4 and not packet.is_fragment else None
     if least is None or len(packet.payload) < least:
         return frame
     return translated(frame, SOURCE, packet.ends[SOURCE], port_of(packet, SOURCE))
 
 
 def packet_with_ports():
-    """A valid UDP packet or TCP segment."""
+    """A valid UDP packet, TCP segment or ICMP echo."""
     data = random.randbytes(random.choice((0, 1, 7, 100, 1001)))
     options = random.choice((b"", b"", b"\2\4\5\xb4", b"\1\1\x08\x0a" + bytes(8)))
     ports = {"src_port": random.choice((0, 53, 5353, random.randrange(1, 65536))), "dst_port": random.randrange(1, 65536)}
     body = packets.udp(data, **ports) if random.random() < 0.6 else packets.tcp(data, options, **ports)
+    protocol = 17 if len(body) == 8 + len(data) else 6
+    if random.random() < 0.3:
+        body, protocol = icmp.message(random.choice((0, 8)), 0, random.randrange(2**31), data, bytes(4), bytes(4)), 1
     fields = {"service": random.randrange(256), "ident": random.randrange(65536), "hop_limit": random.randrange(1, 256),
-              "protocol": 17 if len(body) == 8 + len(data) else 6, "options": b"\1" * random.choice((0, 0, 4, 40))}
+              "protocol": protocol, "options": b"\1" * random.choice((0, 0, 4, 40))}
     return packets.packet(body, **fields)
 
 
@@ -168,11 +216,15 @@ def nat_frames(model):
     """Makes hostile frames. Most that come in, and some that go out, are for an outside port that leads inside, but not to
     the kernel. No packet that is dropped later opens a mapping, because the model would not see its port."""
     def make(count, name):
-        ports = {17: [], 6: []}
-        for (protocol, port), (addr, _) in model.inside.items():
+        ports, ends = {17: [], 6: [], 1: []}, []
+        for (protocol, port), (addr, inside_port) in model.inside.items():
             ports[protocol] += [port] * (addr[0] == 203)
+            ends += [(protocol, port, addr, inside_port)] * (addr[0] == 203)
         for frame in hostile_frames(count, name):
             frame = frame if random.random() < 0.4 else routed(packet_with_ports(), name)
+            if ends and random.random() < 0.2:
+                yield error_frame(model, name, random.choice(ends))
+                continue
             packet = Packet(frame)
             is_valid = packet.is_whole and packet.is_summed and packet.version == 4 and len(packet.payload) >= 4
             known = ports.get(packet.protocol) if is_valid else None
@@ -180,10 +232,33 @@ def nat_frames(model):
             if is_hairpin or (is_valid and name == "right" and random.random() < 0.7):
                 port = random.choice(known) if known and (is_hairpin or random.random() < 0.8) else random.randrange(1024)
                 frame = frame[:30] + model.outside.packed + frame[34:]
-                at = 14 + packet.header_len + 2
+                at = 14 + packet.header_len + port_at(packet.protocol, DESTINATION)
                 frame = with_header(frame[:at] + port.to_bytes(2, "big") + frame[at + 2 :], packet.header_len)
             yield frame if random.random() < 0.1 else with_checksums(frame)
     return make
+
+
+def error_frame(model, name, end):
+    """An ICMP error that comes in or leaves, about a packet of this mapping, or about another one."""
+    protocol, port, addr, inside_port = end
+    inside = (model.outside.packed, port) if name == "right" else (addr, inside_port)
+    remote = bytes([198, 18, 0, random.randrange(256)]), random.randrange(1, 65536)
+    ends = [inside, remote] if name == "right" else [remote, inside]
+    if random.random() < 0.1:
+        ends = ends[::-1]
+    (src, src_port), (dst, dst_port) = ends
+    ports = {"src": src, "dst": dst, "src_port": src_port, "dst_port": dst_port}
+    data = random.randbytes(random.choice((0, 1, 100)))
+    ident = inside[1] << 16 | random.randrange(65536)
+    body = {17: lambda: packets.udp(data, checksum=random.choice((None, 0, 7)), **ports), 6: lambda: packets.tcp(data, **ports),
+            1: lambda: icmp.message(8 if name == "right" else 0, 0, ident, data, src, dst)}[protocol]()
+    quoted = packets.header(len(body), protocol=protocol, src=src, dst=dst, hop_limit=random.randrange(256),
+                            options=b"\1" * random.choice((0, 0, 8)), flags=random.choice((0, 0x4000, 0x2000, 1))) + body
+    quoted = quoted[: random.choice((len(quoted), len(quoted), 28, 36, 27))]
+    host = bytes([198, 18, 0, 9]) if name == "right" else bytes([203, 0, 113, 9])
+    to = model.outside.packed if name == "right" else remote[0]
+    message = icmp.message(random.choice((3, 3, 11, 12, 5)), random.randrange(16), random.choice((0, 1200)), quoted, host, to)
+    return icmp.framed(message, host, to, HOSTS[name], HARDWARE[name], random.randrange(1, 256))
 
 
 def with_header(frame, header_len):
@@ -310,21 +385,16 @@ def hairpin(ports):
 
 
 def not_translated(nat):
-    """ICMP and fragments do not go out."""
+    """Other ICMP messages and fragments do not go out."""
     before = nat.counters()
     with socket.socket(socket.AF_INET, socket.SOCK_RAW, socket.IPPROTO_ICMP) as sock:
         for _ in range(5):
-            sock.sendto(packets_of_icmp(), (SERVERS[0], 0))
+            sock.sendto(icmp.message(TIMESTAMP, 0, 1, bytes(12), bytes(4), bytes(4)), (SERVERS[0], 0))
     with bound(socket.SOCK_DGRAM, (INSIDE[0], 5400)) as sock:
         for _ in range(5):
             sock.sendto(bytes(2000), (SERVERS[0], 7))
     time.sleep(0.1)
     compare_counters(nat, before, ["LK_OTHER_PROTOCOL"] * 5 + ["LK_FRAGMENT"] * 10)
-
-
-def packets_of_icmp():
-    body = b"\x08\0\0\0\0\1\0\1"
-    return body[:2] + (0xFFFF - word_sum(body)).to_bytes(2, "big") + body[4:]
 
 
 def on_taps(program):

@@ -7,7 +7,6 @@ tests/kernel_router.py sockets PROGRAM  through a router on packet sockets, with
 This process is a host on one side, and a namespace of its own is the host on the other side. Prints how many exchanges
 were right. The status is 1 if one was wrong, or if a kernel counted an error.
 """
-import functools
 import ipaddress
 import random
 import socket
@@ -15,32 +14,32 @@ import subprocess
 import sys
 import time
 
-import compare
+import icmp
 import packets
-from forwarded import Router, with_header_checksum
-from kernel_bridge import in_namespace, is_hex
+from forwarded import Router
+from kernel_bridge import in_namespace
 from kernel_client import check, echoed, report, tcp_at_once, tcp_turns, udp_lengths, wrong
-from kernel_links import ELSEWHERE, LATEST, SELF, Here, Namespace, Program, WideSide, no_errors, ping, settle, udp_echo
-from rebuilt import recorded
+from kernel_links import (ELSEWHERE, LATEST, MTU_DISCOVER, PMTUDISC_PROBE, SELF, Here, Namespace, Program, WideSide, no_errors, ping,
+                          settle, udp_echo)
+from routed_frames import HARDWARE, HOSTS, RANDOM_FRAMES, hostile_frames
 
-HOSTS = {"left": bytes.fromhex("020000000102"), "right": bytes.fromhex("020000000202")}
-HARDWARE = {"left": bytes.fromhex("02000000aa01"), "right": bytes.fromhex("02000000aa02")}
 CONFIG = """
 # The links, and what is behind the host on the left and behind another router on the right.
 address 10.1.0.1/24 dev left
 address fd01::1/64 dev left
 address 10.2.0.1/24 dev right
 address fd02::1/64 dev right
+address 10.5.0.1/24 dev left
+address fd05::1/64 dev left
 route 203.0.113.0/24 via 10.1.0.9 dev left
 route 3fff::/20 via fd01::9 dev left
 route 198.18.0.0/15 via 10.2.0.9 dev right
 route 2001:db8::/32 via fd02::9 dev right
-neighbour fd01::2 lladdr 02:00:00:00:01:02 dev left
-neighbour fd02::2 lladdr 02:00:00:00:02:02 dev right
 """ + "".join(f"neighbour {addr} lladdr {ELSEWHERE.hex(':')} dev {name}\n" for addr, name in (
     ("10.1.0.9", "left"), ("fd01::9", "left"), ("10.2.0.9", "right"), ("fd02::9", "right")))
 OF_TAPS = CONFIG + "".join(f"lladdr {addr.hex(':')} dev {name}\n" for name, addr in HARDWARE.items())
-ADDRESSES = [("10.1.0.1/24", "left"), ("fd01::1/64", "left"), ("10.2.0.1/24", "right"), ("fd02::1/64", "right")]
+ADDRESSES = [("10.1.0.1/24", "left"), ("fd01::1/64", "left"), ("10.2.0.1/24", "right"), ("fd02::1/64", "right"),
+             ("10.5.0.1/24", "left"), ("fd05::1/64", "left")]
 MODEL = Router(
     HARDWARE, ADDRESSES,
     [("203.0.113.0/24", ELSEWHERE, "left"), ("3fff::/20", ELSEWHERE, "left"), ("198.18.0.0/15", ELSEWHERE, "right"),
@@ -52,14 +51,13 @@ HOST = """
     ip link set {name} down address {hardware} && ip link set {name} up
     ip address replace 10.{n}.0.2/24 dev {name} && ip address replace fd0{n}::2/64 dev {name} nodad
     ip route replace default via 10.{n}.0.1 && ip -6 route replace default via fd0{n}::1 dev {name}
-    ip -6 neighbour replace fd0{n}::1 lladdr {router} dev {name}
 """
-RANDOM_FRAMES, AT_ONCE, MOST_WRONG = 6_000, 64, 3
+AT_ONCE, MOST_WRONG = 64, 3
 ARP = b"\x08\x06"
 
 
 def set_host(namespace, name):
-    namespace.run(HOST.format(name=name, n=1 + (name == "right"), hardware=HOSTS[name].hex(":"), router=HARDWARE[name].hex(":")))
+    namespace.run(HOST.format(name=name, n=1 + (name == "right"), hardware=HOSTS[name].hex(":")))
 
 
 def start_on_taps(room, there, program, config=OF_TAPS, **words):
@@ -110,7 +108,7 @@ def compare_sides(kind, sides, model=MODEL):
             for to, out in (model.fate(frame, name) for frame in side.handed):
                 if out:
                     expected[to].append(out)
-        came_out = {name: [frame for frame in side.came_out if frame[12:14] != ARP] for name, side in sides.items()}
+        came_out = {name: [frame for frame in side.came_out if not model.is_from_router(frame)] for name, side in sides.items()}
         if all(len(expected[name]) <= len(came_out[name]) for name in sides) or time.monotonic() > end:
             break
     is_complete = not any(side.has_lost() for side in sides.values())
@@ -123,66 +121,60 @@ def compare_sides(kind, sides, model=MODEL):
     return is_complete
 
 
-@functools.cache
-def made_frames():
-    """Recorded frames, random ones, and changed ones."""
-    lines = (line.strip() for line in compare.corpus(random.randrange(1 << 32), RANDOM_FRAMES))
-    return [frame for frame, _ in recorded()] + [bytes.fromhex(line.decode()) for line in lines if is_hex(line)]
-
-
-def hostile_frames(count, name):
-    """Some of them, most of which could be routed from this side to the other one."""
-    for frame in random.choices(made_frames(), k=count):
-        frame = routed(frame, name) if len(frame) >= 34 and frame[12:14] in (b"\x08\0", b"\x86\xdd") else frame
-        if 14 <= len(frame) <= 1514 and frame[12:14] not in (b"\x81\0", b"\x88\xa8"):
-            yield frame
-
-
-def routed(frame, name):
-    """The frame from an address of this side to one of the other side, mostly."""
-    chance, other = random.random(), {"left": "right", "right": "left"}[name]
-    blocks = {"left": (bytes([203, 0, 113]), b"\x3f\xff\x0f"), "right": (bytes([198, 18, 7]), b"\x20\x01\x0d\xb8")}
-    is_ipv6 = frame[12] == 0x86
-    at, size = (22, 16) if is_ipv6 else (26, 4)
-    for place, side in ((at, name), (at + size, other)):
-        if random.random() < 0.9 and len(frame) >= at + 2 * size:
-            front = blocks[side][is_ipv6]
-            frame = frame[:place] + (front + random.randbytes(size - len(front))) + frame[place + size :]
-    if random.random() < 0.05:
-        hop_limit = 21 if is_ipv6 else 22
-        frame = frame[:hop_limit] + random.choice((b"\0", b"\1")) + frame[hop_limit + 1 :]
-    if not is_ipv6 and chance < 0.9:
-        header_len = max(20, frame[14] % 16 * 4)
-        frame = frame[:14] + with_header_checksum(frame[14 : 14 + header_len]) + frame[14 + header_len :]
-    return (HARDWARE[name] if chance < 0.95 else ELSEWHERE) + frame[6:]
-
-
 def random_frames(router, sides, count, model=MODEL, make=hostile_frames, at_once=AT_ONCE):
     """What comes out of the router, and what it counts, for frames in both directions by turns."""
     made = {name: list(make(count // 2, name)) for name in sides}
-    before, fates = router.counters(), []
+    before, fates, told = router.counters(), [], {name: [] for name in sides}
+    for side in sides.values():
+        side.forget()
     for at in range(0, count // 2, at_once):
         for name in sides:
-            fates += send_chunk(sides, name, made[name][at : at + at_once], model)
+            chunk = made[name][at : at + at_once]
+            fates += [why for why, out in send_chunk(sides, name, chunk, model, told[name]) if not out]
             if len(wrong) >= MOST_WRONG:
                 return
     compare_counters(router, before, fates)
+    compare_errors(router, before, sides, told)
 
 
-def send_chunk(sides, name, chunk, model):
-    """Sends frames, compares those that come out, and returns why the others are dropped."""
-    fates, end = [model.fate(frame, name) for frame in chunk], time.monotonic() + LATEST
-    expected = {to: [out for place, out in fates if out and place == to] for to in sides}
-    for side in sides.values():
-        side.forget()
+def send_chunk(sides, name, chunk, model, told):
+    """Sends frames, compares those that come out, and returns the fate of each. Adds to `told` the errors about them, which
+    stay in the list of the side."""
+    fates, end = [], time.monotonic() + LATEST
     for frame in chunk:
+        why, out = model.fate(frame, name)
+        fates.append((why, out))
+        told += [] if out else [error for error in [model.error(frame, name, why)] if error]
         sides[name].sock.send(frame)
     for to, side in sides.items():
-        while len(side.came_out) < len(expected[to]) and side.take(max(0, end - time.monotonic())):
-            side.came_out = [frame for frame in side.came_out if frame.startswith(ELSEWHERE)]
-    for to, side in sides.items():
-        compare_lists("frame", expected[to], side.came_out)
-    return [why for why, out in fates if not out]
+        expected, came_out = [out for place, out in fates if out and place == to], []
+        while len(came_out) < len(expected) and side.take(max(0, end - time.monotonic())):
+            came_out = [frame for frame in side.came_out if frame.startswith(ELSEWHERE)]
+        compare_lists("frame", expected, came_out)
+        side.came_out = [frame for frame in side.came_out if not frame.startswith(ELSEWHERE)]
+        side.handed = []
+    return fates
+
+
+def compare_errors(router, before, sides, told):
+    """The errors that came out are those that are expected, in their order, but for those above the limit."""
+    if not settle(*sides.values()):
+        print("tests/kernel: skipped: a comparison: the capture has lost frames")
+        return
+    withheld = sum(counters.get("ICMP errors above the limit", 0) * sign for counters, sign in ((router.counters(), 1), (before, -1)))
+    lacking = 0
+    for name, side in sides.items():
+        expected = iter(told[name])
+        for frame in filter(icmp.is_error, side.came_out):
+            if frame[:6] == HOSTS[name]:  # the kernel was told of something else
+                continue
+            right = next((one for one in expected if one == frame), None)
+            check("ICMP error", right is not None, frame.hex())
+            if right is None:
+                return
+        lacking += len(told[name]) - sum(icmp.is_error(frame) and frame[:6] != HOSTS[name] for frame in side.came_out)
+        side.forget()
+    check("ICMP errors that are sent", lacking == withheld, (lacking, withheld))
 
 
 def compare_counters(router, before, fates):
@@ -245,40 +237,43 @@ def tcp(sides):
 def last_hop(router):
     """A packet with hop limit 1 goes no further."""
     before = router.counters()
-    for n in range(20):
-        with socket.socket(socket.AF_INET, socket.SOCK_DGRAM) as sock:
-            sock.setsockopt(socket.IPPROTO_IP, socket.IP_TTL, 1)
+    with socket.socket(socket.AF_INET, socket.SOCK_DGRAM) as sock:
+        sock.setsockopt(socket.IPPROTO_IP, socket.IP_TTL, 1)
+        for _ in range(20):
             sock.sendto(b"x", ("10.2.0.2", 7))
-    time.sleep(0.1)
+        time.sleep(0.1)
     compare_counters(router, before, ["LK_EXPIRED"] * 20)
 
 
 def asked_for(side, addr):
-    """How many ARP requests for an address came out."""
+    """How many ARP requests or neighbour solicitations for an address came out."""
     side.take()
-    return sum(frame[12:14] == ARP and frame[38:42] == socket.inet_aton(addr) and frame[21] == 1 for frame in side.came_out)
+    return sum(frame[38:42] == addr and frame[20:22] == b"\0\1" if frame[12:14] == ARP else
+               frame[62:78] == addr and frame[20] == icmp.ICMPV6 and frame[54] == icmp.SOLICITATION for frame in side.came_out)
 
 
 def silent_neighbour(router, sides, there):
     """One request a second at most for an address, and the latest packets are kept until the reply."""
-    before, start = router.counters(), time.monotonic()
-    with socket.socket(socket.AF_INET, socket.SOCK_DGRAM) as sock:
-        for _ in range(24):
-            sock.sendto(b"", ("10.2.0.99", 7))
-            time.sleep(0.1)
-        count, seconds = asked_for(sides["right"], "10.2.0.99"), time.monotonic() - start
-        check("ARP requests", seconds - 1 < count < seconds + 1, (count, seconds))
-        for n in range(80):
-            sock.sendto(bytes([n]), ("10.2.0.98", 7))
-        time.sleep(0.3)  # a second before the next request
-    with there.entered(), socket.socket(socket.AF_INET, socket.SOCK_DGRAM) as server:
-        server.settimeout(LATEST)
-        there.run("ip address add 10.2.0.98/32 dev right")
-        server.bind(("10.2.0.98", 7))
-        check("packets that waited", [server.recv(9)[0] for _ in range(64)] == list(range(16, 80)))
-    compare_counters(router, before, ["no neighbour"] * (24 + 16))
-    there.run("ip address delete 10.2.0.98/32 dev right")
-    sides["right"].forget()
+    for family, front in ((socket.AF_INET, "10.2.0."), (socket.AF_INET6, "fd02::")):
+        absent, late = front + "99", front + "98"
+        before, start = router.counters(), time.monotonic()
+        with socket.socket(family, socket.SOCK_DGRAM) as sock:
+            for _ in range(24):
+                sock.sendto(b"", (absent, 7))
+                time.sleep(0.1)
+            count, seconds = asked_for(sides["right"], socket.inet_pton(family, absent)), time.monotonic() - start
+            check("requests", seconds - 1 < count < seconds + 1, (absent, count, seconds))
+            for n in range(80):
+                sock.sendto(bytes([n]), (late, 7))
+            time.sleep(0.3)  # a second before the next request
+            with there.entered(), socket.socket(family, socket.SOCK_DGRAM) as server:
+                server.settimeout(LATEST)
+                there.run(f"ip address add {late}/{'32' if family == socket.AF_INET else '128 nodad'} dev right")
+                server.bind((late, 7))
+                check("packets that waited", [server.recv(9)[0] for _ in range(64)] == list(range(16, 80)), late)
+            compare_counters(router, before, ["no neighbour"] * (24 + 16))
+        there.run(f"ip address delete {late}/{32 if family == socket.AF_INET else 128} dev right")
+        sides["right"].forget()
 
 
 def arp_replies(sides):
@@ -311,7 +306,7 @@ def many_routes(room, program):
     for _ in range(10):
         addresses = [(random.choice(blocks), random.randrange(0x0B << 24, 0x40 << 24)) for _ in range(AT_ONCE)]
         chunk = [packets.packet(b"", src=source, dst=packed_in(block, number)) for block, number in addresses]
-        send_chunk(sides, "left", [HARDWARE["left"] + HOSTS["left"] + frame[12:] for frame in chunk], model)
+        send_chunk(sides, "left", [HARDWARE["left"] + HOSTS["left"] + frame[12:] for frame in chunk], model, [])
     router.ends("with many routes")
 
 
@@ -339,7 +334,7 @@ def three_interfaces(room, program):
     for n, name in names * 4:
         ends = [(random.choice((n, n, 1)), random.randint(1, 4)) for _ in range(AT_ONCE)]
         chunk = [packets.packet(random.randbytes(9), src=bytes([198, 18, src, 7]), dst=bytes([198, 18, dst, 8])) for src, dst in ends]
-        send_chunk(sides, name, [hardware[name] + HOSTS["left"] + frame[12:] for frame in chunk], model)
+        send_chunk(sides, name, [hardware[name] + HOSTS["left"] + frame[12:] for frame in chunk], model, [])
     router.ends("with three interfaces")
 
 
@@ -423,15 +418,20 @@ def longest_handed(side):
 
 
 def smaller_mtu(router, room):
-    """A packet that is longer than the next MTU is dropped, and so is a large frame if its segments are."""
+    """A packet that is longer than the next MTU is dropped, and so is a large frame if its segments are. The kernel has to
+    learn the MTU for each."""
     room.run("ip link set right mtu 1000")
     time.sleep(1.2)  # until the router looks at its interfaces again
     before = router.counters()
     with socket.socket(socket.AF_INET, socket.SOCK_DGRAM) as sock:
+        sock.setsockopt(socket.IPPROTO_IP, MTU_DISCOVER, PMTUDISC_PROBE)
         for length in (973, 1400):
             sock.sendto(bytes(length), ("10.2.0.2", 7))
+        time.sleep(0.1)
     compare_counters(router, before, ["too long"] * 2)
+    Here().run("ip route flush cache")
     check("UDP of the MTU", udp_echo(socket.AF_INET, ("10.2.0.2", 7), bytes(972)) == bytes(972))
+    Here().run("ip route flush cache")
     with socket.create_connection(("10.2.0.2", 7), timeout=10) as sock:
         sock.sendall(bytes(5000))
         time.sleep(0.1)

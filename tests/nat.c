@@ -72,8 +72,8 @@ static void translate(void)
 /* ---- NAT with a table */
 
 /* Two outside ports, 39999 and 40000, which the inside ports of the frames are not. */
-static const struct lk_nat nat = {{1, 2}, 300000, 7440000, 240000, {203, 0, 113, 9}, 39999, 0};
-enum { MAPPINGS = 4 };
+static const struct lk_nat nat = {{1, 2}, 300000, 7440000, 240000, 60000, {203, 0, 113, 9}, 39999, 0};
+enum { MAPPINGS = 6 };
 
 static struct lk_mapping mappings[MAPPINGS];
 

@@ -1,10 +1,9 @@
 /* A host over lwIP, a network stack of another ancestry than Linux's and this library's (Linux).
  *     other_stack -d DEVICE -m HARDWARE_ADDRESS -a ADDRESS/PREFIX [OPTION..] [SERVER]
- * With SERVER, an address, it exchanges UDP and TCP with port 7 there, compares each octet that comes back, and prints
- * what it counted. The status is 1 if something was wrong. Without SERVER it echoes at its own port 7, prints "ready",
- * and runs until a signal ends it.
+ * With SERVER, an address, it pings it, exchanges UDP and TCP with port 7 there, compares each octet that comes back,
+ * and prints what it counted. The status is 1 if something was wrong. Without SERVER it echoes at its own port 7,
+ * prints "ready", and runs until a signal ends it.
  *     -g ADDRESS           of the router (IPv4)
- *     -n HARDWARE_ADDRESS  of the next hop (IPv6): it is not asked for
  *     -l COUNT             loses one in so many frames, each way
  *     -s OCTETS            the largest TCP echo
  *
@@ -15,7 +14,9 @@
 #include <linux/if_packet.h>
 #include <lwip/etharp.h>
 #include <lwip/ethip6.h>
+#include <lwip/inet_chksum.h>
 #include <lwip/init.h>
+#include <lwip/raw.h>
 #include <lwip/tcp.h>
 #include <lwip/timeouts.h>
 #include <lwip/udp.h>
@@ -36,9 +37,8 @@ enum { LARGEST = 10000000, MOST_WRONG = 10 };
 enum { PATIENCE = 120000, UDP_PATIENCE = 50, UDP_TRIES = 50 };
 
 static struct netif netif;
-static struct eth_addr next_hop; /* for IPv6 */
-static int frames;               /* the packet socket */
-static unsigned long one_in;     /* is lost; 0: none is */
+static int frames;           /* the packet socket */
+static unsigned long one_in; /* is lost; 0: none is */
 static unsigned long frames_in, frames_out, lost, wrong;
 static uint8_t data[LARGEST];
 
@@ -95,12 +95,6 @@ static void receive_frames(void)
     }
 }
 
-static err_t send_to_next_hop(struct netif *to, struct pbuf *packet, const ip6_addr_t *addr)
-{
-    (void)addr;
-    return ethernet_output(to, packet, (const struct eth_addr *)to->hwaddr, &next_hop, ETHTYPE_IPV6);
-}
-
 static err_t start_device(struct netif *started)
 {
     started->name[0] = 'p';
@@ -109,7 +103,7 @@ static err_t start_device(struct netif *started)
     started->hwaddr_len = ETH_HWADDR_LEN;
     started->flags = NETIF_FLAG_BROADCAST | NETIF_FLAG_ETHARP | NETIF_FLAG_ETHERNET | NETIF_FLAG_LINK_UP;
     started->output = etharp_output;
-    started->output_ip6 = send_to_next_hop;
+    started->output_ip6 = ethip6_output;
     started->linkoutput = send_frame;
     return ERR_OK;
 }
@@ -135,14 +129,55 @@ static int wait_for(const int *value, u32_t milliseconds)
 
 /* ---- the client ---- */
 
-struct udp_echo {
+struct exchange {
     size_t len;
     int is_received, is_wrong;
 };
 
+/* The packet begins with its IP header. The kernel of lwIP gets all but the reply. */
+static u8_t on_ping(void *place, struct raw_pcb *pcb, struct pbuf *p, const ip_addr_t *addr)
+{
+    struct exchange *echo = place;
+    int is_ipv6 = IP_IS_V6(addr);
+    u16_t at = is_ipv6 ? 40 : 20;
+    (void)pcb;
+    if (pbuf_get_at(p, at) != (is_ipv6 ? 129 : 0))
+        return 0;
+    echo->is_received = 1;
+    echo->is_wrong = p->tot_len != at + 8 + echo->len
+                     || (echo->len > 0 && pbuf_memcmp(p, at + 8, data, (u16_t)echo->len) != 0);
+    pbuf_free(p);
+    return 1;
+}
+
+static void ping(const ip_addr_t *server, size_t len)
+{
+    struct exchange echo = {.len = len};
+    int is_ipv6 = IP_IS_V6_VAL(*server), tries = one_in != 0 ? UDP_TRIES : 1;
+    uint8_t header[8] = {is_ipv6 ? 128 : 8, 0, 0, 0, 0x12, 0x34, (uint8_t)(len >> 8), (uint8_t)len};
+    struct raw_pcb *pcb = raw_new_ip_type(IP_GET_TYPE(server), is_ipv6 ? IP6_NEXTH_ICMP6 : IP_PROTO_ICMP);
+    raw_recv(pcb, on_ping, &echo);
+    pcb->chksum_reqd = (u8_t)is_ipv6;
+    pcb->chksum_offset = 2;
+    while (tries-- > 0 && !echo.is_received) {
+        struct pbuf *p = pbuf_alloc(PBUF_IP, (u16_t)(sizeof header + len), PBUF_RAM);
+        memset(header + 2, 0, 2);
+        pbuf_take(p, header, sizeof header);
+        pbuf_take_at(p, data, (u16_t)len, sizeof header);
+        uint16_t checksum = is_ipv6 ? 0 : inet_chksum(p->payload, p->len);
+        pbuf_take_at(p, &checksum, 2, 2);
+        raw_sendto(pcb, p, server);
+        pbuf_free(p);
+        wait_for(&echo.is_received, one_in != 0 ? UDP_PATIENCE : 2000);
+    }
+    if (!echo.is_received || echo.is_wrong)
+        fail("ping of %zu octets: %s", len, echo.is_received ? "other octets" : "none");
+    raw_remove(pcb);
+}
+
 static void on_udp_echo(void *place, struct udp_pcb *pcb, struct pbuf *p, const ip_addr_t *addr, u16_t port)
 {
-    struct udp_echo *echo = place;
+    struct exchange *echo = place;
     (void)pcb, (void)addr, (void)port;
     echo->is_received = 1;
     echo->is_wrong = p->tot_len != echo->len || (p->tot_len > 0 && pbuf_memcmp(p, 0, data, p->tot_len) != 0);
@@ -151,7 +186,7 @@ static void on_udp_echo(void *place, struct udp_pcb *pcb, struct pbuf *p, const 
 
 static void echo_udp(const ip_addr_t *server, size_t len)
 {
-    struct udp_echo echo = {.len = len};
+    struct exchange echo = {.len = len};
     int tries = one_in != 0 ? UDP_TRIES : 1;
     struct udp_pcb *pcb = udp_new_ip_type(IP_GET_TYPE(server));
     udp_recv(pcb, on_udp_echo, &echo);
@@ -267,15 +302,17 @@ static void be_client(const ip_addr_t *server, size_t largest)
     size_t most = MTU - (IP_IS_V6_VAL(*server) ? 48 : 28), udp = 0, tcp = 0;
     for (size_t i = 0; i < sizeof data; i++)
         data[i] = (uint8_t)random();
-    for (size_t len = 0; len <= most; len++, udp++)
+    for (size_t len = 0; len <= most; len++, udp++) {
         echo_udp(server, len);
+        ping(server, len);
+    }
     for (size_t i = 0; i < sizeof sizes / sizeof *sizes; i++)
         if (sizes[i] <= largest) {
             echo_tcp(server, sizes[i]);
             tcp++;
         }
-    printf("UDP echoes %zu, TCP echoes %zu, %lu wrong; frames in %lu, out %lu, lost %lu\n", udp, tcp, wrong, frames_in,
-           frames_out, lost);
+    printf("pings and UDP echoes %zu, TCP echoes %zu, %lu wrong; frames in %lu, out %lu, lost %lu\n", udp, tcp, wrong,
+           frames_in, frames_out, lost);
 }
 
 /* ---- the server ---- */
@@ -440,13 +477,12 @@ int main(int argc, char **argv)
     size_t largest = LARGEST;
     ip_addr_t server;
     int option;
-    while ((option = getopt(argc, argv, "d:m:a:g:n:l:s:")) != -1) {
+    while ((option = getopt(argc, argv, "d:m:a:g:l:s:")) != -1) {
         switch (option) {
         case 'd': device = optarg; break;
         case 'm': hardware = optarg; break;
         case 'a': address = optarg; break;
         case 'g': gateway = optarg; break;
-        case 'n': read_hardware(optarg, next_hop.addr); break;
         case 'l': one_in = strtoul(optarg, NULL, 10); break;
         case 's': largest = strtoul(optarg, NULL, 10); break;
         default: explain();

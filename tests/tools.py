@@ -44,9 +44,9 @@ def bad_capture(name, data, error, output="", words=""):
     return tool_case("lines_of_capture.py", name, words, data, output, error, 1)
 
 
-def dump(name, text, output="", words=""):
+def dump(name, text, output="", words="", error=""):
     """A hex dump on standard input that is converted."""
-    return tool_case("lines_of_hex.py", name, words, text.encode(), output, "", 0)
+    return tool_case("lines_of_hex.py", name, words, text.encode(), output, error, 0)
 
 
 def bad_dump(name, text, error, output=""):
@@ -130,7 +130,7 @@ PCAPNG = [
     capture("pcapng, little-endian", each_kind("<"), EACH_KIND_LINES),
     capture("pcapng, big-endian", each_kind(">"), EACH_KIND_LINES),
     capture("sections of both orders", each_kind("<") + each_kind(">"), EACH_KIND_LINES * 2),
-    capture("a section alone", section(), ""),
+    bad_capture("a section alone", section(), "no Ethernet in this capture: no interface"),
     capture("an interface alone", BEGIN, ""),
     capture("interfaces of each section", section() + interface(link=RAW_IP) + interface() + enhanced(FRAMES[0], number=1)
             + enhanced(b"E", number=0) + section() + interface() + enhanced(FRAMES[1], number=0), LINES,
@@ -209,13 +209,20 @@ DUMPS = [
     dump("comments and empty lines", "# a\n\n  # 00\n0200\n \n#\n", "0200\n"),
     dump("only comments", "# a\n", ""),
     dump("nothing", "", ""),
-    dump("no last line feed", "0000  02 00\n0002  ff", "0200ff\n"),
+    dump("no last line feed", "0200ff", "0200ff\n"),
     dump("carriage returns", "0000  02 00\r\n0002  ff\r\n\r\n0200\r\n", "0200ff\n0200\n"),
     dump("a byte order mark", "\ufeff0200\n", "0200\n"),
     dump("a frame of dump lines, then of one line", "0000  02 00\n0002  ff\n01 02\n00000000: 0304\n", "0200ff\n0102\n0304\n"),
     dump("a comment within a frame", "0000  02 00\n# note\n\n0002  ff\n", "0200ff\n"),
     dump("times", "17:03:33.759133 IP x\n\t0x0000:  0200\n 00:00:00.000110 IP x\n    y\n\t0x0000:  ff\n"
          "1795367013.759133 IP\n\t0x0000:  01\n", "0200\nff\n01\n"),
+    dump("bytes that were put together", "Frame (3 bytes):\n0000  02 00 01   ...\nReassembled IPv4 (2 bytes):\n0000  0a 0b   ..\n\n"
+         "0000  02 00 02   ...\n\nFrame (1 byte):\n0000  03   .\nReassembled TCP (1 byte):\n0000  04   .\n", "020001\n020002\n03\n"),
+    dump("tcpdump -x", "\t0x0000:  4500 0016 0000 0000 0111 0000 c000 0201\n\t0x0010:  c000 0202 6162\n"
+         "\t0x0000:  6000 0000 0000 3bff 0000 0000 0000 0000\n\t0x0010:  0000 0000 0000 0001 0000 0000 0000 0000\n"
+         "\t0x0020:  0000 0000 0000 0001\n", "45000016000000000111" "0000c0000201c00002026162\n" "6000000000003bff" + "00" * 15 + "01" + "00" * 15 + "01\n",
+         error="without an Ethernet header, as tcpdump -x prints them: 2 packets"),
+    dump("a text column of spaces", "0000  61 62   ab\n0002  20 20     \n", "61622020\n"),
     dump("a long offset", "".join(f"{n:04x}  " + "00 " * 15 + "01\n" for n in range(0, 0x10020, 16)),
          ("00" * 15 + "01") * 0x1002 + "\n"),
     bad_dump("a word", "0200\n02 03\nhello\n0300\n", "line 3: not a frame in hex", "0200\n0203\n"),
@@ -239,6 +246,13 @@ DUMPS = [
              "line 1: the text column is longer than the bytes"),
     bad_dump("a short line of hexdump -C", "00000000  61 62 63" + " " * 42 + "|abc|\n",
              "line 1: the text column is longer than the bytes"),
+    bad_dump("a dump cut off within the bytes of a line", "0000  61 62   ab\n0002  63 64\n",
+             "line 2: the text column is missing: the line is cut off"),
+    bad_dump("a dump cut off between two bytes", "0000  02 00\n0002  ff", "line 2: the frame is cut off"),
+    bad_dump("fewer bytes than were said", "Frame (3 bytes):\n0000  02 00\nFrame (1 byte):\n",
+             "line 3: 2 bytes, but 3 are expected"),
+    bad_dump("fewer bytes than were said, at the end", "Frame (3 bytes):\n0000  02 00\n", "line 2: 2 bytes, but 3 are expected"),
+    bad_dump("600,000 digits", "1" * 600000 + "  00\n", "line 1: not a frame in hex"),
     bad_dump("hexdump", "0000000 ffff 0002\n", "line 1: not a frame in hex"),
     bad_dump("od", "0000000 000002 000000\n", "line 1: not a frame in hex"),
     bad_dump("a comma at the end of the input", "01\n02,\n", "line 2: the frame is cut off", "01\n"),

@@ -26,6 +26,7 @@ from concurrent.futures import ThreadPoolExecutor
 import proved
 
 TOP = pathlib.Path(__file__).resolve().parent.parent
+PROCESSORS = len(os.sched_getaffinity(0))
 FUNCTION = re.compile(r'^( *)(?:pub(?:\([^)]*\))? )?(?:(?:const|unsafe|extern "C") )*fn (\w+)', re.M)
 IMPL = re.compile(r"^impl(?:<.*?>)? (\w+)(?:<[^{]*>)?( for )?", re.M)
 VERDICT = re.compile(r"^fn (\S+): (.*)$", re.M)
@@ -106,8 +107,15 @@ def rounds(wrong):
 class Trial:
     """The edits of one crate, each round over what the rounds before it proved."""
 
+    unfinished = set()
+
     def __init__(self, crate):
         self.crate, self.log, self.faults, self.passed = crate, [], [], 0
+        self.unfinished.add(crate)
+
+    def jobs(self):
+        """How many processors a run of rattle may use: the last crates use those of the crates that are done."""
+        return max(1, PROCESSORS // len(self.unfinished))
 
     def verdicts(self, tried):
         """What rattle says of each function that it checks with the edits applied."""
@@ -119,9 +127,10 @@ class Trial:
             for edit in tried:
                 edit.apply(folder)
             only = [word for name in sorted(set().union(*(edit.functions for edit in tried))) for word in ("--only", name)]
-            words = [*proved.command_line("check", self.crate), "--jobs", "1", "--incremental", self.kept, *only]
+            words = [*proved.command_line("check", self.crate), "--jobs", str(self.jobs()), "--incremental", self.kept, *only]
+            began = time.time()
             ran = subprocess.run(words, cwd=folder, stdin=subprocess.DEVNULL, stdout=subprocess.PIPE, stderr=subprocess.STDOUT, text=True, errors="replace")
-        self.log.append(f"== {self.crate}: {' '.join(edit.name for edit in tried)}\n{ran.stdout}")
+        self.log.append(f"== {self.crate}: {' '.join(edit.name for edit in tried)} ({time.time() - began:.0f} s)\n{ran.stdout}")
         gone = {f"{self.crate}::{folder.replace('/', '::')}" for folder in NAME_GONE.findall(ran.stdout)}
         return [(name, NOT_DECISIVE if name in gone else verdict) for name, verdict in VERDICT.findall(ran.stdout)]
 
@@ -145,6 +154,7 @@ class Trial:
             left = collections.deque(rounds(edits(self.crate, "wrong-bodies")))
             while left:
                 self.judge(left.popleft(), lambda found: not all(NOT_REJECTED.match(it) for it in found), left)
+        self.unfinished.discard(self.crate)
 
 
 def ready(trials, beside_gate):
@@ -173,7 +183,7 @@ def main():
     trials = [Trial(crate) for crate in crates if edits(crate, "wrong-bodies")]
     trials.sort(key=lambda trial: -len(edits(trial.crate, "wrong-bodies")))
     (TOP / "out").mkdir(exist_ok=True)
-    with ThreadPoolExecutor(len(os.sched_getaffinity(0))) as pool:
+    with ThreadPoolExecutor(PROCESSORS) as pool:
         tried = [pool.submit(trial.run) for trial in ready(trials, beside_gate)]
     for it in tried:
         it.result()

@@ -36,14 +36,17 @@ TcpOptions = _declare(
     window_scale=c_uint8, sack_permitted=c_uint8, sack_range_count=c_uint8, has_max_seg_size=c_uint8,
     has_window_scale=c_uint8, has_timestamp=c_uint8,
 )  # fmt: skip
+Icmp = _declare("lk_icmp", word=c_uint32, type=c_uint8, code=c_uint8)
 TcpOption = _declare("lk_tcp_option", offset=c_uint8, kind=c_uint8, len=c_uint8)
 Frame = _declare(
     "lk_frame", network_offset=c_size_t, transport_offset=c_size_t, payload_offset=c_size_t, payload_len=c_size_t,
     src=Endpoint, dst=Endpoint, ip=Ip, tcp=Tcp, ethernet=Ethernet, arp=Arp, reason=c_uint8, network=c_uint8,
     transport=c_uint8, rejected=c_uint8, is_fragment=c_uint8, ipv4_checksum=c_uint8, transport_checksum=c_uint8,
+    unused=c_uint8 * 5, icmp=Icmp,
 )  # fmt: skip
 Host = _declare(
-    "lk_host", open_ports=POINTER(c_uint16), open_port_count=c_size_t, ipv4=Addr, ipv6=Addr, hardware=_Hardware,
+    "lk_host", open_ports=POINTER(c_uint16), open_port_count=c_size_t, open_udp_ports=POINTER(c_uint16),
+    open_udp_port_count=c_size_t, ipv4=Addr, ipv6=Addr, hardware=_Hardware,
     echo_port=c_uint16, seq_number=c_uint32, tsval=c_uint32, window_len=c_uint16, max_seg_size=c_uint16,
     window_scale=c_uint8,
 )  # fmt: skip
@@ -73,6 +76,7 @@ CALLS: Dict[str, Tuple[Any, ...]] = {
     "lk_reply": (None, POINTER(Frame)),
     "lk_emit_udp_frame": (c_ssize_t, POINTER(Frame), *_DATA, *_OUT),
     "lk_emit_tcp_frame": (c_ssize_t, POINTER(Frame), POINTER(TcpOptions), *_DATA, *_OUT),
+    "lk_emit_icmp_frame": (c_ssize_t, POINTER(Frame), *_DATA, *_OUT),
     "lk_emit_arp_frame": (c_ssize_t, POINTER(Frame), *_OUT),
     "lk_checksum": (c_uint16, *_DATA),
     "lk_update_checksum": (c_uint16, c_uint16, c_uint16, c_uint16),

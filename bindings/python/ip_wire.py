@@ -1,4 +1,4 @@
-"""Ethernet II, ARP, IPv4, IPv6, UDP and TCP packets, by the proved C library ip_wire 0.2.
+"""Ethernet II, ARP, IPv4, IPv6, ICMP, UDP and TCP packets, by the proved C library ip_wire 0.2.
 
     frame = ip_wire.parse_frame(data)
     frame.check()                           # raises Rejected
@@ -64,6 +64,7 @@ class Transport(IntEnum):
 
     UDP = 1
     TCP = 2
+    ICMP = 3
 
 
 class Verdict(IntEnum):
@@ -211,6 +212,16 @@ class Tcp:
 
 
 @dataclass(frozen=True)
+class Icmp:
+    """The header of an ICMP message, without its checksum. The payload is behind it: the data of an echo, or the packet
+    that an error quotes."""
+
+    type: int
+    code: int = 0
+    word: int = 0  # octets 4 to 7
+
+
+@dataclass(frozen=True)
 class TcpOptions:
     """The options of a TCP header. A SACK range is from its first number up to the second, without it."""
 
@@ -297,6 +308,7 @@ class Frame:
     rejected: Optional[Transport]  # the header that was rejected, but has its ports in `src` and `dst`
     tcp: Optional[Tcp]  # the header that was read or rejected
     tcp_header: bytes  # of the header that was read, with its options; else empty
+    icmp: Optional[Icmp]
     ipv4_checksum: Verdict
     transport_checksum: Verdict
     network_offset: Optional[int]
@@ -349,6 +361,10 @@ def _tcp_of(frame: Any) -> Tcp:
     return Tcp(**{**values, "flags": TcpFlag(values["flags"])})
 
 
+def _icmp_of(frame: Any) -> Icmp:
+    return Icmp(**c.numbers(frame.icmp))
+
+
 def _read(data: bytes, is_packet: bool, call: Callable[..., int], *lengths: int) -> Frame:
     frame = c.Frame()
     call(data, *lengths, frame)
@@ -371,6 +387,7 @@ def _read(data: bytes, is_packet: bool, call: Callable[..., int], *lengths: int)
         rejected=rejected,
         tcp=_tcp_of(frame) if Transport.TCP in (transport, rejected) else None,
         tcp_header=data[start : start + frame.tcp.header_len] if transport == Transport.TCP else b"",
+        icmp=_icmp_of(frame) if transport == Transport.ICMP else None,
         ipv4_checksum=Verdict(frame.ipv4_checksum),
         transport_checksum=Verdict(frame.transport_checksum),
         network_offset=frame.network_offset if network else None,
@@ -421,6 +438,13 @@ def emit_tcp(headers: Headers, tcp: Tcp, options: TcpOptions = TcpOptions(), pay
     return c.written(114 + len(data), library.lk_emit_tcp_frame, frame, _options(options), data, len(data))
 
 
+def emit_icmp(headers: Headers, icmp: Icmp, payload: Data = b"") -> bytes:
+    """Writes a whole frame with an ICMP message. The ports are not used."""
+    frame, data = _frame(headers), c.octets(payload)
+    frame.icmp = c.struct(c.Icmp, icmp)
+    return c.written(62 + len(data), library.lk_emit_icmp_frame, frame, data, len(data))
+
+
 def emit_arp(ethernet: Ethernet, arp: Arp) -> bytes:
     """Writes a whole frame with an ARP packet, 42 octets."""
     frame = c.Frame(src=_endpoint((arp.src, 0)), dst=_endpoint((arp.dst, 0)))
@@ -448,12 +472,16 @@ class Host:
     window_len: int = 65535
     max_seg_size: int = 1220
     window_scale: int = 0
+    open_udp_ports: Tuple[int, ...] = ()  # what they get is not answered
 
     def answer(self, frame: Data) -> Optional[bytes]:
         """The answer to an Ethernet frame, or None if it gets none."""
-        data, count = c.octets(frame), len(self.open_ports)
-        ports = (c_uint16 * count)(*(c.fits(c_uint16, port) for port in self.open_ports))
-        host = c.struct(c.Host, self, open_ports=ctypes.cast(ports, POINTER(c_uint16)), open_port_count=count)
+        data = c.octets(frame)
+        ports, udp_ports = ((c_uint16 * len(them))(*(c.fits(c_uint16, port) for port in them))
+                            for them in (self.open_ports, self.open_udp_ports))  # fmt: skip
+        lists = {"open_ports": ctypes.cast(ports, POINTER(c_uint16)), "open_port_count": len(ports),
+                 "open_udp_ports": ctypes.cast(udp_ports, POINTER(c_uint16)), "open_udp_port_count": len(udp_ports)}  # fmt: skip
+        host = c.struct(c.Host, self, **lists)
         return c.written(len(data) + 114, library.lk_answer, host, data, len(data)) or None
 
 

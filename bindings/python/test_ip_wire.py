@@ -15,7 +15,7 @@ from ipaddress import IPv4Address, IPv6Address, ip_address, ip_interface
 
 import _ip_wire as c
 import ip_wire
-from ip_wire import Arp, Endpoint, Ethernet, Headers, Host, Ip, Network, Reason, Rejected, Tcp, TcpFlag, TcpOptions
+from ip_wire import Arp, Endpoint, Ethernet, Headers, Host, Icmp, Ip, Network, Reason, Rejected, Tcp, TcpFlag, TcpOptions
 from ip_wire import Transport, Verdict, WireError
 
 FOLDER = os.path.dirname(os.path.abspath(__file__))
@@ -115,6 +115,18 @@ class Reading(unittest.TestCase):
         options = {option.kind: option.data for option in ip_wire.raw_tcp_options(frame.tcp_header)}
         self.assertEqual((options[2], options[3]), ((1460).to_bytes(2, "big"), b"\7"))
 
+    def test_icmp(self):
+        for headers, protocol, kind in [(IPV4, 1, 8), (IPV6, 58, 128)]:
+            echo = Icmp(kind, 0, 0x12340001)
+            data = ip_wire.emit_icmp(headers, echo, b"data")
+            frame = ip_wire.parse_frame(data)
+            frame.check()
+            self.assertEqual((frame.transport, frame.icmp, frame.payload), (Transport.ICMP, echo, b"data"))
+            self.assertEqual((frame.ip.protocol, frame.tcp, frame.transport_checksum), (protocol, None, Verdict.RIGHT))
+            self.assertEqual((frame.src.port, frame.payload_offset), (0, frame.transport_offset + 8))
+            with self.assertRaises(Rejected):
+                ip_wire.parse_frame(data[:-1] + b"b").check()
+
     def test_rejected(self):
         data = bytearray(ip_wire.emit_tcp(IPV4, Tcp(flags=TcpFlag.SYN)))
         data[47] |= TcpFlag.FIN
@@ -204,6 +216,11 @@ class Writing(unittest.TestCase):
             headers = replace(IPV4, dst=Endpoint(IPV4.dst.addr, port))
             answer = ip_wire.parse_frame(host.answer(ip_wire.emit_tcp(headers, Tcp(flags=TcpFlag.SYN))))
             self.assertEqual(answer.tcp.flags, flags)
+        pong = ip_wire.parse_frame(host.answer(ip_wire.emit_icmp(IPV4, Icmp(8, 0, 7), b"data")))
+        self.assertEqual((pong.icmp, pong.payload, pong.dst.addr), (Icmp(0, 0, 7), b"data", IPV4.src.addr))
+        closed = ip_wire.emit_udp(replace(IPV6, dst=Endpoint(IPV6.dst.addr, 9)), b"")
+        self.assertEqual(ip_wire.parse_frame(host.answer(closed)).icmp, Icmp(1, 4))
+        self.assertIsNone(replace(host, open_udp_ports=(8, 9)).answer(closed))
         arp = Arp(1, CLIENT, bytes(6), IPv4Address("192.0.2.1"), host.ipv4)
         answer = ip_wire.parse_frame(host.answer(ip_wire.emit_arp(Ethernet(CLIENT, b"\xff" * 6), arp)))
         self.assertEqual(answer.arp, Arp(2, SERVER, CLIENT, host.ipv4, arp.src))

@@ -77,7 +77,7 @@ static const char *read_line(struct router *router, char **words, int count, uin
     }
     if (strcmp(words[0], "lladdr") == 0 && count == 2 && router->interfaces[interface].is_tap) {
         int is_read = lk_parse_ethernet(words[1], strlen(words[1]), hardware) && (hardware[0] & 1) == 0;
-        memcpy(router->interfaces[interface].hardware, hardware, is_read ? 6 : 0);
+        memcpy(router->interfaces[interface].own.hardware, hardware, is_read ? 6 : 0);
         return is_read ? NULL : "not an Ethernet address of a host";
     }
     return "not a line of this file";
@@ -139,6 +139,30 @@ static int add_routes_of_addresses(struct router *router)
     return is_added;
 }
 
+/* The first address of this version on the interface, else the first one of the router; or 0.0.0.0 or `::`. */
+static struct lk_addr first_address(const struct router *router, size_t interface, uint16_t version)
+{
+    struct lk_addr found = {.version = version};
+    int is_found = 0;
+    for (size_t i = router->address_count; i-- > 0;) {
+        const struct address *one = &router->addresses[i];
+        int is_here = one->interface == interface;
+        if (one->block.addr.version == version && (is_here || !is_found)) {
+            found = one->block.addr;
+            is_found |= is_here;
+        }
+    }
+    return found;
+}
+
+static void set_own_addresses(struct router *router)
+{
+    for (size_t i = 0; i < router->interface_count; i++) {
+        router->interfaces[i].own.ipv4 = first_address(router, i, 4);
+        router->interfaces[i].own.ipv6 = first_address(router, i, 6);
+    }
+}
+
 static int index_routes(struct router *router)
 {
     router->nodes = calloc(router->route_count + 1, sizeof *router->nodes);
@@ -172,6 +196,7 @@ int read_config(struct router *router, const char *path)
     }
     int is_read = read_lines(router, path, file, 1), is_indexed = 0;
     if (is_read && add_routes_of_addresses(router)) {
+        set_own_addresses(router);
         rewind(file);
         is_read = read_lines(router, path, file, 0);
         is_indexed = is_read && index_routes(router);

@@ -34,12 +34,16 @@ static int open_tap(struct interface *interface)
 static int open_socket(struct interface *interface)
 {
     static const int on = 1, room = SOCKET_ROOM;
+    struct packet_mreq groups = {.mr_type = PACKET_MR_ALLMULTI};
     struct sockaddr_ll place = {.sll_family = AF_PACKET, .sll_protocol = htons(ETH_P_ALL)};
     interface->index = if_nametoindex(interface->name);
     place.sll_ifindex = (int)interface->index;
     int device = interface->device = socket(AF_PACKET, SOCK_RAW | SOCK_NONBLOCK | SOCK_CLOEXEC, 0);
     if (device < 0 || interface->index == 0)
         return 0;
+    /* Neighbour solicitations are sent to groups. */
+    groups.mr_ifindex = (int)interface->index;
+    setsockopt(device, SOL_PACKET, PACKET_ADD_MEMBERSHIP, &groups, sizeof groups);
     /* As much as the limit of the kernel allows, and all of it if the program may pass that limit. */
     setsockopt(device, SOL_SOCKET, SO_RCVBUF, &room, sizeof room);
     setsockopt(device, SOL_SOCKET, SO_RCVBUFFORCE, &room, sizeof room);
@@ -61,7 +65,7 @@ static int read_settings(struct interface *interface)
     if (!interface->is_tap) {
         is_read = any >= 0 && ioctl(any, SIOCGIFHWADDR, &request) == 0 && request.ifr_hwaddr.sa_family == 1;
         if (is_read)
-            memcpy(interface->hardware, request.ifr_hwaddr.sa_data, 6);
+            memcpy(interface->own.hardware, request.ifr_hwaddr.sa_data, 6);
     }
     close(any);
     return is_read;
@@ -89,9 +93,9 @@ int open_interface(const char *program, const char *word, struct interface *inte
     }
     strcpy(interface->name, colon + 1);
     /* A locally administered address, if the file does not name another one. */
-    if (getrandom(interface->hardware, 6, 0) != 6)
+    if (getrandom(interface->own.hardware, 6, 0) != 6)
         return 0;
-    interface->hardware[0] = 2;
+    interface->own.hardware[0] = 2;
     if (!open_device(interface)) {
         fprintf(stderr, "%s: %s: %s\n", program, word, strerror(errno));
         return 0;

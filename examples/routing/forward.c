@@ -4,8 +4,9 @@
 #include <stdio.h>
 #include <string.h>
 
-/* The longest IP header with the Ethernet header before it. Nothing behind it is parsed, so no payload is summed. */
-enum { LONGEST_HEADERS = ETHERNET_LEN + 60 };
+/* The longest IP header and 8 octets, with the Ethernet header before them. Nothing behind them is parsed, so no
+ * payload is summed. */
+enum { LONGEST_HEADERS = ETHERNET_LEN + 60 + 8 };
 
 static const uint8_t no_hardware[6];
 
@@ -46,7 +47,7 @@ static int may_pass(struct router *router, uint16_t from, const struct lk_frame 
     const struct interface *interface = &router->interfaces[from];
     if ((in->ethernet.dst[0] & 1) || lk_is_multicast(&in->dst.addr) || is_broadcast(&in->dst.addr)) {
         drop(router, GROUP);
-    } else if (memcmp(in->ethernet.dst, interface->hardware, 6) != 0) {
+    } else if (memcmp(in->ethernet.dst, interface->own.hardware, 6) != 0) {
         drop(router, OTHER_LINK);
     } else if (is_link_local(&in->dst.addr) || is_link_local(&in->src.addr)) {
         drop(router, LINK_LOCAL);
@@ -82,44 +83,59 @@ static size_t longest_len(const struct packet *packet)
     return start - ETHERNET_LEN + header_len + offload->gso_size;
 }
 
-/* Returns the next hop of a destination, and stores its interface; or null, then the packet is counted. */
-static const struct lk_addr *next_hop(struct router *router, const struct lk_addr *dst, uint16_t *to)
+static int hop_limit(const struct packet *packet)
 {
-    ptrdiff_t place = lk_choose_route(router->nodes, router->route_count, dst);
-    if (place < 0) {
-        drop(router, NO_WAY);
-        return NULL;
-    }
-    const struct lk_route *route = &router->routes[place];
-    if (route->interface == TO_ROUTER || route->interface == TO_BROADCAST) {
-        drop(router, route->interface == TO_ROUTER ? FOR_ROUTER : GROUP);
-        return NULL;
-    }
-    *to = route->interface;
-    return route->next_hop.version != 0 ? &route->next_hop : dst;
+    const uint8_t *header = packet->frame + ETHERNET_LEN;
+    return header[header[0] >> 4 == 4 ? 8 : 7];
 }
 
-static void send_on(struct router *router, uint16_t from, struct packet *packet, const struct lk_addr *dst)
+/* Sends a packet by a route. A packet whose hop limit has expired waits for no neighbour. */
+static void send_by(struct router *router, uint16_t from, const struct lk_route *route, struct packet *packet,
+                    const struct lk_addr *dst)
 {
-    uint16_t to = 0;
-    const struct lk_addr *hop = next_hop(router, dst, &to);
-    if (hop == NULL)
-        return;
-    struct interface *interface = &router->interfaces[to];
+    struct interface *interface = &router->interfaces[route->interface];
+    const struct lk_addr *hop = route->next_hop.version != 0 ? &route->next_hop : dst;
     if (longest_len(packet) > interface->mtu) {
         drop(router, TOO_LONG);
+        send_error(router, from, LK_PACKET_TOO_BIG, packet, interface->mtu);
         return;
     }
-    int rejection = lk_forward(packet->frame, packet->len, interface->hardware, no_hardware);
-    if (rejection == LK_NOT_REJECTED && router->before_send != NULL)
-        rejection = router->before_send(router, from, to, packet);
+    const uint8_t *hardware = hardware_of(router, route->interface, hop);
+    if (hardware == NULL && hop_limit(packet) > 1) {
+        wait_for_neighbour(router, route->interface, hop, from, packet, dst);
+        return;
+    }
+    int rejection = lk_forward(packet->frame, packet->len, interface->own.hardware, hardware ? hardware : no_hardware);
+    if (rejection == LK_EXPIRED)
+        send_error(router, from, LK_HOP_LIMIT_EXPIRED, packet, 0);
+    else if (rejection == LK_NOT_REJECTED && router->before_send != NULL)
+        rejection = router->before_send(router, from, route->interface, packet);
     if (rejection != LK_NOT_REJECTED) {
         reject(router, rejection);
         return;
     }
     if (!interface->is_tap)
         packet->len = pad(packet->frame, packet->len);
-    send_to_neighbour(router, to, hop, packet);
+    router->forwarded++;
+    send_later(interface, packet);
+}
+
+void send_on(struct router *router, uint16_t from, struct packet *packet, const struct lk_addr *dst)
+{
+    ptrdiff_t place = lk_choose_route(router->nodes, router->route_count, dst);
+    int to = place < 0 ? -1 : router->routes[place].interface;
+    if (to < 0) {
+        drop(router, NO_WAY);
+        send_error(router, from, LK_ROUTE_MISSING, packet, 0);
+    } else if (to == TO_BROADCAST) {
+        drop(router, GROUP);
+    } else if (to != TO_ROUTER) {
+        send_by(router, from, &router->routes[place], packet, dst);
+    } else if (answer(router, from, dst, packet)) {
+        router->answered++;
+    } else {
+        drop(router, FOR_ROUTER);
+    }
 }
 
 void on_frame(struct router *router, uint16_t from, struct packet *packet)
@@ -132,19 +148,21 @@ void on_frame(struct router *router, uint16_t from, struct packet *packet)
         drop(router, TAGGED);
     } else if (in.network == LK_ARP) {
         if (reason == LK_READ)
-            on_arp(router, from, &in);
+            on_arp(router, from, &in, packet);
     } else if (in.network == LK_NO_NETWORK) {
         /* It does not parse, so that it is rejected. */
         int rejection = lk_forward(packet->frame, packet->len, no_hardware, no_hardware);
         reject(router, rejection != LK_NOT_REJECTED ? rejection : LK_BAD_HEADER);
     } else if (in.ipv4_checksum == LK_WRONG) {
         reject(router, LK_WRONG_CHECKSUM);
+    } else if (in.network == LK_IPV6 && in.transport == LK_ICMP && on_ndisc(router, from, &in, packet)) {
+        router->ndisc++;
     } else if (may_pass(router, from, &in)) {
         struct lk_addr dst = in.dst.addr;
         packet->len = ETHERNET_LEN + packet_len(packet->frame + ETHERNET_LEN);
         int rejection = LK_NOT_REJECTED;
         if (router->before_route != NULL)
-            rejection = router->before_route(router, from, packet, &dst);
+            rejection = router->before_route(router, from, &in, packet, &dst);
         if (rejection != LK_NOT_REJECTED)
             reject(router, rejection);
         else
@@ -158,7 +176,10 @@ void print_counts(struct router *router)
         "other link address", "VLAN tag", "group or broadcast", "link-local",   "reserved address",
         "for the router",     "no route", "too long",           "no neighbour",
     };
-    printf("frames %lu, forwarded %lu, ARP %lu\n", router->frames, router->forwarded, router->arp);
+    printf("frames %lu, forwarded %lu, answered %lu, ARP %lu, ND %lu\n", router->frames, router->forwarded,
+           router->answered, router->arp, router->ndisc);
+    if (router->withheld != 0)
+        printf("ICMP errors above the limit %lu\n", router->withheld);
     for (int why = 0; why < DROPS; why++)
         if (router->drops[why] != 0)
             printf("dropped: %s %lu\n", names[why], router->drops[why]);

@@ -1,22 +1,32 @@
-/* The neighbour cache: ARP (RFC 826) with the rules of RFC 1122, section 2.3.2. IPv6 neighbours are only those that
- * the file names, because the library has no ICMPv6. */
+/* The neighbour cache: ARP (RFC 826) with the rules of RFC 1122, section 2.3.2, and neighbour discovery (RFC 4861,
+ * section 7.2). */
 #include "router.h"
 
 #include <stdlib.h>
 #include <string.h>
 #include <sys/random.h>
 
-enum { ARP_REQUEST = 1, ARP_REPLY = 2 };
+enum { ARP_REQUEST = 1 };
 /* Times are in milliseconds. */
 enum { FRESH_TIME = 60000, BETWEEN_REQUESTS = 1000, MOST_REQUESTS = 3 };
+enum { LONGEST_REQUEST = ETHERNET_LEN + 72 };
 enum { SETS = 4096, WAYS = 8, MOST_HELD = 64, MOST_HELD_OCTETS = 1 << 22 };
 
-/* A frame that waits for a reply. */
+/* A packet that waits for a reply, as it came in. */
 struct held {
     struct held *next;
+    struct lk_addr dst;
+    uint16_t from;
     size_t len;
     struct virtio_net_hdr offload;
     uint8_t frame[];
+};
+
+/* The same, after it was taken from the list. */
+struct released {
+    struct lk_addr dst;
+    uint16_t from;
+    struct packet packet;
 };
 
 struct neighbour {
@@ -68,23 +78,32 @@ static struct neighbour *find(struct neighbours *neighbours, uint16_t interface,
     return NULL;
 }
 
-static void remove_first(struct neighbours *neighbours, struct neighbour *neighbour)
+/* Takes the packet that has waited for longest. It stays until the next call. */
+static struct released *take_first(struct neighbours *neighbours, struct neighbour *neighbour)
 {
+    static struct released first;
     struct held *held = neighbour->first;
     neighbour->first = held->next;
     if (held->next == NULL)
         neighbour->end = &neighbour->first;
     neighbour->held--;
     neighbours->held_octets -= held->len;
+    first.dst = held->dst;
+    first.from = held->from;
+    first.packet.len = held->len;
+    first.packet.offload = held->offload;
+    memcpy(first.packet.frame, held->frame, held->len);
     free(held);
+    return &first;
 }
 
-/* Drops the frames that wait. */
+/* Drops the packets that wait. */
 static void give_up(struct router *router, struct neighbour *neighbour)
 {
     while (neighbour->first != NULL) {
-        remove_first(router->neighbours, neighbour);
+        struct released *one = take_first(router->neighbours, neighbour);
         drop(router, NO_NEIGHBOUR);
+        send_error(router, one->from, LK_NEIGHBOUR_MISSING, &one->packet, 0);
     }
 }
 
@@ -129,13 +148,13 @@ int add_neighbour(struct neighbours *neighbours, uint16_t interface, const struc
 
 /* ---- sending ---- */
 
-/* The router's IPv4 address on the link of this one, else any one on this interface. */
+/* The router's address on the link of this one, else any one of this version on the interface. */
 static const struct lk_addr *own_address(const struct router *router, uint16_t interface, const struct lk_addr *addr)
 {
     const struct lk_addr *any = NULL;
     for (size_t i = 0; i < router->address_count; i++) {
         const struct address *own = &router->addresses[i];
-        if (own->interface != interface || own->block.addr.version != 4)
+        if (own->interface != interface || own->block.addr.version != addr->version)
             continue;
         any = &own->block.addr;
         if (lk_contains(&own->block, addr))
@@ -144,42 +163,55 @@ static const struct lk_addr *own_address(const struct router *router, uint16_t i
     return any;
 }
 
-static void send_arp(struct interface *interface, const struct lk_frame *headers)
+/* Addresses a question to all hosts that may have the address: over IPv6 to its solicited-node group (RFC 4291, section
+ * 2.7.1; RFC 2464, section 7). */
+static void ask_all(struct lk_frame *request)
 {
-    static const struct virtio_net_hdr none;
-    uint8_t out[SHORTEST_FRAME];
-    ptrdiff_t len = lk_emit_arp_frame(headers, out, sizeof out);
-    if (len > 0)
-        send_now(interface, &none, out, interface->is_tap ? (size_t)len : pad(out, (size_t)len));
+    static const uint8_t group[13] = {0xff, 2, 0, 0, 0, 0, 0, 0, 0, 0, 0, 1, 0xff};
+    uint8_t *octets = request->dst.addr.octets;
+    memset(request->ethernet.dst, 0xff, 6);
+    if (request->dst.addr.version == 4)
+        return;
+    memcpy(octets, group, sizeof group);
+    memset(request->ethernet.dst, 0x33, 2);
+    memcpy(request->ethernet.dst + 2, octets + 12, 4);
 }
 
 /* Asks for an address: all hosts, or only the neighbour of which it is. At most once a second (RFC 1122, section
- * 2.3.2.1). */
+ * 2.3.2.1; RFC 4861, section 7.2.2). */
 static void ask(struct router *router, struct neighbour *neighbour)
 {
-    struct interface *interface = &router->interfaces[neighbour->interface];
+    const struct interface *interface = &router->interfaces[neighbour->interface];
     const struct lk_addr *own = own_address(router, neighbour->interface, &neighbour->addr);
-    if (own == NULL || neighbour->addr.version != 4 || router->now - neighbour->asked_at < BETWEEN_REQUESTS)
+    if (router->now - neighbour->asked_at < BETWEEN_REQUESTS)
         return;
     neighbour->asked_at = router->now;
     neighbour->requests++;
+    if (own == NULL)
+        return;
+    uint8_t out[LONGEST_REQUEST];
+    struct lk_ndisc solicitation = {.target = neighbour->addr, .has_hardware = 1};
     struct lk_frame request = {
         .src = {.addr = *own}, .dst = {.addr = neighbour->addr}, .arp = {.operation = ARP_REQUEST}};
-    memcpy(request.ethernet.src, interface->hardware, 6);
-    memcpy(request.arp.src_hardware, interface->hardware, 6);
-    if (neighbour->state == KNOWN)
-        memcpy(request.ethernet.dst, neighbour->hardware, 6);
-    else
-        memset(request.ethernet.dst, 0xff, 6);
-    send_arp(interface, &request);
+    memcpy(request.ethernet.src, interface->own.hardware, 6);
+    memcpy(request.arp.src_hardware, interface->own.hardware, 6);
+    memcpy(solicitation.hardware, interface->own.hardware, 6);
+    memcpy(request.ethernet.dst, neighbour->hardware, 6);
+    if (neighbour->state != KNOWN)
+        ask_all(&request);
+    ptrdiff_t len = own->version == 4 ? lk_emit_arp_frame(&request, out, sizeof out)
+                                      : lk_emit_ndisc_frame(&request, &solicitation, out, sizeof out);
+    if (len > 0)
+        send_own(router, neighbour->interface, out, (size_t)len);
 }
 
-/* Keeps a copy of a frame, and drops the oldest one if there are too many. */
-static void hold(struct router *router, struct neighbour *neighbour, const struct packet *packet)
+/* Keeps a copy of a packet, and drops the oldest one if there are too many. */
+static void hold(struct router *router, struct neighbour *neighbour, const struct packet *packet,
+                 const struct lk_addr *dst, uint16_t from)
 {
     struct neighbours *neighbours = router->neighbours;
     if (neighbour->held == MOST_HELD) {
-        remove_first(neighbours, neighbour);
+        take_first(neighbours, neighbour);
         drop(router, NO_NEIGHBOUR);
     }
     struct held *held = NULL;
@@ -189,9 +221,7 @@ static void hold(struct router *router, struct neighbour *neighbour, const struc
         drop(router, NO_NEIGHBOUR);
         return;
     }
-    held->next = NULL;
-    held->len = packet->len;
-    held->offload = packet->offload;
+    *held = (struct held){.dst = *dst, .from = from, .len = packet->len, .offload = packet->offload};
     memcpy(held->frame, packet->frame, packet->len);
     *neighbour->end = held;
     neighbour->end = &held->next;
@@ -199,30 +229,35 @@ static void hold(struct router *router, struct neighbour *neighbour, const struc
     neighbours->held_octets += held->len;
 }
 
-void send_to_neighbour(struct router *router, uint16_t to, const struct lk_addr *addr, struct packet *packet)
+const uint8_t *hardware_of(struct router *router, uint16_t interface, const struct lk_addr *addr)
+{
+    struct neighbour *neighbour = find(router->neighbours, interface, addr);
+    if (neighbour == NULL || neighbour->state == ASKED)
+        return NULL;
+    if (neighbour->state == KNOWN && router->now - neighbour->confirmed_at >= FRESH_TIME) {
+        if (neighbour->requests >= MOST_REQUESTS && router->now - neighbour->asked_at >= BETWEEN_REQUESTS) {
+            neighbour->state = ASKED;
+            neighbour->requests = 0;
+            return NULL;
+        }
+        if (neighbour->requests < MOST_REQUESTS)
+            ask(router, neighbour);
+    }
+    return neighbour->hardware;
+}
+
+void wait_for_neighbour(struct router *router, uint16_t to, const struct lk_addr *addr, uint16_t from,
+                        const struct packet *packet, const struct lk_addr *dst)
 {
     struct neighbour *neighbour = find(router->neighbours, to, addr);
-    if (neighbour == NULL && addr->version == 4)
+    if (neighbour == NULL)
         neighbour = add(router, to, addr);
     if (neighbour == NULL) {
         drop(router, NO_NEIGHBOUR);
         return;
     }
-    if (neighbour->state == KNOWN && router->now - neighbour->confirmed_at >= FRESH_TIME) {
-        if (neighbour->requests >= MOST_REQUESTS) {
-            neighbour->state = ASKED;
-            neighbour->requests = 0;
-        }
-        ask(router, neighbour);
-    }
-    if (neighbour->state == ASKED) {
-        hold(router, neighbour, packet);
-        ask(router, neighbour);
-        return;
-    }
-    memcpy(packet->frame, neighbour->hardware, 6);
-    router->forwarded++;
-    send_later(&router->interfaces[to], packet);
+    hold(router, neighbour, packet, dst, from);
+    ask(router, neighbour);
 }
 
 void ask_again(struct router *router)
@@ -244,18 +279,20 @@ void ask_again(struct router *router)
 
 /* ---- receiving ---- */
 
-static void learn(struct router *router, struct neighbour *neighbour, const uint8_t *hardware)
+/* An Ethernet address that is not confirmed is used, and asked for again (RFC 4861, section 7.3.2: STALE). */
+static void learn(struct router *router, struct neighbour *neighbour, const uint8_t *hardware, int is_confirmed)
 {
+    int is_known = neighbour->state == KNOWN && memcmp(neighbour->hardware, hardware, 6) == 0;
+    if (is_known && !is_confirmed)
+        return;
     memcpy(neighbour->hardware, hardware, 6);
     neighbour->state = KNOWN;
-    neighbour->confirmed_at = router->now;
+    neighbour->confirmed_at = router->now - (is_confirmed ? 0 : FRESH_TIME);
     neighbour->requests = 0;
     while (neighbour->first != NULL) {
-        struct held *held = neighbour->first;
-        memcpy(held->frame, hardware, 6);
-        send_now(&router->interfaces[neighbour->interface], &held->offload, held->frame, held->len);
-        router->forwarded++;
-        remove_first(router->neighbours, neighbour);
+        struct released *one = take_first(router->neighbours, neighbour);
+        send_on(router, one->from, &one->packet, &one->dst);
+        flush(&router->interfaces[neighbour->interface]);
     }
 }
 
@@ -272,26 +309,53 @@ static const struct address *address_with(const struct router *router, uint16_t 
     return NULL;
 }
 
-void on_arp(struct router *router, uint16_t from, const struct lk_frame *in)
+/* Learns the Ethernet address of one that asks. A host that is not known counts only if it asks for the router. */
+static void hear(struct router *router, uint16_t from, const struct lk_addr *addr, const uint8_t *hardware,
+                 int is_for_us, int is_confirmed)
 {
-    struct interface *interface = &router->interfaces[from];
-    int is_for_us = address_with(router, from, &in->dst.addr, 1) != NULL;
-    struct neighbour *neighbour = find(router->neighbours, from, &in->src.addr);
-    int is_host = (in->arp.src_hardware[0] & 1) == 0 && lk_is_unicast(&in->src.addr)
-                  && address_with(router, from, &in->src.addr, 1) == NULL
-                  && (neighbour != NULL || address_with(router, from, &in->src.addr, 0) != NULL);
-    router->arp++;
+    struct neighbour *neighbour = find(router->neighbours, from, addr);
+    int is_host = (hardware[0] & 1) == 0 && lk_is_unicast(addr) && address_with(router, from, addr, 1) == NULL
+                  && (neighbour != NULL || address_with(router, from, addr, 0) != NULL);
     if (neighbour == NULL && is_for_us && is_host)
-        neighbour = add(router, from, &in->src.addr);
+        neighbour = add(router, from, addr);
     if (neighbour != NULL && neighbour->state != FIXED && is_host)
-        learn(router, neighbour, in->arp.src_hardware);
-    if (!is_for_us || in->arp.operation != ARP_REQUEST || (in->arp.src_hardware[0] & 1))
+        learn(router, neighbour, hardware, is_confirmed);
+}
+
+void on_arp(struct router *router, uint16_t from, const struct lk_frame *in, struct packet *packet)
+{
+    int is_for_us = address_with(router, from, &in->dst.addr, 1) != NULL;
+    router->arp++;
+    hear(router, from, &in->src.addr, in->arp.src_hardware, is_for_us, 1);
+    if (is_for_us)
+        answer(router, from, &in->dst.addr, packet);
+}
+
+/* RFC 4861, section 7.2.5. */
+static void on_advert(struct router *router, uint16_t from, const struct lk_ndisc *advert)
+{
+    struct neighbour *neighbour = find(router->neighbours, from, &advert->target);
+    if (neighbour == NULL || neighbour->state == FIXED || (advert->has_hardware && (advert->hardware[0] & 1)))
         return;
-    struct lk_frame reply = *in;
-    lk_reply(&reply);
-    memcpy(reply.ethernet.dst, in->arp.src_hardware, 6);
-    memcpy(reply.ethernet.src, interface->hardware, 6);
-    memcpy(reply.arp.src_hardware, interface->hardware, 6);
-    reply.arp.operation = ARP_REPLY;
-    send_arp(interface, &reply);
+    const uint8_t *hardware = advert->has_hardware ? advert->hardware : neighbour->hardware;
+    int is_other = memcmp(hardware, neighbour->hardware, 6) != 0;
+    if (neighbour->state == ASKED ? advert->has_hardware : advert->overrides || !is_other)
+        learn(router, neighbour, hardware, advert->is_solicited);
+}
+
+int on_ndisc(struct router *router, uint16_t from, const struct lk_frame *in, struct packet *packet)
+{
+    struct lk_ndisc ndisc;
+    int is_group = in->ethernet.dst[0] & 1;
+    if ((!is_group && memcmp(in->ethernet.dst, router->interfaces[from].own.hardware, 6) != 0)
+        || !lk_read_ndisc(packet->frame, packet->len, &ndisc))
+        return 0;
+    if (ndisc.is_advert) {
+        on_advert(router, from, &ndisc);
+    } else if (address_with(router, from, &ndisc.target, 1) != NULL) {
+        if (ndisc.has_hardware)
+            hear(router, from, &in->src.addr, ndisc.hardware, 1, 0);
+        answer(router, from, &ndisc.target, packet);
+    }
+    return 1;
 }

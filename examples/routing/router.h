@@ -2,6 +2,8 @@
 #ifndef ROUTER_H
 #define ROUTER_H
 
+#include "../error_limit.h"
+
 #include <ip_wire.h>
 #include <linux/virtio_net.h>
 #include <net/if.h>
@@ -23,7 +25,8 @@ struct interface {
     int device;          /* -1: the device is gone */
     unsigned index;      /* of the kernel's interface */
     size_t mtu;          /* in octets */
-    uint8_t hardware[6]; /* its Ethernet address */
+    struct lk_interface own;  /* its Ethernet address, and the addresses from which ICMP errors come */
+    struct error_limit limit; /* for the errors that it sends */
     struct packet *queue[FRAMES_AT_ONCE];
     size_t queued;
     unsigned long received, sent;
@@ -47,10 +50,10 @@ enum drop {
     GROUP,        /* for a group or a broadcast, or its Ethernet address is one */
     LINK_LOCAL,   /* from or for a link-local address */
     RESERVED,     /* for 0.0.0.0/8, 127.0.0.0/8, 240.0.0.0/4, ::, ::1 */
-    FOR_ROUTER,   /* for an address of the router */
+    FOR_ROUTER,   /* for an address of the router, which does not answer */
     NO_WAY,       /* no route */
     TOO_LONG,     /* longer than the MTU of the next link */
-    NO_NEIGHBOUR, /* no reply to ARP, or an IPv6 neighbour that is not in the file */
+    NO_NEIGHBOUR, /* the next hop does not reply to ARP or neighbour solicitations */
     DROPS
 };
 
@@ -68,11 +71,14 @@ struct router {
     struct neighbours *neighbours;
     int64_t now;                  /* in milliseconds */
     int takes_any_way;            /* a packet may come from elsewhere than the route back to its source leads */
-    unsigned long frames, forwarded, arp;
+    unsigned long frames, forwarded, answered, arp, ndisc;
+    unsigned long withheld; /* ICMP errors above the limit */
     unsigned long drops[DROPS], rejections[REJECTIONS];
-    /* Steps of a NAT; null: none. Each returns an lk_rejection. */
-    int (*before_route)(struct router *router, uint16_t from, struct packet *packet, struct lk_addr *dst);
+    /* Steps of a NAT; null: none. Each returns an lk_rejection. `in` is the packet as it was read. */
+    int (*before_route)(struct router *router, uint16_t from, const struct lk_frame *in, struct packet *packet,
+                        struct lk_addr *dst);
     int (*before_send)(struct router *router, uint16_t from, uint16_t to, struct packet *packet);
+    int (*before_error)(struct router *router, uint16_t to, struct packet *error);
 };
 
 /* ---- device.c ---- */
@@ -102,9 +108,14 @@ struct neighbours *make_neighbours(void);
 /* Returns 0 if there is no room. */
 int add_neighbour(struct neighbours *neighbours, uint16_t interface, const struct lk_addr *addr,
                   const uint8_t *hardware);
-/* Sends a frame to a neighbour, now or when it has replied to ARP. */
-void send_to_neighbour(struct router *router, uint16_t to, const struct lk_addr *addr, struct packet *packet);
-void on_arp(struct router *router, uint16_t from, const struct lk_frame *in);
+/* Returns the Ethernet address of a neighbour, or null if it is not known. */
+const uint8_t *hardware_of(struct router *router, uint16_t interface, const struct lk_addr *addr);
+/* Keeps a copy of a packet for `dst` until the neighbour has replied. Then `send_on` gets the packet again. */
+void wait_for_neighbour(struct router *router, uint16_t to, const struct lk_addr *addr, uint16_t from,
+                        const struct packet *packet, const struct lk_addr *dst);
+void on_arp(struct router *router, uint16_t from, const struct lk_frame *in, struct packet *packet);
+/* Takes a neighbour solicitation or advertisement. Returns 0 if the packet is none. */
+int on_ndisc(struct router *router, uint16_t from, const struct lk_frame *in, struct packet *packet);
 /* Repeats requests, and drops packets whose neighbour does not reply. To be called once a second. */
 void ask_again(struct router *router);
 
@@ -115,10 +126,22 @@ int read_config(struct router *router, const char *path);
 
 /* ---- forward.c ---- */
 
-/* Forwards the packet of a frame that came in, or takes an ARP packet. Changes the packet. */
+/* Forwards the packet of a frame that came in, or takes it. Changes the packet. */
 void on_frame(struct router *router, uint16_t from, struct packet *packet);
+/* The rest of the way of a packet, from the choice of a route on. */
+void send_on(struct router *router, uint16_t from, struct packet *packet, const struct lk_addr *dst);
 void drop(struct router *router, enum drop why);
 void print_counts(struct router *router);
+
+/* ---- answer.c ---- */
+
+/* Sends a frame of the router itself, but an ICMP error only within the limit. There must be room for padding. */
+void send_own(struct router *router, uint16_t to, uint8_t *frame, size_t len);
+/* Answers a packet for this address of the router. Returns 0 if it gets no answer. */
+int answer(struct router *router, uint16_t from, const struct lk_addr *own, struct packet *packet);
+/* Tells the sender of a packet why it is dropped, if an ICMP error may be sent about it. The packet is as it came in.
+ * `mtu` is that of the next link, for LK_PACKET_TOO_BIG. */
+void send_error(struct router *router, uint16_t from, enum lk_problem problem, struct packet *packet, size_t mtu);
 
 /* ---- serve.c ---- */
 

@@ -55,7 +55,7 @@ static void print_interfaces(const struct router *router)
     printf("ready\n");
     for (const struct interface *one = router->interfaces; one < router->interfaces + router->interface_count; one++) {
         char hardware[LK_ETHERNET_TEXT];
-        lk_print_ethernet(one->hardware, hardware, sizeof hardware);
+        lk_print_ethernet(one->own.hardware, hardware, sizeof hardware);
         printf("%s: %s, MTU %zu\n", one->name, hardware, one->mtu);
     }
     fflush(stdout);

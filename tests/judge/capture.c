@@ -91,6 +91,34 @@ static void write_transport(const struct lk_frame *frame)
     write_verdict(is_tcp, frame->transport_checksum);
 }
 
+/* The addresses of the packet that an error or a redirect quotes, if its header is there. */
+static void write_quoted(const struct lk_frame *frame)
+{
+    const uint8_t *ptr = made.octets + frame->payload_offset;
+    size_t addr_at = frame->network == LK_IPV4 ? 12 : 8;
+    struct lk_addr addr = {{0}, (uint16_t)(frame->network == LK_IPV4 ? 4 : 6)};
+    int is_error = frame->transport == LK_ICMP && frame->payload_len >= (addr.version == 4 ? 20 : 40) &&
+                   (addr.version == 4 ? memchr("\3\4\5\13\14", frame->icmp.type, 5) != 0
+                                      : frame->icmp.type >= 1 && frame->icmp.type <= 4);
+    for (int i = 0; i < 2; i++) {
+        memcpy(addr.octets, ptr + addr_at + (size_t)i * addr_len(&addr), is_error ? addr_len(&addr) : 0);
+        write_addr(is_error, &addr);
+    }
+}
+
+static void write_icmp(const struct lk_frame *frame)
+{
+    int is_icmp = frame->transport == LK_ICMP && frame->network == LK_IPV4;
+    int is_icmpv6 = frame->transport == LK_ICMP && frame->network == LK_IPV6;
+    write_number(is_icmp, frame->icmp.type);
+    write_number(is_icmp, frame->icmp.code);
+    write_verdict(is_icmp, frame->transport_checksum);
+    write_number(is_icmpv6, frame->icmp.type);
+    write_number(is_icmpv6, frame->icmp.code);
+    write_verdict(is_icmpv6, frame->transport_checksum);
+    write_quoted(frame);
+}
+
 static void write_row(const struct lk_frame *frame)
 {
     int is_arp = frame->network == LK_ARP;
@@ -105,6 +133,7 @@ static void write_row(const struct lk_frame *frame)
     write_addr(is_arp, &frame->dst.addr);
     write_ip(frame);
     write_transport(frame);
+    write_icmp(frame);
     fprintf(rows, "\n");
 }
 
@@ -138,27 +167,44 @@ static void add_frame(FILE *file)
 }
 
 /* Whether tshark dissects just the headers that lk_read_frame reads. It dissects the transport of a first fragment
- * too, and what other protocols carry. It calls a TCP checksum bad that is 0xffff instead of 0, but by RFC 1071 the
- * sum is right. */
+ * too, and what other protocols carry. It calls a TCP or ICMP checksum bad that is 0xffff instead of 0, but by RFC 1071
+ * the sum is right. */
 static int is_comparable(const struct lk_frame *frame)
 {
     if (frame->reason != LK_READ)
         return 0;
     if (frame->transport == LK_TCP)
         return get_word(made.octets + frame->transport_offset + 16) != 0xffff;
+    if (frame->transport == LK_ICMP)
+        return get_word(made.octets + frame->transport_offset + 2) != 0xffff;
     return frame->network == LK_ARP || frame->transport == LK_UDP || frame->ip.fragment_offset != 0;
 }
 
-void write_capture(const char *capture, const char *rows_name, unsigned long count)
+/* Opens both files, and begins the capture. */
+static FILE *open_capture(const char *capture, const char *rows_name)
 {
     FILE *file = fopen(capture, "wb");
-    struct lk_frame frame;
     rows = fopen(rows_name, "w");
     if (!file || !rows) {
         perror("judge: capture");
         exit(2);
     }
     begin_capture(file);
+    return file;
+}
+
+static void close_capture(FILE *file)
+{
+    if (fclose(file) != 0 || fclose(rows) != 0) {
+        perror("judge: capture");
+        exit(2);
+    }
+}
+
+void write_capture(const char *capture, const char *rows_name, unsigned long count)
+{
+    FILE *file = open_capture(capture, rows_name);
+    struct lk_frame frame;
     while (count > 0) {
         make_valid();
         lk_read_frame(made.octets, made.len, &frame);
@@ -168,8 +214,43 @@ void write_capture(const char *capture, const char *rows_name, unsigned long cou
         write_row(&frame);
         count--;
     }
-    if (fclose(file) != 0 || fclose(rows) != 0) {
-        perror("judge: capture");
-        exit(2);
+    close_capture(file);
+}
+
+static int digit(int c)
+{
+    return c >= '0' && c <= '9' ? c - '0' : c >= 'a' && c <= 'f' ? c - 'a' + 10 : -1;
+}
+
+/* Reads a line of hex digits as the frame that was made last. Returns 0 at the end; other lines make no frame. */
+static int read_line(void)
+{
+    int c = getchar(), high;
+    made.len = 0;
+    for (; digit(c) >= 0 && made.len < sizeof made.octets; c = getchar()) {
+        high = digit(c);
+        c = getchar();
+        if (digit(c) < 0)
+            break;
+        made.octets[made.len++] = (uint8_t)(16 * high + digit(c));
     }
+    if (c != '\n')
+        made.len = 0;
+    while (c != '\n' && c != EOF)
+        c = getchar();
+    return c != EOF;
+}
+
+void write_recorded(const char *capture, const char *rows_name)
+{
+    FILE *file = open_capture(capture, rows_name);
+    struct lk_frame frame;
+    while (read_line()) {
+        lk_read_frame(made.octets, made.len, &frame);
+        if (frame.transport != LK_ICMP || !is_comparable(&frame))
+            continue;
+        add_frame(file);
+        write_row(&frame);
+    }
+    close_capture(file);
 }

@@ -216,13 +216,14 @@ void rebuild_frame(void)
 static void answer_one(const struct lk_host *host, const uint8_t *ptr, size_t placed, size_t len, size_t room_len,
                        size_t cap)
 {
-    size_t count = used_len(host->open_port_count);
+    size_t count = used_len(host->open_port_count), udp_count = used_len(host->open_udp_port_count);
     struct lk_host copy = *host, *placed_host;
     uint8_t *frame, *out;
     fill(before, room_len < 300 ? room_len : 300);
     memcpy(wanted_out, before, room_len);
     CALL(lk_answer);
     copy.open_ports = given("open ports", host->open_ports, 2 * count);
+    copy.open_udp_ports = given("open UDP ports", host->open_udp_ports, 2 * udp_count);
     placed_host = given("host", &copy, sizeof copy);
     frame = given("frame", ptr, placed);
     out = room(before, room_len);

@@ -1,4 +1,4 @@
-/* Twenty-eight faults of a library, to test that the judge notices them. Each stands between the judge and the library
+/* Thirty-eight faults of a library, to test that the judge notices them. Each stands between the judge and the library
  * (ld --wrap), and the variable FAULT of the environment chooses it by its number. */
 #include <stdio.h>
 #include <stdlib.h>
@@ -35,6 +35,16 @@ enum fault {
     KEPT_ALIVE_BY_INBOUND,
     FILTERED_BY_REMOTE,
     LIVE_FOR_TOO_LONG,
+    PSEUDO_HEADER_FORGOTTEN,
+    QUOTED_PACKET_TOO_FAR,
+    SHORT_MESSAGE_READ,
+    ANY_HOP_LIMIT_ACCEPTED,
+    FLAGS_IN_A_SOLICITATION,
+    MTU_LEFT_OUT,
+    ERROR_ABOUT_AN_ERROR,
+    ECHO_FOR_A_UDP_MAPPING,
+    ADVERT_NOT_SOLICITED,
+    QUOTED_PACKET_LEFT,
     FAULTS
 };
 
@@ -52,7 +62,11 @@ __attribute__((constructor)) static void choose(void)
         "an IPv6 text that is not the shortest", "the terminating null missing", "stations exchanged",
         "header checksum not updated", "only the lowest octet of a side counts", "the last of equal routes",
         "a reserved source accepted", "a mapping kept alive by what comes in", "packets of other remotes rejected",
-        "a mapping live for a millisecond too long",
+        "a mapping live for a millisecond too long", "an ICMPv6 checksum without pseudo-header",
+        "a quoted packet 4 octets too far", "an ICMP message of 7 octets read",
+        "neighbour discovery with another hop limit accepted", "flags in a neighbour solicitation",
+        "an error without the MTU", "an error about an error", "an echo reply rejected without a UDP mapping",
+        "an advertisement that is not solicited", "the packet in an ICMP error not translated",
     };
     const char *number = getenv("FAULT");
     fault = number ? (enum fault)atoi(number) : NO_FAULT;
@@ -85,6 +99,11 @@ ptrdiff_t __real_lk_index_routes(const struct lk_route *routes, size_t count, st
                                  size_t node_count);
 int __real_lk_check_source(const struct lk_route *routes, size_t route_count, const struct lk_route_node *nodes,
                            size_t count, const struct lk_addr *src, uint16_t interface);
+ptrdiff_t __real_lk_emit_icmp(const struct lk_icmp *header, const struct lk_addr *src, const struct lk_addr *dst,
+                              const uint8_t *ptr, size_t len, int computed, uint8_t *out, size_t cap);
+int __real_lk_read_ndisc(const uint8_t *frame, size_t len, struct lk_ndisc *ndisc);
+ptrdiff_t __real_lk_emit_icmp_error(const struct lk_interface *own, int problem, uint32_t mtu, const uint8_t *frame,
+                                    size_t len, uint8_t *out, size_t cap);
 int __real_lk_translate_in(const struct lk_nat *nat, struct lk_mapping *mappings, size_t count, uint64_t now,
                            uint8_t *frame, size_t len);
 
@@ -116,6 +135,12 @@ static void spoil_frame(struct lk_frame *frame, size_t len)
         frame->reason = LK_HEADER_CUT;
     if (fault == CHECKSUM_CUT_MISSED && frame->transport_checksum == LK_CHECKSUM_CUT)
         frame->transport_checksum = LK_WRONG;
+    if (fault == QUOTED_PACKET_TOO_FAR && frame->transport == LK_ICMP && frame->payload_len >= 4) {
+        frame->payload_offset += 4;
+        frame->payload_len -= 4;
+    }
+    if (fault == SHORT_MESSAGE_READ && frame->ip.protocol == 1 && frame->network == LK_IPV4 && frame->payload_len == 7)
+        frame->transport = LK_ICMP;
 }
 
 int __wrap_lk_read_frame(const uint8_t *ptr, size_t len, struct lk_frame *frame)
@@ -182,6 +207,36 @@ ptrdiff_t __wrap_lk_tcp_header_len(const struct lk_tcp_options *options)
     return __real_lk_tcp_header_len(&four);
 }
 
+ptrdiff_t __wrap_lk_emit_icmp(const struct lk_icmp *header, const struct lk_addr *src, const struct lk_addr *dst,
+                              const uint8_t *ptr, size_t len, int computed, uint8_t *out, size_t cap)
+{
+    ptrdiff_t result = __real_lk_emit_icmp(header, src, dst, ptr, len, computed, out, cap);
+    unsigned sum;
+    if (fault != PSEUDO_HEADER_FORGOTTEN || result < 0 || computed == 0)
+        return result;
+    out[2] = out[3] = 0;
+    sum = 0xffff - lk_checksum(out, (size_t)result);
+    out[2] = (uint8_t)(sum >> 8);
+    out[3] = (uint8_t)sum;
+    return result;
+}
+
+int __wrap_lk_read_ndisc(const uint8_t *frame, size_t len, struct lk_ndisc *ndisc)
+{
+    static uint8_t copy[0x20000];
+    int result;
+    if (fault != ANY_HOP_LIMIT_ACCEPTED || len < 54 || len > sizeof copy)
+        result = __real_lk_read_ndisc(frame, len, ndisc);
+    else {
+        memcpy(copy, frame, len);
+        copy[21] = 255;
+        result = __real_lk_read_ndisc(copy, len, ndisc);
+    }
+    if (fault == FLAGS_IN_A_SOLICITATION && result && !ndisc->is_advert)
+        ndisc->is_solicited = 1;
+    return result;
+}
+
 /* Changes a word of a header and the checksum over it. */
 static void change_word(uint8_t *word, unsigned value, uint8_t *checksum)
 {
@@ -211,10 +266,36 @@ ptrdiff_t __wrap_lk_rebuild(const uint8_t *ptr, size_t len, uint8_t *out, size_t
     return result;
 }
 
+ptrdiff_t __wrap_lk_emit_icmp_error(const struct lk_interface *own, int problem, uint32_t mtu, const uint8_t *frame,
+                                    size_t len, uint8_t *out, size_t cap)
+{
+    static uint8_t copy[0x20000];
+    ptrdiff_t result;
+    if (fault == ERROR_ABOUT_AN_ERROR && len >= 35 && len <= sizeof copy && frame[12] == 8 && frame[14] == 0x45 &&
+        frame[23] == 1) {
+        memcpy(copy, frame, len);
+        copy[34] = 8;
+        return __real_lk_emit_icmp_error(own, problem, mtu, copy, len, out, cap);
+    }
+    result = __real_lk_emit_icmp_error(own, problem, mtu, frame, len, out, cap);
+    if (fault == MTU_LEFT_OUT && result > 0 && problem == LK_PACKET_TOO_BIG) {
+        uint8_t *message = out + (out[12] == 8 ? 34 : 54);
+        change_word(message + 4, 0, message + 2);
+        change_word(message + 6, 0, message + 2);
+    }
+    return result;
+}
+
 ptrdiff_t __wrap_lk_answer(const struct lk_host *host, const uint8_t *ptr, size_t len, uint8_t *out, size_t cap)
 {
     static uint8_t unicast[0x20000];
     ptrdiff_t result;
+    if (fault == ADVERT_NOT_SOLICITED) {
+        result = __real_lk_answer(host, ptr, len, out, cap);
+        if (result == 86 && out[12] == 0x86 && out[20] == 58 && out[54] == 136 && out[58] == 0x60)
+            change_word(out + 58, 0x2000, out + 56);
+        return result;
+    }
     if (fault != ANSWER_TO_MULTICAST || len < 14 || len > sizeof unicast || (ptr[6] & 1) == 0)
         return __real_lk_answer(host, ptr, len, out, cap);
     memcpy(unicast, ptr, len);
@@ -314,15 +395,24 @@ int __wrap_lk_translate_in(const struct lk_nat *nat, struct lk_mapping *mappings
                            uint8_t *frame, size_t len)
 {
     uint64_t time = fault == LIVE_FOR_TOO_LONG && now > 0 ? now - 1 : now;
+    static uint8_t before[0x20000];
     struct lk_mapping *mapping;
     struct lk_frame f;
     int result;
     lk_read_frame(frame, len, &f);
-    mapping = mappings + 2 * (size_t)(f.dst.port - nat->first_port) + (f.transport == LK_TCP);
+    if (f.transport == LK_ICMP)
+        f.dst.port = (uint16_t)(f.icmp.word >> 16);
+    mapping = mappings + 3 * (size_t)(f.dst.port - nat->first_port) + (f.transport == LK_TCP);
+    if (fault == ECHO_FOR_A_UDP_MAPPING && f.transport == LK_ICMP && f.dst.port >= nat->first_port &&
+        mapping < mappings + count && mapping->expires <= now)
+        return LK_NO_MAPPING;
     if (fault == FILTERED_BY_REMOTE && f.dst.port >= nat->first_port && mapping < mappings + count &&
         memcmp(mapping->remote, f.src.addr.octets, 4) != 0 && mapping->expires > now)
         return LK_NO_MAPPING;
+    memcpy(before, frame, len < sizeof before ? len : 0);
     result = __real_lk_translate_in(nat, mappings, count, time, frame, len);
+    if (fault == QUOTED_PACKET_LEFT && result == LK_NOT_REJECTED && f.transport == LK_ICMP && f.icmp.type != 0)
+        memcpy(frame + f.payload_offset, before + f.payload_offset, f.payload_len);
     if (fault == KEPT_ALIVE_BY_INBOUND && result == LK_NOT_REJECTED && f.transport == LK_UDP)
         mapping->expires = now + nat->udp_timeout;
     return result;

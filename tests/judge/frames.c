@@ -52,12 +52,15 @@ unsigned any_port(void)
 
 struct lk_host any_host_for(const struct lk_frame *frame)
 {
-    static uint16_t ports[4];
+    static uint16_t ports[4], udp_ports[4];
     struct lk_host host;
     fill(&host, sizeof host);
     fill(ports, sizeof ports);
+    fill(udp_ports, sizeof udp_ports);
     host.open_ports = ports;
     host.open_port_count = below(5);
+    host.open_udp_ports = udp_ports;
+    host.open_udp_port_count = below(5);
     host.ipv4 = any_addr(one_in(100) ? any_version() : 4);
     host.ipv6 = any_addr(one_in(100) ? any_version() : 6);
     any_hardware(host.hardware);
@@ -73,7 +76,29 @@ struct lk_host any_host_for(const struct lk_frame *frame)
         host.echo_port = frame->dst.port;
     if (!one_in(4))
         ports[below(4)] = frame->dst.port;
+    if (!one_in(3))
+        udp_ports[below(4)] = frame->dst.port;
+    if (made.target != 0 && !one_in(4))
+        memcpy(host.ipv6.octets, made.octets + made.target, 16);
+    if (made.target != 0 && host.ipv6.version == 6 && !one_in(4))
+        memcpy(made.octets + 3, host.ipv6.octets + 13, 3);
     return host;
+}
+
+/* ---- neighbour discovery ---- */
+
+struct lk_ndisc any_ndisc(void)
+{
+    struct lk_ndisc ndisc;
+    fill(&ndisc, sizeof ndisc);
+    ndisc.target = any_addr(one_in(48) ? any_version() : 6);
+    any_hardware(ndisc.hardware);
+    ndisc.has_hardware = (uint8_t)(one_in(2) ? 0 : one_in(2) ? 1 : any());
+    ndisc.is_advert = (uint8_t)(one_in(2) ? 0 : one_in(2) ? 1 : any());
+    ndisc.is_router = (uint8_t)(one_in(2) ? 0 : any());
+    ndisc.is_solicited = (uint8_t)(one_in(2) ? 0 : any());
+    ndisc.overrides = (uint8_t)(one_in(2) ? 0 : any());
+    return ndisc;
 }
 
 /* ---- TCP options ---- */
@@ -161,6 +186,70 @@ static void make_udp(size_t most)
     made.end = at + len + more;
 }
 
+/* The beginning of a packet, as an error quotes it: an IP header, and the first octets of its payload. Returns the
+ * length. */
+static size_t make_quoted(uint8_t *out, int is_ipv6)
+{
+    static const uint8_t protocols[] = {1, 6, 17, 17};
+    struct lk_addr src = any_addr(is_ipv6 ? 6 : 4), dst = any_addr(is_ipv6 ? 6 : 4);
+    struct lk_ip ip = {0};
+    size_t len = below(64), at;
+    ip.hop_limit = 1;
+    fill(out, 128);
+    at = put_ip(&ip, &src, &dst, protocols[below(4)], one_in(4) ? len : 8 + below(1400), 1, out);
+    put_word(out + at, any_port());
+    put_word(out + at + 2, any_port());
+    if (one_in(8) && at == 20)
+        out[0] ^= (uint8_t)(1u << below(8));
+    return at + len;
+}
+
+/* A neighbour solicitation or advertisement, with other options too. */
+static size_t make_ndisc(size_t at)
+{
+    uint8_t *out = made.octets + at;
+    struct lk_ndisc ndisc = any_ndisc();
+    struct lk_addr any_one = any_addr(6);
+    size_t len;
+    ndisc.target = any_addr(6);
+    len = put_ndisc(&ndisc, &any_one, &any_one, out);
+    made.target = at + 8;
+    while (one_in(3)) {
+        size_t units = one_in(12) ? 0 : 1 + below(3);
+        fill(out + len, 8 * units + 2);
+        out[len] = (uint8_t)below(4);
+        out[len + 1] = (uint8_t)units;
+        len += units == 0 ? 2 : 8 * units;
+    }
+    return len;
+}
+
+/* An ICMP message: a query, an error that quotes a packet, neighbour discovery, or any. */
+static void make_icmp(size_t most, int is_ipv6)
+{
+    static const uint8_t echoes[][2] = {{8, 0}, {128, 129}}, errors[][4] = {{3, 11, 12, 5}, {1, 2, 3, 4}};
+    size_t at = made.transport, pick = below(8), len = 8;
+    uint8_t *out = made.octets + at;
+    fill(out, 64);
+    if (pick < 3) {
+        len += any_len(most - at - 8);
+        fill(out, len);
+        out[0] = echoes[is_ipv6][below(2)];
+        out[1] = (uint8_t)(one_in(16) ? any() : 0);
+        put_word(out + 4, any_port());
+    } else if (pick < 5) {
+        len += make_quoted(out + 8, is_ipv6);
+        out[0] = errors[is_ipv6][below(4)];
+        out[1] = (uint8_t)below(5);
+    } else if (pick < 7 && is_ipv6) {
+        len = make_ndisc(at);
+    } else {
+        len += any_len(most - at - 8);
+        fill(out, len);
+    }
+    made.end = at + len;
+}
+
 /* What an IP header at `at` carries. Returns its protocol. */
 static unsigned make_carried(size_t at, int is_ipv6)
 {
@@ -168,13 +257,15 @@ static unsigned make_carried(size_t at, int is_ipv6)
     size_t pick = below(16), most = (is_ipv6 ? at : 14) + 65535, len;
     if (pick < 14) {
         made.transport = at;
-        if (pick < 7)
+        if (pick < 5)
             make_udp(most);
-        else
+        else if (pick < 10)
             make_tcp(most);
+        else
+            make_icmp(most, is_ipv6);
         if (one_in(64))
             made.end = at + below(24); /* too short for its header, or for its length field */
-        return pick < 7 ? 17 : 6;
+        return pick < 5 ? 17 : pick < 10 ? 6 : is_ipv6 ? 58 : 1;
     }
     len = any_len(most - at);
     fill(made.octets + at, len);
@@ -203,6 +294,23 @@ static void make_ipv4(void)
     memcpy(ptr + 16, any_addr(4).octets, 4);
 }
 
+/* Sends a message of neighbour discovery to its target or to the solicited-node group of it, mostly. */
+static void address_ndisc(uint8_t *header)
+{
+    static const uint8_t group[13] = {0xff, 2, 0, 0, 0, 0, 0, 0, 0, 0, 0, 1, 0xff}, station[3] = {0x33, 0x33, 0xff};
+    const uint8_t *target = made.octets + made.target;
+    if (!one_in(16))
+        header[7] = 255;
+    if (one_in(6))
+        memset(header + 8, 0, 16);
+    memcpy(header + 24, target, 16);
+    if (one_in(4))
+        return;
+    memcpy(header + 24, group, 13);
+    memcpy(made.octets, station, 3);
+    memcpy(made.octets + 3, target + 13, 3);
+}
+
 static void make_ipv6(void)
 {
     uint8_t *ptr = made.octets + 14;
@@ -212,6 +320,8 @@ static void make_ipv6(void)
     put_word(ptr + 4, (unsigned)(made.end - 54));
     memcpy(ptr + 8, any_addr(6).octets, 16);
     memcpy(ptr + 24, any_addr(6).octets, 16);
+    if (made.target != 0)
+        address_ndisc(ptr);
 }
 
 static void make_arp(void)
@@ -227,7 +337,7 @@ static void make_arp(void)
 static void make_fields(void)
 {
     size_t pick = below(20);
-    made.transport = 0;
+    made.transport = made.target = 0;
     any_hardware(made.octets);
     any_hardware(made.octets + 6);
     put_word(made.octets + 12, pick < 9 ? 0x0800 : pick < 16 ? 0x86dd : pick < 19 ? 0x0806 : (unsigned)any() & 0xffff);
@@ -276,6 +386,16 @@ static void sum_transport(uint8_t *ptr, unsigned protocol, size_t len, size_t fi
         put_word(ptr + field_at, 0xffff);
 }
 
+/* The checksum of ICMP: right, 0xffff in place of 0, or any. */
+static void sum_icmp(uint8_t *ptr, size_t len, unsigned version)
+{
+    struct lk_addr src = addr_at(version == 4 ? 26 : 22, version), dst = addr_at(version == 4 ? 30 : 38, version);
+    put_word(ptr + 2, 0);
+    put_word(ptr + 2, one_in(12) ? (unsigned)any() & 0xffff : 0xffffu - icmp_sum(&src, &dst, ptr, len));
+    if (one_in(24))
+        put_word(ptr + 2, one_in(2) ? 0xffff : 0);
+}
+
 /* Sums what the fields say, as far as it is there. */
 static void sum_fields(void)
 {
@@ -290,6 +410,8 @@ static void sum_fields(void)
         return;
     if (version == 4 ? ptr[9] == 6 : ptr[6] == 6)
         sum_transport(transport, 6, len, 16, version);
+    else if (version == 4 ? ptr[9] == 1 : ptr[6] == 58)
+        sum_icmp(transport, len, version);
     else if (get_word(transport + 4) >= 8 && get_word(transport + 4) <= len)
         sum_transport(transport, 17, get_word(transport + 4), 6, version);
 }

@@ -4,6 +4,7 @@
  *     judge case SEED NUMBER      runs one case
  *     judge capture FILE ROWS SEED COUNT
  *                                 writes COUNT valid frames, and what the library stores of them
+ *     judge recorded FILE ROWS    writes the ICMP messages among the frames of the standard input, and the same
  *
  * The status is 1 at the first difference or crash, which is printed with the case. */
 #include <stdio.h>
@@ -18,6 +19,7 @@ static void run_case(uint64_t seed, uint64_t number)
     static void (*const cases[])(void) = {
         read_whole, rebuild_frame, answer_frame, emit_frame, wrap_frame, emit_layer, reply_frame, read_options,
         parse_text, print_text, sum_octets, classify_addr, name_number, choose_route, answer_frame, forward_frame,
+        emit_icmp, read_ndisc, emit_error,
     };
     const size_t count = sizeof cases / sizeof *cases;
     begin_case(seed, number);
@@ -56,6 +58,8 @@ int main(int argc, char **argv)
     } else if (argc == 6 && strcmp(argv[1], "capture") == 0) {
         begin_case(strtoull(argv[4], 0, 10), 0);
         write_capture(argv[2], argv[3], strtoul(argv[5], 0, 10));
+    } else if (argc == 4 && strcmp(argv[1], "recorded") == 0) {
+        write_recorded(argv[2], argv[3]);
     } else {
         fprintf(stderr, "usage: judge SECONDS SEED\n");
         return 2;

@@ -55,6 +55,9 @@ struct lk_addr any_addr(unsigned version);
 unsigned any_version(void);
 unsigned any_port(void);
 
+/* A neighbour solicitation or advertisement. */
+struct lk_ndisc any_ndisc(void);
+
 /* A host to which this frame is sent, mostly. */
 struct lk_host any_host_for(const struct lk_frame *frame);
 
@@ -65,7 +68,8 @@ size_t any_tcp_header(uint8_t *out);
 struct made {
     uint8_t octets[MODEL_ROOM];
     size_t len;
-    size_t transport; /* where its UDP or TCP header is; 0: none */
+    size_t transport; /* where its UDP, TCP or ICMP header is; 0: none */
+    size_t target;    /* where the target of neighbour discovery is; 0: none */
     size_t end;       /* where its packet ends */
 };
 extern struct made made;
@@ -77,7 +81,7 @@ void make_valid(void);
 void make_frame(void);
 
 /* ---- cases_read.c, cases_write.c, cases_text.c, cases_sums.c, cases_route.c,
- * cases_nat.c ---- */
+ * cases_nat.c, cases_icmp.c ---- */
 
 void read_whole(void);
 void read_cut(void);
@@ -96,8 +100,14 @@ void name_number(void);
 void forward_frame(void);
 void choose_route(void);
 void translate_frames(void);
+void emit_icmp(void);
+void read_ndisc(void);
+void emit_error(void);
 
 /* Writes a capture of valid frames, and what lk_read_frame stores of each as tshark prints it. */
 void write_capture(const char *capture, const char *rows, unsigned long count);
+
+/* The same for the ICMP messages among recorded frames, lines of hex digits of the standard input. */
+void write_recorded(const char *capture, const char *rows);
 
 #endif

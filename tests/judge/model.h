@@ -27,6 +27,9 @@ int is_in(const struct lk_addr *addr, const char *block);
 uint16_t pseudo_sum(const struct lk_addr *src, const struct lk_addr *dst, unsigned protocol, const uint8_t *ptr,
                     size_t len, size_t summed);
 
+/* The one's complement sum of an ICMP message, over IPv6 with its pseudo-header. */
+uint16_t icmp_sum(const struct lk_addr *src, const struct lk_addr *dst, const uint8_t *ptr, size_t len);
+
 const char *model_failure_name(ptrdiff_t failure);
 const char *model_reason_name(int reason);
 const char *model_rejection_name(int rejection);
@@ -88,10 +91,15 @@ size_t put_tcp(const struct lk_tcp *header, const struct lk_tcp_options *options
                const struct lk_endpoint *src, const struct lk_endpoint *dst, const uint8_t *ptr, size_t len,
                int computed, uint8_t *out);
 
+size_t put_icmp(const struct lk_icmp *header, const struct lk_addr *src, const struct lk_addr *dst, const uint8_t *ptr,
+                size_t len, int computed, uint8_t *out);
+
 ptrdiff_t model_emit_udp_frame(const struct lk_frame *headers, const uint8_t *ptr, size_t len, uint8_t *out,
                                size_t cap);
 ptrdiff_t model_emit_tcp_frame(const struct lk_frame *headers, const struct lk_tcp_options *options,
                                const uint8_t *ptr, size_t len, uint8_t *out, size_t cap);
+ptrdiff_t model_emit_icmp_frame(const struct lk_frame *headers, const uint8_t *ptr, size_t len, uint8_t *out,
+                                size_t cap);
 ptrdiff_t model_wrap_udp_frame(const struct lk_frame *headers, size_t len, uint8_t *out, size_t cap);
 ptrdiff_t model_wrap_tcp_frame(const struct lk_frame *headers, const struct lk_tcp_options *options, size_t len,
                                uint8_t *out, size_t cap);
@@ -108,6 +116,30 @@ ptrdiff_t model_emit_tcp(const struct lk_tcp *header, const struct lk_tcp_option
                          const struct lk_endpoint *src, const struct lk_endpoint *dst, const uint8_t *ptr,
                          size_t len, int computed, uint8_t *out, size_t cap);
 
+ptrdiff_t model_emit_icmp(const struct lk_icmp *header, const struct lk_addr *src, const struct lk_addr *dst,
+                          const uint8_t *ptr, size_t len, int computed, uint8_t *out, size_t cap);
+
+/* ---- model_icmp.c ---- */
+
+int model_read_ndisc(const uint8_t *octets, size_t len, struct lk_ndisc *ndisc);
+ptrdiff_t model_emit_ndisc_frame(const struct lk_frame *headers, const struct lk_ndisc *ndisc, uint8_t *out,
+                                 size_t cap);
+ptrdiff_t model_emit_icmp_error(const struct lk_interface *own, int problem, uint32_t mtu, const uint8_t *octets,
+                                size_t len, uint8_t *out, size_t cap);
+
+/* Writes the message of a value, and returns its length. */
+size_t put_ndisc(const struct lk_ndisc *ndisc, const struct lk_addr *src, const struct lk_addr *dst, uint8_t *out);
+
+/* Writes the frame with an error about another frame, and returns its length; 0 if there may be none. */
+size_t put_icmp_error(const struct lk_interface *own, int problem, uint32_t mtu, const uint8_t *octets, size_t len,
+                      uint8_t *out);
+
+/* Whether one host may have this address. */
+int is_host(const struct lk_addr *addr);
+
+/* Whether packets from this address get an answer of an interface. */
+int is_answered(const struct lk_interface *own, const struct lk_addr *src);
+
 /* ---- model_host.c ---- */
 
 void model_reply(struct lk_frame *frame);
@@ -118,6 +150,13 @@ ptrdiff_t model_answer(const struct lk_host *host, const uint8_t *ptr, size_t le
 
 /* Why NAT rejects a frame. The frame is parsed too. */
 int nat_rejection(const uint8_t *octets, size_t len, struct lk_frame *frame);
+
+/* Update a checksum for another address, and write a port with its checksum. */
+void update_sum(uint8_t *field, int is_udp, const struct lk_addr *before, const struct lk_addr *after);
+void write_port(uint8_t *port_at, uint8_t *field, int is_udp, unsigned port);
+
+/* Computes the checksum of an ICMP message over IPv4 anew. */
+void write_icmp_sum(uint8_t *message, size_t len);
 
 /* Writes an IPv4 address and a port into a frame that NAT does not reject. */
 void write_end(uint8_t *octets, const struct lk_frame *frame, int side, const struct lk_endpoint *end);
@@ -135,7 +174,7 @@ int model_check_source(const struct lk_route *routes, size_t count, const struct
 enum model_phase { MODEL_OPENING, MODEL_ESTABLISHED, MODEL_CLOSING };
 
 struct model_mapping {
-    int is_tcp;
+    int transport; /* an `lk_transport`: an echo identifier counts as a port */
     unsigned port; /* the outside port */
     struct lk_endpoint inside;
     struct lk_endpoint remote;

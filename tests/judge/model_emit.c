@@ -176,6 +176,20 @@ size_t put_tcp(const struct lk_tcp *header, const struct lk_tcp_options *options
     return total;
 }
 
+size_t put_icmp(const struct lk_icmp *header, const struct lk_addr *src, const struct lk_addr *dst, const uint8_t *ptr,
+                size_t len, int computed, uint8_t *out)
+{
+    out[0] = header->type;
+    out[1] = header->code;
+    put_word(out + 2, 0);
+    put_long(out + 4, header->word);
+    if (len != 0)
+        memcpy(out + 8, ptr, len);
+    if (computed)
+        put_word(out + 2, 0xffff - icmp_sum(src, dst, out, 8 + len));
+    return 8 + len;
+}
+
 /* ---- whole frames ---- */
 
 static size_t ip_header_len(const struct lk_frame *headers)
@@ -227,6 +241,20 @@ ptrdiff_t model_emit_tcp_frame(const struct lk_frame *headers, const struct lk_t
         return failure;
     at = put_headers(headers, 6, 20 + options_len(options) + len, out);
     return (ptrdiff_t)(at + put_tcp(&headers->tcp, options, 1, &headers->src, &headers->dst, ptr, len, 1, out + at));
+}
+
+ptrdiff_t model_emit_icmp_frame(const struct lk_frame *headers, const uint8_t *ptr, size_t len, uint8_t *out,
+                                size_t cap)
+{
+    struct failures failures = {{0}};
+    ptrdiff_t failure;
+    size_t at;
+    check_frame(&failures, headers, 8, len);
+    failure = with_room(&failures, 14 + ip_header_len(headers) + 8 + len, cap);
+    if (failure)
+        return failure;
+    at = put_headers(headers, headers->src.addr.version == 4 ? 1 : 58, 8 + len, out);
+    return (ptrdiff_t)(at + put_icmp(&headers->icmp, &headers->src.addr, &headers->dst.addr, ptr, len, 1, out + at));
 }
 
 ptrdiff_t model_wrap_udp_frame(const struct lk_frame *headers, size_t len, uint8_t *out, size_t cap)
@@ -324,4 +352,15 @@ ptrdiff_t model_emit_tcp(const struct lk_tcp *header, const struct lk_tcp_option
     failures.applies[PAYLOAD_TOO_LONG] = len > 65535 || header_len + len > 65535;
     failure = with_room(&failures, header_len + len, cap);
     return failure ? failure : (ptrdiff_t)put_tcp(header, options, 1, src, dst, ptr, len, computed, out);
+}
+
+ptrdiff_t model_emit_icmp(const struct lk_icmp *header, const struct lk_addr *src, const struct lk_addr *dst,
+                          const uint8_t *ptr, size_t len, int computed, uint8_t *out, size_t cap)
+{
+    struct failures failures = {{0}};
+    ptrdiff_t failure;
+    check_addrs(&failures, src, dst);
+    failures.applies[PAYLOAD_TOO_LONG] = len > 65527;
+    failure = with_room(&failures, 8 + len, cap);
+    return failure ? failure : (ptrdiff_t)put_icmp(header, src, dst, ptr, len, computed, out);
 }

@@ -48,9 +48,10 @@ static size_t copy(const uint8_t *ptr, size_t len, uint8_t *out)
     return len;
 }
 
+/* ICMP is the payload of another protocol here. */
 static int has_valid_transport(const struct lk_frame *frame)
 {
-    return frame->transport != LK_NO_TRANSPORT && is_valid(frame->transport_checksum);
+    return (frame->transport == LK_UDP || frame->transport == LK_TCP) && is_valid(frame->transport_checksum);
 }
 
 static void rebuild_flags(struct lk_tcp *tcp)
@@ -143,23 +144,22 @@ static int is_unicast_hardware(const uint8_t *hardware)
     return (hardware[0] & 1) == 0;
 }
 
-/* Whether packets from this address get an answer. */
-static int is_answered(const struct lk_host *host, const struct lk_addr *src)
+static struct lk_interface interface_of(const struct lk_host *host)
 {
-    static const char *const blocks[] = {
-        "0.0.0.0/8", "127.0.0.0/8", "224.0.0.0/4", "240.0.0.0/4", "::/128", "::1/128", "::ffff:0:0/96", "ff00::/8",
-    };
-    for (int i = 0; i < 8; i++)
-        if (is_in(src, blocks[i]))
-            return 0;
-    return !is_same(src, &host->ipv4) && !is_same(src, &host->ipv6);
+    struct lk_interface own;
+    memset(&own, 0, sizeof own);
+    own.ipv4 = host->ipv4;
+    own.ipv6 = host->ipv6;
+    memcpy(own.hardware, host->hardware, 6);
+    return own;
 }
 
 static size_t answer_arp(const struct lk_host *host, struct lk_frame *frame, uint8_t *out)
 {
+    struct lk_interface own = interface_of(host);
     int is_probe = is_in(&frame->src.addr, "0.0.0.0/32");
     if (frame->arp.operation != 1 || !is_same(&frame->dst.addr, &host->ipv4) ||
-        !is_unicast_hardware(frame->arp.src_hardware) || !(is_probe || is_answered(host, &frame->src.addr)))
+        !is_unicast_hardware(frame->arp.src_hardware) || !(is_probe || is_answered(&own, &frame->src.addr)))
         return 0;
     model_reply(frame);
     memcpy(frame->arp.src_hardware, host->hardware, 6);
@@ -171,35 +171,39 @@ static size_t answer_arp(const struct lk_host *host, struct lk_frame *frame, uin
 }
 
 /* Writes the headers before an answer of `len` octets that is in `payload`. */
-static size_t put_answer(const struct lk_frame *reply, unsigned protocol, const uint8_t *payload, size_t len,
-                         uint8_t *out)
+static size_t put_answer(const struct lk_frame *reply, unsigned protocol, int is_ndisc, const uint8_t *payload,
+                         size_t len, uint8_t *out)
 {
     struct lk_ip ip = {0};
     size_t at = put_ethernet(&reply->ethernet, reply->src.addr.version == 4 ? 0x0800 : 0x86dd, out);
-    ip.hop_limit = 64;
+    ip.hop_limit = is_ndisc ? 255 : 64;
     ip.dont_fragment = 1;
     at += put_ip(&ip, &reply->src.addr, &reply->dst.addr, protocol, len, 1, out + at);
     return at + copy(payload, len, out + at);
 }
 
-static size_t answer_udp(const struct lk_host *host, struct lk_frame *frame, const uint8_t *ptr, uint8_t *out)
+static int is_open(const uint16_t *ports, size_t count, unsigned port)
+{
+    for (size_t i = 0; i < used_len(count); i++)
+        if (ports[i] == port)
+            return 1;
+    return 0;
+}
+
+static size_t answer_udp(const struct lk_host *host, struct lk_frame *frame, const uint8_t *ptr, size_t frame_len,
+                         uint8_t *out)
 {
     static uint8_t packet[MODEL_ROOM];
+    struct lk_interface own = interface_of(host);
     size_t len;
-    if (host->echo_port == 0 || frame->dst.port != host->echo_port || frame->src.port == 0 ||
-        frame->src.port == host->echo_port)
+    if (frame->dst.port != host->echo_port &&
+        !is_open(host->open_udp_ports, host->open_udp_port_count, frame->dst.port))
+        return put_icmp_error(&own, LK_PORT_CLOSED, 0, ptr, frame_len, out);
+    if (frame->dst.port != host->echo_port || frame->src.port == 0 || frame->src.port == host->echo_port)
         return 0;
     model_reply(frame);
     len = put_udp(&frame->src, &frame->dst, ptr + frame->payload_offset, frame->payload_len, 1, packet);
-    return put_answer(frame, 17, packet, len, out);
-}
-
-static int is_open(const struct lk_host *host, unsigned port)
-{
-    for (size_t i = 0; i < used_len(host->open_port_count); i++)
-        if (host->open_ports[i] == port)
-            return 1;
-    return 0;
+    return put_answer(frame, 17, 0, packet, len, out);
 }
 
 /* RFC 9293, section 3.10.7.2, third: an open port gets SYN. */
@@ -241,7 +245,7 @@ static size_t answer_tcp(const struct lk_host *host, struct lk_frame *frame, con
     struct lk_tcp_options syn, options = {0};
     uint8_t segment[60];
     size_t len;
-    int is_to_open = is_open(host, frame->dst.port);
+    int is_to_open = is_open(host->open_ports, host->open_port_count, frame->dst.port);
     model_read_tcp_options(ptr + frame->transport_offset, frame->tcp.header_len, &syn);
     if (frame->tcp.flags & LK_RST)
         return 0;
@@ -254,14 +258,67 @@ static size_t answer_tcp(const struct lk_host *host, struct lk_frame *frame, con
     frame->tcp.urgent_at = 0;
     model_reply(frame);
     len = put_tcp(&frame->tcp, &options, 1, &frame->src, &frame->dst, 0, 0, 1, segment);
-    return put_answer(frame, 6, segment, len, out);
+    return put_answer(frame, 6, 0, segment, len, out);
+}
+
+/* An echo request: type 8 over IPv4, 128 over IPv6, and code 0. The reply has type 0 or 129, and the same data. */
+static size_t answer_icmp(struct lk_frame *frame, const uint8_t *ptr, uint8_t *out)
+{
+    static uint8_t message[MODEL_ROOM];
+    int is_ipv4 = frame->network == LK_IPV4;
+    size_t len;
+    if (frame->icmp.type != (is_ipv4 ? 8 : 128) || frame->icmp.code != 0)
+        return 0;
+    frame->icmp.type = is_ipv4 ? 0 : 129;
+    model_reply(frame);
+    len = put_icmp(&frame->icmp, &frame->src.addr, &frame->dst.addr, ptr + frame->payload_offset, frame->payload_len, 1,
+                   message);
+    return put_answer(frame, is_ipv4 ? 1 : 58, 0, message, len, out);
+}
+
+/* RFC 4861, section 7.2.4. The hardware address of a group is 33:33 and its last four octets (RFC 2464, section 7). */
+static size_t answer_solicitation(const struct lk_host *host, struct lk_frame *frame, const uint8_t *ptr,
+                                  size_t frame_len, uint8_t *out)
+{
+    static const uint8_t all_nodes_hardware[6] = {0x33, 0x33, 0, 0, 0, 1};
+    struct lk_interface own = interface_of(host);
+    struct lk_addr group = {{0xff, 2, 0, 0, 0, 0, 0, 0, 0, 0, 0, 1, 0xff}, 6}, all_nodes = {{0xff, 2}, 6};
+    struct lk_ndisc asked, told;
+    uint8_t station[6] = {0x33, 0x33, 0xff}, message[32];
+    int is_probe = is_in(&frame->src.addr, "::/128");
+    memcpy(group.octets + 13, host->ipv6.octets + 13, 3);
+    memcpy(station + 3, group.octets + 13, 3);
+    all_nodes.octets[15] = 1;
+    if (!model_read_ndisc(ptr, frame_len, &asked) || asked.is_advert || !is_same(&asked.target, &host->ipv6) ||
+        !is_host(&host->ipv6) || !is_unicast_hardware(frame->ethernet.src))
+        return 0;
+    if (!(is_same(&frame->dst.addr, &host->ipv6) && memcmp(frame->ethernet.dst, host->hardware, 6) == 0) &&
+        !(is_same(&frame->dst.addr, &group) && memcmp(frame->ethernet.dst, station, 6) == 0))
+        return 0;
+    if (!is_probe && !is_answered(&own, &frame->src.addr))
+        return 0;
+    frame->dst.addr = is_probe ? all_nodes : frame->src.addr;
+    frame->src.addr = host->ipv6;
+    memcpy(station, is_probe ? all_nodes_hardware : asked.has_hardware ? asked.hardware : frame->ethernet.src, 6);
+    memcpy(frame->ethernet.dst, station, 6);
+    memcpy(frame->ethernet.src, host->hardware, 6);
+    if (!is_probe && !is_unicast_hardware(frame->ethernet.dst))
+        return 0;
+    memset(&told, 0, sizeof told);
+    told.target = host->ipv6;
+    told.is_advert = told.has_hardware = told.overrides = 1;
+    told.is_solicited = !is_probe;
+    memcpy(told.hardware, host->hardware, 6);
+    return put_answer(frame, 58, 1, message, put_ndisc(&told, &frame->src.addr, &frame->dst.addr, message), out);
 }
 
 static int is_for(const struct lk_host *host, const struct lk_frame *frame)
 {
+    struct lk_interface own = interface_of(host);
     return memcmp(frame->ethernet.dst, host->hardware, 6) == 0 && is_unicast_hardware(frame->ethernet.src) &&
            (is_same(&frame->dst.addr, &host->ipv4) || is_same(&frame->dst.addr, &host->ipv6)) &&
-           is_answered(host, &frame->src.addr) && frame->ipv4_checksum != LK_WRONG && has_valid_transport(frame);
+           is_answered(&own, &frame->src.addr) && frame->ipv4_checksum != LK_WRONG &&
+           frame->transport != LK_NO_TRANSPORT && is_valid(frame->transport_checksum);
 }
 
 ptrdiff_t model_answer(const struct lk_host *host, const uint8_t *ptr, size_t len, uint8_t *out, size_t cap)
@@ -275,8 +332,12 @@ ptrdiff_t model_answer(const struct lk_host *host, const uint8_t *ptr, size_t le
         return 0;
     if (frame.network == LK_ARP)
         answer_len = answer_arp(host, &frame, answer);
+    else if (frame.network == LK_IPV6 && frame.icmp.type == 135)
+        answer_len = answer_solicitation(host, &frame, ptr, len, answer);
     else if (is_for(host, &frame) && frame.transport == LK_UDP)
-        answer_len = answer_udp(host, &frame, ptr, answer);
+        answer_len = answer_udp(host, &frame, ptr, used_len(len), answer);
+    else if (is_for(host, &frame) && frame.transport == LK_ICMP)
+        answer_len = answer_icmp(&frame, ptr, answer);
     else if (is_for(host, &frame))
         answer_len = answer_tcp(host, &frame, ptr, answer);
     return finish(answer, answer_len, out, cap);

@@ -2,9 +2,9 @@
 #include <string.h>
 #include "model.h"
 
-/* What a packet says: its protocol, its inside and remote endpoint, and the flags of a TCP segment. */
+/* What a packet says: its transport, its inside and remote endpoint, and the flags of a TCP segment. */
 struct packet {
-    int is_tcp;
+    int transport;
     struct lk_endpoint inside;
     struct lk_endpoint remote;
     int has_syn;
@@ -14,8 +14,8 @@ struct packet {
 static struct packet packet_of(const struct lk_frame *frame, const struct lk_endpoint *inside,
                                const struct lk_endpoint *remote)
 {
-    struct packet packet = {frame->transport == LK_TCP, *inside, *remote, 0, 0};
-    if (packet.is_tcp) {
+    struct packet packet = {frame->transport, *inside, *remote, 0, 0};
+    if (packet.transport == LK_TCP) {
         packet.has_syn = (frame->tcp.flags & LK_SYN) != 0;
         packet.has_end = (frame->tcp.flags & (LK_FIN | LK_RST)) != 0;
     }
@@ -37,7 +37,7 @@ static int is_live(const struct model_mapping *mapping, uint64_t now)
 /* The number of outside ports. */
 static size_t port_count(const struct lk_nat *nat, size_t count)
 {
-    size_t ports = used_len(count) / 2;
+    size_t ports = used_len(count) / 3;
     if (nat->first_port == 0)
         return 0;
     return ports < 65536u - nat->first_port ? ports : 65536u - nat->first_port;
@@ -48,18 +48,20 @@ static int is_outside_port(const struct lk_nat *nat, size_t count, unsigned port
     return port >= nat->first_port && port < nat->first_port + port_count(nat, count);
 }
 
-static struct model_mapping *mapping_of_port(struct model_table *table, int is_tcp, unsigned port, uint64_t now)
+static struct model_mapping *mapping_of_port(struct model_table *table, int transport, unsigned port, uint64_t now)
 {
     for (size_t i = 0; i < table->count; i++)
-        if (table->mappings[i].is_tcp == is_tcp && table->mappings[i].port == port && is_live(&table->mappings[i], now))
+        if (table->mappings[i].transport == transport && table->mappings[i].port == port &&
+            is_live(&table->mappings[i], now))
             return &table->mappings[i];
     return 0;
 }
 
-static struct model_mapping *mapping_of_inside(struct model_table *table, const struct packet *packet, uint64_t now)
+static struct model_mapping *mapping_of_inside(struct model_table *table, int transport,
+                                               const struct lk_endpoint *inside, uint64_t now)
 {
     for (size_t i = 0; i < table->count; i++)
-        if (table->mappings[i].is_tcp == packet->is_tcp && is_same(&table->mappings[i].inside, &packet->inside) &&
+        if (table->mappings[i].transport == transport && is_same(&table->mappings[i].inside, inside) &&
             is_live(&table->mappings[i], now))
             return &table->mappings[i];
     return 0;
@@ -75,10 +77,10 @@ static unsigned port_for(const struct lk_nat *nat, struct model_table *table, si
     size_t ports = port_count(nat, count), taken = 0;
     unsigned first = 0;
     if (is_outside_port(nat, count, packet->inside.port) &&
-        !mapping_of_port(table, packet->is_tcp, packet->inside.port, now))
+        !mapping_of_port(table, packet->transport, packet->inside.port, now))
         return packet->inside.port;
     for (size_t i = ports; i-- > 0;)
-        if (mapping_of_port(table, packet->is_tcp, nat->first_port + (unsigned)i, now))
+        if (mapping_of_port(table, packet->transport, nat->first_port + (unsigned)i, now))
             taken++;
         else
             first = nat->first_port + (unsigned)i;
@@ -86,7 +88,9 @@ static unsigned port_for(const struct lk_nat *nat, struct model_table *table, si
         return first;
     if (taken >= 63 && chosen == 0)
         return 0;
-    return is_outside_port(nat, count, chosen) && !mapping_of_port(table, packet->is_tcp, chosen, now) ? chosen : first;
+    if (is_outside_port(nat, count, chosen) && !mapping_of_port(table, packet->transport, chosen, now))
+        return chosen;
+    return first;
 }
 
 /* ---- time-outs ---- */
@@ -107,16 +111,23 @@ static void note_flags(struct model_mapping *mapping, const struct packet *packe
         mapping->phase = MODEL_ESTABLISHED;
 }
 
+static uint64_t timeout_of(const struct lk_nat *nat, const struct model_mapping *mapping)
+{
+    if (mapping->transport == LK_UDP)
+        return nat->udp_timeout;
+    if (mapping->transport == LK_ICMP)
+        return nat->icmp_timeout;
+    return mapping->phase == MODEL_ESTABLISHED ? nat->tcp_timeout : nat->tcp_transitory_timeout;
+}
+
 static void note_outbound(const struct lk_nat *nat, struct model_mapping *mapping, const struct packet *packet,
                           uint64_t now)
 {
     if (!is_same(&mapping->remote, &packet->remote))
         mapping->has_many_remotes = 1;
-    if (packet->is_tcp)
+    if (packet->transport == LK_TCP)
         note_flags(mapping, packet);
-    mapping->expires = later(now, !packet->is_tcp                          ? nat->udp_timeout
-                                  : mapping->phase == MODEL_ESTABLISHED ? nat->tcp_timeout
-                                                                        : nat->tcp_transitory_timeout);
+    mapping->expires = later(now, timeout_of(nat, mapping));
 }
 
 /* Only the end of a connection counts, and it never makes a mapping live longer. */
@@ -131,6 +142,110 @@ static void note_inbound(const struct lk_nat *nat, struct model_mapping *mapping
         mapping->expires = end;
 }
 
+/* ---- ICMP errors (RFC 5508, section 4) ---- */
+
+/* The packet that an error quotes: its transport, the place of its port on this side, and its end there. */
+struct quoted {
+    uint8_t *header;
+    uint8_t *behind;
+    size_t known; /* the octets behind its header */
+    int side;
+    int transport;
+    uint8_t *port_at;
+    struct lk_endpoint end;
+};
+
+/* At least the IPv4 header and 8 octets, no later fragment, and of ICMP an echo message whose identifier the host on
+ * this side chose. */
+static int find_quoted(uint8_t *ptr, size_t len, int side, struct quoted *quoted)
+{
+    size_t header_len = len == 0 ? 0 : 4u * (ptr[0] & 15);
+    if (len == 0 || ptr[0] >> 4 != 4 || header_len < 20 || header_len + 8 > len || (get_word(ptr + 6) & 0x1fff) != 0 ||
+        model_checksum(ptr, header_len) != 0xffff)
+        return 0;
+    quoted->header = ptr;
+    quoted->behind = ptr + header_len;
+    quoted->known = len - header_len;
+    quoted->side = side;
+    quoted->port_at = quoted->behind + (ptr[9] == 1 ? 4 : side == LK_SOURCE ? 0 : 2);
+    quoted->transport = ptr[9] == 1 ? LK_ICMP : ptr[9] == 6 ? LK_TCP : LK_UDP;
+    memset(&quoted->end, 0, sizeof quoted->end);
+    quoted->end.addr.version = 4;
+    memcpy(quoted->end.addr.octets, ptr + (side == LK_SOURCE ? 12 : 16), 4);
+    quoted->end.port = (uint16_t)get_word(quoted->port_at);
+    return ptr[9] == 6 || ptr[9] == 17 || (ptr[9] == 1 && quoted->behind[0] == (side == LK_SOURCE ? 8 : 0));
+}
+
+static int error_rejection(uint8_t *octets, const struct lk_frame *frame, int side, struct quoted *quoted)
+{
+    unsigned type = frame->icmp.type;
+    if (frame->ip.protocol != 1 || (type != 3 && type != 11 && type != 12))
+        return LK_OTHER_PROTOCOL;
+    return find_quoted(octets + frame->payload_offset, frame->payload_len, side, quoted) ? LK_NOT_REJECTED
+                                                                                          : LK_BAD_TRANSPORT;
+}
+
+static void write_quoted(const struct quoted *quoted, const struct lk_endpoint *end)
+{
+    int is_udp = quoted->transport == LK_UDP;
+    uint8_t *field = quoted->behind + (is_udp ? 6 : quoted->transport == LK_TCP ? 16 : 2);
+    if (quoted->transport == LK_TCP && quoted->known < 18) {
+        put_word(quoted->port_at, end->port);
+    } else {
+        if (quoted->transport != LK_ICMP)
+            update_sum(field, is_udp, &quoted->end.addr, &end->addr);
+        write_port(quoted->port_at, field, is_udp, end->port);
+    }
+    memcpy(quoted->header + (quoted->side == LK_SOURCE ? 12 : 16), end->addr.octets, 4);
+    update_sum(quoted->header + 10, 0, &quoted->end.addr, &end->addr);
+}
+
+/* Writes the quoted packet, and the address of the error itself on the other side. */
+static void write_error(uint8_t *octets, const struct lk_frame *frame, const struct quoted *quoted,
+                        const struct lk_endpoint *end)
+{
+    int is_in = quoted->side == LK_SOURCE;
+    write_quoted(quoted, end);
+    write_icmp_sum(octets + frame->transport_offset, 8 + frame->payload_len);
+    memcpy(octets + 14 + (is_in ? 16 : 12), end->addr.octets, 4);
+    update_sum(octets + 24, 0, is_in ? &frame->dst.addr : &frame->src.addr, &end->addr);
+}
+
+static int translate_error_out(const struct lk_nat *nat, struct model_table *table, uint64_t now, uint8_t *octets,
+                               const struct lk_frame *frame)
+{
+    struct lk_endpoint outside = {{{0}, 4}, 0};
+    struct model_mapping *mapping;
+    struct quoted quoted;
+    int rejection = error_rejection(octets, frame, LK_DESTINATION, &quoted);
+    if (rejection != LK_NOT_REJECTED)
+        return rejection;
+    mapping = mapping_of_inside(table, quoted.transport, &quoted.end, now);
+    if (!mapping)
+        return LK_NO_MAPPING;
+    memcpy(outside.addr.octets, nat->outside, 4);
+    outside.port = (uint16_t)mapping->port;
+    write_error(octets, frame, &quoted, &outside);
+    return LK_NOT_REJECTED;
+}
+
+static int translate_error_in(const struct lk_nat *nat, struct model_table *table, size_t count, uint64_t now,
+                              uint8_t *octets, const struct lk_frame *frame)
+{
+    struct model_mapping *mapping = 0;
+    struct quoted quoted;
+    int rejection = error_rejection(octets, frame, LK_SOURCE, &quoted);
+    if (rejection != LK_NOT_REJECTED)
+        return rejection;
+    if (memcmp(frame->dst.addr.octets, nat->outside, 4) == 0 &&
+        memcmp(quoted.end.addr.octets, nat->outside, 4) == 0 && is_outside_port(nat, count, quoted.end.port))
+        mapping = mapping_of_port(table, quoted.transport, quoted.end.port, now);
+    if (!mapping)
+        return LK_NO_MAPPING;
+    write_error(octets, frame, &quoted, &mapping->inside);
+    return LK_NOT_REJECTED;
+}
+
 /* ---- the calls ---- */
 
 /* A new mapping, in place of an expired one. */
@@ -143,7 +258,7 @@ static struct model_mapping *add_mapping(struct model_table *table, const struct
     if (i == table->count)
         table->count++;
     memset(&table->mappings[i], 0, sizeof table->mappings[i]);
-    table->mappings[i].is_tcp = packet->is_tcp;
+    table->mappings[i].transport = packet->transport;
     table->mappings[i].port = port;
     table->mappings[i].inside = packet->inside;
     table->mappings[i].remote = packet->remote;
@@ -158,12 +273,16 @@ int model_translate_out(const struct lk_nat *nat, struct model_table *table, siz
     struct model_mapping *mapping;
     struct packet packet;
     int rejection = nat_rejection(octets, used_len(len), &frame);
+    if (rejection == LK_OTHER_PROTOCOL)
+        return translate_error_out(nat, table, now, octets, &frame);
     if (rejection != LK_NOT_REJECTED)
         return rejection;
-    if (frame.src.port == 0)
+    if (frame.src.port == 0 && frame.transport != LK_ICMP)
         return LK_ZERO_PORT;
+    if (frame.transport == LK_ICMP && frame.icmp.type != 8)
+        return LK_NO_MAPPING;
     packet = packet_of(&frame, &frame.src, &frame.dst);
-    mapping = mapping_of_inside(table, &packet, now);
+    mapping = mapping_of_inside(table, packet.transport, &packet.inside, now);
     outside.port = (uint16_t)(mapping ? mapping->port : port_for(nat, table, count, &packet, now, chosen));
     if (outside.port == 0)
         return LK_NO_FREE_PORT;
@@ -182,10 +301,14 @@ int model_translate_in(const struct lk_nat *nat, struct model_table *table, size
     struct model_mapping *mapping = 0;
     struct packet packet;
     int rejection = nat_rejection(octets, used_len(len), &frame);
+    if (rejection == LK_OTHER_PROTOCOL)
+        return translate_error_in(nat, table, count, now, octets, &frame);
     if (rejection != LK_NOT_REJECTED)
         return rejection;
+    if (frame.transport == LK_ICMP && frame.icmp.type != 0)
+        return LK_NO_MAPPING;
     if (memcmp(frame.dst.addr.octets, nat->outside, 4) == 0 && is_outside_port(nat, count, frame.dst.port))
-        mapping = mapping_of_port(table, frame.transport == LK_TCP, frame.dst.port, now);
+        mapping = mapping_of_port(table, frame.transport, frame.dst.port, now);
     if (!mapping)
         return LK_NO_MAPPING;
     packet = packet_of(&frame, &mapping->inside, &frame.src);

@@ -1,4 +1,5 @@
-/* The model of reading: Ethernet II; ARP, RFC 826; IPv4, RFC 791; IPv6, RFC 8200; UDP, RFC 768; TCP, RFC 9293. */
+/* The model of reading: Ethernet II; ARP, RFC 826; IPv4, RFC 791; IPv6, RFC 8200; ICMP, RFC 792 and RFC 4443; UDP,
+ * RFC 768; TCP, RFC 9293. */
 #include <string.h>
 #include "model.h"
 
@@ -145,8 +146,30 @@ static void read_tcp(const struct capture *capture, struct lk_frame *frame, size
     frame->transport_checksum = (uint8_t)verdict(frame, part, len, 16);
 }
 
+/* No ICMP message is rejected: one of fewer than 8 known octets is payload. */
+static void read_icmp(const struct capture *capture, struct lk_frame *frame, size_t at, size_t len)
+{
+    struct part part = part_at(capture, at, len);
+    if (part.known < 8)
+        return;
+    frame->transport = LK_ICMP;
+    frame->transport_offset = at;
+    frame->icmp.type = part.ptr[0];
+    frame->icmp.code = part.ptr[1];
+    frame->icmp.word = get_long(part.ptr + 4);
+    carries(frame, at + 8, len - 8);
+    if (part.known < len)
+        frame->transport_checksum = LK_CHECKSUM_CUT;
+    else
+        frame->transport_checksum = icmp_sum(&frame->src.addr, &frame->dst.addr, part.ptr, len) == 0xffff
+                                        ? LK_RIGHT
+                                        : LK_WRONG;
+}
+
 static void read_transport(const struct capture *capture, struct lk_frame *frame, size_t at, size_t len)
 {
+    if (frame->ip.protocol == (frame->network == LK_IPV4 ? 1 : 58))
+        read_icmp(capture, frame, at, len);
     if (frame->ip.protocol == 17)
         read_udp(capture, frame, at, len);
     else if (frame->ip.protocol == 6)

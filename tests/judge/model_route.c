@@ -15,6 +15,17 @@ static int network_rejection(const uint8_t *octets, size_t len, struct lk_frame 
     return frame->ipv4_checksum == LK_WRONG ? LK_WRONG_CHECKSUM : LK_NOT_REJECTED;
 }
 
+/* The identifier of an echo message is its port on either side (RFC 5508, section 3.1). */
+static int icmp_rejection(struct lk_frame *frame)
+{
+    if (frame->transport_checksum != LK_RIGHT)
+        return LK_BAD_TRANSPORT;
+    if ((frame->icmp.type != 8 && frame->icmp.type != 0) || frame->icmp.code != 0)
+        return LK_OTHER_PROTOCOL;
+    frame->src.port = frame->dst.port = (uint16_t)(frame->icmp.word >> 16);
+    return LK_NOT_REJECTED;
+}
+
 int nat_rejection(const uint8_t *octets, size_t len, struct lk_frame *frame)
 {
     int rejection = network_rejection(octets, len, frame);
@@ -24,6 +35,8 @@ int nat_rejection(const uint8_t *octets, size_t len, struct lk_frame *frame)
         return rejection;
     if (frame->is_fragment)
         return LK_FRAGMENT;
+    if (frame->ip.protocol == 1)
+        return icmp_rejection(frame);
     if (frame->ip.protocol != 6 && frame->ip.protocol != 17)
         return LK_OTHER_PROTOCOL;
     if (frame->reason != LK_READ || (frame->transport_checksum != LK_RIGHT && frame->transport_checksum != LK_LEFT_OUT))
@@ -58,19 +71,25 @@ int model_forward(uint8_t *octets, size_t len, const uint8_t *src, const uint8_t
 
 /* ---- NAT of one packet ---- */
 
-static void update_sum(uint8_t *field, int is_udp, const struct lk_addr *before, const struct lk_addr *after)
+void update_sum(uint8_t *field, int is_udp, const struct lk_addr *before, const struct lk_addr *after)
 {
     uint16_t sum = (uint16_t)get_word(field);
     put_word(field, is_udp ? model_update_udp_checksum_addr(sum, before, after)
                            : model_update_checksum_addr(sum, before, after));
 }
 
-static void write_port(uint8_t *port_at, uint8_t *field, int is_udp, unsigned port)
+void write_port(uint8_t *port_at, uint8_t *field, int is_udp, unsigned port)
 {
     uint16_t sum = (uint16_t)get_word(field), before = (uint16_t)get_word(port_at);
     put_word(port_at, port);
     put_word(field, is_udp ? model_update_udp_checksum(sum, before, (uint16_t)port)
                            : model_update_checksum(sum, before, (uint16_t)port));
+}
+
+void write_icmp_sum(uint8_t *message, size_t len)
+{
+    put_word(message + 2, 0);
+    put_word(message + 2, 0xffff - model_checksum(message, len));
 }
 
 void write_end(uint8_t *octets, const struct lk_frame *frame, int side, const struct lk_endpoint *end)
@@ -79,8 +98,13 @@ void write_end(uint8_t *octets, const struct lk_frame *frame, int side, const st
     int is_udp = frame->transport == LK_UDP;
     uint8_t *field = transport + (is_udp ? 6 : 16);
     const struct lk_addr *before = side == LK_SOURCE ? &frame->src.addr : &frame->dst.addr;
-    update_sum(field, is_udp, before, &end->addr);
-    write_port(transport + (side == LK_SOURCE ? 0 : 2), field, is_udp, end->port);
+    if (frame->transport == LK_ICMP) {
+        put_word(transport + 4, end->port);
+        write_icmp_sum(transport, 8 + frame->payload_len);
+    } else {
+        update_sum(field, is_udp, before, &end->addr);
+        write_port(transport + (side == LK_SOURCE ? 0 : 2), field, is_udp, end->port);
+    }
     memcpy(header + (side == LK_SOURCE ? 12 : 16), end->addr.octets, 4);
     update_sum(header + 10, 0, before, &end->addr);
 }
@@ -93,7 +117,7 @@ int model_translate(uint8_t *octets, size_t len, int side, const struct lk_endpo
         return LK_NO_IPV4;
     if (rejection != LK_NOT_REJECTED)
         return rejection;
-    if (end->port == 0 && (frame.transport == LK_TCP || side != LK_SOURCE))
+    if (end->port == 0 && frame.transport != LK_ICMP && (frame.transport == LK_TCP || side != LK_SOURCE))
         return LK_ZERO_PORT;
     write_end(octets, &frame, side == LK_SOURCE ? LK_SOURCE : LK_DESTINATION, end);
     return LK_NOT_REJECTED;

@@ -300,7 +300,7 @@ void same_frame(const struct lk_frame *wanted, const struct lk_frame *came)
         FRAME(ip.protocol), FRAME(ip.hop_limit), FRAME(ip.dscp), FRAME(ip.ecn), FRAME(ip.more_fragments),
         FRAME(ip.dont_fragment), FRAME(tcp.seq_number), FRAME(tcp.ack_number), FRAME(tcp.window_len),
         FRAME(tcp.urgent_at), FRAME(tcp.flags), FRAME(tcp.header_len), FRAME(arp.operation),
-        FRAME(arp.src_hardware), FRAME(arp.dst_hardware),
+        FRAME(arp.src_hardware), FRAME(arp.dst_hardware), FRAME(icmp.type), FRAME(icmp.code), FRAME(icmp.word),
     };
     same_fields(fields, sizeof fields / sizeof *fields, wanted, came);
 }

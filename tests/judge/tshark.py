@@ -4,8 +4,10 @@
     tests/judge/tshark.py JUDGE SEED COUNT
 
 The judge writes COUNT frames as a capture, and a row of fields for each. tshark parses the capture, and must print
-the same rows. The status is 77 if there is no tshark.
+the same rows. The same is done with the ICMP messages in the frames of tests/cases, and in those of icmp.hex, which
+Linux sent. The status is 77 if there is no tshark.
 """
+import glob
 import os
 import shutil
 import subprocess
@@ -23,7 +25,10 @@ ipv6.fraghdr.offset ipv6.fraghdr.more ipv6.fraghdr.ident
 udp.srcport udp.dstport udp.length udp.checksum.status
 tcp.srcport tcp.dstport tcp.seq_raw tcp.ack_raw tcp.hdr_len tcp.flags tcp.window_size_value tcp.urgent_pointer tcp.len
 tcp.checksum.status
+icmp.type icmp.code icmp.checksum.status icmpv6.type icmpv6.code icmpv6.checksum.status
 """.split()
+# Behind these, the addresses of the packet that an error quotes.
+QUOTED = ["quoted source", "quoted destination"]
 PREFERENCES = [
     "ip.check_checksum:TRUE", "tcp.check_checksum:TRUE", "udp.check_checksum:TRUE", "ip.defragment:FALSE",
     "ipv6.defragment:FALSE", "tcp.desegment_tcp_streams:FALSE", "tcp.relative_sequence_numbers:FALSE",
@@ -49,13 +54,52 @@ def agree(name, ours, theirs):
     return ours == theirs
 
 
+def second(field):
+    return (field.split(",") + [""])[1]
+
+
 def parsed(capture):
-    """The rows that tshark prints. A field that is there more often, as in a payload, counts once."""
-    command = ["tshark", "-n", "-r", capture, "-T", "fields", "-E", "occurrence=f"]
+    """The rows that tshark prints. A field that is there more often, as in a payload, counts once, but the second
+    addresses are those of a quoted packet."""
+    command = ["tshark", "-n", "-r", capture, "-T", "fields", "-E", "occurrence=a"]
     command += [word for preference in PREFERENCES for word in ("-o", preference)]
     command += [word for field in FIELDS for word in ("-e", field)]
     output = subprocess.run(command, check=True, stdout=subprocess.PIPE, stderr=subprocess.DEVNULL, text=True).stdout
-    return [[normal(field) for field in line.split("\t")] for line in output.splitlines()]
+    for line in output.splitlines():
+        fields = line.split("\t")
+        found = dict(zip(FIELDS, fields, strict=True))
+        quoted = [second(found["ip." + side]) or second(found["ipv6." + side]) for side in ("src", "dst")]
+        yield [*(normal(field.partition(",")[0]) for field in fields), *quoted]
+
+
+def is_compared(name, our, their, is_icmp):
+    """Behind an ICMP header tshark finds the transport header of the quoted packet. It may find no packet in the end of
+    a short message."""
+    if name in QUOTED:
+        return their != ""
+    return not (is_icmp and our == "")
+
+
+def compare(command, what, **arguments):
+    """Whether tshark finds the rows that the judge writes by this command."""
+    with tempfile.TemporaryDirectory() as room:
+        capture, rows = os.path.join(room, "frames.pcap"), os.path.join(room, "rows")
+        subprocess.run([*command[:2], capture, rows, *command[2:]], check=True, **arguments)
+        with open(rows) as file:
+            stored = [line.rstrip("\n").split("\t") for line in file]
+        found = list(parsed(capture))
+    names, quoted = FIELDS + QUOTED, 0
+    for number, (ours, theirs) in enumerate(zip(stored, found, strict=True), 1):
+        row = dict(zip(names, ours, strict=True))
+        is_icmp = row["icmp.type"] + row["icmpv6.type"] != ""
+        quoted += is_icmp and theirs[-1] != ""
+        for name, our, their in zip(names, ours, theirs, strict=True):
+            if is_compared(name, our, their, is_icmp) and not agree(name, our, their):
+                print(f"tests/judge: frame {number} of {what}: {name}: stored {our!r}, tshark finds {their!r}")
+                return False
+    print(f"tests/judge: tshark finds the same {len(FIELDS)} fields in {len(found)} frames of {what}, {quoted} of which quote "
+          "a packet")
+    return len(found) > 0 and quoted > 0
 
 
 def main():
@@ -63,19 +107,11 @@ def main():
     if shutil.which("tshark") is None:
         print("tests/judge: skipped: tshark is missing")
         return 77
-    with tempfile.TemporaryDirectory() as room:
-        capture, rows = os.path.join(room, "frames.pcap"), os.path.join(room, "rows")
-        subprocess.run([judge, "capture", capture, rows, seed, count], check=True)
-        with open(rows) as file:
-            stored = [line.rstrip("\n").split("\t") for line in file]
-        found = parsed(capture)
-    for number, (ours, theirs) in enumerate(zip(stored, found, strict=True), 1):
-        for name, our, their in zip(FIELDS, ours, theirs, strict=True):
-            if not agree(name, our, their):
-                print(f"tests/judge: frame {number} of seed {seed}: {name}: stored {our!r}, tshark finds {their!r}")
-                return 1
-    print(f"tests/judge: tshark finds the same {len(FIELDS)} fields in {len(found)} frames")
-    return 0
+    here = os.path.dirname(os.path.abspath(__file__))
+    recorded = [os.path.join(here, "icmp.hex"), *sorted(glob.glob(os.path.join(here, "../cases/*.hex")))]
+    lines = "".join(open(name, encoding="latin-1").read() for name in recorded)
+    made = compare([judge, "capture", seed, count], "seed " + seed)
+    return 0 if made and compare([judge, "recorded"], "the recorded frames", input=lines, encoding="latin-1") else 1
 
 
 if __name__ == "__main__":

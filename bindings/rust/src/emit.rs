@@ -1,7 +1,7 @@
 //! Writing frames.
 
 use crate::sys::{self, library, Library};
-use crate::{Arp, Error, Ethernet, Headers, Tcp, TcpOptions};
+use crate::{Arp, Error, Ethernet, Headers, Icmp, Tcp, TcpOptions};
 use core::net::IpAddr;
 
 /// Writes by a call that returns the length of what it wrote, or a failure.
@@ -62,6 +62,20 @@ impl Headers {
         // SAFETY: the headers and options are read alone, there are `len` bytes at `ptr` and `cap` bytes at `out`.
         write(out, |c, out, cap| unsafe {
             c.lk_emit_tcp_frame(&fields, &options, payload.as_ptr(), payload.len(), out, cap)
+        })
+    }
+
+    /// Writes a whole frame with an ICMP message. The ports are not used.
+    pub fn emit_icmp<'o>(
+        &self,
+        icmp: &Icmp,
+        payload: &[u8],
+        out: &'o mut [u8],
+    ) -> Result<&'o mut [u8], Error> {
+        let fields = sys::Frame { icmp: (*icmp).into(), ..self.fields() };
+        // SAFETY: the headers are read alone, there are `len` bytes at `ptr` and `cap` bytes at `out`.
+        write(out, |c, out, cap| unsafe {
+            c.lk_emit_icmp_frame(&fields, payload.as_ptr(), payload.len(), out, cap)
         })
     }
 

@@ -98,6 +98,7 @@ numbered! {
     enum Transport {
         Udp: "UDP",
         Tcp: "TCP",
+        Icmp: "ICMP",
     }
 }
 
@@ -107,7 +108,7 @@ numbered! {
 pub enum Defect {
     /// A header was rejected.
     Rejected(Reason),
-    /// The checksum of IPv4, UDP or TCP is wrong.
+    /// The checksum of IPv4, UDP, TCP or ICMP is wrong.
     WrongChecksum,
 }
 

@@ -1,7 +1,7 @@
 //! Parsed frames and packets.
 
 use crate::sys::{self, library, Library};
-use crate::{Arp, Defect, Ethernet, Headers, Ip, Network, Reason, Tcp, TcpOptions, Transport, Verdict};
+use crate::{Arp, Defect, Ethernet, Headers, Icmp, Ip, Network, Reason, Tcp, TcpOptions, Transport, Verdict};
 use core::ffi::c_int;
 use core::net::{IpAddr, SocketAddr};
 
@@ -91,7 +91,7 @@ impl<'a> Frame<'a> {
         Reason::of_number(self.fields.reason.into())
     }
 
-    /// Whether the checksum of IPv4, UDP or TCP is wrong.
+    /// Whether the checksum of IPv4, UDP, TCP or ICMP is wrong.
     pub fn has_wrong_checksum(&self) -> bool {
         [self.ipv4_checksum(), self.transport_checksum()].contains(&Some(Verdict::Wrong))
     }
@@ -101,7 +101,7 @@ impl<'a> Frame<'a> {
         Verdict::of_number(self.fields.ipv4_checksum.into())
     }
 
-    /// The checksum of UDP or TCP. `None`: there is no such header, or a UDP header whose length field does
+    /// The checksum of UDP, TCP or ICMP. `None`: there is no such header, or a UDP header whose length field does
     /// not fit.
     pub fn transport_checksum(&self) -> Option<Verdict> {
         Verdict::of_number(self.fields.transport_checksum.into())
@@ -153,7 +153,7 @@ impl<'a> Frame<'a> {
         self.fields.is_fragment != 0
     }
 
-    /// The protocol of the UDP or TCP header that was read.
+    /// The protocol of the UDP, TCP or ICMP header that was read.
     pub fn transport(&self) -> Option<Transport> {
         Transport::of_number(self.fields.transport.into())
     }
@@ -171,6 +171,11 @@ impl<'a> Frame<'a> {
     /// The TCP header that was rejected, if it is not too short. RFC 9293 needs it for RST.
     pub fn rejected_tcp(&self) -> Option<Tcp> {
         (self.rejected_transport()? == Transport::Tcp).then(|| self.fields.tcp.into())
+    }
+
+    /// The ICMP header that was read.
+    pub fn icmp(&self) -> Option<Icmp> {
+        (self.transport()? == Transport::Icmp).then(|| self.fields.icmp.into())
     }
 
     /// The bytes of the TCP header that was read, with its options: for [`RawOptions::new`].
@@ -192,7 +197,7 @@ impl<'a> Frame<'a> {
         self.network().map(|_| self.fields.network_offset)
     }
 
-    /// Where the UDP or TCP header begins, also a rejected one. `None` if there is none.
+    /// Where the UDP, TCP or ICMP header begins, also a rejected one. `None` if there is none.
     pub fn transport_offset(&self) -> Option<usize> {
         self.transport().or(self.rejected_transport()).map(|_| self.fields.transport_offset)
     }

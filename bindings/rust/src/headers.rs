@@ -83,7 +83,19 @@ impl Default for Ip {
     }
 }
 
-/// The headers of a UDP or TCP packet: with them it is emitted.
+/// The header of an ICMP message (RFC 792; over IPv6 RFC 4443), without its checksum. The payload begins behind it: it is
+/// the data of an echo, or the beginning of the packet that an error is about.
+#[derive(Clone, Copy, Debug, Default, PartialEq, Eq, Hash)]
+pub struct Icmp {
+    /// The type of the message.
+    pub icmp_type: u8,
+    /// The code.
+    pub code: u8,
+    /// Octets 4 to 7: of an echo the identifier and the sequence number, of errors an MTU or a pointer.
+    pub word: u32,
+}
+
+/// The headers of a UDP, TCP or ICMP packet: with them it is emitted.
 #[derive(Clone, Copy, Debug, PartialEq, Eq, Hash)]
 pub struct Headers {
     /// The Ethernet header.
@@ -137,6 +149,18 @@ impl From<Ip> for sys::Ip {
             more_fragments: header.more_fragments.into(),
             dont_fragment: header.dont_fragment.into(),
         }
+    }
+}
+
+impl From<sys::Icmp> for Icmp {
+    fn from(header: sys::Icmp) -> Self {
+        Self { icmp_type: header.r#type, code: header.code, word: header.word }
+    }
+}
+
+impl From<Icmp> for sys::Icmp {
+    fn from(header: Icmp) -> Self {
+        Self { r#type: header.icmp_type, code: header.code, word: header.word }
     }
 }
 

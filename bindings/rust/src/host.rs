@@ -9,6 +9,8 @@ use core::net::{IpAddr, Ipv4Addr, Ipv6Addr};
 pub struct Host<'a> {
     /// The open TCP ports.
     pub open_ports: &'a [u16],
+    /// The UDP ports that the caller serves: what comes to them is not answered.
+    pub open_udp_ports: &'a [u16],
     /// Its IPv4 address.
     pub ipv4: Ipv4Addr,
     /// Its IPv6 address.
@@ -33,12 +35,15 @@ impl Host<'_> {
     /// Writes the answer to an Ethernet frame. `None`: the frame gets no answer. Fails with
     /// [`Error::NoRoom`].
     ///
-    /// It replies to ARP for `ipv4`, echoes UDP, answers SYN to an open port with SYN and ACK, and other segments
-    /// with RST. `ip_wire.h` has the whole table.
+    /// It replies to ARP for `ipv4`, neighbour solicitations for `ipv6` and echo requests, echoes UDP, answers SYN to an
+    /// open port with SYN and ACK, other segments with RST, and UDP to a closed port with an ICMP error. `ip_wire.h` has
+    /// the whole table.
     pub fn answer<'o>(&self, frame: &[u8], out: &'o mut [u8]) -> Result<Option<&'o mut [u8]>, Error> {
         let host = sys::Host {
             open_ports: self.open_ports.as_ptr(),
             open_port_count: self.open_ports.len(),
+            open_udp_ports: self.open_udp_ports.as_ptr(),
+            open_udp_port_count: self.open_udp_ports.len(),
             ipv4: IpAddr::V4(self.ipv4).into(),
             ipv6: IpAddr::V6(self.ipv6).into(),
             hardware: self.hardware.0,

@@ -61,7 +61,7 @@ pub use addr::{is_unicast, parse_addr, parse_endpoint, Block, EthernetAddr, Pars
 pub use emit::rebuild;
 pub use error::{Defect, Error, Network, Reason, Transport, Verdict};
 pub use frame::Frame;
-pub use headers::{Arp, Ethernet, Headers, Ip};
+pub use headers::{Arp, Ethernet, Headers, Icmp, Ip};
 pub use host::Host;
 pub use tcp::{
     RawOption, RawOptions, SackRange, SackRanges, SeqNumber, Tcp, TcpFlags, TcpOptions, Timestamp,

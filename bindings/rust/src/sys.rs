@@ -137,6 +137,13 @@ structs! {
     }
 
     #[derive(Default)]
+    struct Icmp = lk_icmp {
+        word: u32,
+        r#type: u8,
+        code: u8,
+    }
+
+    #[derive(Default)]
     struct TcpOption = lk_tcp_option {
         offset: u8,
         kind: u8,
@@ -162,11 +169,15 @@ structs! {
         is_fragment: u8,
         ipv4_checksum: u8,
         transport_checksum: u8,
+        unused: [u8; 5],
+        icmp: Icmp,
     }
 
     struct Host = lk_host {
         open_ports: *const u16,
         open_port_count: usize,
+        open_udp_ports: *const u16,
+        open_udp_port_count: usize,
         ipv4: Addr,
         ipv6: Addr,
         hardware: [u8; 6],
@@ -206,6 +217,9 @@ calls! {
         headers: *const Frame, options: *const TcpOptions, len: usize, out: *mut u8, cap: usize
     ) -> isize;
     fn lk_tcp_header_len(options: *const TcpOptions) -> isize;
+    fn lk_emit_icmp_frame(
+        headers: *const Frame, ptr: *const u8, len: usize, out: *mut u8, cap: usize
+    ) -> isize;
     fn lk_emit_arp_frame(headers: *const Frame, out: *mut u8, cap: usize) -> isize;
     fn lk_checksum(ptr: *const u8, len: usize) -> u16;
     fn lk_update_checksum(checksum: u16, before: u16, after: u16) -> u16;

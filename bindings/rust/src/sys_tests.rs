@@ -91,7 +91,7 @@ fn declarations_are_those_of_the_header() {
         numbers(Reason::of_number, 8),
         numbers(Verdict::of_number, 5),
         numbers(Network::of_number, 3),
-        numbers(Transport::of_number, 2),
+        numbers(Transport::of_number, 3),
     ];
     let folder = env::temp_dir().join(format!("ip_wire_{}", std::process::id()));
     fs::create_dir_all(&folder).unwrap();

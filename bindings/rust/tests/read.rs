@@ -54,6 +54,26 @@ fn a_tcp_frame_has_its_values() {
 }
 
 #[test]
+fn an_icmp_frame_has_its_values() {
+    for (headers, protocol, icmp_type) in [(ipv4(), 1, 8), (ipv6(), 58, 128)] {
+        let echo = Icmp { icmp_type, code: 0, word: 0x1234_0001 };
+        let mut bytes = headers.emit_icmp(&echo, b"data", &mut [0; 80]).unwrap().to_vec();
+        let frame = Frame::parse(&bytes);
+        assert_eq!(
+            (frame.check(), frame.transport(), frame.icmp()),
+            (Ok(()), Some(Transport::Icmp), Some(echo))
+        );
+        assert_eq!(
+            (frame.payload(), frame.ip().unwrap().protocol, frame.tcp()),
+            (&b"data"[..], protocol, None)
+        );
+        assert_eq!(frame.transport_offset(), Some(frame.payload_offset() - 8));
+        *bytes.last_mut().unwrap() ^= 1;
+        assert_eq!(Frame::parse(&bytes).check(), Err(Defect::WrongChecksum));
+    }
+}
+
+#[test]
 fn a_rejected_header_is_there_in_parts() {
     let mut bytes = tcp(&ipv4(), TcpFlags::SYN, &TcpOptions::default());
     bytes[14 + 20 + 13] |= 1; // FIN

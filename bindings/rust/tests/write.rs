@@ -111,6 +111,7 @@ fn rebuilding_removes_padding() {
 fn host(open_ports: &[u16]) -> Host<'_> {
     Host {
         open_ports,
+        open_udp_ports: &[],
         ipv4: [192, 0, 2, 2].into(),
         ipv6: "2001:db8::2".parse().unwrap(),
         hardware: SERVER.into(),
@@ -141,6 +142,11 @@ fn a_host_answers() {
         let is_open = flags.contains(TcpFlags::SYN);
         assert_eq!(answer.tcp_options().unwrap().max_seg_size, is_open.then_some(1400));
     }
+
+    let closed = headers("192.0.2.1:4000", "192.0.2.2:9").emit_udp(b"", &mut bytes).unwrap();
+    let error = Frame::parse(host.answer(closed, &mut out).unwrap().unwrap());
+    assert_eq!(error.icmp(), Some(Icmp { icmp_type: 3, code: 3, word: 0 }));
+    assert_eq!(Host { open_udp_ports: &[8, 9], ..host }.answer(closed, &mut out), Ok(None));
 
     let arp = Arp {
         operation: Arp::REQUEST,

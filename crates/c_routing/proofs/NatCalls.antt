@@ -36,10 +36,12 @@ no-choice nat now event inside remote port m (kept first) = no-port nat port fir
 no-choice nat now event inside remote port m (made unmapped first) = no-port nat port first.holds.exists
 
 no-way-out : (nat : Nat) (new : List Mapping) (now : ℕ) (before after : List ℕ) → ¬ GoesOut nat [] new now before after
-no-way-out nat new now before after it = no-choice nat now _ _ _ it.port it.opens.mapping it.opens.chosen
+no-way-out nat new now before after (inl it) = no-choice nat now _ _ _ it.port it.opens.mapping it.opens.chosen
+no-way-out nat new now before after (inr e) = no-port nat e.1.port e.1.maps.exists
 
 no-way-in : (nat : Nat) (new : List Mapping) (now : ℕ) (before after : List ℕ) → ¬ ComesIn nat [] new now before after
-no-way-in nat new now before after it = no-port nat it.packet.dst_port it.finds.mapped.exists
+no-way-in nat new now before after (inl it) = no-port nat it.packet.dst_port it.finds.mapped.exists
+no-way-in nat new now before after (inr e) = no-port nat e.1.quoted.end.port e.1.maps.exists
 
 -- ---- frames that are too long
 

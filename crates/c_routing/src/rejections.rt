@@ -22,13 +22,13 @@ pub enum Rejection {
     Expired,
     /// The packet is a fragment.
     Fragment,
-    /// The packet carries neither UDP nor TCP.
+    /// The packet carries neither UDP nor TCP, nor an ICMP message that is translated.
     OtherProtocol,
-    /// The UDP or TCP header does not parse, or its checksum is wrong.
+    /// The UDP or TCP header or the ICMP message does not parse, or its checksum is wrong.
     BadTransport,
     /// The port to be written is 0, and a receiver would reject it.
     ZeroPort,
-    /// No live mapping has this outside address and port.
+    /// No live mapping belongs to the packet, or to the one that an ICMP error quotes.
     NoMapping,
     /// No outside port is free.
     NoFreePort,

@@ -14,7 +14,6 @@ mod FieldsOf
 pub mod Filled
 mod Framed
 mod Headed
-mod HostAnswers
 mod InFrame
 mod Ipv4Words
 mod Ipv6Words

@@ -30,6 +30,7 @@ abbrev pub transport_code : TransportKind → ℕ
 transport_code transport.None = 0
 transport_code transport.Udp = 1
 transport_code transport.Tcp = 2
+transport_code transport.Icmp = 3
 
 abbrev pub verdict_code : Verdict → ℕ
 verdict_code verdict.None = 0

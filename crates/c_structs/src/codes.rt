@@ -53,6 +53,7 @@ pub enum TransportKind {
     None,
     Udp,
     Tcp,
+    Icmp,
 }
 
 impl TransportKind {

@@ -80,9 +80,9 @@ impl Block {
     }
 }
 
-// Why two addresses are not of one version.
+/// Why two addresses are not of one version.
 #[inline(always)]
-fn pair_failure(src: &Addr, dst: &Addr) -> Option<Failure>
+pub fn pair_failure(src: &Addr, dst: &Addr) -> Option<Failure>
     ensures { result ≡ pair_failure src.now dst.now }
 {
     if !(src.has_version() && dst.has_version()) {
@@ -106,9 +106,9 @@ pub fn arp_failure(src: &Addr, dst: &Addr) -> Option<Failure>
     }
 }
 
-// The longest payload that the length field of this version can say.
+/// The longest payload that the length field of this version can say.
 #[inline(always)]
-fn most_payload(version: u16) -> usize
+pub fn most_payload(version: u16) -> usize
     ensures { result ≡ most_payload version }
 {
     if version == 4 {
@@ -229,8 +229,8 @@ impl Tcp {
 }
 
 impl FrameFields {
-    // Why there can be no frame with a packet, by whether its ports are right, and whatever its length is.
-    fn failure(&self, has_ports: bool) -> Option<Failure>
+    /// Why there can be no frame with a packet, by whether its ports are right, and whatever its length is.
+    pub fn failure(&self, has_ports: bool) -> Option<Failure>
         ensures { result ≡ frame_failure self.now has_ports }
     {
         let failure = pair_failure(&self.src.addr, &self.dst.addr);

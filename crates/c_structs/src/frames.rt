@@ -9,7 +9,6 @@ ghost use Rattle.c_structs.specs.Written.{Fills};
 
 use crate::types::{Arp, Ethernet, FrameFields, Ip, TcpOptions};
 use crate::udp;
-use ip_replies::HOP_LIMIT;
 use ip_wire::{
     ETHERNET_HEADER_LEN, EthernetAddress, EthernetFrameMut, EthernetProtocol, EthernetRepr, IpRepr,
     UDP_HEADER_LEN, UDP_MAX_PAYLOAD_LEN, UdpRepr,
@@ -20,6 +19,9 @@ use wire_field::write_at;
 const TCP: u8 = 6;
 
 const UDP: u8 = 17;
+
+// The hop limit of a reply.
+const HOP_LIMIT: u8 = 64;
 
 // EtherTypes.
 const IPV4: u16 = 0x0800;
@@ -126,10 +128,10 @@ impl FrameFields {
         self.ip = self.ip.of_reply();
     }
 
-    // The values of the IP header before a packet of this protocol, with a source of this version.
-    // `None` if it cannot be written or says that the packet is a fragment.
+    /// The values of the IP header before a packet of this protocol, with a source of this version.
+    /// `None` if it cannot be written or says that the packet is a fragment.
     #[inline(always)]
-    fn ip_header(&self, version: u16, protocol: u8, len: usize) -> Option<IpRepr>
+    pub fn ip_header(&self, version: u16, protocol: u8, len: usize) -> Option<IpRepr>
         requires { version ≡ self.now.src.addr.version }
         ensures value { result ≡ ip_header self.now protocol len }
         ensures len { IfSome result (λ v. length (headers_bytes self.now v) ≡ 14 + header_len_of v) }
@@ -140,17 +142,17 @@ impl FrameFields {
         self.ip.is_whole().then_some(value)
     }
 
-    // The length of the Ethernet header and this IP header, in octets.
+    /// The length of the Ethernet header and this IP header, in octets.
     #[inline(always)]
-    fn headers_len(&self, ip_header: &IpRepr) -> usize
+    pub fn headers_len(&self, ip_header: &IpRepr) -> usize
         ensures { result ≡ 14 + header_len_of ip_header.now }
     {
         ETHERNET_HEADER_LEN + ip_header.header_len()
     }
 
-    // Writes the Ethernet header and the IP header to the front of `out`.
+    /// Writes the Ethernet header and the IP header into `out`.
     #[inline(always)]
-    fn emit_headers(&self, ip_header: &IpRepr, out: &mut [u8])
+    pub fn emit_headers(&self, ip_header: &IpRepr, out: &mut [u8])
         requires expressible { is_expressible self.now.ip ip_header.now ≡ true }
         requires room { length out.old ≡ 14 + header_len_of ip_header.now }
         ensures { out.new ≡ headers_bytes self.now ip_header.now }

@@ -12,7 +12,6 @@ mod failures;
 mod faults;
 mod frame_fields;
 mod frames;
-mod host;
 mod ip;
 pub mod laws;
 mod rebuild;
@@ -29,11 +28,14 @@ mod verdicts;
 
 pub use addresses::{print_address, print_block};
 pub use checksums::{address_sum, update_udp};
+pub use codes::{NetworkKind, TransportKind, Verdict};
 pub use emit::{emit_tcp, emit_udp};
-pub use failures::{Failure, arp_failure, rebuild_failure, udp_failure};
+pub use failures::{
+    Failure, arp_failure, most_payload, pair_failure, rebuild_failure, udp_failure,
+};
 pub use rebuild::rebuild_frame;
 pub use results::{MAX_LEN, failed, is_set, print, usable, within};
 pub use types::{
-    Addr, Arp, Block, Endpoint, Ethernet, FrameFields, HostFields, Ip, SackRange, Tcp,
-    TcpOptionPlace, TcpOptions,
+    Addr, Arp, Block, Endpoint, Ethernet, FrameFields, Ip, SackRange, Tcp, TcpOptionPlace,
+    TcpOptions,
 };

@@ -121,13 +121,14 @@ pub struct TcpOptionPlace {
     pub len: u8,
 }
 
-/// `struct lk_frame`: the values of a frame, and where its headers and its payload are.
+/// The fields of `struct lk_frame` before those of ICMP: the values of a frame, and where its headers and its payload
+/// are.
 #[repr(C)]
 #[derive(Clone, Copy)]
 pub struct FrameFields {
     /// Of the ARP or IP header, from the first octet of the frame.
     pub network_offset: usize,
-    /// Of the UDP or TCP header.
+    /// Of the UDP, TCP or ICMP header.
     pub transport_offset: usize,
     pub payload_offset: usize,
     pub payload_len: usize,
@@ -141,34 +142,11 @@ pub struct FrameFields {
     pub reason: u8,
     /// 1 for ARP, 2 for IPv4, 3 for IPv6.
     pub network: u8,
-    /// 1 for UDP, 2 for TCP.
+    /// 1 for UDP, 2 for TCP, 3 for ICMP.
     pub transport: u8,
     /// The same of a rejected header whose fields are stored.
     pub rejected: u8,
     pub is_fragment: u8,
     pub ipv4_checksum: u8,
     pub transport_checksum: u8,
-}
-
-/// `struct lk_host`: a host with one interface and no connections.
-#[repr(C)]
-#[derive(Clone, Copy)]
-pub struct HostFields<'a> {
-    /// The open TCP ports.
-    pub open_ports: &'a [u16],
-    /// Of version 4.
-    pub ipv4: Addr,
-    /// Of version 6.
-    pub ipv6: Addr,
-    pub hardware: [u8; 6],
-    /// The UDP port of the echo service; 0 for no service.
-    pub echo_port: u16,
-    /// Of the SYN that an open port sends.
-    pub seq_number: u32,
-    /// Of its timestamp.
-    pub tsval: u32,
-    pub window_len: u16,
-    pub max_seg_size: u16,
-    /// At most 14 is sent.
-    pub window_scale: u8,
 }

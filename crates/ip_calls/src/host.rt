@@ -14,10 +14,12 @@ pub fn answer(alloc: Global, operands: &mut Operands<'_>) -> Result<String, Allo
     let name = operands.word();
     let interface = interface(operands);
     let echo_port = operands.number();
+    let open_udp_ports = operands.numbers(alloc)?;
     let open_ports = operands.numbers(alloc)?;
     let host = Host {
         interface,
         echo_port,
+        open_udp_ports: open_udp_ports.as_slice(),
         open_ports: open_ports.as_slice(),
         offer: offer(operands),
     };

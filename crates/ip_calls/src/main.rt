@@ -29,10 +29,10 @@
 //!   IPv6, `scope=` and the scope: `interface-local`, `link-local`, `admin-local`, `site-local`,
 //!   `organization-local`, `global` or `unknown`.
 //! - `sum OCTETS`: their Internet checksum, before its complement.
-//! - `host NAME LINK IPV4 IPV6 ECHO PORTS SEQ WIN MSS WS CLOCK ROOM FRAME`: NAME, and the octets of the
-//!   reply of a host to FRAME, or `-` if it writes none into a buffer of ROOM octets. LINK, IPV4 and
-//!   IPV6 are its addresses, ECHO is its UDP echo port, and PORTS are its open TCP ports, joined by
-//!   commas. The other operands are what these ports offer.
+//! - `host NAME LINK IPV4 IPV6 ECHO UDP PORTS SEQ WIN MSS WS CLOCK ROOM FRAME`: NAME, and the octets of
+//!   the reply of a host to FRAME, or `-` if it writes none into a buffer of ROOM octets. LINK, IPV4 and
+//!   IPV6 are its addresses, ECHO is its UDP echo port, UDP and PORTS are its other UDP ports and its open
+//!   TCP ports, joined by commas. The other operands are what the TCP ports offer.
 //! - `eth TEXT`, `ip TEXT`, `cidr4 TEXT`, `cidr6 TEXT`, `cidr TEXT` and `endpoint TEXT`: `ok` and the
 //!   printed text of the parsed value, or `err`. The value is an Ethernet address, an IP address, a block of
 //!   IPv4, of IPv6 or of either, or an endpoint. TEXT is everything after the first space.

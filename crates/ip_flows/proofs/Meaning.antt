@@ -11,7 +11,7 @@ use Rattle.ip_flows.specs.declared.mapping.Mapping.{Mapping}
 use Rattle.ip_flows.specs.declared.nat.Nat.{Nat}
 use Rattle.ip_flows.specs.declared.state.Event.{Event}
 use Rattle.ip_flows.specs.declared.state.Protocol.{Protocol}
-use Rattle.ip_flows.specs.declared.state.Protocol.TheVariants.{Udp, Tcp}
+use Rattle.ip_flows.specs.declared.state.Protocol.TheVariants.{Udp, Tcp, Icmp}
 use Rattle.ip_flows.specs.declared.state.TcpState.{TcpState}
 use Rattle.ip_flows.specs.declared.state.TcpState.TheVariants.{Opening, Established, Closing}
 
@@ -49,6 +49,7 @@ shortest nat Udp s = omega arith
 shortest nat Tcp Opening = omega arith
 shortest nat Tcp Established = omega arith
 shortest nat Tcp Closing = omega arith
+shortest nat Icmp s = omega arith
 
 -- ---- the opened port
 

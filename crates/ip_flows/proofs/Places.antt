@@ -8,36 +8,42 @@ use Rattle.ip_flows.specs.declared.mapping.Ipv4Endpoint.{Ipv4Endpoint}
 use Rattle.ip_flows.specs.declared.mapping.Mapping.{Mapping}
 use Rattle.ip_flows.specs.declared.nat.Nat.{Nat}
 use Rattle.ip_flows.specs.declared.state.Protocol.{Protocol}
-use Rattle.ip_flows.specs.declared.state.Protocol.TheVariants.{Udp, Tcp}
+use Rattle.ip_flows.specs.declared.state.Protocol.TheVariants.{Udp, Tcp, Icmp}
 
 -- ---- bounds
 
 pub record IsWithin (nat : Nat) (len port : ℕ) : Type 0 where
   pub some : nat.first_port ≢ 0
   pub fits : port ≤ 65535
-  pub exists : 2 * (port - nat.first_port) + 1 < len
+  pub exists : 3 * (port - nat.first_port) + 2 < len
 
 pub within : (nat : Nat) (len port : ℕ) → HasPort nat len port → IsWithin nat len port
 within nat len port h = elim (cases_eq nat.first_port 0) [
   | inl none ↦
-      let e : ports nat len ≡ 0 = cond-true (nat.first_port == 0) 0 (min (len / 2) (65536 - nat.first_port)) (eq-eqb nat.first_port 0 none) in
+      let e : ports nat len ≡ 0 = cond-true (nat.first_port == 0) 0 (min (len / 3) (65536 - nat.first_port)) (eq-eqb nat.first_port 0 none) in
       absurd (omega (arith, h.least, h.most, e))
   | inr some ↦
-      let e : ports nat len ≡ min (len / 2) (65536 - nat.first_port) = cond-false (nat.first_port == 0) 0 (min (len / 2) (65536 - nat.first_port)) (ne_eqb nat.first_port 0 some) in
+      let e : ports nat len ≡ min (len / 3) (65536 - nat.first_port) = cond-false (nat.first_port == 0) 0 (min (len / 3) (65536 - nat.first_port)) (ne_eqb nat.first_port 0 some) in
       record { some = some; fits = omega (arith, h.least, h.most, e); exists = omega (arith, h.least, h.most, e) }
 ]
 
 pub place-lt : (nat : Nat) (len : ℕ) (protocol : Protocol) (port : ℕ) → HasPort nat len port → place_of nat protocol port < len
 place-lt nat len Udp port h = let w = within nat len port h in omega (arith, w.exists)
 place-lt nat len Tcp port h = let w = within nat len port h in omega (arith, w.exists)
+place-lt nat len Icmp port h = let w = within nat len port h in omega (arith, w.exists)
 
 -- ---- apart
 
 pub place-apart : (nat : Nat) (a b : Protocol) (p q : ℕ) → nat.first_port ≤ p → nat.first_port ≤ q → place_of nat a p ≡ place_of nat b q → (a ≡ b) × (p ≡ q)
 place-apart nat Udp Udp p q low least e = (refl, omega arith)
 place-apart nat Tcp Tcp p q low least e = (refl, omega arith)
+place-apart nat Icmp Icmp p q low least e = (refl, omega arith)
 place-apart nat Udp Tcp p q low least e = absurd (omega arith)
+place-apart nat Udp Icmp p q low least e = absurd (omega arith)
 place-apart nat Tcp Udp p q low least e = absurd (omega arith)
+place-apart nat Tcp Icmp p q low least e = absurd (omega arith)
+place-apart nat Icmp Udp p q low least e = absurd (omega arith)
+place-apart nat Icmp Tcp p q low least e = absurd (omega arith)
 
 -- ---- a write
 

@@ -1,4 +1,5 @@
--- The state of a TCP connection as a NAT sees it, and the time-outs (RFC 4787, section 4.3; RFC 5382, section 5).
+-- The state of a TCP connection as a NAT sees it, and the time-outs (RFC 4787, section 4.3; RFC 5382, section 5;
+-- RFC 5508, section 3.2).
 use Rattle.std.specs.Prelude.{ℕ, ◌==◌, min, Bool, true, false, if◌then◌else◌}
 use Rattle.ip_flows.specs.declared.nat.Nat.{Nat}
 use Rattle.ip_flows.specs.declared.state.Event.{Event}
@@ -13,6 +14,7 @@ use Rattle.ip_wire.specs.declared.TcpControl.TheVariants.{None, Psh, Syn, Fin, R
 abbrev pub protocol_of : Event → Protocol
 protocol_of event.Udp = protocol.Udp
 protocol_of (event.Tcp control) = protocol.Tcp
+protocol_of event.Icmp = protocol.Icmp
 
 -- whether it is a TCP segment with FIN or RST
 abbrev pub ends_connection : Event → Bool
@@ -22,6 +24,7 @@ ends_connection (event.Tcp None) = false
 ends_connection (event.Tcp Psh) = false
 ends_connection (event.Tcp Syn) = false
 ends_connection event.Udp = false
+ends_connection event.Icmp = false
 
 -- the state that a byte stands for, and the byte of a state
 abbrev pub state_of : ℕ → TcpState
@@ -36,6 +39,7 @@ byte_of Closing = 2
 -- the end of one connection does not change the state
 abbrev pub next_state : Bool → TcpState → Event → TcpState
 next_state shared state event.Udp = state
+next_state shared state event.Icmp = state
 next_state false state (event.Tcp Syn) = Opening
 next_state false Closing (event.Tcp None) = Closing
 next_state false Closing (event.Tcp Psh) = Closing
@@ -56,8 +60,10 @@ timeout_of nat protocol.Udp state = nat.udp_timeout
 timeout_of nat protocol.Tcp Established = nat.tcp_timeout
 timeout_of nat protocol.Tcp Opening = nat.tcp_transitory_timeout
 timeout_of nat protocol.Tcp Closing = nat.tcp_transitory_timeout
+timeout_of nat protocol.Icmp state = nat.icmp_timeout
 
 -- the shortest time-out of a protocol
 abbrev pub shortest_timeout : Nat → Protocol → ℕ
 shortest_timeout nat protocol.Udp = nat.udp_timeout
 shortest_timeout nat protocol.Tcp = min nat.tcp_timeout nat.tcp_transitory_timeout
+shortest_timeout nat protocol.Icmp = nat.icmp_timeout

@@ -10,14 +10,14 @@ use Rattle.ip_flows.specs.declared.mapping.Mapping.{Mapping}
 use Rattle.ip_flows.specs.declared.nat.Nat.{Nat}
 use Rattle.ip_flows.specs.declared.state.Event.{Event}
 use Rattle.ip_flows.specs.declared.state.Protocol.{Protocol}
-use Rattle.ip_flows.specs.declared.state.Protocol.TheVariants.{Udp, Tcp}
+use Rattle.ip_flows.specs.declared.state.Protocol.TheVariants.{Udp, Tcp, Icmp}
 use Rattle.ip_flows.specs.declared.choice.Choice.{Choice}
 
 -- ---- ports
 
 -- how many outside ports there are, in a table with this many mappings
 abbrev pub ports : Nat → ℕ → ℕ
-ports nat len = if nat.first_port == 0 then 0 else min (len / 2) (65536 - nat.first_port)
+ports nat len = if nat.first_port == 0 then 0 else min (len / 3) (65536 - nat.first_port)
 
 -- this is an outside port
 pub record HasPort (nat : Nat) (len port : ℕ) : Type 0 where
@@ -26,8 +26,9 @@ pub record HasPort (nat : Nat) (len port : ℕ) : Type 0 where
 
 -- the place of a port's mapping
 abbrev pub place_of : Nat → Protocol → ℕ → ℕ
-place_of nat Udp port = 2 * (port - nat.first_port)
-place_of nat Tcp port = 2 * (port - nat.first_port) + 1
+place_of nat Udp port = 3 * (port - nat.first_port)
+place_of nat Tcp port = 3 * (port - nat.first_port) + 1
+place_of nat Icmp port = 3 * (port - nat.first_port) + 2
 
 -- a mapping that is not live
 abbrev pub free_mapping : Mapping

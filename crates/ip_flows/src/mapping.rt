@@ -7,7 +7,7 @@ use crate::nat::Nat;
 use crate::state::{Event, Protocol, TcpState};
 use ip_wire::Ipv4Address;
 
-/// An IPv4 address and a port of UDP or TCP.
+/// An IPv4 address, and a port of UDP or TCP or the identifier of an ICMP echo message.
 #[derive(Debug, Clone, Copy, PartialEq, Eq)]
 pub struct Ipv4Endpoint {
     pub addr: Ipv4Address,

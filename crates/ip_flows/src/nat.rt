@@ -18,6 +18,9 @@ pub const TCP_TIMEOUT: u64 = 7_440_000;
 /// The usual time-out of a TCP connection that opens or closes: 4 minutes (RFC 5382, REQ-5).
 pub const TCP_TRANSITORY_TIMEOUT: u64 = 240_000;
 
+/// The usual time-out of ICMP: 60 seconds (RFC 5508, REQ-2).
+pub const ICMP_TIMEOUT: u64 = 60_000;
+
 // The candidates of an endpoint, without its own port.
 const RUN_LEN: usize = 63;
 
@@ -36,6 +39,9 @@ pub struct Nat {
     /// The same of a TCP mapping whose connection opens or closes. RFC 5382, REQ-5: at least 4
     /// minutes.
     pub tcp_transitory_timeout: u64,
+    /// How long an ICMP mapping lives after the last echo request of its inside host. RFC 5508, REQ-2:
+    /// at least 60 seconds.
+    pub icmp_timeout: u64,
     /// The outside IPv4 address.
     pub outside: [u8; 4],
     /// The first of the outside ports. 0: there is no outside port.
@@ -51,6 +57,7 @@ impl Nat {
           udp_timeout = 300000;
           tcp_timeout = 7440000;
           tcp_transitory_timeout = 240000;
+          icmp_timeout = 60000;
           outside = outside;
           first_port = first_port;
           unused = 0;
@@ -61,6 +68,7 @@ impl Nat {
             udp_timeout: UDP_TIMEOUT,
             tcp_timeout: TCP_TIMEOUT,
             tcp_transitory_timeout: TCP_TRANSITORY_TIMEOUT,
+            icmp_timeout: ICMP_TIMEOUT,
             outside: outside.octets(),
             first_port,
             unused: 0,
@@ -77,6 +85,7 @@ impl Nat {
                 TcpState::Established => self.tcp_timeout,
                 TcpState::Opening | TcpState::Closing => self.tcp_transitory_timeout,
             },
+            Protocol::Icmp => self.icmp_timeout,
         }
     }
 
@@ -87,7 +96,7 @@ impl Nat {
         if self.first_port == 0 {
             0
         } else {
-            (mappings.len() / 2).min(65536 - usize::from(self.first_port))
+            (mappings.len() / 3).min(65536 - usize::from(self.first_port))
         }
     }
 
@@ -97,10 +106,11 @@ impl Nat {
         requires high { port ≤ 65535 }
         ensures { result ≡ place_of self.now protocol port }
     {
-        let pair = 2 * (port - usize::from(self.first_port));
+        let first = 3 * (port - usize::from(self.first_port));
         match protocol {
-            Protocol::Udp => pair,
-            Protocol::Tcp => pair + 1,
+            Protocol::Udp => first,
+            Protocol::Tcp => first + 1,
+            Protocol::Icmp => first + 2,
         }
     }
 

@@ -5,11 +5,13 @@ ghost use Rattle.ip_flows.specs.State.{byte_of, ends_connection, next_state, pro
 
 use ip_wire::TcpControl;
 
-/// A protocol whose ports a NAT translates. Each has its own mappings.
+/// A protocol whose ports a NAT translates. Each has its own mappings. The identifier of an ICMP echo
+/// message counts as a port (RFC 5508, section 3.1).
 #[derive(Debug, Clone, Copy, PartialEq, Eq)]
 pub enum Protocol {
     Udp,
     Tcp,
+    Icmp,
 }
 
 /// What a NAT sees of a packet: its protocol, and the flags of a TCP segment.
@@ -17,6 +19,7 @@ pub enum Protocol {
 pub enum Event {
     Udp,
     Tcp(TcpControl),
+    Icmp,
 }
 
 impl Event {
@@ -27,6 +30,7 @@ impl Event {
         match self {
             Event::Udp => Protocol::Udp,
             Event::Tcp(_) => Protocol::Tcp,
+            Event::Icmp => Protocol::Icmp,
         }
     }
 

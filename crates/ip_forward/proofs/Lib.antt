@@ -1,2 +1,3 @@
 pub mod Forwards
 mod ForwardOnce
+pub mod Problems

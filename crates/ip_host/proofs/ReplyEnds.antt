@@ -1,16 +1,18 @@
 -- Chains of replies end.
 use Rattle.std.proofs.Common.{ℕ, ◌≡◌, ◌∙◌, ◌⊎◌, inl, inr, [], List, Option, Some, None, refl, sym, ap, subst}
-use Rattle.ip_host.specs.Host.{Answers, IsReply, IsReset}
+use Rattle.ip_host.specs.Host.{Answers, IsFinal, IsFrameReply, IsMessageReply, IsPortUnreachable, IsReply}
 use Rattle.ip_host.specs.declared.host.Host.{Host}
+use Rattle.ip_replies.proofs.MessageEnds.{IsErrorCarried, IsSilent, advert-silent, echo-silent, error-silent, silent-echo, silent-neighbour, unreachable-error}
 use Rattle.ip_replies.specs.TcpReply.{Replies, back, closed_by, listen_by, reset_by, reset_for, syn_ack}
 use Rattle.ip_replies.specs.declared.tcp_reply.Offer.{Offer}
 use Rattle.ip_wire.proofs.ReadsOnce.{frame-once}
-use Rattle.ip_wire.specs.Frame.{Carried, IsReadWhole, all_checked, packet, segment}
+use Rattle.ip_wire.specs.Frame.{Carried, IsReadWhole, all_checked, other, packet, segment}
 use Rattle.ip_wire.specs.TcpRepr.{TcpHeader}
 use Rattle.ip_wire.specs.Types.{EthernetRepr, IpRepr}
 use Rattle.ip_wire.specs.declared.TcpControl.{TcpControl}
 use Rattle.ip_wire.specs.declared.TcpControl.TheVariants as control
 use Rattle.ip_wire.specs.declared.TcpSeqNumber.{TcpSeqNumber}
+use Rattle.wire_icmp.specs.declared.Unreachable.TheVariants as unreachable
 
 -- ---- segments
 
@@ -72,18 +74,48 @@ resets ports offer asked len reply (inr (ack, is)) (inr (lacks, e)) = closed_res
 abbrev CarriesReset : Carried → Type 0
 CarriesReset c = (ip : IpRepr) × (tcp : TcpHeader) × (payload : List ℕ) × (c ≡ packet ip (segment tcp payload)) × (tcp.control ≡ control.Rst)
 
--- it has no reply
-unanswered : (host : Host) (asked_header header : EthernetRepr) (asked c : Carried) → CarriesReset asked → ¬ IsReply host asked_header asked header c
-unanswered host asked_header header asked c (ip, tcp, payload, carries, is) (inl e) = absurd (let asks = e.asks in cc)
-unanswered host asked_header header asked c (ip, tcp, payload, carries, is) (inr (inl e)) = absurd (let asks = e.asks in cc)
-unanswered host asked_header header asked c (ip, tcp, payload, carries, is) (inr (inr e)) =
+-- a frame with an ICMP error, or with a RST
+abbrev IsFinalCarried : Carried → Type 0
+IsFinalCarried c = CarriesReset c ⊎ IsErrorCarried c
+
+-- what is neither an echo request nor a solicitation, in a packet of another protocol than UDP and TCP, has no reply
+silent_unanswered : (host : Host) (bytes : List ℕ) (asked_header header : EthernetRepr) (asked c : Carried) → IsSilent asked → ¬ IsReply host bytes asked_header asked header c
+silent_unanswered host bytes asked_header header asked c (v, m, is, not, types) (inl (inl e)) = absurd (let asks = e.asks in cc)
+silent_unanswered host bytes asked_header header asked c (v, m, is, not, types) (inl (inr (inl e))) = absurd (let asks = e.asks in cc)
+silent_unanswered host bytes asked_header header asked c (v, m, is, not, types) (inl (inr (inr e))) = absurd (let asks = e.asks in cc)
+silent_unanswered host bytes asked_header header asked c silent (inr (inl e)) = silent-echo host.interface asked_header header asked c silent e
+silent_unanswered host bytes asked_header header asked c silent (inr (inr (inl e))) = silent-neighbour host.interface asked_header header asked c silent e
+silent_unanswered host bytes asked_header header asked c (v, m, is, not, types) (inr (inr (inr e))) = absurd (let asks = e.asks in cc)
+
+reset_silent : (host : Host) (bytes : List ℕ) (asked_header header : EthernetRepr) (asked c : Carried) → CarriesReset asked → ¬ IsReply host bytes asked_header asked header c
+reset_silent host bytes asked_header header asked c (ip, tcp, payload, carries, is) (inl (inl e)) = absurd (let asks = e.asks in cc)
+reset_silent host bytes asked_header header asked c (ip, tcp, payload, carries, is) (inl (inr (inl e))) = absurd (let asks = e.asks in cc)
+reset_silent host bytes asked_header header asked c (ip, tcp, payload, carries, is) (inl (inr (inr e))) =
     let asks = e.asks in
     let same : tcp ≡ e.tcp = cc in
     reset_ends host.open_ports.now host.offer e.tcp _ e.reply (ap (λ (t : TcpHeader). t.control) (sym same) ∙ is) e.replies
+reset_silent host bytes asked_header header asked c (ip, tcp, payload, carries, is) (inr (inl e)) = absurd (let asks = e.asks in cc)
+reset_silent host bytes asked_header header asked c (ip, tcp, payload, carries, is) (inr (inr (inl e))) = absurd (let asks = e.asks in cc)
+reset_silent host bytes asked_header header asked c (ip, tcp, payload, carries, is) (inr (inr (inr e))) = absurd (let asks = e.asks in cc)
 
--- the reply to a reply is a frame with a RST
+unanswered : (host : Host) (bytes : List ℕ) (asked_header header : EthernetRepr) (asked c : Carried) → IsFinalCarried asked → ¬ IsReply host bytes asked_header asked header c
+unanswered host bytes asked_header header asked c (inl reset) r = reset_silent host bytes asked_header header asked c reset r
+unanswered host bytes asked_header header asked c (inr error) r = silent_unanswered host bytes asked_header header asked c (error-silent asked error) r
+
+-- an error about a closed port
+port_error : (host : Host) (bytes : List ℕ) (asked_header header : EthernetRepr) (asked c : Carried) → IsPortUnreachable host bytes asked_header asked header c → IsErrorCarried c
+port_error host bytes asked_header header asked c e =
+    let (v, t) = e.tells in subst IsErrorCarried (sym t.tells) (unreachable-error host.interface v unreachable.Port _)
+
+-- a reply with a message has no reply
+message_silent : (host : Host) (bytes : List ℕ) (asked_header header : EthernetRepr) (asked c : Carried) → IsMessageReply host bytes asked_header asked header c → IsSilent c
+message_silent host bytes asked_header header asked c (inl e) = subst IsSilent (sym e.replies) (echo-silent e.ip e.ident e.seq_no e.payload)
+message_silent host bytes asked_header header asked c (inr (inl e)) = subst IsSilent (sym e.tells) (advert-silent host.interface e.dst e.solicited)
+message_silent host bytes asked_header header asked c (inr (inr e)) = error-silent c (port_error host bytes asked_header header asked c e)
+
+-- the reply of the older kinds to a reply of these is a RST
 reply_resets : (first second : Host) (asked_header header back_header other_header : EthernetRepr) (asked c d : Carried) → first.echo_port ≡ second.echo_port
-    → IsReply first asked_header asked header c → IsReply second back_header c other_header d → CarriesReset d
+    → IsFrameReply first asked_header asked header c → IsFrameReply second back_header c other_header d → CarriesReset d
 reply_resets first second _ _ _ _ asked c d port (inl e) (inl g) =
     absurd (let carries = e.carries in let tells = e.replies.tells in let asks = g.asks in let request = g.replies.asks in cc)
 reply_resets first second _ _ _ _ asked c d port (inl e) (inr (inl g)) = absurd (let carries = e.carries in let asks = g.asks in cc)
@@ -105,21 +137,50 @@ reply_resets first second _ _ _ _ asked c d port (inr (inr e)) (inr (inr g)) =
     let settled = subst IsSettled same (settles first.open_ports.now first.offer e.tcp _ e.reply e.replies) in
     (_, g.reply, [], g.carries, resets second.open_ports.now second.offer g.tcp _ g.reply settled g.replies)
 
+-- the error about a reply, which is the echo of a UDP packet
+reply_errors : (first second : Host) (bytes : List ℕ) (asked_header header back_header other_header : EthernetRepr) (asked c d : Carried)
+    → IsFrameReply first asked_header asked header c → IsMessageReply second bytes back_header c other_header d → IsErrorCarried d
+reply_errors first second bytes _ _ _ _ asked c d (inl e) (inl g) = absurd (let carries = e.carries in let asks = g.asks in cc)
+reply_errors first second bytes _ _ _ _ asked c d (inl e) (inr (inl g)) = absurd (let carries = e.carries in let asks = g.asks in cc)
+reply_errors first second bytes _ _ _ _ asked c d (inr (inl e)) (inl g) = absurd (let carries = e.echoes in let asks = g.asks in cc)
+reply_errors first second bytes _ _ _ _ asked c d (inr (inl e)) (inr (inl g)) = absurd (let carries = e.echoes in let asks = g.asks in cc)
+reply_errors first second bytes _ _ _ _ asked c d (inr (inr e)) (inl g) = absurd (let carries = e.carries in let asks = g.asks in cc)
+reply_errors first second bytes _ _ _ _ asked c d (inr (inr e)) (inr (inl g)) = absurd (let carries = e.carries in let asks = g.asks in cc)
+reply_errors first second bytes _ _ back_header other_header asked c d e (inr (inr g)) = port_error second bytes back_header other_header c d g
+
+reply_finishes : (first second : Host) (f g : List ℕ) (asked_header header back_header other_header : EthernetRepr) (asked c d : Carried) → first.echo_port ≡ second.echo_port
+    → IsReply first f asked_header asked header c → IsReply second g back_header c other_header d → IsFinalCarried d
+reply_finishes first second f g asked_header header back_header other_header asked c d port (inl e) (inl r) =
+    inl (reply_resets first second asked_header header back_header other_header asked c d port e r)
+reply_finishes first second f g asked_header header back_header other_header asked c d port (inl e) (inr r) =
+    inr (reply_errors first second g asked_header header back_header other_header asked c d e r)
+reply_finishes first second f g asked_header header back_header other_header asked c d port (inr e) r =
+    absurd (silent_unanswered second g back_header other_header c d (message_silent first f asked_header header asked c e) r)
+
 -- ---- bytes
 
--- a reply to a reply is a RST, if both hosts have the same echo port
-pub answer_resets : (first second : Host) (f g h : List ℕ) → first.echo_port ≡ second.echo_port → Answers first f g → Answers second g h → IsReset h
-answer_resets first second f g h port a b =
+as_final : (h : List ℕ) (header : EthernetRepr) (carried : Carried) → IsReadWhole h header carried → IsFinalCarried carried → IsFinal h
+as_final h header carried reads (inl (ip, tcp, payload, carries, is)) =
+    inl (record { header = header; ip = ip; tcp = tcp; payload = payload; reads = subst (λ c. IsReadWhole h header c) carries reads; reset = is })
+as_final h header carried reads (inr (ip, message, carries, protocol, error)) =
+    inr (record { header = header; ip = ip; message = message; reads = subst (λ c. IsReadWhole h header c) carries reads; protocol = protocol; error = error })
+
+-- a reply to a reply is a RST or an ICMP error, if both hosts have the same echo port
+pub answer_finishes : (first second : Host) (f g h : List ℕ) → first.echo_port ≡ second.echo_port → Answers first f g → Answers second g h → IsFinal h
+answer_finishes first second f g h port a b =
     let (asked_header, asked, reads_f, replies) = a.replies in
     let (back_header, back, reads_g, replies_back) = b.replies in
     let once = frame-once all_checked g back_header a.header back a.carried reads_g a.reads in
-    let (ip, tcp, payload, carries, is) = reply_resets first second asked_header a.header back_header b.header asked a.carried b.carried port replies
-    (subst (λ c. IsReply second back_header c b.header b.carried) once.1 replies_back) in
-    record { header = b.header; ip = ip; tcp = tcp; payload = payload; reads = subst (λ c. IsReadWhole h b.header c) carries b.reads; reset = is }
+    as_final h b.header b.carried b.reads
+    (reply_finishes first second f g asked_header a.header back_header b.header asked a.carried b.carried port replies (subst (λ c. IsReply second g back_header c b.header b.carried) once.1 replies_back))
 
--- no host replies to a RST
-pub reset_unanswered : (third : Host) (h k : List ℕ) → IsReset h → ¬ Answers third h k
-reset_unanswered third h k r a =
+-- no host replies to those
+pub final_unanswered : (third : Host) (h k : List ℕ) → IsFinal h → ¬ Answers third h k
+final_unanswered third h k (inl r) a =
     let (asked_header, asked, reads, replies) = a.replies in
     let once = frame-once all_checked h r.header asked_header (packet r.ip (segment r.tcp r.payload)) asked r.reads reads in
-    unanswered third asked_header a.header asked a.carried (r.ip, r.tcp, r.payload, sym once.1, r.reset) replies
+    unanswered third h asked_header a.header asked a.carried (inl (r.ip, r.tcp, r.payload, sym once.1, r.reset)) replies
+final_unanswered third h k (inr r) a =
+    let (asked_header, asked, reads, replies) = a.replies in
+    let once = frame-once all_checked h r.header asked_header (packet r.ip (other r.message)) asked r.reads reads in
+    unanswered third h asked_header a.header asked a.carried (inr (r.ip, r.message, sym once.1, r.protocol, r.error)) replies

@@ -14,14 +14,16 @@ use Rattle.ip_flows.specs.declared.Ipv4Endpoint.{Ipv4Endpoint}
 use Rattle.ip_flows.specs.declared.Mapping.{Mapping}
 use Rattle.ip_flows.specs.declared.Nat.{Nat}
 use Rattle.ip_flows.specs.declared.Protocol.{Protocol}
-use Rattle.ip_wire.specs.Frame.{Transport, datagram, other, segment}
+use Rattle.ip_flows.specs.declared.Protocol.TheVariants.{Icmp}
 use Rattle.ip_wire.specs.Types.{Ipv4Repr}
 use Rattle.ip_nat.proofs.NatOnce.{carries-unrejected, header-of-one, transport-of-one}
-use Rattle.ip_nat.specs.Flows.{ComesIn, GoesOut, IsAnswer, IsKeptOutside, IsLive, Passes, bounces, destination_of, event_by, event_of, flow_protocol, passes_in, passes_none, passes_out, source_of}
-use Rattle.ip_nat.specs.Nat.{HasPorts, IsPacket, IsTranslated, control_of, port_of, with_addr, with_port}
+use Rattle.ip_nat.specs.Flows.{AnswerReaches, ComesIn, GoesOut, PacketGoesOut, IsAnswer, IsKeptOutside, IsLive, Passes, bounces, destination_of, event_by, event_of, flow_protocol, passes_in, passes_none, passes_out, source_of}
+use Rattle.ip_nat.specs.Nat.{IsPacket, IsTranslated, Transport, datagram, kind_of, port_of, reply, request, segment, with_addr, with_port}
 use Rattle.ip_nat.specs.declared.nat.Rejection.{Rejection}
-use Rattle.ip_nat.specs.declared.nat.Rejection.TheVariants.{ZeroPort, NoMapping}
+use Rattle.ip_nat.specs.declared.nat.Rejection.TheVariants.{OtherProtocol, BadTransport, ZeroPort, NoMapping}
 use Rattle.ip_nat.specs.declared.nat.Side.TheVariants.{Source, Destination}
+use Rattle.ip_nat.specs.declared.packet.Kind.{Kind}
+use Rattle.ip_nat.specs.declared.packet.Kind.TheVariants as kind
 use Rattle.ip_nat.specs.declared.packet.Packet.{Packet}
 
 -- ---- one mapping
@@ -100,24 +102,26 @@ packet-once frame p q a b =
     let transport = transport-of-one frame a.link b.link p.header q.header a.transport b.transport a.carries b.carries in
     let src : p.src_port ≡ q.src_port = a.described.src_port ∙ ap (port_of Source) transport ∙ sym b.described.src_port in
     let dst : p.dst_port ≡ q.dst_port = a.described.dst_port ∙ ap (port_of Destination) transport ∙ sym b.described.dst_port in
-    let control : p.control ≡ q.control = a.described.control ∙ ap control_of transport ∙ sym b.described.control in
-    λ i. record { header = header i; src_port = src i; dst_port = dst i; control = control i }
+    let kind : p.kind ≡ q.kind = a.described.kind ∙ ap kind_of transport ∙ sym b.described.kind in
+    λ i. record { header = header i; src_port = src i; dst_port = dst i; kind = kind i }
 
-written-port : (port : ℕ) (t : Transport) → HasPorts t → port_of Source (with_port Source port t) ≡ port
-written-port port (datagram v payload) h = refl
-written-port port (segment v payload) h = refl
-written-port port (other payload) h = absurd h
+written-port : (port : ℕ) (t : Transport) → port_of Source (with_port Source port t) ≡ port
+written-port port (datagram v payload) = refl
+written-port port (segment v payload) = refl
+written-port port (request ident seq_no payload) = refl
+written-port port (reply ident seq_no payload) = refl
 
-written-control : (port : ℕ) (t : Transport) → control_of (with_port Source port t) ≡ control_of t
-written-control port (datagram v payload) = refl
-written-control port (segment v payload) = refl
-written-control port (other payload) = refl
+written-kind : (port : ℕ) (t : Transport) → kind_of (with_port Source port t) ≡ kind_of t
+written-kind port (datagram v payload) = refl
+written-kind port (segment v payload) = refl
+written-kind port (request ident seq_no payload) = refl
+written-kind port (reply ident seq_no payload) = refl
 
 -- the packet of a frame after its source was translated
 record IsSent (outside : List ℕ) (new_port : ℕ) (p sent : Packet) : Type 0 where
   addr : sent.header.src_addr ≡ outside
   port : sent.src_port ≡ new_port
-  control : sent.control ≡ p.control
+  kind : sent.kind ≡ p.kind
 
 sent-as : (before after : List ℕ) (p sent : Packet) (addr : List ℕ) (port : ℕ) → IsPacket before p → IsPacket after sent → IsTranslated before after Source addr port → IsSent addr port p sent
 sent-as before after p sent addr port a b t =
@@ -126,18 +130,27 @@ sent-as before after p sent addr port a b t =
     let old = transport-of-one before t.link a.link t.header p.header t.transport a.transport t.before a.carries in
     record {
       addr = ap (λ (v : Ipv4Repr). v.src_addr) header;
-      port = b.described.src_port ∙ ap (port_of Source) new ∙ written-port port t.transport t.before.ports;
-      control = b.described.control ∙ ap control_of new ∙ written-control port t.transport ∙ ap control_of old ∙ sym a.described.control;
+      port = b.described.src_port ∙ ap (port_of Source) new ∙ written-port port t.transport;
+      kind = b.described.kind ∙ ap kind_of new ∙ written-kind port t.transport ∙ ap kind_of old ∙ sym a.described.kind;
     }
 
 -- ---- the answer
+
+-- an answer can come to a UDP or TCP packet only if its port is not 0
+pub answered-port : (k : Kind) (port : ℕ) → AnswerReaches k port → protocol_of (event_by k) ≢ Icmp → port ≢ 0
+answered-port kind.Udp port some no_echo = some
+answered-port (kind.Tcp control) port some no_echo = some
+answered-port kind.EchoRequest port some no_echo = absurd (no_echo refl)
+answered-port kind.EchoReply port none no_echo = absurd none
 
 -- what the table says of the source of an answered packet
 record IsHeld (nat : Nat) (mappings : List Mapping) (now : ℕ) (reply : Packet) (inside : Ipv4Endpoint) : Type 0 where
   outside : reply.header.dst_addr ≡ nat.outside
   mapped : MapsTo nat mappings now (flow_protocol reply) reply.dst_port inside
+  no_request : reply.kind ≢ kind.EchoRequest
+  some : flow_protocol reply ≢ Icmp → inside.port ≢ 0
 
-held : (nat : Nat) (old new later : List Mapping) (out now : ℕ) (before after answer : List ℕ) (g : GoesOut nat old new out before after) (a : IsAnswer nat new later now after answer)
+held : (nat : Nat) (old new later : List Mapping) (out now : ℕ) (before after answer : List ℕ) (g : PacketGoesOut nat old new out before after) (a : IsAnswer nat new later now after answer)
     → IsHeld nat later now a.reply (source_of g.packet)
 held nat old new later out now before after answer g a =
     let o = g.opens in
@@ -151,7 +164,7 @@ held nat old new later out now before after answer g a =
       exists = subst (λ n. HasPort nat n g.port) (sym long) exists;
       leads = subst (IsOf inside) (sym at) (chosen-leads nat old out event inside (destination_of g.packet) g.port o.mapping o.chosen);
     } in
-    let same : flow_protocol a.packet ≡ flow_protocol g.packet = ap (λ c. protocol_of (event_by c)) s.control in
+    let same : flow_protocol a.packet ≡ flow_protocol g.packet = ap (λ k. protocol_of (event_by k)) s.kind in
     let there : IsMapped nat new (flow_protocol a.packet) a.packet.src_port inside =
     subst (λ x. IsMapped nat new (flow_protocol a.packet) x inside) (sym s.port) (subst (λ x. IsMapped nat new x g.port inside) (sym same) first) in
     let last = passed nat (flow_protocol a.packet) a.packet.src_port later new inside a.passes there in
@@ -161,31 +174,39 @@ held nat old new later out now before after answer g a =
     record {
       outside = addr ∙ s.addr;
       mapped = subst (λ x. MapsTo nat later now (flow_protocol a.reply) x inside) (sym port) (subst (λ x. MapsTo nat later now x a.packet.src_port inside) (sym a.protocol) mapped);
+      no_request = a.no_request;
+      some = λ no_echo. answered-port g.packet.kind g.packet.src_port g.answerable (λ is. no_echo (a.protocol ∙ same ∙ is));
     }
 
 -- no reason applies
-unkept : (nat : Nat) (later newest : List Mapping) (now : ℕ) (answer : List ℕ) (reply : Packet) (inside : Ipv4Endpoint) (reason : Rejection) → IsPacket answer reply
-    → IsHeld nat later now reply inside → inside.port ≢ 0 → ¬ IsKeptOutside nat later newest now answer reason
-unkept nat later newest now answer reply inside ZeroPort is h some why =
-    let same = packet-once answer why.packet reply why.carries is in
-    let found : MapsTo nat later now (flow_protocol reply) reply.dst_port why.inside = subst (λ p. MapsTo nat later now (flow_protocol p) p.dst_port why.inside) same why.finds.mapped in
-    some (ap (λ (e : Ipv4Endpoint). e.port) (same-end (mapping_at nat later (flow_protocol reply) reply.dst_port) inside why.inside h.mapped.leads found.leads) ∙ why.zero)
-unkept nat later newest now answer reply inside NoMapping is h some why =
-    let w = why.0 in
-    let same = packet-once answer w.packet reply w.carries is in
-    subst (λ p. p.header.dst_addr ≡ nat.outside → (e : Ipv4Endpoint) → ¬ MapsTo nat later now (flow_protocol p) p.dst_port e) same w.unmapped h.outside inside h.mapped
-unkept nat later newest now answer reply inside reason is h some why = carries-unrejected answer is.link reply.header is.transport reason is.carries why.0
+unkept : (nat : Nat) (later newest : List Mapping) (now : ℕ) (answer : List ℕ) (p : Packet) (inside : Ipv4Endpoint) (reason : Rejection) → IsPacket answer p
+    → IsHeld nat later now p inside → ¬ IsKeptOutside nat later newest now answer reason
+unkept nat later newest now answer p inside ZeroPort is h why =
+    let same = packet-once answer why.packet p why.carries is in
+    let found : MapsTo nat later now (flow_protocol p) p.dst_port why.inside = subst (λ q. MapsTo nat later now (flow_protocol q) q.dst_port why.inside) same why.finds.mapped in
+    h.some (subst (λ q. flow_protocol q ≢ Icmp) same why.no_echo) (ap (λ (e : Ipv4Endpoint). e.port) (same-end (mapping_at nat later (flow_protocol p) p.dst_port) inside why.inside h.mapped.leads found.leads) ∙ why.zero)
+unkept nat later newest now answer p inside NoMapping is h (inr e, stays) = carries-unrejected answer is.link p.header is.transport OtherProtocol is.carries e.0
+unkept nat later newest now answer p inside OtherProtocol is h why = carries-unrejected answer is.link p.header is.transport OtherProtocol is.carries why.0.0
+unkept nat later newest now answer p inside BadTransport is h (inl r, stays) = carries-unrejected answer is.link p.header is.transport BadTransport is.carries r
+unkept nat later newest now answer p inside BadTransport is h (inr e, stays) = carries-unrejected answer is.link p.header is.transport OtherProtocol is.carries e.0
+unkept nat later newest now answer p inside NoMapping is h (inl w, stays) =
+    let same = packet-once answer w.packet p w.carries is in
+    subst (λ q. q.header.dst_addr ≡ nat.outside → q.kind ≢ kind.EchoRequest → (e : Ipv4Endpoint) → ¬ MapsTo nat later now (flow_protocol q) q.dst_port e) same w.unmapped h.outside
+    h.no_request inside h.mapped
+unkept nat later newest now answer p inside reason is h why = carries-unrejected answer is.link p.header is.transport reason is.carries why.0
 
-answered : {T : Type 0} (result : Result T Rejection) (nat : Nat) (later newest : List Mapping) (now : ℕ) (answer given : List ℕ) (reply : Packet) (inside : Ipv4Endpoint)
-    → IsPacket answer reply → IsHeld nat later now reply inside → inside.port ≢ 0
+answered : {T : Type 0} (result : Result T Rejection) (nat : Nat) (later newest : List Mapping) (now : ℕ) (answer given : List ℕ) (p : Packet) (inside : Ipv4Endpoint)
+    → IsPacket answer p → IsHeld nat later now p inside
     → IfOk result (λ _. ComesIn nat later newest now answer given) → IfErr result (IsKeptOutside nat later newest now answer)
     → MatchResult result (λ _. IsTranslated answer given Destination inside.addr inside.port) (λ _. ⊥)
-answered (Ok v) nat later newest now answer given reply inside is h some came why =
-    let same = packet-once answer came.packet reply came.carries is in
-    let found : MapsTo nat later now (flow_protocol reply) reply.dst_port came.inside = subst (λ p. MapsTo nat later now (flow_protocol p) p.dst_port came.inside) same came.finds.mapped in
-    let end = same-end (mapping_at nat later (flow_protocol reply) reply.dst_port) came.inside inside found.leads h.mapped.leads in
+answered (Ok v) nat later newest now answer given p inside is h (inr e) why =
+    absurd (carries-unrejected answer is.link p.header is.transport OtherProtocol is.carries e.0)
+answered (Ok v) nat later newest now answer given p inside is h (inl came) why =
+    let same = packet-once answer came.packet p came.carries is in
+    let found : MapsTo nat later now (flow_protocol p) p.dst_port came.inside = subst (λ q. MapsTo nat later now (flow_protocol q) q.dst_port came.inside) same came.finds.mapped in
+    let end = same-end (mapping_at nat later (flow_protocol p) p.dst_port) came.inside inside found.leads h.mapped.leads in
     subst (λ (e : Ipv4Endpoint). IsTranslated answer given Destination e.addr e.port) end came.translated
-answered (Err reason) nat later newest now answer given reply inside is h some came why = unkept nat later newest now answer reply inside reason is h some why
+answered (Err reason) nat later newest now answer given p inside is h came why = unkept nat later newest now answer p inside reason is h why
 
 -- the answer to a packet that went out
 pub given-back : {S T : Type 0} (first : Result S Rejection) (result : Result T Rejection) (nat : Nat) (old new later newest : List Mapping) (out now : ℕ) (before after answer given : List ℕ)
@@ -194,7 +215,9 @@ pub given-back : {S T : Type 0} (first : Result S Rejection) (result : Result T 
     → IfOk first (λ _. (packet : Packet) → IsPacket before packet → IsAnswer nat new later now after answer
     → MatchResult result (λ _. IsTranslated answer given Destination packet.header.src_addr packet.src_port) (λ _. ⊥))
 given-back (Err e) result nat old new later newest out now before after answer given went came why = tt
-given-back (Ok v) result nat old new later newest out now before after answer given g came why = λ packet is a.
+given-back (Ok v) result nat old new later newest out now before after answer given (inr e) came why = λ packet is a.
+    absurd (carries-unrejected before is.link packet.header is.transport OtherProtocol is.carries e.0)
+given-back (Ok v) result nat old new later newest out now before after answer given (inl g) came why = λ packet is a.
     let h = held nat old new later out now before after answer g a in
-    let back_to = answered result nat later newest now answer given a.reply (source_of g.packet) a.replies h g.answerable came why in
+    let back_to = answered result nat later newest now answer given a.reply (source_of g.packet) a.replies h came why in
     subst (λ (p : Packet). MatchResult result (λ _. IsTranslated answer given Destination p.header.src_addr p.src_port) (λ _. ⊥)) (packet-once before g.packet packet g.carries is) back_to

@@ -12,6 +12,7 @@ use Rattle.ip_wire.proofs.Ipv4Changed.{reads-dst_addr, reads-src_addr, reads-sum
 use Rattle.ip_wire.proofs.Spelled.{AreBytes}
 use Rattle.ip_wire.proofs.Ipv4Updated.{valid-dst_addr, valid-src_addr}
 use Rattle.ip_nat.proofs.Payloads.{range-front, range-len, range-past}
+use Rattle.ip_nat.specs.Errors.{HasHeader}
 use Rattle.ip_nat.specs.Nat.{addr_at, with_addr, with_address}
 use Rattle.ip_nat.specs.declared.nat.Side.{Side}
 use Rattle.ip_nat.specs.declared.nat.Side.TheVariants.{Source, Destination}
@@ -137,12 +138,30 @@ keeps side bytes addr room least four =
       written = subst (λ (l : List ℕ). addr_at side (with_address side addr l) ≡ addr) is at.written;
     }
 
+-- an updated header checksum is valid, if the old one is
+pub checksum-address : (side : Side) (bytes new addr : List ℕ) → AreBytes bytes → AreBytes addr → length addr ≡ 4 → new ≡ with_address side addr bytes
+    → 20 ≤ header_len bytes → header_len bytes ≤ length bytes → HasChecksum bytes → HasChecksum new
+checksum-address Source bytes new addr are octets four is least room sum = subst HasChecksum (sym is) (valid-src_addr bytes addr are octets four least room sum)
+checksum-address Destination bytes new addr are octets four is least room sum = subst HasChecksum (sym is) (valid-dst_addr bytes addr are octets four least room sum)
+
+-- a whole header with another address
+pub header-address : (side : Side) (bytes new addr : List ℕ) → AreBytes bytes → AreBytes addr → length addr ≡ 4 → new ≡ with_address side addr bytes
+    → HasHeader bytes → HasHeader new
+header-address side bytes new addr are octets four is r =
+    let k = keeps side bytes addr (omega (arith, r.least, r.whole)) r.least four in
+    let header = ap header_len is ∙ k.shape.header in
+    record {
+      least = omega (arith, header, r.least);
+      whole = omega (arith, header, ap length is, k.long, r.whole);
+      checksum = checksum-address side bytes new addr are octets four is r.least r.whole r.checksum;
+    }
+
 -- a packet with another address, and a checksum that is updated for it, has the header with this address
 pub reads-address : (side : Side) (bytes new addr : List ℕ) (v : Ipv4Repr) → AreBytes bytes → AreBytes addr → length addr ≡ 4
     → new ≡ with_address side addr bytes → Reads bytes true v → Reads new true (with_addr side addr v)
 reads-address Source bytes new addr v are octets four is r =
     reads-summed (with_range bytes 12 16 addr) new _ false true (record v { src_addr = addr }) is (reads-src_addr bytes addr true false v four r (λ no. cc))
-    (λ on. subst HasChecksum (sym is) (valid-src_addr bytes addr are octets four r.lengths.header (omega (arith, r.lengths.within, r.lengths.whole)) (r.checksum on)))
+    (λ on. checksum-address Source bytes new addr are octets four is r.lengths.header (omega (arith, r.lengths.within, r.lengths.whole)) (r.checksum on))
 reads-address Destination bytes new addr v are octets four is r =
     reads-summed (with_range bytes 16 20 addr) new _ false true (record v { dst_addr = addr }) is (reads-dst_addr bytes addr true false v four r (λ no. cc))
-    (λ on. subst HasChecksum (sym is) (valid-dst_addr bytes addr are octets four r.lengths.header (omega (arith, r.lengths.within, r.lengths.whole)) (r.checksum on)))
+    (λ on. checksum-address Destination bytes new addr are octets four is r.lengths.header (omega (arith, r.lengths.within, r.lengths.whole)) (r.checksum on))

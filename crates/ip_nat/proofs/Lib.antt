@@ -1,8 +1,12 @@
 pub mod Answered
+pub mod EchoEnds
+pub mod Echoes
 pub mod Ends
+pub mod Kept
 pub mod Headers
 pub mod Mapped
 pub mod Payloads
+pub mod Quotes
 pub mod Residues
 pub mod TcpEnds
 pub mod Translates

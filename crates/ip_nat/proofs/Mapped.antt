@@ -1,14 +1,16 @@
 -- Frames that go out and come in by a table of mappings.
-use Rattle.std.proofs.Common.{IfErr, ℕ, ◌≡◌, ◌≢◌, Bool, Decides, bytes_eq, false, not, true, true≢false, List, Result, Ok, Err, inl, inr, refl, sym, subst, ◌∙◌, arith}
+use Rattle.std.proofs.Common.{IfErr, ℕ, ◌≡◌, ◌≢◌, Bool, Decides, bytes_eq, false, not, true, true≢false, List, Result, Ok, Err, inl, inr, refl, sym, ap, subst, ◌∙◌, arith}
 use Rattle.std.proofs.lemmas.Bool.{cases_lt}
 use Rattle.std.proofs.lemmas.Slice.Eq.{bytes_eq-Decides}
 use Rattle.ip_flows.specs.declared.Mapping.{Mapping}
 use Rattle.ip_flows.specs.declared.Nat.{Nat}
-use Rattle.ip_wire.specs.Frame.{Transport, datagram, other, segment}
 use Rattle.ip_flows.specs.Table.{Finds}
 use Rattle.ip_flows.specs.declared.Ipv4Endpoint.{Ipv4Endpoint}
-use Rattle.ip_nat.specs.Flows.{IsKeptInside, IsKeptOutside, event_of, source_of}
-use Rattle.ip_nat.specs.Nat.{AllowsPort, IsPacket, IsRejected, RefusesPort}
+use Rattle.ip_flows.specs.State.{protocol_of}
+use Rattle.ip_flows.specs.declared.Protocol.TheVariants.{Icmp}
+use Rattle.ip_nat.proofs.NatOnce.{transport-of-one}
+use Rattle.ip_nat.specs.Flows.{IsPacketKeptInside, IsPacketKeptOutside, event_by, event_of, source_of}
+use Rattle.ip_nat.specs.Nat.{AllowsPort, IsPacket, IsRejected, RefusesPort, Transport, datagram, kind_of, reply, request, segment}
 use Rattle.ip_nat.specs.declared.packet.Packet.{Packet}
 use Rattle.ip_nat.specs.declared.nat.Rejection.{Rejection}
 use Rattle.ip_nat.specs.declared.nat.Rejection.TheVariants.{NotIpv4, ZeroPort, NoMapping, NoFreePort}
@@ -24,13 +26,14 @@ parse-reason frame NoFreePort why = let is : NoFreePort ≡ NotIpv4 = why.short 
 parse-reason frame _ why = (λ is. cc, λ is. cc, λ is. cc)
 
 -- a frame that does not parse does not go out
-pub kept-inside : (nat : Nat) (mappings : List Mapping) (now : ℕ) (frame : List ℕ) (reason : Rejection) → IsRejected frame reason → IsKeptInside nat mappings now frame reason
+pub kept-inside : (nat : Nat) (mappings : List Mapping) (now : ℕ) (frame : List ℕ) (reason : Rejection) → IsRejected frame reason → IsPacketKeptInside nat mappings now frame reason
 kept-inside nat mappings now frame ZeroPort why = absurd ((parse-reason frame ZeroPort why).0 refl)
+kept-inside nat mappings now frame NoMapping why = absurd ((parse-reason frame NoMapping why).1 refl)
 kept-inside nat mappings now frame NoFreePort why = absurd ((parse-reason frame NoFreePort why).2 refl)
 kept-inside nat mappings now frame _ why = why
 
 -- and does not come in
-pub kept-outside : (nat : Nat) (mappings : List Mapping) (now : ℕ) (frame : List ℕ) (reason : Rejection) → IsRejected frame reason → IsKeptOutside nat mappings mappings now frame reason
+pub kept-outside : (nat : Nat) (mappings : List Mapping) (now : ℕ) (frame : List ℕ) (reason : Rejection) → IsRejected frame reason → IsPacketKeptOutside nat mappings mappings now frame reason
 kept-outside nat mappings now frame ZeroPort why = absurd ((parse-reason frame ZeroPort why).0 refl)
 kept-outside nat mappings now frame NoMapping why = absurd ((parse-reason frame NoMapping why).1 refl)
 kept-outside nat mappings now frame _ why = (why, refl)
@@ -51,10 +54,12 @@ undiffering a b differ is none = by_test (bytes_eq a b) (bytes_eq-Decides a b) (
 some-port : (side : Side) (t : Transport) (port : ℕ) → port ≢ 0 → AllowsPort side t port
 some-port Source (datagram v payload) port some = tt
 some-port Source (segment v payload) port some = some
-some-port Source (other payload) port some = some
+some-port Source (request ident seq_no payload) port some = tt
+some-port Source (reply ident seq_no payload) port some = tt
 some-port Destination (datagram v payload) port some = some
 some-port Destination (segment v payload) port some = some
-some-port Destination (other payload) port some = some
+some-port Destination (request ident seq_no payload) port some = tt
+some-port Destination (reply ident seq_no payload) port some = tt
 
 -- a port that is refused is 0
 pub refused-zero : (frame : List ℕ) (side : Side) (port : ℕ) → RefusesPort frame side port → port ≡ 0
@@ -63,12 +68,31 @@ refused-zero frame side port why = elim (cases_lt 0 port) [
   | inr none ↦ omega (arith, none)
 ]
 
+-- no identifier of an echo message is refused
+refused-kind : (side : Side) (t : Transport) (port : ℕ) → ¬ AllowsPort side t port → protocol_of (event_by (kind_of t)) ≢ Icmp
+refused-kind side (datagram v payload) port refuses is = cc
+refused-kind side (segment v payload) port refuses is = cc
+refused-kind Source (request ident seq_no payload) port refuses is = refuses tt
+refused-kind Destination (request ident seq_no payload) port refuses is = refuses tt
+refused-kind Source (reply ident seq_no payload) port refuses is = refuses tt
+refused-kind Destination (reply ident seq_no payload) port refuses is = refuses tt
+
 -- a frame whose mapping leads to port 0 does not come in
 pub in-zero : {T : Type 0} (answer : Result T Rejection) (nat : Nat) (old new : List Mapping) (now : ℕ) (frame : List ℕ) (p : Packet) (inside : Ipv4Endpoint)
     → IsPacket frame p → p.header.dst_addr ≡ nat.outside → Finds nat old new now (event_of p) p.dst_port (source_of p) inside
     → IfErr answer (λ reason. reason ≡ ZeroPort) → IfErr answer (λ _. RefusesPort frame Destination inside.port)
-    → IfErr answer (IsKeptOutside nat old new now frame)
+    → IfErr answer (IsPacketKeptOutside nat old new now frame)
 in-zero (Ok v) nat old new now frame p inside carries outside finds is why = tt
 in-zero (Err reason) nat old new now frame p inside carries outside finds is why =
-    subst (IsKeptOutside nat old new now frame) (sym is)
-    (record { packet = p; carries = carries; outside = outside; inside = inside; finds = finds; zero = refused-zero frame Destination inside.port why })
+    let same = transport-of-one frame carries.link why.link p.header why.header carries.transport why.transport carries.carries why.carries in
+    let kind : p.kind ≡ kind_of why.transport = carries.described.kind ∙ ap kind_of same in
+    subst (IsPacketKeptOutside nat old new now frame) (sym is)
+    (record {
+      packet = p;
+      carries = carries;
+      outside = outside;
+      no_echo = λ echo. refused-kind Destination why.transport inside.port why.refused (ap (λ k. protocol_of (event_by k)) (sym kind) ∙ echo);
+      inside = inside;
+      finds = finds;
+      zero = refused-zero frame Destination inside.port why;
+    })

@@ -1,7 +1,7 @@
 -- A frame has one result of a translation, or one reason of a rejection.
 use Rattle.std.proofs.Common.{◌≡◌, ◌∙◌, true, false, List, ℕ, Option, Some, None, drop, refl, sym, ap, subst, true≢false}
 use Rattle.ip_nat.proofs.Translates.{carried}
-use Rattle.ip_nat.specs.Nat.{AllowsPort, Carries, CarriesPorts, HasPorts, IsIpv4Frame, IsRejected, IsRejectedPacket, IsTranslated, IsUntranslated, with_addr, with_port}
+use Rattle.ip_nat.specs.Nat.{AllowsPort, Carries, CarriesPorts, IsIpv4Frame, IsRejected, IsRejectedPacket, IsTranslated, IsUntranslated, Parses, ReadsPorts, Transport, datagram, reply, request, segment, with_addr, with_port}
 use Rattle.ip_nat.specs.declared.nat.Rejection.{Rejection}
 use Rattle.ip_nat.specs.declared.nat.Rejection.TheVariants.{NotIpv4, BadHeader, WrongChecksum, Fragment, OtherProtocol, BadTransport, ZeroPort, NoMapping, NoFreePort}
 use Rattle.ip_nat.specs.declared.nat.Side.{Side}
@@ -9,14 +9,14 @@ use Rattle.ip_nat.specs.declared.nat.Side.TheVariants.{Source, Destination}
 use Rattle.ip_wire.proofs.EthernetComputed.{ethernet_of-Reads}
 use Rattle.ip_wire.proofs.Ipv4Changed.{reads-verified}
 use Rattle.ip_wire.proofs.Ipv4Computed.{ipv4_of-Reads}
-use Rattle.ip_wire.proofs.ReadsOnce.{computed-one, transport-once}
+use Rattle.ip_wire.proofs.ReadsOnce.{computed-one}
+use Rattle.ip_nat.proofs.Echoes.{parses-ports, ports-once}
 use Rattle.ip_wire.specs.Ethernet as ethernet
 use Rattle.ip_wire.specs.Ethernet.{ethernet_of}
-use Rattle.ip_wire.specs.Frame.{ReadsTransport, Transport, all_checked, datagram, ipv4_payload, other, segment}
+use Rattle.ip_wire.specs.Frame.{ipv4_payload}
 use Rattle.ip_wire.specs.Ipv4 as ipv4
-use Rattle.ip_wire.specs.Types.{EthernetProtocol, EthernetRepr, Ipv4, Ipv4Repr}
+use Rattle.ip_wire.specs.Types.{EthernetProtocol, EthernetRepr, Ipv4Repr}
 use Rattle.ip_wire.specs.declared.EthernetProtocol.TheVariants as ethertype
-use Rattle.ip_wire.specs.declared.IpAddress.TheVariants as address
 
 translated-once : (old new new' : List ℕ) (side : Side) (addr : List ℕ) (port : ℕ) → IsTranslated old new side addr port → IsTranslated old new' side addr port → new ≡ new'
 translated-once old new new' side addr port a b = a.bytes ∙ sym b.bytes
@@ -29,9 +29,12 @@ header-once bytes v w a b = computed-one _ v w ((ipv4_of-Reads true bytes v).1 a
 unverified : (bytes : List ℕ) (v : Ipv4Repr) → ipv4.Reads bytes true v → ipv4.Reads bytes false v
 unverified bytes v r = reads-verified bytes true false v r (λ _. r.checksum refl)
 
-moved : (bytes : List ℕ) (v w : Ipv4Repr) (t : Transport) → ipv4.Reads bytes true v → ipv4.Reads bytes true w → ReadsTransport all_checked (Ipv4 v) (ipv4_payload bytes) t
-    → ReadsTransport all_checked (Ipv4 w) (ipv4_payload bytes) t
-moved bytes v w t a b = subst (λ x. ReadsTransport all_checked (Ipv4 x) (ipv4_payload bytes) t) (header-once bytes v w a b)
+moved : (bytes : List ℕ) (v w : Ipv4Repr) (t : Transport) → ipv4.Reads bytes true v → ipv4.Reads bytes true w → ReadsPorts v (ipv4_payload bytes) t
+    → ReadsPorts w (ipv4_payload bytes) t
+moved bytes v w t a b = subst (λ x. ReadsPorts x (ipv4_payload bytes) t) (header-once bytes v w a b)
+
+parses-moved : (bytes : List ℕ) (v w : Ipv4Repr) → ipv4.Reads bytes true v → ipv4.Reads bytes true w → Parses v (ipv4_payload bytes) → Parses w (ipv4_payload bytes)
+parses-moved bytes v w a b = subst (λ x. Parses x (ipv4_payload bytes)) (header-once bytes v w a b)
 
 reason-once : (bytes : List ℕ) (r s : Rejection) → IsRejectedPacket bytes r → IsRejectedPacket bytes s → r ≡ s
 reason-once bytes NotIpv4 s a b = absurd a
@@ -61,11 +64,11 @@ reason-once bytes OtherProtocol BadHeader (v, p, rest) none = absurd (none v (un
 reason-once bytes OtherProtocol WrongChecksum (v, p, rest) (read, wrong) = absurd (wrong (p.0.checksum refl))
 reason-once bytes OtherProtocol Fragment (v, p, rest) (read, part) = absurd (true≢false (sym part ∙ p.1))
 reason-once bytes OtherProtocol OtherProtocol a b = refl
-reason-once bytes OtherProtocol BadTransport (v, p, rest) (w, q, bad) = absurd (bad (other (ipv4_payload bytes)) (moved bytes v w (other (ipv4_payload bytes)) p.0 q.0 rest))
+reason-once bytes OtherProtocol BadTransport (v, p, rest) (w, q, bad) = absurd (bad (parses-moved bytes v w p.0 q.0 rest.0))
 reason-once bytes BadTransport BadHeader (v, p, bad) none = absurd (none v (unverified bytes v p.0))
 reason-once bytes BadTransport WrongChecksum (v, p, bad) (read, wrong) = absurd (wrong (p.0.checksum refl))
 reason-once bytes BadTransport Fragment (v, p, bad) (read, part) = absurd (true≢false (sym part ∙ p.1))
-reason-once bytes BadTransport OtherProtocol (v, p, bad) (w, q, rest) = absurd (bad (other (ipv4_payload bytes)) (moved bytes w v (other (ipv4_payload bytes)) q.0 p.0 rest))
+reason-once bytes BadTransport OtherProtocol (v, p, bad) (w, q, rest) = absurd (bad (parses-moved bytes w v q.0 p.0 rest.0))
 reason-once bytes BadTransport BadTransport a b = refl
 
 -- by the EtherType, and by the Ethernet header
@@ -97,10 +100,8 @@ carried-unrejected bytes v t Fragment c (read, part) = true≢false (sym part �
 carried-unrejected bytes v t ZeroPort c (w, p, none) = none
 carried-unrejected bytes v t NoMapping c (w, p, none) = none
 carried-unrejected bytes v t NoFreePort c (w, p, none) = none
-carried-unrejected bytes v t OtherProtocol c (w, p, rest) =
-    let none = moved bytes w v (other (ipv4_payload bytes)) p.0 c.reads.0 rest in
-    subst HasPorts (transport-once all_checked v.next_header (address.Ipv4 v.src_addr) (address.Ipv4 v.dst_addr) (ipv4_payload bytes) t (other (ipv4_payload bytes)) c.carries none) c.ports
-carried-unrejected bytes v t BadTransport c (w, p, bad) = bad t (moved bytes v w t c.reads.0 p.0 c.carries)
+carried-unrejected bytes v t OtherProtocol c (w, p, rest) = rest.1 t (moved bytes v w t c.reads.0 p.0 c.carries)
+carried-unrejected bytes v t BadTransport c (w, p, bad) = bad (parses-moved bytes v w c.reads.0 p.0 (parses-ports v (ipv4_payload bytes) t c.carries))
 
 pub carries-unrejected : (frame : List ℕ) (link : EthernetRepr) (v : Ipv4Repr) (t : Transport) (r : Rejection) → Carries frame link v t → ¬ IsRejected frame r
 carries-unrejected frame link v t r c why =
@@ -117,21 +118,23 @@ transport-of-one frame k l v w t u a b =
     let bytes = drop 14 frame in
     let p = carried frame k v t a in
     let q = carried frame l w u b in
-    transport-once all_checked v.next_header (address.Ipv4 v.src_addr) (address.Ipv4 v.dst_addr) (ipv4_payload bytes) t u p.carries (moved bytes w v u q.reads.0 p.reads.0 q.carries)
+    ports-once v (ipv4_payload bytes) t u p.carries (moved bytes w v u q.reads.0 p.reads.0 q.carries)
 
 -- a port that was parsed is accepted
-allowed : (v : Ipv4Repr) (bytes : List ℕ) (side : Side) (port : ℕ) (t : Transport) → HasPorts t → ReadsTransport all_checked (Ipv4 v) bytes (with_port side port t)
-    → AllowsPort side t port
-allowed v bytes Source port (datagram u payload) h r = tt
-allowed v bytes Destination port (datagram u payload) h r = λ zero. r.1.receiver (sym r.1.dst_port ∙ zero)
-allowed v bytes Source port (segment u payload) h r = λ zero. r.1.sender (sym r.1.src_port ∙ zero)
-allowed v bytes Destination port (segment u payload) h r = λ zero. r.1.receiver (sym r.1.dst_port ∙ zero)
-allowed v bytes side port (other payload) h r = absurd h
+allowed : (v : Ipv4Repr) (bytes : List ℕ) (side : Side) (port : ℕ) (t : Transport) → ReadsPorts v bytes (with_port side port t) → AllowsPort side t port
+allowed v bytes Source port (datagram u payload) r = tt
+allowed v bytes Destination port (datagram u payload) r = λ zero. r.1.receiver (sym r.1.dst_port ∙ zero)
+allowed v bytes Source port (segment u payload) r = λ zero. r.1.sender (sym r.1.src_port ∙ zero)
+allowed v bytes Destination port (segment u payload) r = λ zero. r.1.receiver (sym r.1.dst_port ∙ zero)
+allowed v bytes Source port (request ident seq_no payload) r = tt
+allowed v bytes Destination port (request ident seq_no payload) r = tt
+allowed v bytes Source port (reply ident seq_no payload) r = tt
+allowed v bytes Destination port (reply ident seq_no payload) r = tt
 
 translated-unrejected : (old new : List ℕ) (side : Side) (addr : List ℕ) (port : ℕ) (r : Rejection) → IsTranslated old new side addr port → ¬ IsUntranslated old side port r
 translated-unrejected old new side addr port ZeroPort a why =
     let after = carried new a.link (with_addr side addr a.header) (with_port side port a.transport) a.after in
-    let accepts = allowed (with_addr side addr a.header) (ipv4_payload (drop 14 new)) side port a.transport a.before.ports after.carries in
+    let accepts = allowed (with_addr side addr a.header) (ipv4_payload (drop 14 new)) side port a.transport after.carries in
     why.refused (subst (λ t. AllowsPort side t port) (transport-of-one old a.link why.link a.header why.header a.transport why.transport a.before why.carries) accepts)
 translated-unrejected old new side addr port r a why = carries-unrejected old a.link a.header a.transport r a.before why
 

@@ -5,7 +5,7 @@ use Rattle.ip_wire.proofs.Spelled.{AreBytes}
 use Rattle.ip_wire.specs.Field.{field, with_field, word_at}
 use Rattle.ip_wire.specs.Tcp.{with_updated_checksum}
 use Rattle.ip_wire.specs.WordSum.{sum_of_bytes, updated}
-use Rattle.ip_nat.proofs.Ends.{back, header, indexed, port-fits, ported}
+use Rattle.ip_nat.proofs.Ends.{IsPorted, back, header, indexed, port-fits, ported, with_both}
 use Rattle.ip_nat.proofs.Residues.{sum-fits, updated-back_twice}
 use Rattle.ip_nat.proofs.Words.{spelled-fits, spelled-word, word}
 use Rattle.ip_nat.specs.Nat.{port_bit, with_tcp_end}
@@ -25,6 +25,13 @@ updated-header p q s old new middle rest fits =
 updated-fits : (s old new : ℕ) → s < 65536 → updated s old new < 65536
 updated-fits s old new fits = omega arith
 
+-- the bytes one by one, up to the checksum
+pub tcp-whole : (l : List ℕ) → 18 ≤ length l → l ≡ indexed 12 l
+tcp-whole l room = subst (λ m. m ≡ indexed 12 m) (sym (cells-drop 18 l room)) refl
+
+pub tcp-ported : (side : Side) (l : List ℕ) → IsPorted with_updated_checksum updated side (with_both 12 side l)
+tcp-ported side l = ported 12 with_updated_checksum updated side l updated-header updated-fits
+
 -- translating a segment and then back gives the segment again
 pub tcp-back : (side : Side) (l old new : List ℕ) (x : ℕ) → AreBytes l → 18 ≤ length l → field l 128 16 ≢ 65535 → x < 65536
     → with_tcp_end side new old (field l (port_bit side) 16) (with_tcp_end side old new x l) ≡ l
@@ -32,8 +39,8 @@ tcp-back side l old new x are room usual xs =
     let p = field l (port_bit side) 16 in
     let s = field l 128 16 in
     let ss = spelled-fits (slice_index l 16) (slice_index l 17) in
-    let whole : l ≡ indexed 12 l = subst (λ m. m ≡ indexed 12 m) (sym (cells-drop 18 l room)) refl in
-    back 12 with_updated_checksum updated side l old new p x (ported 12 with_updated_checksum updated side l updated-header updated-fits) are whole refl xs
+    let whole : l ≡ indexed 12 l = tcp-whole l room in
+    back 12 with_updated_checksum updated side l old new p x (tcp-ported side l) are whole refl xs
     (updated-back_twice s (sum_of_bytes old) (sum_of_bytes new) p x (omega (arith, usual, ss)) (sum-fits old) (sum-fits new) (omega (arith, port-fits side l)) (omega (arith, xs)))
 
 -- a translated segment has the same length

@@ -5,7 +5,7 @@ use Rattle.ip_wire.proofs.ByteLists.{AreBytes-drop, AreBytes-slice_range}
 use Rattle.ip_wire.proofs.Spelled.{AreBytes}
 use Rattle.ip_wire.specs.Ethernet as ethernet
 use Rattle.ip_wire.specs.Field.{field, with_field, with_range}
-use Rattle.ip_wire.specs.Frame.{ReadsTransport, Transport, all_checked, datagram, ipv4_payload, other, segment}
+use Rattle.ip_wire.specs.Frame.{ReadsTransport, all_checked, ipv4_payload}
 use Rattle.ip_wire.specs.IpAddress.{octets_of}
 use Rattle.ip_wire.specs.Ipv4 as ipv4
 use Rattle.ip_wire.specs.Protocol.{protocol_of}
@@ -16,11 +16,13 @@ use Rattle.ip_wire.specs.declared.EthernetProtocol.TheVariants as ethertype
 use Rattle.ip_wire.specs.declared.IpAddress.TheVariants as address
 use Rattle.ip_wire.specs.declared.IpProtocol.TheVariants as protocol
 use Rattle.ip_wire.proofs.Cells.{cells-all}
+use Rattle.ip_nat.proofs.EchoEnds.{echo-len}
+use Rattle.ip_nat.proofs.Echoes.{plain-other}
 use Rattle.ip_nat.proofs.Headers.{keeps, reads-inner, same-inner}
 use Rattle.ip_nat.proofs.Payloads.{drop-front, range-len, range-part}
 use Rattle.ip_nat.proofs.TcpEnds.{tcp-len}
 use Rattle.ip_nat.proofs.UdpEnds.{udp-ended}
-use Rattle.ip_nat.specs.Nat.{AllowsPort, Carries, CarriesPorts, HasPorts, IsIpv4Frame, IsRejected, IsRejectedPacket, IsTranslated, IsUntranslated, LacksChecksum, RefusesPort, Rewrites, addr_at, addr_of, port_bit, translated_packet, with_addr, with_address, with_end, with_end_by, with_port}
+use Rattle.ip_nat.specs.Nat.{AllowsPort, Carries, CarriesPorts, IsIpv4Frame, IsRejected, IsRejectedPacket, IsTranslated, IsUntranslated, LacksChecksum, ReadsPorts, RefusesPort, Rewrites, Transport, addr_at, addr_of, port_bit, translated_packet, with_addr, with_address, with_end, with_end_by, with_port, datagram, segment, request, reply, plain}
 use Rattle.ip_nat.specs.declared.nat.Rejection.{Rejection}
 use Rattle.ip_nat.specs.declared.nat.Rejection.TheVariants.{NotIpv4, ZeroPort}
 use Rattle.ip_nat.specs.declared.nat.Side.{Side}
@@ -29,25 +31,23 @@ use Rattle.ip_nat.specs.declared.nat.Side.TheVariants.{Source, Destination}
 -- ---- the transport
 
 -- a UDP packet parses as UDP
-pub has-udp : (v : Ipv4Repr) (bytes : List ℕ) (t : Transport) → v.next_header ≡ protocol.Udp → ReadsTransport all_checked (Ipv4 v) bytes t → 8 ≤ length bytes
+pub has-udp : (v : Ipv4Repr) (bytes : List ℕ) (t : Transport) → v.next_header ≡ protocol.Udp → ReadsPorts v bytes t → 8 ≤ length bytes
 has-udp v bytes (datagram u payload) is r = r.1.lengths.least
 has-udp v bytes (segment u payload) is r = let differs : protocol.Udp ≡ protocol.Tcp = sym is ∙ r.0 in absurd (cc)
-has-udp v bytes (other payload) is r = absurd (r.0 is)
-
--- the payload of another protocol is unchanged
-pub ended-other : (p : IpProtocol) (side : Side) (old new : List ℕ) (port : ℕ) (bytes : List ℕ) → p ≢ protocol.Udp → p ≢ protocol.Tcp → with_end p side old new port bytes ≡ bytes
-ended-other protocol.Udp side old new port bytes no_udp no_tcp = absurd (no_udp refl)
-ended-other protocol.Tcp side old new port bytes no_udp no_tcp = absurd (no_tcp refl)
-ended-other _ side old new port bytes no_udp no_tcp = refl
+has-udp v bytes (request ident seq_no payload) is r = let differs : protocol.Udp ≡ protocol.Icmp = sym is ∙ r.0 in absurd (cc)
+has-udp v bytes (reply ident seq_no payload) is r = let differs : protocol.Udp ≡ protocol.Icmp = sym is ∙ r.0 in absurd (cc)
 
 -- a translated payload has the same length
 pub ended-len : (v : Ipv4Repr) (side : Side) (old new : List ℕ) (port : ℕ) (bytes : List ℕ) (t : Transport) → AreBytes bytes
-    → ReadsTransport all_checked (Ipv4 v) bytes t → length (with_end v.next_header side old new port bytes) ≡ length bytes
+    → ReadsPorts v bytes t → length (with_end v.next_header side old new port bytes) ≡ length bytes
 ended-len v side old new port bytes (datagram u payload) are r =
     ap (λ (p : IpProtocol). length (with_end p side old new port bytes)) r.0 ∙ (udp-ended side bytes old new port are r.1.lengths.least).long
 ended-len v side old new port bytes (segment u payload) are r =
     ap (λ (p : IpProtocol). length (with_end p side old new port bytes)) r.0 ∙ tcp-len side bytes old new port r.1.lengths.least
-ended-len v side old new port bytes (other payload) are r = ap length (ended-other v.next_header side old new port bytes r.0 r.1)
+ended-len v side old new port bytes (request ident seq_no payload) are r =
+    ap (λ (p : IpProtocol). length (with_end p side old new port bytes)) r.0 ∙ echo-len new port bytes r.1.least
+ended-len v side old new port bytes (reply ident seq_no payload) are r =
+    ap (λ (p : IpProtocol). length (with_end p side old new port bytes)) r.0 ∙ echo-len new port bytes r.1.least
 
 even : (a : List ℕ) → length a ≡ 4 → length a % 2 ≡ 0
 even a e = omega (arith, e)
@@ -82,7 +82,8 @@ pub rewrites-udp : (v : Ipv4Repr) (old new : List ℕ) (side : Side) (addr : Lis
     → (t : Transport) → Rewrites v old new side addr port t
 rewrites-udp v old new side addr port is step (datagram u payload) a r = step u payload a r
 rewrites-udp v old new side addr port is step (segment u payload) a r = let differs : protocol.Udp ≡ protocol.Tcp = sym is ∙ r.0 in absurd (cc)
-rewrites-udp v old new side addr port is step (other payload) a r = absurd (r.0 is)
+rewrites-udp v old new side addr port is step (request ident seq_no payload) a r = let differs : protocol.Udp ≡ protocol.Icmp = sym is ∙ r.0 in absurd (cc)
+rewrites-udp v old new side addr port is step (reply ident seq_no payload) a r = let differs : protocol.Udp ≡ protocol.Icmp = sym is ∙ r.0 in absurd (cc)
 
 -- the translated payload of a TCP packet is its translated segment
 pub rewrites-tcp : (v : Ipv4Repr) (old new : List ℕ) (side : Side) (addr : List ℕ) (port : ℕ) → v.next_header ≡ protocol.Tcp
@@ -90,14 +91,10 @@ pub rewrites-tcp : (v : Ipv4Repr) (old new : List ℕ) (side : Side) (addr : Lis
     → (t : Transport) → Rewrites v old new side addr port t
 rewrites-tcp v old new side addr port is step (datagram u payload) a r = let differs : protocol.Tcp ≡ protocol.Udp = sym is ∙ r.0 in absurd (cc)
 rewrites-tcp v old new side addr port is step (segment u payload) a r = step u payload a r
-rewrites-tcp v old new side addr port is step (other payload) a r = absurd (r.1 is)
+rewrites-tcp v old new side addr port is step (request ident seq_no payload) a r = let differs : protocol.Tcp ≡ protocol.Icmp = sym is ∙ r.0 in absurd (cc)
+rewrites-tcp v old new side addr port is step (reply ident seq_no payload) a r = let differs : protocol.Tcp ≡ protocol.Icmp = sym is ∙ r.0 in absurd (cc)
 
 -- ---- the packet
-
-has_ports : (side : Side) (port : ℕ) (t : Transport) → HasPorts t → HasPorts (with_port side port t)
-has_ports side port (datagram u payload) h = h
-has_ports side port (segment u payload) h = h
-has_ports side port (other payload) h = h
 
 -- the length of an IPv4 payload is the total length without the header length
 pub payload-len : (bytes : List ℕ) (v : Ipv4Repr) → ipv4.Reads bytes true v → length (ipv4_payload bytes) ≡ ipv4.total_len bytes - ipv4.header_len bytes
@@ -134,8 +131,7 @@ packet-carries bytes part new v side addr port t four allowed c e rewrites at st
     let payload : ipv4_payload new ≡ part = ap ipv4_payload at ∙ k.payload ∙ inner-payload bytes part v r e in
     record {
       reads = (step v (reads-inner bytes part v r len), fragment);
-      carries = subst (λ (l : List ℕ). ReadsTransport all_checked (Ipv4 (with_addr side addr v)) l (with_port side port t)) (sym payload) (rewrites allowed c.carries);
-      ports = has_ports side port t c.ports;
+      carries = subst (λ (l : List ℕ). ReadsPorts (with_addr side addr v) l (with_port side port t)) (sym payload) (rewrites allowed c.carries);
     }
 
 -- the address of a parsed header is the address in the bytes
@@ -179,7 +175,7 @@ record SameLink (old new : List ℕ) : Type 0 where
 same_link : (front rest rest' : List ℕ) → length front ≡ 14 → SameLink (front ++ rest) (front ++ rest')
 same_link front rest rest' e = subst (λ (l : List ℕ). SameLink (l ++ rest) (l ++ rest')) (sym (cells-all 14 front e)) (record { dst_addr = refl; src_addr = refl; ethertype = refl })
 
-link-stays : (frame rest : List ℕ) (link : EthernetRepr) → ethernet.Reads frame link → ethernet.Reads (take 14 frame ++ rest) link
+pub link-stays : (frame rest : List ℕ) (link : EthernetRepr) → ethernet.Reads frame link → ethernet.Reads (take 14 frame ++ rest) link
 link-stays frame rest link r =
     let front : length (take 14 frame) ≡ 14 = length-take-le 14 frame r.whole in
     let s = subst (λ (l : List ℕ). SameLink l (take 14 frame ++ rest)) (take-append-drop 14 frame) (same_link (take 14 frame) (drop 14 frame) rest front) in
@@ -190,14 +186,22 @@ link-stays frame rest link r =
       ethertype = r.ethertype ∙ ap ethernet.protocol_of (sym s.ethertype);
     }
 
+-- what parses as a transport parses without ICMP too
+reads-plain : (v : Ipv4Repr) (bytes : List ℕ) (t : Transport) → ReadsPorts v bytes t → ReadsTransport all_checked (Ipv4 v) bytes (plain t bytes)
+reads-plain v bytes (datagram u payload) r = r
+reads-plain v bytes (segment u payload) r = r
+reads-plain v bytes (request ident seq_no payload) r = plain-other v bytes r.0
+reads-plain v bytes (reply ident seq_no payload) r = plain-other v bytes r.0
+
 -- the packet of an accepted frame
 pub carried : (frame : List ℕ) (link : EthernetRepr) (v : Ipv4Repr) (t : Transport) → Carries frame link v t → CarriesPorts (drop 14 frame) v t
-carried frame link v t c = record { reads = c.reads.reads_carried.1; carries = c.reads.reads_carried.2; ports = c.ports }
+carried frame link v t c = record { reads = c.reads.reads_carried.1; carries = c.ports }
 
 -- a frame with an IPv4 header that parses carries this packet
 pub framed : (frame : List ℕ) (link : EthernetRepr) (v : Ipv4Repr) (t : Transport) → ethernet.Reads frame link → link.ethertype ≡ ethertype.Ipv4
     → CarriesPorts (drop 14 frame) v t → Carries frame link v t
-framed frame link v t reads named c = record { reads = record { reads_header = reads; reads_carried = (named, c.reads, c.carries) }; ports = c.ports }
+framed frame link v t reads named c =
+    record { reads = record { reads_header = reads; reads_carried = (named, c.reads, reads-plain v (ipv4_payload (drop 14 frame)) t c.carries) }; ports = c.carries }
 
 -- whether there is a checksum
 unsummed : (bytes : List ℕ) (v : Ipv4Repr) (t : Transport) (side : Side) (addr : List ℕ) (port : ℕ) → length addr ≡ 4 → AreBytes bytes → CarriesPorts bytes v t

@@ -17,7 +17,7 @@ use Rattle.ip_nat.specs.declared.nat.Side.TheVariants.{Source, Destination}
 -- ---- one update
 
 -- the updated checksum, or 0 if it was 0
-abbrev udp_next : ℕ → ℕ → ℕ → ℕ
+abbrev pub udp_next : ℕ → ℕ → ℕ → ℕ
 udp_next s old new = if s == 0 then s else udp_updated s old new
 
 next-some : (s old new : ℕ) → 1 ≤ s → udp_next s old new ≡ udp_updated s old new
@@ -68,10 +68,10 @@ updated-header p q s old new middle rest fits =
 
 -- ---- a port and the checksum
 
-whole : (l : List ℕ) → 8 ≤ length l → l ≡ indexed 2 l
+pub whole : (l : List ℕ) → 8 ≤ length l → l ≡ indexed 2 l
 whole l room = subst (λ m. m ≡ indexed 2 m) (sym (cells-drop 8 l room)) refl
 
-udp-ported : (side : Side) (l : List ℕ) → IsPorted with_updated_checksum udp_next side (with_both 2 side l)
+pub udp-ported : (side : Side) (l : List ℕ) → IsPorted with_updated_checksum udp_next side (with_both 2 side l)
 udp-ported side l = ported 2 with_updated_checksum udp_next side l updated-header next-fits
 
 -- translating a UDP packet and then back gives the packet again

@@ -4,13 +4,16 @@ use Rattle.std.proofs.lemmas.List.{length-take-le, take-append-drop, take_at}
 use Rattle.ip_wire.proofs.ByteLists.{AreBytes-drop, AreBytes-slice_range}
 use Rattle.ip_wire.proofs.Spelled.{AreBytes}
 use Rattle.ip_wire.specs.Field.{field, with_field, with_range, word_at}
-use Rattle.ip_wire.specs.Frame.{ReadsTransport, Transport, all_checked, datagram, ipv4_payload, other, segment}
+use Rattle.ip_wire.specs.Frame.{ipv4_payload}
 use Rattle.ip_wire.specs.Ipv4 as ipv4
 use Rattle.ip_wire.specs.Protocol.{protocol_of}
 use Rattle.ip_wire.specs.WordSum.{sum_of_bytes, updated}
-use Rattle.ip_wire.specs.Types.{IpProtocol, Ipv4, Ipv4Repr}
+use Rattle.ip_wire.specs.TcpRepr.{TcpHeader}
+use Rattle.ip_wire.specs.Types.{IpProtocol, Ipv4Repr, UdpRepr}
 use Rattle.ip_wire.specs.declared.IpProtocol.TheVariants as protocol
 use Rattle.ip_wire.proofs.Cells.{cells, cells-all, cells-drop, word_high, word_low}
+use Rattle.ip_nat.proofs.EchoEnds.{echo-back}
+use Rattle.ip_nat.proofs.Echoes.{reply-ident, request-ident}
 use Rattle.ip_nat.proofs.Headers.{addressed, front-len, keeps, past-front, same-inner}
 use Rattle.ip_nat.proofs.Payloads.{drop-front, range-len, range-past, range-same, range-twice}
 use Rattle.ip_nat.proofs.Residues.{sum-fits, updated-back}
@@ -18,7 +21,7 @@ use Rattle.ip_nat.proofs.TcpEnds.{tcp-back}
 use Rattle.ip_nat.proofs.Translates.{addr-read, carried, ended-len, inner-payload, payload-len}
 use Rattle.ip_nat.proofs.UdpEnds.{udp-back}
 use Rattle.ip_nat.proofs.Words.{high-spelled, low-spelled, spelled-fits, spelled-word, word}
-use Rattle.ip_nat.specs.Nat.{CarriesPorts, HasPorts, HasUsualChecksums, IsTranslated, addr_at, addr_of, port_bit, port_of, translated_packet, with_address, with_end}
+use Rattle.ip_nat.specs.Nat.{CarriesPorts, HasUsualChecksums, HasUsualSum, IsTranslated, ReadsPorts, Transport, addr_at, addr_of, datagram, port_bit, port_of, reply, request, segment, translated_packet, with_address, with_end}
 use Rattle.ip_nat.specs.declared.nat.Side.{Side}
 use Rattle.ip_nat.specs.declared.nat.Side.TheVariants.{Source, Destination}
 
@@ -103,29 +106,38 @@ either_order side bytes addr part h n room least most four =
     ∙ sym after.apart
     ∙ ap (with_address side addr) (sym (past-front bytes part h n room least most))
 
--- the port of what was parsed is the port in the bytes
-port-read : (v : Ipv4Repr) (t : Transport) (side : Side) (bytes : List ℕ) → HasPorts t → ReadsTransport all_checked (Ipv4 v) bytes t → port_of side t ≡ field bytes (port_bit side) 16
-port-read v (datagram u payload) Source bytes h r = r.1.src_port
-port-read v (datagram u payload) Destination bytes h r = r.1.dst_port
-port-read v (segment u payload) Source bytes h r = r.1.src_port
-port-read v (segment u payload) Destination bytes h r = r.1.dst_port
-port-read v (other payload) side bytes h r = absurd h
+-- the port of a UDP packet and of a TCP segment is the port in the bytes
+udp-port : (u : UdpRepr) (payload : List ℕ) (v : Ipv4Repr) (side : Side) (bytes : List ℕ) → ReadsPorts v bytes (datagram u payload)
+    → port_of side (datagram u payload) ≡ field bytes (port_bit side) 16
+udp-port u payload v Source bytes r = r.1.src_port
+udp-port u payload v Destination bytes r = r.1.dst_port
 
-transport-back : (v : Ipv4Repr) (t : Transport) (side : Side) (old new : List ℕ) (port : ℕ) (bytes : List ℕ) → AreBytes bytes → port < 65536 → HasPorts t
-    → (v.next_header ≡ protocol.Tcp → field bytes 128 16 ≢ 65535)
-    → ReadsTransport all_checked (Ipv4 v) bytes t → with_end v.next_header side new old (port_of side t) (with_end v.next_header side old new port bytes) ≡ bytes
-transport-back v (datagram u payload) side old new port bytes are fits h usual r =
-    let port_is = port-read v (datagram u payload) side bytes h r in
+tcp-port : (u : TcpHeader) (payload : List ℕ) (v : Ipv4Repr) (side : Side) (bytes : List ℕ) → ReadsPorts v bytes (segment u payload)
+    → port_of side (segment u payload) ≡ field bytes (port_bit side) 16
+tcp-port u payload v Source bytes r = r.1.src_port
+tcp-port u payload v Destination bytes r = r.1.dst_port
+
+transport-back : (v : Ipv4Repr) (t : Transport) (side : Side) (old new : List ℕ) (port : ℕ) (bytes : List ℕ) → AreBytes bytes → port < 65536
+    → (v.next_header ≡ protocol.Tcp → field bytes 128 16 ≢ 65535) → (v.next_header ≡ protocol.Icmp → HasUsualSum bytes)
+    → ReadsPorts v bytes t → with_end v.next_header side new old (port_of side t) (with_end v.next_header side old new port bytes) ≡ bytes
+transport-back v (datagram u payload) side old new port bytes are fits usual usual_echo r =
+    let port_is = udp-port u payload v side bytes r in
     (λ i. with_end (r.0 i) side new old (port_is i) (with_end (r.0 i) side old new port bytes)) ∙ udp-back side bytes old new port are r.1.lengths.least fits
-transport-back v (segment u payload) side old new port bytes are fits h usual r =
-    let port_is = port-read v (segment u payload) side bytes h r in
+transport-back v (segment u payload) side old new port bytes are fits usual usual_echo r =
+    let port_is = tcp-port u payload v side bytes r in
     (λ i. with_end (r.0 i) side new old (port_is i) (with_end (r.0 i) side old new port bytes)) ∙ tcp-back side bytes old new port are (omega (arith, r.1.lengths.least)) (usual r.0) fits
-transport-back v (other payload) side old new port bytes are fits h usual r = absurd h
+transport-back v (request ident seq_no payload) side old new port bytes are fits usual usual_echo r =
+    let ident_is = request-ident bytes v ident seq_no payload are r in
+    (λ i. with_end (r.0 i) side new old (ident_is i) (with_end (r.0 i) side old new port bytes)) ∙ echo-back bytes old new port are r.1.least (usual_echo r.0)
+transport-back v (reply ident seq_no payload) side old new port bytes are fits usual usual_echo r =
+    let ident_is = reply-ident bytes v ident seq_no payload are r in
+    (λ i. with_end (r.0 i) side new old (ident_is i) (with_end (r.0 i) side old new port bytes)) ∙ echo-back bytes old new port are r.1.least (usual_echo r.0)
 
 packet-back : (bytes : List ℕ) (v : Ipv4Repr) (t : Transport) (side : Side) (addr : List ℕ) (port : ℕ) → CarriesPorts bytes v t → AreBytes bytes → length addr ≡ 4 → port < 65536
     → field bytes 80 16 ≢ 65535 → (protocol_of (field bytes 72 8) ≡ protocol.Tcp → field (ipv4_payload bytes) 128 16 ≢ 65535)
+    → (protocol_of (field bytes 72 8) ≡ protocol.Icmp → HasUsualSum (ipv4_payload bytes))
     → translated_packet side (addr_of side v) (port_of side t) (translated_packet side addr port bytes) ≡ bytes
-packet-back bytes v t side addr port c are four fits usual usual_tcp =
+packet-back bytes v t side addr port c are four fits usual usual_tcp usual_echo =
     let h = ipv4.header_len bytes in
     let n = ipv4.total_len bytes in
     let r = c.reads.0 in
@@ -151,7 +163,7 @@ packet-back bytes v t side addr port c are four fits usual usual_tcp =
     let is_payload : ipv4_payload Q ≡ T = k.payload ∙ inner-payload bytes T v r T_len in
     let back : with_end p side addr old port_was T ≡ S =
     ap (λ (q : IpProtocol). with_end q side addr old port_was (with_end q side old addr port S)) (sym r.next_header)
-    ∙ transport-back v t side old addr port S are_inner fits c.ports (λ tcp. usual_tcp (sym r.next_header ∙ tcp)) c.carries in
+    ∙ transport-back v t side old addr port S are_inner fits (λ tcp. usual_tcp (sym r.next_header ∙ tcp)) (λ echo. usual_echo (sym r.next_header ∙ echo)) c.carries in
     ap (λ (a : List ℕ). translated_packet side a port_was Q) (addr-read side bytes v r)
     ∙ (λ i. with_address side old (with_range Q (is_header i) (is_total i) (with_end (is_protocol i) side (k.written i) old port_was (is_payload i))))
     ∙ ap (λ (l : List ℕ). with_address side old (with_range Q h n l)) back
@@ -173,5 +185,5 @@ undone frame there back side addr port was are four fits usual again =
     again.bytes
     ∙ (λ i. first i ++ translated_packet side (addr_of side was.header) (port_of side was.transport) (behind i))
     ∙ ap (λ (l : List ℕ). take 14 frame ++ l)
-    (packet-back (drop 14 frame) was.header was.transport side addr port (carried frame was.link was.header was.transport was.before) (AreBytes-drop 14 frame are) four fits usual.ipv4 usual.tcp)
+    (packet-back (drop 14 frame) was.header was.transport side addr port (carried frame was.link was.header was.transport was.before) (AreBytes-drop 14 frame are) four fits usual.ipv4 usual.tcp usual.icmp)
     ∙ take-append-drop 14 frame

@@ -3,15 +3,15 @@ use Rattle.std.proofs.Common.{◌≡◌, ◌∙◌, ◌<◌, List, ℕ, Result, 
 use Rattle.ip_nat.proofs.NatOnce.{carries-unrejected, header-of-one, transport-of-one}
 use Rattle.ip_nat.proofs.Translates.{carried}
 use Rattle.ip_nat.proofs.Undone.{undone}
-use Rattle.ip_nat.specs.Nat.{AllowsPort, Describes, HasPorts, HasUsualChecksums, IsPacket, IsTranslated, IsUntranslated, addr_of, on_side, port_of, with_addr, with_port}
+use Rattle.ip_nat.specs.Nat.{AllowsPort, Describes, HasUsualChecksums, IsPacket, IsTranslated, IsUntranslated, ReadsPorts, Transport, addr_of, datagram, on_side, port_of, reply, request, segment, with_addr, with_port}
 use Rattle.ip_nat.specs.declared.nat.Rejection.{Rejection}
 use Rattle.ip_nat.specs.declared.nat.Rejection.TheVariants.{ZeroPort}
 use Rattle.ip_nat.specs.declared.nat.Side.{Side}
 use Rattle.ip_nat.specs.declared.nat.Side.TheVariants.{Source, Destination}
 use Rattle.ip_nat.specs.declared.packet.Packet.{Packet}
 use Rattle.ip_wire.proofs.Spelled.{AreBytes}
-use Rattle.ip_wire.specs.Frame.{ReadsTransport, Transport, all_checked, datagram, ipv4_payload, other, segment}
-use Rattle.ip_wire.specs.Types.{Ipv4, Ipv4Repr}
+use Rattle.ip_wire.specs.Frame.{ipv4_payload}
+use Rattle.ip_wire.specs.Types.{Ipv4Repr}
 
 -- the port of a packet on a side
 described-port : (side : Side) (p : Packet) (t : Transport) → Describes p t → on_side p.src_port p.dst_port side ≡ port_of side t
@@ -19,13 +19,15 @@ described-port Source p t d = d.src_port
 described-port Destination p t d = d.dst_port
 
 -- the port that a transport had is accepted after another one was written
-allowed-back : (v : Ipv4Repr) (bytes : List ℕ) (side : Side) (port : ℕ) (t : Transport) → HasPorts t → ReadsTransport all_checked (Ipv4 v) bytes t
-    → AllowsPort side (with_port side port t) (port_of side t)
-allowed-back v bytes Source port (datagram u payload) h r = tt
-allowed-back v bytes Destination port (datagram u payload) h r = λ zero. r.1.receiver (sym r.1.dst_port ∙ zero)
-allowed-back v bytes Source port (segment u payload) h r = λ zero. r.1.sender (sym r.1.src_port ∙ zero)
-allowed-back v bytes Destination port (segment u payload) h r = λ zero. r.1.receiver (sym r.1.dst_port ∙ zero)
-allowed-back v bytes side port (other payload) h r = absurd h
+allowed-back : (v : Ipv4Repr) (bytes : List ℕ) (side : Side) (port : ℕ) (t : Transport) → ReadsPorts v bytes t → AllowsPort side (with_port side port t) (port_of side t)
+allowed-back v bytes Source port (datagram u payload) r = tt
+allowed-back v bytes Destination port (datagram u payload) r = λ zero. r.1.receiver (sym r.1.dst_port ∙ zero)
+allowed-back v bytes Source port (segment u payload) r = λ zero. r.1.sender (sym r.1.src_port ∙ zero)
+allowed-back v bytes Destination port (segment u payload) r = λ zero. r.1.receiver (sym r.1.dst_port ∙ zero)
+allowed-back v bytes Source port (request ident seq_no payload) r = tt
+allowed-back v bytes Destination port (request ident seq_no payload) r = tt
+allowed-back v bytes Source port (reply ident seq_no payload) r = tt
+allowed-back v bytes Destination port (reply ident seq_no payload) r = tt
 
 -- a translated frame may get its port back
 back-untranslated : (old new : List ℕ) (side : Side) (addr : List ℕ) (port : ℕ) (r : Rejection) (was : IsTranslated old new side addr port)
@@ -34,7 +36,7 @@ back-untranslated old new side addr port ZeroPort was why =
     let v = was.header in
     let t = was.transport in
     let read = carried old was.link v t was.before in
-    let accepts = allowed-back v (ipv4_payload (drop 14 old)) side port t was.before.ports read.carries in
+    let accepts = allowed-back v (ipv4_payload (drop 14 old)) side port t read.carries in
     let same = transport-of-one new was.link why.link (with_addr side addr v) why.header (with_port side port t) why.transport was.after why.carries in
     why.refused (subst (λ u. AllowsPort side u (port_of side t)) same accepts)
 back-untranslated old new side addr port r was why = carries-unrejected new was.link (with_addr side addr was.header) (with_port side port was.transport) r was.after why

@@ -1,4 +1,4 @@
--- No live mapping leads to port 0.
+-- No live mapping of UDP or TCP leads to port 0.
 use Rattle.std.proofs.Common.{ℕ, ◌≡◌, ◌≢◌, ◌∙◌, inl, inr, List, Result, Ok, Err, IfErr, IfOk, length, sym, ap, subst}
 use Rattle.std.proofs.Math.ListN.{set}
 use Rattle.ip_flows.proofs.Calls.{after_inbound-inside}
@@ -11,33 +11,36 @@ use Rattle.ip_flows.specs.declared.Ipv4Endpoint.{Ipv4Endpoint}
 use Rattle.ip_flows.specs.declared.Mapping.{Mapping}
 use Rattle.ip_flows.specs.declared.Nat.{Nat}
 use Rattle.ip_flows.specs.declared.Protocol.{Protocol}
-use Rattle.ip_nat.proofs.Answered.{chosen-exists, chosen-leads}
+use Rattle.ip_flows.specs.declared.Protocol.TheVariants.{Icmp}
+use Rattle.ip_nat.proofs.Answered.{answered-port, chosen-exists, chosen-leads}
 use Rattle.ip_nat.specs.Flows.{ComesIn, GoesOut, IsKeptOutside, LeadsToPorts, destination_of, event_of, source_of}
 use Rattle.ip_nat.specs.declared.nat.Rejection.{Rejection}
 use Rattle.ip_nat.specs.declared.nat.Rejection.TheVariants.{NotIpv4, BadHeader, WrongChecksum, Fragment, OtherProtocol, BadTransport, ZeroPort, NoMapping, NoFreePort}
 
 -- a written mapping that leads to a port
 written : (nat : Nat) (old new : List Mapping) (now : ℕ) (a : Protocol) (p : ℕ) (m : Mapping) (inside : Ipv4Endpoint) → HasPort nat (length old) p
-    → new ≡ set old (place_of nat a p) m → IsOf inside m → inside.port ≢ 0 → LeadsToPorts nat old now → LeadsToPorts nat new now
-written nat old new now a p m inside here is of some ports b q e mapped =
+    → new ≡ set old (place_of nat a p) m → IsOf inside m → (a ≢ Icmp → inside.port ≢ 0) → LeadsToPorts nat old now → LeadsToPorts nat new now
+written nat old new now a p m inside here is of some ports b q e no_echo mapped =
     elim (changed nat old now a b p q m e here (subst (λ l. MapsTo nat l now b q e) is mapped)) [
-      | inl was ↦ ports b q e was
-      | inr there ↦ λ zero. some (ap (λ (x : Ipv4Endpoint). x.port) (same-end m inside e of there.leads) ∙ zero)
+      | inl was ↦ ports b q e no_echo was
+      | inr there ↦ λ zero. some (λ icmp. no_echo (there.protocol ∙ icmp)) (ap (λ (x : Ipv4Endpoint). x.port) (same-end m inside e of there.leads) ∙ zero)
     ]
 
 pub out-ports : {T : Type 0} (result : Result T Rejection) (nat : Nat) (old new : List Mapping) (now : ℕ) (before after : List ℕ)
     → IfOk result (λ _. GoesOut nat old new now before after) → IfErr result (λ _. new ≡ old) → LeadsToPorts nat old now → LeadsToPorts nat new now
-out-ports (Ok v) nat old new now before after g same ports =
+out-ports (Ok v) nat old new now before after (inr e) same ports = subst (λ l. LeadsToPorts nat l now) (sym e.2) ports
+out-ports (Ok v) nat old new now before after (inl g) same ports =
     let o = g.opens in
     written nat old new now (protocol_of (event_of g.packet)) g.port o.mapping (source_of g.packet)
     (chosen-exists nat old now (event_of g.packet) (source_of g.packet) (destination_of g.packet) g.port o.mapping o.chosen) o.becomes
-    (chosen-leads nat old now (event_of g.packet) (source_of g.packet) (destination_of g.packet) g.port o.mapping o.chosen) g.answerable ports
+    (chosen-leads nat old now (event_of g.packet) (source_of g.packet) (destination_of g.packet) g.port o.mapping o.chosen)
+    (answered-port g.packet.kind g.packet.src_port g.answerable) ports
 out-ports (Err reason) nat old new now before after g same ports = subst (λ l. LeadsToPorts nat l now) (sym same) ports
 
 -- a reason other than ZeroPort leaves the table
 kept-table : (nat : Nat) (old new : List Mapping) (now : ℕ) (frame : List ℕ) (reason : Rejection) → IsKeptOutside nat old new now frame reason → LeadsToPorts nat old now
     → (reason ≢ ZeroPort) × (new ≡ old)
-kept-table nat old new now frame ZeroPort why ports = absurd (ports _ _ _ why.finds.mapped why.zero)
+kept-table nat old new now frame ZeroPort why ports = absurd (ports _ _ _ why.no_echo why.finds.mapped why.zero)
 kept-table nat old new now frame NoMapping why ports = (λ is. cc, why.1)
 kept-table nat old new now frame NotIpv4 why ports = (λ is. cc, why.1)
 kept-table nat old new now frame BadHeader why ports = (λ is. cc, why.1)
@@ -59,9 +62,10 @@ in-table (Err reason) nat old new now frame why ports = (kept-table nat old new 
 
 pub in-ports : {T : Type 0} (result : Result T Rejection) (nat : Nat) (old new : List Mapping) (now : ℕ) (before after : List ℕ)
     → IfOk result (λ _. ComesIn nat old new now before after) → IfErr result (IsKeptOutside nat old new now before) → LeadsToPorts nat old now → LeadsToPorts nat new now
-in-ports (Ok v) nat old new now before after g why ports =
+in-ports (Ok v) nat old new now before after (inr e) why ports = subst (λ l. LeadsToPorts nat l now) (sym e.2) ports
+in-ports (Ok v) nat old new now before after (inl g) why ports =
     let f = g.finds in
     let m = mapping_at nat old (protocol_of (event_of g.packet)) g.packet.dst_port in
     written nat old new now (protocol_of (event_of g.packet)) g.packet.dst_port (after_inbound nat now (event_of g.packet) (source_of g.packet) m) g.inside f.mapped.exists f.becomes
-    (after_inbound-inside nat now (event_of g.packet) (source_of g.packet) m g.inside f.mapped.leads) (ports _ _ g.inside f.mapped) ports
+    (after_inbound-inside nat now (event_of g.packet) (source_of g.packet) m g.inside f.mapped.leads) (λ no_echo. ports _ _ g.inside no_echo f.mapped) ports
 in-ports (Err reason) nat old new now before after g why ports = subst (λ l. LeadsToPorts nat l now) (sym (kept-table nat old new now before reason why ports).1) ports

@@ -1,5 +1,5 @@
--- Frames that go out and come in by a table of mappings (RFC 3022, section 4.1; RFC 4787).
-use Rattle.std.specs.Prelude.{ℕ, ◌≡◌, ◌≢◌, ◌<◌, List, Option, Some, None}
+-- Frames that go out and come in by a table of mappings (RFC 3022, section 4.1; RFC 4787; RFC 5508).
+use Rattle.std.specs.Prelude.{ℕ, ◌≡◌, ◌≢◌, ◌<◌, ◌⊎◌, List, ⊤}
 use Rattle.ip_flows.specs.State.{protocol_of}
 use Rattle.ip_flows.specs.Table.{Finds, IsFull, MapsTo, Opens, mapping_at}
 use Rattle.ip_flows.specs.declared.Event.{Event}
@@ -8,11 +8,14 @@ use Rattle.ip_flows.specs.declared.Ipv4Endpoint.{Ipv4Endpoint}
 use Rattle.ip_flows.specs.declared.Mapping.{Mapping}
 use Rattle.ip_flows.specs.declared.Nat.{Nat}
 use Rattle.ip_flows.specs.declared.Protocol.{Protocol}
-use Rattle.ip_wire.specs.declared.TcpControl.{TcpControl}
+use Rattle.ip_flows.specs.declared.Protocol.TheVariants.{Icmp}
+use Rattle.ip_nat.specs.Errors.{ErrorComesIn, ErrorGoesOut, IsRejectedError, IsUnmappedError, IsUnopenedError}
 use Rattle.ip_nat.specs.Nat.{IsPacket, IsRejected, IsTranslated}
 use Rattle.ip_nat.specs.declared.nat.Rejection.{Rejection}
-use Rattle.ip_nat.specs.declared.nat.Rejection.TheVariants.{ZeroPort, NoMapping, NoFreePort}
+use Rattle.ip_nat.specs.declared.nat.Rejection.TheVariants.{OtherProtocol, BadTransport, ZeroPort, NoMapping, NoFreePort}
 use Rattle.ip_nat.specs.declared.nat.Side.TheVariants.{Source, Destination}
+use Rattle.ip_nat.specs.declared.packet.Kind.{Kind}
+use Rattle.ip_nat.specs.declared.packet.Kind.TheVariants as kind
 use Rattle.ip_nat.specs.declared.packet.Packet.{Packet}
 
 -- ---- packets
@@ -24,14 +27,16 @@ source_of p = record { addr = p.header.src_addr; port = p.src_port }
 abbrev pub destination_of : Packet → Ipv4Endpoint
 destination_of p = record { addr = p.header.dst_addr; port = p.dst_port }
 
--- the event of a packet with this control flag
-abbrev pub event_by : Option TcpControl → Event
-event_by None = event.Udp
-event_by (Some control) = event.Tcp control
+-- the event of a packet of this kind
+abbrev pub event_by : Kind → Event
+event_by kind.Udp = event.Udp
+event_by (kind.Tcp control) = event.Tcp control
+event_by kind.EchoRequest = event.Icmp
+event_by kind.EchoReply = event.Icmp
 
 -- what the table looks at in a packet
 abbrev pub event_of : Packet → Event
-event_of p = event_by p.control
+event_of p = event_by p.kind
 
 -- the protocol of a packet
 abbrev pub flow_protocol : Packet → Protocol
@@ -39,12 +44,28 @@ flow_protocol p = protocol_of (event_of p)
 
 -- ---- frames that go out
 
+-- an answer can come to a packet of this kind with this source port: to an echo request with any identifier, to no echo reply,
+-- and to a UDP or TCP packet unless its source port is 0
+abbrev pub AnswerReaches : Kind → ℕ → Type 0
+AnswerReaches kind.EchoRequest port = ⊤
+AnswerReaches kind.EchoReply port = ⊥
+AnswerReaches _ port = port ≢ 0
+
+abbrev pub IsAnswerable : Packet → Type 0
+IsAnswerable p = AnswerReaches p.kind p.src_port
+
+-- the reason why no answer can come to it
+abbrev pub IsUnanswerable : Packet → Rejection → Type 0
+IsUnanswerable p ZeroPort = (flow_protocol p ≢ Icmp) × (p.src_port ≡ 0)
+IsUnanswerable p NoMapping = p.kind ≡ kind.EchoReply
+IsUnanswerable p _ = ⊥
+
 -- The frame goes out: it carries this packet, the table gives its source this outside port, and the outside address and the
 -- port replace the source.
-pub record GoesOut (nat : Nat) (old new : List Mapping) (now : ℕ) (before after : List ℕ) : Type 0 where
+pub record PacketGoesOut (nat : Nat) (old new : List Mapping) (now : ℕ) (before after : List ℕ) : Type 0 where
   pub packet : Packet
   pub carries : IsPacket before packet
-  pub answerable : packet.src_port ≢ 0
+  pub answerable : IsAnswerable packet
   pub port : ℕ
   pub opens : Opens nat old new now (event_of packet) (source_of packet) (destination_of packet) port
   pub translated : IsTranslated before after Source nat.outside port
@@ -53,57 +74,92 @@ pub record GoesOut (nat : Nat) (old new : List Mapping) (now : ℕ) (before afte
 pub record HasNoPort (nat : Nat) (mappings : List Mapping) (now : ℕ) (frame : List ℕ) : Type 0 where
   pub packet : Packet
   pub carries : IsPacket frame packet
-  pub answerable : packet.src_port ≢ 0
+  pub answerable : IsAnswerable packet
   pub full : IsFull nat mappings now (flow_protocol packet) (source_of packet)
 
--- the frame carries a packet from port 0, which no answer could reach
-pub record IsUnanswerable (frame : List ℕ) : Type 0 where
+-- the frame carries a packet to which no answer can come, for this reason
+pub record GetsNoAnswer (frame : List ℕ) (reason : Rejection) : Type 0 where
   pub packet : Packet
   pub carries : IsPacket frame packet
-  pub zero : packet.src_port ≡ 0
+  pub unanswerable : IsUnanswerable packet reason
 
 -- the reason why a frame does not go out
-abbrev pub IsKeptInside : Nat → List Mapping → ℕ → List ℕ → Rejection → Type 0
-IsKeptInside nat mappings now frame ZeroPort = IsUnanswerable frame
-IsKeptInside nat mappings now frame NoFreePort = HasNoPort nat mappings now frame
-IsKeptInside nat mappings now frame reason = IsRejected frame reason
+abbrev pub IsPacketKeptInside : Nat → List Mapping → ℕ → List ℕ → Rejection → Type 0
+IsPacketKeptInside nat mappings now frame ZeroPort = GetsNoAnswer frame ZeroPort
+IsPacketKeptInside nat mappings now frame NoMapping = GetsNoAnswer frame NoMapping
+IsPacketKeptInside nat mappings now frame NoFreePort = HasNoPort nat mappings now frame
+IsPacketKeptInside nat mappings now frame reason = IsRejected frame reason
 
 -- ---- frames that come in
 
--- The frame comes in: it carries this packet for the outside address, the table has this inside endpoint for its port, and
--- the inside endpoint replaces the destination.
-pub record ComesIn (nat : Nat) (old new : List Mapping) (now : ℕ) (before after : List ℕ) : Type 0 where
+-- The frame comes in: it carries this packet for the outside address, which is no echo request, the table has this inside
+-- endpoint for its port, and the inside endpoint replaces the destination.
+pub record PacketComesIn (nat : Nat) (old new : List Mapping) (now : ℕ) (before after : List ℕ) : Type 0 where
   pub packet : Packet
   pub carries : IsPacket before packet
   pub outside : packet.header.dst_addr ≡ nat.outside
+  pub no_request : packet.kind ≢ kind.EchoRequest
   pub inside : Ipv4Endpoint
   pub finds : Finds nat old new now (event_of packet) packet.dst_port (source_of packet) inside
   pub translated : IsTranslated before after Destination inside.addr inside.port
 
--- the packet is not for the outside address, or no live mapping has its port
+-- the packet is not for the outside address, or an echo request, or no live mapping has its port
 pub record IsUnmappedFrame (nat : Nat) (mappings : List Mapping) (now : ℕ) (frame : List ℕ) : Type 0 where
   pub packet : Packet
   pub carries : IsPacket frame packet
-  pub unmapped : packet.header.dst_addr ≡ nat.outside → (inside : Ipv4Endpoint) → ¬ MapsTo nat mappings now (flow_protocol packet) packet.dst_port inside
+  pub unmapped : packet.header.dst_addr ≡ nat.outside → packet.kind ≢ kind.EchoRequest → (inside : Ipv4Endpoint) → ¬ MapsTo nat mappings now (flow_protocol packet) packet.dst_port inside
 
--- the packet is for an outside port that is mapped to port 0, which translate_out never does
+-- the UDP or TCP packet is for an outside port that is mapped to port 0, which translate_out never does
 pub record LeadsToZero (nat : Nat) (old new : List Mapping) (now : ℕ) (frame : List ℕ) : Type 0 where
   pub packet : Packet
   pub carries : IsPacket frame packet
   pub outside : packet.header.dst_addr ≡ nat.outside
+  pub no_echo : flow_protocol packet ≢ Icmp
   pub inside : Ipv4Endpoint
   pub finds : Finds nat old new now (event_of packet) packet.dst_port (source_of packet) inside
   pub zero : inside.port ≡ 0
 
 -- the reason why a frame does not come in, and what becomes of the table
-abbrev pub IsKeptOutside : Nat → List Mapping → List Mapping → ℕ → List ℕ → Rejection → Type 0
-IsKeptOutside nat old new now frame ZeroPort = LeadsToZero nat old new now frame
-IsKeptOutside nat old new now frame NoMapping = IsUnmappedFrame nat old now frame × (new ≡ old)
-IsKeptOutside nat old new now frame reason = IsRejected frame reason × (new ≡ old)
+abbrev pub IsPacketKeptOutside : Nat → List Mapping → List Mapping → ℕ → List ℕ → Rejection → Type 0
+IsPacketKeptOutside nat old new now frame ZeroPort = LeadsToZero nat old new now frame
+IsPacketKeptOutside nat old new now frame NoMapping = IsUnmappedFrame nat old now frame × (new ≡ old)
+IsPacketKeptOutside nat old new now frame reason = IsRejected frame reason × (new ≡ old)
 
--- no live mapping leads to port 0
+-- ---- all frames
+
+-- The frame goes out: its packet does, or it carries none of these packets but an ICMP error that goes out. An error leaves the
+-- table as it is.
+abbrev pub GoesOut : Nat → List Mapping → List Mapping → ℕ → List ℕ → List ℕ → Type 0
+GoesOut nat old new now before after =
+    PacketGoesOut nat old new now before after ⊎ (IsRejected before OtherProtocol × ErrorGoesOut nat old now before after × (new ≡ old))
+
+-- the reason why a frame does not go out
+abbrev pub IsKeptInside : Nat → List Mapping → ℕ → List ℕ → Rejection → Type 0
+IsKeptInside nat mappings now frame NoMapping =
+    IsPacketKeptInside nat mappings now frame NoMapping ⊎ (IsRejected frame OtherProtocol × IsUnopenedError nat mappings now frame)
+IsKeptInside nat mappings now frame OtherProtocol = IsRejected frame OtherProtocol × IsRejectedError Destination frame OtherProtocol
+IsKeptInside nat mappings now frame BadTransport =
+    IsRejected frame BadTransport ⊎ (IsRejected frame OtherProtocol × IsRejectedError Destination frame BadTransport)
+IsKeptInside nat mappings now frame reason = IsPacketKeptInside nat mappings now frame reason
+
+-- the same of frames that come in
+abbrev pub ComesIn : Nat → List Mapping → List Mapping → ℕ → List ℕ → List ℕ → Type 0
+ComesIn nat old new now before after =
+    PacketComesIn nat old new now before after ⊎ (IsRejected before OtherProtocol × ErrorComesIn nat old now before after × (new ≡ old))
+
+-- the reason why a frame does not come in, and what becomes of the table
+abbrev pub IsKeptOutside : Nat → List Mapping → List Mapping → ℕ → List ℕ → Rejection → Type 0
+IsKeptOutside nat old new now frame NoMapping =
+    (IsUnmappedFrame nat old now frame ⊎ (IsRejected frame OtherProtocol × IsUnmappedError nat old now frame)) × (new ≡ old)
+IsKeptOutside nat old new now frame OtherProtocol = (IsRejected frame OtherProtocol × IsRejectedError Source frame OtherProtocol) × (new ≡ old)
+IsKeptOutside nat old new now frame BadTransport =
+    (IsRejected frame BadTransport ⊎ (IsRejected frame OtherProtocol × IsRejectedError Source frame BadTransport)) × (new ≡ old)
+IsKeptOutside nat old new now frame reason = IsPacketKeptOutside nat old new now frame reason
+
+-- no live mapping of UDP or TCP leads to port 0; one of ICMP may lead to the identifier 0
 abbrev pub LeadsToPorts : Nat → List Mapping → ℕ → Type 0
-LeadsToPorts nat mappings now = (protocol : Protocol) (port : ℕ) (inside : Ipv4Endpoint) → MapsTo nat mappings now protocol port inside → inside.port ≢ 0
+LeadsToPorts nat mappings now =
+    (protocol : Protocol) (port : ℕ) (inside : Ipv4Endpoint) → protocol ≢ Icmp → MapsTo nat mappings now protocol port inside → inside.port ≢ 0
 
 -- ---- answers
 
@@ -111,19 +167,20 @@ LeadsToPorts nat mappings now = (protocol : Protocol) (port : ℕ) (inside : Ipv
 abbrev pub IsLive : Nat → List Mapping → ℕ → Protocol → ℕ → Type 0
 IsLive nat mappings now protocol port = now < (mapping_at nat mappings protocol port).expires
 
--- any frames pass through the NAT, from this table on, until it is the last one; each comes before the mapping of this
+-- any packets pass through the NAT, from this table on, until it is the last one (ICMP errors leave a table as it is); each comes
+-- before the mapping of this
 -- port expires
 pub data Passes (nat : Nat) (protocol : Protocol) (port : ℕ) (last : List Mapping) : List Mapping → Type 0 where
   passes_none : Passes nat protocol port last last
-  passes_out : (old new : List Mapping) (now : ℕ) (before after : List ℕ) → IsLive nat old now protocol port → GoesOut nat old new now before after
+  passes_out : (old new : List Mapping) (now : ℕ) (before after : List ℕ) → IsLive nat old now protocol port → PacketGoesOut nat old new now before after
       → Passes nat protocol port last new → Passes nat protocol port last old
-  passes_in : (old new : List Mapping) (now : ℕ) (before after : List ℕ) → IsLive nat old now protocol port → ComesIn nat old new now before after
+  passes_in : (old new : List Mapping) (now : ℕ) (before after : List ℕ) → IsLive nat old now protocol port → PacketComesIn nat old new now before after
       → Passes nat protocol port last new → Passes nat protocol port last old
   bounces : (old new : List Mapping) (now : ℕ) (frame : List ℕ) → IsLive nat old now protocol port → LeadsToZero nat old new now frame
       → Passes nat protocol port last new → Passes nat protocol port last old
 
--- A frame answers another one, which went out: it is for the source that this one then had, by the same protocol. Any frames
--- may have passed since, and the mapping has not expired.
+-- A frame answers another one, which went out: it is for the source that this one then had, by the same protocol, and no echo
+-- request. Any frames may have passed since, and the mapping has not expired.
 pub record IsAnswer (nat : Nat) (mappings later : List Mapping) (now : ℕ) (sent answer : List ℕ) : Type 0 where
   pub packet : Packet
   pub carries : IsPacket sent packet
@@ -131,5 +188,6 @@ pub record IsAnswer (nat : Nat) (mappings later : List Mapping) (now : ℕ) (sen
   pub replies : IsPacket answer reply
   pub to : destination_of reply ≡ source_of packet
   pub protocol : flow_protocol reply ≡ flow_protocol packet
+  pub no_request : reply.kind ≢ kind.EchoRequest
   pub passes : Passes nat (flow_protocol packet) packet.src_port later mappings
   pub live : IsLive nat later now (flow_protocol packet) packet.src_port

@@ -1,22 +1,28 @@
 -- Network address translation of one address and port (RFC 3022, sections 2.2 and 4.1), with updated checksums (RFC 1624).
-use Rattle.std.specs.Prelude.{ℕ, ⊤, ◌≡◌, ◌≢◌, ◌↔◌, ◌++◌, IsTrue, false, true, List, Option, Some, None, drop, take, slice_range}
+use Rattle.std.specs.Prelude.{ℕ, ⊤, ◌≡◌, ◌≢◌, ◌↔◌, ◌++◌, IsTrue, false, true, List, [], drop, take, slice_range}
 use Rattle.ip_wire.specs.Ethernet as ethernet
 use Rattle.ip_wire.specs.Field.{field, with_field, with_range}
-use Rattle.ip_wire.specs.Frame.{IsReadWhole, ReadsPacket, ReadsTransport, Transport, all_checked, datagram, ipv4_payload, other, packet, segment}
+use Rattle.ip_wire.specs.Frame as whole
+use Rattle.ip_wire.specs.Frame.{IsReadWhole, ReadsPacket, ReadsTransport, all_checked, ipv4_payload, packet}
 use Rattle.ip_wire.specs.Ipv4 as ipv4
 use Rattle.ip_wire.specs.Protocol.{protocol_of}
 use Rattle.ip_wire.specs.Tcp as tcp
-use Rattle.ip_wire.specs.declared.TcpControl.{TcpControl}
 use Rattle.ip_wire.specs.TcpRepr.{TcpHeader}
 use Rattle.ip_wire.specs.Udp as udp
 use Rattle.ip_wire.specs.WordSum.{sum_of_bytes}
 use Rattle.ip_wire.specs.declared.EthernetProtocol.TheVariants as ethertype
 use Rattle.ip_wire.specs.Types.{EthernetRepr, IpProtocol, Ipv4, Ipv4Repr, UdpRepr}
+use Rattle.ip_wire.specs.declared.IpAddress.TheVariants as address
 use Rattle.ip_wire.specs.declared.IpProtocol.TheVariants as protocol
+use Rattle.wire_icmp.specs.Icmp as icmp
+use Rattle.wire_icmp.specs.declared.icmp.repr.IcmpRepr.{IcmpRepr}
+use Rattle.wire_icmp.specs.declared.icmp.repr.IcmpRepr.TheVariants.{EchoRequest, EchoReply}
 use Rattle.ip_nat.specs.declared.nat.Rejection.{Rejection}
 use Rattle.ip_nat.specs.declared.nat.Rejection.TheVariants.{NotIpv4, BadHeader, WrongChecksum, Fragment, OtherProtocol, BadTransport, ZeroPort}
 use Rattle.ip_nat.specs.declared.nat.Side.{Side}
 use Rattle.ip_nat.specs.declared.nat.Side.TheVariants.{Source, Destination}
+use Rattle.ip_nat.specs.declared.packet.Kind.{Kind}
+use Rattle.ip_nat.specs.declared.packet.Kind.TheVariants as kind
 use Rattle.ip_nat.specs.declared.packet.Packet.{Packet}
 
 -- ---- values
@@ -39,50 +45,53 @@ abbrev pub with_tcp_port : Side → ℕ → TcpHeader → TcpHeader
 with_tcp_port Source port v = record v { src_port = port }
 with_tcp_port Destination port v = record v { dst_port = port }
 
--- What is said of the ports of a transport: whether it has any, the one on a side, and the transport with another one there.
-pub record Ports : Type 1 where
-  pub exist : Type 0
-  pub at : Side → ℕ
-  pub replaced : Side → ℕ → Transport
+-- what a NAT translates in a packet: a UDP packet, a TCP segment, or an ICMP echo message with its identifier, its sequence
+-- number and its data
+pub data Transport : Type 0 where
+  datagram : UdpRepr → List ℕ → Transport
+  segment : TcpHeader → List ℕ → Transport
+  request : ℕ → ℕ → List ℕ → Transport
+  reply : ℕ → ℕ → List ℕ → Transport
 
 -- this one of two ports
 abbrev pub on_side : ℕ → ℕ → Side → ℕ
 on_side src dst Source = src
 on_side src dst Destination = dst
 
-abbrev pub ports_of : Transport → Ports
-ports_of (datagram v payload) =
-    record { exist = ⊤; at = on_side v.src_port v.dst_port; replaced = λ side port. datagram (with_udp_port side port v) payload }
-ports_of (segment v payload) =
-    record { exist = ⊤; at = on_side v.src_port v.dst_port; replaced = λ side port. segment (with_tcp_port side port v) payload }
-ports_of (other payload) = record { exist = ⊥; at = λ side. 0; replaced = λ side port. other payload }
-
--- a UDP packet or a TCP segment: both have ports
-abbrev pub HasPorts : Transport → Type 0
-HasPorts t = (ports_of t).exist
-
+-- the port on a side. The identifier of an echo message counts as its port on either side (RFC 5508, section 3.1).
 abbrev pub port_of : Side → Transport → ℕ
-port_of side t = (ports_of t).at side
+port_of side (datagram v payload) = on_side v.src_port v.dst_port side
+port_of side (segment v payload) = on_side v.src_port v.dst_port side
+port_of side (request ident seq_no payload) = ident
+port_of side (reply ident seq_no payload) = ident
 
+-- the transport with another port on this side
 abbrev pub with_port : Side → ℕ → Transport → Transport
-with_port side port t = (ports_of t).replaced side port
+with_port side port (datagram v payload) = datagram (with_udp_port side port v) payload
+with_port side port (segment v payload) = segment (with_tcp_port side port v) payload
+with_port side port (request ident seq_no payload) = request port seq_no payload
+with_port side port (reply ident seq_no payload) = reply port seq_no payload
 
 -- a receiver accepts this port on this side: any source port of a UDP packet, where 0 means that no reply is expected
--- (RFC 768), else any port but 0
+-- (RFC 768), any identifier of an echo message, else any port but 0
 abbrev pub AllowsPort : Side → Transport → ℕ → Type 0
 AllowsPort Source (datagram v payload) port = ⊤
+AllowsPort side (request ident seq_no payload) port = ⊤
+AllowsPort side (reply ident seq_no payload) port = ⊤
 AllowsPort _ _ port = port ≢ 0
 
--- the control flag of a TCP segment
-abbrev pub control_of : Transport → Option TcpControl
-control_of (segment v payload) = Some v.control
-control_of _ = None
+-- its kind, with the control flag of a TCP segment
+abbrev pub kind_of : Transport → Kind
+kind_of (datagram v payload) = kind.Udp
+kind_of (segment v payload) = kind.Tcp v.control
+kind_of (request ident seq_no payload) = kind.EchoRequest
+kind_of (reply ident seq_no payload) = kind.EchoReply
 
--- the ports and the control flag of this packet are those of the transport
+-- the ports and the kind of this packet are those of the transport
 pub record Describes (p : Packet) (transport : Transport) : Type 0 where
   pub src_port : p.src_port ≡ port_of Source transport
   pub dst_port : p.dst_port ≡ port_of Destination transport
-  pub control : p.control ≡ control_of transport
+  pub kind : p.kind ≡ kind_of transport
 
 -- ---- bytes
 
@@ -106,10 +115,15 @@ with_udp_end = with_end_by udp.with_updated_checksum
 abbrev pub with_tcp_end : Side → List ℕ → List ℕ → ℕ → List ℕ → List ℕ
 with_tcp_end = with_end_by tcp.with_updated_checksum
 
+-- the bytes of an echo message with this identifier and a new checksum. Over IPv4 that covers no address.
+abbrev pub with_echo_ident : List ℕ → ℕ → List ℕ → List ℕ
+with_echo_ident addr ident bytes = icmp.with_checksum (address.Ipv4 addr) (address.Ipv4 addr) (with_field bytes 32 16 ident)
+
 -- the payload of a packet of this protocol, for a new address on this side, with this port
 abbrev pub with_end : IpProtocol → Side → List ℕ → List ℕ → ℕ → List ℕ → List ℕ
 with_end protocol.Udp side old new port bytes = with_udp_end side old new port bytes
 with_end protocol.Tcp side old new port bytes = with_tcp_end side old new port bytes
+with_end protocol.Icmp side old new port bytes = with_echo_ident new port bytes
 with_end _ side old new port bytes = bytes
 
 -- the address of an IPv4 header on this side
@@ -140,30 +154,44 @@ LacksChecksum frame = (protocol_of (field (drop 14 frame) 72 8) ≡ protocol.Udp
 
 -- ---- accepted frames
 
--- the bytes are an IPv4 packet with this header that is no fragment and carries a UDP packet or a TCP segment; all
--- checksums are valid
+-- the payload of a packet with this header is an ICMP message that parses as this value and data, with its checksum
+abbrev pub ReadsMessage : Ipv4Repr → List ℕ → IcmpRepr → List ℕ → Type 0
+ReadsMessage header bytes v payload =
+    (header.next_header ≡ protocol.Icmp) × icmp.Reads bytes (address.Ipv4 header.src_addr) (address.Ipv4 header.dst_addr) true v payload
+
+-- the payload of a packet with this header parses as this transport, with its checksum
+abbrev pub ReadsPorts : Ipv4Repr → List ℕ → Transport → Type 0
+ReadsPorts header bytes (datagram v payload) = ReadsTransport all_checked (Ipv4 header) bytes (whole.datagram v payload)
+ReadsPorts header bytes (segment v payload) = ReadsTransport all_checked (Ipv4 header) bytes (whole.segment v payload)
+ReadsPorts header bytes (request ident seq_no payload) = ReadsMessage header bytes (EchoRequest ident seq_no) payload
+ReadsPorts header bytes (reply ident seq_no payload) = ReadsMessage header bytes (EchoReply ident seq_no) payload
+
+-- the bytes are an IPv4 packet with this header that is no fragment and carries this transport; all checksums are valid
 pub record CarriesPorts (bytes : List ℕ) (header : Ipv4Repr) (transport : Transport) : Type 0 where
   pub reads : ReadsPacket all_checked bytes (Ipv4 header)
-  pub carries : ReadsTransport all_checked (Ipv4 header) (ipv4_payload bytes) transport
-  pub ports : HasPorts transport
+  pub carries : ReadsPorts header (ipv4_payload bytes) transport
 
 -- if a receiver accepts the other port: bytes that parse as this transport behind this header parse after the change as the
 -- transport with the other port, behind the header with the other address
 abbrev pub Rewrites : Ipv4Repr → List ℕ → List ℕ → Side → List ℕ → ℕ → Transport → Type 0
 Rewrites header old new side addr port transport =
-    AllowsPort side transport port
-    → ReadsTransport all_checked (Ipv4 header) old transport
-    → ReadsTransport all_checked (Ipv4 (with_addr side addr header)) new (with_port side port transport)
+    AllowsPort side transport port → ReadsPorts header old transport → ReadsPorts (with_addr side addr header) new (with_port side port transport)
 
 -- the frame has this Ethernet header, with EtherType IPv4
 pub record IsIpv4Frame (frame : List ℕ) (link : EthernetRepr) : Type 0 where
   pub reads : ethernet.Reads frame link
   pub names : link.ethertype ≡ ethertype.Ipv4
 
+-- the transport of a packet with this payload, as a receiver without ICMP parses it
+abbrev pub plain : Transport → List ℕ → whole.Transport
+plain (datagram v payload) bytes = whole.datagram v payload
+plain (segment v payload) bytes = whole.segment v payload
+plain _ bytes = whole.other bytes
+
 -- the frame carries such a packet
 pub record Carries (frame : List ℕ) (link : EthernetRepr) (header : Ipv4Repr) (transport : Transport) : Type 0 where
-  pub reads : IsReadWhole frame link (packet (Ipv4 header) transport)
-  pub ports : HasPorts transport
+  pub reads : IsReadWhole frame link (packet (Ipv4 header) (plain transport (ipv4_payload (drop 14 frame))))
+  pub ports : ReadsPorts header (ipv4_payload (drop 14 frame)) transport
 
 -- the frame carries this packet
 pub record IsPacket (frame : List ℕ) (p : Packet) : Type 0 where
@@ -172,10 +200,23 @@ pub record IsPacket (frame : List ℕ) (p : Packet) : Type 0 where
   pub carries : Carries frame link p.header transport
   pub described : Describes p transport
 
--- the reason why the payload of a packet with this header is not parsed
+-- an ICMP message with its checksum, of any type
+pub record IsMessage (bytes : List ℕ) : Type 0 where
+  pub whole : icmp.HasHeader bytes
+  pub checksum : sum_of_bytes bytes ≡ 65535
+
+-- the payload of a packet with this header parses: as the UDP packet, the TCP segment or the ICMP message that the header
+-- names, with its checksum. That of another protocol may be any bytes.
+pub record Parses (header : Ipv4Repr) (bytes : List ℕ) : Type 0 where
+  pub transport : whole.Transport
+  pub reads : ReadsTransport all_checked (Ipv4 header) bytes transport
+  pub message : header.next_header ≡ protocol.Icmp → IsMessage bytes
+
+-- the reason why the payload of a packet with this header is not translated: it parses, but is none of these transports;
+-- or it does not parse
 abbrev pub IsRejectedTransport : Ipv4Repr → List ℕ → Rejection → Type 0
-IsRejectedTransport header bytes OtherProtocol = ReadsTransport all_checked (Ipv4 header) bytes (other bytes)
-IsRejectedTransport header bytes BadTransport = (transport : Transport) → ¬ ReadsTransport all_checked (Ipv4 header) bytes transport
+IsRejectedTransport header bytes OtherProtocol = Parses header bytes × ((transport : Transport) → ¬ ReadsPorts header bytes transport)
+IsRejectedTransport header bytes BadTransport = ¬ Parses header bytes
 IsRejectedTransport header bytes _ = ⊥
 
 -- the reason why the packet in an IPv4 frame is not parsed
@@ -218,7 +259,13 @@ pub record IsTranslated (old new : List ℕ) (side : Side) (addr : List ℕ) (po
   pub unsummed : LacksChecksum old ↔ LacksChecksum new
   pub bytes : new ≡ translated side addr port old
 
--- Neither the IPv4 checksum nor that of a TCP segment is 0xffff. A sender that computes it writes 0 instead of 0xffff.
+-- the checksum of the ICMP message is the one that a sender over IPv4 computes
+abbrev pub HasUsualSum : List ℕ → Type 0
+HasUsualSum bytes = icmp.with_checksum (address.Ipv4 []) (address.Ipv4 []) bytes ≡ bytes
+
+-- Neither the IPv4 checksum nor that of a TCP segment is 0xffff. A sender that computes it writes 0 instead of 0xffff. The
+-- checksum of an ICMP message is the one that a sender computes.
 pub record HasUsualChecksums (frame : List ℕ) : Type 0 where
   pub ipv4 : field (drop 14 frame) 80 16 ≢ 65535
   pub tcp : protocol_of (field (drop 14 frame) 72 8) ≡ protocol.Tcp → field (ipv4_payload (drop 14 frame)) 128 16 ≢ 65535
+  pub icmp : protocol_of (field (drop 14 frame) 72 8) ≡ protocol.Icmp → HasUsualSum (ipv4_payload (drop 14 frame))

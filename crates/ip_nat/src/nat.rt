@@ -1,9 +1,9 @@
 //! Network address translation of one address and port (RFC 3022, sections 2.2 and 4.1).
 
 ghost use Rattle.std.specs.Prelude.{◌≡◌, ◌≤◌, List, ℕ, IfErr, OnErr, OnOk, length, true};
-ghost use Rattle.ip_nat.specs.Nat.{AllowsPort, CarriesPorts, IsPacket, IsTranslated, IsUntranslated, RefusesPort, Rewrites, addr_of, translated_packet, with_addr, with_address, with_end, with_port, with_tcp_end, with_udp_end};
-ghost use Rattle.ip_wire.specs.Frame as whole;
-ghost use Rattle.ip_wire.specs.Frame.{ReadsTransport, all_checked};
+ghost use Rattle.ip_nat.specs.Errors.{HasHeader, opposite};
+ghost use Rattle.ip_nat.specs.Nat as nat;
+ghost use Rattle.ip_nat.specs.Nat.{AllowsPort, CarriesPorts, IsPacket, IsTranslated, IsUntranslated, ReadsPorts, RefusesPort, Rewrites, Transport, addr_of, translated_packet, with_addr, with_address, with_echo_ident, with_end, with_port, with_tcp_end, with_udp_end};
 ghost use Rattle.ip_wire.specs.Ipv4 as ipv4;
 ghost use Rattle.ip_wire.specs.TcpRepr.{TcpHeader};
 ghost use Rattle.ip_wire.specs.Types.{Ipv4Repr, UdpRepr};
@@ -14,6 +14,7 @@ use ip_wire::{
     ETHERNET_HEADER_LEN, IpAddress, IpProtocol, IpRepr, Ipv4Address, Ipv4Packet, Ipv4PacketMut,
     Ipv4Repr, TcpPacketMut, UdpPacketMut, checksum,
 };
+use wire_icmp::IcmpPacketMut;
 
 /// The end of a packet, source or destination, whose address and port are replaced.
 #[derive(Debug, Clone, Copy, PartialEq, Eq)]
@@ -23,6 +24,16 @@ pub enum Side {
 }
 
 impl Side {
+    /// The other end.
+    pub fn opposite(self) -> Side
+        ensures { result ≡ opposite self }
+    {
+        match self {
+            Side::Source => Side::Destination,
+            Side::Destination => Side::Source,
+        }
+    }
+
     // The address of a header on this side.
     fn of(self, header: &Ipv4Repr) -> IpAddress
         ensures { result ≡ IpAddress.Ipv4 (addr_of self header.now) }
@@ -46,21 +57,26 @@ pub enum Rejection {
     WrongChecksum,
     /// The packet is a fragment.
     Fragment,
-    /// The packet carries neither UDP nor TCP.
+    /// The packet carries neither UDP nor TCP, nor an ICMP echo message. `translate_out` and `translate_in`
+    /// also accept ICMP errors.
     OtherProtocol,
-    /// The UDP or TCP header does not parse, or its checksum is wrong.
+    /// The UDP or TCP header does not parse, an ICMP message is shorter than 8 octets, or the checksum
+    /// is wrong. Of an ICMP error: it does not quote a valid IPv4 header and 8 octets of UDP, TCP or an echo.
     BadTransport,
     /// The port to write is 0, and a receiver would reject it. For `translate_out`: the source port is 0.
     ZeroPort,
-    /// The destination is not the outside address, or no live mapping has its port.
+    /// For `translate_in`: the destination is not the outside address, no live mapping has its port, or
+    /// the packet is an echo request. For `translate_out`: the packet is an echo reply. For both: an ICMP
+    /// error quotes a packet without a live mapping.
     NoMapping,
     /// No outside port is free for the source.
     NoFreePort,
 }
 
-/// Writes an address and a port into the UDP or TCP packet of a frame over IPv4, and updates the
-/// checksums (RFC 1624). A UDP checksum of 0 stays 0. Only the source port of a UDP packet may be 0 (RFC 768).
-/// A rejected frame is unchanged.
+/// Writes an address and a port into the UDP packet, TCP segment or ICMP echo message of a frame over
+/// IPv4, and updates the checksums (RFC 1624). On either side, the port of an echo message is its identifier; its
+/// checksum is computed anew. A UDP checksum of 0 stays 0. Only the source port of a UDP packet (RFC 768) and an
+/// identifier may be 0. A rejected frame is unchanged.
 pub fn translate(
     frame: &mut [u8],
     side: Side,
@@ -105,8 +121,8 @@ impl Packet {
 // Writes the address and the port into a packet with this header.
 #[inline(always)]
 fn rewrite_packet(header: Ipv4Repr, packet: &mut [u8], side: Side, addr: Ipv4Address, port: u16)
-    requires carries { (transport : whole.Transport) × CarriesPorts packet.old header transport }
-    ensures carries { (transport : whole.Transport) → AllowsPort side transport port
+    requires carries { (transport : Transport) × CarriesPorts packet.old header transport }
+    ensures carries { (transport : Transport) → AllowsPort side transport port
         → CarriesPorts packet.old header transport → CarriesPorts packet.new (with_addr side addr header) (with_port side port transport) }
     ensures bytes { packet.new ≡ translated_packet side addr port packet.old }
 {
@@ -121,10 +137,11 @@ fn rewrite_packet(header: Ipv4Repr, packet: &mut [u8], side: Side, addr: Ipv4Add
 
 // Writes the address into an IPv4 packet, and updates the checksum of its header.
 #[inline(always)]
-fn set_addr(packet: &mut [u8], side: Side, addr: Ipv4Address)
+pub(crate) fn set_addr(packet: &mut [u8], side: Side, addr: Ipv4Address)
     requires { 20 ≤ length packet.old }
     ensures reads { (v : Ipv4Repr) → ipv4.Reads packet.old true v → ipv4.Reads packet.new true (with_addr side addr v) }
     ensures bytes { packet.new ≡ with_address side addr packet.old }
+    ensures header { HasHeader packet.old → HasHeader packet.new }
 {
     octets_fit(packet);
     let mut packet = Ipv4PacketMut::new_unchecked(packet);
@@ -146,13 +163,14 @@ fn set_addr(packet: &mut [u8], side: Side, addr: Ipv4Address)
 // Writes the address and the port into the payload of such a packet.
 #[inline(always)]
 fn rewrite_transport(header: Ipv4Repr, payload: &mut [u8], side: Side, addr: Ipv4Address, port: u16)
-    requires reads { (transport : whole.Transport) × ReadsTransport all_checked (IpRepr.Ipv4 header) payload.old transport }
-    ensures reads { (transport : whole.Transport) → Rewrites header payload.old payload.new side addr port transport }
+    requires reads { (transport : Transport) × ReadsPorts header payload.old transport }
+    ensures reads { (transport : Transport) → Rewrites header payload.old payload.new side addr port transport }
     ensures bytes { payload.new ≡ with_end header.next_header side (addr_of side header) addr port payload.old }
 {
     match header.next_header {
         IpProtocol::Udp => rewrite_udp(header, payload, side, addr, port),
         IpProtocol::Tcp => rewrite_tcp(header, payload, side, addr, port),
+        IpProtocol::Icmp => rewrite_echo(header, payload, side, addr, port),
         _ => {}
     }
 }
@@ -160,7 +178,7 @@ fn rewrite_transport(header: Ipv4Repr, payload: &mut [u8], side: Side, addr: Ipv
 #[inline(always)]
 fn rewrite_udp(header: Ipv4Repr, bytes: &mut [u8], side: Side, addr: Ipv4Address, port: u16)
     requires len { 8 ≤ length bytes.old }
-    ensures reads { (v : UdpRepr) (payload : List ℕ) → Rewrites header bytes.old bytes.new side addr port (whole.datagram v payload) }
+    ensures reads { (v : UdpRepr) (payload : List ℕ) → Rewrites header bytes.old bytes.new side addr port (nat.datagram v payload) }
     ensures bytes { bytes.new ≡ with_udp_end side (addr_of side header) addr port bytes.old }
 {
     let mut datagram = UdpPacketMut::new_unchecked(bytes);
@@ -174,7 +192,7 @@ fn rewrite_udp(header: Ipv4Repr, bytes: &mut [u8], side: Side, addr: Ipv4Address
 #[inline(always)]
 fn rewrite_tcp(header: Ipv4Repr, bytes: &mut [u8], side: Side, addr: Ipv4Address, port: u16)
     requires len { 20 ≤ length bytes.old }
-    ensures reads { (v : TcpHeader) (payload : List ℕ) → Rewrites header bytes.old bytes.new side addr port (whole.segment v payload) }
+    ensures reads { (v : TcpHeader) (payload : List ℕ) → Rewrites header bytes.old bytes.new side addr port (nat.segment v payload) }
     ensures bytes { bytes.new ≡ with_tcp_end side (addr_of side header) addr port bytes.old }
 {
     let mut segment = TcpPacketMut::new_unchecked(bytes);
@@ -183,4 +201,18 @@ fn rewrite_tcp(header: Ipv4Repr, bytes: &mut [u8], side: Side, addr: Ipv4Address
         Side::Source => segment.update_src_port(port),
         Side::Destination => segment.update_dst_port(port),
     }
+}
+
+#[inline(always)]
+fn rewrite_echo(header: Ipv4Repr, bytes: &mut [u8], side: Side, addr: Ipv4Address, port: u16)
+    requires len { 8 ≤ length bytes.old }
+    ensures reads { (transport : Transport) → header.next_header ≡ IpProtocol.Icmp → Rewrites header bytes.old bytes.new side addr port transport }
+    ensures bytes { bytes.new ≡ with_echo_ident addr port bytes.old }
+{
+    octets_fit(bytes);
+    // Over IPv4 the checksum covers no address.
+    let end = IpAddress::Ipv4(addr);
+    let mut message = IcmpPacketMut::new_unchecked(bytes);
+    message.set_echo_ident(port);
+    message.fill_checksum(&end, &end);
 }

@@ -1,29 +1,38 @@
-//! The UDP or TCP packet in a frame over IPv4, as a NAT needs it.
+//! The packet in a frame over IPv4, as a NAT needs it.
 
-ghost use Rattle.std.specs.Prelude.{◌≡◌, ◌↔◌, IfErr, IfOk, IsTrue, true};
-ghost use Rattle.ip_nat.specs.Nat.{AllowsPort, CarriesPorts, Describes, HasPorts, IsPacket, IsRejected, IsRejectedPacket, IsRejectedTransport};
-ghost use Rattle.ip_nat.specs.Flows.{destination_of, event_of, source_of};
-ghost use Rattle.ip_wire.specs.Frame as whole;
-ghost use Rattle.ip_wire.specs.Frame.{ReadsTransport, all_checked};
+ghost use Rattle.std.specs.Prelude.{◌≡◌, ◌≢◌, ◌⊎◌, ◌↔◌, IfErr, IfOk, IsTrue, OnOk, true};
+ghost use Rattle.ip_nat.specs.Nat as nat;
+ghost use Rattle.ip_nat.specs.Nat.{AllowsPort, CarriesPorts, Describes, IsPacket, IsRejected, IsRejectedPacket, IsRejectedTransport, ReadsPorts};
+ghost use Rattle.ip_nat.specs.Flows.{IsAnswerable, IsUnanswerable, destination_of, event_of, source_of};
 ghost use Rattle.ip_wire.specs.Ipv4 as ipv4;
 
 use crate::nat::{Rejection, Side};
 use ip_flows::{Event, Ipv4Endpoint};
 use ip_wire::{
-    ETHERNET_HEADER_LEN, EthernetFrame, EthernetProtocol, EthernetRepr, IpRepr, Ipv4Packet,
-    Ipv4Repr, TcpControl, Transport,
+    ETHERNET_HEADER_LEN, EthernetFrame, EthernetProtocol, EthernetRepr, IpAddress, IpProtocol,
+    IpRepr, Ipv4Packet, Ipv4Repr, TcpControl, Transport,
 };
 use net_base::ChecksumCapabilities;
+use wire_icmp::{IcmpPacket, IcmpRepr};
 
-/// A UDP or TCP packet over IPv4.
+/// What a packet carries, with the control flag of a TCP segment.
+#[derive(Debug, Clone, Copy, PartialEq, Eq)]
+pub enum Kind {
+    Udp,
+    Tcp(TcpControl),
+    EchoRequest,
+    EchoReply,
+}
+
+/// A UDP packet, a TCP segment or an ICMP echo message over IPv4. The identifier of an echo message is
+/// both its source and its destination port.
 #[derive(Debug, Clone, Copy, PartialEq, Eq)]
 pub struct Packet {
     /// The IPv4 header, with the protocol and both addresses.
     pub header: Ipv4Repr,
     pub src_port: u16,
     pub dst_port: u16,
-    /// The control flag of a TCP segment. `None` for a UDP packet.
-    pub control: Option<TcpControl>,
+    pub kind: Kind,
 }
 
 impl Packet {
@@ -67,27 +76,49 @@ impl Packet {
     pub fn event(&self) -> Event
         ensures { result ≡ event_of self.now }
     {
-        match self.control {
-            Some(control) => Event::Tcp(control),
-            None => Event::Udp,
+        match self.kind {
+            Kind::Udp => Event::Udp,
+            Kind::Tcp(control) => Event::Tcp(control),
+            Kind::EchoRequest | Kind::EchoReply => Event::Icmp,
         }
     }
 
-    // Returns `true` if a receiver accepts the packet with this port on this side. Only a UDP packet may
-    // have port 0, as its source (RFC 768).
-    pub(super) fn allows_port(&self, side: Side, port: u16) -> bool
-        ensures { (transport : whole.Transport) → HasPorts transport → Describes self.now transport → IsTrue result ↔ AllowsPort side transport port }
+    // Returns `true` for an ICMP echo request.
+    pub(super) fn is_echo_request(&self) -> bool
+        ensures { IsTrue result ↔ (self.now.kind ≡ Kind.EchoRequest) }
     {
-        match side {
-            Side::Source => port != 0 || self.control.is_none(),
-            Side::Destination => port != 0,
+        matches!(self.kind, Kind::EchoRequest)
+    }
+
+    // Rejects a packet to which no answer can come: an echo reply, and a UDP or TCP packet from port 0.
+    pub(super) fn check_source(&self) -> Result<(), Rejection>
+        ensures answerable { OnOk result (IsAnswerable self.now) }
+        ensures rejected { IfErr result (IsUnanswerable self.now) }
+    {
+        match self.kind {
+            Kind::EchoRequest => Ok(()),
+            Kind::EchoReply => Err(Rejection::NoMapping),
+            _ if self.src_port == 0 => Err(Rejection::ZeroPort),
+            _ => Ok(()),
+        }
+    }
+
+    // Returns `true` if a receiver accepts the packet with this port on this side. A UDP packet may have
+    // the source port 0 (RFC 768), and an echo message the identifier 0.
+    pub(super) fn allows_port(&self, side: Side, port: u16) -> bool
+        ensures { (transport : nat.Transport) → Describes self.now transport → IsTrue result ↔ AllowsPort side transport port }
+    {
+        match self.kind {
+            Kind::Udp => port != 0 || side == Side::Source,
+            Kind::Tcp(_) => port != 0,
+            Kind::EchoRequest | Kind::EchoReply => true,
         }
     }
 }
 
 #[inline(always)]
 fn parse_packet(bytes: &[u8]) -> Result<Packet, Rejection>
-    ensures packet { IfOk result (λ p. (transport : whole.Transport) × CarriesPorts bytes.now p.header transport × Describes p transport) }
+    ensures packet { IfOk result (λ p. (transport : nat.Transport) × CarriesPorts bytes.now p.header transport × Describes p transport) }
     ensures rejected { IfErr result (IsRejectedPacket bytes.now) }
 {
     let header = parse_header(bytes)?;
@@ -99,9 +130,10 @@ fn parse_packet(bytes: &[u8]) -> Result<Packet, Rejection>
 }
 
 #[inline(always)]
-fn parse_header(bytes: &[u8]) -> Result<Ipv4Repr, Rejection>
+pub(crate) fn parse_header(bytes: &[u8]) -> Result<Ipv4Repr, Rejection>
     ensures reads { IfOk result (ipv4.Reads bytes.now true) }
     ensures rejected { IfErr result (IsRejectedPacket bytes.now) }
+    ensures reason { IfErr result (λ reason. (reason ≡ Rejection.BadHeader) ⊎ (reason ≡ Rejection.WrongChecksum)) }
 {
     let packet = Ipv4Packet::new_unchecked(bytes);
     let Ok(header) = Ipv4Repr::parse(&packet, &ChecksumCapabilities::ignored()) else {
@@ -117,7 +149,21 @@ fn parse_header(bytes: &[u8]) -> Result<Ipv4Repr, Rejection>
 #[inline(always)]
 fn parse_transport(header: &Ipv4Repr, payload: &[u8]) -> Result<Packet, Rejection>
     ensures header { IfOk result (λ p. p.header ≡ header.now) }
-    ensures packet { IfOk result (λ p. (transport : whole.Transport) × ReadsTransport all_checked (IpRepr.Ipv4 header.now) payload.now transport × HasPorts transport × Describes p transport) }
+    ensures packet { IfOk result (λ p. (transport : nat.Transport) × ReadsPorts header.now payload.now transport × Describes p transport) }
+    ensures rejected { IfErr result (IsRejectedTransport header.now payload.now) }
+{
+    match header.next_header {
+        IpProtocol::Icmp => parse_echo(header, payload),
+        _ => parse_ports(header, payload),
+    }
+}
+
+// The UDP packet or TCP segment.
+#[inline(always)]
+fn parse_ports(header: &Ipv4Repr, payload: &[u8]) -> Result<Packet, Rejection>
+    requires { header.now.next_header ≢ IpProtocol.Icmp }
+    ensures header { IfOk result (λ p. p.header ≡ header.now) }
+    ensures packet { IfOk result (λ p. (transport : nat.Transport) × ReadsPorts header.now payload.now transport × Describes p transport) }
     ensures rejected { IfErr result (IsRejectedTransport header.now payload.now) }
 {
     let caps = ChecksumCapabilities::default();
@@ -127,16 +173,49 @@ fn parse_transport(header: &Ipv4Repr, payload: &[u8]) -> Result<Packet, Rejectio
                 header: *header,
                 src_port: ports.src_port,
                 dst_port: ports.dst_port,
-                control: None,
+                kind: Kind::Udp,
             }),
             Transport::Tcp(segment) => Ok(Packet {
                 header: *header,
                 src_port: segment.src_port,
                 dst_port: segment.dst_port,
-                control: Some(segment.control),
+                kind: Kind::Tcp(segment.control),
             }),
             _ => Err(Rejection::OtherProtocol),
         },
         Err(_) => Err(Rejection::BadTransport),
+    }
+}
+
+// The echo message.
+fn parse_echo(header: &Ipv4Repr, payload: &[u8]) -> Result<Packet, Rejection>
+    requires { header.now.next_header ≡ IpProtocol.Icmp }
+    ensures header { IfOk result (λ p. p.header ≡ header.now) }
+    ensures packet { IfOk result (λ p. (transport : nat.Transport) × ReadsPorts header.now payload.now transport × Describes p transport) }
+    ensures rejected { IfErr result (IsRejectedTransport header.now payload.now) }
+{
+    let src = IpAddress::Ipv4(header.src_addr);
+    let dst = IpAddress::Ipv4(header.dst_addr);
+    let message = IcmpPacket::new_unchecked(payload);
+    if message.check_len().is_err() || !message.verify_checksum(&src, &dst) {
+        return Err(Rejection::BadTransport);
+    }
+    match IcmpRepr::parse(&message, &src, &dst, &ChecksumCapabilities::ignored()) {
+        Ok(echo) => match echo {
+            IcmpRepr::EchoRequest { ident, .. } => Ok(Packet {
+                header: *header,
+                src_port: ident,
+                dst_port: ident,
+                kind: Kind::EchoRequest,
+            }),
+            IcmpRepr::EchoReply { ident, .. } => Ok(Packet {
+                header: *header,
+                src_port: ident,
+                dst_port: ident,
+                kind: Kind::EchoReply,
+            }),
+            _ => Err(Rejection::OtherProtocol),
+        },
+        Err(_) => Err(Rejection::OtherProtocol),
     }
 }

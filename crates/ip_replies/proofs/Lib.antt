@@ -1,4 +1,10 @@
 pub mod ArpReplies
 pub mod Echoes
+pub mod IcmpErrors
+pub mod IcmpReplies
+pub mod MessageEnds
+pub mod Messages
+pub mod MessagesOnce
+pub mod Neighbours
 pub mod RepliesOnce
 pub mod TcpReplies

@@ -35,6 +35,11 @@ abbrev pub IsNoHost : IpAddress → Type 0
 IsNoHost (Ipv4 octets) = IsIn ipv4_multicast octets ⊎ IsIn ipv4_reserved octets
 IsNoHost (Ipv6 octets) = IsIn ipv6_multicast octets ⊎ IsIn ipv6_mapped octets
 
+-- one host may have the address
+pub record IsHostAddr (addr : IpAddress) : Type 0 where
+  pub no_self : ¬ IsThisHost addr
+  pub host : ¬ IsNoHost addr
+
 -- no packet from another host has this source
 abbrev pub IsInvalidSource : Interface → IpAddress → Type 0
 IsInvalidSource ours addr = IsThisHost addr ⊎ (IsNoHost addr ⊎ IsOurs ours addr)

@@ -2,7 +2,7 @@
 
 ghost use Rattle.std.specs.Prelude.{◌≡◌, ◌↔◌, IsTrue};
 ghost use Rattle.ip_replies.specs.Interface.{IsForUs, header_back};
-ghost use Rattle.ip_replies.specs.Source.{IsAsker, IsInvalidSource, IsNoHost, IsOurs, IsThisHost, ipv4_reserved, ipv4_this_network, ipv6_mapped};
+ghost use Rattle.ip_replies.specs.Source.{IsAsker, IsHostAddr, IsInvalidSource, IsNoHost, IsOurs, IsThisHost, ipv4_reserved, ipv4_this_network, ipv6_mapped};
 ghost use Rattle.ip_wire.specs.Block.{IsIn};
 
 use ip_wire::{
@@ -81,6 +81,13 @@ pub fn is_no_host(addr: &IpAddress) -> bool
         IpAddress::Ipv4(addr) => addr.is_multicast() || is_reserved(addr),
         IpAddress::Ipv6(addr) => addr.is_multicast() || is_mapped(addr),
     }
+}
+
+/// Returns `true` for an address that one host may have: neither of `is_this_host` nor of `is_no_host`.
+pub fn is_host_addr(addr: &IpAddress) -> bool
+    ensures { IsTrue result ↔ IsHostAddr addr.now }
+{
+    !is_this_host(addr) && !is_no_host(addr)
 }
 
 // Whether the address is in 0.0.0.0/8.

@@ -2,10 +2,11 @@
 
 ghost use Rattle.std.specs.Prelude.{◌≡◌, IsSome, pos};
 ghost use Rattle.ip_host.specs.Host.{IsUnread};
-ghost use Rattle.c_structs.specs.HostFields.{WritesAnswer, host_of};
+ghost use Rattle.c_icmp.specs.HostFields.{WritesAnswer, host_of};
 ghost use Rattle.c_structs.specs.Written.{within};
 
-use c_structs::{HostFields, within};
+use c_icmp::HostFields;
+use c_structs::within;
 
 /// Writes the answer of a host to a frame, and returns its length; 0 if there is none. Fails if the struct lacks
 /// an IPv4 or an IPv6 address.

@@ -5,6 +5,7 @@ mod addresses;
 mod emit;
 mod frames;
 mod host;
+mod icmp;
 mod nat;
 mod numbers;
 mod read_calls;

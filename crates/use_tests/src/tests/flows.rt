@@ -1,4 +1,4 @@
-//! Mappings of a NAT. The time-outs are those of RFC 4787 and RFC 5382. Another program computed the hashed port.
+//! Mappings of a NAT. The time-outs are those of RFC 4787, RFC 5382 and RFC 5508. Another program computed the hashed port.
 
 use ip_flows::{Event, Ipv4Endpoint, Mapping, Nat, find, open};
 use ip_wire::{Ipv4Address, TcpControl};
@@ -45,7 +45,7 @@ fn opens(nat: &Nat, mappings: &mut [Mapping], now: u64, inside: &Ipv4Endpoint, p
 
 #[test]
 fn preserves_ports(rt: HostRuntime) {
-    let mut mappings = [Mapping::FREE; 256];
+    let mut mappings = [Mapping::FREE; 384];
     let nat = nat(FIRST_PORT);
     assert!(rt; opens(&nat, &mut mappings, 0, &host(2, 1100), 1100));
     assert!(rt; opens(&nat, &mut mappings, 0, &host(2, 1024), 1024));
@@ -61,7 +61,7 @@ fn preserves_ports(rt: HostRuntime) {
 
 #[test]
 fn keeps_one_port_for_all_remotes(rt: HostRuntime) {
-    let mut mappings = [Mapping::FREE; 64];
+    let mut mappings = [Mapping::FREE; 96];
     let nat = nat(FIRST_PORT);
     for last in 1..5 {
         assert!(rt;
@@ -89,7 +89,7 @@ fn keeps_one_port_for_all_remotes(rt: HostRuntime) {
 
 #[test]
 fn expires_at_the_millisecond(rt: HostRuntime) {
-    let mut mappings = [Mapping::FREE; 64];
+    let mut mappings = [Mapping::FREE; 96];
     let nat = nat(FIRST_PORT);
     assert!(rt; opens(&nat, &mut mappings, 1000, &host(2, 1030), 1030));
     assert!(rt;
@@ -105,7 +105,7 @@ fn expires_at_the_millisecond(rt: HostRuntime) {
 
 #[test]
 fn finds_no_free_port(rt: HostRuntime) {
-    let mut mappings = [Mapping::FREE; 5];
+    let mut mappings = [Mapping::FREE; 8];
     let nat = nat(FIRST_PORT);
     assert!(rt; opens(&nat, &mut mappings, 0, &host(2, 1024), 1024));
     assert!(rt; opens(&nat, &mut mappings, 1, &host(3, 1024), 1025));
@@ -134,7 +134,7 @@ fn finds_no_free_port(rt: HostRuntime) {
 
 #[test]
 fn ends_at_port_65535(rt: HostRuntime) {
-    let mut mappings = [Mapping::FREE; 8];
+    let mut mappings = [Mapping::FREE; 12];
     let nat = nat(65534);
     assert!(rt; opens(&nat, &mut mappings, 0, &host(2, 65535), 65535));
     assert!(rt; opens(&nat, &mut mappings, 0, &host(3, 65535), 65534));
@@ -169,7 +169,7 @@ fn has_no_port_0(rt: HostRuntime) {
 /// Packets of one TCP mapping: the time, the packet, the last octet of the remote endpoint, whether it goes out, and when
 /// the mapping expires then.
 fn expires(packets: &[(u64, Event, u8, bool, u64)]) -> bool {
-    let mut mappings = [Mapping::FREE; 2];
+    let mut mappings = [Mapping::FREE; 3];
     let nat = nat(FIRST_PORT);
     for (now, event, last, goes_out, expected) in packets {
         let is_right = if *goes_out {
@@ -222,6 +222,24 @@ fn times_tcp_states(rt: HostRuntime) {
     );
 }
 
+/// An echo identifier has a mapping of its own, which lives 60 seconds. 0 is an identifier, but no outside port.
+#[test]
+fn maps_echo_identifiers(rt: HostRuntime) {
+    let mut mappings = [Mapping::FREE; 6];
+    let nat = nat(FIRST_PORT);
+    let echo = Event::Icmp;
+    assert!(rt; opens(&nat, &mut mappings, 0, &host(2, 1024), 1024));
+    assert!(rt; open(&nat, &mut mappings, 0, SYN, &host(3, 1024), &server(1)) == Some(1024));
+    assert!(rt; open(&nat, &mut mappings, 0, echo, &host(4, 0), &server(1)) == Some(1024));
+    assert!(rt; open(&nat, &mut mappings, 9, echo, &host(4, 1025), &server(1)) == Some(1025));
+    assert!(rt; open(&nat, &mut mappings, 9, echo, &host(5, 1024), &server(1)) == None);
+    assert!(rt; mappings[2].expires == 60_000 && mappings[5].expires == 60_009);
+    assert!(rt; find(&nat, &mut mappings, 59_999, echo, 1024, &server(2)) == Some(host(4, 0)));
+    assert!(rt; find(&nat, &mut mappings, 60_000, echo, 1024, &server(2)) == None);
+    assert!(rt; find(&nat, &mut mappings, 0, Event::Udp, 1024, &server(1)) == Some(host(2, 1024)));
+    assert!(rt; find(&nat, &mut mappings, 0, ACK, 1024, &server(1)) == Some(host(3, 1024)));
+}
+
 /// Whatever the memory holds is a table.
 #[test]
 fn takes_any_bytes(rt: HostRuntime) {
@@ -235,7 +253,7 @@ fn takes_any_bytes(rt: HostRuntime) {
         shared: 255,
         unused: [255; 2],
     };
-    let mut mappings = [strange; 9];
+    let mut mappings = [strange; 14];
     let nat = nat(FIRST_PORT);
     let stranger = Ipv4Endpoint {
         addr: Ipv4Address::new(255, 255, 255, 255),

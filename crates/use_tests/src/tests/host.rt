@@ -10,6 +10,7 @@ fn host(open_ports: &[u16]) -> Host<'_> {
     Host {
         interface: ours(),
         echo_port: 7,
+        open_udp_ports: &[9],
         open_ports,
         offer: OFFER,
     }

@@ -3,11 +3,12 @@
 
 use super::captured::{DATA, SYN};
 use super::change;
-use ip_nat::{Packet, Rejection, Side, translate};
+use super::nat_echo::{ECHO, ECHO_REPLY_IN};
+use ip_nat::{Kind, Packet, Rejection, Side, translate};
 use ip_wire::{IpProtocol, Ipv4Address, TcpControl};
 
 /// The address of a host.
-fn inside() -> Ipv4Address {
+pub(super) fn inside() -> Ipv4Address {
     Ipv4Address::new(192, 0, 2, 1)
 }
 
@@ -79,7 +80,7 @@ const PADDED_OUT: [u8; 56] = [
 ];
 
 /// Whether the translation of a frame has this result, and makes this frame of it.
-fn gives(
+pub(super) fn gives(
     before: &[u8],
     side: Side,
     addr: Ipv4Address,
@@ -97,7 +98,13 @@ fn gives(
 }
 
 /// Whether a frame is translated to this frame.
-fn becomes(before: &[u8], side: Side, addr: Ipv4Address, port: u16, after: &[u8]) -> bool {
+pub(super) fn becomes(
+    before: &[u8],
+    side: Side,
+    addr: Ipv4Address,
+    port: u16,
+    after: &[u8],
+) -> bool {
     gives(before, side, addr, port, Ok(()), after)
 }
 
@@ -182,7 +189,7 @@ fn rejects_other_frames(rt: HostRuntime) {
         (&[(24, 0x21)], Rejection::WrongChecksum),
         (&[(20, 0x20), (24, 0x40), (25, 0xd4)], Rejection::Fragment),
         (
-            &[(23, 0x01), (24, 0x20), (25, 0xe4)],
+            &[(23, 0x02), (24, 0x20), (25, 0xe3)],
             Rejection::OtherProtocol,
         ),
         (&[(40, 0xd3)], Rejection::BadTransport),
@@ -206,20 +213,34 @@ fn rejects_a_port_of_0(rt: HostRuntime) {
     assert!(rt; rejects(&[(40, 0xd3)], Side::Destination, inside(), 0, bad));
 }
 
-/// What a NAT needs of the UDP packet and of the two TCP segments.
+/// What a NAT needs of a packet. The identifier of an echo message is both of its ports.
 #[test]
 fn parses_packets(rt: HostRuntime) {
-    for (frame, protocol, src_port, dst_port, control) in [
-        (&UDP[..], IpProtocol::Udp, 46563, 5353, None),
-        (&SYN, IpProtocol::Tcp, 60784, 80, Some(TcpControl::Syn)),
-        (&DATA, IpProtocol::Tcp, 80, 60784, Some(TcpControl::Psh)),
+    for (frame, protocol, src_port, dst_port, kind) in [
+        (&UDP[..], IpProtocol::Udp, 46563, 5353, Kind::Udp),
+        (&SYN, IpProtocol::Tcp, 60784, 80, Kind::Tcp(TcpControl::Syn)),
+        (
+            &DATA,
+            IpProtocol::Tcp,
+            80,
+            60784,
+            Kind::Tcp(TcpControl::Psh),
+        ),
+        (&ECHO, IpProtocol::Icmp, 7, 7, Kind::EchoRequest),
+        (
+            &ECHO_REPLY_IN,
+            IpProtocol::Icmp,
+            40000,
+            40000,
+            Kind::EchoReply,
+        ),
     ] {
         let parses = match Packet::parse(frame) {
             Ok(packet) => {
                 packet.header.next_header == protocol
                     && packet.src_port == src_port
                     && packet.dst_port == dst_port
-                    && packet.control == control
+                    && packet.kind == kind
             }
             Err(_) => false,
         };
@@ -263,17 +284,17 @@ fn rejects_by_the_first_reason(rt: HostRuntime) {
         (&[(13, 0x06), (20, 0x20)], Rejection::NotIpv4),
         (&[(14, 0x65), (24, 0x21)], Rejection::BadHeader),
         (&[(14, 0x44), (20, 0x20)], Rejection::BadHeader),
-        (&[(17, 0x21), (23, 0x01)], Rejection::BadHeader),
+        (&[(17, 0x21), (23, 0x02)], Rejection::BadHeader),
         (&[(20, 0x20)], Rejection::WrongChecksum),
-        (&[(23, 0x01)], Rejection::WrongChecksum),
+        (&[(23, 0x02)], Rejection::WrongChecksum),
         (&[(24, 0x21), (40, 0xd3)], Rejection::WrongChecksum),
         (
-            &[(20, 0x20), (23, 0x01), (24, 0x40), (25, 0xe4)],
+            &[(20, 0x20), (23, 0x02), (24, 0x40), (25, 0xe3)],
             Rejection::Fragment,
         ),
         (&[(20, 0x20), (24, 0x40), (40, 0xd3)], Rejection::Fragment),
         (
-            &[(23, 0x01), (25, 0xe4), (40, 0xd3)],
+            &[(23, 0x02), (25, 0xe3), (40, 0xd3)],
             Rejection::OtherProtocol,
         ),
         (

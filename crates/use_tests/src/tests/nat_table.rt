@@ -8,19 +8,19 @@ use ip_flows::{Mapping, Nat};
 use ip_nat::{Rejection, translate_in, translate_out};
 
 /// A NAT whose first outside port is this one.
-fn nat(first_port: u16) -> Nat {
+pub(super) fn nat(first_port: u16) -> Nat {
     Nat::new([7, 11], outside(), first_port)
 }
 
 /// The direction of a frame through the NAT.
 #[derive(Clone, Copy)]
-enum Way {
+pub(super) enum Way {
     Out,
     In,
 }
 
 /// Whether a frame has this result at this time, and becomes this frame.
-fn gives(
+pub(super) fn gives(
     nat: &Nat,
     mappings: &mut [Mapping],
     now: u64,
@@ -44,7 +44,7 @@ fn gives(
 }
 
 /// Whether a frame is rejected for this reason, and stays as it is.
-fn rejects(
+pub(super) fn rejects(
     nat: &Nat,
     mappings: &mut [Mapping],
     now: u64,
@@ -59,7 +59,7 @@ fn rejects(
 #[test]
 fn gives_back_a_udp_answer(rt: HostRuntime) {
     let nat = nat(40000);
-    let mut mappings = [Mapping::FREE; 2];
+    let mut mappings = [Mapping::FREE; 3];
     assert!(rt; gives(&nat, &mut mappings, 1000, Way::Out, &UDP, Ok(()), &UDP_OUT));
     assert!(rt;
         gives(
@@ -91,7 +91,7 @@ fn gives_back_a_udp_answer(rt: HostRuntime) {
 #[test]
 fn gives_back_a_tcp_answer(rt: HostRuntime) {
     let nat = nat(40001);
-    let mut mappings = [Mapping::FREE; 2];
+    let mut mappings = [Mapping::FREE; 3];
     assert!(rt; gives(&nat, &mut mappings, 0, Way::Out, &SYN, Ok(()), &SYN_OUT));
     assert!(rt;
         gives(
@@ -120,7 +120,7 @@ fn gives_back_a_tcp_answer(rt: HostRuntime) {
 #[test]
 fn maps_udp_and_tcp_apart(rt: HostRuntime) {
     let nat = nat(40001);
-    let mut mappings = [Mapping::FREE; 2];
+    let mut mappings = [Mapping::FREE; 3];
     let mut udp_out = UDP_OUT;
     change(&mut udp_out, &[(35, 0x41), (41, 0xce)]);
     assert!(rt; gives(&nat, &mut mappings, 0, Way::Out, &UDP, Ok(()), &udp_out));
@@ -146,7 +146,7 @@ fn preserves_the_port(rt: HostRuntime) {
         &mut same_port,
         &[(34, 0xb5), (35, 0xe3), (40, 0x58), (41, 0x2c)],
     );
-    let mut mappings = [Mapping::FREE; 200];
+    let mut mappings = [Mapping::FREE; 300];
     assert!(rt;
         gives(
             &nat(46500),
@@ -164,7 +164,7 @@ fn preserves_the_port(rt: HostRuntime) {
 #[test]
 fn connects_two_inside_hosts(rt: HostRuntime) {
     let nat = nat(40000);
-    let mut mappings = [Mapping::FREE; 4];
+    let mut mappings = [Mapping::FREE; 6];
     let (mut sent, mut outside, mut delivered) = (UDP, UDP, UDP);
     change(
         &mut sent,
@@ -238,7 +238,7 @@ fn connects_two_inside_hosts(rt: HostRuntime) {
 #[test]
 fn keeps_frames_inside(rt: HostRuntime) {
     let nat = nat(40000);
-    let mut mappings = [Mapping::FREE; 2];
+    let mut mappings = [Mapping::FREE; 3];
     let (mut damaged, mut from_0, mut other) = (UDP, UDP, UDP);
     change(&mut damaged, &[(45, 0x68)]);
     change(&mut from_0, &[(34, 0), (35, 0), (40, 0x88), (41, 0x18)]);
@@ -283,7 +283,7 @@ fn keeps_frames_inside(rt: HostRuntime) {
 #[test]
 fn keeps_frames_outside(rt: HostRuntime) {
     let nat = nat(40000);
-    let mut mappings = [Mapping::FREE; 2];
+    let mut mappings = [Mapping::FREE; 3];
     let none = Rejection::NoMapping;
     assert!(rt; rejects(&nat, &mut mappings, 0, Way::In, &REPLY_IN, none));
     assert!(rt; gives(&nat, &mut mappings, 0, Way::Out, &UDP, Ok(()), &UDP_OUT));

@@ -1,39 +1,19 @@
-use Rattle.std.proofs.Common.{◌≡◌, ◌∙◌, rules, sym}
-use Rattle.std.proofs.lemmas.Result.{on_ok_weaker}
-use Rattle.ip_nat.proofs.Mapped.{in-zero, kept-outside, undiffering}
+use Rattle.std.proofs.Common.{IfErr, ◌≡◌, subst}
+use Rattle.std.proofs.lemmas.Result.{IfErr-weaker}
+use Rattle.ip_nat.proofs.Kept.{error-outside}
+use Rattle.ip_nat.specs.Errors.{IsErrorKeptOutside}
+use Rattle.ip_nat.specs.Flows.{IsPacketKeptOutside}
+use Rattle.ip_nat.specs.declared.nat.Rejection.TheVariants.{OtherProtocol}
 use Rattle.ip_nat.proofs.flows.translate_in.Goals as goal
 
-pub returns-in_err-packet-clause-rejected : goal.returns-in_err-packet-clause-rejected
-returns-in_err-packet-clause-rejected c =
-    search (rules, kept-outside c.args.nat.now c.args.mappings.now c.args.now c.args.frame.now c.in_err-packet.field-0.0 c.in_err-packet.ensures.rejected)
-
-pub returns-in_default-clause-rejected : goal.returns-in_default-clause-rejected
-returns-in_default-clause-rejected c = (
-  record {
-    packet = c.in_ok-packet.packet;
-    carries = c.in_ok-packet.ensures.packet;
-    unmapped = λ own. rw c.event.ensures at c.in_default.ensures.none;
-  },
-  c.in_default.ensures.unchanged,
-)
-
-for_outside : (c : goal.After-slice_known-2-1) → c.in_ok-packet.packet.header.dst_addr ≡ c.args.nat.now.outside
-for_outside c = sym c.octets.ensures ∙ undiffering c.octets.result c.args.nat.now.outside c.ne.result c.ne.ensures c.if-ne.false
-
-pub returns-clause-came : goal.returns-clause-came
-returns-clause-came c =
-    on_ok_weaker c.rewrite.result
-    (λ t. record {
-      packet = c.in_ok-packet.packet;
-      carries = c.in_ok-packet.ensures.packet;
-      outside = for_outside c;
-      inside = c.in-Some.inside;
-      finds = rw (c.event.ensures, c.src.ensures) at c.in-Some.ensures.found;
-      translated = t;
-    })
-    c.rewrite.ensures.translated
-
-pub returns-clause-rejected : goal.returns-clause-rejected
-returns-clause-rejected c =
-    in-zero c.rewrite.result c.args.nat.now c.args.mappings.now c.find.new.mappings c.args.now c.args.frame.now c.in_ok-packet.packet c.in-Some.inside
-    c.in_ok-packet.ensures.packet (for_outside c) (rw (c.event.ensures, c.src.ensures) at c.in-Some.ensures.found) c.rewrite.ensures.rejected c.rewrite.ensures.refused
+pub returns-in-OtherProtocol-clause-rejected : goal.returns-in-OtherProtocol-clause-rejected
+returns-in-OtherProtocol-clause-rejected c =
+    let nat = c.args.nat.now in
+    let old = c.args.mappings.now in
+    let new = c.packet_in.new.mappings in
+    let frame = c.args.frame.now in
+    let no_packet : IsPacketKeptOutside nat old new c.args.now frame OtherProtocol =
+    subst (IsPacketKeptOutside nat old new c.args.now frame) c.in-OtherProtocol.is c.in-Err.ensures.rejected in
+    let same : c.packet_in.new.frame ≡ frame = c.in-Err.ensures.unchanged in
+    let why : IfErr c.error_in.result (IsErrorKeptOutside nat new c.args.now frame) = rw same at c.error_in.ensures.rejected in
+    IfErr-weaker c.error_in.result _ _ (λ reason e. error-outside nat old new c.args.now frame reason no_packet.0 no_packet.1 e) why

@@ -1,29 +1,19 @@
-use Rattle.std.proofs.Common.{◌≡◌, rules}
-use Rattle.std.proofs.lemmas.Result.{IfErr-weaker, on_err_weaker, on_ok_weaker}
-use Rattle.ip_nat.proofs.Mapped.{kept-inside, refused-zero}
-use Rattle.ip_nat.specs.declared.nat.Side.TheVariants.{Source}
+use Rattle.std.proofs.Common.{IfErr, ◌≡◌, subst}
+use Rattle.std.proofs.lemmas.Result.{IfErr-weaker}
+use Rattle.ip_nat.proofs.Kept.{error-inside}
+use Rattle.ip_nat.specs.Errors.{IsErrorKeptInside}
+use Rattle.ip_nat.specs.Flows.{IsPacketKeptInside}
+use Rattle.ip_nat.specs.declared.nat.Rejection.TheVariants.{OtherProtocol}
 use Rattle.ip_nat.proofs.flows.translate_out.Goals as goal
 
-pub returns-in_err-packet-clause-rejected : goal.returns-in_err-packet-clause-rejected
-returns-in_err-packet-clause-rejected c =
-    search (rules, kept-inside c.args.nat.now c.args.mappings.now c.args.now c.args.frame.now c.in_err-packet.field-0.0 c.in_err-packet.ensures.rejected)
-
-pub returns-clause-out : goal.returns-clause-out
-returns-clause-out c =
-    let outside : c.from_octets.result ≡ c.args.nat.now.outside = search rules in
-    on_ok_weaker c.rewrite.result
-    (λ t. record {
-      packet = c.in_ok-packet.packet;
-      carries = c.in_ok-packet.ensures.packet;
-      answerable = search rules;
-      port = c.in-Some.port;
-      opens = rw (c.event.ensures, c.src.ensures, c.dst.ensures) at c.in-Some.ensures.opened;
-      translated = rw outside at t;
-    })
-    c.rewrite.ensures.translated
-
-pub returns-clause-rejected : goal.returns-clause-rejected
-returns-clause-rejected c = IfErr-weaker c.rewrite.result _ _ (λ r why. absurd (c.in-Some.ensures.port (refused-zero c.args.frame.now Source c.in-Some.port why))) c.rewrite.ensures.refused
-
-pub returns-clause-table : goal.returns-clause-table
-returns-clause-table c = on_err_weaker c.rewrite.result (λ why. absurd (c.in-Some.ensures.port (refused-zero c.args.frame.now Source c.in-Some.port why))) c.rewrite.ensures.refused
+pub returns-in-OtherProtocol-clause-rejected : goal.returns-in-OtherProtocol-clause-rejected
+returns-in-OtherProtocol-clause-rejected c =
+    let nat = c.args.nat.now in
+    let old = c.args.mappings.now in
+    let frame = c.args.frame.now in
+    let no_packet : IsPacketKeptInside nat old c.args.now frame OtherProtocol =
+    subst (IsPacketKeptInside nat old c.args.now frame) c.in-OtherProtocol.is c.in-Err.ensures.rejected in
+    let same : c.packet_out.new.frame ≡ frame = c.in-Err.ensures.unchanged in
+    let table : c.packet_out.new.mappings ≡ old = c.in-Err.ensures.table in
+    let why : IfErr c.error_out.result (IsErrorKeptInside nat old c.args.now frame) = rw (same, table) at c.error_out.ensures.rejected in
+    IfErr-weaker c.error_out.result _ _ (λ reason e. error-inside nat old c.args.now frame reason no_packet e) why

@@ -1,8 +1,7 @@
 use Rattle.std.proofs.Common.{◌≡◌, rules}
 use Rattle.ip_nat.proofs.Translates.{moved-end, rewritten}
-use Rattle.ip_nat.specs.Nat.{with_tcp_port}
+use Rattle.ip_nat.specs.Nat.{segment, with_tcp_port}
 use Rattle.ip_nat.specs.declared.nat.Side.TheVariants.{Source, Destination}
-use Rattle.ip_wire.specs.Frame.{segment}
 use Rattle.ip_wire.specs.Tcp.{packet_bytes_mut}
 use Rattle.ip_wire.specs.TcpRepr.{Reads}
 use Rattle.ip_nat.proofs.nat.rewrite_tcp.Goals as goal

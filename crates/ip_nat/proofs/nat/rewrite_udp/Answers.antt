@@ -1,8 +1,7 @@
 use Rattle.std.proofs.Common.{◌≡◌, rules}
 use Rattle.ip_nat.proofs.Translates.{ended-by, moved-end, rewritten}
-use Rattle.ip_nat.specs.Nat.{with_udp_port}
+use Rattle.ip_nat.specs.Nat.{datagram, with_udp_port}
 use Rattle.ip_nat.specs.declared.nat.Side.TheVariants.{Source, Destination}
-use Rattle.ip_wire.specs.Frame.{datagram}
 use Rattle.ip_wire.specs.Udp.{Reads, packet_bytes_mut, with_updated_checksum}
 use Rattle.ip_wire.specs.WordSum.{sum_of_bytes}
 use Rattle.ip_wire.specs.declared.IpAddress.TheVariants as address

@@ -1,9 +1,8 @@
 use Rattle.std.proofs.Common.{IfErr, IfOk, List, ℕ, ◌≡◌, ◌-◌, arith, drop, length, length-drop, rules, take}
 use Rattle.std.proofs.lemmas.List.{take_all}
 use Rattle.ip_nat.proofs.Translates.{framed, if-err, if-ok, other-rejected, packet-rejected, unread-rejected}
-use Rattle.ip_nat.specs.Nat.{CarriesPorts, Describes, IsRejectedPacket}
+use Rattle.ip_nat.specs.Nat.{CarriesPorts, Describes, IsRejectedPacket, Transport}
 use Rattle.ip_wire.specs.Ethernet.{frame_bytes}
-use Rattle.ip_wire.specs.Frame.{Transport}
 use Rattle.ip_nat.proofs.packet.Packet.parse.Goals as goal
 
 -- the bytes behind the header

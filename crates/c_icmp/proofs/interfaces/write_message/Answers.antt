@@ -1,0 +1,8 @@
+use Rattle.std.proofs.Common.{SFits, rules, w64}
+use Rattle.c_icmp.proofs.ErrorReplies.{written}
+use Rattle.c_icmp.proofs.interfaces.write_message.Goals as goal
+
+pub returns : goal.returns
+returns c =
+    let fits : SFits w64 c.sent.result = search rules in
+    written c.args.frame.now _ _ _ _ c.send_message.ensures.beyond c.send_message.ensures.within c.sent.ensures fits

@@ -1,0 +1,33 @@
+-- Frames with ICMP messages that are written from the struct of a frame, and why none is written.
+use Rattle.std.specs.Prelude.{ℕ, ◌+◌, ◌==◌, nat_lt, if◌then◌else◌, true, List, Option, None, Some}
+use Rattle.std.specs.Option.{option_and_then, option_or}
+use Rattle.c_structs.specs.Failures.{frame_failure, most_payload, pair_failure}
+use Rattle.c_structs.specs.Frames.{framed}
+use Rattle.c_structs.specs.declared.failures.Failure.{Failure}
+use Rattle.c_structs.specs.declared.failures.Failure.TheVariants as failure
+use Rattle.c_structs.specs.declared.types.Addr.{Addr}
+use Rattle.c_icmp.specs.Messages.{icmp_bytes, max_payload_len}
+use Rattle.c_icmp.specs.declared.types.FullFrame.{FullFrame}
+
+-- the protocol of ICMP over this version of IP
+abbrev pub protocol_number : ℕ → ℕ
+protocol_number version = if version == 4 then 1 else 58
+
+-- a frame with a message
+abbrev pub icmp_frame : FullFrame → List ℕ → Option (List ℕ)
+icmp_frame f payload =
+    option_and_then (framed f.fields (protocol_number f.fields.src.addr.version))
+    (icmp_bytes f.icmp f.fields.src.addr f.fields.dst.addr payload true)
+
+-- ---- failures
+
+-- of a message with a payload of this length between two addresses
+abbrev pub icmp_failure : Addr → Addr → ℕ → Option Failure
+icmp_failure src dst len =
+    option_or (pair_failure src dst) (if nat_lt max_payload_len len then Some failure.PayloadTooLong else None)
+
+-- of a frame with a message with a payload of this length
+abbrev pub icmp_frame_failure : FullFrame → ℕ → Option Failure
+icmp_frame_failure f len =
+    option_or (frame_failure f.fields true)
+    (if nat_lt (most_payload f.fields.src.addr.version) (8 + len) then Some failure.PayloadTooLong else None)

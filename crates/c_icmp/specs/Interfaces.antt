@@ -1,0 +1,37 @@
+-- The addresses of an interface as structs of C, and replies that are written.
+use Rattle.std.specs.Prelude.{ℕ, ℤ, pos, ◌≡◌, ◌<◌, ◌≤◌, ◌⊎◌, List, length, Option, None, Some}
+use Rattle.std.specs.Option.{option_and_then}
+use Rattle.ip_replies.specs.Message.{values_of}
+use Rattle.ip_replies.specs.declared.interface.Interface.{Interface}
+use Rattle.ip_replies.specs.declared.message.MessageFrame.{MessageFrame}
+use Rattle.ip_wire.specs.Frame.{Carried}
+use Rattle.ip_wire.specs.Reply.{IsWritten, reply_len}
+use Rattle.ip_wire.specs.Types.{EthernetRepr, IpAddress}
+use Rattle.ip_wire.specs.declared.IpAddress.TheVariants.{Ipv4, Ipv6}
+use Rattle.c_structs.specs.Addresses.{ip_of}
+use Rattle.c_structs.specs.Written.{failure_code, max_len}
+use Rattle.c_structs.specs.declared.failures.Failure.TheVariants as failure
+use Rattle.c_structs.specs.declared.types.Addr.{Addr}
+
+-- the interface with these addresses, if the first is an IPv4 address and the second an IPv6 address
+abbrev pub interface_with : List ℕ → IpAddress → IpAddress → Option Interface
+interface_with hardware (Ipv4 ipv4) (Ipv6 ipv6) = Some (record { hardware_addr = record { 0 = hardware }; ipv4_addr = ipv4; ipv6_addr = ipv6 })
+interface_with hardware (Ipv4 ipv4) (Ipv4 other) = None
+interface_with hardware (Ipv6 ipv6) other = None
+
+-- the same for structs of addresses
+abbrev pub interface_of : Addr → Addr → List ℕ → Option Interface
+interface_of first second hardware =
+    option_and_then (λ ipv4. option_and_then (λ ipv6. interface_with hardware ipv4 ipv6) (ip_of second)) (ip_of first)
+
+-- the reply is written to the front of the slice and its length is returned; or there is one that does not fit; or there is none
+abbrev pub WritesReply : (EthernetRepr → Carried → Type 0) → List ℕ → List ℕ → ℤ → Type 0
+WritesReply IsReply old new answer =
+    ((len : ℕ) × (answer ≡ pos len) × (length old ≤ max_len) × IsWritten IsReply old new len)
+    ⊎ (((answer ≡ failure_code failure.NoRoom) × (new ≡ old)
+    × ((header : EthernetRepr) × (carried : Carried) × IsReply header carried × ((length old < reply_len carried) ⊎ (max_len < length old))))
+    ⊎ ((answer ≡ pos 0) × (new ≡ old) × ((header : EthernetRepr) (carried : Carried) → ¬ IsReply header carried)))
+
+-- the frame has this header, and carries its message
+abbrev pub HasMessage : MessageFrame → EthernetRepr → Carried → Type 0
+HasMessage f header carried = (f.header ≡ header) × (values_of f ≡ carried)

@@ -1,0 +1,6 @@
+pub mod Errors
+pub mod Frames
+pub mod HostFields
+pub mod Interfaces
+pub mod Messages
+pub mod Neighbours

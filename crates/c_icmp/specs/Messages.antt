@@ -1,0 +1,89 @@
+-- ICMP messages in the structs of C: read behind the headers of a frame, and written.
+use Rattle.std.specs.Prelude.{ℕ, ◌≡◌, ◌-◌, ◌==◌, ◌&&◌, ◌||◌, nat_le, nat_lt, if◌then◌else◌, Bool, List, drop, length, take, Option}
+use Rattle.std.specs.Option.{option_and_then}
+use Rattle.wire_ends.specs.declared.ip_address.IpAddress.{IpAddress}
+use Rattle.wire_ends.specs.declared.ip_address.IpAddress.TheVariants.{Ipv4, Ipv6}
+use Rattle.wire_field.specs.Field.{field}
+use Rattle.wire_icmp.specs.Icmp.{emitted, verifies}
+use Rattle.wire_icmp.specs.declared.icmp.header.IcmpHeader.{IcmpHeader}
+use Rattle.c_structs.specs.Addresses.{pair_of}
+use Rattle.c_structs.specs.Captured.{IsCutOf}
+use Rattle.c_structs.specs.Codes.{network_code, transport_code, verdict_code}
+use Rattle.c_structs.specs.FrameFields.{behind}
+use Rattle.c_structs.specs.Headers.{only_if}
+use Rattle.c_structs.specs.declared.codes.NetworkKind.TheVariants as network
+use Rattle.c_structs.specs.declared.codes.TransportKind.TheVariants as transport
+use Rattle.c_structs.specs.declared.codes.Verdict.{Verdict}
+use Rattle.c_structs.specs.declared.codes.Verdict.TheVariants as verdict
+use Rattle.c_structs.specs.declared.types.Addr.{Addr}
+use Rattle.c_structs.specs.declared.types.FrameFields.{FrameFields}
+use Rattle.c_icmp.specs.declared.types.FullFrame.{FullFrame}
+use Rattle.c_icmp.specs.declared.types.Icmp.{Icmp}
+
+-- ---- read
+
+abbrev pub no_icmp : Icmp
+no_icmp = record { word = 0; msg_type = 0; code = 0 }
+
+-- the header of a message
+abbrev pub header_of : List ℕ → Icmp
+header_of message = record { word = field message 32 32; msg_type = field message 0 8; code = field message 8 8 }
+
+-- whether a packet that is no fragment carries ICMP, which has a protocol for each version
+abbrev pub carries_icmp : FrameFields → Bool
+carries_icmp f =
+    (f.is_fragment == 0)
+    && ((f.network == network_code network.Ipv4) && (f.ip.protocol == 1) || ((f.network == network_code network.Ipv6) && (f.ip.protocol == 58)))
+
+-- the octets of the payload that were captured
+abbrev pub payload_in : FrameFields → List ℕ → List ℕ
+payload_in f bytes = take f.payload_len (drop f.payload_offset bytes)
+
+-- an address of the IP header
+abbrev pub address_in : FrameFields → Addr → IpAddress
+address_in f a = if f.network == network_code network.Ipv4 then Ipv4 (take 4 a.octets) else Ipv6 a.octets
+
+-- the checksum covers the whole payload, and over IPv6 the pseudo-header too
+abbrev pub icmp_verdict : FrameFields → List ℕ → Verdict
+icmp_verdict f message =
+    if nat_lt (length message) f.payload_len then verdict.ChecksumCut
+    else if verifies (address_in f f.src.addr) (address_in f f.dst.addr) message then verdict.Right
+    else verdict.Wrong
+
+-- the fields with those of a message; the payload begins behind its header
+abbrev pub with_message : FrameFields → List ℕ → FullFrame
+with_message f message =
+    let next = behind f 8 (f.payload_len - 8) in record {
+      fields = record next {
+        transport_offset = f.payload_offset;
+        transport = transport_code transport.Icmp;
+        transport_checksum = verdict_code (icmp_verdict f message);
+      };
+      icmp = header_of message;
+    }
+
+-- the fields of a frame or packet with those of the ICMP message that it carries; there is none of fewer than 8 captured octets
+abbrev pub with_icmp : List ℕ → FrameFields → FullFrame
+with_icmp bytes f =
+    if carries_icmp f && nat_le 8 (length (payload_in f bytes)) then with_message f (payload_in f bytes)
+    else record { fields = f; icmp = no_icmp }
+
+-- the frame of which these bytes were captured: what is stored but ICMP is cut as that of the whole frame, and the message is
+-- that which the bytes have
+abbrev pub IsCutFrame : List ℕ → FullFrame → FrameFields → Type 0
+IsCutFrame captured frame whole = (f : FrameFields) × (frame ≡ with_icmp captured f) × IsCutOf f whole
+
+-- ---- written
+
+-- the values of a header
+abbrev pub header_value : Icmp → IcmpHeader
+header_value h = record { msg_type = h.msg_type; msg_code = h.code; word = h.word }
+
+-- the longest payload: header and payload fit into an IPv6 packet
+abbrev pub max_payload_len : ℕ
+max_payload_len = 65527
+
+-- a message between two addresses, if an IP packet can carry it
+abbrev pub icmp_bytes : Icmp → Addr → Addr → List ℕ → Bool → Option (List ℕ)
+icmp_bytes h src dst payload computed =
+    option_and_then (λ pair. only_if (nat_le (length payload) max_payload_len) (emitted (header_value h) payload pair.0 pair.1 computed)) (pair_of src dst)

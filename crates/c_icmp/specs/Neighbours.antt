@@ -1,0 +1,95 @@
+-- Neighbour solicitations and advertisements in the structs of C: read from a frame, and written as one.
+use Rattle.std.specs.Prelude.{ℕ, ◌≡◌, ◌&&◌, ◌==◌, if◌then◌else◌, Bool, true, List, replicate, Option, None, Some}
+use Rattle.std.specs.Option.{option_and_then, option_map_or}
+use Rattle.ip_wire.specs.Frame.{IsReadWhole, other, packet}
+use Rattle.ip_wire.specs.Types.{EthernetAddress, EthernetRepr, IpRepr, Ipv4, Ipv6}
+use Rattle.ip_wire.specs.declared.IpProtocol.TheVariants as protocol
+use Rattle.wire_ends.specs.declared.ip_address.IpAddress.TheVariants as address
+use Rattle.wire_ndisc.specs.Ndisc.{Reads, bytes_of}
+use Rattle.wire_ndisc.specs.declared.ndisc.repr.NdiscRepr.{NdiscRepr}
+use Rattle.wire_ndisc.specs.declared.ndisc.repr.NdiscRepr.TheVariants.{NeighborSolicit, NeighborAdvert}
+use Rattle.c_structs.specs.Addresses.{addr_of}
+use Rattle.c_structs.specs.Frames.{framed}
+use Rattle.c_structs.specs.FrameFields.{no_ip}
+use Rattle.c_structs.specs.Headers.{is_yes, only_if, where_set}
+use Rattle.c_structs.specs.Written.{flag}
+use Rattle.c_structs.specs.declared.failures.Failure.{Failure}
+use Rattle.c_structs.specs.declared.failures.Failure.TheVariants as failure
+use Rattle.c_structs.specs.declared.types.Addr.{Addr}
+use Rattle.c_structs.specs.declared.types.FrameFields.{FrameFields}
+use Rattle.c_structs.specs.declared.types.Ip.{Ip}
+use Rattle.c_icmp.specs.declared.types.Ndisc.{Ndisc}
+
+-- ---- read
+
+-- the payload of a packet with this header is a valid message with this value
+abbrev pub CarriesNdisc : IpRepr → List ℕ → NdiscRepr → Type 0
+CarriesNdisc (Ipv4 ip) message v = ⊥
+CarriesNdisc (Ipv6 ip) message v = (ip.next_header ≡ protocol.Icmpv6) × Reads message ip.src_addr ip.dst_addr ip.hop_limit true v
+
+-- the frame carries a valid message with this value
+pub record ReadsNdisc (frame : List ℕ) (v : NdiscRepr) : Type 0 where
+  pub header : EthernetRepr
+  pub ip : IpRepr
+  pub message : List ℕ
+  pub reads : IsReadWhole frame header (packet ip (other message))
+  pub carries : CarriesNdisc ip message v
+
+-- the octets of a hardware address, or zeros
+abbrev pub hardware_octets : Option EthernetAddress → List ℕ
+hardware_octets hardware = option_map_or (λ (h : EthernetAddress). h.0) hardware (replicate 6 0)
+
+-- the struct of a value
+abbrev pub ndisc_struct : NdiscRepr → Ndisc
+ndisc_struct (NeighborSolicit target hardware) = record {
+  target = addr_of (address.Ipv6 target);
+  hardware = hardware_octets hardware;
+  has_hardware = option_map_or (λ h. 1) hardware 0;
+  is_advert = 0;
+  is_router = 0;
+  is_solicited = 0;
+  overrides = 0;
+}
+ndisc_struct (NeighborAdvert flags target hardware) = record {
+  target = addr_of (address.Ipv6 target);
+  hardware = hardware_octets hardware;
+  has_hardware = option_map_or (λ h. 1) hardware 0;
+  is_advert = 1;
+  is_router = flag flags.router;
+  is_solicited = flag flags.solicited;
+  overrides = flag flags.override_;
+}
+
+-- ---- written
+
+-- the hardware address of the option
+abbrev pub hardware_of : Ndisc → Option EthernetAddress
+hardware_of n = where_set n.has_hardware (record { 0 = n.hardware })
+
+-- the value of a struct; a solicitation has no flags
+abbrev pub ndisc_value : Ndisc → NdiscRepr
+ndisc_value n =
+    if is_yes n.is_advert
+    then NeighborAdvert (record { router = is_yes n.is_router; solicited = is_yes n.is_solicited; override_ = is_yes n.overrides }) n.target.octets (hardware_of n)
+    else NeighborSolicit n.target.octets (hardware_of n)
+
+-- the IP header of a message: with this hop limit no router has forwarded it
+abbrev pub ndisc_ip : Ip
+ndisc_ip = record no_ip { hop_limit = 255 }
+
+-- whether an address is an IPv6 address
+abbrev pub is_ipv6 : Addr → Bool
+is_ipv6 a = a.version == 6
+
+-- whether all three addresses are IPv6 addresses
+abbrev pub has_ipv6 : FrameFields → Ndisc → Bool
+has_ipv6 f n = is_ipv6 f.src.addr && is_ipv6 f.dst.addr && is_ipv6 n.target
+
+-- a frame with a message
+abbrev pub ndisc_frame : FrameFields → Ndisc → Option (List ℕ)
+ndisc_frame f n =
+    option_and_then (framed (record f { ip = ndisc_ip }) 58)
+    (only_if (has_ipv6 f n) (bytes_of (ndisc_value n) f.src.addr.octets f.dst.addr.octets true))
+
+abbrev pub ndisc_failure : FrameFields → Ndisc → Option Failure
+ndisc_failure f n = if has_ipv6 f n then None else Some failure.NoVersion

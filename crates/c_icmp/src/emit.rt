@@ -1,0 +1,131 @@
+//! ICMP messages that are written, alone and in whole frames.
+
+ghost use Rattle.std.specs.Prelude.{◌≡◌};
+ghost use Rattle.net_base.specs.Checksum.{computes};
+ghost use Rattle.wire_ends.specs.declared.ip_version.IpVersion.{IpVersion};
+ghost use Rattle.wire_icmp.specs.Icmp.{choice_of};
+ghost use Rattle.c_structs.specs.Written.{Fills};
+ghost use Rattle.c_icmp.specs.Frames.{icmp_failure, icmp_frame, icmp_frame_failure, protocol_number};
+ghost use Rattle.c_icmp.specs.Messages.{header_value, icmp_bytes};
+
+use crate::read::{ICMP, ICMPV6};
+use crate::types::{FullFrame, Icmp};
+use c_structs::{Addr, Failure, most_payload, pair_failure};
+use net_base::ChecksumCapabilities;
+use wire_icmp::{ICMP_HEADER_LEN, IcmpHeader};
+
+// The longest payload: header and payload fit into an IPv6 packet.
+const MAX_PAYLOAD_LEN: usize = 65527;
+
+impl Icmp {
+    /// Writes a message to the front of `out` and returns its length. `None` if it does not fit, or if there is an
+    /// `icmp_failure`.
+    #[inline(always)]
+    pub fn emit_between(
+        &self,
+        src: &Addr,
+        dst: &Addr,
+        payload: &[u8],
+        computed: bool,
+        out: &mut [u8],
+    ) -> Option<usize>
+        ensures { Fills (icmp_bytes self.now src.now dst.now payload.now computed) out.old out.new result }
+    {
+        if payload.len() > MAX_PAYLOAD_LEN {
+            return None;
+        }
+        let (src_addr, dst_addr) = src.pair(src.version, dst)?;
+        let caps = checksums(computed);
+        self.value()
+            .try_emit(out, &src_addr, &dst_addr, payload, &caps)
+    }
+
+    // The values of the header.
+    #[inline(always)]
+    fn value(&self) -> IcmpHeader
+        ensures { result ≡ header_value self.now }
+    {
+        IcmpHeader {
+            msg_type: self.msg_type,
+            msg_code: self.code,
+            word: self.word,
+        }
+    }
+}
+
+// What asks to compute checksums, or not to.
+#[inline(always)]
+fn checksums(computed: bool) -> ChecksumCapabilities
+    ensures { (v : IpVersion) → computes (choice_of v result) ≡ computed }
+{
+    if computed {
+        ChecksumCapabilities::default()
+    } else {
+        ChecksumCapabilities::ignored()
+    }
+}
+
+/// Why no message with a payload of this length goes between two addresses.
+pub fn icmp_failure(src: &Addr, dst: &Addr, payload_len: usize) -> Option<Failure>
+    ensures { result ≡ icmp_failure src.now dst.now payload_len }
+{
+    let failure = pair_failure(src, dst);
+    if failure.is_some() {
+        failure
+    } else if payload_len > MAX_PAYLOAD_LEN {
+        Some(Failure::PayloadTooLong)
+    } else {
+        None
+    }
+}
+
+impl FullFrame {
+    /// Writes a frame with an ICMP message and this payload, and returns its length.
+    pub fn emit_icmp(&self, payload: &[u8], out: &mut [u8]) -> Option<usize>
+        ensures { Fills (icmp_frame self.now payload.now) out.old out.new result }
+    {
+        if payload.len() > MAX_PAYLOAD_LEN {
+            return None;
+        }
+        let version = self.fields.src.addr.version;
+        let len = ICMP_HEADER_LEN + payload.len();
+        let ip_header = self
+            .fields
+            .ip_header(version, protocol_number(version), len)?;
+        let start = self.fields.headers_len(&ip_header);
+        let end = start + len;
+        if out.len() < end {
+            return None;
+        }
+        let (headers, message) = out.split_at_mut(start);
+        self.fields.emit_headers(&ip_header, headers);
+        let (src, dst) = (&self.fields.src.addr, &self.fields.dst.addr);
+        match self.icmp.emit_between(src, dst, payload, true, message) {
+            Some(_) => Some(end),
+            None => None,
+        }
+    }
+
+    /// Why there can be no frame with an ICMP message with a payload of this length.
+    #[cold]
+    pub fn icmp_failure(&self, payload_len: usize) -> Option<Failure>
+        ensures { result ≡ icmp_frame_failure self.now payload_len }
+    {
+        let failure = self.fields.failure(true);
+        let most = most_payload(self.fields.src.addr.version);
+        if failure.is_some() {
+            failure
+        } else if payload_len > most - ICMP_HEADER_LEN {
+            Some(Failure::PayloadTooLong)
+        } else {
+            None
+        }
+    }
+}
+
+// The protocol of ICMP over this version of IP.
+fn protocol_number(version: u16) -> u8
+    ensures { result ≡ protocol_number version }
+{
+    if version == 4 { ICMP } else { ICMPV6 }
+}

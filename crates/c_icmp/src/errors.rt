@@ -1,0 +1,108 @@
+//! ICMP errors about frames.
+
+ghost use Rattle.std.specs.Prelude.{◌≡◌};
+ghost use Rattle.ip_replies.specs.IcmpError.{IsError};
+ghost use Rattle.ip_replies.specs.Message.{Gives};
+ghost use Rattle.wire_icmp.specs.declared.icmp.reason.Unreachable.TheVariants.{Port};
+ghost use Rattle.wire_icmp.specs.declared.icmp.repr.IcmpRepr.TheVariants.{DstUnreachable};
+ghost use Rattle.c_icmp.specs.Errors.{TellsOf, WritesError, own_interface, problem_by};
+ghost use Rattle.c_icmp.specs.Interfaces.{WritesReply};
+
+use crate::interfaces::{interface, write_message};
+use crate::types::InterfaceFields;
+use c_structs::Failure;
+use ip_replies::{Interface, MessageFrame, icmp_error};
+use wire_icmp::{IcmpRepr, Unreachable};
+
+/// `enum lk_problem`: why a packet was dropped.
+#[derive(Clone, Copy)]
+pub enum Problem {
+    None,
+    /// The hop limit is 0 or 1.
+    HopLimitExpired,
+    /// The packet is longer than the MTU, and may not be fragmented.
+    PacketTooBig,
+    RouteMissing,
+    /// The next hop has no hardware address.
+    NeighbourMissing,
+    PortClosed,
+    /// A filter rejects it.
+    Prohibited,
+}
+
+impl Problem {
+    /// The problem with this number; another number is none.
+    pub fn of(number: i32) -> Problem
+        ensures { result ≡ problem_by number }
+    {
+        match number {
+            1 => Problem::HopLimitExpired,
+            2 => Problem::PacketTooBig,
+            3 => Problem::RouteMissing,
+            4 => Problem::NeighbourMissing,
+            5 => Problem::PortClosed,
+            6 => Problem::Prohibited,
+            _ => Problem::None,
+        }
+    }
+}
+
+impl InterfaceFields {
+    /// Writes an ICMP error about a frame, to its sender, and returns its length; 0 if there may be none. Fails with
+    /// `NoVersion` if the struct lacks an IPv4 or an IPv6 address, and with `NoRoom`.
+    pub fn emit_error(&self, problem: Problem, mtu: u32, frame: &[u8], out: &mut [u8]) -> isize
+        ensures { WritesError (own_interface self.now) frame.now problem mtu out.old out.new result }
+    {
+        let hardware = self.hardware;
+        match interface(&self.ipv4, &self.ipv6, hardware) {
+            Some(ours) => write_error(&ours, problem, mtu, frame, out),
+            None => Failure::NoVersion.code(),
+        }
+    }
+}
+
+// Writes the error of an interface.
+fn write_error(ours: &Interface, problem: Problem, mtu: u32, frame: &[u8], out: &mut [u8]) -> isize
+    ensures { WritesReply (TellsOf ours.now frame.now problem mtu) out.old out.new result }
+{
+    match error(ours, problem, mtu, frame) {
+        Some(error) => write_message(&error, out),
+        None => 0,
+    }
+}
+
+// The error of an interface.
+fn error<'a>(
+    ours: &Interface,
+    problem: Problem,
+    mtu: u32,
+    frame: &'a [u8],
+) -> Option<MessageFrame<'a>>
+    ensures { Gives (TellsOf ours.now frame.now problem mtu) result }
+{
+    match problem {
+        Problem::None => None,
+        Problem::HopLimitExpired => ip_forward::error(frame, ours, ip_forward::Problem::Expired),
+        Problem::PacketTooBig => ip_forward::error(
+            frame,
+            ours,
+            ip_forward::Problem::TooLong { mtu },
+        ),
+        Problem::RouteMissing => ip_forward::error(frame, ours, ip_forward::Problem::NoRoute),
+        Problem::NeighbourMissing => ip_forward::error(
+            frame,
+            ours,
+            ip_forward::Problem::NoNeighbour,
+        ),
+        Problem::PortClosed => port_error(ours, frame),
+        Problem::Prohibited => ip_forward::error(frame, ours, ip_forward::Problem::Prohibited),
+    }
+}
+
+// The error about a packet to a closed port.
+fn port_error<'a>(ours: &Interface, frame: &'a [u8]) -> Option<MessageFrame<'a>>
+    ensures { Gives (IsError ours.now frame.now (DstUnreachable Port)) result }
+{
+    let reason = Unreachable::Port;
+    icmp_error::error(frame, ours, IcmpRepr::DstUnreachable { reason })
+}

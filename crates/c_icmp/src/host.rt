@@ -1,0 +1,66 @@
+//! A host with one interface and no connections.
+
+ghost use Rattle.std.specs.Prelude.{◌≡◌, IsSome, pos};
+ghost use Rattle.ip_host.specs.Host.{IsUnread, RepliesBytes};
+ghost use Rattle.c_icmp.specs.HostFields.{WritesAnswer, host_of, offer_of};
+ghost use Rattle.c_icmp.specs.Interfaces.{WritesReply};
+
+use crate::interfaces::{interface, write_reply};
+use crate::types::HostFields;
+use c_structs::Failure;
+use ip_host::{Host, reply};
+use ip_replies::tcp_reply::Offer;
+use ip_wire::TcpSeqNumber;
+
+impl<'a> HostFields<'a> {
+    /// Writes the answer of the host to a frame, and returns its length; 0 if there is none. Fails with
+    /// `NoVersion` if the struct lacks an IPv4 or an IPv6 address, and with `NoRoom`.
+    pub fn answer(&self, frame: &[u8], out: &mut [u8]) -> isize
+        ensures answers { WritesAnswer (host_of self.now) frame.now out.old out.new result }
+        ensures unread { IsSome (host_of self.now) → IsUnread frame.now → result ≡ pos 0 }
+    {
+        match self.value() {
+            Some(host) => answer(&host, frame, out),
+            None => Failure::NoVersion.code(),
+        }
+    }
+
+    // The host. `None` if `ipv4` is no IPv4 address, or `ipv6` no IPv6 address.
+    fn value(&self) -> Option<Host<'a>>
+        ensures { result ≡ host_of self.now }
+    {
+        let hardware = self.hardware;
+        let interface = interface(&self.ipv4, &self.ipv6, hardware)?;
+        Some(Host {
+            interface,
+            echo_port: self.echo_port,
+            open_udp_ports: self.open_udp_ports,
+            open_ports: self.open_ports,
+            offer: self.offer(),
+        })
+    }
+
+    // What the open ports offer.
+    fn offer(&self) -> Offer
+        ensures { result ≡ offer_of self.now }
+    {
+        Offer {
+            initial: TcpSeqNumber(self.seq_number.cast_signed()),
+            window_len: self.window_len,
+            max_seg_size: self.max_seg_size,
+            window_scale: self.window_scale,
+            clock: self.tsval,
+        }
+    }
+}
+
+// Writes the answer of a host to a frame, and returns its length; 0 if there is none. Fails with `NoRoom`.
+fn answer(host: &Host<'_>, frame: &[u8], out: &mut [u8]) -> isize
+    ensures answers { WritesReply (RepliesBytes host.now frame.now) out.old out.new result }
+    ensures unread { IsUnread frame.now → result ≡ pos 0 }
+{
+    match reply(host, frame) {
+        Some(reply) => write_reply(&reply, out),
+        None => 0,
+    }
+}

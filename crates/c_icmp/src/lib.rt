@@ -1,0 +1,15 @@
+//! ICMP in the structs of `c/ip_wire.h`: messages in frames that are read and written, neighbour discovery, and ICMP
+//! errors. `ip_wire_c` exports it to C.
+#![tactic(auto)]
+
+mod emit;
+mod errors;
+mod host;
+mod interfaces;
+mod neighbours;
+mod read;
+mod types;
+
+pub use emit::icmp_failure;
+pub use errors::Problem;
+pub use types::{FullFrame, HostFields, Icmp, InterfaceFields, Ndisc};

@@ -1,0 +1,213 @@
+//! Neighbour solicitations and advertisements.
+
+ghost use Rattle.std.specs.Prelude.{◌≡◌, MatchOption};
+ghost use Rattle.ip_wire.specs.Types.{Ipv6};
+ghost use Rattle.wire_ndisc.specs.declared.ndisc.repr.NdiscRepr.{NdiscRepr};
+ghost use Rattle.c_structs.specs.Written.{Fills, IsRead};
+ghost use Rattle.c_icmp.specs.Neighbours.{CarriesNdisc, ReadsNdisc, has_ipv6, hardware_octets, hardware_of, ndisc_failure, ndisc_frame, ndisc_ip, ndisc_struct, ndisc_value};
+
+use crate::read::ICMPV6;
+use crate::types::{FullFrame, Ndisc};
+use c_structs::{Addr, Failure, FrameFields, Ip};
+use ip_wire::{
+    Carried, EthernetAddress, Frame, IpAddress, IpProtocol, IpRepr, Ipv6Repr, Transport,
+};
+use net_base::ChecksumCapabilities;
+use wire_icmp::IcmpPacket;
+use wire_ndisc::{NDISC_HOP_LIMIT, NdiscNeighborFlags, NdiscRepr};
+
+impl Ndisc {
+    /// Parses a message in a frame, stores it, and returns 1. Returns 0 if the frame carries none that is valid.
+    pub fn read(&mut self, frame: &[u8]) -> i32
+        ensures { IsRead ReadsNdisc ndisc_struct frame.now self.old self.new result }
+    {
+        match parse_ndisc(frame) {
+            Some(value) => {
+                *self = Ndisc::of(&value);
+                1
+            }
+            None => 0,
+        }
+    }
+
+    // The struct of a value.
+    fn of(value: &NdiscRepr) -> Ndisc
+        ensures { result ≡ ndisc_struct value.now }
+    {
+        match value {
+            NdiscRepr::NeighborSolicit {
+                target_addr,
+                lladdr,
+            } => Ndisc {
+                target: Addr::of(IpAddress::Ipv6(*target_addr)),
+                hardware: hardware_octets(*lladdr),
+                has_hardware: u8::from(lladdr.is_some()),
+                is_advert: 0,
+                is_router: 0,
+                is_solicited: 0,
+                overrides: 0,
+            },
+            NdiscRepr::NeighborAdvert {
+                flags,
+                target_addr,
+                lladdr,
+            } => Ndisc {
+                target: Addr::of(IpAddress::Ipv6(*target_addr)),
+                hardware: hardware_octets(*lladdr),
+                has_hardware: u8::from(lladdr.is_some()),
+                is_advert: 1,
+                is_router: u8::from(flags.router),
+                is_solicited: u8::from(flags.solicited),
+                overrides: u8::from(flags.override_),
+            },
+        }
+    }
+
+    // The value.
+    fn value(&self) -> NdiscRepr
+        ensures { result ≡ ndisc_value self.now }
+    {
+        let target_addr = self.target.ipv6();
+        let lladdr = self.hardware();
+        if self.is_advert == 0 {
+            return NdiscRepr::NeighborSolicit {
+                target_addr,
+                lladdr,
+            };
+        }
+        NdiscRepr::NeighborAdvert {
+            flags: NdiscNeighborFlags {
+                router: self.is_router != 0,
+                solicited: self.is_solicited != 0,
+                override_: self.overrides != 0,
+            },
+            target_addr,
+            lladdr,
+        }
+    }
+
+    // The hardware address of the option.
+    fn hardware(&self) -> Option<EthernetAddress>
+        ensures { result ≡ hardware_of self.now }
+    {
+        let hardware = self.hardware;
+        (self.has_hardware != 0).then_some(EthernetAddress(hardware))
+    }
+}
+
+// The octets of a hardware address, or zeros.
+fn hardware_octets(hardware: Option<EthernetAddress>) -> [u8; 6]
+    ensures { result ≡ hardware_octets hardware }
+{
+    match hardware {
+        Some(address) => {
+            let octets = address.0;
+            octets
+        }
+        None => [0; 6],
+    }
+}
+
+// The message in a frame, if it is valid.
+fn parse_ndisc(frame: &[u8]) -> Option<NdiscRepr>
+    ensures { MatchOption result ((v : NdiscRepr) → ¬ ReadsNdisc frame.now v) (ReadsNdisc frame.now) }
+{
+    match Frame::parse(frame, &ChecksumCapabilities::default()) {
+        Ok(parsed) => match &parsed.carried {
+            Carried::Packet(header, inner) => match inner {
+                Transport::Other(message) => parse_message(header, message),
+                _ => None,
+            },
+            _ => None,
+        },
+        Err(_) => None,
+    }
+}
+
+// The message behind an IP header, if it is valid.
+fn parse_message(header: &IpRepr, message: &[u8]) -> Option<NdiscRepr>
+    ensures { MatchOption result ((v : NdiscRepr) → ¬ CarriesNdisc header.now message.now v) (CarriesNdisc header.now message.now) }
+{
+    match header {
+        IpRepr::Ipv6(ip) => parse_behind(ip, message),
+        IpRepr::Ipv4(_) => None,
+    }
+}
+
+// The same behind an IPv6 header.
+fn parse_behind(ip: &Ipv6Repr, message: &[u8]) -> Option<NdiscRepr>
+    ensures { MatchOption result ((v : NdiscRepr) → ¬ CarriesNdisc (Ipv6 ip.now) message.now v) (CarriesNdisc (Ipv6 ip.now) message.now) }
+{
+    if ip.next_header != IpProtocol::Icmpv6 {
+        return None;
+    }
+    let packet = IcmpPacket::new_unchecked(message);
+    let caps = ChecksumCapabilities::default();
+    NdiscRepr::parse(&packet, &ip.src_addr, &ip.dst_addr, ip.hop_limit, &caps).ok()
+}
+
+impl FullFrame {
+    /// Writes a frame with a message, and returns its length. `None` if it does not fit, or if there is an
+    /// `ndisc_failure`.
+    pub fn emit_ndisc(&self, ndisc: &Ndisc, out: &mut [u8]) -> Option<usize>
+        ensures { Fills (ndisc_frame self.now.fields ndisc.now) out.old out.new result }
+    {
+        if !self.has_ipv6(ndisc) {
+            return None;
+        }
+        let mut headers = self.fields;
+        headers.ip = ndisc_ip();
+        let value = ndisc.value();
+        let len = value.buffer_len();
+        let ip_header = headers.ip_header(6, ICMPV6, len)?;
+        let start = headers.headers_len(&ip_header);
+        let end = start + len;
+        if out.len() < end {
+            return None;
+        }
+        let (front, message) = out.split_at_mut(start);
+        headers.emit_headers(&ip_header, front);
+        let (src, dst) = (headers.src.addr.ipv6(), headers.dst.addr.ipv6());
+        match value.try_emit(message, &src, &dst, &ChecksumCapabilities::default()) {
+            Some(_) => Some(end),
+            None => None,
+        }
+    }
+
+    /// Why there can be no frame with a message.
+    pub fn ndisc_failure(&self, ndisc: &Ndisc) -> Option<Failure>
+        ensures { result ≡ ndisc_failure self.now.fields ndisc.now }
+    {
+        if self.has_ipv6(ndisc) {
+            None
+        } else {
+            Some(Failure::NoVersion)
+        }
+    }
+
+    // Whether all three addresses are IPv6 addresses.
+    fn has_ipv6(&self, ndisc: &Ndisc) -> bool
+        ensures { result ≡ has_ipv6 self.now.fields ndisc.now }
+    {
+        self.fields.src.addr.version == 6
+            && self.fields.dst.addr.version == 6
+            && ndisc.target.version == 6
+    }
+}
+
+// The IP header of a message.
+fn ndisc_ip() -> Ip
+    ensures { result ≡ ndisc_ip }
+{
+    Ip {
+        ident: 0,
+        flow_label: 0,
+        fragment_offset: 0,
+        protocol: 0,
+        hop_limit: NDISC_HOP_LIMIT,
+        dscp: 0,
+        ecn: 0,
+        more_fragments: 0,
+        dont_fragment: 0,
+    }
+}

@@ -1,0 +1,207 @@
+-- ICMP errors over IPv4, and the packet that they quote (RFC 5508, section 4; RFC 3022, section 4.3).
+use Rattle.std.specs.Prelude.{ℕ, ◌≡◌, ◌+◌, ◌-◌, ◌≤◌, ◌++◌, ◌==◌, ◌||◌, nat_lt, if◌then◌else◌, Bool, true, false, List, Option, Some, None, length, drop, take}
+use Rattle.ip_flows.specs.Table.{IsUnmapped, MapsTo}
+use Rattle.ip_flows.specs.declared.Ipv4Endpoint.{Ipv4Endpoint}
+use Rattle.ip_flows.specs.declared.Mapping.{Mapping}
+use Rattle.ip_flows.specs.declared.Nat.{Nat}
+use Rattle.ip_flows.specs.declared.Protocol.{Protocol}
+use Rattle.ip_flows.specs.declared.Protocol.TheVariants as flow
+use Rattle.ip_wire.specs.Field.{field, with_field, with_range}
+use Rattle.ip_wire.specs.Frame.{ReadsPacket, all_checked, ipv4_payload}
+use Rattle.ip_wire.specs.Ipv4 as ipv4
+use Rattle.ip_wire.specs.Ipv4.{fragment_offset, header_len, total_len}
+use Rattle.ip_wire.specs.Protocol.{protocol_of}
+use Rattle.ip_wire.specs.WordSum.{sum_of_bytes}
+use Rattle.ip_wire.specs.Types.{EthernetRepr, IpProtocol, Ipv4, Ipv4Repr}
+use Rattle.ip_wire.specs.declared.IpProtocol.TheVariants as protocol
+use Rattle.wire_icmp.specs.Icmp as icmp
+use Rattle.ip_nat.specs.Nat.{IsIpv4Frame, addr_at, port_bit, with_addr, with_address, with_tcp_end, with_udp_end}
+use Rattle.ip_nat.specs.declared.errors.Quoted.{Quoted}
+use Rattle.ip_nat.specs.declared.nat.Rejection.{Rejection}
+use Rattle.ip_nat.specs.declared.nat.Rejection.TheVariants.{NotIpv4, BadHeader, WrongChecksum, Fragment, OtherProtocol, BadTransport, NoMapping}
+use Rattle.ip_nat.specs.declared.nat.Side.{Side}
+use Rattle.ip_nat.specs.declared.nat.Side.TheVariants.{Source, Destination}
+
+-- ---- the quoted packet
+
+-- a message of this type reports an error: destination unreachable, time exceeded or parameter problem (RFC 792)
+abbrev pub is_error : ℕ → Bool
+is_error type = type == 3 || (type == 11 || type == 12)
+
+-- the side of the error that goes where the quoted packet came from, or comes from where it went
+abbrev pub opposite : Side → Side
+opposite Source = Destination
+opposite Destination = Source
+
+-- the type of the echo message whose identifier the host on this side chose: the source of a request, the destination of a reply
+abbrev pub echo_type : Side → ℕ
+echo_type Source = 8
+echo_type Destination = 0
+
+-- the bytes behind the header of a quoted packet
+abbrev pub behind : List ℕ → List ℕ
+behind bytes = drop (header_len bytes) bytes
+
+-- the protocol of a packet, by that of its header and the first octet behind it
+abbrev pub flow_by : Side → IpProtocol → ℕ → Option Protocol
+flow_by side protocol.Udp type = Some flow.Udp
+flow_by side protocol.Tcp type = Some flow.Tcp
+flow_by side protocol.Icmp type = if type == echo_type side then Some flow.Icmp else None
+flow_by side _ type = None
+
+-- the first bit of the port on this side, or of the identifier of an echo message
+abbrev pub end_bit : Protocol → Side → ℕ
+end_bit flow.Udp side = port_bit side
+end_bit flow.Tcp side = port_bit side
+end_bit flow.Icmp side = 32
+
+-- the bytes hold a whole IPv4 header, with options if there are any, with a valid checksum
+pub record HasHeader (bytes : List ℕ) : Type 0 where
+  pub least : 20 ≤ header_len bytes
+  pub whole : header_len bytes ≤ length bytes
+  pub checksum : ipv4.HasChecksum bytes
+
+-- The bytes begin with a packet of this protocol from or to this endpoint, as an error quotes it: at least its IPv4 header and
+-- 8 octets. The checksum of the header is valid. Only a first fragment has ports.
+pub record Quotes (side : Side) (bytes : List ℕ) (q : Quoted) : Type 0 where
+  pub version : field bytes 0 4 ≡ 4
+  pub header : 20 ≤ header_len bytes
+  pub room : header_len bytes + 8 ≤ length bytes
+  pub first : fragment_offset bytes ≡ 0
+  pub checksum : ipv4.HasChecksum bytes
+  pub flow : flow_by side (protocol_of (field bytes 72 8)) (field (behind bytes) 0 8) ≡ Some q.protocol
+  pub addr : q.end.addr ≡ addr_at side bytes
+  pub port : q.end.port ≡ field (behind bytes) (end_bit q.protocol side) 16
+
+-- ---- frames
+
+-- the bytes are an ICMP error with a valid checksum that quotes this packet
+pub record Reports (side : Side) (bytes : List ℕ) (q : Quoted) : Type 0 where
+  pub error : is_error (field bytes 0 8) ≡ true
+  pub checksum : sum_of_bytes bytes ≡ 65535
+  pub quotes : Quotes side (drop 8 bytes) q
+
+-- the frame carries an ICMP error with this IPv4 header, no fragment, that quotes this packet; all checksums are valid
+pub record CarriesError (side : Side) (frame : List ℕ) (header : Ipv4Repr) (q : Quoted) : Type 0 where
+  pub link : EthernetRepr
+  pub is : IsIpv4Frame frame link
+  pub reads : ReadsPacket all_checked (drop 14 frame) (Ipv4 header)
+  pub names : header.next_header ≡ protocol.Icmp
+  pub reports : Reports side (ipv4_payload (drop 14 frame)) q
+
+-- the reason why the payload of a packet with this header is no such error: it is another protocol or ICMP message, or it is
+-- too short for an ICMP message, has a wrong checksum, or quotes no such packet
+abbrev pub IsRejectedMessage : Side → Ipv4Repr → List ℕ → Rejection → Type 0
+IsRejectedMessage side header bytes OtherProtocol = header.next_header ≡ protocol.Icmp → (8 ≤ length bytes) × (is_error (field bytes 0 8) ≡ false)
+IsRejectedMessage side header bytes BadTransport =
+    (header.next_header ≡ protocol.Icmp) × (8 ≤ length bytes → is_error (field bytes 0 8) ≡ true) × ((q : Quoted) → ¬ Reports side bytes q)
+IsRejectedMessage side header bytes _ = ⊥
+
+-- the reason why the packet in an IPv4 frame is no such error
+abbrev pub IsRejectedErrorPacket : Side → List ℕ → Rejection → Type 0
+IsRejectedErrorPacket side bytes NotIpv4 = ⊥
+IsRejectedErrorPacket side bytes BadHeader = (header : Ipv4Repr) → ¬ ipv4.Reads bytes false header
+IsRejectedErrorPacket side bytes WrongChecksum = ((header : Ipv4Repr) × ipv4.Reads bytes false header) × ¬ ipv4.HasChecksum bytes
+IsRejectedErrorPacket side bytes Fragment = ((header : Ipv4Repr) × ipv4.Reads bytes true header) × (ipv4.is_fragment bytes ≡ true)
+IsRejectedErrorPacket side bytes reason =
+    (header : Ipv4Repr) × ReadsPacket all_checked bytes (Ipv4 header) × IsRejectedMessage side header (ipv4_payload bytes) reason
+
+-- the reason why a frame is no such error
+pub record IsRejectedError (side : Side) (frame : List ℕ) (reason : Rejection) : Type 0 where
+  pub whole : (link : EthernetRepr) → IsIpv4Frame frame link → IsRejectedErrorPacket side (drop 14 frame) reason
+  pub short : ((link : EthernetRepr) → ¬ IsIpv4Frame frame link) → reason ≡ NotIpv4
+
+-- ---- bytes
+
+-- the bytes behind the header of a quoted packet, with this port on this side, for another address there. The checksum of a TCP
+-- segment may be cut off, and a UDP checksum of 0 stays 0.
+abbrev pub with_quoted_end : Protocol → Side → List ℕ → List ℕ → ℕ → List ℕ → List ℕ
+with_quoted_end flow.Udp side old new port bytes = with_udp_end side old new port bytes
+with_quoted_end flow.Tcp side old new port bytes =
+    if nat_lt (length bytes) 18 then with_field bytes (port_bit side) 16 port else with_tcp_end side old new port bytes
+with_quoted_end flow.Icmp side old new port bytes = icmp.with_updated_checksum (with_field bytes 32 16 port) (field bytes 32 16) port
+
+-- a quoted packet with another address and port on this side
+abbrev pub quoted_with : Protocol → Side → List ℕ → ℕ → List ℕ → List ℕ
+quoted_with p side addr port bytes =
+    with_address side addr (take (header_len bytes) bytes ++ with_quoted_end p side (addr_at side bytes) addr port (behind bytes))
+
+-- an ICMP message over IPv4 with the checksum computed anew
+abbrev pub with_message_checksum : List ℕ → List ℕ
+with_message_checksum bytes = let zeroed = with_field bytes 16 16 0 in with_field zeroed 16 16 (65535 - sum_of_bytes zeroed)
+
+-- an error that quotes the packet with this address and port
+abbrev pub error_with : Protocol → Side → List ℕ → ℕ → List ℕ → List ℕ
+error_with p side addr port bytes = with_message_checksum (take 8 bytes ++ quoted_with p side addr port (drop 8 bytes))
+
+-- a packet with such an error, and the same address on the other side of the packet itself
+abbrev pub error_packet : Protocol → Side → List ℕ → ℕ → List ℕ → List ℕ
+error_packet p side addr port bytes =
+    with_address (opposite side) addr (with_range bytes (header_len bytes) (total_len bytes) (error_with p side addr port (ipv4_payload bytes)))
+
+-- the frame with this packet
+abbrev pub translated_error : Protocol → Side → List ℕ → ℕ → List ℕ → List ℕ
+translated_error p side addr port frame = take 14 frame ++ error_packet p side addr port (drop 14 frame)
+
+-- ---- before and after
+
+-- the quoted packet with another endpoint
+abbrev pub quoting : Quoted → List ℕ → ℕ → Quoted
+quoting q addr port = record q { end = record { addr = addr; port = port } }
+
+-- The old frame carries an error that quotes this packet. The new one carries the same error with valid checksums: it quotes
+-- the packet with the other address and port on this side, and has this address on the opposite side of its own header.
+-- These are all the bytes.
+pub record IsErrorTranslated (old new : List ℕ) (side : Side) (header : Ipv4Repr) (q : Quoted) (addr : List ℕ) (port : ℕ) : Type 0 where
+  pub before : CarriesError side old header q
+  pub after : CarriesError side new (with_addr (opposite side) addr header) (quoting q addr port)
+  pub bytes : new ≡ translated_error q.protocol side addr port old
+
+-- ---- errors that come in
+
+-- The error is for the outside address, and quotes a packet from an outside port with a live mapping: the inside endpoint becomes
+-- the source of the quoted packet, and the destination of the error.
+pub record ErrorComesIn (nat : Nat) (mappings : List Mapping) (now : ℕ) (before after : List ℕ) : Type 0 where
+  pub header : Ipv4Repr
+  pub quoted : Quoted
+  pub outside : header.dst_addr ≡ nat.outside
+  pub sent : quoted.end.addr ≡ nat.outside
+  pub inside : Ipv4Endpoint
+  pub maps : MapsTo nat mappings now quoted.protocol quoted.end.port inside
+  pub translated : IsErrorTranslated before after Source header quoted inside.addr inside.port
+
+-- the error is not for the outside address, or quotes no packet from an outside port with a live mapping
+pub record IsUnmappedError (nat : Nat) (mappings : List Mapping) (now : ℕ) (frame : List ℕ) : Type 0 where
+  pub header : Ipv4Repr
+  pub quoted : Quoted
+  pub carries : CarriesError Source frame header quoted
+  pub unmapped : header.dst_addr ≡ nat.outside → quoted.end.addr ≡ nat.outside
+      → (inside : Ipv4Endpoint) → ¬ MapsTo nat mappings now quoted.protocol quoted.end.port inside
+
+-- the reason why an error does not come in
+abbrev pub IsErrorKeptOutside : Nat → List Mapping → ℕ → List ℕ → Rejection → Type 0
+IsErrorKeptOutside nat mappings now frame NoMapping = IsUnmappedError nat mappings now frame
+IsErrorKeptOutside nat mappings now frame reason = IsRejectedError Source frame reason
+
+-- ---- errors that go out
+
+-- The error quotes a packet to an inside endpoint with a live mapping: the outside address and port become the destination of
+-- the quoted packet, and the outside address the source of the error.
+pub record ErrorGoesOut (nat : Nat) (mappings : List Mapping) (now : ℕ) (before after : List ℕ) : Type 0 where
+  pub header : Ipv4Repr
+  pub quoted : Quoted
+  pub port : ℕ
+  pub maps : MapsTo nat mappings now quoted.protocol port quoted.end
+  pub translated : IsErrorTranslated before after Destination header quoted nat.outside port
+
+-- the error quotes a packet to an endpoint without a live mapping
+pub record IsUnopenedError (nat : Nat) (mappings : List Mapping) (now : ℕ) (frame : List ℕ) : Type 0 where
+  pub header : Ipv4Repr
+  pub quoted : Quoted
+  pub carries : CarriesError Destination frame header quoted
+  pub unmapped : IsUnmapped nat mappings now quoted.protocol quoted.end
+
+-- the reason why an error does not go out
+abbrev pub IsErrorKeptInside : Nat → List Mapping → ℕ → List ℕ → Rejection → Type 0
+IsErrorKeptInside nat mappings now frame NoMapping = IsUnopenedError nat mappings now frame
+IsErrorKeptInside nat mappings now frame reason = IsRejectedError Destination frame reason

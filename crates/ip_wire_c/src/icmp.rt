@@ -1,0 +1,90 @@
+//! ICMP messages, neighbour discovery and ICMP errors.
+
+ghost use Rattle.std.specs.Prelude.{◌≡◌, length};
+ghost use Rattle.c_icmp.specs.Errors.{WritesError, own_interface, problem_by};
+ghost use Rattle.c_icmp.specs.Frames.{icmp_failure, icmp_frame, icmp_frame_failure};
+ghost use Rattle.c_icmp.specs.Messages.{icmp_bytes};
+ghost use Rattle.c_icmp.specs.Neighbours.{ReadsNdisc, ndisc_failure, ndisc_frame, ndisc_struct};
+ghost use Rattle.c_structs.specs.Written.{IsRead, Writes, is_set, within};
+
+use c_icmp::{FullFrame, Icmp, InterfaceFields, Ndisc, Problem, icmp_failure};
+use c_structs::{Addr, MAX_LEN, failed, is_set, within};
+
+/// Writes the header of an ICMP message and its payload.
+#[unsafe(no_mangle)]
+pub extern "C" fn lk_emit_icmp(
+    header: &Icmp,
+    src: &Addr,
+    dst: &Addr,
+    payload: &[u8],
+    computed: i32,
+    out: &mut [u8],
+) -> isize
+    ensures { Writes (icmp_bytes header.now src.now dst.now payload.now (is_set computed)) (icmp_failure src.now dst.now (length payload.now)) out.old out.new result }
+{
+    let len = if out.len() <= MAX_LEN {
+        header.emit_between(src, dst, payload, is_set(computed), out)
+    } else {
+        None
+    };
+    match len {
+        Some(len) => len as isize,
+        None => failed(icmp_failure(src, dst, payload.len())),
+    }
+}
+
+/// Writes a whole frame with an ICMP message and this payload.
+#[unsafe(no_mangle)]
+pub extern "C" fn lk_emit_icmp_frame(headers: &FullFrame, payload: &[u8], out: &mut [u8]) -> isize
+    ensures { Writes (icmp_frame headers.now payload.now) (icmp_frame_failure headers.now (length payload.now)) out.old out.new result }
+{
+    let len = if out.len() <= MAX_LEN {
+        headers.emit_icmp(payload, out)
+    } else {
+        None
+    };
+    match len {
+        Some(len) => len as isize,
+        None => failed(headers.icmp_failure(payload.len())),
+    }
+}
+
+/// Parses a neighbour solicitation or advertisement in a frame, stores it, and returns 1. Returns 0 if the frame
+/// carries none that is valid.
+#[unsafe(no_mangle)]
+pub extern "C" fn lk_read_ndisc(frame: &[u8], ndisc: &mut Ndisc) -> i32
+    ensures { IsRead ReadsNdisc ndisc_struct (within frame.now) ndisc.old ndisc.new result }
+{
+    ndisc.read(within(frame))
+}
+
+/// Writes a whole frame with a neighbour solicitation or advertisement.
+#[unsafe(no_mangle)]
+pub extern "C" fn lk_emit_ndisc_frame(headers: &FullFrame, ndisc: &Ndisc, out: &mut [u8]) -> isize
+    ensures { Writes (ndisc_frame headers.now.fields ndisc.now) (ndisc_failure headers.now.fields ndisc.now) out.old out.new result }
+{
+    let len = if out.len() <= MAX_LEN {
+        headers.emit_ndisc(ndisc, out)
+    } else {
+        None
+    };
+    match len {
+        Some(len) => len as isize,
+        None => failed(headers.ndisc_failure(ndisc)),
+    }
+}
+
+/// Writes an ICMP error about a frame that came in by an interface, to its sender, and returns its length; 0 if there
+/// may be none. Fails if the struct lacks an IPv4 or an IPv6 address.
+#[unsafe(no_mangle)]
+pub extern "C" fn lk_emit_icmp_error(
+    own: &InterfaceFields,
+    problem: i32,
+    mtu: u32,
+    frame: &[u8],
+    out: &mut [u8],
+) -> isize
+    ensures { WritesError (own_interface own.now) (within frame.now) (problem_by problem) mtu out.old out.new result }
+{
+    own.emit_error(Problem::of(problem), mtu, within(frame), out)
+}

@@ -1,0 +1,4 @@
+pub mod IcmpComputed
+pub mod IcmpReadsBack
+pub mod IcmpSums
+mod IcmpViewed

@@ -1,0 +1,13 @@
+-- `payload_mut` lends what follows the header. Assumes `Logic`.
+use Rattle.wire_field.proofs.Views.{behind, lends_located}
+use Rattle.wire_icmp.proofs.IcmpViewed.{view}
+use Rattle.wire_icmp.proofs.icmp.packet_mut.locate_payload.Symbol as locate
+use Rattle.wire_icmp.proofs.icmp.packet_mut.locate_payload.Met.{met}
+use Rattle.wire_icmp.specs.contracts.icmp.packet_mut.IcmpPacketMut.payload_mut.Key as key
+use Rattle.wire_icmp.proofs.icmp.packet_mut.IcmpPacketMut.payload_mut.Statement.{statement}
+use Rattle.wire_icmp.proofs.icmp.packet_mut.IcmpPacketMut.payload_mut.Code as code
+
+pub payload_mut_spec : {M : Type 1} → statement M
+payload_mut_spec 𝓤 𝓛 𝓜 𝓡 wired =
+    lends_located view (behind 8) 𝓛 𝓜 𝓡 locate.name (met 𝓤 𝓛 𝓜 𝓡 (code.calls-wire_icmp::icmp::packet_mut::locate_payload 𝓡.env wired))
+    (code.calls-wire_field::lend::Located::lend 𝓡.env wired) key.name (code.unfolded 𝓤 𝓛.H 𝓜 𝓡 wired)

@@ -1,0 +1,4 @@
+pub mod Icmp
+pub mod IcmpFields
+pub mod IcmpLoan
+pub mod IcmpText

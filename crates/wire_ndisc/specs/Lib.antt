@@ -1,0 +1,3 @@
+pub mod Ndisc
+pub mod NdOption
+pub mod NdiscText
