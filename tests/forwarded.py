@@ -66,7 +66,7 @@ class Router:
     # The longest packet and the shortest frame that leaves.
     longest, least = 1500, 0
     # The errors about packets that are dropped.
-    errors = {"LK_EXPIRED": icmp.EXPIRED, "too long": icmp.TOO_BIG, "no route": icmp.NO_ROUTE, "no neighbour": icmp.NO_NEIGHBOUR}
+    errors = {"LK_EXPIRED": icmp.EXPIRED, "too long": icmp.TOO_BIG, "unfragmented": icmp.TOO_BIG, "no route": icmp.NO_ROUTE, "no neighbour": icmp.NO_NEIGHBOUR}
 
     def __init__(self, hardware, addresses, routes, neighbours):
         self.hardware, self.neighbours = hardware, neighbours
@@ -152,7 +152,7 @@ class Router:
         if route is None:
             return "no route", None
         if packet.total_len > self.longest:
-            return "too long", None
+            return "unfragmented" if packet.version == 4 and not packet.header[6] & 0x40 else "too long", None
         if packet.hop_limit <= 1:
             return "LK_EXPIRED", None
         _, next_hop, name = route

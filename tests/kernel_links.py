@@ -22,7 +22,8 @@ SO_RCVBUFFORCE, SOL_PACKET, PACKET_STATISTICS = 33, 263, 6
 MTU_DISCOVER = 10
 ERROR_OPTIONS = {socket.AF_INET: (socket.IPPROTO_IP, 11, socket.IP_TTL, MTU_DISCOVER, slice(20, 24)),
                  socket.AF_INET6: (socket.IPPROTO_IPV6, 25, socket.IPV6_UNICAST_HOPS, 23, slice(24, 40))}
-PMTUDISC_PROBE = 3
+# The interface's MTU counts, with DF and without.
+PMTUDISC_PROBE, PMTUDISC_INTERFACE = 3, 4
 SELF = str(os.getpid())
 # No host has this address, so no kernel takes a frame to it.
 ELSEWHERE = bytes.fromhex("02000000ee0e")

@@ -19,7 +19,7 @@ import packets
 from forwarded import Router
 from kernel_bridge import in_namespace
 from kernel_client import check, echoed, report, tcp_at_once, tcp_turns, udp_lengths, wrong
-from kernel_links import (ELSEWHERE, LATEST, MTU_DISCOVER, PMTUDISC_PROBE, SELF, Here, Namespace, Program, WideSide, no_errors, ping,
+from kernel_links import (ELSEWHERE, LATEST, MTU_DISCOVER, PMTUDISC_INTERFACE, PMTUDISC_PROBE, SELF, Here, Namespace, Program, WideSide, no_errors, ping,
                           settle, udp_echo)
 from routed_frames import HARDWARE, HOSTS, RANDOM_FRAMES, hostile_frames
 
@@ -140,11 +140,13 @@ def random_frames(router, sides, count, model=MODEL, make=hostile_frames, at_onc
 def send_chunk(sides, name, chunk, model, told):
     """Sends frames, compares those that come out, and returns the fate of each. Adds to `told` the errors about them, which
     stay in the list of the side."""
-    fates, end = [], time.monotonic() + LATEST
+    fates, untold, end = [], 0, time.monotonic() + LATEST
     for frame in chunk:
         why, out = model.fate(frame, name)
         fates.append((why, out))
-        told += [] if out else [error for error in [model.error(frame, name, why)] if error]
+        error = None if out else model.error(frame, name, why)
+        told += [error] if error else []
+        untold += not out and not error and why in model.errors
         sides[name].sock.send(frame)
     for to, side in sides.items():
         expected, came_out = [out for place, out in fates if out and place == to], []
@@ -153,7 +155,7 @@ def send_chunk(sides, name, chunk, model, told):
         compare_lists("frame", expected, came_out)
         side.came_out = [frame for frame in side.came_out if not frame.startswith(ELSEWHERE)]
         side.handed = []
-    return fates
+    return fates + untold * [("dropped without an ICMP error", None)]
 
 
 def compare_errors(router, before, sides, told):
@@ -419,7 +421,7 @@ def longest_handed(side):
 
 def smaller_mtu(router, room):
     """A packet that is longer than the next MTU is dropped, and so is a large frame if its segments are. The kernel has to
-    learn the MTU for each."""
+    learn the MTU for each. The sender of one without DF is not told."""
     room.run("ip link set right mtu 1000")
     time.sleep(1.2)  # until the router looks at its interfaces again
     before = router.counters()
@@ -427,8 +429,10 @@ def smaller_mtu(router, room):
         sock.setsockopt(socket.IPPROTO_IP, MTU_DISCOVER, PMTUDISC_PROBE)
         for length in (973, 1400):
             sock.sendto(bytes(length), ("10.2.0.2", 7))
+        sock.setsockopt(socket.IPPROTO_IP, MTU_DISCOVER, PMTUDISC_INTERFACE)
+        sock.sendto(bytes(1400), ("10.2.0.2", 7))
         time.sleep(0.1)
-    compare_counters(router, before, ["too long"] * 2)
+    compare_counters(router, before, ["too long"] * 2 + ["unfragmented", "dropped without an ICMP error"])
     Here().run("ip route flush cache")
     check("UDP of the MTU", udp_echo(socket.AF_INET, ("10.2.0.2", 7), bytes(972)) == bytes(972))
     Here().run("ip route flush cache")

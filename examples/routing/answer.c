@@ -34,10 +34,10 @@ void send_error(struct router *router, uint16_t from, enum lk_problem problem, s
     complete_checksum(packet);
     ptrdiff_t len = lk_emit_icmp_error(&router->interfaces[from].own, (int)problem, (uint32_t)mtu, packet->frame,
                                        packet->len, error.frame, sizeof error.frame);
-    if (len <= 0)
-        return;
-    error.len = (size_t)len;
+    error.len = len > 0 ? (size_t)len : 0;
     error.offload = no_offload;
-    if (router->before_error == NULL || router->before_error(router, from, &error) == LK_NOT_REJECTED)
+    if (len > 0 && (router->before_error == NULL || router->before_error(router, from, &error) == LK_NOT_REJECTED))
         send_own(router, from, error.frame, error.len);
+    else
+        router->untold++;
 }

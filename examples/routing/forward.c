@@ -83,6 +83,13 @@ static size_t longest_len(const struct packet *packet)
     return start - ETHERNET_LEN + header_len + offload->gso_size;
 }
 
+/* Whether a router may fragment the packet: DF is not set (RFC 791). Over IPv6 none may. */
+static int may_fragment(const struct packet *packet)
+{
+    const uint8_t *header = packet->frame + ETHERNET_LEN;
+    return header[0] >> 4 == 4 && (header[6] & 0x40) == 0;
+}
+
 static int hop_limit(const struct packet *packet)
 {
     const uint8_t *header = packet->frame + ETHERNET_LEN;
@@ -96,7 +103,7 @@ static void send_by(struct router *router, uint16_t from, const struct lk_route 
     struct interface *interface = &router->interfaces[route->interface];
     const struct lk_addr *hop = route->next_hop.version != 0 ? &route->next_hop : dst;
     if (longest_len(packet) > interface->mtu) {
-        drop(router, TOO_LONG);
+        drop(router, may_fragment(packet) ? UNFRAGMENTED : TOO_LONG);
         send_error(router, from, LK_PACKET_TOO_BIG, packet, interface->mtu);
         return;
     }
@@ -173,13 +180,15 @@ void on_frame(struct router *router, uint16_t from, struct packet *packet)
 void print_counts(struct router *router)
 {
     static const char *const names[DROPS] = {
-        "other link address", "VLAN tag", "group or broadcast", "link-local",   "reserved address",
-        "for the router",     "no route", "too long",           "no neighbour",
+        "other link address", "VLAN tag", "group or broadcast", "link-local",  "reserved address",
+        "for the router",     "no route", "too long",           "unfragmented", "no neighbour",
     };
     printf("frames %lu, forwarded %lu, answered %lu, ARP %lu, ND %lu\n", router->frames, router->forwarded,
            router->answered, router->arp, router->ndisc);
     if (router->withheld != 0)
         printf("ICMP errors above the limit %lu\n", router->withheld);
+    if (router->untold != 0)
+        printf("dropped without an ICMP error %lu\n", router->untold);
     for (int why = 0; why < DROPS; why++)
         if (router->drops[why] != 0)
             printf("dropped: %s %lu\n", names[why], router->drops[why]);

@@ -53,6 +53,7 @@ enum drop {
     FOR_ROUTER,   /* for an address of the router, which does not answer */
     NO_WAY,       /* no route */
     TOO_LONG,     /* longer than the MTU of the next link */
+    UNFRAGMENTED, /* the same, but it may be fragmented, so that its sender is not told */
     NO_NEIGHBOUR, /* the next hop does not reply to ARP or neighbour solicitations */
     DROPS
 };
@@ -73,6 +74,7 @@ struct router {
     int takes_any_way;            /* a packet may come from elsewhere than the route back to its source leads */
     unsigned long frames, forwarded, answered, arp, ndisc;
     unsigned long withheld; /* ICMP errors above the limit */
+    unsigned long untold;   /* packets that are dropped, but may get no ICMP error */
     unsigned long drops[DROPS], rejections[REJECTIONS];
     /* Steps of a NAT; null: none. Each returns an lk_rejection. `in` is the packet as it was read. */
     int (*before_route)(struct router *router, uint16_t from, const struct lk_frame *in, struct packet *packet,
