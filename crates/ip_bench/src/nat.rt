@@ -9,8 +9,8 @@ use ip_nat::{Rejection, translate_in, translate_out};
 use ip_wire::Ipv4Address;
 use std::alloc::{AllocError, Global};
 
-// The ports from 1024 on, of UDP and of TCP.
-const MAPPINGS: usize = 129_024;
+// Three for each port from 1024 on. A checkout before ICMP uses two of a port, and has the same ports.
+const MAPPINGS: usize = 193_536;
 
 // How many flows are open at a time.
 const FLOWS: u32 = 32_768;
