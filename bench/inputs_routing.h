@@ -115,7 +115,7 @@ static const struct lk_nat nat = {
     .outside = {203, 0, 113, 9},
     .first_port = 1024,
 };
-static struct lk_mapping mappings[2 * OUTSIDE_PORTS];
+static struct lk_mapping mappings[LK_MAPPINGS(OUTSIDE_PORTS)];
 
 static size_t write_flow(size_t flow, int is_tcp, size_t len, uint8_t *to)
 {
@@ -146,7 +146,7 @@ static void prepare_mappings(const struct row *row, int is_tcp, size_t ports)
     memset(mappings, 0, sizeof mappings);
     prepare_flows(row, is_tcp);
     for (size_t i = 0; i < FLOWS; i++)
-        lk_translate_out(&nat, mappings, 2 * ports, 0, room_of_frames[i], frames[i].len);
+        lk_translate_out(&nat, mappings, LK_MAPPINGS(ports), 0, room_of_frames[i], frames[i].len);
 }
 
 static void prepare_out(const struct row *row, int is_tcp, size_t ports)

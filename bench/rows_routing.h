@@ -66,17 +66,17 @@ static uint8_t *next_copy(size_t *len)
 }
 
 /* Calls of a NAT with so many ports, each at a time that depends on the number of the call. */
-#define NAT_CALLS(name, function, ports, now)                                                  \
-    static uint64_t name(const struct library *library, const struct row *row, uint64_t times) \
-    {                                                                                          \
-        uint64_t answers = 0;                                                                  \
-        (void)row;                                                                             \
-        for (uint64_t i = 0; i < times; i++) {                                                 \
-            size_t len;                                                                        \
-            uint8_t *copy = next_copy(&len);                                                   \
-            answers += (uint64_t)library->function(&nat, mappings, 2 * ports, now, copy, len); \
-        }                                                                                      \
-        return answers;                                                                        \
+#define NAT_CALLS(name, function, ports, now)                                                           \
+    static uint64_t name(const struct library *library, const struct row *row, uint64_t times)          \
+    {                                                                                                   \
+        uint64_t answers = 0;                                                                           \
+        (void)row;                                                                                      \
+        for (uint64_t i = 0; i < times; i++) {                                                          \
+            size_t len;                                                                                 \
+            uint8_t *copy = next_copy(&len);                                                            \
+            answers += (uint64_t)library->function(&nat, mappings, LK_MAPPINGS(ports), now, copy, len); \
+        }                                                                                               \
+        return answers;                                                                                 \
     }
 
 NAT_CALLS(call_nat_out, translate_out, OUTSIDE_PORTS, 1)

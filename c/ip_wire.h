@@ -785,14 +785,18 @@ struct lk_mapping {
     uint8_t unused[2];
 };
 
+/* The number of mappings for so many outside ports: each has one of UDP, one of TCP and one of ICMP. */
+#define LK_MAPPINGS(ports) (3 * (size_t)(ports))
+
 /* Translate the source of a packet that leaves, and the destination of a packet that comes in, in place, as
- * lk_translate does. `mappings` are three for each outside port, zeros at first: `mappings[3 * n]` is the UDP mapping
- * of port `first_port + n`, `mappings[3 * n + 1]` its TCP mapping, and `mappings[3 * n + 2]` its ICMP mapping, of an
- * echo identifier. `now` is a clock in milliseconds that never goes back.
+ * lk_translate does. `mappings` are LK_MAPPINGS(ports), zeros at first, for this many outside ports from `first_port`
+ * on. There are `count / LK_MAPPINGS(1)` outside ports, but none above 65535. `mappings[LK_MAPPINGS(n)]` is the UDP
+ * mapping of port `first_port + n`; its TCP mapping and its ICMP mapping, of an echo identifier, follow. `now` is a clock
+ * in milliseconds that never goes back.
  *
- *     enum { COUNT = 3 * (65536 - 1024) };
+ *     enum { FIRST_PORT = 1024, COUNT = LK_MAPPINGS(65536 - FIRST_PORT) };
  *     static struct lk_mapping mappings[COUNT];
- *     struct lk_nat nat = {{random64(), random64()}, 300000, 7440000, 240000, 60000, {203, 0, 113, 9}, 1024, 0};
+ *     struct lk_nat nat = {{random64(), random64()}, 300000, 7440000, 240000, 60000, {203, 0, 113, 9}, FIRST_PORT, 0};
  *
  *     if (is_from_inside)
  *         rejection = lk_translate_out(&nat, mappings, COUNT, milliseconds(), frame, len);

@@ -10,7 +10,7 @@
 #include <string.h>
 #include <sys/random.h>
 
-enum { OUTSIDE = 0, FIRST_PORT = 1024, MAPPINGS = 3 * (65536 - FIRST_PORT), ECHO_REQUEST = 8 };
+enum { OUTSIDE = 0, FIRST_PORT = 1024, MAPPINGS = LK_MAPPINGS(65536 - FIRST_PORT), ECHO_REQUEST = 8 };
 
 static struct lk_nat nat = {
     .udp_timeout = 300000, .tcp_timeout = 7440000, .tcp_transitory_timeout = 240000, .icmp_timeout = 60000,

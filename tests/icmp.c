@@ -339,7 +339,7 @@ static void write_no_errors(void)
 /* ---- NAT ---- */
 
 static const struct lk_nat nat = {{1, 2}, 300000, 7440000, 240000, 60000, {203, 0, 113, 9}, 39999, 0};
-enum { MAPPINGS = 6 };
+enum { MAPPINGS = LK_MAPPINGS(2) };
 static struct lk_mapping mappings[MAPPINGS];
 
 /* Translates a frame, which becomes these octets. */
@@ -366,7 +366,7 @@ static void translate_echoes(void)
     STAYS_OUT(60000, nat_reply_in, LK_NO_MAPPING);
     STAYS_OUT(60000, nat_error_in, LK_NO_MAPPING);
     STAYS_OUT(60000, nat_request, LK_NO_MAPPING);
-    CHECK(memcmp(mappings, mappings + 3, 2 * sizeof *mappings) == 0); /* no mapping of UDP or TCP */
+    CHECK(memcmp(mappings, mappings + LK_MAPPINGS(1), 2 * sizeof *mappings) == 0); /* no mapping of UDP or TCP */
 }
 
 static void translate_errors_out(void)

@@ -73,7 +73,7 @@ static void translate(void)
 
 /* Two outside ports, 39999 and 40000, which the inside ports of the frames are not. */
 static const struct lk_nat nat = {{1, 2}, 300000, 7440000, 240000, 60000, {203, 0, 113, 9}, 39999, 0};
-enum { MAPPINGS = 6 };
+enum { MAPPINGS = LK_MAPPINGS(2) };
 
 static struct lk_mapping mappings[MAPPINGS];
 
@@ -116,6 +116,21 @@ static void translate_udp(void)
     CHECK(in(300000, reply_in, sizeof reply, 0) == 0 && is_now(reply, sizeof reply));
     CHECK(in(300001, reply_in, sizeof reply, 0) == LK_NO_MAPPING);
     CHECK(out(300001, udp, sizeof udp, third_port) == 0 && frame[34] == 0x9c && frame[35] == 0x40);
+}
+
+/* Each of 63 ports is a candidate of every endpoint. So as many endpoints get a port, and no other one. */
+static void translate_to_each_port(void)
+{
+    enum { PORTS = 63 };
+    static struct lk_mapping table[LK_MAPPINGS(PORTS)];
+    for (size_t i = 0; i <= PORTS; i++) {
+        struct lk_endpoint end = inside;
+        end.port = (uint16_t)(1 + i);
+        begin(udp, sizeof udp, 0);
+        CHECK(lk_translate(frame, sizeof udp, LK_SOURCE, &end) == 0);
+        check((int)i, lk_translate_out(&nat, table, LK_MAPPINGS(PORTS), 0, frame, sizeof udp) ==
+                          (i < PORTS ? LK_NOT_REJECTED : LK_NO_FREE_PORT));
+    }
 }
 
 /* ---- TCP */
@@ -212,6 +227,7 @@ int main(void)
 {
     translate();
     translate_udp();
+    translate_to_each_port();
     translate_tcp();
     translate_tcp_ends();
     translate_by_table_rejects();

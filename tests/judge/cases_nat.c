@@ -5,7 +5,7 @@
 enum { PORTS = 140 };
 
 static struct lk_nat nat;
-static struct lk_mapping mappings[3 * PORTS];
+static struct lk_mapping mappings[LK_MAPPINGS(PORTS)];
 static struct model_table table;
 static size_t mapping_count;
 static uint64_t now;
@@ -32,7 +32,7 @@ static void begin_nat(void)
     memset(mappings, 0, sizeof mappings);
     left.len = entered.len = 0;
     fill(&nat, sizeof nat);
-    mapping_count = one_in(16) ? below(3 * PORTS) : below(24);
+    mapping_count = one_in(16) ? below(LK_MAPPINGS(PORTS)) : below(LK_MAPPINGS(8));
     nat.udp_timeout = below(60);
     nat.tcp_timeout = one_in(8) ? UINT64_MAX : below(200);
     nat.tcp_transitory_timeout = below(40);
@@ -60,7 +60,7 @@ static void make_packet(void)
 static void address_packet(void)
 {
     struct lk_frame frame;
-    struct lk_endpoint end = {{{0}, 4}, (uint16_t)(nat.first_port + below(mapping_count / 3 + 2))};
+    struct lk_endpoint end = {{{0}, 4}, (uint16_t)(nat.first_port + below(mapping_count / LK_MAPPINGS(1) + 2))};
     memcpy(end.addr.octets, nat.outside, 4);
     if (nat_rejection(made.octets, made.len, &frame) == LK_NOT_REJECTED && end.port != 0 && !one_in(16))
         write_end(made.octets, &frame, LK_DESTINATION, &end);

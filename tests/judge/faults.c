@@ -402,7 +402,7 @@ int __wrap_lk_translate_in(const struct lk_nat *nat, struct lk_mapping *mappings
     lk_read_frame(frame, len, &f);
     if (f.transport == LK_ICMP)
         f.dst.port = (uint16_t)(f.icmp.word >> 16);
-    mapping = mappings + 3 * (size_t)(f.dst.port - nat->first_port) + (f.transport == LK_TCP);
+    mapping = mappings + LK_MAPPINGS(f.dst.port - nat->first_port) + (f.transport == LK_TCP);
     if (fault == ECHO_FOR_A_UDP_MAPPING && f.transport == LK_ICMP && f.dst.port >= nat->first_port &&
         mapping < mappings + count && mapping->expires <= now)
         return LK_NO_MAPPING;

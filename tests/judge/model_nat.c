@@ -37,7 +37,7 @@ static int is_live(const struct model_mapping *mapping, uint64_t now)
 /* The number of outside ports. */
 static size_t port_count(const struct lk_nat *nat, size_t count)
 {
-    size_t ports = used_len(count) / 3;
+    size_t ports = used_len(count) / LK_MAPPINGS(1);
     if (nat->first_port == 0)
         return 0;
     return ports < 65536u - nat->first_port ? ports : 65536u - nat->first_port;

@@ -15,9 +15,13 @@ use Rattle.ip_flows.specs.declared.choice.Choice.{Choice}
 
 -- ---- ports
 
+-- how many mappings an outside port has: one for each protocol
+abbrev pub protocols : ℕ
+protocols = 3
+
 -- how many outside ports there are, in a table with this many mappings
 abbrev pub ports : Nat → ℕ → ℕ
-ports nat len = if nat.first_port == 0 then 0 else min (len / 3) (65536 - nat.first_port)
+ports nat len = if nat.first_port == 0 then 0 else min (len / protocols) (65536 - nat.first_port)
 
 -- this is an outside port
 pub record HasPort (nat : Nat) (len port : ℕ) : Type 0 where
@@ -26,9 +30,9 @@ pub record HasPort (nat : Nat) (len port : ℕ) : Type 0 where
 
 -- the place of a port's mapping
 abbrev pub place_of : Nat → Protocol → ℕ → ℕ
-place_of nat Udp port = 3 * (port - nat.first_port)
-place_of nat Tcp port = 3 * (port - nat.first_port) + 1
-place_of nat Icmp port = 3 * (port - nat.first_port) + 2
+place_of nat Udp port = protocols * (port - nat.first_port)
+place_of nat Tcp port = protocols * (port - nat.first_port) + 1
+place_of nat Icmp port = protocols * (port - nat.first_port) + 2
 
 -- a mapping that is not live
 abbrev pub free_mapping : Mapping

@@ -12,6 +12,6 @@ mod table;
 
 pub use look_up::{inside_of, port_of};
 pub use mapping::{Ipv4Endpoint, Mapping};
-pub use nat::{ICMP_TIMEOUT, Nat, TCP_TIMEOUT, TCP_TRANSITORY_TIMEOUT, UDP_TIMEOUT};
+pub use nat::{ICMP_TIMEOUT, Nat, TCP_TIMEOUT, TCP_TRANSITORY_TIMEOUT, UDP_TIMEOUT, mappings_for};
 pub use state::{Event, Protocol, TcpState};
 pub use table::{find, open};

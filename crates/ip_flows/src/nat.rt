@@ -1,8 +1,9 @@
 //! The parameters of a NAT, and the outside ports that an inside endpoint may get.
 
-ghost use Rattle.std.specs.Prelude.{◌≡◌, ◌+◌, ◌≤◌, length};
+ghost use Rattle.std.specs.Prelude.{◌≡◌, ◌≢◌, ◌+◌, ◌*◌, ◌≤◌, length};
 ghost use Rattle.ip_flows.specs.State.{timeout_of};
-ghost use Rattle.ip_flows.specs.Table.{hash_of, place_of, ports, run_len, run_start};
+ghost use Rattle.ip_flows.specs.Table.{hash_of, place_of, ports, protocols, run_len, run_start};
+ghost use Rattle.ip_flows.specs.declared.nat.Nat.{Nat};
 
 use crate::mapping::{Ipv4Endpoint, Mapping};
 use crate::state::{Protocol, TcpState};
@@ -20,6 +21,9 @@ pub const TCP_TRANSITORY_TIMEOUT: u64 = 240_000;
 
 /// The usual time-out of ICMP: 60 seconds (RFC 5508, REQ-2).
 pub const ICMP_TIMEOUT: u64 = 60_000;
+
+// The mappings of an outside port: one for each protocol.
+const PROTOCOLS: usize = 3;
 
 // The candidates of an endpoint, without its own port.
 const RUN_LEN: usize = 63;
@@ -96,7 +100,7 @@ impl Nat {
         if self.first_port == 0 {
             0
         } else {
-            (mappings.len() / 3).min(65536 - usize::from(self.first_port))
+            (mappings.len() / PROTOCOLS).min(65536 - usize::from(self.first_port))
         }
     }
 
@@ -106,7 +110,7 @@ impl Nat {
         requires high { port ≤ 65535 }
         ensures { result ≡ place_of self.now protocol port }
     {
-        let first = 3 * (port - usize::from(self.first_port));
+        let first = PROTOCOLS * (port - usize::from(self.first_port));
         match protocol {
             Protocol::Udp => first,
             Protocol::Tcp => first + 1,
@@ -132,6 +136,14 @@ impl Nat {
         hasher.write(&inside.port.to_le_bytes());
         hasher.finish()
     }
+}
+
+/// The number of mappings of a table with this many outside ports: one for each port and protocol.
+pub fn mappings_for(port_count: u16) -> usize
+    ensures count { result ≡ protocols * port_count }
+    ensures ports { (nat : Nat) → nat.first_port ≢ 0 → nat.first_port + port_count ≤ 65536 → ports nat result ≡ port_count }
+{
+    PROTOCOLS * usize::from(port_count)
 }
 
 // The ports of a run.

@@ -1,6 +1,6 @@
 //! Mappings of a NAT. The time-outs are those of RFC 4787, RFC 5382 and RFC 5508. Another program computed the hashed port.
 
-use ip_flows::{Event, Ipv4Endpoint, Mapping, Nat, find, open};
+use ip_flows::{Event, Ipv4Endpoint, Mapping, Nat, find, mappings_for, open};
 use ip_wire::{Ipv4Address, TcpControl};
 
 const FIRST_PORT: u16 = 1024;
@@ -148,6 +148,17 @@ fn ends_at_port_65535(rt: HostRuntime) {
             &server(1)
         ) == None
     );
+}
+
+/// A table for so many ports has these ports and no other one, up to port 65535.
+#[test]
+fn has_the_ports_of_its_mappings(rt: HostRuntime) {
+    let mappings = [Mapping::FREE; 384];
+    assert!(rt; mappings_for(128) == mappings.len() && mappings_for(0) == 0);
+    assert!(rt; nat(FIRST_PORT).ports(&mappings) == 128);
+    assert!(rt; nat(FIRST_PORT).ports(&mappings[1..]) == 127);
+    assert!(rt; nat(65408).ports(&mappings) == 128 && nat(65409).ports(&mappings) == 127);
+    assert!(rt; nat(0).ports(&mappings) == 0);
 }
 
 #[test]
