@@ -17,7 +17,18 @@
  *   in any other field is written as 0.
  *
  * A call that does something begins with its verb: `parse` and `print` are for texts, `read` and `emit` for
- * headers. A call that only tells something is named after it, as lk_tcp_header_len. */
+ * headers. A call that only tells something is named after it, as lk_tcp_header_len.
+ *
+ * A program for version 0.2 must be compiled anew, and these are the changes that it may need:
+ *
+ * - A NAT needs LK_MAPPINGS(ports) mappings, which are three for each outside port. With the two of version 0.2
+ *   it has fewer ports, and no call fails.
+ * - `struct lk_nat` has a new field before `outside`: `icmp_timeout`. If it is 0, no echo reply comes in.
+ * - `struct lk_host` has two new fields before `ipv4`: the UDP ports that the program itself serves.
+ * - A frame with an ICMP message has the transport LK_ICMP. Its payload begins behind the ICMP header, which is
+ *   in the new field `icmp` of `struct lk_frame`.
+ * - A host answers more frames: echo requests, neighbour solicitations, and UDP packets to closed ports.
+ * - NAT translates ICMP messages, which got LK_OTHER_PROTOCOL. */
 #ifndef IP_WIRE_H
 #define IP_WIRE_H
 
@@ -29,7 +40,7 @@ extern "C" {
 #endif
 
 #define LK_VERSION_MAJOR 0
-#define LK_VERSION_MINOR 2
+#define LK_VERSION_MINOR 3
 #define LK_VERSION_PATCH 0
 
 /* Returns the version of the library that is linked: major * 65536 + minor * 256 + patch. */

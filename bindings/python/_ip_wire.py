@@ -92,7 +92,7 @@ CALLS: Dict[str, Tuple[Any, ...]] = {
 
 def _load() -> ctypes.CDLL:
     """The library, if the processor can run it, and its structs are those above."""
-    path = os.environ.get("IP_WIRE_LIBRARY") or ctypes.util.find_library("ip_wire") or "libip_wire.so.0.2"
+    path = os.environ.get("IP_WIRE_LIBRARY") or ctypes.util.find_library("ip_wire") or "libip_wire.so.0.3"
     try:
         found = ctypes.CDLL(path)
         is_supported, version = found.lk_cpu_supported(), 0
@@ -105,9 +105,9 @@ def _load() -> ctypes.CDLL:
         ) from None
     if not is_supported:
         raise ImportError("the C library ip_wire needs an x86-64-v2 processor (SSE4.2 and POPCNT)")
-    if version >> 8 != 2:
+    if version >> 8 != 3:
         numbers = f"{version >> 16}.{version >> 8 & 255}.{version & 255}"
-        raise ImportError(f"this module needs version 0.2 of the C library ip_wire, and {path} has version {numbers}")
+        raise ImportError(f"this module needs version 0.3 of the C library ip_wire, and {path} has version {numbers}")
     for name, (result, *parameters) in CALLS.items():
         call = getattr(found, name)
         call.restype, call.argtypes = result, parameters

@@ -1,4 +1,4 @@
-"""Ethernet II, ARP, IPv4, IPv6, ICMP, UDP and TCP packets, by the proved C library ip_wire 0.2.
+"""Ethernet II, ARP, IPv4, IPv6, ICMP, UDP and TCP packets, by the proved C library ip_wire 0.3.
 
     frame = ip_wire.parse_frame(data)
     frame.check()                           # raises Rejected

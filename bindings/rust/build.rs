@@ -23,7 +23,7 @@ fn pkg_config(arguments: &[&str]) -> String {
     if !output.status.success() {
         let message = String::from_utf8_lossy(&output.stderr);
         fail(&format!(
-            "{program} does not find the C library ip_wire 0.2 (make install installs it). If it is not in a \
+            "{program} does not find the C library ip_wire 0.3 (make install installs it). If it is not in a \
              folder of the system, name the folder of ip_wire.pc, as PKG_CONFIG_PATH=/usr/local/lib/pkgconfig.\n{message}"
         ));
     }
@@ -35,7 +35,7 @@ fn main() {
     for name in VARIABLES {
         println!("cargo:rerun-if-env-changed={name}");
     }
-    pkg_config(&["--print-errors", "--exists", "ip_wire >= 0.2.0 ip_wire < 0.3.0"]);
+    pkg_config(&["--print-errors", "--exists", "ip_wire >= 0.3.0 ip_wire < 0.4.0"]);
     let folder = pkg_config(&["--variable=libdir", "ip_wire"]);
     let include = pkg_config(&["--variable=includedir", "ip_wire"]);
     let is_shared = env::var("IP_WIRE_SHARED").is_ok_and(|value| value == "1");

@@ -243,7 +243,7 @@ extern "C" {
 pub struct Library(());
 
 /// The version of the declarations above. Another minor version may have other structs.
-const VERSION: (u32, u32) = (0, 2);
+const VERSION: (u32, u32) = (0, 3);
 
 static IS_CHECKED: AtomicBool = AtomicBool::new(false);
 
