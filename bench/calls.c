@@ -94,7 +94,8 @@ static int is_same_frame(const struct lk_frame *a, const struct lk_frame *b)
 {
     size_t tcp_end = offsetof(struct lk_frame, tcp) + offsetof(struct lk_tcp, header_len) + 1;
     size_t begin = offsetof(struct lk_frame, ethernet), end = offsetof(struct lk_frame, transport_checksum) + 1;
-    return memcmp(a, b, tcp_end) == 0 && memcmp((const char *)a + begin, (const char *)b + begin, end - begin) == 0;
+    return memcmp(a, b, tcp_end) == 0 && memcmp((const char *)a + begin, (const char *)b + begin, end - begin) == 0
+           && a->icmp.word == b->icmp.word && a->icmp.type == b->icmp.type && a->icmp.code == b->icmp.code;
 }
 
 /* Whether two libraries return and store the same. */
@@ -109,6 +110,7 @@ static int agree(const struct row *row, const struct library *ours, const struct
     next_frame = 0;
     return row->repeat(other, row, 1) == answer && is_same_frame(&out.frame, &stored.frame)
            && memcmp(&out.options, &stored.options, sizeof out.options) == 0
+           && memcmp(&out.ndisc, &stored.ndisc, sizeof out.ndisc) == 0
            && memcmp(out.bytes, stored.bytes, sizeof out.bytes) == 0;
 }
 

@@ -105,7 +105,7 @@ ptrdiff_t lk_emit_udp(const struct lk_endpoint *src, const struct lk_endpoint *d
                       int computed, uint8_t *out, size_t cap)
 {
     if (!is_one_version(&src->addr, &dst->addr) || !dst->port || len > 65535 - UDP_LEN || !reaches(cap, UDP_LEN + len))
-        return udp_failure(src, dst, len);
+        return short_failure(&src->addr, &dst->addr, dst->port != 0, len);
     uint64_t of_payload = computed ? total(ptr, len) : 0;
     memcpy(out + UDP_LEN, ptr, len);
     write_udp(ports(src->port, dst->port), endpoints_total(&src->addr, &dst->addr), len, of_payload, computed, out);
@@ -217,13 +217,17 @@ ptrdiff_t lk_emit_tcp(const struct lk_tcp *header, const struct lk_tcp_options *
     return (ptrdiff_t)(header_len + len);
 }
 
-/* Writes the Ethernet and IP headers of a frame, for a transport of so many octets. */
-INLINE void write_front(const struct lk_frame *headers, uint8_t protocol, size_t len, uint8_t *out)
+INLINE void write_link(const struct lk_frame *headers, uint16_t type, uint8_t *out)
 {
-    uint16_t type = headers->src.addr.version == 4 ? TYPE_IPV4 : TYPE_IPV6;
     memcpy(out, headers->ethernet.dst, 6);
     memcpy(out + 6, headers->ethernet.src, 6);
     store_16(out + 12, swap_16(type));
+}
+
+/* Writes the Ethernet and IP headers of a frame, for a transport of so many octets. */
+INLINE void write_front(const struct lk_frame *headers, uint8_t protocol, size_t len, uint8_t *out)
+{
+    write_link(headers, headers->src.addr.version == 4 ? TYPE_IPV4 : TYPE_IPV6, out);
     write_ip(&headers->ip, &headers->src.addr, &headers->dst.addr, protocol, len, 1, out + ETHERNET_LEN);
 }
 
@@ -243,7 +247,7 @@ INLINE ptrdiff_t write_udp_frame(const struct lk_frame *headers, const uint8_t *
 {
     size_t at = transport_at(headers, UDP_LEN, len, cap);
     if (!at || !headers->dst.port)
-        return udp_frame_failure(headers, len);
+        return short_frame_failure(headers, headers->dst.port != 0, len);
     uint64_t of_payload = total(ptr ? ptr : out + at + UDP_LEN, len);
     if (ptr)
         memcpy(out + at + UDP_LEN, ptr, len);
@@ -452,3 +456,5 @@ ptrdiff_t lk_rebuild(const uint8_t *ptr, size_t len, uint8_t *out, size_t cap)
     memcpy(out, ptr, ETHERNET_LEN);
     return (ptrdiff_t)end;
 }
+
+#include "floor_icmp.h"

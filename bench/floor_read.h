@@ -3,9 +3,10 @@
 #include "../c/ip_wire.h"
 #include "sums.h"
 
-enum { ETHERNET_LEN = 14, ARP_LEN = 28, IPV4_LEN = 20, IPV6_LEN = 40, UDP_LEN = 8, TCP_LEN = 20, MOST_TCP_LEN = 60 };
+enum { ETHERNET_LEN = 14, ARP_LEN = 28, IPV4_LEN = 20, IPV6_LEN = 40 };
+enum { UDP_LEN = 8, ICMP_LEN = 8, TCP_LEN = 20, MOST_TCP_LEN = 60 };
 enum { TYPE_IPV4 = 0x0800, TYPE_ARP = 0x0806, TYPE_IPV6 = 0x86dd };
-enum { PROTOCOL_TCP = 6, PROTOCOL_UDP = 17, PROTOCOL_IPV6_FRAGMENT = 44 };
+enum { PROTOCOL_ICMP = 1, PROTOCOL_TCP = 6, PROTOCOL_UDP = 17, PROTOCOL_IPV6_FRAGMENT = 44, PROTOCOL_ICMPV6 = 58 };
 enum { OPTION_END, OPTION_NONE, OPTION_SIZE, OPTION_SCALE, OPTION_PERMITTED, OPTION_RANGES, OPTION_TIMESTAMP = 8 };
 
 static const uint8_t ethernet_ipv4[8] = {0, 1, 8, 0, 6, 4};
@@ -82,6 +83,15 @@ INLINE uint8_t udp_verdict(const struct packet *packet, size_t len)
     if (load_16(packet->payload + 6) == 0)
         return packet->is_ipv4 ? LK_LEFT_OUT : LK_WRONG;
     return verdict(packet, len, 6);
+}
+
+/* Whether the checksum of an ICMP message holds: over IPv6 with a pseudo-header. */
+INLINE int icmp_holds(const struct packet *packet)
+{
+    uint64_t sum = total(packet->payload, packet->len);
+    if (!packet->is_ipv4)
+        sum = around(sum, pseudo_total(addresses_total(packet), PROTOCOL_ICMPV6, packet->len));
+    return holds(sum);
 }
 
 /* Returns an `lk_reason`, and stores the length of a UDP packet. */
@@ -312,11 +322,28 @@ INLINE int store_tcp(const struct packet *packet, struct lk_frame *frame)
     return reason;
 }
 
+INLINE int store_icmp(const struct packet *packet, struct lk_frame *frame)
+{
+    const uint8_t *ptr = packet->payload;
+    if (packet->len < ICMP_LEN)
+        return LK_READ;
+    frame->transport = LK_ICMP;
+    frame->transport_offset = frame->payload_offset;
+    frame->icmp = (struct lk_icmp){swap_32(load_32(ptr + 4)), ptr[0], ptr[1]};
+    frame->transport_checksum = icmp_holds(packet) ? LK_RIGHT : LK_WRONG;
+    follow(frame, ICMP_LEN, packet->len - ICMP_LEN);
+    return LK_READ;
+}
+
 INLINE int store_transport(const struct packet *packet, struct lk_frame *frame)
 {
     if (packet->protocol == PROTOCOL_TCP)
         return store_tcp(packet, frame);
-    return packet->protocol == PROTOCOL_UDP ? store_udp(packet, frame) : LK_READ;
+    if (packet->protocol == PROTOCOL_UDP)
+        return store_udp(packet, frame);
+    if (packet->protocol == (packet->is_ipv4 ? PROTOCOL_ICMP : PROTOCOL_ICMPV6))
+        return store_icmp(packet, frame);
+    return LK_READ;
 }
 
 INLINE int store_ipv4(const uint8_t *ptr, size_t len, struct lk_frame *frame)

@@ -10,18 +10,19 @@ enum {
     MOST_TEXT = 39, /* of an address */
 };
 
-/* The calls of a library: on packets, of a router, of texts, and those that only ours has. The floor has the first two
- * kinds, the reference the first and the third. */
+/* The calls of a library: on packets, of a router and on ICMP, of texts, and those that only ours has. The floor has
+ * the first two kinds, the reference the first and the third. */
 #define PACKET_CALLS(X)                                                                                     \
     X(checksum) X(read_frame) X(read_tcp_options) X(rebuild) X(emit_arp) X(emit_ip) X(emit_udp) X(emit_tcp) \
     X(emit_arp_frame) X(emit_udp_frame) X(emit_tcp_frame) X(contains)
-#define ROUTER_CALLS(X) X(forward) X(translate)
+#define ROUTER_CALLS(X) \
+    X(forward) X(translate) X(emit_icmp) X(emit_icmp_frame) X(read_ndisc) X(emit_ndisc_frame)
 #define TEXT_CALLS(X) X(parse_addr) X(parse_block) X(print_addr) X(print_block) X(print_endpoint)
 #define OWN_CALLS(X)                                                                                   \
     X(index_routes) X(choose_route) X(check_source) X(translate_out) X(translate_in) X(answer)         \
     X(parse_endpoint) X(parse_ethernet) X(print_ethernet) X(read_packet) X(read_captured)              \
     X(next_tcp_option) X(wrap_udp_frame) X(wrap_tcp_frame) X(update_checksum) X(update_checksum_addr)  \
-    X(update_udp_checksum) X(update_udp_checksum_addr)
+    X(update_udp_checksum) X(update_udp_checksum_addr) X(emit_icmp_error)
 #define CALL(name) __typeof__(lk_##name) *name;
 
 struct library {
@@ -69,13 +70,14 @@ struct row {
 
 static uint8_t bytes[MOST_BYTES];
 static size_t frame_len; /* of the frame in them, where there is one */
-static uint8_t payload[MOST_PAYLOAD]; /* of a UDP packet or a TCP segment */
+static uint8_t payload[MOST_PAYLOAD]; /* of a UDP packet, a TCP segment or an ICMP message */
 static volatile uint64_t sink;
 
 /* What the calls store. */
 static struct {
     struct lk_frame frame;
     struct lk_tcp_options options;
+    struct lk_ndisc ndisc;
     uint8_t bytes[ADDRESSES * MOST_TEXT];
 } out;
 #define OUT out.bytes, sizeof out.bytes
@@ -131,6 +133,19 @@ static void prepare_udp(const struct lk_frame *headers, const struct row *row)
 
 static void prepare_udp_ipv4(const struct row *row) { prepare_udp(&ipv4_headers, row); }
 static void prepare_udp_ipv6(const struct row *row) { prepare_udp(&ipv6_headers, row); }
+
+static struct lk_frame echo_headers; /* of the ICMP message in the frame */
+
+static void prepare_echo(const struct lk_frame *headers, uint8_t type, size_t size)
+{
+    prepare_bytes(NULL);
+    echo_headers = *headers;
+    echo_headers.icmp = (struct lk_icmp){0x12340001, type, 0};
+    frame_len = (size_t)lk_emit_icmp_frame(&echo_headers, payload, size, bytes, sizeof bytes);
+}
+
+static void prepare_echo_ipv4(const struct row *row) { prepare_echo(&ipv4_headers, 8, row->size); }
+static void prepare_echo_ipv6(const struct row *row) { prepare_echo(&ipv6_headers, 128, row->size); }
 
 static struct lk_frame tcp_headers; /* of the segment in the frame */
 

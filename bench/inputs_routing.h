@@ -107,17 +107,20 @@ static void prepare_own_block(const struct row *row)
 
 /* Flows through a NAT, and for each a frame, which `frames` has. Every other inside port is an outside port too. */
 enum { FLOWS = 256, OUTSIDE_PORTS = 512, FEW_PORTS = 32 };
+enum { ICMP = 1, TCP = 6, UDP = 17 };
 static const struct lk_nat nat = {
     .key = {0x0123456789abcdef, 0xfedcba9876543210},
     .udp_timeout = 300000,
     .tcp_timeout = 7440000,
     .tcp_transitory_timeout = 240000,
+    .icmp_timeout = 60000,
     .outside = {203, 0, 113, 9},
     .first_port = 1024,
 };
 static struct lk_mapping mappings[LK_MAPPINGS(OUTSIDE_PORTS)];
 
-static size_t write_flow(size_t flow, int is_tcp, size_t len, uint8_t *to)
+/* An ICMP flow is one of echo requests. */
+static size_t write_flow(size_t flow, int protocol, size_t len, uint8_t *to)
 {
     static const struct lk_tcp_options no_options;
     struct lk_frame of = ipv4_headers;
@@ -125,56 +128,97 @@ static size_t write_flow(size_t flow, int is_tcp, size_t len, uint8_t *to)
     of.tcp = (struct lk_tcp){.flags = LK_ACK, .window_len = 502};
     of.src = (struct lk_endpoint){{{10, 0, (uint8_t)(flow / 64), (uint8_t)(1 + flow % 64)}, 4}, port};
     of.dst = (struct lk_endpoint){{{198, 51, 100, 1}, 4}, 443};
-    if (is_tcp)
+    of.icmp = (struct lk_icmp){(uint32_t)port << 16 | 1, 8, 0};
+    if (protocol == TCP)
         return (size_t)lk_emit_tcp_frame(&of, &no_options, payload, len, to, COLD_ROOM);
+    if (protocol == ICMP)
+        return (size_t)lk_emit_icmp_frame(&of, payload, len, to, COLD_ROOM);
     return (size_t)lk_emit_udp_frame(&of, payload, len, to, COLD_ROOM);
 }
 
-static void prepare_flows(const struct row *row, int is_tcp)
+static void prepare_flows(const struct row *row, int protocol)
 {
     prepare_bytes(row);
     frame_count = FLOWS;
     for (size_t i = 0; i < FLOWS; i++) {
         frames[i].ptr = room_of_frames[i];
-        frames[i].len = write_flow(i, is_tcp, row->size, room_of_frames[i]);
+        frames[i].len = write_flow(i, protocol, row->size, room_of_frames[i]);
     }
 }
 
 /* Makes a mapping for each flow, as long as there are ports. */
-static void prepare_mappings(const struct row *row, int is_tcp, size_t ports)
+static void prepare_mappings(const struct row *row, int protocol, size_t ports)
 {
     memset(mappings, 0, sizeof mappings);
-    prepare_flows(row, is_tcp);
+    prepare_flows(row, protocol);
     for (size_t i = 0; i < FLOWS; i++)
         lk_translate_out(&nat, mappings, LK_MAPPINGS(ports), 0, room_of_frames[i], frames[i].len);
 }
 
-static void prepare_out(const struct row *row, int is_tcp, size_t ports)
+static void prepare_out(const struct row *row, int protocol, size_t ports)
 {
-    prepare_mappings(row, is_tcp, ports);
-    prepare_flows(row, is_tcp);
+    prepare_mappings(row, protocol, ports);
+    prepare_flows(row, protocol);
 }
 
 /* The frames are answers to the flows. */
-static void prepare_in(const struct row *row, int is_tcp)
+static void prepare_in(const struct row *row, int protocol)
 {
-    prepare_mappings(row, is_tcp, OUTSIDE_PORTS);
+    prepare_mappings(row, protocol, OUTSIDE_PORTS);
     for (size_t i = 0; i < FLOWS; i++) {
         struct lk_frame of;
         lk_read_frame(frames[i].ptr, frames[i].len, &of);
         lk_reply(&of);
-        if (is_tcp)
+        of.icmp.type = 0;
+        if (protocol == TCP)
             lk_wrap_tcp_frame(&of, &(struct lk_tcp_options){.tsval = 0}, row->size, room_of_frames[i], COLD_ROOM);
+        else if (protocol == ICMP)
+            lk_emit_icmp_frame(&of, payload, row->size, room_of_frames[i], COLD_ROOM);
         else
             lk_wrap_udp_frame(&of, row->size, room_of_frames[i], COLD_ROOM);
     }
 }
 
-static void prepare_udp_out(const struct row *row) { prepare_out(row, 0, OUTSIDE_PORTS); }
-static void prepare_tcp_out(const struct row *row) { prepare_out(row, 1, OUTSIDE_PORTS); }
-static void prepare_udp_full(const struct row *row) { prepare_out(row, 0, FEW_PORTS); }
-static void prepare_udp_in(const struct row *row) { prepare_in(row, 0); }
-static void prepare_tcp_in(const struct row *row) { prepare_in(row, 1); }
+/* Each frame becomes an ICMP error about it, from the host that it is for. */
+static void answer_by_errors(void)
+{
+    static uint8_t error[COLD_ROOM];
+    for (size_t i = 0; i < FLOWS; i++) {
+        struct lk_frame of;
+        lk_read_frame(frames[i].ptr, frames[i].len, &of);
+        struct lk_interface own = {of.dst.addr, {.version = 6}, {2, 0, 0, 0, 0, 2}};
+        frames[i].len = (size_t)lk_emit_icmp_error(&own, LK_PORT_CLOSED, 0, frames[i].ptr, frames[i].len, error,
+                                                   sizeof error);
+        memcpy(room_of_frames[i], error, frames[i].len);
+    }
+}
+
+/* Errors about what the flows sent, and about the answers to them. */
+static void prepare_error_in(const struct row *row)
+{
+    prepare_mappings(row, UDP, OUTSIDE_PORTS);
+    answer_by_errors();
+}
+
+static void prepare_error_out(const struct row *row)
+{
+    const struct lk_ethernet *ethernet = &ipv4_headers.ethernet;
+    prepare_in(row, UDP);
+    for (size_t i = 0; i < FLOWS; i++) {
+        lk_translate_in(&nat, mappings, COUNT(mappings), 0, room_of_frames[i], frames[i].len);
+        memcpy(room_of_frames[i], ethernet->dst, 6);
+        memcpy(room_of_frames[i] + 6, ethernet->src, 6);
+    }
+    answer_by_errors();
+}
+
+static void prepare_udp_out(const struct row *row) { prepare_out(row, UDP, OUTSIDE_PORTS); }
+static void prepare_tcp_out(const struct row *row) { prepare_out(row, TCP, OUTSIDE_PORTS); }
+static void prepare_echo_out(const struct row *row) { prepare_out(row, ICMP, OUTSIDE_PORTS); }
+static void prepare_udp_full(const struct row *row) { prepare_out(row, UDP, FEW_PORTS); }
+static void prepare_udp_in(const struct row *row) { prepare_in(row, UDP); }
+static void prepare_tcp_in(const struct row *row) { prepare_in(row, TCP); }
+static void prepare_echo_in(const struct row *row) { prepare_in(row, ICMP); }
 
 /* Frames to a host that has the destination of `ipv4_headers`. */
 static const uint16_t open_ports[] = {22, 53, 80, 443};
@@ -196,6 +240,45 @@ static void prepare_arp_request(const struct row *row)
     prepare_bytes(row);
     of.arp.operation = 1;
     frame_len = (size_t)lk_emit_arp_frame(&of, bytes, sizeof bytes);
+}
+
+/* UDP to a port of the host that is closed. */
+static void prepare_closed(const struct lk_frame *headers, const struct lk_addr *addr, const struct row *row)
+{
+    struct lk_frame of = *headers;
+    of.dst = (struct lk_endpoint){*addr, 54};
+    prepare_udp(&of, row);
+}
+
+static void prepare_closed_ipv4(const struct row *row) { prepare_closed(&ipv4_headers, &host.ipv4, row); }
+static void prepare_closed_ipv6(const struct row *row) { prepare_closed(&ipv6_headers, &host.ipv6, row); }
+
+/* An echo request to the host over IPv6. */
+static void prepare_ping_ipv6(const struct row *row)
+{
+    struct lk_frame of = ipv6_headers;
+    of.dst.addr = host.ipv6;
+    prepare_echo(&of, 128, row->size);
+}
+
+static const struct lk_interface host_interface = {IPV4(2), IPV6(0xfe, 0x80, 2), {2, 0, 0, 0, 0, 2}};
+
+/* A solicitation of the host, and its headers. */
+static const struct lk_ndisc solicitation = {
+    .target = IPV6(0xfe, 0x80, 2),
+    .hardware = {2, 0, 0, 0, 0, 1},
+    .has_hardware = 1,
+};
+static const struct lk_frame solicitation_headers = {
+    .ethernet = {{2, 0, 0, 0, 0, 1}, {0x33, 0x33, 0xff, 0, 0, 2}, 0},
+    .src = {IPV6(0xfe, 0x80, 1), 0},
+    .dst = {{{0xff, 0x02, [11] = 1, [12] = 0xff, [15] = 2}, 6}, 0},
+};
+
+static void prepare_solicitation(const struct row *row)
+{
+    prepare_bytes(row);
+    frame_len = (size_t)lk_emit_ndisc_frame(&solicitation_headers, &solicitation, bytes, sizeof bytes);
 }
 
 static void prepare_syn(const struct row *row)

@@ -8,6 +8,7 @@ REPEAT(call_read_options, read_tcp_options, bytes + 34, 60, &out.options)
 REPEAT(call_rebuild, rebuild, bytes, frame_len, OUT)
 REPEAT(call_emit_arp, emit_arp, &ipv4_headers.arp, &ipv4_headers.src.addr, &ipv4_headers.dst.addr, OUT)
 REPEAT(call_emit_arp_frame, emit_arp_frame, &ipv4_headers, OUT)
+REPEAT(call_emit_icmp_frame, emit_icmp_frame, &echo_headers, payload, row->size, OUT)
 REPEAT(call_emit_tcp_frame, emit_tcp_frame, &tcp_headers, &row->header->options, payload, row->size, OUT)
 
 /* Calls that write one header or packet, and a whole frame, over each version. */
@@ -17,6 +18,8 @@ REPEAT(call_emit_tcp_frame, emit_tcp_frame, &tcp_headers, &row->header->options,
     REPEAT(call_emit_udp##version, emit_udp, &ENDS(version)->src, &ENDS(version)->dst, payload, row->size, 1, OUT) \
     REPEAT(call_emit_tcp##version, emit_tcp, &row->header->tcp, &row->header->options, &ENDS(version)->src,       \
            &ENDS(version)->dst, payload, row->size, 1, OUT)                                                       \
+    REPEAT(call_emit_icmp##version, emit_icmp, &echo_headers.icmp, &ENDS(version)->src.addr,                      \
+           &ENDS(version)->dst.addr, payload, row->size, 1, OUT)                                                  \
     REPEAT(call_emit_udp_frame##version, emit_udp_frame, ENDS(version), payload, row->size, OUT)
 
 EMIT_CALLS(4)
@@ -149,6 +152,15 @@ static const struct call udp_rows[] = {
     {"rebuild UDP/IPv6", prepare_udp_ipv6, call_rebuild},
 };
 
+static const struct call icmp_rows[] = {
+    {"read ICMP/IPv4", prepare_echo_ipv4, call_read},
+    {"read ICMP/IPv6", prepare_echo_ipv6, call_read},
+    {"emit ICMP/IPv4", prepare_echo_ipv4, call_emit_icmp4},
+    {"emit ICMP/IPv6", prepare_echo_ipv6, call_emit_icmp6},
+    {"emit frame ICMP/IPv4", prepare_echo_ipv4, call_emit_icmp_frame},
+    {"emit frame ICMP/IPv6", prepare_echo_ipv6, call_emit_icmp_frame},
+};
+
 static const struct call tcp_rows[] = {
     {"read TCP/IPv4", prepare_tcp_ipv4, call_read},
     {"read TCP/IPv6", prepare_tcp_ipv6, call_read},
@@ -244,6 +256,7 @@ static const struct block packet_blocks[] = {
     BLOCK(arp_rows, arp_sizes, IN_ALL, 1),           BLOCK(ip_rows, sizes, IN_ALL, 1),
     BLOCK(udp_rows, sizes, IN_ALL, 1),               BLOCK(contains_rows, no_size, IN_ALL, 1),
     BLOCK(mixed_rows, mixed_counts, IN_ALL, 1),      BLOCK(cold_rows, mixed_counts, IN_ALL, 0),
+    BLOCK(icmp_rows, sizes, IN_FLOOR, 1),
 };
 static const struct block tcp_blocks[] = {
     BLOCK(tcp_rows, sizes, IN_ALL, 1),
@@ -255,6 +268,7 @@ static const struct block address_block = BLOCK(address_rows, address_counts, IN
 static const struct call own_rows[] = {
     {"read packet UDP/IPv4", prepare_udp_ipv4, call_read_packet},
     {"read captured UDP/IPv4", prepare_udp_ipv4, call_read_captured},
+    {"read captured ICMP/IPv4", prepare_echo_ipv4, call_read_captured},
     {"wrap frame UDP/IPv4", prepare_udp_ipv4, call_wrap_udp_frame},
 };
 static const struct call own_tcp_rows[] = {

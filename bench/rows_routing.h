@@ -86,12 +86,16 @@ NAT_CALLS(call_nat_full, translate_out, FEW_PORTS, 1)
 NAT_CALLS(call_nat_expired, translate_out, OUTSIDE_PORTS, ((next_frame - 1) / FLOWS + 1) * (nat.tcp_timeout + 1))
 
 REPEAT(call_answer, answer, &host, bytes, frame_len, OUT)
+REPEAT(call_emit_icmp_error, emit_icmp_error, &host_interface, LK_PORT_CLOSED, 0, bytes, frame_len, OUT)
+REPEAT(call_read_ndisc, read_ndisc, bytes, frame_len, &out.ndisc)
+REPEAT(call_emit_ndisc_frame, emit_ndisc_frame, &solicitation_headers, &solicitation, OUT)
 
 static const struct call forward_rows[] = {
     {"forward UDP/IPv4", prepare_udp_ipv4, call_forward},
     {"forward UDP/IPv6", prepare_udp_ipv6, call_forward},
     {"translate UDP/IPv4", prepare_udp_ipv4, call_translate},
     {"translate TCP/IPv4", prepare_data, call_translate},
+    {"translate echo/IPv4", prepare_echo_ipv4, call_translate},
 };
 static const size_t forward_sizes[] = {0, 64, MOST_PAYLOAD};
 
@@ -124,6 +128,10 @@ static const struct call nat_rows[] = {
     {"NAT out UDP, expired", prepare_udp_out, call_nat_expired},
     {"NAT out TCP, expired", prepare_tcp_out, call_nat_expired},
     {"NAT out UDP, few ports", prepare_udp_full, call_nat_full},
+    {"NAT out echo", prepare_echo_out, call_nat_out},
+    {"NAT in echo", prepare_echo_in, call_nat_in},
+    {"NAT out ICMP error", prepare_error_out, call_nat_out},
+    {"NAT in ICMP error", prepare_error_in, call_nat_in},
 };
 static const size_t nat_sizes[] = {64};
 
@@ -132,8 +140,22 @@ static const struct call host_rows[] = {
     {"answer UDP/IPv4", prepare_udp_ipv4, call_answer},
     {"answer TCP/IPv4 SYN", prepare_syn, call_answer},
     {"answer TCP/IPv4 data", prepare_data, call_answer},
+    {"answer solicitation", prepare_solicitation, call_answer},
 };
 static const size_t host_sizes[] = {0};
+static const struct call message_rows[] = {
+    {"answer echo/IPv4", prepare_echo_ipv4, call_answer},
+    {"answer echo/IPv6", prepare_ping_ipv6, call_answer},
+    {"answer closed port/IPv4", prepare_closed_ipv4, call_answer},
+    {"answer closed port/IPv6", prepare_closed_ipv6, call_answer},
+    {"emit ICMP error/IPv4", prepare_closed_ipv4, call_emit_icmp_error},
+    {"emit ICMP error/IPv6", prepare_closed_ipv6, call_emit_icmp_error},
+};
+static const size_t message_sizes[] = {64, MOST_PAYLOAD};
+static const struct call ndisc_rows[] = {
+    {"read solicitation", prepare_solicitation, call_read_ndisc},
+    {"emit frame solicitation", prepare_solicitation, call_emit_ndisc_frame},
+};
 
 /* Of look-ups and of NAT so many calls are counted that the ways through the tables are among them. */
 static const struct block routing_blocks[] = {
@@ -142,4 +164,5 @@ static const struct block routing_blocks[] = {
     BLOCK(choose_rows, most_routes, IN_OURS, 0),     BLOCK(beside_rows, beside_counts, IN_OURS, 128),
     BLOCK(index_rows, index_counts, IN_OURS, 1),     BLOCK(index_rows, many_routes, IN_OURS, 0),
     BLOCK(nat_rows, nat_sizes, IN_OURS, 64),         BLOCK(host_rows, host_sizes, IN_OURS, 1),
+    BLOCK(message_rows, message_sizes, IN_OURS, 1),  BLOCK(ndisc_rows, host_sizes, IN_FLOOR, 1),
 };
