@@ -1,9 +1,9 @@
 -- Chains of replies end.
 use Rattle.std.proofs.Common.{ℕ, ◌≡◌, ◌∙◌, ◌⊎◌, inl, inr, [], List, Option, Some, None, refl, sym, ap, subst}
-use Rattle.ip_host.specs.Host.{Answers, IsFinal, IsFrameReply, IsMessageReply, IsPortUnreachable, IsReply}
+use Rattle.ip_host.specs.Host.{Answers, IsErrorMessage, IsFinal, IsFrameReply, IsMessageReply, IsPortUnreachable, IsReply, IsReset, IsSegment, ServesPortOf}
 use Rattle.ip_host.specs.declared.host.Host.{Host}
 use Rattle.ip_replies.proofs.MessageEnds.{IsErrorCarried, IsSilent, advert-silent, echo-silent, error-silent, silent-echo, silent-neighbour, unreachable-error}
-use Rattle.ip_replies.specs.TcpReply.{Replies, back, closed_by, listen_by, reset_by, reset_for, syn_ack}
+use Rattle.ip_replies.specs.TcpReply.{IsTcpReply, Replies, back, closed_by, listen_by, reset_by, reset_for, syn_ack}
 use Rattle.ip_replies.specs.declared.tcp_reply.Offer.{Offer}
 use Rattle.ip_wire.proofs.ReadsOnce.{frame-once}
 use Rattle.ip_wire.specs.Frame.{Carried, IsReadWhole, all_checked, other, packet, segment}
@@ -113,66 +113,116 @@ message_silent host bytes asked_header header asked c (inl e) = subst IsSilent (
 message_silent host bytes asked_header header asked c (inr (inl e)) = subst IsSilent (sym e.tells) (advert-silent host.interface e.dst e.solicited)
 message_silent host bytes asked_header header asked c (inr (inr e)) = error-silent c (port_error host bytes asked_header header asked c e)
 
--- the reply of the older kinds to a reply of these is a RST
-reply_resets : (first second : Host) (asked_header header back_header other_header : EthernetRepr) (asked c d : Carried) → first.echo_port ≡ second.echo_port
-    → IsFrameReply first asked_header asked header c → IsFrameReply second back_header c other_header d → CarriesReset d
-reply_resets first second _ _ _ _ asked c d port (inl e) (inl g) =
-    absurd (let carries = e.carries in let tells = e.replies.tells in let asks = g.asks in let request = g.replies.asks in cc)
-reply_resets first second _ _ _ _ asked c d port (inl e) (inr (inl g)) = absurd (let carries = e.carries in let asks = g.asks in cc)
-reply_resets first second _ _ _ _ asked c d port (inl e) (inr (inr g)) = absurd (let carries = e.carries in let asks = g.asks in cc)
-reply_resets first second _ _ _ _ asked c d port (inr (inl e)) (inl g) = absurd (let carries = e.echoes in let asks = g.asks in cc)
-reply_resets first second _ _ _ _ asked c d port (inr (inl e)) (inr (inl g)) =
-    let carries = e.echoes in
-    let asks = g.asks in
-    let to_port = e.to_port in
-    let from : e.udp.dst_port ≡ g.udp.src_port = cc in
-    absurd (g.from_other (sym from ∙ to_port ∙ port))
-reply_resets first second _ _ _ _ asked c d port (inr (inl e)) (inr (inr g)) = absurd (let carries = e.echoes in let asks = g.asks in cc)
-reply_resets first second _ _ _ _ asked c d port (inr (inr e)) (inl g) = absurd (let carries = e.carries in let asks = g.asks in cc)
-reply_resets first second _ _ _ _ asked c d port (inr (inr e)) (inr (inl g)) = absurd (let carries = e.carries in let asks = g.asks in cc)
-reply_resets first second _ _ _ _ asked c d port (inr (inr e)) (inr (inr g)) =
+-- the reply to a reply to a TCP segment is a RST
+segment_resets : (first second : Host) (bytes : List ℕ) (asked_header header back_header other_header : EthernetRepr) (asked c d : Carried)
+    → IsTcpReply first.interface first.open_ports.now first.offer asked_header asked header c → IsReply second bytes back_header c other_header d → CarriesReset d
+segment_resets first second bytes _ _ _ _ asked c d e (inl (inl g)) = absurd (let carries = e.carries in let asks = g.asks in cc)
+segment_resets first second bytes _ _ _ _ asked c d e (inl (inr (inl g))) = absurd (let carries = e.carries in let asks = g.asks in cc)
+segment_resets first second bytes _ _ _ _ asked c d e (inl (inr (inr g))) =
     let carries = e.carries in
     let asks = g.asks in
     let same : e.reply ≡ g.tcp = cc in
     let settled = subst IsSettled same (settles first.open_ports.now first.offer e.tcp _ e.reply e.replies) in
     (_, g.reply, [], g.carries, resets second.open_ports.now second.offer g.tcp _ g.reply settled g.replies)
+segment_resets first second bytes _ _ _ _ asked c d e (inr (inl g)) = absurd (let carries = e.carries in let asks = g.asks in cc)
+segment_resets first second bytes _ _ _ _ asked c d e (inr (inr (inl g))) = absurd (let carries = e.carries in let asks = g.asks in cc)
+segment_resets first second bytes _ _ _ _ asked c d e (inr (inr (inr g))) = absurd (let carries = e.carries in let asks = g.asks in cc)
 
--- the error about a reply, which is the echo of a UDP packet
-reply_errors : (first second : Host) (bytes : List ℕ) (asked_header header back_header other_header : EthernetRepr) (asked c d : Carried)
-    → IsFrameReply first asked_header asked header c → IsMessageReply second bytes back_header c other_header d → IsErrorCarried d
-reply_errors first second bytes _ _ _ _ asked c d (inl e) (inl g) = absurd (let carries = e.carries in let asks = g.asks in cc)
-reply_errors first second bytes _ _ _ _ asked c d (inl e) (inr (inl g)) = absurd (let carries = e.carries in let asks = g.asks in cc)
-reply_errors first second bytes _ _ _ _ asked c d (inr (inl e)) (inl g) = absurd (let carries = e.echoes in let asks = g.asks in cc)
-reply_errors first second bytes _ _ _ _ asked c d (inr (inl e)) (inr (inl g)) = absurd (let carries = e.echoes in let asks = g.asks in cc)
-reply_errors first second bytes _ _ _ _ asked c d (inr (inr e)) (inl g) = absurd (let carries = e.carries in let asks = g.asks in cc)
-reply_errors first second bytes _ _ _ _ asked c d (inr (inr e)) (inr (inl g)) = absurd (let carries = e.carries in let asks = g.asks in cc)
-reply_errors first second bytes _ _ back_header other_header asked c d e (inr (inr g)) = port_error second bytes back_header other_header c d g
+-- the reply of the older kinds to a reply of these is a RST
+reply_resets : (first second : Host) (bytes : List ℕ) (asked_header header back_header other_header : EthernetRepr) (asked c d : Carried) → first.echo_port ≡ second.echo_port
+    → IsFrameReply first asked_header asked header c → IsFrameReply second back_header c other_header d → CarriesReset d
+reply_resets first second bytes _ _ _ _ asked c d port (inl e) (inl g) =
+    absurd (let carries = e.carries in let tells = e.replies.tells in let asks = g.asks in let request = g.replies.asks in cc)
+reply_resets first second bytes _ _ _ _ asked c d port (inl e) (inr (inl g)) = absurd (let carries = e.carries in let asks = g.asks in cc)
+reply_resets first second bytes _ _ _ _ asked c d port (inl e) (inr (inr g)) = absurd (let carries = e.carries in let asks = g.asks in cc)
+reply_resets first second bytes _ _ _ _ asked c d port (inr (inl e)) (inl g) = absurd (let carries = e.echoes in let asks = g.asks in cc)
+reply_resets first second bytes _ _ _ _ asked c d port (inr (inl e)) (inr (inl g)) =
+    let carries = e.echoes in
+    let asks = g.asks in
+    let to_port = e.to_port in
+    let from : e.udp.dst_port ≡ g.udp.src_port = cc in
+    absurd (g.from_other (sym from ∙ to_port ∙ port))
+reply_resets first second bytes _ _ _ _ asked c d port (inr (inl e)) (inr (inr g)) = absurd (let carries = e.echoes in let asks = g.asks in cc)
+reply_resets first second bytes asked_header header back_header other_header asked c d port (inr (inr e)) g =
+    segment_resets first second bytes asked_header header back_header other_header asked c d e (inl g)
 
+-- the reply with a message to a reply is the error about the echo of a UDP packet
+reply_unreachable : (first second : Host) (bytes : List ℕ) (asked_header header back_header other_header : EthernetRepr) (asked c d : Carried)
+    → IsFrameReply first asked_header asked header c → IsMessageReply second bytes back_header c other_header d → IsPortUnreachable second bytes back_header c other_header d
+reply_unreachable first second bytes _ _ _ _ asked c d (inl e) (inl g) = absurd (let carries = e.carries in let asks = g.asks in cc)
+reply_unreachable first second bytes _ _ _ _ asked c d (inl e) (inr (inl g)) = absurd (let carries = e.carries in let asks = g.asks in cc)
+reply_unreachable first second bytes _ _ _ _ asked c d (inr (inl e)) (inl g) = absurd (let carries = e.echoes in let asks = g.asks in cc)
+reply_unreachable first second bytes _ _ _ _ asked c d (inr (inl e)) (inr (inl g)) = absurd (let carries = e.echoes in let asks = g.asks in cc)
+reply_unreachable first second bytes _ _ _ _ asked c d (inr (inr e)) (inl g) = absurd (let carries = e.carries in let asks = g.asks in cc)
+reply_unreachable first second bytes _ _ _ _ asked c d (inr (inr e)) (inr (inl g)) = absurd (let carries = e.carries in let asks = g.asks in cc)
+reply_unreachable first second bytes _ _ _ _ asked c d e (inr (inr g)) = g
+
+-- a reply to a reply is a RST, or the error about a closed port
 reply_finishes : (first second : Host) (f g : List ℕ) (asked_header header back_header other_header : EthernetRepr) (asked c d : Carried) → first.echo_port ≡ second.echo_port
-    → IsReply first f asked_header asked header c → IsReply second g back_header c other_header d → IsFinalCarried d
+    → IsReply first f asked_header asked header c → IsReply second g back_header c other_header d → CarriesReset d ⊎ IsPortUnreachable second g back_header c other_header d
 reply_finishes first second f g asked_header header back_header other_header asked c d port (inl e) (inl r) =
-    inl (reply_resets first second asked_header header back_header other_header asked c d port e r)
+    inl (reply_resets first second g asked_header header back_header other_header asked c d port e r)
 reply_finishes first second f g asked_header header back_header other_header asked c d port (inl e) (inr r) =
-    inr (reply_errors first second g asked_header header back_header other_header asked c d e r)
+    inr (reply_unreachable first second g asked_header header back_header other_header asked c d e r)
 reply_finishes first second f g asked_header header back_header other_header asked c d port (inr e) r =
     absurd (silent_unanswered second g back_header other_header c d (message_silent first f asked_header header asked c e) r)
 
+-- the reply to a TCP segment is a segment
+segment_reply : (first : Host) (f : List ℕ) (asked_header header : EthernetRepr) (asked c : Carried) (ip : IpRepr) (tcp : TcpHeader) (payload : List ℕ)
+    → asked ≡ packet ip (segment tcp payload) → IsReply first f asked_header asked header c
+    → IsTcpReply first.interface first.open_ports.now first.offer asked_header asked header c
+segment_reply first f _ _ asked c ip tcp payload is (inl (inl e)) = absurd (let asks = e.asks in cc)
+segment_reply first f _ _ asked c ip tcp payload is (inl (inr (inl e))) = absurd (let asks = e.asks in cc)
+segment_reply first f _ _ asked c ip tcp payload is (inl (inr (inr e))) = e
+segment_reply first f _ _ asked c ip tcp payload is (inr (inl e)) = absurd (let asks = e.asks in cc)
+segment_reply first f _ _ asked c ip tcp payload is (inr (inr (inl e))) = absurd (let asks = e.asks in cc)
+segment_reply first f _ _ asked c ip tcp payload is (inr (inr (inr e))) = absurd (let asks = e.asks in cc)
+
 -- ---- bytes
 
-as_final : (h : List ℕ) (header : EthernetRepr) (carried : Carried) → IsReadWhole h header carried → IsFinalCarried carried → IsFinal h
-as_final h header carried reads (inl (ip, tcp, payload, carries, is)) =
-    inl (record { header = header; ip = ip; tcp = tcp; payload = payload; reads = subst (λ c. IsReadWhole h header c) carries reads; reset = is })
-as_final h header carried reads (inr (ip, message, carries, protocol, error)) =
-    inr (record { header = header; ip = ip; message = message; reads = subst (λ c. IsReadWhole h header c) carries reads; protocol = protocol; error = error })
+as_reset : (h : List ℕ) (header : EthernetRepr) (carried : Carried) → IsReadWhole h header carried → CarriesReset carried → IsReset h
+as_reset h header carried reads (ip, tcp, payload, carries, is) =
+    record { header = header; ip = ip; tcp = tcp; payload = payload; reads = subst (λ c. IsReadWhole h header c) carries reads; reset = is }
+
+as_error : (h : List ℕ) (header : EthernetRepr) (carried : Carried) → IsReadWhole h header carried → IsErrorCarried carried → IsErrorMessage h
+as_error h header carried reads (ip, message, carries, protocol, error) =
+    record { header = header; ip = ip; message = message; reads = subst (λ c. IsReadWhole h header c) carries reads; protocol = protocol; error = error }
+
+-- the second reply is one to the values of the first
+reply_back : (first second : Host) (f g h : List ℕ) (a : Answers first f g) (b : Answers second g h) → IsReply second g b.replies.0 a.carried b.header b.carried
+reply_back first second f g h a b =
+    let (back_header, back, reads_g, replies_back) = b.replies in
+    let once = frame-once all_checked g back_header a.header back a.carried reads_g a.reads in
+    subst (λ c. IsReply second g back_header c b.header b.carried) once.1 replies_back
+
+answer_ends : (first second : Host) (f g h : List ℕ) → first.echo_port ≡ second.echo_port → (a : Answers first f g) (b : Answers second g h)
+    → CarriesReset b.carried ⊎ IsPortUnreachable second g b.replies.0 a.carried b.header b.carried
+answer_ends first second f g h port a b =
+    let (asked_header, asked, reads_f, replies) = a.replies in
+    reply_finishes first second f g asked_header a.header b.replies.0 b.header asked a.carried b.carried port replies (reply_back first second f g h a b)
 
 -- a reply to a reply is a RST or an ICMP error, if both hosts have the same echo port
 pub answer_finishes : (first second : Host) (f g h : List ℕ) → first.echo_port ≡ second.echo_port → Answers first f g → Answers second g h → IsFinal h
-answer_finishes first second f g h port a b =
+answer_finishes first second f g h port a b = elim (answer_ends first second f g h port a b) [
+  | inl r ↦ inl (as_reset h b.header b.carried b.reads r)
+  | inr e ↦ inr (as_error h b.header b.carried b.reads (port_error second g b.replies.0 b.header a.carried b.carried e))
+]
+
+-- it is a RST if the second host serves the port of a UDP packet
+pub answer_resets : (first second : Host) (f g h : List ℕ) → first.echo_port ≡ second.echo_port → ServesPortOf second g → Answers first f g → Answers second g h → IsReset h
+answer_resets first second f g h port serves a b = elim (answer_ends first second f g h port a b) [
+  | inl r ↦ as_reset h b.header b.carried b.reads r
+  | inr e ↦ absurd (e.closed (serves a.header e.ip e.udp e.payload (subst (λ c. IsReadWhole g a.header c) e.asks a.reads)))
+]
+
+-- or if the first frame is a TCP segment
+pub segment_answered : (first second : Host) (f g h : List ℕ) → IsSegment f → Answers first f g → Answers second g h → IsReset h
+segment_answered first second f g h (header, ip, tcp, payload, reads) a b =
     let (asked_header, asked, reads_f, replies) = a.replies in
-    let (back_header, back, reads_g, replies_back) = b.replies in
-    let once = frame-once all_checked g back_header a.header back a.carried reads_g a.reads in
-    as_final h b.header b.carried b.reads
-    (reply_finishes first second f g asked_header a.header back_header b.header asked a.carried b.carried port replies (subst (λ c. IsReply second g back_header c b.header b.carried) once.1 replies_back))
+    let once = frame-once all_checked f asked_header header asked (packet ip (segment tcp payload)) reads_f reads in
+    let e = segment_reply first f asked_header a.header asked a.carried ip tcp payload once.1 replies in
+    as_reset h b.header b.carried b.reads
+    (segment_resets first second g asked_header a.header b.replies.0 b.header asked a.carried b.carried e (reply_back first second f g h a b))
 
 -- no host replies to those
 pub final_unanswered : (third : Host) (h k : List ℕ) → IsFinal h → ¬ Answers third h k

@@ -74,6 +74,12 @@ abbrev pub RepliesBytes : Host → List ℕ → EthernetRepr → Carried → Typ
 RepliesBytes host bytes header carried =
     (asked_header : EthernetRepr) × (asked : Carried) × IsReadWhole bytes asked_header asked × IsReply host bytes asked_header asked header carried
 
+-- if the bytes parse as a UDP packet, the host serves the port that it goes to
+abbrev pub ServesPortOf : Host → List ℕ → Type 0
+ServesPortOf host bytes =
+    (header : EthernetRepr) (ip : IpRepr) (udp : UdpRepr) (payload : List ℕ)
+    → IsReadWhole bytes header (packet ip (datagram udp payload)) → IsServed host udp.dst_port
+
 -- the bytes do not parse as a frame with valid checksums
 abbrev pub IsUnread : List ℕ → Type 0
 IsUnread bytes = (header : EthernetRepr) (carried : Carried) → ¬ IsReadWhole bytes header carried
@@ -84,6 +90,11 @@ pub record Answers (host : Host) (bytes answer : List ℕ) : Type 0 where
   pub carried : Carried
   pub replies : RepliesBytes host bytes header carried
   pub reads : IsReadWhole answer header carried
+
+-- the bytes parse as a TCP segment
+abbrev pub IsSegment : List ℕ → Type 0
+IsSegment bytes =
+    (header : EthernetRepr) × (ip : IpRepr) × (tcp : TcpHeader) × (payload : List ℕ) × IsReadWhole bytes header (packet ip (segment tcp payload))
 
 -- the bytes parse as a TCP segment with the flag RST
 pub record IsReset (bytes : List ℕ) : Type 0 where
