@@ -19,8 +19,9 @@ TESTS = {name: name + "_tests" for name in ("wire", "use")} | {"frames": "ip_fra
 LIBRARY = re.compile(r"net_base|ip_wire|wire_\w+")
 # The libraries whose types a Rattle program uses: those of `wire_*` through `ip_wire`.
 SHOWN = re.compile(r"net_base|ip_(?!wire_c)\w+")
-# The crates that use the layer through `ip_wire` and `net_base` only.
+# The crates that use the layer through `ip_wire` and `net_base` only, and the formats beside `ip_wire`, which they name too.
 ABOVE = re.compile(r"ip_(?!wire\b)\w+|use_tests")
+BESIDE = ("wire_icmp", "wire_ndisc")
 TEST_FUNCTION = re.compile(r"#\[test\]\n(?: *#.*\n)* *fn (\w+)\(")
 # A function that allocates is given an allocator, and returns one of these types.
 ALLOCATES = re.compile(r"\b(alloc|AllocError|HostRuntime|Vec|String|Box|Rc|Arc)\b")
@@ -179,7 +180,7 @@ def wire_crates_named():
     for number, line in enumerate(read("crates.txt").split("\n"), 1):
         name, _, below = line.partition(":")
         if ABOVE.fullmatch(name):
-            yield from (f"crates.txt:{number}: {name} names {it}" for it in below.split() if it.startswith("wire_"))
+            yield from (f"crates.txt:{number}: {name} names {it}" for it in below.split() if it.startswith("wire_") and it not in BESIDE)
 
 
 def main(top):

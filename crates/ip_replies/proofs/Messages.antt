@@ -1,12 +1,10 @@
 -- A frame with a message is sent.
 use Rattle.std.specs.Borrow.{Bor}
-use Rattle.std.proofs.Common.{ℕ, ◌≡◌, ◌≢◌, ◌∙◌, ◌+◌, ◌≤◌, ◌++◌, List, Option, Some, None, drop, length, refl, sym, ap, subst, arith, true}
-use Rattle.ip_wire.proofs.Composed.{reads_frame}
+use Rattle.std.proofs.Common.{ℕ, ◌≡◌, ◌≢◌, ◌∙◌, ◌+◌, ◌≤◌, List, Option, Some, None, drop, length, refl, sym, ap, subst, arith, true}
 use Rattle.ip_wire.proofs.Sent.{rest_stays}
 use Rattle.ip_wire.specs.Ethernet as ethernet
 use Rattle.ip_wire.specs.Filled.{Fills}
 use Rattle.ip_wire.specs.Frame.{Carried, IsReadWhole, all_checked, other, packet, type_of}
-use Rattle.ip_wire.specs.Ip as ip
 use Rattle.ip_wire.specs.Ip.{dst_addr_of, header_before, header_len_of, max_payload_len, next_header_of, normal, src_addr_of, version_of}
 use Rattle.ip_wire.specs.IpAddress as address
 use Rattle.ip_wire.specs.Protocol.{known}
@@ -16,7 +14,6 @@ use Rattle.ip_wire.specs.declared.IpProtocol.TheVariants as protocol
 use Rattle.net_base.specs.Checksum.{computes}
 use Rattle.wire_icmp.specs.Icmp.{bytes_of, choice_of, protocol_of}
 use Rattle.wire_icmp.specs.declared.IcmpRepr.{IcmpRepr}
-use Rattle.wire_ip.proofs.IpReadsBack.{IsInRange}
 use Rattle.ip_replies.specs.Message.{Composes, IsOfVersion, IsSendable, IsSent, frame_bytes, message_bytes, message_frame, message_len, values_of}
 use Rattle.ip_replies.specs.declared.message.Message.{Message}
 use Rattle.ip_replies.specs.declared.message.Message.TheVariants.{Icmp, Ndisc}
@@ -32,24 +29,13 @@ pub normal-is : (w : IpRepr) → next_header_of w ≡ protocol_of (version_of w)
 normal-is (Ipv4 v) p = ap (λ x. Ipv4 (record v { next_header = known x })) p ∙ ap (λ x. Ipv4 (record v { next_header = x })) (sym p)
 normal-is (Ipv6 v) p = ap (λ x. Ipv6 (record v { next_header = known x })) p ∙ ap (λ x. Ipv6 (record v { next_header = x })) (sym p)
 
-no-transport : (w : IpRepr) → next_header_of w ≡ protocol_of (version_of w) → (next_header_of w ≢ protocol.Udp) × (next_header_of w ≢ protocol.Tcp)
+pub no-transport : (w : IpRepr) → next_header_of w ≡ protocol_of (version_of w) → (next_header_of w ≢ protocol.Udp) × (next_header_of w ≢ protocol.Tcp)
 no-transport (Ipv4 v) p = ((λ e. absurd (cc)), (λ e. absurd (cc)))
 no-transport (Ipv6 v) p = ((λ e. absurd (cc)), (λ e. absurd (cc)))
 
-header-normal : (h : EthernetRepr) (w : IpRepr) → h.ethertype ≡ type_of w → ethernet.normal h ≡ h
+pub header-normal : (h : EthernetRepr) (w : IpRepr) → h.ethertype ≡ type_of w → ethernet.normal h ≡ h
 header-normal h (Ipv4 v) e = ap (λ t. record h { ethertype = ethernet.known t }) e ∙ ap (λ t. record h { ethertype = t }) (sym e)
 header-normal h (Ipv6 v) e = ap (λ t. record h { ethertype = ethernet.known t }) e ∙ ap (λ t. record h { ethertype = t }) (sym e)
-
--- a frame with a message is parsed as its values
-pub composes : (h : EthernetRepr) (w : IpRepr) → length h.dst_addr.0 ≡ 6 → length h.src_addr.0 ≡ 6 → IsInRange w → Composes h w
-composes h w dst src range q padding type names len =
-    let normal_ip = normal-is w names in
-    let apart = no-transport w names in
-    let reads = reads_frame all_checked true h w q padding (other q) dst src (ap ethernet.number_of type) range len
-    (λ v t. refl) (subst (λ w. next_header_of w ≢ protocol.Udp) (sym normal_ip) apart.0, subst (λ w. next_header_of w ≢ protocol.Tcp) (sym normal_ip) apart.1, refl) in
-    let written = ethernet.bytes_of h ++ (ip.bytes_of w true ++ q) ++ padding in
-    subst (λ l. IsReadWhole written l (packet w (other q))) (header-normal h w type)
-    (subst (λ v. IsReadWhole written (ethernet.normal h) (packet v (other q))) normal_ip reads)
 
 -- the emitted frame is sent
 pub sent : (f : MessageFrame) (old new : List ℕ) (result : Option ℕ) → IsSendable f → Composes f.header f.ip → length new ≡ length old

@@ -1,5 +1,5 @@
 -- A frame has at most one echo reply, one advertisement, and one error with a message.
-use Rattle.std.proofs.Common.{ℕ, ◌≡◌, ◌∙◌, inl, inr, Bool, List, Option, Some, drop, length, sym, ap, subst, true}
+use Rattle.std.proofs.Common.{ℕ, ◌≡◌, ◌∙◌, inl, inr, Bool, List, Option, Some, arith, drop, length, sym, ap, subst, true}
 use Rattle.ip_replies.proofs.IcmpErrors.{error_values}
 use Rattle.ip_replies.proofs.RepliesOnce.{IsOne}
 use Rattle.ip_replies.specs.IcmpEcho.{IsIcmpEcho}
@@ -7,17 +7,18 @@ use Rattle.ip_replies.specs.IcmpError.{IsError, quoted}
 use Rattle.ip_replies.specs.Interface.{header_back}
 use Rattle.ip_replies.specs.Neighbour.{IsAnsweredTo, IsNeighbourReply, advert_header, advert_of}
 use Rattle.ip_replies.specs.declared.interface.Interface.{Interface}
+use Rattle.ip_wire.proofs.Ipv4Computed as ipv4
+use Rattle.ip_wire.proofs.Ipv6Computed as ipv6
 use Rattle.ip_wire.proofs.ReadsOnce.{computed-one}
 use Rattle.ip_wire.specs.Ethernet as ethernet
 use Rattle.ip_wire.specs.Frame.{Carried, other, packet, type_of}
-use Rattle.ip_wire.specs.Ip.{Reads, dst_addr_of, header_before, ip_of, src_addr_of, version_of}
-use Rattle.ip_wire.specs.Types.{EthernetAddress, EthernetRepr, IpRepr, Ipv6, Ipv6Repr}
+use Rattle.ip_wire.specs.Ip.{Reads, dst_addr_of, header_before, src_addr_of, version_of}
+use Rattle.ip_wire.specs.Types.{EthernetAddress, EthernetRepr, IpRepr, Ipv4, Ipv6, Ipv6Repr}
 use Rattle.ip_wire.specs.declared.EthernetProtocol.TheVariants as ethertype
 use Rattle.wire_icmp.specs.Icmp as icmp
 use Rattle.wire_icmp.specs.Icmp.{protocol_of}
 use Rattle.wire_icmp.specs.declared.IcmpRepr.{IcmpRepr}
 use Rattle.wire_icmp.specs.declared.IcmpRepr.TheVariants.{EchoReply, EchoRequest}
-use Rattle.wire_ip.proofs.IpComputed.{ip_of-Reads}
 use Rattle.wire_ndisc.proofs.NdiscComputed.{ndisc_of-Reads}
 use Rattle.wire_ndisc.specs.Ndisc as ndisc
 use Rattle.wire_ndisc.specs.declared.NdiscRepr.TheVariants.{NeighborSolicit}
@@ -32,7 +33,10 @@ link-once frame a b r s =
     λ i. record { src_addr = record { 0 = src i }; dst_addr = record { 0 = dst i }; ethertype = type i }
 
 header-once : (bytes : List ℕ) (v w : IpRepr) → Reads bytes true v → Reads bytes true w → v ≡ w
-header-once bytes v w r s = computed-one (ip_of true bytes) v w ((ip_of-Reads true bytes v).1 r) ((ip_of-Reads true bytes w).1 s)
+header-once bytes (Ipv4 v) (Ipv4 w) r s = ap Ipv4 (ipv4.Reads-is true bytes v r.header ∙ sym (ipv4.Reads-is true bytes w s.header))
+header-once bytes (Ipv6 v) (Ipv6 w) r s = ap Ipv6 (ipv6.Reads-is bytes v r.header ∙ sym (ipv6.Reads-is bytes w s.header))
+header-once bytes (Ipv4 v) (Ipv6 w) r s = absurd (omega (arith, r.version.number, s.version.number))
+header-once bytes (Ipv6 v) (Ipv4 w) r s = absurd (omega (arith, r.version.number, s.version.number))
 
 pub error-once : (ours : Interface) (frame : List ℕ) (message : IcmpRepr) → IsOne (IsError ours frame message)
 error-once ours frame message h k c d (v, e) (w, g) =
