@@ -44,6 +44,11 @@ Frame = _declare(
     transport=c_uint8, rejected=c_uint8, is_fragment=c_uint8, ipv4_checksum=c_uint8, transport_checksum=c_uint8,
     unused=c_uint8 * 5, icmp=Icmp,
 )  # fmt: skip
+Ndisc = _declare(
+    "lk_ndisc", target=Addr, hardware=_Hardware, has_hardware=c_uint8, is_advert=c_uint8, is_router=c_uint8,
+    is_solicited=c_uint8, overrides=c_uint8,
+)  # fmt: skip
+Interface = _declare("lk_interface", ipv4=Addr, ipv6=Addr, hardware=_Hardware)
 Host = _declare(
     "lk_host", open_ports=POINTER(c_uint16), open_port_count=c_size_t, open_udp_ports=POINTER(c_uint16),
     open_udp_port_count=c_size_t, ipv4=Addr, ipv6=Addr, hardware=_Hardware,
@@ -86,6 +91,9 @@ CALLS: Dict[str, Tuple[Any, ...]] = {
     "lk_add_seq": (c_uint32, c_uint32, c_uint32),
     "lk_subtract_seq": (c_int32, c_uint32, c_uint32),
     "lk_rebuild": (c_ssize_t, *_DATA, *_OUT),
+    "lk_read_ndisc": (c_int, *_DATA, POINTER(Ndisc)),
+    "lk_emit_ndisc_frame": (c_ssize_t, POINTER(Frame), POINTER(Ndisc), *_OUT),
+    "lk_emit_icmp_error": (c_ssize_t, POINTER(Interface), c_int, c_uint32, *_DATA, *_OUT),
     "lk_answer": (c_ssize_t, POINTER(Host), *_DATA, *_OUT),
 }
 

@@ -192,7 +192,7 @@ class Ip:
 
 @dataclass(frozen=True)
 class Headers:
-    """The headers of a UDP or TCP packet."""
+    """The headers of a UDP, TCP or ICMP packet."""
 
     ethernet: Ethernet
     src: Endpoint
@@ -456,6 +456,68 @@ def rebuild(frame: Data) -> bytes:
     """Parses an Ethernet frame, and emits each header again from its values, without padding."""
     data = c.octets(frame)
     return c.written(len(data), library.lk_rebuild, data, len(data))
+
+
+# ---- neighbour discovery and ICMP errors
+
+
+@dataclass(frozen=True)
+class Ndisc:
+    """A neighbour solicitation or advertisement. `hardware` is its link-layer address option. A solicitation has no
+    flags."""
+
+    target: IPv6Address
+    hardware: Optional[bytes] = None
+    is_advert: bool = False
+    is_router: bool = False
+    is_solicited: bool = False
+    overrides: bool = False
+
+
+def parse_ndisc(frame: Data) -> Optional[Ndisc]:
+    """The message in an Ethernet frame. None if the frame has none that is valid (RFC 4861, sections 7.1.1 and 7.1.2)."""
+    data, ndisc = c.octets(frame), c.Ndisc()
+    if not library.lk_read_ndisc(data, len(data), ndisc):
+        return None
+    hardware = bytes(ndisc.hardware) if ndisc.has_hardware else None
+    flags = (bool(getattr(ndisc, name)) for name in ("is_advert", "is_router", "is_solicited", "overrides"))
+    return Ndisc(c.address(ndisc.target), hardware, *flags)
+
+
+def emit_ndisc(ethernet: Ethernet, src: IPv6Address, dst: IPv6Address, ndisc: Ndisc) -> bytes:
+    """Writes a whole frame with a message. The hop limit is 255."""
+    headers = c.Frame(src=_endpoint((src, 0)), dst=_endpoint((dst, 0)))
+    headers.ethernet = c.struct(c.Ethernet, ethernet)
+    has_hardware = ndisc.hardware is not None
+    message = c.struct(c.Ndisc, ndisc, hardware=ndisc.hardware if has_hardware else bytes(6), has_hardware=has_hardware)
+    return c.written(86, library.lk_emit_ndisc_frame, headers, message)
+
+
+class Problem(IntEnum):
+    """Why a packet was dropped."""
+
+    HOP_LIMIT_EXPIRED = 1
+    PACKET_TOO_BIG = 2
+    ROUTE_MISSING = 3
+    NEIGHBOUR_MISSING = 4
+    PORT_CLOSED = 5
+    PROHIBITED = 6
+
+
+@dataclass(frozen=True)
+class Interface:
+    """An interface of a host or router. It has no address where 0.0.0.0 or `::` stands."""
+
+    hardware: bytes
+    ipv4: IPv4Address = IPv4Address(0)
+    ipv6: IPv6Address = IPv6Address(0)
+
+    def emit_error(self, problem: Problem, frame: Data, mtu: int = 0) -> Optional[bytes]:
+        """An Ethernet frame with an ICMP error about a frame that came in by the interface, or None if it may get none.
+        `mtu` is that of the next link, for PACKET_TOO_BIG. The caller limits the rate."""
+        data, own = c.octets(frame), c.struct(c.Interface, self)
+        call, number = library.lk_emit_icmp_error, c.fits(c_uint32, mtu)
+        return c.written(1294, call, own, problem, number, data, len(data)) or None
 
 
 @dataclass(frozen=True)

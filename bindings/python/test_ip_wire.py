@@ -15,8 +15,8 @@ from ipaddress import IPv4Address, IPv6Address, ip_address, ip_interface
 
 import _ip_wire as c
 import ip_wire
-from ip_wire import Arp, Endpoint, Ethernet, Headers, Host, Icmp, Ip, Network, Reason, Rejected, Tcp, TcpFlag, TcpOptions
-from ip_wire import Transport, Verdict, WireError
+from ip_wire import Arp, Endpoint, Ethernet, Headers, Host, Icmp, Interface, Ip, Ndisc, Network, Problem, Reason, Rejected
+from ip_wire import Tcp, TcpFlag, TcpOptions, Transport, Verdict, WireError
 
 FOLDER = os.path.dirname(os.path.abspath(__file__))
 HEADER = os.environ.get("IP_WIRE_HEADER", os.path.join(FOLDER, "..", "..", "c", "ip_wire.h"))
@@ -82,7 +82,7 @@ class Declarations(unittest.TestCase):
 
     def test_numbers(self):
         enums = {"lk_reason": (Reason, 1), "lk_network": (Network, 1), "lk_transport": (Transport, 1),
-                 "lk_verdict": (Verdict, 0)}  # fmt: skip
+                 "lk_verdict": (Verdict, 0), "lk_problem": (Problem, 1)}  # fmt: skip
         for name, (enum, first) in enums.items():
             words = re.findall(r"LK_(\w+)", re.search(rf"enum {name} {{(.*?)}}", self.header, re.S).group(1))
             self.assertEqual([member.name for member in enum], words[first:])
@@ -228,6 +228,36 @@ class Writing(unittest.TestCase):
         self.assertIsNone(host.answer(b""))
         self.assertRaisesRegex(WireError, "LK_NO_VERSION", replace(host, ipv4=host.ipv6).answer, b"")
         self.assertRaises(ValueError, replace(host, open_ports=(65536,)).answer, b"")
+
+    def test_ndisc(self):
+        own, client, server = IPV6.ethernet, IPV6.src.addr, IPV6.dst.addr
+        for ndisc in (Ndisc(server, CLIENT), Ndisc(server, None, True, True, False, True), Ndisc(server, b"12345 ", True)):
+            data = ip_wire.emit_ndisc(own, client, server, ndisc)
+            self.assertEqual((ip_wire.parse_ndisc(data), len(data)), (ndisc, 86 if ndisc.hardware else 78))
+            self.assertIsNone(ip_wire.parse_ndisc(data[:21] + b"\xfe" + data[22:]))  # the hop limit
+        host = Host(SERVER, IPV4.dst.addr, server, 99)
+        answer = ip_wire.parse_ndisc(host.answer(ip_wire.emit_ndisc(own, client, server, Ndisc(server, CLIENT))))
+        self.assertEqual((answer.target, answer.hardware, answer.is_solicited), (server, SERVER, True))
+        self.assertRaisesRegex(WireError, "LK_NO_VERSION", ip_wire.emit_ndisc, own, client, server, Ndisc(IPV4.src.addr))
+        self.assertRaises(ValueError, ip_wire.emit_ndisc, own, client, server, Ndisc(server, b"12345"))
+
+    def test_errors(self):
+        own = Interface(SERVER, IPv4Address("192.0.2.254"))
+        packet = ip_wire.emit_udp(IPV4, b"ping")
+        for problem, code, mtu in [(Problem.ROUTE_MISSING, 0, 0), (Problem.NEIGHBOUR_MISSING, 1, 0),
+                                   (Problem.PORT_CLOSED, 3, 0), (Problem.PACKET_TOO_BIG, 4, 30),
+                                   (Problem.PROHIBITED, 13, 0)]:  # fmt: skip
+            error = ip_wire.parse_frame(own.emit_error(problem, packet, mtu))
+            error.check()
+            self.assertEqual((error.icmp, error.payload), (Icmp(3, code, mtu), packet[14:]))
+            self.assertEqual((error.src.addr, error.dst.addr), (own.ipv4, IPV4.src.addr))
+        last = replace(IPV4, ip=Ip(hop_limit=1))
+        error = ip_wire.parse_frame(own.emit_error(Problem.HOP_LIMIT_EXPIRED, ip_wire.emit_udp(last, bytes(2000))))
+        self.assertEqual((error.icmp, len(error.data)), (Icmp(11), 14 + 576))
+        self.assertIsNone(own.emit_error(Problem.HOP_LIMIT_EXPIRED, packet))
+        self.assertIsNone(own.emit_error(Problem.PACKET_TOO_BIG, packet, 32))
+        self.assertIsNone(own.emit_error(Problem.ROUTE_MISSING, ip_wire.emit_udp(IPV6, b"ping")))
+        self.assertRaises(ValueError, own.emit_error, Problem.PACKET_TOO_BIG, packet, -1)
 
     def test_rebuild(self):
         data = ip_wire.emit_udp(IPV4, b"ping")

@@ -1,4 +1,4 @@
-//! Ethernet II, ARP, IPv4, IPv6, UDP and TCP packets: safe calls of the C library `ip_wire`, every
+//! Ethernet II, ARP, IPv4, IPv6, ICMP, UDP and TCP packets: safe calls of the C library `ip_wire`, every
 //! contract of which is proved. `man 3 ip_wire` and `ip_wire.h` describe its behaviour in full.
 //!
 //! The crate is `no_std`, has no dependencies and allocates nothing. It is used by its path, as
@@ -54,6 +54,7 @@ mod error;
 mod frame;
 mod headers;
 mod host;
+mod icmp;
 mod sys;
 mod tcp;
 
@@ -63,6 +64,7 @@ pub use error::{Defect, Error, Network, Reason, Transport, Verdict};
 pub use frame::Frame;
 pub use headers::{Arp, Ethernet, Headers, Icmp, Ip};
 pub use host::Host;
+pub use icmp::{Interface, Ndisc, Problem};
 pub use tcp::{
     RawOption, RawOptions, SackRange, SackRanges, SeqNumber, Tcp, TcpFlags, TcpOptions, Timestamp,
 };

@@ -173,6 +173,23 @@ structs! {
         icmp: Icmp,
     }
 
+    #[derive(Default)]
+    struct Ndisc = lk_ndisc {
+        target: Addr,
+        hardware: [u8; 6],
+        has_hardware: u8,
+        is_advert: u8,
+        is_router: u8,
+        is_solicited: u8,
+        overrides: u8,
+    }
+
+    struct Interface = lk_interface {
+        ipv4: Addr,
+        ipv6: Addr,
+        hardware: [u8; 6],
+    }
+
     struct Host = lk_host {
         open_ports: *const u16,
         open_port_count: usize,
@@ -230,6 +247,11 @@ calls! {
     fn lk_subtract_seq(a: u32, b: u32) -> i32;
     fn lk_compare_seq(a: u32, b: u32) -> c_int;
     fn lk_rebuild(ptr: *const u8, len: usize, out: *mut u8, cap: usize) -> isize;
+    fn lk_read_ndisc(frame: *const u8, len: usize, ndisc: *mut Ndisc) -> c_int;
+    fn lk_emit_ndisc_frame(headers: *const Frame, ndisc: *const Ndisc, out: *mut u8, cap: usize) -> isize;
+    fn lk_emit_icmp_error(
+        own: *const Interface, problem: c_int, mtu: u32, frame: *const u8, len: usize, out: *mut u8, cap: usize
+    ) -> isize;
     fn lk_answer(host: *const Host, ptr: *const u8, len: usize, out: *mut u8, cap: usize) -> isize;
 }
 

@@ -1,7 +1,7 @@
 //! Compares the declarations with `ip_wire.h`, by a C compiler.
 
 use super::{CALLS, STRUCTS};
-use crate::{Error, Network, Reason, Transport, Verdict};
+use crate::{Error, Network, Problem, Reason, Transport, Verdict};
 use core::ffi::{c_char, c_int, CStr};
 use std::fmt::Write;
 use std::process::Command;
@@ -80,6 +80,16 @@ fn numbers<T: core::fmt::Debug + Copy>(of_number: fn(usize) -> Option<T>, count:
     })
 }
 
+/// The same of each problem.
+fn problems() -> String {
+    use Problem::*;
+    let all = [HopLimitExpired, PacketTooBig(0), RouteMissing, NeighbourMissing, PortClosed, Prohibited];
+    all.iter().fold(String::new(), |c, problem| {
+        let name = c_name(format!("{problem:?}").trim_end_matches("(0)"));
+        c + &format!("_Static_assert({name} == {}, \"{name}\");\n", problem.number())
+    })
+}
+
 #[test]
 fn declarations_are_those_of_the_header() {
     let compiler = env::var("CC").unwrap_or_else(|_| "cc".to_string());
@@ -92,6 +102,7 @@ fn declarations_are_those_of_the_header() {
         numbers(Verdict::of_number, 5),
         numbers(Network::of_number, 3),
         numbers(Transport::of_number, 3),
+        problems(),
     ];
     let folder = env::temp_dir().join(format!("ip_wire_{}", std::process::id()));
     fs::create_dir_all(&folder).unwrap();

@@ -4,6 +4,7 @@ mod common;
 
 use common::{headers, ipv4, ipv6, CLIENT, SERVER};
 use ip_wire::*;
+use std::net::Ipv6Addr;
 
 const OUT: [u8; 200] = [0xee; 200];
 
@@ -106,6 +107,64 @@ fn rebuilding_removes_padding() {
     let (mut bytes, mut out) = (OUT, OUT);
     let len = ipv6().emit_udp(b"ping", &mut bytes).unwrap().len();
     assert_eq!(rebuild(&bytes, &mut out).unwrap(), &bytes[..len]);
+}
+
+#[test]
+fn neighbours_are_asked_and_tell() {
+    let (own, all) = (ipv6().ethernet, EthernetAddr([0x33, 0x33, 0, 0, 0, 1]));
+    let (client, server) = ("2001:db8::1".parse().unwrap(), "2001:db8::2".parse().unwrap());
+    let ask = Ndisc::solicitation(server, CLIENT.into());
+    let tell = Ndisc {
+        hardware: None,
+        is_advert: true,
+        is_router: true,
+        is_solicited: false,
+        overrides: true,
+        ..ask
+    };
+    let mut out = OUT;
+    for (ndisc, len) in [(ask, 86), (tell, 78)] {
+        let frame = ndisc.emit(&own, client, server, &mut out).unwrap();
+        assert_eq!((frame.len(), Ndisc::parse(frame)), (len, Some(ndisc)));
+        assert_eq!(Frame::parse(frame).ip().unwrap().hop_limit, 255);
+        frame[21] = 254; // the hop limit
+        assert_eq!(Ndisc::parse(frame), None);
+        assert_eq!(ndisc.emit(&own, client, server, &mut out[..len - 1]), Err(Error::NoRoom));
+    }
+    let group = Ndisc { is_solicited: true, ..tell };
+    let frame =
+        group.emit(&Ethernet { dst: all, ..own }, client, "ff02::1".parse().unwrap(), &mut out).unwrap();
+    assert_eq!(Ndisc::parse(frame), None);
+
+    let frame = ask.emit(&own, client, server, &mut out).unwrap();
+    let mut answer = OUT;
+    let advert = Ndisc::parse(host(&[]).answer(frame, &mut answer).unwrap().unwrap()).unwrap();
+    assert_eq!((advert.target, advert.hardware, advert.is_solicited), (server, Some(SERVER.into()), true));
+}
+
+#[test]
+fn errors_quote_the_packet() {
+    let own =
+        Interface { ipv4: [192, 0, 2, 254].into(), ipv6: Ipv6Addr::UNSPECIFIED, hardware: SERVER.into() };
+    let (mut bytes, mut out) = (OUT, OUT);
+    let packet = ipv4().emit_udp(b"ping", &mut bytes).unwrap();
+    for (problem, code, word) in [
+        (Problem::RouteMissing, 0, 0),
+        (Problem::NeighbourMissing, 1, 0),
+        (Problem::PortClosed, 3, 0),
+        (Problem::PacketTooBig(30), 4, 30),
+        (Problem::Prohibited, 13, 0),
+    ] {
+        let error = Frame::parse(own.emit_error(problem, packet, &mut out).unwrap().unwrap());
+        assert_eq!((error.check(), error.icmp()), (Ok(()), Some(Icmp { icmp_type: 3, code, word })));
+        assert_eq!((error.payload(), error.src().unwrap().ip()), (&packet[14..], own.ipv4.into()));
+        assert_eq!(own.emit_error(problem, packet, &mut out[..10]), Err(Error::NoRoom));
+    }
+    // The hop limit is 64, the packet has 32 octets, and the interface has no IPv6 address.
+    assert_eq!(own.emit_error(Problem::HopLimitExpired, packet, &mut out), Ok(None));
+    assert_eq!(own.emit_error(Problem::PacketTooBig(32), packet, &mut out), Ok(None));
+    let packet = ipv6().emit_udp(b"ping", &mut bytes).unwrap();
+    assert_eq!(own.emit_error(Problem::RouteMissing, packet, &mut out), Ok(None));
 }
 
 fn host(open_ports: &[u16]) -> Host<'_> {

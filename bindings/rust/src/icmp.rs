@@ -1,0 +1,157 @@
+//! Neighbour discovery, and ICMP errors.
+
+use crate::emit::write;
+use crate::sys::{self, library};
+use crate::{Error, Ethernet, EthernetAddr};
+use core::ffi::c_int;
+use core::net::{IpAddr, Ipv4Addr, Ipv6Addr};
+
+/// A neighbour solicitation or advertisement (RFC 4861, sections 4.3 and 4.4).
+#[derive(Clone, Copy, Debug, PartialEq, Eq, Hash)]
+pub struct Ndisc {
+    /// The address that is asked for, or of the sender.
+    pub target: Ipv6Addr,
+    /// The link-layer address option: of the source in a solicitation, else of the target.
+    pub hardware: Option<EthernetAddr>,
+    /// Whether it is an advertisement. A solicitation has no flags.
+    pub is_advert: bool,
+    /// The flag R: the sender is a router.
+    pub is_router: bool,
+    /// The flag S: it answers a solicitation.
+    pub is_solicited: bool,
+    /// The flag O: the address replaces one that is known.
+    pub overrides: bool,
+}
+
+impl Ndisc {
+    /// A solicitation with the hardware address of its sender.
+    pub fn solicitation(target: Ipv6Addr, own: EthernetAddr) -> Self {
+        let hardware = Some(own);
+        Self { target, hardware, is_advert: false, is_router: false, is_solicited: false, overrides: false }
+    }
+
+    /// Parses the message in an Ethernet frame. `None`: the frame has none that is valid (RFC 4861, sections 7.1.1
+    /// and 7.1.2).
+    pub fn parse(frame: &[u8]) -> Option<Self> {
+        let mut fields = sys::Ndisc::default();
+        // SAFETY: there are `len` bytes at `ptr`, and `fields` is written alone.
+        let found = unsafe { library().lk_read_ndisc(frame.as_ptr(), frame.len(), &mut fields) };
+        match fields.target.ip()? {
+            IpAddr::V6(target) if found == 1 => Some(Self {
+                target,
+                hardware: (fields.has_hardware != 0).then(|| fields.hardware.into()),
+                is_advert: fields.is_advert != 0,
+                is_router: fields.is_router != 0,
+                is_solicited: fields.is_solicited != 0,
+                overrides: fields.overrides != 0,
+            }),
+            _ => None,
+        }
+    }
+
+    /// Writes a whole frame, of 78 octets or 86. The hop limit is 255. Fails with [`Error::NoRoom`].
+    ///
+    /// ```
+    /// use ip_wire::{Ethernet, EthernetAddr, Ndisc};
+    ///
+    /// let own = EthernetAddr([2, 0, 0, 0, 0, 1]);
+    /// let ask = Ndisc::solicitation("fe80::2".parse().unwrap(), own);
+    /// let to_group = Ethernet::new(own, EthernetAddr([0x33, 0x33, 0xff, 0, 0, 2]));
+    /// let (src, dst) = ("fe80::1".parse().unwrap(), "ff02::1:ff00:2".parse().unwrap());
+    /// let mut out = [0; 86];
+    /// assert_eq!(Ndisc::parse(ask.emit(&to_group, src, dst, &mut out).unwrap()), Some(ask));
+    /// ```
+    pub fn emit<'o>(
+        &self,
+        ethernet: &Ethernet,
+        src: Ipv6Addr,
+        dst: Ipv6Addr,
+        out: &'o mut [u8],
+    ) -> Result<&'o mut [u8], Error> {
+        let endpoint = |addr| sys::Endpoint { addr: IpAddr::V6(addr).into(), port: 0 };
+        let headers = sys::Frame {
+            ethernet: (*ethernet).into(),
+            src: endpoint(src),
+            dst: endpoint(dst),
+            ..sys::Frame::default()
+        };
+        let fields = sys::Ndisc {
+            target: IpAddr::V6(self.target).into(),
+            hardware: self.hardware.unwrap_or_default().0,
+            has_hardware: self.hardware.is_some().into(),
+            is_advert: self.is_advert.into(),
+            is_router: self.is_router.into(),
+            is_solicited: self.is_solicited.into(),
+            overrides: self.overrides.into(),
+        };
+        // SAFETY: headers and message are read alone, and there are `cap` bytes at `out`.
+        write(out, |c, out, cap| unsafe { c.lk_emit_ndisc_frame(&headers, &fields, out, cap) })
+    }
+}
+
+/// Why a packet was dropped.
+#[derive(Clone, Copy, Debug, PartialEq, Eq, Hash)]
+#[non_exhaustive]
+pub enum Problem {
+    /// The hop limit is 0 or 1.
+    HopLimitExpired,
+    /// The packet is longer than this MTU of the next link, and over IPv4 has DF.
+    PacketTooBig(u32),
+    /// There is no route.
+    RouteMissing,
+    /// The next hop has no hardware address.
+    NeighbourMissing,
+    /// Nothing is at the port.
+    PortClosed,
+    /// A filter rejects the packet.
+    Prohibited,
+}
+
+impl Problem {
+    pub(crate) fn number(self) -> c_int {
+        match self {
+            Self::HopLimitExpired => 1,
+            Self::PacketTooBig(_) => 2,
+            Self::RouteMissing => 3,
+            Self::NeighbourMissing => 4,
+            Self::PortClosed => 5,
+            Self::Prohibited => 6,
+        }
+    }
+}
+
+/// An interface of a host or router.
+#[derive(Clone, Copy, Debug, PartialEq, Eq, Hash)]
+pub struct Interface {
+    /// Its IPv4 address. 0.0.0.0 is none.
+    pub ipv4: Ipv4Addr,
+    /// Its IPv6 address. `::` is none.
+    pub ipv6: Ipv6Addr,
+    /// Its Ethernet address.
+    pub hardware: EthernetAddr,
+}
+
+impl Interface {
+    /// Writes an Ethernet frame with an ICMP error about a frame that came in by the interface, to its sender. `None`:
+    /// the frame may get none; `ip_wire.h` has the cases. Fails with [`Error::NoRoom`], but not with 1294 bytes.
+    ///
+    /// The caller limits the rate (RFC 1812, section 4.3.2.8; RFC 4443, section 2.4 f).
+    pub fn emit_error<'o>(
+        &self,
+        problem: Problem,
+        frame: &[u8],
+        out: &'o mut [u8],
+    ) -> Result<Option<&'o mut [u8]>, Error> {
+        let own = sys::Interface {
+            ipv4: IpAddr::V4(self.ipv4).into(),
+            ipv6: IpAddr::V6(self.ipv6).into(),
+            hardware: self.hardware.0,
+        };
+        let mtu = if let Problem::PacketTooBig(mtu) = problem { mtu } else { 0 };
+        // SAFETY: the interface is read alone, there are `len` bytes at `ptr` and `cap` bytes at `out`.
+        let error = write(out, |c, out, cap| unsafe {
+            c.lk_emit_icmp_error(&own, problem.number(), mtu, frame.as_ptr(), frame.len(), out, cap)
+        })?;
+        Ok(if error.is_empty() { None } else { Some(error) })
+    }
+}
