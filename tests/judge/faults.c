@@ -1,4 +1,4 @@
-/* Thirty-eight faults of a library, to test that the judge notices them. Each stands between the judge and the library
+/* Forty-five faults of a library, to test that the judge notices them. Each stands between the judge and the library
  * (ld --wrap), and the variable FAULT of the environment chooses it by its number. */
 #include <stdio.h>
 #include <stdlib.h>
@@ -45,6 +45,13 @@ enum fault {
     ECHO_FOR_A_UDP_MAPPING,
     ADVERT_NOT_SOLICITED,
     QUOTED_PACKET_LEFT,
+    WORD_OF_TWO_HALVES,
+    PROTOCOL_OF_IPV4,
+    HOP_LIMIT_64,
+    SERVED_PORT_CLOSED,
+    OTHER_PROBLEM,
+    ICMP_LIVES_AS_UDP,
+    ECHO_OF_0_REJECTED,
     FAULTS
 };
 
@@ -67,6 +74,10 @@ __attribute__((constructor)) static void choose(void)
         "neighbour discovery with another hop limit accepted", "flags in a neighbour solicitation",
         "an error without the MTU", "an error about an error", "an echo reply rejected without a UDP mapping",
         "an advertisement that is not solicited", "the packet in an ICMP error not translated",
+        "octets 4 to 7 of an ICMP header in another order", "ICMPv6 with the protocol of ICMP",
+        "neighbour discovery sent with hop limit 64", "an error about a UDP port that is served",
+        "LK_ROUTE_MISSING for LK_NEIGHBOUR_MISSING", "an ICMP mapping with the time-out of UDP",
+        "an echo identifier of 0 rejected",
     };
     const char *number = getenv("FAULT");
     fault = number ? (enum fault)atoi(number) : NO_FAULT;
@@ -101,9 +112,15 @@ int __real_lk_check_source(const struct lk_route *routes, size_t route_count, co
                            size_t count, const struct lk_addr *src, uint16_t interface);
 ptrdiff_t __real_lk_emit_icmp(const struct lk_icmp *header, const struct lk_addr *src, const struct lk_addr *dst,
                               const uint8_t *ptr, size_t len, int computed, uint8_t *out, size_t cap);
+ptrdiff_t __real_lk_emit_icmp_frame(const struct lk_frame *headers, const uint8_t *ptr, size_t len, uint8_t *out,
+                                    size_t cap);
+ptrdiff_t __real_lk_emit_ndisc_frame(const struct lk_frame *headers, const struct lk_ndisc *ndisc, uint8_t *out,
+                                     size_t cap);
 int __real_lk_read_ndisc(const uint8_t *frame, size_t len, struct lk_ndisc *ndisc);
 ptrdiff_t __real_lk_emit_icmp_error(const struct lk_interface *own, int problem, uint32_t mtu, const uint8_t *frame,
                                     size_t len, uint8_t *out, size_t cap);
+int __real_lk_translate_out(const struct lk_nat *nat, struct lk_mapping *mappings, size_t count, uint64_t now,
+                            uint8_t *frame, size_t len);
 int __real_lk_translate_in(const struct lk_nat *nat, struct lk_mapping *mappings, size_t count, uint64_t now,
                            uint8_t *frame, size_t len);
 
@@ -139,6 +156,8 @@ static void spoil_frame(struct lk_frame *frame, size_t len)
         frame->payload_offset += 4;
         frame->payload_len -= 4;
     }
+    if (fault == WORD_OF_TWO_HALVES)
+        frame->icmp.word = frame->icmp.word << 16 | frame->icmp.word >> 16;
     if (fault == SHORT_MESSAGE_READ && frame->ip.protocol == 1 && frame->network == LK_IPV4 && frame->payload_len == 7)
         frame->transport = LK_ICMP;
 }
@@ -221,6 +240,24 @@ ptrdiff_t __wrap_lk_emit_icmp(const struct lk_icmp *header, const struct lk_addr
     return result;
 }
 
+ptrdiff_t __wrap_lk_emit_icmp_frame(const struct lk_frame *headers, const uint8_t *ptr, size_t len, uint8_t *out,
+                                    size_t cap)
+{
+    ptrdiff_t result = __real_lk_emit_icmp_frame(headers, ptr, len, out, cap);
+    if (fault == PROTOCOL_OF_IPV4 && result > 0 && headers->src.addr.version == 6)
+        out[20] = 1;
+    return result;
+}
+
+ptrdiff_t __wrap_lk_emit_ndisc_frame(const struct lk_frame *headers, const struct lk_ndisc *ndisc, uint8_t *out,
+                                     size_t cap)
+{
+    ptrdiff_t result = __real_lk_emit_ndisc_frame(headers, ndisc, out, cap);
+    if (fault == HOP_LIMIT_64 && result > 0)
+        out[21] = 64;
+    return result;
+}
+
 int __wrap_lk_read_ndisc(const uint8_t *frame, size_t len, struct lk_ndisc *ndisc)
 {
     static uint8_t copy[0x20000];
@@ -277,6 +314,8 @@ ptrdiff_t __wrap_lk_emit_icmp_error(const struct lk_interface *own, int problem,
         copy[34] = 8;
         return __real_lk_emit_icmp_error(own, problem, mtu, copy, len, out, cap);
     }
+    if (fault == OTHER_PROBLEM && problem == LK_NEIGHBOUR_MISSING)
+        problem = LK_ROUTE_MISSING;
     result = __real_lk_emit_icmp_error(own, problem, mtu, frame, len, out, cap);
     if (fault == MTU_LEFT_OUT && result > 0 && problem == LK_PACKET_TOO_BIG) {
         uint8_t *message = out + (out[12] == 8 ? 34 : 54);
@@ -289,7 +328,11 @@ ptrdiff_t __wrap_lk_emit_icmp_error(const struct lk_interface *own, int problem,
 ptrdiff_t __wrap_lk_answer(const struct lk_host *host, const uint8_t *ptr, size_t len, uint8_t *out, size_t cap)
 {
     static uint8_t unicast[0x20000];
+    struct lk_host without = *host;
     ptrdiff_t result;
+    without.open_udp_port_count = 0;
+    if (fault == SERVED_PORT_CLOSED)
+        return __real_lk_answer(&without, ptr, len, out, cap);
     if (fault == ADVERT_NOT_SOLICITED) {
         result = __real_lk_answer(host, ptr, len, out, cap);
         if (result == 86 && out[12] == 0x86 && out[20] == 58 && out[54] == 136 && out[58] == 0x60)
@@ -365,7 +408,10 @@ int __wrap_lk_forward(uint8_t *frame, size_t len, const uint8_t *src, const uint
 
 int __wrap_lk_translate(uint8_t *frame, size_t len, int side, const struct lk_endpoint *end)
 {
-    return __real_lk_translate(frame, len, fault == SIDE_OF_ONE_OCTET ? side & 0xff : side, end);
+    int result = __real_lk_translate(frame, len, fault == SIDE_OF_ONE_OCTET ? side & 0xff : side, end);
+    if (fault == ECHO_OF_0_REJECTED && result == LK_NOT_REJECTED && end->port == 0 && frame[23] == 1)
+        return LK_ZERO_PORT;
+    return result;
 }
 
 /* Indexes the routes from the last to the first. */
@@ -389,6 +435,15 @@ int __wrap_lk_check_source(const struct lk_route *routes, size_t route_count, co
 {
     int result = __real_lk_check_source(routes, route_count, nodes, count, src, interface);
     return fault == RESERVED_SOURCE_ACCEPTED && src->version == 4 && src->octets[0] >= 240 ? LK_NOT_REJECTED : result;
+}
+
+int __wrap_lk_translate_out(const struct lk_nat *nat, struct lk_mapping *mappings, size_t count, uint64_t now,
+                            uint8_t *frame, size_t len)
+{
+    struct lk_nat other = *nat;
+    if (fault == ICMP_LIVES_AS_UDP)
+        other.icmp_timeout = nat->udp_timeout;
+    return __real_lk_translate_out(&other, mappings, count, now, frame, len);
 }
 
 int __wrap_lk_translate_in(const struct lk_nat *nat, struct lk_mapping *mappings, size_t count, uint64_t now,
