@@ -5,7 +5,7 @@ use Rattle.ip_wire.proofs.Residues.{residue-complement}
 use Rattle.ip_wire.proofs.Spelled.{AreBytes}
 use Rattle.ip_wire.specs.Field.{field, with_field, word_at}
 use Rattle.ip_wire.specs.WordSum.{residue, sum_of_bytes, words}
-use Rattle.wire_checksum.proofs.WordLists.{sum-words-cons}
+use Rattle.wire_icmp.proofs.WordLists.{sum-words-cons}
 use Rattle.ip_nat.proofs.Words.{high-spelled, low-spelled, word}
 use Rattle.ip_nat.specs.Nat.{HasUsualSum, with_echo_ident}
 

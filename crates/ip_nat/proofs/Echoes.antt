@@ -18,7 +18,7 @@ use Rattle.ip_nat.specs.Nat.{IsMessage, IsRejectedTransport, Parses, ReadsMessag
 use Rattle.ip_nat.specs.declared.nat.Rejection.TheVariants.{OtherProtocol}
 use Rattle.ip_nat.specs.declared.nat.Side.{Side}
 use Rattle.ip_nat.specs.declared.nat.Side.TheVariants.{Source, Destination}
-use Rattle.wire_ends.specs.declared.ip_version.IpVersion.TheVariants as version
+use Rattle.ip_wire.specs.declared.IpVersion.TheVariants as version
 use Rattle.wire_icmp.specs.Icmp as icmp
 use Rattle.wire_icmp.specs.Icmp.{exceeded_by, message_of, payload_of, unreachable_by}
 use Rattle.wire_icmp.specs.declared.icmp.repr.IcmpRepr.{IcmpRepr}

@@ -12,7 +12,7 @@ use Rattle.ip_wire.specs.Types.{IpProtocol, Ipv4, Ipv4Repr}
 use Rattle.ip_wire.specs.Ethernet as ethernet
 use Rattle.ip_wire.specs.Frame.{ReadsPacket, all_checked, ipv4_payload}
 use Rattle.ip_wire.proofs.Residues.{residue-complement}
-use Rattle.wire_checksum.proofs.WordLists.{sum-words-cons}
+use Rattle.wire_icmp.proofs.WordLists.{sum-words-cons}
 use Rattle.ip_nat.proofs.Translates.{inner-payload, link-stays, payload-len}
 use Rattle.ip_wire.specs.Udp as udp
 use Rattle.ip_wire.specs.Tcp as tcp
