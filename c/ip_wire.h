@@ -830,8 +830,9 @@ struct lk_mapping {
  * - Echo requests go out, and echo replies come in (RFC 5508, section 3). The others get LK_NO_MAPPING.
  * - An ICMP error is translated with the packet that it quotes, of which at least the IPv4 header and 8 octets must be
  *   there (RFC 5508, section 4). One that comes in quotes a packet of a live mapping, from its outside port; one that
- *   leaves quotes a packet to the inside endpoint of a live mapping. All checksums are updated. An error neither
- *   restarts a time-out nor ends a connection. Errors about other packets get LK_NO_MAPPING. */
+ *   leaves quotes a packet to the inside endpoint of a live mapping. All checksums are updated; one in the quoted
+ *   packet may be wrong, and stays wrong then. An error neither restarts a time-out nor ends a connection. Errors about
+ *   other packets get LK_NO_MAPPING. */
 int lk_translate_out(const struct lk_nat *nat, struct lk_mapping *mappings, size_t count, uint64_t now, uint8_t *frame,
                      size_t len);
 int lk_translate_in(const struct lk_nat *nat, struct lk_mapping *mappings, size_t count, uint64_t now, uint8_t *frame,

@@ -208,16 +208,16 @@ def port_of(packet, side):
 
 
 def with_end(header, body, side, addr, port):
-    """The header and what is behind it, with another address and port on this side. The checksum of the header is computed."""
+    """The header and what is behind it, with another address and port on this side. The checksums are left."""
     at, place = 12 + 4 * side, port_at(header[9], side)
-    header = with_header_checksum(header[:at] + addr + header[at + 4 :])
-    return header, body[:place] + port.to_bytes(2, "big") + body[place + 2 :]
+    return header[:at] + addr + header[at + 4 :], body[:place] + port.to_bytes(2, "big") + body[place + 2 :]
 
 
 def translated(frame, side, addr, port):
     """The frame with another address and port on this side, with computed checksums."""
     packet = Packet(frame)
     header, body = with_end(packet.header, packet.payload, side, addr, port)
+    header = with_header_checksum(header)
     place, length = {UDP: (6, number(body[4:6])), TCP: (16, len(body)), ICMP: (2, len(body))}[packet.protocol]
     if packet.protocol != UDP or body[6:8] != b"\0\0":
         zeroed = body[:place] + b"\0\0" + body[place + 2 :]
@@ -234,7 +234,7 @@ def quoted_end(packet, side):
     """The protocol, address and port of the quoted packet on this side, or None if it cannot be translated."""
     quoted = packet.payload[8:]
     header_len = quoted[0] % 16 * 4 if quoted else 0
-    if not quoted or quoted[0] >> 4 != 4 or header_len < 20 or len(quoted) < header_len + 8 or not is_summed(quoted[:header_len]):
+    if not quoted or quoted[0] >> 4 != 4 or header_len < 20 or len(quoted) < header_len + 8:
         return None
     protocol, body = quoted[9], quoted[header_len:]
     is_known = protocol in (UDP, TCP) or (protocol == ICMP and body[0] == (8 if side == SOURCE else 0))
@@ -246,7 +246,7 @@ def quoted_end(packet, side):
 
 def with_quoted(frame, side, addr, port):
     """The frame with an error that quotes a packet with another address and port, and its own other side with this address.
-    The checksum of the quoted packet changes by as much as what it covers: it may have been wrong or cut."""
+    Each checksum of the quoted packet changes by as much as what it covers: it may have been wrong, and that of TCP cut."""
     packet = Packet(frame)
     old, header_len = packet.payload[8:], packet.payload[8] % 16 * 4
     header, body = with_end(old[:header_len], old[header_len:], side, addr, port)
@@ -257,8 +257,8 @@ def with_quoted(frame, side, addr, port):
         after = body[:4] if old[9] != ICMP else body[4:6]
         if old[9] != ICMP:
             before, after = before + old[12:20], after + header[12:20]
-        total = (0xFFFF - number(body[place : place + 2])) + (0xFFFF - word_sum(before)) + word_sum(after)
-        body = body[:place] + updated(total, old[9] == UDP) + body[place + 2 :]
+        body = body[:place] + updated(body[place : place + 2], before, after, old[9] == UDP) + body[place + 2 :]
+    header = header[:10] + updated(header[10:12], old[12:20], header[12:20], False) + header[12:]
     message = packet.payload[:2] + b"\0\0" + packet.payload[4:8] + header + body
     message = message[:2] + (0xFFFF - word_sum(message)).to_bytes(2, "big") + message[4:]
     at = 12 + 4 * (1 - side)
@@ -266,8 +266,9 @@ def with_quoted(frame, side, addr, port):
     return frame[:14] + outer + message + frame[14 + packet.total_len :]
 
 
-def updated(total, is_udp):
-    """The checksum field of this sum of words (RFC 1624)."""
+def updated(checksum, before, after, is_udp):
+    """The checksum field after words that it covers changed (RFC 1624)."""
+    total = (0xFFFF - number(checksum)) + (0xFFFF - word_sum(before)) + word_sum(after)
     while total > 0xFFFF:
         total = (total & 0xFFFF) + (total >> 16)
     return (0xFFFF - total or 0xFFFF * is_udp).to_bytes(2, "big")

@@ -362,6 +362,7 @@ static void translate_echoes(void)
     GOES_OUT(0, nat_request, nat_request_out);
     COMES_IN(1, nat_reply_in, nat_reply);
     COMES_IN(2, nat_error_in, nat_error);
+    COMES_IN(3, nat_error_unsummed_in, nat_error_unsummed);
     COMES_IN(59999, nat_reply_in, nat_reply);
     STAYS_OUT(60000, nat_reply_in, LK_NO_MAPPING);
     STAYS_OUT(60000, nat_error_in, LK_NO_MAPPING);

@@ -254,6 +254,9 @@ def error_frame(model, name, end):
             1: lambda: icmp.message(8 if name == "right" else 0, 0, ident, data, src, dst)}[protocol]()
     quoted = packets.header(len(body), protocol=protocol, src=src, dst=dst, hop_limit=random.randrange(256),
                             options=b"\1" * random.choice((0, 0, 8)), flags=random.choice((0, 0x4000, 0x2000, 1))) + body
+    if random.random() < 0.3:
+        # Some routers lower the hop limit, and leave the checksum.
+        quoted = quoted[:8] + bytes([1]) + quoted[9:]
     quoted = quoted[: random.choice((len(quoted), len(quoted), 28, 36, 27))]
     host = bytes([198, 18, 0, 9]) if name == "right" else bytes([203, 0, 113, 9])
     to = model.outside.packed if name == "right" else remote[0]

@@ -145,20 +145,23 @@ static void translate_by_anything(void)
     end_call(1, library_in(&it, made.len, made.len) >= 0);
 }
 
-/* Makes an ICMP error about a packet that was translated: from a host, or to the outside address. */
-static void make_error(const struct kept *kept, int is_in)
+/* Makes an ICMP error about a packet that was translated: from a host, or to the outside address. Some routers lower the
+ * hop limit in what they quote, and leave the checksum of the header. */
+static void make_error(struct kept kept, int is_in)
 {
     static const uint8_t types[] = {3, 3, 11, 12, 5, 4};
     struct lk_addr src = any_addr(4), dst = any_addr(4);
     struct lk_icmp icmp = {0, types[below(6)], (uint8_t)below(5)};
     struct lk_ip ip = {0};
-    size_t len = one_in(4) ? below(kept->len + 1) : kept->len, at;
+    size_t len = one_in(4) ? below(kept.len + 1) : kept.len, at;
     if (is_in && !one_in(8))
         memcpy(dst.octets, nat.outside, 4);
     ip.hop_limit = 9;
+    if (one_in(4))
+        kept.octets[8]--;
     put_word(made.octets + 12, 0x0800);
     at = 14 + put_ip(&ip, &src, &dst, 1, 8 + len, 1, made.octets + 14);
-    at += put_icmp(&icmp, &src, &dst, kept->octets, len, 1, made.octets + at);
+    at += put_icmp(&icmp, &src, &dst, kept.octets, len, 1, made.octets + at);
     made.len = at;
     if (one_in(16)) {
         made.octets[34 + below(at - 34)] ^= (uint8_t)(1u << below(8));
@@ -180,10 +183,10 @@ void translate_frames(void)
     while (steps-- > 0) {
         make_packet();
         if (one_in(4) && left.len != 0) {
-            make_error(&left, 1);
+            make_error(left, 1);
             translate_in(made.len, made.len);
         } else if (one_in(4) && entered.len != 0) {
-            make_error(&entered, 0);
+            make_error(entered, 0);
             translate_out(made.len, made.len);
         } else if (one_in(2)) {
             translate_out(made.len, made.len);

@@ -1,4 +1,4 @@
-/* Forty-five faults of a library, to test that the judge notices them. Each stands between the judge and the library
+/* Faults of a library, to test that the judge notices them. Each stands between the judge and the library
  * (ld --wrap), and the variable FAULT of the environment chooses it by its number. */
 #include <stdio.h>
 #include <stdlib.h>
@@ -52,6 +52,7 @@ enum fault {
     OTHER_PROBLEM,
     ICMP_LIVES_AS_UDP,
     ECHO_OF_0_REJECTED,
+    QUOTED_CHECKSUM_VERIFIED,
     FAULTS
 };
 
@@ -78,6 +79,7 @@ __attribute__((constructor)) static void choose(void)
         "neighbour discovery sent with hop limit 64", "an error about a UDP port that is served",
         "LK_ROUTE_MISSING for LK_NEIGHBOUR_MISSING", "an ICMP mapping with the time-out of UDP",
         "an echo identifier of 0 rejected",
+        "an error rejected for a quoted checksum",
     };
     const char *number = getenv("FAULT");
     fault = number ? (enum fault)atoi(number) : NO_FAULT;
@@ -468,6 +470,9 @@ int __wrap_lk_translate_in(const struct lk_nat *nat, struct lk_mapping *mappings
     result = __real_lk_translate_in(nat, mappings, count, time, frame, len);
     if (fault == QUOTED_PACKET_LEFT && result == LK_NOT_REJECTED && f.transport == LK_ICMP && f.icmp.type != 0)
         memcpy(frame + f.payload_offset, before + f.payload_offset, f.payload_len);
+    if (fault == QUOTED_CHECKSUM_VERIFIED && result == LK_NOT_REJECTED && f.transport == LK_ICMP && f.icmp.type != 0 &&
+        lk_checksum(before + f.payload_offset, 4u * (before[f.payload_offset] & 15)) != 0xffff)
+        return LK_BAD_TRANSPORT;
     if (fault == KEPT_ALIVE_BY_INBOUND && result == LK_NOT_REJECTED && f.transport == LK_UDP)
         mapping->expires = now + nat->udp_timeout;
     return result;

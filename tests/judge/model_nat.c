@@ -156,12 +156,11 @@ struct quoted {
 };
 
 /* At least the IPv4 header and 8 octets, no later fragment, and of ICMP an echo message whose identifier the host on
- * this side chose. */
+ * this side chose. The checksum of the header may be wrong: some routers lower the hop limit and leave it. */
 static int find_quoted(uint8_t *ptr, size_t len, int side, struct quoted *quoted)
 {
     size_t header_len = len == 0 ? 0 : 4u * (ptr[0] & 15);
-    if (len == 0 || ptr[0] >> 4 != 4 || header_len < 20 || header_len + 8 > len || (get_word(ptr + 6) & 0x1fff) != 0 ||
-        model_checksum(ptr, header_len) != 0xffff)
+    if (len == 0 || ptr[0] >> 4 != 4 || header_len < 20 || header_len + 8 > len || (get_word(ptr + 6) & 0x1fff) != 0)
         return 0;
     quoted->header = ptr;
     quoted->behind = ptr + header_len;

@@ -1,5 +1,5 @@
 -- A quoted packet with another address and port.
-use Rattle.std.proofs.Common.{ℕ, ◌≡◌, ◌≤◌, ◌<◌, ◌+◌, ◌-◌, ◌*◌, ◌/◌, ◌%◌, ◌==◌, if◌then◌else◌, Bool, true, false, Some, None, List, ◌∷◌, ◌++◌, length, drop, take, slice_index, sum, refl, sym, ap, subst, ◌∙◌, append_assoc, arith, length-append, length-drop}
+use Rattle.std.proofs.Common.{ℕ, ◌≡◌, ◌↔◌, ◌≤◌, ◌<◌, ◌+◌, ◌-◌, ◌*◌, ◌/◌, ◌%◌, ◌==◌, if◌then◌else◌, Bool, true, false, Some, None, List, ◌∷◌, ◌++◌, length, drop, take, slice_index, sum, refl, sym, ap, subst, ◌∙◌, append_assoc, arith, length-append, length-drop}
 use Rattle.std.proofs.Math.Seq.{take-append-add}
 use Rattle.std.proofs.lemmas.List.{drop-drop, length-take-le, take-append-drop, take_at}
 use Rattle.ip_wire.proofs.Cells.{cells, cells-all, cells-drop, word_high, word_low}
@@ -26,7 +26,7 @@ use Rattle.ip_nat.proofs.Payloads.{drop-front, range-len}
 use Rattle.ip_nat.proofs.TcpEnds.{tcp-ported, tcp-whole}
 use Rattle.ip_nat.proofs.UdpEnds.{udp-ported, udp_next, whole}
 use Rattle.ip_nat.proofs.Words.{spelled, spelled-fits, spelled-word, word}
-use Rattle.ip_nat.specs.Errors.{CarriesError, HasHeader, IsErrorTranslated, Quotes, Reports, error_packet, opposite, is_error, with_message_checksum, behind, echo_type, end_bit, flow_by, quoting}
+use Rattle.ip_nat.specs.Errors.{CarriesError, IsErrorTranslated, Quotes, Reports, error_packet, opposite, is_error, with_message_checksum, behind, echo_type, end_bit, flow_by, quoted_of, quoting}
 use Rattle.ip_nat.specs.Nat.{addr_at, port_bit, with_addr, with_address, with_end_by, with_tcp_end, with_udp_end}
 use Rattle.ip_nat.specs.declared.errors.Quoted.{Quoted}
 use Rattle.ip_nat.specs.declared.nat.Side.{Side}
@@ -167,22 +167,27 @@ inner-len bytes part room e =
     length-append (take h bytes) part ∙ omega (arith, length-take-le h bytes room, e, length-drop h bytes, room)
 
 -- it has the same header
-pub inner-header : (bytes part : List ℕ) → length part ≡ length (behind bytes) → HasHeader bytes → HasHeader (inner_of bytes part)
-inner-header bytes part e r =
+pub record SameInner (bytes inner : List ℕ) : Type 0 where
+  pub least : 20 ≤ header_len inner
+  pub whole : header_len inner ≤ length inner
+  pub summed : sum_of_bytes (take (header_len inner) inner) ≡ sum_of_bytes (take (header_len bytes) bytes)
+
+pub inner-header : (bytes part : List ℕ) → length part ≡ length (behind bytes) → 20 ≤ header_len bytes → header_len bytes ≤ length bytes → SameInner bytes (inner_of bytes part)
+inner-header bytes part e least room =
     let h = header_len bytes in
-    let same = same-header bytes part h r.least r.whole in
+    let same = same-header bytes part h least room in
     record {
-      least = omega (arith, same.header, r.least);
-      whole = omega (arith, same.header, inner-len bytes part r.whole e, r.whole);
-      checksum = ap (λ (k : ℕ). sum_of_bytes (take k (inner_of bytes part))) same.header
-          ∙ ap sum_of_bytes (take_at (take h bytes) part h (length-take-le h bytes r.whole)) ∙ r.checksum;
+      least = omega (arith, same.header, least);
+      whole = omega (arith, same.header, inner-len bytes part room e, room);
+      summed = ap (λ (k : ℕ). sum_of_bytes (take k (inner_of bytes part))) same.header
+          ∙ ap sum_of_bytes (take_at (take h bytes) part h (length-take-le h bytes room));
     }
 
 -- the quoted packet, once its address and the bytes behind its header are written
 pub requoted : (side : Side) (bytes part new addr : List ℕ) (port : ℕ) (p : Protocol) (q : Quoted) → length addr ≡ 4 → q.protocol ≡ p
     → new ≡ with_address side addr (inner_of bytes part) → length part ≡ length (behind bytes) → field part (end_bit p side) 16 ≡ port
-    → (p ≡ flow.Icmp → field part 0 8 ≡ field (behind bytes) 0 8) → HasHeader new → Quotes side bytes q → Quotes side new (quoting q addr port)
-requoted side bytes part new addr port p q four named at e written type sum r =
+    → (p ≡ flow.Icmp → field part 0 8 ≡ field (behind bytes) 0 8) → Quotes side bytes q → Quotes side new (quoting q addr port)
+requoted side bytes part new addr port p q four named at e written type r =
     let h = header_len bytes in
     let room : h ≤ length bytes = omega (arith, r.room) in
     let inner = inner_of bytes part in
@@ -198,10 +203,9 @@ requoted side bytes part new addr port p q four named at e written type sum r =
     let kept = flow-kept side (protocol_of (field bytes 72 8)) (field (behind bytes) 0 8) (field part 0 8) q.protocol (λ is. type (sym named ∙ is)) r.flow in
     record {
       version = ap (λ (l : List ℕ). field l 0 4) at ∙ k.shape.version ∙ same.version ∙ r.version;
-      header = sum.least;
+      header = omega (arith, header, r.header);
       room = omega (arith, header, ap length at, k.long, long, r.room);
       first = offset ∙ r.first;
-      checksum = sum.checksum;
       flow = (λ i. flow_by side (protocol_of (proto i)) (field (back i) 0 8)) ∙ kept;
       addr = sym k.written ∙ ap (addr_at side) (sym at);
       port = sym ((λ i. field (back i) (end_bit (named i) side) 16) ∙ written);
@@ -210,14 +214,14 @@ requoted side bytes part new addr port p q four named at e written type sum r =
 -- ---- the message
 
 -- the type of a message and what is behind its header, once another part is behind it and the checksum is computed
-record IsMessage (old new part : List ℕ) : Type 0 where
-  type : field new 0 8 ≡ field old 0 8
-  behind : drop 8 new ≡ part
+pub record IsMessage (old new part : List ℕ) : Type 0 where
+  pub type : field new 0 8 ≡ field old 0 8
+  pub behind : drop 8 new ≡ part
 
 message_cells : (front rest part : List ℕ) → IsMessage (cells 8 front ++ rest) (with_message_checksum (cells 8 front ++ part)) part
 message_cells front rest part = record { type = refl; behind = refl }
 
-message : (bytes part : List ℕ) → 8 ≤ length bytes → IsMessage bytes (with_message_checksum (take 8 bytes ++ part)) part
+pub message : (bytes part : List ℕ) → 8 ≤ length bytes → IsMessage bytes (with_message_checksum (take 8 bytes ++ part)) part
 message bytes part room =
     subst (λ (l : List ℕ). IsMessage l (with_message_checksum (take 8 bytes ++ part)) part) (take-append-drop 8 bytes)
     (subst (λ (f : List ℕ). IsMessage (f ++ drop 8 bytes) (with_message_checksum (f ++ part)) part) (sym (cells-all 8 (take 8 bytes) (length-take-le 8 bytes room)))
@@ -287,6 +291,7 @@ packet-with bytes part new v side addr four reads e at step =
 pub error-translated : (frame new body : List ℕ) (side : Side) (v : Ipv4Repr) (q : Quoted) (addr : List ℕ) (port : ℕ) → CarriesError side frame v q
     → new ≡ take 14 frame ++ body → body ≡ error_packet q.protocol side addr port (drop 14 frame)
     → ReadsPacket all_checked body (Ipv4 (with_addr (opposite side) addr v)) × Reports side (ipv4_payload body) (quoting q addr port)
+    × (ipv4.HasChecksum (quoted_of (drop 14 frame)) ↔ ipv4.HasChecksum (quoted_of body))
     → IsErrorTranslated frame new side v q addr port
 error-translated frame new body side v q addr port was at is after =
     let front : length (take 14 frame) ≡ 14 = length-take-le 14 frame was.is.reads.whole in
@@ -300,5 +305,6 @@ error-translated frame new body side v q addr port was at is after =
         names = same-protocol (opposite side) addr v ∙ was.names;
         reports = subst (λ (l : List ℕ). Reports side (ipv4_payload l) (quoting q addr port)) (sym back) after.1;
       };
+      summed = subst (λ (l : List ℕ). ipv4.HasChecksum (quoted_of (drop 14 frame)) ↔ ipv4.HasChecksum (quoted_of l)) (sym back) after.2;
       bytes = at ∙ ap (λ (l : List ℕ). take 14 frame ++ l) is;
     }

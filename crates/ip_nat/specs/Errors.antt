@@ -1,5 +1,5 @@
 -- ICMP errors over IPv4, and the packet that they quote (RFC 5508, section 4; RFC 3022, section 4.3).
-use Rattle.std.specs.Prelude.{ℕ, ◌≡◌, ◌+◌, ◌-◌, ◌≤◌, ◌++◌, ◌==◌, ◌||◌, nat_lt, if◌then◌else◌, Bool, true, false, List, Option, Some, None, length, drop, take}
+use Rattle.std.specs.Prelude.{ℕ, ◌≡◌, ◌↔◌, ◌+◌, ◌-◌, ◌≤◌, ◌++◌, ◌==◌, ◌||◌, nat_lt, if◌then◌else◌, Bool, true, false, List, Option, Some, None, length, drop, take}
 use Rattle.ip_flows.specs.Table.{IsUnmapped, MapsTo}
 use Rattle.ip_flows.specs.declared.Ipv4Endpoint.{Ipv4Endpoint}
 use Rattle.ip_flows.specs.declared.Mapping.{Mapping}
@@ -55,25 +55,23 @@ end_bit flow.Udp side = port_bit side
 end_bit flow.Tcp side = port_bit side
 end_bit flow.Icmp side = 32
 
--- the bytes hold a whole IPv4 header, with options if there are any, with a valid checksum
-pub record HasHeader (bytes : List ℕ) : Type 0 where
-  pub least : 20 ≤ header_len bytes
-  pub whole : header_len bytes ≤ length bytes
-  pub checksum : ipv4.HasChecksum bytes
-
 -- The bytes begin with a packet of this protocol from or to this endpoint, as an error quotes it: at least its IPv4 header and
--- 8 octets. The checksum of the header is valid. Only a first fragment has ports.
+-- 8 octets. The checksum of the header may be wrong, since some routers lower the hop limit and quote the old checksum. Only a
+-- first fragment has ports.
 pub record Quotes (side : Side) (bytes : List ℕ) (q : Quoted) : Type 0 where
   pub version : field bytes 0 4 ≡ 4
   pub header : 20 ≤ header_len bytes
   pub room : header_len bytes + 8 ≤ length bytes
   pub first : fragment_offset bytes ≡ 0
-  pub checksum : ipv4.HasChecksum bytes
   pub flow : flow_by side (protocol_of (field bytes 72 8)) (field (behind bytes) 0 8) ≡ Some q.protocol
   pub addr : q.end.addr ≡ addr_at side bytes
   pub port : q.end.port ≡ field (behind bytes) (end_bit q.protocol side) 16
 
 -- ---- frames
+
+-- what an ICMP error in this IPv4 packet quotes: the bytes behind the 8 octets of the ICMP header
+abbrev pub quoted_of : List ℕ → List ℕ
+quoted_of packet = drop 8 (ipv4_payload packet)
 
 -- the bytes are an ICMP error with a valid checksum that quotes this packet
 pub record Reports (side : Side) (bytes : List ℕ) (q : Quoted) : Type 0 where
@@ -81,7 +79,8 @@ pub record Reports (side : Side) (bytes : List ℕ) (q : Quoted) : Type 0 where
   pub checksum : sum_of_bytes bytes ≡ 65535
   pub quotes : Quotes side (drop 8 bytes) q
 
--- the frame carries an ICMP error with this IPv4 header, no fragment, that quotes this packet; all checksums are valid
+-- The frame carries an ICMP error with this IPv4 header, no fragment, that quotes this packet. The checksums of the IPv4 header
+-- and of the error are valid.
 pub record CarriesError (side : Side) (frame : List ℕ) (header : Ipv4Repr) (q : Quoted) : Type 0 where
   pub link : EthernetRepr
   pub is : IsIpv4Frame frame link
@@ -150,11 +149,12 @@ abbrev pub quoting : Quoted → List ℕ → ℕ → Quoted
 quoting q addr port = record q { end = record { addr = addr; port = port } }
 
 -- The old frame carries an error that quotes this packet. The new one carries the same error with valid checksums: it quotes
--- the packet with the other address and port on this side, and has this address on the opposite side of its own header.
--- These are all the bytes.
+-- the packet with the other address and port on this side, and has this address on the opposite side of its own header. The
+-- checksum of the quoted header is valid exactly if it was. These are all the bytes.
 pub record IsErrorTranslated (old new : List ℕ) (side : Side) (header : Ipv4Repr) (q : Quoted) (addr : List ℕ) (port : ℕ) : Type 0 where
   pub before : CarriesError side old header q
   pub after : CarriesError side new (with_addr (opposite side) addr header) (quoting q addr port)
+  pub summed : ipv4.HasChecksum (quoted_of (drop 14 old)) ↔ ipv4.HasChecksum (quoted_of (drop 14 new))
   pub bytes : new ≡ translated_error q.protocol side addr port old
 
 -- ---- errors that come in

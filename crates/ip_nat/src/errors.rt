@@ -1,13 +1,13 @@
 //! ICMP errors over IPv4, and the packet that they quote (RFC 5508, section 4; RFC 3022, section 4.3).
 
-ghost use Rattle.std.specs.Prelude.{◌≡◌, ◌+◌, ◌≤◌, IfErr, IfNone, IfOk, IfSome, OnErr, OnOk, drop, length};
-ghost use Rattle.ip_nat.specs.Errors.{CarriesError, quoting, ErrorComesIn, ErrorGoesOut, IsErrorKeptInside, IsErrorKeptOutside, IsErrorTranslated, IsRejectedError, IsRejectedErrorPacket, IsRejectedMessage, Quotes, Reports, end_bit, error_packet, error_with, flow_by, is_error, opposite, quoted_with, with_quoted_end};
+ghost use Rattle.std.specs.Prelude.{◌≡◌, ◌↔◌, ◌+◌, ◌≤◌, IfErr, IfNone, IfOk, IfSome, OnErr, OnOk, drop, length};
+ghost use Rattle.ip_nat.specs.Errors.{CarriesError, quoting, ErrorComesIn, ErrorGoesOut, IsErrorKeptInside, IsErrorKeptOutside, IsErrorTranslated, IsRejectedError, IsRejectedErrorPacket, IsRejectedMessage, Quotes, Reports, end_bit, error_packet, error_with, flow_by, is_error, opposite, quoted_of, quoted_with, with_quoted_end};
 ghost use Rattle.ip_nat.specs.Nat.{addr_at, port_bit, with_addr, with_tcp_end, with_udp_end};
 ghost use Rattle.ip_nat.specs.declared.errors.Quoted.{Quoted};
 ghost use Rattle.ip_wire.specs.Field.{field, with_field};
 ghost use Rattle.ip_wire.specs.Frame.{ReadsPacket, all_checked, ipv4_payload};
 ghost use Rattle.ip_wire.specs.Types.{Ipv4, Ipv4Repr};
-ghost use Rattle.ip_wire.specs.Ipv4.{header_len, total_len};
+ghost use Rattle.ip_wire.specs.Ipv4.{HasChecksum, header_len, total_len};
 
 use crate::nat::{Rejection, Side, set_addr};
 use crate::packet::parse_header;
@@ -156,7 +156,8 @@ fn is_error(msg_type: u8) -> bool
     matches!(msg_type, 3 | 11 | 12)
 }
 
-// The quoted packet, if its header is valid and whole, and 8 octets follow it.
+// The quoted packet, if its header is whole, and 8 octets follow it. Its checksum is not verified: some routers lower the hop limit
+// and quote the old checksum.
 fn parse_quoted(bytes: &[u8], side: Side) -> Option<Quoted>
     ensures quotes { IfSome result (Quotes side bytes.now) }
     ensures none { IfNone result ((q : Quoted) → ¬ Quotes side bytes.now q) }
@@ -169,7 +170,7 @@ fn parse_quoted(bytes: &[u8], side: Side) -> Option<Quoted>
     if packet.version() != 4 || len < IPV4_HEADER_LEN || bytes.len() < len + 8 {
         return None;
     }
-    if packet.frag_offset() != 0 || !packet.verify_checksum() {
+    if packet.frag_offset() != 0 {
         return None;
     }
     let behind = &bytes[len..];
@@ -231,11 +232,12 @@ fn rewrite_packet(protocol: Protocol, bytes: &mut [u8], side: Side, addr: Ipv4Ad
     requires least { 20 ≤ header_len bytes.old }
     requires within { header_len bytes.old ≤ total_len bytes.old }
     requires whole { total_len bytes.old ≤ length bytes.old }
-    requires quoted { 20 ≤ header_len (drop 8 (ipv4_payload bytes.old)) }
-    requires room { header_len (drop 8 (ipv4_payload bytes.old)) + 8 ≤ length (drop 8 (ipv4_payload bytes.old)) }
+    requires quoted { 20 ≤ header_len (quoted_of bytes.old) }
+    requires room { header_len (quoted_of bytes.old) + 8 ≤ length (quoted_of bytes.old) }
     ensures bytes { bytes.new ≡ error_packet protocol side addr port bytes.old }
     ensures carries { (v : Ipv4Repr) (q : Quoted) → q.protocol ≡ protocol → ReadsPacket all_checked bytes.old (Ipv4 v) → Reports side (ipv4_payload bytes.old) q
-        → ReadsPacket all_checked bytes.new (Ipv4 (with_addr (opposite side) addr v)) × Reports side (ipv4_payload bytes.new) (quoting q addr port) }
+        → ReadsPacket all_checked bytes.new (Ipv4 (with_addr (opposite side) addr v)) × Reports side (ipv4_payload bytes.new) (quoting q addr port)
+        × (HasChecksum (quoted_of bytes.old) ↔ HasChecksum (quoted_of bytes.new)) }
 {
     let view = Ipv4Packet::new_unchecked(bytes);
     let start = usize::from(view.header_len());
@@ -252,6 +254,7 @@ fn rewrite_message(protocol: Protocol, bytes: &mut [u8], side: Side, addr: Ipv4A
     requires room { header_len (drop 8 bytes.old) + 8 ≤ length (drop 8 bytes.old) }
     ensures bytes { bytes.new ≡ error_with protocol side addr port bytes.old }
     ensures reports { (q : Quoted) → q.protocol ≡ protocol → Reports side bytes.old q → Reports side bytes.new (quoting q addr port) }
+    ensures summed { HasChecksum (drop 8 bytes.old) ↔ HasChecksum (drop 8 bytes.new) }
 {
     let (_, quoted) = bytes.split_at_mut(ICMP_HEADER_LEN);
     rewrite_quoted(protocol, quoted, side, addr, port);
@@ -265,6 +268,7 @@ fn rewrite_quoted(protocol: Protocol, bytes: &mut [u8], side: Side, addr: Ipv4Ad
     requires room { header_len bytes.old + 8 ≤ length bytes.old }
     ensures bytes { bytes.new ≡ quoted_with protocol side addr port bytes.old }
     ensures quotes { (q : Quoted) → q.protocol ≡ protocol → Quotes side bytes.old q → Quotes side bytes.new (quoting q addr port) }
+    ensures summed { HasChecksum bytes.old ↔ HasChecksum bytes.new }
 {
     let old = addr_in(bytes, side);
     let len = usize::from(Ipv4Packet::new_unchecked(bytes).header_len());

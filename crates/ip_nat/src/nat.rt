@@ -1,7 +1,7 @@
 //! Network address translation of one address and port (RFC 3022, sections 2.2 and 4.1).
 
-ghost use Rattle.std.specs.Prelude.{◌≡◌, ◌≤◌, List, ℕ, IfErr, OnErr, OnOk, length, true};
-ghost use Rattle.ip_nat.specs.Errors.{HasHeader, opposite};
+ghost use Rattle.std.specs.Prelude.{◌≡◌, ◌↔◌, ◌≤◌, List, ℕ, IfErr, OnErr, OnOk, length, true};
+ghost use Rattle.ip_nat.specs.Errors.{opposite};
 ghost use Rattle.ip_nat.specs.Nat as nat;
 ghost use Rattle.ip_nat.specs.Nat.{AllowsPort, CarriesPorts, IsPacket, IsTranslated, IsUntranslated, ReadsPorts, RefusesPort, Rewrites, Transport, addr_of, translated_packet, with_addr, with_address, with_echo_ident, with_end, with_port, with_tcp_end, with_udp_end};
 ghost use Rattle.ip_wire.specs.Ipv4 as ipv4;
@@ -61,7 +61,7 @@ pub enum Rejection {
     /// also accept ICMP errors.
     OtherProtocol,
     /// The UDP or TCP header does not parse, an ICMP message is shorter than 8 octets, or the checksum
-    /// is wrong. Of an ICMP error: it does not quote a valid IPv4 header and 8 octets of UDP, TCP or an echo.
+    /// is wrong. Of an ICMP error: it does not quote a whole IPv4 header and 8 octets of UDP, TCP or an echo.
     BadTransport,
     /// The port to write is 0, and a receiver would reject it. For `translate_out`: the source port is 0.
     ZeroPort,
@@ -141,7 +141,8 @@ pub(crate) fn set_addr(packet: &mut [u8], side: Side, addr: Ipv4Address)
     requires { 20 ≤ length packet.old }
     ensures reads { (v : Ipv4Repr) → ipv4.Reads packet.old true v → ipv4.Reads packet.new true (with_addr side addr v) }
     ensures bytes { packet.new ≡ with_address side addr packet.old }
-    ensures header { HasHeader packet.old → HasHeader packet.new }
+    ensures summed { 20 ≤ ipv4.header_len packet.old → ipv4.header_len packet.old ≤ length packet.old
+        → ipv4.HasChecksum packet.old ↔ ipv4.HasChecksum packet.new }
 {
     octets_fit(packet);
     let mut packet = Ipv4PacketMut::new_unchecked(packet);

@@ -1,11 +1,11 @@
-use Rattle.std.proofs.Common.{List, ℕ, ◌≡◌, ◌-◌, ◌++◌, ◌∙◌, ap, drop, length, rules, subst, sym, take, true}
+use Rattle.std.proofs.Common.{List, ℕ, ◌≡◌, ◌↔◌, ◌-◌, ◌++◌, ◌∙◌, ap, drop, length, rules, subst, sym, take, true}
 use Rattle.ip_nat.proofs.Payloads.{range-split}
 use Rattle.ip_nat.proofs.Quotes.{packet-with}
-use Rattle.ip_nat.specs.Errors.{Reports, error_with, opposite, quoting}
+use Rattle.ip_nat.specs.Errors.{Reports, error_with, opposite, quoted_of, quoting}
 use Rattle.ip_nat.specs.Nat.{with_addr, with_address}
 use Rattle.ip_wire.specs.Field.{with_range}
 use Rattle.ip_wire.specs.Frame.{ipv4_payload}
-use Rattle.ip_wire.specs.Ipv4.{Reads, header_len, total_len}
+use Rattle.ip_wire.specs.Ipv4.{HasChecksum, Reads, header_len, total_len}
 use Rattle.ip_nat.proofs.errors.rewrite_packet.Goals as goal
 
 pub returns-clause-bytes : goal.returns-clause-bytes
@@ -45,4 +45,8 @@ returns-clause-carries c v q named reads r =
     let whole = packet-with bytes part new v (opposite c.args.side) c.args.addr (search rules) reads (c.rewrite_message.auto.bytes ∙ ap length payload) at
     (λ w h. subst (λ s. Reads new true (with_addr s c.args.addr w)) side (c.set_addr.ensures.reads w (subst (λ (l : List ℕ). Reads l true w) (sym inner) h))) in
     let reports : Reports c.args.side part (quoting q c.args.addr c.args.port) = (rw payload at c.rewrite_message.ensures.reports) q named r in
-    (whole.0, subst (λ (l : List ℕ). Reports c.args.side l (quoting q c.args.addr c.args.port)) (sym whole.1) reports)
+    let summed : HasChecksum (quoted_of bytes) ↔ HasChecksum (drop 8 part) = rw payload at c.rewrite_message.ensures.summed in (
+      whole.0,
+      subst (λ (l : List ℕ). Reports c.args.side l (quoting q c.args.addr c.args.port)) (sym whole.1) reports,
+      subst (λ (l : List ℕ). HasChecksum (quoted_of bytes) ↔ HasChecksum (drop 8 l)) (sym whole.1) summed,
+    )

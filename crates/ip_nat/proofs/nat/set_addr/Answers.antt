@@ -1,5 +1,6 @@
 use Rattle.std.proofs.Common.{rules}
-use Rattle.ip_nat.proofs.Headers.{header-address, reads-address}
+use Rattle.ip_nat.proofs.Headers.{checksum-address, reads-address}
+use Rattle.ip_wire.specs.Ipv4.{packet_bytes_mut}
 use Rattle.ip_nat.proofs.nat.set_addr.Goals as goal
 
 pub returns-in-Source-clause-reads : goal.returns-in-Source-clause-reads
@@ -10,10 +11,12 @@ pub returns-in-Destination-clause-reads : goal.returns-in-Destination-clause-rea
 returns-in-Destination-clause-reads c v r =
     reads-address c.args.side c.args.packet.now _ c.args.addr v c.octets_fit.ensures (search rules) (search rules) (search rules) r
 
-pub returns-in-Source-clause-header : goal.returns-in-Source-clause-header
-returns-in-Source-clause-header c r =
-    header-address c.args.side c.args.packet.now _ c.args.addr c.octets_fit.ensures (search rules) (search rules) (search rules) r
+pub returns-in-Source-clause-summed : goal.returns-in-Source-clause-summed
+returns-in-Source-clause-summed c least room =
+    let new = packet_bytes_mut c.update_checksum.new.self in
+    search (rules, checksum-address c.args.side c.args.packet.now new c.args.addr c.octets_fit.ensures (search rules) (search rules) (search rules) least room)
 
-pub returns-in-Destination-clause-header : goal.returns-in-Destination-clause-header
-returns-in-Destination-clause-header c r =
-    header-address c.args.side c.args.packet.now _ c.args.addr c.octets_fit.ensures (search rules) (search rules) (search rules) r
+pub returns-in-Destination-clause-summed : goal.returns-in-Destination-clause-summed
+returns-in-Destination-clause-summed c least room =
+    let new = packet_bytes_mut c.update_checksum-in-Destination.new.self in
+    search (rules, checksum-address c.args.side c.args.packet.now new c.args.addr c.octets_fit.ensures (search rules) (search rules) (search rules) least room)
