@@ -1,4 +1,6 @@
 mod AnsweredOnce
+mod Captured
+mod Carried
 mod ErrorReplies
 mod FrameReplies
 mod HostAnswers

@@ -1,16 +1,21 @@
 -- ICMP messages in the structs of C: read behind the headers of a frame, and written.
-use Rattle.std.specs.Prelude.{ℕ, ◌≡◌, ◌-◌, ◌==◌, ◌&&◌, ◌||◌, nat_le, nat_lt, if◌then◌else◌, Bool, List, drop, length, take, Option}
+use Rattle.std.specs.Prelude.{ℕ, ◌≡◌, ◌≤◌, ◌+◌, ◌-◌, ◌==◌, ◌&&◌, ◌||◌, nat_le, nat_lt, if◌then◌else◌, Bool, List, drop, length, take, Option}
 use Rattle.std.specs.Option.{option_and_then}
+use Rattle.ip_wire.specs.Ethernet as ethernet
+use Rattle.ip_wire.specs.Frame.{ReadsPacket, packet_payload, type_of}
+use Rattle.ip_wire.specs.Ip.{dst_addr_of, next_header_of, src_addr_of, version_of}
+use Rattle.ip_wire.specs.Types.{EthernetRepr, IpRepr}
 use Rattle.wire_ends.specs.declared.ip_address.IpAddress.{IpAddress}
 use Rattle.wire_ends.specs.declared.ip_address.IpAddress.TheVariants.{Ipv4, Ipv6}
 use Rattle.wire_field.specs.Field.{field}
-use Rattle.wire_icmp.specs.Icmp.{emitted, verifies}
+use Rattle.wire_icmp.specs.Icmp.{emitted, protocol_of, verifies}
 use Rattle.wire_icmp.specs.declared.icmp.header.IcmpHeader.{IcmpHeader}
 use Rattle.c_structs.specs.Addresses.{pair_of}
 use Rattle.c_structs.specs.Captured.{IsCutOf}
 use Rattle.c_structs.specs.Codes.{network_code, transport_code, verdict_code}
 use Rattle.c_structs.specs.FrameFields.{behind}
 use Rattle.c_structs.specs.Headers.{only_if}
+use Rattle.c_structs.specs.Stored.{unchecked}
 use Rattle.c_structs.specs.declared.codes.NetworkKind.TheVariants as network
 use Rattle.c_structs.specs.declared.codes.TransportKind.TheVariants as transport
 use Rattle.c_structs.specs.declared.codes.Verdict.{Verdict}
@@ -62,16 +67,54 @@ with_message f message =
       icmp = header_of message;
     }
 
+-- the fields of a frame or packet without a message
+abbrev pub without_icmp : FrameFields → FullFrame
+without_icmp f = record { fields = f; icmp = no_icmp }
+
 -- the fields of a frame or packet with those of the ICMP message that it carries; there is none of fewer than 8 captured octets
 abbrev pub with_icmp : List ℕ → FrameFields → FullFrame
 with_icmp bytes f =
     if carries_icmp f && nat_le 8 (length (payload_in f bytes)) then with_message f (payload_in f bytes)
-    else record { fields = f; icmp = no_icmp }
+    else without_icmp f
 
 -- the frame of which these bytes were captured: what is stored but ICMP is cut as that of the whole frame, and the message is
 -- that which the bytes have
 abbrev pub IsCutFrame : List ℕ → FullFrame → FrameFields → Type 0
 IsCutFrame captured frame whole = (f : FrameFields) × (frame ≡ with_icmp captured f) × IsCutOf f whole
+
+-- ---- compared with the fields without ICMP
+
+-- the bytes are a packet with this header, no fragment of IPv4, whose payload is a message with a whole header
+pub record IsIcmp (bytes : List ℕ) (ip : IpRepr) (message : List ℕ) : Type 0 where
+  pub reads : ReadsPacket unchecked bytes ip
+  pub protocol : next_header_of ip ≡ protocol_of (version_of ip)
+  pub payload : message ≡ packet_payload ip bytes
+  pub header : 8 ≤ length message
+
+-- the frame carries such a packet, of the version that its type names
+abbrev pub CarriesIcmp : List ℕ → IpRepr → List ℕ → Type 0
+CarriesIcmp frame ip message =
+    (header : EthernetRepr) × ethernet.Reads frame header × (header.ethertype ≡ type_of ip) × IsIcmp (drop 14 frame) ip message
+
+-- the fields of a packet have its message, and the payload begins after the header of the message
+pub record StoresMessage (f : FrameFields) (ip : IpRepr) (message : List ℕ) (frame : FullFrame) : Type 0 where
+  pub transport : frame.fields.transport ≡ transport_code transport.Icmp
+  pub transport_offset : frame.fields.transport_offset ≡ f.payload_offset
+  pub payload_offset : frame.fields.payload_offset ≡ f.payload_offset + 8
+  pub payload_len : frame.fields.payload_len + 8 ≡ length message
+  pub checksum : frame.fields.transport_checksum
+      ≡ verdict_code (if verifies (src_addr_of ip) (dst_addr_of ip) message then verdict.Right else verdict.Wrong)
+  pub icmp : frame.icmp ≡ header_of message
+
+-- all fields are the same, except those of the transport and of the payload's place
+abbrev pub KeepsOthers : FrameFields → FrameFields → Type 0
+KeepsOthers f g = g ≡ record f {
+  transport_offset = g.transport_offset;
+  payload_offset = g.payload_offset;
+  payload_len = g.payload_len;
+  transport = g.transport;
+  transport_checksum = g.transport_checksum;
+}
 
 -- ---- written
 

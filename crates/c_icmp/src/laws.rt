@@ -1,0 +1,32 @@
+//! What ICMP adds to the values that `c_structs` stores. The functions do nothing: the laws follow from the
+//! definitions.
+
+ghost use Rattle.std.specs.Prelude.{List, ℕ, ◌++◌, ◌≡◌, length};
+ghost use Rattle.ip_wire.specs.Types.{IpRepr};
+ghost use Rattle.c_structs.specs.Captured.{captured_of, captured_packet_of};
+ghost use Rattle.c_structs.specs.FrameFields.{fields_of, packet_fields_of};
+ghost use Rattle.c_structs.specs.declared.types.FrameFields.{FrameFields};
+ghost use Rattle.c_icmp.specs.Messages.{CarriesIcmp, IsIcmp, KeepsOthers, StoresMessage, with_icmp, without_icmp};
+
+/// A frame or packet that carries no ICMP message has the fields that `c_structs` stores, and no ICMP header. The
+/// same holds for its first octets, if only those were captured.
+pub fn other_frames_have_no_icmp(bytes: &[u8])
+    ensures frame { ((ip : IpRepr) (m : List ℕ) → ¬ CarriesIcmp bytes.now ip m)
+        → with_icmp bytes.now (fields_of bytes.now) ≡ without_icmp (fields_of bytes.now) }
+    ensures packet { ((ip : IpRepr) (m : List ℕ) → ¬ IsIcmp bytes.now ip m)
+        → with_icmp bytes.now (packet_fields_of bytes.now) ≡ without_icmp (packet_fields_of bytes.now) }
+    ensures captured { (rest : List ℕ) → ((ip : IpRepr) (m : List ℕ) → ¬ CarriesIcmp (bytes.now ++ rest) ip m)
+        → with_icmp bytes.now (captured_of bytes.now (length rest)) ≡ without_icmp (captured_of bytes.now (length rest)) }
+    ensures captured_packet { (rest : List ℕ) → ((ip : IpRepr) (m : List ℕ) → ¬ IsIcmp (bytes.now ++ rest) ip m)
+        → with_icmp bytes.now (captured_packet_of bytes.now (length rest)) ≡ without_icmp (captured_packet_of bytes.now (length rest)) }
+{}
+
+/// An ICMP message changes the fields of the transport and the place of the payload. All other fields are those
+/// that `c_structs` stores.
+pub fn messages_are_stored(bytes: &[u8])
+    ensures frame { (ip : IpRepr) (m : List ℕ) → CarriesIcmp bytes.now ip m
+        → StoresMessage (fields_of bytes.now) ip m (with_icmp bytes.now (fields_of bytes.now)) }
+    ensures packet { (ip : IpRepr) (m : List ℕ) → IsIcmp bytes.now ip m
+        → StoresMessage (packet_fields_of bytes.now) ip m (with_icmp bytes.now (packet_fields_of bytes.now)) }
+    ensures others { (f : FrameFields) → KeepsOthers f (with_icmp bytes.now f).fields }
+{}
