@@ -27,20 +27,12 @@ use Rattle.ip_nat.proofs.TcpEnds.{tcp-ported, tcp-whole}
 use Rattle.ip_nat.proofs.UdpEnds.{udp-ported, udp_next, whole}
 use Rattle.ip_nat.proofs.Words.{spelled, spelled-fits, spelled-word, word}
 use Rattle.ip_nat.specs.Errors.{CarriesError, IsErrorTranslated, Quotes, Reports, error_packet, opposite, is_error, with_message_checksum, behind, echo_type, end_bit, flow_by, quoted_of, quoting}
-use Rattle.ip_nat.specs.Nat.{addr_at, port_bit, with_addr, with_address, with_end_by, with_tcp_end, with_udp_end}
+use Rattle.ip_nat.specs.Nat.{addr_at, port_bit, with_addr, with_address, with_tcp_end, with_udp_end}
 use Rattle.ip_nat.specs.declared.errors.Quoted.{Quoted}
 use Rattle.ip_nat.specs.declared.nat.Side.{Side}
 use Rattle.ip_nat.specs.declared.nat.Side.TheVariants.{Source, Destination}
 
 -- ---- behind the header
-
--- the bytes after both steps, for a side that is equal to this one
-pub end-by : (update : List ℕ → ℕ → ℕ → List ℕ) (side on : Side) (old new bytes mid done result : List ℕ) (port : ℕ) → side ≡ on → result ≡ done
-    → mid ≡ update bytes (sum_of_bytes old) (sum_of_bytes new) → done ≡ update (with_field mid (port_bit on) 16 port) (field mid (port_bit on) 16) port
-    → result ≡ with_end_by update side old new port bytes
-end-by update side on old new bytes mid done result port is at first second =
-    subst (λ (s : Side). result ≡ with_end_by update s old new port bytes) (sym is)
-    (at ∙ second ∙ ap (λ (l : List ℕ). update (with_field l (port_bit on) 16 port) (field l (port_bit on) 16) port) first)
 
 -- the port of a translated UDP packet
 pub udp-port : (side : Side) (l old new : List ℕ) (x : ℕ) → AreBytes l → 8 ≤ length l → x < 65536

@@ -52,16 +52,22 @@ ended-len v side old new port bytes (reply ident seq_no payload) are r =
 even : (a : List ℕ) → length a ≡ 4 → length a % 2 ≡ 0
 even a e = omega (arith, e)
 
+-- the address on a side has four octets
+pub four-octets : (side : Side) (v : Ipv4Repr) → length v.src_addr ≡ 4 → length v.dst_addr ≡ 4 → length (addr_of side v) ≡ 4
+four-octets Source v src dst = src
+four-octets Destination v src dst = dst
+
 -- A packet with a new address at one of its ends, by the contracts of both setters. The relation takes the address of this
 -- end and that of the other.
-pub moved-end : {V : Type 0} (Reads : List ℕ → IpAddress → IpAddress → Bool → V → List ℕ → Type 0) (put : V → V) (old mid new addr own far : List ℕ) (from : IpAddress)
-    → from ≡ address.Ipv4 own → length addr ≡ 4 → length far ≡ 4
-    → ((d : IpAddress) (verified : Bool) (u : V) (payload : List ℕ) → length (octets_of d) % 2 ≡ 0 → Reads old from d verified u payload → Reads mid (address.Ipv4 addr) d verified u payload)
+pub moved-end : {V : Type 0} (Reads : List ℕ → IpAddress → IpAddress → Bool → V → List ℕ → Type 0) (put : V → V) (old mid new addr own far from : List ℕ)
+    → own ≡ from → length addr ≡ 4 → length far ≡ 4
+    → ((d : IpAddress) (verified : Bool) (u : V) (payload : List ℕ) → length (octets_of d) % 2 ≡ 0 → Reads old (address.Ipv4 from) d verified u payload
+    → Reads mid (address.Ipv4 addr) d verified u payload)
     → ((s d : IpAddress) (verified : Bool) (u : V) (payload : List ℕ) → length (octets_of s) % 2 ≡ 0 → length (octets_of d) % 2 ≡ 0 → Reads mid s d verified u payload → Reads new s d verified (put u) payload)
     → (u : V) (payload : List ℕ) → Reads old (address.Ipv4 own) (address.Ipv4 far) true u payload → Reads new (address.Ipv4 addr) (address.Ipv4 far) true (put u) payload
 moved-end {V} Reads put old mid new addr own far from was four four' first second u payload r =
     second (address.Ipv4 addr) (address.Ipv4 far) true u payload (even addr four) (even far four')
-    (first (address.Ipv4 far) true u payload (even far four') (subst (λ (a : IpAddress). Reads old a (address.Ipv4 far) true u payload) (sym was) r))
+    (first (address.Ipv4 far) true u payload (even far four') (subst (λ (a : List ℕ). Reads old (address.Ipv4 a) (address.Ipv4 far) true u payload) was r))
 
 -- the same for a side and bytes that are equal to these
 pub rewritten : (side on : Side) (v : Ipv4Repr) (old done new addr : List ℕ) (port : ℕ) (t : Transport) → side ≡ on → new ≡ done → Rewrites v old done on addr port t → Rewrites v old new side addr port t
@@ -69,11 +75,11 @@ rewritten side on v old done new addr port t is at r =
     subst (λ (s : Side). Rewrites v old new s addr port t) (sym is) (subst (λ (l : List ℕ). Rewrites v old l on addr port t) (sym at) r)
 
 -- the bytes after both steps, for a side that is equal to this one
-pub ended-by : (update : List ℕ → ℕ → ℕ → List ℕ) (side on : Side) (v : Ipv4Repr) (old mid done new addr : List ℕ) (port : ℕ) → side ≡ on → new ≡ done
-    → mid ≡ update old (sum_of_bytes (addr_of on v)) (sum_of_bytes addr) → done ≡ update (with_field mid (port_bit on) 16 port) (field mid (port_bit on) 16) port
-    → new ≡ with_end_by update side (addr_of side v) addr port old
-ended-by update side on v old mid done new addr port is at first second =
-    subst (λ (s : Side). new ≡ with_end_by update s (addr_of s v) addr port old) (sym is)
+pub end-by : (update : List ℕ → ℕ → ℕ → List ℕ) (side on : Side) (old new bytes mid done result : List ℕ) (port : ℕ) → side ≡ on → result ≡ done
+    → mid ≡ update bytes (sum_of_bytes old) (sum_of_bytes new) → done ≡ update (with_field mid (port_bit on) 16 port) (field mid (port_bit on) 16) port
+    → result ≡ with_end_by update side old new port bytes
+end-by update side on old new bytes mid done result port is at first second =
+    subst (λ (s : Side). result ≡ with_end_by update s old new port bytes) (sym is)
     (at ∙ second ∙ ap (λ (l : List ℕ). update (with_field l (port_bit on) 16 port) (field l (port_bit on) 16) port) first)
 
 -- each transport, from its own setters

@@ -2,20 +2,20 @@
 
 ghost use Rattle.std.specs.Prelude.{◌≡◌, ◌↔◌, ◌+◌, ◌≤◌, IfErr, IfNone, IfOk, IfSome, OnErr, OnOk, drop, length};
 ghost use Rattle.ip_nat.specs.Errors.{CarriesError, quoting, ErrorComesIn, ErrorGoesOut, IsErrorKeptInside, IsErrorKeptOutside, IsErrorTranslated, IsRejectedError, IsRejectedErrorPacket, IsRejectedMessage, Quotes, Reports, end_bit, error_packet, error_with, flow_by, is_error, opposite, quoted_of, quoted_with, with_quoted_end};
-ghost use Rattle.ip_nat.specs.Nat.{addr_at, port_bit, with_addr, with_tcp_end, with_udp_end};
+ghost use Rattle.ip_nat.specs.Nat.{addr_at, port_bit, with_addr};
 ghost use Rattle.ip_nat.specs.declared.errors.Quoted.{Quoted};
 ghost use Rattle.ip_wire.specs.Field.{field, with_field};
 ghost use Rattle.ip_wire.specs.Frame.{ReadsPacket, all_checked, ipv4_payload};
 ghost use Rattle.ip_wire.specs.Types.{Ipv4, Ipv4Repr};
 ghost use Rattle.ip_wire.specs.Ipv4.{HasChecksum, header_len, total_len};
 
-use crate::nat::{Rejection, Side, set_addr};
+use crate::nat::{Rejection, Side, rewrite_tcp, rewrite_udp, set_addr};
 use crate::packet::parse_header;
 use ip_flows::{Ipv4Endpoint, Mapping, Nat, Protocol, inside_of, port_of};
 use ip_wire::laws::octets_fit;
 use ip_wire::{
     ETHERNET_HEADER_LEN, EthernetFrame, EthernetProtocol, EthernetRepr, IPV4_HEADER_LEN, IpAddress,
-    IpProtocol, Ipv4Address, Ipv4Packet, Ipv4Repr, TcpPacketMut, UdpPacket, UdpPacketMut,
+    IpProtocol, Ipv4Address, Ipv4Packet, Ipv4Repr, TcpPacketMut, UdpPacket,
 };
 use wire_icmp::{ICMP_HEADER_LEN, IcmpPacket, IcmpPacketMut};
 
@@ -297,32 +297,6 @@ fn rewrite_end(
         Protocol::Tcp if bytes.len() < TCP_CHECKSUM_END => set_port(bytes, side, port),
         Protocol::Tcp => rewrite_tcp(bytes, side, old, new, port),
         Protocol::Icmp => IcmpPacketMut::new_unchecked(bytes).update_echo_ident(port),
-    }
-}
-
-// Writes the port into a quoted UDP packet.
-fn rewrite_udp(bytes: &mut [u8], side: Side, old: Ipv4Address, new: Ipv4Address, port: u16)
-    requires { 8 ≤ length bytes.old }
-    ensures { bytes.new ≡ with_udp_end side old new port bytes.old }
-{
-    let mut datagram = UdpPacketMut::new_unchecked(bytes);
-    datagram.update_address(&IpAddress::Ipv4(old), &IpAddress::Ipv4(new));
-    match side {
-        Side::Source => datagram.update_src_port(port),
-        Side::Destination => datagram.update_dst_port(port),
-    }
-}
-
-// Writes the port into a quoted TCP segment with its checksum.
-fn rewrite_tcp(bytes: &mut [u8], side: Side, old: Ipv4Address, new: Ipv4Address, port: u16)
-    requires { 18 ≤ length bytes.old }
-    ensures { bytes.new ≡ with_tcp_end side old new port bytes.old }
-{
-    let mut segment = TcpPacketMut::new_unchecked(bytes);
-    segment.update_address(&IpAddress::Ipv4(old), &IpAddress::Ipv4(new));
-    match side {
-        Side::Source => segment.update_src_port(port),
-        Side::Destination => segment.update_dst_port(port),
     }
 }
 

@@ -35,12 +35,12 @@ impl Side {
     }
 
     // The address of a header on this side.
-    fn of(self, header: &Ipv4Repr) -> IpAddress
-        ensures { result ≡ IpAddress.Ipv4 (addr_of self header.now) }
+    fn of(self, header: &Ipv4Repr) -> Ipv4Address
+        ensures { result ≡ addr_of self header.now }
     {
         match self {
-            Side::Source => IpAddress::Ipv4(header.src_addr),
-            Side::Destination => IpAddress::Ipv4(header.dst_addr),
+            Side::Source => header.src_addr,
+            Side::Destination => header.dst_addr,
         }
     }
 }
@@ -168,36 +168,53 @@ fn rewrite_transport(header: Ipv4Repr, payload: &mut [u8], side: Side, addr: Ipv
     ensures reads { (transport : Transport) → Rewrites header payload.old payload.new side addr port transport }
     ensures bytes { payload.new ≡ with_end header.next_header side (addr_of side header) addr port payload.old }
 {
+    let old = side.of(&header);
     match header.next_header {
-        IpProtocol::Udp => rewrite_udp(header, payload, side, addr, port),
-        IpProtocol::Tcp => rewrite_tcp(header, payload, side, addr, port),
+        IpProtocol::Udp => rewrite_udp(payload, side, old, addr, port),
+        IpProtocol::Tcp => rewrite_tcp(payload, side, old, addr, port),
         IpProtocol::Icmp => rewrite_echo(header, payload, side, addr, port),
         _ => {}
     }
 }
 
+// Writes the port into a UDP packet, and updates its checksum for it and the address.
 #[inline(always)]
-fn rewrite_udp(header: Ipv4Repr, bytes: &mut [u8], side: Side, addr: Ipv4Address, port: u16)
+pub(crate) fn rewrite_udp(
+    bytes: &mut [u8],
+    side: Side,
+    old: Ipv4Address,
+    new: Ipv4Address,
+    port: u16,
+)
     requires len { 8 ≤ length bytes.old }
-    ensures reads { (v : UdpRepr) (payload : List ℕ) → Rewrites header bytes.old bytes.new side addr port (nat.datagram v payload) }
-    ensures bytes { bytes.new ≡ with_udp_end side (addr_of side header) addr port bytes.old }
+    ensures reads { (header : Ipv4Repr) (v : UdpRepr) (payload : List ℕ) → length (addr_of (opposite side) header) ≡ 4 → addr_of side header ≡ old
+        → Rewrites header bytes.old bytes.new side new port (nat.datagram v payload) }
+    ensures bytes { bytes.new ≡ with_udp_end side old new port bytes.old }
 {
     let mut datagram = UdpPacketMut::new_unchecked(bytes);
-    datagram.update_address(&side.of(&header), &IpAddress::Ipv4(addr));
+    datagram.update_address(&IpAddress::Ipv4(old), &IpAddress::Ipv4(new));
     match side {
         Side::Source => datagram.update_src_port(port),
         Side::Destination => datagram.update_dst_port(port),
     }
 }
 
+// Writes the port into a TCP segment, and updates its checksum, which must be there, for it and the address.
 #[inline(always)]
-fn rewrite_tcp(header: Ipv4Repr, bytes: &mut [u8], side: Side, addr: Ipv4Address, port: u16)
-    requires len { 20 ≤ length bytes.old }
-    ensures reads { (v : TcpHeader) (payload : List ℕ) → Rewrites header bytes.old bytes.new side addr port (nat.segment v payload) }
-    ensures bytes { bytes.new ≡ with_tcp_end side (addr_of side header) addr port bytes.old }
+pub(crate) fn rewrite_tcp(
+    bytes: &mut [u8],
+    side: Side,
+    old: Ipv4Address,
+    new: Ipv4Address,
+    port: u16,
+)
+    requires len { 18 ≤ length bytes.old }
+    ensures reads { (header : Ipv4Repr) (v : TcpHeader) (payload : List ℕ) → length (addr_of (opposite side) header) ≡ 4 → addr_of side header ≡ old
+        → Rewrites header bytes.old bytes.new side new port (nat.segment v payload) }
+    ensures bytes { bytes.new ≡ with_tcp_end side old new port bytes.old }
 {
     let mut segment = TcpPacketMut::new_unchecked(bytes);
-    segment.update_address(&side.of(&header), &IpAddress::Ipv4(addr));
+    segment.update_address(&IpAddress::Ipv4(old), &IpAddress::Ipv4(new));
     match side {
         Side::Source => segment.update_src_port(port),
         Side::Destination => segment.update_dst_port(port),
