@@ -1,5 +1,5 @@
 -- Which frames and packets have a message stored: those that carry ICMP.
-use Rattle.std.proofs.Common.{ℕ, ◌≡◌, ◌∙◌, ◌⊎◌, inl, inr, ◌≤◌, ◌+◌, ◌++◌, ◌==◌, ◌&&◌, ◌||◌, nat_le, nat_lt, if◌then◌else◌, Bool, true, false, List, Option, None, Some, drop, length, replicate, slice_range, take, refl, sym, ap, subst, arith}
+use Rattle.std.proofs.Common.{ℕ, ◌≡◌, ◌≢◌, ◌∙◌, ◌⊎◌, inl, inr, ◌≤◌, ◌+◌, ◌++◌, ◌==◌, ◌&&◌, ◌||◌, nat_le, nat_lt, if◌then◌else◌, Bool, true, false, List, Option, None, Some, drop, length, replicate, slice_range, take, refl, sym, ap, subst, arith}
 use Rattle.std.proofs.lemmas.Bool.{eqb-true}
 use Rattle.std.proofs.lemmas.Bool.Decides.{nat_tests}
 use Rattle.std.proofs.lemmas.Grind.{common_steps}
@@ -415,3 +415,12 @@ keeps-others bytes f = either (carries_icmp f && nat_le 8 (length (payload_in f 
     either : (b : Bool) → KeepsOthers f (if b then with_message f (payload_in f bytes) else without_icmp f).fields
     either true = refl
     either false = refl
+
+-- where the fields name no message, there is none
+pub not-named : (bytes : List ℕ) (f : FrameFields) → (with_icmp bytes f).fields.transport ≢ 3 → with_icmp bytes f ≡ without_icmp f
+not-named bytes f = either (carries_icmp f && nat_le 8 (length (payload_in f bytes)))
+  where
+    either : (b : Bool) → (if b then with_message f (payload_in f bytes) else without_icmp f).fields.transport ≢ 3
+        → (if b then with_message f (payload_in f bytes) else without_icmp f) ≡ without_icmp f
+    either true other = absurd (other refl)
+    either false other = refl

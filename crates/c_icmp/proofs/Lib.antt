@@ -4,5 +4,6 @@ mod Carried
 mod ErrorReplies
 mod FrameReplies
 mod HostAnswers
+mod InFrame
 pub mod Ndiscs
 pub mod Packets

@@ -14,7 +14,7 @@ mod FieldsOf
 pub mod Filled
 mod Framed
 mod Headed
-mod InFrame
+pub mod InFrame
 mod Ipv4Words
 mod Ipv6Words
 mod Numbered
