@@ -1,3 +1,4 @@
+mod Clampings
 mod Forwards
 mod NatCalls
 mod RouteChoice

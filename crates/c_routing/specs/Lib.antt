@@ -1,3 +1,4 @@
+pub mod Clamped
 pub mod Forwarded
 pub mod Lengths
 pub mod Nat

@@ -1,6 +1,7 @@
 //! The steps of a router and of NAT on frames, as the calls of `c/ip_wire.h` make them. `ip_wire_c` exports them to C.
 #![tactic(auto)]
 
+mod clamping;
 mod forwarding;
 mod lengths;
 mod nat;
@@ -9,6 +10,7 @@ mod routes;
 mod sources;
 mod translation;
 
+pub use clamping::clamp_frame;
 pub use forwarding::forward_frame;
 pub use nat::{translate_in, translate_out};
 pub use rejections::Rejection;

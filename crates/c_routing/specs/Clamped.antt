@@ -1,0 +1,71 @@
+-- What the call that clamps the maximum segment size of a frame returns and writes.
+use Rattle.std.specs.Prelude.{ℕ, ℤ, pos, ◌≡◌, ◌++◌, ◌⊎◌, List, Some, drop, take}
+use Rattle.ip_uses.specs.Clamp.{IsAbove}
+use Rattle.ip_wire.specs.Field.{with_range}
+use Rattle.ip_wire.specs.Frame.{ReadsFrame, ReadsPacket, ReadsTransport, all_checked, packet, packet_payload, segment}
+use Rattle.ip_wire.specs.Ipv4 as ipv4
+use Rattle.ip_wire.specs.Ipv6 as ipv6
+use Rattle.ip_wire.specs.TcpRepr.{TcpHeader}
+use Rattle.ip_wire.specs.TcpSegmentSize.{with_max_seg_size}
+use Rattle.ip_wire.specs.Types.{EthernetRepr, IpRepr, Ipv4, Ipv6}
+use Rattle.net_base.specs.declared.Checksum.{Checksum}
+use Rattle.net_base.specs.declared.Checksum.TheVariants as checksum
+use Rattle.net_base.specs.declared.ChecksumCapabilities.{ChecksumCapabilities}
+use Rattle.c_structs.specs.Written.{within}
+
+-- the checksum of TCP is treated so, and every other one is verified
+abbrev pub tcp_as : Checksum → ChecksumCapabilities
+tcp_as choice = record all_checked { tcp = choice }
+
+-- the bytes are a packet with this header, which carries this TCP segment
+abbrev pub ReadsSegment : Checksum → List ℕ → IpRepr → TcpHeader → List ℕ → Type 0
+ReadsSegment choice bytes header v payload =
+    ReadsPacket (tcp_as choice) bytes header × ReadsTransport (tcp_as choice) header (packet_payload header bytes) (segment v payload)
+
+-- the frame carries this TCP segment
+abbrev pub CarriesSegment : Checksum → List ℕ → EthernetRepr → IpRepr → TcpHeader → List ℕ → Type 0
+CarriesSegment choice frame link header v payload = ReadsFrame (tcp_as choice) frame link (packet header (segment v payload))
+
+-- the values with this maximum segment size
+abbrev pub with_size : ℕ → TcpHeader → TcpHeader
+with_size size v = record v { max_seg_size = Some size }
+
+-- where the segment of a packet with this header begins, and where it ends
+abbrev pub segment_start : IpRepr → List ℕ → ℕ
+segment_start (Ipv4 v) bytes = ipv4.header_len bytes
+segment_start (Ipv6 v) bytes = 40
+
+abbrev pub segment_end : IpRepr → List ℕ → ℕ
+segment_end (Ipv4 v) bytes = ipv4.total_len bytes
+segment_end (Ipv6 v) bytes = ipv6.total_len bytes
+
+-- the bytes of such a packet with another segment
+abbrev pub with_segment : IpRepr → List ℕ → List ℕ → List ℕ
+with_segment header bytes part = with_range bytes (segment_start header bytes) (segment_end header bytes) part
+
+-- the bytes of such a packet with this maximum segment size and an updated TCP checksum
+abbrev pub clamped : IpRepr → List ℕ → ℕ → List ℕ
+clamped header bytes size = with_segment header bytes (with_max_seg_size (packet_payload header bytes) size)
+
+-- the frame carries a SYN with a larger maximum segment size, whether or not its TCP checksum is valid
+pub record IsTooLarge (frame : List ℕ) (limit : ℕ) : Type 0 where
+  pub link : EthernetRepr
+  pub header : IpRepr
+  pub v : TcpHeader
+  pub payload : List ℕ
+  pub carries : CarriesSegment checksum.None frame link header v payload
+  pub above : IsAbove limit v
+
+-- The old frame carries such a SYN. The new one carries the same values with the limit, and if the TCP checksum was valid,
+-- it still is. These are all the bytes.
+pub record IsClamped (old new : List ℕ) (limit : ℕ) : Type 0 where
+  pub before : IsTooLarge old limit
+  pub after : (choice : Checksum) → CarriesSegment choice old before.link before.header before.v before.payload
+      → CarriesSegment choice new before.link before.header (with_size limit before.v) before.payload
+  pub bytes : new ≡ take 14 old ++ clamped before.header (drop 14 old) limit
+
+-- 1 is returned, and the maximum segment size is the limit now; or 0, it was not larger, and the frame stays
+abbrev pub Clamps : List ℕ → List ℕ → ℕ → ℤ → Type 0
+Clamps old new limit answer =
+    ((answer ≡ pos 1) × IsClamped old new limit)
+    ⊎ ((answer ≡ pos 0) × (¬ IsTooLarge (within old) limit) × (new ≡ old))
