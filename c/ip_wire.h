@@ -669,7 +669,7 @@ enum lk_problem {
 ptrdiff_t lk_emit_icmp_error(const struct lk_interface *own, int problem, uint32_t mtu, const uint8_t *frame,
                              size_t len, uint8_t *out, size_t cap);
 
-/* ---- one hop, and NAT of one packet ---- */
+/* ---- one hop, NAT of one packet, and the MSS clamp ---- */
 
 /* Why a frame is not forwarded, translated or accepted. If several reasons apply, it is the first in this order. */
 enum lk_rejection {
@@ -714,6 +714,19 @@ enum lk_side { LK_SOURCE, LK_DESTINATION };
  * Returns LK_NOT_REJECTED, or a rejection from LK_NO_IPV4 to LK_ZERO_PORT, but not LK_EXPIRED. If it is not 0, the
  * frame is unchanged. The source port of UDP may be 0 (RFC 768), so that it gets no LK_ZERO_PORT. */
 int lk_translate(uint8_t *frame, size_t len, int side, const struct lk_endpoint *end);
+
+/* Lowers the maximum segment size of a TCP SYN in an Ethernet frame to `max_seg_size`, in place, and updates the TCP
+ * checksum (RFC 1624). A router does so with each frame that comes in or leaves by a link with a smaller MTU: to the MTU
+ * less 40 over IPv4, and less 60 over IPv6.
+ *
+ * - Of several such options the last counts. A SYN without one stays as it is.
+ * - The TCP checksum is not verified. A valid one stays valid, and a wrong one stays wrong. One that is left to the device
+ *   (LK_LEFT_TO_DEVICE) must not change, so the caller writes it back.
+ * - A frame stays as it is if lk_read_frame rejects a header, and if it is a fragment, has a wrong IPv4 header checksum,
+ *   or has IPv6 extension headers before TCP.
+ *
+ * Returns 1 if the size was larger, else 0; then the frame is unchanged. */
+int lk_clamp_mss(uint8_t *frame, size_t len, uint16_t max_seg_size);
 
 /* ---- routes ---- */
 

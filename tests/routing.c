@@ -71,6 +71,68 @@ static void forward(void)
     CHECK(lk_forward(frame, (size_t)LK_NO_ROOM, src, dst) == LK_NOT_IP && is_now(udp, sizeof udp));
 }
 
+/* ---- the MSS clamp */
+
+/* A SYN and ACK over IPv6 with an MSS of 1440, which begins at an odd octet of the options. */
+static const uint8_t syn_ack[82] = {
+    0x02, 0x00, 0x00, 0x00, 0x00, 0x02, 0x02, 0x00, 0x00, 0x00, 0x00, 0x01, 0x86, 0xdd, 0x60, 0x00,
+    0x00, 0x00, 0x00, 0x1c, 0x06, 0x40, 0x20, 0x01, 0x0d, 0xb8, 0x00, 0x00, 0x00, 0x00, 0x00, 0x00,
+    0x00, 0x00, 0x00, 0x00, 0x00, 0x01, 0x20, 0x01, 0x0d, 0xb8, 0x00, 0x00, 0x00, 0x00, 0x00, 0x00,
+    0x00, 0x00, 0x00, 0x00, 0x00, 0x02, 0x00, 0x50, 0xed, 0x70, 0x11, 0x22, 0x33, 0x44, 0x80, 0x03,
+    0xa2, 0x8e, 0x70, 0x12, 0xfa, 0xf0, 0x3e, 0xa2, 0x00, 0x00, 0x01, 0x02, 0x04, 0x05, 0xa0, 0x01,
+    0x01, 0x01,
+};
+
+/* `before`: changes of the frame. `after`: what the call changes then; none: it returns 0. */
+static const struct {
+    const uint8_t *octets;
+    size_t len;
+    struct change before[CHANGES];
+    uint16_t max_seg_size;
+    struct change after[CHANGES];
+} clamped[] = {
+    {syn, 74, {{0, 0}}, 1260, {{50, 0xd9}, {51, 0x85}, {56, 0x04}, {57, 0xec}}},
+    {syn, 74, {{0, 0}}, 1459, {{51, 0xbe}, {57, 0xb3}}},
+    {syn, 74, {{0, 0}}, 0, {{50, 0xde}, {51, 0x71}, {56, 0}, {57, 0}}},
+    {syn, 74, {{51, 0xbc}}, 1459, {{51, 0xbd}, {57, 0xb3}}}, /* a wrong checksum stays wrong */
+    {syn, 74, {{0, 0}}, 1460, {{0, 0}}},
+    {syn, 74, {{0, 0}}, 65535, {{0, 0}}},
+    {syn, 74, {{47, 0x10}}, 1260, {{0, 0}}},             /* no SYN */
+    {syn, 74, {{47, 0x03}}, 1260, {{0, 0}}},             /* SYN and FIN */
+    {syn, 74, {{54, 1}, {55, 1}}, 1260, {{0, 0}}},       /* an option of kind 5, which is cut off */
+    {syn, 74, {{54, 0xfd}}, 1260, {{0, 0}}},             /* no such option */
+    {syn, 74, {{54, 0}}, 1260, {{0, 0}}},                /* the end of the options */
+    {syn, 74, {{20, 0x20}, {24, 0x82}}, 1260, {{0, 0}}}, /* a fragment */
+    {syn, 74, {{25, 0xfb}}, 1260, {{0, 0}}},             /* a wrong checksum of the IPv4 header */
+    {syn, 74, {{23, 0x11}, {25, 0xf1}}, 1260, {{0, 0}}}, /* UDP */
+    {syn, 73, {{0, 0}}, 1260, {{0, 0}}},
+    {udp, 46, {{0, 0}}, 0, {{0, 0}}},
+    {syn_ack, 82, {{0, 0}}, 1220, {{70, 0x1a}, {71, 0xa3}, {77, 0x04}, {78, 0xc4}}},
+    {syn_ack, 82, {{0, 0}}, 1440, {{0, 0}}},
+    {syn_ack, 82, {{20, 0}}, 1220, {{0, 0}}}, /* an extension header */
+    {syn_ack, 81, {{0, 0}}, 1220, {{0, 0}}},
+};
+
+static void clamp_mss(void)
+{
+    uint8_t changed[ROOM];
+    for (size_t i = 0; i < sizeof clamped / sizeof clamped[0]; i++) {
+        int is_larger = clamped[i].after[0].at != 0;
+        begin(clamped[i].octets, clamped[i].len, clamped[i].before);
+        memcpy(changed, frame, ROOM);
+        for (size_t n = 0; n < CHANGES && clamped[i].after[n].at != 0; n++)
+            changed[clamped[i].after[n].at] = clamped[i].after[n].octet;
+        check((int)i, lk_clamp_mss(frame, clamped[i].len, clamped[i].max_seg_size) == is_larger &&
+                          memcmp(changed, frame, ROOM) == 0);
+        check((int)i, lk_clamp_mss(frame, clamped[i].len, clamped[i].max_seg_size) == 0 &&
+                          memcmp(changed, frame, ROOM) == 0);
+    }
+    CHECK(lk_clamp_mss(0, 0, 0) == 0);
+    begin(syn, sizeof syn, 0);
+    CHECK(lk_clamp_mss(frame, LK_MAX_LEN + 1, 0) == 0 && is_now(syn, sizeof syn));
+    CHECK(lk_clamp_mss(frame, (size_t)LK_NO_ROOM, 0) == 0 && is_now(syn, sizeof syn));
+}
+
 /* ---- routes */
 
 /* Blocks in blocks, over both versions. The third one is the first again. */
@@ -193,6 +255,7 @@ static void names(void)
 int main(void)
 {
     forward();
+    clamp_mss();
     choose();
     index_fails();
     check_sources();

@@ -43,6 +43,19 @@ static void translate_one(size_t placed, size_t len)
     same_octets("frame", wanted, frame, placed);
 }
 
+static void clamp_one(size_t placed, size_t len)
+{
+    static const uint16_t common[] = {0, 536, 1220, 1460, 65535};
+    uint16_t max_seg_size = (uint16_t)(one_in(2) ? any() : common[below(5)]);
+    uint8_t *frame;
+    CALL(lk_clamp_mss);
+    frame = begin_frame(placed);
+    given("len", &len, sizeof len);
+    given("max_seg_size", &max_seg_size, sizeof max_seg_size);
+    end_call(model_clamp_mss(wanted, len, max_seg_size), lk_clamp_mss(frame, len, max_seg_size));
+    same_octets("frame", wanted, frame, placed);
+}
+
 /* Mostly over IPv4, because NAT does not translate others. */
 static void make_any_frame(void)
 {
@@ -60,10 +73,13 @@ void forward_frame(void)
     make_any_frame();
     forward_one(made.len, made.len);
     translate_one(made.len, made.len);
+    clamp_one(made.len, made.len);
     if (one_in(64))
         forward_one(0, unused_len());
     if (one_in(64))
         translate_one(0, unused_len());
+    if (one_in(64))
+        clamp_one(0, unused_len());
 }
 
 /* ---- routes ---- */

@@ -53,6 +53,7 @@ enum fault {
     ICMP_LIVES_AS_UDP,
     ECHO_OF_0_REJECTED,
     QUOTED_CHECKSUM_VERIFIED,
+    SYN_ACK_LEFT,
     FAULTS
 };
 
@@ -80,6 +81,7 @@ __attribute__((constructor)) static void choose(void)
         "LK_ROUTE_MISSING for LK_NEIGHBOUR_MISSING", "an ICMP mapping with the time-out of UDP",
         "an echo identifier of 0 rejected",
         "an error rejected for a quoted checksum",
+        "the segment size of a SYN and ACK left",
     };
     const char *number = getenv("FAULT");
     fault = number ? (enum fault)atoi(number) : NO_FAULT;
@@ -108,6 +110,7 @@ ptrdiff_t __real_lk_print_addr(const struct lk_addr *addr, char *out, size_t cap
 ptrdiff_t __real_lk_print_endpoint(const struct lk_endpoint *endpoint, char *out, size_t cap);
 int __real_lk_forward(uint8_t *frame, size_t len, const uint8_t *src, const uint8_t *dst);
 int __real_lk_translate(uint8_t *frame, size_t len, int side, const struct lk_endpoint *end);
+int __real_lk_clamp_mss(uint8_t *frame, size_t len, uint16_t max_seg_size);
 ptrdiff_t __real_lk_index_routes(const struct lk_route *routes, size_t count, struct lk_route_node *nodes,
                                  size_t node_count);
 int __real_lk_check_source(const struct lk_route *routes, size_t route_count, const struct lk_route_node *nodes,
@@ -414,6 +417,13 @@ int __wrap_lk_translate(uint8_t *frame, size_t len, int side, const struct lk_en
     if (fault == ECHO_OF_0_REJECTED && result == LK_NOT_REJECTED && end->port == 0 && frame[23] == 1)
         return LK_ZERO_PORT;
     return result;
+}
+
+int __wrap_lk_clamp_mss(uint8_t *frame, size_t len, uint16_t max_seg_size)
+{
+    struct lk_frame f;
+    lk_read_frame(frame, len, &f);
+    return fault == SYN_ACK_LEFT && (f.tcp.flags & LK_ACK) ? 0 : __real_lk_clamp_mss(frame, len, max_seg_size);
 }
 
 /* Indexes the routes from the last to the first. */

@@ -163,6 +163,7 @@ void write_end(uint8_t *octets, const struct lk_frame *frame, int side, const st
 
 int model_forward(uint8_t *octets, size_t len, const uint8_t *src, const uint8_t *dst);
 int model_translate(uint8_t *octets, size_t len, int side, const struct lk_endpoint *end);
+int model_clamp_mss(uint8_t *octets, size_t len, uint16_t max_seg_size);
 
 /* The model has no index: it searches the routes one by one. */
 ptrdiff_t model_index_routes(const struct lk_route *routes, size_t count, size_t node_count);

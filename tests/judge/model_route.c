@@ -69,6 +69,39 @@ int model_forward(uint8_t *octets, size_t len, const uint8_t *src, const uint8_t
     return LK_NOT_REJECTED;
 }
 
+/* ---- the MSS clamp ---- */
+
+/* The last maximum segment size in options of this length, none of which is malformed, or null. */
+static uint8_t *max_seg_size_in(uint8_t *options, size_t len)
+{
+    uint8_t *found = 0;
+    for (size_t at = 0; at < len && options[at] != 0; at += options[at] == 1 ? 1 : options[at + 1])
+        if (options[at] == 2)
+            found = options + at + 2;
+    return found;
+}
+
+int model_clamp_mss(uint8_t *octets, size_t len, uint16_t max_seg_size)
+{
+    struct lk_frame frame;
+    uint8_t *header, *size;
+    size_t options_len;
+    uint16_t before;
+    model_read_frame(octets, used_len(len), &frame);
+    if (frame.transport != LK_TCP || frame.ipv4_checksum == LK_WRONG || (frame.tcp.flags & LK_SYN) == 0)
+        return 0;
+    header = octets + frame.transport_offset;
+    options_len = frame.payload_offset - frame.transport_offset - 20;
+    size = max_seg_size_in(header + 20, options_len);
+    if (size == 0 || get_word(size) <= max_seg_size)
+        return 0;
+    before = model_checksum(header + 20, options_len);
+    put_word(size, max_seg_size);
+    put_word(header + 16, model_update_checksum((uint16_t)get_word(header + 16), before,
+                                                model_checksum(header + 20, options_len)));
+    return 1;
+}
+
 /* ---- NAT of one packet ---- */
 
 void update_sum(uint8_t *field, int is_udp, const struct lk_addr *before, const struct lk_addr *after)

@@ -1,9 +1,10 @@
-//! One hop of a router, and NAT of one packet.
+//! One hop of a router, NAT of one packet, and the MSS clamp.
 
+ghost use Rattle.c_routing.specs.Clamped.{Clamps};
 ghost use Rattle.c_routing.specs.Forwarded.{Forwards, station};
 ghost use Rattle.c_routing.specs.Translated.{Translates, side_of};
 
-use c_routing::{forward_frame, translate_frame};
+use c_routing::{clamp_frame, forward_frame, translate_frame};
 use c_structs::Endpoint;
 
 /// Forwards the packet of a frame between two stations. Returns 0, or why it is not forwarded; then the frame is
@@ -22,4 +23,12 @@ pub extern "C" fn lk_translate(frame: &mut [u8], side: i32, end: &Endpoint) -> i
     ensures { Translates frame.old frame.new (side_of side) end.now result }
 {
     translate_frame(frame, side, end)
+}
+
+/// Lowers the maximum segment size of a SYN to a limit. Returns 1 if it was larger, else 0; then the frame is unchanged.
+#[unsafe(no_mangle)]
+pub extern "C" fn lk_clamp_mss(frame: &mut [u8], max_seg_size: u16) -> i32
+    ensures { Clamps frame.old frame.new max_seg_size result }
+{
+    clamp_frame(frame, max_seg_size)
 }
