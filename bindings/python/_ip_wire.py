@@ -95,6 +95,7 @@ CALLS: Dict[str, Tuple[Any, ...]] = {
     "lk_emit_ndisc_frame": (c_ssize_t, POINTER(Frame), POINTER(Ndisc), *_OUT),
     "lk_emit_icmp_error": (c_ssize_t, POINTER(Interface), c_int, c_uint32, *_DATA, *_OUT),
     "lk_answer": (c_ssize_t, POINTER(Host), *_DATA, *_OUT),
+    "lk_clamp_mss": (c_int, *_OUT, c_uint16),
 }
 
 

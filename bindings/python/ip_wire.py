@@ -458,6 +458,14 @@ def rebuild(frame: Data) -> bytes:
     return c.written(len(data), library.lk_rebuild, data, len(data))
 
 
+def clamp_mss(frame: Data, max_seg_size: int) -> bytes:
+    """The Ethernet frame, where the maximum segment size of a TCP SYN is `max_seg_size` at most."""
+    data = c.octets(frame)
+    out = (c_uint8 * len(data)).from_buffer_copy(data)
+    library.lk_clamp_mss(out, len(data), c.fits(c_uint16, max_seg_size))
+    return bytes(out)
+
+
 # ---- neighbour discovery and ICMP errors
 
 

@@ -263,6 +263,16 @@ class Writing(unittest.TestCase):
         data = ip_wire.emit_udp(IPV4, b"ping")
         self.assertEqual(ip_wire.rebuild(data + bytes(20)), data)
 
+    def test_clamp_mss(self):
+        for headers in (IPV4, IPV6):
+            larger, smaller = (
+                ip_wire.emit_tcp(headers, Tcp(flags=TcpFlag.SYN), TcpOptions(max_seg_size=size)) for size in (1460, 1260)
+            )
+            self.assertEqual(ip_wire.clamp_mss(larger, 1260), smaller)
+            self.assertEqual(ip_wire.clamp_mss(larger, 1460), larger)
+        self.assertEqual(ip_wire.clamp_mss(b"", 0), b"")
+        self.assertRaises(ValueError, ip_wire.clamp_mss, b"", 65536)
+
 
 class Values(unittest.TestCase):
     def test_texts(self):

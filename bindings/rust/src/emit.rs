@@ -178,3 +178,10 @@ pub fn rebuild<'o>(frame: &[u8], out: &'o mut [u8]) -> Result<&'o mut [u8], Erro
     // SAFETY: there are `len` bytes at `ptr`, and `cap` bytes at `out`.
     write(out, |c, out, cap| unsafe { c.lk_rebuild(frame.as_ptr(), frame.len(), out, cap) })
 }
+
+/// Lowers the maximum segment size of a TCP SYN in an Ethernet frame to `max_seg_size`, in place, and updates the TCP
+/// checksum. Returns `false` if there is no larger one. Then the frame is unchanged.
+pub fn clamp_mss(frame: &mut [u8], max_seg_size: u16) -> bool {
+    // SAFETY: there are `len` bytes at `frame`.
+    unsafe { library().lk_clamp_mss(frame.as_mut_ptr(), frame.len(), max_seg_size) != 0 }
+}

@@ -59,7 +59,7 @@ mod sys;
 mod tcp;
 
 pub use addr::{is_unicast, parse_addr, parse_endpoint, Block, EthernetAddr, ParseError};
-pub use emit::rebuild;
+pub use emit::{clamp_mss, rebuild};
 pub use error::{Defect, Error, Network, Reason, Transport, Verdict};
 pub use frame::Frame;
 pub use headers::{Arp, Ethernet, Headers, Icmp, Ip};

@@ -253,6 +253,7 @@ calls! {
         own: *const Interface, problem: c_int, mtu: u32, frame: *const u8, len: usize, out: *mut u8, cap: usize
     ) -> isize;
     fn lk_answer(host: *const Host, ptr: *const u8, len: usize, out: *mut u8, cap: usize) -> isize;
+    fn lk_clamp_mss(frame: *mut u8, len: usize, max_seg_size: u16) -> c_int;
 }
 
 extern "C" {

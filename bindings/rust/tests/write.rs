@@ -167,6 +167,25 @@ fn errors_quote_the_packet() {
     assert_eq!(own.emit_error(Problem::RouteMissing, packet, &mut out), Ok(None));
 }
 
+#[test]
+fn clamping_lowers_the_segment_size() {
+    for headers in [ipv4(), ipv6()] {
+        let syn = |size, out: &mut [u8]| {
+            let tcp = Tcp { flags: TcpFlags::SYN, ..Tcp::default() };
+            let options = TcpOptions { max_seg_size: Some(size), ..TcpOptions::default() };
+            headers.emit_tcp(&tcp, &options, b"", out).unwrap().len()
+        };
+        let (mut larger, mut smaller) = (OUT, OUT);
+        let len = syn(1460, &mut larger);
+        syn(1260, &mut smaller);
+        assert!(!clamp_mss(&mut larger[..len], 1460));
+        assert!(clamp_mss(&mut larger[..len], 1260));
+        assert_eq!(larger, smaller);
+        assert!(!clamp_mss(&mut larger[..len], 1260));
+    }
+    assert!(!clamp_mss(&mut [], 0));
+}
+
 fn host(open_ports: &[u16]) -> Host<'_> {
     Host {
         open_ports,
