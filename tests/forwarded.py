@@ -6,7 +6,7 @@ import ipaddress
 import icmp
 import packets
 from packets import ARP, IPV4, IPV6, word_sum
-from rebuilt import FIN, RST, SYN, is_summed, last_options, number
+from rebuilt import END, FIN, MAX_SEG_SIZE, NO_OPERATION, RST, SYN, is_summed, last_options, number
 
 UDP, TCP, ICMP = 17, 6, 1
 SOURCE, DESTINATION = 0, 1
@@ -65,6 +65,8 @@ class Router:
 
     # The longest packet and the shortest frame that leaves.
     longest, least = 1500, 0
+    # The MTU of each interface that clamps.
+    clamps = {}
     # The errors about packets that are dropped.
     errors = {"LK_EXPIRED": icmp.EXPIRED, "too long": icmp.TOO_BIG, "unfragmented": icmp.TOO_BIG, "no route": icmp.NO_ROUTE, "no neighbour": icmp.NO_NEIGHBOUR}
 
@@ -83,7 +85,7 @@ class Router:
         self.broadcasts = {addr for block, _, _ in links if block.version == 4 for addr in (block[0], block[-1])}
 
     def but(self, **changes):
-        """The same router, with another `longest` or `least`."""
+        """The same router, with another `longest`, `least` or `clamps`."""
         other = copy.copy(self)
         vars(other).update(changes)
         return other
@@ -129,7 +131,14 @@ class Router:
         """Either why the frame is dropped and None, or the interface that it leaves by and the frame there."""
         packet = Packet(frame)
         why = self.refused(packet, came_in)
-        return (why, None) if why else self.sent_on(frame, packet)
+        to, out = (why, None) if why else self.sent_on(frame, packet)
+        return to, self.clamped(out, came_in, to)
+
+    def clamped(self, out, *names):
+        """A frame that comes in and leaves by these interfaces, or None."""
+        for name in names if out else ():
+            out = clamped(out, self.clamps[name]) if name in self.clamps else out
+        return out
 
     def is_from_router(self, frame):
         """Whether the router itself sends this frame."""
@@ -162,6 +171,28 @@ class Router:
         return name, hop(frame, self.hardware[name], next_hop).ljust(self.least, b"\0")
 
 
+# ---- the MSS clamp
+
+
+def clamped(frame, mtu):
+    """The frame, where the maximum segment size of a SYN is at most what fits into an MTU. The TCP checksum changes by as much
+    as the options: it may have been wrong."""
+    packet = Packet(frame)
+    body, size = packet.payload, (mtu - (40 if packet.version == 4 else 60)).to_bytes(2, "big")
+    if packet.protocol != TCP or packet.is_fragment or not is_segment(body) or not body[13] & SYN:
+        return frame
+    options, at, place = body[20 : (body[12] >> 4) * 4], 0, None
+    while at < len(options) and options[at] != END:
+        place = at + 2 if options[at] == MAX_SEG_SIZE else place
+        at += 1 if options[at] == NO_OPERATION else options[at + 1]
+    if place is None or options[place : place + 2] <= size:
+        return frame
+    changed = options[:place] + size + options[place + 2 :]
+    total = (0xFFFF - number(body[16:18])) + (0xFFFF - word_sum(options)) + word_sum(changed)
+    body = body[:16] + updated(total, False) + body[18:20] + changed + body[20 + len(options) :]
+    return frame[: 14 + packet.header_len] + body + frame[14 + packet.total_len :]
+
+
 # ---- translation
 
 
@@ -190,11 +221,15 @@ def is_valid(packet):
         if len(body) < 8 or not 8 <= length <= len(body) or not number(body[2:4]):
             return False
         return body[6:8] == b"\0\0" or is_summed(packets.pseudo_header(*packet.ends, UDP, length) + body[:length])
+    return is_segment(body) and is_summed(packets.pseudo_header(*packet.ends, TCP, len(body)) + body)
+
+
+def is_segment(body):
+    """Whether a TCP segment parses."""
     header_len = (body[12] >> 4) * 4 if len(body) >= 20 else 0
     if not 20 <= header_len <= len(body) or not number(body[:2]) or not number(body[2:4]):
         return False
-    is_read = body[13] & (FIN | SYN | RST) in (0, FIN, SYN, RST) and last_options(body[20:header_len]) is not None
-    return is_read and is_summed(packets.pseudo_header(*packet.ends, TCP, len(body)) + body)
+    return body[13] & (FIN | SYN | RST) in (0, FIN, SYN, RST) and last_options(body[20:header_len]) is not None
 
 
 def port_at(protocol, side):

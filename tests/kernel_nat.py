@@ -21,7 +21,8 @@ from forwarded import (DESTINATION, ICMP, SOURCE, Packet, Router, has_ports, is_
                        with_header_checksum, with_quoted)
 from kernel_client import check, echoed, report, tcp_at_once, tcp_turns, udp_lengths
 from kernel_links import ELSEWHERE, SELF, Here, Namespace, Program, WideSide, no_errors, settle, udp_echo
-from kernel_router import ARP, compare_counters, compare_sides, longest_handed, make_pairs, random_frames, set_host
+from kernel_router import (ARP, CLAMP, compare_counters, compare_sides, longest_handed, longer_hosts, make_pairs, random_frames,
+                           set_host)
 from routed_frames import HARDWARE, HOSTS, RANDOM_FRAMES, hostile_frames, routed
 
 TIMESTAMP = 13
@@ -138,7 +139,7 @@ class Nat(Router):
         to, out = self.sent_on(frame, Packet(frame))
         if out and to == "right":
             why, out = self.leaves(out)
-        return (why, None) if out is None and why else (to, out)
+        return (why, None) if out is None and why else (to, self.clamped(out, came_in, to))
 
     def fate(self, frame, came_in):
         """As that of a router. If the outside port is not known yet, the frame is a function of what came out."""
@@ -166,8 +167,8 @@ def is_answered(packet):
     return icmp.is_valid(packet.payload, *packet.ends) and packet.payload[1] == 0 and not packet.frame[6] & 1
 
 
-def start_on_taps(room, there, program, **words):
-    nat = Program(room, program, OF_TAPS, ["tap:right", "tap:left"], **words)
+def start_on_taps(room, there, program, lines="", **words):
+    nat = Program(room, program, OF_TAPS + lines, ["tap:right", "tap:left"], **words)
     room.run(f"ip link set left netns {SELF} && ip link set right netns {there.process}")
     set_hosts(there)
     return nat
@@ -416,7 +417,21 @@ def on_taps(program):
     not_translated(nat)
     no_errors(there)
     nat.ends("of a NAT")
+    clamps(room, there, program)
     server.kill()
+
+
+def clamps(room, there, program):
+    """Hosts with a longer MTU exchange segments that fit the outside link."""
+    nat, model = start_on_taps(room, there, program, CLAMP), Nat().but(clamps={"right": 1500})
+    sides = {"left": WideSide(SELF, "left"), "right": WideSide(there.process, "right")}
+    longer_hosts(there)
+    data = random.randbytes(300_000)
+    check("TCP of longer hosts", echoed(socket.AF_INET, SERVERS[0], data) == data)
+    check("too long", "too long" not in nat.counters())
+    model.is_complete &= compare_sides("clamped frame", sides, model)
+    compare_random(nat, sides, RANDOM_FRAMES // 4, model)
+    nat.ends("of a NAT that clamps")
 
 
 def on_sockets(program):

@@ -16,11 +16,12 @@ import time
 
 import icmp
 import packets
-from forwarded import Router
+from forwarded import SYN, TCP, Packet, Router
 from kernel_bridge import in_namespace
 from kernel_client import check, echoed, report, tcp_at_once, tcp_turns, udp_lengths, wrong
 from kernel_links import (ELSEWHERE, LATEST, MTU_DISCOVER, PMTUDISC_INTERFACE, PMTUDISC_PROBE, SELF, Here, Namespace, Program, WideSide, no_errors, ping,
                           settle, udp_echo)
+from rebuilt import MAX_SEG_SIZE, last_options, number
 from routed_frames import HARDWARE, HOSTS, RANDOM_FRAMES, hostile_frames
 
 CONFIG = """
@@ -53,6 +54,7 @@ HOST = """
     ip route replace default via 10.{n}.0.1 && ip -6 route replace default via fd0{n}::1 dev {name}
 """
 AT_ONCE, MOST_WRONG = 64, 3
+CLAMP = "clamp dev right\n"
 ARP = b"\x08\x06"
 
 
@@ -350,6 +352,7 @@ BAD_LINES = (
     ("address 10.1.0.1/24", "the line does not end in: dev NAME"),
     ("gateway 10.1.0.1 dev left", "not a line of this file"),
     ("route 10.0.0.0/8 by 10.1.0.9 dev left", "not a line of this file"),
+    ("clamp 1400 dev left", "not a line of this file"),
     ("# " + 600 * "x", "the line is too long"),
     (" ".join("x" * 9), "too many words"),
 )
@@ -387,7 +390,52 @@ def on_taps(program):
         check("TCP with loss", echoed(family, address, data) == data, address)
     no_errors(there)
     router.ends("of a router on TAP devices")
+    clamps(room, there, program)
     server.kill()
+
+
+# ---- the MSS clamp
+
+
+def longer_hosts(there):
+    """Both hosts have a longer MTU than the router."""
+    Here().run("ip link set left mtu 9000")
+    there.run("ip link set right mtu 9000")
+
+
+def sizes(frames):
+    """The maximum segment sizes of these SYNs."""
+    found = set()
+    for packet in map(Packet, frames):
+        if packet.is_whole and packet.protocol == TCP and packet.payload[13] & SYN:
+            found.add(number(last_options(packet.payload[20 : packet.payload[12] // 16 * 4])[MAX_SEG_SIZE]))
+    return found
+
+
+def clamps_tcp(router, sides, longest, mtu):
+    """The SYN and its answer, in both directions over a link with this MTU, name segments that fit it, and so none is too long."""
+    for family, address in SERVERS:
+        settle(*sides.values())
+        for side in sides.values():
+            side.forget()
+        data, headers = random.randbytes(300_000), 40 if family == socket.AF_INET else 60
+        check("TCP over a smaller link", echoed(family, address, data) == data, address)
+        settle(*sides.values())
+        for name, side in sides.items():
+            found = sizes(side.handed), sizes(side.came_out)
+            check("segment sizes", found == ({longest - headers}, {mtu - headers}), (address, name, found))
+    check("too long", "too long" not in router.counters())
+
+
+def clamps(room, there, program):
+    router = start_on_taps(room, there, program, OF_TAPS + CLAMP)
+    sides = {"left": WideSide(SELF, "left"), "right": WideSide(there.process, "right")}
+    model = MODEL.but(clamps={"right": 1500})
+    longer_hosts(there)
+    clamps_tcp(router, sides, 9000, 1500)
+    compare_sides("clamped frame", sides, model)
+    random_frames(router, sides, RANDOM_FRAMES // 4, model)
+    router.ends("of a router that clamps")
 
 
 # ---- packet sockets
@@ -484,6 +532,11 @@ def on_sockets(program):
     random_frames(router, sides, RANDOM_FRAMES, padded)
     no_errors(there)
     router.ends("of a router on packet sockets")
+    room.run("ip link set right mtu 1300")
+    Here().run("ip route flush cache")  # it has the MTU of before
+    router = Program(room, program, CONFIG + CLAMP, ["packet:left", "packet:right"])
+    clamps_tcp(router, sides, 1500, 1300)
+    router.ends("of a router on packet sockets that clamps")
     server.kill()
 
 

@@ -1,4 +1,5 @@
-/* The file of a router: a line each for an address, a route, a neighbour, or the Ethernet address of a TAP device. */
+/* The file of a router: a line each for an address, a route, a neighbour, the Ethernet address of a TAP device, or an
+ * interface whose MTU limits TCP segments. */
 #include "router.h"
 
 #include <errno.h>
@@ -80,6 +81,10 @@ static const char *read_line(struct router *router, char **words, int count, uin
         memcpy(router->interfaces[interface].own.hardware, hardware, is_read ? 6 : 0);
         return is_read ? NULL : "not an Ethernet address of a host";
     }
+    if (strcmp(words[0], "clamp") == 0 && count == 1) {
+        router->interfaces[interface].clamps = 1;
+        return NULL;
+    }
     return "not a line of this file";
 }
 
@@ -95,7 +100,7 @@ static const char *read_words(struct router *router, char *line)
     }
     if (count == 0)
         return NULL;
-    if (count < 4 || strcmp(words[count - 2], "dev") != 0)
+    if (count < 3 || strcmp(words[count - 2], "dev") != 0)
         return "the line does not end in: dev NAME";
     int interface = interface_of(router, words[count - 1]);
     return interface < 0 ? "no such interface" : read_line(router, words, count - 2, (uint16_t)interface);

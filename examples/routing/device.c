@@ -296,3 +296,17 @@ void uncomplete_checksum(struct packet *packet)
     store_word(pseudo + 34, (uint16_t)(packet->len - packet->offload.csum_start));
     store_word(place, lk_checksum(pseudo, sizeof pseudo));
 }
+
+/* A checksum that is left to the device stays: it covers no segment yet. */
+void clamp(const struct interface *interface, struct packet *packet)
+{
+    size_t headers = packet->frame[ETHERNET_LEN] >> 4 == 4 ? 40 : 60; /* of IP and TCP, without options */
+    uint8_t kept[2], *place = open_checksum(packet);
+    if (!interface->clamps || interface->mtu < headers || interface->mtu - headers > 65535)
+        return;
+    if (place != NULL)
+        memcpy(kept, place, 2);
+    lk_clamp_mss(packet->frame, packet->len, (uint16_t)(interface->mtu - headers));
+    if (place != NULL)
+        memcpy(place, kept, 2);
+}

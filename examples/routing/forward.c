@@ -121,6 +121,8 @@ static void send_by(struct router *router, uint16_t from, const struct lk_route 
         reject(router, rejection);
         return;
     }
+    clamp(&router->interfaces[from], packet);
+    clamp(interface, packet);
     if (!interface->is_tap)
         packet->len = pad(packet->frame, packet->len);
     router->forwarded++;

@@ -25,6 +25,7 @@ struct interface {
     int device;          /* -1: the device is gone */
     unsigned index;      /* of the kernel's interface */
     size_t mtu;          /* in octets */
+    int clamps;          /* the MTU limits the segments of TCP connections over it */
     struct lk_interface own;  /* its Ethernet address, and the addresses from which ICMP errors come */
     struct error_limit limit; /* for the errors that it sends */
     struct packet *queue[FRAMES_AT_ONCE];
@@ -103,6 +104,8 @@ void count_missed(struct interface *interface);
 void complete_checksum(struct packet *packet);
 /* Leaves the checksum of a frame that becomes many frames to the device again. */
 void uncomplete_checksum(struct packet *packet);
+/* Lowers the maximum segment size of a SYN to what fits into the MTU of an interface, if the interface clamps. */
+void clamp(const struct interface *interface, struct packet *packet);
 
 /* ---- neighbour.c ---- */
 
