@@ -595,6 +595,8 @@ struct lk_host {
     uint16_t window_len;            /* in octets; not scaled, because it is sent with SYN */
     uint16_t max_seg_size;          /* in octets */
     uint8_t window_scale;           /* in bits; more than 14 is sent as 14 */
+    /* what its neighbour advertisements say */
+    uint8_t is_router;              /* not 0: it forwards packets; sets R (RFC 4861, section 7.2.4) */
 };
 
 /* Writes the answer of a host to an Ethernet frame. Returns its length, or 0 if the frame gets no answer. Fails

@@ -1,5 +1,5 @@
 -- ICMP errors about frames, with the structs and numbers of C.
-use Rattle.std.specs.Prelude.{ℕ, ℤ, pos, ◌≡◌, if◌then◌else◌, List, Option, None, Some}
+use Rattle.std.specs.Prelude.{ℕ, ℤ, pos, ◌≡◌, if◌then◌else◌, false, List, Option, None, Some}
 use Rattle.std.specs.Ordering.{int_eq}
 use Rattle.ip_forward.specs.IcmpProblem.{Tells}
 use Rattle.ip_forward.specs.declared.problem.Problem.TheVariants as router
@@ -37,9 +37,9 @@ TellsOf ours frame problem.NeighbourMissing mtu header carried = Tells ours fram
 TellsOf ours frame problem.PortClosed mtu header carried = IsError ours frame (DstUnreachable unreachable.Port) header carried
 TellsOf ours frame problem.Prohibited mtu header carried = Tells ours frame router.Prohibited header carried
 
--- the interface, if the struct has an address of each version
+-- the interface, if the struct has an address of each version; errors are the same of a router
 abbrev pub own_interface : InterfaceFields → Option Interface
-own_interface own = interface_of own.ipv4 own.ipv6 own.hardware
+own_interface own = interface_of own.ipv4 own.ipv6 own.hardware false
 
 -- the error of an interface about a frame is written; without an interface nothing is
 abbrev pub WritesError : Option Interface → List ℕ → Problem → ℕ → List ℕ → List ℕ → ℤ → Type 0

@@ -6,6 +6,7 @@ use Rattle.ip_host.specs.declared.host.Host.{Host}
 use Rattle.ip_replies.specs.declared.interface.Interface.{Interface}
 use Rattle.ip_replies.specs.declared.tcp_reply.Offer.{Offer}
 use Rattle.ip_wire.specs.TcpRepr.{seq_of}
+use Rattle.c_structs.specs.Headers.{is_yes}
 use Rattle.c_structs.specs.Written.{failure_code}
 use Rattle.c_structs.specs.declared.failures.Failure.TheVariants as failure
 use Rattle.c_icmp.specs.Interfaces.{WritesReply, interface_of}
@@ -33,7 +34,7 @@ host_at h interface = record {
 
 -- the host, if the struct has an address of each version
 abbrev pub host_of : HostFields → Option Host
-host_of h = option_map (host_at h) (interface_of h.ipv4 h.ipv6 h.hardware)
+host_of h = option_map (host_at h) (interface_of h.ipv4 h.ipv6 h.hardware (is_yes h.is_router))
 
 -- the reply of a host to a frame is written; without a host nothing is
 abbrev pub WritesAnswer : Option Host → List ℕ → List ℕ → List ℕ → ℤ → Type 0

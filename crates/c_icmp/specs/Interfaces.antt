@@ -1,5 +1,5 @@
 -- The addresses of an interface as structs of C, and replies that are written.
-use Rattle.std.specs.Prelude.{ℕ, ℤ, pos, ◌≡◌, ◌<◌, ◌≤◌, ◌⊎◌, List, length, Option, None, Some}
+use Rattle.std.specs.Prelude.{ℕ, ℤ, pos, ◌≡◌, ◌<◌, ◌≤◌, ◌⊎◌, Bool, List, length, Option, None, Some}
 use Rattle.std.specs.Option.{option_and_then}
 use Rattle.ip_replies.specs.Message.{values_of}
 use Rattle.ip_replies.specs.declared.interface.Interface.{Interface}
@@ -14,15 +14,20 @@ use Rattle.c_structs.specs.declared.failures.Failure.TheVariants as failure
 use Rattle.c_structs.specs.declared.types.Addr.{Addr}
 
 -- the interface with these addresses, if the first is an IPv4 address and the second an IPv6 address
-abbrev pub interface_with : List ℕ → IpAddress → IpAddress → Option Interface
-interface_with hardware (Ipv4 ipv4) (Ipv6 ipv6) = Some (record { hardware_addr = record { 0 = hardware }; ipv4_addr = ipv4; ipv6_addr = ipv6 })
-interface_with hardware (Ipv4 ipv4) (Ipv4 other) = None
-interface_with hardware (Ipv6 ipv6) other = None
+abbrev pub interface_with : List ℕ → Bool → IpAddress → IpAddress → Option Interface
+interface_with hardware is_router (Ipv4 ipv4) (Ipv6 ipv6) = Some (record {
+  hardware_addr = record { 0 = hardware };
+  ipv4_addr = ipv4;
+  ipv6_addr = ipv6;
+  is_router = is_router;
+})
+interface_with hardware is_router (Ipv4 ipv4) (Ipv4 other) = None
+interface_with hardware is_router (Ipv6 ipv6) other = None
 
 -- the same for structs of addresses
-abbrev pub interface_of : Addr → Addr → List ℕ → Option Interface
-interface_of first second hardware =
-    option_and_then (λ ipv4. option_and_then (λ ipv6. interface_with hardware ipv4 ipv6) (ip_of second)) (ip_of first)
+abbrev pub interface_of : Addr → Addr → List ℕ → Bool → Option Interface
+interface_of first second hardware is_router =
+    option_and_then (λ ipv4. option_and_then (λ ipv6. interface_with hardware is_router ipv4 ipv6) (ip_of second)) (ip_of first)
 
 -- the reply is written to the front of the slice and its length is returned; or there is one that does not fit; or there is none
 abbrev pub WritesReply : (EthernetRepr → Carried → Type 0) → List ℕ → List ℕ → ℤ → Type 0

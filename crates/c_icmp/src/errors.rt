@@ -54,7 +54,7 @@ impl InterfaceFields {
         ensures { WritesError (own_interface self.now) frame.now problem mtu out.old out.new result }
     {
         let hardware = self.hardware;
-        match interface(&self.ipv4, &self.ipv6, hardware) {
+        match interface(&self.ipv4, &self.ipv6, hardware, false) {
             Some(ours) => write_error(&ours, problem, mtu, frame, out),
             None => Failure::NoVersion.code(),
         }

@@ -30,7 +30,7 @@ impl<'a> HostFields<'a> {
         ensures { result ≡ host_of self.now }
     {
         let hardware = self.hardware;
-        let interface = interface(&self.ipv4, &self.ipv6, hardware)?;
+        let interface = interface(&self.ipv4, &self.ipv6, hardware, self.is_router != 0)?;
         Some(Host {
             interface,
             echo_port: self.echo_port,

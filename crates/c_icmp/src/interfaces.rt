@@ -15,8 +15,13 @@ use ip_replies::{Interface, MessageFrame, Reply};
 use ip_wire::{EthernetAddress, Frame, IpAddress, send};
 
 /// The interface with these addresses. `None` if the first is no IPv4 address, or the second no IPv6 address.
-pub(crate) fn interface(first: &Addr, second: &Addr, hardware: [u8; 6]) -> Option<Interface>
-    ensures { result ≡ interface_of first.now second.now hardware }
+pub(crate) fn interface(
+    first: &Addr,
+    second: &Addr,
+    hardware: [u8; 6],
+    is_router: bool,
+) -> Option<Interface>
+    ensures { result ≡ interface_of first.now second.now hardware is_router }
 {
     let ipv4 = first.ip()?;
     let ipv6 = second.ip()?;
@@ -25,6 +30,7 @@ pub(crate) fn interface(first: &Addr, second: &Addr, hardware: [u8; 6]) -> Optio
             hardware_addr: EthernetAddress(hardware),
             ipv4_addr: *ipv4_addr,
             ipv6_addr: *ipv6_addr,
+            is_router,
         }),
         _ => None,
     }

@@ -70,4 +70,6 @@ pub struct HostFields<'a> {
     pub max_seg_size: u16,
     /// At most 14 is sent.
     pub window_scale: u8,
+    /// Not 0 for a router: neighbour advertisements have the flag R.
+    pub is_router: u8,
 }

@@ -37,12 +37,13 @@ pub fn answer(alloc: Global, operands: &mut Operands<'_>) -> Result<String, Allo
     format!(in alloc; "{name} {reply}")
 }
 
-// The addresses of a host.
+// The addresses of a host that is no router.
 fn interface(operands: &mut Operands<'_>) -> Interface {
     Interface {
         hardware_addr: operands.ethernet(),
         ipv4_addr: operands.ipv4(),
         ipv6_addr: operands.ipv6(),
+        is_router: false,
     }
 }
 

@@ -49,10 +49,11 @@ IsAnsweredTo ours link ip named station dst solicited =
     ((ip.src_addr ≡ ipv6_unspecified) × (dst ≡ all_nodes) × (station.0 ≡ group_station all_nodes) × (solicited ≡ false))
     ⊎ (¬ IsInvalidSource ours (address.Ipv6 ip.src_addr) × (dst ≡ ip.src_addr) × (station ≡ station_of named link.src_addr) × IsUnicast station.0 × (solicited ≡ true))
 
--- the advertisement of our hardware address, which replaces another one that is known
+-- the advertisement of our hardware address, which replaces another one that is known. A router sets R: a host that gets R
+-- of 0 no longer sends through it (RFC 4861, sections 7.2.4 and 7.2.5).
 abbrev pub advert_of : Interface → Bool → NdiscRepr
 advert_of ours solicited =
-    NeighborAdvert (record { router = false; solicited = solicited; override_ = true }) ours.ipv6_addr (Some ours.hardware_addr)
+    NeighborAdvert (record { router = ours.is_router; solicited = solicited; override_ = true }) ours.ipv6_addr (Some ours.hardware_addr)
 
 -- the header of its packet, before its length is filled in
 abbrev pub advert_header : Interface → List ℕ → Ipv6Repr

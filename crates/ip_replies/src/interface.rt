@@ -19,6 +19,8 @@ pub struct Interface {
     pub hardware_addr: EthernetAddress,
     pub ipv4_addr: Ipv4Address,
     pub ipv6_addr: Ipv6Address,
+    /// Whether the host forwards packets. Its neighbour advertisements have the flag R then.
+    pub is_router: bool,
 }
 
 impl Interface {

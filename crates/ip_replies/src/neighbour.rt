@@ -152,7 +152,7 @@ fn advert<'a>(
         hop_limit: NDISC_HOP_LIMIT,
     });
     let flags = NdiscNeighborFlags {
-        router: false,
+        router: ours.is_router,
         solicited,
         override_: true,
     };
