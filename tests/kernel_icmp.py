@@ -52,12 +52,13 @@ def run(*command):
     return subprocess.run(command, capture_output=True, text=True, check=False).stdout
 
 
-def is_reachable(address, device):
-    """Whether the kernel finds a neighbour by asking."""
-    end = time.monotonic() + LATEST
-    while "REACHABLE" not in run("ip", "-6", "neighbour", "show", address, "dev", device) and time.monotonic() < end:
+def is_reachable(address, device, is_router):
+    """Whether the kernel finds a neighbour by asking, and the answer has R exactly if it is a router."""
+    words, end = [], time.monotonic() + LATEST
+    while "REACHABLE" not in words and time.monotonic() < end:
+        words = run("ip", "-6", "neighbour", "show", address, "dev", device).split()
         time.sleep(0.05)
-    return time.monotonic() < end
+    return "REACHABLE" in words and ("router" in words) == is_router
 
 
 def is_refused(family, address, port=CLOSED):
@@ -201,7 +202,7 @@ def with_host(device):
     for family, _, address in HOSTS:
         pings(family, address, device)
         check("closed UDP port", is_refused(family, address), address)
-    check("neighbour", is_reachable(HOSTS[1][2], device), run("ip", "-6", "neighbour"))
+    check("neighbour", is_reachable(HOSTS[1][2], device, False), run("ip", "-6", "neighbour"))
     for wire in wires(device):
         echoes(wire)
         closed_ports(wire)
@@ -244,9 +245,9 @@ def told(there):
             (11, 0) if four else (3, 0)) + (0, OWN[family]))
         check("no neighbour", udp_error(family, (absent, 7)) == ((3, 1) if four else (1, 3)) + (0, OWN[family]))
         check("closed UDP port behind the router", is_refused(family, server, CLOSED + 1), server)
-    check("neighbours of the router", is_reachable("fd01::1", "left"), run("ip", "-6", "neighbour"))
+    check("neighbours of the router", is_reachable("fd01::1", "left", True), run("ip", "-6", "neighbour"))
     with there.entered():
-        check("neighbours of the router", is_reachable("fd02::1", "right"), run("ip", "-6", "neighbour"))
+        check("neighbours of the router", is_reachable("fd02::1", "right", True), run("ip", "-6", "neighbour"))
 
 
 def quotes(side):

@@ -18,7 +18,7 @@ int answer(struct router *router, uint16_t from, const struct lk_addr *own, stru
 {
     static uint8_t out[LONGEST_FRAME];
     const struct lk_interface *interface = &router->interfaces[from].own;
-    struct lk_host host = {.ipv4 = interface->ipv4, .ipv6 = interface->ipv6};
+    struct lk_host host = {.ipv4 = interface->ipv4, .ipv6 = interface->ipv6, .is_router = 1};
     memcpy(host.hardware, interface->hardware, 6);
     *(own->version == 4 ? &host.ipv4 : &host.ipv6) = *own;
     complete_checksum(packet);
