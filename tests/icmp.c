@@ -210,6 +210,7 @@ static void read_neighbours(void)
     CHECK(lk_read_ndisc(advert, sizeof advert, &n) == 1 && memcmp(&n.target, &target, sizeof target) == 0);
     CHECK(n.has_hardware == 1 && memcmp(n.hardware, own, 6) == 0);
     CHECK(n.is_advert == 1 && n.is_router == 0 && n.is_solicited == 1 && n.overrides == 1);
+    CHECK(lk_read_ndisc(router_advert, sizeof router_advert, &n) == 1 && n.is_router == 1 && n.is_solicited == 1);
     CHECK(lk_read_ndisc(probe, sizeof probe, &n) == 1 && n.has_hardware == 0);
     CHECK(lk_read_ndisc(advert_to_all, sizeof advert_to_all, &n) == 1 && n.is_solicited == 0 && n.overrides == 1);
     before = n;
@@ -276,6 +277,18 @@ static void host_answers(void)
     FAILS(0, lk_answer(&host, changed(echo, sizeof echo, 35, 1), sizeof echo, out, ROOM));
     FAILS(0, lk_answer(&host, changed(solicit, sizeof solicit, 5, 3), sizeof solicit, out, ROOM));
     FAILS(0, lk_answer(&host, changed(closed, sizeof closed, 0, 1), sizeof closed, out, ROOM));
+}
+
+/* Any value but 0 is a router, and R is all that differs. */
+static void router_answers(void)
+{
+    struct lk_host router = host_with(NULL, 0);
+    router.is_router = 1;
+    WRITES(router_advert, cap, lk_answer(&router, solicit, sizeof solicit, out, cap));
+    WRITES(echo_reply6, cap, lk_answer(&router, echo6, sizeof echo6, out, cap));
+    WRITES(unreachable6, cap, lk_answer(&router, closed6, sizeof closed6, out, cap));
+    router.is_router = 128;
+    WRITES(router_advert, cap, lk_answer(&router, solicit, sizeof solicit, out, cap));
 }
 
 /* ---- errors ---- */
@@ -413,6 +426,7 @@ int main(void)
     read_neighbours();
     write_neighbours();
     host_answers();
+    router_answers();
     write_errors();
     write_no_errors();
     translate_echoes();

@@ -19,7 +19,7 @@ TESTS = {name: name + "_tests" for name in ("wire", "use")} | {"frames": "ip_fra
 LIBRARY = re.compile(r"net_base|ip_wire|wire_\w+")
 # The libraries whose types a Rattle program uses: those of `wire_*` through `ip_wire`.
 SHOWN = re.compile(r"net_base|ip_(?!wire_c)\w+")
-# The crates that use the layer through `ip_wire` and `net_base` only, and the formats beside `ip_wire`, which they name too.
+# The crates that use the layer through `ip_wire` and `net_base` only. They may name the formats beside `ip_wire` too.
 ABOVE = re.compile(r"ip_(?!wire\b)\w+|use_tests")
 BESIDE = ("wire_icmp", "wire_ndisc")
 TEST_FUNCTION = re.compile(r"#\[test\]\n(?: *#.*\n)* *fn (\w+)\(")
@@ -180,7 +180,8 @@ def wire_crates_named():
     for number, line in enumerate(read("crates.txt").split("\n"), 1):
         name, _, below = line.partition(":")
         if ABOVE.fullmatch(name):
-            yield from (f"crates.txt:{number}: {name} names {it}" for it in below.split() if it.startswith("wire_") and it not in BESIDE)
+            named = (it for it in below.split() if it.startswith("wire_") and it not in BESIDE)
+            yield from (f"crates.txt:{number}: {name} names {it}" for it in named)
 
 
 def main(top):

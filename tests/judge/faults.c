@@ -54,6 +54,7 @@ enum fault {
     ECHO_OF_0_REJECTED,
     QUOTED_CHECKSUM_VERIFIED,
     SYN_ACK_LEFT,
+    ADVERT_OF_NO_ROUTER,
     FAULTS
 };
 
@@ -82,6 +83,7 @@ __attribute__((constructor)) static void choose(void)
         "an echo identifier of 0 rejected",
         "an error rejected for a quoted checksum",
         "the segment size of a SYN and ACK left",
+        "an advertisement that is never of a router",
     };
     const char *number = getenv("FAULT");
     fault = number ? (enum fault)atoi(number) : NO_FAULT;
@@ -338,10 +340,11 @@ ptrdiff_t __wrap_lk_answer(const struct lk_host *host, const uint8_t *ptr, size_
     without.open_udp_port_count = 0;
     if (fault == SERVED_PORT_CLOSED)
         return __real_lk_answer(&without, ptr, len, out, cap);
-    if (fault == ADVERT_NOT_SOLICITED) {
+    if (fault == ADVERT_NOT_SOLICITED || fault == ADVERT_OF_NO_ROUTER) {
+        unsigned flag = fault == ADVERT_NOT_SOLICITED ? 0x40 : 0x80;
         result = __real_lk_answer(host, ptr, len, out, cap);
-        if (result == 86 && out[12] == 0x86 && out[20] == 58 && out[54] == 136 && out[58] == 0x60)
-            change_word(out + 58, 0x2000, out + 56);
+        if (result == 86 && out[12] == 0x86 && out[20] == 58 && out[54] == 136 && (out[58] & flag) != 0)
+            change_word(out + 58, (out[58] ^ flag) << 8, out + 56);
         return result;
     }
     if (fault != ANSWER_TO_MULTICAST || len < 14 || len > sizeof unicast || (ptr[6] & 1) == 0)

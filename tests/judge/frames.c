@@ -66,6 +66,7 @@ struct lk_host any_host_for(const struct lk_frame *frame)
     any_hardware(host.hardware);
     host.echo_port = (uint16_t)any_port();
     host.window_scale = (uint8_t)(one_in(8) ? any() : below(17));
+    host.is_router = (uint8_t)(one_in(2) ? 0 : one_in(2) ? 1 : any());
     if (!one_in(8))
         memcpy(host.hardware, frame->ethernet.dst, 6);
     if (!one_in(8) && frame->dst.addr.version == 4)

@@ -308,6 +308,7 @@ static size_t answer_solicitation(const struct lk_host *host, struct lk_frame *f
     told.target = host->ipv6;
     told.is_advert = told.has_hardware = told.overrides = 1;
     told.is_solicited = !is_probe;
+    told.is_router = host->is_router;
     memcpy(told.hardware, host->hardware, 6);
     return put_answer(frame, 58, 1, message, put_ndisc(&told, &frame->src.addr, &frame->dst.addr, message), out);
 }
