@@ -53,7 +53,7 @@ Host = _declare(
     "lk_host", open_ports=POINTER(c_uint16), open_port_count=c_size_t, open_udp_ports=POINTER(c_uint16),
     open_udp_port_count=c_size_t, ipv4=Addr, ipv6=Addr, hardware=_Hardware,
     echo_port=c_uint16, seq_number=c_uint32, tsval=c_uint32, window_len=c_uint16, max_seg_size=c_uint16,
-    window_scale=c_uint8,
+    window_scale=c_uint8, is_router=c_uint8,
 )  # fmt: skip
 
 _DATA = (c_char_p, c_size_t)  # bytes that are read

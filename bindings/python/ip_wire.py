@@ -543,6 +543,7 @@ class Host:
     max_seg_size: int = 1220
     window_scale: int = 0
     open_udp_ports: Tuple[int, ...] = ()  # what they get is not answered
+    is_router: bool = False  # it forwards packets, and its neighbour advertisements have the flag R
 
     def answer(self, frame: Data) -> Optional[bytes]:
         """The answer to an Ethernet frame, or None if it gets none."""

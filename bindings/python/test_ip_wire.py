@@ -221,6 +221,12 @@ class Writing(unittest.TestCase):
         closed = ip_wire.emit_udp(replace(IPV6, dst=Endpoint(IPV6.dst.addr, 9)), b"")
         self.assertEqual(ip_wire.parse_frame(host.answer(closed)).icmp, Icmp(1, 4))
         self.assertIsNone(replace(host, open_udp_ports=(8, 9)).answer(closed))
+        asked = Headers(Ethernet(CLIENT, bytes.fromhex("3333ff000002")), IPV6.src,
+                        Endpoint(ip_address("ff02::1:ff00:2"), 0), Ip(hop_limit=255))  # fmt: skip
+        solicitation = ip_wire.emit_icmp(asked, Icmp(135, 0), host.ipv6.packed)
+        for is_router, flags in (False, 0x60000000), (True, 0xE0000000):
+            advert = ip_wire.parse_frame(replace(host, is_router=is_router).answer(solicitation))
+            self.assertEqual((advert.icmp, advert.payload[:16]), (Icmp(136, 0, flags), host.ipv6.packed))
         arp = Arp(1, CLIENT, bytes(6), IPv4Address("192.0.2.1"), host.ipv4)
         answer = ip_wire.parse_frame(host.answer(ip_wire.emit_arp(Ethernet(CLIENT, b"\xff" * 6), arp)))
         self.assertEqual(answer.arp, Arp(2, SERVER, CLIENT, host.ipv4, arp.src))

@@ -29,6 +29,8 @@ pub struct Host<'a> {
     pub max_seg_size: u16,
     /// What an open port sends as its window scale, in bits; more than 14 is sent as 14.
     pub window_scale: u8,
+    /// Whether it forwards packets. Its neighbour advertisements have the flag R then.
+    pub is_router: bool,
 }
 
 impl Host<'_> {
@@ -53,6 +55,7 @@ impl Host<'_> {
             window_len: self.window_len,
             max_seg_size: self.max_seg_size,
             window_scale: self.window_scale,
+            is_router: self.is_router.into(),
         };
         // SAFETY: the host and its ports are read alone, there are `len` bytes at `ptr` and `cap` bytes at `out`.
         let answer =

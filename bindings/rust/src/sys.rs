@@ -204,6 +204,7 @@ structs! {
         window_len: u16,
         max_seg_size: u16,
         window_scale: u8,
+        is_router: u8,
     }
 }
 

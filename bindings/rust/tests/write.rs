@@ -199,6 +199,7 @@ fn host(open_ports: &[u16]) -> Host<'_> {
         window_len: 1000,
         max_seg_size: 1400,
         window_scale: 2,
+        is_router: false,
     }
 }
 
@@ -225,6 +226,16 @@ fn a_host_answers() {
     let error = Frame::parse(host.answer(closed, &mut out).unwrap().unwrap());
     assert_eq!(error.icmp(), Some(Icmp { icmp_type: 3, code: 3, word: 0 }));
     assert_eq!(Host { open_udp_ports: &[8, 9], ..host }.answer(closed, &mut out), Ok(None));
+
+    let mut asked = headers("[2001:db8::1]:0", "[ff02::1:ff00:2]:0");
+    asked.ethernet.dst = [0x33, 0x33, 0xff, 0, 0, 2].into();
+    asked.ip.hop_limit = 255;
+    let icmp = Icmp { icmp_type: 135, code: 0, word: 0 };
+    let solicitation = asked.emit_icmp(&icmp, &host.ipv6.octets(), &mut bytes).unwrap();
+    for (is_router, word) in [(false, 0x6000_0000), (true, 0xe000_0000)] {
+        let advert = Host { is_router, ..host }.answer(solicitation, &mut out).unwrap().unwrap();
+        assert_eq!(Frame::parse(advert).icmp(), Some(Icmp { icmp_type: 136, code: 0, word }));
+    }
 
     let arp = Arp {
         operation: Arp::REQUEST,
