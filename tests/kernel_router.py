@@ -16,7 +16,7 @@ import time
 
 import icmp
 import packets
-from forwarded import SYN, TCP, Packet, Router
+from forwarded import SYN, TCP, Packet, Router, is_valid
 from kernel_bridge import in_namespace
 from kernel_client import check, echoed, report, tcp_at_once, tcp_turns, udp_lengths, wrong
 from kernel_links import (ELSEWHERE, LATEST, MTU_DISCOVER, PMTUDISC_INTERFACE, PMTUDISC_PROBE, SELF, Here, Namespace, Program, WideSide, no_errors, ping,
@@ -404,11 +404,13 @@ def longer_hosts(there):
 
 
 def sizes(frames):
-    """The maximum segment sizes of these SYNs."""
+    """The maximum segment sizes of these SYNs. Their checksums are valid, or left to the device: the sum of the pseudo-header."""
     found = set()
     for packet in map(Packet, frames):
         if packet.is_whole and packet.protocol == TCP and packet.payload[13] & SYN:
             found.add(number(last_options(packet.payload[20 : packet.payload[12] // 16 * 4])[MAX_SEG_SIZE]))
+            left = packets.word_sum(packets.pseudo_header(*packet.ends, TCP, len(packet.payload)))
+            check("checksum of a SYN", is_valid(packet) or number(packet.payload[16:18]) == left, packet.frame.hex())
     return found
 
 
