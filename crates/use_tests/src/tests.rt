@@ -30,6 +30,7 @@ fn ours() -> Interface {
         hardware_addr: EthernetAddress([0x02, 0x00, 0x00, 0x00, 0x00, 0x02]),
         ipv4_addr: Ipv4Address::new(192, 0, 2, 2),
         ipv6_addr: Ipv6Address::new(0x2001, 0xdb8, 0, 0, 0, 0, 0, 2),
+        is_router: false,
     }
 }
 

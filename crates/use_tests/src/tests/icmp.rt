@@ -3,7 +3,7 @@
 
 use super::{change, ours};
 use ip_forward::{Problem, error};
-use ip_replies::{icmp_echo, neighbour};
+use ip_replies::{Interface, icmp_echo, neighbour};
 use ip_wire::Frame;
 use net_base::ChecksumCapabilities;
 
@@ -143,11 +143,16 @@ fn echoes(frame: &[u8], reply: &[u8]) -> bool {
     is_sent(sent, &out, reply)
 }
 
-/// Whether the frame gets this advertisement.
+/// Whether the frame gets this advertisement from a host.
 fn advertises(frame: &[u8], reply: &[u8]) -> bool {
+    advertises_at(frame, &ours(), reply)
+}
+
+/// Whether the frame gets this advertisement from an interface.
+fn advertises_at(frame: &[u8], ours: &Interface, reply: &[u8]) -> bool {
     let mut out = [0xa5; 128];
     let sent = match Frame::parse(frame, &ChecksumCapabilities::default()) {
-        Ok(request) => match neighbour::reply(&request, &ours()) {
+        Ok(request) => match neighbour::reply(&request, ours) {
             Some(reply) => reply.send(&mut out),
             None => None,
         },
@@ -208,6 +213,21 @@ fn answers_a_solicitation(rt: HostRuntime) {
     let mut other_group = SOLICIT;
     change(&mut other_group, &[(5, 0x03)]);
     assert!(rt; advertises(&other_group, &[]));
+}
+
+#[test]
+fn says_that_it_is_a_router(rt: HostRuntime) {
+    let router = Interface {
+        is_router: true,
+        ..ours()
+    };
+    // The flag R is bit 7 of octet 58.
+    let mut advert = ADVERT;
+    change(&mut advert, &[(56, 0x0a), (58, 0xe0)]);
+    assert!(rt; advertises_at(&SOLICIT, &router, &advert));
+    let mut advert_to_all = ADVERT_TO_ALL;
+    change(&mut advert_to_all, &[(56, 0x79), (58, 0xa0)]);
+    assert!(rt; advertises_at(&PROBE, &router, &advert_to_all));
 }
 
 #[test]
