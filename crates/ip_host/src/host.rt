@@ -59,7 +59,9 @@ pub fn answer(host: &Host<'_>, frame: &[u8], out: &mut [u8]) -> Option<usize>
     }
 }
 
-// The reply to an ARP request, to a UDP packet for the echo port, or to a TCP segment.
+// The reply to an ARP request, to a UDP packet for the echo port, or to a TCP segment. Inlined, the values of both kinds
+// of replies would be copied.
+#[inline(never)]
 fn reply_with_frame<'a>(host: &Host<'_>, request: &Frame<'a>) -> Option<Frame<'a>>
     requires { Fits request.now }
     ensures { Gives (RepliesFrame host.now request.now) result }
@@ -74,6 +76,7 @@ fn reply_with_frame<'a>(host: &Host<'_>, request: &Frame<'a>) -> Option<Frame<'a
 }
 
 // The reply to an echo request, to a neighbour solicitation, or to a UDP packet for a closed port.
+#[inline(never)]
 fn reply_with_message<'a>(
     host: &Host<'_>,
     request: &Frame<'a>,
