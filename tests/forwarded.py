@@ -188,8 +188,7 @@ def clamped(frame, mtu):
     if place is None or options[place : place + 2] <= size:
         return frame
     changed = options[:place] + size + options[place + 2 :]
-    total = (0xFFFF - number(body[16:18])) + (0xFFFF - word_sum(options)) + word_sum(changed)
-    body = body[:16] + updated(total, False) + body[18:20] + changed + body[20 + len(options) :]
+    body = body[:16] + updated(body[16:18], options, changed, False) + body[18:20] + changed + body[20 + len(options) :]
     return frame[: 14 + packet.header_len] + body + frame[14 + packet.total_len :]
 
 

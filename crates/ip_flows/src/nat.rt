@@ -104,18 +104,19 @@ impl Nat {
         }
     }
 
-    // The place of a port's mapping.
+    // The place of a port's mapping. As a sum, it does not compare the protocol anew for each candidate of a search.
     pub(crate) fn place(&self, protocol: Protocol, port: usize) -> usize
         requires low { self.now.first_port ≤ port }
         requires high { port ≤ 65535 }
         ensures { result ≡ place_of self.now protocol port }
     {
         let first = PROTOCOLS * (port - usize::from(self.first_port));
-        match protocol {
-            Protocol::Udp => first,
-            Protocol::Tcp => first + 1,
-            Protocol::Icmp => first + 2,
-        }
+        let offset = match protocol {
+            Protocol::Udp => 0,
+            Protocol::Tcp => 1,
+            Protocol::Icmp => 2,
+        };
+        first + offset
     }
 
     // The first port of the run of an endpoint, counted from the first of so many outside ports.
