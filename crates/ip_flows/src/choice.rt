@@ -91,6 +91,7 @@ fn free_port(
 }
 
 // The outside port of an inside endpoint.
+#[inline(always)]
 pub(crate) fn choose(
     nat: &Nat,
     mappings: &[Mapping],
