@@ -48,6 +48,18 @@ static uint64_t call_translate(const struct library *library, const struct row *
     return answers;
 }
 
+/* The limit falls with each call on a copy. */
+static uint64_t call_clamp_mss(const struct library *library, const struct row *row, uint64_t times)
+{
+    uint64_t answers = 0;
+    (void)row;
+    for (uint64_t i = 0; i < times; i++) {
+        uint8_t *frame = next_on_its_way();
+        answers += (uint64_t)library->clamp_mss(frame, frame_len, (uint16_t)(1400 - (next_frame - 1) / 32 % 32));
+    }
+    return answers;
+}
+
 #define NEXT_DESTINATION &destinations[next_frame++ % DESTINATIONS]
 REPEAT(call_choose_route, choose_route, nodes, row->size, NEXT_DESTINATION)
 REPEAT(call_check_source, check_source, routes, row->size, nodes, row->size, NEXT_DESTINATION, 1)
@@ -141,6 +153,8 @@ static const struct call host_rows[] = {
     {"answer TCP/IPv4 SYN", prepare_syn, call_answer},
     {"answer TCP/IPv4 data", prepare_data, call_answer},
     {"answer solicitation", prepare_solicitation, call_answer},
+    {"clamp the MSS of a SYN", prepare_syn, call_clamp_mss},
+    {"clamp the MSS of data", prepare_data, call_clamp_mss},
 };
 static const size_t host_sizes[] = {0};
 static const struct call message_rows[] = {
