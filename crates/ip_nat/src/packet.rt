@@ -188,6 +188,7 @@ fn parse_ports(header: &Ipv4Repr, payload: &[u8]) -> Result<Packet, Rejection>
 }
 
 // The echo message.
+#[inline(always)]
 fn parse_echo(header: &Ipv4Repr, payload: &[u8]) -> Result<Packet, Rejection>
     requires { header.now.next_header ≡ IpProtocol.Icmp }
     ensures header { IfOk result (λ p. p.header ≡ header.now) }
