@@ -34,7 +34,8 @@ impl Side {
         }
     }
 
-    // The address of a header on this side.
+    // The address of a header on this side. Always inlined, since a call would keep the header in memory.
+    #[inline(always)]
     fn of(self, header: &Ipv4Repr) -> Ipv4Address
         ensures { result ≡ addr_of self header.now }
     {
