@@ -816,9 +816,9 @@ struct lk_mapping {
 
 /* Translate the source of a packet that leaves, and the destination of a packet that comes in, in place, as
  * lk_translate does. `mappings` are LK_MAPPINGS(ports), zeros at first, for this many outside ports from `first_port`
- * on. There are `count / LK_MAPPINGS(1)` outside ports, but none above 65535. `mappings[LK_MAPPINGS(n)]` is the UDP
- * mapping of port `first_port + n`; its TCP mapping and its ICMP mapping, of an echo identifier, follow. `now` is a clock
- * in milliseconds that never goes back.
+ * on. There are `count / LK_MAPPINGS(1)` outside ports, but none above 65535. The table has three parts of
+ * `count / LK_MAPPINGS(1)` mappings, for UDP, TCP and ICMP; in each the mapping of port `first_port + n` is number `n`.
+ * The identifier of an echo counts as its port. `now` is a clock in milliseconds that never goes back.
  *
  *     enum { FIRST_PORT = 1024, COUNT = LK_MAPPINGS(65536 - FIRST_PORT) };
  *     static struct lk_mapping mappings[COUNT];

@@ -369,6 +369,7 @@ static struct lk_mapping mappings[MAPPINGS];
 
 static void translate_echoes(void)
 {
+    static const struct lk_mapping free_mappings[4];
     memset(mappings, 0, sizeof mappings);
     STAYS_OUT(0, nat_reply_in, LK_NO_MAPPING);
     STAYS_OUT(0, nat_error_in, LK_NO_MAPPING);
@@ -380,7 +381,7 @@ static void translate_echoes(void)
     STAYS_OUT(60000, nat_reply_in, LK_NO_MAPPING);
     STAYS_OUT(60000, nat_error_in, LK_NO_MAPPING);
     STAYS_OUT(60000, nat_request, LK_NO_MAPPING);
-    CHECK(memcmp(mappings, mappings + LK_MAPPINGS(1), 2 * sizeof *mappings) == 0); /* no mapping of UDP or TCP */
+    CHECK(memcmp(mappings, free_mappings, sizeof free_mappings) == 0); /* no mapping of UDP or TCP */
 }
 
 static void translate_errors_out(void)

@@ -110,6 +110,7 @@ static void translate_udp(void)
     CHECK(in(0, reply_in, sizeof reply, 0) == LK_NO_MAPPING);
     CHECK(out(0, udp, sizeof udp, next_port) == 0 && frame[34] == 0x9c && frame[35] == 0x3f);
     CHECK(out(1, udp, sizeof udp, 0) == 0 && is_now(udp_out, sizeof udp));
+    CHECK(mappings[0].expires == 300000 && mappings[1].expires == 300001);
     CHECK(out(2, udp, sizeof udp, third_port) == LK_NO_FREE_PORT);
     CHECK(in(3, reply_in, sizeof reply, 0) == 0 && is_now(reply, sizeof reply));
     CHECK(out(299999, udp, sizeof udp, next_port) == 0 && frame[34] == 0x9c && frame[35] == 0x3f);
@@ -170,6 +171,7 @@ static void translate_tcp(void)
     CHECK(segment(0, LK_SYN, &client, &server) == 0);
     lk_read_frame(frame, 54, &f);
     CHECK(f.src.port == 40000 && memcmp(f.src.addr.octets, nat.outside, 4) == 0 && f.transport_checksum == LK_RIGHT);
+    CHECK(mappings[3].expires == 240000);
     CHECK(segment(1, LK_SYN | LK_ACK, &server, &outside) == 0);
     lk_read_frame(frame, 54, &f);
     CHECK(memcmp(&f.dst, &client, sizeof client) == 0);

@@ -466,18 +466,19 @@ int __wrap_lk_translate_in(const struct lk_nat *nat, struct lk_mapping *mappings
 {
     uint64_t time = fault == LIVE_FOR_TOO_LONG && now > 0 ? now - 1 : now;
     static uint8_t before[0x20000];
+    size_t ports = count / LK_MAPPINGS(1), n;
     struct lk_mapping *mapping;
     struct lk_frame f;
     int result;
     lk_read_frame(frame, len, &f);
     if (f.transport == LK_ICMP)
         f.dst.port = (uint16_t)(f.icmp.word >> 16);
-    mapping = mappings + LK_MAPPINGS(f.dst.port - nat->first_port) + (f.transport == LK_TCP);
-    if (fault == ECHO_FOR_A_UDP_MAPPING && f.transport == LK_ICMP && f.dst.port >= nat->first_port &&
-        mapping < mappings + count && mapping->expires <= now)
+    n = (size_t)f.dst.port - nat->first_port;
+    mapping = mappings + (f.transport == LK_TCP ? ports : 0) + n;
+    if (fault == ECHO_FOR_A_UDP_MAPPING && f.transport == LK_ICMP && n < ports && mapping->expires <= now)
         return LK_NO_MAPPING;
-    if (fault == FILTERED_BY_REMOTE && f.dst.port >= nat->first_port && mapping < mappings + count &&
-        memcmp(mapping->remote, f.src.addr.octets, 4) != 0 && mapping->expires > now)
+    if (fault == FILTERED_BY_REMOTE && n < ports && memcmp(mapping->remote, f.src.addr.octets, 4) != 0 &&
+        mapping->expires > now)
         return LK_NO_MAPPING;
     memcpy(before, frame, len < sizeof before ? len : 0);
     result = __real_lk_translate_in(nat, mappings, count, time, frame, len);

@@ -15,16 +15,16 @@ use Rattle.ip_flows.specs.declared.state.Event.{Event}
 
 -- the mapping that is read at the place of an outside port
 pub read-at : (nat : Nat) (old : List Mapping) (now : ℕ) (event : Event) (port : ℕ) (inside : Ipv4Endpoint) (d : Mapping)
-    → MapsTo nat old now (protocol_of event) port inside → get_or old (place_of nat (protocol_of event) port) d ≡ mapping_at nat old (protocol_of event) port
+    → MapsTo nat old now (protocol_of event) port inside → get_or old (place_of nat (length old) (protocol_of event) port) d ≡ mapping_at nat old (protocol_of event) port
 read-at nat old now event port inside d mapped =
-    get_or_default old (place_of nat (protocol_of event) port) d free_mapping (place-lt nat (length old) (protocol_of event) port mapped.exists)
+    get_or_default old (place_of nat (length old) (protocol_of event) port) d free_mapping (place-lt nat (length old) (protocol_of event) port mapped.exists)
 
 -- ---- a mapping that is kept
 
 pub kept-opens : (nat : Nat) (old : List Mapping) (now : ℕ) (event : Event) (inside remote : Ipv4Endpoint) (port : ℕ) (m d : Mapping)
     → IsFirst (λ p. MapsTo nat old now (protocol_of event) p inside) nat (length old) inside port
-    → m ≡ after_outbound nat now event remote (get_or old (place_of nat (protocol_of event) port) d)
-    → Opens nat old (set old (place_of nat (protocol_of event) port) m) now event inside remote port
+    → m ≡ after_outbound nat now event remote (get_or old (place_of nat (length old) (protocol_of event) port) d)
+    → Opens nat old (set old (place_of nat (length old) (protocol_of event) port) m) now event inside remote port
 kept-opens nat old now event inside remote port m d first is =
     let same : m ≡ after_outbound nat now event remote (mapping_at nat old (protocol_of event) port) =
     is ∙ ap (after_outbound nat now event remote) (read-at nat old now event port inside d first.holds) in
@@ -36,8 +36,8 @@ kept-opens nat old now event inside remote port m d first is =
 
 pub kept-table : (nat : Nat) (old : List Mapping) (now : ℕ) (event : Event) (inside remote : Ipv4Endpoint) (port : ℕ) (m d : Mapping)
     → MapsTo nat old now (protocol_of event) port inside
-    → m ≡ after_outbound nat now event remote (get_or old (place_of nat (protocol_of event) port) d)
-    → IsTable nat old now → IsTable nat (set old (place_of nat (protocol_of event) port) m) now
+    → m ≡ after_outbound nat now event remote (get_or old (place_of nat (length old) (protocol_of event) port) d)
+    → IsTable nat old now → IsTable nat (set old (place_of nat (length old) (protocol_of event) port) m) now
 kept-table nat old now event inside remote port m d mapped is table =
     let same : m ≡ after_outbound nat now event remote (mapping_at nat old (protocol_of event) port) =
     is ∙ ap (after_outbound nat now event remote) (read-at nat old now event port inside d mapped) in
@@ -48,7 +48,7 @@ kept-table nat old now event inside remote port m d mapped is table =
 pub made-opens : (nat : Nat) (old : List Mapping) (now : ℕ) (event : Event) (inside remote : Ipv4Endpoint) (port : ℕ) (m : Mapping)
     → IsUnmapped nat old now (protocol_of event) inside → IsFirst (IsFree nat old now (protocol_of event)) nat (length old) inside port
     → m ≡ after_outbound nat now event remote (new_mapping inside remote)
-    → Opens nat old (set old (place_of nat (protocol_of event) port) m) now event inside remote port
+    → Opens nat old (set old (place_of nat (length old) (protocol_of event) port) m) now event inside remote port
 made-opens nat old now event inside remote port m unmapped first is = record {
   mapping = m;
   chosen = subst (Chooses nat old now event inside remote port) (sym is) (made unmapped first);
@@ -58,7 +58,7 @@ made-opens nat old now event inside remote port m unmapped first is = record {
 pub new-table : (nat : Nat) (old : List Mapping) (now : ℕ) (event : Event) (inside remote : Ipv4Endpoint) (port : ℕ) (m : Mapping)
     → IsUnmapped nat old now (protocol_of event) inside → IsFirst (IsFree nat old now (protocol_of event)) nat (length old) inside port
     → m ≡ after_outbound nat now event remote (new_mapping inside remote)
-    → IsTable nat old now → IsTable nat (set old (place_of nat (protocol_of event) port) m) now
+    → IsTable nat old now → IsTable nat (set old (place_of nat (length old) (protocol_of event) port) m) now
 new-table nat old now event inside remote port m unmapped first is table =
     made-table nat old now (protocol_of event) port m inside first.holds.exists first.candidate unmapped (subst (IsOf inside) (sym is) (refl, refl)) table
 
@@ -70,12 +70,12 @@ pub after_inbound-inside : (nat : Nat) (now : ℕ) (event : Event) (remote : Ipv
 after_inbound-inside nat now event remote m inside of = cond_both _ _ _ (IsOf inside) (λ _. of) (λ _. of)
 
 pub found-table : (nat : Nat) (old : List Mapping) (now : ℕ) (event : Event) (remote : Ipv4Endpoint) (port : ℕ) (m d : Mapping) → HasPort nat (length old) port
-    → now < (get_or old (place_of nat (protocol_of event) port) d).expires
-    → m ≡ after_inbound nat now event remote (get_or old (place_of nat (protocol_of event) port) d)
-    → IsTable nat old now → IsTable nat (set old (place_of nat (protocol_of event) port) m) now
+    → now < (get_or old (place_of nat (length old) (protocol_of event) port) d).expires
+    → m ≡ after_inbound nat now event remote (get_or old (place_of nat (length old) (protocol_of event) port) d)
+    → IsTable nat old now → IsTable nat (set old (place_of nat (length old) (protocol_of event) port) m) now
 found-table nat old now event remote port m d exists live is table =
-    let at : get_or old (place_of nat (protocol_of event) port) d ≡ mapping_at nat old (protocol_of event) port =
-    get_or_default old (place_of nat (protocol_of event) port) d free_mapping (place-lt nat (length old) (protocol_of event) port exists) in
+    let at : get_or old (place_of nat (length old) (protocol_of event) port) d ≡ mapping_at nat old (protocol_of event) port =
+    get_or_default old (place_of nat (length old) (protocol_of event) port) d free_mapping (place-lt nat (length old) (protocol_of event) port exists) in
     let same : m ≡ after_inbound nat now event remote (mapping_at nat old (protocol_of event) port) = is ∙ ap (after_inbound nat now event remote) at in
     let inside : Ipv4Endpoint = inside_of (mapping_at nat old (protocol_of event) port) in
     let mapped : MapsTo nat old now (protocol_of event) port inside =

@@ -69,7 +69,7 @@ pub opened-leads : (nat : Nat) (old new : List Mapping) (now later : ℕ) (event
     → later < expiry now (shortest_timeout nat (protocol_of event)) → MapsTo nat new later (protocol_of event) port inside
 opened-leads nat old new now later event inside remote port o before =
     let m = mapping_at nat new (protocol_of event) port in
-    let len : length new ≡ length old = ap length o.becomes ∙ length-set old (place_of nat (protocol_of event) port) o.mapping in
+    let len : length new ≡ length old = ap length o.becomes ∙ length-set old (place_of nat (length old) (protocol_of event) port) o.mapping in
     let least = shortest nat (protocol_of event) (state_of m.state) in
     let ends = opened-restarts nat old new now event inside remote port o in
     record {
@@ -144,7 +144,7 @@ opened-other : (nat : Nat) (old new : List Mapping) (now : ℕ) (event : Event) 
 opened-other nat old new now event inside remote other port q b o mapped apart =
     ap (λ l. mapping_at nat l b q) o.becomes
     ∙ other-at nat old (protocol_of event) b port q o.mapping (λ same.
-    (let both = place-apart nat b (protocol_of event) q port mapped.exists.least (exists-chosen nat old now event inside remote port o.mapping o.chosen).least same in
+    (let both = place-apart nat (length old) b (protocol_of event) q port mapped.exists (exists-chosen nat old now event inside remote port o.mapping o.chosen) same in
     let first : MapsTo nat old now (protocol_of event) q other = subst (λ x. MapsTo nat old now x q other) both.0 mapped in
     let second : MapsTo nat old now (protocol_of event) port other = subst (λ x. MapsTo nat old now (protocol_of event) x other) both.1 first in
     apart (both.0, not-other nat old now event inside remote other port o.mapping o.chosen second)))
@@ -192,7 +192,7 @@ pub table-once : (nat : Nat) (old new other : List Mapping) (now : ℕ) (event :
 table-once nat old new other now event inside remote p q a b =
     let port = port-once nat old new other now event inside remote p q a b in
     let mapping = chosen-mapping nat old now event inside remote p q a.mapping b.mapping port a.chosen b.chosen in
-    a.becomes ∙ (λ i. set old (place_of nat (protocol_of event) (port i)) (mapping i)) ∙ sym b.becomes
+    a.becomes ∙ (λ i. set old (place_of nat (length old) (protocol_of event) (port i)) (mapping i)) ∙ sym b.becomes
 
 chosen-room : (nat : Nat) (old : List Mapping) (now : ℕ) (event : Event) (inside remote : Ipv4Endpoint) (p : ℕ) (m : Mapping) → Chooses nat old now event inside remote p m
     → ¬ IsFull nat old now (protocol_of event) inside

@@ -19,7 +19,7 @@ same-end m e f a b =
 -- ---- a mapping that is written again with its inside endpoint
 
 again : (nat : Nat) (old : List Mapping) (now : ℕ) (a b : Protocol) (p q : ℕ) (m : Mapping) (i e : Ipv4Endpoint) → MapsTo nat old now a p i → IsOf i m
-    → MapsTo nat (set old (place_of nat a p) m) now b q e → MapsTo nat old now b q e
+    → MapsTo nat (set old (place_of nat (length old) a p) m) now b q e → MapsTo nat old now b q e
 again nat old now a b p q m i e was of new = elim (changed nat old now a b p q m e was.exists new) [
   | inl old ↦ old
   | inr there ↦
@@ -29,9 +29,9 @@ again nat old now a b p q m i e was of new = elim (changed nat old now a b p q m
 ]
 
 pub again-table : (nat : Nat) (old : List Mapping) (now : ℕ) (a : Protocol) (p : ℕ) (m : Mapping) (i : Ipv4Endpoint) → MapsTo nat old now a p i → IsOf i m
-    → IsTable nat old now → IsTable nat (set old (place_of nat a p) m) now
+    → IsTable nat old now → IsTable nat (set old (place_of nat (length old) a p) m) now
 again-table nat old now a p m i was of table = record {
-  placed = λ b q e new. subst (λ n. IsCandidate nat n e q) (sym (length-set old (place_of nat a p) m))
+  placed = λ b q e new. subst (λ n. IsCandidate nat n e q) (sym (length-set old (place_of nat (length old) a p) m))
       (table.placed b q e (again nat old now a b p q m i e was of new));
   apart = λ b q r e first second. table.apart b q r e (again nat old now a b p q m i e was of first) (again nat old now a b p r m i e was of second);
 }
@@ -39,14 +39,14 @@ again-table nat old now a p m i was of table = record {
 -- ---- a mapping that is new
 
 pub made-table : (nat : Nat) (old : List Mapping) (now : ℕ) (a : Protocol) (p : ℕ) (m : Mapping) (i : Ipv4Endpoint) → HasPort nat (length old) p
-    → IsCandidate nat (length old) i p → IsUnmapped nat old now a i → IsOf i m → IsTable nat old now → IsTable nat (set old (place_of nat a p) m) now
+    → IsCandidate nat (length old) i p → IsUnmapped nat old now a i → IsOf i m → IsTable nat old now → IsTable nat (set old (place_of nat (length old) a p) m) now
 made-table nat old now a p m i exists candidate unmapped of table =
     let none : (b : Protocol) (q : ℕ) (e : Ipv4Endpoint) → b ≡ a → IsOf e m → ¬ MapsTo nat old now b q e = λ b q e same leads was.
     (let here : MapsTo nat old now a q e = subst (λ x. MapsTo nat old now x q e) same was in
     let mine : MapsTo nat old now a q i = subst (λ x. MapsTo nat old now a q x) (same-end m e i leads of) here in
     unmapped q (table.placed a q i mine) mine) in
     record {
-      placed = λ b q e new. subst (λ n. IsCandidate nat n e q) (sym (length-set old (place_of nat a p) m))
+      placed = λ b q e new. subst (λ n. IsCandidate nat n e q) (sym (length-set old (place_of nat (length old) a p) m))
           (elim (changed nat old now a b p q m e exists new) [
             | inl old ↦ table.placed b q e old
             | inr there ↦

@@ -28,11 +28,11 @@ pub record HasPort (nat : Nat) (len port : ℕ) : Type 0 where
   pub least : nat.first_port ≤ port
   pub most : port < nat.first_port + ports nat len
 
--- the place of a port's mapping
-abbrev pub place_of : Nat → Protocol → ℕ → ℕ
-place_of nat Udp port = protocols * (port - nat.first_port)
-place_of nat Tcp port = protocols * (port - nat.first_port) + 1
-place_of nat Icmp port = protocols * (port - nat.first_port) + 2
+-- the place of a port's mapping: a table with this many mappings has three equal parts, one for each protocol
+abbrev pub place_of : Nat → ℕ → Protocol → ℕ → ℕ
+place_of nat len Udp port = port - nat.first_port
+place_of nat len Tcp port = len / protocols + (port - nat.first_port)
+place_of nat len Icmp port = 2 * (len / protocols) + (port - nat.first_port)
 
 -- a mapping that is not live
 abbrev pub free_mapping : Mapping
@@ -49,7 +49,7 @@ free_mapping = record {
 
 -- the mapping of an outside port
 abbrev pub mapping_at : Nat → List Mapping → Protocol → ℕ → Mapping
-mapping_at nat mappings protocol port = slice_index_or mappings (place_of nat protocol port) free_mapping
+mapping_at nat mappings protocol port = slice_index_or mappings (place_of nat (length mappings) protocol port) free_mapping
 
 -- ---- live mappings
 
@@ -130,7 +130,7 @@ pub data Chooses (nat : Nat) (mappings : List Mapping) (now : ℕ) (event : Even
 pub record Opens (nat : Nat) (old new : List Mapping) (now : ℕ) (event : Event) (inside remote : Ipv4Endpoint) (port : ℕ) : Type 0 where
   pub mapping : Mapping
   pub chosen : Chooses nat old now event inside remote port mapping
-  pub becomes : new ≡ slice_set old (place_of nat (protocol_of event) port) mapping
+  pub becomes : new ≡ slice_set old (place_of nat (length old) (protocol_of event) port) mapping
 
 -- each candidate has a live mapping of another endpoint
 abbrev pub IsFull : Nat → List Mapping → ℕ → Protocol → Ipv4Endpoint → Type 0
@@ -141,7 +141,7 @@ IsFull nat mappings now protocol inside =
 -- `find` gives this inside endpoint, and writes its mapping alone
 pub record Finds (nat : Nat) (old new : List Mapping) (now : ℕ) (event : Event) (port : ℕ) (remote inside : Ipv4Endpoint) : Type 0 where
   pub mapped : MapsTo nat old now (protocol_of event) port inside
-  pub becomes : new ≡ slice_set old (place_of nat (protocol_of event) port)
+  pub becomes : new ≡ slice_set old (place_of nat (length old) (protocol_of event) port)
       (after_inbound nat now event remote (mapping_at nat old (protocol_of event) port))
 
 -- ---- what a search gives

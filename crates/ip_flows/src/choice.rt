@@ -40,7 +40,7 @@ fn maps_to(
     if !has_port(nat, mappings, port) {
         return false;
     }
-    let mapping = &mappings[nat.place(protocol, port)];
+    let mapping = &mappings[nat.place(mappings, protocol, port)];
     mapping.is_of(inside) && now < mapping.expires
 }
 
@@ -48,7 +48,7 @@ fn maps_to(
 fn is_free(nat: &Nat, mappings: &[Mapping], now: u64, protocol: Protocol, port: usize) -> bool
     ensures { IsTrue result ↔ IsFree nat.now mappings.now now protocol port }
 {
-    has_port(nat, mappings, port) && mappings[nat.place(protocol, port)].expires <= now
+    has_port(nat, mappings, port) && mappings[nat.place(mappings, protocol, port)].expires <= now
 }
 
 // The first port of a run that has a live mapping of this inside endpoint.

@@ -24,7 +24,7 @@ pub fn inside_of(
     if !has_port(nat, mappings, port) {
         return None;
     }
-    let mapping = &mappings[nat.place(protocol, port)];
+    let mapping = &mappings[nat.place(mappings, protocol, port)];
     if mapping.expires <= now {
         return None;
     }

@@ -104,19 +104,18 @@ impl Nat {
         }
     }
 
-    // The place of a port's mapping. As a sum, it does not compare the protocol anew for each candidate of a search.
-    pub(crate) fn place(&self, protocol: Protocol, port: usize) -> usize
+    // The place of a port's mapping. With a product, it does not compare the protocol anew for each candidate of a search.
+    pub(crate) fn place(&self, mappings: &[Mapping], protocol: Protocol, port: usize) -> usize
         requires low { self.now.first_port ≤ port }
         requires high { port ≤ 65535 }
-        ensures { result ≡ place_of self.now protocol port }
+        ensures { result ≡ place_of self.now (length mappings.now) protocol port }
     {
-        let first = PROTOCOLS * (port - usize::from(self.first_port));
-        let offset = match protocol {
+        let part = match protocol {
             Protocol::Udp => 0,
             Protocol::Tcp => 1,
             Protocol::Icmp => 2,
         };
-        first + offset
+        part * (mappings.len() / PROTOCOLS) + (port - usize::from(self.first_port))
     }
 
     // The first port of the run of an endpoint, counted from the first of so many outside ports.

@@ -31,12 +31,12 @@ pub fn open(
     let protocol = event.protocol();
     match choose(nat, mappings, now, protocol, inside) {
         Choice::Kept(port) => {
-            let place = nat.place(protocol, port);
+            let place = nat.place(mappings, protocol, port);
             mappings[place] = mappings[place].after_outbound(nat, now, event, remote);
             Some(port as u16)
         }
         Choice::Made(port) => {
-            let place = nat.place(protocol, port);
+            let place = nat.place(mappings, protocol, port);
             mappings[place] = Mapping::new(inside, remote).after_outbound(nat, now, event, remote);
             Some(port as u16)
         }
@@ -64,7 +64,7 @@ pub fn find(
     if !has_port(nat, mappings, port) {
         return None;
     }
-    let place = nat.place(event.protocol(), port);
+    let place = nat.place(mappings, event.protocol(), port);
     let mapping = mappings[place];
     if mapping.expires <= now {
         return None;

@@ -35,15 +35,15 @@ record IsMapped (nat : Nat) (mappings : List Mapping) (protocol : Protocol) (por
 
 -- a write that keeps the inside endpoint of a mapping at its own place
 written : (nat : Nat) (old new : List Mapping) (a b : Protocol) (p q : ℕ) (m : Mapping) (inside : Ipv4Endpoint) → HasPort nat (length old) p
-    → new ≡ set old (place_of nat a p) m → IsMapped nat old b q inside → (b ≡ a → q ≡ p → IsOf inside m) → IsMapped nat new b q inside
+    → new ≡ set old (place_of nat (length old) a p) m → IsMapped nat old b q inside → (b ≡ a → q ≡ p → IsOf inside m) → IsMapped nat new b q inside
 written nat old new a b p q m inside here is was own =
-    let long : length new ≡ length old = ap length is ∙ length-set old (place_of nat a p) m in
+    let long : length new ≡ length old = ap length is ∙ length-set old (place_of nat (length old) a p) m in
     let exists : HasPort nat (length new) q = subst (λ n. HasPort nat n q) (sym long) was.exists in
-    let at : mapping_at nat new b q ≡ mapping_at nat (set old (place_of nat a p) m) b q = ap (λ l. mapping_at nat l b q) is in
-    elim (cases_eq (place_of nat b q) (place_of nat a p)) [
+    let at : mapping_at nat new b q ≡ mapping_at nat (set old (place_of nat (length old) a p) m) b q = ap (λ l. mapping_at nat l b q) is in
+    elim (cases_eq (place_of nat (length old) b q) (place_of nat (length old) a p)) [
       | inl same ↦
-          let both = place-apart nat b a q p was.exists.least here.least same in
-          let there : mapping_at nat new b q ≡ m = at ∙ (λ i. mapping_at nat (set old (place_of nat a p) m) (both.0 i) (both.1 i)) ∙ same-at nat old a p m here in
+          let both = place-apart nat (length old) b a q p was.exists here same in
+          let there : mapping_at nat new b q ≡ m = at ∙ (λ i. mapping_at nat (set old (place_of nat (length old) a p) m) (both.0 i) (both.1 i)) ∙ same-at nat old a p m here in
           record { exists = exists; leads = subst (IsOf inside) (sym there) (own both.0 both.1) }
       | inr apart ↦ record { exists = exists; leads = subst (IsOf inside) (sym (at ∙ other-at nat old a b p q m apart)) was.leads }
     ]
@@ -158,7 +158,7 @@ held nat old new later out now before after answer g a =
     let inside = source_of g.packet in
     let s = sent-as before after g.packet a.packet nat.outside g.port g.carries a.carries g.translated in
     let exists = chosen-exists nat old out event inside (destination_of g.packet) g.port o.mapping o.chosen in
-    let long : length new ≡ length old = ap length o.becomes ∙ length-set old (place_of nat (protocol_of event) g.port) o.mapping in
+    let long : length new ≡ length old = ap length o.becomes ∙ length-set old (place_of nat (length old) (protocol_of event) g.port) o.mapping in
     let at = opened-at nat old new out event inside (destination_of g.packet) g.port o in
     let first : IsMapped nat new (flow_protocol g.packet) g.port inside = record {
       exists = subst (λ n. HasPort nat n g.port) (sym long) exists;

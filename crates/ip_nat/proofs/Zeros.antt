@@ -19,7 +19,7 @@ use Rattle.ip_nat.specs.declared.nat.Rejection.TheVariants.{NotIpv4, BadHeader, 
 
 -- a written mapping that leads to a port
 written : (nat : Nat) (old new : List Mapping) (now : ℕ) (a : Protocol) (p : ℕ) (m : Mapping) (inside : Ipv4Endpoint) → HasPort nat (length old) p
-    → new ≡ set old (place_of nat a p) m → IsOf inside m → (a ≢ Icmp → inside.port ≢ 0) → LeadsToPorts nat old now → LeadsToPorts nat new now
+    → new ≡ set old (place_of nat (length old) a p) m → IsOf inside m → (a ≢ Icmp → inside.port ≢ 0) → LeadsToPorts nat old now → LeadsToPorts nat new now
 written nat old new now a p m inside here is of some ports b q e no_echo mapped =
     elim (changed nat old now a b p q m e here (subst (λ l. MapsTo nat l now b q e) is mapped)) [
       | inl was ↦ ports b q e no_echo was

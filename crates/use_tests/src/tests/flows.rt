@@ -244,7 +244,10 @@ fn maps_echo_identifiers(rt: HostRuntime) {
     assert!(rt; open(&nat, &mut mappings, 0, echo, &host(4, 0), &server(1)) == Some(1024));
     assert!(rt; open(&nat, &mut mappings, 9, echo, &host(4, 1025), &server(1)) == Some(1025));
     assert!(rt; open(&nat, &mut mappings, 9, echo, &host(5, 1024), &server(1)) == None);
-    assert!(rt; mappings[2].expires == 60_000 && mappings[5].expires == 60_009);
+    // The table has one part for each protocol, with one mapping for each port.
+    assert!(rt; mappings[0].expires == 300_000 && mappings[1].expires == 0);
+    assert!(rt; mappings[2].expires == 240_000 && mappings[3].expires == 0);
+    assert!(rt; mappings[4].expires == 60_000 && mappings[5].expires == 60_009);
     assert!(rt; find(&nat, &mut mappings, 59_999, echo, 1024, &server(2)) == Some(host(4, 0)));
     assert!(rt; find(&nat, &mut mappings, 60_000, echo, 1024, &server(2)) == None);
     assert!(rt; find(&nat, &mut mappings, 0, Event::Udp, 1024, &server(1)) == Some(host(2, 1024)));
