@@ -22,9 +22,10 @@
  * A program for version 0.2 must be compiled anew, and these are the changes that it may need:
  *
  * - A NAT needs LK_MAPPINGS(ports) mappings, which are three for each outside port. With the two of version 0.2
- *   it has fewer ports, and no call fails.
+ *   it has fewer ports, and no call fails. The mappings have another order (lk_translate_out).
  * - `struct lk_nat` has a new field before `outside`: `icmp_timeout`. If it is 0, no echo reply comes in.
- * - `struct lk_host` has two new fields before `ipv4`: the UDP ports that the program itself serves.
+ * - `struct lk_host` has two new fields before `ipv4`, the UDP ports that the program itself serves, and `is_router`
+ *   at its end.
  * - A frame with an ICMP message has the transport LK_ICMP. Its payload begins behind the ICMP header, which is
  *   in the new field `icmp` of `struct lk_frame`.
  * - A host answers more frames: echo requests, neighbour solicitations, and UDP packets to closed ports.
@@ -683,7 +684,8 @@ enum lk_rejection {
     LK_EXPIRED,        /* the hop limit is 0 or 1 */
     LK_FRAGMENT,       /* NAT: the packet is a fragment */
     LK_OTHER_PROTOCOL, /* NAT: the packet carries neither UDP nor TCP, nor an ICMP message that is translated */
-    LK_BAD_TRANSPORT,  /* NAT: the UDP or TCP header is rejected (lk_reason), or the checksum is wrong, also of ICMP */
+    LK_BAD_TRANSPORT,  /* NAT: the UDP or TCP header is rejected (lk_reason), or the checksum is wrong, also of ICMP; an
+                        * ICMP error quotes less than an IPv4 header and 8 octets */
     LK_ZERO_PORT,      /* NAT: the port to be written is 0, and a receiver would reject the packet; lk_translate_out:
                         * the source port is 0, so that no answer could come back */
     LK_NO_MAPPING,     /* lk_translate_in: no live mapping has this outside address and port; also of a packet that an
