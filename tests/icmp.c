@@ -369,7 +369,7 @@ static struct lk_mapping mappings[MAPPINGS];
 
 static void translate_echoes(void)
 {
-    static const struct lk_mapping free_mappings[4];
+    static struct lk_mapping free_mappings[4]; /* zeros */
     memset(mappings, 0, sizeof mappings);
     STAYS_OUT(0, nat_reply_in, LK_NO_MAPPING);
     STAYS_OUT(0, nat_error_in, LK_NO_MAPPING);
