@@ -24,7 +24,7 @@ import kernel_nat
 import packets
 from kernel_client import CLOSED, ECHO, HOST_HARDWARE, HOSTS, PROBE, UDP, check, echoed, report
 from kernel_hostile import wires
-from kernel_links import SELF, Here, Namespace, WideSide, no_errors, ping, settle, udp_error
+from kernel_links import READS_MTU, SELF, Here, Namespace, WideSide, no_errors, ping, settle, udp_error
 from kernel_nat import INSIDE, OUTSIDE, bound, seen_by
 from kernel_ndisc import SILENCE, adverts, heard, solicits
 from kernel_router import ARP, MODEL, SERVERS, compare_lists, start_on_pairs, start_on_taps
@@ -326,7 +326,7 @@ def smaller_link(room, there):
     here = Here()
     for name, namespace in (("right", room), ("right", there)):
         namespace.run(f"ip link set {name} mtu 1300")
-    time.sleep(1.2)  # until the router looks at its interfaces again
+    time.sleep(READS_MTU)
     for family, server in SERVERS:
         four = family == socket.AF_INET
         expected = (3, 4, 1300, OWN[family]) if four else (2, 0, 1300, OWN[family])
@@ -339,6 +339,7 @@ def smaller_link(room, there):
         check("ping over a smaller link", ping_discovers(server), server)
     for namespace in (room, there):
         namespace.run("ip link set right mtu 1500")
+    time.sleep(READS_MTU)
     here.run("ip route flush cache && ip -6 route flush cache")
 
 

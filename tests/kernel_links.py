@@ -17,6 +17,7 @@ from packets import word_sum
 
 TOP = os.path.dirname(os.path.dirname(os.path.abspath(__file__)))
 LATEST = 5  # seconds
+READS_MTU = 1.2  # seconds, until a router has looked at its interfaces again
 SO_RCVBUFFORCE, SOL_PACKET, PACKET_STATISTICS = 33, 263, 6
 # By the version of IP: the level of options; IP_RECVERR, IP_TTL and IP_MTU_DISCOVER; where an error has the address.
 MTU_DISCOVER = 10

@@ -19,8 +19,8 @@ import packets
 from forwarded import SYN, TCP, Packet, Router, is_valid
 from kernel_bridge import in_namespace
 from kernel_client import check, echoed, report, tcp_at_once, tcp_turns, udp_lengths, wrong
-from kernel_links import (ELSEWHERE, LATEST, MTU_DISCOVER, PMTUDISC_INTERFACE, PMTUDISC_PROBE, SELF, Here, Namespace, Program, WideSide, no_errors, ping,
-                          settle, udp_echo)
+from kernel_links import (ELSEWHERE, LATEST, MTU_DISCOVER, PMTUDISC_INTERFACE, PMTUDISC_PROBE, READS_MTU, SELF, Here, Namespace, Program, WideSide,
+                          no_errors, ping, settle, udp_echo)
 from rebuilt import MAX_SEG_SIZE, last_options, number
 from routed_frames import HARDWARE, HOSTS, RANDOM_FRAMES, hostile_frames
 
@@ -473,7 +473,7 @@ def smaller_mtu(router, room):
     """A packet that is longer than the next MTU is dropped, and so is a large frame if its segments are. The kernel has to
     learn the MTU for each. The sender of one without DF is not told."""
     room.run("ip link set right mtu 1000")
-    time.sleep(1.2)  # until the router looks at its interfaces again
+    time.sleep(READS_MTU)
     before = router.counters()
     with socket.socket(socket.AF_INET, socket.SOCK_DGRAM) as sock:
         sock.setsockopt(socket.IPPROTO_IP, MTU_DISCOVER, PMTUDISC_PROBE)
@@ -494,6 +494,7 @@ def smaller_mtu(router, room):
         room.run("ip link set right mtu 1500")
         with sock.makefile("rb") as file:
             check("TCP with another MTU", len(file.read(5000)) == 5000)
+    time.sleep(READS_MTU)
 
 
 def tagged_frames(router, sides):
