@@ -119,6 +119,7 @@ impl Nat {
     }
 
     // The first port of the run of an endpoint, counted from the first of so many outside ports.
+    #[inline(always)]
     pub(crate) fn run_start(&self, count: usize, inside: &Ipv4Endpoint) -> usize
         requires { count ≤ 65536 }
         ensures { result ≡ run_start self.now.key count inside.now }
@@ -126,6 +127,7 @@ impl Nat {
         (self.hash(inside) % (count - run_len(count) + 1) as u64) as usize
     }
 
+    #[inline(always)]
     fn hash(&self, inside: &Ipv4Endpoint) -> u64
         ensures { result ≡ hash_of self.now.key inside.now }
     {

@@ -39,6 +39,8 @@ struct IcmpError {
 
 // Lets an ICMP error come in: if it is for the outside address, and quotes a packet from an outside port with a live mapping,
 // the inside endpoint replaces the source of the quoted packet, and the destination of the error.
+// Not inlined, so that its values take no registers while other packets are translated.
+#[inline(never)]
 pub(crate) fn error_in(
     nat: &Nat,
     mappings: &[Mapping],
@@ -64,6 +66,8 @@ pub(crate) fn error_in(
 
 // Lets an ICMP error go out: if it quotes a packet to an inside endpoint with a live mapping, the outside address and port
 // replace the destination of the quoted packet, and the outside address the source of the error.
+// Not inlined, as `error_in`.
+#[inline(never)]
 pub(crate) fn error_out(
     nat: &Nat,
     mappings: &[Mapping],

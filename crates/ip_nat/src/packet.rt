@@ -95,12 +95,13 @@ impl Packet {
         ensures answerable { OnOk result (IsAnswerable self.now) }
         ensures rejected { IfErr result (IsUnanswerable self.now) }
     {
-        match self.kind {
-            Kind::EchoRequest => Ok(()),
-            Kind::EchoReply => Err(Rejection::NoMapping),
-            _ if self.src_port == 0 => Err(Rejection::ZeroPort),
-            _ => Ok(()),
+        if matches!(self.kind, Kind::EchoReply) {
+            return Err(Rejection::NoMapping);
         }
+        if self.src_port == 0 && !self.is_echo_request() {
+            return Err(Rejection::ZeroPort);
+        }
+        Ok(())
     }
 
     // Returns `true` if a receiver accepts the packet with this port on this side. A UDP packet may have
@@ -108,11 +109,12 @@ impl Packet {
     pub(super) fn allows_port(&self, side: Side, port: u16) -> bool
         ensures { (transport : nat.Transport) → Describes self.now transport → IsTrue result ↔ AllowsPort side transport port }
     {
-        match self.kind {
-            Kind::Udp => port != 0 || side == Side::Source,
-            Kind::Tcp(_) => port != 0,
-            Kind::EchoRequest | Kind::EchoReply => true,
-        }
+        port != 0
+            || match self.kind {
+                Kind::Udp => side == Side::Source,
+                Kind::Tcp(_) => false,
+                Kind::EchoRequest | Kind::EchoReply => true,
+            }
     }
 }
 
