@@ -26,7 +26,7 @@
  * - `struct lk_nat` has a new field before `outside`: `icmp_timeout`. If it is 0, no echo reply comes in.
  * - `struct lk_host` has two new fields before `ipv4`, the UDP ports that the program itself serves, and `is_router`
  *   at its end.
- * - A frame with an ICMP message has the transport LK_ICMP. Its payload begins behind the ICMP header, which is
+ * - A frame with an ICMP message has the transport LK_ICMP. Its payload begins after the ICMP header, which is
  *   in the new field `icmp` of `struct lk_frame`.
  * - A host answers more frames: echo requests, neighbour solicitations, and UDP packets to closed ports.
  * - NAT translates ICMP messages, which got LK_OTHER_PROTOCOL. */
@@ -247,7 +247,7 @@ struct lk_tcp_options {
     uint8_t has_timestamp;
 };
 
-/* The header of an ICMP message (RFC 792; over IPv6 RFC 4443) without its checksum. Behind it are the data of an echo,
+/* The header of an ICMP message (RFC 792; over IPv6 RFC 4443) without its checksum. After it come the data of an echo,
  * or the beginning of the packet that an error is about. */
 struct lk_icmp {
     uint32_t word; /* octets 4 to 7: of an echo, identifier * 65536 + sequence number; of errors, an MTU or a pointer */
@@ -335,7 +335,7 @@ struct lk_frame {
  * - Behind an unknown EtherType or protocol all bytes are payload, and so are IPv6 extension headers.
  *   IPv4 options are skipped.
  * - An ICMP message is a packet of protocol 1 over IPv4, or 58 over IPv6, with at least 8 octets. Its payload begins
- *   behind these 8 octets: it is the data of an echo, or the packet that an error quotes. No type or code is rejected,
+ *   after these 8 octets: it is the data of an echo, or the packet that an error quotes. No type or code is rejected,
  *   and the checksum is LK_RIGHT or LK_WRONG. A shorter message has no transport: all of it is payload.
  * - If an IPv6 fragment header follows the IPv6 header directly and is there as a whole, its values are stored.
  *   The payload begins at it. `is_fragment` is 0 if it is of an atomic fragment, which is a whole packet
@@ -665,7 +665,7 @@ enum lk_problem {
  * - It is for a multicast or broadcast address, or for another that no host has.
  * - It is a fragment other than the first, or any fragment of IPv6.
  * - It carries an ICMP message that is no query: an error, a redirect or an unknown type.
- * - It is IPv6 with other extension headers, behind which an ICMP error may be.
+ * - It is IPv6 with other extension headers, which an ICMP error may follow.
  * - The interface has no address of its version.
  *
  * The caller limits the rate (RFC 1812, section 4.3.2.8; RFC 4443, section 2.4 f). */

@@ -13,7 +13,7 @@ struct error_limit {
 /* Whether a frame that this program wrote is an ICMP error. */
 static inline int is_icmp_error(const uint8_t *frame, size_t len)
 {
-    enum { LONGEST_HEADERS = 14 + 40 + 8 }; /* nothing behind them is parsed, so no payload is summed */
+    enum { LONGEST_HEADERS = 14 + 40 + 8 }; /* nothing after them is parsed, so no payload is summed */
     struct lk_frame f;
     lk_read_captured(frame, len < LONGEST_HEADERS ? len : LONGEST_HEADERS, len, &f);
     return f.transport == LK_ICMP && (f.network == LK_IPV4 ? f.icmp.type != 0 && f.icmp.type != 8 : f.icmp.type < 128);
