@@ -9,6 +9,7 @@
 # make check CRATE=name
 #                 proves one crate, over the libraries that make test proved if they are unchanged
 # make statements renews docs/statements/, the record of all contracts and definitions
+# make size       prints the lines, functions, definitions and proofs of each crate, in Markdown
 # make test       runs the gate and all other tests; the gate's log is out/test.log
 # make compare REFERENCE=program [SEED=n] [LINES=n]
 #                 feeds generated lines to the built program and to another one, and prints the first difference
@@ -55,7 +56,7 @@ endif
 endif
 
 .DELETE_ON_ERROR:
-.PHONY: run build install uninstall quick check statements test compare compare-calls bench
+.PHONY: run build install uninstall quick check statements size test compare compare-calls bench
 
 run:
 	@test -r "$$FRAMES" && ! test -d "$$FRAMES" || $(call fail,cannot read $$FRAMES)
@@ -95,6 +96,9 @@ check:
 
 statements:
 	@tests/statements.py --write
+
+size:
+	@tests/size.py
 
 test:
 	@tests/all

@@ -71,6 +71,7 @@ class Item:
     uses: list = field(default_factory=list)
     has_body: bool = False
     body: str = ""
+    body_lines: int = 0  # From its first brace to its last.
 
     def owner(self):
         """The name of the type that an `impl` is for."""
@@ -273,7 +274,9 @@ class Reader:
             item.clauses.append(Clause(kind, name, joined(self.balanced()).strip()))
         item.has_body = self.peek() == "{"
         if item.has_body:
+            begin = self.tokens[self.at].line
             item.body = joined(self.balanced()).strip()
+            item.body_lines = self.tokens[self.at - 1].line - begin + 1
         elif not self.accept(";"):
             self.fail()
         return item
