@@ -88,26 +88,26 @@ ready:
 	@$(CAN_WRITE)
 
 quick:
-	@tests/quick
+	@tests/gate/quick
 
 check:
 	@test -n "$$CRATE" && test -d "crates/$$CRATE/src" || $(call fail,name a crate of crates.txt as CRATE=name)
-	@tests/proved.py check "$$CRATE"; status=$$?; [ $$status = 3 ] || exit $$status; cd "crates/$$CRATE" && rt check
+	@tests/gate/proved.py check "$$CRATE"; status=$$?; [ $$status = 3 ] || exit $$status; cd "crates/$$CRATE" && rt check
 
 statements:
-	@tests/statements.py --write
+	@tests/docs/statements.py --write
 
 size:
-	@tests/size.py
+	@tests/docs/size.py
 
 test:
 	@tests/all
 
 compare: $(PROGRAM)
-	@tests/compare.py $(PROGRAM) "$$SEED" "$$LINES" $(REFERENCE)
+	@tests/frames/compare.py $(PROGRAM) "$$SEED" "$$LINES" $(REFERENCE)
 
 compare-calls: $(CALLS)
-	@tests/compare_calls.py $(CALLS) "$$SEED" "$$LINES" $(REFERENCE)
+	@tests/frames/compare_calls.py $(CALLS) "$$SEED" "$$LINES" $(REFERENCE)
 
 bench: $(PROGRAM) $(LIBRARY)
 	@bench/bench.py $${REFERENCE_BENCH:+--calls "$$REFERENCE_BENCH"} $(if $(REFERENCE),--program $(REFERENCE))
@@ -119,7 +119,7 @@ $(PROGRAM) $(CALLS) $(ARCHIVE): $(SOURCES)
 	@$(CAN_WRITE)
 	@echo 'proving $(@F)'
 	@mkdir -p $(@D)
-	@cd $(@D)/.. && ../../tests/progress.py ../../out/$(@F).log rt $(COMMAND)
+	@cd $(@D)/.. && ../../tests/gate/progress.py ../../out/$(@F).log rt $(COMMAND)
 	@touch $@
 
 $(PAGES): c/pages c/ip_wire.h man/ip_wire.3

@@ -65,7 +65,7 @@ struct row {
     const char *text;
     enum owners owners; /* the libraries that have the call */
     int is_first;       /* of a block of rows */
-    unsigned counted;   /* tests/counts counts the instructions of so many calls; 0: it does not count this row */
+    unsigned counted;   /* tests/counts/run counts the instructions of so many calls; 0: it does not count this row */
 };
 
 static uint8_t bytes[MOST_BYTES];

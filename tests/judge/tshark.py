@@ -4,7 +4,7 @@
     tests/judge/tshark.py JUDGE SEED COUNT
 
 The judge writes COUNT frames as a capture, and a row of fields for each. tshark parses the capture, and must print
-the same rows. The same is done with the ICMP messages in the frames of tests/cases, and in those of icmp.hex, which
+the same rows. The same is done with the ICMP messages in the frames of tests/data/cases, and in those of icmp.hex, which
 Linux sent. The status is 77 if there is no tshark.
 """
 import glob
@@ -108,7 +108,7 @@ def main():
         print("tests/judge: skipped: tshark is missing")
         return 77
     here = os.path.dirname(os.path.abspath(__file__))
-    recorded = [os.path.join(here, "icmp.hex"), *sorted(glob.glob(os.path.join(here, "../cases/*.hex")))]
+    recorded = [os.path.join(here, "icmp.hex"), *sorted(glob.glob(os.path.join(here, "../data/cases/*.hex")))]
     lines = "".join(open(name, encoding="latin-1").read() for name in recorded)
     made = compare([judge, "capture", seed, count], "seed " + seed)
     return 0 if made and compare([judge, "recorded"], "the recorded frames", input=lines, encoding="latin-1") else 1

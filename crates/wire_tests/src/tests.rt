@@ -1,4 +1,4 @@
-//! Worked examples, value by value and byte by byte. The rows of single calls are in tests/calls.
+//! Worked examples, value by value and byte by byte. The rows of single calls are in tests/data/calls.
 
 ghost use Rattle.std.specs.Prelude.{◌≡◌};
 ghost use Rattle.ip_wire.specs.IpAddress.{version_of};

@@ -1,5 +1,5 @@
 //! A host and its neighbour, bytes to bytes. The frames are as Linux sent them, with their checksums
-//! completed; the replies to them follow from the RFCs. `tests/calls/worked_replies.call` has more examples.
+//! completed; the replies to them follow from the RFCs. `tests/data/calls/worked_replies.call` has more examples.
 
 use super::captured::{ARP_REPLY, ARP_REQUEST, ECHO_REPLY, ECHO_REQUEST, SYN, SYN_ACK, SYN_RESET};
 use super::{OFFER, ours};

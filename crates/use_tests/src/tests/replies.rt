@@ -1,4 +1,4 @@
-//! A reply of each kind. `tests/calls/worked_replies.call` has more examples.
+//! A reply of each kind. `tests/data/calls/worked_replies.call` has more examples.
 
 use super::captured::{ARP_REPLY, ARP_REQUEST, ECHO_REPLY, ECHO_REQUEST, SYN, SYN_ACK};
 use super::{OFFER, ours};

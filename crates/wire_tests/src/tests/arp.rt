@@ -1,4 +1,4 @@
-//! ARP packets. `tests/calls/worked_headers.call` has more examples.
+//! ARP packets. `tests/data/calls/worked_headers.call` has more examples.
 
 use super::support::{OLD, has_front, prints};
 use ip_wire::{

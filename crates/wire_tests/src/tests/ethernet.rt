@@ -1,4 +1,4 @@
-//! Ethernet frames. `tests/calls/worked_headers.call` has more examples.
+//! Ethernet frames. `tests/data/calls/worked_headers.call` has more examples.
 
 use super::support::{OLD, copy_to, has_front, prints};
 use super::{FRAME_DST, FRAME_SRC};

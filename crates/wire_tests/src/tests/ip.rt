@@ -1,4 +1,4 @@
-//! Headers of either version. `tests/calls/worked_headers.call` has more examples.
+//! Headers of either version. `tests/data/calls/worked_headers.call` has more examples.
 
 ghost use Rattle.std.specs.Prelude.{◌≡◌, ◌≤◌};
 ghost use Rattle.ip_wire.specs.Ip.{max_payload_len, payload_len_of};

@@ -1,4 +1,4 @@
-//! Addresses of either version. `tests/calls/worked_addresses.call` has more examples.
+//! Addresses of either version. `tests/data/calls/worked_addresses.call` has more examples.
 
 use super::support::prints;
 use ip_wire::{

@@ -1,4 +1,4 @@
-//! CIDR blocks of addresses of either version. `tests/calls/worked_addresses.call` has more examples.
+//! CIDR blocks of addresses of either version. `tests/data/calls/worked_addresses.call` has more examples.
 
 use ip_wire::{IpAddress, IpCidr, Ipv4Address, Ipv4Cidr, Ipv6Address, Ipv6Cidr};
 

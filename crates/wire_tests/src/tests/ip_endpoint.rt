@@ -1,4 +1,4 @@
-//! Endpoints, and ports to listen on. `tests/calls/worked_addresses.call` has more examples.
+//! Endpoints, and ports to listen on. `tests/data/calls/worked_addresses.call` has more examples.
 
 use super::support::prints;
 use ip_wire::{IpAddress, IpEndpoint, IpListenEndpoint, Ipv4Address, Ipv6Address};

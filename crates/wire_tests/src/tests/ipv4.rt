@@ -1,4 +1,4 @@
-//! IPv4 headers. `tests/calls/worked_headers.call` has more examples.
+//! IPv4 headers. `tests/data/calls/worked_headers.call` has more examples.
 
 use super::IPV4_FRAGMENT;
 use super::support::{IPV4_PACKET, OLD, has_front, ipv4_header, prints};

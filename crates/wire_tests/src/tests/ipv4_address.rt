@@ -1,4 +1,4 @@
-//! IPv4 addresses. `tests/calls/worked_addresses.call` has more examples.
+//! IPv4 addresses. `tests/data/calls/worked_addresses.call` has more examples.
 
 use super::support::prints;
 use ip_wire::{IPV4_MULTICAST_ALL_ROUTERS, IPV4_MULTICAST_ALL_SYSTEMS, Ipv4Address};

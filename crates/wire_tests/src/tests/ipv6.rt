@@ -1,4 +1,4 @@
-//! IPv6 headers. `tests/calls/worked_headers.call` has more examples.
+//! IPv6 headers. `tests/data/calls/worked_headers.call` has more examples.
 
 use super::support::{OLD, has_front, prints};
 use super::{IPV6_PACKET, ipv6_header};

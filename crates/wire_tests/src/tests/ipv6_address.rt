@@ -1,4 +1,4 @@
-//! IPv6 addresses. `tests/calls/worked_addresses.call` has more examples.
+//! IPv6 addresses. `tests/data/calls/worked_addresses.call` has more examples.
 
 use super::support::prints;
 use ip_wire::{

@@ -1,4 +1,4 @@
-//! CIDR blocks of IPv6 addresses. `tests/calls/worked_addresses.call` has more examples.
+//! CIDR blocks of IPv6 addresses. `tests/data/calls/worked_addresses.call` has more examples.
 
 use super::support::prints;
 use ip_wire::Ipv6Cidr;

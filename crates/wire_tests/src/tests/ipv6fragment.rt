@@ -1,4 +1,4 @@
-//! IPv6 fragment headers. `tests/calls/worked_headers.call` has more examples.
+//! IPv6 fragment headers. `tests/data/calls/worked_headers.call` has more examples.
 
 use super::support::{OLD, has_front, prints};
 use ip_wire::{Ipv6FragmentHeader, Ipv6FragmentHeaderMut, Ipv6FragmentRepr};

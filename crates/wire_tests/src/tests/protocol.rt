@@ -1,4 +1,4 @@
-//! Protocol numbers. `tests/cases/shapes.hex` has the text of each.
+//! Protocol numbers. `tests/data/cases/shapes.hex` has the text of each.
 
 use super::support::prints;
 use ip_wire::IpProtocol;

@@ -1,4 +1,4 @@
-//! Parsers of text. `tests/calls/worked_addresses.call` has more examples.
+//! Parsers of text. `tests/data/calls/worked_addresses.call` has more examples.
 
 use ip_wire::{IpAddress, Ipv4Address, Ipv4Cidr, Ipv6Address, Ipv6Cidr};
 

@@ -1,0 +1,193 @@
+#!/usr/bin/env python3
+"""Compares the calls, structs and enums of c/ip_wire.h with the sources of the C library.
+
+    tests/docs/c_calls.py [TOP]
+
+Each call of the header must be a function of ip_wire_c, c/cpu.c or c/names.c with the same types, and the other way round.
+Each struct with `repr(C)` must have the same fields in the same order, and each enum and each failure the same names and
+numbers.
+`lk_append` and its struct are in the header only. Each name `lk_..` in
+README.md and docs/ must be in the header. Differences are printed, and the status is 1 then. TOP is the top of the
+repository. tests/install/run compares the header with the man pages.
+"""
+import glob
+import os
+import re
+import sys
+
+from sources import Sources
+
+NUMBERS = {"u8": "uint8_t", "u16": "uint16_t", "u32": "uint32_t", "u64": "uint64_t", "i32": "int", "usize": "size_t",
+           "isize": "ptrdiff_t"}
+SAME = {"char": "uint8_t", "int32_t": "int"}
+# The field has another name in Rattle, because `type` is a keyword.
+FIELDS = {"ethertype": "type", "msg_type": "type"}
+# What is in C.
+OF_C = ("/c/cpu.c", "/c/names.c")
+HEADER_ONLY = ("lk_out",)
+# The crates of the structs and calls. The first ones are used without C too, and their structs have other names there.
+OF_LIBRARY = ("ip_routes", "ip_flows", "c_structs", "c_icmp", "c_routing", "ip_wire_c")
+STRUCTS = {"Node": "struct lk_route_node", "Mapping": "struct lk_mapping", "Nat": "struct lk_nat"}
+# The fields of this struct are fields of the one around it in C, and then come the octets that align it.
+INNER = {"FrameFields": 5}
+# The flags of a TCP header, from bit 0 on (RFC 9293, section 3.1).
+TCP_FLAGS = ("FIN", "SYN", "RST", "PSH", "ACK", "URG", "ECE", "CWR")
+
+
+def read(path):
+    with open(path, encoding="utf-8") as file:
+        return file.read()
+
+
+def without_comments(text):
+    return re.sub(r"/\*.*?\*/|//[^\n]*|^#.*?$", " ", text, flags=re.S | re.M)
+
+
+def c_type(declared):
+    """The type in a declaration such as `const char *text`. Bytes of a text are `uint8_t`, and `int32_t` is `int` here."""
+    words = [SAME.get(word, word) for word in re.findall(r"\w+|\*", declared)]
+    return " ".join(words[:-1]) if len(words) > 1 else words[0]
+
+
+def c_calls(text):
+    """Each prototype or definition as a name with its types: those of the parameters, then that of the result."""
+    text = re.sub(r"static inline [^{]*{.*?\n}", "", without_comments(text), flags=re.S)
+    for result, name, parameters in re.findall(r"(\w+ +|\w+ \*)(lk_\w+)\(([^()]*)\)\s*[;{]", text):
+        types = [] if parameters.strip() == "void" else [c_type(p) for p in parameters.split(",")]
+        yield name, [*types, c_type(result) if "*" not in result else "const char *"]
+
+
+def c_structs(text):
+    """Each struct as a name with its fields: name, type and length of an array."""
+    for name, body in re.findall(r"struct (lk_\w+) {(.*?)};", without_comments(text), re.S):
+        yield name, re.findall(r"(\S[\w ]*?(?: \*)?) ?\b(\w+)(?:\[(\d+)\])?;", body)
+
+
+def c_failures(text):
+    """The names of the failures with their numbers."""
+    return {name: int(number) for name, number in re.findall(r"#define (LK_\w+) LK_FAILURE\((\d+)\)", text)}
+
+
+def c_enums(text):
+    """Each enum as a name with its names and numbers."""
+    for name, body in re.findall(r"enum (lk_\w+) {(.*?)}", without_comments(text), re.S):
+        numbers = {}
+        for word, number in re.findall(r"(\w+)(?: = (\d+))?", body):
+            numbers[word] = int(number) if number else max(numbers.values(), default=-1) + 1
+        yield name, numbers
+
+
+class Library:
+    """The sources of the C library. The doc line of a struct names it as C does."""
+
+    def __init__(self, top):
+        crates = Sources(top).crates
+        everything = [item for crate in crates.values() for module in crate.modules.values() for item in module.items]
+        self.items = [item for name in OF_LIBRARY for module in crates[name].modules.values()
+                      for item in module.items]
+        self.sides = next(item for item in everything if item.kind == "enum" and item.name == "Side")
+        docs = {item.name: " ".join(item.docs) for item in self.items if item.kind == "struct"}
+        names = {rust: re.match(r"`(struct lk_\w+)`", doc) for rust, doc in docs.items()}
+        self.types = NUMBERS | STRUCTS | {rust: found.group(1) for rust, found in names.items() if found}
+        constants = (re.fullmatch(r"const (\w+): usize = (\d+)", item.text) for item in everything if item.visibility == "pub")
+        self.constants = dict(found.groups() for found in constants if found)
+
+    def name(self, rust):
+        return self.types.get(re.sub(r"<.*", "", rust), rust)
+
+    def c_types(self, rust):
+        """The C types of a parameter: a slice is a pointer and a length."""
+        reference, inner = re.match(r"(&(?:mut )?)?(.*)", rust).groups()
+        element = re.match(r"\[([^;\]]*)(;)?", inner)
+        const = "const " if reference == "&" else ""
+        if element:
+            yield const + self.name(element.group(1)) + " *"
+            yield from [] if element.group(2) else ["size_t"]
+        else:
+            yield const + self.name(inner) + " *" if reference else self.name(inner)
+
+    def calls(self):
+        for item in self.items:
+            head = re.fullmatch(r'extern "C" fn (lk_\w+)\((.*)\)(?: -> (\w+))?', item.text)
+            if head:
+                name, parameters, result = head.groups()
+                found = re.findall(r"\w+: (&?(?:mut )?(?:\[.*?\]|[^,\s]+))", parameters)
+                types = [t for rust in found for t in self.c_types(rust)]
+                yield name, [*types, self.name(result) if result else "void"]
+
+    def structs(self):
+        for item in self.items:
+            if item.kind == "struct" and "repr(C)" in item.attributes:
+                if item.name not in INNER:
+                    yield self.name(item.name).removeprefix("struct "), self.struct_fields(item)
+
+    def struct_fields(self, item):
+        return [field for member in item.members for field in self.fields(member.text)]
+
+    def inner(self, name):
+        """The fields of a struct within another one, and the octets behind them."""
+        item = next(item for item in self.items if item.kind == "struct" and item.name == name)
+        return [*self.struct_fields(item), ("uint8_t", "unused", str(INNER[name]))]
+
+    def enums(self):
+        yield "lk_tcp_flag", {"LK_" + flag: 1 << bit for bit, flag in enumerate(TCP_FLAGS)}
+        yield "lk_side", {"LK_" + member.text.upper(): number for number, member in enumerate(self.sides.members)}
+        for item in self.items:
+            found = re.match(r"`enum (lk_\w+)`", " ".join(item.docs)) if item.kind == "enum" else None
+            if found:
+                name = found.group(1)
+                nothing = "NO_CHECKSUM" if name == "lk_verdict" else "NO_" + name.removeprefix("lk_").upper()
+                words = [re.sub(r"\B([A-Z])", r"_\1", member.text).upper() for member in item.members]
+                yield name, {"LK_" + (nothing if word == "NONE" else word): number for number, word in enumerate(words)}
+
+    def failures(self):
+        failure = next(item for item in self.items if item.kind == "enum" and item.name == "Failure")
+        words = [re.sub(r"\B([A-Z])", r"_\1", member.text).upper() for member in failure.members]
+        return {"LK_" + word: number for number, word in enumerate(words, 1)}
+
+    def fields(self, member):
+        """The fields in C of a field: a slice is a pointer and a count."""
+        declared = re.fullmatch(r"(?:pub )?(\w+): (?:\[(\w+); (\w+)\]|&'\w+ \[(\w+)\]|(\w+))", member)
+        if declared:
+            name, array, length, slice_of, plain = declared.groups("")
+            if plain in INNER:
+                yield from self.inner(plain)
+            elif slice_of:
+                yield "const " + self.name(slice_of) + " *", name, ""
+                yield "size_t", name.removesuffix("s") + "_count", ""
+            else:
+                yield self.name(array or plain), FIELDS.get(name, name), self.constants.get(length, length)
+
+
+def differences(header, sources):
+    header, sources = dict(header), dict(sources)
+    for name in sorted(header.keys() | sources.keys()):
+        if header.get(name) != sources.get(name):
+            yield f"{name}: the header has {header.get(name)}, the sources have {sources.get(name)}"
+
+
+def unknown_names(top, header):
+    """The names `lk_..` of the documents that are not in the header. One that ends in `_` is the beginning of some."""
+    for path in [top + "/README.md", *sorted(glob.glob(top + "/docs/*.md"))]:
+        for name in sorted(set(re.findall(r"\blk_\w*", read(path)))):
+            if not re.search(rf"\b{name}" if name.endswith("_") else rf"\b{name}\b", header):
+                yield f"{os.path.relpath(path, top)}: {name} is not in the header"
+
+
+def main(top):
+    header = read(top + "/c/ip_wire.h")
+    sources = Library(top)
+    calls = dict(c_calls(header))
+    found = [
+        *differences(calls, [*sources.calls(), *(call for name in OF_C for call in c_calls(read(top + name)))]),
+        *differences((it for it in c_structs(header) if it[0] not in HEADER_ONLY), sources.structs()),
+        *differences(c_failures(header), sources.failures()),
+        *differences(c_enums(header), sources.enums()),
+        *unknown_names(top, header),
+    ]
+    print("".join(line + "\n" for line in found), end="")
+    return 1 if found or not calls else 0
+
+
+if __name__ == "__main__":
+    sys.exit(main(sys.argv[1] if len(sys.argv) > 1 else os.path.dirname(os.path.dirname(os.path.dirname(os.path.abspath(__file__))))))

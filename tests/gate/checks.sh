@@ -1,0 +1,124 @@
+# What tests/all does with the gate and with each check. It sources this file.
+room=$(mktemp -d)
+copy=$room/copy
+declare -A begun
+trap 'for group in "${begun[@]}"; do kill -- "-$group" 2> /dev/null; done; rm -rf "$room"' EXIT
+passed=0
+failed=0
+skipped=0
+
+# check NAME COMMAND..: one check, which passes where the command does. A status of 77 means that it is skipped.
+check() {
+    local name=$1
+    shift
+    "$@"
+    case $? in
+    0) passed=$((passed + 1)) ;;
+    77) skipped=$((skipped + 1)) ;;
+    *)
+        failed=$((failed + 1))
+        echo "FAILED: $name"
+        ;;
+    esac
+}
+
+# begin TEST COMMAND..: begins a test in tests/ that runs beside what follows, until `end TEST`
+begin() {
+    local test=$1
+    shift
+    set -m
+    "$@" > "$room/$test" 2>&1 &
+    begun[$test]=$!
+    set +m
+}
+
+# end TEST: what the test prints, and its status. It is one check. Its parts that are skipped count by themselves,
+# and if all of it is skipped, this counts once.
+end() {
+    local status
+    wait "${begun[$1]}"
+    status=$?
+    unset "begun[$1]"
+    cat "$room/$1"
+    [ "$status" = 77 ] || skipped=$((skipped + $(grep -c "^tests/[a-z_/]*: skipped: " "$room/$1")))
+    return "$status"
+}
+
+# The gate proves everything from nothing, in a copy.
+copy_the_tree() {
+    mkdir "$copy"
+    touch "$room/begun"
+    tar --exclude=out --exclude=.git -cf - . | tar -xf - -C "$copy"
+    mkdir -p out "${program%/*}" "${calls%/*}" "${archive%/*}"
+    rm -rf out/test.log out/proved
+}
+
+# Proves the crate of the C library and builds it, which the gate does not do.
+build_the_library() {
+    tests/gate/proved.py rattle build ip_wire_c --crate-type staticlib --toolchain "$(dirname "$(rt doc)")/toolchain" \
+        --jobs "$(nproc)" -o "$PWD/$archive"
+}
+
+# Runs the gate, builds the programs and the library, and counts the checks of the gate. The libraries that it proved are
+# kept in out/proved.
+run_the_gate() {
+    local gate built
+    (cd "$copy" && tests/gate/progress.py "$OLDPWD/out/test.log" rt ci)
+    gate=$?
+    ln -s "$PWD/out" "$copy/out"
+    rm -rf "$program" "$calls" "$archive" "${library%/*}"
+    build_the_library > out/library.log 2>&1 || tail -n 3 out/library.log
+    for built in "$program" "$calls"; do
+        [ -x "$copy/$built" ] && cp "$copy/$built" "$built"
+    done
+    # Dated back to the copy, so that make rebuilds them if a source has changed since.
+    touch -c -r "$room/begun" "$program" "$calls" "$archive"
+    [ -e "$archive" ] && c/link "$archive" "${library%/*}"
+    if [[ $(tail -n 1 out/test.log) =~ ^([0-9]+)\ passed,\ ([0-9]+)\ failed$ ]]; then
+        passed=${BASH_REMATCH[1]}
+        failed=${BASH_REMATCH[2]}
+    fi
+    if [ "$gate" != 0 ] && [ "$failed" = 0 ] || [ "$passed" = 0 ]; then
+        echo "FAILED: the gate ends with status $gate and does not say what failed"
+        failed=$((failed + 1))
+    fi
+}
+
+# The borrow checker must reject both functions, because each borrows one payload mutably twice.
+rejects_two_loans() {
+    local crate=$copy/crates/two_loans
+    mkdir -p "$crate/src"
+    echo 'two_loans: ip_wire' >> "$copy/crates.txt"
+    cat > "$crate/src/lib.rt" << 'END'
+//! Two loans of one payload at once.
+#![tactic(auto)]
+
+use ip_wire::{EthernetFrameMut, Ipv4PacketMut};
+
+pub fn of_a_frame(frame: &mut EthernetFrameMut<'_>) {
+    let first = frame.payload_mut();
+    let second = frame.payload_mut();
+    first.swap_with_slice(second);
+}
+
+pub fn of_a_packet(packet: &mut Ipv4PacketMut<'_>) {
+    let first = packet.payload_mut();
+    let second = packet.payload_mut();
+    first.swap_with_slice(second);
+}
+END
+    "$copy/tests/gate/proved.py" rattle check two_loans --only '' > "$room/loans.log" 2>&1 && return 1
+    grep -q '^src/lib.rt:8:.*borrow-e0499.*`\*frame` as mutable more than once' "$room/loans.log" &&
+        grep -q '^src/lib.rt:14:.*borrow-e0499.*`\*packet` as mutable more than once' "$room/loans.log" &&
+        [ "$(grep -c 'error\[' "$room/loans.log")" = 2 ]
+}
+
+# The last line, and the status.
+report() {
+    local skips=''
+    times > "$room/times"
+    awk -F '[ms ]+' 'NR == 2 { printf "processor time: %d minutes\n", $1 + $3 + ($2 + $4) / 60 }' "$room/times"
+    [ "$skipped" = 0 ] || skips=", $skipped skipped"
+    echo "$passed passed, $failed failed$skips"
+    [ "$failed" = 0 ]
+}

@@ -1,0 +1,104 @@
+#!/usr/bin/env python3
+"""Runs rattle over the libraries that the gate proved, so that none is proved again.
+
+    tests/gate/proved.py rattle COMMAND CRATE WORD..
+                                           runs `rattle COMMAND` on crates/CRATE over the kept libraries
+    tests/gate/proved.py check CRATE            proves crates/CRATE, and keeps what it proved for the next check
+
+The status is 3 if a library below the crate has changed since it was kept, or was not kept.
+"""
+import functools
+import hashlib
+import os
+import pathlib
+import shutil
+import subprocess
+import sys
+
+TOP = pathlib.Path(__file__).resolve().parents[2]
+KEPT = TOP / "out" / "proved"
+STALE = 3
+
+
+@functools.cache
+def kit():
+    told = subprocess.run(["rt", "doc"], check=True, capture_output=True, text=True).stdout
+    return pathlib.Path(told.strip()).parent
+
+
+@functools.cache
+def crates():
+    """The kinds and the libraries of the crates in crates.txt, by their names."""
+    lines = (line.partition("#")[0].partition(":") for line in (TOP / "crates.txt").read_text().splitlines())
+    return {head.split()[0]: (head.split()[1:], below.split()) for head, _, below in lines if head.strip()}
+
+
+def below(name):
+    """The libraries of the repository under this crate."""
+    found = set()
+    for library in crates()[name][1]:
+        if library in crates():
+            found |= {library} | below(library)
+    return found
+
+
+@functools.cache
+def sum_of(name):
+    """A sum of what the proof of a library reads, beside the libraries under it: the kit, its line of crates.txt, its sources."""
+    seen = hashlib.sha256((kit() / "KIT-ID").read_bytes() + repr(crates()[name]).encode())
+    for part in ("src", "specs", "proofs"):
+        for path in sorted((TOP / "crates" / name / part).rglob("*")):
+            if path.is_file():
+                seen.update(repr((str(path.relative_to(TOP)), path.read_bytes())).encode())
+    return seen.hexdigest()
+
+
+def keep(name, folder):
+    """Keeps the library that the gate proved here, in a folder for those of another copy of the repository."""
+    built = TOP / "crates" / name / "out" / "rlib" / f"{name}.rlib"
+    if built.is_dir():
+        shutil.copytree(built, folder / f"{name}.rlib")
+        (folder / f"{name}.sum").write_text(sum_of(name))
+
+
+def stale(crate):
+    """The libraries under a crate that were not kept as they are now."""
+    def is_kept(name):
+        kept = KEPT / f"{name}.sum"
+        return kept.exists() and kept.read_text() == sum_of(name)
+
+    return [name for name in sorted(below(crate)) if not is_kept(name)]
+
+
+def command_line(command, crate):
+    """The command line of rattle for a crate, in its folder or a copy of that, over the kept libraries."""
+    rlibs = {name: (KEPT if name in crates() else kit() / "rlibs") / f"{name}.rlib" for name in ["std", *crates()[crate][1]]}
+    given = [word for name, rlib in rlibs.items() for word in ("--extern", f"{name}={rlib}")]
+    given += ["-L", f"dependency={kit() / 'rlibs'}", "-L", f"dependency={KEPT}"]
+    given += ["--antt-project", kit() / "rattle/logic/antt-project.json", "--logic-built", kit() / "logic_built"]
+    root = "src/main.rt" if (TOP / "crates" / crate / "src/main.rt").exists() else "src/lib.rt"
+    return ["rattle", command, "--crate-name", crate, *given, root]
+
+
+def rattle(command, crate, *more):
+    lacking = stale(crate)
+    if lacking:
+        print(f"not proved by make test as they are now: {', '.join(lacking)}", file=sys.stderr)
+        return STALE
+    return subprocess.run([*command_line(command, crate), *more], cwd=TOP / "crates" / crate, check=False).returncode
+
+
+def check(crate):
+    kept = KEPT / f"{crate}.kept"
+    kept.mkdir(parents=True, exist_ok=True)
+    return rattle("check", crate, "--incremental", kept, "--jobs", str(len(os.sched_getaffinity(0))))
+
+
+if __name__ == "__main__":
+    match sys.argv[1:]:
+        case ["rattle", command, crate, *words]:
+            sys.exit(rattle(command, crate, *words))
+        case ["check", crate]:
+            sys.exit(check(crate))
+        case _:
+            sys.exit(__doc__)

@@ -1,0 +1,219 @@
+"""Namespaces, links and programs for router.py, nat.py and icmp_tests.py."""
+import atexit
+import contextlib
+import os
+import re
+import select
+import signal
+import socket
+import struct
+import subprocess
+import sys
+import time
+
+from bridge import Side, in_namespace, set_namespace
+from client import check, kernel_errors
+from packets import word_sum
+
+TOP = os.path.dirname(os.path.dirname(os.path.dirname(os.path.abspath(__file__))))
+LATEST = 5  # seconds
+READS_MTU = 1.2  # seconds, until a router has looked at its interfaces again
+SO_RCVBUFFORCE, SOL_PACKET, PACKET_STATISTICS = 33, 263, 6
+# By the version of IP: the level of options; IP_RECVERR, IP_TTL and IP_MTU_DISCOVER; where an error has the address.
+MTU_DISCOVER = 10
+ERROR_OPTIONS = {socket.AF_INET: (socket.IPPROTO_IP, 11, socket.IP_TTL, MTU_DISCOVER, slice(20, 24)),
+                 socket.AF_INET6: (socket.IPPROTO_IPV6, 25, socket.IPV6_UNICAST_HOPS, 23, slice(24, 40))}
+# The interface's MTU counts, with DF and without.
+PMTUDISC_PROBE, PMTUDISC_INTERFACE = 3, 4
+SELF = str(os.getpid())
+# No host has this address, so no kernel takes a frame to it.
+ELSEWHERE = bytes.fromhex("02000000ee0e")
+
+
+class Namespace:
+    """A network namespace, which a process keeps."""
+
+    def __init__(self):
+        self.keeper = subprocess.Popen(["unshare", "--net", "sh", "-c", "echo ready && exec sleep 900"], stdout=subprocess.PIPE)
+        self.keeper.stdout.readline()
+        self.process = str(self.keeper.pid)
+        atexit.register(self.keeper.kill)
+        self.run("ip link set lo up")
+
+    def run(self, script):
+        subprocess.run(["nsenter", "--target", self.process, "--net", "sh", "-ec", script], check=True)
+
+    def serve(self, *addresses):
+        server = in_namespace(self.process, f"{TOP}/tests/kernel/echo_server.py", *addresses)
+        server.stdout.readline()
+        return server
+
+    def errors(self):
+        return in_namespace(self.process, sys.executable, f"{TOP}/tests/kernel/bridge.py", "errors").communicate()[0]
+
+    @contextlib.contextmanager
+    def entered(self):
+        """This thread is in the namespace."""
+        with open("/proc/thread-self/ns/net", "rb") as own, open(f"/proc/{self.process}/ns/net", "rb") as other:
+            set_namespace(other)
+            try:
+                yield
+            finally:
+                set_namespace(own)
+
+
+class Here(Namespace):
+    """The namespace of this process."""
+
+    def __init__(self):
+        self.process = SELF
+
+
+class Program:
+    """A router or NAT that runs in a namespace, on these interfaces."""
+
+    def __init__(self, namespace, program, config, interfaces, options=(), env=None):
+        self.last, self.errors = interfaces[-1].split(":")[1], f"{program}.err"
+        self.config = f"{program}.config"
+        with open(self.config, "w", encoding="ascii") as file:
+            file.write(config)
+        command = ["nsenter", "--target", namespace.process, "--net", program, *options, self.config, *interfaces]
+        with open(self.errors, "w", encoding="ascii") as errors:
+            self.process = subprocess.Popen(command, stdout=subprocess.PIPE, stderr=errors, text=True, env=env)
+        if self.process.stdout.readline() != "ready\n":
+            sys.exit(f"tests/kernel: {program} does not start: {self.messages()}")
+        self.read_lines()
+
+    def messages(self):
+        with open(self.errors, encoding="ascii") as errors:
+            return errors.read()
+
+    def waits_for(self, message):
+        """Whether it prints this message within 5 s."""
+        end = time.monotonic() + LATEST
+        while message not in self.messages() and time.monotonic() < end:
+            time.sleep(0.02)
+        return message in self.messages()
+
+    def read_lines(self):
+        """The lines up to that of the last interface."""
+        lines = []
+        while not (lines and lines[-1].startswith(self.last + ":")):
+            line = self.process.stdout.readline()
+            if not line:
+                break
+            lines.append(line)
+        return lines
+
+    def counters(self):
+        """The counters by their names; those of an interface as "left sent"."""
+        self.process.send_signal(signal.SIGUSR1)
+        found = {}
+        for line in self.read_lines():
+            front, name, rest = re.fullmatch(r"((?:(.*): )?)(.*)\n", line).groups()
+            for part in rest.removesuffix(", gone").split(", "):
+                what, value = part.rsplit(" ", 1)
+                found[what if name in (None, "dropped") else f"{name} {what}"] = int(value)
+        return found
+
+    def ends(self, what, status=0):
+        """It ends within 2 s of SIGTERM, with this status."""
+        self.process.send_signal(signal.SIGTERM)
+        try:
+            found = self.process.wait(2)
+        except subprocess.TimeoutExpired:
+            self.process.kill()
+            found = self.process.wait()
+        check("SIGTERM", found == status, (what, found))
+        self.process.stdout.close()
+
+
+class WideSide(Side):
+    """A side that keeps many frames until they are taken: in a user namespace fewer, so that it may lose some."""
+
+    is_short = False
+
+    def __init__(self, process, device):
+        super().__init__(process, device)
+        try:
+            self.sock.setsockopt(socket.SOL_SOCKET, SO_RCVBUFFORCE, 1 << 27)
+        except PermissionError:  # in a user namespace
+            self.sock.setsockopt(socket.SOL_SOCKET, socket.SO_RCVBUF, 1 << 27)
+
+    def has_lost(self):
+        """Whether it has lost frames since they were last forgotten."""
+        self.is_short |= struct.unpack("II", self.sock.getsockopt(SOL_PACKET, PACKET_STATISTICS, 8))[1] > 0
+        return self.is_short
+
+    def forget(self):
+        super().forget()
+        self.has_lost()
+        self.is_short = False
+
+
+def settle(*sides):
+    """Takes frames on all sides until no more come. Whether none was lost."""
+    while any([side.take(0.02) for side in sides]):
+        pass
+    return not any([side.has_lost() for side in sides])
+
+
+def udp_echo(family, place, data, source=None, options=()):
+    """What comes back of a UDP packet, or the error."""
+    with socket.socket(family, socket.SOCK_DGRAM) as sock:
+        sock.settimeout(2)
+        for option in options:
+            sock.setsockopt(*option)
+        if source:
+            sock.bind(source)
+        sock.sendto(data, place)
+        try:
+            return sock.recv(65535)
+        except OSError as error:
+            return error
+
+
+def ping(family, address, data, number, source=None, wait=LATEST):
+    """Whether an ICMP echo comes back."""
+    is_ipv4 = family == socket.AF_INET
+    with socket.socket(family, socket.SOCK_RAW, socket.IPPROTO_ICMP if is_ipv4 else socket.IPPROTO_ICMPV6) as sock:
+        if source:
+            sock.bind((source, 0))
+        body = number.to_bytes(2, "big") * 2 + data
+        front = bytes([8 if is_ipv4 else 128, 0])
+        total = 0xFFFF - word_sum(front + b"\0\0" + body) if is_ipv4 else 0
+        sock.sendto(front + total.to_bytes(2, "big") + body, (address, 0))
+        end = time.monotonic() + wait
+        while select.select([sock], [], [], max(0, end - time.monotonic()))[0]:
+            answer = sock.recv(70000)
+            answer = answer[(answer[0] & 15) * 4 :] if is_ipv4 else answer
+            if answer[:1] == (b"\0" if is_ipv4 else b"\x81") and answer[4:] == body:
+                return True
+    return False
+
+
+def udp_error(family, place, data=b"", hop_limit=64, source=None):
+    """The ICMP error about a UDP packet: its type and code, the number behind them, and who sent it; or None."""
+    level, recverr, hops, discover, place_of_addr = ERROR_OPTIONS[family]
+    with socket.socket(family, socket.SOCK_DGRAM) as sock:
+        for option, value in ((recverr, 1), (hops, hop_limit), (discover, PMTUDISC_PROBE)):
+            sock.setsockopt(level, option, value)
+        if source:
+            sock.bind(source)
+        sock.connect(place)  # so that the error must quote this address
+        sock.send(data)
+        poll = select.poll()
+        poll.register(sock, select.POLLERR)
+        if not poll.poll(LATEST * 1000):
+            return None
+        for _, _, told in sock.recvmsg(1, 1000, socket.MSG_ERRQUEUE)[1]:
+            _, _, kind, code, _, number, _ = struct.unpack("=IBBBBII", told[:16])
+            return kind, code, number, socket.inet_ntop(family, told[place_of_addr])
+    return None
+
+
+def no_errors(*namespaces):
+    """No kernel has counted an error."""
+    for namespace in namespaces:
+        found = f"{kernel_errors()}\n" if isinstance(namespace, Here) else namespace.errors()
+        check("errors that the kernel counts", found == "{}\n", found)

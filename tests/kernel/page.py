@@ -1,0 +1,63 @@
+#!/usr/bin/env python3
+"""Runs the commands of docs/ROUTER.md, and compares what they print with the page.
+
+tests/kernel/page.py PROGRAMS
+
+PROGRAMS is a folder with the programs router and nat. In the page a command follows `#`, and the lines behind it are
+among those that it prints; `..` stands for any text.
+"""
+import os
+import re
+import subprocess
+import sys
+import threading
+import time
+
+LATEST = 10  # seconds
+END = "the end of a command"
+
+
+def commands(path):
+    """The commands, each with the lines that the page shows."""
+    found, is_behind = [], False
+    with open(path, encoding="ascii") as page:
+        for line in page:
+            if line.startswith("    # "):
+                found.append((line[6:].rstrip("\n"), []))
+            elif line.startswith("    ") and is_behind:
+                found[-1][1].append(line.strip())
+            is_behind = line.startswith("    # ") or (line.startswith("    ") and is_behind)
+    return found
+
+
+def is_printed(shown, lines):
+    pattern = ".*".join(map(re.escape, shown.split("..")))
+    return any(re.fullmatch(pattern, line) for line in lines)
+
+
+def main(programs):
+    page = os.path.join(os.path.dirname(os.path.dirname(os.path.dirname(os.path.abspath(__file__)))), "docs/ROUTER.md")
+    os.chdir(programs)
+    shell = subprocess.Popen(["bash"], stdin=subprocess.PIPE, stdout=subprocess.PIPE, stderr=subprocess.STDOUT, text=True,
+                             bufsize=1)
+    lines, count = [], 0
+    threading.Thread(target=lambda: lines.extend(line.rstrip("\n") for line in shell.stdout), daemon=True).start()
+    for command, shown in commands(page):
+        begin, end = len(lines), time.monotonic() + LATEST
+        shell.stdin.write(f"{command}\necho {END} $?\n")
+        while time.monotonic() < end:
+            new = lines[begin:]
+            if any(line.startswith(END) for line in new) and all(is_printed(line, new) for line in shown):
+                break
+            time.sleep(0.05)
+        count += 1
+        for line in [line for line in shown if not is_printed(line, lines[begin:])]:
+            sys.exit(f"tests/kernel: wrong: {command}\nprints no line\n{line}\nbut\n" + "\n".join(lines[begin:]))
+        if f"{END} 0" not in lines[begin:]:
+            sys.exit(f"tests/kernel: wrong: {command}\nfails: " + "\n".join(lines[begin:]))
+    shell.stdin.close()
+    print(f"docs/ROUTER.md: {count} commands, each prints what the page shows")
+
+
+if __name__ == "__main__":
+    main(*sys.argv[1:])
