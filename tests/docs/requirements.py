@@ -117,8 +117,8 @@ def is_test(name):
         return os.path.exists(f"tests/data/calls/{rest}.call") and os.path.exists(f"tests/data/calls/{rest}.txt")
     if name.startswith("wrong "):
         *crate, edit = name.removeprefix("wrong ").split("/")
-        found = glob.glob(f"crates/{crate[0] if crate else '*'}/wrong-bodies/{edit}.edit")
-        return bool(found) and all(os.path.exists(path.replace("wrong-bodies", "controls")) for path in found)
+        paths = glob.glob(f"crates/{crate[0] if crate else '*'}/edits.txt")
+        return any(re.search(f"^name: +{edit}$", read(path), re.M) for path in paths)
     if name.startswith("tests/all/"):
         function = name.split("/")[2]
         is_used = re.search(rf"^ *check .* {function}\b", read("tests/all"), re.M)
