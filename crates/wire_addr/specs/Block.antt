@@ -1,5 +1,5 @@
 -- A CIDR block: all addresses with the same first bits as one address (RFC 4632, section 3.1). An address is the list
--- of its four or sixteen octets.
+-- of its four or sixteen bytes.
 use Rattle.std.specs.Prelude.{ℕ, ◌≤◌, ◌++◌, List}
 use Rattle.std.specs.Cmp.Lexicographic.{slice_cmp}
 use Rattle.std.specs.Hash as hash
@@ -8,33 +8,33 @@ use Rattle.std.specs.declared.cmp.Ordering.{Ordering}
 use Rattle.wire_addr.specs.Octets.{AreOctets}
 use Rattle.wire_addr.specs.Prefix.{AgreeFirst, number_of}
 
--- a block: the address from which it was made, and the prefix length
+-- a CIDR block: the address from which it was made, and the prefix length
 pub record Block : Type 0 where
   pub address : List ℕ
   pub prefix_len : ℕ
 
--- the address is in the block
+-- the address is in the CIDR block: their first bits are the same
 abbrev pub IsIn : Block → List ℕ → Type 0
 IsIn block address = AgreeFirst block.prefix_len block.address address
 
--- each address of n octets that is in the one block is in the other
+-- each address of n bytes that is in the first block is in the second
 abbrev pub IsWithin : ℕ → Block → Block → Type 0
 IsWithin n inner outer = (address : List ℕ) → AreOctets n address → IsIn inner address → IsIn outer address
 
--- the least of the addresses of n octets that are in the block
+-- the lowest of the addresses of n bytes that are in the block
 pub record IsLeast (n : ℕ) (block : Block) (address : List ℕ) : Type 0 where
   pub member : IsIn block address
   pub least : (other : List ℕ) → AreOctets n other → IsIn block other → number_of address ≤ number_of other
 
--- the greatest of the addresses of n octets that are in the block
+-- the highest of the addresses of n bytes that are in the block
 pub record IsGreatest (n : ℕ) (block : Block) (address : List ℕ) : Type 0 where
   pub member : IsIn block address
   pub greatest : (other : List ℕ) → AreOctets n other → IsIn block other → number_of other ≤ number_of address
 
--- the order of blocks: by address, octet by octet, then by prefix length
+-- the order of CIDR blocks: by address, byte by byte, then by prefix length
 abbrev pub block_cmp : Block → Block → Ordering
 block_cmp a b = ordering_then (slice_cmp nat_cmp a.address b.address) (nat_cmp a.prefix_len b.prefix_len)
 
--- the hashed values of a block: the octets of its address and its prefix length
+-- the hashed values of a CIDR block: the bytes of its address and its prefix length
 abbrev pub block_hash : Block → hash.HashWrites
 block_hash block = hash.slice hash.u8 block.address ++ hash.u8 block.prefix_len

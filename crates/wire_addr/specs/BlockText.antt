@@ -5,8 +5,8 @@ use Rattle.wire_addr.specs.Block.{Block}
 use Rattle.wire_addr.specs.Printed.{slash}
 use Rattle.wire_text.specs.Ending.{EndsInNumber}
 
--- an address, a slash and a prefix length: one digit to `places` digits, at most `most`. The address keeps all its
--- bits.
+-- The text of a CIDR block: an address, a slash and a prefix length of at most `places` digits and at most `most`.
+-- The address keeps its bits after the prefix.
 pub record IsBlockText (ReadsAddress : List ℕ → List ℕ → Type 0) (places most : ℕ) (text : List ℕ) (block : Block) : Type 0 where
   pub address_text : List ℕ
   pub address : ReadsAddress address_text block.address

@@ -10,69 +10,70 @@ use Rattle.wire_addr.specs.declared.ipv6_multicast_scope.Ipv6MulticastScope.TheV
 
 -- ---- IPv4
 
--- the unspecified address, 0.0.0.0 (RFC 1122, section 3.2.1.3)
+-- the unspecified address of IPv4, 0.0.0.0 (RFC 1122, section 3.2.1.3)
 abbrev pub ipv4_unspecified : List ℕ
 ipv4_unspecified = replicate 4 0
 
--- the limited broadcast address, 255.255.255.255 (RFC 919, section 7)
+-- the limited broadcast address of IPv4, 255.255.255.255 (RFC 919, section 7)
 abbrev pub ipv4_broadcast : List ℕ
 ipv4_broadcast = replicate 4 0xff
 
--- multicast, 224.0.0.0/4 (RFC 5771, section 3)
+-- the multicast addresses of IPv4, 224.0.0.0/4 (RFC 5771, section 3)
 abbrev pub ipv4_multicast : Block
 ipv4_multicast = record { address = 224 ∷ 0 ∷ 0 ∷ 0 ∷ []; prefix_len = 4 }
 
--- loopback, 127.0.0.0/8 (RFC 1122, section 3.2.1.3)
+-- the loopback addresses of IPv4, 127.0.0.0/8 (RFC 1122, section 3.2.1.3)
 abbrev pub ipv4_loopback : Block
 ipv4_loopback = record { address = 127 ∷ 0 ∷ 0 ∷ 0 ∷ []; prefix_len = 8 }
 
--- link-local, 169.254.0.0/16 (RFC 3927, section 2.1)
+-- the link-local addresses of IPv4, 169.254.0.0/16 (RFC 3927, section 2.1)
 abbrev pub ipv4_link_local : Block
 ipv4_link_local = record { address = 169 ∷ 254 ∷ 0 ∷ 0 ∷ []; prefix_len = 16 }
 
--- unicast: neither broadcast, multicast nor unspecified
+-- an IPv4 address that is neither broadcast, multicast nor unspecified
 abbrev pub IsIpv4Unicast : List ℕ → Type 0
 IsIpv4Unicast address = (address ≢ ipv4_broadcast) × ¬ (IsIn ipv4_multicast address) × (address ≢ ipv4_unspecified)
 
 -- ---- IPv6
 
--- the unspecified address, `::` (RFC 4291, section 2.5.2)
+-- the unspecified address of IPv6, `::` (RFC 4291, section 2.5.2)
 abbrev pub ipv6_unspecified : List ℕ
 ipv6_unspecified = replicate 16 0
 
--- loopback, `::1` (RFC 4291, section 2.5.3)
+-- the loopback address of IPv6, `::1` (RFC 4291, section 2.5.3)
 abbrev pub ipv6_loopback : List ℕ
 ipv6_loopback = octets_of (0 ∷ 0 ∷ 0 ∷ 0 ∷ 0 ∷ 0 ∷ 0 ∷ 1 ∷ [])
 
--- the block of the address with these groups and of this prefix length
+-- the IPv6 block with this prefix length of the address with these groups
 abbrev pub ipv6_block : List ℕ → ℕ → Block
 ipv6_block groups prefix_len = record { address = octets_of groups; prefix_len = prefix_len }
 
--- multicast, ff00::/8 (RFC 4291, section 2.7)
+-- the multicast addresses of IPv6, ff00::/8 (RFC 4291, section 2.7)
 abbrev pub ipv6_multicast : Block
 ipv6_multicast = ipv6_block (0xff00 ∷ 0 ∷ 0 ∷ 0 ∷ 0 ∷ 0 ∷ 0 ∷ 0 ∷ []) 8
 
--- unique local, fc00::/7 (RFC 4193, section 3.1)
+-- the unique local addresses of IPv6, fc00::/7 (RFC 4193, section 3.1)
 abbrev pub ipv6_unique_local : Block
 ipv6_unique_local = ipv6_block (0xfc00 ∷ 0 ∷ 0 ∷ 0 ∷ 0 ∷ 0 ∷ 0 ∷ 0 ∷ []) 7
 
--- link-local, fe80::/64: the ten bits of the prefix and 54 zeros (RFC 4291, section 2.5.6)
+-- the link-local addresses of IPv6, fe80::/64: the ten bits of the prefix and 54 zeros (RFC 4291, section 2.5.6)
 abbrev pub ipv6_link_local : Block
 ipv6_link_local = ipv6_block (0xfe80 ∷ 0 ∷ 0 ∷ 0 ∷ 0 ∷ 0 ∷ 0 ∷ 0 ∷ []) 64
 
--- global unicast, 2000::/3 (RFC 3587, section 3)
+-- the global unicast addresses of IPv6, 2000::/3 (RFC 3587, section 3)
 abbrev pub ipv6_global_unicast : Block
 ipv6_global_unicast = ipv6_block (0x2000 ∷ 0 ∷ 0 ∷ 0 ∷ 0 ∷ 0 ∷ 0 ∷ 0 ∷ []) 3
 
--- solicited-node multicast, ff02::1:ff00:0/104 (RFC 4291, section 2.7.1)
+-- the solicited-node multicast addresses, ff02::1:ff00:0/104 (RFC 4291, section 2.7.1)
 abbrev pub ipv6_solicited_node : Block
 ipv6_solicited_node = ipv6_block (0xff02 ∷ 0 ∷ 0 ∷ 0 ∷ 0 ∷ 1 ∷ 0xff00 ∷ 0 ∷ []) 104
 
--- unicast: neither multicast nor unspecified
+-- an IPv6 address that is neither multicast nor unspecified
 abbrev pub IsIpv6Unicast : List ℕ → Type 0
 IsIpv6Unicast address = ¬ (IsIn ipv6_multicast address) × (address ≢ ipv6_unspecified)
 
--- the solicited-node multicast address of an address: that prefix and the last three octets (RFC 4291, section 2.7.1)
+-- the solicited-node multicast address of an address: ff02::1:ff00:0/104 with its last three bytes (RFC 4291, section
+-- 2.7.1)
 abbrev pub solicited_node : List ℕ → List ℕ
 solicited_node address = take 13 ipv6_solicited_node.address ++ drop 13 address
 
@@ -83,7 +84,7 @@ link_address prefix Ip = None
 link_address prefix (Ethernet hardware) =
     if prefix.prefix_len == 64 then Some (take 8 prefix.address ++ eui_64 hardware.0) else None
 
--- the scope of a number (RFC 4291, section 2.7)
+-- the multicast scope that a number names (RFC 4291, section 2.7)
 abbrev pub scope_of : ℕ → Ipv6MulticastScope
 scope_of n =
     if n == 1 then scope.InterfaceLocal else (
@@ -93,8 +94,8 @@ scope_of n =
     if n == 8 then scope.OrganizationLocal else (
     if n == 14 then scope.Global else scope.Unknown)))))
 
--- the scope of an address; of a multicast address by the low four bits of its second octet (RFC 4291, section 2.7;
--- RFC 6724, section 3.1)
+-- the scope of an IPv6 address; that of a multicast address is in the low four bits of its second byte (RFC 4291,
+-- section 2.7; RFC 6724, section 3.1)
 pub record HasScope (address : List ℕ) (found : Ipv6MulticastScope) : Type 0 where
   pub multicast : IsIn ipv6_multicast address → found ≡ scope_of (slice_index address 1 % 16)
   pub link_local : ¬ (IsIn ipv6_multicast address) → IsIn ipv6_link_local address → found ≡ scope.LinkLocal

@@ -6,55 +6,56 @@ use Rattle.wire_addr.specs.Printed.{dashed}
 use Rattle.wire_addr.specs.declared.hardware_address.HardwareAddress.{HardwareAddress}
 use Rattle.wire_addr.specs.declared.hardware_address.HardwareAddress.TheVariants.{Ip, Ethernet}
 
--- ---- the six octets of Ethernet
+-- ---- the six bytes of Ethernet
 
--- broadcast: all bits are set
+-- a broadcast Ethernet address: all bits are set
 abbrev pub IsBroadcast : List ℕ → Type 0
 IsBroadcast octets = octets ≡ replicate 6 0xff
 
--- multicast: the I/G bit is set, the lowest bit of the first octet
+-- a multicast Ethernet address: the I/G bit, the lowest bit of the first byte, is set
 abbrev pub IsMulticast : List ℕ → Type 0
 IsMulticast octets = IsBitSet (slice_index octets 0) 0
 
--- locally administered: the U/L bit is set, the bit above the I/G bit
+-- a locally administered Ethernet address: the U/L bit, the bit above the I/G bit, is set
 abbrev pub IsLocal : List ℕ → Type 0
 IsLocal octets = IsBitSet (slice_index octets 0) 1
 
--- unicast: neither broadcast nor multicast
+-- a unicast Ethernet address: neither broadcast nor multicast
 abbrev pub IsUnicast : List ℕ → Type 0
 IsUnicast octets = ¬ IsBroadcast octets × ¬ IsMulticast octets
 
--- the octet with the bit above its lowest one inverted
+-- the byte with the bit above its lowest one inverted
 abbrev pub with_local_inverted : ℕ → ℕ
 with_local_inverted octet = octet / 4 * 4 + (1 - octet / 2 % 2) * 2 + octet % 2
 
--- the modified EUI-64: the octets with ff and fe in their middle and the U/L bit inverted (RFC 4291, appendix A)
+-- the modified EUI-64 of an Ethernet address: its bytes with ff and fe in their middle and the U/L bit inverted (RFC
+-- 4291, appendix A)
 abbrev pub eui_64 : List ℕ → List ℕ
 eui_64 octets = with_local_inverted (slice_index octets 0) ∷ slice_range octets 1 3 ++ 0xff ∷ 0xfe ∷ slice_range octets 3 6
 
--- ---- of any medium
+-- ---- addresses on any medium
 
--- the medium of an address
+-- the medium of a hardware address
 abbrev pub medium_of : HardwareAddress → Medium
 medium_of Ip = medium.Ip
 medium_of (Ethernet address) = medium.Ethernet
 
--- the octets of an address, if it has any
+-- the bytes of a hardware address, if it has any
 abbrev pub octets_of : HardwareAddress → Option (List ℕ)
 octets_of Ip = None
 octets_of (Ethernet address) = Some address.0
 
--- the modified EUI-64 of an address, if it has one
+-- the modified EUI-64 of a hardware address, if it has one
 abbrev pub eui_64_of : HardwareAddress → Option (List ℕ)
 eui_64_of Ip = None
 eui_64_of (Ethernet address) = Some (eui_64 address.0)
 
--- the printed text of an address
+-- the printed text of a hardware address
 abbrev pub address_text : HardwareAddress → List ℕ
 address_text Ip = codes "no hardware addr"
 address_text (Ethernet address) = dashed address.0
 
--- the octets are this address on a medium: on Ethernet six octets, on no other medium any
+-- the bytes are this hardware address on a medium: on Ethernet six bytes; on no other medium are bytes an address
 pub record AreAddress (octets : List ℕ) (on : Medium) (address : HardwareAddress) : Type 0 where
   pub on_ethernet : on ≡ medium.Ethernet
   pub long : length octets ≡ 6

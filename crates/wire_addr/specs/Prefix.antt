@@ -1,26 +1,26 @@
--- The bits of octets, and prefixes: the first bits (RFC 4632, section 3.1; RFC 4291, section 2.3).
+-- The bits of addresses, and prefixes: the first bits (RFC 4632, section 3.1; RFC 4291, section 2.3).
 use Rattle.std.specs.Prelude.{ℕ, ◌≡◌, ◌<◌, ◌≤◌, ◌+◌, ◌-◌, ◌*◌, ◌/◌, ◌%◌, ◌^◌, List, [], ◌∷◌, length, slice_index}
 use Rattle.std.specs.Int.{bit_at}
 
--- bit k, counted from the highest bit of the first octet; behind the last octet all bits are 0
+-- bit k of a list of bytes, counted from the highest bit of the first byte; past the last byte all bits are 0
 abbrev pub bit_of : List ℕ → ℕ → ℕ
 bit_of octets k = bit_at (slice_index octets (k / 8)) (7 - k % 8)
 
--- the big-endian number of the octets
+-- the bytes as one big-endian number
 abbrev pub number_of : List ℕ → ℕ
 number_of [] = 0
 number_of (octet ∷ octets) = octet * 2 ^ (8 * length octets) + number_of octets
 
--- the first n bits of both are the same
+-- the first n bits of two addresses are the same
 abbrev pub AgreeFirst : ℕ → List ℕ → List ℕ → Type 0
 AgreeFirst n xs ys = (k : ℕ) → k < n → bit_of xs k ≡ bit_of ys k
 
--- n ones, then zeros
+-- the netmask of a prefix length: n ones, then zeros
 pub record IsNetmask (n : ℕ) (octets : List ℕ) : Type 0 where
   pub ones : (k : ℕ) → k < n → bit_of octets k ≡ 1
   pub zeros : (k : ℕ) → n ≤ k → bit_of octets k ≡ 0
 
--- the first n bits of the octets, then zeros
+-- the address with zeros after its first n bits
 pub record IsMasked (n : ℕ) (octets masked : List ℕ) : Type 0 where
   pub kept : AgreeFirst n octets masked
   pub zeros : (k : ℕ) → n ≤ k → bit_of masked k ≡ 0

@@ -4,14 +4,14 @@ use Rattle.wire_addr.specs.Octets.{octets_of}
 use Rattle.wire_addr.specs.declared.ethernet_address.EthernetAddress.{EthernetAddress}
 use Rattle.wire_text.specs.Grammar.{IsDotted, IsHexText, IsIpv6Text}
 
--- six groups of hex digits, joined all by dashes or all by colons
+-- the text parses as this Ethernet address: six bytes in hex, joined all by dashes or all by colons
 abbrev pub ReadsEthernet : List ℕ → EthernetAddress → Type 0
 ReadsEthernet text address = IsHexText text address.0
 
--- four octets joined by dots
+-- the text parses as the IPv4 address of these bytes: four decimal numbers joined by dots
 abbrev pub ReadsIpv4 : List ℕ → List ℕ → Type 0
 ReadsIpv4 text octets = IsDotted text octets
 
--- an IPv6 text; the octets are those of its groups
+-- the text parses as the IPv6 address of these bytes
 abbrev pub ReadsIpv6 : List ℕ → List ℕ → Type 0
 ReadsIpv6 text octets = (groups : List ℕ) × IsIpv6Text text groups × (octets ≡ octets_of groups)

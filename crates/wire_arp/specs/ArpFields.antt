@@ -1,4 +1,4 @@
--- The fields of a packet in the order of RFC 826, and which of them each call reads or writes.
+-- The fields of an ARP packet in the order of RFC 826, and which of them each call reads or writes.
 use Rattle.std.specs.Prelude.{ℕ, ◌≡◌, ◌*◌, List, [], ◌∷◌, length, slice_index, ⊤}
 use Rattle.wire_field.specs.Diagram.{nth_field, with_nth}
 use Rattle.byteorder.specs.Endian.{big_number}
@@ -11,11 +11,12 @@ use Rattle.wire_arp.specs.declared.laws.ArpGetting.TheVariants as get
 use Rattle.wire_arp.specs.declared.laws.ArpSetting.{ArpSetting}
 use Rattle.wire_arp.specs.declared.laws.ArpSetting.TheVariants as set
 
--- hardware and protocol; their lengths, operation; the source's two addresses, the target's: of 6 and 4 octets
+-- the widths of the fields in bits: hardware type, protocol type; their lengths, operation; the two addresses of the
+-- source and those of the target, of 6 and 4 bytes
 abbrev pub diagram : List ℕ
 diagram = 16 ∷ 16 ∷ 8 ∷ 8 ∷ 16 ∷ 48 ∷ 32 ∷ 48 ∷ 32 ∷ []
 
--- the same with addresses of the lengths that the bytes name
+-- the widths of the fields in bits, with addresses of the lengths that the bytes say
 abbrev pub widths : List ℕ → List ℕ
 widths bytes =
     let hardware = 8 * nth_field diagram 2 bytes in
@@ -24,7 +25,7 @@ widths bytes =
 
 -- ---- getters
 
--- the field that a getter reads
+-- the index of the field that a getter reads
 abbrev pub read_of : ArpGetting → ℕ
 read_of get.HardwareType = 0
 read_of get.ProtocolType = 1
@@ -36,21 +37,21 @@ read_of get.Operation = 4
 abbrev pub got : ArpGetting → List ℕ → ℕ
 got getting = nth_field diagram (read_of getting)
 
--- the field that the getter of an address reads
+-- the index of the field that the getter of an address reads
 abbrev pub address_of : ArpAddressGetting → ℕ
 address_of address.SourceHardwareAddr = 5
 address_of address.SourceProtocolAddr = 6
 address_of address.TargetHardwareAddr = 7
 address_of address.TargetProtocolAddr = 8
 
--- what the getter of an address returns: as many octets as its field has, and the number that they spell
+-- what the getter of an address returns: as many bytes as its field has, with the value of the field
 pub record IsGot (getting : ArpAddressGetting) (octets bytes : List ℕ) : Type 0 where
   pub width : 8 * length octets ≡ slice_index (widths bytes) (address_of getting)
   pub number : big_number (length octets) octets ≡ nth_field (widths bytes) (address_of getting) bytes
 
 -- ---- setters
 
--- the field that a setter writes, and its argument as a number
+-- the index of the field that a setter writes, and its argument as a number
 abbrev pub write_of : ArpSetting → ℕ × ℕ
 write_of (set.HardwareType x) = (0, hardware_number x)
 write_of (set.ProtocolType x) = (1, number_of x)
@@ -62,7 +63,7 @@ write_of (set.SourceProtocolAddr x) = (6, big_number (length x.now) x.now)
 write_of (set.TargetHardwareAddr x) = (7, big_number (length x.now) x.now)
 write_of (set.TargetProtocolAddr x) = (8, big_number (length x.now) x.now)
 
--- an address that is written is as long as the bytes name
+-- the argument fits: an address that is written has the length that the packet says
 abbrev pub Fits : ArpSetting → List ℕ → Type 0
 Fits (set.SourceHardwareAddr x) bytes = length x.now ≡ nth_field diagram 2 bytes
 Fits (set.SourceProtocolAddr x) bytes = length x.now ≡ nth_field diagram 3 bytes

@@ -17,63 +17,64 @@ use Rattle.wire_ethernet.specs.declared.ethernet.EthernetProtocol.TheVariants as
 
 -- ---- words
 
--- the word for a number that has none of its own
+-- the printed word for a number without a name
 abbrev pub unknown_word : ℕ → List ℕ
 unknown_word n = codes "Unknown(" ++ decimal n ++ codes ")"
 
--- the word for a kind of hardware address
+-- the printed word for a hardware type
 abbrev pub hardware_word : ArpHardware → List ℕ
 hardware_word hardware.Ethernet = codes "Ethernet"
 hardware_word (hardware.Unknown n) = unknown_word n
 
--- the word for the protocol whose addresses a packet has
+-- the printed word for a protocol type
 abbrev pub protocol_word : EthernetProtocol → List ℕ
 protocol_word protocol.Ipv4 = codes "Ipv4"
 protocol_word protocol.Arp = codes "Arp"
 protocol_word protocol.Ipv6 = codes "Ipv6"
 protocol_word (protocol.Unknown n) = unknown_word n
 
--- the word for an operation
+-- the printed word for an ARP operation
 abbrev pub operation_word : ArpOperation → List ℕ
 operation_word operation.Request = codes "Request"
 operation_word operation.Reply = codes "Reply"
 operation_word (operation.Unknown n) = unknown_word n
 
--- the octets of an address in decimal, with `, ` between them, in brackets
+-- the bytes of an address in decimal, with `, ` between them, in square brackets
 abbrev pub list_text : List ℕ → List ℕ
 list_text octets = codes "[" ++ join_by decimal (codes ", ") octets ++ codes "]"
 
 -- ---- texts
 
--- the printed text of a packet's values
+-- the printed text of an ARP packet's values
 unfoldable pub value_text : ArpRepr → List ℕ
 value_text (EthernetIpv4 operation source_hardware source_protocol target_hardware target_protocol) =
     codes "ARP type=Ethernet+IPv4 src=" ++ dashed source_hardware.0 ++ codes "/" ++ dotted source_protocol
     ++ codes " tgt=" ++ dashed target_hardware.0 ++ codes "/" ++ dotted target_protocol ++ codes " op=" ++ operation_word operation
 
--- the numbers of a packet that is read as no value, and the lengths of its addresses
+-- the printed text of the first five fields of a packet that is not for Ethernet and IPv4
 unfoldable pub numbers_text : ArpHardware → EthernetProtocol → ℕ → ℕ → ArpOperation → List ℕ
 numbers_text hardware protocol hardware_len protocol_len operation =
     codes "ARP (unrecognized) htype=" ++ hardware_word hardware ++ codes " ptype=" ++ protocol_word protocol
     ++ codes " hlen=" ++ decimal hardware_len ++ codes " plen=" ++ decimal protocol_len ++ codes " op=" ++ operation_word operation
 
--- its addresses, those of the source first
+-- the printed text of the four addresses of a packet, those of the source first
 unfoldable pub addresses_text : List ℕ → List ℕ
 addresses_text bytes =
     codes " sha=" ++ list_text (source_hardware_addr bytes) ++ codes " spa=" ++ list_text (source_protocol_addr bytes)
     ++ codes " tha=" ++ list_text (target_hardware_addr bytes) ++ codes " tpa=" ++ list_text (target_protocol_addr bytes)
 
--- the fields of a packet, printed one by one
+-- the printed text of all fields of a packet that is not for Ethernet and IPv4
 unfoldable pub fields_text : List ℕ → List ℕ
 fields_text bytes =
     numbers_text (hardware_of (field bytes 0 16)) (protocol_of (field bytes 16 16)) (hardware_len bytes) (protocol_len bytes) (operation_of (field bytes 48 16))
     ++ addresses_text bytes
 
--- whether the bytes hold what stands before the addresses, and addresses of the lengths that it names
+-- whether the lengths are valid
 abbrev pub has_lengths : List ℕ → Bool
 has_lengths bytes = nat_le 8 (length bytes) && nat_le (target_protocol_end bytes) (length bytes)
 
--- the printed text of a packet: that of its values, or of its fields where they make none, or that the bytes hold no packet
+-- the printed text of a packet: that of its values, or that of its fields if it is not for Ethernet and IPv4, or that
+-- the lengths are invalid
 unfoldable pub packet_text : List ℕ → List ℕ
 packet_text bytes =
     option_map_or value_text (arp_of bytes) (if has_lengths bytes then fields_text bytes else codes "ARP (wire::Error)")

@@ -30,11 +30,11 @@ listening_at endpoint = record { addr = Some endpoint.addr; port = endpoint.port
 abbrev pub listening_on : ℕ → IpListenEndpoint
 listening_on port = record { addr = None; port = port }
 
--- it has an address, and its port is not 0
+-- the listening endpoint has an address, and its port is not 0
 abbrev pub IsSpecified : IpListenEndpoint → Type 0
 IsSpecified endpoint = IsSome endpoint.addr × (endpoint.port ≢ 0)
 
--- the text in brackets
+-- the text in square brackets
 abbrev pub bracketed : List ℕ → List ℕ
 bracketed text = codes "[" ++ text ++ codes "]"
 
@@ -45,7 +45,7 @@ abbrev pub host_text : IpAddress → List ℕ
 host_text (Ipv4 octets) = dotted octets
 host_text (Ipv6 octets) = bracketed (ipv6_text octets)
 
--- the rest of the text behind it
+-- the text of the port in an endpoint, with the colon before it
 abbrev pub port_text : ℕ → List ℕ
 port_text port = colon ∷ decimal port
 
@@ -77,11 +77,11 @@ ReadsEndpoint text endpoint = (ReadsAddress text endpoint.addr × (endpoint.port
 
 -- ---- order and hash
 
--- by address, then by port
+-- the order of endpoints: by address, then by port
 abbrev pub endpoint_cmp : IpEndpoint → IpEndpoint → Ordering
 endpoint_cmp a b = ordering_then (address_cmp a.addr b.addr) (nat_cmp a.port b.port)
 
--- by address, with none first, then by port
+-- the order of listening endpoints: by address, with none first, then by port
 abbrev pub listening_cmp : IpListenEndpoint → IpListenEndpoint → Ordering
 listening_cmp a b = ordering_then (option_cmp address_cmp a.addr b.addr) (nat_cmp a.port b.port)
 

@@ -38,7 +38,7 @@ IsIn (Ipv6 block) (ip.Ipv6 octets) = IsInBlock block octets
 abbrev pub IsWithin : IpCidr → IpCidr → Type 0
 IsWithin inner outer = (addr : IpAddress) → IsAddress addr → IsIn inner addr → IsIn outer addr
 
--- the printed text of a block: that of its variant
+-- the printed text of a CIDR block
 abbrev pub cidr_text : IpCidr → List ℕ
 cidr_text (Ipv4 block) = block_text dotted block
 cidr_text (Ipv6 block) = block_text ipv6_text block
@@ -48,7 +48,7 @@ abbrev pub ReadsCidr : List ℕ → IpCidr → Type 0
 ReadsCidr text (Ipv4 block) = ReadsIpv4Block text block
 ReadsCidr text (Ipv6 block) = ReadsIpv6Block text block
 
--- IPv4 before IPv6; blocks of one version in their own order
+-- the order of CIDR blocks: IPv4 before IPv6; blocks of one version by address, then by prefix length
 abbrev pub cidr_cmp : IpCidr → IpCidr → Ordering
 cidr_cmp (Ipv4 a) (Ipv4 b) = block_cmp a b
 cidr_cmp (Ipv4 a) (Ipv6 b) = Less

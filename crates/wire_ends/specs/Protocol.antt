@@ -7,7 +7,7 @@ use Rattle.wire_addr.specs.Printed.{hex_byte}
 use Rattle.wire_ends.specs.declared.ip_protocol.IpProtocol.{IpProtocol}
 use Rattle.wire_ends.specs.declared.ip_protocol.IpProtocol.TheVariants as protocol
 
--- the protocol that a number names
+-- the IP protocol that a number names
 abbrev pub protocol_of : ℕ → IpProtocol
 protocol_of n =
     if n == 0 then protocol.HopByHop else (
@@ -23,7 +23,7 @@ protocol_of n =
     if n == 59 then protocol.Ipv6NoNxt else (
     if n == 60 then protocol.Ipv6Opts else protocol.Unknown n)))))))))))
 
--- the number that names a protocol
+-- the number of an IP protocol
 abbrev pub number_of : IpProtocol → ℕ
 number_of protocol.HopByHop = 0
 number_of protocol.Icmp = 1
@@ -39,7 +39,7 @@ number_of protocol.Ipv6NoNxt = 59
 number_of protocol.Ipv6Opts = 60
 number_of (protocol.Unknown n) = n
 
--- the canonical form of a protocol: an unknown number that has a name becomes that name
+-- the normal form of a protocol: a number that has a name becomes that name
 abbrev pub known : IpProtocol → IpProtocol
 known p = protocol_of (number_of p)
 
@@ -59,12 +59,12 @@ protocol_text protocol.Ipv6NoNxt = codes "IPv6-NoNxt"
 protocol_text protocol.Ipv6Opts = codes "IPv6-Opts"
 protocol_text (protocol.Unknown n) = codes "0x" ++ hex_byte n
 
--- 1 for an unknown number, 0 for a named protocol
+-- 1 for a protocol without a name, else 0
 abbrev pub is_unknown : IpProtocol → ℕ
 is_unknown (protocol.Unknown n) = 1
 is_unknown p = 0
 
--- the order of protocols
+-- the order of protocols: those with a name first; otherwise by number
 abbrev pub protocol_cmp : IpProtocol → IpProtocol → Ordering
 protocol_cmp = named_cmp is_unknown number_of
 
@@ -84,7 +84,7 @@ variant_of protocol.Ipv6NoNxt = 10
 variant_of protocol.Ipv6Opts = 11
 variant_of (protocol.Unknown n) = 12
 
--- the hashed values of a protocol: the index of its variant, and an unknown number
+-- the hashed values of a protocol: the index of its variant, and the number of one without a name
 abbrev pub protocol_hash : IpProtocol → hash.HashWrites
 protocol_hash (protocol.Unknown n) = hash.isize (pos 12) ++ hash.u8 n
 protocol_hash p = hash.isize (pos (variant_of p))

@@ -1,4 +1,4 @@
--- The fields of a header in their order, and which of them each call reads or writes.
+-- The fields of an Ethernet header in their order, and which of them each call reads or writes.
 use Rattle.std.specs.Prelude.{ℕ, List, [], ◌∷◌}
 use Rattle.wire_field.specs.Diagram.{nth_field, with_nth}
 use Rattle.byteorder.specs.Endian.{big_number}
@@ -8,11 +8,11 @@ use Rattle.wire_ethernet.specs.declared.laws.EthernetGetting.TheVariants as get
 use Rattle.wire_ethernet.specs.declared.laws.EthernetSetting.{EthernetSetting}
 use Rattle.wire_ethernet.specs.declared.laws.EthernetSetting.TheVariants as set
 
--- the addresses of the receiver and of the sender, the EtherType
+-- the widths of the fields in bits: destination address, source address, EtherType
 abbrev pub diagram : List ℕ
 diagram = 48 ∷ 48 ∷ 16 ∷ []
 
--- the field that a getter reads
+-- the index of the field that a getter reads
 abbrev pub read_of : EthernetGetting → ℕ
 read_of get.DstAddr = 0
 read_of get.SrcAddr = 1
@@ -22,7 +22,7 @@ read_of get.Ethertype = 2
 abbrev pub got : EthernetGetting → List ℕ → ℕ
 got getting = nth_field diagram (read_of getting)
 
--- the field that a setter writes, and its argument as a number
+-- the index of the field that a setter writes, and its argument as a number
 abbrev pub write_of : EthernetSetting → ℕ × ℕ
 write_of (set.DstAddr x) = (0, big_number 6 x.0)
 write_of (set.SrcAddr x) = (1, big_number 6 x.0)

@@ -1,4 +1,4 @@
--- What a view of a frame lends of its bytes.
+-- What `payload_mut` promises on the borrowed bytes.
 use Rattle.std.specs.Prelude.{ℕ, List, [], ◌++◌, take}
 use Rattle.std.specs.Borrow.{Lends, MutBor, Fml, Array, u8}
 use denote.Slice.{MutSlice}
@@ -6,10 +6,10 @@ use mir.Syntax.{named}
 use Rattle.wire_ethernet.specs.Ethernet.{Writing, frame_bytes_mut}
 use Rattle.wire_ethernet.specs.contracts.ethernet.EthernetView.{the_row}
 
--- the view with these bytes behind it, in the same loan
+-- the view over the same borrow, with these bytes in it
 abbrev pub with_bytes : Writing → List ℕ → Writing
 with_bytes frame bytes = record frame { buffer = record frame.buffer { now = bytes } }
 
--- the view ends with its header, and then what was last left behind the payload
+-- at the end of the borrow the view has the bytes that were written to the payload; the header is unchanged
 abbrev pub LendsPayload : MutBor Writing → MutBor (List ℕ) → Fml
 LendsPayload frame payload = Lends (the_row (MutSlice (named 1) [] u8)) (Array u8 0) frame payload (λ w. with_bytes frame.now (take 14 (frame_bytes_mut frame.now) ++ w))

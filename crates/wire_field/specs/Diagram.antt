@@ -10,6 +10,6 @@ nth_field widths k bytes = field bytes (sum (take k widths)) (slice_index widths
 abbrev pub with_nth : List ℕ → ℕ → ℕ → List ℕ → List ℕ
 with_nth widths k x bytes = with_field bytes (sum (take k widths)) (slice_index widths k) x
 
--- a flag as the number in its field
+-- a flag as the number in its one-bit field: 1 if it is set, else 0
 abbrev pub flag : Bool → ℕ
 flag x = if x then 1 else 0

@@ -1,8 +1,8 @@
 -- What a call returns that writes to the front of a slice, or nothing.
 use Rattle.std.specs.Prelude.{ℕ, ◌≡◌, ◌≤◌, ◌<◌, ◌++◌, List, Option, MatchOption, drop, length}
 
--- the bytes, so many of them, stand at the front of the slice and their number is returned; where they do not fit, the slice
--- stays as it is
+-- the bytes, `len` of them, are at the front of the slice, and `len` is returned; if they do not fit, nothing is
+-- returned and the slice is unchanged
 abbrev pub Fills : List ℕ → ℕ → List ℕ → List ℕ → Option ℕ → Type 0
 Fills bytes len old new result =
     MatchOption result ((length old < len) × (new ≡ old))

@@ -24,10 +24,11 @@ use Rattle.wire_icmp.specs.declared.icmp.reason.Unreachable.TheVariants as unrea
 use Rattle.wire_icmp.specs.declared.icmp.reason.Exceeded.{Exceeded}
 use Rattle.wire_icmp.specs.declared.icmp.reason.Exceeded.TheVariants as exceeded
 
--- a reading view, and a mutable view
+-- a reading view of a message
 abbrev pub Reading : Type 0
 Reading = IcmpView (Bor (List ℕ))
 
+-- a mutable view of a message
 abbrev pub Writing : Type 0
 Writing = IcmpView (MutBor (List ℕ))
 
@@ -51,34 +52,36 @@ Becomes old new bytes = Holds (packet_slice old) (packet_slice new) bytes
 abbrev pub HasHeader : List ℕ → Type 0
 HasHeader bytes = 8 ≤ length bytes
 
+-- whether the bytes hold a whole header
 abbrev pub has_header : List ℕ → Bool
 has_header bytes = nat_le 8 (length bytes)
 
--- the payload, all bytes behind the header: the data of an echo, or the packet that an error quotes
+-- the payload, all bytes after the header: the data of an echo, or the packet that an error quotes
 abbrev pub payload_of : List ℕ → List ℕ
 payload_of bytes = drop 8 bytes
 
--- the protocol of the messages of a version
+-- the IP protocol of the ICMP messages of a version
 abbrev pub protocol_of : IpVersion → IpProtocol
 protocol_of version.Ipv4 = protocol.Icmp
 protocol_of version.Ipv6 = protocol.Icmpv6
 
 -- ---- the checksum
 
--- what is done with the checksum of the messages of a version
+-- whether the checksum of the messages of a version is verified and computed
 abbrev pub choice_of : IpVersion → ChecksumCapabilities → Checksum
 choice_of version.Ipv4 caps = caps.icmpv4
 choice_of version.Ipv6 caps = caps.icmpv6
 
--- what the checksum covers: the message, and over IPv6 a pseudo-header before it
+-- the bytes that the checksum covers: the message, and over IPv6 a pseudo-header before it
 abbrev pub covered : IpAddress → IpAddress → List ℕ → List ℕ
 covered (address.Ipv4 src) dst bytes = bytes
 covered (address.Ipv6 src) dst bytes = with_pseudo_header (address.Ipv6 src) dst protocol.Icmpv6 bytes
 
+-- the sum of the bytes that the checksum covers
 abbrev pub message_sum : IpAddress → IpAddress → List ℕ → ℕ
 message_sum src dst bytes = sum_of_bytes (covered src dst bytes)
 
--- the checksum is correct: that sum is 0xffff
+-- the checksum is correct: the sum of the bytes that it covers is 0xffff
 abbrev pub Verifies : IpAddress → IpAddress → List ℕ → Type 0
 Verifies src dst bytes = message_sum src dst bytes ≡ 65535
 
@@ -88,7 +91,7 @@ with_checksum src dst bytes =
     let zeroed = with_field bytes 16 16 0 in
     with_field zeroed 16 16 (65535 - message_sum src dst zeroed)
 
--- an updated checksum, or 0xffff in place of 0: a message whose other octets are all 0 verifies with no other checksum
+-- an updated checksum, or 0xffff instead of 0: a message whose other bytes are all 0 verifies with no other checksum
 abbrev pub not_zero : ℕ → ℕ
 not_zero checksum = if checksum == 0 then 65535 else checksum
 
@@ -109,20 +112,22 @@ unreachable_code version.Ipv4 unreachable.Prohibited = 13
 unreachable_code version.Ipv6 unreachable.Prohibited = 1
 unreachable_code _ (unreachable.Other code) = code
 
+-- the reason with this code of "destination unreachable"
 abbrev pub unreachable_by : IpVersion → ℕ → Unreachable
 unreachable_by version.Ipv4 n = if n == 0 then unreachable.NoRoute else (if n == 1 then unreachable.Host else (if n == 3 then unreachable.Port else (if n == 13 then unreachable.Prohibited else unreachable.Other n)))
 unreachable_by version.Ipv6 n = if n == 0 then unreachable.NoRoute else (if n == 1 then unreachable.Prohibited else (if n == 3 then unreachable.Host else (if n == 4 then unreachable.Port else unreachable.Other n)))
 
--- the codes of "time exceeded", equal in both versions
+-- the codes of "time exceeded", equal in both versions (RFC 792; RFC 4443, section 3.3)
 abbrev pub exceeded_code : Exceeded → ℕ
 exceeded_code exceeded.HopLimit = 0
 exceeded_code exceeded.Reassembly = 1
 exceeded_code (exceeded.Other code) = code
 
+-- the reason with this code of "time exceeded"
 abbrev pub exceeded_by : ℕ → Exceeded
 exceeded_by n = if n == 0 then exceeded.HopLimit else (if n == 1 then exceeded.Reassembly else exceeded.Other n)
 
--- the type of a message
+-- the type of the message of a value
 abbrev pub type_of : IpVersion → IcmpRepr → ℕ
 type_of version.Ipv4 (EchoReply ident seq_no) = 0
 type_of version.Ipv4 (DstUnreachable reason) = 3
@@ -137,7 +142,8 @@ type_of version.Ipv6 (ParamProblem code pointer) = 4
 type_of version.Ipv6 (EchoRequest ident seq_no) = 128
 type_of version.Ipv6 (EchoReply ident seq_no) = 129
 
--- its code. Over IPv4 a packet that is too big is "destination unreachable" with code 4 (RFC 1191, section 4).
+-- The code of the message of a value. Over IPv4 "packet too big" is "destination unreachable" with code 4 (RFC 1191,
+-- section 4).
 abbrev pub code_of : IpVersion → IcmpRepr → ℕ
 code_of v (DstUnreachable reason) = unreachable_code v reason
 code_of version.Ipv4 (PktTooBig mtu) = 4
@@ -145,8 +151,8 @@ code_of v (TimeExceeded reason) = exceeded_code reason
 code_of v (ParamProblem code pointer) = code
 code_of v _ = 0
 
--- its second word: identifier and sequence number; the MTU, of 16 bits over IPv4; the pointer, over IPv4 in the first octet;
--- else 0. What is too great for its bits is the greatest number of them.
+-- The second word of the header of a value: identifier and sequence number; the MTU, of 16 bits over IPv4; the
+-- pointer, over IPv4 in the first byte; else 0. A number that is too large for its bits becomes the largest one.
 abbrev pub word_of : IpVersion → IcmpRepr → ℕ
 word_of v (EchoRequest ident seq_no) = 65536 * ident + seq_no
 word_of v (EchoReply ident seq_no) = 65536 * ident + seq_no
@@ -156,8 +162,8 @@ word_of version.Ipv4 (ParamProblem code pointer) = 16777216 * min pointer 255
 word_of version.Ipv6 (ParamProblem code pointer) = pointer
 word_of v _ = 0
 
--- the message of a header with this type, code and second word, if it is one of these. Bits of the word that have no meaning
--- are not looked at, nor is the code of "packet too big" over IPv6 (RFC 4443, section 3.2).
+-- The value of a header with this type, code and second word, if it is one of these messages. Bits of the word
+-- without a meaning are ignored, and so is the code of "packet too big" over IPv6 (RFC 4443, section 3.2).
 abbrev pub message_of : IpVersion → ℕ → ℕ → ℕ → Option IcmpRepr
 message_of version.Ipv4 type code word =
     if type == 0 && code == 0 then Some (EchoReply (word / 65536) (word % 65536))
@@ -174,7 +180,7 @@ message_of version.Ipv6 type code word =
     else (if type == 128 && code == 0 then Some (EchoRequest (word / 65536) (word % 65536))
     else (if type == 129 && code == 0 then Some (EchoReply (word / 65536) (word % 65536)) else None)))))
 
--- the header of a message, without its checksum
+-- the header of the message of a value, without its checksum
 abbrev pub header_of : IpVersion → IcmpRepr → IcmpHeader
 header_of v value = record { msg_type = type_of v value; msg_code = code_of v value; word = word_of v value }
 
@@ -182,7 +188,7 @@ header_of v value = record { msg_type = type_of v value; msg_code = code_of v va
 abbrev pub IsNormal : IpVersion → IcmpRepr → IcmpRepr → Type 0
 IsNormal v value normal = message_of v (type_of v value) (code_of v value) (word_of v value) ≡ Some normal
 
--- the header of this version holds all that the value says: its numbers fit, and a code that has a name has no other
+-- the header of this version can express the value: its numbers fit, and a code that has a name is given by that name
 abbrev pub IsExact : IpVersion → IcmpRepr → Type 0
 IsExact version.Ipv4 (PktTooBig mtu) = mtu ≤ 65535
 IsExact version.Ipv4 (ParamProblem code pointer) = pointer ≤ 255
@@ -191,7 +197,7 @@ IsExact version.Ipv6 (DstUnreachable (unreachable.Other code)) = (code ≢ 0) ×
 IsExact v (TimeExceeded (exceeded.Other code)) = (code ≢ 0) × (code ≢ 1)
 IsExact v value = Unit {0}
 
--- every message but the two of an echo
+-- whether the value is an error: every message but the two of an echo
 abbrev pub is_error : IcmpRepr → Bool
 is_error (EchoRequest ident seq_no) = false
 is_error (EchoReply ident seq_no) = false
@@ -222,19 +228,19 @@ icmp_of src dst verified bytes =
     if has_header bytes && (not verified || verifies src dst bytes)
     then message_of (version_of src) (field bytes 0 8) (field bytes 8 8) (field bytes 32 32) else None
 
--- the header with this checksum
+-- the header of a message with this checksum
 abbrev pub header_bytes : IcmpHeader → ℕ → List ℕ
 header_bytes h checksum = h.msg_type ∷ h.msg_code ∷ big_bytes 2 checksum ++ big_bytes 4 h.word
 
--- the header with this checksum, and the payload
+-- the message with this checksum: header and payload
 abbrev pub message_with : IcmpHeader → List ℕ → ℕ → List ℕ
 message_with h payload checksum = header_bytes h checksum ++ payload
 
--- the message with this header, and its checksum if it is computed, else 0
+-- the message with this header and payload, and with its checksum if it is computed, else with 0
 abbrev pub emitted : IcmpHeader → List ℕ → IpAddress → IpAddress → Bool → List ℕ
 emitted h payload src dst computed =
     message_with h payload (if computed then 65535 - message_sum src dst (message_with h payload 0) else 0)
 
--- the message of a value
+-- the message of a value with this payload
 abbrev pub bytes_of : IcmpRepr → List ℕ → IpAddress → IpAddress → Bool → List ℕ
 bytes_of value payload src dst computed = emitted (header_of (version_of src) value) payload src dst computed

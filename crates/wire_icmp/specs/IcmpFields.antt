@@ -1,4 +1,4 @@
--- The fields of a header in the order of RFC 792's diagrams, and which of them each call reads or writes.
+-- The fields of an ICMP header in the order of RFC 792's diagrams, and which of them each call reads or writes.
 use Rattle.std.specs.Prelude.{ℕ, ◌-◌, List, [], ◌∷◌}
 use Rattle.wire_checksum.specs.WordSum.{updated}
 use Rattle.wire_ends.specs.declared.ip_address.IpAddress.{IpAddress}
@@ -9,15 +9,15 @@ use Rattle.wire_icmp.specs.declared.laws.IcmpGetting.TheVariants as get
 use Rattle.wire_icmp.specs.declared.laws.IcmpSetting.{IcmpSetting}
 use Rattle.wire_icmp.specs.declared.laws.IcmpSetting.TheVariants as set
 
--- type, code, checksum, and a word whose meaning depends on the type
+-- the widths of the fields in bits: type, code, checksum, and a word whose meaning depends on the type
 abbrev pub diagram : List ℕ
 diagram = 8 ∷ 8 ∷ 16 ∷ 32 ∷ []
 
--- the same for an echo: the word is an identifier and a sequence number
+-- the widths of the fields of an echo message in bits: type, code, checksum, identifier, sequence number
 abbrev pub echo_diagram : List ℕ
 echo_diagram = 8 ∷ 8 ∷ 16 ∷ 16 ∷ 16 ∷ []
 
--- the field that a getter reads
+-- the index of the field that a getter reads
 abbrev pub read_of : IcmpGetting → ℕ
 read_of get.MsgType = 0
 read_of get.MsgCode = 1
@@ -30,7 +30,7 @@ abbrev pub got : IcmpGetting → List ℕ → ℕ
 got get.EchoIdent = nth_field echo_diagram (read_of get.EchoIdent)
 got getting = nth_field diagram (read_of getting)
 
--- the field that a setter writes, and its argument
+-- the index of the field that a setter writes, and its argument
 abbrev pub write_of : IcmpSetting → ℕ × ℕ
 write_of (set.MsgType x) = (0, x)
 write_of (set.MsgCode x) = (1, x)
@@ -47,6 +47,7 @@ after setting = let write = write_of setting in with_nth diagram write.0 write.1
 abbrev pub after_fill : IpAddress → IpAddress → List ℕ → List ℕ
 after_fill src dst bytes = with_nth diagram 2 (65535 - message_sum src dst (with_nth diagram 2 0 bytes)) bytes
 
--- the bytes with the checksum updated for words that change from the sum old to the sum new; it is never 0 then
+-- the bytes with the checksum updated for words that change from the sum old to the sum new; the new checksum is
+-- never 0
 abbrev pub with_sums : ℕ → ℕ → List ℕ → List ℕ
 with_sums old new bytes = with_nth diagram 2 (not_zero (updated (nth_field diagram 2 bytes) old new)) bytes

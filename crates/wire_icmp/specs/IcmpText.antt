@@ -16,7 +16,7 @@ packet_text bytes =
     then codes "ICMP type=" ++ decimal (field bytes 0 8) ++ codes " code=" ++ decimal (field bytes 8 8) ++ codes " len=" ++ decimal (length (payload_of bytes))
     else codes "ICMP (wire::Error)"
 
--- the printed text of a reason
+-- the printed text of the reason of "destination unreachable"
 abbrev pub unreachable_text : Unreachable → List ℕ
 unreachable_text unreachable.NoRoute = codes "no route"
 unreachable_text unreachable.Host = codes "host"
@@ -24,12 +24,13 @@ unreachable_text unreachable.Port = codes "port"
 unreachable_text unreachable.Prohibited = codes "prohibited"
 unreachable_text (unreachable.Other code) = codes "code " ++ decimal code
 
+-- the printed text of the reason of "time exceeded"
 abbrev pub exceeded_text : Exceeded → List ℕ
 exceeded_text exceeded.HopLimit = codes "hop limit"
 exceeded_text exceeded.Reassembly = codes "reassembly"
 exceeded_text (exceeded.Other code) = codes "code " ++ decimal code
 
--- the printed text of a value
+-- the printed text of an ICMP value
 abbrev pub value_text : IcmpRepr → List ℕ
 value_text (EchoRequest ident seq_no) = codes "ICMP echo request id=" ++ decimal ident ++ codes " seq=" ++ decimal seq_no
 value_text (EchoReply ident seq_no) = codes "ICMP echo reply id=" ++ decimal ident ++ codes " seq=" ++ decimal seq_no

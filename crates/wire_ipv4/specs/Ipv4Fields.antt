@@ -1,4 +1,4 @@
--- The fields of a header in the order of RFC 791's diagram, and which of them each call reads or writes.
+-- The fields of an IPv4 header in the order of RFC 791's diagram, and which of them each call reads or writes.
 use Rattle.std.specs.Prelude.{ℕ, ◌-◌, ◌*◌, ◌/◌, ◌%◌, List, [], ◌∷◌, slice_range, sum, take}
 use Rattle.wire_field.specs.Diagram.{flag, nth_field, with_nth}
 use Rattle.wire_field.specs.Field.{with_field}
@@ -12,13 +12,14 @@ use Rattle.wire_ipv4.specs.declared.laws.Ipv4Setting.TheVariants as set
 use Rattle.wire_ipv4.specs.declared.laws.Ipv4Update.{Ipv4Update}
 use Rattle.wire_ipv4.specs.declared.laws.Ipv4Update.TheVariants as update
 
--- version, header length, service, congestion, total length; identification, three flags, offset; hop limit, protocol, checksum; addresses
+-- the widths of the fields in bits: version, header length, DSCP, ECN, total length; identification, three flags,
+-- fragment offset; hop limit, protocol, checksum; the two addresses
 abbrev pub diagram : List ℕ
 diagram = 4 ∷ 4 ∷ 6 ∷ 2 ∷ 16 ∷ 16 ∷ 1 ∷ 1 ∷ 1 ∷ 13 ∷ 8 ∷ 8 ∷ 16 ∷ 32 ∷ 32 ∷ []
 
 -- ---- getters
 
--- the field that a getter reads, and the unit in which the field counts
+-- the index of the field that a getter reads, and the unit in which the field counts
 abbrev pub read_of : Ipv4Getting → ℕ × ℕ
 read_of get.Version = (0, 1)
 read_of get.HeaderLen = (1, 4)
@@ -41,7 +42,7 @@ got getting bytes = let read = read_of getting in read.1 * nth_field diagram rea
 
 -- ---- setters
 
--- the field that a setter writes, and its argument as a number
+-- the index of the field that a setter writes, and its argument as a number
 abbrev pub write_of : Ipv4Setting → ℕ × ℕ
 write_of (set.Version x) = (0, x)
 write_of (set.HeaderLen x) = (1, x / 4)
@@ -68,7 +69,7 @@ with_no_flags bytes = with_field bytes (sum (take 6 diagram)) (sum (slice_range 
 
 -- ---- calls that write the checksum too
 
--- the setter of the field that such a call writes beside the checksum
+-- the setter of the field that an updating call writes besides the checksum
 abbrev pub setting_of : Ipv4Update → Ipv4Setting
 setting_of (update.Dscp x) = set.Dscp x
 setting_of (update.Ecn x) = set.Ecn x
@@ -76,7 +77,7 @@ setting_of (update.HopLimit x) = set.HopLimit x
 setting_of (update.SrcAddr x) = set.SrcAddr x
 setting_of (update.DstAddr x) = set.DstAddr x
 
--- what changes in the sum of the words, before and after: each field counts by its place in a word
+-- the one's complement sums of the words that an updating call changes, before and after it
 abbrev pub sums_of : Ipv4Update → List ℕ → ℕ × ℕ
 sums_of (update.Dscp x) bytes = (4 * nth_field diagram 2 bytes, 4 * (x % 64))
 sums_of (update.Ecn x) bytes = (nth_field diagram 3 bytes, x % 4)
@@ -84,15 +85,16 @@ sums_of (update.HopLimit x) bytes = (256 * nth_field diagram 10 bytes, 256 * x)
 sums_of (update.SrcAddr x) bytes = (sum_of_bytes (big_bytes 4 (nth_field diagram 13 bytes)), sum_of_bytes x)
 sums_of (update.DstAddr x) bytes = (sum_of_bytes (big_bytes 4 (nth_field diagram 14 bytes)), sum_of_bytes x)
 
--- the bytes with the checksum updated for words that changed from the sum old to the sum new
+-- the bytes with the header checksum updated for words that change from the sum old to the sum new
 abbrev pub with_sums : ℕ → ℕ → List ℕ → List ℕ
 with_sums old new bytes = with_nth diagram 12 (updated (nth_field diagram 12 bytes) old new) bytes
 
--- the bytes after such a call
+-- the bytes after an updating call
 abbrev pub after_update : Ipv4Update → List ℕ → List ℕ
 after_update call bytes = let sums = sums_of call bytes in with_sums sums.0 sums.1 (after (setting_of call) bytes)
 
--- the bytes after the checksum was computed: the complement of the header's sum with 0 in the checksum field
+-- the bytes after the header checksum was computed: the complement of the sum of the header with 0 in the checksum
+-- field
 abbrev pub after_fill : List ℕ → List ℕ
 after_fill bytes =
     let header = take (4 * nth_field diagram 1 bytes) (with_nth diagram 12 0 bytes) in

@@ -8,10 +8,11 @@ use Rattle.wire_ends.specs.Protocol.{known, number_of, protocol_of}
 use Rattle.wire_ipv6.specs.declared.ipv6.packet.Ipv6View.{Ipv6View}
 use Rattle.wire_ipv6.specs.declared.ipv6.repr.Ipv6Repr.{Ipv6Repr}
 
--- a reading view, and a mutable view
+-- a reading view of a packet
 abbrev pub Reading : Type 0
 Reading = Ipv6View (Bor (List ℕ))
 
+-- a mutable view of a packet
 abbrev pub Writing : Type 0
 Writing = Ipv6View (MutBor (List ℕ))
 
@@ -31,15 +32,15 @@ packet_bytes_mut p = (packet_slice p).now
 abbrev pub Becomes : Writing → Writing → List ℕ → Type 0
 Becomes old new bytes = Holds (packet_slice old) (packet_slice new) bytes
 
--- the length of the packet in octets: header and payload
+-- the length of the packet in bytes: header and payload
 abbrev pub total_len : List ℕ → ℕ
 total_len bytes = 40 + field bytes 32 16
 
--- the payload: the bytes behind the header, up to the end of the packet
+-- the payload: the bytes after the header, up to the end of the packet
 abbrev pub payload_of : List ℕ → List ℕ
 payload_of bytes = slice_range bytes 40 (total_len bytes)
 
--- the lengths are valid: the bytes hold a whole header, and a payload of the length that it names
+-- the lengths are valid: the bytes hold a whole header, and a payload of the length that it says
 abbrev pub HasLengths : List ℕ → Type 0
 HasLengths bytes = total_len bytes ≤ length bytes
 
@@ -53,7 +54,7 @@ pub record Reads (bytes : List ℕ) (v : Ipv6Repr) : Type 0 where
   pub src_addr : v.src_addr ≡ slice_range bytes 8 24
   pub dst_addr : v.dst_addr ≡ slice_range bytes 24 40
 
--- the values of the fields of a header
+-- the values of the fields of an IPv6 header
 abbrev pub header_of : List ℕ → Ipv6Repr
 header_of bytes = record {
   src_addr = slice_range bytes 8 24;

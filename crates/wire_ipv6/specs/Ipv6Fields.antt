@@ -1,4 +1,4 @@
--- The fields of a header in the order of RFC 8200's diagram, and which of them each call reads or writes.
+-- The fields of an IPv6 header in the order of RFC 8200's diagram, and which of them each call reads or writes.
 use Rattle.std.specs.Prelude.{ℕ, List, [], ◌∷◌}
 use Rattle.byteorder.specs.Endian.{big_number}
 use Rattle.wire_ends.specs.Protocol.{number_of}
@@ -8,11 +8,12 @@ use Rattle.wire_ipv6.specs.declared.laws.Ipv6Getting.TheVariants as get
 use Rattle.wire_ipv6.specs.declared.laws.Ipv6Setting.{Ipv6Setting}
 use Rattle.wire_ipv6.specs.declared.laws.Ipv6Setting.TheVariants as set
 
--- version, traffic class, flow label; payload length, next header, hop limit; addresses
+-- the widths of the fields in bits: version, traffic class, flow label; payload length, next header, hop limit; the
+-- two addresses
 abbrev pub diagram : List ℕ
 diagram = 4 ∷ 8 ∷ 20 ∷ 16 ∷ 8 ∷ 8 ∷ 128 ∷ 128 ∷ []
 
--- the field that a getter reads
+-- the index of the field that a getter reads
 abbrev pub read_of : Ipv6Getting → ℕ
 read_of get.Version = 0
 read_of get.TrafficClass = 1
@@ -27,7 +28,7 @@ read_of get.DstAddr = 7
 abbrev pub got : Ipv6Getting → List ℕ → ℕ
 got getting = nth_field diagram (read_of getting)
 
--- the field that a setter writes, and its argument as a number
+-- the index of the field that a setter writes, and its argument as a number
 abbrev pub write_of : Ipv6Setting → ℕ × ℕ
 write_of (set.Version x) = (0, x)
 write_of (set.TrafficClass x) = (1, x)

@@ -8,10 +8,11 @@ use Rattle.wire_field.specs.Loan.{Holds}
 use Rattle.wire_ipv6.specs.declared.ipv6fragment.header.Ipv6FragmentView.{Ipv6FragmentView}
 use Rattle.wire_ipv6.specs.declared.ipv6fragment.repr.Ipv6FragmentRepr.{Ipv6FragmentRepr}
 
--- a reading view, and a mutable view
+-- a reading view of a fragment header
 abbrev pub Reading : Type 0
 Reading = Ipv6FragmentView (Bor (List ℕ))
 
+-- a mutable view of a fragment header
 abbrev pub Writing : Type 0
 Writing = Ipv6FragmentView (MutBor (List ℕ))
 
@@ -31,14 +32,14 @@ header_bytes_mut h = (header_slice h).now
 abbrev pub Becomes : Writing → Writing → List ℕ → Type 0
 Becomes old new bytes = Holds (header_slice old) (header_slice new) bytes
 
--- the bytes begin with a header that parses as this value; the two reserved bits are ignored
+-- the bytes begin with a fragment header that parses as this value; the two reserved bits are ignored
 pub record Reads (bytes : List ℕ) (v : Ipv6FragmentRepr) : Type 0 where
   pub whole : 6 ≤ length bytes
   pub frag_offset : v.frag_offset ≡ field bytes 0 13
   pub more_frags : IsTrue v.more_frags ↔ (field bytes 15 1 ≡ 1)
   pub ident : v.ident ≡ field bytes 16 32
 
--- the values of the fields of a header
+-- the values of the fields of a fragment header
 abbrev pub header_of : List ℕ → Ipv6FragmentRepr
 header_of bytes = record {
   frag_offset = field bytes 0 13;
@@ -58,7 +59,7 @@ normal v = record v { frag_offset = v.frag_offset % 2 ^ 13 }
 abbrev pub flag : Bool → ℕ
 flag set = if set then 1 else 0
 
--- the header with these values: the offset is cut to 13 bits, and the reserved bits are 0
+-- the fragment header with these values: the offset is cut to 13 bits, and the reserved bits are 0
 abbrev pub bytes_of : Ipv6FragmentRepr → List ℕ
 bytes_of v = big_bytes 2 (v.frag_offset % 2 ^ 13 * 8 + flag v.more_frags) ++ big_bytes 4 v.ident
 
@@ -66,11 +67,11 @@ bytes_of v = big_bytes 2 (v.frag_offset % 2 ^ 13 * 8 + flag v.more_frags) ++ big
 abbrev pub flag_text : Bool → List ℕ
 flag_text set = if set then codes "true" else codes "false"
 
--- the printed text of a header's values
+-- the printed text of a fragment header's values
 unfoldable pub value_text : Ipv6FragmentRepr → List ℕ
 value_text v =
     codes "IPv6 Fragment offset=" ++ decimal v.frag_offset ++ codes " more=" ++ flag_text v.more_frags ++ codes " ident=" ++ decimal v.ident
 
--- the printed text of a header, or that the bytes hold none
+-- the printed text of a fragment header, or that the bytes hold none
 abbrev pub header_text : List ℕ → List ℕ
 header_text bytes = option_map_or value_text (ipv6_fragment_of bytes) (codes "IPv6 Fragment (wire::Error)")

@@ -6,7 +6,7 @@ use Rattle.wire_ipv6.specs.Ipv6.{ipv6_of}
 use Rattle.wire_ipv6.specs.declared.ipv6.repr.Ipv6Repr.{Ipv6Repr}
 use Rattle.wire_ends.specs.Protocol.{protocol_text}
 
--- the printed text of a header's values
+-- the printed text of an IPv6 header's values
 unfoldable pub value_text : Ipv6Repr → List ℕ
 value_text v =
     codes "IPv6 src=" ++ ipv6_text v.src_addr ++ codes " dst=" ++ ipv6_text v.dst_addr ++ codes " nxt_hdr=" ++ protocol_text v.next_header

@@ -4,12 +4,12 @@ use Rattle.std.specs.List.{AllByRecursion, concat}
 use Rattle.std.specs.Option.{option_and_then, option_map}
 use Rattle.wire_addr.specs.declared.ethernet_address.EthernetAddress.{EthernetAddress}
 
--- The octets of an option. The first is its type, the second its length in units of 8 octets, which is not 0.
+-- The bytes of an option. The first is its type, the second its length in units of 8 bytes, which is not 0.
 pub record IsNdOption (option : List ℕ) : Type 0 where
   pub some : 0 < slice_index option 1
   pub whole : length option ≡ 8 * slice_index option 1
 
--- the bytes are these options, one behind the other
+-- the bytes are these options, one after the other
 pub record AreOptions (bytes : List ℕ) (options : List (List ℕ)) : Type 0 where
   pub each : AllByRecursion IsNdOption options
   pub joined : bytes ≡ concat options
@@ -19,18 +19,18 @@ abbrev pub first_of : ℕ → List (List ℕ) → Option (List ℕ)
 first_of type [] = None
 first_of type (option ∷ options) = if slice_index option 0 == type then Some option else first_of type options
 
--- The Ethernet address behind type and length. Its option has 8 octets (RFC 2464, section 6).
+-- The Ethernet address in an option: it follows type and length. Such an option has 8 bytes (RFC 2464, section 6).
 abbrev pub IsLladdr : Option (List ℕ) → Option EthernetAddress → Type 0
 IsLladdr None lladdr = lladdr ≡ None
 IsLladdr (Some option) lladdr = (length option ≡ 8) × (lladdr ≡ Some (record { 0 = drop 2 option }))
 
--- the bytes are options, and this is the link-layer address in the first of a type, if there is one
+-- the bytes are options, and this is the link-layer address in the first option of a type, if there is one
 abbrev pub HasLladdr : List ℕ → ℕ → Option EthernetAddress → Type 0
 HasLladdr bytes type lladdr = (options : List (List ℕ)) × AreOptions bytes options × IsLladdr (first_of type options) lladdr
 
--- ---- the same computed
+-- ---- parsing, computed
 
--- the first option, and the bytes behind it
+-- the first option in the bytes, and the bytes after it
 abbrev pub first_option : List ℕ → Option (List ℕ × List ℕ)
 first_option bytes =
     let len = 8 * slice_index bytes 1 in
@@ -43,15 +43,16 @@ options_within zero (b ∷ bs) = None
 options_within (suc n) (b ∷ bs) =
     option_and_then (λ d. option_map (λ options. d.0 ∷ options) (options_within n d.1)) (first_option (b ∷ bs))
 
+-- the bytes as options, if they are options
 abbrev pub options_of : List ℕ → Option (List (List ℕ))
 options_of bytes = options_within (length bytes) bytes
 
--- the address in an option
+-- the link-layer address in an option; nothing if its length is not 8
 abbrev pub lladdr_in : Option (List ℕ) → Option (Option EthernetAddress)
 lladdr_in None = Some None
 lladdr_in (Some option) = if length option == 8 then Some (Some (record { 0 = drop 2 option })) else None
 
--- the address in the first option of a type, `None` if there is no such option; nothing if the bytes are no options or
--- that option has another length
+-- the link-layer address in the first option of a type, `None` if there is no such option; nothing if the bytes are
+-- no options or that option has another length
 abbrev pub lladdr_of : ℕ → List ℕ → Option (Option EthernetAddress)
 lladdr_of type bytes = option_and_then (λ options. lladdr_in (first_of type options)) (options_of bytes)

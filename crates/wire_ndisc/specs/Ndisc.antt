@@ -17,28 +17,30 @@ use Rattle.wire_ndisc.specs.declared.ndisc.repr.NdiscRepr.TheVariants.{NeighborS
 
 -- ---- the parts of a value
 
--- the type of a message
+-- the ICMP type of a message
 abbrev pub type_of : NdiscRepr → ℕ
 type_of (NeighborSolicit target lladdr) = 135
 type_of (NeighborAdvert flags target lladdr) = 136
 
--- the type of its option for a link-layer address: source, or target (section 4.6.1)
+-- the type of the option of a message for a link-layer address: source, or target (section 4.6.1)
 abbrev pub option_type : NdiscRepr → ℕ
 option_type (NeighborSolicit target lladdr) = 1
 option_type (NeighborAdvert flags target lladdr) = 2
 
+-- the target address of a message
 abbrev pub target_of : NdiscRepr → List ℕ
 target_of (NeighborSolicit target lladdr) = target
 target_of (NeighborAdvert flags target lladdr) = target
 
+-- the link-layer address in the option of a message, if it has one
 abbrev pub address_in : NdiscRepr → Option EthernetAddress
 address_in (NeighborSolicit target lladdr) = lladdr
 address_in (NeighborAdvert flags target lladdr) = lladdr
 
 -- ---- the rules for addresses (sections 7.1.1 and 7.1.2)
 
--- The target is no multicast address. A solicitation from the unspecified address goes to a solicited-node group, and has
--- no link-layer address. An advertisement to a group is not solicited.
+-- The addresses are valid: the target is no multicast address. A solicitation from the unspecified address goes to a
+-- solicited-node group, and has no link-layer address. An advertisement to a group is not solicited.
 abbrev pub IsAllowed : NdiscRepr → List ℕ → List ℕ → Type 0
 IsAllowed (NeighborSolicit target lladdr) src dst =
     ¬ (IsIn ipv6_multicast target) × (src ≡ ipv6_unspecified → IsIn ipv6_solicited_node dst × (lladdr ≡ None))
@@ -47,11 +49,11 @@ IsAllowed (NeighborAdvert flags target lladdr) src dst =
 
 -- ---- reading
 
--- the flags: the bits R, S and O
+-- the flags R, S and O of an advertisement
 abbrev pub flags_of : List ℕ → NdiscNeighborFlags
 flags_of bytes = record { router = field bytes 32 1 == 1; solicited = field bytes 33 1 == 1; override_ = field bytes 34 1 == 1 }
 
--- the flags of an advertisement; a solicitation has none
+-- the value of an advertisement has the flags in the bytes; a solicitation has none
 abbrev pub HasFlags : List ℕ → NdiscRepr → Type 0
 HasFlags bytes (NeighborSolicit target lladdr) = Unit {0}
 HasFlags bytes (NeighborAdvert flags target lladdr) = flags ≡ flags_of bytes
@@ -69,7 +71,7 @@ pub record Reads (bytes src dst : List ℕ) (hop_limit : ℕ) (verified : Bool) 
   pub lladdr : HasLladdr (drop 24 bytes) (option_type v) (address_in v)
   pub allowed : IsAllowed v src dst
 
--- ---- the same computed
+-- ---- parsing, computed
 
 -- whether the first n bits of both are the same
 unfoldable pub agree_first : ℕ → List ℕ → List ℕ → Bool
@@ -92,7 +94,7 @@ abbrev pub is_sound : IpAddress → IpAddress → ℕ → Bool → List ℕ → 
 is_sound src dst hop_limit verified bytes =
     nat_le 24 (length bytes) && hop_limit == 255 && field bytes 8 8 == 0 && (not verified || verifies src dst bytes)
 
--- the value of the fields, if the type is that of a solicitation or an advertisement, and there are options
+-- the value of a solicitation or an advertisement, by its type, if its options are valid
 abbrev pub value_of : List ℕ → Option NdiscRepr
 value_of bytes =
     let target = slice_range bytes 8 24 in
@@ -112,21 +114,21 @@ abbrev pub flags_word : NdiscNeighborFlags → ℕ
 flags_word flags =
     (if flags.router then 2 ^ 31 else 0) + (if flags.solicited then 2 ^ 30 else 0) + (if flags.override_ then 2 ^ 29 else 0)
 
--- the header of the ICMP message; a solicitation has no flags
+-- the ICMP header of a message; a solicitation has no flags
 abbrev pub header_of : NdiscRepr → IcmpHeader
 header_of (NeighborSolicit target lladdr) = record { msg_type = 135; msg_code = 0; word = 0 }
 header_of (NeighborAdvert flags target lladdr) = record { msg_type = 136; msg_code = 0; word = flags_word flags }
 
--- the option with the link-layer address, of one unit of 8 octets
+-- the bytes of the option with a link-layer address, of one unit of 8 bytes; nothing without an address
 abbrev pub option_bytes : ℕ → Option EthernetAddress → List ℕ
 option_bytes type None = []
 option_bytes type (Some address) = type ∷ 1 ∷ address.0
 
--- what follows the header: the target, and the option if there is an address
+-- the bytes after the ICMP header: the target, and the option if there is an address
 abbrev pub body_of : NdiscRepr → List ℕ
 body_of v = target_of v ++ option_bytes (option_type v) (address_in v)
 
--- the length of the message in octets
+-- the length of the message in bytes
 abbrev pub len_of : NdiscRepr → ℕ
 len_of v = if is_none (address_in v) then 24 else 32
 

@@ -14,10 +14,11 @@ use Rattle.wire_tcp.specs.declared.tcp.packet.TcpView.{TcpView}
 abbrev pub packet_slice : {B : Type 0} → TcpView B → B
 packet_slice p = p.buffer
 
--- a reading view, and a mutable view
+-- a reading view of a segment
 abbrev pub Reading : Type 0
 Reading = TcpView (Bor (List ℕ))
 
+-- a mutable view of a segment
 abbrev pub Writing : Type 0
 Writing = TcpView (MutBor (List ℕ))
 
@@ -33,7 +34,7 @@ packet_bytes_mut p = (packet_slice p).now
 abbrev pub Becomes : Writing → Writing → List ℕ → Type 0
 Becomes old new bytes = Holds (packet_slice old) (packet_slice new) bytes
 
--- the length of the header in octets: the data offset counts words of 4
+-- the length of the header in bytes: the data offset counts words of 4
 abbrev pub header_len : List ℕ → ℕ
 header_len bytes = 4 * field bytes 96 4
 
@@ -41,11 +42,11 @@ header_len bytes = 4 * field bytes 96 4
 abbrev pub options_of : List ℕ → List ℕ
 options_of bytes = slice_range bytes 20 (header_len bytes)
 
--- the payload: all bytes behind the header
+-- the payload: all bytes after the header
 abbrev pub payload_of : List ℕ → List ℕ
 payload_of bytes = drop (header_len bytes) bytes
 
--- the number of sequence numbers that a segment uses: one for each octet of its payload, for SYN and for FIN
+-- the number of sequence numbers that a segment uses: one for each byte of its payload, for SYN and for FIN
 abbrev pub segment_len : List ℕ → ℕ
 segment_len bytes = length bytes - header_len bytes + field bytes 110 1 + field bytes 111 1
 
@@ -53,7 +54,7 @@ segment_len bytes = length bytes - header_len bytes + field bytes 110 1 + field 
 abbrev pub with_flag : List ℕ → ℕ → Bool → List ℕ
 with_flag bytes place value = with_field bytes place 1 (if value then 1 else 0)
 
--- the lengths are valid: the header has at least 20 octets, and the bytes hold all of it
+-- the lengths are valid: the header has at least 20 bytes, and the bytes hold all of it
 pub record HasLengths (bytes : List ℕ) : Type 0 where
   pub least : 20 ≤ length bytes
   pub header : 20 ≤ header_len bytes
@@ -73,7 +74,7 @@ pseudo_header_sum src dst bytes = sum_of_bytes (pseudo_header_bytes (octets_of s
 abbrev pub segment_sum : IpAddress → IpAddress → List ℕ → ℕ
 segment_sum src dst bytes = sum_of_bytes (with_pseudo_header src dst protocol.Tcp bytes)
 
--- the checksum is correct: that sum is 0xffff
+-- the checksum is correct: the sum of pseudo-header and segment is 0xffff
 abbrev pub Verifies : IpAddress → IpAddress → List ℕ → Type 0
 Verifies src dst bytes = segment_sum src dst bytes ≡ 65535
 

@@ -1,4 +1,4 @@
--- The fields of a header in the order of RFC 9293's diagram, and which of them each call reads or writes.
+-- The fields of a TCP header in the order of RFC 9293's diagram, and which of them each call reads or writes.
 use Rattle.std.specs.Prelude.{ℕ, ◌-◌, ◌*◌, ◌/◌, ◌==◌, if◌then◌else◌, List, [], ◌∷◌, slice_range, sum, take}
 use Rattle.wire_checksum.specs.WordSum.{sum_of_bytes, updated}
 use Rattle.wire_ends.specs.IpAddress.{octets_of}
@@ -16,13 +16,14 @@ use Rattle.wire_tcp.specs.declared.laws.TcpSetting.TheVariants as set
 use Rattle.wire_tcp.specs.declared.laws.TcpUpdate.{TcpUpdate}
 use Rattle.wire_tcp.specs.declared.laws.TcpUpdate.TheVariants as update
 
--- ports; sequence number; acknowledgement number; offset, three reserved bits, nine flags, window; checksum, urgent pointer
+-- the widths of the fields in bits: ports; sequence number; acknowledgement number; data offset, three reserved bits,
+-- nine flags, window; checksum, urgent pointer
 abbrev pub diagram : List ℕ
 diagram = 16 ∷ 16 ∷ 32 ∷ 32 ∷ 4 ∷ 3 ∷ 1 ∷ 1 ∷ 1 ∷ 1 ∷ 1 ∷ 1 ∷ 1 ∷ 1 ∷ 1 ∷ 16 ∷ 16 ∷ 16 ∷ []
 
 -- ---- getters
 
--- the field that a getter reads, and the unit in which the field counts
+-- the index of the field that a getter reads, and the unit in which the field counts
 abbrev pub read_of : TcpGetting → ℕ × ℕ
 read_of get.SrcPort = (0, 1)
 read_of get.DstPort = (1, 1)
@@ -48,7 +49,7 @@ got getting bytes = let read = read_of getting in read.1 * nth_field diagram rea
 
 -- ---- setters
 
--- the field that a setter writes, and its argument as a number
+-- the index of the field that a setter writes, and its argument as a number
 abbrev pub write_of : TcpSetting → ℕ × ℕ
 write_of (set.SrcPort x) = (0, x)
 write_of (set.DstPort x) = (1, x)
@@ -78,14 +79,15 @@ with_no_flags bytes = with_field bytes (sum (take 5 diagram)) (sum (slice_range 
 
 -- ---- calls that write the checksum too
 
--- the bytes with the field that such a call writes beside the checksum; an address is in no field of this header
+-- the bytes with the field that an updating call writes besides the checksum; an address is in no field of a TCP
+-- header
 abbrev pub with_update : TcpUpdate → List ℕ → List ℕ
 with_update (update.SrcPort x) bytes = with_nth diagram 0 x bytes
 with_update (update.DstPort x) bytes = with_nth diagram 1 x bytes
 with_update (update.WindowLen x) bytes = with_nth diagram 15 x bytes
 with_update (update.Address old new) bytes = bytes
 
--- the sum of the words that change, before and after
+-- the sums of the words that an updating call changes, before and after it
 abbrev pub sums_of : TcpUpdate → List ℕ → ℕ × ℕ
 sums_of (update.SrcPort x) bytes = (nth_field diagram 0 bytes, x)
 sums_of (update.DstPort x) bytes = (nth_field diagram 1 bytes, x)
@@ -96,7 +98,7 @@ sums_of (update.Address old new) bytes = (sum_of_bytes (octets_of old), sum_of_b
 abbrev pub with_sums : ℕ → ℕ → List ℕ → List ℕ → List ℕ
 with_sums old new before = with_nth diagram 16 (updated (nth_field diagram 16 before) old new)
 
--- the bytes after such a call
+-- the bytes after an updating call
 abbrev pub after_update : TcpUpdate → List ℕ → List ℕ
 after_update call bytes = let sums = sums_of call bytes in with_sums sums.0 sums.1 bytes (with_update call bytes)
 
@@ -104,11 +106,12 @@ after_update call bytes = let sums = sums_of call bytes in with_sums sums.0 sums
 abbrev pub after_fill : IpAddress → IpAddress → List ℕ → List ℕ
 after_fill src dst bytes = with_nth diagram 16 (65535 - segment_sum src dst (with_nth diagram 16 0 bytes)) bytes
 
--- an address before and after such a call
+-- an address of the segment before an updating call
 abbrev pub address_before : TcpUpdate → IpAddress → IpAddress
 address_before (update.Address old new) address = old
 address_before _ address = address
 
+-- an address of the segment after an updating call
 abbrev pub address_after : TcpUpdate → IpAddress → IpAddress
 address_after (update.Address old new) address = new
 address_after _ address = address

@@ -17,7 +17,8 @@ use Rattle.wire_tcp_parts.specs.declared.tcp.seq_number.TcpSeqNumber.{TcpSeqNumb
 use Rattle.wire_tcp_parts.specs.declared.tcp.timestamp.TcpTimestampRepr.{TcpTimestampRepr}
 use Rattle.wire_tcp.specs.declared.tcp.repr.TcpRepr.{TcpRepr}
 
--- The values of a segment without its payload. Two values with equal headers and equal octets of their payloads are equal.
+-- The values of a segment without its payload. Two values of a segment are equal if these and the bytes of their
+-- payloads are.
 pub record TcpHeader : Type 0 where
   pub src_port : ℕ
   pub dst_port : ℕ
@@ -31,7 +32,7 @@ pub record TcpHeader : Type 0 where
   pub sack_ranges : List (Option (ℕ × ℕ))
   pub timestamp : Option TcpTimestampRepr
 
--- a value without its payload
+-- the values of a segment without its payload
 abbrev pub header_of : TcpRepr → TcpHeader
 header_of v = record {
   src_port = v.src_port;
@@ -49,11 +50,11 @@ header_of v = record {
 
 -- ---- the values of the fields
 
--- the sequence number of 32 bits
+-- the sequence number with these 32 bits
 abbrev pub seq_of : ℕ → TcpSeqNumber
 seq_of bits = record { 0 = cast_signed w32 bits }
 
--- RST, SYN and FIN, each 1 where it is set
+-- the flags RST, SYN and FIN of a segment, each 1 if it is set
 pub record HasFlags (bytes : List ℕ) (r s f : ℕ) : Type 0 where
   pub rst : field bytes 109 1 ≡ r
   pub syn : field bytes 110 1 ≡ s
@@ -67,19 +68,19 @@ HasControl bytes control.Fin = HasFlags bytes 0 0 1
 HasControl bytes control.Psh = HasFlags bytes 0 0 0 × (field bytes 108 1 ≡ 1)
 HasControl bytes control.None = HasFlags bytes 0 0 0 × (field bytes 108 1 ≡ 0)
 
--- the acknowledgement number, if ACK is set
+-- the acknowledgement number of a segment, if ACK is set
 abbrev pub ack_number_of : List ℕ → Option TcpSeqNumber
 ack_number_of bytes = if field bytes 107 1 == 1 then Some (seq_of (field bytes 64 32)) else None
 
--- a timestamp, and the echoed timestamp
+-- a timestamp and the echoed timestamp as a value
 abbrev pub stamp_of : ℕ × ℕ → TcpTimestampRepr
 stamp_of t = record { tsval = t.0; tsecr = t.1 }
 
--- the window scale of an option, at most 14 (RFC 7323, section 2.3)
+-- the window scale in an option list, at most 14 (RFC 7323, section 2.3)
 abbrev pub scale_of : List Item → Option ℕ
 scale_of items = option_map (min 14) (window_scale_of items)
 
--- the timestamp of an option
+-- the timestamp and the echoed timestamp in an option list
 abbrev pub stamps_of : List Item → Option TcpTimestampRepr
 stamps_of items = option_map stamp_of (timestamp_of items)
 
@@ -109,7 +110,7 @@ pub record Reads (bytes : List ℕ) (src dst : IpAddress) (verified : Bool) (v :
   pub window_len : v.window_len ≡ field bytes 112 16
   pub body : payload ≡ payload_of bytes
 
--- more than one of RST, SYN and FIN is set
+-- no control fits: more than one of RST, SYN and FIN is set
 abbrev pub HasNoControl : List ℕ → Type 0
 HasNoControl bytes = (asked : TcpControl) → HasControl bytes asked → ⊥
 
@@ -117,7 +118,7 @@ HasNoControl bytes = (asked : TcpControl) → HasControl bytes asked → ⊥
 abbrev pub HasNoReading : List ℕ → IpAddress → IpAddress → Bool → Type 0
 HasNoReading bytes src dst verified = (v : TcpHeader) (payload : List ℕ) → Reads bytes src dst verified v payload → ⊥
 
--- ---- the same computed
+-- ---- parsing, computed
 
 -- the control of RST, SYN, FIN and PSH, each 1 if it is set
 abbrev pub control_by : ℕ → ℕ → ℕ → ℕ → Option TcpControl
@@ -191,33 +192,36 @@ options_len v =
     len_if (is_some v.max_seg_size) 4 + len_if (is_some v.window_scale) 3 + len_if v.sack_permitted 2
     + sack_len (count_by is_some v.sack_ranges) + len_if (is_some v.timestamp) 10
 
--- the length of the header in octets, in whole words of 4
+-- the length of the emitted header in bytes, in whole words of 4
 abbrev pub header_len_of : TcpHeader → ℕ
 header_len_of v = (20 + options_len v + 3) / 4 * 4
 
+-- the emitted option for a maximum segment size, if there is one
 abbrev pub segment_size_items : Option ℕ → List Item
 segment_size_items None = []
 segment_size_items (Some size) = item 2 (big_bytes 2 size) ∷ []
 
+-- the emitted option for a window scale, if there is one
 abbrev pub window_scale_items : Option ℕ → List Item
 window_scale_items None = []
 window_scale_items (Some scale) = item 3 (scale ∷ []) ∷ []
 
+-- the emitted option for a timestamp, if there is one
 abbrev pub timestamp_items : Option TcpTimestampRepr → List Item
 timestamp_items None = []
 timestamp_items (Some t) = item 8 (big_bytes 4 t.tsval ++ big_bytes 4 t.tsecr) ∷ []
 
--- SACK permitted, or else the ranges if there is an acknowledgement and a range
+-- the emitted SACK option: "SACK permitted", or else the ranges if there is an acknowledgement and a range
 abbrev pub sack_items : TcpHeader → List Item
 sack_items v =
     if v.sack_permitted then item 4 [] ∷ []
     else (if is_none v.ack_number || (count_by is_some v.sack_ranges == 0) then [] else item 5 (range_bytes v.sack_ranges) ∷ [])
 
--- the items of an emitted value, in their order
+-- the options of an emitted value, in their order
 abbrev pub items_of : TcpHeader → List Item
 items_of v = segment_size_items v.max_seg_size ++ window_scale_items v.window_scale ++ sack_items v ++ timestamp_items v.timestamp
 
--- the options, and zeros up to the end of the header
+-- the bytes of the emitted options, and zeros up to the end of the header
 abbrev pub option_bytes : TcpHeader → List ℕ
 option_bytes v = texts (items_of v) ++ replicate (header_len_of v - 20 - length (texts (items_of v))) 0
 
@@ -229,54 +233,56 @@ flag_of control.Syn = 2
 flag_of control.Rst = 4
 flag_of control.Psh = 8
 
--- the data offset, no reserved bit, and only the flags ACK and that of the control
+-- the emitted word with data offset and flags: no reserved bit is set, and of the flags only ACK and that of the
+-- control
 abbrev pub offset_and_flags : TcpHeader → ℕ
 offset_and_flags v = header_len_of v / 4 * 4096 + (if is_some v.ack_number then 16 else 0) + flag_of v.control
 
--- the acknowledgement number, or 0
+-- the emitted acknowledgement number: 0 if there is none
 abbrev pub ack_bits : TcpHeader → ℕ
 ack_bits v = option_map_or number v.ack_number 0
 
--- the header with these values, with this checksum and no urgent pointer
+-- the TCP header with these values, with this checksum and no urgent pointer
 abbrev pub header_bytes : TcpHeader → ℕ → List ℕ
 header_bytes v checksum =
     big_bytes 2 v.src_port ++ big_bytes 2 v.dst_port ++ big_bytes 4 (number v.seq_number) ++ big_bytes 4 (ack_bits v)
     ++ big_bytes 2 (offset_and_flags v) ++ big_bytes 2 v.window_len ++ big_bytes 2 checksum ++ big_bytes 2 0 ++ option_bytes v
 
--- the header with this checksum, and the payload
+-- the segment with this checksum: header and payload
 abbrev pub segment_with : TcpHeader → List ℕ → ℕ → List ℕ
 segment_with v payload checksum = header_bytes v checksum ++ payload
 
--- The header and the payload. A computed checksum covers them and the rest of the buffer behind them; else it is 0.
+-- The segment with these values and this payload. A computed checksum covers it and the rest of the buffer after it;
+-- else it is 0.
 abbrev pub bytes_of : TcpHeader → List ℕ → IpAddress → IpAddress → Bool → List ℕ → List ℕ
 bytes_of v payload src dst computed rest =
     segment_with v payload (if computed then 65535 - segment_sum src dst (segment_with v payload 0 ++ rest) else 0)
 
 -- ---- normal forms
 
--- ranges without gaps
+-- the SACK ranges without gaps: those that are `Some` come first
 abbrev pub closed : List (Option (ℕ × ℕ)) → List (Option (ℕ × ℕ))
 closed ranges =
     let there = filter_map (λ r. r) ranges in
     map Some there ++ replicate (length ranges - length there) None
 
--- no range
+-- no SACK range
 abbrev pub no_ranges : List (Option (ℕ × ℕ))
 no_ranges = replicate SACK_BLOCKS None
 
--- The values that the emitted segment parses as. A window scale above 14 becomes 14, and ranges lose their gaps. No
--- ranges are left beside SACK permitted, or without an acknowledgement.
+-- The normal form: the values that the emitted segment parses as. A window scale above 14 becomes 14, and ranges lose
+-- their gaps. With SACK permitted, or without an acknowledgement, no ranges are left.
 abbrev pub normal : TcpHeader → TcpHeader
 normal v = record v {
   window_scale = option_map (min 14) v.window_scale;
   sack_ranges = if v.sack_permitted || is_none v.ack_number then no_ranges else closed v.sack_ranges;
 }
 
--- it has ranges that are not emitted: without an acknowledgement, or beside SACK permitted
+-- the value has ranges that are not emitted: without an acknowledgement, or with SACK permitted
 abbrev pub HasIdleRanges : TcpHeader → Type 0
 HasIdleRanges v = (count_by is_some v.sack_ranges ≢ 0) × (IsTrue v.sack_permitted ⊎ (v.ack_number ≡ None))
 
--- the number has 32 bits
+-- the sequence number has 32 bits
 abbrev pub IsSeq : TcpSeqNumber → Type 0
 IsSeq s = FitsSigned w32 s.0
 

@@ -7,7 +7,7 @@ use Rattle.wire_tcp_parts.specs.declared.tcp.control.TcpControl.TheVariants as c
 use Rattle.wire_tcp_parts.specs.declared.tcp.seq_number.TcpSeqNumber.{TcpSeqNumber}
 use Rattle.wire_tcp.specs.TcpRepr.{TcpHeader}
 
--- the word for a control
+-- the printed word for a control
 abbrev pub control_text : TcpControl → List ℕ
 control_text control.None = []
 control_text control.Psh = codes " psh"
@@ -15,20 +15,20 @@ control_text control.Syn = codes " syn"
 control_text control.Fin = codes " fin"
 control_text control.Rst = codes " rst"
 
--- the acknowledgement number, if there is one
+-- the printed text of the acknowledgement number, if there is one
 abbrev pub ack_text : Option TcpSeqNumber → List ℕ
 ack_text ack = option_map_or (λ n. codes " ack=" ++ decimal (number n)) ack []
 
--- the maximum segment size, if there is one
+-- the printed text of the maximum segment size, if there is one
 abbrev pub size_text : Option ℕ → List ℕ
 size_text size = option_map_or (λ n. codes " mss=" ++ decimal n) size []
 
--- the ports, the control and the sequence number
+-- the printed text of the ports, the control and the sequence number
 unfoldable pub start_text : ℕ → ℕ → TcpControl → TcpSeqNumber → List ℕ
 start_text src_port dst_port asked seq =
     codes "TCP src=" ++ decimal src_port ++ codes " dst=" ++ decimal dst_port ++ control_text asked ++ codes " seq=" ++ decimal (number seq)
 
--- the window and the length of the payload
+-- the printed text of the window and the length of the payload
 unfoldable pub flow_text : ℕ → ℕ → List ℕ
 flow_text window_len payload_len = codes " win=" ++ decimal window_len ++ codes " len=" ++ decimal payload_len
 

@@ -13,7 +13,7 @@ use Rattle.wire_tcp_parts.specs.TcpPlace.{segment_size_at}
 abbrev pub max_seg_size_of : List ℕ → Option ℕ
 max_seg_size_of bytes = option_and_then segment_size_of (items_in (options_of bytes))
 
--- the index of its two octets
+-- the index in the segment of the two bytes of its maximum segment size
 abbrev pub max_seg_size_at : List ℕ → Option ℕ
 max_seg_size_at bytes = option_map (λ n. 20 + n) (option_and_then segment_size_at (items_in (options_of bytes)))
 

@@ -12,7 +12,7 @@ use Rattle.wire_tcp_parts.specs.declared.tcp.option.TcpOption.TheVariants.{EndOf
 
 -- ---- the header
 
--- the ports
+-- the printed text of the ports
 abbrev pub ports_text : ℕ → ℕ → List ℕ
 ports_text src dst = codes "TCP src=" ++ (decimal src ++ (codes " dst=" ++ decimal dst))
 
@@ -20,22 +20,22 @@ ports_text src dst = codes "TCP src=" ++ (decimal src ++ (codes " dst=" ++ decim
 abbrev pub where_set : List ℕ → ℕ → List ℕ → List ℕ
 where_set bytes at text = if field bytes at 1 == 1 then text else []
 
--- the flags that are set
+-- the printed text of the flags that are set
 unfoldable pub flags_text : List ℕ → List ℕ
 flags_text bytes =
     where_set bytes 110 (codes " syn") ++ where_set bytes 111 (codes " fin") ++ where_set bytes 109 (codes " rst")
     ++ where_set bytes 108 (codes " psh") ++ where_set bytes 105 (codes " ece") ++ where_set bytes 104 (codes " cwr")
     ++ where_set bytes 103 (codes " ns")
 
--- a name and a number
+-- a name and a number in decimal
 abbrev pub numbered : List ℕ → ℕ → List ℕ
 numbered name n = name ++ decimal n
 
--- the same, if there is a number
+-- a name and a number in decimal, if there is a number
 abbrev pub numbered_some : List ℕ → Option ℕ → List ℕ
 numbered_some name n = option_map_or (numbered name) n []
 
--- the numbers of a header, and the length of the payload
+-- the printed text of the numbers of a header, and of the length of the payload
 unfoldable pub numbers_text : ℕ → Option ℕ → ℕ → Option ℕ → ℕ → List ℕ
 numbers_text seq ack window urgent len =
     numbered (codes " seq=") seq ++ numbered_some (codes " ack=") ack ++ numbered (codes " win=") window
@@ -45,23 +45,23 @@ numbers_text seq ack window urgent len =
 abbrev pub number_where : List ℕ → ℕ → ℕ → Option ℕ
 number_where bytes at n = if field bytes at 1 == 1 then Some n else None
 
--- the numbers of the header that the bytes begin with
+-- the printed text of the numbers of the header that the bytes begin with
 abbrev pub fields_text : List ℕ → List ℕ
 fields_text bytes =
     numbers_text (field bytes 32 32) (number_where bytes 107 (field bytes 64 32)) (field bytes 112 16) (number_where bytes 106 (field bytes 144 16)) (length bytes - header_len bytes)
 
 -- ---- options
 
--- the two edges of a block
+-- the printed text of the two edges of a SACK block
 abbrev pub edges_text : ℕ × ℕ → List ℕ
 edges_text r = codes "(" ++ (decimal r.0 ++ (codes ", " ++ (decimal r.1 ++ codes ")")))
 
--- a block, or `None`
+-- the printed text of a SACK block, or `None`
 abbrev pub range_text : Option (ℕ × ℕ) → List ℕ
 range_text None = codes "None"
 range_text (Some r) = codes "Some(" ++ edges_text r ++ codes ")"
 
--- blocks with `, ` between them, in brackets
+-- the printed text of SACK blocks, with `, ` between them, in square brackets
 abbrev pub ranges_text : List (Option (ℕ × ℕ)) → List ℕ
 ranges_text ranges = codes "[" ++ join_by range_text (codes ", ") ranges ++ codes "]"
 
@@ -69,7 +69,7 @@ ranges_text ranges = codes "[" ++ join_by range_text (codes ", ") ranges ++ code
 abbrev pub hex_word : ℕ → List ℕ
 hex_word n = replicate (8 - length (hex n)) 48 ++ hex n
 
--- the text of an option
+-- the printed text of an option
 abbrev pub shown : TcpOption → List ℕ
 shown EndOfList = []
 shown NoOperation = []

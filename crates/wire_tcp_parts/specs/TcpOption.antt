@@ -8,7 +8,7 @@ use Rattle.wire_tcp_parts.specs.declared.tcp.option.TcpOption.TheVariants.{EndOf
 
 -- ---- reading
 
--- the item parses as this option
+-- the item of an option list parses as this option
 abbrev pub IsReading : TcpOption → Item → Type 0
 IsReading EndOfList i = ⊥
 IsReading NoOperation i = i.kind ≡ 1
@@ -19,12 +19,12 @@ IsReading (SackRange ranges) i = (i.kind ≡ 5) × (ranges ≡ first_blocks i.co
 IsReading (TimeStamp tsval tsecr) i = (i.kind ≡ 8) × (length i.content ≡ 8) × (tsval ≡ (stamps i.content).0) × (tsecr ≡ (stamps i.content).1)
 IsReading (Unknown kind bytes) i = (5 < kind) × (kind ≡ 8 → length i.content ≢ 8) × (i.kind ≡ kind) × (i.content ≡ bytes.now)
 
--- the bytes begin with this option, as an item or as the end mark 0, and the rest is behind it
+-- the bytes begin with this option, as an item or as the end mark 0, and this rest follows it
 abbrev pub Begins : TcpOption → List ℕ → List ℕ → Type 0
 Begins EndOfList bytes rest = bytes ≡ 0 ∷ rest
 Begins option bytes rest = (i : Item) × IsItem i × IsReading option i × (bytes ≡ text i ++ rest)
 
--- the bytes begin with neither an item nor an end mark
+-- the bytes begin neither with a well-formed option nor with an end mark
 pub record BeginsNothing (bytes : List ℕ) : Type 0 where
   pub no_mark : (rest : List ℕ) → bytes ≢ 0 ∷ rest
   pub no_item : (i : Item) (rest : List ℕ) → IsItem i → bytes ≢ text i ++ rest
@@ -40,7 +40,7 @@ ranges_in option = first_blocks []
 abbrev pub range_bytes : List (Option (ℕ × ℕ)) → List ℕ
 range_bytes ranges = flat_map (λ r. big_bytes 4 r.0 ++ big_bytes 4 r.1) (filter_map (λ r. r) ranges)
 
--- the length of an emitted option in octets
+-- the length of an emitted option in bytes
 abbrev pub option_len : TcpOption → ℕ
 option_len EndOfList = 1
 option_len NoOperation = 1
@@ -62,12 +62,12 @@ option_text (SackRange ranges) = 5 ∷ (2 + 8 * count_by is_some ranges) ∷ ran
 option_text (TimeStamp tsval tsecr) = 8 ∷ 10 ∷ big_bytes 4 tsval ++ big_bytes 4 tsecr
 option_text (Unknown kind bytes) = kind ∷ (2 + length bytes.now) ∷ bytes.now
 
--- the length of the option fits into one byte
+-- the option can be emitted: its length fits into one byte
 abbrev pub IsEmittable : TcpOption → Type 0
 IsEmittable (Unknown kind bytes) = length bytes.now ≤ 253
 IsEmittable option = Unit {0}
 
--- the bytes behind an option that is written to the front: zeros behind the end mark, else unchanged
+-- the bytes after an option that is written to the front: zeros after the end mark, else unchanged
 abbrev pub rest_after : TcpOption → List ℕ → List ℕ
 rest_after EndOfList bytes = replicate (length bytes - 1) 0
 rest_after option bytes = drop (option_len option) bytes

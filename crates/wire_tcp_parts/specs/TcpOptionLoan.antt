@@ -3,13 +3,13 @@ use Rattle.std.specs.Prelude.{ℕ, ◌≡◌, ◌++◌, List, length}
 use Rattle.std.specs.Borrow.{Lends, MutBor, Fml, Array, u8}
 use Rattle.wire_field.specs.declared.lend.Located.{Located}
 
--- At the end of the borrow the slice has these bytes in front, and behind them the bytes that were written to the
+-- At the end of the borrow the slice has these bytes at its front, followed by the bytes that were written to the
 -- rest.
 abbrev pub LendsRest : MutBor (List ℕ) → List ℕ → MutBor (List ℕ) → Fml
 LendsRest buffer front rest = Lends (Array u8 0) (Array u8 0) buffer rest (λ w. front ++ w)
 
--- The bytes behind a front are located in a slice. It is still the same borrow, and now holds the front and this
--- rest.
+-- The located part is the rest of the slice after this front. The borrow is still the same, and now holds the front
+-- and this rest.
 pub record LocatesRest (buffer : MutBor (List ℕ)) (front rest : List ℕ) (located : Located) : Type 0 where
   pub same_loan : located.bytes.ghost_name ≡ buffer.ghost_name
   pub holds : located.bytes.now ≡ front ++ rest

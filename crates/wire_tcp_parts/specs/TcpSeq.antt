@@ -5,7 +5,7 @@ use Rattle.wire_tcp_parts.specs.declared.tcp.control.TcpControl.{TcpControl}
 use Rattle.wire_tcp_parts.specs.declared.tcp.control.TcpControl.TheVariants as control
 use Rattle.wire_tcp_parts.specs.declared.tcp.seq_number.TcpSeqNumber.{TcpSeqNumber}
 
--- the number in 0 .. 2 ^ 32 - 1
+-- the sequence number as a number in 0 .. 2 ^ 32 - 1
 abbrev pub number : TcpSeqNumber → ℕ
 number s = cast_unsigned w32 s.0
 

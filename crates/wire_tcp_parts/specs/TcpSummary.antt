@@ -4,7 +4,7 @@ use Rattle.wire_tcp_parts.specs.TcpItems.{Item, IsOptionList, first_blocks, sack
 use Rattle.wire_tcp_parts.specs.declared.tcp.summary.OptionValues.{OptionValues}
 use Rattle.wire_tcp_parts.specs.declared.tcp.summary.TcpOptionSummary.{TcpOptionSummary}
 
--- the last item of each kind counts
+-- the values of an option list: the last option of each kind counts
 abbrev pub summary_of : List Item → TcpOptionSummary
 summary_of items = record {
   max_segment_size = segment_size_of items;
@@ -18,11 +18,11 @@ summary_of items = record {
 abbrev pub Summarizes : List ℕ → TcpOptionSummary → Type 0
 Summarizes bytes summary = (items : List Item) × (tail : List ℕ) × IsOptionList bytes items tail × (summary ≡ summary_of items)
 
--- the bytes have no option list
+-- the bytes have no option list: an option is malformed
 abbrev pub HasNoList : List ℕ → Type 0
 HasNoList bytes = (items : List Item) (tail : List ℕ) → IsOptionList bytes items tail → ⊥
 
--- the values of a walk as a summary
+-- the values of a walk as a summary of the option list
 abbrev pub summary_in : OptionValues → TcpOptionSummary
 summary_in values = record {
   max_segment_size = values.max_segment_size;

@@ -3,76 +3,76 @@ use Rattle.std.specs.Prelude.{◌≡◌, ℕ, ◌+◌, ◌-◌, ◌*◌, ◌≤�
 use Rattle.std.specs.List.{join_with_byte}
 use Rattle.std.specs.Str.Parse.{IsNumeral, digits_value}
 
--- the result is the value of the text, or `None` if it has no value
+-- the result is the value that a text has by the rule R, or `None` if it has no value
 abbrev pub Reads : {A : Type 0} → (List ℕ → A → Type 0) → List ℕ → Option A → Type 0
 Reads {A} R text result = MatchOption result ((a : A) → ¬ (R text a)) (R text)
 
--- `.`
+-- the character `.`
 abbrev pub dot : ℕ
 dot = 46
 
--- `-`
+-- the character `-`
 abbrev pub dash : ℕ
 dash = 45
 
--- `:`
+-- the character `:`
 abbrev pub colon : ℕ
 colon = 58
 
--- one to `places` digits of the radix, of which the first may be 0; their value
--- is at most `most`
+-- a text of one to `places` digits of the radix, whose value n is at most `most`; leading zeros are allowed
 pub record IsNumber (radix places most : ℕ) (text : List ℕ) (n : ℕ) : Type 0 where
   pub digits : IsNumeral radix text
   pub places_fit : length text ≤ places
   pub value : digits_value radix text ≡ n
   pub fits : n ≤ most
 
--- each piece parses as the value at the same index, and there are as many pieces as values
+-- each piece of text parses by the rule R as the value at the same index, and there are as many pieces as values
 abbrev pub EachReads : (List ℕ → ℕ → Type 0) → List (List ℕ) → List ℕ → Type 0
 EachReads R [] [] = Unit {0}
 EachReads R (piece ∷ pieces) (x ∷ xs) = R piece x × EachReads R pieces xs
 EachReads R [] (x ∷ xs) = ⊥
 EachReads R (piece ∷ pieces) [] = ⊥
 
--- the text is pieces joined by the mark; each parses as one of the values
+-- the text is pieces joined by the mark, and each piece parses by the rule R as the value at the same index
 pub record IsJoined (mark : ℕ) (R : List ℕ → ℕ → Type 0) (text values : List ℕ) : Type 0 where
   pub pieces : List (List ℕ)
   pub joined : text ≡ join_with_byte mark pieces
   pub each : EachReads R pieces values
 
--- ---- octets
+-- ---- bytes in decimal and in hex
 
--- one to three decimal digits, at most 255
+-- the text of a byte in decimal: one to three digits, at most 255
 abbrev pub IsOctet : List ℕ → ℕ → Type 0
 IsOctet text n = IsNumber 10 3 255 text n
 
--- four decimal numbers joined by dots
+-- the text of four bytes in decimal, joined by dots
 abbrev pub IsDotted : List ℕ → List ℕ → Type 0
 IsDotted text octets = IsJoined dot IsOctet text octets × (length octets ≡ 4)
 
--- six groups of one or two hex digits joined by the mark
+-- the text of six bytes, each of one or two hex digits, joined by the mark
 abbrev pub IsHexOctets : ℕ → List ℕ → List ℕ → Type 0
 IsHexOctets mark text octets = IsJoined mark (IsNumber 16 2 255) text octets × (length octets ≡ 6)
 
--- the marks are all dashes or all colons
+-- the text of six bytes in hex, joined all by dashes or all by colons
 abbrev pub IsHexText : List ℕ → List ℕ → Type 0
 IsHexText text octets = IsHexOctets dash text octets ⊎ IsHexOctets colon text octets
 
 -- ---- groups of 16 bits (RFC 4291, section 2.2)
 
--- one to four hex digits of either case
+-- the text of a group of 16 bits: one to four hex digits of either case
 abbrev pub IsGroup : List ℕ → ℕ → Type 0
 IsGroup text n = IsNumber 16 4 0xffff text n
 
--- groups joined by colons; the empty text for no groups
+-- the text of groups joined by colons; the empty text for no groups
 abbrev pub AreGroupsText : List ℕ → List ℕ → Type 0
 AreGroupsText text groups = IsJoined colon IsGroup text groups
 
--- eight groups joined by colons
+-- the text of an IPv6 address with all eight groups, joined by colons
 abbrev pub IsFullText : List ℕ → List ℕ → Type 0
 IsFullText text groups = AreGroupsText text groups × (length groups ≡ 8)
 
--- a head, `::` and a tail with at most seven groups together; zero groups replace the `::`
+-- the text of an IPv6 address with `::` instead of one or more zero groups: at most seven groups are written, those
+-- of the head before it and those of the tail after it
 pub record IsElidedText (text groups : List ℕ) : Type 0 where
   pub head_text : List ℕ
   pub tail_text : List ℕ
@@ -84,17 +84,18 @@ pub record IsElidedText (text groups : List ℕ) : Type 0 where
   pub room : length head + length tail ≤ 7
   pub value : groups ≡ head ++ replicate (8 - length head - length tail) 0 ++ tail
 
--- the six groups in front of the dotted part
+-- the six groups before the dotted part of an IPv4-mapped address: five zeros and ffff
 abbrev pub mapped_groups : List ℕ
 mapped_groups = 0 ∷ 0 ∷ 0 ∷ 0 ∷ 0 ∷ 0xffff ∷ []
 
--- two octets make a group, the high octet first
+-- the groups of 16 bits of a list of bytes: two bytes make a group, the high byte first
 abbrev pub groups_of : List ℕ → List ℕ
 groups_of [] = []
 groups_of (a ∷ []) = []
 groups_of (a ∷ b ∷ octets) = (a * 256 + b) ∷ groups_of octets
 
--- six groups with the values 0, 0, 0, 0, 0, ffff, then a colon and a dotted part
+-- the text of an IPv4-mapped address without `::`: six groups with the values 0, 0, 0, 0, 0, ffff, then a colon and a
+-- dotted part
 pub record IsMappedText (text groups : List ℕ) : Type 0 where
   pub front_text : List ℕ
   pub dotted_text : List ℕ
@@ -104,7 +105,8 @@ pub record IsMappedText (text groups : List ℕ) : Type 0 where
   pub last : IsDotted dotted_text octets
   pub value : groups ≡ mapped_groups ++ groups_of octets
 
--- at most four zero groups, `::`, a group with the value ffff, a colon and a dotted part
+-- the text of an IPv4-mapped address with `::`: at most four zero groups, `::`, a group with the value ffff, a colon
+-- and a dotted part
 pub record IsElidedMappedText (text groups : List ℕ) : Type 0 where
   pub head_text : List ℕ
   pub mark_text : List ℕ
@@ -118,7 +120,7 @@ pub record IsElidedMappedText (text groups : List ℕ) : Type 0 where
   pub last : IsDotted dotted_text octets
   pub value : groups ≡ mapped_groups ++ groups_of octets
 
--- one of the four forms of an IPv6 text
+-- the text of an IPv6 address in one of its four forms, with the values of its groups
 abbrev pub IsIpv6Text : List ℕ → List ℕ → Type 0
 IsIpv6Text text groups =
     IsFullText text groups

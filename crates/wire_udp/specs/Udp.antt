@@ -14,10 +14,11 @@ use Rattle.wire_ends.specs.declared.ip_protocol.IpProtocol.TheVariants as protoc
 use Rattle.wire_udp.specs.declared.udp.packet.UdpView.{UdpView}
 use Rattle.wire_udp.specs.declared.udp.repr.UdpRepr.{UdpRepr}
 
--- a reading view, and a mutable view
+-- a reading view of a UDP packet
 abbrev pub Reading : Type 0
 Reading = UdpView (Bor (List ℕ))
 
+-- a mutable view of a UDP packet
 abbrev pub Writing : Type 0
 Writing = UdpView (MutBor (List ℕ))
 
@@ -37,15 +38,15 @@ packet_bytes_mut p = (packet_slice p).now
 abbrev pub Becomes : Writing → Writing → List ℕ → Type 0
 Becomes old new bytes = Holds (packet_slice old) (packet_slice new) bytes
 
--- the length field: the length of header and payload in octets
+-- the length field: the length of header and payload in bytes
 abbrev pub packet_len : List ℕ → ℕ
 packet_len bytes = field bytes 32 16
 
--- the length of the longest payload in octets: the length field counts the 8 octets of the header too
+-- the length of the longest payload in bytes: the length field counts the 8 bytes of the header too
 abbrev pub max_payload_len : ℕ
 max_payload_len = 65527
 
--- the payload: the bytes behind the header, up to the length field
+-- the payload: the bytes after the header, up to the length field
 abbrev pub payload_of : List ℕ → List ℕ
 payload_of bytes = slice_range bytes 8 (packet_len bytes)
 
@@ -73,7 +74,7 @@ Verifies src dst bytes = packet_sum src dst (take (packet_len bytes) bytes) ≡ 
 abbrev pub HasChecksum : IpAddress → IpAddress → List ℕ → Type 0
 HasChecksum src dst bytes = ((field bytes 48 16 ≡ 0) × (version_of src ≡ version.Ipv4)) ⊎ ((field bytes 48 16 ≢ 0) × Verifies src dst bytes)
 
--- the checksum of a sum: its complement, or 0xffff in place of 0, because 0 means that there is no checksum
+-- the checksum of a sum: its complement, or 0xffff instead of 0, because 0 means that there is no checksum
 abbrev pub checksum_for : ℕ → ℕ
 checksum_for sum = if 65535 - sum == 0 then 65535 else 65535 - sum
 
@@ -101,7 +102,7 @@ pub record Reads (bytes : List ℕ) (src dst : IpAddress) (verified : Bool) (v :
   pub dst_port : v.dst_port ≡ field bytes 16 16
   pub body : payload ≡ payload_of bytes
 
--- the values of the fields of a header
+-- the values of the fields of a UDP header
 abbrev pub header_of : List ℕ → UdpRepr
 header_of bytes = record { src_port = field bytes 0 16; dst_port = field bytes 16 16 }
 
@@ -126,14 +127,14 @@ is_read src dst verified bytes = has_lengths bytes && not (field bytes 16 16 == 
 unfoldable pub udp_of : IpAddress → IpAddress → Bool → List ℕ → Option UdpRepr
 udp_of src dst verified bytes = if is_read src dst verified bytes then Some (header_of bytes) else None
 
--- the header with these values, for a payload of this length, with this checksum
+-- the UDP header with these values, for a payload of this length, with this checksum
 abbrev pub header_bytes : UdpRepr → ℕ → ℕ → List ℕ
 header_bytes v payload_len checksum = big_bytes 2 v.src_port ++ big_bytes 2 v.dst_port ++ big_bytes 2 (8 + payload_len) ++ big_bytes 2 checksum
 
--- the header with this checksum, and the payload
+-- the UDP packet with this checksum: header and payload
 abbrev pub packet_with : UdpRepr → List ℕ → ℕ → List ℕ
 packet_with v payload checksum = header_bytes v (length payload) checksum ++ payload
 
--- the header and the payload, with their checksum if it is computed, else with 0
+-- the UDP packet with these values and this payload, with its checksum if it is computed, else with 0
 abbrev pub bytes_of : UdpRepr → List ℕ → IpAddress → IpAddress → Bool → List ℕ
 bytes_of v payload src dst computed = packet_with v payload (if computed then checksum_for (packet_sum src dst (packet_with v payload 0)) else 0)

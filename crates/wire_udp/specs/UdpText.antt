@@ -3,7 +3,7 @@ use Rattle.std.specs.Prelude.{ℕ, ◌-◌, ◌++◌, if◌then◌else◌, List,
 use Rattle.wire_udp.specs.Udp.{has_lengths, header_of, packet_len}
 use Rattle.wire_udp.specs.declared.udp.repr.UdpRepr.{UdpRepr}
 
--- the printed text of a header's values
+-- the printed text of a UDP header's values
 abbrev pub value_text : UdpRepr → List ℕ
 value_text v = codes "UDP src=" ++ decimal v.src_port ++ codes " dst=" ++ decimal v.dst_port
 
