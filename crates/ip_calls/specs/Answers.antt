@@ -1,4 +1,4 @@
--- The answer to a text.
+-- The answer of the program to a text.
 use Rattle.std.specs.Prelude.{ℕ, ◌≡◌, ◌⊎◌, List, ◌++◌, codes, Option, IfSome, Result, Ok, Err, IsUtf8}
 
 -- `ok` and the printed text of the value that the bytes parse as; `err` if they are not UTF-8 or do not parse

@@ -19,11 +19,11 @@ inside_of m = record { addr = m.inside; port = m.inside_port }
 abbrev pub IsOf : Ipv4Endpoint → Mapping → Type 0
 IsOf inside m = (m.inside ≡ inside.addr) × (m.inside_port ≡ inside.port)
 
--- whether this is its remote endpoint
+-- whether this is the remote endpoint of the mapping
 abbrev pub is_remote : Mapping → Ipv4Endpoint → Bool
 is_remote m remote = bytes_eq m.remote remote.addr && (m.remote_port == remote.port)
 
--- whether it has more than one remote endpoint, with this one
+-- whether the mapping serves more than one remote endpoint, together with this one
 abbrev pub is_shared : Mapping → Ipv4Endpoint → Bool
 is_shared m remote = not (m.shared == 0) || not (is_remote m remote)
 
@@ -57,8 +57,8 @@ after_outbound nat now event remote m =
       shared = if shared then 1 else 0;
     }
 
--- the mapping after a remote endpoint sent a packet: a FIN or RST of its one remote endpoint ends the connection, and
--- nothing else changes it
+-- The mapping after a remote endpoint sent a packet. A FIN or RST of its only remote endpoint ends the connection;
+-- nothing else changes the mapping.
 abbrev pub after_inbound : Nat → ℕ → Event → Ipv4Endpoint → Mapping → Mapping
 after_inbound nat now event remote m =
     if ends_connection event && not (is_shared m remote)

@@ -16,7 +16,7 @@ protocol_of event.Udp = protocol.Udp
 protocol_of (event.Tcp control) = protocol.Tcp
 protocol_of event.Icmp = protocol.Icmp
 
--- whether it is a TCP segment with FIN or RST
+-- whether the packet is a TCP segment with FIN or RST
 abbrev pub ends_connection : Event → Bool
 ends_connection (event.Tcp Fin) = true
 ends_connection (event.Tcp Rst) = true
@@ -26,17 +26,18 @@ ends_connection (event.Tcp Syn) = false
 ends_connection event.Udp = false
 ends_connection event.Icmp = false
 
--- the state that a byte stands for, and the byte of a state
+-- the TCP state that a byte encodes
 abbrev pub state_of : ℕ → TcpState
 state_of byte = if byte == 1 then Established else (if byte == 2 then Closing else Opening)
 
+-- the byte that encodes a TCP state
 abbrev pub byte_of : TcpState → ℕ
 byte_of Opening = 0
 byte_of Established = 1
 byte_of Closing = 2
 
--- the state after a packet of the inside host; `shared`: the mapping serves more than one remote endpoint, and then
--- the end of one connection does not change the state
+-- The state after a packet of the inside host. If the mapping serves more than one remote endpoint (`shared`), the
+-- end of one connection does not change it.
 abbrev pub next_state : Bool → TcpState → Event → TcpState
 next_state shared state event.Udp = state
 next_state shared state event.Icmp = state

@@ -1,4 +1,4 @@
--- The table of mappings: where a mapping may lie, which inside endpoint an outside port leads to, and what `open` and
+-- The table of mappings: where a mapping may be, which inside endpoint an outside port leads to, and what `open` and
 -- `find` do.
 use Rattle.std.specs.Prelude.{ℕ, ◌≡◌, ◌≢◌, ◌+◌, ◌-◌, ◌*◌, ◌/◌, ◌%◌, ◌<◌, ◌≤◌, ◌==◌, ◌⊎◌, min, if◌then◌else◌, Option, Some, None, List, [], ◌∷◌, length, slice_index, slice_index_or, slice_set}
 use Rattle.std.specs.Hash.DefaultHasher as sip
@@ -23,12 +23,12 @@ protocols = 3
 abbrev pub ports : Nat → ℕ → ℕ
 ports nat len = if nat.first_port == 0 then 0 else min (len / protocols) (65536 - nat.first_port)
 
--- this is an outside port
+-- this is one of the outside ports of a table with `len` mappings
 pub record HasPort (nat : Nat) (len port : ℕ) : Type 0 where
   pub least : nat.first_port ≤ port
   pub most : port < nat.first_port + ports nat len
 
--- the place of a port's mapping: a table with this many mappings has three equal parts, one for each protocol
+-- the index of a port's mapping: a table has three equal parts, one for each protocol
 abbrev pub place_of : Nat → ℕ → Protocol → ℕ → ℕ
 place_of nat len Udp port = port - nat.first_port
 place_of nat len Tcp port = len / protocols + (port - nat.first_port)
@@ -73,7 +73,7 @@ hash_of key inside =
     let t = sip.write s (to_le_bytes w64 (slice_index key 1)) in
     sip.finish (sip.write (sip.write t inside.addr) (to_le_bytes w16 inside.port))
 
--- the ports of a run: 63, or all if there are fewer
+-- the number of ports in a run: 63, or all if there are fewer
 abbrev pub run_len : ℕ → ℕ
 run_len count = min 63 count
 
@@ -86,11 +86,11 @@ pub record IsInRun (nat : Nat) (len : ℕ) (inside : Ipv4Endpoint) (port : ℕ) 
   pub least : nat.first_port + run_start nat.key (ports nat len) inside ≤ port
   pub most : port < nat.first_port + run_start nat.key (ports nat len) inside + run_len (ports nat len)
 
--- the candidates of an inside endpoint: its own port, and then its run
+-- the candidates of an inside endpoint: its own port, and then the ports of its run
 abbrev pub IsCandidate : Nat → ℕ → Ipv4Endpoint → ℕ → Type 0
 IsCandidate nat len inside port = (port ≡ inside.port) ⊎ IsInRun nat len inside port
 
--- a candidate comes before another, or is the same
+-- one candidate comes before another, or is the same
 abbrev pub IsNotBehind : Ipv4Endpoint → ℕ → ℕ → Type 0
 IsNotBehind inside port other = (port ≡ inside.port) ⊎ ((other ≢ inside.port) × (port ≤ other))
 
@@ -107,7 +107,7 @@ IsUnmapped nat mappings now protocol inside =
 
 -- ---- the invariant
 
--- each live mapping lies at a candidate of its inside endpoint, and no endpoint has two live mappings of a protocol
+-- each live mapping is at a candidate of its inside endpoint, and no endpoint has two live mappings of a protocol
 pub record IsTable (nat : Nat) (mappings : List Mapping) (now : ℕ) : Type 0 where
   pub placed : (protocol : Protocol) (port : ℕ) (inside : Ipv4Endpoint) → MapsTo nat mappings now protocol port inside
       → IsCandidate nat (length mappings) inside port
@@ -116,7 +116,7 @@ pub record IsTable (nat : Nat) (mappings : List Mapping) (now : ℕ) : Type 0 wh
 
 -- ---- calls
 
--- the mapping m at this port, after an outbound packet
+-- the mapping at this port after an outbound packet: the first live one of the endpoint, or a new one
 pub data Chooses (nat : Nat) (mappings : List Mapping) (now : ℕ) (event : Event) (inside remote : Ipv4Endpoint) (port : ℕ) : Mapping → Type 0 where
   -- the first live mapping of the endpoint
   kept : IsFirst (λ p. MapsTo nat mappings now (protocol_of event) p inside) nat (length mappings) inside port
@@ -126,7 +126,7 @@ pub data Chooses (nat : Nat) (mappings : List Mapping) (now : ℕ) (event : Even
       → IsFirst (IsFree nat mappings now (protocol_of event)) nat (length mappings) inside port
       → Chooses nat mappings now event inside remote port (after_outbound nat now event remote (new_mapping inside remote))
 
--- `open` gives this outside port, and writes its mapping alone
+-- `open` returns this outside port, and changes only its mapping
 pub record Opens (nat : Nat) (old new : List Mapping) (now : ℕ) (event : Event) (inside remote : Ipv4Endpoint) (port : ℕ) : Type 0 where
   pub mapping : Mapping
   pub chosen : Chooses nat old now event inside remote port mapping
@@ -138,7 +138,7 @@ IsFull nat mappings now protocol inside =
     (port : ℕ) → IsCandidate nat (length mappings) inside port → HasPort nat (length mappings) port
     → (now < (mapping_at nat mappings protocol port).expires) × (¬ IsOf inside (mapping_at nat mappings protocol port))
 
--- `find` gives this inside endpoint, and writes its mapping alone
+-- `find` returns this inside endpoint, and changes only its mapping
 pub record Finds (nat : Nat) (old new : List Mapping) (now : ℕ) (event : Event) (port : ℕ) (remote inside : Ipv4Endpoint) : Type 0 where
   pub mapped : MapsTo nat old now (protocol_of event) port inside
   pub becomes : new ≡ slice_set old (place_of nat (length old) (protocol_of event) port)
@@ -146,12 +146,12 @@ pub record Finds (nat : Nat) (old new : List Mapping) (now : ℕ) (event : Event
 
 -- ---- what a search gives
 
--- the first number from low on, and below high, with a property
+-- the first number from low on, and below high, with a property, if there is one
 abbrev pub IsFirstBetween : (ℕ → Type 0) → ℕ → ℕ → Option ℕ → Type 0
 IsFirstBetween P low high None = (port : ℕ) → low ≤ port → port < high → ¬ P port
 IsFirstBetween P low high (Some first) = (low ≤ first) × (first < high) × P first × ((port : ℕ) → low ≤ port → port < first → ¬ P port)
 
--- the port whose mapping is kept, or else where a new one is made
+-- the port whose mapping is kept, or else the port where a new one is made, or none is free
 abbrev pub Chosen : Nat → List Mapping → ℕ → Protocol → Ipv4Endpoint → Choice → Type 0
 Chosen nat mappings now protocol inside (Choice.Kept port) =
     IsFirst (λ p. MapsTo nat mappings now protocol p inside) nat (length mappings) inside port

@@ -20,12 +20,12 @@ use Rattle.wire_icmp.specs.Icmp.{is_query, protocol_of}
 use Rattle.wire_icmp.specs.declared.IcmpRepr.TheVariants.{DstUnreachable}
 use Rattle.wire_icmp.specs.declared.Unreachable.TheVariants as unreachable
 
--- the host serves this UDP port: it is the echo port or one of the others
+-- the host serves this UDP port: it is the echo port or another open port
 abbrev pub IsServed : Host → ℕ → Type 0
 IsServed host port = (port ≡ host.echo_port) ⊎ Contains host.open_udp_ports.now port
 
--- a frame with these values and bytes is a UDP packet for this host, to a port that it does not serve, and the other
--- frame tells the sender (RFC 1122, section 4.1.3.1; RFC 4443, section 3.1)
+-- A frame with these values and bytes is a UDP packet for this host, to a port that it does not serve. The other
+-- frame is the "port unreachable" error about it (RFC 1122, section 4.1.3.1; RFC 4443, section 3.1).
 pub record IsPortUnreachable (host : Host) (bytes : List ℕ) (asked_header : EthernetRepr) (asked : Carried) (header : EthernetRepr) (carried : Carried) : Type 0 where
   pub ip : IpRepr
   pub udp : UdpRepr
@@ -35,41 +35,44 @@ pub record IsPortUnreachable (host : Host) (bytes : List ℕ) (asked_header : Et
   pub closed : ¬ IsServed host udp.dst_port
   pub tells : IsError host.interface bytes (DstUnreachable unreachable.Port) header carried
 
--- a frame with these values is an ARP request, a UDP packet for the echo port or a TCP segment, for this host, and the
--- other frame is the reply to it
+-- A frame with these values is an ARP request, a UDP packet for the echo port or a TCP segment, for this host. The
+-- other frame is the reply to it.
 abbrev pub IsFrameReply : Host → EthernetRepr → Carried → EthernetRepr → Carried → Type 0
 IsFrameReply host asked_header asked header carried =
     IsArpAnswer host.interface asked header carried
     ⊎ (IsEcho host.interface host.echo_port asked_header asked header carried
     ⊎ IsTcpReply host.interface host.open_ports.now host.offer asked_header asked header carried)
 
--- the same for a reply with a message: the frame is an echo request, a neighbour solicitation or a UDP packet to a closed
--- port
+-- A frame with these values is an echo request, a neighbour solicitation or a UDP packet to a closed port, for this
+-- host. The other frame is the reply to it.
 abbrev pub IsMessageReply : Host → List ℕ → EthernetRepr → Carried → EthernetRepr → Carried → Type 0
 IsMessageReply host bytes asked_header asked header carried =
     IsIcmpEcho host.interface asked_header asked header carried
     ⊎ (IsNeighbourReply host.interface asked_header asked header carried
     ⊎ IsPortUnreachable host bytes asked_header asked header carried)
 
--- the values of such a reply to a frame
+-- the values of the host's reply to an ARP request, a UDP packet for the echo port or a TCP segment in a frame
 abbrev pub RepliesFrame : Host → Frame → EthernetRepr → Carried → Type 0
 RepliesFrame host request header carried =
     (asked : Carried) × (carried_of request.carried ≡ Some asked) × IsFrameReply host request.header asked header carried
 
+-- the values of the host's reply to an echo request, a neighbour solicitation or a UDP packet to a closed port in a
+-- frame
 abbrev pub RepliesMessage : Host → List ℕ → Frame → EthernetRepr → Carried → Type 0
 RepliesMessage host bytes request header carried =
     (asked : Carried) × (carried_of request.carried ≡ Some asked) × IsMessageReply host bytes request.header asked header carried
 
+-- the values of the host's "port unreachable" error about a UDP packet in a frame
 abbrev pub UnreachableFrame : Host → List ℕ → Frame → EthernetRepr → Carried → Type 0
 UnreachableFrame host bytes request header carried =
     (asked : Carried) × (carried_of request.carried ≡ Some asked) × IsPortUnreachable host bytes request.header asked header carried
 
--- the other frame is the reply to a frame with these values and bytes
+-- the second frame is the host's reply to a frame with these values and bytes
 abbrev pub IsReply : Host → List ℕ → EthernetRepr → Carried → EthernetRepr → Carried → Type 0
 IsReply host bytes asked_header asked header carried =
     IsFrameReply host asked_header asked header carried ⊎ IsMessageReply host bytes asked_header asked header carried
 
--- the values of the reply to the frame that the bytes parse as
+-- the values of the host's reply to the frame that the bytes parse as
 abbrev pub RepliesBytes : Host → List ℕ → EthernetRepr → Carried → Type 0
 RepliesBytes host bytes header carried =
     (asked_header : EthernetRepr) × (asked : Carried) × IsReadWhole bytes asked_header asked × IsReply host bytes asked_header asked header carried
@@ -84,7 +87,7 @@ ServesPortOf host bytes =
 abbrev pub IsUnread : List ℕ → Type 0
 IsUnread bytes = (header : EthernetRepr) (carried : Carried) → ¬ IsReadWhole bytes header carried
 
--- the other bytes parse as the reply of the host to these
+-- the second bytes parse as the host's reply to the first
 pub record Answers (host : Host) (bytes answer : List ℕ) : Type 0 where
   pub header : EthernetRepr
   pub carried : Carried

@@ -1,4 +1,4 @@
--- When `==` returns true for values that borrow: two references are equal if the bytes behind them are.
+-- When `==` returns true for values that borrow: two references are equal if the borrowed bytes are.
 use Rattle.std.specs.Prelude.{Bool, ◌≡◌, ◌↔◌, ⊤, true}
 use Rattle.ip_wire.specs.Ipv4 as ipv4
 use Rattle.ip_wire.specs.TcpRepr as tcp
@@ -11,7 +11,7 @@ use Rattle.ip_wire.specs.declared.TcpRepr.{TcpRepr}
 use Rattle.ip_wire.specs.declared.Transport.{Transport}
 use Rattle.ip_wire.specs.declared.Transport.TheVariants as transport
 
--- the comparison returns true exactly for values with this relation
+-- `==` returns true exactly for values with this relation
 abbrev pub Compares : {T : Type 0} → (T → T → Type 0) → (T → T → Bool) → Type 0
 Compares {T} Same eq = (a b : T) → (eq a b ≡ true) ↔ Same a b
 

@@ -10,8 +10,8 @@ use Rattle.ip_wire.specs.declared.Frame.{Frame}
 use Rattle.ip_replies.specs.Source.{IsAsker}
 use Rattle.ip_replies.specs.declared.interface.Interface.{Interface}
 
--- a station asks for our address, whatever its target hardware address is, and the reply names our hardware
--- address. A station that uses our address itself gets no reply (RFC 5227, section 2.4).
+-- A host asks for our address, with any target hardware address, and the reply names our hardware address. A host
+-- that uses our address itself gets no reply (RFC 5227, section 2.4).
 pub record IsArpReply (ours : Interface) (request : ArpRepr) (asker : EthernetAddress) (reply : ArpRepr) : Type 0 where
   pub asker_addr : List ℕ
   pub asked : EthernetAddress
@@ -19,7 +19,7 @@ pub record IsArpReply (ours : Interface) (request : ArpRepr) (asker : EthernetAd
   pub from_asker : IsAsker ours asker asker_addr
   pub tells : reply ≡ EthernetIpv4 Reply ours.hardware_addr ours.ipv4_addr asker asker_addr
 
--- a frame with these values is such a request, and the other frame is the reply to it
+-- a frame with these values is an ARP request for our address, and the other frame is the reply to it
 pub record IsArpAnswer (ours : Interface) (asked : Carried) (header : EthernetRepr) (carried : Carried) : Type 0 where
   pub request : ArpRepr
   pub asker : EthernetAddress
@@ -29,11 +29,11 @@ pub record IsArpAnswer (ours : Interface) (asked : Carried) (header : EthernetRe
   pub link : header ≡ record { src_addr = ours.hardware_addr; dst_addr = asker; ethertype = ethertype.Arp }
   pub carries : carried ≡ message reply
 
--- the values of the reply to a frame
+-- the values of our ARP reply to a frame
 abbrev pub ArpRepliesFrame : Interface → Frame → EthernetRepr → Carried → Type 0
 ArpRepliesFrame ours request header carried = (asked : Carried) × (carried_of request.carried ≡ Some asked) × IsArpAnswer ours asked header carried
 
--- the values of the reply to the frame that the bytes parse as
+-- the values of our ARP reply to the frame that the bytes parse as
 abbrev pub ArpRepliesBytes : Interface → List ℕ → EthernetRepr → Carried → Type 0
 ArpRepliesBytes ours bytes header carried =
     (asked_header : EthernetRepr) × (asked : Carried) × IsReadWhole bytes asked_header asked × IsArpAnswer ours asked header carried

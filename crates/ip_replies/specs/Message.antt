@@ -23,25 +23,25 @@ abbrev pub message_bytes : IpRepr → Message → List ℕ
 message_bytes v (Icmp value payload) = icmp.bytes_of value payload.now (src_addr_of v) (dst_addr_of v) true
 message_bytes v (Ndisc value) = ndisc.bytes_of value (octets_of (src_addr_of v)) (octets_of (dst_addr_of v)) true
 
--- their number
+-- the number of bytes of a message
 abbrev pub message_len : Message → ℕ
 message_len (Icmp value payload) = 8 + length payload.now
 message_len (Ndisc value) = ndisc.len_of value
 
--- a packet with this header can carry the message: neighbour discovery is of IPv6
+-- a packet with this header can carry the message: neighbour discovery exists only over IPv6
 abbrev pub IsOfVersion : Message → IpRepr → Type 0
 IsOfVersion (Icmp value payload) v = ⊤
 IsOfVersion (Ndisc value) v = version_of v ≡ version.Ipv6
 
--- what the frame carries
+-- the values of what the frame of a message carries
 abbrev pub values_of : MessageFrame → Carried
 values_of f = packet f.ip (other (message_bytes f.ip f.message))
 
--- the bytes of the frame
+-- the emitted bytes of the frame of a message
 abbrev pub frame_bytes : MessageFrame → List ℕ
 frame_bytes f = ethernet.bytes_of f.header ++ (ip.bytes_of f.ip true ++ message_bytes f.ip f.message)
 
--- each header of the frame names what follows it, and the lengths fit
+-- the frame of a message can be emitted: each header names what follows it, and the lengths fit
 pub record IsSendable (f : MessageFrame) : Type 0 where
   pub ethertype : f.header.ethertype ≡ type_of f.ip
   pub protocol : next_header_of f.ip ≡ protocol_of (version_of f.ip)
@@ -50,19 +50,19 @@ pub record IsSendable (f : MessageFrame) : Type 0 where
   pub fits : message_len f.message ≤ max_payload_len f.ip
   pub version : IsOfVersion f.message f.ip
 
--- a frame of these headers, of the bytes of a message and of any padding is parsed as their values
+-- a frame of these headers, of the bytes of a message and of any padding parses as their values
 abbrev pub Composes : EthernetRepr → IpRepr → Type 0
 Composes header v =
     (bytes padding : List ℕ) → header.ethertype ≡ type_of v → next_header_of v ≡ protocol_of (version_of v) → payload_len_of v ≡ length bytes
     → IsReadWhole (ethernet.bytes_of header ++ (ip.bytes_of v true ++ bytes) ++ padding) header (packet v (other bytes))
 
--- the result is a frame with the values of a reply that can be sent, or there is no reply
+-- the result is a frame with the values of a reply that can be emitted, or there is no reply
 abbrev pub Gives : (EthernetRepr → Carried → Type 0) → Option MessageFrame → Type 0
 Gives IsReply None = (header : EthernetRepr) (carried : Carried) → ¬ IsReply header carried
 Gives IsReply (Some f) = IsSendable f × IsReply f.header (values_of f)
 
--- the frame is at the front of the buffer and parses there, and the other bytes are unchanged; if it does not fit, the
--- whole buffer is unchanged
+-- The frame is at the front of the buffer and parses there, and the other bytes are unchanged. If it does not fit,
+-- the whole buffer is unchanged.
 abbrev pub IsSent : MessageFrame → List ℕ → List ℕ → Option ℕ → Type 0
 IsSent f old new None = (length old < reply_len (values_of f)) × (new ≡ old)
 IsSent f old new (Some len) =
@@ -70,26 +70,30 @@ IsSent f old new (Some len) =
 
 -- ---- replies of both kinds
 
+-- the reply has this Ethernet header and carries these values
 abbrev pub HasValues : Reply → EthernetRepr → Carried → Type 0
 HasValues (reply.Frame f) header carried = frame.HasValues f header carried
 HasValues (reply.Message f) header carried = (f.header ≡ header) × (values_of f ≡ carried)
 
+-- the reply can be emitted
 abbrev pub IsSendableReply : Reply → Type 0
 IsSendableReply (reply.Frame f) = frame.IsSendable f
 IsSendableReply (reply.Message f) = IsSendable f
 
--- the result is a reply with these values that can be sent, or there is no reply
+-- the result is a reply with these values that can be emitted, or there is no reply
 abbrev pub GivesReply : (EthernetRepr → Carried → Type 0) → Option Reply → Type 0
 GivesReply IsReply None = (header : EthernetRepr) (carried : Carried) → ¬ IsReply header carried
 GivesReply IsReply (Some r) = IsSendableReply r × ((header : EthernetRepr) × (carried : Carried) × HasValues r header carried × IsReply header carried)
 
+-- The reply is at the front of the buffer and parses there, and the other bytes are unchanged. If it does not fit,
+-- the whole buffer is unchanged.
 abbrev pub IsReplySent : Reply → List ℕ → List ℕ → Option ℕ → Type 0
 IsReplySent (reply.Frame f) old new result = frame.IsSent f old new result
 IsReplySent (reply.Message f) old new result = IsSent f old new result
 
 -- ---- frames that are put together
 
--- the frame between two stations with this message, in a packet with the addresses and the hop limit of a header
+-- the frame between two hosts with this message, in a packet with the addresses and the hop limit of a header
 abbrev pub message_frame : EthernetAddress → EthernetAddress → IpRepr → Message → MessageFrame
 message_frame src dst v m = record {
   header = record { src_addr = src; dst_addr = dst; ethertype = type_of v };

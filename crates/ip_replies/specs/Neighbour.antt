@@ -16,15 +16,15 @@ use Rattle.wire_ndisc.specs.declared.NdiscRepr.TheVariants.{NeighborAdvert, Neig
 use Rattle.ip_replies.specs.Source.{IsHostAddr, IsInvalidSource}
 use Rattle.ip_replies.specs.declared.interface.Interface.{Interface}
 
--- the hardware address of a multicast group: 33:33 and the last four octets of the group (RFC 2464, section 7)
+-- the hardware address of a multicast group: 33:33 and the last four bytes of the group (RFC 2464, section 7)
 abbrev pub group_station : List ℕ → List ℕ
 group_station group = 0x33 ∷ 0x33 ∷ drop 12 group
 
--- ff02::1, the group of all nodes on the link (RFC 4291, section 2.7.1)
+-- the group of all nodes on the link, ff02::1 (RFC 4291, section 2.7.1)
 abbrev pub all_nodes : List ℕ
 all_nodes = octets_of (0xff02 ∷ 0 ∷ 0 ∷ 0 ∷ 0 ∷ 0 ∷ 0 ∷ 1 ∷ [])
 
--- the packet goes to our address, or to its solicited-node group, and the frame to the station of that
+-- the packet goes to our address, or to its solicited-node group, and the frame to the hardware address of that
 abbrev pub IsForTarget : Interface → EthernetAddress → List ℕ → Type 0
 IsForTarget ours station dst =
     ((dst ≡ ours.ipv6_addr) × (station ≡ ours.hardware_addr))
@@ -37,30 +37,30 @@ pub record IsSolicited (ours : Interface) (link : EthernetRepr) (ip : Ipv6Repr) 
   pub own : IsHostAddr (address.Ipv6 ours.ipv6_addr)
   pub to_target : IsForTarget ours link.dst_addr ip.dst_addr
 
--- the station of a sender: the one that its message names, else that of its frame
+-- the hardware address of a sender: the one in its message, else that of its frame
 abbrev pub station_of : Option EthernetAddress → EthernetAddress → EthernetAddress
 station_of None station = station
 station_of (Some named) station = named
 
--- Where the advertisement goes, and whether it is solicited. A station that looks whether another one has its address has
--- none yet: then all nodes get it.
+-- The advertisement goes to this hardware address and this IPv6 address, and is solicited or not. A host that checks
+-- whether its new address is in use has none yet: then all nodes get the advertisement.
 abbrev pub IsAnsweredTo : Interface → EthernetRepr → Ipv6Repr → Option EthernetAddress → EthernetAddress → List ℕ → Bool → Type 0
 IsAnsweredTo ours link ip named station dst solicited =
     ((ip.src_addr ≡ ipv6_unspecified) × (dst ≡ all_nodes) × (station.0 ≡ group_station all_nodes) × (solicited ≡ false))
     ⊎ (¬ IsInvalidSource ours (address.Ipv6 ip.src_addr) × (dst ≡ ip.src_addr) × (station ≡ station_of named link.src_addr) × IsUnicast station.0 × (solicited ≡ true))
 
--- the advertisement of our hardware address, which replaces another one that is known. A router sets R: a host that gets R
--- of 0 no longer sends through it (RFC 4861, sections 7.2.4 and 7.2.5).
+-- The advertisement of our hardware address, which replaces another one that is known. A router sets the flag R: a
+-- host that gets R of 0 no longer sends through it (RFC 4861, sections 7.2.4 and 7.2.5).
 abbrev pub advert_of : Interface → Bool → NdiscRepr
 advert_of ours solicited =
     NeighborAdvert (record { router = ours.is_router; solicited = solicited; override_ = true }) ours.ipv6_addr (Some ours.hardware_addr)
 
--- the header of its packet, before its length is filled in
+-- the IPv6 header of our advertisement, before its length is filled in
 abbrev pub advert_header : Interface → List ℕ → Ipv6Repr
 advert_header ours dst = record { src_addr = ours.ipv6_addr; dst_addr = dst; next_header = protocol.Icmpv6; payload_len = 0; hop_limit = 255 }
 
--- a frame with these values asks for our IPv6 address, and the other frame is the reply to it, which names our hardware
--- address
+-- A frame with these values asks for our IPv6 address, and the other frame is the reply to it, which names our
+-- hardware address.
 pub record IsNeighbourReply (ours : Interface) (asked_header : EthernetRepr) (asked : Carried) (header : EthernetRepr) (carried : Carried) : Type 0 where
   pub ip : Ipv6Repr
   pub request : List ℕ
@@ -76,7 +76,7 @@ pub record IsNeighbourReply (ours : Interface) (asked_header : EthernetRepr) (as
   pub tells : carried ≡ (let bytes = bytes_of (advert_of ours solicited) ours.ipv6_addr dst true in
       packet (Ipv6 (record (advert_header ours dst) { payload_len = length bytes })) (other bytes))
 
--- the values of the reply to a frame
+-- the values of our advertisement in reply to a frame
 abbrev pub AdvertisesFrame : Interface → Frame → EthernetRepr → Carried → Type 0
 AdvertisesFrame ours request header carried =
     (asked : Carried) × (carried_of request.carried ≡ Some asked) × IsNeighbourReply ours request.header asked header carried

@@ -7,19 +7,19 @@ use Rattle.ip_wire.specs.Types.{EthernetAddress, IpAddress}
 use Rattle.ip_wire.specs.declared.IpAddress.TheVariants.{Ipv4, Ipv6}
 use Rattle.ip_replies.specs.declared.interface.Interface.{Interface}
 
--- this network, 0.0.0.0/8, which has the unspecified address (RFC 1122, section 3.2.1.3)
+-- this network, 0.0.0.0/8, which contains the unspecified address (RFC 1122, section 3.2.1.3)
 abbrev pub ipv4_this_network : Block
 ipv4_this_network = record { address = 0 ∷ 0 ∷ 0 ∷ 0 ∷ []; prefix_len = 8 }
 
--- reserved, 240.0.0.0/4, which has the limited broadcast address (RFC 1112, section 4)
+-- the reserved addresses of IPv4, 240.0.0.0/4, which contain the limited broadcast address (RFC 1112, section 4)
 abbrev pub ipv4_reserved : Block
 ipv4_reserved = record { address = 240 ∷ 0 ∷ 0 ∷ 0 ∷ []; prefix_len = 4 }
 
--- addresses that stand for IPv4 addresses, ::ffff:0:0/96 (RFC 4291, section 2.5.5.2)
+-- the IPv4-mapped addresses of IPv6, ::ffff:0:0/96 (RFC 4291, section 2.5.5.2)
 abbrev pub ipv6_mapped : Block
 ipv6_mapped = ipv6_block (0 ∷ 0 ∷ 0 ∷ 0 ∷ 0 ∷ 0xffff ∷ 0 ∷ 0 ∷ []) 96
 
--- it is the interface's address of its version
+-- the address is that of our interface
 abbrev pub IsOurs : Interface → IpAddress → Type 0
 IsOurs ours (Ipv4 octets) = octets ≡ ours.ipv4_addr
 IsOurs ours (Ipv6 octets) = octets ≡ ours.ipv6_addr
@@ -35,16 +35,17 @@ abbrev pub IsNoHost : IpAddress → Type 0
 IsNoHost (Ipv4 octets) = IsIn ipv4_multicast octets ⊎ IsIn ipv4_reserved octets
 IsNoHost (Ipv6 octets) = IsIn ipv6_multicast octets ⊎ IsIn ipv6_mapped octets
 
--- one host may have the address
+-- a single host may have this address
 pub record IsHostAddr (addr : IpAddress) : Type 0 where
   pub no_self : ¬ IsThisHost addr
   pub host : ¬ IsNoHost addr
 
--- no packet from another host has this source
+-- no packet from another host has this source address
 abbrev pub IsInvalidSource : Interface → IpAddress → Type 0
 IsInvalidSource ours addr = IsThisHost addr ⊎ (IsNoHost addr ⊎ IsOurs ours addr)
 
--- the sender of an ARP request: one station with a valid source, or with 0.0.0.0 in a probe (RFC 5227, section 2.1.1)
+-- the sender of an ARP request: one host with a valid source address, or with 0.0.0.0 in a probe (RFC 5227, section
+-- 2.1.1)
 pub record IsAsker (ours : Interface) (station : EthernetAddress) (addr : List ℕ) : Type 0 where
   pub from_station : IsUnicast station.0
   pub from_addr : (addr ≡ ipv4_unspecified) ⊎ ¬ IsInvalidSource ours (Ipv4 addr)

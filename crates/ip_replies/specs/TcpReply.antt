@@ -16,7 +16,7 @@ use Rattle.ip_replies.specs.Interface.{IsForUs, header_back}
 use Rattle.ip_replies.specs.declared.interface.Interface.{Interface}
 use Rattle.ip_replies.specs.declared.tcp_reply.Offer.{Offer}
 
--- the sequence number that many steps later
+-- the sequence number n after this one, modulo 2 ^ 32
 abbrev pub ahead : TcpSeqNumber → ℕ → TcpSeqNumber
 ahead seq n = seq_of ((number seq + n) % 2 ^ 32)
 
@@ -61,6 +61,7 @@ abbrev pub closed_by : TcpControl → TcpHeader → Option TcpHeader
 closed_by control.Rst reset = None
 closed_by _ reset = Some reset
 
+-- the reply of a closed port to a segment with a payload of this length
 abbrev pub closed_reply : TcpHeader → ℕ → Option TcpHeader
 closed_reply asked payload_len = closed_by asked.control (reset_for asked payload_len)
 
@@ -72,6 +73,7 @@ listen_by _ (Some ack) reset accepted = Some reset
 listen_by control.Syn None reset accepted = Some accepted
 listen_by _ None reset accepted = None
 
+-- the reply of an open port to a segment
 abbrev pub listen_reply : Offer → TcpHeader → Option TcpHeader
 listen_reply offer asked = listen_by asked.control asked.ack_number (reset_for asked 0) (syn_ack offer asked)
 
@@ -95,12 +97,12 @@ pub record IsTcpReply (ours : Interface) (ports : List ℕ) (offer : Offer) (ask
   pub link : header ≡ record { src_addr = ours.hardware_addr; dst_addr = asked_header.src_addr; ethertype = type_of ip }
   pub carries : carried ≡ packet (header_before (header_back ip) protocol.Tcp (header_len_of reply)) (segment reply [])
 
--- the values of the reply to a frame
+-- the values of our TCP reply to a frame
 abbrev pub TcpRepliesFrame : Interface → List ℕ → Offer → Frame → EthernetRepr → Carried → Type 0
 TcpRepliesFrame ours ports offer request header carried =
     (asked : Carried) × (carried_of request.carried ≡ Some asked) × IsTcpReply ours ports offer request.header asked header carried
 
--- the values of the reply to the frame that the bytes parse as
+-- the values of our TCP reply to the frame that the bytes parse as
 abbrev pub TcpRepliesBytes : Interface → List ℕ → Offer → List ℕ → EthernetRepr → Carried → Type 0
 TcpRepliesBytes ours ports offer bytes header carried =
     (asked_header : EthernetRepr) × (asked : Carried) × IsReadWhole bytes asked_header asked × IsTcpReply ours ports offer asked_header asked header carried

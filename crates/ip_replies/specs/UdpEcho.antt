@@ -9,7 +9,7 @@ use Rattle.ip_wire.specs.declared.IpProtocol.TheVariants as protocol
 use Rattle.ip_replies.specs.Interface.{IsForUs, header_back}
 use Rattle.ip_replies.specs.declared.interface.Interface.{Interface}
 
--- a frame with these values is a UDP packet for our port, and the other frame is its echo. A packet from the
+-- A frame with these values is a UDP packet for our echo port, and the other frame is its echo. A packet from the
 -- same port may be an echo, so it gets no echo.
 pub record IsEcho (ours : Interface) (port : ℕ) (asked_header : EthernetRepr) (asked : Carried) (header : EthernetRepr) (carried : Carried) : Type 0 where
   pub ip : IpRepr

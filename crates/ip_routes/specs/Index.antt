@@ -14,28 +14,28 @@ use Rattle.ip_wire.specs.declared.IpCidr.TheVariants as cidr
 
 -- ---- addresses of both versions in one order
 
--- the version number in the IP header (RFC 791, section 3.1; RFC 8200, section 3)
+-- the version number in an IP header (RFC 791, section 3.1; RFC 8200, section 3)
 abbrev pub version_number : IpAddress → ℕ
 version_number (Ipv4 octets) = 4
 version_number (Ipv6 octets) = 6
 
--- the address as a number of 128 bits; an IPv4 address has the first 32 of them
+-- an address as a number of 128 bits; an IPv4 address has the first 32 of them
 abbrev pub first_bits : IpAddress → ℕ
 first_bits (Ipv4 octets) = number_of octets * 2 ^ 96
 first_bits (Ipv6 octets) = number_of octets
 
 -- ---- blocks
 
--- the octets of an address, and no more bits in the prefix
+-- the block is valid: its address has the bytes of its version, and the prefix has no more bits
 abbrev pub IsBlock : IpCidr → Type 0
 IsBlock block = IsAddress (block_address block) × (block_prefix_len block ≤ bits_of (block_address block))
 
--- the block at a place of a list; behind the list 0.0.0.0/0
+-- the block at index i of a list; past its end 0.0.0.0/0
 abbrev pub block_at : List IpCidr → ℕ → IpCidr
 block_at blocks i = slice_index_or blocks i (cidr.Ipv4 (record { address = replicate 4 0; prefix_len = 0 }))
 
--- the block at this place contains the address, and has the longest prefix of those that do; of several with that
--- length it is the first
+-- The block at index i contains the address, and has the longest prefix of those that do. Of several with that length
+-- it is the first.
 pub record IsChosenAt (blocks : List IpCidr) (addr : IpAddress) (i : ℕ) : Type 0 where
   pub within : i < length blocks
   pub leads : IsIn (block_at blocks i) addr
@@ -49,7 +49,7 @@ block_of route = route.block
 
 -- ---- nodes
 
--- a node with these 128 bits
+-- a node with this version, these 128 bits, this prefix length and this route
 abbrev pub node_with : ℕ → ℕ → ℕ → ℕ → Node
 node_with version bits prefix_len route = record {
   high = bits / 2 ^ 64;
@@ -72,27 +72,28 @@ node_of block route =
 abbrev pub target_of : IpAddress → Node
 target_of addr = node_with (version_number addr) (first_bits addr) 129 0
 
--- without what only helps the search: the hint, and the link too
+-- a node without its hint, which only helps the search
 abbrev pub unmarked : Node → Node
 unmarked node = record node { hint = 0 }
 
+-- a node without its link and its hint
 abbrev pub unlinked : Node → Node
 unlinked node = record node { above = 0; hint = 0 }
 
--- the node at a place; behind the list zeros
+-- the node at index k of a list; past its end zeros
 abbrev pub node_at : List Node → ℕ → Node
 node_at nodes k = slice_index_or nodes k (node_with 0 0 0 0)
 
--- where the first address of a block is among all addresses: IPv4 addresses before IPv6 addresses
+-- the position of a block's first address among all addresses: IPv4 addresses are before IPv6 addresses
 abbrev pub place : Node → ℕ
 place node = node.version * 2 ^ 128 + (node.high * 2 ^ 64 + node.low)
 
--- the order of nodes: by their first addresses; of blocks with one first address larger ones first; of equal blocks the last
--- route first
+-- The order of nodes: by their first addresses; of blocks with the same first address larger ones first; of equal
+-- blocks the last route first.
 abbrev pub rank : Node → ℕ
 rank node = (place node * 2 ^ 8 + node.prefix_len) * 2 ^ 32 + (2 ^ 32 - 1 - node.route)
 
--- the nodes before one place are up to another node, and those from a second place on are behind it
+-- the nodes before index `low` are at or before this node, and those from index `high` on are after it
 abbrev pub IsSplit : List Node → ℕ → ℕ → Node → Type 0
 IsSplit nodes low high node = ((k : ℕ) → k < low → place (node_at nodes k) ≤ place node)
     × ((k : ℕ) → high ≤ k → k < length nodes → place node < place (node_at nodes k))
@@ -102,17 +103,17 @@ abbrev pub Encloses : Node → Node → Type 0
 Encloses outer inner = (outer.prefix_len < inner.prefix_len)
     × (place outer / 2 ^ (128 - outer.prefix_len) ≡ place inner / 2 ^ (128 - outer.prefix_len))
 
--- no node from one place up to another encloses this one
+-- no node from index `low` up to `high` encloses this one
 abbrev pub IsNearest : List Node → ℕ → ℕ → Node → Type 0
 IsNearest nodes low high inner = (k : ℕ) → low ≤ k → k < high → ¬ Encloses (node_at nodes k) inner
 
--- the link of a node: one more than the place of the last node before it that encloses it; 0 if none does
+-- the link of a node: one more than the index of the last node before it that encloses it; 0 if none does
 pub record IsLink (nodes : List Node) (k above : ℕ) : Type 0 where
   pub before : above ≤ k
   pub encloses : 0 < above → Encloses (node_at nodes (above - 1)) (node_at nodes k)
   pub nearest : IsNearest nodes above k (node_at nodes k)
 
--- the links of the first n nodes
+-- the first n nodes have their links
 abbrev pub AreLinked : List Node → ℕ → Type 0
 AreLinked nodes n = (k : ℕ) → k < n → IsLink nodes k (node_at nodes k).above
 
@@ -123,7 +124,7 @@ pub record IsFilled (blocks : List IpCidr) (nodes : List Node) : Type 0 where
   pub len : length nodes ≡ length blocks
   pub each : (i : ℕ) → i < length blocks → IsBlock (block_at blocks i) × (node_at nodes i ≡ node_of (block_at blocks i) i)
 
--- the nodes of the blocks, each once, in their order and with their links
+-- the index of these blocks: the node of each block once, in their order and with their links
 pub record IsIndex (blocks : List IpCidr) (nodes : List Node) : Type 0 where
   pub count : length blocks < 2 ^ 32
   pub made : List Node

@@ -8,8 +8,8 @@ use Rattle.ip_wire.specs.declared.IpAddress.{IpAddress}
 abbrev pub Leads : IpAddress → Route → Type 0
 Leads addr route = IsIn route.block addr
 
--- a route of the list whose block contains the address. Earlier routes that contain it have shorter prefixes, and later
--- ones have no longer prefixes.
+-- A route of the list whose block contains the address, with the longest prefix. Earlier routes that contain it have
+-- shorter prefixes, and later ones have no longer prefixes.
 pub record IsChosen (routes : List Route) (addr : IpAddress) (route : Route) : Type 0 where
   pub before : List Route
   pub after : List Route
@@ -18,7 +18,7 @@ pub record IsChosen (routes : List Route) (addr : IpAddress) (route : Route) : T
   pub shorter : All (λ other. Leads addr other → block_prefix_len other.block < block_prefix_len route.block) before
   pub no_longer : All (λ other. Leads addr other → block_prefix_len other.block ≤ block_prefix_len route.block) after
 
--- the chosen one of an earlier and a later route
+-- the chosen one of two routes that contain an address, an earlier and a later one
 abbrev pub IsBetter : Route → Route → Route → Type 0
 IsBetter later result former =
     (result ≡ former) × (block_prefix_len later.block ≤ block_prefix_len former.block)

@@ -11,8 +11,8 @@ use Rattle.ip_wire.specs.declared.IpAddress.{IpAddress}
 abbrev pub IsMartian : IpAddress → Type 0
 IsMartian addr = IsThisHost addr ⊎ IsNoHost addr
 
--- why a packet from an address that came in by an interface is dropped, if the route back leads to this interface, or
--- without one nowhere
+-- why a packet from a source address that came in by an interface is dropped, if the route back to it leads to this
+-- interface, or there is none
 abbrev pub IsFault : IpAddress → ℕ → Option ℕ → SourceFault → Type 0
 IsFault src interface back Martian = IsMartian src
 IsFault src interface back NoRoute = ¬ IsMartian src × (back ≡ None)
@@ -22,7 +22,7 @@ IsFault src interface back OtherInterface = ¬ IsMartian src × ((other : ℕ) �
 abbrev pub ChecksSource : IpAddress → ℕ → Option ℕ → Option SourceFault → Type 0
 ChecksSource src interface back fault = MatchOption fault (¬ IsMartian src × (back ≡ Some interface)) (IsFault src interface back)
 
--- the interface of the route to an address
+-- the interface of the route to an address, if there is a route
 abbrev pub IsBack : List Route → IpAddress → Option ℕ → Type 0
 IsBack routes addr back = MatchOption back (All (λ route. ¬ Leads addr route) routes)
     (λ interface. (route : Route) × IsChosen routes addr route × (route.interface ≡ interface))

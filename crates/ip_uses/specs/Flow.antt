@@ -21,28 +21,29 @@ flow_between p v src_port dst_port = record {
   dst = endpoint_at (dst_addr_of v) dst_port;
 }
 
--- the flow of a frame, if it carries a UDP or TCP packet
+-- the flow of what a frame carries, if that is a UDP packet or a TCP segment
 abbrev pub flow_in : Carried → Option Flow
 flow_in (carried.Packet v (transport.Udp u payload)) = Some (flow_between protocol.Udp v u.src_port u.dst_port)
 flow_in (carried.Packet v (transport.Tcp u)) = Some (flow_between protocol.Tcp v u.src_port u.dst_port)
 flow_in _ = None
 
+-- the flow of a frame, if it carries a UDP packet or a TCP segment
 abbrev pub flow_of : Frame → Option Flow
 flow_of f = flow_in f.carried
 
--- the key of a flow whose endpoints compare like this
+-- the key of a flow whose endpoints compare in this order: the lower endpoint comes first
 abbrev pub key_by : Ordering → Flow → FlowKey
 key_by Greater flow = record { protocol = flow.protocol; low = flow.dst; high = flow.src }
 key_by _ flow = record { protocol = flow.protocol; low = flow.src; high = flow.dst }
 
--- the protocol and both endpoints, in their order
+-- the key of a flow, equal for both directions: the protocol and the two endpoints, the lower one first
 abbrev pub key_of : Flow → FlowKey
 key_of flow = key_by (endpoint_cmp flow.src flow.dst) flow
 
--- the reverse of the flow
+-- the flow in the other direction
 abbrev pub reversed : Flow → Flow
 reversed flow = record flow { src = flow.dst; dst = flow.src }
 
--- they are one flow: equal, or one is the reverse of the other
+-- the two flows are one: equal, or one is the reverse of the other
 abbrev pub IsOneFlow : Flow → Flow → Type 0
 IsOneFlow a b = (a ≡ b) ⊎ (a ≡ reversed b)

@@ -1,4 +1,4 @@
--- The values of a frame that was parsed, and its packet, and those of a packet without a frame.
+-- The values of a parsed frame, of its packet, and of a packet without a frame.
 use Rattle.std.specs.Prelude.{◌≡◌, List, ℕ, Option, Some, None, Result, Ok, Err}
 use Rattle.std.specs.Option.{option_and_then}
 use Rattle.ip_wire.specs.Frame.{Carried, ReadsCarried, Transport, frame_of, message, packet, type_of}
@@ -9,16 +9,16 @@ use Rattle.ip_wire.specs.declared.frame.packet.Packet.{Packet}
 use Rattle.ip_wire.specs.declared.frame.transport.Transport as value
 use Rattle.net_base.specs.declared.ChecksumCapabilities.{ChecksumCapabilities}
 
--- both headers and the transport of these values; ARP has none
+-- the two headers and the transport in the values of a frame; ARP has none
 abbrev pub packet_in : EthernetRepr × Carried → Option (EthernetRepr × IpRepr × Transport)
 packet_in (link, packet v t) = Some (link, v, t)
 packet_in (link, message v) = None
 
--- both headers and the transport of a frame, if it parses
+-- the two headers and the transport that a frame parses as, if it parses
 abbrev pub packet_of : ChecksumCapabilities → List ℕ → Option (EthernetRepr × IpRepr × Transport)
 packet_of caps frame = option_and_then packet_in (frame_of caps frame)
 
--- the result is these values, or an error if there are none
+-- the result is a frame with these values, or an error if there are none
 abbrev pub IsFrame : {E : Type 0} → Option (EthernetRepr × Carried) → Result Frame E → Type 0
 IsFrame found (Ok f) = (c : Carried) × (carried_of f.carried ≡ Some c) × (found ≡ Some (f.header, c))
 IsFrame found (Err e) = found ≡ None

@@ -10,8 +10,8 @@ use Rattle.ip_wire.specs.declared.frame.Frame.{Frame}
 abbrev pub HasValues : Frame → EthernetRepr → Carried → Type 0
 HasValues f header carried = (f.header ≡ header) × (carried_of f.carried ≡ Some carried)
 
--- the emitted frame parses as itself: each header names what follows it, the lengths fit, and its values are in
--- normal form
+-- The frame can be emitted, and its bytes parse as its values: each header names what follows it, the lengths fit,
+-- and the values are in normal form.
 pub record IsSendable (f : Frame) : Type 0 where
   pub agrees : Agrees f
   pub fits : Fits f
@@ -23,8 +23,8 @@ abbrev pub Gives : (EthernetRepr → Carried → Type 0) → Option Frame → Ty
 Gives IsReply None = (header : EthernetRepr) (carried : Carried) → ¬ IsReply header carried
 Gives IsReply (Some f) = IsSendable f × ((header : EthernetRepr) × (carried : Carried) × HasValues f header carried × IsReply header carried)
 
--- the frame is at the front of the buffer and parses there, and the other bytes are unchanged; if it does not fit, the
--- whole buffer is unchanged
+-- The frame is at the front of the buffer and parses there, and the other bytes are unchanged. If it does not fit,
+-- the whole buffer is unchanged.
 abbrev pub IsSent : Frame → List ℕ → List ℕ → Option ℕ → Type 0
 IsSent f old new None = (length old < frame_len f) × (new ≡ old)
 IsSent f old new (Some len) =
