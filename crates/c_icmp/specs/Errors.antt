@@ -37,11 +37,11 @@ TellsOf ours frame problem.NeighbourMissing mtu header carried = Tells ours fram
 TellsOf ours frame problem.PortClosed mtu header carried = IsError ours frame (DstUnreachable unreachable.Port) header carried
 TellsOf ours frame problem.Prohibited mtu header carried = Tells ours frame router.Prohibited header carried
 
--- the interface, if the struct has an address of each version; errors are the same of a router
+-- the interface of a struct, if it has an address of each version; errors do not depend on whether it is a router
 abbrev pub own_interface : InterfaceFields → Option Interface
 own_interface own = interface_of own.ipv4 own.ipv6 own.hardware false
 
--- the error of an interface about a frame is written; without an interface nothing is
+-- The error of an interface about a frame is written. Without an interface nothing is written.
 abbrev pub WritesError : Option Interface → List ℕ → Problem → ℕ → List ℕ → List ℕ → ℤ → Type 0
 WritesError None frame p mtu old new answer = (answer ≡ failure_code failure.NoVersion) × (new ≡ old)
 WritesError (Some ours) frame p mtu old new answer = WritesReply (TellsOf ours frame p mtu) old new answer

@@ -13,7 +13,7 @@ use Rattle.c_icmp.specs.declared.types.FullFrame.{FullFrame}
 abbrev pub protocol_number : ℕ → ℕ
 protocol_number version = if version == 4 then 1 else 58
 
--- a frame with a message
+-- the bytes of a frame with an ICMP message, if it can be written
 abbrev pub icmp_frame : FullFrame → List ℕ → Option (List ℕ)
 icmp_frame f payload =
     option_and_then (framed f.fields (protocol_number f.fields.src.addr.version))
@@ -21,12 +21,12 @@ icmp_frame f payload =
 
 -- ---- failures
 
--- of a message with a payload of this length between two addresses
+-- the failure of a message with a payload of this length between two addresses
 abbrev pub icmp_failure : Addr → Addr → ℕ → Option Failure
 icmp_failure src dst len =
     option_or (pair_failure src dst) (if nat_lt max_payload_len len then Some failure.PayloadTooLong else None)
 
--- of a frame with a message with a payload of this length
+-- the failure of a frame with a message with a payload of this length
 abbrev pub icmp_frame_failure : FullFrame → ℕ → Option Failure
 icmp_frame_failure f len =
     option_or (frame_failure f.fields true)

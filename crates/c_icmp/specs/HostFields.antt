@@ -12,7 +12,7 @@ use Rattle.c_structs.specs.declared.failures.Failure.TheVariants as failure
 use Rattle.c_icmp.specs.Interfaces.{WritesReply, interface_of}
 use Rattle.c_icmp.specs.declared.types.HostFields.{HostFields}
 
--- what the open ports offer
+-- what the open TCP ports of a host offer to a SYN
 abbrev pub offer_of : HostFields → Offer
 offer_of h = record {
   initial = seq_of h.seq_number;
@@ -22,7 +22,7 @@ offer_of h = record {
   clock = h.tsval;
 }
 
--- the host at this interface
+-- the host in a struct, at this interface
 abbrev pub host_at : HostFields → Interface → Host
 host_at h interface = record {
   interface = interface;
@@ -32,11 +32,11 @@ host_at h interface = record {
   offer = offer_of h;
 }
 
--- the host, if the struct has an address of each version
+-- the host in a struct, if it has an address of each version
 abbrev pub host_of : HostFields → Option Host
 host_of h = option_map (host_at h) (interface_of h.ipv4 h.ipv6 h.hardware (is_yes h.is_router))
 
--- the reply of a host to a frame is written; without a host nothing is
+-- The reply of a host to a frame is written. Without a host nothing is written.
 abbrev pub WritesAnswer : Option Host → List ℕ → List ℕ → List ℕ → ℤ → Type 0
 WritesAnswer None frame old new answer = (answer ≡ failure_code failure.NoVersion) × (new ≡ old)
 WritesAnswer (Some host) frame old new answer = WritesReply (RepliesBytes host frame) old new answer

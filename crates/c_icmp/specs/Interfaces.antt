@@ -24,12 +24,13 @@ interface_with hardware is_router (Ipv4 ipv4) (Ipv6 ipv6) = Some (record {
 interface_with hardware is_router (Ipv4 ipv4) (Ipv4 other) = None
 interface_with hardware is_router (Ipv6 ipv6) other = None
 
--- the same for structs of addresses
+-- the interface with the addresses in these structs, if the first is an IPv4 address and the second an IPv6 address
 abbrev pub interface_of : Addr → Addr → List ℕ → Bool → Option Interface
 interface_of first second hardware is_router =
     option_and_then (λ ipv4. option_and_then (λ ipv6. interface_with hardware is_router ipv4 ipv6) (ip_of second)) (ip_of first)
 
--- the reply is written to the front of the slice and its length is returned; or there is one that does not fit; or there is none
+-- the reply is written to the front of the slice and its length is returned; or a failure if it does not fit, or 0 if
+-- there is none
 abbrev pub WritesReply : (EthernetRepr → Carried → Type 0) → List ℕ → List ℕ → ℤ → Type 0
 WritesReply IsReply old new answer =
     ((len : ℕ) × (answer ≡ pos len) × (length old ≤ max_len) × IsWritten IsReply old new len)
@@ -37,6 +38,6 @@ WritesReply IsReply old new answer =
     × ((header : EthernetRepr) × (carried : Carried) × IsReply header carried × ((length old < reply_len carried) ⊎ (max_len < length old))))
     ⊎ ((answer ≡ pos 0) × (new ≡ old) × ((header : EthernetRepr) (carried : Carried) → ¬ IsReply header carried)))
 
--- the frame has this header, and carries its message
+-- the frame has this Ethernet header, and carries these values
 abbrev pub HasMessage : MessageFrame → EthernetRepr → Carried → Type 0
 HasMessage f header carried = (f.header ≡ header) × (values_of f ≡ carried)

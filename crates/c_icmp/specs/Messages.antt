@@ -1,4 +1,4 @@
--- ICMP messages in the structs of C: read behind the headers of a frame, and written.
+-- ICMP messages in the structs of C: parsed after the headers of a frame, and written.
 use Rattle.std.specs.Prelude.{ℕ, ◌≡◌, ◌≤◌, ◌+◌, ◌-◌, ◌==◌, ◌&&◌, ◌||◌, nat_le, nat_lt, if◌then◌else◌, Bool, List, drop, length, take, Option}
 use Rattle.std.specs.Option.{option_and_then}
 use Rattle.ip_wire.specs.Ethernet as ethernet
@@ -25,37 +25,38 @@ use Rattle.c_structs.specs.declared.types.FrameFields.{FrameFields}
 use Rattle.c_icmp.specs.declared.types.FullFrame.{FullFrame}
 use Rattle.c_icmp.specs.declared.types.Icmp.{Icmp}
 
--- ---- read
+-- ---- parsed
 
+-- the struct of no ICMP message: zeros
 abbrev pub no_icmp : Icmp
 no_icmp = record { word = 0; msg_type = 0; code = 0 }
 
--- the header of a message
+-- the struct of the header of a message
 abbrev pub header_of : List ℕ → Icmp
 header_of message = record { word = field message 32 32; msg_type = field message 0 8; code = field message 8 8 }
 
--- whether a packet that is no fragment carries ICMP, which has a protocol for each version
+-- whether a packet is no fragment and carries ICMP, which has a protocol number for each version
 abbrev pub carries_icmp : FrameFields → Bool
 carries_icmp f =
     (f.is_fragment == 0)
     && ((f.network == network_code network.Ipv4) && (f.ip.protocol == 1) || ((f.network == network_code network.Ipv6) && (f.ip.protocol == 58)))
 
--- the octets of the payload that were captured
+-- the bytes of the payload that were captured
 abbrev pub payload_in : FrameFields → List ℕ → List ℕ
 payload_in f bytes = take f.payload_len (drop f.payload_offset bytes)
 
--- an address of the IP header
+-- an address of the IP header, from its struct
 abbrev pub address_in : FrameFields → Addr → IpAddress
 address_in f a = if f.network == network_code network.Ipv4 then Ipv4 (take 4 a.octets) else Ipv6 a.octets
 
--- the checksum covers the whole payload, and over IPv6 the pseudo-header too
+-- what the checksum of a message says; it covers the whole payload, and over IPv6 the pseudo-header too
 abbrev pub icmp_verdict : FrameFields → List ℕ → Verdict
 icmp_verdict f message =
     if nat_lt (length message) f.payload_len then verdict.ChecksumCut
     else if verifies (address_in f f.src.addr) (address_in f f.dst.addr) message then verdict.Right
     else verdict.Wrong
 
--- the fields with those of a message; the payload begins behind its header
+-- the fields with those of a message; the payload begins after its header
 abbrev pub with_message : FrameFields → List ℕ → FullFrame
 with_message f message =
     let next = behind f 8 (f.payload_len - 8) in record {
@@ -71,14 +72,15 @@ with_message f message =
 abbrev pub without_icmp : FrameFields → FullFrame
 without_icmp f = record { fields = f; icmp = no_icmp }
 
--- the fields of a frame or packet with those of the ICMP message that it carries; there is none of fewer than 8 captured octets
+-- the fields of a frame or packet with those of the ICMP message that it carries; there is none if fewer than 8 bytes
+-- of it were captured
 abbrev pub with_icmp : List ℕ → FrameFields → FullFrame
 with_icmp bytes f =
     if carries_icmp f && nat_le 8 (length (payload_in f bytes)) then with_message f (payload_in f bytes)
     else without_icmp f
 
--- the frame of which these bytes were captured: what is stored but ICMP is cut as that of the whole frame, and the message is
--- that which the bytes have
+-- the frame is stored from its captured bytes: without ICMP it is cut as the whole frame is, and its message is the
+-- one in these bytes
 abbrev pub IsCutFrame : List ℕ → FullFrame → FrameFields → Type 0
 IsCutFrame captured frame whole = (f : FrameFields) × (frame ≡ with_icmp captured f) × IsCutOf f whole
 
@@ -91,7 +93,7 @@ pub record IsIcmp (bytes : List ℕ) (ip : IpRepr) (message : List ℕ) : Type 0
   pub payload : message ≡ packet_payload ip bytes
   pub header : 8 ≤ length message
 
--- the frame carries such a packet, of the version that its type names
+-- the frame carries a packet with this ICMP message, of the version that its type names
 abbrev pub CarriesIcmp : List ℕ → IpRepr → List ℕ → Type 0
 CarriesIcmp frame ip message =
     (header : EthernetRepr) × ethernet.Reads frame header × (header.ethertype ≡ type_of ip) × IsIcmp (drop 14 frame) ip message
@@ -118,7 +120,7 @@ KeepsOthers f g = g ≡ record f {
 
 -- ---- written
 
--- the values of a header
+-- the values of the header in a struct
 abbrev pub header_value : Icmp → IcmpHeader
 header_value h = record { msg_type = h.msg_type; msg_code = h.code; word = h.word }
 
@@ -126,7 +128,7 @@ header_value h = record { msg_type = h.msg_type; msg_code = h.code; word = h.wor
 abbrev pub max_payload_len : ℕ
 max_payload_len = 65527
 
--- a message between two addresses, if an IP packet can carry it
+-- the bytes of a message between two addresses, if an IP packet can carry it
 abbrev pub icmp_bytes : Icmp → Addr → Addr → List ℕ → Bool → Option (List ℕ)
 icmp_bytes h src dst payload computed =
     option_and_then (λ pair. only_if (nat_le (length payload) max_payload_len) (emitted (header_value h) payload pair.0 pair.1 computed)) (pair_of src dst)

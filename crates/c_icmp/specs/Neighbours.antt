@@ -1,4 +1,4 @@
--- Neighbour solicitations and advertisements in the structs of C: read from a frame, and written as one.
+-- Neighbour solicitations and advertisements in the structs of C: parsed from a frame, and written as one.
 use Rattle.std.specs.Prelude.{ℕ, ◌≡◌, ◌&&◌, ◌==◌, if◌then◌else◌, Bool, true, List, replicate, Option, None, Some}
 use Rattle.std.specs.Option.{option_and_then, option_map_or}
 use Rattle.ip_wire.specs.Frame.{IsReadWhole, other, packet}
@@ -20,14 +20,14 @@ use Rattle.c_structs.specs.declared.types.FrameFields.{FrameFields}
 use Rattle.c_structs.specs.declared.types.Ip.{Ip}
 use Rattle.c_icmp.specs.declared.types.Ndisc.{Ndisc}
 
--- ---- read
+-- ---- parsed
 
--- the payload of a packet with this header is a valid message with this value
+-- the payload of a packet with this header is a valid neighbour discovery message with this value
 abbrev pub CarriesNdisc : IpRepr → List ℕ → NdiscRepr → Type 0
 CarriesNdisc (Ipv4 ip) message v = ⊥
 CarriesNdisc (Ipv6 ip) message v = (ip.next_header ≡ protocol.Icmpv6) × Reads message ip.src_addr ip.dst_addr ip.hop_limit true v
 
--- the frame carries a valid message with this value
+-- the frame carries a valid neighbour discovery message with this value
 pub record ReadsNdisc (frame : List ℕ) (v : NdiscRepr) : Type 0 where
   pub header : EthernetRepr
   pub ip : IpRepr
@@ -35,11 +35,11 @@ pub record ReadsNdisc (frame : List ℕ) (v : NdiscRepr) : Type 0 where
   pub reads : IsReadWhole frame header (packet ip (other message))
   pub carries : CarriesNdisc ip message v
 
--- the octets of a hardware address, or zeros
+-- the bytes of a hardware address, or zeros
 abbrev pub hardware_octets : Option EthernetAddress → List ℕ
 hardware_octets hardware = option_map_or (λ (h : EthernetAddress). h.0) hardware (replicate 6 0)
 
--- the struct of a value
+-- the struct of a neighbour discovery value
 abbrev pub ndisc_struct : NdiscRepr → Ndisc
 ndisc_struct (NeighborSolicit target hardware) = record {
   target = addr_of (address.Ipv6 target);
@@ -62,7 +62,7 @@ ndisc_struct (NeighborAdvert flags target hardware) = record {
 
 -- ---- written
 
--- the hardware address of the option
+-- the hardware address in the option of a message, if the struct has one
 abbrev pub hardware_of : Ndisc → Option EthernetAddress
 hardware_of n = where_set n.has_hardware (record { 0 = n.hardware })
 
@@ -73,7 +73,7 @@ ndisc_value n =
     then NeighborAdvert (record { router = is_yes n.is_router; solicited = is_yes n.is_solicited; override_ = is_yes n.overrides }) n.target.octets (hardware_of n)
     else NeighborSolicit n.target.octets (hardware_of n)
 
--- the IP header of a message: with this hop limit no router has forwarded it
+-- the IP header of a message: hop limit 255 shows that no router has forwarded it
 abbrev pub ndisc_ip : Ip
 ndisc_ip = record no_ip { hop_limit = 255 }
 
@@ -81,15 +81,16 @@ ndisc_ip = record no_ip { hop_limit = 255 }
 abbrev pub is_ipv6 : Addr → Bool
 is_ipv6 a = a.version == 6
 
--- whether all three addresses are IPv6 addresses
+-- whether source, destination and target are IPv6 addresses
 abbrev pub has_ipv6 : FrameFields → Ndisc → Bool
 has_ipv6 f n = is_ipv6 f.src.addr && is_ipv6 f.dst.addr && is_ipv6 n.target
 
--- a frame with a message
+-- the bytes of a frame with a neighbour discovery message, if it can be written
 abbrev pub ndisc_frame : FrameFields → Ndisc → Option (List ℕ)
 ndisc_frame f n =
     option_and_then (framed (record f { ip = ndisc_ip }) 58)
     (only_if (has_ipv6 f n) (bytes_of (ndisc_value n) f.src.addr.octets f.dst.addr.octets true))
 
+-- the failure of a frame with a neighbour discovery message
 abbrev pub ndisc_failure : FrameFields → Ndisc → Option Failure
 ndisc_failure f n = if has_ipv6 f n then None else Some failure.NoVersion

@@ -1,4 +1,4 @@
--- Checksum fields after a part of what they cover changed.
+-- Checksum fields after a change of the bytes that they cover.
 use Rattle.std.specs.Prelude.{ℕ, ◌-◌, ◌==◌, if◌then◌else◌}
 use Rattle.std.specs.Option.{option_map_or}
 use Rattle.ip_wire.specs.IpAddress.{octets_of}
@@ -7,10 +7,10 @@ use Rattle.ip_wire.specs.WordSum.{sum_of_bytes, updated}
 use Rattle.c_structs.specs.Addresses.{ip_of}
 use Rattle.c_structs.specs.declared.types.Addr.{Addr}
 
--- the sum of the octets of an address
+-- the sum of the bytes of an address, 0 without a version
 abbrev pub address_sum : Addr → ℕ
 address_sum a = option_map_or (λ address. sum_of_bytes (octets_of address)) (ip_of a) 0
 
--- the field of UDP, where 0 means that there is no checksum
+-- the updated checksum field of UDP; 0, which means that there is no checksum, stays 0
 abbrev pub updated_udp : ℕ → ℕ → ℕ → ℕ
 updated_udp field before after = if field == 0 then 0 else checksum_for (65535 - updated field before after)

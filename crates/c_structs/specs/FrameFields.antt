@@ -41,12 +41,15 @@ use Rattle.c_structs.specs.declared.types.Tcp.{Tcp}
 
 -- ---- structs of zeros
 
+-- the struct of no Ethernet header: zeros
 abbrev pub no_ethernet : Ethernet
 no_ethernet = record { src = replicate 6 0; dst = replicate 6 0; ethertype = 0 }
 
+-- the struct of no ARP packet: zeros
 abbrev pub no_arp : Arp
 no_arp = record { operation = 0; src_hardware = replicate 6 0; dst_hardware = replicate 6 0 }
 
+-- the struct of no IP header: zeros
 abbrev pub no_ip : Ip
 no_ip = record {
   ident = 0;
@@ -60,12 +63,13 @@ no_ip = record {
   dont_fragment = 0;
 }
 
+-- the struct of no TCP header: zeros
 abbrev pub no_tcp : Tcp
 no_tcp = record { seq_number = 0; ack_number = 0; window_len = 0; urgent_at = 0; flags = 0; header_len = 0 }
 
--- ---- where the payload is
+-- ---- where the payload begins
 
--- no header of this many bytes was parsed: they are too few for the first one
+-- the struct of a frame of this length of which no header is parsed, because it is too short for the first one
 abbrev pub nothing_of : ℕ → FrameFields
 nothing_of len = record {
   network_offset = 0;
@@ -87,40 +91,43 @@ nothing_of len = record {
   transport_checksum = verdict_code verdict.None;
 }
 
--- the payload begins behind a header of this length, and has this length
+-- the fields after a header of this length: the payload begins after it, and has this length
 abbrev pub behind : FrameFields → ℕ → ℕ → FrameFields
 behind f header_len len = record f { payload_offset = f.payload_offset + header_len; payload_len = len }
 
--- the next header is rejected for this reason, so the payload begins at it
+-- the fields after the next header was rejected for this reason; the payload begins at that header
 abbrev pub rejected : FrameFields → Reason → FrameFields
 rejected f why = record f { reason = reason_code why }
 
--- the transport header, whose fields are stored, is rejected for this reason
+-- the fields after the transport header, whose fields are stored, was rejected for this reason
 abbrev pub rejected_transport : FrameFields → Reason → FrameFields
 rejected_transport f why = let next = rejected f why in record next { transport = transport_code transport.None; rejected = f.transport }
 
 -- ---- why bytes that are no header are rejected: the first test that fails
 
+-- why bytes that do not parse as an ARP packet are rejected
 abbrev pub arp_fault : List ℕ → Reason
 arp_fault bytes = if nat_lt (length bytes) 28 then reason.TooShort else reason.OtherArp
 
+-- why bytes that do not parse as an IPv4 packet are rejected
 abbrev pub ipv4_fault : List ℕ → Reason
 ipv4_fault bytes =
     if nat_lt (length bytes) 20 then reason.TooShort
     else if not (field bytes 0 4 == 4) then reason.BadVersion
     else reason.BadLength
 
+-- why bytes that do not parse as an IPv6 packet are rejected
 abbrev pub ipv6_fault : List ℕ → Reason
 ipv6_fault bytes =
     if nat_lt (length bytes) 40 then reason.TooShort
     else if not (field bytes 0 4 == 6) then reason.BadVersion
     else reason.BadLength
 
--- of at least 8 bytes
+-- why at least 8 bytes that do not parse as a UDP packet are rejected
 abbrev pub udp_fault : List ℕ → Reason
 udp_fault bytes = if not (udp.has_lengths bytes) then reason.BadLength else reason.PortZero
 
--- of a segment of this length, of which at least the first 20 bytes were captured
+-- why a TCP segment of this length, of which at least the first 20 bytes were captured, is rejected
 abbrev pub tcp_fault : List ℕ → ℕ → Reason
 tcp_fault bytes len =
     if nat_lt (tcp.header_len bytes) 20 || nat_lt len (tcp.header_len bytes) then reason.BadLength
@@ -131,6 +138,7 @@ tcp_fault bytes len =
 
 -- ---- what a checksum says
 
+-- what the checksum of an IPv4 header says
 abbrev pub ipv4_verdict : List ℕ → Verdict
 ipv4_verdict bytes = if sum_of_bytes (take (ipv4.header_len bytes) bytes) == 65535 then verdict.Right else verdict.Wrong
 
@@ -138,6 +146,8 @@ ipv4_verdict bytes = if sum_of_bytes (take (ipv4.header_len bytes) bytes) == 655
 abbrev pub zero_udp_verdict : IpAddress → Verdict
 zero_udp_verdict src = if udp.is_ipv4 src then verdict.LeftOut else verdict.Wrong
 
+-- what the checksum of a UDP packet says; the device may still have to compute it, and then it is only the
+-- pseudo-header sum
 abbrev pub udp_verdict : IpAddress → IpAddress → List ℕ → Verdict
 udp_verdict src dst bytes =
     if field bytes 48 16 == 0 then zero_udp_verdict src
@@ -145,10 +155,12 @@ udp_verdict src dst bytes =
     else if field bytes 48 16 == udp.pseudo_header_sum src dst bytes then verdict.LeftToDevice
     else verdict.Wrong
 
--- of a UDP packet that was not captured as a whole
+-- what the checksum of a UDP packet says that was not captured as a whole
 abbrev pub cut_udp_verdict : IpAddress → List ℕ → Verdict
 cut_udp_verdict src bytes = if field bytes 48 16 == 0 then zero_udp_verdict src else verdict.ChecksumCut
 
+-- what the checksum of a TCP segment says; the device may still have to compute it, and then it is only the
+-- pseudo-header sum
 abbrev pub tcp_verdict : IpAddress → IpAddress → List ℕ → Verdict
 tcp_verdict src dst bytes =
     if tcp.segment_sum src dst bytes == 65535 then verdict.Right
@@ -157,7 +169,7 @@ tcp_verdict src dst bytes =
 
 -- ---- UDP and TCP
 
--- the fields with the ports of a header, its first 4 octets
+-- the fields with the ports of a transport header, its first 4 bytes
 abbrev pub with_ports : FrameFields → List ℕ → FrameFields
 with_ports f bytes = record f {
   transport_offset = f.payload_offset;
@@ -172,11 +184,11 @@ with_udp_fields f bytes v = let next = with_ports f bytes in record next {
   transport_checksum = verdict_code v;
 }
 
--- the fields with those of a UDP header between two addresses; where the length is wrong, no checksum can be computed
+-- the fields with those of a UDP header between two addresses; if the length is invalid, no checksum can be computed
 abbrev pub with_udp_header : FrameFields → IpAddress → IpAddress → List ℕ → FrameFields
 with_udp_header f src dst bytes = with_udp_fields f bytes (if udp.has_lengths bytes then udp_verdict src dst bytes else verdict.None)
 
--- the fields with those of a UDP packet; a rejected header is stored too, if it is there as a whole
+-- the fields with those of a UDP packet; a rejected header is stored too, if all of it is there
 abbrev pub with_udp : FrameFields → IpAddress → IpAddress → List ℕ → FrameFields
 with_udp f src dst bytes =
     if nat_lt (length bytes) 8 then rejected f reason.TooShort
@@ -206,26 +218,26 @@ with_tcp_fields f bytes v = let next = with_ports f bytes in record next {
 abbrev pub with_tcp_header : FrameFields → IpAddress → IpAddress → List ℕ → FrameFields
 with_tcp_header f src dst bytes = with_tcp_fields f bytes (tcp_verdict src dst bytes)
 
--- the fields with those of a TCP segment; a rejected header is stored too, if it is there as a whole
+-- the fields with those of a TCP segment; a rejected header is stored too, if all of it is there
 abbrev pub with_tcp : FrameFields → IpAddress → IpAddress → List ℕ → FrameFields
 with_tcp f src dst bytes =
     if nat_lt (length bytes) 20 then rejected f reason.TooShort
     else let next = with_tcp_header f src dst bytes in
     option_map_or (λ v. behind next (tcp.header_len bytes) (length (tcp.payload_of bytes))) (tcp_of src dst false bytes) (rejected_transport next (tcp_fault bytes (length bytes)))
 
--- the fields with those of what a packet of this protocol carries between two addresses, if it is UDP or TCP
+-- the fields with those of the payload of a packet of this protocol between two addresses, if it is UDP or TCP
 abbrev pub with_transport_by : FrameFields → IpProtocol → IpAddress → IpAddress → List ℕ → FrameFields
 with_transport_by f protocol.Udp src dst bytes = with_udp f src dst bytes
 with_transport_by f protocol.Tcp src dst bytes = with_tcp f src dst bytes
 with_transport_by f _ src dst bytes = f
 
--- the fields with those of what a packet with this header carries
+-- the fields with those of the payload of a packet with this header
 abbrev pub with_payload : FrameFields → IpRepr → List ℕ → FrameFields
 with_payload f v bytes = with_transport_by f (next_header_of v) (src_addr_of v) (dst_addr_of v) bytes
 
 -- ---- ARP, IPv4 and IPv6
 
--- the fields with those of an ARP packet, behind which there is only padding
+-- the fields with those of an ARP packet; only padding follows it
 abbrev pub with_message : FrameFields → ArpRepr → FrameFields
 with_message f (EthernetIpv4 operation source_hardware source_protocol target_hardware target_protocol) =
     let next = behind f 28 0 in record next {
@@ -240,7 +252,7 @@ with_message f (EthernetIpv4 operation source_hardware source_protocol target_ha
       };
     }
 
--- the same, if it is parsed
+-- the fields with those of an ARP packet, or why it is rejected
 abbrev pub with_arp : FrameFields → List ℕ → FrameFields
 with_arp f bytes = option_map_or (with_message f) (arp_of bytes) (rejected f (arp_fault bytes))
 
@@ -258,7 +270,7 @@ ipv4_values bytes v = record {
   dont_fragment = field bytes 49 1;
 }
 
--- the fields with those of an IPv4 header in front of a payload of this length
+-- the fields with those of an IPv4 header before a payload of this length
 abbrev pub with_ipv4_fields : FrameFields → List ℕ → Ipv4Repr → ℕ → FrameFields
 with_ipv4_fields f bytes v payload_len =
     let next = behind f (ipv4.header_len bytes) payload_len in record next {
@@ -271,18 +283,18 @@ with_ipv4_fields f bytes v payload_len =
       ipv4_checksum = verdict_code (ipv4_verdict bytes);
     }
 
--- the same for the payload in these bytes
+-- the fields with those of an IPv4 header before the payload in these bytes
 abbrev pub with_ipv4_header : FrameFields → List ℕ → Ipv4Repr → FrameFields
 with_ipv4_header f bytes v = with_ipv4_fields f bytes v (length (ipv4_payload bytes))
 
--- the fields with those of an IPv4 packet; the payload of a fragment is not parsed
+-- the fields with those of an IPv4 packet, or why it is rejected; the payload of a fragment is not parsed
 abbrev pub with_ipv4 : FrameFields → List ℕ → FrameFields
 with_ipv4 f bytes =
     option_map_or (λ v. let next = with_ipv4_header f bytes v in
     if ipv4.is_fragment bytes then next else with_payload next (Ipv4 v) (ipv4_payload bytes))
     (ipv4_of false bytes) (rejected f (ipv4_fault bytes))
 
--- the values of an IPv6 header without its addresses; the traffic class is a DSCP of 6 bits, and ECN behind it
+-- the values of an IPv6 header without its addresses; the traffic class is a DSCP of 6 bits, followed by ECN
 abbrev pub ipv6_values : Ip → List ℕ → Ipv6Repr → Ip
 ipv6_values f bytes v = record f {
   flow_label = field bytes 12 20;
@@ -292,7 +304,7 @@ ipv6_values f bytes v = record f {
   ecn = field bytes 4 8 % 4;
 }
 
--- the fields with those of an IPv6 header in front of a payload of this length
+-- the fields with those of an IPv6 header before a payload of this length
 abbrev pub with_ipv6_fields : FrameFields → List ℕ → Ipv6Repr → ℕ → FrameFields
 with_ipv6_fields f bytes v payload_len =
     let next = behind f 40 payload_len in record next {
@@ -303,11 +315,11 @@ with_ipv6_fields f bytes v payload_len =
       ip = ipv6_values f.ip bytes v;
     }
 
--- the same for the payload in these bytes
+-- the fields with those of an IPv6 header before the payload in these bytes
 abbrev pub with_ipv6_header : FrameFields → List ℕ → Ipv6Repr → FrameFields
 with_ipv6_header f bytes v = with_ipv6_fields f bytes v (length (ipv6.payload_of bytes))
 
--- the fields with those of an IPv6 fragment header; where it is alone, the packet is whole
+-- the fields with those of an IPv6 fragment header; if it describes the only fragment, the packet is whole
 abbrev pub with_fragment_header : FrameFields → Ipv6FragmentRepr → FrameFields
 with_fragment_header f v = record f {
   ip = record f.ip {
@@ -318,30 +330,31 @@ with_fragment_header f v = record f {
   is_fragment = flag (v.more_frags || not (v.frag_offset == 0));
 }
 
--- the same, if the payload holds the whole header, whose values are behind its first 2 octets; the payload begins at it
+-- the fields with those of a fragment header, if the payload holds all of it; its values follow its first 2 bytes.
+-- The payload still begins at it.
 abbrev pub with_fragment : FrameFields → List ℕ → FrameFields
 with_fragment f bytes = if nat_lt (length bytes) 8 then f else with_fragment_header f (fragment.header_of (drop 2 bytes))
 
--- the same, if the protocol of an IPv6 packet says that there is one
+-- the fields with those of a fragment header, if the protocol of an IPv6 packet says that there is one
 abbrev pub with_fragment_by : FrameFields → IpProtocol → List ℕ → FrameFields
 with_fragment_by f protocol.Ipv6Frag bytes = with_fragment f bytes
 with_fragment_by f _ bytes = f
 
--- the fields with those of an IPv6 packet
+-- the fields with those of an IPv6 packet, or why it is rejected
 abbrev pub with_ipv6 : FrameFields → List ℕ → FrameFields
 with_ipv6 f bytes =
     option_map_or (λ v. let next = with_fragment_by (with_ipv6_header f bytes v) v.next_header (ipv6.payload_of bytes) in
     with_payload next (Ipv6 v) (ipv6.payload_of bytes))
     (ipv6_of bytes) (rejected f (ipv6_fault bytes))
 
--- the fields with those of an IP packet of either version
+-- the fields with those of an IP packet of either version, or why it is rejected
 abbrev pub with_packet : FrameFields → List ℕ → FrameFields
 with_packet f bytes =
     if field bytes 0 4 == 4 then with_ipv4 f bytes
     else if field bytes 0 4 == 6 then with_ipv6 f bytes
     else rejected f reason.BadVersion
 
--- nothing of a packet without an Ethernet header is parsed yet
+-- the struct of a packet of this length without an Ethernet header, of which nothing is parsed yet
 abbrev pub bare_of : ℕ → FrameFields
 bare_of len = rejected (nothing_of len) reason.Read
 
@@ -366,7 +379,7 @@ with_link f v payload_len =
       reason = reason_code reason.Read;
     }
 
--- the fields with those of a frame
+-- the fields with those of a frame with this Ethernet header
 abbrev pub with_frame : FrameFields → EthernetRepr → List ℕ → FrameFields
 with_frame f v bytes = with_carried (with_link f v (length bytes)) v.ethertype bytes
 

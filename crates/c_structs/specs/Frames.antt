@@ -11,7 +11,7 @@ use Rattle.c_structs.specs.declared.types.FrameFields.{FrameFields}
 use Rattle.c_structs.specs.declared.types.Ip.{Ip}
 use Rattle.c_structs.specs.declared.types.TcpOptions.{TcpOptions}
 
--- the EtherType of a packet with this header
+-- the number of the EtherType of a packet with this header
 abbrev pub type_number : IpRepr → ℕ
 type_number (Ipv4 v) = 0x0800
 type_number (Ipv6 v) = 0x86dd
@@ -24,38 +24,38 @@ is_whole h = (h.fragment_offset == 0) && (h.more_fragments == 0)
 abbrev pub ip_header : FrameFields → ℕ → ℕ → Option IpRepr
 ip_header f number len = option_and_then (λ v. only_if (is_whole f.ip) v) (ip_value f.ip number f.src.addr f.dst.addr len)
 
--- the Ethernet header and the IP header
+-- the bytes of the Ethernet header and the IP header of a frame
 abbrev pub headers_bytes : FrameFields → IpRepr → List ℕ
 headers_bytes f v = link_bytes f.ethernet (type_number v) ++ header_bytes f.ip true v
 
--- the frame of a packet of this protocol
+-- the bytes of a frame with this packet of this protocol, if its headers can be written
 abbrev pub framed : FrameFields → ℕ → List ℕ → Option (List ℕ)
 framed f number packet = option_map (λ v. headers_bytes f v ++ packet) (ip_header f number (length packet))
 
--- a frame with a UDP packet
+-- the bytes of a frame with a UDP packet, if it can be written
 abbrev pub udp_frame : FrameFields → List ℕ → Option (List ℕ)
 udp_frame f payload = option_and_then (framed f 17) (udp_bytes f.src f.dst payload true)
 
--- a frame with a TCP segment
+-- the bytes of a frame with a TCP segment, if it can be written
 abbrev pub tcp_frame : FrameFields → TcpOptions → List ℕ → Option (List ℕ)
 tcp_frame f o payload = option_and_then (framed f 6) (tcp_bytes f.tcp o f.src f.dst payload true)
 
--- a frame with an ARP packet
+-- the bytes of a frame with an ARP packet, if it can be written
 abbrev pub arp_frame : FrameFields → Option (List ℕ)
 arp_frame f = option_map (λ packet. link_bytes f.ethernet 0x0806 ++ packet) (arp_bytes f.arp f.src.addr f.dst.addr)
 
--- ---- around a payload that is in place
+-- ---- frames around a payload in the buffer
 
--- the bytes from first on, this many, if they are there
+-- `len` bytes from index `first` on, if there are so many
 abbrev pub part : List ℕ → ℕ → ℕ → Option (List ℕ)
 part bytes first len = only_if (nat_le (first + len) (length bytes)) (slice_range bytes first (first + len))
 
--- a frame with a UDP packet around the payload in these bytes, which stands behind the headers
+-- the bytes of a frame with a UDP packet around the payload that is in the buffer after the headers
 abbrev pub udp_frame_around : FrameFields → ℕ → List ℕ → Option (List ℕ)
 udp_frame_around f len bytes =
     option_and_then (λ v. option_and_then (udp_frame f) (part bytes (14 + header_len_of v + 8) len)) (ip_header f 17 (8 + len))
 
--- a frame with a TCP segment around the payload in these bytes, which stands behind the headers
+-- the bytes of a frame with a TCP segment around the payload that is in the buffer after the headers
 abbrev pub tcp_frame_around : FrameFields → TcpOptions → ℕ → List ℕ → Option (List ℕ)
 tcp_frame_around f o len bytes =
     option_and_then (λ size. option_and_then (λ v. option_and_then (tcp_frame f o) (part bytes (14 + header_len_of v + size) len))
@@ -64,14 +64,16 @@ tcp_frame_around f o len bytes =
 
 -- ---- replies
 
--- the headers of the way back: the hardware addresses are exchanged
+-- the Ethernet header of a reply: the addresses are exchanged
 abbrev pub back_link : Ethernet → Ethernet
 back_link h = record { src = h.dst; dst = h.src; ethertype = h.ethertype }
 
+-- the ARP packet of a reply: the hardware addresses are exchanged
 abbrev pub back_arp : Arp → Arp
 back_arp h = record { operation = h.operation; src_hardware = h.dst_hardware; dst_hardware = h.src_hardware }
 
--- the IP header of a new packet, which has protocol and DSCP of the other one; with DF it needs no identification (RFC 6864)
+-- the IP header of a reply: a new packet with the protocol and DSCP of the other one; with DF it needs no
+-- identification (RFC 6864)
 abbrev pub back_ip : Ip → Ip
 back_ip h = record {
   ident = 0;
@@ -85,7 +87,7 @@ back_ip h = record {
   dont_fragment = 1;
 }
 
--- the reply: the endpoints are exchanged too
+-- the struct of a reply to a frame: hardware addresses and endpoints are exchanged
 abbrev pub reply_to : FrameFields → FrameFields
 reply_to f = record f { src = f.dst; dst = f.src; ip = back_ip f.ip; ethernet = back_link f.ethernet; arp = back_arp f.arp }
 

@@ -1,4 +1,4 @@
--- The struct of a frame, by the values that the frame is parsed as.
+-- The struct of a frame, by the values that the frame parses as.
 use Rattle.std.specs.Prelude.{ℕ, ◌≡◌, ◌⊎◌, ◌↔◌, ◌==◌, ◌&&◌, ◌+◌, ◌/◌, ◌%◌, nat_lt, if◌then◌else◌, IfSome, IsSome, IsTrue, List, drop, length, slice_range, ⊤}
 use Rattle.ip_wire.specs.Field.{field}
 use Rattle.ip_wire.specs.Frame.{Carried, Transport, datagram, describe_carried, message, other, packet, packet_payload, segment}
@@ -30,47 +30,48 @@ unchecked = all_are checksum.None
 
 -- ---- the struct of the headers
 
--- behind an Ethernet header
+-- the struct of a frame after its Ethernet header
 abbrev pub linked : List ℕ → EthernetRepr → FrameFields
 linked frame v = with_link (nothing_of (length frame)) v (length (drop 14 frame))
 
--- behind an IP header
+-- the struct of a frame after its IP header
 abbrev pub headed : List ℕ → EthernetRepr → IpRepr → FrameFields
 headed frame v (Ipv4 w) = with_ipv4_header (linked frame v) (drop 14 frame) w
 headed frame v (Ipv6 w) =
     let payload = payload_of (drop 14 frame) in with_fragment_by (with_ipv6_header (linked frame v) (drop 14 frame) w) w.next_header payload
 
--- behind a transport header between two addresses, which the bytes begin with
+-- the struct of a frame after a transport header between two addresses, which the bytes begin with
 abbrev pub transported : FrameFields → IpAddress → IpAddress → List ℕ → Transport → FrameFields
 transported f src dst bytes (datagram v payload) = behind (with_udp_header f src dst bytes) 8 (length payload)
 transported f src dst bytes (segment v payload) = behind (with_tcp_header f src dst bytes) (tcp.header_len bytes) (length payload)
 transported f src dst bytes (other payload) = f
 
--- of a frame that is parsed whole
+-- the struct of a frame that parses as a whole
 abbrev pub struct_of : List ℕ → EthernetRepr → Carried → FrameFields
 struct_of frame v (message w) = with_message (linked frame v) w
 struct_of frame v (packet w t) = transported (headed frame v w) (src_addr_of w) (dst_addr_of w) (packet_payload w (drop 14 frame)) t
 
--- of a UDP header that is rejected, which the bytes begin with unless they are too few
+-- the struct of a frame whose UDP header is rejected; the header is stored if all of it is there
 abbrev pub rejected_udp : FrameFields → IpAddress → IpAddress → List ℕ → FrameFields
 rejected_udp f src dst bytes =
     if nat_lt (length bytes) 8 then rejected f reason.TooShort else rejected_transport (with_udp_header f src dst bytes) (udp_fault bytes)
 
--- of such a TCP header
+-- the struct of a frame whose TCP header is rejected; the header is stored if all of it is there
 abbrev pub rejected_tcp : FrameFields → IpAddress → IpAddress → List ℕ → FrameFields
 rejected_tcp f src dst bytes =
     if nat_lt (length bytes) 20 then rejected f reason.TooShort else rejected_transport (with_tcp_header f src dst bytes) (tcp_fault bytes (length bytes))
 
--- why the header of a frame of this type is rejected; of another type none is
+-- why the header in a frame of this type is rejected; in a frame of an unknown type none is
 abbrev pub network_fault : EthernetProtocol → List ℕ → Reason
 network_fault ethertype.Arp bytes = arp_fault bytes
 network_fault ethertype.Ipv4 bytes = ipv4_fault bytes
 network_fault ethertype.Ipv6 bytes = ipv6_fault bytes
 network_fault (ethertype.Unknown n) bytes = reason.Read
 
--- ---- the values
+-- ---- the values in the struct
 
--- of FIN (1), SYN (2), RST (4) and PSH (8) the flags set the one that the control names; beside FIN, SYN and RST, PSH may be set
+-- Of the flags FIN (1), SYN (2), RST (4) and PSH (8), the one that the control names is set. With FIN, SYN or RST,
+-- PSH may be set too.
 abbrev pub HasFlag : ℕ → TcpControl → Type 0
 HasFlag flags control.Fin = flags % 8 ≡ 1
 HasFlag flags control.Syn = flags % 8 ≡ 2
@@ -78,7 +79,7 @@ HasFlag flags control.Rst = flags % 8 ≡ 4
 HasFlag flags control.Psh = flags % 16 ≡ 8
 HasFlag flags control.None = flags % 16 ≡ 0
 
--- the struct has the values of a TCP header; ACK is 16
+-- the struct has the values of a TCP header; in its flags ACK is 16
 pub record HasSegment (f : FrameFields) (v : TcpHeader) : Type 0 where
   pub src_port : f.src.port ≡ v.src_port
   pub dst_port : f.dst.port ≡ v.dst_port
@@ -88,60 +89,62 @@ pub record HasSegment (f : FrameFields) (v : TcpHeader) : Type 0 where
   pub control : HasFlag f.tcp.flags v.control
   pub window_len : f.tcp.window_len ≡ v.window_len
 
--- those of a transport header
+-- the struct has the values of a transport header
 abbrev pub HasTransport : FrameFields → Transport → Type 0
 HasTransport f (datagram v payload) = (f.src.port ≡ v.src_port) × (f.dst.port ≡ v.dst_port)
 HasTransport f (segment v payload) = HasSegment f v
 HasTransport f (other payload) = ⊤
 
--- it has the protocol of an IP header
+-- the struct has the protocol of an IP header
 abbrev pub HasProtocol : FrameFields → IpRepr → Type 0
 HasProtocol f v = f.ip.protocol ≡ number_of (next_header_of v)
 
--- it has the values that it takes from bytes
+-- the struct has the values of what the frame carries
 abbrev pub HasValues : FrameFields → Carried → Type 0
 HasValues f (message v) = ⊤
 HasValues f (packet v t) = HasProtocol f v × HasTransport f t
 
--- it locates these bytes in the frame
+-- the payload of the struct is these bytes of the frame
 pub record Locates (f : FrameFields) (frame bytes : List ℕ) : Type 0 where
   pub len : f.payload_len ≡ length bytes
   pub octets : slice_range frame f.payload_offset (f.payload_offset + f.payload_len) ≡ bytes
 
 -- ---- the whole frame
 
--- the struct stores all values of a frame that is parsed whole, and locates its innermost payload
+-- the struct stores all values of a frame that parses as a whole, and locates its innermost payload
 pub record Stores (f : FrameFields) (frame : List ℕ) (v : EthernetRepr) (w : Carried) : Type 0 where
   pub fields : f ≡ struct_of frame v w
   pub values : HasValues f w
   pub payload : Locates f frame (describe_carried w).payload
 
--- it stores the headers of an IPv4 fragment, whose payload is not parsed
+-- the struct stores the headers of an IPv4 fragment, whose payload is not parsed
 pub record StoresFragment (f : FrameFields) (frame : List ℕ) (v : EthernetRepr) (w : Ipv4Repr) : Type 0 where
   pub part : f.is_fragment ≡ 1
   pub fields : f ≡ headed frame v (Ipv4 w)
   pub values : HasProtocol f (Ipv4 w)
   pub payload : Locates f frame (packet_payload (Ipv4 w) (drop 14 frame))
 
--- it stores these headers and the rejected one of this protocol behind them; of another protocol none is rejected
+-- the struct stores these headers and a rejected header of this protocol after them; a header of another protocol is
+-- not rejected
 abbrev pub StoresRejectedBy : IpProtocol → FrameFields → FrameFields → IpAddress → IpAddress → List ℕ → Type 0
 StoresRejectedBy protocol.Udp f headers src dst bytes = f ≡ rejected_udp headers src dst bytes
 StoresRejectedBy protocol.Tcp f headers src dst bytes = f ≡ rejected_tcp headers src dst bytes
 StoresRejectedBy _ f headers src dst bytes = ⊥
 
--- it stores the headers in front of a rejected transport header and this one, and the payload begins at it
+-- the struct stores a rejected transport header and the headers before it, and the payload begins at the rejected one
 pub record StoresRejected (f : FrameFields) (frame : List ℕ) (v : EthernetRepr) (w : IpRepr) : Type 0 where
   pub part : f.is_fragment ≡ 0
   pub fields : StoresRejectedBy (next_header_of w) f (headed frame v w) (src_addr_of w) (dst_addr_of w) (packet_payload w (drop 14 frame))
   pub values : HasProtocol f w
   pub payload : Locates f frame (packet_payload w (drop 14 frame))
 
--- it stores the Ethernet header in front of a rejected header or of an unknown type, and the payload begins there
+-- the struct stores the Ethernet header before a rejected header or a payload of unknown type, where the payload
+-- begins
 pub record StoresUnread (f : FrameFields) (frame : List ℕ) (v : EthernetRepr) : Type 0 where
   pub fields : f ≡ rejected (linked frame v) (network_fault v.ethertype (drop 14 frame))
   pub payload : Locates f frame (drop 14 frame)
 
--- each checksum of the frame that is verified is right, or left out where it may be
+-- each checksum of the frame that is verified is valid, or was omitted where it may be
 pub record HasVerdicts (caps : ChecksumCapabilities) (f : FrameFields) : Type 0 where
   pub ipv4 : IsTrue (verifies caps.ipv4) → f.network ≡ network_code network.Ipv4 → f.ipv4_checksum ≡ verdict_code verdict.Right
   pub udp : IsTrue (verifies caps.udp) → f.transport ≡ transport_code transport.Udp
@@ -156,7 +159,8 @@ IsTypeOf ethertype.Ipv4 bytes = field bytes 0 4 ≡ 4
 IsTypeOf ethertype.Ipv6 bytes = field bytes 0 4 ≡ 6
 IsTypeOf _ bytes = ⊥
 
--- the struct of a packet behind an Ethernet header, by that of the packet alone; each header that is stored begins 14 octets further on
+-- the struct of a packet after an Ethernet header, from that of the packet by itself; each stored header begins 14
+-- bytes later
 abbrev pub in_frame : EthernetRepr → FrameFields → FrameFields
 in_frame v f = record f {
   network_offset = if f.network == 0 then 0 else f.network_offset + 14;

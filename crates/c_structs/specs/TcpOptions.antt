@@ -14,12 +14,12 @@ pub record ReadsItems (bytes : List ℕ) (items : List Item) : Type 0 where
   pub tail : List ℕ
   pub list : IsOptionList (options_of bytes) items tail
 
--- a range of received data; zeros in a place without one
+-- the struct of a SACK range; zeros if there is none
 abbrev pub range_of : Option (ℕ × ℕ) → SackRange
 range_of None = record { left = 0; right = 0 }
 range_of (Some r) = record { left = r.0; right = r.1 }
 
--- the values of the last item of each kind; a window scale above 14 becomes 14
+-- the struct of an option list: the last option of each kind counts; a window scale above 14 becomes 14
 abbrev pub tcp_options_of : List Item → TcpOptions
 tcp_options_of items =
     let stamps = unwrap_or (timestamp_of items) (0, 0) in record {

@@ -5,26 +5,26 @@ use Rattle.ip_wire.specs.Tcp.{has_lengths, options_of}
 use Rattle.ip_wire.specs.TcpItems.{first_item, text}
 use Rattle.c_structs.specs.declared.types.TcpOptionPlace.{TcpOptionPlace}
 
--- the place of an option that begins so many octets behind the first 20 of the header
+-- the place of an option that begins `at` bytes after the first 20 of the header
 abbrev pub place_at : ℕ → ℕ → ℕ → TcpOptionPlace
 place_at at kind len = record { offset = 20 + at; kind = kind; len = len }
 
--- where the option behind this one begins; zeros stand before the first one
+-- where the next option begins; a place of zeros is before the first option
 abbrev pub next_at : TcpOptionPlace → ℕ
 next_at o = if o.offset == 0 then 0 else o.offset + o.len - 20
 
--- nothing follows the end mark
+-- whether the option is the end mark, which nothing follows
 abbrev pub is_end_mark : TcpOptionPlace → Bool
 is_end_mark o = not (o.offset == 0) && (o.kind == 0)
 
--- what is returned and stored, where these octets are left
+-- what a step to the next option returns and stores, if these bytes of the options are left
 abbrev pub step_to : List ℕ → ℕ → TcpOptionPlace → ℤ × TcpOptionPlace
 step_to [] at old = (pos 0, old)
 step_to (kind ∷ rest) at old =
     if kind == 0 then (pos 1, place_at at 0 1)
     else option_map_or (λ found. (pos 1, place_at at found.0.kind (length (text found.0)))) (first_item (kind ∷ rest)) (negsuc 0, old)
 
--- the same for a header
+-- what a step to the next option of a header returns and stores
 abbrev pub step : List ℕ → TcpOptionPlace → ℤ × TcpOptionPlace
 step header old =
     if not (has_lengths header) then (negsuc 0, old)
