@@ -1,4 +1,4 @@
--- Prefixes and blocks, by the big-endian numbers of the octets.
+-- Prefixes and blocks, by the big-endian numbers of the bytes.
 use Rattle.std.proofs.Common.{◌≡◌, ◌↔◌, ℕ, suc, ◌+◌, ◌-◌, ◌*◌, ◌/◌, ◌%◌, ◌^◌, ◌<◌, ◌≤◌, inl, inr, Bool, true, false, IsTrue, Decides, List, nat_eq, nat_le, bit_and, bit_or, arith, refl, sym, ◌∙◌, ap}
 use Rattle.std.specs.Int.{bit_at, bytes_high_first}
 use Rattle.std.specs.Int.Count.{count_leading_zeros, leading_unique}
@@ -56,7 +56,7 @@ numbers_from_agree m n s xs ys are_xs are_ys e agree =
     bit_at-number_of m (8 * m - 1 - i) i xs are_xs place ∙ agree (8 * m - 1 - i) (omega arith)
     ∙ sym (bit_at-number_of m (8 * m - 1 - i) i ys are_ys place))
 
--- a bit behind the last octet is a zero
+-- a bit past the last byte is a zero
 pub behind : (m : ℕ) (xs : List ℕ) (k : ℕ) → AreOctets m xs → 8 * m ≤ k → bit_of xs k ≡ 0
 behind m xs k are past =
     rw (get_or_past xs (k / 8) 0 (omega (arith, are.0))) (bit_at-zero (7 - k % 8))
@@ -79,7 +79,7 @@ IsMasked-number m n s xs ys are_xs are_ys e is = record {
   ];
 }
 
--- octets whose number is a mask are a netmask
+-- bytes whose number is a mask are a netmask
 pub IsNetmask-number : (m n s : ℕ) (xs : List ℕ) → AreOctets m xs → n + s ≡ 8 * m → number_of xs ≡ 2 ^ (8 * m) - 2 ^ s
     → IsNetmask n xs
 IsNetmask-number m n s xs are e is = record {
@@ -152,7 +152,7 @@ IsGreatest-number m n s xs ys are_xs are_ys e is = record {
 
 -- ---- a block within another
 
--- the octets of the address that begins as xs does and whose last s bits are those of a number
+-- the bytes of the address that begins as xs does and whose last s bits are those of a number
 abbrev with_last : ℕ → ℕ → List ℕ → ℕ → List ℕ
 with_last m s xs r = bytes_high_first m (number_of xs / 2 ^ s * 2 ^ s + r)
 
@@ -165,7 +165,7 @@ number_of-with_last m n s xs r are e small =
     let fits : q * 2 ^ s + r < 2 ^ (8 * m) = rw (← size) (mul-add-lt q (2 ^ s) r (2 ^ n) below small) in
     number_of-bytes m (q * 2 ^ s + r) ∙ mod-eq_of_lt fits
 
--- it is in the block, and the bits behind the prefix are those of the number
+-- it is in the block, and the bits after the prefix are those of the number
 with_last-member : (m n s : ℕ) (xs : List ℕ) (r : ℕ) → AreOctets m xs → n + s ≡ 8 * m → r < 2 ^ s
     → AgreeFirst n xs (with_last m s xs r)
 with_last-member m n s xs r are e small =
@@ -289,7 +289,7 @@ prefix-test m ones bits mask xs are eb eo em n = by_test (nat_eq bits mask) (Dec
       (λ is. absurd (false≢true (decides.1 (masked is)))),
     )
 
--- the octets of a number under a mask
+-- the bytes of a number under a mask
 pub IsMasked-bytes : (m n x mask : ℕ) (xs : List ℕ) → AreOctets m xs → n ≤ 8 * m → x ≡ number_of xs → mask ≡ 2 ^ (8 * m) - 2 ^ (8 * m - n)
     → IsMasked n xs (bytes_high_first m (bit_and x mask))
 IsMasked-bytes m n x mask xs are within ex em =

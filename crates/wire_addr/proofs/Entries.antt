@@ -78,7 +78,7 @@ decimal_text table k within size all =
 pub decimal_ascii : (table : List ℕ) (k : ℕ) → k < 256 → length table ≡ 256 → are_decimals 0 table ≡ true → IsAscii (to_le_bytes w32 (get_or table k 0))
 decimal_ascii table k within size all = IsAscii-tested (to_le_bytes w32 (get_or table k 0)) (and_parts _ _ (decimal_at table k within size all)).1
 
--- what stands in front of the dot
+-- the text before the dot
 pub front_of : (bytes text : List ℕ) (n : ℕ) → take (length text + 1) bytes ≡ text ++ 46 ∷ [] → n ≡ length text → n ≤ 3 → take n (take 3 bytes) ≡ text
 front_of bytes text n whole len most =
     take-take n 3 bytes most ∙ sym (take-take n (length text + 1) bytes (omega (arith, len)))

@@ -11,11 +11,11 @@ pub six_items : (octets : List ℕ) → length octets ≡ 6
     → octets ≡ get_or octets 0 0 ∷ get_or octets 1 0 ∷ get_or octets 2 0 ∷ get_or octets 3 0 ∷ get_or octets 4 0 ∷ get_or octets 5 0 ∷ []
 six_items octets six = text_from_reads octets _ six (refl, (refl, (refl, (refl, (refl, (refl, tt))))))
 
--- the octet with its second bit inverted
+-- the byte with its second bit inverted
 pub xor_local : (octet : ℕ) → bit_xor octet 2 ≡ with_local_inverted octet
 xor_local octet = omega (arith, xor_add_and octet 2, and_pow octet 1)
 
--- the octets before the middle, the first aside, and behind it
+-- the bytes before the middle, except the first, and after it
 pub middle_of_six : (octets : List ℕ) → length octets ≡ 6
     → slice_range octets 1 3 ++ 0xff ∷ 0xfe ∷ slice_range octets 3 6
     ≡ get_or octets 1 0 ∷ get_or octets 2 0 ∷ 0xff ∷ 0xfe ∷ get_or octets 3 0 ∷ get_or octets 4 0 ∷ get_or octets 5 0 ∷ []

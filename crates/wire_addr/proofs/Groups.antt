@@ -1,8 +1,8 @@
--- Groups of two octets.
+-- Groups of two bytes.
 use Rattle.std.proofs.Common.{◌≡◌, ℕ, ◌/◌, ◌%◌, ◌^◌, ◌<◌, [], ◌∷◌, arith}
 use Rattle.std.specs.Int.{w16, to_be_bytes}
 
--- the bytes of a group are its octets
+-- the big-endian bytes of a group
 pub be_bytes-octets : (g : ℕ) → g < 2 ^ 16 → to_be_bytes w16 g ≡ g / 256 ∷ g % 256 ∷ []
 be_bytes-octets g fits =
     let high : g / 256 % 256 ≡ g / 256 = omega arith in

@@ -34,7 +34,7 @@ ipv6_text-other octets apart =
     let test : bytes_eq (take 12 octets) mapped_prefix ≡ false = is_false _ (λ same. apart ((bytes_eq-Decides (take 12 octets) mapped_prefix).0 same)) in
     rw test refl
 
--- the octets behind the prefix, if the address has it
+-- the bytes after the prefix, if the address has it
 pub mapped-then_some : (octets ipv4 : List ℕ) (test : Bool) → Decides test (take 12 octets ≡ mapped_prefix) → drop 12 octets ≡ ipv4
     → MatchOption (then_some test ipv4) (take 12 octets ≢ mapped_prefix) (λ behind. octets ≡ mapped_prefix ++ behind)
 mapped-then_some octets ipv4 true is behind = sym (take-append-drop 12 octets) ∙ ap₂ ◌++◌ (is.0 refl) behind

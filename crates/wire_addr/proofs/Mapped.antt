@@ -1,11 +1,11 @@
--- The first twelve octets of an address, by the number that all of them spell.
+-- The first twelve bytes of an address, by the big-endian number of all of them.
 use Rattle.std.proofs.Common.{◌≡◌, ℕ, ◌/◌, ◌^◌, ◌<◌, ◌==◌, List, [], ◌∷◌, Decides, take, subst, sym, ◌∙◌, ap, arith}
 use Rattle.std.proofs.lemmas.Bool.Decides.{Decides-eqb, Decides-like}
 use Rattle.std.proofs.NetLemmas.Arrays.{sixteen_items}
 use Rattle.wire_addr.specs.Octets.{AreOctets, mapped_prefix}
 use Rattle.wire_addr.specs.Prefix.{number_of}
 
--- sixteen octets, listed
+-- sixteen bytes, listed
 module _ (a b c d e f g h i j k l m n o p : ℕ) where
   abbrev sixteen : List ℕ
   sixteen = a ∷ b ∷ c ∷ d ∷ e ∷ f ∷ g ∷ h ∷ i ∷ j ∷ k ∷ l ∷ m ∷ n ∷ o ∷ p ∷ []
@@ -29,7 +29,7 @@ module _ (a b c d e f g h i j k l m n o p : ℕ) where
       let el : l ≡ 255 = cc in
       omega arith
 
--- the number tells whether the first twelve octets are those before an IPv4 address
+-- the number tells whether the first twelve bytes are those before an IPv4 address
 pub Decides-mapped : (octets : List ℕ) (bits : ℕ) → AreOctets 16 octets → bits ≡ number_of octets → Decides (bits / 2 ^ 32 == 0xffff) (take 12 octets ≡ mapped_prefix)
 Decides-mapped octets bits are is =
     let items = sym (sixteen_items octets are.0) in

@@ -1,4 +1,4 @@
--- The bits of octets, and the number that the octets spell.
+-- The bits of a list of bytes, and its big-endian number.
 use Rattle.std.proofs.Common.{◌≡◌, ℕ, zero, suc, ◌+◌, ◌-◌, ◌*◌, ◌/◌, ◌%◌, ◌^◌, ◌<◌, ◌≤◌, inl, inr, List, [], ◌∷◌, length, get_or, arith, refl, sym, ◌∙◌, ap, lit<, zero-add}
 use Rattle.std.specs.Int.{bit_at, w32, w128, from_be_bytes, byte_at, bytes_high_first}
 use Rattle.std.proofs.Math.Nat.{mul-le-mul_left, pow-suc}
@@ -8,7 +8,7 @@ use Rattle.std.proofs.lemmas.Nat.Bits.{bit_at_cat_low, bit_at_cat_high}
 use Rattle.wire_addr.specs.Octets.{AreOctets}
 use Rattle.wire_addr.specs.Prefix.{bit_of, number_of}
 
--- ---- by places: the number in the n octets from place i
+-- ---- by places: the number in the n bytes from place i
 
 abbrev number_from : ℕ → ℕ → List ℕ → ℕ
 number_from i zero xs = 0
@@ -51,14 +51,14 @@ byte_at-shifted : (k n : ℕ) → byte_at k n ≡ n / 2 ^ (8 * k) % 2 ^ 8
 byte_at-shifted zero n = omega arith
 byte_at-shifted (suc k) n = rw (pow_256 (suc k)) refl
 
--- the number of the k octets of n is n modulo 2 ^ (8 * k)
+-- the number of the k bytes of n is n modulo 2 ^ (8 * k)
 pub number_of-bytes : (k n : ℕ) → number_of (bytes_high_first k n) ≡ n % 2 ^ (8 * k)
 number_of-bytes zero n = omega arith
 number_of-bytes (suc k) n =
     let more : 8 * suc k ≡ 8 + 8 * k = omega arith in
     rw (length-bytes_high_first k n, byte_at-shifted k n, number_of-bytes k n, more) (sym (mod-pow-add n 8 (8 * k)))
 
--- the big-endian bytes of a number are octets
+-- the k big-endian bytes of a number are k numbers of eight bits
 pub AreOctets-bytes : (k n : ℕ) → AreOctets k (bytes_high_first k n)
 AreOctets-bytes k n = (length-bytes_high_first k n, small k)
   where
@@ -69,7 +69,7 @@ AreOctets-bytes k n = (length-bytes_high_first k n, small k)
 
 -- ---- bits
 
--- an octet before a number of k bits makes a number of k + 8 bits
+-- a byte before a number of k bits makes a number of k + 8 bits
 octet_before-lt : (a k r : ℕ) → a < 256 → r < 2 ^ k → a * 2 ^ k + r < 2 ^ (8 + k)
 octet_before-lt a k r h g = omega (arith, pow-add 2 8 k, mul-le-mul_left {m = a} {n = 255} (2 ^ k) (let le : a ≤ 255 = omega arith in le))
 
@@ -79,7 +79,7 @@ number_from-lt (suc n) i xs h =
     let e : 8 * suc n ≡ 8 + 8 * n = omega arith in
     rw e (octet_before-lt (get_or xs i 0) (8 * n) (number_from (suc i) n xs) (h i) (number_from-lt n (suc i) xs h))
 
--- bit k of the octets is that bit of the number, counted from the other end
+-- bit k of the bytes is that bit of the number, counted from the other end
 bit_at-number_from : (n i k j : ℕ) (xs : List ℕ) → ((k : ℕ) → get_or xs k 0 < 256) → suc (k + j) ≡ 8 * n
     → bit_at (number_from i n xs) j ≡ bit_at (get_or xs (i + k / 8) 0) (7 - k % 8)
 bit_at-number_from zero i k j xs h e = let no : ⊥ = omega arith in absurd no
@@ -102,11 +102,11 @@ bit_at-number_from (suc n) i k j xs h e =
           ∙ ap (λ b. bit_at (get_or xs (i + k / 8) 0) (7 - b)) bit
     ]
 
--- m octets are a number below 2 ^ (8 * m)
+-- m bytes are a number below 2 ^ (8 * m)
 pub number_of-lt : (m : ℕ) (xs : List ℕ) → AreOctets m xs → number_of xs < 2 ^ (8 * m)
 number_of-lt m xs are = rw (by_places xs, are.0) (number_from-lt m 0 xs are.1)
 
--- bit k of the octets, counted from the highest, is bit j of their number, counted from the lowest
+-- bit k of the bytes, counted from the highest, is bit j of their number, counted from the lowest
 pub bit_at-number_of : (m k j : ℕ) (xs : List ℕ) → AreOctets m xs → suc (k + j) ≡ 8 * m → bit_at (number_of xs) j ≡ bit_of xs k
 bit_at-number_of m k j xs are e =
     rw (by_places xs, are.0) (bit_at-number_from m 0 k j xs are.1 e ∙ ap (λ p. bit_at (get_or xs p 0) (7 - k % 8)) (zero-add (k / 8)))

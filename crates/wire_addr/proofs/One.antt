@@ -1,4 +1,4 @@
--- Relations that hold for one value alone: netmasks, masked addresses, the ends of a block, and scopes.
+-- Relations that hold for only one value: netmasks, masked addresses, the ends of a block, and scopes.
 use Rattle.std.proofs.Common.{◌≡◌, ◌↔◌, ℕ, suc, ◌+◌, ◌-◌, ◌*◌, ◌/◌, ◌%◌, ◌≤◌, inl, inr, Bool, true, false, IsTrue, List, get_or, arith, refl, sym, ◌∙◌, ap}
 use Rattle.std.specs.Int.{bit_at}
 use Rattle.std.proofs.lemmas.Bool.{cases_lt, false≢true}
@@ -12,7 +12,7 @@ use Rattle.wire_addr.specs.declared.ipv6_multicast_scope.Ipv6MulticastScope.{Ipv
 use Rattle.wire_addr.proofs.Blocks.{behind}
 use Rattle.wire_addr.proofs.Numbers.{bit_at-number_of}
 
--- octets with the same bits are the same
+-- bytes with the same bits are the same
 same_octets : (m : ℕ) (xs ys : List ℕ) → AreOctets m xs → AreOctets m ys → ((k : ℕ) → bit_of xs k ≡ bit_of ys k) → xs ≡ ys
 same_octets m xs ys are_xs are_ys same =
     ext_get_or 0 xs ys (are_xs.0 ∙ sym are_ys.0)
@@ -24,7 +24,7 @@ same_octets m xs ys are_xs are_ys same =
     ∙ same (8 * i + (7 - b))
     ∙ ap (λ p. bit_at (get_or ys p 0) (7 - (8 * i + (7 - b)) % 8)) place ∙ ap (λ q. bit_at (get_or ys i 0) q) bit))
 
--- octets that spell the same number are the same
+-- bytes with the same big-endian number are the same
 same_number : (m : ℕ) (xs ys : List ℕ) → AreOctets m xs → AreOctets m ys → number_of xs ≡ number_of ys → xs ≡ ys
 same_number m xs ys are_xs are_ys same = same_octets m xs ys are_xs are_ys (λ k. elim (cases_lt k (8 * m)) [
   | inl inside ↦
@@ -55,7 +55,7 @@ one_netmask m n xs ys are_xs are_ys is_xs is_ys = same_octets m xs ys are_xs are
   | inr from ↦ is_xs.zeros k from ∙ sym (is_ys.zeros k from)
 ])
 
--- octets have one form with zeros behind their first n bits
+-- bytes have one form with zeros after their first n bits
 pub one_masked : (m n : ℕ) (octets xs ys : List ℕ) → AreOctets m xs → AreOctets m ys → IsMasked n octets xs → IsMasked n octets ys → xs ≡ ys
 one_masked m n octets xs ys are_xs are_ys is_xs is_ys = same_octets m xs ys are_xs are_ys (λ k. elim (cases_lt k n) [
   | inl before ↦ sym (is_xs.kept k before) ∙ is_ys.kept k before

@@ -15,7 +15,7 @@ use Rattle.wire_addr.specs.Printed.{dotted, dashed, hex_byte, hex, colon_hex, gr
 use Rattle.wire_addr.specs.Read.{ReadsIpv6}
 use Rattle.wire_text.specs.Grammar.{EachReads, IsNumber, IsOctet, IsDotted, IsHexOctets, IsGroup, AreGroupsText, IsElidedMappedText, IsIpv6Text, groups_of, mapped_groups}
 
--- ---- octets and groups
+-- ---- bytes and groups
 
 pub octets_of-groups_of : (n : ℕ) (octets : List ℕ) → length octets ≡ 2 * n → ((k : ℕ) → get_or octets k 0 < 2 ^ 8) → octets_of (groups_of octets) ≡ octets
 octets_of-groups_of n [] even small = refl

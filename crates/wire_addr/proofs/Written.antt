@@ -1,9 +1,9 @@
--- Texts that are written one behind the other.
+-- Texts that are written one after the other.
 use Rattle.std.proofs.Common.{ℕ, ◌≡◌, ◌+◌, List, [], ◌∷◌, ◌++◌, length, get_or, take, drop, decimal, refl, sym, ap, subst, ◌∙◌, append_assoc, length-append, arith}
 use Rattle.std.proofs.lemmas.List.{drop-drop, drop_at, take_at}
 use Rattle.wire_addr.specs.Printed.{WritesAt, dotted}
 
--- a text is written behind a front that ends at an index
+-- a text is written after a front that ends at an index
 written_more : (old front out text new : List ℕ) (at end : ℕ) → WritesAt old front 0 out at → WritesAt out text at new end → WritesAt old (front ++ text) 0 new end
 written_more old front out text new at end w more =
     let head : take at out ≡ front = ap (take at) w.bytes ∙ take_at front (drop at old) at (omega (arith, w.place)) in

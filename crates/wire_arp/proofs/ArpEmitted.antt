@@ -9,7 +9,7 @@ use Rattle.wire_arp.specs.Arp.{Reads, bytes_of, ethernet_ipv4, normal, operation
 use Rattle.wire_arp.specs.declared.arp.repr.ArpRepr.{ArpRepr}
 use Rattle.wire_arp.specs.declared.arp.repr.ArpRepr.TheVariants.{EthernetIpv4}
 
--- the octets are those of addresses of Ethernet and of IPv4
+-- the bytes are those of addresses of Ethernet and of IPv4
 pub record AreAddresses (sha spa tha tpa : List ℕ) : Type 0 where
   pub source_hardware : length sha ≡ 6
   pub source_protocol : length spa ≡ 4
@@ -40,7 +40,7 @@ reads-bytes_of (EthernetIpv4 operation sha spa tha tpa) rest (small, h) =
 pub front_bytes : (n operation : ℕ) → operation < 2 ^ 16 → n ≡ 0x0001080006040000 + operation → big_bytes 8 n ≡ ethernet_ipv4 ++ big_bytes 2 operation
 front_bytes n operation small is = grind arith
 
--- both writes leave the packet, then the bytes that stood behind it
+-- both writes leave the packet, then the bytes that followed it
 pub packet_written : (operation : ℕ) (sha spa tha tpa old front a : List ℕ) → AreAddresses sha spa tha tpa → 28 ≤ length old
     → front ≡ (ethernet_ipv4 ++ big_bytes 2 operation) ++ drop 8 old → a ≡ (sha ++ spa ++ tha ++ tpa) ++ drop 20 (slice_range front 8 28)
     → put_mid 8 20 front a ≡ (ethernet_ipv4 ++ big_bytes 2 operation ++ sha ++ spa ++ tha ++ tpa) ++ drop 28 old

@@ -7,9 +7,9 @@ use Rattle.wire_arp.specs.Arp.{HasLengths, arp_of}
 use Rattle.wire_arp.specs.ArpText.{fields_text, has_lengths, list_text, packet_text, value_text}
 use Rattle.wire_arp.specs.declared.arp.repr.ArpRepr.{ArpRepr}
 
--- ---- lists of octets
+-- ---- lists of bytes
 
--- what a format writes for an octet
+-- what a format writes for a byte
 abbrev pub octet_text : ℕ → Option (List ℕ)
 octet_text n = Some (decimal n)
 

@@ -20,7 +20,7 @@ sum-words-around bytes part a e even whole ends room =
     ∙ sum-words-append (take a bytes) (part ++ drop e bytes) even_front
     ∙ ap (λ (m : ℕ). sum (words (take a bytes)) + m) (sum-words-append part (drop e bytes) whole)
 
--- the new part's sum stands in place of the old one's
+-- the new part's sum replaces the old one's
 pub sum-words-with_range : (bytes part : List ℕ) (a e : ℕ) → a % 2 ≡ 0 → length part % 2 ≡ 0 → a + length part ≡ e → e ≤ length bytes
     → sum (words (with_range bytes a e part)) + sum (words (slice_range bytes a e)) ≡ sum (words bytes) + sum (words part)
 sum-words-with_range bytes part a e even whole ends room =
@@ -53,7 +53,7 @@ slice_range-take bytes a e n order inside =
     ap (take (e - a)) (ap (λ (k : ℕ). drop a (take k bytes)) whole ∙ drop-take a (n - a) bytes)
     ∙ take-take (e - a) (n - a) (drop a bytes) (omega (arith, inside))
 
--- the new part's sum stands in place of the old one's, in the first n bytes
+-- the new part's sum replaces the old one's, in the first n bytes
 pub sum-take-with_range : (bytes part : List ℕ) (a e n : ℕ) → a % 2 ≡ 0 → length part % 2 ≡ 0 → a + length part ≡ e → e ≤ n → n ≤ length bytes
     → sum (words (take n (with_range bytes a e part))) + sum (words (slice_range bytes a e)) ≡ sum (words (take n bytes)) + sum (words part)
 sum-take-with_range bytes part a e n even whole ends inside room =
@@ -112,7 +112,7 @@ field-word bytes i are room =
     ∙ ap (λ (b : ℕ). big_from (2 * i) 2 bytes / 2 ^ b % 2 ^ 16) (none_behind i)
     ∙ omega (arith, bound, ap (λ (l : List ℕ). sum (words l)) (slice_range-two bytes (2 * i) room), sum-words-two (slice_index bytes (2 * i)) (slice_index bytes (suc (2 * i))))
 
--- the new word stands in the sum in place of the old one
+-- the new word replaces the old one in the sum
 pub sum-words-with_field : (bytes : List ℕ) (i x : ℕ) → AreBytes bytes → 2 * i + 2 ≤ length bytes → x < 65536
     → sum (words (with_field bytes (16 * i) 16 x)) + field bytes (16 * i) 16 ≡ sum (words bytes) + x
 sum-words-with_field bytes i x are room fits =

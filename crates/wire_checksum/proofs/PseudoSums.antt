@@ -1,4 +1,4 @@
--- Sums of joined bytes, and of a packet behind its pseudo-header.
+-- Sums of joined bytes, and of a packet after its pseudo-header.
 use Rattle.std.proofs.Common.{◌≡◌, ℕ, ◌+◌, ◌*◌, ◌/◌, ◌%◌, ◌<◌, List, [], ◌∷◌, ◌++◌, length, sum, refl, sym, ◌∙◌, ap, arith, length-append}
 use Rattle.byteorder.specs.Endian.{big_bytes}
 use Rattle.wire_checksum.specs.PseudoHeader.{pseudo_header_bytes, with_pseudo_header}
@@ -20,7 +20,7 @@ sum-words-end : (number len : ℕ) → sum (words (0 ∷ number ∷ big_bytes 2 
 unfolding words
 sum-words-end number len = omega arith
 
--- the words of a packet behind its pseudo-header add up to those of its parts
+-- the words of a packet after its pseudo-header add up to those of its parts
 pub sum-with_pseudo_header : (src dst : IpAddress) (protocol : IpProtocol) (packet : List ℕ) → length (octets_of src) % 2 ≡ 0 → length (octets_of dst) % 2 ≡ 0
     → sum (words (with_pseudo_header src dst protocol packet)) ≡ pseudo_header_total src dst protocol (length packet) + sum (words packet)
 sum-with_pseudo_header src dst protocol packet s d =

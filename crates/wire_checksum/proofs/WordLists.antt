@@ -48,7 +48,7 @@ number-of_2 : (xs : List ℕ) → length xs ≡ 2 → from_le_bytes w16 xs ≡ n
 number-of_2 (a ∷ b ∷ []) l = omega arith
 number-of_2 other l = absurd (omega arith)
 
--- the little-endian number of 8 bytes stands for the sum of their words
+-- the little-endian number of 8 bytes has the one's complement sum of their words, up to a factor of 256
 pub words-of_8 : (xs : List ℕ) → length xs ≡ 8 → residue (256 * from_le_bytes w64 xs) ≡ residue (sum (words xs))
 words-of_8 xs l = ap (λ n. residue (256 * n)) (number-of_8 xs l) ∙ number-words xs
 
@@ -96,7 +96,7 @@ chunk-more n k bytes chunks number z i j s w cut below even next room reads is s
     ap residue (mul-add 256 s w) ∙ residue-add (256 * s) (z + sum (words (take (i * n) bytes))) (256 * w) (sum (words part)) so_far word
     ∙ ap residue (omega (arith, more))
 
--- one more chunk, whose words were added as they stand
+-- one more chunk, whose words were added unchanged
 pub chunk-added : (n k : ℕ) (bytes : List ℕ) (chunks : List (List ℕ)) (z i j s r : ℕ) → chunks ≡ first_chunks n k bytes → i < k → (i * n) % 2 ≡ 0 → j ≡ i * n + n → j ≤ length bytes
     → residue (256 * r) ≡ residue (256 * s + sum (words (get_or chunks i [])))
     → residue (256 * s) ≡ residue (z + sum (words (take (i * n) bytes)))
@@ -132,7 +132,7 @@ chunks-end n m i bytes rest s w ends even room cut so_far left =
     ∙ residue-add (256 * s) (sum (words (take m bytes))) (256 * w) (sum (words (drop m bytes))) (so_far ∙ ap (λ j. residue (sum (words (take j bytes)))) ends) (left ∙ ap (λ l. residue (sum (words l))) cut)
     ∙ ap residue (sym (sum-words-split m bytes even room))
 
--- a total of the bytes behind the last whole word of 8, with all whole words added, is a total of all bytes
+-- a total of the bytes after the last whole word of 8, with all whole words added, is a total of all bytes
 pub with-tail : (bytes : List ℕ) (t s : ℕ) → residue (256 * t) ≡ residue (sum (words (drop (length bytes / 8 * 8) bytes)))
     → residue (256 * s) ≡ residue (256 * t + sum (words (take (length bytes / 8 * 8) bytes))) → residue (256 * s) ≡ residue (sum (words bytes))
 with-tail bytes t s a b =

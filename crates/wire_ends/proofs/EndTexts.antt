@@ -79,7 +79,7 @@ no_host_text text found front n result same h none failed =
     let (here, _) = ends_once 58 5 65535 (lit≤ tt) text k.host_text front.now endpoint.port n k.port ends in
     none endpoint.addr (subst (λ t. ReadsHost t endpoint.addr) here k.host))
 
--- an address alone, with port 0
+-- only an address, with port 0
 abbrev pub IsAlone : List ℕ → IpEndpoint → Type 0
 IsAlone text endpoint = ReadsAddress text endpoint.addr × (endpoint.port ≡ 0)
 

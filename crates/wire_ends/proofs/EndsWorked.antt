@@ -18,7 +18,7 @@ use Rattle.wire_text.proofs.Numbers.{number_complete}
 other_version : ¬ (IsIn (block_at (Ipv4 (0 ∷ 0 ∷ 0 ∷ 0 ∷ [])) 0) (Ipv6 (0 ∷ 0 ∷ 0 ∷ 0 ∷ 0 ∷ 0 ∷ 0 ∷ 0 ∷ 0 ∷ 0 ∷ 0 ∷ 0 ∷ 0 ∷ 0 ∷ 0 ∷ 1 ∷ [])))
 other_version is = is
 
--- brackets without a port are rejected: there is no number behind the last colon
+-- brackets without a port are rejected: there is no number after the last colon
 behind_last : (k : ℕ) → 2 < k → k < 5 → get_or (codes "[::1]") k 0 ≢ 58
 behind_last zero low high e = omega arith
 behind_last (suc zero) low high e = omega arith

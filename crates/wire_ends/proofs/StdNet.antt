@@ -1,8 +1,8 @@
--- The segments of std's IPv6 addresses, and their octets.
+-- The segments of std's IPv6 addresses, and their bytes.
 use Rattle.std.proofs.Common.{ℕ, ◌≡◌, ◌*◌, ◌+◌, ◌-◌, ◌/◌, ◌%◌, ◌^◌, ◌<◌, List, [], ◌∷◌, suc, length, get_or, refl, arith}
 use Rattle.std.specs.Net.Addr.{octets_of, segments_of}
 
--- two octets for each segment convert back to the segments
+-- two bytes for each segment convert back to the segments
 pub octets_of-segments_of : (n : ℕ) (octets : List ℕ) → length octets ≡ 2 * n → ((k : ℕ) → get_or octets k 0 < 2 ^ 8)
     → octets_of (segments_of octets) ≡ octets
 octets_of-segments_of n [] even small = refl

@@ -7,7 +7,7 @@ use Rattle.wire_field.proofs.Cells.{cells-all, cells-drop}
 use Rattle.wire_ethernet.specs.Ethernet.{Reads, bytes_of, normal, number_of, protocol_of}
 use Rattle.wire_ethernet.specs.declared.ethernet.EthernetRepr.{EthernetRepr}
 
--- the three writes of `emit` leave the header, then the bytes that stood behind it
+-- the three writes of `emit` leave the header, then the bytes that followed it
 pub header_written : (dst src : List ℕ) (n : ℕ) (old first second third : List ℕ) (number : ℕ)
     → length dst ≡ 6 → length src ≡ 6 → 14 ≤ length old
     → first ≡ dst ++ drop 6 old → second ≡ src ++ drop 6 (slice_range first 6 12)

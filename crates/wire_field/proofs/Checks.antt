@@ -114,7 +114,7 @@ module _ (V : View) (E : Refusal) where
     abbrev All : RattleType
     All = Array u8 0
 
-    -- the slice is given up, and its loan ends with the bytes that it has
+    -- the slice is given up, and its borrow ends with the bytes that it has
     unchanged : (e : E.D) (ℓ : Lifetime) (κ : Lft) (vs : List Val) → ent 𝓤 (sem 𝓛 ((MutSlice ℓ κ u8).own_val h vs)) (sem 𝓛 (StaysIfErr x V.buffer (Err e)))
     unfolding such_by follows_by
     unchanged e ℓ κ vs = qed 𝓛 (‵ ((MutSlice ℓ κ u8).own_val h vs) ∷ []) ∵ fsplit3 ! $ drop ! $
@@ -123,7 +123,7 @@ module _ (V : View) (E : Refusal) where
         use1 𝓛 (‵ (fres x.ghost_name (All.coded.code x.now))) (𝓛.names.obs-res x.ghost_name (All.coded.code x.now)) $ keep ! (0 ∷ []) $
         fpack ! ((s : (List ℕ → List ℕ) × List ℕ) × ((w : List ℕ) → ⊤) × s.1 ≡ x.now) (λ s. fres x.ghost_name (All.coded.code s.0.1)) (((λ w. w), x.now), (λ w. tt), refl) $ done !
 
-    -- the view holds the slice, and its loan ends with what is last left there
+    -- the view holds the slice, and its borrow ends with what is last left there
     held : (d : V.D) → V.buffer d ≡ h → ent 𝓤 (emp 𝓤) (sem 𝓛 (StaysIfErr {E = E.D} x V.buffer (Ok d)))
     unfolding such_by follows_by
     held d is =

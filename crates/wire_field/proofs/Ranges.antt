@@ -44,7 +44,7 @@ whole-part w n x small =
     let one : 2 ^ 0 ≡ 1 = refl in
     rw (pow256, flat, fits, one) (omega arith)
 
--- where bits of whole bytes begin, how many bytes they reach into, and how many bits are behind them
+-- where bits of whole bytes begin, how many bytes they reach into, and how many bits are after them
 begin : (first : ℕ) → 8 * first / 8 ≡ first
 begin first = omega arith
 
@@ -54,7 +54,7 @@ reach first n = omega arith
 none : (first n : ℕ) → behind (8 * first) (8 * n) ≡ 0
 none first n = omega arith
 
--- a field by its first byte, the bytes that it reaches into and the bits behind it: written, and read
+-- a field by its first byte, the bytes that it reaches into and the bits after it: written, and read
 abbrev written-from : List ℕ → ℕ → ℕ → ℕ → ℕ → ℕ → List ℕ
 written-from bytes width x a s l = take a bytes ++ big_bytes s (with_part (big_from a s bytes) l width x) ++ drop (a + s) bytes
 
@@ -81,7 +81,7 @@ range-field bytes a first n are long =
     ap (big_bytes n) (whole-part (big_from first n bytes) n (big_number n a) (big_from-lt 0 n a are)) ∙ bytes-number n (big_from first n bytes / 256 ^ n) a are long in
     ap (λ (m : List ℕ). take first bytes ++ m ++ drop (first + n) bytes) (sym part) ∙ sym (written-whole bytes first n (big_number n a))
 
--- the number in the bytes behind a place
+-- the number in the bytes after an index
 number-drop : (f i n : ℕ) (xs : List ℕ) → big_from i n (drop f xs) ≡ big_from (f + i) n xs
 number-drop f i zero xs = refl
 number-drop f i (suc n) xs =
@@ -102,7 +102,7 @@ range-number bytes first n are =
     ∙ ap (λ (m : ℕ). big_from m n bytes) place
     ∙ sym (read-whole bytes first n ∙ ap (λ (m : ℕ). m % 2 ^ (8 * n)) (div-one (big_from first n bytes)) ∙ fits)
 
--- the octets of a field's number are the range
+-- the bytes of a field's number are the range
 pub number-range : (bytes : List ℕ) (first n : ℕ) → AreBytes bytes → first + n ≤ length bytes
     → big_bytes n (field bytes (8 * first) (8 * n)) ≡ slice_range bytes first (first + n)
 number-range bytes first n are room =

@@ -24,7 +24,7 @@ with_part-twice n low width x y =
     ∙ mod_low (hi * 2 ^ width + part) low lo (mod-lt n (pow_pos low)) in
     rw (above, below) refl
 
--- what is before and behind a written part
+-- what precedes and what follows a written part
 before : (bytes part : List ℕ) (a e : ℕ) → a ≤ length bytes → take a ((take a bytes ++ part) ++ drop e bytes) ≡ take a bytes
 before bytes part a e room =
     let long = length-take-le a bytes room in

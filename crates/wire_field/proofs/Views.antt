@@ -1,4 +1,4 @@
--- A view holds a slice by a `&mut`, and a method of it lends a part of that slice:
+-- A view holds a slice by a `&mut`, and a method of it borrows a part of that slice:
 --     pub fn payload_mut(&mut self) -> &mut [u8] { locate_payload(self.buffer).lend() }
 -- Here is the walk of each such method. Assumes `Logic`.
 use mathlib.Core.Path.{◌≡◌, refl, sym, ap, ◌∙◌}
@@ -144,7 +144,7 @@ module _ (V : View) where
   abbrev pub seen : Ty
   seen = ty_struct V.name (tcons (slice_ty (ty_ref erased mut (ty_int w8))) tnil)
 
--- Where a method's part stands in the slice, under the method's conditions: from first up to last. The method's contract speaks of the part as `part`, and of
+-- Where a method's part is in the slice, under the method's conditions: from first up to last. The method's contract speaks of the part as `part`, and of
 -- what the slice ends as, where w is last left in the part, as `left xs w`.
 pub record Place : Type 1 where
   pub conditions : List ℕ → List (Type 0)

@@ -60,7 +60,7 @@ reads-emitted h src dst payload false verified v whole fits is sound =
 
 -- ---- a message whose checksum changed
 
--- bytes that differ in the checksum alone
+-- bytes that differ only in the checksum
 record IsBeside (old new : List ℕ) : Type 0 where
   long : length new ≡ length old
   first : field new 0 8 ≡ field old 0 8

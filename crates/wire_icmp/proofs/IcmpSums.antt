@@ -15,7 +15,7 @@ use Rattle.wire_ends.specs.declared.ip_address.IpAddress.TheVariants as address
 use Rattle.wire_ends.specs.declared.ip_protocol.IpProtocol.TheVariants as protocol
 use Rattle.wire_icmp.specs.Icmp.{Verifies, covered, not_zero, with_checksum, with_updated_checksum}
 
--- the octets of both addresses are whole words
+-- the bytes of both addresses are whole words
 pub record AreWhole (src dst : IpAddress) : Type 0 where
   pub src_octets : length (octets_of src) % 2 ≡ 0
   pub dst_octets : length (octets_of dst) % 2 ≡ 0
@@ -34,7 +34,7 @@ pub total-parts : (src dst : IpAddress) (bytes : List ℕ) → AreWhole src dst 
 total-parts (address.Ipv4 src) dst bytes whole = omega arith
 total-parts (address.Ipv6 src) dst bytes whole = sum-with_pseudo_header (address.Ipv6 src) dst protocol.Icmpv6 bytes whole.src_octets whole.dst_octets
 
--- a word that is written stands in the total in place of the old one
+-- a word that is written replaces the old one in the total
 total-with_word : (src dst : IpAddress) (bytes : List ℕ) (i x : ℕ) → AreBytes bytes → AreWhole src dst → x < 65536 → 2 * i + 2 ≤ length bytes
     → total src dst (with_field bytes (16 * i) 16 x) + field bytes (16 * i) 16 ≡ total src dst bytes + x
 total-with_word src dst bytes i x are whole fits room =
@@ -93,7 +93,7 @@ valid-updated src dst src' dst' bytes changed old new are whole room change vali
       | inr (some, is) ↦ ap residue (at (omega (arith, is))) ∙ residue-updated (total src dst bytes) rest c old new u 0 x (omega arith) sums valid refl (omega (arith, is)) (omega (arith, some, is))
     ]
 
--- the same for a word of 16 bits behind the checksum
+-- the same for a word of 16 bits after the checksum
 pub valid-word : (src dst : IpAddress) (bytes : List ℕ) (i x : ℕ) → AreBytes bytes → AreWhole src dst → x < 65536 → 2 ≤ i → 2 * i + 2 ≤ length bytes
     → Verifies src dst bytes → Verifies src dst (with_updated_checksum (with_field bytes (16 * i) 16 x) (field bytes (16 * i) 16) x)
 valid-word src dst bytes i x are whole fits behind room valid =

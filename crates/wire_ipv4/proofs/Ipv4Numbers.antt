@@ -12,7 +12,7 @@ use Rattle.wire_ipv4.specs.Ipv4.{header_len, with_checksum, with_updated_checksu
 use Rattle.wire_ipv4.specs.Ipv4Fields.{after_fill, with_sums}
 use Rattle.wire_ipv4.proofs.Ipv4Changed.{sets-checksum}
 
--- the number of an address is the one that its octets spell
+-- the number of an address is the big-endian number of its bytes
 address-number : (a : List ℕ) → length a ≡ 4 → number_of a ≡ big_number 4 a
 address-number a four = let e = cells-all 4 a four in rw e refl
 

@@ -8,7 +8,7 @@ use Rattle.wire_ends.specs.Protocol.{number_of, protocol_of}
 use Rattle.wire_checksum.specs.WordSum.{residue, sum_of_bytes, words}
 use Rattle.wire_ipv4.specs.declared.ipv4.repr.Ipv4Repr.{Ipv4Repr}
 
--- the value has a header: its numbers fit their fields, and an address has four octets
+-- the value has a header: its numbers fit their fields, and an address has four bytes
 pub record IsInRange (v : Ipv4Repr) : Type 0 where
   pub src_addr : length v.src_addr ≡ 4
   pub dst_addr : length v.dst_addr ≡ 4
@@ -27,7 +27,7 @@ header_verifies : (v : Ipv4Repr) → length v.src_addr ≡ 4 → length v.dst_ad
 header_verifies v s d =
     ap residue (words-header_with v (65535 - sum_of_bytes (header_with v 0)) s d (omega arith)) ∙ residue-complement (sum (words (header_with v 0)))
 
--- a header is twenty octets long
+-- a header is twenty bytes long
 take-header : (v : Ipv4Repr) (rest : List ℕ) (checksum : ℕ) → length v.src_addr ≡ 4 → length v.dst_addr ≡ 4
     → take 20 (header_with v checksum ++ rest) ≡ header_with v checksum
 take-header v rest checksum s d = rw (cells-all 4 v.src_addr s, cells-all 4 v.dst_addr d) refl

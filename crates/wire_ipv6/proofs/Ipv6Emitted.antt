@@ -6,7 +6,7 @@ use Rattle.wire_ends.specs.Protocol.{number_of}
 use Rattle.wire_ipv6.specs.Ipv6.{bytes_of}
 use Rattle.wire_ipv6.specs.declared.ipv6.repr.Ipv6Repr.{Ipv6Repr}
 
--- the value has a header: its numbers fit their fields, and each address has sixteen octets
+-- the value has a header: its numbers fit their fields, and each address has sixteen bytes
 pub record IsInRange (v : Ipv6Repr) : Type 0 where
   pub src_addr : length v.src_addr ≡ 16
   pub dst_addr : length v.dst_addr ≡ 16
@@ -21,7 +21,7 @@ written old v =
     let b = with_field (with_field (with_field a 32 16 v.payload_len) 56 8 v.hop_limit) 48 8 (number_of v.next_header) in
     with_range (with_range b 8 24 v.src_addr) 24 40 v.dst_addr
 
--- the writes of `emit` give the header, followed by the bytes that were behind it
+-- the writes of `emit` give the header, followed by the bytes that were after it
 pub written-bytes_of : (old : List ℕ) (v : Ipv6Repr) → 40 ≤ length old → IsInRange v → written old v ≡ bytes_of v ++ drop 40 old
 written-bytes_of old v room h =
     rw (cells-all 16 v.src_addr h.src_addr, cells-all 16 v.dst_addr h.dst_addr, cells-drop 40 old room) (grind arith)

@@ -6,7 +6,7 @@ use Rattle.wire_field.proofs.Cells.{cells-drop}
 use Rattle.wire_ipv6.specs.Ipv6Fragment.{Reads, bytes_of, flag, normal}
 use Rattle.wire_ipv6.specs.declared.ipv6fragment.repr.Ipv6FragmentRepr.{Ipv6FragmentRepr}
 
--- the four writes of `emit` give the header, followed by the bytes that were behind it
+-- the four writes of `emit` give the header, followed by the bytes that were after it
 pub with_header : (old : List ℕ) (offset more ident : ℕ) → more < 2 → 6 ≤ length old
     → with_field (with_field (with_field (with_field old 13 2 0) 0 13 offset) 15 1 more) 16 32 ident
     ≡ (big_bytes 2 (offset % 2 ^ 13 * 8 + more) ++ big_bytes 4 ident) ++ drop 6 old

@@ -15,7 +15,7 @@ pub first_option-parts : (bytes option behind : List ℕ) → first_option bytes
     → let len = 8 * slice_index bytes 1 in (0 < len) × (len ≤ length bytes) × (option ≡ take len bytes) × (behind ≡ drop len bytes)
 first_option-parts bytes option behind is = grind (arith, nat_tests)
 
--- the bytes behind it are fewer
+-- the bytes after it are fewer
 pub first_option-shorter : (bytes option behind : List ℕ) → first_option bytes ≡ Some (option, behind) → length behind < length bytes
 first_option-shorter bytes option behind is =
     let (some, whole, front, rest) = first_option-parts bytes option behind is in
@@ -37,7 +37,7 @@ within-enough (suc n) (suc m) (b ∷ bs) p q = by_first (λ behind. within-enoug
         let less = first_option-shorter (b ∷ bs) option behind is in
         ap (option_map (λ options. option ∷ options)) (same behind (omega (arith, less, p)) (omega (arith, less, q)))
 
--- the options are the first one and those behind it
+-- the options are the first one and those after it
 pub options_of-step : (b : ℕ) (bs : List ℕ) → options_of (b ∷ bs) ≡ option_and_then (λ d. option_map (λ options. d.0 ∷ options) (options_of d.1)) (first_option (b ∷ bs))
 unfolding options_within
 options_of-step b bs = by_first (first_option (b ∷ bs)) refl
@@ -72,7 +72,7 @@ skipped found type rest option behind is other = by (options_of behind) refl fou
     by (Some options) e None = rw (options_of-first rest option behind is, e) (grind (arith, nat_tests))
     by (Some options) e (Some a) = rw (options_of-first rest option behind is, e) refl
 
--- behind the first option of the type each option is skipped
+-- after the first option of the type each option is skipped
 pub passed : (found : Option EthernetAddress) (type : ℕ) (rest option behind : List ℕ) → first_option rest ≡ Some (option, behind)
     → is_none found ≡ false → from_here found type rest ≡ from_here found type behind
 passed None type rest option behind is some = absurd (cc)

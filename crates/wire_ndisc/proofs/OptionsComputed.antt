@@ -11,7 +11,7 @@ use Rattle.wire_addr.specs.declared.ethernet_address.EthernetAddress.{EthernetAd
 use Rattle.wire_ndisc.proofs.Options.{first_option-parts, options_of-first}
 use Rattle.wire_ndisc.specs.NdOption.{AreOptions, HasLladdr, IsLladdr, IsNdOption, first_of, first_option, lladdr_in, lladdr_of, options_of, options_within}
 
--- what is found first is an option, and the bytes are it and those behind it
+-- what is found first is an option, and the bytes are it and those after it
 first_option-is : (bytes option behind : List ℕ) → first_option bytes ≡ Some (option, behind) → IsNdOption option × (bytes ≡ option ++ behind)
 first_option-is bytes option behind is =
     let (some, whole, front, rest) = first_option-parts bytes option behind is in

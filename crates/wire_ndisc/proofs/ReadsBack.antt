@@ -86,7 +86,7 @@ message-code : (v : NdiscRepr) (checksum : ℕ) → field (message_with (header_
 message-code (NeighborSolicit target lladdr) checksum = refl
 message-code (NeighborAdvert flags target lladdr) checksum = refl
 
--- an option with an address, alone
+-- only an option with an address
 option-lladdr : (type : ℕ) (lladdr : Option EthernetAddress) → ((address : EthernetAddress) → lladdr ≡ Some address → length address.0 ≡ 6)
     → HasLladdr (option_bytes type lladdr) type lladdr
 option-lladdr type None long = ([], record { each = tt; joined = refl }, refl)

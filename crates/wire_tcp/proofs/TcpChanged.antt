@@ -22,7 +22,7 @@ use Rattle.wire_tcp.specs.TcpRepr.{HasControl, HasFlags, IsQuiet, Reads, TcpHead
 
 -- ---- one value that changes
 
--- the new bytes have the same lengths, the same bytes behind the fixed header, and values that f makes of the old ones
+-- the new bytes have the same lengths, the same bytes after the fixed header, and values that f makes of the old ones
 pub record Sets (old new : List ℕ) (f : TcpHeader → TcpHeader) : Type 0 where
   pub long : length new ≡ length old
   pub header : header_len new ≡ header_len old
@@ -198,7 +198,7 @@ reads-fin bytes on src dst v payload before r =
 
 -- ---- what is in no value
 
--- the checksum, which alone depends on the addresses
+-- the checksum: nothing else depends on the addresses
 pub reads-checksum : (bytes : List ℕ) (x : ℕ) (src dst src' dst' : IpAddress) (verified checked : Bool) (v : TcpHeader) (payload : List ℕ) → Reads bytes src dst verified v payload
     → (IsTrue checked → Verifies src' dst' (with_field bytes 128 16 x)) → Reads (with_field bytes 128 16 x) src' dst' checked v payload
 reads-checksum bytes x src dst src' dst' verified checked v payload r valid =

@@ -32,7 +32,7 @@ texts-ranges v p a n =
     let some : eqb (count_by is_some v.sack_ranges) 0 ≡ false = false_from_ne_true _ (λ y. n (eqb-true _ 0 y)) in
     rw (p, not_none v.ack_number a, some, append-nil, length-range_bytes v.sack_ranges) refl
 
--- the length of the SACK option in octets, if ranges are emitted
+-- the length of the SACK option in bytes, if ranges are emitted
 pub length-ranges : (v : TcpHeader) → v.sack_permitted ≡ false → is_some v.ack_number ≡ true → count_by is_some v.sack_ranges ≢ 0
     → length (texts (sack_items v)) ≡ 2 + 8 * count_by is_some v.sack_ranges
 length-ranges v p a n =
@@ -76,7 +76,7 @@ texts_joined a b c d =
     flat_map-append text (a ++ b ++ c) d
     ∙ ap (λ (l : List ℕ). l ++ texts d) (flat_map-append text (a ++ b) c ∙ ap (λ (l : List ℕ). l ++ texts c) (flat_map-append text a b))
 
--- with the zeros behind them they fill the header
+-- with the zeros after them they fill the header
 pub length-option_bytes : (v : TcpHeader) → 20 + length (option_bytes v) ≡ header_len_of v
 length-option_bytes v =
     let joined = simp length-append at (ap length (texts_joined (segment_size_items v.max_seg_size) (window_scale_items v.window_scale) (sack_items v) (timestamp_items v.timestamp))) in
@@ -87,7 +87,7 @@ length-option_bytes v =
 pub length-header_bytes : (v : TcpHeader) (checksum : ℕ) → length (header_bytes v checksum) ≡ header_len_of v
 length-header_bytes v checksum = omega (arith, length-option_bytes v)
 
--- ---- parts that are written one behind the other
+-- ---- parts that are written one after the other
 
 -- one borrow after another
 pub holds_then : (a b c : MutBor (List ℕ)) (x y z : List ℕ) → Holds a b x → Holds b c y → y ≡ z → Holds a c z
@@ -97,7 +97,7 @@ holds_then a b c x y z h k e = record {
   holds = k.holds ∙ e;
 }
 
--- a part behind a front that is already written
+-- a part after a front that is already written
 pub part_behind : (old b front part : List ℕ) (at end : ℕ) → b ≡ front ++ drop at old → at ≡ length front → end ≡ at + length part
     → with_range b at end part ≡ (front ++ part) ++ drop end old
 part_behind old b front part at end is place long =

@@ -104,7 +104,7 @@ len_if-most : (b : Bool) (n : ℕ) → len_if b n ≤ n
 len_if-most true n = omega arith
 len_if-most false n = omega arith
 
--- a value without SACK ranges has a header of at most 40 octets
+-- a value without SACK ranges has a header of at most 40 bytes
 pub header_len-no_ranges : (v : TcpHeader) → v.sack_ranges ≡ no_ranges → header_len_of v ≤ 40
 header_len-no_ranges v none =
     let sack : sack_len (count_by is_some v.sack_ranges) ≡ 0 = ap (λ (rs : List (Option (ℕ × ℕ))). sack_len (count_by is_some rs)) none in

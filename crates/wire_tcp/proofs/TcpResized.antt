@@ -26,7 +26,7 @@ use Rattle.wire_tcp_parts.specs.TcpPlace.{segment_size_at}
 use Rattle.wire_tcp_parts.specs.TcpSummary.{HasNoList}
 use Rattle.wire_tcp_parts.specs.declared.tcp.control.TcpControl.{TcpControl}
 
--- ---- other octets in the options
+-- ---- other bytes in the options
 
 options_long : (bytes : List ℕ) → 20 ≤ header_len bytes → header_len bytes ≤ length bytes → length (options_of bytes) ≡ header_len bytes - 20
 options_long bytes begins ends = length-take-le (header_len bytes - 20) (drop 20 bytes) (omega (arith, length-drop 20 bytes, begins, ends))
@@ -40,7 +40,7 @@ record SameFixed (old new : List ℕ) : Type 0 where
 same_fixed : (front old new : List ℕ) → length front ≡ 20 → SameFixed (front ++ old) (front ++ new)
 same_fixed front old new long = subst (λ (f : List ℕ). SameFixed (f ++ old) (f ++ new)) (sym (cells-all 20 front long)) (record { header = refl; flags = refl; values = λ asked items. refl })
 
--- the bytes with other octets in the options
+-- the segment with other bytes in the options
 record Replaced (bytes new options : List ℕ) : Type 0 where
   same : SameFixed bytes new
   long : length new ≡ length bytes
@@ -48,7 +48,7 @@ record Replaced (bytes new options : List ℕ) : Type 0 where
   payload_is : payload_of new ≡ payload_of bytes
   is : new ≡ with_range bytes 20 (header_len bytes) options
 
--- the options of the bytes after two of their octets were replaced
+-- the options after two of their bytes were replaced
 replaced : (bytes part : List ℕ) (i : ℕ) → 20 ≤ header_len bytes → header_len bytes ≤ length bytes → length part ≡ 2 → i + 2 ≤ length (options_of bytes)
     → Replaced bytes (with_range bytes (20 + i) (20 + i + 2) part) (with_range (options_of bytes) i (i + 2) part)
 replaced bytes part i begins ends two inside =
@@ -147,7 +147,7 @@ place_found options at listed malformed = by (items_in options) refl
     by (Some items) e = let (tail, list) = (items_in-list options items).0 e in ap (option_map (λ n. 20 + n)) (listed items tail list)
     by None e = ap (option_map (λ n. 20 + n)) (malformed (λ items tail list. let some = sym e ∙ (items_in-list options items).1 (tail, list) in absurd (cc)))
 
--- the items whose size stands at an index
+-- the items whose size is at an index
 record Found (bytes : List ℕ) (at : ℕ) : Type 0 where
   items : List Item
   i : ℕ
@@ -169,7 +169,7 @@ two_in_front [] rest some = absurd (omega arith)
 two_in_front (a ∷ []) rest some = absurd (omega arith)
 two_in_front (a ∷ b ∷ l) rest some = refl
 
--- the two octets at the index are the size
+-- the two bytes at the index are the size
 pub size_found : (bytes : List ℕ) (at : ℕ) → 20 ≤ header_len bytes → header_len bytes ≤ length bytes → max_seg_size_at bytes ≡ Some at → Some (big_number 2 (drop at bytes)) ≡ max_seg_size_of bytes
 size_found bytes at begins ends e =
     let f = found bytes at e in

@@ -93,7 +93,7 @@ pub one_more : (bytes : List ℕ) (xs : List Item) (i : Item) (r s : List ℕ) �
 one_more bytes xs i r s w is e =
     walk_on text IsItem bytes xs (i ∷ []) r s w (record { each = (is, tt); joined_is = e ∙ ap (λ (l : List ℕ). l ++ s) (sym (append-nil (text i))) })
 
--- the bytes behind an item are fewer
+-- the bytes after an item are fewer
 pub shorter : (i : Item) (bytes rest : List ℕ) → bytes ≡ text i ++ rest → length rest < length bytes
 shorter i bytes rest e =
     let h = text_head i in

@@ -26,7 +26,7 @@ one_mark a b h k (x ∷ f) (y ∷ g) r s df dg e = one_mark a b h k f g r s df.1
 pub same_mark : (a b : ℕ) (text : List ℕ) → 16 ≤ digit_value a → 16 ≤ digit_value b → IsFirstMark a text → IsFirstMark b text → a ≡ b
 same_mark a b text h k m n = one_mark a b h k m.front n.front m.rest n.rest m.digits n.digits (sym m.spelled ∙ n.spelled)
 
--- the text behind that byte can be replaced
+-- the text after that byte can be replaced
 pub mark_before : (mark : ℕ) (text more : List ℕ) → IsFirstMark mark text → IsFirstMark mark (text ++ more)
 mark_before mark text more m = record {
   front = m.front;

@@ -33,7 +33,7 @@ module _ (mark places most : ℕ) (apart : 10 ≤ digit_value mark) where
       let digit = digit_at h.digits j h.number.digits.1 (omega (arith, length_is text front n h)) in
       omega (arith, digit, ap digit_value (sym read ∙ same))
 
-  --   if no mark follows a mark, the number starts behind it
+  --   if no mark follows a mark, the number starts after it
   front_ends : (text front : List ℕ) (n at : ℕ) → EndsInNumber mark places most text front n → at < length text → get_or text at 0 ≡ mark → ((k : ℕ) → at < k → k < length text → get_or text k 0 ≢ mark) → length front ≡ at
   front_ends text front n at h within here last =
       let inside : length front < length text = omega (arith, length_is text front n h) in
@@ -92,7 +92,7 @@ module _ (mark places most : ℕ) (apart : 10 ≤ digit_value mark) where
     number = number;
   }
 
--- a printed number behind a mark is such an ending
+-- a printed number after a mark is such an ending
 pub ends_printed : (mark places most n : ℕ) (front : List ℕ) → 0 < places → most < 10 ^ places → most < 2 ^ 64 → n ≤ most → EndsInNumber mark places most (front ++ mark ∷ decimal n) front n
 ends_printed mark places most n front some wide small fits =
     let low : n < 2 ^ 64 = omega arith in

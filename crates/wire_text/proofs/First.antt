@@ -138,7 +138,7 @@ module _ {radix places : ℕ} {text : List ℕ} {value count : ℕ} (first : IsF
         read = (front_piece mark apart most (omega arith) fits, refl);
       }
 
-  -- no first piece is a number: no digit, a value that is too large, or another byte behind the digits
+  -- no first piece is a number: no digit, a value that is too large, or another byte after the digits
   pub no_piece : (mark : ℕ) → radix ≤ digit_value mark → (most : ℕ) → ((count ≡ 0) ⊎ ((most < value) ⊎ (¬ (IsBehind mark (drop count text))))) → FirstPiece mark radix places most text None
   no_piece mark apart most why = by (pieces_of mark text) refl
     where

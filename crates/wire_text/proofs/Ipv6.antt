@@ -123,7 +123,7 @@ no_number text none = by (group_of text) refl
     by None e = e
     by (Some g) e = absurd (none g (number_sound 16 4 0xffff text g e))
 
--- four octets joined by dots are one piece, and no group
+-- four bytes joined by dots are one piece, and no group
 pub dotted_by : (text : List ℕ) (pieces : List (List ℕ)) (octets : List ℕ) → EachReads (IsNumber 10 3 255) pieces octets → text ≡ join_with_byte 46 pieces → length octets ≡ 4 → IsPiece 58 text × (group_of text ≡ None) × (0 < length text)
 dotted_by text [] octets each e four = absurd (omega (arith, EachReads-length 10 3 255 [] octets each))
 dotted_by text (piece ∷ []) octets each e four = absurd (omega (arith, EachReads-length 10 3 255 (piece ∷ []) octets each))
@@ -206,7 +206,7 @@ test_passed : {A : Type 0} (b : Bool) (o : Option A) (x : A) → cond b o None �
 test_passed true o x e = (refl, e)
 test_passed false o x e = absurd (none-some x e)
 
--- the pieces begin with groups, and parsing continues behind them
+-- the pieces begin with groups, and parsing continues after them
 record Front (before : Option ℕ) (seen : List ℕ) (pieces : List (List ℕ)) (groups : List ℕ) : Type 0 where
   front : List (List ℕ)
   more : List ℕ
@@ -264,7 +264,7 @@ at_stop before seen (c ∷ piece) pieces groups e none =
     let test : length (c ∷ piece) ≢ 0 = omega arith in
     inr (rw (ne_eqb (length (c ∷ piece)) 0 test, none) at e)
 
--- a dotted part is the last piece, behind the prefix
+-- a dotted part is the last piece, after the prefix
 at_dotted : (before : Option ℕ) (seen piece : List ℕ) (pieces : List (List ℕ)) (groups : List ℕ) → dotted_end before seen piece pieces ≡ Some groups → (pieces ≡ []) × (may_end_dotted before seen ≡ true) × ((octets : List ℕ) × IsDotted piece octets × (groups ≡ mapped_groups ++ groups_of octets))
 unfolding mapped_read
 at_dotted before seen piece (next ∷ pieces) groups e = absurd (none-some groups e)
@@ -407,7 +407,7 @@ elided_mapped_sound text front head back tail piece pieces groups tail_text head
       value = value;
     }
 
--- behind `::`
+-- after `::`
 behind_sound : (text : List ℕ) (front : List (List ℕ)) (head : List ℕ) (pieces : List (List ℕ)) (groups tail_text : List ℕ) → EachReads IsGroup front head → text ≡ join_with_byte 58 front ++ 58 ∷ 58 ∷ tail_text → tail_text ≡ join_with_byte 58 pieces → (f : Front (Some (length head)) head pieces groups) → (rest : List (List ℕ)) → f.rest ≡ rest → IsIpv6Text text groups
 unfolding groups_from
 behind_sound text front head pieces groups tail_text heads shown joined f [] e =

@@ -88,12 +88,12 @@ one_more mark radix places most n front read rest after more e is first =
 pub no_more : (mark radix places most : ℕ) (front : List ℕ) (read : Option (List ℕ)) (rest : Option (Bor (List ℕ))) (more : Bor (List ℕ)) → read ≡ with_front front (numbers_of radix places most (pieces_after mark rest)) → rest ≡ Some more → FirstPiece mark radix places most more.now None → read ≡ None
 no_more mark radix places most front read rest more e is first = e ∙ rw (is, first.cut, first.read) refl
 
--- four octets joined by dots
+-- four bytes joined by dots
 pub octets_complete : (text octets : List ℕ) → IsDotted text octets → octets_read text ≡ Some octets
 unfolding octets_read
 octets_complete text octets h = rw (joined_complete 10 3 255 46 text octets (lit≤ tt) (omega (arith, h.1)) h.0, h.1)
 
--- an accepted text is four octets joined by dots
+-- an accepted text is four bytes joined by dots
 pub octets_sound : (text octets : List ℕ) → octets_read text ≡ Some octets → IsDotted text octets
 unfolding octets_read
 octets_sound text octets e =
@@ -101,12 +101,12 @@ octets_sound text octets e =
     let (four, same) = cond_some _ _ _ kept in
     (joined_sound 10 3 255 46 text octets (read ∙ ap Some same), rw (← same) (eqb-true _ _ four))
 
--- six octets in hex
+-- six bytes in hex
 pub hex_octets_complete : (mark : ℕ) (text octets : List ℕ) → 16 ≤ digit_value mark → IsHexOctets mark text octets → hex_octets_read mark text ≡ Some octets
 unfolding hex_octets_read
 hex_octets_complete mark text octets other h = rw (joined_complete 16 2 255 mark text octets other (omega (arith, h.1)) h.0, h.1)
 
--- an accepted text is six octets in hex joined by the mark
+-- an accepted text is six bytes in hex joined by the mark
 pub hex_octets_sound : (mark : ℕ) (text octets : List ℕ) → hex_octets_read mark text ≡ Some octets → IsHexOctets mark text octets
 unfolding hex_octets_read
 hex_octets_sound mark text octets e =

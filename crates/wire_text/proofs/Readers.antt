@@ -14,7 +14,7 @@ reads : {A : Type 0} (R : List ℕ → A → Type 0) (f : List ℕ → Option A)
 reads R f complete sound text None e = λ x h. none-some x (e ∙ complete text x h)
 reads R f complete sound text (Some x) e = sound text x (sym e)
 
--- the computed octets are those of the grammar
+-- the computed bytes are those of the grammar
 pub reads_octets : (text : List ℕ) (r : Option (List ℕ)) → r ≡ octets_read text → Reads IsDotted text r
 reads_octets = reads IsDotted octets_read octets_complete octets_sound
 
@@ -22,13 +22,13 @@ reads_octets = reads IsDotted octets_read octets_complete octets_sound
 pub reads_groups : (text : List ℕ) (r : Option (List ℕ)) → r ≡ groups_read text → Reads IsIpv6Text text r
 reads_groups = reads IsIpv6Text groups_read groups_complete groups_sound
 
--- the computed hex octets are those of the grammar
+-- the computed hex bytes are those of the grammar
 pub reads_hex_octets : (mark : ℕ) → 16 ≤ digit_value mark → (text : List ℕ) (r : Option (List ℕ)) → r ≡ hex_octets_read mark text → Reads (IsHexOctets mark) text r
 reads_hex_octets mark apart = reads (IsHexOctets mark) (hex_octets_read mark) (λ text octets h. hex_octets_complete mark text octets apart h) (hex_octets_sound mark)
 
 -- ---- the grammar is unambiguous
 
--- a text is at most one list of four octets
+-- a text is at most one list of four bytes
 pub octets_once : (text octets others : List ℕ) → IsDotted text octets → IsDotted text others → octets ≡ others
 octets_once text octets others h k = same_Some _ _ (sym (octets_complete text octets h) ∙ octets_complete text others k)
 

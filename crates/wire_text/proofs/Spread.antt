@@ -34,7 +34,7 @@ module _ (groups : List ℕ) (len before i : ℕ) (few : len ≤ 8) (within : be
       ∙ get_or-append_right (take before seen) (replicate (8 - length seen) 0) before i 0 length-head past
       ∙ get_or-replicate (8 - length seen) (i - before) 0 0 (omega (arith, length-seen)))
 
-  -- a group behind the zeros
+  -- a group after the zeros
   pub spread-tail : before + (8 - len) ≤ i → i < 8 → get_or groups (i - (8 - len)) 0 ≡ get_or (spread before seen) i 0
   spread-tail past inside =
       let place : before + (i - (before + (8 - len))) ≡ i - (8 - len) = omega arith in

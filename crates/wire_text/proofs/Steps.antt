@@ -25,12 +25,12 @@ counted count (Some ns) values false filled len = elim (cases_eq (length ns) cou
   | inr other ↦ rw (ne_eqb (length ns) count other) refl
 ]
 
--- the filled array is the four octets of the text
+-- the filled array is the four bytes of the text
 pub four_octets : (text values : List ℕ) (done : Bool) (r : Option (List ℕ)) → FilledFrom (numbers_of 10 3 255 (pieces_of 46 text)) values done → length values ≡ 4 → r ≡ then_some done values → r ≡ octets_read text
 unfolding octets_read
 four_octets text values done r filled len e = e ∙ counted 4 _ values done filled len
 
--- the filled array is the six octets of the text
+-- the filled array is the six bytes of the text
 pub six_octets : (mark : ℕ) (text values : List ℕ) (done : Bool) (r : Option (List ℕ)) → FilledFrom (numbers_of 16 2 255 (pieces_of mark text)) values done → length values ≡ 6 → r ≡ then_some done values → r ≡ hex_octets_read mark text
 unfolding hex_octets_read
 six_octets mark text values done r filled len e = e ∙ counted 6 _ values done filled len
@@ -186,7 +186,7 @@ module _ {read : Option (List ℕ)} (before : Option ℕ) (seen : List ℕ) {res
         at_pieces ([] ∷ pieces_of 58 behind.now) cut ∙ at_empty before seen [] (pieces_of 58 behind.now) refl
         ∙ ap (λ b. behind_elision b seen (pieces_of 58 behind.now) (groups_from (Some (length seen)) seen (pieces_of 58 behind.now))) none
 
-    -- behind `::` the loop continues, unless the text ends
+    -- after `::` the loop continues, unless the text ends
     pub elided : (empty : Bool) → empty ≡ (length behind.now == 0) → read ≡ groups_from (Some (length seen)) seen (pieces_after 58 (then_some (not empty) behind))
     elided true e = at_elision ∙ behind_end seen behind.now _ (eqb-true _ _ (sym e)) ∙ sym (at_end (Some (length seen)) seen)
     elided false e = at_elision ∙ behind_later seen behind.now _ (eqb-false _ _ (sym e))

@@ -27,7 +27,7 @@ ipv6_texts =
     ∷ codes "1:2:3:4:5:6:7" ∷ codes "1:2:3:4:5:6:7:8:" ∷ codes "1:2:3:4:5:6:7:8:9" ∷ codes "1:2:3::4:5:6:7:8"
     -- groups of five digits
     ∷ codes "10000::" ∷ codes "12345::" ∷ codes "00001::" ∷ codes "::0ffff"
-    -- dotted octets behind other groups, behind five zeros and before a group
+    -- a dotted part after other groups, after five zeros and before a group
     ∷ codes "::1.2.3.4" ∷ codes "::ffff:0:1.2.3.4" ∷ codes "0:0:0:0:0::ffff:1.2.3.4" ∷ codes "::ffff:1.2.3.4:5" ∷ []
 
 no-ipv6 : All (HasNoValue IsIpv6Text) ipv6_texts
@@ -37,7 +37,7 @@ no-ipv6 = each IsIpv6Text (λ text. is_none (groups_read text)) (no_value IsIpv6
 abbrev ipv4_texts : List (List ℕ)
 ipv4_texts =
     codes "" ∷ codes "1.2.3" ∷ codes "1.2.3.4.5" ∷ codes "1.2.3.4." ∷ codes "1..3.4" ∷ codes " 1.2.3.4"
-    -- an octet of four digits, and one above 255
+    -- a byte of four digits, and one above 255
     ∷ codes "0001.2.3.4" ∷ codes "256.0.0.0" ∷ []
 
 no-ipv4 : All (HasNoValue IsDotted) ipv4_texts

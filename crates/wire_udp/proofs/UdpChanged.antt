@@ -7,7 +7,7 @@ use Rattle.wire_udp.proofs.UdpComputed.{Reads-is}
 use Rattle.wire_udp.specs.Udp.{HasChecksum, Reads, header_of, packet_len}
 use Rattle.wire_udp.specs.declared.udp.repr.UdpRepr.{UdpRepr}
 
--- the new bytes have the same lengths, the same bytes behind the header, and values that f makes of the old ones
+-- the new bytes have the same lengths, the same bytes after the header, and values that f makes of the old ones
 record Sets (old new : List ℕ) (f : UdpRepr → UdpRepr) : Type 0 where
   long : length new ≡ length old
   len : packet_len new ≡ packet_len old
@@ -51,7 +51,7 @@ reads-dst_port bytes x src dst verified checked v payload fits some r valid =
     (subst (λ (l : List ℕ). Sets l (with_field l 16 16 x) (λ h. record h { dst_port = x })) (sym (cells-drop 8 bytes r.lengths.least)) (record { long = refl; len = refl; behind = refl; values = grind arith }))
     valid some
 
--- the checksum is not part of the value, and it alone depends on the addresses
+-- the checksum is not part of the value, and nothing else depends on the addresses
 pub reads-checksum : (bytes : List ℕ) (x : ℕ) (src dst src' dst' : IpAddress) (verified checked : Bool) (v : UdpRepr) (payload : List ℕ) → Reads bytes src dst verified v payload
     → (IsTrue checked → HasChecksum src' dst' (with_field bytes 48 16 x)) → Reads (with_field bytes 48 16 x) src' dst' checked v payload
 reads-checksum bytes x src dst src' dst' verified checked v payload r valid =

@@ -41,7 +41,7 @@ lengths-with_checksum bytes x are room = (
   field-with_field_other bytes 48 16 x 32 16 are (omega arith) (omega arith) (omega (arith, room)) (inl (omega arith)),
 )
 
--- the new checksum stands in the total in place of the old one
+-- the new checksum replaces the old one in the total
 total-with_checksum : (src dst : IpAddress) (bytes : List ℕ) (x : ℕ) → AreBytes bytes → length (octets_of src) % 2 ≡ 0 → length (octets_of dst) % 2 ≡ 0 → x < 65536 → HasLengths bytes
     → total src dst (with_field bytes 48 16 x) + field bytes 48 16 ≡ total src dst bytes + x
 total-with_checksum src dst bytes x are s d fits h =

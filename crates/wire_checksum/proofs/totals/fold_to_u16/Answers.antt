@@ -2,6 +2,6 @@ use Rattle.std.proofs.Common.{arith}
 use Rattle.wire_checksum.proofs.Rounds.{folded, rotated_32}
 use Rattle.wire_checksum.proofs.totals.fold_to_u16.Goals as goal
 
--- about the value alone: it does not name a step of the body
+-- states only the value, and names no step of the body
 pub returns : goal.returns
 returns c = folded c.args.number _ (omega arith) (omega (arith, rotated_32))

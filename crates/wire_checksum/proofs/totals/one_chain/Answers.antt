@@ -15,7 +15,7 @@ loop-chunk-preserved c =
     let i = c.loop-chunk.chunk-index in
     record { so_far = chunk-added 32 (length bytes / 32) bytes c.as_chunks.result.0.now (256 * c.last_words-sum.result) i ((i + 1) * 32) c.loop-chunk.sum c.add_chunk-sum.result c.as_chunks.ensures.front (omega arith) (omega arith) (omega arith) (omega arith) c.add_chunk-sum.ensures c.loop-chunk.invariant.so_far }
 
--- the words behind the chunks and the chunks
+-- the words after the chunks and the chunks
 ended : (bytes rest : List ℕ) (k z p r : ℕ) → k ≡ length bytes / 32 → rest ≡ drop (length bytes / 32 * 32) bytes → residue (256 * p) ≡ residue (z + sum (words (take (length rest / 8 * 8) rest)))
     → residue (256 * r) ≡ residue (256 * p + sum (words (take (k * 32) bytes))) → residue (256 * r) ≡ residue (z + sum (words (take (length bytes / 8 * 8) bytes)))
 ended bytes rest k z p r all is a b =

@@ -13,7 +13,7 @@ use Rattle.wire_ipv6.proofs.laws.getters_read_fields_ipv6.Goals as goal
 by_sixteen : (xs : List ℕ) → from_be_bytes w128 xs ≡ big_number 16 xs
 by_sixteen xs = omega arith
 
--- the number that sixteen octets spell
+-- the big-endian number of sixteen bytes
 spelled : (xs : List ℕ) → length xs ≡ 16 → number_of xs ≡ big_number 16 xs
 spelled xs sixteen = sym (from_be_bytes_16 xs sixteen) ∙ by_sixteen xs
 

@@ -1,4 +1,4 @@
--- `payload_mut` lends what follows the header. Assumes `Logic`.
+-- `payload_mut` borrows the bytes after the header. Assumes `Logic`.
 use Rattle.wire_field.proofs.Views.{behind, lends_located}
 use Rattle.wire_ethernet.proofs.EthernetViewed.{view}
 use Rattle.wire_ethernet.proofs.ethernet.locate_payload.Symbol as locate

@@ -1,4 +1,4 @@
--- `payload_mut` lends what follows the header. Assumes `Logic`.
+-- `payload_mut` borrows the bytes after the header. Assumes `Logic`.
 use Rattle.wire_field.proofs.Views.{behind, lends_located}
 use Rattle.wire_icmp.proofs.IcmpViewed.{view}
 use Rattle.wire_icmp.proofs.icmp.packet_mut.locate_payload.Symbol as locate

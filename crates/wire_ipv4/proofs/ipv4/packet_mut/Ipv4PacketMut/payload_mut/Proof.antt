@@ -1,4 +1,4 @@
--- `payload_mut` lends what follows the header. Assumes `Logic`.
+-- `payload_mut` borrows the bytes after the header. Assumes `Logic`.
 use mathlib.Core.List.{[], ◌∷◌}
 use Prim.Native.Nat.{◌≤◌}
 use lib.ListN.{length}

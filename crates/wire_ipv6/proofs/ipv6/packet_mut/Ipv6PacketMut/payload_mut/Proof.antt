@@ -1,4 +1,4 @@
--- `payload_mut` borrows the bytes behind the header. Assumes `Logic`.
+-- `payload_mut` borrows the bytes after the header. Assumes `Logic`.
 use mathlib.Core.List.{[], ◌∷◌}
 use native.Mathlib.Omega.{arith}
 use Rattle.wire_field.proofs.Views.{Place, between, lends_located}

@@ -4,7 +4,7 @@ use Rattle.wire_ndisc.proofs.NdiscComputed.{value_of-advert, value_of-solicit}
 use Rattle.wire_ndisc.specs.NdOption.{lladdr_of}
 use Rattle.wire_ndisc.proofs.ndisc.repr.NdiscRepr.read_fields.Goals as goal
 
--- the options of the code are all bytes behind the target
+-- the options of the code are all bytes after the target
 behind : (bytes read : List ℕ) → read ≡ bytes → drop 24 bytes ≡ take (length read - 24) (drop 24 read)
 behind bytes read is = ap (drop 24) (sym is) ∙ sym (take_all (length read - 24) (drop 24 read) (omega (arith, length-drop 24 read)))
 

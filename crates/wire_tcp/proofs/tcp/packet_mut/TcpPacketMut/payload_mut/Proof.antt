@@ -1,4 +1,4 @@
--- `payload_mut` borrows the bytes behind the header. Assumes `Logic`.
+-- `payload_mut` borrows the bytes after the header. Assumes `Logic`.
 use mathlib.Core.Path.{sym, ap, ◌∙◌}
 use mathlib.Core.List.{List, [], ◌∷◌, ◌++◌}
 use Prim.Native.Nat.{ℕ, ◌≤◌}

@@ -5,7 +5,7 @@ use Rattle.wire_tcp.specs.Tcp.{packet_bytes_mut}
 use Rattle.wire_tcp.specs.TcpRepr.{bytes_of, header_len_of, header_of}
 use Rattle.wire_tcp.proofs.tcp.repr.TcpRepr.try_emit.Goals as goal
 
--- what is written into a part that it fills stands at the front of the slice, whatever follows it
+-- what is written into a part that it fills is at the front of the slice, whatever follows it
 filled : (bytes : List ℕ → List ℕ) (old front written rest : List ℕ) (len : ℕ) → len ≤ length old → front ≡ written
     → written ≡ bytes (drop len (take len old)) ++ drop len (take len old) → rest ≡ drop len old → front ++ rest ≡ bytes [] ++ drop len old
 filled bytes old front written rest len room is alone behind =

@@ -1,4 +1,4 @@
--- `emit` borrows the bytes behind the option. Assumes `Logic`.
+-- `emit` borrows the bytes after the option. Assumes `Logic`.
 use mathlib.Core.Path.{◌≡◌, refl, sym, ap, ◌∙◌}
 use Prim.Native.Nat.{ℕ, ◌+◌, ◌-◌, ◌≤◌}
 use native.Mathlib.Omega.{arith}
@@ -56,7 +56,7 @@ stayed = (
   (stay_dropped (SliceRefMutOf (2 ∷ []) tt (plain (λ κs. u8)) (λ κs. tt)) no, tt),
 )
 
--- the rest behind a front, and its bytes
+-- the rest after a front, and its bytes
 left_behind : (front behind bytes : List ℕ) (i j : ℕ) (w : List ℕ) → bytes ≡ front ++ behind → i ≡ length front → j ≡ length bytes → with_range bytes i j w ≡ front ++ w
 left_behind front behind bytes i j w holds start end =
     let head : take i bytes ≡ front = ap (take i) holds ∙ take_at front behind i (sym start) in

@@ -1,4 +1,4 @@
--- `payload_mut` borrows the bytes behind the header. Assumes `Logic`.
+-- `payload_mut` borrows the bytes after the header. Assumes `Logic`.
 use mathlib.Core.List.{[], ◌∷◌}
 use Rattle.wire_field.proofs.Views.{Place, between, lends_located}
 use Rattle.wire_udp.specs.Udp.{HasLengths, packet_len}
