@@ -16,7 +16,7 @@ use Rattle.ip_nat.specs.declared.nat.Side.TheVariants.{Source, Destination}
 abbrev pub header : ℕ → ℕ → ℕ → List ℕ → ℕ → List ℕ → List ℕ
 header n p q middle s rest = word p (word q (cells n middle ++ word s rest))
 
--- the checksum behind n bytes
+-- the checksum after n bytes
 abbrev pub checksum : ℕ → List ℕ → ℕ
 checksum n l = spelled (slice_index l (4 + n)) (slice_index l (5 + n))
 

@@ -50,7 +50,7 @@ pub past-front : (bytes part : List ℕ) (h n : ℕ) → 20 ≤ length bytes →
 past-front bytes part h n room least most =
     ap (λ (l : List ℕ). with_range l h n part) (sym (take-append-drop 20 bytes)) ∙ range-past (take 20 bytes) (drop 20 bytes) part h n (front-len bytes room) least most
 
--- replacing bytes behind the first twenty leaves the header unchanged
+-- replacing bytes after the first twenty leaves the header unchanged
 pub same-inner : (bytes part : List ℕ) (h n : ℕ) → 20 ≤ length bytes → 20 ≤ h → 20 ≤ n → SameHeader bytes (with_range bytes h n part)
 same-inner bytes part h n room least most =
     subst (λ (l : List ℕ). SameHeader bytes l) (sym (past-front bytes part h n room least most))

@@ -61,14 +61,14 @@ some-port Destination (segment v payload) port some = some
 some-port Destination (request ident seq_no payload) port some = tt
 some-port Destination (reply ident seq_no payload) port some = tt
 
--- a port that is refused is 0
+-- a port that is rejected is 0
 pub refused-zero : (frame : List ℕ) (side : Side) (port : ℕ) → RefusesPort frame side port → port ≡ 0
 refused-zero frame side port why = elim (cases_lt 0 port) [
   | inl some ↦ absurd (why.refused (some-port side why.transport port (λ zero. omega (arith, zero, some))))
   | inr none ↦ omega (arith, none)
 ]
 
--- no identifier of an echo message is refused
+-- no identifier of an echo message is rejected
 refused-kind : (side : Side) (t : Transport) (port : ℕ) → ¬ AllowsPort side t port → protocol_of (event_by (kind_of t)) ≢ Icmp
 refused-kind side (datagram v payload) port refuses is = cc
 refused-kind side (segment v payload) port refuses is = cc

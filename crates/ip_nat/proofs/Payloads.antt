@@ -26,7 +26,7 @@ range-from : (bytes part : List ℕ) (h n : ℕ) → h ≤ length bytes → drop
 range-from bytes part h n room =
     ap (drop h) (append_assoc (take h bytes) part (drop n bytes)) ∙ drop-front (take h bytes) (part ++ drop n bytes) h (length-take-le h bytes room)
 
--- the elements behind it
+-- the elements after it
 pub range-behind : (bytes part : List ℕ) (h n : ℕ) → h ≤ n → n ≤ length bytes → length part ≡ n - h → drop n (with_range bytes h n part) ≡ drop n bytes
 range-behind bytes part h n order room e =
     let front : length (take h bytes) ≡ h = length-take-le h bytes (omega arith) in
@@ -53,7 +53,7 @@ pub range-twice : (bytes part other : List ℕ) (h n : ℕ) → h ≤ n → n �
 range-twice bytes part other h n order room e =
     (λ i. (range-front bytes part h n (omega arith) i ++ other) ++ range-behind bytes part h n order room e i)
 
--- ---- behind a front of twenty bytes
+-- ---- after a front of twenty bytes
 
 take-past : (front rest : List ℕ) (h : ℕ) → length front ≡ 20 → 20 ≤ h → take h (front ++ rest) ≡ front ++ take (h - 20) rest
 take-past front rest h e least =
@@ -65,7 +65,7 @@ drop-past front rest h e least =
     let is : h ≡ length front + (h - 20) = omega arith in
     ap (λ (k : ℕ). drop k (front ++ rest)) is ∙ drop-append-add front rest (h - 20)
 
--- a part behind a front of twenty bytes is a part of the rest
+-- a part after a front of twenty bytes is a part of the rest
 pub range-past : (front rest part : List ℕ) (h n : ℕ) → length front ≡ 20 → 20 ≤ h → 20 ≤ n
     → with_range (front ++ rest) h n part ≡ front ++ with_range rest (h - 20) (n - 20) part
 range-past front rest part h n e least most =
@@ -75,7 +75,7 @@ range-past front rest part h n e least most =
 
 -- ---- a list that is split twice
 
--- a replaced part, as the bytes before it, the part and the bytes behind it
+-- a replaced part, as the bytes before it, the part and the bytes after it
 pub range-split : (bytes part : List ℕ) (h n : ℕ) → h ≤ n → take h bytes ++ (part ++ drop (n - h) (drop h bytes)) ≡ with_range bytes h n part
 range-split bytes part h n order =
     let e : h + (n - h) ≡ n = omega arith in

@@ -32,7 +32,7 @@ use Rattle.ip_nat.specs.declared.errors.Quoted.{Quoted}
 use Rattle.ip_nat.specs.declared.nat.Side.{Side}
 use Rattle.ip_nat.specs.declared.nat.Side.TheVariants.{Source, Destination}
 
--- ---- behind the header
+-- ---- after the header
 
 -- the port of a translated UDP packet
 pub udp-port : (side : Side) (l old new : List ℕ) (x : ℕ) → AreBytes l → 8 ≤ length l → x < 65536
@@ -60,7 +60,7 @@ tcp-port side l old new x are room xs =
     ∙ ap (λ (m : List ℕ). field m (port_bit side) 16) (ended tcp.with_updated_checksum updated side (with_both 12 side l) p s x old new ported (port-fits side l) ss)
     ∙ ported.get x _ xs
 
--- the port that was written to the first octets of a segment
+-- the port that was written to the first bytes of a segment
 written_cells : (side : Side) (l rest : List ℕ) (x : ℕ) → x < 65536 → field (with_field (cells 4 l ++ rest) (port_bit side) 16 x) (port_bit side) 16 ≡ x
 written_cells Source l rest x fits =
     let n = word_at (cells 4 l ++ rest) 0 16 in
@@ -91,7 +91,7 @@ identified l ident x room fits =
 
 -- ---- the protocol of a quoted packet
 
--- only an echo message depends on the octet behind the header
+-- only an echo message depends on the byte after the header
 pub flow-kept : (side : Side) (p : IpProtocol) (old new : ℕ) (q : Protocol) → (q ≡ flow.Icmp → new ≡ old) → flow_by side p old ≡ Some q → flow_by side p new ≡ Some q
 flow-kept side protocol.Udp old new q same is = is
 flow-kept side protocol.Tcp old new q same is = is
@@ -104,7 +104,7 @@ flow-kept side _ old new q same is = is
 
 -- ---- the header
 
--- the fields of a header that do not depend on what is behind it
+-- the fields of a header that do not depend on what follows it
 record SameQuote (old new : List ℕ) : Type 0 where
   version : field new 0 4 ≡ field old 0 4
   header : header_len new ≡ header_len old
@@ -115,7 +115,7 @@ same_front : (front rest rest' : List ℕ) → length front ≡ 20 → SameQuote
 same_front front rest rest' e =
     subst (λ (l : List ℕ). SameQuote (l ++ rest) (l ++ rest')) (sym (cells-all 20 front e)) (record { version = refl; header = refl; offset = refl; protocol = refl })
 
--- other bytes behind the header leave it as it is
+-- other bytes after the header leave it as it is
 same-header : (bytes part : List ℕ) (h : ℕ) → 20 ≤ h → h ≤ length bytes → SameQuote bytes (take h bytes ++ part)
 same-header bytes part h least room =
     let F = take 20 bytes in
@@ -140,7 +140,7 @@ same-offset side bytes addr room four =
     (subst (λ (l : List ℕ). P (l ++ drop 20 bytes) addr) (sym (cells-all 20 (take 20 bytes) (front-len bytes room)))
     (subst (λ (a : List ℕ). P (cells 20 (take 20 bytes) ++ drop 20 bytes) a) (sym (cells-all 4 addr four)) (offset_cells side (take 20 bytes) (drop 20 bytes) addr)))
 
--- and all bytes behind the first twenty
+-- and all bytes after the first twenty
 same-behind : (side : Side) (bytes addr : List ℕ) (h : ℕ) → 20 ≤ length bytes → 20 ≤ h → length addr ≡ 4 → drop h (with_address side addr bytes) ≡ drop h bytes
 same-behind side bytes addr h room least four =
     let e : h ≡ 20 + (h - 20) = omega (arith, least) in
@@ -175,7 +175,7 @@ inner-header bytes part e least room =
           ∙ ap sum_of_bytes (take_at (take h bytes) part h (length-take-le h bytes room));
     }
 
--- the quoted packet, once its address and the bytes behind its header are written
+-- the quoted packet, once its address and the bytes after its header are written
 pub requoted : (side : Side) (bytes part new addr : List ℕ) (port : ℕ) (p : Protocol) (q : Quoted) → length addr ≡ 4 → q.protocol ≡ p
     → new ≡ with_address side addr (inner_of bytes part) → length part ≡ length (behind bytes) → field part (end_bit p side) 16 ≡ port
     → (p ≡ flow.Icmp → field part 0 8 ≡ field (behind bytes) 0 8) → Quotes side bytes q → Quotes side new (quoting q addr port)
@@ -205,7 +205,7 @@ requoted side bytes part new addr port p q four named at e written type r =
 
 -- ---- the message
 
--- the type of a message and what is behind its header, once another part is behind it and the checksum is computed
+-- the type of a message and what follows its header, once another part follows it and the checksum is computed
 pub record IsMessage (old new part : List ℕ) : Type 0 where
   pub type : field new 0 8 ≡ field old 0 8
   pub behind : drop 8 new ≡ part

@@ -63,11 +63,11 @@ updated-back_twice c old new p q h o n ps qs =
 
 -- ---- one update of UDP's checksum, which is never 0
 
--- a UDP checksum updated from the sum old to the sum new, with 0xffff in place of 0
+-- a UDP checksum updated from the sum old to the sum new, with 0xffff instead of 0
 abbrev pub udp_updated : ℕ → ℕ → ℕ → ℕ
 udp_updated c old new = checksum_for (65535 - updated c old new)
 
--- 0xffff in place of 0
+-- 0xffff instead of 0
 pub udp-cases : (u : ℕ) → u ≤ 65535 → ((u ≡ 0) × (checksum_for (65535 - u) ≡ 65535)) ⊎ ((1 ≤ u) × (checksum_for (65535 - u) ≡ u))
 udp-cases u fits = elim (cases_lt 0 u) [
   | inl some ↦

@@ -52,7 +52,7 @@ ended-len v side old new port bytes (reply ident seq_no payload) are r =
 even : (a : List ℕ) → length a ≡ 4 → length a % 2 ≡ 0
 even a e = omega (arith, e)
 
--- the address on a side has four octets
+-- the address on a side has four bytes
 pub four-octets : (side : Side) (v : Ipv4Repr) → length v.src_addr ≡ 4 → length v.dst_addr ≡ 4 → length (addr_of side v) ≡ 4
 four-octets Source v src dst = src
 four-octets Destination v src dst = dst
@@ -240,7 +240,7 @@ unsummed bytes v t side addr port four are c =
           (is, (same_sum is).1 (ap (λ (l : List ℕ). field l 48 16) (sym payload) ∙ lacks.1)),
     )
 
--- writing a translated packet behind the Ethernet header gives the translated frame
+-- writing a translated packet after the Ethernet header gives the translated frame
 pub translates : (frame new body : List ℕ) (link : EthernetRepr) (v : Ipv4Repr) (t : Transport) (side : Side) (addr : List ℕ) (port : ℕ)
     → length addr ≡ 4 → AreBytes frame → Carries frame link v t → CarriesPorts body (with_addr side addr v) (with_port side port t)
     → body ≡ translated_packet side addr port (drop 14 frame) → new ≡ take 14 frame ++ body → IsTranslated frame new side addr port
@@ -289,7 +289,7 @@ pub untranslated : (frame : List ℕ) (side : Side) (port : ℕ) (reason : Rejec
 untranslated frame side port ZeroPort why = let other : ZeroPort ≡ NotIpv4 = why.short (λ link is. (why.whole link is).2) in absurd (cc)
 untranslated frame side port _ why = why
 
--- a frame whose port is refused is not translated
+-- a frame whose port is rejected is not translated
 pub refused : {T : Type 0} (answer : Result T Rejection) (frame : List ℕ) (side : Side) (port : ℕ) → IfErr answer (λ reason. reason ≡ ZeroPort)
     → IfErr answer (λ _. RefusesPort frame side port) → IfErr answer (IsUntranslated frame side port)
 refused (Ok v) frame side port is why = tt

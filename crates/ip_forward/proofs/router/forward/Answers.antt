@@ -7,7 +7,7 @@ use Rattle.ip_wire.specs.Field.{with_range}
 use Rattle.ip_wire.specs.Ip.{hop_limit_of}
 use Rattle.ip_forward.proofs.router.forward.Goals as goal
 
--- the bytes behind the header
+-- the bytes after the header
 tail : (frame : List ℕ) → take (length frame - 14) (drop 14 frame) ≡ drop 14 frame
 tail frame = take_all (length frame - 14) (drop 14 frame) (omega (arith, length-drop 14 frame))
 

@@ -10,7 +10,7 @@ use Rattle.ip_wire.specs.Types.{Ipv4}
 use Rattle.ip_wire.specs.declared.IpProtocol.TheVariants as protocol
 use Rattle.ip_nat.proofs.errors.IcmpError.parse.Goals as goal
 
--- the bytes behind the header
+-- the bytes after the header
 tail : (frame : List ℕ) → take (length frame - 14) (drop 14 frame) ≡ drop 14 frame
 tail frame = take_all (length frame - 14) (drop 14 frame) (omega (arith, length-drop 14 frame))
 

@@ -5,7 +5,7 @@ use Rattle.ip_nat.specs.Nat.{CarriesPorts, Describes, IsRejectedPacket, Transpor
 use Rattle.ip_wire.specs.Ethernet.{frame_bytes}
 use Rattle.ip_nat.proofs.packet.Packet.parse.Goals as goal
 
--- the bytes behind the header
+-- the bytes after the header
 tail : (frame : List ℕ) → take (length frame - 14) (drop 14 frame) ≡ drop 14 frame
 tail frame = take_all (length frame - 14) (drop 14 frame) (omega (arith, length-drop 14 frame))
 
