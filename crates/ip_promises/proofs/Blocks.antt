@@ -1,4 +1,4 @@
--- Blocks, masked addresses, and addresses that begin with the octets of another.
+-- Blocks, masked addresses, and addresses that begin with the bytes of another.
 use Rattle.std.proofs.Common.{◌≡◌, ◌↔◌, ◌++◌, ◌+◌, ◌*◌, ◌/◌, ◌%◌, ◌-◌, ◌<◌, ◌≤◌, ◌∙◌, ℕ, inl, inr, eqb, [], ◌∷◌, Bool, IsTrue, List, length, take, get_or, length-append, refl, sym, ap, subst, arith}
 use Rattle.std.proofs.Math.ListN.{get_or-append}
 use Rattle.std.proofs.lemmas.Bool.{cases_Bool, eqb-true}
@@ -38,7 +38,7 @@ no_block (Ok block) n addr mask none is made =
     let no : ⊥ = omega (arith, one_bit, zero_bit) in
     absurd no
 
--- octets that begin with m octets of others have their first bits
+-- bytes that begin with m bytes of others have their first bits
 pub agree_front : (m : ℕ) (xs ys : List ℕ) → m ≤ length xs → AgreeFirst (8 * m) xs (take m xs ++ ys)
 agree_front m xs ys len k h = ap (λ octet. bit_at octet (7 - k % 8)) (front (k / 8) (omega arith))
   where

@@ -1,4 +1,4 @@
--- Octets, the groups that they make up, and their bits.
+-- Bytes, the groups that they make up, and their bits.
 use Rattle.std.proofs.Common.{◌≡◌, ◌+◌, ◌-◌, ◌*◌, ◌/◌, ◌%◌, ◌<◌, ◌^◌, ◌∙◌, ℕ, suc, List, [], ◌∷◌, ◌++◌, length, get_or, refl, sym, ap, arith}
 use Rattle.std.proofs.lemmas.Nat.Bits.{and_pow}
 use Rattle.std.proofs.lemmas.Slice.Eq.{text_from_reads}
@@ -14,17 +14,17 @@ six_items : (octets : List ℕ) → length octets ≡ 6
     → octets ≡ get_or octets 0 0 ∷ get_or octets 1 0 ∷ get_or octets 2 0 ∷ get_or octets 3 0 ∷ get_or octets 4 0 ∷ get_or octets 5 0 ∷ []
 six_items octets six = text_from_reads octets _ six (refl, (refl, (refl, (refl, (refl, (refl, tt))))))
 
--- the octet with its second bit inverted
+-- the byte with its second bit inverted
 pub xor_local : (octet : ℕ) → bit_xor octet 2 ≡ with_local_inverted octet
 xor_local octet = omega (arith, xor_add_and octet 2, and_pow octet 1)
 
--- the octets before the middle, the first aside, and behind it
+-- the bytes before the middle, except the first, and after it
 pub middle_of_six : (octets : List ℕ) → length octets ≡ 6
     → slice_range octets 1 3 ++ 0xff ∷ 0xfe ∷ slice_range octets 3 6
     ≡ get_or octets 1 0 ∷ get_or octets 2 0 ∷ 0xff ∷ 0xfe ∷ get_or octets 3 0 ∷ get_or octets 4 0 ∷ get_or octets 5 0 ∷ []
 middle_of_six octets six = ap (λ xs. slice_range xs 1 3 ++ 0xff ∷ 0xfe ∷ slice_range xs 3 6) (six_items octets six)
 
--- the groups of the octets of some groups are these groups
+-- the groups of the bytes of some groups are these groups
 pub groups_back : (groups : List ℕ) → groups_of (octets_of groups) ≡ groups
 groups_back [] = refl
 groups_back (g ∷ groups) =
@@ -36,7 +36,7 @@ eight_items : (g : List ℕ) → length g ≡ 8
     → g ≡ get_or g 0 0 ∷ get_or g 1 0 ∷ get_or g 2 0 ∷ get_or g 3 0 ∷ get_or g 4 0 ∷ get_or g 5 0 ∷ get_or g 6 0 ∷ get_or g 7 0 ∷ []
 eight_items g eight = text_from_reads g _ eight (refl, (refl, (refl, (refl, (refl, (refl, (refl, (refl, tt))))))))
 
--- the octets of eight groups, taken one by one
+-- the bytes of eight groups, taken one by one
 pub eight_groups : (g : List ℕ) → length g ≡ 8
     → octets_of (get_or g 0 0 ∷ get_or g 1 0 ∷ get_or g 2 0 ∷ get_or g 3 0 ∷ get_or g 4 0 ∷ get_or g 5 0 ∷ get_or g 6 0 ∷ get_or g 7 0 ∷ []) ≡ octets_of g
 eight_groups g eight = sym (ap octets_of (eight_items g eight))
@@ -46,11 +46,11 @@ sixteen_items : (o : List ℕ) → length o ≡ 16
     ∷ get_or o 8 0 ∷ get_or o 9 0 ∷ get_or o 10 0 ∷ get_or o 11 0 ∷ get_or o 12 0 ∷ get_or o 13 0 ∷ get_or o 14 0 ∷ get_or o 15 0 ∷ []
 sixteen_items o sixteen = text_from_reads o _ sixteen (refl, (refl, (refl, (refl, (refl, (refl, (refl, (refl, (refl, (refl, (refl, (refl, (refl, (refl, (refl, (refl, tt))))))))))))))))
 
--- sixteen octets as a big-endian number
+-- sixteen bytes as a big-endian number
 pub sixteen_octets : (octets : List ℕ) → length octets ≡ 16 → number_of octets ≡ from_be_bytes w128 octets
 sixteen_octets octets sixteen = ap number_of (sixteen_items octets sixteen) ∙ omega arith
 
--- the octets of the groups of some octets are these octets
+-- the bytes of the groups of some bytes are these bytes
 pub octets_back : (n : ℕ) (octets : List ℕ) → length octets ≡ 2 * n → ((k : ℕ) → slice_index octets k < 2 ^ 8) → octets_of (groups_of octets) ≡ octets
 octets_back n [] len small = refl
 octets_back n (a ∷ []) len small = let no : ⊥ = omega arith in absurd no

@@ -1,4 +1,4 @@
--- What a parser returns if the bytes have one reading, and the bytes behind a header.
+-- What a parser returns if the bytes have one reading, and the bytes after a header.
 use Rattle.std.proofs.Common.{ℕ, ◌≡◌, ◌-◌, List, arith, drop, length, length-drop, take}
 use Rattle.std.proofs.lemmas.List.{take_all}
 use Rattle.std.specs.Prelude.{IfOk, IsOkAnd, OnErr, Result, Ok, Err}
@@ -13,6 +13,6 @@ pub parsed : {E : Type 0} (R : TcpHeader → List ℕ → Type 0) (h : TcpHeader
 parsed R h p (Ok v) read once ok err = once (header_of v) h v.payload.now p ok read
 parsed R h p (Err e) read once ok err = absurd (err h p read)
 
--- the slice from a place on has all bytes behind it
+-- the slice from a place on has all bytes after it
 pub behind : (n : ℕ) (bytes : List ℕ) → take (length bytes - n) (drop n bytes) ≡ drop n bytes
 behind n bytes = take_all (length bytes - n) (drop n bytes) (omega (arith, length-drop n bytes))

@@ -1,4 +1,4 @@
--- The search for an option of one kind, by the list up to the end mark and by the bytes behind it.
+-- The search for an option of one kind, by the list up to the end mark and by the bytes after it.
 use Rattle.std.proofs.Common.{ℕ, inl, inr, ◌≡◌, ◌↔◌, ◌∙◌, ◌++◌, ◌∷◌, [], Bool, List, MatchOption, Option, Some, None, map, refl, sym, ap, subst, is_some, eqb, true, false}
 use Rattle.std.specs.List.{AllByRecursion, flat_map}
 use Rattle.std.specs.Option.{option_map_or}
@@ -37,7 +37,7 @@ first_of-front kind (Some j ∷ xs) ys i found = elim (cases_Bool (eqb j.kind ki
   | inr n ↦ rw n (first_of-front kind xs ys i (rw n at found))
 ]
 
--- the search passes the list, and then the bytes behind it
+-- the search passes the list, and then the bytes after it
 on_behind : {A : Type 0} (options : List ℕ) (items : List Item) (tail : List ℕ) (kind : ℕ) (f : Item → A) (default : A) (a : Result A Error)
     → IsOptionList options items tail → Answers options kind f default a
     → let next = stuck_walk tail in a ≡ answer_of f default (first_of kind (map Some items ++ next.marks)) next.rest
@@ -47,7 +47,7 @@ on_behind options items tail kind f default a list (marks, rest, longest, found)
     let (same, end) = one_long_walk options marks whole rest next.rest longest (long_on options (map Some items) tail (walk_of options items tail list) next) in
     found ∙ ap (λ l. answer_of f default (first_of kind l) rest) same ∙ ap (λ r. answer_of f default (first_of kind whole) r) end
 
--- the answer is the first option in the list, or the answer of the bytes behind it
+-- the answer is the first option in the list, or the answer of the bytes after it
 by_first : {A : Type 0} (options : List ℕ) (items : List Item) (tail : List ℕ) (kind : ℕ) (f : Item → A) (default : A) (a : Result A Error) (first : Option Item)
     → IsOptionList options items tail → first_of kind (map Some items) ≡ first → Answers options kind f default a
     → MatchOption first (Answers tail kind f default a) (λ i. a ≡ Ok (f i))

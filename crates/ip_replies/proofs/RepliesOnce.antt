@@ -86,7 +86,7 @@ gives-once P f g one (_, (h, c, values, p)) (_, (k, d, others, q)) =
 gives-none : (P : EthernetRepr → Carried → Type 0) (f : Frame) → Gives P None → ¬ Gives P (Some f)
 gives-none P f none (_, (h, c, values, p)) = none h c p
 
--- the same bytes; or two frames with the same values, and the same bytes behind them
+-- the same bytes; or two frames with the same values, and the same bytes after them
 abbrev pub SameBuffer : List ℕ → List ℕ → Option ℕ → Type 0
 SameBuffer new other None = new ≡ other
 SameBuffer new other (Some len) =

@@ -24,7 +24,7 @@ pub record Finds (nodes : List Node) (addr : IpAddress) (start found : ℕ) : Ty
   pub encloses : 0 < found → Encloses (node_at nodes (found - 1)) (target_of addr)
   pub nearest : IsNearest nodes found start (target_of addr)
 
--- no node behind it is that of a block that contains the address
+-- no node after it is that of a block that contains the address
 outside : (nodes : List Node) (addr : IpAddress) (start found : ℕ) → Finds nodes addr start found → (block : IpCidr) (i k : ℕ) → found ≤ k → k < length nodes
     → IsNodeOf block i (node_at nodes k) → ¬ IsIn block addr
 outside nodes addr start found f block i k above below of member = elim (cases_lt k start) [

@@ -22,7 +22,7 @@ around first middle last low high apart not_last (shorter, same) =
       )
     ]
 
--- behind a node that does not enclose it, the search goes on with the link of that node
+-- after a node that does not enclose it, the search goes on with the link of that node
 pub climbs : (nodes : List Node) (above from start : ℕ) (inner : Node) → 0 < from → from ≤ start → start ≤ length nodes → IsNonDecreasingBy place nodes
     → AreLinked nodes start → ((k : ℕ) → k < start → place (node_at nodes k) ≤ place inner) → ¬ Encloses (node_at nodes (from - 1)) inner
     → above ≡ (node_at nodes (from - 1)).above → IsNearest nodes from start inner → IsNearest nodes above start inner

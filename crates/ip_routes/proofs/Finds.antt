@@ -32,7 +32,7 @@ agree_from_numbers m n xs ys are_xs are_ys le same =
     number-under_mask m s xs are_xs bound ∙ ap (λ q. q * 2 ^ s) same ∙ sym (number-under_mask m s ys are_ys bound) in
     (member-test m n (number_of xs) (number_of ys) mask xs ys are_xs are_ys le refl refl refl).0 (eq-eqb _ _ e)
 
--- octets agree in their first bits exactly if the prefixes of their numbers do
+-- bytes agree in their first bits exactly if the prefixes of their numbers do
 agrees : (m n : ℕ) (xs ys : List ℕ) → AreOctets m xs → AreOctets m ys → n ≤ 8 * m
     → AgreeFirst n xs ys ↔ (number_of xs / 2 ^ (8 * m - n) ≡ number_of ys / 2 ^ (8 * m - n))
 agrees m n xs ys are_xs are_ys le =
@@ -135,7 +135,7 @@ node_of-IsNodeOf block route valid =
       aligned = ap (λ p. p / 2 ^ z * 2 ^ z) here ∙ whole v f n le ∙ sym here;
     }
 
--- a block whose first address is behind an address does not contain it
+-- a block whose first address is after an address does not contain it
 pub beyond : (block : IpCidr) (route : ℕ) (node : Node) (addr : IpAddress) → IsNodeOf block route node → IsAddress addr → place (target_of addr) < place node
     → ¬ IsIn block addr
 beyond block route node addr of is less member =

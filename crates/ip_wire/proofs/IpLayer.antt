@@ -28,7 +28,7 @@ use Rattle.wire_ipv6.specs.Ipv6 as ipv6
 -- ---- packets that are read
 
 -- the header of a packet that is read can be written for any payload that is no longer, and says how long the payload is,
--- which fits behind it
+-- which fits after it
 pub record IsHeader (u : IpRepr) (bytes : List ℕ) : Type 0 where
   pub in_range : (n : ℕ) → n ≤ length (packet_payload u bytes) → IsInRange (with_payload_len u n)
   pub payload_len : payload_len_of u ≡ length (packet_payload u bytes)
@@ -119,7 +119,7 @@ ip_packet_of-IsPacket t bytes v p e =
 
 -- ---- packets that are written
 
--- a packet that is written is read, whatever stands behind what it carries
+-- a packet that is written is read, whatever follows what it carries
 pub reads_packet : (caps : ChecksumCapabilities) (computed : Bool) (w : IpRepr) (q rest : List ℕ) → IsInRange w → payload_len_of w ≡ length q
     → (version_of w ≡ version.Ipv4 → IsTrue (verifies caps.ipv4) → IsTrue computed) → ReadsPacket caps (bytes_of w computed ++ (q ++ rest)) (normal w)
 reads_packet caps computed (Ipv4 w) q rest h is sound =
@@ -129,7 +129,7 @@ reads_packet caps computed (Ipv6 w) q rest h is sound =
     let fits : w.payload_len ≤ length (q ++ rest) = simp length-append (omega (arith, is)) in
     ipv6_back.reads-bytes_of w (q ++ rest) h fits
 
--- and what it carries is found behind its header
+-- and what it carries follows its header
 pub packet_payload-written : (w : IpRepr) (q rest : List ℕ) (computed : Bool) → IsInRange w → payload_len_of w ≡ length q
     → packet_payload (normal w) (bytes_of w computed ++ (q ++ rest)) ≡ q
 packet_payload-written (Ipv4 w) q rest computed h is =

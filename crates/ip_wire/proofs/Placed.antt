@@ -12,7 +12,7 @@ joined : (header inner old front carried : List ℕ) (size len : ℕ) → size �
     → front ≡ header → carried ≡ inner ++ drop len (drop size old) → front ++ carried ≡ (header ++ inner) ++ drop (size + len) old
 joined header inner old front carried size len room fits is below = grind (arith, common_steps)
 
--- a header and what it carries stand at the front of a slice where the header fills its own part and what it carries stands at the
+-- a header and what it carries are at the front of a slice if the header fills its own part and what it carries is at the
 -- front of the rest
 pub behind : (header inner old front written carried : List ℕ) (size len : ℕ) → size ≤ length old → len ≤ length (drop size old)
     → front ≡ written → written ≡ header ++ drop size (take size old) → carried ≡ inner ++ drop len (drop size old)

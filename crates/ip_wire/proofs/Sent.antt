@@ -16,7 +16,7 @@ use Rattle.wire_ethernet.specs.declared.EthernetRepr.{EthernetRepr}
 use Rattle.ip_wire.specs.declared.frame.Frame.{Frame}
 use Rattle.ip_wire.specs.Reply.{Gives, IsReplySent, IsSendable, IsSent, Sends, reply_len}
 
--- the bytes behind the emitted frame
+-- the bytes after the emitted frame
 pub rest_stays : (bytes old new : List ℕ) (n : ℕ) → new ≡ bytes ++ drop n old → length new ≡ length old → n ≤ length old → drop n new ≡ drop n old
 rest_stays bytes old new n is same fits =
     let long : length bytes ≡ n = omega (arith, ap length is, length-append bytes (drop n old), length-drop n old, same, fits) in

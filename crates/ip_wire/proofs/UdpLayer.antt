@@ -10,7 +10,7 @@ use Rattle.wire_field.proofs.Spelled.{AreBytes}
 use Rattle.wire_udp.proofs.UdpReadsBack.{IsInRange, reads-bytes_of}
 use Rattle.wire_udp.specs.Udp.{Reads, bytes_of, packet_len, packet_with, payload_of, udp_of}
 
--- the octets of both addresses are whole words
+-- the bytes of both addresses are whole words
 pub record AreWords (src dst : IpAddress) : Type 0 where
   pub src_octets : length (octets_of src) % 2 ≡ 0
   pub dst_octets : length (octets_of dst) % 2 ≡ 0

@@ -41,7 +41,7 @@ header-again a b c d e f g h i j k l m n rest high low =
     ap (λ (x : ℕ). a ∷ b ∷ c ∷ d ∷ e ∷ f ∷ g ∷ h ∷ i ∷ j ∷ k ∷ l ∷ x ∷ (field whole 96 16 % 256) ∷ rest) first
     ∙ ap (λ (x : ℕ). a ∷ b ∷ c ∷ d ∷ e ∷ f ∷ g ∷ h ∷ i ∷ j ∷ k ∷ l ∷ m ∷ x ∷ rest) second
 
--- a header of bytes that is read is written as it stood
+-- a header of bytes that is read is emitted unchanged
 header-stays : (frame : List ℕ) (v : EthernetRepr) → AreBytes frame → Reads frame v → bytes_of v ++ drop 14 frame ≡ frame
 header-stays frame v are r =
     let parts = cells-drop 14 frame r.whole in

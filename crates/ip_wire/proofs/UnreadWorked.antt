@@ -22,11 +22,11 @@ use Rattle.wire_tcp.specs.declared.TcpRepr.{TcpRepr}
 abbrev frame : ℕ → List ℕ → List ℕ
 frame type bytes = (2 ∷ 0 ∷ 0 ∷ 0 ∷ 0 ∷ 2 ∷ 2 ∷ 0 ∷ 0 ∷ 0 ∷ 0 ∷ 1 ∷ 0x08 ∷ type ∷ []) ++ bytes
 
--- a UDP packet from 192.168.1.1 to 192.168.1.2 with this last octet of its checksum, which is 4d in a valid one
+-- a UDP packet from 192.168.1.1 to 192.168.1.2 with this last byte of its checksum, which is 4d in a valid one
 abbrev udp_packet : ℕ → List ℕ
 udp_packet low = 0xbf ∷ 0x00 ∷ 0x00 ∷ 0x35 ∷ 0x00 ∷ 0x0c ∷ 0x12 ∷ low ∷ 0xaa ∷ 0x00 ∷ 0x00 ∷ 0xff ∷ []
 
--- the IPv4 packet with it, with this octet of flags and this header checksum
+-- the IPv4 packet with it, with this byte of flags and this header checksum
 abbrev ipv4_packet : ℕ → ℕ → ℕ → List ℕ
 ipv4_packet flags high low =
     (0x45 ∷ 0x00 ∷ 0x00 ∷ 0x20 ∷ 0x00 ∷ 0x00 ∷ flags ∷ 0x00 ∷ 0x40 ∷ 0x11 ∷ high ∷ low ∷ 192 ∷ 168 ∷ 1 ∷ 1 ∷ 192 ∷ 168 ∷ 1 ∷ 2 ∷ []) ++ udp_packet 0x4d
