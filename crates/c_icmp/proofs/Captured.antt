@@ -43,7 +43,7 @@ cut-same f protocol.Tcp src dst bytes =
     (same-option (tcp_of src dst false bytes) (λ v. behind next (tcp.header_len bytes) (f.payload_len - tcp.header_len bytes)) (rejected_transport next (tcp_fault bytes f.payload_len)) (carries_icmp f) (λ v. refl) refl)
 cut-same f p src dst bytes = refl
 
--- behind fields with ICMP
+-- after fields with ICMP
 behind-read : (f : FrameFields) (p : IpProtocol) (src dst : IpAddress) (bytes : List ℕ) → (IsCarrying f → IsRead f × ((p ≡ protocol.Icmp) ⊎ (p ≡ protocol.Icmpv6)))
     → carries_icmp (cut_transport_by f p src dst bytes) ≡ true → IsRead (cut_transport_by f p src dst bytes)
 behind-read f p src dst bytes is e =
@@ -136,7 +136,7 @@ in-whole f g bytes rest (inl h) read e header =
     (sym (ap carries_icmp h.fields) ∙ e, omega (arith, header, count, more))
 in-whole f g bytes rest (inr (h, at)) read e header = let cut = at.reason in absurd (omega (arith, cut, read))
 
--- all octets are taken
+-- all bytes are taken
 all-taken : {A : Type 0} (of : List ℕ → ℕ → A) (bytes rest : List ℕ) → of bytes (length rest) ≡ of (take (length bytes + length rest) bytes) (length bytes + length rest - length bytes)
 all-taken of bytes rest =
     let all : take (length bytes + length rest) bytes ≡ bytes = grind (arith, common_steps) in

@@ -123,7 +123,7 @@ transport-same f p src dst bytes = refl
 
 -- ---- packets
 
--- the fields behind an IP header
+-- the fields after an IP header
 abbrev pub headed : FrameFields → List ℕ → IpRepr → FrameFields
 headed f bytes (Ipv4 w) = with_ipv4_header f bytes w
 headed f bytes (Ipv6 w) = with_ipv6_header f bytes w
@@ -198,7 +198,7 @@ ipv6-found f bytes start e = elim (given (ipv6_of bytes)) [
       (w, record { reads = reads; protocol = icmp; fields = ipv6-stored f bytes w reads icmp })
 ]
 
--- the fields behind the header of such a packet carry ICMP
+-- the fields after the header of such a packet carry ICMP
 headed-carries : (f : FrameFields) (bytes : List ℕ) (ip : IpRepr) → f.is_fragment ≡ 0 → ReadsPacket unchecked bytes ip → next_header_of ip ≡ protocol_of (version_of ip)
     → carries_icmp (headed f bytes ip) ≡ true
 headed-carries f bytes (Ipv4 w) start (reads, whole) is =
@@ -372,7 +372,7 @@ verdict-is g ip m a len =
     second (nat_lt (length m) g.payload_len) verdict.ChecksumCut (verdict-on (address_in g g.src.addr) (address_in g g.dst.addr) m) whole
     ∙ ap (λ (s : IpAddress). verdict-on s (address_in g g.dst.addr) m) a.src ∙ ap (λ (d : IpAddress). verdict-on (src_addr_of ip) d m) a.dst
 
--- it is stored behind the IP header
+-- it is stored after the IP header
 stores : (bytes : List ℕ) (g : FrameFields) (ip : IpRepr) (m : List ℕ) → carries_icmp g ≡ true → payload_in g bytes ≡ m → g.payload_len ≡ length m → 8 ≤ length m
     → HasAddresses g ip → StoresMessage g ip m (with_icmp bytes g)
 stores bytes g ip m e is len header a =

@@ -35,12 +35,12 @@ paired-length h payload packet computed (Some pair) e =
     filtered-length (nat_le (length payload) 65527) (emitted (header_value h) payload pair.0 pair.1 computed) packet (8 + length payload)
     (length-emitted (header_value h) payload pair.0 pair.1 computed) e
 
--- a message has a header of 8 octets
+-- a message has a header of 8 bytes
 pub length-icmp : (h : Icmp) (src dst : Addr) (payload packet : List ℕ) (computed : Bool) → icmp_bytes h src dst payload computed ≡ Some packet
     → length packet ≡ 8 + length payload
 length-icmp h src dst payload packet computed e = paired-length h payload packet computed (pair_of src dst) e
 
--- the headers, and behind them a packet that fills the front of the rest of the slice
+-- the headers, and after them a packet that fills the front of the rest of the slice
 pub framed-filled : (f : FrameFields) (number size : ℕ) (packet : Option (List ℕ)) (v : IpRepr) (old front rest new : List ℕ) (start n : ℕ) (answer : Option ℕ)
     → ip_header f number size ≡ Some v → ((bytes : List ℕ) → packet ≡ Some bytes → length bytes ≡ size)
     → front ≡ headers_bytes f v → length front ≡ start → rest ≡ drop start old → start ≤ length old → Fills packet rest new answer → answer ≡ Some n

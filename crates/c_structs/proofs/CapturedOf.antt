@@ -1,4 +1,4 @@
--- The struct of captured octets, by how many there are.
+-- The struct of captured bytes, by how many there are.
 use Rattle.std.proofs.Common.{ℕ, ◌≡◌, ◌∙◌, ◌≤◌, ◌<◌, ◌+◌, ◌-◌, ◌==◌, nat_lt, true, false, List, ap, drop, length, refl, take, arith}
 use Rattle.std.proofs.lemmas.Bool.Decides.{nat_tests}
 use Rattle.std.proofs.lemmas.Grind.{common_steps}
@@ -18,7 +18,7 @@ pub captured_packet_of-whole : (bytes : List ℕ) → captured_packet_of bytes 0
 unfolding captured_packet_of
 captured_packet_of-whole bytes = refl
 
--- too few octets for the first header
+-- too few bytes for the first header
 pub captured_of-short : (bytes : List ℕ) (missing : ℕ) → 0 < missing → length bytes < 14 → captured_of bytes missing ≡ cut_header (nothing_of (length bytes + missing)) 14
 unfolding captured_of
 captured_of-short bytes missing some h =
@@ -50,7 +50,7 @@ captured_packet_of-long bytes missing some h =
     let enough : nat_lt (length bytes) 1 ≡ false = grind (arith, nat_tests) in
     rw (part, enough) refl
 
--- fewer octets than the frame has are all taken
+-- fewer bytes than the frame has are all taken
 pub taken : {A : Type 0} (of : List ℕ → ℕ → A) (at : ℕ → A) (bytes : List ℕ) (len : ℕ) → length bytes < len
     → of bytes (len - length bytes) ≡ at (length bytes + (len - length bytes)) → of (take len bytes) (len - length bytes) ≡ at len
 taken of at bytes len h is =

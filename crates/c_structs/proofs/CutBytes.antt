@@ -1,4 +1,4 @@
--- What is read of the first octets of a frame stays the same, whatever follows them.
+-- What is read of the first bytes of a frame stays the same, whatever follows them.
 use Rattle.std.proofs.Common.{ℕ, zero, suc, [], ◌∷◌, ◌≡◌, ◌∙◌, ◌≤◌, ◌<◌, ◌+◌, ◌-◌, ◌/◌, ◌%◌, ◌^◌, nat_le, nat_lt, true, false, List, ◌++◌, ap, drop, length, length-append, slice_range, sym, take, arith}
 use Rattle.std.proofs.lemmas.Bool.Decides.{nat_tests}
 use Rattle.std.proofs.lemmas.Grind.{common_steps}
@@ -35,7 +35,7 @@ past (suc n) (x ∷ xs) ys h =
     let left : n - length xs ≡ suc n - length (x ∷ xs) = omega arith in
     ap (λ (l : List ℕ). x ∷ l) (past n xs ys (omega (arith, h))) ∙ ap (λ (k : ℕ). x ∷ xs ++ take k ys) left
 
--- the rest of a range that ends behind the first bytes
+-- the rest of a range that ends after the first bytes
 pub range-behind : (bytes rest : List ℕ) (from to : ℕ) → from ≤ length bytes → length bytes ≤ to
     → slice_range (bytes ++ rest) from to ≡ drop from bytes ++ take (to - length bytes) rest
 range-behind bytes rest from to h order =

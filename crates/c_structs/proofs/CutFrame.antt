@@ -1,4 +1,4 @@
--- The struct of captured octets, by that of the whole frame.
+-- The struct of captured bytes, by that of the whole frame.
 use Rattle.std.proofs.Common.{ℕ, ◌≡◌, ◌∙◌, ◌≤◌, ◌<◌, inl, inr, ◌+◌, ◌-◌, ◌==◌, if◌then◌else◌, Bool, true, false, List, [], ◌∷◌, ◌++◌, append-nil, ap, drop, length, refl, slice_range, sym, take, arith}
 use Rattle.std.proofs.lemmas.Bool.{cases_lt}
 use Rattle.std.proofs.lemmas.Grind.{common_steps}
@@ -60,7 +60,7 @@ value-front bytes rest h =
     ∙ ap (λ (l : List ℕ). value (slice_range bytes 0 6) l (field all 96 16)) (range-front bytes rest 6 12 (omega arith) (omega (arith, h)))
     ∙ ap (λ (n : ℕ). value (slice_range bytes 0 6) (slice_range bytes 6 12) n) (field-front bytes rest 96 16 (omega (arith, h)))
 
--- the struct behind an Ethernet header, and what it carries
+-- the struct after an Ethernet header, and what it carries
 abbrev linked : EthernetRepr → ℕ → ℕ → List ℕ → FrameFields
 linked v len payload_len payload = with_carried (with_link (nothing_of len) v payload_len) v.ethertype payload
 
@@ -122,7 +122,7 @@ captured-packet-cut : (bytes rest : List ℕ) → IsCutOf (captured_packet_of by
 captured-packet-cut bytes [] = same-of _ _ (captured_packet_of-whole bytes ∙ ap packet_fields_of (sym (append-nil bytes)))
 captured-packet-cut bytes (x ∷ rest) = bare-cut bytes (x ∷ rest) (omega arith)
 
--- the arguments of a call, of which no octet is left out
+-- the arguments of a call, of which no byte is left out
 taken : {A : Type 0} (of : List ℕ → ℕ → A) (bytes rest : List ℕ) (len : ℕ) → length bytes + length rest ≡ len → of (take len bytes) (len - length bytes) ≡ of bytes (length rest)
 taken of bytes rest len is =
     let all : take len bytes ≡ bytes = grind (arith, common_steps) in

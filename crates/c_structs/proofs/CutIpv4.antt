@@ -106,7 +106,7 @@ some : (f : FrameFields) (bytes : List ℕ) → ipv4.is_read false bytes ≡ tru
 some f bytes e =
     ap (λ (o : Option Ipv4Repr). option_map_or (λ v. carrying (with_ipv4_header f bytes v) (ipv4.is_fragment bytes) v (ipv4_payload bytes)) o (rejected f (ipv4_fault bytes))) (present bytes e)
 
--- ---- the header with more bytes behind it
+-- ---- the header with more bytes after it
 
 len-front : (bytes rest : List ℕ) → 20 ≤ length bytes → ipv4.header_len (bytes ++ rest) ≡ ipv4.header_len bytes
 len-front bytes rest h = ap (λ (n : ℕ). 4 * n) (field-front bytes rest 4 4 (omega (arith, h)))

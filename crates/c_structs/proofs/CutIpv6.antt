@@ -58,7 +58,7 @@ some : (f : FrameFields) (bytes : List ℕ) → ipv6.is_read bytes ≡ true
     → with_ipv6 f bytes ≡ carrying (with_ipv6_fields f bytes (ipv6.header_of bytes) (length (ipv6.payload_of bytes))) (ipv6.header_of bytes) (ipv6.payload_of bytes)
 some f bytes e = ap (shape f bytes) (present bytes e)
 
--- ---- the header with more bytes behind it
+-- ---- the header with more bytes after it
 
 total-front : (bytes rest : List ℕ) → 40 ≤ length bytes → ipv6.total_len (bytes ++ rest) ≡ ipv6.total_len bytes
 total-front bytes rest h = ap (λ (n : ℕ). 40 + n) (field-front bytes rest 32 16 (omega (arith, h)))

@@ -1,4 +1,4 @@
--- The struct of captured octets beside that of the whole frame.
+-- The struct of captured bytes, compared with that of the whole frame.
 use Rattle.std.proofs.Common.{ℕ, ◌≡◌, ◌∙◌, nat_lt, if◌then◌else◌, Bool, true, false, List, drop, length, Option, None, Some, ap, inl, inr, refl, subst, sym}
 use Rattle.std.specs.Option.{option_map_or}
 use Rattle.ip_wire.specs.Arp.{arp_of}
@@ -30,7 +30,7 @@ same-of f g is = inl (record { checksum = inl (ap (λ (h : FrameFields). h.trans
 pub cut-as : (f g f2 g2 : FrameFields) → f ≡ f2 → g ≡ g2 → IsCutOf f2 g2 → IsCutOf f g
 cut-as f g f2 g2 a c is = subst (λ h. IsCutOf h g) (sym a) (subst (λ h. IsCutOf f2 h) (sym c) is)
 
--- the header of a transport is behind all that is kept of these structs
+-- the header of a transport follows all that is kept of these structs
 abbrev pub IsBehind : FrameFields → FrameFields → Type 0
 IsBehind f g = before transport_header g ≡ record (before transport_header f) { reason = g.reason; payload_offset = g.payload_offset; payload_len = g.payload_len }
 
@@ -47,7 +47,7 @@ behind-choice (Some x) f g h a c = a
 
 -- ---- network headers
 
--- nothing behind an Ethernet header is stored yet
+-- nothing after an Ethernet header is stored yet
 abbrev pub IsStart : FrameFields → Type 0
 IsStart f = f ≡ record (before network f) { reason = f.reason; payload_offset = f.payload_offset; payload_len = f.payload_len }
 

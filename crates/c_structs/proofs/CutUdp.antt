@@ -75,7 +75,7 @@ udp-wrong f src dst bytes h lengths = rw (lt-false (length bytes) 8 h, unsound s
 abbrev shape : Bool → FrameFields → ℕ → FrameFields
 shape port g n = if port then rejected_transport g reason.PortZero else behind g 8 n
 
--- the same packet with more bytes behind it
+-- the same packet with more bytes after it
 shape-front : (f : FrameFields) (bytes rest : List ℕ) (v w : Verdict) (n m : ℕ) → 8 ≤ length bytes → v ≡ w → n ≡ m
     → shape (field (bytes ++ rest) 16 16 == 0) (with_udp_fields f (bytes ++ rest) v) n ≡ shape (field bytes 16 16 == 0) (with_udp_fields f bytes w) m
 shape-front f bytes rest v w n m h same size =

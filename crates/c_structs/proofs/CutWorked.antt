@@ -1,17 +1,17 @@
--- What is stored of concrete octets that were captured.
+-- What is stored of concrete bytes that were captured.
 use Rattle.std.proofs.Common.{ℕ, ◌≡◌, ◌++◌, List, [], ◌∷◌, refl, take}
 use Rattle.ip_wire.specs.TcpRepr.{tcp_of}
 use Rattle.c_structs.specs.Captured.{captured_of}
 use Rattle.c_structs.specs.declared.types.FrameFields.{FrameFields}
 
--- the headers of a UDP packet over IPv4 with 4 octets of payload
+-- the headers of a UDP packet over IPv4 with 4 bytes of payload
 abbrev udp_headers : List ℕ
 udp_headers =
     (2 ∷ 0 ∷ 0 ∷ 0 ∷ 0 ∷ 2 ∷ 2 ∷ 0 ∷ 0 ∷ 0 ∷ 0 ∷ 1 ∷ 8 ∷ 0 ∷ [])
     ++ (69 ∷ 0 ∷ 0 ∷ 32 ∷ 0 ∷ 0 ∷ 64 ∷ 0 ∷ 64 ∷ 17 ∷ 183 ∷ 121 ∷ 192 ∷ 168 ∷ 1 ∷ 1 ∷ 192 ∷ 168 ∷ 1 ∷ 2 ∷ [])
     ++ (191 ∷ 0 ∷ 0 ∷ 53 ∷ 0 ∷ 12 ∷ 18 ∷ 52 ∷ [])
 
--- the headers of a TCP segment over IPv4 with 4 octets of options, of which 2 are there, and 4 octets of payload
+-- the headers of a TCP segment over IPv4 with 4 bytes of options, of which 2 are there, and 4 bytes of payload
 abbrev tcp_headers : List ℕ
 tcp_headers =
     (2 ∷ 0 ∷ 0 ∷ 0 ∷ 0 ∷ 2 ∷ 2 ∷ 0 ∷ 0 ∷ 0 ∷ 0 ∷ 1 ∷ 8 ∷ 0 ∷ [])

@@ -4,7 +4,7 @@ use Rattle.std.proofs.lemmas.Bool.Decides.{nat_tests}
 use Rattle.ip_wire.specs.Ethernet.{ethernet_of, header_of}
 use Rattle.c_structs.specs.FrameFields.{bare_of, fields_of, nothing_of, packet_fields_of, with_frame, with_packet}
 
--- the struct of a frame of fewer than 14 octets
+-- the struct of a frame of fewer than 14 bytes
 pub fields_of_short : (frame : List ℕ) → length frame < 14 → fields_of frame ≡ nothing_of (length frame)
 unfolding fields_of ethernet_of
 fields_of_short frame h =
@@ -18,7 +18,7 @@ fields_of_long frame h =
     let enough : nat_le 14 (length frame) ≡ true = grind (arith, nat_tests) in
     rw enough refl
 
--- the struct of a packet of no octet
+-- the struct of a packet of no byte
 pub packet_fields_of-none : (bytes : List ℕ) → length bytes < 1 → packet_fields_of bytes ≡ nothing_of (length bytes)
 unfolding packet_fields_of
 packet_fields_of-none bytes h =

@@ -15,7 +15,7 @@ front_filled header old front size room e =
     let none : drop size (take size old) ≡ [] = grind (arith, common_steps) in
     e ∙ ap (λ rest. header ++ rest) none ∙ grind (arith, common_steps)
 
--- both stand at the front of the slice, if what is carried stands at the front of the rest of it
+-- both are at the front of the slice, if what is carried is at the front of the rest of it
 pub filled-behind : (header inner old front written new : List ℕ) (size len : ℕ) → size ≤ length old → length front ≡ size
     → front ≡ written → written ≡ header ++ drop size (take size old) → len ≡ length inner → len ≤ length (drop size old) → new ≡ inner ++ drop len (drop size old)
     → (size + len ≡ length (header ++ inner)) × (size + len ≤ length old) × (front ++ new ≡ (header ++ inner) ++ drop (size + len) old)
@@ -25,7 +25,7 @@ filled-behind header inner old front written new size len room f is is_written n
 
 -- ---- what C gets
 
--- in place of an optional length
+-- the number that C gets instead of an optional length
 abbrev pub returned : Option ℕ → Option Failure → ℤ
 returned (Some n) why = pos n
 returned None why = failed_by why

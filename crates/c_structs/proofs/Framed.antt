@@ -219,7 +219,7 @@ same-part old a k n =
     let count : k + n - k ≡ a + k + n - (a + k) = omega arith in
     ap (λ i. take i (drop k (drop a old))) count ∙ ap (λ s. take (a + k + n - (a + k)) s) (drop-drop k a old)
 
--- what is written behind the headers
+-- what is written after the headers
 pub behind-headers : (F : List ℕ → List ℕ) (headers old front rest new : List ℕ) (a k n : ℕ) → front ≡ headers → rest ≡ drop a old
     → new ≡ F (slice_range rest k (k + n)) ++ drop (k + n) rest
     → front ++ new ≡ (headers ++ F (slice_range old (a + k) (a + k + n))) ++ drop (a + k + n) old

@@ -14,7 +14,7 @@ use Rattle.c_structs.specs.Frames.{rebuilt_of}
 use Rattle.c_structs.specs.Headers.{only_if}
 use Rattle.c_structs.specs.Written.{Fills}
 
--- the header that was read is written as it stood
+-- the header that was read is emitted unchanged
 bytes_of-read : (frame : List ℕ) → AreBytes frame → 14 ≤ length frame → bytes_of (header_of frame) ≡ take 14 frame
 bytes_of-read frame h whole =
     let a = h 12 in

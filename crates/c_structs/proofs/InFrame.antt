@@ -1,4 +1,4 @@
--- The struct of a packet in a frame is that of the packet alone, with the Ethernet header.
+-- The struct of a packet in a frame is that of the packet by itself, with the Ethernet header.
 use Rattle.std.proofs.Common.{ℕ, ◌≡◌, ◌∙◌, ◌≤◌, ◌+◌, nat_lt, if◌then◌else◌, Bool, true, false, List, [], ◌∷◌, Option, None, Some, ap, drop, length, refl, sym, arith}
 use Rattle.std.specs.Option.{option_map_or}
 use Rattle.ip_wire.specs.Ethernet as ethernet

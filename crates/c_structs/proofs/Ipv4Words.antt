@@ -83,7 +83,7 @@ with-checksum (a ∷ b ∷ c ∷ []) x size low fits = absurd (omega arith)
 with-checksum (a ∷ b ∷ c ∷ d ∷ []) x size low fits = absurd (omega arith)
 with-checksum (a ∷ b ∷ c ∷ d ∷ e ∷ f ∷ more) x size low fits = absurd (omega arith)
 
--- a header of 20 octets with the complement of its sum has its checksum
+-- a header of 20 bytes with the complement of its sum has its checksum
 pub ipv4-checksum : (h : Ip) (v : Ipv4Repr) → length (with_ipv4_fields h (bytes_of v false)) ≡ 20
     → with_field (with_ipv4_fields h (bytes_of v false)) 80 16 (65535 - sum_of_bytes (with_ipv4_fields h (bytes_of v false)))
     ≡ with_checksum (with_ipv4_fields h (bytes_of v false))

@@ -16,7 +16,7 @@ use Rattle.c_structs.specs.declared.types.TcpOptionPlace.{TcpOptionPlace}
 abbrev found_at : ℕ → TcpOptionPlace → Option (Item × List ℕ) → ℤ × TcpOptionPlace
 found_at at old found = option_map_or (λ found. (pos 1, place_at at found.0.kind (length (text found.0)))) found (negsuc 0, old)
 
--- octets that do not begin with the end mark
+-- bytes that do not begin with the end mark
 looked-for : (kind : ℕ) (rest : List ℕ) (at : ℕ) (old : TcpOptionPlace) → kind ≢ 0 → step_to (kind ∷ rest) at old ≡ found_at at old (first_item (kind ∷ rest))
 looked-for kind rest at old some =
     let other : (kind == 0) ≡ false = grind (arith, nat_tests, some) in

@@ -92,7 +92,7 @@ fields_of-linked frame v r = rw ((ethernet_of-Reads frame v).1 r) refl
 
 -- ---- the IP header
 
--- The fields of the struct behind an IP header that what follows depends on.
+-- The fields of the struct after an IP header that what follows depends on.
 pub record IsHeaded (f : FrameFields) (frame : List ℕ) (w : IpRepr) : Type 0 where
   pub reason : f.reason ≡ 0
   pub transport : f.transport ≡ 0
@@ -165,7 +165,7 @@ with_transport_by-other f protocol.Udp src dst bytes n k = absurd (n refl)
 with_transport_by-other f protocol.Tcp src dst bytes n k = absurd (k refl)
 with_transport_by-other f _ src dst bytes n k = refl
 
--- the struct behind a transport header that is read
+-- the struct after a transport header that is read
 pub with_transport_by-read : (f : FrameFields) (p : IpProtocol) (src dst : IpAddress) (bytes : List ℕ) (t : Transport) → ReadsTransportBy unchecked p src dst bytes t
     → with_transport_by f p src dst bytes ≡ transported f src dst bytes t
 with_transport_by-read f p src dst bytes (datagram u q) (is, r) =
@@ -174,7 +174,7 @@ with_transport_by-read f p src dst bytes (segment u q) (is, r) =
     rw (is, tcp-read src dst false bytes q u r, r.body) (other-chosen (nat_lt (length bytes) 20) _ _ (not-short (length bytes) 20 r.lengths.least))
 with_transport_by-read f p src dst bytes (other q) (n, k, is) = with_transport_by-other f p src dst bytes n k
 
--- the flags of a segment, by the octet that holds them
+-- the flags of a segment, by the byte that holds them
 control-flag : (bytes : List ℕ) (c : TcpControl) → HasControl bytes c → HasFlag (field bytes 104 8) c
 control-flag bytes control.Rst h = let r = h.rst in let s = h.syn in let f = h.fin in omega (arith, r, s, f)
 control-flag bytes control.Syn h = let r = h.rst in let s = h.syn in let f = h.fin in omega (arith, r, s, f)
@@ -193,7 +193,7 @@ ack-some false n = (λ some. absurd (cc), λ e. absurd (cc))
 ack-flag : (bytes : List ℕ) → ((field bytes 107 1 == 1) ≡ true) ↔ (field bytes 104 8 / 16 % 2 ≡ 1)
 ack-flag bytes = (λ e. let is : field bytes 107 1 ≡ 1 = eqb-true _ 1 e in omega (arith, is), λ e. let is : field bytes 107 1 ≡ 1 = omega (arith, e) in rw is refl)
 
--- the struct behind a transport header has its values, and locates its payload
+-- the struct after a transport header has its values, and locates its payload
 pub record IsTransported (f : FrameFields) (frame : List ℕ) (t : Transport) : Type 0 where
   pub values : HasTransport f t
   pub payload : Locates f frame (describe_transport t).payload

@@ -229,7 +229,7 @@ is-rejected f protocol.Tcp src dst bytes read fault =
     }
 is-rejected f p src dst bytes read fault = absurd (fault read)
 
--- no header behind a fragment header is rejected
+-- no header after a fragment header is rejected
 rejected-part : (f g headers : FrameFields) (p : IpProtocol) (src dst : IpAddress) (bytes payload : List ℕ) → StoresRejectedBy p g headers src dst bytes → with_fragment_by f p payload ≡ f
 rejected-part f g headers protocol.Ipv6Frag src dst bytes payload h = absurd h
 rejected-part f g headers p src dst bytes payload h = refl

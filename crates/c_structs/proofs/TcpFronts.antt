@@ -1,4 +1,4 @@
--- Segments whose first 20 octets are written last.
+-- Segments whose first 20 bytes are written last.
 use Rattle.std.proofs.Common.{◌≡◌, ◌∙◌, ℕ, suc, ◌+◌, ◌-◌, ◌*◌, ◌/◌, ◌%◌, ◌^◌, ◌≤◌, ◌<◌, List, [], ◌∷◌, ◌++◌, append_assoc, drop, length, slice_index, slice_range, take, ap, sym, refl, w32, arith}
 use Rattle.std.proofs.lemmas.Int.{of_z-to_z}
 use Rattle.std.proofs.lemmas.List.{drop-drop, drop_at, length-take-le, take-append-drop}
@@ -8,7 +8,7 @@ use Rattle.c_structs.specs.Headers.{front_bytes, options_header_len, options_val
 use Rattle.c_structs.specs.declared.types.Tcp.{Tcp}
 use Rattle.c_structs.specs.declared.types.TcpOptions.{TcpOptions}
 
--- a segment is its first 20 octets, the options and the payload
+-- a segment is its first 20 bytes, the options and the payload
 pub segment-parts : (h : Tcp) (o : TcpOptions) (p q size : ℕ) (payload : List ℕ) → size ≡ options_header_len o → size ≤ 60 → h.seq_number < 2 ^ 32 → h.ack_number < 2 ^ 32
     → front_bytes h p q size ++ (option_bytes (options_value o) ++ payload) ≡ segment_with_flags h (tcp_value h o p q) payload
 segment-parts h o p q size payload is most seq ack =
@@ -19,13 +19,13 @@ segment-parts h o p q size payload is most seq ack =
     let urgent_low : slice_index bytes 19 ≡ h.urgent_at % 256 = omega arith in
     rw (offset, flags_is, urgent_high, urgent_low, of_z-to_z w32 h.seq_number seq, of_z-to_z w32 h.ack_number ack) refl
 
--- the front that was made for the rest of the segment stands before it, and what is behind it stays
+-- the front that was made for the rest of the segment precedes it, and what follows it is unchanged
 pub front-written : (C : List ℕ → List ℕ) (start front rest whole tail o1 new : List ℕ) → front ++ rest ≡ C (start ++ rest) → start ++ rest ≡ whole
     → drop 20 o1 ≡ rest ++ tail → new ≡ front ++ drop 20 o1 → new ≡ C whole ++ tail
 front-written C start front rest whole tail o1 new made is behind holds =
     holds ∙ ap (λ s. front ++ s) behind ∙ sym (append_assoc front rest tail) ∙ ap (λ s. s ++ tail) (made ∙ ap C is)
 
--- the options stand behind the first 20 octets
+-- the options follow the first 20 bytes
 pub options-there : (old o1 options : List ℕ) (size : ℕ) → 20 ≤ length old → o1 ≡ with_range old 20 size options → drop 20 o1 ≡ options ++ drop size old
 options-there old o1 options size long is =
     ap (λ l. drop 20 l) (is ∙ append_assoc (take 20 old) options (drop size old)) ∙ drop_at (take 20 old) (options ++ drop size old) 20 (length-take-le 20 old long)

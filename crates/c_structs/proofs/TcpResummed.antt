@@ -27,7 +27,7 @@ apart r h l =
     let inner : residue y ≡ residue (h + l) = residue-add (0 + residue h) h l l (ap residue (omega arith) ∙ residue-small (residue h) (residue-bound h)) refl in
     residue-add r r (residue y) (h + l) refl (residue-small (residue y) (residue-bound y) ∙ inner)
 
--- the same with what stands before and behind it
+-- the same with the bytes before and after it
 joined : (a b h l p : ℕ) → residue (a + b + 6 + p + residue (0 + residue h + l)) ≡ residue (a + b + (6 + l) + (h + p))
 joined a b h l p = apart (a + b + 6 + p) h l ∙ ap residue (omega arith)
 

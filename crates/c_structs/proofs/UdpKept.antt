@@ -1,4 +1,4 @@
--- A UDP packet that is read with a checksum is emitted as it stood.
+-- A UDP packet that is read with a checksum is emitted unchanged.
 use Rattle.std.proofs.Common.{ℕ, ◌≡◌, ◌≢◌, ◌∙◌, ◌≤◌, ◌<◌, ◌+◌, ◌*◌, ◌-◌, ◌/◌, ◌%◌, ◌++◌, inl, inr, true, List, [], ◌∷◌, Some, ap, arith, length, length-append, refl, slice_index, slice_range, sum, sym, take}
 use Rattle.std.proofs.Math.Seq.{take-add}
 use Rattle.byteorder.specs.Endian.{big_bytes}
@@ -58,7 +58,7 @@ pair a b n fits_a fits_b is =
     let low : n % 256 ≡ b = omega (arith, is, fits_a, fits_b) in
     rw (high, low) refl
 
--- the header that was read is written as it stood
+-- the header that was read is emitted unchanged
 header_bytes-read : (bytes : List ℕ) → AreBytes bytes → HasLengths bytes
     → header_bytes (header_of bytes) (length (payload_of bytes)) (field bytes 48 16) ≡ take 8 bytes
 header_bytes-read bytes h lengths =
@@ -102,7 +102,7 @@ bytes_of-read src dst bytes v h whole r some =
     let sum_is : checksum_for (packet_sum src dst (packet_with w p 0)) ≡ c = only_checksum total c some (omega (arith, fits)) full in
     ap (λ (u : UdpRepr). bytes_of u p src dst true) (Reads-is src dst true bytes v p r) ∙ ap (packet_with w p) sum_is ∙ same
 
--- a packet that is read with a checksum is rebuilt as it stood, without the padding behind it
+-- a packet that is read with a checksum is rebuilt unchanged, without the padding after it
 pub rebuilt-udp-kept : (src dst : IpAddress) (bytes : List ℕ) (v : UdpRepr) → AreBytes bytes → AreWords src dst → udp_of src dst true bytes ≡ Some v
     → field bytes 48 16 ≢ 0 → rebuilt_transport_by protocol.Udp src dst bytes ≡ take (packet_len bytes) bytes
 rebuilt-udp-kept src dst bytes v h whole read some =
