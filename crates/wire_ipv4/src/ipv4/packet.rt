@@ -1,4 +1,4 @@
-//! A view of the bytes of an IPv4 packet, and what every view reads.
+//! Views of IPv4 packets, and their getters.
 
 ghost use Rattle.std.specs.Prelude.{◌≡◌, ◌↔◌, ◌≤◌, IfOk, IsOk, IsTrue, Some, length, slice_range, take};
 ghost use Rattle.wire_field.specs.Field.{field};
@@ -17,7 +17,7 @@ use wire_checksum::checksum;
 use wire_ends::IpProtocol;
 use wire_field::{Octets, array_at, debug_view, is_bit_set};
 
-/// A view of the borrowed bytes of a packet. Each call requires only the bytes that it uses.
+/// A view of a borrowed IPv4 packet. A call requires only the bytes that it uses.
 #[derive(Clone, Copy, PartialEq, Eq, Drop)]
 pub struct Ipv4View<B> {
     pub(super) buffer: B,
@@ -30,16 +30,16 @@ pub type Ipv4Packet<'a> = Ipv4View<&'a [u8]>;
 pub type Ipv4PacketMut<'a> = Ipv4View<&'a mut [u8]>;
 
 impl<B: Octets> Ipv4View<B> {
-    /// The view of any bytes.
+    /// A view of any bytes. Nothing is checked.
     pub fn new_unchecked(buffer: B) -> Ipv4View<B>
         ensures { packet_slice result ≡ buffer }
     {
         Ipv4View { buffer }
     }
 
-    /// Whether the lengths are valid: the bytes hold a whole header and the length that it names.
-    /// Then each call of this view may be made, until the header's length or the packet's is
-    /// written.
+    /// Checks the lengths: the header length is at least 20, the total length at least that, and the
+    /// bytes hold the whole packet. After `Ok` every call of this view may be made, until the header
+    /// length or the total length is written.
     pub fn check_len(&self) -> Result<()>
         ensures { IsOk result ↔ HasLengths (B.octets (packet_slice self.now)) }
     {
@@ -55,21 +55,21 @@ impl<B: Octets> Ipv4View<B> {
         Ok(())
     }
 
-    /// The borrowed bytes, with their own lifetime.
+    /// The borrowed slice, with its own lifetime.
     pub fn into_inner(self) -> B
         ensures { result ≡ packet_slice self }
     {
         self.buffer
     }
 
-    /// The bytes.
+    /// The bytes under the view.
     pub fn as_bytes(&self) -> &[u8]
         ensures { result.now ≡ B.octets (packet_slice self.now) }
     {
         self.buffer.octets()
     }
 
-    /// A view that reads the same bytes.
+    /// A reading view of the same bytes.
     pub fn as_view(&self) -> Ipv4Packet<'_>
         ensures { packet_bytes result ≡ B.octets (packet_slice self.now) }
     {
@@ -84,7 +84,7 @@ impl<B: Octets> Ipv4View<B> {
         self.as_bytes()[0] >> 4
     }
 
-    /// The length of the header in octets, a multiple of 4 up to 60.
+    /// The length of the header in bytes: a multiple of 4, at most 60.
     pub fn header_len(&self) -> u8
         requires { 1 ≤ length (B.octets (packet_slice self.now)) }
         ensures { result ≡ header_len (B.octets (packet_slice self.now)) }
@@ -108,7 +108,7 @@ impl<B: Octets> Ipv4View<B> {
         self.as_bytes()[1] & 0x03
     }
 
-    /// The length of the packet in octets, its header included.
+    /// The total length in bytes: header and payload.
     pub fn total_len(&self) -> u16
         requires { 4 ≤ length (B.octets (packet_slice self.now)) }
         ensures { result ≡ total_len (B.octets (packet_slice self.now)) }
@@ -116,7 +116,7 @@ impl<B: Octets> Ipv4View<B> {
         NetworkEndian::read_u16(&self.as_bytes()[2..4])
     }
 
-    /// The number that the fragments of a packet share.
+    /// The identification, which all fragments of a packet share.
     pub fn ident(&self) -> u16
         requires { 6 ≤ length (B.octets (packet_slice self.now)) }
         ensures { result ≡ field (B.octets (packet_slice self.now)) 32 16 }
@@ -124,7 +124,7 @@ impl<B: Octets> Ipv4View<B> {
         NetworkEndian::read_u16(&self.as_bytes()[4..6])
     }
 
-    /// Whether the packet may not be cut into fragments.
+    /// Returns `true` if the flag DF (don't fragment) is set.
     pub fn dont_frag(&self) -> bool
         requires { 8 ≤ length (B.octets (packet_slice self.now)) }
         ensures { IsTrue result ↔ (field (B.octets (packet_slice self.now)) 49 1 ≡ 1) }
@@ -132,7 +132,7 @@ impl<B: Octets> Ipv4View<B> {
         is_bit_set(self.as_bytes(), 49)
     }
 
-    /// Whether more fragments follow this one.
+    /// Returns `true` if the flag MF (more fragments) is set.
     pub fn more_frags(&self) -> bool
         requires { 8 ≤ length (B.octets (packet_slice self.now)) }
         ensures { IsTrue result ↔ (field (B.octets (packet_slice self.now)) 50 1 ≡ 1) }
@@ -140,7 +140,7 @@ impl<B: Octets> Ipv4View<B> {
         is_bit_set(self.as_bytes(), 50)
     }
 
-    /// Where the fragment begins in the payload of the whole packet, in octets: a multiple of 8.
+    /// The fragment offset in bytes: a multiple of 8.
     pub fn frag_offset(&self) -> u16
         requires { 8 ≤ length (B.octets (packet_slice self.now)) }
         ensures { result ≡ fragment_offset (B.octets (packet_slice self.now)) }
@@ -148,8 +148,8 @@ impl<B: Octets> Ipv4View<B> {
         NetworkEndian::read_u16(&self.as_bytes()[6..8]) << 3
     }
 
-    /// Whether the packet is a fragment: more of them follow it, or it isn't the first (RFC 791,
-    /// section 3.2).
+    /// Returns `true` if the packet is a fragment: the flag MF is set, or the fragment offset is
+    /// not 0 (RFC 791, section 3.2).
     pub fn is_fragment(&self) -> bool
         requires { 8 ≤ length (B.octets (packet_slice self.now)) }
         ensures { result ≡ is_fragment (B.octets (packet_slice self.now)) }
@@ -157,7 +157,7 @@ impl<B: Octets> Ipv4View<B> {
         self.more_frags() | (self.frag_offset() != 0)
     }
 
-    /// How many more hops the packet may take: the field "time to live".
+    /// The hop limit: the number of hops that the packet may still take (the field "time to live").
     pub fn hop_limit(&self) -> u8
         requires { 9 ≤ length (B.octets (packet_slice self.now)) }
         ensures { result ≡ field (B.octets (packet_slice self.now)) 64 8 }
@@ -174,7 +174,7 @@ impl<B: Octets> Ipv4View<B> {
         IpProtocol::from(self.as_bytes()[9])
     }
 
-    /// The checksum of the header.
+    /// The checksum field, of the header only.
     pub fn checksum(&self) -> u16
         requires { 12 ≤ length (B.octets (packet_slice self.now)) }
         ensures { result ≡ field (B.octets (packet_slice self.now)) 80 16 }
@@ -182,7 +182,7 @@ impl<B: Octets> Ipv4View<B> {
         NetworkEndian::read_u16(&self.as_bytes()[10..12])
     }
 
-    /// The address of the sender.
+    /// The source address.
     pub fn src_addr(&self) -> Ipv4Address
         requires { 16 ≤ length (B.octets (packet_slice self.now)) }
         ensures { result ≡ slice_range (B.octets (packet_slice self.now)) 12 16 }
@@ -190,7 +190,7 @@ impl<B: Octets> Ipv4View<B> {
         Ipv4Address::from_octets(array_at(self.as_bytes(), 12))
     }
 
-    /// The address of the receiver.
+    /// The destination address.
     pub fn dst_addr(&self) -> Ipv4Address
         requires { 20 ≤ length (B.octets (packet_slice self.now)) }
         ensures { result ≡ slice_range (B.octets (packet_slice self.now)) 16 20 }
@@ -198,7 +198,7 @@ impl<B: Octets> Ipv4View<B> {
         Ipv4Address::from_octets(array_at(self.as_bytes(), 16))
     }
 
-    /// What the fragments of the packet have in common.
+    /// The key of a fragment: the values that all fragments of the packet have in common.
     pub fn get_key(&self) -> Ipv4FragKey
         requires { 20 ≤ length (B.octets (packet_slice self.now)) }
         ensures { result ≡ key_of (B.octets (packet_slice self.now)) }
@@ -211,7 +211,7 @@ impl<B: Octets> Ipv4View<B> {
         }
     }
 
-    /// Whether the sum of the header, its checksum included, has all 16 bits set.
+    /// Returns `true` if the header checksum is valid: the sum of the header is 0xffff.
     pub fn verify_checksum(&self) -> bool
         requires field { 1 ≤ length (B.octets (packet_slice self.now)) }
         requires header { header_len (B.octets (packet_slice self.now)) ≤ length (B.octets (packet_slice self.now)) }
@@ -224,7 +224,7 @@ impl<B: Octets> Ipv4View<B> {
 }
 
 impl<'a> Ipv4Packet<'a> {
-    /// The view of bytes that `check_len` takes.
+    /// A view of bytes that `check_len` accepts, else an error.
     pub fn new_checked(buffer: &'a [u8]) -> Result<Ipv4Packet<'a>>
         ensures ok { IsOk result ↔ HasLengths buffer.now }
         ensures bytes { IfOk result (λ packet. packet_bytes packet ≡ buffer.now) }
@@ -234,7 +234,7 @@ impl<'a> Ipv4Packet<'a> {
         Ok(packet)
     }
 
-    /// What follows the header, up to the packet's length: what stands behind it is padding.
+    /// The payload: the bytes after the header, up to the total length. Later bytes are padding.
     pub fn payload(&self) -> &'a [u8]
         requires fields { 4 ≤ length (packet_bytes self.now) }
         requires begins { header_len (packet_bytes self.now) ≤ total_len (packet_bytes self.now) }

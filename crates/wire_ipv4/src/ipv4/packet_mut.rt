@@ -1,4 +1,4 @@
-//! What a view of an IPv4 packet writes.
+//! Setters of IPv4 packets.
 
 ghost use Rattle.std.specs.Prelude.{◌≡◌, ◌↔◌, ◌≤◌, ◌<◌, ◌-◌, ◌/◌, if◌then◌else◌, IfOk, IsOk, length, slice_range};
 ghost use Rattle.std.specs.Borrow.{sem};
@@ -18,7 +18,8 @@ use wire_ends::IpProtocol;
 use wire_field::{Checked, Located, set_bits, set_bits_u16};
 
 impl<'a> Ipv4PacketMut<'a> {
-    /// The view of bytes that `check_len` takes. An error leaves them as they are.
+    /// A mutable view of bytes that `check_len` accepts, else an error. Rejected bytes are
+    /// unchanged.
     pub fn new_checked(buffer: &'a mut [u8]) -> Result<Ipv4PacketMut<'a>>
         ensures* rejected { sem 𝓛 (StaysIfErr buffer.entry packet_slice result) }
         ensures ok { IsOk result ↔ HasLengths buffer.old }
@@ -34,8 +35,8 @@ impl<'a> Ipv4PacketMut<'a> {
         }
     }
 
-    /// The payload, to be written in place. Bytes written to it go into the packet; all other bytes
-    /// stay.
+    /// The payload, to be written in place. Bytes written to it land in the packet; all other bytes
+    /// are unchanged.
     pub fn payload_mut(&mut self) -> &mut [u8]
         requires fields { 4 ≤ length (packet_bytes_mut self.old) }
         requires begins { header_len (packet_bytes_mut self.old) ≤ total_len (packet_bytes_mut self.old) }
@@ -55,7 +56,7 @@ impl<'a> Ipv4PacketMut<'a> {
         set_bits(self.buffer, 0, 4, value);
     }
 
-    /// Writes the length of the header in octets, cut to a multiple of 4 below 64.
+    /// Writes the length of the header in bytes, cut to a multiple of 4 below 64.
     pub fn set_header_len(&mut self, value: u8)
         requires { 1 ≤ length (packet_bytes_mut self.old) }
         ensures { Becomes self.old self.new (with_field (packet_bytes_mut self.old) 4 4 (value / 4)) }
@@ -79,7 +80,7 @@ impl<'a> Ipv4PacketMut<'a> {
         set_bits(self.buffer, 14, 2, value);
     }
 
-    /// Writes the length of the packet in octets, its header included.
+    /// Writes the total length in bytes: header and payload.
     pub fn set_total_len(&mut self, value: u16)
         requires { 4 ≤ length (packet_bytes_mut self.old) }
         ensures { Becomes self.old self.new (with_field (packet_bytes_mut self.old) 16 16 value) }
@@ -87,7 +88,7 @@ impl<'a> Ipv4PacketMut<'a> {
         NetworkEndian::write_u16(&mut self.buffer[2..4], value);
     }
 
-    /// Writes the number that the fragments of a packet share.
+    /// Writes the identification.
     pub fn set_ident(&mut self, value: u16)
         requires { 6 ≤ length (packet_bytes_mut self.old) }
         ensures { Becomes self.old self.new (with_field (packet_bytes_mut self.old) 32 16 value) }
@@ -95,7 +96,7 @@ impl<'a> Ipv4PacketMut<'a> {
         NetworkEndian::write_u16(&mut self.buffer[4..6], value);
     }
 
-    /// Writes whether the packet may not be cut into fragments.
+    /// Writes the flag DF (don't fragment).
     pub fn set_dont_frag(&mut self, value: bool)
         requires { 8 ≤ length (packet_bytes_mut self.old) }
         ensures { Becomes self.old self.new (with_field (packet_bytes_mut self.old) 49 1 (if value then 1 else 0)) }
@@ -103,7 +104,7 @@ impl<'a> Ipv4PacketMut<'a> {
         set_bits(self.buffer, 49, 1, value.into());
     }
 
-    /// Writes whether more fragments follow this one.
+    /// Writes the flag MF (more fragments).
     pub fn set_more_frags(&mut self, value: bool)
         requires { 8 ≤ length (packet_bytes_mut self.old) }
         ensures { Becomes self.old self.new (with_field (packet_bytes_mut self.old) 50 1 (if value then 1 else 0)) }
@@ -111,7 +112,7 @@ impl<'a> Ipv4PacketMut<'a> {
         set_bits(self.buffer, 50, 1, value.into());
     }
 
-    /// Writes where the fragment begins in octets, cut to a multiple of 8.
+    /// Writes the fragment offset in bytes, cut to a multiple of 8.
     pub fn set_frag_offset(&mut self, value: u16)
         requires { 8 ≤ length (packet_bytes_mut self.old) }
         ensures { Becomes self.old self.new (with_field (packet_bytes_mut self.old) 51 13 (value / 8)) }
@@ -119,7 +120,7 @@ impl<'a> Ipv4PacketMut<'a> {
         set_bits_u16(&mut self.buffer[6..8], 3, 13, value / 8);
     }
 
-    /// Writes how many more hops the packet may take.
+    /// Writes the hop limit.
     pub fn set_hop_limit(&mut self, value: u8)
         requires { 9 ≤ length (packet_bytes_mut self.old) }
         ensures { Becomes self.old self.new (with_field (packet_bytes_mut self.old) 64 8 value) }
@@ -135,7 +136,7 @@ impl<'a> Ipv4PacketMut<'a> {
         self.buffer[9] = value.into();
     }
 
-    /// Writes the field of the checksum.
+    /// Writes the checksum field.
     pub fn set_checksum(&mut self, value: u16)
         requires { 12 ≤ length (packet_bytes_mut self.old) }
         ensures { Becomes self.old self.new (with_field (packet_bytes_mut self.old) 80 16 value) }
@@ -143,7 +144,7 @@ impl<'a> Ipv4PacketMut<'a> {
         NetworkEndian::write_u16(&mut self.buffer[10..12], value);
     }
 
-    /// Writes the address of the sender.
+    /// Writes the source address.
     pub fn set_src_addr(&mut self, value: Ipv4Address)
         requires { 16 ≤ length (packet_bytes_mut self.old) }
         ensures { Becomes self.old self.new (with_range (packet_bytes_mut self.old) 12 16 value) }
@@ -151,7 +152,7 @@ impl<'a> Ipv4PacketMut<'a> {
         self.buffer[12..16].copy_from_slice(&value.octets());
     }
 
-    /// Writes the address of the receiver.
+    /// Writes the destination address.
     pub fn set_dst_addr(&mut self, value: Ipv4Address)
         requires { 20 ≤ length (packet_bytes_mut self.old) }
         ensures { Becomes self.old self.new (with_range (packet_bytes_mut self.old) 16 20 value) }
@@ -159,7 +160,7 @@ impl<'a> Ipv4PacketMut<'a> {
         self.buffer[16..20].copy_from_slice(&value.octets());
     }
 
-    /// Zeroes the three flags, the reserved one among them.
+    /// Clears the three flags, also the reserved one.
     pub fn clear_flags(&mut self)
         requires { 8 ≤ length (packet_bytes_mut self.old) }
         ensures { Becomes self.old self.new (with_field (packet_bytes_mut self.old) 48 3 0) }
@@ -167,7 +168,7 @@ impl<'a> Ipv4PacketMut<'a> {
         set_bits(self.buffer, 48, 3, 0);
     }
 
-    /// Writes the checksum of the header as it stands: the complement of the sum of its other words.
+    /// Computes the checksum of the header, and writes it.
     pub fn fill_checksum(&mut self)
         requires field { 12 ≤ length (packet_bytes_mut self.old) }
         requires header { header_len (packet_bytes_mut self.old) ≤ length (packet_bytes_mut self.old) }
@@ -180,7 +181,7 @@ impl<'a> Ipv4PacketMut<'a> {
     }
 }
 
-// Whether the lengths are valid: the bytes hold a whole header and the length that it names.
+// The slice, and whether `check_len` accepts it.
 fn check(bytes: &mut [u8]) -> Checked<'_>
     ensures { Checks bytes.entry (HasLengths bytes.old) result }
 {
@@ -188,7 +189,7 @@ fn check(bytes: &mut [u8]) -> Checked<'_>
     Checked { bytes, ok }
 }
 
-// Where the payload stands in the bytes of a packet.
+// The slice, and the range of the payload in it.
 fn locate_payload(bytes: &mut [u8]) -> Located<'_>
     requires fields { 4 ≤ length bytes.old }
     requires begins { header_len bytes.old ≤ total_len bytes.old }

@@ -17,23 +17,25 @@ use wire_checksum::for_emit;
 use wire_ends::IpProtocol;
 use wire_field::write_front;
 
-// The flag "don't fragment" alone, before the first bits of an offset of 0.
+// The byte with the flags, of which only DF (don't fragment) is set, and the first bits of an
+// offset of 0.
 const DONT_FRAG: u8 = 0x40;
 
-/// The fields of a header that upper layers need: no options, DSCP, ECN or fragment fields.
+/// The fields of a header that upper layers need, without options, DSCP, ECN and fragment fields.
 #[derive(Debug, Clone, Copy, PartialEq, Eq)]
 pub struct Ipv4Repr {
     pub src_addr: Ipv4Address,
     pub dst_addr: Ipv4Address,
     pub next_header: IpProtocol,
-    /// In octets.
+    /// The length of the payload in bytes.
     pub payload_len: usize,
     pub hop_limit: u8,
 }
 
 impl Ipv4Repr {
-    /// The values of a packet's header. Options are skipped, and a fragment parses like any packet.
-    /// The header's checksum is verified if `caps` says so.
+    /// Parses the header of a packet. Rejects what `check_len` rejects, another version than 4, and
+    /// a wrong checksum if `caps` asks to verify it. Options are ignored, and a fragment parses
+    /// like any packet.
     #[inline(always)]
     pub fn parse(packet: &Ipv4Packet<'_>, caps: &ChecksumCapabilities) -> Result<Ipv4Repr>
         ensures reads { (v : Ipv4Repr) → (result ≡ Ok v) ↔ Reads (packet_bytes packet.now) (verifies caps.now.ipv4) v }
@@ -56,15 +58,15 @@ impl Ipv4Repr {
         })
     }
 
-    /// The length of the header that `emit` writes, in octets.
+    /// The length of the emitted header in bytes.
     pub fn buffer_len(&self) -> usize
         ensures { result ≡ IPV4_HEADER_LEN }
     {
         IPV4_HEADER_LEN
     }
 
-    /// Writes the header. All bytes behind it stay unchanged. The flag "don't fragment" is set, and
-    /// the checksum is computed if `caps` says so, else 0.
+    /// Writes the header, with the flag DF (don't fragment). All bytes after it are unchanged. The
+    /// checksum is computed if `caps` asks for it, else it is 0.
     #[inline(always)]
     pub fn emit(&self, packet: &mut Ipv4PacketMut<'_>, caps: &ChecksumCapabilities)
         requires room { IPV4_HEADER_LEN ≤ length (packet_bytes_mut packet.old) }
@@ -75,8 +77,8 @@ impl Ipv4Repr {
         write_front(packet.buffer, &self.header(checksum));
     }
 
-    // The checksum of the header. It is computed from the values, since bytes that were just written
-    // are slow to read again.
+    // The checksum of the header, computed from the values. Bytes that were just written are slow
+    // to read again.
     #[inline(always)]
     fn checksum(self) -> u16
         requires { self.payload_len ≤ max_payload_len }

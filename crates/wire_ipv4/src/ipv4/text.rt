@@ -10,7 +10,7 @@ use std::fmt;
 use wire_addr::Ipv4Address;
 use wire_ends::IpProtocol;
 
-/// Writes the fields of a header, where the bytes hold one without options.
+/// Writes the fields of a header, or nothing if the bytes are fewer than a header without options.
 pub fn write_fields<W: fmt::Write>(
     packet: &Ipv4Packet<'_>,
     f: &mut fmt::Formatter<W>,
@@ -49,7 +49,7 @@ fn write_header_fields<W: fmt::Write>(
     )
 }
 
-// Writes the fields that print always.
+// Writes the fields that every header prints: addresses, protocol and hop limit.
 #[tactic(auto, unfolding(crate::specs::Ipv4Text::addresses_text))]
 fn write_addresses<W: fmt::Write>(
     f: &mut fmt::Formatter<W>,
@@ -66,7 +66,8 @@ fn write_addresses<W: fmt::Write>(
     )
 }
 
-// Writes the fields of the first two words.
+// Writes version, header length, DSCP and ECN, each only if it is not the usual one, and the total
+// length.
 #[tactic(auto, unfolding(crate::specs::Ipv4Text::lengths_text))]
 fn write_lengths<W: fmt::Write>(packet: &Ipv4Packet<'_>, f: &mut fmt::Formatter<W>) -> fmt::Result
     requires { 20 ≤ length (packet_bytes packet.now) }
@@ -80,7 +81,8 @@ fn write_lengths<W: fmt::Write>(packet: &Ipv4Packet<'_>, f: &mut fmt::Formatter<
     write!(f, " tlen={total_len}")
 }
 
-// Writes the flags and the fields on fragments.
+// Writes the flags DF and MF if they are set, an offset other than 0, and the identification of a
+// fragment.
 #[tactic(auto, unfolding(crate::specs::Ipv4Text::fragments_text))]
 fn write_fragments<W: fmt::Write>(
     f: &mut fmt::Formatter<W>,
@@ -101,7 +103,7 @@ fn write_fragments<W: fmt::Write>(
     }
 }
 
-// Writes a name and a number, unless it is the usual one.
+// Writes a name and a number, or nothing if it is the usual number.
 fn write_unless<W: fmt::Write>(
     f: &mut fmt::Formatter<W>,
     usual: u16,
@@ -117,7 +119,7 @@ fn write_unless<W: fmt::Write>(
     }
 }
 
-// Writes a word where it is wanted.
+// Writes a word if it is wanted.
 fn write_if<W: fmt::Write>(f: &mut fmt::Formatter<W>, wanted: bool, word: &str) -> fmt::Result
     ensures { WritesOnOk W.write_str_gives f.old result (text_if wanted word.now) f.new }
 {
