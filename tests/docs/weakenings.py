@@ -112,7 +112,7 @@ ITEMS = [
            (OCTETS, "ghost octets: { Self → List ℕ };", "ghost octets: { Self → List ℕ } = { λ slice. [] };")),
     weaker("the name of a C function", ("ip_wire_c/src/rebuild.rt", "#[unsafe(no_mangle)]\n", "")),
     weaker("an item under a condition",
-           ("wire_udp/src/udp.rt", "/// The length of a header in octets.\n", "#[cfg(feature = \"udp\")]\n")),
+           ("wire_udp/src/udp.rt", "/// The length of a header in bytes.\n", "#[cfg(feature = \"udp\")]\n")),
 ]
 
 MODULES = [

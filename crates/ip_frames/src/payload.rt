@@ -107,7 +107,7 @@ fn push_fragment_header(payload: &[u8], text: &mut String) -> Result<(), AllocEr
     writeln!(text, "{header}")
 }
 
-// The bytes of a fragment header behind the next header and the reserved byte. The view begins
+// The bytes of a fragment header after the next header and the reserved byte. The view begins
 // there (RFC 8200, section 4.5).
 fn skip_next_header(bytes: &[u8]) -> &[u8]
     ensures { result.now ≡ drop 2 bytes.now }

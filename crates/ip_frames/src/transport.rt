@@ -98,7 +98,7 @@ fn tcp_verdict(packet: &TcpPacket<'_>, header: &IpRepr) -> &'static str
 }
 
 // The note on a UDP packet or TCP segment with valid lengths that does not parse: whether it
-// parses without its checksum, and whether the checksum is the pseudo-header sum alone.
+// parses without its checksum, and whether the checksum is only the pseudo-header sum.
 fn unread_verdict(is_read: bool, is_partial: bool) -> &'static str
     ensures { result.now ≡ unread_verdict is_read is_partial }
 {

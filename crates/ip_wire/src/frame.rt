@@ -88,7 +88,7 @@ impl<'a> Frame<'a> {
         ETHERNET_HEADER_LEN + self.carried.buffer_len()
     }
 
-    /// Writes the frame to the front of `buffer`. All bytes behind it stay unchanged. Computes the
+    /// Writes the frame to the front of `buffer`. All bytes after it stay unchanged. Computes the
     /// checksums that `caps` selects; the others are 0.
     #[inline(always)]
     pub fn emit(&self, buffer: &mut [u8], caps: &ChecksumCapabilities)
@@ -99,8 +99,7 @@ impl<'a> Frame<'a> {
         self.try_emit(buffer, caps);
     }
 
-    /// As `emit`, and returns the number of bytes. None if they do not fit, and then nothing is
-    /// written.
+    /// As `emit`, and returns the number of bytes. Returns `None` and writes nothing if they do not fit.
     #[inline(always)]
     pub fn try_emit(&self, out: &mut [u8], caps: &ChecksumCapabilities) -> Option<usize>
         requires { Fits self.now }
@@ -121,7 +120,7 @@ impl<'a> Frame<'a> {
     }
 }
 
-/// A line for each layer, without a line end behind the last.
+/// A line for each layer, without a line end after the last.
 impl fmt::Display for Frame<'_> {
     ghost output = { λ frame. Some (frame_text frame) };
 

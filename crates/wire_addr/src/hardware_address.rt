@@ -17,7 +17,7 @@ pub enum HardwareAddress {
 }
 
 impl HardwareAddress {
-    /// Its six octets.
+    /// Its six bytes.
     pub fn as_bytes(&self) -> &[u8]
         requires { self.now ≢ Ip }
         ensures octets { octets_of self.now ≡ Some result.now }
@@ -29,7 +29,7 @@ impl HardwareAddress {
         }
     }
 
-    /// Returns `true` for the address of one station.
+    /// Returns `true` for the address of one host.
     pub fn is_unicast(&self) -> bool
         requires { self.now ≢ Ip }
         ensures { IfSome (octets_of self.now) (λ octets. IsTrue result ↔ IsUnicast octets) }

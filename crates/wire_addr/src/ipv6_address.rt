@@ -16,7 +16,7 @@ use arrayvec::ArrayString;
 use std::fmt;
 use std::marker::Model;
 
-/// The number of octets of an address.
+/// The number of bytes of an address.
 pub const IPV6_ADDR_SIZE: usize = 16;
 
 /// The group of all nodes on a link (RFC 4291, section 2.7.1).
@@ -45,7 +45,7 @@ const MAPPED_PREFIX: u128 = 0xffff;
 /// The least number of zero groups that `::` stands for (RFC 5952, section 4.2.2).
 const MIN_RUN: usize = 2;
 
-/// A sixteen-octet IPv6 address. A clause sees it as the list of its octets, in the order in which
+/// A sixteen-byte IPv6 address. A clause sees it as the list of its bytes, in the order in which
 /// they are sent.
 #[derive(Debug, Clone, Copy, PartialEq, Eq, PartialOrd, Ord, Hash)]
 pub struct Ipv6Address(pub(crate) [u8; IPV6_ADDR_SIZE]);
@@ -80,21 +80,21 @@ impl Ipv6Address {
         Ipv6Address::from([a, b, c, d, e, f, g, h])
     }
 
-    /// The address with these octets.
+    /// The address with these bytes.
     pub fn from_octets(octets: [u8; 16]) -> Ipv6Address
         ensures { result ≡ octets }
     {
         Ipv6Address(octets)
     }
 
-    /// The sixteen octets.
+    /// The sixteen bytes.
     pub fn octets(&self) -> [u8; 16]
         ensures { result ≡ self.now }
     {
         self.0
     }
 
-    /// The address with the octets of this number, in big-endian order.
+    /// The address with the bytes of this number, in big-endian order.
     #[inline]
     pub fn from_bits(bits: u128) -> Ipv6Address
         ensures value { number_of result ≡ bits }
@@ -103,7 +103,7 @@ impl Ipv6Address {
         Ipv6Address(bits.to_be_bytes())
     }
 
-    /// The octets as a big-endian number.
+    /// The bytes as a big-endian number.
     #[inline]
     pub fn to_bits(self) -> u128
         ensures value { result ≡ number_of self }
@@ -203,7 +203,7 @@ impl Ipv6Address {
         Some(Ipv6Address::from_octets(octets))
     }
 
-    /// The octets of the address, with zeros behind the first `mask` bits.
+    /// The bytes of the address, with zeros after the first `mask` bits.
     pub fn mask(&self, mask: u8) -> [u8; IPV6_ADDR_SIZE]
         requires { mask ≤ 128 }
         ensures { IsMasked mask self.now result }
@@ -257,7 +257,7 @@ impl Ipv6Address {
         (bits == mask_128(ones)).then_some(ones)
     }
 
-    /// The printed text (RFC 5952, section 4). The last four octets of an IPv4-mapped address are
+    /// The printed text (RFC 5952, section 4). The last four bytes of an IPv4-mapped address are
     /// dotted.
     #[inline(always)]
     pub fn text(&self) -> ArrayString<39>
@@ -299,7 +299,7 @@ impl Ipv6Address {
     }
 }
 
-/// The address with these octets.
+/// The address with these bytes.
 impl From<[u8; 16]> for Ipv6Address {
     ghost from_gives = { λ octets address. address ≡ octets };
 

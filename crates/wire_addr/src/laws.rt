@@ -86,19 +86,19 @@ pub fn hash_agrees<T: Hash>(a: &T, b: &T)
     ensures { T.eq a.now b.now ≡ true → T.hash_input a.now ≡ T.hash_input b.now }
 {}
 
-/// Ethernet addresses are ordered by their octets, and all octets are hashed.
+/// Ethernet addresses are ordered by their bytes, and all bytes are hashed.
 pub fn ethernet_address_order(a: EthernetAddress, b: EthernetAddress)
     ensures order { ⟦<EthernetAddress as Ord>⟧.cmp a b ≡ slice_cmp nat_cmp a.0 b.0 }
     ensures hash { ⟦<EthernetAddress as Hash>⟧.hash_input a ≡ hash.slice hash.u8 a.0 }
 {}
 
-/// IPv4 addresses are ordered by their octets, and all octets are hashed.
+/// IPv4 addresses are ordered by their bytes, and all bytes are hashed.
 pub fn ipv4_address_order(a: Ipv4Address, b: Ipv4Address)
     ensures order { ⟦<Ipv4Address as Ord>⟧.cmp a b ≡ slice_cmp nat_cmp a b }
     ensures hash { ⟦<Ipv4Address as Hash>⟧.hash_input a ≡ hash.slice hash.u8 a }
 {}
 
-/// IPv6 addresses are ordered by their octets, and all octets are hashed.
+/// IPv6 addresses are ordered by their bytes, and all bytes are hashed.
 pub fn ipv6_address_order(a: Ipv6Address, b: Ipv6Address)
     ensures order { ⟦<Ipv6Address as Ord>⟧.cmp a b ≡ slice_cmp nat_cmp a b }
     ensures hash { ⟦<Ipv6Address as Hash>⟧.hash_input a ≡ hash.slice hash.u8 a }
@@ -126,7 +126,7 @@ pub fn one_netmask(a: Ipv4Address, b: Ipv4Address)
     let _octets = (a.octets(), b.octets());
 }
 
-/// An address has one form with zeros behind its first `n` bits.
+/// An address has one form with zeros after its first `n` bits.
 pub fn one_masked_address(address: Ipv6Address, a: Ipv6Address, b: Ipv6Address)
     ensures { (n : ℕ) → IsMasked n address a → IsMasked n address b → a ≡ b }
 {

@@ -10,11 +10,11 @@ use net_base::{Error, Medium, Result};
 use std::fmt;
 use std::marker::Model;
 
-/// The number of octets of the longest hardware address.
+/// The number of bytes of the longest hardware address.
 pub const MAX_HARDWARE_ADDRESS_LEN: usize = 6;
 
-/// At most six octets that may be a hardware address. A clause sees the list of them. The rest of
-/// the array is 0, so that equal octets are equal values.
+/// At most six bytes that may be a hardware address. A clause sees the list of them. The rest of
+/// the array is 0, so that equal bytes are equal values.
 #[derive(Debug, Clone, Copy, PartialEq, Eq)]
 pub struct RawHardwareAddress {
     len: u8,
@@ -35,7 +35,7 @@ impl Model for RawHardwareAddress {
 }
 
 impl RawHardwareAddress {
-    /// The address with these octets. The slice must have at most six.
+    /// The address with these bytes. The slice must have at most six.
     pub fn from_bytes(bytes: &[u8]) -> RawHardwareAddress
         requires { length bytes.now ≤ 6 }
         ensures { result ≡ bytes.now }
@@ -48,7 +48,7 @@ impl RawHardwareAddress {
         }
     }
 
-    /// The octets.
+    /// The bytes.
     pub fn as_bytes(&self) -> &[u8]
         ensures octets { result.now ≡ self.now }
         ensures len { length result.now ≤ 6 }
@@ -56,22 +56,22 @@ impl RawHardwareAddress {
         &self.octets[..usize::from(self.len)]
     }
 
-    /// The number of octets.
+    /// The number of bytes.
     pub fn len(&self) -> usize
         ensures { result ≡ length self.now }
     {
         self.len.into()
     }
 
-    /// Returns `true` if there are no octets.
+    /// Returns `true` if there are no bytes.
     pub fn is_empty(&self) -> bool
         ensures { IsTrue result ↔ (self.now ≡ []) }
     {
         self.len == 0
     }
 
-    /// The address with these octets on a medium. Fails unless the medium is Ethernet and there are
-    /// six octets.
+    /// The address with these bytes on a medium. Fails unless the medium is Ethernet and there are
+    /// six bytes.
     pub fn parse(&self, medium: Medium) -> Result<HardwareAddress>
         ensures { (address : HardwareAddress) → (result ≡ Ok address) ↔ AreAddress self.now medium address }
     {
@@ -86,7 +86,7 @@ impl RawHardwareAddress {
         }
     }
 
-    /// The octets of an address. `Ip` has none.
+    /// The bytes of an address. `Ip` has none.
     pub fn from_hardware(address: HardwareAddress) -> Option<RawHardwareAddress>
         ensures { result ≡ octets_of address }
     {
@@ -97,7 +97,7 @@ impl RawHardwareAddress {
     }
 }
 
-/// Prints two lower-case hex digits for each octet, joined by `:`.
+/// Prints two lower-case hex digits for each byte, joined by `:`.
 impl fmt::Display for RawHardwareAddress {
     ghost output = { λ octets. Some (coloned octets) };
 

@@ -1,10 +1,10 @@
-//! The digits of octets, taken from tables.
+//! The digits of bytes, taken from tables.
 
 ghost use Rattle.std.specs.Prelude.{◌≡◌, ◌+◌, ◌*◌, ◌/◌, ◌%◌, ◌<◌, [], ◌∷◌, ◌++◌, decimal, length, take};
 ghost use Rattle.std.specs.Char.{digit_char};
 ghost use Rattle.std.specs.Str.{IsAscii};
 
-/// The two lower-case hex digits of each octet, the first digit in the low byte.
+/// The two lower-case hex digits of each byte, the first digit in the low byte.
 const HEX_PAIRS: [u16; 256] = [
     0x3030, 0x3130, 0x3230, 0x3330, 0x3430, 0x3530, 0x3630, 0x3730, 0x3830, 0x3930, 0x6130, 0x6230,
     0x6330, 0x6430, 0x6530, 0x6630, 0x3031, 0x3131, 0x3231, 0x3331, 0x3431, 0x3531, 0x3631, 0x3731,
@@ -30,7 +30,7 @@ const HEX_PAIRS: [u16; 256] = [
     0x6366, 0x6466, 0x6566, 0x6666,
 ];
 
-/// The decimal digits of each octet, the first digit in the low byte, with dots behind them.
+/// The decimal digits of each byte, the first digit in the low byte, with dots after them.
 const DECIMALS: [u32; 256] = [
     0x2e2e2e30, 0x2e2e2e31, 0x2e2e2e32, 0x2e2e2e33, 0x2e2e2e34, 0x2e2e2e35, 0x2e2e2e36, 0x2e2e2e37,
     0x2e2e2e38, 0x2e2e2e39, 0x2e2e3031, 0x2e2e3131, 0x2e2e3231, 0x2e2e3331, 0x2e2e3431, 0x2e2e3531,
@@ -66,7 +66,7 @@ const DECIMALS: [u32; 256] = [
     0x2e383432, 0x2e393432, 0x2e303532, 0x2e313532, 0x2e323532, 0x2e333532, 0x2e343532, 0x2e353532,
 ];
 
-/// The two lower-case hex digits of an octet, the first digit in the low byte.
+/// The two lower-case hex digits of a byte, the first digit in the low byte.
 #[inline(always)]
 fn hex_entry(octet: u8) -> u16
     ensures { result ≡ digit_char (octet % 16) * 256 + digit_char (octet / 16) }
@@ -74,7 +74,7 @@ fn hex_entry(octet: u8) -> u16
     HEX_PAIRS[octet as usize]
 }
 
-/// The two lower-case hex digits of an octet.
+/// The two lower-case hex digits of a byte.
 #[inline(always)]
 pub(crate) fn hex_pair(octet: u8) -> (u8, u8)
     ensures high { result.0 ≡ digit_char (octet / 16) }
@@ -85,7 +85,7 @@ pub(crate) fn hex_pair(octet: u8) -> (u8, u8)
     ((pair % 256) as u8, (pair / 256) as u8)
 }
 
-/// The decimal digits of an octet, with dots behind them.
+/// The decimal digits of a byte, with dots after them.
 #[inline(always)]
 pub(crate) fn decimal_dots(octet: u8) -> [u8; 4]
     ensures text { take (length (decimal octet) + 1) result ≡ decimal octet ++ 46 ∷ [] }

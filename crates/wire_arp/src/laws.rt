@@ -10,7 +10,7 @@ use crate::arp::{ArpHardware, ArpOperation, ArpPacket, ArpPacketMut, ArpRepr};
 use wire_ethernet::EthernetProtocol;
 use wire_field::laws::octets_fit;
 
-/// The packet of a value, with any bytes behind it, parses as the value's normal form.
+/// The packet of a value, with any bytes after it, parses as the value's normal form.
 pub fn emit_reads_back_arp(value: ArpRepr, rest: &[u8])
     ensures { Reads (bytes_of value ++ rest.now) (normal value) }
 {}

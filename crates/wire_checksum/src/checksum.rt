@@ -53,7 +53,7 @@ pub fn data(bytes: &[u8]) -> u16
 }
 
 /// The sum of an IPv4 pseudo-header (RFC 768). Only the low 16 bits of the length count. The length
-/// is in octets.
+/// is in bytes.
 pub fn pseudo_header_v4(
     src_addr: &Ipv4Address,
     dst_addr: &Ipv4Address,
@@ -67,7 +67,7 @@ pub fn pseudo_header_v4(
 }
 
 /// The sum of an IPv6 pseudo-header (RFC 8200, section 8.1). Only the low 16 bits of the length
-/// count. The length is in octets.
+/// count. The length is in bytes.
 pub fn pseudo_header_v6(
     src_addr: &Ipv6Address,
     dst_addr: &Ipv6Address,
@@ -81,7 +81,7 @@ pub fn pseudo_header_v6(
 }
 
 /// The sum of the pseudo-header of either IP version. Only the low 16 bits of the length count. The
-/// length is in octets.
+/// length is in bytes.
 pub fn pseudo_header(
     src_addr: &IpAddress,
     dst_addr: &IpAddress,
@@ -94,7 +94,7 @@ pub fn pseudo_header(
     finish(pseudo_header_total(*src_addr, *dst_addr, next_header, length))
 }
 
-/// The sum of a pseudo-header and the packet behind it. The length in the pseudo-header is that of
+/// The sum of a pseudo-header and the packet after it. The length in the pseudo-header is that of
 /// the packet.
 #[inline(always)]
 pub fn packet(
@@ -111,7 +111,7 @@ pub fn packet(
     finish(around(header, total(packet)))
 }
 
-/// The sum of the octets of an address, as it is part of a pseudo-header.
+/// The sum of the bytes of an address, as it is part of a pseudo-header.
 pub fn address(address: &IpAddress) -> u16
     ensures value { result ≡ sum_of_bytes (octets_of address.now) }
     ensures whole_words { length (octets_of address.now) % 2 ≡ 0 }

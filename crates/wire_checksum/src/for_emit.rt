@@ -11,7 +11,7 @@ use crate::checksum::pseudo_header_total;
 use crate::totals::{around, finish, reduce, total, total_of_words};
 use wire_ends::{IpAddress, IpProtocol};
 
-/// The sum of a header of 20 octets, such as an IPv4 header without options. It equals
+/// The sum of a header of 20 bytes, such as an IPv4 header without options. It equals
 /// `checksum::data`.
 #[inline(always)]
 pub fn header(bytes: &[u8; 20]) -> u16
@@ -30,7 +30,7 @@ pub fn words(numbers: [u32; 5]) -> u16
 }
 
 /// The sum of a pseudo-header and a packet in two slices. It equals `checksum::packet` of both
-/// slices joined. The first slice has at most 60 octets, in whole words of 4.
+/// slices joined. The first slice has at most 60 bytes, in whole words of 4.
 #[inline(always)]
 pub fn packet(
     src_addr: IpAddress,

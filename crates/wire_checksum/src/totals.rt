@@ -144,7 +144,7 @@ pub fn total_of_words(bytes: &[u8]) -> u64
     sum
 }
 
-// The total of the bytes behind the last whole word of 8 bytes. They are the end of the last 8
+// The total of the bytes after the last whole word of 8 bytes. They are the end of the last 8
 // bytes.
 #[inline]
 fn tail(bytes: &[u8]) -> u64
@@ -227,7 +227,7 @@ fn add_eight(start: u64, bytes: &[u8; 64]) -> u64
     sum + carry
 }
 
-// Adds all whole words of 8 bytes to a total. The words behind the chunks come first, which needs
+// Adds all whole words of 8 bytes to a total. The words after the chunks come first, which needs
 // fewer jumps.
 #[inline]
 fn one_chain(bytes: &[u8], start: u64) -> u64

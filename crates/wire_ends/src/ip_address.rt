@@ -127,7 +127,7 @@ impl From<Ipv6Address> for IpAddress {
     }
 }
 
-/// The address with the same octets.
+/// The address with the same bytes.
 impl From<IpAddr> for IpAddress {
     ghost from_gives = { λ addr address. address ≡ address_of addr };
 
@@ -139,7 +139,7 @@ impl From<IpAddr> for IpAddress {
     }
 }
 
-/// The address with the same octets.
+/// The address with the same bytes.
 impl From<Ipv4Addr> for IpAddress {
     ghost from_gives = { λ addr address. address ≡ address_of (V4 addr) };
 
@@ -148,7 +148,7 @@ impl From<Ipv4Addr> for IpAddress {
     }
 }
 
-/// The address with the same octets.
+/// The address with the same bytes.
 impl From<Ipv6Addr> for IpAddress {
     ghost from_gives = { λ addr address. address ≡ address_of (V6 addr) };
 
@@ -157,7 +157,7 @@ impl From<Ipv6Addr> for IpAddress {
     }
 }
 
-/// The address with the same octets.
+/// The address with the same bytes.
 impl From<IpAddress> for IpAddr {
     ghost from_gives = { λ address addr. address_of addr ≡ address };
 

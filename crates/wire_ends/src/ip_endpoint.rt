@@ -194,7 +194,7 @@ fn alone(text: &[u8]) -> Result<IpEndpoint, ()>
     }
 }
 
-/// Parses an address alone, with port 0, or an address, `:` and a port. An IPv6 address before a port is
+/// Parses an address by itself, with port 0, or an address, `:` and a port. An IPv6 address before a port is
 /// in brackets.
 impl FromStr for IpEndpoint {
     type Err = ();

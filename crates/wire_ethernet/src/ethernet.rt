@@ -217,7 +217,7 @@ impl fmt::Display for EthernetFrame<'_> {
 }
 
 impl<'a> EthernetFrameMut<'a> {
-    /// The view of bytes that hold a header. An error leaves them as they are.
+    /// A mutable view, or an error for fewer than 14 bytes, which stay unchanged.
     pub fn new_checked(buffer: &'a mut [u8]) -> Result<EthernetFrameMut<'a>>
         ensures* refused { sem 𝓛 (StaysIfErr buffer.entry frame_slice result) }
         ensures ok { IsOk result ↔ (14 ≤ length buffer.old) }
@@ -276,7 +276,7 @@ fn check(bytes: &mut [u8]) -> Checked<'_>
     Checked { bytes, ok }
 }
 
-// Where the payload stands in the bytes of a frame.
+// The place of the payload in the bytes of a frame.
 fn locate_payload(bytes: &mut [u8]) -> Located<'_>
     requires { 14 ≤ length bytes.old }
     ensures { Locates bytes.entry 14 (length bytes.old) result }
@@ -322,7 +322,7 @@ impl EthernetRepr {
         ETHERNET_HEADER_LEN
     }
 
-    /// Writes the header. All bytes behind it stay unchanged.
+    /// Writes the header. All bytes after it stay unchanged.
     pub fn emit(&self, frame: &mut EthernetFrameMut<'_>)
         requires { 14 ≤ length (frame_bytes_mut frame.old) }
         ensures { Becomes frame.old frame.new (bytes_of self.now ++ drop 14 (frame_bytes_mut frame.old)) }

@@ -10,7 +10,7 @@ use byteorder::{ByteOrder, NetworkEndian};
 use wire_addr::EthernetAddress;
 use wire_field::laws::octets_fit;
 
-/// The header of a value, with any bytes behind it, parses as the value's normal form.
+/// The header of a value, with any bytes after it, parses as the value's normal form.
 pub fn emit_reads_back_ethernet(value: EthernetRepr, rest: &[u8])
     ensures { Reads (bytes_of value ++ rest.now) (normal value) }
 {}

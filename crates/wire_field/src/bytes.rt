@@ -16,7 +16,7 @@ pub fn array_at<const N: usize>(bytes: &[u8], first: usize) -> [u8; N]
     array
 }
 
-/// Writes these bytes to the front. All bytes behind them stay unchanged.
+/// Writes these bytes to the front. All bytes after them stay unchanged.
 #[inline(always)]
 pub fn write_front<const N: usize>(bytes: &mut [u8], front: &[u8; N])
     requires { N ≤ length bytes.old }
@@ -25,7 +25,7 @@ pub fn write_front<const N: usize>(bytes: &mut [u8], front: &[u8; N])
     bytes[..N].copy_from_slice(front);
 }
 
-/// Writes six octets, such as an Ethernet address, to the front. All bytes behind them stay unchanged. They
+/// Writes six bytes, such as an Ethernet address, to the front. All bytes after them stay unchanged. They
 /// are moved as two words, which needs no copy on the stack.
 #[inline(always)]
 pub fn write_six(bytes: &mut [u8], six: &[u8; 6])
@@ -36,8 +36,8 @@ pub fn write_six(bytes: &mut [u8], six: &[u8; 6])
     NetworkEndian::write_u16(&mut bytes[4..6], NetworkEndian::read_u16(&six[4..6]));
 }
 
-/// Copies `part` to the front of the bytes and returns its length. `None` if it does not fit; then nothing is
-/// written.
+/// Copies `part` to the front of the bytes and returns its length. Returns `None` and writes nothing if it does
+/// not fit.
 #[inline(always)]
 pub fn try_copy(bytes: &mut [u8], part: &[u8]) -> Option<usize>
     ensures { Fills part.now (length part.now) bytes.old bytes.new result }

@@ -4,15 +4,15 @@ ghost use Rattle.std.specs.Prelude.{◌≡◌, ℕ, List};
 
 use std::fmt;
 
-/// A borrowed slice of octets, to be read or also written.
+/// A borrowed slice of bytes, to be read or also written.
 pub trait Octets {
-    // the octets of the slice
+    // the bytes of the slice
     ghost octets: { Self → List ℕ };
 
     /// What the name of a view of such a slice ends in.
     const NAME_END: &'static str;
 
-    /// The octets.
+    /// The bytes.
     fn octets(&self) -> &[u8]
         ensures { result.now ≡ octets self.now };
 }
@@ -37,7 +37,7 @@ impl Octets for &mut [u8] {
     }
 }
 
-/// Writes the debug text of a view: its name, and the octets under it.
+/// Writes the debug text of a view: its name, and the bytes under it.
 pub fn debug_view<W: fmt::Write, B: Octets>(
     f: &mut fmt::Formatter<W>,
     name: &str,

@@ -20,7 +20,7 @@ pub use repr::IcmpRepr;
 use wire_checksum::checksum;
 use wire_ends::{IpAddress, IpProtocol, IpVersion};
 
-/// The length of a header in octets.
+/// The length of a header in bytes.
 pub const ICMP_HEADER_LEN: usize = 8;
 
 /// The protocol of the messages of a version.

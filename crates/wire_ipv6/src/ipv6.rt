@@ -7,11 +7,11 @@ mod repr;
 pub use packet::{Ipv6Packet, Ipv6PacketMut};
 pub use repr::Ipv6Repr;
 
-/// The length of a header in octets. Extension headers belong to the payload.
+/// The length of a header in bytes. Extension headers belong to the payload.
 pub const IPV6_HEADER_LEN: usize = 40;
 
-/// The length of the longest payload in octets. The payload length field has 16 bits.
+/// The length of the longest payload in bytes. The payload length field has 16 bits.
 pub const IPV6_MAX_PAYLOAD_LEN: usize = 65_535;
 
-/// The packet size in octets that every link must support (RFC 8200, section 5).
+/// The packet size in bytes that every link must support (RFC 8200, section 5).
 pub const IPV6_MIN_MTU: usize = 1280;

@@ -8,5 +8,5 @@ mod repr;
 pub use header::{Ipv6FragmentHeader, Ipv6FragmentHeaderMut};
 pub use repr::Ipv6FragmentRepr;
 
-// The length of a header without its first two bytes, in octets.
+// The length of a header without its first two bytes.
 const HEADER_LEN: usize = 6;

@@ -52,7 +52,7 @@ pub fn normal_twice_ipv6(bytes: &[u8], value: Ipv6Repr)
     ensures read { ipv6.Reads bytes.now value → ipv6.normal value ≡ value }
 {}
 
-/// The header of a value, with any bytes behind it, parses as the value's normal form.
+/// The header of a value, with any bytes after it, parses as the value's normal form.
 pub fn emit_reads_back_ipv6_fragment(value: Ipv6FragmentRepr, rest: &[u8])
     ensures { fragment.Reads (fragment.bytes_of value ++ rest.now) (fragment.normal value) }
 {}

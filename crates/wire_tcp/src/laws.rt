@@ -137,7 +137,7 @@ pub fn filled_checksum_verifies(src_addr: IpAddress, dst_addr: IpAddress, bytes:
     ensures { Verifies src_addr dst_addr (with_checksum src_addr dst_addr bytes.now) }
 {}
 
-/// A value without SACK ranges has a header of at most 40 octets. It is normal if its window scale is at
+/// A value without SACK ranges has a header of at most 40 bytes. It is normal if its window scale is at
 /// most 14.
 pub fn no_ranges_tcp(value: TcpRepr<'_>)
     requires { value.sack_ranges ≡ no_ranges }
@@ -357,7 +357,7 @@ pub fn fill_checksum_writes_one_field_tcp(
 }
 
 /// The header's length and the lengths of options and payload agree. A segment uses one sequence
-/// number for each octet of its payload, for SYN and for FIN.
+/// number for each byte of its payload, for SYN and for FIN.
 pub fn lengths_agree_tcp(packet: &TcpPacket<'_>) -> bool
     requires { HasLengths (packet_bytes packet.now) }
     ensures { IsTrue result }

@@ -28,7 +28,7 @@ fn may_end_dotted(groups: &[u16], before: Option<usize>) -> bool
     }
 }
 
-/// The groups in front of `::`, zeros, and the groups behind it.
+/// The groups in front of `::`, zeros, and the groups after it.
 #[inline(always)]
 fn spread(groups: &[u16; 8], len: usize, before: usize) -> [u16; 8]
     requires few { len ≤ 8 }
@@ -85,7 +85,7 @@ fn dotted_end(groups: &[u16], before: Option<usize>, text: &[u8]) -> Option<[u16
     Some(mapped(dotted(text)?))
 }
 
-/// The octets of a dotted part. Not inlined, so that the loop over groups keeps its values in registers.
+/// The bytes of a dotted part. Not inlined, so that the loop over groups keeps its values in registers.
 #[inline(never)]
 fn dotted(text: &[u8]) -> Option<[u8; 4]>
     ensures { Reads IsDotted text.now result }

@@ -98,7 +98,7 @@ pub fn number(text: &[u8], radix: u32, places: usize, most: u32) -> Option<u32>
     Some(value)
 }
 
-/// The number in front of the first mark, or of the whole text, and the text behind the mark, if any.
+/// The number in front of the first mark, or of the whole text, and the text after the mark, if any.
 #[inline(always)]
 pub(crate) fn first_piece(
     text: &[u8],

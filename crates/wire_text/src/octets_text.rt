@@ -1,4 +1,4 @@
-//! Octets joined by a mark.
+//! Bytes joined by a mark.
 
 ghost use Rattle.std.specs.Prelude.{◌≡◌, ◌↔◌, ◌≤◌, ◌<◌, ◌∷◌, [], ℕ, List, true, IsTrue, Some, length};
 ghost use Rattle.std.specs.Char.{digit_value};
@@ -29,7 +29,7 @@ fn fill(text: &[u8], mark: u8, radix: u32, places: usize, values: &mut [u8]) -> 
     rest.is_none()
 }
 
-/// The octets of four decimal numbers joined by dots.
+/// The bytes of four decimal numbers joined by dots.
 #[inline(always)]
 pub fn octets(text: &[u8]) -> Option<[u8; 4]>
     ensures { Reads IsDotted text.now result }
@@ -38,7 +38,7 @@ pub fn octets(text: &[u8]) -> Option<[u8; 4]>
     fill(text, b'.', 10, 3, &mut octets).then_some(octets)
 }
 
-/// The octets of six hex numbers joined by this mark.
+/// The bytes of six hex numbers joined by this mark.
 #[inline(always)]
 fn hex_octets_joined(text: &[u8], mark: u8) -> Option<[u8; 6]>
     requires apart { 16 ≤ digit_value mark }
@@ -58,7 +58,7 @@ fn two_digits(high: u8, low: u8) -> (u8, bool)
     (((high * 16 + low) % 256) as u8, (high < 16) & (low < 16))
 }
 
-/// The octets of six pairs of hex digits joined by this mark; one test covers all bytes but the first.
+/// The bytes of six pairs of hex digits joined by this mark; one test covers all digits but the first.
 #[inline(always)]
 fn six_pairs(text: &[u8; 17], mark: u8) -> Option<[u8; 6]>
     ensures { Reads (IsHexOctets mark) text.now result }
@@ -81,7 +81,7 @@ fn six_pairs(text: &[u8; 17], mark: u8) -> Option<[u8; 6]>
     all.then_some([a, b, c, d, e, f])
 }
 
-/// The octets of a text of 17 bytes, the usual form: each of the six numbers has two digits.
+/// The six bytes of a text of length 17, the usual form: each number has two digits.
 #[inline(always)]
 fn pairs(text: &[u8; 17]) -> Option<[u8; 6]>
     ensures { Reads IsHexText text.now result }
@@ -105,7 +105,7 @@ fn first_mark(text: &[u8]) -> Option<u8>
     Some(if is_digit { *third } else { *second })
 }
 
-/// The octets of six hex numbers joined by the byte after the first.
+/// The bytes of six hex numbers joined by the mark after the first.
 #[inline(always)]
 fn numbers(text: &[u8]) -> Option<[u8; 6]>
     ensures { Reads IsHexText text.now result }
@@ -125,7 +125,7 @@ fn is_too_long(text: &[u8]) -> bool
     text.len() > 17
 }
 
-/// The octets of six hex numbers, joined all by dashes or all by colons.
+/// The bytes of six hex numbers, joined all by dashes or all by colons.
 pub fn hex_octets(text: &[u8]) -> Option<[u8; 6]>
     ensures { Reads IsHexText text.now result }
 {

@@ -13,7 +13,7 @@ use crate::udp::{UDP_HEADER_LEN, UdpPacket, UdpPacketMut, UdpRepr};
 use wire_ends::IpAddress;
 use wire_field::laws::octets_fit;
 
-/// The emitted packet, with any bytes behind it, parses as the same value and payload. A checksum
+/// The emitted packet, with any bytes after it, parses as the same value and payload. A checksum
 /// that is verified must have been computed.
 pub fn emit_reads_back_udp(
     value: UdpRepr,

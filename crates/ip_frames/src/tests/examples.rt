@@ -4,8 +4,8 @@
 /// with all its bytes.
 pub fn examples() -> [(&'static [u8], &'static [u8]); 14] {
     [
-        // A datagram, with another checksum, with the sum of the pseudo header alone, and to port 0. The padding
-        // behind the packet is dropped each time.
+        // A datagram, with another checksum, with only the sum of the pseudo-header, and to port 0. The padding
+        // after the packet is dropped each time.
         (
             b"010203040506111213141516080045000020000040004011b779c0a80101c0a80102bf000035000c124daa0000ff0000000000000000000000000000",
             b"EthernetII src=11-12-13-14-15-16 dst=01-02-03-04-05-06 type=IPv4\n\
@@ -64,7 +64,7 @@ pub fn examples() -> [(&'static [u8], &'static [u8]); 14] {
             TCP src=48896 dst=80 fin rst seq=19088743 ack=2309737967 win=291 urg=513 len=4 ws=12 (refused)\n\
             again 010203040506111213141516080045000030000040004006b774c0a80101c0a80102bf0000500123456789abcdef6035012301b6020103030c01aa0000ff\n\n",
         ),
-        // A datagram and a fragment over IPv6. The fragment header is read behind its first two bytes.
+        // A datagram and a fragment over IPv6. The fragment header is read after its first two bytes.
         (
             b"01020304050611121314151686dd60000000000c1140fe800000000000000000000000000001ff02000000000000000000000000000100010002000c024effffffff",
             b"EthernetII src=11-12-13-14-15-16 dst=01-02-03-04-05-06 type=IPv6\n\

@@ -71,7 +71,7 @@ fn segments(rt: HostRuntime) {
                 TCP src=48896 dst=80 syn seq=19088743 win=291 len=4\n\
                 again 01020304050611121314151686dd6000000000180640fe800000000000000000000000000001fe800000000000000000000000000002bf00005001234567000000005002012300dd0000aa0000ff\n\n",
         ),
-        // With four SACK blocks behind two no-operations. The rebuilt header has its two octets of padding at the end.
+        // With four SACK blocks after two no-operations. The rebuilt header has its two bytes of padding at the end.
         (
             b"01020304050611121314151608004500004c000040004006b758c0a80101c0a80102bf0000500123456789abcdefe0100123377c0000010105220000000100000002000000030000000400000005000000060000000700000008",
             b"EthernetII src=11-12-13-14-15-16 dst=01-02-03-04-05-06 type=IPv4\n\

@@ -127,9 +127,9 @@ impl<'a> Carried<'a> {
         }
     }
 
-    /// Writes the payload of a frame to the front of `out`, and returns the number of bytes. None
-    /// if they do not fit; the contents of `out` are kept then. An IP header gets the length of the
-    /// transport behind it. Computes the checksums that `caps` selects; the others are 0.
+    /// Writes the payload of a frame to the front of `out`, and returns the number of bytes.
+    /// Returns `None` and writes nothing if they do not fit. An IP header gets the length of the
+    /// transport after it. Computes the checksums that `caps` selects; the others are 0.
     #[inline(always)]
     pub fn try_emit(&self, out: &mut [u8], caps: &ChecksumCapabilities) -> Option<usize>
         requires { FitsCarried self.now }
@@ -172,7 +172,7 @@ fn emit_packet(
     }
 }
 
-/// A line for each layer, each behind a line end. Bytes that were not parsed print nothing.
+/// A line for each layer, each after a line end. Bytes that were not parsed print nothing.
 impl fmt::Display for Carried<'_> {
     ghost output = { λ c. Some (carried_text c) };
 

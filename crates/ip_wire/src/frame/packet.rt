@@ -28,7 +28,7 @@ pub struct Packet<'a> {
 impl<'a> Packet<'a> {
     /// Parses a packet of the version in its first four bits. Padding is dropped. Verifies the
     /// checksums that `caps` selects. An error for another version, for an IPv4 fragment, and for
-    /// each packet that `Frame::parse` rejects behind an Ethernet header.
+    /// each packet that `Frame::parse` rejects after an Ethernet header.
     #[inline(always)]
     pub fn parse(bytes: &'a [u8], caps: &ChecksumCapabilities) -> Result<Packet<'a>>
         ensures ok { IfOk result (ParsesPacket caps.now bytes.now) }

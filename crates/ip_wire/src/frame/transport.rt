@@ -118,7 +118,7 @@ impl<'a> Transport<'a> {
     }
 
     /// Writes the payload of a packet with this header to the front of `out`, and returns the
-    /// number of bytes. None if they do not fit, and then nothing is written. Computes the
+    /// number of bytes. Returns `None` and writes nothing if they do not fit. Computes the
     /// checksums that `caps` selects; the others are 0.
     #[inline(always)]
     pub fn try_emit(
@@ -142,7 +142,7 @@ impl<'a> Transport<'a> {
     }
 }
 
-/// A line of its own, behind a line end, for UDP and TCP; nothing for other bytes.
+/// A line of its own, after a line end, for UDP and TCP; nothing for other bytes.
 impl fmt::Display for Transport<'_> {
     ghost output = { λ t. Some (transport_text t) };
 

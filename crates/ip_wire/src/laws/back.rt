@@ -21,7 +21,7 @@ use wire_ip::IpRepr;
 use wire_tcp::TcpRepr;
 use wire_udp::UdpRepr;
 
-/// An Ethernet header and what it carries, emitted with any padding behind them, parse layer by
+/// An Ethernet header and what it carries, emitted with any padding after them, parse layer by
 /// layer as their normal forms. Each header must name what follows it. Of the checksums that these
 /// headers have, each that the receiver verifies must be computed.
 pub fn frame_composes(
@@ -60,7 +60,7 @@ pub fn frame_composes(
     }
 }
 
-/// The emitted frame, with any padding behind it, parses as the normal form of its value. The
+/// The emitted frame, with any padding after it, parses as the normal form of its value. The
 /// premises are those of `frame_composes`.
 pub fn frame_reads_back(
     frame: &Frame<'_>,

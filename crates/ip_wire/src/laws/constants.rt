@@ -22,7 +22,7 @@ use wire_tcp::{TCP_HEADER_LEN, TCP_MAX_HEADER_LEN};
 use wire_tcp_parts::{SACK_BLOCKS, TcpSeqNumber};
 use wire_udp::{UDP_HEADER_LEN, UDP_MAX_PAYLOAD_LEN};
 
-/// The lengths in octets: of headers without options, of the longest payloads, of addresses, and of the
+/// The lengths in bytes: of headers without options, of the longest payloads, of addresses, and of the
 /// packet that every link of a version can carry. `SACK_BLOCKS` counts the ranges that a TCP header can hold.
 pub fn constant_lengths()
     ensures ethernet { ETHERNET_HEADER_LEN ≡ 14 }
@@ -41,7 +41,7 @@ pub fn constant_lengths()
     ensures udp_payload { UDP_MAX_PAYLOAD_LEN ≡ 65527 }
 {}
 
-/// The Ethernet address of all stations.
+/// The Ethernet address of all hosts.
 pub fn constant_ethernet_address()
     ensures { EthernetAddress.BROADCAST.0 ≡ 0xff ∷ 0xff ∷ 0xff ∷ 0xff ∷ 0xff ∷ 0xff ∷ [] }
 {}

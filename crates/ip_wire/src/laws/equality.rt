@@ -49,7 +49,7 @@ pub fn eq_is_equality_capabilities(a: ChecksumCapabilities, b: ChecksumCapabilit
     eq_is_equality();
 }
 
-/// The same of `RawHardwareAddress`: its values are equal exactly if they have the same octets.
+/// The same of `RawHardwareAddress`: its values are equal exactly if they have the same bytes.
 pub fn eq_is_equality_raw(a: RawHardwareAddress, b: RawHardwareAddress)
     ensures { (⟦<RawHardwareAddress as PartialEq>⟧.eq a b ≡ true) ↔ (a ≡ b) }
 {}

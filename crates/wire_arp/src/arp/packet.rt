@@ -88,7 +88,7 @@ impl<B: Octets> ArpView<B> {
         EthernetProtocol::from(NetworkEndian::read_u16(&self.as_bytes()[2..4]))
     }
 
-    /// The length of a hardware address, in octets.
+    /// The length of a hardware address, in bytes.
     pub fn hardware_len(&self) -> u8
         requires { 5 ≤ length (B.octets (packet_slice self.now)) }
         ensures { result ≡ hardware_len (B.octets (packet_slice self.now)) }
@@ -96,7 +96,7 @@ impl<B: Octets> ArpView<B> {
         self.as_bytes()[4]
     }
 
-    /// The length of a protocol address, in octets.
+    /// The length of a protocol address, in bytes.
     pub fn protocol_len(&self) -> u8
         requires { 6 ≤ length (B.octets (packet_slice self.now)) }
         ensures { result ≡ protocol_len (B.octets (packet_slice self.now)) }

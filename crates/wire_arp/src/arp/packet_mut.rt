@@ -79,7 +79,7 @@ impl<'a> ArpPacketMut<'a> {
         NetworkEndian::write_u16(&mut self.buffer[2..4], value.into());
     }
 
-    /// Writes the length of a hardware address, in octets. The addresses behind the first move.
+    /// Writes the length of a hardware address, in bytes. The addresses after the first move.
     pub fn set_hardware_len(&mut self, value: u8)
         requires { 5 ≤ length (packet_bytes_mut self.old) }
         ensures { Becomes self.old self.new (with_field (packet_bytes_mut self.old) 32 8 value) }
@@ -87,7 +87,7 @@ impl<'a> ArpPacketMut<'a> {
         self.buffer[4] = value;
     }
 
-    /// Writes the length of a protocol address, in octets. The addresses of the target move.
+    /// Writes the length of a protocol address, in bytes. The addresses of the target move.
     pub fn set_protocol_len(&mut self, value: u8)
         requires { 6 ≤ length (packet_bytes_mut self.old) }
         ensures { Becomes self.old self.new (with_field (packet_bytes_mut self.old) 40 8 value) }

@@ -5,7 +5,7 @@ ghost use Rattle.std.specs.Prelude.{◌≡◌, ◌+◌, ◌*◌};
 
 use std::ops::Range;
 
-/// The length of the fields before the addresses, in octets.
+/// The length of the fields before the addresses, in bytes.
 pub const FIXED_LEN: usize = 8;
 
 /// The bytes of the source's hardware address.

@@ -16,16 +16,16 @@ use wire_addr::{EthernetAddress, Ipv4Address};
 use wire_ethernet::EthernetProtocol;
 use wire_field::{array_at, write_front};
 
-/// The length of an Ethernet address, in octets.
+/// The length of an Ethernet address, in bytes.
 const ETHERNET_ADDR_LEN: u8 = 6;
 
-/// The length of an IPv4 address, in octets.
+/// The length of an IPv4 address, in bytes.
 const IPV4_ADDR_LEN: u8 = 4;
 
-/// The length of a packet with such addresses, in octets.
+/// The length of a packet with such addresses, in bytes.
 const ETHERNET_IPV4_LEN: usize = 28;
 
-/// The first eight octets of such a packet as one big-endian number, with 0 for the operation.
+/// The first eight bytes of such a packet as one big-endian number, with 0 for the operation.
 const ETHERNET_IPV4: u64 = 0x0001_0800_0604_0000;
 
 /// The fields of a packet that upper layers need.
@@ -62,7 +62,7 @@ impl ArpRepr {
         })
     }
 
-    /// The length of the packet, in octets.
+    /// The length of the packet, in bytes.
     pub fn buffer_len(&self) -> usize
         ensures { result ≡ 28 }
     {
@@ -71,7 +71,7 @@ impl ArpRepr {
         }
     }
 
-    /// Writes the packet. All bytes behind it stay unchanged.
+    /// Writes the packet. All bytes after it stay unchanged.
     #[inline(always)]
     pub fn emit(&self, packet: &mut ArpPacketMut<'_>)
         requires { 28 ≤ length (packet_bytes_mut packet.old) }
@@ -97,8 +97,8 @@ impl ArpRepr {
         }
     }
 
-    /// As `emit`, to the front of `out`, and returns the length of the packet in octets. `None` if it
-    /// does not fit; then nothing is written.
+    /// As `emit`, to the front of `out`, and returns the length of the packet in bytes. Returns `None`
+    /// and writes nothing if it does not fit.
     #[inline(always)]
     pub fn try_emit(&self, out: &mut [u8]) -> Option<usize>
         ensures { Fills (bytes_of self.now) 28 out.old out.new result }

@@ -59,7 +59,7 @@ fn write_addresses<W: fmt::Write>(packet: &ArpPacket<'_>, f: &mut fmt::Formatter
     write!(f, " sha={sha} spa={spa} tha={tha} tpa={tpa}")
 }
 
-/// The octets of an address, to print them as a list.
+/// The bytes of an address, to print them as a list.
 #[derive(Clone, Copy)]
 struct Octets<'a>(&'a [u8]);
 

@@ -22,7 +22,7 @@ pub struct IcmpHeader {
 }
 
 impl IcmpHeader {
-    /// Writes the header and the payload. All bytes behind them stay. The checksum is computed if
+    /// Writes the header and the payload. All bytes after them stay. The checksum is computed if
     /// `caps` asks for it in the version of the addresses, else it is 0.
     #[inline(always)]
     pub fn emit(
@@ -47,8 +47,8 @@ impl IcmpHeader {
         packet.set_payload(payload);
     }
 
-    /// As `emit`, to the front of `out`, and returns the length of the message in octets. `None` if it
-    /// does not fit; then nothing is written.
+    /// As `emit`, to the front of `out`, and returns the length of the message in bytes. Returns `None`
+    /// and writes nothing if it does not fit.
     #[inline(always)]
     pub fn try_emit(
         &self,

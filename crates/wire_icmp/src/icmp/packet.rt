@@ -140,7 +140,7 @@ impl<'a> IcmpPacket<'a> {
         Ok(packet)
     }
 
-    /// The payload, all bytes behind the header: the data of an echo, or the packet that an error
+    /// The payload, all bytes after the header: the data of an echo, or the packet that an error
     /// quotes.
     pub fn payload(&self) -> &'a [u8]
         requires { HasHeader (packet_bytes self.now) }

@@ -84,7 +84,7 @@ impl<'a> IcmpPacketMut<'a> {
         NetworkEndian::write_u16(&mut self.buffer[4..6], value);
     }
 
-    // Writes the bytes behind the header.
+    // Writes the bytes after the header.
     pub(super) fn set_payload(&mut self, payload: &[u8])
         requires { 8 + length payload.now ≤ length (packet_bytes_mut self.old) }
         ensures { Becomes self.old self.new (with_range (packet_bytes_mut self.old) 8 (8 + length payload.now) payload.now) }
@@ -106,7 +106,7 @@ impl<'a> IcmpPacketMut<'a> {
 
     /// Updates the checksum after words that it covers changed (RFC 1624). `old` and `new` are the
     /// sums of these words before and after, as of `checksum::data`. 0 is written as 0xffff, because
-    /// a message whose other octets are all 0 verifies with no other checksum.
+    /// a message whose other bytes are all 0 verifies with no other checksum.
     pub fn update_checksum(&mut self, old: u16, new: u16)
         requires { 4 ≤ length (packet_bytes_mut self.old) }
         ensures { Becomes self.old self.new (with_updated_checksum (packet_bytes_mut self.old) old new) }

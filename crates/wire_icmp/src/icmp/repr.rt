@@ -23,11 +23,11 @@ pub enum IcmpRepr {
     EchoRequest { ident: u16, seq_no: u16 },
     EchoReply { ident: u16, seq_no: u16 },
     DstUnreachable { reason: Unreachable },
-    /// The packet is longer than the MTU of the next network, which is in octets. Over IPv4 it has 16
+    /// The packet is longer than the MTU of the next network, which is in bytes. Over IPv4 it has 16
     /// bits, and is 0 from a router that does not tell it (RFC 1191, section 4).
     PktTooBig { mtu: u32 },
     TimeExceeded { reason: Exceeded },
-    /// `pointer` is the place of the faulty octet in the packet. Over IPv4 it has 8 bits.
+    /// `pointer` is the place of the faulty byte in the packet. Over IPv4 it has 8 bits.
     ParamProblem { code: u8, pointer: u32 },
 }
 
@@ -60,7 +60,7 @@ impl IcmpRepr {
         }
     }
 
-    /// The length of the emitted header in octets.
+    /// The length of the emitted header in bytes.
     pub fn header_len(&self) -> usize
         ensures { result ≡ ICMP_HEADER_LEN }
     {
@@ -121,8 +121,8 @@ impl IcmpRepr {
             .emit(packet, src_addr, dst_addr, payload, caps);
     }
 
-    /// As `emit`, to the front of `out`, and returns the length of the message in octets. `None` if it
-    /// does not fit; then nothing is written.
+    /// As `emit`, to the front of `out`, and returns the length of the message in bytes. Returns `None`
+    /// and writes nothing if it does not fit.
     #[inline(always)]
     pub fn try_emit(
         &self,

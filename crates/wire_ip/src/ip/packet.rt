@@ -61,7 +61,7 @@ impl<'a> IpPacket<'a> {
         self.buffer[0] >> 4
     }
 
-    /// The payload: the bytes behind the header, up to the end of the packet. IPv6 extension headers are part
+    /// The payload: the bytes after the header, up to the end of the packet. IPv6 extension headers are part
     /// of it. Fails for a version other than 4 and 6, and if the lengths are invalid.
     pub fn payload(&self) -> Result<&'a [u8]>
         ensures version { IsOk result → (v : IpVersion) × IsOfVersion (packet_bytes self.now) v }

@@ -132,7 +132,7 @@ impl IpRepr {
         }
     }
 
-    /// The length of the payload in octets.
+    /// The length of the payload in bytes.
     pub fn payload_len(&self) -> usize
         ensures { result ≡ payload_len_of self.now }
     {
@@ -142,7 +142,7 @@ impl IpRepr {
         }
     }
 
-    /// Sets the length of the payload in octets.
+    /// Sets the length of the payload in bytes.
     pub fn set_payload_len(&mut self, length: usize)
         ensures { self.new ≡ with_payload_len self.old length }
     {
@@ -152,7 +152,7 @@ impl IpRepr {
         }
     }
 
-    /// The header before a payload of this protocol and this length in octets.
+    /// The header before a payload of this protocol and this length in bytes.
     #[inline(always)]
     pub fn before(self, next_header: IpProtocol, payload_len: usize) -> IpRepr
         ensures { result ≡ header_before self next_header payload_len }
@@ -182,7 +182,7 @@ impl IpRepr {
         }
     }
 
-    /// The length of the emitted header in octets.
+    /// The length of the emitted header in bytes.
     pub fn header_len(&self) -> usize
         ensures { result ≡ header_len_of self.now }
     {
@@ -192,7 +192,7 @@ impl IpRepr {
         }
     }
 
-    /// The length of the longest payload that the header can express in octets.
+    /// The length of the longest payload that the header can express in bytes.
     pub fn max_payload_len(&self) -> usize
         ensures { result ≡ max_payload_len self.now }
     {
@@ -202,7 +202,7 @@ impl IpRepr {
         }
     }
 
-    /// The length of the packet in octets: header and payload.
+    /// The length of the packet in bytes: header and payload.
     pub fn buffer_len(&self) -> usize
         requires { header_len_of self.now + payload_len_of self.now < 2 ^ 64 }
         ensures { result ≡ header_len_of self.now + payload_len_of self.now }
@@ -210,7 +210,7 @@ impl IpRepr {
         self.header_len() + self.payload_len()
     }
 
-    /// Writes the header. All bytes behind it stay. The checksum of an IPv4 header is
+    /// Writes the header. All bytes after it stay. The checksum of an IPv4 header is
     /// computed if `caps` asks for it, else it is 0.
     #[inline(always)]
     pub fn emit(&self, buffer: &mut [u8], caps: &ChecksumCapabilities)

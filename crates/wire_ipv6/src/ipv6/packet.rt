@@ -68,7 +68,7 @@ impl<B: Octets> Ipv6View<B> {
         Ipv6View::new_unchecked(self.as_bytes())
     }
 
-    /// The length of the header in octets, which is always 40.
+    /// The length of the header in bytes, which is always 40.
     pub fn header_len(&self) -> usize
         ensures { result ≡ 40 }
     {
@@ -100,7 +100,7 @@ impl<B: Octets> Ipv6View<B> {
         NetworkEndian::read_u24(&self.as_bytes()[1..4]) & 0x000f_ffff
     }
 
-    /// The length of the payload in octets. Extension headers are counted.
+    /// The length of the payload in bytes. Extension headers are counted.
     pub fn payload_len(&self) -> u16
         requires { 6 ≤ length (B.octets (packet_slice self.now)) }
         ensures { result ≡ field (B.octets (packet_slice self.now)) 32 16 }
@@ -108,7 +108,7 @@ impl<B: Octets> Ipv6View<B> {
         NetworkEndian::read_u16(&self.as_bytes()[4..6])
     }
 
-    /// The length of the packet in octets: header and payload.
+    /// The length of the packet in bytes: header and payload.
     pub fn total_len(&self) -> usize
         requires { 6 ≤ length (B.octets (packet_slice self.now)) }
         ensures { result ≡ total_len (B.octets (packet_slice self.now)) }
@@ -161,7 +161,7 @@ impl<'a> Ipv6Packet<'a> {
         Ok(packet)
     }
 
-    /// The payload: the bytes behind the header, up to the end of the packet. Later bytes are padding.
+    /// The payload: the bytes after the header, up to the end of the packet. Later bytes are padding.
     pub fn payload(&self) -> &'a [u8]
         requires { HasLengths (packet_bytes self.now) }
         ensures { result.now ≡ payload_of (packet_bytes self.now) }

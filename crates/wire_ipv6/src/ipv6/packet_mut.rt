@@ -75,7 +75,7 @@ impl<'a> Ipv6PacketMut<'a> {
         set_bits_u24(&mut self.buffer[1..4], 4, 20, value);
     }
 
-    /// Writes the length of the payload in octets.
+    /// Writes the length of the payload in bytes.
     pub fn set_payload_len(&mut self, value: u16)
         requires { 6 ≤ length (packet_bytes_mut self.old) }
         ensures { Becomes self.old self.new (with_field (packet_bytes_mut self.old) 32 16 value) }

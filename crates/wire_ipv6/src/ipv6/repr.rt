@@ -21,7 +21,7 @@ pub struct Ipv6Repr {
     pub src_addr: Ipv6Address,
     pub dst_addr: Ipv6Address,
     pub next_header: IpProtocol,
-    /// The length of the payload in octets, with extension headers.
+    /// The length of the payload in bytes, with extension headers.
     pub payload_len: usize,
     pub hop_limit: u8,
 }
@@ -47,14 +47,14 @@ impl Ipv6Repr {
         })
     }
 
-    /// The length of the emitted header in octets.
+    /// The length of the emitted header in bytes.
     pub fn buffer_len(&self) -> usize
         ensures { result ≡ 40 }
     {
         IPV6_HEADER_LEN
     }
 
-    /// Writes the header, with traffic class and flow label 0. All bytes behind it stay.
+    /// Writes the header, with traffic class and flow label 0. All bytes after it stay.
     pub fn emit(&self, packet: &mut Ipv6PacketMut<'_>)
         requires room { 40 ≤ length (packet_bytes_mut packet.old) }
         requires payload_len { self.now.payload_len ≤ 65535 }

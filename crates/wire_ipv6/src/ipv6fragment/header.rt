@@ -63,7 +63,7 @@ impl<B: Octets> Ipv6FragmentView<B> {
         Ipv6FragmentView::new_unchecked(self.as_bytes())
     }
 
-    /// The fragment offset: where the fragment begins in the fragmentable part, in units of 8 octets.
+    /// The fragment offset: where the fragment begins in the fragmentable part, in units of 8 bytes.
     pub fn frag_offset(&self) -> u16
         requires { 2 ≤ length (B.octets (header_slice self.now)) }
         ensures { result ≡ field (B.octets (header_slice self.now)) 0 13 }

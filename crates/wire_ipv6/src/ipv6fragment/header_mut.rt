@@ -29,7 +29,7 @@ impl<'a> Ipv6FragmentHeaderMut<'a> {
         }
     }
 
-    /// Writes the fragment offset in units of 8 octets, cut to 13 bits.
+    /// Writes the fragment offset in units of 8 bytes, cut to 13 bits.
     pub fn set_frag_offset(&mut self, value: u16)
         requires { 2 ≤ length (header_bytes_mut self.old) }
         ensures { Becomes self.old self.new (with_field (header_bytes_mut self.old) 0 13 value) }

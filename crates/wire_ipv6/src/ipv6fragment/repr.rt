@@ -12,7 +12,7 @@ use std::fmt;
 /// The values of a fragment header.
 #[derive(Debug, Clone, Copy, PartialEq, Eq)]
 pub struct Ipv6FragmentRepr {
-    /// The fragment offset: where the fragment begins in the fragmentable part, in units of 8 octets, at
+    /// The fragment offset: where the fragment begins in the fragmentable part, in units of 8 bytes, at
     /// most 8,191.
     pub frag_offset: u16,
     /// Set if more fragments follow this one.
@@ -37,14 +37,14 @@ impl Ipv6FragmentRepr {
         })
     }
 
-    /// The length of the emitted header in octets.
+    /// The length of the emitted header in bytes.
     pub fn buffer_len(&self) -> usize
         ensures { result ≡ 6 }
     {
         HEADER_LEN
     }
 
-    /// Writes the header. All bytes behind it stay. The offset is cut to 13 bits, and the
+    /// Writes the header. All bytes after it stay. The offset is cut to 13 bits, and the
     /// reserved bits are zeroed.
     pub fn emit(&self, header: &mut Ipv6FragmentHeaderMut<'_>)
         requires { 6 ≤ length (header_bytes_mut header.old) }

@@ -7,7 +7,7 @@ ghost use Rattle.wire_ndisc.specs.NdOption.{first_option, lladdr_in, lladdr_of};
 use net_base::{Error, Result};
 use wire_addr::EthernetAddress;
 
-/// The unit of an option's length, in octets.
+/// The unit of an option's length, in bytes.
 pub(super) const UNIT: usize = 8;
 
 // The link-layer address in the first option of this type, or `None`. Fails if the bytes are no
@@ -27,7 +27,7 @@ pub(super) fn find_lladdr(options: &[u8], kind: u8) -> Result<Option<EthernetAdd
     Ok(lladdr)
 }
 
-// The first option, and the bytes behind it.
+// The first option, and the bytes after it.
 fn split_option(bytes: &[u8]) -> Result<(&[u8], &[u8])>
     ensures ok { IfOk result (λ parts. first_option bytes.now ≡ Some (parts.0.now, parts.1.now)) }
     ensures len { IfOk result (λ parts. 8 ≤ length parts.0.now) }

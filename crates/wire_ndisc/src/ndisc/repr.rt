@@ -29,7 +29,7 @@ const SOURCE_LLADDR: u8 = 1;
 /// The type of the option with the link-layer address of the target (RFC 4861, section 4.6.1).
 const TARGET_LLADDR: u8 = 2;
 
-/// The length of a message without options, in octets.
+/// The length of a message without options, in bytes.
 const HEADER_LEN: usize = 24;
 
 /// The flags of an advertisement (RFC 4861, section 4.4).
@@ -138,7 +138,7 @@ impl NdiscRepr {
         }
     }
 
-    /// The length of the message in octets: 24, or 32 with a link-layer address.
+    /// The length of the message in bytes: 24, or 32 with a link-layer address.
     pub fn buffer_len(&self) -> usize
         ensures { result ≡ len_of self.now }
     {
@@ -148,7 +148,7 @@ impl NdiscRepr {
         }
     }
 
-    /// Writes the message. All bytes behind it stay. The checksum is computed if `caps` asks for it,
+    /// Writes the message. All bytes after it stay. The checksum is computed if `caps` asks for it,
     /// else it is 0.
     pub fn emit(
         &self,
@@ -167,8 +167,8 @@ impl NdiscRepr {
         self.header().emit(packet, &src, &dst, body, caps);
     }
 
-    /// As `emit`, to the front of `out`, and returns the length of the message in octets. `None` if it
-    /// does not fit; then nothing is written.
+    /// As `emit`, to the front of `out`, and returns the length of the message in bytes. Returns `None`
+    /// and writes nothing if it does not fit.
     pub fn try_emit(
         &self,
         out: &mut [u8],

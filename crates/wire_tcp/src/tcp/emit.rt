@@ -20,7 +20,7 @@ use wire_tcp_parts::{TcpControl, TcpOption, TcpSeqNumber, TcpTimestampRepr, coun
 const ACK: u16 = 0x010;
 
 impl TcpRepr<'_> {
-    /// Writes the header and the payload. All bytes behind them stay. SACK permitted takes the
+    /// Writes the header and the payload. All bytes after them stay. SACK permitted takes the
     /// place of ranges. Ranges are written without gaps, and only with an acknowledgement. If
     /// `caps` asks for a checksum, it covers the whole buffer; else it is 0.
     #[inline(always)]
@@ -48,8 +48,8 @@ impl TcpRepr<'_> {
         }
     }
 
-    /// As `emit`, to the front of `out`, and returns the length of the segment in octets. `None` if it
-    /// does not fit; then nothing is written. A checksum covers the segment alone.
+    /// As `emit`, to the front of `out`, and returns the length of the segment in bytes. Returns `None`
+    /// and writes nothing if it does not fit. A checksum covers only the segment.
     #[inline(always)]
     pub fn try_emit(
         &self,
@@ -71,7 +71,7 @@ impl TcpRepr<'_> {
         Some(len)
     }
 
-    // The first 20 octets of the header, with 0 as checksum.
+    // The first 20 bytes of the header, with 0 as checksum.
     #[inline(always)]
     fn fixed(&self, header_len: usize) -> [u8; TCP_HEADER_LEN]
         requires value { header_len ≡ header_len_of (header_of self.now) }
@@ -180,7 +180,7 @@ impl TcpRepr<'_> {
     }
 }
 
-// The number in 0 to 2^32 - 1.
+// The sequence number as a `u32`.
 fn bits_of(seq: TcpSeqNumber) -> u32
     ensures { result ≡ number seq }
 {

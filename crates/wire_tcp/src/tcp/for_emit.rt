@@ -14,7 +14,7 @@ use wire_ends::{IpAddress, IpProtocol};
 use wire_field::write_at;
 use wire_tcp_parts::TcpOption;
 
-// The first 20 octets of a header, with 0 as checksum and urgent pointer. `offset_and_flags` is
+// The first 20 bytes of a header, with 0 as checksum and urgent pointer. `offset_and_flags` is
 // the word that holds the data offset and the flags.
 #[inline(always)]
 pub(super) fn fixed(
@@ -35,7 +35,7 @@ pub(super) fn fixed(
 }
 
 // Writes the checksum of a segment that begins with `fixed` and has no checksum yet. Those 20
-// octets are not read from the segment: bytes that were just written are slow to read again.
+// bytes are not read from the segment: bytes that were just written are slow to read again.
 #[inline(always)]
 pub(super) fn write_checksum(
     packet: &mut TcpPacketMut<'_>,

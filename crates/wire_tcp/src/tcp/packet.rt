@@ -38,7 +38,7 @@ impl<B: Octets> TcpView<B> {
         TcpView { buffer }
     }
 
-    /// Checks the data offset: the header has at least 20 octets, and the bytes hold all of it.
+    /// Checks the data offset: the header has at least 20 bytes, and the slice contains all of it.
     /// After `Ok` every call of this view may be made, until the header length is written.
     pub fn check_len(&self) -> Result<()>
         ensures { IsOk result ↔ HasLengths (B.octets (packet_slice self.now)) }
@@ -91,7 +91,7 @@ impl<B: Octets> TcpView<B> {
         NetworkEndian::read_u16(&self.as_bytes()[2..4])
     }
 
-    /// The sequence number of the first octet of the payload, or of SYN.
+    /// The sequence number of the first byte of the payload, or of SYN.
     pub fn seq_number(&self) -> TcpSeqNumber
         requires { 8 ≤ length (B.octets (packet_slice self.now)) }
         ensures { number result ≡ field (B.octets (packet_slice self.now)) 32 32 }
@@ -107,7 +107,7 @@ impl<B: Octets> TcpView<B> {
         seq_number_of(NetworkEndian::read_u32(&self.as_bytes()[8..12]))
     }
 
-    /// The length of the header in octets: 4 times the data offset, so at most 60.
+    /// The length of the header in bytes: 4 times the data offset, so at most 60.
     pub fn header_len(&self) -> u8
         requires { 13 ≤ length (B.octets (packet_slice self.now)) }
         ensures { result ≡ header_len (B.octets (packet_slice self.now)) }
@@ -187,7 +187,7 @@ impl<B: Octets> TcpView<B> {
         is_bit_set(self.as_bytes(), 111)
     }
 
-    /// The receive window of the sender in octets, before scaling.
+    /// The receive window of the sender in bytes, before scaling.
     pub fn window_len(&self) -> u16
         requires { 16 ≤ length (B.octets (packet_slice self.now)) }
         ensures { result ≡ field (B.octets (packet_slice self.now)) 112 16 }
@@ -211,7 +211,7 @@ impl<B: Octets> TcpView<B> {
         NetworkEndian::read_u16(&self.as_bytes()[18..20])
     }
 
-    /// The number of sequence numbers that the segment uses: one for each octet of its payload, for
+    /// The number of sequence numbers that the segment uses: one for each byte of its payload, for
     /// SYN and for FIN.
     pub fn segment_len(&self) -> usize
         requires fields { 14 ≤ length (B.octets (packet_slice self.now)) }
@@ -222,7 +222,7 @@ impl<B: Octets> TcpView<B> {
         payload_len + usize::from(self.syn()) + usize::from(self.fin())
     }
 
-    /// Returns `true` if an option permits SACK, also behind the end of the list. Fails if a
+    /// Returns `true` if an option permits SACK, also past the end of the list. Fails if a
     /// malformed option comes before such an option.
     pub fn selective_ack_permitted(&self) -> Result<bool>
         requires begins { 20 ≤ header_len (B.octets (packet_slice self.now)) }
@@ -232,7 +232,7 @@ impl<B: Octets> TcpView<B> {
         walk::sack_permitted(self.option_bytes())
     }
 
-    /// The ranges of the first SACK option, also behind the end of the list, or no ranges. Fails if
+    /// The ranges of the first SACK option, also past the end of the list, or no ranges. Fails if
     /// a malformed option comes before such an option.
     pub fn selective_ack_ranges(&self) -> Result<[Option<(u32, u32)>; SACK_BLOCKS]>
         requires begins { 20 ≤ header_len (B.octets (packet_slice self.now)) }
@@ -306,7 +306,7 @@ impl<'a> TcpPacket<'a> {
         &self.buffer[TCP_HEADER_LEN..usize::from(self.header_len())]
     }
 
-    /// The payload: all bytes behind the header.
+    /// The payload: all bytes after the header.
     pub fn payload(&self) -> &'a [u8]
         requires field { 13 ≤ length (packet_bytes self.now) }
         requires begins { header_len (packet_bytes self.now) ≤ length (packet_bytes self.now) }

@@ -74,7 +74,7 @@ impl<'a> TcpPacketMut<'a> {
         NetworkEndian::write_u16(&mut self.buffer[2..4], value);
     }
 
-    /// Writes the sequence number of the first octet of the payload, or of SYN.
+    /// Writes the sequence number of the first byte of the payload, or of SYN.
     pub fn set_seq_number(&mut self, value: TcpSeqNumber)
         requires { 8 ≤ length (packet_bytes_mut self.old) }
         ensures { Becomes self.old self.new (with_field (packet_bytes_mut self.old) 32 32 (number value)) }
@@ -90,7 +90,7 @@ impl<'a> TcpPacketMut<'a> {
         NetworkEndian::write_i32(&mut self.buffer[8..12], value.0);
     }
 
-    /// Writes the data offset for a header of this length in octets. The length is rounded down to
+    /// Writes the data offset for a header of this length in bytes. The length is rounded down to
     /// a multiple of 4, modulo 64.
     pub fn set_header_len(&mut self, value: u8)
         requires { 13 ≤ length (packet_bytes_mut self.old) }
@@ -179,7 +179,7 @@ impl<'a> TcpPacketMut<'a> {
         set_bits(self.buffer, 111, 1, value.into());
     }
 
-    /// Writes the receive window of the sender in octets, before scaling.
+    /// Writes the receive window of the sender in bytes, before scaling.
     pub fn set_window_len(&mut self, value: u16)
         requires { 16 ≤ length (packet_bytes_mut self.old) }
         ensures { Becomes self.old self.new (with_field (packet_bytes_mut self.old) 112 16 value) }

@@ -24,15 +24,15 @@ pub struct TcpRepr<'a> {
     pub src_port: u16,
     pub dst_port: u16,
     pub control: TcpControl,
-    /// The sequence number of the first octet of the payload, or of SYN.
+    /// The sequence number of the first byte of the payload, or of SYN.
     pub seq_number: TcpSeqNumber,
     /// The sequence number that the sender expects next.
     pub ack_number: Option<TcpSeqNumber>,
-    /// The receive window of the sender in octets, before scaling.
+    /// The receive window of the sender in bytes, before scaling.
     pub window_len: u16,
     /// The number of bits by which windows are shifted.
     pub window_scale: Option<u8>,
-    /// The largest segment that the sender accepts, in octets.
+    /// The largest segment that the sender accepts, in bytes.
     pub max_seg_size: Option<u16>,
     /// The sender accepts selective acknowledgements.
     pub sack_permitted: bool,
@@ -93,7 +93,7 @@ impl<'a> TcpRepr<'a> {
         })
     }
 
-    /// The length of the emitted header in octets. Ranges count even if `emit` leaves them out:
+    /// The length of the emitted header in bytes. Ranges count even if `emit` leaves them out:
     /// beside `sack_permitted`, or without an acknowledgement.
     #[inline(always)]
     pub fn header_len(&self) -> usize
@@ -119,7 +119,7 @@ impl<'a> TcpRepr<'a> {
         len.next_multiple_of(4)
     }
 
-    /// The length of the emitted segment in octets.
+    /// The length of the emitted segment in bytes.
     #[inline(always)]
     pub fn buffer_len(&self) -> usize
         requires { header_len_of (header_of self.now) + length self.now.payload.now < 2 ^ 64 }
@@ -128,7 +128,7 @@ impl<'a> TcpRepr<'a> {
         self.header_len() + self.payload.len()
     }
 
-    /// The number of sequence numbers that the segment uses: one for each octet of its payload, for
+    /// The number of sequence numbers that the segment uses: one for each byte of its payload, for
     /// SYN and for FIN.
     pub fn segment_len(&self) -> usize
         requires { length self.now.payload.now + control_len self.now.control < 2 ^ 64 }

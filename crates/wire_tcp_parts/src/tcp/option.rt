@@ -29,10 +29,10 @@ pub(super) const OPT_TSTAMP: u8 = 8;
 /// An option of a header.
 #[derive(Debug, Clone, Copy, PartialEq, Eq)]
 pub enum TcpOption<'a> {
-    /// The end of the option list. The bytes behind it are padding.
+    /// The end of the option list. The bytes after it are padding.
     EndOfList,
     NoOperation,
-    /// The largest segment that the sender accepts, in octets (RFC 9293, section 3.7.1).
+    /// The largest segment that the sender accepts, in bytes (RFC 9293, section 3.7.1).
     MaxSegmentSize(u16),
     /// The number of bits by which windows are shifted (RFC 7323, section 2).
     WindowScale(u8),
@@ -48,7 +48,7 @@ pub enum TcpOption<'a> {
 }
 
 impl<'a> TcpOption<'a> {
-    /// Parses the first option. Returns the bytes behind it, and the option. Fails if there are no
+    /// Parses the first option. Returns the bytes after it, and the option. Fails if there are no
     /// bytes, if the length is wrong for the option's kind, or if the option passes the end of the
     /// bytes.
     #[inline(always)]
@@ -93,7 +93,7 @@ impl<'a> TcpOption<'a> {
         }
     }
 
-    /// The length of the emitted option in octets. It is 1 for the end of the list: padding is not
+    /// The length of the emitted option in bytes. It is 1 for the end of the list: padding is not
     /// counted.
     #[inline(always)]
     pub fn buffer_len(&self) -> usize
@@ -121,8 +121,8 @@ impl<'a> TcpOption<'a> {
         }
     }
 
-    /// Writes the option to the front of the buffer, and returns the bytes behind it, to be written
-    /// in place. Behind the end of the list all bytes are set to 0, as padding. Behind other
+    /// Writes the option to the front of the buffer, and returns the bytes after it, to be written
+    /// in place. After an end of the list all bytes are set to 0, as padding. After other
     /// options they are unchanged.
     pub fn emit<'b>(&self, buffer: &'b mut [u8]) -> &'b mut [u8]
         requires room { option_len self.now ≤ length buffer.old }
@@ -134,7 +134,7 @@ impl<'a> TcpOption<'a> {
     }
 }
 
-// The bytes behind the first option, and the data of that option, which has a length byte.
+// The bytes after the first option, and the data of that option, which has a length byte.
 #[inline(always)]
 pub(super) fn split_item(buffer: &[u8]) -> Result<(&[u8], &[u8])>
     requires filled { 0 < length buffer.now }
@@ -201,7 +201,7 @@ pub fn write_option(option: &TcpOption<'_>, buffer: &mut [u8])
 }
 
 // Writes the option to the front of the buffer. Returns the buffer, and the range of the bytes
-// behind the option.
+// after the option.
 fn write_and_locate_rest<'b>(buffer: &'b mut [u8], option: &TcpOption<'_>) -> Located<'b>
     requires room { option_len option.now ≤ length buffer.old }
     requires fits { IsEmittable option.now }

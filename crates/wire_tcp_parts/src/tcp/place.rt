@@ -1,4 +1,4 @@
-//! Where a value stands in the options of a header.
+//! The place of a value in the options of a header.
 
 ghost use Rattle.std.specs.Prelude.{◌≡◌, ◌+◌, ◌≤◌, IfSome, List, None, length, ℕ};
 ghost use Rattle.wire_tcp_parts.specs.TcpItems.{IsOptionList, Item};
@@ -7,7 +7,7 @@ ghost use Rattle.wire_tcp_parts.specs.TcpSummary.{HasNoList};
 
 use super::TcpOption;
 
-/// The index of the two octets with the maximum segment size, if there is such an option. Of several
+/// The index of the two bytes with the maximum segment size, if there is such an option. Of several
 /// the last one counts. `None` if an option is malformed.
 pub fn max_segment_size_at(options: &[u8]) -> Option<usize>
     ensures listed { (items : List Item) (tail : List ℕ) → IsOptionList options.now items tail

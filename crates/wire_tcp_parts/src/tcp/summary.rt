@@ -15,7 +15,7 @@ use net_base::Result;
 /// The values of the options of a header. Of each kind the last option counts.
 #[derive(Debug, Clone, Copy, PartialEq, Eq)]
 pub struct TcpOptionSummary {
-    /// The largest segment that the sender accepts, in octets.
+    /// The largest segment that the sender accepts, in bytes.
     pub max_segment_size: Option<u16>,
     /// The number of bits by which windows are shifted, unchanged if it is above 14.
     pub window_scale: Option<u8>,

@@ -1,4 +1,4 @@
-//! Searches over options that continue behind the end of the list.
+//! Searches over options that continue past the end of the list.
 
 ghost use Rattle.std.specs.Prelude.{◌<◌, [], false, true};
 ghost use Rattle.wire_tcp_parts.specs.TcpItems.{first_blocks};

@@ -10,14 +10,14 @@ use ip_wire::{
 };
 use net_base::ChecksumCapabilities;
 
-/// A UDP packet from 192.168.1.1 to 192.168.1.2 with four octets.
+/// A UDP packet from 192.168.1.1 to 192.168.1.2 with four bytes.
 const UDP: [u8; 46] = [
     0x01, 0x02, 0x03, 0x04, 0x05, 0x06, 0x11, 0x12, 0x13, 0x14, 0x15, 0x16, 0x08, 0x00, 0x45, 0x00,
     0x00, 0x20, 0x00, 0x00, 0x40, 0x00, 0x40, 0x11, 0xb7, 0x79, 0xc0, 0xa8, 0x01, 0x01, 0xc0, 0xa8,
     0x01, 0x02, 0xbf, 0x00, 0x00, 0x35, 0x00, 0x0c, 0x12, 0x4d, 0xaa, 0x00, 0x00, 0xff,
 ];
 
-/// A UDP packet from `fe80::1` to `ff02::1` with four octets.
+/// A UDP packet from `fe80::1` to `ff02::1` with four bytes.
 const UDP_OVER_IPV6: [u8; 66] = [
     0x01, 0x02, 0x03, 0x04, 0x05, 0x06, 0x11, 0x12, 0x13, 0x14, 0x15, 0x16, 0x86, 0xdd, 0x60, 0x00,
     0x00, 0x00, 0x00, 0x0c, 0x11, 0x40, 0xfe, 0x80, 0x00, 0x00, 0x00, 0x00, 0x00, 0x00, 0x00, 0x00,
@@ -26,7 +26,7 @@ const UDP_OVER_IPV6: [u8; 66] = [
     0xff, 0xff,
 ];
 
-/// A SYN with a maximum segment size of 1,460 octets.
+/// A SYN with a maximum segment size of 1,460 bytes.
 const SYN: [u8; 58] = [
     0x01, 0x02, 0x03, 0x04, 0x05, 0x06, 0x11, 0x12, 0x13, 0x14, 0x15, 0x16, 0x08, 0x00, 0x45, 0x00,
     0x00, 0x2c, 0x00, 0x00, 0x40, 0x00, 0x40, 0x06, 0xb7, 0x78, 0xc0, 0xa8, 0x01, 0x01, 0xc0, 0xa8,
@@ -55,7 +55,7 @@ const ARP: [u8; 42] = [
     0x31, 0x32, 0x33, 0x34, 0x35, 0x36, 0x41, 0x42, 0x43, 0x44,
 ];
 
-/// A SYN from `fe80::1` to `fe80::2` with four octets, without an Ethernet header.
+/// A SYN from `fe80::1` to `fe80::2` with four bytes, without an Ethernet header.
 const PACKET: [u8; 64] = [
     0x60, 0x00, 0x00, 0x00, 0x00, 0x18, 0x06, 0x40, 0xfe, 0x80, 0x00, 0x00, 0x00, 0x00, 0x00, 0x00,
     0x00, 0x00, 0x00, 0x00, 0x00, 0x00, 0x00, 0x01, 0xfe, 0x80, 0x00, 0x00, 0x00, 0x00, 0x00, 0x00,
@@ -270,7 +270,7 @@ fn holds(header: &IpRepr, transport: Transport<'_>) -> bool {
     Frame::packet(FRAME_SRC, FRAME_DST, *header, transport).is_ok()
 }
 
-/// Whether a frame with this IP header can hold a UDP packet with these ports and so many octets of payload.
+/// Whether a frame with this IP header can hold a UDP packet with these ports and so many bytes of payload.
 fn holds_udp(header: &IpRepr, src_port: u16, dst_port: u16, len: usize) -> bool {
     let zeros = [0; 65_536];
     let ports = UdpRepr { src_port, dst_port };
@@ -291,7 +291,7 @@ fn rejects_what_a_frame_cannot_hold(rt: HostRuntime) {
     assert!(rt; !holds_udp(&over_ipv4, 1, 0, 0));
 }
 
-/// Whether a frame over IPv4 can hold the SYN with other ports and so many octets of payload.
+/// Whether a frame over IPv4 can hold the SYN with other ports and so many bytes of payload.
 fn holds_tcp(src_port: u16, dst_port: u16, len: usize) -> bool {
     let zeros = [0; 65_536];
     let header = ipv4(IpProtocol::Tcp, 0);
@@ -311,7 +311,7 @@ fn holds_tcp(src_port: u16, dst_port: u16, len: usize) -> bool {
 
 #[test]
 fn rejects_segments_that_a_frame_cannot_hold(rt: HostRuntime) {
-    // The header of the segment has 24 octets.
+    // The header of the segment has 24 bytes.
     assert!(rt; holds_tcp(49152, 80, 65_491));
     assert!(rt; !holds_tcp(49152, 80, 65_492));
     assert!(rt; !holds_tcp(0, 80, 0));
@@ -321,7 +321,7 @@ fn rejects_segments_that_a_frame_cannot_hold(rt: HostRuntime) {
 #[test]
 fn rejects_options_that_a_header_cannot_hold(rt: HostRuntime) {
     let header = ipv4(IpProtocol::Tcp, 0);
-    // Four ranges and a segment size take all 40 octets of options.
+    // Four ranges and a segment size take all 40 bytes of options.
     let full = TcpRepr {
         ack_number: Some(TcpSeqNumber(1)),
         sack_ranges: [Some((1, 2)), Some((3, 4)), Some((5, 6)), Some((7, 8))],

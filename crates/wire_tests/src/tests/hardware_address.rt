@@ -4,7 +4,7 @@ use super::support::prints;
 use ip_wire::{EthernetAddress, HardwareAddress};
 use net_base::Medium;
 
-/// Whether an address on Ethernet is unicast and broadcast; `None` unless it converts to its octets and back.
+/// Whether an address on Ethernet is unicast and broadcast; `None` unless it converts to its bytes and back.
 fn classes(octets: [u8; 6]) -> Option<[bool; 2]> {
     let ethernet = EthernetAddress(octets);
     let address = HardwareAddress::from(ethernet);

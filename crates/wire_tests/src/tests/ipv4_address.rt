@@ -15,7 +15,7 @@ fn constants_print_as_their_standards_write_them(rt: HostRuntime) {
     }
 }
 
-/// Whether the octets and the bits convert to each other.
+/// Whether the bytes and the bits convert to each other.
 fn are_bits_of(octets: [u8; 4], bits: u32) -> bool {
     Ipv4Address::from_octets(octets).to_bits() == bits
         && Ipv4Address::from_bits(bits).octets() == octets

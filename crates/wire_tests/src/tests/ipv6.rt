@@ -30,7 +30,7 @@ pub(super) fn checks(bytes: &mut [u8]) -> [bool; 5] {
     ]
 }
 
-/// Whether the packet with this first octet has a valid length, and whether it parses.
+/// Whether the packet with this first byte has a valid length, and whether it parses.
 fn reads_with(first: u8) -> [bool; 2] {
     let mut buffer = IPV6_PACKET;
     buffer[0] = first;

@@ -59,7 +59,7 @@ fn rejects_less_than_a_header(rt: HostRuntime) {
     assert!(rt; header.into_inner() == LAST.as_slice());
 }
 
-/// The offset of a header that is written over such bytes, and all octets of the buffer.
+/// The offset of a header that is written over such bytes, and all bytes of the buffer.
 fn emitted(value: &Ipv6FragmentRepr, old: u8) -> (u16, [u8; 8]) {
     let mut buffer = [old; 8];
     let mut header = Ipv6FragmentHeaderMut::new_unchecked(&mut buffer);

@@ -100,7 +100,7 @@ fn parse_changed(
     NdiscRepr::parse(&packet, &src, &dst, hop_limit, &caps).ok()
 }
 
-/// Whether the solicitation is valid with this octet at this place.
+/// Whether the solicitation is valid with this byte at this place.
 fn accepts(place: usize, octet: u8) -> bool {
     let mut bytes = SOLICIT;
     if place < 32 {

@@ -1,4 +1,4 @@
-//! Hardware addresses as octets of a packet.
+//! Hardware addresses as bytes of a packet.
 
 ghost use Rattle.std.specs.Prelude.{◌≡◌, ◌↔◌, IsTrue};
 
@@ -8,14 +8,14 @@ use ip_wire::{
 };
 use net_base::Medium;
 
-/// Values are equal if their octets are.
+/// Values are equal if their bytes are.
 fn are_equal(one: RawHardwareAddress, other: RawHardwareAddress) -> bool
     ensures { IsTrue result ↔ (one ≡ other) }
 {
     one == other
 }
 
-/// Whether these octets make an address that keeps them, and prints as this text.
+/// Whether these bytes make an address that keeps them, and prints as this text.
 fn keeps(octets: &[u8], text: &str) -> bool {
     if octets.len() > MAX_HARDWARE_ADDRESS_LEN {
         return false;
@@ -35,7 +35,7 @@ fn keeps_and_prints_octets(rt: HostRuntime) {
     assert!(rt; keeps(&[0xab, 0xcd, 0xef, 0x0a, 0xa0, 0xff], "ab:cd:ef:0a:a0:ff"));
 }
 
-/// Whether these octets parse as this address on Ethernet, and do not parse on the medium IP.
+/// Whether these bytes parse as this address on Ethernet, and do not parse on the medium IP.
 fn parses(octets: &[u8], on_ethernet: Result<HardwareAddress, Error>) -> bool {
     if octets.len() > MAX_HARDWARE_ADDRESS_LEN {
         return false;

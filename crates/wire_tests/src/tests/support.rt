@@ -9,7 +9,7 @@ use std::fmt::{Display, Write};
 /// The value of each byte of a buffer before a write.
 pub const OLD: [u8; 3] = [0x00, 0xa5, 0xff];
 
-/// An IPv4 packet of 24 octets from 17.18.19.20 to 33.34.35.36.
+/// An IPv4 packet of 24 bytes from 17.18.19.20 to 33.34.35.36.
 pub const IPV4_PACKET: [u8; 24] = [
     0x45, 0x00, 0x00, 0x18, 0x00, 0x00, 0x40, 0x00, 0x40, 0x01, 0xd2, 0x79, 0x11, 0x12, 0x13, 0x14,
     0x21, 0x22, 0x23, 0x24, 0xaa, 0x00, 0x00, 0xff,
@@ -36,7 +36,7 @@ pub fn copy_to(buffer: &mut [u8], bytes: &[u8]) -> usize {
     buffer.len()
 }
 
-/// Whether a buffer begins with these bytes, and holds only the old byte behind them.
+/// Whether a buffer begins with these bytes, and holds only the old byte after them.
 pub fn has_front(buffer: &[u8], front: &[u8], old: u8) -> bool {
     if buffer.len() < front.len() {
         return false;
@@ -49,7 +49,7 @@ pub fn has_front(buffer: &[u8], front: &[u8], old: u8) -> bool {
     &buffer[..front.len()] == front
 }
 
-/// A writer that compares its input with expected bytes. It fails behind the last of them.
+/// A writer that compares its input with expected bytes. It fails after the last of them.
 #[derive(Drop)]
 struct Expecting<'a> {
     rest: &'a [u8],

@@ -69,7 +69,7 @@ fn rejects_less_than_the_header(rt: HostRuntime) {
     }
 }
 
-/// Whether the segment with SYN has a valid length where its 13th octet, which has the header length, is this.
+/// Whether the segment with SYN has a valid length where its 13th byte, which has the header length, is this.
 fn fits(octet: u8) -> bool {
     let mut buffer = SYN;
     buffer[12] = octet;
@@ -86,7 +86,7 @@ fn rejects_impossible_header_lengths(rt: HostRuntime) {
     assert!(rt; !fits(0xf0));
 }
 
-/// Whether this checksum of the segment with SYN is that of the whole, and that of the pseudo-header alone.
+/// Whether this checksum of the segment with SYN covers all of it, and whether it covers only the pseudo-header.
 fn verifies(checksum: u16) -> [bool; 2] {
     let (src, dst) = ipv4_ends();
     let mut buffer = SYN;

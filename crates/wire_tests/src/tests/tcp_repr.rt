@@ -159,7 +159,7 @@ fn prints_as(bytes: &[u8], text: &str) -> bool {
     prints(&TcpPacket::new_unchecked(bytes), text)
 }
 
-/// The segment with SYN, with another 13th octet, which has the header length.
+/// The segment with SYN, with another 13th byte, which has the header length.
 fn with_length(octet: u8) -> [u8; 24] {
     let mut segment = SYN;
     segment[12] = octet;

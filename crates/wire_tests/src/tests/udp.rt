@@ -67,7 +67,7 @@ fn rejects_less_than_the_packet(rt: HostRuntime) {
     }
 }
 
-/// The number of octets of the payload where the length field has this number.
+/// The number of bytes of the payload where the length field has this number.
 fn payload_len(len: u8) -> Option<usize> {
     let mut buffer = PACKET;
     buffer[5] = len;
@@ -86,7 +86,7 @@ fn reads_what_its_length_allows(rt: HostRuntime) {
     assert!(rt; payload_len(13).is_none());
 }
 
-/// Whether this checksum of the packet is that of the whole, and that of the pseudo-header alone.
+/// Whether this checksum of the packet covers all of it, and whether it covers only the pseudo-header.
 fn verifies(checksum: u16) -> Option<[bool; 2]> {
     let (src, dst) = ipv4_ends();
     let mut buffer = [0x55; 14];
@@ -148,7 +148,7 @@ fn writes_a_packet_and_leaves_the_rest(rt: HostRuntime) {
     assert!(rt; HEADER.header_len() == UDP_HEADER_LEN);
 }
 
-/// A buffer of such bytes, after the header alone is written to it.
+/// A buffer of such bytes, after only the header is written to it.
 fn emitted_header(old: u8) -> [u8; 10] {
     let mut buffer = [old; 10];
     HEADER.emit_header(&mut UdpPacketMut::new_unchecked(&mut buffer), 4);

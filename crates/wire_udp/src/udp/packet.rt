@@ -89,7 +89,7 @@ impl<B: Octets> UdpView<B> {
         NetworkEndian::read_u16(&self.as_bytes()[2..4])
     }
 
-    /// The length field: the length of header and payload in octets.
+    /// The length field: the length of header and payload in bytes.
     pub fn len(&self) -> u16
         requires { 6 ≤ length (B.octets (packet_slice self.now)) }
         ensures { result ≡ packet_len (B.octets (packet_slice self.now)) }
@@ -161,7 +161,7 @@ impl<'a> UdpPacket<'a> {
         Ok(packet)
     }
 
-    /// The payload: the bytes behind the header, up to the length field. Later bytes are padding.
+    /// The payload: the bytes after the header, up to the length field. Later bytes are padding.
     pub fn payload(&self) -> &'a [u8]
         requires { HasLengths (packet_bytes self.now) }
         ensures { result.now ≡ payload_of (packet_bytes self.now) }

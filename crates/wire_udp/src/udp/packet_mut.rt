@@ -60,7 +60,7 @@ impl<'a> UdpPacketMut<'a> {
         NetworkEndian::write_u16(&mut self.buffer[2..4], value);
     }
 
-    /// Writes the length field: the length of header and payload in octets.
+    /// Writes the length field: the length of header and payload in bytes.
     pub fn set_len(&mut self, value: u16)
         requires { 6 ≤ length (packet_bytes_mut self.old) }
         ensures { Becomes self.old self.new (with_field (packet_bytes_mut self.old) 32 16 value) }
@@ -76,7 +76,7 @@ impl<'a> UdpPacketMut<'a> {
         NetworkEndian::write_u16(&mut self.buffer[6..8], value);
     }
 
-    // Writes the bytes behind the header.
+    // Writes the bytes after the header.
     pub(super) fn set_payload(&mut self, payload: &[u8])
         requires { 8 + length payload.now ≤ length (packet_bytes_mut self.old) }
         ensures { Becomes self.old self.new (with_range (packet_bytes_mut self.old) 8 (8 + length payload.now) payload.now) }

@@ -52,15 +52,15 @@ impl UdpRepr {
         })
     }
 
-    /// The length of the emitted header in octets.
+    /// The length of the emitted header in bytes.
     pub fn header_len(&self) -> usize
         ensures { result ≡ UDP_HEADER_LEN }
     {
         UDP_HEADER_LEN
     }
 
-    /// Writes the header for a payload of `payload_len` octets, with 0 as checksum. All bytes
-    /// behind the header stay.
+    /// Writes the header for a payload of `payload_len` bytes, with 0 as checksum. All bytes
+    /// after the header stay.
     pub fn emit_header(&self, packet: &mut UdpPacketMut<'_>, payload_len: usize)
         requires room { UDP_HEADER_LEN ≤ length (packet_bytes_mut packet.old) }
         requires payload_len { payload_len ≤ max_payload_len }
@@ -69,7 +69,7 @@ impl UdpRepr {
         self.emit_fields(packet, payload_len, 0);
     }
 
-    /// Writes the header and the payload. All bytes behind them stay. The checksum is computed if
+    /// Writes the header and the payload. All bytes after them stay. The checksum is computed if
     /// `caps` asks for it, else it is 0.
     #[inline(always)]
     pub fn emit(
@@ -95,8 +95,8 @@ impl UdpRepr {
         packet.set_payload(payload);
     }
 
-    /// As `emit`, to the front of `out`, and returns the length of the packet in octets. `None` if it
-    /// does not fit; then nothing is written.
+    /// As `emit`, to the front of `out`, and returns the length of the packet in bytes. Returns `None`
+    /// and writes nothing if it does not fit.
     #[inline(always)]
     pub fn try_emit(
         &self,
