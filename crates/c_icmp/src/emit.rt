@@ -1,4 +1,4 @@
-//! ICMP messages that are written, alone and in whole frames.
+//! Writes ICMP messages, by themselves and in whole frames.
 
 ghost use Rattle.std.specs.Prelude.{◌≡◌};
 ghost use Rattle.net_base.specs.Checksum.{computes};

@@ -13,7 +13,7 @@ ghost use Rattle.c_structs.specs.declared.types.FrameFields.{FrameFields};
 ghost use Rattle.c_icmp.specs.Messages.{CarriesIcmp, IsIcmp, KeepsOthers, StoresMessage, with_icmp, without_icmp};
 
 /// A frame or packet that carries no ICMP message has the fields that `c_structs` stores, and no ICMP header. The
-/// same holds for its first octets, if only those were captured. So has each struct whose `transport` is not that of
+/// same holds for its first bytes, if only those were captured. So has each struct whose `transport` is not that of
 /// ICMP.
 pub fn other_frames_have_no_icmp(bytes: &[u8])
     ensures frame { ((ip : IpRepr) (m : List ℕ) → ¬ CarriesIcmp bytes.now ip m)

@@ -95,7 +95,7 @@ impl Ndisc {
     }
 }
 
-// The octets of a hardware address, or zeros.
+// The bytes of a hardware address, or zeros.
 fn hardware_octets(hardware: Option<EthernetAddress>) -> [u8; 6]
     ensures { result ≡ hardware_octets hardware }
 {
@@ -124,7 +124,7 @@ fn parse_ndisc(frame: &[u8]) -> Option<NdiscRepr>
     }
 }
 
-// The message behind an IP header, if it is valid.
+// The message after an IP header, if it is valid.
 fn parse_message(header: &IpRepr, message: &[u8]) -> Option<NdiscRepr>
     ensures { MatchOption result ((v : NdiscRepr) → ¬ CarriesNdisc header.now message.now v) (CarriesNdisc header.now message.now) }
 {
@@ -134,7 +134,7 @@ fn parse_message(header: &IpRepr, message: &[u8]) -> Option<NdiscRepr>
     }
 }
 
-// The same behind an IPv6 header.
+// The same after an IPv6 header.
 fn parse_behind(ip: &Ipv6Repr, message: &[u8]) -> Option<NdiscRepr>
     ensures { MatchOption result ((v : NdiscRepr) → ¬ CarriesNdisc (Ipv6 ip.now) message.now v) (CarriesNdisc (Ipv6 ip.now) message.now) }
 {

@@ -63,7 +63,7 @@ impl FullFrame {
         self.store_icmp(bytes);
     }
 
-    /// The same for a frame of `len` octets of which fewer were captured.
+    /// The same for a frame of `len` bytes of which fewer were captured.
     pub fn read_captured(&mut self, captured: &[u8], len: usize)
         requires part { length captured.now < len }
         ensures value { self.new ≡ with_icmp captured.now (captured_of (take len captured.now) (len - length captured.now)) }
@@ -131,7 +131,7 @@ fn carries_icmp(fields: &FrameFields) -> bool
             || fields.network == NetworkKind::Ipv6.code() && fields.ip.protocol == ICMPV6)
 }
 
-// The octets of the payload that are there.
+// The bytes of the payload that are there.
 #[inline(always)]
 fn payload_in<'a>(fields: &FrameFields, bytes: &'a [u8]) -> &'a [u8]
     ensures { result.now ≡ payload_in fields.now bytes.now }

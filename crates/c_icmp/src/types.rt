@@ -6,7 +6,7 @@ use c_structs::{Addr, FrameFields};
 #[repr(C)]
 #[derive(Clone, Copy)]
 pub struct Icmp {
-    /// Octets 4 to 7.
+    /// Bytes 4 to 7.
     pub word: u32,
     pub msg_type: u8,
     pub code: u8,
@@ -29,7 +29,7 @@ pub struct Ndisc {
     /// The link-layer address option, if `has_hardware` is not 0.
     pub hardware: [u8; 6],
     pub has_hardware: u8,
-    /// Not 0 for an advertisement, which alone has the next three.
+    /// Not 0 for an advertisement. Only an advertisement has the next three fields.
     pub is_advert: u8,
     pub is_router: u8,
     pub is_solicited: u8,

@@ -67,7 +67,7 @@ impl Addr {
         }
     }
 
-    /// The octets as an IPv4 address.
+    /// The bytes as an IPv4 address.
     #[inline(always)]
     pub fn ipv4(&self) -> Ipv4Address
         ensures { result ≡ take 4 self.now.octets }
@@ -80,7 +80,7 @@ impl Addr {
         )
     }
 
-    /// The octets as an IPv6 address.
+    /// The bytes as an IPv6 address.
     #[inline(always)]
     pub fn ipv6(&self) -> Ipv6Address
         ensures { result ≡ self.now.octets }

@@ -6,7 +6,7 @@ ghost use Rattle.c_structs.specs.Checksums.{address_sum, updated_udp};
 use crate::types::Addr;
 use ip_wire::checksum;
 
-/// The sum of the octets of an address, 0 without a version.
+/// The sum of the bytes of an address, 0 without a version.
 pub fn address_sum(addr: &Addr) -> u16
     ensures { result ≡ address_sum addr.now }
 {

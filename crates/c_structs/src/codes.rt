@@ -16,7 +16,7 @@ pub enum Reason {
     PortZero,
     BadFlags,
     BadOptions,
-    /// Not all octets of the header were captured.
+    /// Not all bytes of the header were captured.
     HeaderCut,
 }
 
@@ -74,9 +74,9 @@ pub enum Verdict {
     Wrong,
     /// UDP over IPv4: the sender computed none.
     LeftOut,
-    /// The field holds the sum of the pseudo-header alone (checksum offload).
+    /// The field contains only the sum of the pseudo-header (checksum offload).
     LeftToDevice,
-    /// It covers octets that were not captured.
+    /// It covers bytes that were not captured.
     ChecksumCut,
 }
 

@@ -27,7 +27,7 @@ pub enum Failure {
     BadField,
     /// More than one of SYN, FIN and RST.
     TwoControls,
-    /// TCP options of more than 40 octets, or more than 4 SACK ranges.
+    /// TCP options of more than 40 bytes, or more than 4 SACK ranges.
     OptionsTooLong,
     /// The payload is longer than the length field can say.
     PayloadTooLong,
@@ -187,7 +187,7 @@ impl TcpOptions {
 
 impl Tcp {
     // Why a header with these options cannot be written before a payload of this length, if both together have
-    // so many octets at most.
+    // so many bytes at most.
     fn header_failure(
         &self,
         options: &TcpOptions,
@@ -247,7 +247,7 @@ impl FrameFields {
         }
     }
 
-    /// Why there can be no frame with a UDP packet with a payload of this length.
+    /// The failure of a UDP frame with this payload length; `None` if it can be emitted.
     #[cold]
     pub fn udp_failure(&self, payload_len: usize) -> Option<Failure>
         ensures { result ≡ udp_frame_failure self.now payload_len }

@@ -12,7 +12,7 @@ use ip_wire::{
     IPV4_HEADER_LEN, IPV6_HEADER_LEN, Ipv4Packet, Ipv6Packet, TCP_HEADER_LEN, TcpPacket, UdpPacket,
 };
 
-/// The length of an ARP packet for Ethernet and IPv4, in octets.
+/// The length of an ARP packet for Ethernet and IPv4, in bytes.
 pub const ARP_LEN: usize = 28;
 
 /// Why an ARP packet is rejected.
@@ -55,7 +55,7 @@ pub fn ipv6_fault(packet: &Ipv6Packet<'_>) -> Reason
     }
 }
 
-/// Why a UDP header of 8 octets is rejected.
+/// Why a UDP header of 8 bytes is rejected.
 #[cold]
 pub fn udp_fault(packet: &UdpPacket<'_>) -> Reason
     ensures { result ≡ udp_fault (udp.packet_bytes packet.now) }
@@ -67,7 +67,7 @@ pub fn udp_fault(packet: &UdpPacket<'_>) -> Reason
     }
 }
 
-/// Why the header of a TCP segment of `len` octets is rejected, of which at least 20 were captured.
+/// Why the header of a TCP segment of `len` bytes is rejected, of which at least 20 were captured.
 #[cold]
 pub fn tcp_fault(packet: &TcpPacket<'_>, len: usize) -> Reason
     requires { 20 ≤ length (tcp.packet_bytes packet.now) }

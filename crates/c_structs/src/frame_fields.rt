@@ -26,7 +26,7 @@ use wire_field::array_at;
 // The byte of the EtherType in an Ethernet header.
 const ETHERTYPE: usize = 12;
 
-// The length of an IPv6 fragment header, in octets (RFC 8200, section 4.5).
+// The length of an IPv6 fragment header, in bytes (RFC 8200, section 4.5).
 pub(super) const FRAGMENT_HEADER_LEN: usize = 8;
 
 impl Endpoint {
@@ -149,7 +149,7 @@ impl FrameFields {
         }
     }
 
-    // Moves the payload behind a header of this length.
+    // Moves the payload after a header of this length.
     pub(super) fn step_behind(&mut self, header_len: usize, payload_len: usize)
         requires { self.old.payload_offset + header_len ≤ 200 }
         ensures { self.new ≡ behind self.old header_len payload_len }
@@ -215,7 +215,7 @@ impl FrameFields {
         }
     }
 
-    // Stores the values of an ARP packet for Ethernet and IPv4, behind which there is only padding. They
+    // Stores the values of an ARP packet for Ethernet and IPv4, after which there is only padding. They
     // are copied from the packet one by one.
     fn store_message(&mut self, bytes: &[u8])
         requires offset { self.old.payload_offset ≤ 14 }
@@ -292,7 +292,7 @@ impl FrameFields {
         self.step_behind(header_len, payload_len);
     }
 
-    // Stores an IPv6 packet. The payload behind a fragment header is not parsed.
+    // Stores an IPv6 packet. The payload after a fragment header is not parsed.
     #[inline(always)]
     pub(super) fn store_ipv6(&mut self, bytes: &[u8])
         requires offset { self.old.payload_offset ≤ 14 }

@@ -142,7 +142,7 @@ impl FrameFields {
         self.ip.is_whole().then_some(value)
     }
 
-    /// The length of the Ethernet header and this IP header, in octets.
+    /// The length of the Ethernet header and this IP header, in bytes.
     #[inline(always)]
     pub fn headers_len(&self, ip_header: &IpRepr) -> usize
         ensures { result ≡ 14 + header_len_of ip_header.now }
@@ -162,7 +162,7 @@ impl FrameFields {
         self.ip.emit(ip_header, true, rest);
     }
 
-    // Writes the headers of a frame with a UDP packet around a payload that is in `out` behind them.
+    // Writes the headers of a frame with a UDP packet around a payload that is in `out` after them.
     #[inline(always)]
     fn wrap_udp(&self, ip_header: &IpRepr, payload_len: usize, out: &mut [u8])
         requires expressible { is_expressible self.now.ip ip_header.now ≡ true }
@@ -205,7 +205,7 @@ impl FrameFields {
         udp::write(ports, src_addr, dst_addr, payload, packet);
     }
 
-    // Writes the headers of a frame with a TCP segment around a payload that is in `out` behind them.
+    // Writes the headers of a frame with a TCP segment around a payload that is in `out` after them.
     #[inline(always)]
     fn wrap_tcp(
         &self,

@@ -1,4 +1,4 @@
-//! What holds of the stored values. Most functions do nothing: what they say holds of the definitions alone.
+//! Laws of the stored values. Most bodies are empty: the law follows from the definitions.
 
 ghost use Rattle.std.specs.Prelude.{◌≡◌, ◌↔◌, ◌≢◌, ◌≤◌, drop, false, length, true};
 ghost use Rattle.ip_wire.specs.Ethernet as ethernet;
@@ -46,7 +46,7 @@ pub fn rejected_is_no_transport(frame: &[u8])
     ensures parsed { (fields_of frame.now).reason ≡ 0 → (fields_of frame.now).rejected ≡ 0 }
 {}
 
-/// The struct of a packet in a frame is that of the packet alone, with the values of the Ethernet header, and
+/// The struct of a packet in a frame is that of the packet by itself, with the values of the Ethernet header, and
 /// with each offset 14 more.
 pub fn frame_has_packet(frame: &[u8], whole: &mut FrameFields, packet: &mut FrameFields)
     requires { 14 ≤ length frame.now }

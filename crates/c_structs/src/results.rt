@@ -5,7 +5,7 @@ ghost use Rattle.c_structs.specs.Written.{Prints, failed_by, is_set, max_len, us
 
 use crate::failures::Failure;
 
-/// The longest input or output of a call, in octets.
+/// The longest input or output of a call, in bytes.
 pub const MAX_LEN: usize = (1 << 40) - 1;
 
 /// An input. One that is longer than `MAX_LEN` counts as empty.
@@ -19,7 +19,7 @@ pub fn within(bytes: &[u8]) -> &[u8]
     if bytes.len() <= MAX_LEN { bytes } else { &[] }
 }
 
-/// A number of octets. One that is above `MAX_LEN` counts as 0.
+/// A number of bytes. One that is above `MAX_LEN` counts as 0.
 #[inline(always)]
 #[tactic(auto, unfolding(crate::specs::Written::usable))]
 pub fn usable(len: usize) -> usize
@@ -45,7 +45,7 @@ pub fn is_set(number: i32) -> bool
     number != 0
 }
 
-/// Prints a text: writes it to the front of `out`, with a null behind it if there is room, and returns its
+/// Prints a text: writes it to the front of `out`, with a null after it if there is room, and returns its
 /// length, or that there is no room for the text.
 pub fn print(text: &str, out: &mut [u8]) -> isize
     ensures { Prints (Some text.now) None out.old out.new result }
@@ -59,7 +59,7 @@ pub fn print(text: &str, out: &mut [u8]) -> isize
     len as isize
 }
 
-/// Writes a null behind a text of this length, if there is room.
+/// Writes a null after a text of this length, if there is room.
 #[inline(always)]
 pub fn end_text(len: usize, out: &mut [u8])
     ensures { out.new ≡ with_end out.old len }

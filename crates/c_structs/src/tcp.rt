@@ -31,7 +31,7 @@ pub fn put_checksum(old: &[u8], old_len: usize, header_len: usize, len: usize, o
 
 impl Tcp {
     /// Writes a header with these options and ports between two addresses, around a payload that is in
-    /// `out` behind it. The first 20 octets are written last, with their checksum, and are not read
+    /// `out` after it. The first 20 bytes are written last, with their checksum, and are not read
     /// again: bytes that were just written are slow to read. The checksum is 0 unless it is computed.
     #[inline(always)]
     pub fn wrap(
@@ -60,7 +60,7 @@ impl Tcp {
         write_front(&words, out);
     }
 
-    // The words of the first 20 octets before the rest of a segment. The checksum is 0 unless it is
+    // The words of the first 20 bytes before the rest of a segment. The checksum is 0 unless it is
     // computed.
     #[inline(always)]
     fn front(
@@ -85,7 +85,7 @@ impl Tcp {
         }
     }
 
-    // The words of the first 20 octets, of 32 bits each. Their checksum is 0.
+    // The words of the first 20 bytes, of 32 bits each. Their checksum is 0.
     #[inline(always)]
     fn words(&self, ports: (u16, u16), header_len: usize) -> [u32; 5]
         requires { header_len ≤ 60 }
@@ -118,7 +118,7 @@ fn summed(words: [u32; 5], src_addr: IpAddress, dst_addr: IpAddress, rest: &[u8]
     words
 }
 
-// Writes the first 20 octets of a header.
+// Writes the first 20 bytes of a header.
 #[inline(always)]
 fn write_front(words: &[u32; 5], out: &mut [u8])
     requires { 20 ≤ length out.old }

@@ -17,7 +17,7 @@ use wire_tcp_parts::write_option;
 const SACK_RANGES: u8 = 5;
 
 impl TcpOptions {
-    /// Writes the options behind the first 20 octets of a header, and zeros up to its end.
+    /// Writes the options after the first 20 bytes of a header, and zeros up to its end.
     #[inline(always)]
     pub fn emit(&self, header_len: usize, out: &mut [u8])
         requires few { self.now.sack_range_count ≤ length self.now.sack_ranges }

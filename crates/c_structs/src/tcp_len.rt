@@ -25,7 +25,7 @@ impl TcpOptions {
         (len <= TCP_MAX_HEADER_LEN).then_some(len)
     }
 
-    // The length of the options in octets. Ranges count beside SACK permitted too.
+    // The length of the options in bytes. Ranges count beside SACK permitted too.
     #[inline(always)]
     fn len(&self) -> usize
         requires few { self.now.sack_range_count ≤ length self.now.sack_ranges }
@@ -42,7 +42,7 @@ impl TcpOptions {
             + len_if(has_timestamp, 10)
     }
 
-    // The length of a SACK option in octets, 0 if there are no ranges.
+    // The length of a SACK option in bytes, 0 if there are no ranges.
     #[inline(always)]
     fn ranges_len(&self) -> usize
         requires { self.now.sack_range_count ≤ length self.now.sack_ranges }

@@ -29,14 +29,14 @@ impl TcpOptionPlace {
         self.step_to(rest, at)
     }
 
-    // Whether this is the end mark, behind which there is no option.
+    // Whether this is the end mark, after which there is no option.
     fn is_end_mark(&self) -> bool
         ensures { result ≡ is_end_mark self.now }
     {
         self.offset != 0 && self.kind == 0
     }
 
-    // Where the option behind this one begins. Zeros stand before the first one.
+    // Where the option after this one begins. All fields are 0 before the first one.
     fn next_at(&self) -> usize
         ensures { result ≡ next_at self.now }
     {
@@ -67,7 +67,7 @@ impl TcpOptionPlace {
         }
     }
 
-    // The place of an option that begins so many octets behind the first 20 of the header.
+    // The place of an option that begins so many bytes after the first 20 of the header.
     fn at(at: usize, kind: u8, len: usize) -> TcpOptionPlace
         requires at { at ≤ 40 }
         requires len { len ≤ 40 }

@@ -54,9 +54,9 @@ pub struct Arp {
 pub struct Ip {
     /// 16 bits in IPv4, 32 bits in the fragment header of IPv6.
     pub ident: u32,
-    /// 20 bits, in IPv6 alone.
+    /// 20 bits, only in IPv6.
     pub flow_label: u32,
-    /// In octets, a multiple of 8.
+    /// In bytes, a multiple of 8.
     pub fragment_offset: u16,
     pub protocol: u8,
     pub hop_limit: u8,
@@ -65,7 +65,7 @@ pub struct Ip {
     /// 2 bits; in IPv6 the lower ones of the traffic class.
     pub ecn: u8,
     pub more_fragments: u8,
-    /// In IPv4 alone.
+    /// Only in IPv4.
     pub dont_fragment: u8,
 }
 
@@ -79,7 +79,7 @@ pub struct Tcp {
     pub urgent_at: u16,
     /// FIN is 1, SYN 2, RST 4, PSH 8, ACK 16, URG 32, ECE 64, CWR 128.
     pub flags: u8,
-    /// In octets, 20 to 60; of a rejected header 0 to 60.
+    /// In bytes, 20 to 60; of a rejected header 0 to 60.
     pub header_len: u8,
 }
 
@@ -113,11 +113,11 @@ pub struct TcpOptions {
 #[repr(C)]
 #[derive(Clone, Copy)]
 pub struct TcpOptionPlace {
-    /// Of its first octet in the header; 0 before the first option.
+    /// Of its first byte in the header; 0 before the first option.
     pub offset: u8,
     /// 0 for the end mark, 1 for padding.
     pub kind: u8,
-    /// Of the whole option, in octets.
+    /// Of the whole option, in bytes.
     pub len: u8,
 }
 
@@ -126,7 +126,7 @@ pub struct TcpOptionPlace {
 #[repr(C)]
 #[derive(Clone, Copy)]
 pub struct FrameFields {
-    /// Of the ARP or IP header, from the first octet of the frame.
+    /// Of the ARP or IP header, from the first byte of the frame.
     pub network_offset: usize,
     /// Of the UDP, TCP or ICMP header.
     pub transport_offset: usize,

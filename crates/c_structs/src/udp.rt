@@ -7,7 +7,7 @@ ghost use Rattle.ip_wire.specs.Udp.{bytes_of, max_payload_len};
 use ip_wire::{IpAddress, UDP_HEADER_LEN, UdpPacketMut, UdpRepr};
 use net_base::ChecksumCapabilities;
 
-/// Writes the header of a packet between two addresses around a payload that is in `out` behind it.
+/// Writes the header of a packet between two addresses around a payload that is in `out` after it.
 #[inline(always)]
 pub fn wrap(
     header: UdpRepr,

@@ -97,7 +97,7 @@ pub extern "C" fn lk_print_endpoint(endpoint: &Endpoint, out: &mut [u8]) -> isiz
     }
 }
 
-/// Parses the text of an Ethernet address, stores its octets, and returns 1. Returns 0 if it is no such
+/// Parses the text of an Ethernet address, stores its bytes, and returns 1. Returns 0 if it is no such
 /// text.
 #[unsafe(no_mangle)]
 pub extern "C" fn lk_parse_ethernet(text: &[u8], octets: &mut [u8; 6]) -> i32

@@ -37,7 +37,7 @@ pub extern "C" fn lk_read_frame(bytes: &[u8], frame: &mut FullFrame) -> i32
     i32::from(frame.fields.reason)
 }
 
-/// Parses an IP packet without an Ethernet header, by the version in its first octet, as `lk_read_frame`
+/// Parses an IP packet without an Ethernet header, by the version in its first byte, as `lk_read_frame`
 /// does.
 #[unsafe(no_mangle)]
 pub extern "C" fn lk_read_packet(bytes: &[u8], frame: &mut FullFrame) -> i32
@@ -49,9 +49,9 @@ pub extern "C" fn lk_read_packet(bytes: &[u8], frame: &mut FullFrame) -> i32
     i32::from(frame.fields.reason)
 }
 
-/// Parses the first octets of an Ethernet frame of `len` octets, as `lk_read_frame` does, and stores all
+/// Parses the first bytes of an Ethernet frame of `len` bytes, as `lk_read_frame` does, and stores all
 /// headers that are there. Lengths in headers are compared with `len`. A header that was not captured as a
-/// whole is rejected. If more octets than `len` were captured, only the first `len` count.
+/// whole is rejected. If more bytes than `len` were captured, only the first `len` count.
 #[unsafe(no_mangle)]
 pub extern "C" fn lk_read_captured(captured: &[u8], len: usize, frame: &mut FullFrame) -> i32
     ensures fields { let bytes = within captured.now in frame.new ≡ with_icmp (take (usable len) bytes) (captured_of (take (usable len) bytes) (usable len - length bytes)) }

@@ -7,7 +7,7 @@ ghost use Rattle.c_routing.specs.Translated.{Translates, side_of};
 use c_routing::{clamp_frame, forward_frame, translate_frame};
 use c_structs::Endpoint;
 
-/// Forwards the packet of a frame between two stations. Returns 0, or why it is not forwarded; then the frame is
+/// Forwards the packet of a frame between two hosts. Returns 0, or why it is not forwarded; then the frame is
 /// unchanged.
 #[unsafe(no_mangle)]
 pub extern "C" fn lk_forward(frame: &mut [u8], src: &[u8; 6], dst: &[u8; 6]) -> i32
