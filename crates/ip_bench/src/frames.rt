@@ -17,7 +17,7 @@ pub const ROOM: usize = 1600;
 
 const POOL_LEN: usize = 65536;
 
-/// Octets of which the payloads are parts.
+/// Bytes of which the payloads are parts.
 pub fn pool(alloc: Global, random: &mut Random) -> std::result::Result<Vec<u8>, AllocError> {
     let mut pool = Vec::new(alloc);
     for _ in 0..POOL_LEN / 8 {
@@ -99,7 +99,7 @@ fn frame<'a>(random: &mut Random, pool: &'a [u8]) -> Result<Frame<'a>>
     }
 }
 
-/// A station of the link.
+/// The Ethernet address of a host.
 pub fn station(random: &mut Random) -> EthernetAddress {
     let [a, b, c, d, e, ..] = random.word().to_le_bytes();
     EthernetAddress([2, a, b, c, d, e])

@@ -128,7 +128,7 @@ fn add_endpoint(text: &[u8], digest: &mut Digest) {
     }
 }
 
-/// Adds the octets of an address.
+/// Adds the bytes of an address.
 pub fn add_octets(addr: &IpAddress, digest: &mut Digest) {
     match addr {
         IpAddress::Ipv4(addr) => digest.add_bytes(&addr.octets()),

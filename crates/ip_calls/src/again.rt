@@ -10,7 +10,7 @@ use ip_wire::{
 use net_base::ChecksumCapabilities;
 use std::alloc::{AllocError, Global};
 
-/// The octets that are emitted: an IP header, a packet of UDP or TCP, or a frame. `err` if none is parsed.
+/// The bytes that are emitted: an IP header, a packet of UDP or TCP, or a frame. `err` if none is parsed.
 pub fn answer(alloc: Global, operands: &mut Operands<'_>) -> Result<String, AllocError> {
     let format = operands.word();
     let (src, dst) = match format {
@@ -20,7 +20,7 @@ pub fn answer(alloc: Global, operands: &mut Operands<'_>) -> Result<String, Allo
     let (caps, old) = (operands.capabilities(), operands.number());
     let octets = operands.octets(alloc)?;
     let bytes = octets.as_slice();
-    // No value is emitted to more octets than it was parsed from.
+    // No value is emitted to more bytes than it was parsed from.
     let mut out = vec![in alloc; old; bytes.len()]?;
     let room = out.as_mut_slice();
     let len = match format {

@@ -1,4 +1,4 @@
-//! Emission of headers and of UDP packets, and sums of octets.
+//! Emission of headers and of UDP packets, and sums of bytes.
 
 use crate::operands::Operands;
 use ip_wire::{
@@ -7,7 +7,7 @@ use ip_wire::{
 };
 use std::alloc::{AllocError, Global};
 
-/// The octets of a UDP packet.
+/// The bytes of a UDP packet.
 pub fn udp(alloc: Global, operands: &mut Operands<'_>) -> Result<String, AllocError> {
     let (src_addr, dst_addr) = operands.addresses();
     let header = UdpRepr {
@@ -31,7 +31,7 @@ pub fn udp(alloc: Global, operands: &mut Operands<'_>) -> Result<String, AllocEr
     hex::encode(alloc, out.as_slice())
 }
 
-/// The octets of an IP header.
+/// The bytes of an IP header.
 pub fn header(alloc: Global, operands: &mut Operands<'_>) -> Result<String, AllocError> {
     let (src_addr, dst_addr) = operands.addresses();
     let protocol = operands.number::<u8>().into();
@@ -47,7 +47,7 @@ pub fn header(alloc: Global, operands: &mut Operands<'_>) -> Result<String, Allo
     hex::encode(alloc, out.as_slice())
 }
 
-/// The octets of a fragment header of IPv6.
+/// The bytes of a fragment header of IPv6.
 pub fn fragment(alloc: Global, operands: &mut Operands<'_>) -> Result<String, AllocError> {
     let header = Ipv6FragmentRepr {
         frag_offset: operands.number(),
@@ -59,7 +59,7 @@ pub fn fragment(alloc: Global, operands: &mut Operands<'_>) -> Result<String, Al
     hex::encode(alloc, out.as_slice())
 }
 
-/// The sum of octets.
+/// The sum of bytes.
 pub fn sum(alloc: Global, operands: &mut Operands<'_>) -> Result<String, AllocError> {
     let sum = checksum::data(operands.octets(alloc)?.as_slice());
     format!(in alloc; "{sum}")

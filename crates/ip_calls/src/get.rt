@@ -30,7 +30,7 @@ pub fn answer(alloc: Global, operands: &mut Operands<'_>) -> Result<String, Allo
     Ok(text)
 }
 
-// Each of these appends the values of one view, or nothing if the octets do not hold its header.
+// Each of these appends the values of one view, or nothing if the bytes do not hold its header.
 
 fn ethernet(bytes: &[u8], text: &mut String) -> Result<(), AllocError> {
     let Ok(frame) = EthernetFrame::new_checked(bytes) else {

@@ -6,10 +6,10 @@ use ip_replies::Interface;
 use ip_replies::tcp_reply::Offer;
 use std::alloc::{AllocError, Global};
 
-/// The largest buffer for a reply, in octets.
+/// The largest buffer for a reply, in bytes.
 const MAX_ROOM: usize = 1 << 17;
 
-/// The name of the line, and the octets of the reply.
+/// The name of the line, and the bytes of the reply.
 pub fn answer(alloc: Global, operands: &mut Operands<'_>) -> Result<String, AllocError> {
     let name = operands.word();
     let interface = interface(operands);

@@ -178,13 +178,13 @@ impl<'a> Operands<'a> {
         }
     }
 
-    /// Octets of hex digits, and no octets for `-`.
+    /// Bytes of hex digits, and no bytes for `-`.
     pub fn octets(&mut self, alloc: Global) -> Result<Vec<u8>, AllocError> {
         let word = self.word();
         self.octets_of(alloc, word)
     }
 
-    /// The octets of a word that was read.
+    /// The bytes of a word that was read.
     pub fn octets_of(&mut self, alloc: Global, word: &str) -> Result<Vec<u8>, AllocError> {
         if word == NOTHING {
             return Ok(Vec::new(alloc));

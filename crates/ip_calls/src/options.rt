@@ -6,7 +6,7 @@ use net_base::Result as Parsed;
 use std::alloc::{AllocError, Global};
 use std::fmt::Debug;
 
-// The largest length of the options in a header in octets, in whole words of 4.
+// The largest length of the options in a header in bytes, in whole words of 4.
 const MAX_OPTIONS_LEN: usize = 40;
 
 /// The summary of the options, whether SACK is permitted, and the ranges of the first SACK option.
@@ -27,8 +27,8 @@ pub fn answer(alloc: Global, operands: &mut Operands<'_>) -> Result<String, Allo
     format!(in alloc; "{summary} {permitted} {ranges}")
 }
 
-/// The first option, the number of octets behind it, the octets that it is emitted to, and the number of octets
-/// that are left of the buffer. The buffer is two octets longer than the option. `err` if there is no option.
+/// The first option, the number of bytes after it, its emitted bytes, and the number of bytes that are
+/// left of the buffer. The buffer is two bytes longer than the option. `err` if there is no option.
 pub fn first(alloc: Global, operands: &mut Operands<'_>) -> Result<String, AllocError> {
     let octets = operands.octets(alloc)?;
     let Ok((rest, option)) = TcpOption::parse(octets.as_slice()) else {

@@ -12,7 +12,7 @@ use ip_wire::{
 };
 use std::alloc::{AllocError, Global};
 
-/// The octets after a call of a setter. They have to hold the header of the view.
+/// The bytes after a call of a setter. They have to hold the header of the view.
 pub fn answer(alloc: Global, operands: &mut Operands<'_>) -> Result<String, AllocError> {
     let (view, call, octets) = (operands.word(), operands.word(), operands.last());
     let mut octets = operands.octets_of(alloc, octets)?;

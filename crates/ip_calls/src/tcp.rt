@@ -6,7 +6,7 @@ use ip_wire::{
 };
 use std::alloc::{AllocError, Global};
 
-/// The length of the header and, unless it is too long for a header, the octets of the segment.
+/// The length of the header and, unless it is too long for a header, the bytes of the segment.
 pub fn answer(alloc: Global, operands: &mut Operands<'_>) -> Result<String, AllocError> {
     let (src_addr, dst_addr) = operands.addresses();
     let fields = segment(operands);

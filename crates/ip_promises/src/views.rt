@@ -49,7 +49,7 @@ fn fill_ipv6(value: &Ipv6Repr, packet: &mut Ipv6PacketMut<'_>)
     value.emit(packet);
 }
 
-// Writes an IP header to octets of its length, through a view of its version.
+// Writes an IP header to bytes of its length, through a view of its version.
 fn fill_ip(value: &IpRepr, bytes: &mut [u8], caps: &ChecksumCapabilities)
     requires payload_len { ip.payload_len_of value.now ≤ ip.max_payload_len value.now }
     requires room { length bytes.old ≡ ip.header_len_of value.now }

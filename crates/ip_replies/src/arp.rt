@@ -9,7 +9,7 @@ use crate::interface::Interface;
 use ip_wire::{ArpOperation, ArpRepr, Carried, EthernetAddress, Frame, send_reply};
 use net_base::ChecksumCapabilities;
 
-/// The reply to a request for the IPv4 address, sent to the station that asks. `None` for any other frame,
+/// The reply to a request for the IPv4 address, sent to the host that asks. `None` for any other frame,
 /// if the hardware address of the sender is not unicast, and if its IPv4 address is neither a valid source nor 0.0.0.0.
 pub fn reply<'a>(request: &Frame<'_>, ours: &Interface) -> Option<Frame<'a>>
     ensures { Gives (ArpRepliesFrame ours.now request.now) result }
@@ -23,7 +23,7 @@ pub fn reply<'a>(request: &Frame<'_>, ours: &Interface) -> Option<Frame<'a>>
     }
 }
 
-// The reply to a message, and the station that asks.
+// The reply to a message, and the Ethernet address of the host that asks.
 fn reply_to(message: &ArpRepr, ours: &Interface) -> Option<(EthernetAddress, ArpRepr)>
     ensures { (asker : EthernetAddress) (reply : ArpRepr) → (result ≡ Some (asker, reply)) ↔ IsArpReply ours.now message.now asker reply }
 {

@@ -16,16 +16,16 @@ use ip_wire::{
 use net_base::ChecksumCapabilities;
 use wire_icmp::{IcmpPacket, IcmpRepr, protocol_of};
 
-/// The most octets that an error of IPv4 quotes, so that its packet has at most 576 octets (RFC 1812,
+/// The most bytes that an error of IPv4 quotes, so that its packet has at most 576 bytes (RFC 1812,
 /// section 4.3.2.3).
 const IPV4_QUOTE_LEN: usize = 548;
 
-/// The same of IPv6, for at most 1,280 octets (RFC 4443, section 2.4 c).
+/// The same of IPv6, for at most 1,280 bytes (RFC 4443, section 2.4 c).
 const IPV6_QUOTE_LEN: usize = 1232;
 
 /// A frame with an ICMP error about the packet of a frame, to its sender. It quotes as much of the packet
-/// as fits into 576 octets over IPv4, and into 1,280 over IPv6. `None` if the sender may not get one:
-/// - The frame does not come from one station, or goes to others than ours.
+/// as fits into 576 bytes over IPv4, and into 1,280 over IPv6. `None` if the sender may not get one:
+/// - The frame does not come from one host, or is not sent to this interface only.
 /// - It carries no IP packet: lengths, version or IPv4 checksum are wrong, or the EtherType.
 /// - No other host has its source, or no host its destination, or no host the address of `ours`.
 /// - The packet is a fragment other than the first, or of IPv6 with an extension header.
@@ -55,7 +55,7 @@ pub fn error<'a>(frame: &'a [u8], ours: &Interface, message: IcmpRepr) -> Option
     Some(MessageFrame::icmp(src_addr, dst_addr, back, message, quote))
 }
 
-// Whether a packet with these headers goes from one other host through our station to one host.
+// Whether a packet with these headers goes from one other host through this interface to one host.
 fn is_between_hosts(link: &EthernetRepr, header: &IpRepr, ours: &Interface) -> bool
     ensures { IsTrue result ↔ IsBetweenHosts ours.now link.now header.now }
 {

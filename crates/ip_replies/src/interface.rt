@@ -42,8 +42,8 @@ impl Interface {
         is_this_host(addr) || is_no_host(addr) || self.has_addr(addr)
     }
 
-    /// Returns `true` if an ARP request may come from this station with this address: the station is one,
-    /// and the address is a valid source, or 0.0.0.0 as in a probe (RFC 5227, section 2.1.1).
+    /// Returns `true` if an ARP request may come from this Ethernet and IPv4 address: the first is unicast, and
+    /// the second is a valid source, or 0.0.0.0 as in a probe (RFC 5227, section 2.1.1).
     pub fn may_ask(&self, station: &EthernetAddress, addr: &Ipv4Address) -> bool
         ensures { IsTrue result ↔ IsAsker self.now station.now addr.now }
     {

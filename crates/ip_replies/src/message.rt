@@ -45,7 +45,7 @@ pub enum Reply<'a> {
 }
 
 impl<'a> Message<'a> {
-    /// The length of the message in octets.
+    /// The length of the message in bytes.
     pub fn buffer_len(&self) -> usize
         ensures { result ≡ message_len self.now }
     {
@@ -87,7 +87,7 @@ fn emit_ndisc(value: &NdiscRepr, ip: &Ipv6Repr, out: &mut [u8]) -> Option<usize>
 }
 
 impl<'a> MessageFrame<'a> {
-    // The frame between two stations with an ICMP message, in a packet with the addresses and the hop
+    // The frame between two hosts with an ICMP message, in a packet with the addresses and the hop
     // limit of a header.
     pub(crate) fn icmp(
         src_addr: EthernetAddress,
@@ -122,7 +122,7 @@ impl<'a> MessageFrame<'a> {
         }
     }
 
-    /// The length of the frame in octets.
+    /// The length of the frame in bytes.
     pub fn buffer_len(&self) -> usize
         requires { IsSendable self.now }
         ensures { result ≡ 14 + (header_len_of self.now.ip + message_len self.now.message) }
@@ -190,7 +190,7 @@ fn message_composes(header: EthernetRepr, ip: IpRepr)
     ensures { Composes header ip }
 {}
 
-// The header of a frame between two stations with a packet of this header.
+// The header of a frame between two hosts with a packet of this header.
 fn header_before(src_addr: EthernetAddress, dst_addr: EthernetAddress, ip: &IpRepr) -> EthernetRepr
     ensures { result ≡ record { src_addr = src_addr; dst_addr = dst_addr; ethertype = type_of ip.now } }
 {

@@ -21,8 +21,8 @@ use wire_icmp::IcmpPacket;
 use wire_ndisc::{NDISC_HOP_LIMIT, NdiscNeighborFlags, NdiscRepr};
 
 /// The advertisement to a solicitation for the IPv6 address, with the hardware address. The solicitation
-/// goes to the address or to its solicited-node group. `None` for any other frame, if its station or the
-/// one that it names is not unicast, and if its source is neither valid nor `::`.
+/// goes to the address or to its solicited-node group. `None` for any other frame, if the Ethernet
+/// address of its sender or the one that it names is not unicast, and if its source is neither valid nor `::`.
 pub fn reply<'a>(request: &Frame<'_>, ours: &Interface) -> Option<MessageFrame<'a>>
     ensures { Gives (AdvertisesFrame ours.now request.now) result }
 {
@@ -83,7 +83,7 @@ fn is_solicited(ours: &Interface, link: &EthernetRepr, header: &Ipv6Repr) -> boo
         && is_for_target(ours, &link.dst_addr, &header.dst_addr)
 }
 
-// Whether a frame to this station with a packet to this address is for us as a target.
+// Whether a frame to this Ethernet address with a packet to this IPv6 address is for us as a target.
 fn is_for_target(ours: &Interface, station: &EthernetAddress, dst_addr: &Ipv6Address) -> bool
     requires { IsHostAddr (address.Ipv6 ours.now.ipv6_addr) }
     ensures { IsTrue result ↔ IsForTarget ours.now station.now dst_addr.now }
@@ -92,7 +92,7 @@ fn is_for_target(ours: &Interface, station: &EthernetAddress, dst_addr: &Ipv6Add
         || (*dst_addr == ours.ipv6_addr.solicited_node() && *station == group_station(dst_addr))
 }
 
-// The station and the address that get the advertisement, and whether it is solicited.
+// The Ethernet and the IPv6 address that get the advertisement, and whether it is solicited.
 fn answered_to(
     ours: &Interface,
     link: &EthernetRepr,
@@ -116,7 +116,7 @@ fn answered_to(
     Some((station, header.src_addr, true))
 }
 
-// The station of a sender.
+// The Ethernet address of a sender: the one that it names, if any.
 fn station_of(named: Option<EthernetAddress>, station: EthernetAddress) -> EthernetAddress
     ensures { result ≡ station_of named station }
 {

@@ -15,9 +15,9 @@ const MAX_WINDOW_SCALE: u8 = 14;
 pub struct Offer {
     /// The initial sequence number, that of the SYN (RFC 9293, section 3.4.1).
     pub initial: TcpSeqNumber,
-    /// The receive window in octets. The window of a SYN is not scaled.
+    /// The receive window in bytes. The window of a SYN is not scaled.
     pub window_len: u16,
-    /// The maximum segment size that is accepted, in octets.
+    /// The maximum segment size that is accepted, in bytes.
     pub max_seg_size: u16,
     /// The window scale, at most 14; larger values count as 14.
     pub window_scale: u8,

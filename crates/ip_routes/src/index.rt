@@ -19,7 +19,7 @@ use std::cmp::Ordering;
 // Longer than every prefix.
 const WHOLE_LEN: u8 = 129;
 
-/// A block of the index. Any octets are a value.
+/// A block of the index. Any bytes are a value.
 #[repr(C)]
 #[derive(Debug, Clone, Copy, PartialEq, Eq)]
 pub struct Node {

@@ -43,7 +43,7 @@ const OFFER: Offer = Offer {
     clock: 0x5566_7788,
 };
 
-/// Writes octets to some places of a frame.
+/// Writes bytes to some places of a frame.
 fn change(frame: &mut [u8], octets: &[(usize, u8)]) {
     for (at, octet) in octets {
         if let Some(changed) = frame.get_mut(*at) {

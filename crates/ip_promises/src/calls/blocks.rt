@@ -48,7 +48,7 @@ pub fn ends_are_in_the_block(block: &Ipv4Cidr) -> (bool, Option<bool>)
     (block.contains_addr(&block.network().address()), last)
 }
 
-/// No address of a block is before the first or behind the last one.
+/// No address of a block is before the first or after the last one.
 pub fn bits_in_block(block: &Ipv4Cidr, address: &Ipv4Address) -> (bool, u32, u32, Option<u32>)
     ensures first { IsTrue result.0 → result.1 ≤ result.2 }
     ensures last { IsTrue result.0 → IfSome result.3 (λ last. result.2 ≤ last) }
@@ -80,7 +80,7 @@ pub fn ipv4_subnet_is_contained(
 ) -> (bool, bool, bool)
     ensures { IsTrue result.0 → IsTrue result.1 → IsTrue result.2 }
 {
-    // The contract of this call says how many octets there are.
+    // The contract of this call says how many bytes there are.
     let _bits = address.to_bits();
     (
         block.contains_subnet(subnet),
@@ -97,7 +97,7 @@ pub fn ipv6_subnet_is_contained(
 ) -> (bool, bool, bool)
     ensures { IsTrue result.0 → IsTrue result.1 → IsTrue result.2 }
 {
-    // The contract of this call says how many octets there are.
+    // The contract of this call says how many bytes there are.
     let _bits = address.to_bits();
     (
         block.contains_subnet(subnet),

@@ -54,7 +54,8 @@ pub fn ipv6_blocks(address: &Ipv6Address) -> ([bool; 2], [bool; 2])
     )
 }
 
-/// Link-local is fe80::/64, global unicast 2000::/3, solicited-node ff02::1:ff00:0/104.
+/// Whether an address is link-local, global unicast and solicited-node, by the calls; and whether fe80::/64,
+/// 2000::/3 and ff02::1:ff00:0/104 contain it.
 pub fn ipv6_more_blocks(address: &Ipv6Address) -> ([bool; 3], [bool; 3])
     ensures { result.0 ≡ result.1 }
 {
@@ -101,7 +102,7 @@ pub fn unicast_by_other_classes(ipv4: &Ipv4Address, ipv6: &Ipv6Address) -> ([boo
     )
 }
 
-/// A multicast address has its scope in the low four bits of its second octet (RFC 4291, section
+/// A multicast address has its scope in the low four bits of its second byte (RFC 4291, section
 /// 2.7). The scope of a unicast address follows from its class (RFC 6724, section 3.1).
 pub fn scope_by_class(address: &Ipv6Address) -> (Ipv6MulticastScope, Ipv6MulticastScope)
     ensures { result.0 ≡ result.1 }

@@ -17,7 +17,7 @@ pub fn eui_64_of_octets(address: EthernetAddress) -> (Option<[u8; 8]>, Option<[u
     )
 }
 
-/// Two bits of the first octet are the I/G and the U/L bit (IEEE 802.3, 3.2.3).
+/// Two bits of the first byte are the I/G and the U/L bit (IEEE 802.3, 3.2.3).
 pub fn bits_of_ethernet(address: EthernetAddress) -> ([bool; 2], [bool; 2])
     ensures { result.0 ≡ result.1 }
 {
@@ -67,7 +67,7 @@ pub fn eui_64_of_hardware(ethernet: EthernetAddress) -> (Option<[u8; 8]>, Option
     )
 }
 
-/// A hardware address of another medium has neither octets nor an EUI-64.
+/// A hardware address of another medium has neither bytes nor an EUI-64.
 pub fn octets_of_no_hardware() -> (Option<RawHardwareAddress>, Option<[u8; 8]>)
     ensures raw { result.0 ≡ None }
     ensures eui_64 { result.1 ≡ None }
@@ -79,7 +79,7 @@ pub fn octets_of_no_hardware() -> (Option<RawHardwareAddress>, Option<[u8; 8]>)
     )
 }
 
-/// The octets of a hardware address of Ethernet are those of the Ethernet address.
+/// The bytes of a hardware address of Ethernet are those of the Ethernet address.
 pub fn raw_of_hardware(
     ethernet: EthernetAddress,
 ) -> (Option<RawHardwareAddress>, Option<RawHardwareAddress>)
@@ -91,7 +91,7 @@ pub fn raw_of_hardware(
     )
 }
 
-/// The octets of a hardware address parse as this address on its medium.
+/// The bytes of a hardware address parse as this address on its medium.
 pub fn raw_then_hardware(hardware: HardwareAddress) -> Option<Result<HardwareAddress>>
     ensures { IfSome result (λ parsed. parsed ≡ Ok hardware) }
 {

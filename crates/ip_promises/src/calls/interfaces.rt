@@ -5,7 +5,7 @@ ghost use Rattle.ip_wire.specs.Class.{IsIpv6Unicast};
 
 use ip_wire::{HardwareAddress, Ipv6Address, Ipv6Cidr};
 
-/// The solicited-node multicast address is ff02::1:ff00:0 with the last three octets of the address
+/// The solicited-node multicast address is ff02::1:ff00:0 with the last three bytes of the address
 /// (RFC 4291, section 2.7.1).
 pub fn solicited_node_of_octets(address: &Ipv6Address) -> ([u8; 16], [u8; 16])
     requires { IsIpv6Unicast address.now }
@@ -35,7 +35,7 @@ pub fn parts_of_interface(
     ensures prefix { IfSome result (λ r. IsTrue r.0) }
     ensures identifier { IfSome result (λ r. Some r.1 ≡ r.2) }
 {
-    // The contract of `to_bits` says that there are sixteen octets.
+    // The contract of `to_bits` says that there are sixteen bytes.
     let _bits = link_prefix.address().to_bits();
     match Ipv6Address::from_link_prefix(link_prefix, hardware) {
         Some(address) => {

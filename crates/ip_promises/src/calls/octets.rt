@@ -1,10 +1,10 @@
-//! The octets, bits and groups of an address.
+//! The bytes, bits and groups of an address.
 
 ghost use Rattle.std.specs.Prelude.{◌≡◌};
 
 use ip_wire::{Ipv4Address, Ipv6Address};
 
-/// The bits of an IPv4 address are its octets as a big-endian number.
+/// The bits of an IPv4 address are its bytes as a big-endian number.
 pub fn bits_of_ipv4(a: u8, b: u8, c: u8, d: u8) -> (u32, u32)
     ensures { result.0 ≡ result.1 }
 {
@@ -14,7 +14,7 @@ pub fn bits_of_ipv4(a: u8, b: u8, c: u8, d: u8) -> (u32, u32)
     )
 }
 
-/// The bits of an IPv6 address are its octets as a big-endian number.
+/// The bits of an IPv6 address are its bytes as a big-endian number.
 #[tactic(auto, using(crate::proofs::Octets::sixteen_octets))]
 pub fn bits_of_ipv6(octets: [u8; 16]) -> (u128, u128)
     ensures { result.0 ≡ result.1 }
@@ -39,14 +39,14 @@ pub fn bits_then_ipv6(bits: u128) -> u128
     Ipv6Address::from_bits(bits).to_bits()
 }
 
-/// The address of four octets has these octets.
+/// The address of four bytes has these bytes.
 pub fn octets_then_ipv4(octets: [u8; 4]) -> [u8; 4]
     ensures { result ≡ octets }
 {
     Ipv4Address::from_octets(octets).octets()
 }
 
-/// The address of sixteen octets has these octets.
+/// The address of sixteen bytes has these bytes.
 pub fn octets_then_ipv6(octets: [u8; 16]) -> [u8; 16]
     ensures { result ≡ octets }
 {
@@ -65,7 +65,7 @@ pub fn groups_then_ipv6(groups: [u16; 8]) -> [u16; 8]
 pub fn ipv6_then_groups(address: &Ipv6Address) -> Ipv6Address
     ensures { result ≡ address.now }
 {
-    // The contract of this call says that there are sixteen octets.
+    // The contract of this call says that there are sixteen bytes.
     let _bits = address.to_bits();
     Ipv6Address::from(address.segments())
 }

@@ -1,4 +1,4 @@
-//! A mutable view lends the bytes that a view returns. `copy` holds the bytes of `buffer`.
+//! `payload_mut` borrows the bytes that `payload` returns. `copy` has the bytes of `buffer`.
 
 ghost use Rattle.std.specs.Prelude.{◌≡◌, ◌≤◌, IsTrue, length};
 ghost use Rattle.ip_wire.specs.Ipv4 as ipv4;

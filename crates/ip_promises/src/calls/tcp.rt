@@ -61,9 +61,9 @@ pub fn options_of_parse<'a>(
     (parsed, packet.options_summary())
 }
 
-/// The search for SACK options goes on behind the end of the list, and the summary stops there. They agree
+/// The search for SACK options goes on past the end of the list, and the summary stops there. They agree
 /// exactly if the first option of the kind has the value of the last, or the list has none of the kind and the
-/// search behind its end finds none.
+/// search past its end finds none.
 pub fn sack_by_summary(
     packet: &TcpPacket<'_>,
 ) -> (

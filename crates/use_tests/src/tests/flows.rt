@@ -177,7 +177,7 @@ fn has_no_port_0(rt: HostRuntime) {
     assert!(rt; find(&nat(0), &mut mappings, 0, Event::Udp, 0, &server(1)) == None);
 }
 
-/// Packets of one TCP mapping: the time, the packet, the last octet of the remote endpoint, whether it goes out, and when
+/// Packets of one TCP mapping: the time, the packet, the last byte of the remote endpoint, whether it goes out, and when
 /// the mapping expires then.
 fn expires(packets: &[(u64, Event, u8, bool, u64)]) -> bool {
     let mut mappings = [Mapping::FREE; 3];

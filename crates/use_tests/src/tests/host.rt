@@ -16,7 +16,7 @@ fn host(open_ports: &[u16]) -> Host<'_> {
     }
 }
 
-/// Whether the host sends this reply. The bytes behind a reply are unchanged, and so is a buffer that is too
+/// Whether the host sends this reply. The bytes after a reply are unchanged, and so is a buffer that is too
 /// short.
 fn replies(host: &Host<'_>, request: &[u8], reply: &[u8]) -> bool {
     let len = reply.len();

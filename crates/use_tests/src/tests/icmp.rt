@@ -171,7 +171,7 @@ fn tells(frame: &[u8], problem: Problem, reply: &[u8]) -> bool {
     is_sent(sent, &out, reply)
 }
 
-/// Whether these octets were sent; none of them if the list is empty.
+/// Whether these bytes were sent; none of them if the list is empty.
 fn is_sent(len: Option<usize>, out: &[u8], expected: &[u8]) -> bool {
     match len {
         Some(len) => out.get(..len) == Some(expected),
@@ -221,7 +221,7 @@ fn says_that_it_is_a_router(rt: HostRuntime) {
         is_router: true,
         ..ours()
     };
-    // The flag R is bit 7 of octet 58.
+    // The flag R is bit 7 of byte 58.
     let mut advert = ADVERT;
     change(&mut advert, &[(56, 0x0a), (58, 0xe0)]);
     assert!(rt; advertises_at(&SOLICIT, &router, &advert));

@@ -63,7 +63,7 @@ pub(super) const DATA_IN: [u8; 71] = [
     0xa6, 0x25, 0x68, 0x65, 0x6c, 0x6c, 0x6f,
 ];
 
-/// The UDP packet with options in its IPv4 header, and padding behind it.
+/// The UDP packet with options in its IPv4 header, and padding after it.
 const PADDED: [u8; 56] = [
     0x02, 0x00, 0x00, 0x00, 0x00, 0x02, 0x02, 0x00, 0x00, 0x00, 0x00, 0x01, 0x08, 0x00, 0x46, 0x00,
     0x00, 0x24, 0x95, 0xf5, 0x40, 0x00, 0x40, 0x11, 0x1d, 0xcf, 0xc0, 0x00, 0x02, 0x01, 0xc0, 0x00,
@@ -164,7 +164,7 @@ fn undoes_an_unusual_checksum(rt: HostRuntime) {
     assert!(rt; becomes(&full_out, Side::Source, inside(), 46563, &back));
 }
 
-/// Whether the UDP packet with these octets is rejected for this reason, and stays as it is.
+/// Whether the UDP packet with these bytes is rejected for this reason, and stays as it is.
 fn rejects(
     changes: &[(usize, u8)],
     side: Side,
@@ -177,7 +177,7 @@ fn rejects(
     gives(&frame, side, addr, port, Err(reason), &frame)
 }
 
-/// Changed octets: the EtherType, the version, the total length, the checksum; then, with a valid IPv4
+/// Changed bytes: the EtherType, the version, the total length, the checksum; then, with a valid IPv4
 /// checksum, a fragment, another protocol, and a wrong UDP checksum.
 #[test]
 fn rejects_other_frames(rt: HostRuntime) {
@@ -259,7 +259,7 @@ fn rejects_short_frames(rt: HostRuntime) {
     assert!(rt; rejects_bytes(&UDP[..14], Rejection::BadHeader));
 }
 
-/// Whether the SYN with these octets is rejected, and stays as it is.
+/// Whether the SYN with these bytes is rejected, and stays as it is.
 fn rejects_syn(changes: &[(usize, u8)]) -> bool {
     let mut frame = SYN;
     change(&mut frame, changes);
@@ -276,7 +276,7 @@ fn rejects_other_segments(rt: HostRuntime) {
 }
 
 /// Two faults in one frame: the first reason of `Rejection` that applies. Where the IPv4 checksum is to be
-/// valid, it was computed anew (octets 24 and 25).
+/// valid, it was computed anew (bytes 24 and 25).
 #[test]
 fn rejects_by_the_first_reason(rt: HostRuntime) {
     for (changes, reason) in [

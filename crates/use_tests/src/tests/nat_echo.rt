@@ -48,7 +48,7 @@ fn translates_identifiers(rt: HostRuntime) {
     assert!(rt; becomes(&from_0, source, outside(), 40000, &ECHO_OUT));
 }
 
-/// A reply whose octets are all 0 has the checksum 0xffff, since a sum of 0 is no valid sum.
+/// A reply whose bytes are all 0 has the checksum 0xffff, since a sum of 0 is no valid sum.
 #[test]
 fn translates_a_reply_of_zeros(rt: HostRuntime) {
     let (mut before, mut after) = (ECHO_REPLY_IN, ECHO_REPLY);
@@ -80,7 +80,7 @@ fn translates_a_reply_of_zeros(rt: HostRuntime) {
     assert!(rt; becomes(&before, Side::Destination, inside(), 0, &after));
 }
 
-/// A timestamp message, an echo with a code, one with a wrong checksum, and one of 7 octets.
+/// A timestamp message, an echo with a code, one with a wrong checksum, and one of 7 bytes.
 #[test]
 fn rejects_other_messages(rt: HostRuntime) {
     for (changes, reason) in [

@@ -30,7 +30,7 @@ const IPV6: [u8; 70] = [
     0x02, 0x00, 0x00, 0x00, 0x00, 0x02,
 ];
 
-/// A fragment with options in its IPv4 header and the highest hop limit, and padding behind it.
+/// A fragment with options in its IPv4 header and the highest hop limit, and padding after it.
 const FRAGMENT: [u8; 50] = [
     0x02, 0x00, 0x00, 0x00, 0x00, 0x02, 0x02, 0x00, 0x00, 0x00, 0x00, 0x01, 0x08, 0x00, 0x46, 0x00,
     0x00, 0x20, 0x0b, 0xad, 0x20, 0x64, 0xff, 0x11, 0x08, 0xb7, 0xc0, 0x00, 0x02, 0x01, 0xc0, 0x00,
@@ -98,7 +98,7 @@ fn forwards_ipv6_until_it_expires(rt: HostRuntime) {
     assert!(rt; frame == expected);
 }
 
-/// A router does not look at fragmentation, options or what is behind the packet.
+/// A router does not look at fragmentation, options or the bytes after the packet.
 #[test]
 fn forwards_a_fragment_with_options(rt: HostRuntime) {
     let mut frame = FRAGMENT;
@@ -106,7 +106,7 @@ fn forwards_a_fragment_with_options(rt: HostRuntime) {
     assert!(rt; frame == FRAGMENT_FORWARDED);
 }
 
-/// Whether the frame over IPv4 with these octets is rejected for this reason, and stays as it is.
+/// Whether the frame over IPv4 with these bytes is rejected for this reason, and stays as it is.
 fn rejects(changes: &[(usize, u8)], reason: Rejection) -> bool {
     let mut frame = UDP;
     change(&mut frame, changes);
@@ -122,7 +122,7 @@ fn rejects_ipv6(changes: &[(usize, u8)], reason: Rejection) -> bool {
     hop(&mut frame) == Err(reason) && frame == same
 }
 
-/// One octet changed: the EtherType, the version, the header length, the total length, the checksum, the
+/// One byte changed: the EtherType, the version, the header length, the total length, the checksum, the
 /// hop limit without a new checksum.
 #[test]
 fn rejects_what_is_no_packet(rt: HostRuntime) {

@@ -1,9 +1,9 @@
-//! The two ways to find SACK options: the search that goes on behind the end mark, and the summary.
+//! The two ways to find SACK options: the search that goes on past the end mark, and the summary.
 
 use ip_promises::calls::tcp::sack_by_summary;
 use ip_wire::TcpPacket;
 
-/// Options of 20 octets that begin with these, with zeros behind them.
+/// Options of 20 bytes that begin with these, with zeros after them.
 fn padded(front: &[u8]) -> [u8; 40] {
     let mut segment = [0; 40];
     segment[12] = 0xa0;

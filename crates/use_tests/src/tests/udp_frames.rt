@@ -18,7 +18,7 @@ pub const IPV6_FRAME: [u8; 66] = [
     0xff, 0xff,
 ];
 
-/// The stations of both frames.
+/// The Ethernet addresses of both frames.
 pub const SRC: EthernetAddress = EthernetAddress([0x11, 0x12, 0x13, 0x14, 0x15, 0x16]);
 
 pub const DST: EthernetAddress = EthernetAddress([0x01, 0x02, 0x03, 0x04, 0x05, 0x06]);

@@ -48,7 +48,7 @@ const IPV6_PORTS: UdpRepr = UdpRepr {
     dst_port: 2,
 };
 
-/// Whether the first frame is read with another octet.
+/// Whether the first frame is read with another byte.
 fn reads_with(at: usize, octet: u8) -> bool {
     let mut frame = FRAME;
     change(&mut frame, &[(at, octet)]);
