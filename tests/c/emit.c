@@ -23,7 +23,7 @@ static int digit(char c)
     return c <= '9' ? c - '0' : c - 'a' + 10;
 }
 
-/* Whether `out` holds these bytes, and behind them what it held before. */
+/* Whether `out` begins with these bytes, and is unchanged after them. */
 static int holds_bytes(const uint8_t *bytes, size_t n, ptrdiff_t len)
 {
     if (len != (ptrdiff_t)n || memcmp(out, bytes, n) != 0)
@@ -195,7 +195,7 @@ static void transport_layer(void)
     check(__LINE__, lk_tcp_header_len(&none) == 20 && lk_tcp_header_len(&all) == 48 && lk_tcp_header_len(&permitted) == 40);
 }
 
-/* The header in `out` is 60 octets long, and has these options. */
+/* The header in `out` is 60 bytes long, and has these options. */
 static int reads_back(const struct lk_tcp_options *options)
 {
     struct lk_tcp_options found;
@@ -203,7 +203,7 @@ static int reads_back(const struct lk_tcp_options *options)
     return lk_tcp_header_len(options) == 60 && lk_read_tcp_options(out, 60, &found) == 1 && memcmp(&found, options, sizeof found) == 0;
 }
 
-/* The longest headers, 60 octets. Options for which a header would have 64 are in tests/c/rejections.c. */
+/* The longest headers, 60 bytes. Options for which a header would have 64 are in tests/c/rejections.c. */
 static void longest_headers(void)
 {
     struct lk_endpoint src = endpoint("192.0.2.1:49152"), dst = endpoint("198.51.100.7:443");
@@ -380,7 +380,7 @@ static void host_offers(void)
     }
 }
 
-/* A host ignores a frame that is cut off, or in which a bit of an octet behind the Ethernet header is wrong. */
+/* A host ignores a frame that is cut off, or in which a bit after the Ethernet header is wrong. */
 static void damaged_frames(void)
 {
     static const uint16_t ports[1] = {80};
@@ -395,7 +395,7 @@ static void damaged_frames(void)
     }
 }
 
-/* The text is read, and printed as this one; `member` says whether 10.255.0.1 is in the block. */
+/* Whether `text` parses as a block that prints as `printed`, and contains 10.255.0.1 if `member`. */
 static int is_block(const char *text, const char *printed, int member)
 {
     struct lk_block block;

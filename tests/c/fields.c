@@ -21,7 +21,7 @@ static void octets_differ(const char *name, const char *field, const uint8_t *fo
     differs(name, field, memcmp(found, expected, len) != 0, 0);
 }
 
-/* One octet after the other, as 20 21 22 .. */
+/* One byte after the other, as 20 21 22 .. */
 static void count_from(uint8_t *octets, size_t len, uint8_t first)
 {
     for (size_t i = 0; i < len; i++)
@@ -106,7 +106,7 @@ static struct lk_frame ipv6(uint8_t protocol, size_t payload_len)
     return frame;
 }
 
-/* A fragment, or with offset 0 and nothing behind it a whole packet. */
+/* A fragment, or with offset 0 and nothing after it a whole packet. */
 static struct lk_frame fragment(struct lk_frame frame, uint16_t offset, uint8_t more)
 {
     frame.ip.dont_fragment = 0;
@@ -155,7 +155,7 @@ static struct lk_frame tcp_header(struct lk_frame frame, uint8_t header_len, uin
     return frame;
 }
 
-/* The last 3 octets are the payload. */
+/* The last 3 bytes are the payload. */
 static struct lk_frame udp(struct lk_frame frame, uint8_t checksum)
 {
     frame = udp_header(frame, checksum);
@@ -367,7 +367,7 @@ static void rejects_tcp_headers(void)
     READS(tcp4_bad_options, rejected(tcp_header(frame, 24, 0x10, LK_RIGHT), LK_BAD_OPTIONS));
 }
 
-/* Each flag alone. The checksum is that of the segment with another flag. */
+/* Each flag by itself. The checksum is that of the segment with another flag. */
 static void reads_each_flag(void)
 {
     for (unsigned flag = 1; flag < 0x100; flag *= 2) {

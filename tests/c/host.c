@@ -1,5 +1,5 @@
 /* Calls lk_answer for each line `host` of the standard input, and writes what crates/ip_calls writes for it. A line is a name, a
- * host, the octets of its buffer, and a frame. */
+ * host, the bytes of its buffer, and a frame. */
 #include <ctype.h>
 #include <stdint.h>
 #include <stdio.h>
@@ -91,7 +91,7 @@ static struct lk_host host(void)
     return found;
 }
 
-/* Writes the answer into a buffer of so many octets. With room for any answer the call must return the same length, or this one
+/* Writes the answer into a buffer of so many bytes. With room for any answer the call must return the same length, or this one
  * must fail because the answer is longer. The rest of the buffer stays. */
 static ptrdiff_t answer(const char *name, const struct lk_host *asked, size_t len, size_t room)
 {

@@ -33,13 +33,13 @@ static int is_old_from(size_t first)
     return 1;
 }
 
-/* `out` has these octets, and behind them what it had before. */
+/* `out` begins with these bytes, and is unchanged after them. */
 static int holds(const uint8_t *octets, size_t len, ptrdiff_t written)
 {
     return written == (ptrdiff_t)len && memcmp(out, octets, len) == 0 && is_old_from(len);
 }
 
-/* A call writes these octets, into just enough room too. With one octet less it fails. */
+/* A call writes these bytes, into just enough room too. With one byte less it fails. */
 #define WRITES(octets, cap, call) \
     do { \
         size_t cap = ROOM; \
@@ -63,7 +63,7 @@ static struct lk_addr addr(const char *text)
     return addr;
 }
 
-/* A copy of a frame with one octet changed. */
+/* A copy of a frame with one byte changed. */
 static const uint8_t *changed(const uint8_t *frame, size_t len, size_t at, uint8_t octet)
 {
     static uint8_t copy[ROOM];
@@ -112,7 +112,7 @@ static void read_messages(void)
     CHECK(f.icmp.type == 11 && f.payload_offset == 42 && memcmp(expired + 42, last_hop + 14, f.payload_len) == 0);
 }
 
-/* Neither the protocol of the other version, nor a fragment, nor fewer than 8 octets. */
+/* Neither the protocol of the other version, nor a fragment, nor fewer than 8 bytes. */
 static void read_no_messages(void)
 {
     struct lk_frame f;
@@ -355,7 +355,7 @@ static const struct lk_nat nat = {{1, 2}, 300000, 7440000, 240000, 60000, {203, 
 enum { MAPPINGS = LK_MAPPINGS(2) };
 static struct lk_mapping mappings[MAPPINGS];
 
-/* Translates a frame, which becomes these octets. */
+/* Translates a frame, which becomes these bytes. */
 #define GOES_OUT(now, frame, octets) \
     (memcpy(out, frame, sizeof frame), \
      CHECK(lk_translate_out(&nat, mappings, MAPPINGS, now, out, sizeof frame) == 0 && memcmp(out, octets, sizeof octets) == 0))

@@ -24,13 +24,13 @@ static void differs(const char *name, const char *field, unsigned long long foun
     failures++;
 }
 
-/* An octet of a frame that gets another value. Octet 0 is no change: it is 2 in each frame. */
+/* A byte of a frame that gets another value. Byte 0 is no change: it is 2 in each frame. */
 struct change {
     size_t at;
     uint8_t octet;
 };
 
-/* The first `len` octets of a frame, with these changes. */
+/* The first `len` bytes of a frame, with these changes. */
 static struct lk_frame changed(const uint8_t *frame, size_t len, const struct change changes[CHANGES])
 {
     uint8_t bytes[ROOM];
@@ -45,7 +45,7 @@ static struct lk_frame changed(const uint8_t *frame, size_t len, const struct ch
 
 /* ---- two faults at once: the first reason of the list in c/ip_wire.h that applies */
 
-/* IPv4 and IPv6 begin at octet 14, the transport header behind them at octet 34 or 54. */
+/* IPv4 and IPv6 begin at byte 14, the transport header after them at byte 34 or 54. */
 static const struct {
     const char *faults;
     const uint8_t *frame;
@@ -140,7 +140,7 @@ static void verdicts(void)
     }
 }
 
-/* ---- the fragment header of IPv6, 8 octets (RFC 8200, section 4.5) */
+/* ---- the fragment header of IPv6, 8 bytes (RFC 8200, section 4.5) */
 
 static void fragment_headers(void)
 {
@@ -158,7 +158,7 @@ static void fragment_headers(void)
 
 /* ---- TCP options at their limits */
 
-/* An option list of 4 octets. A scale above 14 is read as 14 (RFC 7323, section 2.3), and written as it is. */
+/* An option list of 4 bytes. A scale above 14 is read as 14 (RFC 7323, section 2.3), and written as it is. */
 static const struct {
     const char *name;
     uint8_t octets[4];
@@ -197,7 +197,7 @@ static void options(void)
 
 /* ---- each field of a reply */
 
-/* Each octet of the frame has another value, so that no field can be taken for another one. */
+/* Each byte of the frame has another value, so that no field can be taken for another one. */
 static void reply_fields(void)
 {
     struct lk_frame frame, reply;

@@ -119,7 +119,7 @@ static void steps_differ(const char *name, const uint8_t *ptr, size_t len, int e
 
 static void steps_through_options(void)
 {
-    /* 20 octets, of which one is the length of the header, and the options */
+    /* 20 bytes, of which one is the length of the header, and the options */
     static const uint8_t padded[32] = {0, 0, 0, 0, 0, 0, 0, 0, 0, 0, 0, 0, 0x80, 0, 0, 0, 0, 0, 0, 0, 1, 1, 8, 10, 0, 0, 0, 1, 0, 0, 0, 2};
     static const uint8_t unknown[28] = {0, 0, 0, 0, 0, 0, 0, 0, 0, 0, 0, 0, 0x70, 0, 0, 0, 0, 0, 0, 0, 254, 4, 0xab, 0xcd, 34, 2, 0, 9};
     static const uint8_t past_end[24] = {0, 0, 0, 0, 0, 0, 0, 0, 0, 0, 0, 0, 0x60, 0, 0, 0, 0, 0, 0, 0, 1, 1, 1, 8};

@@ -36,7 +36,7 @@ static int is_old_from(size_t first)
 /* A call fails with this failure, and leaves all of `out`. */
 #define FAILS(failure, call) (clear(), check(__LINE__, (call) == (failure) && is_old_from(0)))
 
-/* A call needs `len` octets and leaves what is behind them; with one less, with none, and with too many it fails. */
+/* A call needs `len` bytes and leaves those after them unchanged; with one less, with none, and with too many it fails. */
 #define NEEDS(len, cap, call) \
     do { \
         size_t cap = (len); \
@@ -210,7 +210,7 @@ static void frames(void)
     FAILS(LK_TWO_CONTROLS, lk_wrap_tcp_frame(&other, &none, 4, out, ROOM));
     FAILS(LK_OPTIONS_TOO_LONG, lk_emit_tcp_frame(&ipv4, &many, bytes, 4, out, ROOM));
     FAILS(LK_OPTIONS_TOO_LONG, lk_wrap_tcp_frame(&ipv4, &many, 4, out, ROOM));
-    many.sack_range_count = 4, many.has_max_seg_size = many.has_window_scale = 1; /* 41 octets */
+    many.sack_range_count = 4, many.has_max_seg_size = many.has_window_scale = 1; /* 41 bytes */
     FAILS(LK_OPTIONS_TOO_LONG, lk_emit_tcp_frame(&ipv4, &many, bytes, 4, out, ROOM));
     FAILS(LK_OPTIONS_TOO_LONG, lk_wrap_tcp_frame(&ipv4, &many, 4, out, ROOM));
     FAILS(LK_PAYLOAD_TOO_LONG, lk_wrap_udp_frame(&ipv6, (size_t)-1, out, ROOM));
@@ -228,7 +228,7 @@ static int is_all_old(void)
     return 1;
 }
 
-/* A call writes `written` octets with a payload of `most` octets. It rejects one octet more, though there is
+/* A call writes `written` bytes with a payload of `most` bytes. It rejects one byte more, though there is
  * room for it, and leaves all of `much_room`. */
 #define AT_MOST(most, written, len, call) \
     do { \
@@ -239,14 +239,14 @@ static int is_all_old(void)
         check(__LINE__, (call) == LK_PAYLOAD_TOO_LONG && is_all_old()); \
     } while (0)
 
-/* A packet or segment has at most 65,535 octets, and of IPv4 with its header. */
+/* A packet or segment has at most 65,535 bytes, and of IPv4 with its header. */
 static void longest(void)
 {
     static const uint8_t zeros[65536] = {0};
     const size_t cap = sizeof much_room;
     struct lk_tcp_options none = no_options(), full = no_options();
     struct lk_frame ipv4 = headers(&low4, &low4), ipv6 = headers(&low6, &low6);
-    full.sack_range_count = 4, full.has_max_seg_size = 1; /* a header of 60 octets */
+    full.sack_range_count = 4, full.has_max_seg_size = 1; /* a header of 60 bytes */
     AT_MOST(65527, 65535, len, lk_emit_udp(&low4, &low4, zeros, len, 1, much_room, cap));
     AT_MOST(65527, 65535, len, lk_emit_udp(&low6, &low6, zeros, len, 1, much_room, cap));
     AT_MOST(65515, 65535, len, lk_emit_tcp(&tcp, &none, &low4, &low4, zeros, len, 1, much_room, cap));
@@ -369,7 +369,7 @@ static void print(void)
     NEEDS(9, cap, lk_print_endpoint(&low4, text_out, cap));
     NEEDS(11, cap, lk_print_endpoint(&low6, text_out, cap));
     NEEDS(47, cap, lk_print_endpoint(&high6, text_out, cap));
-    /* with room for it, a null is behind the text */
+    /* with room for it, a null follows the text */
     clear();
     check(__LINE__, lk_print_addr(&low4.addr, text_out, 8) == 7 && strcmp(text_out, "1.2.3.4") == 0 && is_old_from(8));
     clear();

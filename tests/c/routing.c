@@ -18,7 +18,7 @@ static const uint8_t fragment_forwarded[50] = {
 
 /* ---- a router */
 
-/* Frames that are not forwarded, with the first reason of the list. IPv4 and IPv6 begin at octet 14. */
+/* Frames that are not forwarded, with the first reason of the list. IPv4 and IPv6 begin at byte 14. */
 static const struct {
     const uint8_t *octets;
     size_t len;
@@ -73,7 +73,7 @@ static void forward(void)
 
 /* ---- the MSS clamp */
 
-/* A SYN and ACK over IPv6 with an MSS of 1440, which begins at an odd octet of the options. */
+/* A SYN and ACK over IPv6 with an MSS of 1440, which begins at an odd byte of the options. */
 static const uint8_t syn_ack[82] = {
     0x02, 0x00, 0x00, 0x00, 0x00, 0x02, 0x02, 0x00, 0x00, 0x00, 0x00, 0x01, 0x86, 0xdd, 0x60, 0x00,
     0x00, 0x00, 0x00, 0x1c, 0x06, 0x40, 0x20, 0x01, 0x0d, 0xb8, 0x00, 0x00, 0x00, 0x00, 0x00, 0x00,

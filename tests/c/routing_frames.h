@@ -60,7 +60,7 @@ static const uint8_t ipv6[70] = {
     0x02, 0x00, 0x00, 0x00, 0x00, 0x02,
 };
 
-/* A fragment with options in its header and the highest hop limit, and padding behind it. */
+/* A fragment with options in its header and the highest hop limit, and padding after it. */
 static const uint8_t fragment[50] = {
     0x02, 0x00, 0x00, 0x00, 0x00, 0x02, 0x02, 0x00, 0x00, 0x00, 0x00, 0x01, 0x08, 0x00, 0x46, 0x00,
     0x00, 0x20, 0x0b, 0xad, 0x20, 0x64, 0xff, 0x11, 0x08, 0xb7, 0xc0, 0x00, 0x02, 0x01, 0xc0, 0x00,
@@ -70,7 +70,7 @@ static const uint8_t fragment[50] = {
 
 /* ---- changed frames */
 
-/* An octet that gets another value. */
+/* A byte that gets another value. */
 struct change {
     size_t at;
     uint8_t octet;
@@ -78,10 +78,10 @@ struct change {
 
 enum { CHANGES = 5 };
 
-/* The frame of the last case, with old octets behind it. `len` is the length that the call is given. */
+/* The frame of the last case, with old bytes after it. `len` is the length that the call is given. */
 static uint8_t frame[ROOM];
 
-/* Copies a frame and changes it. Octet 0 is no change: it ends the list. */
+/* Copies a frame and changes it. Byte 0 is no change: it ends the list. */
 static void begin(const uint8_t *octets, size_t len, const struct change changes[CHANGES])
 {
     memset(frame, OLD, sizeof frame);

@@ -28,7 +28,7 @@ HEADER_ONLY = ("lk_out",)
 # The crates of the structs and calls. The first ones are used without C too, and their structs have other names there.
 OF_LIBRARY = ("ip_routes", "ip_flows", "c_structs", "c_icmp", "c_routing", "ip_wire_c")
 STRUCTS = {"Node": "struct lk_route_node", "Mapping": "struct lk_mapping", "Nat": "struct lk_nat"}
-# The fields of this struct are fields of the one around it in C, and then come the octets that align it.
+# The fields of this struct are fields of the one around it in C, and then come the bytes that align it.
 INNER = {"FrameFields": 5}
 # The flags of a TCP header, from bit 0 on (RFC 9293, section 3.1).
 TCP_FLAGS = ("FIN", "SYN", "RST", "PSH", "ACK", "URG", "ECE", "CWR")
@@ -125,7 +125,7 @@ class Library:
         return [field for member in item.members for field in self.fields(member.text)]
 
     def inner(self, name):
-        """The fields of a struct within another one, and the octets behind them."""
+        """The fields of a struct within another one, and the bytes after them."""
         item = next(item for item in self.items if item.kind == "struct" and item.name == name)
         return [*self.struct_fields(item), ("uint8_t", "unused", str(INNER[name]))]
 

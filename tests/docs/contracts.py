@@ -1,6 +1,6 @@
 """Reads one source file: the items of a .rt file with their contracts, the definitions of a .antt file, and their imports.
 
-The text of an item has one space in place of any layout, and no comments. An item that the reader does not know raises
+The text of an item has one space instead of any layout, and no comments. An item that the reader does not know raises
 ReadError. `sources.py` reads whole crates.
 """
 import functools
@@ -102,7 +102,7 @@ class Definition:
 
 
 def without_first_generics(text):
-    """The head of an `impl` behind `impl<..>`."""
+    """The head of an `impl` after `impl<..>`."""
     text = re.sub("^(unsafe )?impl", "", text)
     if text.startswith("<"):
         depth = end = 0

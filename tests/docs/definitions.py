@@ -4,7 +4,7 @@
     tests/docs/definitions.py [TOP]
 
 Each name in the first column must be defined in a module of the heading. Each test, law and file of worked examples in the
-last column must exist. Behind "too wide:", at the end of a row, there must be at least one of them or a proof of a call, and
+last column must exist. After "too wide:", at the end of a row, there must be at least one of them or a proof of a call, and
 nothing else. What does not exist is printed, and the status is 1 then. Each lemma of docs/LEMMAS.md must be public in its
 module, and a crate above `ip_wire` must reach that module. TOP is the top of the repository.
 """

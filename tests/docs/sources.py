@@ -4,7 +4,7 @@
         for module in crate.modules.values(): ...     # src/*.rt, without tests
         for module in crate.specs.values(): ...       # specs/*.antt
 
-`Sources(top, edits)` reads the text of `edits` in place of a file.
+`Sources(top, edits)` reads the text of `edits` instead of a file.
 """
 import glob
 import os
@@ -44,7 +44,7 @@ def is_named(name, words, text):
 
 
 class Sources:
-    """The crates of crates.txt. `edits` has texts that stand in place of files, by path from the top."""
+    """The crates of crates.txt. `edits` has texts that replace files, by path from the top."""
 
     def __init__(self, top, edits=None):
         self.top, self.edits = top, edits or {}
@@ -131,7 +131,7 @@ class Sources:
         return self.behind(found, rest, depth) if found else names
 
     def behind(self, found, names, depth):
-        """The meaning of names behind a full path."""
+        """The meaning of names after a full path."""
         if not names:
             return found
         crate, path = found[0], found[1:]

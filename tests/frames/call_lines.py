@@ -17,7 +17,7 @@ def hexed(octets):
 
 
 def word(value):
-    """An operand: nothing, a pair, yes or no, octets or a number."""
+    """An operand: nothing, a pair, yes or no, bytes or a number."""
     if value is None:
         return "-"
     if isinstance(value, tuple):
@@ -39,7 +39,7 @@ def maybe(rng, make):
 
 
 def octets(rng, most):
-    """Octets, also many of one value and of values at the ends."""
+    """Bytes, also many of one value and of values at the ends."""
     size = rng.choice([0, 1, 2, 3, 4, 8, rng.randrange(most), rng.randrange(most)])
     return rng.choice([rng.randbytes(size), bytes([rng.choice([0, 255, rng.randrange(256)])]) * size,
                        bytes(rng.choice([0, 1, 0xFE, 0xFF]) for _ in range(size))])
@@ -180,7 +180,7 @@ def random_walk(rng):
 
 def edges_walk():
     yield line("walk", b"")
-    # All option lists of four octets over these, so each kind at each length that is near its own.
+    # All option lists of four bytes over these, so each kind at each length that is near its own.
     for octets in itertools.product([0, 1, 2, 3, 4, 5], [0, 1, 2, 3, 4], [0, 1, 4], [0, 2]):
         yield line("walk", bytes(octets))
     whole = ["020405b4", "03030701", "04020101", "0101080a0000000100000002", "0101050a0000000a00000014",
@@ -284,7 +284,7 @@ SUBNETS6 = ["fe80::ffff:ffff:ffff:ffff/65", "fe80::1234:5678/96", *(f"fe80:0:0:1
             "fe80::1/55", "254.128.0.0/32"]
 MASKS = ["255.255.255.0", "255.255.0.0", "255.240.0.0", "128.0.0.0", "255.255.255.255", "0.0.0.0", "1.0.2.0", "255.255.255.1", "0.255.255.255"]
 
-# Lines by hand. Where they are recorded they are behind the others.
+# Lines by hand. In the record they follow the others.
 HAND_WRITTEN = {
     "block": [
         *(f"block 192.168.1.10/{n} {host}/32" for n, host in itertools.product([0, 24, 32], HOSTS4)),

@@ -75,7 +75,7 @@ says_which_of_two_faults_came() {
     [ $both = 1 ] && [ "$n" -lt 10000 ]
 }
 
-# each_line_says_that_memory_ran_out FRAMES TEXTS: the same of each line alone, which has its block alone
+# each_line_says_that_memory_ran_out FRAMES TEXTS: the same of each line by itself, which has only its own block
 each_line_says_that_memory_ran_out() {
     local line blocks
     IFS= read -r -d '' blocks < "$2"

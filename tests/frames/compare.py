@@ -21,7 +21,7 @@ AT_ONCE = 10000
 
 
 def changed(rng, frame):
-    """The frame with a few bytes changed, cut off or put behind."""
+    """The frame with a few bytes changed, cut off or appended."""
     frame = bytearray(frame)
     for _ in range(rng.choice([0, 1, 1, 2, 5])):
         if frame:
@@ -106,7 +106,7 @@ def corpus(seed, lines):
 
 
 def answers(target, command, text, end):
-    """What a program prints for a text, split behind each end. The last answer may have no end."""
+    """What a program prints for a text, split after each end. The last answer may have no end."""
     try:
         output = subprocess.run(command, input=text, stdout=subprocess.PIPE, check=True).stdout
     except (OSError, subprocess.CalledProcessError) as error:

@@ -95,12 +95,12 @@ class Header:
         self.rng = random.Random(name)
 
     def olds(self):
-        """Octets to write over: all zeros, all ones, and two random ones, with octets behind the header."""
+        """Bytes to write over: all zeros, all ones, and two random ones, with bytes after the header."""
         return [bytes(self.size + 1), b"\xff" * (self.size + 2), self.rng.randbytes(self.size), self.rng.randbytes(self.size + 3)]
 
 
 def written(octets, place, value):
-    """The octets with the number in these bits, cut to their width."""
+    """The bytes with the number in these bits, cut to their width."""
     start, width = place
     low = 8 * len(octets) - start - width
     mask = (1 << width) - 1
@@ -114,13 +114,13 @@ def held(octets, place):
 
 
 def set_line(view, call, octets, answer, *operands):
-    """A line with its answer: octets, or None if the call cannot be made."""
+    """A line with its answer: bytes, or None if the call cannot be made."""
     words = ["set", view, call, *operands, octets.hex() or "-"]
     return " ".join(map(str, words)), MALFORMED if answer is None else answer.hex()
 
 
 def setter_rows(view):
-    """Each setter, over octets of each kind."""
+    """Each setter, over bytes of each kind."""
     header = Header(view)
     for field in header.fields:
         place = header.places[field.drawn]
@@ -136,7 +136,7 @@ def setter_rows(view):
 
 
 def misfits(view):
-    """Calls that cannot be made: too few octets, an unknown call, too many operands or too few, a number that does not fit."""
+    """Calls that cannot be made: too few bytes, an unknown call, too many operands or too few, a number that does not fit."""
     header = Header(view)
     field = header.fields[-1]
     call, operand, old = f"set_{field.call}", field.form.operand(1), bytes(header.size)
@@ -158,7 +158,7 @@ ARP_LENGTHS = [(6, 4), (0, 0), (1, 2), (6, 16), (8, 4), (20, 1), (255, 3), (2, 2
 
 
 def arp_places(hardware_len, protocol_len):
-    """The first and last octet of each address, by the ends of its calls' names."""
+    """The first and last byte of each address, by the ends of its calls' names."""
     widths = [hardware_len, protocol_len] * 2
     ends = list(itertools.accumulate(widths, initial=8))
     names = ["source_hardware_addr", "source_protocol_addr", "target_hardware_addr", "target_protocol_addr"]
@@ -166,7 +166,7 @@ def arp_places(hardware_len, protocol_len):
 
 
 def arp_olds(rng, hardware_len, protocol_len):
-    """Packets of zeros, of ones and of random octets, with these lengths."""
+    """Packets of zeros, of ones and of random bytes, with these lengths."""
     size = 8 + 2 * (hardware_len + protocol_len)
     for octets in [bytes(size + 2), b"\xff" * (size + 2), rng.randbytes(size)]:
         yield octets[:4] + bytes([hardware_len, protocol_len]) + octets[6:]
@@ -213,7 +213,7 @@ class Checksum:
         self.place = self.header.places["Header Checksum" if view == "ipv4" else "Checksum"]
 
     def olds(self):
-        """Octets with a length that fits and with each kind of checksum."""
+        """Bytes with a length that fits and with each kind of checksum."""
         for octets, checksum in itertools.product(self.header.olds(), [None, 0, 1, 0xFFFF]):
             if self.view == "ipv4":
                 octets = written(octets, self.header.places["IHL"], 5)
@@ -222,7 +222,7 @@ class Checksum:
             yield octets if checksum is None else written(octets, self.place, checksum)
 
     def changed(self, octets, old, new):
-        """The octets with an updated checksum. Of UDP 0 means that there is none, and is never computed (RFC 768)."""
+        """The bytes with an updated checksum. Of UDP 0 means that there is none, and is never computed (RFC 768)."""
         checksum = held(octets, self.place)
         if self.view == "udp" and checksum == 0:
             return octets
@@ -230,7 +230,7 @@ class Checksum:
         return written(octets, self.place, found or 0xFFFF if self.view == "udp" else found)
 
     def updates(self):
-        """Each call that updates the checksum, over octets of each kind."""
+        """Each call that updates the checksum, over bytes of each kind."""
         words = {"ipv4": {"hop_limit": "Time to Live", "dscp": "DSCP", "ecn": "ECN", "src_addr": "Source Address",
                           "dst_addr": "Destination Address"},
                  "tcp": {"src_port": "Source Port", "dst_port": "Destination Port", "window_len": "Window"}}
@@ -254,7 +254,7 @@ class Checksum:
 
 
 def filled_ipv4():
-    """Headers of each length, with octets behind them. A header that is longer than the octets cannot be summed."""
+    """Headers of each length, with bytes after them. A header that is longer than the bytes cannot be summed."""
     header = Checksum("ipv4")
     for words, more in itertools.product(range(16), [0, 1, 40]):
         for old in [bytes(20 + more), b"\xff" * (20 + more), header.header.rng.randbytes(20 + more)]:
@@ -267,7 +267,7 @@ def filled_ipv4():
 
 
 def filled(view, protocol):
-    """Packets of UDP and TCP with payloads, also of an odd length. Octets behind a UDP packet do not count."""
+    """Packets of UDP and TCP with payloads, also of an odd length. Bytes after a UDP packet do not count."""
     header = Checksum(view)
     least = header.header.size
     for (src, dst), size in itertools.product(ENDS, [least, least + 1, least + 2, least + 7]):
@@ -327,7 +327,7 @@ def get_line(view, octets, values):
 
 
 def getter_rows(view):
-    """All getters, over zeros, ones, each field alone set or cleared, and random octets."""
+    """All getters, over zeros, ones, each field by itself set or cleared, and random bytes."""
     header = Header(view)
     rest = bytes(range(1, 256)) * 5
     zeros, ones = bytes(header.size), b"\xff" * header.size

@@ -19,7 +19,7 @@ from record import write_calls
 
 @dataclasses.dataclass
 class Host:
-    """The host that gets the frame, and the octets of the buffer for its reply."""
+    """The host that gets the frame, and the bytes of the buffer for its reply."""
     echo: int = ECHO
     udp: tuple = ()
     ports: tuple = (22, OPEN)
@@ -82,7 +82,7 @@ WRONG = [0x0001, 0x8000, 0x0101, 0xFFFE]
 
 
 def turned(frame, at, mask):
-    """The frame with these bits of the 16-bit word at this octet turned."""
+    """The frame with these bits of the 16-bit word at this byte turned."""
     word = int.from_bytes(frame[at:at + 2], "big") ^ mask
     return frame[:at] + word.to_bytes(2, "big") + frame[at + 2:]
 
@@ -145,7 +145,7 @@ def ipv6_rows(v, name, ask, reply):
 
 
 def extended(v, ask, kind):
-    """The frame with an extension header of 8 octets behind its IPv6 header."""
+    """The frame with an extension header of 8 bytes after its IPv6 header."""
     frame = ask(v)
     extension = bytes([frame[20], 0, 1, 4, 0, 0, 0, 0]) if kind != 44 else bytes([frame[20], 0, 0, 0, 0, 0, 0, 1])
     length = int.from_bytes(frame[18:20], "big") + 8
@@ -173,7 +173,7 @@ def unserved_rows(v):
     for table in [link_rows, address_rows, header_rows, ipv4_rows if v.name == "4" else ipv6_rows, cut_rows]:
         for one in table(v, name, ask, answer):
             yield one._replace(reply=unreachable(v, one.frame) if one.reply else None)
-    # A packet is quoted up to 548 octets over IPv4, and up to 1,232 over IPv6.
+    # A packet is quoted up to 548 bytes over IPv4, and up to 1,232 over IPv6.
     limit = {"4": 548 - 28, "6": 1232 - 48}[v.name]
     for size in [0, 1, limit - 1, limit, limit + 1, 1400]:
         yield unserved(v, f"{name}-payload-{size}", ask(v, payload=bytes(3 * i % 251 for i in range(size))))
@@ -184,7 +184,7 @@ def unserved_rows(v):
 
 
 def icmp_rows(v):
-    """Echo requests. A host replies to those alone: errors and other messages have no reply here."""
+    """Echo requests. A host replies only to those: errors and other messages have no reply here."""
     name = f"icmp{v.name}"
     for size in [0, 1, 2, 3, 1472, 65535 - 8 - 20 * (v.name == "4")]:
         payload = bytes(3 * i % 251 for i in range(size)) if size < 2000 else b"\xa5" * size
@@ -290,7 +290,7 @@ def udp_field_rows(v):
     yield row(f"{name}-checksum-ffff", ping(v, src_port=port), pong(v, dst_port=port))
     for length in [0, 7, 13, 0xFFFF]:
         yield row(f"{name}-length-{length}", ping(v, length=length), None)
-    # The UDP length ends the payload; what is behind it is no part of the packet (RFC 768).
+    # The UDP length ends the payload; what follows is no part of the packet (RFC 768).
     for size in range(4):
         yield row(f"{name}-length-{8 + size}", ping(v, b"ping"[:size], behind=b"ping"[size:]), pong(v, b"ping"[:size]))
     for protocol in [0, 1, 6, 58, 136, 255]:
@@ -343,7 +343,7 @@ def asker_rows():
 
 
 def tcp_reply(v, is_open, flags, size, **numbers):
-    """The reply of an open or a closed port to a segment with this many octets (RFC 9293, sections 3.10.7.1 and 3.10.7.2). A segment with
+    """The reply of an open or a closed port to a segment with this many bytes (RFC 9293, sections 3.10.7.1 and 3.10.7.2). A segment with
     two of SYN, FIN and RST does not parse, and gets none."""
     controls = [flag for flag in (SYN, FIN, RST) if flags & flag]
     if len(controls) > 1 or RST in controls:

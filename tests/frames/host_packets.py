@@ -80,7 +80,7 @@ def reset(v, flags=SYN, length=None, seq=SEQ, ack=ACKED, src_port=CLOSED, dst_po
 
 
 def summed(message, checksum):
-    """The ICMP message, with this checksum in place of the right one if it is given."""
+    """The ICMP message, with this checksum instead of the right one if it is given."""
     return message if checksum is None else message[:2] + checksum.to_bytes(2, "big") + message[4:]
 
 
@@ -104,7 +104,7 @@ def unreachable(v, frame):
     return icmp.error(frame, OUR_LINK, v.ours, icmp.CLOSED)
 
 
-# The solicited-node group of 2001:db8::2 (RFC 4291, section 2.7.1), and the station of a group (RFC 2464, section 7).
+# The solicited-node group of 2001:db8::2 (RFC 4291, section 2.7.1), and the Ethernet address of a group (RFC 2464, section 7).
 NODE_GROUP = addr("ff02::1:ff00:2")
 ALL_NODES = addr("ff02::1")
 

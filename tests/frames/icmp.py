@@ -1,4 +1,4 @@
-"""ICMP messages and errors as octets, by RFC 792, RFC 1122, RFC 1812, RFC 4443 and RFC 4861, without the library."""
+"""ICMP messages and errors as bytes, by RFC 792, RFC 1122, RFC 1812, RFC 4443 and RFC 4861, without the library."""
 import ipaddress
 
 import packets
@@ -14,7 +14,7 @@ NO_NEIGHBOUR, CLOSED = {4: (3, 1), 6: (1, 3)}, {4: (3, 3), 6: (1, 4)}
 # The longest packet with an error (RFC 1812, section 4.3.2.3; RFC 4443, section 2.4 c).
 LONGEST_ERROR = {4: 576, 6: 1280}
 QUERIES = {4: {0, 8, *range(13, 19)}, 6: set(range(128, 256)) - {137}}
-# Behind these headers of IPv6 an ICMP error may be, or a fragment (RFC 7045, section 4).
+# After these headers of IPv6 an ICMP error may be, or a fragment (RFC 7045, section 4).
 EXTENSIONS = {0, 43, 44, 51, 60, 135, 139, 140}
 # From these no host sends, and none is at them.
 NO_HOSTS = [ipaddress.ip_network(block) for block in (

@@ -1,4 +1,4 @@
-"""Packets as octets, right where nothing else is asked for."""
+"""Packets as bytes, right where nothing else is asked for."""
 
 DST = bytes.fromhex("020000000002")
 SRC = bytes.fromhex("020000000001")
@@ -80,7 +80,7 @@ CARRIERS = [(HOST_A, HOST_B, in_ipv4), (HOST_C, HOST_D, in_ipv6)]
 
 
 def over_both(payload=DATA, behind=b"", padding=b"", **fields):
-    """A UDP packet over IPv4 and one over IPv6, with bytes behind it in the IP packet and padding behind that."""
+    """A UDP packet over IPv4 and one over IPv6, with bytes after it in the IP packet and padding after that."""
     for src, dst, carry in CARRIERS:
         yield carry(udp(payload, src=src, dst=dst, **fields) + behind, padding)
 
@@ -90,7 +90,7 @@ def octets(n, start=0):
 
 
 def turned(octets, bit):
-    """The octets with one bit turned, counted from the first."""
+    """The bytes with one bit turned, counted from the first."""
     other = bytearray(octets)
     other[bit // 8] ^= 0x80 >> bit % 8
     return bytes(other)
@@ -121,7 +121,7 @@ TCP_CARRIERS = [(HOST_A, HOST_B, lambda segment, padding=b"": packet(segment, pa
 
 
 def tcp_over_both(payload=DATA, padding=b"", **fields):
-    """A TCP segment over IPv4 and one over IPv6, with padding behind the packet."""
+    """A TCP segment over IPv4 and one over IPv6, with padding after the packet."""
     for src, dst, carry in TCP_CARRIERS:
         yield carry(tcp(payload, src=src, dst=dst, **fields), padding)
 

@@ -26,12 +26,12 @@ def number(octets):
 
 
 def is_summed(octets):
-    """Whether the words of these octets, with their checksum, have the sum of a valid checksum (RFC 1071)."""
+    """Whether the words of these bytes, with their checksum, have the sum of a valid checksum (RFC 1071)."""
     return word_sum(octets) == 0xFFFF
 
 
 def rebuilt(frame):
-    """The rebuilt frame of at least 14 octets."""
+    """The rebuilt frame of at least 14 bytes."""
     layer = {ARP: arp, IPV4: ipv4, IPV6: ipv6}.get(number(frame[12:14]), bytes)
     return frame[:14] + layer(frame[14:])
 

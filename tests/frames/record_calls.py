@@ -10,7 +10,7 @@ import sys
 from call_lines import HAND_WRITTEN, KINDS
 from record import DATA, record
 
-# How many random lines of each kind are recorded, behind those at the edges and before those by hand.
+# How many random lines of each kind are recorded, after those at the edges and before those by hand.
 RANDOM_LINES = 300
 
 

@@ -51,7 +51,7 @@ def udp_checksums():
         yield from over_both(checksum=checksum, dst_port=0)
         yield from over_both(checksum=checksum, behind=octets(2))
     for src, dst, carry in CARRIERS:
-        # The sum of the pseudo header alone, as a device finds it that is to add the rest.
+        # Only the sum of the pseudo-header, as a device finds it that is to add the rest.
         for n in range(8):
             partial = word_sum(pseudo_header(src, dst, 17, 8 + n))
             for checksum in [partial, 0xFFFF - partial, partial ^ 1]:
@@ -131,7 +131,7 @@ def tcp_checksums():
         yield from tcp_over_both(checksum=checksum, flags=SYN | FIN)
         yield from tcp_over_both(checksum=checksum, options=bytes.fromhex("02050000"))
     for src, dst, carry in TCP_CARRIERS:
-        # The sum of the pseudo header alone, as a device finds it that is to add the rest.
+        # Only the sum of the pseudo-header, as a device finds it that is to add the rest.
         for n in range(8):
             partial = word_sum(pseudo_header(src, dst, 6, 20 + n))
             for checksum in [partial, 0xFFFF - partial, partial ^ 1]:
@@ -160,7 +160,7 @@ def tcp_bits():
 
 
 def tcp_options():
-    """Options of each kind and length, alone, twice and behind others; lists of bytes; what stands behind an end mark."""
+    """Options of each kind and length, by themselves, twice and after others; lists of bytes; what follows an end mark."""
     for kind in [0, 1, 2, 3, 4, 5, 6, 8, 9, 19, 253, 255]:
         for size in list(range(13)) + [18, 26, 34, 40, 255]:
             yield with_options(f"{kind:02x}{size:02x}" + octets(max(min(size, 38) - 2, 0), kind).hex())
@@ -181,7 +181,7 @@ def tcp_options():
     yield with_options(MSS + SCALE + PERMITTED + STAMP, flags=SYN, ack=0)
     yield with_options("0101" + STAMP)
     yield with_options("020405b40204021800ffffff")
-    # Headers of 60 octets that are full.
+    # Headers of 60 bytes that are full.
     for full in ["01" * 40, MSS * 10, "fe28" + "aa" * 38, STAMP * 4, MSS + "0101" + blocks(4), STAMP + "0101" + blocks(3) + "0101"]:
         yield with_options(full)
         yield with_options(full, payload=b"")

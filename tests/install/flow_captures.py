@@ -3,7 +3,7 @@
 
     tests/install/flow_captures.py FOLDER
 
-Each but crafted.pcap has a TCP connection in five packets, as frames of one link: opened, a request of 100 octets, and a
+Each but crafted.pcap has a TCP connection in five packets, as frames of one link: opened, a request of 100 bytes, and a
 reply of 300. The checksum of the request is left to the device, and that of the reply is wrong. Each part of the round trip
 has one time: 20 ms to the server and back, 0.5 ms to the client and back.
 """
@@ -37,7 +37,7 @@ def partial_sum(segment_len):
     return packets.word_sum(packets.pseudo_header(CLIENT, SERVER, 6, segment_len))
 
 
-# Microseconds, whether the client sends, flags, options, octets of payload, and a checksum that is not the right one.
+# Microseconds, whether the client sends, flags, options, bytes of payload, and a checksum that is not the right one.
 CONNECTION = [
     (0, True, SYN, opening(1000, 0), 0, None),
     (20000, False, SYN | ACK, opening(5000, 1000), 0, None),
@@ -77,13 +77,13 @@ def opening_of_ipv6():
 
 
 def cut():
-    """A snapshot length of 80. Then a TCP header is cut behind its 26th octet, and one behind its 6th. The last is ARP."""
+    """A snapshot length of 80. Then a TCP header is cut after its 26th byte, and one after its 6th. The last is ARP."""
     ends = [record(60000, opening_of_ipv6(), 80), record(60000, opening_of_ipv6(), 60)]
     return [*connection(lambda _: packets.ethernet(0x0800), 80), *ends, record(60000, packets.ethernet(0x0806, packets.arp()))]
 
 
 def tags():
-    """The client's frames have one tag, and the server's two. Then a frame that ends in a tag, and ARP behind a tag."""
+    """The client's frames have one tag, and the server's two. Then a frame that ends in a tag, and ARP after a tag."""
     in_tag = record(60000, tagged(TAG, bytes(40)), 16)
     of_arp = record(60000, tagged(TAG, packets.arp(), b"\x08\x06"))
     return [*connection(lambda is_client: tagged(TAG if is_client else SERVICE_TAG + TAG, b"")), in_tag, of_arp]
@@ -94,7 +94,7 @@ def cooked(_):
 
 
 def cooked_2(is_client):
-    """Behind a VLAN tag, if the client sends."""
+    """After a VLAN tag, if the client sends."""
     front = b"\x81\x00" if is_client else b"\x08\x00"
     return front + bytes.fromhex("000000000002000100060200000000010000") + (b"\x00\x64\x08\x00" if is_client else b"")
 

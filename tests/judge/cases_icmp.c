@@ -19,7 +19,7 @@ static size_t any_cap(ptrdiff_t len)
     return (size_t)len + (pick < 6 ? 0 : below(40));
 }
 
-/* Begins a result: the same octets for the model and the library. */
+/* Begins a result: the same bytes for the model and the library. */
 static uint8_t *begin_out(size_t cap)
 {
     size_t len = used_len(cap);

@@ -11,7 +11,7 @@ static size_t mapping_count;
 static uint64_t now;
 static uint8_t wanted[MODEL_ROOM];
 
-/* The first octets of a packet that was translated, which an error may quote. */
+/* The first bytes of a packet that was translated, which an error may quote. */
 struct kept {
     uint8_t octets[200];
     size_t len;
@@ -86,7 +86,7 @@ static struct placed place_arguments(size_t len)
     return it;
 }
 
-/* Calls the library with the frame that was made last, of which `placed_len` octets are there. */
+/* Calls the library with the frame that was made last, of which `placed_len` bytes are there. */
 static int library_out(struct placed *it, size_t placed_len, size_t len)
 {
     CALL(lk_translate_out);

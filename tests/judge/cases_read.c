@@ -34,7 +34,7 @@ static void read_one_packet(const uint8_t *ptr, size_t placed, size_t len)
     same_frame(&wanted, came);
 }
 
-/* `captured` and `len` are also given as octets, so that a report shows them. */
+/* `captured` and `len` are also given as bytes, so that a report shows them. */
 static void read_one_captured(const uint8_t *ptr, size_t placed, size_t captured, size_t len)
 {
     struct lk_frame wanted, before, *came;
@@ -176,7 +176,7 @@ void read_options(void)
 
 static uint8_t before[MODEL_ROOM], wanted_out[MODEL_ROOM];
 
-/* The room for a result of `len` octets: often just enough, at times too little or none. */
+/* The room for a result of `len` bytes: often just enough, at times too little or none. */
 static size_t any_cap(size_t len)
 {
     size_t pick = below(8);

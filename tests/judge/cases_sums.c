@@ -161,7 +161,7 @@ static void tell_version(void)
     end_call(__builtin_cpu_supports("sse4.2") && __builtin_cpu_supports("popcnt") ? 1 : 0, lk_cpu_supported());
 }
 
-/* Two headers behind each other, where the room ends at the second one or before it. */
+/* Two headers, one after the other, where the room ends at the second one or before it. */
 static void append_headers(void)
 {
     struct lk_ethernet ethernet;

@@ -126,7 +126,7 @@ static size_t any_cap(ptrdiff_t len)
     return (size_t)len + (pick < 6 ? 0 : below(40));
 }
 
-/* Begins a result: the same octets for the model and the library. */
+/* Begins a result: the same bytes for the model and the library. */
 static uint8_t *begin_out(size_t cap)
 {
     size_t len = used_len(cap);
@@ -293,7 +293,7 @@ static void emit_arp(const struct lk_frame *headers)
     end_out(out, cap);
 }
 
-/* Any number but 0 means that a checksum is computed, also one whose lowest octet is 0. */
+/* Any number but 0 means that a checksum is computed, also one whose lowest byte is 0. */
 static int any_computed(void)
 {
     static const int values[] = {1, 1, -1, 0x100, 0x10000, 2};

@@ -91,7 +91,7 @@ __attribute__((constructor)) static void choose(void)
     fflush(stdout);
 }
 
-/* ---- the library behind this file ---- */
+/* ---- the calls of the library itself ---- */
 
 int __real_lk_read_frame(const uint8_t *ptr, size_t len, struct lk_frame *frame);
 int __real_lk_read_captured(const uint8_t *ptr, size_t captured, size_t len, struct lk_frame *frame);

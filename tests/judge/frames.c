@@ -124,7 +124,7 @@ static size_t any_option(uint8_t *out)
     return len;
 }
 
-/* Puts options into at most 40 octets, and returns their length, a multiple of 4. */
+/* Puts options into at most 40 bytes, and returns their length, a multiple of 4. */
 static size_t any_options(uint8_t *out)
 {
     uint8_t room[44 * 12];
@@ -187,7 +187,7 @@ static void make_udp(size_t most)
     made.end = at + len + more;
 }
 
-/* The beginning of a packet, as an error quotes it: an IP header, and the first octets of its payload. Returns the
+/* The beginning of a packet, as an error quotes it: an IP header, and the first bytes of its payload. Returns the
  * length. */
 static size_t make_quoted(uint8_t *out, int is_ipv6)
 {
@@ -365,7 +365,7 @@ static struct lk_addr addr_at(size_t at, unsigned version)
     return addr;
 }
 
-/* Fills in the checksum of `len` octets of a transport, in one of many ways. */
+/* Fills in the checksum of `len` bytes of a transport, in one of many ways. */
 static void sum_transport(uint8_t *ptr, unsigned protocol, size_t len, size_t field_at, unsigned version)
 {
     struct lk_addr src = addr_at(version == 4 ? 26 : 22, version), dst = addr_at(version == 4 ? 30 : 38, version);
@@ -387,7 +387,7 @@ static void sum_transport(uint8_t *ptr, unsigned protocol, size_t len, size_t fi
         put_word(ptr + field_at, 0xffff);
 }
 
-/* The checksum of ICMP: right, 0xffff in place of 0, or any. */
+/* The checksum of ICMP: right, 0xffff instead of 0, or any. */
 static void sum_icmp(uint8_t *ptr, size_t len, unsigned version)
 {
     struct lk_addr src = addr_at(version == 4 ? 26 : 22, version), dst = addr_at(version == 4 ? 30 : 38, version);
@@ -425,7 +425,7 @@ void make_valid(void)
 
 /* ---- changes ---- */
 
-/* Changes a field of a header: its octet or word becomes 0, a limit, or one more or less. */
+/* Changes a field of a header: its byte or word becomes 0, a limit, or one more or less. */
 static void change_field(void)
 {
     size_t from = made.transport != 0 && one_in(2) ? made.transport : one_in(8) ? 0 : 14, at = from + below(24);

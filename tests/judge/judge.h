@@ -36,7 +36,7 @@ void catch_crashes(void);
 void begin_call(struct call *call);
 void print_counts(void);
 
-/* Copies an argument between guard pages, directly behind the first or before the second one. A call may read what
+/* Copies an argument between guard pages, directly after the first or before the second one. A call may read what
  * is `given`, and change a `room`. */
 void *given(const char *name, const void *data, size_t len);
 void *room(const void *data, size_t len);
@@ -61,7 +61,7 @@ struct lk_ndisc any_ndisc(void);
 /* A host to which this frame is sent, mostly. */
 struct lk_host any_host_for(const struct lk_frame *frame);
 
-/* A header of a TCP segment with any options, up to 60 octets. Returns its length. */
+/* A header of a TCP segment with any options, up to 60 bytes. Returns its length. */
 size_t any_tcp_header(uint8_t *out);
 
 /* The frame that was made last. */
@@ -77,7 +77,7 @@ extern struct made made;
 /* Makes a frame of any kind, with right, wrong, partial or no checksums. */
 void make_valid(void);
 
-/* The same, and then changes fields before the checksums, and bits and the length behind them. */
+/* The same, and then changes fields before the checksums, and bits and the length after them. */
 void make_frame(void);
 
 /* ---- cases_read.c, cases_write.c, cases_text.c, cases_sums.c, cases_route.c,

@@ -1,5 +1,5 @@
-/* A model of the C interface: for each call of c/ip_wire.h the same arguments and results, written from the
- * comments of that header and from the RFCs alone. It is slow and simple, so that it can be checked by reading.
+/* A model of the C interface: for each call of c/ip_wire.h the same arguments and results, written only
+ * from the comments of that header and from the RFCs. It is slow and simple, so that it can be checked by reading.
  * "Open" in a comment says that the header leaves a case open, and which answer the model takes. */
 #ifndef MODEL_H
 #define MODEL_H
@@ -19,11 +19,11 @@ void put_long(uint8_t *ptr, uint32_t value);
 /* A length above LK_MAX_LEN is never used. */
 size_t used_len(size_t len);
 
-/* The number of octets of an address: 4, 16 or 0. */
+/* The number of bytes of an address: 4, 16 or 0. */
 size_t addr_len(const struct lk_addr *addr);
 int is_in(const struct lk_addr *addr, const char *block);
 
-/* The one's complement sum of the pseudo-header of RFC 768, RFC 9293 and RFC 8200, followed by `len` octets. */
+/* The one's complement sum of the pseudo-header of RFC 768, RFC 9293 and RFC 8200, followed by `len` bytes. */
 uint16_t pseudo_sum(const struct lk_addr *src, const struct lk_addr *dst, unsigned protocol, const uint8_t *ptr,
                     size_t len, size_t summed);
 

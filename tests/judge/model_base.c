@@ -34,7 +34,7 @@ size_t addr_len(const struct lk_addr *addr)
     return addr->version == 4 ? 4 : addr->version == 6 ? 16 : 0;
 }
 
-/* Over IPv4 the message alone (RFC 792), over IPv6 with the pseudo-header (RFC 4443, section 2.3). */
+/* Over IPv4 only the message (RFC 792), over IPv6 with the pseudo-header (RFC 4443, section 2.3). */
 uint16_t icmp_sum(const struct lk_addr *src, const struct lk_addr *dst, const uint8_t *ptr, size_t len)
 {
     return src->version == 4 ? model_checksum(ptr, len) : pseudo_sum(src, dst, 58, ptr, len, len);

@@ -29,7 +29,7 @@ static ptrdiff_t first_of(const struct failures *failures)
     return 0;
 }
 
-/* A result of `len` octets. Returns the first failure, or 0. */
+/* A result of `len` bytes. Returns the first failure, or 0. */
 static ptrdiff_t with_room(struct failures *failures, size_t len, size_t cap)
 {
     failures->applies[NO_ROOM] = len > used_len(cap);

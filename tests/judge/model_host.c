@@ -75,7 +75,7 @@ static size_t rebuild_tcp(const struct lk_frame *frame, const uint8_t *ptr, uint
                    frame->payload_len, 1, out);
 }
 
-/* The payload of an IP header: `len` octets at `at`. */
+/* The payload of an IP header: `len` bytes at `at`. */
 static size_t rebuild_transport(const struct lk_frame *frame, const uint8_t *ptr, size_t at, size_t len, uint8_t *out)
 {
     if (!has_valid_transport(frame))
@@ -85,7 +85,7 @@ static size_t rebuild_transport(const struct lk_frame *frame, const uint8_t *ptr
     return put_udp(&frame->src, &frame->dst, ptr + frame->payload_offset, frame->payload_len, 1, out);
 }
 
-/* The header has new lengths, so it is written behind the payload. Its other fields are those of the table. */
+/* The header has new lengths, so it is written after the payload. Its other fields are those of the table. */
 static size_t rebuild_ip(const struct lk_frame *frame, const uint8_t *ptr, uint8_t *out)
 {
     static uint8_t payload[MODEL_ROOM];
@@ -170,7 +170,7 @@ static size_t answer_arp(const struct lk_host *host, struct lk_frame *frame, uin
     return 14 + put_arp(&frame->arp, &frame->src.addr, &frame->dst.addr, out + 14);
 }
 
-/* Writes the headers before an answer of `len` octets that is in `payload`. */
+/* Writes the headers before an answer of `len` bytes that is in `payload`. */
 static size_t put_answer(const struct lk_frame *reply, unsigned protocol, int is_ndisc, const uint8_t *payload,
                          size_t len, uint8_t *out)
 {
@@ -276,7 +276,7 @@ static size_t answer_icmp(struct lk_frame *frame, const uint8_t *ptr, uint8_t *o
     return put_answer(frame, is_ipv4 ? 1 : 58, 0, message, len, out);
 }
 
-/* RFC 4861, section 7.2.4. The hardware address of a group is 33:33 and its last four octets (RFC 2464, section 7). */
+/* RFC 4861, section 7.2.4. The hardware address of a group is 33:33 and its last four bytes (RFC 2464, section 7). */
 static size_t answer_solicitation(const struct lk_host *host, struct lk_frame *frame, const uint8_t *ptr,
                                   size_t frame_len, uint8_t *out)
 {

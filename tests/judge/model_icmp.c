@@ -136,7 +136,7 @@ static int is_extension_header(unsigned protocol)
     return memchr(numbers, (int)protocol, sizeof numbers) != 0;
 }
 
-/* An ICMP message is a query by its first octet; without one it is none. */
+/* An ICMP message is a query by its first byte; without one it is none. */
 static int is_no_query(const struct lk_frame *frame, const uint8_t *payload, size_t len)
 {
     if (frame->ip.protocol != (frame->network == LK_IPV4 ? 1 : 58))
@@ -148,7 +148,7 @@ static int is_no_query(const struct lk_frame *frame, const uint8_t *payload, siz
     return payload[0] < 128 || payload[0] == 137;
 }
 
-/* Whether an error may be sent about a frame whose packet has `len` octets, its header `header_len` of them. */
+/* Whether an error may be sent about a frame whose packet has `len` bytes, its header `header_len` of them. */
 static int is_told_of(const struct lk_interface *own, const struct lk_frame *frame, const uint8_t *packet, size_t len,
                       size_t header_len)
 {

@@ -148,14 +148,14 @@ static void note_inbound(const struct lk_nat *nat, struct model_mapping *mapping
 struct quoted {
     uint8_t *header;
     uint8_t *behind;
-    size_t known; /* the octets behind its header */
+    size_t known; /* the bytes after its header */
     int side;
     int transport;
     uint8_t *port_at;
     struct lk_endpoint end;
 };
 
-/* At least the IPv4 header and 8 octets, no later fragment, and of ICMP an echo message whose identifier the host on
+/* At least the IPv4 header and 8 bytes, no later fragment, and of ICMP an echo message whose identifier the host on
  * this side chose. The checksum of the header may be wrong: some routers lower the hop limit and leave it. */
 static int find_quoted(uint8_t *ptr, size_t len, int side, struct quoted *quoted)
 {
@@ -247,7 +247,7 @@ static int translate_error_in(const struct lk_nat *nat, struct model_table *tabl
 
 /* ---- the calls ---- */
 
-/* A new mapping, in place of an expired one. */
+/* A new mapping, instead of an expired one. */
 static struct model_mapping *add_mapping(struct model_table *table, const struct packet *packet, unsigned port,
                                          uint64_t now)
 {

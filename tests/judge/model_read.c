@@ -3,14 +3,14 @@
 #include <string.h>
 #include "model.h"
 
-/* A frame of `len` octets, of which the first `captured` are at `ptr`. */
+/* A frame of `len` bytes, of which the first `captured` are at `ptr`. */
 struct capture {
     const uint8_t *ptr;
     size_t captured;
     size_t len;
 };
 
-/* A header of a frame: `len` octets are there for it and what it carries, and the first `known` are captured. */
+/* A header of a frame: `len` bytes are there for it and what it carries, and the first `known` are captured. */
 struct part {
     const uint8_t *ptr;
     size_t known;
@@ -47,7 +47,7 @@ static void read_addr(struct lk_addr *addr, const uint8_t *octets, uint16_t vers
 
 /* ---- UDP and TCP ---- */
 
-/* `covered` octets of the part are summed, with their pseudo-header. A UDP checksum of 0 over IPv6 is wrong (RFC 8200,
+/* `covered` bytes of the part are summed, with their pseudo-header. A UDP checksum of 0 over IPv6 is wrong (RFC 8200,
  * section 8.1). Open: a sum that is right and is that of the pseudo-header too is LK_RIGHT. */
 static int verdict(const struct lk_frame *frame, struct part part, size_t covered, size_t field_at)
 {
@@ -146,7 +146,7 @@ static void read_tcp(const struct capture *capture, struct lk_frame *frame, size
     frame->transport_checksum = (uint8_t)verdict(frame, part, len, 16);
 }
 
-/* No ICMP message is rejected: one of fewer than 8 known octets is payload. */
+/* No ICMP message is rejected: one of fewer than 8 known bytes is payload. */
 static void read_icmp(const struct capture *capture, struct lk_frame *frame, size_t at, size_t len)
 {
     struct part part = part_at(capture, at, len);

@@ -80,7 +80,7 @@ static int parse_ipv4(struct part text, uint8_t *octets)
     return 1;
 }
 
-/* Parses groups that are joined by ':', and stores their octets. Returns how many octets, or -1. The last group may
+/* Parses groups that are joined by ':', and stores their bytes. Returns how many bytes, or -1. The last group may
  * be dotted, if the text ends there. */
 static int parse_groups(struct part text, int ends_here, uint8_t *octets, int *is_dotted)
 {
@@ -235,7 +235,7 @@ static void write_ipv4(const uint8_t *octets, char *text)
     sprintf(text, "%d.%d.%d.%d", octets[0], octets[1], octets[2], octets[3]);
 }
 
-/* RFC 5952. Dotted octets are printed only behind ::ffff:0:0/96. */
+/* RFC 5952. Dotted bytes are printed only after ::ffff:0:0/96. */
 static void write_ipv6(const struct lk_addr *addr, char *text)
 {
     int begin, end;

@@ -270,7 +270,7 @@ struct field {
 #define FRAME(name) FIELD(struct lk_frame, name)
 #define OPTIONS(name) FIELD(struct lk_tcp_options, name)
 
-/* The number in a field of 1, 2, 4 or 8 octets, on a little-endian machine. */
+/* The number in a field of 1, 2, 4 or 8 bytes, on a little-endian machine. */
 static ptrdiff_t number_in(const uint8_t *ptr, size_t len)
 {
     uint64_t number = 0;

@@ -27,7 +27,7 @@ tcp.srcport tcp.dstport tcp.seq_raw tcp.ack_raw tcp.hdr_len tcp.flags tcp.window
 tcp.checksum.status
 icmp.type icmp.code icmp.checksum.status icmpv6.type icmpv6.code icmpv6.checksum.status
 """.split()
-# Behind these, the addresses of the packet that an error quotes.
+# After these, the addresses of the packet that an error quotes.
 QUOTED = ["quoted source", "quoted destination"]
 PREFERENCES = [
     "ip.check_checksum:TRUE", "tcp.check_checksum:TRUE", "udp.check_checksum:TRUE", "ip.defragment:FALSE",
@@ -73,7 +73,7 @@ def parsed(capture):
 
 
 def is_compared(name, our, their, is_icmp):
-    """Behind an ICMP header tshark finds the transport header of the quoted packet. It may find no packet in the end of
+    """After an ICMP header tshark finds the transport header of the quoted packet. It may find no packet in the end of
     a short message."""
     if name in QUOTED:
         return their != ""

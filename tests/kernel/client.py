@@ -94,7 +94,7 @@ def udp_lengths(family, address):
 
 
 def udp_checksums(family, address):
-    """Each payload of two octets, so that the checksum has each value, 0 too."""
+    """Each payload of two bytes, so that the checksum has each value, 0 too."""
     with udp_socket(family, address) as sock:
         for first in range(0, 65536, 64):
             sent = [struct.pack(">H", number) for number in range(first, first + 64)]
@@ -395,7 +395,7 @@ def silent_peer(device):
         found = segments_to(wire, seconds)
         return [((place - seq) % 2**32, length) for port, place, _, length in found if port == TCP_CLIENT]
 
-    # It acknowledges, and sends an octet after 1 and 3 seconds.
+    # It acknowledges, and sends a byte after 1 and 3 seconds.
     check("closed window", sent_after(3.5, 1, 1, window=0, data=bytes(700)) == [(1, 0), (1, 1), (1, 1)])
     check("window that opens", sent_after(0.2, 701, 1) == [(1, 536), (537, 164)])
     check("data", sent_after(0.2, 701, 701, data=bytes(700)) == [(701, 536), (1237, 164)])

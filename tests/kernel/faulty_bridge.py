@@ -38,7 +38,7 @@ class Parts:
 
 
 def with_checksums(frame):
-    """The frame with a valid checksum in an IPv4 header of 20 octets, and in UDP or TCP."""
+    """The frame with a valid checksum in an IPv4 header of 20 bytes, and in UDP or TCP."""
     parts, frame = Parts(frame), bytearray(frame)
     if parts.is_ipv4 and len(frame) >= 34:
         frame[24:26] = bytes(2)
@@ -51,7 +51,7 @@ def with_checksums(frame):
 
 
 def changed(place, change=lambda octet: octet ^ 1):
-    """A fault that changes an octet of a rebuilt frame with valid checksums, and keeps these valid."""
+    """A fault that changes a byte of a rebuilt frame with valid checksums, and keeps these valid."""
     def fault(rebuilt):
         at = place(rebuilt, Parts(rebuilt))
         if not at or at >= len(rebuilt) or with_checksums(rebuilt) != rebuilt:
@@ -61,12 +61,12 @@ def changed(place, change=lambda octet: octet ^ 1):
 
 
 def of_tcp(at):
-    """The place of an octet in a TCP segment."""
+    """The place of a byte in a TCP segment."""
     return lambda frame, parts: parts.transport and frame[parts.protocol] == TCP and parts.transport + at
 
 
 def of_option(kind, at):
-    """The place of an octet in the first option of this kind."""
+    """The place of a byte in the first option of this kind."""
     def place(frame, parts):
         here = of_tcp(20)(frame, parts)
         while here and here + 1 < len(frame) and frame[here] not in (0, kind) and frame[here + 1]:

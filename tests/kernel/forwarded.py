@@ -1,5 +1,5 @@
 """What a router and a NAT do with a frame, by RFC 1812, RFC 3022 and docs/ROUTER.md, without the library. Checksums are
-computed anew from all octets that they cover."""
+computed anew from all bytes that they cover."""
 import copy
 import ipaddress
 
@@ -242,7 +242,7 @@ def port_of(packet, side):
 
 
 def with_end(header, body, side, addr, port):
-    """The header and what is behind it, with another address and port on this side. The checksums are left."""
+    """The header and what follows it, with another address and port on this side. The checksums are left."""
     at, place = 12 + 4 * side, port_at(header[9], side)
     return header[:at] + addr + header[at + 4 :], body[:place] + port.to_bytes(2, "big") + body[place + 2 :]
 

@@ -275,7 +275,7 @@ def acks(device, _):
     seq, ack = opened(wire, TCP_CLIENT, b"\x02\x04\x05\xb4", window=0)
 
     def sent(*offsets, wait=0.3):
-        """What the host acknowledges within this time after segments of 1000 octets: octets after `seq`, and when. A
+        """What the host acknowledges within this time after segments of 1000 bytes: bytes after `seq`, and when. A
         probe of the closed window is left out."""
         begin = time.monotonic()
         for offset in offsets:
@@ -298,7 +298,7 @@ def acks(device, _):
 
 
 def of_duplicates(wire):
-    """After a gap the window stays, although the peer acknowledges octets. Else these would be no duplicates."""
+    """After a gap the window stays, although the peer acknowledges bytes. Else these would be no duplicates."""
     seq, ack = opened(wire, TCP_CLIENT, b"\x02\x04\x05\xb4", window=10_000)
     for offset in (0, 1000, 2000):
         wire.sock.send(wire.frame(TCP, segment(TCP_CLIENT, (seq + offset) % 2**32, ack, ACK, data=bytes(1000))))

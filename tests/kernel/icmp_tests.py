@@ -293,7 +293,7 @@ def not_forwarded(sides):
 
 
 def untold(sides):
-    """What gets no error although it is dropped; and one error of each kind, octet by octet."""
+    """What gets no error although it is dropped; and one error of each kind, byte by byte."""
     side, own = sides["left"], bytes.fromhex("020000000199")
     settle(side)
     side.forget()

@@ -193,7 +193,7 @@ def ping(family, address, data, number, source=None, wait=LATEST):
 
 
 def udp_error(family, place, data=b"", hop_limit=64, source=None):
-    """The ICMP error about a UDP packet: its type and code, the number behind them, and who sent it; or None."""
+    """The ICMP error about a UDP packet: its type and code, the number after them, and who sent it; or None."""
     level, recverr, hops, discover, place_of_addr = ERROR_OPTIONS[family]
     with socket.socket(family, socket.SOCK_DGRAM) as sock:
         for option, value in ((recverr, 1), (hops, hop_limit), (discover, PMTUDISC_PROBE)):

@@ -1,11 +1,11 @@
 /* A host over lwIP, a network stack of another ancestry than Linux's and this library's (Linux).
  *     other_stack -d DEVICE -m HARDWARE_ADDRESS -a ADDRESS/PREFIX [OPTION..] [SERVER]
- * With SERVER, an address, it pings it, exchanges UDP and TCP with port 7 there, compares each octet that comes back,
+ * With SERVER, an address, it pings it, exchanges UDP and TCP with port 7 there, compares each byte that comes back,
  * and prints what it counted. The status is 1 if something was wrong. Without SERVER it echoes at its own port 7,
  * prints "ready", and runs until a signal ends it.
  *     -g ADDRESS           of the router (IPv4)
  *     -l COUNT             loses one in so many frames, each way
- *     -s OCTETS            the largest TCP echo
+ *     -s BYTES             the largest TCP echo
  *
  * It sends and receives frames by a packet socket on the device, on which the kernel must have no address. The other
  * end is a program on this TAP device, or the peer of this veth device without checksum offload. */

@@ -3,7 +3,7 @@
 
 tests/kernel/page.py PROGRAMS
 
-PROGRAMS is a folder with the programs router and nat. In the page a command follows `#`, and the lines behind it are
+PROGRAMS is a folder with the programs router and nat. In the page a command follows `#`, and the lines after it are
 among those that it prints; `..` stands for any text.
 """
 import os
