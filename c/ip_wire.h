@@ -13,8 +13,8 @@
  *   and an output as one without room. The counts of routes, nodes and mappings are such lengths too.
  * - lk_is_.., lk_contains and lk_cpu_supported return 1 for yes and 0 for no.
  * - Fields that an initializer leaves out are 0. A 0 in `version`, in a field `has_..` or in a count means
- *   that there is no such value. A hop limit of 0, and a port of 0 that a receiver rejects, are failures. A 0
- *   in any other field is written as 0.
+ *   that there is no such value. A hop limit of 0 is a failure, and so is a port of 0 where receivers reject
+ *   it: all but the source port of UDP. A 0 in any other field is written as 0.
  *
  * A call that does something begins with its verb: `parse` and `print` are for texts, `read` and `emit` for
  * headers. A call that only tells something is named after it, as lk_tcp_header_len.
@@ -52,7 +52,7 @@ int lk_cpu_supported(void);
 
 /* ---- failures ---- */
 
-/* The longest input or output of a call, in octets: 2^40 - 1. */
+/* The longest input or output of a call, in bytes: 2^40 - 1. */
 #define LK_MAX_LEN (((size_t)1 << 40) - 1)
 
 /* Why a call wrote nothing. If several failures apply to a call, it is the first of them in this order. Any sum
@@ -61,11 +61,11 @@ int lk_cpu_supported(void);
 #define LK_NO_VERSION LK_FAILURE(1)       /* an address has another version than the call can write */
 #define LK_TWO_VERSIONS LK_FAILURE(2)     /* one address is IPv4, the other IPv6 */
 #define LK_BAD_PREFIX LK_FAILURE(3)       /* a prefix length above 32 for IPv4, above 128 for IPv6 */
-#define LK_NO_PORT LK_FAILURE(4)          /* a port is 0 that a receiver rejects */
+#define LK_NO_PORT LK_FAILURE(4)          /* a port is 0 where receivers reject it (all but the source port of UDP) */
 #define LK_NO_HOP_LIMIT LK_FAILURE(5)     /* the hop limit is 0 */
 #define LK_BAD_FIELD LK_FAILURE(6)        /* a field of `struct lk_ip` that this header has no place for */
 #define LK_TWO_CONTROLS LK_FAILURE(7)     /* more than one of SYN, FIN and RST */
-#define LK_OPTIONS_TOO_LONG LK_FAILURE(8) /* TCP options of more than 40 octets, or more than 4 SACK ranges */
+#define LK_OPTIONS_TOO_LONG LK_FAILURE(8) /* TCP options of more than 40 bytes, or more than 4 SACK ranges */
 #define LK_PAYLOAD_TOO_LONG LK_FAILURE(9) /* the payload is longer than the length field can say */
 #define LK_NO_HEADER LK_FAILURE(10)       /* the frame to be rebuilt is shorter than an Ethernet header */
 #define LK_NO_ROOM LK_FAILURE(11)         /* the result is longer than `cap` */
@@ -84,11 +84,11 @@ const char *lk_failure_name(ptrdiff_t failure);
 struct lk_out {
     uint8_t *ptr;      /* where the next call writes */
     size_t cap;        /* the room from there on */
-    size_t len;        /* the number of octets that were written */
+    size_t len;        /* the number of bytes that were written */
     ptrdiff_t failure; /* the first failure; 0: none */
 };
 
-/* Steps behind what a call wrote at `out->ptr`, or keeps its failure. */
+/* Advances `out` past what a call wrote, or stores the call's failure. */
 static inline void lk_append(struct lk_out *out, ptrdiff_t written)
 {
     if (written < 0) {
@@ -128,7 +128,7 @@ struct lk_block {
  * stores nothing if the text does not parse.
  *
  * Hex digits may have either case. Leading zeros are accepted and are decimal. The scope of an IPv6
- * address (%eth0) is rejected. Dotted octets are accepted only at the end of an IPv4-mapped address
+ * address (%eth0) is rejected. Dotted decimal is accepted only at the end of an IPv4-mapped address
  * (::ffff:192.168.1.1), in which a `::` must stand directly before `ffff`.
  *
  * lk_print_.. writes a text and returns its length, without a terminating null. It writes the null too if
@@ -141,7 +141,7 @@ struct lk_block {
 /* IPv4: four numbers of 1 to 3 digits, joined by '.'. IPv6: RFC 4291, section 2.2. */
 int lk_parse_addr(const char *text, size_t len, struct lk_addr *addr);
 
-/* IPv6 by RFC 5952, with dotted octets only in IPv4-mapped addresses. Fails with LK_NO_VERSION. */
+/* IPv6 by RFC 5952, with dotted decimal only in IPv4-mapped addresses. Fails with LK_NO_VERSION. */
 ptrdiff_t lk_print_addr(const struct lk_addr *addr, char *out, size_t cap);
 
 /* An address, '/' and the prefix length, of 1 or 2 digits for IPv4, of 1 to 3 for IPv6. The address keeps all
@@ -155,14 +155,14 @@ ptrdiff_t lk_print_block(const struct lk_block *block, char *out, size_t cap);
  * long. */
 int lk_contains(const struct lk_block *block, const struct lk_addr *addr);
 
-/* An address, ':' and a port of 1 to 5 digits, with an IPv6 address in brackets; or an address alone, without
- * brackets, which has port 0. */
+/* An address, ':' and a port of 1 to 5 digits, with an IPv6 address in brackets; or an address by itself,
+ * without brackets, which has port 0. */
 int lk_parse_endpoint(const char *text, size_t len, struct lk_endpoint *endpoint);
 
 /* Prints port 0 too. Fails with LK_NO_VERSION. */
 ptrdiff_t lk_print_endpoint(const struct lk_endpoint *endpoint, char *out, size_t cap);
 
-/* An Ethernet address, 6 octets: six groups of 1 or 2 hex digits, all joined by '-' or all by ':'. */
+/* An Ethernet address, 6 bytes: six groups of 1 or 2 hex digits, all joined by '-' or all by ':'. */
 int lk_parse_ethernet(const char *text, size_t len, uint8_t *octets);
 
 /* Six pairs of hex digits in lower case, joined by '-'. */
@@ -194,7 +194,7 @@ struct lk_arp {
 struct lk_ip {
     uint32_t ident;           /* IPv4: 16 bits; IPv6: of the fragment header */
     uint32_t flow_label;      /* IPv6: 20 bits */
-    uint16_t fragment_offset; /* in octets, a multiple of 8 */
+    uint16_t fragment_offset; /* in bytes, a multiple of 8 */
     uint8_t protocol;         /* 1: ICMP, 6: TCP, 17: UDP, 44: an IPv6 fragment header, 58: ICMPv6 */
     uint8_t hop_limit;        /* 64 is usual; 0 is read, and cannot be written */
     uint8_t dscp;             /* 6 bits; of IPv6 those of the traffic class */
@@ -217,12 +217,12 @@ enum lk_tcp_flag {
 
 /* A TCP header (RFC 9293) without its ports, checksum and options. */
 struct lk_tcp {
-    uint32_t seq_number; /* of the first payload octet, or of SYN */
+    uint32_t seq_number; /* of the first payload byte, or of SYN */
     uint32_t ack_number; /* the next expected number, if LK_ACK is set */
-    uint16_t window_len; /* in octets, before scaling */
+    uint16_t window_len; /* in bytes, before scaling */
     uint16_t urgent_at;  /* the urgent pointer */
     uint8_t flags;       /* a sum of `lk_tcp_flag` */
-    uint8_t header_len;  /* in octets, 20 to 60; of a rejected header what it says, 0 to 60; not used by the calls
+    uint8_t header_len;  /* in bytes, 20 to 60; of a rejected header what it says, 0 to 60; not used by the calls
                           * lk_emit_.. */
 };
 
@@ -238,7 +238,7 @@ struct lk_tcp_options {
     struct lk_sack_range sack_ranges[4]; /* the first `sack_range_count` count */
     uint32_t tsval;                      /* the timestamp */
     uint32_t tsecr;                      /* the timestamp that it answers */
-    uint16_t max_seg_size;               /* in octets */
+    uint16_t max_seg_size;               /* in bytes */
     uint8_t window_scale;                /* in bits; at most 14 is read */
     uint8_t sack_permitted;
     uint8_t sack_range_count;            /* at most 4 */
@@ -250,7 +250,7 @@ struct lk_tcp_options {
 /* The header of an ICMP message (RFC 792; over IPv6 RFC 4443) without its checksum. After it come the data of an echo,
  * or the beginning of the packet that an error is about. */
 struct lk_icmp {
-    uint32_t word; /* octets 4 to 7: of an echo, identifier * 65536 + sequence number; of errors, an MTU or a pointer */
+    uint32_t word; /* bytes 4 to 7: of an echo, identifier * 65536 + sequence number; of errors, an MTU or a pointer */
     uint8_t type;
     uint8_t code;
 };
@@ -272,7 +272,7 @@ enum lk_network { LK_NO_NETWORK, LK_ARP, LK_IPV4, LK_IPV6 };
 enum lk_transport { LK_NO_TRANSPORT, LK_UDP, LK_TCP, LK_ICMP };
 
 /* Why a header was rejected. If several reasons apply to it, it is the first of them in this order. If several
- * headers of a frame are wrong, the outermost of them is rejected, and no header behind it is read. */
+ * headers of a frame are wrong, the outermost of them is rejected, and no later header is parsed. */
 enum lk_reason {
     LK_READ,         /* no header was rejected */
     LK_TOO_SHORT,    /* fewer bytes than the shortest header */
@@ -295,12 +295,12 @@ enum lk_verdict {
     LK_WRONG,
     LK_LEFT_OUT,        /* UDP over IPv4: the sender computed none */
     LK_LEFT_TO_DEVICE,  /* only the pseudo-header is summed: checksum offload; wrong for lk_rebuild and lk_answer */
-    LK_CHECKSUM_CUT     /* not all octets that it covers were captured */
+    LK_CHECKSUM_CUT     /* not all bytes that it covers were captured */
 };
 
 /* A frame. The fields of a header that is not there are 0. */
 struct lk_frame {
-    size_t network_offset;   /* of the ARP or IP header, from the first octet of the frame or packet */
+    size_t network_offset;   /* of the ARP or IP header, from the first byte of the frame or packet */
     size_t transport_offset; /* of the UDP, TCP or ICMP header, also of a rejected one that is stored */
     size_t payload_offset;   /* of the payload */
     size_t payload_len;      /* ends within the frame, before its padding */
@@ -325,52 +325,52 @@ struct lk_frame {
  * checksum is no reason to reject: a caller that trusts the payload must drop frames in which
  * `ipv4_checksum` or `transport_checksum` is LK_WRONG.
  *
- * - The payload begins behind the last header that was read. It ends at the length in this header or in
+ * - The payload follows the last parsed header. It ends at the length in this header or in
  *   one before it, so padding is no payload.
  * - At a rejected header the values of the headers before it are stored, and the payload begins at the
  *   rejected header. `network` and `transport` name only headers that were read.
  * - The fields of a rejected UDP or TCP header are stored too, unless it is too short: `rejected` names it. RFC
  *   9293 needs them for RST. For a UDP header that is rejected as LK_BAD_LENGTH the verdict is
- *   LK_NO_CHECKSUM, because it does not say which octets are summed.
- * - Behind an unknown EtherType or protocol all bytes are payload, and so are IPv6 extension headers.
+ *   LK_NO_CHECKSUM, because it does not say which bytes are summed.
+ * - After an unknown EtherType or protocol all bytes are payload, and so are IPv6 extension headers.
  *   IPv4 options are skipped.
- * - An ICMP message is a packet of protocol 1 over IPv4, or 58 over IPv6, with at least 8 octets. Its payload begins
- *   after these 8 octets: it is the data of an echo, or the packet that an error quotes. No type or code is rejected,
+ * - An ICMP message is a packet of protocol 1 over IPv4, or 58 over IPv6, with at least 8 bytes. Its payload begins
+ *   after these 8 bytes: it is the data of an echo, or the packet that an error quotes. No type or code is rejected,
  *   and the checksum is LK_RIGHT or LK_WRONG. A shorter message has no transport: all of it is payload.
  * - If an IPv6 fragment header follows the IPv6 header directly and is there as a whole, its values are stored.
  *   The payload begins at it. `is_fragment` is 0 if it is of an atomic fragment, which is a whole packet
  *   (RFC 6946), but what follows the fragment header is not parsed either.
  *
  * A loop over many short frames that are not in the caches, each in a buffer of its own, is faster if it
- * prefetches the first 128 octets of the frame 8 places ahead (EXAMPLES in ip_wire(3)). */
+ * prefetches the first 128 bytes of the frame 8 places ahead (EXAMPLES in ip_wire(3)). */
 int lk_read_frame(const uint8_t *ptr, size_t len, struct lk_frame *frame);
 
 /* The same for a packet that begins with its IPv4 or IPv6 header: of a TUN device, of a capture of raw packets
- * or cooked frames, or behind VLAN tags. `ethernet` is 0. A packet of neither version is rejected with
- * LK_BAD_VERSION, however short it is, but for one without octets (LK_TOO_SHORT). */
+ * or cooked frames, or after VLAN tags. `ethernet` is 0. A packet of neither version is rejected with
+ * LK_BAD_VERSION, however short it is, but for one without bytes (LK_TOO_SHORT). */
 int lk_read_packet(const uint8_t *ptr, size_t len, struct lk_frame *frame);
 
-/* The same two for a frame or packet of `len` octets of which only the first `captured` are at `ptr`, as in a
+/* The same two for a frame or packet of `len` bytes of which only the first `captured` are at `ptr`, as in a
  * capture with a snapshot length. Lengths in headers are compared with `len`, and the headers that are there are
- * stored as if all was there. If `captured` is more than `len`, only the first `len` octets count.
+ * stored as if all was there. If `captured` is more than `len`, only the first `len` bytes count.
  *
  * - A header that was not captured as a whole is rejected with LK_HEADER_CUT, unless the frame is too short for it
  *   (LK_TOO_SHORT). Nothing of it is stored. No field of it is tested, but the version by which a packet is read.
- *   A packet of which no octet was captured has no version: LK_TOO_SHORT only if `len` is 0.
+ *   A packet of which no byte was captured has no version: LK_TOO_SHORT only if `len` is 0.
  * - IPv4 options that were cut give LK_HEADER_CUT after the tests of version and lengths; nothing of the header is
  *   stored. TCP options that were cut give it after the tests of lengths, ports and flags; the fields are stored, and
  *   `rejected` is LK_TCP.
  * - An IPv6 fragment header that was cut gives LK_HEADER_CUT, and the fields of the IPv6 header are stored.
- * - If a TCP, UDP or ICMP checksum covers octets that were not captured, its verdict is LK_CHECKSUM_CUT. But a UDP
+ * - If a TCP, UDP or ICMP checksum covers bytes that were not captured, its verdict is LK_CHECKSUM_CUT. But a UDP
  *   checksum of 0 is LK_LEFT_OUT, or LK_WRONG over IPv6.
- * - An ICMP message of which fewer than 8 octets were captured has no transport, and no header is rejected.
- * - `payload_len` is that of the whole frame: the payload may end behind the captured octets. */
+ * - An ICMP message of which fewer than 8 bytes were captured has no transport, and no header is rejected.
+ * - `payload_len` is that of the whole frame: the payload may end past the captured bytes. */
 int lk_read_captured(const uint8_t *ptr, size_t captured, size_t len, struct lk_frame *frame);
 int lk_read_captured_packet(const uint8_t *ptr, size_t captured, size_t len, struct lk_frame *frame);
 
-/* Stores the options of a TCP header. `ptr` is its first octet and `len` its length: in a frame that was
+/* Stores the options of a TCP header. `ptr` is its first byte and `len` its length: in a frame that was
  * read, `frame + f.transport_offset` and `f.tcp.header_len`. Returns 0 and stores nothing if an option
- * before the end mark is malformed, or the header is shorter than 20 octets or than it says. Of each
+ * before the end mark is malformed, or the header is shorter than 20 bytes or than it says. Of each
  * kind the last option counts.
  *
  * An option is malformed if its length is below 2 or passes the header, or is wrong for the maximum segment size,
@@ -379,13 +379,13 @@ int lk_read_tcp_options(const uint8_t *ptr, size_t len, struct lk_tcp_options *o
 
 /* Where an option of a TCP header is. */
 struct lk_tcp_option {
-    uint8_t offset; /* of its first octet in the header; 0: before the first option */
-    uint8_t kind;   /* 0: the end mark, 1: padding; of the others the data is behind 2 octets */
-    uint8_t len;    /* of the whole option, in octets */
+    uint8_t offset; /* of its first byte in the header; 0: before the first option */
+    uint8_t kind;   /* 0: the end mark, 1: padding; the data of the others begins after 2 bytes */
+    uint8_t len;    /* of the whole option, in bytes */
 };
 
 /* Steps to the next option of a TCP header, and returns 1. Begin with a struct of zeros. Returns 0 if there is none
- * left, or -1 if the next one is malformed, or if the header is shorter than 20 octets or than it says; then
+ * left, or -1 if the next one is malformed, or if the header is shorter than 20 bytes or than it says; then
  * `option` is unchanged. `ptr` and `len` are as for lk_read_tcp_options. Options of every kind are stored, in their
  * order, with padding. Nothing follows the end mark.
  *
@@ -403,7 +403,7 @@ int lk_next_tcp_option(const uint8_t *ptr, size_t len, struct lk_tcp_option *opt
 void lk_reply(struct lk_frame *frame);
 
 /* Writes a whole frame with a UDP packet: Ethernet header, IPv4 or IPv6 header, UDP header and the `len`
- * octets at `ptr`. Uses `ethernet.src`, `ethernet.dst`, `src`, `dst` and `ip` of `headers`; EtherType,
+ * bytes at `ptr`. Uses `ethernet.src`, `ethernet.dst`, `src`, `dst` and `ip` of `headers`; EtherType,
  * protocol, lengths and checksums are filled in. Returns the length of the frame, or a failure:
  *
  * - LK_NO_VERSION and LK_TWO_VERSIONS,
@@ -415,20 +415,20 @@ ptrdiff_t lk_emit_udp_frame(const struct lk_frame *headers, const uint8_t *ptr, 
                             size_t cap);
 
 /* The same with a TCP segment. Uses `tcp` of `headers` too. Fails also with LK_NO_PORT if the source port is 0,
- * and with LK_TWO_CONTROLS and LK_OPTIONS_TOO_LONG. Header and payload have at most 65515 octets over IPv4, 65535
+ * and with LK_TWO_CONTROLS and LK_OPTIONS_TOO_LONG. Header and payload have at most 65515 bytes over IPv4, 65535
  * over IPv6. */
 ptrdiff_t lk_emit_tcp_frame(const struct lk_frame *headers, const struct lk_tcp_options *options,
                             const uint8_t *ptr, size_t len, uint8_t *out, size_t cap);
 
 /* Writes the headers of a frame with UDP or TCP before a payload that is in `out` already. The payload has `len`
- * octets. It begins at octet 42 for UDP over IPv4, and 62 over IPv6; for TCP at octet 34 or 54, plus
+ * bytes. It begins at byte 42 for UDP over IPv4, and 62 over IPv6; for TCP at byte 34 or 54, plus
  * lk_tcp_header_len(options). The result is that of lk_emit_.._frame with the same payload. */
 ptrdiff_t lk_wrap_udp_frame(const struct lk_frame *headers, size_t len, uint8_t *out, size_t cap);
 ptrdiff_t lk_wrap_tcp_frame(const struct lk_frame *headers, const struct lk_tcp_options *options,
                             size_t len, uint8_t *out, size_t cap);
 
 /* Writes a whole frame with an ICMP message, as lk_emit_udp_frame does with a UDP packet: the header `icmp` of `headers`
- * and the `len` octets at `ptr`, at most 65507 over IPv4 and 65527 over IPv6. The protocol is 1 over IPv4 and 58 over
+ * and the `len` bytes at `ptr`, at most 65507 over IPv4 and 65527 over IPv6. The protocol is 1 over IPv4 and 58 over
  * IPv6. No port is used. */
 ptrdiff_t lk_emit_icmp_frame(const struct lk_frame *headers, const uint8_t *ptr, size_t len, uint8_t *out,
                              size_t cap);
@@ -436,22 +436,22 @@ ptrdiff_t lk_emit_icmp_frame(const struct lk_frame *headers, const uint8_t *ptr,
 /* Returns the length of a TCP header with these options, 20 to 60, or LK_OPTIONS_TOO_LONG. */
 ptrdiff_t lk_tcp_header_len(const struct lk_tcp_options *options);
 
-/* Writes a whole frame, 42 octets, with the ARP packet of `arp`, `src.addr` and `dst.addr`. Fails with LK_NO_VERSION
+/* Writes a whole frame, 42 bytes, with the ARP packet of `arp`, `src.addr` and `dst.addr`. Fails with LK_NO_VERSION
  * unless both are IPv4 addresses, and with LK_NO_ROOM. */
 ptrdiff_t lk_emit_arp_frame(const struct lk_frame *headers, uint8_t *out, size_t cap);
 
 /* The layers one by one. Each writes one header, or a header with its payload, at `out[0]`. A checksum is
  * computed unless `computed` is 0; then it is 0. The failures are those of lk_emit_.._frame. */
 
-/* Writes an Ethernet header, 14 octets. */
+/* Writes an Ethernet header, 14 bytes. */
 ptrdiff_t lk_emit_ethernet(const struct lk_ethernet *header, uint8_t *out, size_t cap);
 
-/* Writes an ARP packet, 28 octets. */
+/* Writes an ARP packet, 28 bytes. */
 ptrdiff_t lk_emit_arp(const struct lk_arp *header, const struct lk_addr *src, const struct lk_addr *dst,
                       uint8_t *out, size_t cap);
 
-/* Writes an IPv4 header of 20 octets or an IPv6 header of 40 octets, by the version of the addresses, for
- * a payload of `payload_len` octets: at most 65515 for IPv4 and 65535 for IPv6. Fails with LK_BAD_FIELD if
+/* Writes an IPv4 header of 20 bytes or an IPv6 header of 40 bytes, by the version of the addresses, for
+ * a payload of `payload_len` bytes: at most 65515 for IPv4 and 65535 for IPv6. Fails with LK_BAD_FIELD if
  *
  * - `dscp` is more than 63 or `ecn` more than 3,
  * - IPv4: `ident` is more than 65535, or `fragment_offset` is no multiple of 8,
@@ -462,18 +462,18 @@ ptrdiff_t lk_emit_arp(const struct lk_arp *header, const struct lk_addr *src, co
 ptrdiff_t lk_emit_ip(const struct lk_ip *header, const struct lk_addr *src, const struct lk_addr *dst,
                      size_t payload_len, int computed, uint8_t *out, size_t cap);
 
-/* Writes a UDP header and the `len` octets at `ptr`, at most 65527. */
+/* Writes a UDP header and the `len` bytes at `ptr`, at most 65527. */
 ptrdiff_t lk_emit_udp(const struct lk_endpoint *src, const struct lk_endpoint *dst, const uint8_t *ptr,
                       size_t len, int computed, uint8_t *out, size_t cap);
 
-/* Writes a TCP header with its options and the `len` octets at `ptr`, together at most 65535. `ack_number` and
+/* Writes a TCP header with its options and the `len` bytes at `ptr`, together at most 65535. `ack_number` and
  * `urgent_at` are written whatever the flags are, and `window_scale` whatever it is. SACK ranges beside
  * `sack_permitted` are not written; zeros are written instead. */
 ptrdiff_t lk_emit_tcp(const struct lk_tcp *header, const struct lk_tcp_options *options,
                       const struct lk_endpoint *src, const struct lk_endpoint *dst, const uint8_t *ptr,
                       size_t len, int computed, uint8_t *out, size_t cap);
 
-/* Writes the header of an ICMP message and the `len` octets at `ptr`, at most 65527. Between IPv6 addresses the checksum
+/* Writes the header of an ICMP message and the `len` bytes at `ptr`, at most 65527. Between IPv6 addresses the checksum
  * covers a pseudo-header too. */
 ptrdiff_t lk_emit_icmp(const struct lk_icmp *header, const struct lk_addr *src, const struct lk_addr *dst,
                        const uint8_t *ptr, size_t len, int computed, uint8_t *out, size_t cap);
@@ -527,7 +527,7 @@ int lk_compare_seq(uint32_t a, uint32_t b);
  *   IPv6      traffic class and flow label        becomes 0          marks of priority, congestion and flow are lost
  *   IPv6      payload length                      computed
  *   IPv6      payload of a jumbogram              removed            only the header is left (RFC 2675)
- *   UDP       octets behind the length            removed            UDP options are lost
+ *   UDP       bytes after the length              removed            UDP options are lost
  *   UDP       checksum of 0                       computed           it does not protect the path up to here
  *   TCP       acknowledgement number without ACK  becomes 0          it has no meaning (RFC 9293, section 3.1)
  *   TCP       data offset and checksum            computed
@@ -536,25 +536,25 @@ int lk_compare_seq(uint32_t a, uint32_t b);
  *   TCP       URG and urgent pointer              becomes 0          urgent data is no longer marked
  *   TCP       PSH beside SYN, FIN or RST          becomes 0          FIN implies PSH (RFC 9293, section 3.10.7.4)
  *   TCP       options of other kinds              removed            MPTCP is not used; a TCP-AO segment is dropped
- *   TCP       timestamps of other than 10 octets  removed            they have no meaning (RFC 7323, section 3.2)
+ *   TCP       timestamps of other than 10 bytes   removed            they have no meaning (RFC 7323, section 3.2)
  *   TCP       options but the last of each kind   removed            a receiver may use the first one instead
  *   TCP       no-operation options                removed            options may no longer be aligned
- *   TCP       octets behind the end mark          removed            they have no meaning (RFC 9293, section 3.1)
+ *   TCP       bytes after the end mark            removed            they have no meaning (RFC 9293, section 3.1)
  *   TCP       order of options                    sorted by kind     it has no meaning
  *   TCP       window scale above 14               becomes 14         a receiver uses 14 too (RFC 7323, section 2.3)
  *   TCP       SACK ranges beside SACK permitted   replaced by zeros  no segment may have both (RFC 2018, section 2)
  *   TCP       SACK ranges without ACK             replaced by zeros  only an ACK has ranges (RFC 2018, section 4)
  *
  * All other fields are kept. Options of other kinds are those that `struct lk_tcp_options` has no field for. Zeros
- * are end marks: with those in place of SACK ranges the header keeps its length.
+ * are end marks: with those instead of SACK ranges the header keeps its length.
  *
- * Copied unchanged, with the padding behind it, is
+ * Copied unchanged, with the padding after it, is
  *
  * - an ARP, IPv4 or IPv6 packet that does not parse, or has a wrong IPv4 header checksum,
  * - a fragment of an IPv4 packet,
  * - the payload of any other EtherType.
  *
- * Copied unchanged behind a rebuilt IP header, without padding, is
+ * Copied unchanged after a rebuilt IP header, without padding, is
  *
  * - a UDP or TCP packet that does not parse, or has a wrong checksum,
  * - the payload of any other protocol, such as an IPv6 extension header with what follows. */
@@ -567,12 +567,12 @@ ptrdiff_t lk_rebuild(const uint8_t *ptr, size_t len, uint8_t *out, size_t cap);
  *
  * - The hop limit must be 255, the checksum right, and the code 0.
  * - The target must be no multicast address. Each option must have a length above 0 and end within the message, and a
- *   link-layer address option must have 8 octets. Options of other kinds are skipped; of several the first counts.
+ *   link-layer address option must have 8 bytes. Options of other kinds are skipped; of several the first counts.
  * - A solicitation from `::` must be for a solicited-node group, without the option.
  * - An advertisement for a multicast address must not be solicited. */
 int lk_read_ndisc(const uint8_t *frame, size_t len, struct lk_ndisc *ndisc);
 
-/* Writes a whole frame with a neighbour solicitation or advertisement, 78 octets, or 86 with the option. Uses
+/* Writes a whole frame with a neighbour solicitation or advertisement, 78 bytes, or 86 with the option. Uses
  * `ethernet.src`, `ethernet.dst`, `src.addr` and `dst.addr` of `headers`. The hop limit is 255; traffic class and flow
  * label are 0. Fails with LK_NO_VERSION unless `src.addr`, `dst.addr` and `target` are IPv6 addresses, and with
  * LK_NO_ROOM. What lk_read_ndisc rejects for its addresses or flags is written too. */
@@ -593,8 +593,8 @@ struct lk_host {
     /* what an open port sends */
     uint32_t seq_number;            /* hard to guess, another for each connection (RFC 9293, section 3.4.1) */
     uint32_t tsval;                 /* the timestamp */
-    uint16_t window_len;            /* in octets; not scaled, because it is sent with SYN */
-    uint16_t max_seg_size;          /* in octets */
+    uint16_t window_len;            /* in bytes; not scaled, because it is sent with SYN */
+    uint16_t max_seg_size;          /* in bytes */
     uint8_t window_scale;           /* in bits; more than 14 is sent as 14 */
     /* what its neighbour advertisements say */
     uint8_t is_router;              /* not 0: it forwards packets; sets R (RFC 4861, section 7.2.4) */
@@ -655,7 +655,7 @@ enum lk_problem {
  * IPv4 address or `ipv6` no IPv6 address, and with LK_NO_ROOM. `mtu` is used for LK_PACKET_TOO_BIG only: the length of
  * the longest packet that the next link takes.
  *
- * The error quotes as much of the packet as fits into 576 octets over IPv4, 1280 over IPv6 (RFC 1812, section 4.3.2.3;
+ * The error quotes as much of the packet as fits into 576 bytes over IPv4, 1280 over IPv6 (RFC 1812, section 4.3.2.3;
  * RFC 4443, section 2.4 c), so a `cap` of 1294 always suffices. No error is sent in these cases (RFC 1122, section
  * 3.2.2; RFC 4443, section 2.4 e).
  *
@@ -685,7 +685,7 @@ enum lk_rejection {
     LK_FRAGMENT,       /* NAT: the packet is a fragment */
     LK_OTHER_PROTOCOL, /* NAT: the packet carries neither UDP nor TCP, nor an ICMP message that is translated */
     LK_BAD_TRANSPORT,  /* NAT: the UDP or TCP header is rejected (lk_reason), or the checksum is wrong, also of ICMP; an
-                        * ICMP error quotes less than an IPv4 header and 8 octets */
+                        * ICMP error quotes less than an IPv4 header and 8 bytes */
     LK_ZERO_PORT,      /* NAT: the port to be written is 0, and a receiver would reject the packet; lk_translate_out:
                         * the source port is 0, so that no answer could come back */
     LK_NO_MAPPING,     /* lk_translate_in: no live mapping has this outside address and port; also of a packet that an
@@ -700,8 +700,8 @@ enum lk_rejection {
 const char *lk_rejection_name(int rejection);
 
 /* Forwards the packet of an Ethernet frame by one hop, in place (RFC 1812, section 5.3.1; RFC 8200, section 3). `src`
- * and `dst` are the new Ethernet addresses, 6 octets each. The hop limit becomes one less, and the checksum of an IPv4
- * header is updated (RFC 1624). All other octets stay: IPv4 options, the payload and padding are not looked at.
+ * and `dst` are the new Ethernet addresses, 6 bytes each. The hop limit becomes one less, and the checksum of an IPv4
+ * header is updated (RFC 1624). All other bytes stay: IPv4 options, the payload and padding are not looked at.
  *
  * Returns LK_NOT_REJECTED, LK_NOT_IP, LK_BAD_HEADER, LK_WRONG_CHECKSUM or LK_EXPIRED. If it is not 0, the frame is
  * unchanged. */
@@ -845,7 +845,7 @@ struct lk_mapping {
  *   `tcp_transitory_timeout` before it, after a FIN or RST of either side, and after another SYN. After FIN or RST only
  *   a SYN begins anew. In a mapping of several remote endpoints, FIN, RST and SYN do not end `tcp_timeout`.
  * - Echo requests go out, and echo replies come in (RFC 5508, section 3). The others get LK_NO_MAPPING.
- * - An ICMP error is translated with the packet that it quotes, of which at least the IPv4 header and 8 octets must be
+ * - An ICMP error is translated with the packet that it quotes, of which at least the IPv4 header and 8 bytes must be
  *   there (RFC 5508, section 4). One that comes in quotes a packet of a live mapping, from its outside port; one that
  *   leaves quotes a packet to the inside endpoint of a live mapping. All checksums are updated; one in the quoted
  *   packet may be wrong, and stays wrong then. An error neither restarts a time-out nor ends a connection. Errors about

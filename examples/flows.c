@@ -1,11 +1,11 @@
-/* Prints the flows of a capture, those with most octets first. Each is one line, as this:
+/* Prints the flows of a capture, those with most bytes first. Each is one line, as this:
  *
  *     TCP 192.0.2.1:40000 192.0.2.2:443 packets 3+2 octets 306+440 time 0.050000 s rate 119.4 kbit/s
  *         rtt 20.000+0.500 ms syn 2,4,8,1,3+2,4,8,1,3 wrong 1
  *
- * The first end sent the first packet. Each sum has what the first end sent, and what the second sent. Octets are those
- * of the frames, captured or not. `rtt` is the shortest time until the second end echoed a timestamp of the first (RFC
- * 7323), and the other way round: a round trip takes their sum. `syn` has the kinds of the TCP options of SYN, in
+ * The first end sent the first packet. Each sum has what the first end sent, and what the second sent. `octets` has the
+ * bytes of the frames, captured or not. `rtt` is the shortest time until the second end echoed a timestamp of the first
+ * (RFC 7323), and the other way round: a round trip takes their sum. `syn` has the kinds of the TCP options of SYN, in
  * order. `wrong` counts packets with a wrong checksum, without those whose checksum was left to the device. */
 #include <ip_wire.h>
 #include <inttypes.h>
@@ -19,7 +19,7 @@
 enum { MOST_BLOCKS = 256, MOST_OPTIONS = 40, REASONS = LK_HEADER_CUT + 1 };
 enum echo { NO_TIMESTAMP, WAITS, ECHOED };
 
-/* What is left of a frame: `captured` of its `len` octets are at `ptr`. */
+/* What is left of a frame: `captured` of its `len` bytes are at `ptr`. */
 struct part {
     const uint8_t *ptr;
     size_t captured, len;
@@ -122,7 +122,7 @@ static struct flow *flow_of(struct table *table, const struct lk_frame *frame, i
 
 /* ---- packets ---- */
 
-/* A timestamp waits for its echo, and those behind it do not. An echo of a later one ends that too. */
+/* A timestamp waits for its echo, and those after it do not. An echo of a later one ends that too. */
 static void count_timestamp(struct side *sender, struct side *receiver, const struct lk_tcp_options *options,
                             int has_ack, int64_t now)
 {

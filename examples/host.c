@@ -1,4 +1,4 @@
-/* A host on a TAP device (Linux). It echoes what comes to port 7 by UDP and TCP over IPv4 and IPv6, and refuses every
+/* A host on a TAP device (Linux). It echoes what comes to port 7 by UDP and TCP over IPv4 and IPv6, and rejects every
  * other connection. lk_answer answers all but TCP: also ping, ARP, neighbour solicitations, and UDP to other ports.
  * host_tcp.c has its TCP.
  *     host DEVICE HARDWARE_ADDRESS IPV4_ADDRESS IPV6_ADDRESS

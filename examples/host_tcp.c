@@ -25,7 +25,7 @@ struct connection {
     uint32_t next;                  /* the number that is expected next */
     uint32_t later_from, later_to;  /* what came after a gap; else both are `next` */
     uint32_t fin_seq;               /* of the peer's FIN, if `has_fin` */
-    uint32_t window;                /* what the peer takes, in octets */
+    uint32_t window;                /* what the peer takes, in bytes */
     uint32_t room_told, ts_recent;
     int has_fin, fin_received, fin_sent;
     int segments;                   /* received since the last one that was sent */
@@ -33,11 +33,11 @@ struct connection {
     int64_t deadline, ack_deadline; /* of the timers, in milliseconds; 0: off */
     int64_t challenged;             /* when the last challenge acknowledgement was sent */
     int64_t srtt, rttvar, rto;      /* RFC 6298 */
-    int64_t timed_at;               /* when the octet before `timed_seq` was sent, if `is_timed` */
+    int64_t timed_at;               /* when the byte before `timed_seq` was sent, if `is_timed` */
     uint32_t timed_seq, recover;    /* `recover`: after a loss the `sent_to` of that time; else `sent_from` */
     int is_timed, tries, duplicates;
-    size_t held;                    /* octets of `data`; the first has the number `sent_from` */
-    uint8_t data[BUFFER];           /* behind them what came after a gap, in its place */
+    size_t held;                    /* bytes of `data`; the first has the number `sent_from` */
+    uint8_t data[BUFFER];           /* after them what came after a gap, in its place */
 };
 
 static struct connection connections[CONNECTIONS];
@@ -121,7 +121,7 @@ static void send_ack(struct connection *c)
     send_segment(c, 0, c->sent_to, NULL, 0);
 }
 
-/* Answers a segment that is not acceptable (RFC 5961). One without octets gets an answer twice in a second at most, so
+/* Answers a segment that is not acceptable (RFC 5961). One without bytes gets an answer twice in a second at most, so
  * that two hosts do not answer each other without end. */
 static void challenge(struct connection *c, const struct lk_frame *in)
 {
@@ -132,7 +132,7 @@ static void challenge(struct connection *c, const struct lk_frame *in)
     send_ack(c);
 }
 
-/* The most octets of a segment. */
+/* The most bytes of a segment. */
 static size_t longest_payload(const struct connection *c)
 {
     struct lk_tcp_options options = options_of(c);
@@ -164,7 +164,7 @@ static void count_sent(struct connection *c, size_t len)
     }
 }
 
-/* Sends the first segment again. If the window is closed, this is one octet, as a probe. By Karn's rule a round
+/* Sends the first segment again. If the window is closed, this is one byte, as a probe. By Karn's rule a round
  * trip is not measured over it. */
 static void retransmit(struct connection *c)
 {
@@ -326,7 +326,7 @@ static int acknowledge(struct connection *c, const struct lk_frame *in, const st
     return 1;
 }
 
-/* Counts the octets from `next` up to `to` as received, with those after the gap if it is closed, and FIN. */
+/* Counts the bytes from `next` up to `to` as received, with those after the gap if it is closed, and FIN. */
 static void advance(struct connection *c, uint32_t to)
 {
     if (lk_compare_seq(to, c->later_from) >= 0) {
@@ -341,7 +341,7 @@ static void advance(struct connection *c, uint32_t to)
     }
 }
 
-/* Takes what is new of an acceptable segment, as far as there is room. Octets after a gap are stored if they join
+/* Takes what is new of an acceptable segment, as far as there is room. Bytes after a gap are stored if they join
  * those that were stored there. Returns 1 if all came in order, so that the acknowledgement can wait. */
 static int take(struct connection *c, const struct lk_frame *in, const uint8_t *payload)
 {
@@ -368,7 +368,7 @@ static int take(struct connection *c, const struct lk_frame *in, const uint8_t *
     return gap == 0 && !had_gap && len == in->payload_len && !c->fin_received;
 }
 
-/* Whether the segment has its first octet or a new one in the window (RFC 9293, section 3.4). A closed window takes a
+/* Whether the segment has its first byte or a new one in the window (RFC 9293, section 3.4). A closed window takes a
  * probe. */
 static int is_acceptable(const struct connection *c, const struct lk_frame *in)
 {

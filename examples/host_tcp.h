@@ -21,7 +21,7 @@ int run_timers(void);
 
 /* ---- host.c ---- */
 
-extern size_t mtu; /* of the device, in octets */
+extern size_t mtu; /* of the device, in bytes */
 
 /* Returns the headers of the reply to a frame. */
 struct lk_frame headers_to(const struct lk_frame *in);

@@ -65,7 +65,7 @@ def read_packets(source):
 
 
 def read_pcap(source, order):
-    """The packets of a pcap file, from behind its magic number."""
+    """The packets of a pcap file, of which the magic number was already read."""
     header = read_exactly(source, 20, "the file header")
     major, minor, link = struct.unpack(order + "HH12xI", header)
     if (major, minor) != (2, 4):
@@ -86,7 +86,7 @@ def check_frame_len(length):
 
 
 def read_pcapng(source):
-    """The packets of a pcapng file, from behind the type of its first block."""
+    """The packets of a pcapng file, of which the type of the first block was already read."""
     interfaces = []
     link_types = set()
     for order, kind, body in read_blocks(source):

@@ -1,8 +1,8 @@
-/* The proved host on a TAP device (Linux). lk_answer writes each answer, so this program has no octet of
+/* The proved host on a TAP device (Linux). lk_answer writes each answer, so this program has no byte of
  * a packet: it reads frames, and sends what it gets for them.
  *     proved_host DEVICE HARDWARE_ADDRESS IPV4_ADDRESS IPV6_ADDRESS [TCP_PORT..]
  * Makes the device, unless it exists, and prints "ready". It answers ARP, neighbour solicitations and ping for its
- * addresses, echoes what comes to port 7 by UDP, answers a SYN to one of the TCP ports, and refuses all else that
+ * addresses, echoes what comes to port 7 by UDP, answers a SYN to one of the TCP ports, and rejects all else that
  * comes by UDP and TCP. A signal ends it. It ends with status 1 if the device is deleted. While the device is down, it
  * waits.
  *

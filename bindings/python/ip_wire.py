@@ -52,7 +52,7 @@ class Rejected(ValueError):
 
 
 class Network(IntEnum):
-    """The protocol behind the Ethernet header."""
+    """The protocol after the Ethernet header."""
 
     ARP = 1
     IPV4 = 2
@@ -60,7 +60,7 @@ class Network(IntEnum):
 
 
 class Transport(IntEnum):
-    """The protocol behind the IP header."""
+    """The protocol after the IP header."""
 
     UDP = 1
     TCP = 2
@@ -120,7 +120,7 @@ def parse_addr(text: str) -> Address:
 
 
 def parse_endpoint(text: str) -> Endpoint:
-    """Parses `address:port`, with an IPv6 address in brackets; or an address alone, with port 0."""
+    """Parses `address:port`, with an IPv6 address in brackets; or an address by itself, with port 0."""
     return _endpoint_of(c.parsed(c.Endpoint(), library.lk_parse_endpoint, text))
 
 
@@ -185,7 +185,7 @@ class Ip:
     ecn: int = 0
     ident: int = 0
     flow_label: int = 0  # IPv6
-    fragment_offset: int = 0  # in octets
+    fragment_offset: int = 0  # in bytes
     more_fragments: bool = False
     protocol: int = 0
 
@@ -213,12 +213,12 @@ class Tcp:
 
 @dataclass(frozen=True)
 class Icmp:
-    """The header of an ICMP message, without its checksum. The payload is behind it: the data of an echo, or the packet
+    """The header of an ICMP message, without its checksum. The payload follows it: the data of an echo, or the packet
     that an error quotes."""
 
     type: int
     code: int = 0
-    word: int = 0  # octets 4 to 7
+    word: int = 0  # bytes 4 to 7
 
 
 @dataclass(frozen=True)
@@ -314,7 +314,7 @@ class Frame:
     network_offset: Optional[int]
     transport_offset: Optional[int]
     payload_offset: int
-    payload_len: int  # of the whole frame: the payload may end behind the captured octets
+    payload_len: int  # of the whole frame: the payload may end past the captured bytes
 
     @property
     def payload(self) -> bytes:
@@ -446,7 +446,7 @@ def emit_icmp(headers: Headers, icmp: Icmp, payload: Data = b"") -> bytes:
 
 
 def emit_arp(ethernet: Ethernet, arp: Arp) -> bytes:
-    """Writes a whole frame with an ARP packet, 42 octets."""
+    """Writes a whole frame with an ARP packet, 42 bytes."""
     frame = c.Frame(src=_endpoint((arp.src, 0)), dst=_endpoint((arp.dst, 0)))
     frame.ethernet, frame.arp = c.struct(c.Ethernet, ethernet), c.struct(c.Arp, arp)
     return c.written(42, library.lk_emit_arp_frame, frame)

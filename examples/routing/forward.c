@@ -4,7 +4,7 @@
 #include <stdio.h>
 #include <string.h>
 
-/* The longest IP header and 8 octets, with the Ethernet header before them. Nothing behind them is parsed, so no
+/* The longest IP header and 8 bytes, with the Ethernet header before them. Nothing after them is parsed, so no
  * payload is summed. */
 enum { LONGEST_HEADERS = ETHERNET_LEN + 60 + 8 };
 
@@ -63,14 +63,14 @@ static int may_pass(struct router *router, uint16_t from, const struct lk_frame 
     return 0;
 }
 
-/* The length of an IP packet whose header was parsed, in octets. */
+/* The length of an IP packet whose header was parsed, in bytes. */
 static size_t packet_len(const uint8_t *header)
 {
     return header[0] >> 4 == 4 ? (size_t)header[2] << 8 | header[3] : 40 + ((size_t)header[4] << 8 | header[5]);
 }
 
 /* The length of the longest IP packet that this one becomes on its way: that of its segments, if the device makes
- * them. Behind the headers each has `gso_size` octets. */
+ * them. After the headers each has `gso_size` bytes. */
 static size_t longest_len(const struct packet *packet)
 {
     const struct virtio_net_hdr *offload = &packet->offload;

@@ -13,7 +13,7 @@ enum { ETHERNET_LEN = 14, LONGEST_FRAME = ETHERNET_LEN + 65535, SHORTEST_FRAME =
 /* A frame from a device, with what its sender left to the device. A frame with an `offload.gso_type` becomes many
  * frames on its way. One with VIRTIO_NET_HDR_F_NEEDS_CSUM has no UDP or TCP checksum yet. */
 struct packet {
-    size_t len;    /* of the frame, in octets */
+    size_t len;    /* of the frame, in bytes */
     int is_tagged; /* the kernel has taken a VLAN tag out of it */
     struct virtio_net_hdr offload;
     uint8_t frame[LONGEST_FRAME];
@@ -24,7 +24,7 @@ struct interface {
     int is_tap;          /* else it is a packet socket on an interface of the kernel */
     int device;          /* -1: the device is gone */
     unsigned index;      /* of the kernel's interface */
-    size_t mtu;          /* in octets */
+    size_t mtu;          /* in bytes */
     int clamps;          /* the MTU limits the segments of TCP connections over it */
     struct lk_interface own;  /* its Ethernet address, and the addresses from which ICMP errors come */
     struct error_limit limit; /* for the errors that it sends */

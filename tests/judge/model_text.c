@@ -235,7 +235,7 @@ static void write_ipv4(const uint8_t *octets, char *text)
     sprintf(text, "%d.%d.%d.%d", octets[0], octets[1], octets[2], octets[3]);
 }
 
-/* RFC 5952. Dotted bytes are printed only after ::ffff:0:0/96. */
+/* RFC 5952. Dotted decimal is printed only after ::ffff:0:0/96. */
 static void write_ipv6(const struct lk_addr *addr, char *text)
 {
     int begin, end;

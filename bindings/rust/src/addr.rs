@@ -82,19 +82,19 @@ fn print(f: &mut fmt::Formatter<'_>, call: impl FnOnce(Library, *mut c_char, usi
 /// assert!(ip_wire::parse_addr("fe80::1%eth0").is_err());
 /// ```
 pub fn parse_addr(text: &str) -> Result<IpAddr, ParseError> {
-    // SAFETY: the text has `len` bytes, and `addr` is written alone.
+    // SAFETY: the text has `len` bytes, and only `addr` is written.
     let addr: sys::Addr = parse(text, |c, ptr, len, addr| unsafe { c.lk_parse_addr(ptr, len, addr) })?;
     addr.ip().ok_or(ParseError)
 }
 
-/// Parses an address, ':' and a port, with an IPv6 address in brackets; or an address alone, with port 0.
+/// Parses an address, ':' and a port, with an IPv6 address in brackets; or an address by itself, with port 0.
 ///
 /// ```
 /// assert_eq!(ip_wire::parse_endpoint("[2001:db8::1]:53").unwrap().port(), 53);
 /// assert_eq!(ip_wire::parse_endpoint("192.0.2.1").unwrap().port(), 0);
 /// ```
 pub fn parse_endpoint(text: &str) -> Result<SocketAddr, ParseError> {
-    // SAFETY: the text has `len` bytes, and `endpoint` is written alone.
+    // SAFETY: the text has `len` bytes, and only `endpoint` is written.
     let endpoint: sys::Endpoint =
         parse(text, |c, ptr, len, endpoint| unsafe { c.lk_parse_endpoint(ptr, len, endpoint) })?;
     endpoint.socket_addr().ok_or(ParseError)
@@ -102,7 +102,7 @@ pub fn parse_endpoint(text: &str) -> Result<SocketAddr, ParseError> {
 
 /// Whether the address is neither multicast, nor unspecified (0.0.0.0, ::), nor 255.255.255.255.
 pub fn is_unicast(addr: IpAddr) -> bool {
-    // SAFETY: the address is read alone.
+    // SAFETY: the call reads only the address.
     unsafe { library().lk_is_unicast(&addr.into()) != 0 }
 }
 
@@ -116,7 +116,7 @@ pub fn is_unicast(addr: IpAddr) -> bool {
 pub struct EthernetAddr(pub [u8; 6]);
 
 impl EthernetAddr {
-    /// The address of all stations.
+    /// The address of all hosts.
     pub const BROADCAST: Self = Self([0xff; 6]);
 }
 
@@ -140,7 +140,7 @@ impl FromStr for EthernetAddr {
 
 impl fmt::Display for EthernetAddr {
     fn fmt(&self, f: &mut fmt::Formatter<'_>) -> fmt::Result {
-        // SAFETY: there are the 6 octets that are read, and `cap` bytes at `out`.
+        // SAFETY: there are the 6 bytes that are read, and `cap` bytes at `out`.
         print(f, |c, out, cap| unsafe { c.lk_print_ethernet(self.0.as_ptr(), out, cap) })
     }
 }
@@ -180,7 +180,7 @@ impl Block {
 
     /// Whether the address is in the block. No address is in a block of the other version.
     pub fn contains(&self, addr: IpAddr) -> bool {
-        // SAFETY: both values are read alone.
+        // SAFETY: the call reads only both values.
         unsafe { library().lk_contains(&self.to_c(), &addr.into()) != 0 }
     }
 
@@ -201,7 +201,7 @@ impl FromStr for Block {
     type Err = ParseError;
 
     fn from_str(text: &str) -> Result<Self, ParseError> {
-        // SAFETY: the text has `len` bytes, and `block` is written alone.
+        // SAFETY: the text has `len` bytes, and only `block` is written.
         let block: sys::Block =
             parse(text, |c, ptr, len, block| unsafe { c.lk_parse_block(ptr, len, block) })?;
         let prefix_len = block.prefix_len.try_into().map_err(|_| ParseError)?;
@@ -211,7 +211,7 @@ impl FromStr for Block {
 
 impl fmt::Display for Block {
     fn fmt(&self, f: &mut fmt::Formatter<'_>) -> fmt::Result {
-        // SAFETY: the block is read alone, and there are `cap` bytes at `out`.
+        // SAFETY: the call reads only the block, and there are `cap` bytes at `out`.
         print(f, |c, out, cap| unsafe { c.lk_print_block(&self.to_c(), out, cap) })
     }
 }

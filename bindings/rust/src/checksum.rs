@@ -23,24 +23,24 @@ pub fn sum(bytes: &[u8]) -> u16 {
 
 /// After a 16-bit word changed. For IPv4, TCP and ICMP.
 pub fn update(checksum: u16, before: u16, after: u16) -> u16 {
-    // SAFETY: this call takes numbers alone.
+    // SAFETY: this call takes only numbers.
     unsafe { library().lk_update_checksum(checksum, before, after) }
 }
 
 /// After an address of the pseudo-header or of the IPv4 header changed. For IPv4, TCP and ICMP.
 pub fn update_addr(checksum: u16, before: IpAddr, after: IpAddr) -> u16 {
-    // SAFETY: both addresses are read alone.
+    // SAFETY: the call reads only both addresses.
     unsafe { library().lk_update_checksum_addr(checksum, &before.into(), &after.into()) }
 }
 
 /// After a 16-bit word changed. For UDP.
 pub fn update_udp(checksum: u16, before: u16, after: u16) -> u16 {
-    // SAFETY: this call takes numbers alone.
+    // SAFETY: this call takes only numbers.
     unsafe { library().lk_update_udp_checksum(checksum, before, after) }
 }
 
 /// After an address of the pseudo-header changed. For UDP.
 pub fn update_udp_addr(checksum: u16, before: IpAddr, after: IpAddr) -> u16 {
-    // SAFETY: both addresses are read alone.
+    // SAFETY: the call reads only both addresses.
     unsafe { library().lk_update_udp_checksum_addr(checksum, &before.into(), &after.into()) }
 }

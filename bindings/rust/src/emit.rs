@@ -26,7 +26,7 @@ pub(crate) fn write(
 /// - [`Error::TwoControls`], [`Error::OptionsTooLong`] and [`Error::PayloadTooLong`],
 /// - [`Error::NoRoom`].
 ///
-/// The frame without its first 14 octets is the packet, for example for a TUN device.
+/// The frame without its first 14 bytes is the packet, for example for a TUN device.
 impl Headers {
     /// Writes a whole frame with a UDP packet.
     ///
@@ -44,7 +44,7 @@ impl Headers {
     /// assert_eq!(headers.emit_udp(b"ping", &mut out[..65]), Err(Error::NoRoom));
     /// ```
     pub fn emit_udp<'o>(&self, payload: &[u8], out: &'o mut [u8]) -> Result<&'o mut [u8], Error> {
-        // SAFETY: the headers are read alone, there are `len` bytes at `ptr` and `cap` bytes at `out`.
+        // SAFETY: the call reads only the headers and the `len` bytes at `ptr`, and there are `cap` bytes at `out`.
         write(out, |c, out, cap| unsafe {
             c.lk_emit_udp_frame(&self.fields(), payload.as_ptr(), payload.len(), out, cap)
         })
@@ -59,7 +59,7 @@ impl Headers {
         out: &'o mut [u8],
     ) -> Result<&'o mut [u8], Error> {
         let (fields, options) = (self.tcp_fields(tcp), (*options).into());
-        // SAFETY: the headers and options are read alone, there are `len` bytes at `ptr` and `cap` bytes at `out`.
+        // SAFETY: the call reads only headers, options and `len` bytes at `ptr`, and there are `cap` bytes at `out`.
         write(out, |c, out, cap| unsafe {
             c.lk_emit_tcp_frame(&fields, &options, payload.as_ptr(), payload.len(), out, cap)
         })
@@ -73,7 +73,7 @@ impl Headers {
         out: &'o mut [u8],
     ) -> Result<&'o mut [u8], Error> {
         let fields = sys::Frame { icmp: (*icmp).into(), ..self.fields() };
-        // SAFETY: the headers are read alone, there are `len` bytes at `ptr` and `cap` bytes at `out`.
+        // SAFETY: the call reads only the headers and the `len` bytes at `ptr`, and there are `cap` bytes at `out`.
         write(out, |c, out, cap| unsafe {
             c.lk_emit_icmp_frame(&fields, payload.as_ptr(), payload.len(), out, cap)
         })
@@ -104,7 +104,7 @@ impl Headers {
     /// assert_eq!(headers.wrap_udp(4, &mut wrapped), headers.emit_udp(b"ping", &mut emitted));
     /// ```
     pub fn wrap_udp<'o>(&self, payload_len: usize, out: &'o mut [u8]) -> Result<&'o mut [u8], Error> {
-        // SAFETY: the headers are read alone, and there are `cap` bytes at `out`.
+        // SAFETY: the call reads only the headers, and there are `cap` bytes at `out`.
         write(out, |c, out, cap| unsafe { c.lk_wrap_udp_frame(&self.fields(), payload_len, out, cap) })
     }
 
@@ -117,7 +117,7 @@ impl Headers {
         out: &'o mut [u8],
     ) -> Result<&'o mut [u8], Error> {
         let (fields, options) = (self.tcp_fields(tcp), (*options).into());
-        // SAFETY: the headers and options are read alone, and there are `cap` bytes at `out`.
+        // SAFETY: the call reads only the headers and options, and there are `cap` bytes at `out`.
         write(out, |c, out, cap| unsafe { c.lk_wrap_tcp_frame(&fields, &options, payload_len, out, cap) })
     }
 
@@ -135,7 +135,7 @@ impl Headers {
 }
 
 impl Arp {
-    /// Writes a whole frame of 42 octets, with EtherType ARP. Fails with [`Error::NoRoom`].
+    /// Writes a whole frame of 42 bytes, with EtherType ARP. Fails with [`Error::NoRoom`].
     ///
     /// ```
     /// use ip_wire::{Arp, Ethernet, EthernetAddr, Frame};
@@ -165,7 +165,7 @@ impl Arp {
             dst: endpoint(self.dst),
             ..sys::Frame::default()
         };
-        // SAFETY: the headers are read alone, and there are `cap` bytes at `out`.
+        // SAFETY: the call reads only the headers, and there are `cap` bytes at `out`.
         write(out, |c, out, cap| unsafe { c.lk_emit_arp_frame(&fields, out, cap) })
     }
 }
@@ -173,7 +173,7 @@ impl Arp {
 /// Parses an Ethernet frame, and emits each header again from its values, with new lengths and checksums and
 /// without padding. `ip_wire.h` has the table of what changes. The rebuilt frame is at most as long as the frame.
 ///
-/// Fails with [`Error::NoHeader`] if the frame has less than 14 octets, and with [`Error::NoRoom`].
+/// Fails with [`Error::NoHeader`] if the frame has less than 14 bytes, and with [`Error::NoRoom`].
 pub fn rebuild<'o>(frame: &[u8], out: &'o mut [u8]) -> Result<&'o mut [u8], Error> {
     // SAFETY: there are `len` bytes at `ptr`, and `cap` bytes at `out`.
     write(out, |c, out, cap| unsafe { c.lk_rebuild(frame.as_ptr(), frame.len(), out, cap) })

@@ -85,7 +85,7 @@ numbered! {
 }
 
 numbered! {
-    /// The protocol behind the Ethernet header.
+    /// The protocol after the Ethernet header.
     enum Network {
         Arp: "ARP",
         Ipv4: "IPv4",
@@ -94,7 +94,7 @@ numbered! {
 }
 
 numbered! {
-    /// The protocol behind the IP header.
+    /// The protocol after the IP header.
     enum Transport {
         Udp: "UDP",
         Tcp: "TCP",

@@ -10,9 +10,9 @@ use core::net::{IpAddr, SocketAddr};
 /// Parsing always succeeds: the headers before a rejected one are there, and [`Frame::payload`] begins at
 /// the rejected header. A receiver that trusts the payload calls [`Frame::check`] first.
 ///
-/// - The payload begins behind the last header that was read. It ends at the length in this header or in
+/// - The payload begins after the last header that was read. It ends at the length in this header or in
 ///   one before it, so padding is no payload.
-/// - Behind an unknown EtherType or protocol all bytes are payload, and so are IPv6 extension headers.
+/// - After an unknown EtherType or protocol all bytes are payload, and so are IPv6 extension headers.
 /// - IPv4 options are skipped.
 /// - If an IPv6 fragment header follows the IPv6 header, its values are there. The payload begins at it.
 ///
@@ -33,24 +33,24 @@ pub struct Frame<'a> {
 impl<'a> Frame<'a> {
     /// Parses an Ethernet frame.
     pub fn parse(bytes: &'a [u8]) -> Self {
-        // SAFETY: there are `len` bytes at `ptr`, and `fields` is written alone.
+        // SAFETY: there are `len` bytes at `ptr`, and only `fields` is written.
         Self::read(bytes, false, |c, fields| unsafe { c.lk_read_frame(bytes.as_ptr(), bytes.len(), fields) })
     }
 
     /// Parses a packet that begins with its IPv4 or IPv6 header: of a TUN device, of a capture of raw
-    /// packets, or behind VLAN tags.
+    /// packets, or after VLAN tags.
     pub fn parse_packet(bytes: &'a [u8]) -> Self {
-        // SAFETY: there are `len` bytes at `ptr`, and `fields` is written alone.
+        // SAFETY: there are `len` bytes at `ptr`, and only `fields` is written.
         Self::read(bytes, true, |c, fields| unsafe { c.lk_read_packet(bytes.as_ptr(), bytes.len(), fields) })
     }
 
-    /// Parses a frame of `len` octets of which only the first ones were captured. `captured` is not used
-    /// behind `len`.
+    /// Parses a frame of `len` bytes of which only the first ones were captured. `captured` is not used
+    /// past `len`.
     ///
     /// A header that was not captured as a whole is rejected with [`Reason::HeaderCut`].
     pub fn parse_captured(captured: &'a [u8], len: usize) -> Self {
         let bytes = &captured[..captured.len().min(len)];
-        // SAFETY: there are `bytes.len()` bytes at `ptr`, and `fields` is written alone.
+        // SAFETY: there are `bytes.len()` bytes at `ptr`, and only `fields` is written.
         Self::read(bytes, false, |c, fields| unsafe {
             c.lk_read_captured(bytes.as_ptr(), bytes.len(), len, fields)
         })
@@ -59,7 +59,7 @@ impl<'a> Frame<'a> {
     /// The same for a packet that begins with its IPv4 or IPv6 header.
     pub fn parse_captured_packet(captured: &'a [u8], len: usize) -> Self {
         let bytes = &captured[..captured.len().min(len)];
-        // SAFETY: there are `bytes.len()` bytes at `ptr`, and `fields` is written alone.
+        // SAFETY: there are `bytes.len()` bytes at `ptr`, and only `fields` is written.
         Self::read(bytes, true, |c, fields| unsafe {
             c.lk_read_captured_packet(bytes.as_ptr(), bytes.len(), len, fields)
         })
@@ -229,7 +229,7 @@ impl<'a> Frame<'a> {
     pub fn reply(&self) -> Option<Headers> {
         self.ip()?;
         let mut fields = self.fields;
-        // SAFETY: the copy is written alone.
+        // SAFETY: the call writes only to the copy.
         unsafe { library().lk_reply(&mut fields) };
         Headers::of_fields(&fields)
     }

@@ -51,7 +51,7 @@ pub struct Ip {
     pub ident: u32,
     /// IPv6: 20 bits.
     pub flow_label: u32,
-    /// In octets, a multiple of 8.
+    /// In bytes, a multiple of 8.
     pub fragment_offset: u16,
     /// 6: TCP, 17: UDP. It is filled in when a frame is emitted.
     pub protocol: u8,
@@ -83,7 +83,7 @@ impl Default for Ip {
     }
 }
 
-/// The header of an ICMP message (RFC 792; over IPv6 RFC 4443), without its checksum. The payload begins behind it: it is
+/// The header of an ICMP message (RFC 792; over IPv6 RFC 4443), without its checksum. The payload follows it: it is
 /// the data of an echo, or the beginning of the packet that an error is about.
 #[derive(Clone, Copy, Debug, Default, PartialEq, Eq, Hash)]
 pub struct Icmp {
@@ -91,7 +91,7 @@ pub struct Icmp {
     pub icmp_type: u8,
     /// The code.
     pub code: u8,
-    /// Octets 4 to 7: of an echo the identifier and the sequence number, of errors an MTU or a pointer.
+    /// Bytes 4 to 7: of an echo the identifier and the sequence number, of errors an MTU or a pointer.
     pub word: u32,
 }
 

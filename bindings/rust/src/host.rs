@@ -23,9 +23,9 @@ pub struct Host<'a> {
     pub seq_number: SeqNumber,
     /// What an open port sends as its timestamp.
     pub tsval: u32,
-    /// What an open port sends as its window, in octets; not scaled, because it is sent with SYN.
+    /// What an open port sends as its window, in bytes; not scaled, because it is sent with SYN.
     pub window_len: u16,
-    /// What an open port sends as its segment size, in octets.
+    /// What an open port sends as its segment size, in bytes.
     pub max_seg_size: u16,
     /// What an open port sends as its window scale, in bits; more than 14 is sent as 14.
     pub window_scale: u8,
@@ -57,7 +57,7 @@ impl Host<'_> {
             window_scale: self.window_scale,
             is_router: self.is_router.into(),
         };
-        // SAFETY: the host and its ports are read alone, there are `len` bytes at `ptr` and `cap` bytes at `out`.
+        // SAFETY: the call reads only host, ports and `len` bytes at `ptr`, and there are `cap` bytes at `out`.
         let answer =
             write(out, |c, out, cap| unsafe { c.lk_answer(&host, frame.as_ptr(), frame.len(), out, cap) })?;
         Ok(if answer.is_empty() { None } else { Some(answer) })

@@ -34,7 +34,7 @@ impl Ndisc {
     /// and 7.1.2).
     pub fn parse(frame: &[u8]) -> Option<Self> {
         let mut fields = sys::Ndisc::default();
-        // SAFETY: there are `len` bytes at `ptr`, and `fields` is written alone.
+        // SAFETY: there are `len` bytes at `ptr`, and only `fields` is written.
         let found = unsafe { library().lk_read_ndisc(frame.as_ptr(), frame.len(), &mut fields) };
         match fields.target.ip()? {
             IpAddr::V6(target) if found == 1 => Some(Self {
@@ -49,7 +49,7 @@ impl Ndisc {
         }
     }
 
-    /// Writes a whole frame, of 78 octets or 86. The hop limit is 255. Fails with [`Error::NoRoom`].
+    /// Writes a whole frame, of 78 bytes or 86. The hop limit is 255. Fails with [`Error::NoRoom`].
     ///
     /// ```
     /// use ip_wire::{Ethernet, EthernetAddr, Ndisc};
@@ -84,7 +84,7 @@ impl Ndisc {
             is_solicited: self.is_solicited.into(),
             overrides: self.overrides.into(),
         };
-        // SAFETY: headers and message are read alone, and there are `cap` bytes at `out`.
+        // SAFETY: the call reads only headers and message, and there are `cap` bytes at `out`.
         write(out, |c, out, cap| unsafe { c.lk_emit_ndisc_frame(&headers, &fields, out, cap) })
     }
 }
@@ -148,7 +148,7 @@ impl Interface {
             hardware: self.hardware.0,
         };
         let mtu = if let Problem::PacketTooBig(mtu) = problem { mtu } else { 0 };
-        // SAFETY: the interface is read alone, there are `len` bytes at `ptr` and `cap` bytes at `out`.
+        // SAFETY: the call reads only the interface and the `len` bytes at `ptr`, and there are `cap` bytes at `out`.
         let error = write(out, |c, out, cap| unsafe {
             c.lk_emit_icmp_error(&own, problem.number(), mtu, frame.as_ptr(), frame.len(), out, cap)
         })?;

@@ -21,7 +21,7 @@ pub struct SeqNumber(pub u32);
 impl SeqNumber {
     /// Whether this number is before the other. At a distance of 2^31 each is before the other.
     pub fn is_before(self, other: Self) -> bool {
-        // SAFETY: this call takes numbers alone.
+        // SAFETY: this call takes only numbers.
         unsafe { library().lk_compare_seq(self.0, other.0) < 0 }
     }
 }
@@ -30,7 +30,7 @@ impl Add<u32> for SeqNumber {
     type Output = Self;
 
     fn add(self, steps: u32) -> Self {
-        // SAFETY: this call takes numbers alone.
+        // SAFETY: this call takes only numbers.
         Self(unsafe { library().lk_add_seq(self.0, steps) })
     }
 }
@@ -40,7 +40,7 @@ impl Sub for SeqNumber {
 
     /// How far this number is after the other; below 0 if it is before. At a distance of 2^31 it is -2^31.
     fn sub(self, other: Self) -> i32 {
-        // SAFETY: this call takes numbers alone.
+        // SAFETY: this call takes only numbers.
         unsafe { library().lk_subtract_seq(self.0, other.0) }
     }
 }
@@ -109,11 +109,11 @@ impl fmt::Display for TcpFlags {
 /// A TCP header without its ports, checksum and options.
 #[derive(Clone, Copy, Debug, Default, PartialEq, Eq, Hash)]
 pub struct Tcp {
-    /// The number of the first payload octet, or of SYN.
+    /// The number of the first payload byte, or of SYN.
     pub seq_number: SeqNumber,
     /// The next expected number, if ACK is set.
     pub ack_number: SeqNumber,
-    /// In octets, before scaling.
+    /// In bytes, before scaling.
     pub window_len: u16,
     /// The urgent pointer.
     pub urgent_at: u16,
@@ -151,14 +151,14 @@ impl From<Tcp> for sys::Tcp {
 pub struct SackRange {
     /// The first number that was received.
     pub left: SeqNumber,
-    /// The first number behind them.
+    /// The first number after them.
     pub right: SeqNumber,
 }
 
 /// At most 4 SACK ranges. It is used as a slice.
 #[derive(Clone, Copy, Debug, Default, PartialEq, Eq, Hash)]
 pub struct SackRanges {
-    ranges: [SackRange; 4], // zeros behind `len`
+    ranges: [SackRange; 4], // zeros after `len`
     len: usize,
 }
 
@@ -193,7 +193,7 @@ pub struct Timestamp {
 /// The options of a TCP header. Options of other kinds are in [`RawOptions`].
 #[derive(Clone, Copy, Debug, Default, PartialEq, Eq, Hash)]
 pub struct TcpOptions {
-    /// In octets.
+    /// In bytes.
     pub max_seg_size: Option<u16>,
     /// In bits; at most 14 is read.
     pub window_scale: Option<u8>,
@@ -207,17 +207,17 @@ pub struct TcpOptions {
 
 impl TcpOptions {
     /// Parses the options of a TCP header. `None` if an option before the end mark is malformed, or the header
-    /// is shorter than 20 octets or than it says. Of each kind the last option counts.
+    /// is shorter than 20 bytes or than it says. Of each kind the last option counts.
     pub fn parse(header: &[u8]) -> Option<Self> {
         let mut options = sys::TcpOptions::default();
-        // SAFETY: there are `len` bytes at `ptr`, and `options` is written alone.
+        // SAFETY: there are `len` bytes at `ptr`, and only `options` is written.
         let is_stored = unsafe { library().lk_read_tcp_options(header.as_ptr(), header.len(), &mut options) };
         (is_stored != 0).then(|| options.into())
     }
 
     /// The length of a TCP header with these options, 20 to 60. Fails with [`Error::OptionsTooLong`].
     pub fn header_len(&self) -> Result<usize, Error> {
-        // SAFETY: the options are read alone.
+        // SAFETY: the call reads only the options.
         let len = unsafe { library().lk_tcp_header_len(&(*self).into()) };
         usize::try_from(len).map_err(|_| Error::of_failure(len))
     }
@@ -302,7 +302,7 @@ impl<'a> Iterator for RawOptions<'a> {
 
     fn next(&mut self) -> Option<Self::Item> {
         let mut option = self.last.take()?;
-        // SAFETY: there are `len` bytes at `ptr`, and `option` is written alone.
+        // SAFETY: there are `len` bytes at `ptr`, and only `option` is written.
         match unsafe { library().lk_next_tcp_option(self.header.as_ptr(), self.header.len(), &mut option) } {
             0 => return None,
             1 => self.last = Some(option),

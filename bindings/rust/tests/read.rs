@@ -131,7 +131,7 @@ fn a_captured_frame_is_cut() {
     assert_eq!(Frame::parse_captured(&bytes, usize::MAX).bytes(), &bytes[..]);
 }
 
-/// The address of the first byte of a slice, and the one behind its last byte.
+/// The address of the first byte of a slice, and the one after its last byte.
 fn ends(bytes: &[u8]) -> (*const u8, *const u8) {
     let range = bytes.as_ptr_range();
     (range.start, range.end)

@@ -160,7 +160,7 @@ fn errors_quote_the_packet() {
         assert_eq!((error.payload(), error.src().unwrap().ip()), (&packet[14..], own.ipv4.into()));
         assert_eq!(own.emit_error(problem, packet, &mut out[..10]), Err(Error::NoRoom));
     }
-    // The hop limit is 64, the packet has 32 octets, and the interface has no IPv6 address.
+    // The hop limit is 64, the packet has 32 bytes, and the interface has no IPv6 address.
     assert_eq!(own.emit_error(Problem::HopLimitExpired, packet, &mut out), Ok(None));
     assert_eq!(own.emit_error(Problem::PacketTooBig(32), packet, &mut out), Ok(None));
     let packet = ipv6().emit_udp(b"ping", &mut bytes).unwrap();
