@@ -119,7 +119,7 @@ ptrdiff_t lk_tcp_header_len(const struct lk_tcp_options *options)
     return (ptrdiff_t)tcp_len(options);
 }
 
-/* Adds the total of some octets that begin at an even or an odd place. */
+/* Adds the total of some bytes that begin at an even or an odd place. */
 INLINE uint64_t add_at(uint64_t sum, uint64_t piece, size_t is_odd)
 {
     return around(sum, is_odd & 1 ? piece << 8 | piece >> 56 : piece);
@@ -224,7 +224,7 @@ INLINE void write_link(const struct lk_frame *headers, uint16_t type, uint8_t *o
     store_16(out + 12, swap_16(type));
 }
 
-/* Writes the Ethernet and IP headers of a frame, for a transport of so many octets. */
+/* Writes the Ethernet and IP headers of a frame, for a transport of so many bytes. */
 INLINE void write_front(const struct lk_frame *headers, uint8_t protocol, size_t len, uint8_t *out)
 {
     write_link(headers, headers->src.addr.version == 4 ? TYPE_IPV4 : TYPE_IPV6, out);
@@ -302,7 +302,7 @@ ptrdiff_t lk_emit_arp_frame(const struct lk_frame *headers, uint8_t *out, size_t
     const struct lk_arp *arp = &headers->arp;
     if (!reaches(cap, ETHERNET_LEN + ARP_LEN) || headers->src.addr.version != 4 || headers->dst.addr.version != 4)
         return arp_failure(&headers->src.addr, &headers->dst.addr);
-    /* `src` and `dst` become the Ethernet header, with the first two octets of ARP. */
+    /* `src` and `dst` become the Ethernet header, with the first two bytes of ARP. */
     const __m128i order = _mm_setr_epi8(6, 7, 8, 9, 10, 11, 0, 1, 2, 3, 4, 5, -1, -1, -1, -1);
     const __m128i type = _mm_setr_epi8(0, 0, 0, 0, 0, 0, 0, 0, 0, 0, 0, 0, 8, 6, 0, 1);
     __m128i link = _mm_loadu_si128((const __m128i *)&headers->ethernet);
@@ -332,7 +332,7 @@ int lk_contains(const struct lk_block *block, const struct lk_addr *addr)
     return (high | low >> (128 - prefix_len)) == 0;
 }
 
-/* What writes behind `at` octets returns where it ends, or 0 if that is past `cap`. */
+/* What writes after `at` bytes returns where it ends, or 0 if that is past `cap`. */
 INLINE size_t copy(const uint8_t *ptr, size_t len, uint8_t *out, size_t cap, size_t at)
 {
     if (cap < at + len)

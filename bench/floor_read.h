@@ -11,10 +11,10 @@ enum { OPTION_END, OPTION_NONE, OPTION_SIZE, OPTION_SCALE, OPTION_PERMITTED, OPT
 
 static const uint8_t ethernet_ipv4[8] = {0, 1, 8, 0, 6, 4};
 
-/* Whether a length is at least that many octets; one above LK_MAX_LEN is none. */
+/* Whether a length is at least that many bytes; one above LK_MAX_LEN is none. */
 INLINE int reaches(size_t len, size_t least) { return len - least <= LK_MAX_LEN - least; }
 
-/* An IP packet that was parsed. Its payload is what the headers behind it are parsed from. */
+/* An IP packet that was parsed. Its payload is what the headers after it are parsed from. */
 struct packet {
     const uint8_t *header;
     const uint8_t *payload;
@@ -262,7 +262,7 @@ int lk_read_tcp_options(const uint8_t *ptr, size_t len, struct lk_tcp_options *o
     return 1;
 }
 
-/* The next header is at `payload_offset`, and a payload of so many octets follows it. */
+/* The next header is at `payload_offset`, and a payload of so many bytes follows it. */
 INLINE void follow(struct lk_frame *frame, size_t header_len, size_t payload_len)
 {
     frame->payload_offset += header_len;
@@ -452,7 +452,7 @@ INLINE void clear(struct lk_frame *frame)
     frame->icmp = (struct lk_icmp){0};
 }
 
-/* By one shuffle of 16 bytes. The last two clear the first field behind the header. */
+/* By one shuffle of 16 bytes. The last two clear the first field after the header. */
 INLINE void store_ethernet(const uint8_t *ptr, struct lk_frame *frame)
 {
     _Static_assert(offsetof(struct lk_frame, arp) == offsetof(struct lk_frame, ethernet) + 14, "ARP's operation is cleared");

@@ -223,7 +223,7 @@ static void prepare_cold(const struct row *row)
 }
 
 /* Addresses of four kinds: eight groups of all lengths, zeros in one place and in two, and an IPv4
- * address in the last four octets. */
+ * address in the last four bytes. */
 static struct lk_addr addresses[ADDRESSES];
 
 static void prepare_addresses(const struct row *row)

@@ -58,7 +58,7 @@ pub unsafe extern "C" fn lk_parse_block(text: *const u8, len: usize, stored: *mu
     unsafe { store(text, len, stored, value) }
 }
 
-/// Writes the text of a value to the front of a slice, and a null behind it if there is room.
+/// Writes the text of a value to the front of a slice, and a null after it if there is room.
 unsafe fn print(value: Result<impl fmt::Display>, out: *mut u8, cap: usize) -> isize {
     let slice = unsafe { output(out, cap) };
     let mut front = Front { slice, len: 0 };
