@@ -8,7 +8,7 @@ use ip_wire::{TCP_HEADER_LEN, TcpOption, TcpPacket};
 
 impl TcpOptionPlace {
     /// Steps to the next option of a header, and returns 1. Returns 0 if there is none, and -1 if it is
-    /// malformed or the lengths of the header are wrong; then nothing is stored.
+    /// malformed or the lengths of the header are wrong, and stores nothing then.
     pub fn step(&mut self, header: &[u8]) -> i32
         ensures returned { result ≡ (step header.now self.old).0 }
         ensures stored { self.new ≡ (step header.now self.old).1 }

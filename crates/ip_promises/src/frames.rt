@@ -27,8 +27,8 @@ pub fn rebuild(frame: &[u8], out: &mut [u8]) -> usize
     }
 }
 
-/// A frame settles after two rounds: a third one changes nothing. It keeps its meaning, and no round
-/// makes it longer. Returns the length of the settled frame, which is at the front of `second`.
+/// A frame reaches a fixed point after two rounds: a third one changes nothing. It keeps its meaning, and no round
+/// makes it longer. Returns the length of the last frame, which is at the front of `second`.
 pub fn settles(frame: &[u8], first: &mut [u8], second: &mut [u8]) -> usize
     requires header { 14 ≤ length frame.now }
     requires first_room { length frame.now ≤ length first.old }

@@ -121,7 +121,7 @@ pub extern "C" fn lk_read_tcp_options(header: &[u8], options: &mut TcpOptions) -
 }
 
 /// Steps to the next option of a TCP header, and returns 1. Returns 0 if there is none, and -1 if it is
-/// malformed or the lengths of the header are wrong; then nothing is stored.
+/// malformed or the lengths of the header are wrong, and stores nothing then.
 #[unsafe(no_mangle)]
 pub extern "C" fn lk_next_tcp_option(header: &[u8], option: &mut TcpOptionPlace) -> i32
     ensures returned { result ≡ (step (within header.now) option.old).0 }

@@ -15,7 +15,7 @@ pub struct Located<'a> {
 }
 
 impl<'a> Located<'a> {
-    /// The bytes of the range, to write to. What is left in them stands there afterwards, and the bytes around them stay.
+    /// A mutable borrow of the bytes of the range. The bytes around them stay unchanged.
     pub fn lend(self) -> &'a mut [u8]
         requires order { self.start ≤ self.end }
         requires in_bounds { self.end ≤ length self.bytes.now }
