@@ -2,7 +2,7 @@
 #include <string.h>
 #include "judge.h"
 
-static uint8_t payload[MODEL_ROOM], before[MODEL_ROOM], wanted[MODEL_ROOM];
+static uint8_t payload[MODEL_ROOM], measured[MODEL_ROOM], out[MODEL_ROOM];
 
 /* ---- arguments ---- */
 
@@ -19,18 +19,12 @@ static size_t any_cap(ptrdiff_t len)
     return (size_t)len + (pick < 6 ? 0 : below(40));
 }
 
-/* Begins a result: the same bytes for the model and the library. */
-static uint8_t *begin_out(size_t cap)
+/* Any octets, into which a call writes. */
+static uint8_t *any_out(size_t cap)
 {
     size_t len = used_len(cap);
-    fill(before, len < 400 ? len : 400);
-    memcpy(wanted, before, len);
-    return room(before, len);
-}
-
-static void end_out(const uint8_t *out, size_t cap)
-{
-    same_octets("out", wanted, out, used_len(cap));
+    fill(out, len < 400 ? len : 400);
+    return out;
 }
 
 static size_t any_payload_len(size_t most)
@@ -66,19 +60,9 @@ static struct lk_frame any_headers(void)
 static void emit_icmp_frame(const struct lk_frame *headers)
 {
     size_t len = any_payload_len(headers->src.addr.version == 4 ? 65507 : 65527), cap;
-    const struct lk_frame *placed;
-    const uint8_t *ptr;
-    uint8_t *out;
     fill(payload, placed_len(len));
-    cap = any_cap(model_emit_icmp_frame(headers, payload, len, wanted, sizeof wanted));
-    CALL(lk_emit_icmp_frame);
-    placed = given("headers", headers, sizeof *headers);
-    ptr = given("payload", payload, placed_len(len));
-    given("len", &len, sizeof len);
-    given("cap", &cap, sizeof cap);
-    out = begin_out(cap);
-    end_call(model_emit_icmp_frame(headers, payload, len, wanted, cap), lk_emit_icmp_frame(placed, ptr, len, out, cap));
-    end_out(out, cap);
+    cap = any_cap(model_emit_icmp_frame(headers, payload, len, measured, sizeof measured));
+    both_emit_icmp_frame(headers, payload, len, any_out(cap), cap);
 }
 
 /* Any number but 0 means that a checksum is computed. */
@@ -86,26 +70,10 @@ static void emit_message(const struct lk_frame *headers)
 {
     static const int values[] = {0, 1, -1, 0x100, 0x10000};
     size_t len = any_payload_len(65527), cap;
-    int computed = values[below(5)];
-    const struct lk_addr *src, *dst;
-    const struct lk_icmp *placed;
-    const uint8_t *ptr;
-    uint8_t *out;
     fill(payload, placed_len(len));
     cap = any_cap(placed_len(len) == len ? (ptrdiff_t)len + 8 : 0);
-    CALL(lk_emit_icmp);
-    placed = given("header", &headers->icmp, sizeof headers->icmp);
-    src = given("src", &headers->src.addr, sizeof *src);
-    dst = given("dst", &headers->dst.addr, sizeof *dst);
-    ptr = given("payload", payload, placed_len(len));
-    given("len", &len, sizeof len);
-    given("computed", &computed, sizeof computed);
-    given("cap", &cap, sizeof cap);
-    out = begin_out(cap);
-    end_call(model_emit_icmp(&headers->icmp, &headers->src.addr, &headers->dst.addr, payload, len, computed, wanted,
-                             cap),
-             lk_emit_icmp(placed, src, dst, ptr, len, computed, out, cap));
-    end_out(out, cap);
+    both_emit_icmp(&headers->icmp, &headers->src.addr, &headers->dst.addr, payload, len, values[below(5)],
+                   any_out(cap), cap);
 }
 
 void emit_icmp(void)
@@ -117,47 +85,23 @@ void emit_icmp(void)
 
 /* ---- neighbour discovery ---- */
 
-static void same_ndisc(const struct lk_ndisc *a, const struct lk_ndisc *b)
+static void read_one(size_t len)
 {
-    same_octets("target", a->target.octets, b->target.octets, 16);
-    same_octets("version", &a->target.version, &b->target.version, 2);
-    same_octets("hardware", a->hardware, b->hardware, 6);
-    same_octets("flags", &a->has_hardware, &b->has_hardware, 5);
-}
-
-static void read_one(size_t placed, size_t len)
-{
-    struct lk_ndisc ndisc = any_ndisc(), *came;
-    uint8_t *frame;
-    CALL(lk_read_ndisc);
-    frame = given("frame", made.octets, placed);
-    given("len", &len, sizeof len);
-    came = room(&ndisc, sizeof ndisc);
-    end_call(model_read_ndisc(made.octets, len, &ndisc), lk_read_ndisc(frame, len, came));
-    same_ndisc(&ndisc, came);
+    struct lk_ndisc ndisc = any_ndisc();
+    both_read_ndisc(made.octets, len, &ndisc);
 }
 
 static void emit_ndisc(void)
 {
     struct lk_frame headers = any_headers();
     struct lk_ndisc ndisc = any_ndisc();
-    const struct lk_frame *placed;
-    const struct lk_ndisc *placed_ndisc;
-    uint8_t *out;
     size_t cap;
     if (!one_in(8)) {
         headers.src.addr = any_addr(6);
         headers.dst.addr = any_addr(6);
     }
-    cap = any_cap(model_emit_ndisc_frame(&headers, &ndisc, wanted, sizeof wanted));
-    CALL(lk_emit_ndisc_frame);
-    placed = given("headers", &headers, sizeof headers);
-    placed_ndisc = given("ndisc", &ndisc, sizeof ndisc);
-    given("cap", &cap, sizeof cap);
-    out = begin_out(cap);
-    end_call(model_emit_ndisc_frame(&headers, &ndisc, wanted, cap),
-             lk_emit_ndisc_frame(placed, placed_ndisc, out, cap));
-    end_out(out, cap);
+    cap = any_cap(model_emit_ndisc_frame(&headers, &ndisc, measured, sizeof measured));
+    both_emit_ndisc_frame(&headers, &ndisc, any_out(cap), cap);
 }
 
 /* Frames of neighbour discovery, mostly. */
@@ -168,9 +112,9 @@ void read_ndisc(void)
         if (made.target != 0)
             break;
     }
-    read_one(made.len, made.len);
+    read_one(made.len);
     if (one_in(64))
-        read_one(0, unused_len());
+        read_one(unused_len());
     emit_ndisc();
 }
 
@@ -188,32 +132,19 @@ static struct lk_interface any_interface(void)
     return own;
 }
 
-static void emit_one(size_t placed, size_t len)
+static void emit_one(size_t len)
 {
     struct lk_interface own = any_interface();
     int problem = (int)(one_in(16) ? any() : below(8));
     uint32_t mtu = one_in(4) ? (uint32_t)any() : (uint32_t)(made.len < 14 ? 0 : made.len - 14 - below(4));
-    const struct lk_interface *placed_own;
-    const uint8_t *frame;
-    uint8_t *out;
-    size_t cap = any_cap(model_emit_icmp_error(&own, problem, mtu, made.octets, len, wanted, sizeof wanted));
-    CALL(lk_emit_icmp_error);
-    placed_own = given("own", &own, sizeof own);
-    given("problem", &problem, sizeof problem);
-    given("mtu", &mtu, sizeof mtu);
-    frame = given("frame", made.octets, placed);
-    given("len", &len, sizeof len);
-    given("cap", &cap, sizeof cap);
-    out = begin_out(cap);
-    end_call(model_emit_icmp_error(&own, problem, mtu, made.octets, len, wanted, cap),
-             lk_emit_icmp_error(placed_own, problem, mtu, frame, len, out, cap));
-    end_out(out, cap);
+    size_t cap = any_cap(model_emit_icmp_error(&own, problem, mtu, made.octets, len, measured, sizeof measured));
+    both_emit_icmp_error(&own, problem, mtu, made.octets, len, any_out(cap), cap);
 }
 
 void emit_error(void)
 {
     make_frame();
-    emit_one(made.len, made.len);
+    emit_one(made.len);
     if (one_in(64))
-        emit_one(0, unused_len());
+        emit_one(unused_len());
 }

@@ -6,12 +6,11 @@ enum { PORTS = 140 };
 
 static struct lk_nat nat;
 static struct lk_mapping mappings[LK_MAPPINGS(PORTS)];
-static struct model_table table;
 static size_t mapping_count;
 static uint64_t now;
-static uint8_t wanted[MODEL_ROOM];
+static uint8_t frame[MODEL_ROOM];
 
-/* The first bytes of a packet that was translated, which an error may quote. */
+/* The first octets of a packet that was translated, which an error may quote. */
 struct kept {
     uint8_t octets[200];
     size_t len;
@@ -28,7 +27,7 @@ static void keep_packet(struct kept *kept, const uint8_t *frame, size_t len)
 /* Few outside ports, mostly about a port that inside endpoints have. */
 static void begin_nat(void)
 {
-    memset(&table, 0, sizeof table);
+    forget_mappings();
     memset(mappings, 0, sizeof mappings);
     left.len = entered.len = 0;
     fill(&nat, sizeof nat);
@@ -66,83 +65,37 @@ static void address_packet(void)
         write_end(made.octets, &frame, LK_DESTINATION, &end);
 }
 
-/* The arguments of a call. The mappings and the frame may change. */
-struct placed {
-    const struct lk_nat *nat;
-    struct lk_mapping *mappings;
-    uint8_t *frame;
-};
-
-static struct placed place_arguments(size_t len)
+static void translate_out(size_t len)
 {
-    struct placed it;
-    memcpy(wanted, made.octets, len);
-    it.nat = given("nat", &nat, sizeof nat);
-    given("mappings", mappings, mapping_count * sizeof *mappings);
-    given("now", &now, sizeof now);
-    given("frame", made.octets, len);
-    it.mappings = room(mappings, mapping_count * sizeof *mappings);
-    it.frame = room(made.octets, len);
-    return it;
+    memcpy(frame, made.octets, made.len);
+    if (both_translate_out(&nat, mappings, mapping_count, now, frame, len) == LK_NOT_REJECTED)
+        keep_packet(&left, frame, len);
 }
 
-/* Calls the library with the frame that was made last, of which `placed_len` bytes are there. */
-static int library_out(struct placed *it, size_t placed_len, size_t len)
+static void translate_in(size_t len)
 {
-    CALL(lk_translate_out);
-    *it = place_arguments(placed_len);
-    return lk_translate_out(it->nat, it->mappings, mapping_count, now, it->frame, len);
-}
-
-static int library_in(struct placed *it, size_t placed_len, size_t len)
-{
-    CALL(lk_translate_in);
-    *it = place_arguments(placed_len);
-    return lk_translate_in(it->nat, it->mappings, mapping_count, now, it->frame, len);
-}
-
-static void end_nat(int rejection, int came, const struct placed *it, size_t len)
-{
-    end_call(rejection, came);
-    same_octets("frame", wanted, it->frame, len);
-    if (came != LK_NOT_REJECTED)
-        same_octets("mappings", mappings, it->mappings, mapping_count * sizeof *mappings);
-    else
-        memcpy(mappings, it->mappings, mapping_count * sizeof *mappings);
-}
-
-static void translate_out(size_t placed_len, size_t len)
-{
-    struct placed it;
-    struct lk_frame frame;
-    int came = library_out(&it, placed_len, len);
-    model_read_frame(it.frame, placed_len, &frame);
-    if (frame.transport == LK_ICMP)
-        frame.src.port = (uint16_t)(frame.icmp.word >> 16);
-    end_nat(model_translate_out(&nat, &table, mapping_count, now, wanted, len, came == 0 ? frame.src.port : 0), came,
-            &it, placed_len);
-    if (came == LK_NOT_REJECTED)
-        keep_packet(&left, it.frame, placed_len);
-}
-
-static void translate_in(size_t placed_len, size_t len)
-{
-    struct placed it;
-    int came = library_in(&it, placed_len, len);
-    end_nat(model_translate_in(&nat, &table, mapping_count, now, wanted, len), came, &it, placed_len);
-    if (came == LK_NOT_REJECTED)
-        keep_packet(&entered, it.frame, placed_len);
+    memcpy(frame, made.octets, made.len);
+    if (both_translate_in(&nat, mappings, mapping_count, now, frame, len) == LK_NOT_REJECTED)
+        keep_packet(&entered, frame, len);
 }
 
 /* Any mappings: what comes is open, but nothing outside may be accessed. */
 static void translate_by_anything(void)
 {
-    struct placed it;
+    struct lk_mapping *placed;
     fill(mappings, mapping_count * sizeof *mappings);
     make_packet();
-    end_call(1, library_out(&it, made.len, made.len) >= 0);
+    CALL(lk_translate_out);
+    given("mappings", mappings, mapping_count * sizeof *mappings);
+    placed = room(mappings, mapping_count * sizeof *mappings);
+    given("frame", made.octets, made.len);
+    end_call(1, lk_translate_out(&nat, placed, mapping_count, now, room(made.octets, made.len), made.len) >= 0);
     address_packet();
-    end_call(1, library_in(&it, made.len, made.len) >= 0);
+    CALL(lk_translate_in);
+    given("mappings", mappings, mapping_count * sizeof *mappings);
+    placed = room(mappings, mapping_count * sizeof *mappings);
+    given("frame", made.octets, made.len);
+    end_call(1, lk_translate_in(&nat, placed, mapping_count, now, room(made.octets, made.len), made.len) >= 0);
 }
 
 /* Makes an ICMP error about a packet that was translated: from a host, or to the outside address. Some routers lower the
@@ -184,22 +137,22 @@ void translate_frames(void)
         make_packet();
         if (one_in(4) && left.len != 0) {
             make_error(left, 1);
-            translate_in(made.len, made.len);
+            translate_in(made.len);
         } else if (one_in(4) && entered.len != 0) {
             make_error(entered, 0);
-            translate_out(made.len, made.len);
+            translate_out(made.len);
         } else if (one_in(2)) {
-            translate_out(made.len, made.len);
+            translate_out(made.len);
         } else {
             address_packet();
-            translate_in(made.len, made.len);
+            translate_in(made.len);
         }
         pass_time();
     }
     if (one_in(64))
-        translate_out(0, unused_len());
+        translate_out(unused_len());
     if (one_in(64))
-        translate_in(0, unused_len());
+        translate_in(unused_len());
     if (one_in(32))
         translate_by_anything();
 }

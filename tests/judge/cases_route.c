@@ -2,58 +2,37 @@
 #include <string.h>
 #include "judge.h"
 
-static uint8_t wanted[MODEL_ROOM];
-
-/* Places the frame that was made last, which the call may change. The report shows it as it is before the call. */
-static uint8_t *begin_frame(size_t len)
-{
-    memcpy(wanted, made.octets, len);
-    given("frame", made.octets, len);
-    return room(made.octets, len);
-}
-
 /* ---- a router and NAT ---- */
 
-static void forward_one(size_t placed, size_t len)
+static uint8_t frame[MODEL_ROOM];
+
+/* The frame that was made last, which the call may change. */
+static uint8_t *copy_made(void)
 {
-    uint8_t hardware[2][6], *frame, *src, *dst;
-    any_hardware(hardware[0]);
-    any_hardware(hardware[1]);
-    CALL(lk_forward);
-    frame = begin_frame(placed);
-    given("len", &len, sizeof len);
-    src = given("src", hardware[0], 6);
-    dst = given("dst", hardware[1], 6);
-    end_call(model_forward(wanted, len, hardware[0], hardware[1]), lk_forward(frame, len, src, dst));
-    same_octets("frame", wanted, frame, placed);
+    memcpy(frame, made.octets, made.len);
+    return frame;
 }
 
-static void translate_one(size_t placed, size_t len)
+static void forward_one(size_t len)
+{
+    uint8_t src[6], dst[6];
+    any_hardware(src);
+    any_hardware(dst);
+    both_forward(copy_made(), len, src, dst);
+}
+
+static void translate_one(size_t len)
 {
     static const int sides[] = {LK_SOURCE, LK_SOURCE, LK_DESTINATION, LK_DESTINATION, -1, 256, 0x10000};
     int side = sides[below(7)];
-    struct lk_endpoint end = {any_addr(one_in(32) ? any_version() : 4), (uint16_t)(one_in(8) ? 0 : any_port())}, *to;
-    uint8_t *frame;
-    CALL(lk_translate);
-    frame = begin_frame(placed);
-    given("len", &len, sizeof len);
-    given("side", &side, sizeof side);
-    to = given("end", &end, sizeof end);
-    end_call(model_translate(wanted, len, side, &end), lk_translate(frame, len, side, to));
-    same_octets("frame", wanted, frame, placed);
+    struct lk_endpoint end = {any_addr(one_in(32) ? any_version() : 4), (uint16_t)(one_in(8) ? 0 : any_port())};
+    both_translate(copy_made(), len, side, &end);
 }
 
-static void clamp_one(size_t placed, size_t len)
+static void clamp_one(size_t len)
 {
     static const uint16_t common[] = {0, 536, 1220, 1460, 65535};
-    uint16_t max_seg_size = (uint16_t)(one_in(2) ? any() : common[below(5)]);
-    uint8_t *frame;
-    CALL(lk_clamp_mss);
-    frame = begin_frame(placed);
-    given("len", &len, sizeof len);
-    given("max_seg_size", &max_seg_size, sizeof max_seg_size);
-    end_call(model_clamp_mss(wanted, len, max_seg_size), lk_clamp_mss(frame, len, max_seg_size));
-    same_octets("frame", wanted, frame, placed);
+    both_clamp_mss(copy_made(), len, (uint16_t)(one_in(2) ? any() : common[below(5)]));
 }
 
 /* Mostly over IPv4, because NAT does not translate others. */
@@ -71,15 +50,15 @@ static void make_any_frame(void)
 void forward_frame(void)
 {
     make_any_frame();
-    forward_one(made.len, made.len);
-    translate_one(made.len, made.len);
-    clamp_one(made.len, made.len);
+    forward_one(made.len);
+    translate_one(made.len);
+    clamp_one(made.len);
     if (one_in(64))
-        forward_one(0, unused_len());
+        forward_one(unused_len());
     if (one_in(64))
-        translate_one(0, unused_len());
+        translate_one(unused_len());
     if (one_in(64))
-        clamp_one(0, unused_len());
+        clamp_one(unused_len());
 }
 
 /* ---- routes ---- */
@@ -122,94 +101,53 @@ static void any_routes(size_t count)
     }
 }
 
-static struct lk_route_node *index_routes(size_t count, size_t node_count)
+static void look_up(const struct lk_route_node *nodes, size_t count, const struct lk_addr *addr)
 {
-    static struct lk_route_node before[ROUTES + 2];
-    size_t room_len = used_len(node_count) < ROUTES + 2 ? used_len(node_count) : 0;
-    struct lk_route_node *nodes;
-    struct lk_route *placed;
-    fill(before, sizeof before);
-    CALL(lk_index_routes);
-    placed = given("routes", routes, count * sizeof *routes);
-    given("node_count", &node_count, sizeof node_count);
-    nodes = room(before, room_len * sizeof *nodes);
-    end_call(model_index_routes(routes, count, node_count), lk_index_routes(placed, count, nodes, node_count));
-    return nodes;
-}
-
-/* The arguments of a look-up, which is given the routes too. */
-struct look_up {
-    size_t count;
-    const struct lk_route_node *nodes;
-    struct lk_addr addr;
-    uint16_t interface;
-};
-
-static ptrdiff_t library_choice(const struct look_up *it)
-{
-    const struct lk_route_node *nodes;
-    const struct lk_addr *addr;
-    CALL(lk_choose_route);
-    given("routes", routes, it->count * sizeof *routes);
-    nodes = given("nodes", it->nodes, it->count * sizeof *nodes);
-    addr = given("addr", &it->addr, sizeof *addr);
-    return lk_choose_route(nodes, it->count, addr);
-}
-
-static int library_check(const struct look_up *it)
-{
-    const struct lk_route *placed;
-    const struct lk_route_node *nodes;
-    const struct lk_addr *src;
-    CALL(lk_check_source);
-    placed = given("routes", routes, it->count * sizeof *routes);
-    nodes = given("nodes", it->nodes, it->count * sizeof *nodes);
-    src = given("src", &it->addr, sizeof *src);
-    given("interface", &it->interface, sizeof it->interface);
-    return lk_check_source(placed, it->count, nodes, it->count, src, it->interface);
-}
-
-static void look_up(struct look_up *it)
-{
-    ptrdiff_t route = model_choose_route(routes, it->count, &it->addr);
-    end_call(route, library_choice(it));
-    it->interface = route >= 0 && one_in(2) ? routes[route].interface : (uint16_t)below(4);
-    end_call(model_check_source(routes, it->count, &it->addr, it->interface), library_check(it));
+    ptrdiff_t route = both_choose_route(nodes, count, addr);
+    uint16_t interface = route >= 0 && one_in(2) ? routes[route].interface : (uint16_t)below(4);
+    both_check_source(routes, count, nodes, count, addr, interface);
 }
 
 /* Any nodes: what comes is open, but nothing outside may be accessed. */
 static void look_up_anything(size_t count)
 {
     static struct lk_route_node anything[ROUTES];
-    struct look_up it = {count, anything, any_addr(any_version()), 0};
+    struct lk_addr any_one = any_addr(any_version());
+    const struct lk_route *placed;
+    const struct lk_route_node *nodes;
+    const struct lk_addr *addr;
     fill(anything, count * sizeof *anything);
     for (size_t i = 0; i < count; i++) {
         anything[i].version = one_in(4) ? anything[i].version : one_in(2) ? 4 : 6;
         anything[i].above = one_in(4) ? anything[i].above : (uint32_t)below(count + 2);
         anything[i].route = one_in(4) ? anything[i].route : (uint32_t)below(count + 2);
     }
-    end_call(1, library_choice(&it) >= -1);
-    end_call(1, library_check(&it) >= 0);
+    CALL(lk_choose_route);
+    nodes = given("nodes", anything, count * sizeof *nodes);
+    addr = given("addr", &any_one, sizeof *addr);
+    end_call(1, lk_choose_route(nodes, count, addr) >= -1);
+    CALL(lk_check_source);
+    placed = given("routes", routes, count * sizeof *routes);
+    nodes = given("nodes", anything, count * sizeof *nodes);
+    addr = given("addr", &any_one, sizeof *addr);
+    end_call(1, lk_check_source(placed, count, nodes, count, addr, 0) >= 0);
 }
 
 void choose_route(void)
 {
-    static struct lk_route_node index[ROUTES];
+    static struct lk_route_node nodes[ROUTES + 2];
     size_t count = below(one_in(4) ? ROUTES + 1 : 6), node_count = one_in(8) ? below(ROUTES + 2) : count + below(2);
     any_routes(count);
     if (one_in(64))
         node_count = unused_len();
-    if (model_index_routes(routes, count, node_count) < 0) {
-        index_routes(count, node_count);
+    fill(nodes, sizeof nodes);
+    if (both_index_routes(routes, count, nodes, node_count) < 0)
         return;
-    }
-    if (count > 0)
-        memcpy(index, index_routes(count, node_count), count * sizeof *index);
     for (int i = 0; i < 4; i++) {
-        struct look_up it = {count, index, any_addr(any_version()), 0};
+        struct lk_addr addr = any_addr(any_version());
         if (count > 0)
-            it.addr = any_addr_near(&routes[below(count)].block);
-        look_up(&it);
+            addr = any_addr_near(&routes[below(count)].block);
+        look_up(nodes, count, &addr);
     }
     look_up_anything(count);
 }

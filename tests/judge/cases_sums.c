@@ -4,35 +4,20 @@
 
 /* ---- addresses ---- */
 
-static void is_of_class(const struct lk_addr *addr)
-{
-    const struct lk_addr *placed;
-    CALL(lk_is_multicast);
-    placed = given("addr", addr, sizeof *addr);
-    end_call(model_is_multicast(addr), lk_is_multicast(placed));
-    CALL(lk_is_unicast);
-    placed = given("addr", addr, sizeof *addr);
-    end_call(model_is_unicast(addr), lk_is_unicast(placed));
-}
-
 /* The address is often that of the block, but for one bit. */
 void classify_addr(void)
 {
     struct lk_addr addr = any_addr(any_version());
     struct lk_block block = {addr, (uint16_t)(one_in(16) ? any() : below(one_in(2) ? 34 : 130))};
-    const struct lk_block *placed_block;
-    const struct lk_addr *placed;
     if (one_in(4))
         block.addr = any_addr(any_version());
     if (!one_in(4) && addr_len(&block.addr) != 0) {
         size_t bit = below(8 * addr_len(&block.addr));
         block.addr.octets[bit / 8] ^= (uint8_t)(0x80 >> bit % 8);
     }
-    is_of_class(&addr);
-    CALL(lk_contains);
-    placed_block = given("block", &block, sizeof block);
-    placed = given("addr", &addr, sizeof addr);
-    end_call(model_contains(&block, &addr), lk_contains(placed_block, placed));
+    both_is_multicast(&addr);
+    both_is_unicast(&addr);
+    both_contains(&block, &addr);
 }
 
 /* ---- checksums ---- */
@@ -46,16 +31,8 @@ static uint16_t any_word(void)
 static void update_word(void)
 {
     uint16_t checksum = any_word(), before = any_word(), after = any_word();
-    CALL(lk_update_checksum);
-    given("checksum", &checksum, sizeof checksum);
-    given("before", &before, sizeof before);
-    given("after", &after, sizeof after);
-    end_call(model_update_checksum(checksum, before, after), lk_update_checksum(checksum, before, after));
-    CALL(lk_update_udp_checksum);
-    given("checksum", &checksum, sizeof checksum);
-    given("before", &before, sizeof before);
-    given("after", &after, sizeof after);
-    end_call(model_update_udp_checksum(checksum, before, after), lk_update_udp_checksum(checksum, before, after));
+    both_update_checksum(checksum, before, after);
+    both_update_udp_checksum(checksum, before, after);
 }
 
 static struct lk_addr any_summed_addr(unsigned version)
@@ -73,29 +50,9 @@ static void update_addr(void)
 {
     unsigned version = one_in(2) ? 4 : 6;
     struct lk_addr before = any_summed_addr(version), after = any_summed_addr(one_in(16) ? any_version() : version);
-    const struct lk_addr *placed_before, *placed_after;
     uint16_t checksum = any_word();
-    CALL(lk_update_checksum_addr);
-    given("checksum", &checksum, sizeof checksum);
-    placed_before = given("before", &before, sizeof before);
-    placed_after = given("after", &after, sizeof after);
-    end_call(model_update_checksum_addr(checksum, &before, &after),
-             lk_update_checksum_addr(checksum, placed_before, placed_after));
-    CALL(lk_update_udp_checksum_addr);
-    given("checksum", &checksum, sizeof checksum);
-    placed_before = given("before", &before, sizeof before);
-    placed_after = given("after", &after, sizeof after);
-    end_call(model_update_udp_checksum_addr(checksum, &before, &after),
-             lk_update_udp_checksum_addr(checksum, placed_before, placed_after));
-}
-
-static void sum_one(const uint8_t *octets, size_t placed, size_t len)
-{
-    const uint8_t *ptr;
-    CALL(lk_checksum);
-    ptr = given("octets", octets, placed);
-    given("len", &len, sizeof len);
-    end_call(model_checksum(octets, len), lk_checksum(ptr, len));
+    both_update_checksum_addr(checksum, &before, &after);
+    both_update_udp_checksum_addr(checksum, &before, &after);
 }
 
 void sum_octets(void)
@@ -105,9 +62,9 @@ void sum_octets(void)
     fill(octets, len);
     if (one_in(4))
         memset(octets, one_in(2) ? 0 : 0xff, len);
-    sum_one(octets, len, len);
+    both_checksum(octets, len);
     if (one_in(64))
-        sum_one(octets, 0, unused_len());
+        both_checksum(octets, unused_len());
     update_word();
     update_addr();
 }
@@ -116,42 +73,12 @@ void sum_octets(void)
 
 static void compare_seq(uint32_t a, uint32_t b)
 {
-    CALL(lk_add_seq);
-    given("seq", &a, sizeof a);
-    given("steps", &b, sizeof b);
-    end_call(model_add_seq(a, b), lk_add_seq(a, b));
-    CALL(lk_subtract_seq);
-    given("a", &a, sizeof a);
-    given("b", &b, sizeof b);
-    end_call(model_subtract_seq(a, b), lk_subtract_seq(a, b));
-    CALL(lk_compare_seq);
-    given("a", &a, sizeof a);
-    given("b", &b, sizeof b);
-    end_call(model_compare_seq(a, b), lk_compare_seq(a, b));
+    both_add_seq(a, b);
+    both_subtract_seq(a, b);
+    both_compare_seq(a, b);
 }
 
 /* ---- names ---- */
-
-static void name_failure(ptrdiff_t failure)
-{
-    CALL(lk_failure_name);
-    given("failure", &failure, sizeof failure);
-    same_text("the result", model_failure_name(failure), lk_failure_name(failure));
-}
-
-static void name_reason(int reason)
-{
-    CALL(lk_reason_name);
-    given("reason", &reason, sizeof reason);
-    same_text("the result", model_reason_name(reason), lk_reason_name(reason));
-}
-
-static void name_rejection(int rejection)
-{
-    CALL(lk_rejection_name);
-    given("rejection", &rejection, sizeof rejection);
-    same_text("the result", model_rejection_name(rejection), lk_rejection_name(rejection));
-}
 
 static void tell_version(void)
 {
@@ -184,12 +111,12 @@ void name_number(void)
     static const uint32_t steps[] = {0, 1, 0x7fffffff, 0x80000000, 0x80000001, 0xffffffff};
     uint32_t seq = (uint32_t)any();
     compare_seq(seq, one_in(2) ? (uint32_t)any() : seq + steps[below(6)]);
-    name_failure(LK_FAILURE((ptrdiff_t)below(14) - 1));
-    name_failure(one_in(2) ? (ptrdiff_t)below(100) : (ptrdiff_t)any());
-    name_reason((int)below(12) - 1);
-    name_reason((int)any());
-    name_rejection((int)below(18) - 1);
-    name_rejection((int)any());
+    both_failure_name(LK_FAILURE((ptrdiff_t)below(14) - 1));
+    both_failure_name(one_in(2) ? (ptrdiff_t)below(100) : (ptrdiff_t)any());
+    both_reason_name((int)below(12) - 1);
+    both_reason_name((int)any());
+    both_rejection_name((int)below(18) - 1);
+    both_rejection_name((int)any());
     tell_version();
     append_headers();
 }

@@ -143,57 +143,37 @@ static void make_text(struct text *text, size_t kind)
     change_text(text);
 }
 
-/* A call that parses, and its model. */
-struct parser {
-    struct call call;
-    size_t len; /* of the value */
-    int (*model)(const char *text, size_t len, void *value);
-    int (*library)(const char *text, size_t len, void *value);
-};
-
-#define PARSER(kind)                                                               \
-    static int model_parses_##kind(const char *text, size_t len, void *value)      \
-    {                                                                              \
-        return model_parse_##kind(text, len, value);                               \
-    }                                                                              \
-    static int library_parses_##kind(const char *text, size_t len, void *value)    \
-    {                                                                              \
-        return lk_parse_##kind(text, len, value);                                  \
-    }
-#define PARSES(kind, len) {{"lk_parse_" #kind, 0, 0}, len, model_parses_##kind, library_parses_##kind}
-PARSER(addr)
-PARSER(block)
-PARSER(endpoint)
-PARSER(ethernet)
-
-static void parse_one(struct parser *parser, const struct text *text, size_t len)
+static void parse_one(size_t kind, const struct text *text, size_t len)
 {
-    uint8_t wanted[32], *came;
-    const char *ptr;
-    fill(wanted, sizeof wanted);
-    begin_call(&parser->call);
-    ptr = given("text", text->chars, text->len);
-    came = room(wanted, parser->len);
-    end_call(parser->model(text->chars, len, wanted), parser->library(ptr, len, came));
-    same_octets("the value", wanted, came, parser->len);
+    struct lk_block block;
+    struct lk_endpoint endpoint;
+    uint8_t octets[6];
+    fill(&block, sizeof block);
+    fill(&endpoint, sizeof endpoint);
+    fill(octets, sizeof octets);
+    switch (kind) {
+    case 0:
+        both_parse_addr(text->chars, len, &block.addr);
+        break;
+    case 1:
+        both_parse_block(text->chars, len, &block);
+        break;
+    case 2:
+        both_parse_endpoint(text->chars, len, &endpoint);
+        break;
+    default:
+        both_parse_ethernet(text->chars, len, octets);
+    }
 }
 
 void parse_text(void)
 {
-    static struct parser parsers[] = {
-        PARSES(addr, sizeof(struct lk_addr)),
-        PARSES(block, sizeof(struct lk_block)),
-        PARSES(endpoint, sizeof(struct lk_endpoint)),
-        PARSES(ethernet, 6),
-    };
     size_t kind = below(4);
     struct text text;
     make_text(&text, kind);
-    parse_one(&parsers[kind], &text, text.len);
-    if (one_in(64)) {
-        text.len = 0;
-        parse_one(&parsers[kind], &text, unused_len());
-    }
+    parse_one(kind, &text, text.len);
+    if (one_in(64))
+        parse_one(kind, &text, unused_len());
 }
 
 /* ---- printing ---- */
@@ -210,64 +190,32 @@ static struct lk_addr any_printed_addr(void)
     return addr;
 }
 
-/* A call that prints, and its model. */
-struct printer {
-    struct call call;
-    size_t len;      /* of the value */
-    size_t text_len; /* room for every text and its null */
-    ptrdiff_t (*model)(const void *value, char *out, size_t cap);
-    ptrdiff_t (*library)(const void *value, char *out, size_t cap);
-};
+/* Room for the text: mostly enough, and mostly for the null too. */
+static char out[120];
 
-#define PRINTER(kind)                                                               \
-    static ptrdiff_t model_prints_##kind(const void *value, char *out, size_t cap)  \
-    {                                                                               \
-        return model_print_##kind(value, out, cap);                                 \
-    }                                                                               \
-    static ptrdiff_t library_prints_##kind(const void *value, char *out, size_t cap) \
-    {                                                                               \
-        return lk_print_##kind(value, out, cap);                                    \
-    }
-#define PRINTS(kind, len, text_len) \
-    {{"lk_print_" #kind, 0, 0}, len, text_len, model_prints_##kind, library_prints_##kind}
-PRINTER(addr)
-PRINTER(block)
-PRINTER(endpoint)
-PRINTER(ethernet)
-
-/* The room is mostly enough, and mostly for the null too. */
-static void print_one(struct printer *printer, const void *value)
+static size_t any_cap(ptrdiff_t len)
 {
-    char before[120], wanted[120], *out;
-    ptrdiff_t len = printer->model(value, wanted, sizeof wanted);
     size_t cap = len < 0 ? below(60) : one_in(4) ? below((size_t)len + 1) : (size_t)len + below(4);
-    void *placed;
-    if (one_in(64))
-        cap = unused_len();
-    fill(before, sizeof before);
-    memcpy(wanted, before, sizeof wanted);
-    begin_call(&printer->call);
-    placed = given("the value", value, printer->len);
-    out = room(before, used_len(cap));
-    end_call(printer->model(value, wanted, cap), printer->library(placed, out, cap));
-    same_octets("out", wanted, out, used_len(cap));
-    end_call(1, len < (ptrdiff_t)printer->text_len);
+    fill(out, sizeof out);
+    return one_in(64) ? unused_len() : cap;
 }
+
+/* The longest text and its null fit into `text_len`. */
+#define PRINT(kind, value, text_len)                                          \
+    do {                                                                      \
+        ptrdiff_t len = model_print_##kind(value, out, sizeof out);           \
+        both_print_##kind(value, out, any_cap(len));                          \
+        same_number("fits", 1, len < text_len);                                \
+    } while (0)
 
 void print_text(void)
 {
-    static struct printer printers[] = {
-        PRINTS(addr, sizeof(struct lk_addr), LK_ADDR_TEXT),
-        PRINTS(block, sizeof(struct lk_block), LK_BLOCK_TEXT),
-        PRINTS(endpoint, sizeof(struct lk_endpoint), LK_ENDPOINT_TEXT),
-        PRINTS(ethernet, 6, LK_ETHERNET_TEXT),
-    };
     struct lk_block block = {any_printed_addr(), (uint16_t)(one_in(8) ? any() : below(132))};
     struct lk_endpoint endpoint = {any_printed_addr(), (uint16_t)any_port()};
     uint8_t hardware[6];
     any_hardware(hardware);
-    print_one(&printers[0], &block.addr);
-    print_one(&printers[1], &block);
-    print_one(&printers[2], &endpoint);
-    print_one(&printers[3], hardware);
+    PRINT(addr, &block.addr, LK_ADDR_TEXT);
+    PRINT(block, &block, LK_BLOCK_TEXT);
+    PRINT(endpoint, &endpoint, LK_ENDPOINT_TEXT);
+    PRINT(ethernet, hardware, LK_ETHERNET_TEXT);
 }

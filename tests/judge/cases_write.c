@@ -2,7 +2,7 @@
 #include <string.h>
 #include "judge.h"
 
-static uint8_t payload[MODEL_ROOM], before[MODEL_ROOM], wanted[MODEL_ROOM];
+static uint8_t payload[MODEL_ROOM], measured[MODEL_ROOM], out[MODEL_ROOM];
 
 /* ---- values ---- */
 
@@ -126,18 +126,12 @@ static size_t any_cap(ptrdiff_t len)
     return (size_t)len + (pick < 6 ? 0 : below(40));
 }
 
-/* Begins a result: the same bytes for the model and the library. */
-static uint8_t *begin_out(size_t cap)
+/* Any octets, into which a call writes. */
+static uint8_t *any_out(size_t cap)
 {
     size_t len = used_len(cap);
-    fill(before, len < 400 ? len : 400);
-    memcpy(wanted, before, len);
-    return room(before, len);
-}
-
-static void end_out(const uint8_t *out, size_t cap)
-{
-    same_octets("out", wanted, out, used_len(cap));
+    fill(out, len < 400 ? len : 400);
+    return out;
 }
 
 static size_t placed_len(size_t len)
@@ -162,53 +156,24 @@ static void fill_payload(const struct lk_endpoint *src, const struct lk_endpoint
 static void emit_udp_frame(const struct lk_frame *headers)
 {
     size_t len = any_payload_len(limit_of(headers, 8)), cap;
-    const struct lk_frame *placed;
-    const uint8_t *ptr;
-    uint8_t *out;
     fill_payload(&headers->src, &headers->dst, len);
-    cap = any_cap(model_emit_udp_frame(headers, payload, len, wanted, sizeof wanted));
-    CALL(lk_emit_udp_frame);
-    placed = given("headers", headers, sizeof *headers);
-    ptr = given("payload", payload, placed_len(len));
-    given("len", &len, sizeof len);
-    given("cap", &cap, sizeof cap);
-    out = begin_out(cap);
-    end_call(model_emit_udp_frame(headers, payload, len, wanted, cap), lk_emit_udp_frame(placed, ptr, len, out, cap));
-    end_out(out, cap);
+    cap = any_cap(model_emit_udp_frame(headers, payload, len, measured, sizeof measured));
+    both_emit_udp_frame(headers, payload, len, any_out(cap), cap);
 }
 
 static void emit_tcp_frame(const struct lk_frame *headers)
 {
-    struct lk_tcp_options options = any_written_options(), *placed_options;
+    struct lk_tcp_options options = any_written_options();
     size_t len = any_payload_len(limit_of(headers, 20 + options_len(&options) % 44)), cap;
-    const struct lk_frame *placed;
-    const uint8_t *ptr;
-    uint8_t *out;
     fill(payload, placed_len(len));
-    cap = any_cap(model_emit_tcp_frame(headers, &options, payload, len, wanted, sizeof wanted));
-    CALL(lk_emit_tcp_frame);
-    placed = given("headers", headers, sizeof *headers);
-    placed_options = given("options", &options, sizeof options);
-    ptr = given("payload", payload, placed_len(len));
-    given("len", &len, sizeof len);
-    given("cap", &cap, sizeof cap);
-    out = begin_out(cap);
-    end_call(model_emit_tcp_frame(headers, &options, payload, len, wanted, cap),
-             lk_emit_tcp_frame(placed, placed_options, ptr, len, out, cap));
-    end_out(out, cap);
+    cap = any_cap(model_emit_tcp_frame(headers, &options, payload, len, measured, sizeof measured));
+    both_emit_tcp_frame(headers, &options, payload, len, any_out(cap), cap);
 }
 
 static void emit_arp_frame(const struct lk_frame *headers)
 {
     size_t cap = any_cap(42);
-    const struct lk_frame *placed;
-    uint8_t *out;
-    CALL(lk_emit_arp_frame);
-    placed = given("headers", headers, sizeof *headers);
-    given("cap", &cap, sizeof cap);
-    out = begin_out(cap);
-    end_call(model_emit_arp_frame(headers, wanted, cap), lk_emit_arp_frame(placed, out, cap));
-    end_out(out, cap);
+    both_emit_arp_frame(headers, any_out(cap), cap);
 }
 
 void emit_frame(void)
@@ -221,37 +186,17 @@ void emit_frame(void)
 
 static void wrap_udp_frame(const struct lk_frame *headers)
 {
-    size_t len = any_payload_len(limit_of(headers, 8)), cap;
-    const struct lk_frame *placed;
-    uint8_t *out;
-    cap = any_cap(model_emit_udp_frame(headers, payload, len, wanted, sizeof wanted));
-    CALL(lk_wrap_udp_frame);
-    placed = given("headers", headers, sizeof *headers);
-    given("len", &len, sizeof len);
-    given("cap", &cap, sizeof cap);
-    out = begin_out(cap);
-    given("out before", before, used_len(cap));
-    end_call(model_wrap_udp_frame(headers, len, wanted, cap), lk_wrap_udp_frame(placed, len, out, cap));
-    end_out(out, cap);
+    size_t len = any_payload_len(limit_of(headers, 8));
+    size_t cap = any_cap(model_emit_udp_frame(headers, payload, len, measured, sizeof measured));
+    both_wrap_udp_frame(headers, len, any_out(cap), cap);
 }
 
 static void wrap_tcp_frame(const struct lk_frame *headers)
 {
-    struct lk_tcp_options options = any_written_options(), *placed_options;
-    size_t len = any_payload_len(limit_of(headers, 20 + options_len(&options) % 44)), cap;
-    const struct lk_frame *placed;
-    uint8_t *out;
-    cap = any_cap(model_emit_tcp_frame(headers, &options, payload, len, wanted, sizeof wanted));
-    CALL(lk_wrap_tcp_frame);
-    placed = given("headers", headers, sizeof *headers);
-    placed_options = given("options", &options, sizeof options);
-    given("len", &len, sizeof len);
-    given("cap", &cap, sizeof cap);
-    out = begin_out(cap);
-    given("out before", before, used_len(cap));
-    end_call(model_wrap_tcp_frame(headers, &options, len, wanted, cap),
-             lk_wrap_tcp_frame(placed, placed_options, len, out, cap));
-    end_out(out, cap);
+    struct lk_tcp_options options = any_written_options();
+    size_t len = any_payload_len(limit_of(headers, 20 + options_len(&options) % 44));
+    size_t cap = any_cap(model_emit_tcp_frame(headers, &options, payload, len, measured, sizeof measured));
+    both_wrap_tcp_frame(headers, &options, len, any_out(cap), cap);
 }
 
 void wrap_frame(void)
@@ -266,34 +211,16 @@ void wrap_frame(void)
 static void emit_ethernet(const struct lk_frame *headers)
 {
     size_t cap = any_cap(14);
-    const struct lk_ethernet *placed;
-    uint8_t *out;
-    CALL(lk_emit_ethernet);
-    placed = given("header", &headers->ethernet, sizeof headers->ethernet);
-    given("cap", &cap, sizeof cap);
-    out = begin_out(cap);
-    end_call(model_emit_ethernet(&headers->ethernet, wanted, cap), lk_emit_ethernet(placed, out, cap));
-    end_out(out, cap);
+    both_emit_ethernet(&headers->ethernet, any_out(cap), cap);
 }
 
 static void emit_arp(const struct lk_frame *headers)
 {
     size_t cap = any_cap(28);
-    const struct lk_addr *src, *dst;
-    const struct lk_arp *placed;
-    uint8_t *out;
-    CALL(lk_emit_arp);
-    placed = given("header", &headers->arp, sizeof headers->arp);
-    src = given("src", &headers->src.addr, sizeof *src);
-    dst = given("dst", &headers->dst.addr, sizeof *dst);
-    given("cap", &cap, sizeof cap);
-    out = begin_out(cap);
-    end_call(model_emit_arp(&headers->arp, &headers->src.addr, &headers->dst.addr, wanted, cap),
-             lk_emit_arp(placed, src, dst, out, cap));
-    end_out(out, cap);
+    both_emit_arp(&headers->arp, &headers->src.addr, &headers->dst.addr, any_out(cap), cap);
 }
 
-/* Any number but 0 means that a checksum is computed, also one whose lowest byte is 0. */
+/* Any number but 0 means that a checksum is computed, also one whose lowest octet is 0. */
 static int any_computed(void)
 {
     static const int values[] = {1, 1, -1, 0x100, 0x10000, 2};
@@ -303,78 +230,33 @@ static int any_computed(void)
 static void emit_ip(const struct lk_frame *headers)
 {
     size_t payload_len = any_payload_len(limit_of(headers, 0)), cap = any_cap(headers->src.addr.version == 4 ? 20 : 40);
-    int computed = any_computed();
-    const struct lk_addr *src, *dst;
-    const struct lk_ip *placed;
-    uint8_t *out;
-    CALL(lk_emit_ip);
-    placed = given("header", &headers->ip, sizeof headers->ip);
-    src = given("src", &headers->src.addr, sizeof *src);
-    dst = given("dst", &headers->dst.addr, sizeof *dst);
-    given("payload_len", &payload_len, sizeof payload_len);
-    given("computed", &computed, sizeof computed);
-    given("cap", &cap, sizeof cap);
-    out = begin_out(cap);
-    end_call(model_emit_ip(&headers->ip, &headers->src.addr, &headers->dst.addr, payload_len, computed, wanted, cap),
-             lk_emit_ip(placed, src, dst, payload_len, computed, out, cap));
-    end_out(out, cap);
+    both_emit_ip(&headers->ip, &headers->src.addr, &headers->dst.addr, payload_len, any_computed(), any_out(cap), cap);
 }
 
 static void emit_udp(const struct lk_frame *headers)
 {
     size_t len = any_payload_len(65527), cap;
     int computed = any_computed();
-    const struct lk_endpoint *src, *dst;
-    const uint8_t *ptr;
-    uint8_t *out;
     fill_payload(&headers->src, &headers->dst, len);
-    cap = any_cap(model_emit_udp(&headers->src, &headers->dst, payload, len, computed, wanted, sizeof wanted));
-    CALL(lk_emit_udp);
-    src = given("src", &headers->src, sizeof *src);
-    dst = given("dst", &headers->dst, sizeof *dst);
-    ptr = given("payload", payload, placed_len(len));
-    given("len", &len, sizeof len);
-    given("computed", &computed, sizeof computed);
-    given("cap", &cap, sizeof cap);
-    out = begin_out(cap);
-    end_call(model_emit_udp(&headers->src, &headers->dst, payload, len, computed, wanted, cap),
-             lk_emit_udp(src, dst, ptr, len, computed, out, cap));
-    end_out(out, cap);
+    cap = any_cap(model_emit_udp(&headers->src, &headers->dst, payload, len, computed, measured, sizeof measured));
+    both_emit_udp(&headers->src, &headers->dst, payload, len, computed, any_out(cap), cap);
 }
 
 static void emit_tcp(const struct lk_frame *headers)
 {
-    struct lk_tcp_options options = any_written_options(), *placed_options;
+    struct lk_tcp_options options = any_written_options();
     size_t len = any_payload_len(65515 - options_len(&options) % 44), cap;
     int computed = any_computed();
-    const struct lk_endpoint *src, *dst;
-    const struct lk_tcp *placed;
-    const uint8_t *ptr;
-    uint8_t *out;
     fill(payload, placed_len(len));
-    cap = any_cap(model_emit_tcp(&headers->tcp, &options, &headers->src, &headers->dst, payload, len, computed, wanted,
-                                 sizeof wanted));
-    CALL(lk_emit_tcp);
-    placed = given("header", &headers->tcp, sizeof headers->tcp);
-    placed_options = given("options", &options, sizeof options);
-    src = given("src", &headers->src, sizeof *src);
-    dst = given("dst", &headers->dst, sizeof *dst);
-    ptr = given("payload", payload, placed_len(len));
-    given("len", &len, sizeof len);
-    given("computed", &computed, sizeof computed);
-    given("cap", &cap, sizeof cap);
-    out = begin_out(cap);
-    end_call(model_emit_tcp(&headers->tcp, &options, &headers->src, &headers->dst, payload, len, computed, wanted, cap),
-             lk_emit_tcp(placed, placed_options, src, dst, ptr, len, computed, out, cap));
-    end_out(out, cap);
+    cap = any_cap(model_emit_tcp(&headers->tcp, &options, &headers->src, &headers->dst, payload, len, computed, measured,
+                                 sizeof measured));
+    both_emit_tcp(&headers->tcp, &options, &headers->src, &headers->dst, payload, len, computed, any_out(cap), cap);
 }
 
 static void tcp_header_len(void)
 {
-    struct lk_tcp_options options = any_written_options(), *placed;
-    CALL(lk_tcp_header_len);
-    placed = given("options", &options, sizeof options);
-    end_call(model_tcp_header_len(&options), lk_tcp_header_len(placed));
+    struct lk_tcp_options options = any_written_options();
+    both_tcp_header_len(&options);
 }
 
 void emit_layer(void)
@@ -392,16 +274,10 @@ void emit_layer(void)
 
 void reply_frame(void)
 {
-    struct lk_frame headers = any_headers(), *came;
+    struct lk_frame headers = any_headers();
     if (one_in(2)) {
         make_frame();
         model_read_frame(made.octets, made.len, &headers);
     }
-    CALL(lk_reply);
-    given("frame", &headers, sizeof headers);
-    came = room(&headers, sizeof headers);
-    lk_reply(came);
-    end_call(0, 0);
-    model_reply(&headers);
-    same_frame(&headers, came);
+    both_reply(&headers);
 }

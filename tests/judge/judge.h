@@ -43,10 +43,29 @@ void *room(const void *data, size_t len);
 
 /* Reports the first difference and ends the program. `end_call` also tests that what was given is unchanged. */
 void end_call(ptrdiff_t wanted, ptrdiff_t came);
+void same_number(const char *name, ptrdiff_t wanted, ptrdiff_t came);
 void same_octets(const char *name, const void *wanted, const void *came, size_t len);
 void same_text(const char *name, const char *wanted, const char *came);
 void same_frame(const struct lk_frame *wanted, const struct lk_frame *came);
 void same_options(const struct lk_tcp_options *wanted, const struct lk_tcp_options *came);
+
+/* ---- calls.c: each call of the library beside its model ---- */
+
+#define BOTH(call) extern __typeof__(lk_##call) both_##call
+BOTH(emit_udp_frame); BOTH(emit_tcp_frame); BOTH(emit_icmp_frame); BOTH(emit_arp_frame); BOTH(emit_ndisc_frame);
+BOTH(wrap_udp_frame); BOTH(wrap_tcp_frame); BOTH(emit_ethernet); BOTH(emit_arp); BOTH(emit_ip); BOTH(emit_udp);
+BOTH(emit_tcp); BOTH(emit_icmp); BOTH(emit_icmp_error); BOTH(rebuild); BOTH(answer); BOTH(print_addr);
+BOTH(print_block); BOTH(print_endpoint); BOTH(print_ethernet); BOTH(read_frame); BOTH(read_packet);
+BOTH(read_captured); BOTH(read_captured_packet); BOTH(read_tcp_options); BOTH(next_tcp_option);
+BOTH(read_ndisc); BOTH(parse_addr); BOTH(parse_block); BOTH(parse_endpoint); BOTH(parse_ethernet); BOTH(reply);
+BOTH(tcp_header_len); BOTH(contains); BOTH(is_multicast); BOTH(is_unicast); BOTH(checksum);
+BOTH(update_checksum); BOTH(update_udp_checksum); BOTH(update_checksum_addr); BOTH(update_udp_checksum_addr);
+BOTH(add_seq); BOTH(subtract_seq); BOTH(compare_seq); BOTH(failure_name); BOTH(reason_name);
+BOTH(rejection_name); BOTH(forward); BOTH(translate); BOTH(clamp_mss); BOTH(index_routes); BOTH(choose_route);
+BOTH(check_source); BOTH(translate_out); BOTH(translate_in);
+
+/* The model of NAT has a table of its own: it is empty then. */
+void forget_mappings(void);
 
 /* ---- frames.c: values and frames ---- */
 

@@ -149,7 +149,7 @@ static void end_with_arguments(void)
 {
     for (int i = 0; i < argument_count; i++)
         if (arguments[i].name)
-            print_hex(arguments[i].name, arguments[i].data, arguments[i].len);
+            print_hex(arguments[i].name, arguments[i].placed, arguments[i].len);
         else
             printf("  room of %zu octets\n", arguments[i].len);
     printf("  seed %llu, case %llu\n", (unsigned long long)case_seed, (unsigned long long)case_number);
@@ -196,14 +196,19 @@ void print_counts(void)
 {
     struct call *sorted[100];
     unsigned long sum = 0;
-    size_t count = 0;
+    size_t count = 0, kinds = 0;
     for (struct call *call = calls; call && count < 100; call = call->next) {
         sorted[count++] = call;
         sum += call->count;
     }
     qsort(sorted, count, sizeof *sorted, by_name);
-    printf("judge: %lu calls of %zu kinds:", sum, count);
     for (size_t i = 0; i < count; i++)
+        if (i + 1 < count && strcmp(sorted[i]->name, sorted[i + 1]->name) == 0)
+            sorted[i + 1]->count += sorted[i]->count;
+        else
+            sorted[kinds++] = sorted[i];
+    printf("judge: %lu calls of %zu kinds:", sum, kinds);
+    for (size_t i = 0; i < kinds; i++)
         printf(" %s %lu", sorted[i]->name, sorted[i]->count);
     printf("\n");
 }
@@ -218,7 +223,7 @@ static void print_result(ptrdiff_t result)
         printf("%td", result);
 }
 
-static void same_number(const char *name, ptrdiff_t wanted, ptrdiff_t came)
+void same_number(const char *name, ptrdiff_t wanted, ptrdiff_t came)
 {
     if (wanted == came)
         return;

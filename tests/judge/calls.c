@@ -1,0 +1,379 @@
+/* Each call of the library beside its model. `both_NAME` has the arguments and the results of `lk_NAME`: it gives the
+ * same arguments to both, those of the library between guard pages, and ends the program at a difference. Numbers are
+ * given as octets too, so that a report shows them. */
+#include <string.h>
+#include "judge.h"
+
+#define GIVE(ptr) given(#ptr, ptr, sizeof *(ptr))
+#define NUMBER(number) (given(#number, &number, sizeof number), number)
+
+static size_t placed_len(size_t len)
+{
+    return len <= 65540 ? len : 0;
+}
+
+/* ---- calls that write octets ---- */
+
+static uint8_t before[MODEL_ROOM], wanted[MODEL_ROOM];
+static uint8_t *placed;
+
+/* Begins a result: the same octets for the model and the library. */
+static void *begin_out(const void *out, size_t cap)
+{
+    size_t len = used_len(cap);
+    if (len != 0)
+        memcpy(wanted, out, len);
+    return placed = room(wanted, len);
+}
+
+/* The same for octets that the call reads too: the report shows them as they were. */
+static void *begin_change(const char *name, const void *octets, size_t cap)
+{
+    size_t len = used_len(cap);
+    if (len != 0)
+        memcpy(before, octets, len);
+    given(name, before, len);
+    return begin_out(octets, cap);
+}
+
+static void end_out(const char *name, void *out, size_t cap)
+{
+    size_t len = used_len(cap);
+    same_octets(name, wanted, placed, len);
+    if (len != 0)
+        memcpy(out, wanted, len);
+}
+
+/* The model writes to `wanted`. */
+#define WRITER(call, parameters, model, library)  \
+    ptrdiff_t both_##call parameters              \
+    {                                             \
+        ptrdiff_t came;                           \
+        CALL(lk_##call);                          \
+        came = lk_##call library;                 \
+        end_call(model_##call model, came);       \
+        end_out("out", out, cap);                 \
+        return came;                              \
+    }
+
+#define PAYLOAD given("payload", ptr, placed_len(len)), NUMBER(len)
+#define OUT begin_out(out, cap), NUMBER(cap)
+
+WRITER(emit_udp_frame, (const struct lk_frame *headers, const uint8_t *ptr, size_t len, uint8_t *out, size_t cap),
+       (headers, ptr, len, wanted, cap), (GIVE(headers), PAYLOAD, OUT))
+WRITER(emit_tcp_frame, (const struct lk_frame *headers, const struct lk_tcp_options *options, const uint8_t *ptr,
+                        size_t len, uint8_t *out, size_t cap),
+       (headers, options, ptr, len, wanted, cap), (GIVE(headers), GIVE(options), PAYLOAD, OUT))
+WRITER(emit_icmp_frame, (const struct lk_frame *headers, const uint8_t *ptr, size_t len, uint8_t *out, size_t cap),
+       (headers, ptr, len, wanted, cap), (GIVE(headers), PAYLOAD, OUT))
+WRITER(emit_arp_frame, (const struct lk_frame *headers, uint8_t *out, size_t cap), (headers, wanted, cap),
+       (GIVE(headers), OUT))
+WRITER(emit_ndisc_frame, (const struct lk_frame *headers, const struct lk_ndisc *ndisc, uint8_t *out, size_t cap),
+       (headers, ndisc, wanted, cap), (GIVE(headers), GIVE(ndisc), OUT))
+WRITER(wrap_udp_frame, (const struct lk_frame *headers, size_t len, uint8_t *out, size_t cap),
+       (headers, len, wanted, cap),
+       (GIVE(headers), NUMBER(len), begin_change("out before", out, cap), NUMBER(cap)))
+WRITER(wrap_tcp_frame, (const struct lk_frame *headers, const struct lk_tcp_options *options, size_t len,
+                        uint8_t *out, size_t cap),
+       (headers, options, len, wanted, cap),
+       (GIVE(headers), GIVE(options), NUMBER(len), begin_change("out before", out, cap), NUMBER(cap)))
+WRITER(emit_ethernet, (const struct lk_ethernet *header, uint8_t *out, size_t cap), (header, wanted, cap),
+       (GIVE(header), OUT))
+WRITER(emit_arp, (const struct lk_arp *header, const struct lk_addr *src, const struct lk_addr *dst, uint8_t *out,
+                  size_t cap),
+       (header, src, dst, wanted, cap), (GIVE(header), GIVE(src), GIVE(dst), OUT))
+WRITER(emit_ip, (const struct lk_ip *header, const struct lk_addr *src, const struct lk_addr *dst, size_t payload_len,
+                 int computed, uint8_t *out, size_t cap),
+       (header, src, dst, payload_len, computed, wanted, cap),
+       (GIVE(header), GIVE(src), GIVE(dst), NUMBER(payload_len), NUMBER(computed), OUT))
+WRITER(emit_udp, (const struct lk_endpoint *src, const struct lk_endpoint *dst, const uint8_t *ptr, size_t len,
+                  int computed, uint8_t *out, size_t cap),
+       (src, dst, ptr, len, computed, wanted, cap), (GIVE(src), GIVE(dst), PAYLOAD, NUMBER(computed), OUT))
+WRITER(emit_tcp, (const struct lk_tcp *header, const struct lk_tcp_options *options, const struct lk_endpoint *src,
+                  const struct lk_endpoint *dst, const uint8_t *ptr, size_t len, int computed, uint8_t *out,
+                  size_t cap),
+       (header, options, src, dst, ptr, len, computed, wanted, cap),
+       (GIVE(header), GIVE(options), GIVE(src), GIVE(dst), PAYLOAD, NUMBER(computed), OUT))
+WRITER(emit_icmp, (const struct lk_icmp *header, const struct lk_addr *src, const struct lk_addr *dst,
+                   const uint8_t *ptr, size_t len, int computed, uint8_t *out, size_t cap),
+       (header, src, dst, ptr, len, computed, wanted, cap),
+       (GIVE(header), GIVE(src), GIVE(dst), PAYLOAD, NUMBER(computed), OUT))
+WRITER(emit_icmp_error, (const struct lk_interface *own, int problem, uint32_t mtu, const uint8_t *frame, size_t len,
+                         uint8_t *out, size_t cap),
+       (own, problem, mtu, frame, len, wanted, cap),
+       (GIVE(own), NUMBER(problem), NUMBER(mtu), given("frame", frame, used_len(len)), NUMBER(len), OUT))
+WRITER(rebuild, (const uint8_t *ptr, size_t len, uint8_t *out, size_t cap), (ptr, len, wanted, cap),
+       (given("frame", ptr, used_len(len)), NUMBER(len), OUT))
+
+/* The ports of the host are arguments too. */
+static const struct lk_host *give_host(const struct lk_host *host)
+{
+    static struct lk_host copy;
+    copy = *host;
+    copy.open_ports = given("open ports", host->open_ports, 2 * used_len(host->open_port_count));
+    copy.open_udp_ports = given("open UDP ports", host->open_udp_ports, 2 * used_len(host->open_udp_port_count));
+    return given("host", &copy, sizeof copy);
+}
+
+WRITER(answer, (const struct lk_host *host, const uint8_t *ptr, size_t len, uint8_t *out, size_t cap),
+       (host, ptr, len, wanted, cap), (give_host(host), given("frame", ptr, used_len(len)), NUMBER(len), OUT))
+
+WRITER(print_addr, (const struct lk_addr *addr, char *out, size_t cap), (addr, (char *)wanted, cap), (GIVE(addr), OUT))
+WRITER(print_block, (const struct lk_block *block, char *out, size_t cap), (block, (char *)wanted, cap),
+       (GIVE(block), OUT))
+WRITER(print_endpoint, (const struct lk_endpoint *endpoint, char *out, size_t cap), (endpoint, (char *)wanted, cap),
+       (GIVE(endpoint), OUT))
+WRITER(print_ethernet, (const uint8_t *octets, char *out, size_t cap), (octets, (char *)wanted, cap),
+       (given("octets", octets, 6), OUT))
+
+/* ---- calls that store a value ---- */
+
+#define SAME_VALUE(wanted, came) same_octets("the value", wanted, came, sizeof *(wanted))
+
+/* The model stores in `stored`. */
+#define READER(call, same, type, value, parameters, model, library) \
+    int both_##call parameters                                      \
+    {                                                               \
+        type stored = *(value), *room_of_it;                        \
+        int came;                                                   \
+        CALL(lk_##call);                                            \
+        room_of_it = room(value, sizeof stored);                    \
+        came = lk_##call library;                                   \
+        end_call(model_##call model, came);                         \
+        same(&stored, room_of_it);                                  \
+        *(value) = stored;                                          \
+        return came;                                                \
+    }
+
+#define INPUT given("octets", ptr, used_len(len)), NUMBER(len)
+#define CAPTURED given("captured octets", ptr, used_len(captured)), NUMBER(captured), NUMBER(len)
+#define TEXT given("text", text, used_len(len)), NUMBER(len)
+
+static void same_ndisc(const struct lk_ndisc *a, const struct lk_ndisc *b)
+{
+    same_octets("target", a->target.octets, b->target.octets, 16);
+    same_octets("version", &a->target.version, &b->target.version, 2);
+    same_octets("hardware", a->hardware, b->hardware, 6);
+    same_octets("flags", &a->has_hardware, &b->has_hardware, 5);
+}
+
+READER(read_frame, same_frame, struct lk_frame, frame, (const uint8_t *ptr, size_t len, struct lk_frame *frame),
+       (ptr, len, &stored), (INPUT, room_of_it))
+READER(read_packet, same_frame, struct lk_frame, frame, (const uint8_t *ptr, size_t len, struct lk_frame *frame),
+       (ptr, len, &stored), (INPUT, room_of_it))
+READER(read_captured, same_frame, struct lk_frame, frame,
+       (const uint8_t *ptr, size_t captured, size_t len, struct lk_frame *frame), (ptr, captured, len, &stored),
+       (CAPTURED, room_of_it))
+READER(read_captured_packet, same_frame, struct lk_frame, frame,
+       (const uint8_t *ptr, size_t captured, size_t len, struct lk_frame *frame), (ptr, captured, len, &stored),
+       (CAPTURED, room_of_it))
+READER(read_tcp_options, same_options, struct lk_tcp_options, options,
+       (const uint8_t *ptr, size_t len, struct lk_tcp_options *options), (ptr, len, &stored), (INPUT, room_of_it))
+READER(next_tcp_option, SAME_VALUE, struct lk_tcp_option, option,
+       (const uint8_t *ptr, size_t len, struct lk_tcp_option *option), (ptr, len, &stored),
+       (INPUT, (given("option before", option, sizeof *option), room_of_it)))
+READER(read_ndisc, same_ndisc, struct lk_ndisc, ndisc, (const uint8_t *ptr, size_t len, struct lk_ndisc *ndisc),
+       (ptr, len, &stored), (INPUT, room_of_it))
+READER(parse_addr, SAME_VALUE, struct lk_addr, addr, (const char *text, size_t len, struct lk_addr *addr),
+       (text, len, &stored), (TEXT, room_of_it))
+READER(parse_block, SAME_VALUE, struct lk_block, block, (const char *text, size_t len, struct lk_block *block),
+       (text, len, &stored), (TEXT, room_of_it))
+READER(parse_endpoint, SAME_VALUE, struct lk_endpoint, endpoint,
+       (const char *text, size_t len, struct lk_endpoint *endpoint), (text, len, &stored), (TEXT, room_of_it))
+
+int both_parse_ethernet(const char *text, size_t len, uint8_t *octets)
+{
+    int came;
+    CALL(lk_parse_ethernet);
+    came = lk_parse_ethernet(TEXT, begin_out(octets, 6));
+    end_call(model_parse_ethernet(text, len, wanted), came);
+    end_out("octets", octets, 6);
+    return came;
+}
+
+void both_reply(struct lk_frame *frame)
+{
+    struct lk_frame stored = *frame, *came;
+    CALL(lk_reply);
+    GIVE(frame);
+    came = room(frame, sizeof *frame);
+    lk_reply(came);
+    end_call(0, 0);
+    model_reply(&stored);
+    same_frame(&stored, came);
+    *frame = stored;
+}
+
+/* ---- calls that return a number ---- */
+
+#define NUMBERED(type, call, parameters, model, library) \
+    type both_##call parameters                          \
+    {                                                    \
+        type came;                                       \
+        CALL(lk_##call);                                 \
+        came = lk_##call library;                        \
+        end_call(model_##call model, came);              \
+        return came;                                     \
+    }
+
+NUMBERED(ptrdiff_t, tcp_header_len, (const struct lk_tcp_options *options), (options), (GIVE(options)))
+NUMBERED(int, contains, (const struct lk_block *block, const struct lk_addr *addr), (block, addr),
+         (GIVE(block), GIVE(addr)))
+NUMBERED(int, is_multicast, (const struct lk_addr *addr), (addr), (GIVE(addr)))
+NUMBERED(int, is_unicast, (const struct lk_addr *addr), (addr), (GIVE(addr)))
+NUMBERED(uint16_t, checksum, (const uint8_t *ptr, size_t len), (ptr, len), (INPUT))
+NUMBERED(uint16_t, update_checksum, (uint16_t checksum, uint16_t old, uint16_t new), (checksum, old, new),
+         (NUMBER(checksum), NUMBER(old), NUMBER(new)))
+NUMBERED(uint16_t, update_udp_checksum, (uint16_t checksum, uint16_t old, uint16_t new), (checksum, old, new),
+         (NUMBER(checksum), NUMBER(old), NUMBER(new)))
+NUMBERED(uint16_t, update_checksum_addr, (uint16_t checksum, const struct lk_addr *old, const struct lk_addr *new),
+         (checksum, old, new), (NUMBER(checksum), GIVE(old), GIVE(new)))
+NUMBERED(uint16_t, update_udp_checksum_addr,
+         (uint16_t checksum, const struct lk_addr *old, const struct lk_addr *new), (checksum, old, new),
+         (NUMBER(checksum), GIVE(old), GIVE(new)))
+NUMBERED(uint32_t, add_seq, (uint32_t seq, uint32_t steps), (seq, steps), (NUMBER(seq), NUMBER(steps)))
+NUMBERED(int32_t, subtract_seq, (uint32_t a, uint32_t b), (a, b), (NUMBER(a), NUMBER(b)))
+NUMBERED(int, compare_seq, (uint32_t a, uint32_t b), (a, b), (NUMBER(a), NUMBER(b)))
+
+#define NAMED(call, type)                                       \
+    const char *both_##call(type number)                        \
+    {                                                           \
+        const char *came;                                       \
+        CALL(lk_##call);                                        \
+        came = lk_##call(NUMBER(number));                       \
+        same_text("the result", model_##call(number), came);    \
+        return came;                                            \
+    }
+
+NAMED(failure_name, ptrdiff_t)
+NAMED(reason_name, int)
+NAMED(rejection_name, int)
+
+/* ---- calls that change a frame ---- */
+
+#define CHANGER(call, parameters, model, library) \
+    int both_##call parameters                    \
+    {                                             \
+        int came;                                 \
+        CALL(lk_##call);                          \
+        came = lk_##call library;                 \
+        end_call(model_##call model, came);       \
+        end_out("frame", frame, len);             \
+        return came;                              \
+    }
+
+#define FRAME begin_change("frame", frame, len), NUMBER(len)
+
+CHANGER(forward, (uint8_t *frame, size_t len, const uint8_t *src, const uint8_t *dst), (wanted, len, src, dst),
+        (FRAME, given("src", src, 6), given("dst", dst, 6)))
+CHANGER(translate, (uint8_t *frame, size_t len, int side, const struct lk_endpoint *end), (wanted, len, side, end),
+        (FRAME, NUMBER(side), GIVE(end)))
+CHANGER(clamp_mss, (uint8_t *frame, size_t len, uint16_t max_seg_size), (wanted, len, max_seg_size),
+        (FRAME, NUMBER(max_seg_size)))
+
+/* ---- routes: the model searches those that were indexed last ---- */
+
+static const struct lk_route *indexed;
+
+ptrdiff_t both_index_routes(const struct lk_route *routes, size_t count, struct lk_route_node *nodes, size_t node_count)
+{
+    struct lk_route_node *came;
+    size_t len = used_len(node_count) * sizeof *nodes, routes_len = used_len(count) * sizeof *routes;
+    ptrdiff_t result;
+    indexed = routes;
+    CALL(lk_index_routes);
+    came = room(nodes, len);
+    result = lk_index_routes(given("routes", routes, routes_len), NUMBER(count), came, NUMBER(node_count));
+    end_call(model_index_routes(routes, count, node_count), result);
+    if (result < 0)
+        same_octets("nodes", nodes, came, len);
+    else if (len != 0)
+        memcpy(nodes, came, len);
+    return result;
+}
+
+ptrdiff_t both_choose_route(const struct lk_route_node *nodes, size_t count, const struct lk_addr *addr)
+{
+    size_t used = used_len(count);
+    ptrdiff_t came;
+    CALL(lk_choose_route);
+    given("routes", indexed, used * sizeof *indexed);
+    came = lk_choose_route(given("nodes", nodes, used * sizeof *nodes), NUMBER(count), GIVE(addr));
+    end_call(model_choose_route(indexed, used, addr), came);
+    return came;
+}
+
+int both_check_source(const struct lk_route *routes, size_t route_count, const struct lk_route_node *nodes,
+                      size_t count, const struct lk_addr *src, uint16_t interface)
+{
+    size_t used = used_len(count), routes_len = used_len(route_count) * sizeof *routes;
+    int came;
+    CALL(lk_check_source);
+    came = lk_check_source(given("routes", routes, routes_len), NUMBER(route_count),
+                           given("nodes", nodes, used * sizeof *nodes), NUMBER(count), GIVE(src), NUMBER(interface));
+    end_call(model_check_source(indexed, used, src, interface), came);
+    return came;
+}
+
+/* ---- NAT with a table: the model has its own ---- */
+
+static struct model_table table;
+
+void forget_mappings(void)
+{
+    memset(&table, 0, sizeof table);
+}
+
+/* The arguments of a call. The mappings and the frame may change. */
+#define NAT_ARGUMENTS                                                                                     \
+    GIVE(nat), placed_mappings = begin_mappings(mappings, count), NUMBER(count), NUMBER(now), FRAME
+
+static struct lk_mapping *begin_mappings(const struct lk_mapping *mappings, size_t count)
+{
+    size_t len = used_len(count) * sizeof *mappings;
+    given("mappings", mappings, len);
+    return room(mappings, len);
+}
+
+static void end_mappings(int came, struct lk_mapping *mappings, const struct lk_mapping *changed, size_t count)
+{
+    size_t len = used_len(count) * sizeof *mappings;
+    if (came != LK_NOT_REJECTED)
+        same_octets("mappings", mappings, changed, len);
+    else if (len != 0)
+        memcpy(mappings, changed, len);
+}
+
+/* The outside port that the library took. */
+static unsigned chosen_port(size_t len)
+{
+    struct lk_frame frame;
+    model_read_frame(placed, len, &frame);
+    return frame.transport == LK_ICMP ? frame.icmp.word >> 16 : frame.src.port;
+}
+
+int both_translate_out(const struct lk_nat *nat, struct lk_mapping *mappings, size_t count, uint64_t now,
+                       uint8_t *frame, size_t len)
+{
+    struct lk_mapping *placed_mappings;
+    int came;
+    CALL(lk_translate_out);
+    came = lk_translate_out(NAT_ARGUMENTS);
+    end_call(model_translate_out(nat, &table, count, now, wanted, len, came == 0 ? chosen_port(len) : 0), came);
+    end_out("frame", frame, len);
+    end_mappings(came, mappings, placed_mappings, count);
+    return came;
+}
+
+int both_translate_in(const struct lk_nat *nat, struct lk_mapping *mappings, size_t count, uint64_t now,
+                      uint8_t *frame, size_t len)
+{
+    struct lk_mapping *placed_mappings;
+    int came;
+    CALL(lk_translate_in);
+    came = lk_translate_in(NAT_ARGUMENTS);
+    end_call(model_translate_in(nat, &table, count, now, wanted, len), came);
+    end_out("frame", frame, len);
+    end_mappings(came, mappings, placed_mappings, count);
+    return came;
+}
