@@ -1,4 +1,4 @@
-# Checks of documents that need no more than the shell.
+# Checks of documents, of the C example among them, that need no more than the shell.
 
 # has_text FILE TEXT: the file has this text, which is not empty
 has_text() {
@@ -17,4 +17,13 @@ shows_the_examples() {
 lists_the_cases() {
     diff <(sed -n 's/^| \(`[^|]*`\) |.*/\1/p' docs/CASES.md | grep -oE '`[a-z0-9_]+`' | tr -d '`' | sort) \
         <(printf '%s\n' tests/data/cases/*.hex tests/data/calls/*.call | sed 's/.*\///; s/\..*//' | sort)
+}
+
+# Compiled as C and as C++, the example writes its output with the C library.
+runs_the_example() {
+    local language
+    for language in c c++; do
+        cc -x "$language" -Wall -Wextra -Werror -pedantic -o "$room/example" c/example.c -x none "$library" &&
+            "$room/example" | cmp - c/example.txt || return 1
+    done
 }

@@ -20,10 +20,12 @@ PINS = {
     "cases": "tests/data/cases/{}.hex",
     "calls": "tests/data/calls/{}.call",
     "tests": "tests/{}",
+    "worked": "tests/judge/worked_{}.c",
 } | {pin: "crates/" + crate + "/src/tests/{}.rt" for pin, crate in TESTS.items()}
 FILES = {
     "devices": "crates/ip_frames/src/tests/devices.rt",
     "example.c": "c/example.c",
+    "judge": "tests/judge/run",
 }
 
 
@@ -64,12 +66,10 @@ def is_defined(name, paths):
 
 
 def path_of(pin):
-    """The pattern of the paths of a test, a C program or a file of such theorems; None for another name."""
+    """The pattern of the paths of a test or a file of such theorems; None for another name."""
     kind, _, name = pin.partition("/")
     if name:
         return PINS.get(kind, "{}").format(name)
-    if pin.endswith(".c"):
-        return FILES.get(pin, f"tests/c/{pin}")
     return f"crates/*/proofs/{pin}.antt" if pin.endswith(("Worked", "Once")) else FILES.get(pin)
 
 

@@ -1,5 +1,6 @@
 /* Compares the C library with a model of its header, on generated values and frames:
  *
+ *     judge worked                makes the worked calls; its folder is the top of the repository
  *     judge SECONDS SEED          runs cases for this time
  *     judge case SEED NUMBER      runs one case
  *     judge capture FILE ROWS SEED COUNT
@@ -50,7 +51,10 @@ static void run_cases(double seconds, uint64_t seed)
 int main(int argc, char **argv)
 {
     catch_crashes();
-    if (argc == 3) {
+    if (argc == 2 && strcmp(argv[1], "worked") == 0) {
+        make_worked_calls();
+        print_counts();
+    } else if (argc == 3) {
         alarm((unsigned)atoi(argv[1]) + 60);
         run_cases(atof(argv[1]), strtoull(argv[2], 0, 10));
     } else if (argc == 4 && strcmp(argv[1], "case") == 0) {

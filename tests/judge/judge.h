@@ -123,6 +123,13 @@ void emit_icmp(void);
 void read_ndisc(void);
 void emit_error(void);
 
+/* ---- worked.c ---- */
+
+/* Makes all calls whose results are known from outside. */
+void make_worked_calls(void);
+
+/* ---- capture.c ---- */
+
 /* Writes a capture of valid frames, and what lk_read_frame stores of each as tshark prints it. */
 void write_capture(const char *capture, const char *rows, unsigned long count);
 

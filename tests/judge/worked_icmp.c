@@ -1,0 +1,230 @@
+/* Worked calls of ICMP: messages, neighbour discovery and errors. */
+#include "worked.h"
+
+/* ---- reading ---- */
+
+/* A frame has an echo message with 5 octets of data. */
+static void is_echo(int line, const struct lk_frame *frame, uint8_t type, size_t offset, uint8_t checksum)
+{
+    check(__FILE__, line, 0, frame->transport == LK_ICMP && frame->rejected == LK_NO_TRANSPORT);
+    check(__FILE__, line, 1, frame->reason == LK_READ && frame->transport_checksum == checksum);
+    check(__FILE__, line, 2, frame->icmp.type == type && frame->icmp.code == 0 && frame->icmp.word == 0xb5e30007);
+    check(__FILE__, line, 3, frame->transport_offset == offset && frame->payload_offset == offset + 8);
+    check(__FILE__, line, 4, frame->payload_len == 5 && frame->src.port == 0 && frame->dst.port == 0);
+}
+
+/* No ICMP header: all of it is payload. */
+static void is_payload(int line, const struct lk_frame *frame, size_t offset, size_t len)
+{
+    const struct lk_icmp *icmp = &frame->icmp;
+    check(__FILE__, line, 0, frame->transport == LK_NO_TRANSPORT && frame->rejected == LK_NO_TRANSPORT);
+    check(__FILE__, line, 1, frame->reason == LK_READ && frame->transport_checksum == LK_NO_CHECKSUM);
+    check(__FILE__, line, 2, icmp->word == 0 && icmp->type == 0 && icmp->code == 0 && frame->transport_offset == 0);
+    check(__FILE__, line, 3, frame->payload_offset == offset && frame->payload_len == len);
+}
+
+static struct lk_frame read(const struct octets *frame)
+{
+    struct lk_frame found;
+    memset(&found, OLD, sizeof found);
+    CHECK(both_read_frame(frame->at, frame->len, &found) == LK_READ);
+    return found;
+}
+
+/* The frame with one octet changed. */
+static struct lk_frame read_changed(struct octets frame, size_t at, uint8_t octet)
+{
+    frame = changed(frame, at, octet);
+    return read(&frame);
+}
+
+static void read_messages(void)
+{
+    struct lk_frame frame = read(&echo_request);
+    is_echo(__LINE__, &frame, 8, 34, LK_RIGHT);
+    CHECK(both_read_packet(echo_request.at + 14, echo_request.len - 14, &frame) == LK_READ);
+    is_echo(__LINE__, &frame, 8, 20, LK_RIGHT);
+    frame = read(&echo_reply6);
+    is_echo(__LINE__, &frame, 129, 54, LK_RIGHT);
+    frame = read_changed(echo_request, 46, 0);
+    is_echo(__LINE__, &frame, 8, 34, LK_WRONG);
+    frame = read_changed(echo_request6, 37, 3); /* another source address */
+    is_echo(__LINE__, &frame, 128, 54, LK_WRONG);
+    frame = read_changed(echo_request, 35, 9);
+    CHECK(frame.transport == LK_ICMP && frame.icmp.code == 9 && frame.transport_checksum == LK_WRONG);
+    frame = read(&expired);
+    CHECK(frame.icmp.type == 11 && frame.payload_offset == 42);
+    CHECK(memcmp(expired.at + 42, last_hop.at + 14, frame.payload_len) == 0);
+}
+
+/* Neither the protocol of the other version, nor a fragment, nor fewer than 8 octets. */
+static void read_no_messages(void)
+{
+    struct lk_frame frame = read_changed(echo_request, 23, 58);
+    is_payload(__LINE__, &frame, 34, 13);
+    frame = read_changed(echo_request6, 20, 1);
+    is_payload(__LINE__, &frame, 54, 13);
+    frame = read_changed(echo_request, 21, 1);
+    is_payload(__LINE__, &frame, 34, 13);
+    CHECK(frame.is_fragment == 1);
+    frame = read_changed(echo_request, 17, 27);
+    is_payload(__LINE__, &frame, 34, 7);
+    frame = read_changed(echo_request, 17, 28);
+    CHECK(frame.transport == LK_ICMP && frame.payload_offset == 42 && frame.payload_len == 0);
+    frame = read_changed(echo_request6, 19, 7);
+    is_payload(__LINE__, &frame, 54, 7);
+}
+
+static void read_captured(void)
+{
+    struct lk_frame frame;
+    const uint8_t *ptr = echo_request.at;
+    const size_t len = echo_request.len;
+    memset(&frame, OLD, sizeof frame);
+    CHECK(both_read_captured(ptr, 46, len, &frame) == LK_READ);
+    is_echo(__LINE__, &frame, 8, 34, LK_CHECKSUM_CUT);
+    CHECK(both_read_captured(ptr, 42, len, &frame) == LK_READ);
+    is_echo(__LINE__, &frame, 8, 34, LK_CHECKSUM_CUT);
+    CHECK(both_read_captured(ptr, 47, len, &frame) == LK_READ); /* only padding was cut */
+    is_echo(__LINE__, &frame, 8, 34, LK_RIGHT);
+    CHECK(both_read_captured_packet(echo_request6.at + 14, 50, echo_request6.len - 14, &frame) == LK_READ);
+    is_echo(__LINE__, &frame, 128, 40, LK_CHECKSUM_CUT);
+    CHECK(both_read_captured(ptr, 41, len, &frame) == LK_READ);
+    is_payload(__LINE__, &frame, 34, 13);
+    CHECK(both_read_captured(ptr, 33, len, &frame) == LK_HEADER_CUT && frame.transport == LK_NO_TRANSPORT);
+}
+
+/* ---- writing ---- */
+
+static void write_messages(void)
+{
+    struct lk_frame ipv4 = read(&echo_request), ipv6 = read(&echo_request6);
+    const uint8_t *data = echo_request.at + 42;
+    struct octets frame = echo_request, message = {{0}, 13};
+    frame.len = 47; /* without the padding */
+    memcpy(message.at, frame.at + 34, 13);
+    ipv4.ip.ident = 0x1234;
+    WRITES(frame, both_emit_icmp_frame(&ipv4, data, 5, out, cap));
+    WRITES(echo_request6, both_emit_icmp_frame(&ipv6, data, 5, out, cap));
+    WRITES(message, both_emit_icmp(&ipv4.icmp, &ipv4.src.addr, &ipv4.dst.addr, data, 5, 1, out, cap));
+    message.at[2] = message.at[3] = 0;
+    WRITES(message, both_emit_icmp(&ipv4.icmp, &ipv4.src.addr, &ipv4.dst.addr, data, 5, 0, out, cap));
+    both_reply(&ipv6);
+    CHECK(ipv6.icmp.type == 128 && ipv6.icmp.word == 0xb5e30007 && ipv6.ip.hop_limit == 64);
+    ipv6.icmp.type = 129;
+    WRITES(echo_reply6, both_emit_icmp_frame(&ipv6, data, 5, out, cap));
+}
+
+/* ---- neighbour discovery ---- */
+
+static int read_neighbour(const struct octets *frame, struct lk_ndisc *ndisc)
+{
+    return both_read_ndisc(frame->at, frame->len, ndisc);
+}
+
+static void read_neighbours(void)
+{
+    static const uint8_t host[6] = {2, 0, 0, 0, 0, 1}, own[6] = {2, 0, 0, 0, 0, 2};
+    struct octets other_hop_limit = changed(solicit, 21, 254), wrong_checksum = changed(solicit, 85, 9);
+    struct lk_addr target = addr("2001:db8::2");
+    struct lk_ndisc n;
+    memset(&n, OLD, sizeof n);
+    CHECK(read_neighbour(&solicit, &n) == 1 && memcmp(&n.target, &target, sizeof target) == 0);
+    CHECK(n.has_hardware == 1 && memcmp(n.hardware, host, 6) == 0);
+    CHECK(n.is_advert == 0 && n.is_router == 0 && n.is_solicited == 0 && n.overrides == 0);
+    CHECK(read_neighbour(&advert, &n) == 1 && memcmp(&n.target, &target, sizeof target) == 0);
+    CHECK(n.has_hardware == 1 && memcmp(n.hardware, own, 6) == 0);
+    CHECK(n.is_advert == 1 && n.is_router == 0 && n.is_solicited == 1 && n.overrides == 1);
+    CHECK(read_neighbour(&router_advert, &n) == 1 && n.is_router == 1 && n.is_solicited == 1);
+    CHECK(read_neighbour(&probe, &n) == 1 && n.has_hardware == 0);
+    CHECK(read_neighbour(&advert_to_all, &n) == 1 && n.is_solicited == 0 && n.overrides == 1);
+    CHECK(read_neighbour(&other_hop_limit, &n) == 0 && read_neighbour(&wrong_checksum, &n) == 0);
+    CHECK(read_neighbour(&echo_request6, &n) == 0 && read_neighbour(&echo_request, &n) == 0);
+    CHECK(both_read_ndisc(solicit.at, 85, &n) == 0);
+}
+
+static void write_neighbours(void)
+{
+    struct lk_frame f = read(&solicit), g = read(&advert), h = read(&probe);
+    struct lk_ndisc asked, told, probed;
+    memset(&asked, OLD, sizeof asked);
+    told = probed = asked;
+    read_neighbour(&solicit, &asked);
+    read_neighbour(&advert, &told);
+    read_neighbour(&probe, &probed);
+    f.ip.hop_limit = 0;
+    f.ip.dscp = 255;
+    asked.is_router = 1; /* a solicitation has no flags */
+    WRITES(solicit, both_emit_ndisc_frame(&f, &asked, out, cap));
+    told.overrides = 200;
+    WRITES(advert, both_emit_ndisc_frame(&g, &told, out, cap));
+    WRITES(probe, both_emit_ndisc_frame(&h, &probed, out, cap));
+}
+
+/* ---- errors ---- */
+
+#define ERROR(octets, problem, mtu, frame) \
+    WRITES(octets, both_emit_icmp_error(&own, problem, mtu, frame.at, frame.len, out, cap))
+#define NO_ERROR(problem, mtu, frame) FAILS(0, both_emit_icmp_error(&own, problem, mtu, frame.at, frame.len, out, ROOM))
+
+static struct lk_interface own_interface(void)
+{
+    struct lk_interface own;
+    memset(&own, 0, sizeof own);
+    own.ipv4 = addr("192.0.2.2");
+    own.ipv6 = addr("2001:db8::2");
+    memcpy(own.hardware, "\2\0\0\0\0\2", 6);
+    return own;
+}
+
+static void write_errors(void)
+{
+    struct lk_interface own = own_interface();
+    ERROR(expired, LK_HOP_LIMIT_EXPIRED, 0, last_hop);
+    ERROR(too_big, LK_PACKET_TOO_BIG, 32, last_hop);
+    ERROR(no_route, LK_ROUTE_MISSING, 0, last_hop);
+    ERROR(no_neighbour, LK_NEIGHBOUR_MISSING, 9, last_hop);
+    ERROR(port_closed, LK_PORT_CLOSED, 0, last_hop);
+    ERROR(prohibited, LK_PROHIBITED, 0, last_hop);
+    ERROR(expired6, LK_HOP_LIMIT_EXPIRED, 0, last_hop6);
+    ERROR(too_big6, LK_PACKET_TOO_BIG, 50, last_hop6);
+    ERROR(no_route6, LK_ROUTE_MISSING, 0, last_hop6);
+    ERROR(no_neighbour6, LK_NEIGHBOUR_MISSING, 0, last_hop6);
+    ERROR(port_closed6, LK_PORT_CLOSED, 0, last_hop6);
+    ERROR(prohibited6, LK_PROHIBITED, 0, last_hop6);
+}
+
+static void write_no_errors(void)
+{
+    struct lk_interface own = own_interface();
+    /* RFC 1122, section 3.2.2; RFC 4443, section 2.4 */
+    const struct octets frames[] = {
+        changed(last_hop, 0, 3),     /* to a group of Ethernet */
+        changed(last_hop, 6, 3),     /* from one */
+        changed(last_hop, 24, 3),    /* a wrong checksum of the IPv4 header */
+        changed(last_hop6, 38, 255), /* to a group of IPv6 */
+        changed(last_hop6, 20, 43),  /* an extension header */
+        changed(expired6, 5, 2),     /* an error */
+    };
+    NO_ERROR(LK_NO_PROBLEM, 0, last_hop);
+    NO_ERROR(7, 0, last_hop);
+    NO_ERROR(-1, 0, last_hop);
+    NO_ERROR(257, 0, last_hop);
+    NO_ERROR(LK_HOP_LIMIT_EXPIRED, 0, echo_request);
+    NO_ERROR(LK_PACKET_TOO_BIG, 33, last_hop);
+    NO_ERROR(LK_PACKET_TOO_BIG, 53, last_hop6);
+    for (size_t i = 0; i < sizeof frames / sizeof frames[0]; i++)
+        NO_ERROR(LK_ROUTE_MISSING, 0, frames[i]);
+}
+
+void worked_icmp(void)
+{
+    read_messages();
+    read_no_messages();
+    read_captured();
+    write_messages();
+    read_neighbours();
+    write_neighbours();
+    write_errors();
+    write_no_errors();
+}

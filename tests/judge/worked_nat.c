@@ -1,0 +1,286 @@
+/* Worked calls of NAT, of one packet and with a table. */
+#include "worked.h"
+
+/* What is translated: the inside and the outside endpoint of the frames. */
+static const struct lk_endpoint inside = {{{192, 0, 2, 1}, 4}, 46563}, outside = {{{203, 0, 113, 9}, 4}, 40000};
+
+/* Frames that are not translated, with the first reason of the list. */
+static const struct {
+    const struct octets *frame;
+    size_t len;
+    struct change changes[CHANGES];
+    int rejection;
+} not_translated[] = {
+    {&query, 13, {{0, 0}}, LK_NOT_IP},
+    {&router_solicit, 70, {{0, 0}}, LK_NOT_IP},
+    {&query, 46, {{13, 0x06}}, LK_NOT_IP},
+    {&query, 45, {{0, 0}}, LK_BAD_HEADER},
+    {&query, 46, {{14, 0x65}}, LK_BAD_HEADER},
+    {&fragment_of_options, 50, {{24, 0}}, LK_WRONG_CHECKSUM},
+    {&fragment_of_options, 50, {{0, 0}}, LK_FRAGMENT},
+    {&query, 46, {{23, 0x10}, {25, 0xd5}}, LK_OTHER_PROTOCOL},
+    {&query, 46, {{39, 0x07}}, LK_BAD_TRANSPORT},
+    {&query, 46, {{36, 0}, {37, 0}, {40, 0xe7}, {41, 0x1d}}, LK_BAD_TRANSPORT},
+    {&query, 46, {{45, 0x68}}, LK_BAD_TRANSPORT},
+    {&query, 46, {{40, 0x84}, {41, 0x21}}, LK_BAD_TRANSPORT}, /* checksum offload */
+    {&syn, 74, {{47, 0x03}}, LK_BAD_TRANSPORT},
+    {&syn, 74, {{73, 0x0b}}, LK_BAD_TRANSPORT},
+};
+
+/* ---- NAT of one packet ---- */
+
+/* One side of the frame becomes this endpoint. */
+static int translate(struct octets *frame, int side, const struct lk_endpoint *end)
+{
+    return both_translate(frame->at, frame->len, side, end);
+}
+
+static int is_now(const struct octets *frame, const struct octets *wanted)
+{
+    return frame->len == wanted->len && memcmp(frame->at, wanted->at, frame->len) == 0;
+}
+
+static void translate_one(void)
+{
+    static const int destinations[] = {LK_DESTINATION, 256, -1};
+    struct lk_endpoint other = outside;
+    struct octets frame = query;
+    CHECK(translate(&frame, LK_SOURCE, &outside) == 0 && is_now(&frame, &query_out));
+    CHECK(translate(&frame, LK_SOURCE, &inside) == 0 && is_now(&frame, &query));
+    for (size_t i = 0; i < 3; i++) {
+        frame = response_in;
+        CHECK_ROW(i, translate(&frame, destinations[i], &inside) == 0 && is_now(&frame, &response));
+    }
+    frame = syn;
+    other.port = 40001;
+    CHECK(translate(&frame, LK_SOURCE, &other) == 0 && is_now(&frame, &syn_out));
+}
+
+static void translate_ports_of_0(void)
+{
+    struct lk_endpoint no_port = outside;
+    struct octets frame = query;
+    no_port.port = 0;
+    CHECK(translate(&frame, LK_DESTINATION, &no_port) == LK_ZERO_PORT && is_now(&frame, &query));
+    CHECK(translate(&frame, LK_SOURCE, &no_port) == 0 && frame.at[34] == 0 && frame.at[35] == 0);
+    CHECK(translate(&frame, LK_SOURCE, &inside) == 0 && is_now(&frame, &query));
+    frame = syn;
+    CHECK(translate(&frame, LK_SOURCE, &no_port) == LK_ZERO_PORT && is_now(&frame, &syn));
+    CHECK(translate(&frame, LK_DESTINATION, &no_port) == LK_ZERO_PORT && is_now(&frame, &syn));
+    frame = changed(changed(query, 40, 0), 41, 0); /* no checksum */
+    CHECK(translate(&frame, LK_SOURCE, &outside) == 0 && frame.at[40] == 0 && frame.at[41] == 0);
+}
+
+static void translate_rejects(void)
+{
+    for (size_t i = 0; i < sizeof not_translated / sizeof not_translated[0]; i++) {
+        const struct octets before = cut(not_translated[i].frame, not_translated[i].len, not_translated[i].changes);
+        struct octets frame = before;
+        CHECK_ROW(i, translate(&frame, LK_SOURCE, &outside) == not_translated[i].rejection);
+        CHECK_ROW(i, translate(&frame, LK_DESTINATION, &outside) == not_translated[i].rejection);
+        CHECK_ROW(i, is_now(&frame, &before));
+    }
+}
+
+/* ---- NAT with a table ---- */
+
+/* Two outside ports, 39999 and 40000, which the inside ports of the frames are not. */
+static const struct lk_nat nat = {{1, 2}, 300000, 7440000, 240000, 60000, {203, 0, 113, 9}, 39999, 0};
+enum { MAPPINGS = LK_MAPPINGS(2) };
+
+static struct lk_mapping mappings[MAPPINGS];
+
+static void begin_nat(void)
+{
+    memset(mappings, 0, sizeof mappings);
+    forget_mappings();
+}
+
+/* The frame goes out, or comes in: it becomes `translated`. */
+static int goes_out(uint64_t now, const struct octets *frame, struct octets *translated)
+{
+    *translated = *frame;
+    return both_translate_out(&nat, mappings, MAPPINGS, now, translated->at, translated->len);
+}
+
+static int comes_in(uint64_t now, const struct octets *frame, struct octets *translated)
+{
+    *translated = *frame;
+    return both_translate_in(&nat, mappings, MAPPINGS, now, translated->at, translated->len);
+}
+
+static unsigned source_port(const struct octets *frame)
+{
+    return frame->at[34] * 256u + frame->at[35];
+}
+
+static void translate_udp(void)
+{
+    /* The source port becomes 46564 and 46565. */
+    const struct octets next = changed(changed(query, 35, 0xe4), 41, 0x33);
+    const struct octets third = changed(changed(query, 35, 0xe5), 41, 0x32);
+    struct octets frame;
+    begin_nat();
+    CHECK(comes_in(0, &response_in, &frame) == LK_NO_MAPPING);
+    CHECK(goes_out(0, &next, &frame) == 0 && source_port(&frame) == 39999);
+    CHECK(goes_out(1, &query, &frame) == 0 && is_now(&frame, &query_out));
+    CHECK(mappings[0].expires == 300000 && mappings[1].expires == 300001);
+    CHECK(goes_out(2, &third, &frame) == LK_NO_FREE_PORT);
+    CHECK(comes_in(3, &response_in, &frame) == 0 && is_now(&frame, &response));
+    CHECK(goes_out(299999, &next, &frame) == 0 && source_port(&frame) == 39999);
+    CHECK(comes_in(300000, &response_in, &frame) == 0 && is_now(&frame, &response));
+    CHECK(comes_in(300001, &response_in, &frame) == LK_NO_MAPPING);
+    CHECK(goes_out(300001, &third, &frame) == 0 && source_port(&frame) == 40000);
+}
+
+/* Each of 63 ports is a candidate of every endpoint. So as many endpoints get a port, and no other one. */
+static void translate_to_each_port(void)
+{
+    enum { PORTS = 63 };
+    static struct lk_mapping table[LK_MAPPINGS(PORTS)];
+    forget_mappings();
+    for (size_t i = 0; i <= PORTS; i++) {
+        struct lk_endpoint end = inside;
+        struct octets frame = query;
+        end.port = (uint16_t)(1 + i);
+        CHECK(translate(&frame, LK_SOURCE, &end) == 0);
+        CHECK_ROW(i, both_translate_out(&nat, table, LK_MAPPINGS(PORTS), 0, frame.at, frame.len) ==
+                         (i < PORTS ? LK_NOT_REJECTED : LK_NO_FREE_PORT));
+    }
+}
+
+/* ---- the ends of TCP connections ---- */
+
+static const struct lk_endpoint client = {{{192, 0, 2, 1}, 4}, 40000}, server = {{{198, 51, 100, 7}, 4}, 80};
+static const struct lk_endpoint other_server = {{{198, 51, 100, 7}, 4}, 443};
+
+/* A segment with these flags, and what becomes of it. */
+static int segment(uint64_t now, unsigned flags, const struct lk_endpoint *from, const struct lk_endpoint *to)
+{
+    struct lk_tcp_options options;
+    struct lk_frame headers;
+    struct octets frame = {{0}, 54};
+    memset(&options, 0, sizeof options);
+    memset(&headers, 0, sizeof headers);
+    headers.src = *from;
+    headers.dst = *to;
+    headers.ip.hop_limit = 64;
+    headers.tcp.flags = (uint8_t)flags;
+    CHECK(both_emit_tcp_frame(&headers, &options, 0, 0, frame.at, ROOM) == 54);
+    return from == &client ? goes_out(now, &frame, &frame) : comes_in(now, &frame, &frame);
+}
+
+/* A mapping that was used last at this time, with this time-out, is live before its end. */
+static void lives(int line, uint64_t now, uint64_t timeout)
+{
+    check(__FILE__, line, 0, segment(now + timeout - 1, LK_ACK, &server, &outside) == 0);
+    check(__FILE__, line, 1, segment(now + timeout, LK_ACK, &server, &outside) == LK_NO_MAPPING);
+}
+
+static void translate_tcp(void)
+{
+    begin_nat();
+    CHECK(segment(0, LK_SYN, &client, &server) == 0 && mappings[3].expires == 240000);
+    CHECK(segment(1, LK_SYN | LK_ACK, &server, &outside) == 0);
+    lives(__LINE__, 0, 240000);
+    CHECK(segment(240000, LK_SYN, &client, &server) == 0 && segment(240001, LK_ACK, &client, &server) == 0);
+    lives(__LINE__, 240001, 7440000);
+    begin_nat();
+    CHECK(segment(0, LK_ACK, &client, &server) == 0 && segment(10, LK_FIN | LK_ACK, &server, &outside) == 0);
+    lives(__LINE__, 10, 240000);
+    begin_nat();
+    CHECK(segment(0, LK_ACK, &client, &server) == 0 && segment(10, LK_RST, &client, &server) == 0);
+    CHECK(segment(20, LK_ACK, &client, &server) == 0);
+    lives(__LINE__, 20, 240000);
+    CHECK(segment(300000, LK_SYN, &client, &server) == 0 && segment(300001, LK_ACK, &client, &server) == 0);
+    lives(__LINE__, 300001, 7440000);
+    begin_nat(); /* of two connections one ends */
+    CHECK(segment(0, LK_ACK, &client, &server) == 0 && segment(1, LK_ACK, &client, &other_server) == 0);
+    CHECK(segment(10, LK_FIN, &client, &server) == 0 && segment(11, LK_RST, &other_server, &outside) == 0);
+    lives(__LINE__, 10, 7440000);
+}
+
+static void translate_by_table_rejects(void)
+{
+    const struct octets no_source = changed(changed(changed(changed(query, 34, 0), 35, 0), 40, 0), 41, 0);
+    struct octets frame;
+    begin_nat();
+    for (size_t i = 0; i < sizeof not_translated / sizeof not_translated[0]; i++) {
+        const struct octets before = cut(not_translated[i].frame, not_translated[i].len, not_translated[i].changes);
+        CHECK_ROW(i, goes_out(0, &before, &frame) == not_translated[i].rejection && is_now(&frame, &before));
+        CHECK_ROW(i, comes_in(0, &before, &frame) == not_translated[i].rejection && is_now(&frame, &before));
+    }
+    CHECK(goes_out(0, &no_source, &frame) == LK_ZERO_PORT);
+    CHECK(comes_in(0, &query, &frame) == LK_NO_MAPPING); /* for another address */
+}
+
+/* ---- ICMP ---- */
+
+static void becomes(int line, int came, const struct octets *frame, const struct octets *wanted)
+{
+    check(__FILE__, line, 0, came == 0 && is_now(frame, wanted));
+}
+
+#define GOES_OUT(now, frame, wanted) becomes(__LINE__, goes_out(now, &frame, &translated), &translated, &wanted)
+#define COMES_IN(now, frame, wanted) becomes(__LINE__, comes_in(now, &frame, &translated), &translated, &wanted)
+#define STAYS_OUT(now, frame, rejection) \
+    (CHECK(comes_in(now, &frame, &translated) == (rejection)), CHECK(is_now(&translated, &frame)))
+
+static void translate_echoes(void)
+{
+    static const struct lk_mapping no_mappings[MAPPINGS - 2];
+    struct octets translated;
+    begin_nat();
+    STAYS_OUT(0, nat_reply_in, LK_NO_MAPPING);
+    STAYS_OUT(0, nat_error_in, LK_NO_MAPPING);
+    GOES_OUT(0, nat_request, nat_request_out);
+    COMES_IN(1, nat_reply_in, nat_reply);
+    COMES_IN(2, nat_error_in, nat_error);
+    COMES_IN(3, nat_error_unsummed_in, nat_error_unsummed);
+    COMES_IN(59999, nat_reply_in, nat_reply);
+    STAYS_OUT(60000, nat_reply_in, LK_NO_MAPPING);
+    STAYS_OUT(60000, nat_error_in, LK_NO_MAPPING);
+    STAYS_OUT(60000, nat_request, LK_NO_MAPPING);
+    CHECK(memcmp(mappings, no_mappings, sizeof no_mappings) == 0); /* no mapping of UDP or TCP */
+}
+
+static void translate_errors_out(void)
+{
+    const struct octets wrong = changed(nat_error_in, 37, nat_error_in.at[37] ^ 1);
+    const struct octets redirect = changed(changed(nat_error_in, 34, 5), 36, (uint8_t)(nat_error_in.at[36] + 6));
+    struct octets translated;
+    begin_nat();
+    CHECK(goes_out(0, &nat_error_of_inside, &translated) == LK_NO_MAPPING);
+    CHECK(is_now(&translated, &nat_error_of_inside));
+    CHECK(goes_out(0, &nat_udp, &translated) == 0 && source_port(&translated) == 39999);
+    GOES_OUT(1, nat_error_of_inside, nat_error_out);
+    STAYS_OUT(2, expired, LK_NO_MAPPING);
+    STAYS_OUT(2, wrong, LK_BAD_TRANSPORT);
+    STAYS_OUT(2, redirect, LK_OTHER_PROTOCOL);
+}
+
+static void translate_one_echo(void)
+{
+    struct lk_endpoint end = outside;
+    struct octets frame = nat_request;
+    end.port = 39999;
+    CHECK(translate(&frame, LK_SOURCE, &end) == 0 && is_now(&frame, &nat_request_out));
+    end.port = 0;
+    CHECK(translate(&frame, LK_SOURCE, &end) == 0 && frame.at[38] == 0 && frame.at[39] == 0);
+    frame = nat_error_in;
+    CHECK(translate(&frame, LK_DESTINATION, &outside) == LK_OTHER_PROTOCOL && is_now(&frame, &nat_error_in));
+}
+
+void worked_nat(void)
+{
+    translate_one();
+    translate_ports_of_0();
+    translate_rejects();
+    translate_udp();
+    translate_to_each_port();
+    translate_tcp();
+    translate_by_table_rejects();
+    translate_echoes();
+    translate_errors_out();
+    translate_one_echo();
+}

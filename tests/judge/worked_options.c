@@ -1,0 +1,112 @@
+/* Worked calls that read the options of a TCP header: their values, and one by one. */
+#include <stdio.h>
+#include "worked.h"
+
+static struct lk_tcp_options ranges(uint8_t count)
+{
+    struct lk_tcp_options options;
+    memset(&options, 0, sizeof options);
+    options.sack_range_count = count;
+    for (uint32_t i = 0; i < count; i++) {
+        options.sack_ranges[i].left = 0x10203040 + i;
+        options.sack_ranges[i].right = 0x50607080 + i;
+    }
+    return options;
+}
+
+static struct lk_tcp_options size_and_scale(uint16_t max_seg_size, uint8_t window_scale)
+{
+    struct lk_tcp_options options = ranges(0);
+    options.max_seg_size = max_seg_size;
+    options.has_max_seg_size = max_seg_size != 0;
+    options.window_scale = window_scale;
+    options.has_window_scale = 1;
+    return options;
+}
+
+static struct lk_tcp_options each_option(void)
+{
+    struct lk_tcp_options options = size_and_scale(0x05b4, 7);
+    options.sack_permitted = 1;
+    options.tsval = 0x81828384;
+    options.tsecr = 0x91929394;
+    options.has_timestamp = 1;
+    return options;
+}
+
+static void reads_options(int line, const struct octets *header, struct lk_tcp_options expected)
+{
+    struct lk_tcp_options found;
+    memset(&found, OLD, sizeof found);
+    check(__FILE__, line, 0, both_read_tcp_options(header->at, header->len, &found) == 1);
+    same_options(&expected, &found);
+}
+
+#define READS_OPTIONS(header, expected) reads_options(__LINE__, &header, expected)
+#define REJECTS_OPTIONS(header, len) \
+    (memset(&found, OLD, sizeof found), CHECK(both_read_tcp_options(header.at, len, &found) == 0), \
+     same_options(&unchanged, &found))
+
+static void reads_all_options(void)
+{
+    struct lk_tcp_options found, unchanged;
+    memset(&unchanged, OLD, sizeof unchanged);
+    READS_OPTIONS(all_options, each_option());
+    READS_OPTIONS(four_ranges, ranges(4));
+    READS_OPTIONS(two_ranges, ranges(2));
+    READS_OPTIONS(repeated, size_and_scale(0x0202, 14)); /* a scale of 15 counts as 14 */
+    READS_OPTIONS(behind_end, size_and_scale(0, 5));
+    READS_OPTIONS(no_options, ranges(0));
+    REJECTS_OPTIONS(bad_option, bad_option.len);
+    REJECTS_OPTIONS(bad_offset, bad_offset.len);
+    REJECTS_OPTIONS(no_options, 19);
+    REJECTS_OPTIONS(all_options, all_options.len - 1);
+    REJECTS_OPTIONS(all_options, 0);
+}
+
+/* Steps through all options, and writes down each: its offset, length and kind. */
+static int steps(const struct octets *header, char *text)
+{
+    struct lk_tcp_option option = {0, 0, 0};
+    int result;
+    *text = 0;
+    while ((result = both_next_tcp_option(header->at, header->len, &option)) == 1)
+        text += sprintf(text, "%d+%d:%d ", option.offset, option.len, option.kind);
+    return result;
+}
+
+/* A header: 20 octets, of which one is its length, and the options. */
+static struct octets header_with(const char *options)
+{
+    struct octets found = {{0}, 20 + strlen(options) / 2};
+    found.at[12] = (uint8_t)(found.len / 4 << 4);
+    memcpy(found.at + 20, octets(options).at, found.len - 20);
+    return found;
+}
+
+static void steps_through_options(void)
+{
+    const struct octets padded = header_with("0101080a0000000100000002"), cut_off = cut(&padded, 31, (struct change[CHANGES]){{0}});
+    const struct {
+        struct octets header;
+        int result;
+        const char *options;
+    } rows[] = {
+        {padded, 0, "20+1:1 21+1:1 22+10:8 "},
+        {header_with("fe04abcd22020009"), 0, "20+4:254 24+2:34 26+1:0 "},
+        {header_with("01010108"), -1, "20+1:1 21+1:1 22+1:1 "},
+        {no_options, 0, ""},
+        {bad_offset, -1, ""},
+        {cut_off, -1, ""},
+    };
+    for (size_t i = 0; i < sizeof rows / sizeof rows[0]; i++) {
+        char text[512];
+        CHECK_ROW(i, steps(&rows[i].header, text) == rows[i].result && strcmp(text, rows[i].options) == 0);
+    }
+}
+
+void worked_options(void)
+{
+    reads_all_options();
+    steps_through_options();
+}

@@ -1,0 +1,184 @@
+/* Worked calls of a router and its routes. */
+#include "worked.h"
+
+static const uint8_t src[6] = {2, 0, 0, 0, 0, 0x11}, dst[6] = {2, 0, 0, 0, 0, 0x12};
+
+/* ---- a router ---- */
+
+/* Frames that are not forwarded, with the first reason of the list. IPv4 and IPv6 begin at octet 14. */
+static const struct {
+    const struct octets *frame;
+    size_t len;
+    struct change changes[CHANGES];
+    int rejection;
+} not_forwarded[] = {
+    {&query, 13, {{0, 0}}, LK_NOT_IP},
+    {&query, 46, {{13, 0x06}}, LK_NOT_IP},
+    {&query, 14, {{0, 0}}, LK_BAD_HEADER},
+    {&query, 33, {{0, 0}}, LK_BAD_HEADER},
+    {&query, 45, {{0, 0}}, LK_BAD_HEADER},
+    {&query, 46, {{14, 0x65}, {22, 1}}, LK_BAD_HEADER},
+    {&query, 46, {{14, 0x44}}, LK_BAD_HEADER},
+    {&query, 46, {{17, 19}}, LK_BAD_HEADER},
+    {&query, 46, {{25, 0xd5}, {22, 1}}, LK_WRONG_CHECKSUM},
+    {&query, 46, {{22, 0x01}, {24, 0x5f}}, LK_EXPIRED},
+    {&query, 46, {{22, 0x00}, {24, 0x60}}, LK_EXPIRED},
+    {&router_solicit, 53, {{0, 0}}, LK_BAD_HEADER},
+    {&router_solicit, 69, {{21, 0}}, LK_BAD_HEADER},
+    {&router_solicit, 70, {{14, 0x40}}, LK_BAD_HEADER},
+    {&router_solicit, 70, {{21, 1}}, LK_EXPIRED},
+    {&router_solicit, 70, {{21, 0}}, LK_EXPIRED},
+};
+
+/* The frame becomes these octets. */
+static void forwards(int line, struct octets frame, const struct octets *forwarded)
+{
+    check(__FILE__, line, 0, both_forward(frame.at, frame.len, src, dst) == 0);
+    check(__FILE__, line, 1, memcmp(frame.at, forwarded->at, frame.len) == 0);
+}
+
+static void forward(void)
+{
+    struct octets frame = router_solicit, expected;
+    forwards(__LINE__, query, &query_forwarded);
+    forwards(__LINE__, fragment_of_options, &fragment_of_options_forwarded);
+    for (unsigned hop_limit = 254; hop_limit > 0; hop_limit--) {
+        expected = changed(router_solicit, 21, (uint8_t)hop_limit);
+        memcpy(expected.at, dst, 6);
+        memcpy(expected.at + 6, src, 6);
+        forwards(__LINE__, frame, &expected);
+        frame = expected;
+    }
+    for (size_t i = 0; i < sizeof not_forwarded / sizeof not_forwarded[0]; i++) {
+        frame = expected = cut(not_forwarded[i].frame, not_forwarded[i].len, not_forwarded[i].changes);
+        CHECK_ROW(i, both_forward(frame.at, frame.len, src, dst) == not_forwarded[i].rejection);
+        CHECK_ROW(i, memcmp(frame.at, expected.at, frame.len) == 0);
+    }
+}
+
+/* ---- the MSS clamp ---- */
+
+/* `before`: changes of the frame. `after`: what the call changes then; none: it returns 0. */
+static const struct {
+    const struct octets *frame;
+    size_t len;
+    struct change before[CHANGES];
+    uint16_t max_seg_size;
+    struct change after[CHANGES];
+} clamped[] = {
+    {&syn, 74, {{0, 0}}, 1260, {{50, 0xd9}, {51, 0x85}, {56, 0x04}, {57, 0xec}}},
+    {&syn, 74, {{0, 0}}, 1459, {{51, 0xbe}, {57, 0xb3}}},
+    {&syn, 74, {{0, 0}}, 0, {{50, 0xde}, {51, 0x71}, {56, 0}, {57, 0}}},
+    {&syn, 74, {{51, 0xbc}}, 1459, {{51, 0xbd}, {57, 0xb3}}}, /* a wrong checksum stays wrong */
+    {&syn, 74, {{0, 0}}, 1460, {{0, 0}}},
+    {&syn, 74, {{0, 0}}, 65535, {{0, 0}}},
+    {&syn, 74, {{47, 0x10}}, 1260, {{0, 0}}},             /* no SYN */
+    {&syn, 74, {{47, 0x03}}, 1260, {{0, 0}}},             /* SYN and FIN */
+    {&syn, 74, {{54, 1}, {55, 1}}, 1260, {{0, 0}}},       /* an option of kind 5, which is cut off */
+    {&syn, 74, {{54, 0xfd}}, 1260, {{0, 0}}},             /* no such option */
+    {&syn, 74, {{54, 0}}, 1260, {{0, 0}}},                /* the end of the options */
+    {&syn, 74, {{20, 0x20}, {24, 0x82}}, 1260, {{0, 0}}}, /* a fragment */
+    {&syn, 74, {{25, 0xfb}}, 1260, {{0, 0}}},             /* a wrong checksum of the IPv4 header */
+    {&syn, 74, {{23, 0x11}, {25, 0xf1}}, 1260, {{0, 0}}}, /* UDP */
+    {&syn, 73, {{0, 0}}, 1260, {{0, 0}}},
+    {&query, 46, {{0, 0}}, 0, {{0, 0}}},
+    {&syn_ack_of_1440, 82, {{0, 0}}, 1220, {{70, 0x1a}, {71, 0xa3}, {77, 0x04}, {78, 0xc4}}},
+    {&syn_ack_of_1440, 82, {{0, 0}}, 1440, {{0, 0}}},
+    {&syn_ack_of_1440, 82, {{20, 0}}, 1220, {{0, 0}}}, /* an extension header */
+    {&syn_ack_of_1440, 81, {{0, 0}}, 1220, {{0, 0}}},
+};
+
+static void clamp_mss(void)
+{
+    for (size_t i = 0; i < sizeof clamped / sizeof clamped[0]; i++) {
+        struct octets frame = cut(clamped[i].frame, clamped[i].len, clamped[i].before);
+        struct octets expected = cut(&frame, frame.len, clamped[i].after);
+        CHECK_ROW(i, both_clamp_mss(frame.at, frame.len, clamped[i].max_seg_size) == (clamped[i].after[0].at != 0));
+        CHECK_ROW(i, memcmp(frame.at, expected.at, frame.len) == 0);
+        CHECK_ROW(i, both_clamp_mss(frame.at, frame.len, clamped[i].max_seg_size) == 0);
+    }
+}
+
+/* ---- routes ---- */
+
+/* Blocks in blocks, over both versions. The third one is the first again. */
+static const struct lk_route routes[] = {
+    {{{{10, 0, 0, 0}, 4}, 8}, {{192, 0, 2, 1}, 4}, 1},
+    {{{{10, 1, 0, 0}, 4}, 16}, {{0}, 0}, 2},
+    {{{{10, 9, 9, 9}, 4}, 8}, {{192, 0, 2, 3}, 4}, 3},
+    {{{{10, 1, 2, 3}, 4}, 32}, {{192, 0, 2, 4}, 4}, 4},
+    {{{{0}, 6}, 0}, {{0xfe, 0x80, 0, 0, 0, 0, 0, 0, 0, 0, 0, 0, 0, 0, 0, 1}, 6}, 65535},
+    {{{{0x20, 0x01, 0x0d, 0xb8}, 6}, 33}, {{0}, 0}, 6},
+    {{{{127, 0, 0, 0}, 4}, 8}, {{0}, 0}, 1},
+};
+enum { ROUTES = sizeof routes / sizeof routes[0] };
+
+static const struct {
+    struct lk_addr addr;
+    ptrdiff_t route;
+} choices[] = {
+    {{{10, 0, 0, 0}, 4}, 0},
+    {{{10, 255, 255, 255}, 4}, 0},
+    {{{11, 0, 0, 0}, 4}, -1},
+    {{{9, 255, 255, 255}, 4}, -1},
+    {{{10, 1, 0, 0}, 4}, 1},
+    {{{10, 1, 255, 255}, 4}, 1},
+    {{{10, 2, 0, 0}, 4}, 0},
+    {{{10, 1, 2, 3}, 4}, 3},
+    {{{10, 1, 2, 4}, 4}, 1},
+    {{{0}, 6}, 4},
+    {{{0x20, 0x01, 0x0d, 0xb8, 0x7f, 0xff}, 6}, 5},
+    {{{0x20, 0x01, 0x0d, 0xb8, 0x80}, 6}, 4},
+    {{{10, 1, 2, 3}, 0}, -1},
+    {{{10, 1, 2, 3}, 5}, -1},
+};
+
+static struct lk_route_node nodes[ROUTES];
+
+static void choose(void)
+{
+    CHECK(both_index_routes(routes, ROUTES, nodes, ROUTES) == ROUTES);
+    for (size_t i = 0; i < sizeof choices / sizeof choices[0]; i++)
+        CHECK_ROW(i, both_choose_route(nodes, ROUTES, &choices[i].addr) == choices[i].route);
+}
+
+static const struct {
+    struct lk_addr src;
+    uint16_t interface;
+    int rejection;
+} sources[] = {
+    {{{10, 0, 0, 1}, 4}, 1, LK_NOT_REJECTED},
+    {{{10, 0, 0, 1}, 4}, 3, LK_OTHER_INTERFACE},
+    {{{10, 1, 2, 3}, 4}, 4, LK_NOT_REJECTED},
+    {{{10, 1, 2, 3}, 4}, 2, LK_OTHER_INTERFACE},
+    {{{11, 0, 0, 1}, 4}, 1, LK_NO_ROUTE},
+    {{{0x20, 0x01}, 6}, 65535, LK_NOT_REJECTED},
+    {{{127, 0, 0, 1}, 4}, 1, LK_MARTIAN},
+    {{{0, 255, 255, 255}, 4}, 1, LK_MARTIAN},
+    {{{224, 0, 0, 1}, 4}, 1, LK_MARTIAN},
+    {{{255, 255, 255, 255}, 4}, 1, LK_MARTIAN},
+    {{{240, 0, 0, 1}, 4}, 1, LK_MARTIAN},
+    {{{0}, 6}, 65535, LK_MARTIAN},
+    {{{0, 0, 0, 0, 0, 0, 0, 0, 0, 0, 0, 0, 0, 0, 0, 1}, 6}, 65535, LK_MARTIAN},
+    {{{0, 0, 0, 0, 0, 0, 0, 0, 0, 0, 0, 0, 0, 0, 0, 2}, 6}, 65535, LK_NOT_REJECTED},
+    {{{0, 0, 0, 0, 0, 0, 0, 0, 0, 0, 0xff, 0xff, 192, 0, 2, 1}, 6}, 65535, LK_MARTIAN},
+    {{{0xff, 0x02}, 6}, 65535, LK_MARTIAN},
+    {{{0xfe, 0x80}, 6}, 65535, LK_NOT_REJECTED},
+    {{{10, 0, 0, 1}, 0}, 1, LK_MARTIAN},
+};
+
+static void check_sources(void)
+{
+    CHECK(both_index_routes(routes, ROUTES, nodes, ROUTES) == ROUTES);
+    for (size_t i = 0; i < sizeof sources / sizeof sources[0]; i++)
+        CHECK_ROW(i, both_check_source(routes, ROUTES, nodes, ROUTES, &sources[i].src, sources[i].interface) ==
+                         sources[i].rejection);
+}
+
+void worked_route(void)
+{
+    forward();
+    clamp_mss();
+    choose();
+    check_sources();
+}
