@@ -65,17 +65,20 @@ static void address_packet(void)
         write_end(made.octets, &frame, LK_DESTINATION, &end);
 }
 
+static uint8_t *copy_made(void)
+{
+    return memcpy(frame, made.octets, made.len);
+}
+
 static void translate_out(size_t len)
 {
-    memcpy(frame, made.octets, made.len);
-    if (both_translate_out(&nat, mappings, mapping_count, now, frame, len) == LK_NOT_REJECTED)
+    if (both_translate_out(&nat, mappings, mapping_count, now, copy_made(), len) == LK_NOT_REJECTED)
         keep_packet(&left, frame, len);
 }
 
 static void translate_in(size_t len)
 {
-    memcpy(frame, made.octets, made.len);
-    if (both_translate_in(&nat, mappings, mapping_count, now, frame, len) == LK_NOT_REJECTED)
+    if (both_translate_in(&nat, mappings, mapping_count, now, copy_made(), len) == LK_NOT_REJECTED)
         keep_packet(&entered, frame, len);
 }
 
@@ -153,6 +156,9 @@ void translate_frames(void)
         translate_out(unused_len());
     if (one_in(64))
         translate_in(unused_len());
+    forget_mappings();
+    both_translate_out(&nat, mappings, unused_len(), now, copy_made(), made.len);
+    both_translate_in(&nat, mappings, unused_len(), now, copy_made(), made.len);
     if (one_in(32))
         translate_by_anything();
 }

@@ -9,8 +9,7 @@ static uint8_t frame[MODEL_ROOM];
 /* The frame that was made last, which the call may change. */
 static uint8_t *copy_made(void)
 {
-    memcpy(frame, made.octets, made.len);
-    return frame;
+    return memcpy(frame, made.octets, made.len);
 }
 
 static void forward_one(size_t len)
@@ -141,13 +140,15 @@ void choose_route(void)
     if (one_in(64))
         node_count = unused_len();
     fill(nodes, sizeof nodes);
+    if (one_in(64))
+        both_index_routes(routes, unused_len(), nodes, node_count);
     if (both_index_routes(routes, count, nodes, node_count) < 0)
         return;
     for (int i = 0; i < 4; i++) {
         struct lk_addr addr = any_addr(any_version());
         if (count > 0)
             addr = any_addr_near(&routes[below(count)].block);
-        look_up(nodes, count, &addr);
+        look_up(nodes, one_in(64) ? unused_len() : count, &addr);
     }
     look_up_anything(count);
 }

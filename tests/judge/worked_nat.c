@@ -212,6 +212,14 @@ static void translate_by_table_rejects(void)
     }
     CHECK(goes_out(0, &no_source, &frame) == LK_ZERO_PORT);
     CHECK(comes_in(0, &query, &frame) == LK_NO_MAPPING); /* for another address */
+    frame = query;
+    CHECK(both_translate_out(&nat, 0, 0, 0, frame.at, frame.len) == LK_NO_FREE_PORT);
+    CHECK(both_translate_out(&nat, mappings, LK_MAX_LEN + 1, 0, frame.at, frame.len) == LK_NO_FREE_PORT);
+    CHECK(is_now(&frame, &query));
+    frame = response_in;
+    CHECK(both_translate_in(&nat, 0, 0, 0, frame.at, frame.len) == LK_NO_MAPPING);
+    CHECK(both_translate_in(&nat, mappings, (size_t)LK_NO_ROOM, 0, frame.at, frame.len) == LK_NO_MAPPING);
+    CHECK(is_now(&frame, &response_in));
 }
 
 /* ---- ICMP ---- */

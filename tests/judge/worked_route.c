@@ -140,6 +140,9 @@ static void choose(void)
     CHECK(both_index_routes(routes, ROUTES, nodes, ROUTES) == ROUTES);
     for (size_t i = 0; i < sizeof choices / sizeof choices[0]; i++)
         CHECK_ROW(i, both_choose_route(nodes, ROUTES, &choices[i].addr) == choices[i].route);
+    CHECK(both_choose_route(0, 0, &choices[0].addr) == -1);
+    CHECK(both_choose_route(nodes, LK_MAX_LEN + 1, &choices[0].addr) == -1);
+    CHECK(both_choose_route(nodes, (size_t)LK_NO_ROOM, &choices[0].addr) == -1);
 }
 
 static const struct {
@@ -173,6 +176,8 @@ static void check_sources(void)
     for (size_t i = 0; i < sizeof sources / sizeof sources[0]; i++)
         CHECK_ROW(i, both_check_source(routes, ROUTES, nodes, ROUTES, &sources[i].src, sources[i].interface) ==
                          sources[i].rejection);
+    CHECK(both_check_source(0, 0, 0, 0, &sources[0].src, 1) == LK_NO_ROUTE);
+    CHECK(both_check_source(routes, ROUTES, nodes, LK_MAX_LEN + 1, &sources[0].src, 1) == LK_NO_ROUTE);
 }
 
 void worked_route(void)
