@@ -86,6 +86,14 @@ pub struct TcpOptions {
 
 #[repr(C)]
 #[derive(Clone, Copy)]
+pub struct Icmp {
+    pub word: u32,
+    pub msg_type: u8,
+    pub code: u8,
+}
+
+#[repr(C)]
+#[derive(Clone, Copy)]
 pub struct Frame {
     pub network_offset: usize,
     pub transport_offset: usize,
@@ -104,4 +112,6 @@ pub struct Frame {
     pub is_fragment: u8,
     pub ipv4_checksum: u8,
     pub transport_checksum: u8,
+    pub unused: [u8; 5],
+    pub icmp: Icmp,
 }

@@ -6,7 +6,6 @@ import ctypes
 import os
 import random
 import re
-import shutil
 import subprocess
 import sys
 import unittest
@@ -33,28 +32,12 @@ OPTIONS = TcpOptions(1460, 7, True, (), (3, 4))
 
 
 class Declarations(unittest.TestCase):
-    """The structs, calls and numbers are those of ip_wire.h."""
+    """The calls and numbers are those of ip_wire.h."""
 
     @classmethod
     def setUpClass(cls):
         with open(HEADER, encoding="ascii") as file:
             cls.header = re.sub(r"/\*.*?\*/", " ", file.read(), flags=re.S)
-
-    def test_structs(self):
-        if not shutil.which("cc"):
-            self.skipTest("there is no C compiler")
-        structs = [kind for kind in vars(c).values() if isinstance(kind, type) and issubclass(kind, ctypes.Structure)]
-        lines = [f'#include "{os.path.abspath(HEADER)}"']
-        for kind in structs:
-            sizes = [(f"sizeof(struct {kind.__name__})", ctypes.sizeof(kind))]
-            for name, field in kind._fields_:
-                sizes.append((f"offsetof(struct {kind.__name__}, {name})", getattr(kind, name).offset))
-                sizes.append((f"sizeof(((struct {kind.__name__} *)0)->{name})", ctypes.sizeof(field)))
-            lines += [f'_Static_assert({left} == {right}, "{left}");' for left, right in sizes]
-        self.assertGreater(len(lines), 100)
-        command = ["cc", "-std=c11", "-fsyntax-only", "-xc", "-"]
-        run = subprocess.run(command, input="\n".join(lines), text=True, capture_output=True, check=False)
-        self.assertEqual(run.returncode, 0, run.stderr)
 
     def test_calls(self):
         plain = {"int": ctypes.c_int, "size_t": ctypes.c_size_t, "ptrdiff_t": ctypes.c_ssize_t, "void": None,

@@ -5,7 +5,7 @@
 
 Each call of the header must be a function of ip_wire_c, c/cpu.c or c/names.c with the same types, and the other way round.
 Each struct with `repr(C)` must have the same fields in the same order, and each enum and each failure the same names and
-numbers.
+numbers. So must each struct that the bindings for Rust and Python and bench/structs.rs declare.
 `lk_append` and its struct are in the header only. Each name `lk_..` in
 README.md and docs/ must be in the header. Differences are printed, and the status is 1 then. TOP is the top of the
 repository. tests/install/run compares the header with the man pages.
@@ -159,6 +159,47 @@ class Library:
                 yield self.name(array or plain), FIELDS.get(name, name), self.constants.get(length, length)
 
 
+def snake(name):
+    """The name of a struct in C, such as `lk_tcp_options` of `TcpOptions`."""
+    return "lk" + re.sub(r"([A-Z])", r"_\1", name).lower()
+
+
+def rust_structs(text):
+    """Each struct that a Rust file declares by hand, as `c_structs` gives it."""
+    for name, body in re.findall(r"\bstruct (\w+)(?: = lk_\w+)? {\n(.*?)}", text, re.S):
+        fields = []
+        for field, element, length, pointer, plain in re.findall(r"(\w+): (?:\[(\w+); (\d+)\]|(\*const )?(\w+)),", body):
+            kind = NUMBERS.get(element or plain, f"struct {snake(element or plain)}")
+            fields.append((f"const {kind} *" if pointer else kind, FIELDS.get(field, field), length))
+        yield snake(name), fields
+
+
+def python_structs(text):
+    """The same for the structs of ctypes."""
+    names = {"_Hardware": "uint8_t", "c_size_t": "size_t"}
+    for variable, name, body in re.findall(r'^(\w+) = _declare\(\s*"(lk_\w+)",(.*?)\)(?:  # fmt: skip)?$', text, re.S | re.M):
+        fields = []
+        for field, pointer, kind, length in re.findall(r"(\w+)=(POINTER\()?(\w+)\)?(?: \* (\d+))?", body):
+            plain = names.get(kind) or kind.removeprefix("c_") + "_t"
+            fields.append((f"const {plain} *" if pointer else plain, field, "6" if kind == "_Hardware" else length))
+        names[variable] = f"struct {name}"
+        yield name, fields
+
+
+# The files that declare structs of the header by hand.
+DECLARATIONS = {"bindings/rust/src/sys.rs": rust_structs, "bench/structs.rs": rust_structs, "bindings/python/_ip_wire.py": python_structs}
+
+
+def declared_differences(top, structs):
+    for path, read_structs in DECLARATIONS.items():
+        declared = dict(read_structs(read(f"{top}/{path}")))
+        for name, fields in declared.items():
+            if structs.get(name) != fields:
+                yield f"{path}: {name}: the header has {structs.get(name)}, it declares {fields}"
+        if "lk_frame" not in declared:
+            yield f"{path} declares no structs"
+
+
 def differences(header, sources):
     header, sources = dict(header), dict(sources)
     for name in sorted(header.keys() | sources.keys()):
@@ -181,6 +222,7 @@ def main(top):
     found = [
         *differences(calls, [*sources.calls(), *(call for name in OF_C for call in c_calls(read(top + name)))]),
         *differences((it for it in c_structs(header) if it[0] not in HEADER_ONLY), sources.structs()),
+        *declared_differences(top, dict(c_structs(header))),
         *differences(c_failures(header), sources.failures()),
         *differences(c_enums(header), sources.enums()),
         *unknown_names(top, header),

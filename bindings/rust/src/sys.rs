@@ -18,14 +18,9 @@ macro_rules! structs {
             }
         )*
 
-        /// Each struct: its names here and in C, its size, and the name, offset and size of each field.
+        /// The names of each struct, here and in C.
         #[cfg(test)]
-        pub const STRUCTS: &[(&str, &str, usize, &[(&str, usize, usize)])] = &[$((
-            stringify!($name),
-            stringify!($c_name),
-            size_of::<$name>(),
-            &[$((stringify!($field), core::mem::offset_of!($name, $field), size_of::<$type>()),)*],
-        ),)*];
+        pub const STRUCTS: &[(&str, &str)] = &[$((stringify!($name), stringify!($c_name)),)*];
     };
 }
 
