@@ -86,7 +86,8 @@ static struct octets header_with(const char *options)
 
 static void steps_through_options(void)
 {
-    const struct octets padded = header_with("0101080a0000000100000002"), cut_off = cut(&padded, 31, (struct change[CHANGES]){{0}});
+    const struct octets padded = header_with("0101080a0000000100000002"),
+                        cut_off = cut(&padded, 31, (struct change[CHANGES]){{0}});
     const struct {
         struct octets header;
         int result;

@@ -295,41 +295,40 @@ static void reads_each_flag(void)
 
 /* ---- each verdict, for each transport over each version ---- */
 
-/* The checksum of UDP and TCP does not cover the padding. The checksum 0 of `tcp4_zero` and `tcp6_zero` is
- * right: it was made so by the urgent pointer. */
+/* The checksum of UDP and TCP does not cover the padding. The urgent pointer makes a checksum of 0 right. */
 static const struct {
     const struct octets *frame;
     struct change changes[CHANGES];
     uint8_t ipv4, transport;
 } checksums[] = {
-    {&arp4, {{0, 0}}, LK_NO_CHECKSUM, LK_NO_CHECKSUM}, /* ARP */
-    {&other4, {{0, 0}}, LK_RIGHT, LK_NO_CHECKSUM}, /* IPv4 */
-    {&other4, {{25, 0x3c}}, LK_WRONG, LK_NO_CHECKSUM}, /* IPv4: one more */
-    {&other4, {{24, 0}, {25, 0}}, LK_WRONG, LK_NO_CHECKSUM}, /* IPv4: 0 */
-    {&fragment4_first, {{0, 0}}, LK_RIGHT, LK_NO_CHECKSUM}, /* IPv4: a fragment */
-    {&udp4, {{35, 0}}, LK_WRONG, LK_RIGHT}, /* IPv4: a bit of an option */
-    {&other6, {{0, 0}}, LK_NO_CHECKSUM, LK_NO_CHECKSUM}, /* IPv6 */
-    {&udp4, {{0, 0}}, LK_RIGHT, LK_RIGHT}, /* UDP */
-    {&udp4, {{49, 0x55}}, LK_RIGHT, LK_RIGHT}, /* UDP: padding */
-    {&udp4, {{48, 0x55}}, LK_RIGHT, LK_WRONG}, /* UDP: payload */
-    {&udp4, {{29, 0x1c}}, LK_WRONG, LK_WRONG}, /* UDP: an address */
-    {&udp4_wrong, {{40, 0}, {41, 0}}, LK_RIGHT, LK_LEFT_OUT}, /* UDP: 0 */
+    {&arp4, {{0, 0}}, LK_NO_CHECKSUM, LK_NO_CHECKSUM},                    /* ARP */
+    {&other4, {{0, 0}}, LK_RIGHT, LK_NO_CHECKSUM},                        /* IPv4 */
+    {&other4, {{25, 0x3c}}, LK_WRONG, LK_NO_CHECKSUM},                    /* IPv4: one more */
+    {&other4, {{24, 0}, {25, 0}}, LK_WRONG, LK_NO_CHECKSUM},              /* IPv4: 0 */
+    {&fragment4_first, {{0, 0}}, LK_RIGHT, LK_NO_CHECKSUM},               /* IPv4: a fragment */
+    {&udp4, {{35, 0}}, LK_WRONG, LK_RIGHT},                               /* IPv4: a bit of an option */
+    {&other6, {{0, 0}}, LK_NO_CHECKSUM, LK_NO_CHECKSUM},                  /* IPv6 */
+    {&udp4, {{0, 0}}, LK_RIGHT, LK_RIGHT},                                /* UDP */
+    {&udp4, {{49, 0x55}}, LK_RIGHT, LK_RIGHT},                            /* UDP: padding */
+    {&udp4, {{48, 0x55}}, LK_RIGHT, LK_WRONG},                            /* UDP: payload */
+    {&udp4, {{29, 0x1c}}, LK_WRONG, LK_WRONG},                            /* UDP: an address */
+    {&udp4_wrong, {{40, 0}, {41, 0}}, LK_RIGHT, LK_LEFT_OUT},             /* UDP: 0 */
     {&udp4_wrong, {{40, 0x8c}, {41, 0xac}}, LK_RIGHT, LK_LEFT_TO_DEVICE}, /* UDP: the pseudo-header */
-    {&udp4_wrong, {{39, 7}}, LK_RIGHT, LK_NO_CHECKSUM}, /* UDP: length 7 */
-    {&udp6, {{0, 0}}, LK_NO_CHECKSUM, LK_RIGHT}, /* UDP over IPv6 */
-    {&udp6, {{64, 0x55}}, LK_NO_CHECKSUM, LK_WRONG}, /* UDP over IPv6: payload */
-    {&udp6, {{60, 0}, {61, 0}}, LK_NO_CHECKSUM, LK_WRONG}, /* UDP over IPv6: 0 */
+    {&udp4_wrong, {{39, 7}}, LK_RIGHT, LK_NO_CHECKSUM},                   /* UDP: length 7 */
+    {&udp6, {{0, 0}}, LK_NO_CHECKSUM, LK_RIGHT},                          /* UDP over IPv6 */
+    {&udp6, {{64, 0x55}}, LK_NO_CHECKSUM, LK_WRONG},                      /* UDP over IPv6: payload */
+    {&udp6, {{60, 0}, {61, 0}}, LK_NO_CHECKSUM, LK_WRONG},                /* UDP over IPv6: 0 */
     {&udp6, {{60, 0xf3}, {61, 0x1e}}, LK_NO_CHECKSUM, LK_LEFT_TO_DEVICE}, /* UDP over IPv6: the pseudo-header */
-    {&udp6, {{59, 7}}, LK_NO_CHECKSUM, LK_NO_CHECKSUM}, /* UDP over IPv6: length 7 */
-    {&tcp4, {{0, 0}}, LK_RIGHT, LK_RIGHT}, /* TCP */
-    {&tcp4, {{61, 0x55}}, LK_RIGHT, LK_RIGHT}, /* TCP: padding */
-    {&tcp4, {{60, 0x55}}, LK_RIGHT, LK_WRONG}, /* TCP: payload */
-    {&tcp4, {{50, 0}, {51, 0}}, LK_RIGHT, LK_WRONG}, /* TCP: 0 */
+    {&udp6, {{59, 7}}, LK_NO_CHECKSUM, LK_NO_CHECKSUM},                   /* UDP over IPv6: length 7 */
+    {&tcp4, {{0, 0}}, LK_RIGHT, LK_RIGHT},                                /* TCP */
+    {&tcp4, {{61, 0x55}}, LK_RIGHT, LK_RIGHT},                            /* TCP: padding */
+    {&tcp4, {{60, 0x55}}, LK_RIGHT, LK_WRONG},                            /* TCP: payload */
+    {&tcp4, {{50, 0}, {51, 0}}, LK_RIGHT, LK_WRONG},                      /* TCP: 0 */
     {&tcp4_wrong, {{50, 0}, {51, 0}, {52, 0x08}, {53, 0x11}}, LK_RIGHT, LK_RIGHT}, /* TCP: a right 0 */
-    {&tcp4_wrong, {{50, 0x8c}, {51, 0xad}}, LK_RIGHT, LK_LEFT_TO_DEVICE}, /* TCP: the pseudo-header */
-    {&tcp6, {{0, 0}}, LK_NO_CHECKSUM, LK_RIGHT}, /* TCP over IPv6 */
-    {&tcp6, {{84, 0x55}}, LK_NO_CHECKSUM, LK_WRONG}, /* TCP over IPv6: payload */
-    {&tcp6, {{70, 0}, {71, 0}}, LK_NO_CHECKSUM, LK_WRONG}, /* TCP over IPv6: 0 */
+    {&tcp4_wrong, {{50, 0x8c}, {51, 0xad}}, LK_RIGHT, LK_LEFT_TO_DEVICE},          /* TCP: the pseudo-header */
+    {&tcp6, {{0, 0}}, LK_NO_CHECKSUM, LK_RIGHT},                                   /* TCP over IPv6 */
+    {&tcp6, {{84, 0x55}}, LK_NO_CHECKSUM, LK_WRONG},                               /* TCP over IPv6: payload */
+    {&tcp6, {{70, 0}, {71, 0}}, LK_NO_CHECKSUM, LK_WRONG},                         /* TCP over IPv6: 0 */
     {&tcp6, {{70, 0}, {71, 0}, {72, 0x76}, {73, 0x70}}, LK_NO_CHECKSUM, LK_RIGHT}, /* TCP over IPv6: a right 0 */
     {&tcp6, {{70, 0xf3}, {71, 0x27}}, LK_NO_CHECKSUM, LK_LEFT_TO_DEVICE}, /* TCP over IPv6: the pseudo-header */
 };
@@ -346,40 +345,40 @@ static void reads_verdicts(void)
 
 /* ---- two faults at once: the first reason of the list in c/ip_wire.h that applies ---- */
 
-/* IPv4 and IPv6 begin at octet 14, the transport header behind them at octet 34 or 54. */
+/* IPv4 and IPv6 begin at octet 14, the transport header after them at octet 34 or 54. */
 static const struct {
     const struct octets *frame;
     size_t len;
     struct change changes[CHANGES];
     uint8_t reason;
 } faults[] = {
-    {&arp_other, 41, {{0, 0}}, LK_TOO_SHORT}, /* ARP: too short, other */
-    {&udp4_wrong, 33, {{14, 0x65}}, LK_TOO_SHORT}, /* IPv4: too short, version */
-    {&udp4_wrong, 33, {{14, 0x44}}, LK_TOO_SHORT}, /* IPv4: too short, length */
-    {&udp4_wrong, 45, {{14, 0x64}}, LK_BAD_VERSION}, /* IPv4: version, header length */
+    {&arp_other, 41, {{0, 0}}, LK_TOO_SHORT},                    /* ARP: too short, other */
+    {&udp4_wrong, 33, {{14, 0x65}}, LK_TOO_SHORT},               /* IPv4: too short, version */
+    {&udp4_wrong, 33, {{14, 0x44}}, LK_TOO_SHORT},               /* IPv4: too short, length */
+    {&udp4_wrong, 45, {{14, 0x64}}, LK_BAD_VERSION},             /* IPv4: version, header length */
     {&udp4_wrong, 45, {{14, 0x65}, {17, 0x20}}, LK_BAD_VERSION}, /* IPv4: version, total length */
-    {&udp6, 53, {{14, 0x4b}}, LK_TOO_SHORT}, /* IPv6: too short, version */
-    {&udp6, 53, {{18, 0xff}}, LK_TOO_SHORT}, /* IPv6: too short, length */
-    {&udp6_zero, 65, {{14, 0x4b}, {19, 0x0c}}, LK_BAD_VERSION}, /* IPv6: version, length */
-    {&udp4_too_short, 41, {{39, 0x07}}, LK_TOO_SHORT}, /* UDP: too short, length */
-    {&udp4_too_short, 41, {{36, 0}, {37, 0}}, LK_TOO_SHORT}, /* UDP: too short, port */
-    {&udp4_port_zero, 45, {{39, 0x07}}, LK_BAD_LENGTH}, /* UDP: length less than 8, port */
-    {&udp4_port_zero, 45, {{39, 0x0c}}, LK_BAD_LENGTH}, /* UDP: length past the end, port */
-    {&udp6_port_zero, 65, {{59, 0x0c}}, LK_BAD_LENGTH}, /* UDP over IPv6: length, port */
-    {&tcp4_too_short, 53, {{46, 0x40}}, LK_TOO_SHORT}, /* TCP: too short, length */
-    {&tcp4_too_short, 53, {{34, 0}, {35, 0}}, LK_TOO_SHORT}, /* TCP: too short, port */
-    {&tcp4_port_zero, 57, {{46, 0x40}}, LK_BAD_LENGTH}, /* TCP: length less than 20, port */
-    {&tcp4_syn_fin, 57, {{46, 0x60}}, LK_BAD_LENGTH}, /* TCP: length past the end, flags */
-    {&tcp4_bad_options, 61, {{46, 0x80}}, LK_BAD_LENGTH}, /* TCP: length past the end, options */
-    {&tcp4_syn_fin, 57, {{34, 0}, {35, 0}}, LK_PORT_ZERO}, /* TCP: source port, flags */
-    {&tcp4_fin_rst, 57, {{36, 0}, {37, 0}}, LK_PORT_ZERO}, /* TCP: destination port, flags */
-    {&tcp4_bad_options, 61, {{34, 0}, {35, 0}}, LK_PORT_ZERO}, /* TCP: port, options */
-    {&tcp4_bad_options, 61, {{47, 0x06}}, LK_BAD_FLAGS}, /* TCP: flags, options */
+    {&udp6, 53, {{14, 0x4b}}, LK_TOO_SHORT},                     /* IPv6: too short, version */
+    {&udp6, 53, {{18, 0xff}}, LK_TOO_SHORT},                     /* IPv6: too short, length */
+    {&udp6_zero, 65, {{14, 0x4b}, {19, 0x0c}}, LK_BAD_VERSION},  /* IPv6: version, length */
+    {&udp4_too_short, 41, {{39, 0x07}}, LK_TOO_SHORT},           /* UDP: too short, length */
+    {&udp4_too_short, 41, {{36, 0}, {37, 0}}, LK_TOO_SHORT},     /* UDP: too short, port */
+    {&udp4_port_zero, 45, {{39, 0x07}}, LK_BAD_LENGTH},          /* UDP: length less than 8, port */
+    {&udp4_port_zero, 45, {{39, 0x0c}}, LK_BAD_LENGTH},          /* UDP: length past the end, port */
+    {&udp6_port_zero, 65, {{59, 0x0c}}, LK_BAD_LENGTH},          /* UDP over IPv6: length, port */
+    {&tcp4_too_short, 53, {{46, 0x40}}, LK_TOO_SHORT},           /* TCP: too short, length */
+    {&tcp4_too_short, 53, {{34, 0}, {35, 0}}, LK_TOO_SHORT},     /* TCP: too short, port */
+    {&tcp4_port_zero, 57, {{46, 0x40}}, LK_BAD_LENGTH},          /* TCP: length less than 20, port */
+    {&tcp4_syn_fin, 57, {{46, 0x60}}, LK_BAD_LENGTH},            /* TCP: length past the end, flags */
+    {&tcp4_bad_options, 61, {{46, 0x80}}, LK_BAD_LENGTH},        /* TCP: length past the end, options */
+    {&tcp4_syn_fin, 57, {{34, 0}, {35, 0}}, LK_PORT_ZERO},       /* TCP: source port, flags */
+    {&tcp4_fin_rst, 57, {{36, 0}, {37, 0}}, LK_PORT_ZERO},       /* TCP: destination port, flags */
+    {&tcp4_bad_options, 61, {{34, 0}, {35, 0}}, LK_PORT_ZERO},   /* TCP: port, options */
+    {&tcp4_bad_options, 61, {{47, 0x06}}, LK_BAD_FLAGS},         /* TCP: flags, options */
     /* of two headers the outer one */
-    {&udp4_port_zero, 45, {{17, 0x20}}, LK_BAD_LENGTH}, /* IPv4: length, UDP: port */
-    {&udp4_too_short, 41, {{17, 0x1c}}, LK_BAD_LENGTH}, /* IPv4: length, UDP: too short */
+    {&udp4_port_zero, 45, {{17, 0x20}}, LK_BAD_LENGTH},   /* IPv4: length, UDP: port */
+    {&udp4_too_short, 41, {{17, 0x1c}}, LK_BAD_LENGTH},   /* IPv4: length, UDP: too short */
     {&tcp4_bad_length, 57, {{14, 0x65}}, LK_BAD_VERSION}, /* IPv4: version, TCP: length */
-    {&tcp6_syn_rst, 77, {{19, 0x18}}, LK_BAD_LENGTH}, /* IPv6: length, TCP: flags */
+    {&tcp6_syn_rst, 77, {{19, 0x18}}, LK_BAD_LENGTH},     /* IPv6: length, TCP: flags */
 };
 
 static void reads_first_reasons(void)
@@ -394,12 +393,16 @@ static void reads_first_reasons(void)
 /* ---- packets whose first four bits are no version, or one whose header does not fit ---- */
 
 static const struct {
-    const char *hex; /* the front of a packet, and zeros behind it */
+    const char *hex; /* the front of a packet, and zeros after it */
     size_t len;
     uint8_t reason;
 } packets[] = {
-    {"", 0, LK_TOO_SHORT},        {"45", 19, LK_TOO_SHORT},          {"45", 20, LK_BAD_LENGTH},
-    {"55", 1, LK_BAD_VERSION},    {"55", 40, LK_BAD_VERSION},        {"600000000001", 39, LK_TOO_SHORT},
+    {"", 0, LK_TOO_SHORT},
+    {"45", 19, LK_TOO_SHORT},
+    {"45", 20, LK_BAD_LENGTH},
+    {"55", 1, LK_BAD_VERSION},
+    {"55", 40, LK_BAD_VERSION},
+    {"600000000001", 39, LK_TOO_SHORT},
     {"600000000001", 40, LK_BAD_LENGTH},
 };
 

@@ -11,8 +11,8 @@ static int is_block(const char *text, const char *printed, int member)
     if (!both_parse_block(text, strlen(text), &block))
         return 0;
     ptrdiff_t len = both_print_block(&block, text_out, sizeof text_out);
-    return len == (ptrdiff_t)strlen(printed) && memcmp(text_out, printed, strlen(printed)) == 0
-        && both_contains(&block, &ten) == member;
+    return len == (ptrdiff_t)strlen(printed) && memcmp(text_out, printed, strlen(printed)) == 0 &&
+           both_contains(&block, &ten) == member;
 }
 
 static int is_addr(const char *text, const char *printed)
@@ -33,7 +33,8 @@ static int is_endpoint(const char *text, const char *printed, uint16_t port)
 
 static void texts(void)
 {
-    static const struct lk_addr four = {{192, 0, 2, 1}, 4}, six = {{0x20, 1, 0x0d, 0xb8, 0, 0, 0, 0, 0, 0, 0, 0, 0, 0, 0, 1}, 6};
+    static const struct lk_addr four = {{192, 0, 2, 1}, 4},
+                                six = {{0x20, 1, 0x0d, 0xb8, 0, 0, 0, 0, 0, 0, 0, 0, 0, 0, 0, 1}, 6};
     struct lk_addr a = addr("192.0.2.1"), b = addr("2001:DB8:0::1");
     uint8_t octets[6];
     char text[17];
@@ -85,8 +86,10 @@ static void rejected_texts(void)
 
 static void classes(void)
 {
-    struct lk_addr group = addr("239.255.255.255"), host = addr("223.255.255.255"), all = addr("255.255.255.255"), none = addr("0.0.0.0");
-    struct lk_addr group6 = addr("ff02::1"), host6 = addr("fe80::1"), site6 = addr("ff05::1:3"), none6 = addr("::"), no_version = {{1}, 0};
+    struct lk_addr group = addr("239.255.255.255"), host = addr("223.255.255.255"), all = addr("255.255.255.255"),
+                   none = addr("0.0.0.0");
+    struct lk_addr group6 = addr("ff02::1"), host6 = addr("fe80::1"), site6 = addr("ff05::1:3"), none6 = addr("::"),
+                   no_version = {{1}, 0};
     CHECK(both_is_multicast(&group) == 1 && both_is_multicast(&group6) == 1 && both_is_multicast(&site6) == 1);
     CHECK(!both_is_multicast(&host) && !both_is_multicast(&host6) && !both_is_multicast(&no_version));
     CHECK(both_is_unicast(&host) == 1 && both_is_unicast(&host6) == 1);
@@ -101,8 +104,10 @@ static void numbers(void)
     /* RFC 1624, section 4: the checksum 0xdd2f, and 0x5555 changed to 0x3285 */
     CHECK(both_update_checksum(0xdd2f, 0x5555, 0x3285) == 0x0000);
     CHECK(both_update_checksum(0x8fe6, 0x3f11, 0x3e11) == 0x90e6);
-    CHECK(both_update_udp_checksum(0xdd2f, 0x5555, 0x3285) == 0xffff && both_update_udp_checksum(0, 0x5555, 0x3285) == 0);
-    struct lk_addr inside = addr("192.0.2.1"), outside = addr("198.51.100.7"), old6 = addr("2001:db8::1"), new6 = addr("fe80::ff");
+    CHECK(both_update_udp_checksum(0xdd2f, 0x5555, 0x3285) == 0xffff &&
+          both_update_udp_checksum(0, 0x5555, 0x3285) == 0);
+    struct lk_addr inside = addr("192.0.2.1"), outside = addr("198.51.100.7"), old6 = addr("2001:db8::1"),
+                   new6 = addr("fe80::ff");
     CHECK(both_update_checksum_addr(0xb1e6, &inside, &outside) == 0x49ad);
     CHECK(both_update_checksum_addr(0x1c46, &old6, &new6) == 0x4a80);
     CHECK(both_update_checksum_addr(0x6839, &inside, &outside) == 0);
@@ -111,7 +116,8 @@ static void numbers(void)
     CHECK(both_add_seq(0xfffffff0, 0x20) == 0x10 && both_add_seq(5, 0xffffffff) == 4);
     CHECK(both_subtract_seq(0x10, 0xfffffff0) == 0x20 && both_subtract_seq(0xfffffff0, 0x10) == -0x20);
     CHECK(both_subtract_seq(7, 7) == 0 && both_subtract_seq(0x80000007, 7) == INT32_MIN);
-    CHECK(both_compare_seq(0xfffffff0, 0x10) == -1 && both_compare_seq(0x10, 0xfffffff0) == 1 && both_compare_seq(9, 9) == 0);
+    CHECK(both_compare_seq(0xfffffff0, 0x10) == -1 && both_compare_seq(0x10, 0xfffffff0) == 1 &&
+          both_compare_seq(9, 9) == 0);
     CHECK(both_compare_seq(0, 0x80000000) == -1 && both_compare_seq(0x80000000, 0) == -1);
 }
 

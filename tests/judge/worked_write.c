@@ -3,13 +3,13 @@
 #include "worked.h"
 
 /* The same around the payload, which is in `out` from `at` on. */
-#define WRAPS(wanted, at, call)                       \
-    do {                                              \
-        const struct octets written = wanted;         \
-        size_t cap = ROOM;                            \
-        clear();                                      \
-        memcpy(out + (at), payload, sizeof payload);  \
-        CHECK(holds(&written, call));                 \
+#define WRAPS(wanted, at, call) \
+    do { \
+        const struct octets written = wanted; \
+        size_t cap = ROOM; \
+        clear(); \
+        memcpy(out + (at), payload, sizeof payload); \
+        CHECK(holds(&written, call)); \
     } while (0)
 
 static const uint8_t payload[5] = {0xde, 0x01, 0xad, 0x02, 0xbe};
@@ -67,12 +67,14 @@ static void link_layer(void)
 {
     struct lk_addr src = addr("192.0.2.1"), dst = addr("198.51.100.7");
     WRITES(octets("0600aabbccdd02000000000188b5"), both_emit_ethernet(&ethernet, out, cap));
-    WRITES(octets("0001080006040002020000000001c00002010600aabbccddc6336407"), both_emit_arp(&arp, &src, &dst, out, cap));
+    WRITES(octets("0001080006040002020000000001c00002010600aabbccddc6336407"),
+           both_emit_arp(&arp, &src, &dst, out, cap));
 }
 
 static void network_layer(void)
 {
-    struct lk_addr src = addr("192.0.2.1"), dst = addr("198.51.100.7"), src6 = addr("2001:db8::1"), dst6 = addr("2001:db8:ffff::7");
+    struct lk_addr src = addr("192.0.2.1"), dst = addr("198.51.100.7"), src6 = addr("2001:db8::1"),
+                   dst6 = addr("2001:db8:ffff::7");
     struct lk_ip fragment = ip(0xbeef, 0, 1480), whole = ip(0xbeef, 0xfffff, 0), ipv6 = ip(0, 0xabcde, 0);
     fragment.more_fragments = 2;
     WRITES(octets("45ba03fcbeef20b93f84aadfc0000201c6336407"), both_emit_ip(&fragment, &src, &dst, 1000, 1, out, cap));
@@ -89,11 +91,13 @@ static void network_layer(void)
 /* Values that a call might take for a default, or for the end of a range: they are written as they are. */
 static void unusual_values(void)
 {
-    struct lk_addr src = addr("192.0.2.1"), dst = addr("198.51.100.7"), src6 = addr("2001:db8::1"), dst6 = addr("2001:db8:ffff::7");
+    struct lk_addr src = addr("192.0.2.1"), dst = addr("198.51.100.7"), src6 = addr("2001:db8::1"),
+                   dst6 = addr("2001:db8:ffff::7");
     struct lk_ip last = ip(0xffff, 0, 65528), ipv6 = ip(0, 0xfffff, 0), first;
     struct lk_arp other = arp;
     other.operation = 0x0102;
-    WRITES(octets("0001080006040102020000000001c00002010600aabbccddc6336407"), both_emit_arp(&other, &src, &dst, out, cap));
+    WRITES(octets("0001080006040102020000000001c00002010600aabbccddc6336407"),
+           both_emit_arp(&other, &src, &dst, out, cap));
     last.dscp = ipv6.dscp = 63, last.ecn = ipv6.ecn = 3, last.protocol = 255;
     last.hop_limit = ipv6.hop_limit = 1, ipv6.protocol = 0;
     WRITES(octets("45ff0014ffff1fff01ffabb1c0000201c6336407"), both_emit_ip(&last, &src, &dst, 0, 1, out, cap));
@@ -118,15 +122,18 @@ static void transport_layer(void)
     memset(&none, 0, sizeof none);
     src.port = src6.port = 49152;
     dst.port = dst6.port = 443;
-    WRITES(octets("c00001bb89abcdef123456785058feed2e56cafede01ad02be"), both_emit_tcp(&data, &none, &src, &dst, payload, 5, 1, out, cap));
-    WRITES(octets("c00001bb89abcdef12345678c0b1feedb5afcafe020405b4030307050a1122334455667788080a010203040a0b0c0d00de01ad02be"),
+    WRITES(octets("c00001bb89abcdef123456785058feed2e56cafede01ad02be"),
+           both_emit_tcp(&data, &none, &src, &dst, payload, 5, 1, out, cap));
+    WRITES(octets("c00001bb89abcdef12345678c0b1feedb5afcafe020405b4030307050a1122334455667788080a010203040a0b0c0d00"
+                  "de01ad02be"),
            both_emit_tcp(&last, &all, &src6, &dst6, payload, 5, 1, out, cap));
     permitted.sack_permitted = 1;
     permitted.sack_range_count = 0;
     first.ack_number = 0;
     WRITES(octets("c00001bb89abcdef00000000a002feed1f6c0000020405b40303070402080a010203040a0b0c0d00"),
            both_emit_tcp(&first, &permitted, &src, &dst, payload, 0, 1, out, cap));
-    WRITES(octets("c00001bb89abcdef123456785004feed00000000de01ad02be"), both_emit_tcp(&reset, &none, &src, &dst, payload, 5, 0, out, cap));
+    WRITES(octets("c00001bb89abcdef123456785004feed00000000de01ad02be"),
+           both_emit_tcp(&reset, &none, &src, &dst, payload, 5, 0, out, cap));
     CHECK(both_tcp_header_len(&none) == 20 && both_tcp_header_len(&all) == 48 && both_tcp_header_len(&permitted) == 40);
 }
 
@@ -135,7 +142,8 @@ static int reads_back(const struct lk_tcp_options *options)
 {
     struct lk_tcp_options found;
     memset(&found, OLD, sizeof found);
-    return both_tcp_header_len(options) == 60 && both_read_tcp_options(out, 60, &found) == 1 && memcmp(&found, options, sizeof found) == 0;
+    return both_tcp_header_len(options) == 60 && both_read_tcp_options(out, 60, &found) == 1 &&
+           memcmp(&found, options, sizeof found) == 0;
 }
 
 /* The longest headers, 60 octets. */
@@ -158,13 +166,16 @@ static void longest_headers(void)
     four.sack_ranges[3].left = 0x10203043, four.sack_ranges[3].right = 0x50607083;
     four.sack_range_count = 4;
     WRITES(octets("c00001bb89abcdef12345678f058feed7c43cafe020405b40522102030405060708010203041506070811020304250607082"
-           "10203043506070830000de01ad02be"), both_emit_tcp(&data, &four, &src, &dst, payload, 5, 1, out, cap));
+                  "10203043506070830000de01ad02be"),
+           both_emit_tcp(&data, &four, &src, &dst, payload, 5, 1, out, cap));
     CHECK(reads_back(&four));
     WRITES(octets("c00001bb89abcdef12345678f058feed5b6acafe020405b4051a102030405060708010203041506070811020304250607082"
-           "080a010203040a0b0c0dde01ad02be"), both_emit_tcp(&data, &three, &src, &dst, payload, 5, 1, out, cap));
+                  "080a010203040a0b0c0dde01ad02be"),
+           both_emit_tcp(&data, &three, &src, &dst, payload, 5, 1, out, cap));
     CHECK(reads_back(&three));
     WRITES(octets("c00001bb89abcdef12345678f058feedec2ccafe020405b4051a102030405060708010203041506070811020304250607082"
-           "080a010203040a0b0c0dde01ad02be"), both_emit_tcp(&data, &three, &src6, &dst6, payload, 5, 1, out, cap));
+                  "080a010203040a0b0c0dde01ad02be"),
+           both_emit_tcp(&data, &three, &src6, &dst6, payload, 5, 1, out, cap));
     CHECK(reads_back(&three));
 }
 
@@ -174,13 +185,13 @@ static const struct {
     uint16_t max_seg_size;
     uint8_t has_max_seg_size, window_scale, has_window_scale, scale_read;
 } limits[] = {
-    {{2, 4, 0, 0}, 0, 1, 0, 0, 0}, /* size 0 */
-    {{2, 4, 0, 1}, 1, 1, 0, 0, 0}, /* size 1 */
+    {{2, 4, 0, 0}, 0, 1, 0, 0, 0},           /* size 0 */
+    {{2, 4, 0, 1}, 1, 1, 0, 0, 0},           /* size 1 */
     {{2, 4, 0xff, 0xff}, 65535, 1, 0, 0, 0}, /* size 65535 */
-    {{3, 3, 0, 0}, 0, 0, 0, 1, 0}, /* scale 0 */
-    {{3, 3, 14, 0}, 0, 0, 14, 1, 14}, /* scale 14 */
-    {{3, 3, 15, 0}, 0, 0, 15, 1, 14}, /* scale 15 */
-    {{3, 3, 255, 0}, 0, 0, 255, 1, 14}, /* scale 255 */
+    {{3, 3, 0, 0}, 0, 0, 0, 1, 0},           /* scale 0 */
+    {{3, 3, 14, 0}, 0, 0, 14, 1, 14},        /* scale 14 */
+    {{3, 3, 15, 0}, 0, 0, 15, 1, 14},        /* scale 15 */
+    {{3, 3, 255, 0}, 0, 0, 255, 1, 14},      /* scale 255 */
 };
 
 static void limits_of_options(void)
@@ -217,15 +228,20 @@ static struct lk_frame headers(const char *src, const char *dst)
 
 static void frames(void)
 {
-    static const char udp4_hex[] = "0600aabbccdd020000000001080045ba0021beef40003f118fe6c0000201c633640714e90035000db574de01ad02be";
-    static const char udp6_hex[] = "0600aabbccdd02000000000186dd6baabcde000d113f20010db800000000000000000000000120010db8ffff0000"
-                               "000000000000000714e90035000d4637de01ad02be";
-    static const char tcp4_hex[] = "0600aabbccdd020000000001080045ba0049beef40003f068fc9c0000201c633640714e9003589abcdef12345678"
-                               "c058feedd1e3cafe020405b4030307050a1122334455667788080a010203040a0b0c0d00de01ad02be";
-    static const char tcp6_hex[] = "0600aabbccdd02000000000186dd6baabcde0035063f20010db800000000000000000000000120010db8ffff0000"
-                               "000000000000000714e9003589abcdef12345678c058feed62a6cafe020405b4030307050a112233445566778808"
-                               "0a010203040a0b0c0d00de01ad02be";
-    struct lk_frame ipv4 = headers("192.0.2.1:5353", "198.51.100.7:53"), ipv6 = headers("[2001:db8::1]:5353", "[2001:db8:ffff::7]:53");
+    static const char udp4_hex[] =
+        "0600aabbccdd020000000001080045ba0021beef40003f118fe6c0000201c633640714e90035000db574de01ad02be";
+    static const char udp6_hex[] =
+        "0600aabbccdd02000000000186dd6baabcde000d113f20010db800000000000000000000000120010db8ffff0000"
+        "000000000000000714e90035000d4637de01ad02be";
+    static const char tcp4_hex[] =
+        "0600aabbccdd020000000001080045ba0049beef40003f068fc9c0000201c633640714e9003589abcdef12345678"
+        "c058feedd1e3cafe020405b4030307050a1122334455667788080a010203040a0b0c0d00de01ad02be";
+    static const char tcp6_hex[] =
+        "0600aabbccdd02000000000186dd6baabcde0035063f20010db800000000000000000000000120010db8ffff0000"
+        "000000000000000714e9003589abcdef12345678c058feed62a6cafe020405b4030307050a112233445566778808"
+        "0a010203040a0b0c0d00de01ad02be";
+    struct lk_frame ipv4 = headers("192.0.2.1:5353", "198.51.100.7:53"),
+                    ipv6 = headers("[2001:db8::1]:5353", "[2001:db8:ffff::7]:53");
     struct lk_tcp_options all = options();
     ipv6.ip.ident = 0;
     ipv6.ip.flow_label = 0xabcde;
@@ -242,21 +258,22 @@ static void frames(void)
 }
 
 /* A call writes `written` octets with a payload of `most` octets, and rejects one octet more. */
-#define AT_MOST(most, written, call)                 \
-    do {                                             \
-        size_t len = (most);                         \
-        CHECK((call) == (written));                  \
-        len++;                                       \
-        CHECK((call) == LK_PAYLOAD_TOO_LONG);        \
+#define AT_MOST(most, written, call) \
+    do { \
+        size_t len = (most); \
+        CHECK((call) == (written)); \
+        len++; \
+        CHECK((call) == LK_PAYLOAD_TOO_LONG); \
     } while (0)
 
-/* A packet or segment has at most 65,535 octets, and of IPv4 with its header (RFC 791, RFC 8200). The options of TCP have
- * at most 40 octets (RFC 9293). */
+/* A packet or segment has at most 65,535 octets, and of IPv4 with its header (RFC 791, RFC 8200). The options of TCP
+ * have at most 40 octets (RFC 9293). */
 static void longest_packets(void)
 {
     static uint8_t zeros[65536], room[65536 + 80];
     const size_t cap = sizeof room;
-    struct lk_frame v4 = headers("192.0.2.1:5353", "198.51.100.7:53"), v6 = headers("[2001:db8::1]:5353", "[2001:db8:ffff::7]:53");
+    struct lk_frame v4 = headers("192.0.2.1:5353", "198.51.100.7:53"),
+                    v6 = headers("[2001:db8::1]:5353", "[2001:db8:ffff::7]:53");
     struct lk_tcp_options none, full;
     memset(&none, 0, sizeof none);
     full = none, full.sack_range_count = 4, full.has_max_seg_size = 1;
@@ -284,10 +301,13 @@ static void longest_packets(void)
 /* A source port of 0 is written: the sender of UDP needs no answer (RFC 768). */
 static void no_source_port(void)
 {
-    static const char udp4_hex[] = "0600aabbccdd020000000001080045ba0021beef40003f118fe6c0000201c633640700000009000dca89de01ad02be";
-    static const char udp6_hex[] = "0600aabbccdd02000000000186dd6baabcde000d113f20010db800000000000000000000000120010db8ffff0000"
-                               "000000000000000700000009000d5b4cde01ad02be";
-    struct lk_frame ipv4 = headers("192.0.2.1", "198.51.100.7:9"), ipv6 = headers("2001:db8::1", "[2001:db8:ffff::7]:9");
+    static const char udp4_hex[] =
+        "0600aabbccdd020000000001080045ba0021beef40003f118fe6c0000201c633640700000009000dca89de01ad02be";
+    static const char udp6_hex[] =
+        "0600aabbccdd02000000000186dd6baabcde000d113f20010db800000000000000000000000120010db8ffff0000"
+        "000000000000000700000009000d5b4cde01ad02be";
+    struct lk_frame ipv4 = headers("192.0.2.1", "198.51.100.7:9"),
+                    ipv6 = headers("2001:db8::1", "[2001:db8:ffff::7]:9");
     ipv6.ip.ident = 0, ipv6.ip.flow_label = 0xabcde;
     WRITES(octets("00000009000dca89de01ad02be"), both_emit_udp(&ipv4.src, &ipv4.dst, payload, 5, 1, out, cap));
     WRITES(octets(udp4_hex), both_emit_udp_frame(&ipv4, payload, 5, out, cap));
@@ -302,15 +322,18 @@ static void replies(void)
     struct lk_frame frame = headers("192.0.2.1:5353", "198.51.100.7:53"), reply = frame, back;
     frame.ip.protocol = reply.ip.protocol = 6;
     both_reply(&reply);
-    CHECK(memcmp(&reply.src, &frame.dst, sizeof frame.dst) == 0 && memcmp(&reply.dst, &frame.src, sizeof frame.src) == 0);
+    CHECK(memcmp(&reply.src, &frame.dst, sizeof frame.dst) == 0 &&
+          memcmp(&reply.dst, &frame.src, sizeof frame.src) == 0);
     CHECK(memcmp(reply.ethernet.src, ethernet.dst, 6) == 0 && memcmp(reply.ethernet.dst, ethernet.src, 6) == 0);
-    CHECK(memcmp(reply.arp.src_hardware, arp.dst_hardware, 6) == 0 && memcmp(reply.arp.dst_hardware, arp.src_hardware, 6) == 0);
+    CHECK(memcmp(reply.arp.src_hardware, arp.dst_hardware, 6) == 0 &&
+          memcmp(reply.arp.dst_hardware, arp.src_hardware, 6) == 0);
     CHECK(reply.ethernet.type == 0x88b5 && reply.arp.operation == 2 && memcmp(&reply.ip, &fresh, sizeof fresh) == 0);
     CHECK(memcmp(&reply.tcp, &frame.tcp, sizeof frame.tcp) == 0 && reply.payload_len == frame.payload_len);
     CHECK(reply.network_offset == frame.network_offset && reply.transport_checksum == frame.transport_checksum);
     back = reply;
     both_reply(&back);
-    CHECK(memcmp(&back.src, &frame.src, sizeof frame.src) == 0 && memcmp(&back.ethernet, &ethernet, sizeof ethernet) == 0);
+    CHECK(memcmp(&back.src, &frame.src, sizeof frame.src) == 0 &&
+          memcmp(&back.ethernet, &ethernet, sizeof ethernet) == 0);
 }
 
 void worked_write(void)
