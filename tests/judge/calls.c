@@ -1,6 +1,6 @@
 /* Each call of the library beside its model. `both_NAME` has the arguments and the results of `lk_NAME`: it gives the
  * same arguments to both, those of the library between guard pages, and ends the program at a difference. Numbers are
- * given as octets too, so that a report shows them. */
+ * given as bytes too, so that a report shows them. */
 #include <string.h>
 #include "judge.h"
 
@@ -12,12 +12,12 @@ static size_t placed_len(size_t len)
     return len <= 65540 ? len : 0;
 }
 
-/* ---- calls that write octets ---- */
+/* ---- calls that write bytes ---- */
 
 static uint8_t before[MODEL_ROOM], wanted[MODEL_ROOM];
 static uint8_t *placed;
 
-/* Begins a result: the same octets for the model and the library. */
+/* Begins a result: the same bytes for the model and the library. */
 static void *begin_out(const void *out, size_t cap)
 {
     size_t len = used_len(cap);
@@ -26,7 +26,7 @@ static void *begin_out(const void *out, size_t cap)
     return placed = room(wanted, len);
 }
 
-/* The same for octets that the call reads too: the report shows them as they were. */
+/* The same for bytes that the call reads too: the report shows them as they were. */
 static void *begin_change(const char *name, const void *octets, size_t cap)
 {
     size_t len = used_len(cap);

@@ -19,7 +19,7 @@ static size_t any_cap(ptrdiff_t len)
     return (size_t)len + (pick < 6 ? 0 : below(40));
 }
 
-/* Any octets, into which a call writes. */
+/* Any bytes, into which a call writes. */
 static uint8_t *any_out(size_t cap)
 {
     size_t len = used_len(cap);

@@ -10,7 +10,7 @@ static size_t mapping_count;
 static uint64_t now;
 static uint8_t frame[MODEL_ROOM];
 
-/* The first octets of a packet that was translated, which an error may quote. */
+/* The first bytes of a packet that was translated, which an error may quote. */
 struct kept {
     uint8_t octets[200];
     size_t len;

@@ -128,7 +128,7 @@ void read_options(void)
 
 static uint8_t measured[MODEL_ROOM], out[MODEL_ROOM];
 
-/* The room for a result of `len` octets: often just enough, at times too little or none. */
+/* The room for a result of `len` bytes: often just enough, at times too little or none. */
 static size_t any_cap(size_t len)
 {
     size_t pick = below(8);
@@ -137,7 +137,7 @@ static size_t any_cap(size_t len)
     return len + (pick < 5 ? 0 : below(40));
 }
 
-/* Any octets, into which a call writes. */
+/* Any bytes, into which a call writes. */
 static uint8_t *any_out(size_t cap)
 {
     size_t len = used_len(cap);

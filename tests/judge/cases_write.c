@@ -126,7 +126,7 @@ static size_t any_cap(ptrdiff_t len)
     return (size_t)len + (pick < 6 ? 0 : below(40));
 }
 
-/* Any octets, into which a call writes. */
+/* Any bytes, into which a call writes. */
 static uint8_t *any_out(size_t cap)
 {
     size_t len = used_len(cap);
@@ -220,7 +220,7 @@ static void emit_arp(const struct lk_frame *headers)
     both_emit_arp(&headers->arp, &headers->src.addr, &headers->dst.addr, any_out(cap), cap);
 }
 
-/* Any number but 0 means that a checksum is computed, also one whose lowest octet is 0. */
+/* Any number but 0 means that a checksum is computed, also one whose lowest byte is 0. */
 static int any_computed(void)
 {
     static const int values[] = {1, 1, -1, 0x100, 0x10000, 2};

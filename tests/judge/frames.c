@@ -39,7 +39,7 @@ struct lk_addr any_addr(unsigned version)
     return addr;
 }
 
-/* Mostly 4 or 6, seldom another number, or one of which only the lowest octet is 4 or 6. */
+/* Mostly 4 or 6, seldom another number, or one of which only the lowest byte is 4 or 6. */
 unsigned any_version(void)
 {
     return one_in(16) ? (unsigned)below(8) + (one_in(4) ? 256 : 0) : one_in(64) ? (unsigned)any() & 0xffff : one_in(2) ? 4 : 6;

@@ -17,7 +17,7 @@ struct octets {
 #include "worked_frames.inc"
 #undef FRAME
 
-/* An octet that gets another value. Octet 0 is no change: it ends a list. */
+/* A byte that gets another value. Byte 0 is no change: it ends a list. */
 struct change {
     size_t at;
     uint8_t octet;
@@ -26,7 +26,7 @@ struct change {
 struct octets octets(const char *hex);
 struct octets changed(struct octets octets, size_t at, uint8_t octet);
 
-/* The first `len` octets, with these changes. */
+/* The first `len` bytes, with these changes. */
 struct octets cut(const struct octets *octets, size_t len, const struct change changes[CHANGES]);
 
 struct lk_addr addr(const char *text);
@@ -41,10 +41,10 @@ void check(const char *file, int line, size_t row, int holds);
 extern uint8_t out[ROOM];
 uint8_t *clear(void);
 
-/* Whether `out` has these octets, and OLD behind them. */
+/* Whether `out` has these bytes, and OLD after them. */
 int holds(const struct octets *octets, ptrdiff_t written);
 
-/* A call writes these octets into `out`, which has `cap` octets: with just enough, and with much room. With one less
+/* A call writes these bytes into `out`, which has `cap` bytes: with just enough, and with much room. With one less
  * it fails. */
 #define WRITES(wanted, call)                          \
     do {                                              \

@@ -93,7 +93,7 @@ static void offers_of_hosts(void)
     }
 }
 
-/* A host ignores a frame that is cut off, or in which a bit of an octet behind the Ethernet header is wrong. */
+/* A host ignores a frame that is cut off, or in which a bit of a byte after the Ethernet header is wrong. */
 static void ignores_damaged_frames(void)
 {
     static const uint16_t ports[1] = {80};
@@ -148,7 +148,7 @@ static void answers_of_routers(void)
     ANSWERS(router, solicit, router_advert);
 }
 
-/* ---- recorded lines: a name, a host, the octets of its buffer, and a frame ---- */
+/* ---- recorded lines: a name, a host, the bytes of its buffer, and a frame ---- */
 
 enum { PORTS = 8 };
 

@@ -3,7 +3,7 @@
 
 /* ---- reading ---- */
 
-/* A frame has an echo message with 5 octets of data. */
+/* A frame has an echo message with 5 bytes of data. */
 static void is_echo(int line, const struct lk_frame *frame, uint8_t type, size_t offset, uint8_t checksum)
 {
     check(__FILE__, line, 0, frame->transport == LK_ICMP && frame->rejected == LK_NO_TRANSPORT);
@@ -31,7 +31,7 @@ static struct lk_frame read(const struct octets *frame)
     return found;
 }
 
-/* The frame with one octet changed. */
+/* The frame with one byte changed. */
 static struct lk_frame read_changed(struct octets frame, size_t at, uint8_t octet)
 {
     frame = changed(frame, at, octet);
@@ -57,7 +57,7 @@ static void read_messages(void)
     CHECK(memcmp(expired.at + 42, last_hop.at + 14, frame.payload_len) == 0);
 }
 
-/* Neither the protocol of the other version, nor a fragment, nor fewer than 8 octets. */
+/* Neither the protocol of the other version, nor a fragment, nor fewer than 8 bytes. */
 static void read_no_messages(void)
 {
     struct lk_frame frame = read_changed(echo_request, 23, 58);

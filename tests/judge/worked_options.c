@@ -75,7 +75,7 @@ static int steps(const struct octets *header, char *text)
     return result;
 }
 
-/* A header: 20 octets, of which one is its length, and the options. */
+/* A header: 20 bytes, of which one is its length, and the options. */
 static struct octets header_with(const char *options)
 {
     struct octets found = {{0}, 20 + strlen(options) / 2};

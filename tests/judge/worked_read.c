@@ -345,7 +345,7 @@ static void reads_verdicts(void)
 
 /* ---- two faults at once: the first reason of the list in c/ip_wire.h that applies ---- */
 
-/* IPv4 and IPv6 begin at octet 14, the transport header after them at octet 34 or 54. */
+/* IPv4 and IPv6 begin at byte 14, the transport header after them at byte 34 or 54. */
 static const struct {
     const struct octets *frame;
     size_t len;
@@ -418,7 +418,7 @@ static void rejects_packets(void)
     }
 }
 
-/* ---- the fragment header of IPv6, 8 octets (RFC 8200, section 4.5) ---- */
+/* ---- the fragment header of IPv6, 8 bytes (RFC 8200, section 4.5) ---- */
 
 static void reads_fragment_headers(void)
 {

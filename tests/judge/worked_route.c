@@ -5,7 +5,7 @@ static const uint8_t src[6] = {2, 0, 0, 0, 0, 0x11}, dst[6] = {2, 0, 0, 0, 0, 0x
 
 /* ---- a router ---- */
 
-/* Frames that are not forwarded, with the first reason of the list. IPv4 and IPv6 begin at octet 14. */
+/* Frames that are not forwarded, with the first reason of the list. IPv4 and IPv6 begin at byte 14. */
 static const struct {
     const struct octets *frame;
     size_t len;
@@ -30,7 +30,7 @@ static const struct {
     {&router_solicit, 70, {{21, 0}}, LK_EXPIRED},
 };
 
-/* The frame becomes these octets. */
+/* The frame becomes these bytes. */
 static void forwards(int line, struct octets frame, const struct octets *forwarded)
 {
     check(__FILE__, line, 0, both_forward(frame.at, frame.len, src, dst) == 0);

@@ -1,4 +1,4 @@
-/* Worked calls that write: each field of each struct has its own value. The expected octets were packed by another
+/* Worked calls that write: each field of each struct has its own value. The expected bytes were packed by another
  * program, field by field. */
 #include "worked.h"
 
@@ -137,7 +137,7 @@ static void transport_layer(void)
     CHECK(both_tcp_header_len(&none) == 20 && both_tcp_header_len(&all) == 48 && both_tcp_header_len(&permitted) == 40);
 }
 
-/* The header in `out` is 60 octets long, and has these options. */
+/* The header in `out` is 60 bytes long, and has these options. */
 static int reads_back(const struct lk_tcp_options *options)
 {
     struct lk_tcp_options found;
@@ -146,7 +146,7 @@ static int reads_back(const struct lk_tcp_options *options)
            memcmp(&found, options, sizeof found) == 0;
 }
 
-/* The longest headers, 60 octets. */
+/* The longest headers, 60 bytes. */
 static void longest_headers(void)
 {
     struct lk_endpoint src = endpoint("192.0.2.1:49152"), dst = endpoint("198.51.100.7:443");
@@ -179,7 +179,7 @@ static void longest_headers(void)
     CHECK(reads_back(&three));
 }
 
-/* An option list of 4 octets. A scale above 14 is read as 14 (RFC 7323, section 2.3), and written as it is. */
+/* An option list of 4 bytes. A scale above 14 is read as 14 (RFC 7323, section 2.3), and written as it is. */
 static const struct {
     uint8_t octets[4];
     uint16_t max_seg_size;
@@ -257,7 +257,7 @@ static void frames(void)
            both_emit_arp_frame(&ipv4, out, cap));
 }
 
-/* A call writes `written` octets with a payload of `most` octets, and rejects one octet more. */
+/* A call writes `written` bytes with a payload of `most` bytes, and rejects one byte more. */
 #define AT_MOST(most, written, call) \
     do { \
         size_t len = (most); \
@@ -266,8 +266,8 @@ static void frames(void)
         CHECK((call) == LK_PAYLOAD_TOO_LONG); \
     } while (0)
 
-/* A packet or segment has at most 65,535 octets, and of IPv4 with its header (RFC 791, RFC 8200). The options of TCP
- * have at most 40 octets (RFC 9293). */
+/* A packet or segment has at most 65,535 bytes, and of IPv4 with its header (RFC 791, RFC 8200). The options of TCP
+ * have at most 40 bytes (RFC 9293). */
 static void longest_packets(void)
 {
     static uint8_t zeros[65536], room[65536 + 80];
