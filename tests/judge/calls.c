@@ -7,12 +7,7 @@
 #define GIVE(ptr) given(#ptr, ptr, sizeof *(ptr))
 #define NUMBER(number) (given(#number, &number, sizeof number), number)
 
-static size_t placed_len(size_t len)
-{
-    return len <= 65540 ? len : 0;
-}
-
-/* ---- calls that write bytes ---- */
+/* ---- calls that write octets ---- */
 
 static uint8_t before[MODEL_ROOM], wanted[MODEL_ROOM];
 static uint8_t *placed;

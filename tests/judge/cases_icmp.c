@@ -2,39 +2,13 @@
 #include <string.h>
 #include "judge.h"
 
-static uint8_t payload[MODEL_ROOM], measured[MODEL_ROOM], out[MODEL_ROOM];
+static uint8_t payload[MODEL_ROOM], measured[MODEL_ROOM];
 
 /* ---- arguments ---- */
-
-/* The room for a result: often just enough, at times too little, none, or never used. */
-static size_t any_cap(ptrdiff_t len)
-{
-    size_t pick = below(12);
-    if (len <= 0)
-        len = (ptrdiff_t)below(120);
-    if (pick == 0)
-        return one_in(8) ? unused_len() : below((size_t)len + 1);
-    if (pick == 1)
-        return (size_t)len - 1 < (size_t)len ? (size_t)len - 1 : 0;
-    return (size_t)len + (pick < 6 ? 0 : below(40));
-}
-
-/* Any bytes, into which a call writes. */
-static uint8_t *any_out(size_t cap)
-{
-    size_t len = used_len(cap);
-    fill(out, len < 400 ? len : 400);
-    return out;
-}
 
 static size_t any_payload_len(size_t most)
 {
     return one_in(16) ? one_in(4) ? unused_len() : most + below(3) - 1 : any_len(most + 1);
-}
-
-static size_t placed_len(size_t len)
-{
-    return len <= 65540 ? len : 0;
 }
 
 static struct lk_frame any_headers(void)

@@ -126,24 +126,7 @@ void read_options(void)
 
 /* ---- rebuilding and answering ---- */
 
-static uint8_t measured[MODEL_ROOM], out[MODEL_ROOM];
-
-/* The room for a result of `len` bytes: often just enough, at times too little or none. */
-static size_t any_cap(size_t len)
-{
-    size_t pick = below(8);
-    if (pick < 3 && len > pick)
-        return pick == 0 ? below(len) : len - pick;
-    return len + (pick < 5 ? 0 : below(40));
-}
-
-/* Any bytes, into which a call writes. */
-static uint8_t *any_out(size_t cap)
-{
-    size_t len = used_len(cap);
-    fill(out, len < 300 ? len : 300);
-    return out;
-}
+static uint8_t measured[MODEL_ROOM];
 
 static void rebuild_one(size_t len, size_t cap)
 {
@@ -156,7 +139,7 @@ void rebuild_frame(void)
     size_t cap;
     make_frame();
     len = model_rebuild(made.octets, made.len, measured, made.len); /* this room always suffices */
-    cap = any_cap(len < 0 ? made.len : (size_t)len);
+    cap = any_cap(len < 0 ? (ptrdiff_t)made.len : len);
     rebuild_one(made.len, cap);
     same_number("no room, with as much as the frame has", 0, len == LK_NO_ROOM);
     if (one_in(64))
@@ -180,7 +163,7 @@ void answer_frame(void)
     model_read_frame(made.octets, made.len, &frame);
     host = any_host_for(&frame);
     len = model_answer(&host, made.octets, made.len, measured, sizeof measured);
-    cap = any_cap(len <= 0 ? below(60) : (size_t)len);
+    cap = any_cap(len);
     answer_one(&host, made.len, cap);
     if (one_in(64))
         answer_one(&host, made.len, unused_len());

@@ -193,7 +193,7 @@ static struct lk_addr any_printed_addr(void)
 /* Room for the text: mostly enough, and mostly for the null too. */
 static char out[120];
 
-static size_t any_cap(ptrdiff_t len)
+static size_t any_text_cap(ptrdiff_t len)
 {
     size_t cap = len < 0 ? below(60) : one_in(4) ? below((size_t)len + 1) : (size_t)len + below(4);
     fill(out, sizeof out);
@@ -201,11 +201,11 @@ static size_t any_cap(ptrdiff_t len)
 }
 
 /* The longest text and its null fit into `text_len`. */
-#define PRINT(kind, value, text_len)                                          \
-    do {                                                                      \
-        ptrdiff_t len = model_print_##kind(value, out, sizeof out);           \
-        both_print_##kind(value, out, any_cap(len));                          \
-        same_number("fits", 1, len < text_len);                                \
+#define PRINT(kind, value, text_len)                                \
+    do {                                                            \
+        ptrdiff_t len = model_print_##kind(value, out, sizeof out); \
+        both_print_##kind(value, out, any_text_cap(len));           \
+        same_number("fits", 1, len < text_len);                     \
     } while (0)
 
 void print_text(void)

@@ -2,7 +2,7 @@
 #include <string.h>
 #include "judge.h"
 
-static uint8_t payload[MODEL_ROOM], measured[MODEL_ROOM], out[MODEL_ROOM];
+static uint8_t payload[MODEL_ROOM], measured[MODEL_ROOM];
 
 /* ---- values ---- */
 
@@ -111,32 +111,6 @@ static size_t any_payload_len(size_t limit)
 static size_t limit_of(const struct lk_frame *headers, size_t header_len)
 {
     return (headers->src.addr.version == 4 ? 65515 : 65535) - header_len;
-}
-
-/* The room for a result: often just enough, at times too little, none, or never used. */
-static size_t any_cap(ptrdiff_t len)
-{
-    size_t pick = below(12);
-    if (len < 0)
-        len = (ptrdiff_t)below(120);
-    if (pick == 0)
-        return one_in(8) ? unused_len() : below((size_t)len + 1);
-    if (pick == 1 && len > 0)
-        return (size_t)len - 1;
-    return (size_t)len + (pick < 6 ? 0 : below(40));
-}
-
-/* Any bytes, into which a call writes. */
-static uint8_t *any_out(size_t cap)
-{
-    size_t len = used_len(cap);
-    fill(out, len < 400 ? len : 400);
-    return out;
-}
-
-static size_t placed_len(size_t len)
-{
-    return len <= 65540 ? len : 0;
 }
 
 /* A payload whose UDP checksum is computed as 0, one time in eight. */

@@ -74,6 +74,31 @@ size_t unused_len(void)
     }
 }
 
+size_t placed_len(size_t len)
+{
+    return len <= 65540 ? len : 0;
+}
+
+size_t any_cap(ptrdiff_t len)
+{
+    size_t pick = below(12);
+    if (len <= 0)
+        len = (ptrdiff_t)below(120);
+    if (pick == 0)
+        return one_in(8) ? unused_len() : below((size_t)len + 1);
+    if (pick == 1 && len > 0)
+        return (size_t)len - 1;
+    return (size_t)len + (pick < 6 ? 0 : below(40));
+}
+
+uint8_t *any_out(size_t cap)
+{
+    static uint8_t out[MODEL_ROOM];
+    size_t len = used_len(cap);
+    fill(out, len < 400 ? len : 400);
+    return out;
+}
+
 /* ---- memory ---- */
 
 enum { SLOTS = 10, SLOT_LEN = MODEL_ROOM, GUARD_LEN = 0x10000 };
