@@ -7,7 +7,7 @@
 #define GIVE(ptr) given(#ptr, ptr, sizeof *(ptr))
 #define NUMBER(number) (given(#number, &number, sizeof number), number)
 
-/* ---- calls that write octets ---- */
+/* ---- calls that write bytes ---- */
 
 static uint8_t before[MODEL_ROOM], wanted[MODEL_ROOM];
 static uint8_t *placed;

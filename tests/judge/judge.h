@@ -18,13 +18,13 @@ size_t any_len(size_t most);
 /* A length that is never used. */
 size_t unused_len(void);
 
-/* How many octets of a payload are placed: none of one that no packet can have. */
+/* How many bytes of a payload are placed: none of one that no packet can have. */
 size_t placed_len(size_t len);
 
 /* The room for a result of this length: often just enough, at times too little, none, or never used. */
 size_t any_cap(ptrdiff_t len);
 
-/* Any octets, into which a call writes. */
+/* Any bytes, into which a call writes. */
 uint8_t *any_out(size_t cap);
 
 /* ---- support.c: calls that are compared ---- */

@@ -75,7 +75,7 @@ static void network_layer(void)
 {
     struct lk_addr src = addr("192.0.2.1"), dst = addr("198.51.100.7"), src6 = addr("2001:db8::1"),
                    dst6 = addr("2001:db8:ffff::7");
-    const struct lk_addr odd = {{192, 0, 2, 1}, 260}; /* only the lowest octet is 4 */
+    const struct lk_addr odd = {{192, 0, 2, 1}, 260}; /* only the lowest byte is 4 */
     struct lk_ip fragment = ip(0xbeef, 0, 1480), whole = ip(0xbeef, 0xfffff, 0), ipv6 = ip(0, 0xabcde, 0);
     fragment.more_fragments = 2;
     WRITES(octets("45ba03fcbeef20b93f84aadfc0000201c6336407"), both_emit_ip(&fragment, &src, &dst, 1000, 1, out, cap));
