@@ -30,11 +30,12 @@ CarriesSegment choice frame link header v payload = ReadsFrame (tcp_as choice) f
 abbrev pub with_size : ℕ → TcpHeader → TcpHeader
 with_size size v = record v { max_seg_size = Some size }
 
--- where the segment of a packet with this header begins, and where it ends
+-- the index where the segment of a packet with this header begins
 abbrev pub segment_start : IpRepr → List ℕ → ℕ
 segment_start (Ipv4 v) bytes = ipv4.header_len bytes
 segment_start (Ipv6 v) bytes = 40
 
+-- the index where the segment of a packet with this header ends
 abbrev pub segment_end : IpRepr → List ℕ → ℕ
 segment_end (Ipv4 v) bytes = ipv4.total_len bytes
 segment_end (Ipv6 v) bytes = ipv6.total_len bytes

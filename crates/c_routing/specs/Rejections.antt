@@ -9,6 +9,7 @@ use Rattle.ip_nat.specs.declared.nat.Rejection.TheVariants as nat
 use Rattle.ip_routes.specs.declared.source.SourceFault.{SourceFault}
 use Rattle.ip_routes.specs.declared.source.SourceFault.TheVariants as source
 
+-- the number of a rejection
 abbrev pub rejection_code : Rejection → ℕ
 rejection_code rejection.NotRejected = 0
 rejection_code rejection.NoIpv4 = 1

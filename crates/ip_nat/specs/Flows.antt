@@ -20,10 +20,11 @@ use Rattle.ip_nat.specs.declared.packet.Packet.{Packet}
 
 -- ---- packets
 
--- the endpoint that sent a packet, and the one that it is for
+-- the endpoint that sent a packet
 abbrev pub source_of : Packet → Ipv4Endpoint
 source_of p = record { addr = p.header.src_addr; port = p.src_port }
 
+-- the endpoint that a packet is sent to
 abbrev pub destination_of : Packet → Ipv4Endpoint
 destination_of p = record { addr = p.header.dst_addr; port = p.dst_port }
 
@@ -51,6 +52,7 @@ AnswerReaches kind.EchoRequest port = ⊤
 AnswerReaches kind.EchoReply port = ⊥
 AnswerReaches _ port = port ≢ 0
 
+-- an answer can come to this packet
 abbrev pub IsAnswerable : Packet → Type 0
 IsAnswerable p = AnswerReaches p.kind p.src_port
 

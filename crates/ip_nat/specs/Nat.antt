@@ -27,20 +27,22 @@ use Rattle.ip_nat.specs.declared.packet.Packet.{Packet}
 
 -- ---- values
 
--- the address of a header on this side, and the header with another address there
+-- the address of a header on this side
 abbrev pub addr_of : Side → Ipv4Repr → List ℕ
 addr_of Source v = v.src_addr
 addr_of Destination v = v.dst_addr
 
+-- the header with another address on this side
 abbrev pub with_addr : Side → List ℕ → Ipv4Repr → Ipv4Repr
 with_addr Source addr v = record v { src_addr = addr }
 with_addr Destination addr v = record v { dst_addr = addr }
 
--- a UDP header and a TCP header with another port on this side
+-- the UDP header with another port on this side
 abbrev pub with_udp_port : Side → ℕ → UdpRepr → UdpRepr
 with_udp_port Source port v = record v { src_port = port }
 with_udp_port Destination port v = record v { dst_port = port }
 
+-- the TCP header with another port on this side
 abbrev pub with_tcp_port : Side → ℕ → TcpHeader → TcpHeader
 with_tcp_port Source port v = record v { src_port = port }
 with_tcp_port Destination port v = record v { dst_port = port }
