@@ -6,7 +6,8 @@
 Each name in the first column must be defined in a module of the heading. Each test, law and file of worked examples in the
 last column must exist. After "too wide:", at the end of a row, there must be at least one of them or a proof of a call, and
 nothing else. What does not exist is printed, and the status is 1 then. Each lemma of docs/LEMMAS.md must be public in its
-module, and a crate above `ip_wire` must reach that module. TOP is the top of the repository.
+module, and a crate above `ip_wire` must reach that module. Each definition of specs/ must have a comment directly above it.
+TOP is the top of the repository.
 """
 import functools
 import glob
@@ -63,6 +64,17 @@ def rows(document):
 def is_defined(name, paths):
     head = rf"^(?:abbrev |unfoldable |opaque |record |data |pub )+{re.escape(name)}(?![\w'])"
     return any(re.search(head, read(path), re.M) for path in paths)
+
+
+def uncommented():
+    """The definitions without a comment directly above them."""
+    head = re.compile(r"(?:abbrev |unfoldable |opaque |record |data |pub )+(?!mod |use )(\S+)")
+    for path in sorted(glob.glob("crates/*/specs/**/*.antt", recursive=True)):
+        lines = read(path).split("\n")
+        for above, line in zip(["", *lines], lines):
+            found = head.match(line)
+            if found and not re.match("-- (?!----)", above):
+                yield f"{path}: {found[1]} has no comment"
 
 
 def path_of(pin):
@@ -123,6 +135,7 @@ def main(top):
             missing += [f"there is no law {name}" for name in re.findall(r"`(\w+)`", law) if name not in laws]
     faults = [f"docs/DEFINITIONS.md: {line}" for line in missing]
     faults += [f"docs/LEMMAS.md: {line}" for line in hidden_lemmas(read("docs/LEMMAS.md"))]
+    faults += uncommented()
     print("".join(fault + "\n" for fault in faults), end="")
     return 1 if faults else 0
 
