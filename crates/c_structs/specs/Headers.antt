@@ -36,7 +36,7 @@ use Rattle.c_structs.specs.declared.types.TcpOptions.{TcpOptions}
 abbrev pub is_yes : ℕ → Bool
 is_yes n = not (n == 0)
 
--- a value, if the test is true
+-- the value if the test is true, else none
 abbrev pub only_if : {T : Type 0} → Bool → T → Option T
 only_if b x = then_some b x
 
@@ -164,7 +164,7 @@ first_ranges n ranges = map (range_at n ranges) (range_with_len 0 (length ranges
 abbrev pub edges : List SackRange → List ℕ
 edges ranges = flat_map (λ (r : SackRange). big_bytes 4 r.left ++ big_bytes 4 r.right) ranges
 
--- a value, if the number means yes
+-- the value if the number means yes, else none
 abbrev pub where_set : {T : Type 0} → ℕ → T → Option T
 where_set n x = only_if (is_yes n) x
 

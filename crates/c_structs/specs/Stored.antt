@@ -144,7 +144,7 @@ pub record StoresUnread (f : FrameFields) (frame : List ℕ) (v : EthernetRepr) 
   pub fields : f ≡ rejected (linked frame v) (network_fault v.ethertype (drop 14 frame))
   pub payload : Locates f frame (drop 14 frame)
 
--- each checksum of the frame that is verified is valid, or was omitted where it may be
+-- each checksum of the frame that is verified is valid; that of a UDP packet over IPv4 may be missing
 pub record HasVerdicts (caps : ChecksumCapabilities) (f : FrameFields) : Type 0 where
   pub ipv4 : IsTrue (verifies caps.ipv4) → f.network ≡ network_code network.Ipv4 → f.ipv4_checksum ≡ verdict_code verdict.Right
   pub udp : IsTrue (verifies caps.udp) → f.transport ≡ transport_code transport.Udp
