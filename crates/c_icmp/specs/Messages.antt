@@ -79,8 +79,8 @@ with_icmp bytes f =
     if carries_icmp f && nat_le 8 (length (payload_in f bytes)) then with_message f (payload_in f bytes)
     else without_icmp f
 
--- the frame is stored from its captured bytes: without ICMP it is cut as the whole frame is, and its message is the
--- one in these bytes
+-- The struct of a frame of which these bytes were captured. Without ICMP its fields are those of the whole frame, as
+-- far as its headers were captured; its ICMP message is the one in these bytes.
 abbrev pub IsCutFrame : List ℕ → FullFrame → FrameFields → Type 0
 IsCutFrame captured frame whole = (f : FrameFields) × (frame ≡ with_icmp captured f) × IsCutOf f whole
 
