@@ -1,10 +1,10 @@
 -- What the call that forwards a frame returns and writes.
-use Rattle.std.specs.Prelude.{ℕ, ℤ, pos, ◌≡◌, ◌≤◌, ◌⊎◌, List, length}
-use Rattle.ip_forward.specs.Forward.{IsForwarded, IsRejected}
-use Rattle.ip_forward.specs.declared.router.Rejection.{Rejection}
+use Rattle.std.specs.Prelude.{ℕ, ℤ, pos, ◌≡◌, ◌≤◌, ◌⊎◌, List, Some, length}
+use Rattle.ip_forward.specs.Forward.{IsForwarded, fault_of}
+use Rattle.ip_wire.specs.declared.HeaderFault.{HeaderFault}
 use Rattle.ip_wire.specs.Types.{EthernetAddress, IpRepr}
 use Rattle.c_structs.specs.Written.{max_len, within}
-use Rattle.c_routing.specs.Rejections.{of_forward, rejection_code}
+use Rattle.c_routing.specs.Rejections.{of_header, rejection_code}
 
 -- the station with these octets as its address
 abbrev pub station : List ℕ → EthernetAddress
@@ -14,4 +14,4 @@ station octets = record { 0 = octets }
 abbrev pub Forwards : List ℕ → List ℕ → EthernetAddress → EthernetAddress → ℤ → Type 0
 Forwards old new src dst answer =
     ((answer ≡ pos 0) × (length old ≤ max_len) × ((header : IpRepr) × IsForwarded old new src dst header))
-    ⊎ ((reason : Rejection) × (answer ≡ pos (rejection_code (of_forward reason))) × IsRejected (within old) reason × (new ≡ old))
+    ⊎ ((fault : HeaderFault) × (answer ≡ pos (rejection_code (of_header fault))) × (fault_of (within old) ≡ Some fault) × (new ≡ old))

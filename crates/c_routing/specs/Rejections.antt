@@ -2,12 +2,12 @@
 use Rattle.std.specs.Prelude.{ℕ, None, Option, Some}
 use Rattle.c_routing.specs.declared.rejections.Rejection.{Rejection}
 use Rattle.c_routing.specs.declared.rejections.Rejection.TheVariants as rejection
-use Rattle.ip_forward.specs.declared.router.Rejection.{Rejection as HopRejection}
-use Rattle.ip_forward.specs.declared.router.Rejection.TheVariants as hop
 use Rattle.ip_nat.specs.declared.nat.Rejection.{Rejection as NatRejection}
 use Rattle.ip_nat.specs.declared.nat.Rejection.TheVariants as nat
 use Rattle.ip_routes.specs.declared.source.SourceFault.{SourceFault}
 use Rattle.ip_routes.specs.declared.source.SourceFault.TheVariants as source
+use Rattle.ip_wire.specs.declared.HeaderFault.{HeaderFault}
+use Rattle.ip_wire.specs.declared.HeaderFault.TheVariants as header
 
 -- the number of a rejection
 abbrev pub rejection_code : Rejection → ℕ
@@ -27,12 +27,12 @@ rejection_code rejection.Martian = 12
 rejection_code rejection.NoRoute = 13
 rejection_code rejection.OtherInterface = 14
 
--- the rejection of a router
-abbrev pub of_forward : HopRejection → Rejection
-of_forward hop.NotIp = rejection.NotIp
-of_forward hop.BadHeader = rejection.BadHeader
-of_forward hop.WrongChecksum = rejection.WrongChecksum
-of_forward hop.Expired = rejection.Expired
+-- the rejection for an IP header
+abbrev pub of_header : HeaderFault → Rejection
+of_header header.NotIp = rejection.NotIp
+of_header header.BadHeader = rejection.BadHeader
+of_header header.WrongChecksum = rejection.WrongChecksum
+of_header header.Expired = rejection.Expired
 
 -- the rejection of NAT
 abbrev pub of_nat : NatRejection → Rejection

@@ -17,6 +17,6 @@ pub fn forward_frame(frame: &mut [u8], src: &[u8; 6], dst: &[u8; 6]) -> i32
     }
     match forward(frame, EthernetAddress(*src), EthernetAddress(*dst)) {
         Ok(_) => 0,
-        Err(reason) => Rejection::of_forward(reason).code(),
+        Err(fault) => Rejection::of_header(fault).code(),
     }
 }

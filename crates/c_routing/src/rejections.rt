@@ -1,9 +1,10 @@
 //! Why a frame is rejected, as the numbers of `c/ip_wire.h`.
 
 ghost use Rattle.std.specs.Prelude.{◌≡◌, pos};
-ghost use Rattle.c_routing.specs.Rejections.{of_forward, of_nat, of_source, rejection_code};
+ghost use Rattle.c_routing.specs.Rejections.{of_header, of_nat, of_source, rejection_code};
 
 use ip_routes::source::SourceFault;
+use ip_wire::HeaderFault;
 
 /// `enum lk_rejection`: why a frame is not forwarded, translated or accepted. If several reasons apply, it is the
 /// first of them in this order.
@@ -48,15 +49,15 @@ impl Rejection {
         i32::from(self as u8)
     }
 
-    /// The rejection of a router.
-    pub fn of_forward(reason: ip_forward::Rejection) -> Rejection
-        ensures { result ≡ of_forward reason }
+    /// The rejection for an IP header.
+    pub fn of_header(fault: HeaderFault) -> Rejection
+        ensures { result ≡ of_header fault }
     {
-        match reason {
-            ip_forward::Rejection::NotIp => Rejection::NotIp,
-            ip_forward::Rejection::BadHeader => Rejection::BadHeader,
-            ip_forward::Rejection::WrongChecksum => Rejection::WrongChecksum,
-            ip_forward::Rejection::Expired => Rejection::Expired,
+        match fault {
+            HeaderFault::NotIp => Rejection::NotIp,
+            HeaderFault::BadHeader => Rejection::BadHeader,
+            HeaderFault::WrongChecksum => Rejection::WrongChecksum,
+            HeaderFault::Expired => Rejection::Expired,
         }
     }
 

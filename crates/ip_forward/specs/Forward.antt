@@ -1,13 +1,18 @@
 -- One hop of a packet (RFC 1812, section 5.3.1; RFC 8200, section 3).
-use Rattle.std.specs.Prelude.{ℕ, ◌≡◌, ◌≢◌, ◌≤◌, ◌<◌, ◌*◌, ◌-◌, ◌++◌, Bool, true, false, List, drop, slice_range}
+use Rattle.std.specs.Prelude.{ℕ, ◌≡◌, ◌<◌, ◌*◌, ◌-◌, ◌++◌, if◌then◌else◌, is_none, nat_lt, Bool, true, List, Option, Some, None, drop, slice_range}
+use Rattle.std.specs.Option.{option_map_or, option_or}
 use Rattle.ip_wire.specs.Ethernet as ethernet
+use Rattle.ip_wire.specs.Ethernet.{ethernet_of}
 use Rattle.ip_wire.specs.Field.{field, with_field}
 use Rattle.ip_wire.specs.Frame.{type_of}
+use Rattle.ip_wire.specs.HeaderFault.{ipv4_fault}
 use Rattle.ip_wire.specs.Ip.{ReadsHeader, hop_limit_of}
 use Rattle.ip_wire.specs.Ipv4.{with_updated_checksum}
+use Rattle.ip_wire.specs.Ipv6.{ipv6_of}
 use Rattle.ip_wire.specs.Types.{EthernetAddress, EthernetProtocol, EthernetRepr, IpRepr, Ipv4, Ipv6}
-use Rattle.ip_forward.specs.declared.router.Rejection.{Rejection}
-use Rattle.ip_forward.specs.declared.router.Rejection.TheVariants.{NotIp, BadHeader, WrongChecksum, Expired}
+use Rattle.ip_wire.specs.declared.EthernetProtocol.TheVariants as ethertype
+use Rattle.ip_wire.specs.declared.HeaderFault.{HeaderFault}
+use Rattle.ip_wire.specs.declared.HeaderFault.TheVariants.{NotIp, BadHeader, Expired}
 
 -- the bytes of a frame with this EtherType are a whole packet with this header; if verified, its IPv4 header has a
 -- valid checksum
@@ -20,18 +25,24 @@ pub record Carries (frame : List ℕ) (link : EthernetRepr) (verified : Bool) (h
   pub reads_link : ethernet.Reads frame link
   pub packet : CarriesAs link.ethertype (drop 14 frame) verified header
 
--- the reason why the payload of a frame with this EtherType is not forwarded
-abbrev pub IsRejectedAs : EthernetProtocol → List ℕ → Rejection → Type 0
-IsRejectedAs type bytes NotIp = (header : IpRepr) → type ≢ type_of header
-IsRejectedAs type bytes BadHeader = ((header : IpRepr) × (type ≡ type_of header)) × ((header : IpRepr) → ¬ CarriesAs type bytes false header)
-IsRejectedAs type bytes WrongChecksum =
-    ((header : IpRepr) × CarriesAs type bytes false header) × ((header : IpRepr) → ¬ CarriesAs type bytes true header)
-IsRejectedAs type bytes Expired = (header : IpRepr) × CarriesAs type bytes true header × (hop_limit_of header ≤ 1)
+-- why the IP header of a packet in a frame of this type is rejected
+abbrev pub header_fault : EthernetProtocol → List ℕ → Option HeaderFault
+header_fault ethertype.Ipv4 bytes = ipv4_fault bytes
+header_fault ethertype.Ipv6 bytes = if is_none (ipv6_of bytes) then Some BadHeader else None
+header_fault _ bytes = Some NotIp
 
--- the reason why a frame is not forwarded; a frame without an Ethernet header is no IP frame
-pub record IsRejected (frame : List ℕ) (reason : Rejection) : Type 0 where
-  pub whole : (link : EthernetRepr) → ethernet.Reads frame link → IsRejectedAs link.ethertype (drop 14 frame) reason
-  pub short : ((link : EthernetRepr) → ¬ ethernet.Reads frame link) → reason ≡ NotIp
+-- the hop limit of such a packet
+abbrev pub hop_limit_in : EthernetProtocol → List ℕ → ℕ
+hop_limit_in ethertype.Ipv4 bytes = field bytes 64 8
+hop_limit_in _ bytes = field bytes 56 8
+
+-- why such a packet is not forwarded
+abbrev pub packet_fault : EthernetProtocol → List ℕ → Option HeaderFault
+packet_fault type bytes = option_or (header_fault type bytes) (if nat_lt 1 (hop_limit_in type bytes) then None else Some Expired)
+
+-- why a frame is not forwarded; a frame without an Ethernet header is no IP frame
+abbrev pub fault_of : List ℕ → Option HeaderFault
+fault_of frame = option_map_or (λ link. packet_fault link.ethertype (drop 14 frame)) (ethernet_of frame) (Some NotIp)
 
 -- the header with one hop less
 abbrev pub one_hop_less : IpRepr → IpRepr

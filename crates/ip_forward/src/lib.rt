@@ -5,4 +5,4 @@ mod problem;
 mod router;
 
 pub use problem::{Problem, error};
-pub use router::{Rejection, forward};
+pub use router::forward;

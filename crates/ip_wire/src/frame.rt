@@ -11,11 +11,13 @@ ghost use Rattle.wire_field.specs.Filled.{Fills};
 
 mod build;
 mod carried;
+mod header;
 mod packet;
 mod reply;
 mod transport;
 
 pub use carried::Carried;
+pub use header::{HeaderFault, parse_ipv4};
 use net_base::{ChecksumCapabilities, Error, Result};
 pub use packet::Packet;
 pub use reply::{send, send_reply};

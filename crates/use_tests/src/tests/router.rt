@@ -1,8 +1,10 @@
 //! One hop of a router. The expected frames have checksums that were computed anew.
 
 use super::change;
-use ip_forward::{Rejection, forward};
-use ip_wire::{EthernetAddress, IpProtocol, IpRepr, Ipv4Address, Ipv4Packet, Ipv4Repr};
+use ip_forward::forward;
+use ip_wire::{
+    EthernetAddress, HeaderFault, IpProtocol, IpRepr, Ipv4Address, Ipv4Packet, Ipv4Repr,
+};
 
 const SRC: EthernetAddress = EthernetAddress([0x02, 0x00, 0x00, 0x00, 0x00, 0x11]);
 
@@ -46,7 +48,7 @@ const FRAGMENT_FORWARDED: [u8; 50] = [
 ];
 
 /// The hop limit that a frame is forwarded with, or why it is not forwarded.
-fn hop(frame: &mut [u8]) -> Result<u8, Rejection> {
+fn hop(frame: &mut [u8]) -> Result<u8, HeaderFault> {
     match forward(frame, SRC, DST) {
         Ok(header) => Ok(header.hop_limit()),
         Err(reason) => Err(reason),
@@ -78,7 +80,7 @@ fn forwards_ipv4_until_it_expires(rt: HostRuntime) {
         assert!(rt; is_valid(&frame));
     }
     let last = frame;
-    assert!(rt; hop(&mut frame) == Err(Rejection::Expired));
+    assert!(rt; hop(&mut frame) == Err(HeaderFault::Expired));
     assert!(rt; frame == last);
 }
 
@@ -94,7 +96,7 @@ fn forwards_ipv6_until_it_expires(rt: HostRuntime) {
         assert!(rt; hop(&mut frame) == Ok(left), "{left}");
         assert!(rt; frame == expected, "{left}");
     }
-    assert!(rt; hop(&mut frame) == Err(Rejection::Expired));
+    assert!(rt; hop(&mut frame) == Err(HeaderFault::Expired));
     assert!(rt; frame == expected);
 }
 
@@ -106,8 +108,8 @@ fn forwards_a_fragment_with_options(rt: HostRuntime) {
     assert!(rt; frame == FRAGMENT_FORWARDED);
 }
 
-/// Whether the frame over IPv4 with these bytes is rejected for this reason, and stays as it is.
-fn rejects(changes: &[(usize, u8)], reason: Rejection) -> bool {
+/// Whether the frame over IPv4 with these octets is rejected for this reason, and stays as it is.
+fn rejects(changes: &[(usize, u8)], reason: HeaderFault) -> bool {
     let mut frame = UDP;
     change(&mut frame, changes);
     let same = frame;
@@ -115,7 +117,7 @@ fn rejects(changes: &[(usize, u8)], reason: Rejection) -> bool {
 }
 
 /// The same for the frame over IPv6.
-fn rejects_ipv6(changes: &[(usize, u8)], reason: Rejection) -> bool {
+fn rejects_ipv6(changes: &[(usize, u8)], reason: HeaderFault) -> bool {
     let mut frame = IPV6;
     change(&mut frame, changes);
     let same = frame;
@@ -127,22 +129,22 @@ fn rejects_ipv6(changes: &[(usize, u8)], reason: Rejection) -> bool {
 #[test]
 fn rejects_what_is_no_packet(rt: HostRuntime) {
     for (at, octet, reason) in [
-        (13, 0x06, Rejection::NotIp),
-        (12, 0x86, Rejection::NotIp),
-        (14, 0x65, Rejection::BadHeader),
-        (14, 0x44, Rejection::BadHeader),
-        (17, 0x21, Rejection::BadHeader),
-        (17, 0x13, Rejection::BadHeader),
-        (25, 0xd5, Rejection::WrongChecksum),
-        (22, 0x01, Rejection::WrongChecksum),
+        (13, 0x06, HeaderFault::NotIp),
+        (12, 0x86, HeaderFault::NotIp),
+        (14, 0x65, HeaderFault::BadHeader),
+        (14, 0x44, HeaderFault::BadHeader),
+        (17, 0x21, HeaderFault::BadHeader),
+        (17, 0x13, HeaderFault::BadHeader),
+        (25, 0xd5, HeaderFault::WrongChecksum),
+        (22, 0x01, HeaderFault::WrongChecksum),
     ] {
         assert!(rt; rejects(&[(at, octet)], reason), "{at} {octet}");
     }
     for (at, octet, reason) in [
-        (14, 0x45, Rejection::BadHeader),
-        (19, 0x11, Rejection::BadHeader),
-        (21, 0x01, Rejection::Expired),
-        (21, 0x00, Rejection::Expired),
+        (14, 0x45, HeaderFault::BadHeader),
+        (19, 0x11, HeaderFault::BadHeader),
+        (21, 0x01, HeaderFault::Expired),
+        (21, 0x00, HeaderFault::Expired),
     ] {
         assert!(rt; rejects_ipv6(&[(at, octet)], reason), "{at} {octet}");
     }
@@ -151,31 +153,31 @@ fn rejects_what_is_no_packet(rt: HostRuntime) {
 #[test]
 fn rejects_short_frames(rt: HostRuntime) {
     let mut short = UDP;
-    assert!(rt; hop(&mut short[..13]) == Err(Rejection::NotIp));
-    assert!(rt; hop(&mut short[..14]) == Err(Rejection::BadHeader));
+    assert!(rt; hop(&mut short[..13]) == Err(HeaderFault::NotIp));
+    assert!(rt; hop(&mut short[..14]) == Err(HeaderFault::BadHeader));
     assert!(rt; short == UDP);
 }
 
-/// Two faults in one frame: the first reason of `Rejection` that applies. A change of the IPv4 header
+/// Two faults in one frame: the first reason of `HeaderFault` that applies. A change of the IPv4 header
 /// without a new checksum is a fault as well.
 #[test]
 fn rejects_by_the_first_reason(rt: HostRuntime) {
     for (changes, reason) in [
-        ([(13, 0x06), (14, 0x65)], Rejection::NotIp),
-        ([(13, 0x06), (22, 0x01)], Rejection::NotIp),
-        ([(14, 0x65), (25, 0xd5)], Rejection::BadHeader),
-        ([(14, 0x44), (22, 0x00)], Rejection::BadHeader),
-        ([(17, 0x21), (22, 0x01)], Rejection::BadHeader),
-        ([(22, 0x01), (25, 0xd4)], Rejection::WrongChecksum),
-        ([(22, 0x00), (25, 0xd4)], Rejection::WrongChecksum),
+        ([(13, 0x06), (14, 0x65)], HeaderFault::NotIp),
+        ([(13, 0x06), (22, 0x01)], HeaderFault::NotIp),
+        ([(14, 0x65), (25, 0xd5)], HeaderFault::BadHeader),
+        ([(14, 0x44), (22, 0x00)], HeaderFault::BadHeader),
+        ([(17, 0x21), (22, 0x01)], HeaderFault::BadHeader),
+        ([(22, 0x01), (25, 0xd4)], HeaderFault::WrongChecksum),
+        ([(22, 0x00), (25, 0xd4)], HeaderFault::WrongChecksum),
     ] {
         assert!(rt; rejects(&changes, reason), "{changes:?}");
     }
     for (changes, reason) in [
-        ([(13, 0xde), (14, 0x45)], Rejection::NotIp),
-        ([(13, 0xde), (21, 0x01)], Rejection::NotIp),
-        ([(14, 0x45), (21, 0x01)], Rejection::BadHeader),
-        ([(19, 0x11), (21, 0x00)], Rejection::BadHeader),
+        ([(13, 0xde), (14, 0x45)], HeaderFault::NotIp),
+        ([(13, 0xde), (21, 0x01)], HeaderFault::NotIp),
+        ([(14, 0x45), (21, 0x01)], HeaderFault::BadHeader),
+        ([(19, 0x11), (21, 0x00)], HeaderFault::BadHeader),
     ] {
         assert!(rt; rejects_ipv6(&changes, reason), "{changes:?}");
     }

@@ -5,7 +5,7 @@ use Rattle.c_routing.proofs.forwarding.forward_frame.Goals as goal
 
 pub returns-in-Err : goal.returns-in-Err
 returns-in-Err c =
-    not-forwarded c.args.frame.now c.forward.new.frame (station c.args.src.now) (station c.args.dst.now) c.in-Err.reason c.code-in-Err.result
+    not-forwarded c.args.frame.now c.forward.new.frame (station c.args.src.now) (station c.args.dst.now) c.in-Err.fault c.code-in-Err.result
     (search rules) (search rules) (search rules) (search rules) (search rules)
 
 pub returns-then-frame-gt-MAX_LEN : goal.returns-then-frame-gt-MAX_LEN

@@ -1,7 +1,8 @@
-use Rattle.std.proofs.Common.{IfErr, List, ℕ, ◌≡◌, ◌-◌, arith, drop, length, length-drop, rules, take}
+use Rattle.std.proofs.Common.{IfErr, List, ℕ, ◌≡◌, ◌∙◌, ◌-◌, Some, arith, drop, length, length-drop, rules, take}
 use Rattle.std.proofs.lemmas.List.{take_all}
-use Rattle.ip_forward.proofs.Forwards.{forwarded, if-err, not-ip, rejected}
-use Rattle.ip_forward.specs.Forward.{IsRejected, IsRejectedAs, with_hop_limit}
+use Rattle.std.proofs.lemmas.Result.{IfErr-weaker}
+use Rattle.ip_forward.proofs.Forwards.{by-type, forwarded, unread}
+use Rattle.ip_forward.specs.Forward.{fault_of, packet_fault, with_hop_limit}
 use Rattle.ip_wire.specs.Ethernet.{frame_bytes, frame_bytes_mut}
 use Rattle.ip_wire.specs.Field.{with_range}
 use Rattle.ip_wire.specs.Ip.{hop_limit_of}
@@ -14,15 +15,15 @@ tail frame = take_all (length frame - 14) (drop 14 frame) (omega (arith, length-
 pub returns-in_default-clause-rejected : goal.returns-in_default-clause-rejected
 returns-in_default-clause-rejected c =
     let view : frame_bytes c.new_unchecked.result ≡ c.args.frame.now = search rules in
-    not-ip c.args.frame.now c.parse.result c.in_default.field-0 (rw view at c.parse.ensures.reads) (search rules)
+    unread c.args.frame.now c.parse.result c.in_default.field-0 (rw view at c.parse.ensures.value) (search rules)
 
 pub returns-in_err-header-clause-rejected : goal.returns-in_err-header-clause-rejected
 returns-in_err-header-clause-rejected c =
-    let view : frame_bytes c.new_unchecked.result ≡ c.args.frame.now = search rules in
-    let reads = rw view at c.parse.ensures.reads in
-    let why : IfErr c.accept.result (IsRejectedAs c.in-Ok.link.ethertype (drop 14 c.args.frame.now)) = rw (tail c.args.frame.now) at c.accept.ensures.rejected in
-    let whole : IfErr c.accept.result (IsRejected c.args.frame.now) =
-    if-err c.accept.result _ _ (λ reason. rejected c.args.frame.now c.parse.result c.in-Ok.link reason reads c.in-Ok.is) why in
+    let frame = c.args.frame.now in
+    let view : frame_bytes c.new_unchecked.result ≡ frame = search rules in
+    let found = by-type frame c.parse.result c.in-Ok.link (rw view at c.parse.ensures.value) c.in-Ok.is in
+    let why : IfErr c.accept.result (λ fault. packet_fault c.in-Ok.link.ethertype (drop 14 frame) ≡ Some fault) = rw (tail frame) at c.accept.ensures.rejected in
+    let whole : IfErr c.accept.result (λ fault. fault_of frame ≡ Some fault) = IfErr-weaker c.accept.result _ _ (λ fault is. found ∙ is) why in
     search rules
 
 pub returns-clause-forwarded : goal.returns-clause-forwarded
