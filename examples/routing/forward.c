@@ -147,6 +147,11 @@ void send_on(struct router *router, uint16_t from, struct packet *packet, const 
     }
 }
 
+static int is_ip_type(uint16_t type)
+{
+    return type == 0x0800 || type == 0x86dd;
+}
+
 void on_frame(struct router *router, uint16_t from, struct packet *packet)
 {
     struct lk_frame in;
@@ -159,9 +164,7 @@ void on_frame(struct router *router, uint16_t from, struct packet *packet)
         if (reason == LK_READ)
             on_arp(router, from, &in, packet);
     } else if (in.network == LK_NO_NETWORK) {
-        /* It does not parse, so that it is rejected. */
-        int rejection = lk_forward(packet->frame, packet->len, no_hardware, no_hardware);
-        reject(router, rejection != LK_NOT_REJECTED ? rejection : LK_BAD_HEADER);
+        reject(router, is_ip_type(in.ethernet.type) ? LK_BAD_HEADER : LK_NOT_IP);
     } else if (in.ipv4_checksum == LK_WRONG) {
         reject(router, LK_WRONG_CHECKSUM);
     } else if (in.network == LK_IPV6 && in.transport == LK_ICMP && on_ndisc(router, from, &in, packet)) {
