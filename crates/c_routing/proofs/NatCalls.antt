@@ -48,7 +48,13 @@ no-way-in nat new now before after (inr e) = no-port nat e.1.quoted.end.port e.1
 pub long-out : (nat : Nat) (mappings : List Mapping) (now : ℕ) (frame : List ℕ) (answer : ℤ) → max_len < length frame → answer ≡ pos 2 → SFits w32 answer
     → TranslatesOut nat mappings mappings now frame frame (to_z w32 (of_z w32 answer))
 long-out nat mappings now frame answer long is fits =
-    inr (NotIpv4, to_z-of_z w32 answer fits ∙ is, subst (λ l. IsKeptInside nat (in_bounds mappings) now l NotIpv4) (sym (within-nothing frame long)) nothing, refl, refl)
+    inr (
+      NotIpv4,
+      to_z-of_z w32 answer fits ∙ is,
+      subst (λ l. IsKeptInside nat (in_bounds mappings) now l NotIpv4) (sym (within-nothing frame long)) (inl ((λ other. cc), inl nothing)),
+      refl,
+      refl,
+    )
 
 pub long-in : (nat : Nat) (mappings : List Mapping) (now : ℕ) (frame : List ℕ) (answer : ℤ) → max_len < length frame → answer ≡ pos 2 → SFits w32 answer
     → TranslatesIn nat mappings mappings now frame frame (to_z w32 (of_z w32 answer))
@@ -56,7 +62,8 @@ long-in nat mappings now frame answer long is fits =
     inr (
       NotIpv4,
       to_z-of_z w32 answer fits ∙ is,
-      subst (λ l. IsKeptOutside nat (in_bounds mappings) (in_bounds mappings) now l NotIpv4) (sym (within-nothing frame long)) (nothing, refl),
+      subst (λ l. IsKeptOutside nat (in_bounds mappings) (in_bounds mappings) now l NotIpv4) (sym (within-nothing frame long))
+          (inl ((λ other. cc), inl (inl nothing, refl))),
       refl,
     )
 

@@ -1,28 +1,26 @@
 -- What C gets for a frame that is not translated.
-use Rattle.std.proofs.Common.{ℕ, ℤ, pos, ◌≡◌, ◌≤◌, ◌<◌, ◌∙◌, List, [], SFits, arith, inr, length, of_z, refl, subst, sym, to_z, w32}
+use Rattle.std.proofs.Common.{ℕ, ℤ, pos, ◌≡◌, ◌≤◌, ◌<◌, ◌∙◌, List, [], SFits, inl, inr, length, of_z, refl, subst, sym, to_z, w32}
 use Rattle.std.proofs.lemmas.Int.{to_z-of_z}
-use Rattle.ip_nat.specs.Nat.{IsIpv4Frame, IsRejected, IsUntranslated}
+use Rattle.ip_nat.specs.Nat.{IsRejected, IsUntranslated}
 use Rattle.ip_nat.specs.declared.nat.Rejection.{Rejection}
 use Rattle.ip_nat.specs.declared.nat.Rejection.TheVariants.{NotIpv4}
 use Rattle.ip_nat.specs.declared.nat.Side.{Side}
-use Rattle.ip_wire.specs.Types.{EthernetRepr}
+use Rattle.ip_wire.specs.Ethernet.{ethernet_of}
 use Rattle.c_structs.specs.Written.{max_len}
 use Rattle.c_structs.specs.declared.types.Endpoint.{Endpoint}
 use Rattle.c_routing.proofs.Within.{within-itself, within-nothing}
 use Rattle.c_routing.specs.Rejections.{of_nat, rejection_code}
 use Rattle.c_routing.specs.Translated.{Translates}
 
-no-header : (link : EthernetRepr) → ¬ IsIpv4Frame [] link
-no-header link frame = let whole = frame.reads.whole in absurd (omega (arith, whole))
-
 pub nothing : IsRejected [] NotIpv4
-nothing = record { whole = λ link frame. absurd (no-header link frame); short = λ _. refl }
+unfolding ethernet_of
+nothing = refl
 
 -- a frame that is too long is no frame
 pub too-long : (frame : List ℕ) (side : Side) (end : Endpoint) (answer : ℤ) → end.addr.version ≡ 4 → max_len < length frame → answer ≡ pos 2
     → SFits w32 answer → Translates frame frame side end (to_z w32 (of_z w32 answer))
 too-long frame side end answer version long is fits = record {
-  ipv4 = λ _. inr (NotIpv4, to_z-of_z w32 answer fits ∙ is, subst (λ l. IsUntranslated l side end.port NotIpv4) (sym (within-nothing frame long)) nothing, refl);
+  ipv4 = λ _. inr (NotIpv4, to_z-of_z w32 answer fits ∙ is, subst (λ l. IsUntranslated l side end.port NotIpv4) (sym (within-nothing frame long)) (inl nothing), refl);
   other = λ differs. absurd (differs version);
 }
 

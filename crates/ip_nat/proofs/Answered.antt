@@ -16,11 +16,12 @@ use Rattle.ip_flows.specs.declared.Nat.{Nat}
 use Rattle.ip_flows.specs.declared.Protocol.{Protocol}
 use Rattle.ip_flows.specs.declared.Protocol.TheVariants.{Icmp}
 use Rattle.ip_wire.specs.Types.{Ipv4Repr}
-use Rattle.ip_nat.proofs.NatOnce.{carries-unrejected, header-of-one, transport-of-one}
+use Rattle.ip_nat.proofs.Faults.{carries-unrejected}
+use Rattle.ip_nat.proofs.NatOnce.{header-of-one, transport-of-one}
 use Rattle.ip_nat.specs.Flows.{AnswerReaches, ComesIn, GoesOut, PacketGoesOut, IsAnswer, IsKeptOutside, IsLive, Passes, bounces, destination_of, event_by, event_of, flow_protocol, passes_in, passes_none, passes_out, source_of}
 use Rattle.ip_nat.specs.Nat.{IsPacket, IsTranslated, Transport, datagram, kind_of, port_of, reply, request, segment, with_addr, with_port}
 use Rattle.ip_nat.specs.declared.nat.Rejection.{Rejection}
-use Rattle.ip_nat.specs.declared.nat.Rejection.TheVariants.{OtherProtocol, BadTransport, ZeroPort, NoMapping}
+use Rattle.ip_nat.specs.declared.nat.Rejection.TheVariants.{OtherProtocol}
 use Rattle.ip_nat.specs.declared.nat.Side.TheVariants.{Source, Destination}
 use Rattle.ip_nat.specs.declared.packet.Kind.{Kind}
 use Rattle.ip_nat.specs.declared.packet.Kind.TheVariants as kind
@@ -181,19 +182,17 @@ held nat old new later out now before after answer g a =
 -- no reason applies
 unkept : (nat : Nat) (later newest : List Mapping) (now : ℕ) (answer : List ℕ) (p : Packet) (inside : Ipv4Endpoint) (reason : Rejection) → IsPacket answer p
     → IsHeld nat later now p inside → ¬ IsKeptOutside nat later newest now answer reason
-unkept nat later newest now answer p inside ZeroPort is h why =
-    let same = packet-once answer why.packet p why.carries is in
-    let found : MapsTo nat later now (flow_protocol p) p.dst_port why.inside = subst (λ q. MapsTo nat later now (flow_protocol q) q.dst_port why.inside) same why.finds.mapped in
-    h.some (subst (λ q. flow_protocol q ≢ Icmp) same why.no_echo) (ap (λ (e : Ipv4Endpoint). e.port) (same-end (mapping_at nat later (flow_protocol p) p.dst_port) inside why.inside h.mapped.leads found.leads) ∙ why.zero)
-unkept nat later newest now answer p inside NoMapping is h (inr e, stays) = carries-unrejected answer is.link p.header is.transport OtherProtocol is.carries e.0
-unkept nat later newest now answer p inside OtherProtocol is h why = carries-unrejected answer is.link p.header is.transport OtherProtocol is.carries why.0.0
-unkept nat later newest now answer p inside BadTransport is h (inl r, stays) = carries-unrejected answer is.link p.header is.transport BadTransport is.carries r
-unkept nat later newest now answer p inside BadTransport is h (inr e, stays) = carries-unrejected answer is.link p.header is.transport OtherProtocol is.carries e.0
-unkept nat later newest now answer p inside NoMapping is h (inl w, stays) =
+unkept nat later newest now answer p inside reason is h (inl (other, inl (inl r, stays))) =
+    carries-unrejected answer is.link p.header is.transport reason is.carries r
+unkept nat later newest now answer p inside reason is h (inl (other, inl (inr (named, w), stays))) =
     let same = packet-once answer w.packet p w.carries is in
     subst (λ q. q.header.dst_addr ≡ nat.outside → q.kind ≢ kind.EchoRequest → (e : Ipv4Endpoint) → ¬ MapsTo nat later now (flow_protocol q) q.dst_port e) same w.unmapped h.outside
     h.no_request inside h.mapped
-unkept nat later newest now answer p inside reason is h why = carries-unrejected answer is.link p.header is.transport reason is.carries why.0
+unkept nat later newest now answer p inside reason is h (inl (other, inr (named, why))) =
+    let same = packet-once answer why.packet p why.carries is in
+    let found : MapsTo nat later now (flow_protocol p) p.dst_port why.inside = subst (λ q. MapsTo nat later now (flow_protocol q) q.dst_port why.inside) same why.finds.mapped in
+    h.some (subst (λ q. flow_protocol q ≢ Icmp) same why.no_echo) (ap (λ (e : Ipv4Endpoint). e.port) (same-end (mapping_at nat later (flow_protocol p) p.dst_port) inside why.inside h.mapped.leads found.leads) ∙ why.zero)
+unkept nat later newest now answer p inside reason is h (inr why) = carries-unrejected answer is.link p.header is.transport OtherProtocol is.carries why.0
 
 answered : {T : Type 0} (result : Result T Rejection) (nat : Nat) (later newest : List Mapping) (now : ℕ) (answer given : List ℕ) (p : Packet) (inside : Ipv4Endpoint)
     → IsPacket answer p → IsHeld nat later now p inside

@@ -1,21 +1,16 @@
 -- What ICMP messages parse as, also with another identifier, and that a packet carries one transport.
-use Rattle.std.proofs.Common.{ℕ, ◌≡◌, ◌≢◌, ◌∙◌, ◌&&◌, ◌↔◌, ◌/◌, ◌%◌, ◌==◌, if◌then◌else◌, Bool, true, false, List, Option, Some, None, Result, Ok, refl, sym, ap, subst, arith}
+use Rattle.std.proofs.Common.{ℕ, ◌≡◌, ◌∙◌, ◌&&◌, ◌↔◌, ◌/◌, ◌%◌, ◌==◌, if◌then◌else◌, Bool, true, false, List, Option, Some, None, Result, Ok, refl, sym, ap, arith}
 use Rattle.ip_wire.proofs.ReadsOnce.{transport-once}
 use Rattle.ip_wire.proofs.Spelled.{AreBytes}
 use Rattle.ip_wire.specs.Field.{field}
 use Rattle.ip_wire.specs.Frame as whole
 use Rattle.ip_wire.specs.Frame.{ReadsTransport, all_checked}
-use Rattle.ip_wire.specs.FrameValue.{ParsesTransport}
-use Rattle.ip_wire.specs.Types.{Error, Ipv4, Ipv4Repr, UdpRepr}
-use Rattle.ip_wire.specs.declared.TcpRepr.{TcpRepr}
-use Rattle.ip_wire.specs.declared.frame.transport.Transport.{Transport as Value}
-use Rattle.ip_wire.specs.declared.frame.transport.Transport.TheVariants as value
-use Rattle.std.specs.Borrow.{Bor}
+use Rattle.ip_wire.specs.Types.{Error, Ipv4, Ipv4Repr}
+use Rattle.ip_wire.specs.WordSum.{sum_of_bytes}
 use Rattle.ip_wire.specs.declared.IpAddress.TheVariants as address
 use Rattle.ip_wire.specs.declared.IpProtocol.TheVariants as protocol
 use Rattle.ip_nat.proofs.EchoEnds.{IsIdentified}
-use Rattle.ip_nat.specs.Nat.{IsMessage, IsRejectedTransport, Parses, ReadsMessage, ReadsPorts, Rewrites, Transport, datagram, reply, request, segment, with_addr}
-use Rattle.ip_nat.specs.declared.nat.Rejection.TheVariants.{OtherProtocol}
+use Rattle.ip_nat.specs.Nat.{ReadsMessage, ReadsPorts, Rewrites, Transport, datagram, reply, request, segment, with_addr}
 use Rattle.ip_nat.specs.declared.nat.Side.{Side}
 use Rattle.ip_nat.specs.declared.nat.Side.TheVariants.{Source, Destination}
 use Rattle.ip_wire.specs.declared.IpVersion.TheVariants as version
@@ -185,9 +180,9 @@ ports-once v bytes (reply i s d) (segment q e) a b = let differs : protocol.Tcp 
 ports-once v bytes (reply i s d) (request j t e) a b = message-once v bytes (EchoReply i s) (EchoRequest j t) d e a b
 ports-once v bytes (reply i s d) (reply j t e) a b = message-once v bytes (EchoReply i s) (EchoReply j t) d e a b
 
--- ---- whether a payload parses
+-- ---- ICMP messages
 
--- that of an ICMP packet does not parse as UDP or TCP, and any bytes are another protocol's
+-- the payload of an ICMP packet does not parse as UDP or TCP, and any bytes are another protocol's
 pub plain-other : (v : Ipv4Repr) (bytes : List ℕ) → v.next_header ≡ protocol.Icmp → ReadsTransport all_checked (Ipv4 v) bytes (whole.other bytes)
 plain-other v bytes named = (
   λ is. let differs : protocol.Udp ≡ protocol.Icmp = sym is ∙ named in cc,
@@ -195,70 +190,10 @@ plain-other v bytes named = (
   refl,
 )
 
-message-parses : (v : Ipv4Repr) (bytes : List ℕ) (m : IcmpRepr) (payload : List ℕ) → ReadsMessage v bytes m payload → Parses v bytes
-message-parses v bytes m payload r = record {
-  transport = whole.other bytes;
-  reads = plain-other v bytes r.0;
-  message = λ _. record { whole = r.1.least; checksum = r.1.checksum refl };
-}
-
--- a transport parses
-pub parses-ports : (v : Ipv4Repr) (bytes : List ℕ) (t : Transport) → ReadsPorts v bytes t → Parses v bytes
-parses-ports v bytes (datagram u payload) r = record {
-  transport = whole.datagram u payload;
-  reads = r;
-  message = λ is. let differs : protocol.Icmp ≡ protocol.Udp = sym is ∙ r.0 in absurd (cc);
-}
-parses-ports v bytes (segment u payload) r = record {
-  transport = whole.segment u payload;
-  reads = r;
-  message = λ is. let differs : protocol.Icmp ≡ protocol.Tcp = sym is ∙ r.0 in absurd (cc);
-}
-parses-ports v bytes (request ident seq_no payload) r = message-parses v bytes (EchoRequest ident seq_no) payload r
-parses-ports v bytes (reply ident seq_no payload) r = message-parses v bytes (EchoReply ident seq_no) payload r
-
--- the payload of a protocol that is none of UDP, TCP and ICMP is not translated
-pub other-protocol : (v : Ipv4Repr) (bytes payload : List ℕ) → v.next_header ≢ protocol.Icmp → ReadsTransport all_checked (Ipv4 v) bytes (whole.other payload)
-    → IsRejectedTransport v bytes OtherProtocol
-other-protocol v bytes payload no_icmp r = (record { transport = whole.other payload; reads = r; message = λ is. absurd (no_icmp is) }, none)
-  where
-    none : (t : Transport) → ¬ ReadsPorts v bytes t
-    none (datagram u d) q = r.0 q.0
-    none (segment u d) q = r.1 q.0
-    none (request i s d) q = no_icmp q.0
-    none (reply i s d) q = no_icmp q.0
-
--- the same for a value that was parsed as neither UDP nor TCP
-pub neither : (v : Ipv4Repr) (bytes : List ℕ) (t : Value) → v.next_header ≢ protocol.Icmp → ParsesTransport all_checked (Ipv4 v) bytes t
-    → ((u : UdpRepr) (payload : Bor (List ℕ)) → t ≢ value.Udp u payload) → ((u : TcpRepr) → t ≢ value.Tcp u) → IsRejectedTransport v bytes OtherProtocol
-neither v bytes (value.Udp u payload) no_icmp (read, is, r) no_udp no_tcp = absurd (no_udp u payload refl)
-neither v bytes (value.Tcp u) no_icmp (read, is, r) no_udp no_tcp = absurd (no_tcp u refl)
-neither v bytes (value.Other payload) no_icmp (read, is, r) no_udp no_tcp =
-    let same : read ≡ whole.other payload.now = cc in
-    other-protocol v bytes payload.now no_icmp (subst (λ t. ReadsTransport all_checked (Ipv4 v) bytes t) same r)
-neither v bytes (value.Unread payload) no_icmp (read, is, r) no_udp no_tcp = absurd (cc)
-
--- an ICMP message that is no echo is not translated
-pub other-message : (v : Ipv4Repr) (bytes : List ℕ) (answer : Result IcmpRepr Error) → v.next_header ≡ protocol.Icmp → IsMessage bytes
-    → ((m : IcmpRepr) → (answer ≡ Ok m) ↔ icmp.Reads bytes (address.Ipv4 v.src_addr) (address.Ipv4 v.dst_addr) false m (payload_of bytes))
-    → ((ident seq_no : ℕ) → answer ≢ Ok (EchoRequest ident seq_no)) → ((ident seq_no : ℕ) → answer ≢ Ok (EchoReply ident seq_no))
-    → IsRejectedTransport v bytes OtherProtocol
-other-message v bytes answer named message reads no_request no_reply =
-    (record { transport = whole.other bytes; reads = plain-other v bytes named; message = λ _. message }, none)
-  where
-    unverified : (m : IcmpRepr) (d : List ℕ) → ReadsMessage v bytes m d → answer ≡ Ok m
-    unverified m d r = (reads m).1 (record { least = r.1.least; checksum = λ is. cc; message = r.1.message; body = refl })
-
-    none : (t : Transport) → ¬ ReadsPorts v bytes t
-    none (datagram u d) q = let differs : protocol.Icmp ≡ protocol.Udp = sym named ∙ q.0 in cc
-    none (segment u d) q = let differs : protocol.Icmp ≡ protocol.Tcp = sym named ∙ q.0 in cc
-    none (request i s d) q = no_request i s (unverified (EchoRequest i s) d q)
-    none (reply i s d) q = no_reply i s (unverified (EchoReply i s) d q)
-
 -- an echo message that was parsed, with its checksum
-pub read-message : (v : Ipv4Repr) (bytes : List ℕ) (answer : Result IcmpRepr Error) (m : IcmpRepr) → v.next_header ≡ protocol.Icmp → IsMessage bytes
+pub read-message : (v : Ipv4Repr) (bytes : List ℕ) (answer : Result IcmpRepr Error) (m : IcmpRepr) → v.next_header ≡ protocol.Icmp → sum_of_bytes bytes ≡ 65535
     → ((n : IcmpRepr) → (answer ≡ Ok n) ↔ icmp.Reads bytes (address.Ipv4 v.src_addr) (address.Ipv4 v.dst_addr) false n (payload_of bytes))
     → answer ≡ Ok m → ReadsMessage v bytes m (payload_of bytes)
-read-message v bytes answer m named message reads is =
+read-message v bytes answer m named sum reads is =
     let r = (reads m).0 is in
-    (named, record { least = r.least; checksum = λ _. message.checksum; message = r.message; body = refl })
+    (named, record { least = r.least; checksum = λ _. sum; message = r.message; body = refl })

@@ -2,7 +2,7 @@ pub mod Answered
 pub mod EchoEnds
 pub mod Echoes
 pub mod Ends
-pub mod Kept
+pub mod Faults
 pub mod Headers
 pub mod Mapped
 pub mod Payloads

@@ -1,5 +1,5 @@
 -- Frames that go out and come in by a table of mappings.
-use Rattle.std.proofs.Common.{IfErr, ℕ, ◌≡◌, ◌≢◌, Bool, Decides, bytes_eq, false, not, true, true≢false, List, Result, Ok, Err, inl, inr, refl, sym, ap, subst, ◌∙◌, arith}
+use Rattle.std.proofs.Common.{IfErr, ℕ, ◌≡◌, ◌≢◌, Bool, Decides, bytes_eq, false, not, true, true≢false, List, Some, Result, Ok, Err, inl, inr, refl, sym, ap, subst, ◌∙◌, arith}
 use Rattle.std.proofs.lemmas.Bool.{cases_lt}
 use Rattle.std.proofs.lemmas.Slice.Eq.{bytes_eq-Decides}
 use Rattle.ip_flows.specs.declared.Mapping.{Mapping}
@@ -9,34 +9,23 @@ use Rattle.ip_flows.specs.declared.Ipv4Endpoint.{Ipv4Endpoint}
 use Rattle.ip_flows.specs.State.{protocol_of}
 use Rattle.ip_flows.specs.declared.Protocol.TheVariants.{Icmp}
 use Rattle.ip_nat.proofs.NatOnce.{transport-of-one}
-use Rattle.ip_nat.specs.Flows.{IsPacketKeptInside, IsPacketKeptOutside, event_by, event_of, source_of}
+use Rattle.ip_nat.specs.Flows.{IsPacketKeptInside, IsPacketKeptOutside, IsUnanswerable, event_by, event_of, source_of}
 use Rattle.ip_nat.specs.Nat.{AllowsPort, IsPacket, IsRejected, RefusesPort, Transport, datagram, kind_of, reply, request, segment}
 use Rattle.ip_nat.specs.declared.packet.Packet.{Packet}
 use Rattle.ip_nat.specs.declared.nat.Rejection.{Rejection}
-use Rattle.ip_nat.specs.declared.nat.Rejection.TheVariants.{NotIpv4, ZeroPort, NoMapping, NoFreePort}
+use Rattle.ip_nat.specs.declared.nat.Rejection.TheVariants.{OtherProtocol, ZeroPort, NoMapping, NoFreePort}
 use Rattle.ip_nat.specs.declared.nat.Side.{Side}
 use Rattle.ip_nat.specs.declared.nat.Side.TheVariants.{Source, Destination}
 
 -- ---- frames that do not parse
 
-parse-reason : (frame : List ℕ) (reason : Rejection) → IsRejected frame reason → (reason ≢ ZeroPort) × (reason ≢ NoMapping) × (reason ≢ NoFreePort)
-parse-reason frame ZeroPort why = let is : ZeroPort ≡ NotIpv4 = why.short (λ link is. (why.whole link is).2) in absurd (cc)
-parse-reason frame NoMapping why = let is : NoMapping ≡ NotIpv4 = why.short (λ link is. (why.whole link is).2) in absurd (cc)
-parse-reason frame NoFreePort why = let is : NoFreePort ≡ NotIpv4 = why.short (λ link is. (why.whole link is).2) in absurd (cc)
-parse-reason frame _ why = (λ is. cc, λ is. cc, λ is. cc)
-
--- a frame that does not parse does not go out
+-- they do not go out
 pub kept-inside : (nat : Nat) (mappings : List Mapping) (now : ℕ) (frame : List ℕ) (reason : Rejection) → IsRejected frame reason → IsPacketKeptInside nat mappings now frame reason
-kept-inside nat mappings now frame ZeroPort why = absurd ((parse-reason frame ZeroPort why).0 refl)
-kept-inside nat mappings now frame NoMapping why = absurd ((parse-reason frame NoMapping why).1 refl)
-kept-inside nat mappings now frame NoFreePort why = absurd ((parse-reason frame NoFreePort why).2 refl)
-kept-inside nat mappings now frame _ why = why
+kept-inside nat mappings now frame reason why = inl why
 
--- and does not come in
+-- and do not come in
 pub kept-outside : (nat : Nat) (mappings : List Mapping) (now : ℕ) (frame : List ℕ) (reason : Rejection) → IsRejected frame reason → IsPacketKeptOutside nat mappings mappings now frame reason
-kept-outside nat mappings now frame ZeroPort why = absurd ((parse-reason frame ZeroPort why).0 refl)
-kept-outside nat mappings now frame NoMapping why = absurd ((parse-reason frame NoMapping why).1 refl)
-kept-outside nat mappings now frame _ why = (why, refl)
+kept-outside nat mappings now frame reason why = inl (inl why, refl)
 
 -- ---- addresses
 
@@ -86,13 +75,29 @@ in-zero (Ok v) nat old new now frame p inside carries outside finds is why = tt
 in-zero (Err reason) nat old new now frame p inside carries outside finds is why =
     let same = transport-of-one frame carries.link why.link p.header why.header carries.transport why.transport carries.carries why.carries in
     let kind : p.kind ≡ kind_of why.transport = carries.described.kind ∙ ap kind_of same in
-    subst (IsPacketKeptOutside nat old new now frame) (sym is)
-    (record {
-      packet = p;
-      carries = carries;
-      outside = outside;
-      no_echo = λ echo. refused-kind Destination why.transport inside.port why.refused (ap (λ k. protocol_of (event_by k)) (sym kind) ∙ echo);
-      inside = inside;
-      finds = finds;
-      zero = refused-zero frame Destination inside.port why;
-    })
+    inr (
+      is,
+      record {
+        packet = p;
+        carries = carries;
+        outside = outside;
+        no_echo = λ echo. refused-kind Destination why.transport inside.port why.refused (ap (λ k. protocol_of (event_by k)) (sym kind) ∙ echo);
+        inside = inside;
+        finds = finds;
+        zero = refused-zero frame Destination inside.port why;
+      },
+    )
+
+-- ---- packets that are none of these
+
+pub other-inside : (nat : Nat) (mappings : List Mapping) (now : ℕ) (frame : List ℕ) (reason : Rejection) → reason ≡ OtherProtocol
+    → IsPacketKeptInside nat mappings now frame reason → IsRejected frame OtherProtocol
+other-inside nat mappings now frame reason other (inl why) = why ∙ ap Some other
+other-inside nat mappings now frame reason other (inr (inl why)) = absurd (subst (IsUnanswerable why.packet) other why.unanswerable)
+other-inside nat mappings now frame reason other (inr (inr (is, why))) = let differs : NoFreePort ≡ OtherProtocol = sym is ∙ other in absurd (cc)
+
+pub other-outside : (nat : Nat) (old new : List Mapping) (now : ℕ) (frame : List ℕ) (reason : Rejection) → reason ≡ OtherProtocol
+    → IsPacketKeptOutside nat old new now frame reason → IsRejected frame OtherProtocol × (new ≡ old)
+other-outside nat old new now frame reason other (inl (inl why, same)) = (why ∙ ap Some other, same)
+other-outside nat old new now frame reason other (inl (inr (is, why), same)) = let differs : NoMapping ≡ OtherProtocol = sym is ∙ other in absurd (cc)
+other-outside nat old new now frame reason other (inr (is, why)) = let differs : ZeroPort ≡ OtherProtocol = sym is ∙ other in absurd (cc)

@@ -26,8 +26,8 @@ use Rattle.ip_nat.proofs.Payloads.{drop-front, range-len}
 use Rattle.ip_nat.proofs.TcpEnds.{tcp-ported, tcp-whole}
 use Rattle.ip_nat.proofs.UdpEnds.{udp-ported, udp_next, whole}
 use Rattle.ip_nat.proofs.Words.{spelled, spelled-fits, spelled-word, word}
-use Rattle.ip_nat.specs.Errors.{CarriesError, IsErrorTranslated, Quotes, Reports, error_packet, opposite, is_error, with_message_checksum, behind, echo_type, end_bit, flow_by, quoted_of, quoting}
-use Rattle.ip_nat.specs.Nat.{addr_at, port_bit, with_addr, with_address, with_tcp_end, with_udp_end}
+use Rattle.ip_nat.specs.Errors.{CarriesError, IsErrorTranslated, Quotes, Reports, error_packet, is_error, with_message_checksum, behind, echo_type, end_bit, flow_by, quoted_of, quoting}
+use Rattle.ip_nat.specs.Nat.{addr_at, opposite, port_bit, with_addr, with_address, with_tcp_end, with_udp_end}
 use Rattle.ip_nat.specs.declared.errors.Quoted.{Quoted}
 use Rattle.ip_nat.specs.declared.nat.Side.{Side}
 use Rattle.ip_nat.specs.declared.nat.Side.TheVariants.{Source, Destination}

@@ -1,5 +1,5 @@
 -- A frame is translated exactly as its packet, and rejected for the same reason.
-use Rattle.std.proofs.Common.{IfErr, IfOk, ℕ, ◌≡◌, ◌≢◌, ◌≤◌, ◌-◌, ◌%◌, ◌++◌, ◌↔◌, Bool, true, false, List, Result, Ok, Err, length, drop, take, slice_range, refl, sym, ap, subst, ◌∙◌, arith, length-append, length-drop}
+use Rattle.std.proofs.Common.{IfErr, ℕ, ◌≡◌, ◌≤◌, ◌-◌, ◌%◌, ◌++◌, ◌↔◌, Bool, true, false, List, inl, inr, Result, Ok, Err, length, drop, take, slice_range, refl, sym, ap, subst, ◌∙◌, arith, length-append, length-drop}
 use Rattle.std.proofs.lemmas.List.{length-take-le, take-append-drop}
 use Rattle.ip_wire.proofs.ByteLists.{AreBytes-drop, AreBytes-slice_range}
 use Rattle.ip_wire.proofs.Spelled.{AreBytes}
@@ -11,7 +11,7 @@ use Rattle.ip_wire.specs.Ipv4 as ipv4
 use Rattle.ip_wire.specs.Protocol.{protocol_of}
 use Rattle.ip_wire.specs.TcpRepr.{TcpHeader}
 use Rattle.ip_wire.specs.WordSum.{sum_of_bytes}
-use Rattle.ip_wire.specs.Types.{Error, EthernetRepr, IpAddress, IpProtocol, Ipv4, Ipv4Repr, UdpRepr}
+use Rattle.ip_wire.specs.Types.{EthernetRepr, IpAddress, IpProtocol, Ipv4, Ipv4Repr, UdpRepr}
 use Rattle.ip_wire.specs.declared.EthernetProtocol.TheVariants as ethertype
 use Rattle.ip_wire.specs.declared.IpAddress.TheVariants as address
 use Rattle.ip_wire.specs.declared.IpProtocol.TheVariants as protocol
@@ -22,9 +22,9 @@ use Rattle.ip_nat.proofs.Headers.{keeps, reads-inner, same-inner}
 use Rattle.ip_nat.proofs.Payloads.{drop-front, range-len, range-part}
 use Rattle.ip_nat.proofs.TcpEnds.{tcp-len}
 use Rattle.ip_nat.proofs.UdpEnds.{udp-ended}
-use Rattle.ip_nat.specs.Nat.{AllowsPort, Carries, CarriesPorts, IsIpv4Frame, IsRejected, IsRejectedPacket, IsTranslated, IsUntranslated, LacksChecksum, ReadsPorts, RefusesPort, Rewrites, Transport, addr_at, addr_of, port_bit, translated_packet, with_addr, with_address, with_end, with_end_by, with_port, datagram, segment, request, reply, plain}
+use Rattle.ip_nat.specs.Nat.{AllowsPort, Carries, CarriesPorts, IsRejected, IsTranslated, IsUntranslated, LacksChecksum, ReadsPorts, RefusesPort, Rewrites, Transport, addr_at, addr_of, port_bit, translated_packet, with_addr, with_address, with_end, with_end_by, with_port, datagram, segment, request, reply, plain}
 use Rattle.ip_nat.specs.declared.nat.Rejection.{Rejection}
-use Rattle.ip_nat.specs.declared.nat.Rejection.TheVariants.{NotIpv4, ZeroPort}
+use Rattle.ip_nat.specs.declared.nat.Rejection.TheVariants.{ZeroPort}
 use Rattle.ip_nat.specs.declared.nat.Side.{Side}
 use Rattle.ip_nat.specs.declared.nat.Side.TheVariants.{Source, Destination}
 
@@ -262,50 +262,12 @@ translates frame new body link v t side addr port four are c after is at =
       bytes = at ∙ ap (λ (l : List ℕ). take 14 frame ++ l) is;
     }
 
--- ---- rejected frames
-
--- a frame whose packet is rejected is rejected for the same reason
-pub packet-rejected : (frame : List ℕ) (link : EthernetRepr) (reason : Rejection) → IsIpv4Frame frame link → IsRejectedPacket (drop 14 frame) reason → IsRejected frame reason
-packet-rejected frame link reason is why = record { whole = λ l f. why; short = λ none. absurd (none link is) }
-
--- a frame without an Ethernet header is no IPv4 frame
-pub unread-rejected : (frame : List ℕ) (answer : Result EthernetRepr Error) (error : Error)
-    → ((v : EthernetRepr) → (answer ≡ Ok v) ↔ ethernet.Reads frame v) → answer ≡ Err error → IsRejected frame NotIpv4
-unread-rejected frame answer error reads is = record {
-  whole = λ v f. let other : answer ≡ Ok v = (reads v).1 f.reads in absurd (cc);
-  short = λ _. refl;
-}
-
--- a frame with another EtherType is no IPv4 frame
-pub other-rejected : (frame : List ℕ) (answer : Result EthernetRepr Error) (link : EthernetRepr)
-    → ((v : EthernetRepr) → (answer ≡ Ok v) ↔ ethernet.Reads frame v) → answer ≡ Ok link → link.ethertype ≢ ethertype.Ipv4 → IsRejected frame NotIpv4
-other-rejected frame answer link reads is names = record {
-  whole = λ v f. let other : answer ≡ Ok v = (reads v).1 f.reads in let same : link ≡ v = cc in absurd (names (ap (λ (w : EthernetRepr). w.ethertype) same ∙ f.names));
-  short = λ _. refl;
-}
-
 -- a frame that is not parsed is not translated, for the same reason
 pub untranslated : (frame : List ℕ) (side : Side) (port : ℕ) (reason : Rejection) → IsRejected frame reason → IsUntranslated frame side port reason
-untranslated frame side port ZeroPort why = let other : ZeroPort ≡ NotIpv4 = why.short (λ link is. (why.whole link is).2) in absurd (cc)
-untranslated frame side port _ why = why
+untranslated frame side port reason why = inl why
 
 -- a frame whose port is rejected is not translated
 pub refused : {T : Type 0} (answer : Result T Rejection) (frame : List ℕ) (side : Side) (port : ℕ) → IfErr answer (λ reason. reason ≡ ZeroPort)
     → IfErr answer (λ _. RefusesPort frame side port) → IfErr answer (IsUntranslated frame side port)
 refused (Ok v) frame side port is why = tt
-refused (Err reason) frame side port is why = subst (IsUntranslated frame side port) (sym is) why
-
--- an IPv4 packet that does not parse is rejected for its header
-pub bad-header : (bytes : List ℕ) (answer : Result Ipv4Repr Error) (error : Error)
-    → ((v : Ipv4Repr) → (answer ≡ Ok v) ↔ ipv4.Reads bytes false v) → answer ≡ Err error → (v : Ipv4Repr) → ¬ ipv4.Reads bytes false v
-bad-header bytes answer error reads is v r = let other : answer ≡ Ok v = (reads v).1 r in absurd (cc)
-
--- if P implies Q, an error with P has Q, and the same for a value
-pub if-err : {T : Type 0} (answer : Result T Rejection) (P Q : Rejection → Type 0) → ((e : Rejection) → P e → Q e) → IfErr answer P → IfErr answer Q
-if-err (Ok v) P Q implies h = h
-if-err (Err e) P Q implies h = implies e h
-
--- if P implies Q, a value with P has Q
-pub if-ok : {T : Type 0} (answer : Result T Rejection) (P Q : T → Type 0) → ((v : T) → P v → Q v) → IfOk answer P → IfOk answer Q
-if-ok (Ok v) P Q implies h = implies v h
-if-ok (Err e) P Q implies h = h
+refused (Err reason) frame side port is why = inr (is, why)

@@ -1,11 +1,11 @@
 -- A translated frame gets its old address and port back.
-use Rattle.std.proofs.Common.{◌≡◌, ◌∙◌, ◌<◌, List, ℕ, Result, Ok, Err, IfOk, IfErr, drop, length, sym, ap, subst}
-use Rattle.ip_nat.proofs.NatOnce.{carries-unrejected, header-of-one, transport-of-one}
+use Rattle.std.proofs.Common.{◌≡◌, ◌∙◌, ◌<◌, inl, inr, List, ℕ, Result, Ok, Err, IfOk, IfErr, drop, length, sym, ap, subst}
+use Rattle.ip_nat.proofs.Faults.{carries-unrejected}
+use Rattle.ip_nat.proofs.NatOnce.{header-of-one, transport-of-one}
 use Rattle.ip_nat.proofs.Translates.{carried}
 use Rattle.ip_nat.proofs.Undone.{undone}
 use Rattle.ip_nat.specs.Nat.{AllowsPort, Describes, HasUsualChecksums, IsPacket, IsTranslated, IsUntranslated, ReadsPorts, Transport, addr_of, datagram, on_side, port_of, reply, request, segment, with_addr, with_port}
 use Rattle.ip_nat.specs.declared.nat.Rejection.{Rejection}
-use Rattle.ip_nat.specs.declared.nat.Rejection.TheVariants.{ZeroPort}
 use Rattle.ip_nat.specs.declared.nat.Side.{Side}
 use Rattle.ip_nat.specs.declared.nat.Side.TheVariants.{Source, Destination}
 use Rattle.ip_nat.specs.declared.packet.Packet.{Packet}
@@ -32,14 +32,14 @@ allowed-back v bytes Destination port (reply ident seq_no payload) r = tt
 -- a translated frame may get its port back
 back-untranslated : (old new : List ℕ) (side : Side) (addr : List ℕ) (port : ℕ) (r : Rejection) (was : IsTranslated old new side addr port)
     → ¬ IsUntranslated new side (port_of side was.transport) r
-back-untranslated old new side addr port ZeroPort was why =
+back-untranslated old new side addr port r was (inr (is, why)) =
     let v = was.header in
     let t = was.transport in
     let read = carried old was.link v t was.before in
     let accepts = allowed-back v (ipv4_payload (drop 14 old)) side port t read.carries in
     let same = transport-of-one new was.link why.link (with_addr side addr v) why.header (with_port side port t) why.transport was.after why.carries in
     why.refused (subst (λ u. AllowsPort side u (port_of side t)) same accepts)
-back-untranslated old new side addr port r was why = carries-unrejected new was.link (with_addr side addr was.header) (with_port side port was.transport) r was.after why
+back-untranslated old new side addr port r was (inl why) = carries-unrejected new was.link (with_addr side addr was.header) (with_port side port was.transport) r was.after why
 
 -- the result of the way back, for the address and the port of the packet that the frame carried
 pub goes-back : {T : Type 0} (answer : Result T Rejection) (old new back : List ℕ) (p : Packet) (side : Side) (addr was_addr : List ℕ) (port was_port : ℕ) → IsPacket old p

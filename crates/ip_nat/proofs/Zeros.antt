@@ -1,5 +1,5 @@
 -- No live mapping of UDP or TCP leads to port 0.
-use Rattle.std.proofs.Common.{ℕ, ◌≡◌, ◌≢◌, ◌∙◌, inl, inr, List, Result, Ok, Err, IfErr, IfOk, length, sym, ap, subst}
+use Rattle.std.proofs.Common.{ℕ, ◌≡◌, ◌≢◌, ◌∙◌, inl, inr, List, Some, Result, Ok, Err, IfErr, IfOk, length, sym, ap, subst}
 use Rattle.std.proofs.Math.ListN.{set}
 use Rattle.ip_flows.proofs.Calls.{after_inbound-inside}
 use Rattle.ip_flows.proofs.Places.{changed}
@@ -13,9 +13,13 @@ use Rattle.ip_flows.specs.declared.Nat.{Nat}
 use Rattle.ip_flows.specs.declared.Protocol.{Protocol}
 use Rattle.ip_flows.specs.declared.Protocol.TheVariants.{Icmp}
 use Rattle.ip_nat.proofs.Answered.{answered-port, chosen-exists, chosen-leads}
+use Rattle.ip_nat.proofs.Faults.{message-not_zero, not-zero, transport-not_zero}
+use Rattle.ip_nat.specs.Errors.{message_fault}
+use Rattle.ip_nat.specs.Nat.{transport_fault}
 use Rattle.ip_nat.specs.Flows.{ComesIn, GoesOut, IsKeptOutside, LeadsToPorts, destination_of, event_of, source_of}
 use Rattle.ip_nat.specs.declared.nat.Rejection.{Rejection}
-use Rattle.ip_nat.specs.declared.nat.Rejection.TheVariants.{NotIpv4, BadHeader, WrongChecksum, Fragment, OtherProtocol, BadTransport, ZeroPort, NoMapping, NoFreePort}
+use Rattle.ip_nat.specs.declared.nat.Rejection.TheVariants.{ZeroPort, NoMapping}
+use Rattle.ip_nat.specs.declared.nat.Side.TheVariants.{Source}
 
 -- a written mapping that leads to a port
 written : (nat : Nat) (old new : List Mapping) (now : ℕ) (a : Protocol) (p : ℕ) (m : Mapping) (inside : Ipv4Endpoint) → HasPort nat (length old) p
@@ -40,15 +44,11 @@ out-ports (Err reason) nat old new now before after g same ports = subst (λ l. 
 -- a reason other than ZeroPort leaves the table
 kept-table : (nat : Nat) (old new : List Mapping) (now : ℕ) (frame : List ℕ) (reason : Rejection) → IsKeptOutside nat old new now frame reason → LeadsToPorts nat old now
     → (reason ≢ ZeroPort) × (new ≡ old)
-kept-table nat old new now frame ZeroPort why ports = absurd (ports _ _ _ why.no_echo why.finds.mapped why.zero)
-kept-table nat old new now frame NoMapping why ports = (λ is. cc, why.1)
-kept-table nat old new now frame NotIpv4 why ports = (λ is. cc, why.1)
-kept-table nat old new now frame BadHeader why ports = (λ is. cc, why.1)
-kept-table nat old new now frame WrongChecksum why ports = (λ is. cc, why.1)
-kept-table nat old new now frame Fragment why ports = (λ is. cc, why.1)
-kept-table nat old new now frame OtherProtocol why ports = (λ is. cc, why.1)
-kept-table nat old new now frame BadTransport why ports = (λ is. cc, why.1)
-kept-table nat old new now frame NoFreePort why ports = (λ is. cc, why.1)
+kept-table nat old new now frame reason (inl (other, inl (inl why, same))) ports = (λ is. not-zero transport_fault transport-not_zero frame (why ∙ ap Some is), same)
+kept-table nat old new now frame reason (inl (other, inl (inr (is, why), same))) ports = (λ zero. let apart : NoMapping ≡ ZeroPort = sym is ∙ zero in cc, same)
+kept-table nat old new now frame reason (inl (other, inr (is, why))) ports = absurd (ports _ _ _ why.no_echo why.finds.mapped why.zero)
+kept-table nat old new now frame reason (inr (other, inl why, same)) ports = (λ is. not-zero (message_fault Source) (message-not_zero Source) frame (why ∙ ap Some is), same)
+kept-table nat old new now frame reason (inr (other, inr (is, why), same)) ports = (λ zero. let apart : NoMapping ≡ ZeroPort = sym is ∙ zero in cc, same)
 
 pub in-reason : {T : Type 0} (result : Result T Rejection) (nat : Nat) (old new : List Mapping) (now : ℕ) (frame : List ℕ)
     → IfErr result (IsKeptOutside nat old new now frame) → LeadsToPorts nat old now → IfErr result (λ reason. reason ≢ ZeroPort)

@@ -1,5 +1,5 @@
 -- ICMP errors over IPv4, and the packet that they quote (RFC 5508, section 4; RFC 3022, section 4.3).
-use Rattle.std.specs.Prelude.{ℕ, ◌≡◌, ◌↔◌, ◌+◌, ◌-◌, ◌≤◌, ◌++◌, ◌==◌, ◌||◌, nat_lt, if◌then◌else◌, Bool, true, false, List, Option, Some, None, length, drop, take}
+use Rattle.std.specs.Prelude.{ℕ, ◌≡◌, ◌↔◌, ◌+◌, ◌-◌, ◌≤◌, ◌++◌, ◌⊎◌, ◌==◌, ◌||◌, ◌&&◌, not, nat_le, nat_lt, if◌then◌else◌, is_some, Bool, true, List, Option, Some, None, length, drop, take}
 use Rattle.ip_flows.specs.Table.{IsUnmapped, MapsTo}
 use Rattle.ip_flows.specs.declared.Ipv4Endpoint.{Ipv4Endpoint}
 use Rattle.ip_flows.specs.declared.Mapping.{Mapping}
@@ -15,10 +15,10 @@ use Rattle.ip_wire.specs.WordSum.{sum_of_bytes}
 use Rattle.ip_wire.specs.Types.{EthernetRepr, IpProtocol, Ipv4, Ipv4Repr}
 use Rattle.ip_wire.specs.declared.IpProtocol.TheVariants as protocol
 use Rattle.wire_icmp.specs.Icmp as icmp
-use Rattle.ip_nat.specs.Nat.{IsIpv4Frame, addr_at, port_bit, with_addr, with_address, with_tcp_end, with_udp_end}
+use Rattle.ip_nat.specs.Nat.{IsIpv4Frame, addr_at, frame_fault, opposite, port_bit, with_addr, with_address, with_tcp_end, with_udp_end}
 use Rattle.ip_nat.specs.declared.errors.Quoted.{Quoted}
 use Rattle.ip_nat.specs.declared.nat.Rejection.{Rejection}
-use Rattle.ip_nat.specs.declared.nat.Rejection.TheVariants.{NotIpv4, BadHeader, WrongChecksum, Fragment, OtherProtocol, BadTransport, NoMapping}
+use Rattle.ip_nat.specs.declared.nat.Rejection.TheVariants.{OtherProtocol, BadTransport, NoMapping}
 use Rattle.ip_nat.specs.declared.nat.Side.{Side}
 use Rattle.ip_nat.specs.declared.nat.Side.TheVariants.{Source, Destination}
 
@@ -27,11 +27,6 @@ use Rattle.ip_nat.specs.declared.nat.Side.TheVariants.{Source, Destination}
 -- a message of this type reports an error: destination unreachable, time exceeded or parameter problem (RFC 792)
 abbrev pub is_error : ℕ → Bool
 is_error type = type == 3 || (type == 11 || type == 12)
-
--- the side of the error that goes where the quoted packet came from, or comes from where it went
-abbrev pub opposite : Side → Side
-opposite Source = Destination
-opposite Destination = Source
 
 -- the type of the echo message whose identifier the host on this side chose: the source of a request, the destination of a reply
 abbrev pub echo_type : Side → ℕ
@@ -88,27 +83,36 @@ pub record CarriesError (side : Side) (frame : List ℕ) (header : Ipv4Repr) (q 
   pub names : header.next_header ≡ protocol.Icmp
   pub reports : Reports side (ipv4_payload (drop 14 frame)) q
 
--- the reason why the payload of a packet with this header is no such error: it is another protocol or ICMP message, or it is
--- too short for an ICMP message, has a wrong checksum, or quotes no such packet
-abbrev pub IsRejectedMessage : Side → Ipv4Repr → List ℕ → Rejection → Type 0
-IsRejectedMessage side header bytes OtherProtocol = header.next_header ≡ protocol.Icmp → (8 ≤ length bytes) × (is_error (field bytes 0 8) ≡ false)
-IsRejectedMessage side header bytes BadTransport =
-    (header.next_header ≡ protocol.Icmp) × (8 ≤ length bytes → is_error (field bytes 0 8) ≡ true) × ((q : Quoted) → ¬ Reports side bytes q)
-IsRejectedMessage side header bytes _ = ⊥
+-- the bytes begin with a packet that an error can quote, and that has a port on this side
+abbrev pub is_quoted : Side → List ℕ → Bool
+is_quoted side bytes =
+    field bytes 0 4 == 4 && nat_le 20 (header_len bytes) && nat_le (header_len bytes + 8) (length bytes) && fragment_offset bytes == 0
+    && is_some (flow_by side (protocol_of (field bytes 72 8)) (field (behind bytes) 0 8))
 
--- the reason why the packet in an IPv4 frame is no such error
-abbrev pub IsRejectedErrorPacket : Side → List ℕ → Rejection → Type 0
-IsRejectedErrorPacket side bytes NotIpv4 = ⊥
-IsRejectedErrorPacket side bytes BadHeader = (header : Ipv4Repr) → ¬ ipv4.Reads bytes false header
-IsRejectedErrorPacket side bytes WrongChecksum = ((header : Ipv4Repr) × ipv4.Reads bytes false header) × ¬ ipv4.HasChecksum bytes
-IsRejectedErrorPacket side bytes Fragment = ((header : Ipv4Repr) × ipv4.Reads bytes true header) × (ipv4.is_fragment bytes ≡ true)
-IsRejectedErrorPacket side bytes reason =
-    (header : Ipv4Repr) × ReadsPacket all_checked bytes (Ipv4 header) × IsRejectedMessage side header (ipv4_payload bytes) reason
+-- why an ICMP message is no such error: it is too short, another message, has a wrong checksum, or quotes no such packet
+abbrev pub icmp_fault : Side → List ℕ → Option Rejection
+icmp_fault side bytes =
+    if nat_lt (length bytes) 8 then Some BadTransport
+    else if not (is_error (field bytes 0 8)) then Some OtherProtocol
+    else if sum_of_bytes bytes == 65535 && is_quoted side (drop 8 bytes) then None
+    else Some BadTransport
 
--- the reason why a frame is no such error
-pub record IsRejectedError (side : Side) (frame : List ℕ) (reason : Rejection) : Type 0 where
-  pub whole : (link : EthernetRepr) → IsIpv4Frame frame link → IsRejectedErrorPacket side (drop 14 frame) reason
-  pub short : ((link : EthernetRepr) → ¬ IsIpv4Frame frame link) → reason ≡ NotIpv4
+-- why the payload of a packet of this protocol is no such error
+abbrev pub message_fault_by : Side → IpProtocol → List ℕ → Option Rejection
+message_fault_by side protocol.Icmp bytes = icmp_fault side bytes
+message_fault_by side _ bytes = Some OtherProtocol
+
+-- the same of a packet with this header
+abbrev pub message_fault : Side → Ipv4Repr → List ℕ → Option Rejection
+message_fault side v bytes = message_fault_by side v.next_header bytes
+
+-- why a frame does not carry such an error
+abbrev pub error_fault : Side → List ℕ → Option Rejection
+error_fault side frame = frame_fault (message_fault side) frame
+
+-- the frame is rejected for this reason
+abbrev pub IsRejectedError : Side → List ℕ → Rejection → Type 0
+IsRejectedError side frame reason = error_fault side frame ≡ Some reason
 
 -- ---- bytes
 
@@ -180,8 +184,7 @@ pub record IsUnmappedError (nat : Nat) (mappings : List Mapping) (now : ℕ) (fr
 
 -- the reason why an error does not come in
 abbrev pub IsErrorKeptOutside : Nat → List Mapping → ℕ → List ℕ → Rejection → Type 0
-IsErrorKeptOutside nat mappings now frame NoMapping = IsUnmappedError nat mappings now frame
-IsErrorKeptOutside nat mappings now frame reason = IsRejectedError Source frame reason
+IsErrorKeptOutside nat mappings now frame reason = IsRejectedError Source frame reason ⊎ ((reason ≡ NoMapping) × IsUnmappedError nat mappings now frame)
 
 -- ---- errors that go out
 
@@ -203,5 +206,4 @@ pub record IsUnopenedError (nat : Nat) (mappings : List Mapping) (now : ℕ) (fr
 
 -- the reason why an error does not go out
 abbrev pub IsErrorKeptInside : Nat → List Mapping → ℕ → List ℕ → Rejection → Type 0
-IsErrorKeptInside nat mappings now frame NoMapping = IsUnopenedError nat mappings now frame
-IsErrorKeptInside nat mappings now frame reason = IsRejectedError Destination frame reason
+IsErrorKeptInside nat mappings now frame reason = IsRejectedError Destination frame reason ⊎ ((reason ≡ NoMapping) × IsUnopenedError nat mappings now frame)

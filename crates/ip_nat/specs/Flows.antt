@@ -9,10 +9,10 @@ use Rattle.ip_flows.specs.declared.Mapping.{Mapping}
 use Rattle.ip_flows.specs.declared.Nat.{Nat}
 use Rattle.ip_flows.specs.declared.Protocol.{Protocol}
 use Rattle.ip_flows.specs.declared.Protocol.TheVariants.{Icmp}
-use Rattle.ip_nat.specs.Errors.{ErrorComesIn, ErrorGoesOut, IsRejectedError, IsUnmappedError, IsUnopenedError}
+use Rattle.ip_nat.specs.Errors.{ErrorComesIn, ErrorGoesOut, IsErrorKeptInside, IsErrorKeptOutside}
 use Rattle.ip_nat.specs.Nat.{IsPacket, IsRejected, IsTranslated}
 use Rattle.ip_nat.specs.declared.nat.Rejection.{Rejection}
-use Rattle.ip_nat.specs.declared.nat.Rejection.TheVariants.{OtherProtocol, BadTransport, ZeroPort, NoMapping, NoFreePort}
+use Rattle.ip_nat.specs.declared.nat.Rejection.TheVariants.{OtherProtocol, ZeroPort, NoMapping, NoFreePort}
 use Rattle.ip_nat.specs.declared.nat.Side.TheVariants.{Source, Destination}
 use Rattle.ip_nat.specs.declared.packet.Kind.{Kind}
 use Rattle.ip_nat.specs.declared.packet.Kind.TheVariants as kind
@@ -87,10 +87,8 @@ pub record GetsNoAnswer (frame : List ℕ) (reason : Rejection) : Type 0 where
 
 -- the reason why a frame does not go out
 abbrev pub IsPacketKeptInside : Nat → List Mapping → ℕ → List ℕ → Rejection → Type 0
-IsPacketKeptInside nat mappings now frame ZeroPort = GetsNoAnswer frame ZeroPort
-IsPacketKeptInside nat mappings now frame NoMapping = GetsNoAnswer frame NoMapping
-IsPacketKeptInside nat mappings now frame NoFreePort = HasNoPort nat mappings now frame
-IsPacketKeptInside nat mappings now frame reason = IsRejected frame reason
+IsPacketKeptInside nat mappings now frame reason =
+    IsRejected frame reason ⊎ (GetsNoAnswer frame reason ⊎ ((reason ≡ NoFreePort) × HasNoPort nat mappings now frame))
 
 -- ---- frames that come in
 
@@ -123,9 +121,9 @@ pub record LeadsToZero (nat : Nat) (old new : List Mapping) (now : ℕ) (frame :
 
 -- the reason why a frame does not come in, and what becomes of the table
 abbrev pub IsPacketKeptOutside : Nat → List Mapping → List Mapping → ℕ → List ℕ → Rejection → Type 0
-IsPacketKeptOutside nat old new now frame ZeroPort = LeadsToZero nat old new now frame
-IsPacketKeptOutside nat old new now frame NoMapping = IsUnmappedFrame nat old now frame × (new ≡ old)
-IsPacketKeptOutside nat old new now frame reason = IsRejected frame reason × (new ≡ old)
+IsPacketKeptOutside nat old new now frame reason =
+    (IsRejected frame reason ⊎ ((reason ≡ NoMapping) × IsUnmappedFrame nat old now frame)) × (new ≡ old)
+    ⊎ (reason ≡ ZeroPort) × LeadsToZero nat old new now frame
 
 -- ---- all frames
 
@@ -135,14 +133,11 @@ abbrev pub GoesOut : Nat → List Mapping → List Mapping → ℕ → List ℕ 
 GoesOut nat old new now before after =
     PacketGoesOut nat old new now before after ⊎ (IsRejected before OtherProtocol × ErrorGoesOut nat old now before after × (new ≡ old))
 
--- the reason why a frame does not go out
+-- the reason why a frame does not go out: that of its packet, or of the ICMP error if it carries none of these packets
 abbrev pub IsKeptInside : Nat → List Mapping → ℕ → List ℕ → Rejection → Type 0
-IsKeptInside nat mappings now frame NoMapping =
-    IsPacketKeptInside nat mappings now frame NoMapping ⊎ (IsRejected frame OtherProtocol × IsUnopenedError nat mappings now frame)
-IsKeptInside nat mappings now frame OtherProtocol = IsRejected frame OtherProtocol × IsRejectedError Destination frame OtherProtocol
-IsKeptInside nat mappings now frame BadTransport =
-    IsRejected frame BadTransport ⊎ (IsRejected frame OtherProtocol × IsRejectedError Destination frame BadTransport)
-IsKeptInside nat mappings now frame reason = IsPacketKeptInside nat mappings now frame reason
+IsKeptInside nat mappings now frame reason =
+    (reason ≢ OtherProtocol) × IsPacketKeptInside nat mappings now frame reason
+    ⊎ IsRejected frame OtherProtocol × IsErrorKeptInside nat mappings now frame reason
 
 -- the same of frames that come in
 abbrev pub ComesIn : Nat → List Mapping → List Mapping → ℕ → List ℕ → List ℕ → Type 0
@@ -151,12 +146,9 @@ ComesIn nat old new now before after =
 
 -- the reason why a frame does not come in, and what becomes of the table
 abbrev pub IsKeptOutside : Nat → List Mapping → List Mapping → ℕ → List ℕ → Rejection → Type 0
-IsKeptOutside nat old new now frame NoMapping =
-    (IsUnmappedFrame nat old now frame ⊎ (IsRejected frame OtherProtocol × IsUnmappedError nat old now frame)) × (new ≡ old)
-IsKeptOutside nat old new now frame OtherProtocol = (IsRejected frame OtherProtocol × IsRejectedError Source frame OtherProtocol) × (new ≡ old)
-IsKeptOutside nat old new now frame BadTransport =
-    (IsRejected frame BadTransport ⊎ (IsRejected frame OtherProtocol × IsRejectedError Source frame BadTransport)) × (new ≡ old)
-IsKeptOutside nat old new now frame reason = IsPacketKeptOutside nat old new now frame reason
+IsKeptOutside nat old new now frame reason =
+    (reason ≢ OtherProtocol) × IsPacketKeptOutside nat old new now frame reason
+    ⊎ IsRejected frame OtherProtocol × IsErrorKeptOutside nat old now frame reason × (new ≡ old)
 
 -- no live mapping of UDP or TCP leads to port 0; one of ICMP may lead to the identifier 0
 abbrev pub LeadsToPorts : Nat → List Mapping → ℕ → Type 0
@@ -169,9 +161,8 @@ LeadsToPorts nat mappings now =
 abbrev pub IsLive : Nat → List Mapping → ℕ → Protocol → ℕ → Type 0
 IsLive nat mappings now protocol port = now < (mapping_at nat mappings protocol port).expires
 
--- any packets pass through the NAT, from this table on, until it is the last one (ICMP errors leave a table as it is); each comes
--- before the mapping of this
--- port expires
+-- Any packets pass through the NAT, from this table on, until it is the last one. Each comes before the mapping of this port
+-- expires. ICMP errors leave a table as it is.
 pub data Passes (nat : Nat) (protocol : Protocol) (port : ℕ) (last : List Mapping) : List Mapping → Type 0 where
   passes_none : Passes nat protocol port last last
   passes_out : (old new : List Mapping) (now : ℕ) (before after : List ℕ) → IsLive nat old now protocol port → PacketGoesOut nat old new now before after

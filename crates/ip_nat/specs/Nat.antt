@@ -1,9 +1,12 @@
 -- Network address translation of one address and port (RFC 3022, sections 2.2 and 4.1), with updated checksums (RFC 1624).
-use Rattle.std.specs.Prelude.{ℕ, ⊤, ◌≡◌, ◌≢◌, ◌↔◌, ◌++◌, IsTrue, false, true, List, [], drop, take, slice_range}
+use Rattle.std.specs.Prelude.{ℕ, ⊤, ◌≡◌, ◌≢◌, ◌⊎◌, ◌↔◌, ◌++◌, ◌==◌, ◌&&◌, if◌then◌else◌, Bool, false, true, List, [], Option, Some, None, drop, take, slice_range}
+use Rattle.std.specs.Option.{option_map, option_map_or, option_or}
 use Rattle.ip_wire.specs.Ethernet as ethernet
+use Rattle.ip_wire.specs.Ethernet.{ethernet_of}
 use Rattle.ip_wire.specs.Field.{field, with_field, with_range}
 use Rattle.ip_wire.specs.Frame as whole
-use Rattle.ip_wire.specs.Frame.{IsReadWhole, ReadsPacket, ReadsTransport, all_checked, ipv4_payload, packet}
+use Rattle.ip_wire.specs.Frame.{IsReadWhole, ReadsPacket, ReadsTransport, all_checked, ipv4_payload, packet, transport_by}
+use Rattle.ip_wire.specs.HeaderFault.{ipv4_fault}
 use Rattle.ip_wire.specs.Ipv4 as ipv4
 use Rattle.ip_wire.specs.Protocol.{protocol_of}
 use Rattle.ip_wire.specs.Tcp as tcp
@@ -11,7 +14,9 @@ use Rattle.ip_wire.specs.TcpRepr.{TcpHeader}
 use Rattle.ip_wire.specs.Udp as udp
 use Rattle.ip_wire.specs.WordSum.{sum_of_bytes}
 use Rattle.ip_wire.specs.declared.EthernetProtocol.TheVariants as ethertype
-use Rattle.ip_wire.specs.Types.{EthernetRepr, IpProtocol, Ipv4, Ipv4Repr, UdpRepr}
+use Rattle.ip_wire.specs.declared.HeaderFault.{HeaderFault}
+use Rattle.ip_wire.specs.declared.HeaderFault.TheVariants as header
+use Rattle.ip_wire.specs.Types.{EthernetProtocol, EthernetRepr, IpProtocol, Ipv4, Ipv4Repr, UdpRepr}
 use Rattle.ip_wire.specs.declared.IpAddress.TheVariants as address
 use Rattle.ip_wire.specs.declared.IpProtocol.TheVariants as protocol
 use Rattle.wire_icmp.specs.Icmp as icmp
@@ -26,6 +31,11 @@ use Rattle.ip_nat.specs.declared.packet.Kind.TheVariants as kind
 use Rattle.ip_nat.specs.declared.packet.Packet.{Packet}
 
 -- ---- values
+
+-- the other end
+abbrev pub opposite : Side → Side
+opposite Source = Destination
+opposite Destination = Source
 
 -- the address of a header on this side
 abbrev pub addr_of : Side → Ipv4Repr → List ℕ
@@ -184,6 +194,13 @@ pub record IsIpv4Frame (frame : List ℕ) (link : EthernetRepr) : Type 0 where
   pub reads : ethernet.Reads frame link
   pub names : link.ethertype ≡ ethertype.Ipv4
 
+-- the frame carries a whole IPv4 packet with this header and payload; the checksum of the header is valid
+pub record CarriesWhole (frame : List ℕ) (header : Ipv4Repr) (payload : List ℕ) : Type 0 where
+  pub link : EthernetRepr
+  pub is : IsIpv4Frame frame link
+  pub reads : ReadsPacket all_checked (drop 14 frame) (Ipv4 header)
+  pub inner : payload ≡ ipv4_payload (drop 14 frame)
+
 -- the transport of a packet with this payload, as a receiver without ICMP parses it
 abbrev pub plain : Transport → List ℕ → whole.Transport
 plain (datagram v payload) bytes = whole.datagram v payload
@@ -202,38 +219,59 @@ pub record IsPacket (frame : List ℕ) (p : Packet) : Type 0 where
   pub carries : Carries frame link p.header transport
   pub described : Describes p transport
 
--- an ICMP message with its checksum, of any type
-pub record IsMessage (bytes : List ℕ) : Type 0 where
-  pub whole : icmp.HasHeader bytes
-  pub checksum : sum_of_bytes bytes ≡ 65535
+-- why a packet that parses as this transport is not translated, or does not parse: it is neither UDP nor TCP
+abbrev pub ports_fault : Option whole.Transport → Option Rejection
+ports_fault None = Some BadTransport
+ports_fault (Some (whole.other bytes)) = Some OtherProtocol
+ports_fault (Some t) = None
 
--- the payload of a packet with this header parses: as the UDP packet, the TCP segment or the ICMP message that the header
--- names, with its checksum. That of another protocol may be any bytes.
-pub record Parses (header : Ipv4Repr) (bytes : List ℕ) : Type 0 where
-  pub transport : whole.Transport
-  pub reads : ReadsTransport all_checked (Ipv4 header) bytes transport
-  pub message : header.next_header ≡ protocol.Icmp → IsMessage bytes
+-- why this ICMP message is not translated: it is no echo
+abbrev pub echo_fault : Option IcmpRepr → Option Rejection
+echo_fault (Some (EchoRequest ident seq_no)) = None
+echo_fault (Some (EchoReply ident seq_no)) = None
+echo_fault _ = Some OtherProtocol
 
--- the reason why the payload of a packet with this header is not translated: it parses, but is none of these transports;
--- or it does not parse
-abbrev pub IsRejectedTransport : Ipv4Repr → List ℕ → Rejection → Type 0
-IsRejectedTransport header bytes OtherProtocol = Parses header bytes × ((transport : Transport) → ¬ ReadsPorts header bytes transport)
-IsRejectedTransport header bytes BadTransport = ¬ Parses header bytes
-IsRejectedTransport header bytes _ = ⊥
+-- the bytes are long enough for an ICMP message over IPv4, and have its checksum
+abbrev pub is_message : List ℕ → Bool
+is_message bytes = icmp.has_header bytes && sum_of_bytes bytes == 65535
 
--- the reason why the packet in an IPv4 frame is not parsed
-abbrev pub IsRejectedPacket : List ℕ → Rejection → Type 0
-IsRejectedPacket bytes NotIpv4 = ⊥
-IsRejectedPacket bytes BadHeader = (header : Ipv4Repr) → ¬ ipv4.Reads bytes false header
-IsRejectedPacket bytes WrongChecksum = ((header : Ipv4Repr) × ipv4.Reads bytes false header) × ¬ ipv4.HasChecksum bytes
-IsRejectedPacket bytes Fragment = ((header : Ipv4Repr) × ipv4.Reads bytes true header) × IsTrue (ipv4.is_fragment bytes)
-IsRejectedPacket bytes reason =
-    (header : Ipv4Repr) × ReadsPacket all_checked bytes (Ipv4 header) × IsRejectedTransport header (ipv4_payload bytes) reason
+-- why the payload of a packet of this protocol, with this header, is not translated
+abbrev pub transport_fault_by : IpProtocol → Ipv4Repr → List ℕ → Option Rejection
+transport_fault_by protocol.Icmp v bytes =
+    if is_message bytes then echo_fault (icmp.icmp_of (address.Ipv4 v.src_addr) (address.Ipv4 v.dst_addr) false bytes) else Some BadTransport
+transport_fault_by p v bytes = ports_fault (transport_by all_checked p (address.Ipv4 v.src_addr) (address.Ipv4 v.dst_addr) bytes)
 
--- the reason why a frame is not parsed: that of its packet, or that it is no IPv4 frame
-pub record IsRejected (frame : List ℕ) (reason : Rejection) : Type 0 where
-  pub whole : (link : EthernetRepr) → IsIpv4Frame frame link → IsRejectedPacket (drop 14 frame) reason
-  pub short : ((link : EthernetRepr) → ¬ IsIpv4Frame frame link) → reason ≡ NotIpv4
+-- why the payload of a packet with this header is not translated
+abbrev pub transport_fault : Ipv4Repr → List ℕ → Option Rejection
+transport_fault v bytes = transport_fault_by v.next_header v bytes
+
+-- the rejection for a fault of an IPv4 header
+abbrev pub of_header : HeaderFault → Rejection
+of_header header.BadHeader = BadHeader
+of_header header.WrongChecksum = WrongChecksum
+of_header _ = NotIpv4
+
+-- why the packet in a frame of this type is no whole IPv4 packet: its header is rejected, or it is a fragment
+abbrev pub whole_fault_by : EthernetProtocol → List ℕ → Option Rejection
+whole_fault_by ethertype.Ipv4 bytes = option_or (option_map of_header (ipv4_fault bytes)) (if ipv4.is_fragment bytes then Some Fragment else None)
+whole_fault_by _ bytes = Some NotIpv4
+
+-- the same of a frame
+abbrev pub whole_fault : List ℕ → Option Rejection
+whole_fault frame = option_map_or (λ link. whole_fault_by link.ethertype (drop 14 frame)) (ethernet_of frame) (Some NotIpv4)
+
+-- why a frame is rejected: it carries no whole IPv4 packet, or else for the reason that this function gives for its header
+-- and payload
+abbrev pub frame_fault : (Ipv4Repr → List ℕ → Option Rejection) → List ℕ → Option Rejection
+frame_fault fault_of frame = option_or (whole_fault frame) (fault_of (ipv4.header_of (drop 14 frame)) (ipv4_payload (drop 14 frame)))
+
+-- why a frame does not carry one of these transports
+abbrev pub packet_fault : List ℕ → Option Rejection
+packet_fault frame = frame_fault transport_fault frame
+
+-- the frame is rejected for this reason
+abbrev pub IsRejected : List ℕ → Rejection → Type 0
+IsRejected frame reason = packet_fault frame ≡ Some reason
 
 -- the frame carries a packet that no receiver accepts with this port on this side
 pub record RefusesPort (frame : List ℕ) (side : Side) (port : ℕ) : Type 0 where
@@ -245,8 +283,7 @@ pub record RefusesPort (frame : List ℕ) (side : Side) (port : ℕ) : Type 0 wh
 
 -- the reason why a frame does not get this port on this side: it is not parsed, or no receiver accepts the port
 abbrev pub IsUntranslated : List ℕ → Side → ℕ → Rejection → Type 0
-IsUntranslated frame side port ZeroPort = RefusesPort frame side port
-IsUntranslated frame side port reason = IsRejected frame reason
+IsUntranslated frame side port reason = IsRejected frame reason ⊎ ((reason ≡ ZeroPort) × RefusesPort frame side port)
 
 -- ---- before and after
 

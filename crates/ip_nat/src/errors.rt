@@ -1,8 +1,8 @@
 //! ICMP errors over IPv4, and the packet that they quote (RFC 5508, section 4; RFC 3022, section 4.3).
 
-ghost use Rattle.std.specs.Prelude.{◌≡◌, ◌↔◌, ◌+◌, ◌≤◌, IfErr, IfNone, IfOk, IfSome, OnErr, OnOk, drop, length};
-ghost use Rattle.ip_nat.specs.Errors.{CarriesError, quoting, ErrorComesIn, ErrorGoesOut, IsErrorKeptInside, IsErrorKeptOutside, IsErrorTranslated, IsRejectedError, IsRejectedErrorPacket, IsRejectedMessage, Quotes, Reports, end_bit, error_packet, error_with, flow_by, is_error, opposite, quoted_of, quoted_with, with_quoted_end};
-ghost use Rattle.ip_nat.specs.Nat.{addr_at, port_bit, with_addr};
+ghost use Rattle.std.specs.Prelude.{◌≡◌, ◌↔◌, ◌+◌, ◌≤◌, IfErr, IfNone, IfOk, IfSome, OnErr, OnOk, Some, drop, length};
+ghost use Rattle.ip_nat.specs.Errors.{CarriesError, quoting, ErrorComesIn, ErrorGoesOut, IsErrorKeptInside, IsErrorKeptOutside, IsErrorTranslated, IsRejectedError, Quotes, Reports, end_bit, error_packet, error_with, flow_by, is_error, message_fault, quoted_of, quoted_with, with_quoted_end};
+ghost use Rattle.ip_nat.specs.Nat.{addr_at, opposite, port_bit, with_addr};
 ghost use Rattle.ip_nat.specs.declared.errors.Quoted.{Quoted};
 ghost use Rattle.ip_wire.specs.Field.{field, with_field};
 ghost use Rattle.ip_wire.specs.Frame.{ReadsPacket, all_checked, ipv4_payload};
@@ -10,12 +10,12 @@ ghost use Rattle.ip_wire.specs.Types.{Ipv4, Ipv4Repr};
 ghost use Rattle.ip_wire.specs.Ipv4.{HasChecksum, header_len, total_len};
 
 use crate::nat::{Rejection, Side, rewrite_tcp, rewrite_udp, set_addr};
-use crate::packet::parse_header;
+use crate::packet::parse_whole;
 use ip_flows::{Ipv4Endpoint, Mapping, Nat, Protocol, inside_of, port_of};
 use ip_wire::laws::octets_fit;
 use ip_wire::{
-    ETHERNET_HEADER_LEN, EthernetFrame, EthernetProtocol, EthernetRepr, IPV4_HEADER_LEN, IpAddress,
-    IpProtocol, Ipv4Address, Ipv4Packet, Ipv4Repr, TcpPacketMut, UdpPacket,
+    ETHERNET_HEADER_LEN, IPV4_HEADER_LEN, IpAddress, IpProtocol, Ipv4Address, Ipv4Packet, Ipv4Repr,
+    TcpPacketMut, UdpPacket,
 };
 use wire_icmp::{ICMP_HEADER_LEN, IcmpPacket, IcmpPacketMut};
 
@@ -94,12 +94,12 @@ impl IcmpError {
         ensures error { IfOk result (λ e. CarriesError side frame.now e.header e.quoted) }
         ensures rejected { IfErr result (IsRejectedError side frame.now) }
     {
-        let Ok(link) = EthernetRepr::parse(&EthernetFrame::new_unchecked(frame)) else {
-            return Err(Rejection::NotIpv4);
-        };
-        match link.ethertype {
-            EthernetProtocol::Ipv4 => parse_packet(&frame[ETHERNET_HEADER_LEN..], side),
-            _ => Err(Rejection::NotIpv4),
+        match parse_whole(frame) {
+            Ok((header, payload)) => match parse_message(&header, payload, side) {
+                Ok(quoted) => Ok(IcmpError { header, quoted }),
+                Err(reason) => Err(reason),
+            },
+            Err(reason) => Err(reason),
         }
     }
 
@@ -114,25 +114,11 @@ impl IcmpError {
     }
 }
 
-// The error in an IPv4 packet.
-fn parse_packet(bytes: &[u8], side: Side) -> Result<IcmpError, Rejection>
-    ensures error { IfOk result (λ e. ReadsPacket all_checked bytes.now (Ipv4 e.header) × (e.header.next_header ≡ IpProtocol.Icmp) × Reports side (ipv4_payload bytes.now) e.quoted) }
-    ensures rejected { IfErr result (IsRejectedErrorPacket side bytes.now) }
-{
-    let header = parse_header(bytes)?;
-    let packet = Ipv4Packet::new_unchecked(bytes);
-    if packet.is_fragment() {
-        return Err(Rejection::Fragment);
-    }
-    let quoted = parse_message(&header, packet.payload(), side)?;
-    Ok(IcmpError { header, quoted })
-}
-
 // The packet that is quoted by an ICMP error behind this header.
 fn parse_message(header: &Ipv4Repr, bytes: &[u8], side: Side) -> Result<Quoted, Rejection>
     ensures icmp { OnOk result (header.now.next_header ≡ IpProtocol.Icmp) }
     ensures reports { IfOk result (Reports side bytes.now) }
-    ensures rejected { IfErr result (IsRejectedMessage side header.now bytes.now) }
+    ensures rejected { IfErr result (λ reason. message_fault side header.now bytes.now ≡ Some reason) }
 {
     let IpProtocol::Icmp = header.next_header else {
         return Err(Rejection::OtherProtocol);

@@ -1,9 +1,8 @@
 //! Network address translation of one address and port (RFC 3022, sections 2.2 and 4.1).
 
 ghost use Rattle.std.specs.Prelude.{◌≡◌, ◌↔◌, ◌≤◌, List, ℕ, IfErr, OnErr, OnOk, length, true};
-ghost use Rattle.ip_nat.specs.Errors.{opposite};
 ghost use Rattle.ip_nat.specs.Nat as nat;
-ghost use Rattle.ip_nat.specs.Nat.{AllowsPort, CarriesPorts, IsPacket, IsTranslated, IsUntranslated, ReadsPorts, RefusesPort, Rewrites, Transport, addr_of, translated_packet, with_addr, with_address, with_echo_ident, with_end, with_port, with_tcp_end, with_udp_end};
+ghost use Rattle.ip_nat.specs.Nat.{AllowsPort, CarriesPorts, IsPacket, IsTranslated, IsUntranslated, ReadsPorts, RefusesPort, Rewrites, Transport, addr_of, of_header, opposite, translated_packet, with_addr, with_address, with_echo_ident, with_end, with_port, with_tcp_end, with_udp_end};
 ghost use Rattle.ip_wire.specs.Ipv4 as ipv4;
 ghost use Rattle.ip_wire.specs.TcpRepr.{TcpHeader};
 ghost use Rattle.ip_wire.specs.Types.{Ipv4Repr, UdpRepr};
@@ -11,8 +10,8 @@ ghost use Rattle.ip_wire.specs.Types.{Ipv4Repr, UdpRepr};
 use crate::packet::Packet;
 use ip_wire::laws::octets_fit;
 use ip_wire::{
-    ETHERNET_HEADER_LEN, IpAddress, IpProtocol, IpRepr, Ipv4Address, Ipv4Packet, Ipv4PacketMut,
-    Ipv4Repr, TcpPacketMut, UdpPacketMut, checksum,
+    ETHERNET_HEADER_LEN, HeaderFault, IpAddress, IpProtocol, IpRepr, Ipv4Address, Ipv4Packet,
+    Ipv4PacketMut, Ipv4Repr, TcpPacketMut, UdpPacketMut, checksum,
 };
 use wire_icmp::IcmpPacketMut;
 
@@ -72,6 +71,20 @@ pub enum Rejection {
     NoMapping,
     /// No outside port is free for the source.
     NoFreePort,
+}
+
+impl Rejection {
+    // The rejection for a fault of an IPv4 header.
+    #[inline(always)]
+    pub(crate) fn of_header(fault: HeaderFault) -> Rejection
+        ensures { result ≡ of_header fault }
+    {
+        match fault {
+            HeaderFault::BadHeader => Rejection::BadHeader,
+            HeaderFault::WrongChecksum => Rejection::WrongChecksum,
+            _ => Rejection::NotIpv4,
+        }
+    }
 }
 
 /// Writes an address and a port into the UDP packet, TCP segment or ICMP echo message of a frame over

@@ -1,16 +1,17 @@
 //! The packet in a frame over IPv4, as a NAT needs it.
 
-ghost use Rattle.std.specs.Prelude.{◌≡◌, ◌≢◌, ◌⊎◌, ◌↔◌, IfErr, IfOk, IsTrue, OnOk, true};
+ghost use Rattle.std.specs.Prelude.{◌≡◌, ◌≢◌, ◌↔◌, IfErr, IfOk, IsTrue, OnOk, Some};
 ghost use Rattle.ip_nat.specs.Nat as nat;
-ghost use Rattle.ip_nat.specs.Nat.{AllowsPort, CarriesPorts, Describes, IsPacket, IsRejected, IsRejectedPacket, IsRejectedTransport, ReadsPorts};
+ghost use Rattle.ip_nat.specs.Nat.{AllowsPort, CarriesWhole, Describes, IsPacket, IsRejected, ReadsPorts, transport_fault, whole_fault, whole_fault_by};
 ghost use Rattle.ip_nat.specs.Flows.{IsAnswerable, IsUnanswerable, destination_of, event_of, source_of};
-ghost use Rattle.ip_wire.specs.Ipv4 as ipv4;
+ghost use Rattle.ip_wire.specs.Frame.{ReadsPacket, all_checked, ipv4_payload};
+ghost use Rattle.ip_wire.specs.Types.{Ipv4};
 
 use crate::nat::{Rejection, Side};
 use ip_flows::{Event, Ipv4Endpoint};
 use ip_wire::{
     ETHERNET_HEADER_LEN, EthernetFrame, EthernetProtocol, EthernetRepr, IpAddress, IpProtocol,
-    IpRepr, Ipv4Packet, Ipv4Repr, TcpControl, Transport,
+    IpRepr, Ipv4Packet, Ipv4Repr, TcpControl, Transport, parse_ipv4,
 };
 use net_base::ChecksumCapabilities;
 use wire_icmp::{IcmpPacket, IcmpRepr};
@@ -43,12 +44,9 @@ impl Packet {
         ensures packet { IfOk result (IsPacket frame.now) }
         ensures rejected { IfErr result (IsRejected frame.now) }
     {
-        let Ok(link) = EthernetRepr::parse(&EthernetFrame::new_unchecked(frame)) else {
-            return Err(Rejection::NotIpv4);
-        };
-        match link.ethertype {
-            EthernetProtocol::Ipv4 => parse_packet(&frame[ETHERNET_HEADER_LEN..]),
-            _ => Err(Rejection::NotIpv4),
+        match parse_whole(frame) {
+            Ok((header, payload)) => parse_transport(&header, payload),
+            Err(reason) => Err(reason),
         }
     }
 
@@ -118,33 +116,37 @@ impl Packet {
     }
 }
 
+// The header and the payload of the IPv4 packet in a frame, if it is no fragment.
 #[inline(always)]
-fn parse_packet(bytes: &[u8]) -> Result<Packet, Rejection>
-    ensures packet { IfOk result (λ p. (transport : nat.Transport) × CarriesPorts bytes.now p.header transport × Describes p transport) }
-    ensures rejected { IfErr result (IsRejectedPacket bytes.now) }
+pub(crate) fn parse_whole(frame: &[u8]) -> Result<(Ipv4Repr, &[u8]), Rejection>
+    ensures whole { IfOk result (λ parts. CarriesWhole frame.now parts.0 parts.1.now) }
+    ensures rejected { IfErr result (λ reason. whole_fault frame.now ≡ Some reason) }
 {
-    let header = parse_header(bytes)?;
-    let packet = Ipv4Packet::new_unchecked(bytes);
-    if packet.is_fragment() {
-        return Err(Rejection::Fragment);
+    let Ok(link) = EthernetRepr::parse(&EthernetFrame::new_unchecked(frame)) else {
+        return Err(Rejection::NotIpv4);
+    };
+    match link.ethertype {
+        EthernetProtocol::Ipv4 => parse_unfragmented(&frame[ETHERNET_HEADER_LEN..]),
+        _ => Err(Rejection::NotIpv4),
     }
-    parse_transport(&header, packet.payload())
 }
 
+// The header and the payload of an IPv4 packet, if it is no fragment.
 #[inline(always)]
-pub(crate) fn parse_header(bytes: &[u8]) -> Result<Ipv4Repr, Rejection>
-    ensures reads { IfOk result (ipv4.Reads bytes.now true) }
-    ensures rejected { IfErr result (IsRejectedPacket bytes.now) }
-    ensures reason { IfErr result (λ reason. (reason ≡ Rejection.BadHeader) ⊎ (reason ≡ Rejection.WrongChecksum)) }
+fn parse_unfragmented(bytes: &[u8]) -> Result<(Ipv4Repr, &[u8]), Rejection>
+    ensures whole { IfOk result (λ parts. ReadsPacket all_checked bytes.now (Ipv4 parts.0) × (parts.1.now ≡ ipv4_payload bytes.now)) }
+    ensures rejected { IfErr result (λ reason. whole_fault_by EthernetProtocol.Ipv4 bytes.now ≡ Some reason) }
 {
-    let packet = Ipv4Packet::new_unchecked(bytes);
-    let Ok(header) = Ipv4Repr::parse(&packet, &ChecksumCapabilities::ignored()) else {
-        return Err(Rejection::BadHeader);
-    };
-    if !packet.verify_checksum() {
-        return Err(Rejection::WrongChecksum);
+    match parse_ipv4(bytes) {
+        Ok(header) => {
+            let packet = Ipv4Packet::new_unchecked(bytes);
+            if packet.is_fragment() {
+                return Err(Rejection::Fragment);
+            }
+            Ok((header, packet.payload()))
+        }
+        Err(fault) => Err(Rejection::of_header(fault)),
     }
-    Ok(header)
 }
 
 // The packet with this IPv4 header and payload.
@@ -152,7 +154,7 @@ pub(crate) fn parse_header(bytes: &[u8]) -> Result<Ipv4Repr, Rejection>
 fn parse_transport(header: &Ipv4Repr, payload: &[u8]) -> Result<Packet, Rejection>
     ensures header { IfOk result (λ p. p.header ≡ header.now) }
     ensures packet { IfOk result (λ p. (transport : nat.Transport) × ReadsPorts header.now payload.now transport × Describes p transport) }
-    ensures rejected { IfErr result (IsRejectedTransport header.now payload.now) }
+    ensures rejected { IfErr result (λ reason. transport_fault header.now payload.now ≡ Some reason) }
 {
     match header.next_header {
         IpProtocol::Icmp => parse_echo(header, payload),
@@ -166,7 +168,7 @@ fn parse_ports(header: &Ipv4Repr, payload: &[u8]) -> Result<Packet, Rejection>
     requires { header.now.next_header ≢ IpProtocol.Icmp }
     ensures header { IfOk result (λ p. p.header ≡ header.now) }
     ensures packet { IfOk result (λ p. (transport : nat.Transport) × ReadsPorts header.now payload.now transport × Describes p transport) }
-    ensures rejected { IfErr result (IsRejectedTransport header.now payload.now) }
+    ensures rejected { IfErr result (λ reason. transport_fault header.now payload.now ≡ Some reason) }
 {
     let caps = ChecksumCapabilities::default();
     match Transport::parse(&IpRepr::Ipv4(*header), payload, &caps) {
@@ -195,7 +197,7 @@ fn parse_echo(header: &Ipv4Repr, payload: &[u8]) -> Result<Packet, Rejection>
     requires { header.now.next_header ≡ IpProtocol.Icmp }
     ensures header { IfOk result (λ p. p.header ≡ header.now) }
     ensures packet { IfOk result (λ p. (transport : nat.Transport) × ReadsPorts header.now payload.now transport × Describes p transport) }
-    ensures rejected { IfErr result (IsRejectedTransport header.now payload.now) }
+    ensures rejected { IfErr result (λ reason. transport_fault header.now payload.now ≡ Some reason) }
 {
     let src = IpAddress::Ipv4(header.src_addr);
     let dst = IpAddress::Ipv4(header.dst_addr);

@@ -1,11 +1,12 @@
-use Rattle.std.proofs.Common.{◌∙◌, rules, sym}
-use Rattle.ip_nat.proofs.Kept.{error-kept-outside}
+use Rattle.std.proofs.Common.{◌∙◌, inl, rules, sym}
 use Rattle.ip_nat.proofs.Mapped.{undiffering}
+use Rattle.ip_nat.specs.Errors.{IsErrorKeptOutside}
 use Rattle.ip_nat.proofs.errors.error_in.Goals as goal
 
 pub returns-in_err-error-clause-rejected : goal.returns-in_err-error-clause-rejected
 returns-in_err-error-clause-rejected c =
-    search (rules, error-kept-outside c.args.nat.now c.args.mappings.now c.args.now c.args.frame.now c.in_err-error.field-0.0 c.in_err-error.ensures.rejected)
+    let kept : IsErrorKeptOutside c.args.nat.now c.args.mappings.now c.args.now c.args.frame.now c.in_err-error.field-0.0 = inl c.in_err-error.ensures.rejected in
+    search (rules, kept)
 
 pub returns-clause-came : goal.returns-clause-came
 returns-clause-came c = record {

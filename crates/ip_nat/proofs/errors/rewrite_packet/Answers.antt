@@ -1,8 +1,8 @@
 use Rattle.std.proofs.Common.{List, ℕ, ◌≡◌, ◌↔◌, ◌-◌, ◌++◌, ◌∙◌, ap, drop, length, rules, subst, sym, take, true}
 use Rattle.ip_nat.proofs.Payloads.{range-split}
 use Rattle.ip_nat.proofs.Quotes.{packet-with}
-use Rattle.ip_nat.specs.Errors.{Reports, error_with, opposite, quoted_of, quoting}
-use Rattle.ip_nat.specs.Nat.{with_addr, with_address}
+use Rattle.ip_nat.specs.Errors.{Reports, error_with, quoted_of, quoting}
+use Rattle.ip_nat.specs.Nat.{opposite, with_addr, with_address}
 use Rattle.ip_wire.specs.Field.{with_range}
 use Rattle.ip_wire.specs.Frame.{ipv4_payload}
 use Rattle.ip_wire.specs.Ipv4.{HasChecksum, Reads, header_len, total_len}

@@ -1,4 +1,4 @@
-use Rattle.std.proofs.Common.{◌≡◌, ◌∙◌, false, rules, sym}
+use Rattle.std.proofs.Common.{◌≡◌, ◌∙◌, false, inl, inr, refl, rules, sym}
 use Rattle.std.proofs.lemmas.Result.{on_ok_weaker}
 use Rattle.ip_nat.proofs.Mapped.{in-zero, kept-outside, undiffering}
 use Rattle.ip_nat.proofs.flows.packet_in.Goals as goal
@@ -8,12 +8,15 @@ returns-in_err-packet-clause-rejected c =
     search (rules, kept-outside c.args.nat.now c.args.mappings.now c.args.now c.args.frame.now c.in_err-packet.field-0.0 c.in_err-packet.ensures.rejected)
 
 pub returns-in_default-clause-rejected : goal.returns-in_default-clause-rejected
-returns-in_default-clause-rejected c = (
-  record {
-    packet = c.in_ok-packet.packet;
-    carries = c.in_ok-packet.ensures.packet;
-    unmapped = λ own no_request. rw c.event.ensures at c.in_default.ensures.none;
-  },
+returns-in_default-clause-rejected c = inl (
+  inr (
+    refl,
+    record {
+      packet = c.in_ok-packet.packet;
+      carries = c.in_ok-packet.ensures.packet;
+      unmapped = λ own no_request. rw c.event.ensures at c.in_default.ensures.none;
+    },
+  ),
   c.in_default.ensures.unchanged,
 )
 

@@ -1,4 +1,4 @@
-use Rattle.std.proofs.Common.{◌≡◌, rules}
+use Rattle.std.proofs.Common.{◌≡◌, inr, refl, rules}
 use Rattle.std.proofs.lemmas.Result.{IfErr-weaker, on_err_weaker, on_ok_weaker}
 use Rattle.ip_nat.proofs.Mapped.{kept-inside, refused-zero}
 use Rattle.ip_nat.specs.declared.nat.Side.TheVariants.{Source}
@@ -27,3 +27,15 @@ returns-clause-rejected c = IfErr-weaker c.rewrite.result _ _ (λ r why. absurd 
 
 pub returns-clause-table : goal.returns-clause-table
 returns-clause-table c = on_err_weaker c.rewrite.result (λ why. absurd (c.in-Some.ensures.port (refused-zero c.args.frame.now Source c.in-Some.port why))) c.rewrite.ensures.refused
+
+pub returns-in_default-clause-rejected : goal.returns-in_default-clause-rejected
+returns-in_default-clause-rejected c =
+    inr (inr (
+      refl,
+      record {
+        packet = c.in_ok-packet.packet;
+        carries = c.in_ok-packet.ensures.packet;
+        answerable = search rules;
+        full = rw (c.event.ensures, c.src.ensures) at c.in_default.ensures.full;
+      },
+    ))

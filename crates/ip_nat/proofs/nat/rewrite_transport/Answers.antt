@@ -1,6 +1,6 @@
 use Rattle.std.proofs.Common.{rules, sym}
+use Rattle.ip_nat.specs.Nat.{opposite}
 use Rattle.ip_nat.proofs.Translates.{four-octets, rewrites-tcp, rewrites-udp}
-use Rattle.ip_nat.specs.Errors.{opposite}
 use Rattle.ip_nat.proofs.nat.rewrite_transport.Goals as goal
 
 pub returns-in-Udp-clause-reads : goal.returns-in-Udp-clause-reads

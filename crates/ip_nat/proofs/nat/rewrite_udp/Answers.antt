@@ -1,7 +1,6 @@
 use Rattle.std.proofs.Common.{◌≡◌, length, rules, subst}
 use Rattle.ip_nat.proofs.Translates.{end-by, moved-end, rewritten}
-use Rattle.ip_nat.specs.Errors.{opposite}
-use Rattle.ip_nat.specs.Nat.{addr_of, datagram, with_udp_port}
+use Rattle.ip_nat.specs.Nat.{addr_of, datagram, opposite, with_udp_port}
 use Rattle.ip_nat.specs.declared.nat.Side.{Side}
 use Rattle.ip_nat.specs.declared.nat.Side.TheVariants.{Source, Destination}
 use Rattle.ip_wire.specs.Udp.{Reads, packet_bytes_mut, with_updated_checksum}

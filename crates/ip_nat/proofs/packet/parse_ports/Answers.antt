@@ -3,7 +3,7 @@ use Rattle.ip_wire.specs.Frame as whole
 use Rattle.ip_wire.specs.Frame.{all_checked}
 use Rattle.ip_wire.specs.FrameValue.{GivesTransport}
 use Rattle.ip_wire.specs.TcpRepr.{header_of}
-use Rattle.ip_nat.proofs.Echoes.{neither}
+use Rattle.ip_nat.proofs.Faults.{bad-ports, neither}
 use Rattle.ip_nat.specs.Nat.{datagram, segment}
 use Rattle.ip_nat.proofs.packet.parse_ports.Goals as goal
 
@@ -33,4 +33,4 @@ pub returns-in-Err-clause-rejected : goal.returns-in-Err-clause-rejected
 returns-in-Err-clause-rejected c =
     let caps : c.default-caps.result ≡ all_checked = search rules in
     let reads = rw caps at c.parse.ensures.reads in
-    λ p. subst (λ answer. GivesTransport answer p.transport) c.in-Err.is ((reads p.transport).1 p.reads)
+    bad-ports c.args.header.now c.args.payload.now c.requires (λ t r. subst (λ answer. GivesTransport answer t) c.in-Err.is ((reads t).1 r))
