@@ -13,7 +13,7 @@ use Rattle.net_base.specs.declared.Checksum.TheVariants as checksum
 use Rattle.net_base.specs.declared.ChecksumCapabilities.{ChecksumCapabilities}
 use Rattle.c_structs.specs.Written.{within}
 
--- the checksum of TCP is treated so, and every other one is verified
+-- the checksum of TCP is verified or computed by this choice, and every other checksum always
 abbrev pub tcp_as : Checksum → ChecksumCapabilities
 tcp_as choice = record all_checked { tcp = choice }
 
@@ -26,7 +26,7 @@ ReadsSegment choice bytes header v payload =
 abbrev pub CarriesSegment : Checksum → List ℕ → EthernetRepr → IpRepr → TcpHeader → List ℕ → Type 0
 CarriesSegment choice frame link header v payload = ReadsFrame (tcp_as choice) frame link (packet header (segment v payload))
 
--- the values with this maximum segment size
+-- the values of a segment with this maximum segment size
 abbrev pub with_size : ℕ → TcpHeader → TcpHeader
 with_size size v = record v { max_seg_size = Some size }
 
@@ -40,11 +40,11 @@ abbrev pub segment_end : IpRepr → List ℕ → ℕ
 segment_end (Ipv4 v) bytes = ipv4.total_len bytes
 segment_end (Ipv6 v) bytes = ipv6.total_len bytes
 
--- the bytes of such a packet with another segment
+-- the bytes of a packet with this header and another segment
 abbrev pub with_segment : IpRepr → List ℕ → List ℕ → List ℕ
 with_segment header bytes part = with_range bytes (segment_start header bytes) (segment_end header bytes) part
 
--- the bytes of such a packet with this maximum segment size and an updated TCP checksum
+-- the bytes of a packet with this header, with this maximum segment size and an updated TCP checksum
 abbrev pub clamped : IpRepr → List ℕ → ℕ → List ℕ
 clamped header bytes size = with_segment header bytes (with_max_seg_size (packet_payload header bytes) size)
 
@@ -57,15 +57,15 @@ pub record IsTooLarge (frame : List ℕ) (limit : ℕ) : Type 0 where
   pub carries : CarriesSegment checksum.None frame link header v payload
   pub above : IsAbove limit v
 
--- The old frame carries such a SYN. The new one carries the same values with the limit, and if the TCP checksum was valid,
--- it still is. These are all the bytes.
+-- The old frame carries a SYN with a larger maximum segment size. The new one carries the same values with the limit,
+-- and a TCP checksum that was valid is still valid. These are all the bytes.
 pub record IsClamped (old new : List ℕ) (limit : ℕ) : Type 0 where
   pub before : IsTooLarge old limit
   pub after : (choice : Checksum) → CarriesSegment choice old before.link before.header before.v before.payload
       → CarriesSegment choice new before.link before.header (with_size limit before.v) before.payload
   pub bytes : new ≡ take 14 old ++ clamped before.header (drop 14 old) limit
 
--- 1 is returned, and the maximum segment size is the limit now; or 0, it was not larger, and the frame stays
+-- 1 is returned, and the maximum segment size is now the limit; or 0, it was not larger, and the frame is unchanged
 abbrev pub Clamps : List ℕ → List ℕ → ℕ → ℤ → Type 0
 Clamps old new limit answer =
     ((answer ≡ pos 1) × IsClamped old new limit)

@@ -6,11 +6,12 @@ use Rattle.ip_wire.specs.Types.{EthernetAddress, IpRepr}
 use Rattle.c_structs.specs.Written.{max_len, within}
 use Rattle.c_routing.specs.Rejections.{of_header, rejection_code}
 
--- the station with these octets as its address
+-- the Ethernet address of six bytes
 abbrev pub station : List ℕ → EthernetAddress
 station octets = record { 0 = octets }
 
--- 0 is returned, and the frame is forwarded between the two stations; or the number of the reason, and the frame stays
+-- 0 is returned, and the frame is forwarded between the two hosts; or the number of the reason, and the frame is
+-- unchanged
 abbrev pub Forwards : List ℕ → List ℕ → EthernetAddress → EthernetAddress → ℤ → Type 0
 Forwards old new src dst answer =
     ((answer ≡ pos 0) × (length old ≤ max_len) × ((header : IpRepr) × IsForwarded old new src dst header))

@@ -27,14 +27,14 @@ rejection_code rejection.Martian = 12
 rejection_code rejection.NoRoute = 13
 rejection_code rejection.OtherInterface = 14
 
--- the rejection for an IP header
+-- the rejection for a fault of an IP header
 abbrev pub of_header : HeaderFault → Rejection
 of_header header.NotIp = rejection.NotIp
 of_header header.BadHeader = rejection.BadHeader
 of_header header.WrongChecksum = rejection.WrongChecksum
 of_header header.Expired = rejection.Expired
 
--- the rejection of NAT
+-- the rejection for a reason why a NAT does not translate a frame
 abbrev pub of_nat : NatRejection → Rejection
 of_nat nat.NotIpv4 = rejection.NotIp
 of_nat nat.BadHeader = rejection.BadHeader
@@ -46,13 +46,13 @@ of_nat nat.ZeroPort = rejection.ZeroPort
 of_nat nat.NoMapping = rejection.NoMapping
 of_nat nat.NoFreePort = rejection.NoFreePort
 
--- the rejection for a source
+-- the rejection for a fault of a source address
 abbrev pub of_source : SourceFault → Rejection
 of_source source.Martian = rejection.Martian
 of_source source.NoRoute = rejection.NoRoute
 of_source source.OtherInterface = rejection.OtherInterface
 
--- its number, or that of none
+-- the number of the fault of a source address; 0 if it has none
 abbrev pub source_code : Option SourceFault → ℕ
 source_code None = rejection_code rejection.NotRejected
 source_code (Some fault) = rejection_code (of_source fault)

@@ -14,20 +14,20 @@ use Rattle.c_routing.specs.declared.routes.Route.{Route}
 
 -- ---- routes
 
--- the destinations of a route, if it has a block
+-- the block of destinations of a route, if it is valid
 abbrev pub destinations : Route → Option IpCidr
 destinations route = block_of route.block
 
--- the route at a place of a list; behind the list one without a block
+-- the route at index i of a list; past its end one without a block
 abbrev pub route_at : List Route → ℕ → Route
 route_at routes i = slice_index_or routes i (record { block = record { addr = no_addr; prefix_len = 0 }; next_hop = no_addr; interface = 0 })
 
--- the route has a block, which contains the address
+-- the route has a valid block, which contains the address
 abbrev pub Leads : Addr → Route → Type 0
 Leads addr route = IsSomeAnd (destinations route) (λ block. IsSomeAnd (ip_of addr) (IsIn block))
 
--- the block of the route at this place contains the address, and has the longest prefix of those that do; of several with
--- that length it is the first
+-- The block of the route at index i contains the address, and has the longest prefix of those that do. Of several
+-- with that length it is the first.
 pub record IsChosen (routes : List Route) (addr : Addr) (i : ℕ) : Type 0 where
   pub within : i < length routes
   pub leads : Leads addr (route_at routes i)
@@ -43,7 +43,7 @@ pub record IsIndexOf (routes : List Route) (nodes : List Node) : Type 0 where
   pub listed : map destinations routes ≡ map Some blocks
   pub index : IsIndex blocks nodes
 
--- why these routes get no index of so many nodes
+-- why these routes get no index in `room` nodes
 abbrev pub index_failure : List Route → ℕ → Option Failure
 index_failure routes room =
     if list_any (λ route. is_none (ip_of route.block.addr)) routes then Some failure.NoVersion
@@ -51,20 +51,20 @@ index_failure routes room =
     else if nat_le (length routes) room && nat_lt (length routes) (2 ^ 32) then None
     else Some failure.NoRoom
 
--- the index is written to the first nodes, and their number is returned; the others stay
+-- the index is written to the first nodes, and their number is returned; the other nodes are unchanged
 pub record WritesIndex (routes : List Route) (old new : List Node) (answer : ℤ) : Type 0 where
   pub count : answer ≡ pos (length routes)
   pub index : IsIndexOf routes (take (length routes) new)
   pub behind : drop (length routes) new ≡ drop (length routes) old
 
--- the same, or a failure is returned and the nodes stay
+-- the index is written, or a failure is returned and the nodes are unchanged
 abbrev pub Indexes : List Route → List Node → List Node → ℤ → Type 0
 Indexes routes old new answer =
     MatchOption (index_failure routes (usable (length old))) (WritesIndex routes old new answer) (λ why. (answer ≡ failure_code why) × (new ≡ old))
 
 -- ---- look-ups
 
--- the place of the chosen route is returned; or -1, and no block contains the address
+-- the index of the chosen route is returned; or -1, and no block contains the address
 abbrev pub Chooses : List Route → Addr → ℤ → Type 0
 Chooses routes addr answer =
     ((i : ℕ) × (answer ≡ pos i) × IsChosen routes addr i) ⊎ ((answer ≡ negsuc 0) × All (λ route. ¬ Leads addr route) routes)

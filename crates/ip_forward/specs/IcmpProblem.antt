@@ -15,8 +15,8 @@ use Rattle.ip_replies.specs.declared.Interface.{Interface}
 use Rattle.ip_forward.specs.declared.problem.Problem.{Problem}
 use Rattle.ip_forward.specs.declared.problem.Problem.TheVariants.{Expired, TooLong, NoRoute, NoNeighbour, Prohibited}
 
--- The packet is longer than a number of octets, and no router may fragment it: the flag DF is set (RFC 791, section 3.1), or
--- it is of IPv6 (RFC 8200, section 5).
+-- The packet is longer than the MTU, and no router may fragment it: the flag DF is set (RFC 791, section 3.1), or it
+-- is an IPv6 packet (RFC 8200, section 5).
 abbrev pub IsTooLong : ℕ → IpRepr → List ℕ → Type 0
 IsTooLong mtu (Ipv4 v) bytes = (mtu < ipv4.total_len bytes) × (field bytes 49 1 ≡ 1)
 IsTooLong mtu (Ipv6 v) bytes = mtu < ipv6.total_len bytes
@@ -27,7 +27,7 @@ HasProblem Expired v bytes = hop_limit_of v ≤ 1
 HasProblem (TooLong mtu) v bytes = IsTooLong mtu v bytes
 HasProblem _ v bytes = ⊤
 
--- the message that tells of it
+-- the ICMP message that reports a problem
 abbrev pub message_of : Problem → IcmpRepr
 message_of Expired = TimeExceeded exceeded.HopLimit
 message_of (TooLong mtu) = PktTooBig mtu
@@ -35,7 +35,7 @@ message_of NoRoute = DstUnreachable unreachable.NoRoute
 message_of NoNeighbour = DstUnreachable unreachable.Host
 message_of Prohibited = DstUnreachable unreachable.Prohibited
 
--- the frame carries the error about the packet of the other, which has the problem
+-- the second frame carries the ICMP error about the packet in the first frame, which has the problem
 abbrev pub Tells : Interface → List ℕ → Problem → EthernetRepr → Carried → Type 0
 Tells ours frame problem header carried =
     (v : IpRepr) × HasProblem problem v (drop 14 frame) × IsErrorAbout ours frame v (message_of problem) header carried

@@ -24,7 +24,7 @@ use Rattle.ip_nat.specs.declared.nat.Side.TheVariants.{Source, Destination}
 
 -- ---- the quoted packet
 
--- a message of this type reports an error: destination unreachable, time exceeded or parameter problem (RFC 792)
+-- a message of this ICMP type reports an error: destination unreachable, time exceeded or parameter problem (RFC 792)
 abbrev pub is_error : ℕ → Bool
 is_error type = type == 3 || (type == 11 || type == 12)
 
@@ -33,11 +33,11 @@ abbrev pub echo_type : Side → ℕ
 echo_type Source = 8
 echo_type Destination = 0
 
--- the bytes behind the header of a quoted packet
+-- the bytes after the header of a quoted packet
 abbrev pub behind : List ℕ → List ℕ
 behind bytes = drop (header_len bytes) bytes
 
--- the protocol of a packet, by that of its header and the first octet behind it
+-- the protocol of a quoted packet, by the protocol of its header and the first byte after it
 abbrev pub flow_by : Side → IpProtocol → ℕ → Option Protocol
 flow_by side protocol.Udp type = Some flow.Udp
 flow_by side protocol.Tcp type = Some flow.Tcp
@@ -50,9 +50,9 @@ end_bit flow.Udp side = port_bit side
 end_bit flow.Tcp side = port_bit side
 end_bit flow.Icmp side = 32
 
--- The bytes begin with a packet of this protocol from or to this endpoint, as an error quotes it: at least its IPv4 header and
--- 8 octets. The checksum of the header may be wrong, since some routers lower the hop limit and quote the old checksum. Only a
--- first fragment has ports.
+-- The bytes begin with a packet of this protocol from or to this endpoint, as an error quotes it: at least its IPv4
+-- header and 8 bytes. The checksum of the header may be wrong, since some routers lower the hop limit and quote the
+-- old checksum. Only a first fragment has ports.
 pub record Quotes (side : Side) (bytes : List ℕ) (q : Quoted) : Type 0 where
   pub version : field bytes 0 4 ≡ 4
   pub header : 20 ≤ header_len bytes
@@ -64,7 +64,7 @@ pub record Quotes (side : Side) (bytes : List ℕ) (q : Quoted) : Type 0 where
 
 -- ---- frames
 
--- what an ICMP error in this IPv4 packet quotes: the bytes behind the 8 octets of the ICMP header
+-- the bytes that an ICMP error in this IPv4 packet quotes: they follow the 8 bytes of the ICMP header
 abbrev pub quoted_of : List ℕ → List ℕ
 quoted_of packet = drop 8 (ipv4_payload packet)
 
@@ -83,13 +83,14 @@ pub record CarriesError (side : Side) (frame : List ℕ) (header : Ipv4Repr) (q 
   pub names : header.next_header ≡ protocol.Icmp
   pub reports : Reports side (ipv4_payload (drop 14 frame)) q
 
--- the bytes begin with a packet that an error can quote, and that has a port on this side
+-- the bytes begin with a packet that an ICMP error can quote, and that has a port on this side
 abbrev pub is_quoted : Side → List ℕ → Bool
 is_quoted side bytes =
     field bytes 0 4 == 4 && nat_le 20 (header_len bytes) && nat_le (header_len bytes + 8) (length bytes) && fragment_offset bytes == 0
     && is_some (flow_by side (protocol_of (field bytes 72 8)) (field (behind bytes) 0 8))
 
--- why an ICMP message is no such error: it is too short, another message, has a wrong checksum, or quotes no such packet
+-- why an ICMP message is no error that quotes such a packet, if it is none: it is too short, another message, has a
+-- wrong checksum, or quotes no such packet
 abbrev pub icmp_fault : Side → List ℕ → Option Rejection
 icmp_fault side bytes =
     if nat_lt (length bytes) 8 then Some BadTransport
@@ -97,34 +98,34 @@ icmp_fault side bytes =
     else if sum_of_bytes bytes == 65535 && is_quoted side (drop 8 bytes) then None
     else Some BadTransport
 
--- why the payload of a packet of this protocol is no such error
+-- why the payload of a packet of this protocol is no ICMP error that quotes such a packet, if it is none
 abbrev pub message_fault_by : Side → IpProtocol → List ℕ → Option Rejection
 message_fault_by side protocol.Icmp bytes = icmp_fault side bytes
 message_fault_by side _ bytes = Some OtherProtocol
 
--- the same of a packet with this header
+-- why the payload of a packet with this header is no ICMP error that quotes such a packet, if it is none
 abbrev pub message_fault : Side → Ipv4Repr → List ℕ → Option Rejection
 message_fault side v bytes = message_fault_by side v.next_header bytes
 
--- why a frame does not carry such an error
+-- why a frame carries no ICMP error that quotes such a packet, if it carries none
 abbrev pub error_fault : Side → List ℕ → Option Rejection
 error_fault side frame = frame_fault (message_fault side) frame
 
--- the frame is rejected for this reason
+-- the reason why a frame carries no ICMP error that quotes such a packet
 abbrev pub IsRejectedError : Side → List ℕ → Rejection → Type 0
 IsRejectedError side frame reason = error_fault side frame ≡ Some reason
 
 -- ---- bytes
 
--- the bytes behind the header of a quoted packet, with this port on this side, for another address there. The checksum of a TCP
--- segment may be cut off, and a UDP checksum of 0 stays 0.
+-- The bytes after the header of a quoted packet, with this port on this side, for another address there. The checksum
+-- of a TCP segment may be cut off, and a UDP checksum of 0 stays 0.
 abbrev pub with_quoted_end : Protocol → Side → List ℕ → List ℕ → ℕ → List ℕ → List ℕ
 with_quoted_end flow.Udp side old new port bytes = with_udp_end side old new port bytes
 with_quoted_end flow.Tcp side old new port bytes =
     if nat_lt (length bytes) 18 then with_field bytes (port_bit side) 16 port else with_tcp_end side old new port bytes
 with_quoted_end flow.Icmp side old new port bytes = icmp.with_updated_checksum (with_field bytes 32 16 port) (field bytes 32 16) port
 
--- a quoted packet with another address and port on this side
+-- the quoted packet with another address and port on this side
 abbrev pub quoted_with : Protocol → Side → List ℕ → ℕ → List ℕ → List ℕ
 quoted_with p side addr port bytes =
     with_address side addr (take (header_len bytes) bytes ++ with_quoted_end p side (addr_at side bytes) addr port (behind bytes))
@@ -133,28 +134,29 @@ quoted_with p side addr port bytes =
 abbrev pub with_message_checksum : List ℕ → List ℕ
 with_message_checksum bytes = let zeroed = with_field bytes 16 16 0 in with_field zeroed 16 16 (65535 - sum_of_bytes zeroed)
 
--- an error that quotes the packet with this address and port
+-- an ICMP error that quotes the packet with this address and port
 abbrev pub error_with : Protocol → Side → List ℕ → ℕ → List ℕ → List ℕ
 error_with p side addr port bytes = with_message_checksum (take 8 bytes ++ quoted_with p side addr port (drop 8 bytes))
 
--- a packet with such an error, and the same address on the other side of the packet itself
+-- the packet of an ICMP error that quotes the packet with this address and port, with the same address on the
+-- opposite side of its own header
 abbrev pub error_packet : Protocol → Side → List ℕ → ℕ → List ℕ → List ℕ
 error_packet p side addr port bytes =
     with_address (opposite side) addr (with_range bytes (header_len bytes) (total_len bytes) (error_with p side addr port (ipv4_payload bytes)))
 
--- the frame with this packet
+-- the frame with the translated ICMP error
 abbrev pub translated_error : Protocol → Side → List ℕ → ℕ → List ℕ → List ℕ
 translated_error p side addr port frame = take 14 frame ++ error_packet p side addr port (drop 14 frame)
 
 -- ---- before and after
 
--- the quoted packet with another endpoint
+-- the values of the quoted packet with another endpoint
 abbrev pub quoting : Quoted → List ℕ → ℕ → Quoted
 quoting q addr port = record q { end = record { addr = addr; port = port } }
 
--- The old frame carries an error that quotes this packet. The new one carries the same error with valid checksums: it quotes
--- the packet with the other address and port on this side, and has this address on the opposite side of its own header. The
--- checksum of the quoted header is valid exactly if it was. These are all the bytes.
+-- The old frame carries an ICMP error that quotes this packet. The new one carries the same error with valid
+-- checksums: it quotes the packet with the other address and port on this side, and has this address on the opposite
+-- side of its own header. The checksum of the quoted header is valid exactly if it was. These are all the bytes.
 pub record IsErrorTranslated (old new : List ℕ) (side : Side) (header : Ipv4Repr) (q : Quoted) (addr : List ℕ) (port : ℕ) : Type 0 where
   pub before : CarriesError side old header q
   pub after : CarriesError side new (with_addr (opposite side) addr header) (quoting q addr port)
@@ -163,8 +165,8 @@ pub record IsErrorTranslated (old new : List ℕ) (side : Side) (header : Ipv4Re
 
 -- ---- errors that come in
 
--- The error is for the outside address, and quotes a packet from an outside port with a live mapping: the inside endpoint becomes
--- the source of the quoted packet, and the destination of the error.
+-- The ICMP error is for the outside address, and quotes a packet from an outside port with a live mapping. The inside
+-- endpoint becomes the source of the quoted packet, and the destination of the error.
 pub record ErrorComesIn (nat : Nat) (mappings : List Mapping) (now : ℕ) (before after : List ℕ) : Type 0 where
   pub header : Ipv4Repr
   pub quoted : Quoted
@@ -188,8 +190,8 @@ IsErrorKeptOutside nat mappings now frame reason = IsRejectedError Source frame 
 
 -- ---- errors that go out
 
--- The error quotes a packet to an inside endpoint with a live mapping: the outside address and port become the destination of
--- the quoted packet, and the outside address the source of the error.
+-- The ICMP error quotes a packet to an inside endpoint with a live mapping. The outside address and port become the
+-- destination of the quoted packet, and the outside address the source of the error.
 pub record ErrorGoesOut (nat : Nat) (mappings : List Mapping) (now : ℕ) (before after : List ℕ) : Type 0 where
   pub header : Ipv4Repr
   pub quoted : Quoted

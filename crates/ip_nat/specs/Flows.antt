@@ -35,7 +35,7 @@ event_by (kind.Tcp control) = event.Tcp control
 event_by kind.EchoRequest = event.Icmp
 event_by kind.EchoReply = event.Icmp
 
--- what the table looks at in a packet
+-- the event of a packet: all that the table looks at
 abbrev pub event_of : Packet → Event
 event_of p = event_by p.kind
 
@@ -45,8 +45,8 @@ flow_protocol p = protocol_of (event_of p)
 
 -- ---- frames that go out
 
--- an answer can come to a packet of this kind with this source port: to an echo request with any identifier, to no echo reply,
--- and to a UDP or TCP packet unless its source port is 0
+-- An answer can come to a packet of this kind with this source port: to an echo request with any identifier, to no
+-- echo reply, and to a UDP or TCP packet unless its source port is 0.
 abbrev pub AnswerReaches : Kind → ℕ → Type 0
 AnswerReaches kind.EchoRequest port = ⊤
 AnswerReaches kind.EchoReply port = ⊥
@@ -56,7 +56,7 @@ AnswerReaches _ port = port ≢ 0
 abbrev pub IsAnswerable : Packet → Type 0
 IsAnswerable p = AnswerReaches p.kind p.src_port
 
--- the reason why no answer can come to it
+-- the reason why no answer can come to a packet
 abbrev pub IsUnanswerable : Packet → Rejection → Type 0
 IsUnanswerable p ZeroPort = (flow_protocol p ≢ Icmp) × (p.src_port ≡ 0)
 IsUnanswerable p NoMapping = p.kind ≡ kind.EchoReply
@@ -72,7 +72,7 @@ pub record PacketGoesOut (nat : Nat) (old new : List Mapping) (now : ℕ) (befor
   pub opens : Opens nat old new now (event_of packet) (source_of packet) (destination_of packet) port
   pub translated : IsTranslated before after Source nat.outside port
 
--- the source has no outside port, and none is free for it
+-- the source of the packet has no outside port, and none is free for it
 pub record HasNoPort (nat : Nat) (mappings : List Mapping) (now : ℕ) (frame : List ℕ) : Type 0 where
   pub packet : Packet
   pub carries : IsPacket frame packet
@@ -85,7 +85,7 @@ pub record GetsNoAnswer (frame : List ℕ) (reason : Rejection) : Type 0 where
   pub carries : IsPacket frame packet
   pub unanswerable : IsUnanswerable packet reason
 
--- the reason why a frame does not go out
+-- the reason why a packet does not go out
 abbrev pub IsPacketKeptInside : Nat → List Mapping → ℕ → List ℕ → Rejection → Type 0
 IsPacketKeptInside nat mappings now frame reason =
     IsRejected frame reason ⊎ (GetsNoAnswer frame reason ⊎ ((reason ≡ NoFreePort) × HasNoPort nat mappings now frame))
@@ -103,7 +103,7 @@ pub record PacketComesIn (nat : Nat) (old new : List Mapping) (now : ℕ) (befor
   pub finds : Finds nat old new now (event_of packet) packet.dst_port (source_of packet) inside
   pub translated : IsTranslated before after Destination inside.addr inside.port
 
--- the packet is not for the outside address, or an echo request, or no live mapping has its port
+-- the packet is not for the outside address, or it is an echo request, or no live mapping has its port
 pub record IsUnmappedFrame (nat : Nat) (mappings : List Mapping) (now : ℕ) (frame : List ℕ) : Type 0 where
   pub packet : Packet
   pub carries : IsPacket frame packet
@@ -119,7 +119,7 @@ pub record LeadsToZero (nat : Nat) (old new : List Mapping) (now : ℕ) (frame :
   pub finds : Finds nat old new now (event_of packet) packet.dst_port (source_of packet) inside
   pub zero : inside.port ≡ 0
 
--- the reason why a frame does not come in, and what becomes of the table
+-- the reason why a packet does not come in, and what happens to the table
 abbrev pub IsPacketKeptOutside : Nat → List Mapping → List Mapping → ℕ → List ℕ → Rejection → Type 0
 IsPacketKeptOutside nat old new now frame reason =
     (IsRejected frame reason ⊎ ((reason ≡ NoMapping) × IsUnmappedFrame nat old now frame)) × (new ≡ old)
@@ -127,24 +127,26 @@ IsPacketKeptOutside nat old new now frame reason =
 
 -- ---- all frames
 
--- The frame goes out: its packet does, or it carries none of these packets but an ICMP error that goes out. An error leaves the
--- table as it is.
+-- The frame goes out: its packet does, or it carries an ICMP error that goes out. An error leaves the table
+-- unchanged.
 abbrev pub GoesOut : Nat → List Mapping → List Mapping → ℕ → List ℕ → List ℕ → Type 0
 GoesOut nat old new now before after =
     PacketGoesOut nat old new now before after ⊎ (IsRejected before OtherProtocol × ErrorGoesOut nat old now before after × (new ≡ old))
 
--- the reason why a frame does not go out: that of its packet, or of the ICMP error if it carries none of these packets
+-- the reason why a frame does not go out: that of its packet, or that of the ICMP error that it carries
 abbrev pub IsKeptInside : Nat → List Mapping → ℕ → List ℕ → Rejection → Type 0
 IsKeptInside nat mappings now frame reason =
     (reason ≢ OtherProtocol) × IsPacketKeptInside nat mappings now frame reason
     ⊎ IsRejected frame OtherProtocol × IsErrorKeptInside nat mappings now frame reason
 
--- the same of frames that come in
+-- The frame comes in: its packet does, or it carries an ICMP error that comes in. An error leaves the table
+-- unchanged.
 abbrev pub ComesIn : Nat → List Mapping → List Mapping → ℕ → List ℕ → List ℕ → Type 0
 ComesIn nat old new now before after =
     PacketComesIn nat old new now before after ⊎ (IsRejected before OtherProtocol × ErrorComesIn nat old now before after × (new ≡ old))
 
--- the reason why a frame does not come in, and what becomes of the table
+-- the reason why a frame does not come in: that of its packet, or that of the ICMP error that it carries; and what
+-- happens to the table
 abbrev pub IsKeptOutside : Nat → List Mapping → List Mapping → ℕ → List ℕ → Rejection → Type 0
 IsKeptOutside nat old new now frame reason =
     (reason ≢ OtherProtocol) × IsPacketKeptOutside nat old new now frame reason

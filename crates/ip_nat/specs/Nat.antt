@@ -32,7 +32,7 @@ use Rattle.ip_nat.specs.declared.packet.Packet.{Packet}
 
 -- ---- values
 
--- the other end
+-- the other side
 abbrev pub opposite : Side → Side
 opposite Source = Destination
 opposite Destination = Source
@@ -65,12 +65,13 @@ pub data Transport : Type 0 where
   request : ℕ → ℕ → List ℕ → Transport
   reply : ℕ → ℕ → List ℕ → Transport
 
--- this one of two ports
+-- the port on a side, of a source and a destination port
 abbrev pub on_side : ℕ → ℕ → Side → ℕ
 on_side src dst Source = src
 on_side src dst Destination = dst
 
--- the port on a side. The identifier of an echo message counts as its port on either side (RFC 5508, section 3.1).
+-- The port of a transport on a side. The identifier of an echo message counts as its port on either side (RFC 5508,
+-- section 3.1).
 abbrev pub port_of : Side → Transport → ℕ
 port_of side (datagram v payload) = on_side v.src_port v.dst_port side
 port_of side (segment v payload) = on_side v.src_port v.dst_port side
@@ -84,15 +85,15 @@ with_port side port (segment v payload) = segment (with_tcp_port side port v) pa
 with_port side port (request ident seq_no payload) = request port seq_no payload
 with_port side port (reply ident seq_no payload) = reply port seq_no payload
 
--- a receiver accepts this port on this side: any source port of a UDP packet, where 0 means that no reply is expected
--- (RFC 768), any identifier of an echo message, else any port but 0
+-- A receiver accepts this port on this side: any source port of a UDP packet, where 0 means that no reply is expected
+-- (RFC 768), any identifier of an echo message, else any port but 0.
 abbrev pub AllowsPort : Side → Transport → ℕ → Type 0
 AllowsPort Source (datagram v payload) port = ⊤
 AllowsPort side (request ident seq_no payload) port = ⊤
 AllowsPort side (reply ident seq_no payload) port = ⊤
 AllowsPort _ _ port = port ≢ 0
 
--- its kind, with the control flag of a TCP segment
+-- the kind of a transport, with the control flag of a TCP segment
 abbrev pub kind_of : Transport → Kind
 kind_of (datagram v payload) = kind.Udp
 kind_of (segment v payload) = kind.Tcp v.control
@@ -107,27 +108,27 @@ pub record Describes (p : Packet) (transport : Transport) : Type 0 where
 
 -- ---- bytes
 
--- the first bit of the port on this side
+-- the first bit of the port on this side of a UDP or TCP header
 abbrev pub port_bit : Side → ℕ
 port_bit Source = 0
 port_bit Destination = 16
 
--- the bytes of a packet after two steps, where this function updates its checksum: the checksum is updated for the new
--- address; then the port is written and the checksum updated for it
+-- The bytes of a packet with another port on this side, for a new address there; this function updates its checksum.
+-- The checksum is updated for the address; then the port is written and the checksum updated for it.
 abbrev pub with_end_by : (List ℕ → ℕ → ℕ → List ℕ) → Side → List ℕ → List ℕ → ℕ → List ℕ → List ℕ
 with_end_by update side old new port bytes =
     let covered = update bytes (sum_of_bytes old) (sum_of_bytes new) in
     update (with_field covered (port_bit side) 16 port) (field covered (port_bit side) 16) port
 
--- the bytes of a UDP packet after these steps; a checksum of 0 stays 0
+-- the bytes of a UDP packet with another port on this side, for a new address there; a checksum of 0 stays 0
 abbrev pub with_udp_end : Side → List ℕ → List ℕ → ℕ → List ℕ → List ℕ
 with_udp_end = with_end_by udp.with_updated_checksum
 
--- the bytes of a TCP segment after these steps
+-- the bytes of a TCP segment with another port on this side, for a new address there
 abbrev pub with_tcp_end : Side → List ℕ → List ℕ → ℕ → List ℕ → List ℕ
 with_tcp_end = with_end_by tcp.with_updated_checksum
 
--- the bytes of an echo message with this identifier and a new checksum. Over IPv4 that covers no address.
+-- The bytes of an echo message with this identifier and a new checksum. Over IPv4 the checksum covers no address.
 abbrev pub with_echo_ident : List ℕ → ℕ → List ℕ → List ℕ
 with_echo_ident addr ident bytes = icmp.with_checksum (address.Ipv4 addr) (address.Ipv4 addr) (with_field bytes 32 16 ident)
 
@@ -156,7 +157,7 @@ translated_packet side addr port bytes =
     let payload = with_end (protocol_of (field bytes 72 8)) side (addr_at side bytes) addr port (ipv4_payload bytes) in
     with_address side addr (with_range bytes (ipv4.header_len bytes) (ipv4.total_len bytes) payload)
 
--- the bytes of a frame with such a packet
+-- the bytes of a frame with the translated packet
 abbrev pub translated : Side → List ℕ → ℕ → List ℕ → List ℕ
 translated side addr port frame = take 14 frame ++ translated_packet side addr port (drop 14 frame)
 
@@ -183,8 +184,8 @@ pub record CarriesPorts (bytes : List ℕ) (header : Ipv4Repr) (transport : Tran
   pub reads : ReadsPacket all_checked bytes (Ipv4 header)
   pub carries : ReadsPorts header (ipv4_payload bytes) transport
 
--- if a receiver accepts the other port: bytes that parse as this transport behind this header parse after the change as the
--- transport with the other port, behind the header with the other address
+-- If a receiver accepts the other port: bytes that parse as this transport after this header parse, after the change,
+-- as the transport with the other port, after the header with the other address.
 abbrev pub Rewrites : Ipv4Repr → List ℕ → List ℕ → Side → List ℕ → ℕ → Transport → Type 0
 Rewrites header old new side addr port transport =
     AllowsPort side transport port → ReadsPorts header old transport → ReadsPorts (with_addr side addr header) new (with_port side port transport)
@@ -194,7 +195,7 @@ pub record IsIpv4Frame (frame : List ℕ) (link : EthernetRepr) : Type 0 where
   pub reads : ethernet.Reads frame link
   pub names : link.ethertype ≡ ethertype.Ipv4
 
--- the frame carries a whole IPv4 packet with this header and payload; the checksum of the header is valid
+-- the frame carries a whole IPv4 packet with this header and payload; its header checksum is valid
 pub record CarriesWhole (frame : List ℕ) (header : Ipv4Repr) (payload : List ℕ) : Type 0 where
   pub link : EthernetRepr
   pub is : IsIpv4Frame frame link
@@ -207,7 +208,8 @@ plain (datagram v payload) bytes = whole.datagram v payload
 plain (segment v payload) bytes = whole.segment v payload
 plain _ bytes = whole.other bytes
 
--- the frame carries such a packet
+-- the frame has this Ethernet header, and carries an IPv4 packet with this header and this transport; all checksums
+-- are valid
 pub record Carries (frame : List ℕ) (link : EthernetRepr) (header : Ipv4Repr) (transport : Transport) : Type 0 where
   pub reads : IsReadWhole frame link (packet (Ipv4 header) (plain transport (ipv4_payload (drop 14 frame))))
   pub ports : ReadsPorts header (ipv4_payload (drop 14 frame)) transport
