@@ -78,11 +78,11 @@ opened-leads nat old new now later event inside remote port o before =
       leads = subst (IsOf inside) (sym (opened-at nat old new now event inside remote port o)) (leads-chosen nat old now event inside remote port o.mapping o.chosen);
     }
 
-pub all-restart : (nat : Nat) (old new : List Mapping) (now : ℕ) (event : Event) (inside remote : Ipv4Endpoint) (r : Option ℕ) → IfSome r (Opens nat old new now event inside remote)
+pub all_restart : (nat : Nat) (old new : List Mapping) (now : ℕ) (event : Event) (inside remote : Ipv4Endpoint) (r : Option ℕ) → IfSome r (Opens nat old new now event inside remote)
     → IfSome r (λ port. (mapping_at nat new (protocol_of event) port).expires
     ≡ expiry now (timeout_of nat (protocol_of event) (state_of (mapping_at nat new (protocol_of event) port).state)))
-all-restart nat old new now event inside remote None opens = tt
-all-restart nat old new now event inside remote (Some port) opens = opened-restarts nat old new now event inside remote port opens
+all_restart nat old new now event inside remote None opens = tt
+all_restart nat old new now event inside remote (Some port) opens = opened-restarts nat old new now event inside remote port opens
 
 -- what `find` gives at a port that leads to an endpoint
 found-is : (nat : Nat) (old new : List Mapping) (later : ℕ) (event : Event) (port : ℕ) (sender inside : Ipv4Endpoint) (r : Option Ipv4Endpoint)
@@ -183,14 +183,14 @@ chosen-mapping nat old now event inside remote p q m n same (kept a) (made none 
 chosen-mapping nat old now event inside remote p q m n same (made none a) (kept b) = absurd (none q b.candidate b.holds)
 chosen-mapping nat old now event inside remote p q m n same (made none a) (made too b) = refl
 
-pub port-once : (nat : Nat) (old new other : List Mapping) (now : ℕ) (event : Event) (inside remote : Ipv4Endpoint) (p q : ℕ) → Opens nat old new now event inside remote p
+pub port_once : (nat : Nat) (old new other : List Mapping) (now : ℕ) (event : Event) (inside remote : Ipv4Endpoint) (p q : ℕ) → Opens nat old new now event inside remote p
     → Opens nat old other now event inside remote q → p ≡ q
-port-once nat old new other now event inside remote p q a b = chosen-port nat old now event inside remote p q a.mapping b.mapping a.chosen b.chosen
+port_once nat old new other now event inside remote p q a b = chosen-port nat old now event inside remote p q a.mapping b.mapping a.chosen b.chosen
 
-pub table-once : (nat : Nat) (old new other : List Mapping) (now : ℕ) (event : Event) (inside remote : Ipv4Endpoint) (p q : ℕ) → Opens nat old new now event inside remote p
+pub table_once : (nat : Nat) (old new other : List Mapping) (now : ℕ) (event : Event) (inside remote : Ipv4Endpoint) (p q : ℕ) → Opens nat old new now event inside remote p
     → Opens nat old other now event inside remote q → new ≡ other
-table-once nat old new other now event inside remote p q a b =
-    let port = port-once nat old new other now event inside remote p q a b in
+table_once nat old new other now event inside remote p q a b =
+    let port = port_once nat old new other now event inside remote p q a b in
     let mapping = chosen-mapping nat old now event inside remote p q a.mapping b.mapping port a.chosen b.chosen in
     a.becomes ∙ (λ i. set old (place_of nat (length old) (protocol_of event) (port i)) (mapping i)) ∙ sym b.becomes
 
@@ -211,8 +211,8 @@ earlier : (nat : Nat) (mappings : List Mapping) (now later : ℕ) (protocol : Pr
 earlier nat mappings now later protocol port inside before mapped =
     record { exists = mapped.exists; live = omega (arith, before, mapped.live); leads = mapped.leads }
 
-pub later-table : (nat : Nat) (mappings : List Mapping) (now later : ℕ) → now ≤ later → IsTable nat mappings now → IsTable nat mappings later
-later-table nat mappings now later before table = record {
+pub later_table : (nat : Nat) (mappings : List Mapping) (now later : ℕ) → now ≤ later → IsTable nat mappings now → IsTable nat mappings later
+later_table nat mappings now later before table = record {
   placed = λ b q e mapped. table.placed b q e (earlier nat mappings now later b q e before mapped);
   apart = λ b q r e first second. table.apart b q r e (earlier nat mappings now later b q e before first) (earlier nat mappings now later b r e before second);
 }

@@ -17,6 +17,7 @@ use crate::table::{find, open};
 /// A packet goes out, and an answer comes in before the time-out: it goes to the inside endpoint
 /// that sent the packet, from whichever remote endpoint it comes (RFC 4787, REQ-8:
 /// endpoint-independent filtering).
+#[tactic(auto, using(crate::proofs::Meaning::answered))]
 pub fn answer_comes_back(
     nat: &Nat,
     mappings: &mut [Mapping],
@@ -36,6 +37,7 @@ pub fn answer_comes_back(
 }
 
 /// An inside endpoint keeps its outside port, whatever the remote endpoint is (RFC 4787, REQ-1).
+#[tactic(auto, using(crate::proofs::Meaning::independent))]
 pub fn mapping_is_endpoint_independent(
     nat: &Nat,
     mappings: &mut [Mapping],
@@ -51,6 +53,7 @@ pub fn mapping_is_endpoint_independent(
 }
 
 /// A new mapping preserves the port, if that is free (RFC 4787, section 4.2.1).
+#[tactic(auto, using(crate::proofs::Meaning::preserved))]
 pub fn free_port_is_preserved(
     nat: &Nat,
     mappings: &mut [Mapping],
@@ -83,6 +86,7 @@ pub fn other_mappings_stay(
 }
 
 /// A packet of the inside endpoint restarts the time-out of the mapping's state (RFC 4787, REQ-6).
+#[tactic(auto, using(crate::proofs::Meaning::all_restart))]
 pub fn outbound_packets_restart_the_time_out(
     nat: &Nat,
     mappings: &mut [Mapping],
@@ -134,6 +138,7 @@ pub fn port_has_one_endpoint(nat: &Nat, mappings: &[Mapping], now: u64)
 {}
 
 /// `open` has one possible outcome.
+#[tactic(auto, using(crate::proofs::Meaning::port_once, crate::proofs::Meaning::room, crate::proofs::Meaning::table_once))]
 pub fn opened_port_is_one(
     nat: &Nat,
     now: u64,

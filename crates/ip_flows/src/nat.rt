@@ -127,6 +127,7 @@ impl Nat {
         (self.hash(inside) % (count - run_len(count) + 1) as u64) as usize
     }
 
+    #[tactic(auto, unfolding(crate::specs::Table::hash_of))]
     #[inline(always)]
     fn hash(&self, inside: &Ipv4Endpoint) -> u64
         ensures { result ≡ hash_of self.now.key inside.now }

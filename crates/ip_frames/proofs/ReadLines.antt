@@ -1,5 +1,5 @@
 -- The lines of a frame, by what was parsed of it.
-use Rattle.std.proofs.Common.{ℕ, ◌≡◌, ◌==◌, ◌≤◌, ◌-◌, ◌++◌, Bool, true, false, List, [], Option, Some, None, append-nil, codes, decimal, drop, is_some, length, refl, sym, ap, subst, ◌∙◌, arith}
+use Rattle.std.proofs.Common.{ℕ, ◌≡◌, ◌==◌, ◌≤◌, ◌-◌, ◌++◌, Bool, true, false, List, [], append-nil, codes, decimal, drop, is_some, length, refl, sym, ap, subst, ◌∙◌, arith}
 use Rattle.std.proofs.lemmas.Bool.{false_from_ne_true}
 use Rattle.std.proofs.lemmas.Bool.Decides.{nat_tests}
 use Rattle.std.proofs.lemmas.Grind.{common_steps}
@@ -36,11 +36,7 @@ use Rattle.ip_wire.specs.UdpText as udp_text
 use Rattle.ip_wire.specs.Types.{ArpRepr, EthernetProtocol, EthernetRepr, IpAddress, IpRepr, Ipv4, Ipv4Repr, Ipv6, Ipv6Repr, UdpRepr}
 use Rattle.ip_wire.specs.declared.EthernetProtocol.TheVariants as ethertype
 use Rattle.ip_wire.specs.declared.IpProtocol.TheVariants as protocol
-
--- an option that is no value is none
-none_of : {A : Type 0} (o : Option A) → ((a : A) → ¬ (o ≡ Some a)) → o ≡ None
-none_of None h = refl
-none_of (Some a) h = absurd (h a refl)
+use Rattle.ip_wire.proofs.Options.{none_of}
 
 -- ---- tests
 

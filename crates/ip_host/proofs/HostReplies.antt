@@ -1,5 +1,5 @@
 -- The reply of a host is one of the six kinds of replies.
-use Rattle.std.proofs.Common.{ℕ, ◌≡◌, ◌∙◌, inl, inr, List, Option, Some, None, arith, ap, refl, subst, sym}
+use Rattle.std.proofs.Common.{ℕ, ◌≡◌, inl, inr, List, Option, Some, None, arith, ap, refl, subst, sym}
 use Rattle.std.specs.Prelude.{IfSome}
 use Rattle.ip_host.specs.Host.{Answers, IsMessageReply, IsReply, IsServed, IsUnread, RepliesBytes, RepliesFrame, RepliesMessage, UnreachableFrame}
 use Rattle.ip_host.specs.declared.host.Host.{Host}
@@ -16,7 +16,6 @@ use Rattle.ip_replies.specs.UdpEcho.{EchoesFrame}
 use Rattle.ip_replies.specs.declared.MessageFrame.{MessageFrame}
 use Rattle.ip_replies.specs.declared.Reply.{Reply}
 use Rattle.ip_replies.specs.declared.Reply.TheVariants as reply
-use Rattle.ip_wire.proofs.Carries.{carries_udp}
 use Rattle.ip_wire.proofs.Parsed.{IsParsed}
 use Rattle.ip_wire.proofs.Sent as wire
 use Rattle.ip_wire.specs.Frame.{Carried, datagram, packet}
@@ -91,13 +90,6 @@ told host bytes request v u payload (Some f) is for_us closed (sendable, e) = (
     record { ip = v; udp = u; payload = payload.now; asks = refl; for_us = for_us; closed = closed; tells = e },
   ),
 )
-
--- any other packet gets none
-pub untold : (host : Host) (bytes : List ℕ) (request : Frame)
-    → ((v : IpRepr) (u : UdpRepr) (payload : Bor (List ℕ)) → request.carried ≡ carried.Packet v (transport.Udp u payload) → IsForUs host.interface request.header v → ¬ ¬ IsServed host u.dst_port)
-    → message.Gives (UnreachableFrame host bytes request) None
-untold host bytes request none h c (asked, is, e) =
-    let found = carries_udp request.carried e.ip e.udp e.payload (is ∙ ap Some e.asks) in none e.ip e.udp found.0 found.1 e.for_us e.closed
 
 -- ---- both
 

@@ -28,7 +28,7 @@ use Rattle.ip_wire.specs.declared.IpProtocol.TheVariants as protocol
 use Rattle.ip_wire.specs.declared.TcpRepr.{TcpRepr}
 use Rattle.ip_wire.specs.declared.frame.transport.Transport.{Transport as Value}
 use Rattle.ip_wire.specs.declared.frame.transport.Transport.TheVariants as parsed
-use Rattle.wire_icmp.proofs.IcmpComputed.{icmp_of-Reads}
+use Rattle.wire_icmp.proofs.IcmpComputed.{icmp_of_Reads}
 use Rattle.wire_icmp.specs.Icmp as icmp
 use Rattle.wire_icmp.specs.declared.icmp.repr.IcmpRepr.{IcmpRepr}
 use Rattle.wire_icmp.specs.declared.icmp.repr.IcmpRepr.TheVariants.{EchoRequest, EchoReply}
@@ -137,7 +137,7 @@ no-message v bytes answer error named long sum found is = by-message v bytes Non
 read-message : (v : Ipv4Repr) (bytes : List ℕ) (m : IcmpRepr) (payload : List ℕ) → ReadsMessage v bytes m payload → transport_fault v bytes ≡ echo_fault (Some m)
 read-message v bytes m payload (named, r) =
     by-message v bytes (Some m) named r.least (r.checksum refl)
-    ((icmp_of-Reads (address.Ipv4 v.src_addr) (address.Ipv4 v.dst_addr) false bytes m).1
+    ((icmp_of_Reads (address.Ipv4 v.src_addr) (address.Ipv4 v.dst_addr) false bytes m).1
     (record { least = r.least; checksum = λ is. absurd (cc); message = r.message; body = refl }))
 
 read-ports : (v : Ipv4Repr) (bytes : List ℕ) (t : Transport) → ReadsPorts v bytes t → transport_fault v bytes ≡ None

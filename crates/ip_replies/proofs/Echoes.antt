@@ -1,5 +1,5 @@
 -- The echo of a parsed frame.
-use Rattle.std.proofs.Common.{ℕ, ◌≡◌, ◌≢◌, ◌∙◌, ◌≤◌, ◌+◌, List, Some, None, length, refl, sym, ap, subst, arith}
+use Rattle.std.proofs.Common.{ℕ, ◌≡◌, ◌≢◌, ◌∙◌, ◌≤◌, ◌+◌, List, Some, length, refl, sym, ap, subst}
 use Rattle.std.specs.Borrow.{Bor}
 use Rattle.ip_wire.specs.Frame as frame
 use Rattle.ip_wire.specs.Frame.{type_of}
@@ -10,7 +10,6 @@ use Rattle.ip_wire.specs.Types.{EthernetRepr, IpRepr, Ipv4, Ipv6, UdpRepr}
 use Rattle.ip_wire.specs.declared.Frame.{Frame}
 use Rattle.ip_wire.specs.declared.IpProtocol.TheVariants as protocol
 use Rattle.ip_wire.specs.declared.Transport.TheVariants as transport
-use Rattle.ip_wire.proofs.Carries.{carries_udp}
 use Rattle.ip_replies.specs.Interface.{IsForUs, header_back}
 use Rattle.ip_wire.specs.Reply.{Gives, IsSendable}
 use Rattle.ip_replies.specs.UdpEcho.{EchoesFrame}
@@ -44,11 +43,6 @@ from_port ours link (Ipv6 v) u payload agrees = agrees.1.1
 within : (ours : Interface) (link : EthernetRepr) (v : IpRepr) (u : UdpRepr) (payload : Bor (List ℕ)) → Fits (echo_of ours link v u payload) → 8 + length payload.now ≤ max_payload_len v
 within ours link (Ipv4 v) u payload fits = fits.0
 within ours link (Ipv6 v) u payload fits = fits.0
-
-agreed : (ours : Interface) (link : EthernetRepr) (v : IpRepr) (u : UdpRepr) (payload : Bor (List ℕ)) → u.src_port ≢ 0 → 8 + length payload.now ≤ max_payload_len v
-    → Agrees (echo_of ours link v u payload) × Fits (echo_of ours link v u payload)
-agreed ours link (Ipv4 v) u payload port fits = ((refl, (refl, port)), (fits, omega (arith, fits)))
-agreed ours link (Ipv6 v) u payload port fits = ((refl, (refl, port)), (fits, omega (arith, fits)))
 
 -- the reply
 pub echoed : (ours : Interface) (port : ℕ) (request f : Frame) (v : IpRepr) (u : UdpRepr) (payload : Bor (List ℕ))
@@ -84,13 +78,3 @@ echoed ours port request f v u payload carries to_port from_other for_us is soun
         ),
       ),
     )
-
--- a packet that is no UDP packet for the port has no reply
-pub no_echo : (ours : Interface) (port : ℕ) (request : Frame)
-    → ((v : IpRepr) (u : UdpRepr) (payload : Bor (List ℕ)) → request.carried ≡ carried.Packet v (transport.Udp u payload)
-    → u.dst_port ≡ port → u.src_port ≢ port → IsForUs ours request.header v → ¬ (Agrees (echo_of ours request.header v u payload) × Fits (echo_of ours request.header v u payload)))
-    → Gives (EchoesFrame ours port request) None
-no_echo ours port request none header carried (asked, same, e) =
-    let found = carries_udp request.carried e.ip e.udp e.payload (same ∙ ap Some e.asks) in
-    none e.ip e.udp found.0 found.1 e.to_port e.from_other e.for_us
-    (agreed ours request.header e.ip e.udp found.0 e.from_port (subst (λ (l : List ℕ). 8 + length l ≤ max_payload_len e.ip) (sym found.2) e.fits))

@@ -2,13 +2,10 @@
 use Rattle.std.proofs.Common.{ℕ, ◌≡◌, ◌∙◌, ◌≤◌, ◌+◌, ◌↔◌, List, Option, Some, None, Result, Ok, length, refl, ap, subst, true, arith}
 use Rattle.std.specs.Borrow.{Bor}
 use Rattle.ip_wire.specs.Frame as frame
-use Rattle.ip_wire.specs.Frame.{all_checked, other, packet, type_of}
+use Rattle.ip_wire.specs.Frame.{all_checked, other, packet}
 use Rattle.ip_wire.specs.FrameValue.{carried_of}
 use Rattle.ip_wire.specs.Ip.{dst_addr_of, header_before, max_payload_len, next_header_of, src_addr_of, version_of}
 use Rattle.ip_wire.specs.Types.{EthernetRepr, IpRepr, Ipv4, Ipv6}
-use Rattle.ip_wire.specs.declared.Carried.{Carried}
-use Rattle.ip_wire.specs.declared.Carried.TheVariants as carried
-use Rattle.ip_wire.specs.declared.Transport.TheVariants as transport
 use Rattle.ip_wire.proofs.Parsed.{ToFrame}
 use Rattle.ip_wire.specs.IpAddress as address
 use Rattle.ip_wire.specs.declared.Frame.{Frame}
@@ -25,27 +22,9 @@ use Rattle.ip_replies.specs.declared.interface.Interface.{Interface}
 use Rattle.ip_replies.specs.declared.message.Message.TheVariants.{Icmp}
 use Rattle.ip_replies.specs.declared.message.MessageFrame.{MessageFrame}
 
--- a frame with the bytes of another protocol carries them
-pub carries_other : (c : Carried) (ip : IpRepr) (octets : List ℕ) → carried_of c ≡ Some (packet ip (other octets))
-    → (payload : Bor (List ℕ)) × (c ≡ carried.Packet ip (transport.Other payload)) × (payload.now ≡ octets)
-carries_other (carried.Packet v (transport.Other payload)) ip octets e = (payload, cc, cc)
-carries_other _ ip octets e = absurd (cc)
-
-same-version : (v : IpRepr) → version_of (header_back v) ≡ version_of v
-same-version (Ipv4 v) = refl
-same-version (Ipv6 v) = refl
-
 same-max : (v : IpRepr) → max_payload_len (header_back v) ≡ max_payload_len v
 same-max (Ipv4 v) = refl
 same-max (Ipv6 v) = refl
-
-src-back : (v : IpRepr) → src_addr_of (header_back v) ≡ dst_addr_of v
-src-back (Ipv4 v) = refl
-src-back (Ipv6 v) = refl
-
-dst-back : (v : IpRepr) → dst_addr_of (header_back v) ≡ src_addr_of v
-dst-back (Ipv4 v) = refl
-dst-back (Ipv6 v) = refl
 
 -- what the reply to an echo request carries
 echo_values : (v : IpRepr) (ident seq_no : ℕ) (payload : List ℕ) → icmp_values (header_back v) (EchoReply ident seq_no) payload (src_addr_of (header_back v)) (dst_addr_of (header_back v))

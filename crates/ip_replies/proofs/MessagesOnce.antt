@@ -1,5 +1,5 @@
 -- A frame has at most one echo reply, one advertisement, and one error with a message.
-use Rattle.std.proofs.Common.{ℕ, ◌≡◌, ◌∙◌, inl, inr, Bool, List, Option, Some, arith, drop, length, sym, ap, subst, true}
+use Rattle.std.proofs.Common.{ℕ, ◌≡◌, ◌∙◌, inl, inr, Bool, List, Option, arith, drop, length, sym, ap, subst, true}
 use Rattle.ip_replies.proofs.IcmpErrors.{error_values}
 use Rattle.ip_replies.proofs.RepliesOnce.{IsOne}
 use Rattle.ip_replies.specs.IcmpEcho.{IsIcmpEcho}
@@ -19,7 +19,7 @@ use Rattle.wire_icmp.specs.Icmp as icmp
 use Rattle.wire_icmp.specs.Icmp.{protocol_of}
 use Rattle.wire_icmp.specs.declared.IcmpRepr.{IcmpRepr}
 use Rattle.wire_icmp.specs.declared.IcmpRepr.TheVariants.{EchoReply, EchoRequest}
-use Rattle.wire_ndisc.proofs.NdiscComputed.{ndisc_of-Reads}
+use Rattle.wire_ndisc.proofs.NdiscComputed.{ndisc_of_Reads}
 use Rattle.wire_ndisc.specs.Ndisc as ndisc
 use Rattle.wire_ndisc.specs.declared.NdiscRepr.TheVariants.{NeighborSolicit}
 
@@ -104,7 +104,7 @@ neighbour-once ours asked_header asked h k c d e g =
     in
     let value : one ≡ two =
     computed-one (ndisc.ndisc_of x.src_addr x.dst_addr x.hop_limit true g.request) one two
-    ((ndisc_of-Reads x.src_addr x.dst_addr x.hop_limit true g.request one).1 reads) ((ndisc_of-Reads x.src_addr x.dst_addr x.hop_limit true g.request two).1 g.reads)
+    ((ndisc_of_Reads x.src_addr x.dst_addr x.hop_limit true g.request one).1 reads) ((ndisc_of_Reads x.src_addr x.dst_addr x.hop_limit true g.request two).1 g.reads)
     in
     let named : e.named ≡ g.named = cc in
     let to = subst (λ n. IsAnsweredTo ours asked_header x n e.station e.dst e.solicited) named (subst (λ y. IsAnsweredTo ours asked_header y e.named e.station e.dst e.solicited) ip e.to) in

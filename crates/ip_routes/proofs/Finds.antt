@@ -3,7 +3,7 @@ use Rattle.std.proofs.Common.{ℕ, ◌≡◌, ◌↔◌, ◌∙◌, ◌+◌, ◌
 use Rattle.std.proofs.lemmas.Bool.{cases_lt}
 use Rattle.std.proofs.lemmas.Nat.{mul-add-lt, pow-add, shl-shr, shr-shr, shr_split, shl_below}
 use Rattle.std.proofs.Math.Nat.{div-mul-le_self, mul_assoc}
-use Rattle.ip_wire.proofs.Blocks.{member-test, number-under_mask, numbers_from_agree}
+use Rattle.ip_wire.proofs.Blocks.{member_test, number_under_mask, numbers_from_agree}
 use Rattle.ip_routes.proofs.Places.{prefix_of, same_prefix, shorter_prefix}
 use Rattle.ip_routes.specs.Index.{IsBlock, first_bits, node_of, node_with, place, rank, target_of, version_number}
 use Rattle.ip_routes.specs.declared.index.Node.{Node}
@@ -29,8 +29,8 @@ agree_from_numbers m n xs ys are_xs are_ys le same =
     let mask = 2 ^ (8 * m) - 2 ^ s in
     let bound : s ≤ 8 * m = omega arith in
     let e : bit_and (number_of xs) mask ≡ bit_and (number_of ys) mask =
-    number-under_mask m s xs are_xs bound ∙ ap (λ q. q * 2 ^ s) same ∙ sym (number-under_mask m s ys are_ys bound) in
-    (member-test m n (number_of xs) (number_of ys) mask xs ys are_xs are_ys le refl refl refl).0 (eq-eqb _ _ e)
+    number_under_mask m s xs are_xs bound ∙ ap (λ q. q * 2 ^ s) same ∙ sym (number_under_mask m s ys are_ys bound) in
+    (member_test m n (number_of xs) (number_of ys) mask xs ys are_xs are_ys le refl refl refl).0 (eq-eqb _ _ e)
 
 -- bytes agree in their first bits exactly if the prefixes of their numbers do
 agrees : (m n : ℕ) (xs ys : List ℕ) → AreOctets m xs → AreOctets m ys → n ≤ 8 * m

@@ -81,9 +81,6 @@ AreUnmarkedAlike xs ys = map unmarked xs ≡ map unmarked ys
 pub unmarked_alike : (xs ys : List Node) → AreUnmarkedAlike xs ys → AreAlike xs ys
 unmarked_alike xs ys same = sym (map-map unlinked unmarked xs) ∙ ap (map unlinked) same ∙ map-map unlinked unmarked ys
 
-pub unmarked_length : (xs ys : List Node) → AreUnmarkedAlike xs ys → length xs ≡ length ys
-unmarked_length xs ys same = alike_length xs ys (unmarked_alike xs ys same)
-
 -- they have the same links
 pub unmarked_linked : (xs ys : List Node) (n : ℕ) → AreUnmarkedAlike xs ys → AreLinked xs n → AreLinked ys n
 unmarked_linked xs ys n same linked k below =

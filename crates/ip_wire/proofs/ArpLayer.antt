@@ -6,8 +6,8 @@ use Rattle.wire_field.proofs.Cells.{cells-all}
 use Rattle.wire_field.proofs.Spelled.{AreBytes}
 use Rattle.wire_field.specs.Field.{field}
 use Rattle.wire_arp.proofs.ArpComputed.{arp_of-Reads}
-use Rattle.wire_arp.proofs.ArpEmitted.{IsInRange, reads-bytes_of}
-use Rattle.wire_arp.proofs.ArpNormal.{normal-read, operation_number-of}
+use Rattle.wire_arp.proofs.ArpEmitted.{IsInRange, reads_bytes_of}
+use Rattle.wire_arp.proofs.ArpNormal.{normal_read, operation_number-of}
 use Rattle.std.specs.Int.{bytes_high_first}
 use Rattle.wire_arp.specs.Arp.{Reads, arp_of, bytes_of, ethernet_ipv4, normal, operation_number, operation_of}
 use Rattle.wire_arp.specs.declared.ArpRepr.{ArpRepr}
@@ -36,7 +36,7 @@ length-bytes_of (EthernetIpv4 operation sha spa tha tpa) (small, h) =
 -- its packet is read as its normal form
 written-read : (bytes : List ℕ) (v : ArpRepr) → Reads bytes v → arp_of (bytes_of v) ≡ Some (normal v)
 written-read bytes v r =
-    let back = subst (λ written. Reads written (normal v)) (append-nil (bytes_of v)) (reads-bytes_of v [] (in_range bytes v r)) in
+    let back = subst (λ written. Reads written (normal v)) (append-nil (bytes_of v)) (reads_bytes_of v [] (in_range bytes v r)) in
     (arp_of-Reads (bytes_of v) (normal v)).1 back
 
 AreBytes-written : (bytes : List ℕ) (v : ArpRepr) → AreBytes bytes → Reads bytes v → AreBytes (bytes_of v)
@@ -52,6 +52,6 @@ IsLeaf-arp bytes v r = record {
   are_bytes = λ h. AreBytes-written bytes v h r;
   reads_back = λ h. written-read bytes v r;
   no_longer = let whole = r.whole in let written = length-bytes_of v (in_range bytes v r) in omega (arith, written, whole);
-  twice = ap normal (normal-read bytes v r);
-  normal_or_shorter = inl (normal-read bytes v r);
+  twice = ap normal (normal_read bytes v r);
+  normal_or_shorter = inl (normal_read bytes v r);
 }

@@ -38,7 +38,7 @@ reads_datagram caps computed w v payload number h sound =
     let src = src_addr_of w in
     let dst = dst_addr_of w in
     let written = udp_header.bytes_of v payload src dst computed in
-    let back = udp.reads-bytes_of v src dst payload [] computed (verifies caps.udp) h sound in
+    let back = udp.reads_bytes_of v src dst payload [] computed (verifies caps.udp) h sound in
     let read = subst (λ bytes. udp_header.Reads bytes src dst (verifies caps.udp) v payload) (append-nil written) back in
     ((kept w).next_header ∙ ap protocol_of number, rw ((kept w).src_addr, (kept w).dst_addr) read)
 
@@ -47,7 +47,7 @@ pub reads_segment : (caps : ChecksumCapabilities) (computed : Bool) (w : IpRepr)
     → tcp.IsWritable v → length (octets_of (src_addr_of w)) % 2 ≡ 0 → length (octets_of (dst_addr_of w)) % 2 ≡ 0 → (IsTrue (verifies caps.tcp) → IsTrue computed)
     → ReadsTransport caps (normal w) (tcp_header.bytes_of v payload (src_addr_of w) (dst_addr_of w) computed []) (segment (tcp_header.normal v) payload)
 reads_segment caps computed w v payload number writable src dst sound =
-    let read = tcp.reads-bytes_of v (src_addr_of w) (dst_addr_of w) payload computed (verifies caps.tcp) writable src dst sound in
+    let read = tcp.reads_bytes_of v (src_addr_of w) (dst_addr_of w) payload computed (verifies caps.tcp) writable src dst sound in
     ((kept w).next_header ∙ ap protocol_of number, rw ((kept w).src_addr, (kept w).dst_addr) read)
 
 -- the type that names a version
@@ -80,6 +80,6 @@ reads_frame caps computed header w q padding t dst src names h is sound transpor
     ) in
     subst (λ (bytes : List ℕ). ReadsFrame caps bytes (ethernet.normal header) (packet (normal w) t)) (sym joined)
     (record {
-      reads_header = ethernet_header.reads-bytes_of header inner dst src number;
+      reads_header = ethernet_header.reads_bytes_of header inner dst src number;
       reads_carried = subst (λ (bytes : List ℕ). ReadsCarried caps (ethernet.known header.ethertype) bytes (packet (normal w) t)) (sym (drop-bytes_of header inner dst src)) carried;
     })

@@ -69,9 +69,9 @@ ReadsPacket-IsHeader caps bytes (Ipv6 u) r =
     }
 
 -- values that were read are their normal form
-normal-read : (bytes : List ℕ) (u : IpRepr) → ReadsPacket all_checked bytes u → normal u ≡ u
-normal-read bytes (Ipv4 u) (r, _) = ap Ipv4 (ipv4_normal.normal-read bytes true u r)
-normal-read bytes (Ipv6 u) r = ap Ipv6 (ipv6_normal.normal-read bytes u r)
+normal_read : (bytes : List ℕ) (u : IpRepr) → ReadsPacket all_checked bytes u → normal u ≡ u
+normal_read bytes (Ipv4 u) (r, _) = ap Ipv4 (ipv4_normal.normal_read bytes true u r)
+normal_read bytes (Ipv6 u) r = ap Ipv6 (ipv6_normal.normal_read bytes u r)
 
 AreBytes-payload : (bytes : List ℕ) (u : IpRepr) → AreBytes bytes → AreBytes (packet_payload u bytes)
 AreBytes-payload bytes (Ipv4 u) h = AreBytes-slice_range bytes (ipv4.header_len bytes) (ipv4.total_len bytes) h
@@ -124,10 +124,10 @@ pub reads_packet : (caps : ChecksumCapabilities) (computed : Bool) (w : IpRepr) 
     → (version_of w ≡ version.Ipv4 → IsTrue (verifies caps.ipv4) → IsTrue computed) → ReadsPacket caps (bytes_of w computed ++ (q ++ rest)) (normal w)
 reads_packet caps computed (Ipv4 w) q rest h is sound =
     let fits : w.payload_len ≤ length (q ++ rest) = simp length-append (omega (arith, is)) in
-    (ipv4_back.reads-bytes_of w (q ++ rest) computed (verifies caps.ipv4) h fits (sound refl), refl)
+    (ipv4_back.reads_bytes_of w (q ++ rest) computed (verifies caps.ipv4) h fits (sound refl), refl)
 reads_packet caps computed (Ipv6 w) q rest h is sound =
     let fits : w.payload_len ≤ length (q ++ rest) = simp length-append (omega (arith, is)) in
-    ipv6_back.reads-bytes_of w (q ++ rest) h fits
+    ipv6_back.reads_bytes_of w (q ++ rest) h fits
 
 -- and what it carries follows its header
 pub packet_payload-written : (w : IpRepr) (q rest : List ℕ) (computed : Bool) → IsInRange w → payload_len_of w ≡ length q
@@ -185,7 +185,7 @@ sets_len (Ipv6 u) m n = record { payload_len = refl; header_len = refl; own = re
 
 -- values that were read are normal without it too
 pub normal-aside : (bytes : List ℕ) (u : IpRepr) → ReadsPacket all_checked bytes u → normal (with_payload_len (with_payload_len u 0) 0) ≡ with_payload_len u 0
-normal-aside bytes u r = ap normal (sets_len u 0 0).last ∙ (sets_len u 0 0).normal_form ∙ ap (λ w. with_payload_len w 0) (normal-read bytes u r)
+normal-aside bytes u r = ap normal (sets_len u 0 0).last ∙ (sets_len u 0 0).normal_form ∙ ap (λ w. with_payload_len w 0) (normal_read bytes u r)
 
 -- the addresses of a header that can be written are whole words
 words : (u : IpRepr) → IsInRange u → AreWords (src_addr_of u) (dst_addr_of u)
@@ -223,13 +223,11 @@ module _ (t : EthernetProtocol) (bytes : List ℕ) (v u : IpRepr) (p q : List �
       let read = subst (λ b. ReadsPacket all_checked b (normal header)) (ap same (append-nil q)) (reads_packet all_checked true header q [] (in_range fits) len (λ is on. on)) in
       let payload = ap (λ b. packet_payload (normal header) b) (ap same (sym (append-nil q))) ∙ packet_payload-written header q [] true (in_range fits) len in
       let values : with_payload_len (normal header) 0 ≡ v =
-      ap (λ w. with_payload_len w 0) ((sets_len u 0 (length q)).normal_form ∙ ap (λ w. with_payload_len w (length q)) (normal-read bytes u d.reads))
+      ap (λ w. with_payload_len w 0) ((sets_len u 0 (length q)).normal_form ∙ ap (λ w. with_payload_len w (length q)) (normal_read bytes u d.reads))
       ∙ (sets_len u (length q) 0).last
       ∙ d.values
       in
-      ip_packet_of-Reads t (same q) (normal header) (d.type ∙ ap type_of_version (sym (sets_len u 0 (length q)).version)) read
-      ∙ ap (λ x. Some (x, packet_payload (normal header) (same q))) values
-      ∙ ap (λ x. Some (v, x)) payload
+      ip_packet_of-Reads t (same q) (normal header) (d.type ∙ ap type_of_version (sym (sets_len u 0 (length q)).version)) read ∙ rw (values, payload) refl
 
   written-longer : length q ≤ length p → length (bytes_of header true ++ q) + length p ≤ length bytes + length q
   written-longer fits =

@@ -1,11 +1,7 @@
 -- Options, and what is read into them.
 use Rattle.std.proofs.Common.{◌≡◌, ◌∙◌, Bool, IsSome, true, false, is_some, Option, Some, None, refl, sym, ap, if◌then◌else◌}
 use Rattle.std.specs.Option.{option_and_then, option_map}
-
--- an option that is no value is none
-pub none_of : {A : Type 0} (o : Option A) → ((a : A) → ¬ (o ≡ Some a)) → o ≡ None
-none_of None h = refl
-none_of (Some a) h = absurd (h a refl)
+pub use Rattle.wire_field.proofs.Readings.{none_of, option_map-Some}
 
 -- a value that an option has
 pub value : {A : Type 0} (o : Option A) → IsSome o → (a : A) × (o ≡ Some a)
@@ -19,10 +15,6 @@ lacks (Some a) e = absurd (cc)
 -- what is computed is one value
 pub computed-one : {A : Type 0} (o : Option A) (a b : A) → o ≡ Some a → o ≡ Some b → a ≡ b
 computed-one o a b e f = let same : Some a ≡ Some b = sym e ∙ f in cc
-
-pub option_map-Some : {M N : Type 0} (f : M → N) (o : Option M) (n : N) → option_map f o ≡ Some n → (m : M) × (o ≡ Some m) × (f m ≡ n)
-option_map-Some f None n e = absurd (cc)
-option_map-Some f (Some m) n e = (m, refl, cc)
 
 pub option_and_then-Some : {M N : Type 0} (f : M → Option N) (o : Option M) (n : N) → option_and_then f o ≡ Some n → (m : M) × (o ≡ Some m) × (f m ≡ Some n)
 option_and_then-Some f None n e = absurd (cc)

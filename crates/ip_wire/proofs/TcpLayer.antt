@@ -10,7 +10,7 @@ use Rattle.wire_field.proofs.Spelled.{AreBytes}
 use Rattle.wire_tcp.specs.Tcp.{header_len, payload_of, segment_sum}
 use Rattle.wire_tcp.proofs.TcpEmitted.{length-header_bytes}
 use Rattle.wire_tcp.proofs.TcpForms.{Reads-IsInRange, Reads-IsWritable, normal_or_shorter}
-use Rattle.wire_tcp.proofs.TcpReadsBack.{reads-bytes_of}
+use Rattle.wire_tcp.proofs.TcpReadsBack.{reads_bytes_of}
 use Rattle.wire_tcp.specs.TcpRepr.{Reads, TcpHeader, bytes_of, header_bytes, header_len_of, normal, segment_with, tcp_of}
 
 -- how long a segment is that is written
@@ -23,7 +23,7 @@ length-written src dst v q computed =
 pub written-read : (src dst : IpAddress) (bytes : List ℕ) (v : TcpHeader) (p : List ℕ) → AreWords src dst → AreBytes bytes → Reads bytes src dst true v p
     → Reads (bytes_of v p src dst true []) src dst true (normal v) p
 written-read src dst bytes v p words h r =
-    reads-bytes_of v src dst p true true (Reads-IsWritable src dst true bytes p v h r) words.src_octets words.dst_octets (λ on. on)
+    reads_bytes_of v src dst p true true (Reads-IsWritable src dst true bytes p v h r) words.src_octets words.dst_octets (λ on. on)
 
 -- which is written shorter, unless it is what was read
 pub written-shorter : (src dst : IpAddress) (bytes : List ℕ) (v : TcpHeader) (p : List ℕ) → Reads bytes src dst true v p

@@ -7,7 +7,7 @@ use Rattle.wire_ends.specs.IpAddress.{octets_of}
 use Rattle.wire_ends.specs.declared.IpProtocol.TheVariants as protocol
 use Rattle.wire_field.proofs.ByteLists.{AreBytes-cons, AreBytes-part}
 use Rattle.wire_field.proofs.Spelled.{AreBytes}
-use Rattle.wire_udp.proofs.UdpReadsBack.{IsInRange, reads-bytes_of}
+use Rattle.wire_udp.proofs.UdpReadsBack.{IsInRange, reads_bytes_of}
 use Rattle.wire_udp.specs.Udp.{Reads, bytes_of, packet_len, packet_with, payload_of, udp_of}
 
 -- the bytes of both addresses are whole words
@@ -32,7 +32,7 @@ written-read src dst bytes v p words r =
       src_octets = words.src_octets;
       dst_octets = words.dst_octets;
     } in
-    subst (λ written. Reads written src dst true v p) (append-nil (bytes_of v p src dst true)) (reads-bytes_of v src dst p [] true true in_range (λ on. on))
+    subst (λ written. Reads written src dst true v p) (append-nil (bytes_of v p src dst true)) (reads_bytes_of v src dst p [] true true in_range (λ on. on))
 
 -- the packet with any checksum
 AreBytes-packet : (v : UdpRepr) (q : List ℕ) (sum : ℕ) → AreBytes q → AreBytes (packet_with v q sum)

@@ -12,7 +12,7 @@ use Rattle.wire_field.proofs.Spelled.{AreBytes}
 use Rattle.wire_field.specs.Field.{field}
 use Rattle.ip_wire.specs.Types.{ArpRepr, EthernetProtocol, EthernetRepr, IpAddress, IpProtocol, IpRepr, UdpRepr}
 use Rattle.wire_ip.specs.Ip as ip_header
-use Rattle.wire_ip.specs.Ip.{dst_addr_of, next_header_of, payload_len_of, src_addr_of, with_payload_len}
+use Rattle.wire_ip.specs.Ip.{dst_addr_of, next_header_of, payload_len_of, src_addr_of}
 use Rattle.wire_arp.proofs.ArpComputed.{arp_of-Reads}
 use Rattle.wire_arp.specs.Arp as arp_packet
 use Rattle.wire_arp.specs.Arp.{arp_of}
@@ -38,8 +38,7 @@ header-again a b c d e f g h i j k l m n rest high low =
     let whole = a ∷ b ∷ c ∷ d ∷ e ∷ f ∷ g ∷ h ∷ i ∷ j ∷ k ∷ l ∷ m ∷ n ∷ rest in
     let first : field whole 96 16 / 256 % 256 ≡ m = omega (arith, high, low) in
     let second : field whole 96 16 % 256 ≡ n = omega (arith, high, low) in
-    ap (λ (x : ℕ). a ∷ b ∷ c ∷ d ∷ e ∷ f ∷ g ∷ h ∷ i ∷ j ∷ k ∷ l ∷ x ∷ (field whole 96 16 % 256) ∷ rest) first
-    ∙ ap (λ (x : ℕ). a ∷ b ∷ c ∷ d ∷ e ∷ f ∷ g ∷ h ∷ i ∷ j ∷ k ∷ l ∷ m ∷ x ∷ rest) second
+    rw (first, second) refl
 
 -- a header of bytes that is read is emitted unchanged
 header-stays : (frame : List ℕ) (v : EthernetRepr) → AreBytes frame → Reads frame v → bytes_of v ++ drop 14 frame ≡ frame
@@ -47,12 +46,9 @@ header-stays frame v are r =
     let parts = cells-drop 14 frame r.whole in
     let are_cells = subst AreBytes parts are in
     let number : number_of v.ethertype ≡ field frame 96 16 = ap number_of r.ethertype ∙ number_of-protocol_of (field frame 96 16) in
-    let written = λ (dst src : List ℕ) (n : ℕ). (dst ++ src ++ bytes_high_first 2 n) ++ drop 14 frame in
-    ap (λ dst. written dst v.src_addr.0 (number_of v.ethertype)) r.dst_addr
-    ∙ ap (λ src. written (slice_range frame 0 6) src (number_of v.ethertype)) r.src_addr
-    ∙ ap (λ n. written (slice_range frame 0 6) (slice_range frame 6 12) n) number
-    ∙ subst (λ f. (slice_range f 0 6 ++ slice_range f 6 12 ++ bytes_high_first 2 (field f 96 16)) ++ drop 14 f ≡ f) (sym parts)
-    (header-again _ _ _ _ _ _ _ _ _ _ _ _ _ _ (drop 14 frame) (are_cells 12) (are_cells 13))
+    rw (r.dst_addr, r.src_addr, number)
+    (subst (λ f. (slice_range f 0 6 ++ slice_range f 6 12 ++ bytes_high_first 2 (field f 96 16)) ++ drop 14 f ≡ f) (sym parts)
+    (header-again _ _ _ _ _ _ _ _ _ _ _ _ _ _ (drop 14 frame) (are_cells 12) (are_cells 13)))
 
 -- ---- what a packet carries
 
@@ -75,18 +71,13 @@ transport-stays w bytes r h =
     let payload = packet_payload w bytes in
     let len : payload_len_of w ≡ length payload = (ReadsPacket-IsHeader all_checked bytes w r).payload_len in
     let stays = transport_by-stays (next_header_of w) (src_addr_of w) (dst_addr_of w) payload (λ v p r. h (inl (v, p, r))) (λ v p r. h (inr (v, p, r))) in
-    rebuilt-ip bytes w r
-    ∙ ap (λ inner. ip_header.bytes_of (with_payload_len w (length inner)) true ++ inner) stays
-    ∙ ap (λ n. ip_header.bytes_of (with_payload_len w n) true ++ payload) (sym len)
-    ∙ ap (λ v. ip_header.bytes_of v true ++ payload) (sets_len w 0 0).own
+    rebuilt-ip bytes w r ∙ rw (stays, ← len, (sets_len w 0 0).own) refl
 
 pub payload-unread-stays : (frame : List ℕ) (v : EthernetRepr) (w : IpRepr) → Reads frame v → v.ethertype ≡ type_of w
     → ReadsPacket all_checked (drop 14 frame) w → ¬ CarriesTransport w (packet_payload w (drop 14 frame))
     → rebuilt frame ≡ bytes_of v ++ (ip_header.bytes_of w true ++ packet_payload w (drop 14 frame))
 payload-unread-stays frame v w r type read h =
-    rebuilt-read frame v ((ethernet_of-Reads frame v).1 r)
-    ∙ ap (λ t. bytes_of v ++ rebuilt_payload t (drop 14 frame)) type
-    ∙ ap (λ rest. bytes_of v ++ rest) (transport-stays w (drop 14 frame) read h)
+    rebuilt-read frame v ((ethernet_of-Reads frame v).1 r) ∙ rw (type, transport-stays w (drop 14 frame) read h) refl
 
 -- ---- a frame
 

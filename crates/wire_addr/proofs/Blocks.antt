@@ -15,7 +15,9 @@ use Rattle.std.proofs.lemmas.Nat.Bits.{and_high_mask, bit_at_cat_low, bit_at_mas
 use Rattle.wire_addr.specs.Octets.{AreOctets}
 use Rattle.wire_addr.specs.Prefix.{AgreeFirst, IsMasked, IsNetmask, bit_of, number_of}
 use Rattle.wire_addr.specs.Block.{IsWithin, IsLeast, IsGreatest}
-use Rattle.wire_addr.proofs.Numbers.{AreOctets-bytes, bit_at-number_of, number_of-bytes, number_of-lt}
+use Rattle.wire_addr.proofs.Numbers.{AreOctets-bytes, bit_at-number_of, number_of_bytes, number_of-lt}
+use Rattle.std.proofs.lemmas.Grind.{common_steps}
+use Rattle.std.proofs.lemmas.Bool.Decides.{nat_tests}
 
 -- ---- the first n bits agree exactly if the numbers without their lowest s bits are equal
 
@@ -80,9 +82,9 @@ IsMasked-number m n s xs ys are_xs are_ys e is = record {
 }
 
 -- bytes whose number is a mask are a netmask
-pub IsNetmask-number : (m n s : ℕ) (xs : List ℕ) → AreOctets m xs → n + s ≡ 8 * m → number_of xs ≡ 2 ^ (8 * m) - 2 ^ s
+pub IsNetmask_number : (m n s : ℕ) (xs : List ℕ) → AreOctets m xs → n + s ≡ 8 * m → number_of xs ≡ 2 ^ (8 * m) - 2 ^ s
     → IsNetmask n xs
-IsNetmask-number m n s xs are e is = record {
+IsNetmask_number m n s xs are e is = record {
   ones = λ k before.
       let place : suc (k + (8 * m - 1 - k)) ≡ 8 * m = omega arith in
       sym (bit_at-number_of m k (8 * m - 1 - k) xs are place) ∙ ap (λ v. bit_at v (8 * m - 1 - k)) is
@@ -98,15 +100,7 @@ IsNetmask-number m n s xs are e is = record {
 
 -- a netmask has no more ones than bits
 pub IsNetmask-within : (m n : ℕ) (xs : List ℕ) → AreOctets m xs → IsNetmask n xs → n ≤ 8 * m
-IsNetmask-within m n xs are is =
-    elim (cases_lt (8 * m) n) [
-      | inl more ↦
-          let one : bit_of xs (8 * m) ≡ 1 = is.ones (8 * m) more in
-          let none : bit_of xs (8 * m) ≡ 0 = behind m xs (8 * m) are (omega arith) in
-          let no : ⊥ = omega (arith, one, none) in
-          absurd no
-      | inr fine ↦ fine
-    ]
+IsNetmask-within m n xs are is = grind (arith, common_steps, nat_tests)
 
 pub number-IsNetmask : (m n s : ℕ) (xs : List ℕ) → AreOctets m xs → n + s ≡ 8 * m → IsNetmask n xs
     → number_of xs ≡ 2 ^ (8 * m) - 2 ^ s
@@ -130,9 +124,9 @@ leading_ones-mask w s le =
 -- ---- the least and the greatest address of a block
 
 -- a number with zeros in its last s bits is the least address of the block
-pub IsLeast-number : (m n s : ℕ) (xs ys : List ℕ) → AreOctets m xs → AreOctets m ys → n + s ≡ 8 * m
+pub IsLeast_number : (m n s : ℕ) (xs ys : List ℕ) → AreOctets m xs → AreOctets m ys → n + s ≡ 8 * m
     → number_of ys ≡ number_of xs / 2 ^ s * 2 ^ s → IsLeast m (record { address = xs; prefix_len = n }) ys
-IsLeast-number m n s xs ys are_xs are_ys e is = record {
+IsLeast_number m n s xs ys are_xs are_ys e is = record {
   member = (IsMasked-number m n s xs ys are_xs are_ys e is).kept;
   least = λ zs are_zs member.
       let same : number_of xs / 2 ^ s ≡ number_of zs / 2 ^ s = numbers_from_agree m n s xs zs are_xs are_zs e member in
@@ -140,9 +134,9 @@ IsLeast-number m n s xs ys are_xs are_ys e is = record {
 }
 
 -- a number with ones in its last s bits is the greatest address of the block
-pub IsGreatest-number : (m n s : ℕ) (xs ys : List ℕ) → AreOctets m xs → AreOctets m ys → n + s ≡ 8 * m
+pub IsGreatest_number : (m n s : ℕ) (xs ys : List ℕ) → AreOctets m xs → AreOctets m ys → n + s ≡ 8 * m
     → number_of ys ≡ number_of xs / 2 ^ s * 2 ^ s + (2 ^ s - 1) → IsGreatest m (record { address = xs; prefix_len = n }) ys
-IsGreatest-number m n s xs ys are_xs are_ys e is = record {
+IsGreatest_number m n s xs ys are_xs are_ys e is = record {
   member = agree_from_numbers m n s xs ys are_xs are_ys e
       (sym (ap (λ v. v / 2 ^ s) is ∙ shr_high (number_of xs / 2 ^ s) s (2 ^ s - 1) (omega (arith, pow_pos s))));
   greatest = λ zs are_zs member.
@@ -163,7 +157,7 @@ number_of-with_last m n s xs r are e small =
     let below : q < 2 ^ n = shr_below (number_of xs) n s (rw e (number_of-lt m xs are)) in
     let size : 2 ^ s * 2 ^ n ≡ 2 ^ (8 * m) = sym (pow-add 2 s n) ∙ ap (λ k. 2 ^ k) (let turned : s + n ≡ 8 * m = omega arith in turned) in
     let fits : q * 2 ^ s + r < 2 ^ (8 * m) = rw (← size) (mul-add-lt q (2 ^ s) r (2 ^ n) below small) in
-    number_of-bytes m (q * 2 ^ s + r) ∙ mod-eq_of_lt fits
+    number_of_bytes m (q * 2 ^ s + r) ∙ mod-eq_of_lt fits
 
 -- it is in the block, and the bits after the prefix are those of the number
 with_last-member : (m n s : ℕ) (xs : List ℕ) (r : ℕ) → AreOctets m xs → n + s ≡ 8 * m → r < 2 ^ s
@@ -213,29 +207,29 @@ IsWithin-member m p q xs ys are bound = (
 -- ---- what the code computes
 
 -- a number under the mask of a prefix
-pub number-under_mask : (m s : ℕ) (xs : List ℕ) → AreOctets m xs → s ≤ 8 * m
+pub number_under_mask : (m s : ℕ) (xs : List ℕ) → AreOctets m xs → s ≤ 8 * m
     → bit_and (number_of xs) (2 ^ (8 * m) - 2 ^ s) ≡ number_of xs / 2 ^ s * 2 ^ s
-number-under_mask m s xs are le = and_high_mask (8 * m) s le (number_of xs) (number_of-lt m xs are)
+number_under_mask m s xs are le = and_high_mask (8 * m) s le (number_of xs) (number_of-lt m xs are)
 
 -- the low bits are set where the mask has none
-pub number-over_mask : (m s : ℕ) (xs : List ℕ) → AreOctets m xs → s ≤ 8 * m
+pub number_over_mask : (m s : ℕ) (xs : List ℕ) → AreOctets m xs → s ≤ 8 * m
     → bit_or (number_of xs / 2 ^ s * 2 ^ s) (2 ^ (8 * m) - 1 - (2 ^ (8 * m) - 2 ^ s)) ≡ number_of xs / 2 ^ s * 2 ^ s + (2 ^ s - 1)
-number-over_mask m s xs are le =
+number_over_mask m s xs are le =
     let least : 2 ^ s ≤ 2 ^ (8 * m) = pow_mono {i = s} {j = 8 * m} le in
     let low : 2 ^ (8 * m) - 1 - (2 ^ (8 * m) - 2 ^ s) ≡ 2 ^ s - 1 = omega (arith, pow_pos s) in
     ap (λ v. bit_or (number_of xs / 2 ^ s * 2 ^ s) v) low
     ∙ or_shifted (number_of xs / 2 ^ s) s (2 ^ s - 1) (omega (arith, pow_pos s))
 
 -- two numbers that are equal under a mask have the same first bits
-pub member-test : (m n x y mask : ℕ) (xs ys : List ℕ) → AreOctets m xs → AreOctets m ys → n ≤ 8 * m
+pub member_test : (m n x y mask : ℕ) (xs ys : List ℕ) → AreOctets m xs → AreOctets m ys → n ≤ 8 * m
     → x ≡ number_of xs → y ≡ number_of ys → mask ≡ 2 ^ (8 * m) - 2 ^ (8 * m - n)
     → IsTrue (nat_eq (bit_and x mask) (bit_and y mask)) ↔ AgreeFirst n xs ys
-member-test m n x y mask xs ys are_xs are_ys within ex ey em =
+member_test m n x y mask xs ys are_xs are_ys within ex ey em =
     let s : ℕ = 8 * m - n in
     let e : n + s ≡ 8 * m = omega arith in
     let le : s ≤ 8 * m = omega arith in
-    let x_is : bit_and x mask ≡ number_of xs / 2 ^ s * 2 ^ s = rw (ex, em) (number-under_mask m s xs are_xs le) in
-    let y_is : bit_and y mask ≡ number_of ys / 2 ^ s * 2 ^ s = rw (ey, em) (number-under_mask m s ys are_ys le) in (
+    let x_is : bit_and x mask ≡ number_of xs / 2 ^ s * 2 ^ s = rw (ex, em) (number_under_mask m s xs are_xs le) in
+    let y_is : bit_and y mask ≡ number_of ys / 2 ^ s * 2 ^ s = rw (ey, em) (number_under_mask m s ys are_ys le) in (
       λ t. agree_from_numbers m n s xs ys are_xs are_ys e
           (sym (shl-shr (number_of xs / 2 ^ s) s) ∙ ap (λ v. v / 2 ^ s) (sym x_is ∙ eqb-true (bit_and x mask) (bit_and y mask) t ∙ y_is)
           ∙ shl-shr (number_of ys / 2 ^ s) s),
@@ -244,23 +238,22 @@ member-test m n x y mask xs ys are_xs are_ys within ex ey em =
     )
 
 -- the test of `contains_subnet`, where the other block contains the address: the prefix lengths decide
-pub within-test : (m p q : ℕ) (xs ys : List ℕ) (contains : Bool) → AreOctets m xs → q ≤ 8 * m → (IsTrue contains ↔ AgreeFirst q ys xs) → contains ≡ true
+pub within_test : (m p q : ℕ) (xs ys : List ℕ) (contains : Bool) → AreOctets m xs → q ≤ 8 * m → (IsTrue contains ↔ AgreeFirst q ys xs) → contains ≡ true
     → IsTrue (nat_le q p) ↔ IsWithin m (record { address = xs; prefix_len = p }) (record { address = ys; prefix_len = q })
-within-test m p q xs ys contains are bound test is =
+within_test m p q xs ys contains are bound test is =
     let both = IsWithin-member m p q xs ys are bound in
     ((λ t. both.0 (leb-true q p t, test.0 is)), (λ within. le-leb q p (both.1 within).0))
 
 -- and where it does not: the block is not within the other
-pub outside-test : (m p q : ℕ) (xs ys : List ℕ) (contains : Bool) → AreOctets m xs → q ≤ 8 * m → (IsTrue contains ↔ AgreeFirst q ys xs) → contains ≡ false
+pub outside_test : (m p q : ℕ) (xs ys : List ℕ) (contains : Bool) → AreOctets m xs → q ≤ 8 * m → (IsTrue contains ↔ AgreeFirst q ys xs) → contains ≡ false
     → IsTrue contains ↔ IsWithin m (record { address = xs; prefix_len = p }) (record { address = ys; prefix_len = q })
-outside-test m p q xs ys contains are bound test is =
-    ((λ t. absurd (false≢true (sym is ∙ t))), (λ within. absurd (false≢true (sym is ∙ test.1 ((IsWithin-member m p q xs ys are bound).1 within).1))))
+outside_test m p q xs ys contains are bound test is = grind arith
 
 -- the number of leading ones is the prefix length exactly if the number is the mask with as many ones
-pub prefix-test : (m ones bits mask : ℕ) (xs : List ℕ) → AreOctets m xs → bits ≡ number_of xs
+pub prefix_test : (m ones bits mask : ℕ) (xs : List ℕ) → AreOctets m xs → bits ≡ number_of xs
     → ones ≡ count_leading_zeros (8 * m) (2 ^ (8 * m) - 1 - bits) → mask ≡ 2 ^ (8 * m) - 2 ^ (8 * m - ones)
     → (n : ℕ) → (then_some (nat_eq bits mask) ones ≡ Some n) ↔ IsNetmask n xs
-prefix-test m ones bits mask xs are eb eo em n = by_test (nat_eq bits mask) (Decides-eqb bits mask)
+prefix_test m ones bits mask xs are eb eo em n = by_test (nat_eq bits mask) (Decides-eqb bits mask)
   where
     within : ones ≤ 8 * m
     within = rw eo (leading_le (8 * m) (2 ^ (8 * m) - 1 - bits))
@@ -281,7 +274,7 @@ prefix-test m ones bits mask xs are eb eo em n = by_test (nat_eq bits mask) (Dec
     by_test true decides = (
       (λ some.
           let same : ones ≡ n = same_Some ones n some in
-          rw (← same) (IsNetmask-number m ones (8 * m - ones) xs are (omega (arith, within)) (sym eb ∙ decides.0 refl ∙ em))),
+          rw (← same) (IsNetmask_number m ones (8 * m - ones) xs are (omega (arith, within)) (sym eb ∙ decides.0 refl ∙ em))),
       (λ is. ap Some (counted is)),
     )
     by_test false decides = (
@@ -290,11 +283,11 @@ prefix-test m ones bits mask xs are eb eo em n = by_test (nat_eq bits mask) (Dec
     )
 
 -- the bytes of a number under a mask
-pub IsMasked-bytes : (m n x mask : ℕ) (xs : List ℕ) → AreOctets m xs → n ≤ 8 * m → x ≡ number_of xs → mask ≡ 2 ^ (8 * m) - 2 ^ (8 * m - n)
+pub IsMasked_bytes : (m n x mask : ℕ) (xs : List ℕ) → AreOctets m xs → n ≤ 8 * m → x ≡ number_of xs → mask ≡ 2 ^ (8 * m) - 2 ^ (8 * m - n)
     → IsMasked n xs (bytes_high_first m (bit_and x mask))
-IsMasked-bytes m n x mask xs are within ex em =
+IsMasked_bytes m n x mask xs are within ex em =
     let s : ℕ = 8 * m - n in
-    let under : bit_and x mask ≡ number_of xs / 2 ^ s * 2 ^ s = rw (ex, em) (number-under_mask m s xs are (omega arith)) in
+    let under : bit_and x mask ≡ number_of xs / 2 ^ s * 2 ^ s = rw (ex, em) (number_under_mask m s xs are (omega arith)) in
     let fits : bit_and x mask < 2 ^ (8 * m) = rw under (omega (arith, shr_split (number_of xs) s, number_of-lt m xs are)) in
     IsMasked-number m n s xs (bytes_high_first m (bit_and x mask)) are (AreOctets-bytes m (bit_and x mask)) (omega arith)
-    (number_of-bytes m (bit_and x mask) ∙ mod-eq_of_lt fits ∙ under)
+    (number_of_bytes m (bit_and x mask) ∙ mod-eq_of_lt fits ∙ under)

@@ -4,6 +4,4 @@ use Rattle.std.specs.Int.{w16, to_be_bytes}
 
 -- the big-endian bytes of a group
 pub be_bytes-octets : (g : ℕ) → g < 2 ^ 16 → to_be_bytes w16 g ≡ g / 256 ∷ g % 256 ∷ []
-be_bytes-octets g fits =
-    let high : g / 256 % 256 ≡ g / 256 = omega arith in
-    λ i. high i ∷ g % 256 ∷ []
+be_bytes-octets g fits = grind arith

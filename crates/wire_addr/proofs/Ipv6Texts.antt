@@ -17,28 +17,20 @@ either xs ys = by_test (bytes_eq xs ys) (bytes_eq-Decides xs ys)
     by_test true is = inl (is.0 refl)
     by_test false is = inr (λ same. false≢true (is.1 same))
 
--- a test that is false
-is_false : (b : Bool) → ¬ (b ≡ true) → b ≡ false
-is_false true h = absurd (h refl)
-is_false false h = refl
-
 -- the text of an IPv4-mapped address, and of any other
-pub ipv6_text-mapped : (octets ipv4 : List ℕ) → octets ≡ mapped_prefix ++ ipv4 → ipv6_text octets ≡ codes "::ffff:" ++ dotted ipv4
+pub ipv6_text_mapped : (octets ipv4 : List ℕ) → octets ≡ mapped_prefix ++ ipv4 → ipv6_text octets ≡ codes "::ffff:" ++ dotted ipv4
 unfolding ipv6_text
-ipv6_text-mapped octets ipv4 is = rw is refl
+ipv6_text_mapped octets ipv4 is = rw is refl
 
 -- the text of an address that is not IPv4-mapped
-pub ipv6_text-other : (octets : List ℕ) → take 12 octets ≢ mapped_prefix → ipv6_text octets ≡ groups_text (groups_of octets)
+pub ipv6_text_other : (octets : List ℕ) → take 12 octets ≢ mapped_prefix → ipv6_text octets ≡ groups_text (groups_of octets)
 unfolding ipv6_text
-ipv6_text-other octets apart =
-    let test : bytes_eq (take 12 octets) mapped_prefix ≡ false = is_false _ (λ same. apart ((bytes_eq-Decides (take 12 octets) mapped_prefix).0 same)) in
-    rw test refl
+ipv6_text_other octets apart = grind arith
 
 -- the bytes after the prefix, if the address has it
-pub mapped-then_some : (octets ipv4 : List ℕ) (test : Bool) → Decides test (take 12 octets ≡ mapped_prefix) → drop 12 octets ≡ ipv4
+pub mapped_then_some : (octets ipv4 : List ℕ) (test : Bool) → Decides test (take 12 octets ≡ mapped_prefix) → drop 12 octets ≡ ipv4
     → MatchOption (then_some test ipv4) (take 12 octets ≢ mapped_prefix) (λ behind. octets ≡ mapped_prefix ++ behind)
-mapped-then_some octets ipv4 true is behind = sym (take-append-drop 12 octets) ∙ ap₂ ◌++◌ (is.0 refl) behind
-mapped-then_some octets ipv4 false is behind = λ same. false≢true (is.1 same)
+mapped_then_some octets ipv4 test is behind = grind arith
 
 -- ---- the text meets the rule
 
@@ -59,10 +51,10 @@ IsGroupsPrint-groups_text groups =
     ]
 
 -- the computed text follows the rules for printing an address
-pub IsIpv6Print-ipv6_text : (octets : List ℕ) → IsIpv6Print octets (ipv6_text octets)
-IsIpv6Print-ipv6_text octets = record {
-  mapped = ipv6_text-mapped octets;
-  other = λ apart. rw (ipv6_text-other octets apart) (IsGroupsPrint-groups_text (groups_of octets));
+pub IsIpv6Print_ipv6_text : (octets : List ℕ) → IsIpv6Print octets (ipv6_text octets)
+IsIpv6Print_ipv6_text octets = record {
+  mapped = ipv6_text_mapped octets;
+  other = λ apart. rw (ipv6_text_other octets apart) (IsGroupsPrint-groups_text (groups_of octets));
 }
 
 -- ---- no other text meets the rule
@@ -85,6 +77,6 @@ pub is_ipv6_text : (octets text : List ℕ) → IsIpv6Print octets text → text
 is_ipv6_text octets text rule = elim (either (take 12 octets) mapped_prefix) [
   | inl same ↦
       let whole : octets ≡ mapped_prefix ++ drop 12 octets = sym (take-append-drop 12 octets) ∙ ap (λ prefix. prefix ++ drop 12 octets) same in
-      rule.mapped (drop 12 octets) whole ∙ sym (ipv6_text-mapped octets (drop 12 octets) whole)
-  | inr apart ↦ is_groups_text (groups_of octets) text (rule.other apart) ∙ sym (ipv6_text-other octets apart)
+      rule.mapped (drop 12 octets) whole ∙ sym (ipv6_text_mapped octets (drop 12 octets) whole)
+  | inr apart ↦ is_groups_text (groups_of octets) text (rule.other apart) ∙ sym (ipv6_text_other octets apart)
 ]

@@ -30,8 +30,8 @@ module _ (a b c d e f g h i j k l m n o p : ℕ) where
       omega arith
 
 -- the number tells whether the first twelve bytes are those before an IPv4 address
-pub Decides-mapped : (octets : List ℕ) (bits : ℕ) → AreOctets 16 octets → bits ≡ number_of octets → Decides (bits / 2 ^ 32 == 0xffff) (take 12 octets ≡ mapped_prefix)
-Decides-mapped octets bits are is =
+pub Decides_mapped : (octets : List ℕ) (bits : ℕ) → AreOctets 16 octets → bits ≡ number_of octets → Decides (bits / 2 ^ 32 == 0xffff) (take 12 octets ≡ mapped_prefix)
+Decides_mapped octets bits are is =
     let items = sym (sixteen_items octets are.0) in
     let From : List ℕ → Type 0 = λ xs. AreOctets 16 xs → number_of xs / 2 ^ 32 ≡ 0xffff → take 12 xs ≡ mapped_prefix in
     let To : List ℕ → Type 0 = λ xs. AreOctets 16 xs → take 12 xs ≡ mapped_prefix → number_of xs / 2 ^ 32 ≡ 0xffff in

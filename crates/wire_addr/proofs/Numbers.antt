@@ -52,11 +52,11 @@ byte_at-shifted zero n = omega arith
 byte_at-shifted (suc k) n = rw (pow_256 (suc k)) refl
 
 -- the number of the k bytes of n is n modulo 2 ^ (8 * k)
-pub number_of-bytes : (k n : ℕ) → number_of (bytes_high_first k n) ≡ n % 2 ^ (8 * k)
-number_of-bytes zero n = omega arith
-number_of-bytes (suc k) n =
+pub number_of_bytes : (k n : ℕ) → number_of (bytes_high_first k n) ≡ n % 2 ^ (8 * k)
+number_of_bytes zero n = omega arith
+number_of_bytes (suc k) n =
     let more : 8 * suc k ≡ 8 + 8 * k = omega arith in
-    rw (length-bytes_high_first k n, byte_at-shifted k n, number_of-bytes k n, more) (sym (mod-pow-add n 8 (8 * k)))
+    rw (length-bytes_high_first k n, byte_at-shifted k n, number_of_bytes k n, more) (sym (mod-pow-add n 8 (8 * k)))
 
 -- the k big-endian bytes of a number are k numbers of eight bits
 pub AreOctets-bytes : (k n : ℕ) → AreOctets k (bytes_high_first k n)

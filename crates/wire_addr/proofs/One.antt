@@ -1,5 +1,5 @@
 -- Relations that hold for only one value: netmasks, masked addresses, the ends of a block, and scopes.
-use Rattle.std.proofs.Common.{◌≡◌, ◌↔◌, ℕ, suc, ◌+◌, ◌-◌, ◌*◌, ◌/◌, ◌%◌, ◌≤◌, inl, inr, Bool, true, false, IsTrue, List, get_or, arith, refl, sym, ◌∙◌, ap}
+use Rattle.std.proofs.Common.{◌≡◌, ◌↔◌, ℕ, suc, ◌+◌, ◌-◌, ◌*◌, ◌/◌, ◌%◌, inl, inr, Bool, true, false, IsTrue, List, get_or, arith, refl, sym, ◌∙◌, ap}
 use Rattle.std.specs.Int.{bit_at}
 use Rattle.std.proofs.lemmas.Bool.{cases_lt, false≢true}
 use Rattle.std.proofs.lemmas.List.{ext_get_or}
@@ -36,17 +36,7 @@ same_number m xs ys are_xs are_ys same = same_octets m xs ys are_xs are_ys (λ k
 
 -- a netmask has one prefix length
 pub one_length : (n m : ℕ) (xs : List ℕ) → IsNetmask n xs → IsNetmask m xs → n ≡ m
-one_length n m xs is_n is_m = omega (arith, no_less n m is_n is_m, no_less m n is_m is_n)
-  where
-    no_less : (n m : ℕ) → IsNetmask n xs → IsNetmask m xs → m ≤ n
-    no_less n m is_n is_m = elim (cases_lt n m) [
-      | inl less ↦
-          let zero_bit : bit_of xs n ≡ 0 = is_n.zeros n (omega arith) in
-          let one_bit : bit_of xs n ≡ 1 = is_m.ones n less in
-          let no : ⊥ = omega (arith, zero_bit, one_bit) in
-          absurd no
-      | inr fine ↦ fine
-    ]
+one_length n m xs is_n is_m = grind arith
 
 -- a prefix length has one netmask
 pub one_netmask : (m n : ℕ) (xs ys : List ℕ) → AreOctets m xs → AreOctets m ys → IsNetmask n xs → IsNetmask n ys → xs ≡ ys

@@ -5,7 +5,6 @@ use Rattle.std.proofs.lemmas.Slice.Eq.{bytes_eq-Decides}
 use Rattle.std.proofs.lemmas.Fmt.{decimal_is_IsNumeral, length-decimal-le, digits_is_IsNumeral}
 use Rattle.std.proofs.Math.Nat.{pow-suc}
 use Rattle.std.proofs.lemmas.List.{get_or-drop}
-use Rattle.std.proofs.lemmas.Str.{digit_value-digit_char}
 use Rattle.std.specs.Fmt.{digits, digits_onto, digit_glyph}
 use Rattle.std.specs.List.{join_with_byte}
 use Rattle.std.specs.Net.Text.{longest_zero_run}
@@ -14,6 +13,8 @@ use Rattle.wire_addr.specs.Octets.{AreOctets, octets_of, mapped_prefix}
 use Rattle.wire_addr.specs.Printed.{dotted, dashed, hex_byte, hex, colon_hex, groups_text, ipv6_text}
 use Rattle.wire_addr.specs.Read.{ReadsIpv6}
 use Rattle.wire_text.specs.Grammar.{EachReads, IsNumber, IsOctet, IsDotted, IsHexOctets, IsGroup, AreGroupsText, IsElidedMappedText, IsIpv6Text, groups_of, mapped_groups}
+use Rattle.std.proofs.lemmas.Grind.{common_steps}
+use Rattle.std.proofs.lemmas.Bool.Decides.{nat_tests}
 
 -- ---- bytes and groups
 
@@ -52,14 +53,11 @@ octets_each [] h = tt
 octets_each (n ∷ octets) h = (IsOctet-decimal n (h 0), octets_each octets (λ k. h (suc k)))
 
 -- a printed IPv4 address parses as that address
-pub IsDotted-dotted : (octets : List ℕ) → AreOctets 4 octets → IsDotted (dotted octets) octets
-IsDotted-dotted octets h = (record { pieces = map decimal octets; joined = refl; each = octets_each octets h.1 }, h.0)
+pub IsDotted_dotted : (octets : List ℕ) → AreOctets 4 octets → IsDotted (dotted octets) octets
+IsDotted_dotted octets h = (record { pieces = map decimal octets; joined = refl; each = octets_each octets h.1 }, h.0)
 
 IsNumber-hex_byte : (n : ℕ) → n < 2 ^ 8 → IsNumber 16 2 255 (hex_byte n) n
-IsNumber-hex_byte n fits =
-    let a = digit_value-digit_char (n / 16) (omega arith) in
-    let b = digit_value-digit_char (n % 16) (omega arith) in
-    record { digits = omega arith; places_fit = omega arith; value = omega arith; fits = omega arith }
+IsNumber-hex_byte n fits = grind (arith, common_steps, nat_tests)
 
 hex_octets_each : (octets : List ℕ) → ((k : ℕ) → get_or octets k 0 < 2 ^ 8) → EachReads (IsNumber 16 2 255) (map hex_byte octets) octets
 hex_octets_each [] h = tt
@@ -135,14 +133,14 @@ IsElidedMappedText-printed octets h = record {
   head = record { pieces = []; joined = refl; each = tt };
   few = omega arith;
   mark = record { digits = omega arith; places_fit = omega arith; value = refl; fits = omega arith };
-  last = IsDotted-dotted octets h;
+  last = IsDotted_dotted octets h;
   value = refl;
 }
 
 -- a printed IPv6 address parses as that address
-pub ReadsIpv6-ipv6_text : (octets : List ℕ) → AreOctets 16 octets → ReadsIpv6 (ipv6_text octets) octets
+pub ReadsIpv6_ipv6_text : (octets : List ℕ) → AreOctets 16 octets → ReadsIpv6 (ipv6_text octets) octets
 unfolding ipv6_text
-ReadsIpv6-ipv6_text octets h = cond_both (bytes_eq (take 12 octets) mapped_prefix) _ _ (λ text. ReadsIpv6 text octets) mapped (λ _. plain)
+ReadsIpv6_ipv6_text octets h = cond_both (bytes_eq (take 12 octets) mapped_prefix) _ _ (λ text. ReadsIpv6 text octets) mapped (λ _. plain)
   where
     mapped : bytes_eq (take 12 octets) mapped_prefix ≡ true → ReadsIpv6 ((58 ∷ 58 ∷ 102 ∷ 102 ∷ 102 ∷ 102 ∷ 58 ∷ []) ++ dotted (drop 12 octets)) octets
     mapped same =

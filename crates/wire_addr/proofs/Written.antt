@@ -2,6 +2,8 @@
 use Rattle.std.proofs.Common.{ℕ, ◌≡◌, ◌+◌, List, [], ◌∷◌, ◌++◌, length, get_or, take, drop, decimal, refl, sym, ap, subst, ◌∙◌, append_assoc, length-append, arith}
 use Rattle.std.proofs.lemmas.List.{drop-drop, drop_at, take_at}
 use Rattle.wire_addr.specs.Printed.{WritesAt, dotted}
+use Rattle.std.proofs.lemmas.Grind.{common_steps}
+use Rattle.std.proofs.lemmas.Bool.Decides.{nat_tests}
 
 -- a text is written after a front that ends at an index
 written_more : (old front out text new : List ℕ) (at end : ℕ) → WritesAt old front 0 out at → WritesAt out text at new end → WritesAt old (front ++ text) 0 new end
@@ -18,12 +20,7 @@ written_more old front out text new at end w more =
 
 -- the elements of a list of four
 four : (l : List ℕ) → length l ≡ 4 → l ≡ get_or l 0 0 ∷ get_or l 1 0 ∷ get_or l 2 0 ∷ get_or l 3 0 ∷ []
-four [] e = absurd (omega arith)
-four (a ∷ []) e = absurd (omega arith)
-four (a ∷ b ∷ []) e = absurd (omega arith)
-four (a ∷ b ∷ c ∷ []) e = absurd (omega arith)
-four (a ∷ b ∷ c ∷ d ∷ []) e = refl
-four (a ∷ b ∷ c ∷ d ∷ x ∷ l) e = absurd (omega arith)
+four l e = grind (arith, common_steps, nat_tests)
 
 dotted_joined : (a b c d : ℕ) → (((((decimal a ++ 46 ∷ []) ++ decimal b) ++ 46 ∷ []) ++ decimal c) ++ 46 ∷ []) ++ decimal d ≡ dotted (a ∷ b ∷ c ∷ d ∷ [])
 dotted_joined a b c d = simp append_assoc

@@ -132,6 +132,7 @@ impl Ipv4Cidr {
     }
 
     /// Returns `true` if every address of the other block is in this one.
+    #[tactic(auto, using(crate::proofs::Blocks::outside_test, crate::proofs::Blocks::within_test))]
     #[inline]
     pub fn contains_subnet(&self, subnet: &Ipv4Cidr) -> bool
         ensures { IsTrue result ↔ IsWithin 4 subnet.now self.now }

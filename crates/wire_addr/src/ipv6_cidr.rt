@@ -113,6 +113,7 @@ impl Ipv6Cidr {
     }
 
     /// Returns `true` if every address of the other block is in this one.
+    #[tactic(auto, using(crate::proofs::Blocks::outside_test, crate::proofs::Blocks::within_test))]
     #[inline]
     pub fn contains_subnet(&self, subnet: &Ipv6Cidr) -> bool
         ensures { IsTrue result ↔ IsWithin 16 subnet.now self.now }

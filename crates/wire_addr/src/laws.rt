@@ -17,6 +17,7 @@ use crate::{EthernetAddress, Ipv4Address, Ipv4Cidr, Ipv6Address, Ipv6Cidr, Ipv6M
 use std::hash::Hash;
 
 /// `IsIpv6Print` holds of exactly one text of an address, and `ipv6_text` computes it.
+#[tactic(auto, using(crate::proofs::Ipv6Texts::IsIpv6Print_ipv6_text, crate::proofs::Ipv6Texts::is_ipv6_text))]
 pub fn ipv6_print_rule(address: Ipv6Address, other: &[u8])
     ensures is { IsIpv6Print address (ipv6_text address) }
     ensures only { IsIpv6Print address other.now → other.now ≡ ipv6_text address }
@@ -67,6 +68,7 @@ pub fn print_reads_back_ipv4_cidr(block: Ipv4Cidr)
 }
 
 /// A printed block of IPv6 addresses parses as that block.
+#[tactic(auto, using(crate::proofs::BlockTexts::printed_block, crate::proofs::ReadBack::ReadsIpv6_ipv6_text))]
 pub fn print_reads_back_ipv6_cidr(block: Ipv6Cidr)
     ensures { ReadsIpv6Block (block_text ipv6_text block) block }
 {
@@ -119,6 +121,7 @@ pub fn ipv6_block_order(a: Ipv6Cidr, b: Ipv6Cidr)
 {}
 
 /// A netmask has one prefix length, and a prefix length has one netmask.
+#[tactic(auto, using(crate::proofs::One::one_length, crate::proofs::One::one_netmask))]
 pub fn one_netmask(a: Ipv4Address, b: Ipv4Address)
     ensures len { (n m : ℕ) → IsNetmask n a → IsNetmask m a → n ≡ m }
     ensures mask { (n : ℕ) → IsNetmask n a → IsNetmask n b → a ≡ b }

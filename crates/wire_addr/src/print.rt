@@ -37,6 +37,7 @@ fn write_bytes(out: &mut [u8], at: usize, bytes: &[u8]) -> usize
 }
 
 /// Writes a number in decimal to `out`, from byte `at` on, and returns where it ends.
+#[tactic(auto, using(crate::proofs::Digits::decimal_one, crate::proofs::Digits::decimal_two, crate::proofs::Digits::decimal_three))]
 #[inline(always)]
 fn write_decimal(out: &mut [u8], at: usize, n: u8) -> usize
     requires { at + 3 ≤ length out.old }
@@ -52,6 +53,7 @@ fn write_decimal(out: &mut [u8], at: usize, n: u8) -> usize
 }
 
 /// Writes four decimal numbers joined by `.` to the front of `out`, and returns their length.
+#[tactic(auto, using(crate::proofs::Written::dotted_written))]
 pub(crate) fn write_dotted(out: &mut [u8], octets: [u8; 4]) -> usize
     requires { 15 ≤ length out.old }
     ensures len { result ≡ length (dotted octets) }
@@ -83,6 +85,7 @@ fn push_front<const CAP: usize>(text: &mut ArrayString<CAP>, bytes: &[u8], len: 
 }
 
 /// The number of decimal digits.
+#[tactic(auto, using(crate::proofs::Digits::decimal_one, crate::proofs::Digits::decimal_two, crate::proofs::Digits::decimal_three))]
 #[inline(always)]
 fn decimal_len(n: u8) -> usize
     ensures len { result ≡ length (decimal n) }
@@ -128,6 +131,7 @@ pub(crate) fn push_dotted<const CAP: usize>(text: &mut ArrayString<CAP>, octets:
 }
 
 /// Appends a group in hex with no leading zeros.
+#[tactic(auto, using(crate::proofs::Digits::hex_one, crate::proofs::Digits::hex_two, crate::proofs::Digits::hex_three, crate::proofs::Digits::hex_four))]
 fn push_hex<const CAP: usize>(text: &mut ArrayString<CAP>, group: u16)
     requires { array_string_len text.old + 4 ≤ CAP }
     ensures bytes { text.new.bytes ≡ text.old.bytes ++ hex group }

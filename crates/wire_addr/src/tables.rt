@@ -75,6 +75,7 @@ fn hex_entry(octet: u8) -> u16
 }
 
 /// The two lower-case hex digits of a byte.
+#[tactic(auto, using(crate::proofs::Entries::digit_small))]
 #[inline(always)]
 pub(crate) fn hex_pair(octet: u8) -> (u8, u8)
     ensures high { result.0 ≡ digit_char (octet / 16) }

@@ -1,5 +1,5 @@
 -- The computed value of an ARP packet is the one that it is read as.
-use Rattle.std.proofs.Common.{ℕ, ◌≡◌, ◌↔◌, ◌≤◌, List, ◌∷◌, Some, length, slice_range, take, refl, arith}
+use Rattle.std.proofs.Common.{ℕ, ◌≡◌, ◌↔◌, ◌≤◌, List, Some, length, slice_range, take, refl, arith}
 use Rattle.std.proofs.lemmas.Bool.Decides.{nat_tests}
 use Rattle.std.proofs.lemmas.Slice.Eq.{bytes_eq-Decides}
 use Rattle.wire_addr.specs.declared.ethernet_address.EthernetAddress.{EthernetAddress}
@@ -12,12 +12,11 @@ use Rattle.wire_arp.specs.declared.arp.ArpOperation.{ArpOperation}
 use Rattle.wire_arp.specs.declared.arp.repr.ArpRepr.{ArpRepr}
 use Rattle.wire_arp.specs.declared.arp.repr.ArpRepr.TheVariants.{EthernetIpv4}
 use Rattle.wire_ethernet.specs.declared.ethernet.EthernetProtocol.TheVariants as protocol
+use Rattle.std.proofs.lemmas.Grind.{common_steps}
 
 pub arp_of-Reads : (bytes : List ℕ) (v : ArpRepr) → (arp_of bytes ≡ Some v) ↔ Reads bytes v
 unfolding arp_of
-arp_of-Reads bytes v =
-    let kind = bytes_eq-Decides (take 6 bytes) ethernet_ipv4 in
-    (λ e. grind (arith, nat_tests), λ r. grind (arith, nat_tests))
+arp_of-Reads bytes v = grind (arith, common_steps, nat_tests, bytes_eq-Decides)
 
 -- ---- what a reader finds
 
@@ -28,16 +27,6 @@ pub value_of-fields : (bytes : List ℕ) (operation : ArpOperation) (sha : Ether
 value_of-fields bytes operation sha spa tha tpa o a b c d = rw (← a, ← b, ← c, ← d, ← o) refl
 
 -- the numbers of Ethernet and IPv4, and the lengths of their addresses, are the bytes that name them
-pub kind-fields : (bytes : List ℕ) → AreBytes bytes → 6 ≤ length bytes → hardware_of (field bytes 0 16) ≡ hardware.Ethernet
+pub kind_fields : (bytes : List ℕ) → AreBytes bytes → 6 ≤ length bytes → hardware_of (field bytes 0 16) ≡ hardware.Ethernet
     → protocol_of (field bytes 16 16) ≡ protocol.Ipv4 → hardware_len bytes ≡ 6 → protocol_len bytes ≡ 4 → take 6 bytes ≡ ethernet_ipv4
-kind-fields (a ∷ b ∷ c ∷ d ∷ e ∷ f ∷ rest) h room t p hl pl =
-    let type : field (a ∷ b ∷ c ∷ d ∷ e ∷ f ∷ rest) 0 16 ≡ 1 = grind (arith, nat_tests) in
-    let kind : field (a ∷ b ∷ c ∷ d ∷ e ∷ f ∷ rest) 16 16 ≡ 0x0800 = grind (arith, nat_tests) in
-    let a' : a ≡ 0 = omega (arith, h 0, h 1) in
-    let b' : b ≡ 1 = omega (arith, h 0, h 1) in
-    let c' : c ≡ 8 = omega (arith, h 2, h 3) in
-    let d' : d ≡ 0 = omega (arith, h 2, h 3) in
-    let e' : e ≡ 6 = omega (arith, h 4) in
-    let f' : f ≡ 4 = omega (arith, h 5) in
-    rw (a', b', c', d', e', f') refl
-kind-fields short h room t p hl pl = absurd (omega arith)
+kind_fields bytes h room t p hl pl = grind (arith, common_steps, nat_tests)

@@ -20,8 +20,8 @@ pub record AreAddresses (sha spa tha tpa : List ℕ) : Type 0 where
 abbrev pub IsInRange : ArpRepr → Type 0
 IsInRange (EthernetIpv4 operation sha spa tha tpa) = (operation_number operation < 2 ^ 16) × AreAddresses sha.0 spa tha.0 tpa
 
-pub reads-bytes_of : (v : ArpRepr) (rest : List ℕ) → IsInRange v → Reads (bytes_of v ++ rest) (normal v)
-reads-bytes_of (EthernetIpv4 operation sha spa tha tpa) rest (small, h) =
+pub reads_bytes_of : (v : ArpRepr) (rest : List ℕ) → IsInRange v → Reads (bytes_of v ++ rest) (normal v)
+reads_bytes_of (EthernetIpv4 operation sha spa tha tpa) rest (small, h) =
     let bytes = bytes_of (EthernetIpv4 operation sha spa tha tpa) ++ rest in
     let a = cells-all 6 sha.0 h.source_hardware in
     let b = cells-all 4 spa h.source_protocol in

@@ -1,11 +1,12 @@
 -- The texts that an ARP packet prints as.
-use Rattle.std.proofs.Common.{inl, inr, ℕ, ◌≡◌, true, List, Option, [], ◌∷◌, ◌++◌, Some, None, codes, decimal, flat_map, refl, arith}
+use Rattle.std.proofs.Common.{ℕ, ◌≡◌, true, List, Option, [], ◌∷◌, ◌++◌, Some, None, codes, decimal, flat_map, refl, arith}
 use Rattle.std.proofs.lemmas.Bool.{cases_Bool}
 use Rattle.std.proofs.lemmas.Bool.Decides.{nat_tests}
 use Rattle.std.specs.Fmt.{debug_items, debug_list, comma_space}
 use Rattle.wire_arp.specs.Arp.{HasLengths, arp_of}
 use Rattle.wire_arp.specs.ArpText.{fields_text, has_lengths, list_text, packet_text, value_text}
 use Rattle.wire_arp.specs.declared.arp.repr.ArpRepr.{ArpRepr}
+use Rattle.std.proofs.lemmas.Grind.{common_steps}
 
 -- ---- lists of bytes
 
@@ -42,7 +43,4 @@ packet_text-None bytes e h = rw (e, HasLengths-has_lengths bytes h) refl
 
 pub packet_text-refused : (bytes : List ℕ) → arp_of bytes ≡ None → ¬ HasLengths bytes → packet_text bytes ≡ codes "ARP (wire::Error)"
 unfolding packet_text
-packet_text-refused bytes e h = elim (cases_Bool (has_lengths bytes)) [
-  | inl whole ↦ absurd (h (has_lengths-HasLengths bytes whole))
-  | inr short ↦ rw (e, short) refl
-]
+packet_text-refused bytes e h = grind (arith, common_steps, nat_tests, cases_Bool, has_lengths-HasLengths)

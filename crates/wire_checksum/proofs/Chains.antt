@@ -14,9 +14,9 @@ carried before after carries e none =
     residue-same (256 * after) (256 * before) (256 * (281479271743489 * carries)) 0 (omega (arith, e)) (λ z. let n = none (omega (arith, z)) in omega (arith, e, n, z)) (λ z. omega (arith, e, z))
 
 -- a word of 8 bytes added to a chain
-pub word-added : (chain w total : ℕ) (word : List ℕ) → length word ≡ 8 → w ≡ from_le_bytes w64 word → total ≡ chain + w
+pub word_added : (chain w total : ℕ) (word : List ℕ) → length word ≡ 8 → w ≡ from_le_bytes w64 word → total ≡ chain + w
     → residue (256 * (total % 18446744073709551616 + total / 18446744073709551616)) ≡ residue (256 * chain + sum (words word))
-word-added chain w total word long is all =
+word_added chain w total word long is all =
     carried total (total % 18446744073709551616 + total / 18446744073709551616) (total / 18446744073709551616) (omega arith) (λ e. omega (arith, e))
     ∙ ap (λ n. residue (256 * n)) all ∙ ap residue (mul-add 256 chain w)
     ∙ residue-add (256 * chain) (256 * chain) (256 * w) (sum (words word)) refl (ap (λ n. residue (256 * n)) is ∙ words-of_8 word long)
@@ -46,10 +46,10 @@ pub side-by-side : (a b a' b' s t w : ℕ) → residue (256 * a') ≡ residue (2
 side-by-side a b a' b' s t w p q e = ap residue (mul-add 256 a' b') ∙ residue-add (256 * a') (256 * a + s) (256 * b') (256 * b + t) p q ∙ ap residue (omega (arith, e))
 
 -- the words of both halves, added one after the other
-pub halves-added : (n k : ℕ) (v : List ℕ) (hs : List (List ℕ)) (a b c : ℕ) → n % 2 ≡ 0 → length v ≡ n + n → k ≡ 2 → hs ≡ first_chunks n k v
+pub halves_added : (n k : ℕ) (v : List ℕ) (hs : List (List ℕ)) (a b c : ℕ) → n % 2 ≡ 0 → length v ≡ n + n → k ≡ 2 → hs ≡ first_chunks n k v
     → residue (256 * b) ≡ residue (256 * a + sum (words (get_or hs 0 []))) → residue (256 * c) ≡ residue (256 * b + sum (words (get_or hs 1 [])))
     → residue (256 * c) ≡ residue (256 * a + sum (words v))
-halves-added n k v hs a b c even long two cut p q =
+halves_added n k v hs a b c even long two cut p q =
     let both = in-two n v hs even long (cut ∙ ap (λ j. first_chunks n j v) two) in
     and_then a b c (sum (words (get_or hs 0 []))) (sum (words (get_or hs 1 []))) p q ∙ ap (λ s. residue (256 * a + s)) both
 

@@ -22,9 +22,9 @@ shifted (suc j) (x ∷ xs) small =
     ap (λ n. (x + 256 * m) / n) power ∙ sym (div-div-eq-div-mul (x + 256 * m) 256 (2 ^ (8 * j))) ∙ ap (λ n. n / 2 ^ (8 * j)) next ∙ shifted j xs small.1
 
 -- the last 8 bytes, shifted as in `tail`, have the sum of the bytes after the last whole word of 8
-pub end-of : (bytes last : List ℕ) (r : ℕ) → 8 ≤ length bytes → last ≡ drop (length bytes - 8) bytes → ((k : ℕ) → Fits w8 (get_or bytes k 0)) → r ≡ from_le_bytes w64 last
+pub end_of : (bytes last : List ℕ) (r : ℕ) → 8 ≤ length bytes → last ≡ drop (length bytes - 8) bytes → ((k : ℕ) → Fits w8 (get_or bytes k 0)) → r ≡ from_le_bytes w64 last
     → residue (256 * (r / 2 ^ 8 / 2 ^ (56 - 8 * (length bytes % 8)))) ≡ residue (sum (words (drop (length bytes / 8 * 8) bytes)))
-end-of bytes last r room is fit e =
+end_of bytes last r room is fit e =
     let n = length bytes - 8 in
     let j = 8 - length bytes % 8 in
     let long : length last ≡ 8 = ap length is ∙ rw length-drop (omega arith) in

@@ -1,5 +1,5 @@
 -- Lanes that hold sums of bytes.
-use Rattle.std.proofs.Common.{◌≡◌, ℕ, zero, suc, ◌+◌, ◌-◌, ◌*◌, ◌/◌, ◌%◌, ◌^◌, ◌<◌, ◌≤◌, List, [], ◌∷◌, length, sum, Fits, w16, refl, ◌∙◌, ap, map, arith}
+use Rattle.std.proofs.Common.{◌≡◌, ℕ, zero, suc, ◌+◌, ◌-◌, ◌*◌, ◌/◌, ◌%◌, ◌^◌, ◌<◌, ◌≤◌, List, [], ◌∷◌, length, sum, Fits, w16, refl, ap, map, arith}
 use Rattle.std.specs.Simd.Lanes.{Each1, Each2, zip2, sum_l, number_l, digits_l}
 use Rattle.std.specs.Prelude.{replicate}
 use Rattle.wire_checksum.specs.WordSum.{words}
@@ -32,8 +32,7 @@ digits-pairs (suc n) (x ∷ y ∷ v) e h =
     let m = number_l 256 v in
     let a : (x + 256 * (y + 256 * m)) % 65536 ≡ x + 256 * y = omega arith in
     let b : (x + 256 * (y + 256 * m)) / 65536 ≡ m = omega arith in
-    ap (λ k. k ∷ digits_l 65536 n ((x + 256 * (y + 256 * m)) / 65536)) a ∙ ap (λ k. (x + 256 * y) ∷ digits_l 65536 n k) b
-    ∙ ap (λ l. (x + 256 * y) ∷ l) (digits-pairs n v (omega arith) (h.1).1)
+    rw (a, b, digits-pairs n v (omega arith) (h.1).1) refl
 digits-pairs n other e h = absurd (omega arith)
 
 -- one more vector raises the bound of `odd` by 255
@@ -69,9 +68,7 @@ all-long n (a ∷ al) other e f = absurd (omega arith)
 -- one lane, with one more pair
 lane : (a o x y : ℕ) → x < 256 → y < 256 → (a + (65536 - (o * 256) % 65536)) % 65536 + x < 65536
     → ((a + (x + 256 * y)) % 65536 + (65536 - ((o + (x + 256 * y) / 256) * 256) % 65536)) % 65536 ≡ (a + (65536 - (o * 256) % 65536)) % 65536 + x
-lane a o x y p q room =
-    let d : (x + 256 * y) / 256 ≡ y = omega arith in
-    ap (λ k. ((a + (x + 256 * y)) % 65536 + (65536 - ((o + k) * 256) % 65536)) % 65536) d ∙ omega arith
+lane a o x y p q room = grind arith
 
 -- the sums at even places, with one more vector of bytes
 pub even-bound : (n b : ℕ) (al os v : List ℕ) → b + 255 ≤ 65535 → length al ≡ n → length os ≡ n → length v ≡ 2 * n → Each1 (λ a. a < 256) v → Each1 (λ a. a ≤ b) (evens n al os)

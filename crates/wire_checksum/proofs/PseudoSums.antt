@@ -1,5 +1,5 @@
 -- Sums of joined bytes, and of a packet after its pseudo-header.
-use Rattle.std.proofs.Common.{◌≡◌, ℕ, ◌+◌, ◌*◌, ◌/◌, ◌%◌, ◌<◌, List, [], ◌∷◌, ◌++◌, length, sum, refl, sym, ◌∙◌, ap, arith, length-append}
+use Rattle.std.proofs.Common.{◌≡◌, ℕ, ◌+◌, ◌*◌, ◌/◌, ◌%◌, ◌<◌, List, [], ◌∷◌, ◌++◌, length, sum, sym, ◌∙◌, ap, arith, length-append}
 use Rattle.byteorder.specs.Endian.{big_bytes}
 use Rattle.wire_checksum.specs.PseudoHeader.{pseudo_header_bytes, with_pseudo_header}
 use Rattle.wire_checksum.specs.WordSum.{residue, sum_of, sum_of_bytes, words}
@@ -9,6 +9,8 @@ use Rattle.wire_ends.specs.IpAddress.{octets_of}
 use Rattle.wire_ends.specs.Protocol.{number_of}
 use Rattle.wire_ends.specs.declared.ip_address.IpAddress.{IpAddress}
 use Rattle.wire_ends.specs.declared.ip_protocol.IpProtocol.{IpProtocol}
+use Rattle.std.proofs.lemmas.Grind.{common_steps}
+use Rattle.std.proofs.lemmas.Bool.Decides.{nat_tests}
 
 -- ---- the total of a packet
 
@@ -23,19 +25,13 @@ sum-words-end number len = omega arith
 -- the words of a packet after its pseudo-header add up to those of its parts
 pub sum-with_pseudo_header : (src dst : IpAddress) (protocol : IpProtocol) (packet : List ℕ) → length (octets_of src) % 2 ≡ 0 → length (octets_of dst) % 2 ≡ 0
     → sum (words (with_pseudo_header src dst protocol packet)) ≡ pseudo_header_total src dst protocol (length packet) + sum (words packet)
-sum-with_pseudo_header src dst protocol packet s d =
-    let n = length packet in
-    let tail = 0 ∷ number_of protocol ∷ big_bytes 2 n in
-    let header = pseudo_header_bytes (octets_of src) (octets_of dst) protocol n in
-    let both : length (octets_of src ++ octets_of dst) % 2 ≡ 0 = simp length-append (omega arith) in
-    let even : length header % 2 ≡ 0 = simp length-append (omega arith) in
-    omega (arith, sum-words-append header packet even, sum-words-append (octets_of src ++ octets_of dst) tail both, sum-words-append (octets_of src) (octets_of dst) s, sum-words-end (number_of protocol) n)
+sum-with_pseudo_header src dst protocol packet s d = grind (arith, common_steps, nat_tests, length-append, sum-words-append, sum-words-end)
 
 -- ---- sums, and totals of which they are the residues
 
 -- the sum of joined bytes is the sum of their sums, if the first part has an even length
-pub sum-joins : (a b : List ℕ) → length a % 2 ≡ 0 → sum_of_bytes (a ++ b) ≡ sum_of (sum_of_bytes a ∷ sum_of_bytes b ∷ [])
-sum-joins a b even = ap residue (sum-words-append a b even) ∙ residue-join (sum (words a)) (sum (words b)) ∙ ap residue (omega arith)
+pub sum_joins_words : (a b : List ℕ) → length a % 2 ≡ 0 → sum_of_bytes (a ++ b) ≡ sum_of (sum_of_bytes a ∷ sum_of_bytes b ∷ [])
+sum_joins_words a b even = ap residue (sum-words-append a b even) ∙ residue-join (sum (words a)) (sum (words b)) ∙ ap residue (omega arith)
 
 -- a word, taken low byte first, in a total
 residue-word : (w : ℕ) → w < 65536 → residue (256 * (w % 256 * 256 + w / 256 % 256)) ≡ residue w
@@ -65,16 +61,10 @@ total-pseudo_header src dst protocol len s t number low even_src even_dst n byte
 
 -- of a length only the low 16 bits count
 pseudo_header-low : (src dst : List ℕ) (protocol : IpProtocol) (len : ℕ) → pseudo_header_bytes src dst protocol (len % 65536) ≡ pseudo_header_bytes src dst protocol len
-pseudo_header-low src dst protocol len =
-    let high : len % 65536 / 256 % 256 ≡ len / 256 % 256 = omega arith in
-    let low : len % 65536 % 256 ≡ len % 256 = omega arith in
-    rw (high, low) refl
+pseudo_header-low src dst protocol len = grind arith
 
 -- the total of a packet from that of its pseudo header and its own
-pub total-with_pseudo_header : (src dst : IpAddress) (protocol : IpProtocol) (packet : List ℕ) (s t : ℕ) → length (octets_of src) % 2 ≡ 0 → length (octets_of dst) % 2 ≡ 0
+pub total_with_pseudo_header : (src dst : IpAddress) (protocol : IpProtocol) (packet : List ℕ) (s t : ℕ) → length (octets_of src) % 2 ≡ 0 → length (octets_of dst) % 2 ≡ 0
     → residue (256 * s) ≡ sum_of_bytes (pseudo_header_bytes (octets_of src) (octets_of dst) protocol (length packet % 65536)) → residue (256 * t) ≡ sum_of_bytes packet
     → residue (256 * (s + t)) ≡ sum_of_bytes (with_pseudo_header src dst protocol packet)
-total-with_pseudo_header src dst protocol packet s t even_src even_dst p q =
-    let whole = pseudo_header_bytes (octets_of src) (octets_of dst) protocol (length packet) in
-    let even : length whole % 2 ≡ 0 = simp length-append (omega arith) in
-    total-joins whole packet s t even (p ∙ ap sum_of_bytes (pseudo_header-low (octets_of src) (octets_of dst) protocol (length packet))) q
+total_with_pseudo_header src dst protocol packet s t even_src even_dst p q = grind (arith, common_steps, nat_tests, length-append, total-joins, pseudo_header-low)

@@ -5,10 +5,7 @@ use Rattle.wire_checksum.specs.WordSum.{IsSum, residue}
 -- numbers that differ by multiples of 65535, and are 0 together, have the same residue
 pub residue-same : (s t j k : ℕ) → s + 65535 * j ≡ t + 65535 * k → (s ≡ 0 → t ≡ 0) → (t ≡ 0 → s ≡ 0) → residue s ≡ residue t
 unfolding residue
-residue-same zero zero j k e f g = refl
-residue-same zero (suc t) j k e f g = absurd (omega (arith, f refl))
-residue-same (suc s) zero j k e f g = absurd (omega (arith, g refl))
-residue-same (suc s) (suc t) j k e f g = omega arith
+residue-same s t j k e f g = grind arith
 
 -- a total is its residue and a multiple of 65535
 pub residue-quotient : (t : ℕ) → (k : ℕ) × (t ≡ residue t + 65535 * k)
@@ -19,26 +16,22 @@ residue-quotient (suc n) = (n / 65535, omega arith)
 -- a residue has 16 bits
 pub residue-bound : (t : ℕ) → residue t ≤ 65535
 unfolding residue
-residue-bound zero = omega arith
-residue-bound (suc n) = omega arith
+residue-bound t = grind arith
 
 -- only 0 has the residue 0
 pub residue-zero : (t : ℕ) → residue t ≡ 0 → t ≡ 0
 unfolding residue
-residue-zero zero e = refl
-residue-zero (suc n) e = absurd (omega arith)
+residue-zero t e = grind arith
 
 -- the residue of 0 is 0
 pub residue-of_zero : (t : ℕ) → t ≡ 0 → residue t ≡ 0
 unfolding residue
-residue-of_zero zero e = refl
-residue-of_zero (suc n) e = absurd (omega arith)
+residue-of_zero t e = grind arith
 
 -- a number of 16 bits is its own residue
 pub residue-small : (t : ℕ) → t ≤ 65535 → residue t ≡ t
 unfolding residue
-residue-small zero h = refl
-residue-small (suc n) h = omega arith
+residue-small t h = grind arith
 
 -- the residue of a sum, from the residues of both numbers
 pub residue-join : (a b : ℕ) → residue (a + b) ≡ residue (residue a + residue b)
@@ -75,19 +68,18 @@ residue-carry s t n e a b h =
 
 residue-least : (t : ℕ) → 0 < t → 1 ≤ residue t
 unfolding residue
-residue-least zero h = absurd (omega arith)
-residue-least (suc n) h = omega arith
+residue-least t h = grind arith
 
 -- the residue is what a sum is
-pub residue-IsSum : (t : ℕ) → IsSum t (residue t)
-residue-IsSum t =
+pub residue_IsSum : (t : ℕ) → IsSum t (residue t)
+residue_IsSum t =
     let p = residue-quotient t in
     record { none = residue-of_zero t; least = residue-least t; most = residue-bound t; congruent = omega (arith, p.1) }
 
 -- and nothing else is
-pub IsSum-residue : (t r : ℕ) → IsSum t r → r ≡ residue t
-IsSum-residue zero r is = is.none refl ∙ sym (residue-of_zero zero refl)
-IsSum-residue (suc t) r is =
+pub IsSum_residue : (t r : ℕ) → IsSum t r → r ≡ residue t
+IsSum_residue zero r is = is.none refl ∙ sym (residue-of_zero zero refl)
+IsSum_residue (suc t) r is =
     let p = residue-quotient (suc t) in
     let least = residue-least (suc t) (omega arith) in
     let positive = is.least (omega arith) in

@@ -5,7 +5,7 @@ use Rattle.wire_checksum.proofs.Parts.{sum-take-with_field, sum-words-with_field
 use Rattle.wire_checksum.proofs.Residues.{residue-of_zero}
 use Rattle.wire_checksum.proofs.Updated.{stays_valid, updated-small}
 use Rattle.wire_field.proofs.Spelled.{AreBytes}
-use Rattle.wire_field.proofs.Written.{AreBytes-with_field, length-with_field}
+use Rattle.wire_field.proofs.Written.{AreBytes-with_field, length_with_field}
 use Rattle.wire_field.specs.Field.{field, with_field}
 
 -- the bytes with the c-th word, their checksum, updated
@@ -36,15 +36,15 @@ updated-front bytes changed n c old new are inside room change some valid =
     ∙ updated-valid 0 0 bytes changed n c old new are inside room (omega (arith, change)) (omega (arith, some)) (ap residue (zero-add (sum (words (take n bytes)))) ∙ valid)
 
 -- the same of one word and all bytes
-pub updated-word : (bytes : List ℕ) (c p word : ℕ) → AreBytes bytes → 2 * c + 2 ≤ length bytes → 2 * p + 2 ≤ length bytes → word < 65536
+pub updated_word : (bytes : List ℕ) (c p word : ℕ) → AreBytes bytes → 2 * c + 2 ≤ length bytes → 2 * p + 2 ≤ length bytes → word < 65536
     → 0 < sum_of_bytes (with_field (with_field bytes (16 * p) 16 word) (16 * c) 16 0) → sum_of_bytes bytes ≡ 65535
     → sum_of_bytes (with_field (with_field bytes (16 * p) 16 word) (16 * c) 16 (updated (field (with_field bytes (16 * p) 16 word) (16 * c) 16) (field bytes (16 * p) 16) word)) ≡ 65535
-updated-word bytes c p word are at_c at_p fits some valid =
+updated_word bytes c p word are at_c at_p fits some valid =
     let old = field bytes (16 * p) 16 in
     let changed = with_field bytes (16 * p) 16 word in
     let checksum = field changed (16 * c) 16 in
     let changed_are = AreBytes-with_field bytes (16 * p) 16 word are (omega arith) (omega (arith, at_p)) in
-    let room : 2 * c + 2 ≤ length changed = omega (arith, at_c, length-with_field bytes (16 * p) 16 word (omega arith) (omega (arith, at_p))) in
+    let room : 2 * c + 2 ≤ length changed = omega (arith, at_c, length_with_field bytes (16 * p) 16 word (omega arith) (omega (arith, at_p))) in
     let u = updated checksum (residue old) (residue word) in
     let written = sum-words-with_field changed c u changed_are room (omega arith) in
     let zeroed = sum-words-with_field changed c 0 changed_are room (omega arith) in

@@ -63,8 +63,7 @@ words-of_2 xs l = ap (λ n. residue (256 * n)) (number-of_2 xs l) ∙ number-wor
 -- one byte is the high byte of a word
 pub words-of_1 : (xs : List ℕ) → length xs ≡ 1 → sum (words xs) ≡ 256 * get_or xs 0 0
 unfolding words
-words-of_1 (a ∷ []) l = zero-add (256 * a)
-words-of_1 other l = absurd (omega arith)
+words-of_1 xs l = grind arith
 
 -- chunk i of n bytes is a slice of the bytes
 pub chunk-at : (n k i : ℕ) (xs d : List ℕ) → i < k → get_or (first_chunks n k xs) i d ≡ take n (drop (i * n) xs)
@@ -119,8 +118,7 @@ chunk-step n k bytes chunks number i j s w cut below even next room reads is so_
 -- the words of no bytes add up to 0
 pub words-of_0 : (xs : List ℕ) → length xs ≡ 0 → sum (words xs) ≡ 0
 unfolding words
-words-of_0 [] l = refl
-words-of_0 (a ∷ xs) l = absurd (omega arith)
+words-of_0 xs l = grind arith
 
 -- the whole sum, where i chunks of n bytes are in s and what is left is in w
 pub chunks-end : (n m i : ℕ) (bytes rest : List ℕ) (s w : ℕ) → i * n ≡ m → m % 2 ≡ 0 → m ≤ length bytes → rest ≡ drop m bytes
@@ -133,9 +131,9 @@ chunks-end n m i bytes rest s w ends even room cut so_far left =
     ∙ ap residue (sym (sum-words-split m bytes even room))
 
 -- a total of the bytes after the last whole word of 8, with all whole words added, is a total of all bytes
-pub with-tail : (bytes : List ℕ) (t s : ℕ) → residue (256 * t) ≡ residue (sum (words (drop (length bytes / 8 * 8) bytes)))
+pub with_tail : (bytes : List ℕ) (t s : ℕ) → residue (256 * t) ≡ residue (sum (words (drop (length bytes / 8 * 8) bytes)))
     → residue (256 * s) ≡ residue (256 * t + sum (words (take (length bytes / 8 * 8) bytes))) → residue (256 * s) ≡ residue (sum (words bytes))
-with-tail bytes t s a b =
+with_tail bytes t s a b =
     let m = length bytes / 8 * 8 in
     let split = sum-words-split m bytes (omega arith) (omega arith) in
     b ∙ residue-add (256 * t) (sum (words (drop m bytes))) (sum (words (take m bytes))) (sum (words (take m bytes))) a refl ∙ ap residue (omega (arith, split))

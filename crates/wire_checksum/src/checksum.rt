@@ -96,6 +96,7 @@ pub fn pseudo_header(
 
 /// The sum of a pseudo-header and the packet after it. The length in the pseudo-header is that of
 /// the packet.
+#[tactic(auto, using(crate::proofs::PseudoSums::total_with_pseudo_header))]
 #[inline(always)]
 pub fn packet(
     src_addr: IpAddress,

@@ -10,12 +10,14 @@ use wire_addr::{Ipv4Address, Ipv6Address};
 use wire_ends::{IpAddress, IpProtocol};
 
 /// `IsSum` holds of exactly one number, and `sum_of_bytes` computes it.
+#[tactic(auto, using(crate::proofs::Residues::IsSum_residue, crate::proofs::Residues::residue_IsSum))]
 pub fn sum_is_one_number(bytes: &[u8], other: u16)
     ensures is { IsSum (sum (words bytes.now)) (sum_of_bytes bytes.now) }
     ensures only { IsSum (sum (words bytes.now)) other → other ≡ sum_of_bytes bytes.now }
 {}
 
 /// The sum of two joined slices is the combination of their sums, if the first has an even length.
+#[tactic(auto, using(crate::proofs::PseudoSums::sum_joins_words))]
 pub fn sum_joins(first: &[u8], second: &[u8])
     requires { length first.now % 2 ≡ 0 }
     ensures { sum_of_bytes (first.now ++ second.now) ≡ sum_of (sum_of_bytes first.now ∷ sum_of_bytes second.now ∷ []) }
@@ -24,6 +26,7 @@ pub fn sum_joins(first: &[u8], second: &[u8])
 /// A valid checksum stays valid if a word changes and the checksum is updated by `checksum::update`.
 /// `checksum` and `place` count the words of the bytes. Some word beside the checksum must not be 0
 /// after the change.
+#[tactic(auto, using(crate::proofs::UpdatedBytes::updated_word))]
 pub fn updated_checksum_verifies(bytes: &[u8], checksum: usize, place: usize, word: u16)
     requires checksum { 2 * checksum + 2 ≤ length bytes.now }
     requires place { 2 * place + 2 ≤ length bytes.now }

@@ -28,6 +28,7 @@ pub fn reduce(total: u64) -> u16
 
 // Folds 64 bits to 32. A number plus itself with its halves exchanged has the sum of the halves,
 // with end-around carry, in its upper half.
+#[tactic(auto, using(crate::proofs::Rounds::once_64))]
 #[inline]
 fn fold_to_u32(total: u64) -> u32
     ensures { residue result ≡ residue total }
@@ -56,6 +57,7 @@ pub fn around(a: u64, b: u64) -> u64
 
 /// The sum of bytes. It is inlined for 8 to 255 bytes, and a call for other lengths.
 #[inline(always)]
+#[tactic(auto, using(crate::proofs::WordLists::with_tail))]
 pub fn sum_here(bytes: &[u8]) -> u16
     ensures { result ≡ sum_of_bytes bytes.now }
 {
@@ -68,6 +70,7 @@ pub fn sum_here(bytes: &[u8]) -> u16
 
 // Each of these calls is the last step of its caller, so that no caller keeps a stack frame for it.
 #[inline(never)]
+#[tactic(auto, using(crate::proofs::WordLists::with_tail))]
 fn sum_apart(bytes: &[u8]) -> u16
     ensures { result ≡ sum_of_bytes bytes.now }
 {
@@ -88,6 +91,7 @@ fn sum_of_total(bytes: &[u8]) -> u16
 /// The total of bytes, as a call. Inlined into `checksum::packet`, it makes `parse` larger and slower,
 /// also where no checksum is verified.
 #[inline(never)]
+#[tactic(auto, using(crate::proofs::WordLists::with_tail))]
 pub fn total(bytes: &[u8]) -> u64
     ensures { residue (256 * result) ≡ sum_of_bytes bytes.now }
 {
@@ -99,6 +103,7 @@ pub fn total(bytes: &[u8]) -> u64
 }
 
 #[inline(never)]
+#[tactic(auto, using(crate::proofs::WordLists::with_tail))]
 fn total_apart(bytes: &[u8]) -> u64
     ensures { residue (256 * result) ≡ sum_of_bytes bytes.now }
 {
@@ -146,6 +151,7 @@ pub fn total_of_words(bytes: &[u8]) -> u64
 
 // The total of the bytes after the last whole word of 8 bytes. They are the end of the last 8
 // bytes.
+#[tactic(auto, using(crate::proofs::Ends::end_of))]
 #[inline]
 fn tail(bytes: &[u8]) -> u64
     requires { 8 ≤ length bytes.now }
@@ -176,6 +182,7 @@ fn plain(bytes: &[u8]) -> u64
 
 // Adds a word to a chain, which is a number and the carry that the last addition left. The carry is
 // added with the word.
+#[tactic(auto, using(crate::proofs::Chains::word_added))]
 #[inline(always)]
 fn add(chain: (u64, u64), word: &[u8; 8]) -> (u64, u64)
     requires { chain.0 + chain.1 < 2 ^ 64 }

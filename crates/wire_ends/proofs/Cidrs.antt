@@ -1,16 +1,17 @@
 -- Blocks of either version that contain each other.
-use Rattle.std.proofs.Common.{◌≤◌, ◌∙◌, refl, arith}
+use Rattle.std.proofs.Common.{◌≤◌, arith}
 use Rattle.wire_addr.proofs.Blocks.{prefix_from_within}
 use Rattle.wire_ends.specs.IpAddress.{IsAddress, bits_of}
 use Rattle.wire_ends.specs.IpCidr.{IsIn, IsWithin, block_address, block_prefix_len}
 use Rattle.wire_ends.specs.declared.ip_address.IpAddress.TheVariants as ip
 use Rattle.wire_ends.specs.declared.ip_cidr.IpCidr.{IpCidr}
 use Rattle.wire_ends.specs.declared.ip_cidr.IpCidr.TheVariants.{Ipv4, Ipv6}
+use Rattle.std.proofs.lemmas.Grind.{common_steps}
+use Rattle.std.proofs.lemmas.Bool.Decides.{nat_tests}
 
 -- a block contains the address from which it was made
 own_address : (block : IpCidr) → IsIn block (block_address block)
-own_address (Ipv4 block) = λ k below. refl
-own_address (Ipv6 block) = λ k below. refl
+own_address block = grind arith
 
 -- so a block within another has its address in that one
 pub IsWithin-address : (inner outer : IpCidr) → IsAddress (block_address inner) → IsWithin inner outer → IsIn outer (block_address inner)
@@ -29,9 +30,4 @@ IsWithin-prefix_len (Ipv6 inner) (Ipv6 outer) is bound within =
 -- the two together suffice
 pub address-IsWithin : (inner outer : IpCidr) → IsIn outer (block_address inner) → block_prefix_len outer ≤ block_prefix_len inner
     → IsWithin inner outer
-address-IsWithin (Ipv4 inner) (Ipv4 outer) member enough (ip.Ipv4 octets) are is = λ k below. member k below ∙ is k (omega (arith, enough))
-address-IsWithin (Ipv4 inner) (Ipv4 outer) member enough (ip.Ipv6 octets) are is = absurd is
-address-IsWithin (Ipv4 inner) (Ipv6 outer) member enough addr are is = absurd member
-address-IsWithin (Ipv6 inner) (Ipv4 outer) member enough addr are is = absurd member
-address-IsWithin (Ipv6 inner) (Ipv6 outer) member enough (ip.Ipv4 octets) are is = absurd is
-address-IsWithin (Ipv6 inner) (Ipv6 outer) member enough (ip.Ipv6 octets) are is = λ k below. member k below ∙ is k (omega (arith, enough))
+address-IsWithin inner outer member enough = grind (arith, common_steps, nat_tests)

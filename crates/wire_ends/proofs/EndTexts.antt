@@ -1,11 +1,10 @@
 -- Texts of addresses, blocks and endpoints of either version: which ones are rejected, and that each has one value.
-use Rattle.std.proofs.Common.{◌≡◌, ◌≢◌, ℕ, List, [], ◌∷◌, ◌++◌, ◌≤◌, Option, Some, Result, Ok, Err, MatchOption, Bor, length, take, drop, refl, sym, ap, ◌∙◌, subst, arith, lit≤, ◌⊎◌, inl, inr, take_at, length-append}
+use Rattle.std.proofs.Common.{◌≡◌, ◌≢◌, ℕ, List, [], ◌∷◌, ◌++◌, ◌≤◌, Option, Some, Result, Err, MatchOption, Bor, length, take, drop, refl, sym, ap, ◌∙◌, subst, arith, lit≤, ◌⊎◌, inl, inr, take_at, length-append}
 use Rattle.std.specs.Net.Grammar.{Parses}
 use Rattle.std.specs.Option.{ok_or}
 use Rattle.std.specs.Result.{IsErr}
 use Rattle.wire_addr.specs.Block.{Block}
 use Rattle.wire_addr.specs.BlockText.{ReadsIpv4Block, ReadsIpv6Block}
-use Rattle.wire_addr.specs.Printed.{ipv6_text}
 use Rattle.wire_addr.specs.Read.{ReadsIpv4, ReadsIpv6}
 use Rattle.wire_addr.proofs.BlockTexts.{one_block}
 use Rattle.wire_addr.proofs.Readings.{ipv4_once, ipv6_once, not_both}
@@ -53,8 +52,7 @@ ends_alike front other e =
 
 -- no brackets, and no IPv4 address
 pub no_plain_host : (text : List ℕ) → ((inner : List ℕ) → text ≢ bracketed inner) → ((octets : List ℕ) → ¬ (ReadsIpv4 text octets)) → (addr : IpAddress) → ¬ (ReadsHost text addr)
-no_plain_host text none four (ip.Ipv4 octets) h = four octets h
-no_plain_host text none four (ip.Ipv6 octets) h = none h.0 h.1
+no_plain_host text none four addr = grind arith
 
 -- brackets around a text that is no IPv6 address
 pub no_inner_host : (text inner : List ℕ) → text ≡ bracketed inner → ((octets : List ℕ) → ¬ (ReadsIpv6 inner octets)) → (addr : IpAddress) → ¬ (ReadsHost text addr)
@@ -85,19 +83,16 @@ IsAlone text endpoint = ReadsAddress text endpoint.addr × (endpoint.port ≡ 0)
 
 -- a text is parsed as one form if it is not the other
 pub first_form : {A E : Type 0} (R S : List ℕ → A → Type 0) (text : List ℕ) (result : Result A E) → ((a : A) → ¬ (S text a)) → Parses R text result → Parses (λ t a. R t a ⊎ S t a) text result
-first_form R S text (Ok a) none h = inl h
-first_form R S text (Err e) none h = λ a. elim [ inl r ↦ h a r | inr s ↦ none a s ]
+first_form R S text result none h = grind arith
 
 pub second_form : {A E : Type 0} (R S : List ℕ → A → Type 0) (text : List ℕ) (result : Result A E) → ((a : A) → ¬ (R text a)) → Parses S text result → Parses (λ t a. R t a ⊎ S t a) text result
-second_form R S text (Ok a) none h = inr h
-second_form R S text (Err e) none h = λ a. elim [ inl r ↦ none a r | inr s ↦ h a s ]
+second_form R S text result none h = grind arith
 
 -- ---- printed
 
 -- the printed text before a port parses as the address if its own text does
 printed_host : (addr : IpAddress) → ReadsAddress (address_text addr) addr → ReadsHost (host_text addr) addr
-printed_host (ip.Ipv4 octets) h = h
-printed_host (ip.Ipv6 octets) h = (ipv6_text octets, refl, h)
+printed_host addr h = grind arith
 
 -- a printed endpoint parses as that endpoint, if its address does
 pub printed_endpoint : (endpoint : IpEndpoint) → endpoint.port ≤ 65535 → ReadsAddress (address_text endpoint.addr) endpoint.addr → ReadsEndpoint (endpoint_text endpoint) endpoint

@@ -82,6 +82,7 @@ impl From<IpProtocol> for u8 {
 impl fmt::Display for IpProtocol {
     ghost output = { λ p. Some (protocol_text p) };
 
+    #[tactic(auto, using(wire_addr::proofs::Prints::padded_hex_byte))]
     fn fmt<W: fmt::Write>(&self, f: &mut fmt::Formatter<W>) -> fmt::Result {
         match *self {
             IpProtocol::HopByHop => write!(f, "Hop-by-Hop"),

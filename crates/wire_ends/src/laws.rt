@@ -14,11 +14,13 @@ use std::hash::Hash;
 use wire_addr::laws::{print_reads_back_ipv4_cidr, print_reads_back_ipv6_cidr};
 
 /// No text parses as two addresses.
+#[tactic(auto, using(crate::proofs::EndTexts::address_once))]
 pub fn ip_address_one_reading(text: &[u8], a: IpAddress, b: IpAddress)
     ensures { ReadsAddress text.now a → ReadsAddress text.now b → a ≡ b }
 {}
 
 /// No text parses as two blocks.
+#[tactic(auto, using(crate::proofs::EndTexts::cidr_once))]
 pub fn ip_cidr_one_reading(text: &[u8], a: IpCidr, b: IpCidr)
     ensures { ReadsCidr text.now a → ReadsCidr text.now b → a ≡ b }
 {}
@@ -53,6 +55,7 @@ pub fn print_reads_back_ip_cidr(cidr: IpCidr)
 }
 
 /// A printed endpoint parses as that endpoint.
+#[tactic(auto, using(crate::proofs::EndTexts::printed_endpoint))]
 pub fn print_reads_back_ip_endpoint(endpoint: IpEndpoint)
     ensures { ReadsEndpoint (endpoint_text endpoint) endpoint }
 {

@@ -16,9 +16,9 @@ pub header_written : (dst src : List ℕ) (n : ℕ) (old first second third : Li
 header_written dst src n old first second third number d s h one two three is =
     rw (three, two, one, is, cells-all 6 dst d, cells-all 6 src s, cells-drop 14 old h) refl
 
-pub reads-bytes_of : (v : EthernetRepr) (rest : List ℕ) → length v.dst_addr.0 ≡ 6 → length v.src_addr.0 ≡ 6
+pub reads_bytes_of : (v : EthernetRepr) (rest : List ℕ) → length v.dst_addr.0 ≡ 6 → length v.src_addr.0 ≡ 6
     → number_of v.ethertype < 2 ^ 16 → Reads (bytes_of v ++ rest) (normal v)
-reads-bytes_of v rest d s n =
+reads_bytes_of v rest d s n =
     let e : field (bytes_of v ++ rest) 96 16 ≡ number_of v.ethertype = rw (cells-all 6 v.dst_addr.0 d, cells-all 6 v.src_addr.0 s) (omega arith) in
     record {
       whole = rw (cells-all 6 v.dst_addr.0 d, cells-all 6 v.src_addr.0 s) (omega arith);

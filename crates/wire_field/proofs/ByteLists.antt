@@ -1,5 +1,5 @@
 -- Lists of bytes, and their parts.
-use Rattle.std.proofs.Common.{ℕ, zero, suc, ◌≡◌, ◌<◌, ◌+◌, ◌-◌, ◌&&◌, Bool, true, false, nat_lt, List, [], ◌∷◌, ◌++◌, drop, slice_range, take, refl, sym, subst, arith}
+use Rattle.std.proofs.Common.{ℕ, zero, suc, ◌≡◌, ◌<◌, ◌+◌, ◌-◌, ◌&&◌, Bool, true, nat_lt, List, [], ◌∷◌, ◌++◌, drop, slice_range, take, sym, subst, arith}
 use Rattle.std.proofs.lemmas.Bool.{ltb-true}
 use Rattle.std.proofs.lemmas.List.{get_or-drop}
 use Rattle.std.proofs.Math.Pow.{are_bytes}
@@ -8,8 +8,7 @@ use Rattle.wire_field.proofs.Spelled.{AreBytes}
 
 -- a byte of a number is below 256
 byte_at-lt : (k x : ℕ) → byte_at k x < 256
-byte_at-lt zero x = omega arith
-byte_at-lt (suc k) x = omega arith
+byte_at-lt k x = grind arith
 
 -- the bytes of a number are bytes
 pub AreBytes-bytes_high_first : (n x : ℕ) → AreBytes (bytes_high_first n x)
@@ -19,8 +18,7 @@ AreBytes-bytes_high_first (suc n) x (suc i) = AreBytes-bytes_high_first n x i
 
 -- what is put together of bytes, and their parts
 pub AreBytes-cons : (x : ℕ) (xs : List ℕ) → x < 256 → AreBytes xs → AreBytes (x ∷ xs)
-AreBytes-cons x xs small h zero = small
-AreBytes-cons x xs small h (suc i) = h i
+AreBytes-cons x xs small h = grind arith
 
 pub AreBytes-append : (xs ys : List ℕ) → AreBytes xs → AreBytes ys → AreBytes (xs ++ ys)
 AreBytes-append [] ys h k = k
@@ -42,8 +40,7 @@ AreBytes-part xs part from to h is = subst AreBytes (sym is) (AreBytes-slice_ran
 
 -- numbers that pass the test are bytes
 test-parts : (a b : Bool) → (a && b) ≡ true → (a ≡ true) × (b ≡ true)
-test-parts true b e = (refl, e)
-test-parts false b e = absurd (cc)
+test-parts a b e = grind arith
 
 pub AreBytes-tested : (xs : List ℕ) → are_bytes xs ≡ true → AreBytes xs
 AreBytes-tested [] e = λ i. omega arith

@@ -13,8 +13,7 @@ use Rattle.wire_field.proofs.Spelled.{AreBytes, pow256}
 
 -- byte k of a number
 byte-shifted : (k x : ℕ) → byte_at k x ≡ x / 256 ^ k % 256
-byte-shifted zero x = ap (λ (y : ℕ). y % 256) (sym (div-one x))
-byte-shifted (suc k) x = refl
+byte-shifted k x = grind arith
 
 -- a byte in front of a number, seen as part of what is above the number
 byte-above : (q x p r s : ℕ) → s ≡ p * 256 → q * s + (x * p + r) ≡ (q * 256 + x) * p + r
@@ -54,29 +53,18 @@ reach first n = omega arith
 none : (first n : ℕ) → behind (8 * first) (8 * n) ≡ 0
 none first n = omega arith
 
--- a field by its first byte, the bytes that it reaches into and the bits after it: written, and read
-abbrev written-from : List ℕ → ℕ → ℕ → ℕ → ℕ → ℕ → List ℕ
-written-from bytes width x a s l = take a bytes ++ big_bytes s (with_part (big_from a s bytes) l width x) ++ drop (a + s) bytes
+-- a field of whole bytes, written and read
+written-whole : (bytes : List ℕ) (first n x : ℕ) → with_field bytes (8 * first) (8 * n) x
+    ≡ take first bytes ++ big_bytes n (with_part (big_from first n bytes) 0 (8 * n) x) ++ drop (first + n) bytes
+written-whole bytes first n x = rw (reach first n, none first n, begin first) refl
 
-abbrev read-from : List ℕ → ℕ → ℕ → ℕ → ℕ → ℕ
-read-from bytes width a s l = big_from a s bytes / 2 ^ l % 2 ^ width
-
-written-whole : (bytes : List ℕ) (first n x : ℕ) → with_field bytes (8 * first) (8 * n) x ≡ written-from bytes (8 * n) x first n 0
-written-whole bytes first n x =
-    ap (λ (a : ℕ). written-from bytes (8 * n) x a (span (8 * first) (8 * n)) (behind (8 * first) (8 * n))) (begin first)
-    ∙ ap (λ (s : ℕ). written-from bytes (8 * n) x first s (behind (8 * first) (8 * n))) (reach first n)
-    ∙ ap (λ (l : ℕ). written-from bytes (8 * n) x first n l) (none first n)
-
-read-whole : (bytes : List ℕ) (first n : ℕ) → field bytes (8 * first) (8 * n) ≡ read-from bytes (8 * n) first n 0
-read-whole bytes first n =
-    ap (λ (a : ℕ). read-from bytes (8 * n) a (span (8 * first) (8 * n)) (behind (8 * first) (8 * n))) (begin first)
-    ∙ ap (λ (s : ℕ). read-from bytes (8 * n) first s (behind (8 * first) (8 * n))) (reach first n)
-    ∙ ap (λ (l : ℕ). read-from bytes (8 * n) first n l) (none first n)
+read-whole : (bytes : List ℕ) (first n : ℕ) → field bytes (8 * first) (8 * n) ≡ big_from first n bytes / 2 ^ 0 % 2 ^ (8 * n)
+read-whole bytes first n = rw (reach first n, none first n, begin first) refl
 
 -- a written range is a written field
-pub range-field : (bytes a : List ℕ) (first n : ℕ) → AreBytes a → length a ≡ n
+pub range_field : (bytes a : List ℕ) (first n : ℕ) → AreBytes a → length a ≡ n
     → with_range bytes first (first + n) a ≡ with_field bytes (8 * first) (8 * n) (big_number n a)
-range-field bytes a first n are long =
+range_field bytes a first n are long =
     let part : big_bytes n (with_part (big_from first n bytes) 0 (8 * n) (big_number n a)) ≡ a =
     ap (big_bytes n) (whole-part (big_from first n bytes) n (big_number n a) (big_from-lt 0 n a are)) ∙ bytes-number n (big_from first n bytes / 256 ^ n) a are long in
     ap (λ (m : List ℕ). take first bytes ++ m ++ drop (first + n) bytes) (sym part) ∙ sym (written-whole bytes first n (big_number n a))

@@ -1,15 +1,16 @@
 -- A field that is written twice: the first write does not count.
-use Rattle.std.proofs.Common.{ℕ, ◌≡◌, ◌≤◌, ◌<◌, ◌+◌, ◌*◌, ◌-◌, ◌/◌, ◌%◌, ◌^◌, List, ◌++◌, length, take, drop, refl, sym, ap, ◌∙◌, arith, length-append}
+use Rattle.std.proofs.Common.{ℕ, ◌≡◌, ◌≤◌, ◌<◌, ◌+◌, ◌*◌, ◌-◌, ◌/◌, ◌%◌, ◌^◌, List, ◌++◌, length, take, drop, refl, ap, ◌∙◌, arith, length-append}
 use Rattle.std.proofs.lemmas.List.{length-take-le, take-append-le, take_all}
 use Rattle.std.proofs.lemmas.Nat.{mod_low, pow_pos, pow-add, shr_high}
 use Rattle.std.proofs.Math.Nat.{add_assoc, mod-lt}
-use Rattle.std.proofs.Math.Seq.{drop-append_seam}
 use Rattle.byteorder.specs.Endian.{big_bytes}
 use Rattle.byteorder.specs.Numbers.{length-bytes_high_first}
 use Rattle.wire_field.specs.Field.{behind, span, with_field, with_part, word_at}
 use Rattle.wire_field.proofs.Part.{part_below, regrouped}
 use Rattle.wire_field.proofs.Spelled.{AreBytes}
 use Rattle.wire_field.proofs.Written.{word-with_field}
+use Rattle.std.proofs.lemmas.Grind.{common_steps}
+use Rattle.std.proofs.lemmas.Bool.Decides.{nat_tests}
 
 -- a part that is written over a part
 with_part-twice : (n low width x y : ℕ) → with_part (with_part n low width y) low width x ≡ with_part n low width x
@@ -32,16 +33,12 @@ before bytes part a e room =
     take-append-le a (take a bytes ++ part) (drop e bytes) (omega (arith, both, long)) ∙ take-append-le a (take a bytes) part (omega (arith, long)) ∙ take_all a (take a bytes) (omega (arith, long))
 
 after : (bytes part : List ℕ) (a e : ℕ) → a ≤ length bytes → e ≡ a + length part → drop e ((take a bytes ++ part) ++ drop e bytes) ≡ drop e bytes
-after bytes part a e room is =
-    let long = length-take-le a bytes room in
-    let both = length-append (take a bytes) part in
-    let end : length (take a bytes ++ part) ≡ e = omega (arith, both, long, is) in
-    ap (λ (n : ℕ). drop n ((take a bytes ++ part) ++ drop e bytes)) (sym end) ∙ drop-append_seam (take a bytes ++ part) (drop e bytes)
+after bytes part a e room is = grind (arith, common_steps, nat_tests)
 
 -- the last of two writes counts
-pub with_field-twice : (bytes : List ℕ) (first width x y : ℕ) → AreBytes bytes → 0 < width → first + width ≤ 8 * length bytes
+pub with_field_twice : (bytes : List ℕ) (first width x y : ℕ) → AreBytes bytes → 0 < width → first + width ≤ 8 * length bytes
     → with_field (with_field bytes first width y) first width x ≡ with_field bytes first width x
-with_field-twice bytes first width x y are some fits =
+with_field_twice bytes first width x y are some fits =
     let a = first / 8 in
     let s = span first width in
     let part = big_bytes (span first width) (with_part (word_at bytes first width) (behind first width) width y) in
@@ -50,7 +47,4 @@ with_field-twice bytes first width x y are some fits =
     let back = after bytes part (first / 8) (first / 8 + span first width) (omega arith) (omega (arith, size)) in
     let word = word-with_field bytes first width y are some fits in
     let last = with_part-twice (word_at bytes first width) (behind first width) width x y in
-    ap (λ (m : ℕ). take a (with_field bytes first width y) ++ big_bytes s (with_part m (behind first width) width x) ++ drop (a + s) (with_field bytes first width y)) word
-    ∙ ap (λ (m : ℕ). take a (with_field bytes first width y) ++ big_bytes s m ++ drop (a + s) (with_field bytes first width y)) last
-    ∙ ap (λ (f : List ℕ). f ++ big_bytes s (with_part (word_at bytes first width) (behind first width) width x) ++ drop (a + s) (with_field bytes first width y)) front
-    ∙ ap (λ (b : List ℕ). take a bytes ++ big_bytes s (with_part (word_at bytes first width) (behind first width) width x) ++ b) back
+    rw (word, last, front, back) refl

@@ -1,5 +1,5 @@
 -- An emitted ICMP message parses as the normal form of its value. A parsed value is its own normal form.
-use Rattle.std.proofs.Common.{ℕ, ◌≡◌, ◌<◌, ◌+◌, ◌-◌, ◌^◌, Bool, true, false, IsTrue, Some, List, drop, length, sum, refl, sym, subst, ap, ◌∙◌, arith}
+use Rattle.std.proofs.Common.{ℕ, ◌≡◌, ◌<◌, ◌+◌, ◌-◌, ◌^◌, Bool, true, false, IsTrue, Some, List, drop, length, sum, refl, sym, ap, ◌∙◌, arith}
 use Rattle.wire_field.specs.Field.{with_field}
 use Rattle.wire_field.proofs.Cells.{cells-drop}
 use Rattle.wire_field.specs.Field.{field}
@@ -20,7 +20,7 @@ pub record IsInRange (h : IcmpHeader) : Type 0 where
   pub word : h.word < 2 ^ 32
 
 -- writing the checksum adds it to the sum of the header, and of what it covers
-sum-words-header : (h : IcmpHeader) (checksum : ℕ) → checksum < 65536 → sum (words (header_bytes h checksum)) ≡ sum (words (header_bytes h 0)) + checksum
+pub sum-words-header : (h : IcmpHeader) (checksum : ℕ) → checksum < 65536 → sum (words (header_bytes h checksum)) ≡ sum (words (header_bytes h 0)) + checksum
 unfolding words
 sum-words-header h checksum fits = omega arith
 
@@ -48,14 +48,14 @@ reads-message_with h src dst payload checksum verified v fits is sound =
     record { least = omega arith; checksum = sound; message = rw (first, second, third) is; body = refl }
 
 -- an emitted message parses as what its header says
-pub reads-emitted : (h : IcmpHeader) (src dst : IpAddress) (payload : List ℕ) (computed verified : Bool) (v : IcmpRepr) → AreWhole src dst → IsInRange h
+pub reads_emitted : (h : IcmpHeader) (src dst : IpAddress) (payload : List ℕ) (computed verified : Bool) (v : IcmpRepr) → AreWhole src dst → IsInRange h
     → message_of (version_of src) h.msg_type h.msg_code h.word ≡ Some v → (IsTrue verified → IsTrue computed)
     → Reads (emitted h payload src dst computed) src dst verified v payload
-reads-emitted h src dst payload true verified v whole fits is sound =
+reads_emitted h src dst payload true verified v whole fits is sound =
     let zeroed = total src dst (message_with h payload 0) in
     reads-message_with h src dst payload (65535 - residue zeroed) verified v fits is
     (λ on. ap residue (total-message_with h src dst payload (65535 - residue zeroed) whole (omega arith)) ∙ residue-complement zeroed)
-reads-emitted h src dst payload false verified v whole fits is sound =
+reads_emitted h src dst payload false verified v whole fits is sound =
     reads-message_with h src dst payload 0 verified v fits is (λ on. let no : IsTrue false = sound on in absurd (cc))
 
 -- ---- a message whose checksum changed
@@ -74,11 +74,11 @@ reads-beside old new src dst verified checked v payload r s valid =
     record { least = omega (arith, s.long, r.least); checksum = valid; message = rw (s.first, s.second, s.third) r.message; body = r.body ∙ sym s.behind }
 
 -- the checksum is not part of the value
-pub reads-checksum : (bytes : List ℕ) (x : ℕ) (src dst : IpAddress) (verified checked : Bool) (v : IcmpRepr) (payload : List ℕ) → Reads bytes src dst verified v payload
+pub reads_checksum : (bytes : List ℕ) (x : ℕ) (src dst : IpAddress) (verified checked : Bool) (v : IcmpRepr) (payload : List ℕ) → Reads bytes src dst verified v payload
     → (IsTrue checked → Verifies src dst (with_field bytes 16 16 x)) → Reads (with_field bytes 16 16 x) src dst checked v payload
-reads-checksum bytes x src dst verified checked v payload r valid =
+reads_checksum bytes x src dst verified checked v payload r valid =
     reads-beside bytes (with_field bytes 16 16 x) src dst verified checked v payload r
-    (subst (λ (l : List ℕ). IsBeside l (with_field l 16 16 x)) (sym (cells-drop 8 bytes r.least)) (record { long = refl; first = refl; second = refl; third = refl; behind = refl }))
+    (rw (cells-drop 8 bytes r.least) (record { long = refl; first = refl; second = refl; third = refl; behind = refl }))
     valid
 
 -- nor does it depend on whether it is verified

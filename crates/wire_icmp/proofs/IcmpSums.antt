@@ -3,7 +3,7 @@ use Rattle.std.proofs.Common.{ℕ, ◌≡◌, ◌≤◌, ◌<◌, ◌+◌, ◌-�
 use Rattle.std.proofs.lemmas.Bool.Decides.{nat_tests}
 use Rattle.wire_field.specs.Field.{field, with_field}
 use Rattle.wire_field.proofs.Spelled.{AreBytes}
-use Rattle.wire_field.proofs.Written.{AreBytes-with_field, field-with_field_same, length-with_field}
+use Rattle.wire_field.proofs.Written.{AreBytes-with_field, field_with_field_same, length_with_field}
 use Rattle.wire_checksum.proofs.Parts.{sum-words-with_field}
 use Rattle.wire_checksum.proofs.PseudoSums.{pseudo_header_total, sum-with_pseudo_header}
 use Rattle.wire_checksum.proofs.Residues.{residue-bound, residue-complement, residue-quotient, residue-same, residue-small}
@@ -43,7 +43,7 @@ total-with_word src dst bytes i x are whole fits room =
       arith,
       total-parts src dst after whole,
       total-parts src dst bytes whole,
-      ap (beside src dst) (length-with_field bytes (16 * i) 16 x (omega arith) (omega (arith, room))),
+      ap (beside src dst) (length_with_field bytes (16 * i) 16 x (omega arith) (omega (arith, room))),
       sum-words-with_field bytes i x are room fits,
     )
 
@@ -54,8 +54,8 @@ pub filled : (src dst : IpAddress) (bytes : List ℕ) → AreBytes bytes → Are
 filled src dst bytes are whole room =
     let zeroed = with_field bytes 16 16 0 in
     let x = 65535 - residue (total src dst zeroed) in
-    let none = field-with_field_same bytes 16 16 0 are (omega arith) (omega (arith, room)) in
-    let long = length-with_field bytes 16 16 0 (omega arith) (omega (arith, room)) in
+    let none = field_with_field_same bytes 16 16 0 are (omega arith) (omega (arith, room)) in
+    let long = length_with_field bytes 16 16 0 (omega arith) (omega (arith, room)) in
     let more = total-with_word src dst zeroed 1 x (AreBytes-with_field bytes 16 16 0 are (omega arith) (omega (arith, room))) whole (omega arith) (omega (arith, long, room)) in
     let is : total src dst (with_field zeroed 16 16 x) ≡ total src dst zeroed + x = omega (arith, more, none) in
     ap residue is ∙ residue-complement (total src dst zeroed)
@@ -94,12 +94,12 @@ valid-updated src dst src' dst' bytes changed old new are whole room change vali
     ]
 
 -- the same for a word of 16 bits after the checksum
-pub valid-word : (src dst : IpAddress) (bytes : List ℕ) (i x : ℕ) → AreBytes bytes → AreWhole src dst → x < 65536 → 2 ≤ i → 2 * i + 2 ≤ length bytes
+pub valid_word : (src dst : IpAddress) (bytes : List ℕ) (i x : ℕ) → AreBytes bytes → AreWhole src dst → x < 65536 → 2 ≤ i → 2 * i + 2 ≤ length bytes
     → Verifies src dst bytes → Verifies src dst (with_updated_checksum (with_field bytes (16 * i) 16 x) (field bytes (16 * i) 16) x)
-valid-word src dst bytes i x are whole fits behind room valid =
+valid_word src dst bytes i x are whole fits behind room valid =
     let changed = with_field bytes (16 * i) 16 x in
     let old = field bytes (16 * i) 16 in
-    let long = length-with_field bytes (16 * i) 16 x (omega arith) (omega (arith, room)) in
+    let long = length_with_field bytes (16 * i) 16 x (omega arith) (omega (arith, room)) in
     subst (λ (u : ℕ). Verifies src dst (with_field changed 16 16 (not_zero u))) (updated-small (field changed 16 16) old x (omega arith) (omega (arith, fits)))
     (valid-updated src dst src dst bytes changed old x (AreBytes-with_field bytes (16 * i) 16 x are (omega arith) (omega (arith, room))) whole (omega (arith, long, room))
     (total-with_word src dst bytes i x are whole fits room) valid)

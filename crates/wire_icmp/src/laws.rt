@@ -107,6 +107,7 @@ pub fn no_more_bytes_icmp(
 {}
 
 /// A checksum that `fill_checksum` wrote is correct, and the message parses as the same value with it.
+#[tactic(auto, using(crate::proofs::IcmpReadsBack::reads_checksum, crate::proofs::IcmpSums::filled))]
 pub fn filled_checksum_verifies_icmp(bytes: &[u8], src_addr: IpAddress, dst_addr: IpAddress)
     requires header { 4 ≤ length bytes.now }
     ensures verifies { Verifies src_addr dst_addr (with_checksum src_addr dst_addr bytes.now) }
@@ -176,6 +177,7 @@ pub fn getters_read_fields_icmp(packet: &IcmpPacket<'_>, getting: IcmpGetting) -
 }
 
 /// Filling in the checksum writes the checksum, and nothing else. It is then correct.
+#[tactic(auto, using(crate::proofs::IcmpSums::filled))]
 pub fn fill_checksum_writes_one_field_icmp(
     packet: &mut IcmpPacketMut<'_>,
     src_addr: IpAddress,

@@ -7,11 +7,11 @@ use Rattle.wire_ipv4.proofs.Ipv4Normal as ipv4
 use Rattle.wire_ipv6.proofs.Ipv6Normal as ipv6
 
 -- the normal form of a normal form is itself
-pub normal-normal : (v : IpRepr) → normal (normal v) ≡ normal v
-normal-normal (Ipv4 v) = ap Ipv4 (ipv4.normal-normal v)
-normal-normal (Ipv6 v) = ap Ipv6 (ipv6.normal-normal v)
+pub normal_normal : (v : IpRepr) → normal (normal v) ≡ normal v
+normal_normal (Ipv4 v) = ap Ipv4 (ipv4.normal_normal v)
+normal_normal (Ipv6 v) = ap Ipv6 (ipv6.normal_normal v)
 
 -- a parsed value is in normal form
-pub normal-read : (bytes : List ℕ) (verified : Bool) (v : IpRepr) → Reads bytes verified v → normal v ≡ v
-normal-read bytes verified (Ipv4 v) r = ap Ipv4 (ipv4.normal-read bytes verified v r.header)
-normal-read bytes verified (Ipv6 v) r = ap Ipv6 (ipv6.normal-read bytes v r.header)
+pub normal_read : (bytes : List ℕ) (verified : Bool) (v : IpRepr) → Reads bytes verified v → normal v ≡ v
+normal_read bytes verified (Ipv4 v) r = ap Ipv4 (ipv4.normal_read bytes verified v r.header)
+normal_read bytes verified (Ipv6 v) r = ap Ipv6 (ipv6.normal_read bytes v r.header)

@@ -13,13 +13,13 @@ IsInRange (Ipv4 v) = ipv4.IsInRange v
 IsInRange (Ipv6 v) = ipv6.IsInRange v
 
 -- an emitted header with a payload parses as the normal form of its value
-pub reads-bytes_of : (v : IpRepr) (rest : List ℕ) (computed verified : Bool) → IsInRange v → payload_len_of v ≤ length rest
+pub reads_bytes_of : (v : IpRepr) (rest : List ℕ) (computed verified : Bool) → IsInRange v → payload_len_of v ≤ length rest
     → (IsTrue verified → IsTrue computed) → Reads (bytes_of v computed ++ rest) verified (normal v)
-reads-bytes_of (Ipv4 v) rest computed verified h room sound = record {
+reads_bytes_of (Ipv4 v) rest computed verified h room sound = record {
   version = record { some = omega arith; number = refl };
-  header = ipv4.reads-bytes_of v rest computed verified h room sound;
+  header = ipv4.reads_bytes_of v rest computed verified h room sound;
 }
-reads-bytes_of (Ipv6 v) rest computed verified h room sound = record {
+reads_bytes_of (Ipv6 v) rest computed verified h room sound = record {
   version = record { some = omega arith; number = refl };
-  header = ipv6_read.reads-bytes_of v rest h room;
+  header = ipv6_read.reads_bytes_of v rest h room;
 }

@@ -1,10 +1,10 @@
 -- A header in which one field changed.
-use Rattle.std.proofs.Common.{ℕ, ◌≡◌, ◌≤◌, ◌<◌, ◌+◌, ◌*◌, ◌⊎◌, inl, inr, Bool, false, IsTrue, List, ◌++◌, drop, length, refl, sym, subst, ap, ◌∙◌, arith}
+use Rattle.std.proofs.Common.{ℕ, ◌≡◌, ◌≤◌, ◌<◌, ◌+◌, ◌*◌, ◌⊎◌, inl, inr, Bool, false, IsTrue, List, ◌++◌, drop, length, refl, sym, ap, ◌∙◌, arith}
 use Rattle.wire_field.specs.Field.{IsApart, field, with_field, with_range}
 use Rattle.wire_field.proofs.Behind.{drop-with_field}
 use Rattle.wire_field.proofs.Cells.{cells, cells-all, cells-drop}
 use Rattle.wire_field.proofs.Spelled.{AreBytes}
-use Rattle.wire_field.proofs.Written.{field-with_field_other, length-with_field}
+use Rattle.wire_field.proofs.Written.{field_with_field_other, length_with_field}
 use Rattle.wire_ipv4.proofs.Ipv4Computed.{Reads-is}
 use Rattle.wire_ipv4.specs.Ipv4.{HasChecksum, Reads, header_len, header_of, total_len}
 use Rattle.wire_ends.specs.Protocol.{protocol_of}
@@ -41,14 +41,11 @@ reads-set old new f verified checked v r s valid =
 -- ---- each value: what a write of its field leaves, and what the header is read as then
 
 pub sets-hop_limit : (bytes : List ℕ) (n : ℕ) → 20 ≤ length bytes → n < 256 → Sets bytes (with_field bytes 64 8 n) (λ h. record h { hop_limit = n })
-sets-hop_limit bytes n room fits =
-    subst (λ (l : List ℕ). Sets l (with_field l 64 8 n) (λ h. record h { hop_limit = n })) (sym (cells-drop 20 bytes room))
-    (record { long = refl; version = refl; header = refl; total = refl; values = grind arith })
+sets-hop_limit bytes n room fits = grind arith
 
 pub reads-hop_limit : (bytes : List ℕ) (n : ℕ) (verified checked : Bool) (v : Ipv4Repr) → n < 256 → Reads bytes verified v
     → (IsTrue checked → HasChecksum (with_field bytes 64 8 n)) → Reads (with_field bytes 64 8 n) checked (record v { hop_limit = n })
-reads-hop_limit bytes n verified checked v fits r =
-    reads-set bytes (with_field bytes 64 8 n) (λ h. record h { hop_limit = n }) verified checked v r (sets-hop_limit bytes n r.lengths.least fits)
+reads-hop_limit bytes n verified checked v fits r h = grind arith
 
 pub reads-next_header : (bytes : List ℕ) (n : ℕ) (verified checked : Bool) (v : Ipv4Repr) → n < 256 → Reads bytes verified v
     → (IsTrue checked → HasChecksum (with_field bytes 72 8 n)) → Reads (with_field bytes 72 8 n) checked (record v { next_header = protocol_of n })
@@ -56,14 +53,11 @@ reads-next_header bytes n verified checked v fits r =
     let header = cells 20 bytes ++ drop 20 bytes in
     let same : field (with_field header 72 8 n) 72 8 ≡ n = omega (arith, fits) in
     reads-set bytes (with_field bytes 72 8 n) (λ h. record h { next_header = protocol_of n }) verified checked v r
-    (subst (λ (l : List ℕ). Sets l (with_field l 72 8 n) (λ h. record h { next_header = protocol_of n })) (sym (cells-drop 20 bytes r.lengths.least))
-    (record { long = refl; version = refl; header = refl; total = refl; values = ap (λ (m : ℕ). record (header_of header) { next_header = protocol_of m }) same }))
+    (rw (cells-drop 20 bytes r.lengths.least) (record { long = refl; version = refl; header = refl; total = refl; values = ap (λ (m : ℕ). record (header_of header) { next_header = protocol_of m }) same }))
 
 pub sets-src_addr : (bytes a : List ℕ) → 20 ≤ length bytes → length a ≡ 4 → Sets bytes (with_range bytes 12 16 a) (λ h. record h { src_addr = a })
 sets-src_addr bytes a room four =
-    subst (λ (m : List ℕ). Sets bytes (with_range bytes 12 16 m) (λ h. record h { src_addr = m })) (sym (cells-all 4 a four))
-    (subst (λ (l : List ℕ). Sets l (with_range l 12 16 (cells 4 a)) (λ h. record h { src_addr = cells 4 a })) (sym (cells-drop 20 bytes room))
-    (record { long = refl; version = refl; header = refl; total = refl; values = refl }))
+    rw (cells-all 4 a four, cells-drop 20 bytes room) (record { long = refl; version = refl; header = refl; total = refl; values = refl })
 
 pub reads-src_addr : (bytes a : List ℕ) (verified checked : Bool) (v : Ipv4Repr) → length a ≡ 4 → Reads bytes verified v
     → (IsTrue checked → HasChecksum (with_range bytes 12 16 a)) → Reads (with_range bytes 12 16 a) checked (record v { src_addr = a })
@@ -72,9 +66,7 @@ reads-src_addr bytes a verified checked v four r =
 
 pub sets-dst_addr : (bytes a : List ℕ) → 20 ≤ length bytes → length a ≡ 4 → Sets bytes (with_range bytes 16 20 a) (λ h. record h { dst_addr = a })
 sets-dst_addr bytes a room four =
-    subst (λ (m : List ℕ). Sets bytes (with_range bytes 16 20 m) (λ h. record h { dst_addr = m })) (sym (cells-all 4 a four))
-    (subst (λ (l : List ℕ). Sets l (with_range l 16 20 (cells 4 a)) (λ h. record h { dst_addr = cells 4 a })) (sym (cells-drop 20 bytes room))
-    (record { long = refl; version = refl; header = refl; total = refl; values = refl }))
+    rw (cells-all 4 a four, cells-drop 20 bytes room) (record { long = refl; version = refl; header = refl; total = refl; values = refl })
 
 pub reads-dst_addr : (bytes a : List ℕ) (verified checked : Bool) (v : Ipv4Repr) → length a ≡ 4 → Reads bytes verified v
     → (IsTrue checked → HasChecksum (with_range bytes 16 20 a)) → Reads (with_range bytes 16 20 a) checked (record v { dst_addr = a })
@@ -85,17 +77,15 @@ reads-dst_addr bytes a verified checked v four r =
 
 -- the checksum
 pub sets-checksum : (bytes : List ℕ) (x : ℕ) → 20 ≤ length bytes → Sets bytes (with_field bytes 80 16 x) (λ h. h)
-sets-checksum bytes x room =
-    subst (λ (l : List ℕ). Sets l (with_field l 80 16 x) (λ h. h)) (sym (cells-drop 20 bytes room)) (record { long = refl; version = refl; header = refl; total = refl; values = refl })
+sets-checksum bytes x room = grind arith
 
-pub reads-checksum : (bytes : List ℕ) (x : ℕ) (verified checked : Bool) (v : Ipv4Repr) → Reads bytes verified v
+pub reads_checksum : (bytes : List ℕ) (x : ℕ) (verified checked : Bool) (v : Ipv4Repr) → Reads bytes verified v
     → (IsTrue checked → HasChecksum (with_field bytes 80 16 x)) → Reads (with_field bytes 80 16 x) checked v
-reads-checksum bytes x verified checked v r = reads-set bytes (with_field bytes 80 16 x) (λ h. h) verified checked v r (sets-checksum bytes x r.lengths.least)
+reads_checksum bytes x verified checked v r = reads-set bytes (with_field bytes 80 16 x) (λ h. h) verified checked v r (sets-checksum bytes x r.lengths.least)
 
 -- the same of bytes in which it was written
 pub reads-summed : (bytes new : List ℕ) (x : ℕ) (verified checked : Bool) (v : Ipv4Repr) → new ≡ with_field bytes 80 16 x → Reads bytes verified v → (IsTrue checked → HasChecksum new) → Reads new checked v
-reads-summed bytes new x verified checked v is r valid =
-    subst (λ (l : List ℕ). Reads l checked v) (sym is) (reads-checksum bytes x verified checked v r (λ on. subst HasChecksum is (valid on)))
+reads-summed bytes new x verified checked v is r valid = grind arith
 
 -- a valid checksum may be verified
 pub reads-verified : (bytes : List ℕ) (verified checked : Bool) (v : Ipv4Repr) → Reads bytes verified v → (IsTrue checked → HasChecksum bytes) → Reads bytes checked v
@@ -109,7 +99,7 @@ sets-no_value bytes first width x are some place room =
     let early : 8 ≤ first = grind arith in
     let between : IsApart first width 16 16 = grind arith in
     let other : (at size : ℕ) → 0 < size → IsApart first width at size → field (with_field bytes first width x) at size ≡ field bytes at size = λ at size some_size.
-    field-with_field_other bytes first width x at size are some some_size (omega (arith, inside, room)) in
+    field_with_field_other bytes first width x at size are some some_size (omega (arith, inside, room)) in
     let header = other 4 4 (omega arith) (inl (omega (arith, early))) in
     let total = other 16 16 (omega arith) between in
     let protocol = other 72 8 (omega arith) (inr (omega (arith, inside))) in
@@ -117,7 +107,7 @@ sets-no_value bytes first width x are some place room =
     let src = drop-with_field bytes first width x 12 some (omega (arith, inside)) (omega (arith, room)) in
     let dst = drop-with_field bytes first width x 16 some (omega (arith, inside)) (omega (arith, room)) in
     record {
-      long = length-with_field bytes first width x some (omega (arith, inside, room));
+      long = length_with_field bytes first width x some (omega (arith, inside, room));
       version = other 0 4 (omega arith) (inl (omega (arith, early)));
       header = ap (λ (n : ℕ). 4 * n) header;
       total = total;

@@ -27,8 +27,7 @@ is_read-Reads verified bytes h = record {
 }
 
 Reads-is_read : (verified : Bool) (bytes : List ℕ) (v : Ipv4Repr) → Reads bytes verified v → is_read verified bytes ≡ true
-Reads-is_read true bytes v r = let sound = r.checksum refl in grind (arith, nat_tests)
-Reads-is_read false bytes v r = grind (arith, nat_tests)
+Reads-is_read verified bytes v r = grind arith
 
 -- `ipv4_of` computes the value that `Reads` describes
 pub ipv4_of-Reads : (verified : Bool) (bytes : List ℕ) (v : Ipv4Repr) → (ipv4_of verified bytes ≡ Some v) ↔ Reads bytes verified v
@@ -51,9 +50,9 @@ unfolding packet_text
 packet_text-None bytes e = rw e refl
 
 -- the fields' text from their getters' answers
-pub header_fields_text-values : (bytes src dst : List ℕ) (proto : IpProtocol) (hop offset ident : ℕ) (dont more : Bool)
+pub header_fields_text_values : (bytes src dst : List ℕ) (proto : IpProtocol) (hop offset ident : ℕ) (dont more : Bool)
     → src ≡ slice_range bytes 12 16 → dst ≡ slice_range bytes 16 20 → proto ≡ protocol_of (field bytes 72 8) → hop ≡ field bytes 64 8
     → dont ≡ (field bytes 49 1 == 1) → more ≡ (field bytes 50 1 == 1) → offset ≡ fragment_offset bytes → ident ≡ field bytes 32 16
     → header_fields_text bytes ≡ addresses_text src dst proto hop ++ lengths_text bytes ++ fragments_text dont more offset ident
 unfolding header_fields_text
-header_fields_text-values bytes src dst proto hop offset ident dont more s d p h df mf o i = rw (s, d, p, h, df, mf, o, i) refl
+header_fields_text_values bytes src dst proto hop offset ident dont more s d p h df mf o i = rw (s, d, p, h, df, mf, o, i) refl

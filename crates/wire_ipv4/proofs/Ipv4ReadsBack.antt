@@ -51,8 +51,8 @@ reads-header_with v rest checksum verified h room sound =
     }
 
 -- a header that was emitted is read as the canonical form of its value
-pub reads-bytes_of : (v : Ipv4Repr) (rest : List ℕ) (computed verified : Bool) → IsInRange v → v.payload_len ≤ length rest
+pub reads_bytes_of : (v : Ipv4Repr) (rest : List ℕ) (computed verified : Bool) → IsInRange v → v.payload_len ≤ length rest
     → (IsTrue verified → IsTrue computed) → Reads (bytes_of v computed ++ rest) verified (normal v)
-reads-bytes_of v rest true verified h room sound =
+reads_bytes_of v rest true verified h room sound =
     reads-header_with v rest (65535 - sum_of_bytes (header_with v 0)) verified h room (λ on. header_verifies v h.src_addr h.dst_addr)
-reads-bytes_of v rest false verified h room sound = reads-header_with v rest 0 verified h room (λ on. let no : IsTrue false = sound on in cc)
+reads_bytes_of v rest false verified h room sound = reads-header_with v rest 0 verified h room (λ on. let no : IsTrue false = sound on in cc)

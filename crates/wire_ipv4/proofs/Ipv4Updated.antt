@@ -3,7 +3,7 @@ use Rattle.std.proofs.Common.{ℕ, suc, inl, [], ◌≡◌, ◌≤◌, ◌<◌, 
 use Rattle.wire_field.specs.Field.{field, with_field, with_part, with_range, word_at}
 use Rattle.wire_field.proofs.ByteLists.{AreBytes-append, AreBytes-drop, AreBytes-take}
 use Rattle.wire_field.proofs.Spelled.{AreBytes}
-use Rattle.wire_field.proofs.Written.{AreBytes-with_field, field-with_field_same, length-with_field}
+use Rattle.wire_field.proofs.Written.{AreBytes-with_field, field_with_field_same, length_with_field}
 use Rattle.wire_checksum.proofs.Parts.{sum-take-positive, sum-take-with_byte, sum-take-with_field, sum-take-with_range}
 use Rattle.wire_checksum.proofs.Residues.{residue-complement}
 use Rattle.wire_checksum.proofs.WordLists.{sum-words-cons}
@@ -11,7 +11,7 @@ use Rattle.wire_checksum.proofs.Updated.{updated-small}
 use Rattle.wire_checksum.proofs.UpdatedBytes.{updated-front}
 use Rattle.wire_checksum.specs.WordSum.{residue, sum_of_bytes, words}
 use Rattle.wire_ipv4.specs.Ipv4.{HasChecksum, Reads, header_len, with_checksum, with_updated_checksum}
-use Rattle.wire_ipv4.proofs.Ipv4Changed.{Sets, reads-checksum, sets-checksum, sets-dst_addr, sets-hop_limit, sets-no_value, sets-src_addr}
+use Rattle.wire_ipv4.proofs.Ipv4Changed.{Sets, reads_checksum, sets-checksum, sets-dst_addr, sets-hop_limit, sets-no_value, sets-src_addr}
 use Rattle.wire_ipv4.specs.declared.ipv4.repr.Ipv4Repr.{Ipv4Repr}
 
 -- a valid checksum of a whole header stays valid if it is updated with the change of the sum, which is not 0: the header's length is in it
@@ -91,11 +91,11 @@ pub valid-filled : (bytes : List ℕ) → AreBytes bytes → 20 ≤ length bytes
 valid-filled bytes are least header room =
     let n = header_len bytes in
     let zeroed = with_field bytes 80 16 0 in
-    let long = length-with_field bytes 80 16 0 (omega arith) (omega (arith, least)) in
+    let long = length_with_field bytes 80 16 0 (omega arith) (omega (arith, least)) in
     let total = sum (words (take n zeroed)) in
     let x = 65535 - residue total in
     let same : header_len (with_checksum bytes) ≡ n = (sets-checksum zeroed x (omega (arith, long, least))).header ∙ (sets-checksum bytes 0 least).header in
-    let none = field-with_field_same bytes 80 16 0 are (omega arith) (omega (arith, least)) in
+    let none = field_with_field_same bytes 80 16 0 are (omega arith) (omega (arith, least)) in
     let more = sum-take-with_field zeroed n 5 x (AreBytes-with_field bytes 80 16 0 are (omega arith) (omega (arith, least))) (omega (arith, header)) (omega (arith, long, room)) (omega arith) in
     let is : sum (words (take n (with_checksum bytes))) ≡ total + x = omega (arith, more, none) in
     ap (λ (m : ℕ). sum_of_bytes (take m (with_checksum bytes))) same ∙ ap residue is ∙ residue-complement total
@@ -103,5 +103,5 @@ valid-filled bytes are least header room =
 -- a header with a computed checksum is read as its values
 pub reads-filled : (bytes : List ℕ) (verified checked : Bool) (v : Ipv4Repr) → AreBytes bytes → Reads bytes verified v → Reads (with_checksum bytes) checked v
 reads-filled bytes verified checked v are r =
-    reads-checksum (with_field bytes 80 16 0) _ false checked v (reads-checksum bytes 0 verified false v r (λ no. cc))
+    reads_checksum (with_field bytes 80 16 0) _ false checked v (reads_checksum bytes 0 verified false v r (λ no. cc))
     (λ on. valid-filled bytes are r.lengths.least (omega (arith, r.lengths.header)) (omega (arith, r.lengths.within, r.lengths.whole)))

@@ -1,10 +1,10 @@
 -- A header in which one field changed.
-use Rattle.std.proofs.Common.{ℕ, ◌≡◌, inr, inl, ◌≤◌, ◌<◌, ◌+◌, List, ◌++◌, drop, length, refl, sym, subst, ap, ◌∙◌, arith}
+use Rattle.std.proofs.Common.{ℕ, ◌≡◌, inr, inl, ◌≤◌, ◌<◌, ◌+◌, List, ◌++◌, drop, length, refl, sym, ap, ◌∙◌, arith}
 use Rattle.wire_field.specs.Field.{field, with_field, with_range}
 use Rattle.wire_field.proofs.Behind.{drop-with_field}
 use Rattle.wire_field.proofs.Cells.{cells, cells-all, cells-drop}
 use Rattle.wire_field.proofs.Spelled.{AreBytes}
-use Rattle.wire_field.proofs.Written.{field-with_field_other, length-with_field}
+use Rattle.wire_field.proofs.Written.{field_with_field_other, length_with_field}
 use Rattle.wire_ends.specs.Protocol.{protocol_of}
 use Rattle.wire_ipv6.proofs.Ipv6Computed.{Reads-is}
 use Rattle.wire_ipv6.specs.Ipv6.{Reads, header_of}
@@ -41,7 +41,7 @@ payload_room bytes v r = omega (arith, r.lengths, r.payload_len)
 pub reads-hop_limit : (bytes : List ℕ) (n : ℕ) (v : Ipv6Repr) → n < 256 → Reads bytes v → Reads (with_field bytes 56 8 n) (record v { hop_limit = n })
 reads-hop_limit bytes n v fits r =
     reads-set bytes (with_field bytes 56 8 n) (λ h. record h { hop_limit = n }) v r
-    (subst (λ (l : List ℕ). Sets l (with_field l 56 8 n) (λ h. record h { hop_limit = n })) (sym (cells-drop 40 bytes (header_room bytes v r))) (record { long = refl; version = refl; values = grind arith }))
+    (rw (cells-drop 40 bytes (header_room bytes v r)) (record { long = refl; version = refl; values = grind arith }))
     (payload_room bytes v r)
 
 pub reads-next_header : (bytes : List ℕ) (n : ℕ) (v : Ipv6Repr) → n < 256 → Reads bytes v → Reads (with_field bytes 48 8 n) (record v { next_header = protocol_of n })
@@ -49,29 +49,26 @@ reads-next_header bytes n v fits r =
     let header = cells 40 bytes ++ drop 40 bytes in
     let same : field (with_field header 48 8 n) 48 8 ≡ n = omega (arith, fits) in
     reads-set bytes (with_field bytes 48 8 n) (λ h. record h { next_header = protocol_of n }) v r
-    (subst (λ (l : List ℕ). Sets l (with_field l 48 8 n) (λ h. record h { next_header = protocol_of n })) (sym (cells-drop 40 bytes (header_room bytes v r)))
-    (record { long = refl; version = refl; values = ap (λ (m : ℕ). record (header_of header) { next_header = protocol_of m }) same }))
+    (rw (cells-drop 40 bytes (header_room bytes v r)) (record { long = refl; version = refl; values = ap (λ (m : ℕ). record (header_of header) { next_header = protocol_of m }) same }))
     (payload_room bytes v r)
 
 -- if the bytes hold that payload
 pub reads-payload_len : (bytes : List ℕ) (n : ℕ) (v : Ipv6Repr) → n < 65536 → 40 + n ≤ length bytes → Reads bytes v → Reads (with_field bytes 32 16 n) (record v { payload_len = n })
 reads-payload_len bytes n v small fits r =
     reads-set bytes (with_field bytes 32 16 n) (λ h. record h { payload_len = n }) v r
-    (subst (λ (l : List ℕ). Sets l (with_field l 32 16 n) (λ h. record h { payload_len = n })) (sym (cells-drop 40 bytes (header_room bytes v r))) (record { long = refl; version = refl; values = grind arith }))
+    (rw (cells-drop 40 bytes (header_room bytes v r)) (record { long = refl; version = refl; values = grind arith }))
     fits
 
 pub reads-src_addr : (bytes a : List ℕ) (v : Ipv6Repr) → length a ≡ 16 → Reads bytes v → Reads (with_range bytes 8 24 a) (record v { src_addr = a })
 reads-src_addr bytes a v sixteen r =
     reads-set bytes (with_range bytes 8 24 a) (λ h. record h { src_addr = a }) v r
-    (subst (λ (m : List ℕ). Sets bytes (with_range bytes 8 24 m) (λ h. record h { src_addr = m })) (sym (cells-all 16 a sixteen))
-    (subst (λ (l : List ℕ). Sets l (with_range l 8 24 (cells 16 a)) (λ h. record h { src_addr = cells 16 a })) (sym (cells-drop 40 bytes (header_room bytes v r))) (record { long = refl; version = refl; values = refl })))
+    (rw (cells-all 16 a sixteen, cells-drop 40 bytes (header_room bytes v r)) (record { long = refl; version = refl; values = refl }))
     (payload_room bytes v r)
 
 pub reads-dst_addr : (bytes a : List ℕ) (v : Ipv6Repr) → length a ≡ 16 → Reads bytes v → Reads (with_range bytes 24 40 a) (record v { dst_addr = a })
 reads-dst_addr bytes a v sixteen r =
     reads-set bytes (with_range bytes 24 40 a) (λ h. record h { dst_addr = a }) v r
-    (subst (λ (m : List ℕ). Sets bytes (with_range bytes 24 40 m) (λ h. record h { dst_addr = m })) (sym (cells-all 16 a sixteen))
-    (subst (λ (l : List ℕ). Sets l (with_range l 24 40 (cells 16 a)) (λ h. record h { dst_addr = cells 16 a })) (sym (cells-drop 40 bytes (header_room bytes v r))) (record { long = refl; version = refl; values = refl })))
+    (rw (cells-all 16 a sixteen, cells-drop 40 bytes (header_room bytes v r)) (record { long = refl; version = refl; values = refl }))
     (payload_room bytes v r)
 
 -- the traffic class and the flow label are in no value
@@ -79,14 +76,14 @@ pub reads-unread : (bytes : List ℕ) (first width x : ℕ) (v : Ipv6Repr) → A
 reads-unread bytes first width x v are some low high r =
     let room = header_room bytes v r in
     let other : (at size : ℕ) → 0 < size → 32 ≤ at → field (with_field bytes first width x) at size ≡ field bytes at size = λ at size some_size late.
-    field-with_field_other bytes first width x at size are some some_size (omega (arith, high, room)) (inr (omega (arith, high, late))) in
+    field_with_field_other bytes first width x at size are some some_size (omega (arith, high, room)) (inr (omega (arith, high, late))) in
     let len = other 32 16 (omega arith) (omega arith) in
     let protocol = other 48 8 (omega arith) (omega arith) in
     let hops = other 56 8 (omega arith) (omega arith) in
     let src = drop-with_field bytes first width x 8 some (omega (arith, high)) (omega (arith, room)) in
     let dst = drop-with_field bytes first width x 24 some (omega (arith, high)) (omega (arith, room)) in
     reads-set bytes (with_field bytes first width x) (λ h. h) v r (record {
-      long = length-with_field bytes first width x some (omega (arith, high, room));
-      version = field-with_field_other bytes first width x 0 4 are some (omega arith) (omega (arith, high, room)) (inl low);
+      long = length_with_field bytes first width x some (omega (arith, high, room));
+      version = field_with_field_other bytes first width x 0 4 are some (omega arith) (omega (arith, high, room)) (inl low);
       values = rw (len, protocol, hops, src, dst) refl;
     }) (payload_room bytes v r)

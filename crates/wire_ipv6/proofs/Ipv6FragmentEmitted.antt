@@ -22,8 +22,8 @@ flag-set true = (λ on. refl, λ on. refl)
 flag-set false = (λ on. cc, λ on. cc)
 
 -- an emitted header parses as the normal form of its value
-pub reads-bytes_of : (v : Ipv6FragmentRepr) (rest : List ℕ) → v.ident < 2 ^ 32 → Reads (bytes_of v ++ rest) (normal v)
-reads-bytes_of v rest h =
+pub reads_bytes_of : (v : Ipv6FragmentRepr) (rest : List ℕ) → v.ident < 2 ^ 32 → Reads (bytes_of v ++ rest) (normal v)
+reads_bytes_of v rest h =
     let small = flag-small v.more_frags in
     let read : field (bytes_of v ++ rest) 15 1 ≡ flag v.more_frags = omega arith in
     record {

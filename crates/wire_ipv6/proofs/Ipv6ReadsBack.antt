@@ -8,8 +8,8 @@ use Rattle.wire_ipv6.specs.Ipv6.{HasLengths, Reads, bytes_of, normal}
 use Rattle.wire_ipv6.specs.declared.ipv6.repr.Ipv6Repr.{Ipv6Repr}
 
 -- an emitted header with a payload parses as the normal form of its value
-pub reads-bytes_of : (v : Ipv6Repr) (rest : List ℕ) → IsInRange v → v.payload_len ≤ length rest → Reads (bytes_of v ++ rest) (normal v)
-reads-bytes_of v rest h room =
+pub reads_bytes_of : (v : Ipv6Repr) (rest : List ℕ) → IsInRange v → v.payload_len ≤ length rest → Reads (bytes_of v ++ rest) (normal v)
+reads_bytes_of v rest h room =
     let payload_len : field (bytes_of v ++ rest) 32 16 ≡ v.payload_len = omega (arith, h.payload_len) in
     let named : number_of v.next_header ≡ field (bytes_of v ++ rest) 48 8 = omega (arith, h.next_header) in
     let whole : HasLengths (bytes_of v ++ rest) = rw (cells-all 16 v.src_addr h.src_addr, cells-all 16 v.dst_addr h.dst_addr) (omega arith) in

@@ -82,10 +82,10 @@ decided false true f g = g refl
 decided false false f g = refl
 
 -- the computed value is the one that the relation `Reads` defines
-pub ndisc_of-Reads : (src dst : List ℕ) (hop_limit : ℕ) (verified : Bool) (bytes : List ℕ) (v : NdiscRepr)
+pub ndisc_of_Reads : (src dst : List ℕ) (hop_limit : ℕ) (verified : Bool) (bytes : List ℕ) (v : NdiscRepr)
     → (ndisc_of src dst hop_limit verified bytes ≡ Some v) ↔ Reads bytes src dst hop_limit verified v
 unfolding ndisc_of
-ndisc_of-Reads src dst hop_limit verified bytes v = (to, from)
+ndisc_of_Reads src dst hop_limit verified bytes v = (to, from)
   where
     by_test : Sound src dst hop_limit verified bytes → (w : NdiscRepr) → Fields bytes w → (b : Bool) → is_allowed w src dst ≡ b
         → if b then Some w else None ≡ Some v → Reads bytes src dst hop_limit verified v
@@ -129,10 +129,10 @@ ndisc_of-Reads src dst hop_limit verified bytes v = (to, from)
 pub answer-Reads : (src dst : List ℕ) (hop_limit : ℕ) (verified : Bool) (bytes : List ℕ) (answer : Result NdiscRepr Error)
     → ndisc_of src dst hop_limit verified bytes ≡ result_ok answer → (v : NdiscRepr) → (answer ≡ Ok v) ↔ Reads bytes src dst hop_limit verified v
 answer-Reads src dst hop_limit verified bytes (Ok w) is v =
-    let same = ndisc_of-Reads src dst hop_limit verified bytes v in
+    let same = ndisc_of_Reads src dst hop_limit verified bytes v in
     (λ e. same.0 (is ∙ ap result_ok e), λ r. ap Ok (same_Some w v (sym is ∙ same.1 r)))
 answer-Reads src dst hop_limit verified bytes (Err w) is v =
-    let same = ndisc_of-Reads src dst hop_limit verified bytes v in
+    let same = ndisc_of_Reads src dst hop_limit verified bytes v in
     (λ e. absurd (cc), λ r. let no : None ≡ Some v = sym is ∙ same.1 r in absurd (cc))
 
 pub ndisc_of-unsound : (src dst : List ℕ) (hop_limit : ℕ) (verified : Bool) (bytes : List ℕ) → is_sound (address.Ipv6 src) (address.Ipv6 dst) hop_limit verified bytes ≡ false

@@ -13,6 +13,7 @@ use Rattle.wire_checksum.specs.WordSum.{residue, words}
 use Rattle.wire_ends.specs.declared.ip_address.IpAddress.TheVariants as address
 use Rattle.wire_ends.specs.declared.ip_protocol.IpProtocol.TheVariants as protocol
 use Rattle.wire_field.specs.Field.{field}
+use Rattle.wire_icmp.proofs.IcmpReadsBack.{sum-words-header}
 use Rattle.wire_icmp.specs.Icmp.{Verifies, emitted, header_bytes, message_with}
 use Rattle.wire_icmp.specs.declared.icmp.header.IcmpHeader.{IcmpHeader}
 use Rattle.wire_ndisc.specs.NdOption.{AreOptions, HasLladdr, IsLladdr, first_of}
@@ -29,10 +30,6 @@ pub record IsInRange (v : NdiscRepr) (src dst : List ℕ) : Type 0 where
   pub lladdr : (address : EthernetAddress) → address_in v ≡ Some address → length address.0 ≡ 6
 
 -- ---- the checksum
-
-sum-words-header : (h : IcmpHeader) (checksum : ℕ) → checksum < 65536 → sum (words (header_bytes h checksum)) ≡ sum (words (header_bytes h 0)) + checksum
-unfolding words
-sum-words-header h checksum fits = omega arith
 
 sum-words-checksum : (h : IcmpHeader) (src dst payload : List ℕ) (checksum : ℕ) → length src ≡ 16 → length dst ≡ 16 → checksum < 65536
     → sum (words (with_pseudo_header (address.Ipv6 src) (address.Ipv6 dst) protocol.Icmpv6 (message_with h payload checksum)))
@@ -116,9 +113,9 @@ reads-message v src dst checksum verified fits allowed sound =
       allowed = allowed;
     }
 
-pub reads-bytes_of : (v : NdiscRepr) (src dst : List ℕ) (computed verified : Bool) → IsInRange v src dst → IsAllowed v src dst → (IsTrue verified → IsTrue computed)
+pub reads_bytes_of : (v : NdiscRepr) (src dst : List ℕ) (computed verified : Bool) → IsInRange v src dst → IsAllowed v src dst → (IsTrue verified → IsTrue computed)
     → Reads (bytes_of v src dst computed) src dst 255 verified v
-reads-bytes_of v src dst computed verified fits allowed sound =
+reads_bytes_of v src dst computed verified fits allowed sound =
     reads-message v src dst _ verified fits allowed (verified-verifies v src dst computed verified fits.src_octets fits.dst_octets sound)
 
 -- ---- lengths
@@ -151,9 +148,9 @@ option-shorter type bytes (Some address) has = by (first_of type has.0) has.2 re
         let within = first_of-length type options option e in
         rw (octets, are.joined) (omega (arith, eight, within, length-drop 2 option))
 
-pub bytes_of-shorter : (v : NdiscRepr) (bytes src dst : List ℕ) (hop_limit : ℕ) (verified computed : Bool) → Reads bytes src dst hop_limit verified v
+pub bytes_of_shorter : (v : NdiscRepr) (bytes src dst : List ℕ) (hop_limit : ℕ) (verified computed : Bool) → Reads bytes src dst hop_limit verified v
     → length (bytes_of v src dst computed) ≤ length bytes
-bytes_of-shorter v bytes src dst hop_limit verified computed r =
+bytes_of_shorter v bytes src dst hop_limit verified computed r =
     let option = option_bytes (option_type v) (address_in v) in
     let within = option-shorter (option_type v) (drop 24 bytes) (address_in v) r.lladdr in
     let sixteen : length (target_of v) ≤ 16 = rw r.target (omega (arith, length-take 16 (drop 8 bytes))) in

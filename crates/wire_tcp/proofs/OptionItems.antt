@@ -1,5 +1,5 @@
 -- The computed items of options are those of their option list.
-use Rattle.std.proofs.Common.{ℕ, zero, suc, ◌≡◌, ◌≢◌, ◌↔◌, ◌<◌, ◌≤◌, ◌==◌, List, [], ◌∷◌, ◌++◌, length, Option, Some, None, refl, sym, ap, subst, ◌∙◌, append_assoc, arith}
+use Rattle.std.proofs.Common.{ℕ, zero, suc, ◌≡◌, ◌≢◌, ◌↔◌, ◌<◌, ◌≤◌, ◌==◌, List, [], ◌∷◌, ◌++◌, length, Option, Some, refl, sym, ap, subst, ◌∙◌, append_assoc, arith}
 use Rattle.std.specs.List.{AllByRecursion}
 use Rattle.std.specs.Option.{option_and_then, option_map}
 use Rattle.std.proofs.lemmas.Bool.{eqb-true, false_from_ne_true}
@@ -7,6 +7,9 @@ use Rattle.wire_tcp_parts.specs.TcpItems.{IsItem, IsOptionList, IsTail, Item, fi
 use Rattle.wire_tcp_parts.proofs.FirstItems.{Leads, Leads-first_item, first_item-Leads}
 use Rattle.wire_tcp_parts.proofs.OptionLists.{shorter, text_head}
 use Rattle.wire_tcp.specs.TcpRepr.{items_in, items_within}
+use Rattle.wire_field.proofs.Readings.{option_map-Some}
+use Rattle.std.proofs.lemmas.Grind.{common_steps}
+use Rattle.std.proofs.lemmas.Bool.Decides.{nat_tests}
 
 -- an item, followed by the computed items of the rest
 abbrev then_more : ℕ → Item × List ℕ → Option (List Item)
@@ -14,8 +17,7 @@ then_more n d = option_map (λ items. d.0 ∷ items) (items_within n d.1)
 
 at_none : (n : ℕ) → items_within n [] ≡ Some []
 unfolding items_within
-at_none zero = refl
-at_none (suc n) = refl
+at_none n = grind arith
 
 at_mark : (n : ℕ) (rest : List ℕ) → items_within (suc n) (0 ∷ rest) ≡ Some []
 unfolding items_within
@@ -31,32 +33,15 @@ Listed bytes items = (tail : List ℕ) × IsOptionList bytes items tail
 
 -- a list with one more item in front
 more : (bytes : List ℕ) (i : Item) (rest : List ℕ) (items : List Item) → Leads bytes i rest → Listed rest items → Listed bytes (i ∷ items)
-more bytes i rest items lead (tail, l) = (
-  tail,
-  record {
-    each = (lead.is, l.each);
-    joined = lead.joined ∙ ap (λ (r : List ℕ). text i ++ r) l.joined ∙ sym (append_assoc (text i) (texts items) tail);
-    ended = l.ended;
-  },
-)
-
--- a mapped option that has a value has it of one
-pub mapped : {V W : Type 0} (f : V → W) (o : Option V) (w : W) → option_map f o ≡ Some w → (v : V) × (o ≡ Some v) × (f v ≡ w)
-mapped f None w e = absurd (cc)
-mapped f (Some v) w e = (v, refl, cc)
+more bytes i rest items lead h = grind (arith, common_steps, nat_tests, append_assoc)
 
 -- the computed list with an item in front
 after : (n : ℕ) (o : Option (Item × List ℕ)) (items : List Item) → option_and_then (then_more n) o ≡ Some items
     → (d : Item × List ℕ) × (xs : List Item) × (o ≡ Some d) × (items_within n d.1 ≡ Some xs) × (d.0 ∷ xs ≡ items)
-after n None items e = absurd (cc)
-after n (Some d) items e =
-    let (xs, is, joined) = mapped (λ items. d.0 ∷ items) (items_within n d.1) items e in
-    (d, xs, refl, is, joined)
+after n o items e = grind (arith, common_steps, nat_tests, option_map-Some)
 
 nothing : (bytes : List ℕ) (items : List Item) → IsTail bytes → Some [] ≡ Some items → Listed bytes items
-nothing bytes items ends e =
-    let none : [] ≡ items = cc in
-    subst (Listed bytes) none (bytes, record { each = tt; joined = refl; ended = ends })
+nothing bytes items ends e = grind arith
 
 none_left : (kind : ℕ) (rest : List ℕ) (items : List Item) → items_within 0 (kind ∷ rest) ≡ Some items → ⊥
 unfolding items_within
@@ -98,10 +83,4 @@ computed (i ∷ items) tail n all ended room =
 
 -- the computed items are those of the bytes' option list, if they have one
 pub items_in-list : (bytes : List ℕ) (items : List Item) → (items_in bytes ≡ Some items) ↔ ((tail : List ℕ) × IsOptionList bytes items tail)
-items_in-list bytes items = (
-  listed (length bytes) bytes items,
-  λ l.
-      let (tail, is) = l in
-      let e = is.joined in
-      ap (λ (n : ℕ). items_within n bytes) (ap length e) ∙ ap (items_within (length (texts items ++ tail))) e ∙ computed items tail (length (texts items ++ tail)) is.each is.ended (omega arith),
-)
+items_in-list bytes items = grind (arith, common_steps, nat_tests, listed, computed)

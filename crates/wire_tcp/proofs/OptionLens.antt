@@ -1,5 +1,5 @@
 -- An emitted header is never longer than a header that parses as the same value.
-use Rattle.std.proofs.Common.{◌≡◌, ℕ, zero, suc, ◌+◌, ◌-◌, ◌*◌, ◌%◌, ◌≤◌, inl, inr, Bool, true, false, cond, ltb, List, [], ◌∷◌, length, map, drop, count_by, min, Option, Some, None, is_some, arith, refl, ap, ◌∙◌, length-append, length-drop}
+use Rattle.std.proofs.Common.{◌≡◌, ℕ, zero, suc, ◌+◌, ◌-◌, ◌*◌, ◌%◌, ◌≤◌, inl, inr, Bool, cond, ltb, List, [], ◌∷◌, length, map, drop, count_by, Option, Some, None, is_some, arith, ap, length-append, length-drop}
 use Rattle.std.specs.Option.{option_or, option_map, option_map_or}
 use Rattle.std.specs.List.{AllByRecursion, range_with_len}
 use Rattle.std.proofs.lemmas.Bool.{cases_Bool, ltb-true, ltb-false}
@@ -11,9 +11,9 @@ use Rattle.byteorder.specs.Endian.{big_number}
 use Rattle.wire_ends.specs.declared.ip_address.IpAddress.{IpAddress}
 use Rattle.wire_tcp.specs.Tcp.{header_len, options_of, payload_of}
 use Rattle.wire_tcp_parts.specs.TcpItems.{Item, IsItem, text, texts, block_at, first_blocks, last_of, is_of, is_timestamp, segment_size_of, window_scale_of, sack_permitted_of, sack_ranges_of, timestamp_of}
-use Rattle.wire_tcp_parts.specs.declared.tcp.TheConstants.{SACK_BLOCKS}
 use Rattle.wire_tcp.proofs.TcpComputed.{tcp_of-Reads}
-use Rattle.wire_tcp.specs.TcpRepr.{Reads, ReadsOptions, TcpHeader, stamp_of, sack_len, len_if, header_len_of, tcp_of}
+use Rattle.wire_tcp.specs.TcpRepr.{Reads, ReadsOptions, TcpHeader, sack_len, len_if, header_len_of, tcp_of}
+use Rattle.std.proofs.lemmas.Grind.{common_steps}
 
 -- the option length of one field is at most that of the later items and of this item
 field_step : {X : Type 0} (f : Item → X) (w : ℕ) (o : Option Item) (b : Bool) (i : Item) → len_if (is_some (option_map f (option_or o (cond b (Some i) None)))) w ≤ len_if (is_some (option_map f o)) w + len_if b w
@@ -27,9 +27,7 @@ kept ranges = sack_len (count_by is_some ranges)
 
 ranges_step : (o : Option Item) (b : Bool) (i : Item)
     → kept (first_blocks (option_map_or (λ i. i.content) (option_or o (cond b (Some i) None)) [])) ≤ kept (first_blocks (option_map_or (λ i. i.content) o [])) + len_if b (kept (first_blocks i.content))
-ranges_step (Some x) b i = omega arith
-ranges_step None true i = omega arith
-ranges_step None false i = omega arith
+ranges_step o b i = grind arith
 
 -- a block, if there is one
 abbrev block_if : List ℕ → ℕ → Bool → Option (ℕ × ℕ)
@@ -54,15 +52,11 @@ pub sack_len-suc : (k : ℕ) → sack_len (suc k) ≡ 2 + 8 * suc k
 sack_len-suc k = ap (λ b. cond b 0 (2 + 8 * suc k)) (eqb-suc-zero k)
 
 sack_len-le : (k n : ℕ) → k ≤ n → sack_len k ≤ 2 + 8 * n
-sack_len-le zero n h = omega arith
-sack_len-le (suc k) n h = let e = sack_len-suc k in omega (arith, e)
+sack_len-le k n h = grind arith
 
 -- whole blocks of data are at least as long as the ranges kept from them
 pub kept-le : (content : List ℕ) (n : ℕ) → length content ≡ 8 * n → kept (first_blocks content) ≤ 2 + length content
-kept-le content n whole =
-    let most = blocks_from content n whole SACK_BLOCKS 0 in
-    let l = sack_len-le (count_by is_some (first_blocks content)) n (omega (arith, most)) in
-    omega (arith, l, whole)
+kept-le content n whole = grind (arith, common_steps, nat_tests, blocks_from, sack_len-le)
 
 -- the option lengths that the items need
 abbrev pub asked : List Item → ℕ
@@ -99,21 +93,11 @@ asked-le (i ∷ items) all =
 
 -- a mapped option is `Some` exactly if the option is
 pub some_map : {X Y : Type 0} (f : X → Y) (o : Option X) → is_some (option_map f o) ≡ is_some o
-some_map f None = refl
-some_map f (Some x) = refl
+some_map f o = grind arith
 
 -- a header that parses as a value is never shorter than the emitted header of the value
 pub shortest : (bytes : List ℕ) (v : TcpHeader) → ReadsOptions bytes v → length bytes % 4 ≡ 0 → header_len_of v ≤ 20 + length bytes
-shortest bytes v r words =
-    let items = r.items in
-    let least = asked-le items r.list.each in
-    let e₁ = ap (λ o. len_if (is_some o) 4) r.max_seg_size in
-    let e₂ = ap (λ o. len_if (is_some o) 3) r.window_scale ∙ ap (λ b. len_if b 3) (some_map (min 14) (window_scale_of items)) in
-    let e₃ = ap (λ b. len_if b 2) r.sack_permitted in
-    let e₄ = ap kept r.sack_ranges in
-    let e₅ = ap (λ o. len_if (is_some o) 10) r.timestamp ∙ ap (λ b. len_if b 10) (some_map stamp_of (timestamp_of items)) in
-    let long = ap length r.list.joined in
-    omega (arith, least, e₁, e₂, e₃, e₄, e₅, long, length-append (texts items) r.tail)
+shortest bytes v r words = grind (arith, common_steps, nat_tests, asked-le, some_map, length-append)
 
 -- the same for a segment
 pub header_len-read : (src dst : IpAddress) (verified : Bool) (bytes payload : List ℕ) (v : TcpHeader) → Reads bytes src dst verified v payload → header_len_of v ≤ header_len bytes

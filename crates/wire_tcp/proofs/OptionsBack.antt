@@ -1,5 +1,5 @@
 -- Emitted options parse as those of the normal form.
-use Rattle.std.proofs.Common.{◌≡◌, ℕ, zero, suc, ◌+◌, ◌-◌, ◌*◌, ◌^◌, ◌<◌, ◌≤◌, Bool, true, false, cond, eqb, ltb, ◌||◌, List, [], ◌∷◌, ◌++◌, length, map, drop, get_or, count_by, replicate, Option, Some, None, is_some, is_none, arith, refl, sym, ap, ◌∙◌, min, subst, IfSome, length-append}
+use Rattle.std.proofs.Common.{◌≡◌, ℕ, zero, suc, ◌+◌, ◌-◌, ◌*◌, ◌^◌, ◌<◌, ◌≤◌, Bool, true, false, cond, eqb, ltb, ◌||◌, List, [], ◌∷◌, ◌++◌, length, map, drop, get_or, count_by, replicate, Option, Some, None, is_some, is_none, arith, refl, sym, ap, ◌∙◌, min, IfSome, length-append}
 use Rattle.std.specs.Option.{option_or, option_map, option_map_or}
 use Rattle.std.specs.List.{AllByRecursion, flat_map, filter_map}
 use Rattle.std.proofs.lemmas.Bool.{eqb-true, false_from_ne_true, lt-ltb, ltb-true}
@@ -17,6 +17,7 @@ use Rattle.wire_tcp_parts.proofs.Ranges.{length-range_bytes}
 use Rattle.wire_tcp_parts.specs.declared.tcp.TheConstants.{SACK_BLOCKS}
 use Rattle.wire_tcp_parts.specs.declared.tcp.timestamp.TcpTimestampRepr.{TcpTimestampRepr}
 use Rattle.wire_tcp.specs.TcpRepr.{IsInRange, ReadsOptions, TcpHeader, closed, items_of, no_ranges, normal, option_bytes, sack_items, segment_size_items, stamp_of, timestamp_items, window_scale_items}
+use Rattle.std.proofs.lemmas.Grind.{common_steps}
 
 or_assoc : (a b c : Option Item) → option_or (option_or a b) c ≡ option_or a (option_or b c)
 or_assoc a b c = grind arith
@@ -37,24 +38,19 @@ in_back : (p : Item → Bool) (xs ys : List Item) → last_of p xs ≡ None → 
 in_back p xs ys none = last_of-append p xs ys ∙ ap (option_or (last_of p ys)) none ∙ or_none (last_of p ys)
 
 no_segment : (p : Item → Bool) → ((c : List ℕ) → p (item 2 c) ≡ false) → (o : Option ℕ) → last_of p (segment_size_items o) ≡ None
-no_segment p h None = refl
-no_segment p h (Some s) = ap (λ b. cond b (Some (item 2 (big_bytes 2 s))) None) (h _)
+no_segment p h o = grind arith
 
 no_scale : (p : Item → Bool) → ((c : List ℕ) → p (item 3 c) ≡ false) → (o : Option ℕ) → last_of p (window_scale_items o) ≡ None
-no_scale p h None = refl
-no_scale p h (Some s) = ap (λ b. cond b (Some (item 3 (s ∷ []))) None) (h _)
+no_scale p h o = grind arith
 
 no_stamp : (p : Item → Bool) → ((c : List ℕ) → p (item 8 c) ≡ false) → (o : Option TcpTimestampRepr) → last_of p (timestamp_items o) ≡ None
-no_stamp p h None = refl
-no_stamp p h (Some t) = ap (λ b. cond b (Some (item 8 (big_bytes 4 t.tsval ++ big_bytes 4 t.tsecr))) None) (h _)
+no_stamp p h o = grind arith
 
 abbrev sack_list : Bool → Bool → List ℕ → List Item
 sack_list permitted none bytes = cond permitted (item 4 [] ∷ []) (cond none [] (item 5 bytes ∷ []))
 
 no_sack : (p : Item → Bool) → ((c : List ℕ) → p (item 4 c) ≡ false) → ((c : List ℕ) → p (item 5 c) ≡ false) → (s n : Bool) (bytes : List ℕ) → last_of p (sack_list s n bytes) ≡ None
-no_sack p g h true n bytes = ap (λ b. cond b (Some (item 4 [])) None) (g _)
-no_sack p g h false true bytes = refl
-no_sack p g h false false bytes = ap (λ b. cond b (Some (item 5 bytes)) None) (h _)
+no_sack p g h s n bytes = grind arith
 
 -- the big-endian bytes of a number parse as the number
 number_back_2 : (x : ℕ) (rest : List ℕ) → x < 2 ^ 16 → big_number 2 (big_bytes 2 x ++ rest) ≡ x
@@ -64,29 +60,19 @@ number_back_4 : (x : ℕ) (rest : List ℕ) → x < 2 ^ 32 → big_number 4 (big
 number_back_4 x rest h = let e = from_be_bytes-to_be_bytes_4 x h in omega (arith, e)
 
 size_back : (o : Option ℕ) → IfSome o (λ n. n < 2 ^ 16) → o ≡ option_map (λ i. big_number 2 i.content) (last_of (is_of 2) (segment_size_items o))
-size_back None fits = refl
-size_back (Some n) fits = ap Some (sym (number_back_2 n [] fits))
+size_back o fits = grind arith
 
 scale_back : (o : Option ℕ) → o ≡ option_map (λ i. big_number 1 i.content) (last_of (is_of 3) (window_scale_items o))
-scale_back None = refl
-scale_back (Some n) = ap Some (omega arith)
+scale_back o = grind arith
 
 abbrev stamp_in : Item → ℕ × ℕ
 stamp_in i = (big_number 4 i.content, big_number 4 (drop 4 i.content))
 
-abbrev stamped : ℕ → ℕ → TcpTimestampRepr
-stamped a b = record { tsval = a; tsecr = b }
-
 stamp_back : (o : Option TcpTimestampRepr) → IfSome o (λ t. (t.tsval < 2 ^ 32) × (t.tsecr < 2 ^ 32)) → o ≡ option_map stamp_of (option_map stamp_in (last_of is_timestamp (timestamp_items o)))
-stamp_back None fits = refl
-stamp_back (Some t) fits =
-    ap (λ n. Some (stamped n t.tsecr)) (sym (number_back_4 t.tsval (big_bytes 4 t.tsecr) fits.0))
-    ∙ ap (λ n. Some (stamped (big_number 4 (big_bytes 4 t.tsval ++ big_bytes 4 t.tsecr)) n)) (sym (number_back_4 t.tsecr [] fits.1))
+stamp_back o fits = grind arith
 
 permitted_back : (s n : Bool) (bytes : List ℕ) → s ≡ is_some (last_of (is_of 4) (sack_list s n bytes))
-permitted_back true n bytes = refl
-permitted_back false true bytes = refl
-permitted_back false false bytes = refl
+permitted_back s n bytes = grind arith
 
 -- the kept blocks
 abbrev pub Pair : Type 0
@@ -99,10 +85,7 @@ abbrev block_from : List ℕ → ℕ → Option Pair
 block_from content n = cond (ltb n (length content)) (Some (big_number 4 (drop n content), big_number 4 (drop (n + 4) content))) None
 
 block_shape : (b b' : Bool) (x x' y y' : List ℕ) → b ≡ b' → x ≡ x' → y ≡ y' → cond {A = Option Pair} b (Some (big_number 4 x, big_number 4 y)) None ≡ cond b' (Some (big_number 4 x', big_number 4 y')) None
-block_shape b b' x x' y y' p q r =
-    ap (λ c. cond {A = Option Pair} c (Some (big_number 4 x, big_number 4 y)) None) p
-    ∙ ap (λ z. cond {A = Option Pair} b' (Some (big_number 4 z, big_number 4 y)) None) q
-    ∙ ap (λ z. cond {A = Option Pair} b' (Some (big_number 4 x', big_number 4 z)) None) r
+block_shape b b' x x' y y' p q r = rw (p, q, r) refl
 
 ltb_shift : (n l : ℕ) → ltb (8 + n) (8 + l) ≡ ltb n l
 ltb_shift n l = grind (arith, nat_tests)
@@ -120,8 +103,7 @@ PairFits r = (r.0 < 2 ^ 32) × (r.1 < 2 ^ 32)
 block_first : (p : Pair) (rest : List ℕ) → PairFits p → block_from (pair_bytes p ++ rest) 0 ≡ Some p
 block_first p rest fits =
     ap (λ c. cond {A = Option Pair} c (Some (big_number 4 (pair_bytes p ++ rest), big_number 4 (drop 4 (pair_bytes p ++ rest)))) None) (lt-ltb 0 (length (pair_bytes p ++ rest)) (omega arith))
-    ∙ ap (λ n. Some (n, big_number 4 (drop 4 (pair_bytes p ++ rest)))) (number_back_4 p.0 (big_bytes 4 p.1 ++ rest) fits.0)
-    ∙ ap (λ n. Some (p.0, n)) (number_back_4 p.1 rest fits.1)
+    ∙ rw (number_back_4 p.0 (big_bytes 4 p.1 ++ rest) fits.0, number_back_4 p.1 rest fits.1) refl
 
 block_get : (ps : List Pair) → AllByRecursion PairFits ps → (k : ℕ) → block_from (flat_map pair_bytes ps) (8 * k) ≡ get_or (map Some ps) k None
 block_get [] all k = ap (λ c. cond {A = Option Pair} c (Some (big_number 4 (drop (8 * k) []), big_number 4 (drop (8 * k + 4) []))) None) (false_from_ne_true _ (λ e. let h = ltb-true (8 * k) 0 e in omega (arith, h)))
@@ -155,9 +137,7 @@ somes_fit (None ∷ rs) all = somes_fit rs all.1
 somes_fit (Some r ∷ rs) all = (all.0, somes_fit rs all.1)
 
 length-closed : (rs : List (Option Pair)) → length (closed rs) ≡ length rs
-length-closed rs =
-    let h = somes-le rs in
-    omega (arith, h, length-append (map Some (somes rs)) (replicate (length rs - length (somes rs)) None), length-map (somes rs) Some, length-replicate {A = Option Pair} (length rs - length (somes rs)) None)
+length-closed rs = grind (arith, common_steps, nat_tests, somes-le, length-append, length-map, length-replicate)
 
 -- emitted ranges parse as these ranges without gaps
 blocks_back : (rs : List (Option Pair)) → length rs ≡ SACK_BLOCKS → AllByRecursion (λ r. IfSome r PairFits) rs → first_blocks (range_bytes rs) ≡ closed rs
@@ -177,10 +157,7 @@ closed_none (p ∷ ps) n e = absurd (omega (arith, e))
 
 ranges_back : (s n z : Bool) (bytes : List ℕ) (c : List (Option Pair)) → (z ≡ true → c ≡ no_ranges) → first_blocks bytes ≡ c
     → cond (s || n) no_ranges c ≡ first_blocks (option_map_or (λ i. i.content) (last_of (is_of 5) (sack_list s (n || z) bytes)) [])
-ranges_back true n z bytes c e f = refl
-ranges_back false true z bytes c e f = refl
-ranges_back false false true bytes c e f = e refl
-ranges_back false false false bytes c e f = sym f
+ranges_back s n z bytes c e f = grind arith
 
 -- the items are well formed
 all_append : (xs ys : List Item) → AllByRecursion IsItem xs → AllByRecursion IsItem ys → AllByRecursion IsItem (xs ++ ys)
@@ -188,28 +165,19 @@ all_append [] ys xa ya = ya
 all_append (x ∷ xs) ys xa ya = (xa.0, all_append xs ys xa.1 ya)
 
 segment_items : (o : Option ℕ) → AllByRecursion IsItem (segment_size_items o)
-segment_items None = tt
-segment_items (Some n) = (grind arith, tt)
+segment_items o = grind arith
 
 scale_items : (o : Option ℕ) → AllByRecursion IsItem (window_scale_items o)
-scale_items None = tt
-scale_items (Some n) = (grind arith, tt)
+scale_items o = grind arith
 
 stamp_items : (o : Option TcpTimestampRepr) → AllByRecursion IsItem (timestamp_items o)
-stamp_items None = tt
-stamp_items (Some t) = (grind arith, tt)
+stamp_items o = grind arith
 
 sack_all : (s n : Bool) (count : ℕ) (bytes : List ℕ) → length bytes ≡ 8 * count → count ≤ SACK_BLOCKS → AllByRecursion IsItem (sack_list s (n || eqb count 0) bytes)
-sack_all true n count bytes long few = (grind arith, tt)
-sack_all false true count bytes long few = tt
-sack_all false false zero bytes long few = tt
-sack_all false false (suc count) bytes long few =
-    subst (λ b. AllByRecursion IsItem (cond b [] (item 5 bytes ∷ []))) (sym (eqb-suc-zero count))
-    (IsItem-ranges 5 bytes (suc count) refl (omega arith) long (omega (arith, long, few)), tt)
+sack_all s n count bytes long few = grind (arith, common_steps, nat_tests, eqb-suc-zero, IsItem-ranges)
 
 zeros_end : (n : ℕ) → IsTail (replicate n 0)
-zeros_end zero = tt
-zeros_end (suc n) = refl
+zeros_end n = grind arith
 
 one_of_four : (p : Item → Bool) (a b c d : List Item) → last_of p b ≡ None → last_of p c ≡ None → last_of p d ≡ None → last_of p (a ++ b ++ c ++ d) ≡ last_of p a
 one_of_four p a b c d hb hc hd = in_front p (a ++ b ++ c) d hd ∙ in_front p (a ++ b) c hc ∙ in_front p a b hb
@@ -260,15 +228,11 @@ somes_closed [] m = somes_none m
 somes_closed (p ∷ ps) m = ap (λ l. p ∷ l) (somes_closed ps m)
 
 closed_twice : (rs : List (Option Pair)) → closed (closed rs) ≡ closed rs
-closed_twice rs =
-    let n = length (closed rs) in
-    ap (λ ps. map Some ps ++ replicate {A = Option Pair} (n - length ps) None) (somes_closed (somes rs) (length rs - length (somes rs)))
-    ∙ ap (λ k. map Some (somes rs) ++ replicate {A = Option Pair} (k - length (somes rs)) None) (length-closed rs)
+closed_twice rs = rw (somes_closed (somes rs) (length rs - length (somes rs)), length-closed rs) refl
 
 -- limiting a window scale to 14 twice is the same as once
 pub min_twice : (o : Option ℕ) → option_map (min 14) (option_map (min 14) o) ≡ option_map (min 14) o
-min_twice None = refl
-min_twice (Some n) = ap Some (omega arith)
+min_twice o = grind arith
 
 gaps_twice : (b : Bool) (none rs : List (Option Pair)) → cond b none (closed (cond b none (closed rs))) ≡ cond b none (closed rs)
 gaps_twice true none rs = refl
@@ -276,6 +240,4 @@ gaps_twice false none rs = closed_twice rs
 
 -- the normal form of a normal form is itself
 pub twice : (v : TcpHeader) → normal (normal v) ≡ normal v
-twice v =
-    ap (λ s. record v { window_scale = s; sack_ranges = (normal (normal v)).sack_ranges }) (min_twice v.window_scale)
-    ∙ ap (λ l. record v { window_scale = (normal v).window_scale; sack_ranges = l }) (gaps_twice (v.sack_permitted || is_none v.ack_number) no_ranges v.sack_ranges)
+twice v = rw (min_twice v.window_scale, gaps_twice (v.sack_permitted || is_none v.ack_number) no_ranges v.sack_ranges) refl

@@ -4,7 +4,7 @@ use Rattle.byteorder.specs.Endian.{big_bytes}
 use Rattle.wire_ends.specs.declared.ip_address.IpAddress.{IpAddress}
 use Rattle.wire_field.proofs.Cells.{cells-drop, word_high, word_low}
 use Rattle.wire_field.proofs.Spelled.{AreBytes}
-use Rattle.wire_field.proofs.Written.{AreBytes-with_field, length-with_field}
+use Rattle.wire_field.proofs.Written.{AreBytes-with_field, length_with_field}
 use Rattle.wire_field.specs.Field.{field, with_field}
 use Rattle.wire_checksum.proofs.Parts.{sum-words-with_field, sum-words-with_range, sum-words-word}
 use Rattle.wire_checksum.proofs.PseudoSums.{pseudo_header_total, sum-with_pseudo_header}
@@ -15,6 +15,8 @@ use Rattle.wire_checksum.specs.WordSum.{residue, sum_of_bytes, updated, words}
 use Rattle.wire_ends.specs.IpAddress.{octets_of}
 use Rattle.wire_ends.specs.declared.ip_protocol.IpProtocol.TheVariants as protocol
 use Rattle.wire_tcp.specs.Tcp.{Verifies, segment_sum, with_checksum, with_updated_checksum}
+use Rattle.std.proofs.lemmas.Grind.{common_steps}
+use Rattle.std.proofs.lemmas.Bool.Decides.{nat_tests}
 
 -- the sum of the pseudo-header of a segment of n bytes
 abbrev pseudo : IpAddress → IpAddress → ℕ → ℕ
@@ -35,7 +37,7 @@ field-word bytes x = rw (word_high, word_low) refl
 -- 0 in it adds nothing
 zeroed : (bytes : List ℕ) → 18 ≤ length bytes → sum (words (slice_range (with_field bytes 128 16 0) 16 18)) ≡ 0
 unfolding words
-zeroed bytes room = subst (λ (l : List ℕ). sum (words (slice_range (with_field l 128 16 0) 16 18)) ≡ 0) (sym (cells-drop 18 bytes room)) (omega arith)
+zeroed bytes room = rw (cells-drop 18 bytes room) (omega arith)
 
 -- a segment whose checksum was filled in is valid
 pub verifies : (src dst : IpAddress) (bytes : List ℕ) → length (octets_of src) % 2 ≡ 0 → length (octets_of dst) % 2 ≡ 0 → 18 ≤ length bytes → Verifies src dst (with_checksum src dst bytes)
@@ -43,8 +45,8 @@ verifies src dst bytes s d room =
     let zero = with_field bytes 128 16 0 in
     let n = length bytes in
     let x = 65535 - segment_sum src dst zero in
-    let long : length zero ≡ n = length-with_field bytes 128 16 0 (omega arith) (omega (arith, room)) in
-    let after : length (with_field zero 128 16 x) ≡ n = length-with_field zero 128 16 x (omega arith) (omega (arith, long, room)) ∙ long in
+    let long : length zero ≡ n = length_with_field bytes 128 16 0 (omega arith) (omega (arith, room)) in
+    let after : length (with_field zero 128 16 x) ≡ n = length_with_field zero 128 16 x (omega arith) (omega (arith, long, room)) ∙ long in
     let more = sum-words-with_range zero (big_bytes 2 x) 16 18 refl refl refl (omega (arith, long, room)) in
     let word : sum (words (big_bytes 2 x)) ≡ x = sum-words-word x (omega arith) in
     let is : sum (words (with_pseudo_header src dst protocol.Tcp (with_field zero 128 16 x))) ≡ sum (words (with_pseudo_header src dst protocol.Tcp zero)) + x =
@@ -64,7 +66,7 @@ valid-updated src dst src' dst' bytes changed old new are s d s' d' room long ch
     let c = field changed 128 16 in
     let u = updated c (residue old) (residue new) in
     let after = with_field changed 128 16 u in
-    let after_long : length after ≡ n = length-with_field changed 128 16 u (omega arith) (omega (arith, room)) ∙ long in
+    let after_long : length after ≡ n = length_with_field changed 128 16 u (omega arith) (omega (arith, room)) ∙ long in
     let written = sum-words-with_field changed 8 u are (omega (arith, room)) (omega arith) in
     let zeroed = sum-words-with_field changed 8 0 are (omega (arith, room)) (omega arith) in
     ap residue (total src' dst' after n s' d' after_long)
@@ -72,12 +74,12 @@ valid-updated src dst src' dst' bytes changed old new are s d s' d' room long ch
     c old new (omega arith) change (omega (arith, written)) (omega (arith, zeroed)) (ap residue (sym (total src dst bytes n s d refl)) ∙ valid)
 
 -- the same for one word before the checksum, as a port
-pub valid-word : (src dst : IpAddress) (bytes : List ℕ) (i x : ℕ) → AreBytes bytes → x < 65536 → i < 8 → length (octets_of src) % 2 ≡ 0 → length (octets_of dst) % 2 ≡ 0 → 18 ≤ length bytes
+pub valid_word : (src dst : IpAddress) (bytes : List ℕ) (i x : ℕ) → AreBytes bytes → x < 65536 → i < 8 → length (octets_of src) % 2 ≡ 0 → length (octets_of dst) % 2 ≡ 0 → 18 ≤ length bytes
     → Verifies src dst bytes → Verifies src dst (with_updated_checksum (with_field bytes (16 * i) 16 x) (field bytes (16 * i) 16) x)
-valid-word src dst bytes i x are fits front s d room valid =
+valid_word src dst bytes i x are fits front s d room valid =
     let changed = with_field bytes (16 * i) 16 x in
     let old = field bytes (16 * i) 16 in
-    let long = length-with_field bytes (16 * i) 16 x (omega arith) (omega (arith, room, front)) in
+    let long = length_with_field bytes (16 * i) 16 x (omega arith) (omega (arith, room, front)) in
     subst (λ (u : ℕ). Verifies src dst (with_field changed 128 16 u)) (updated-small (field changed 128 16) old x (omega arith) (omega (arith, fits)))
     (valid-updated src dst src dst bytes changed old x (AreBytes-with_field bytes (16 * i) 16 x are (omega arith) (omega (arith, room, front))) s d s d (omega (arith, long, room)) long
     (omega (arith, sum-words-with_field bytes i x are (omega (arith, room, front)) fits)) valid)
@@ -98,11 +100,4 @@ valid-dst_addr src old new bytes are s o n room valid =
 -- changing one aligned word of a valid segment makes its checksum wrong, unless old and new word are congruent modulo 65535
 pub word_changed : (src dst : IpAddress) (bytes : List ℕ) (i x : ℕ) → length (octets_of src) % 2 ≡ 0 → length (octets_of dst) % 2 ≡ 0 → AreBytes bytes
     → 2 * i + 2 ≤ length bytes → x < 65536 → x % 65535 ≢ field bytes (16 * i) 16 % 65535 → Verifies src dst bytes → ¬ Verifies src dst (with_field bytes (16 * i) 16 x)
-word_changed src dst bytes i x s d are room fits changed holds still =
-    let n = length bytes in
-    let new = with_field bytes (16 * i) 16 x in
-    let (k, was) = full _ holds in
-    let (m, is) = full _ still in
-    let before = total src dst bytes n s d refl in
-    let after = total src dst new n s d (length-with_field bytes (16 * i) 16 x (omega arith) (omega (arith, room))) in
-    changed (omega (arith, was, is, before, after, sum-words-with_field bytes i x are room fits))
+word_changed src dst bytes i x s d are room fits changed holds = grind (arith, common_steps, nat_tests, full, total, length_with_field, sum-words-with_field)

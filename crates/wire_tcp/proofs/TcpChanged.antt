@@ -1,5 +1,5 @@
 -- A segment in which a field of the fixed header changed.
-use Rattle.std.proofs.Common.{ℕ, ◌≡◌, ◌≢◌, ◌⊎◌, inl, inr, ◌≤◌, ◌<◌, ◌+◌, ◌-◌, ◌*◌, ◌%◌, ◌^◌, if◌then◌else◌, Bool, false, IsTrue, Some, None, List, drop, length, take, refl, sym, subst, ap, ◌∙◌, arith}
+use Rattle.std.proofs.Common.{ℕ, ◌≡◌, ◌≢◌, ◌⊎◌, inl, ◌≤◌, ◌<◌, ◌+◌, ◌-◌, ◌*◌, ◌%◌, ◌^◌, if◌then◌else◌, Bool, false, IsTrue, Some, None, List, drop, length, take, refl, sym, subst, ap, ◌∙◌, arith}
 use Rattle.std.proofs.lemmas.Bool.Decides.{nat_tests}
 use Rattle.std.proofs.lemmas.List.{drop-drop}
 use Rattle.std.specs.Option.{option_map}
@@ -7,7 +7,7 @@ use Rattle.wire_field.specs.Field.{field, with_field}
 use Rattle.wire_field.proofs.Behind.{drop-with_field}
 use Rattle.wire_field.proofs.Cells.{cells-drop}
 use Rattle.wire_field.proofs.Spelled.{AreBytes}
-use Rattle.wire_field.proofs.Written.{field-with_field_other, length-with_field}
+use Rattle.wire_field.proofs.Written.{field_with_field_other, length_with_field}
 use Rattle.wire_ends.specs.declared.ip_address.IpAddress.{IpAddress}
 use Rattle.wire_ends.specs.IpAddress.{octets_of}
 use Rattle.wire_tcp.proofs.Sums.{verifies}
@@ -19,6 +19,7 @@ use Rattle.wire_tcp_parts.specs.declared.tcp.control.TcpControl.TheVariants as c
 use Rattle.wire_tcp_parts.specs.declared.tcp.seq_number.TcpSeqNumber.{TcpSeqNumber}
 use Rattle.wire_tcp.specs.TcpFields.{quiet_of}
 use Rattle.wire_tcp.specs.TcpRepr.{HasControl, HasFlags, IsQuiet, Reads, TcpHeader, header_with, seq_of}
+use Rattle.std.proofs.lemmas.Grind.{common_steps}
 
 -- ---- one value that changes
 
@@ -62,11 +63,7 @@ reads-set old new f src dst src' dst' verified checked v payload asked r s valid
 
 -- the same control, if its flags stay
 pub control_kept : (old new : List ℕ) → field new 108 4 ≡ field old 108 4 → (asked : TcpControl) → HasControl old asked → HasControl new asked
-control_kept old new same control.Rst h = grind arith
-control_kept old new same control.Syn h = grind arith
-control_kept old new same control.Fin h = grind arith
-control_kept old new same control.Psh h = grind arith
-control_kept old new same control.None h = grind arith
+control_kept old new same asked h = grind (arith, common_steps, nat_tests)
 
 -- the flags of the control stay too
 abbrev Keeps : List ℕ → List ℕ → (TcpHeader → TcpHeader) → Type 0
@@ -91,8 +88,7 @@ pub reads-src_port : (bytes : List ℕ) (x : ℕ) (src dst : IpAddress) (verifie
     → (IsTrue checked → Verifies src dst (with_field bytes 0 16 x)) → Reads (with_field bytes 0 16 x) src dst checked (record v { src_port = x }) payload
 reads-src_port bytes x src dst verified checked v payload fits some r valid =
     reads-kept bytes (with_field bytes 0 16 x) (λ h. record h { src_port = x }) src dst src dst verified checked v payload r
-    (subst (λ (l : List ℕ). Keeps l (with_field l 0 16 x) (λ h. record h { src_port = x })) (sym (cells-drop 20 bytes r.lengths.least))
-    (record { long = refl; header = refl; behind = refl; values = λ asked items. grind arith }, refl))
+    (rw (cells-drop 20 bytes r.lengths.least) (record { long = refl; header = refl; behind = refl; values = λ asked items. grind arith }, refl))
     valid some (receiver_read bytes src dst verified v payload r)
 
 -- the same for the destination port
@@ -100,8 +96,7 @@ pub reads-dst_port : (bytes : List ℕ) (x : ℕ) (src dst : IpAddress) (verifie
     → (IsTrue checked → Verifies src dst (with_field bytes 16 16 x)) → Reads (with_field bytes 16 16 x) src dst checked (record v { dst_port = x }) payload
 reads-dst_port bytes x src dst verified checked v payload fits some r valid =
     reads-kept bytes (with_field bytes 16 16 x) (λ h. record h { dst_port = x }) src dst src dst verified checked v payload r
-    (subst (λ (l : List ℕ). Keeps l (with_field l 16 16 x) (λ h. record h { dst_port = x })) (sym (cells-drop 20 bytes r.lengths.least))
-    (record { long = refl; header = refl; behind = refl; values = λ asked items. grind arith }, refl))
+    (rw (cells-drop 20 bytes r.lengths.least) (record { long = refl; header = refl; behind = refl; values = λ asked items. grind arith }, refl))
     valid (sender_read bytes src dst verified v payload r) some
 
 -- writing another value leaves the ports
@@ -117,8 +112,7 @@ pub reads-window_len : (bytes : List ℕ) (x : ℕ) (src dst : IpAddress) (verif
     → (IsTrue checked → Verifies src dst (with_field bytes 112 16 x)) → Reads (with_field bytes 112 16 x) src dst checked (record v { window_len = x }) payload
 reads-window_len bytes x src dst verified checked v payload fits r valid =
     reads-value bytes (with_field bytes 112 16 x) (λ h. record h { window_len = x }) src dst src dst verified checked v payload r
-    (subst (λ (l : List ℕ). Keeps l (with_field l 112 16 x) (λ h. record h { window_len = x })) (sym (cells-drop 20 bytes r.lengths.least))
-    (record { long = refl; header = refl; behind = refl; values = λ asked items. grind arith }, refl))
+    (rw (cells-drop 20 bytes r.lengths.least) (record { long = refl; header = refl; behind = refl; values = λ asked items. grind arith }, refl))
     valid refl refl
 
 -- writing the sequence number changes only the sequence number of the value
@@ -126,8 +120,7 @@ pub reads-seq_number : (bytes : List ℕ) (x : ℕ) (src dst : IpAddress) (v : T
     → Reads (with_field bytes 32 32 x) src dst false (record v { seq_number = seq_of x }) payload
 reads-seq_number bytes x src dst v payload fits r =
     reads-value bytes (with_field bytes 32 32 x) (λ h. record h { seq_number = seq_of x }) src dst src dst false false v payload r
-    (subst (λ (l : List ℕ). Keeps l (with_field l 32 32 x) (λ h. record h { seq_number = seq_of x })) (sym (cells-drop 20 bytes r.lengths.least))
-    (record { long = refl; header = refl; behind = refl; values = λ asked items. grind arith }, refl))
+    (rw (cells-drop 20 bytes r.lengths.least) (record { long = refl; header = refl; behind = refl; values = λ asked items. grind arith }, refl))
     (λ no. cc) refl refl
 
 -- writing the acknowledgement number changes only that number, if the value has one
@@ -136,8 +129,7 @@ pub reads-ack_number : (bytes : List ℕ) (x : ℕ) (src dst : IpAddress) (v : T
 reads-ack_number bytes x src dst v payload fits r =
     let set : TcpHeader → TcpHeader = λ h. record h { ack_number = option_map (λ (n : TcpSeqNumber). seq_of x) h.ack_number } in
     reads-value bytes (with_field bytes 64 32 x) set src dst src dst false false v payload r
-    (subst (λ (l : List ℕ). Keeps l (with_field l 64 32 x) (λ h. record h { ack_number = option_map (λ (n : TcpSeqNumber). seq_of x) h.ack_number })) (sym (cells-drop 20 bytes r.lengths.least))
-    (record { long = refl; header = refl; behind = refl; values = λ asked items. grind (arith, nat_tests) }, refl))
+    (rw (cells-drop 20 bytes r.lengths.least) (record { long = refl; header = refl; behind = refl; values = λ asked items. grind (arith, nat_tests) }, refl))
     (λ no. cc) refl refl
 
 -- ---- flags
@@ -147,8 +139,7 @@ pub reads-ack : (bytes : List ℕ) (on : Bool) (src dst : IpAddress) (v : TcpHea
     → Reads (with_flag bytes 107 on) src dst false (record v { ack_number = if on then Some (seq_of (field bytes 64 32)) else None }) payload
 reads-ack bytes on src dst v payload r =
     reads-value bytes (with_flag bytes 107 on) (λ h. record h { ack_number = if on then Some (seq_of (field bytes 64 32)) else None }) src dst src dst false false v payload r
-    (subst (λ (l : List ℕ). Keeps l (with_flag l 107 on) (λ h. record h { ack_number = if on then Some (seq_of (field l 64 32)) else None })) (sym (cells-drop 20 bytes r.lengths.least))
-    (record { long = refl; header = refl; behind = refl; values = λ asked items. grind (arith, nat_tests) }, grind arith))
+    (rw (cells-drop 20 bytes r.lengths.least) (record { long = refl; header = refl; behind = refl; values = λ asked items. grind (arith, nat_tests) }, grind arith))
     (λ no. cc) refl refl
 
 -- a flag of the control is written: of RST, SYN and FIN at most the one of this control was set before, and now it is another control
@@ -157,9 +148,7 @@ Flags old new one asked = Sets old new (λ h. h) × (HasFlags old 0 0 0 ⊎ HasC
 
 -- RST, SYN and FIN of a quiet control, or of this one
 flags_before : (bytes : List ℕ) (asked one : TcpControl) → IsQuiet asked ⊎ (asked ≡ one) → HasControl bytes asked → HasFlags bytes 0 0 0 ⊎ HasControl bytes one
-flags_before bytes asked one (inl (inl none)) h = inl (subst (HasControl bytes) none h).0
-flags_before bytes asked one (inl (inr psh)) h = inl (subst (HasControl bytes) psh h).0
-flags_before bytes asked one (inr is) h = inr (subst (HasControl bytes) is h)
+flags_before bytes asked one h3 h = grind arith
 
 reads-flag : (bytes new : List ℕ) (one asked : TcpControl) (src dst : IpAddress) (v : TcpHeader) (payload : List ℕ) → IsQuiet v.control ⊎ (v.control ≡ one) → Reads bytes src dst false v payload
     → Flags bytes new one asked → Reads new src dst false (record v { control = asked }) payload
@@ -172,58 +161,52 @@ pub reads-psh : (bytes : List ℕ) (on : Bool) (src dst : IpAddress) (v : TcpHea
     → Reads (with_flag bytes 108 on) src dst false (record v { control = if on then control.Psh else control.None }) payload
 reads-psh bytes on src dst v payload quiet r =
     reads-flag bytes (with_flag bytes 108 on) control.Psh (if on then control.Psh else control.None) src dst v payload (inl quiet) r
-    (subst (λ (l : List ℕ). Flags l (with_flag l 108 on) control.Psh (if on then control.Psh else control.None)) (sym (cells-drop 20 bytes r.lengths.least))
-    (record { long = refl; header = refl; behind = refl; values = λ asked items. grind (arith, nat_tests) }, λ h. grind (arith, nat_tests)))
+    (rw (cells-drop 20 bytes r.lengths.least) (record { long = refl; header = refl; behind = refl; values = λ asked items. grind (arith, nat_tests) }, λ h. grind (arith, nat_tests)))
 
 pub reads-rst : (bytes : List ℕ) (on : Bool) (src dst : IpAddress) (v : TcpHeader) (payload : List ℕ) → IsQuiet v.control ⊎ (v.control ≡ control.Rst) → Reads bytes src dst false v payload
     → Reads (with_flag bytes 109 on) src dst false (record v { control = if on then control.Rst else quiet_of bytes }) payload
 reads-rst bytes on src dst v payload before r =
     reads-flag bytes (with_flag bytes 109 on) control.Rst (if on then control.Rst else quiet_of bytes) src dst v payload before r
-    (subst (λ (l : List ℕ). Flags l (with_flag l 109 on) control.Rst (if on then control.Rst else quiet_of l)) (sym (cells-drop 20 bytes r.lengths.least))
-    (record { long = refl; header = refl; behind = refl; values = λ asked items. grind (arith, nat_tests) }, λ h. grind (arith, nat_tests)))
+    (rw (cells-drop 20 bytes r.lengths.least) (record { long = refl; header = refl; behind = refl; values = λ asked items. grind (arith, nat_tests) }, λ h. grind (arith, nat_tests)))
 
 pub reads-syn : (bytes : List ℕ) (on : Bool) (src dst : IpAddress) (v : TcpHeader) (payload : List ℕ) → IsQuiet v.control ⊎ (v.control ≡ control.Syn) → Reads bytes src dst false v payload
     → Reads (with_flag bytes 110 on) src dst false (record v { control = if on then control.Syn else quiet_of bytes }) payload
 reads-syn bytes on src dst v payload before r =
     reads-flag bytes (with_flag bytes 110 on) control.Syn (if on then control.Syn else quiet_of bytes) src dst v payload before r
-    (subst (λ (l : List ℕ). Flags l (with_flag l 110 on) control.Syn (if on then control.Syn else quiet_of l)) (sym (cells-drop 20 bytes r.lengths.least))
-    (record { long = refl; header = refl; behind = refl; values = λ asked items. grind (arith, nat_tests) }, λ h. grind (arith, nat_tests)))
+    (rw (cells-drop 20 bytes r.lengths.least) (record { long = refl; header = refl; behind = refl; values = λ asked items. grind (arith, nat_tests) }, λ h. grind (arith, nat_tests)))
 
 pub reads-fin : (bytes : List ℕ) (on : Bool) (src dst : IpAddress) (v : TcpHeader) (payload : List ℕ) → IsQuiet v.control ⊎ (v.control ≡ control.Fin) → Reads bytes src dst false v payload
     → Reads (with_flag bytes 111 on) src dst false (record v { control = if on then control.Fin else quiet_of bytes }) payload
 reads-fin bytes on src dst v payload before r =
     reads-flag bytes (with_flag bytes 111 on) control.Fin (if on then control.Fin else quiet_of bytes) src dst v payload before r
-    (subst (λ (l : List ℕ). Flags l (with_flag l 111 on) control.Fin (if on then control.Fin else quiet_of l)) (sym (cells-drop 20 bytes r.lengths.least))
-    (record { long = refl; header = refl; behind = refl; values = λ asked items. grind (arith, nat_tests) }, λ h. grind (arith, nat_tests)))
+    (rw (cells-drop 20 bytes r.lengths.least) (record { long = refl; header = refl; behind = refl; values = λ asked items. grind (arith, nat_tests) }, λ h. grind (arith, nat_tests)))
 
 -- ---- what is in no value
 
 -- the checksum: nothing else depends on the addresses
-pub reads-checksum : (bytes : List ℕ) (x : ℕ) (src dst src' dst' : IpAddress) (verified checked : Bool) (v : TcpHeader) (payload : List ℕ) → Reads bytes src dst verified v payload
+pub reads_checksum : (bytes : List ℕ) (x : ℕ) (src dst src' dst' : IpAddress) (verified checked : Bool) (v : TcpHeader) (payload : List ℕ) → Reads bytes src dst verified v payload
     → (IsTrue checked → Verifies src' dst' (with_field bytes 128 16 x)) → Reads (with_field bytes 128 16 x) src' dst' checked v payload
-reads-checksum bytes x src dst src' dst' verified checked v payload r valid =
+reads_checksum bytes x src dst src' dst' verified checked v payload r valid =
     reads-value bytes (with_field bytes 128 16 x) (λ h. h) src dst src' dst' verified checked v payload r
-    (subst (λ (l : List ℕ). Keeps l (with_field l 128 16 x) (λ h. h)) (sym (cells-drop 20 bytes r.lengths.least))
-    (record { long = refl; header = refl; behind = refl; values = λ asked items. refl }, refl))
+    (rw (cells-drop 20 bytes r.lengths.least) (record { long = refl; header = refl; behind = refl; values = λ asked items. refl }, refl))
     valid refl refl
 
 -- the same for bytes in which it was written
 pub reads-summed : (bytes new : List ℕ) (x : ℕ) (src dst src' dst' : IpAddress) (verified checked : Bool) (v : TcpHeader) (payload : List ℕ) → new ≡ with_field bytes 128 16 x
     → Reads bytes src dst verified v payload → (IsTrue checked → Verifies src' dst' new) → Reads new src' dst' checked v payload
 reads-summed bytes new x src dst src' dst' verified checked v payload is r valid =
-    subst (λ (l : List ℕ). Reads l src' dst' checked v payload) (sym is) (reads-checksum bytes x src dst src' dst' verified checked v payload r (λ on. subst (Verifies src' dst') is (valid on)))
+    subst (λ (l : List ℕ). Reads l src' dst' checked v payload) (sym is) (reads_checksum bytes x src dst src' dst' verified checked v payload r (λ on. subst (Verifies src' dst') is (valid on)))
 
 -- a valid checksum may be verified
 pub reads-verified : (bytes : List ℕ) (src dst src' dst' : IpAddress) (verified checked : Bool) (v : TcpHeader) (payload : List ℕ) → Reads bytes src dst verified v payload
     → (IsTrue checked → Verifies src' dst' bytes) → Reads bytes src' dst' checked v payload
-reads-verified bytes src dst src' dst' verified checked v payload r valid =
-    reads-value bytes bytes (λ h. h) src dst src' dst' verified checked v payload r (record { long = refl; header = refl; behind = refl; values = λ asked items. refl }, refl) valid refl refl
+reads-verified bytes src dst src' dst' verified checked v payload r valid = grind arith
 
 -- a checksum that is filled in
 pub reads-filled : (bytes : List ℕ) (src dst : IpAddress) (verified checked : Bool) (v : TcpHeader) (payload : List ℕ) → length (octets_of src) % 2 ≡ 0 → length (octets_of dst) % 2 ≡ 0
     → Reads bytes src dst verified v payload → Reads (with_checksum src dst bytes) src dst checked v payload
 reads-filled bytes src dst verified checked v payload s d r =
-    reads-checksum (with_field bytes 128 16 0) _ src dst src dst false checked v payload (reads-checksum bytes 0 src dst src dst verified false v payload r (λ no. cc))
+    reads_checksum (with_field bytes 128 16 0) _ src dst src dst false checked v payload (reads_checksum bytes 0 src dst src dst verified false v payload r (λ no. cc))
     (λ on. verifies src dst bytes s d (omega (arith, r.lengths.least)))
 
 -- the reserved bits, NS, CWR, ECE, URG and the urgent pointer
@@ -234,9 +217,9 @@ reads-unread bytes first width x src dst v payload are some place r =
     let room = r.lengths.least in
     let inside : first + width ≤ 160 = grind arith in
     let before : (at size : ℕ) → 0 < size → at + size ≤ 100 → field new at size ≡ field bytes at size = λ at size some_size low.
-    field-with_field_other bytes first width x at size are some some_size (omega (arith, room, inside)) (inl (grind arith)) in
+    field_with_field_other bytes first width x at size are some some_size (omega (arith, room, inside)) (inl (grind arith)) in
     let after : (at size : ℕ) → 0 < size → 107 ≤ at → at + size ≤ 144 → field new at size ≡ field bytes at size = λ at size some_size low high.
-    field-with_field_other bytes first width x at size are some some_size (omega (arith, room, inside)) (grind arith) in
+    field_with_field_other bytes first width x at size are some some_size (omega (arith, room, inside)) (grind arith) in
     let same : (asked : TcpControl) (items : List Item) → header_with new asked items ≡ header_with bytes asked items = λ asked items.
     rw (
       before 0 16 (omega arith) (omega arith),
@@ -249,7 +232,7 @@ reads-unread bytes first width x src dst v payload are some place r =
     let offset = before 96 4 (omega arith) (omega arith) in
     reads-value bytes new (λ h. h) src dst src dst false false v payload r (
       record {
-        long = length-with_field bytes first width x some (omega (arith, room, inside));
+        long = length_with_field bytes first width x some (omega (arith, room, inside));
         header = ap (λ (n : ℕ). 4 * n) offset;
         behind = drop-with_field bytes first width x 20 some inside room;
         values = same;

@@ -1,5 +1,5 @@
 -- `tcp_of` computes the value that a segment parses as.
-use Rattle.std.proofs.Common.{ℕ, ◌≡◌, ◌≢◌, ◌↔◌, Bool, true, false, IsTrue, List, Option, Some, None, Result, Ok, Err, IfOk, OnErr, refl, sym, ap, subst, ◌∙◌, arith}
+use Rattle.std.proofs.Common.{ℕ, ◌≡◌, ◌≢◌, ◌↔◌, Bool, true, IsTrue, List, Option, Some, None, Result, Ok, Err, IfOk, OnErr, refl, sym, ap, subst, ◌∙◌, arith}
 use Rattle.std.proofs.lemmas.Bool.Decides.{nat_tests}
 use Rattle.std.specs.Bool.{Decides}
 use Rattle.std.specs.Option.{option_and_then, option_map}
@@ -15,6 +15,7 @@ use Rattle.wire_tcp_parts.specs.declared.tcp.control.TcpControl.TheVariants as c
 use Rattle.wire_tcp.specs.TcpRepr.{HasControl, HasNoReading, Reads, TcpHeader, control_of, header_of, header_with, is_sound, items_in, tcp_of}
 use Rattle.wire_tcp.specs.declared.tcp.repr.TcpRepr.{TcpRepr}
 use Rattle.wire_tcp.proofs.OptionItems.{items_in-list}
+use Rattle.std.proofs.lemmas.Grind.{common_steps}
 
 -- ---- each test is true exactly if what it tests holds
 
@@ -29,15 +30,10 @@ pub record IsSound (bytes : List ℕ) (src dst : IpAddress) (verified : Bool) : 
   pub checksum : IsTrue verified → Verifies src dst bytes
 
 is_sound-Decides : (src dst : IpAddress) (verified : Bool) (bytes : List ℕ) → Decides (is_sound src dst verified bytes) (IsSound bytes src dst verified)
-is_sound-Decides src dst true bytes = grind (arith, nat_tests)
-is_sound-Decides src dst false bytes = grind (arith, nat_tests)
+is_sound-Decides src dst verified bytes = grind arith
 
 control_of-Has : (bytes : List ℕ) (asked : TcpControl) → (control_of bytes ≡ Some asked) ↔ HasControl bytes asked
-control_of-Has bytes control.Rst = grind (arith, nat_tests)
-control_of-Has bytes control.Syn = grind (arith, nat_tests)
-control_of-Has bytes control.Fin = grind (arith, nat_tests)
-control_of-Has bytes control.Psh = grind (arith, nat_tests)
-control_of-Has bytes control.None = grind (arith, nat_tests)
+control_of-Has bytes asked = grind (arith, common_steps, nat_tests)
 
 -- ---- the whole value
 
@@ -70,27 +66,12 @@ reads-with bytes src dst verified asked items tail sound asks list = record {
 
 -- the parsed value is that of the fields and items
 pub Reads-is : (bytes : List ℕ) (src dst : IpAddress) (verified : Bool) (v : TcpHeader) (payload : List ℕ) → (r : Reads bytes src dst verified v payload) → header_with bytes v.control r.options.items ≡ v
-Reads-is bytes src dst verified v payload r =
-    rw (
-      ← r.src_port,
-      ← r.dst_port,
-      ← r.seq_number,
-      ← r.ack_number,
-      ← r.window_len,
-      ← r.options.window_scale,
-      ← r.options.max_seg_size,
-      ← r.options.sack_permitted,
-      ← r.options.sack_ranges,
-      ← r.options.timestamp,
-    ) refl
+Reads-is bytes src dst verified v payload r = grind (arith, common_steps, nat_tests)
 
 -- a value that is computed has a sound segment, a control and items
 parts : {C I V : Type 0} (sound : Bool) (c : Option C) (items : Option I) (f : C → I → V) (v : V) → (if sound then option_and_then (λ c. option_map (f c) items) c else None) ≡ Some v
     → (sound ≡ true) × (x : C) × (y : I) × (c ≡ Some x) × (items ≡ Some y) × (f x y ≡ v)
-parts true (Some x) (Some y) f v e = (refl, x, y, refl, refl, cc)
-parts true (Some x) None f v e = absurd (cc)
-parts true None items f v e = absurd (cc)
-parts false c items f v e = absurd (cc)
+parts sound c items f v e = grind arith
 
 tcp_of-reads : (src dst : IpAddress) (verified : Bool) (bytes : List ℕ) (v : TcpHeader) → tcp_of src dst verified bytes ≡ Some v → Reads bytes src dst verified v (payload_of bytes)
 unfolding tcp_of
@@ -120,8 +101,7 @@ reads_once src dst verified bytes payload other_payload v w r s =
     (cc, r.body ∙ sym s.body)
 
 none_read : (o : Option TcpHeader) → ((v : TcpHeader) → o ≡ Some v → ⊥) → o ≡ None
-none_read None h = refl
-none_read (Some v) h = absurd (h v refl)
+none_read o h = grind arith
 
 -- the result of `parse` is the computed value, if there is one
 pub answer-tcp_of : (src dst : IpAddress) (verified : Bool) (bytes : List ℕ) (answer : Result TcpRepr Error)

@@ -1,5 +1,5 @@
 -- The sequence numbers that a segment uses, and those that its value uses.
-use Rattle.std.proofs.Common.{ℕ, ◌≡◌, inl, inr, ◌↔◌, ◌+◌, ◌-◌, nat_eq, Bool, true, false, IsTrue, List, [], length, refl, subst, ap, ◌∙◌, arith, length-drop}
+use Rattle.std.proofs.Common.{ℕ, ◌≡◌, ◌↔◌, ◌+◌, ◌-◌, nat_eq, Bool, IsTrue, List, [], length, ap, ◌∙◌, arith, length-drop}
 use Rattle.std.proofs.lemmas.Bool.Decides.{nat_tests}
 use Rattle.std.proofs.lemmas.Grind.{common_steps}
 use mathlib.Core.Bool.{beq}
@@ -13,11 +13,7 @@ use Rattle.wire_tcp_parts.specs.declared.tcp.control.TcpControl.TheVariants as c
 
 -- SYN and FIN are the controls that count
 flags-counted : (bytes : List ℕ) (asked : TcpControl) → HasControl bytes asked → control_len asked ≡ field bytes 110 1 + field bytes 111 1
-flags-counted bytes control.Rst h = omega (arith, h.syn, h.fin)
-flags-counted bytes control.Syn h = omega (arith, h.syn, h.fin)
-flags-counted bytes control.Fin h = omega (arith, h.syn, h.fin)
-flags-counted bytes control.Psh (h, p) = omega (arith, h.syn, h.fin)
-flags-counted bytes control.None (h, p) = omega (arith, h.syn, h.fin)
+flags-counted bytes asked h = grind (arith, common_steps, nat_tests)
 
 payload-counted : (bytes : List ℕ) (src dst : IpAddress) (verified : Bool) (v : TcpHeader) (payload : List ℕ) → Reads bytes src dst verified v payload → length payload ≡ length bytes - header_len bytes
 payload-counted bytes src dst verified v payload r = ap length r.body ∙ length-drop (header_len bytes) bytes
@@ -28,15 +24,10 @@ counted bytes src dst verified v payload r = omega (arith, payload-counted bytes
 
 -- a control is quiet where it uses no number and is not RST
 quiet : (bytes : List ℕ) (asked : TcpControl) → HasControl bytes asked → IsQuiet asked → field bytes 110 1 + field bytes 111 1 + field bytes 109 1 ≡ 0
-quiet bytes asked h (inl is) = let f = (subst (HasControl bytes) is h).0 in omega (arith, f.rst, f.syn, f.fin)
-quiet bytes asked h (inr is) = let f = (subst (HasControl bytes) is h).0 in omega (arith, f.rst, f.syn, f.fin)
+quiet bytes asked h h3 = grind arith
 
 is_quiet : (bytes : List ℕ) (asked : TcpControl) → HasControl bytes asked → field bytes 110 1 + field bytes 111 1 + field bytes 109 1 ≡ 0 → IsQuiet asked
-is_quiet bytes control.Rst h none = absurd (omega (arith, h.rst, none))
-is_quiet bytes control.Syn h none = absurd (omega (arith, h.syn, none))
-is_quiet bytes control.Fin h none = absurd (omega (arith, h.fin, none))
-is_quiet bytes control.Psh h none = inr refl
-is_quiet bytes control.None h none = inl refl
+is_quiet bytes asked h none = grind (arith, common_steps, nat_tests)
 
 -- a value is empty where its segment uses no number and has no RST
 pub empty : (bytes : List ℕ) (src dst : IpAddress) (verified : Bool) (v : TcpHeader) (payload : List ℕ) → Reads bytes src dst verified v payload
@@ -49,5 +40,4 @@ empty bytes src dst verified v payload r =
 
 -- a test for 0 answers as another test that holds in the same cases
 pub agree : (a : Bool) (n : ℕ) → (IsTrue a → n ≡ 0) → (n ≡ 0 → IsTrue a) → IsTrue (beq a (nat_eq n 0))
-agree true n to from = grind (arith, nat_tests)
-agree false n to from = grind (arith, nat_tests)
+agree a n to from = grind arith

@@ -1,5 +1,5 @@
 -- The parts of an emitted segment, in order.
-use Rattle.std.proofs.Common.{ℕ, zero, suc, ◌≡◌, ◌≢◌, ◌+◌, ◌-◌, ◌*◌, ◌≤◌, eqb, ◌||◌, Bool, true, false, cond, List, [], ◌∷◌, ◌++◌, length, drop, take, replicate, count_by, is_some, is_none, Option, Some, None, refl, sym, ap, ◌∙◌, append_assoc, length-append, arith}
+use Rattle.std.proofs.Common.{ℕ, ◌≡◌, ◌≢◌, ◌+◌, ◌-◌, ◌*◌, ◌≤◌, eqb, ◌||◌, Bool, true, false, cond, List, [], ◌∷◌, ◌++◌, length, drop, take, replicate, count_by, is_some, is_none, Option, refl, sym, ap, ◌∙◌, append_assoc, length-append, arith}
 use Rattle.std.specs.Borrow.{MutBor}
 use Rattle.std.proofs.lemmas.Bool.{eqb-true, false_from_ne_true}
 use Rattle.std.proofs.lemmas.List.{append-nil, drop-drop, drop_at, length-replicate, length-take-le, take_at}
@@ -9,7 +9,7 @@ use Rattle.wire_ends.specs.declared.ip_address.IpAddress.{IpAddress}
 use Rattle.wire_field.specs.Field.{with_field, with_range}
 use Rattle.wire_field.specs.Loan.{Holds}
 use Rattle.wire_tcp.specs.Tcp.{segment_sum, with_checksum}
-use Rattle.wire_tcp_parts.specs.TcpItems.{Item, item, text, texts}
+use Rattle.wire_tcp_parts.specs.TcpItems.{Item, item, texts}
 use Rattle.wire_tcp_parts.specs.TcpOption.{range_bytes}
 use Rattle.wire_tcp.specs.TcpFixed.{fixed_bytes}
 use Rattle.wire_tcp_parts.specs.TcpSeq.{number}
@@ -18,48 +18,36 @@ use Rattle.wire_tcp.proofs.Sums.{field-word}
 use Rattle.wire_tcp_parts.specs.declared.tcp.timestamp.TcpTimestampRepr.{TcpTimestampRepr}
 use Rattle.wire_tcp.proofs.OptionLens.{sack_len-suc}
 use Rattle.wire_tcp.specs.TcpRepr.{TcpHeader, ack_bits, bytes_of, header_bytes, header_len_of, items_of, len_if, offset_and_flags, option_bytes, sack_items, sack_len, segment_size_items, segment_with, timestamp_items, window_scale_items}
+use Rattle.std.proofs.lemmas.Grind.{common_steps}
+use Rattle.std.proofs.lemmas.Bool.Decides.{nat_tests}
 
 -- ---- options
 
 pub not_none : {X : Type 0} (o : Option X) → is_some o ≡ true → is_none o ≡ false
-not_none None e = absurd (cc)
-not_none (Some x) e = refl
+not_none o e = grind arith
 
 -- ranges are emitted as their item
 pub texts-ranges : (v : TcpHeader) → v.sack_permitted ≡ false → is_some v.ack_number ≡ true → count_by is_some v.sack_ranges ≢ 0
     → 5 ∷ (2 + 8 * count_by is_some v.sack_ranges) ∷ range_bytes v.sack_ranges ≡ texts (sack_items v)
-texts-ranges v p a n =
-    let some : eqb (count_by is_some v.sack_ranges) 0 ≡ false = false_from_ne_true _ (λ y. n (eqb-true _ 0 y)) in
-    rw (p, not_none v.ack_number a, some, append-nil, length-range_bytes v.sack_ranges) refl
+texts-ranges v p a n = grind (arith, common_steps, nat_tests, false_from_ne_true, eqb-true, not_none, append-nil, length-range_bytes)
 
 -- the length of the SACK option in bytes, if ranges are emitted
 pub length-ranges : (v : TcpHeader) → v.sack_permitted ≡ false → is_some v.ack_number ≡ true → count_by is_some v.sack_ranges ≢ 0
     → length (texts (sack_items v)) ≡ 2 + 8 * count_by is_some v.sack_ranges
-length-ranges v p a n =
-    let e = ap length (texts-ranges v p a n) in
-    omega (arith, e, length-range_bytes v.sack_ranges)
+length-ranges v p a n = grind (arith, common_steps, nat_tests, texts-ranges, length-range_bytes)
 
 segment_size_len : (o : Option ℕ) → length (texts (segment_size_items o)) ≡ len_if (is_some o) 4
-segment_size_len None = refl
-segment_size_len (Some _) = refl
+segment_size_len o = grind arith
 
 window_scale_len : (o : Option ℕ) → length (texts (window_scale_items o)) ≡ len_if (is_some o) 3
-window_scale_len None = refl
-window_scale_len (Some _) = refl
+window_scale_len o = grind arith
 
 timestamp_len : (o : Option TcpTimestampRepr) → length (texts (timestamp_items o)) ≡ len_if (is_some o) 10
-timestamp_len None = refl
-timestamp_len (Some _) = refl
+timestamp_len o = grind arith
 
 sack_items_len : (p a : Bool) (n : ℕ) (bytes : List ℕ) → length bytes ≡ 8 * n
     → length (texts (cond p (item 4 [] ∷ []) (cond (a || eqb n 0) [] (item 5 bytes ∷ [])))) ≤ len_if p 2 + sack_len n
-sack_items_len true a n bytes e = omega arith
-sack_items_len false true n bytes e = omega arith
-sack_items_len false false zero bytes e = omega arith
-sack_items_len false false (suc n) bytes e =
-    let l = ap (λ b. length (texts (cond b [] (item 5 bytes ∷ [])))) (eqb-suc-zero n) in
-    let k = sack_len-suc n in
-    omega (arith, e, k, l, length-append bytes [])
+sack_items_len p a n bytes e = grind (arith, common_steps, nat_tests, eqb-suc-zero, sack_len-suc, length-append)
 
 -- the emitted options fit into the header
 pub written_len : (v : TcpHeader) → length (texts (segment_size_items v.max_seg_size)) + length (texts (window_scale_items v.window_scale)) + length (texts (sack_items v))
@@ -72,16 +60,11 @@ written_len v =
     omega (arith, a, b, c, d)
 
 texts_joined : (a b c d : List Item) → texts (a ++ b ++ c ++ d) ≡ ((texts a ++ texts b) ++ texts c) ++ texts d
-texts_joined a b c d =
-    flat_map-append text (a ++ b ++ c) d
-    ∙ ap (λ (l : List ℕ). l ++ texts d) (flat_map-append text (a ++ b) c ∙ ap (λ (l : List ℕ). l ++ texts c) (flat_map-append text a b))
+texts_joined a b c d = grind (arith, common_steps, nat_tests, flat_map-append)
 
 -- with the zeros after them they fill the header
 pub length-option_bytes : (v : TcpHeader) → 20 + length (option_bytes v) ≡ header_len_of v
-length-option_bytes v =
-    let joined = simp length-append at (ap length (texts_joined (segment_size_items v.max_seg_size) (window_scale_items v.window_scale) (sack_items v) (timestamp_items v.timestamp))) in
-    let zeros = length-replicate {A = ℕ} (header_len_of v - 20 - length (texts (items_of v))) 0 in
-    omega (arith, written_len v, joined, zeros, length-append (texts (items_of v)) (replicate (header_len_of v - 20 - length (texts (items_of v))) 0))
+length-option_bytes v = grind (arith, common_steps, nat_tests, length-append, texts_joined, length-replicate, written_len)
 
 -- the emitted header has the computed length
 pub length-header_bytes : (v : TcpHeader) (checksum : ℕ) → length (header_bytes v checksum) ≡ header_len_of v
@@ -91,11 +74,7 @@ length-header_bytes v checksum = omega (arith, length-option_bytes v)
 
 -- one borrow after another
 pub holds_then : (a b c : MutBor (List ℕ)) (x y z : List ℕ) → Holds a b x → Holds b c y → y ≡ z → Holds a c z
-holds_then a b c x y z h k e = record {
-  same_loan = k.same_loan ∙ h.same_loan;
-  same_length = k.same_length ∙ h.same_length;
-  holds = k.holds ∙ e;
-}
+holds_then a b c x y z h k e = grind (arith, common_steps, nat_tests)
 
 -- a part after a front that is already written
 pub part_behind : (old b front part : List ℕ) (at end : ℕ) → b ≡ front ++ drop at old → at ≡ length front → end ≡ at + length part
@@ -105,7 +84,7 @@ part_behind old b front part at end is place long =
     let rest : drop at b ≡ drop at old = ap (drop at) is ∙ drop_at front (drop at old) at (sym place) in
     let behind : drop end b ≡ drop end old =
     ap (λ (n : ℕ). drop n b) long ∙ sym (drop-drop (length part) at b) ∙ ap (drop (length part)) rest ∙ drop-drop (length part) at old ∙ ap (λ (n : ℕ). drop n old) (sym long) in
-    ap (λ (l : List ℕ). (l ++ part) ++ drop end b) head ∙ ap (λ (l : List ℕ). (front ++ part) ++ l) behind
+    rw (head, behind) refl
 
 length-part : (front part : List ℕ) (at end : ℕ) → at ≡ length front → end ≡ at + length part → end ≡ length (front ++ part)
 length-part front part at end place long = long ∙ ap (λ (n : ℕ). n + length part) place ∙ sym (length-append front part)
@@ -138,8 +117,7 @@ options_behind v old b₁ b₂ b₃ b₄ b₅ a₁ a₂ a₃ a₄ end size room 
     let e₄ = q₅ ∙ part_behind old b₄ ((((f₀ ++ t₁) ++ t₂) ++ t₃) ++ t₄) zeros a₄ end e₃ long₄ last in
     let joined = texts_joined (segment_size_items v.max_seg_size) (window_scale_items v.window_scale) (sack_items v) (timestamp_items v.timestamp) in
     let front : (((f₀ ++ t₁) ++ t₂) ++ t₃) ++ t₄ ≡ f₀ ++ texts (items_of v) =
-    ap (λ (l : List ℕ). (l ++ t₃) ++ t₄) (append_assoc f₀ t₁ t₂) ∙ ap (λ (l : List ℕ). l ++ t₄) (append_assoc f₀ (t₁ ++ t₂) t₃) ∙ append_assoc f₀ ((t₁ ++ t₂) ++ t₃) t₄
-    ∙ ap (λ (l : List ℕ). f₀ ++ l) (sym joined) in
+    rw (joined, append_assoc f₀ t₁ t₂, append_assoc f₀ (t₁ ++ t₂) t₃, append_assoc f₀ ((t₁ ++ t₂) ++ t₃) t₄) refl in
     let left : end - a₄ ≡ header_len_of v - 20 - length (texts (items_of v)) =
     omega (arith, size, p₁, p₂, p₃, p₄, simp length-append at (ap length joined)) in
     e₄ ∙ ap (λ (l : List ℕ). (l ++ zeros) ++ drop end old) front
@@ -150,11 +128,7 @@ options_behind v old b₁ b₂ b₃ b₄ b₅ a₁ a₂ a₃ a₄ end size room 
 -- the checksum that is filled in
 pub checksum_filled : (v : TcpHeader) (src dst : IpAddress) (payload rest : List ℕ)
     → with_checksum src dst (segment_with v payload 0 ++ rest) ≡ bytes_of v payload src dst true rest ++ rest
-checksum_filled v src dst payload rest =
-    let bytes = segment_with v payload 0 ++ rest in
-    let zeroed : with_field bytes 128 16 0 ≡ bytes = field-word bytes 0 in
-    ap (λ (z : List ℕ). with_field z 128 16 (65535 - segment_sum src dst z)) zeroed
-    ∙ field-word bytes (65535 - segment_sum src dst bytes)
+checksum_filled v src dst payload rest = grind (arith, common_steps, nat_tests, field-word)
 
 -- the header up to its options, with 0 as checksum
 abbrev pub fixed_of : TcpHeader → List ℕ
@@ -162,17 +136,13 @@ fixed_of v = fixed_bytes v.src_port v.dst_port (number v.seq_number) (ack_bits v
 
 -- a segment begins with that header
 pub begins_fixed : (v : TcpHeader) (payload rest bytes fixed : List ℕ) → fixed ≡ fixed_of v → bytes ≡ segment_with v payload 0 ++ rest → bytes ≡ fixed ++ drop 20 bytes
-begins_fixed v payload rest bytes fixed is whole =
-    whole ∙ ap (λ (l : List ℕ). l ++ drop 20 (segment_with v payload 0 ++ rest)) (sym is) ∙ ap (λ (l : List ℕ). fixed ++ drop 20 l) (sym whole)
+begins_fixed v payload rest bytes fixed is whole = grind arith
 
 -- that header and the options, in order
 header_written : (v : TcpHeader) (old with_fixed with_options : MutBor (List ℕ)) (fixed : List ℕ) (len : ℕ) → len ≡ header_len_of v → fixed ≡ fixed_of v
     → Holds old with_fixed (with_range old.now 0 (0 + length fixed) fixed) → Holds with_fixed with_options (with_range with_fixed.now 20 len (option_bytes v))
     → Holds old with_options (header_bytes v 0 ++ drop len old.now)
-header_written v old with_fixed with_options fixed len size is first options =
-    let begins : with_fixed.now ≡ fixed_of v ++ drop 20 old.now = first.holds ∙ ap (λ (l : List ℕ). with_range old.now 0 (0 + length l) l) is in
-    holds_then old with_fixed with_options (with_range old.now 0 (0 + length fixed) fixed) (with_range with_fixed.now 20 len (option_bytes v)) (header_bytes v 0 ++ drop len old.now) first options
-    (part_behind old.now with_fixed.now (fixed_of v) (option_bytes v) 20 len begins refl (size ∙ sym (length-option_bytes v)))
+header_written v old with_fixed with_options fixed len size is first options = grind (arith, common_steps, nat_tests, holds_then, part_behind, length-option_bytes)
 
 -- the header up to its options, the options and the payload, in order
 pub segment_written : (v : TcpHeader) (payload : List ℕ) (old with_fixed with_options whole : MutBor (List ℕ)) (fixed : List ℕ) (len : ℕ) → len ≡ header_len_of v → fixed ≡ fixed_of v
@@ -188,14 +158,9 @@ segment_written v payload old with_fixed with_options whole fixed len size is fi
 -- with 0 as checksum
 pub left_unsummed : (v : TcpHeader) (src dst : IpAddress) (payload rest : List ℕ) (old whole : MutBor (List ℕ)) (computed : Bool) → computed ≡ false
     → Holds old whole (segment_with v payload 0 ++ rest) → Holds old whole (bytes_of v payload src dst computed rest ++ rest)
-left_unsummed v src dst payload rest old whole true e h = absurd (cc)
-left_unsummed v src dst payload rest old whole false e h = h
+left_unsummed v src dst payload rest old whole computed e h = grind arith
 
 -- with a computed checksum
 pub then_summed : (v : TcpHeader) (src dst : IpAddress) (payload rest : List ℕ) (old whole summed : MutBor (List ℕ)) (computed : Bool) → computed ≡ true
     → Holds old whole (segment_with v payload 0 ++ rest) → Holds whole summed (with_field whole.now 128 16 (65535 - segment_sum src dst whole.now)) → Holds old summed (bytes_of v payload src dst computed rest ++ rest)
-then_summed v src dst payload rest old whole summed false e h k = absurd (cc)
-then_summed v src dst payload rest old whole summed true e h k =
-    let bytes = segment_with v payload 0 ++ rest in
-    holds_then old whole summed bytes (with_field whole.now 128 16 (65535 - segment_sum src dst whole.now)) (bytes_of v payload src dst true rest ++ rest) h k
-    (ap (λ (b : List ℕ). with_field b 128 16 (65535 - segment_sum src dst b)) h.holds ∙ field-word bytes (65535 - segment_sum src dst bytes))
+then_summed v src dst payload rest old whole summed computed e h k = grind (arith, common_steps, nat_tests, holds_then, field-word)

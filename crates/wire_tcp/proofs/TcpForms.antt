@@ -15,11 +15,13 @@ use Rattle.wire_tcp.specs.Tcp.{header_len, options_of}
 use Rattle.wire_tcp_parts.specs.TcpItems.{Item, IsItem, block_at, first_blocks, is_of, is_timestamp, last_of, stamps, text, texts, timestamp_of, window_scale_of}
 use Rattle.wire_tcp_parts.specs.declared.tcp.TheConstants.{SACK_BLOCKS}
 use Rattle.wire_tcp_parts.specs.declared.tcp.seq_number.TcpSeqNumber.{TcpSeqNumber}
-use Rattle.wire_tcp.specs.TcpRepr.{HasIdleRanges, IsInRange, IsSeq, Reads, TcpHeader, closed, header_len_of, len_if, no_ranges, normal, sack_len, seq_of, stamp_of}
+use Rattle.wire_tcp.specs.TcpRepr.{HasIdleRanges, IsInRange, IsSeq, Reads, TcpHeader, closed, header_len_of, len_if, no_ranges, normal, seq_of, stamp_of}
 use Rattle.wire_tcp.proofs.OptionsBack.{Pair, closed_none, count_somes, min_twice, somes, somes_closed}
 use Rattle.wire_tcp_parts.proofs.Items.{text-other}
 use Rattle.wire_tcp.proofs.OptionLens.{header_len-read, some_map}
 use Rattle.wire_tcp.proofs.TcpReadsBack.{IsWritable}
+use Rattle.std.proofs.lemmas.Grind.{common_steps}
+use Rattle.std.proofs.lemmas.Bool.Decides.{nat_tests}
 
 -- ---- parsed blocks have no gaps
 
@@ -44,13 +46,7 @@ shaped content (suc m) a = elim (cases_Bool (nat_lt (8 * a) (length content))) [
 ]
 
 closed-shaped : (rs : List (Option Pair)) → Shaped rs → closed rs ≡ rs
-closed-shaped rs (ps, k, is) =
-    let there : somes rs ≡ ps = ap somes is ∙ somes_closed ps k in
-    let long = ap length is in
-    let few = ap length there in
-    let left : length rs - length (somes rs) ≡ k =
-    omega (arith, long, few, length-append (map Some ps) (replicate {A = Option Pair} k None), length-map ps Some, length-replicate {A = Option Pair} k None) in
-    ap (λ (l : List Pair). map Some l ++ replicate (length rs - length (somes rs)) None) there ∙ ap (λ (n : ℕ). map Some ps ++ replicate {A = Option Pair} n None) left ∙ sym is
+closed-shaped rs h = grind (arith, common_steps, nat_tests, somes, somes_closed, length-append, Pair, length-map, length-replicate)
 
 closed-blocks : (content : List ℕ) → closed (first_blocks content) ≡ first_blocks content
 closed-blocks content = closed-shaped (first_blocks content) (shaped content SACK_BLOCKS 0)
@@ -84,14 +80,7 @@ normal_or_idle src dst verified bytes payload v r =
 
 -- without these ranges its header is shorter
 pub idle-shorter : (v : TcpHeader) → HasIdleRanges v → header_len_of (normal v) < header_len_of v
-idle-shorter v h =
-    let rs = v.sack_ranges in
-    let some = h.0 in
-    let there = ap (λ (b : Bool). cond b 0 (2 + 8 * count_by is_some rs)) (false_from_ne_true (eqb (count_by is_some rs) 0) (λ z. some (eqb-true (count_by is_some rs) 0 z))) in
-    let left : sack_len (count_by is_some (normal v).sack_ranges) ≡ 0 =
-    ap (λ (b : Bool). sack_len (count_by is_some (cond b no_ranges (closed rs)))) ((unwritten v.sack_permitted v.ack_number).1 h.1) in
-    let scale : len_if (is_some (normal v).window_scale) 3 ≡ len_if (is_some v.window_scale) 3 = ap (λ (b : Bool). len_if b 3) (some_map (min 14) v.window_scale) in
-    omega (arith, some, there, left, scale)
+idle-shorter v h = grind (arith, common_steps, nat_tests, false_from_ne_true, eqb-true, unwritten, some_map)
 
 -- a parsed value is normal, or the header of its normal form is shorter
 pub normal_or_shorter : (src dst : IpAddress) (verified : Bool) (bytes payload : List ℕ) (v : TcpHeader) → Reads bytes src dst verified v payload
@@ -101,29 +90,21 @@ normal_or_shorter src dst verified bytes payload v r = elim (normal_or_idle src 
 -- ---- values without SACK ranges
 
 len_if-most : (b : Bool) (n : ℕ) → len_if b n ≤ n
-len_if-most true n = omega arith
-len_if-most false n = omega arith
+len_if-most b n = grind arith
 
 -- a value without SACK ranges has a header of at most 40 bytes
-pub header_len-no_ranges : (v : TcpHeader) → v.sack_ranges ≡ no_ranges → header_len_of v ≤ 40
-header_len-no_ranges v none =
-    let sack : sack_len (count_by is_some v.sack_ranges) ≡ 0 = ap (λ (rs : List (Option (ℕ × ℕ))). sack_len (count_by is_some rs)) none in
-    omega (arith, sack, len_if-most (is_some v.max_seg_size) 4, len_if-most (is_some v.window_scale) 3, len_if-most v.sack_permitted 2, len_if-most (is_some v.timestamp) 10)
+pub header_len_no_ranges : (v : TcpHeader) → v.sack_ranges ≡ no_ranges → header_len_of v ≤ 40
+header_len_no_ranges v none = grind (arith, common_steps, nat_tests, len_if-most)
 
 scale_kept : (scale : Option ℕ) → IfSome scale (λ n. n ≤ 14) → option_map (min 14) scale ≡ scale
-scale_kept None h = refl
-scale_kept (Some n) h = ap Some (omega (arith, h))
+scale_kept scale h = grind arith
 
 ranges_kept : (ranges : List (Option (ℕ × ℕ))) (unwritten : Bool) → ranges ≡ no_ranges → (if unwritten then no_ranges else closed ranges) ≡ ranges
-ranges_kept ranges true none = sym none
-ranges_kept ranges false none = ap closed none ∙ sym none
+ranges_kept ranges unwritten none = grind arith
 
 -- a value without SACK ranges is normal if its window scale is at most 14
-pub normal-no_ranges : (v : TcpHeader) → v.sack_ranges ≡ no_ranges → IfSome v.window_scale (λ n. n ≤ 14) → normal v ≡ v
-normal-no_ranges v none small =
-    let scale = scale_kept v.window_scale small in
-    let ranges = ranges_kept v.sack_ranges (v.sack_permitted || is_none v.ack_number) none in
-    (λ i. record v { window_scale = scale i; sack_ranges = ranges i })
+pub normal_no_ranges : (v : TcpHeader) → v.sack_ranges ≡ no_ranges → IfSome v.window_scale (λ n. n ≤ 14) → normal v ≡ v
+normal_no_ranges v none small = grind (arith, common_steps, nat_tests, scale_kept, ranges_kept)
 
 -- ---- a parsed value is in range
 
@@ -154,17 +135,14 @@ items_bytes (i ∷ items) tail all h =
     (content_bytes i all.0 first, items_bytes items tail all.1 rest)
 
 one_or : (P : Item → Type 0) (o : Option Item) (b : Bool) (i : Item) → IfSome o P → P i → IfSome (option_or o (cond b (Some i) None)) P
-one_or P None true i h k = k
-one_or P None false i h k = tt
-one_or P (Some j) b i h k = h
+one_or P o b i h k = grind arith
 
 last_has : (P : Item → Type 0) (p : Item → Bool) (items : List Item) → AllByRecursion P items → IfSome (last_of p items) P
 last_has P p [] all = tt
 last_has P p (i ∷ items) all = one_or P (last_of p items) (p i) i (last_has P p items all.1) all.0
 
 mapped_has : {X Y : Type 0} (P : X → Type 0) (Q : Y → Type 0) (f : X → Y) (o : Option X) → ((x : X) → P x → Q (f x)) → IfSome o P → IfSome (option_map f o) Q
-mapped_has P Q f None each h = tt
-mapped_has P Q f (Some x) each h = each x h
+mapped_has P Q f o each h = grind arith
 
 number_2 : (xs : List ℕ) → AreBytes xs → big_number 2 xs < 2 ^ 16
 number_2 xs h = omega (arith, h 0, h 1)
@@ -184,15 +162,13 @@ blocks_fit content h zero a = tt
 blocks_fit content h (suc m) a = (block_fits content a (nat_lt (8 * a) (length content)) h, blocks_fit content h m (a + 1))
 
 content_has : (o : Option Item) → IfSome o HasBytes → AreBytes (option_map_or (λ i. i.content) o [])
-content_has None h = λ i. omega arith
-content_has (Some i) h = h
+content_has o h = grind arith
 
 seq-fits : (n : ℕ) → n < 2 ^ 32 → IsSeq (seq_of n)
 seq-fits n h = sfits_to_z (record { fits = h })
 
 ack-fits : (b : Bool) (n : ℕ) → n < 2 ^ 32 → IfSome (cond b (Some (seq_of n)) None) IsSeq
-ack-fits true n h = seq-fits n h
-ack-fits false n h = tt
+ack-fits b n h = grind arith
 
 -- the value parsed from bytes is in range
 pub Reads-IsInRange : (src dst : IpAddress) (verified : Bool) (bytes payload : List ℕ) (v : TcpHeader) → AreBytes bytes → Reads bytes src dst verified v payload → IsInRange v

@@ -8,16 +8,18 @@ use mir.ValLaws as laws
 use Rattle.wire_ends.specs.IpAddress.{octets_of}
 use Rattle.wire_ends.specs.declared.ip_address.IpAddress.{IpAddress}
 use Rattle.wire_field.specs.Field.{field}
-use Rattle.wire_tcp.specs.Tcp.{Verifies, header_len, options_of, payload_of, segment_sum}
+use Rattle.wire_tcp.specs.Tcp.{Verifies, header_len, options_of, payload_of}
 use Rattle.wire_tcp_parts.specs.TcpSeq.{number}
 use Rattle.wire_tcp.proofs.Sums.{verifies}
 use Rattle.wire_tcp_parts.specs.declared.tcp.control.TcpControl.{TcpControl}
 use Rattle.wire_tcp_parts.specs.declared.tcp.control.TcpControl.TheVariants as control
 use Rattle.wire_tcp_parts.specs.declared.tcp.seq_number.TcpSeqNumber.{TcpSeqNumber}
-use Rattle.wire_tcp.specs.TcpRepr.{HasControl, IsInRange, IsSeq, Reads, ReadsOptions, TcpHeader, ack_bits, ack_number_of, bytes_of, flag_of, header_bytes, header_len_of, normal, option_bytes, segment_with, seq_of}
+use Rattle.wire_tcp.specs.TcpRepr.{HasControl, IsInRange, IsSeq, Reads, ReadsOptions, TcpHeader, ack_number_of, bytes_of, flag_of, header_bytes, header_len_of, normal, option_bytes, segment_with, seq_of}
 use Rattle.wire_tcp.proofs.OptionsBack.{options_back}
 use Rattle.wire_tcp.proofs.TcpComputed.{reads_once}
 use Rattle.wire_tcp.proofs.TcpEmitted.{checksum_filled, length-header_bytes, length-option_bytes}
+use Rattle.std.proofs.lemmas.Grind.{common_steps}
+use Rattle.std.proofs.lemmas.Bool.Decides.{nat_tests}
 
 -- the value has a segment that parses: its numbers are in range, its ports are not 0, and its options fit
 pub record IsWritable (v : TcpHeader) : Type 0 where
@@ -42,51 +44,20 @@ ack_part None = (0, omega arith, refl)
 ack_part (Some s) = (1, omega arith, refl)
 
 flag-bound : (c : TcpControl) → flag_of c < 16
-flag-bound control.None = omega arith
-flag-bound control.Fin = omega arith
-flag-bound control.Syn = omega arith
-flag-bound control.Rst = omega arith
-flag-bound control.Psh = omega arith
+flag-bound c = grind (arith, common_steps, nat_tests)
 
 pub header_len-segment : (v : TcpHeader) (payload : List ℕ) (checksum : ℕ) → header_len_of v ≤ 60 → header_len (segment_with v payload checksum) ≡ header_len_of v
-header_len-segment v payload checksum most =
-    let a = ack_part v.ack_number in
-    let f = flag-bound v.control in
-    omega (arith, a.1, a.2, f)
+header_len-segment v payload checksum most = grind (arith, common_steps, nat_tests, ack_part, flag-bound)
 
 -- the data offset of an emitted segment gives the computed header length
 pub header_len-bytes_of : (v : TcpHeader) (src dst : IpAddress) (payload : List ℕ) (computed : Bool) → header_len_of v ≤ 60 → header_len (bytes_of v payload src dst computed []) ≡ header_len_of v
-header_len-bytes_of v src dst payload true most = header_len-segment v payload (65535 - segment_sum src dst (segment_with v payload 0 ++ [])) most
-header_len-bytes_of v src dst payload false most = header_len-segment v payload 0 most
+header_len-bytes_of v src dst payload computed most = grind arith
 
 control-back : (v : TcpHeader) (payload : List ℕ) (checksum : ℕ) → HasControl (segment_with v payload checksum) v.control
-control-back v payload checksum = by (ack_part v.ack_number) v.control refl
-  where
-    by : (k : ℕ) × (k < 2) × ((if is_some v.ack_number then 16 else 0) ≡ 16 * k) → (c : TcpControl) → v.control ≡ c → HasControl (segment_with v payload checksum) c
-    by (k, bit, ack) control.None e = let f = ap flag_of e in grind arith
-    by (k, bit, ack) control.Psh e = let f = ap flag_of e in grind arith
-    by (k, bit, ack) control.Syn e = let f = ap flag_of e in grind arith
-    by (k, bit, ack) control.Fin e = let f = ap flag_of e in grind arith
-    by (k, bit, ack) control.Rst e = let f = ap flag_of e in grind arith
+control-back v payload checksum = grind (arith, common_steps, nat_tests, ack_part)
 
 ack-back : (v : TcpHeader) (payload : List ℕ) (checksum : ℕ) → IfSome v.ack_number IsSeq → v.ack_number ≡ ack_number_of (segment_with v payload checksum)
-ack-back v payload checksum fits = by v.ack_number refl
-  where
-    by : (o : Option TcpSeqNumber) → v.ack_number ≡ o → o ≡ ack_number_of (segment_with v payload checksum)
-    by None e =
-        let f = flag-bound v.control in
-        let none = ap {B = ℕ} (λ o. if is_some o then 16 else 0) e in
-        let clear : field (segment_with v payload checksum) 107 1 ≡ 0 = omega (arith, f, none) in
-        rw clear refl
-    by (Some s) e =
-        let f = flag-bound v.control in
-        let some = ap {B = ℕ} (λ o. if is_some o then 16 else 0) e in
-        let is : IsSeq s = subst (λ o. IfSome o IsSeq) e fits in
-        let bits : ack_bits v ≡ number s = ap (λ o. Rattle.std.specs.Option.option_map_or number o 0) e in
-        let bound = number-bound s is in
-        let set : field (segment_with v payload checksum) 107 1 ≡ 1 = omega (arith, f, some) in
-        let there : field (segment_with v payload checksum) 64 32 ≡ number s = omega (arith, bits, bound) in
-        rw (set, there) (ap Some (sym (seq-back s is)))
+ack-back v payload checksum fits = grind (arith, common_steps, nat_tests, flag-bound, number-bound, seq-back)
 
 -- ---- the segment
 
@@ -131,12 +102,12 @@ bytes_of-verifies v src dst payload s d =
     subst (Verifies src dst) filled (verifies src dst (segment_with v payload 0 ++ []) s d room)
 
 -- an emitted segment parses as the normal form, with the same payload
-pub reads-bytes_of : (v : TcpHeader) (src dst : IpAddress) (payload : List ℕ) (computed verified : Bool) → IsWritable v
+pub reads_bytes_of : (v : TcpHeader) (src dst : IpAddress) (payload : List ℕ) (computed verified : Bool) → IsWritable v
     → length (octets_of src) % 2 ≡ 0 → length (octets_of dst) % 2 ≡ 0 → (IsTrue verified → IsTrue computed)
     → Reads (bytes_of v payload src dst computed []) src dst verified (normal v) payload
-reads-bytes_of v src dst payload true verified w s d sound =
+reads_bytes_of v src dst payload true verified w s d sound =
     reads-segment_with v src dst payload _ verified w (λ on. bytes_of-verifies v src dst payload s d)
-reads-bytes_of v src dst payload false verified w s d sound =
+reads_bytes_of v src dst payload false verified w s d sound =
     reads-segment_with v src dst payload 0 verified w (λ on. let no : IsTrue false = sound on in absurd (cc))
 
 -- an emitted normal value parses as itself
@@ -144,7 +115,7 @@ pub reads-normal : (v : TcpHeader) (src dst : IpAddress) (payload : List ℕ) (c
     → length (octets_of src) % 2 ≡ 0 → length (octets_of dst) % 2 ≡ 0 → (IsTrue verified → IsTrue computed)
     → Reads (bytes_of v payload src dst computed []) src dst verified v payload
 reads-normal v src dst payload computed verified is w s d sound =
-    subst (λ n. Reads (bytes_of v payload src dst computed []) src dst verified n payload) is (reads-bytes_of v src dst payload computed verified w s d sound)
+    subst (λ n. Reads (bytes_of v payload src dst computed []) src dst verified n payload) is (reads_bytes_of v src dst payload computed verified w s d sound)
 
 -- normal values with the same emitted bytes are equal
 pub same_written : (v w : TcpHeader) (src dst : IpAddress) (payload other : List ℕ) → normal v ≡ v → normal w ≡ w → IsWritable v → IsWritable w

@@ -13,9 +13,9 @@ use Rattle.wire_field.specs.Field.{field, with_range}
 use Rattle.wire_field.proofs.ByteLists.{AreBytes-append, AreBytes-bytes_high_first, AreBytes-drop, AreBytes-take}
 use Rattle.wire_field.proofs.Cells.{cells-all}
 use Rattle.wire_field.proofs.Spelled.{AreBytes}
-use Rattle.wire_tcp.proofs.OptionItems.{items_in-list, mapped}
+use Rattle.wire_tcp.proofs.OptionItems.{items_in-list}
 use Rattle.wire_tcp.proofs.Sums.{valid-updated}
-use Rattle.wire_tcp.proofs.TcpChanged.{control_kept, receiver_read, reads-checksum, sender_read}
+use Rattle.wire_tcp.proofs.TcpChanged.{control_kept, receiver_read, reads_checksum, sender_read}
 use Rattle.wire_tcp.proofs.TcpComputed.{Reads-is, reads-with}
 use Rattle.wire_tcp.specs.Tcp.{Verifies, header_len, options_of, payload_of}
 use Rattle.wire_tcp.specs.TcpRepr.{Reads, TcpHeader, header_with, items_in}
@@ -25,6 +25,9 @@ use Rattle.wire_tcp_parts.specs.TcpItems.{IsOptionList, Item, segment_size_of}
 use Rattle.wire_tcp_parts.specs.TcpPlace.{segment_size_at}
 use Rattle.wire_tcp_parts.specs.TcpSummary.{HasNoList}
 use Rattle.wire_tcp_parts.specs.declared.tcp.control.TcpControl.{TcpControl}
+use Rattle.wire_field.proofs.Readings.{option_map-Some}
+use Rattle.std.proofs.lemmas.Grind.{common_steps}
+use Rattle.std.proofs.lemmas.Bool.Decides.{nat_tests}
 
 -- ---- other bytes in the options
 
@@ -38,7 +41,7 @@ record SameFixed (old new : List ℕ) : Type 0 where
   values : (asked : TcpControl) (items : List Item) → header_with new asked items ≡ header_with old asked items
 
 same_fixed : (front old new : List ℕ) → length front ≡ 20 → SameFixed (front ++ old) (front ++ new)
-same_fixed front old new long = subst (λ (f : List ℕ). SameFixed (f ++ old) (f ++ new)) (sym (cells-all 20 front long)) (record { header = refl; flags = refl; values = λ asked items. refl })
+same_fixed front old new long = rw (cells-all 20 front long) (record { header = refl; flags = refl; values = λ asked items. refl })
 
 -- the segment with other bytes in the options
 record Replaced (bytes new options : List ℕ) : Type 0 where
@@ -132,7 +135,7 @@ reads-at src dst bytes i n verified v payload are fits s d r found =
       receiver = λ none. receiver_read bytes src dst verified v payload r (ap (λ (h : TcpHeader). h.dst_port) (sym is) ∙ none);
       checksum = λ no. cc;
     }) (control_kept bytes new p.same.flags v.control r.control) (subst (λ (l : List ℕ). IsOptionList l o.others r.options.tail) (sym p.options_are) o.list) in
-    reads-checksum new _ src dst src dst false verified (record v { max_seg_size = Some n }) payload
+    reads_checksum new _ src dst src dst false verified (record v { max_seg_size = Some n }) payload
     (subst (λ (h : TcpHeader). Reads new src dst false h payload) is (subst (Reads new src dst false (header_with new v.control o.others)) (p.payload_is ∙ sym r.body) unsummed))
     (λ on. valid-at src dst bytes i n are s d begins ends inside (r.checksum on))
 
@@ -158,7 +161,7 @@ record Found (bytes : List ℕ) (at : ℕ) : Type 0 where
 
 found : (bytes : List ℕ) (at : ℕ) → max_seg_size_at bytes ≡ Some at → Found bytes at
 found bytes at e =
-    let (i, placed, is) = mapped (λ n. 20 + n) (option_and_then segment_size_at (items_in (options_of bytes))) at e in
+    let (i, placed, is) = option_map-Some (λ n. 20 + n) (option_and_then segment_size_at (items_in (options_of bytes))) at e in
     option_and_then_some segment_size_at (items_in (options_of bytes)) i placed (λ items computed here.
     let (tail, list) = (items_in-list (options_of bytes) items).0 computed in
     let (inside, size) = sized_at (options_of bytes) items tail i list here in
@@ -188,12 +191,7 @@ written_found bytes at n e = ap (λ (o : Option ℕ). option_map_or (with_size_a
 
 -- without an index there is no size, and the bytes stay
 none_at : (o : Option (List Item)) → option_map (λ n. 20 + n) (option_and_then segment_size_at o) ≡ None → None ≡ option_and_then segment_size_of o
-none_at None e = refl
-none_at (Some items) e = ap (option_map (λ i. big_number 2 i.content)) (sym (no_size items (unplaced (segment_size_at items) e)))
-  where
-    unplaced : (o : Option ℕ) → option_map (λ n. 20 + n) o ≡ None → o ≡ None
-    unplaced None e = refl
-    unplaced (Some n) e = absurd (cc)
+none_at o e = grind (arith, common_steps, nat_tests, no_size)
 
 pub none_found : (bytes : List ℕ) (n : ℕ) → max_seg_size_at bytes ≡ None → (None ≡ max_seg_size_of bytes) × (bytes ≡ with_max_seg_size bytes n)
 none_found bytes n e = (none_at (items_in (options_of bytes)) e, ap (λ (o : Option ℕ). option_map_or (with_size_at bytes n) o bytes) (sym e))

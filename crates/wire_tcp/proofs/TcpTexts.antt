@@ -1,5 +1,5 @@
 -- The printed texts of a segment.
-use Rattle.std.proofs.Common.{ℕ, zero, suc, ◌≡◌, ◌≢◌, ◌-◌, ◌^◌, ◌<◌, ◌≤◌, ◌==◌, ◌++◌, Bool, List, Option, [], ◌∷◌, Some, None, codes, decimal, flat_map, length, replicate, refl, sym, ap, ◌∙◌, false, arith}
+use Rattle.std.proofs.Common.{ℕ, zero, suc, ◌≡◌, ◌≢◌, ◌-◌, ◌^◌, ◌<◌, ◌≤◌, ◌==◌, ◌++◌, Bool, List, Option, [], ◌∷◌, Some, None, codes, decimal, flat_map, length, refl, sym, ap, ◌∙◌, false, arith}
 use Rattle.std.specs.Fmt.{◌++?◌, char_count, comma_space, debug_items, debug_list, debug_option, digits, format_spec, padded_integral}
 use Rattle.std.specs.Option.{option_map_or}
 use Rattle.std.specs.Prelude.{if◌then◌else◌}
@@ -17,21 +17,19 @@ use Rattle.wire_tcp_parts.proofs.FirstItems.{Leads-first_item, first_item-Leads,
 use Rattle.wire_tcp_parts.proofs.OptionLists.{head-text, nil-text, shorter}
 use Rattle.wire_tcp_parts.proofs.Summaries.{scale_is}
 use Rattle.wire_tcp.proofs.TcpComputed.{has_lengths-Decides}
+use Rattle.std.proofs.lemmas.Grind.{common_steps}
 
 -- what `{:08x}` prints
 pub padded_hex_word : (n : ℕ) → padded_integral (format_spec 32 0 4 8 (2 ^ 64 - 1)) false [] (digits 16 false n) ≡ hex_word n
 unfolding padded_integral char_count
-padded_hex_word n =
-    let zeros : 8 - length (digits 16 false n) - 0 - 0 ≡ 8 - length (digits 16 false n) = omega arith in
-    ap (λ (k : ℕ). replicate k 48 ++ (digits 16 false n ++ [])) zeros ∙ ap (λ (t : List ℕ). replicate (8 - length (digits 16 false n)) 48 ++ t) (append-nil (digits 16 false n))
+padded_hex_word n = grind (arith, common_steps, nat_tests, append-nil)
 
 -- what `{:?}` prints for a block
 abbrev pub range_output : Option (ℕ × ℕ) → Option (List ℕ)
 range_output = debug_option (λ (r : ℕ × ℕ). Some (40 ∷ []) ++? Some (decimal r.0) ++? Some comma_space ++? Some (decimal r.1) ++? Some (41 ∷ []))
 
 range_output-text : (o : Option (ℕ × ℕ)) → range_output o ≡ Some (range_text o)
-range_output-text None = refl
-range_output-text (Some r) = refl
+range_output-text o = grind arith
 
 debug_items-ranges : (ranges : List (Option (ℕ × ℕ))) → debug_items range_output comma_space ranges ≡ Some (flat_map (λ o. codes ", " ++ range_text o) ranges)
 debug_items-ranges [] = refl
@@ -68,8 +66,7 @@ at_step n kind rest some = rw (false_from_ne_true (kind == 0) (λ e. some (eqb-t
 
 at_none : (n : ℕ) → options_text_within n [] ≡ []
 unfolding options_text_within
-at_none zero = refl
-at_none (suc n) = refl
+at_none n = grind arith
 
 at_mark : (n : ℕ) (rest : List ℕ) → options_text_within (suc n) (0 ∷ rest) ≡ []
 unfolding options_text_within
@@ -103,8 +100,7 @@ options_text-item (kind ∷ r) i rest is e =
     let same = head-text i kind r rest e in
     let less = shorter i (kind ∷ r) rest e in
     at_step (length r) kind r (λ z. absurd (omega (arith, z, same, above)))
-    ∙ ap (λ (o : Option (Item × List ℕ)). option_map_or (λ d. item_text d.0 ++ options_text_within (length r) d.1) o (codes " (wire::Error)")) (Leads-first_item (kind ∷ r) i rest (record { is = is; joined = e }))
-    ∙ ap (λ (t : List ℕ). item_text i ++ t) (enough (length r) (length rest) rest (omega (arith, less)) (omega arith))
+    ∙ rw (Leads-first_item (kind ∷ r) i rest (record { is = is; joined = e }), enough (length r) (length rest) rest (omega (arith, less)) (omega arith)) refl
 
 -- no bytes, no text
 pub options_text-empty : (bytes : List ℕ) → length bytes ≤ 0 → options_text bytes ≡ []
@@ -145,8 +141,7 @@ shown-item (Unknown kind bytes) i (above, short, same, e) =
 pub packet_text-some : (bytes : List ℕ) → HasLengths bytes
     → packet_text bytes ≡ ports_text (field bytes 0 16) (field bytes 16 16) ++ (flags_text bytes ++ (fields_text bytes ++ options_text (options_of bytes)))
 unfolding packet_text
-packet_text-some bytes h =
-    rw ((has_lengths-Decides bytes).1 h) refl
+packet_text-some bytes h = grind arith
 
 -- the text of bytes with invalid lengths
 pub packet_text-none : (bytes : List ℕ) → ¬ HasLengths bytes → packet_text bytes ≡ codes "TCP (wire::Error)"

@@ -1,5 +1,5 @@
 -- The values of Rust types are in range.
-use Rattle.std.proofs.Common.{rules, ◌≢◌, ◌≤◌, ◌<◌, ◌^◌, List, [], ◌∷◌, Option, Some, None, IfSome}
+use Rattle.std.proofs.Common.{◌≢◌, ◌≤◌, ◌<◌, ◌^◌, List, [], ◌∷◌, Option, IfSome, arith}
 use Rattle.std.specs.List.{AllByRecursion}
 use base.Fml.{Fml}
 use denote.Array.{each}
@@ -15,6 +15,8 @@ use Rattle.wire_tcp.specs.contracts.tcp.repr.TcpRepr.{the_type}
 use Rattle.wire_tcp.specs.declared.tcp.repr.TcpRepr.{TcpRepr}
 use Rattle.wire_tcp.proofs.OptionsBack.{Pair}
 use Rattle.wire_tcp.proofs.TcpReadsBack.{IsWritable}
+use Rattle.std.proofs.lemmas.Grind.{common_steps}
+use Rattle.std.proofs.lemmas.Bool.Decides.{nat_tests}
 
 -- a fact about each element of an array
 each_says : {X : Type 0} (says : X → List Val → Fml) (P : X → Type 0) → ((x : X) (vals : List Val) → shadow (says x vals) → P x)
@@ -26,23 +28,11 @@ each_says says P one (x ∷ xs) (u ∷ vals) s = (one x (u ∷ []) s.0, each_say
 
 -- the edges of a range are numbers of 32 bits
 range_says : (r : Option Pair) (vals : List Val) → shadow ((option.the_row (Tuple (u32 ∷ u32 ∷ []))).own_val r vals) → IfSome r (λ r. (r.0 < 2 ^ 32) × (r.1 < 2 ^ 32))
-range_says None vals s = tt
-range_says (Some r) vals s = search rules
+range_says r vals s = grind arith
 
 -- the ranges of the numbers in a value
 pub value_in_range : (a : NamedLft) (v : TcpRepr) (vals : List Val) → shadow ((row (the_type a)).own_val v vals) → IsInRange (header_of v)
-value_in_range a v vals s = record {
-  src_port = search rules;
-  dst_port = search rules;
-  seq_number = search rules;
-  ack_number = search rules;
-  window_len = search rules;
-  window_scale = search rules;
-  max_seg_size = search rules;
-  places = search rules;
-  sack_ranges = each_says (option.the_row (Tuple (u32 ∷ u32 ∷ []))).own_val (λ r. IfSome r (λ r. (r.0 < 2 ^ 32) × (r.1 < 2 ^ 32))) range_says v.sack_ranges s.1.1.1.1.1.1.1.1.1.1.1.0.0 s.1.1.1.1.1.1.1.1.1.1.1.0.1.1;
-  timestamp = search rules;
-}
+value_in_range a v vals s = grind (arith, common_steps, nat_tests, each_says, range_says)
 
 -- so a value with ports and a header that is not too long can be emitted
 pub value_is_writable : (a : NamedLft) (v : TcpRepr) (vals : List Val) → shadow ((row (the_type a)).own_val v vals) → v.src_port ≢ 0 → v.dst_port ≢ 0 → header_len_of (header_of v) ≤ 60

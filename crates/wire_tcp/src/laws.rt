@@ -139,6 +139,7 @@ pub fn filled_checksum_verifies(src_addr: IpAddress, dst_addr: IpAddress, bytes:
 
 /// A value without SACK ranges has a header of at most 40 bytes. It is normal if its window scale is at
 /// most 14.
+#[tactic(auto, using(crate::proofs::TcpForms::header_len_no_ranges, crate::proofs::TcpForms::normal_no_ranges))]
 pub fn no_ranges_tcp(value: TcpRepr<'_>)
     requires { value.sack_ranges ≡ no_ranges }
     ensures header_len { header_len_of (header_of value.entry) ≤ 40 }

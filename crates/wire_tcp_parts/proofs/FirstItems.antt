@@ -5,13 +5,14 @@ use Rattle.std.proofs.lemmas.Bool.{cases_Bool, eqb-true, eqb-false}
 use Rattle.std.proofs.lemmas.Bool.Decides.{nat_tests}
 use Rattle.std.proofs.lemmas.List.{drop_at, length-take-le, take_at}
 use Rattle.wire_tcp_parts.specs.TcpItems.{Item, IsItem, first_item, is_sized, item, text}
-use Rattle.wire_tcp_parts.proofs.Items.{IsItem-bare, text-bare, text-other, text_here}
+use Rattle.wire_tcp_parts.proofs.Items.{IsItem_bare, text-bare, text-other, text_here}
 use Rattle.wire_tcp_parts.proofs.Summaries.{and_right}
+use Rattle.wire_field.proofs.Readings.{none_of}
+use Rattle.std.proofs.lemmas.Grind.{common_steps}
 
 -- the data of an item have a length that its kind allows
 sized : (i : Item) → IsItem i → is_sized i.kind (length i.content) ≡ true
-sized i is =
-    grind (arith, nat_tests)
+sized i is = grind arith
 
 no_content : (content : List ℕ) → length content ≡ 0 → content ≡ []
 no_content [] e = refl
@@ -37,19 +38,13 @@ pub record Leads (bytes : List ℕ) (i : Item) (rest : List ℕ) : Type 0 where
 
 front : (kind : ℕ) (rest : List ℕ) → kind ≢ 1 → 2 ≤ slice_index rest 0 → slice_index rest 0 - 2 ≤ length (drop 1 rest)
     → kind ∷ rest ≡ text (item kind (take (slice_index rest 0 - 2) (drop 1 rest))) ++ drop (slice_index rest 0 - 2) (drop 1 rest)
-front kind [] other some room = absurd (omega arith)
-front kind (len ∷ rest) other some room =
-    let two : 2 + (len - 2) ≡ len = omega arith in
-    ap (λ (l : ℕ). kind ∷ l ∷ rest) (sym two) ∙ text_here kind (len - 2) rest other room
+front kind rest other some room = grind (arith, common_steps, nat_tests, text_here)
 
 -- the result of a choice of three
 choices : (a b c : Bool) (y z w : Option (Item × List ℕ)) (P : Type 0)
     → (None ≡ w → P) → (a ≡ false → b ≡ true → y ≡ w → P) → (a ≡ false → b ≡ false → c ≡ true → z ≡ w → P)
     → (if a then None else if b then y else if c then z else None) ≡ w → P
-choices true b c y z w P k g h e = k e
-choices false true c y z w P k g h e = g refl refl e
-choices false false true y z w P k g h e = h refl refl refl e
-choices false false false y z w P k g h e = k e
+choices a b c y z w P k g h e = grind arith
 
 of_some : (a b : Item × List ℕ) → Some a ≡ Some b → a ≡ b
 of_some a b e = cc
@@ -67,7 +62,7 @@ first_item-Leads (kind ∷ r) i rest e =
     let pair = of_some (item 1 [], r) (i, rest) same in
     let is = ap (λ (d : Item × List ℕ). d.0) pair in
     let left = ap (λ (d : Item × List ℕ). d.1) pair in
-    let lead : Leads (kind ∷ r) (item 1 []) r = record { is = IsItem-bare; joined = ap (λ (k : ℕ). k ∷ r) (eqb-true kind 1 one) } in
+    let lead : Leads (kind ∷ r) (item 1 []) r = record { is = IsItem_bare; joined = ap (λ (k : ℕ). k ∷ r) (eqb-true kind 1 one) } in
     subst (λ (j : Item). Leads (kind ∷ r) j rest) is (subst (Leads (kind ∷ r) (item 1 [])) left lead))
     (λ some other t same.
     let pair = of_some (item kind (take size behind), drop size behind) (i, rest) same in
@@ -110,10 +105,6 @@ Leads-first_item bytes i rest l = elim (cases_Bool (i.kind == 1)) [
       let other = eqb-false i.kind 1 y in
       ap first_item (l.joined ∙ ap (λ (t : List ℕ). t ++ rest) (text-other i other)) ∙ with_length i rest l.is other
 ]
-
-none_of : {A : Type 0} (o : Option A) → ((a : A) → o ≡ Some a → ⊥) → o ≡ None
-none_of None h = refl
-none_of (Some a) h = absurd (h a refl)
 
 -- if the bytes begin with no item, none is computed
 pub first_item-None : (bytes : List ℕ) → ((i : Item) (rest : List ℕ) → Leads bytes i rest → ⊥) → first_item bytes ≡ None

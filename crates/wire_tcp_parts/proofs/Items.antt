@@ -7,14 +7,16 @@ use Rattle.wire_tcp_parts.specs.TcpItems.{Item, item, IsItem, text, block_at}
 use Rattle.wire_tcp_parts.specs.TcpOption.{IsReading, Begins}
 use Rattle.wire_tcp_parts.specs.declared.tcp.option.TcpOption.{TcpOption}
 use Rattle.wire_tcp_parts.specs.declared.tcp.option.TcpOption.TheVariants.{EndOfList, NoOperation, MaxSegmentSize, WindowScale, SackPermitted, SackRange, TimeStamp, Unknown}
+use Rattle.std.proofs.lemmas.Grind.{common_steps}
+use Rattle.std.proofs.lemmas.Bool.Decides.{nat_tests}
 
 -- the bytes from index n on
 pub take_left : (b : List ℕ) (n : ℕ) → take (length b - n) (drop n b) ≡ drop n b
 take_left b n = take_all (length b - n) (drop n b) (omega (arith, length-drop n b))
 
 -- a block of the data
-pub block_at-here : (content : List ℕ) (k start end : ℕ) → 8 * k < length content → start ≡ big_number 4 (drop (8 * k) content) → end ≡ big_number 4 (drop (8 * k + 4) content) → Some (start, end) ≡ block_at content k
-block_at-here content k start end h s e = rw (s, e, lt-ltb (8 * k) (length content) h) refl
+pub block_at_here : (content : List ℕ) (k start end : ℕ) → 8 * k < length content → start ≡ big_number 4 (drop (8 * k) content) → end ≡ big_number 4 (drop (8 * k + 4) content) → Some (start, end) ≡ block_at content k
+block_at_here content k start end h s e = rw (s, e, lt-ltb (8 * k) (length content) h) refl
 
 -- the text of no operation
 pub text-bare : (i : Item) → i.kind ≡ 1 → text i ≡ 1 ∷ []
@@ -25,41 +27,16 @@ pub text-other : (i : Item) → i.kind ≢ 1 → text i ≡ i.kind ∷ (2 + leng
 text-other i h = rw (false_from_ne_true (eqb i.kind 1) (λ e. h (eqb-true i.kind 1 e))) refl
 
 -- no operation is an item
-pub IsItem-bare : IsItem (item 1 [])
-IsItem-bare = record {
-  above = omega arith;
-  below = omega arith;
-  size = omega arith;
-  no_operation = λ _. refl;
-  segment_size = λ e. absurd (omega (arith, e));
-  window_scale = λ e. absurd (omega (arith, e));
-  sack_permitted = λ e. absurd (omega (arith, e));
-  sack_ranges = λ e. absurd (omega (arith, e));
-}
+pub IsItem_bare : IsItem (item 1 [])
+IsItem_bare = grind (arith, common_steps, nat_tests)
 
 -- whole blocks are the data of a SACK item
 pub IsItem-ranges : (kind : ℕ) (content : List ℕ) (n : ℕ) → kind ≡ 5 → 0 < n → length content ≡ 8 * n → length content ≤ 253 → IsItem (item kind content)
-IsItem-ranges kind content n k some whole size = record {
-  above = omega arith;
-  below = omega arith;
-  size = size;
-  no_operation = λ e. absurd (omega (arith, e));
-  segment_size = λ e. absurd (omega (arith, e));
-  window_scale = λ e. absurd (omega (arith, e));
-  sack_permitted = λ e. absurd (omega (arith, e));
-  sack_ranges = λ _. (n, some, whole);
-}
+IsItem-ranges kind content n k some whole size = grind (arith, common_steps, nat_tests)
 
 -- bytes that begin with an item begin with the option that the item parses as
-pub Begins-from_item : (o : TcpOption) (bytes rest : List ℕ) (i : Item) → IsItem i → IsReading o i → bytes ≡ text i ++ rest → Begins o bytes rest
-Begins-from_item EndOfList bytes rest i is reading e = absurd reading
-Begins-from_item NoOperation bytes rest i is reading e = (i, is, reading, e)
-Begins-from_item (MaxSegmentSize _) bytes rest i is reading e = (i, is, reading, e)
-Begins-from_item (WindowScale _) bytes rest i is reading e = (i, is, reading, e)
-Begins-from_item SackPermitted bytes rest i is reading e = (i, is, reading, e)
-Begins-from_item (SackRange _) bytes rest i is reading e = (i, is, reading, e)
-Begins-from_item (TimeStamp _ _) bytes rest i is reading e = (i, is, reading, e)
-Begins-from_item (Unknown _ _) bytes rest i is reading e = (i, is, reading, e)
+pub Begins_from_item : (o : TcpOption) (bytes rest : List ℕ) (i : Item) → IsItem i → IsReading o i → bytes ≡ text i ++ rest → Begins o bytes rest
+Begins_from_item o bytes rest i is reading e = grind (arith, common_steps, nat_tests)
 
 -- a kind, a length and that many data bytes are the text of an item
 pub text_here : (k m : ℕ) (r : List ℕ) → k ≢ 1 → m ≤ length r → k ∷ (2 + m) ∷ r ≡ text (item k (take m r)) ++ drop m r
@@ -79,8 +56,7 @@ text_at (k ∷ l ∷ r) (suc (suc m)) other at low room =
 
 -- the first byte and the others
 pub first_cell : (b : List ℕ) → 0 < length b → b ≡ get_or b 0 0 ∷ drop 1 b
-first_cell [] h = absurd (omega arith)
-first_cell (x ∷ r) h = refl
+first_cell b h = grind arith
 
 -- an option other than the end mark was parsed from an item
 pub item_read : (o : TcpOption) (bytes rest : List ℕ) → Begins o bytes rest → (o ≡ EndOfList → ⊥) → (i : Item) × IsItem i × IsReading o i × (bytes ≡ text i ++ rest)

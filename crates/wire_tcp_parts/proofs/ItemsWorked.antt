@@ -2,7 +2,7 @@
 use Rattle.std.proofs.Common.{ℕ, ◌≡◌, List, [], ◌∷◌, ◌++◌, ap, arith, refl, sym, ◌∙◌}
 use Rattle.byteorder.specs.Endian.{big_number}
 use Rattle.wire_tcp_parts.proofs.FirstItems.{is_item}
-use Rattle.wire_tcp_parts.proofs.Items.{IsItem-bare}
+use Rattle.wire_tcp_parts.proofs.Items.{IsItem_bare}
 use Rattle.wire_tcp_parts.proofs.OptionLists.{text_apart}
 use Rattle.wire_tcp_parts.specs.TcpItems.{Item, IsItem, IsTail, item, text}
 use Rattle.wire_tcp_parts.specs.TcpOption.{Begins, BeginsNothing}
@@ -75,4 +75,4 @@ end-something : ¬ (BeginsNothing (0 ∷ []))
 end-something h = h.no_mark [] refl
 
 operation-something : ¬ (BeginsNothing (1 ∷ []))
-operation-something h = h.no_item (item 1 []) [] IsItem-bare refl
+operation-something h = h.no_item (item 1 []) [] IsItem_bare refl

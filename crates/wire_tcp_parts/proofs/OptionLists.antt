@@ -9,6 +9,8 @@ use Rattle.wire_tcp_parts.specs.TcpSummary.{HasNoList}
 use Rattle.wire_tcp_parts.proofs.FirstItems.{Leads-first_item}
 use Rattle.wire_tcp_parts.proofs.Items.{text-bare, text-other}
 use Rattle.wire_tcp_parts.proofs.Prefixes.{Walked, walk_on, walks_compared}
+use Rattle.std.proofs.lemmas.Grind.{common_steps}
+use Rattle.std.proofs.lemmas.Bool.Decides.{nat_tests}
 
 -- a text begins with its kind
 pub text_head : (i : Item) → (rest : List ℕ) × (text i ≡ i.kind ∷ rest)
@@ -26,10 +28,7 @@ head-text i b bs rest e =
 
 -- a text is not empty
 pub nil-text : (i : Item) (rest : List ℕ) → [] ≡ text i ++ rest → ⊥
-nil-text i rest e =
-    let h = text_head i in
-    let cells : [] ≡ i.kind ∷ (h.0 ++ rest) = e ∙ ap (λ (t : List ℕ). t ++ rest) h.1 in
-    cc
+nil-text i rest e = grind (arith, common_steps, nat_tests, text_head)
 
 -- no item's text begins another's
 pub text_apart : (i j : Item) (a b : List ℕ) → IsItem i → IsItem j → text i ++ a ≡ text j ++ b → (i ≡ j) × (a ≡ b)
@@ -45,10 +44,7 @@ Items = Walked text IsItem
 
 -- a tail begins with no item
 tail_no_item : (t : List ℕ) (i : Item) (rest : List ℕ) → IsTail t → IsItem i → t ≡ text i ++ rest → ⊥
-tail_no_item [] i rest ended is e = nil-text i rest e
-tail_no_item (b ∷ t) i rest ended is e =
-    let kind = head-text i b t rest e in
-    omega (arith, ended, kind, is.above)
+tail_no_item t i rest ended is e = grind (arith, common_steps, nat_tests, nil-text, head-text)
 
 -- no list continues at a place where no item begins
 none_more : (zs : List Item) (t u : List ℕ) → AllByRecursion IsItem zs → ((i : Item) (rest : List ℕ) → IsItem i → t ≡ text i ++ rest → ⊥) → t ≡ texts zs ++ u → (zs ≡ []) × (t ≡ u)
@@ -68,10 +64,7 @@ one_end bytes xs ys t u a b ends ends' = elim (walks_compared text IsItem text_a
 ]
 
 items_of : (bytes : List ℕ) (items : List Item) (tail : List ℕ) → IsOptionList bytes items tail → Items bytes items tail
-items_of bytes items tail l = record {
-  each = l.each;
-  joined_is = l.joined;
-}
+items_of bytes items tail l = grind arith
 
 -- bytes have at most one option list
 pub one_list : (bytes : List ℕ) (xs ys : List Item) (t u : List ℕ) → IsOptionList bytes xs t → IsOptionList bytes ys u → (xs ≡ ys) × (t ≡ u)
@@ -95,7 +88,4 @@ one_more bytes xs i r s w is e =
 
 -- the bytes after an item are fewer
 pub shorter : (i : Item) (bytes rest : List ℕ) → bytes ≡ text i ++ rest → length rest < length bytes
-shorter i bytes rest e =
-    let h = text_head i in
-    let one : length (text i) ≡ length (i.kind ∷ h.0) = ap length h.1 in
-    omega (arith, one, ap length e ∙ length-append (text i) rest)
+shorter i bytes rest e = grind (arith, common_steps, nat_tests, text_head, length-append)

@@ -16,7 +16,9 @@ use Rattle.wire_tcp_parts.specs.TcpItems.{IsItem, IsOptionList, IsTail, Item, fi
 use Rattle.wire_tcp_parts.specs.TcpOption.{IsReading}
 use Rattle.wire_tcp_parts.specs.TcpPlace.{segment_size_at}
 use Rattle.wire_tcp_parts.specs.declared.tcp.option.TcpOption.{TcpOption}
-use Rattle.wire_tcp_parts.specs.declared.tcp.option.TcpOption.TheVariants.{EndOfList, NoOperation, MaxSegmentSize, WindowScale, SackPermitted, SackRange, TimeStamp, Unknown}
+use Rattle.wire_tcp_parts.specs.declared.tcp.option.TcpOption.TheVariants.{MaxSegmentSize}
+use Rattle.std.proofs.lemmas.Grind.{common_steps}
+use Rattle.std.proofs.lemmas.Bool.Decides.{nat_tests}
 
 -- ---- the index
 
@@ -50,10 +52,7 @@ abbrev index_with : Item → Bool → Option ℕ → Option ℕ
 index_with i b o = option_or (option_map (λ n. length (text i) + n) o) (cond b (Some 2) None)
 
 none_here : (i : Item) (items : List Item) (o : Option ℕ) (b : Bool) → is_of 2 i ≡ b → index_with i b o ≡ None → (o ≡ None → last_of (is_of 2) items ≡ None) → last_of (is_of 2) (i ∷ items) ≡ None
-none_here i items (Some n) b q e more = absurd (cc)
-none_here i items None true q e more = absurd (cc)
-none_here i items None false q e more =
-    ap (λ (o : Option Item). option_or o (cond (is_of 2 i) (Some i) None)) (more refl) ∙ ap (λ (b : Bool). cond b (Some i) None) q
+none_here i items o b q e more = grind arith
 
 -- no index, no segment size
 pub no_size : (items : List Item) → segment_size_at items ≡ None → last_of (is_of 2) items ≡ None
@@ -97,19 +96,10 @@ size_passed bytes xs i r w kind =
     ap Some long ∙ ap (λ (b : Bool). cond b (Some (length (texts xs) + 2)) (segment_size_at xs)) (sym (eq-eqb i.kind 2 kind)) ∙ sym (segment_size_at-more xs i)
 
 pub other_passed : (xs : List Item) (i : Item) (at : Option ℕ) → i.kind ≢ 2 → at ≡ segment_size_at xs → at ≡ segment_size_at (xs ++ i ∷ [])
-other_passed xs i at other is =
-    let no : is_of 2 i ≡ false = false_from_ne_true (is_of 2 i) (λ y. other (eqb-true i.kind 2 y)) in
-    is ∙ ap (λ (b : Bool). cond b (Some (length (texts xs) + 2)) (segment_size_at xs)) (sym no) ∙ sym (segment_size_at-more xs i)
+other_passed xs i at other is = grind (arith, common_steps, nat_tests, false_from_ne_true, eqb-true, segment_size_at-more)
 
 pub other_kind : (o : TcpOption) (i : Item) → IsReading o i → ((size : ℕ) → o ≡ MaxSegmentSize size → ⊥) → i.kind ≢ 2
-other_kind EndOfList i reading other e = reading
-other_kind NoOperation i reading other e = omega (arith, reading, e)
-other_kind (MaxSegmentSize size) i reading other e = other size refl
-other_kind (WindowScale _) i reading other e = omega (arith, reading.0, e)
-other_kind SackPermitted i reading other e = omega (arith, reading, e)
-other_kind (SackRange _) i reading other e = omega (arith, reading.0, e)
-other_kind (TimeStamp _ _) i reading other e = omega (arith, reading.0, e)
-other_kind (Unknown _ _) i reading other e = omega (arith, reading.0, reading.2, e)
+other_kind o i reading other = grind (arith, common_steps, nat_tests)
 
 -- the walk ends with the bytes' option list
 pub ended : (bytes : List ℕ) (xs : List Item) (r : List ℕ) (at : Option ℕ) → Items bytes xs r → IsTail r → at ≡ segment_size_at xs
@@ -154,10 +144,7 @@ text-two i is kind =
 
 -- the bytes around a segment size
 texts-around : (before : List Item) (i : Item) (after : List Item) (tail : List ℕ) → texts (before ++ i ∷ after) ++ tail ≡ texts before ++ (text i ++ (texts after ++ tail))
-texts-around before i after tail =
-    ap (λ (l : List ℕ). l ++ tail) (flat_map-append text before (i ∷ after))
-    ∙ append_assoc (texts before) (text i ++ texts after) tail
-    ∙ ap (λ (l : List ℕ). texts before ++ l) (append_assoc (text i) (texts after) tail)
+texts-around before i after tail = grind (arith, common_steps, nat_tests, flat_map-append, append_assoc)
 
 range-here : (front : List ℕ) (a b c d x y : ℕ) (rest : List ℕ) (at : ℕ) → at ≡ length front + 2
     → with_range (front ++ (a ∷ b ∷ c ∷ d ∷ rest)) at (at + 2) (x ∷ y ∷ []) ≡ front ++ (a ∷ b ∷ x ∷ y ∷ rest)

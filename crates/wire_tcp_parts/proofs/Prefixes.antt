@@ -1,7 +1,9 @@
 -- Joined texts, none of which is a prefix of another: of two such lists of the same bytes one is a prefix of the other.
-use Rattle.std.proofs.Common.{ℕ, ◌≡◌, ◌⊎◌, inl, inr, List, [], ◌∷◌, ◌++◌, refl, sym, ap, subst, ◌∙◌, append_assoc}
+use Rattle.std.proofs.Common.{ℕ, ◌≡◌, ◌⊎◌, inl, inr, List, [], ◌∷◌, ◌++◌, refl, sym, subst, ◌∙◌, append_assoc, arith}
 use Rattle.std.specs.List.{AllByRecursion, flat_map}
 use Rattle.std.proofs.lemmas.Grind.{flat_map-append}
+use Rattle.std.proofs.lemmas.Grind.{common_steps}
+use Rattle.std.proofs.lemmas.Bool.Decides.{nat_tests}
 
 module _ {X : Type 0} (text : X → List ℕ) (Is : X → Type 0) where
   -- the texts of a list, joined
@@ -19,11 +21,7 @@ module _ {X : Type 0} (text : X → List ℕ) (Is : X → Type 0) where
 
   -- a walk continued by a walk over its rest
   pub walk_on : (bytes : List ℕ) (xs ys : List X) (r s : List ℕ) → Walked bytes xs r → Walked r ys s → Walked bytes (xs ++ ys) s
-  walk_on bytes xs ys r s a b = record {
-    each = all-append xs ys a.each b.each;
-    joined_is = a.joined_is ∙ ap (λ (l : List ℕ). joined xs ++ l) b.joined_is ∙ sym (append_assoc (joined xs) (joined ys) s)
-        ∙ ap (λ (l : List ℕ). l ++ s) (sym (flat_map-append text xs ys));
-  }
+  walk_on bytes xs ys r s a b = grind (arith, common_steps, nat_tests, append_assoc, flat_map-append)
 
   -- the items that one list has beyond the other are at the front of the rest of the other
   pub record Goes (xs ys : List X) (r t : List ℕ) : Type 0 where
@@ -33,12 +31,7 @@ module _ {X : Type 0} (text : X → List ℕ) (Is : X → Type 0) where
     pub left : r ≡ joined more ++ t
 
   one_more : (x : X) (xs ys : List X) (r t : List ℕ) → Goes xs ys r t → Goes (x ∷ xs) (x ∷ ys) r t
-  one_more x xs ys r t g = record {
-    more = g.more;
-    each = g.each;
-    longer = ap (λ (l : List X). x ∷ l) g.longer;
-    left = g.left;
-  }
+  one_more x xs ys r t g = grind (arith, common_steps, nat_tests)
 
   module _ (apart : (x y : X) (a b : List ℕ) → Is x → Is y → text x ++ a ≡ text y ++ b → (x ≡ y) × (a ≡ b)) where
     compared : (xs ys : List X) (r t : List ℕ) → AllByRecursion Is xs → AllByRecursion Is ys → joined xs ++ r ≡ joined ys ++ t → Goes xs ys r t ⊎ Goes ys xs t r

@@ -1,38 +1,34 @@
 -- How one more item changes the summary of the options.
-use Rattle.std.proofs.Common.{◌≡◌, ℕ, Bool, true, false, cond, eqb, ◌&&◌, List, [], ◌∷◌, ◌++◌, length, get_or, drop, Option, Some, None, is_some, Result, Ok, Err, OnErr, arith, ◌<◌, refl, sym, ap, ◌∙◌}
+use Rattle.std.proofs.Common.{◌≡◌, ℕ, Bool, true, false, cond, eqb, ◌&&◌, List, [], ◌∷◌, ◌++◌, length, get_or, drop, Option, Some, None, is_some, Result, OnErr, arith, ◌<◌, refl, sym, ap, ◌∙◌}
 use Rattle.std.specs.Option.{option_or, option_map, option_map_or}
 use Rattle.std.proofs.lemmas.Bool.{eqb-true, eq-eqb, false_from_ne_true}
 use Rattle.byteorder.specs.Endian.{big_number}
 use Rattle.wire_tcp_parts.specs.TcpItems.{Item, item, first_blocks, last_of, is_of, is_timestamp}
 use Rattle.wire_tcp_parts.specs.TcpSummary.{summary_of}
 use Rattle.wire_tcp_parts.specs.declared.tcp.summary.TcpOptionSummary.{TcpOptionSummary}
+use Rattle.std.proofs.lemmas.Grind.{common_steps}
+use Rattle.std.proofs.lemmas.Bool.Decides.{nat_tests}
 
 -- a choice between two options
 pub or_cond : {X : Type 0} (b : Bool) (x : X) (o d : Option X) → option_or (cond b (Some x) o) d ≡ cond b (Some x) (option_or o d)
-or_cond true x o d = refl
-or_cond false x o d = refl
+or_cond b x o d = grind arith
 
 pub map_cond : {X Y : Type 0} (f : X → Y) (b : Bool) (x : X) (o : Option X) → option_map f (cond b (Some x) o) ≡ cond b (Some (f x)) (option_map f o)
-map_cond f true x o = refl
-map_cond f false x o = refl
+map_cond f b x o = grind arith
 
 ranges_cond : (b : Bool) (i : Item) (o : Option Item) → first_blocks (option_map_or (λ i. i.content) (cond b (Some i) o) []) ≡ cond b (first_blocks i.content) (first_blocks (option_map_or (λ i. i.content) o []))
-ranges_cond true i o = refl
-ranges_cond false i o = refl
+ranges_cond b i o = grind arith
 
 some_cond : (b : Bool) (i : Item) (o : Option Item) → is_some (cond b (Some i) o) ≡ cond b true (is_some o)
-some_cond true i o = refl
-some_cond false i o = refl
+some_cond b i o = grind arith
 
 -- the left side of a conjunction that is true
 pub and_left : (a b : Bool) → (a && b) ≡ true → a ≡ true
-and_left true b e = refl
-and_left false b e = cc
+and_left a b e = grind arith
 
 -- and its right side
 pub and_right : (a b : Bool) → (a && b) ≡ true → b ≡ true
-and_right true b e = e
-and_right false b e = cc
+and_right a b e = grind arith
 
 -- an item at the end is the last of its kind
 pub last_of_more : (p : Item → Bool) (xs : List Item) (i : Item) → last_of p (xs ++ i ∷ []) ≡ cond (p i) (Some i) (last_of p xs)
@@ -91,11 +87,8 @@ pub scale_is : (content : List ℕ) (n : ℕ) → content ≡ n ∷ [] → n ≡
 scale_is content n e = let b = ap (big_number 1) e in omega (arith, b)
 
 pub only_byte : (content : List ℕ) → length content ≡ 1 → get_or content 0 0 ≡ big_number 1 content
-only_byte [] e = absurd (omega arith)
-only_byte (x ∷ []) e = scale_is (x ∷ []) x refl
-only_byte (x ∷ y ∷ l) e = absurd (omega arith)
+only_byte content e = grind (arith, common_steps, nat_tests, scale_is)
 
 -- an error and a fact
 pub on_err : {X E P : Type 0} (r : Result X E) → P → OnErr r P
-on_err (Ok x) p = tt
-on_err (Err e) p = p
+on_err r p = grind arith

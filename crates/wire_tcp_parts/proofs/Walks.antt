@@ -1,16 +1,18 @@
 -- Longest walks: each list of bytes has exactly one, and a walk that stops is it.
-use Rattle.std.proofs.Common.{ℕ, zero, suc, ◌≡◌, ◌≢◌, ◌<◌, ◌≤◌, ◌+◌, ◌⊎◌, inl, inr, false, eqb, List, [], ◌∷◌, ◌++◌, length, get_or, Option, Some, None, Ok, Err, refl, sym, ap, subst, ◌∙◌, append_assoc, length-append, arith}
+use Rattle.std.proofs.Common.{ℕ, zero, suc, ◌≡◌, ◌≢◌, ◌<◌, ◌≤◌, ◌+◌, ◌⊎◌, inl, inr, eqb, List, [], ◌∷◌, ◌++◌, length, get_or, Option, Some, None, Ok, Err, refl, sym, ap, subst, ◌∙◌, append_assoc, length-append, arith}
 use Rattle.std.specs.List.{AllByRecursion, flat_map}
 use Rattle.std.proofs.lemmas.Bool.{cases_Bool, eq-eqb, eqb-true}
 use Rattle.std.proofs.lemmas.List.{append-nil}
 use Rattle.wire_tcp_parts.proofs.FirstItems.{Leads-first_item, first_item-Leads}
-use Rattle.wire_tcp_parts.proofs.OptionLists.{head-text, nil-text, text_apart, text_head}
+use Rattle.wire_tcp_parts.proofs.OptionLists.{head-text, nil-text, text_apart}
 use Rattle.wire_tcp_parts.proofs.Prefixes.{Goes, Walked, walk_on, walks_compared}
 use Rattle.wire_tcp_parts.specs.TcpItems.{Item, IsItem, first_blocks, first_item, text}
 use Rattle.wire_tcp_parts.specs.TcpOption.{Begins, BeginsNothing, IsReading, ranges_in}
 use Rattle.wire_tcp_parts.specs.TcpWalk.{Answers, FindsFirst, IsFirst, IsLongWalk, IsMark, IsWalk, Mark, answer_of, first_of, mark_text}
 use Rattle.wire_tcp_parts.specs.declared.tcp.option.TcpOption.{TcpOption}
 use Rattle.wire_tcp_parts.specs.declared.tcp.option.TcpOption.TheVariants.{EndOfList, NoOperation, MaxSegmentSize, WindowScale, SackPermitted, SackRange, TimeStamp, Unknown}
+use Rattle.std.proofs.lemmas.Grind.{common_steps}
+use Rattle.std.proofs.lemmas.Bool.Decides.{nat_tests}
 
 -- ---- which bytes begin with an item or a mark
 
@@ -39,16 +41,7 @@ starts (suc k ∷ r) = go (first_item (suc k ∷ r)) refl
 
 -- no text of a mark is a prefix of another
 mark_apart : (m n : Mark) (a b : List ℕ) → IsMark m → IsMark n → mark_text m ++ a ≡ mark_text n ++ b → (m ≡ n) × (a ≡ b)
-mark_apart None None a b is js e = (refl, cc)
-mark_apart None (Some j) a b is js e =
-    let kind = head-text j 0 a b e in
-    absurd (omega (arith, kind, js.above))
-mark_apart (Some i) None a b is js e =
-    let kind = head-text i 0 b a (sym e) in
-    absurd (omega (arith, kind, is.above))
-mark_apart (Some i) (Some j) a b is js e =
-    let p = text_apart i j a b is js e in
-    (ap Some p.0, p.1)
+mark_apart m n a b is js e = grind (arith, common_steps, nat_tests, head-text, text_apart)
 
 -- the bytes are the texts of these marks, followed by a rest
 abbrev pub Marks : List ℕ → List Mark → List ℕ → Type 0
@@ -56,8 +49,7 @@ Marks = Walked mark_text IsMark
 
 -- bytes that begin with a mark are not empty
 begins_mark : (m : Mark) (bytes rest : List ℕ) → IsMark m → bytes ≡ mark_text m ++ rest → BeginsNothing bytes → ⊥
-begins_mark None bytes rest is e nothing = nothing.no_mark rest e
-begins_mark (Some i) bytes rest is e nothing = nothing.no_item i rest is e
+begins_mark m bytes rest is e nothing = grind arith
 
 -- a walk that cannot continue is the longest
 pub long : (bytes : List ℕ) (marks : List Mark) (rest : List ℕ) → Marks bytes marks rest → BeginsNothing rest → IsLongWalk bytes marks rest
@@ -77,15 +69,11 @@ long bytes marks rest w nothing = record {
         go (m ∷ ms) each longer e = absurd (begins_mark m rest (flat_map mark_text ms ++ left) each.0 (e ∙ append_assoc (mark_text m) (flat_map mark_text ms) left) nothing)
 
 one_mark : (bytes : List ℕ) (m : Mark) (rest : List ℕ) → IsMark m → bytes ≡ mark_text m ++ rest → Marks bytes (m ∷ []) rest
-one_mark bytes m rest is e = record {
-  each = (is, tt);
-  joined_is = e ∙ ap (λ (l : List ℕ). l ++ rest) (sym (append-nil (mark_text m)));
-}
+one_mark bytes m rest is e = grind (arith, common_steps, nat_tests, append-nil)
 
 -- the text of a mark is not empty
 some_text : (m : Mark) → IsMark m → 0 < length (mark_text m)
-some_text None is = omega arith
-some_text (Some i) is = let h = text_head i in omega (arith, ap length h.1)
+some_text m is = grind arith
 
 -- a walk that cannot continue
 pub record Stuck (bytes : List ℕ) : Type 0 where
@@ -95,12 +83,7 @@ pub record Stuck (bytes : List ℕ) : Type 0 where
   pub nothing : BeginsNothing rest
 
 stuck_here : (bytes : List ℕ) → BeginsNothing bytes → Stuck bytes
-stuck_here bytes nothing = record {
-  marks = [];
-  rest = bytes;
-  walk = record { each = tt; joined_is = refl };
-  nothing = nothing;
-}
+stuck_here bytes nothing = grind (arith, common_steps, nat_tests)
 
 starts_len : (bytes : List ℕ) (s : Starts bytes) → length bytes ≡ length (mark_text s.mark) + length s.rest
 starts_len bytes s = ap length s.joined ∙ length-append (mark_text s.mark) s.rest
@@ -191,17 +174,7 @@ read_mark (Unknown kind content) bytes rest (i, is, reading, e) = read_item (Unk
 
 -- the first byte of the text of a mark decides whether the mark has a kind
 first_of-here : (kind : ℕ) (m : Mark) (b : ℕ) (bs rest : List ℕ) → 0 < kind → b ∷ bs ≡ mark_text m ++ rest → (b ≡ kind → (i : Item) × (m ≡ Some i) × (i.kind ≡ kind)) × (b ≢ kind → first_of kind (m ∷ []) ≡ None)
-first_of-here kind None b bs rest some e =
-    let zero_first : b ≡ 0 = cc in
-    (λ is. absurd (omega (arith, zero_first, is)), λ not. refl)
-first_of-here kind (Some i) b bs rest some e =
-    let first = head-text i b bs rest e in (
-      λ is. (i, refl, sym first ∙ is),
-      λ not. rw (other i.kind kind (λ y. not (first ∙ y))) refl,
-    )
-  where
-    other : (m n : ℕ) → m ≢ n → eqb m n ≡ false
-    other m n h = elim (cases_Bool (eqb m n)) [ inl y ↦ absurd (h (eqb-true m n y)) | inr z ↦ z ]
+first_of-here kind m b bs rest some e = grind (arith, common_steps, nat_tests, head-text, cases_Bool, eqb-true)
 
 -- the walk passes an option of another kind
 pub passed : (bytes : List ℕ) (marks : List Mark) (kind : ℕ) (r rest : List ℕ) (option : TcpOption) → Marks bytes marks r → first_of kind marks ≡ None → 0 < kind
@@ -259,14 +232,7 @@ first_of-kind kind (Some j ∷ marks) i e = elim (cases_Bool (eqb j.kind kind)) 
 
 -- an item of kind 5 parses as its ranges
 reads_ranges : (option : TcpOption) (i : Item) → i.kind ≡ 5 → IsReading option i → ranges_in option ≡ first_blocks i.content
-reads_ranges EndOfList i five reading = absurd reading
-reads_ranges NoOperation i five reading = absurd (omega (arith, five, reading))
-reads_ranges (MaxSegmentSize size) i five reading = absurd (omega (arith, five, reading.0))
-reads_ranges (WindowScale scale) i five reading = absurd (omega (arith, five, reading.0))
-reads_ranges SackPermitted i five reading = absurd (omega (arith, five, reading))
-reads_ranges (SackRange ranges) i five reading = reading.1
-reads_ranges (TimeStamp tsval tsecr) i five reading = absurd (omega (arith, five, reading.0))
-reads_ranges (Unknown kind content) i five reading = absurd (omega (arith, five, reading.0, reading.2))
+reads_ranges option i five reading = grind (arith, common_steps, nat_tests)
 
 -- `selective_ack_ranges` returns these ranges for the options
 abbrev pub AnswersRanges : List ℕ → List (Option (ℕ × ℕ)) → Type 0
@@ -274,12 +240,7 @@ AnswersRanges bytes ranges = Answers bytes 5 (λ i. first_blocks i.content) (fir
 
 -- the result if the walk found no option of kind 5, and if it found one
 pub no_ranges : (bytes : List ℕ) → FindsFirst bytes 5 (Ok None) → AnswersRanges bytes (first_blocks [])
-no_ranges bytes (marks, rest, walk, first) = (marks, rest, walk, go (first_of 5 marks) rest first)
-  where
-    go : (f : Option Item) (rest : List ℕ) → IsFirst f rest (Ok None) → Ok (first_blocks []) ≡ answer_of (λ i. first_blocks i.content) (first_blocks []) f rest
-    go None [] first = refl
-    go None (b ∷ bs) first = absurd (cc)
-    go (Some i) rest (read, is, reading, answer) = absurd (cc)
+no_ranges bytes h = grind (arith, common_steps, nat_tests)
 
 -- the ranges that are returned if the walk finds an option of kind 5
 pub some_ranges : (bytes : List ℕ) (option : TcpOption) → FindsFirst bytes 5 (Ok (Some option)) → AnswersRanges bytes (ranges_in option)

@@ -8,6 +8,8 @@ use Rattle.wire_text.specs.Ending.{EndsInNumber}
 use Rattle.wire_text.proofs.Endings.{length_is, mark_here}
 use Rattle.wire_text.proofs.Ipv6.{dotted_by}
 use Rattle.wire_text.proofs.Joined.{EachReads-length}
+use Rattle.std.proofs.lemmas.Grind.{common_steps}
+use Rattle.std.proofs.lemmas.Bool.Decides.{nat_tests}
 
 -- the text is hex digits followed by this byte
 pub record IsFirstMark (mark : ℕ) (text : List ℕ) : Type 0 where
@@ -28,12 +30,7 @@ same_mark a b text h k m n = one_mark a b h k m.front n.front m.rest n.rest m.di
 
 -- the text after that byte can be replaced
 pub mark_before : (mark : ℕ) (text more : List ℕ) → IsFirstMark mark text → IsFirstMark mark (text ++ more)
-mark_before mark text more m = record {
-  front = m.front;
-  rest = m.rest ++ more;
-  digits = m.digits;
-  spelled = ap (λ t. t ++ more) m.spelled ∙ append_assoc m.front (mark ∷ m.rest) more;
-}
+mark_before mark text more m = grind (arith, common_steps, nat_tests)
 
 -- decimal digits are hex digits
 wider : (text : List ℕ) → AllDigits 10 text → AllDigits 16 text

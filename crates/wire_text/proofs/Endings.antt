@@ -1,13 +1,15 @@
 -- A text splits into a front, a mark and a number in at most one way: at the last mark.
-use Rattle.std.proofs.Common.{◌≡◌, ◌≢◌, ℕ, zero, suc, ◌+◌, ◌-◌, ◌^◌, ◌<◌, ◌≤◌, List, [], ◌∷◌, ◌++◌, length, get_or, decimal, take, drop, refl, sym, ap, ◌∙◌, subst, arith, inl, inr, length-append, take_at, drop_at, take-append-drop, append_assoc, length-drop}
+use Rattle.std.proofs.Common.{◌≡◌, ◌≢◌, ℕ, zero, suc, ◌+◌, ◌-◌, ◌^◌, ◌<◌, ◌≤◌, List, [], ◌∷◌, ◌++◌, length, get_or, decimal, take, drop, refl, sym, ap, ◌∙◌, subst, arith, inl, inr, length-append, take_at, drop_at, append_assoc, length-drop}
 use Rattle.std.proofs.Math.Seq.{get_or-append_seam}
 use Rattle.std.proofs.lemmas.Bool.{cases_lt}
 use Rattle.std.proofs.lemmas.Fmt.{decimal_is_IsNumeral, length-decimal-le}
-use Rattle.std.proofs.lemmas.List.{get_or-append_right, get_or-drop, drop_more, take_rest}
+use Rattle.std.proofs.lemmas.List.{get_or-append_right, get_or-drop, take_rest}
 use Rattle.std.specs.Char.{digit_value}
 use Rattle.std.specs.Str.Parse.{AllDigits}
 use Rattle.wire_text.specs.Ending.{EndsInNumber}
 use Rattle.wire_text.specs.Grammar.{IsNumber}
+use Rattle.std.proofs.lemmas.Grind.{common_steps}
+use Rattle.std.proofs.lemmas.Bool.Decides.{nat_tests}
 
 digit_at : (text : List ℕ) (k : ℕ) → AllDigits 10 text → k < length text → digit_value (get_or text k 0) < 10
 digit_at [] k h within = absurd (omega arith)
@@ -66,16 +68,7 @@ module _ (mark places most : ℕ) (apart : 10 ≤ digit_value mark) where
 
   --   a larger limit on digits and value accepts the same number
   pub ends_wider : (text front : List ℕ) (n few less : ℕ) → few ≤ places → less ≤ most → EndsInNumber mark few less text front n → EndsInNumber mark places most text front n
-  ends_wider text front n few less fewer lower h = record {
-    digits = h.digits;
-    spelled = h.spelled;
-    number = record {
-      digits = h.number.digits;
-      places_fit = omega (arith, h.number.places_fit);
-      value = h.number.value;
-      fits = omega (arith, h.number.fits);
-    };
-  }
+  ends_wider text front n few less fewer lower h = grind arith
 
   --   without a mark among the last `places` + 1 bytes, the text has no such ending
   pub no_end : (text : List ℕ) (first : ℕ) → first ≤ length text - (places + 1) → ((k : ℕ) → first ≤ k → k < length text → get_or text k 0 ≢ mark) → (front : List ℕ) (n : ℕ) → ¬ (EndsInNumber mark places most text front n)
@@ -86,11 +79,7 @@ module _ (mark places most : ℕ) (apart : 10 ≤ digit_value mark) where
 
   -- a mark and a number at the end of a text are an ending
   pub ends_in : (text : List ℕ) (n at : ℕ) → at < length text → get_or text at 0 ≡ mark → IsNumber 10 places most (drop (at + 1) text) n → EndsInNumber mark places most text (take at text) n
-  ends_in text n at within here number = record {
-    digits = drop (at + 1) text;
-    spelled = sym (take-append-drop at text) ∙ ap (λ t. take at text ++ t) (drop_more text at 0 within ∙ ap (λ b. b ∷ drop (at + 1) text) here);
-    number = number;
-  }
+  ends_in text n at within here number = grind (arith, common_steps, nat_tests)
 
 -- a printed number after a mark is such an ending
 pub ends_printed : (mark places most n : ℕ) (front : List ℕ) → 0 < places → most < 10 ^ places → most < 2 ^ 64 → n ≤ most → EndsInNumber mark places most (front ++ mark ∷ decimal n) front n

@@ -12,6 +12,8 @@ use Rattle.wire_text.specs.Grammar.{IsNumber}
 use Rattle.wire_text.specs.Reading.{number_of, pieces_of, FirstPiece}
 use Rattle.wire_text.proofs.Numbers.{number_complete, number_sound}
 use Rattle.wire_text.proofs.Pieces.{digits_piece, pieces_some}
+use Rattle.std.proofs.lemmas.Grind.{common_steps}
+use Rattle.std.proofs.lemmas.Bool.Decides.{nat_tests}
 
 -- these digits are parsed, with this value: either the limit is reached, or the text ends or another byte follows
 pub record IsFirst (radix places : ℕ) (text : List ℕ) (value count : ℕ) : Type 0 where
@@ -76,14 +78,7 @@ module _ {radix places : ℕ} {text : List ℕ} {value count : ℕ} (first : IsF
 
   -- the whole text is a number
   pub is_number : (most : ℕ) → 0 < count → length text ≤ count → value ≤ most → IsNumber radix places most text value
-  is_number most some end fits =
-      let whole = take_all count text end in
-      record {
-        digits = (omega (arith, first.within), rw whole at first.digits);
-        places_fit = omega (arith, first.few);
-        value = ap (digits_value radix) (sym whole) ∙ sym first.is;
-        fits = fits;
-      }
+  is_number most some end fits = grind (arith, common_steps, nat_tests)
 
   --   there is no other way to reject it
   pub no_number : (most n : ℕ) → ((count ≡ 0) ⊎ ((count < length text) ⊎ (most < value))) → ¬ (IsNumber radix places most text n)

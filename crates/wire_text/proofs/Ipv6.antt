@@ -1,6 +1,6 @@
 -- `groups_read` accepts exactly the four forms of an IPv6 text.
-use Rattle.std.proofs.Common.{◌≡◌, ◌≢◌, ℕ, codes, ◌+◌, ◌-◌, ◌<◌, ◌≤◌, ◌⊎◌, ◌==◌, Bool, true, false, cond, List, [], ◌∷◌, ◌++◌, length, get_or, take, drop, replicate, bytes_eq, Option, Some, None, refl, sym, ap, ap₂, ◌∙◌, subst, arith, inl, inr, append-nil, append_assoc, length-append, lit≤, le-leb, lt-ltb, ne_eqb, eq-eqb, eqb-true, drop_at, take_at}
-use Rattle.std.proofs.lemmas.Bool.{cases_eq, ltb-true, leb-true, and_parts}
+use Rattle.std.proofs.Common.{◌≡◌, ◌≢◌, ℕ, codes, ◌+◌, ◌-◌, ◌<◌, ◌≤◌, ◌⊎◌, ◌==◌, Bool, true, cond, List, [], ◌∷◌, ◌++◌, length, get_or, take, drop, replicate, bytes_eq, Option, Some, None, refl, sym, ap, ap₂, ◌∙◌, subst, arith, inl, inr, append-nil, append_assoc, length-append, lit≤, le-leb, lt-ltb, ne_eqb, eq-eqb, eqb-true, drop_at, take_at}
+use Rattle.std.proofs.lemmas.Bool.{ltb-true, leb-true, and_parts}
 use Rattle.std.proofs.lemmas.Option.{none-some, same_Some}
 use Rattle.std.proofs.lemmas.Slice.Eq.{bytes_eq-Decides}
 use Rattle.std.proofs.lemmas.List.{length-replicate}
@@ -15,6 +15,8 @@ use Rattle.wire_text.specs.Reading.{group_of, groups_from, groups_read, all_grou
 use Rattle.wire_text.proofs.Numbers.{number_complete, number_sound}
 use Rattle.wire_text.proofs.Pieces.{ArePieces, IsPiece, pieces_of-join, pieces_of-join_append, join-piece, join-append}
 use Rattle.wire_text.proofs.Joined.{EachReads-length, EachReads-pieces, octets_complete, octets_sound}
+use Rattle.std.proofs.lemmas.Grind.{common_steps}
+use Rattle.std.proofs.lemmas.Bool.Decides.{nat_tests}
 
 -- ---- a text of the grammar is accepted
 
@@ -32,8 +34,7 @@ groups_from_more before (piece ∷ pieces) (g ∷ groups) seen rest h few =
 
 -- a text that begins with a digit is its own inner text
 inner_other : (c : ℕ) (text : List ℕ) → c ≢ 58 → inner_text (c ∷ text) ≡ Some (c ∷ text)
-inner_other c [] other = rw (ne_eqb c 58 other)
-inner_other c (d ∷ text) other = rw (ne_eqb c 58 other)
+inner_other c text other = grind arith
 
 digit_first : (piece : List ℕ) (g : ℕ) (text : List ℕ) → IsGroup piece g → inner_text (piece ++ text) ≡ Some (piece ++ text)
 digit_first [] g text h = absurd (omega (arith, h.digits.0))
@@ -65,8 +66,7 @@ read_elided [] groups text h = refl
 read_elided (piece ∷ pieces) groups text h = read_more piece pieces groups (58 ∷ text) h
 
 behind_group : (seen piece : List ℕ) (pieces : List (List ℕ)) (later : Option (List ℕ)) → 0 < length piece → behind_elision None seen (piece ∷ pieces) later ≡ later
-behind_group seen [] pieces later some = absurd (omega arith)
-behind_group seen (c ∷ piece) pieces later some = refl
+behind_group seen piece pieces later some = grind arith
 
 full_by : (text : List ℕ) (pieces : List (List ℕ)) (groups : List ℕ) → EachReads IsGroup pieces groups → text ≡ join_with_byte 58 pieces → length groups ≡ 8 → groups_read text ≡ Some groups
 unfolding groups_read groups_from
@@ -84,10 +84,7 @@ full_complete text groups h = full_by text h.0.pieces groups h.0.each h.0.joined
 
 -- eight groups, with zeros between the head and the tail
 between : (head tail : List ℕ) → length head + length tail ≤ 7 → all_groups (Some (length head)) (head ++ tail) ≡ Some (head ++ replicate (8 - length head - length tail) 0 ++ tail)
-between head tail few =
-    let len = length-append head tail in
-    let gap : 8 - length (head ++ tail) ≡ 8 - length head - length tail = omega arith in
-    rw (lt-ltb (length (head ++ tail)) 8 (omega arith), gap, take_at head tail (length head) refl, drop_at head tail (length head) refl)
+between head tail few = grind (arith, common_steps, nat_tests)
 
 tail_by : (head tail tail_text : List ℕ) (pieces : List (List ℕ)) → EachReads IsGroup pieces tail → tail_text ≡ join_with_byte 58 pieces → length head + length tail ≤ 7 → groups_from None head ([] ∷ pieces_of 58 tail_text) ≡ all_groups (Some (length head)) (head ++ tail)
 unfolding groups_from
@@ -203,8 +200,7 @@ Stops [] = Unit {0}
 Stops (piece ∷ pieces) = group_of piece ≡ None
 
 test_passed : {A : Type 0} (b : Bool) (o : Option A) (x : A) → cond b o None ≡ Some x → (b ≡ true) × (o ≡ Some x)
-test_passed true o x e = (refl, e)
-test_passed false o x e = absurd (none-some x e)
+test_passed b o x e = grind arith
 
 -- the pieces begin with groups, and parsing continues after them
 record Front (before : Option ℕ) (seen : List ℕ) (pieces : List (List ℕ)) (groups : List ℕ) : Type 0 where
@@ -259,10 +255,7 @@ front_of before seen (piece ∷ pieces) groups e =
 -- what is accepted where no group begins: nothing, `::`, or a dotted part
 at_stop : (before : Option ℕ) (seen piece : List ℕ) (pieces : List (List ℕ)) (groups : List ℕ) → groups_from before seen (piece ∷ pieces) ≡ Some groups → group_of piece ≡ None → ((piece ≡ []) × (behind_elision before seen pieces (groups_from (Some (length seen)) seen pieces) ≡ Some groups)) ⊎ (dotted_end before seen piece pieces ≡ Some groups)
 unfolding groups_from
-at_stop before seen [] pieces groups e none = inl (refl, e)
-at_stop before seen (c ∷ piece) pieces groups e none =
-    let test : length (c ∷ piece) ≢ 0 = omega arith in
-    inr (rw (ne_eqb (length (c ∷ piece)) 0 test, none) at e)
+at_stop before seen piece pieces groups e none = grind (arith, common_steps, nat_tests)
 
 -- a dotted part is the last piece, after the prefix
 at_dotted : (before : Option ℕ) (seen piece : List ℕ) (pieces : List (List ℕ)) (groups : List ℕ) → dotted_end before seen piece pieces ≡ Some groups → (pieces ≡ []) × (may_end_dotted before seen ≡ true) × ((octets : List ℕ) × IsDotted piece octets × (groups ≡ mapped_groups ++ groups_of octets))
@@ -277,24 +270,10 @@ at_dotted before seen piece [] groups e =
 
 -- the inner text begins with no colon, or it is the text without the first colon of `::`
 inner_cases : (text inner : List ℕ) → inner_text text ≡ Some inner → ((text ≡ inner) × (get_or inner 0 0 ≢ 58) × (0 < length inner)) ⊎ ((text ≡ 58 ∷ inner) × (get_or inner 0 0 ≡ 58))
-inner_cases [] inner e = absurd (none-some inner e)
-inner_cases (c ∷ []) inner e =
-    elim (cases_eq c 58) [
-      | inl colon ↦ absurd (none-some inner (rw (eq-eqb c 58 colon) at e))
-      | inr other ↦ let same = same_Some _ _ (rw (ne_eqb c 58 other) at e) in rw (← same) (inl (refl, other, omega arith))
-    ]
-inner_cases (c ∷ d ∷ text) inner e =
-    elim (cases_eq c 58) [
-      | inl colon ↦ let (second, same) = cond_some _ _ _ (rw (eq-eqb c 58 colon) at e) in rw (← same, colon) (inr (refl, eqb-true _ _ second))
-      | inr other ↦ let same = same_Some _ _ (rw (ne_eqb c 58 other) at e) in rw (← same) (inl (refl, other, omega arith))
-    ]
+inner_cases text inner e = grind arith
 
 first_not_colon : (piece : List ℕ) (pieces : List (List ℕ)) (groups text : List ℕ) → EachReads IsGroup (piece ∷ pieces) groups → get_or (join_with_byte 58 (piece ∷ pieces) ++ text) 0 0 ≢ 58
-first_not_colon piece pieces groups text h =
-    elim (inner_cases (join_with_byte 58 (piece ∷ pieces) ++ text) _ (inner_groups piece pieces groups text h)) [
-      | inl k ↦ k.1
-      | inr k ↦ absurd (omega (arith, ap length k.0))
-    ]
+first_not_colon piece pieces groups text h = grind (arith, common_steps, nat_tests)
 
 -- a text that begins with a group is its own inner text
 text_of_groups : (text inner piece : List ℕ) (pieces : List (List ℕ)) (groups more : List ℕ) → inner_text text ≡ Some inner → EachReads IsGroup (piece ∷ pieces) groups → inner ≡ join_with_byte 58 (piece ∷ pieces) ++ more → text ≡ join_with_byte 58 (piece ∷ pieces) ++ more
@@ -365,10 +344,7 @@ elided_text_of text front head back tail groups tail_text heads tails shown join
     }
 
 behind_cases : (seen : List ℕ) (pieces : List (List ℕ)) (later : Option (List ℕ)) (groups : List ℕ) → behind_elision None seen pieces later ≡ Some groups → ((pieces ≡ [] ∷ []) × (all_groups (Some (length seen)) seen ≡ Some groups)) ⊎ ((next : List ℕ) × (more : List (List ℕ)) × (pieces ≡ next ∷ more) × (later ≡ Some groups))
-behind_cases seen [] later groups e = absurd (none-some groups e)
-behind_cases seen ([] ∷ []) later groups e = inl (refl, e)
-behind_cases seen ([] ∷ second ∷ more) later groups e = inr ([], second ∷ more, refl, e)
-behind_cases seen ((c ∷ next) ∷ more) later groups e = inr (c ∷ next, more, refl, e)
+behind_cases seen pieces later groups e = grind arith
 
 one_piece : (pieces : List (List ℕ)) (g : ℕ) → EachReads IsGroup pieces (g ∷ []) → (piece : List ℕ) × (pieces ≡ piece ∷ []) × IsGroup piece g
 one_piece [] g h = absurd h

@@ -1,22 +1,20 @@
 -- Numbers joined by a mark: the parsers accept exactly the grammar.
-use Rattle.std.proofs.Common.{◌≡◌, ℕ, ◌<◌, ◌≤◌, Bool, true, false, List, [], ◌∷◌, ◌++◌, length, take, Option, Some, None, Bor, is_some, not, refl, sym, ap, ◌∙◌, subst, arith, append-nil, append_assoc, length-append, take_all, lit≤, eqb-true}
-use Rattle.std.proofs.lemmas.Option.{none-some, same_Some}
+use Rattle.std.proofs.Common.{◌≡◌, ℕ, ◌<◌, ◌≤◌, Bool, List, [], ◌∷◌, ◌++◌, length, take, Option, Some, None, Bor, is_some, not, refl, sym, ap, ◌∙◌, subst, arith, append-nil, length-append, take_all, lit≤, eqb-true}
+use Rattle.std.proofs.lemmas.Option.{same_Some}
 use Rattle.std.proofs.lemmas.List.Splits.{join_with_byte-slice_split}
 use Rattle.std.specs.Char.{digit_value}
 use Rattle.std.specs.List.{join_with_byte}
 use Rattle.std.proofs.NetLemmas.Options.{and_then_some, cond_some}
 use Rattle.wire_text.specs.Grammar.{IsNumber, EachReads, IsJoined, IsDotted, IsHexOctets}
-use Rattle.wire_text.specs.Reading.{number_of, numbers_of, with_front, pieces_of, pieces_after, FilledFrom, FirstPiece, octets_read, hex_octets_read}
+use Rattle.wire_text.specs.Reading.{number_of, numbers_of, with_front, pieces_of, pieces_after, FilledFrom, octets_read, hex_octets_read}
 use Rattle.wire_text.proofs.Numbers.{number_complete, number_sound}
 use Rattle.wire_text.proofs.Pieces.{ArePieces, pieces_of-join, pieces_some, digits_piece}
 
 pub with_front_some : (front : List ℕ) (o : Option (List ℕ)) (ns : List ℕ) → with_front front o ≡ Some ns → (more : List ℕ) × (o ≡ Some more) × (front ++ more ≡ ns)
-with_front_some front None ns e = absurd (none-some ns e)
-with_front_some front (Some more) ns e = (more, refl, same_Some _ _ e)
+with_front_some front o ns e = grind arith
 
 not-not : (b : Bool) → not (not b) ≡ b
-not-not true = refl
-not-not false = refl
+not-not b = grind arith
 
 module _ (radix places most : ℕ) where
   numbers_complete : (pieces : List (List ℕ)) (values : List ℕ) → EachReads (IsNumber radix places most) pieces values → numbers_of radix places most pieces ≡ Some values
@@ -75,18 +73,6 @@ module _ (radix places most : ℕ) where
       let each = numbers_sound (pieces_of mark rest.now) more later in
       let some = pieces_some mark rest.now in
       omega (arith, EachReads-length (pieces_of mark rest.now) more each, ap length (sym shown), length-append (take i values) more, ap length (take_all i values end))
-
--- one iteration of the loop: the first piece is a number, or the text is rejected
-front_twice : (front more : List ℕ) (o : Option (List ℕ)) → with_front front (with_front more o) ≡ with_front (front ++ more) o
-front_twice front more None = refl
-front_twice front more (Some ns) = ap Some (sym (append_assoc front more ns))
-
-pub one_more : (mark radix places most n : ℕ) (front : List ℕ) (read : Option (List ℕ)) (rest after : Option (Bor (List ℕ))) (more : Bor (List ℕ)) → read ≡ with_front front (numbers_of radix places most (pieces_after mark rest)) → rest ≡ Some more → FirstPiece mark radix places most more.now (Some (n, after)) → read ≡ with_front (front ++ n ∷ []) (numbers_of radix places most (pieces_after mark after))
-one_more mark radix places most n front read rest after more e is first =
-    e ∙ rw (is, first.cut, first.read.0, first.read.1) (front_twice front (n ∷ []) (numbers_of radix places most (pieces_after mark after)))
-
-pub no_more : (mark radix places most : ℕ) (front : List ℕ) (read : Option (List ℕ)) (rest : Option (Bor (List ℕ))) (more : Bor (List ℕ)) → read ≡ with_front front (numbers_of radix places most (pieces_after mark rest)) → rest ≡ Some more → FirstPiece mark radix places most more.now None → read ≡ None
-no_more mark radix places most front read rest more e is first = e ∙ rw (is, first.cut, first.read) refl
 
 -- four bytes joined by dots
 pub octets_complete : (text octets : List ℕ) → IsDotted text octets → octets_read text ≡ Some octets

@@ -1,9 +1,8 @@
 -- The number parser returns exactly the number of the grammar.
-use Rattle.std.proofs.Common.{◌≡◌, ℕ, ◌<◌, ◌≤◌, Bool, true, false, cond, List, [], ◌∷◌, length, get_or, Option, Some, None, refl, arith, lt-ltb, le-leb, nat_lt, nat_le, ◌*◌, ◌+◌, ◌^◌, take, length-take-le, le_trans, lit≤, min, mul-le-mul, ◌&&◌, subst, sym}
+use Rattle.std.proofs.Common.{◌≡◌, ℕ, ◌<◌, ◌≤◌, Bool, true, cond, List, [], ◌∷◌, length, get_or, Option, Some, None, refl, arith, lt-ltb, le-leb, nat_lt, nat_le, ◌*◌, ◌+◌, ◌^◌, take, length-take-le, le_trans, lit≤, min, mul-le-mul, ◌&&◌, subst, sym}
 use Rattle.std.proofs.Math.Nat.{pow-le-pow_left, pow-le-pow_right}
 use Rattle.std.proofs.lemmas.Int.Digits.{digits_value-lt, digits_more, digits_value_more}
 use Rattle.std.proofs.lemmas.Bool.{ltb-true, leb-true, and_parts}
-use Rattle.std.proofs.lemmas.Option.{none-some}
 use Rattle.std.specs.List.{list_all}
 use Rattle.std.specs.Char.{is_digit, digit_value}
 use Rattle.std.specs.Str.Parse.{AllDigits, digits_value}
@@ -33,9 +32,7 @@ number_complete radix places most text n h =
 
 -- both of two tests in a row passed
 two_tests : {A : Type 0} (a b : Bool) (o : Option A) (x : A) → cond a (cond b o None) None ≡ Some x → (a ≡ true) × (b ≡ true) × (o ≡ Some x)
-two_tests true true o x e = (refl, refl, e)
-two_tests true false o x e = absurd (none-some x e)
-two_tests false b o x e = absurd (none-some x e)
+two_tests a b o x e = grind arith
 
 -- the computed number is one of the grammar
 pub number_sound : (radix places most : ℕ) (text : List ℕ) (n : ℕ) → number_of radix places most text ≡ Some n → IsNumber radix places most text n

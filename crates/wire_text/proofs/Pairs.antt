@@ -1,6 +1,6 @@
 -- Six pairs of hex digits joined by a mark.
-use Rattle.std.proofs.Common.{◌≡◌, ◌≢◌, ◌⊎◌, ℕ, zero, suc, ◌*◌, ◌+◌, ◌-◌, ◌%◌, ◌<◌, ◌≤◌, ◌&&◌, ◌==◌, Bool, true, false, MatchOption, List, [], ◌∷◌, ◌++◌, drop, length, length-append, get_or, min, refl, sym, ap, subst, ◌∙◌, arith, lit≤, nat_lt, eqb-true, eq-eqb, Option, Some, None, inl, inr}
-use Rattle.std.proofs.lemmas.Bool.{and_parts, ltb-true}
+use Rattle.std.proofs.Common.{◌≡◌, ◌≢◌, ◌⊎◌, ℕ, zero, suc, ◌*◌, ◌+◌, ◌-◌, ◌%◌, ◌<◌, ◌≤◌, ◌&&◌, ◌==◌, Bool, true, MatchOption, List, [], ◌∷◌, ◌++◌, drop, length, length-append, get_or, min, refl, sym, ap, subst, ◌∙◌, arith, lit≤, nat_lt, eqb-true, eq-eqb, Option, Some, None, inl, inr}
+use Rattle.std.proofs.lemmas.Bool.{and_parts}
 use Rattle.std.proofs.lemmas.Slice.Eq.{text_from_reads}
 use Rattle.std.proofs.lemmas.Option.{same_Some, none-some}
 use Rattle.std.specs.Bool.{then_some}
@@ -8,26 +8,17 @@ use Rattle.std.specs.Char.{digit_value}
 use Rattle.std.specs.List.{join_with_byte}
 use Rattle.std.specs.Str.Parse.{AllDigits}
 use Rattle.wire_text.specs.Grammar.{EachReads, IsNumber, IsHexOctets, IsHexText, Reads}
-use Rattle.wire_text.proofs.Numbers.{digit_below}
+use Rattle.std.proofs.lemmas.Grind.{common_steps}
+use Rattle.std.proofs.lemmas.Bool.Decides.{nat_tests}
 
 -- two digits are parsed at once
 pub pair_read : (a b high low value : ℕ) → high ≡ min 16 (digit_value a) → low ≡ min 16 (digit_value b) → value ≡ (high * 16 + low) % 256
     → (nat_lt high 16 && nat_lt low 16) ≡ true → IsNumber 16 2 255 (a ∷ b ∷ []) value
-pair_read a b high low value is_high is_low is both =
-    let (h, l) = and_parts _ _ both in
-    let (a_digit, a_is) = digit_below 16 high _ (lit≤ tt) is_high (ltb-true high 16 h) in
-    let (b_digit, b_is) = digit_below 16 low _ (lit≤ tt) is_low (ltb-true low 16 l) in
-    record {
-      digits = (lit≤ tt, (a_digit, (b_digit, tt)));
-      places_fit = lit≤ tt;
-      value = omega (arith, a_is, b_is, is);
-      fits = omega (arith, is);
-    }
+pair_read a b high low value is_high is_low is both = grind (arith, common_steps, nat_tests)
 
 -- what a test shows that passes for exactly these values
 pub decided : {A : Type 0} (P : A → Type 0) (t : Bool) (v : A) → (t ≡ true → P v) → ((a : A) → P a → t ≡ true) → MatchOption (then_some t v) ((a : A) → ¬ (P a)) P
-decided P true v passes holds = passes refl
-decided P false v passes holds = λ a h. absurd (cc (holds a h))
+decided P t v passes holds = grind arith
 
 -- six pairs and five marks make the text
 module _ (mark : ℕ) (text : List ℕ) where
@@ -184,12 +175,10 @@ module _ (mark : ℕ) where
 -- ---- the mark is a dash or a colon
 
 pub by_dashes : (text : List ℕ) (r : Option (List ℕ)) → ((octets : List ℕ) → ¬ (IsHexOctets 58 text octets)) → Reads (IsHexOctets 45) text r → Reads IsHexText text r
-by_dashes text None none h = λ octets. elim [ inl k ↦ h octets k | inr k ↦ none octets k ]
-by_dashes text (Some octets) none h = inl h
+by_dashes text r none h = grind arith
 
 pub by_colons : (text : List ℕ) (r : Option (List ℕ)) → ((octets : List ℕ) → ¬ (IsHexOctets 45 text octets)) → Reads (IsHexOctets 58) text r → Reads IsHexText text r
-by_colons text None none h = λ octets. elim [ inl k ↦ none octets k | inr k ↦ h octets k ]
-by_colons text (Some octets) none h = inr h
+by_colons text r none h = grind arith
 
 -- a text of more than 17 bytes has no value
 pub too_long : (text octets : List ℕ) → 17 < length text → ¬ (IsHexText text octets)
@@ -223,12 +212,10 @@ first_found mark text octets h = subst (HasFirstMark mark) (sym h.0.joined) (by 
     by ((a ∷ b ∷ c ∷ piece) ∷ next ∷ pieces) (v ∷ w ∷ values) each six = absurd (omega (arith, each.0.places_fit))
 
 pub third_byte : (mark : ℕ) (text : List ℕ) → 16 ≤ digit_value mark → digit_value (get_or text 1 0) < 16 → HasFirstMark mark text → get_or text 2 0 ≡ mark
-third_byte mark text apart digit (long, inl (_, same)) = same
-third_byte mark text apart digit (long, inr same) = absurd (omega (arith, apart, digit, ap digit_value same))
+third_byte mark text apart digit h = grind arith
 
 pub second_byte : (mark : ℕ) (text : List ℕ) → 16 ≤ digit_value (get_or text 1 0) → HasFirstMark mark text → get_or text 1 0 ≡ mark
-second_byte mark text other (long, inl (digit, _)) = absurd (omega (arith, other, digit))
-second_byte mark text other (long, inr same) = same
+second_byte mark text other h = grind arith
 
 -- a text whose first mark is another byte has no value with this mark
 pub not_with : (mark other : ℕ) (text : List ℕ) → mark ≢ other → ((octets : List ℕ) → IsHexOctets mark text octets → Some other ≡ Some mark) → (octets : List ℕ) → ¬ (IsHexOctets mark text octets)

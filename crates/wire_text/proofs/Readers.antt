@@ -1,6 +1,6 @@
 -- The parsers return what the grammar defines.
-use Rattle.std.proofs.Common.{◌≡◌, ◌≢◌, ℕ, ◌≤◌, List, [], ◌∷◌, length, Option, Some, None, sym, ap, ◌∙◌, subst, arith, inl, inr, lit≤}
-use Rattle.std.proofs.lemmas.Option.{none-some, same_Some}
+use Rattle.std.proofs.Common.{◌≡◌, ◌≢◌, ℕ, ◌≤◌, List, [], ◌∷◌, length, Option, Some, sym, ap, ◌∙◌, subst, arith, inl, inr, lit≤}
+use Rattle.std.proofs.lemmas.Option.{same_Some}
 use Rattle.std.proofs.lemmas.List.Splits.{slice_split_none}
 use Rattle.std.specs.Char.{digit_value}
 use Rattle.wire_text.specs.Grammar.{Reads, IsDotted, IsHexOctets, IsHexText, IsIpv6Text}
@@ -11,8 +11,7 @@ use Rattle.wire_text.proofs.Ipv6.{groups_complete, groups_sound}
 
 reads : {A : Type 0} (R : List ℕ → A → Type 0) (f : List ℕ → Option A) → ((text : List ℕ) (x : A) → R text x → f text ≡ Some x) → ((text : List ℕ) (x : A) → f text ≡ Some x → R text x)
     → (text : List ℕ) (r : Option A) → r ≡ f text → Reads R text r
-reads R f complete sound text None e = λ x h. none-some x (e ∙ complete text x h)
-reads R f complete sound text (Some x) e = sound text x (sym e)
+reads R f complete sound text r e = grind arith
 
 -- the computed bytes are those of the grammar
 pub reads_octets : (text : List ℕ) (r : Option (List ℕ)) → r ≡ octets_read text → Reads IsDotted text r

@@ -1,29 +1,23 @@
 -- Single steps of the parsers.
-use Rattle.std.proofs.Common.{◌≡◌, ◌≢◌, ℕ, zero, suc, ◌+◌, ◌<◌, ◌≤◌, ◌==◌, nat_lt, nat_le, Bool, true, false, ◌&&◌, cond, List, [], ◌∷◌, ◌++◌, length, get_or, take, drop, replicate, bytes_eq, Option, Some, None, refl, sym, ap, ◌∙◌, arith, inl, inr, lit≤, length-append, lt-ltb, ne_eqb, eq-eqb, eqb-true, not, ◌⊎◌, Bor, is_some, IfSome}
-use Rattle.std.proofs.lemmas.Bool.{cases_eq, true≢false, eqb-false, leb-true}
+use Rattle.std.proofs.Common.{◌≡◌, ◌≢◌, ℕ, ◌+◌, ◌<◌, ◌≤◌, ◌==◌, nat_lt, Bool, true, false, cond, List, [], ◌∷◌, ◌++◌, length, get_or, take, drop, Option, Some, None, refl, sym, ap, ◌∙◌, arith, inl, inr, lit≤, lt-ltb, ne_eqb, eq-eqb, eqb-true, not, ◌⊎◌, Bor, is_some, IfSome}
+use Rattle.std.proofs.lemmas.Bool.{eqb-false}
 use Rattle.std.proofs.lemmas.List.Splits.{join_with_byte-slice_split, slice_split_at}
 use Rattle.wire_text.specs.Grammar.{groups_of, mapped_groups, IsDotted}
-use Rattle.std.specs.List.{list_all, join_with_byte}
+use Rattle.std.specs.List.{join_with_byte}
 use Rattle.std.specs.Bool.{then_some}
 use Rattle.wire_text.specs.Reading.{FilledFrom, ◌>>=◌, FirstPiece, octets_read, hex_octets_read, numbers_of, pieces_of, all_groups, may_end_dotted, groups_from, group_of, behind_elision, dotted_end, pieces_after, mapped_read, inner_text, groups_read}
 use Rattle.std.proofs.lemmas.List.Elements.{All-nil}
-use Rattle.std.proofs.lemmas.List.{length-replicate}
-use Rattle.std.proofs.lemmas.Slice.Eq.{bytes_eq-Decides}
-use Rattle.std.specs.Char.{digit_value}
 use Rattle.std.specs.Str.Parse.{AllDigits}
 use Rattle.wire_text.proofs.First.{IsBehind, IsFirst, no_piece}
 use Rattle.wire_text.proofs.Numbers.{number_sound}
 use Rattle.wire_text.proofs.Joined.{octets_complete, octets_sound}
 use Rattle.wire_text.proofs.Ipv6.{dotted_by, dotted_piece}
+use Rattle.std.proofs.lemmas.Grind.{common_steps}
+use Rattle.std.proofs.lemmas.Bool.Decides.{nat_tests}
 
 -- exactly as many values as wanted, or `None`
 counted : (count : ℕ) (read : Option (List ℕ)) (values : List ℕ) (done : Bool) → FilledFrom read values done → length values ≡ count → then_some done values ≡ read >>= (λ octets. cond (length octets == count) (Some octets) None)
-counted count read values true filled len = rw (filled, eq-eqb (length values) count len) refl
-counted count None values false filled len = refl
-counted count (Some ns) values false filled len = elim (cases_eq (length ns) count) [
-  | inl same ↦ absurd (filled ns refl (omega arith))
-  | inr other ↦ rw (ne_eqb (length ns) count other) refl
-]
+counted count read values done filled len = grind arith
 
 -- the filled array is the four bytes of the text
 pub four_octets : (text values : List ℕ) (done : Bool) (r : Option (List ℕ)) → FilledFrom (numbers_of 10 3 255 (pieces_of 46 text)) values done → length values ≡ 4 → r ≡ then_some done values → r ≡ octets_read text
@@ -34,11 +28,6 @@ four_octets text values done r filled len e = e ∙ counted 4 _ values done fill
 pub six_octets : (mark : ℕ) (text values : List ℕ) (done : Bool) (r : Option (List ℕ)) → FilledFrom (numbers_of 16 2 255 (pieces_of mark text)) values done → length values ≡ 6 → r ≡ then_some done values → r ≡ hex_octets_read mark text
 unfolding hex_octets_read
 six_octets mark text values done r filled len e = e ∙ counted 6 _ values done filled len
-
--- zeros and the mark
-zeros_test : (zeros : List ℕ) → list_all (λ g. g == 0) zeros ≡ bytes_eq (zeros ++ 0xffff ∷ []) (replicate (length zeros) 0 ++ 0xffff ∷ [])
-zeros_test [] = refl
-zeros_test (z ∷ zeros) = ap (λ b. (z == 0) && b) (zeros_test zeros)
 
 -- one iteration of the loop, by the kind of the piece
 module _ (before : Option ℕ) (seen piece : List ℕ) (pieces : List (List ℕ)) where
@@ -61,23 +50,18 @@ at_end before seen = refl
 
 -- an option that is not `Some` is `None`
 pub none_from : {A : Type 0} (o : Option A) → is_some o ≡ false → o ≡ None
-none_from None e = refl
-none_from (Some x) e = absurd (true≢false e)
+none_from o e = grind arith
 
 -- an index within a length is within the next length
 pub still_within : (before : Option ℕ) (len : ℕ) → IfSome before (λ n. n ≤ len) → IfSome before (λ n. n ≤ len + 1)
-still_within None len h = tt
-still_within (Some n) len h = omega arith
+still_within before len h = grind arith
 
 pub behind_end : (seen rest : List ℕ) (later : Option (List ℕ)) → length rest ≡ 0 → behind_elision None seen (pieces_of 58 rest) later ≡ all_groups (Some (length seen)) seen
 behind_end seen [] later e = refl
 behind_end seen (c ∷ rest) later e = absurd (omega arith)
 
 behind_more : (seen rest : List ℕ) (pieces : List (List ℕ)) (later : Option (List ℕ)) → join_with_byte 58 pieces ≡ rest → 0 < length rest → behind_elision None seen pieces later ≡ later
-behind_more seen rest [] later e some = absurd (omega (arith, ap length e))
-behind_more seen rest ([] ∷ []) later e some = absurd (omega (arith, ap length e))
-behind_more seen rest ([] ∷ next ∷ pieces) later e some = refl
-behind_more seen rest ((c ∷ piece) ∷ pieces) later e some = refl
+behind_more seen rest pieces later e some = grind arith
 
 pub behind_later : (seen rest : List ℕ) (later : Option (List ℕ)) → length rest ≢ 0 → behind_elision None seen (pieces_of 58 rest) later ≡ later
 behind_later seen rest later some = behind_more seen rest (pieces_of 58 rest) later (join_with_byte-slice_split 58 rest) (omega arith)
@@ -115,29 +99,14 @@ not_mapped text why = mapped_none text λ octets h. elim why [
 ]
 
 behind_nothing : (before : Option ℕ) (seen : List ℕ) (later : Option (List ℕ)) → behind_elision before seen [] later ≡ None
-behind_nothing None seen later = refl
-behind_nothing (Some n) seen later = refl
+behind_nothing before seen later = grind arith
 
 -- no `::` is possible here: it occurred before, or no colon follows
 pub in_apart : (before : Option ℕ) (text : List ℕ) → (is_some before ≡ true) ⊎ (0 < length text → get_or text 0 0 ≢ 58) → ¬ ((before ≡ None) × (0 < length text) × (get_or text 0 0 ≡ 58))
-in_apart before text (inl seen) h = true≢false (sym seen ∙ ap is_some h.0)
-in_apart before text (inr apart) h = apart h.1 h.2
-
--- the result after eight groups
-unlike : (xs ys : List ℕ) → length xs ≢ length ys → bytes_eq xs ys ≡ false
-unlike xs ys differ = by (bytes_eq xs ys) refl
-  where
-    by : (b : Bool) → bytes_eq xs ys ≡ b → bytes_eq xs ys ≡ false
-    by true e = absurd (differ (ap length ((bytes_eq-Decides xs ys).0 e)))
-    by false e = e
+in_apart before text h = grind arith
 
 full_apart : (before : Option ℕ) (seen : List ℕ) → length seen ≡ 8 → may_end_dotted before seen ≡ false
-full_apart None seen full = unlike seen mapped_groups (omega (arith, full))
-full_apart (Some n) seen full = by (nat_le n 4) refl
-  where
-    by : (b : Bool) → nat_le n 4 ≡ b → (b && bytes_eq seen (replicate n 0 ++ 0xffff ∷ [])) ≡ false
-    by false e = refl
-    by true e = unlike seen _ (omega (arith, leb-true n 4 e, full, length-append {A = ℕ} (replicate n 0) (0xffff ∷ []), length-replicate {A = ℕ} n 0))
+full_apart before seen full = grind (arith, common_steps, nat_tests)
 
 -- why the text begins neither with a group that fits nor with a `::` that is allowed
 abbrev pub IsStop : Option ℕ → List ℕ → List ℕ → ℕ → Type 0
@@ -148,13 +117,10 @@ IsStop before seen text count =
 
 -- a colon comes first only if no digits precede it
 other_first : (text : List ℕ) (count : ℕ) → AllDigits 16 (take count text) → ¬ (IsBehind 58 (drop count text)) → 0 < length text → get_or text 0 0 ≢ 58
-other_first [] count digits other some = absurd (omega arith)
-other_first (c ∷ text) zero digits other some = other
-other_first (c ∷ text) (suc n) digits other some = λ same. omega (arith, digits.0, ap digit_value same)
+other_first text count digits other some = grind arith
 
 either_way : {A : Type 0} (b : Bool) (x : A) → x ≡ cond b x x
-either_way true x = refl
-either_way false x = refl
+either_way b x = grind arith
 
 -- ---- one iteration of the loop
 

@@ -8,6 +8,7 @@ ghost use Rattle.wire_text.specs.Reading.{FilledFrom, numbers_of, octets_read, p
 use crate::number_text::{first_piece, hex_digit};
 
 /// Fills `values` from numbers joined by the mark. Returns whether the text has exactly that many.
+#[tactic(auto, using(crate::proofs::Joined::filled))]
 #[inline(always)]
 fn fill(text: &[u8], mark: u8, radix: u32, places: usize, values: &mut [u8]) -> bool
     requires low { 2 ≤ radix }
@@ -30,6 +31,7 @@ fn fill(text: &[u8], mark: u8, radix: u32, places: usize, values: &mut [u8]) -> 
 }
 
 /// The bytes of four decimal numbers joined by dots.
+#[tactic(auto, using(crate::proofs::Readers::reads_octets, crate::proofs::Steps::four_octets))]
 #[inline(always)]
 pub fn octets(text: &[u8]) -> Option<[u8; 4]>
     ensures { Reads IsDotted text.now result }
@@ -39,6 +41,7 @@ pub fn octets(text: &[u8]) -> Option<[u8; 4]>
 }
 
 /// The bytes of six hex numbers joined by this mark.
+#[tactic(auto, using(crate::proofs::Readers::reads_hex_octets, crate::proofs::Steps::six_octets))]
 #[inline(always)]
 fn hex_octets_joined(text: &[u8], mark: u8) -> Option<[u8; 6]>
     requires apart { 16 ≤ digit_value mark }

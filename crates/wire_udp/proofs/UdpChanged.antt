@@ -1,5 +1,5 @@
 -- A packet in which a field of the header changed.
-use Rattle.std.proofs.Common.{ℕ, ◌≡◌, ◌≢◌, ◌<◌, ◌-◌, Bool, IsTrue, List, drop, length, take, refl, sym, subst, ap, ◌∙◌, arith}
+use Rattle.std.proofs.Common.{ℕ, ◌≡◌, ◌≢◌, ◌<◌, ◌-◌, Bool, IsTrue, List, drop, length, take, refl, sym, ap, ◌∙◌, arith}
 use Rattle.wire_field.specs.Field.{with_field}
 use Rattle.wire_field.proofs.Cells.{cells-drop}
 use Rattle.wire_ends.specs.declared.ip_address.IpAddress.{IpAddress}
@@ -40,7 +40,7 @@ pub reads-src_port : (bytes : List ℕ) (x : ℕ) (src dst : IpAddress) (verifie
     → (IsTrue checked → HasChecksum src dst (with_field bytes 0 16 x)) → Reads (with_field bytes 0 16 x) src dst checked (record v { src_port = x }) payload
 reads-src_port bytes x src dst verified checked v payload fits r valid =
     reads-set bytes (with_field bytes 0 16 x) (λ h. record h { src_port = x }) src dst src dst verified checked v payload r
-    (subst (λ (l : List ℕ). Sets l (with_field l 0 16 x) (λ h. record h { src_port = x })) (sym (cells-drop 8 bytes r.lengths.least)) (record { long = refl; len = refl; behind = refl; values = grind arith }))
+    (rw (cells-drop 8 bytes r.lengths.least) (record { long = refl; len = refl; behind = refl; values = grind arith }))
     valid (receiver_read bytes src dst verified v payload r)
 
 -- writing the destination port changes only the destination port of the value
@@ -48,15 +48,15 @@ pub reads-dst_port : (bytes : List ℕ) (x : ℕ) (src dst : IpAddress) (verifie
     → (IsTrue checked → HasChecksum src dst (with_field bytes 16 16 x)) → Reads (with_field bytes 16 16 x) src dst checked (record v { dst_port = x }) payload
 reads-dst_port bytes x src dst verified checked v payload fits some r valid =
     reads-set bytes (with_field bytes 16 16 x) (λ h. record h { dst_port = x }) src dst src dst verified checked v payload r
-    (subst (λ (l : List ℕ). Sets l (with_field l 16 16 x) (λ h. record h { dst_port = x })) (sym (cells-drop 8 bytes r.lengths.least)) (record { long = refl; len = refl; behind = refl; values = grind arith }))
+    (rw (cells-drop 8 bytes r.lengths.least) (record { long = refl; len = refl; behind = refl; values = grind arith }))
     valid some
 
 -- the checksum is not part of the value, and nothing else depends on the addresses
-pub reads-checksum : (bytes : List ℕ) (x : ℕ) (src dst src' dst' : IpAddress) (verified checked : Bool) (v : UdpRepr) (payload : List ℕ) → Reads bytes src dst verified v payload
+pub reads_checksum : (bytes : List ℕ) (x : ℕ) (src dst src' dst' : IpAddress) (verified checked : Bool) (v : UdpRepr) (payload : List ℕ) → Reads bytes src dst verified v payload
     → (IsTrue checked → HasChecksum src' dst' (with_field bytes 48 16 x)) → Reads (with_field bytes 48 16 x) src' dst' checked v payload
-reads-checksum bytes x src dst src' dst' verified checked v payload r valid =
+reads_checksum bytes x src dst src' dst' verified checked v payload r valid =
     reads-set bytes (with_field bytes 48 16 x) (λ h. h) src dst src' dst' verified checked v payload r
-    (subst (λ (l : List ℕ). Sets l (with_field l 48 16 x) (λ h. h)) (sym (cells-drop 8 bytes r.lengths.least)) (record { long = refl; len = refl; behind = refl; values = refl }))
+    (rw (cells-drop 8 bytes r.lengths.least) (record { long = refl; len = refl; behind = refl; values = refl }))
     valid (receiver_read bytes src dst verified v payload r)
 
 -- the same bytes with other addresses, or with a valid checksum verified

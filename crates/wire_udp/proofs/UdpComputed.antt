@@ -3,7 +3,7 @@ use Rattle.std.proofs.Common.{ℕ, ◌≡◌, ◌↔◌, Bool, true, false, List
 use Rattle.std.proofs.lemmas.Bool.Decides.{nat_tests}
 use Rattle.std.specs.Bool.{Decides}
 use Rattle.std.specs.Result.{result_ok}
-use Rattle.wire_field.proofs.Readings.{answer-computed}
+use Rattle.wire_field.proofs.Readings.{answer_computed}
 use Rattle.net_base.specs.declared.error.Error.{Error}
 use Rattle.wire_ends.specs.declared.ip_address.IpAddress.{IpAddress}
 use Rattle.wire_ends.specs.declared.ip_address.IpAddress.TheVariants as address
@@ -42,4 +42,4 @@ pub answer-udp_of : (src dst : IpAddress) (verified : Bool) (bytes : List ℕ) (
     → ((v : UdpRepr) → (answer ≡ Ok v) ↔ Reads bytes src dst verified v (payload_of bytes))
     → udp_of src dst verified bytes ≡ result_ok answer
 answer-udp_of src dst verified bytes answer reads =
-    answer-computed (λ v. Reads bytes src dst verified v (payload_of bytes)) answer (udp_of src dst verified bytes) reads (udp_of-Reads src dst verified bytes)
+    answer_computed (λ v. Reads bytes src dst verified v (payload_of bytes)) answer (udp_of src dst verified bytes) reads (udp_of-Reads src dst verified bytes)

@@ -98,11 +98,11 @@ reads-packet_with v src dst payload rest checksum verified h sound =
     }
 
 -- an emitted packet parses as the same value and payload
-pub reads-bytes_of : (v : UdpRepr) (src dst : IpAddress) (payload rest : List ℕ) (computed verified : Bool) → IsInRange v payload src dst
+pub reads_bytes_of : (v : UdpRepr) (src dst : IpAddress) (payload rest : List ℕ) (computed verified : Bool) → IsInRange v payload src dst
     → (IsTrue verified → IsTrue computed) → Reads (bytes_of v payload src dst computed ++ rest) src dst verified v payload
-reads-bytes_of v src dst payload rest true verified h sound =
+reads_bytes_of v src dst payload rest true verified h sound =
     let sum = packet_sum src dst (packet_with v payload 0) in
     let bounds = checksum_for-bounds sum (residue-bound _) in
     reads-packet_with v src dst payload rest (checksum_for sum) verified h (λ on. (omega arith, omega arith, verifies v src dst payload h.src_octets h.dst_octets))
-reads-bytes_of v src dst payload rest false verified h sound =
+reads_bytes_of v src dst payload rest false verified h sound =
     reads-packet_with v src dst payload rest 0 verified h (λ on. let no : IsTrue false = sound on in absurd (cc))

@@ -4,7 +4,7 @@ use Rattle.std.proofs.lemmas.Bool.Decides.{nat_tests}
 use Rattle.std.proofs.lemmas.List.{length-take-le}
 use Rattle.wire_field.specs.Field.{field, with_field}
 use Rattle.wire_field.proofs.Spelled.{AreBytes}
-use Rattle.wire_field.proofs.Written.{AreBytes-with_field, field-with_field_other, field-with_field_same, length-with_field}
+use Rattle.wire_field.proofs.Written.{AreBytes-with_field, field_with_field_other, field_with_field_same, length_with_field}
 use Rattle.wire_checksum.proofs.Parts.{sum-take-with_field}
 use Rattle.wire_checksum.proofs.PseudoSums.{pseudo_header_total, sum-with_pseudo_header}
 use Rattle.wire_checksum.proofs.Residues.{residue-bound, residue-of_zero, residue-same}
@@ -14,7 +14,7 @@ use Rattle.wire_checksum.specs.WordSum.{residue, sum_of_bytes, updated, words}
 use Rattle.wire_ends.specs.IpAddress.{octets_of, version_of}
 use Rattle.wire_ends.specs.declared.ip_address.IpAddress.{IpAddress}
 use Rattle.wire_ends.specs.declared.ip_protocol.IpProtocol.TheVariants as protocol
-use Rattle.wire_udp.proofs.UdpChanged.{reads-checksum, reads-verified}
+use Rattle.wire_udp.proofs.UdpChanged.{reads_checksum, reads-verified}
 use Rattle.wire_udp.proofs.UdpReadsBack.{checksum_for-bounds, checksum_for-cases, residue-checksum_for}
 use Rattle.wire_udp.specs.Udp.{HasChecksum, HasLengths, Reads, Verifies, checksum_for, packet_len, with_checksum, with_updated_checksum}
 use Rattle.wire_udp.specs.declared.udp.repr.UdpRepr.{UdpRepr}
@@ -37,8 +37,8 @@ total-parts src dst bytes n s d room =
 -- writing the checksum leaves the lengths
 lengths-with_checksum : (bytes : List ℕ) (x : ℕ) → AreBytes bytes → 8 ≤ length bytes → (length (with_field bytes 48 16 x) ≡ length bytes) × (packet_len (with_field bytes 48 16 x) ≡ packet_len bytes)
 lengths-with_checksum bytes x are room = (
-  length-with_field bytes 48 16 x (omega arith) (omega (arith, room)),
-  field-with_field_other bytes 48 16 x 32 16 are (omega arith) (omega arith) (omega (arith, room)) (inl (omega arith)),
+  length_with_field bytes 48 16 x (omega arith) (omega (arith, room)),
+  field_with_field_other bytes 48 16 x 32 16 are (omega arith) (omega arith) (omega (arith, room)) (inl (omega arith)),
 )
 
 -- the new checksum replaces the old one in the total
@@ -83,7 +83,7 @@ valid-updated src dst src' dst' bytes changed old new are s' d' h checksum famil
     let covered : c < total src' dst' changed = omega (arith, zeroed, total-parts src' dst' changed (packet_len changed) s' d' h.whole, sum-take-with_field changed (packet_len changed) 3 0 are (omega (arith, h.header)) h.whole (omega arith)) in
     let with_u = stays_valid (total src dst bytes) (total src' dst' changed) (total src' dst' changed + u - c) c old new (omega arith) change (omega (arith, covered)) covered valid in
     let full : residue (total src' dst' (with_field changed 48 16 x)) ≡ 65535 = written-same (total src' dst' changed + u - c) (total src' dst' (with_field changed 48 16 x)) u (omega arith) (omega (arith, at_x, covered)) with_u in
-    let there = field-with_field_same changed 48 16 x are (omega arith) (omega (arith, h.least)) in
+    let there = field_with_field_same changed 48 16 x are (omega arith) (omega (arith, h.least)) in
     rw not_zero (inr ((λ z. omega (arith, z, there, bounds)), full))
 
 -- the same for one of the two ports
@@ -93,9 +93,9 @@ valid-port src dst bytes i x are fits front s d h valid =
     let n = packet_len bytes in
     let changed = with_field bytes (16 * i) 16 x in
     let old = field bytes (16 * i) 16 in
-    let long = length-with_field bytes (16 * i) 16 x (omega arith) (omega (arith, front, h.least)) in
+    let long = length_with_field bytes (16 * i) 16 x (omega arith) (omega (arith, front, h.least)) in
     let other : (at : ℕ) → 32 ≤ at → field changed at 16 ≡ field bytes at 16 = λ at behind.
-    field-with_field_other bytes (16 * i) 16 x at 16 are (omega arith) (omega arith) (omega (arith, front, h.least)) (inr (omega (arith, front, behind))) in
+    field_with_field_other bytes (16 * i) 16 x at 16 are (omega arith) (omega arith) (omega (arith, front, h.least)) (inr (omega (arith, front, behind))) in
     let len = other 32 (omega arith) in
     let change : total src dst changed + old ≡ total src dst bytes + x =
     omega (
@@ -129,7 +129,7 @@ reads-updated bytes new a b src dst src' dst' verified checked v payload is r va
 
     by_case : (none : Bool) → (IsTrue checked → HasChecksum src' dst' (if none then bytes else with_field bytes 48 16 x)) → Reads (if none then bytes else with_field bytes 48 16 x) src' dst' checked v payload
     by_case true = reads-verified bytes src dst src' dst' verified checked v payload r
-    by_case false = reads-checksum bytes x src dst src' dst' verified checked v payload r
+    by_case false = reads_checksum bytes x src dst src' dst' verified checked v payload r
 
 -- ---- a checksum that is filled in
 
@@ -140,18 +140,18 @@ filled src dst bytes are s d h =
     let zeroed = with_field bytes 48 16 0 in
     let zero_are = AreBytes-with_field bytes 48 16 0 are (omega arith) (omega (arith, h.least)) in
     let (long, len) = lengths-with_checksum bytes 0 are h.least in
-    let none = field-with_field_same bytes 48 16 0 are (omega arith) (omega (arith, h.least)) in
+    let none = field_with_field_same bytes 48 16 0 are (omega arith) (omega (arith, h.least)) in
     let covered = sum (words (with_pseudo_header src dst protocol.Udp (take (packet_len bytes) zeroed))) in
     let x = checksum_for (residue covered) in
     let bounds = checksum_for-bounds (residue covered) (residue-bound covered) in
     let more = total-with_checksum src dst zeroed x zero_are s d (omega (arith, bounds.1)) (record { least = omega (arith, long, h.least); header = omega (arith, len, h.header); whole = omega (arith, long, len, h.whole) }) in
     let is : total src dst (with_field zeroed 48 16 x) ≡ covered + x = omega (arith, more, none, ap (λ (m : ℕ). sum (words (with_pseudo_header src dst protocol.Udp (take m zeroed)))) len) in
-    let there = field-with_field_same zeroed 48 16 x zero_are (omega arith) (omega (arith, long, h.least)) in
+    let there = field_with_field_same zeroed 48 16 x zero_are (omega arith) (omega (arith, long, h.least)) in
     ((λ z. omega (arith, z, there, bounds)), ap residue is ∙ residue-checksum_for covered)
 
 -- a packet parses as before after its checksum is filled in
 pub reads-filled : (src dst : IpAddress) (bytes : List ℕ) (verified checked : Bool) (v : UdpRepr) (payload : List ℕ) → AreBytes bytes → length (octets_of src) % 2 ≡ 0 → length (octets_of dst) % 2 ≡ 0
     → Reads bytes src dst verified v payload → Reads (with_checksum src dst bytes) src dst checked v payload
 reads-filled src dst bytes verified checked v payload are s d r =
-    reads-checksum (with_field bytes 48 16 0) _ src dst src dst false checked v payload (reads-checksum bytes 0 src dst src dst verified false v payload r (λ no. cc))
+    reads_checksum (with_field bytes 48 16 0) _ src dst src dst false checked v payload (reads_checksum bytes 0 src dst src dst verified false v payload r (λ no. cc))
     (λ on. inr (filled src dst bytes are s d r.lengths))

@@ -113,6 +113,7 @@ impl ArpRepr {
 }
 
 // Whether the bytes of a packet name Ethernet and IPv4, and the lengths of their addresses.
+#[tactic(auto, using(crate::proofs::ArpComputed::kind_fields))]
 fn is_ethernet_ipv4(bytes: &[u8]) -> bool
     requires { 6 ≤ length bytes.now }
     ensures { IsTrue result ↔ (take 6 bytes.now ≡ ethernet_ipv4) }

@@ -109,6 +109,7 @@ impl Ipv4Repr {
 impl fmt::Display for Ipv4Repr {
     ghost output = { λ v. Some (value_text v) };
 
+    #[tactic(auto, unfolding(crate::specs::Ipv4Text::value_text))]
     fn fmt<W: fmt::Write>(&self, f: &mut fmt::Formatter<W>) -> fmt::Result {
         let (src, dst, protocol) = (self.src_addr, self.dst_addr, self.next_header);
         write!(f, "IPv4 src={src} dst={dst} proto={protocol}")

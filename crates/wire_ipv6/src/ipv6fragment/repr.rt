@@ -60,6 +60,7 @@ impl Ipv6FragmentRepr {
 impl fmt::Display for Ipv6FragmentRepr {
     ghost output = { λ v. Some (value_text v) };
 
+    #[tactic(auto, unfolding(crate::specs::Ipv6Fragment::value_text))]
     fn fmt<W: fmt::Write>(&self, f: &mut fmt::Formatter<W>) -> fmt::Result {
         let (offset, more, ident) = (self.frag_offset, self.more_frags, self.ident);
         write!(f, "IPv6 Fragment offset={offset} more={more} ident={ident}")

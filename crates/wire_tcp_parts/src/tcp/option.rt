@@ -51,6 +51,7 @@ impl<'a> TcpOption<'a> {
     /// Parses the first option. Returns the bytes after it, and the option. Fails if there are no
     /// bytes, if the length is wrong for the option's kind, or if the option passes the end of the
     /// bytes.
+    #[tactic(auto, using(crate::proofs::Items::take_left, crate::proofs::Items::first_cell, crate::proofs::Items::IsItem_bare, crate::proofs::Items::Begins_from_item))]
     #[inline(always)]
     pub fn parse(buffer: &'a [u8]) -> Result<(&'a [u8], TcpOption<'a>)>
         ensures ok { IfOk result (λ read. Begins read.1 buffer.now read.0.now) }
@@ -236,6 +237,7 @@ pub(super) fn first_blocks(content: &[u8]) -> [Option<(u32, u32)>; SACK_BLOCKS]
 }
 
 // Block `i` in the data of a SACK option, if there is one.
+#[tactic(auto, using(crate::proofs::Items::take_left, crate::proofs::Items::block_at_here))]
 #[inline(always)]
 fn block_at(content: &[u8], i: usize) -> Option<(u32, u32)>
     requires whole { length content.now % 8 ≡ 0 }

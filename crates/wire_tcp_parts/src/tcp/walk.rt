@@ -16,6 +16,7 @@ pub fn sack_permitted(options: &[u8]) -> Result<bool>
 }
 
 /// The ranges of the first SACK option, or no ranges. Fails if a malformed option comes before it.
+#[tactic(auto, using(crate::proofs::Walks::no_ranges, crate::proofs::Walks::some_ranges))]
 pub fn sack_ranges(options: &[u8]) -> Result<[Option<(u32, u32)>; SACK_BLOCKS]>
     ensures { Answers options.now 5 (λ i. first_blocks i.content) (first_blocks []) result }
 {

@@ -6,7 +6,7 @@ use Rattle.ip_wire.specs.Ethernet.{frame_bytes}
 use Rattle.ip_wire.specs.declared.EthernetProtocol.TheVariants as ethertype
 use Rattle.ip_nat.proofs.packet.parse_whole.Goals as goal
 
--- the bytes behind the header
+-- the bytes after the header
 tail : (frame : List ℕ) → take (length frame - 14) (drop 14 frame) ≡ drop 14 frame
 tail frame = take_all (length frame - 14) (drop 14 frame) (omega (arith, length-drop 14 frame))
 

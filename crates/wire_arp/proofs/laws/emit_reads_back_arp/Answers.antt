@@ -1,8 +1,8 @@
-use Rattle.std.proofs.Common.{rules}
-use Rattle.wire_arp.proofs.ArpEmitted.{IsInRange, reads-bytes_of}
+use Rattle.std.proofs.Common.{arith}
+use Rattle.wire_arp.proofs.ArpEmitted.{reads_bytes_of}
 use Rattle.wire_arp.proofs.laws.emit_reads_back_arp.Goals as goal
+use Rattle.std.proofs.lemmas.Grind.{common_steps}
+use Rattle.std.proofs.lemmas.Bool.Decides.{nat_tests}
 
 pub returns : goal.returns
-returns c =
-    let in_range : IsInRange c.args.value = search rules in
-    reads-bytes_of c.args.value c.args.rest.now in_range
+returns c = grind (arith, common_steps, nat_tests, reads_bytes_of)

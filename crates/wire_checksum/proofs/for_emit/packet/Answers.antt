@@ -3,7 +3,7 @@ use Rattle.wire_ends.specs.IpAddress.{octets_of}
 use Rattle.wire_checksum.specs.PseudoHeader.{pseudo_header_bytes}
 use Rattle.wire_checksum.specs.WordSum.{residue, sum_of_bytes}
 use Rattle.wire_checksum.proofs.Chains.{and_more}
-use Rattle.wire_checksum.proofs.PseudoSums.{total-joins, total-with_pseudo_header}
+use Rattle.wire_checksum.proofs.PseudoSums.{total-joins, total_with_pseudo_header}
 use Rattle.wire_checksum.proofs.for_emit.packet.Goals as goal
 
 pub returns : goal.returns
@@ -20,5 +20,5 @@ returns c =
     ∙ c.around-2.ensures
     ∙ and_more c.around.result (c.pseudo_header_total-pseudo_header.result + c.total_of_words.result) c.total.result c.around.ensures
     ∙ ap (λ n. residue (256 * n)) (omega arith)
-    ∙ total-with_pseudo_header c.args.src_addr c.args.dst_addr c.args.next_header (octets ++ rest) c.pseudo_header_total-pseudo_header.result
+    ∙ total_with_pseudo_header c.args.src_addr c.args.dst_addr c.args.next_header (octets ++ rest) c.pseudo_header_total-pseudo_header.result
     (c.total_of_words.result + c.total.result) src dst front both

@@ -33,16 +33,6 @@ overflow_add-odd c =
     let P : List ℕ → Type 0 = λ l. Each2 (λ o d. Fits w16 (o + d)) c.loop-vector.odd (map (λ x. x / 256) l) in
     subst P (sym (digits-pairs 16 v long fit)) (odd-fit (255 * i) c.loop-vector.odd v (omega arith) c.loop-vector.invariant.small_odd fit)
 
--- what an iteration keeps
-Kept : List ℕ → List ℕ → List ℕ → ℕ → Type 0
-Kept bytes all odd i = record {
-  long_all : length all ≡ 16;
-  long_odd : length odd ≡ 16;
-  small_odd : Each1 (λ a. a ≤ 255 * i) odd;
-  small_even : Each1 (λ a. a ≤ 255 * i) (evens 16 all odd);
-  so_far : 256 * sum_l (evens 16 all odd) + sum_l odd ≡ sum (words (take (i * 32) bytes));
-}
-
 pub loop-vector-preserved : goal.loop-vector-preserved
 loop-vector-preserved c =
     let bytes = c.args.bytes.now in
@@ -110,8 +100,7 @@ returns-clause-value c =
     let odd = c.loop-vector.odd in
     let even : c.from-even.result ≡ sum_l (evens 16 all odd) = c.from-even.ensures ∙ folded (evens 16 all odd) in
     let odds : c.from.result ≡ sum_l odd = c.from.ensures ∙ folded odd in
-    ap (λ n. 256 * n + c.from.result) even ∙ ap (λ n. 256 * sum_l (evens 16 all odd) + n) odds ∙ c.loop-vector.invariant.so_far
-    ∙ ap (λ l. sum (words l)) (take_all (c.loop-vector.vector-index * 32) c.args.bytes.now (omega arith))
+    rw (even, odds) (c.loop-vector.invariant.so_far ∙ ap (λ l. sum (words l)) (take_all (c.loop-vector.vector-index * 32) c.args.bytes.now (omega arith)))
 
 -- both totals are below 2 ^ 20
 small_total : (b : ℕ) (xs : List ℕ) (r : ℕ) → r ≡ fold_l (λ s x. s + x) 0 (map (λ x. x) xs) → length xs ≡ 16 → b ≤ 65535 → Each1 (λ a. a ≤ b) xs → r ≤ 1048560

@@ -1,4 +1,4 @@
-use Rattle.std.proofs.Common.{◌≡◌, ◌≤◌, ◌+◌, ◌-◌, ◌*◌, ◌/◌, ◌∙◌, ℕ, List, [], length, take, get_or, sum, sym, ap, arith, w64}
+use Rattle.std.proofs.Common.{◌≡◌, ◌≤◌, ◌+◌, ◌-◌, ◌*◌, ◌/◌, ◌∙◌, ℕ, List, [], length, take, get_or, sum, ap, arith, w64}
 use Rattle.std.specs.Int.{from_le_bytes}
 use Rattle.std.specs.Simd.{first_chunks}
 use Rattle.wire_checksum.specs.WordSum.{words, residue}
@@ -8,9 +8,7 @@ use Rattle.wire_checksum.proofs.totals.last_words.Goals.{then-words-ge2, else-wo
 
 none : (bytes : List ℕ) (start j : ℕ) → j ≡ 0 → residue (256 * start) ≡ residue (256 * start + sum (words (take j bytes)))
 unfolding words
-none bytes start j e =
-    let first : residue (256 * start) ≡ residue (256 * start + sum (words (take 0 bytes))) = ap residue (omega arith) in
-    first ∙ ap (λ n. residue (256 * start + sum (words (take n bytes)))) (sym e)
+none bytes start j e = grind arith
 
 pair : (bytes : List ℕ) (ws : List (List ℕ)) (start w0 w1 a s j : ℕ) → ws ≡ first_chunks 8 (length bytes / 8) bytes → 2 ≤ length bytes / 8 → j ≡ 16
     → w0 ≡ from_le_bytes w64 (get_or ws 0 []) → w1 ≡ from_le_bytes w64 (get_or ws 1 [])

@@ -1,5 +1,5 @@
 use Rattle.std.proofs.Common.{◌<◌, rules}
-use Rattle.wire_ipv4.proofs.Ipv4ReadsBack.{IsInRange, reads-bytes_of}
+use Rattle.wire_ipv4.proofs.Ipv4ReadsBack.{IsInRange, reads_bytes_of}
 use Rattle.wire_ends.specs.Protocol.{number_of}
 use Rattle.wire_ipv4.proofs.laws.emit_reads_back_ipv4.Goals as goal
 
@@ -13,4 +13,4 @@ returns c =
       payload_len = c.requires.payload_len;
       hop_limit = search rules;
     } in
-    reads-bytes_of c.args.value c.args.rest.now c.args.computed c.args.verified in_range c.requires.payload c.requires.checksum
+    reads_bytes_of c.args.value c.args.rest.now c.args.computed c.args.verified in_range c.requires.payload c.requires.checksum

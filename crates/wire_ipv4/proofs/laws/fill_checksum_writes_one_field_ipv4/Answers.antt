@@ -4,14 +4,11 @@ use Rattle.wire_ipv4.specs.Ipv4.{HasChecksum, header_len, packet_bytes_mut}
 use Rattle.wire_ipv4.proofs.Ipv4Numbers.{filled, shape-filled}
 use Rattle.wire_ipv4.proofs.Ipv4Updated.{valid-filled}
 use Rattle.wire_ipv4.proofs.laws.fill_checksum_writes_one_field_ipv4.Goals as goal
+use Rattle.std.proofs.lemmas.Grind.{common_steps}
+use Rattle.std.proofs.lemmas.Bool.Decides.{nat_tests}
 
 pub verify_checksum-requires : goal.verify_checksum-requires
-verify_checksum-requires c =
-    let (long, header) = shape-filled (packet_bytes_mut c.args.packet.now) c.requires.least in
-    let some : 1 ≤ length (packet_bytes_mut c.fill_checksum.new.self) = subst (λ (l : List ℕ). 1 ≤ length l) (sym c.fill_checksum.ensures.holds) (omega (arith, long, c.requires.least)) in
-    let room : header_len (packet_bytes_mut c.fill_checksum.new.self) ≤ length (packet_bytes_mut c.fill_checksum.new.self) =
-    subst (λ (l : List ℕ). header_len l ≤ length l) (sym c.fill_checksum.ensures.holds) (omega (arith, long, header, c.requires.header)) in
-    record { field = some; header = room }
+verify_checksum-requires c = grind (arith, common_steps, nat_tests, shape-filled)
 
 pub returns : goal.returns
 returns c =

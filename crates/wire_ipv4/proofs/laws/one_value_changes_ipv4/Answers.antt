@@ -2,7 +2,7 @@ use Rattle.std.proofs.Common.{ℕ, ◌<◌, ◌≤◌, ◌+◌, ◌⊎◌, false
 use Rattle.wire_field.proofs.Spelled.{AreBytes}
 use Rattle.wire_field.specs.Field.{with_field}
 use Rattle.wire_ipv4.specs.Ipv4.{Reads}
-use Rattle.wire_ipv4.proofs.Ipv4Changed.{reads-checksum, reads-dst_addr, reads-hop_limit, reads-next_header, reads-no_value, reads-src_addr}
+use Rattle.wire_ipv4.proofs.Ipv4Changed.{reads_checksum, reads-dst_addr, reads-hop_limit, reads-next_header, reads-no_value, reads-src_addr}
 use Rattle.wire_ipv4.proofs.laws.one_value_changes_ipv4.Goals as goal
 
 pub returns : goal.returns
@@ -17,7 +17,7 @@ returns c =
       next_header = reads-next_header bytes c.args.octet false false v (search rules) c.requires (λ no. cc);
       src_addr = reads-src_addr bytes c.args.address false false v (search rules) c.requires (λ no. cc);
       dst_addr = reads-dst_addr bytes c.args.address false false v (search rules) c.requires (λ no. cc);
-      checksum = reads-checksum bytes c.args.word false false v c.requires (λ no. cc);
+      checksum = reads_checksum bytes c.args.word false false v c.requires (λ no. cc);
       dscp = no_value 8 6 c.args.octet (omega arith) (inl (omega arith, omega arith));
       ecn = no_value 14 2 c.args.octet (omega arith) (inl (omega arith, omega arith));
       ident = no_value 32 16 c.args.word (omega arith) (inr (omega arith, omega arith));

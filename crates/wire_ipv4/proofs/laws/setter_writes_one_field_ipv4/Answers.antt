@@ -1,5 +1,5 @@
 use Rattle.std.proofs.Common.{◌≡◌, rules, subst, sym, ◌∙◌}
-use Rattle.wire_field.proofs.Ranges.{range-field}
+use Rattle.wire_field.proofs.Ranges.{range_field}
 use Rattle.wire_ipv4.specs.Ipv4.{packet_bytes_mut}
 use Rattle.wire_ipv4.specs.Ipv4Fields.{after}
 use Rattle.wire_ipv4.specs.declared.laws.Ipv4Setting.{Ipv4Setting}
@@ -7,8 +7,8 @@ use Rattle.wire_ipv4.proofs.laws.setter_writes_one_field_ipv4.Goals as goal
 
 pub returns-in-SrcAddr : goal.returns-in-SrcAddr
 returns-in-SrcAddr c = subst (λ (s : Ipv4Setting). packet_bytes_mut c.set_src_addr.new.self ≡ after s (packet_bytes_mut c.args.packet.now)) (sym c.in-SrcAddr.is)
-    (c.set_src_addr.ensures.holds ∙ range-field (packet_bytes_mut c.args.packet.now) c.in-SrcAddr.x 12 4 (search rules) (search rules))
+    (c.set_src_addr.ensures.holds ∙ range_field (packet_bytes_mut c.args.packet.now) c.in-SrcAddr.x 12 4 (search rules) (search rules))
 
 pub returns-in-DstAddr : goal.returns-in-DstAddr
 returns-in-DstAddr c = subst (λ (s : Ipv4Setting). packet_bytes_mut c.set_dst_addr.new.self ≡ after s (packet_bytes_mut c.args.packet.now)) (sym c.in-DstAddr.is)
-    (c.set_dst_addr.ensures.holds ∙ range-field (packet_bytes_mut c.args.packet.now) c.in-DstAddr.x 16 4 (search rules) (search rules))
+    (c.set_dst_addr.ensures.holds ∙ range_field (packet_bytes_mut c.args.packet.now) c.in-DstAddr.x 16 4 (search rules) (search rules))

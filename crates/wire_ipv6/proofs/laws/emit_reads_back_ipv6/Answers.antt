@@ -1,6 +1,6 @@
 use Rattle.std.proofs.Common.{◌<◌, rules}
 use Rattle.wire_ipv6.proofs.Ipv6Emitted.{IsInRange}
-use Rattle.wire_ipv6.proofs.Ipv6ReadsBack.{reads-bytes_of}
+use Rattle.wire_ipv6.proofs.Ipv6ReadsBack.{reads_bytes_of}
 use Rattle.wire_ends.specs.Protocol.{number_of}
 use Rattle.wire_ipv6.proofs.laws.emit_reads_back_ipv6.Goals as goal
 
@@ -14,4 +14,4 @@ returns c =
       payload_len = c.requires.payload_len;
       hop_limit = search rules;
     } in
-    reads-bytes_of c.args.value c.args.rest.now in_range c.requires.payload
+    reads_bytes_of c.args.value c.args.rest.now in_range c.requires.payload

@@ -1,6 +1,6 @@
 use Rattle.std.proofs.Common.{rules}
-use Rattle.wire_ipv6.proofs.Ipv6FragmentEmitted.{reads-bytes_of}
+use Rattle.wire_ipv6.proofs.Ipv6FragmentEmitted.{reads_bytes_of}
 use Rattle.wire_ipv6.proofs.laws.emit_reads_back_ipv6_fragment.Goals as goal
 
 pub returns : goal.returns
-returns c = reads-bytes_of c.args.value c.args.rest.now (search rules)
+returns c = reads_bytes_of c.args.value c.args.rest.now (search rules)

@@ -1,5 +1,5 @@
 use Rattle.std.proofs.Common.{rules}
-use Rattle.wire_ndisc.proofs.ReadsBack.{IsInRange, reads-bytes_of}
+use Rattle.wire_ndisc.proofs.ReadsBack.{IsInRange, reads_bytes_of}
 use Rattle.wire_ndisc.proofs.laws.emit_reads_back_ndisc.Goals as goal
 
 pub returns : goal.returns
@@ -10,4 +10,4 @@ returns c =
       target = search rules;
       lladdr = λ address is. search rules;
     } in
-    reads-bytes_of c.args.value c.args.src_addr c.args.dst_addr c.args.computed c.args.verified in_range c.requires.allowed c.requires.checksum
+    reads_bytes_of c.args.value c.args.src_addr c.args.dst_addr c.args.computed c.args.verified in_range c.requires.allowed c.requires.checksum

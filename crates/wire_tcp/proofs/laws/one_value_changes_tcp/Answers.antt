@@ -1,5 +1,5 @@
 use Rattle.std.proofs.Common.{false, rules}
-use Rattle.wire_tcp.proofs.TcpChanged.{reads-ack, reads-ack_number, reads-checksum, reads-dst_port, reads-fin, reads-psh, reads-rst, reads-seq_number, reads-src_port, reads-syn, reads-unread, reads-window_len}
+use Rattle.wire_tcp.proofs.TcpChanged.{reads-ack, reads-ack_number, reads_checksum, reads-dst_port, reads-fin, reads-psh, reads-rst, reads-seq_number, reads-src_port, reads-syn, reads-unread, reads-window_len}
 use Rattle.wire_tcp.specs.TcpRepr.{header_of}
 use Rattle.wire_tcp.proofs.laws.one_value_changes_tcp.Goals as goal
 
@@ -21,6 +21,6 @@ returns c =
       syn = λ before. reads-syn bytes c.args.on src dst v payload before c.requires;
       fin = λ before. reads-fin bytes c.args.on src dst v payload before c.requires;
       window_len = reads-window_len bytes c.args.word src dst false false v payload (search rules) c.requires (λ no. cc);
-      checksum = reads-checksum bytes c.args.word src dst src dst false false v payload c.requires (λ no. cc);
+      checksum = reads_checksum bytes c.args.word src dst src dst false false v payload c.requires (λ no. cc);
       unread = λ first width x some place. reads-unread bytes first width x src dst v payload (λ i. (c.type_inv.bytes i).fits) some place c.requires;
     }

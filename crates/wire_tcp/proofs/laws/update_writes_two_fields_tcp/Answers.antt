@@ -1,10 +1,12 @@
-use Rattle.std.proofs.Common.{ℕ, ◌≡◌, ◌≤◌, List, length, refl, sym, subst, ◌∙◌}
+use Rattle.std.proofs.Common.{ℕ, ◌≡◌, ◌≤◌, List, length, refl, sym, subst, arith}
 use Rattle.wire_field.proofs.Cells.{cells-drop}
-use Rattle.wire_tcp.specs.Tcp.{packet_bytes_mut, with_updated_checksum}
+use Rattle.wire_tcp.specs.Tcp.{with_updated_checksum}
 use Rattle.wire_tcp.specs.TcpFields.{after_update, sums_of, with_update}
 use Rattle.wire_tcp.specs.declared.laws.TcpUpdate.{TcpUpdate}
 use Rattle.wire_tcp.specs.declared.laws.TcpUpdate.TheVariants as update
 use Rattle.wire_tcp.proofs.laws.update_writes_two_fields_tcp.Goals as goal
+use Rattle.std.proofs.lemmas.Grind.{common_steps}
+use Rattle.std.proofs.lemmas.Bool.Decides.{nat_tests}
 
 -- a port or window that is written leaves the checksum, so that it may be updated from the new bytes or the old ones
 abbrev Same : TcpUpdate → List ℕ → Type 0
@@ -17,16 +19,10 @@ same (update.WindowLen x) bytes room = subst (Same (update.WindowLen x)) (sym (c
 same (update.Address old new) bytes room = refl
 
 pub returns-in-SrcPort-clause-fields : goal.returns-in-SrcPort-clause-fields
-returns-in-SrcPort-clause-fields c =
-    subst (λ (u : TcpUpdate). packet_bytes_mut c.update_src_port.new.self ≡ after_update u (packet_bytes_mut c.args.packet.now)) (sym c.in-SrcPort.is)
-    (c.update_src_port.ensures.value.holds ∙ same (update.SrcPort c.in-SrcPort.x) (packet_bytes_mut c.args.packet.now) c.requires)
+returns-in-SrcPort-clause-fields c = grind (arith, common_steps, nat_tests, same)
 
 pub returns-in-DstPort-clause-fields : goal.returns-in-DstPort-clause-fields
-returns-in-DstPort-clause-fields c =
-    subst (λ (u : TcpUpdate). packet_bytes_mut c.update_dst_port.new.self ≡ after_update u (packet_bytes_mut c.args.packet.now)) (sym c.in-DstPort.is)
-    (c.update_dst_port.ensures.value.holds ∙ same (update.DstPort c.in-DstPort.x) (packet_bytes_mut c.args.packet.now) c.requires)
+returns-in-DstPort-clause-fields c = grind (arith, common_steps, nat_tests, same)
 
 pub returns-in-WindowLen-clause-fields : goal.returns-in-WindowLen-clause-fields
-returns-in-WindowLen-clause-fields c =
-    subst (λ (u : TcpUpdate). packet_bytes_mut c.update_window_len.new.self ≡ after_update u (packet_bytes_mut c.args.packet.now)) (sym c.in-WindowLen.is)
-    (c.update_window_len.ensures.value.holds ∙ same (update.WindowLen c.in-WindowLen.x) (packet_bytes_mut c.args.packet.now) c.requires)
+returns-in-WindowLen-clause-fields c = grind (arith, common_steps, nat_tests, same)

@@ -1,5 +1,5 @@
 use Rattle.std.proofs.Common.{rules}
-use Rattle.wire_udp.proofs.UdpReadsBack.{IsInRange, reads-bytes_of}
+use Rattle.wire_udp.proofs.UdpReadsBack.{IsInRange, reads_bytes_of}
 use Rattle.wire_udp.proofs.laws.emit_reads_back_udp.Goals as goal
 
 pub returns : goal.returns
@@ -12,4 +12,4 @@ returns c =
       src_octets = search rules;
       dst_octets = search rules;
     } in
-    reads-bytes_of c.args.value c.args.src_addr c.args.dst_addr c.args.payload.now c.args.rest.now c.args.computed c.args.verified in_range c.requires.checksum
+    reads_bytes_of c.args.value c.args.src_addr c.args.dst_addr c.args.payload.now c.args.rest.now c.args.computed c.args.verified in_range c.requires.checksum

@@ -16,11 +16,11 @@ returns c =
     let src : length header.src_addr.0 ≡ 6 = search rules in
     let number : ethernet.number_of header.ethertype < 2 ^ 16 = rw c.requires (omega arith) in
     let in_range : arp_packet.IsInRange value = search rules in
-    let read = arp_packet.reads-bytes_of value c.args.padding.now in_range in
+    let read = arp_packet.reads_bytes_of value c.args.padding.now in_range in
     let inner = subst (λ (bytes : List ℕ). arp.Reads bytes (arp.normal value)) (sym (drop-bytes_of header carried dst src)) read in
     subst (λ (bytes : List ℕ). ReadsFrame c.args.received bytes (ethernet.normal header) (message (arp.normal value)))
     (sym (append_assoc (ethernet.bytes_of header) (arp.bytes_of value) c.args.padding.now))
     (record {
-      reads_header = ethernet_header.reads-bytes_of header carried dst src number;
+      reads_header = ethernet_header.reads_bytes_of header carried dst src number;
       reads_carried = (ap ethernet.protocol_of c.requires, inner);
     })

@@ -1,6 +1,6 @@
 use Rattle.std.proofs.Common.{◌<◌, ◌∙◌, ◌++◌, [], ◌∷◌, ap, arith, drop, length, refl}
 use Rattle.std.proofs.lemmas.Grind.{common_steps}
-use Rattle.wire_tcp_parts.proofs.Items.{IsItem-bare, first_cell, take_left}
+use Rattle.wire_tcp_parts.proofs.Items.{IsItem_bare, first_cell, take_left}
 use Rattle.wire_tcp_parts.proofs.OptionLists.{one_more, shorter, stuck}
 use Rattle.wire_tcp_parts.proofs.Summaries.{noted, on_err}
 use Rattle.wire_tcp_parts.specs.TcpItems.{item}
@@ -21,7 +21,7 @@ loop-rest-preserved-then-kind-eq-OPT_NOP c =
     let b = c.loop-rest.rest.now in
     let some : 0 < length b = grind (arith, common_steps) in (
       seen.0 ++ item 1 [] ∷ [],
-      one_more c.args.options.now seen.0 (item 1 []) b _ seen.1 IsItem-bare (rw take_left (first_cell b some ∙ ap (λ x. x ∷ drop 1 b) c.if-kind-eq-OPT_NOP.true)),
+      one_more c.args.options.now seen.0 (item 1 []) b _ seen.1 IsItem_bare (rw take_left (first_cell b some ∙ ap (λ x. x ∷ drop 1 b) c.if-kind-eq-OPT_NOP.true)),
       noted _ seen.0 (item 1 []) 1 seen.2 refl,
       seen.3,
     )

@@ -1,5 +1,5 @@
 use Rattle.std.proofs.Common.{Ok, Option, sym, subst}
-use Rattle.wire_tcp_parts.proofs.Walks.{AnswersRanges, no_ranges, some_ranges}
+use Rattle.wire_tcp_parts.proofs.Walks.{AnswersRanges, some_ranges}
 use Rattle.wire_tcp_parts.specs.TcpWalk.{FindsFirst}
 use Rattle.wire_tcp_parts.specs.declared.tcp.option.TcpOption.{TcpOption}
 use Rattle.wire_tcp_parts.proofs.tcp.walk.sack_ranges.Goals as goal
@@ -8,8 +8,3 @@ pub returns-in-Some : goal.returns-in-Some
 returns-in-Some c =
     let P : Option TcpOption → Type 0 = λ option. FindsFirst c.args.options.now 5 (Ok option) in
     subst (AnswersRanges c.args.options.now) (sym c.ranges-in-Some.ensures) (some_ranges c.args.options.now c.in-Some.option (subst P c.in-Some.is c.in_ok-option.ensures))
-
-pub returns-in-None : goal.returns-in-None
-returns-in-None c =
-    let P : Option TcpOption → Type 0 = λ option. FindsFirst c.args.options.now 5 (Ok option) in
-    no_ranges c.args.options.now (subst P c.in-None.is c.in_ok-option.ensures)

@@ -1,5 +1,5 @@
 use Rattle.std.proofs.Common.{rules, Result, Err}
-use Rattle.wire_field.proofs.Readings.{answer-computed}
+use Rattle.wire_field.proofs.Readings.{answer_computed}
 use Rattle.net_base.specs.declared.error.Error.{Error}
 use Rattle.wire_arp.proofs.ArpComputed.{arp_of-Reads}
 use Rattle.wire_arp.specs.Arp.{Reads, arp_of}
@@ -10,7 +10,7 @@ pub returns-then-bytes-lt-ETHERNET_IPV4_LEN-clause-value : goal.returns-then-byt
 returns-then-bytes-lt-ETHERNET_IPV4_LEN-clause-value c =
     let bytes = c.args.packet.now.buffer.now in
     let refused : Result ArpRepr Error = Err (record {}) in
-    answer-computed (Reads bytes) refused (arp_of bytes) (search rules) (arp_of-Reads bytes)
+    answer_computed (Reads bytes) refused (arp_of bytes) (search rules) (arp_of-Reads bytes)
 
 pub returns-clause-value : goal.returns-clause-value
 returns-clause-value c = (arp_of-Reads c.args.packet.now.buffer.now _).1 (search rules)

@@ -2,7 +2,7 @@ use Rattle.std.proofs.Common.{rules, Err}
 use Rattle.net_base.specs.Checksum.{verifies}
 use Rattle.wire_ends.specs.IpAddress.{version_of}
 use Rattle.wire_icmp.specs.Icmp.{choice_of}
-use Rattle.wire_icmp.proofs.IcmpComputed.{answer-icmp_of, icmp_of-Reads}
+use Rattle.wire_icmp.proofs.IcmpComputed.{answer-icmp_of, icmp_of_Reads}
 use Rattle.wire_icmp.proofs.icmp.repr.IcmpRepr.parse.Goals as goal
 
 pub returns-in_err-check_len-clause-value : goal.returns-in_err-check_len-clause-value
@@ -15,7 +15,7 @@ returns-then-not-verify_checksum-clause-value c =
 
 pub returns-in-Some-clause-value : goal.returns-in-Some-clause-value
 returns-in-Some-clause-value c =
-    (icmp_of-Reads c.args.src_addr.now c.args.dst_addr.now (verifies (choice_of (version_of c.args.src_addr.now) c.args.caps.now)) c.args.packet.now.buffer.now _).1 (search rules)
+    (icmp_of_Reads c.args.src_addr.now c.args.dst_addr.now (verifies (choice_of (version_of c.args.src_addr.now) c.args.caps.now)) c.args.packet.now.buffer.now _).1 (search rules)
 
 pub returns-in-None-clause-value : goal.returns-in-None-clause-value
 returns-in-None-clause-value c =

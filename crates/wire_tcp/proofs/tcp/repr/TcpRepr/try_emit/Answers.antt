@@ -1,17 +1,15 @@
-use Rattle.std.proofs.Common.{◌≡◌, ◌∙◌, ℕ, ◌+◌, ◌≤◌, List, [], ◌++◌, ap, append-nil, arith, drop, length, rules, take}
+use Rattle.std.proofs.Common.{◌≡◌, ℕ, ◌+◌, ◌≤◌, List, [], ◌++◌, append-nil, arith, drop, length, rules, take}
 use Rattle.std.proofs.lemmas.Grind.{common_steps}
 use Rattle.net_base.specs.Checksum.{computes}
 use Rattle.wire_tcp.specs.Tcp.{packet_bytes_mut}
 use Rattle.wire_tcp.specs.TcpRepr.{bytes_of, header_len_of, header_of}
 use Rattle.wire_tcp.proofs.tcp.repr.TcpRepr.try_emit.Goals as goal
+use Rattle.std.proofs.lemmas.Bool.Decides.{nat_tests}
 
 -- what is written into a part that it fills is at the front of the slice, whatever follows it
 filled : (bytes : List ℕ → List ℕ) (old front written rest : List ℕ) (len : ℕ) → len ≤ length old → front ≡ written
     → written ≡ bytes (drop len (take len old)) ++ drop len (take len old) → rest ≡ drop len old → front ++ rest ≡ bytes [] ++ drop len old
-filled bytes old front written rest len room is alone behind =
-    let none : drop len (take len old) ≡ [] = grind (arith, common_steps) in
-    let whole : front ≡ bytes [] = is ∙ alone ∙ ap (λ part. bytes part ++ part) none ∙ append-nil (bytes []) in
-    ap (λ part. part ++ rest) whole ∙ ap (λ part. bytes [] ++ part) behind
+filled bytes old front written rest len room is alone behind = grind (arith, common_steps, nat_tests, append-nil)
 
 pub returns : goal.returns
 returns c =

@@ -1,4 +1,4 @@
-use Rattle.std.proofs.Common.{ℕ, ◌≡◌, ◌<◌, ◌≤◌, ◌++◌, ◌∷◌, List, append_assoc, ap, codes, length, subst, sym, ◌∙◌, arith, rules}
+use Rattle.std.proofs.Common.{ℕ, ◌≡◌, ◌++◌, ◌∷◌, List, append_assoc, ap, subst, sym, ◌∙◌, arith, rules}
 use Rattle.std.proofs.lemmas.Grind.{common_steps, put_two}
 use Rattle.std.proofs.lemmas.List.{append-nil}
 use Rattle.std.specs.Fmt.{HasWritten}
@@ -9,6 +9,7 @@ use Rattle.wire_tcp_parts.specs.TcpOption.{Begins}
 use Rattle.wire_tcp.specs.TcpText.{item_text, options_text, shown}
 use Rattle.wire_tcp_parts.specs.declared.tcp.option.TcpOption.{TcpOption}
 use Rattle.wire_tcp.proofs.tcp.text.OptionsDisplay.fmt.Goals as goal
+use Rattle.std.proofs.lemmas.Bool.Decides.{nat_tests}
 
 pub loop-rest-preserved : goal.loop-rest-preserved
 loop-rest-preserved g c =
@@ -25,22 +26,10 @@ loop-rest-preserved g c =
     )
 
 pub returns-in_default-clause-writes : goal.returns-in_default-clause-writes
-returns-in_default-clause-writes g c =
-    let (done, split, wrote) = c.loop-rest.invariant in
-    let some : 0 < length c.loop-rest.rest.now = grind (arith, common_steps) in
-    λ plain ok.
-    let before = wrote plain in
-    put_two g.W.Write.write_str_gives _ _ _ done (codes " (wire::Error)") (options_text c.args.self.now.0.now) before
-    (c.write.ensures.writes before.plain ok)
-    (sym (split ∙ ap (λ (t : List ℕ). done ++ t) (options_text-malformed c.loop-rest.rest.now some c.in_default.ensures.err)))
+returns-in_default-clause-writes g c = grind (arith, common_steps, nat_tests, put_two, options_text-malformed)
 
 pub returns-after-loop-rest-clause-writes : goal.returns-after-loop-rest-clause-writes
-returns-after-loop-rest-clause-writes g c =
-    let (done, split, wrote) = c.loop-rest.invariant in
-    let none : length c.loop-rest.rest.now ≤ 0 = grind (arith, common_steps) in
-    λ plain ok.
-    subst (λ (t : List ℕ). HasWritten g.W.Write.write_str_gives c.args.f.now t c.loop-rest.f)
-    (sym (split ∙ ap (λ (t : List ℕ). done ++ t) (options_text-empty c.loop-rest.rest.now none) ∙ append-nil done)) (wrote plain)
+returns-after-loop-rest-clause-writes g c = grind (arith, common_steps, nat_tests, options_text-empty, append-nil)
 
 pub returns-in-EndOfList-clause-writes : goal.returns-in-EndOfList-clause-writes
 returns-in-EndOfList-clause-writes g c =

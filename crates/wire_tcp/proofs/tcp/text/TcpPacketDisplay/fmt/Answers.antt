@@ -1,12 +1,13 @@
-use Rattle.std.proofs.Common.{◌≡◌, ℕ, ◌++◌, List, ap, ap₂, subst, sym, ◌∙◌, rules}
+use Rattle.std.proofs.Common.{◌≡◌, ℕ, ◌++◌, List, ap, ap₂, sym, ◌∙◌, rules, arith}
 use Rattle.std.proofs.lemmas.Grind.{put_four}
-use Rattle.std.specs.Fmt.{WritesOnOk}
 use Rattle.std.specs.Result.{IsOk}
 use Rattle.wire_field.specs.Field.{field}
 use Rattle.wire_tcp.proofs.TcpTexts.{packet_text-none, packet_text-some}
 use Rattle.wire_tcp.specs.Tcp.{HasLengths, options_of}
 use Rattle.wire_tcp.specs.TcpText.{fields_text, flags_text, options_text, packet_text, ports_text}
 use Rattle.wire_tcp.proofs.tcp.text.TcpPacketDisplay.fmt.Goals as goal
+use Rattle.std.proofs.lemmas.Grind.{common_steps}
+use Rattle.std.proofs.lemmas.Bool.Decides.{nat_tests}
 
 pub returns-in_ok-write_fields-in-Ok-clause-writes : goal.returns-in_ok-write_fields-in-Ok-clause-writes
 returns-in_ok-write_fields-in-Ok-clause-writes g c =
@@ -28,8 +29,4 @@ returns-in_ok-write_fields-in-Ok-clause-writes g c =
     (ap₂ (λ (p t : List ℕ). p ++ (flags_text bytes ++ (fields_text bytes ++ t))) ports options ∙ sym (packet_text-some bytes lengths))
 
 pub returns-in-Err-clause-writes : goal.returns-in-Err-clause-writes
-returns-in-Err-clause-writes g c =
-    let bytes = c.args.self.now.buffer.now in
-    let none : ¬ HasLengths bytes = λ h. search rules in
-    subst (λ (t : List ℕ). WritesOnOk g.W.Write.write_str_gives c.args.f.now c.write-in-Err.result t c.write-in-Err.new.self)
-    (sym (packet_text-none bytes none)) c.write-in-Err.ensures.writes
+returns-in-Err-clause-writes g c = grind (arith, common_steps, nat_tests, packet_text-none)

@@ -2,7 +2,7 @@ use Rattle.std.proofs.Common.{◌≡◌, false, subst, sym, arith, rules}
 use Rattle.wire_field.proofs.Spelled.{AreBytes}
 use Rattle.wire_field.specs.Field.{field, with_field}
 use Rattle.wire_tcp.specs.Tcp.{Verifies, packet_bytes_mut, with_updated_checksum}
-use Rattle.wire_tcp.proofs.Sums.{valid-word}
+use Rattle.wire_tcp.proofs.Sums.{valid_word}
 use Rattle.wire_tcp.proofs.TcpChanged.{reads-dst_port, reads-summed}
 use Rattle.wire_tcp.proofs.tcp.update.TcpPacketMut.update_dst_port.Goals as goal
 
@@ -12,7 +12,7 @@ written c = search rules
 
 pub returns-clause-valid : goal.returns-clause-valid
 returns-clause-valid c src dst s d valid =
-    subst (Verifies src dst) (sym (written c)) (valid-word src dst (packet_bytes_mut c.args.self.now) 1 c.args.value (subst AreBytes c.as_bytes.ensures c.octets_fit.ensures) (search rules) (omega arith) s d c.requires valid)
+    subst (Verifies src dst) (sym (written c)) (valid_word src dst (packet_bytes_mut c.args.self.now) 1 c.args.value (subst AreBytes c.as_bytes.ensures c.octets_fit.ensures) (search rules) (omega arith) s d c.requires valid)
 
 pub returns-clause-reads : goal.returns-clause-reads
 returns-clause-reads c src dst verified v payload s d some r =

@@ -26,9 +26,7 @@ pub returns-in-8-clause-values : goal.returns-in-8-clause-values
 returns-in-8-clause-values c = λ xs e.
     let first : c.read_u32-tsval.result ≡ big_number 4 c.args.content.now = search rules in
     let second : c.read_u32-tsecr.result ≡ big_number 4 (drop 4 c.args.content.now) = simp take_left at c.read_u32-tsecr.ensures in
-    ap (λ (n : ℕ). record (summary_in c.args.self.now) { timestamp = Some (n, c.read_u32-tsecr.result) }) first
-    ∙ ap (λ (n : ℕ). record (summary_in c.args.self.now) { timestamp = Some (big_number 4 c.args.content.now, n) }) second
-    ∙ noted_stamp _ xs (item c.args.kind c.args.content.now) e c.in-8.is c.if-content-eq8.true
+    rw (first, second) (noted_stamp _ xs (item c.args.kind c.args.content.now) e c.in-8.is c.if-content-eq8.true)
 
 pub returns-else-content-eq8-clause-values : goal.returns-else-content-eq8-clause-values
 returns-else-content-eq8-clause-values c = λ xs e. noted_other _ xs (item c.args.kind c.args.content.now) e (omega arith) (λ _. c.if-content-eq8.false)
