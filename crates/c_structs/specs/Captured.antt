@@ -1,5 +1,5 @@
--- The struct of a frame of which only the first octets were captured. The payload's length in the struct counts all
--- octets of the frame. The bytes are those that were captured, and fewer.
+-- The struct of a frame of which only the first bytes were captured. The payload's length in the struct counts all
+-- bytes of the frame. The bytes are those that were captured, and fewer.
 use Rattle.std.specs.Prelude.{ℕ, ◌≡◌, ◌⊎◌, ◌+◌, ◌-◌, ◌==◌, ◌||◌, not, nat_le, nat_lt, if◌then◌else◌, Bool, false, List, drop, length}
 use Rattle.std.specs.Option.{option_map_or}
 use Rattle.ip_wire.specs.Ethernet as ethernet
@@ -23,11 +23,13 @@ use Rattle.c_structs.specs.declared.types.FrameFields.{FrameFields}
 
 -- ---- the headers
 
--- the first octets of the next header, so many, were not captured, or the frame itself is too short for them
+-- the fields after a header of at least `least` bytes was rejected, because it was not captured or because the frame
+-- is too short for it
 abbrev pub cut_header : FrameFields → ℕ → FrameFields
 cut_header f least = rejected f (if nat_lt f.payload_len least then reason.TooShort else reason.HeaderCut)
 
--- the fields with those of a UDP packet; a packet that was captured as a whole, or whose length is wrong, is stored as in a whole frame
+-- The fields with those of a UDP packet. A packet that was captured as a whole, or whose length is invalid, is stored
+-- as in a whole frame.
 abbrev pub cut_udp : FrameFields → IpAddress → IpAddress → List ℕ → FrameFields
 cut_udp f src dst bytes =
     if nat_lt (length bytes) 8 then cut_header f 8
@@ -35,7 +37,7 @@ cut_udp f src dst bytes =
     else let next = with_udp_fields f bytes (cut_udp_verdict src bytes) in
     if field bytes 16 16 == 0 then rejected_transport next reason.PortZero else behind next 8 (udp.packet_len bytes - 8)
 
--- the fields with those of a TCP segment; its checksum covers all of it
+-- the fields with those of a TCP segment; its checksum covers all of it, and cannot be verified
 abbrev pub cut_tcp : FrameFields → IpAddress → IpAddress → List ℕ → FrameFields
 cut_tcp f src dst bytes =
     if nat_lt (length bytes) 20 then cut_header f 20
@@ -43,13 +45,13 @@ cut_tcp f src dst bytes =
     option_map_or (λ v. behind next (tcp.header_len bytes) (f.payload_len - tcp.header_len bytes)) (tcp_of src dst false bytes)
     (rejected_transport next (tcp_fault bytes f.payload_len))
 
--- the fields with those of what a packet of this protocol carries between two addresses, if it is UDP or TCP
+-- the fields with those of the payload of a packet of this protocol between two addresses, if it is UDP or TCP
 abbrev pub cut_transport_by : FrameFields → IpProtocol → IpAddress → IpAddress → List ℕ → FrameFields
 cut_transport_by f protocol.Udp src dst bytes = cut_udp f src dst bytes
 cut_transport_by f protocol.Tcp src dst bytes = cut_tcp f src dst bytes
 cut_transport_by f _ src dst bytes = f
 
--- the fields with those of what a packet with this header carries
+-- the fields with those of the payload of a packet with this header
 abbrev pub cut_payload : FrameFields → IpRepr → List ℕ → FrameFields
 cut_payload f v bytes = cut_transport_by f (next_header_of v) (src_addr_of v) (dst_addr_of v) bytes
 
@@ -63,13 +65,13 @@ begun_ipv4 f bytes =
     let v = ipv4.header_of bytes in let next = with_ipv4_fields f bytes v v.payload_len in
     if ipv4.is_fragment bytes then next else cut_payload next (Ipv4 v) (drop (ipv4.header_len bytes) bytes)
 
--- the bytes are no IPv4 header, whatever follows them
+-- whether the bytes are no IPv4 header, whatever follows them
 abbrev pub is_no_ipv4 : FrameFields → List ℕ → Bool
 is_no_ipv4 f bytes =
     not (field bytes 0 4 == 4) || nat_lt (ipv4.header_len bytes) 20 || nat_lt (ipv4.total_len bytes) (ipv4.header_len bytes)
     || nat_lt f.payload_len (ipv4.total_len bytes)
 
--- the fields with those of an IPv4 packet; a packet that was captured as a whole is stored as in a whole frame
+-- The fields with those of an IPv4 packet. A packet that was captured as a whole is stored as in a whole frame.
 abbrev pub cut_ipv4 : FrameFields → List ℕ → FrameFields
 cut_ipv4 f bytes =
     if nat_lt (length bytes) 20 then cut_header f 20
@@ -78,14 +80,14 @@ cut_ipv4 f bytes =
     else if nat_lt (length bytes) (ipv4.header_len bytes) then rejected f reason.HeaderCut
     else begun_ipv4 f bytes
 
--- the fields with those of an IPv6 fragment header; it is not read where the payload itself is too short for it
+-- the fields with those of an IPv6 fragment header; it is not parsed if the payload itself is too short for it
 abbrev pub cut_fragment : FrameFields → List ℕ → FrameFields
 cut_fragment f bytes =
     if nat_lt f.payload_len 8 then f
     else if nat_lt (length bytes) 8 then rejected f reason.HeaderCut
     else with_fragment_header f (fragment.header_of (drop 2 bytes))
 
--- the same, if the protocol of an IPv6 packet says that there is one
+-- the fields with those of a fragment header, if the protocol of an IPv6 packet says that there is one
 abbrev pub cut_fragment_by : FrameFields → IpProtocol → List ℕ → FrameFields
 cut_fragment_by f protocol.Ipv6Frag bytes = cut_fragment f bytes
 cut_fragment_by f _ bytes = f
@@ -124,14 +126,15 @@ cut_frame f v bytes = cut_carried (with_link f v (f.payload_len - 14)) v.etherty
 
 -- ---- the frame
 
--- the values of a frame of which these bytes were captured, and so many octets behind them are missing
+-- the values of a frame of which these bytes were captured, and `missing` bytes after them were not
 unfoldable pub captured_of : List ℕ → ℕ → FrameFields
 captured_of bytes missing =
     if missing == 0 then fields_of bytes
     else let f = nothing_of (length bytes + missing) in
     if nat_lt (length bytes) 14 then cut_header f 14 else cut_frame f (ethernet.header_of bytes) (drop 14 bytes)
 
--- the same of a packet without an Ethernet header
+-- the values of a packet without an Ethernet header of which these bytes were captured, and `missing` bytes after
+-- them were not
 unfoldable pub captured_packet_of : List ℕ → ℕ → FrameFields
 captured_packet_of bytes missing =
     if missing == 0 then packet_fields_of bytes
@@ -148,7 +151,7 @@ pub data CutHeader : Type 0 where
   transport_header : CutHeader
   options : CutHeader
 
--- the fields of the whole frame without those of a header that was cut, and of what is behind it
+-- the fields of the whole frame without those of a header that was cut, and of what follows it
 abbrev pub before : CutHeader → FrameFields → FrameFields
 before link g = nothing_of 0
 before network g = record (nothing_of 0) { ethernet = g.ethernet }
@@ -171,12 +174,12 @@ before options g = record g {
   transport_checksum = verdict_code verdict.ChecksumCut;
 }
 
--- this header was cut: the fields in front of it are those of the whole frame, and the payload begins at it
+-- this header was cut: the fields before it are those of the whole frame, and the payload begins at it
 pub record IsCutAt (h : CutHeader) (f g : FrameFields) : Type 0 where
   pub reason : f.reason ≡ reason_code reason.HeaderCut
   pub fields : f ≡ record (before h g) { reason = f.reason; payload_offset = f.payload_offset; payload_len = f.payload_len }
 
--- no header was cut: all fields are those of the whole frame, but a checksum may cover octets that are missing
+-- no header was cut: all fields are those of the whole frame, but a checksum may cover bytes that are missing
 pub record HasHeaders (f g : FrameFields) : Type 0 where
   pub checksum : (f.transport_checksum ≡ g.transport_checksum) ⊎ (f.transport_checksum ≡ verdict_code verdict.ChecksumCut)
   pub fields : f ≡ record g { transport_checksum = f.transport_checksum }

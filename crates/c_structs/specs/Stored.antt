@@ -68,7 +68,7 @@ network_fault ethertype.Ipv4 bytes = ipv4_fault bytes
 network_fault ethertype.Ipv6 bytes = ipv6_fault bytes
 network_fault (ethertype.Unknown n) bytes = reason.Read
 
--- ---- the values in the struct
+-- ---- the values in the struct in the struct
 
 -- Of the flags FIN (1), SYN (2), RST (4) and PSH (8), the one that the control names is set. With FIN, SYN or RST,
 -- PSH may be set too.
