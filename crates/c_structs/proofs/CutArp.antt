@@ -1,17 +1,13 @@
 -- The struct of an ARP packet that was not captured as a whole.
-use Rattle.std.proofs.Common.{ℕ, ◌≡◌, ◌∙◌, ◌≤◌, ◌<◌, inl, inr, ◌&&◌, bytes_eq, nat_le, nat_lt, if◌then◌else◌, Bool, List, ◌++◌, Option, Some, None, ap, length, refl, slice_range, sym, take, arith}
+use Rattle.std.proofs.Common.{ℕ, ◌≡◌, ◌∙◌, ◌≤◌, ◌<◌, inl, inr, ◌&&◌, bytes_eq, nat_le, if◌then◌else◌, Bool, List, ◌++◌, Some, None, ap, length, refl, sym, take, arith}
 use Rattle.std.proofs.lemmas.Bool.{cases_lt}
 use Rattle.std.proofs.lemmas.List.{take-append-le}
-use Rattle.std.specs.Option.{option_map_or}
 use Rattle.ip_wire.specs.Arp as arp
 use Rattle.ip_wire.specs.Arp.{arp_of}
-use Rattle.ip_wire.specs.Field.{field}
-use Rattle.ip_wire.specs.Types.{ArpRepr}
-use Rattle.ip_wire.specs.declared.ArpRepr.TheVariants.{EthernetIpv4}
 use Rattle.c_structs.proofs.CutBytes.{field-front, le-false, le-true, longer, lt-false, lt-true, range-front}
 use Rattle.c_structs.proofs.CutOf.{IsStart, arp-keeps, cut-as, cut-network, same-of}
 use Rattle.c_structs.specs.Captured.{IsCutOf, cut_arp, cut_header}
-use Rattle.c_structs.specs.FrameFields.{rejected, with_arp, with_message}
+use Rattle.c_structs.specs.FrameFields.{rejected, with_arp}
 use Rattle.c_structs.specs.declared.codes.Reason.TheVariants as reason
 use Rattle.c_structs.specs.declared.types.FrameFields.{FrameFields}
 
@@ -19,39 +15,34 @@ arp_of-by : (bytes : List ℕ) → arp_of bytes ≡ (if nat_le 28 (length bytes)
 unfolding arp_of
 arp_of-by bytes = refl
 
-abbrev value : ℕ → List ℕ → List ℕ → List ℕ → List ℕ → ArpRepr
-value operation sh sp th tp = EthernetIpv4 (arp.operation_of operation) (record { 0 = sh }) sp (record { 0 = th }) tp
-
 value-front : (bytes rest : List ℕ) → 28 ≤ length bytes → arp.value_of (bytes ++ rest) ≡ arp.value_of bytes
 value-front bytes rest h =
-    let all = bytes ++ rest in
-    ap (λ (n : ℕ). value n (slice_range all 8 14) (slice_range all 14 18) (slice_range all 18 24) (slice_range all 24 28)) (field-front bytes rest 48 16 (omega (arith, h)))
-    ∙ ap (λ (l : List ℕ). value (field bytes 48 16) l (slice_range all 14 18) (slice_range all 18 24) (slice_range all 24 28)) (range-front bytes rest 8 14 (omega arith) (omega (arith, h)))
-    ∙ ap (λ (l : List ℕ). value (field bytes 48 16) (slice_range bytes 8 14) l (slice_range all 18 24) (slice_range all 24 28)) (range-front bytes rest 14 18 (omega arith) (omega (arith, h)))
-    ∙ ap (λ (l : List ℕ). value (field bytes 48 16) (slice_range bytes 8 14) (slice_range bytes 14 18) l (slice_range all 24 28)) (range-front bytes rest 18 24 (omega arith) (omega (arith, h)))
-    ∙ ap (λ (l : List ℕ). value (field bytes 48 16) (slice_range bytes 8 14) (slice_range bytes 14 18) (slice_range bytes 18 24) l) (range-front bytes rest 24 28 (omega arith) (omega (arith, h)))
-
--- what a packet is stored as, by its value and its fault
-abbrev shape : FrameFields → Option ArpRepr → Bool → FrameFields
-shape f o short = option_map_or (with_message f) o (rejected f (if short then reason.TooShort else reason.OtherArp))
+    rw (
+      field-front bytes rest 48 16 (omega (arith, h)),
+      range-front bytes rest 8 14 (omega arith) (omega (arith, h)),
+      range-front bytes rest 14 18 (omega arith) (omega (arith, h)),
+      range-front bytes rest 18 24 (omega arith) (omega (arith, h)),
+      range-front bytes rest 24 28 (omega arith) (omega (arith, h)),
+    ) refl
 
 arp-front : (f : FrameFields) (bytes rest : List ℕ) → 28 ≤ length bytes → with_arp f bytes ≡ with_arp f (bytes ++ rest)
 arp-front f bytes rest h =
     let all = bytes ++ rest in
     let size = longer bytes rest in
-    let found : arp_of bytes ≡ arp_of all =
-    arp_of-by bytes ∙ ap (λ (b : Bool). if b && bytes_eq (take 6 bytes) arp.ethernet_ipv4 then Some (arp.value_of bytes) else None) (le-true 28 (length bytes) h)
-    ∙ sym (arp_of-by all ∙ ap (λ (b : Bool). if b && bytes_eq (take 6 all) arp.ethernet_ipv4 then Some (arp.value_of all) else None) (le-true 28 (length all) (omega (arith, size, h)))
-    ∙ ap (λ (l : List ℕ). if bytes_eq l arp.ethernet_ipv4 then Some (arp.value_of all) else None) (take-append-le 6 bytes rest (omega (arith, h)))
-    ∙ ap (λ (v : ArpRepr). if bytes_eq (take 6 bytes) arp.ethernet_ipv4 then Some v else None) (value-front bytes rest h))
-    in
-    ap (λ (o : Option ArpRepr). shape f o (nat_lt (length bytes) 28)) found
-    ∙ ap (λ (b : Bool). shape f (arp_of all) b) (lt-false (length bytes) 28 h ∙ sym (lt-false (length all) 28 (omega (arith, size, h))))
+    let found : arp_of all ≡ arp_of bytes = rw (
+      arp_of-by all,
+      arp_of-by bytes,
+      le-true 28 (length all) (omega (arith, size, h)),
+      le-true 28 (length bytes) h,
+      take-append-le 6 bytes rest (omega (arith, h)),
+      value-front bytes rest h,
+    ) refl in
+    rw (found, lt-false (length all) 28 (omega (arith, size, h)), lt-false (length bytes) 28 h) refl
 
 arp-short : (f : FrameFields) (bytes : List ℕ) → length bytes < 28 → with_arp f bytes ≡ rejected f reason.TooShort
 arp-short f bytes h =
-    let none : arp_of bytes ≡ None = arp_of-by bytes ∙ ap (λ (b : Bool). if b && bytes_eq (take 6 bytes) arp.ethernet_ipv4 then Some (arp.value_of bytes) else None) (le-false 28 (length bytes) h) in
-    ap (λ (o : Option ArpRepr). shape f o (nat_lt (length bytes) 28)) none ∙ ap (λ (b : Bool). shape f None b) (lt-true (length bytes) 28 h)
+    let none : arp_of bytes ≡ None = rw (arp_of-by bytes, le-false 28 (length bytes) h) refl in
+    rw (none, lt-true (length bytes) 28 h) refl
 
 pub cut-arp : (f : FrameFields) (bytes rest : List ℕ) → IsStart f → f.payload_len ≡ length (bytes ++ rest) → IsCutOf (cut_arp f bytes) (with_arp f (bytes ++ rest))
 cut-arp f bytes rest start len =

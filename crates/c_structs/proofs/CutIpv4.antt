@@ -1,5 +1,5 @@
 -- The struct of an IPv4 packet that was not captured as a whole.
-use Rattle.std.proofs.Common.{ℕ, ◌≡◌, ◌∙◌, ◌≤◌, ◌<◌, ◌⊎◌, inl, inr, ◌+◌, ◌-◌, ◌*◌, ◌==◌, ◌&&◌, ◌||◌, not, nat_le, nat_lt, if◌then◌else◌, Bool, true, false, List, ◌++◌, Option, Some, None, ap, drop, length, refl, slice_range, sym, take, arith}
+use Rattle.std.proofs.Common.{ℕ, ◌≡◌, ◌∙◌, ◌≤◌, ◌<◌, ◌⊎◌, inl, inr, ◌+◌, ◌-◌, ◌*◌, ◌==◌, ◌&&◌, nat_le, nat_lt, if◌then◌else◌, Bool, true, false, List, ◌++◌, Option, Some, None, ap, drop, length, refl, slice_range, sym, take, arith}
 use Rattle.std.proofs.lemmas.Bool.{cases_lt}
 use Rattle.std.proofs.lemmas.Grind.{common_steps}
 use Rattle.std.proofs.lemmas.List.{take-append-le}
@@ -10,27 +10,16 @@ use Rattle.ip_wire.specs.Frame.{ipv4_payload}
 use Rattle.ip_wire.specs.Ip.{dst_addr_of, src_addr_of}
 use Rattle.ip_wire.specs.Ipv4 as ipv4
 use Rattle.ip_wire.specs.Ipv4.{ipv4_of}
-use Rattle.ip_wire.specs.Protocol.{protocol_of}
 use Rattle.ip_wire.specs.Types.{IpAddress, IpProtocol, Ipv4, Ipv4Repr}
-use Rattle.ip_wire.specs.WordSum.{sum_of_bytes}
-use Rattle.ip_wire.specs.declared.IpAddress.TheVariants as address
 use Rattle.ip_wire.specs.declared.IpProtocol.TheVariants as protocol
 use Rattle.c_structs.proofs.CutBytes.{field-front, le-false, le-true, longer, lt-false, lt-true, range-behind, range-front}
 use Rattle.c_structs.proofs.CutOf.{IsStart, cut-as, cut-network, ipv4-keeps, same-of}
 use Rattle.c_structs.proofs.CutTcp.{cut-tcp}
 use Rattle.c_structs.proofs.CutUdp.{cut-udp}
-use Rattle.c_structs.specs.Addresses.{endpoint_of}
 use Rattle.c_structs.specs.Captured.{IsCutOf, before, begun_ipv4, cut_header, cut_ipv4, cut_payload, cut_transport_by, is_no_ipv4, transport_header}
-use Rattle.c_structs.specs.Codes.{network_code, verdict_code}
-use Rattle.c_structs.specs.FrameFields.{ipv4_fault, ipv4_values, ipv4_verdict, rejected, with_ipv4, with_ipv4_fields, with_ipv4_header, with_payload, with_transport_by}
-use Rattle.c_structs.specs.Written.{flag}
-use Rattle.c_structs.specs.declared.codes.NetworkKind.TheVariants as network
-use Rattle.c_structs.specs.declared.codes.Reason.{Reason}
+use Rattle.c_structs.specs.FrameFields.{ipv4_fault, ipv4_values, rejected, with_ipv4, with_ipv4_fields, with_ipv4_header, with_payload, with_transport_by}
 use Rattle.c_structs.specs.declared.codes.Reason.TheVariants as reason
-use Rattle.c_structs.specs.declared.codes.Verdict.{Verdict}
-use Rattle.c_structs.specs.declared.codes.Verdict.TheVariants as verdict
 use Rattle.c_structs.specs.declared.types.FrameFields.{FrameFields}
-use Rattle.c_structs.specs.declared.types.Ip.{Ip}
 
 -- ---- what a packet carries
 
@@ -54,9 +43,6 @@ record IsSound (header_len total_len number len : ℕ) : Type 0 where
   within : header_len ≤ total_len
   whole : total_len ≤ len
   version : (number == 4) ≡ true
-
-is-read : (bytes : List ℕ) → ipv4.is_read false bytes ≡ tested (ipv4.header_len bytes) (ipv4.total_len bytes) (field bytes 0 4) (length bytes)
-is-read bytes = refl
 
 sound : (header_len total_len version len : ℕ) → 20 ≤ len → IsSound header_len total_len version len → tested header_len total_len version len ≡ true
 sound header_len total_len version len h s = rw (le-true 20 len h, le-true 20 header_len s.least, le-true header_len total_len s.within, le-true total_len len s.whole, s.version) refl
@@ -85,9 +71,6 @@ decide header_len total_len version len h = elim (cases_lt header_len 20) [
 -- the struct of a packet, by its header and its payload
 abbrev carrying : FrameFields → Bool → Ipv4Repr → List ℕ → FrameFields
 carrying next fragment v payload = if fragment then next else with_payload next (Ipv4 v) payload
-
-abbrev chosen : FrameFields → Bool → FrameFields → FrameFields
-chosen f read next = if read then next else f
 
 absent : (bytes : List ℕ) → ipv4.is_read false bytes ≡ false → ipv4_of false bytes ≡ None
 unfolding ipv4_of
@@ -119,86 +102,38 @@ version-front bytes rest h = field-front bytes rest 0 4 (omega (arith, h))
 
 read-front : (bytes rest : List ℕ) → 20 ≤ length bytes
     → ipv4.is_read false (bytes ++ rest) ≡ tested (ipv4.header_len bytes) (ipv4.total_len bytes) (field bytes 0 4) (length (bytes ++ rest))
-read-front bytes rest h =
-    let all = bytes ++ rest in
-    ap (λ (n : ℕ). tested n (ipv4.total_len all) (field all 0 4) (length all)) (len-front bytes rest h)
-    ∙ ap (λ (n : ℕ). tested (ipv4.header_len bytes) n (field all 0 4) (length all)) (total-front bytes rest h)
-    ∙ ap (λ (n : ℕ). tested (ipv4.header_len bytes) (ipv4.total_len bytes) n (length all)) (version-front bytes rest h)
-
-abbrev value : ℕ → ℕ → ℕ → ℕ → List ℕ → List ℕ → Ipv4Repr
-value protocol total_len header_len hop_limit src dst = record {
-  src_addr = src;
-  dst_addr = dst;
-  next_header = protocol_of protocol;
-  payload_len = total_len - header_len;
-  hop_limit = hop_limit;
-}
+read-front bytes rest h = rw (field-front bytes rest 4 4 (omega (arith, h)), total-front bytes rest h, version-front bytes rest h) refl
 
 value-front : (bytes rest : List ℕ) → 20 ≤ length bytes → ipv4.header_of (bytes ++ rest) ≡ ipv4.header_of bytes
 value-front bytes rest h =
-    let all = bytes ++ rest in
-    ap (λ (n : ℕ). value n (ipv4.total_len all) (ipv4.header_len all) (field all 64 8) (slice_range all 12 16) (slice_range all 16 20)) (field-front bytes rest 72 8 (omega (arith, h)))
-    ∙ ap (λ (n : ℕ). value (field bytes 72 8) n (ipv4.header_len all) (field all 64 8) (slice_range all 12 16) (slice_range all 16 20)) (total-front bytes rest h)
-    ∙ ap (λ (n : ℕ). value (field bytes 72 8) (ipv4.total_len bytes) n (field all 64 8) (slice_range all 12 16) (slice_range all 16 20)) (len-front bytes rest h)
-    ∙ ap (λ (n : ℕ). value (field bytes 72 8) (ipv4.total_len bytes) (ipv4.header_len bytes) n (slice_range all 12 16) (slice_range all 16 20)) (field-front bytes rest 64 8 (omega (arith, h)))
-    ∙ ap (λ (l : List ℕ). value (field bytes 72 8) (ipv4.total_len bytes) (ipv4.header_len bytes) (field bytes 64 8) l (slice_range all 16 20)) (range-front bytes rest 12 16 (omega arith) (omega (arith, h)))
-    ∙ ap (λ (l : List ℕ). value (field bytes 72 8) (ipv4.total_len bytes) (ipv4.header_len bytes) (field bytes 64 8) (slice_range bytes 12 16) l) (range-front bytes rest 16 20 (omega arith) (omega (arith, h)))
-
-abbrev values : Ipv4Repr → ℕ → ℕ → ℕ → ℕ → ℕ → ℕ → ℕ → Ip
-values v ident offset protocol dscp ecn more dont = record {
-  ident = ident;
-  flow_label = 0;
-  fragment_offset = 8 * offset;
-  protocol = protocol;
-  hop_limit = v.hop_limit;
-  dscp = dscp;
-  ecn = ecn;
-  more_fragments = more;
-  dont_fragment = dont;
-}
+    rw (
+      field-front bytes rest 72 8 (omega (arith, h)),
+      total-front bytes rest h,
+      field-front bytes rest 4 4 (omega (arith, h)),
+      field-front bytes rest 64 8 (omega (arith, h)),
+      range-front bytes rest 12 16 (omega arith) (omega (arith, h)),
+      range-front bytes rest 16 20 (omega arith) (omega (arith, h)),
+    ) refl
 
 values-front : (v : Ipv4Repr) (bytes rest : List ℕ) → 20 ≤ length bytes → ipv4_values (bytes ++ rest) v ≡ ipv4_values bytes v
 values-front v bytes rest h =
-    let all = bytes ++ rest in
-    ap (λ (n : ℕ). values v n (field all 51 13) (field all 72 8) (field all 8 6) (field all 14 2) (field all 50 1) (field all 49 1)) (field-front bytes rest 32 16 (omega (arith, h)))
-    ∙ ap (λ (n : ℕ). values v (field bytes 32 16) n (field all 72 8) (field all 8 6) (field all 14 2) (field all 50 1) (field all 49 1)) (field-front bytes rest 51 13 (omega (arith, h)))
-    ∙ ap (λ (n : ℕ). values v (field bytes 32 16) (field bytes 51 13) n (field all 8 6) (field all 14 2) (field all 50 1) (field all 49 1)) (field-front bytes rest 72 8 (omega (arith, h)))
-    ∙ ap (λ (n : ℕ). values v (field bytes 32 16) (field bytes 51 13) (field bytes 72 8) n (field all 14 2) (field all 50 1) (field all 49 1)) (field-front bytes rest 8 6 (omega (arith, h)))
-    ∙ ap (λ (n : ℕ). values v (field bytes 32 16) (field bytes 51 13) (field bytes 72 8) (field bytes 8 6) n (field all 50 1) (field all 49 1)) (field-front bytes rest 14 2 (omega (arith, h)))
-    ∙ ap (λ (n : ℕ). values v (field bytes 32 16) (field bytes 51 13) (field bytes 72 8) (field bytes 8 6) (field bytes 14 2) n (field all 49 1)) (field-front bytes rest 50 1 (omega (arith, h)))
-    ∙ ap (λ (n : ℕ). values v (field bytes 32 16) (field bytes 51 13) (field bytes 72 8) (field bytes 8 6) (field bytes 14 2) (field bytes 50 1) n) (field-front bytes rest 49 1 (omega (arith, h)))
+    rw (
+      field-front bytes rest 32 16 (omega (arith, h)),
+      field-front bytes rest 51 13 (omega (arith, h)),
+      field-front bytes rest 72 8 (omega (arith, h)),
+      field-front bytes rest 8 6 (omega (arith, h)),
+      field-front bytes rest 14 2 (omega (arith, h)),
+      field-front bytes rest 50 1 (omega (arith, h)),
+      field-front bytes rest 49 1 (omega (arith, h)),
+    ) refl
 
 fragment-front : (bytes rest : List ℕ) → 20 ≤ length bytes → ipv4.is_fragment (bytes ++ rest) ≡ ipv4.is_fragment bytes
-fragment-front bytes rest h =
-    let all = bytes ++ rest in
-    ap (λ (n : ℕ). n == 1 || not (8 * field all 51 13 == 0)) (field-front bytes rest 50 1 (omega (arith, h)))
-    ∙ ap (λ (n : ℕ). field bytes 50 1 == 1 || not (8 * n == 0)) (field-front bytes rest 51 13 (omega (arith, h)))
-
-abbrev sum-verdict : List ℕ → Verdict
-sum-verdict header = if sum_of_bytes header == 65535 then verdict.Right else verdict.Wrong
-
--- the struct of a header, by its parts
-abbrev header : FrameFields → Ipv4Repr → ℕ → ℕ → Ip → Bool → Verdict → FrameFields
-header f v payload_len header_len ip fragment checksum = record f {
-  network_offset = f.payload_offset;
-  payload_offset = f.payload_offset + header_len;
-  payload_len = payload_len;
-  src = endpoint_of (address.Ipv4 v.src_addr) 0;
-  dst = endpoint_of (address.Ipv4 v.dst_addr) 0;
-  ip = ip;
-  network = network_code network.Ipv4;
-  is_fragment = flag fragment;
-  ipv4_checksum = verdict_code checksum;
-}
+fragment-front bytes rest h = rw (field-front bytes rest 50 1 (omega (arith, h)), field-front bytes rest 51 13 (omega (arith, h))) refl
 
 fields-front : (f : FrameFields) (bytes rest : List ℕ) (v : Ipv4Repr) (n : ℕ) → 20 ≤ length bytes → ipv4.header_len bytes ≤ length bytes
     → with_ipv4_fields f (bytes ++ rest) v n ≡ with_ipv4_fields f bytes v n
 fields-front f bytes rest v n h captured =
-    let all = bytes ++ rest in
-    ap (λ (k : ℕ). header f v n k (ipv4_values all v) (ipv4.is_fragment all) (sum-verdict (take k all))) (len-front bytes rest h)
-    ∙ ap (λ (l : List ℕ). header f v n (ipv4.header_len bytes) (ipv4_values all v) (ipv4.is_fragment all) (sum-verdict l)) (take-append-le (ipv4.header_len bytes) bytes rest captured)
-    ∙ ap (λ (i : Ip). header f v n (ipv4.header_len bytes) i (ipv4.is_fragment all) (ipv4_verdict bytes)) (values-front v bytes rest h)
-    ∙ ap (λ (b : Bool). header f v n (ipv4.header_len bytes) (ipv4_values bytes v) b (ipv4_verdict bytes)) (fragment-front bytes rest h)
+    rw (field-front bytes rest 4 4 (omega (arith, h)), take-append-le (ipv4.header_len bytes) bytes rest captured, values-front v bytes rest h, fragment-front bytes rest h) refl
 
 -- the whole packet, by the captured header and the payload
 some-front : (f : FrameFields) (bytes rest payload : List ℕ) → 20 ≤ length bytes → ipv4.header_len bytes ≤ length bytes
@@ -217,16 +152,10 @@ some-front f bytes rest payload h captured s is =
     ∙ ap (λ (b : Bool). carrying (with_ipv4_fields f all (ipv4.header_of bytes) (length payload)) b (ipv4.header_of bytes) payload) (fragment-front bytes rest h)
     ∙ ap (λ (g : FrameFields). carrying g (ipv4.is_fragment bytes) (ipv4.header_of bytes) payload) (fields-front f bytes rest (ipv4.header_of bytes) (length payload) h captured)
 
--- the fault of bytes that hold the fixed part of a header
-abbrev fault-by : Bool → ℕ → Reason
-fault-by short version = if short then reason.TooShort else if not (version == 4) then reason.BadVersion else reason.BadLength
-
 fault-front : (bytes rest : List ℕ) → 20 ≤ length bytes → ipv4_fault (bytes ++ rest) ≡ ipv4_fault bytes
 fault-front bytes rest h =
-    let all = bytes ++ rest in
     let size = longer bytes rest in
-    ap (λ (b : Bool). fault-by b (field all 0 4)) (lt-false (length all) 20 (omega (arith, size, h)) ∙ sym (lt-false (length bytes) 20 h))
-    ∙ ap (λ (n : ℕ). fault-by (nat_lt (length bytes) 20) n) (version-front bytes rest h)
+    rw (lt-false (length (bytes ++ rest)) 20 (omega (arith, size, h)), lt-false (length bytes) 20 h, version-front bytes rest h) refl
 
 none-front : (f : FrameFields) (bytes rest : List ℕ) → 20 ≤ length bytes → tested (ipv4.header_len bytes) (ipv4.total_len bytes) (field bytes 0 4) (length (bytes ++ rest)) ≡ false
     → with_ipv4 f (bytes ++ rest) ≡ rejected f (ipv4_fault bytes)
@@ -242,8 +171,7 @@ captured-front f bytes rest h whole =
     let hl = ipv4.header_len bytes in
     let tl = ipv4.total_len bytes in
     let same : tested hl tl (field bytes 0 4) (length all) ≡ tested hl tl (field bytes 0 4) (length bytes) =
-    ap (λ (b : Bool). (b && nat_le 20 hl && nat_le hl tl && nat_le tl (length all)) && field bytes 0 4 == 4 && true) (le-true 20 (length all) (omega (arith, size, h)) ∙ sym (le-true 20 (length bytes) h))
-    ∙ ap (λ (b : Bool). (nat_le 20 (length bytes) && nat_le 20 hl && nat_le hl tl && b) && field bytes 0 4 == 4 && true) (le-true tl (length all) (omega (arith, size, whole)) ∙ sym (le-true tl (length bytes) whole))
+    rw (le-true 20 (length all) (omega (arith, size, h)), le-true 20 (length bytes) h, le-true tl (length all) (omega (arith, size, whole)), le-true tl (length bytes) whole) refl
     in
     elim (decide hl tl (field bytes 0 4) (length bytes) h) [
       | inl never ↦ none f bytes never ∙ sym (none-front f bytes rest h (same ∙ never))
@@ -260,11 +188,8 @@ short-cut f bytes rest start len =
     let all = bytes ++ rest in
     elim (cases_lt (length all) 20) [
       | inl few ↦
-          let never : ipv4.is_read false all ≡ false =
-          ap (λ (b : Bool). (b && nat_le 20 (ipv4.header_len all) && nat_le (ipv4.header_len all) (ipv4.total_len all) && nat_le (ipv4.total_len all) (length all)) && field all 0 4 == 4 && true) (le-false 20 (length all) few)
-          in
-          same-of _ _ (ap (λ (b : Bool). rejected f (if b then reason.TooShort else reason.HeaderCut)) (lt-true f.payload_len 20 (omega (arith, few, len)))
-          ∙ sym (none f all never ∙ ap (λ (b : Bool). rejected f (fault-by b (field all 0 4))) (lt-true (length all) 20 few)))
+          let never : ipv4.is_read false all ≡ false = rw (le-false 20 (length all) few) refl in
+          same-of _ _ (rw (lt-true f.payload_len 20 (omega (arith, few, len)), none f all never, lt-true (length all) 20 few) refl)
       | inr more ↦
           cut-as _ _ _ _ (ap (λ (b : Bool). rejected f (if b then reason.TooShort else reason.HeaderCut)) (lt-false f.payload_len 20 (omega (arith, more, len)))) refl
           (cut-network f (with_ipv4 f all) start (ipv4-keeps f all))
@@ -353,11 +278,7 @@ stored f bytes short whole never cut =
 
 by-tests : (f : FrameFields) (bytes : List ℕ) (short whole never cut : Bool) → nat_lt (length bytes) 20 ≡ short → nat_le (ipv4.total_len bytes) (length bytes) ≡ whole → is_no_ipv4 f bytes ≡ never
     → nat_lt (length bytes) (ipv4.header_len bytes) ≡ cut → cut_ipv4 f bytes ≡ stored f bytes short whole never cut
-by-tests f bytes short whole never cut a b c d =
-    ap (λ (x : Bool). stored f bytes x (nat_le (ipv4.total_len bytes) (length bytes)) (is_no_ipv4 f bytes) (nat_lt (length bytes) (ipv4.header_len bytes))) a
-    ∙ ap (λ (x : Bool). stored f bytes short x (is_no_ipv4 f bytes) (nat_lt (length bytes) (ipv4.header_len bytes))) b
-    ∙ ap (λ (x : Bool). stored f bytes short whole x (nat_lt (length bytes) (ipv4.header_len bytes))) c
-    ∙ ap (λ (x : Bool). stored f bytes short whole never x) d
+by-tests f bytes short whole never cut a b c d = rw (a, b, c, d) refl
 
 pub cut-ipv4 : (f : FrameFields) (bytes rest : List ℕ) → IsStart f → f ≡ before transport_header f → f.payload_len ≡ length (bytes ++ rest)
     → IsCutOf (cut_ipv4 f bytes) (with_ipv4 f (bytes ++ rest))

@@ -1,5 +1,5 @@
 -- The struct of an IPv6 packet that was not captured as a whole.
-use Rattle.std.proofs.Common.{ℕ, ◌≡◌, ◌∙◌, ◌≤◌, ◌<◌, inl, inr, ◌+◌, ◌-◌, ◌/◌, ◌%◌, ◌==◌, ◌&&◌, ◌||◌, not, nat_le, nat_lt, if◌then◌else◌, Bool, true, false, List, ◌++◌, Option, Some, None, ap, drop, length, refl, slice_range, sym, take, arith}
+use Rattle.std.proofs.Common.{ℕ, ◌≡◌, ◌∙◌, ◌≤◌, ◌<◌, inl, inr, ◌+◌, ◌-◌, ◌==◌, ◌&&◌, ◌||◌, not, nat_le, nat_lt, if◌then◌else◌, Bool, true, false, List, ◌++◌, Option, Some, None, ap, drop, length, refl, slice_range, sym, take, arith}
 use Rattle.std.proofs.lemmas.Bool.{cases_lt}
 use Rattle.std.proofs.lemmas.List.{drop-append-le}
 use Rattle.std.specs.Option.{option_map_or}
@@ -9,20 +9,13 @@ use Rattle.ip_wire.specs.Ip.{dst_addr_of, src_addr_of}
 use Rattle.ip_wire.specs.Ipv6 as ipv6
 use Rattle.ip_wire.specs.Ipv6.{ipv6_of}
 use Rattle.ip_wire.specs.Ipv6Fragment as fragment
-use Rattle.ip_wire.specs.Protocol.{protocol_of}
 use Rattle.ip_wire.specs.Types.{IpProtocol, Ipv6, Ipv6Repr}
-use Rattle.ip_wire.specs.declared.IpAddress.TheVariants as address
 use Rattle.ip_wire.specs.declared.IpProtocol.TheVariants as protocol
-use Rattle.ip_wire.specs.declared.Ipv6FragmentRepr.{Ipv6FragmentRepr}
 use Rattle.c_structs.proofs.CutBytes.{field-front, le-false, le-true, longer, lt-false, lt-true, range-behind, range-front}
 use Rattle.c_structs.proofs.CutIpv4.{bool, cut-by, dropped}
 use Rattle.c_structs.proofs.CutOf.{IsStart, cut-as, cut-network, ipv6-keeps, same-of}
-use Rattle.c_structs.specs.Addresses.{endpoint_of}
 use Rattle.c_structs.specs.Captured.{IsCutOf, before, begun_ipv6, cut_fragment, cut_fragment_by, cut_header, cut_ipv6, cut_transport_by, fragment_header, transport_header}
-use Rattle.c_structs.specs.Codes.{network_code}
 use Rattle.c_structs.specs.FrameFields.{ipv6_fault, ipv6_values, rejected, with_fragment, with_fragment_by, with_fragment_header, with_ipv6, with_ipv6_fields, with_ipv6_header, with_payload, with_transport_by}
-use Rattle.c_structs.specs.declared.codes.NetworkKind.TheVariants as network
-use Rattle.c_structs.specs.declared.codes.Reason.{Reason}
 use Rattle.c_structs.specs.declared.codes.Reason.TheVariants as reason
 use Rattle.c_structs.specs.declared.types.FrameFields.{FrameFields}
 use Rattle.c_structs.specs.declared.types.Ip.{Ip}
@@ -32,9 +25,6 @@ use Rattle.c_structs.specs.declared.types.Ip.{Ip}
 -- the tests of a header, by its numbers
 abbrev tested : ℕ → ℕ → ℕ → Bool
 tested total_len version len = nat_le total_len len && version == 6
-
-is-read : (bytes : List ℕ) → ipv6.is_read bytes ≡ tested (ipv6.total_len bytes) (field bytes 0 4) (length bytes)
-is-read bytes = refl
 
 absent : (bytes : List ℕ) → ipv6.is_read bytes ≡ false → ipv6_of bytes ≡ None
 unfolding ipv6_of
@@ -67,58 +57,24 @@ version-front : (bytes rest : List ℕ) → 40 ≤ length bytes → field (bytes
 version-front bytes rest h = field-front bytes rest 0 4 (omega (arith, h))
 
 read-front : (bytes rest : List ℕ) → 40 ≤ length bytes → ipv6.is_read (bytes ++ rest) ≡ tested (ipv6.total_len bytes) (field bytes 0 4) (length (bytes ++ rest))
-read-front bytes rest h =
-    let all = bytes ++ rest in
-    ap (λ (n : ℕ). tested n (field all 0 4) (length all)) (total-front bytes rest h) ∙ ap (λ (n : ℕ). tested (ipv6.total_len bytes) n (length all)) (version-front bytes rest h)
-
-abbrev value : ℕ → ℕ → ℕ → List ℕ → List ℕ → Ipv6Repr
-value protocol payload_len hop_limit src dst = record {
-  src_addr = src;
-  dst_addr = dst;
-  next_header = protocol_of protocol;
-  payload_len = payload_len;
-  hop_limit = hop_limit;
-}
+read-front bytes rest h = rw (total-front bytes rest h, version-front bytes rest h) refl
 
 value-front : (bytes rest : List ℕ) → 40 ≤ length bytes → ipv6.header_of (bytes ++ rest) ≡ ipv6.header_of bytes
 value-front bytes rest h =
-    let all = bytes ++ rest in
-    ap (λ (n : ℕ). value n (field all 32 16) (field all 56 8) (slice_range all 8 24) (slice_range all 24 40)) (field-front bytes rest 48 8 (omega (arith, h)))
-    ∙ ap (λ (n : ℕ). value (field bytes 48 8) n (field all 56 8) (slice_range all 8 24) (slice_range all 24 40)) (field-front bytes rest 32 16 (omega (arith, h)))
-    ∙ ap (λ (n : ℕ). value (field bytes 48 8) (field bytes 32 16) n (slice_range all 8 24) (slice_range all 24 40)) (field-front bytes rest 56 8 (omega (arith, h)))
-    ∙ ap (λ (l : List ℕ). value (field bytes 48 8) (field bytes 32 16) (field bytes 56 8) l (slice_range all 24 40)) (range-front bytes rest 8 24 (omega arith) (omega (arith, h)))
-    ∙ ap (λ (l : List ℕ). value (field bytes 48 8) (field bytes 32 16) (field bytes 56 8) (slice_range bytes 8 24) l) (range-front bytes rest 24 40 (omega arith) (omega (arith, h)))
-
-abbrev values : Ip → Ipv6Repr → ℕ → ℕ → ℕ → Ip
-values i v label protocol traffic_class = record i {
-  flow_label = label;
-  protocol = protocol;
-  hop_limit = v.hop_limit;
-  dscp = traffic_class / 4;
-  ecn = traffic_class % 4;
-}
+    rw (
+      field-front bytes rest 48 8 (omega (arith, h)),
+      field-front bytes rest 32 16 (omega (arith, h)),
+      field-front bytes rest 56 8 (omega (arith, h)),
+      range-front bytes rest 8 24 (omega arith) (omega (arith, h)),
+      range-front bytes rest 24 40 (omega arith) (omega (arith, h)),
+    ) refl
 
 values-front : (i : Ip) (v : Ipv6Repr) (bytes rest : List ℕ) → 40 ≤ length bytes → ipv6_values i (bytes ++ rest) v ≡ ipv6_values i bytes v
 values-front i v bytes rest h =
-    let all = bytes ++ rest in
-    ap (λ (n : ℕ). values i v n (field all 48 8) (field all 4 8)) (field-front bytes rest 12 20 (omega (arith, h)))
-    ∙ ap (λ (n : ℕ). values i v (field bytes 12 20) n (field all 4 8)) (field-front bytes rest 48 8 (omega (arith, h)))
-    ∙ ap (λ (n : ℕ). values i v (field bytes 12 20) (field bytes 48 8) n) (field-front bytes rest 4 8 (omega (arith, h)))
-
--- the struct of a header, by its values
-abbrev header : FrameFields → Ipv6Repr → ℕ → Ip → FrameFields
-header f v payload_len ip = record f {
-  network_offset = f.payload_offset;
-  payload_offset = f.payload_offset + 40;
-  payload_len = payload_len;
-  src = endpoint_of (address.Ipv6 v.src_addr) 0;
-  dst = endpoint_of (address.Ipv6 v.dst_addr) 0;
-  ip = ip;
-  network = network_code network.Ipv6;
-}
+    rw (field-front bytes rest 12 20 (omega (arith, h)), field-front bytes rest 48 8 (omega (arith, h)), field-front bytes rest 4 8 (omega (arith, h))) refl
 
 fields-front : (f : FrameFields) (bytes rest : List ℕ) (v : Ipv6Repr) (n : ℕ) → 40 ≤ length bytes → with_ipv6_fields f (bytes ++ rest) v n ≡ with_ipv6_fields f bytes v n
-fields-front f bytes rest v n h = ap (header f v n) (values-front f.ip v bytes rest h)
+fields-front f bytes rest v n h = rw (values-front f.ip v bytes rest h) refl
 
 -- the whole packet, by the captured header and the payload
 some-front : (f : FrameFields) (bytes rest payload : List ℕ) → 40 ≤ length bytes → tested (ipv6.total_len bytes) (field bytes 0 4) (length (bytes ++ rest)) ≡ true
@@ -131,16 +87,10 @@ some-front f bytes rest payload h s is =
     ∙ ap (λ (v : Ipv6Repr). carrying (with_ipv6_fields f all v (length payload)) v payload) (value-front bytes rest h)
     ∙ ap (λ (g : FrameFields). carrying g (ipv6.header_of bytes) payload) (fields-front f bytes rest (ipv6.header_of bytes) (length payload) h)
 
--- the fault of bytes that hold a header
-abbrev fault-by : Bool → ℕ → Reason
-fault-by few version = if few then reason.TooShort else if not (version == 6) then reason.BadVersion else reason.BadLength
-
 fault-front : (bytes rest : List ℕ) → 40 ≤ length bytes → ipv6_fault (bytes ++ rest) ≡ ipv6_fault bytes
 fault-front bytes rest h =
-    let all = bytes ++ rest in
     let size = longer bytes rest in
-    ap (λ (b : Bool). fault-by b (field all 0 4)) (lt-false (length all) 40 (omega (arith, size, h)) ∙ sym (lt-false (length bytes) 40 h))
-    ∙ ap (λ (n : ℕ). fault-by (nat_lt (length bytes) 40) n) (version-front bytes rest h)
+    rw (lt-false (length (bytes ++ rest)) 40 (omega (arith, size, h)), lt-false (length bytes) 40 h, version-front bytes rest h) refl
 
 none-front : (f : FrameFields) (bytes rest : List ℕ) → 40 ≤ length bytes → tested (ipv6.total_len bytes) (field bytes 0 4) (length (bytes ++ rest)) ≡ false
     → with_ipv6 f (bytes ++ rest) ≡ rejected f (ipv6_fault bytes)
@@ -148,18 +98,16 @@ none-front f bytes rest h e = none f (bytes ++ rest) (read-front bytes rest h �
 
 -- ---- the fragment header
 
-abbrev part : ℕ → ℕ → ℕ → Ipv6FragmentRepr
-part offset more ident = record { frag_offset = offset; more_frags = more == 1; ident = ident }
-
 part-front : (bytes rest : List ℕ) → 8 ≤ length bytes → fragment.header_of (drop 2 (bytes ++ rest)) ≡ fragment.header_of (drop 2 bytes)
 part-front bytes rest h =
     let front = drop 2 bytes in
     let size : length front ≡ length bytes - 2 = dropped 2 bytes in
-    let all = front ++ rest in
-    ap fragment.header_of (drop-append-le 2 bytes rest (omega (arith, h)))
-    ∙ ap (λ (n : ℕ). part n (field all 15 1) (field all 16 32)) (field-front front rest 0 13 (omega (arith, size, h)))
-    ∙ ap (λ (n : ℕ). part (field front 0 13) n (field all 16 32)) (field-front front rest 15 1 (omega (arith, size, h)))
-    ∙ ap (λ (n : ℕ). part (field front 0 13) (field front 15 1) n) (field-front front rest 16 32 (omega (arith, size, h)))
+    rw (
+      drop-append-le 2 bytes rest (omega (arith, h)),
+      field-front front rest 0 13 (omega (arith, size, h)),
+      field-front front rest 15 1 (omega (arith, size, h)),
+      field-front front rest 16 32 (omega (arith, size, h)),
+    ) refl
 
 -- no fragment header is stored yet
 abbrev IsWhole : FrameFields → Type 0
@@ -207,9 +155,8 @@ short-cut f bytes rest start len =
     let all = bytes ++ rest in
     elim (cases_lt (length all) 40) [
       | inl few ↦
-          let off : ipv6.is_read all ≡ false = ap (λ (b : Bool). b && field all 0 4 == 6) (le-false (ipv6.total_len all) (length all) (omega (arith, few))) in
-          same-of _ _ (ap (λ (b : Bool). rejected f (if b then reason.TooShort else reason.HeaderCut)) (lt-true f.payload_len 40 (omega (arith, few, len)))
-          ∙ sym (none f all off ∙ ap (λ (b : Bool). rejected f (fault-by b (field all 0 4))) (lt-true (length all) 40 few)))
+          let off : ipv6.is_read all ≡ false = rw (le-false (ipv6.total_len all) (length all) (omega (arith, few))) refl in
+          same-of _ _ (rw (lt-true f.payload_len 40 (omega (arith, few, len)), none f all off, lt-true (length all) 40 few) refl)
       | inr more ↦
           cut-as _ _ _ _ (ap (λ (b : Bool). rejected f (if b then reason.TooShort else reason.HeaderCut)) (lt-false f.payload_len 40 (omega (arith, more, len)))) refl
           (cut-network f (with_ipv6 f all) start (ipv6-keeps f all))
@@ -253,11 +200,7 @@ stored f bytes few whole version fits =
 
 by-tests : (f : FrameFields) (bytes : List ℕ) (few whole version fits : Bool) → nat_lt (length bytes) 40 ≡ few → nat_le (ipv6.total_len bytes) (length bytes) ≡ whole → (field bytes 0 4 == 6) ≡ version
     → nat_lt f.payload_len (ipv6.total_len bytes) ≡ fits → cut_ipv6 f bytes ≡ stored f bytes few whole version fits
-by-tests f bytes few whole version fits a b c d =
-    ap (λ (x : Bool). stored f bytes x (nat_le (ipv6.total_len bytes) (length bytes)) (field bytes 0 4 == 6) (nat_lt f.payload_len (ipv6.total_len bytes))) a
-    ∙ ap (λ (x : Bool). stored f bytes few x (field bytes 0 4 == 6) (nat_lt f.payload_len (ipv6.total_len bytes))) b
-    ∙ ap (λ (x : Bool). stored f bytes few whole x (nat_lt f.payload_len (ipv6.total_len bytes))) c
-    ∙ ap (λ (x : Bool). stored f bytes few whole version x) d
+by-tests f bytes few whole version fits a b c d = rw (a, b, c, d) refl
 
 pub cut-ipv6 : (f : FrameFields) (bytes rest : List ℕ) → IsStart f → f.payload_len ≡ length (bytes ++ rest) → IsCutOf (cut_ipv6 f bytes) (with_ipv6 f (bytes ++ rest))
 cut-ipv6 f bytes rest start len =

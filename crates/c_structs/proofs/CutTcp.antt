@@ -5,92 +5,47 @@ use Rattle.std.proofs.lemmas.Grind.{common_steps}
 use Rattle.std.specs.Option.{option_and_then, option_map, option_map_or}
 use Rattle.ip_wire.specs.Field.{field}
 use Rattle.ip_wire.specs.Tcp as tcp
-use Rattle.ip_wire.specs.TcpRepr.{TcpHeader, ack_number_of, control_by, control_of, header_with, is_sound, items_in, scale_of, seq_of, stamps_of, tcp_of}
+use Rattle.ip_wire.specs.TcpRepr.{TcpHeader, control_of, header_with, is_sound, items_in, tcp_of}
 use Rattle.ip_wire.specs.Types.{IpAddress}
 use Rattle.ip_wire.specs.declared.TcpControl.{TcpControl}
-use Rattle.ip_wire.specs.declared.TcpSeqNumber.{TcpSeqNumber}
-use Rattle.ip_wire.specs.TcpItems.{Item, sack_permitted_of, sack_ranges_of, segment_size_of}
+use Rattle.ip_wire.specs.TcpItems.{Item}
 use Rattle.c_structs.proofs.CutBytes.{field-front, le-false, le-true, longer, lt-false, lt-true, range-front}
 use Rattle.c_structs.proofs.CutOf.{behind-choice, cut-as, cut-transport, same-of}
 use Rattle.c_structs.specs.Captured.{HasHeaders, IsCutOf, before, cut_header, cut_tcp, options, transport_header}
-use Rattle.c_structs.specs.Codes.{transport_code, verdict_code}
 use Rattle.c_structs.specs.FrameFields.{behind, rejected, rejected_transport, tcp_fault, tcp_values, tcp_verdict, with_tcp, with_tcp_fields, with_tcp_header}
 use Rattle.c_structs.specs.declared.codes.Reason.{Reason}
 use Rattle.c_structs.specs.declared.codes.Reason.TheVariants as reason
-use Rattle.c_structs.specs.declared.codes.TransportKind.TheVariants as transport
 use Rattle.c_structs.specs.declared.codes.Verdict.{Verdict}
 use Rattle.c_structs.specs.declared.codes.Verdict.TheVariants as verdict
 use Rattle.c_structs.specs.declared.types.FrameFields.{FrameFields}
-use Rattle.c_structs.specs.declared.types.Tcp.{Tcp}
 
 -- ---- the header
 
--- the struct of a TCP header, by its numbers
-abbrev header : FrameFields → ℕ → ℕ → Tcp → Verdict → FrameFields
-header f s d t v = record f {
-  transport_offset = f.payload_offset;
-  src = record f.src { port = s };
-  dst = record f.dst { port = d };
-  tcp = t;
-  transport = transport_code transport.Tcp;
-  transport_checksum = verdict_code v;
-}
-
-abbrev values : ℕ → ℕ → ℕ → ℕ → ℕ → ℕ → Tcp
-values seq ack window urgent flags offset = record {
-  seq_number = seq;
-  ack_number = ack;
-  window_len = window;
-  urgent_at = urgent;
-  flags = flags;
-  header_len = 4 * offset;
-}
-
 values-front : (bytes rest : List ℕ) → 20 ≤ length bytes → tcp_values (bytes ++ rest) ≡ tcp_values bytes
 values-front bytes rest h =
-    let all = bytes ++ rest in
-    ap (λ (n : ℕ). values n (field all 64 32) (field all 112 16) (field all 144 16) (field all 104 8) (field all 96 4)) (field-front bytes rest 32 32 (omega (arith, h)))
-    ∙ ap (λ (n : ℕ). values (field bytes 32 32) n (field all 112 16) (field all 144 16) (field all 104 8) (field all 96 4)) (field-front bytes rest 64 32 (omega (arith, h)))
-    ∙ ap (λ (n : ℕ). values (field bytes 32 32) (field bytes 64 32) n (field all 144 16) (field all 104 8) (field all 96 4)) (field-front bytes rest 112 16 (omega (arith, h)))
-    ∙ ap (λ (n : ℕ). values (field bytes 32 32) (field bytes 64 32) (field bytes 112 16) n (field all 104 8) (field all 96 4)) (field-front bytes rest 144 16 (omega (arith, h)))
-    ∙ ap (λ (n : ℕ). values (field bytes 32 32) (field bytes 64 32) (field bytes 112 16) (field bytes 144 16) n (field all 96 4)) (field-front bytes rest 104 8 (omega (arith, h)))
-    ∙ ap (λ (n : ℕ). values (field bytes 32 32) (field bytes 64 32) (field bytes 112 16) (field bytes 144 16) (field bytes 104 8) n) (field-front bytes rest 96 4 (omega (arith, h)))
+    rw (
+      field-front bytes rest 32 32 (omega (arith, h)),
+      field-front bytes rest 64 32 (omega (arith, h)),
+      field-front bytes rest 112 16 (omega (arith, h)),
+      field-front bytes rest 144 16 (omega (arith, h)),
+      field-front bytes rest 104 8 (omega (arith, h)),
+      field-front bytes rest 96 4 (omega (arith, h)),
+    ) refl
 
 fields-front : (f : FrameFields) (bytes rest : List ℕ) (v : Verdict) → 20 ≤ length bytes → with_tcp_fields f (bytes ++ rest) v ≡ with_tcp_fields f bytes v
 fields-front f bytes rest v h =
-    let all = bytes ++ rest in
-    ap (λ (s : ℕ). header f s (field all 16 16) (tcp_values all) v) (field-front bytes rest 0 16 (omega (arith, h)))
-    ∙ ap (λ (d : ℕ). header f (field bytes 0 16) d (tcp_values all) v) (field-front bytes rest 16 16 (omega (arith, h)))
-    ∙ ap (λ (t : Tcp). header f (field bytes 0 16) (field bytes 16 16) t v) (values-front bytes rest h)
+    rw (field-front bytes rest 0 16 (omega (arith, h)), field-front bytes rest 16 16 (omega (arith, h)), values-front bytes rest h) refl
 
 control-front : (bytes rest : List ℕ) → 20 ≤ length bytes → control_of (bytes ++ rest) ≡ control_of bytes
 control-front bytes rest h =
-    let all = bytes ++ rest in
-    ap (λ (n : ℕ). control_by n (field all 110 1) (field all 111 1) (field all 108 1)) (field-front bytes rest 109 1 (omega (arith, h)))
-    ∙ ap (λ (n : ℕ). control_by (field bytes 109 1) n (field all 111 1) (field all 108 1)) (field-front bytes rest 110 1 (omega (arith, h)))
-    ∙ ap (λ (n : ℕ). control_by (field bytes 109 1) (field bytes 110 1) n (field all 108 1)) (field-front bytes rest 111 1 (omega (arith, h)))
-    ∙ ap (λ (n : ℕ). control_by (field bytes 109 1) (field bytes 110 1) (field bytes 111 1) n) (field-front bytes rest 108 1 (omega (arith, h)))
+    rw (
+      field-front bytes rest 109 1 (omega (arith, h)),
+      field-front bytes rest 110 1 (omega (arith, h)),
+      field-front bytes rest 111 1 (omega (arith, h)),
+      field-front bytes rest 108 1 (omega (arith, h)),
+    ) refl
 
 -- ---- the value
-
--- the value of a segment, by its numbers and options
-abbrev value : ℕ → ℕ → ℕ → Option TcpSeqNumber → ℕ → TcpControl → List Item → TcpHeader
-value s d seq ack window asked items = record {
-  src_port = s;
-  dst_port = d;
-  control = asked;
-  seq_number = seq_of seq;
-  ack_number = ack;
-  window_len = window;
-  window_scale = scale_of items;
-  max_seg_size = segment_size_of items;
-  sack_permitted = sack_permitted_of items;
-  sack_ranges = sack_ranges_of items;
-  timestamp = stamps_of items;
-}
-
-abbrev ack-by : ℕ → ℕ → Option TcpSeqNumber
-ack-by flag n = if flag == 1 then Some (seq_of n) else None
 
 abbrev read-by : Bool → Option TcpControl → (TcpControl → List Item → TcpHeader) → Option (List Item) → Option TcpHeader
 read-by sound control made items = if sound then option_and_then (λ asked. option_map (made asked) items) control else None
@@ -101,24 +56,21 @@ tcp_of-by src dst bytes = refl
 
 value-front : (bytes rest : List ℕ) → 20 ≤ length bytes → header_with (bytes ++ rest) ≡ header_with bytes
 value-front bytes rest h =
-    let all = bytes ++ rest in
-    let ack : ack_number_of all ≡ ack_number_of bytes =
-    ap (λ (n : ℕ). ack-by n (field all 64 32)) (field-front bytes rest 107 1 (omega (arith, h)))
-    ∙ ap (λ (n : ℕ). ack-by (field bytes 107 1) n) (field-front bytes rest 64 32 (omega (arith, h)))
-    in
-    ap (λ (n : ℕ). value n (field all 16 16) (field all 32 32) (ack_number_of all) (field all 112 16)) (field-front bytes rest 0 16 (omega (arith, h)))
-    ∙ ap (λ (n : ℕ). value (field bytes 0 16) n (field all 32 32) (ack_number_of all) (field all 112 16)) (field-front bytes rest 16 16 (omega (arith, h)))
-    ∙ ap (λ (n : ℕ). value (field bytes 0 16) (field bytes 16 16) n (ack_number_of all) (field all 112 16)) (field-front bytes rest 32 32 (omega (arith, h)))
-    ∙ ap (λ (a : Option TcpSeqNumber). value (field bytes 0 16) (field bytes 16 16) (field bytes 32 32) a (field all 112 16)) ack
-    ∙ ap (λ (n : ℕ). value (field bytes 0 16) (field bytes 16 16) (field bytes 32 32) (ack_number_of bytes) n) (field-front bytes rest 112 16 (omega (arith, h)))
+    let at : (asked : TcpControl) (items : List Item) → header_with (bytes ++ rest) asked items ≡ header_with bytes asked items =
+    λ asked items. rw (
+      field-front bytes rest 107 1 (omega (arith, h)),
+      field-front bytes rest 64 32 (omega (arith, h)),
+      field-front bytes rest 0 16 (omega (arith, h)),
+      field-front bytes rest 16 16 (omega (arith, h)),
+      field-front bytes rest 32 32 (omega (arith, h)),
+      field-front bytes rest 112 16 (omega (arith, h)),
+    ) refl in
+    λ i asked items. at asked items i
 
 -- whether the lengths are right, by the numbers
 lengths-are : (bytes : List ℕ) (len : ℕ) (a c : Bool) → 20 ≤ length bytes → tcp.header_len bytes ≡ len → nat_le 20 len ≡ a → nat_le len (length bytes) ≡ c
     → tcp.has_lengths bytes ≡ (a && c)
-lengths-are bytes len a c h is first last =
-    ap (λ (b : Bool). b && nat_le 20 (tcp.header_len bytes) && nat_le (tcp.header_len bytes) (length bytes)) (le-true 20 (length bytes) h)
-    ∙ ap (λ (n : ℕ). nat_le 20 n && nat_le n (length bytes)) is
-    ∙ ap (λ (b : Bool). b && nat_le len (length bytes)) first ∙ ap (λ (b : Bool). a && b) last
+lengths-are bytes len a c h is first last = rw (le-true 20 (length bytes) h, is, first, last) refl
 
 len-front : (bytes rest : List ℕ) → 20 ≤ length bytes → tcp.header_len (bytes ++ rest) ≡ tcp.header_len bytes
 len-front bytes rest h = ap (λ (n : ℕ). 4 * n) (field-front bytes rest 96 4 (omega (arith, h)))
@@ -130,10 +82,7 @@ sound-by lengths s d = lengths && not (s == 0) && not (d == 0) && true
 sound-front : (src dst : IpAddress) (bytes rest : List ℕ) → 20 ≤ length bytes → tcp.has_lengths (bytes ++ rest) ≡ tcp.has_lengths bytes
     → is_sound src dst false (bytes ++ rest) ≡ is_sound src dst false bytes
 sound-front src dst bytes rest h same =
-    let all = bytes ++ rest in
-    ap (λ (b : Bool). sound-by b (field all 0 16) (field all 16 16)) same
-    ∙ ap (λ (n : ℕ). sound-by (tcp.has_lengths bytes) n (field all 16 16)) (field-front bytes rest 0 16 (omega (arith, h)))
-    ∙ ap (λ (n : ℕ). sound-by (tcp.has_lengths bytes) (field bytes 0 16) n) (field-front bytes rest 16 16 (omega (arith, h)))
+    rw (same, field-front bytes rest 0 16 (omega (arith, h)), field-front bytes rest 16 16 (omega (arith, h))) refl
 
 -- the value of a segment whose header was captured
 value-captured : (src dst : IpAddress) (bytes rest : List ℕ) → 20 ≤ tcp.header_len bytes → tcp.header_len bytes ≤ length bytes
@@ -147,11 +96,7 @@ value-captured src dst bytes rest least whole =
     let two = lengths-are all (tcp.header_len bytes) true true (omega (arith, size, h)) len (le-true _ _ least) (le-true _ _ (omega (arith, size, whole))) in
     let parts : tcp.options_of all ≡ tcp.options_of bytes = ap (slice_range all 20) len ∙ range-front bytes rest 20 (tcp.header_len bytes) least whole in
     tcp_of-by src dst bytes
-    ∙ sym (tcp_of-by src dst all
-    ∙ ap (λ (b : Bool). read-by b (control_of all) (header_with all) (items_in (tcp.options_of all))) (sound-front src dst bytes rest h (two ∙ sym one))
-    ∙ ap (λ (c : Option TcpControl). read-by (is_sound src dst false bytes) c (header_with all) (items_in (tcp.options_of all))) (control-front bytes rest h)
-    ∙ ap (λ (m : TcpControl → List Item → TcpHeader). read-by (is_sound src dst false bytes) (control_of bytes) m (items_in (tcp.options_of all))) (value-front bytes rest h)
-    ∙ ap (λ (o : List ℕ). read-by (is_sound src dst false bytes) (control_of bytes) (header_with bytes) (items_in o)) parts)
+    ∙ sym (rw (tcp_of-by src dst all, sound-front src dst bytes rest h (two ∙ sym one), control-front bytes rest h, value-front bytes rest h, parts) refl)
 
 -- no value without these
 unsound : (src dst : IpAddress) (bytes : List ℕ) → is_sound src dst false bytes ≡ false → tcp_of src dst false bytes ≡ None
@@ -184,16 +129,11 @@ fault-by header_len len s d control short =
 fault-front : (bytes rest : List ℕ) (len : ℕ) (short : Bool) → 20 ≤ length bytes → nat_lt (length (bytes ++ rest)) (tcp.header_len bytes) ≡ short
     → tcp_fault (bytes ++ rest) len ≡ fault-by (tcp.header_len bytes) len (field bytes 0 16) (field bytes 16 16) (control_of bytes) short
 fault-front bytes rest len short h is =
-    let all = bytes ++ rest in
-    ap (λ (n : ℕ). fault-by n len (field all 0 16) (field all 16 16) (control_of all) (nat_lt (length all) n)) (len-front bytes rest h)
-    ∙ ap (λ (n : ℕ). fault-by (tcp.header_len bytes) len n (field all 16 16) (control_of all) (nat_lt (length all) (tcp.header_len bytes))) (field-front bytes rest 0 16 (omega (arith, h)))
-    ∙ ap (λ (n : ℕ). fault-by (tcp.header_len bytes) len (field bytes 0 16) n (control_of all) (nat_lt (length all) (tcp.header_len bytes))) (field-front bytes rest 16 16 (omega (arith, h)))
-    ∙ ap (λ (c : Option TcpControl). fault-by (tcp.header_len bytes) len (field bytes 0 16) (field bytes 16 16) c (nat_lt (length all) (tcp.header_len bytes))) (control-front bytes rest h)
-    ∙ ap (λ (b : Bool). fault-by (tcp.header_len bytes) len (field bytes 0 16) (field bytes 16 16) (control_of bytes) b) is
+    rw (len-front bytes rest h, field-front bytes rest 0 16 (omega (arith, h)), field-front bytes rest 16 16 (omega (arith, h)), control-front bytes rest h, is) refl
 
 fault-here : (bytes : List ℕ) (len : ℕ) (short : Bool) → nat_lt (length bytes) (tcp.header_len bytes) ≡ short
     → tcp_fault bytes len ≡ fault-by (tcp.header_len bytes) len (field bytes 0 16) (field bytes 16 16) (control_of bytes) short
-fault-here bytes len short is = ap (λ (b : Bool). fault-by (tcp.header_len bytes) len (field bytes 0 16) (field bytes 16 16) (control_of bytes) b) is
+fault-here bytes len short is = rw is refl
 
 -- the whole segment
 whole-shape : (f : FrameFields) (src dst : IpAddress) (bytes rest : List ℕ) (o : Option TcpHeader) (why : Reason) → 20 ≤ length bytes → f.payload_len ≡ length (bytes ++ rest)
@@ -219,11 +159,7 @@ whole-shape f src dst bytes rest o why h len found fault =
 -- the captured part of it
 part-shape : (f : FrameFields) (src dst : IpAddress) (bytes : List ℕ) (o : Option TcpHeader) (why : Reason) → 20 ≤ length bytes → tcp_of src dst false bytes ≡ o
     → tcp_fault bytes f.payload_len ≡ why → cut_tcp f src dst bytes ≡ shape o (with_tcp_fields f bytes verdict.ChecksumCut) (tcp.header_len bytes) (f.payload_len - tcp.header_len bytes) why
-part-shape f src dst bytes o why h found fault =
-    let next = with_tcp_fields f bytes verdict.ChecksumCut in
-    ap (λ (b : Bool). if b then cut_header f 20 else shape (tcp_of src dst false bytes) next (tcp.header_len bytes) (f.payload_len - tcp.header_len bytes) (tcp_fault bytes f.payload_len)) (lt-false (length bytes) 20 h)
-    ∙ ap (λ (p : Option TcpHeader). shape p next (tcp.header_len bytes) (f.payload_len - tcp.header_len bytes) (tcp_fault bytes f.payload_len)) found
-    ∙ ap (λ (r : Reason). shape o next (tcp.header_len bytes) (f.payload_len - tcp.header_len bytes) r) fault
+part-shape f src dst bytes o why h found fault = rw (lt-false (length bytes) 20 h, found, fault) refl
 
 -- two verdicts in the same struct
 only-verdict : (o : Option TcpHeader) (f : FrameFields) (bytes : List ℕ) (header_len n : ℕ) (why : Reason) (v : Verdict)

@@ -15,28 +15,15 @@ use Rattle.wire_checksum.specs.PseudoHeader.{pseudo_header_bytes}
 use Rattle.c_structs.proofs.CutBytes.{field-front, le-false, le-true, longer, lt-false, lt-true, range-front}
 use Rattle.c_structs.proofs.CutOf.{behind-choice, cut-as, cut-transport, same-of}
 use Rattle.c_structs.specs.Captured.{HasHeaders, IsCutOf, before, cut_header, cut_udp, transport_header}
-use Rattle.c_structs.specs.Codes.{transport_code, verdict_code}
+use Rattle.c_structs.specs.Codes.{verdict_code}
 use Rattle.c_structs.specs.FrameFields.{behind, cut_udp_verdict, rejected, rejected_transport, udp_fault, udp_verdict, with_udp, with_udp_fields, with_udp_header, zero_udp_verdict}
 use Rattle.c_structs.specs.declared.codes.Reason.TheVariants as reason
-use Rattle.c_structs.specs.declared.codes.TransportKind.TheVariants as transport
 use Rattle.c_structs.specs.declared.codes.Verdict.{Verdict}
 use Rattle.c_structs.specs.declared.codes.Verdict.TheVariants as verdict
 use Rattle.c_structs.specs.declared.types.FrameFields.{FrameFields}
 
--- the struct of a UDP header, by its numbers
-abbrev header : FrameFields → ℕ → ℕ → Verdict → FrameFields
-header f s d v = record f {
-  transport_offset = f.payload_offset;
-  src = record f.src { port = s };
-  dst = record f.dst { port = d };
-  transport = transport_code transport.Udp;
-  transport_checksum = verdict_code v;
-}
-
 fields-front : (f : FrameFields) (bytes rest : List ℕ) (v : Verdict) → 8 ≤ length bytes → with_udp_fields f (bytes ++ rest) v ≡ with_udp_fields f bytes v
-fields-front f bytes rest v h =
-    ap (λ (s : ℕ). header f s (field (bytes ++ rest) 16 16) v) (field-front bytes rest 0 16 (omega (arith, h)))
-    ∙ ap (λ (d : ℕ). header f (field bytes 0 16) d v) (field-front bytes rest 16 16 (omega (arith, h)))
+fields-front f bytes rest v h = rw (field-front bytes rest 0 16 (omega (arith, h)), field-front bytes rest 16 16 (omega (arith, h))) refl
 
 -- ---- the value
 
@@ -51,7 +38,7 @@ sound src dst bytes e = rw e refl
 -- the test of a packet, by its parts
 test : (src dst : IpAddress) (bytes : List ℕ) (lengths port : Bool) → udp.has_lengths bytes ≡ lengths → (field bytes 16 16 == 0) ≡ port
     → udp.is_read src dst false bytes ≡ (lengths && not port && true)
-test src dst bytes lengths port a c = ap (λ (b : Bool). b && not (field bytes 16 16 == 0) && true) a ∙ ap (λ (b : Bool). lengths && not b && true) c
+test src dst bytes lengths port a c = rw (a, c) refl
 
 -- ---- a packet with these lengths
 
@@ -78,12 +65,7 @@ shape port g n = if port then rejected_transport g reason.PortZero else behind g
 -- the same packet with more bytes after it
 shape-front : (f : FrameFields) (bytes rest : List ℕ) (v w : Verdict) (n m : ℕ) → 8 ≤ length bytes → v ≡ w → n ≡ m
     → shape (field (bytes ++ rest) 16 16 == 0) (with_udp_fields f (bytes ++ rest) v) n ≡ shape (field bytes 16 16 == 0) (with_udp_fields f bytes w) m
-shape-front f bytes rest v w n m h same size =
-    let all = bytes ++ rest in
-    ap (λ (d : ℕ). shape (d == 0) (with_udp_fields f all v) n) (field-front bytes rest 16 16 (omega (arith, h)))
-    ∙ ap (λ (g : FrameFields). shape (field bytes 16 16 == 0) g n) (fields-front f bytes rest v h)
-    ∙ ap (λ (u : Verdict). shape (field bytes 16 16 == 0) (with_udp_fields f bytes u) n) same
-    ∙ ap (λ (k : ℕ). shape (field bytes 16 16 == 0) (with_udp_fields f bytes w) k) size
+shape-front f bytes rest v w n m h same size = rw (field-front bytes rest 0 16 (omega (arith, h)), field-front bytes rest 16 16 (omega (arith, h)), same, size) refl
 
 -- the verdict, by the checksum, the packet and its length
 abbrev verdict-by : IpAddress → IpAddress → ℕ → List ℕ → ℕ → Verdict
@@ -99,17 +81,12 @@ verdict-front src dst bytes rest h whole =
     let all = bytes ++ rest in
     let len : udp.packet_len all ≡ udp.packet_len bytes = field-front bytes rest 32 16 (omega (arith, h)) in
     let sum : field all 48 16 ≡ field bytes 48 16 = field-front bytes rest 48 16 (omega (arith, h)) in
-    ap (λ (n : ℕ). verdict-by src dst (field all 48 16) (take n all) n) len
-    ∙ ap (λ (packet : List ℕ). verdict-by src dst (field all 48 16) packet (udp.packet_len bytes)) (take-append-le (udp.packet_len bytes) bytes rest whole)
-    ∙ ap (λ (n : ℕ). verdict-by src dst n (take (udp.packet_len bytes) bytes) (udp.packet_len bytes)) sum
+    rw (len, take-append-le (udp.packet_len bytes) bytes rest whole, sum) refl
 
 -- whether the lengths are right, by the numbers
 lengths-are : (bytes : List ℕ) (len : ℕ) (a c : Bool) → 8 ≤ length bytes → udp.packet_len bytes ≡ len → nat_le 8 len ≡ a → nat_le len (length bytes) ≡ c
     → udp.has_lengths bytes ≡ (a && c)
-lengths-are bytes len a c h is first last =
-    ap (λ (b : Bool). b && nat_le 8 (udp.packet_len bytes) && nat_le (udp.packet_len bytes) (length bytes)) (le-true 8 (length bytes) h)
-    ∙ ap (λ (n : ℕ). nat_le 8 n && nat_le n (length bytes)) is
-    ∙ ap (λ (b : Bool). b && nat_le len (length bytes)) first ∙ ap (λ (b : Bool). a && b) last
+lengths-are bytes len a c h is first last = rw (le-true 8 (length bytes) h, is, first, last) refl
 
 -- ---- the cases
 
