@@ -250,16 +250,16 @@ static int is_allowed(const struct lk_addr *addr)
     return block_count == 0;
 }
 
-static uint64_t octets_of(const struct flow *flow)
+static uint64_t bytes_of(const struct flow *flow)
 {
     return flow->sides[0].octets + flow->sides[1].octets;
 }
 
-static int by_octets(const void *a, const void *b)
+static int by_bytes(const void *a, const void *b)
 {
     const struct flow *x = a, *y = b;
-    if (octets_of(x) != octets_of(y))
-        return octets_of(x) < octets_of(y) ? 1 : -1;
+    if (bytes_of(x) != bytes_of(y))
+        return bytes_of(x) < bytes_of(y) ? 1 : -1;
     return memcmp(&x->key, &y->key, sizeof x->key);
 }
 
@@ -269,7 +269,7 @@ static void print_times(const struct flow *flow)
     double seconds = (double)(flow->end - flow->begin) / 1e9;
     printf(" time %.6f s", seconds);
     if (seconds > 0)
-        printf(" rate %.1f kbit/s", (double)octets_of(flow) * 8 / seconds / 1000);
+        printf(" rate %.1f kbit/s", (double)bytes_of(flow) * 8 / seconds / 1000);
     if (sides[0].rtt >= 0 && sides[1].rtt >= 0)
         printf(" rtt %.3f+%.3f ms", (double)sides[0].rtt / 1e6, (double)sides[1].rtt / 1e6);
 }
@@ -306,7 +306,7 @@ static void print_flow(const struct flow *flow, int allowed)
 static size_t print_flows(struct table *table, size_t most)
 {
     size_t outside = 0;
-    qsort(table->flows, table->used, sizeof *table->flows, by_octets);
+    qsort(table->flows, table->used, sizeof *table->flows, by_bytes);
     for (size_t i = 0; i < table->used; i++) {
         const struct flow *flow = &table->flows[i];
         int allowed = is_allowed(&flow->key.ends[0].addr) && is_allowed(&flow->key.ends[1].addr);

@@ -401,9 +401,9 @@ static void on_segment(struct connection *c, const struct lk_frame *in, const st
             c->ts_recent = options->tsval;
         if (!acknowledge(c, in, options))
             return;
-        int has_octets = in->payload_len > 0 || (flags & LK_FIN);
-        c->segments += has_octets;
-        send_data(c, has_octets && !take(c, in, payload));
+        int has_bytes = in->payload_len > 0 || (flags & LK_FIN);
+        c->segments += has_bytes;
+        send_data(c, has_bytes && !take(c, in, payload));
     }
 }
 

@@ -45,7 +45,7 @@ SUMMARY = re.compile(r"\s*(\d+  )?(\d{4}-\d\d-\d\d )?(\d\d:\d\d:\d\d|\d+)\.\d+ "
 DEEPER_THAN_THE_DUMP = re.compile(r"(?:\t| {8})[ \t]")
 OFFSET = re.compile(r"(?:0x)?([0-9a-fA-F]{4,8})(?:: *|  +)(?=\S)")
 VIEW = re.compile(r"(\S.*) \((\d+) bytes?\):", re.ASCII)
-BYTES_BEHIND_OFFSET = re.compile(rf"(?:{BYTE})+(?: (?:{BYTE})+)*(?=  |$)")
+BYTES_AFTER_OFFSET = re.compile(rf"(?:{BYTE})+(?: (?:{BYTE})+)*(?=  |$)")
 STREAM = re.compile(rf"(?:{BYTE})+")
 ESCAPED = re.compile(rf'("?)((?:\\x{BYTE})+)\1 *\\?')
 SEPARATOR = re.compile(r"\s*[,:]\s*|\s+")
@@ -100,7 +100,7 @@ class Reader:
 
     def read_dumped(self, offset, text):
         """A line with an offset: its bytes, and perhaps a text column."""
-        octets = BYTES_BEHIND_OFFSET.match(text)
+        octets = BYTES_AFTER_OFFSET.match(text)
         if not octets:
             raise Failure("no bytes in hex behind the offset")
         data = bytes.fromhex(octets[0])

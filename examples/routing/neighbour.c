@@ -10,7 +10,7 @@ enum { ARP_REQUEST = 1 };
 /* Times are in milliseconds. */
 enum { FRESH_TIME = 60000, BETWEEN_REQUESTS = 1000, MOST_REQUESTS = 3 };
 enum { LONGEST_REQUEST = ETHERNET_LEN + 72 };
-enum { SETS = 4096, WAYS = 8, MOST_HELD = 64, MOST_HELD_OCTETS = 1 << 22 };
+enum { SETS = 4096, WAYS = 8, MOST_HELD = 64, MOST_HELD_BYTES = 1 << 22 };
 
 /* A packet that waits for a reply, as it came in. */
 struct held {
@@ -43,7 +43,7 @@ struct neighbour {
 
 struct neighbours {
     uint64_t key[2]; /* so that nobody can choose addresses of one set */
-    size_t held_octets;
+    size_t held_bytes;
     struct neighbour sets[SETS][WAYS];
 };
 
@@ -87,7 +87,7 @@ static struct released *take_first(struct neighbours *neighbours, struct neighbo
     if (held->next == NULL)
         neighbour->end = &neighbour->first;
     neighbour->held--;
-    neighbours->held_octets -= held->len;
+    neighbours->held_bytes -= held->len;
     first.dst = held->dst;
     first.from = held->from;
     first.packet.len = held->len;
@@ -215,7 +215,7 @@ static void hold(struct router *router, struct neighbour *neighbour, const struc
         drop(router, NO_NEIGHBOUR);
     }
     struct held *held = NULL;
-    if (neighbours->held_octets + packet->len <= MOST_HELD_OCTETS)
+    if (neighbours->held_bytes + packet->len <= MOST_HELD_BYTES)
         held = malloc(sizeof *held + packet->len);
     if (held == NULL) {
         drop(router, NO_NEIGHBOUR);
@@ -226,7 +226,7 @@ static void hold(struct router *router, struct neighbour *neighbour, const struc
     *neighbour->end = held;
     neighbour->end = &held->next;
     neighbour->held++;
-    neighbours->held_octets += held->len;
+    neighbours->held_bytes += held->len;
 }
 
 const uint8_t *hardware_of(struct router *router, uint16_t interface, const struct lk_addr *addr)
@@ -263,7 +263,7 @@ void wait_for_neighbour(struct router *router, uint16_t to, const struct lk_addr
 void ask_again(struct router *router)
 {
     struct neighbour *all = router->neighbours->sets[0];
-    if (router->neighbours->held_octets == 0)
+    if (router->neighbours->held_bytes == 0)
         return;
     for (struct neighbour *one = all; one < all + SETS * WAYS; one++) {
         if (one->first == NULL)

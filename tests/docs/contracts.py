@@ -140,8 +140,8 @@ def joined(tokens):
     """The text of tokens, with one space for any layout, none inside of ( ) and [ ], and no last comma in brackets."""
     out = []
     for at, token in enumerate(tokens):
-        behind = tokens[at + 1].text if at + 1 < len(tokens) else ""
-        if token.text == "," and behind in (")", "]", "}", ">"):
+        following = tokens[at + 1].text if at + 1 < len(tokens) else ""
+        if token.text == "," and following in (")", "]", "}", ">"):
             continue
         if token.spaced and out and out[-1] not in ("(", "[") and token.text not in (")", "]"):
             out.append(" ")

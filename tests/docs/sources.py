@@ -128,9 +128,9 @@ class Sources:
         first, rest = names[0], names[1:]
         starts = {"crate": (crate,), "self": (crate, *path), "super": (crate, *path[:-1])}
         found = starts.get(first) or self.meaning(crate, path, first, depth) or (first in self.crates and (first,))
-        return self.behind(found, rest, depth) if found else names
+        return self.following(found, rest, depth) if found else names
 
-    def behind(self, found, names, depth):
+    def following(self, found, names, depth):
         """The meaning of names after a full path."""
         if not names:
             return found
@@ -138,7 +138,7 @@ class Sources:
         if crate not in self.crates or path not in self.crates[crate].modules:
             return (*found, *names)
         inner = self.meaning(crate, path, names[0], depth + 1)
-        return self.behind(inner, names[1:], depth) if inner else (*found, *names)
+        return self.following(inner, names[1:], depth) if inner else (*found, *names)
 
     def spec_target(self, names):
         """The full path of an imported definition: through `pub use` lines to the module that defines it, and from a
@@ -171,7 +171,7 @@ class Sources:
             at = names.index("TheVariants")
         else:
             at = len(names) - (len(names) > 1 and names[-1] == names[-2])
-        found = self.behind((crate,), names[:at], 0)
+        found = self.following((crate,), names[:at], 0)
         if found[0] not in self.crates or not any(i.name == found[-1] for i in self.items_at(found[0], found[1:-1])):
             return None
         return (*found, *names[at:]) if "TheVariants" in names else found

@@ -292,7 +292,7 @@ def udp_field_rows(v):
         yield row(f"{name}-length-{length}", ping(v, length=length), None)
     # The UDP length ends the payload; what follows is no part of the packet (RFC 768).
     for size in range(4):
-        yield row(f"{name}-length-{8 + size}", ping(v, b"ping"[:size], behind=b"ping"[size:]), pong(v, b"ping"[:size]))
+        yield row(f"{name}-length-{8 + size}", ping(v, b"ping"[:size], after=b"ping"[size:]), pong(v, b"ping"[:size]))
     for protocol in [0, 1, 6, 58, 136, 255]:
         yield row(f"{name}-protocol-{protocol}", ping(v, protocol=protocol), None)
 

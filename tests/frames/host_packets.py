@@ -55,8 +55,8 @@ def replied(v, segment_of, protocol, link=THEIR_LINK, to=None):
     return framed(v, segment_of, protocol, link, OUR_LINK, src=v.ours, dst=to or v.theirs)
 
 
-def ping(v, payload=b"ping", src_port=41319, dst_port=ECHO, behind=b"", length=None, checksum=None, **frame):
-    packet_of = lambda src, dst: udp(payload, src_port, dst_port, length, checksum, src, dst) + behind
+def ping(v, payload=b"ping", src_port=41319, dst_port=ECHO, after=b"", length=None, checksum=None, **frame):
+    packet_of = lambda src, dst: udp(payload, src_port, dst_port, length, checksum, src, dst) + after
     return framed(v, packet_of, frame.pop("protocol", UDP), **frame)
 
 

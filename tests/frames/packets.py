@@ -79,10 +79,10 @@ def in_ipv6(datagram, padding=b"", **fields):
 CARRIERS = [(HOST_A, HOST_B, in_ipv4), (HOST_C, HOST_D, in_ipv6)]
 
 
-def over_both(payload=DATA, behind=b"", padding=b"", **fields):
+def over_both(payload=DATA, after=b"", padding=b"", **fields):
     """A UDP packet over IPv4 and one over IPv6, with bytes after it in the IP packet and padding after that."""
     for src, dst, carry in CARRIERS:
-        yield carry(udp(payload, src=src, dst=dst, **fields) + behind, padding)
+        yield carry(udp(payload, src=src, dst=dst, **fields) + after, padding)
 
 
 def octets(n, start=0):

@@ -14,9 +14,9 @@ def udp_shapes():
         yield from over_both(dst_port=port)
         yield from over_both(dst_port=port, checksum=0)
     for n in range(1, 20):
-        yield from over_both(behind=octets(n, 9))
+        yield from over_both(after=octets(n, 9))
         yield from over_both(b"", padding=octets(n))
-        yield from over_both(octets(3), behind=octets(n), padding=octets(5))
+        yield from over_both(octets(3), after=octets(n), padding=octets(5))
     for address in ["00000000", "ffffffff", "7f000001", "e0000001"]:
         src = bytes.fromhex(address)
         yield in_ipv4(udp(src=src), src=src)
@@ -33,14 +33,14 @@ def udp_lengths():
     for length in list(range(32)) + [0x0C00, 0x8000, 0x800C, 0xFFFF]:
         yield from over_both(octets(12), length=length)
         yield from over_both(octets(12), length=length, checksum=0)
-        yield from over_both(octets(12), length=length, behind=octets(4))
+        yield from over_both(octets(12), length=length, after=octets(4))
     for n in range(9):
         yield in_ipv4(octets(n, 1))
         yield in_ipv6(octets(n, 1))
 
 
 def udp_truncations():
-    for frame in [*over_both(), *over_both(octets(7), behind=octets(3)), *over_both(dst_port=0)]:
+    for frame in [*over_both(), *over_both(octets(7), after=octets(3)), *over_both(dst_port=0)]:
         for n in range(34, len(frame)):
             yield frame[:n]
 
@@ -49,7 +49,7 @@ def udp_checksums():
     for checksum in [0, 1, 0x00FF, 0xFF00, 0xFFFE, 0xFFFF]:
         yield from over_both(checksum=checksum)
         yield from over_both(checksum=checksum, dst_port=0)
-        yield from over_both(checksum=checksum, behind=octets(2))
+        yield from over_both(checksum=checksum, after=octets(2))
     for src, dst, carry in CARRIERS:
         # Only the sum of the pseudo-header, as a device finds it that is to add the rest.
         for n in range(8):

@@ -85,8 +85,8 @@ run_the_gate() {
 }
 
 # The borrow checker must reject both functions, because each borrows one payload mutably twice.
-rejects_two_loans() {
-    local crate=$copy/crates/two_loans
+rejects_two_borrows() {
+    local crate=$copy/crates/two_borrows
     mkdir -p "$crate/src"
     echo 'two_loans: ip_wire' >> "$copy/crates.txt"
     cat > "$crate/src/lib.rt" << 'END'
@@ -107,7 +107,7 @@ pub fn of_a_packet(packet: &mut Ipv4PacketMut<'_>) {
     first.swap_with_slice(second);
 }
 END
-    "$copy/tests/gate/proved.py" rattle check two_loans --only '' > "$room/loans.log" 2>&1 && return 1
+    "$copy/tests/gate/proved.py" rattle check two_borrows --only '' > "$room/loans.log" 2>&1 && return 1
     grep -q '^src/lib.rt:8:.*borrow-e0499.*`\*frame` as mutable more than once' "$room/loans.log" &&
         grep -q '^src/lib.rt:14:.*borrow-e0499.*`\*packet` as mutable more than once' "$room/loans.log" &&
         [ "$(grep -c 'error\[' "$room/loans.log")" = 2 ]

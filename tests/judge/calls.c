@@ -34,7 +34,7 @@ static void *begin_change(const char *name, const void *octets, size_t cap)
 static void end_out(const char *name, void *out, size_t cap)
 {
     size_t len = used_len(cap);
-    same_octets(name, wanted, placed, len);
+    same_bytes(name, wanted, placed, len);
     if (len != 0)
         memcpy(out, wanted, len);
 }
@@ -123,7 +123,7 @@ WRITER(print_ethernet, (const uint8_t *octets, char *out, size_t cap), (octets, 
 
 /* ---- calls that store a value ---- */
 
-#define SAME_VALUE(wanted, came) same_octets("the value", wanted, came, sizeof *(wanted))
+#define SAME_VALUE(wanted, came) same_bytes("the value", wanted, came, sizeof *(wanted))
 
 /* The model stores in `stored`. */
 #define READER(call, same, type, value, parameters, model, library) \
@@ -146,10 +146,10 @@ WRITER(print_ethernet, (const uint8_t *octets, char *out, size_t cap), (octets, 
 
 static void same_ndisc(const struct lk_ndisc *a, const struct lk_ndisc *b)
 {
-    same_octets("target", a->target.octets, b->target.octets, 16);
-    same_octets("version", &a->target.version, &b->target.version, 2);
-    same_octets("hardware", a->hardware, b->hardware, 6);
-    same_octets("flags", &a->has_hardware, &b->has_hardware, 5);
+    same_bytes("target", a->target.octets, b->target.octets, 16);
+    same_bytes("version", &a->target.version, &b->target.version, 2);
+    same_bytes("hardware", a->hardware, b->hardware, 6);
+    same_bytes("flags", &a->has_hardware, &b->has_hardware, 5);
 }
 
 READER(read_frame, same_frame, struct lk_frame, frame, (const uint8_t *ptr, size_t len, struct lk_frame *frame),
@@ -281,7 +281,7 @@ ptrdiff_t both_index_routes(const struct lk_route *routes, size_t count, struct 
     result = lk_index_routes(given("routes", routes, routes_len), NUMBER(count), came, NUMBER(node_count));
     end_call(model_index_routes(routes, count, node_count), result);
     if (result < 0)
-        same_octets("nodes", nodes, came, len);
+        same_bytes("nodes", nodes, came, len);
     else if (len != 0)
         memcpy(nodes, came, len);
     return result;
@@ -334,7 +334,7 @@ static void end_mappings(int came, struct lk_mapping *mappings, const struct lk_
 {
     size_t len = used_len(count) * sizeof *mappings;
     if (came != LK_NOT_REJECTED)
-        same_octets("mappings", mappings, changed, len);
+        same_bytes("mappings", mappings, changed, len);
     else if (len != 0)
         memcpy(mappings, changed, len);
 }

@@ -99,7 +99,7 @@ static void read_after_any_option(const uint8_t *ptr, size_t len)
     result = lk_next_tcp_option(header, len, came);
     end_call(1, result >= -1 && result <= 1);
     if (result != 1)
-        same_octets("option", &before, came, sizeof before);
+        same_bytes("option", &before, came, sizeof before);
 }
 
 void read_options(void)

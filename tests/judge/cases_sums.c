@@ -55,7 +55,7 @@ static void update_addr(void)
     both_update_udp_checksum_addr(checksum, &before, &after);
 }
 
-void sum_octets(void)
+void sum_bytes(void)
 {
     static uint8_t octets[MODEL_ROOM];
     size_t len = any_len(0x1ffff);

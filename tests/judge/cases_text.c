@@ -24,7 +24,7 @@ static void add_number(struct text *text, unsigned value, const char *format)
     add(text, digits);
 }
 
-static unsigned any_octet(void)
+static unsigned any_byte(void)
 {
     return one_in(40) ? (unsigned)below(1000) : one_in(2) ? (unsigned)below(10) : (unsigned)below(256);
 }
@@ -33,7 +33,7 @@ static void add_ipv4(struct text *text)
 {
     static const char *const formats[] = {"%u", "%u", "%u", "%02u", "%03u"};
     for (int i = 0; i < 4; i++) {
-        add_number(text, any_octet(), formats[below(5)]);
+        add_number(text, any_byte(), formats[below(5)]);
         if (i < 3)
             add(text, ".");
     }

@@ -12,7 +12,7 @@ enum fault {
     RIGHT_FOR_WRONG,
     PADDING_IN_PAYLOAD,
     WINDOW_SCALE_15,
-    OCTET_PAST_THE_END,
+    BYTE_PAST_THE_END,
     OUT_CHANGED_AFTER_FAILURE,
     FAILURES_OUT_OF_ORDER,
     REASONS_OUT_OF_ORDER,
@@ -27,9 +27,9 @@ enum fault {
     SCOPE_ACCEPTED,
     TEXT_NOT_SHORTEST,
     NULL_MISSING,
-    STATIONS_EXCHANGED,
+    HOSTS_EXCHANGED,
     HEADER_SUM_LEFT,
-    SIDE_OF_ONE_OCTET,
+    SIDE_OF_ONE_BYTE,
     LAST_OF_EQUAL_ROUTES,
     RESERVED_SOURCE_ACCEPTED,
     KEPT_ALIVE_BY_INBOUND,
@@ -201,7 +201,7 @@ ptrdiff_t __wrap_lk_emit_udp(const struct lk_endpoint *src, const struct lk_endp
                              size_t len, int computed, uint8_t *out, size_t cap)
 {
     ptrdiff_t result = __real_lk_emit_udp(src, dst, ptr, len, computed, out, cap);
-    if (fault == OCTET_PAST_THE_END && result > 0)
+    if (fault == BYTE_PAST_THE_END && result > 0)
         out[result] = 0;
     return result;
 }
@@ -405,7 +405,7 @@ int __wrap_lk_forward(uint8_t *frame, size_t len, const uint8_t *src, const uint
     int result, is_ipv4 = len >= 34 && len <= LK_MAX_LEN && frame[12] == 8 && frame[13] == 0;
     if (is_ipv4)
         memcpy(sum, frame + 24, 2);
-    if (fault == STATIONS_EXCHANGED)
+    if (fault == HOSTS_EXCHANGED)
         result = __real_lk_forward(frame, len, dst, src);
     else
         result = __real_lk_forward(frame, len, src, dst);
@@ -416,7 +416,7 @@ int __wrap_lk_forward(uint8_t *frame, size_t len, const uint8_t *src, const uint
 
 int __wrap_lk_translate(uint8_t *frame, size_t len, int side, const struct lk_endpoint *end)
 {
-    int result = __real_lk_translate(frame, len, fault == SIDE_OF_ONE_OCTET ? side & 0xff : side, end);
+    int result = __real_lk_translate(frame, len, fault == SIDE_OF_ONE_BYTE ? side & 0xff : side, end);
     if (fault == ECHO_OF_0_REJECTED && result == LK_NOT_REJECTED && end->port == 0 && frame[23] == 1)
         return LK_ZERO_PORT;
     return result;

@@ -53,7 +53,7 @@ void *room(const void *data, size_t len);
 /* Reports the first difference and ends the program. `end_call` also tests that what was given is unchanged. */
 void end_call(ptrdiff_t wanted, ptrdiff_t came);
 void same_number(const char *name, ptrdiff_t wanted, ptrdiff_t came);
-void same_octets(const char *name, const void *wanted, const void *came, size_t len);
+void same_bytes(const char *name, const void *wanted, const void *came, size_t len);
 void same_text(const char *name, const char *wanted, const char *came);
 void same_frame(const struct lk_frame *wanted, const struct lk_frame *came);
 void same_options(const struct lk_tcp_options *wanted, const struct lk_tcp_options *came);
@@ -122,7 +122,7 @@ void emit_layer(void);
 void reply_frame(void);
 void parse_text(void);
 void print_text(void);
-void sum_octets(void);
+void sum_bytes(void);
 void classify_addr(void);
 void name_number(void);
 void forward_frame(void);

@@ -147,7 +147,7 @@ static void note_inbound(const struct lk_nat *nat, struct model_mapping *mapping
 /* The packet that an error quotes: its transport, the place of its port on this side, and its end there. */
 struct quoted {
     uint8_t *header;
-    uint8_t *behind;
+    uint8_t *rest;
     size_t known; /* the bytes after its header */
     int side;
     int transport;
@@ -163,16 +163,16 @@ static int find_quoted(uint8_t *ptr, size_t len, int side, struct quoted *quoted
     if (len == 0 || ptr[0] >> 4 != 4 || header_len < 20 || header_len + 8 > len || (get_word(ptr + 6) & 0x1fff) != 0)
         return 0;
     quoted->header = ptr;
-    quoted->behind = ptr + header_len;
+    quoted->rest = ptr + header_len;
     quoted->known = len - header_len;
     quoted->side = side;
-    quoted->port_at = quoted->behind + (ptr[9] == 1 ? 4 : side == LK_SOURCE ? 0 : 2);
+    quoted->port_at = quoted->rest + (ptr[9] == 1 ? 4 : side == LK_SOURCE ? 0 : 2);
     quoted->transport = ptr[9] == 1 ? LK_ICMP : ptr[9] == 6 ? LK_TCP : LK_UDP;
     memset(&quoted->end, 0, sizeof quoted->end);
     quoted->end.addr.version = 4;
     memcpy(quoted->end.addr.octets, ptr + (side == LK_SOURCE ? 12 : 16), 4);
     quoted->end.port = (uint16_t)get_word(quoted->port_at);
-    return ptr[9] == 6 || ptr[9] == 17 || (ptr[9] == 1 && quoted->behind[0] == (side == LK_SOURCE ? 8 : 0));
+    return ptr[9] == 6 || ptr[9] == 17 || (ptr[9] == 1 && quoted->rest[0] == (side == LK_SOURCE ? 8 : 0));
 }
 
 static int error_rejection(uint8_t *octets, const struct lk_frame *frame, int side, struct quoted *quoted)
@@ -187,7 +187,7 @@ static int error_rejection(uint8_t *octets, const struct lk_frame *frame, int si
 static void write_quoted(const struct quoted *quoted, const struct lk_endpoint *end)
 {
     int is_udp = quoted->transport == LK_UDP;
-    uint8_t *field = quoted->behind + (is_udp ? 6 : quoted->transport == LK_TCP ? 16 : 2);
+    uint8_t *field = quoted->rest + (is_udp ? 6 : quoted->transport == LK_TCP ? 16 : 2);
     if (quoted->transport == LK_TCP && quoted->known < 18) {
         put_word(quoted->port_at, end->port);
     } else {

@@ -264,11 +264,11 @@ void end_call(ptrdiff_t wanted, ptrdiff_t came)
 {
     for (int i = 0; i < argument_count; i++)
         if (arguments[i].name && arguments[i].len != 0)
-            same_octets(arguments[i].name, arguments[i].data, arguments[i].placed, arguments[i].len);
+            same_bytes(arguments[i].name, arguments[i].data, arguments[i].placed, arguments[i].len);
     same_number("the result", wanted, came);
 }
 
-void same_octets(const char *name, const void *wanted, const void *came, size_t len)
+void same_bytes(const char *name, const void *wanted, const void *came, size_t len)
 {
     size_t at = 0;
     if (len == 0 || memcmp(wanted, came, len) == 0)
@@ -313,7 +313,7 @@ static void same_fields(const struct field *fields, size_t count, const void *wa
     for (size_t i = 0; i < count; i++) {
         const uint8_t *a = (const uint8_t *)wanted + fields[i].offset, *b = (const uint8_t *)came + fields[i].offset;
         if (fields[i].len > 8 || fields[i].len == 6)
-            same_octets(fields[i].name, a, b, fields[i].len);
+            same_bytes(fields[i].name, a, b, fields[i].len);
         else
             same_number(fields[i].name, number_in(a, fields[i].len), number_in(b, fields[i].len));
     }

@@ -55,7 +55,7 @@ static void reads_all_options(void)
     READS_OPTIONS(four_ranges, ranges(4));
     READS_OPTIONS(two_ranges, ranges(2));
     READS_OPTIONS(repeated, size_and_scale(0x0202, 14)); /* a scale of 15 counts as 14 */
-    READS_OPTIONS(behind_end, size_and_scale(0, 5));
+    READS_OPTIONS(after_end, size_and_scale(0, 5));
     READS_OPTIONS(no_options, ranges(0));
     REJECTS_OPTIONS(bad_option, bad_option.len);
     REJECTS_OPTIONS(bad_offset, bad_offset.len);

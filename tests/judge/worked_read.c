@@ -225,7 +225,7 @@ static void reads_fragments(void)
     READS(fragment6_first, fragment6(0, 1));
     READS(fragment6_middle, fragment6(0x918, 1));
     READS(fragment6_last, fragment6(0xfff8, 0));
-    READS(fragment6_alone, fragment6(0, 0));
+    READS(only_fragment6, fragment6(0, 0));
     READS(fragment6_short, ipv6(44, 7));
 }
 

@@ -19,14 +19,14 @@ END = "the end of a command"
 
 def commands(path):
     """The commands, each with the lines that the page shows."""
-    found, is_behind = [], False
+    found, is_output = [], False
     with open(path, encoding="ascii") as page:
         for line in page:
             if line.startswith("    # "):
                 found.append((line[6:].rstrip("\n"), []))
-            elif line.startswith("    ") and is_behind:
+            elif line.startswith("    ") and is_output:
                 found[-1][1].append(line.strip())
-            is_behind = line.startswith("    # ") or (line.startswith("    ") and is_behind)
+            is_output = line.startswith("    # ") or (line.startswith("    ") and is_output)
     return found
 
 

@@ -17,7 +17,7 @@ use Rattle.ip_wire.specs.declared.EthernetProtocol.TheVariants as ethertype
 use Rattle.ip_wire.specs.declared.IpProtocol.TheVariants as protocol
 use Rattle.c_structs.proofs.CutFrame.{read-cut, read-packet-cut}
 use Rattle.c_structs.specs.Captured.{IsCutOf, begun_ipv4, begun_ipv6, captured_of, captured_packet_of, cut_carried, cut_fragment_by, cut_frame, cut_header, cut_ipv4, cut_ipv6, cut_packet, cut_payload, cut_transport_by, is_no_ipv4}
-use Rattle.c_structs.specs.FrameFields.{arp_fault, bare_of, behind, cut_udp_verdict, fields_of, ipv4_fault, ipv6_fault, nothing_of, packet_fields_of, rejected, rejected_transport, tcp_fault, with_arp, with_fragment_header, with_ipv4, with_ipv4_fields, with_ipv6, with_ipv6_fields, with_link, with_tcp_fields, with_udp, with_udp_fields}
+use Rattle.c_structs.specs.FrameFields.{arp_fault, bare_of, after_header, cut_udp_verdict, fields_of, ipv4_fault, ipv6_fault, nothing_of, packet_fields_of, rejected, rejected_transport, tcp_fault, with_arp, with_fragment_header, with_ipv4, with_ipv4_fields, with_ipv6, with_ipv6_fields, with_link, with_tcp_fields, with_udp, with_udp_fields}
 use Rattle.c_structs.specs.Stored.{linked}
 use Rattle.c_structs.specs.declared.codes.Reason.TheVariants as reason
 use Rattle.c_structs.specs.declared.codes.Verdict.TheVariants as verdict
@@ -36,17 +36,17 @@ cut-same f protocol.Udp src dst bytes =
     let next = with_udp_fields f bytes (cut_udp_verdict src bytes) in
     same-if (nat_lt (length bytes) 8) (cut_header f 8) _ (carries_icmp f) refl
     (same-if (nat_le (udp.packet_len bytes) (length bytes) || nat_lt f.payload_len (udp.packet_len bytes)) (with_udp f src dst bytes) _ (carries_icmp f) (transport-same f protocol.Udp src dst bytes)
-    (same-if (field bytes 16 16 == 0) (rejected_transport next reason.PortZero) (behind next 8 (udp.packet_len bytes - 8)) (carries_icmp f) refl refl))
+    (same-if (field bytes 16 16 == 0) (rejected_transport next reason.PortZero) (after_header next 8 (udp.packet_len bytes - 8)) (carries_icmp f) refl refl))
 cut-same f protocol.Tcp src dst bytes =
     let next = with_tcp_fields f bytes verdict.ChecksumCut in
     same-if (nat_lt (length bytes) 20) (cut_header f 20) _ (carries_icmp f) refl
-    (same-option (tcp_of src dst false bytes) (λ v. behind next (tcp.header_len bytes) (f.payload_len - tcp.header_len bytes)) (rejected_transport next (tcp_fault bytes f.payload_len)) (carries_icmp f) (λ v. refl) refl)
+    (same-option (tcp_of src dst false bytes) (λ v. after_header next (tcp.header_len bytes) (f.payload_len - tcp.header_len bytes)) (rejected_transport next (tcp_fault bytes f.payload_len)) (carries_icmp f) (λ v. refl) refl)
 cut-same f p src dst bytes = refl
 
 -- after fields with ICMP
-behind-read : (f : FrameFields) (p : IpProtocol) (src dst : IpAddress) (bytes : List ℕ) → (IsCarrying f → IsRead f × ((p ≡ protocol.Icmp) ⊎ (p ≡ protocol.Icmpv6)))
+after_header-read : (f : FrameFields) (p : IpProtocol) (src dst : IpAddress) (bytes : List ℕ) → (IsCarrying f → IsRead f × ((p ≡ protocol.Icmp) ⊎ (p ≡ protocol.Icmpv6)))
     → carries_icmp (cut_transport_by f p src dst bytes) ≡ true → IsRead (cut_transport_by f p src dst bytes)
-behind-read f p src dst bytes is e =
+after_header-read f p src dst bytes is e =
     let (read, icmp) = is (carrying f (sym (cut-same f p src dst bytes) ∙ e)) in
     elim icmp [
       | inl four ↦ rw four read
@@ -59,7 +59,7 @@ begun-ipv4 f bytes read =
     let next = with_ipv4_fields f bytes v v.payload_len in
     let rest = drop (ipv4.header_len bytes) bytes in
     chosen IsRead (ipv4.is_fragment bytes) next (cut_payload next (Ipv4 v) rest) (λ e. read)
-    (behind-read next v.next_header (src_addr_of (Ipv4 v)) (dst_addr_of (Ipv4 v)) rest (λ c. (
+    (after_header-read next v.next_header (src_addr_of (Ipv4 v)) (dst_addr_of (Ipv4 v)) rest (λ c. (
       read,
       elim c.1 [
         | inl (n, p) ↦ inl (ap number.protocol_of p)
@@ -87,7 +87,7 @@ begun-ipv6 f bytes read =
     let first = with_ipv6_fields f bytes v v.payload_len in
     let rest = drop 40 bytes in
     let next = cut_fragment_by first v.next_header rest in
-    behind-read next v.next_header (src_addr_of (Ipv6 v)) (dst_addr_of (Ipv6 v)) rest (λ c.
+    after_header-read next v.next_header (src_addr_of (Ipv6 v)) (dst_addr_of (Ipv6 v)) rest (λ c.
     let icmp : v.next_header ≡ protocol.Icmpv6 = ap number.protocol_of (icmpv6 next bytes (fragment-named first v.next_header rest) c) in
     (ap (λ (p : IpProtocol). (cut_fragment_by first p rest).reason) icmp ∙ read, inr icmp))
 

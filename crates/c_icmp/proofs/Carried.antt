@@ -35,7 +35,7 @@ use Rattle.ip_wire.specs.declared.IpProtocol.TheVariants as protocol
 use Rattle.wire_icmp.specs.Icmp.{protocol_of, verifies}
 use Rattle.c_structs.specs.Codes.{verdict_code}
 use Rattle.c_structs.specs.FrameFields as stored
-use Rattle.c_structs.specs.FrameFields.{bare_of, behind, fields_of, ipv4_fault, ipv6_fault, nothing_of, packet_fields_of, rejected, rejected_transport, tcp_fault, udp_fault, with_carried, with_fragment_by, with_fragment_header, with_ipv4, with_ipv4_header, with_ipv6, with_ipv6_header, with_packet, with_payload, with_tcp_header, with_transport_by, with_udp_header}
+use Rattle.c_structs.specs.FrameFields.{bare_of, after_header, fields_of, ipv4_fault, ipv6_fault, nothing_of, packet_fields_of, rejected, rejected_transport, tcp_fault, udp_fault, with_carried, with_fragment_by, with_fragment_header, with_ipv4, with_ipv4_header, with_ipv6, with_ipv6_header, with_packet, with_payload, with_tcp_header, with_transport_by, with_udp_header}
 use Rattle.c_structs.specs.Stored.{linked, unchecked}
 use Rattle.c_structs.specs.Written.{flag}
 use Rattle.c_structs.specs.declared.codes.Reason.{Reason}
@@ -114,11 +114,11 @@ pub transport-same : (f : FrameFields) (p : IpProtocol) (src dst : IpAddress) (b
 transport-same f protocol.Udp src dst bytes =
     let next = with_udp_header f src dst bytes in
     same-if (nat_lt (length bytes) 8) (rejected f reason.TooShort) _ (carries_icmp f) refl
-    (same-option (udp_of src dst false bytes) (λ u. behind next 8 (length (udp.payload_of bytes))) (rejected_transport next (udp_fault bytes)) (carries_icmp f) (λ u. refl) refl)
+    (same-option (udp_of src dst false bytes) (λ u. after_header next 8 (length (udp.payload_of bytes))) (rejected_transport next (udp_fault bytes)) (carries_icmp f) (λ u. refl) refl)
 transport-same f protocol.Tcp src dst bytes =
     let next = with_tcp_header f src dst bytes in
     same-if (nat_lt (length bytes) 20) (rejected f reason.TooShort) _ (carries_icmp f) refl
-    (same-option (tcp_of src dst false bytes) (λ u. behind next (tcp.header_len bytes) (length (tcp.payload_of bytes))) (rejected_transport next (tcp_fault bytes (length bytes))) (carries_icmp f) (λ u. refl) refl)
+    (same-option (tcp_of src dst false bytes) (λ u. after_header next (tcp.header_len bytes) (length (tcp.payload_of bytes))) (rejected_transport next (tcp_fault bytes (length bytes))) (carries_icmp f) (λ u. refl) refl)
 transport-same f p src dst bytes = refl
 
 -- ---- packets

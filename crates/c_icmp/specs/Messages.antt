@@ -13,7 +13,7 @@ use Rattle.wire_icmp.specs.declared.icmp.header.IcmpHeader.{IcmpHeader}
 use Rattle.c_structs.specs.Addresses.{pair_of}
 use Rattle.c_structs.specs.Captured.{IsCutOf}
 use Rattle.c_structs.specs.Codes.{network_code, transport_code, verdict_code}
-use Rattle.c_structs.specs.FrameFields.{behind}
+use Rattle.c_structs.specs.FrameFields.{after_header}
 use Rattle.c_structs.specs.Headers.{only_if}
 use Rattle.c_structs.specs.Stored.{unchecked}
 use Rattle.c_structs.specs.declared.codes.NetworkKind.TheVariants as network
@@ -59,7 +59,7 @@ icmp_verdict f message =
 -- the fields with those of a message; the payload begins after its header
 abbrev pub with_message : FrameFields → List ℕ → FullFrame
 with_message f message =
-    let next = behind f 8 (f.payload_len - 8) in record {
+    let next = after_header f 8 (f.payload_len - 8) in record {
       fields = record next {
         transport_offset = f.payload_offset;
         transport = transport_code transport.Icmp;

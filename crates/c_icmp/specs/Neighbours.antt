@@ -36,14 +36,14 @@ pub record ReadsNdisc (frame : List ℕ) (v : NdiscRepr) : Type 0 where
   pub carries : CarriesNdisc ip message v
 
 -- the bytes of a hardware address, or zeros
-abbrev pub hardware_octets : Option EthernetAddress → List ℕ
-hardware_octets hardware = option_map_or (λ (h : EthernetAddress). h.0) hardware (replicate 6 0)
+abbrev pub hardware_bytes : Option EthernetAddress → List ℕ
+hardware_bytes hardware = option_map_or (λ (h : EthernetAddress). h.0) hardware (replicate 6 0)
 
 -- the struct of a neighbour discovery value
 abbrev pub ndisc_struct : NdiscRepr → Ndisc
 ndisc_struct (NeighborSolicit target hardware) = record {
   target = addr_of (address.Ipv6 target);
-  hardware = hardware_octets hardware;
+  hardware = hardware_bytes hardware;
   has_hardware = option_map_or (λ h. 1) hardware 0;
   is_advert = 0;
   is_router = 0;
@@ -52,7 +52,7 @@ ndisc_struct (NeighborSolicit target hardware) = record {
 }
 ndisc_struct (NeighborAdvert flags target hardware) = record {
   target = addr_of (address.Ipv6 target);
-  hardware = hardware_octets hardware;
+  hardware = hardware_bytes hardware;
   has_hardware = option_map_or (λ h. 1) hardware 0;
   is_advert = 1;
   is_router = flag flags.router;

@@ -4,7 +4,7 @@ ghost use Rattle.std.specs.Prelude.{◌≡◌, MatchOption};
 ghost use Rattle.ip_wire.specs.Types.{Ipv6};
 ghost use Rattle.wire_ndisc.specs.declared.ndisc.repr.NdiscRepr.{NdiscRepr};
 ghost use Rattle.c_structs.specs.Written.{Fills, IsRead};
-ghost use Rattle.c_icmp.specs.Neighbours.{CarriesNdisc, ReadsNdisc, has_ipv6, hardware_octets, hardware_of, ndisc_failure, ndisc_frame, ndisc_ip, ndisc_struct, ndisc_value};
+ghost use Rattle.c_icmp.specs.Neighbours.{CarriesNdisc, ReadsNdisc, has_ipv6, hardware_bytes, hardware_of, ndisc_failure, ndisc_frame, ndisc_ip, ndisc_struct, ndisc_value};
 
 use crate::read::ICMPV6;
 use crate::types::{FullFrame, Ndisc};
@@ -40,7 +40,7 @@ impl Ndisc {
                 lladdr,
             } => Ndisc {
                 target: Addr::of(IpAddress::Ipv6(*target_addr)),
-                hardware: hardware_octets(*lladdr),
+                hardware: hardware_bytes(*lladdr),
                 has_hardware: u8::from(lladdr.is_some()),
                 is_advert: 0,
                 is_router: 0,
@@ -53,7 +53,7 @@ impl Ndisc {
                 lladdr,
             } => Ndisc {
                 target: Addr::of(IpAddress::Ipv6(*target_addr)),
-                hardware: hardware_octets(*lladdr),
+                hardware: hardware_bytes(*lladdr),
                 has_hardware: u8::from(lladdr.is_some()),
                 is_advert: 1,
                 is_router: u8::from(flags.router),
@@ -96,8 +96,8 @@ impl Ndisc {
 }
 
 // The bytes of a hardware address, or zeros.
-fn hardware_octets(hardware: Option<EthernetAddress>) -> [u8; 6]
-    ensures { result ≡ hardware_octets hardware }
+fn hardware_bytes(hardware: Option<EthernetAddress>) -> [u8; 6]
+    ensures { result ≡ hardware_bytes hardware }
 {
     match hardware {
         Some(address) => {
@@ -129,13 +129,13 @@ fn parse_message(header: &IpRepr, message: &[u8]) -> Option<NdiscRepr>
     ensures { MatchOption result ((v : NdiscRepr) → ¬ CarriesNdisc header.now message.now v) (CarriesNdisc header.now message.now) }
 {
     match header {
-        IpRepr::Ipv6(ip) => parse_behind(ip, message),
+        IpRepr::Ipv6(ip) => parse_after(ip, message),
         IpRepr::Ipv4(_) => None,
     }
 }
 
 // The same after an IPv6 header.
-fn parse_behind(ip: &Ipv6Repr, message: &[u8]) -> Option<NdiscRepr>
+fn parse_after(ip: &Ipv6Repr, message: &[u8]) -> Option<NdiscRepr>
     ensures { MatchOption result ((v : NdiscRepr) → ¬ CarriesNdisc (Ipv6 ip.now) message.now v) (CarriesNdisc (Ipv6 ip.now) message.now) }
 {
     if ip.next_header != IpProtocol::Icmpv6 {

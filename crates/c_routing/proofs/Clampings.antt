@@ -13,7 +13,7 @@ use Rattle.ip_wire.specs.Field.{field, with_range}
 use Rattle.ip_wire.specs.Frame.{ReadsFrame, ReadsPacket, Transport, packet, packet_payload, segment, type_of}
 use Rattle.ip_wire.specs.FrameValue.{transport_of}
 use Rattle.ip_wire.specs.Ip.{ReadsHeader, dst_addr_of, src_addr_of}
-use Rattle.ip_wire.specs.IpAddress.{octets_of}
+use Rattle.ip_wire.specs.IpAddress.{address_bytes}
 use Rattle.ip_wire.specs.Ipv4 as ipv4
 use Rattle.ip_wire.specs.Ipv6 as ipv6
 use Rattle.ip_wire.specs.Packet.{IsPacket, packet_of}
@@ -118,7 +118,7 @@ address-len addr bytes first n is room =
     ap length is ∙ length-take-le (first + n - first) (drop first bytes) (omega (arith, length-drop first bytes, room)) ∙ width
 
 abbrev IsEven : IpAddress → Type 0
-IsEven addr = length (octets_of addr) % 2 ≡ 0
+IsEven addr = length (address_bytes addr) % 2 ≡ 0
 
 even-ends : (choice : Checksum) (bytes : List ℕ) (header : IpRepr) → ReadsPacket (tcp_as choice) bytes header
     → IsEven (src_addr_of header) × IsEven (dst_addr_of header)
@@ -165,8 +165,8 @@ carries : (choice : Checksum) (old new body : List ℕ) (link : EthernetRepr) (h
     → ethernet.Reads old link → link.ethertype ≡ type_of header → ReadsSegment choice body header v payload → CarriesSegment choice new link header v payload
 carries choice old new body link header v payload at reads named inner =
     let front : length (take 14 old) ≡ 14 = length-take-le 14 old reads.whole in
-    let behind : drop 14 new ≡ body = ap (drop 14) at ∙ drop-front (take 14 old) body 14 front in
-    let there : ReadsSegment choice (drop 14 new) header v payload = subst (λ (l : List ℕ). ReadsSegment choice l header v payload) (sym behind) inner in
+    let following : drop 14 new ≡ body = ap (drop 14) at ∙ drop-front (take 14 old) body 14 front in
+    let there : ReadsSegment choice (drop 14 new) header v payload = subst (λ (l : List ℕ). ReadsSegment choice l header v payload) (sym following) inner in
     record {
       reads_header = subst (λ (l : List ℕ). ethernet.Reads l link) (sym at) (link-stays old body link reads);
       reads_carried = (named, there.0, there.1);

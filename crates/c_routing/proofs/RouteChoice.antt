@@ -40,9 +40,9 @@ chosen-at routes blocks addr ip i listed at here it = record {
       let there : j < length routes = omega (arith, before, here) in
       subst₂ (λ m n. m < n) (prefix-at routes blocks j listed there) (prefix-at routes blocks i listed here)
       (it.shorter j before (leads-in (route_at routes j) _ addr ip (block-at routes blocks j listed there) at leads));
-  no_longer = λ j behind there leads.
+  no_longer = λ j following there leads.
       subst₂ (λ m n. m ≤ n) (prefix-at routes blocks j listed there) (prefix-at routes blocks i listed here)
-      (it.no_longer j behind (subst (λ n. j < n) (same-length routes blocks listed) there) (leads-in (route_at routes j) _ addr ip (block-at routes blocks j listed there) at leads));
+      (it.no_longer j following (subst (λ n. j < n) (same-length routes blocks listed) there) (leads-in (route_at routes j) _ addr ip (block-at routes blocks j listed there) at leads));
 }
 
 none-leads : (routes : List Route) (blocks : List IpCidr) (addr : Addr) (ip : IpAddress) → map destinations routes ≡ map Some blocks → ip_of addr ≡ Some ip

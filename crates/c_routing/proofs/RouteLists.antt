@@ -52,8 +52,8 @@ filled-more : (routes : List Route) (blocks : List IpCidr) (nodes : List Node) (
     → IsBlock block → IsFilledTo blocks nodes i → IsFilledTo blocks (slice_set nodes i (node_of block i)) (i + 1)
 filled-more routes blocks nodes i none block listed within room is valid filled k below = elim (cases_lt k i) [
   | inl less ↦ let (other, old) = filled k less in (other, get_or-set_other nodes i k (node_of block i) _ (λ same. absurd (omega (arith, less, same))) ∙ old)
-  | inr behind ↦
-      let same : i ≡ k = omega (arith, below, behind) in
+  | inr following ↦
+      let same : i ≡ k = omega (arith, below, following) in
       let at : Some block ≡ Some (block_at blocks i) = sym is ∙ listed-at routes blocks i none listed within in
       let here : block ≡ block_at blocks i = cc in
       subst (λ n. IsBlock (block_at blocks n) × (node_at (slice_set nodes i (node_of block i)) n ≡ node_of (block_at blocks n) n)) same
@@ -106,10 +106,10 @@ pub written : (routes : List Route) (old made : List Node) (answer : ℤ) → in
 written routes old made answer none same index is =
     let (blocks, listed) = all-listed routes (no-failure _ _ _ none) in
     let front : take (length routes) (made ++ drop (length routes) old) ≡ made = subst (λ n. take n (made ++ drop (length routes) old) ≡ made) same (take-append_seam made _) in
-    let behind : drop (length routes) (made ++ drop (length routes) old) ≡ drop (length routes) old =
+    let following : drop (length routes) (made ++ drop (length routes) old) ≡ drop (length routes) old =
     subst (λ n. drop n (made ++ drop (length routes) old) ≡ drop (length routes) old) same (drop-append_seam made _) in
     subst (λ o. MatchOption o (WritesIndex routes old (made ++ drop (length routes) old) answer) (λ why. (answer ≡ failure_code why) × (made ++ drop (length routes) old ≡ old))) (sym none) (record {
       count = is;
       index = subst (IsIndexOf routes) (sym front) (record { blocks = blocks; listed = listed; index = index blocks listed });
-      behind = behind;
+      following = following;
     })

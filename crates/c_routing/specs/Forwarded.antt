@@ -7,8 +7,8 @@ use Rattle.c_structs.specs.Written.{max_len, within}
 use Rattle.c_routing.specs.Rejections.{of_header, rejection_code}
 
 -- the Ethernet address of six bytes
-abbrev pub station : List ℕ → EthernetAddress
-station octets = record { 0 = octets }
+abbrev pub ethernet_addr : List ℕ → EthernetAddress
+ethernet_addr bytes = record { 0 = bytes }
 
 -- 0 is returned, and the frame is forwarded between the two hosts; or the number of the reason, and the frame is
 -- unchanged

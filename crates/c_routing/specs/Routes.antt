@@ -55,7 +55,7 @@ index_failure routes room =
 pub record WritesIndex (routes : List Route) (old new : List Node) (answer : ℤ) : Type 0 where
   pub count : answer ≡ pos (length routes)
   pub index : IsIndexOf routes (take (length routes) new)
-  pub behind : drop (length routes) new ≡ drop (length routes) old
+  pub following : drop (length routes) new ≡ drop (length routes) old
 
 -- the index is written, or a failure is returned and the nodes are unchanged
 abbrev pub Indexes : List Route → List Node → List Node → ℤ → Type 0

@@ -1,6 +1,6 @@
 //! One hop of a router.
 
-ghost use Rattle.c_routing.specs.Forwarded.{Forwards, station};
+ghost use Rattle.c_routing.specs.Forwarded.{Forwards, ethernet_addr};
 
 use crate::rejections::Rejection;
 use c_structs::MAX_LEN;
@@ -10,7 +10,7 @@ use ip_wire::EthernetAddress;
 /// Forwards the packet of a frame between two stations, in place: one hop less, and new link addresses. Returns 0, or
 /// the number of the reason.
 pub fn forward_frame(frame: &mut [u8], src: &[u8; 6], dst: &[u8; 6]) -> i32
-    ensures { Forwards frame.old frame.new (station src.now) (station dst.now) result }
+    ensures { Forwards frame.old frame.new (ethernet_addr src.now) (ethernet_addr dst.now) result }
 {
     if frame.len() > MAX_LEN {
         return Rejection::NotIp.code();

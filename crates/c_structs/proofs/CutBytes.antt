@@ -5,7 +5,7 @@ use Rattle.std.proofs.lemmas.Grind.{common_steps}
 use Rattle.std.proofs.lemmas.List.{drop-append-le, take-append-le}
 use Rattle.byteorder.specs.Endian.{big_from}
 use Rattle.byteorder.specs.Numbers.{big_from-take}
-use Rattle.ip_wire.specs.Field.{behind, field, span}
+use Rattle.ip_wire.specs.Field.{bits_after, field, span}
 
 -- ---- bytes
 
@@ -18,7 +18,7 @@ field-front bytes rest first width h =
     let word : big_from (first / 8) (span first width) (bytes ++ rest) ≡ big_from (first / 8) (span first width) bytes =
     sym (big_from-take (first / 8) (span first width) (length bytes) (bytes ++ rest) h) ∙ ap (big_from (first / 8) (span first width)) (front bytes rest)
     in
-    ap (λ (n : ℕ). n / 2 ^ behind first width % 2 ^ width) word
+    ap (λ (n : ℕ). n / 2 ^ bits_after first width % 2 ^ width) word
 
 -- a range of the first bytes
 pub range-front : (bytes rest : List ℕ) (from to : ℕ) → from ≤ to → to ≤ length bytes → slice_range (bytes ++ rest) from to ≡ slice_range bytes from to
@@ -36,9 +36,9 @@ past (suc n) (x ∷ xs) ys h =
     ap (λ (l : List ℕ). x ∷ l) (past n xs ys (omega (arith, h))) ∙ ap (λ (k : ℕ). x ∷ xs ++ take k ys) left
 
 -- the rest of a range that ends after the first bytes
-pub range-behind : (bytes rest : List ℕ) (from to : ℕ) → from ≤ length bytes → length bytes ≤ to
+pub range-following : (bytes rest : List ℕ) (from to : ℕ) → from ≤ length bytes → length bytes ≤ to
     → slice_range (bytes ++ rest) from to ≡ drop from bytes ++ take (to - length bytes) rest
-range-behind bytes rest from to h order =
+range-following bytes rest from to h order =
     let size : length (drop from bytes) ≡ length bytes - from = grind (arith, common_steps) in
     let left : to - from - length (drop from bytes) ≡ to - length bytes = omega (arith, size, h, order) in
     let long : length (drop from bytes) ≤ to - from = omega (arith, size, h, order) in

@@ -12,7 +12,7 @@ use Rattle.ip_wire.specs.Ipv4 as ipv4
 use Rattle.ip_wire.specs.Ipv4.{ipv4_of}
 use Rattle.ip_wire.specs.Types.{IpAddress, IpProtocol, Ipv4, Ipv4Repr}
 use Rattle.ip_wire.specs.declared.IpProtocol.TheVariants as protocol
-use Rattle.c_structs.proofs.CutBytes.{field-front, le-false, le-true, longer, lt-false, lt-true, range-behind, range-front}
+use Rattle.c_structs.proofs.CutBytes.{field-front, le-false, le-true, longer, lt-false, lt-true, range-following, range-front}
 use Rattle.c_structs.proofs.CutOf.{IsStart, cut-as, cut-network, ipv4-keeps, same-of}
 use Rattle.c_structs.proofs.CutTcp.{cut-tcp}
 use Rattle.c_structs.proofs.CutUdp.{cut-udp}
@@ -207,7 +207,7 @@ begun f bytes rest fresh h captured cut s =
     let front = drop hl bytes in
     let back = take (tl - length bytes) rest in
     let whole = s.whole in
-    let payload = range-behind bytes rest hl tl captured (omega (arith, cut)) in
+    let payload = range-following bytes rest hl tl captured (omega (arith, cut)) in
     let count : length (front ++ back) ≡ tl - hl = ap length (sym payload) ∙ length-part all hl tl whole in
     let next = with_ipv4_fields f bytes v (tl - hl) in
     let found = some-front f bytes rest (front ++ back) h captured s payload ∙ ap (λ (n : ℕ). carrying (with_ipv4_fields f bytes v n) (ipv4.is_fragment bytes) v (front ++ back)) count in

@@ -11,7 +11,7 @@ use Rattle.ip_wire.specs.Ipv6.{ipv6_of}
 use Rattle.ip_wire.specs.Ipv6Fragment as fragment
 use Rattle.ip_wire.specs.Types.{IpProtocol, Ipv6, Ipv6Repr}
 use Rattle.ip_wire.specs.declared.IpProtocol.TheVariants as protocol
-use Rattle.c_structs.proofs.CutBytes.{field-front, le-false, le-true, longer, lt-false, lt-true, range-behind, range-front}
+use Rattle.c_structs.proofs.CutBytes.{field-front, le-false, le-true, longer, lt-false, lt-true, range-following, range-front}
 use Rattle.c_structs.proofs.CutIpv4.{bool, cut-by, dropped}
 use Rattle.c_structs.proofs.CutOf.{IsStart, cut-as, cut-network, ipv6-keeps, same-of}
 use Rattle.c_structs.specs.Captured.{IsCutOf, before, begun_ipv6, cut_fragment, cut_fragment_by, cut_header, cut_ipv6, cut_transport_by, fragment_header, transport_header}
@@ -172,7 +172,7 @@ begun f bytes rest start h cut whole version =
     let front = drop 40 bytes in
     let back = take (tl - length bytes) rest in
     let s : tested tl (field bytes 0 4) (length all) ≡ true = ap (λ (b : Bool). b && field bytes 0 4 == 6) (le-true tl (length all) whole) ∙ version in
-    let payload = range-behind bytes rest 40 tl h (omega (arith, cut)) in
+    let payload = range-following bytes rest 40 tl h (omega (arith, cut)) in
     let size : tl - 40 ≡ v.payload_len = omega arith in
     let count : length (front ++ back) ≡ v.payload_len = ap length (sym payload) ∙ length-part all 40 tl whole ∙ size in
     let next = with_ipv6_fields f bytes v v.payload_len in

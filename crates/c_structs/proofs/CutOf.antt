@@ -17,7 +17,7 @@ use Rattle.ip_wire.specs.Udp.{udp_of}
 use Rattle.ip_wire.specs.declared.ArpRepr.TheVariants.{EthernetIpv4}
 use Rattle.ip_wire.specs.declared.IpProtocol.TheVariants as protocol
 use Rattle.c_structs.specs.Captured.{IsCutOf, before, network, transport_header}
-use Rattle.c_structs.specs.FrameFields.{arp_fault, behind, ipv4_fault, ipv6_fault, nothing_of, rejected, rejected_transport, tcp_fault, udp_fault, with_arp, with_fragment_by, with_fragment_header, with_ipv4, with_ipv4_header, with_ipv6, with_ipv6_header, with_message, with_payload, with_tcp_header, with_transport_by, with_udp_header}
+use Rattle.c_structs.specs.FrameFields.{arp_fault, after_header, ipv4_fault, ipv6_fault, nothing_of, rejected, rejected_transport, tcp_fault, udp_fault, with_arp, with_fragment_by, with_fragment_header, with_ipv4, with_ipv4_header, with_ipv6, with_ipv6_header, with_message, with_payload, with_tcp_header, with_transport_by, with_udp_header}
 use Rattle.c_structs.specs.declared.codes.Reason.TheVariants as reason
 use Rattle.c_structs.specs.declared.types.Ethernet.{Ethernet}
 use Rattle.c_structs.specs.declared.types.FrameFields.{FrameFields}
@@ -31,19 +31,19 @@ pub cut-as : (f g f2 g2 : FrameFields) → f ≡ f2 → g ≡ g2 → IsCutOf f2 
 cut-as f g f2 g2 a c is = subst (λ h. IsCutOf h g) (sym a) (subst (λ h. IsCutOf f2 h) (sym c) is)
 
 -- the header of a transport follows all that is kept of these structs
-abbrev pub IsBehind : FrameFields → FrameFields → Type 0
-IsBehind f g = before transport_header g ≡ record (before transport_header f) { reason = g.reason; payload_offset = g.payload_offset; payload_len = g.payload_len }
+abbrev pub IsPast : FrameFields → FrameFields → Type 0
+IsPast f g = before transport_header g ≡ record (before transport_header f) { reason = g.reason; payload_offset = g.payload_offset; payload_len = g.payload_len }
 
 -- a transport header is cut
-pub cut-transport : (f g : FrameFields) → f ≡ before transport_header f → IsBehind f g → IsCutOf (rejected f reason.HeaderCut) g
+pub cut-transport : (f g : FrameFields) → f ≡ before transport_header f → IsPast f g → IsCutOf (rejected f reason.HeaderCut) g
 cut-transport f g fresh kept =
     let first : rejected f reason.HeaderCut ≡ record (before transport_header f) { reason = 8 } = ap (λ (h : FrameFields). rejected h reason.HeaderCut) fresh in
     let last = ap (λ (h : FrameFields). record h { reason = 8; payload_offset = f.payload_offset; payload_len = f.payload_len }) kept in
     inr (transport_header, record { reason = refl; fields = first ∙ sym last })
 
-pub behind-choice : {A : Type 0} (o : Option A) (f g h : FrameFields) → IsBehind f g → IsBehind f h → IsBehind f (option_map_or (λ v. g) o h)
-behind-choice None f g h a c = c
-behind-choice (Some x) f g h a c = a
+pub after_header-choice : {A : Type 0} (o : Option A) (f g h : FrameFields) → IsPast f g → IsPast f h → IsPast f (option_map_or (λ v. g) o h)
+after_header-choice None f g h a c = c
+after_header-choice (Some x) f g h a c = a
 
 -- ---- network headers
 
@@ -69,10 +69,10 @@ keeps-if false g h e a c = c
 transport-keeps : (f : FrameFields) (p : IpProtocol) (src dst : IpAddress) (bytes : List ℕ) → (with_transport_by f p src dst bytes).ethernet ≡ f.ethernet
 transport-keeps f protocol.Udp src dst bytes =
     keeps-if (nat_lt (length bytes) 8) (rejected f reason.TooShort) _ f.ethernet refl
-    (keeps-choice (udp_of src dst false bytes) (λ u. behind (with_udp_header f src dst bytes) 8 (length (udp.payload_of bytes))) (rejected_transport (with_udp_header f src dst bytes) (udp_fault bytes)) f.ethernet (λ u. refl) refl)
+    (keeps-choice (udp_of src dst false bytes) (λ u. after_header (with_udp_header f src dst bytes) 8 (length (udp.payload_of bytes))) (rejected_transport (with_udp_header f src dst bytes) (udp_fault bytes)) f.ethernet (λ u. refl) refl)
 transport-keeps f protocol.Tcp src dst bytes =
     keeps-if (nat_lt (length bytes) 20) (rejected f reason.TooShort) _ f.ethernet refl
-    (keeps-choice (tcp_of src dst false bytes) (λ u. behind (with_tcp_header f src dst bytes) (tcp.header_len bytes) (length (tcp.payload_of bytes))) (rejected_transport (with_tcp_header f src dst bytes) (tcp_fault bytes (length bytes))) f.ethernet (λ u. refl) refl)
+    (keeps-choice (tcp_of src dst false bytes) (λ u. after_header (with_tcp_header f src dst bytes) (tcp.header_len bytes) (length (tcp.payload_of bytes))) (rejected_transport (with_tcp_header f src dst bytes) (tcp_fault bytes (length bytes))) f.ethernet (λ u. refl) refl)
 transport-keeps f p src dst bytes = refl
 
 pub ipv4-keeps : (f : FrameFields) (bytes : List ℕ) → (with_ipv4 f bytes).ethernet ≡ f.ethernet

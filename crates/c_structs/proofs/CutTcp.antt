@@ -10,9 +10,9 @@ use Rattle.ip_wire.specs.Types.{IpAddress}
 use Rattle.ip_wire.specs.declared.TcpControl.{TcpControl}
 use Rattle.ip_wire.specs.TcpItems.{Item}
 use Rattle.c_structs.proofs.CutBytes.{field-front, le-false, le-true, longer, lt-false, lt-true, range-front}
-use Rattle.c_structs.proofs.CutOf.{behind-choice, cut-as, cut-transport, same-of}
+use Rattle.c_structs.proofs.CutOf.{after_header-choice, cut-as, cut-transport, same-of}
 use Rattle.c_structs.specs.Captured.{HasHeaders, IsCutOf, before, cut_header, cut_tcp, options, transport_header}
-use Rattle.c_structs.specs.FrameFields.{behind, rejected, rejected_transport, tcp_fault, tcp_values, tcp_verdict, with_tcp, with_tcp_fields, with_tcp_header}
+use Rattle.c_structs.specs.FrameFields.{after_header, rejected, rejected_transport, tcp_fault, tcp_values, tcp_verdict, with_tcp, with_tcp_fields, with_tcp_header}
 use Rattle.c_structs.specs.declared.codes.Reason.{Reason}
 use Rattle.c_structs.specs.declared.codes.Reason.TheVariants as reason
 use Rattle.c_structs.specs.declared.codes.Verdict.{Verdict}
@@ -115,7 +115,7 @@ uncontrolled src dst bytes e =
 
 -- the struct of a segment, by its value and its fault
 abbrev shape : Option TcpHeader → FrameFields → ℕ → ℕ → Reason → FrameFields
-shape o g header_len n why = option_map_or (λ v. behind g header_len n) o (rejected_transport g why)
+shape o g header_len n why = option_map_or (λ v. after_header g header_len n) o (rejected_transport g why)
 
 -- the fault, by the numbers
 abbrev fault-by : ℕ → ℕ → ℕ → ℕ → Option TcpControl → Bool → Reason
@@ -193,7 +193,7 @@ tcp-cut f src dst bytes fresh len =
       | inr more ↦
           cut-as _ _ _ _ (ap (λ (b : Bool). rejected f (if b then reason.TooShort else reason.HeaderCut)) (lt-false f.payload_len 20 (omega (arith, more, len))))
           (ap (λ (b : Bool). if b then rejected f reason.TooShort else g) (lt-false (length bytes) 20 more))
-          (cut-transport f _ fresh (behind-choice (tcp_of src dst false bytes) f _ _ refl refl))
+          (cut-transport f _ fresh (after_header-choice (tcp_of src dst false bytes) f _ _ refl refl))
     ]
 
 -- ---- the cases

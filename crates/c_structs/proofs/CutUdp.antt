@@ -5,7 +5,7 @@ use Rattle.std.proofs.lemmas.List.{take-append-le}
 use Rattle.std.specs.Option.{option_map_or}
 use Rattle.ip_wire.proofs.Layers.{length-part}
 use Rattle.ip_wire.specs.Field.{field}
-use Rattle.ip_wire.specs.IpAddress.{octets_of}
+use Rattle.ip_wire.specs.IpAddress.{address_bytes}
 use Rattle.ip_wire.specs.Types.{IpAddress}
 use Rattle.ip_wire.specs.Udp as udp
 use Rattle.ip_wire.specs.Udp.{udp_of}
@@ -13,10 +13,10 @@ use Rattle.ip_wire.specs.WordSum.{sum_of_bytes}
 use Rattle.ip_wire.specs.declared.IpProtocol.TheVariants as protocol
 use Rattle.wire_checksum.specs.PseudoHeader.{pseudo_header_bytes}
 use Rattle.c_structs.proofs.CutBytes.{field-front, le-false, le-true, longer, lt-false, lt-true, range-front}
-use Rattle.c_structs.proofs.CutOf.{behind-choice, cut-as, cut-transport, same-of}
+use Rattle.c_structs.proofs.CutOf.{after_header-choice, cut-as, cut-transport, same-of}
 use Rattle.c_structs.specs.Captured.{HasHeaders, IsCutOf, before, cut_header, cut_udp, transport_header}
 use Rattle.c_structs.specs.Codes.{verdict_code}
-use Rattle.c_structs.specs.FrameFields.{behind, cut_udp_verdict, rejected, rejected_transport, udp_fault, udp_verdict, with_udp, with_udp_fields, with_udp_header, zero_udp_verdict}
+use Rattle.c_structs.specs.FrameFields.{after_header, cut_udp_verdict, rejected, rejected_transport, udp_fault, udp_verdict, with_udp, with_udp_fields, with_udp_header, zero_udp_verdict}
 use Rattle.c_structs.specs.declared.codes.Reason.TheVariants as reason
 use Rattle.c_structs.specs.declared.codes.Verdict.{Verdict}
 use Rattle.c_structs.specs.declared.codes.Verdict.TheVariants as verdict
@@ -45,12 +45,12 @@ test src dst bytes lengths port a c = rw (a, c) refl
 -- it was captured as a whole, or its length is wrong
 pub udp-whole : (f : FrameFields) (src dst : IpAddress) (bytes : List ℕ) → 8 ≤ length bytes → udp.has_lengths bytes ≡ true
     → with_udp f src dst bytes ≡ (if field bytes 16 16 == 0 then rejected_transport (with_udp_fields f bytes (udp_verdict src dst bytes)) reason.PortZero
-    else behind (with_udp_fields f bytes (udp_verdict src dst bytes)) 8 (length (udp.payload_of bytes)))
+    else after_header (with_udp_fields f bytes (udp_verdict src dst bytes)) 8 (length (udp.payload_of bytes)))
 udp-whole f src dst bytes h lengths = by (field bytes 16 16 == 0) refl
   where
     by : (port : Bool) → (field bytes 16 16 == 0) ≡ port
         → with_udp f src dst bytes ≡ (if port then rejected_transport (with_udp_fields f bytes (udp_verdict src dst bytes)) reason.PortZero
-        else behind (with_udp_fields f bytes (udp_verdict src dst bytes)) 8 (length (udp.payload_of bytes)))
+        else after_header (with_udp_fields f bytes (udp_verdict src dst bytes)) 8 (length (udp.payload_of bytes)))
     by true is = rw (lt-false (length bytes) 8 h, unsound src dst bytes (test src dst bytes true true lengths is), lengths) refl
     by false is = rw (lt-false (length bytes) 8 h, sound src dst bytes (test src dst bytes true false lengths is), lengths) refl
 
@@ -60,7 +60,7 @@ udp-wrong f src dst bytes h lengths = rw (lt-false (length bytes) 8 h, unsound s
 
 -- the struct of a packet whose lengths are right, by whether its port is 0
 abbrev shape : Bool → FrameFields → ℕ → FrameFields
-shape port g n = if port then rejected_transport g reason.PortZero else behind g 8 n
+shape port g n = if port then rejected_transport g reason.PortZero else after_header g 8 n
 
 -- the same packet with more bytes after it
 shape-front : (f : FrameFields) (bytes rest : List ℕ) (v w : Verdict) (n m : ℕ) → 8 ≤ length bytes → v ≡ w → n ≡ m
@@ -72,7 +72,7 @@ abbrev verdict-by : IpAddress → IpAddress → ℕ → List ℕ → ℕ → Ver
 verdict-by src dst sum packet len =
     if sum == 0 then zero_udp_verdict src
     else if udp.packet_sum src dst packet == 65535 then verdict.Right
-    else if sum == sum_of_bytes (pseudo_header_bytes (octets_of src) (octets_of dst) protocol.Udp len) then verdict.LeftToDevice
+    else if sum == sum_of_bytes (pseudo_header_bytes (address_bytes src) (address_bytes dst) protocol.Udp len) then verdict.LeftToDevice
     else verdict.Wrong
 
 verdict-front : (src dst : IpAddress) (bytes rest : List ℕ) → 8 ≤ length bytes → udp.packet_len bytes ≤ length bytes
@@ -150,14 +150,14 @@ udp-cut : (f : FrameFields) (src dst : IpAddress) (bytes : List ℕ) → f ≡ b
 udp-cut f src dst bytes fresh len = elim (cases_lt (length bytes) 8) [
   | inl few ↦
       same-of _ _ (ap (λ (b : Bool). rejected f (if b then reason.TooShort else reason.HeaderCut)) (lt-true f.payload_len 8 (omega (arith, few, len)))
-      ∙ sym (ap (λ (b : Bool). if b then rejected f reason.TooShort else option_map_or (λ u. behind (with_udp_header f src dst bytes) 8 (length (udp.payload_of bytes))) (udp_of src dst false bytes) (rejected_transport (with_udp_header f src dst bytes) (udp_fault bytes))) (lt-true (length bytes) 8 few)))
+      ∙ sym (ap (λ (b : Bool). if b then rejected f reason.TooShort else option_map_or (λ u. after_header (with_udp_header f src dst bytes) 8 (length (udp.payload_of bytes))) (udp_of src dst false bytes) (rejected_transport (with_udp_header f src dst bytes) (udp_fault bytes))) (lt-true (length bytes) 8 few)))
   | inr more ↦
       let next = with_udp_header f src dst bytes in
-      let g = behind next 8 (length (udp.payload_of bytes)) in
+      let g = after_header next 8 (length (udp.payload_of bytes)) in
       let h = rejected_transport next (udp_fault bytes) in
       cut-as _ _ _ _ (ap (λ (b : Bool). rejected f (if b then reason.TooShort else reason.HeaderCut)) (lt-false f.payload_len 8 (omega (arith, more, len))))
       (ap (λ (b : Bool). if b then rejected f reason.TooShort else option_map_or (λ u. g) (udp_of src dst false bytes) h) (lt-false (length bytes) 8 more))
-      (cut-transport f _ fresh (behind-choice (udp_of src dst false bytes) f g h refl refl))
+      (cut-transport f _ fresh (after_header-choice (udp_of src dst false bytes) f g h refl refl))
 ]
 
 -- ---- the packet

@@ -16,10 +16,10 @@ front_filled header old front size room e =
     e ∙ ap (λ rest. header ++ rest) none ∙ grind (arith, common_steps)
 
 -- both are at the front of the slice, if what is carried is at the front of the rest of it
-pub filled-behind : (header inner old front written new : List ℕ) (size len : ℕ) → size ≤ length old → length front ≡ size
+pub filled-after : (header inner old front written new : List ℕ) (size len : ℕ) → size ≤ length old → length front ≡ size
     → front ≡ written → written ≡ header ++ drop size (take size old) → len ≡ length inner → len ≤ length (drop size old) → new ≡ inner ++ drop len (drop size old)
     → (size + len ≡ length (header ++ inner)) × (size + len ≤ length old) × (front ++ new ≡ (header ++ inner) ++ drop (size + len) old)
-filled-behind header inner old front written new size len room f is is_written n fits is_new =
+filled-after header inner old front written new size len room f is is_written n fits is_new =
     let header_is = front_filled header old front size room (is ∙ is_written) in
     (grind (arith, common_steps), grind (arith, common_steps), grind (arith, common_steps))
 
@@ -80,7 +80,7 @@ within-is bytes room =
 -- a front that was written apart is the header, and the rest is unchanged
 pub filled-header : (header old front written rest : List ℕ) (size : ℕ) → front ≡ written → written ≡ header → rest ≡ drop size old
     → front ++ rest ≡ header ++ drop size old
-filled-header header old front written rest size is is_header behind = ap (λ part. part ++ rest) (is ∙ is_header) ∙ ap (λ part. header ++ part) behind
+filled-header header old front written rest size is is_header following = ap (λ part. part ++ rest) (is ∙ is_header) ∙ ap (λ part. header ++ part) following
 
 -- ---- a payload that is copied to its place
 

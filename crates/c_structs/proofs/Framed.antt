@@ -220,12 +220,12 @@ same-part old a k n =
     ap (λ i. take i (drop k (drop a old))) count ∙ ap (λ s. take (a + k + n - (a + k)) s) (drop-drop k a old)
 
 -- what is written after the headers
-pub behind-headers : (F : List ℕ → List ℕ) (headers old front rest new : List ℕ) (a k n : ℕ) → front ≡ headers → rest ≡ drop a old
+pub after-headers : (F : List ℕ → List ℕ) (headers old front rest new : List ℕ) (a k n : ℕ) → front ≡ headers → rest ≡ drop a old
     → new ≡ F (slice_range rest k (k + n)) ++ drop (k + n) rest
     → front ++ new ≡ (headers ++ F (slice_range old (a + k) (a + k + n))) ++ drop (a + k + n) old
-behind-headers F headers old front rest new a k n is behind holds =
+after-headers F headers old front rest new a k n is following holds =
     let inner : slice_range (drop a old) k (k + n) ≡ slice_range old (a + k) (a + k + n) = same-part old a k n in
     let last : drop (k + n) (drop a old) ≡ drop (a + k + n) old = drop-drop (k + n) a old ∙ ap (λ i. drop i old) (omega arith) in
-    let whole = holds ∙ ap (λ s. F (slice_range s k (k + n)) ++ drop (k + n) s) behind
+    let whole = holds ∙ ap (λ s. F (slice_range s k (k + n)) ++ drop (k + n) s) following
     ∙ ap (λ s. F s ++ drop (k + n) (drop a old)) inner ∙ ap (λ s. F (slice_range old (a + k) (a + k + n)) ++ s) last in
     ap (λ s. s ++ new) is ∙ ap (λ s. headers ++ s) whole ∙ sym (append_assoc headers (F (slice_range old (a + k) (a + k + n))) (drop (a + k + n) old))

@@ -18,7 +18,7 @@ use Rattle.ip_wire.specs.declared.EthernetProtocol.TheVariants as ethertype
 use Rattle.ip_wire.specs.declared.IpProtocol.TheVariants as protocol
 use Rattle.c_structs.proofs.FieldsOf.{packet_fields_of-some}
 use Rattle.c_structs.proofs.StoredHeaders.{fields_of-linked}
-use Rattle.c_structs.specs.FrameFields.{bare_of, behind, fields_of, ipv4_fault, ipv6_fault, packet_fields_of, rejected, rejected_transport, tcp_fault, udp_fault, with_carried, with_fragment_by, with_fragment_header, with_ipv4, with_ipv4_header, with_ipv6, with_ipv6_header, with_packet, with_payload, with_tcp, with_tcp_header, with_transport_by, with_udp, with_udp_header}
+use Rattle.c_structs.specs.FrameFields.{bare_of, after_header, fields_of, ipv4_fault, ipv6_fault, packet_fields_of, rejected, rejected_transport, tcp_fault, udp_fault, with_carried, with_fragment_by, with_fragment_header, with_ipv4, with_ipv4_header, with_ipv6, with_ipv6_header, with_packet, with_payload, with_tcp, with_tcp_header, with_transport_by, with_udp, with_udp_header}
 use Rattle.c_structs.specs.Stored.{IsTypeOf, in_frame, linked}
 use Rattle.c_structs.specs.declared.codes.Reason.TheVariants as reason
 use Rattle.c_structs.specs.declared.types.FrameFields.{FrameFields}
@@ -35,10 +35,10 @@ chosen-by v None g g2 h h2 a c = c
 chosen-by v (Some x) g g2 h h2 a c = a x
 
 -- a header further on
-stepped : (v : EthernetRepr) (f : FrameFields) (header_len len : ℕ) → behind (in_frame v f) header_len len ≡ in_frame v (behind f header_len len)
+stepped : (v : EthernetRepr) (f : FrameFields) (header_len len : ℕ) → after_header (in_frame v f) header_len len ≡ in_frame v (after_header f header_len len)
 stepped v f header_len len =
     let same : f.payload_offset + 14 + header_len ≡ f.payload_offset + header_len + 14 = omega arith in
-    ap (λ (n : ℕ). record (in_frame v (behind f header_len len)) { payload_offset = n }) same
+    ap (λ (n : ℕ). record (in_frame v (after_header f header_len len)) { payload_offset = n }) same
 
 -- ---- UDP and TCP
 
@@ -46,14 +46,14 @@ udp-in : (v : EthernetRepr) (f : FrameFields) (src dst : IpAddress) (bytes : Lis
 udp-in v f src dst bytes =
     let next = with_udp_header f src dst bytes in
     chosen v (nat_lt (length bytes) 8) (rejected f reason.TooShort) _ _ _ refl
-    (chosen-by v (udp_of src dst false bytes) (λ u. behind next 8 (length (udp.payload_of bytes))) _ (rejected_transport next (udp_fault bytes)) _
+    (chosen-by v (udp_of src dst false bytes) (λ u. after_header next 8 (length (udp.payload_of bytes))) _ (rejected_transport next (udp_fault bytes)) _
     (λ u. stepped v next 8 (length (udp.payload_of bytes))) refl)
 
 tcp-in : (v : EthernetRepr) (f : FrameFields) (src dst : IpAddress) (bytes : List ℕ) → with_tcp (in_frame v f) src dst bytes ≡ in_frame v (with_tcp f src dst bytes)
 tcp-in v f src dst bytes =
     let next = with_tcp_header f src dst bytes in
     chosen v (nat_lt (length bytes) 20) (rejected f reason.TooShort) _ _ _ refl
-    (chosen-by v (tcp_of src dst false bytes) (λ u. behind next (tcp.header_len bytes) (length (tcp.payload_of bytes))) _ (rejected_transport next (tcp_fault bytes (length bytes))) _
+    (chosen-by v (tcp_of src dst false bytes) (λ u. after_header next (tcp.header_len bytes) (length (tcp.payload_of bytes))) _ (rejected_transport next (tcp_fault bytes (length bytes))) _
     (λ u. stepped v next (tcp.header_len bytes) (length (tcp.payload_of bytes))) refl)
 
 transport-in : (v : EthernetRepr) (f : FrameFields) (p : IpProtocol) (src dst : IpAddress) (bytes : List ℕ)
@@ -121,7 +121,7 @@ pub frame-packet : (frame : List ℕ) (v : EthernetRepr) → ethernet.Reads fram
     → fields_of frame ≡ in_frame v (packet_fields_of (drop 14 frame))
 frame-packet frame v r is =
     let bytes = drop 14 frame in
-    let alone = packet_fields_of-some bytes (not-empty v.ethertype bytes is) in
+    let single = packet_fields_of-some bytes (not-empty v.ethertype bytes is) in
     let start : linked frame v ≡ in_frame v (bare_of (length bytes)) = refl in
     fields_of-linked frame v r ∙ ap (λ (f : FrameFields). with_carried f v.ethertype bytes) start ∙ carried-in v (bare_of (length bytes)) v.ethertype bytes is
-    ∙ ap (in_frame v) (sym alone)
+    ∙ ap (in_frame v) (sym single)

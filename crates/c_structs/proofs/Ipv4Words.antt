@@ -11,7 +11,7 @@ use Rattle.c_structs.specs.Headers.{is_yes, with_ipv4_fields}
 use Rattle.c_structs.specs.Written.{flag}
 use Rattle.c_structs.specs.declared.types.Ip.{Ip}
 use Rattle.wire_addr.proofs.Numbers.{from_be_bytes_4}
-use Rattle.wire_addr.specs.Octets.{AreOctets}
+use Rattle.wire_addr.specs.Bytes.{IsByteArray}
 use Rattle.wire_addr.specs.Prefix as address
 use Rattle.wire_checksum.specs.WordSum.{sum_of_bytes}
 
@@ -25,7 +25,7 @@ spelled n a b c d i j k l e =
     rw (a_is, b_is, c_is, d_is) refl
 
 -- the big-endian bytes of an address's number
-address-bytes : (n : ℕ) (octets : List ℕ) → n ≡ address.number_of octets → AreOctets 4 octets → big_bytes 4 n ≡ octets
+address-bytes : (n : ℕ) (octets : List ℕ) → n ≡ address.number_of octets → IsByteArray 4 octets → big_bytes 4 n ≡ octets
 address-bytes n octets is are = be_bytes_4 octets n are.0 are.1 (is ∙ sym (from_be_bytes_4 octets are.0))
 
 flag-small : (b : Bool) → flag b < 2
@@ -41,7 +41,7 @@ pub ipv4-words : (h : Ip) (v : Ipv4Repr) (w0 w1 w2 w3 w4 : ℕ)
     → w0 ≡ (17664 + (4 * h.dscp + h.ecn)) * 65536 + (20 + v.payload_len)
     → w1 ≡ h.ident * 65536 + flag (is_yes h.dont_fragment) * 16384 + flag (is_yes h.more_fragments) * 8192 + h.fragment_offset / 8
     → w2 ≡ v.hop_limit * 16777216 + number_of v.next_header * 65536
-    → w3 ≡ address.number_of v.src_addr → AreOctets 4 v.src_addr → w4 ≡ address.number_of v.dst_addr → AreOctets 4 v.dst_addr
+    → w3 ≡ address.number_of v.src_addr → IsByteArray 4 v.src_addr → w4 ≡ address.number_of v.dst_addr → IsByteArray 4 v.dst_addr
     → flat_map (big_bytes 4) (w0 ∷ w1 ∷ w2 ∷ w3 ∷ w4 ∷ []) ≡ with_ipv4_fields h (bytes_of v false)
 ipv4-words h v w0 w1 w2 w3 w4 dscp ecn ident fragment payload hops protocol is0 is1 is2 is3 src is4 dst =
     let bytes = with_ipv4_fields h (bytes_of v false) in

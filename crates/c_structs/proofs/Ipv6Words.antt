@@ -4,7 +4,7 @@ use Rattle.byteorder.specs.Endian.{big_bytes, big_number}
 use Rattle.ip_wire.specs.Ipv6.{bytes_of}
 use Rattle.ip_wire.specs.Protocol.{number_of}
 use Rattle.ip_wire.specs.declared.Ipv6Repr.{Ipv6Repr}
-use Rattle.wire_addr.specs.Octets.{AreOctets}
+use Rattle.wire_addr.specs.Bytes.{IsByteArray}
 use Rattle.wire_field.proofs.Cells.{cells-all}
 use Rattle.c_structs.specs.Headers.{with_ipv6_fields}
 use Rattle.c_structs.specs.declared.types.Ip.{Ip}
@@ -28,7 +28,7 @@ both : (a b p q : List ℕ) → a ≡ p → b ≡ q → a ++ b ≡ p ++ q
 both a b p q i j = rw (i, j) refl
 
 -- the numbers of the halves of an address have its bytes
-halves : (octets : List ℕ) (m n : ℕ) → AreOctets 16 octets → m ≡ big_number 8 (take 8 octets) → n ≡ big_number 8 (take 8 (drop 8 octets)) → big_bytes 8 m ++ big_bytes 8 n ≡ octets
+halves : (octets : List ℕ) (m n : ℕ) → IsByteArray 16 octets → m ≡ big_number 8 (take 8 octets) → n ≡ big_number 8 (take 8 (drop 8 octets)) → big_bytes 8 m ++ big_bytes 8 n ≡ octets
 halves octets m n are i j =
     let x = slice_index octets in
     let h = are.1 in
@@ -51,8 +51,8 @@ joined a b c d e front src dst i j k = rw (← j, ← k, i, append-nil e, append
 pub ipv6-words : (h : Ip) (v : Ipv6Repr) (w0 w1 w2 w3 w4 : ℕ)
     → h.dscp < 64 → h.ecn < 4 → h.flow_label < 1048576 → v.payload_len ≤ 65535 → v.hop_limit < 256 → number_of v.next_header < 256
     → w0 ≡ (1610612736 + (4 * h.dscp + h.ecn) * 1048576 + h.flow_label) * 4294967296 + (v.payload_len * 65536 + number_of v.next_header * 256 + v.hop_limit)
-    → AreOctets 16 v.src_addr → w1 ≡ big_number 8 (take 8 v.src_addr) → w2 ≡ big_number 8 (take 8 (drop 8 v.src_addr))
-    → AreOctets 16 v.dst_addr → w3 ≡ big_number 8 (take 8 v.dst_addr) → w4 ≡ big_number 8 (take 8 (drop 8 v.dst_addr))
+    → IsByteArray 16 v.src_addr → w1 ≡ big_number 8 (take 8 v.src_addr) → w2 ≡ big_number 8 (take 8 (drop 8 v.src_addr))
+    → IsByteArray 16 v.dst_addr → w3 ≡ big_number 8 (take 8 v.dst_addr) → w4 ≡ big_number 8 (take 8 (drop 8 v.dst_addr))
     → flat_map (big_bytes 8) (w0 ∷ w1 ∷ w2 ∷ w3 ∷ w4 ∷ []) ≡ with_ipv6_fields h (bytes_of v)
 ipv6-words h v w0 w1 w2 w3 w4 dscp ecn flow payload hops protocol is0 src is1 is2 dst is3 is4 =
     let service = 4 * h.dscp + h.ecn in

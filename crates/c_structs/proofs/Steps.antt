@@ -22,18 +22,18 @@ looked-for kind rest at old some =
     let other : (kind == 0) ≡ false = grind (arith, nat_tests, some) in
     ap (λ b. if b then (pos 1, place_at at 0 1) else found_at at old (first_item (kind ∷ rest))) other
 
-no-mark : (o : TcpOption) (kind : ℕ) (rest behind : List ℕ) → Begins o (kind ∷ rest) behind → kind ≢ 0 → o ≡ EndOfList → ⊥
-no-mark o kind rest behind h some e =
-    let mark : kind ∷ rest ≡ 0 ∷ behind = subst (λ o. Begins o (kind ∷ rest) behind) e h in some (ap (λ l. slice_index l 0) mark)
+no-mark : (o : TcpOption) (kind : ℕ) (rest following : List ℕ) → Begins o (kind ∷ rest) following → kind ≢ 0 → o ≡ EndOfList → ⊥
+no-mark o kind rest following h some e =
+    let mark : kind ∷ rest ≡ 0 ∷ following = subst (λ o. Begins o (kind ∷ rest) following) e h in some (ap (λ l. slice_index l 0) mark)
 
-pub item_steps : (o : TcpOption) (bytes behind : List ℕ) (at : ℕ) (old : TcpOptionPlace) → Begins o bytes behind → slice_index bytes 0 ≢ 0 → 0 < length bytes
-    → step_to bytes at old ≡ (pos 1, place_at at (slice_index bytes 0) (length bytes - length behind))
-item_steps o [] behind at old h some there = absurd (omega (arith, there))
-item_steps o (kind ∷ rest) behind at old h some there =
-    let (i, is, reading, joined) = item_read o (kind ∷ rest) behind h (no-mark o kind rest behind h some) in
-    let found = Leads-first_item (kind ∷ rest) i behind (record { is = is; joined = joined }) in
-    let same : i.kind ≡ kind = sym (head-text i kind rest behind joined) in
-    let len : length (text i) ≡ length (kind ∷ rest) - length behind = omega (arith, ap length joined, length-append (text i) behind) in
+pub item_steps : (o : TcpOption) (bytes following : List ℕ) (at : ℕ) (old : TcpOptionPlace) → Begins o bytes following → slice_index bytes 0 ≢ 0 → 0 < length bytes
+    → step_to bytes at old ≡ (pos 1, place_at at (slice_index bytes 0) (length bytes - length following))
+item_steps o [] following at old h some there = absurd (omega (arith, there))
+item_steps o (kind ∷ rest) following at old h some there =
+    let (i, is, reading, joined) = item_read o (kind ∷ rest) following h (no-mark o kind rest following h some) in
+    let found = Leads-first_item (kind ∷ rest) i following (record { is = is; joined = joined }) in
+    let same : i.kind ≡ kind = sym (head-text i kind rest following joined) in
+    let len : length (text i) ≡ length (kind ∷ rest) - length following = omega (arith, ap length joined, length-append (text i) following) in
     looked-for kind rest at old some ∙ ap (found_at at old) found
     ∙ ap (λ k. (pos 1, place_at at k (length (text i)))) same ∙ ap (λ n. (pos 1, place_at at kind n)) len
 
@@ -41,4 +41,4 @@ pub nothing_steps : (bytes : List ℕ) (at : ℕ) (old : TcpOptionPlace) → Beg
     → step_to bytes at old ≡ (negsuc 0, old)
 nothing_steps [] at old h some there = absurd (omega (arith, there))
 nothing_steps (kind ∷ rest) at old h some there =
-    looked-for kind rest at old some ∙ ap (found_at at old) (first_item-None (kind ∷ rest) (λ i behind l. h.no_item i behind l.is l.joined))
+    looked-for kind rest at old some ∙ ap (found_at at old) (first_item-None (kind ∷ rest) (λ i following l. h.no_item i following l.is l.joined))

@@ -29,7 +29,7 @@ use Rattle.ip_wire.specs.declared.ArpRepr.TheVariants.{EthernetIpv4}
 use Rattle.c_structs.proofs.StoredFrame.{chosen-network, fragment-network, with_carried-choice, with_carried-ipv4, with_carried-ipv6}
 use Rattle.c_structs.proofs.StoredHeaders.{fields_of-linked, first-chosen, is-headed, rest-found}
 use Rattle.c_structs.specs.Codes.{reason_code}
-use Rattle.c_structs.specs.FrameFields.{arp_fault, behind, fields_of, ipv4_fault, ipv6_fault, rejected, rejected_transport, tcp_fault, udp_fault, with_arp, with_carried, with_fragment_by, with_ipv4, with_ipv4_header, with_ipv6, with_ipv6_header, with_message, with_payload, with_tcp_header, with_transport_by, with_udp_header}
+use Rattle.c_structs.specs.FrameFields.{arp_fault, after_header, fields_of, ipv4_fault, ipv6_fault, rejected, rejected_transport, tcp_fault, udp_fault, with_arp, with_carried, with_fragment_by, with_ipv4, with_ipv4_header, with_ipv6, with_ipv6_header, with_message, with_payload, with_tcp_header, with_transport_by, with_udp_header}
 use Rattle.c_structs.specs.Stored.{StoresFragment, StoresRejected, StoresRejectedBy, StoresUnread, headed, linked, network_fault, unchecked}
 use Rattle.c_structs.specs.Written.{flag}
 use Rattle.c_structs.specs.declared.codes.Reason.{Reason}
@@ -107,10 +107,10 @@ chosen-read false (Some a) f g h why fault read = (a, refl)
 between-only : (f : FrameFields) (p : IpProtocol) (src dst : IpAddress) (bytes : List ℕ) → (with_transport_by f p src dst bytes).reason ≡ 0
     → (t : Transport) × ReadsTransportBy unchecked p src dst bytes t
 between-only f protocol.Udp src dst bytes read =
-    let (u, is) = chosen-read (nat_lt (length bytes) 8) (udp_of src dst false bytes) f (behind (with_udp_header f src dst bytes) 8 (length (udp.payload_of bytes))) (with_udp_header f src dst bytes) (udp_fault bytes) (udp-faulty bytes) read in
+    let (u, is) = chosen-read (nat_lt (length bytes) 8) (udp_of src dst false bytes) f (after_header (with_udp_header f src dst bytes) 8 (length (udp.payload_of bytes))) (with_udp_header f src dst bytes) (udp_fault bytes) (udp-faulty bytes) read in
     (datagram u (udp.payload_of bytes), (refl, (udp_of-Reads src dst false bytes u).0 is))
 between-only f protocol.Tcp src dst bytes read =
-    let (u, is) = chosen-read (nat_lt (length bytes) 20) (tcp_of src dst false bytes) f (behind (with_tcp_header f src dst bytes) (tcp_bytes.header_len bytes) (length (tcp_bytes.payload_of bytes))) (with_tcp_header f src dst bytes) (tcp_fault bytes (length bytes)) (tcp-faulty bytes (length bytes)) read in
+    let (u, is) = chosen-read (nat_lt (length bytes) 20) (tcp_of src dst false bytes) f (after_header (with_tcp_header f src dst bytes) (tcp_bytes.header_len bytes) (length (tcp_bytes.payload_of bytes))) (with_tcp_header f src dst bytes) (tcp_fault bytes (length bytes)) (tcp-faulty bytes (length bytes)) read in
     (segment u (tcp_bytes.payload_of bytes), (refl, (tcp_of-Reads src dst false bytes u).0 is))
 between-only f p src dst bytes read = (other bytes, ((λ is. absurd (cc)), (λ is. absurd (cc)), refl))
 
@@ -215,14 +215,14 @@ is-rejected : (f : FrameFields) (p : IpProtocol) (src dst : IpAddress) (bytes : 
     → IsRejected f (with_transport_by f p src dst bytes) p src dst bytes
 is-rejected f protocol.Udp src dst bytes read fault =
     let next = with_udp_header f src dst bytes in
-    let is = rejected-by (nat_lt (length bytes) 8) (udp_of src dst false bytes) (rejected f reason.TooShort) (behind next 8 (length (udp.payload_of bytes))) (rejected_transport next (udp_fault bytes)) read fault in
+    let is = rejected-by (nat_lt (length bytes) 8) (udp_of src dst false bytes) (rejected f reason.TooShort) (after_header next 8 (length (udp.payload_of bytes))) (rejected_transport next (udp_fault bytes)) read fault in
     record {
       stores = is;
       keeps = rw is (kept-payload (nat_lt (length bytes) 8) f _ _ (record { part = refl; ip = refl; offset = refl; len = refl }) (record { part = refl; ip = refl; offset = refl; len = refl }));
     }
 is-rejected f protocol.Tcp src dst bytes read fault =
     let next = with_tcp_header f src dst bytes in
-    let is = rejected-by (nat_lt (length bytes) 20) (tcp_of src dst false bytes) (rejected f reason.TooShort) (behind next (tcp_bytes.header_len bytes) (length (tcp_bytes.payload_of bytes))) (rejected_transport next (tcp_fault bytes (length bytes))) read fault in
+    let is = rejected-by (nat_lt (length bytes) 20) (tcp_of src dst false bytes) (rejected f reason.TooShort) (after_header next (tcp_bytes.header_len bytes) (length (tcp_bytes.payload_of bytes))) (rejected_transport next (tcp_fault bytes (length bytes))) read fault in
     record {
       stores = is;
       keeps = rw is (kept-payload (nat_lt (length bytes) 20) f _ _ (record { part = refl; ip = refl; offset = refl; len = refl }) (record { part = refl; ip = refl; offset = refl; len = refl }));
@@ -240,10 +240,10 @@ rejected-whole f g true read fault = absurd (fault read)
 rejected-whole f g false read fault = refl
 
 -- the struct of a packet that is no fragment and whose transport header is rejected
-stores-behind : (frame : List ℕ) (v : EthernetRepr) (w : IpRepr) → ReadsHeader (drop 14 frame) false w → let g = with_payload (headed frame v w) w (packet_payload w (drop 14 frame)) in
+stores-after_header : (frame : List ℕ) (v : EthernetRepr) (w : IpRepr) → ReadsHeader (drop 14 frame) false w → let g = with_payload (headed frame v w) w (packet_payload w (drop 14 frame)) in
     g.reason ≢ 0 → (StoresRejectedBy (next_header_of w) g (headed frame v w) (src_addr_of w) (dst_addr_of w) (packet_payload w (drop 14 frame)) → (headed frame v w).is_fragment ≡ 0)
     → StoresRejected g frame v w
-stores-behind frame v w r fault part =
+stores-after_header frame v w r fault part =
     let h = is-headed frame v w r in
     let d = is-rejected (headed frame v w) (next_header_of w) (src_addr_of w) (dst_addr_of w) (packet_payload w (drop 14 frame)) h.reason fault in
     record {
@@ -266,13 +266,13 @@ stores-rejected frame v (Ipv4 w) link type r fault =
     let chosen : with_carried f v.ethertype bytes ≡ (if ipv4.is_fragment bytes then g else inner) = with_carried-choice f v.ethertype bytes w type read in
     let whole = rejected-whole g inner (ipv4.is_fragment bytes) refl (rw (is ∙ chosen) at fault) in
     let all = is ∙ with_carried-ipv4 f v.ethertype bytes w type read whole in
-    rw all (stores-behind frame v (Ipv4 w) r (rw all at fault) (λ stores. ap flag whole))
+    rw all (stores-after_header frame v (Ipv4 w) r (rw all at fault) (λ stores. ap flag whole))
 stores-rejected frame v (Ipv6 w) link type r fault =
     let bytes = drop 14 frame in
     let f = with_ipv6_header (linked frame v) bytes w in
     let read = (ipv6_of-Reads bytes w).1 r in
     let all = fields_of-linked frame v link ∙ with_carried-ipv6 (linked frame v) v.ethertype bytes w type read in
-    rw all (stores-behind frame v (Ipv6 w) r (rw all at fault) (λ stores. ap (λ (g : FrameFields). g.is_fragment) (rejected-part f _ _ w.next_header _ _ _ (ipv6.payload_of bytes) stores)))
+    rw all (stores-after_header frame v (Ipv6 w) r (rw all at fault) (λ stores. ap (λ (g : FrameFields). g.is_fragment) (rejected-part f _ _ w.next_header _ _ _ (ipv6.payload_of bytes) stores)))
 
 -- ---- a rejected network header, or an unknown type
 
@@ -283,8 +283,8 @@ kept-network false None f g h why a c = c
 kept-network false (Some v) f g h why a c = a
 
 between-network : (f : FrameFields) (p : IpProtocol) (src dst : IpAddress) (bytes : List ℕ) → (with_transport_by f p src dst bytes).network ≡ f.network
-between-network f protocol.Udp src dst bytes = kept-network (nat_lt (length bytes) 8) (udp_of src dst false bytes) f (behind (with_udp_header f src dst bytes) 8 (length (udp.payload_of bytes))) (with_udp_header f src dst bytes) (udp_fault bytes) refl refl
-between-network f protocol.Tcp src dst bytes = kept-network (nat_lt (length bytes) 20) (tcp_of src dst false bytes) f (behind (with_tcp_header f src dst bytes) (tcp_bytes.header_len bytes) (length (tcp_bytes.payload_of bytes))) (with_tcp_header f src dst bytes) (tcp_fault bytes (length bytes)) refl refl
+between-network f protocol.Udp src dst bytes = kept-network (nat_lt (length bytes) 8) (udp_of src dst false bytes) f (after_header (with_udp_header f src dst bytes) 8 (length (udp.payload_of bytes))) (with_udp_header f src dst bytes) (udp_fault bytes) refl refl
+between-network f protocol.Tcp src dst bytes = kept-network (nat_lt (length bytes) 20) (tcp_of src dst false bytes) f (after_header (with_tcp_header f src dst bytes) (tcp_bytes.header_len bytes) (length (tcp_bytes.payload_of bytes))) (with_tcp_header f src dst bytes) (tcp_fault bytes (length bytes)) refl refl
 between-network f p src dst bytes = refl
 
 arp-network : (f : FrameFields) (w : ArpRepr) → (with_message f w).network ≡ 0 → ⊥

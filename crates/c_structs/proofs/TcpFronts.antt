@@ -22,8 +22,8 @@ segment-parts h o p q size payload is most seq ack =
 -- the front that was made for the rest of the segment precedes it, and what follows it is unchanged
 pub front-written : (C : List ℕ → List ℕ) (start front rest whole tail o1 new : List ℕ) → front ++ rest ≡ C (start ++ rest) → start ++ rest ≡ whole
     → drop 20 o1 ≡ rest ++ tail → new ≡ front ++ drop 20 o1 → new ≡ C whole ++ tail
-front-written C start front rest whole tail o1 new made is behind holds =
-    holds ∙ ap (λ s. front ++ s) behind ∙ sym (append_assoc front rest tail) ∙ ap (λ s. s ++ tail) (made ∙ ap C is)
+front-written C start front rest whole tail o1 new made is following holds =
+    holds ∙ ap (λ s. front ++ s) following ∙ sym (append_assoc front rest tail) ∙ ap (λ s. s ++ tail) (made ∙ ap C is)
 
 -- the options follow the first 20 bytes
 pub options-there : (old o1 options : List ℕ) (size : ℕ) → 20 ≤ length old → o1 ≡ with_range old 20 size options → drop 20 o1 ≡ options ++ drop size old
@@ -45,9 +45,9 @@ rest-here old o1 options size n long is =
     let inner : take (length options + n) (options ++ drop size old) ≡ options ++ take n (drop size old) = take-options options (drop size old) n in
     ap (λ s. take (size + n - 20) s) is ∙ ap (λ k. take k (options ++ drop size old)) count ∙ inner ∙ ap (λ k. options ++ take k (drop size old)) (sym same)
 
-pub behind-here : (old o1 options : List ℕ) (size n : ℕ) → drop 20 o1 ≡ options ++ drop size old
+pub following-here : (old o1 options : List ℕ) (size n : ℕ) → drop 20 o1 ≡ options ++ drop size old
     → drop 20 o1 ≡ (options ++ slice_range old size (size + n)) ++ drop (size + n) old
-behind-here old o1 options size n is =
+following-here old o1 options size n is =
     let parts : drop size old ≡ slice_range old size (size + n) ++ drop (size + n) old =
     let count : size + n - size ≡ n = omega arith in
     let last : drop n (drop size old) ≡ drop (size + n) old = drop-drop n size old ∙ ap (λ k. drop k old) (omega arith) in

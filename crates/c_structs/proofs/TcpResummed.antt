@@ -8,7 +8,7 @@ use Rattle.wire_checksum.proofs.Updated.{stays_computed}
 use Rattle.wire_checksum.proofs.WordLists.{sum-words-append, sum-words-split}
 use Rattle.wire_checksum.specs.PseudoHeader.{with_pseudo_header}
 use Rattle.wire_checksum.specs.WordSum.{residue, words}
-use Rattle.wire_ends.specs.IpAddress.{octets_of}
+use Rattle.wire_ends.specs.IpAddress.{address_bytes}
 use Rattle.wire_ends.specs.declared.ip_address.IpAddress.{IpAddress}
 use Rattle.wire_ends.specs.declared.ip_protocol.IpProtocol.TheVariants as protocol
 use Rattle.wire_field.specs.Field.{with_field}
@@ -35,10 +35,10 @@ joined a b h l p = apart (a + b + 6 + p) h l ∙ ap residue (omega arith)
 resummed-segment : (v : TcpHeader) (src dst : IpAddress) (bytes p : List ℕ) → AreWords src dst → Reads bytes src dst true v p
     → resummed (take (header_len bytes) bytes) (length bytes) (header_bytes v 0) (length (segment_with v p 0)) ≡ 65535 - segment_sum src dst (segment_with v p 0)
 resummed-segment v src dst bytes p w r =
-    let s = w.src_octets in
-    let d = w.dst_octets in
-    let a = sum (words (octets_of src)) in
-    let b = sum (words (octets_of dst)) in
+    let s = w.src_bytes in
+    let d = w.dst_bytes in
+    let a = sum (words (address_bytes src)) in
+    let b = sum (words (address_bytes dst)) in
     let k = sum (words p) in
     let n = header_len bytes in
     let h = sum (words (take n bytes)) in

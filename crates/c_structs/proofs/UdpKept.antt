@@ -9,7 +9,7 @@ use Rattle.wire_checksum.proofs.Residues.{residue-bound, residue-quotient}
 use Rattle.wire_checksum.proofs.WordLists.{sum-words-append}
 use Rattle.wire_checksum.specs.PseudoHeader.{pseudo_header_bytes, with_pseudo_header}
 use Rattle.wire_checksum.specs.WordSum.{residue, words}
-use Rattle.wire_ends.specs.IpAddress.{octets_of}
+use Rattle.wire_ends.specs.IpAddress.{address_bytes}
 use Rattle.wire_ends.specs.declared.ip_address.IpAddress.{IpAddress}
 use Rattle.wire_ends.specs.declared.ip_protocol.IpProtocol.TheVariants as protocol
 use Rattle.wire_field.proofs.Cells.{cells-drop}
@@ -38,9 +38,9 @@ sum-words-header v len checksum fits = omega arith
 sum-words-checksum : (v : UdpRepr) (src dst : IpAddress) (payload : List ℕ) (checksum : ℕ) → AreWords src dst → checksum < 65536
     → sum (words (with_pseudo_header src dst protocol.Udp (packet_with v payload checksum))) ≡ sum (words (with_pseudo_header src dst protocol.Udp (packet_with v payload 0))) + checksum
 sum-words-checksum v src dst payload checksum whole fits =
-    let s = whole.src_octets in
-    let d = whole.dst_octets in
-    let header = pseudo_header_bytes (octets_of src) (octets_of dst) protocol.Udp (length (packet_with v payload 0)) in
+    let s = whole.src_bytes in
+    let d = whole.dst_bytes in
+    let header = pseudo_header_bytes (address_bytes src) (address_bytes dst) protocol.Udp (length (packet_with v payload 0)) in
     let even : length header % 2 ≡ 0 = simp length-append (omega arith) in
     sum-words-append header (packet_with v payload checksum) even
     ∙ omega (

@@ -40,8 +40,8 @@ abbrev pub block_struct : IpCidr → Block
 block_struct v = record { addr = addr_of (block_address v); prefix_len = block_prefix_len v }
 
 -- the bytes of an Ethernet address
-abbrev pub ethernet_octets : EthernetAddress → List ℕ
-ethernet_octets v = v.0
+abbrev pub ethernet_bytes : EthernetAddress → List ℕ
+ethernet_bytes v = v.0
 
 -- ---- values of structs
 

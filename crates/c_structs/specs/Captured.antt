@@ -15,7 +15,7 @@ use Rattle.ip_wire.specs.Types.{EthernetProtocol, EthernetRepr, IpAddress, IpPro
 use Rattle.ip_wire.specs.declared.EthernetProtocol.TheVariants as ethertype
 use Rattle.ip_wire.specs.declared.IpProtocol.TheVariants as protocol
 use Rattle.c_structs.specs.Codes.{reason_code, transport_code, verdict_code}
-use Rattle.c_structs.specs.FrameFields.{bare_of, behind, cut_udp_verdict, fields_of, ipv4_fault, ipv6_fault, nothing_of, no_tcp, packet_fields_of, rejected, rejected_transport, tcp_fault, with_arp, with_fragment_header, with_ipv4, with_ipv4_fields, with_ipv6, with_ipv6_fields, with_link, with_tcp_fields, with_udp, with_udp_fields}
+use Rattle.c_structs.specs.FrameFields.{bare_of, after_header, cut_udp_verdict, fields_of, ipv4_fault, ipv6_fault, nothing_of, no_tcp, packet_fields_of, rejected, rejected_transport, tcp_fault, with_arp, with_fragment_header, with_ipv4, with_ipv4_fields, with_ipv6, with_ipv6_fields, with_link, with_tcp_fields, with_udp, with_udp_fields}
 use Rattle.c_structs.specs.declared.codes.Reason.TheVariants as reason
 use Rattle.c_structs.specs.declared.codes.TransportKind.TheVariants as transport
 use Rattle.c_structs.specs.declared.codes.Verdict.TheVariants as verdict
@@ -35,14 +35,14 @@ cut_udp f src dst bytes =
     if nat_lt (length bytes) 8 then cut_header f 8
     else if nat_le (udp.packet_len bytes) (length bytes) || nat_lt f.payload_len (udp.packet_len bytes) then with_udp f src dst bytes
     else let next = with_udp_fields f bytes (cut_udp_verdict src bytes) in
-    if field bytes 16 16 == 0 then rejected_transport next reason.PortZero else behind next 8 (udp.packet_len bytes - 8)
+    if field bytes 16 16 == 0 then rejected_transport next reason.PortZero else after_header next 8 (udp.packet_len bytes - 8)
 
 -- the fields with those of a TCP segment; its checksum covers all of it, and cannot be verified
 abbrev pub cut_tcp : FrameFields → IpAddress → IpAddress → List ℕ → FrameFields
 cut_tcp f src dst bytes =
     if nat_lt (length bytes) 20 then cut_header f 20
     else let next = with_tcp_fields f bytes verdict.ChecksumCut in
-    option_map_or (λ v. behind next (tcp.header_len bytes) (f.payload_len - tcp.header_len bytes)) (tcp_of src dst false bytes)
+    option_map_or (λ v. after_header next (tcp.header_len bytes) (f.payload_len - tcp.header_len bytes)) (tcp_of src dst false bytes)
     (rejected_transport next (tcp_fault bytes f.payload_len))
 
 -- the fields with those of the payload of a packet of this protocol between two addresses, if it is UDP or TCP

@@ -1,7 +1,7 @@
 -- Checksum fields after a change of the bytes that they cover.
 use Rattle.std.specs.Prelude.{ℕ, ◌-◌, ◌==◌, if◌then◌else◌}
 use Rattle.std.specs.Option.{option_map_or}
-use Rattle.ip_wire.specs.IpAddress.{octets_of}
+use Rattle.ip_wire.specs.IpAddress.{address_bytes}
 use Rattle.ip_wire.specs.Udp.{checksum_for}
 use Rattle.ip_wire.specs.WordSum.{sum_of_bytes, updated}
 use Rattle.c_structs.specs.Addresses.{ip_of}
@@ -9,7 +9,7 @@ use Rattle.c_structs.specs.declared.types.Addr.{Addr}
 
 -- the sum of the bytes of an address, 0 without a version
 abbrev pub address_sum : Addr → ℕ
-address_sum a = option_map_or (λ address. sum_of_bytes (octets_of address)) (ip_of a) 0
+address_sum a = option_map_or (λ address. sum_of_bytes (address_bytes address)) (ip_of a) 0
 
 -- the updated checksum field of UDP; 0, which means that there is no checksum, stays 0
 abbrev pub updated_udp : ℕ → ℕ → ℕ → ℕ

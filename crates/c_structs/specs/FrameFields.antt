@@ -92,8 +92,8 @@ nothing_of len = record {
 }
 
 -- the fields after a header of this length: the payload begins after it, and has this length
-abbrev pub behind : FrameFields → ℕ → ℕ → FrameFields
-behind f header_len len = record f { payload_offset = f.payload_offset + header_len; payload_len = len }
+abbrev pub after_header : FrameFields → ℕ → ℕ → FrameFields
+after_header f header_len len = record f { payload_offset = f.payload_offset + header_len; payload_len = len }
 
 -- the fields after the next header was rejected for this reason; the payload begins at that header
 abbrev pub rejected : FrameFields → Reason → FrameFields
@@ -193,7 +193,7 @@ abbrev pub with_udp : FrameFields → IpAddress → IpAddress → List ℕ → F
 with_udp f src dst bytes =
     if nat_lt (length bytes) 8 then rejected f reason.TooShort
     else let next = with_udp_header f src dst bytes in
-    option_map_or (λ v. behind next 8 (length (udp.payload_of bytes))) (udp_of src dst false bytes) (rejected_transport next (udp_fault bytes))
+    option_map_or (λ v. after_header next 8 (length (udp.payload_of bytes))) (udp_of src dst false bytes) (rejected_transport next (udp_fault bytes))
 
 -- the values of a TCP header without its ports
 abbrev pub tcp_values : List ℕ → Tcp
@@ -223,7 +223,7 @@ abbrev pub with_tcp : FrameFields → IpAddress → IpAddress → List ℕ → F
 with_tcp f src dst bytes =
     if nat_lt (length bytes) 20 then rejected f reason.TooShort
     else let next = with_tcp_header f src dst bytes in
-    option_map_or (λ v. behind next (tcp.header_len bytes) (length (tcp.payload_of bytes))) (tcp_of src dst false bytes) (rejected_transport next (tcp_fault bytes (length bytes)))
+    option_map_or (λ v. after_header next (tcp.header_len bytes) (length (tcp.payload_of bytes))) (tcp_of src dst false bytes) (rejected_transport next (tcp_fault bytes (length bytes)))
 
 -- the fields with those of the payload of a packet of this protocol between two addresses, if it is UDP or TCP
 abbrev pub with_transport_by : FrameFields → IpProtocol → IpAddress → IpAddress → List ℕ → FrameFields
@@ -240,7 +240,7 @@ with_payload f v bytes = with_transport_by f (next_header_of v) (src_addr_of v) 
 -- the fields with those of an ARP packet; only padding follows it
 abbrev pub with_message : FrameFields → ArpRepr → FrameFields
 with_message f (EthernetIpv4 operation source_hardware source_protocol target_hardware target_protocol) =
-    let next = behind f 28 0 in record next {
+    let next = after_header f 28 0 in record next {
       network = network_code network.Arp;
       network_offset = f.payload_offset;
       src = endpoint_of (address.Ipv4 source_protocol) 0;
@@ -273,7 +273,7 @@ ipv4_values bytes v = record {
 -- the fields with those of an IPv4 header before a payload of this length
 abbrev pub with_ipv4_fields : FrameFields → List ℕ → Ipv4Repr → ℕ → FrameFields
 with_ipv4_fields f bytes v payload_len =
-    let next = behind f (ipv4.header_len bytes) payload_len in record next {
+    let next = after_header f (ipv4.header_len bytes) payload_len in record next {
       network = network_code network.Ipv4;
       network_offset = f.payload_offset;
       src = endpoint_of (address.Ipv4 v.src_addr) 0;
@@ -307,7 +307,7 @@ ipv6_values f bytes v = record f {
 -- the fields with those of an IPv6 header before a payload of this length
 abbrev pub with_ipv6_fields : FrameFields → List ℕ → Ipv6Repr → ℕ → FrameFields
 with_ipv6_fields f bytes v payload_len =
-    let next = behind f 40 payload_len in record next {
+    let next = after_header f 40 payload_len in record next {
       network = network_code network.Ipv6;
       network_offset = f.payload_offset;
       src = endpoint_of (address.Ipv6 v.src_addr) 0;
@@ -374,7 +374,7 @@ with_carried f (ethertype.Unknown n) bytes = f
 -- the fields with those of an Ethernet header, for a payload of this length
 abbrev pub with_link : FrameFields → EthernetRepr → ℕ → FrameFields
 with_link f v payload_len =
-    let next = behind f 14 payload_len in record next {
+    let next = after_header f 14 payload_len in record next {
       ethernet = record { src = v.src_addr.0; dst = v.dst_addr.0; ethertype = ethernet.number_of v.ethertype };
       reason = reason_code reason.Read;
     }

@@ -13,7 +13,7 @@ use Rattle.ip_wire.specs.declared.IpProtocol.TheVariants as protocol
 use Rattle.ip_wire.specs.declared.TcpControl.{TcpControl}
 use Rattle.ip_wire.specs.declared.TcpControl.TheVariants as control
 use Rattle.c_structs.specs.Codes.{network_code, transport_code, verdict_code}
-use Rattle.c_structs.specs.FrameFields.{arp_fault, behind, ipv4_fault, ipv6_fault, nothing_of, rejected, rejected_transport, tcp_fault, udp_fault, with_fragment_by, with_ipv4_header, with_ipv6_header, with_link, with_message, with_tcp_header, with_udp_header}
+use Rattle.c_structs.specs.FrameFields.{arp_fault, after_header, ipv4_fault, ipv6_fault, nothing_of, rejected, rejected_transport, tcp_fault, udp_fault, with_fragment_by, with_ipv4_header, with_ipv6_header, with_link, with_message, with_tcp_header, with_udp_header}
 use Rattle.c_structs.specs.declared.codes.NetworkKind.TheVariants as network
 use Rattle.c_structs.specs.declared.codes.Reason.{Reason}
 use Rattle.c_structs.specs.declared.codes.Reason.TheVariants as reason
@@ -42,8 +42,8 @@ headed frame v (Ipv6 w) =
 
 -- the struct of a frame after a transport header between two addresses, which the bytes begin with
 abbrev pub transported : FrameFields → IpAddress → IpAddress → List ℕ → Transport → FrameFields
-transported f src dst bytes (datagram v payload) = behind (with_udp_header f src dst bytes) 8 (length payload)
-transported f src dst bytes (segment v payload) = behind (with_tcp_header f src dst bytes) (tcp.header_len bytes) (length payload)
+transported f src dst bytes (datagram v payload) = after_header (with_udp_header f src dst bytes) 8 (length payload)
+transported f src dst bytes (segment v payload) = after_header (with_tcp_header f src dst bytes) (tcp.header_len bytes) (length payload)
 transported f src dst bytes (other payload) = f
 
 -- the struct of a frame that parses as a whole

@@ -284,7 +284,7 @@ impl FrameFields {
         if packet.dst_port() == 0 {
             self.reject_transport(Reason::PortZero);
         } else {
-            self.step_behind(UDP_HEADER_LEN, packet_len - UDP_HEADER_LEN);
+            self.step_after(UDP_HEADER_LEN, packet_len - UDP_HEADER_LEN);
         }
     }
 
@@ -306,7 +306,7 @@ impl FrameFields {
         match TcpRepr::parse(&packet, src_addr, dst_addr, &caps) {
             Ok(_) => {
                 let header_len = usize::from(packet.header_len());
-                self.step_behind(header_len, len - header_len);
+                self.step_after(header_len, len - header_len);
             }
             Err(_) => self.reject_transport(tcp_fault(&packet, len)),
         }

@@ -8,7 +8,7 @@ ghost use Rattle.ip_wire.specs.Ipv6 as ipv6;
 ghost use Rattle.ip_wire.specs.Ipv6Fragment as fragment;
 ghost use Rattle.ip_wire.specs.Protocol.{protocol_of};
 ghost use Rattle.c_structs.specs.Addresses.{endpoint_of, no_endpoint};
-ghost use Rattle.c_structs.specs.FrameFields.{behind, fields_of, nothing_of, packet_fields_of, rejected, with_arp, with_fragment_by, with_fragment_header, with_frame, with_ipv4, with_ipv4_fields, with_ipv6, with_ipv6_fields, with_link, with_message, with_packet};
+ghost use Rattle.c_structs.specs.FrameFields.{after_header, fields_of, nothing_of, packet_fields_of, rejected, with_arp, with_fragment_by, with_fragment_header, with_frame, with_ipv4, with_ipv4_fields, with_ipv6, with_ipv6_fields, with_link, with_message, with_packet};
 
 use crate::codes::{NetworkKind, Reason, TransportKind, Verdict};
 use crate::faults::{ARP_LEN, arp_fault, ipv4_fault, ipv6_fault};
@@ -150,9 +150,9 @@ impl FrameFields {
     }
 
     // Moves the payload after a header of this length.
-    pub(super) fn step_behind(&mut self, header_len: usize, payload_len: usize)
+    pub(super) fn step_after(&mut self, header_len: usize, payload_len: usize)
         requires { self.old.payload_offset + header_len ≤ 200 }
-        ensures { self.new ≡ behind self.old header_len payload_len }
+        ensures { self.new ≡ after_header self.old header_len payload_len }
     {
         self.payload_offset += header_len;
         self.payload_len = payload_len;
@@ -199,7 +199,7 @@ impl FrameFields {
         let EthernetAddress(dst) = frame.dst_addr();
         self.ethernet.dst = dst;
         self.reason = Reason::Read.code();
-        self.step_behind(ETHERNET_HEADER_LEN, payload_len);
+        self.step_after(ETHERNET_HEADER_LEN, payload_len);
     }
 
     // Stores an ARP packet.
@@ -233,7 +233,7 @@ impl FrameFields {
         self.arp.operation = ArpPacket::new_unchecked(bytes).operation().number();
         self.arp.src_hardware = array_at(bytes, 8);
         self.arp.dst_hardware = array_at(bytes, 18);
-        self.step_behind(ARP_LEN, 0);
+        self.step_after(ARP_LEN, 0);
     }
 
     // Stores an IPv4 packet. The payload of a fragment is not parsed.
@@ -289,7 +289,7 @@ impl FrameFields {
         self.ip.dont_fragment = u8::from(packet.dont_frag());
         self.is_fragment = u8::from(packet.is_fragment());
         self.ipv4_checksum = ipv4_verdict(packet).code();
-        self.step_behind(header_len, payload_len);
+        self.step_after(header_len, payload_len);
     }
 
     // Stores an IPv6 packet. The payload after a fragment header is not parsed.
@@ -337,7 +337,7 @@ impl FrameFields {
         self.ip.hop_limit = header.hop_limit;
         self.ip.dscp = traffic_class / 4;
         self.ip.ecn = traffic_class % 4;
-        self.step_behind(IPV6_HEADER_LEN, payload_len);
+        self.step_after(IPV6_HEADER_LEN, payload_len);
     }
 
     // Stores the fragment header that the payload of an IPv6 packet begins with, if the protocol number says

@@ -59,8 +59,8 @@ impl TcpOptionPlace {
             return 1;
         }
         match TcpOption::parse(rest) {
-            Ok((behind, _)) => {
-                *self = TcpOptionPlace::at(at, rest[0], rest.len() - behind.len());
+            Ok((following, _)) => {
+                *self = TcpOptionPlace::at(at, rest[0], rest.len() - following.len());
                 1
             }
             Err(_) => -1,

@@ -58,7 +58,7 @@ impl FrameFields {
             Ok(_) => {
                 let payload_len = packet.payload().len();
                 self.store_udp_header(src_addr, dst_addr, &packet);
-                self.step_behind(UDP_HEADER_LEN, payload_len);
+                self.step_after(UDP_HEADER_LEN, payload_len);
             }
             Err(_) => self.store_rejected_udp(*src_addr, *dst_addr, &packet),
         }
@@ -125,7 +125,7 @@ impl FrameFields {
         self.store_tcp_header(src_addr, dst_addr, &packet);
         let caps = ChecksumCapabilities::ignored();
         match TcpRepr::parse(&packet, src_addr, dst_addr, &caps) {
-            Ok(_) => self.step_behind(usize::from(packet.header_len()), packet.payload().len()),
+            Ok(_) => self.step_after(usize::from(packet.header_len()), packet.payload().len()),
             Err(_) => self.reject_transport(tcp_fault(&packet, bytes.len())),
         }
     }

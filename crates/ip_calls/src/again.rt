@@ -40,7 +40,7 @@ pub fn answer(alloc: Global, operands: &mut Operands<'_>) -> Result<String, Allo
         ),
         "frame" => frame(bytes, room, &caps),
         _ => {
-            operands.refuse();
+            operands.reject();
             None
         }
     };

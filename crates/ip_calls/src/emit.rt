@@ -17,7 +17,7 @@ pub fn udp(alloc: Global, operands: &mut Operands<'_>) -> Result<String, AllocEr
     let payload = operands.octets(alloc)?;
     let (caps, old) = (operands.computed(), operands.number());
     if payload.len() > UDP_MAX_PAYLOAD_LEN {
-        operands.refuse();
+        operands.reject();
         return Ok(String::new(alloc));
     }
     let mut out = vec![in alloc; old; UDP_HEADER_LEN + payload.len()]?;
@@ -39,7 +39,7 @@ pub fn header(alloc: Global, operands: &mut Operands<'_>) -> Result<String, Allo
     let header = IpRepr::new(src_addr, dst_addr, protocol, payload_len, hop_limit);
     let (caps, old) = (operands.computed(), operands.number());
     if header.payload_len() > header.max_payload_len() {
-        operands.refuse();
+        operands.reject();
         return Ok(String::new(alloc));
     }
     let mut out = vec![in alloc; old; header.header_len()]?;

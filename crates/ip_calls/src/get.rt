@@ -25,7 +25,7 @@ pub fn answer(alloc: Global, operands: &mut Operands<'_>) -> Result<String, Allo
         _ => Ok(()),
     }?;
     if text.is_empty() {
-        operands.refuse();
+        operands.reject();
     }
     Ok(text)
 }

@@ -26,7 +26,7 @@ pub fn answer(alloc: Global, operands: &mut Operands<'_>) -> Result<String, Allo
     let room: usize = operands.number();
     let frame = operands.octets(alloc)?;
     if room > MAX_ROOM {
-        operands.refuse();
+        operands.reject();
         return Ok(String::new(alloc));
     }
     let mut out = vec![in alloc; 0; room]?;

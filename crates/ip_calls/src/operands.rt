@@ -37,7 +37,7 @@ impl<'a> Operands<'a> {
     }
 
     /// Makes the line malformed.
-    pub fn refuse(&mut self) {
+    pub fn reject(&mut self) {
         self.malformed = true;
     }
 
@@ -49,7 +49,7 @@ impl<'a> Operands<'a> {
                 word
             }
             [] => {
-                self.refuse();
+                self.reject();
                 ""
             }
         }
@@ -63,7 +63,7 @@ impl<'a> Operands<'a> {
                 word
             }
             [] => {
-                self.refuse();
+                self.reject();
                 ""
             }
         }
@@ -173,7 +173,7 @@ impl<'a> Operands<'a> {
         if src.version() == dst.version() {
             (src, dst)
         } else {
-            self.refuse();
+            self.reject();
             (src, src)
         }
     }
@@ -181,11 +181,11 @@ impl<'a> Operands<'a> {
     /// Bytes of hex digits, and no bytes for `-`.
     pub fn octets(&mut self, alloc: Global) -> Result<Vec<u8>, AllocError> {
         let word = self.word();
-        self.octets_of(alloc, word)
+        self.bytes_of(alloc, word)
     }
 
     /// The bytes of a word that was read.
-    pub fn octets_of(&mut self, alloc: Global, word: &str) -> Result<Vec<u8>, AllocError> {
+    pub fn bytes_of(&mut self, alloc: Global, word: &str) -> Result<Vec<u8>, AllocError> {
         if word == NOTHING {
             return Ok(Vec::new(alloc));
         }
@@ -195,7 +195,7 @@ impl<'a> Operands<'a> {
             .decode(word.as_bytes(), octets.as_mut_slice())
             .is_err()
         {
-            self.refuse();
+            self.reject();
             octets.clear();
         }
         Ok(octets)
@@ -226,7 +226,7 @@ impl<'a> Operands<'a> {
     pub fn capabilities(&mut self) -> ChecksumCapabilities {
         let word = self.word();
         let [ipv4, udp, tcp, icmpv4, icmpv6] = word.as_bytes() else {
-            self.refuse();
+            self.reject();
             return ChecksumCapabilities::default();
         };
         ChecksumCapabilities {
@@ -246,7 +246,7 @@ impl<'a> Operands<'a> {
             b't' => Checksum::Tx,
             b'b' => Checksum::Both,
             _ => {
-                self.refuse();
+                self.reject();
                 Checksum::None
             }
         }

@@ -18,7 +18,7 @@ pub fn answer(alloc: Global, operands: &mut Operands<'_>) -> Result<String, Allo
         bytes[12] = ((TCP_HEADER_LEN + options.len()) / 4 * 16) as u8;
     }
     let Ok(packet) = TcpPacket::new_checked(bytes.as_slice()) else {
-        operands.refuse();
+        operands.reject();
         return Ok(String::new(alloc));
     };
     let summary = shown(alloc, packet.options_summary().map(fields))?;

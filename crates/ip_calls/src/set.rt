@@ -15,7 +15,7 @@ use std::alloc::{AllocError, Global};
 /// The bytes after a call of a setter. They have to hold the header of the view.
 pub fn answer(alloc: Global, operands: &mut Operands<'_>) -> Result<String, AllocError> {
     let (view, call, octets) = (operands.word(), operands.word(), operands.last());
-    let mut octets = operands.octets_of(alloc, octets)?;
+    let mut octets = operands.bytes_of(alloc, octets)?;
     let bytes = octets.as_mut_slice();
     match view {
         "eth" => ethernet(call, operands, bytes),
@@ -25,21 +25,21 @@ pub fn answer(alloc: Global, operands: &mut Operands<'_>) -> Result<String, Allo
         "frag" => fragment(call, operands, bytes),
         "udp" => udp(call, operands, bytes),
         "tcp" => tcp(call, operands, bytes),
-        _ => operands.refuse(),
+        _ => operands.reject(),
     }
     hex::encode(alloc, octets.as_slice())
 }
 
 fn ethernet(call: &str, operands: &mut Operands<'_>, bytes: &mut [u8]) {
     if bytes.len() < ETHERNET_HEADER_LEN {
-        return operands.refuse();
+        return operands.reject();
     }
     let mut frame = EthernetFrameMut::new_unchecked(bytes);
     match call {
         "set_dst_addr" => frame.set_dst_addr(operands.ethernet()),
         "set_src_addr" => frame.set_src_addr(operands.ethernet()),
         "set_ethertype" => frame.set_ethertype(operands.number::<u16>().into()),
-        _ => operands.refuse(),
+        _ => operands.reject(),
     }
 }
 
@@ -50,7 +50,7 @@ fn arp(
     bytes: &mut [u8],
 ) -> Result<(), AllocError> {
     if bytes.len() < 8 {
-        operands.refuse();
+        operands.reject();
         return Ok(());
     }
     let mut packet = ArpPacketMut::new_unchecked(bytes);
@@ -78,7 +78,7 @@ fn arp_address(
     requires { 8 ≤ length (arp.packet_bytes_mut packet.old) }
 {
     if packet.check_len().is_err() {
-        return operands.refuse();
+        return operands.reject();
     }
     let is_hardware = address.len() == usize::from(packet.hardware_len());
     let is_protocol = address.len() == usize::from(packet.protocol_len());
@@ -87,13 +87,13 @@ fn arp_address(
         "set_source_protocol_addr" if is_protocol => packet.set_source_protocol_addr(address),
         "set_target_hardware_addr" if is_hardware => packet.set_target_hardware_addr(address),
         "set_target_protocol_addr" if is_protocol => packet.set_target_protocol_addr(address),
-        _ => operands.refuse(),
+        _ => operands.reject(),
     }
 }
 
 fn ipv4(call: &str, operands: &mut Operands<'_>, bytes: &mut [u8]) {
     if bytes.len() < IPV4_HEADER_LEN {
-        return operands.refuse();
+        return operands.reject();
     }
     let mut packet = Ipv4PacketMut::new_unchecked(bytes);
     let is_whole = usize::from(packet.header_len()) <= packet.as_bytes().len();
@@ -120,13 +120,13 @@ fn ipv4(call: &str, operands: &mut Operands<'_>, bytes: &mut [u8]) {
         "update_src_addr" => packet.update_src_addr(operands.ipv4()),
         "update_dst_addr" => packet.update_dst_addr(operands.ipv4()),
         "update_checksum" => packet.update_checksum(operands.number(), operands.number()),
-        _ => operands.refuse(),
+        _ => operands.reject(),
     }
 }
 
 fn ipv6(call: &str, operands: &mut Operands<'_>, bytes: &mut [u8]) {
     if bytes.len() < IPV6_HEADER_LEN {
-        return operands.refuse();
+        return operands.reject();
     }
     let mut packet = Ipv6PacketMut::new_unchecked(bytes);
     match call {
@@ -138,13 +138,13 @@ fn ipv6(call: &str, operands: &mut Operands<'_>, bytes: &mut [u8]) {
         "set_hop_limit" => packet.set_hop_limit(operands.number()),
         "set_src_addr" => packet.set_src_addr(operands.ipv6()),
         "set_dst_addr" => packet.set_dst_addr(operands.ipv6()),
-        _ => operands.refuse(),
+        _ => operands.reject(),
     }
 }
 
 fn fragment(call: &str, operands: &mut Operands<'_>, bytes: &mut [u8]) {
     if bytes.len() < 6 {
-        return operands.refuse();
+        return operands.reject();
     }
     let mut header = Ipv6FragmentHeaderMut::new_unchecked(bytes);
     match call {
@@ -152,13 +152,13 @@ fn fragment(call: &str, operands: &mut Operands<'_>, bytes: &mut [u8]) {
         "set_more_frags" => header.set_more_frags(operands.flag()),
         "set_ident" => header.set_ident(operands.number()),
         "clear_reserved" => header.clear_reserved(),
-        _ => operands.refuse(),
+        _ => operands.reject(),
     }
 }
 
 fn udp(call: &str, operands: &mut Operands<'_>, bytes: &mut [u8]) {
     if bytes.len() < UDP_HEADER_LEN {
-        return operands.refuse();
+        return operands.reject();
     }
     let mut packet = UdpPacketMut::new_unchecked(bytes);
     let is_whole = usize::from(packet.len()) <= packet.as_bytes().len();
@@ -178,13 +178,13 @@ fn udp(call: &str, operands: &mut Operands<'_>, bytes: &mut [u8]) {
             packet.update_address(&old, &new)
         }
         "update_checksum" => packet.update_checksum(operands.number(), operands.number()),
-        _ => operands.refuse(),
+        _ => operands.reject(),
     }
 }
 
 fn tcp(call: &str, operands: &mut Operands<'_>, bytes: &mut [u8]) {
     if bytes.len() < TCP_HEADER_LEN {
-        return operands.refuse();
+        return operands.reject();
     }
     let mut packet = TcpPacketMut::new_unchecked(bytes);
     let is_whole = packet.check_len().is_ok();
@@ -231,6 +231,6 @@ fn tcp_flag(call: &str, operands: &mut Operands<'_>, packet: &mut TcpPacketMut<'
         "set_rst" => packet.set_rst(value),
         "set_syn" => packet.set_syn(value),
         "set_fin" => packet.set_fin(value),
-        _ => operands.refuse(),
+        _ => operands.reject(),
     }
 }

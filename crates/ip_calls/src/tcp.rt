@@ -56,7 +56,7 @@ fn control(operands: &mut Operands<'_>) -> TcpControl {
         "fin" => TcpControl::Fin,
         "rst" => TcpControl::Rst,
         _ => {
-            operands.refuse();
+            operands.reject();
             TcpControl::None
         }
     }

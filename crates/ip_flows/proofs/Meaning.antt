@@ -114,7 +114,7 @@ preserved nat old new now event inside remote (Some port) opens full unmapped fr
     preserved-port nat old now event inside remote port m (kept first) unmapped free = absurd (unmapped port first.candidate first.holds)
     preserved-port nat old now event inside remote port m (made none first) unmapped free = elim (first.first inside.port (inl refl) free) [
       | inl same ↦ same
-      | inr behind ↦ absurd (behind.0 refl)
+      | inr following ↦ absurd (following.0 refl)
     ]
 
 independent-port : (nat : Nat) (old : List Mapping) (now : ℕ) (event : Event) (inside remote : Ipv4Endpoint) (port was : ℕ) (m : Mapping) → Chooses nat old now event inside remote port m
@@ -161,11 +161,11 @@ first-once : (P : ℕ → Type 0) (nat : Nat) (len : ℕ) (inside : Ipv4Endpoint
 first-once P nat len inside p q a b = elim (a.first q b.candidate b.holds) [
   | inl own ↦ elim (b.first p a.candidate a.holds) [
     | inl too ↦ own ∙ sym too
-    | inr behind ↦ absurd (behind.0 own)
+    | inr following ↦ absurd (following.0 own)
   ]
   | inr before ↦ elim (b.first p a.candidate a.holds) [
     | inl own ↦ absurd (before.0 own)
-    | inr behind ↦ omega (arith, before.1, behind.1)
+    | inr following ↦ omega (arith, before.1, following.1)
   ]
 ]
 

@@ -91,14 +91,14 @@ abbrev pub IsCandidate : Nat → ℕ → Ipv4Endpoint → ℕ → Type 0
 IsCandidate nat len inside port = (port ≡ inside.port) ⊎ IsInRun nat len inside port
 
 -- one candidate comes before another, or is the same
-abbrev pub IsNotBehind : Ipv4Endpoint → ℕ → ℕ → Type 0
-IsNotBehind inside port other = (port ≡ inside.port) ⊎ ((other ≢ inside.port) × (port ≤ other))
+abbrev pub IsNotAfter : Ipv4Endpoint → ℕ → ℕ → Type 0
+IsNotAfter inside port other = (port ≡ inside.port) ⊎ ((other ≢ inside.port) × (port ≤ other))
 
 -- the first candidate with a property
 pub record IsFirst (P : ℕ → Type 0) (nat : Nat) (len : ℕ) (inside : Ipv4Endpoint) (port : ℕ) : Type 0 where
   pub candidate : IsCandidate nat len inside port
   pub holds : P port
-  pub first : (other : ℕ) → IsCandidate nat len inside other → P other → IsNotBehind inside port other
+  pub first : (other : ℕ) → IsCandidate nat len inside other → P other → IsNotAfter inside port other
 
 -- no candidate has a live mapping of the endpoint
 abbrev pub IsUnmapped : Nat → List Mapping → ℕ → Protocol → Ipv4Endpoint → Type 0

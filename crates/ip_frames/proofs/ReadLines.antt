@@ -3,7 +3,7 @@ use Rattle.std.proofs.Common.{ℕ, ◌≡◌, ◌==◌, ◌≤◌, ◌-◌, ◌+
 use Rattle.std.proofs.lemmas.Bool.{false_from_ne_true}
 use Rattle.std.proofs.lemmas.Bool.Decides.{nat_tests}
 use Rattle.std.proofs.lemmas.Grind.{common_steps}
-use Rattle.ip_frames.specs.Output.{again_line, checksum_note, ended, fragment_header_line, fragment_line, frame_lines, inner_lines, ipv6_inner_lines, line_with_verdict, lines_of_protocol, payload_lines, tcp_format, transport_lines, udp_format, unread_verdict, verdict, verdict_behind}
+use Rattle.ip_frames.specs.Output.{again_line, checksum_note, ended, fragment_header_line, fragment_line, frame_lines, inner_lines, ipv6_inner_lines, line_with_verdict, lines_of_protocol, payload_lines, tcp_format, transport_lines, udp_format, unread_verdict, verdict, verdict_after}
 use Rattle.ip_wire.proofs.ArpComputed.{arp_of-Reads}
 use Rattle.ip_wire.proofs.EthernetComputed.{ethernet_of-Reads}
 use Rattle.ip_wire.proofs.Ipv4Computed.{ipv4_of-Reads}
@@ -172,7 +172,7 @@ lines-tcp v bytes u payload (is, r) =
     ap (λ p. lines_of_protocol p v bytes) is ∙ line_with_verdict-read _ _ _ (ap is_some read)
 
 pub lines-udp-unread : (v : IpRepr) (bytes : List ℕ) → next_header_of v ≡ protocol.Udp → ((t : Transport) → ¬ ReadsTransport all_checked v bytes t)
-    → transport_lines v bytes ≡ ended (udp_text.packet_text bytes ++ verdict_behind udp_format v bytes)
+    → transport_lines v bytes ≡ ended (udp_text.packet_text bytes ++ verdict_after udp_format v bytes)
 lines-udp-unread v bytes is none =
     let src = src_addr_of v in
     let dst = dst_addr_of v in
@@ -180,7 +180,7 @@ lines-udp-unread v bytes is none =
     ap (λ p. lines_of_protocol p v bytes) is ∙ line_with_verdict-unread _ _ _ (ap is_some unread)
 
 pub lines-tcp-unread : (v : IpRepr) (bytes : List ℕ) → next_header_of v ≡ protocol.Tcp → ((t : Transport) → ¬ ReadsTransport all_checked v bytes t)
-    → transport_lines v bytes ≡ ended (tcp_text.packet_text bytes ++ verdict_behind tcp_format v bytes)
+    → transport_lines v bytes ≡ ended (tcp_text.packet_text bytes ++ verdict_after tcp_format v bytes)
 lines-tcp-unread v bytes is none =
     let src = src_addr_of v in
     let dst = dst_addr_of v in

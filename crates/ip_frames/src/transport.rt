@@ -1,7 +1,7 @@
 //! The line of a UDP packet or a TCP segment.
 
 ghost use Rattle.std.specs.Prelude.{◌≡◌, ◌++◌, OnOk, codes, decimal, length};
-ghost use Rattle.ip_frames.specs.Output.{AddsText, ended, tcp_format, transport_lines, udp_format, unread_verdict, verdict_behind};
+ghost use Rattle.ip_frames.specs.Output.{AddsText, ended, tcp_format, transport_lines, udp_format, unread_verdict, verdict_after};
 ghost use Rattle.ip_wire.specs.Frame as frame;
 ghost use Rattle.ip_wire.specs.Frame.{ReadsTransport, all_checked};
 ghost use Rattle.ip_wire.specs.FrameValue.{FindsTransport};
@@ -75,7 +75,7 @@ fn push_tcp(packet: &TcpPacket<'_>, note: &str, text: &mut String) -> Result<(),
 
 // The note on a UDP packet that does not parse with its checksum.
 fn udp_verdict(packet: &UdpPacket<'_>, header: &IpRepr) -> &'static str
-    ensures { result.now ≡ verdict_behind udp_format header.now (udp.packet_bytes packet.now) }
+    ensures { result.now ≡ verdict_after udp_format header.now (udp.packet_bytes packet.now) }
 {
     if packet.check_len().is_err() {
         return "";
@@ -87,7 +87,7 @@ fn udp_verdict(packet: &UdpPacket<'_>, header: &IpRepr) -> &'static str
 
 // The note on a TCP segment that does not parse with its checksum.
 fn tcp_verdict(packet: &TcpPacket<'_>, header: &IpRepr) -> &'static str
-    ensures { result.now ≡ verdict_behind tcp_format header.now (tcp.packet_bytes packet.now) }
+    ensures { result.now ≡ verdict_after tcp_format header.now (tcp.packet_bytes packet.now) }
 {
     if packet.check_len().is_err() {
         return "";

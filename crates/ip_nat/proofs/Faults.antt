@@ -33,7 +33,7 @@ use Rattle.wire_icmp.specs.Icmp as icmp
 use Rattle.wire_icmp.specs.declared.icmp.repr.IcmpRepr.{IcmpRepr}
 use Rattle.wire_icmp.specs.declared.icmp.repr.IcmpRepr.TheVariants.{EchoRequest, EchoReply}
 use Rattle.ip_nat.proofs.Translates.{carried}
-use Rattle.ip_nat.specs.Errors.{Quotes, Reports, behind, end_bit, flow_by, icmp_fault, is_error, is_quoted, message_fault, message_fault_by}
+use Rattle.ip_nat.specs.Errors.{Quotes, Reports, after_header, end_bit, flow_by, icmp_fault, is_error, is_quoted, message_fault, message_fault_by}
 use Rattle.ip_nat.specs.Nat.{Carries, CarriesWhole, IsIpv4Frame, ReadsMessage, ReadsPorts, Transport, addr_at, datagram, echo_fault, frame_fault, is_message, of_header, packet_fault, ports_fault, reply, request, segment, transport_fault, transport_fault_by, whole_fault, whole_fault_by}
 use Rattle.ip_nat.specs.declared.nat.Rejection.{Rejection}
 use Rattle.ip_nat.specs.declared.nat.Rejection.TheVariants.{NotIpv4, Fragment, OtherProtocol, BadTransport, ZeroPort}
@@ -179,9 +179,9 @@ some-value (Some a) h = (a, refl)
 -- bytes that an error can quote are quoted as one packet
 quoted-one : (side : Side) (bytes : List ℕ) → is_quoted side bytes ≡ true → (q : Quoted) × Quotes side bytes q
 quoted-one side bytes is =
-    let flows : is_some (flow_by side (protocol_of (field bytes 72 8)) (field (behind bytes) 0 8)) ≡ true = grind (arith, nat_tests) in
-    let (p, flow) = some-value (flow_by side (protocol_of (field bytes 72 8)) (field (behind bytes) 0 8)) flows in (
-      record { protocol = p; end = record { addr = addr_at side bytes; port = field (behind bytes) (end_bit p side) 16 } },
+    let flows : is_some (flow_by side (protocol_of (field bytes 72 8)) (field (after_header bytes) 0 8)) ≡ true = grind (arith, nat_tests) in
+    let (p, flow) = some-value (flow_by side (protocol_of (field bytes 72 8)) (field (after_header bytes) 0 8)) flows in (
+      record { protocol = p; end = record { addr = addr_at side bytes; port = field (after_header bytes) (end_bit p side) 16 } },
       record {
         version = grind (arith, nat_tests);
         header = grind (arith, nat_tests);

@@ -91,14 +91,14 @@ pub record IsAddressed (side : Side) (front rest addr : List ℕ) : Type 0 where
   pub apart : with_address side addr (front ++ rest) ≡ with_address side addr front ++ rest
   pub long : length (with_address side addr front) ≡ 20
   pub shape : SameShape (front ++ rest) (with_address side addr (front ++ rest))
-  pub behind : drop 20 (with_address side addr (front ++ rest)) ≡ rest
+  pub after_header : drop 20 (with_address side addr (front ++ rest)) ≡ rest
   pub written : addr_at side (with_address side addr (front ++ rest)) ≡ addr
 
 addressed_cells : (side : Side) (front rest addr : List ℕ) → IsAddressed side (cells 20 front) rest (cells 4 addr)
 addressed_cells Source front rest addr =
-    record { apart = refl; long = refl; shape = record { version = refl; header = refl; total = refl; fragment = refl; protocol = refl }; behind = refl; written = refl }
+    record { apart = refl; long = refl; shape = record { version = refl; header = refl; total = refl; fragment = refl; protocol = refl }; after_header = refl; written = refl }
 addressed_cells Destination front rest addr =
-    record { apart = refl; long = refl; shape = record { version = refl; header = refl; total = refl; fragment = refl; protocol = refl }; behind = refl; written = refl }
+    record { apart = refl; long = refl; shape = record { version = refl; header = refl; total = refl; fragment = refl; protocol = refl }; after_header = refl; written = refl }
 
 -- writing an address to the first twenty bytes changes that address and the header checksum
 pub addressed : (side : Side) (front rest addr : List ℕ) → length front ≡ 20 → length addr ≡ 4 → IsAddressed side front rest addr
@@ -108,12 +108,12 @@ addressed side front rest addr e f =
 
 -- the payload is unchanged
 same_payload : (old new : List ℕ) → SameShape old new → drop 20 new ≡ drop 20 old → 20 ≤ header_len old → ipv4_payload new ≡ ipv4_payload old
-same_payload old new s behind least =
+same_payload old new s after_header least =
     let h = header_len old in
     let n = total_len old in
     let e : h ≡ 20 + (h - 20) = omega (arith, least) in
     let from : drop h new ≡ drop h old =
-    ap (λ (k : ℕ). drop k new) e ∙ sym (drop-drop (h - 20) 20 new) ∙ ap (drop (h - 20)) behind ∙ drop-drop (h - 20) 20 old ∙ ap (λ (k : ℕ). drop k old) (sym e) in
+    ap (λ (k : ℕ). drop k new) e ∙ sym (drop-drop (h - 20) 20 new) ∙ ap (drop (h - 20)) after_header ∙ drop-drop (h - 20) 20 old ∙ ap (λ (k : ℕ). drop k old) (sym e) in
     (λ i. take (s.total i - s.header i) (drop (s.header i) new)) ∙ ap (take (n - h)) from
 
 -- the same for any bytes
@@ -129,12 +129,12 @@ keeps side bytes addr room least four =
     let is = take-append-drop 20 bytes in
     let at = addressed side (take 20 bytes) (drop 20 bytes) addr (front-len bytes room) four in
     let shape : SameShape bytes (with_address side addr bytes) = subst (λ (l : List ℕ). SameShape l (with_address side addr l)) is at.shape in
-    let behind : drop 20 (with_address side addr bytes) ≡ drop 20 bytes = subst (λ (l : List ℕ). drop 20 (with_address side addr l) ≡ drop 20 bytes) is at.behind in
+    let after_header : drop 20 (with_address side addr bytes) ≡ drop 20 bytes = subst (λ (l : List ℕ). drop 20 (with_address side addr l) ≡ drop 20 bytes) is at.after_header in
     let apart : with_address side addr bytes ≡ with_address side addr (take 20 bytes) ++ drop 20 bytes =
     subst (λ (l : List ℕ). with_address side addr l ≡ with_address side addr (take 20 bytes) ++ drop 20 bytes) is at.apart in
     record {
       shape = shape;
-      payload = same_payload bytes (with_address side addr bytes) shape behind least;
+      payload = same_payload bytes (with_address side addr bytes) shape after_header least;
       long = ap length apart ∙ length-append (with_address side addr (take 20 bytes)) (drop 20 bytes) ∙ omega (arith, at.long, length-drop 20 bytes, room);
       written = subst (λ (l : List ℕ). addr_at side (with_address side addr l) ≡ addr) is at.written;
     }

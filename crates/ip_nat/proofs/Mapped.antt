@@ -10,7 +10,7 @@ use Rattle.ip_flows.specs.State.{protocol_of}
 use Rattle.ip_flows.specs.declared.Protocol.TheVariants.{Icmp}
 use Rattle.ip_nat.proofs.NatOnce.{transport-of-one}
 use Rattle.ip_nat.specs.Flows.{IsPacketKeptInside, IsPacketKeptOutside, IsUnanswerable, event_by, event_of, source_of}
-use Rattle.ip_nat.specs.Nat.{AllowsPort, IsPacket, IsRejected, RefusesPort, Transport, datagram, kind_of, reply, request, segment}
+use Rattle.ip_nat.specs.Nat.{AllowsPort, IsPacket, IsRejected, RejectsPort, Transport, datagram, kind_of, reply, request, segment}
 use Rattle.ip_nat.specs.declared.packet.Packet.{Packet}
 use Rattle.ip_nat.specs.declared.nat.Rejection.{Rejection}
 use Rattle.ip_nat.specs.declared.nat.Rejection.TheVariants.{OtherProtocol, ZeroPort, NoMapping, NoFreePort}
@@ -51,25 +51,25 @@ some-port Destination (request ident seq_no payload) port some = tt
 some-port Destination (reply ident seq_no payload) port some = tt
 
 -- a port that is rejected is 0
-pub refused-zero : (frame : List ℕ) (side : Side) (port : ℕ) → RefusesPort frame side port → port ≡ 0
-refused-zero frame side port why = elim (cases_lt 0 port) [
-  | inl some ↦ absurd (why.refused (some-port side why.transport port (λ zero. omega (arith, zero, some))))
+pub disallowed-zero : (frame : List ℕ) (side : Side) (port : ℕ) → RejectsPort frame side port → port ≡ 0
+disallowed-zero frame side port why = elim (cases_lt 0 port) [
+  | inl some ↦ absurd (why.disallowed (some-port side why.transport port (λ zero. omega (arith, zero, some))))
   | inr none ↦ omega (arith, none)
 ]
 
 -- no identifier of an echo message is rejected
-refused-kind : (side : Side) (t : Transport) (port : ℕ) → ¬ AllowsPort side t port → protocol_of (event_by (kind_of t)) ≢ Icmp
-refused-kind side (datagram v payload) port refuses is = cc
-refused-kind side (segment v payload) port refuses is = cc
-refused-kind Source (request ident seq_no payload) port refuses is = refuses tt
-refused-kind Destination (request ident seq_no payload) port refuses is = refuses tt
-refused-kind Source (reply ident seq_no payload) port refuses is = refuses tt
-refused-kind Destination (reply ident seq_no payload) port refuses is = refuses tt
+disallowed-kind : (side : Side) (t : Transport) (port : ℕ) → ¬ AllowsPort side t port → protocol_of (event_by (kind_of t)) ≢ Icmp
+disallowed-kind side (datagram v payload) port disallows is = cc
+disallowed-kind side (segment v payload) port disallows is = cc
+disallowed-kind Source (request ident seq_no payload) port disallows is = disallows tt
+disallowed-kind Destination (request ident seq_no payload) port disallows is = disallows tt
+disallowed-kind Source (reply ident seq_no payload) port disallows is = disallows tt
+disallowed-kind Destination (reply ident seq_no payload) port disallows is = disallows tt
 
 -- a frame whose mapping leads to port 0 does not come in
 pub in-zero : {T : Type 0} (answer : Result T Rejection) (nat : Nat) (old new : List Mapping) (now : ℕ) (frame : List ℕ) (p : Packet) (inside : Ipv4Endpoint)
     → IsPacket frame p → p.header.dst_addr ≡ nat.outside → Finds nat old new now (event_of p) p.dst_port (source_of p) inside
-    → IfErr answer (λ reason. reason ≡ ZeroPort) → IfErr answer (λ _. RefusesPort frame Destination inside.port)
+    → IfErr answer (λ reason. reason ≡ ZeroPort) → IfErr answer (λ _. RejectsPort frame Destination inside.port)
     → IfErr answer (IsPacketKeptOutside nat old new now frame)
 in-zero (Ok v) nat old new now frame p inside carries outside finds is why = tt
 in-zero (Err reason) nat old new now frame p inside carries outside finds is why =
@@ -81,10 +81,10 @@ in-zero (Err reason) nat old new now frame p inside carries outside finds is why
         packet = p;
         carries = carries;
         outside = outside;
-        no_echo = λ echo. refused-kind Destination why.transport inside.port why.refused (ap (λ k. protocol_of (event_by k)) (sym kind) ∙ echo);
+        no_echo = λ echo. disallowed-kind Destination why.transport inside.port why.disallowed (ap (λ k. protocol_of (event_by k)) (sym kind) ∙ echo);
         inside = inside;
         finds = finds;
-        zero = refused-zero frame Destination inside.port why;
+        zero = disallowed-zero frame Destination inside.port why;
       },
     )
 

@@ -53,7 +53,7 @@ translated-unrejected old new side addr port r a (inl why) = carries-unrejected 
 translated-unrejected old new side addr port r a (inr (is, why)) =
     let after = carried new a.link (with_addr side addr a.header) (with_port side port a.transport) a.after in
     let accepts = allowed (with_addr side addr a.header) (ipv4_payload (drop 14 new)) side port a.transport after.carries in
-    why.refused (subst (λ t. AllowsPort side t port) (transport-of-one old a.link why.link a.header why.header a.transport why.transport a.before why.carries) accepts)
+    why.disallowed (subst (λ t. AllowsPort side t port) (transport-of-one old a.link why.link a.header why.header a.transport why.transport a.before why.carries) accepts)
 
 untranslated-once : (frame : List ℕ) (side : Side) (port : ℕ) (r s : Rejection) → IsUntranslated frame side port r → IsUntranslated frame side port s → r ≡ s
 untranslated-once frame side port r s (inl a) (inl b) = computed-one _ r s a b

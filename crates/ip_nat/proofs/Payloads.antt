@@ -27,8 +27,8 @@ range-from bytes part h n room =
     ap (drop h) (append_assoc (take h bytes) part (drop n bytes)) ∙ drop-front (take h bytes) (part ++ drop n bytes) h (length-take-le h bytes room)
 
 -- the elements after it
-pub range-behind : (bytes part : List ℕ) (h n : ℕ) → h ≤ n → n ≤ length bytes → length part ≡ n - h → drop n (with_range bytes h n part) ≡ drop n bytes
-range-behind bytes part h n order room e =
+pub range-following : (bytes part : List ℕ) (h n : ℕ) → h ≤ n → n ≤ length bytes → length part ≡ n - h → drop n (with_range bytes h n part) ≡ drop n bytes
+range-following bytes part h n order room e =
     let front : length (take h bytes) ≡ h = length-take-le h bytes (omega arith) in
     let whole : length (take h bytes ++ part) ≡ n = length-append (take h bytes) part ∙ omega (arith, front, e, order) in
     drop-front (take h bytes ++ part) (drop n bytes) n whole
@@ -41,9 +41,9 @@ range-part bytes part h n room e = ap (take (n - h)) (range-from bytes part h n 
 pub range-same : (bytes : List ℕ) (h n : ℕ) → h ≤ n → with_range bytes h n (slice_range bytes h n) ≡ bytes
 range-same bytes h n order =
     let e : h + (n - h) ≡ n = omega arith in
-    let behind : drop n bytes ≡ drop (n - h) (drop h bytes) = ap (λ (k : ℕ). drop k bytes) (sym e) ∙ sym (drop-drop (n - h) h bytes) in
+    let after_header : drop n bytes ≡ drop (n - h) (drop h bytes) = ap (λ (k : ℕ). drop k bytes) (sym e) ∙ sym (drop-drop (n - h) h bytes) in
     append_assoc (take h bytes) (slice_range bytes h n) (drop n bytes)
-    ∙ ap (λ (l : List ℕ). take h bytes ++ (slice_range bytes h n ++ l)) behind
+    ∙ ap (λ (l : List ℕ). take h bytes ++ (slice_range bytes h n ++ l)) after_header
     ∙ ap (λ (l : List ℕ). take h bytes ++ l) (take-append-drop (n - h) (drop h bytes))
     ∙ take-append-drop h bytes
 
@@ -51,7 +51,7 @@ range-same bytes h n order =
 pub range-twice : (bytes part other : List ℕ) (h n : ℕ) → h ≤ n → n ≤ length bytes → length part ≡ n - h
     → with_range (with_range bytes h n part) h n other ≡ with_range bytes h n other
 range-twice bytes part other h n order room e =
-    (λ i. (range-front bytes part h n (omega arith) i ++ other) ++ range-behind bytes part h n order room e i)
+    (λ i. (range-front bytes part h n (omega arith) i ++ other) ++ range-following bytes part h n order room e i)
 
 -- ---- after a front of twenty bytes
 

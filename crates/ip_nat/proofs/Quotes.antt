@@ -26,7 +26,7 @@ use Rattle.ip_nat.proofs.Payloads.{drop-front, range-len}
 use Rattle.ip_nat.proofs.TcpEnds.{tcp-ported, tcp-whole}
 use Rattle.ip_nat.proofs.UdpEnds.{udp-ported, udp_next, whole}
 use Rattle.ip_nat.proofs.Words.{spelled, spelled-fits, spelled-word, word}
-use Rattle.ip_nat.specs.Errors.{CarriesError, IsErrorTranslated, Quotes, Reports, error_packet, is_error, with_message_checksum, behind, echo_type, end_bit, flow_by, quoted_of, quoting}
+use Rattle.ip_nat.specs.Errors.{CarriesError, IsErrorTranslated, Quotes, Reports, error_packet, is_error, with_message_checksum, after_header, echo_type, end_bit, flow_by, quoted_of, quoting}
 use Rattle.ip_nat.specs.Nat.{addr_at, opposite, port_bit, with_addr, with_address, with_tcp_end, with_udp_end}
 use Rattle.ip_nat.specs.declared.errors.Quoted.{Quoted}
 use Rattle.ip_nat.specs.declared.nat.Side.{Side}
@@ -141,19 +141,19 @@ same-offset side bytes addr room four =
     (subst (λ (a : List ℕ). P (cells 20 (take 20 bytes) ++ drop 20 bytes) a) (sym (cells-all 4 addr four)) (offset_cells side (take 20 bytes) (drop 20 bytes) addr)))
 
 -- and all bytes after the first twenty
-same-behind : (side : Side) (bytes addr : List ℕ) (h : ℕ) → 20 ≤ length bytes → 20 ≤ h → length addr ≡ 4 → drop h (with_address side addr bytes) ≡ drop h bytes
-same-behind side bytes addr h room least four =
+same-following : (side : Side) (bytes addr : List ℕ) (h : ℕ) → 20 ≤ length bytes → 20 ≤ h → length addr ≡ 4 → drop h (with_address side addr bytes) ≡ drop h bytes
+same-following side bytes addr h room least four =
     let e : h ≡ 20 + (h - 20) = omega (arith, least) in
     let at = addressed side (take 20 bytes) (drop 20 bytes) addr (front-len bytes room) four in
     let new = with_address side addr bytes in
-    let twenty : drop 20 new ≡ drop 20 bytes = subst (λ (l : List ℕ). drop 20 (with_address side addr l) ≡ drop 20 bytes) (take-append-drop 20 bytes) at.behind in
+    let twenty : drop 20 new ≡ drop 20 bytes = subst (λ (l : List ℕ). drop 20 (with_address side addr l) ≡ drop 20 bytes) (take-append-drop 20 bytes) at.after_header in
     ap (λ (k : ℕ). drop k new) e ∙ sym (drop-drop (h - 20) 20 new) ∙ ap (drop (h - 20)) twenty ∙ drop-drop (h - 20) 20 bytes ∙ ap (λ (k : ℕ). drop k bytes) (sym e)
 
 -- the quoted packet before its address is written
 abbrev pub inner_of : List ℕ → List ℕ → List ℕ
 inner_of bytes part = take (header_len bytes) bytes ++ part
 
-pub inner-len : (bytes part : List ℕ) → header_len bytes ≤ length bytes → length part ≡ length (behind bytes) → length (inner_of bytes part) ≡ length bytes
+pub inner-len : (bytes part : List ℕ) → header_len bytes ≤ length bytes → length part ≡ length (after_header bytes) → length (inner_of bytes part) ≡ length bytes
 inner-len bytes part room e =
     let h = header_len bytes in
     length-append (take h bytes) part ∙ omega (arith, length-take-le h bytes room, e, length-drop h bytes, room)
@@ -164,7 +164,7 @@ pub record SameInner (bytes inner : List ℕ) : Type 0 where
   pub whole : header_len inner ≤ length inner
   pub summed : sum_of_bytes (take (header_len inner) inner) ≡ sum_of_bytes (take (header_len bytes) bytes)
 
-pub inner-header : (bytes part : List ℕ) → length part ≡ length (behind bytes) → 20 ≤ header_len bytes → header_len bytes ≤ length bytes → SameInner bytes (inner_of bytes part)
+pub inner-header : (bytes part : List ℕ) → length part ≡ length (after_header bytes) → 20 ≤ header_len bytes → header_len bytes ≤ length bytes → SameInner bytes (inner_of bytes part)
 inner-header bytes part e least room =
     let h = header_len bytes in
     let same = same-header bytes part h least room in
@@ -177,8 +177,8 @@ inner-header bytes part e least room =
 
 -- the quoted packet, once its address and the bytes after its header are written
 pub requoted : (side : Side) (bytes part new addr : List ℕ) (port : ℕ) (p : Protocol) (q : Quoted) → length addr ≡ 4 → q.protocol ≡ p
-    → new ≡ with_address side addr (inner_of bytes part) → length part ≡ length (behind bytes) → field part (end_bit p side) 16 ≡ port
-    → (p ≡ flow.Icmp → field part 0 8 ≡ field (behind bytes) 0 8) → Quotes side bytes q → Quotes side new (quoting q addr port)
+    → new ≡ with_address side addr (inner_of bytes part) → length part ≡ length (after_header bytes) → field part (end_bit p side) 16 ≡ port
+    → (p ≡ flow.Icmp → field part 0 8 ≡ field (after_header bytes) 0 8) → Quotes side bytes q → Quotes side new (quoting q addr port)
 requoted side bytes part new addr port p q four named at e written type r =
     let h = header_len bytes in
     let room : h ≤ length bytes = omega (arith, r.room) in
@@ -190,9 +190,9 @@ requoted side bytes part new addr port p q four named at e written type r =
     let header : header_len new ≡ h = ap header_len at ∙ k.shape.header ∙ same.header in
     let offset : fragment_offset new ≡ fragment_offset bytes = ap fragment_offset at ∙ same-offset side inner addr twenty four ∙ same.offset in
     let proto : field new 72 8 ≡ field bytes 72 8 = ap (λ (l : List ℕ). field l 72 8) at ∙ k.shape.protocol ∙ same.protocol in
-    let back : behind new ≡ part =
-    (λ i. drop (header i) (at i)) ∙ same-behind side inner addr h twenty r.header four ∙ drop-front (take h bytes) part h (length-take-le h bytes room) in
-    let kept = flow-kept side (protocol_of (field bytes 72 8)) (field (behind bytes) 0 8) (field part 0 8) q.protocol (λ is. type (sym named ∙ is)) r.flow in
+    let back : after_header new ≡ part =
+    (λ i. drop (header i) (at i)) ∙ same-following side inner addr h twenty r.header four ∙ drop-front (take h bytes) part h (length-take-le h bytes room) in
+    let kept = flow-kept side (protocol_of (field bytes 72 8)) (field (after_header bytes) 0 8) (field part 0 8) q.protocol (λ is. type (sym named ∙ is)) r.flow in
     record {
       version = ap (λ (l : List ℕ). field l 0 4) at ∙ k.shape.version ∙ same.version ∙ r.version;
       header = omega (arith, header, r.header);
@@ -208,10 +208,10 @@ requoted side bytes part new addr port p q four named at e written type r =
 -- the type of a message and what follows its header, once another part follows it and the checksum is computed
 pub record IsMessage (old new part : List ℕ) : Type 0 where
   pub type : field new 0 8 ≡ field old 0 8
-  pub behind : drop 8 new ≡ part
+  pub after_header : drop 8 new ≡ part
 
 message_cells : (front rest part : List ℕ) → IsMessage (cells 8 front ++ rest) (with_message_checksum (cells 8 front ++ part)) part
-message_cells front rest part = record { type = refl; behind = refl }
+message_cells front rest part = record { type = refl; after_header = refl }
 
 pub message : (bytes part : List ℕ) → 8 ≤ length bytes → IsMessage bytes (with_message_checksum (take 8 bytes ++ part)) part
 message bytes part room =
@@ -252,7 +252,7 @@ reported side bytes part new q other room at quotes r =
     record {
       error = ap (λ (l : List ℕ). is_error (field l 0 8)) at ∙ ap is_error m.type ∙ r.error;
       checksum = ap sum_of_bytes at ∙ filled (take 8 bytes ++ part) (omega (arith, length-append (take 8 bytes) part, length-take-le 8 bytes room));
-      quotes = subst (λ (l : List ℕ). Quotes side l other) (sym (ap (drop 8) at ∙ m.behind)) quotes;
+      quotes = subst (λ (l : List ℕ). Quotes side l other) (sym (ap (drop 8) at ∙ m.after_header)) quotes;
     }
 
 -- ---- the packet and the frame

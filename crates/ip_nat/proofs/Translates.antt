@@ -6,7 +6,7 @@ use Rattle.ip_wire.proofs.Spelled.{AreBytes}
 use Rattle.ip_wire.specs.Ethernet as ethernet
 use Rattle.ip_wire.specs.Field.{field, with_field, with_range}
 use Rattle.ip_wire.specs.Frame.{ReadsTransport, all_checked, ipv4_payload}
-use Rattle.ip_wire.specs.IpAddress.{octets_of}
+use Rattle.ip_wire.specs.IpAddress.{address_bytes}
 use Rattle.ip_wire.specs.Ipv4 as ipv4
 use Rattle.ip_wire.specs.Protocol.{protocol_of}
 use Rattle.ip_wire.specs.TcpRepr.{TcpHeader}
@@ -22,7 +22,7 @@ use Rattle.ip_nat.proofs.Headers.{keeps, reads-inner, same-inner}
 use Rattle.ip_nat.proofs.Payloads.{drop-front, range-len, range-part}
 use Rattle.ip_nat.proofs.TcpEnds.{tcp-len}
 use Rattle.ip_nat.proofs.UdpEnds.{udp-ended}
-use Rattle.ip_nat.specs.Nat.{AllowsPort, Carries, CarriesPorts, IsRejected, IsTranslated, IsUntranslated, LacksChecksum, ReadsPorts, RefusesPort, Rewrites, Transport, addr_at, addr_of, port_bit, translated_packet, with_addr, with_address, with_end, with_end_by, with_port, datagram, segment, request, reply, plain}
+use Rattle.ip_nat.specs.Nat.{AllowsPort, Carries, CarriesPorts, IsRejected, IsTranslated, IsUntranslated, LacksChecksum, ReadsPorts, RejectsPort, Rewrites, Transport, addr_at, addr_of, port_bit, translated_packet, with_addr, with_address, with_end, with_end_by, with_port, datagram, segment, request, reply, plain}
 use Rattle.ip_nat.specs.declared.nat.Rejection.{Rejection}
 use Rattle.ip_nat.specs.declared.nat.Rejection.TheVariants.{ZeroPort}
 use Rattle.ip_nat.specs.declared.nat.Side.{Side}
@@ -61,9 +61,9 @@ four-octets Destination v src dst = dst
 -- end and that of the other.
 pub moved-end : {V : Type 0} (Reads : List ℕ → IpAddress → IpAddress → Bool → V → List ℕ → Type 0) (put : V → V) (old mid new addr own far from : List ℕ)
     → own ≡ from → length addr ≡ 4 → length far ≡ 4
-    → ((d : IpAddress) (verified : Bool) (u : V) (payload : List ℕ) → length (octets_of d) % 2 ≡ 0 → Reads old (address.Ipv4 from) d verified u payload
+    → ((d : IpAddress) (verified : Bool) (u : V) (payload : List ℕ) → length (address_bytes d) % 2 ≡ 0 → Reads old (address.Ipv4 from) d verified u payload
     → Reads mid (address.Ipv4 addr) d verified u payload)
-    → ((s d : IpAddress) (verified : Bool) (u : V) (payload : List ℕ) → length (octets_of s) % 2 ≡ 0 → length (octets_of d) % 2 ≡ 0 → Reads mid s d verified u payload → Reads new s d verified (put u) payload)
+    → ((s d : IpAddress) (verified : Bool) (u : V) (payload : List ℕ) → length (address_bytes s) % 2 ≡ 0 → length (address_bytes d) % 2 ≡ 0 → Reads mid s d verified u payload → Reads new s d verified (put u) payload)
     → (u : V) (payload : List ℕ) → Reads old (address.Ipv4 own) (address.Ipv4 far) true u payload → Reads new (address.Ipv4 addr) (address.Ipv4 far) true (put u) payload
 moved-end {V} Reads put old mid new addr own far from was four four' first second u payload r =
     second (address.Ipv4 addr) (address.Ipv4 far) true u payload (even addr four) (even far four')
@@ -246,9 +246,9 @@ pub translates : (frame new body : List ℕ) (link : EthernetRepr) (v : Ipv4Repr
     → body ≡ translated_packet side addr port (drop 14 frame) → new ≡ take 14 frame ++ body → IsTranslated frame new side addr port
 translates frame new body link v t side addr port four are c after is at =
     let front : length (take 14 frame) ≡ 14 = length-take-le 14 frame c.reads.reads_header.whole in
-    let behind : drop 14 new ≡ body = ap (drop 14) at ∙ drop-front (take 14 frame) body 14 front in
+    let after_header : drop 14 new ≡ body = ap (drop 14) at ∙ drop-front (take 14 frame) body 14 front in
     let reads : ethernet.Reads new link = subst (λ (l : List ℕ). ethernet.Reads l link) (sym at) (link-stays frame body link c.reads.reads_header) in
-    let whole : CarriesPorts (drop 14 new) (with_addr side addr v) (with_port side port t) = subst (λ (l : List ℕ). CarriesPorts l (with_addr side addr v) (with_port side port t)) (sym behind) after in
+    let whole : CarriesPorts (drop 14 new) (with_addr side addr v) (with_port side port t) = subst (λ (l : List ℕ). CarriesPorts l (with_addr side addr v) (with_port side port t)) (sym after_header) after in
     let lacks = unsummed (drop 14 frame) v t side addr port four (AreBytes-drop 14 frame are) (carried frame link v t c) in
     record {
       link = link;
@@ -258,7 +258,7 @@ translates frame new body link v t side addr port four are c after is at =
       after = framed new link (with_addr side addr v) (with_port side port t) reads c.reads.reads_carried.0 whole;
       unsummed = subst
           (λ (l : List ℕ). LacksChecksum frame ↔ ((protocol_of (field l 72 8) ≡ protocol.Udp) × (field (ipv4_payload l) 48 16 ≡ 0)))
-          (sym (behind ∙ is)) lacks;
+          (sym (after_header ∙ is)) lacks;
       bytes = at ∙ ap (λ (l : List ℕ). take 14 frame ++ l) is;
     }
 
@@ -267,7 +267,7 @@ pub untranslated : (frame : List ℕ) (side : Side) (port : ℕ) (reason : Rejec
 untranslated frame side port reason why = inl why
 
 -- a frame whose port is rejected is not translated
-pub refused : {T : Type 0} (answer : Result T Rejection) (frame : List ℕ) (side : Side) (port : ℕ) → IfErr answer (λ reason. reason ≡ ZeroPort)
-    → IfErr answer (λ _. RefusesPort frame side port) → IfErr answer (IsUntranslated frame side port)
-refused (Ok v) frame side port is why = tt
-refused (Err reason) frame side port is why = inr (is, why)
+pub disallowed : {T : Type 0} (answer : Result T Rejection) (frame : List ℕ) (side : Side) (port : ℕ) → IfErr answer (λ reason. reason ≡ ZeroPort)
+    → IfErr answer (λ _. RejectsPort frame side port) → IfErr answer (IsUntranslated frame side port)
+disallowed (Ok v) frame side port is why = tt
+disallowed (Err reason) frame side port is why = inr (is, why)

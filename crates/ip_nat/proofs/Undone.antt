@@ -181,9 +181,9 @@ undone frame there back side addr port was are four fits usual again =
     let front : length (take 14 frame) ≡ 14 = length-take-le 14 frame was.before.reads.reads_header.whole in
     let Q = translated_packet side addr port (drop 14 frame) in
     let first : take 14 there ≡ take 14 frame = ap (take 14) was.bytes ∙ take_at (take 14 frame) Q 14 front in
-    let behind : drop 14 there ≡ Q = ap (drop 14) was.bytes ∙ drop-front (take 14 frame) Q 14 front in
+    let after_header : drop 14 there ≡ Q = ap (drop 14) was.bytes ∙ drop-front (take 14 frame) Q 14 front in
     again.bytes
-    ∙ (λ i. first i ++ translated_packet side (addr_of side was.header) (port_of side was.transport) (behind i))
+    ∙ (λ i. first i ++ translated_packet side (addr_of side was.header) (port_of side was.transport) (after_header i))
     ∙ ap (λ (l : List ℕ). take 14 frame ++ l)
     (packet-back (drop 14 frame) was.header was.transport side addr port (carried frame was.link was.header was.transport was.before) (AreBytes-drop 14 frame are) four fits usual.ipv4 usual.tcp usual.icmp)
     ∙ take-append-drop 14 frame

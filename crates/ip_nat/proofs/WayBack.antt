@@ -38,7 +38,7 @@ back-untranslated old new side addr port r was (inr (is, why)) =
     let read = carried old was.link v t was.before in
     let accepts = allowed-back v (ipv4_payload (drop 14 old)) side port t read.carries in
     let same = transport-of-one new was.link why.link (with_addr side addr v) why.header (with_port side port t) why.transport was.after why.carries in
-    why.refused (subst (λ u. AllowsPort side u (port_of side t)) same accepts)
+    why.disallowed (subst (λ u. AllowsPort side u (port_of side t)) same accepts)
 back-untranslated old new side addr port r was (inl why) = carries-unrejected new was.link (with_addr side addr was.header) (with_port side port was.transport) r was.after why
 
 -- the result of the way back, for the address and the port of the packet that the frame carried

@@ -34,8 +34,8 @@ echo_type Source = 8
 echo_type Destination = 0
 
 -- the bytes after the header of a quoted packet
-abbrev pub behind : List ℕ → List ℕ
-behind bytes = drop (header_len bytes) bytes
+abbrev pub after_header : List ℕ → List ℕ
+after_header bytes = drop (header_len bytes) bytes
 
 -- the protocol of a quoted packet, by the protocol of its header and the first byte after it
 abbrev pub flow_by : Side → IpProtocol → ℕ → Option Protocol
@@ -58,9 +58,9 @@ pub record Quotes (side : Side) (bytes : List ℕ) (q : Quoted) : Type 0 where
   pub header : 20 ≤ header_len bytes
   pub room : header_len bytes + 8 ≤ length bytes
   pub first : fragment_offset bytes ≡ 0
-  pub flow : flow_by side (protocol_of (field bytes 72 8)) (field (behind bytes) 0 8) ≡ Some q.protocol
+  pub flow : flow_by side (protocol_of (field bytes 72 8)) (field (after_header bytes) 0 8) ≡ Some q.protocol
   pub addr : q.end.addr ≡ addr_at side bytes
-  pub port : q.end.port ≡ field (behind bytes) (end_bit q.protocol side) 16
+  pub port : q.end.port ≡ field (after_header bytes) (end_bit q.protocol side) 16
 
 -- ---- frames
 
@@ -87,7 +87,7 @@ pub record CarriesError (side : Side) (frame : List ℕ) (header : Ipv4Repr) (q 
 abbrev pub is_quoted : Side → List ℕ → Bool
 is_quoted side bytes =
     field bytes 0 4 == 4 && nat_le 20 (header_len bytes) && nat_le (header_len bytes + 8) (length bytes) && fragment_offset bytes == 0
-    && is_some (flow_by side (protocol_of (field bytes 72 8)) (field (behind bytes) 0 8))
+    && is_some (flow_by side (protocol_of (field bytes 72 8)) (field (after_header bytes) 0 8))
 
 -- why an ICMP message is no error that quotes such a packet, if it is none: it is too short, another message, has a
 -- wrong checksum, or quotes no such packet
@@ -128,7 +128,7 @@ with_quoted_end flow.Icmp side old new port bytes = icmp.with_updated_checksum (
 -- the quoted packet with another address and port on this side
 abbrev pub quoted_with : Protocol → Side → List ℕ → ℕ → List ℕ → List ℕ
 quoted_with p side addr port bytes =
-    with_address side addr (take (header_len bytes) bytes ++ with_quoted_end p side (addr_at side bytes) addr port (behind bytes))
+    with_address side addr (take (header_len bytes) bytes ++ with_quoted_end p side (addr_at side bytes) addr port (after_header bytes))
 
 -- an ICMP message over IPv4 with the checksum computed anew
 abbrev pub with_message_checksum : List ℕ → List ℕ

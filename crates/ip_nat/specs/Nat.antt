@@ -276,16 +276,16 @@ abbrev pub IsRejected : List ℕ → Rejection → Type 0
 IsRejected frame reason = packet_fault frame ≡ Some reason
 
 -- the frame carries a packet that no receiver accepts with this port on this side
-pub record RefusesPort (frame : List ℕ) (side : Side) (port : ℕ) : Type 0 where
+pub record RejectsPort (frame : List ℕ) (side : Side) (port : ℕ) : Type 0 where
   pub link : EthernetRepr
   pub header : Ipv4Repr
   pub transport : Transport
   pub carries : Carries frame link header transport
-  pub refused : ¬ AllowsPort side transport port
+  pub disallowed : ¬ AllowsPort side transport port
 
 -- the reason why a frame does not get this port on this side: it is not parsed, or no receiver accepts the port
 abbrev pub IsUntranslated : List ℕ → Side → ℕ → Rejection → Type 0
-IsUntranslated frame side port reason = IsRejected frame reason ⊎ ((reason ≡ ZeroPort) × RefusesPort frame side port)
+IsUntranslated frame side port reason = IsRejected frame reason ⊎ ((reason ≡ ZeroPort) × RejectsPort frame side port)
 
 -- ---- before and after
 

@@ -12,7 +12,7 @@ ghost use Rattle.ip_wire.specs.Ipv4.{HasChecksum, header_len, total_len};
 use crate::nat::{Rejection, Side, rewrite_tcp, rewrite_udp, set_addr};
 use crate::packet::parse_whole;
 use ip_flows::{Ipv4Endpoint, Mapping, Nat, Protocol, inside_of, port_of};
-use ip_wire::laws::octets_fit;
+use ip_wire::laws::bytes_fit;
 use ip_wire::{
     ETHERNET_HEADER_LEN, IPV4_HEADER_LEN, IpAddress, IpProtocol, Ipv4Address, Ipv4Packet, Ipv4Repr,
     TcpPacketMut, UdpPacket,
@@ -108,7 +108,7 @@ impl IcmpError {
         requires { CarriesError side frame.old self.now.header self.now.quoted }
         ensures { IsErrorTranslated frame.old frame.new side self.now.header self.now.quoted addr port }
     {
-        octets_fit(frame);
+        bytes_fit(frame);
         let (_, packet) = frame.split_at_mut(ETHERNET_HEADER_LEN);
         rewrite_packet(self.quoted.protocol, packet, side, addr, port);
     }
@@ -163,13 +163,13 @@ fn parse_quoted(bytes: &[u8], side: Side) -> Option<Quoted>
     if packet.frag_offset() != 0 {
         return None;
     }
-    let behind = &bytes[len..];
-    let protocol = protocol_by(side, packet.next_header(), behind[0])?;
+    let after_header = &bytes[len..];
+    let protocol = protocol_by(side, packet.next_header(), after_header[0])?;
     Some(Quoted {
         protocol,
         end: Ipv4Endpoint {
             addr: addr_in(bytes, side),
-            port: port_in(behind, protocol, side),
+            port: port_in(after_header, protocol, side),
         },
     })
 }
@@ -203,16 +203,16 @@ fn protocol_by(side: Side, protocol: IpProtocol, msg_type: u8) -> Option<Protoco
 }
 
 // The port or identifier behind the header of a quoted packet.
-fn port_in(behind: &[u8], protocol: Protocol, side: Side) -> u16
-    requires { 8 ≤ length behind.now }
-    ensures { result ≡ field behind.now (end_bit protocol side) 16 }
+fn port_in(after_header: &[u8], protocol: Protocol, side: Side) -> u16
+    requires { 8 ≤ length after_header.now }
+    ensures { result ≡ field after_header.now (end_bit protocol side) 16 }
 {
     match protocol {
-        Protocol::Icmp => IcmpPacket::new_unchecked(behind).echo_ident(),
+        Protocol::Icmp => IcmpPacket::new_unchecked(after_header).echo_ident(),
         // UDP and TCP begin with the same two ports.
         Protocol::Udp | Protocol::Tcp => match side {
-            Side::Source => UdpPacket::new_unchecked(behind).src_port(),
-            Side::Destination => UdpPacket::new_unchecked(behind).dst_port(),
+            Side::Source => UdpPacket::new_unchecked(after_header).src_port(),
+            Side::Destination => UdpPacket::new_unchecked(after_header).dst_port(),
         },
     }
 }
@@ -262,8 +262,8 @@ fn rewrite_quoted(protocol: Protocol, bytes: &mut [u8], side: Side, addr: Ipv4Ad
 {
     let old = addr_in(bytes, side);
     let len = usize::from(Ipv4Packet::new_unchecked(bytes).header_len());
-    let (_, behind) = bytes.split_at_mut(len);
-    rewrite_end(protocol, behind, side, old, addr, port);
+    let (_, after_header) = bytes.split_at_mut(len);
+    rewrite_end(protocol, after_header, side, old, addr, port);
     set_addr(bytes, side, addr);
 }
 
@@ -281,7 +281,7 @@ fn rewrite_end(
     ensures port { field bytes.new (end_bit protocol side) 16 ≡ port }
     ensures echo { protocol ≡ Protocol.Icmp → field bytes.new 0 8 ≡ field bytes.old 0 8 }
 {
-    octets_fit(bytes);
+    bytes_fit(bytes);
     match protocol {
         Protocol::Udp => rewrite_udp(bytes, side, old, new, port),
         Protocol::Tcp if bytes.len() < TCP_CHECKSUM_END => set_port(bytes, side, port),

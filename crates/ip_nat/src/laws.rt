@@ -11,7 +11,7 @@ use crate::nat::{Rejection, Side, translate};
 use crate::packet::Packet;
 use ip_flows::{Mapping, Nat};
 use ip_wire::Ipv4Address;
-use ip_wire::laws::octets_fit;
+use ip_wire::laws::bytes_fit;
 
 /// Translating back to the address and port that the packet had restores the
 /// original bytes. The IPv4 checksum and that of a TCP segment must not be 0xffff. No sender
@@ -22,7 +22,7 @@ pub fn translation_is_undone(frame: &[u8], side: Side, addr: Ipv4Address, port: 
         → IsTranslated there back side (addr_of side was.header) (port_of side was.transport)
         → back ≡ frame.now }
 {
-    octets_fit(frame);
+    bytes_fit(frame);
 }
 
 /// If a frame is translated, a second call with the old address and port is not rejected, and it restores the original
@@ -37,7 +37,7 @@ pub fn translate_back(
     ensures same { frame.new ≡ frame.old }
     ensures rejected { IfErr result (IsUntranslated frame.old side port) }
 {
-    octets_fit(frame);
+    bytes_fit(frame);
     let packet = Packet::parse(frame)?;
     packet.rewrite(frame, side, addr, port)?;
     match side {

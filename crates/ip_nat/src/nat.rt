@@ -2,13 +2,13 @@
 
 ghost use Rattle.std.specs.Prelude.{◌≡◌, ◌↔◌, ◌≤◌, List, ℕ, IfErr, OnErr, OnOk, length, true};
 ghost use Rattle.ip_nat.specs.Nat as nat;
-ghost use Rattle.ip_nat.specs.Nat.{AllowsPort, CarriesPorts, IsPacket, IsTranslated, IsUntranslated, ReadsPorts, RefusesPort, Rewrites, Transport, addr_of, of_header, opposite, translated_packet, with_addr, with_address, with_echo_ident, with_end, with_port, with_tcp_end, with_udp_end};
+ghost use Rattle.ip_nat.specs.Nat.{AllowsPort, CarriesPorts, IsPacket, IsTranslated, IsUntranslated, ReadsPorts, RejectsPort, Rewrites, Transport, addr_of, of_header, opposite, translated_packet, with_addr, with_address, with_echo_ident, with_end, with_port, with_tcp_end, with_udp_end};
 ghost use Rattle.ip_wire.specs.Ipv4 as ipv4;
 ghost use Rattle.ip_wire.specs.TcpRepr.{TcpHeader};
 ghost use Rattle.ip_wire.specs.Types.{Ipv4Repr, UdpRepr};
 
 use crate::packet::Packet;
-use ip_wire::laws::octets_fit;
+use ip_wire::laws::bytes_fit;
 use ip_wire::{
     ETHERNET_HEADER_LEN, HeaderFault, IpAddress, IpProtocol, IpRepr, Ipv4Address, Ipv4Packet,
     Ipv4PacketMut, Ipv4Repr, TcpPacketMut, UdpPacketMut, checksum,
@@ -119,13 +119,13 @@ impl Packet {
         requires { IsPacket frame.old self.now }
         ensures translated { OnOk result (IsTranslated frame.old frame.new side addr port) }
         ensures rejected { IfErr result (λ reason. reason ≡ Rejection.ZeroPort) }
-        ensures refused { OnErr result (RefusesPort frame.old side port) }
+        ensures disallowed { OnErr result (RejectsPort frame.old side port) }
         ensures unchanged { OnErr result (frame.new ≡ frame.old) }
     {
         if !self.allows_port(side, port) {
             return Err(Rejection::ZeroPort);
         }
-        octets_fit(frame);
+        bytes_fit(frame);
         let (_, packet) = frame.split_at_mut(ETHERNET_HEADER_LEN);
         rewrite_packet(self.header, packet, side, addr, port);
         Ok(())
@@ -158,7 +158,7 @@ pub(crate) fn set_addr(packet: &mut [u8], side: Side, addr: Ipv4Address)
     ensures summed { 20 ≤ ipv4.header_len packet.old → ipv4.header_len packet.old ≤ length packet.old
         → ipv4.HasChecksum packet.old ↔ ipv4.HasChecksum packet.new }
 {
-    octets_fit(packet);
+    bytes_fit(packet);
     let mut packet = Ipv4PacketMut::new_unchecked(packet);
     let new = checksum::address(&IpAddress::Ipv4(addr));
     match side {
@@ -241,7 +241,7 @@ fn rewrite_echo(header: Ipv4Repr, bytes: &mut [u8], side: Side, addr: Ipv4Addres
     ensures reads { (transport : Transport) → header.next_header ≡ IpProtocol.Icmp → Rewrites header bytes.old bytes.new side addr port transport }
     ensures bytes { bytes.new ≡ with_echo_ident addr port bytes.old }
 {
-    octets_fit(bytes);
+    bytes_fit(bytes);
     // Over IPv4 the checksum covers no address.
     let end = IpAddress::Ipv4(addr);
     let mut message = IcmpPacketMut::new_unchecked(bytes);

@@ -14,5 +14,5 @@ parsed R h p (Ok v) read once ok err = once (header_of v) h v.payload.now p ok r
 parsed R h p (Err e) read once ok err = absurd (err h p read)
 
 -- the slice from a place on has all bytes after it
-pub behind : (n : ℕ) (bytes : List ℕ) → take (length bytes - n) (drop n bytes) ≡ drop n bytes
-behind n bytes = take_all (length bytes - n) (drop n bytes) (omega (arith, length-drop n bytes))
+pub all_after : (n : ℕ) (bytes : List ℕ) → take (length bytes - n) (drop n bytes) ≡ drop n bytes
+all_after n bytes = take_all (length bytes - n) (drop n bytes) (omega (arith, length-drop n bytes))

@@ -38,10 +38,10 @@ first_of-front kind (Some j ∷ xs) ys i found = elim (cases_Bool (eqb j.kind ki
 ]
 
 -- the search passes the list, and then the bytes after it
-on_behind : {A : Type 0} (options : List ℕ) (items : List Item) (tail : List ℕ) (kind : ℕ) (f : Item → A) (default : A) (a : Result A Error)
+on_following : {A : Type 0} (options : List ℕ) (items : List Item) (tail : List ℕ) (kind : ℕ) (f : Item → A) (default : A) (a : Result A Error)
     → IsOptionList options items tail → Answers options kind f default a
     → let next = stuck_walk tail in a ≡ answer_of f default (first_of kind (map Some items ++ next.marks)) next.rest
-on_behind options items tail kind f default a list (marks, rest, longest, found) =
+on_following options items tail kind f default a list (marks, rest, longest, found) =
     let next = stuck_walk tail in
     let whole = map Some items ++ next.marks in
     let (same, end) = one_long_walk options marks whole rest next.rest longest (long_on options (map Some items) tail (walk_of options items tail list) next) in
@@ -56,12 +56,12 @@ by_first options items tail kind f default a None list is answers =
       next.marks,
       next.rest,
       long tail next.marks next.rest next.walk next.nothing,
-      on_behind options items tail kind f default a list answers
+      on_following options items tail kind f default a list answers
           ∙ ap (λ o. answer_of f default o next.rest) (first_of-append kind (map Some items) next.marks is),
     )
 by_first options items tail kind f default a (Some i) list is answers =
     let next = stuck_walk tail in
-    on_behind options items tail kind f default a list answers
+    on_following options items tail kind f default a list answers
     ∙ ap (λ o. answer_of f default o next.rest) (first_of-front kind (map Some items) next.marks i is)
 
 -- ---- the last option of a kind
@@ -79,10 +79,10 @@ agrees_by : {A : Type 0} (options : List ℕ) (items : List Item) (tail : List �
     → IsOptionList options items tail → first_of kind (map Some items) ≡ first → Answers options kind f default a → (first ≡ None → value ≡ default)
     → (a ≡ Ok value) ↔ MatchOption first (Answers tail kind f default (Ok default)) (λ i. f i ≡ value)
 agrees_by options items tail kind f default value a None list is answers nothing =
-    let behind = by_first options items tail kind f default a None list is answers in
+    let following = by_first options items tail kind f default a None list is answers in
     let no = nothing refl in (
-      λ e. subst (λ x. Answers tail kind f default x) (e ∙ ap Ok no) behind,
-      λ found. one_answer tail kind f default a (Ok default) behind found ∙ ap Ok (sym no),
+      λ e. subst (λ x. Answers tail kind f default x) (e ∙ ap Ok no) following,
+      λ found. one_answer tail kind f default a (Ok default) following found ∙ ap Ok (sym no),
     )
 agrees_by options items tail kind f default value a (Some i) list is answers nothing =
     let front = by_first options items tail kind f default a (Some i) list is answers in

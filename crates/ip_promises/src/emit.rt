@@ -108,7 +108,7 @@ pub fn emit_tcp(
 }
 
 /// Writes a TCP segment to a buffer of its length.
-pub fn emit_tcp_alone(
+pub fn emit_only_tcp(
     value: &TcpRepr<'_>,
     src_addr: &IpAddress,
     dst_addr: &IpAddress,

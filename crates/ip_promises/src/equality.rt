@@ -15,7 +15,7 @@ ghost use Rattle.ip_wire.specs.Udp as udp;
 
 mod comparisons;
 
-use crate::emit::emit_tcp_alone;
+use crate::emit::emit_only_tcp;
 use ip_wire::{
     ArpPacket, Carried, EthernetFrame, Frame, IpAddress, IpPacket, Ipv4Packet, Ipv6FragmentHeader,
     Ipv6Packet, TcpOption, TcpOptionSummary, TcpPacket, TcpRepr, Transport, UdpPacket, UdpRepr,
@@ -158,8 +158,8 @@ pub fn equal_bytes_tcp(
     ensures payload { IsTrue result → a.now.payload.now ≡ b.now.payload.now }
 {
     let caps = ChecksumCapabilities::default();
-    emit_tcp_alone(a, src_addr, dst_addr, a_buffer, &caps);
-    emit_tcp_alone(b, src_addr, dst_addr, b_buffer, &caps);
+    emit_only_tcp(a, src_addr, dst_addr, a_buffer, &caps);
+    emit_only_tcp(b, src_addr, dst_addr, b_buffer, &caps);
     if &*a_buffer == &*b_buffer {
         laws::equal_bytes(*a, *b, *src_addr, *dst_addr);
         true

@@ -13,7 +13,7 @@ ghost use Rattle.ip_wire.specs.TcpRepr as tcp;
 ghost use Rattle.ip_wire.specs.Udp as udp;
 
 use crate::emit::{
-    emit_arp, emit_ethernet, emit_ipv4, emit_ipv6, emit_ipv6_fragment, emit_tcp_alone, emit_udp,
+    emit_arp, emit_ethernet, emit_ipv4, emit_ipv6, emit_ipv6_fragment, emit_only_tcp, emit_udp,
 };
 use ip_wire::{
     ArpPacket, ArpRepr, ETHERNET_HEADER_LEN, EthernetFrame, EthernetRepr, IPV4_HEADER_LEN,
@@ -172,7 +172,7 @@ pub fn emit_then_parse_tcp<'b>(
     ensures value { IsOkAnd result (λ v. tcp.header_of v ≡ tcp.normal (tcp.header_of value.now)) }
     ensures payload { IsOkAnd result (λ v. v.payload.now ≡ value.now.payload.now) }
 {
-    emit_tcp_alone(value, src_addr, dst_addr, buffer, sent);
+    emit_only_tcp(value, src_addr, dst_addr, buffer, sent);
     laws::emit_reads_back_tcp(
         *value,
         *src_addr,

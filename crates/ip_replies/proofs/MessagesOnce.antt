@@ -81,12 +81,12 @@ advert_values ours dst solicited =
 
 to-once : (ours : Interface) (link : EthernetRepr) (ip : Ipv6Repr) (named : Option EthernetAddress) (a b : EthernetAddress) (c d : List ℕ) (s t : Bool)
     → IsAnsweredTo ours link ip named a c s → IsAnsweredTo ours link ip named b d t → (a ≡ b) × (c ≡ d) × (s ≡ t)
-to-once ours link ip named a b c d s t (inl (none, to, station, sol)) (inl (none', to', station', sol')) =
-    let octets : a.0 ≡ b.0 = station ∙ sym station' in ((λ i. record { 0 = octets i }), to ∙ sym to', sol ∙ sym sol')
-to-once ours link ip named a b c d s t (inl (none, to, station, sol)) (inr (valid, to', station', unicast', sol')) = absurd (valid (inl (inl none)))
-to-once ours link ip named a b c d s t (inr (valid, to', station', unicast', sol')) (inl (none, to, station, sol)) = absurd (valid (inl (inl none)))
-to-once ours link ip named a b c d s t (inr (valid, to, station, unicast, sol)) (inr (valid', to', station', unicast', sol')) =
-    (station ∙ sym station', to ∙ sym to', sol ∙ sym sol')
+to-once ours link ip named a b c d s t (inl (none, to, hardware, sol)) (inl (none', to', hardware', sol')) =
+    let octets : a.0 ≡ b.0 = hardware ∙ sym hardware' in ((λ i. record { 0 = octets i }), to ∙ sym to', sol ∙ sym sol')
+to-once ours link ip named a b c d s t (inl (none, to, hardware, sol)) (inr (valid, to', hardware', unicast', sol')) = absurd (valid (inl (inl none)))
+to-once ours link ip named a b c d s t (inr (valid, to', hardware', unicast', sol')) (inl (none, to, hardware, sol)) = absurd (valid (inl (inl none)))
+to-once ours link ip named a b c d s t (inr (valid, to, hardware, unicast, sol)) (inr (valid', to', hardware', unicast', sol')) =
+    (hardware ∙ sym hardware', to ∙ sym to', sol ∙ sym sol')
 
 pub neighbour-once : (ours : Interface) (asked_header : EthernetRepr) (asked : Carried) → IsOne (IsNeighbourReply ours asked_header asked)
 neighbour-once ours asked_header asked h k c d e g =
@@ -107,8 +107,8 @@ neighbour-once ours asked_header asked h k c d e g =
     ((ndisc_of_Reads x.src_addr x.dst_addr x.hop_limit true g.request one).1 reads) ((ndisc_of_Reads x.src_addr x.dst_addr x.hop_limit true g.request two).1 g.reads)
     in
     let named : e.named ≡ g.named = cc in
-    let to = subst (λ n. IsAnsweredTo ours asked_header x n e.station e.dst e.solicited) named (subst (λ y. IsAnsweredTo ours asked_header y e.named e.station e.dst e.solicited) ip e.to) in
-    let same = to-once ours asked_header x g.named e.station g.station e.dst g.dst e.solicited g.solicited to g.to in (
+    let to = subst (λ n. IsAnsweredTo ours asked_header x n e.hardware e.dst e.solicited) named (subst (λ y. IsAnsweredTo ours asked_header y e.named e.hardware e.dst e.solicited) ip e.to) in
+    let same = to-once ours asked_header x g.named e.hardware g.hardware e.dst g.dst e.solicited g.solicited to g.to in (
       e.link ∙ ap (λ s. record { src_addr = ours.hardware_addr; dst_addr = s; ethertype = ethertype.Ipv6 }) same.0 ∙ sym g.link,
       e.tells ∙ (λ i. advert_values ours (same.1 i) (same.2 i)) ∙ sym g.tells,
     )

@@ -45,8 +45,8 @@ header_from ours (Ipv6 v) = header_back (Ipv6 (record v { dst_addr = ours.ipv6_a
 -- address of its version.
 pub record IsBetweenHosts (ours : Interface) (link : EthernetRepr) (v : IpRepr) : Type 0 where
   pub type : link.ethertype ≡ type_of v
-  pub to_station : link.dst_addr ≡ ours.hardware_addr
-  pub from_station : hardware.IsUnicast link.src_addr.0
+  pub to_hardware : link.dst_addr ≡ ours.hardware_addr
+  pub from_hardware : hardware.IsUnicast link.src_addr.0
   pub from_addr : ¬ IsInvalidSource ours (src_addr_of v)
   pub to_addr : IsHostAddr (dst_addr_of v)
   pub own : IsHostAddr (src_addr_of (header_from ours v))

@@ -8,8 +8,8 @@ use Rattle.ip_replies.specs.declared.interface.Interface.{Interface}
 
 -- a packet from one other host to this interface only (RFC 1122, sections 3.2.1.3 and 3.3.6)
 pub record IsForUs (ours : Interface) (link : EthernetRepr) (v : IpRepr) : Type 0 where
-  pub to_station : link.dst_addr ≡ ours.hardware_addr
-  pub from_station : hardware.IsUnicast link.src_addr.0
+  pub to_hardware : link.dst_addr ≡ ours.hardware_addr
+  pub from_hardware : hardware.IsUnicast link.src_addr.0
   pub to_addr : IsOurs ours (dst_addr_of v)
   pub from_addr : ¬ IsInvalidSource ours (src_addr_of v)
 

@@ -4,7 +4,7 @@ use Rattle.ip_wire.specs.Ethernet as ethernet
 use Rattle.ip_wire.specs.Frame.{Carried, IsReadWhole, other, packet, type_of}
 use Rattle.ip_wire.specs.Ip as ip
 use Rattle.ip_wire.specs.Ip.{dst_addr_of, header_before, max_payload_len, next_header_of, payload_len_of, src_addr_of, version_of}
-use Rattle.ip_wire.specs.IpAddress.{octets_of}
+use Rattle.ip_wire.specs.IpAddress.{address_bytes}
 use Rattle.ip_wire.specs.Reply as frame
 use Rattle.ip_wire.specs.Reply.{reply_len}
 use Rattle.ip_wire.specs.Types.{EthernetAddress, EthernetRepr, IpRepr}
@@ -21,7 +21,7 @@ use Rattle.ip_replies.specs.declared.message.Reply.TheVariants as reply
 -- the bytes of a message in a packet with this header, with its checksum
 abbrev pub message_bytes : IpRepr → Message → List ℕ
 message_bytes v (Icmp value payload) = icmp.bytes_of value payload.now (src_addr_of v) (dst_addr_of v) true
-message_bytes v (Ndisc value) = ndisc.bytes_of value (octets_of (src_addr_of v)) (octets_of (dst_addr_of v)) true
+message_bytes v (Ndisc value) = ndisc.bytes_of value (address_bytes (src_addr_of v)) (address_bytes (dst_addr_of v)) true
 
 -- the number of bytes of a message
 abbrev pub message_len : Message → ℕ

@@ -4,7 +4,7 @@ use Rattle.ip_wire.specs.Class.{ipv6_unspecified, solicited_node}
 use Rattle.ip_wire.specs.Frame.{Carried, other, packet}
 use Rattle.ip_wire.specs.FrameValue.{carried_of}
 use Rattle.ip_wire.specs.Hardware.{IsUnicast}
-use Rattle.ip_wire.specs.Octets.{octets_of}
+use Rattle.ip_wire.specs.Bytes.{address_bytes}
 use Rattle.ip_wire.specs.Types.{EthernetAddress, EthernetRepr, Ipv6, Ipv6Repr}
 use Rattle.ip_wire.specs.declared.EthernetProtocol.TheVariants as ethertype
 use Rattle.ip_wire.specs.declared.Frame.{Frame}
@@ -17,37 +17,37 @@ use Rattle.ip_replies.specs.Source.{IsHostAddr, IsInvalidSource}
 use Rattle.ip_replies.specs.declared.interface.Interface.{Interface}
 
 -- the hardware address of a multicast group: 33:33 and the last four bytes of the group (RFC 2464, section 7)
-abbrev pub group_station : List ℕ → List ℕ
-group_station group = 0x33 ∷ 0x33 ∷ drop 12 group
+abbrev pub group_hardware : List ℕ → List ℕ
+group_hardware group = 0x33 ∷ 0x33 ∷ drop 12 group
 
 -- the group of all nodes on the link, ff02::1 (RFC 4291, section 2.7.1)
 abbrev pub all_nodes : List ℕ
-all_nodes = octets_of (0xff02 ∷ 0 ∷ 0 ∷ 0 ∷ 0 ∷ 0 ∷ 0 ∷ 1 ∷ [])
+all_nodes = address_bytes (0xff02 ∷ 0 ∷ 0 ∷ 0 ∷ 0 ∷ 0 ∷ 0 ∷ 1 ∷ [])
 
 -- the packet goes to our address, or to its solicited-node group, and the frame to the hardware address of that
 abbrev pub IsForTarget : Interface → EthernetAddress → List ℕ → Type 0
-IsForTarget ours station dst =
-    ((dst ≡ ours.ipv6_addr) × (station ≡ ours.hardware_addr))
-    ⊎ ((dst ≡ solicited_node ours.ipv6_addr) × (station.0 ≡ group_station dst))
+IsForTarget ours hardware dst =
+    ((dst ≡ ours.ipv6_addr) × (hardware ≡ ours.hardware_addr))
+    ⊎ ((dst ≡ solicited_node ours.ipv6_addr) × (hardware.0 ≡ group_hardware dst))
 
 -- a packet with these headers may ask for our address, which is that of a host
 pub record IsSolicited (ours : Interface) (link : EthernetRepr) (ip : Ipv6Repr) : Type 0 where
   pub protocol : ip.next_header ≡ protocol.Icmpv6
-  pub from_station : IsUnicast link.src_addr.0
+  pub from_hardware : IsUnicast link.src_addr.0
   pub own : IsHostAddr (address.Ipv6 ours.ipv6_addr)
   pub to_target : IsForTarget ours link.dst_addr ip.dst_addr
 
 -- the hardware address of a sender: the one in its message, else that of its frame
-abbrev pub station_of : Option EthernetAddress → EthernetAddress → EthernetAddress
-station_of None station = station
-station_of (Some named) station = named
+abbrev pub hardware_of : Option EthernetAddress → EthernetAddress → EthernetAddress
+hardware_of None hardware = hardware
+hardware_of (Some named) hardware = named
 
 -- The advertisement goes to this hardware address and this IPv6 address, and is solicited or not. A host that checks
 -- whether its new address is in use has none yet: then all nodes get the advertisement.
 abbrev pub IsAnsweredTo : Interface → EthernetRepr → Ipv6Repr → Option EthernetAddress → EthernetAddress → List ℕ → Bool → Type 0
-IsAnsweredTo ours link ip named station dst solicited =
-    ((ip.src_addr ≡ ipv6_unspecified) × (dst ≡ all_nodes) × (station.0 ≡ group_station all_nodes) × (solicited ≡ false))
-    ⊎ (¬ IsInvalidSource ours (address.Ipv6 ip.src_addr) × (dst ≡ ip.src_addr) × (station ≡ station_of named link.src_addr) × IsUnicast station.0 × (solicited ≡ true))
+IsAnsweredTo ours link ip named hardware dst solicited =
+    ((ip.src_addr ≡ ipv6_unspecified) × (dst ≡ all_nodes) × (hardware.0 ≡ group_hardware all_nodes) × (solicited ≡ false))
+    ⊎ (¬ IsInvalidSource ours (address.Ipv6 ip.src_addr) × (dst ≡ ip.src_addr) × (hardware ≡ hardware_of named link.src_addr) × IsUnicast hardware.0 × (solicited ≡ true))
 
 -- The advertisement of our hardware address, which replaces another one that is known. A router sets the flag R: a
 -- host that gets R of 0 no longer sends through it (RFC 4861, sections 7.2.4 and 7.2.5).
@@ -65,14 +65,14 @@ pub record IsNeighbourReply (ours : Interface) (asked_header : EthernetRepr) (as
   pub ip : Ipv6Repr
   pub request : List ℕ
   pub named : Option EthernetAddress
-  pub station : EthernetAddress
+  pub hardware : EthernetAddress
   pub dst : List ℕ
   pub solicited : Bool
   pub asks : asked ≡ packet (Ipv6 ip) (other request)
   pub for_us : IsSolicited ours asked_header ip
   pub reads : Reads request ip.src_addr ip.dst_addr ip.hop_limit true (NeighborSolicit ours.ipv6_addr named)
-  pub to : IsAnsweredTo ours asked_header ip named station dst solicited
-  pub link : header ≡ record { src_addr = ours.hardware_addr; dst_addr = station; ethertype = ethertype.Ipv6 }
+  pub to : IsAnsweredTo ours asked_header ip named hardware dst solicited
+  pub link : header ≡ record { src_addr = ours.hardware_addr; dst_addr = hardware; ethertype = ethertype.Ipv6 }
   pub tells : carried ≡ (let bytes = bytes_of (advert_of ours solicited) ours.ipv6_addr dst true in
       packet (Ipv6 (record (advert_header ours dst) { payload_len = length bytes })) (other bytes))
 

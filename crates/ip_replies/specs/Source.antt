@@ -21,19 +21,19 @@ ipv6_mapped = ipv6_block (0 ∷ 0 ∷ 0 ∷ 0 ∷ 0 ∷ 0xffff ∷ 0 ∷ 0 ∷ [
 
 -- the address is that of our interface
 abbrev pub IsOurs : Interface → IpAddress → Type 0
-IsOurs ours (Ipv4 octets) = octets ≡ ours.ipv4_addr
-IsOurs ours (Ipv6 octets) = octets ≡ ours.ipv6_addr
+IsOurs ours (Ipv4 bytes) = bytes ≡ ours.ipv4_addr
+IsOurs ours (Ipv6 bytes) = bytes ≡ ours.ipv6_addr
 
 -- an address by which a host means itself: this network or loopback (RFC 1122, section 3.2.1.3), `::` or `::1` (RFC 4291,
 -- sections 2.5.2 and 2.5.3)
 abbrev pub IsThisHost : IpAddress → Type 0
-IsThisHost (Ipv4 octets) = IsIn ipv4_this_network octets ⊎ IsIn ipv4_loopback octets
-IsThisHost (Ipv6 octets) = (octets ≡ ipv6_unspecified) ⊎ (octets ≡ ipv6_loopback)
+IsThisHost (Ipv4 bytes) = IsIn ipv4_this_network bytes ⊎ IsIn ipv4_loopback bytes
+IsThisHost (Ipv6 bytes) = (bytes ≡ ipv6_unspecified) ⊎ (bytes ≡ ipv6_loopback)
 
 -- an address that no host has: multicast, reserved (RFC 1122, section 3.2.1.3) or IPv4-mapped (RFC 4291, section 2.5.5.2)
 abbrev pub IsNoHost : IpAddress → Type 0
-IsNoHost (Ipv4 octets) = IsIn ipv4_multicast octets ⊎ IsIn ipv4_reserved octets
-IsNoHost (Ipv6 octets) = IsIn ipv6_multicast octets ⊎ IsIn ipv6_mapped octets
+IsNoHost (Ipv4 bytes) = IsIn ipv4_multicast bytes ⊎ IsIn ipv4_reserved bytes
+IsNoHost (Ipv6 bytes) = IsIn ipv6_multicast bytes ⊎ IsIn ipv6_mapped bytes
 
 -- a single host may have this address
 pub record IsHostAddr (addr : IpAddress) : Type 0 where
@@ -46,6 +46,6 @@ IsInvalidSource ours addr = IsThisHost addr ⊎ (IsNoHost addr ⊎ IsOurs ours a
 
 -- the sender of an ARP request: one host with a valid source address, or with 0.0.0.0 in a probe (RFC 5227, section
 -- 2.1.1)
-pub record IsAsker (ours : Interface) (station : EthernetAddress) (addr : List ℕ) : Type 0 where
-  pub from_station : IsUnicast station.0
+pub record IsAsker (ours : Interface) (hardware : EthernetAddress) (addr : List ℕ) : Type 0 where
+  pub from_hardware : IsUnicast hardware.0
   pub from_addr : (addr ≡ ipv4_unspecified) ⊎ ¬ IsInvalidSource ours (Ipv4 addr)

@@ -44,10 +44,10 @@ impl Interface {
 
     /// Returns `true` if an ARP request may come from this Ethernet and IPv4 address: the first is unicast, and
     /// the second is a valid source, or 0.0.0.0 as in a probe (RFC 5227, section 2.1.1).
-    pub fn may_ask(&self, station: &EthernetAddress, addr: &Ipv4Address) -> bool
-        ensures { IsTrue result ↔ IsAsker self.now station.now addr.now }
+    pub fn may_ask(&self, hardware: &EthernetAddress, addr: &Ipv4Address) -> bool
+        ensures { IsTrue result ↔ IsAsker self.now hardware.now addr.now }
     {
-        station.is_unicast()
+        hardware.is_unicast()
             && (addr.is_unspecified() || !self.is_invalid_source(&IpAddress::Ipv4(*addr)))
     }
 

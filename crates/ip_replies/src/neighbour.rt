@@ -2,7 +2,7 @@
 
 ghost use Rattle.std.specs.Prelude.{◌≡◌, ◌↔◌, Bool, IfSome, IsTrue, List, None, ℕ};
 ghost use Rattle.ip_replies.specs.Message.{Gives, message_frame};
-ghost use Rattle.ip_replies.specs.Neighbour.{AdvertisesFrame, IsAnsweredTo, IsForTarget, IsNeighbourReply, IsSolicited, advert_header, advert_of, group_station, station_of};
+ghost use Rattle.ip_replies.specs.Neighbour.{AdvertisesFrame, IsAnsweredTo, IsForTarget, IsNeighbourReply, IsSolicited, advert_header, advert_of, group_hardware, hardware_of};
 ghost use Rattle.ip_replies.specs.Source.{IsHostAddr};
 ghost use Rattle.ip_replies.specs.declared.message.Message.TheVariants.{Ndisc};
 ghost use Rattle.ip_wire.specs.Frame.{other, packet};
@@ -84,12 +84,12 @@ fn is_solicited(ours: &Interface, link: &EthernetRepr, header: &Ipv6Repr) -> boo
 }
 
 // Whether a frame to this Ethernet address with a packet to this IPv6 address is for us as a target.
-fn is_for_target(ours: &Interface, station: &EthernetAddress, dst_addr: &Ipv6Address) -> bool
+fn is_for_target(ours: &Interface, hardware: &EthernetAddress, dst_addr: &Ipv6Address) -> bool
     requires { IsHostAddr (address.Ipv6 ours.now.ipv6_addr) }
-    ensures { IsTrue result ↔ IsForTarget ours.now station.now dst_addr.now }
+    ensures { IsTrue result ↔ IsForTarget ours.now hardware.now dst_addr.now }
 {
-    (*dst_addr == ours.ipv6_addr && *station == ours.hardware_addr)
-        || (*dst_addr == ours.ipv6_addr.solicited_node() && *station == group_station(dst_addr))
+    (*dst_addr == ours.ipv6_addr && *hardware == ours.hardware_addr)
+        || (*dst_addr == ours.ipv6_addr.solicited_node() && *hardware == group_hardware(dst_addr))
 }
 
 // The Ethernet and the IPv6 address that get the advertisement, and whether it is solicited.
@@ -100,35 +100,35 @@ fn answered_to(
     named: Option<EthernetAddress>,
 ) -> Option<(EthernetAddress, Ipv6Address, bool)>
     ensures some { IfSome result (λ to. IsAnsweredTo ours.now link.now header.now named to.0 to.1 to.2) }
-    ensures none { result ≡ None → (station : EthernetAddress) (dst : List ℕ) (solicited : Bool) → ¬ IsAnsweredTo ours.now link.now header.now named station dst solicited }
+    ensures none { result ≡ None → (hardware : EthernetAddress) (dst : List ℕ) (solicited : Bool) → ¬ IsAnsweredTo ours.now link.now header.now named hardware dst solicited }
 {
     if header.src_addr.is_unspecified() {
         let all_nodes = IPV6_LINK_LOCAL_ALL_NODES;
-        return Some((group_station(&all_nodes), all_nodes, false));
+        return Some((group_hardware(&all_nodes), all_nodes, false));
     }
     if ours.is_invalid_source(&IpAddress::Ipv6(header.src_addr)) {
         return None;
     }
-    let station = station_of(named, link.src_addr);
-    if !station.is_unicast() {
+    let hardware = hardware_of(named, link.src_addr);
+    if !hardware.is_unicast() {
         return None;
     }
-    Some((station, header.src_addr, true))
+    Some((hardware, header.src_addr, true))
 }
 
 // The Ethernet address of a sender: the one that it names, if any.
-fn station_of(named: Option<EthernetAddress>, station: EthernetAddress) -> EthernetAddress
-    ensures { result ≡ station_of named station }
+fn hardware_of(named: Option<EthernetAddress>, hardware: EthernetAddress) -> EthernetAddress
+    ensures { result ≡ hardware_of named hardware }
 {
     match named {
         Some(named) => named,
-        None => station,
+        None => hardware,
     }
 }
 
 // The hardware address of a multicast group (RFC 2464, section 7).
-fn group_station(group: &Ipv6Address) -> EthernetAddress
-    ensures { result.0 ≡ group_station group.now }
+fn group_hardware(group: &Ipv6Address) -> EthernetAddress
+    ensures { result.0 ≡ group_hardware group.now }
 {
     let mut octets = [0x33; 6];
     octets[2..].copy_from_slice(&group.octets()[12..]);
@@ -138,11 +138,11 @@ fn group_station(group: &Ipv6Address) -> EthernetAddress
 // The frame with the advertisement.
 fn advert<'a>(
     ours: &Interface,
-    station: EthernetAddress,
+    hardware: EthernetAddress,
     dst_addr: Ipv6Address,
     solicited: bool,
 ) -> MessageFrame<'a>
-    ensures { result ≡ message_frame ours.now.hardware_addr station (Ipv6 (advert_header ours.now dst_addr)) (Ndisc (advert_of ours.now solicited)) }
+    ensures { result ≡ message_frame ours.now.hardware_addr hardware (Ipv6 (advert_header ours.now dst_addr)) (Ndisc (advert_of ours.now solicited)) }
 {
     let header = IpRepr::Ipv6(Ipv6Repr {
         src_addr: ours.ipv6_addr,
@@ -161,5 +161,5 @@ fn advert<'a>(
         target_addr: ours.ipv6_addr,
         lladdr: Some(ours.hardware_addr),
     };
-    MessageFrame::ndisc(ours.hardware_addr, station, header, value)
+    MessageFrame::ndisc(ours.hardware_addr, hardware, header, value)
 }

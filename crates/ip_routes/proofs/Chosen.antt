@@ -18,7 +18,7 @@ use Rattle.ip_wire.specs.declared.IpCidr.{IpCidr}
 -- what a search over an index found: one more than the place of the last node that encloses the address, or 0
 pub record Finds (nodes : List Node) (addr : IpAddress) (start found : ℕ) : Type 0 where
   pub octets : IsAddress addr
-  pub behind : (k : ℕ) → start ≤ k → k < length nodes → place (target_of addr) < place (node_at nodes k)
+  pub following : (k : ℕ) → start ≤ k → k < length nodes → place (target_of addr) < place (node_at nodes k)
   pub low : start ≤ length nodes
   pub within : found ≤ start
   pub encloses : 0 < found → Encloses (node_at nodes (found - 1)) (target_of addr)
@@ -29,7 +29,7 @@ outside : (nodes : List Node) (addr : IpAddress) (start found : ℕ) → Finds n
     → IsNodeOf block i (node_at nodes k) → ¬ IsIn block addr
 outside nodes addr start found f block i k above below of member = elim (cases_lt k start) [
   | inl before ↦ f.nearest k above before (omega (arith, of.len_fits), (of.leads addr f.octets).0 member)
-  | inr after ↦ beyond block i (node_at nodes k) addr of f.octets (f.behind k after below) member
+  | inr after ↦ beyond block i (node_at nodes k) addr of f.octets (f.following k after below) member
 ]
 
 -- no block contains the address if nothing was found
@@ -97,7 +97,7 @@ pub finds : (nodes : List Node) (addr : IpAddress) (target : Node) (start found 
     → Finds nodes addr start found
 finds nodes addr target start found is octets sorted linked low split within encloses nearest = record {
   octets = octets;
-  behind = λ k after below. subst (λ t. place t < place (node_at nodes k)) is (split.1 k after below);
+  following = λ k after below. subst (λ t. place t < place (node_at nodes k)) is (split.1 k after below);
   low = low;
   within = within;
   encloses = λ some. subst (λ t. Encloses (node_at nodes (found - 1)) t) is (encloses some);

@@ -30,7 +30,7 @@ climbs nodes above from start inner some low high sorted linked places apart is 
     let q = from - 1 in
     let link : IsLink nodes q (node_at nodes q).above = linked q (omega (arith, some, low)) in
     elim (cases_lt k from) [
-      | inr behind ↦ nearest k behind below
+      | inr following ↦ nearest k following below
       | inl before ↦ elim (cases_eq k q) [
         | inl at ↦ subst (λ k. ¬ Encloses (node_at nodes k) inner) (sym at) apart
         | inr other ↦

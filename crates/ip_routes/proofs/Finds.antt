@@ -9,7 +9,7 @@ use Rattle.ip_routes.specs.Index.{IsBlock, first_bits, node_of, node_with, place
 use Rattle.ip_routes.specs.declared.index.Node.{Node}
 use Rattle.ip_wire.specs.IpAddress.{IsAddress}
 use Rattle.ip_wire.specs.IpCidr.{IsIn, block_address, block_prefix_len}
-use Rattle.ip_wire.specs.Octets.{AreOctets}
+use Rattle.ip_wire.specs.Bytes.{IsByteArray}
 use Rattle.ip_wire.specs.Prefix.{AgreeFirst, number_of}
 use Rattle.ip_wire.specs.declared.IpAddress.{IpAddress}
 use Rattle.ip_wire.specs.declared.IpAddress.TheVariants as ip
@@ -22,7 +22,7 @@ place_with version bits len route = ap (λ b. version * 2 ^ 128 + b) (shr_split 
 
 -- ---- the first bits of an address
 
-agree_from_numbers : (m n : ℕ) (xs ys : List ℕ) → AreOctets m xs → AreOctets m ys → n ≤ 8 * m
+agree_from_numbers : (m n : ℕ) (xs ys : List ℕ) → IsByteArray m xs → IsByteArray m ys → n ≤ 8 * m
     → number_of xs / 2 ^ (8 * m - n) ≡ number_of ys / 2 ^ (8 * m - n) → AgreeFirst n xs ys
 agree_from_numbers m n xs ys are_xs are_ys le same =
     let s = 8 * m - n in
@@ -33,7 +33,7 @@ agree_from_numbers m n xs ys are_xs are_ys le same =
     (member_test m n (number_of xs) (number_of ys) mask xs ys are_xs are_ys le refl refl refl).0 (eq-eqb _ _ e)
 
 -- bytes agree in their first bits exactly if the prefixes of their numbers do
-agrees : (m n : ℕ) (xs ys : List ℕ) → AreOctets m xs → AreOctets m ys → n ≤ 8 * m
+agrees : (m n : ℕ) (xs ys : List ℕ) → IsByteArray m xs → IsByteArray m ys → n ≤ 8 * m
     → AgreeFirst n xs ys ↔ (number_of xs / 2 ^ (8 * m - n) ≡ number_of ys / 2 ^ (8 * m - n))
 agrees m n xs ys are_xs are_ys le =
     (numbers_from_agree m n (8 * m - n) xs ys are_xs are_ys (omega (arith, le)), agree_from_numbers m n xs ys are_xs are_ys le)
@@ -69,7 +69,7 @@ number_below (x ∷ octets) fits =
     let power : 2 ^ (8 * suc (length octets)) ≡ w * 2 ^ 8 = ap (λ n. 2 ^ n) e ∙ pow-add 2 (8 * length octets) 8 in
     rw power (mul-add-lt x w (number_of octets) (2 ^ 8) (fits 0) (number_below octets (λ k. fits (suc k))))
 
-number_of-lt : (m : ℕ) (octets : List ℕ) → AreOctets m octets → number_of octets < 2 ^ (8 * m)
+number_of-lt : (m : ℕ) (octets : List ℕ) → IsByteArray m octets → number_of octets < 2 ^ (8 * m)
 number_of-lt m octets are = subst (λ m. number_of octets < 2 ^ (8 * m)) are.0 (number_below octets are.1)
 
 first_bits-lt : (addr : IpAddress) → IsAddress addr → first_bits addr < 2 ^ 128

@@ -20,8 +20,8 @@ split_before nodes q node sorted below up k le =
     omega (arith, sorted k q (node_with 0 0 0 0) le below, here)
 
 -- if it is, those after it are
-pub split_behind : (nodes : List Node) (q : ℕ) (node : Node) → IsNonDecreasingBy place nodes → q < length nodes
+pub split_after : (nodes : List Node) (q : ℕ) (node : Node) → IsNonDecreasingBy place nodes → q < length nodes
     → place node < place (get_or nodes q unread) → (k : ℕ) → q ≤ k → k < length nodes → place node < place (node_at nodes k)
-split_behind nodes q node sorted below up k le inside =
+split_after nodes q node sorted below up k le inside =
     let here : place node < place (node_at nodes q) = subst (λ n. place node < place n) (unread_at nodes q below) up in
     omega (arith, sorted q k (node_with 0 0 0 0) le inside, here)

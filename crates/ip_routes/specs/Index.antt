@@ -16,13 +16,13 @@ use Rattle.ip_wire.specs.declared.IpCidr.TheVariants as cidr
 
 -- the version number in an IP header (RFC 791, section 3.1; RFC 8200, section 3)
 abbrev pub version_number : IpAddress → ℕ
-version_number (Ipv4 octets) = 4
-version_number (Ipv6 octets) = 6
+version_number (Ipv4 bytes) = 4
+version_number (Ipv6 bytes) = 6
 
 -- an address as a number of 128 bits; an IPv4 address has the first 32 of them
 abbrev pub first_bits : IpAddress → ℕ
-first_bits (Ipv4 octets) = number_of octets * 2 ^ 96
-first_bits (Ipv6 octets) = number_of octets
+first_bits (Ipv4 bytes) = number_of bytes * 2 ^ 96
+first_bits (Ipv6 bytes) = number_of bytes
 
 -- ---- blocks
 

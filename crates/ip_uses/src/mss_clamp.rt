@@ -3,7 +3,7 @@
 
 ghost use Rattle.std.specs.Prelude.{◌≡◌, ◌↔◌, ◌%◌, if◌then◌else◌, Bool, IsTrue, List, Some, length, true, ℕ};
 ghost use Rattle.ip_uses.specs.Clamp.{IsAbove};
-ghost use Rattle.ip_wire.specs.IpAddress.{octets_of};
+ghost use Rattle.ip_wire.specs.IpAddress.{address_bytes};
 ghost use Rattle.ip_wire.specs.Tcp.{HasLengths};
 ghost use Rattle.ip_wire.specs.TcpRepr.{Reads, TcpHeader};
 ghost use Rattle.ip_wire.specs.TcpSegmentSize.{with_max_seg_size};
@@ -18,7 +18,7 @@ pub fn clamp(segment: &mut [u8], limit: u16) -> bool
     ensures when { (src dst : IpAddress) (verified : Bool) (v : TcpHeader) (payload : List ℕ)
         → Reads segment.old src dst verified v payload → IsTrue result ↔ IsAbove limit v }
     ensures lowered { (src dst : IpAddress) (verified : Bool) (v : TcpHeader) (payload : List ℕ)
-        → length (octets_of src) % 2 ≡ 0 → length (octets_of dst) % 2 ≡ 0
+        → length (address_bytes src) % 2 ≡ 0 → length (address_bytes dst) % 2 ≡ 0
         → Reads segment.old src dst verified v payload → IsAbove limit v
         → Reads segment.new src dst verified (record v { max_seg_size = Some limit }) payload }
     ensures bytes { segment.new ≡ (if result then with_max_seg_size segment.old limit else segment.old) }

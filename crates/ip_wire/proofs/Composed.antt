@@ -5,7 +5,7 @@ use Rattle.ip_wire.proofs.IpLayer.{packet_payload-written, reads_packet}
 use Rattle.ip_wire.specs.Frame.{ReadsCarried, ReadsFrame, ReadsTransport, Transport, datagram, packet, segment, type_of, type_of_version}
 use Rattle.net_base.specs.Checksum.{verifies}
 use Rattle.net_base.specs.declared.ChecksumCapabilities.{ChecksumCapabilities}
-use Rattle.wire_ends.specs.IpAddress.{octets_of}
+use Rattle.wire_ends.specs.IpAddress.{address_bytes}
 use Rattle.wire_ip.proofs.IpReadsBack.{IsInRange}
 use Rattle.wire_tcp.proofs.TcpReadsBack as tcp
 use Rattle.wire_tcp.specs.TcpRepr as tcp_header
@@ -44,7 +44,7 @@ reads_datagram caps computed w v payload number h sound =
 
 -- so is a TCP segment
 pub reads_segment : (caps : ChecksumCapabilities) (computed : Bool) (w : IpRepr) (v : TcpHeader) (payload : List ℕ) → number_of (next_header_of w) ≡ 6
-    → tcp.IsWritable v → length (octets_of (src_addr_of w)) % 2 ≡ 0 → length (octets_of (dst_addr_of w)) % 2 ≡ 0 → (IsTrue (verifies caps.tcp) → IsTrue computed)
+    → tcp.IsWritable v → length (address_bytes (src_addr_of w)) % 2 ≡ 0 → length (address_bytes (dst_addr_of w)) % 2 ≡ 0 → (IsTrue (verifies caps.tcp) → IsTrue computed)
     → ReadsTransport caps (normal w) (tcp_header.bytes_of v payload (src_addr_of w) (dst_addr_of w) computed []) (segment (tcp_header.normal v) payload)
 reads_segment caps computed w v payload number writable src dst sound =
     let read = tcp.reads_bytes_of v (src_addr_of w) (dst_addr_of w) payload computed (verifies caps.tcp) writable src dst sound in

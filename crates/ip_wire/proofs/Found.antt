@@ -70,7 +70,7 @@ pub carried-found : (caps : ChecksumCapabilities) (t : EthernetProtocol) (bytes 
 carried-found caps t bytes (carried.Arp v) found = carried-read caps t bytes (message v) found
 carried-found caps t bytes (carried.Packet v inner) (type, read, found) =
     carried-packet caps t bytes v type read ∙ ap (option_map (packet v)) (transport-found caps v (frame.packet_payload v bytes) inner found)
-carried-found caps t bytes (carried.Fragment part) (lent, is_part, (v, (type, read))) = rw (type, is_part) refl
+carried-found caps t bytes (carried.Fragment part) (borrowed, is_part, (v, (type, read))) = rw (type, is_part) refl
 carried-found caps t bytes (carried.Unread kept) (nothing, is) =
     none_of (carried_by caps t bytes) (λ d e. nothing-read caps t bytes nothing d (carried-only caps t bytes d e))
 

@@ -2,7 +2,7 @@
 use Rattle.std.proofs.Common.{ℕ, ◌≡◌, ◌≢◌, ◌↔◌, ◌∙◌, List, Some, drop, refl, sym, ap, subst}
 use Rattle.std.specs.Option.{option_map}
 use Rattle.ip_wire.proofs.Options.{else-Some, option_and_then-Some, option_map-Some}
-use Rattle.ip_wire.specs.Frame.{Carried, ReadsCarried, ReadsFrame, ReadsPacket, ReadsTransportBy, Transport, carried_by, datagram, frame_of, header_by, message, other, packet, segment, transport_behind, transport_by, type_of}
+use Rattle.ip_wire.specs.Frame.{Carried, ReadsCarried, ReadsFrame, ReadsPacket, ReadsTransportBy, Transport, carried_by, datagram, frame_of, header_by, message, other, packet, segment, transport_after, transport_by, type_of}
 use Rattle.ip_wire.specs.Types.{EthernetProtocol, EthernetRepr, IpAddress, IpProtocol, IpRepr, Ipv4, Ipv6}
 use Rattle.net_base.specs.Checksum.{verifies}
 use Rattle.net_base.specs.declared.ChecksumCapabilities.{ChecksumCapabilities}
@@ -73,22 +73,22 @@ header-only caps _ bytes v e = absurd (cc)
 
 -- where an IP header is read, the packet is what the frame carries
 pub carried-packet : (caps : ChecksumCapabilities) (t : EthernetProtocol) (bytes : List ℕ) (v : IpRepr) → t ≡ type_of v → ReadsPacket caps bytes v
-    → carried_by caps t bytes ≡ option_map (packet v) (transport_behind caps v bytes)
+    → carried_by caps t bytes ≡ option_map (packet v) (transport_after caps v bytes)
 carried-packet caps t bytes (Ipv4 v) type read = rw (type, header-read caps ethertype.Ipv4 bytes (Ipv4 v) refl read) refl
 carried-packet caps t bytes (Ipv6 v) type read = rw (type, header-read caps ethertype.Ipv6 bytes (Ipv6 v) refl read) refl
 
 pub carried-read : (caps : ChecksumCapabilities) (t : EthernetProtocol) (bytes : List ℕ) (c : Carried) → ReadsCarried caps t bytes c → carried_by caps t bytes ≡ Some c
 carried-read caps t bytes (message v) (type, read) = rw (type, (arp_of-Reads bytes v).1 read) refl
-carried-read caps t bytes (packet v inner) (type, read, behind) =
-    carried-packet caps t bytes v type read ∙ ap (option_map (packet v)) (transport-read caps _ _ _ _ inner behind)
+carried-read caps t bytes (packet v inner) (type, read, following) =
+    carried-packet caps t bytes v type read ∙ ap (option_map (packet v)) (transport-read caps _ _ _ _ inner following)
 
 pub carried-only : (caps : ChecksumCapabilities) (t : EthernetProtocol) (bytes : List ℕ) (c : Carried) → carried_by caps t bytes ≡ Some c → ReadsCarried caps t bytes c
 carried-only caps ethertype.Arp bytes c e =
     let (v, read, is) = option_map-Some message (arp_of bytes) c e in
     subst (ReadsCarried caps ethertype.Arp bytes) is (refl, (arp_of-Reads bytes v).0 read)
 carried-only caps t bytes c e =
-    let (v, header, behind) = option_and_then-Some (λ v. option_map (packet v) (transport_behind caps v bytes)) (header_by caps t bytes) c e in
-    let (s, found, is) = option_map-Some (packet v) (transport_behind caps v bytes) c behind in
+    let (v, header, following) = option_and_then-Some (λ v. option_map (packet v) (transport_after caps v bytes)) (header_by caps t bytes) c e in
+    let (s, found, is) = option_map-Some (packet v) (transport_after caps v bytes) c following in
     let (type, read) = header-only caps t bytes v header in
     subst (ReadsCarried caps t bytes) is (type, read, transport-only caps _ _ _ _ s found)
 
@@ -98,8 +98,8 @@ pub frame_of-Reads : (caps : ChecksumCapabilities) (frame : List ℕ) (link : Et
 unfolding frame_of
 frame_of-Reads caps frame link c = (
   λ e.
-      let (l, header, behind) = option_and_then-Some (λ l. option_map (λ c. (l, c)) (carried_by caps l.ethertype (drop 14 frame))) (ethernet_of frame) (link, c) e in
-      let (d, found, is) = option_map-Some (λ c. (l, c)) (carried_by caps l.ethertype (drop 14 frame)) (link, c) behind in
+      let (l, header, following) = option_and_then-Some (λ l. option_map (λ c. (l, c)) (carried_by caps l.ethertype (drop 14 frame))) (ethernet_of frame) (link, c) e in
+      let (d, found, is) = option_map-Some (λ c. (l, c)) (carried_by caps l.ethertype (drop 14 frame)) (link, c) following in
       let whole : ReadsFrame caps frame l d =
       record { reads_header = (ethernet_of-Reads frame l).0 header; reads_carried = carried-only caps l.ethertype (drop 14 frame) d found } in
       subst (λ (x : EthernetRepr × Carried). ReadsFrame caps frame x.0 x.1) is whole,

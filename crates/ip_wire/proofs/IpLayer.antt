@@ -2,7 +2,7 @@
 use Rattle.std.proofs.Common.{ℕ, ◌≡◌, ◌≤◌, ◌<◌, ◌+◌, ◌^◌, Bool, true, IsTrue, List, [], ◌++◌, Option, Some, drop, length, refl, sym, ap, subst, ◌∙◌, append-nil, length-append, arith}
 use Rattle.std.specs.Option.{option_map}
 use Rattle.ip_wire.proofs.FrameOf.{header-only, header-read}
-use Rattle.ip_wire.proofs.Layers.{IsLayer, Layer, ReadsNormal, byte-lt, length-part, part-behind}
+use Rattle.ip_wire.proofs.Layers.{IsLayer, Layer, ReadsNormal, byte-lt, length-part, part-following}
 use Rattle.ip_wire.proofs.Options.{option_map-Some}
 use Rattle.ip_wire.proofs.UdpLayer.{AreWords}
 use Rattle.ip_wire.specs.Frame.{ReadsPacket, all_checked, header_by, packet_payload, type_of, type_of_version}
@@ -135,13 +135,13 @@ pub packet_payload-written : (w : IpRepr) (q rest : List ℕ) (computed : Bool) 
 packet_payload-written (Ipv4 w) q rest computed h is =
     let bytes = ipv4.bytes_of w computed ++ (q ++ rest) in
     let total : ipv4.total_len bytes ≡ 20 + length q = omega (arith, h.payload_len, is) in
-    let behind : drop 20 bytes ≡ q ++ rest = rw (cells-all 4 w.src_addr h.src_addr, cells-all 4 w.dst_addr h.dst_addr) refl in
-    part-behind bytes q rest 20 (ipv4.total_len bytes) total behind
+    let following : drop 20 bytes ≡ q ++ rest = rw (cells-all 4 w.src_addr h.src_addr, cells-all 4 w.dst_addr h.dst_addr) refl in
+    part-following bytes q rest 20 (ipv4.total_len bytes) total following
 packet_payload-written (Ipv6 w) q rest computed h is =
     let bytes = ipv6.bytes_of w ++ (q ++ rest) in
     let total : ipv6.total_len bytes ≡ 40 + length q = omega (arith, h.payload_len, is) in
-    let behind : drop 40 bytes ≡ q ++ rest = rw (cells-all 16 w.src_addr h.src_addr, cells-all 16 w.dst_addr h.dst_addr) refl in
-    part-behind bytes q rest 40 (ipv6.total_len bytes) total behind
+    let following : drop 40 bytes ≡ q ++ rest = rw (cells-all 16 w.src_addr h.src_addr, cells-all 16 w.dst_addr h.dst_addr) refl in
+    part-following bytes q rest 40 (ipv6.total_len bytes) total following
 
 length-header : (w : IpRepr) (computed : Bool) → IsInRange w → length (bytes_of w computed) ≡ header_len_of w
 length-header (Ipv4 w) computed h = rw (cells-all 4 w.src_addr h.src_addr, cells-all 4 w.dst_addr h.dst_addr) (omega arith)
@@ -184,13 +184,13 @@ sets_len (Ipv4 u) m n = record { payload_len = refl; header_len = refl; own = re
 sets_len (Ipv6 u) m n = record { payload_len = refl; header_len = refl; own = refl; last = refl; normal_form = refl; version = refl }
 
 -- values that were read are normal without it too
-pub normal-aside : (bytes : List ℕ) (u : IpRepr) → ReadsPacket all_checked bytes u → normal (with_payload_len (with_payload_len u 0) 0) ≡ with_payload_len u 0
-normal-aside bytes u r = ap normal (sets_len u 0 0).last ∙ (sets_len u 0 0).normal_form ∙ ap (λ w. with_payload_len w 0) (normal_read bytes u r)
+pub normal-len : (bytes : List ℕ) (u : IpRepr) → ReadsPacket all_checked bytes u → normal (with_payload_len (with_payload_len u 0) 0) ≡ with_payload_len u 0
+normal-len bytes u r = ap normal (sets_len u 0 0).last ∙ (sets_len u 0 0).normal_form ∙ ap (λ w. with_payload_len w 0) (normal_read bytes u r)
 
 -- the addresses of a header that can be written are whole words
 words : (u : IpRepr) → IsInRange u → AreWords (src_addr_of u) (dst_addr_of u)
-words (Ipv4 u) h = record { src_octets = omega (arith, h.src_addr); dst_octets = omega (arith, h.dst_addr) }
-words (Ipv6 u) h = record { src_octets = omega (arith, h.src_addr); dst_octets = omega (arith, h.dst_addr) }
+words (Ipv4 u) h = record { src_bytes = omega (arith, h.src_addr); dst_bytes = omega (arith, h.dst_addr) }
+words (Ipv6 u) h = record { src_bytes = omega (arith, h.src_addr); dst_bytes = omega (arith, h.dst_addr) }
 
 pub AreWords-ip : (t : EthernetProtocol) (bytes : List ℕ) (v : IpRepr) (p : List ℕ) → ip_packet_of t bytes ≡ Some (v, p) → AreWords (src_addr_of v) (dst_addr_of v)
 AreWords-ip t bytes v p e =
@@ -202,7 +202,7 @@ AreWords-ip t bytes v p e =
 ReadsNormal-ip : (t : EthernetProtocol) → ReadsNormal (ip t)
 ReadsNormal-ip t bytes v p e =
     let (u, d) = ip_packet_of-IsPacket t bytes v p e in
-    ap (λ w. normal (with_payload_len w 0)) (sym d.values) ∙ normal-aside bytes u d.reads ∙ d.values
+    ap (λ w. normal (with_payload_len w 0)) (sym d.values) ∙ normal-len bytes u d.reads ∙ d.values
 
 module _ (t : EthernetProtocol) (bytes : List ℕ) (v u : IpRepr) (p q : List ℕ) (d : IsPacket t bytes v p u) where
   -- the header that is written before a payload

@@ -70,7 +70,7 @@ pub reads-by-version : (caps : ChecksumCapabilities) (type : EthernetProtocol) (
     → ((w : IpVersion) → IsOfVersion bytes w → type ≡ type_of_version w)
     → ReadsCarried caps type bytes (packet v t) ↔ ReadsCarried caps (type_of v) bytes (packet v t)
 reads-by-version caps type bytes v t are named =
-    ((λ (_, read, behind). (refl, read, behind)), (λ (_, read, behind). (named (version_of v) (packet-version caps bytes v are read), read, behind)))
+    ((λ (_, read, following). (refl, read, following)), (λ (_, read, following). (named (version_of v) (packet-version caps bytes v are read), read, following)))
 
 -- a type that is that of the version that was found names the version of the bytes
 pub names-version : (type : EthernetProtocol) (bytes : List ℕ) (r : Result IpVersion Error) (n : IpVersion) → r ≡ Ok n
@@ -95,8 +95,8 @@ pub parses-packet : (caps : ChecksumCapabilities) (type : EthernetProtocol) (byt
     → k ≡ carried.Packet v s → ParsesCarried caps type bytes k → ParsesPacket caps bytes (record { header = v; inner = s })
 parses-packet caps type bytes k v s carries (c, is, reads) =
     let (t, some, same) = option_map-Some (packet v) (transport_of s) c (sym (ap carried_of carries) ∙ is) in
-    let (_, read, behind) = subst (ReadsCarried caps type bytes) (sym same) reads in
-    (t, some, (refl, read, behind))
+    let (_, read, following) = subst (ReadsCarried caps type bytes) (sym same) reads in
+    (t, some, (refl, read, following))
 
 pub gives-packet : (k : value.Carried) (w : IpRepr) (s : inner.Transport) → k ≡ carried.Packet w s
     → (v : IpRepr) (t : Transport) → ((w ≡ v) × (transport_of s ≡ Some t)) ↔ (carried_of k ≡ Some (packet v t))

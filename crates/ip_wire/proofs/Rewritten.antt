@@ -50,7 +50,7 @@ fits-carried caps t bytes (carried.Packet (Ipv6 v) inner) (is, r, found) =
     let whole = r.lengths in
     let most : ipv6.total_len bytes < 40 + 2 ^ 16 = omega arith in
     ((omega (arith, shorter, len, most), fits), omega (arith, shorter, len, whole))
-fits-carried caps t bytes (carried.Fragment part) (lent, is_part, read) = let same = ap length lent in (record {}, omega (arith, same))
+fits-carried caps t bytes (carried.Fragment part) (borrowed, is_part, read) = let same = ap length borrowed in (record {}, omega (arith, same))
 fits-carried caps t bytes (carried.Unread kept) (unread, e) = let same = ap length e in (record {}, omega (arith, same))
 
 pub fits-frame : (caps : ChecksumCapabilities) (bytes : List ℕ) (f : Frame) → Finds caps bytes f → Fits f × (frame_len f ≤ length bytes)
@@ -97,8 +97,8 @@ rewritten-carried : (t : EthernetProtocol) (bytes : List ℕ) (c : Carried) → 
 rewritten-carried t bytes (carried.Arp v) (is, r) = rw (is, (arp_of-Reads bytes v).1 r) refl
 rewritten-carried t bytes (carried.Packet v inner) (is, r, found) =
     rewritten-packet v (packet_payload v bytes) inner found ∙ sym (ap (λ p. rebuilt_payload p bytes) is ∙ rebuilt-ip bytes v r)
-rewritten-carried t bytes (carried.Fragment part) (lent, is_part, (v, (is, read))) =
-    lent ∙ sym (ap (λ p. rebuilt_payload p bytes) is ∙ rebuilt-ipv4-copied bytes (inr is_part))
+rewritten-carried t bytes (carried.Fragment part) (borrowed, is_part, (v, (is, read))) =
+    borrowed ∙ sym (ap (λ p. rebuilt_payload p bytes) is ∙ rebuilt-ipv4-copied bytes (inr is_part))
 rewritten-carried t bytes (carried.Unread kept) (nothing, e) =
     e ∙ sym (payload-stays t bytes nothing.no_message (no-packet t bytes nothing.no_header))
 

@@ -25,9 +25,9 @@ rest_stays bytes old new n is same fits =
 -- a frame that is emitted, and parses as its normal form, is sent
 pub is_sent : (f : Frame) (bytes padding old new : List ℕ) (n : ℕ) → IsSendable f → (n ≡ frame_len f) × (n ≤ length old) × (new ≡ bytes ++ drop n old)
     → length new ≡ length old → padding ≡ drop n new → ReadsNormalOf all_checked (bytes ++ padding) f → IsSent f old new (Some n)
-is_sent f bytes padding old new n sendable (len, fits, is) same behind (read, normal, reads) =
+is_sent f bytes padding old new n sendable (len, fits, is) same following (read, normal, reads) =
     let rest = rest_stays bytes old new n is same fits in
-    let whole : bytes ++ padding ≡ new = ap (λ l. bytes ++ l) (behind ∙ rest) ∙ sym is in (
+    let whole : bytes ++ padding ≡ new = ap (λ l. bytes ++ l) (following ∙ rest) ∙ sym is in (
       len,
       fits,
       rest,

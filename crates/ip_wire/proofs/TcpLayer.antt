@@ -23,7 +23,7 @@ length-written src dst v q computed =
 pub written-read : (src dst : IpAddress) (bytes : List ℕ) (v : TcpHeader) (p : List ℕ) → AreWords src dst → AreBytes bytes → Reads bytes src dst true v p
     → Reads (bytes_of v p src dst true []) src dst true (normal v) p
 written-read src dst bytes v p words h r =
-    reads_bytes_of v src dst p true true (Reads-IsWritable src dst true bytes p v h r) words.src_octets words.dst_octets (λ on. on)
+    reads_bytes_of v src dst p true true (Reads-IsWritable src dst true bytes p v h r) words.src_bytes words.dst_bytes (λ on. on)
 
 -- which is written shorter, unless it is what was read
 pub written-shorter : (src dst : IpAddress) (bytes : List ℕ) (v : TcpHeader) (p : List ℕ) → Reads bytes src dst true v p

@@ -3,7 +3,7 @@ use Rattle.std.proofs.Common.{ℕ, ◌≡◌, ◌-◌, ◌%◌, ◌∙◌, true,
 use Rattle.ip_wire.proofs.Layers.{byte-lt, length-part}
 use Rattle.ip_wire.specs.Frame.{rebuilt_transport_by}
 use Rattle.ip_wire.specs.Types.{IpAddress, UdpRepr}
-use Rattle.wire_ends.specs.IpAddress.{octets_of}
+use Rattle.wire_ends.specs.IpAddress.{address_bytes}
 use Rattle.wire_ends.specs.declared.IpProtocol.TheVariants as protocol
 use Rattle.wire_field.proofs.ByteLists.{AreBytes-cons, AreBytes-part}
 use Rattle.wire_field.proofs.Spelled.{AreBytes}
@@ -12,8 +12,8 @@ use Rattle.wire_udp.specs.Udp.{Reads, bytes_of, packet_len, packet_with, payload
 
 -- the bytes of both addresses are whole words
 pub record AreWords (src dst : IpAddress) : Type 0 where
-  pub src_octets : length (octets_of src) % 2 ≡ 0
-  pub dst_octets : length (octets_of dst) % 2 ≡ 0
+  pub src_bytes : length (address_bytes src) % 2 ≡ 0
+  pub dst_bytes : length (address_bytes dst) % 2 ≡ 0
 
 -- how long the payload is
 length-payload : (src dst : IpAddress) (bytes : List ℕ) (v : UdpRepr) (p : List ℕ) → Reads bytes src dst true v p → length p ≡ packet_len bytes - 8
@@ -29,8 +29,8 @@ written-read src dst bytes v p words r =
       dst_port = rw r.dst_port (omega arith);
       receiver = rw r.dst_port r.receiver;
       payload_len = omega (arith, len);
-      src_octets = words.src_octets;
-      dst_octets = words.dst_octets;
+      src_bytes = words.src_bytes;
+      dst_bytes = words.dst_bytes;
     } in
     subst (λ written. Reads written src dst true v p) (append-nil (bytes_of v p src dst true)) (reads_bytes_of v src dst p [] true true in_range (λ on. on))
 

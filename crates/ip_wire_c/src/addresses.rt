@@ -7,7 +7,7 @@ ghost use Rattle.ip_wire.specs.IpAddress.{IsMulticast, IsUnicast, ReadsAddress, 
 ghost use Rattle.ip_wire.specs.IpCidr.{IsIn, ReadsCidr, cidr_text};
 ghost use Rattle.ip_wire.specs.Printed.{dashed};
 ghost use Rattle.ip_wire.specs.Read.{ReadsEthernet};
-ghost use Rattle.c_structs.specs.Addresses.{addr_of, block_of, block_struct, endpoint_struct, ethernet_octets, ip_endpoint_of, ip_of};
+ghost use Rattle.c_structs.specs.Addresses.{addr_of, block_of, block_struct, endpoint_struct, ethernet_bytes, ip_endpoint_of, ip_of};
 ghost use Rattle.c_structs.specs.Failures.{addr_failure, block_failure};
 ghost use Rattle.c_structs.specs.Written.{Answers, IsRead, Prints, within};
 
@@ -101,7 +101,7 @@ pub extern "C" fn lk_print_endpoint(endpoint: &Endpoint, out: &mut [u8]) -> isiz
 /// text.
 #[unsafe(no_mangle)]
 pub extern "C" fn lk_parse_ethernet(text: &[u8], octets: &mut [u8; 6]) -> i32
-    ensures { IsRead ReadsEthernet ethernet_octets (within text.now) octets.old octets.new result }
+    ensures { IsRead ReadsEthernet ethernet_bytes (within text.now) octets.old octets.new result }
 {
     match EthernetAddress::parse_ascii(within(text)) {
         Ok(address) => {

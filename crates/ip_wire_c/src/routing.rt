@@ -1,7 +1,7 @@
 //! One hop of a router, NAT of one packet, and the MSS clamp.
 
 ghost use Rattle.c_routing.specs.Clamped.{Clamps};
-ghost use Rattle.c_routing.specs.Forwarded.{Forwards, station};
+ghost use Rattle.c_routing.specs.Forwarded.{Forwards, ethernet_addr};
 ghost use Rattle.c_routing.specs.Translated.{Translates, side_of};
 
 use c_routing::{clamp_frame, forward_frame, translate_frame};
@@ -11,7 +11,7 @@ use c_structs::Endpoint;
 /// unchanged.
 #[unsafe(no_mangle)]
 pub extern "C" fn lk_forward(frame: &mut [u8], src: &[u8; 6], dst: &[u8; 6]) -> i32
-    ensures { Forwards frame.old frame.new (station src.now) (station dst.now) result }
+    ensures { Forwards frame.old frame.new (ethernet_addr src.now) (ethernet_addr dst.now) result }
 {
     forward_frame(frame, src, dst)
 }

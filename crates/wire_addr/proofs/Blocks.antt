@@ -12,10 +12,10 @@ use Rattle.std.specs.Prelude.{Some}
 use Rattle.std.proofs.lemmas.List.{get_or_past}
 use Rattle.std.proofs.lemmas.Nat.{leading_le, mul-add-lt, or_shifted, pow_pos, pow-add, shr-shr, shr_below, shr_high, shr_split, shl-shr}
 use Rattle.std.proofs.lemmas.Nat.Bits.{and_high_mask, bit_at_cat_low, bit_at_mask_below, bit_at_mask_inside, bit_at_ones, bit_at-zero, same_from_bits_below}
-use Rattle.wire_addr.specs.Octets.{AreOctets}
+use Rattle.wire_addr.specs.Bytes.{IsByteArray}
 use Rattle.wire_addr.specs.Prefix.{AgreeFirst, IsMasked, IsNetmask, bit_of, number_of}
 use Rattle.wire_addr.specs.Block.{IsWithin, IsLeast, IsGreatest}
-use Rattle.wire_addr.proofs.Numbers.{AreOctets-bytes, bit_at-number_of, number_of_bytes, number_of-lt}
+use Rattle.wire_addr.proofs.Numbers.{IsByteArray-bytes, bit_at-number_of, number_of_bytes, number_of-lt}
 use Rattle.std.proofs.lemmas.Grind.{common_steps}
 use Rattle.std.proofs.lemmas.Bool.Decides.{nat_tests}
 
@@ -40,7 +40,7 @@ shifted_from_agree n s x y x_fits y_fits agree =
     same_from_bits_below n (x / 2 ^ s) (y / 2 ^ s) (shr_below x n s x_fits) (shr_below y n s y_fits)
     (λ i h. bit_at-shifted x s i ∙ agree (s + i) (omega arith) (omega arith) ∙ sym (bit_at-shifted y s i))
 
-agree_from_numbers : (m n s : ℕ) (xs ys : List ℕ) → AreOctets m xs → AreOctets m ys → n + s ≡ 8 * m
+agree_from_numbers : (m n s : ℕ) (xs ys : List ℕ) → IsByteArray m xs → IsByteArray m ys → n + s ≡ 8 * m
     → number_of xs / 2 ^ s ≡ number_of ys / 2 ^ s → AgreeFirst n xs ys
 agree_from_numbers m n s xs ys are_xs are_ys e same k lt =
     let place : suc (k + (8 * m - 1 - k)) ≡ 8 * m = omega arith in
@@ -48,7 +48,7 @@ agree_from_numbers m n s xs ys are_xs are_ys e same k lt =
     ∙ agree_from_shifted s (number_of xs) (number_of ys) (8 * m - 1 - k) same (omega arith)
     ∙ bit_at-number_of m k (8 * m - 1 - k) ys are_ys place
 
-pub numbers_from_agree : (m n s : ℕ) (xs ys : List ℕ) → AreOctets m xs → AreOctets m ys → n + s ≡ 8 * m
+pub numbers_from_agree : (m n s : ℕ) (xs ys : List ℕ) → IsByteArray m xs → IsByteArray m ys → n + s ≡ 8 * m
     → AgreeFirst n xs ys → number_of xs / 2 ^ s ≡ number_of ys / 2 ^ s
 numbers_from_agree m n s xs ys are_xs are_ys e agree =
     shifted_from_agree n s (number_of xs) (number_of ys)
@@ -59,13 +59,13 @@ numbers_from_agree m n s xs ys are_xs are_ys e agree =
     ∙ sym (bit_at-number_of m (8 * m - 1 - i) i ys are_ys place))
 
 -- a bit past the last byte is a zero
-pub behind : (m : ℕ) (xs : List ℕ) (k : ℕ) → AreOctets m xs → 8 * m ≤ k → bit_of xs k ≡ 0
-behind m xs k are past =
+pub bits_past : (m : ℕ) (xs : List ℕ) (k : ℕ) → IsByteArray m xs → 8 * m ≤ k → bit_of xs k ≡ 0
+bits_past m xs k are past =
     rw (get_or_past xs (k / 8) 0 (omega (arith, are.0))) (bit_at-zero (7 - k % 8))
 
 -- ---- masks
 
-pub IsMasked-number : (m n s : ℕ) (xs ys : List ℕ) → AreOctets m xs → AreOctets m ys → n + s ≡ 8 * m
+pub IsMasked-number : (m n s : ℕ) (xs ys : List ℕ) → IsByteArray m xs → IsByteArray m ys → n + s ≡ 8 * m
     → number_of ys ≡ number_of xs / 2 ^ s * 2 ^ s → IsMasked n xs ys
 IsMasked-number m n s xs ys are_xs are_ys e is = record {
   kept = agree_from_numbers m n s xs ys are_xs are_ys e (sym (ap (λ v. v / 2 ^ s) is ∙ shl-shr (number_of xs / 2 ^ s) s));
@@ -77,12 +77,12 @@ IsMasked-number m n s xs ys are_xs are_ys e is = record {
         ∙ ap (λ v. bit_at v (8 * m - 1 - k)) whole
         ∙ bit_at_cat_low (number_of xs / 2 ^ s) s 0 (8 * m - 1 - k) (omega arith)
         ∙ bit_at-zero (8 * m - 1 - k)
-    | inr past ↦ behind m ys k are_ys past
+    | inr past ↦ bits_past m ys k are_ys past
   ];
 }
 
 -- bytes whose number is a mask are a netmask
-pub IsNetmask_number : (m n s : ℕ) (xs : List ℕ) → AreOctets m xs → n + s ≡ 8 * m → number_of xs ≡ 2 ^ (8 * m) - 2 ^ s
+pub IsNetmask_number : (m n s : ℕ) (xs : List ℕ) → IsByteArray m xs → n + s ≡ 8 * m → number_of xs ≡ 2 ^ (8 * m) - 2 ^ s
     → IsNetmask n xs
 IsNetmask_number m n s xs are e is = record {
   ones = λ k before.
@@ -94,15 +94,15 @@ IsNetmask_number m n s xs are e is = record {
         let place : suc (k + (8 * m - 1 - k)) ≡ 8 * m = omega arith in
         sym (bit_at-number_of m k (8 * m - 1 - k) xs are place) ∙ ap (λ v. bit_at v (8 * m - 1 - k)) is
         ∙ bit_at_mask_below s (8 * m) (8 * m - 1 - k) (omega arith)
-    | inr past ↦ behind m xs k are past
+    | inr past ↦ bits_past m xs k are past
   ];
 }
 
 -- a netmask has no more ones than bits
-pub IsNetmask-within : (m n : ℕ) (xs : List ℕ) → AreOctets m xs → IsNetmask n xs → n ≤ 8 * m
+pub IsNetmask-within : (m n : ℕ) (xs : List ℕ) → IsByteArray m xs → IsNetmask n xs → n ≤ 8 * m
 IsNetmask-within m n xs are is = grind (arith, common_steps, nat_tests)
 
-pub number-IsNetmask : (m n s : ℕ) (xs : List ℕ) → AreOctets m xs → n + s ≡ 8 * m → IsNetmask n xs
+pub number-IsNetmask : (m n s : ℕ) (xs : List ℕ) → IsByteArray m xs → n + s ≡ 8 * m → IsNetmask n xs
     → number_of xs ≡ 2 ^ (8 * m) - 2 ^ s
 number-IsNetmask m n s xs are e is =
     same_from_bits_below (8 * m) (number_of xs) (2 ^ (8 * m) - 2 ^ s) (number_of-lt m xs are)
@@ -124,7 +124,7 @@ leading_ones-mask w s le =
 -- ---- the least and the greatest address of a block
 
 -- a number with zeros in its last s bits is the least address of the block
-pub IsLeast_number : (m n s : ℕ) (xs ys : List ℕ) → AreOctets m xs → AreOctets m ys → n + s ≡ 8 * m
+pub IsLeast_number : (m n s : ℕ) (xs ys : List ℕ) → IsByteArray m xs → IsByteArray m ys → n + s ≡ 8 * m
     → number_of ys ≡ number_of xs / 2 ^ s * 2 ^ s → IsLeast m (record { address = xs; prefix_len = n }) ys
 IsLeast_number m n s xs ys are_xs are_ys e is = record {
   member = (IsMasked-number m n s xs ys are_xs are_ys e is).kept;
@@ -134,7 +134,7 @@ IsLeast_number m n s xs ys are_xs are_ys e is = record {
 }
 
 -- a number with ones in its last s bits is the greatest address of the block
-pub IsGreatest_number : (m n s : ℕ) (xs ys : List ℕ) → AreOctets m xs → AreOctets m ys → n + s ≡ 8 * m
+pub IsGreatest_number : (m n s : ℕ) (xs ys : List ℕ) → IsByteArray m xs → IsByteArray m ys → n + s ≡ 8 * m
     → number_of ys ≡ number_of xs / 2 ^ s * 2 ^ s + (2 ^ s - 1) → IsGreatest m (record { address = xs; prefix_len = n }) ys
 IsGreatest_number m n s xs ys are_xs are_ys e is = record {
   member = agree_from_numbers m n s xs ys are_xs are_ys e
@@ -150,7 +150,7 @@ IsGreatest_number m n s xs ys are_xs are_ys e is = record {
 abbrev with_last : ℕ → ℕ → List ℕ → ℕ → List ℕ
 with_last m s xs r = bytes_high_first m (number_of xs / 2 ^ s * 2 ^ s + r)
 
-number_of-with_last : (m n s : ℕ) (xs : List ℕ) (r : ℕ) → AreOctets m xs → n + s ≡ 8 * m → r < 2 ^ s
+number_of-with_last : (m n s : ℕ) (xs : List ℕ) (r : ℕ) → IsByteArray m xs → n + s ≡ 8 * m → r < 2 ^ s
     → number_of (with_last m s xs r) ≡ number_of xs / 2 ^ s * 2 ^ s + r
 number_of-with_last m n s xs r are e small =
     let q : ℕ = number_of xs / 2 ^ s in
@@ -160,21 +160,21 @@ number_of-with_last m n s xs r are e small =
     number_of_bytes m (q * 2 ^ s + r) ∙ mod-eq_of_lt fits
 
 -- it is in the block, and the bits after the prefix are those of the number
-with_last-member : (m n s : ℕ) (xs : List ℕ) (r : ℕ) → AreOctets m xs → n + s ≡ 8 * m → r < 2 ^ s
+with_last-member : (m n s : ℕ) (xs : List ℕ) (r : ℕ) → IsByteArray m xs → n + s ≡ 8 * m → r < 2 ^ s
     → AgreeFirst n xs (with_last m s xs r)
 with_last-member m n s xs r are e small =
-    agree_from_numbers m n s xs (with_last m s xs r) are (AreOctets-bytes m (number_of xs / 2 ^ s * 2 ^ s + r)) e
+    agree_from_numbers m n s xs (with_last m s xs r) are (IsByteArray-bytes m (number_of xs / 2 ^ s * 2 ^ s + r)) e
     (sym (ap (λ v. v / 2 ^ s) (number_of-with_last m n s xs r are e small) ∙ shr_high (number_of xs / 2 ^ s) s r small))
 
-with_last-bit : (m n s k j : ℕ) (xs : List ℕ) (r : ℕ) → AreOctets m xs → n + s ≡ 8 * m → r < 2 ^ s → n ≤ k → suc (k + j) ≡ 8 * m
+with_last-bit : (m n s k j : ℕ) (xs : List ℕ) (r : ℕ) → IsByteArray m xs → n + s ≡ 8 * m → r < 2 ^ s → n ≤ k → suc (k + j) ≡ 8 * m
     → bit_of (with_last m s xs r) k ≡ bit_at r j
 with_last-bit m n s k j xs r are e small from place =
-    sym (bit_at-number_of m k j (with_last m s xs r) (AreOctets-bytes m (number_of xs / 2 ^ s * 2 ^ s + r)) place)
+    sym (bit_at-number_of m k j (with_last m s xs r) (IsByteArray-bytes m (number_of xs / 2 ^ s * 2 ^ s + r)) place)
     ∙ ap (λ v. bit_at v j) (number_of-with_last m n s xs r are e small)
     ∙ bit_at_cat_low (number_of xs / 2 ^ s) s r j (omega arith)
 
 -- a block that is within another has at least as many bits: otherwise its lowest and highest address would differ there
-pub prefix_from_within : (m p q : ℕ) (xs ys : List ℕ) → AreOctets m xs → q ≤ 8 * m
+pub prefix_from_within : (m p q : ℕ) (xs ys : List ℕ) → IsByteArray m xs → q ≤ 8 * m
     → IsWithin m (record { address = xs; prefix_len = p }) (record { address = ys; prefix_len = q }) → q ≤ p
 prefix_from_within m p q xs ys are bound within =
     elim (cases_lt p q) [
@@ -186,10 +186,10 @@ prefix_from_within m p q xs ys are bound within =
           let fits_0 : 0 < 2 ^ s = pow_pos s in
           let fits_1 : 2 ^ s - 1 < 2 ^ s = omega (arith, pow_pos s) in
           let zero_bit : bit_of ys p ≡ 0 =
-          within (with_last m s xs 0) (AreOctets-bytes m (number_of xs / 2 ^ s * 2 ^ s + 0)) (with_last-member m p s xs 0 are e fits_0) p less
+          within (with_last m s xs 0) (IsByteArray-bytes m (number_of xs / 2 ^ s * 2 ^ s + 0)) (with_last-member m p s xs 0 are e fits_0) p less
           ∙ with_last-bit m p s p j xs 0 are e fits_0 (omega arith) place ∙ bit_at-zero j in
           let one_bit : bit_of ys p ≡ 1 =
-          within (with_last m s xs (2 ^ s - 1)) (AreOctets-bytes m (number_of xs / 2 ^ s * 2 ^ s + (2 ^ s - 1))) (with_last-member m p s xs (2 ^ s - 1) are e fits_1) p less
+          within (with_last m s xs (2 ^ s - 1)) (IsByteArray-bytes m (number_of xs / 2 ^ s * 2 ^ s + (2 ^ s - 1))) (with_last-member m p s xs (2 ^ s - 1) are e fits_1) p less
           ∙ with_last-bit m p s p j xs (2 ^ s - 1) are e fits_1 (omega arith) place ∙ bit_at_ones s j (omega arith) in
           let no : ⊥ = omega (arith, zero_bit, one_bit) in
           absurd no
@@ -197,7 +197,7 @@ prefix_from_within m p q xs ys are bound within =
     ]
 
 -- a block is within another exactly if it has at least as many bits and its own address is in the other
-pub IsWithin-member : (m p q : ℕ) (xs ys : List ℕ) → AreOctets m xs → q ≤ 8 * m
+pub IsWithin-member : (m p q : ℕ) (xs ys : List ℕ) → IsByteArray m xs → q ≤ 8 * m
     → ((q ≤ p) × AgreeFirst q ys xs) ↔ IsWithin m (record { address = xs; prefix_len = p }) (record { address = ys; prefix_len = q })
 IsWithin-member m p q xs ys are bound = (
   (λ both zs are_zs member k lt. both.1 k lt ∙ member k (omega (arith, both.0))),
@@ -207,12 +207,12 @@ IsWithin-member m p q xs ys are bound = (
 -- ---- what the code computes
 
 -- a number under the mask of a prefix
-pub number_under_mask : (m s : ℕ) (xs : List ℕ) → AreOctets m xs → s ≤ 8 * m
+pub number_under_mask : (m s : ℕ) (xs : List ℕ) → IsByteArray m xs → s ≤ 8 * m
     → bit_and (number_of xs) (2 ^ (8 * m) - 2 ^ s) ≡ number_of xs / 2 ^ s * 2 ^ s
 number_under_mask m s xs are le = and_high_mask (8 * m) s le (number_of xs) (number_of-lt m xs are)
 
 -- the low bits are set where the mask has none
-pub number_over_mask : (m s : ℕ) (xs : List ℕ) → AreOctets m xs → s ≤ 8 * m
+pub number_over_mask : (m s : ℕ) (xs : List ℕ) → IsByteArray m xs → s ≤ 8 * m
     → bit_or (number_of xs / 2 ^ s * 2 ^ s) (2 ^ (8 * m) - 1 - (2 ^ (8 * m) - 2 ^ s)) ≡ number_of xs / 2 ^ s * 2 ^ s + (2 ^ s - 1)
 number_over_mask m s xs are le =
     let least : 2 ^ s ≤ 2 ^ (8 * m) = pow_mono {i = s} {j = 8 * m} le in
@@ -221,7 +221,7 @@ number_over_mask m s xs are le =
     ∙ or_shifted (number_of xs / 2 ^ s) s (2 ^ s - 1) (omega (arith, pow_pos s))
 
 -- two numbers that are equal under a mask have the same first bits
-pub member_test : (m n x y mask : ℕ) (xs ys : List ℕ) → AreOctets m xs → AreOctets m ys → n ≤ 8 * m
+pub member_test : (m n x y mask : ℕ) (xs ys : List ℕ) → IsByteArray m xs → IsByteArray m ys → n ≤ 8 * m
     → x ≡ number_of xs → y ≡ number_of ys → mask ≡ 2 ^ (8 * m) - 2 ^ (8 * m - n)
     → IsTrue (nat_eq (bit_and x mask) (bit_and y mask)) ↔ AgreeFirst n xs ys
 member_test m n x y mask xs ys are_xs are_ys within ex ey em =
@@ -238,19 +238,19 @@ member_test m n x y mask xs ys are_xs are_ys within ex ey em =
     )
 
 -- the test of `contains_subnet`, where the other block contains the address: the prefix lengths decide
-pub within_test : (m p q : ℕ) (xs ys : List ℕ) (contains : Bool) → AreOctets m xs → q ≤ 8 * m → (IsTrue contains ↔ AgreeFirst q ys xs) → contains ≡ true
+pub within_test : (m p q : ℕ) (xs ys : List ℕ) (contains : Bool) → IsByteArray m xs → q ≤ 8 * m → (IsTrue contains ↔ AgreeFirst q ys xs) → contains ≡ true
     → IsTrue (nat_le q p) ↔ IsWithin m (record { address = xs; prefix_len = p }) (record { address = ys; prefix_len = q })
 within_test m p q xs ys contains are bound test is =
     let both = IsWithin-member m p q xs ys are bound in
     ((λ t. both.0 (leb-true q p t, test.0 is)), (λ within. le-leb q p (both.1 within).0))
 
 -- and where it does not: the block is not within the other
-pub outside_test : (m p q : ℕ) (xs ys : List ℕ) (contains : Bool) → AreOctets m xs → q ≤ 8 * m → (IsTrue contains ↔ AgreeFirst q ys xs) → contains ≡ false
+pub outside_test : (m p q : ℕ) (xs ys : List ℕ) (contains : Bool) → IsByteArray m xs → q ≤ 8 * m → (IsTrue contains ↔ AgreeFirst q ys xs) → contains ≡ false
     → IsTrue contains ↔ IsWithin m (record { address = xs; prefix_len = p }) (record { address = ys; prefix_len = q })
 outside_test m p q xs ys contains are bound test is = grind arith
 
 -- the number of leading ones is the prefix length exactly if the number is the mask with as many ones
-pub prefix_test : (m ones bits mask : ℕ) (xs : List ℕ) → AreOctets m xs → bits ≡ number_of xs
+pub prefix_test : (m ones bits mask : ℕ) (xs : List ℕ) → IsByteArray m xs → bits ≡ number_of xs
     → ones ≡ count_leading_zeros (8 * m) (2 ^ (8 * m) - 1 - bits) → mask ≡ 2 ^ (8 * m) - 2 ^ (8 * m - ones)
     → (n : ℕ) → (then_some (nat_eq bits mask) ones ≡ Some n) ↔ IsNetmask n xs
 prefix_test m ones bits mask xs are eb eo em n = by_test (nat_eq bits mask) (Decides-eqb bits mask)
@@ -283,11 +283,11 @@ prefix_test m ones bits mask xs are eb eo em n = by_test (nat_eq bits mask) (Dec
     )
 
 -- the bytes of a number under a mask
-pub IsMasked_bytes : (m n x mask : ℕ) (xs : List ℕ) → AreOctets m xs → n ≤ 8 * m → x ≡ number_of xs → mask ≡ 2 ^ (8 * m) - 2 ^ (8 * m - n)
+pub IsMasked_bytes : (m n x mask : ℕ) (xs : List ℕ) → IsByteArray m xs → n ≤ 8 * m → x ≡ number_of xs → mask ≡ 2 ^ (8 * m) - 2 ^ (8 * m - n)
     → IsMasked n xs (bytes_high_first m (bit_and x mask))
 IsMasked_bytes m n x mask xs are within ex em =
     let s : ℕ = 8 * m - n in
     let under : bit_and x mask ≡ number_of xs / 2 ^ s * 2 ^ s = rw (ex, em) (number_under_mask m s xs are (omega arith)) in
     let fits : bit_and x mask < 2 ^ (8 * m) = rw under (omega (arith, shr_split (number_of xs) s, number_of-lt m xs are)) in
-    IsMasked-number m n s xs (bytes_high_first m (bit_and x mask)) are (AreOctets-bytes m (bit_and x mask)) (omega arith)
+    IsMasked-number m n s xs (bytes_high_first m (bit_and x mask)) are (IsByteArray-bytes m (bit_and x mask)) (omega arith)
     (number_of_bytes m (bit_and x mask) ∙ mod-eq_of_lt fits ∙ under)

@@ -7,7 +7,7 @@ use Rattle.wire_addr.specs.Class.{IsIpv4Unicast, IsIpv6Unicast, ipv4_broadcast, 
 use Rattle.wire_addr.specs.Hardware.{AreAddress, IsBroadcast, IsLocal, IsMulticast, IsUnicast}
 use Rattle.wire_addr.specs.declared.hardware_address.HardwareAddress.{HardwareAddress}
 use Rattle.wire_addr.proofs.Blocks.{prefix_from_within}
-use Rattle.wire_addr.proofs.Numbers.{AreOctets-bytes}
+use Rattle.wire_addr.proofs.Numbers.{IsByteArray-bytes}
 
 -- a bit of the prefix would be equal
 lower : ◌≢◌ {A = ℕ} 1 0
@@ -21,8 +21,8 @@ higher e = omega (arith, e)
 multicast-before : ¬ (IsIn ipv4_multicast (223 ∷ 255 ∷ 255 ∷ 255 ∷ []))
 multicast-before h = lower (h 2 (lit< tt))
 
-multicast-behind : ¬ (IsIn ipv4_multicast (240 ∷ 0 ∷ 0 ∷ 0 ∷ []))
-multicast-behind h = higher (h 3 (lit< tt))
+multicast-past : ¬ (IsIn ipv4_multicast (240 ∷ 0 ∷ 0 ∷ 0 ∷ []))
+multicast-past h = higher (h 3 (lit< tt))
 
 broadcast-no_unicast : ¬ (IsIpv4Unicast ipv4_broadcast)
 broadcast-no_unicast h = h.0 refl
@@ -44,12 +44,12 @@ unspecified6-no_unicast h = h.1 refl
 -- a block is not within its half
 longer-prefix : ¬ (IsWithin 4 (record { address = 10 ∷ 0 ∷ 0 ∷ 0 ∷ []; prefix_len = 8 }) (record { address = 10 ∷ 0 ∷ 0 ∷ 0 ∷ []; prefix_len = 9 }))
 longer-prefix h =
-    let le = prefix_from_within 4 8 9 (10 ∷ 0 ∷ 0 ∷ 0 ∷ []) (10 ∷ 0 ∷ 0 ∷ 0 ∷ []) (AreOctets-bytes 4 0xa000000) (lit≤ tt) h in
+    let le = prefix_from_within 4 8 9 (10 ∷ 0 ∷ 0 ∷ 0 ∷ []) (10 ∷ 0 ∷ 0 ∷ 0 ∷ []) (IsByteArray-bytes 4 0xa000000) (lit≤ tt) h in
     omega (arith, le)
 
 -- nor within the block next to it
 next-block : ¬ (IsWithin 4 (record { address = 10 ∷ 1 ∷ 0 ∷ 0 ∷ []; prefix_len = 16 }) (record { address = 10 ∷ 0 ∷ 0 ∷ 0 ∷ []; prefix_len = 16 }))
-next-block h = higher (h (10 ∷ 1 ∷ 0 ∷ 0 ∷ []) (AreOctets-bytes 4 0xa010000) (λ k below. refl) 15 (lit< tt))
+next-block h = higher (h (10 ∷ 1 ∷ 0 ∷ 0 ∷ []) (IsByteArray-bytes 4 0xa010000) (λ k below. refl) 15 (lit< tt))
 
 -- ---- hardware addresses
 

@@ -6,7 +6,7 @@ use Rattle.std.proofs.lemmas.Bool.{cases_lt, false≢true}
 use Rattle.std.proofs.lemmas.Slice.Eq.{bytes_eq-Decides}
 use Rattle.std.specs.Net.Text.{longest_zero_run}
 use Rattle.std.proofs.NetLemmas.Texts.{IsZeroRun-longest_zero_run, longest_zero_run_first}
-use Rattle.wire_addr.specs.Octets.{groups_of, mapped_prefix}
+use Rattle.wire_addr.specs.Bytes.{groups_of, mapped_prefix}
 use Rattle.wire_addr.specs.Printed.{dotted, groups_text, shortened_text, IsZeroRun, ipv6_text, IsShortenedRun, IsGroupsPrint, IsIpv6Print}
 
 -- lists of numbers are equal or not
@@ -29,8 +29,8 @@ ipv6_text_other octets apart = grind arith
 
 -- the bytes after the prefix, if the address has it
 pub mapped_then_some : (octets ipv4 : List ℕ) (test : Bool) → Decides test (take 12 octets ≡ mapped_prefix) → drop 12 octets ≡ ipv4
-    → MatchOption (then_some test ipv4) (take 12 octets ≢ mapped_prefix) (λ behind. octets ≡ mapped_prefix ++ behind)
-mapped_then_some octets ipv4 test is behind = grind arith
+    → MatchOption (then_some test ipv4) (take 12 octets ≢ mapped_prefix) (λ following. octets ≡ mapped_prefix ++ following)
+mapped_then_some octets ipv4 test is following = grind arith
 
 -- ---- the text meets the rule
 

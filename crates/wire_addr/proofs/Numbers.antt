@@ -5,7 +5,7 @@ use Rattle.std.proofs.Math.Nat.{mul-le-mul_left, pow-suc}
 use Rattle.std.proofs.lemmas.Bool.{cases_lt}
 use Rattle.std.proofs.lemmas.Nat.{mod-pow-add, mod_below, pow-add}
 use Rattle.std.proofs.lemmas.Nat.Bits.{bit_at_cat_low, bit_at_cat_high}
-use Rattle.wire_addr.specs.Octets.{AreOctets}
+use Rattle.wire_addr.specs.Bytes.{IsByteArray}
 use Rattle.wire_addr.specs.Prefix.{bit_of, number_of}
 
 -- ---- by places: the number in the n bytes from place i
@@ -59,8 +59,8 @@ number_of_bytes (suc k) n =
     rw (length-bytes_high_first k n, byte_at-shifted k n, number_of_bytes k n, more) (sym (mod-pow-add n 8 (8 * k)))
 
 -- the k big-endian bytes of a number are k numbers of eight bits
-pub AreOctets-bytes : (k n : ℕ) → AreOctets k (bytes_high_first k n)
-AreOctets-bytes k n = (length-bytes_high_first k n, small k)
+pub IsByteArray-bytes : (k n : ℕ) → IsByteArray k (bytes_high_first k n)
+IsByteArray-bytes k n = (length-bytes_high_first k n, small k)
   where
     small : (k i : ℕ) → get_or (bytes_high_first k n) i 0 < 256
     small zero i = lit< tt
@@ -70,14 +70,14 @@ AreOctets-bytes k n = (length-bytes_high_first k n, small k)
 -- ---- bits
 
 -- a byte before a number of k bits makes a number of k + 8 bits
-octet_before-lt : (a k r : ℕ) → a < 256 → r < 2 ^ k → a * 2 ^ k + r < 2 ^ (8 + k)
-octet_before-lt a k r h g = omega (arith, pow-add 2 8 k, mul-le-mul_left {m = a} {n = 255} (2 ^ k) (let le : a ≤ 255 = omega arith in le))
+byte_before-lt : (a k r : ℕ) → a < 256 → r < 2 ^ k → a * 2 ^ k + r < 2 ^ (8 + k)
+byte_before-lt a k r h g = omega (arith, pow-add 2 8 k, mul-le-mul_left {m = a} {n = 255} (2 ^ k) (let le : a ≤ 255 = omega arith in le))
 
 number_from-lt : (n i : ℕ) (xs : List ℕ) → ((k : ℕ) → get_or xs k 0 < 256) → number_from i n xs < 2 ^ (8 * n)
 number_from-lt zero i xs h = lit< tt
 number_from-lt (suc n) i xs h =
     let e : 8 * suc n ≡ 8 + 8 * n = omega arith in
-    rw e (octet_before-lt (get_or xs i 0) (8 * n) (number_from (suc i) n xs) (h i) (number_from-lt n (suc i) xs h))
+    rw e (byte_before-lt (get_or xs i 0) (8 * n) (number_from (suc i) n xs) (h i) (number_from-lt n (suc i) xs h))
 
 -- bit k of the bytes is that bit of the number, counted from the other end
 bit_at-number_from : (n i k j : ℕ) (xs : List ℕ) → ((k : ℕ) → get_or xs k 0 < 256) → suc (k + j) ≡ 8 * n
@@ -103,10 +103,10 @@ bit_at-number_from (suc n) i k j xs h e =
     ]
 
 -- m bytes are a number below 2 ^ (8 * m)
-pub number_of-lt : (m : ℕ) (xs : List ℕ) → AreOctets m xs → number_of xs < 2 ^ (8 * m)
+pub number_of-lt : (m : ℕ) (xs : List ℕ) → IsByteArray m xs → number_of xs < 2 ^ (8 * m)
 number_of-lt m xs are = rw (by_places xs, are.0) (number_from-lt m 0 xs are.1)
 
 -- bit k of the bytes, counted from the highest, is bit j of their number, counted from the lowest
-pub bit_at-number_of : (m k j : ℕ) (xs : List ℕ) → AreOctets m xs → suc (k + j) ≡ 8 * m → bit_at (number_of xs) j ≡ bit_of xs k
+pub bit_at-number_of : (m k j : ℕ) (xs : List ℕ) → IsByteArray m xs → suc (k + j) ≡ 8 * m → bit_at (number_of xs) j ≡ bit_of xs k
 bit_at-number_of m k j xs are e =
     rw (by_places xs, are.0) (bit_at-number_from m 0 k j xs are.1 e ∙ ap (λ p. bit_at (get_or xs p 0) (7 - k % 8)) (zero-add (k / 8)))

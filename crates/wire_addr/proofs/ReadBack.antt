@@ -9,23 +9,23 @@ use Rattle.std.specs.Fmt.{digits, digits_onto, digit_glyph}
 use Rattle.std.specs.List.{join_with_byte}
 use Rattle.std.specs.Net.Text.{longest_zero_run}
 use Rattle.std.proofs.NetLemmas.Texts.{AllSegments, AllSegments-take, AllSegments-drop, IsZeroRun-longest_zero_run}
-use Rattle.wire_addr.specs.Octets.{AreOctets, octets_of, mapped_prefix}
+use Rattle.wire_addr.specs.Bytes.{IsByteArray, address_bytes, mapped_prefix}
 use Rattle.wire_addr.specs.Printed.{dotted, dashed, hex_byte, hex, colon_hex, groups_text, ipv6_text}
 use Rattle.wire_addr.specs.Read.{ReadsIpv6}
-use Rattle.wire_text.specs.Grammar.{EachReads, IsNumber, IsOctet, IsDotted, IsHexOctets, IsGroup, AreGroupsText, IsElidedMappedText, IsIpv6Text, groups_of, mapped_groups}
+use Rattle.wire_text.specs.Grammar.{EachReads, IsNumber, IsDecimalByte, IsDotted, IsHexBytes, IsGroup, AreGroupsText, IsElidedMappedText, IsIpv6Text, groups_of, mapped_groups}
 use Rattle.std.proofs.lemmas.Grind.{common_steps}
 use Rattle.std.proofs.lemmas.Bool.Decides.{nat_tests}
 
 -- ---- bytes and groups
 
-pub octets_of-groups_of : (n : ℕ) (octets : List ℕ) → length octets ≡ 2 * n → ((k : ℕ) → get_or octets k 0 < 2 ^ 8) → octets_of (groups_of octets) ≡ octets
-octets_of-groups_of n [] even small = refl
-octets_of-groups_of n (a ∷ []) even small = absurd (omega arith)
-octets_of-groups_of n (a ∷ b ∷ octets) even small =
+pub address_bytes-groups_of : (n : ℕ) (octets : List ℕ) → length octets ≡ 2 * n → ((k : ℕ) → get_or octets k 0 < 2 ^ 8) → address_bytes (groups_of octets) ≡ octets
+address_bytes-groups_of n [] even small = refl
+address_bytes-groups_of n (a ∷ []) even small = absurd (omega arith)
+address_bytes-groups_of n (a ∷ b ∷ octets) even small =
     let low = small 1 in
     let first : (a * 256 + b) / 256 ≡ a = omega arith in
     let second : (a * 256 + b) % 256 ≡ b = omega arith in
-    λ i. first i ∷ second i ∷ octets_of-groups_of (n - 1) octets (omega arith) (λ k. small (suc (suc k))) i
+    λ i. first i ∷ second i ∷ address_bytes-groups_of (n - 1) octets (omega arith) (λ k. small (suc (suc k))) i
 
 length-groups_of : (n : ℕ) (octets : List ℕ) → length octets ≡ 2 * n → length (groups_of octets) ≡ n
 length-groups_of n [] even = omega arith
@@ -43,29 +43,29 @@ groups_fit (a ∷ b ∷ octets) small k =
 
 -- ---- IPv4 and Ethernet
 
-IsOctet-decimal : (n : ℕ) → n < 2 ^ 8 → IsOctet (decimal n) n
-IsOctet-decimal n fits =
+IsDecimalByte-decimal : (n : ℕ) → n < 2 ^ 8 → IsDecimalByte (decimal n) n
+IsDecimalByte-decimal n fits =
     let (digits, value) = decimal_is_IsNumeral n (omega arith) in
     record { digits = digits; places_fit = length-decimal-le 3 n (omega arith) (omega arith) (omega arith); value = value; fits = omega arith }
 
-octets_each : (octets : List ℕ) → ((k : ℕ) → get_or octets k 0 < 2 ^ 8) → EachReads IsOctet (map decimal octets) octets
-octets_each [] h = tt
-octets_each (n ∷ octets) h = (IsOctet-decimal n (h 0), octets_each octets (λ k. h (suc k)))
+dotted_each : (octets : List ℕ) → ((k : ℕ) → get_or octets k 0 < 2 ^ 8) → EachReads IsDecimalByte (map decimal octets) octets
+dotted_each [] h = tt
+dotted_each (n ∷ octets) h = (IsDecimalByte-decimal n (h 0), dotted_each octets (λ k. h (suc k)))
 
 -- a printed IPv4 address parses as that address
-pub IsDotted_dotted : (octets : List ℕ) → AreOctets 4 octets → IsDotted (dotted octets) octets
-IsDotted_dotted octets h = (record { pieces = map decimal octets; joined = refl; each = octets_each octets h.1 }, h.0)
+pub IsDotted_dotted : (octets : List ℕ) → IsByteArray 4 octets → IsDotted (dotted octets) octets
+IsDotted_dotted octets h = (record { pieces = map decimal octets; joined = refl; each = dotted_each octets h.1 }, h.0)
 
 IsNumber-hex_byte : (n : ℕ) → n < 2 ^ 8 → IsNumber 16 2 255 (hex_byte n) n
 IsNumber-hex_byte n fits = grind (arith, common_steps, nat_tests)
 
-hex_octets_each : (octets : List ℕ) → ((k : ℕ) → get_or octets k 0 < 2 ^ 8) → EachReads (IsNumber 16 2 255) (map hex_byte octets) octets
-hex_octets_each [] h = tt
-hex_octets_each (n ∷ octets) h = (IsNumber-hex_byte n (h 0), hex_octets_each octets (λ k. h (suc k)))
+hex_bytes_each : (octets : List ℕ) → ((k : ℕ) → get_or octets k 0 < 2 ^ 8) → EachReads (IsNumber 16 2 255) (map hex_byte octets) octets
+hex_bytes_each [] h = tt
+hex_bytes_each (n ∷ octets) h = (IsNumber-hex_byte n (h 0), hex_bytes_each octets (λ k. h (suc k)))
 
 -- a printed Ethernet address parses as that address
-pub IsHexOctets-dashed : (octets : List ℕ) → AreOctets 6 octets → IsHexOctets 45 (dashed octets) octets
-IsHexOctets-dashed octets h = (record { pieces = map hex_byte octets; joined = refl; each = hex_octets_each octets h.1 }, h.0)
+pub IsHexBytes-dashed : (octets : List ℕ) → IsByteArray 6 octets → IsHexBytes 45 (dashed octets) octets
+IsHexBytes-dashed octets h = (record { pieces = map hex_byte octets; joined = refl; each = hex_bytes_each octets h.1 }, h.0)
 
 -- ---- IPv6
 
@@ -122,7 +122,7 @@ IsIpv6Text-groups_text groups eight fit =
     ]
 
 -- `::ffff:` and a dotted part: no group before `::`
-IsElidedMappedText-printed : (octets : List ℕ) → AreOctets 4 octets → IsElidedMappedText ((58 ∷ 58 ∷ 102 ∷ 102 ∷ 102 ∷ 102 ∷ 58 ∷ []) ++ dotted octets) (mapped_groups ++ groups_of octets)
+IsElidedMappedText-printed : (octets : List ℕ) → IsByteArray 4 octets → IsElidedMappedText ((58 ∷ 58 ∷ 102 ∷ 102 ∷ 102 ∷ 102 ∷ 58 ∷ []) ++ dotted octets) (mapped_groups ++ groups_of octets)
 IsElidedMappedText-printed octets h = record {
   head_text = [];
   mark_text = 102 ∷ 102 ∷ 102 ∷ 102 ∷ [];
@@ -138,18 +138,18 @@ IsElidedMappedText-printed octets h = record {
 }
 
 -- a printed IPv6 address parses as that address
-pub ReadsIpv6_ipv6_text : (octets : List ℕ) → AreOctets 16 octets → ReadsIpv6 (ipv6_text octets) octets
+pub ReadsIpv6_ipv6_text : (octets : List ℕ) → IsByteArray 16 octets → ReadsIpv6 (ipv6_text octets) octets
 unfolding ipv6_text
 ReadsIpv6_ipv6_text octets h = cond_both (bytes_eq (take 12 octets) mapped_prefix) _ _ (λ text. ReadsIpv6 text octets) mapped (λ _. plain)
   where
     mapped : bytes_eq (take 12 octets) mapped_prefix ≡ true → ReadsIpv6 ((58 ∷ 58 ∷ 102 ∷ 102 ∷ 102 ∷ 102 ∷ 58 ∷ []) ++ dotted (drop 12 octets)) octets
     mapped same =
-        let last : AreOctets 4 (drop 12 octets) = (omega (arith, length-drop 12 octets, h.0), λ k. rw (get_or-drop 12 octets k 0) (h.1 (12 + k))) in
+        let last : IsByteArray 4 (drop 12 octets) = (omega (arith, length-drop 12 octets, h.0), λ k. rw (get_or-drop 12 octets k 0) (h.1 (12 + k))) in
         let whole : octets ≡ mapped_prefix ++ drop 12 octets = sym (take-append-drop 12 octets) ∙ ap (λ t. t ++ drop 12 octets) ((bytes_eq-Decides (take 12 octets) mapped_prefix).0 same) in (
           mapped_groups ++ groups_of (drop 12 octets),
           inr (inr (inr (IsElidedMappedText-printed (drop 12 octets) last))),
-          whole ∙ ap (λ t. mapped_prefix ++ t) (sym (octets_of-groups_of 2 (drop 12 octets) last.0 last.1)),
+          whole ∙ ap (λ t. mapped_prefix ++ t) (sym (address_bytes-groups_of 2 (drop 12 octets) last.0 last.1)),
         )
 
     plain : ReadsIpv6 (groups_text (groups_of octets)) octets
-    plain = (groups_of octets, IsIpv6Text-groups_text (groups_of octets) (length-groups_of 8 octets h.0) (groups_fit octets h.1), sym (octets_of-groups_of 8 octets h.0 h.1))
+    plain = (groups_of octets, IsIpv6Text-groups_text (groups_of octets) (length-groups_of 8 octets h.0) (groups_fit octets h.1), sym (address_bytes-groups_of 8 octets h.0 h.1))

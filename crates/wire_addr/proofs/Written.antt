@@ -11,10 +11,10 @@ written_more old front out text new at end w more =
     let head : take at out ≡ front = ap (take at) w.bytes ∙ take_at front (drop at old) at (omega (arith, w.place)) in
     let rest : drop at out ≡ drop at old = ap (drop at) w.bytes ∙ drop_at front (drop at old) at (omega (arith, w.place)) in
     let far : end ≡ at + length text = more.place in
-    let behind : drop (at + length text) out ≡ drop (at + length text) old =
+    let following : drop (at + length text) out ≡ drop (at + length text) old =
     sym (drop-drop (length text) at out) ∙ ap (drop (length text)) rest ∙ drop-drop (length text) at old in
     record {
-      bytes = more.bytes ∙ rw (head, far, behind) refl;
+      bytes = more.bytes ∙ rw (head, far, following) refl;
       place = omega (arith, far, w.place, length-append front text);
     }
 

@@ -5,7 +5,7 @@ use Rattle.std.specs.Cmp.Lexicographic.{slice_cmp}
 use Rattle.std.specs.Hash as hash
 use Rattle.std.specs.Ordering.{nat_cmp, ordering_then}
 use Rattle.std.specs.declared.cmp.Ordering.{Ordering}
-use Rattle.wire_addr.specs.Octets.{AreOctets}
+use Rattle.wire_addr.specs.Bytes.{IsByteArray}
 use Rattle.wire_addr.specs.Prefix.{AgreeFirst, number_of}
 
 -- a CIDR block: the address from which it was made, and the prefix length
@@ -19,17 +19,17 @@ IsIn block address = AgreeFirst block.prefix_len block.address address
 
 -- each address of n bytes that is in the first block is in the second
 abbrev pub IsWithin : ℕ → Block → Block → Type 0
-IsWithin n inner outer = (address : List ℕ) → AreOctets n address → IsIn inner address → IsIn outer address
+IsWithin n inner outer = (address : List ℕ) → IsByteArray n address → IsIn inner address → IsIn outer address
 
 -- the lowest of the addresses of n bytes that are in the block
 pub record IsLeast (n : ℕ) (block : Block) (address : List ℕ) : Type 0 where
   pub member : IsIn block address
-  pub least : (other : List ℕ) → AreOctets n other → IsIn block other → number_of address ≤ number_of other
+  pub least : (other : List ℕ) → IsByteArray n other → IsIn block other → number_of address ≤ number_of other
 
 -- the highest of the addresses of n bytes that are in the block
 pub record IsGreatest (n : ℕ) (block : Block) (address : List ℕ) : Type 0 where
   pub member : IsIn block address
-  pub greatest : (other : List ℕ) → AreOctets n other → IsIn block other → number_of other ≤ number_of address
+  pub greatest : (other : List ℕ) → IsByteArray n other → IsIn block other → number_of other ≤ number_of address
 
 -- the order of CIDR blocks: by address, byte by byte, then by prefix length
 abbrev pub block_cmp : Block → Block → Ordering

@@ -2,7 +2,7 @@
 use Rattle.std.specs.Prelude.{ℕ, ◌≡◌, ◌≢◌, ◌⊎◌, ◌%◌, ◌==◌, if◌then◌else◌, Option, Some, None, List, [], ◌∷◌, ◌++◌, drop, replicate, slice_index, take}
 use Rattle.wire_addr.specs.Block.{Block, IsIn}
 use Rattle.wire_addr.specs.Hardware.{eui_64}
-use Rattle.wire_addr.specs.Octets.{octets_of}
+use Rattle.wire_addr.specs.Bytes.{address_bytes}
 use Rattle.wire_addr.specs.declared.hardware_address.HardwareAddress.{HardwareAddress}
 use Rattle.wire_addr.specs.declared.hardware_address.HardwareAddress.TheVariants.{Ip, Ethernet}
 use Rattle.wire_addr.specs.declared.ipv6_multicast_scope.Ipv6MulticastScope.{Ipv6MulticastScope}
@@ -42,11 +42,11 @@ ipv6_unspecified = replicate 16 0
 
 -- the loopback address of IPv6, `::1` (RFC 4291, section 2.5.3)
 abbrev pub ipv6_loopback : List ℕ
-ipv6_loopback = octets_of (0 ∷ 0 ∷ 0 ∷ 0 ∷ 0 ∷ 0 ∷ 0 ∷ 1 ∷ [])
+ipv6_loopback = address_bytes (0 ∷ 0 ∷ 0 ∷ 0 ∷ 0 ∷ 0 ∷ 0 ∷ 1 ∷ [])
 
 -- the IPv6 block with this prefix length of the address with these groups
 abbrev pub ipv6_block : List ℕ → ℕ → Block
-ipv6_block groups prefix_len = record { address = octets_of groups; prefix_len = prefix_len }
+ipv6_block groups prefix_len = record { address = address_bytes groups; prefix_len = prefix_len }
 
 -- the multicast addresses of IPv6, ff00::/8 (RFC 4291, section 2.7)
 abbrev pub ipv6_multicast : Block

@@ -10,28 +10,28 @@ use Rattle.wire_addr.specs.declared.hardware_address.HardwareAddress.TheVariants
 
 -- a broadcast Ethernet address: all bits are set
 abbrev pub IsBroadcast : List ℕ → Type 0
-IsBroadcast octets = octets ≡ replicate 6 0xff
+IsBroadcast bytes = bytes ≡ replicate 6 0xff
 
 -- a multicast Ethernet address: the I/G bit, the lowest bit of the first byte, is set
 abbrev pub IsMulticast : List ℕ → Type 0
-IsMulticast octets = IsBitSet (slice_index octets 0) 0
+IsMulticast bytes = IsBitSet (slice_index bytes 0) 0
 
 -- a locally administered Ethernet address: the U/L bit, the bit above the I/G bit, is set
 abbrev pub IsLocal : List ℕ → Type 0
-IsLocal octets = IsBitSet (slice_index octets 0) 1
+IsLocal bytes = IsBitSet (slice_index bytes 0) 1
 
 -- a unicast Ethernet address: neither broadcast nor multicast
 abbrev pub IsUnicast : List ℕ → Type 0
-IsUnicast octets = ¬ IsBroadcast octets × ¬ IsMulticast octets
+IsUnicast bytes = ¬ IsBroadcast bytes × ¬ IsMulticast bytes
 
 -- the byte with the bit above its lowest one inverted
 abbrev pub with_local_inverted : ℕ → ℕ
-with_local_inverted octet = octet / 4 * 4 + (1 - octet / 2 % 2) * 2 + octet % 2
+with_local_inverted byte = byte / 4 * 4 + (1 - byte / 2 % 2) * 2 + byte % 2
 
 -- the modified EUI-64 of an Ethernet address: its bytes with ff and fe in their middle and the U/L bit inverted (RFC
 -- 4291, appendix A)
 abbrev pub eui_64 : List ℕ → List ℕ
-eui_64 octets = with_local_inverted (slice_index octets 0) ∷ slice_range octets 1 3 ++ 0xff ∷ 0xfe ∷ slice_range octets 3 6
+eui_64 bytes = with_local_inverted (slice_index bytes 0) ∷ slice_range bytes 1 3 ++ 0xff ∷ 0xfe ∷ slice_range bytes 3 6
 
 -- ---- addresses on any medium
 
@@ -41,9 +41,9 @@ medium_of Ip = medium.Ip
 medium_of (Ethernet address) = medium.Ethernet
 
 -- the bytes of a hardware address, if it has any
-abbrev pub octets_of : HardwareAddress → Option (List ℕ)
-octets_of Ip = None
-octets_of (Ethernet address) = Some address.0
+abbrev pub address_bytes : HardwareAddress → Option (List ℕ)
+address_bytes Ip = None
+address_bytes (Ethernet address) = Some address.0
 
 -- the modified EUI-64 of a hardware address, if it has one
 abbrev pub eui_64_of : HardwareAddress → Option (List ℕ)
@@ -56,7 +56,7 @@ address_text Ip = codes "no hardware addr"
 address_text (Ethernet address) = dashed address.0
 
 -- the bytes are this hardware address on a medium: on Ethernet six bytes; on no other medium are bytes an address
-pub record AreAddress (octets : List ℕ) (on : Medium) (address : HardwareAddress) : Type 0 where
+pub record AreAddress (bytes : List ℕ) (on : Medium) (address : HardwareAddress) : Type 0 where
   pub on_ethernet : on ≡ medium.Ethernet
-  pub long : length octets ≡ 6
-  pub same : octets_of address ≡ Some octets
+  pub long : length bytes ≡ 6
+  pub same : address_bytes address ≡ Some bytes

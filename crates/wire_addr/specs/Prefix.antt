@@ -4,23 +4,23 @@ use Rattle.std.specs.Int.{bit_at}
 
 -- bit k of a list of bytes, counted from the highest bit of the first byte; past the last byte all bits are 0
 abbrev pub bit_of : List ℕ → ℕ → ℕ
-bit_of octets k = bit_at (slice_index octets (k / 8)) (7 - k % 8)
+bit_of bytes k = bit_at (slice_index bytes (k / 8)) (7 - k % 8)
 
 -- the bytes as one big-endian number
 abbrev pub number_of : List ℕ → ℕ
 number_of [] = 0
-number_of (octet ∷ octets) = octet * 2 ^ (8 * length octets) + number_of octets
+number_of (byte ∷ bytes) = byte * 2 ^ (8 * length bytes) + number_of bytes
 
 -- the first n bits of two addresses are the same
 abbrev pub AgreeFirst : ℕ → List ℕ → List ℕ → Type 0
 AgreeFirst n xs ys = (k : ℕ) → k < n → bit_of xs k ≡ bit_of ys k
 
 -- the netmask of a prefix length: n ones, then zeros
-pub record IsNetmask (n : ℕ) (octets : List ℕ) : Type 0 where
-  pub ones : (k : ℕ) → k < n → bit_of octets k ≡ 1
-  pub zeros : (k : ℕ) → n ≤ k → bit_of octets k ≡ 0
+pub record IsNetmask (n : ℕ) (bytes : List ℕ) : Type 0 where
+  pub ones : (k : ℕ) → k < n → bit_of bytes k ≡ 1
+  pub zeros : (k : ℕ) → n ≤ k → bit_of bytes k ≡ 0
 
 -- the address with zeros after its first n bits
-pub record IsMasked (n : ℕ) (octets masked : List ℕ) : Type 0 where
-  pub kept : AgreeFirst n octets masked
+pub record IsMasked (n : ℕ) (bytes masked : List ℕ) : Type 0 where
+  pub kept : AgreeFirst n bytes masked
   pub zeros : (k : ℕ) → n ≤ k → bit_of masked k ≡ 0

@@ -1,6 +1,6 @@
 -- The texts that parse as addresses.
 use Rattle.std.specs.Prelude.{ℕ, ◌≡◌, List}
-use Rattle.wire_addr.specs.Octets.{octets_of}
+use Rattle.wire_addr.specs.Bytes.{address_bytes}
 use Rattle.wire_addr.specs.declared.ethernet_address.EthernetAddress.{EthernetAddress}
 use Rattle.wire_text.specs.Grammar.{IsDotted, IsHexText, IsIpv6Text}
 
@@ -10,8 +10,8 @@ ReadsEthernet text address = IsHexText text address.0
 
 -- the text parses as the IPv4 address of these bytes: four decimal numbers joined by dots
 abbrev pub ReadsIpv4 : List ℕ → List ℕ → Type 0
-ReadsIpv4 text octets = IsDotted text octets
+ReadsIpv4 text bytes = IsDotted text bytes
 
 -- the text parses as the IPv6 address of these bytes
 abbrev pub ReadsIpv6 : List ℕ → List ℕ → Type 0
-ReadsIpv6 text octets = (groups : List ℕ) × IsIpv6Text text groups × (octets ≡ octets_of groups)
+ReadsIpv6 text bytes = (groups : List ℕ) × IsIpv6Text text groups × (bytes ≡ address_bytes groups)

@@ -1,7 +1,7 @@
 //! Link-layer addresses of any medium.
 
 ghost use Rattle.std.specs.Prelude.{◌≡◌, ◌≢◌, ◌↔◌, IfSome, IsTrue, Some, length};
-ghost use Rattle.wire_addr.specs.Hardware.{IsBroadcast, IsUnicast, address_text, eui_64_of, medium_of, octets_of};
+ghost use Rattle.wire_addr.specs.Hardware.{IsBroadcast, IsUnicast, address_text, eui_64_of, medium_of, address_bytes};
 ghost use Rattle.wire_addr.specs.declared.hardware_address.HardwareAddress.TheVariants.{Ip, Ethernet};
 
 use crate::EthernetAddress;
@@ -20,7 +20,7 @@ impl HardwareAddress {
     /// Its six bytes.
     pub fn as_bytes(&self) -> &[u8]
         requires { self.now ≢ Ip }
-        ensures octets { octets_of self.now ≡ Some result.now }
+        ensures octets { address_bytes self.now ≡ Some result.now }
         ensures len { length result.now ≡ 6 }
     {
         match self {
@@ -32,7 +32,7 @@ impl HardwareAddress {
     /// Returns `true` for the address of one host.
     pub fn is_unicast(&self) -> bool
         requires { self.now ≢ Ip }
-        ensures { IfSome (octets_of self.now) (λ octets. IsTrue result ↔ IsUnicast octets) }
+        ensures { IfSome (address_bytes self.now) (λ octets. IsTrue result ↔ IsUnicast octets) }
     {
         match self {
             HardwareAddress::Ip => unreachable!(),
@@ -43,7 +43,7 @@ impl HardwareAddress {
     /// Returns `true` for the broadcast address.
     pub fn is_broadcast(&self) -> bool
         requires { self.now ≢ Ip }
-        ensures { IfSome (octets_of self.now) (λ octets. IsTrue result ↔ IsBroadcast octets) }
+        ensures { IfSome (address_bytes self.now) (λ octets. IsTrue result ↔ IsBroadcast octets) }
     {
         match self {
             HardwareAddress::Ip => unreachable!(),

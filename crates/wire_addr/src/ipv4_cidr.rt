@@ -4,7 +4,7 @@ ghost use Rattle.std.specs.Prelude.{◌≡◌, ◌↔◌, ◌≤◌, ◌<◌, Is
 ghost use Rattle.std.specs.Net.Grammar.{Parses};
 ghost use Rattle.wire_addr.specs.Block.{Block, IsGreatest, IsIn, IsLeast, IsWithin};
 ghost use Rattle.wire_addr.specs.BlockText.{ReadsIpv4Block};
-ghost use Rattle.wire_addr.specs.Octets.{AreOctets};
+ghost use Rattle.wire_addr.specs.Bytes.{IsByteArray};
 ghost use Rattle.wire_addr.specs.Prefix.{IsNetmask};
 ghost use Rattle.wire_addr.specs.Printed.{block_text, dotted};
 
@@ -14,7 +14,7 @@ use net_base::{Error, Result};
 use std::fmt;
 use std::marker::Model;
 use std::str::FromStr;
-use wire_text::number_behind;
+use wire_text::number_after;
 
 /// A CIDR block: all IPv4 addresses with the same first bits as one address (RFC 4632, section
 /// 3.1). It keeps that address with all its bits.
@@ -27,13 +27,13 @@ pub struct Ipv4Cidr {
 impl Model for Ipv4Cidr {
     ghost use Rattle.std.specs.Prelude.{◌≤◌};
     ghost use Rattle.wire_addr.specs.Block.{Block};
-    ghost use Rattle.wire_addr.specs.Octets.{AreOctets};
+    ghost use Rattle.wire_addr.specs.Bytes.{IsByteArray};
 
     ghost Value = { Block };
 
     ghost view = { λ block. record { address = block.address; prefix_len = block.prefix_len } };
 
-    ghost invariant = { λ block. AreOctets 4 block.address × (block.prefix_len ≤ 32) };
+    ghost invariant = { λ block. IsByteArray 4 block.address × (block.prefix_len ≤ 32) };
 
     ghost inverse = { λ block. record { address = block.address; prefix_len = block.prefix_len } };
 }
@@ -68,7 +68,7 @@ impl Ipv4Cidr {
     pub fn parse_ascii(text: &[u8]) -> std::result::Result<Ipv4Cidr, ()>
         ensures { Parses ReadsIpv4Block text.now result }
     {
-        let (address, prefix_len) = number_behind(text, b'/', 2, 32).ok_or(())?;
+        let (address, prefix_len) = number_after(text, b'/', 2, 32).ok_or(())?;
         Ok(Ipv4Cidr::new(Ipv4Address::parse_ascii(address)?, prefix_len as u8))
     }
 
@@ -76,7 +76,7 @@ impl Ipv4Cidr {
     #[inline]
     pub fn address(&self) -> Ipv4Address
         ensures value { result ≡ self.now.address }
-        ensures octets { AreOctets 4 result }
+        ensures octets { IsByteArray 4 result }
     {
         self.address
     }

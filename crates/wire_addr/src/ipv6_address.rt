@@ -5,7 +5,7 @@ ghost use Rattle.std.specs.Net.Text.{longest_zero_run};
 ghost use Rattle.arrayvec.specs.ArrayString.{array_string_len};
 ghost use Rattle.wire_addr.specs.Block.{IsIn};
 ghost use Rattle.wire_addr.specs.Class.{HasScope, IsIpv6Unicast, ipv6_global_unicast, ipv6_link_local, ipv6_loopback, ipv6_multicast, ipv6_solicited_node, ipv6_unique_local, ipv6_unspecified, link_address, solicited_node};
-ghost use Rattle.wire_addr.specs.Octets.{AreOctets, groups_of, mapped_prefix, octets_of};
+ghost use Rattle.wire_addr.specs.Bytes.{IsByteArray, groups_of, mapped_prefix, address_bytes};
 ghost use Rattle.wire_addr.specs.Prefix.{IsMasked, IsNetmask, number_of};
 ghost use Rattle.wire_addr.specs.Printed.{ipv6_text};
 
@@ -52,13 +52,13 @@ pub struct Ipv6Address(pub(crate) [u8; IPV6_ADDR_SIZE]);
 
 impl Model for Ipv6Address {
     ghost use Rattle.std.specs.Prelude.{ℕ, List};
-    ghost use Rattle.wire_addr.specs.Octets.{AreOctets};
+    ghost use Rattle.wire_addr.specs.Bytes.{IsByteArray};
 
     ghost Value = { List ℕ };
 
     ghost view = { λ a. a.0 };
 
-    ghost invariant = { λ a. AreOctets 16 a.0 };
+    ghost invariant = { λ a. IsByteArray 16 a.0 };
 
     ghost inverse = { λ octets. record { 0 = octets } };
 }
@@ -75,7 +75,7 @@ impl Ipv6Address {
 
     /// The address `a:b:c:d:e:f:g:h`.
     pub fn new(a: u16, b: u16, c: u16, d: u16, e: u16, f: u16, g: u16, h: u16) -> Ipv6Address
-        ensures { result ≡ octets_of (a ∷ b ∷ c ∷ d ∷ e ∷ f ∷ g ∷ h ∷ []) }
+        ensures { result ≡ address_bytes (a ∷ b ∷ c ∷ d ∷ e ∷ f ∷ g ∷ h ∷ []) }
     {
         Ipv6Address::from([a, b, c, d, e, f, g, h])
     }
@@ -98,7 +98,7 @@ impl Ipv6Address {
     #[inline]
     pub fn from_bits(bits: u128) -> Ipv6Address
         ensures value { number_of result ≡ bits }
-        ensures octets { AreOctets 16 result }
+        ensures octets { IsByteArray 16 result }
     {
         Ipv6Address(bits.to_be_bytes())
     }
@@ -107,7 +107,7 @@ impl Ipv6Address {
     #[inline]
     pub fn to_bits(self) -> u128
         ensures value { result ≡ number_of self }
-        ensures octets { AreOctets 16 self }
+        ensures octets { IsByteArray 16 self }
     {
         u128::from_be_bytes(self.0)
     }
@@ -310,7 +310,7 @@ impl From<[u8; 16]> for Ipv6Address {
 
 /// The address with these groups.
 impl From<[u16; 8]> for Ipv6Address {
-    ghost from_gives = { λ groups address. address ≡ octets_of groups };
+    ghost from_gives = { λ groups address. address ≡ address_bytes groups };
 
     fn from(groups: [u16; 8]) -> Ipv6Address {
         let [a, b, c, d, e, f, g, h] = groups;

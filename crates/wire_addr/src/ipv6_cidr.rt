@@ -6,7 +6,7 @@ ghost use Rattle.std.specs.Option.{option_map};
 ghost use Rattle.wire_addr.specs.Block.{IsIn, IsWithin};
 ghost use Rattle.wire_addr.specs.BlockText.{ReadsIpv6Block};
 ghost use Rattle.wire_addr.specs.Class.{link_address};
-ghost use Rattle.wire_addr.specs.Octets.{AreOctets};
+ghost use Rattle.wire_addr.specs.Bytes.{IsByteArray};
 ghost use Rattle.wire_addr.specs.Printed.{block_text, ipv6_text};
 
 use crate::prefix::mask_128;
@@ -14,7 +14,7 @@ use crate::{HardwareAddress, Ipv6Address};
 use std::fmt;
 use std::marker::Model;
 use std::str::FromStr;
-use wire_text::number_behind;
+use wire_text::number_after;
 
 /// A CIDR block: all IPv6 addresses with the same first bits as one address (RFC 4291, section
 /// 2.3). It keeps that address with all its bits.
@@ -27,13 +27,13 @@ pub struct Ipv6Cidr {
 impl Model for Ipv6Cidr {
     ghost use Rattle.std.specs.Prelude.{◌≤◌};
     ghost use Rattle.wire_addr.specs.Block.{Block};
-    ghost use Rattle.wire_addr.specs.Octets.{AreOctets};
+    ghost use Rattle.wire_addr.specs.Bytes.{IsByteArray};
 
     ghost Value = { Block };
 
     ghost view = { λ block. record { address = block.address; prefix_len = block.prefix_len } };
 
-    ghost invariant = { λ block. AreOctets 16 block.address × (block.prefix_len ≤ 128) };
+    ghost invariant = { λ block. IsByteArray 16 block.address × (block.prefix_len ≤ 128) };
 
     ghost inverse = { λ block. record { address = block.address; prefix_len = block.prefix_len } };
 }
@@ -81,7 +81,7 @@ impl Ipv6Cidr {
     pub fn parse_ascii(text: &[u8]) -> Result<Ipv6Cidr, ()>
         ensures { Parses ReadsIpv6Block text.now result }
     {
-        let (address, prefix_len) = number_behind(text, b'/', 3, 128).ok_or(())?;
+        let (address, prefix_len) = number_after(text, b'/', 3, 128).ok_or(())?;
         Ok(Ipv6Cidr::new(Ipv6Address::parse_ascii(address)?, prefix_len as u8))
     }
 
@@ -89,7 +89,7 @@ impl Ipv6Cidr {
     #[inline]
     pub fn address(&self) -> Ipv6Address
         ensures value { result ≡ self.now.address }
-        ensures octets { AreOctets 16 result }
+        ensures octets { IsByteArray 16 result }
     {
         self.address
     }

@@ -126,14 +126,14 @@ pub fn one_netmask(a: Ipv4Address, b: Ipv4Address)
     ensures len { (n m : ℕ) → IsNetmask n a → IsNetmask m a → n ≡ m }
     ensures mask { (n : ℕ) → IsNetmask n a → IsNetmask n b → a ≡ b }
 {
-    let _octets = (a.octets(), b.octets());
+    let _bytes = (a.octets(), b.octets());
 }
 
 /// An address has one form with zeros after its first `n` bits.
 pub fn one_masked_address(address: Ipv6Address, a: Ipv6Address, b: Ipv6Address)
     ensures { (n : ℕ) → IsMasked n address a → IsMasked n address b → a ≡ b }
 {
-    let _octets = (a.octets(), b.octets());
+    let _bytes = (a.octets(), b.octets());
 }
 
 /// A block has one first and one last address.
@@ -141,7 +141,7 @@ pub fn one_block_end(block: Ipv4Cidr, a: Ipv4Address, b: Ipv4Address)
     ensures first { IsLeast 4 block a → IsLeast 4 block b → a ≡ b }
     ensures last { IsGreatest 4 block a → IsGreatest 4 block b → a ≡ b }
 {
-    let _octets = (a.octets(), b.octets());
+    let _bytes = (a.octets(), b.octets());
 }
 
 /// An address has one scope.

@@ -5,7 +5,7 @@ ghost use Rattle.wire_addr.specs.Read.{ReadsEthernet, ReadsIpv4, ReadsIpv6};
 
 use crate::{EthernetAddress, Ipv4Address, Ipv6Address};
 use std::str::FromStr;
-use wire_text::{groups, hex_octets, octets};
+use wire_text::{groups, hex_bytes, octets};
 
 /// Parses six groups of one or two hex digits, all joined by `-` or all by `:`.
 impl FromStr for EthernetAddress {
@@ -24,7 +24,7 @@ impl EthernetAddress {
     pub fn parse_ascii(text: &[u8]) -> Result<EthernetAddress, ()>
         ensures { Parses ReadsEthernet text.now result }
     {
-        match hex_octets(text) {
+        match hex_bytes(text) {
             Some(octets) => Ok(EthernetAddress(octets)),
             None => Err(()),
         }

@@ -1,7 +1,7 @@
 //! Link-layer addresses of an unknown medium.
 
 ghost use Rattle.std.specs.Prelude.{◌≡◌, ◌↔◌, ◌≤◌, [], IsTrue, Ok, Some, length};
-ghost use Rattle.wire_addr.specs.Hardware.{AreAddress, octets_of};
+ghost use Rattle.wire_addr.specs.Hardware.{AreAddress, address_bytes};
 ghost use Rattle.wire_addr.specs.Printed.{coloned};
 ghost use Rattle.wire_addr.specs.declared.hardware_address.HardwareAddress.{HardwareAddress};
 
@@ -23,13 +23,13 @@ pub struct RawHardwareAddress {
 
 impl Model for RawHardwareAddress {
     ghost use Rattle.std.specs.Prelude.{ℕ, List, length, take};
-    ghost use Rattle.wire_addr.specs.Raw.{HasZerosBehind, with_zeros};
+    ghost use Rattle.wire_addr.specs.Raw.{HasZerosAfter, with_zeros};
 
     ghost Value = { List ℕ };
 
     ghost view = { λ a. take a.len a.octets };
 
-    ghost invariant = { λ a. HasZerosBehind a.len a.octets };
+    ghost invariant = { λ a. HasZerosAfter a.len a.octets };
 
     ghost inverse = { λ octets. record { len = length octets; octets = with_zeros octets } };
 }
@@ -88,7 +88,7 @@ impl RawHardwareAddress {
 
     /// The bytes of an address. `Ip` has none.
     pub fn from_hardware(address: HardwareAddress) -> Option<RawHardwareAddress>
-        ensures { result ≡ octets_of address }
+        ensures { result ≡ address_bytes address }
     {
         match address {
             HardwareAddress::Ip => None,

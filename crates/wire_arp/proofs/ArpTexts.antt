@@ -11,17 +11,17 @@ use Rattle.std.proofs.lemmas.Grind.{common_steps}
 -- ---- lists of bytes
 
 -- what a format writes for a byte
-abbrev pub octet_text : ℕ → Option (List ℕ)
-octet_text n = Some (decimal n)
+abbrev pub byte_text : ℕ → Option (List ℕ)
+byte_text n = Some (decimal n)
 
-debug_items-octets : (octets : List ℕ) → debug_items octet_text comma_space octets ≡ Some (flat_map (λ n. codes ", " ++ decimal n) octets)
-debug_items-octets [] = refl
-debug_items-octets (n ∷ octets) = rw (debug_items-octets octets) refl
+debug_items-bytes : (octets : List ℕ) → debug_items byte_text comma_space octets ≡ Some (flat_map (λ n. codes ", " ++ decimal n) octets)
+debug_items-bytes [] = refl
+debug_items-bytes (n ∷ octets) = rw (debug_items-bytes octets) refl
 
 -- what it writes for all of them
-pub debug_list_of_octets : (octets : List ℕ) → debug_list octet_text octets ≡ Some (list_text octets)
-debug_list_of_octets [] = refl
-debug_list_of_octets (n ∷ octets) = rw (debug_items-octets octets) refl
+pub debug_list_of_bytes : (octets : List ℕ) → debug_list byte_text octets ≡ Some (list_text octets)
+debug_list_of_bytes [] = refl
+debug_list_of_bytes (n ∷ octets) = rw (debug_items-bytes octets) refl
 
 -- ---- the text of a packet
 
@@ -41,6 +41,6 @@ pub packet_text-None : (bytes : List ℕ) → arp_of bytes ≡ None → HasLengt
 unfolding packet_text
 packet_text-None bytes e h = rw (e, HasLengths-has_lengths bytes h) refl
 
-pub packet_text-refused : (bytes : List ℕ) → arp_of bytes ≡ None → ¬ HasLengths bytes → packet_text bytes ≡ codes "ARP (wire::Error)"
+pub packet_text-invalid : (bytes : List ℕ) → arp_of bytes ≡ None → ¬ HasLengths bytes → packet_text bytes ≡ codes "ARP (wire::Error)"
 unfolding packet_text
-packet_text-refused bytes e h = grind (arith, common_steps, nat_tests, cases_Bool, has_lengths-HasLengths)
+packet_text-invalid bytes e h = grind (arith, common_steps, nat_tests, cases_Bool, has_lengths-HasLengths)

@@ -3,7 +3,7 @@ use Rattle.std.specs.Prelude.{ℕ, ◌≡◌, ◌≤◌, ◌+◌, ◌*◌, ◌++
 use Rattle.std.specs.Borrow.{Bor, MutBor}
 use Rattle.byteorder.specs.Endian.{big_bytes}
 use Rattle.wire_field.specs.Field.{field}
-use Rattle.wire_field.specs.Loan.{Holds}
+use Rattle.wire_field.specs.Borrow.{Holds}
 use Rattle.wire_arp.specs.declared.arp.ArpHardware.{ArpHardware}
 use Rattle.wire_arp.specs.declared.arp.ArpHardware.TheVariants as hardware
 use Rattle.wire_arp.specs.declared.arp.ArpOperation.{ArpOperation}

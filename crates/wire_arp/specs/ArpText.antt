@@ -41,7 +41,7 @@ operation_word (operation.Unknown n) = unknown_word n
 
 -- the bytes of an address in decimal, with `, ` between them, in square brackets
 abbrev pub list_text : List ℕ → List ℕ
-list_text octets = codes "[" ++ join_by decimal (codes ", ") octets ++ codes "]"
+list_text bytes = codes "[" ++ join_by decimal (codes ", ") bytes ++ codes "]"
 
 -- ---- texts
 

@@ -8,7 +8,7 @@ ghost use Rattle.wire_arp.specs.ArpFields.{Fits, IsGot, after, diagram, got, wid
 
 use crate::arp::{ArpHardware, ArpOperation, ArpPacket, ArpPacketMut, ArpRepr};
 use wire_ethernet::EthernetProtocol;
-use wire_field::laws::octets_fit;
+use wire_field::laws::bytes_fit;
 
 /// The packet of a value, with any bytes after it, parses as the value's normal form.
 pub fn emit_reads_back_arp(value: ArpRepr, rest: &[u8])
@@ -86,19 +86,19 @@ pub fn setter_writes_one_field_arp(packet: &mut ArpPacketMut<'_>, setting: ArpSe
         ArpSetting::ProtocolLen(x) => packet.set_protocol_len(x),
         ArpSetting::Operation(x) => packet.set_operation(x),
         ArpSetting::SourceHardwareAddr(x) => {
-            octets_fit(x);
+            bytes_fit(x);
             packet.set_source_hardware_addr(x)
         }
         ArpSetting::SourceProtocolAddr(x) => {
-            octets_fit(x);
+            bytes_fit(x);
             packet.set_source_protocol_addr(x)
         }
         ArpSetting::TargetHardwareAddr(x) => {
-            octets_fit(x);
+            bytes_fit(x);
             packet.set_target_hardware_addr(x)
         }
         ArpSetting::TargetProtocolAddr(x) => {
-            octets_fit(x);
+            bytes_fit(x);
             packet.set_target_protocol_addr(x)
         }
     }
@@ -145,7 +145,7 @@ pub fn address_getters_read_fields_arp<'a>(
     requires { HasLengths (packet_bytes packet.now) }
     ensures { IsGot getting result.now (packet_bytes packet.now) }
 {
-    octets_fit(packet.as_bytes());
+    bytes_fit(packet.as_bytes());
     match getting {
         ArpAddressGetting::SourceHardwareAddr => packet.source_hardware_addr(),
         ArpAddressGetting::SourceProtocolAddr => packet.source_protocol_addr(),
@@ -162,7 +162,7 @@ pub fn mutable_address_getters_read_fields_arp<'a>(
     requires { HasLengths (packet_bytes_mut packet.now) }
     ensures { IsGot getting result.now (packet_bytes_mut packet.now) }
 {
-    octets_fit(packet.as_bytes());
+    bytes_fit(packet.as_bytes());
     match getting {
         ArpAddressGetting::SourceHardwareAddr => packet.source_hardware_addr(),
         ArpAddressGetting::SourceProtocolAddr => packet.source_protocol_addr(),

@@ -34,6 +34,6 @@ end_of bytes last r room is fit e =
     let m = number_l 256 last in
     let places : 8 + (56 - 8 * (length bytes % 8)) ≡ 8 * j = omega arith in
     let once : m / 2 ^ 8 / 2 ^ (56 - 8 * (length bytes % 8)) ≡ m / 2 ^ (8 * j) = div-div-eq-div-mul m (2 ^ 8) (2 ^ (56 - 8 * (length bytes % 8))) ∙ ap (λ p. m / p) (sym (pow-add 2 8 (56 - 8 * (length bytes % 8)))) ∙ ap (λ p. m / 2 ^ p) places in
-    let behind : drop j last ≡ drop (length bytes / 8 * 8) bytes = ap (drop j) is ∙ drop-drop j n bytes ∙ ap (λ m. drop m bytes) (omega arith) in
+    let following : drop j last ≡ drop (length bytes / 8 * 8) bytes = ap (drop j) is ∙ drop-drop j n bytes ∙ ap (λ m. drop m bytes) (omega arith) in
     ap (λ m. residue (256 * (m / 2 ^ 8 / 2 ^ (56 - 8 * (length bytes % 8))))) (e ∙ number-of_8 last long) ∙ ap (λ m. residue (256 * m)) (once ∙ shifted j last small)
-    ∙ number-words (drop j last) ∙ ap (λ l. residue (sum (words l))) behind
+    ∙ number-words (drop j last) ∙ ap (λ l. residue (sum (words l))) following

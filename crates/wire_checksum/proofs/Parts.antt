@@ -7,7 +7,7 @@ use Rattle.wire_checksum.specs.WordSum.{words}
 use Rattle.wire_checksum.proofs.WordLists.{sum-words-append, sum-words-cons, sum-words-split}
 use Rattle.wire_field.proofs.Cells.{whole_byte, word_high, word_low}
 use Rattle.wire_field.proofs.Spelled.{AreBytes}
-use Rattle.wire_field.specs.Field.{behind, field, span, with_field, with_range}
+use Rattle.wire_field.specs.Field.{bits_after, field, span, with_field, with_range}
 use Rattle.std.proofs.lemmas.Grind.{common_steps}
 use Rattle.std.proofs.lemmas.Bool.Decides.{nat_tests}
 
@@ -59,12 +59,12 @@ place i = omega arith
 two : (i : ℕ) → span (16 * i) 16 ≡ 2
 two i = omega arith
 
-none_behind : (i : ℕ) → behind (16 * i) 16 ≡ 0
-none_behind i = omega arith
+none_after : (i : ℕ) → bits_after (16 * i) 16 ≡ 0
+none_after i = omega arith
 
 -- writing a word is replacing two bytes
 pub with_field-word : (bytes : List ℕ) (i x : ℕ) → with_field bytes (16 * i) 16 x ≡ with_range bytes (2 * i) (2 * i + 2) (big_bytes 2 x)
-with_field-word bytes i x = rw (two i, none_behind i, place i, word_high, word_low) refl
+with_field-word bytes i x = rw (two i, none_after i, place i, word_high, word_low) refl
 
 -- the bytes from a place on
 from_place : (bytes : List ℕ) (n : ℕ) → suc (suc n) ≤ length bytes → drop n bytes ≡ slice_index bytes n ∷ slice_index bytes (suc n) ∷ drop (suc (suc n)) bytes
@@ -91,7 +91,7 @@ pub field-word : (bytes : List ℕ) (i : ℕ) → AreBytes bytes → 2 * i + 2 �
 field-word bytes i are room =
     let high = are (2 * i) in
     let low = are (suc (2 * i)) in
-    rw (two i, none_behind i, place i, slice_range-two bytes (2 * i) room, sum-words-two (slice_index bytes (2 * i)) (slice_index bytes (suc (2 * i)))) (omega (arith, high, low))
+    rw (two i, none_after i, place i, slice_range-two bytes (2 * i) room, sum-words-two (slice_index bytes (2 * i)) (slice_index bytes (suc (2 * i)))) (omega (arith, high, low))
 
 -- the new word replaces the old one in the sum
 pub sum-words-with_field : (bytes : List ℕ) (i x : ℕ) → AreBytes bytes → 2 * i + 2 ≤ length bytes → x < 65536
@@ -111,8 +111,8 @@ byte_place i = omega arith
 one : (i : ℕ) → span (16 * i) 8 ≡ 1
 one i = omega arith
 
-none_behind_byte : (i : ℕ) → behind (16 * i) 8 ≡ 0
-none_behind_byte i = omega arith
+none_after_byte : (i : ℕ) → bits_after (16 * i) 8 ≡ 0
+none_after_byte i = omega arith
 
 one_from_place : (bytes : List ℕ) (n : ℕ) → n < length bytes → drop n bytes ≡ slice_index bytes n ∷ drop (suc n) bytes
 one_from_place [] n room = absurd (omega arith)
@@ -121,7 +121,7 @@ one_from_place (a ∷ rest) (suc n) room = one_from_place rest n (omega arith)
 
 -- writing it is replacing its word by one with the same low byte
 pub with_field-byte : (bytes : List ℕ) (i x : ℕ) → 2 * i + 2 ≤ length bytes → with_field bytes (16 * i) 8 x ≡ with_range bytes (2 * i) (2 * i + 2) (x % 256 ∷ slice_index bytes (suc (2 * i)) ∷ [])
-with_field-byte bytes i x room = grind (arith, common_steps, nat_tests, one, none_behind_byte, byte_place, whole_byte, one_from_place, append_assoc)
+with_field-byte bytes i x room = grind (arith, common_steps, nat_tests, one, none_after_byte, byte_place, whole_byte, one_from_place, append_assoc)
 
 field-byte : (bytes : List ℕ) (i : ℕ) → AreBytes bytes → field bytes (16 * i) 8 ≡ slice_index bytes (2 * i)
 field-byte bytes i are = grind arith

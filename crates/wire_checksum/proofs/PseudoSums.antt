@@ -5,7 +5,7 @@ use Rattle.wire_checksum.specs.PseudoHeader.{pseudo_header_bytes, with_pseudo_he
 use Rattle.wire_checksum.specs.WordSum.{residue, sum_of, sum_of_bytes, words}
 use Rattle.wire_checksum.proofs.Residues.{residue-add, residue-join, residue-same}
 use Rattle.wire_checksum.proofs.WordLists.{sum-words-append}
-use Rattle.wire_ends.specs.IpAddress.{octets_of}
+use Rattle.wire_ends.specs.IpAddress.{address_bytes}
 use Rattle.wire_ends.specs.Protocol.{number_of}
 use Rattle.wire_ends.specs.declared.ip_address.IpAddress.{IpAddress}
 use Rattle.wire_ends.specs.declared.ip_protocol.IpProtocol.{IpProtocol}
@@ -16,14 +16,14 @@ use Rattle.std.proofs.lemmas.Bool.Decides.{nat_tests}
 
 -- what a pseudo-header adds: its addresses, the protocol number and the length
 abbrev pub pseudo_header_total : IpAddress → IpAddress → IpProtocol → ℕ → ℕ
-pseudo_header_total src dst protocol len = sum (words (octets_of src)) + sum (words (octets_of dst)) + (number_of protocol + len % 65536)
+pseudo_header_total src dst protocol len = sum (words (address_bytes src)) + sum (words (address_bytes dst)) + (number_of protocol + len % 65536)
 
 sum-words-end : (number len : ℕ) → sum (words (0 ∷ number ∷ big_bytes 2 len)) ≡ number + len % 65536
 unfolding words
 sum-words-end number len = omega arith
 
 -- the words of a packet after its pseudo-header add up to those of its parts
-pub sum-with_pseudo_header : (src dst : IpAddress) (protocol : IpProtocol) (packet : List ℕ) → length (octets_of src) % 2 ≡ 0 → length (octets_of dst) % 2 ≡ 0
+pub sum-with_pseudo_header : (src dst : IpAddress) (protocol : IpProtocol) (packet : List ℕ) → length (address_bytes src) % 2 ≡ 0 → length (address_bytes dst) % 2 ≡ 0
     → sum (words (with_pseudo_header src dst protocol packet)) ≡ pseudo_header_total src dst protocol (length packet) + sum (words packet)
 sum-with_pseudo_header src dst protocol packet s d = grind (arith, common_steps, nat_tests, length-append, sum-words-append, sum-words-end)
 
@@ -64,7 +64,7 @@ pseudo_header-low : (src dst : List ℕ) (protocol : IpProtocol) (len : ℕ) →
 pseudo_header-low src dst protocol len = grind arith
 
 -- the total of a packet from that of its pseudo header and its own
-pub total_with_pseudo_header : (src dst : IpAddress) (protocol : IpProtocol) (packet : List ℕ) (s t : ℕ) → length (octets_of src) % 2 ≡ 0 → length (octets_of dst) % 2 ≡ 0
-    → residue (256 * s) ≡ sum_of_bytes (pseudo_header_bytes (octets_of src) (octets_of dst) protocol (length packet % 65536)) → residue (256 * t) ≡ sum_of_bytes packet
+pub total_with_pseudo_header : (src dst : IpAddress) (protocol : IpProtocol) (packet : List ℕ) (s t : ℕ) → length (address_bytes src) % 2 ≡ 0 → length (address_bytes dst) % 2 ≡ 0
+    → residue (256 * s) ≡ sum_of_bytes (pseudo_header_bytes (address_bytes src) (address_bytes dst) protocol (length packet % 65536)) → residue (256 * t) ≡ sum_of_bytes packet
     → residue (256 * (s + t)) ≡ sum_of_bytes (with_pseudo_header src dst protocol packet)
 total_with_pseudo_header src dst protocol packet s t even_src even_dst p q = grind (arith, common_steps, nat_tests, length-append, total-joins, pseudo_header-low)

@@ -2,7 +2,7 @@
 use Rattle.std.specs.Prelude.{ℕ, ◌++◌, List, ◌∷◌, length}
 use Rattle.byteorder.specs.Endian.{big_bytes}
 use Rattle.wire_ends.specs.declared.ip_address.IpAddress.{IpAddress}
-use Rattle.wire_ends.specs.IpAddress.{octets_of}
+use Rattle.wire_ends.specs.IpAddress.{address_bytes}
 use Rattle.wire_ends.specs.Protocol.{number_of}
 use Rattle.wire_ends.specs.declared.ip_protocol.IpProtocol.{IpProtocol}
 
@@ -13,4 +13,4 @@ pseudo_header_bytes src dst protocol len = src ++ dst ++ (0 ∷ number_of protoc
 
 -- the bytes that a transport checksum covers: the pseudo-header, then the transport packet
 abbrev pub with_pseudo_header : IpAddress → IpAddress → IpProtocol → List ℕ → List ℕ
-with_pseudo_header src dst protocol packet = pseudo_header_bytes (octets_of src) (octets_of dst) protocol (length packet) ++ packet
+with_pseudo_header src dst protocol packet = pseudo_header_bytes (address_bytes src) (address_bytes dst) protocol (length packet) ++ packet

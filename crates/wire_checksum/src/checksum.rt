@@ -2,7 +2,7 @@
 //! sum of 16-bit words.
 
 ghost use Rattle.std.specs.Prelude.{◌≡◌, ◌+◌, ◌-◌, ◌*◌, ◌%◌, ◌<◌, length, ℕ};
-ghost use Rattle.wire_ends.specs.IpAddress.{octets_of, version_of};
+ghost use Rattle.wire_ends.specs.IpAddress.{address_bytes, version_of};
 ghost use Rattle.wire_checksum.specs.PseudoHeader.{pseudo_header_bytes, with_pseudo_header};
 ghost use Rattle.wire_checksum.specs.WordSum.{residue, sum_of, sum_of_bytes, updated};
 
@@ -89,7 +89,7 @@ pub fn pseudo_header(
     length: u32,
 ) -> u16
     requires { version_of src_addr.now ≡ version_of dst_addr.now }
-    ensures { result ≡ sum_of_bytes (pseudo_header_bytes (octets_of src_addr.now) (octets_of dst_addr.now) next_header length) }
+    ensures { result ≡ sum_of_bytes (pseudo_header_bytes (address_bytes src_addr.now) (address_bytes dst_addr.now) next_header length) }
 {
     finish(pseudo_header_total(*src_addr, *dst_addr, next_header, length))
 }
@@ -114,8 +114,8 @@ pub fn packet(
 
 /// The sum of the bytes of an address, as it is part of a pseudo-header.
 pub fn address(address: &IpAddress) -> u16
-    ensures value { result ≡ sum_of_bytes (octets_of address.now) }
-    ensures whole_words { length (octets_of address.now) % 2 ≡ 0 }
+    ensures value { result ≡ sum_of_bytes (address_bytes address.now) }
+    ensures whole_words { length (address_bytes address.now) % 2 ≡ 0 }
 {
     finish(address_total(*address))
 }
@@ -128,7 +128,7 @@ pub(crate) fn pseudo_header_total(
     next_header: IpProtocol,
     length: u32,
 ) -> u64
-    ensures { residue (256 * result) ≡ sum_of_bytes (pseudo_header_bytes (octets_of src_addr) (octets_of dst_addr) next_header length) }
+    ensures { residue (256 * result) ≡ sum_of_bytes (pseudo_header_bytes (address_bytes src_addr) (address_bytes dst_addr) next_header length) }
 {
     let number = u16::from(u8::from(next_header));
     let length = (length % (1 << 16)) as u16;
@@ -141,8 +141,8 @@ pub(crate) fn pseudo_header_total(
 // The total of an address.
 #[inline]
 fn address_total(address: IpAddress) -> u64
-    ensures value { residue (256 * result) ≡ sum_of_bytes (octets_of address) }
-    ensures whole_words { length (octets_of address) % 2 ≡ 0 }
+    ensures value { residue (256 * result) ≡ sum_of_bytes (address_bytes address) }
+    ensures whole_words { length (address_bytes address) % 2 ≡ 0 }
 {
     match address {
         IpAddress::Ipv4(address) => total_of_words(&address.octets()),

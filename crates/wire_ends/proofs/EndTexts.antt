@@ -78,8 +78,8 @@ no_host_text text found front n result same h none failed =
     none endpoint.addr (subst (λ t. ReadsHost t endpoint.addr) here k.host))
 
 -- only an address, with port 0
-abbrev pub IsAlone : List ℕ → IpEndpoint → Type 0
-IsAlone text endpoint = ReadsAddress text endpoint.addr × (endpoint.port ≡ 0)
+abbrev pub IsWithoutPort : List ℕ → IpEndpoint → Type 0
+IsWithoutPort text endpoint = ReadsAddress text endpoint.addr × (endpoint.port ≡ 0)
 
 -- a text is parsed as one form if it is not the other
 pub first_form : {A E : Type 0} (R S : List ℕ → A → Type 0) (text : List ℕ) (result : Result A E) → ((a : A) → ¬ (S text a)) → Parses R text result → Parses (λ t a. R t a ⊎ S t a) text result
@@ -140,17 +140,17 @@ host_once text (ip.Ipv6 a) (ip.Ipv6 b) h k =
 
 -- a text of an address has no port
 module _ (text front : List ℕ) (n : ℕ) (ends : EndsInNumber 58 5 65535 text front n) where
-  four_behind : (octets : List ℕ) → ReadsIpv4 front octets → IsFirstMark 46 text
-  four_behind octets h = subst (IsFirstMark 46) (sym ends.spelled) (mark_before 46 front (58 ∷ ends.digits) (ipv4_mark front octets h))
+  four_after : (octets : List ℕ) → ReadsIpv4 front octets → IsFirstMark 46 text
+  four_after octets h = subst (IsFirstMark 46) (sym ends.spelled) (mark_before 46 front (58 ∷ ends.digits) (ipv4_mark front octets h))
 
-  six_behind : (octets : List ℕ) → ReadsHost front (ip.Ipv6 octets) → IsFirstMark 91 text
-  six_behind octets h = subst (IsFirstMark 91) (sym ends.spelled) (mark_before 91 front (58 ∷ ends.digits) (bracket_mark front (h.0 ++ 93 ∷ []) h.1))
+  six_after : (octets : List ℕ) → ReadsHost front (ip.Ipv6 octets) → IsFirstMark 91 text
+  six_after octets h = subst (IsFirstMark 91) (sym ends.spelled) (mark_before 91 front (58 ∷ ends.digits) (bracket_mark front (h.0 ++ 93 ∷ []) h.1))
 
-  alone_apart : (a b : IpAddress) → ReadsAddress text a → ReadsHost front b → ⊥
-  alone_apart (ip.Ipv4 a) (ip.Ipv4 b) h k = no_port text a front 5 65535 n h ends
-  alone_apart (ip.Ipv4 a) (ip.Ipv6 b) h k = omega (arith, same_mark 46 91 text (lit≤ tt) (lit≤ tt) (ipv4_mark text a h) (six_behind b k))
-  alone_apart (ip.Ipv6 a) (ip.Ipv4 b) h k = omega (arith, same_mark 58 46 text (lit≤ tt) (lit≤ tt) (ipv6_mark text a h) (four_behind b k))
-  alone_apart (ip.Ipv6 a) (ip.Ipv6 b) h k = omega (arith, same_mark 58 91 text (lit≤ tt) (lit≤ tt) (ipv6_mark text a h) (six_behind b k))
+  without_port_apart : (a b : IpAddress) → ReadsAddress text a → ReadsHost front b → ⊥
+  without_port_apart (ip.Ipv4 a) (ip.Ipv4 b) h k = no_port text a front 5 65535 n h ends
+  without_port_apart (ip.Ipv4 a) (ip.Ipv6 b) h k = omega (arith, same_mark 46 91 text (lit≤ tt) (lit≤ tt) (ipv4_mark text a h) (six_after b k))
+  without_port_apart (ip.Ipv6 a) (ip.Ipv4 b) h k = omega (arith, same_mark 58 46 text (lit≤ tt) (lit≤ tt) (ipv6_mark text a h) (four_after b k))
+  without_port_apart (ip.Ipv6 a) (ip.Ipv6 b) h k = omega (arith, same_mark 58 91 text (lit≤ tt) (lit≤ tt) (ipv6_mark text a h) (six_after b k))
 
 same_endpoint : (a b : IpEndpoint) → a.addr ≡ b.addr → a.port ≡ b.port → a ≡ b
 same_endpoint a b addr port = λ i. record { addr = addr i; port = port i }
@@ -158,8 +158,8 @@ same_endpoint a b addr port = λ i. record { addr = addr i; port = port i }
 -- a text parses as at most one endpoint
 pub endpoint_once : (text : List ℕ) (a b : IpEndpoint) → ReadsEndpoint text a → ReadsEndpoint text b → a ≡ b
 endpoint_once text a b (inl h) (inl k) = same_endpoint a b (address_once text a.addr b.addr h.0 k.0) (h.1 ∙ sym k.1)
-endpoint_once text a b (inl h) (inr k) = absurd (alone_apart text k.host_text b.port k.port a.addr b.addr h.0 k.host)
-endpoint_once text a b (inr h) (inl k) = absurd (alone_apart text h.host_text a.port h.port b.addr a.addr k.0 h.host)
+endpoint_once text a b (inl h) (inr k) = absurd (without_port_apart text k.host_text b.port k.port a.addr b.addr h.0 k.host)
+endpoint_once text a b (inr h) (inl k) = absurd (without_port_apart text h.host_text a.port h.port b.addr a.addr k.0 h.host)
 endpoint_once text a b (inr h) (inr k) =
     let (same, port) = ends_once 58 5 65535 (lit≤ tt) text h.host_text k.host_text a.port b.port h.port k.port in
     same_endpoint a b (host_once k.host_text a.addr b.addr (subst (λ t. ReadsHost t a.addr) same h.host) k.host) port

@@ -42,8 +42,8 @@ bracketed text = codes "[" ++ text ++ codes "]"
 
 -- the text of the address in an endpoint: an IPv6 address is in brackets, because it contains colons
 abbrev pub host_text : IpAddress → List ℕ
-host_text (Ipv4 octets) = dotted octets
-host_text (Ipv6 octets) = bracketed (ipv6_text octets)
+host_text (Ipv4 bytes) = dotted bytes
+host_text (Ipv6 bytes) = bracketed (ipv6_text bytes)
 
 -- the text of the port in an endpoint, with the colon before it
 abbrev pub port_text : ℕ → List ℕ
@@ -62,8 +62,8 @@ listening_text None port = codes "*" ++ port_text port
 
 -- the text before a port parses as this address; an IPv6 address is in brackets
 abbrev pub ReadsHost : List ℕ → IpAddress → Type 0
-ReadsHost text (Ipv4 octets) = ReadsIpv4 text octets
-ReadsHost text (Ipv6 octets) = (inner : List ℕ) × (text ≡ bracketed inner) × ReadsIpv6 inner octets
+ReadsHost text (Ipv4 bytes) = ReadsIpv4 text bytes
+ReadsHost text (Ipv6 bytes) = (inner : List ℕ) × (text ≡ bracketed inner) × ReadsIpv6 inner bytes
 
 -- the text is an address, a colon and a port of one to five digits, at most 65535
 pub record IsWithPort (text : List ℕ) (endpoint : IpEndpoint) : Type 0 where

@@ -7,7 +7,7 @@ use Rattle.std.specs.declared.cmp.Ordering.{Ordering}
 use Rattle.std.specs.declared.cmp.Ordering.TheVariants.{Less, Greater}
 use Rattle.wire_addr.specs.Block.{IsIn}
 use Rattle.wire_addr.specs.Class.{IsIpv4Unicast, IsIpv6Unicast, ipv4_broadcast, ipv4_multicast, ipv4_unspecified, ipv6_multicast, ipv6_unspecified}
-use Rattle.wire_addr.specs.Octets.{AreOctets}
+use Rattle.wire_addr.specs.Bytes.{IsByteArray}
 use Rattle.wire_addr.specs.Printed.{dotted, ipv6_text}
 use Rattle.wire_addr.specs.Read.{ReadsIpv4, ReadsIpv6}
 use Rattle.wire_ends.specs.declared.ip_address.IpAddress.{IpAddress}
@@ -17,55 +17,55 @@ use Rattle.wire_ends.specs.declared.ip_version.IpVersion.TheVariants as version
 
 -- the IP version of an address
 abbrev pub version_of : IpAddress → IpVersion
-version_of (Ipv4 octets) = version.Ipv4
-version_of (Ipv6 octets) = version.Ipv6
+version_of (Ipv4 bytes) = version.Ipv4
+version_of (Ipv6 bytes) = version.Ipv6
 
 -- the printed text of an IP address
 abbrev pub address_text : IpAddress → List ℕ
-address_text (Ipv4 octets) = dotted octets
-address_text (Ipv6 octets) = ipv6_text octets
+address_text (Ipv4 bytes) = dotted bytes
+address_text (Ipv6 bytes) = ipv6_text bytes
 
 -- the bytes of an address of either version
-abbrev pub octets_of : IpAddress → List ℕ
-octets_of (Ipv4 octets) = octets
-octets_of (Ipv6 octets) = octets
+abbrev pub address_bytes : IpAddress → List ℕ
+address_bytes (Ipv4 bytes) = bytes
+address_bytes (Ipv6 bytes) = bytes
 
 -- the number of bits in an address of this version
 abbrev pub bits_of : IpAddress → ℕ
-bits_of (Ipv4 octets) = 32
-bits_of (Ipv6 octets) = 128
+bits_of (Ipv4 bytes) = 32
+bits_of (Ipv6 bytes) = 128
 
 -- the address has as many bytes as its version has
 abbrev pub IsAddress : IpAddress → Type 0
-IsAddress (Ipv4 octets) = AreOctets 4 octets
-IsAddress (Ipv6 octets) = AreOctets 16 octets
+IsAddress (Ipv4 bytes) = IsByteArray 4 bytes
+IsAddress (Ipv6 bytes) = IsByteArray 16 bytes
 
 -- the text parses as this address, in the form of its version
 abbrev pub ReadsAddress : List ℕ → IpAddress → Type 0
-ReadsAddress text (Ipv4 octets) = ReadsIpv4 text octets
-ReadsAddress text (Ipv6 octets) = ReadsIpv6 text octets
+ReadsAddress text (Ipv4 bytes) = ReadsIpv4 text bytes
+ReadsAddress text (Ipv6 bytes) = ReadsIpv6 text bytes
 
 -- ---- classes
 
 -- a unicast address of either version
 abbrev pub IsUnicast : IpAddress → Type 0
-IsUnicast (Ipv4 octets) = IsIpv4Unicast octets
-IsUnicast (Ipv6 octets) = IsIpv6Unicast octets
+IsUnicast (Ipv4 bytes) = IsIpv4Unicast bytes
+IsUnicast (Ipv6 bytes) = IsIpv6Unicast bytes
 
 -- a multicast address of either version
 abbrev pub IsMulticast : IpAddress → Type 0
-IsMulticast (Ipv4 octets) = IsIn ipv4_multicast octets
-IsMulticast (Ipv6 octets) = IsIn ipv6_multicast octets
+IsMulticast (Ipv4 bytes) = IsIn ipv4_multicast bytes
+IsMulticast (Ipv6 bytes) = IsIn ipv6_multicast bytes
 
 -- the broadcast address, which IPv6 does not have (RFC 4291, section 2)
 abbrev pub IsBroadcast : IpAddress → Type 0
-IsBroadcast (Ipv4 octets) = octets ≡ ipv4_broadcast
-IsBroadcast (Ipv6 octets) = ⊥
+IsBroadcast (Ipv4 bytes) = bytes ≡ ipv4_broadcast
+IsBroadcast (Ipv6 bytes) = ⊥
 
 -- the unspecified address of either version
 abbrev pub IsUnspecified : IpAddress → Type 0
-IsUnspecified (Ipv4 octets) = octets ≡ ipv4_unspecified
-IsUnspecified (Ipv6 octets) = octets ≡ ipv6_unspecified
+IsUnspecified (Ipv4 bytes) = bytes ≡ ipv4_unspecified
+IsUnspecified (Ipv6 bytes) = bytes ≡ ipv6_unspecified
 
 -- ---- order and hash
 
@@ -78,5 +78,5 @@ address_cmp (Ipv6 a) (Ipv6 b) = slice_cmp nat_cmp a b
 
 -- the hashed values of an address: the index of its variant, and its bytes
 abbrev pub address_hash : IpAddress → hash.HashWrites
-address_hash (Ipv4 octets) = hash.isize (pos 0) ++ hash.slice hash.u8 octets
-address_hash (Ipv6 octets) = hash.isize (pos 1) ++ hash.slice hash.u8 octets
+address_hash (Ipv4 bytes) = hash.isize (pos 0) ++ hash.slice hash.u8 bytes
+address_hash (Ipv6 bytes) = hash.isize (pos 1) ++ hash.slice hash.u8 bytes

@@ -14,8 +14,8 @@ use Rattle.wire_ends.specs.declared.ip_cidr.IpCidr.TheVariants.{Ipv4, Ipv6}
 
 -- the block of an address with this prefix length
 abbrev pub block_at : IpAddress → ℕ → IpCidr
-block_at (ip.Ipv4 octets) n = Ipv4 (record { address = octets; prefix_len = n })
-block_at (ip.Ipv6 octets) n = Ipv6 (record { address = octets; prefix_len = n })
+block_at (ip.Ipv4 bytes) n = Ipv4 (record { address = bytes; prefix_len = n })
+block_at (ip.Ipv6 bytes) n = Ipv6 (record { address = bytes; prefix_len = n })
 
 -- the address from which a block was made
 abbrev pub block_address : IpCidr → IpAddress
@@ -29,10 +29,10 @@ block_prefix_len (Ipv6 block) = block.prefix_len
 
 -- the address is in the block: it has the same version and the same first bits
 abbrev pub IsIn : IpCidr → IpAddress → Type 0
-IsIn (Ipv4 block) (ip.Ipv4 octets) = IsInBlock block octets
-IsIn (Ipv4 block) (ip.Ipv6 octets) = ⊥
-IsIn (Ipv6 block) (ip.Ipv4 octets) = ⊥
-IsIn (Ipv6 block) (ip.Ipv6 octets) = IsInBlock block octets
+IsIn (Ipv4 block) (ip.Ipv4 bytes) = IsInBlock block bytes
+IsIn (Ipv4 block) (ip.Ipv6 bytes) = ⊥
+IsIn (Ipv6 block) (ip.Ipv4 bytes) = ⊥
+IsIn (Ipv6 block) (ip.Ipv6 bytes) = IsInBlock block bytes
 
 -- each address that is in the first block is in the second
 abbrev pub IsWithin : IpCidr → IpCidr → Type 0

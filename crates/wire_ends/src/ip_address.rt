@@ -3,9 +3,9 @@
 ghost use Rattle.std.specs.Prelude.{◌≡◌, ◌↔◌, ◌≤◌, ◌∷◌, [], IfSome, IsTrue, Some, ℕ};
 ghost use Rattle.std.specs.Net.Grammar.{Parses};
 ghost use Rattle.std.specs.declared.net.ip_addr.IpAddr.TheVariants.{V4, V6};
-ghost use Rattle.wire_addr.specs.Octets.{octets_of};
+ghost use Rattle.wire_addr.specs.Bytes.{address_bytes};
 ghost use Rattle.wire_addr.specs.Prefix.{IsNetmask};
-ghost use Rattle.wire_ends.specs.IpAddress.{IsBroadcast, IsMulticast, IsUnicast, IsUnspecified, ReadsAddress, address_text, bits_of, octets_of as octets_in, version_of};
+ghost use Rattle.wire_ends.specs.IpAddress.{IsBroadcast, IsMulticast, IsUnicast, IsUnspecified, ReadsAddress, address_text, bits_of, address_bytes as bytes_in, version_of};
 ghost use Rattle.wire_ends.specs.StdNet.{address_of};
 ghost use Rattle.wire_ends.specs.declared.ip_address.IpAddress.TheVariants.{Ipv4, Ipv6};
 
@@ -33,7 +33,7 @@ impl IpAddress {
     /// The IPv6 address `a:b:c:d:e:f:g:h`.
     #[allow(clippy::too_many_arguments)]
     pub fn v6(a: u16, b: u16, c: u16, d: u16, e: u16, f: u16, g: u16, h: u16) -> IpAddress
-        ensures { result ≡ Ipv6 (octets_of (a ∷ b ∷ c ∷ d ∷ e ∷ f ∷ g ∷ h ∷ [])) }
+        ensures { result ≡ Ipv6 (address_bytes (a ∷ b ∷ c ∷ d ∷ e ∷ f ∷ g ∷ h ∷ [])) }
     {
         IpAddress::Ipv6(Ipv6Address::new(a, b, c, d, e, f, g, h))
     }
@@ -102,7 +102,7 @@ impl IpAddress {
     /// The prefix length of this netmask: the number of ones, if only zeros follow them. `None` for
     /// any other address.
     pub fn prefix_len(&self) -> Option<u8>
-        ensures value { (n : ℕ) → (result ≡ Some n) ↔ IsNetmask n (octets_in self.now) }
+        ensures value { (n : ℕ) → (result ≡ Some n) ↔ IsNetmask n (bytes_in self.now) }
         ensures within { IfSome result (λ n. n ≤ bits_of self.now) }
     {
         match self {

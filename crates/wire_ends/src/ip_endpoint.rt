@@ -15,7 +15,7 @@ use std::fmt;
 use std::net::{SocketAddr, SocketAddrV4, SocketAddrV6};
 use std::str::FromStr;
 use wire_addr::{Ipv4Address, Ipv6Address};
-use wire_text::number_behind;
+use wire_text::number_after;
 
 /// An address and a port.
 #[derive(Debug, Clone, Copy, PartialEq, Eq, PartialOrd, Ord, Hash)]
@@ -40,10 +40,10 @@ impl IpEndpoint {
         if seems_to_have_a_port(text) {
             match with_port(text) {
                 Ok(endpoint) => Ok(endpoint),
-                Err(()) => alone(text),
+                Err(()) => without_port(text),
             }
         } else {
-            match alone(text) {
+            match without_port(text) {
                 Ok(endpoint) => Ok(endpoint),
                 Err(()) => with_port(text),
             }
@@ -179,13 +179,13 @@ fn seems_to_have_a_port(text: &[u8]) -> bool {
 fn with_port(text: &[u8]) -> Result<IpEndpoint, ()>
     ensures { Parses IsWithPort text.now result }
 {
-    let (address, port) = number_behind(text, b':', 5, 65535).ok_or(())?;
+    let (address, port) = number_after(text, b':', 5, 65535).ok_or(())?;
     Ok(IpEndpoint::new(host(address)?, port as u16))
 }
 
 /// Parses an address without a port.
 #[inline(always)]
-fn alone(text: &[u8]) -> Result<IpEndpoint, ()>
+fn without_port(text: &[u8]) -> Result<IpEndpoint, ()>
     ensures { Parses (λ text endpoint. ReadsAddress text endpoint.addr × (endpoint.port ≡ 0)) text.now result }
 {
     match IpAddress::parse_ascii(text) {

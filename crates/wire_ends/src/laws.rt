@@ -36,10 +36,10 @@ pub fn print_reads_back_ip_address(address: IpAddress)
 {
     match address {
         IpAddress::Ipv4(address) => {
-            let _octets = address.octets();
+            let _bytes = address.octets();
         }
         IpAddress::Ipv6(address) => {
-            let _octets = address.octets();
+            let _bytes = address.octets();
         }
     }
 }

@@ -1,3 +1,3 @@
 pub mod Ethernet
 pub mod EthernetFields
-pub mod EthernetLoan
+pub mod EthernetBorrow

@@ -4,8 +4,8 @@ ghost use Rattle.std.specs.Prelude.{◌≡◌, ◌↔◌, ◌≤◌, ◌+◌, �
 ghost use Rattle.std.specs.Result.{result_ok};
 ghost use Rattle.std.specs.Borrow.{sem};
 ghost use Rattle.wire_field.specs.Field.{field, with_field, with_range};
-ghost use Rattle.wire_field.specs.Loan.{Checks, Holds, Locates, StaysIfErr};
-ghost use Rattle.wire_ethernet.specs.EthernetLoan.{LendsPayload};
+ghost use Rattle.wire_field.specs.Borrow.{Checks, Holds, Locates, StaysIfErr};
+ghost use Rattle.wire_ethernet.specs.EthernetBorrow.{BorrowsPayload};
 ghost use Rattle.wire_ethernet.specs.Ethernet.{Becomes, Reads, bytes_of, ethernet_of, frame_bytes, frame_bytes_mut, frame_slice, frame_text, number_of, protocol_of, protocol_text};
 ghost use Rattle.wire_ethernet.specs.declared.ethernet.EthernetRepr.{EthernetRepr};
 
@@ -219,7 +219,7 @@ impl fmt::Display for EthernetFrame<'_> {
 impl<'a> EthernetFrameMut<'a> {
     /// A mutable view, or an error for fewer than 14 bytes, which stay unchanged.
     pub fn new_checked(buffer: &'a mut [u8]) -> Result<EthernetFrameMut<'a>>
-        ensures* refused { sem 𝓛 (StaysIfErr buffer.entry frame_slice result) }
+        ensures* rejected { sem 𝓛 (StaysIfErr buffer.entry frame_slice result) }
         ensures ok { IsOk result ↔ (14 ≤ length buffer.old) }
         ensures frame { IfOk result (λ frame. Holds buffer.entry (frame_slice frame) buffer.old) }
     {
@@ -237,10 +237,10 @@ impl<'a> EthernetFrameMut<'a> {
     /// stays.
     pub fn payload_mut(&mut self) -> &mut [u8]
         requires { 14 ≤ length (frame_bytes_mut self.old) }
-        ensures* writes_back { sem 𝓛 (LendsPayload self.entry result) }
+        ensures* writes_back { sem 𝓛 (BorrowsPayload self.entry result) }
         ensures value { result.now ≡ drop 14 (frame_bytes_mut self.old) }
     {
-        locate_payload(self.buffer).lend()
+        locate_payload(self.buffer).into_slice()
     }
 
     /// Writes the address of the receiver.

@@ -8,7 +8,7 @@ ghost use Rattle.wire_ethernet.specs.EthernetFields.{after, got};
 use crate::ethernet::{EthernetFrame, EthernetFrameMut, EthernetProtocol, EthernetRepr};
 use byteorder::{ByteOrder, NetworkEndian};
 use wire_addr::EthernetAddress;
-use wire_field::laws::octets_fit;
+use wire_field::laws::bytes_fit;
 
 /// The header of a value, with any bytes after it, parses as the value's normal form.
 pub fn emit_reads_back_ethernet(value: EthernetRepr, rest: &[u8])
@@ -60,11 +60,11 @@ pub fn setter_writes_one_field_ethernet(frame: &mut EthernetFrameMut<'_>, settin
 {
     match setting {
         EthernetSetting::DstAddr(x) => {
-            octets_fit(x.as_bytes());
+            bytes_fit(x.as_bytes());
             frame.set_dst_addr(x)
         }
         EthernetSetting::SrcAddr(x) => {
-            octets_fit(x.as_bytes());
+            bytes_fit(x.as_bytes());
             frame.set_src_addr(x)
         }
         EthernetSetting::Ethertype(x) => frame.set_ethertype(x),
@@ -84,7 +84,7 @@ pub fn getters_read_fields_ethernet(frame: &EthernetFrame<'_>, getting: Ethernet
     requires { 14 ≤ length (frame_bytes frame.now) }
     ensures { result ≡ got getting (frame_bytes frame.now) }
 {
-    octets_fit(frame.as_bytes());
+    bytes_fit(frame.as_bytes());
     match getting {
         EthernetGetting::DstAddr => NetworkEndian::read_u48(frame.dst_addr().as_bytes()),
         EthernetGetting::SrcAddr => NetworkEndian::read_u48(frame.src_addr().as_bytes()),

@@ -55,13 +55,13 @@ use Rattle.std.proofs.raw_atomic.Walks.{proved}
 use Rattle.net_base.specs.declared.error.Error.{Error}
 use Rattle.net_base.specs.contracts.error.Error as E
 use Rattle.wire_field.proofs.Views.{View, row, type, laws, seen}
-use Rattle.wire_field.specs.Loan.{Checks, Holds, StaysIfErr}
+use Rattle.wire_field.specs.Borrow.{Checks, Holds, StaysIfErr}
 use Rattle.wire_field.specs.declared.checked.Checked.{Checked}
 use Rattle.wire_field.specs.contracts.checked.Checked as C
 use Rattle.wire_field.proofs.checked.Checked.TheLaws as C'
 
 -- an error that says no more than that
-pub record Refusal : Type 2 where
+pub record Rejection : Type 2 where
   pub name : Sym
   pub D : Type 0
   pub make : D
@@ -69,7 +69,7 @@ pub record Refusal : Type 2 where
   pub propositions : (v : Unit {0}) → IsProp Done
 
 -- the one error of all readers
-abbrev pub error : Refusal
+abbrev pub error : Rejection
 error = record {
   name = E.struct.name;
   D = Error;
@@ -78,8 +78,8 @@ error = record {
   propositions = E.the_propositions;
 }
 
-abbrev refused : Refusal → Declared
-refused E = declared (record {
+abbrev rejection : Rejection → Declared
+rejection E = declared (record {
   name = E.name;
   args = [];
   types = [];
@@ -104,11 +104,11 @@ module _ {M : Type 1} {𝓤 : Ura M} (𝓛 : Logic 𝓤) (R : RattleType) (γ : 
       feq_i ! R.Denot z z refl $ fjoin ! $ fpack ! R.Denot (From z) z $ done !) in
       record { apply = λ a p. (said.apply a p, back.apply a p) }
 
-module _ (V : View) (E : Refusal) where
+module _ (V : View) (E : Rejection) where
   abbrev result : NamedLft → RattleType
-  result a = RS.the_row (row V a) (row_of (refused E))
+  result a = RS.the_row (row V a) (row_of (rejection E))
 
-  module _ {M : Type 1} {𝓤 : Ura M} (𝓛 : Logic 𝓤) (x h : MutBor (List ℕ)) (same_loan : h.ghost_name ≡ x.ghost_name) (same_bytes : h.now ≡ x.now) where
+  module _ {M : Type 1} {𝓤 : Ura M} (𝓛 : Logic 𝓤) (x h : MutBor (List ℕ)) (same_borrow : h.ghost_name ≡ x.ghost_name) (same_bytes : h.now ≡ x.now) where
     open 𝓛 use {A}
 
     abbrev All : RattleType
@@ -119,7 +119,7 @@ module _ (V : View) (E : Refusal) where
     unfolding such_by follows_by
     unchanged e ℓ κ vs = qed 𝓛 (‵ ((MutSlice ℓ κ u8).own_val h vs) ∷ []) ∵ fsplit3 ! $ drop ! $
         rewrite ! 0 (λ (l : List ℕ). ‵ (fobs h.ghost_name ((coded_list u8.coded).code l))) (heres_id u8 h.now ∙ same_bytes) refl $
-        rewrite ! 0 (λ (γ : GName). ‵ (fobs γ (All.coded.code x.now))) same_loan refl $
+        rewrite ! 0 (λ (γ : GName). ‵ (fobs γ (All.coded.code x.now))) same_borrow refl $
         use1 𝓛 (‵ (fres x.ghost_name (All.coded.code x.now))) (𝓛.names.obs-res x.ghost_name (All.coded.code x.now)) $ keep ! (0 ∷ []) $
         fpack ! ((s : (List ℕ → List ℕ) × List ℕ) × ((w : List ℕ) → ⊤) × s.1 ≡ x.now) (λ s. fres x.ghost_name (All.coded.code s.0.1)) (((λ w. w), x.now), (λ w. tt), refl) $ done !
 
@@ -127,7 +127,7 @@ module _ (V : View) (E : Refusal) where
     held : (d : V.D) → V.buffer d ≡ h → ent 𝓤 (emp 𝓤) (sem 𝓛 (StaysIfErr {E = E.D} x V.buffer (Ok d)))
     unfolding such_by follows_by
     held d is =
-        let kept : (V.buffer d).ghost_name ≡ x.ghost_name = ap (λ (k : MutBor (List ℕ)). k.ghost_name) is ∙ same_loan in
+        let kept : (V.buffer d).ghost_name ≡ x.ghost_name = ap (λ (k : MutBor (List ℕ)). k.ghost_name) is ∙ same_borrow in
         qed 𝓛 [] ∵ use0 𝓛 (‵ (follows All All x.ghost_name x.ghost_name (λ w. w))) (follows_itself 𝓛 All x.ghost_name) $
         rewrite ! 0 (λ (γ : GName). ‵ (follows All All x.ghost_name γ (λ w. w))) (sym kept) refl $
         fpack ! ((s : (List ℕ → List ℕ) × List ℕ) × ((w : List ℕ) → s.0 w ≡ w) × ⊤) (λ s. follows All All x.ghost_name (V.buffer d).ghost_name s.0.0) (((λ w. w), x.now), (λ w. refl), tt) $ done !
@@ -142,7 +142,7 @@ check_ended = record {
 abbrev checks : {M : Type 1} {𝓤 : Ura M} (𝓛 : Logic 𝓤) → (List ℕ → Type 0) → Clauses 𝓤 check_ended
 checks {𝓤 = 𝓤} 𝓛 φ κs a = record { ghost = Unit {0}; requires = λ _. emp 𝓤; ensures = λ _ r _. fact 𝓤 (Checks a.0 (φ a.0.now) r) }
 
-module _ (V : View) (E : Refusal) (φ : List ℕ → Type 0) where
+module _ (V : View) (E : Rejection) (φ : List ℕ → Type 0) where
   -- the contract of the function
   abbrev ended : Ended
   ended = record {
@@ -246,13 +246,13 @@ module _ (V : View) (E : Refusal) (φ : List ℕ → Type 0) where
         let u : Val = vstruct (vcons (slice_val h.ref_ptr (length h.now)) vnil) in let d : V.D = V.make h in let B : RattleType = Struct (shape (type V life)) in
         nothing ! $ move ! (1 ∷ 0 ∷ []) $ fjoin ! $ use1 𝓛 (‵ (B.own_val (h, tt) (u ∷ []))) (own_shut 𝓛 (type V life) (laws V life) (h, tt)) $
         rewrite ! 0 (λ (k : MutBor (List ℕ)). ‵ (B.own_val (k, tt) (u ∷ []))) (sym (V.beta h)) refl $
-        use1 𝓛 (‵ ((result V E life).own_val (Ok d) (live 0 (vcons u vnil) ∷ []))) (Ok-of 𝓛 (row V life) (row_of (refused E)) d u) $
-        use0 𝓛 (‵ (StaysIfErr {E = E.D} x V.buffer (Ok d))) (held V E 𝓛 x h is.same_loan is.same_bytes d (V.beta h)) $
+        use1 𝓛 (‵ ((result V E life).own_val (Ok d) (live 0 (vcons u vnil) ∷ []))) (Ok-of 𝓛 (row V life) (row_of (rejection E)) d u) $
+        use0 𝓛 (‵ (StaysIfErr {E = E.D} x V.buffer (Ok d))) (held V E 𝓛 x h is.same_borrow is.same_bytes d (V.beta h)) $
         returns ! (look_at ! 0 refl) $ free_all ! refl $ keep ! (1 ∷ 0 ∷ 2 ∷ 3 ∷ []) $
         out (Ok d) (live 0 (vcons u vnil)) (
           ((λ _. is.ok.0 (T_true t.ok yes)), λ _. refl),
           record {
-            same_loan = ap (λ (k : MutBor (List ℕ)). k.ghost_name) (V.beta h) ∙ is.same_loan;
+            same_borrow = ap (λ (k : MutBor (List ℕ)). k.ghost_name) (V.beta h) ∙ is.same_borrow;
             same_length = ap (λ (k : MutBor (List ℕ)). length k.now) (V.beta h) ∙ ap length is.same_bytes;
             holds = ap (λ (k : MutBor (List ℕ)). k.now) (V.beta h) ∙ is.same_bytes;
           },
@@ -262,8 +262,8 @@ module _ (V : View) (E : Refusal) (φ : List ℕ → Type 0) where
         sets_last ! (agg ! (and_then ! (lit ! tt) (and_then ! (get ! refl) (no_more !)))) refl (tt, (record { fits = lit< tt }, (tt, tt))) $
         exec ! 𝓣.C 𝓣.Λ En then_6 (at_ret En Post) $
         sets ! (of_opd ! (get ! refl)) refl (tt, (record { fits = lit< tt }, (tt, tt))) $
-        use1 𝓛 (‵ (StaysIfErr {V = V.D} x V.buffer (Err E.make))) (unchanged V E 𝓛 x h is.same_loan is.same_bytes E.make (named 0) κ (mut_slice_vals h)) $
-        nothing ! $ use1 𝓛 (‵ ((row_of (refused E)).own_val E.make (vstruct vnil ∷ []))) (own_shut 𝓛 (refused E) tt tt) $
-        use1 𝓛 (‵ ((result V E life).own_val (Err E.make) (live 1 (vcons (vstruct vnil) vnil) ∷ []))) (Err-of 𝓛 (row V life) (row_of (refused E)) E.make (vstruct vnil)) $
+        use1 𝓛 (‵ (StaysIfErr {V = V.D} x V.buffer (Err E.make))) (unchanged V E 𝓛 x h is.same_borrow is.same_bytes E.make (named 0) κ (mut_slice_vals h)) $
+        nothing ! $ use1 𝓛 (‵ ((row_of (rejection E)).own_val E.make (vstruct vnil ∷ []))) (own_shut 𝓛 (rejection E) tt tt) $
+        use1 𝓛 (‵ ((result V E life).own_val (Err E.make) (live 1 (vcons (vstruct vnil) vnil) ∷ []))) (Err-of 𝓛 (row V life) (row_of (rejection E)) E.make (vstruct vnil)) $
         returns ! (look_at ! 0 refl) $ free_all ! refl $ keep ! (0 ∷ 1 ∷ 2 ∷ 3 ∷ []) $
         out (Err E.make) (live 1 (vcons (vstruct vnil) vnil)) ((never_true, λ holds. absurd (subst (λ (b : Bool). T (not b)) (is.ok.1 holds) no)), tt))))))))))

@@ -14,8 +14,8 @@ whole = record { some = omega arith; in_bounds = omega arith }
 last-bit : IsField two 15 1
 last-bit = record { some = omega arith; in_bounds = omega arith }
 
-behind-the_end : IsField two 16 1 → ⊥
-behind-the_end h = let bound = h.in_bounds in omega (arith, bound)
+past-the_end : IsField two 16 1 → ⊥
+past-the_end h = let bound = h.in_bounds in omega (arith, bound)
 
 too-wide : IsField two 1 16 → ⊥
 too-wide h = let bound = h.in_bounds in omega (arith, bound)
@@ -31,18 +31,18 @@ outside-or-inside first width i = elim (cases_lt i first) [
   | inl before ↦ inl (inl before)
   | inr from ↦ elim (cases_lt i (first + width)) [
     | inl in_it ↦ inr (from, in_it)
-    | inr behind ↦ inl (inr behind)
+    | inr following ↦ inl (inr following)
   ]
 ]
 
 outside-not_inside : (first width i : ℕ) → IsOutside first width i → first ≤ i → i < first + width → ⊥
 outside-not_inside first width i (inl before) from to = omega (arith, before, from)
-outside-not_inside first width i (inr behind) from to = omega (arith, behind, to)
+outside-not_inside first width i (inr following) from to = omega (arith, following, to)
 
 -- two fields are apart exactly where no bit is in both
 apart-no_bit : (first width other size i : ℕ) → IsApart first width other size → first ≤ i → i < first + width → other ≤ i → i < other + size → ⊥
 apart-no_bit first width other size i (inl before) a b c d = omega (arith, before, a, d)
-apart-no_bit first width other size i (inr behind) a b c d = omega (arith, behind, b, c)
+apart-no_bit first width other size i (inr following) a b c d = omega (arith, following, b, c)
 
 no_bit-apart : (first width other size : ℕ) → 0 < width → 0 < size
     → ((i : ℕ) → first ≤ i → i < first + width → other ≤ i → i < other + size → ⊥) → IsApart first width other size
@@ -52,7 +52,7 @@ no_bit-apart first width other size w s none = elim (cases_lt first (other + siz
       | inl lower ↦ absurd (none other (omega (arith, lower)) back (omega arith) (omega (arith, s)))
       | inr upper ↦ absurd (none first (omega arith) (omega (arith, w)) upper overlap)
     ]
-    | inr behind ↦ inr behind
+    | inr following ↦ inr following
   ]
   | inr before ↦ inl before
 ]

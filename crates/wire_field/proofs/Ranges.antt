@@ -7,7 +7,7 @@ use Rattle.std.proofs.Math.Nat.{div-one, mod-eq_of_lt, pow-suc}
 use Rattle.std.specs.Int.{byte_at, bytes_high_first}
 use Rattle.byteorder.specs.Endian.{big_bytes, big_from, big_number}
 use Rattle.byteorder.specs.Numbers.{big_from-cons, big_from-lt, big_from-take}
-use Rattle.wire_field.specs.Field.{behind, field, span, with_field, with_part, with_range}
+use Rattle.wire_field.specs.Field.{bits_after, field, span, with_field, with_part, with_range}
 use Rattle.wire_field.proofs.ByteLists.{AreBytes-slice_range}
 use Rattle.wire_field.proofs.Spelled.{AreBytes, pow256}
 
@@ -50,7 +50,7 @@ begin first = omega arith
 reach : (first n : ℕ) → span (8 * first) (8 * n) ≡ n
 reach first n = omega arith
 
-none : (first n : ℕ) → behind (8 * first) (8 * n) ≡ 0
+none : (first n : ℕ) → bits_after (8 * first) (8 * n) ≡ 0
 none first n = omega arith
 
 -- a field of whole bytes, written and read
@@ -95,5 +95,5 @@ pub number-range : (bytes : List ℕ) (first n : ℕ) → AreBytes bytes → fir
     → big_bytes n (field bytes (8 * first) (8 * n)) ≡ slice_range bytes first (first + n)
 number-range bytes first n are room =
     let size : length (slice_range bytes first (first + n)) ≡ n = grind (arith, common_steps) in
-    let alone : 0 * 256 ^ n + big_number n (slice_range bytes first (first + n)) ≡ big_number n (slice_range bytes first (first + n)) = omega arith in
-    ap (big_bytes n) (sym (range-number bytes first n are) ∙ sym alone) ∙ bytes-number n 0 (slice_range bytes first (first + n)) (AreBytes-slice_range bytes first (first + n) are) size
+    let single : 0 * 256 ^ n + big_number n (slice_range bytes first (first + n)) ≡ big_number n (slice_range bytes first (first + n)) = omega arith in
+    ap (big_bytes n) (sym (range-number bytes first n are) ∙ sym single) ∙ bytes-number n 0 (slice_range bytes first (first + n)) (AreBytes-slice_range bytes first (first + n) are) size

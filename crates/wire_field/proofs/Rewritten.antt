@@ -5,7 +5,7 @@ use Rattle.std.proofs.lemmas.Nat.{mod_low, pow_pos, pow-add, shr_high}
 use Rattle.std.proofs.Math.Nat.{add_assoc, mod-lt}
 use Rattle.byteorder.specs.Endian.{big_bytes}
 use Rattle.byteorder.specs.Numbers.{length-bytes_high_first}
-use Rattle.wire_field.specs.Field.{behind, span, with_field, with_part, word_at}
+use Rattle.wire_field.specs.Field.{bits_after, span, with_field, with_part, word_at}
 use Rattle.wire_field.proofs.Part.{part_below, regrouped}
 use Rattle.wire_field.proofs.Spelled.{AreBytes}
 use Rattle.wire_field.proofs.Written.{word-with_field}
@@ -41,10 +41,10 @@ pub with_field_twice : (bytes : List ℕ) (first width x y : ℕ) → AreBytes b
 with_field_twice bytes first width x y are some fits =
     let a = first / 8 in
     let s = span first width in
-    let part = big_bytes (span first width) (with_part (word_at bytes first width) (behind first width) width y) in
-    let size = length-bytes_high_first (span first width) (with_part (word_at bytes first width) (behind first width) width y) in
+    let part = big_bytes (span first width) (with_part (word_at bytes first width) (bits_after first width) width y) in
+    let size = length-bytes_high_first (span first width) (with_part (word_at bytes first width) (bits_after first width) width y) in
     let front = before bytes part (first / 8) (first / 8 + span first width) (omega arith) in
     let back = after bytes part (first / 8) (first / 8 + span first width) (omega arith) (omega (arith, size)) in
     let word = word-with_field bytes first width y are some fits in
-    let last = with_part-twice (word_at bytes first width) (behind first width) width x y in
+    let last = with_part-twice (word_at bytes first width) (bits_after first width) width x y in
     rw (word, last, front, back) refl

@@ -53,15 +53,15 @@ use Rattle.std.specs.Prelude.{slice_range}
 use Rattle.std.proofs.raw_atomic.Walks.{proved}
 use Rattle.std.proofs.Math.Seq.{drop-length, take-length}
 use Rattle.std.proofs.lemmas.List.{append-nil}
-use Rattle.wire_field.proofs.Held.{held_lent, lends_held}
+use Rattle.wire_field.proofs.Held.{held_borrowed, borrows_held}
 use Rattle.wire_field.specs.Field.{with_range}
-use Rattle.wire_field.specs.Loan.{Locates}
-use Rattle.wire_field.specs.declared.lend.Located.{Located}
-use Rattle.wire_field.specs.contracts.lend.Located as L
-use Rattle.wire_field.proofs.lend.Located.TheLaws as L'
-use Rattle.wire_field.specs.contracts.lend.Located.lend as lend
-use Rattle.wire_field.proofs.lend.Located.lend.Symbol as lend_symbol
-use Rattle.wire_field.proofs.lend.Located.lend.Met.{met}
+use Rattle.wire_field.specs.Borrow.{Locates}
+use Rattle.wire_field.specs.declared.located.Located.{Located}
+use Rattle.wire_field.specs.contracts.located.Located as L
+use Rattle.wire_field.proofs.located.Located.TheLaws as L'
+use Rattle.wire_field.specs.contracts.located.Located.into_slice as into_slice
+use Rattle.wire_field.proofs.located.Located.into_slice.Symbol as into_slice_symbol
+use Rattle.wire_field.proofs.located.Located.into_slice.Met.{met}
 
 -- conditions, each a `requires` of its own
 abbrev pub All : List (Type 0) → Type 0
@@ -158,8 +158,8 @@ pub record Place : Type 1 where
   pub left_is : (xs w : List ℕ) → with_range xs (first xs) (last xs) w ≡ left xs w
 
 -- all that follows the first n bytes
-abbrev pub behind : ℕ → Place
-behind n = record {
+abbrev pub from_byte : ℕ → Place
+from_byte n = record {
   conditions = λ xs. (n ≤ length xs) ∷ [];
   first = λ xs. n;
   last = length;
@@ -208,8 +208,8 @@ module _ (V : View) (P : Place) where
     kept = (no, tt);
   }
 
-  abbrev lends : {M : Type 1} {𝓤 : Ura M} (𝓛 : Logic 𝓤) → Clauses 𝓤 ended
-  lends {𝓤 = 𝓤} 𝓛 κs a = record {
+  abbrev borrows : {M : Type 1} {𝓤 : Ura M} (𝓛 : Logic 𝓤) → Clauses 𝓤 ended
+  borrows {𝓤 = 𝓤} 𝓛 κs a = record {
     ghost = Unit {0};
     requires = λ _. facts 𝓤 (P.conditions (V.buffer a.0.now).now);
     ensures = λ _ r _. sep 𝓤
@@ -221,7 +221,7 @@ module _ (V : View) (P : Place) where
   -- its code
   module _ (locate : Callee) where
     abbrev then_4 : Body
-    then_4 = seq (call locate (copy (place 5 []) ∷ []) (place 2 [])) (seq (call lend_symbol.name (copy (place 2 []) ∷ []) (place 0 [])) return)
+    then_4 = seq (call locate (copy (place 5 []) ∷ []) (place 2 [])) (seq (call into_slice_symbol.name (copy (place 2 []) ∷ []) (place 0 [])) return)
 
     abbrev code : Fn
     code = record {
@@ -241,10 +241,10 @@ module _ (V : View) (P : Place) where
   stayed = (stay_dropped (mut_ref_to (0 ∷ []) tt (plain (λ κs. row V (named_lft 2 1 tt κs)))) no, tt)
 
   module _ {M : Type 1} {𝓤 : Ura M} (𝓛 : Logic 𝓤) (𝓜 : Model 𝓤 𝓛.H) (𝓡 : Running 𝓤 𝓛.H 𝓜) (locate : Callee) (located : Meets 𝓛 locate_ended.signature (𝓡.run (𝓡.env locate)) (closing 𝓛 locate_ended (locates 𝓛 P)))
-      (lend_wired : Wired 𝓡.env lend_symbol.code) (name : Callee) (closed : Closed 𝓤 𝓛.H (tables 𝓤 𝓛.H 𝓜 𝓡 𝓡.env).C (tables 𝓤 𝓛.H 𝓜 𝓡 𝓡.env).Λ name (code locate)) where
-    pub lends_located : Meets 𝓛 ended.signature (𝓡.run (𝓡.env name)) (closing 𝓛 ended (lends 𝓛))
-    lends_located =
-        let c = lends 𝓛 in let W = walk_of 𝓛 ended stayed c in let 𝓣 = tables 𝓤 𝓛.H 𝓜 𝓡 𝓡.env in
+      (into_slice_wired : Wired 𝓡.env into_slice_symbol.code) (name : Callee) (closed : Closed 𝓤 𝓛.H (tables 𝓤 𝓛.H 𝓜 𝓡 𝓡.env).C (tables 𝓤 𝓛.H 𝓜 𝓡 𝓡.env).Λ name (code locate)) where
+    pub borrows_located : Meets 𝓛 ended.signature (𝓡.run (𝓡.env name)) (closing 𝓛 ended (borrows 𝓛))
+    borrows_located =
+        let c = borrows 𝓛 in let W = walk_of 𝓛 ended stayed c in let 𝓣 = tables 𝓤 𝓛.H 𝓜 𝓡 𝓡.env in
         proved 𝓛 ended stayed c 𝓜 𝓡 (Goes-spent_ref 𝓛 2 (0 ∷ []) tt (plain (λ κs. row V (named_lft 2 1 tt κs))), tt)
         name (code locate) closed
         (λ κs. (mut_vals, tt)) (λ κs. (mut_Tells (named 0) κs.0 (row V (named_lft 2 1 tt κs)), tt))
@@ -270,8 +270,8 @@ module _ (V : View) (P : Place) where
         use1 𝓛 (‵ (cell_at full_share S.mir vs b o)) (retype 𝓛 full_share (seen V) (raw_ty (lone S.mir)) refl b o (stored_value V x)) $
         sets ! (agg ! (and_then ! (get ! refl) (and_then ! (get ! refl) (no_more !)))) refl (tt, (tt, (record { fits = rm.0 }, tt))) $
         closes ! tt S x vs b o $
-        use3 𝓛 (later (some (held_lent 𝓛 (named 0) (named 1) κ κ' bounds.0 q S u8 b o 0 a.0.ghost_name x h V.make (hands V life 𝓛 x) rm)))
-        (lends_held 𝓛 (named 0) (named 1) κ κ' bounds.0 q S u8 b o 0 a.0.ghost_name x h V.make (hands V life 𝓛 x) rm) $ await ! tt $ pick ! (λ δ. split3 ! $
+        use3 𝓛 (later (some (held_borrowed 𝓛 (named 0) (named 1) κ κ' bounds.0 q S u8 b o 0 a.0.ghost_name x h V.make (hands V life 𝓛 x) rm)))
+        (borrows_held 𝓛 (named 0) (named 1) κ κ' bounds.0 q S u8 b o 0 a.0.ghost_name x h V.make (hands V life 𝓛 x) rm) $ await ! tt $ pick ! (λ δ. split3 ! $
         -- [the slice; the token; what the view ends as; true; the other tokens]
         let G = triple_of 𝓛 locate_ended.signature (closing 𝓛 locate_ended (locates 𝓛 P)) in
         let all : MutBor (List ℕ) = record { ref_ptr = h.ref_ptr; ghost_name = δ; now = xs } in
@@ -289,7 +289,7 @@ module _ (V : View) (P : Place) where
         let known = LL.owed (L.the_type (named_lft 1 0 tt (κ, tt))) (L'.the_laws (named_lft 1 0 tt (κ, tt))) t (v ∷ []) at in
         rewrite ! 0 (λ (us : List Val). ‵ (R.own_val t us)) same refl $
         lands_as ! (ap only same) refl ((tt, ((tt, (record { fits = known.0.0.1.0 }, tt)), (record { fits = known.1.0.1 }, (record { fits = known.1.1.0.1 }, tt))))) $
-        let G' = triple_of 𝓛 lend.signature (lend.spec 𝓛 𝓜.mem 𝓡.returns) in
+        let G' = triple_of 𝓛 into_slice.signature (into_slice.spec 𝓛 𝓜.mem 𝓡.returns) in
         let z' : G'.Ghost = (((κ, tt), (q, tt), tt, (t, tt), (us', tt)), tt) in
         let len : length t.bytes.now ≡ length xs = ap length is.same_bytes in
         let lo : t.start ≤ t.end = omega (arith, is.start, is.end, P.order xs fine) in
@@ -297,13 +297,13 @@ module _ (V : View) (P : Place) where
         nothing ! $ move ! (1 ∷ 0 ∷ []) $ join ! $ move ! (1 ∷ 2 ∷ 0 ∷ []) $ join ! $ join ! $
         use0 𝓛 (raw (fact 𝓤 (t.end ≤ length t.bytes.now))) (fact_i 𝓤 (t.end ≤ length t.bytes.now) (emp 𝓤) hi) $
         use0 𝓛 (raw (fact 𝓤 (t.start ≤ t.end))) (fact_i 𝓤 (t.start ≤ t.end) (emp 𝓤) lo) $ join ! $ move ! (1 ∷ 0 ∷ []) $ use2 𝓛 (raw (G'.pre z')) (id⊢ 𝓤 _) $
-        calls_at ! (framed 𝓤 𝓛.H 𝓜 𝓣) G' (met 𝓤 𝓛 𝓜 𝓡 lend_wired) z' (and_then ! (get ! refl) (no_more !)) (λ v'.
+        calls_at ! (framed 𝓤 𝓛.H 𝓜 𝓣) G' (met 𝓤 𝓛 𝓜 𝓡 into_slice_wired) z' (and_then ! (get ! refl) (no_more !)) (λ v'.
         use1 𝓛 (later (some (λ (r : MutBor (List ℕ)). ((‵ (flft κ q) ⊛ ‵ ftrue) ⊛ ‵ ((MutSlice (named 0) κ u8).own_val r (v' ∷ []))) ⊛
-        some (λ (ws' : Lasts lend.ended (κ, tt) z'.0.3). ‵ (lasts lend.ended (κ, tt) z'.0.3 ws') ⊛
+        some (λ (ws' : Lasts into_slice.ended (κ, tt) z'.0.3). ‵ (lasts into_slice.ended (κ, tt) z'.0.3 ws') ⊛
         (‵ (follows (Array u8 0) (Array u8 0) t.bytes.ghost_name r.ghost_name (with_range t.bytes.now t.start t.end)) ⊛ raw (fact 𝓤 (r.now ≡ slice_range t.bytes.now t.start t.end))))))) (id⊢ 𝓤 _) $
         await ! tt $ pick ! (λ r. split ! $ split ! $ split ! $ move ! (3 ∷ []) $ pick ! (λ ws'. split ! $ drop ! $ split ! $ move ! (1 ∷ []) $ heard ! _ (λ part.
         -- [the slice follows the part; the token; true; the part; the view follows the slice; true; the other tokens]
-        rewrite ! 0 (λ (γ : GName). ‵ (follows (Array u8 0) (Array u8 0) γ r.ghost_name (with_range t.bytes.now t.start t.end))) is.same_loan refl $
+        rewrite ! 0 (λ (γ : GName). ‵ (follows (Array u8 0) (Array u8 0) γ r.ghost_name (with_range t.bytes.now t.start t.end))) is.same_borrow refl $
         rewrite ! 0 (λ (F : List ℕ → List ℕ). ‵ (follows (Array u8 0) (Array u8 0) δ r.ghost_name F)) (λ k w. with_range (is.same_bytes k) (is.start k) (is.end k) w) refl $
         move ! (4 ∷ 0 ∷ []) $ use2 𝓛 (‵ (follows S (Array u8 0) a.0.ghost_name r.ghost_name (λ w. V.make (record h { now = with_range xs i j w }))))
         (follows_then 𝓛 S (Array u8 0) (Array u8 0) (λ ws''. V.make (record h { now = ws'' })) (with_range xs i j) a.0.ghost_name δ r.ghost_name) $

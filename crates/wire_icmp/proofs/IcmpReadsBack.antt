@@ -66,19 +66,19 @@ record IsBeside (old new : List ℕ) : Type 0 where
   first : field new 0 8 ≡ field old 0 8
   second : field new 8 8 ≡ field old 8 8
   third : field new 32 32 ≡ field old 32 32
-  behind : drop 8 new ≡ drop 8 old
+  following : drop 8 new ≡ drop 8 old
 
 reads-beside : (old new : List ℕ) (src dst : IpAddress) (verified checked : Bool) (v : IcmpRepr) (payload : List ℕ) → Reads old src dst verified v payload → IsBeside old new
     → (IsTrue checked → Verifies src dst new) → Reads new src dst checked v payload
 reads-beside old new src dst verified checked v payload r s valid =
-    record { least = omega (arith, s.long, r.least); checksum = valid; message = rw (s.first, s.second, s.third) r.message; body = r.body ∙ sym s.behind }
+    record { least = omega (arith, s.long, r.least); checksum = valid; message = rw (s.first, s.second, s.third) r.message; body = r.body ∙ sym s.following }
 
 -- the checksum is not part of the value
 pub reads_checksum : (bytes : List ℕ) (x : ℕ) (src dst : IpAddress) (verified checked : Bool) (v : IcmpRepr) (payload : List ℕ) → Reads bytes src dst verified v payload
     → (IsTrue checked → Verifies src dst (with_field bytes 16 16 x)) → Reads (with_field bytes 16 16 x) src dst checked v payload
 reads_checksum bytes x src dst verified checked v payload r valid =
     reads-beside bytes (with_field bytes 16 16 x) src dst verified checked v payload r
-    (rw (cells-drop 8 bytes r.least) (record { long = refl; first = refl; second = refl; third = refl; behind = refl }))
+    (rw (cells-drop 8 bytes r.least) (record { long = refl; first = refl; second = refl; third = refl; following = refl }))
     valid
 
 -- nor does it depend on whether it is verified

@@ -9,7 +9,7 @@ use Rattle.wire_checksum.proofs.PseudoSums.{pseudo_header_total, sum-with_pseudo
 use Rattle.wire_checksum.proofs.Residues.{residue-bound, residue-complement, residue-quotient, residue-same, residue-small}
 use Rattle.wire_checksum.proofs.Updated.{full, updated-small}
 use Rattle.wire_checksum.specs.WordSum.{residue, updated, words}
-use Rattle.wire_ends.specs.IpAddress.{octets_of}
+use Rattle.wire_ends.specs.IpAddress.{address_bytes}
 use Rattle.wire_ends.specs.declared.ip_address.IpAddress.{IpAddress}
 use Rattle.wire_ends.specs.declared.ip_address.IpAddress.TheVariants as address
 use Rattle.wire_ends.specs.declared.ip_protocol.IpProtocol.TheVariants as protocol
@@ -17,8 +17,8 @@ use Rattle.wire_icmp.specs.Icmp.{Verifies, covered, not_zero, with_checksum, wit
 
 -- the bytes of both addresses are whole words
 pub record AreWhole (src dst : IpAddress) : Type 0 where
-  pub src_octets : length (octets_of src) % 2 ≡ 0
-  pub dst_octets : length (octets_of dst) % 2 ≡ 0
+  pub src_bytes : length (address_bytes src) % 2 ≡ 0
+  pub dst_bytes : length (address_bytes dst) % 2 ≡ 0
 
 -- ---- the total that a checksum covers
 
@@ -32,7 +32,7 @@ beside (address.Ipv6 src) dst n = pseudo_header_total (address.Ipv6 src) dst pro
 
 pub total-parts : (src dst : IpAddress) (bytes : List ℕ) → AreWhole src dst → total src dst bytes ≡ beside src dst (length bytes) + sum (words bytes)
 total-parts (address.Ipv4 src) dst bytes whole = omega arith
-total-parts (address.Ipv6 src) dst bytes whole = sum-with_pseudo_header (address.Ipv6 src) dst protocol.Icmpv6 bytes whole.src_octets whole.dst_octets
+total-parts (address.Ipv6 src) dst bytes whole = sum-with_pseudo_header (address.Ipv6 src) dst protocol.Icmpv6 bytes whole.src_bytes whole.dst_bytes
 
 -- a word that is written replaces the old one in the total
 total-with_word : (src dst : IpAddress) (bytes : List ℕ) (i x : ℕ) → AreBytes bytes → AreWhole src dst → x < 65536 → 2 * i + 2 ≤ length bytes
@@ -96,7 +96,7 @@ valid-updated src dst src' dst' bytes changed old new are whole room change vali
 -- the same for a word of 16 bits after the checksum
 pub valid_word : (src dst : IpAddress) (bytes : List ℕ) (i x : ℕ) → AreBytes bytes → AreWhole src dst → x < 65536 → 2 ≤ i → 2 * i + 2 ≤ length bytes
     → Verifies src dst bytes → Verifies src dst (with_updated_checksum (with_field bytes (16 * i) 16 x) (field bytes (16 * i) 16) x)
-valid_word src dst bytes i x are whole fits behind room valid =
+valid_word src dst bytes i x are whole fits following room valid =
     let changed = with_field bytes (16 * i) 16 x in
     let old = field bytes (16 * i) 16 in
     let long = length_with_field bytes (16 * i) 16 x (omega arith) (omega (arith, room)) in

@@ -12,7 +12,7 @@ use Rattle.wire_ends.specs.declared.ip_protocol.IpProtocol.TheVariants as protoc
 use Rattle.wire_ends.specs.declared.ip_version.IpVersion.{IpVersion}
 use Rattle.wire_ends.specs.declared.ip_version.IpVersion.TheVariants as version
 use Rattle.wire_field.specs.Field.{field, with_field}
-use Rattle.wire_field.specs.Loan.{Holds}
+use Rattle.wire_field.specs.Borrow.{Holds}
 use Rattle.wire_checksum.specs.PseudoHeader.{with_pseudo_header}
 use Rattle.wire_checksum.specs.WordSum.{sum_of_bytes, updated}
 use Rattle.wire_icmp.specs.declared.icmp.header.IcmpHeader.{IcmpHeader}

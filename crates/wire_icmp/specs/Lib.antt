@@ -1,4 +1,4 @@
 pub mod Icmp
 pub mod IcmpFields
-pub mod IcmpLoan
+pub mod IcmpBorrow
 pub mod IcmpText

@@ -1,7 +1,7 @@
 //! Laws of ICMP. A law states a fact about definitions, or about the calls in its body.
 
 ghost use Rattle.std.specs.Prelude.{◌≡◌, ◌≢◌, ◌↔◌, ◌%◌, ◌≤◌, IsTrue, List, Some, false, length, not, true, ℕ};
-ghost use Rattle.wire_ends.specs.IpAddress.{octets_of, version_of};
+ghost use Rattle.wire_ends.specs.IpAddress.{address_bytes, version_of};
 ghost use Rattle.wire_ends.specs.declared.ip_address.IpAddress.{IpAddress};
 ghost use Rattle.wire_field.specs.Diagram.{nth_field, with_nth};
 ghost use Rattle.wire_icmp.specs.Icmp.{HasHeader, IsExact, IsNormal, Reads, Verifies, bytes_of, icmp_of, packet_bytes, packet_bytes_mut, payload_of, with_checksum};
@@ -10,7 +10,7 @@ ghost use Rattle.wire_icmp.specs.declared.icmp.repr.IcmpRepr.{IcmpRepr};
 
 use crate::icmp::{IcmpPacket, IcmpPacketMut, IcmpRepr};
 use wire_ends::{IpAddress, IpVersion};
-use wire_field::laws::octets_fit;
+use wire_field::laws::bytes_fit;
 
 /// The emitted message parses as the normal form of the value, and as the same payload. A checksum
 /// that is verified must have been computed.
@@ -188,7 +188,7 @@ pub fn fill_checksum_writes_one_field_icmp(
     ensures fields { packet_bytes_mut packet.new ≡ after_fill src_addr dst_addr (packet_bytes_mut packet.old) }
     ensures valid { Verifies src_addr dst_addr (packet_bytes_mut packet.new) }
 {
-    octets_fit(packet.as_bytes());
+    bytes_fit(packet.as_bytes());
     packet.fill_checksum(&src_addr, &dst_addr);
 }
 
@@ -206,10 +206,10 @@ pub fn update_ident_writes_two_fields_icmp(packet: &mut IcmpPacketMut<'_>, ident
     requires { HasHeader (packet_bytes_mut packet.old) }
     ensures fields { let bytes = packet_bytes_mut packet.old in
         packet_bytes_mut packet.new ≡ with_sums (nth_field echo_diagram 3 bytes) ident (with_nth echo_diagram 3 ident bytes) }
-    ensures valid { (src dst : IpAddress) → length (octets_of src) % 2 ≡ 0 → length (octets_of dst) % 2 ≡ 0
+    ensures valid { (src dst : IpAddress) → length (address_bytes src) % 2 ≡ 0 → length (address_bytes dst) % 2 ≡ 0
         → Verifies src dst (packet_bytes_mut packet.old) → Verifies src dst (packet_bytes_mut packet.new) }
 {
-    octets_fit(packet.as_bytes());
+    bytes_fit(packet.as_bytes());
     packet.update_echo_ident(ident);
 }
 

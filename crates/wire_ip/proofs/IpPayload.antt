@@ -11,11 +11,11 @@ use Rattle.wire_ip.specs.declared.ip.repr.IpRepr.TheVariants.{Ipv4, Ipv6}
 pub payload-len : (bytes : List ℕ) (verified : Bool) (v : IpRepr) → ReadsHeader bytes verified v → length (payload_of bytes (version_of v)) ≡ payload_len_of v
 payload-len bytes verified (Ipv4 v) r =
     let n = ipv4.header_len bytes in
-    let behind = length-drop n bytes in
-    length-take-le (ipv4.total_len bytes - n) (drop n bytes) (omega (arith, behind, r.lengths.whole)) ∙ sym r.payload_len
+    let following = length-drop n bytes in
+    length-take-le (ipv4.total_len bytes - n) (drop n bytes) (omega (arith, following, r.lengths.whole)) ∙ sym r.payload_len
 payload-len bytes verified (Ipv6 v) r =
-    let behind = length-drop 40 bytes in
-    length-take-le (ipv6.total_len bytes - 40) (drop 40 bytes) (omega (arith, behind, r.lengths)) ∙ omega (arith, r.payload_len)
+    let following = length-drop 40 bytes in
+    length-take-le (ipv6.total_len bytes - 40) (drop 40 bytes) (omega (arith, following, r.lengths)) ∙ omega (arith, r.payload_len)
 
 -- a header can express the payload length of a parsed value
 pub payload-fits : (bytes : List ℕ) (verified : Bool) (v : IpRepr) → ReadsHeader bytes verified v → payload_len_of v ≤ max_payload_len v

@@ -1,7 +1,7 @@
 -- A header in which one field changed.
 use Rattle.std.proofs.Common.{ℕ, ◌≡◌, ◌≤◌, ◌<◌, ◌+◌, ◌*◌, ◌⊎◌, inl, inr, Bool, false, IsTrue, List, ◌++◌, drop, length, refl, sym, ap, ◌∙◌, arith}
 use Rattle.wire_field.specs.Field.{IsApart, field, with_field, with_range}
-use Rattle.wire_field.proofs.Behind.{drop-with_field}
+use Rattle.wire_field.proofs.Following.{drop-with_field}
 use Rattle.wire_field.proofs.Cells.{cells, cells-all, cells-drop}
 use Rattle.wire_field.proofs.Spelled.{AreBytes}
 use Rattle.wire_field.proofs.Written.{field_with_field_other, length_with_field}

@@ -4,7 +4,7 @@ use Rattle.std.specs.Borrow.{Bor, MutBor}
 use Rattle.std.specs.Option.{option_map_or}
 use Rattle.byteorder.specs.Endian.{big_bytes}
 use Rattle.wire_field.specs.Field.{field}
-use Rattle.wire_field.specs.Loan.{Holds}
+use Rattle.wire_field.specs.Borrow.{Holds}
 use Rattle.wire_ipv6.specs.declared.ipv6fragment.header.Ipv6FragmentView.{Ipv6FragmentView}
 use Rattle.wire_ipv6.specs.declared.ipv6fragment.repr.Ipv6FragmentRepr.{Ipv6FragmentRepr}
 

@@ -12,7 +12,7 @@ use crate::ipv6::{IPV6_HEADER_LEN, Ipv6Packet, Ipv6PacketMut, Ipv6Repr};
 use crate::ipv6fragment::{Ipv6FragmentHeader, Ipv6FragmentHeaderMut, Ipv6FragmentRepr};
 use wire_addr::Ipv6Address;
 use wire_ends::IpProtocol;
-use wire_field::laws::octets_fit;
+use wire_field::laws::bytes_fit;
 
 /// The header of a value, with its payload and any bytes after it, parses as the value's normal
 /// form.
@@ -135,7 +135,7 @@ pub fn getters_read_fields_ipv6(packet: &Ipv6Packet<'_>, getting: Ipv6Getting) -
     requires { 40 ≤ length (ipv6.packet_bytes packet.now) }
     ensures { result ≡ ipv6_fields.got getting (ipv6.packet_bytes packet.now) }
 {
-    octets_fit(packet.as_bytes());
+    bytes_fit(packet.as_bytes());
     match getting {
         Ipv6Getting::Version => packet.version().into(),
         Ipv6Getting::TrafficClass => packet.traffic_class().into(),

@@ -11,14 +11,14 @@ from_here None type rest = lladdr_of type rest
 from_here (Some lladdr) type rest = option_map (λ options. Some lladdr) (options_of rest)
 
 -- the first option has the length that it says
-pub first_option-parts : (bytes option behind : List ℕ) → first_option bytes ≡ Some (option, behind)
-    → let len = 8 * slice_index bytes 1 in (0 < len) × (len ≤ length bytes) × (option ≡ take len bytes) × (behind ≡ drop len bytes)
-first_option-parts bytes option behind is = grind (arith, nat_tests)
+pub first_option-parts : (bytes option following : List ℕ) → first_option bytes ≡ Some (option, following)
+    → let len = 8 * slice_index bytes 1 in (0 < len) × (len ≤ length bytes) × (option ≡ take len bytes) × (following ≡ drop len bytes)
+first_option-parts bytes option following is = grind (arith, nat_tests)
 
 -- the bytes after it are fewer
-pub first_option-shorter : (bytes option behind : List ℕ) → first_option bytes ≡ Some (option, behind) → length behind < length bytes
-first_option-shorter bytes option behind is =
-    let (some, whole, front, rest) = first_option-parts bytes option behind is in
+pub first_option-shorter : (bytes option following : List ℕ) → first_option bytes ≡ Some (option, following) → length following < length bytes
+first_option-shorter bytes option following is =
+    let (some, whole, front, rest) = first_option-parts bytes option following is in
     rw rest (omega (arith, length-drop (8 * slice_index bytes 1) bytes))
 
 -- no more steps are needed than there are bytes
@@ -27,15 +27,15 @@ unfolding options_within
 within-enough n m [] p q = refl
 within-enough zero m (b ∷ bs) p q = absurd (omega (arith, p))
 within-enough (suc n) zero (b ∷ bs) p q = absurd (omega (arith, q))
-within-enough (suc n) (suc m) (b ∷ bs) p q = by_first (λ behind. within-enough n m behind) (first_option (b ∷ bs)) refl
+within-enough (suc n) (suc m) (b ∷ bs) p q = by_first (λ following. within-enough n m following) (first_option (b ∷ bs)) refl
   where
-    by_first : ((behind : List ℕ) → length behind ≤ n → length behind ≤ m → options_within n behind ≡ options_within m behind)
+    by_first : ((following : List ℕ) → length following ≤ n → length following ≤ m → options_within n following ≡ options_within m following)
         → (d : Option (List ℕ × List ℕ)) → first_option (b ∷ bs) ≡ d
         → option_and_then (λ d. option_map (λ options. d.0 ∷ options) (options_within n d.1)) d ≡ option_and_then (λ d. option_map (λ options. d.0 ∷ options) (options_within m d.1)) d
     by_first same None is = refl
-    by_first same (Some (option, behind)) is =
-        let less = first_option-shorter (b ∷ bs) option behind is in
-        ap (option_map (λ options. option ∷ options)) (same behind (omega (arith, less, p)) (omega (arith, less, q)))
+    by_first same (Some (option, following)) is =
+        let less = first_option-shorter (b ∷ bs) option following is in
+        ap (option_map (λ options. option ∷ options)) (same following (omega (arith, less, p)) (omega (arith, less, q)))
 
 -- the options are the first one and those after it
 pub options_of-step : (b : ℕ) (bs : List ℕ) → options_of (b ∷ bs) ≡ option_and_then (λ d. option_map (λ options. d.0 ∷ options) (options_of d.1)) (first_option (b ∷ bs))
@@ -45,14 +45,14 @@ options_of-step b bs = by_first (first_option (b ∷ bs)) refl
     by_first : (d : Option (List ℕ × List ℕ)) → first_option (b ∷ bs) ≡ d
         → option_and_then (λ d. option_map (λ options. d.0 ∷ options) (options_within (length bs) d.1)) d ≡ option_and_then (λ d. option_map (λ options. d.0 ∷ options) (options_of d.1)) d
     by_first None is = refl
-    by_first (Some (option, behind)) is =
-        let less = first_option-shorter (b ∷ bs) option behind is in
-        ap (option_map (λ options. option ∷ options)) (within-enough (length bs) (length behind) behind (omega (arith, less)) (omega (arith)))
+    by_first (Some (option, following)) is =
+        let less = first_option-shorter (b ∷ bs) option following is in
+        ap (option_map (λ options. option ∷ options)) (within-enough (length bs) (length following) following (omega (arith, less)) (omega (arith)))
 
 -- the options after the first one was read
-pub options_of-first : (rest option behind : List ℕ) → first_option rest ≡ Some (option, behind) → options_of rest ≡ option_map (λ options. option ∷ options) (options_of behind)
-options_of-first [] option behind is = absurd (cc)
-options_of-first (b ∷ bs) option behind is = options_of-step b bs ∙ ap (option_and_then (λ d. option_map (λ options. d.0 ∷ options) (options_of d.1))) is
+pub options_of-first : (rest option following : List ℕ) → first_option rest ≡ Some (option, following) → options_of rest ≡ option_map (λ options. option ∷ options) (options_of following)
+options_of-first [] option following is = absurd (cc)
+options_of-first (b ∷ bs) option following is = options_of-step b bs ∙ ap (option_and_then (λ d. option_map (λ options. d.0 ∷ options) (options_of d.1))) is
 
 -- ---- steps of the walk
 
@@ -62,37 +62,37 @@ broken None type (b ∷ bs) some is = rw (options_of-step b bs, is) refl
 broken (Some lladdr) type (b ∷ bs) some is = rw (options_of-step b bs, is) refl
 
 -- an option of another type is skipped
-pub skipped : (found : Option EthernetAddress) (type : ℕ) (rest option behind : List ℕ) → first_option rest ≡ Some (option, behind)
-    → slice_index option 0 ≢ type → from_here found type rest ≡ from_here found type behind
-skipped found type rest option behind is other = by (options_of behind) refl found
+pub skipped : (found : Option EthernetAddress) (type : ℕ) (rest option following : List ℕ) → first_option rest ≡ Some (option, following)
+    → slice_index option 0 ≢ type → from_here found type rest ≡ from_here found type following
+skipped found type rest option following is other = by (options_of following) refl found
   where
-    by : (o : Option (List (List ℕ))) → options_of behind ≡ o → (found : Option EthernetAddress) → from_here found type rest ≡ from_here found type behind
-    by None e None = rw (options_of-first rest option behind is, e) refl
-    by None e (Some a) = rw (options_of-first rest option behind is, e) refl
-    by (Some options) e None = rw (options_of-first rest option behind is, e) (grind (arith, nat_tests))
-    by (Some options) e (Some a) = rw (options_of-first rest option behind is, e) refl
+    by : (o : Option (List (List ℕ))) → options_of following ≡ o → (found : Option EthernetAddress) → from_here found type rest ≡ from_here found type following
+    by None e None = rw (options_of-first rest option following is, e) refl
+    by None e (Some a) = rw (options_of-first rest option following is, e) refl
+    by (Some options) e None = rw (options_of-first rest option following is, e) (grind (arith, nat_tests))
+    by (Some options) e (Some a) = rw (options_of-first rest option following is, e) refl
 
 -- after the first option of the type each option is skipped
-pub passed : (found : Option EthernetAddress) (type : ℕ) (rest option behind : List ℕ) → first_option rest ≡ Some (option, behind)
-    → is_none found ≡ false → from_here found type rest ≡ from_here found type behind
-passed None type rest option behind is some = absurd (cc)
-passed (Some lladdr) type rest option behind is some = by (options_of behind) refl
+pub passed : (found : Option EthernetAddress) (type : ℕ) (rest option following : List ℕ) → first_option rest ≡ Some (option, following)
+    → is_none found ≡ false → from_here found type rest ≡ from_here found type following
+passed None type rest option following is some = absurd (cc)
+passed (Some lladdr) type rest option following is some = by (options_of following) refl
   where
-    by : (o : Option (List (List ℕ))) → options_of behind ≡ o → from_here (Some lladdr) type rest ≡ from_here (Some lladdr) type behind
-    by None e = rw (options_of-first rest option behind is, e) refl
-    by (Some options) e = rw (options_of-first rest option behind is, e) refl
+    by : (o : Option (List (List ℕ))) → options_of following ≡ o → from_here (Some lladdr) type rest ≡ from_here (Some lladdr) type following
+    by None e = rw (options_of-first rest option following is, e) refl
+    by (Some options) e = rw (options_of-first rest option following is, e) refl
 
 -- the first option of the type, with an address or without
-pub found : (a : Option (Option EthernetAddress)) (type : ℕ) (rest option behind : List ℕ) → first_option rest ≡ Some (option, behind)
-    → slice_index option 0 ≡ type → lladdr_in (Some option) ≡ a → from_here None type rest ≡ option_and_then (λ lladdr. option_map (λ options. lladdr) (options_of behind)) a
-found a type rest option behind is of_type has = by (options_of behind) refl a has
+pub found : (a : Option (Option EthernetAddress)) (type : ℕ) (rest option following : List ℕ) → first_option rest ≡ Some (option, following)
+    → slice_index option 0 ≡ type → lladdr_in (Some option) ≡ a → from_here None type rest ≡ option_and_then (λ lladdr. option_map (λ options. lladdr) (options_of following)) a
+found a type rest option following is of_type has = by (options_of following) refl a has
   where
-    by : (o : Option (List (List ℕ))) → options_of behind ≡ o → (a : Option (Option EthernetAddress)) → lladdr_in (Some option) ≡ a
-        → from_here None type rest ≡ option_and_then (λ lladdr. option_map (λ options. lladdr) (options_of behind)) a
-    by None e None has = rw (options_of-first rest option behind is, e) refl
-    by None e (Some a) has = rw (options_of-first rest option behind is, e) refl
-    by (Some options) e None has = rw (options_of-first rest option behind is, e) (grind (arith, nat_tests))
-    by (Some options) e (Some a) has = rw (options_of-first rest option behind is, e) (grind (arith, nat_tests))
+    by : (o : Option (List (List ℕ))) → options_of following ≡ o → (a : Option (Option EthernetAddress)) → lladdr_in (Some option) ≡ a
+        → from_here None type rest ≡ option_and_then (λ lladdr. option_map (λ options. lladdr) (options_of following)) a
+    by None e None has = rw (options_of-first rest option following is, e) refl
+    by None e (Some a) has = rw (options_of-first rest option following is, e) refl
+    by (Some options) e None has = rw (options_of-first rest option following is, e) (grind (arith, nat_tests))
+    by (Some options) e (Some a) has = rw (options_of-first rest option following is, e) (grind (arith, nat_tests))
 
 -- at the end nothing is left
 pub ended : (found : Option EthernetAddress) (type : ℕ) (rest : List ℕ) → length rest ≤ 0 → from_here found type rest ≡ Some found

@@ -12,9 +12,9 @@ use Rattle.wire_ndisc.proofs.Options.{first_option-parts, options_of-first}
 use Rattle.wire_ndisc.specs.NdOption.{AreOptions, HasLladdr, IsLladdr, IsNdOption, first_of, first_option, lladdr_in, lladdr_of, options_of, options_within}
 
 -- what is found first is an option, and the bytes are it and those after it
-first_option-is : (bytes option behind : List ℕ) → first_option bytes ≡ Some (option, behind) → IsNdOption option × (bytes ≡ option ++ behind)
-first_option-is bytes option behind is =
-    let (some, whole, front, rest) = first_option-parts bytes option behind is in
+first_option-is : (bytes option following : List ℕ) → first_option bytes ≡ Some (option, following) → IsNdOption option × (bytes ≡ option ++ following)
+first_option-is bytes option following is =
+    let (some, whole, front, rest) = first_option-parts bytes option following is in
     let len = 8 * slice_index bytes 1 in
     let unit : slice_index option 1 ≡ slice_index bytes 1 = ap (λ o. slice_index o 1) front ∙ get_or-take len bytes 1 0 (omega arith) in
     let long : length option ≡ len = ap length front ∙ length-take-le len bytes whole in (
@@ -23,35 +23,35 @@ first_option-is bytes option behind is =
     )
 
 -- an option is found first of bytes that it begins
-is-first_option : (option behind : List ℕ) → IsNdOption option → first_option (option ++ behind) ≡ Some (option, behind)
-is-first_option option behind is =
+is-first_option : (option following : List ℕ) → IsNdOption option → first_option (option ++ following) ≡ Some (option, following)
+is-first_option option following is =
     let long : 8 ≤ length option = omega (arith, is.some, is.whole) in
-    let unit : slice_index (option ++ behind) 1 ≡ slice_index option 1 = get_or-append option behind 0 1 (omega (arith, long)) in
-    let all : length (option ++ behind) ≡ length option + length behind = length-append option behind in
-    rw (unit, ← is.whole, take-append_seam option behind, drop-append_seam option behind) (grind (arith, nat_tests))
+    let unit : slice_index (option ++ following) 1 ≡ slice_index option 1 = get_or-append option following 0 1 (omega (arith, long)) in
+    let all : length (option ++ following) ≡ length option + length following = length-append option following in
+    rw (unit, ← is.whole, take-append_seam option following, drop-append_seam option following) (grind (arith, nat_tests))
 
 -- what is computed are the options
 options_within-are : (n : ℕ) (bytes : List ℕ) (options : List (List ℕ)) → options_within n bytes ≡ Some options → AreOptions bytes options
 unfolding options_within
 options_within-are n [] options is = let none : [] ≡ options = same_Some [] options is in rw (← none) (record { each = search; joined = refl })
 options_within-are zero (b ∷ bs) options is = absurd (cc)
-options_within-are (suc n) (b ∷ bs) options is = by (λ behind os. options_within-are n behind os) (first_option (b ∷ bs)) refl is
+options_within-are (suc n) (b ∷ bs) options is = by (λ following os. options_within-are n following os) (first_option (b ∷ bs)) refl is
   where
-    by_rest : (option behind : List ℕ) → first_option (b ∷ bs) ≡ Some (option, behind)
-        → ((os : List (List ℕ)) → options_within n behind ≡ Some os → AreOptions behind os)
-        → (r : Option (List (List ℕ))) → options_within n behind ≡ r → option_map (λ os. option ∷ os) r ≡ Some options → AreOptions (b ∷ bs) options
-    by_rest option behind first inner None e is = absurd (cc)
-    by_rest option behind first inner (Some os) e is =
-        let (valid, joined) = first_option-is (b ∷ bs) option behind first in
+    by_rest : (option following : List ℕ) → first_option (b ∷ bs) ≡ Some (option, following)
+        → ((os : List (List ℕ)) → options_within n following ≡ Some os → AreOptions following os)
+        → (r : Option (List (List ℕ))) → options_within n following ≡ r → option_map (λ os. option ∷ os) r ≡ Some options → AreOptions (b ∷ bs) options
+    by_rest option following first inner None e is = absurd (cc)
+    by_rest option following first inner (Some os) e is =
+        let (valid, joined) = first_option-is (b ∷ bs) option following first in
         let rest = inner os e in
         let all : option ∷ os ≡ options = same_Some (option ∷ os) options is in
         rw (← all) (record { each = (valid, rest.each); joined = joined ∙ ap (λ r. option ++ r) rest.joined })
 
-    by : ((behind : List ℕ) (os : List (List ℕ)) → options_within n behind ≡ Some os → AreOptions behind os)
+    by : ((following : List ℕ) (os : List (List ℕ)) → options_within n following ≡ Some os → AreOptions following os)
         → (d : Option (List ℕ × List ℕ)) → first_option (b ∷ bs) ≡ d
         → option_and_then (λ d. option_map (λ options. d.0 ∷ options) (options_within n d.1)) d ≡ Some options → AreOptions (b ∷ bs) options
     by inner None first is = absurd (cc)
-    by inner (Some (option, behind)) first is = by_rest option behind first (inner behind) (options_within n behind) refl is
+    by inner (Some (option, following)) first is = by_rest option following first (inner following) (options_within n following) refl is
 
 -- and options are computed
 are-options_of : (options : List (List ℕ)) → AllByRecursion IsNdOption options → options_of (concat options) ≡ Some options

@@ -24,8 +24,8 @@ use Rattle.wire_ndisc.specs.declared.ndisc.repr.NdiscRepr.TheVariants.{NeighborS
 
 -- the addresses have their lengths
 pub record IsInRange (v : NdiscRepr) (src dst : List ℕ) : Type 0 where
-  pub src_octets : length src ≡ 16
-  pub dst_octets : length dst ≡ 16
+  pub src_bytes : length src ≡ 16
+  pub dst_bytes : length dst ≡ 16
   pub target : length (target_of v) ≡ 16
   pub lladdr : (address : EthernetAddress) → address_in v ≡ Some address → length address.0 ≡ 6
 
@@ -116,7 +116,7 @@ reads-message v src dst checksum verified fits allowed sound =
 pub reads_bytes_of : (v : NdiscRepr) (src dst : List ℕ) (computed verified : Bool) → IsInRange v src dst → IsAllowed v src dst → (IsTrue verified → IsTrue computed)
     → Reads (bytes_of v src dst computed) src dst 255 verified v
 reads_bytes_of v src dst computed verified fits allowed sound =
-    reads-message v src dst _ verified fits allowed (verified-verifies v src dst computed verified fits.src_octets fits.dst_octets sound)
+    reads-message v src dst _ verified fits allowed (verified-verifies v src dst computed verified fits.src_bytes fits.dst_bytes sound)
 
 -- ---- lengths
 

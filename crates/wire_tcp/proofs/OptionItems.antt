@@ -55,18 +55,18 @@ listed (suc n) (zero ∷ rest) items e = nothing (0 ∷ rest) items refl (sym (a
 listed (suc n) (suc kind ∷ rest) items e =
     let bytes = suc kind ∷ rest in
     let some : suc kind ≢ 0 = λ z. absurd (omega (arith, z)) in
-    let (d, xs, first, behind, joined) = after n (first_item bytes) items (sym (at_item n (suc kind) rest some) ∙ e) in
-    subst (Listed bytes) joined (more bytes d.0 d.1 xs (first_item-Leads bytes d.0 d.1 first) (listed n d.1 xs behind))
+    let (d, xs, first, following, joined) = after n (first_item bytes) items (sym (at_item n (suc kind) rest some) ∙ e) in
+    subst (Listed bytes) joined (more bytes d.0 d.1 xs (first_item-Leads bytes d.0 d.1 first) (listed n d.1 xs following))
 
 stepped : (i : Item) (items : List Item) (rest r bytes : List ℕ) (n : ℕ) → IsItem i → bytes ≡ text i ++ rest → bytes ≡ i.kind ∷ r
     → length rest < length bytes → length bytes ≤ n → ((m : ℕ) → length rest ≤ m → items_within m rest ≡ Some items) → items_within n bytes ≡ Some (i ∷ items)
-stepped i items rest r bytes zero is joined cells less room behind = absurd (omega (arith, less, room))
-stepped i items rest r bytes (suc n) is joined cells less room behind =
+stepped i items rest r bytes zero is joined cells less room following = absurd (omega (arith, less, room))
+stepped i items rest r bytes (suc n) is joined cells less room following =
     let above = is.above in
     ap (items_within (suc n)) cells
     ∙ at_item n i.kind r (λ z. absurd (omega (arith, z, above)))
     ∙ ap (option_and_then (then_more n)) (ap first_item (sym cells) ∙ Leads-first_item bytes i rest (record { is = is; joined = joined }))
-    ∙ ap (option_map (λ items. i ∷ items)) (behind n (omega (arith, less, room)))
+    ∙ ap (option_map (λ items. i ∷ items)) (following n (omega (arith, less, room)))
 
 -- an option list is the computed one
 computed : (items : List Item) (tail : List ℕ) (n : ℕ) → AllByRecursion IsItem items → IsTail tail → length (texts items ++ tail) ≤ n → items_within n (texts items ++ tail) ≡ Some items

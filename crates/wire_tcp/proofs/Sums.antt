@@ -12,7 +12,7 @@ use Rattle.wire_checksum.proofs.Residues.{residue-complement}
 use Rattle.wire_checksum.proofs.Updated.{full, stays_valid, updated-small}
 use Rattle.wire_checksum.specs.PseudoHeader.{with_pseudo_header}
 use Rattle.wire_checksum.specs.WordSum.{residue, sum_of_bytes, updated, words}
-use Rattle.wire_ends.specs.IpAddress.{octets_of}
+use Rattle.wire_ends.specs.IpAddress.{address_bytes}
 use Rattle.wire_ends.specs.declared.ip_protocol.IpProtocol.TheVariants as protocol
 use Rattle.wire_tcp.specs.Tcp.{Verifies, segment_sum, with_checksum, with_updated_checksum}
 use Rattle.std.proofs.lemmas.Grind.{common_steps}
@@ -23,7 +23,7 @@ abbrev pseudo : IpAddress → IpAddress → ℕ → ℕ
 pseudo src dst n = pseudo_header_total src dst protocol.Tcp n
 
 -- the total of a segment is that of its pseudo-header and its own
-total : (src dst : IpAddress) (bytes : List ℕ) (n : ℕ) → length (octets_of src) % 2 ≡ 0 → length (octets_of dst) % 2 ≡ 0 → length bytes ≡ n
+total : (src dst : IpAddress) (bytes : List ℕ) (n : ℕ) → length (address_bytes src) % 2 ≡ 0 → length (address_bytes dst) % 2 ≡ 0 → length bytes ≡ n
     → sum (words (with_pseudo_header src dst protocol.Tcp bytes)) ≡ pseudo src dst n + sum (words bytes)
 total src dst bytes n s d long =
     sum-with_pseudo_header src dst protocol.Tcp bytes s d ∙ ap (λ (m : ℕ). pseudo src dst m + sum (words bytes)) long
@@ -40,7 +40,7 @@ unfolding words
 zeroed bytes room = rw (cells-drop 18 bytes room) (omega arith)
 
 -- a segment whose checksum was filled in is valid
-pub verifies : (src dst : IpAddress) (bytes : List ℕ) → length (octets_of src) % 2 ≡ 0 → length (octets_of dst) % 2 ≡ 0 → 18 ≤ length bytes → Verifies src dst (with_checksum src dst bytes)
+pub verifies : (src dst : IpAddress) (bytes : List ℕ) → length (address_bytes src) % 2 ≡ 0 → length (address_bytes dst) % 2 ≡ 0 → 18 ≤ length bytes → Verifies src dst (with_checksum src dst bytes)
 verifies src dst bytes s d room =
     let zero = with_field bytes 128 16 0 in
     let n = length bytes in
@@ -57,7 +57,7 @@ verifies src dst bytes s d room =
 
 -- a valid checksum stays valid if it is updated with the change of what it covers
 pub valid-updated : (src dst src' dst' : IpAddress) (bytes changed : List ℕ) (old new : ℕ) → AreBytes changed
-    → length (octets_of src) % 2 ≡ 0 → length (octets_of dst) % 2 ≡ 0 → length (octets_of src') % 2 ≡ 0 → length (octets_of dst') % 2 ≡ 0
+    → length (address_bytes src) % 2 ≡ 0 → length (address_bytes dst) % 2 ≡ 0 → length (address_bytes src') % 2 ≡ 0 → length (address_bytes dst') % 2 ≡ 0
     → 18 ≤ length changed → length changed ≡ length bytes
     → pseudo src' dst' (length bytes) + sum (words changed) + old ≡ pseudo src dst (length bytes) + sum (words bytes) + new
     → Verifies src dst bytes → Verifies src' dst' (with_updated_checksum changed (residue old) (residue new))
@@ -74,7 +74,7 @@ valid-updated src dst src' dst' bytes changed old new are s d s' d' room long ch
     c old new (omega arith) change (omega (arith, written)) (omega (arith, zeroed)) (ap residue (sym (total src dst bytes n s d refl)) ∙ valid)
 
 -- the same for one word before the checksum, as a port
-pub valid_word : (src dst : IpAddress) (bytes : List ℕ) (i x : ℕ) → AreBytes bytes → x < 65536 → i < 8 → length (octets_of src) % 2 ≡ 0 → length (octets_of dst) % 2 ≡ 0 → 18 ≤ length bytes
+pub valid_word : (src dst : IpAddress) (bytes : List ℕ) (i x : ℕ) → AreBytes bytes → x < 65536 → i < 8 → length (address_bytes src) % 2 ≡ 0 → length (address_bytes dst) % 2 ≡ 0 → 18 ≤ length bytes
     → Verifies src dst bytes → Verifies src dst (with_updated_checksum (with_field bytes (16 * i) 16 x) (field bytes (16 * i) 16) x)
 valid_word src dst bytes i x are fits front s d room valid =
     let changed = with_field bytes (16 * i) 16 x in
@@ -85,19 +85,19 @@ valid_word src dst bytes i x are fits front s d room valid =
     (omega (arith, sum-words-with_field bytes i x are (omega (arith, room, front)) fits)) valid)
 
 -- the same for one address of the pseudo-header
-pub valid-src_addr : (old dst new : IpAddress) (bytes : List ℕ) → AreBytes bytes → length (octets_of old) % 2 ≡ 0 → length (octets_of dst) % 2 ≡ 0 → length (octets_of new) % 2 ≡ 0 → 18 ≤ length bytes
-    → Verifies old dst bytes → Verifies new dst (with_updated_checksum bytes (sum_of_bytes (octets_of old)) (sum_of_bytes (octets_of new)))
+pub valid-src_addr : (old dst new : IpAddress) (bytes : List ℕ) → AreBytes bytes → length (address_bytes old) % 2 ≡ 0 → length (address_bytes dst) % 2 ≡ 0 → length (address_bytes new) % 2 ≡ 0 → 18 ≤ length bytes
+    → Verifies old dst bytes → Verifies new dst (with_updated_checksum bytes (sum_of_bytes (address_bytes old)) (sum_of_bytes (address_bytes new)))
 valid-src_addr old dst new bytes are o d n room valid =
-    valid-updated old dst new dst bytes bytes (sum (words (octets_of old))) (sum (words (octets_of new))) are o d n d room refl (omega arith) valid
+    valid-updated old dst new dst bytes bytes (sum (words (address_bytes old))) (sum (words (address_bytes new))) are o d n d room refl (omega arith) valid
 
-pub valid-dst_addr : (src old new : IpAddress) (bytes : List ℕ) → AreBytes bytes → length (octets_of src) % 2 ≡ 0 → length (octets_of old) % 2 ≡ 0 → length (octets_of new) % 2 ≡ 0 → 18 ≤ length bytes
-    → Verifies src old bytes → Verifies src new (with_updated_checksum bytes (sum_of_bytes (octets_of old)) (sum_of_bytes (octets_of new)))
+pub valid-dst_addr : (src old new : IpAddress) (bytes : List ℕ) → AreBytes bytes → length (address_bytes src) % 2 ≡ 0 → length (address_bytes old) % 2 ≡ 0 → length (address_bytes new) % 2 ≡ 0 → 18 ≤ length bytes
+    → Verifies src old bytes → Verifies src new (with_updated_checksum bytes (sum_of_bytes (address_bytes old)) (sum_of_bytes (address_bytes new)))
 valid-dst_addr src old new bytes are s o n room valid =
-    valid-updated src old src new bytes bytes (sum (words (octets_of old))) (sum (words (octets_of new))) are s o s n room refl (omega arith) valid
+    valid-updated src old src new bytes bytes (sum (words (address_bytes old))) (sum (words (address_bytes new))) are s o s n room refl (omega arith) valid
 
 -- ---- a changed word
 
 -- changing one aligned word of a valid segment makes its checksum wrong, unless old and new word are congruent modulo 65535
-pub word_changed : (src dst : IpAddress) (bytes : List ℕ) (i x : ℕ) → length (octets_of src) % 2 ≡ 0 → length (octets_of dst) % 2 ≡ 0 → AreBytes bytes
+pub word_changed : (src dst : IpAddress) (bytes : List ℕ) (i x : ℕ) → length (address_bytes src) % 2 ≡ 0 → length (address_bytes dst) % 2 ≡ 0 → AreBytes bytes
     → 2 * i + 2 ≤ length bytes → x < 65536 → x % 65535 ≢ field bytes (16 * i) 16 % 65535 → Verifies src dst bytes → ¬ Verifies src dst (with_field bytes (16 * i) 16 x)
 word_changed src dst bytes i x s d are room fits changed holds = grind (arith, common_steps, nat_tests, full, total, length_with_field, sum-words-with_field)

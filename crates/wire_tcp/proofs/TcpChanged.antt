@@ -4,12 +4,12 @@ use Rattle.std.proofs.lemmas.Bool.Decides.{nat_tests}
 use Rattle.std.proofs.lemmas.List.{drop-drop}
 use Rattle.std.specs.Option.{option_map}
 use Rattle.wire_field.specs.Field.{field, with_field}
-use Rattle.wire_field.proofs.Behind.{drop-with_field}
+use Rattle.wire_field.proofs.Following.{drop-with_field}
 use Rattle.wire_field.proofs.Cells.{cells-drop}
 use Rattle.wire_field.proofs.Spelled.{AreBytes}
 use Rattle.wire_field.proofs.Written.{field_with_field_other, length_with_field}
 use Rattle.wire_ends.specs.declared.ip_address.IpAddress.{IpAddress}
-use Rattle.wire_ends.specs.IpAddress.{octets_of}
+use Rattle.wire_ends.specs.IpAddress.{address_bytes}
 use Rattle.wire_tcp.proofs.Sums.{verifies}
 use Rattle.wire_tcp.proofs.TcpComputed.{Reads-is, reads-with}
 use Rattle.wire_tcp.specs.Tcp.{Verifies, header_len, options_of, payload_of, with_checksum, with_flag}
@@ -27,17 +27,17 @@ use Rattle.std.proofs.lemmas.Grind.{common_steps}
 pub record Sets (old new : List ℕ) (f : TcpHeader → TcpHeader) : Type 0 where
   pub long : length new ≡ length old
   pub header : header_len new ≡ header_len old
-  pub behind : drop 20 new ≡ drop 20 old
+  pub following : drop 20 new ≡ drop 20 old
   pub values : (asked : TcpControl) (items : List Item) → header_with new asked items ≡ f (header_with old asked items)
 
 options_kept : (old new : List ℕ) → header_len new ≡ header_len old → drop 20 new ≡ drop 20 old → options_of new ≡ options_of old
-options_kept old new header behind = ap (take (header_len new - 20)) behind ∙ ap (λ (m : ℕ). take (m - 20) (drop 20 old)) header
+options_kept old new header following = ap (take (header_len new - 20)) following ∙ ap (λ (m : ℕ). take (m - 20) (drop 20 old)) header
 
 payload_kept : (old new : List ℕ) → header_len new ≡ header_len old → drop 20 new ≡ drop 20 old → 20 ≤ header_len old → payload_of new ≡ payload_of old
-payload_kept old new header behind least =
+payload_kept old new header following least =
     let n = header_len old in
     let e : n ≡ 20 + (n - 20) = omega (arith, least) in
-    ap (λ (k : ℕ). drop k new) (header ∙ e) ∙ sym (drop-drop (n - 20) 20 new) ∙ ap (drop (n - 20)) behind ∙ drop-drop (n - 20) 20 old ∙ ap (λ (k : ℕ). drop k old) (sym e)
+    ap (λ (k : ℕ). drop k new) (header ∙ e) ∙ sym (drop-drop (n - 20) 20 new) ∙ ap (drop (n - 20)) following ∙ drop-drop (n - 20) 20 old ∙ ap (λ (k : ℕ). drop k old) (sym e)
 
 -- the new bytes parse as the values that f makes of the old ones, with another control
 reads-set : (old new : List ℕ) (f : TcpHeader → TcpHeader) (src dst src' dst' : IpAddress) (verified checked : Bool) (v : TcpHeader) (payload : List ℕ) (asked : TcpControl)
@@ -47,8 +47,8 @@ reads-set old new f src dst src' dst' verified checked v payload asked r s valid
     let items = r.options.items in
     let is : header_with new asked items ≡ f (record v { control = asked }) =
     s.values asked items ∙ ap (λ (h : TcpHeader). f (record h { control = asked })) (Reads-is old src dst verified v payload r) in
-    let list = subst (λ (l : List ℕ). IsOptionList l items r.options.tail) (sym (options_kept old new s.header s.behind)) r.options.list in
-    let body : payload_of new ≡ payload = payload_kept old new s.header s.behind r.lengths.header ∙ sym r.body in
+    let list = subst (λ (l : List ℕ). IsOptionList l items r.options.tail) (sym (options_kept old new s.header s.following)) r.options.list in
+    let body : payload_of new ≡ payload = payload_kept old new s.header s.following r.lengths.header ∙ sym r.body in
     let read = reads-with new src' dst' checked asked items r.options.tail (record {
       lengths = record {
         least = omega (arith, s.long, r.lengths.least);
@@ -88,7 +88,7 @@ pub reads-src_port : (bytes : List ℕ) (x : ℕ) (src dst : IpAddress) (verifie
     → (IsTrue checked → Verifies src dst (with_field bytes 0 16 x)) → Reads (with_field bytes 0 16 x) src dst checked (record v { src_port = x }) payload
 reads-src_port bytes x src dst verified checked v payload fits some r valid =
     reads-kept bytes (with_field bytes 0 16 x) (λ h. record h { src_port = x }) src dst src dst verified checked v payload r
-    (rw (cells-drop 20 bytes r.lengths.least) (record { long = refl; header = refl; behind = refl; values = λ asked items. grind arith }, refl))
+    (rw (cells-drop 20 bytes r.lengths.least) (record { long = refl; header = refl; following = refl; values = λ asked items. grind arith }, refl))
     valid some (receiver_read bytes src dst verified v payload r)
 
 -- the same for the destination port
@@ -96,7 +96,7 @@ pub reads-dst_port : (bytes : List ℕ) (x : ℕ) (src dst : IpAddress) (verifie
     → (IsTrue checked → Verifies src dst (with_field bytes 16 16 x)) → Reads (with_field bytes 16 16 x) src dst checked (record v { dst_port = x }) payload
 reads-dst_port bytes x src dst verified checked v payload fits some r valid =
     reads-kept bytes (with_field bytes 16 16 x) (λ h. record h { dst_port = x }) src dst src dst verified checked v payload r
-    (rw (cells-drop 20 bytes r.lengths.least) (record { long = refl; header = refl; behind = refl; values = λ asked items. grind arith }, refl))
+    (rw (cells-drop 20 bytes r.lengths.least) (record { long = refl; header = refl; following = refl; values = λ asked items. grind arith }, refl))
     valid (sender_read bytes src dst verified v payload r) some
 
 -- writing another value leaves the ports
@@ -112,7 +112,7 @@ pub reads-window_len : (bytes : List ℕ) (x : ℕ) (src dst : IpAddress) (verif
     → (IsTrue checked → Verifies src dst (with_field bytes 112 16 x)) → Reads (with_field bytes 112 16 x) src dst checked (record v { window_len = x }) payload
 reads-window_len bytes x src dst verified checked v payload fits r valid =
     reads-value bytes (with_field bytes 112 16 x) (λ h. record h { window_len = x }) src dst src dst verified checked v payload r
-    (rw (cells-drop 20 bytes r.lengths.least) (record { long = refl; header = refl; behind = refl; values = λ asked items. grind arith }, refl))
+    (rw (cells-drop 20 bytes r.lengths.least) (record { long = refl; header = refl; following = refl; values = λ asked items. grind arith }, refl))
     valid refl refl
 
 -- writing the sequence number changes only the sequence number of the value
@@ -120,7 +120,7 @@ pub reads-seq_number : (bytes : List ℕ) (x : ℕ) (src dst : IpAddress) (v : T
     → Reads (with_field bytes 32 32 x) src dst false (record v { seq_number = seq_of x }) payload
 reads-seq_number bytes x src dst v payload fits r =
     reads-value bytes (with_field bytes 32 32 x) (λ h. record h { seq_number = seq_of x }) src dst src dst false false v payload r
-    (rw (cells-drop 20 bytes r.lengths.least) (record { long = refl; header = refl; behind = refl; values = λ asked items. grind arith }, refl))
+    (rw (cells-drop 20 bytes r.lengths.least) (record { long = refl; header = refl; following = refl; values = λ asked items. grind arith }, refl))
     (λ no. cc) refl refl
 
 -- writing the acknowledgement number changes only that number, if the value has one
@@ -129,7 +129,7 @@ pub reads-ack_number : (bytes : List ℕ) (x : ℕ) (src dst : IpAddress) (v : T
 reads-ack_number bytes x src dst v payload fits r =
     let set : TcpHeader → TcpHeader = λ h. record h { ack_number = option_map (λ (n : TcpSeqNumber). seq_of x) h.ack_number } in
     reads-value bytes (with_field bytes 64 32 x) set src dst src dst false false v payload r
-    (rw (cells-drop 20 bytes r.lengths.least) (record { long = refl; header = refl; behind = refl; values = λ asked items. grind (arith, nat_tests) }, refl))
+    (rw (cells-drop 20 bytes r.lengths.least) (record { long = refl; header = refl; following = refl; values = λ asked items. grind (arith, nat_tests) }, refl))
     (λ no. cc) refl refl
 
 -- ---- flags
@@ -139,7 +139,7 @@ pub reads-ack : (bytes : List ℕ) (on : Bool) (src dst : IpAddress) (v : TcpHea
     → Reads (with_flag bytes 107 on) src dst false (record v { ack_number = if on then Some (seq_of (field bytes 64 32)) else None }) payload
 reads-ack bytes on src dst v payload r =
     reads-value bytes (with_flag bytes 107 on) (λ h. record h { ack_number = if on then Some (seq_of (field bytes 64 32)) else None }) src dst src dst false false v payload r
-    (rw (cells-drop 20 bytes r.lengths.least) (record { long = refl; header = refl; behind = refl; values = λ asked items. grind (arith, nat_tests) }, grind arith))
+    (rw (cells-drop 20 bytes r.lengths.least) (record { long = refl; header = refl; following = refl; values = λ asked items. grind (arith, nat_tests) }, grind arith))
     (λ no. cc) refl refl
 
 -- a flag of the control is written: of RST, SYN and FIN at most the one of this control was set before, and now it is another control
@@ -161,25 +161,25 @@ pub reads-psh : (bytes : List ℕ) (on : Bool) (src dst : IpAddress) (v : TcpHea
     → Reads (with_flag bytes 108 on) src dst false (record v { control = if on then control.Psh else control.None }) payload
 reads-psh bytes on src dst v payload quiet r =
     reads-flag bytes (with_flag bytes 108 on) control.Psh (if on then control.Psh else control.None) src dst v payload (inl quiet) r
-    (rw (cells-drop 20 bytes r.lengths.least) (record { long = refl; header = refl; behind = refl; values = λ asked items. grind (arith, nat_tests) }, λ h. grind (arith, nat_tests)))
+    (rw (cells-drop 20 bytes r.lengths.least) (record { long = refl; header = refl; following = refl; values = λ asked items. grind (arith, nat_tests) }, λ h. grind (arith, nat_tests)))
 
 pub reads-rst : (bytes : List ℕ) (on : Bool) (src dst : IpAddress) (v : TcpHeader) (payload : List ℕ) → IsQuiet v.control ⊎ (v.control ≡ control.Rst) → Reads bytes src dst false v payload
     → Reads (with_flag bytes 109 on) src dst false (record v { control = if on then control.Rst else quiet_of bytes }) payload
 reads-rst bytes on src dst v payload before r =
     reads-flag bytes (with_flag bytes 109 on) control.Rst (if on then control.Rst else quiet_of bytes) src dst v payload before r
-    (rw (cells-drop 20 bytes r.lengths.least) (record { long = refl; header = refl; behind = refl; values = λ asked items. grind (arith, nat_tests) }, λ h. grind (arith, nat_tests)))
+    (rw (cells-drop 20 bytes r.lengths.least) (record { long = refl; header = refl; following = refl; values = λ asked items. grind (arith, nat_tests) }, λ h. grind (arith, nat_tests)))
 
 pub reads-syn : (bytes : List ℕ) (on : Bool) (src dst : IpAddress) (v : TcpHeader) (payload : List ℕ) → IsQuiet v.control ⊎ (v.control ≡ control.Syn) → Reads bytes src dst false v payload
     → Reads (with_flag bytes 110 on) src dst false (record v { control = if on then control.Syn else quiet_of bytes }) payload
 reads-syn bytes on src dst v payload before r =
     reads-flag bytes (with_flag bytes 110 on) control.Syn (if on then control.Syn else quiet_of bytes) src dst v payload before r
-    (rw (cells-drop 20 bytes r.lengths.least) (record { long = refl; header = refl; behind = refl; values = λ asked items. grind (arith, nat_tests) }, λ h. grind (arith, nat_tests)))
+    (rw (cells-drop 20 bytes r.lengths.least) (record { long = refl; header = refl; following = refl; values = λ asked items. grind (arith, nat_tests) }, λ h. grind (arith, nat_tests)))
 
 pub reads-fin : (bytes : List ℕ) (on : Bool) (src dst : IpAddress) (v : TcpHeader) (payload : List ℕ) → IsQuiet v.control ⊎ (v.control ≡ control.Fin) → Reads bytes src dst false v payload
     → Reads (with_flag bytes 111 on) src dst false (record v { control = if on then control.Fin else quiet_of bytes }) payload
 reads-fin bytes on src dst v payload before r =
     reads-flag bytes (with_flag bytes 111 on) control.Fin (if on then control.Fin else quiet_of bytes) src dst v payload before r
-    (rw (cells-drop 20 bytes r.lengths.least) (record { long = refl; header = refl; behind = refl; values = λ asked items. grind (arith, nat_tests) }, λ h. grind (arith, nat_tests)))
+    (rw (cells-drop 20 bytes r.lengths.least) (record { long = refl; header = refl; following = refl; values = λ asked items. grind (arith, nat_tests) }, λ h. grind (arith, nat_tests)))
 
 -- ---- what is in no value
 
@@ -188,7 +188,7 @@ pub reads_checksum : (bytes : List ℕ) (x : ℕ) (src dst src' dst' : IpAddress
     → (IsTrue checked → Verifies src' dst' (with_field bytes 128 16 x)) → Reads (with_field bytes 128 16 x) src' dst' checked v payload
 reads_checksum bytes x src dst src' dst' verified checked v payload r valid =
     reads-value bytes (with_field bytes 128 16 x) (λ h. h) src dst src' dst' verified checked v payload r
-    (rw (cells-drop 20 bytes r.lengths.least) (record { long = refl; header = refl; behind = refl; values = λ asked items. refl }, refl))
+    (rw (cells-drop 20 bytes r.lengths.least) (record { long = refl; header = refl; following = refl; values = λ asked items. refl }, refl))
     valid refl refl
 
 -- the same for bytes in which it was written
@@ -203,7 +203,7 @@ pub reads-verified : (bytes : List ℕ) (src dst src' dst' : IpAddress) (verifie
 reads-verified bytes src dst src' dst' verified checked v payload r valid = grind arith
 
 -- a checksum that is filled in
-pub reads-filled : (bytes : List ℕ) (src dst : IpAddress) (verified checked : Bool) (v : TcpHeader) (payload : List ℕ) → length (octets_of src) % 2 ≡ 0 → length (octets_of dst) % 2 ≡ 0
+pub reads-filled : (bytes : List ℕ) (src dst : IpAddress) (verified checked : Bool) (v : TcpHeader) (payload : List ℕ) → length (address_bytes src) % 2 ≡ 0 → length (address_bytes dst) % 2 ≡ 0
     → Reads bytes src dst verified v payload → Reads (with_checksum src dst bytes) src dst checked v payload
 reads-filled bytes src dst verified checked v payload s d r =
     reads_checksum (with_field bytes 128 16 0) _ src dst src dst false checked v payload (reads_checksum bytes 0 src dst src dst verified false v payload r (λ no. cc))
@@ -234,7 +234,7 @@ reads-unread bytes first width x src dst v payload are some place r =
       record {
         long = length_with_field bytes first width x some (omega (arith, room, inside));
         header = ap (λ (n : ℕ). 4 * n) offset;
-        behind = drop-with_field bytes first width x 20 some inside room;
+        following = drop-with_field bytes first width x 20 some inside room;
         values = same;
       },
       after 108 4 (omega arith) (omega arith) (omega arith),

@@ -35,7 +35,7 @@ pub empty : (bytes : List ℕ) (src dst : IpAddress) (verified : Bool) (v : TcpH
 empty bytes src dst verified v payload r =
     let size = payload-counted bytes src dst verified v payload r in (
       λ e. omega (arith, size, ap length e.0, quiet bytes v.control r.control e.1),
-      λ none. (let no_octet : length payload ≡ 0 = omega (arith, size, none) in grind (arith, common_steps), is_quiet bytes v.control r.control (omega (arith, none))),
+      λ none. (let no_byte : length payload ≡ 0 = omega (arith, size, none) in grind (arith, common_steps), is_quiet bytes v.control r.control (omega (arith, none))),
     )
 
 -- a test for 0 answers as another test that holds in the same cases

@@ -7,7 +7,7 @@ use Rattle.std.proofs.lemmas.Grind.{flat_map-append}
 use Rattle.std.proofs.Math.Dec.{eqb-suc-zero}
 use Rattle.wire_ends.specs.declared.ip_address.IpAddress.{IpAddress}
 use Rattle.wire_field.specs.Field.{with_field, with_range}
-use Rattle.wire_field.specs.Loan.{Holds}
+use Rattle.wire_field.specs.Borrow.{Holds}
 use Rattle.wire_tcp.specs.Tcp.{segment_sum, with_checksum}
 use Rattle.wire_tcp_parts.specs.TcpItems.{Item, item, texts}
 use Rattle.wire_tcp_parts.specs.TcpOption.{range_bytes}
@@ -77,27 +77,27 @@ pub holds_then : (a b c : MutBor (List ℕ)) (x y z : List ℕ) → Holds a b x 
 holds_then a b c x y z h k e = grind (arith, common_steps, nat_tests)
 
 -- a part after a front that is already written
-pub part_behind : (old b front part : List ℕ) (at end : ℕ) → b ≡ front ++ drop at old → at ≡ length front → end ≡ at + length part
+pub part_after : (old b front part : List ℕ) (at end : ℕ) → b ≡ front ++ drop at old → at ≡ length front → end ≡ at + length part
     → with_range b at end part ≡ (front ++ part) ++ drop end old
-part_behind old b front part at end is place long =
+part_after old b front part at end is place long =
     let head : take at b ≡ front = ap (take at) is ∙ take_at front (drop at old) at (sym place) in
     let rest : drop at b ≡ drop at old = ap (drop at) is ∙ drop_at front (drop at old) at (sym place) in
-    let behind : drop end b ≡ drop end old =
+    let following : drop end b ≡ drop end old =
     ap (λ (n : ℕ). drop n b) long ∙ sym (drop-drop (length part) at b) ∙ ap (drop (length part)) rest ∙ drop-drop (length part) at old ∙ ap (λ (n : ℕ). drop n old) (sym long) in
-    rw (head, behind) refl
+    rw (head, following) refl
 
 length-part : (front part : List ℕ) (at end : ℕ) → at ≡ length front → end ≡ at + length part → end ≡ length (front ++ part)
 length-part front part at end place long = long ∙ ap (λ (n : ℕ). n + length part) place ∙ sym (length-append front part)
 
 -- the options of a value in order, and zeros
-pub options_behind : (v : TcpHeader) (old b₁ b₂ b₃ b₄ b₅ : List ℕ) (a₁ a₂ a₃ a₄ end : ℕ) → end ≡ header_len_of v → 20 ≤ length old
+pub options_after : (v : TcpHeader) (old b₁ b₂ b₃ b₄ b₅ : List ℕ) (a₁ a₂ a₃ a₄ end : ℕ) → end ≡ header_len_of v → 20 ≤ length old
     → a₁ ≡ 20 + length (texts (segment_size_items v.max_seg_size)) → b₁ ≡ with_range old 20 a₁ (texts (segment_size_items v.max_seg_size))
     → a₂ ≡ a₁ + length (texts (window_scale_items v.window_scale)) → b₂ ≡ with_range b₁ a₁ a₂ (texts (window_scale_items v.window_scale))
     → a₃ ≡ a₂ + length (texts (sack_items v)) → b₃ ≡ with_range b₂ a₂ a₃ (texts (sack_items v))
     → a₄ ≡ a₃ + length (texts (timestamp_items v.timestamp)) → b₄ ≡ with_range b₃ a₃ a₄ (texts (timestamp_items v.timestamp))
     → b₅ ≡ with_range b₄ a₄ end (replicate (end - a₄) 0)
     → b₅ ≡ with_range old 20 end (option_bytes v)
-options_behind v old b₁ b₂ b₃ b₄ b₅ a₁ a₂ a₃ a₄ end size room p₁ q₁ p₂ q₂ p₃ q₃ p₄ q₄ q₅ =
+options_after v old b₁ b₂ b₃ b₄ b₅ a₁ a₂ a₃ a₄ end size room p₁ q₁ p₂ q₂ p₃ q₃ p₄ q₄ q₅ =
     let t₁ = texts (segment_size_items v.max_seg_size) in
     let t₂ = texts (window_scale_items v.window_scale) in
     let t₃ = texts (sack_items v) in
@@ -110,11 +110,11 @@ options_behind v old b₁ b₂ b₃ b₄ b₅ a₁ a₂ a₃ a₄ end size room 
     let long₂ = length-part (f₀ ++ t₁) t₂ a₁ a₂ long₁ p₂ in
     let long₃ = length-part ((f₀ ++ t₁) ++ t₂) t₃ a₂ a₃ long₂ p₃ in
     let long₄ = length-part (((f₀ ++ t₁) ++ t₂) ++ t₃) t₄ a₃ a₄ long₃ p₄ in
-    let e₁ = q₂ ∙ part_behind old b₁ (f₀ ++ t₁) t₂ a₁ a₂ q₁ long₁ p₂ in
-    let e₂ = q₃ ∙ part_behind old b₂ ((f₀ ++ t₁) ++ t₂) t₃ a₂ a₃ e₁ long₂ p₃ in
-    let e₃ = q₄ ∙ part_behind old b₃ (((f₀ ++ t₁) ++ t₂) ++ t₃) t₄ a₃ a₄ e₂ long₃ p₄ in
+    let e₁ = q₂ ∙ part_after old b₁ (f₀ ++ t₁) t₂ a₁ a₂ q₁ long₁ p₂ in
+    let e₂ = q₃ ∙ part_after old b₂ ((f₀ ++ t₁) ++ t₂) t₃ a₂ a₃ e₁ long₂ p₃ in
+    let e₃ = q₄ ∙ part_after old b₃ (((f₀ ++ t₁) ++ t₂) ++ t₃) t₄ a₃ a₄ e₂ long₃ p₄ in
     let last : end ≡ a₄ + length zeros = omega (arith, length-replicate {A = ℕ} (end - a₄) 0, size, all, p₁, p₂, p₃, p₄) in
-    let e₄ = q₅ ∙ part_behind old b₄ ((((f₀ ++ t₁) ++ t₂) ++ t₃) ++ t₄) zeros a₄ end e₃ long₄ last in
+    let e₄ = q₅ ∙ part_after old b₄ ((((f₀ ++ t₁) ++ t₂) ++ t₃) ++ t₄) zeros a₄ end e₃ long₄ last in
     let joined = texts_joined (segment_size_items v.max_seg_size) (window_scale_items v.window_scale) (sack_items v) (timestamp_items v.timestamp) in
     let front : (((f₀ ++ t₁) ++ t₂) ++ t₃) ++ t₄ ≡ f₀ ++ texts (items_of v) =
     rw (joined, append_assoc f₀ t₁ t₂, append_assoc f₀ (t₁ ++ t₂) t₃, append_assoc f₀ ((t₁ ++ t₂) ++ t₃) t₄) refl in
@@ -142,7 +142,7 @@ begins_fixed v payload rest bytes fixed is whole = grind arith
 header_written : (v : TcpHeader) (old with_fixed with_options : MutBor (List ℕ)) (fixed : List ℕ) (len : ℕ) → len ≡ header_len_of v → fixed ≡ fixed_of v
     → Holds old with_fixed (with_range old.now 0 (0 + length fixed) fixed) → Holds with_fixed with_options (with_range with_fixed.now 20 len (option_bytes v))
     → Holds old with_options (header_bytes v 0 ++ drop len old.now)
-header_written v old with_fixed with_options fixed len size is first options = grind (arith, common_steps, nat_tests, holds_then, part_behind, length-option_bytes)
+header_written v old with_fixed with_options fixed len size is first options = grind (arith, common_steps, nat_tests, holds_then, part_after, length-option_bytes)
 
 -- the header up to its options, the options and the payload, in order
 pub segment_written : (v : TcpHeader) (payload : List ℕ) (old with_fixed with_options whole : MutBor (List ℕ)) (fixed : List ℕ) (len : ℕ) → len ≡ header_len_of v → fixed ≡ fixed_of v
@@ -152,7 +152,7 @@ pub segment_written : (v : TcpHeader) (payload : List ℕ) (old with_fixed with_
 segment_written v payload old with_fixed with_options whole fixed len size is first options body =
     let header = header_written v old with_fixed with_options fixed len size is first options in
     holds_then old with_options whole (header_bytes v 0 ++ drop len old.now) (with_range with_options.now len (len + length payload) payload) (segment_with v payload 0 ++ drop (header_len_of v + length payload) old.now) header body
-    (part_behind old.now with_options.now (header_bytes v 0) payload len (len + length payload) header.holds (size ∙ sym (length-header_bytes v 0)) refl
+    (part_after old.now with_options.now (header_bytes v 0) payload len (len + length payload) header.holds (size ∙ sym (length-header_bytes v 0)) refl
     ∙ ap (λ (n : ℕ). segment_with v payload 0 ++ drop (n + length payload) old.now) size)
 
 -- with 0 as checksum

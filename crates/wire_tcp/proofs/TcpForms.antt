@@ -111,8 +111,8 @@ normal_no_ranges v none small = grind (arith, common_steps, nat_tests, scale_kep
 AreBytes-split : (xs ys : List ℕ) → AreBytes (xs ++ ys) → AreBytes xs × AreBytes ys
 AreBytes-split [] ys h = ((λ i. omega arith), h)
 AreBytes-split (x ∷ xs) ys h =
-    let (front, behind) = AreBytes-split xs ys (λ i. h (suc i)) in
-    (first front, behind)
+    let (front, following) = AreBytes-split xs ys (λ i. h (suc i)) in
+    (first front, following)
   where
     first : AreBytes xs → AreBytes (x ∷ xs)
     first front zero = h 0

@@ -5,7 +5,7 @@ use Rattle.std.proofs.lemmas.Int.{to_z-of_z}
 use Rattle.std.proofs.lemmas.List.{append-nil, drop_at, take_at}
 use Rattle.std.specs.Int.{w32}
 use mir.ValLaws as laws
-use Rattle.wire_ends.specs.IpAddress.{octets_of}
+use Rattle.wire_ends.specs.IpAddress.{address_bytes}
 use Rattle.wire_ends.specs.declared.ip_address.IpAddress.{IpAddress}
 use Rattle.wire_field.specs.Field.{field}
 use Rattle.wire_tcp.specs.Tcp.{Verifies, header_len, options_of, payload_of}
@@ -94,7 +94,7 @@ reads-segment_with v src dst payload checksum verified w sound =
     }
 
 -- the computed checksum is valid
-pub bytes_of-verifies : (v : TcpHeader) (src dst : IpAddress) (payload : List ℕ) → length (octets_of src) % 2 ≡ 0 → length (octets_of dst) % 2 ≡ 0
+pub bytes_of-verifies : (v : TcpHeader) (src dst : IpAddress) (payload : List ℕ) → length (address_bytes src) % 2 ≡ 0 → length (address_bytes dst) % 2 ≡ 0
     → Verifies src dst (bytes_of v payload src dst true [])
 bytes_of-verifies v src dst payload s d =
     let filled = checksum_filled v src dst payload [] ∙ append-nil (bytes_of v payload src dst true []) in
@@ -103,7 +103,7 @@ bytes_of-verifies v src dst payload s d =
 
 -- an emitted segment parses as the normal form, with the same payload
 pub reads_bytes_of : (v : TcpHeader) (src dst : IpAddress) (payload : List ℕ) (computed verified : Bool) → IsWritable v
-    → length (octets_of src) % 2 ≡ 0 → length (octets_of dst) % 2 ≡ 0 → (IsTrue verified → IsTrue computed)
+    → length (address_bytes src) % 2 ≡ 0 → length (address_bytes dst) % 2 ≡ 0 → (IsTrue verified → IsTrue computed)
     → Reads (bytes_of v payload src dst computed []) src dst verified (normal v) payload
 reads_bytes_of v src dst payload true verified w s d sound =
     reads-segment_with v src dst payload _ verified w (λ on. bytes_of-verifies v src dst payload s d)
@@ -112,14 +112,14 @@ reads_bytes_of v src dst payload false verified w s d sound =
 
 -- an emitted normal value parses as itself
 pub reads-normal : (v : TcpHeader) (src dst : IpAddress) (payload : List ℕ) (computed verified : Bool) → normal v ≡ v → IsWritable v
-    → length (octets_of src) % 2 ≡ 0 → length (octets_of dst) % 2 ≡ 0 → (IsTrue verified → IsTrue computed)
+    → length (address_bytes src) % 2 ≡ 0 → length (address_bytes dst) % 2 ≡ 0 → (IsTrue verified → IsTrue computed)
     → Reads (bytes_of v payload src dst computed []) src dst verified v payload
 reads-normal v src dst payload computed verified is w s d sound =
     subst (λ n. Reads (bytes_of v payload src dst computed []) src dst verified n payload) is (reads_bytes_of v src dst payload computed verified w s d sound)
 
 -- normal values with the same emitted bytes are equal
 pub same_written : (v w : TcpHeader) (src dst : IpAddress) (payload other : List ℕ) → normal v ≡ v → normal w ≡ w → IsWritable v → IsWritable w
-    → length (octets_of src) % 2 ≡ 0 → length (octets_of dst) % 2 ≡ 0 → bytes_of v payload src dst true [] ≡ bytes_of w other src dst true []
+    → length (address_bytes src) % 2 ≡ 0 → length (address_bytes dst) % 2 ≡ 0 → bytes_of v payload src dst true [] ≡ bytes_of w other src dst true []
     → (v ≡ w) × (payload ≡ other)
 same_written v w src dst payload other vn wn vw ww s d e =
     reads_once src dst true (bytes_of w other src dst true []) payload other v w

@@ -7,7 +7,7 @@ use Rattle.std.proofs.lemmas.Slice.{drop-append-drop}
 use Rattle.byteorder.specs.Endian.{big_bytes, big_number}
 use Rattle.wire_checksum.proofs.Parts.{sum-words-with_range, take-with_range}
 use Rattle.wire_checksum.specs.WordSum.{words}
-use Rattle.wire_ends.specs.IpAddress.{octets_of}
+use Rattle.wire_ends.specs.IpAddress.{address_bytes}
 use Rattle.wire_ends.specs.declared.ip_address.IpAddress.{IpAddress}
 use Rattle.wire_field.specs.Field.{field, with_range}
 use Rattle.wire_field.proofs.ByteLists.{AreBytes-append, AreBytes-bytes_high_first, AreBytes-drop, AreBytes-take}
@@ -67,12 +67,12 @@ replaced bytes part i begins ends two inside =
     let same : SameFixed bytes new =
     subst (λ (l : List ℕ). SameFixed l new) (take-append-drop 20 bytes) (subst (SameFixed (take 20 bytes ++ drop 20 bytes)) (ap (λ (f : List ℕ). f ++ drop 20 new) (sym fixed) ∙ take-append-drop 20 new)
     (same_fixed (take 20 bytes) (drop 20 bytes) (drop 20 new) (length-take-le 20 bytes (omega (arith, begins, ends))))) in
-    let behind : drop 20 new ≡ with_range (drop 20 bytes) i (i + 2) part =
+    let following : drop 20 new ≡ with_range (drop 20 bytes) i (i + 2) part =
     drop-append-le 20 (take (20 + i) bytes ++ part) (drop (20 + i + 2) bytes) (omega (arith, both))
     ∙ ap (λ (l : List ℕ). l ++ drop (20 + i + 2) bytes) (drop-append-le 20 (take (20 + i) bytes) part (omega (arith, front)) ∙ ap (λ (l : List ℕ). l ++ part) (drop-take 20 i bytes))
     ∙ ap (λ (l : List ℕ). take i (drop 20 bytes) ++ part ++ l) (ap (λ (n : ℕ). drop n bytes) (omega arith) ∙ sym (drop-drop (i + 2) 20 bytes)) in
     let options_are : options_of new ≡ options =
-    ap (λ (n : ℕ). take (n - 20) (drop 20 new)) same.header ∙ ap (take (header - 20)) behind
+    ap (λ (n : ℕ). take (n - 20) (drop 20 new)) same.header ∙ ap (take (header - 20)) following
     ∙ take-with_range (drop 20 bytes) part i (i + 2) (header - 20) (omega (arith, two)) (omega (arith, inside, size)) (omega (arith, inside, size, length-drop 20 bytes, begins, ends)) in
     let payload_is : payload_of new ≡ payload_of bytes =
     ap (λ (n : ℕ). drop n new) same.header ∙ drop-append-drop (20 + i + 2) bytes (take (20 + i) bytes ++ part) header (omega (arith, inside, size, begins)) both in
@@ -98,7 +98,7 @@ AreBytes-with_two bytes at n are =
     AreBytes-append (take at bytes ++ big_bytes 2 n) (drop (at + 2) bytes) (AreBytes-append (take at bytes) (big_bytes 2 n) (AreBytes-take at bytes are) (AreBytes-bytes_high_first 2 n)) (AreBytes-drop (at + 2) bytes are)
 
 -- a valid checksum stays valid
-valid-at : (src dst : IpAddress) (bytes : List ℕ) (i n : ℕ) → AreBytes bytes → length (octets_of src) % 2 ≡ 0 → length (octets_of dst) % 2 ≡ 0
+valid-at : (src dst : IpAddress) (bytes : List ℕ) (i n : ℕ) → AreBytes bytes → length (address_bytes src) % 2 ≡ 0 → length (address_bytes dst) % 2 ≡ 0
     → 20 ≤ header_len bytes → header_len bytes ≤ length bytes → i + 2 ≤ length (options_of bytes)
     → Verifies src dst bytes → Verifies src dst (with_size_at bytes n (20 + i))
 valid-at src dst bytes i n are s d begins ends inside valid =
@@ -112,7 +112,7 @@ valid-at src dst bytes i n are s d begins ends inside valid =
 
 -- ---- the value
 
-reads-at : (src dst : IpAddress) (bytes : List ℕ) (i n : ℕ) (verified : Bool) (v : TcpHeader) (payload : List ℕ) → AreBytes bytes → n < 65536 → length (octets_of src) % 2 ≡ 0 → length (octets_of dst) % 2 ≡ 0
+reads-at : (src dst : IpAddress) (bytes : List ℕ) (i n : ℕ) (verified : Bool) (v : TcpHeader) (payload : List ℕ) → AreBytes bytes → n < 65536 → length (address_bytes src) % 2 ≡ 0 → length (address_bytes dst) % 2 ≡ 0
     → (r : Reads bytes src dst verified v payload) → segment_size_at r.options.items ≡ Some i
     → Reads (with_size_at bytes n (20 + i)) src dst verified (record v { max_seg_size = Some n }) payload
 reads-at src dst bytes i n verified v payload are fits s d r found =
@@ -177,11 +177,11 @@ pub size_found : (bytes : List ℕ) (at : ℕ) → 20 ≤ header_len bytes → h
 size_found bytes at begins ends e =
     let f = found bytes at e in
     let options = options_of bytes in
-    let behind : drop at bytes ≡ drop f.i options ++ payload_of bytes =
+    let following : drop at bytes ≡ drop f.i options ++ payload_of bytes =
     ap (λ (n : ℕ). drop n bytes) f.is ∙ sym (drop-drop f.i 20 bytes) ∙ ap (drop f.i) (sym (take-append-drop (header_len bytes - 20) (drop 20 bytes)))
     ∙ drop-append-le f.i options (drop (header_len bytes - 20) (drop 20 bytes)) (omega (arith, f.inside))
     ∙ ap (λ (l : List ℕ). drop f.i options ++ l) (drop-drop (header_len bytes - 20) 20 bytes ∙ ap (λ (n : ℕ). drop n bytes) (omega (arith, begins))) in
-    ap (λ (l : List ℕ). Some (big_number 2 l)) behind
+    ap (λ (l : List ℕ). Some (big_number 2 l)) following
     ∙ ap Some (two_in_front (drop f.i options) (payload_of bytes) (omega (arith, length-drop f.i options, f.inside)))
     ∙ sym f.size ∙ ap (option_and_then segment_size_of) (sym f.computed)
 
@@ -197,7 +197,7 @@ pub none_found : (bytes : List ℕ) (n : ℕ) → max_seg_size_at bytes ≡ None
 none_found bytes n e = (none_at (items_in (options_of bytes)) e, ap (λ (o : Option ℕ). option_map_or (with_size_at bytes n) o bytes) (sym e))
 
 -- a valid checksum stays valid
-pub valid-resized : (src dst : IpAddress) (bytes : List ℕ) (n : ℕ) → AreBytes bytes → length (octets_of src) % 2 ≡ 0 → length (octets_of dst) % 2 ≡ 0 → 20 ≤ header_len bytes → header_len bytes ≤ length bytes
+pub valid-resized : (src dst : IpAddress) (bytes : List ℕ) (n : ℕ) → AreBytes bytes → length (address_bytes src) % 2 ≡ 0 → length (address_bytes dst) % 2 ≡ 0 → 20 ≤ header_len bytes → header_len bytes ≤ length bytes
     → Verifies src dst bytes → Verifies src dst (with_max_seg_size bytes n)
 valid-resized src dst bytes n are s d begins ends valid = by (max_seg_size_at bytes) refl
   where
@@ -208,7 +208,7 @@ valid-resized src dst bytes n are s d begins ends valid = by (max_seg_size_at by
     by None e = subst (Verifies src dst) (none_found bytes n e).1 valid
 
 -- only the size of the value changes
-pub reads-resized : (src dst : IpAddress) (bytes : List ℕ) (n : ℕ) (verified : Bool) (v : TcpHeader) (payload : List ℕ) → AreBytes bytes → n < 65536 → length (octets_of src) % 2 ≡ 0 → length (octets_of dst) % 2 ≡ 0
+pub reads-resized : (src dst : IpAddress) (bytes : List ℕ) (n : ℕ) (verified : Bool) (v : TcpHeader) (payload : List ℕ) → AreBytes bytes → n < 65536 → length (address_bytes src) % 2 ≡ 0 → length (address_bytes dst) % 2 ≡ 0
     → Reads bytes src dst verified v payload
     → (max_seg_size_of bytes ≡ v.max_seg_size) × Reads (with_max_seg_size bytes n) src dst verified (record v { max_seg_size = option_map (λ size. n) v.max_seg_size }) payload
 reads-resized src dst bytes n verified v payload are fits s d r = (size, by (segment_size_at r.options.items) refl)

@@ -1,7 +1,7 @@
 pub mod Tcp
 pub mod TcpFields
 pub mod TcpFixed
-pub mod TcpLoan
+pub mod TcpBorrow
 pub mod TcpRepr
 pub mod TcpReprText
 pub mod TcpSegmentSize

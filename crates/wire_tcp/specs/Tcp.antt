@@ -3,9 +3,9 @@ use Rattle.std.specs.Prelude.{ℕ, Bool, if◌then◌else◌, nat_le, ◌&&◌, 
 use Rattle.std.specs.Borrow.{Bor, MutBor}
 use Rattle.wire_ends.specs.declared.ip_address.IpAddress.{IpAddress}
 use Rattle.wire_field.specs.Field.{field, with_field}
-use Rattle.wire_field.specs.Loan.{Holds}
+use Rattle.wire_field.specs.Borrow.{Holds}
 use Rattle.wire_checksum.specs.PseudoHeader.{pseudo_header_bytes, with_pseudo_header}
-use Rattle.wire_ends.specs.IpAddress.{octets_of}
+use Rattle.wire_ends.specs.IpAddress.{address_bytes}
 use Rattle.wire_checksum.specs.WordSum.{sum_of_bytes, updated}
 use Rattle.wire_ends.specs.declared.ip_protocol.IpProtocol.TheVariants as protocol
 use Rattle.wire_tcp.specs.declared.tcp.packet.TcpView.{TcpView}
@@ -68,7 +68,7 @@ has_lengths bytes = nat_le 20 (length bytes) && nat_le 20 (header_len bytes) && 
 
 -- the sum of the pseudo-header of a segment between two addresses
 abbrev pub pseudo_header_sum : IpAddress → IpAddress → List ℕ → ℕ
-pseudo_header_sum src dst bytes = sum_of_bytes (pseudo_header_bytes (octets_of src) (octets_of dst) protocol.Tcp (length bytes))
+pseudo_header_sum src dst bytes = sum_of_bytes (pseudo_header_bytes (address_bytes src) (address_bytes dst) protocol.Tcp (length bytes))
 
 -- the sum of a segment between two addresses and its pseudo-header
 abbrev pub segment_sum : IpAddress → IpAddress → List ℕ → ℕ

@@ -1,7 +1,7 @@
 -- The fields of a TCP header in the order of RFC 9293's diagram, and which of them each call reads or writes.
 use Rattle.std.specs.Prelude.{ℕ, ◌-◌, ◌*◌, ◌/◌, ◌==◌, if◌then◌else◌, List, [], ◌∷◌, slice_range, sum, take}
 use Rattle.wire_checksum.specs.WordSum.{sum_of_bytes, updated}
-use Rattle.wire_ends.specs.IpAddress.{octets_of}
+use Rattle.wire_ends.specs.IpAddress.{address_bytes}
 use Rattle.wire_ends.specs.declared.ip_address.IpAddress.{IpAddress}
 use Rattle.wire_field.specs.Diagram.{flag, nth_field, with_nth}
 use Rattle.wire_field.specs.Field.{with_field}
@@ -92,7 +92,7 @@ abbrev pub sums_of : TcpUpdate → List ℕ → ℕ × ℕ
 sums_of (update.SrcPort x) bytes = (nth_field diagram 0 bytes, x)
 sums_of (update.DstPort x) bytes = (nth_field diagram 1 bytes, x)
 sums_of (update.WindowLen x) bytes = (nth_field diagram 15 bytes, x)
-sums_of (update.Address old new) bytes = (sum_of_bytes (octets_of old), sum_of_bytes (octets_of new))
+sums_of (update.Address old new) bytes = (sum_of_bytes (address_bytes old), sum_of_bytes (address_bytes new))
 
 -- the bytes with the checksum updated for words that change from the sum old to the sum new
 abbrev pub with_sums : ℕ → ℕ → List ℕ → List ℕ → List ℕ

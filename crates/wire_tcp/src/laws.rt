@@ -2,7 +2,7 @@
 
 ghost use Rattle.std.specs.Prelude.{◌≡◌, ◌≢◌, ◌⊎◌, ◌↔◌, ◌+◌, ◌*◌, ◌%◌, ◌<◌, ◌≤◌, if◌then◌else◌, ℕ, [], Bool, IfSome, List, IsTrue, None, Some, false, true, length};
 ghost use Rattle.std.specs.Option.{option_map};
-ghost use Rattle.wire_ends.specs.IpAddress.{octets_of, version_of};
+ghost use Rattle.wire_ends.specs.IpAddress.{address_bytes, version_of};
 ghost use Rattle.wire_ends.specs.declared.ip_address.IpAddress.{IpAddress};
 ghost use Rattle.wire_field.specs.Field.{field, with_field};
 ghost use Rattle.wire_tcp.specs.Tcp.{HasLengths, Verifies, header_len, packet_bytes, packet_bytes_mut, payload_of, with_checksum, with_flag};
@@ -12,7 +12,7 @@ ghost use Rattle.wire_tcp.specs.TcpFields.{address_after, address_before, after,
 use crate::tcp::{TCP_HEADER_LEN, TcpPacket, TcpPacketMut, TcpRepr};
 use net_base::ChecksumCapabilities;
 use wire_ends::IpAddress;
-use wire_field::laws::octets_fit;
+use wire_field::laws::bytes_fit;
 use wire_tcp_parts::{TcpControl, TcpSeqNumber};
 
 /// The emitted segment, in a buffer of exactly its length, parses as the value's normal form and
@@ -321,9 +321,9 @@ pub enum TcpUpdate {
 pub fn update_writes_two_fields_tcp(packet: &mut TcpPacketMut<'_>, update: TcpUpdate)
     requires { 20 ≤ length (packet_bytes_mut packet.old) }
     ensures fields { packet_bytes_mut packet.new ≡ after_update update (packet_bytes_mut packet.old) }
-    ensures valid_src { (src dst : IpAddress) → length (octets_of src) % 2 ≡ 0 → length (octets_of dst) % 2 ≡ 0
+    ensures valid_src { (src dst : IpAddress) → length (address_bytes src) % 2 ≡ 0 → length (address_bytes dst) % 2 ≡ 0
         → Verifies (address_before update src) dst (packet_bytes_mut packet.old) → Verifies (address_after update src) dst (packet_bytes_mut packet.new) }
-    ensures valid_dst { (src dst : IpAddress) → length (octets_of src) % 2 ≡ 0 → length (octets_of dst) % 2 ≡ 0
+    ensures valid_dst { (src dst : IpAddress) → length (address_bytes src) % 2 ≡ 0 → length (address_bytes dst) % 2 ≡ 0
         → Verifies src (address_before update dst) (packet_bytes_mut packet.old) → Verifies src (address_after update dst) (packet_bytes_mut packet.new) }
 {
     match update {
@@ -353,7 +353,7 @@ pub fn fill_checksum_writes_one_field_tcp(
     ensures fields { packet_bytes_mut packet.new ≡ after_fill src_addr dst_addr (packet_bytes_mut packet.old) }
     ensures valid { Verifies src_addr dst_addr (packet_bytes_mut packet.new) }
 {
-    octets_fit(packet.as_bytes());
+    bytes_fit(packet.as_bytes());
     packet.fill_checksum(&src_addr, &dst_addr);
 }
 

@@ -55,8 +55,8 @@ unfolding first_item
 first_item-Leads [] i rest e = absurd (cc)
 first_item-Leads (kind ∷ r) i rest e =
     let size = slice_index r 0 - 2 in
-    let behind = drop 1 r in
-    choices (kind == 0) (kind == 1) (nat_le 2 (slice_index r 0) && nat_le size (length behind) && is_sized kind size) _ _ (Some (i, rest)) (Leads (kind ∷ r) i rest)
+    let following = drop 1 r in
+    choices (kind == 0) (kind == 1) (nat_le 2 (slice_index r 0) && nat_le size (length following) && is_sized kind size) _ _ (Some (i, rest)) (Leads (kind ∷ r) i rest)
     (λ none. absurd (cc))
     (λ some one same.
     let pair = of_some (item 1 [], r) (i, rest) same in
@@ -65,17 +65,17 @@ first_item-Leads (kind ∷ r) i rest e =
     let lead : Leads (kind ∷ r) (item 1 []) r = record { is = IsItem_bare; joined = ap (λ (k : ℕ). k ∷ r) (eqb-true kind 1 one) } in
     subst (λ (j : Item). Leads (kind ∷ r) j rest) is (subst (Leads (kind ∷ r) (item 1 [])) left lead))
     (λ some other t same.
-    let pair = of_some (item kind (take size behind), drop size behind) (i, rest) same in
+    let pair = of_some (item kind (take size following), drop size following) (i, rest) same in
     let is = ap (λ (d : Item × List ℕ). d.0) pair in
     let left = ap (λ (d : Item × List ℕ). d.1) pair in
-    let room : size ≤ length behind = grind (arith, nat_tests) in
+    let room : size ≤ length following = grind (arith, nat_tests) in
     let two : 2 ≤ slice_index r 0 = grind (arith, nat_tests) in
-    let fits : is_sized kind (length (take size behind)) ≡ true = ap (is_sized kind) (length-take-le size behind room) ∙ and_right _ _ t in
-    let lead : Leads (kind ∷ r) (item kind (take size behind)) (drop size behind) = record {
-      is = is_item kind (take size behind) (eqb-false kind 0 some) (eqb-false kind 1 other) fits;
+    let fits : is_sized kind (length (take size following)) ≡ true = ap (is_sized kind) (length-take-le size following room) ∙ and_right _ _ t in
+    let lead : Leads (kind ∷ r) (item kind (take size following)) (drop size following) = record {
+      is = is_item kind (take size following) (eqb-false kind 0 some) (eqb-false kind 1 other) fits;
       joined = front kind r (eqb-false kind 1 other) two room;
     } in
-    subst (λ (j : Item). Leads (kind ∷ r) j rest) is (subst (Leads (kind ∷ r) (item kind (take size behind))) left lead)) e
+    subst (λ (j : Item). Leads (kind ∷ r) j rest) is (subst (Leads (kind ∷ r) (item kind (take size following))) left lead)) e
 
 with_length : (i : Item) (rest : List ℕ) → IsItem i → i.kind ≢ 1 → first_item (i.kind ∷ (2 + length i.content) ∷ (i.content ++ rest)) ≡ Some (i, rest)
 unfolding first_item

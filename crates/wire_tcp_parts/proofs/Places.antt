@@ -152,9 +152,9 @@ range-here front a b c d x y rest at is =
     let head : front ++ (a ∷ b ∷ c ∷ d ∷ rest) ≡ (front ++ a ∷ b ∷ []) ++ (c ∷ d ∷ rest) = sym (append_assoc front (a ∷ b ∷ []) (c ∷ d ∷ rest)) in
     let four : front ++ (a ∷ b ∷ c ∷ d ∷ rest) ≡ (front ++ a ∷ b ∷ c ∷ d ∷ []) ++ rest = sym (append_assoc front (a ∷ b ∷ c ∷ d ∷ []) rest) in
     let kept = ap (take at) head ∙ take_at (front ++ a ∷ b ∷ []) (c ∷ d ∷ rest) at (length-append front (a ∷ b ∷ []) ∙ sym is) in
-    let behind = ap (drop (at + 2)) four ∙ drop_at (front ++ a ∷ b ∷ c ∷ d ∷ []) rest (at + 2) (length-append front (a ∷ b ∷ c ∷ d ∷ []) ∙ omega (arith, is)) in
+    let following = ap (drop (at + 2)) four ∙ drop_at (front ++ a ∷ b ∷ c ∷ d ∷ []) rest (at + 2) (length-append front (a ∷ b ∷ c ∷ d ∷ []) ∙ omega (arith, is)) in
     ap (λ (l : List ℕ). l ++ (x ∷ y ∷ []) ++ drop (at + 2) (front ++ (a ∷ b ∷ c ∷ d ∷ rest))) kept
-    ∙ ap (λ (l : List ℕ). (front ++ a ∷ b ∷ []) ++ (x ∷ y ∷ []) ++ l) behind
+    ∙ ap (λ (l : List ℕ). (front ++ a ∷ b ∷ []) ++ (x ∷ y ∷ []) ++ l) following
     ∙ append_assoc (front ++ a ∷ b ∷ []) (x ∷ y ∷ []) rest
     ∙ append_assoc front (a ∷ b ∷ []) (x ∷ y ∷ rest)
 

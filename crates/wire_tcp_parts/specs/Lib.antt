@@ -1,6 +1,6 @@
 pub mod TcpItems
 pub mod TcpOption
-pub mod TcpOptionLoan
+pub mod TcpOptionBorrow
 pub mod TcpPlace
 pub mod TcpSeq
 pub mod TcpSummary

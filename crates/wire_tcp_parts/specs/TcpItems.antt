@@ -59,10 +59,10 @@ unfoldable pub first_item : List ℕ → Option (Item × List ℕ)
 first_item [] = None
 first_item (kind ∷ rest) =
     let size = slice_index rest 0 - 2 in
-    let behind = drop 1 rest in
+    let following = drop 1 rest in
     if kind == 0 then None
     else if kind == 1 then Some (item 1 [], rest)
-    else if nat_le 2 (slice_index rest 0) && nat_le size (length behind) && is_sized kind size then Some (item kind (take size behind), drop size behind)
+    else if nat_le 2 (slice_index rest 0) && nat_le size (length following) && is_sized kind size then Some (item kind (take size following), drop size following)
     else None
 
 -- ---- the values of items

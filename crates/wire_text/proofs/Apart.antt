@@ -3,7 +3,7 @@ use Rattle.std.proofs.Common.{◌≡◌, ℕ, ◌<◌, ◌≤◌, ◌==◌, true
 use Rattle.std.specs.Char.{digit_value}
 use Rattle.std.specs.List.{join_with_byte}
 use Rattle.std.specs.Str.Parse.{AllDigits}
-use Rattle.wire_text.specs.Grammar.{AreGroupsText, EachReads, IsDotted, IsGroup, IsIpv6Text, IsOctet}
+use Rattle.wire_text.specs.Grammar.{AreGroupsText, EachReads, IsDotted, IsGroup, IsIpv6Text, IsDecimalByte}
 use Rattle.wire_text.specs.Ending.{EndsInNumber}
 use Rattle.wire_text.proofs.Endings.{length_is, mark_here}
 use Rattle.wire_text.proofs.Ipv6.{dotted_by}
@@ -41,12 +41,12 @@ wider (c ∷ text) h = (omega (arith, h.0), wider text h.1)
 pub dotted_first : (text octets : List ℕ) → IsDotted text octets → IsFirstMark 46 text
 dotted_first text octets h = by h.0.pieces h.0.each h.0.joined
   where
-    by : (pieces : List (List ℕ)) → EachReads IsOctet pieces octets → text ≡ join_with_byte 46 pieces → IsFirstMark 46 text
+    by : (pieces : List (List ℕ)) → EachReads IsDecimalByte pieces octets → text ≡ join_with_byte 46 pieces → IsFirstMark 46 text
     by [] each e = absurd (omega (arith, EachReads-length 10 3 255 [] octets each, h.1))
     by (piece ∷ []) each e = absurd (omega (arith, EachReads-length 10 3 255 (piece ∷ []) octets each, h.1))
     by (piece ∷ next ∷ pieces) each e = first octets each
       where
-        first : (values : List ℕ) → EachReads IsOctet (piece ∷ next ∷ pieces) values → IsFirstMark 46 text
+        first : (values : List ℕ) → EachReads IsDecimalByte (piece ∷ next ∷ pieces) values → IsFirstMark 46 text
         first [] each = absurd each
         first (n ∷ values) each = record {
           front = piece;

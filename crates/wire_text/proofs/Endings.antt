@@ -25,8 +25,8 @@ module _ (mark places most : ℕ) (apart : 10 ≤ digit_value mark) where
   pub mark_here : (text front : List ℕ) (n : ℕ) → EndsInNumber mark places most text front n → get_or text (length front) 0 ≡ mark
   mark_here text front n h = ap (λ t. get_or t (length front) 0) h.spelled ∙ get_or-append_seam front mark h.digits 0
 
-  none_behind : (text front : List ℕ) (n k : ℕ) → EndsInNumber mark places most text front n → length front < k → k < length text → get_or text k 0 ≢ mark
-  none_behind text front n k h behind within same =
+  none_after : (text front : List ℕ) (n k : ℕ) → EndsInNumber mark places most text front n → length front < k → k < length text → get_or text k 0 ≢ mark
+  none_after text front n k h following within same =
       let j = k - length front - 1 in
       let next : k - length front ≡ suc j = omega arith in
       let read : get_or text k 0 ≡ get_or h.digits j 0 =
@@ -40,8 +40,8 @@ module _ (mark places most : ℕ) (apart : 10 ≤ digit_value mark) where
   front_ends text front n at h within here last =
       let inside : length front < length text = omega (arith, length_is text front n h) in
       elim (cases_lt (length front) at) [
-        | inl before ↦ absurd (none_behind text front n at h before within here)
-        | inr behind ↦ elim (cases_lt at (length front)) [
+        | inl before ↦ absurd (none_after text front n at h before within here)
+        | inr following ↦ elim (cases_lt at (length front)) [
           | inl past ↦ absurd (last (length front) past inside (mark_here text front n h))
           | inr same ↦ omega arith
         ]
@@ -61,7 +61,7 @@ module _ (mark places most : ℕ) (apart : 10 ≤ digit_value mark) where
   pub ends_once : (text front other : List ℕ) (n m : ℕ) → EndsInNumber mark places most text front n → EndsInNumber mark places most text other m → (front ≡ other) × (n ≡ m)
   ends_once text front other n m h k =
       let inside : length other < length text = omega (arith, length_is text other m k) in
-      let last : (i : ℕ) → length other < i → i < length text → get_or text i 0 ≢ mark = λ i behind within. none_behind text other m i k behind within in
+      let last : (i : ℕ) → length other < i → i < length text → get_or text i 0 ≢ mark = λ i following within. none_after text other m i k following within in
       let (f, x) = ends_at text front n (length other) h inside (mark_here text other m k) last in
       let (g, y) = ends_at text other m (length other) k inside (mark_here text other m k) last in
       (f ∙ sym g, sym x.value ∙ y.value)
@@ -95,27 +95,27 @@ ends_printed mark places most n front some wide small fits =
 
 -- an ending of a text without its first bytes is an ending of the text
 module _ (text : List ℕ) (first : ℕ) where
-  abbrev pub behind : List ℕ
-  behind = take (length text - first) (drop first text)
+  abbrev pub following : List ℕ
+  following = take (length text - first) (drop first text)
 
   -- the last bytes, without a length
-  pub behind_is : behind ≡ drop first text
-  behind_is = take_rest text first
+  pub following_is : following ≡ drop first text
+  following_is = take_rest text first
 
-  read_in : (place : ℕ) → get_or behind place 0 ≡ get_or text (first + place) 0
-  read_in place = ap (λ w. get_or w place 0) behind_is ∙ get_or-drop first text place 0
+  read_in : (place : ℕ) → get_or following place 0 ≡ get_or text (first + place) 0
+  read_in place = ap (λ w. get_or w place 0) following_is ∙ get_or-drop first text place 0
 
-  length_in : length behind ≡ length text - first
-  length_in = ap length behind_is ∙ length-drop first text
+  length_in : length following ≡ length text - first
+  length_in = ap length following_is ∙ length-drop first text
 
   -- no mark in the last bytes is no mark at these indexes of the text
-  pub none_in : (mark : ℕ) → ((k : ℕ) → k < length behind → get_or behind k 0 ≢ mark) → (k : ℕ) → first ≤ k → k < length text → get_or text k 0 ≢ mark
+  pub none_in : (mark : ℕ) → ((k : ℕ) → k < length following → get_or following k 0 ≢ mark) → (k : ℕ) → first ≤ k → k < length text → get_or text k 0 ≢ mark
   none_in mark none k past within here =
       let back : first + (k - first) ≡ k = omega arith in
       none (k - first) (omega (arith, length_in)) (read_in (k - first) ∙ ap (λ i. get_or text i 0) back ∙ here)
 
   -- the last mark in the last bytes is the last mark of the text
-  pub last_in : (mark place : ℕ) → (place < length behind) × (get_or behind place 0 ≡ mark) × ((k : ℕ) → place < k → k < length behind → get_or behind k 0 ≢ mark) → (first + place < length text) × (get_or text (first + place) 0 ≡ mark) × ((k : ℕ) → first + place < k → k < length text → get_or text k 0 ≢ mark)
+  pub last_in : (mark place : ℕ) → (place < length following) × (get_or following place 0 ≡ mark) × ((k : ℕ) → place < k → k < length following → get_or following k 0 ≢ mark) → (first + place < length text) × (get_or text (first + place) 0 ≡ mark) × ((k : ℕ) → first + place < k → k < length text → get_or text k 0 ≢ mark)
   last_in mark place h = (
     omega (arith, h.0, length_in),
     sym (read_in place) ∙ h.1,

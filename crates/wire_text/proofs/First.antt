@@ -30,15 +30,15 @@ digit_within radix zero (c ∷ front) more all within = all.0
 digit_within radix (suc k) (c ∷ front) more all within = digit_within radix k front more all.1 (omega arith)
 
 -- if more digits are parsed than a prefix has bytes, they begin with the prefix
-digit_behind : (radix k c : ℕ) (front more : List ℕ) → AllDigits radix (take k (front ++ c ∷ more)) → length front < k → digit_value c < radix
-digit_behind radix zero c front more all past = absurd (omega arith)
-digit_behind radix (suc k) c [] more all past = all.0
-digit_behind radix (suc k) c (d ∷ front) more all past = digit_behind radix k c front more all.1 (omega arith)
+digit_after : (radix k c : ℕ) (front more : List ℕ) → AllDigits radix (take k (front ++ c ∷ more)) → length front < k → digit_value c < radix
+digit_after radix zero c front more all past = absurd (omega arith)
+digit_after radix (suc k) c [] more all past = all.0
+digit_after radix (suc k) c (d ∷ front) more all past = digit_after radix k c front more all.1 (omega arith)
 
 -- what follows a piece: nothing, or the mark and more text
-abbrev pub IsBehind : ℕ → List ℕ → Type 0
-IsBehind mark [] = Unit {0}
-IsBehind mark (c ∷ more) = c ≡ mark
+abbrev pub IsPast : ℕ → List ℕ → Type 0
+IsPast mark [] = Unit {0}
+IsPast mark (c ∷ more) = c ≡ mark
 
 -- the text without its first bytes
 pub rest_none : (text : List ℕ) (n : ℕ) → length (take (length text - n) (drop n text)) ≡ 0 → length text ≤ n
@@ -49,17 +49,17 @@ pub rest_some : (text : List ℕ) (n c : ℕ) (more : List ℕ) → take (length
 rest_some text n c more e = sym (take_rest text n) ∙ e
 
 module _ {radix places : ℕ} {text : List ℕ} {value count : ℕ} (first : IsFirst radix places text value count) where
-  past_none : (mark : ℕ) (piece rest : List ℕ) → radix ≤ digit_value mark → text ≡ piece ++ rest → IsBehind mark rest → count ≤ length piece
-  past_none mark piece [] apart e behind = omega (arith, first.within, ap length (e ∙ append-nil piece))
+  past_none : (mark : ℕ) (piece rest : List ℕ) → radix ≤ digit_value mark → text ≡ piece ++ rest → IsPast mark rest → count ≤ length piece
+  past_none mark piece [] apart e following = omega (arith, first.within, ap length (e ∙ append-nil piece))
   past_none mark piece (c ∷ more) apart e same = elim (cases_lt (length piece) count) [
-    | inl past ↦ absurd (omega (arith, digit_behind radix count c piece more (rw e at first.digits) past, ap digit_value same))
+    | inl past ↦ absurd (omega (arith, digit_after radix count c piece more (rw e at first.digits) past, ap digit_value same))
     | inr some ↦ some
   ]
 
   --   a number is parsed up to a mark that is no digit
-  first_count : (mark most n : ℕ) (piece rest : List ℕ) → radix ≤ digit_value mark → IsNumber radix places most piece n → text ≡ piece ++ rest → IsBehind mark rest → count ≡ length piece
-  first_count mark most n piece rest apart h e behind =
-      let some = past_none mark piece rest apart e behind in
+  first_count : (mark most n : ℕ) (piece rest : List ℕ) → radix ≤ digit_value mark → IsNumber radix places most piece n → text ≡ piece ++ rest → IsPast mark rest → count ≡ length piece
+  first_count mark most n piece rest apart h e following =
+      let some = past_none mark piece rest apart e following in
       let len = ap length e ∙ length-append piece rest in
       elim (cases_lt count (length piece)) [
         | inl short ↦
@@ -134,22 +134,22 @@ module _ {radix places : ℕ} {text : List ℕ} {value count : ℕ} (first : IsF
       }
 
   -- no first piece is a number: no digit, a value that is too large, or another byte after the digits
-  pub no_piece : (mark : ℕ) → radix ≤ digit_value mark → (most : ℕ) → ((count ≡ 0) ⊎ ((most < value) ⊎ (¬ (IsBehind mark (drop count text))))) → FirstPiece mark radix places most text None
+  pub no_piece : (mark : ℕ) → radix ≤ digit_value mark → (most : ℕ) → ((count ≡ 0) ⊎ ((most < value) ⊎ (¬ (IsPast mark (drop count text))))) → FirstPiece mark radix places most text None
   no_piece mark apart most why = by (pieces_of mark text) refl
     where
-      joined : (piece : List ℕ) (others : List (List ℕ)) → (rest : List ℕ) × (join_with_byte mark (piece ∷ others) ≡ piece ++ rest) × IsBehind mark rest
+      joined : (piece : List ℕ) (others : List (List ℕ)) → (rest : List ℕ) × (join_with_byte mark (piece ∷ others) ≡ piece ++ rest) × IsPast mark rest
       joined piece [] = ([], sym (append-nil piece), tt)
       joined piece (next ∷ others) = (mark ∷ join_with_byte mark (next ∷ others), refl, refl)
 
       unread : (piece : List ℕ) (others : List (List ℕ)) → pieces_of mark text ≡ piece ∷ others → (n : ℕ) → ¬ (IsNumber radix places most piece n)
       unread piece others e n h =
-          let (rest, shown, behind) = joined piece others in
+          let (rest, shown, following) = joined piece others in
           let split : text ≡ piece ++ rest = sym (join_with_byte-slice_split mark text) ∙ ap (join_with_byte mark) e ∙ shown in
-          let same = first_count mark most n piece rest apart h split behind in
+          let same = first_count mark most n piece rest apart h split following in
           elim why [
             | inl none ↦ omega (arith, h.digits.0)
             | inr (inl big) ↦ omega (arith, h.fits, first_value most n piece rest h split same)
-            | inr (inr other) ↦ other (subst (IsBehind mark) (sym (ap₂ drop same split ∙ drop_at piece rest (length piece) refl)) behind)
+            | inr (inr other) ↦ other (subst (IsPast mark) (sym (ap₂ drop same split ∙ drop_at piece rest (length piece) refl)) following)
           ]
 
       by : (pieces : List (List ℕ)) → pieces_of mark text ≡ pieces → FirstPiece mark radix places most text None

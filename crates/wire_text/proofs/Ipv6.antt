@@ -11,10 +11,10 @@ use Rattle.std.specs.List.{join_with_byte}
 use Rattle.std.proofs.NetLemmas.Options.{and_then_some, cond_some}
 use Rattle.wire_text.specs.Grammar.{groups_of, mapped_groups}
 use Rattle.wire_text.specs.Grammar.{EachReads, IsNumber, IsGroup, IsFullText, IsElidedText, IsMappedText, IsElidedMappedText, IsIpv6Text, IsDotted}
-use Rattle.wire_text.specs.Reading.{group_of, groups_from, groups_read, all_groups, behind_elision, dotted_end, may_end_dotted, mapped_read, octets_read, inner_text, pieces_of}
+use Rattle.wire_text.specs.Reading.{group_of, groups_from, groups_read, all_groups, after_elision, dotted_end, may_end_dotted, mapped_read, dotted_read, inner_text, pieces_of}
 use Rattle.wire_text.proofs.Numbers.{number_complete, number_sound}
 use Rattle.wire_text.proofs.Pieces.{ArePieces, IsPiece, pieces_of-join, pieces_of-join_append, join-piece, join-append}
-use Rattle.wire_text.proofs.Joined.{EachReads-length, EachReads-pieces, octets_complete, octets_sound}
+use Rattle.wire_text.proofs.Joined.{EachReads-length, EachReads-pieces, dotted_complete, dotted_sound}
 use Rattle.std.proofs.lemmas.Grind.{common_steps}
 use Rattle.std.proofs.lemmas.Bool.Decides.{nat_tests}
 
@@ -65,8 +65,8 @@ unfolding groups_read
 read_elided [] groups text h = refl
 read_elided (piece ∷ pieces) groups text h = read_more piece pieces groups (58 ∷ text) h
 
-behind_group : (seen piece : List ℕ) (pieces : List (List ℕ)) (later : Option (List ℕ)) → 0 < length piece → behind_elision None seen (piece ∷ pieces) later ≡ later
-behind_group seen piece pieces later some = grind arith
+after_group : (seen piece : List ℕ) (pieces : List (List ℕ)) (later : Option (List ℕ)) → 0 < length piece → after_elision None seen (piece ∷ pieces) later ≡ later
+after_group seen piece pieces later some = grind arith
 
 full_by : (text : List ℕ) (pieces : List (List ℕ)) (groups : List ℕ) → EachReads IsGroup pieces groups → text ≡ join_with_byte 58 pieces → length groups ≡ 8 → groups_read text ≡ Some groups
 unfolding groups_read groups_from
@@ -94,7 +94,7 @@ tail_by head [] tail_text (piece ∷ pieces) each e few = absurd each
 tail_by head (g ∷ tail) tail_text (piece ∷ pieces) each e few =
     let read = groups_from_more (Some (length head)) (piece ∷ pieces) (g ∷ tail) head [] each (omega arith) in
     rw (e, pieces_of-join 58 piece pieces (colons_apart (piece ∷ pieces) (g ∷ tail) each))
-    (behind_group head piece pieces _ each.0.digits.0 ∙ ap (groups_from (Some (length head)) head) (sym (append-nil (piece ∷ pieces))) ∙ read)
+    (after_group head piece pieces _ each.0.digits.0 ∙ ap (groups_from (Some (length head)) head) (sym (append-nil (piece ∷ pieces))) ∙ read)
 
 elided_by : (text head_text tail_text head tail : List ℕ) (hp : List (List ℕ)) → EachReads IsGroup hp head → head_text ≡ join_with_byte 58 hp → text ≡ head_text ++ (58 ∷ 58 ∷ []) ++ tail_text → length head ≤ 8 → groups_read text ≡ groups_from None head ([] ∷ pieces_of 58 tail_text)
 elided_by text head_text tail_text head tail hp heads he spelled few =
@@ -136,7 +136,7 @@ dotted_last : (before : Option ℕ) (seen text octets : List ℕ) → IsDotted t
 unfolding groups_from mapped_read
 dotted_last before seen text octets h may =
     let (apart, no_group, some) = dotted_by text h.0.pieces octets h.0.each h.0.joined h.1 in
-    rw (ne_eqb (length text) 0 (omega arith), no_group, may, octets_complete text octets h)
+    rw (ne_eqb (length text) 0 (omega arith), no_group, may, dotted_complete text octets h)
 
 same_bytes : (xs ys : List ℕ) → xs ≡ ys → bytes_eq xs ys ≡ true
 same_bytes xs ys e = (bytes_eq-Decides xs ys).1 e
@@ -166,7 +166,7 @@ elided_mapped_complete text groups h =
     let cut = pieces_of-join_append 58 h.mark_text [] h.dotted_text (mark, tt) ∙ ap (λ ps. h.mark_text ∷ ps) (dotted_piece h.dotted_text h.octets h.last) in
     let later = groups_from_more (Some (length zeros)) (h.mark_text ∷ []) (0xffff ∷ []) zeros (h.dotted_text ∷ []) (h.mark, tt) (omega (arith, h.few)) in
     let may : may_end_dotted (Some (length zeros)) (zeros ++ 0xffff ∷ []) ≡ true = rw (count, le-leb h.zeros 4 h.few) (same_bytes (replicate h.zeros 0 ++ 0xffff ∷ []) _ refl) in
-    head ∙ ap (λ ps. groups_from None zeros ([] ∷ ps)) cut ∙ behind_group zeros h.mark_text (h.dotted_text ∷ []) _ h.mark.digits.0
+    head ∙ ap (λ ps. groups_from None zeros ([] ∷ ps)) cut ∙ after_group zeros h.mark_text (h.dotted_text ∷ []) _ h.mark.digits.0
     ∙ later ∙ dotted_last (Some (length zeros)) (zeros ++ 0xffff ∷ []) h.dotted_text h.octets h.last may ∙ ap Some (sym h.value)
 
 -- the elision replaces all zeros: none are written before it
@@ -253,7 +253,7 @@ front_of before seen (piece ∷ pieces) groups e =
     front_step before seen piece pieces groups e (λ g. front_of before (seen ++ g ∷ []) pieces groups) (group_of piece) refl
 
 -- what is accepted where no group begins: nothing, `::`, or a dotted part
-at_stop : (before : Option ℕ) (seen piece : List ℕ) (pieces : List (List ℕ)) (groups : List ℕ) → groups_from before seen (piece ∷ pieces) ≡ Some groups → group_of piece ≡ None → ((piece ≡ []) × (behind_elision before seen pieces (groups_from (Some (length seen)) seen pieces) ≡ Some groups)) ⊎ (dotted_end before seen piece pieces ≡ Some groups)
+at_stop : (before : Option ℕ) (seen piece : List ℕ) (pieces : List (List ℕ)) (groups : List ℕ) → groups_from before seen (piece ∷ pieces) ≡ Some groups → group_of piece ≡ None → ((piece ≡ []) × (after_elision before seen pieces (groups_from (Some (length seen)) seen pieces) ≡ Some groups)) ⊎ (dotted_end before seen piece pieces ≡ Some groups)
 unfolding groups_from
 at_stop before seen piece pieces groups e none = grind (arith, common_steps, nat_tests)
 
@@ -263,8 +263,8 @@ unfolding mapped_read
 at_dotted before seen piece (next ∷ pieces) groups e = absurd (none-some groups e)
 at_dotted before seen piece [] groups e =
     let (may, read) = test_passed _ _ groups e in
-    and_then_some _ (octets_read piece) groups read λ octets last same.
-    (refl, may, (octets, octets_sound piece octets last, sym (same_Some _ _ same)))
+    and_then_some _ (dotted_read piece) groups read λ octets last same.
+    (refl, may, (octets, dotted_sound piece octets last, sym (same_Some _ _ same)))
 
 -- ---- the text, recovered from its pieces
 
@@ -343,8 +343,8 @@ elided_text_of text front head back tail groups tail_text heads tails shown join
       value = same_Some _ _ (sym e ∙ between head tail room);
     }
 
-behind_cases : (seen : List ℕ) (pieces : List (List ℕ)) (later : Option (List ℕ)) (groups : List ℕ) → behind_elision None seen pieces later ≡ Some groups → ((pieces ≡ [] ∷ []) × (all_groups (Some (length seen)) seen ≡ Some groups)) ⊎ ((next : List ℕ) × (more : List (List ℕ)) × (pieces ≡ next ∷ more) × (later ≡ Some groups))
-behind_cases seen pieces later groups e = grind arith
+elision_cases : (seen : List ℕ) (pieces : List (List ℕ)) (later : Option (List ℕ)) (groups : List ℕ) → after_elision None seen pieces later ≡ Some groups → ((pieces ≡ [] ∷ []) × (all_groups (Some (length seen)) seen ≡ Some groups)) ⊎ ((next : List ℕ) × (more : List (List ℕ)) × (pieces ≡ next ∷ more) × (later ≡ Some groups))
+elision_cases seen pieces later groups e = grind arith
 
 one_piece : (pieces : List (List ℕ)) (g : ℕ) → EachReads IsGroup pieces (g ∷ []) → (piece : List ℕ) × (pieces ≡ piece ∷ []) × IsGroup piece g
 one_piece [] g h = absurd h
@@ -367,15 +367,15 @@ elided_mapped_sound : (text : List ℕ) (front : List (List ℕ)) (head : List �
 elided_mapped_sound text front head back tail piece pieces groups tail_text heads tails shown joined e =
     let (last, may, (octets, dotted, value)) = at_dotted (Some (length head)) (head ++ tail) piece pieces groups e in
     let (few, zeros, one) = zeros_and_mark head tail may in
-    let (mark, alone, is_mark) = one_piece back 0xffff (rw one at tails) in
-    let behind : tail_text ≡ mark ++ (58 ∷ piece) = joined ∙ ap₂ (λ ps r. join_with_byte 58 (ps ++ piece ∷ r)) alone last in
+    let (mark, single, is_mark) = one_piece back 0xffff (rw one at tails) in
+    let following : tail_text ≡ mark ++ (58 ∷ piece) = joined ∙ ap₂ (λ ps r. join_with_byte 58 (ps ++ piece ∷ r)) single last in
     record {
       head_text = join_with_byte 58 front;
       mark_text = mark;
       dotted_text = piece;
       zeros = length head;
       octets = octets;
-      spelled = shown ∙ ap (λ t. join_with_byte 58 front ++ 58 ∷ 58 ∷ t) behind ∙ simp append_assoc;
+      spelled = shown ∙ ap (λ t. join_with_byte 58 front ++ 58 ∷ 58 ∷ t) following ∙ simp append_assoc;
       head = record { pieces = front; joined = refl; each = subst (EachReads IsGroup front) zeros heads };
       few = few;
       mark = is_mark;
@@ -384,21 +384,21 @@ elided_mapped_sound text front head back tail piece pieces groups tail_text head
     }
 
 -- after `::`
-behind_sound : (text : List ℕ) (front : List (List ℕ)) (head : List ℕ) (pieces : List (List ℕ)) (groups tail_text : List ℕ) → EachReads IsGroup front head → text ≡ join_with_byte 58 front ++ 58 ∷ 58 ∷ tail_text → tail_text ≡ join_with_byte 58 pieces → (f : Front (Some (length head)) head pieces groups) → (rest : List (List ℕ)) → f.rest ≡ rest → IsIpv6Text text groups
+elision_sound : (text : List ℕ) (front : List (List ℕ)) (head : List ℕ) (pieces : List (List ℕ)) (groups tail_text : List ℕ) → EachReads IsGroup front head → text ≡ join_with_byte 58 front ++ 58 ∷ 58 ∷ tail_text → tail_text ≡ join_with_byte 58 pieces → (f : Front (Some (length head)) head pieces groups) → (rest : List (List ℕ)) → f.rest ≡ rest → IsIpv6Text text groups
 unfolding groups_from
-behind_sound text front head pieces groups tail_text heads shown joined f [] e =
+elision_sound text front head pieces groups tail_text heads shown joined f [] e =
     let whole = joined ∙ ap (join_with_byte 58) (f.split ∙ ap (λ r. f.front ++ r) e ∙ append-nil f.front) in
     inr (inl (elided_text_of text front head f.front f.more groups tail_text heads f.each shown whole (rw e at f.later)))
-behind_sound text front head pieces groups tail_text heads shown joined f (piece ∷ rest) e =
+elision_sound text front head pieces groups tail_text heads shown joined f (piece ∷ rest) e =
     let whole = joined ∙ ap (join_with_byte 58) (f.split ∙ ap (λ r. f.front ++ r) e) in
     elim (at_stop (Some (length head)) (head ++ f.more) piece rest groups (rw e at f.later) (rw e at f.stops)) [
       | inl k ↦ absurd (none-some groups k.1)
       | inr k ↦ inr (inr (inr (elided_mapped_sound text front head f.front f.more piece rest groups tail_text heads f.each shown whole k)))
     ]
 
-groups_sound_elided : (text inner groups : List ℕ) (front : List (List ℕ)) (more piece : List ℕ) (rest : List (List ℕ)) → inner_text text ≡ Some inner → EachReads IsGroup front more → inner ≡ join_with_byte 58 (front ++ piece ∷ rest) → piece ≡ [] → behind_elision None more rest (groups_from (Some (length more)) more rest) ≡ Some groups → IsIpv6Text text groups
+groups_sound_elided : (text inner groups : List ℕ) (front : List (List ℕ)) (more piece : List ℕ) (rest : List (List ℕ)) → inner_text text ≡ Some inner → EachReads IsGroup front more → inner ≡ join_with_byte 58 (front ++ piece ∷ rest) → piece ≡ [] → after_elision None more rest (groups_from (Some (length more)) more rest) ≡ Some groups → IsIpv6Text text groups
 groups_sound_elided text inner groups front more piece rest found each whole empty e =
-    elim (behind_cases more rest (groups_from (Some (length more)) more rest) groups e) [
+    elim (elision_cases more rest (groups_from (Some (length more)) more rest) groups e) [
       | inl k ↦
           let shown = text_elided text inner front more [] [] found each (whole ∙ ap (λ ps. join_with_byte 58 (front ++ ps)) (ap₂ (λ p ps. p ∷ ps) empty k.0)) in
           inr (inl (elided_text_of text front more [] [] groups [] each tt shown refl (rw (append-nil more) k.1)))
@@ -406,7 +406,7 @@ groups_sound_elided text inner groups front more piece rest found each whole emp
           let (next, others, split, read) = k in
           let shown = text_elided text inner front more next others found each (whole ∙ ap (λ ps. join_with_byte 58 (front ++ ps)) (ap₂ (λ p ps. p ∷ ps) empty split)) in
           let f = front_of (Some (length more)) more rest groups read in
-          behind_sound text front more rest groups (join_with_byte 58 (next ∷ others)) each shown (ap (join_with_byte 58) (sym split)) f f.rest refl
+          elision_sound text front more rest groups (join_with_byte 58 (next ∷ others)) each shown (ap (join_with_byte 58) (sym split)) f f.rest refl
     ]
 
 groups_sound_by : (text inner groups : List ℕ) → inner_text text ≡ Some inner → (f : Front None [] (pieces_of 58 inner) groups) → (rest : List (List ℕ)) → f.rest ≡ rest → IsIpv6Text text groups

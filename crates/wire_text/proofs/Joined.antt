@@ -5,8 +5,8 @@ use Rattle.std.proofs.lemmas.List.Splits.{join_with_byte-slice_split}
 use Rattle.std.specs.Char.{digit_value}
 use Rattle.std.specs.List.{join_with_byte}
 use Rattle.std.proofs.NetLemmas.Options.{and_then_some, cond_some}
-use Rattle.wire_text.specs.Grammar.{IsNumber, EachReads, IsJoined, IsDotted, IsHexOctets}
-use Rattle.wire_text.specs.Reading.{number_of, numbers_of, with_front, pieces_of, pieces_after, FilledFrom, octets_read, hex_octets_read}
+use Rattle.wire_text.specs.Grammar.{IsNumber, EachReads, IsJoined, IsDotted, IsHexBytes}
+use Rattle.wire_text.specs.Reading.{number_of, numbers_of, with_front, pieces_of, pieces_after, FilledFrom, dotted_read, hex_bytes_read}
 use Rattle.wire_text.proofs.Numbers.{number_complete, number_sound}
 use Rattle.wire_text.proofs.Pieces.{ArePieces, pieces_of-join, pieces_some, digits_piece}
 
@@ -75,27 +75,27 @@ module _ (radix places most : ℕ) where
       omega (arith, EachReads-length (pieces_of mark rest.now) more each, ap length (sym shown), length-append (take i values) more, ap length (take_all i values end))
 
 -- four bytes joined by dots
-pub octets_complete : (text octets : List ℕ) → IsDotted text octets → octets_read text ≡ Some octets
-unfolding octets_read
-octets_complete text octets h = rw (joined_complete 10 3 255 46 text octets (lit≤ tt) (omega (arith, h.1)) h.0, h.1)
+pub dotted_complete : (text octets : List ℕ) → IsDotted text octets → dotted_read text ≡ Some octets
+unfolding dotted_read
+dotted_complete text octets h = rw (joined_complete 10 3 255 46 text octets (lit≤ tt) (omega (arith, h.1)) h.0, h.1)
 
 -- an accepted text is four bytes joined by dots
-pub octets_sound : (text octets : List ℕ) → octets_read text ≡ Some octets → IsDotted text octets
-unfolding octets_read
-octets_sound text octets e =
+pub dotted_sound : (text octets : List ℕ) → dotted_read text ≡ Some octets → IsDotted text octets
+unfolding dotted_read
+dotted_sound text octets e =
     and_then_some _ (numbers_of 10 3 255 (pieces_of 46 text)) octets e λ values read kept.
     let (four, same) = cond_some _ _ _ kept in
     (joined_sound 10 3 255 46 text octets (read ∙ ap Some same), rw (← same) (eqb-true _ _ four))
 
 -- six bytes in hex
-pub hex_octets_complete : (mark : ℕ) (text octets : List ℕ) → 16 ≤ digit_value mark → IsHexOctets mark text octets → hex_octets_read mark text ≡ Some octets
-unfolding hex_octets_read
-hex_octets_complete mark text octets other h = rw (joined_complete 16 2 255 mark text octets other (omega (arith, h.1)) h.0, h.1)
+pub hex_bytes_complete : (mark : ℕ) (text octets : List ℕ) → 16 ≤ digit_value mark → IsHexBytes mark text octets → hex_bytes_read mark text ≡ Some octets
+unfolding hex_bytes_read
+hex_bytes_complete mark text octets other h = rw (joined_complete 16 2 255 mark text octets other (omega (arith, h.1)) h.0, h.1)
 
 -- an accepted text is six bytes in hex joined by the mark
-pub hex_octets_sound : (mark : ℕ) (text octets : List ℕ) → hex_octets_read mark text ≡ Some octets → IsHexOctets mark text octets
-unfolding hex_octets_read
-hex_octets_sound mark text octets e =
+pub hex_bytes_sound : (mark : ℕ) (text octets : List ℕ) → hex_bytes_read mark text ≡ Some octets → IsHexBytes mark text octets
+unfolding hex_bytes_read
+hex_bytes_sound mark text octets e =
     and_then_some _ (numbers_of 16 2 255 (pieces_of mark text)) octets e λ values read kept.
     let (six, same) = cond_some _ _ _ kept in
     (joined_sound 16 2 255 mark text octets (read ∙ ap Some same), rw (← same) (eqb-true _ _ six))

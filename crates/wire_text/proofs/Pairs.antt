@@ -7,7 +7,7 @@ use Rattle.std.specs.Bool.{then_some}
 use Rattle.std.specs.Char.{digit_value}
 use Rattle.std.specs.List.{join_with_byte}
 use Rattle.std.specs.Str.Parse.{AllDigits}
-use Rattle.wire_text.specs.Grammar.{EachReads, IsNumber, IsHexOctets, IsHexText, Reads}
+use Rattle.wire_text.specs.Grammar.{EachReads, IsNumber, IsHexBytes, IsHexText, Reads}
 use Rattle.std.proofs.lemmas.Grind.{common_steps}
 use Rattle.std.proofs.lemmas.Bool.Decides.{nat_tests}
 
@@ -32,7 +32,7 @@ module _ (mark : ℕ) (text : List ℕ) where
       → (p ≡ true → IsNumber 16 2 255 (pair 0) a) → (q ≡ true → IsNumber 16 2 255 (pair 3) b) → (r ≡ true → IsNumber 16 2 255 (pair 6) c)
       → (s ≡ true → IsNumber 16 2 255 (pair 9) d) → (t ≡ true → IsNumber 16 2 255 (pair 12) e) → (u ≡ true → IsNumber 16 2 255 (pair 15) f)
       → ((mark_at 2 && mark_at 5 && mark_at 8 && mark_at 11 && mark_at 14) && p && q && r && s && t && u) ≡ true
-      → IsHexOctets mark text (a ∷ b ∷ c ∷ d ∷ e ∷ f ∷ [])
+      → IsHexBytes mark text (a ∷ b ∷ c ∷ d ∷ e ∷ f ∷ [])
   six_read a b c d e f p q r s t u long is_a is_b is_c is_d is_e is_f all =
       let (to_t, has_u) = and_parts _ _ all in
       let (to_s, has_t) = and_parts _ _ to_t in
@@ -129,16 +129,16 @@ module _ (mark : ℕ) where
       (full (next ∷ pieces) n (w ∷ values) each.1 (omega (arith, count)) (omega (arith, long, count, each.0.places_fit, most, whole)))
 
   -- a text of six numbers has at most 17 bytes
-  pub six_short : (text octets : List ℕ) → IsHexOctets mark text octets → length text ≤ 17
+  pub six_short : (text octets : List ℕ) → IsHexBytes mark text octets → length text ≤ 17
   six_short text octets h = omega (arith, short h.0.pieces octets h.0.each, ap length h.0.joined, h.1)
 
   -- if it has 17, it is six pairs
-  pub six_full : (text octets : List ℕ) → IsHexOctets mark text octets → length text ≡ 17 → ArePairs mark 5 text
+  pub six_full : (text octets : List ℕ) → IsHexBytes mark text octets → length text ≡ 17 → ArePairs mark 5 text
   six_full text octets h long =
       subst (ArePairs mark 5) (sym h.0.joined) (full h.0.pieces 5 octets h.0.each h.1 (sym (ap length h.0.joined) ∙ long))
 
   -- a text with another third byte has no such value
-  pub other_mark : (text octets : List ℕ) → length text ≡ 17 → get_or text 2 0 ≢ mark → ¬ (IsHexOctets mark text octets)
+  pub other_mark : (text octets : List ℕ) → length text ≡ 17 → get_or text 2 0 ≢ mark → ¬ (IsHexBytes mark text octets)
   other_mark text octets long differ h = differ (six_full text octets h long).2
 
   -- all tests of six pairs pass
@@ -174,10 +174,10 @@ module _ (mark : ℕ) where
 
 -- ---- the mark is a dash or a colon
 
-pub by_dashes : (text : List ℕ) (r : Option (List ℕ)) → ((octets : List ℕ) → ¬ (IsHexOctets 58 text octets)) → Reads (IsHexOctets 45) text r → Reads IsHexText text r
+pub by_dashes : (text : List ℕ) (r : Option (List ℕ)) → ((octets : List ℕ) → ¬ (IsHexBytes 58 text octets)) → Reads (IsHexBytes 45) text r → Reads IsHexText text r
 by_dashes text r none h = grind arith
 
-pub by_colons : (text : List ℕ) (r : Option (List ℕ)) → ((octets : List ℕ) → ¬ (IsHexOctets 45 text octets)) → Reads (IsHexOctets 58) text r → Reads IsHexText text r
+pub by_colons : (text : List ℕ) (r : Option (List ℕ)) → ((octets : List ℕ) → ¬ (IsHexBytes 45 text octets)) → Reads (IsHexBytes 58) text r → Reads IsHexText text r
 by_colons text r none h = grind arith
 
 -- a text of more than 17 bytes has no value
@@ -196,7 +196,7 @@ abbrev pub HasFirstMark : ℕ → List ℕ → Type 0
 HasFirstMark mark text =
     (3 ≤ length text) × (((digit_value (get_or text 1 0) < 16) × (get_or text 2 0 ≡ mark)) ⊎ (get_or text 1 0 ≡ mark))
 
-pub first_found : (mark : ℕ) (text octets : List ℕ) → IsHexOctets mark text octets → HasFirstMark mark text
+pub first_found : (mark : ℕ) (text octets : List ℕ) → IsHexBytes mark text octets → HasFirstMark mark text
 first_found mark text octets h = subst (HasFirstMark mark) (sym h.0.joined) (by h.0.pieces octets h.0.each h.1)
   where
     by : (pieces : List (List ℕ)) (values : List ℕ) → EachReads (IsNumber 16 2 255) pieces values → length values ≡ 6 → HasFirstMark mark (join_with_byte mark pieces)
@@ -218,11 +218,11 @@ pub second_byte : (mark : ℕ) (text : List ℕ) → 16 ≤ digit_value (get_or 
 second_byte mark text other h = grind arith
 
 -- a text whose first mark is another byte has no value with this mark
-pub not_with : (mark other : ℕ) (text : List ℕ) → mark ≢ other → ((octets : List ℕ) → IsHexOctets mark text octets → Some other ≡ Some mark) → (octets : List ℕ) → ¬ (IsHexOctets mark text octets)
+pub not_with : (mark other : ℕ) (text : List ℕ) → mark ≢ other → ((octets : List ℕ) → IsHexBytes mark text octets → Some other ≡ Some mark) → (octets : List ℕ) → ¬ (IsHexBytes mark text octets)
 not_with mark other text differ first octets h = differ (sym (same_Some other mark (first octets h)))
 
 -- a text with no first mark has no value
-pub without_mark : (text : List ℕ) (result : Option (List ℕ)) → result ≡ None → ((mark : ℕ) (octets : List ℕ) → 16 ≤ digit_value mark → IsHexOctets mark text octets → None ≡ Some mark) → Reads IsHexText text result
+pub without_mark : (text : List ℕ) (result : Option (List ℕ)) → result ≡ None → ((mark : ℕ) (octets : List ℕ) → 16 ≤ digit_value mark → IsHexBytes mark text octets → None ≡ Some mark) → Reads IsHexText text result
 without_mark text (Some octets) none first = absurd (cc)
 without_mark text None none first = λ octets. elim [
   | inl h ↦ none-some 45 (first 45 octets (lit≤ tt) h)

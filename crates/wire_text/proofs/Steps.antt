@@ -5,12 +5,12 @@ use Rattle.std.proofs.lemmas.List.Splits.{join_with_byte-slice_split, slice_spli
 use Rattle.wire_text.specs.Grammar.{groups_of, mapped_groups, IsDotted}
 use Rattle.std.specs.List.{join_with_byte}
 use Rattle.std.specs.Bool.{then_some}
-use Rattle.wire_text.specs.Reading.{FilledFrom, ◌>>=◌, FirstPiece, octets_read, hex_octets_read, numbers_of, pieces_of, all_groups, may_end_dotted, groups_from, group_of, behind_elision, dotted_end, pieces_after, mapped_read, inner_text, groups_read}
+use Rattle.wire_text.specs.Reading.{FilledFrom, ◌>>=◌, FirstPiece, dotted_read, hex_bytes_read, numbers_of, pieces_of, all_groups, may_end_dotted, groups_from, group_of, after_elision, dotted_end, pieces_after, mapped_read, inner_text, groups_read}
 use Rattle.std.proofs.lemmas.List.Elements.{All-nil}
 use Rattle.std.specs.Str.Parse.{AllDigits}
-use Rattle.wire_text.proofs.First.{IsBehind, IsFirst, no_piece}
+use Rattle.wire_text.proofs.First.{IsPast, IsFirst, no_piece}
 use Rattle.wire_text.proofs.Numbers.{number_sound}
-use Rattle.wire_text.proofs.Joined.{octets_complete, octets_sound}
+use Rattle.wire_text.proofs.Joined.{dotted_complete, dotted_sound}
 use Rattle.wire_text.proofs.Ipv6.{dotted_by, dotted_piece}
 use Rattle.std.proofs.lemmas.Grind.{common_steps}
 use Rattle.std.proofs.lemmas.Bool.Decides.{nat_tests}
@@ -20,18 +20,18 @@ counted : (count : ℕ) (read : Option (List ℕ)) (values : List ℕ) (done : B
 counted count read values done filled len = grind arith
 
 -- the filled array is the four bytes of the text
-pub four_octets : (text values : List ℕ) (done : Bool) (r : Option (List ℕ)) → FilledFrom (numbers_of 10 3 255 (pieces_of 46 text)) values done → length values ≡ 4 → r ≡ then_some done values → r ≡ octets_read text
-unfolding octets_read
-four_octets text values done r filled len e = e ∙ counted 4 _ values done filled len
+pub four_bytes : (text values : List ℕ) (done : Bool) (r : Option (List ℕ)) → FilledFrom (numbers_of 10 3 255 (pieces_of 46 text)) values done → length values ≡ 4 → r ≡ then_some done values → r ≡ dotted_read text
+unfolding dotted_read
+four_bytes text values done r filled len e = e ∙ counted 4 _ values done filled len
 
 -- the filled array is the six bytes of the text
-pub six_octets : (mark : ℕ) (text values : List ℕ) (done : Bool) (r : Option (List ℕ)) → FilledFrom (numbers_of 16 2 255 (pieces_of mark text)) values done → length values ≡ 6 → r ≡ then_some done values → r ≡ hex_octets_read mark text
-unfolding hex_octets_read
-six_octets mark text values done r filled len e = e ∙ counted 6 _ values done filled len
+pub six_bytes : (mark : ℕ) (text values : List ℕ) (done : Bool) (r : Option (List ℕ)) → FilledFrom (numbers_of 16 2 255 (pieces_of mark text)) values done → length values ≡ 6 → r ≡ then_some done values → r ≡ hex_bytes_read mark text
+unfolding hex_bytes_read
+six_bytes mark text values done r filled len e = e ∙ counted 6 _ values done filled len
 
 -- one iteration of the loop, by the kind of the piece
 module _ (before : Option ℕ) (seen piece : List ℕ) (pieces : List (List ℕ)) where
-  pub at_empty : length piece ≡ 0 → groups_from before seen (piece ∷ pieces) ≡ behind_elision before seen pieces (groups_from (Some (length seen)) seen pieces)
+  pub at_empty : length piece ≡ 0 → groups_from before seen (piece ∷ pieces) ≡ after_elision before seen pieces (groups_from (Some (length seen)) seen pieces)
   unfolding groups_from
   at_empty none = rw (eq-eqb (length piece) 0 none) refl
 
@@ -56,15 +56,15 @@ none_from o e = grind arith
 pub still_within : (before : Option ℕ) (len : ℕ) → IfSome before (λ n. n ≤ len) → IfSome before (λ n. n ≤ len + 1)
 still_within before len h = grind arith
 
-pub behind_end : (seen rest : List ℕ) (later : Option (List ℕ)) → length rest ≡ 0 → behind_elision None seen (pieces_of 58 rest) later ≡ all_groups (Some (length seen)) seen
-behind_end seen [] later e = refl
-behind_end seen (c ∷ rest) later e = absurd (omega arith)
+pub after_end : (seen rest : List ℕ) (later : Option (List ℕ)) → length rest ≡ 0 → after_elision None seen (pieces_of 58 rest) later ≡ all_groups (Some (length seen)) seen
+after_end seen [] later e = refl
+after_end seen (c ∷ rest) later e = absurd (omega arith)
 
-behind_more : (seen rest : List ℕ) (pieces : List (List ℕ)) (later : Option (List ℕ)) → join_with_byte 58 pieces ≡ rest → 0 < length rest → behind_elision None seen pieces later ≡ later
-behind_more seen rest pieces later e some = grind arith
+more_after : (seen rest : List ℕ) (pieces : List (List ℕ)) (later : Option (List ℕ)) → join_with_byte 58 pieces ≡ rest → 0 < length rest → after_elision None seen pieces later ≡ later
+more_after seen rest pieces later e some = grind arith
 
-pub behind_later : (seen rest : List ℕ) (later : Option (List ℕ)) → length rest ≢ 0 → behind_elision None seen (pieces_of 58 rest) later ≡ later
-behind_later seen rest later some = behind_more seen rest (pieces_of 58 rest) later (join_with_byte-slice_split 58 rest) (omega arith)
+pub later_elision : (seen rest : List ℕ) (later : Option (List ℕ)) → length rest ≢ 0 → after_elision None seen (pieces_of 58 rest) later ≡ later
+later_elision seen rest later some = more_after seen rest (pieces_of 58 rest) later (join_with_byte-slice_split 58 rest) (omega arith)
 
 -- the text has an inner text, or `None`
 pub inner_none : (text : List ℕ) → None ≡ inner_text text → groups_read text ≡ None
@@ -81,16 +81,16 @@ inner_some text inner e = rw (← e) refl
 -- a text that is not dotted gives no IPv4-mapped address
 pub mapped_none : (text : List ℕ) → ((octets : List ℕ) → ¬ (IsDotted text octets)) → mapped_read text ≡ None
 unfolding mapped_read
-mapped_none text none = by (octets_read text) refl
+mapped_none text none = by (dotted_read text) refl
   where
-    by : (o : Option (List ℕ)) → octets_read text ≡ o → (octets_read text >>= λ octets. Some (mapped_groups ++ groups_of octets)) ≡ None
+    by : (o : Option (List ℕ)) → dotted_read text ≡ o → (dotted_read text >>= λ octets. Some (mapped_groups ++ groups_of octets)) ≡ None
     by None e = rw e refl
-    by (Some octets) e = absurd (none octets (octets_sound text octets e))
+    by (Some octets) e = absurd (none octets (dotted_sound text octets e))
 
 -- the groups of a mapped address
 pub mapped_is : (text octets : List ℕ) → IsDotted text octets → mapped_read text ≡ Some (mapped_groups ++ groups_of octets)
 unfolding mapped_read
-mapped_is text octets dotted = rw (octets_complete text octets dotted) refl
+mapped_is text octets dotted = rw (dotted_complete text octets dotted) refl
 
 not_mapped : (text : List ℕ) → (length text ≡ 0) ⊎ (1 < length (pieces_of 58 text)) → mapped_read text ≡ None
 not_mapped text why = mapped_none text λ octets h. elim why [
@@ -98,8 +98,8 @@ not_mapped text why = mapped_none text λ octets h. elim why [
   | inr several ↦ omega (arith, ap length (dotted_piece text octets h))
 ]
 
-behind_nothing : (before : Option ℕ) (seen : List ℕ) (later : Option (List ℕ)) → behind_elision before seen [] later ≡ None
-behind_nothing before seen later = grind arith
+after_nothing : (before : Option ℕ) (seen : List ℕ) (later : Option (List ℕ)) → after_elision before seen [] later ≡ None
+after_nothing before seen later = grind arith
 
 -- no `::` is possible here: it occurred before, or no colon follows
 pub in_apart : (before : Option ℕ) (text : List ℕ) → (is_some before ≡ true) ⊎ (0 < length text → get_or text 0 0 ≢ 58) → ¬ ((before ≡ None) × (0 < length text) × (get_or text 0 0 ≡ 58))
@@ -112,11 +112,11 @@ full_apart before seen full = grind (arith, common_steps, nat_tests)
 abbrev pub IsStop : Option ℕ → List ℕ → List ℕ → ℕ → Type 0
 IsStop before seen text count =
     ((count ≡ 0) × ((is_some before ≡ true) ⊎ (length text ≡ 0)))
-    ⊎ ((¬ (IsBehind 58 (drop count text)))
+    ⊎ ((¬ (IsPast 58 (drop count text)))
     ⊎ ((length seen ≡ 8) × ((g : ℕ) × ((after : Option (Bor (List ℕ))) × FirstPiece 58 16 4 0xffff text (Some (g, after))))))
 
 -- a colon comes first only if no digits precede it
-other_first : (text : List ℕ) (count : ℕ) → AllDigits 16 (take count text) → ¬ (IsBehind 58 (drop count text)) → 0 < length text → get_or text 0 0 ≢ 58
+other_first : (text : List ℕ) (count : ℕ) → AllDigits 16 (take count text) → ¬ (IsPast 58 (drop count text)) → 0 < length text → get_or text 0 0 ≢ 58
 other_first text count digits other some = grind arith
 
 either_way : {A : Type 0} (b : Bool) (x : A) → x ≡ cond b x x
@@ -145,17 +145,17 @@ module _ {read : Option (List ℕ)} (before : Option ℕ) (seen : List ℕ) {res
     group_more now room same = at_first ∙ rw (lt-ltb (length seen) 8 room, same, first.read.1) refl
 
   --   `::`, followed by the end or by more text
-  module _ (behind : Bor (List ℕ)) (none : before ≡ None) (colon_first : more.now ≡ 58 ∷ behind.now) where
-    at_elision : read ≡ behind_elision None seen (pieces_of 58 behind.now) (groups_from (Some (length seen)) seen (pieces_of 58 behind.now))
+  module _ (following : Bor (List ℕ)) (none : before ≡ None) (colon_first : more.now ≡ 58 ∷ following.now) where
+    at_elision : read ≡ after_elision None seen (pieces_of 58 following.now) (groups_from (Some (length seen)) seen (pieces_of 58 following.now))
     at_elision =
-        let cut = ap (pieces_of 58) colon_first ∙ slice_split_at (λ b. b == 58) [] 58 behind.now (All-nil (λ b. (b == 58) ≡ false)) refl in
-        at_pieces ([] ∷ pieces_of 58 behind.now) cut ∙ at_empty before seen [] (pieces_of 58 behind.now) refl
-        ∙ ap (λ b. behind_elision b seen (pieces_of 58 behind.now) (groups_from (Some (length seen)) seen (pieces_of 58 behind.now))) none
+        let cut = ap (pieces_of 58) colon_first ∙ slice_split_at (λ b. b == 58) [] 58 following.now (All-nil (λ b. (b == 58) ≡ false)) refl in
+        at_pieces ([] ∷ pieces_of 58 following.now) cut ∙ at_empty before seen [] (pieces_of 58 following.now) refl
+        ∙ ap (λ b. after_elision b seen (pieces_of 58 following.now) (groups_from (Some (length seen)) seen (pieces_of 58 following.now))) none
 
     -- after `::` the loop continues, unless the text ends
-    pub elided : (empty : Bool) → empty ≡ (length behind.now == 0) → read ≡ groups_from (Some (length seen)) seen (pieces_after 58 (then_some (not empty) behind))
-    elided true e = at_elision ∙ behind_end seen behind.now _ (eqb-true _ _ (sym e)) ∙ sym (at_end (Some (length seen)) seen)
-    elided false e = at_elision ∙ behind_later seen behind.now _ (eqb-false _ _ (sym e))
+    pub elided : (empty : Bool) → empty ≡ (length following.now == 0) → read ≡ groups_from (Some (length seen)) seen (pieces_after 58 (then_some (not empty) following))
+    elided true e = at_elision ∙ after_end seen following.now _ (eqb-true _ _ (sym e)) ∙ sym (at_end (Some (length seen)) seen)
+    elided false e = at_elision ∙ later_elision seen following.now _ (eqb-false _ _ (sym e))
 
   --   anything else is a dotted part, the last piece
   pub at_last : FirstPiece 58 16 4 0xffff more.now None → ¬ ((before ≡ None) × (0 < length more.now) × (get_or more.now 0 0 ≡ 58)) → read ≡ cond (may_end_dotted before seen) (mapped_read more.now) None
@@ -167,17 +167,17 @@ module _ {read : Option (List ℕ)} (before : Option ℕ) (seen : List ℕ) {res
       whole : (pieces : List (List ℕ)) → pieces_of 58 more.now ≡ pieces → more.now ≡ join_with_byte 58 pieces
       whole pieces cut = sym (join_with_byte-slice_split 58 more.now) ∙ ap (join_with_byte 58) cut
 
-      once : (b : Option ℕ) (next : List ℕ) (others : List (List ℕ)) → before ≡ b → more.now ≡ 58 ∷ join_with_byte 58 (next ∷ others) → behind_elision b seen (next ∷ others) (groups_from (Some (length seen)) seen (next ∷ others)) ≡ None
+      once : (b : Option ℕ) (next : List ℕ) (others : List (List ℕ)) → before ≡ b → more.now ≡ 58 ∷ join_with_byte 58 (next ∷ others) → after_elision b seen (next ∷ others) (groups_from (Some (length seen)) seen (next ∷ others)) ≡ None
       once None next others none e = absurd (apart (none, omega (arith, ap length e), ap (λ t. get_or t 0 0) e))
       once (Some n) next others none e = refl
 
       by : (piece : List ℕ) (others : List (List ℕ)) → group_of piece ≡ None → pieces_of 58 more.now ≡ piece ∷ others → groups_from before seen (piece ∷ others) ≡ cond (may_end_dotted before seen) (mapped_read more.now) None
       by [] [] none cut =
-          at_empty before seen [] [] refl ∙ behind_nothing before seen _
+          at_empty before seen [] [] refl ∙ after_nothing before seen _
           ∙ unread (not_mapped more.now (inl (omega (arith, ap length (whole ([] ∷ []) cut)))))
       by [] (next ∷ others) none cut =
           at_empty before seen [] (next ∷ others) refl
-          ∙ ap (λ b. behind_elision b seen (next ∷ others) (groups_from (Some (length seen)) seen (next ∷ others))) refl
+          ∙ ap (λ b. after_elision b seen (next ∷ others) (groups_from (Some (length seen)) seen (next ∷ others))) refl
           ∙ once before next others refl (whole ([] ∷ next ∷ others) cut)
           ∙ unread (not_mapped more.now (inr (omega (arith, ap length cut))))
       by (c ∷ piece) [] none cut =

@@ -4,9 +4,9 @@ use Rattle.std.proofs.lemmas.Bool.{and_parts}
 use Rattle.std.proofs.lemmas.List.Elements.{All-weaker}
 use Rattle.std.proofs.lemmas.List.Sums.{AllPass-from_list_all}
 use Rattle.std.specs.List.{list_all}
-use Rattle.wire_text.specs.Grammar.{IsDotted, IsHexOctets, IsHexText, IsIpv6Text}
-use Rattle.wire_text.specs.Reading.{number_of, octets_read, hex_octets_read, mapped_read, groups_from, groups_read}
-use Rattle.wire_text.proofs.Joined.{octets_complete, hex_octets_complete}
+use Rattle.wire_text.specs.Grammar.{IsDotted, IsHexBytes, IsHexText, IsIpv6Text}
+use Rattle.wire_text.specs.Reading.{number_of, dotted_read, hex_bytes_read, mapped_read, groups_from, groups_read}
+use Rattle.wire_text.proofs.Joined.{dotted_complete, hex_bytes_complete}
 use Rattle.wire_text.proofs.Ipv6.{groups_complete}
 
 abbrev HasNoValue : (List ℕ → List ℕ → Type 0) → List ℕ → Type 0
@@ -31,7 +31,7 @@ ipv6_texts =
     ∷ codes "::1.2.3.4" ∷ codes "::ffff:0:1.2.3.4" ∷ codes "0:0:0:0:0::ffff:1.2.3.4" ∷ codes "::ffff:1.2.3.4:5" ∷ []
 
 no-ipv6 : All (HasNoValue IsIpv6Text) ipv6_texts
-unfolding number_of octets_read mapped_read groups_from groups_read
+unfolding number_of dotted_read mapped_read groups_from groups_read
 no-ipv6 = each IsIpv6Text (λ text. is_none (groups_read text)) (no_value IsIpv6Text groups_read groups_complete) ipv6_texts refl
 
 abbrev ipv4_texts : List (List ℕ)
@@ -41,8 +41,8 @@ ipv4_texts =
     ∷ codes "0001.2.3.4" ∷ codes "256.0.0.0" ∷ []
 
 no-ipv4 : All (HasNoValue IsDotted) ipv4_texts
-unfolding number_of octets_read
-no-ipv4 = each IsDotted (λ text. is_none (octets_read text)) (no_value IsDotted octets_read octets_complete) ipv4_texts refl
+unfolding number_of dotted_read
+no-ipv4 = each IsDotted (λ text. is_none (dotted_read text)) (no_value IsDotted dotted_read dotted_complete) ipv4_texts refl
 
 abbrev ethernet_texts : List (List ℕ)
 ethernet_texts =
@@ -50,10 +50,10 @@ ethernet_texts =
     -- groups of three digits
     ∷ codes "02:00:00:00:00:000" ∷ codes "100:00:00:00:00:00" ∷ []
 
-no_hex : (text : List ℕ) → (is_none (hex_octets_read 45 text) && is_none (hex_octets_read 58 text)) ≡ true → HasNoValue IsHexText text
-no_hex text e octets (inl h) = no_value (IsHexOctets 45) (hex_octets_read 45) (λ text octets. hex_octets_complete 45 text octets (lit≤ tt)) text (and_parts _ _ e).0 octets h
-no_hex text e octets (inr h) = no_value (IsHexOctets 58) (hex_octets_read 58) (λ text octets. hex_octets_complete 58 text octets (lit≤ tt)) text (and_parts _ _ e).1 octets h
+no_hex : (text : List ℕ) → (is_none (hex_bytes_read 45 text) && is_none (hex_bytes_read 58 text)) ≡ true → HasNoValue IsHexText text
+no_hex text e octets (inl h) = no_value (IsHexBytes 45) (hex_bytes_read 45) (λ text octets. hex_bytes_complete 45 text octets (lit≤ tt)) text (and_parts _ _ e).0 octets h
+no_hex text e octets (inr h) = no_value (IsHexBytes 58) (hex_bytes_read 58) (λ text octets. hex_bytes_complete 58 text octets (lit≤ tt)) text (and_parts _ _ e).1 octets h
 
 no-ethernet : All (HasNoValue IsHexText) ethernet_texts
-unfolding number_of hex_octets_read
-no-ethernet = each IsHexText (λ text. is_none (hex_octets_read 45 text) && is_none (hex_octets_read 58 text)) no_hex ethernet_texts refl
+unfolding number_of hex_bytes_read
+no-ethernet = each IsHexText (λ text. is_none (hex_bytes_read 45 text) && is_none (hex_bytes_read 58 text)) no_hex ethernet_texts refl

@@ -42,20 +42,20 @@ pub record IsJoined (mark : ℕ) (R : List ℕ → ℕ → Type 0) (text values 
 -- ---- bytes in decimal and in hex
 
 -- the text of a byte in decimal: one to three digits, at most 255
-abbrev pub IsOctet : List ℕ → ℕ → Type 0
-IsOctet text n = IsNumber 10 3 255 text n
+abbrev pub IsDecimalByte : List ℕ → ℕ → Type 0
+IsDecimalByte text n = IsNumber 10 3 255 text n
 
 -- the text of four bytes in decimal, joined by dots
 abbrev pub IsDotted : List ℕ → List ℕ → Type 0
-IsDotted text octets = IsJoined dot IsOctet text octets × (length octets ≡ 4)
+IsDotted text bytes = IsJoined dot IsDecimalByte text bytes × (length bytes ≡ 4)
 
 -- the text of six bytes, each of one or two hex digits, joined by the mark
-abbrev pub IsHexOctets : ℕ → List ℕ → List ℕ → Type 0
-IsHexOctets mark text octets = IsJoined mark (IsNumber 16 2 255) text octets × (length octets ≡ 6)
+abbrev pub IsHexBytes : ℕ → List ℕ → List ℕ → Type 0
+IsHexBytes mark text bytes = IsJoined mark (IsNumber 16 2 255) text bytes × (length bytes ≡ 6)
 
 -- the text of six bytes in hex, joined all by dashes or all by colons
 abbrev pub IsHexText : List ℕ → List ℕ → Type 0
-IsHexText text octets = IsHexOctets dash text octets ⊎ IsHexOctets colon text octets
+IsHexText text bytes = IsHexBytes dash text bytes ⊎ IsHexBytes colon text bytes
 
 -- ---- groups of 16 bits (RFC 4291, section 2.2)
 
@@ -92,7 +92,7 @@ mapped_groups = 0 ∷ 0 ∷ 0 ∷ 0 ∷ 0 ∷ 0xffff ∷ []
 abbrev pub groups_of : List ℕ → List ℕ
 groups_of [] = []
 groups_of (a ∷ []) = []
-groups_of (a ∷ b ∷ octets) = (a * 256 + b) ∷ groups_of octets
+groups_of (a ∷ b ∷ bytes) = (a * 256 + b) ∷ groups_of bytes
 
 -- the text of an IPv4-mapped address without `::`: six groups with the values 0, 0, 0, 0, 0, ffff, then a colon and a
 -- dotted part

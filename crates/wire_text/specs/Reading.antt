@@ -54,14 +54,14 @@ FilledFrom read values true = read ≡ Some values
 FilledFrom read values false = (ns : List ℕ) → read ≡ Some ns → length ns ≡ length values → ⊥
 
 -- the four bytes of a dotted text, if it is one
-unfoldable pub octets_read : List ℕ → Option (List ℕ)
-octets_read text =
-    numbers_of 10 3 255 (pieces_of dot text) >>= λ octets. if length octets == 4 then Some octets else None
+unfoldable pub dotted_read : List ℕ → Option (List ℕ)
+dotted_read text =
+    numbers_of 10 3 255 (pieces_of dot text) >>= λ bytes. if length bytes == 4 then Some bytes else None
 
 -- the six bytes of a text in hex with this mark, if it is one
-unfoldable pub hex_octets_read : ℕ → List ℕ → Option (List ℕ)
-hex_octets_read mark text =
-    numbers_of 16 2 255 (pieces_of mark text) >>= λ octets. if length octets == 6 then Some octets else None
+unfoldable pub hex_bytes_read : ℕ → List ℕ → Option (List ℕ)
+hex_bytes_read mark text =
+    numbers_of 16 2 255 (pieces_of mark text) >>= λ bytes. if length bytes == 6 then Some bytes else None
 
 -- the value of a text that is one group of an IPv6 address, if it is one
 abbrev pub group_of : List ℕ → Option ℕ
@@ -85,7 +85,7 @@ may_end_dotted (Some before) seen = nat_le before 4 && bytes_eq seen (replicate 
 
 -- the groups of an IPv4-mapped address, from its dotted part
 unfoldable pub mapped_read : List ℕ → Option (List ℕ)
-mapped_read text = octets_read text >>= λ octets. Some (mapped_groups ++ groups_of octets)
+mapped_read text = dotted_read text >>= λ bytes. Some (mapped_groups ++ groups_of bytes)
 
 -- the eight groups of a text whose last piece is a dotted part, if one is allowed there
 abbrev pub dotted_end : Option ℕ → List ℕ → List ℕ → List (List ℕ) → Option (List ℕ)
@@ -95,17 +95,17 @@ dotted_end before seen piece (next ∷ pieces) = None
 
 -- the value after an empty piece, which stands for `::`: that of the groups so far if the text ends there, else that
 -- of the rest; a second `::` and a single colon at the end are rejected
-abbrev pub behind_elision : Option ℕ → List ℕ → List (List ℕ) → Option (List ℕ) → Option (List ℕ)
-behind_elision (Some before) seen pieces later = None
-behind_elision None seen [] later = None
-behind_elision None seen ([] ∷ []) later = all_groups (Some (length seen)) seen
-behind_elision None seen pieces later = later
+abbrev pub after_elision : Option ℕ → List ℕ → List (List ℕ) → Option (List ℕ) → Option (List ℕ)
+after_elision (Some before) seen pieces later = None
+after_elision None seen [] later = None
+after_elision None seen ([] ∷ []) later = all_groups (Some (length seen)) seen
+after_elision None seen pieces later = later
 
 -- the eight groups, from the groups parsed so far and those of the remaining pieces; an empty piece is `::`
 unfoldable pub groups_from : Option ℕ → List ℕ → List (List ℕ) → Option (List ℕ)
 groups_from before seen [] = all_groups before seen
 groups_from before seen (piece ∷ pieces) =
-    if length piece == 0 then behind_elision before seen pieces (groups_from (Some (length seen)) seen pieces)
+    if length piece == 0 then after_elision before seen pieces (groups_from (Some (length seen)) seen pieces)
     else option_map_or
     (λ group. if nat_lt (length seen) 8 then groups_from before (seen ++ group ∷ []) pieces else None)
     (group_of piece) (dotted_end before seen piece pieces)

@@ -19,7 +19,7 @@ fn last_place(text: &[u8], byte: u8) -> Option<usize>
 /// Splits at the last mark. Returns the text in front of it and the decimal number of one to `places`
 /// digits after it, if it is at most `most`. It looks only at the last `places` + 1 bytes.
 #[inline(always)]
-pub fn number_behind(text: &[u8], mark: u8, places: usize, most: u32) -> Option<(&[u8], u32)>
+pub fn number_after(text: &[u8], mark: u8, places: usize, most: u32) -> Option<(&[u8], u32)>
     requires apart { 10 ≤ digit_value mark }
     requires short { places ≤ 5 }
     ensures value { MatchOption result ((front : List ℕ) (n : ℕ) → ¬ (EndsInNumber mark places most text.now front n))

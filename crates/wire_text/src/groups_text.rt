@@ -6,8 +6,8 @@ ghost use Rattle.wire_text.specs.Grammar.{IsDotted, IsIpv6Text, Reads, groups_of
 ghost use Rattle.wire_text.specs.Reading.{inner_text, spread};
 ghost use Rattle.wire_text.specs.Reading as Reading;
 
+use crate::bytes_text::octets;
 use crate::number_text::first_group;
-use crate::octets_text::octets;
 
 fn are_zeros(groups: &[u16]) -> bool
     ensures { result ≡ list_all (λ g. g == 0) groups.now }
@@ -107,12 +107,12 @@ fn mapped_as_printed(text: &[u8]) -> Option<[u16; 8]>
 fn inner(text: &[u8]) -> Option<&[u8]>
     ensures { option_copied result ≡ inner_text text.now }
 {
-    let (first, behind) = text.split_first()?;
+    let (first, following) = text.split_first()?;
     if *first != b':' {
         return Some(text);
     }
-    if *behind.first()? == b':' {
-        Some(behind)
+    if *following.first()? == b':' {
+        Some(following)
     } else {
         None
     }
@@ -135,14 +135,14 @@ pub fn groups(text: &[u8]) -> Option<[u16; 8]>
         let group = number as u16;
         rest = match (digits, more[digits..].split_first()) {
             // A colon without digits in front of it is `::`, which may occur once and may be the end.
-            (0, Some((byte, behind))) if *byte == b':' && before.is_none() => {
+            (0, Some((byte, following))) if *byte == b':' && before.is_none() => {
                 before = Some(len);
-                (!behind.is_empty()).then_some(behind)
+                (!following.is_empty()).then_some(following)
             }
-            (1.., Some((byte, behind))) if *byte == b':' && len < 8 => {
+            (1.., Some((byte, following))) if *byte == b':' && len < 8 => {
                 groups[len] = group;
                 len += 1;
-                Some(behind)
+                Some(following)
             }
             (1.., None) if len < 8 => {
                 groups[len] = group;

@@ -121,7 +121,7 @@ pub(crate) fn first_piece(
     }
     match text[len..].split_first() {
         None => Some((value, None)),
-        Some((byte, behind)) if *byte == mark => Some((value, Some(behind))),
+        Some((byte, following)) if *byte == mark => Some((value, Some(following))),
         _ => None,
     }
 }

@@ -6,7 +6,7 @@ use Rattle.wire_ends.specs.declared.ip_address.IpAddress.{IpAddress}
 use Rattle.wire_checksum.proofs.Residues.{residue-bound, residue-complement, residue-of_zero, residue-same}
 use Rattle.wire_checksum.proofs.WordLists.{sum-words-append}
 use Rattle.wire_checksum.specs.PseudoHeader.{pseudo_header_bytes, with_pseudo_header}
-use Rattle.wire_ends.specs.IpAddress.{octets_of}
+use Rattle.wire_ends.specs.IpAddress.{address_bytes}
 use Rattle.wire_checksum.specs.WordSum.{residue, words}
 use Rattle.wire_ends.specs.declared.ip_protocol.IpProtocol.TheVariants as protocol
 use Rattle.wire_udp.specs.Udp.{Reads, bytes_of, checksum_for, header_bytes, packet_len, packet_sum, packet_with}
@@ -18,8 +18,8 @@ pub record IsInRange (v : UdpRepr) (payload : List ℕ) (src dst : IpAddress) : 
   pub dst_port : v.dst_port < 65536
   pub receiver : v.dst_port ≢ 0
   pub payload_len : length payload ≤ 65527
-  pub src_octets : length (octets_of src) % 2 ≡ 0
-  pub dst_octets : length (octets_of dst) % 2 ≡ 0
+  pub src_bytes : length (address_bytes src) % 2 ≡ 0
+  pub dst_bytes : length (address_bytes dst) % 2 ≡ 0
 
 -- the length of a packet is the length of header and payload
 packet_len-packet_with : (v : UdpRepr) (payload rest : List ℕ) (checksum : ℕ) → length payload ≤ 65527 → packet_len (packet_with v payload checksum ++ rest) ≡ 8 + length payload
@@ -56,10 +56,10 @@ sum-words-header : (v : UdpRepr) (len checksum : ℕ) → checksum < 65536 → s
 unfolding words
 sum-words-header v len checksum fits = omega arith
 
-sum-words-checksum : (v : UdpRepr) (src dst : IpAddress) (payload : List ℕ) (checksum : ℕ) → length (octets_of src) % 2 ≡ 0 → length (octets_of dst) % 2 ≡ 0 → checksum < 65536
+sum-words-checksum : (v : UdpRepr) (src dst : IpAddress) (payload : List ℕ) (checksum : ℕ) → length (address_bytes src) % 2 ≡ 0 → length (address_bytes dst) % 2 ≡ 0 → checksum < 65536
     → sum (words (with_pseudo_header src dst protocol.Udp (packet_with v payload checksum))) ≡ sum (words (with_pseudo_header src dst protocol.Udp (packet_with v payload 0))) + checksum
 sum-words-checksum v src dst payload checksum s d fits =
-    let header = pseudo_header_bytes (octets_of src) (octets_of dst) protocol.Udp (length (packet_with v payload 0)) in
+    let header = pseudo_header_bytes (address_bytes src) (address_bytes dst) protocol.Udp (length (packet_with v payload 0)) in
     let even : length header % 2 ≡ 0 = simp length-append (omega arith) in
     sum-words-append header (packet_with v payload checksum) even
     ∙ omega (
@@ -71,7 +71,7 @@ sum-words-checksum v src dst payload checksum s d fits =
     )
 
 -- the checksum of the packet is correct
-verifies : (v : UdpRepr) (src dst : IpAddress) (payload : List ℕ) → length (octets_of src) % 2 ≡ 0 → length (octets_of dst) % 2 ≡ 0
+verifies : (v : UdpRepr) (src dst : IpAddress) (payload : List ℕ) → length (address_bytes src) % 2 ≡ 0 → length (address_bytes dst) % 2 ≡ 0
     → packet_sum src dst (bytes_of v payload src dst true) ≡ 65535
 verifies v src dst payload s d =
     let total = sum (words (with_pseudo_header src dst protocol.Udp (packet_with v payload 0))) in
@@ -103,6 +103,6 @@ pub reads_bytes_of : (v : UdpRepr) (src dst : IpAddress) (payload rest : List �
 reads_bytes_of v src dst payload rest true verified h sound =
     let sum = packet_sum src dst (packet_with v payload 0) in
     let bounds = checksum_for-bounds sum (residue-bound _) in
-    reads-packet_with v src dst payload rest (checksum_for sum) verified h (λ on. (omega arith, omega arith, verifies v src dst payload h.src_octets h.dst_octets))
+    reads-packet_with v src dst payload rest (checksum_for sum) verified h (λ on. (omega arith, omega arith, verifies v src dst payload h.src_bytes h.dst_bytes))
 reads_bytes_of v src dst payload rest false verified h sound =
     reads-packet_with v src dst payload rest 0 verified h (λ on. let no : IsTrue false = sound on in absurd (cc))

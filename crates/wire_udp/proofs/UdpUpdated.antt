@@ -11,7 +11,7 @@ use Rattle.wire_checksum.proofs.Residues.{residue-bound, residue-of_zero, residu
 use Rattle.wire_checksum.proofs.Updated.{stays_valid, updated-small}
 use Rattle.wire_checksum.specs.PseudoHeader.{with_pseudo_header}
 use Rattle.wire_checksum.specs.WordSum.{residue, sum_of_bytes, updated, words}
-use Rattle.wire_ends.specs.IpAddress.{octets_of, version_of}
+use Rattle.wire_ends.specs.IpAddress.{address_bytes, version_of}
 use Rattle.wire_ends.specs.declared.ip_address.IpAddress.{IpAddress}
 use Rattle.wire_ends.specs.declared.ip_protocol.IpProtocol.TheVariants as protocol
 use Rattle.wire_udp.proofs.UdpChanged.{reads_checksum, reads-verified}
@@ -29,7 +29,7 @@ pseudo src dst n = pseudo_header_total src dst protocol.Udp n
 abbrev total : IpAddress → IpAddress → List ℕ → ℕ
 total src dst bytes = sum (words (with_pseudo_header src dst protocol.Udp (take (packet_len bytes) bytes)))
 
-total-parts : (src dst : IpAddress) (bytes : List ℕ) (n : ℕ) → length (octets_of src) % 2 ≡ 0 → length (octets_of dst) % 2 ≡ 0 → n ≤ length bytes
+total-parts : (src dst : IpAddress) (bytes : List ℕ) (n : ℕ) → length (address_bytes src) % 2 ≡ 0 → length (address_bytes dst) % 2 ≡ 0 → n ≤ length bytes
     → sum (words (with_pseudo_header src dst protocol.Udp (take n bytes))) ≡ pseudo src dst n + sum (words (take n bytes))
 total-parts src dst bytes n s d room =
     sum-with_pseudo_header src dst protocol.Udp (take n bytes) s d ∙ ap (λ (m : ℕ). pseudo src dst m + sum (words (take n bytes))) (length-take-le n bytes room)
@@ -42,7 +42,7 @@ lengths-with_checksum bytes x are room = (
 )
 
 -- the new checksum replaces the old one in the total
-total-with_checksum : (src dst : IpAddress) (bytes : List ℕ) (x : ℕ) → AreBytes bytes → length (octets_of src) % 2 ≡ 0 → length (octets_of dst) % 2 ≡ 0 → x < 65536 → HasLengths bytes
+total-with_checksum : (src dst : IpAddress) (bytes : List ℕ) (x : ℕ) → AreBytes bytes → length (address_bytes src) % 2 ≡ 0 → length (address_bytes dst) % 2 ≡ 0 → x < 65536 → HasLengths bytes
     → total src dst (with_field bytes 48 16 x) + field bytes 48 16 ≡ total src dst bytes + x
 total-with_checksum src dst bytes x are s d fits h =
     let n = packet_len bytes in
@@ -66,7 +66,7 @@ written-same before after u fits e full = elim (checksum_for-cases (65535 - u) (
 ]
 
 -- a valid checksum stays valid if it is updated with the change of what it covers
-valid-updated : (src dst src' dst' : IpAddress) (bytes changed : List ℕ) (old new : ℕ) → AreBytes changed → length (octets_of src') % 2 ≡ 0 → length (octets_of dst') % 2 ≡ 0
+valid-updated : (src dst src' dst' : IpAddress) (bytes changed : List ℕ) (old new : ℕ) → AreBytes changed → length (address_bytes src') % 2 ≡ 0 → length (address_bytes dst') % 2 ≡ 0
     → HasLengths changed → field changed 48 16 ≡ field bytes 48 16 → version_of src ≡ version_of src' → total src' dst' changed + old ≡ total src dst bytes + new
     → HasChecksum src dst bytes → HasChecksum src' dst' (with_updated_checksum changed (residue old) (residue new))
 valid-updated src dst src' dst' bytes changed old new are s' d' h checksum family change (inl (none, ipv4)) =
@@ -87,15 +87,15 @@ valid-updated src dst src' dst' bytes changed old new are s' d' h checksum famil
     rw not_zero (inr ((λ z. omega (arith, z, there, bounds)), full))
 
 -- the same for one of the two ports
-pub valid-port : (src dst : IpAddress) (bytes : List ℕ) (i x : ℕ) → AreBytes bytes → x < 65536 → i < 2 → length (octets_of src) % 2 ≡ 0 → length (octets_of dst) % 2 ≡ 0 → HasLengths bytes
+pub valid-port : (src dst : IpAddress) (bytes : List ℕ) (i x : ℕ) → AreBytes bytes → x < 65536 → i < 2 → length (address_bytes src) % 2 ≡ 0 → length (address_bytes dst) % 2 ≡ 0 → HasLengths bytes
     → HasChecksum src dst bytes → HasChecksum src dst (with_updated_checksum (with_field bytes (16 * i) 16 x) (field bytes (16 * i) 16) x)
 valid-port src dst bytes i x are fits front s d h valid =
     let n = packet_len bytes in
     let changed = with_field bytes (16 * i) 16 x in
     let old = field bytes (16 * i) 16 in
     let long = length_with_field bytes (16 * i) 16 x (omega arith) (omega (arith, front, h.least)) in
-    let other : (at : ℕ) → 32 ≤ at → field changed at 16 ≡ field bytes at 16 = λ at behind.
-    field_with_field_other bytes (16 * i) 16 x at 16 are (omega arith) (omega arith) (omega (arith, front, h.least)) (inr (omega (arith, front, behind))) in
+    let other : (at : ℕ) → 32 ≤ at → field changed at 16 ≡ field bytes at 16 = λ at following.
+    field_with_field_other bytes (16 * i) 16 x at 16 are (omega arith) (omega arith) (omega (arith, front, h.least)) (inr (omega (arith, front, following))) in
     let len = other 32 (omega arith) in
     let change : total src dst changed + old ≡ total src dst bytes + x =
     omega (
@@ -111,8 +111,8 @@ valid-port src dst bytes i x are fits front s d h valid =
 
 -- the same for one or both addresses of the pseudo-header
 pub valid-addresses : (src dst src' dst' : IpAddress) (bytes old new : List ℕ) → AreBytes bytes
-    → length (octets_of src) % 2 ≡ 0 → length (octets_of dst) % 2 ≡ 0 → length (octets_of src') % 2 ≡ 0 → length (octets_of dst') % 2 ≡ 0 → version_of src ≡ version_of src' → HasLengths bytes
-    → sum (words (octets_of src')) + sum (words (octets_of dst')) + sum (words old) ≡ sum (words (octets_of src)) + sum (words (octets_of dst)) + sum (words new)
+    → length (address_bytes src) % 2 ≡ 0 → length (address_bytes dst) % 2 ≡ 0 → length (address_bytes src') % 2 ≡ 0 → length (address_bytes dst') % 2 ≡ 0 → version_of src ≡ version_of src' → HasLengths bytes
+    → sum (words (address_bytes src')) + sum (words (address_bytes dst')) + sum (words old) ≡ sum (words (address_bytes src)) + sum (words (address_bytes dst)) + sum (words new)
     → HasChecksum src dst bytes → HasChecksum src' dst' (with_updated_checksum bytes (sum_of_bytes old) (sum_of_bytes new))
 valid-addresses src dst src' dst' bytes old new are s d s' d' family h change valid =
     valid-updated src dst src' dst' bytes bytes (sum (words old)) (sum (words new)) are s' d' h refl family
@@ -134,7 +134,7 @@ reads-updated bytes new a b src dst src' dst' verified checked v payload is r va
 -- ---- a checksum that is filled in
 
 -- a checksum that is filled in is valid
-pub filled : (src dst : IpAddress) (bytes : List ℕ) → AreBytes bytes → length (octets_of src) % 2 ≡ 0 → length (octets_of dst) % 2 ≡ 0 → HasLengths bytes
+pub filled : (src dst : IpAddress) (bytes : List ℕ) → AreBytes bytes → length (address_bytes src) % 2 ≡ 0 → length (address_bytes dst) % 2 ≡ 0 → HasLengths bytes
     → (field (with_checksum src dst bytes) 48 16 ≢ 0) × Verifies src dst (with_checksum src dst bytes)
 filled src dst bytes are s d h =
     let zeroed = with_field bytes 48 16 0 in
@@ -150,7 +150,7 @@ filled src dst bytes are s d h =
     ((λ z. omega (arith, z, there, bounds)), ap residue is ∙ residue-checksum_for covered)
 
 -- a packet parses as before after its checksum is filled in
-pub reads-filled : (src dst : IpAddress) (bytes : List ℕ) (verified checked : Bool) (v : UdpRepr) (payload : List ℕ) → AreBytes bytes → length (octets_of src) % 2 ≡ 0 → length (octets_of dst) % 2 ≡ 0
+pub reads-filled : (src dst : IpAddress) (bytes : List ℕ) (verified checked : Bool) (v : UdpRepr) (payload : List ℕ) → AreBytes bytes → length (address_bytes src) % 2 ≡ 0 → length (address_bytes dst) % 2 ≡ 0
     → Reads bytes src dst verified v payload → Reads (with_checksum src dst bytes) src dst checked v payload
 reads-filled src dst bytes verified checked v payload are s d r =
     reads_checksum (with_field bytes 48 16 0) _ src dst src dst false checked v payload (reads_checksum bytes 0 src dst src dst verified false v payload r (λ no. cc))

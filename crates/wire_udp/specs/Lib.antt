@@ -1,4 +1,4 @@
 pub mod Udp
 pub mod UdpFields
-pub mod UdpLoan
+pub mod UdpBorrow
 pub mod UdpText

@@ -2,12 +2,12 @@
 use Rattle.std.specs.Prelude.{ℕ, ◌≡◌, ◌≢◌, ◌≤◌, ◌+◌, ◌-◌, ◌⊎◌, ◌++◌, ◌==◌, ◌&&◌, ◌||◌, not, nat_le, if◌then◌else◌, Bool, true, false, IsTrue, Option, Some, None, List, length, slice_range, take}
 use Rattle.std.specs.Borrow.{Bor, MutBor}
 use Rattle.byteorder.specs.Endian.{big_bytes}
-use Rattle.wire_ends.specs.IpAddress.{octets_of, version_of}
+use Rattle.wire_ends.specs.IpAddress.{address_bytes, version_of}
 use Rattle.wire_ends.specs.declared.ip_address.IpAddress.{IpAddress}
 use Rattle.wire_ends.specs.declared.ip_address.IpAddress.TheVariants as address
 use Rattle.wire_ends.specs.declared.ip_version.IpVersion.TheVariants as version
 use Rattle.wire_field.specs.Field.{field, with_field}
-use Rattle.wire_field.specs.Loan.{Holds}
+use Rattle.wire_field.specs.Borrow.{Holds}
 use Rattle.wire_checksum.specs.PseudoHeader.{pseudo_header_bytes, with_pseudo_header}
 use Rattle.wire_checksum.specs.WordSum.{sum_of_bytes, updated}
 use Rattle.wire_ends.specs.declared.ip_protocol.IpProtocol.TheVariants as protocol
@@ -60,7 +60,7 @@ pub record HasLengths (bytes : List ℕ) : Type 0 where
 
 -- the sum of the pseudo-header of a packet between two addresses
 abbrev pub pseudo_header_sum : IpAddress → IpAddress → List ℕ → ℕ
-pseudo_header_sum src dst bytes = sum_of_bytes (pseudo_header_bytes (octets_of src) (octets_of dst) protocol.Udp (packet_len bytes))
+pseudo_header_sum src dst bytes = sum_of_bytes (pseudo_header_bytes (address_bytes src) (address_bytes dst) protocol.Udp (packet_len bytes))
 
 -- the sum of a packet between two addresses and its pseudo-header
 abbrev pub packet_sum : IpAddress → IpAddress → List ℕ → ℕ
@@ -112,8 +112,8 @@ has_lengths bytes = nat_le 8 (length bytes) && nat_le 8 (packet_len bytes) && na
 
 -- whether an address is an IPv4 address
 abbrev pub is_ipv4 : IpAddress → Bool
-is_ipv4 (address.Ipv4 octets) = true
-is_ipv4 (address.Ipv6 octets) = false
+is_ipv4 (address.Ipv4 bytes) = true
+is_ipv4 (address.Ipv6 bytes) = false
 
 -- whether the checksum is valid
 abbrev pub has_checksum : IpAddress → IpAddress → List ℕ → Bool

@@ -1,7 +1,7 @@
 -- The fields of a UDP header in the order of RFC 768's diagram, and which of them each call reads or writes.
 use Rattle.std.specs.Prelude.{ℕ, ◌-◌, ◌==◌, if◌then◌else◌, List, [], ◌∷◌, take}
 use Rattle.wire_checksum.specs.WordSum.{sum_of_bytes, updated}
-use Rattle.wire_ends.specs.IpAddress.{octets_of}
+use Rattle.wire_ends.specs.IpAddress.{address_bytes}
 use Rattle.wire_ends.specs.declared.ip_address.IpAddress.{IpAddress}
 use Rattle.wire_field.specs.Diagram.{nth_field, with_nth}
 use Rattle.wire_udp.specs.Udp.{checksum_for, packet_sum}
@@ -55,7 +55,7 @@ with_update (update.Address old new) bytes = bytes
 abbrev pub sums_of : UdpUpdate → List ℕ → ℕ × ℕ
 sums_of (update.SrcPort x) bytes = (nth_field diagram 0 bytes, x)
 sums_of (update.DstPort x) bytes = (nth_field diagram 1 bytes, x)
-sums_of (update.Address old new) bytes = (sum_of_bytes (octets_of old), sum_of_bytes (octets_of new))
+sums_of (update.Address old new) bytes = (sum_of_bytes (address_bytes old), sum_of_bytes (address_bytes new))
 
 -- the bytes with the checksum updated for words that change from the sum old to the sum new; 0, which means that
 -- there is no checksum, is unchanged

@@ -1,7 +1,7 @@
 //! Laws of UDP. A law states a fact about definitions, or about the calls in its body.
 
 ghost use Rattle.std.specs.Prelude.{◌≡◌, ◌≢◌, ◌↔◌, ◌++◌, ◌%◌, ◌≤◌, IsTrue, List, Some, false, length, true, ℕ};
-ghost use Rattle.wire_ends.specs.IpAddress.{octets_of, version_of};
+ghost use Rattle.wire_ends.specs.IpAddress.{address_bytes, version_of};
 ghost use Rattle.wire_ends.specs.declared.ip_address.IpAddress.{IpAddress};
 ghost use Rattle.wire_field.specs.Diagram.{nth_field};
 ghost use Rattle.wire_field.specs.Field.{field, with_field};
@@ -11,7 +11,7 @@ ghost use Rattle.wire_udp.specs.declared.udp.repr.UdpRepr.{UdpRepr};
 
 use crate::udp::{UDP_HEADER_LEN, UdpPacket, UdpPacketMut, UdpRepr};
 use wire_ends::IpAddress;
-use wire_field::laws::octets_fit;
+use wire_field::laws::bytes_fit;
 
 /// The emitted packet, with any bytes after it, parses as the same value and payload. A checksum
 /// that is verified must have been computed.
@@ -184,9 +184,9 @@ pub fn update_writes_two_fields_udp(packet: &mut UdpPacketMut<'_>, update: UdpUp
     requires header { 8 ≤ length (packet_bytes_mut packet.old) }
     requires family { (address : IpAddress) → version_of (address_before update address) ≡ version_of (address_after update address) }
     ensures fields { packet_bytes_mut packet.new ≡ after_update update (packet_bytes_mut packet.old) }
-    ensures valid_src { (src dst : IpAddress) → length (octets_of src) % 2 ≡ 0 → length (octets_of dst) % 2 ≡ 0 → HasLengths (packet_bytes_mut packet.old)
+    ensures valid_src { (src dst : IpAddress) → length (address_bytes src) % 2 ≡ 0 → length (address_bytes dst) % 2 ≡ 0 → HasLengths (packet_bytes_mut packet.old)
         → HasChecksum (address_before update src) dst (packet_bytes_mut packet.old) → HasChecksum (address_after update src) dst (packet_bytes_mut packet.new) }
-    ensures valid_dst { (src dst : IpAddress) → length (octets_of src) % 2 ≡ 0 → length (octets_of dst) % 2 ≡ 0 → HasLengths (packet_bytes_mut packet.old)
+    ensures valid_dst { (src dst : IpAddress) → length (address_bytes src) % 2 ≡ 0 → length (address_bytes dst) % 2 ≡ 0 → HasLengths (packet_bytes_mut packet.old)
         → HasChecksum src (address_before update dst) (packet_bytes_mut packet.old) → HasChecksum src (address_after update dst) (packet_bytes_mut packet.new) }
 {
     match update {
@@ -216,7 +216,7 @@ pub fn fill_checksum_writes_one_field_udp(
     ensures some { nth_field diagram 3 (packet_bytes_mut packet.new) ≢ 0 }
     ensures valid { Verifies src_addr dst_addr (packet_bytes_mut packet.new) }
 {
-    octets_fit(packet.as_bytes());
+    bytes_fit(packet.as_bytes());
     packet.fill_checksum(&src_addr, &dst_addr);
 }
 

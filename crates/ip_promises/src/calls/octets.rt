@@ -15,7 +15,7 @@ pub fn bits_of_ipv4(a: u8, b: u8, c: u8, d: u8) -> (u32, u32)
 }
 
 /// The bits of an IPv6 address are its bytes as a big-endian number.
-#[tactic(auto, using(crate::proofs::Octets::sixteen_octets))]
+#[tactic(auto, using(crate::proofs::Octets::sixteen_bytes))]
 pub fn bits_of_ipv6(octets: [u8; 16]) -> (u128, u128)
     ensures { result.0 ≡ result.1 }
 {

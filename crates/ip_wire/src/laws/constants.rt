@@ -5,7 +5,7 @@ ghost use Rattle.std.specs.Prelude.{◌≡◌, ◌∷◌, [], None, replicate};
 ghost use Rattle.net_base.specs.Checksum.{all_are};
 ghost use Rattle.net_base.specs.declared.Checksum.TheVariants as checksum;
 ghost use Rattle.wire_addr.specs.Class.{ipv6_block};
-ghost use Rattle.wire_addr.specs.Octets.{octets_of};
+ghost use Rattle.wire_addr.specs.Bytes.{address_bytes};
 ghost use Rattle.wire_tcp_parts.specs.TcpSeq.{number};
 
 use net_base::ChecksumCapabilities;
@@ -64,12 +64,12 @@ pub fn constant_ipv4_addresses() -> [Ipv4Address; 4]
 
 /// The constants among the IPv6 addresses: `::`, `::1`, `ff02::1`, `ff02::2`, `ff02::16`, `ff02::1a`.
 pub fn constant_ipv6_addresses() -> [Ipv6Address; 6]
-    ensures { result ≡ octets_of (0 ∷ 0 ∷ 0 ∷ 0 ∷ 0 ∷ 0 ∷ 0 ∷ 0 ∷ [])
-        ∷ octets_of (0 ∷ 0 ∷ 0 ∷ 0 ∷ 0 ∷ 0 ∷ 0 ∷ 1 ∷ [])
-        ∷ octets_of (0xff02 ∷ 0 ∷ 0 ∷ 0 ∷ 0 ∷ 0 ∷ 0 ∷ 1 ∷ [])
-        ∷ octets_of (0xff02 ∷ 0 ∷ 0 ∷ 0 ∷ 0 ∷ 0 ∷ 0 ∷ 2 ∷ [])
-        ∷ octets_of (0xff02 ∷ 0 ∷ 0 ∷ 0 ∷ 0 ∷ 0 ∷ 0 ∷ 0x16 ∷ [])
-        ∷ octets_of (0xff02 ∷ 0 ∷ 0 ∷ 0 ∷ 0 ∷ 0 ∷ 0 ∷ 0x1a ∷ [])
+    ensures { result ≡ address_bytes (0 ∷ 0 ∷ 0 ∷ 0 ∷ 0 ∷ 0 ∷ 0 ∷ 0 ∷ [])
+        ∷ address_bytes (0 ∷ 0 ∷ 0 ∷ 0 ∷ 0 ∷ 0 ∷ 0 ∷ 1 ∷ [])
+        ∷ address_bytes (0xff02 ∷ 0 ∷ 0 ∷ 0 ∷ 0 ∷ 0 ∷ 0 ∷ 1 ∷ [])
+        ∷ address_bytes (0xff02 ∷ 0 ∷ 0 ∷ 0 ∷ 0 ∷ 0 ∷ 0 ∷ 2 ∷ [])
+        ∷ address_bytes (0xff02 ∷ 0 ∷ 0 ∷ 0 ∷ 0 ∷ 0 ∷ 0 ∷ 0x16 ∷ [])
+        ∷ address_bytes (0xff02 ∷ 0 ∷ 0 ∷ 0 ∷ 0 ∷ 0 ∷ 0 ∷ 0x1a ∷ [])
         ∷ [] }
 {
     [

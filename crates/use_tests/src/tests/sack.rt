@@ -56,9 +56,9 @@ fn finds_ranges_in_two_ways(rt: HostRuntime) {
     let first = [5, 10, 0, 0, 0, 1, 0, 0, 0, 2];
     let twice = [5, 10, 0, 0, 0, 1, 0, 0, 0, 2, 5, 10, 0, 0, 0, 3, 0, 0, 0, 4];
     let equal = [5, 10, 0, 0, 0, 1, 0, 0, 0, 2, 5, 10, 0, 0, 0, 1, 0, 0, 0, 2];
-    let behind = [0, 5, 10, 0, 0, 0, 1, 0, 0, 0, 2];
+    let following = [0, 5, 10, 0, 0, 0, 1, 0, 0, 0, 2];
     assert!(rt; range(&first) == [Some(Some((1, 2))), Some(Some((1, 2)))]);
     assert!(rt; range(&twice) == [Some(Some((1, 2))), Some(Some((3, 4)))]);
     assert!(rt; range(&equal) == [Some(Some((1, 2))), Some(Some((1, 2)))]);
-    assert!(rt; range(&behind) == [Some(Some((1, 2))), Some(None)]);
+    assert!(rt; range(&following) == [Some(Some((1, 2))), Some(None)]);
 }

@@ -3,7 +3,7 @@
 ghost use Rattle.std.specs.Prelude.{◌≡◌, ◌↔◌, ◌≤◌, IfOk, IsOk, length};
 ghost use Rattle.std.specs.Borrow.{sem};
 ghost use Rattle.wire_field.specs.Field.{with_field, with_range};
-ghost use Rattle.wire_field.specs.Loan.{Checks, Holds, StaysIfErr};
+ghost use Rattle.wire_field.specs.Borrow.{Checks, Holds, StaysIfErr};
 ghost use Rattle.wire_arp.specs.Arp.{Becomes, HasLengths, hardware_len, hardware_number, operation_number, packet_bytes_mut, packet_slice, protocol_len, source_hardware_addr, source_hardware_end, source_protocol_addr, source_protocol_end, target_hardware_addr, target_hardware_end, target_protocol_addr, target_protocol_end};
 ghost use Rattle.wire_ethernet.specs.Ethernet.{number_of};
 
@@ -17,7 +17,7 @@ use wire_field::Checked;
 impl<'a> ArpPacketMut<'a> {
     /// The view of bytes that `check_len` takes. An error leaves them as they are.
     pub fn new_checked(buffer: &'a mut [u8]) -> Result<ArpPacketMut<'a>>
-        ensures* refused { sem 𝓛 (StaysIfErr buffer.entry packet_slice result) }
+        ensures* rejected { sem 𝓛 (StaysIfErr buffer.entry packet_slice result) }
         ensures ok { IsOk result ↔ HasLengths buffer.old }
         ensures bytes { IfOk result (λ packet. Holds buffer.entry (packet_slice packet) buffer.old) }
     {

@@ -66,7 +66,7 @@ struct Octets<'a>(&'a [u8]);
 impl fmt::Display for Octets<'_> {
     ghost output = { λ octets. Some (list_text octets.0.now) };
 
-    #[tactic(auto, using(crate::proofs::ArpTexts::debug_list_of_octets))]
+    #[tactic(auto, using(crate::proofs::ArpTexts::debug_list_of_bytes))]
     fn fmt<W: fmt::Write>(&self, f: &mut fmt::Formatter<W>) -> fmt::Result {
         let octets = self.0;
         write!(f, "{octets:?}")

@@ -4,9 +4,9 @@ ghost use Rattle.std.specs.Prelude.{◌≡◌, ◌↔◌, ◌≤◌, ◌+◌, If
 ghost use Rattle.std.specs.Borrow.{sem};
 ghost use Rattle.wire_ends.specs.IpAddress.{version_of};
 ghost use Rattle.wire_field.specs.Field.{field, with_field, with_range};
-ghost use Rattle.wire_field.specs.Loan.{Checks, Holds, Locates, StaysIfErr};
+ghost use Rattle.wire_field.specs.Borrow.{Checks, Holds, Locates, StaysIfErr};
 ghost use Rattle.wire_icmp.specs.Icmp.{Becomes, HasHeader, packet_bytes_mut, packet_slice, payload_of, with_checksum, with_updated_checksum};
-ghost use Rattle.wire_icmp.specs.IcmpLoan.{LendsPayload};
+ghost use Rattle.wire_icmp.specs.IcmpBorrow.{BorrowsPayload};
 
 use super::packet::IcmpView;
 use super::{ICMP_HEADER_LEN, IcmpPacket, IcmpPacketMut, message_sum};
@@ -38,10 +38,10 @@ impl<'a> IcmpPacketMut<'a> {
     /// stays.
     pub fn payload_mut(&mut self) -> &mut [u8]
         requires { HasHeader (packet_bytes_mut self.old) }
-        ensures* writes_back { sem 𝓛 (LendsPayload self.entry result) }
+        ensures* writes_back { sem 𝓛 (BorrowsPayload self.entry result) }
         ensures value { result.now ≡ payload_of (packet_bytes_mut self.old) }
     {
-        locate_payload(self.buffer).lend()
+        locate_payload(self.buffer).into_slice()
     }
 
     /// Writes the type.

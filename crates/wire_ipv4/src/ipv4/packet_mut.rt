@@ -3,9 +3,9 @@
 ghost use Rattle.std.specs.Prelude.{◌≡◌, ◌↔◌, ◌≤◌, ◌<◌, ◌-◌, ◌/◌, if◌then◌else◌, IfOk, IsOk, length, slice_range};
 ghost use Rattle.std.specs.Borrow.{sem};
 ghost use Rattle.wire_field.specs.Field.{with_field, with_range};
-ghost use Rattle.wire_field.specs.Loan.{Checks, Holds, Locates, StaysIfErr};
+ghost use Rattle.wire_field.specs.Borrow.{Checks, Holds, Locates, StaysIfErr};
 ghost use Rattle.wire_ipv4.specs.Ipv4.{Becomes, HasLengths, header_len, packet_bytes_mut, packet_slice, total_len, with_checksum};
-ghost use Rattle.wire_ipv4.specs.Ipv4Loan.{LendsPayload};
+ghost use Rattle.wire_ipv4.specs.Ipv4Borrow.{BorrowsPayload};
 ghost use Rattle.wire_ends.specs.Protocol.{number_of};
 
 use super::packet::Ipv4View;
@@ -41,11 +41,11 @@ impl<'a> Ipv4PacketMut<'a> {
         requires fields { 4 ≤ length (packet_bytes_mut self.old) }
         requires begins { header_len (packet_bytes_mut self.old) ≤ total_len (packet_bytes_mut self.old) }
         requires ends { total_len (packet_bytes_mut self.old) ≤ length (packet_bytes_mut self.old) }
-        ensures* writes_back { sem 𝓛 (LendsPayload self.entry result) }
+        ensures* writes_back { sem 𝓛 (BorrowsPayload self.entry result) }
         ensures value { let bytes = packet_bytes_mut self.old in
             result.now ≡ slice_range bytes (header_len bytes) (total_len bytes) }
     {
-        locate_payload(self.buffer).lend()
+        locate_payload(self.buffer).into_slice()
     }
 
     /// Writes the version, cut to 4 bits.

@@ -9,7 +9,7 @@ ghost use Rattle.wire_ipv4.specs.declared.ipv4.repr.Ipv4Repr.{Ipv4Repr};
 use super::Ipv4PacketMut;
 use wire_addr::Ipv4Address;
 use wire_checksum::checksum;
-use wire_field::laws::octets_fit;
+use wire_field::laws::bytes_fit;
 
 impl<'a> Ipv4PacketMut<'a> {
     /// Updates the checksum after words of the header changed. `old` and `new` are the sums of these
@@ -31,7 +31,7 @@ impl<'a> Ipv4PacketMut<'a> {
         ensures reads { (v : Ipv4Repr) (verified : Bool) → Reads (packet_bytes_mut self.old) verified v
             → Reads (packet_bytes_mut self.new) verified v }
     {
-        octets_fit(self.as_bytes());
+        bytes_fit(self.as_bytes());
         let old = u16::from(self.dscp()) << 2;
         self.set_dscp(value);
         self.update_checksum(old, u16::from(value % 64) << 2);
@@ -47,7 +47,7 @@ impl<'a> Ipv4PacketMut<'a> {
         ensures reads { (v : Ipv4Repr) (verified : Bool) → Reads (packet_bytes_mut self.old) verified v
             → Reads (packet_bytes_mut self.new) verified v }
     {
-        octets_fit(self.as_bytes());
+        bytes_fit(self.as_bytes());
         let old = self.ecn();
         self.set_ecn(value);
         self.update_checksum(old.into(), (value % 4).into());
@@ -63,7 +63,7 @@ impl<'a> Ipv4PacketMut<'a> {
         ensures reads { (v : Ipv4Repr) (verified : Bool) → Reads (packet_bytes_mut self.old) verified v
             → Reads (packet_bytes_mut self.new) verified (record v { hop_limit = value }) }
     {
-        octets_fit(self.as_bytes());
+        bytes_fit(self.as_bytes());
         let old = u16::from(self.hop_limit()) << 8;
         self.set_hop_limit(value);
         self.update_checksum(old, u16::from(value) << 8);
@@ -80,7 +80,7 @@ impl<'a> Ipv4PacketMut<'a> {
         ensures reads { (v : Ipv4Repr) (verified : Bool) → Reads (packet_bytes_mut self.old) verified v
             → Reads (packet_bytes_mut self.new) verified (record v { src_addr = value }) }
     {
-        octets_fit(self.as_bytes());
+        bytes_fit(self.as_bytes());
         let old = checksum::data(&self.src_addr().octets());
         self.set_src_addr(value);
         self.update_checksum(old, checksum::data(&value.octets()));
@@ -97,7 +97,7 @@ impl<'a> Ipv4PacketMut<'a> {
         ensures reads { (v : Ipv4Repr) (verified : Bool) → Reads (packet_bytes_mut self.old) verified v
             → Reads (packet_bytes_mut self.new) verified (record v { dst_addr = value }) }
     {
-        octets_fit(self.as_bytes());
+        bytes_fit(self.as_bytes());
         let old = checksum::data(&self.dst_addr().octets());
         self.set_dst_addr(value);
         self.update_checksum(old, checksum::data(&value.octets()));

@@ -3,9 +3,9 @@
 ghost use Rattle.std.specs.Prelude.{◌≡◌, ◌↔◌, ◌≤◌, IfOk, IsOk, length};
 ghost use Rattle.std.specs.Borrow.{sem};
 ghost use Rattle.wire_field.specs.Field.{with_field, with_range};
-ghost use Rattle.wire_field.specs.Loan.{Checks, Holds, Locates, StaysIfErr};
+ghost use Rattle.wire_field.specs.Borrow.{Checks, Holds, Locates, StaysIfErr};
 ghost use Rattle.wire_ipv6.specs.Ipv6.{Becomes, HasLengths, packet_bytes_mut, packet_slice, payload_of, total_len};
-ghost use Rattle.wire_ipv6.specs.Ipv6Loan.{LendsPayload};
+ghost use Rattle.wire_ipv6.specs.Ipv6Borrow.{BorrowsPayload};
 ghost use Rattle.wire_ends.specs.Protocol.{number_of};
 
 use super::packet::Ipv6View;
@@ -37,10 +37,10 @@ impl<'a> Ipv6PacketMut<'a> {
     /// stay.
     pub fn payload_mut(&mut self) -> &mut [u8]
         requires { HasLengths (packet_bytes_mut self.old) }
-        ensures* writes_back { sem 𝓛 (LendsPayload self.entry result) }
+        ensures* writes_back { sem 𝓛 (BorrowsPayload self.entry result) }
         ensures value { result.now ≡ payload_of (packet_bytes_mut self.old) }
     {
-        locate_payload(self.buffer).lend()
+        locate_payload(self.buffer).into_slice()
     }
 
     // Writes the version, the traffic class and the flow label at once.

@@ -3,7 +3,7 @@
 ghost use Rattle.std.specs.Prelude.{◌↔◌, ◌≤◌, if◌then◌else◌, IfOk, IsOk, length};
 ghost use Rattle.std.specs.Borrow.{sem};
 ghost use Rattle.wire_field.specs.Field.{with_field};
-ghost use Rattle.wire_field.specs.Loan.{Checks, Holds, StaysIfErr};
+ghost use Rattle.wire_field.specs.Borrow.{Checks, Holds, StaysIfErr};
 ghost use Rattle.wire_ipv6.specs.Ipv6Fragment.{Becomes, header_bytes_mut, header_slice};
 
 use super::header::Ipv6FragmentView;

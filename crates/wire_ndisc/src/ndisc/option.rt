@@ -18,11 +18,11 @@ pub(super) fn find_lladdr(options: &[u8], kind: u8) -> Result<Option<EthernetAdd
     let mut lladdr = None;
     let mut rest = options;
     while !rest.is_empty() {
-        let (option, behind) = split_option(rest)?;
+        let (option, following) = split_option(rest)?;
         if option[0] == kind && lladdr.is_none() {
             lladdr = Some(read_lladdr(option)?);
         }
-        rest = behind;
+        rest = following;
     }
     Ok(lladdr)
 }

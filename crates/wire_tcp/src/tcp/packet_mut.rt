@@ -4,9 +4,9 @@ ghost use Rattle.std.specs.Prelude.{◌≡◌, ◌↔◌, ◌≤◌, ◌/◌, If
 ghost use Rattle.std.specs.Borrow.{sem};
 ghost use Rattle.wire_ends.specs.IpAddress.{version_of};
 ghost use Rattle.wire_field.specs.Field.{with_field};
-ghost use Rattle.wire_field.specs.Loan.{Checks, Holds, Locates, StaysIfErr};
+ghost use Rattle.wire_field.specs.Borrow.{Checks, Holds, Locates, StaysIfErr};
 ghost use Rattle.wire_tcp.specs.Tcp.{Becomes, HasLengths, header_len, options_of, packet_bytes_mut, packet_slice, payload_of, with_checksum, with_flag};
-ghost use Rattle.wire_tcp.specs.TcpLoan.{LendsOptions, LendsPayload};
+ghost use Rattle.wire_tcp.specs.TcpBorrow.{BorrowsOptions, BorrowsPayload};
 ghost use Rattle.wire_tcp_parts.specs.TcpSeq.{number};
 
 use super::packet::TcpView;
@@ -41,10 +41,10 @@ impl<'a> TcpPacketMut<'a> {
     pub fn options_mut(&mut self) -> &mut [u8]
         requires begins { 20 ≤ header_len (packet_bytes_mut self.old) }
         requires ends { header_len (packet_bytes_mut self.old) ≤ length (packet_bytes_mut self.old) }
-        ensures* writes_back { sem 𝓛 (LendsOptions self.entry result) }
+        ensures* writes_back { sem 𝓛 (BorrowsOptions self.entry result) }
         ensures value { result.now ≡ options_of (packet_bytes_mut self.old) }
     {
-        locate_options(self.buffer).lend()
+        locate_options(self.buffer).into_slice()
     }
 
     /// The payload, to be written in place. Bytes written to it land in the segment; all other
@@ -52,10 +52,10 @@ impl<'a> TcpPacketMut<'a> {
     pub fn payload_mut(&mut self) -> &mut [u8]
         requires field { 13 ≤ length (packet_bytes_mut self.old) }
         requires begins { header_len (packet_bytes_mut self.old) ≤ length (packet_bytes_mut self.old) }
-        ensures* writes_back { sem 𝓛 (LendsPayload self.entry result) }
+        ensures* writes_back { sem 𝓛 (BorrowsPayload self.entry result) }
         ensures value { result.now ≡ payload_of (packet_bytes_mut self.old) }
     {
-        locate_payload(self.buffer).lend()
+        locate_payload(self.buffer).into_slice()
     }
 
     /// Writes the source port.

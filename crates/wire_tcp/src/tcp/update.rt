@@ -4,7 +4,7 @@ ghost use Rattle.std.specs.Prelude.{◌≡◌, ◌≢◌, ◌+◌, ◌%◌, ◌�
 ghost use Rattle.std.specs.Option.{option_map};
 ghost use Rattle.byteorder.specs.Endian.{big_bytes, big_number};
 ghost use Rattle.wire_checksum.specs.WordSum.{sum_of_bytes};
-ghost use Rattle.wire_ends.specs.IpAddress.{octets_of};
+ghost use Rattle.wire_ends.specs.IpAddress.{address_bytes};
 ghost use Rattle.wire_ends.specs.declared.ip_address.IpAddress.{IpAddress};
 ghost use Rattle.wire_field.specs.Field.{field, with_field, with_range};
 ghost use Rattle.wire_tcp.specs.Tcp.{Becomes, Verifies, header_len, packet_bytes_mut, with_updated_checksum};
@@ -15,7 +15,7 @@ use super::{TCP_HEADER_LEN, TcpPacketMut};
 use byteorder::{ByteOrder, NetworkEndian};
 use wire_checksum::checksum;
 use wire_ends::IpAddress;
-use wire_field::laws::octets_fit;
+use wire_field::laws::bytes_fit;
 use wire_tcp_parts::max_segment_size_at;
 
 impl<'a> TcpPacketMut<'a> {
@@ -33,13 +33,13 @@ impl<'a> TcpPacketMut<'a> {
         requires { 18 ≤ length (packet_bytes_mut self.old) }
         ensures value { let bytes = packet_bytes_mut self.old in
             Becomes self.old self.new (with_updated_checksum (with_field bytes 0 16 value) (field bytes 0 16) value) }
-        ensures valid { (src dst : IpAddress) → length (octets_of src) % 2 ≡ 0 → length (octets_of dst) % 2 ≡ 0
+        ensures valid { (src dst : IpAddress) → length (address_bytes src) % 2 ≡ 0 → length (address_bytes dst) % 2 ≡ 0
             → Verifies src dst (packet_bytes_mut self.old) → Verifies src dst (packet_bytes_mut self.new) }
-        ensures reads { (src dst : IpAddress) (verified : Bool) (v : TcpHeader) (payload : List ℕ) → length (octets_of src) % 2 ≡ 0 → length (octets_of dst) % 2 ≡ 0
+        ensures reads { (src dst : IpAddress) (verified : Bool) (v : TcpHeader) (payload : List ℕ) → length (address_bytes src) % 2 ≡ 0 → length (address_bytes dst) % 2 ≡ 0
             → value ≢ 0 → Reads (packet_bytes_mut self.old) src dst verified v payload
             → Reads (packet_bytes_mut self.new) src dst verified (record v { src_port = value }) payload }
     {
-        octets_fit(self.as_bytes());
+        bytes_fit(self.as_bytes());
         let old = self.src_port();
         self.set_src_port(value);
         self.update_checksum(old, value);
@@ -50,13 +50,13 @@ impl<'a> TcpPacketMut<'a> {
         requires { 18 ≤ length (packet_bytes_mut self.old) }
         ensures value { let bytes = packet_bytes_mut self.old in
             Becomes self.old self.new (with_updated_checksum (with_field bytes 16 16 value) (field bytes 16 16) value) }
-        ensures valid { (src dst : IpAddress) → length (octets_of src) % 2 ≡ 0 → length (octets_of dst) % 2 ≡ 0
+        ensures valid { (src dst : IpAddress) → length (address_bytes src) % 2 ≡ 0 → length (address_bytes dst) % 2 ≡ 0
             → Verifies src dst (packet_bytes_mut self.old) → Verifies src dst (packet_bytes_mut self.new) }
-        ensures reads { (src dst : IpAddress) (verified : Bool) (v : TcpHeader) (payload : List ℕ) → length (octets_of src) % 2 ≡ 0 → length (octets_of dst) % 2 ≡ 0
+        ensures reads { (src dst : IpAddress) (verified : Bool) (v : TcpHeader) (payload : List ℕ) → length (address_bytes src) % 2 ≡ 0 → length (address_bytes dst) % 2 ≡ 0
             → value ≢ 0 → Reads (packet_bytes_mut self.old) src dst verified v payload
             → Reads (packet_bytes_mut self.new) src dst verified (record v { dst_port = value }) payload }
     {
-        octets_fit(self.as_bytes());
+        bytes_fit(self.as_bytes());
         let old = self.dst_port();
         self.set_dst_port(value);
         self.update_checksum(old, value);
@@ -67,13 +67,13 @@ impl<'a> TcpPacketMut<'a> {
         requires { 18 ≤ length (packet_bytes_mut self.old) }
         ensures value { let bytes = packet_bytes_mut self.old in
             Becomes self.old self.new (with_updated_checksum (with_field bytes 112 16 value) (field bytes 112 16) value) }
-        ensures valid { (src dst : IpAddress) → length (octets_of src) % 2 ≡ 0 → length (octets_of dst) % 2 ≡ 0
+        ensures valid { (src dst : IpAddress) → length (address_bytes src) % 2 ≡ 0 → length (address_bytes dst) % 2 ≡ 0
             → Verifies src dst (packet_bytes_mut self.old) → Verifies src dst (packet_bytes_mut self.new) }
-        ensures reads { (src dst : IpAddress) (verified : Bool) (v : TcpHeader) (payload : List ℕ) → length (octets_of src) % 2 ≡ 0 → length (octets_of dst) % 2 ≡ 0
+        ensures reads { (src dst : IpAddress) (verified : Bool) (v : TcpHeader) (payload : List ℕ) → length (address_bytes src) % 2 ≡ 0 → length (address_bytes dst) % 2 ≡ 0
             → Reads (packet_bytes_mut self.old) src dst verified v payload
             → Reads (packet_bytes_mut self.new) src dst verified (record v { window_len = value }) payload }
     {
-        octets_fit(self.as_bytes());
+        bytes_fit(self.as_bytes());
         let old = self.window_len();
         self.set_window_len(value);
         self.update_checksum(old, value);
@@ -87,13 +87,13 @@ impl<'a> TcpPacketMut<'a> {
         requires ends { header_len (packet_bytes_mut self.old) ≤ length (packet_bytes_mut self.old) }
         ensures before { result ≡ max_seg_size_of (packet_bytes_mut self.old) }
         ensures value { Becomes self.old self.new (with_max_seg_size (packet_bytes_mut self.old) value) }
-        ensures valid { (src dst : IpAddress) → length (octets_of src) % 2 ≡ 0 → length (octets_of dst) % 2 ≡ 0
+        ensures valid { (src dst : IpAddress) → length (address_bytes src) % 2 ≡ 0 → length (address_bytes dst) % 2 ≡ 0
             → Verifies src dst (packet_bytes_mut self.old) → Verifies src dst (packet_bytes_mut self.new) }
-        ensures reads { (src dst : IpAddress) (verified : Bool) (v : TcpHeader) (payload : List ℕ) → length (octets_of src) % 2 ≡ 0 → length (octets_of dst) % 2 ≡ 0
+        ensures reads { (src dst : IpAddress) (verified : Bool) (v : TcpHeader) (payload : List ℕ) → length (address_bytes src) % 2 ≡ 0 → length (address_bytes dst) % 2 ≡ 0
             → Reads (packet_bytes_mut self.old) src dst verified v payload
             → (result ≡ v.max_seg_size) × Reads (packet_bytes_mut self.new) src dst verified (record v { max_seg_size = option_map (λ size. value) v.max_seg_size }) payload }
     {
-        octets_fit(self.as_bytes());
+        bytes_fit(self.as_bytes());
         match self.max_seg_size_at() {
             Some(at) => Some(self.replace_size(at, value)),
             None => None,
@@ -142,17 +142,17 @@ impl<'a> TcpPacketMut<'a> {
     /// checksum covers both addresses by the pseudo-header.
     pub fn update_address(&mut self, old: &IpAddress, new: &IpAddress)
         requires { 18 ≤ length (packet_bytes_mut self.old) }
-        ensures value { Becomes self.old self.new (with_updated_checksum (packet_bytes_mut self.old) (sum_of_bytes (octets_of old.now)) (sum_of_bytes (octets_of new.now))) }
-        ensures valid_src { (dst : IpAddress) → length (octets_of dst) % 2 ≡ 0
+        ensures value { Becomes self.old self.new (with_updated_checksum (packet_bytes_mut self.old) (sum_of_bytes (address_bytes old.now)) (sum_of_bytes (address_bytes new.now))) }
+        ensures valid_src { (dst : IpAddress) → length (address_bytes dst) % 2 ≡ 0
             → Verifies old.now dst (packet_bytes_mut self.old) → Verifies new.now dst (packet_bytes_mut self.new) }
-        ensures valid_dst { (src : IpAddress) → length (octets_of src) % 2 ≡ 0
+        ensures valid_dst { (src : IpAddress) → length (address_bytes src) % 2 ≡ 0
             → Verifies src old.now (packet_bytes_mut self.old) → Verifies src new.now (packet_bytes_mut self.new) }
-        ensures reads_src { (dst : IpAddress) (verified : Bool) (v : TcpHeader) (payload : List ℕ) → length (octets_of dst) % 2 ≡ 0
+        ensures reads_src { (dst : IpAddress) (verified : Bool) (v : TcpHeader) (payload : List ℕ) → length (address_bytes dst) % 2 ≡ 0
             → Reads (packet_bytes_mut self.old) old.now dst verified v payload → Reads (packet_bytes_mut self.new) new.now dst verified v payload }
-        ensures reads_dst { (src : IpAddress) (verified : Bool) (v : TcpHeader) (payload : List ℕ) → length (octets_of src) % 2 ≡ 0
+        ensures reads_dst { (src : IpAddress) (verified : Bool) (v : TcpHeader) (payload : List ℕ) → length (address_bytes src) % 2 ≡ 0
             → Reads (packet_bytes_mut self.old) src old.now verified v payload → Reads (packet_bytes_mut self.new) src new.now verified v payload }
     {
-        octets_fit(self.as_bytes());
+        bytes_fit(self.as_bytes());
         self.update_checksum(checksum::address(old), checksum::address(new));
     }
 }

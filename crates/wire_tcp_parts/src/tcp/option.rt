@@ -3,7 +3,7 @@
 ghost use Rattle.std.specs.Prelude.{◌≡◌, ◌+◌, ◌*◌, ◌%◌, ◌<◌, ◌≤◌, ◌∷◌, ◌++◌, IfOk, OnErr, count_by, drop, is_some, length, slice_index};
 ghost use Rattle.std.specs.Borrow.{sem};
 ghost use Rattle.byteorder.specs.Endian.{big_bytes};
-ghost use Rattle.wire_tcp_parts.specs.TcpOptionLoan.{LendsRest, LocatesRest};
+ghost use Rattle.wire_tcp_parts.specs.TcpOptionBorrow.{BorrowsRest, LocatesRest};
 ghost use Rattle.wire_tcp_parts.specs.TcpItems.{IsItem, block_at, first_blocks, is_sized, item, text};
 ghost use Rattle.wire_tcp_parts.specs.TcpOption.{Begins, BeginsNothing, IsEmittable, IsReading, option_len, option_text, range_bytes, ranges_in, rest_after};
 
@@ -128,10 +128,10 @@ impl<'a> TcpOption<'a> {
     pub fn emit<'b>(&self, buffer: &'b mut [u8]) -> &'b mut [u8]
         requires room { option_len self.now ≤ length buffer.old }
         requires fits { IsEmittable self.now }
-        ensures* writes_back { sem 𝓛 (LendsRest buffer.entry (option_text self.now) result) }
+        ensures* writes_back { sem 𝓛 (BorrowsRest buffer.entry (option_text self.now) result) }
         ensures value { result.now ≡ rest_after self.now buffer.old }
     {
-        write_and_locate_rest(buffer, self).lend()
+        write_and_locate_rest(buffer, self).into_slice()
     }
 }
 

@@ -102,7 +102,7 @@ fn reads_with(place: usize, byte: u8, fits: bool, operation: Option<ArpOperation
 }
 
 #[test]
-fn reads_ethernet_and_ipv4_alone(rt: HostRuntime) {
+fn reads_only_ethernet_and_ipv4(rt: HostRuntime) {
     for (place, byte, fits, operation) in [
         (7, 0x01, true, Some(ArpOperation::Request)),
         (7, 0x02, true, Some(ArpOperation::Reply)),

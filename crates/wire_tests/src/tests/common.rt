@@ -50,7 +50,7 @@ fn media_differ(rt: HostRuntime) {
 }
 
 #[test]
-fn hosts_accept_576_octets_and_ipv6_links_1280(rt: HostRuntime) {
+fn hosts_accept_576_bytes_and_ipv6_links_1280(rt: HostRuntime) {
     assert!(rt; IPV4_MIN_MTU == 576);
     assert!(rt; IPV6_MIN_MTU == 1280);
 }

@@ -43,7 +43,7 @@ fn a_view_has_a_header_a_payload_and_all_bytes(rt: HostRuntime) {
 }
 
 #[test]
-fn a_mutable_view_lends_the_payload(rt: HostRuntime) {
+fn a_mutable_view_borrows_the_payload(rt: HostRuntime) {
     let mut buffer = [0xa5; 54];
     buffer[..14].copy_from_slice(&IPV6_FRAME[..14]);
     let mut frame = EthernetFrameMut::new_unchecked(&mut buffer);
@@ -82,7 +82,7 @@ fn writes_a_header_and_leaves_the_rest(rt: HostRuntime) {
 }
 
 #[test]
-fn a_frame_has_14_octets_before_its_payload(rt: HostRuntime) {
+fn a_frame_has_14_bytes_before_its_payload(rt: HostRuntime) {
     assert!(rt; EthernetFrame::header_len() == 14);
     assert!(rt; EthernetFrame::buffer_len(50) == 64);
 }

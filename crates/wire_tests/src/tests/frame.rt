@@ -199,7 +199,7 @@ fn keeps_what_does_not_parse(rt: HostRuntime) {
 }
 
 #[test]
-fn parses_a_payload_alone(rt: HostRuntime) {
+fn parses_a_payload_by_itself(rt: HostRuntime) {
     let header = ipv4(IpProtocol::Udp, 12);
     let caps = ChecksumCapabilities::default();
     let udp = Transport::Udp(PORTS, &UDP[42..]);

@@ -12,7 +12,7 @@ const TCP_HEADER: [u8; 20] = [
 ];
 
 #[test]
-fn a_mutable_view_lends_the_payload(rt: HostRuntime) {
+fn a_mutable_view_borrows_the_payload(rt: HostRuntime) {
     let mut buffer = [0; 31];
     buffer[..30].copy_from_slice(&IPV4_FRAGMENT);
     let mut want = buffer;
@@ -46,7 +46,7 @@ fn is_fragment(word: u16) -> bool {
 }
 
 #[test]
-fn a_fragment_has_an_offset_or_more_behind_it(rt: HostRuntime) {
+fn a_fragment_has_an_offset_or_more_after_it(rt: HostRuntime) {
     for word in [0x0000, 0x4000, 0x8000] {
         assert!(rt; !is_fragment(word), "{word}");
     }

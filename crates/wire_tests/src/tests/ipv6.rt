@@ -5,7 +5,7 @@ use super::{IPV6_PACKET, ipv6_header};
 use ip_wire::{IPV6_HEADER_LEN, Ipv6Packet, Ipv6PacketMut, Ipv6Repr};
 
 #[test]
-fn a_mutable_view_lends_the_payload(rt: HostRuntime) {
+fn a_mutable_view_borrows_the_payload(rt: HostRuntime) {
     let mut buffer = IPV6_PACKET;
     buffer[5] = 10;
     let mut want = buffer;

@@ -81,7 +81,7 @@ fn has_node(groups: [u16; 8], text: &str) -> bool {
 }
 
 #[test]
-fn its_solicited_node_address_has_its_last_three_octets(rt: HostRuntime) {
+fn its_solicited_node_address_has_its_last_three_bytes(rt: HostRuntime) {
     let global = [0x2001, 0xdb8, 0, 0, 0, 0, 0x12ab, 0xcdef];
     assert!(rt; has_node([0xfe80, 0, 0, 0, 0, 0, 0, 1], "ff02::1:ff00:1"));
     assert!(rt; has_node(global, "ff02::1:ffab:cdef"));

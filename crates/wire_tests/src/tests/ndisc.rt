@@ -146,10 +146,10 @@ fn takes_the_first_address_option(rt: HostRuntime) {
         1, 1, 2, 0, 0, 0, 0, 0x0a, 1, 1, 2, 0, 0, 0, 0, 0x0b, 2, 1, 2, 0, 0, 0, 0, 0x0b,
     ];
     assert!(rt; lladdr_of(first) == Some(Some(A)));
-    let behind_another = [
+    let after_another = [
         14, 2, 0, 0, 0, 0, 0, 0, 1, 1, 2, 0, 0, 0, 0, 0x0a, 1, 1, 2, 0, 0, 0, 0, 0x0b,
     ];
-    assert!(rt; lladdr_of(behind_another) == Some(Some(B)));
+    assert!(rt; lladdr_of(after_another) == Some(Some(B)));
     let of_a_target = [
         2, 1, 2, 0, 0, 0, 0, 0x0a, 2, 2, 0, 0, 0, 0, 0, 0, 0, 0, 0, 0, 0, 0, 0, 0,
     ];

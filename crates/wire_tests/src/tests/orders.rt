@@ -109,7 +109,7 @@ fn orders_keys_by_identification_addresses_and_protocol(rt: HostRuntime) {
 }
 
 #[test]
-fn orders_addresses_by_version_and_octets(rt: HostRuntime) {
+fn orders_addresses_by_version_and_bytes(rt: HostRuntime) {
     assert!(rt; are_in_order(&[IpVersion::Ipv4, IpVersion::Ipv6]));
     assert!(rt;
         are_in_order(&[

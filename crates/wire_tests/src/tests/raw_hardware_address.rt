@@ -27,7 +27,7 @@ fn keeps(octets: &[u8], text: &str) -> bool {
 }
 
 #[test]
-fn keeps_and_prints_octets(rt: HostRuntime) {
+fn keeps_and_prints_bytes(rt: HostRuntime) {
     assert!(rt; keeps(&[], ""));
     assert!(rt; keeps(&[0x0a], "0a"));
     assert!(rt; keeps(&[0x01, 0x00], "01:00"));
@@ -62,7 +62,7 @@ fn converts_from_an_address(rt: HostRuntime) {
 }
 
 #[test]
-fn is_equal_by_octets(rt: HostRuntime) {
+fn is_equal_by_bytes(rt: HostRuntime) {
     let octets = [0x01, 0x00, 0x00];
     let one = RawHardwareAddress::from_bytes(&octets);
     let found = [

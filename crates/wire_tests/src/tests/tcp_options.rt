@@ -67,7 +67,7 @@ fn writes_ranges_without_gaps(rt: HostRuntime) {
 }
 
 #[test]
-fn writes_no_ranges_in_two_octets(rt: HostRuntime) {
+fn writes_no_ranges_in_two_bytes(rt: HostRuntime) {
     let none = TcpOption::SackRange(NO_RANGES);
     let mut buffer = [0xff; 3];
     let mut rest = [0xcc];

@@ -156,7 +156,7 @@ fn emitted_header(old: u8) -> [u8; 10] {
 }
 
 #[test]
-fn writes_a_header_alone(rt: HostRuntime) {
+fn writes_only_a_header(rt: HostRuntime) {
     for old in OLD {
         assert!(rt;
             has_front(&emitted_header(old), &UNSUMMED[..8], old),

@@ -4,9 +4,9 @@ ghost use Rattle.std.specs.Prelude.{◌≡◌, ◌↔◌, ◌≤◌, ◌+◌, If
 ghost use Rattle.std.specs.Borrow.{sem};
 ghost use Rattle.wire_ends.specs.IpAddress.{version_of};
 ghost use Rattle.wire_field.specs.Field.{with_field, with_range};
-ghost use Rattle.wire_field.specs.Loan.{Checks, Holds, Locates, StaysIfErr};
+ghost use Rattle.wire_field.specs.Borrow.{Checks, Holds, Locates, StaysIfErr};
 ghost use Rattle.wire_udp.specs.Udp.{Becomes, HasLengths, packet_bytes_mut, packet_len, packet_slice, payload_of, with_checksum};
-ghost use Rattle.wire_udp.specs.UdpLoan.{LendsPayload};
+ghost use Rattle.wire_udp.specs.UdpBorrow.{BorrowsPayload};
 
 use super::packet::UdpView;
 use super::{UDP_HEADER_LEN, UdpPacket, UdpPacketMut, checksum_for};
@@ -38,10 +38,10 @@ impl<'a> UdpPacketMut<'a> {
     /// stay.
     pub fn payload_mut(&mut self) -> &mut [u8]
         requires { HasLengths (packet_bytes_mut self.old) }
-        ensures* writes_back { sem 𝓛 (LendsPayload self.entry result) }
+        ensures* writes_back { sem 𝓛 (BorrowsPayload self.entry result) }
         ensures value { result.now ≡ payload_of (packet_bytes_mut self.old) }
     {
-        locate_payload(self.buffer).lend()
+        locate_payload(self.buffer).into_slice()
     }
 
     /// Writes the source port, or 0 if the sender has none.

@@ -3,7 +3,7 @@
 
 ghost use Rattle.std.specs.Prelude.{◌≡◌, ◌≢◌, ◌%◌, ◌≤◌, Bool, List, ℕ, length};
 ghost use Rattle.wire_checksum.specs.WordSum.{sum_of_bytes};
-ghost use Rattle.wire_ends.specs.IpAddress.{octets_of, version_of};
+ghost use Rattle.wire_ends.specs.IpAddress.{address_bytes, version_of};
 ghost use Rattle.wire_ends.specs.declared.ip_address.IpAddress.{IpAddress};
 ghost use Rattle.wire_field.specs.Field.{field, with_field};
 ghost use Rattle.wire_udp.specs.Udp.{Becomes, HasChecksum, HasLengths, Reads, packet_bytes_mut, with_updated_checksum};
@@ -12,7 +12,7 @@ ghost use Rattle.wire_udp.specs.declared.udp.repr.UdpRepr.{UdpRepr};
 use super::{UdpPacketMut, checksum_for};
 use wire_checksum::checksum;
 use wire_ends::IpAddress;
-use wire_field::laws::octets_fit;
+use wire_field::laws::bytes_fit;
 
 impl<'a> UdpPacketMut<'a> {
     /// Updates the checksum after words that it covers changed. `old` and `new` are the sums of these
@@ -32,13 +32,13 @@ impl<'a> UdpPacketMut<'a> {
         requires { 8 ≤ length (packet_bytes_mut self.old) }
         ensures value { let bytes = packet_bytes_mut self.old in
             Becomes self.old self.new (with_updated_checksum (with_field bytes 0 16 value) (field bytes 0 16) value) }
-        ensures valid { (src dst : IpAddress) → length (octets_of src) % 2 ≡ 0 → length (octets_of dst) % 2 ≡ 0
+        ensures valid { (src dst : IpAddress) → length (address_bytes src) % 2 ≡ 0 → length (address_bytes dst) % 2 ≡ 0
             → HasLengths (packet_bytes_mut self.old) → HasChecksum src dst (packet_bytes_mut self.old) → HasChecksum src dst (packet_bytes_mut self.new) }
-        ensures reads { (src dst : IpAddress) (verified : Bool) (v : UdpRepr) (payload : List ℕ) → length (octets_of src) % 2 ≡ 0 → length (octets_of dst) % 2 ≡ 0
+        ensures reads { (src dst : IpAddress) (verified : Bool) (v : UdpRepr) (payload : List ℕ) → length (address_bytes src) % 2 ≡ 0 → length (address_bytes dst) % 2 ≡ 0
             → Reads (packet_bytes_mut self.old) src dst verified v payload
             → Reads (packet_bytes_mut self.new) src dst verified (record v { src_port = value }) payload }
     {
-        octets_fit(self.as_bytes());
+        bytes_fit(self.as_bytes());
         let old = self.src_port();
         self.set_src_port(value);
         self.update_checksum(old, value);
@@ -49,13 +49,13 @@ impl<'a> UdpPacketMut<'a> {
         requires { 8 ≤ length (packet_bytes_mut self.old) }
         ensures value { let bytes = packet_bytes_mut self.old in
             Becomes self.old self.new (with_updated_checksum (with_field bytes 16 16 value) (field bytes 16 16) value) }
-        ensures valid { (src dst : IpAddress) → length (octets_of src) % 2 ≡ 0 → length (octets_of dst) % 2 ≡ 0
+        ensures valid { (src dst : IpAddress) → length (address_bytes src) % 2 ≡ 0 → length (address_bytes dst) % 2 ≡ 0
             → HasLengths (packet_bytes_mut self.old) → HasChecksum src dst (packet_bytes_mut self.old) → HasChecksum src dst (packet_bytes_mut self.new) }
-        ensures reads { (src dst : IpAddress) (verified : Bool) (v : UdpRepr) (payload : List ℕ) → length (octets_of src) % 2 ≡ 0 → length (octets_of dst) % 2 ≡ 0
+        ensures reads { (src dst : IpAddress) (verified : Bool) (v : UdpRepr) (payload : List ℕ) → length (address_bytes src) % 2 ≡ 0 → length (address_bytes dst) % 2 ≡ 0
             → value ≢ 0 → Reads (packet_bytes_mut self.old) src dst verified v payload
             → Reads (packet_bytes_mut self.new) src dst verified (record v { dst_port = value }) payload }
     {
-        octets_fit(self.as_bytes());
+        bytes_fit(self.as_bytes());
         let old = self.dst_port();
         self.set_dst_port(value);
         self.update_checksum(old, value);
@@ -66,17 +66,17 @@ impl<'a> UdpPacketMut<'a> {
     pub fn update_address(&mut self, old: &IpAddress, new: &IpAddress)
         requires header { 8 ≤ length (packet_bytes_mut self.old) }
         requires family { version_of old.now ≡ version_of new.now }
-        ensures value { Becomes self.old self.new (with_updated_checksum (packet_bytes_mut self.old) (sum_of_bytes (octets_of old.now)) (sum_of_bytes (octets_of new.now))) }
-        ensures valid_src { (dst : IpAddress) → length (octets_of dst) % 2 ≡ 0 → HasLengths (packet_bytes_mut self.old)
+        ensures value { Becomes self.old self.new (with_updated_checksum (packet_bytes_mut self.old) (sum_of_bytes (address_bytes old.now)) (sum_of_bytes (address_bytes new.now))) }
+        ensures valid_src { (dst : IpAddress) → length (address_bytes dst) % 2 ≡ 0 → HasLengths (packet_bytes_mut self.old)
             → HasChecksum old.now dst (packet_bytes_mut self.old) → HasChecksum new.now dst (packet_bytes_mut self.new) }
-        ensures valid_dst { (src : IpAddress) → length (octets_of src) % 2 ≡ 0 → HasLengths (packet_bytes_mut self.old)
+        ensures valid_dst { (src : IpAddress) → length (address_bytes src) % 2 ≡ 0 → HasLengths (packet_bytes_mut self.old)
             → HasChecksum src old.now (packet_bytes_mut self.old) → HasChecksum src new.now (packet_bytes_mut self.new) }
-        ensures reads_src { (dst : IpAddress) (verified : Bool) (v : UdpRepr) (payload : List ℕ) → length (octets_of dst) % 2 ≡ 0
+        ensures reads_src { (dst : IpAddress) (verified : Bool) (v : UdpRepr) (payload : List ℕ) → length (address_bytes dst) % 2 ≡ 0
             → Reads (packet_bytes_mut self.old) old.now dst verified v payload → Reads (packet_bytes_mut self.new) new.now dst verified v payload }
-        ensures reads_dst { (src : IpAddress) (verified : Bool) (v : UdpRepr) (payload : List ℕ) → length (octets_of src) % 2 ≡ 0
+        ensures reads_dst { (src : IpAddress) (verified : Bool) (v : UdpRepr) (payload : List ℕ) → length (address_bytes src) % 2 ≡ 0
             → Reads (packet_bytes_mut self.old) src old.now verified v payload → Reads (packet_bytes_mut self.new) src new.now verified v payload }
     {
-        octets_fit(self.as_bytes());
+        bytes_fit(self.as_bytes());
         self.update_checksum(checksum::address(old), checksum::address(new));
     }
 }

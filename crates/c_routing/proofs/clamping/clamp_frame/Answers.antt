@@ -16,12 +16,12 @@ returns-then-clamp_packet c =
     let body = c.clamp_packet.new.packet in
     let (link, v, payload, carried) = c.in-Some.ensures.some in
     let front : c.split_at_mut-packet.result.0.now ≡ take 14 frame = search rules in
-    let behind : c.split_at_mut-packet.result.1.now ≡ drop 14 frame = search rules in
+    let following : c.split_at_mut-packet.result.1.now ≡ drop 14 frame = search rules in
     let yes : c.clamp_packet.result ≡ true = search rules in
-    let above = ((rw behind at c.clamp_packet.ensures.when) v payload (carried.reads_carried.1, carried.reads_carried.2)).0 yes in
-    let is : body ≡ clamped c.in-Some.header (drop 14 frame) c.args.limit = rw (yes, behind) at c.clamp_packet.ensures.bytes in
+    let above = ((rw following at c.clamp_packet.ensures.when) v payload (carried.reads_carried.1, carried.reads_carried.2)).0 yes in
+    let is : body ≡ clamped c.in-Some.header (drop 14 frame) c.args.limit = rw (yes, following) at c.clamp_packet.ensures.bytes in
     clamps frame _ body link c.in-Some.header v payload c.args.limit _ refl carried above (ap (λ (l : List ℕ). l ++ body) front) is
-    (λ choice r. (rw behind at c.clamp_packet.ensures.after) choice v payload above r)
+    (λ choice r. (rw following at c.clamp_packet.ensures.after) choice v payload above r)
 
 pub returns-else-clamp_packet : goal.returns-else-clamp_packet
 returns-else-clamp_packet c =
@@ -29,9 +29,9 @@ returns-else-clamp_packet c =
     let body = c.clamp_packet.new.packet in
     let (link, v, payload, carried) = c.in-Some.ensures.some in
     let front : c.split_at_mut-packet.result.0.now ≡ take 14 frame = search rules in
-    let behind : c.split_at_mut-packet.result.1.now ≡ drop 14 frame = search rules in
+    let following : c.split_at_mut-packet.result.1.now ≡ drop 14 frame = search rules in
     let no : c.clamp_packet.result ≡ false = search rules in
-    let is : body ≡ drop 14 frame = rw (no, behind) at c.clamp_packet.ensures.bytes in
+    let is : body ≡ drop 14 frame = rw (no, following) at c.clamp_packet.ensures.bytes in
     not-above frame _ link c.in-Some.header v payload c.args.limit _ refl (search rules) carried
-    (λ above. let yes : c.clamp_packet.result ≡ true = ((rw behind at c.clamp_packet.ensures.when) v payload (carried.reads_carried.1, carried.reads_carried.2)).1 above in absurd (cc))
+    (λ above. let yes : c.clamp_packet.result ≡ true = ((rw following at c.clamp_packet.ensures.when) v payload (carried.reads_carried.1, carried.reads_carried.2)).1 above in absurd (cc))
     ((λ i. front i ++ is i) ∙ take-append-drop 14 frame)

@@ -4,7 +4,7 @@ use Rattle.ip_wire.specs.Ethernet.{frame_bytes, protocol_of}
 use Rattle.ip_wire.specs.Field.{field}
 use Rattle.ip_wire.specs.Frame.{rebuilt, rebuilt_payload}
 use Rattle.wire_field.proofs.Spelled.{AreBytes}
-use Rattle.c_structs.proofs.Filled.{filled-behind}
+use Rattle.c_structs.proofs.Filled.{filled-after}
 use Rattle.c_structs.proofs.Headed.{fills-none, length-rebuilt, rebuilt-headed}
 use Rattle.c_structs.proofs.rebuild.rebuild_frame.Goals as goal
 
@@ -24,9 +24,9 @@ returns-in-None c =
     let bytes : AreBytes frame = λ i. (c.type_inv.bytes i).fits in
     let of : frame_bytes c.new_unchecked-frame.result ≡ frame = ap (λ slice. slice.now) c.new_unchecked-frame.ensures in
     let type : c.ethertype.result ≡ protocol_of (field frame 96 16) = c.ethertype.ensures ∙ ap (λ b. protocol_of (field b 96 16)) of in
-    let behind : c.payload.result.now ≡ drop 14 frame = c.payload.ensures ∙ ap (drop 14) of in
+    let following : c.payload.result.now ≡ drop 14 frame = c.payload.ensures ∙ ap (drop 14) of in
     let back : c.split_at_mut-front.result.1.now ≡ drop 14 old = search rules in
-    let short : length (drop 14 old) < length (rebuilt_payload (protocol_of (field frame 96 16)) (drop 14 frame)) = rw (← type, ← behind, ← back) (c.in-None.ensures).0 in
+    let short : length (drop 14 old) < length (rebuilt_payload (protocol_of (field frame 96 16)) (drop 14 frame)) = rw (← type, ← following, ← back) (c.in-None.ensures).0 in
     let room = c.if-out-lt-ETHERNET_HEADER_LEN.false in
     let rest = length-drop 14 old in
     let small : 14 ≤ length frame → length old < length (rebuilt frame) = λ whole. let size = length-rebuilt frame bytes whole in omega (arith, size, short, rest, room) in
@@ -41,10 +41,10 @@ returns-in-Some c =
     let long : nat_le 14 (length frame) ≡ true = grind (arith, nat_tests, whole) in
     let of : frame_bytes c.new_unchecked-frame.result ≡ frame = ap (λ slice. slice.now) c.new_unchecked-frame.ensures in
     let type : c.ethertype.result ≡ protocol_of (field frame 96 16) = c.ethertype.ensures ∙ ap (λ b. protocol_of (field b 96 16)) of in
-    let behind : c.payload.result.now ≡ drop 14 frame = c.payload.ensures ∙ ap (drop 14) of in
+    let following : c.payload.result.now ≡ drop 14 frame = c.payload.ensures ∙ ap (drop 14) of in
     let inner = rebuilt_payload c.ethertype.result c.payload.result.now in
     let front : c.array_at.result ≡ take 14 frame = search rules in
     let room : c.split_at_mut-front.result.0.now ≡ take 14 old = search rules in
     let written : c.write_front.new.bytes ≡ take 14 frame ++ drop 14 (take 14 old) = rw (front, room) at c.write_front.ensures in
-    rw (long, rebuilt-headed frame bytes whole, ← type, ← behind) (filled-behind (take 14 frame) inner old c.write_front.new.bytes c.write_front.new.bytes c.rebuild_payload.new.out 14 c.in-Some.len
+    rw (long, rebuilt-headed frame bytes whole, ← type, ← following) (filled-after (take 14 frame) inner old c.write_front.new.bytes c.write_front.new.bytes c.rebuild_payload.new.out 14 c.in-Some.len
     (search rules) (search rules) refl written (search rules) (search rules) (search rules))

@@ -3,7 +3,7 @@ use Rattle.ip_wire.proofs.Frames.{rebuilt_transport-fits}
 use Rattle.ip_wire.specs.Frame.{rebuilt_transport}
 use Rattle.ip_wire.specs.Ip.{bytes_of, header_before, with_payload_len}
 use Rattle.ip_wire.specs.declared.IpProtocol.TheVariants.{Unknown}
-use Rattle.c_structs.proofs.Filled.{filled-behind}
+use Rattle.c_structs.proofs.Filled.{filled-after}
 use Rattle.c_structs.proofs.Numbered.{bytes_of-number, fits-number, header_len_of-number}
 use Rattle.net_base.specs.Checksum.{computes}
 use Rattle.c_structs.proofs.rebuild.rebuild_packet.Goals as goal
@@ -28,5 +28,5 @@ returns-in-Some c =
     let bytes = bytes_of-number header c.args.protocol (length inner) c.requires.protocol in
     let front : c.split_at_mut-front.result.0.now ≡ take c.header_len-header_len.result old = search rules in
     let written = rw (caps, numbered, same, bytes, ← c.header_len-header_len.ensures, front) at c.emit.ensures in
-    filled-behind (bytes_of (with_payload_len header (length inner)) true) inner old _ c.emit.new.buffer c.rebuild_transport.new.out c.header_len-header_len.result c.in-Some.payload_len
+    filled-after (bytes_of (with_payload_len header (length inner)) true) inner old _ c.emit.new.buffer c.rebuild_transport.new.out c.header_len-header_len.result c.in-Some.payload_len
     (search rules) (search rules) refl written (search rules) (search rules) (search rules)

@@ -19,7 +19,7 @@ returns-in-Some c =
     let unsummed : computes c.ignored-unsummed.result.tcp ≡ false = search rules in
     let read : tcp_of src dst true bytes ≡ Some v = rw (verified, c.new_unchecked-packet.ensures, c.src_addr-src_addr.ensures, c.dst_addr-dst_addr.ensures) at c.in-Ok.ensures.value in
     let reads : Reads bytes src dst true v p = rw (verified, c.new_unchecked-packet.ensures, c.src_addr-src_addr.ensures, c.dst_addr-dst_addr.ensures) at c.in-Ok.ensures.ok in
-    let words : AreWords src dst = record { src_octets = search rules; dst_octets = search rules } in
+    let words : AreWords src dst = record { src_bytes = search rules; dst_bytes = search rules } in
     let filled = rw unsummed at c.in-Some.ensures in
     let n : c.from.result ≡ header_len bytes = c.from.ensures ∙ rw c.new_unchecked-packet.ensures at c.header_len.ensures in
     let written = rw (n, c.header_len-in-Some.ensures) at c.put_checksum.ensures in

@@ -32,7 +32,7 @@ returns-in-Ok-2 c =
     let verified : verifies c.default-caps.result.udp ≡ true = search rules in
     let read : udp_of src dst true bytes ≡ Some c.in-Ok.header = rw (verified, c.new_unchecked-packet.ensures, c.src_addr-src_addr.ensures, c.dst_addr-dst_addr.ensures) at c.in-Ok.ensures.value in
     let are : AreBytes bytes = λ i. (c.type_inv.bytes i).fits in
-    let words : AreWords src dst = record { src_octets = search rules; dst_octets = search rules } in
+    let words : AreWords src dst = record { src_bytes = search rules; dst_bytes = search rules } in
     let sum : c.checksum.result ≡ field bytes 48 16 = rw c.new_unchecked-packet.ensures at c.checksum.ensures in
     let some : field bytes 48 16 ≢ 0 = rw (← sum) c.if-checksum-eq0.false in
     let len : c.from.result ≡ packet_len bytes = c.from.ensures ∙ rw c.new_unchecked-packet.ensures at c.len.ensures in

@@ -18,8 +18,8 @@ returns-then-not-is_of c =
     let verified : verifies c.default-caps.result.ipv4 ≡ true = search rules in
     let inside : packet_bytes c.new_unchecked-2.result ≡ drop 14 frame = search rules in
     let reads = rw (verified, inside) at c.parse.ensures.reads in
-    let behind : c.payload-packet.result.now ≡ drop 14 frame = search rules in
-    let has = rw behind at c.is_of.ensures in
+    let following : c.payload-packet.result.now ≡ drop 14 frame = search rules in
+    let has = rw following at c.is_of.ensures in
     no_problem c.args.ours.now frame c.args.problem c.in-Ok.header (λ w r. let ok = (reads w).1 r in let is = c.in-Ok.is in cc)
     (λ p. let on : c.is_of.result ≡ true = has.1 p in let off : c.is_of.result ≡ false = search rules in cc)
 
@@ -29,8 +29,8 @@ returns-else-not-is_of c =
     let verified : verifies c.default-caps.result.ipv4 ≡ true = search rules in
     let inside : packet_bytes c.new_unchecked-2.result ≡ drop 14 frame = search rules in
     let reads = rw (verified, inside) at c.parse.ensures.reads in
-    let behind : c.payload-packet.result.now ≡ drop 14 frame = search rules in
-    let has = rw behind at c.is_of.ensures in
+    let following : c.payload-packet.result.now ≡ drop 14 frame = search rules in
+    let has = rw following at c.is_of.ensures in
     let on : c.is_of.result ≡ true = search rules in
     let tells_of : c.message.result ≡ message_of c.args.problem = search rules in
     tells c.args.ours.now frame c.args.problem c.in-Ok.header c.error.result (λ w r. let ok = (reads w).1 r in let is = c.in-Ok.is in cc) (has.0 on) (rw tells_of at c.error.ensures)
@@ -41,5 +41,5 @@ is_of-requires c =
     let verified : verifies c.default-caps.result.ipv4 ≡ true = search rules in
     let inside : packet_bytes c.new_unchecked-2.result ≡ drop 14 frame = search rules in
     let reads = rw (verified, inside) at c.parse.ensures.reads in
-    let behind : c.payload-packet.result.now ≡ drop 14 frame = search rules in
-    subst (λ b. Reads b true c.in-Ok.header) (sym behind) ((reads c.in-Ok.header).0 c.in-Ok.is)
+    let following : c.payload-packet.result.now ≡ drop 14 frame = search rules in
+    subst (λ b. Reads b true c.in-Ok.header) (sym following) ((reads c.in-Ok.header).0 c.in-Ok.is)

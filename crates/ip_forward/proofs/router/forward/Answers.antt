@@ -35,8 +35,8 @@ returns-clause-forwarded c =
     let once : frame_bytes_mut c.set_src_addr.new.self ≡ with_range (take 14 frame) 6 12 c.args.src_addr.0 = rw link at c.set_src_addr.ensures.holds in
     let front : frame_bytes_mut c.set_dst_addr.new.self ≡ with_range (with_range (take 14 frame) 6 12 c.args.src_addr.0) 0 6 c.args.dst_addr.0 =
     rw once at c.set_dst_addr.ensures.holds in
-    let behind : c.split_at_mut-front.result.1.now ≡ drop 14 frame = search rules in
+    let following : c.split_at_mut-front.result.1.now ≡ drop 14 frame = search rules in
     let header = c.in_ok-header.header in
-    let packet : c.take_hop.new.packet ≡ with_hop_limit header (drop 14 frame) (hop_limit_of header - 1) = rw behind at c.take_hop.ensures.bytes in
+    let packet : c.take_hop.new.packet ≡ with_hop_limit header (drop 14 frame) (hop_limit_of header - 1) = rw following at c.take_hop.ensures.bytes in
     forwarded frame _ _ c.take_hop.new.packet c.args.src_addr c.args.dst_addr c.in-Ok.link header c.one_less.result (search rules) (search rules)
     ((reads c.in-Ok.link).0 c.in-Ok.is) (rw (tail frame) at c.in_ok-header.ensures.carries) c.in_ok-header.ensures.alive front packet c.take_hop.ensures.reads (search rules) (search rules)

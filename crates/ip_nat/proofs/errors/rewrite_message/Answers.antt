@@ -29,6 +29,6 @@ returns-clause-summed c =
     let filled : packet_bytes_mut c.fill_checksum.new.self ≡ with_message_checksum (c.split_at_mut-quoted.result.0.now ++ part) = rw view at c.fill_checksum.ensures.holds in
     let at : packet_bytes_mut c.fill_checksum.new.self ≡ with_message_checksum (take 8 bytes ++ part) = filled ∙ ap (λ (l : List ℕ). with_message_checksum (l ++ part)) front in
     let room : 8 ≤ length bytes = omega (arith, length-drop 8 bytes, c.requires.least, c.requires.room) in
-    let behind : drop 8 (packet_bytes_mut c.fill_checksum.new.self) ≡ part = ap (drop 8) at ∙ (message bytes part room).behind in
+    let after_header : drop 8 (packet_bytes_mut c.fill_checksum.new.self) ≡ part = ap (drop 8) at ∙ (message bytes part room).after_header in
     let stays : HasChecksum (drop 8 bytes) ↔ HasChecksum part = rw back at c.rewrite_quoted.ensures.summed in
-    search (rules, subst (λ (l : List ℕ). HasChecksum (drop 8 bytes) ↔ HasChecksum l) (sym behind) stays)
+    search (rules, subst (λ (l : List ℕ). HasChecksum (drop 8 bytes) ↔ HasChecksum l) (sym after_header) stays)

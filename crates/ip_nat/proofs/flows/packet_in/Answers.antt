@@ -40,4 +40,4 @@ returns-clause-came c =
 pub returns-clause-rejected : goal.returns-clause-rejected
 returns-clause-rejected c =
     in-zero c.rewrite.result c.args.nat.now c.args.mappings.now c.find.new.mappings c.args.now c.args.frame.now c.in_ok-packet.packet c.in-Some.inside
-    c.in_ok-packet.ensures.packet (for_outside c) (rw (c.event.ensures, c.src.ensures) at c.in-Some.ensures.found) c.rewrite.ensures.rejected c.rewrite.ensures.refused
+    c.in_ok-packet.ensures.packet (for_outside c) (rw (c.event.ensures, c.src.ensures) at c.in-Some.ensures.found) c.rewrite.ensures.rejected c.rewrite.ensures.disallowed

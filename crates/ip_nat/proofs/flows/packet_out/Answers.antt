@@ -1,6 +1,6 @@
 use Rattle.std.proofs.Common.{◌≡◌, inr, refl, rules}
 use Rattle.std.proofs.lemmas.Result.{IfErr-weaker, on_err_weaker, on_ok_weaker}
-use Rattle.ip_nat.proofs.Mapped.{kept-inside, refused-zero}
+use Rattle.ip_nat.proofs.Mapped.{kept-inside, disallowed-zero}
 use Rattle.ip_nat.specs.declared.nat.Side.TheVariants.{Source}
 use Rattle.ip_nat.proofs.flows.packet_out.Goals as goal
 
@@ -23,10 +23,10 @@ returns-clause-out c =
     c.rewrite.ensures.translated
 
 pub returns-clause-rejected : goal.returns-clause-rejected
-returns-clause-rejected c = IfErr-weaker c.rewrite.result _ _ (λ r why. absurd (c.in-Some.ensures.port (refused-zero c.args.frame.now Source c.in-Some.port why))) c.rewrite.ensures.refused
+returns-clause-rejected c = IfErr-weaker c.rewrite.result _ _ (λ r why. absurd (c.in-Some.ensures.port (disallowed-zero c.args.frame.now Source c.in-Some.port why))) c.rewrite.ensures.disallowed
 
 pub returns-clause-table : goal.returns-clause-table
-returns-clause-table c = on_err_weaker c.rewrite.result (λ why. absurd (c.in-Some.ensures.port (refused-zero c.args.frame.now Source c.in-Some.port why))) c.rewrite.ensures.refused
+returns-clause-table c = on_err_weaker c.rewrite.result (λ why. absurd (c.in-Some.ensures.port (disallowed-zero c.args.frame.now Source c.in-Some.port why))) c.rewrite.ensures.disallowed
 
 pub returns-in_default-clause-rejected : goal.returns-in_default-clause-rejected
 returns-in_default-clause-rejected c =

@@ -13,7 +13,7 @@ from_source c =
     let p = c.in_ok-packet.packet in
     goes-back c.translate.result c.args.frame.now c.rewrite.new.frame c.translate.new.frame p c.args.side c.args.addr p.header.src_addr c.args.port p.src_port
     c.in_ok-packet.ensures.packet c.in_ok-rewrite.ensures.translated (ap (λ s. addr_of s p.header) (sym c.in-Source.is)) (ap (on_side p.src_port p.dst_port) (sym c.in-Source.is))
-    c.octets_fit.ensures (search rules) (search rules) c.requires c.translate.ensures.translated c.translate.ensures.rejected
+    c.bytes_fit.ensures (search rules) (search rules) c.requires c.translate.ensures.translated c.translate.ensures.rejected
 
 pub returns-in-Source-clause-same : goal.returns-in-Source-clause-same
 returns-in-Source-clause-same c = (from_source c).0
@@ -27,7 +27,7 @@ from_destination c =
     let call = c.translate-in-Destination in
     goes-back call.result c.args.frame.now c.rewrite.new.frame call.new.frame p c.args.side c.args.addr p.header.dst_addr c.args.port p.dst_port
     c.in_ok-packet.ensures.packet c.in_ok-rewrite.ensures.translated (ap (λ s. addr_of s p.header) (sym c.in-Destination.is)) (ap (on_side p.src_port p.dst_port) (sym c.in-Destination.is))
-    c.octets_fit.ensures (search rules) (search rules) c.requires call.ensures.translated call.ensures.rejected
+    c.bytes_fit.ensures (search rules) (search rules) c.requires call.ensures.translated call.ensures.rejected
 
 pub returns-in-Destination-clause-same : goal.returns-in-Destination-clause-same
 returns-in-Destination-clause-same c = (from_destination c).0

@@ -3,4 +3,4 @@ use Rattle.ip_nat.proofs.Undone.{undone}
 use Rattle.ip_nat.proofs.laws.translation_is_undone.Goals as goal
 
 pub returns : goal.returns
-returns c there back was = undone c.args.frame.now there back c.args.side c.args.addr c.args.port was c.octets_fit.ensures (search rules) (search rules) c.requires
+returns c there back was = undone c.args.frame.now there back c.args.side c.args.addr c.args.port was c.bytes_fit.ensures (search rules) (search rules) c.requires

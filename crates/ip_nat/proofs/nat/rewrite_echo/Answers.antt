@@ -7,7 +7,7 @@ use Rattle.ip_nat.proofs.nat.rewrite_echo.Goals as goal
 pub returns-clause-reads : goal.returns-clause-reads
 returns-clause-reads c t named =
     let bytes = c.args.bytes.now in
-    let made = echo-identified bytes c.args.addr c.args.port c.octets_fit.ensures c.requires.len c.ranges.port.fits in
+    let made = echo-identified bytes c.args.addr c.args.port c.bytes_fit.ensures c.requires.len c.ranges.port.fits in
     let new : _ ≡ with_echo_ident c.args.addr c.args.port bytes = search rules in
     rewrites-echo c.args.header bytes _ c.args.side c.args.addr c.args.port named
     (subst (λ l. IsIdentified bytes l c.args.port) (sym new) made) t

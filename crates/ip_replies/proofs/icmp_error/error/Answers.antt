@@ -40,8 +40,8 @@ returns-then-not-is_told_of c =
     let verified : verifies c.default-caps.result.ipv4 ≡ true = search rules in
     let inside : packet_bytes c.new_unchecked.result ≡ drop 14 frame = search rules in
     let reads_header = rw (verified, inside) at c.parse-2.ensures.reads in
-    let behind : c.payload-packet.result.now ≡ drop 14 frame = search rules in
-    let tells = rw behind at c.is_told_of.ensures in
+    let following : c.payload-packet.result.now ≡ drop 14 frame = search rules in
+    let tells = rw following at c.is_told_of.ensures in
     let told_of : ¬ IsToldOf c.in-Ok-parse.header (drop 14 frame) =
     λ may. let on : c.is_told_of.result ≡ true = tells.1 may in let off : c.is_told_of.result ≡ false = search rules in cc
     in

@@ -33,7 +33,7 @@ returns-then-ne c =
     let caps : c.default-caps.result ≡ all_checked = search rules in
     let view : packet_bytes c.new_unchecked-packet.result ≡ request = search rules in
     let reads = rw (caps, view) at c.parse.ensures.reads in
-    no_advert ours c.args.link.now c.args.header.now request (λ named station dst solicited for_us r to.
+    no_advert ours c.args.link.now c.args.header.now request (λ named hardware dst solicited for_us r to.
     let ok = (reads (NeighborSolicit ours.ipv6_addr named)).1 r in
     let is = c.in-Ok.is in
     let value = c.in-NeighborSolicit.is in
@@ -47,12 +47,12 @@ returns-in-None c =
     let caps : c.default-caps.result ≡ all_checked = search rules in
     let view : packet_bytes c.new_unchecked-packet.result ≡ request = search rules in
     let reads = rw (caps, view) at c.parse.ensures.reads in
-    no_advert ours c.args.link.now c.args.header.now request (λ named station dst solicited for_us r to.
+    no_advert ours c.args.link.now c.args.header.now request (λ named hardware dst solicited for_us r to.
     let ok = (reads (NeighborSolicit ours.ipv6_addr named)).1 r in
     let is = c.in-Ok.is in
     let value = c.in-NeighborSolicit.is in
     let same : named ≡ c.in-NeighborSolicit.lladdr = cc in
-    c.answered_to.ensures.none c.in-None.is station dst solicited (subst (λ n. IsAnsweredTo ours c.args.link.now c.args.header.now n station dst solicited) same to))
+    c.answered_to.ensures.none c.in-None.is hardware dst solicited (subst (λ n. IsAnsweredTo ours c.args.link.now c.args.header.now n hardware dst solicited) same to))
 
 pub returns-in_default : goal.returns-in_default
 returns-in_default c =
@@ -61,7 +61,7 @@ returns-in_default c =
     let caps : c.default-caps.result ≡ all_checked = search rules in
     let view : packet_bytes c.new_unchecked-packet.result ≡ request = search rules in
     let reads = rw (caps, view) at c.parse.ensures.reads in
-    no_advert ours c.args.link.now c.args.header.now request (λ named station dst solicited for_us r to.
+    no_advert ours c.args.link.now c.args.header.now request (λ named hardware dst solicited for_us r to.
     let ok = (reads (NeighborSolicit ours.ipv6_addr named)).1 r in
     let is = c.in-Ok.is in
     let same : c.in-Ok.value ≡ NeighborSolicit ours.ipv6_addr named = cc in
@@ -74,6 +74,6 @@ returns-in-Err c =
     let caps : c.default-caps.result ≡ all_checked = search rules in
     let view : packet_bytes c.new_unchecked-packet.result ≡ request = search rules in
     let reads = rw (caps, view) at c.parse.ensures.reads in
-    no_advert ours c.args.link.now c.args.header.now request (λ named station dst solicited for_us r to.
+    no_advert ours c.args.link.now c.args.header.now request (λ named hardware dst solicited for_us r to.
     let ok = (reads (NeighborSolicit ours.ipv6_addr named)).1 r in
     absurd (let is = c.in-Err.is in cc))

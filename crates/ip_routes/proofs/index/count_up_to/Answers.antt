@@ -1,7 +1,7 @@
 use Rattle.std.proofs.Common.{ℕ, ◌+◌, ◌-◌, ◌/◌, ◌<◌, length, get_or, inl, inr, arith}
 use Rattle.std.proofs.lemmas.Bool.{cases_lt}
 use Rattle.ip_routes.specs.Index.{place}
-use Rattle.ip_routes.proofs.Splits.{split_behind, unread}
+use Rattle.ip_routes.proofs.Splits.{split_after, unread}
 use Rattle.ip_routes.proofs.index.count_up_to.Goals as goal
 
 pub loop-low-preserved : goal.loop-low-preserved
@@ -13,12 +13,12 @@ loop-low-preserved c =
     let less : c.loop-low.low < c.loop-low.high = c.loop-low-test.true in
     let inside : middle < c.loop-low.high = omega (arith, less) in
     let below : middle < length nodes = omega (arith, inside, kept.within) in
-    let behind : place target < place (get_or nodes middle unread) = elim (cases_lt (place target) (place (get_or nodes middle unread))) [
+    let following : place target < place (get_or nodes middle unread) = elim (cases_lt (place target) (place (get_or nodes middle unread))) [
       | inl less ↦ less
       | inr other ↦ absurd (let t = c.is_up_to.ensures.1 other in let f = c.if-is_up_to.false in cc)
     ] in
     record {
       order = omega arith;
       within = omega (arith, below);
-      split = λ sorted. ((kept.split sorted).0, split_behind nodes middle target sorted below behind);
+      split = λ sorted. ((kept.split sorted).0, split_after nodes middle target sorted below following);
     }

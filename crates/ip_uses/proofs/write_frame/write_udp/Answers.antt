@@ -9,8 +9,8 @@ use Rattle.ip_uses.proofs.write_frame.write_udp.Goals as goal
 -- the frame in the buffer and what follows it are the whole buffer
 whole : (f : Frame) (bytes padding old new : List ℕ) (n : ℕ) → (n ≡ frame_len f) × (n ≤ length old) × (new ≡ bytes ++ drop n old) → length new ≡ length old
     → padding ≡ drop n new → ReadsNormalOf all_checked (bytes ++ padding) f → ReadsNormalOf all_checked new f
-whole f bytes padding old new n (len, fits, is) same behind reads =
-    subst (λ b. ReadsNormalOf all_checked b f) (ap (λ l. bytes ++ l) (behind ∙ rest_stays bytes old new n is same fits) ∙ sym is) reads
+whole f bytes padding old new n (len, fits, is) same following reads =
+    subst (λ b. ReadsNormalOf all_checked b f) (ap (λ l. bytes ++ l) (following ∙ rest_stays bytes old new n is same fits) ∙ sym is) reads
 
 pub returns-in_ok-len-in-Ok-clause-reads_back : goal.returns-in_ok-len-in-Ok-clause-reads_back
 returns-in_ok-len-in-Ok-clause-reads_back c =

@@ -10,7 +10,7 @@ use Rattle.std.proofs.lemmas.Bool.Decides.{nat_tests}
 
 pub returns-in-SourceHardwareAddr : goal.returns-in-SourceHardwareAddr
 returns-in-SourceHardwareAddr c =
-    let (long, number) = address_read (packet_bytes_mut c.args.packet.now) c.source_hardware_addr.result.now 8 (source_hardware_end (packet_bytes_mut c.args.packet.now)) (hardware_len (packet_bytes_mut c.args.packet.now)) _ (subst AreBytes c.as_bytes.ensures c.octets_fit.ensures) c.source_hardware_addr.ensures (omega arith) (omega arith) (omega arith) in
+    let (long, number) = address_read (packet_bytes_mut c.args.packet.now) c.source_hardware_addr.result.now 8 (source_hardware_end (packet_bytes_mut c.args.packet.now)) (hardware_len (packet_bytes_mut c.args.packet.now)) _ (subst AreBytes c.as_bytes.ensures c.bytes_fit.ensures) c.source_hardware_addr.ensures (omega arith) (omega arith) (omega arith) in
     subst (λ (g : ArpAddressGetting). IsGot g c.source_hardware_addr.result.now (packet_bytes_mut c.args.packet.now)) (sym c.in-SourceHardwareAddr.is) (record { width = omega (arith, long); number = number })
 
 pub returns-in-SourceProtocolAddr : goal.returns-in-SourceProtocolAddr

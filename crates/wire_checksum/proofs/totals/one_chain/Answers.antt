@@ -23,10 +23,10 @@ ended bytes rest k z p r all is a b =
     let n = length bytes / 32 * 32 in
     let long : length rest ≡ length bytes - n = ap length is ∙ length-drop n bytes in
     let front : sum (words (take (k * 32) bytes)) ≡ sum (words (take n bytes)) = ap (λ j. sum (words (take (j * 32) bytes))) all in
-    let behind : sum (words (take m rest)) ≡ sum (words (take m (drop n bytes))) = ap (λ l. sum (words (take m l))) is in
+    let following : sum (words (take m rest)) ≡ sum (words (take m (drop n bytes))) = ap (λ l. sum (words (take m l))) is in
     let whole = sum-words-chunk m n (length bytes / 8 * 8) bytes (omega arith) (omega (arith, long)) (omega arith) in
     let chunks = sum (words (take (k * 32) bytes)) in
-    b ∙ residue-add (256 * p) (z + sum (words (take m rest))) chunks chunks a refl ∙ ap residue (omega (arith, front, behind, whole))
+    b ∙ residue-add (256 * p) (z + sum (words (take m rest))) chunks chunks a refl ∙ ap residue (omega (arith, front, following, whole))
 
 pub returns : goal.returns
 returns c =

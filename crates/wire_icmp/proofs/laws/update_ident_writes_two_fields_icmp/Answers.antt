@@ -6,6 +6,6 @@ use Rattle.wire_icmp.proofs.laws.update_ident_writes_two_fields_icmp.Goals as go
 
 pub returns-clause-valid : goal.returns-clause-valid
 returns-clause-valid c src dst s d valid =
-    let are : AreBytes (packet_bytes_mut c.args.packet.now) = subst AreBytes c.as_bytes.ensures c.octets_fit.ensures in
+    let are : AreBytes (packet_bytes_mut c.args.packet.now) = subst AreBytes c.as_bytes.ensures c.bytes_fit.ensures in
     subst (Verifies src dst) (sym c.update_echo_ident.ensures.holds)
-    (valid_word src dst (packet_bytes_mut c.args.packet.now) 2 c.args.ident are (record { src_octets = s; dst_octets = d }) (search rules) (omega arith) (omega (arith, c.requires)) valid)
+    (valid_word src dst (packet_bytes_mut c.args.packet.now) 2 c.args.ident are (record { src_bytes = s; dst_bytes = d }) (search rules) (omega arith) (omega (arith, c.requires)) valid)

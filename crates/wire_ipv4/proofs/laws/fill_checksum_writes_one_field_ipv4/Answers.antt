@@ -13,6 +13,6 @@ verify_checksum-requires c = grind (arith, common_steps, nat_tests, shape-filled
 pub returns : goal.returns
 returns c =
     let bytes = packet_bytes_mut c.args.packet.now in
-    let octets = subst AreBytes c.as_bytes.ensures c.octets_fit.ensures in
+    let octets = subst AreBytes c.as_bytes.ensures c.bytes_fit.ensures in
     let valid = subst HasChecksum (sym c.fill_checksum.ensures.holds) (valid-filled (packet_bytes_mut c.args.packet.now) octets c.requires.least c.requires.field c.requires.header) in
     record { written = c.fill_checksum.ensures.holds ∙ filled bytes octets c.requires.least; valid = valid; verified = c.verify_checksum.ensures.1 valid }

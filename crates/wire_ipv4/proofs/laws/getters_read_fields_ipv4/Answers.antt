@@ -8,8 +8,8 @@ use Rattle.wire_ipv4.proofs.laws.getters_read_fields_ipv4.Goals as goal
 
 pub returns-in-SrcAddr : goal.returns-in-SrcAddr
 returns-in-SrcAddr c = subst (λ (g : Ipv4Getting). c.to_bits.result ≡ got g (packet_bytes c.args.packet.now)) (sym c.in-SrcAddr.is)
-    (address_read (packet_bytes c.args.packet.now) c.src_addr.result 12 c.to_bits.result (subst AreBytes c.as_bytes.ensures c.octets_fit.ensures) (search rules) c.src_addr.ensures c.to_bits.ensures.value)
+    (address_read (packet_bytes c.args.packet.now) c.src_addr.result 12 c.to_bits.result (subst AreBytes c.as_bytes.ensures c.bytes_fit.ensures) (search rules) c.src_addr.ensures c.to_bits.ensures.value)
 
 pub returns-in-DstAddr : goal.returns-in-DstAddr
 returns-in-DstAddr c = subst (λ (g : Ipv4Getting). c.to_bits-in-DstAddr.result ≡ got g (packet_bytes c.args.packet.now)) (sym c.in-DstAddr.is)
-    (address_read (packet_bytes c.args.packet.now) c.dst_addr.result 16 c.to_bits-in-DstAddr.result (subst AreBytes c.as_bytes.ensures c.octets_fit.ensures) (search rules) c.dst_addr.ensures c.to_bits-in-DstAddr.ensures.value)
+    (address_read (packet_bytes c.args.packet.now) c.dst_addr.result 16 c.to_bits-in-DstAddr.result (subst AreBytes c.as_bytes.ensures c.bytes_fit.ensures) (search rules) c.dst_addr.ensures c.to_bits-in-DstAddr.ensures.value)

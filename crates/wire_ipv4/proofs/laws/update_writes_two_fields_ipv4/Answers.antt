@@ -8,8 +8,8 @@ use Rattle.wire_ipv4.proofs.laws.update_writes_two_fields_ipv4.Goals as goal
 
 pub returns-in-SrcAddr-clause-written : goal.returns-in-SrcAddr-clause-written
 returns-in-SrcAddr-clause-written c = subst (λ (u : Ipv4Update). packet_bytes_mut c.update_src_addr.new.self ≡ after_update u (packet_bytes_mut c.args.packet.now)) (sym c.in-SrcAddr.is)
-    (c.update_src_addr.ensures.value.holds ∙ address_updated (packet_bytes_mut c.args.packet.now) c.in-SrcAddr.x 12 (subst AreBytes c.as_bytes.ensures c.octets_fit.ensures) (search rules) (search rules) (omega arith))
+    (c.update_src_addr.ensures.value.holds ∙ address_updated (packet_bytes_mut c.args.packet.now) c.in-SrcAddr.x 12 (subst AreBytes c.as_bytes.ensures c.bytes_fit.ensures) (search rules) (search rules) (omega arith))
 
 pub returns-in-DstAddr-clause-written : goal.returns-in-DstAddr-clause-written
 returns-in-DstAddr-clause-written c = subst (λ (u : Ipv4Update). packet_bytes_mut c.update_dst_addr.new.self ≡ after_update u (packet_bytes_mut c.args.packet.now)) (sym c.in-DstAddr.is)
-    (c.update_dst_addr.ensures.value.holds ∙ address_updated (packet_bytes_mut c.args.packet.now) c.in-DstAddr.x 16 (subst AreBytes c.as_bytes.ensures c.octets_fit.ensures) (search rules) (search rules) (omega arith))
+    (c.update_dst_addr.ensures.value.holds ∙ address_updated (packet_bytes_mut c.args.packet.now) c.in-DstAddr.x 16 (subst AreBytes c.as_bytes.ensures c.bytes_fit.ensures) (search rules) (search rules) (omega arith))

@@ -19,14 +19,14 @@ spelled xs sixteen = sym (from_be_bytes_16 xs sixteen) ∙ by_sixteen xs
 
 pub returns-in-SrcAddr : goal.returns-in-SrcAddr
 returns-in-SrcAddr c =
-    let are : AreBytes (packet_bytes c.args.packet.now) = subst AreBytes c.as_bytes.ensures c.octets_fit.ensures in
+    let are : AreBytes (packet_bytes c.args.packet.now) = subst AreBytes c.as_bytes.ensures c.bytes_fit.ensures in
     let sixteen : length c.src_addr.result ≡ 16 = search rules in
     subst (λ (g : Ipv6Getting). c.to_bits.result ≡ got g (packet_bytes c.args.packet.now)) (sym c.in-SrcAddr.is)
     (c.to_bits.ensures.value ∙ spelled c.src_addr.result sixteen ∙ ap (big_number 16) c.src_addr.ensures ∙ range-number (packet_bytes c.args.packet.now) 8 16 are)
 
 pub returns-in-DstAddr : goal.returns-in-DstAddr
 returns-in-DstAddr c =
-    let are : AreBytes (packet_bytes c.args.packet.now) = subst AreBytes c.as_bytes.ensures c.octets_fit.ensures in
+    let are : AreBytes (packet_bytes c.args.packet.now) = subst AreBytes c.as_bytes.ensures c.bytes_fit.ensures in
     let sixteen : length c.dst_addr.result ≡ 16 = search rules in
     subst (λ (g : Ipv6Getting). c.to_bits-in-DstAddr.result ≡ got g (packet_bytes c.args.packet.now)) (sym c.in-DstAddr.is)
     (c.to_bits-in-DstAddr.ensures.value ∙ spelled c.dst_addr.result sixteen ∙ ap (big_number 16) c.dst_addr.ensures ∙ range-number (packet_bytes c.args.packet.now) 24 16 are)

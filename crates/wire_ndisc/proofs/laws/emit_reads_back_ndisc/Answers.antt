@@ -5,8 +5,8 @@ use Rattle.wire_ndisc.proofs.laws.emit_reads_back_ndisc.Goals as goal
 pub returns : goal.returns
 returns c =
     let in_range : IsInRange c.args.value c.args.src_addr c.args.dst_addr = record {
-      src_octets = search rules;
-      dst_octets = search rules;
+      src_bytes = search rules;
+      dst_bytes = search rules;
       target = search rules;
       lladdr = λ address is. search rules;
     } in

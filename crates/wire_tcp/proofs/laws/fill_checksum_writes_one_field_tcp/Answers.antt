@@ -9,7 +9,7 @@ use Rattle.std.proofs.lemmas.Bool.Decides.{nat_tests}
 
 pub returns-clause-fields : goal.returns-clause-fields
 returns-clause-fields c =
-    let are : AreBytes (packet_bytes_mut c.args.packet.now) = subst AreBytes c.as_bytes.ensures c.octets_fit.ensures in
+    let are : AreBytes (packet_bytes_mut c.args.packet.now) = subst AreBytes c.as_bytes.ensures c.bytes_fit.ensures in
     c.fill_checksum.ensures.holds ∙ with_field_twice (packet_bytes_mut c.args.packet.now) 128 16 _ 0 are (omega arith) (omega (arith, c.requires.header))
 
 pub returns-clause-valid : goal.returns-clause-valid

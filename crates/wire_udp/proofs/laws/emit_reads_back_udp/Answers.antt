@@ -9,7 +9,7 @@ returns c =
       dst_port = search rules;
       receiver = c.requires.receiver;
       payload_len = c.requires.payload_len;
-      src_octets = search rules;
-      dst_octets = search rules;
+      src_bytes = search rules;
+      dst_bytes = search rules;
     } in
     reads_bytes_of c.args.value c.args.src_addr c.args.dst_addr c.args.payload.now c.args.rest.now c.args.computed c.args.verified in_range c.requires.checksum

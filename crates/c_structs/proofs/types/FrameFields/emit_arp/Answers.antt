@@ -2,7 +2,7 @@ use Rattle.std.proofs.Common.{◌≡◌, ◌∙◌, ◌+◌, ◌++◌, Some, ap,
 use Rattle.std.proofs.lemmas.Grind.{common_steps}
 use Rattle.std.specs.Option.{option_map}
 use Rattle.ip_wire.specs.Arp.{bytes_of}
-use Rattle.c_structs.proofs.Filled.{filled-behind}
+use Rattle.c_structs.proofs.Filled.{filled-after}
 use Rattle.c_structs.specs.Frames.{arp_frame}
 use Rattle.c_structs.specs.Headers.{arp_value, link_bytes}
 use Rattle.c_structs.specs.Written.{Fills}
@@ -22,5 +22,5 @@ returns-in-Some c =
     let same = c.try_emit.auto.out in
     let size : c.in-Some.len ≡ length inner = grind (arith, common_steps, room, same, is) in
     subst (λ o. Fills o old (c.emit.new.out ++ c.try_emit.new.out) (Some (14 + c.in-Some.len))) (sym frame)
-    (filled-behind link inner old c.emit.new.out _ c.try_emit.new.out 14 c.in-Some.len
+    (filled-after link inner old c.emit.new.out _ c.try_emit.new.out 14 c.in-Some.len
     (search rules) (search rules) refl is_front size (search rules) (search rules))

@@ -3,7 +3,7 @@ use Rattle.std.proofs.lemmas.Bool.Decides.{nat_tests}
 use Rattle.std.specs.Option.{option_map_or}
 use Rattle.ip_wire.specs.Tcp as tcp
 use Rattle.ip_wire.specs.TcpRepr.{header_of, tcp_of}
-use Rattle.c_structs.specs.FrameFields.{behind, rejected_transport, tcp_fault, with_tcp_header}
+use Rattle.c_structs.specs.FrameFields.{after_header, rejected_transport, tcp_fault, with_tcp_header}
 use Rattle.c_structs.specs.declared.types.FrameFields.{FrameFields}
 use Rattle.c_structs.proofs.types.FrameFields.store_tcp.Goals as goal
 
@@ -22,8 +22,8 @@ returns-in-Ok-clause-value c =
     let enough = c.if-bytes-lt-TCP_HEADER_LEN.false in
     let long : nat_lt (length bytes) 20 ≡ false = grind (arith, nat_tests, enough) in
     let read : tcp_of src dst false bytes ≡ Some (header_of c.in-Ok.field-0) = rw (c.new_unchecked-packet.ensures, c.ignored-caps.ensures) at c.in-Ok.ensures.value in
-    let made : c.step_behind.new.self ≡ behind next (tcp.header_len bytes) (length (tcp.payload_of bytes)) =
-    rw (c.step_behind.ensures, c.store_tcp_header.ensures, c.from.ensures, c.header_len.ensures, c.payload.ensures, c.new_unchecked-packet.ensures) refl
+    let made : c.step_after.new.self ≡ after_header next (tcp.header_len bytes) (length (tcp.payload_of bytes)) =
+    rw (c.step_after.ensures, c.store_tcp_header.ensures, c.from.ensures, c.header_len.ensures, c.payload.ensures, c.new_unchecked-packet.ensures) refl
     in
     made ∙ sym (chosen-some (nat_lt (length bytes) 20) (tcp_of src dst false bytes) (header_of c.in-Ok.field-0) _ _ (rejected_transport next (tcp_fault bytes (length bytes))) long read)
 
@@ -39,4 +39,4 @@ returns-in-Err-clause-value c =
     let made : c.reject_transport.new.self ≡ rejected_transport next (tcp_fault bytes (length bytes)) =
     rw (c.reject_transport.ensures, c.store_tcp_header.ensures, c.tcp_fault.ensures, c.new_unchecked-packet.ensures) refl
     in
-    made ∙ sym (chosen-none (nat_lt (length bytes) 20) (tcp_of src dst false bytes) _ (behind next (tcp.header_len bytes) (length (tcp.payload_of bytes))) _ long unread)
+    made ∙ sym (chosen-none (nat_lt (length bytes) 20) (tcp_of src dst false bytes) _ (after_header next (tcp.header_len bytes) (length (tcp.payload_of bytes))) _ long unread)

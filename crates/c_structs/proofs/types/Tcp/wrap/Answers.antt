@@ -2,7 +2,7 @@ use Rattle.std.proofs.Common.{◌≡◌, ◌∙◌, ◌+◌, ◌++◌, arith, dr
 use Rattle.ip_wire.specs.Tcp.{with_checksum}
 use Rattle.ip_wire.specs.TcpRepr.{option_bytes}
 use Rattle.wire_tcp.proofs.TcpEmitted.{length-option_bytes}
-use Rattle.c_structs.proofs.TcpFronts.{behind-here, front-written, options-there, rest-here, segment-parts}
+use Rattle.c_structs.proofs.TcpFronts.{following-here, front-written, options-there, rest-here, segment-parts}
 use Rattle.c_structs.specs.Headers.{front_bytes, options_value, segment_with_flags, tcp_value}
 use Rattle.c_structs.proofs.types.Tcp.wrap.Goals as goal
 
@@ -25,4 +25,4 @@ returns c =
     front-written (λ bytes. if c.args.computed then with_checksum c.args.src_addr c.args.dst_addr bytes else bytes) (front_bytes h p q size) _ (options ++ payload)
     (segment_with_flags h (tcp_value h o p q) payload) (drop (size + n) old) o1 c.write_front.new.out made
     (segment-parts h o p q size payload c.requires.value c.requires.most (search rules) (search rules))
-    (behind-here old o1 options size n there) c.write_front.ensures
+    (following-here old o1 options size n there) c.write_front.ensures

@@ -1,5 +1,5 @@
 use Rattle.std.proofs.Common.{arith}
-use Rattle.wire_tcp.proofs.TcpEmitted.{options_behind, written_len}
+use Rattle.wire_tcp.proofs.TcpEmitted.{options_after, written_len}
 use Rattle.c_structs.specs.Headers.{options_value}
 use Rattle.c_structs.proofs.types.TcpOptions.emit.Goals as goal
 
@@ -39,5 +39,5 @@ returns c =
     let b = c.emit_window_scale-scaled.ensures in
     let s = c.emit_sack-acknowledged.ensures in
     let t = c.emit_timestamp-stamped.ensures in
-    options_behind v c.args.out.now _ _ _ _ _ _ _ _ _ c.args.header_len c.requires.value (omega (arith, c.requires.room, c.requires.value, all))
+    options_after v c.args.out.now _ _ _ _ _ _ _ _ _ c.args.header_len c.requires.value (omega (arith, c.requires.room, c.requires.value, all))
     a.end a.written b.end b.written s.end s.written t.end t.written c.write_zeros.ensures

@@ -9,9 +9,9 @@ returns-clause-translated c =
     let header = c.args.self.now.header in
     let described = c.allows_port.ensures is.transport is.described in
     let allowed = described.0 (search rules) in
-    let behind : c.split_at_mut-packet.result.1.now ≡ drop 14 frame = search rules in
+    let after_header : c.split_at_mut-packet.result.1.now ≡ drop 14 frame = search rules in
     let front : c.split_at_mut-packet.result.0.now ≡ take 14 frame = search rules in
-    let carries = rw behind at c.rewrite_packet.ensures.carries in
-    let bytes = rw behind at c.rewrite_packet.ensures.bytes in
-    translates frame _ c.rewrite_packet.new.packet is.link header is.transport c.args.side c.args.addr c.args.port (search rules) c.octets_fit.ensures is.carries
+    let carries = rw after_header at c.rewrite_packet.ensures.carries in
+    let bytes = rw after_header at c.rewrite_packet.ensures.bytes in
+    translates frame _ c.rewrite_packet.new.packet is.link header is.transport c.args.side c.args.addr c.args.port (search rules) c.bytes_fit.ensures is.carries
     (carries is.transport allowed (carried frame is.link header is.transport is.carries)) bytes (ap (λ (l : List ℕ). l ++ c.rewrite_packet.new.packet) front)

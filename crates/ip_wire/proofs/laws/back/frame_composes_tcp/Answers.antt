@@ -4,7 +4,7 @@ use Rattle.ip_wire.proofs.Composed.{reads_frame, reads_segment}
 use Rattle.ip_wire.proofs.TcpLayer.{length-written}
 use Rattle.ip_wire.specs.Frame.{segment}
 use Rattle.net_base.specs.Checksum.{computes}
-use Rattle.wire_ends.specs.IpAddress.{octets_of}
+use Rattle.wire_ends.specs.IpAddress.{address_bytes}
 use Rattle.wire_ip.proofs.IpReadsBack.{IsInRange}
 use Rattle.wire_ip.specs.Ip.{dst_addr_of, payload_len_of, src_addr_of}
 use Rattle.wire_tcp.proofs.TcpReadsBack.{IsWritable}
@@ -27,9 +27,9 @@ returns c =
       receiver = c.requires.receiver;
       most = c.requires.header_len;
     } in
-    let src_octets : length (octets_of src) % 2 ≡ 0 = search rules in
-    let dst_octets : length (octets_of dst) % 2 ≡ 0 = search rules in
+    let src_bytes : length (address_bytes src) % 2 ≡ 0 = search rules in
+    let dst_bytes : length (address_bytes dst) % 2 ≡ 0 = search rules in
     let long : payload_len_of inner ≡ length written = c.requires.len ∙ sym (length-written src dst value payload (computes c.args.sent.tcp)) in
-    let read = reads_segment c.args.received (computes c.args.sent.tcp) inner value payload c.requires.protocol writable src_octets dst_octets c.requires.checksum in
+    let read = reads_segment c.args.received (computes c.args.sent.tcp) inner value payload c.requires.protocol writable src_bytes dst_bytes c.requires.checksum in
     reads_frame c.args.received (computes c.args.sent.ipv4) c.args.header inner written c.args.padding.now (segment (tcp.normal value) payload) (search rules) (search rules)
     c.requires.names in_range long c.requires.packet_checksum read

@@ -22,8 +22,8 @@ returns c =
       dst_port = search rules;
       receiver = c.requires.receiver;
       payload_len = search rules;
-      src_octets = search rules;
-      dst_octets = search rules;
+      src_bytes = search rules;
+      dst_bytes = search rules;
     } in
     let long : payload_len_of inner ≡ length written = simp length-append (omega (arith, c.requires.len)) in
     let read = reads_datagram c.args.received (computes c.args.sent.udp) inner value payload c.requires.protocol udp_range c.requires.checksum in

@@ -13,4 +13,4 @@ returns c =
     let dst = length_front 6 old first v.dst_addr.0 (omega arith) (omega arith) c.write_six.ensures in
     let src = length_front 6 (slice_range first 6 12) second v.src_addr.0 (omega arith) (omega arith) c.write_six-2.ensures in
     let written = header_written v.dst_addr.0 v.src_addr.0 (number_of v.ethertype) old first second c.write_u16.new.buf c.number.result dst src c.requires c.write_six.ensures c.write_six-2.ensures c.write_u16.ensures c.number.ensures in
-    record { same_loan = cc; same_length = omega arith; holds = written }
+    record { same_borrow = cc; same_length = omega arith; holds = written }

@@ -11,7 +11,7 @@ returns c =
     let sum : c.packet-sum.result ≡ segment_sum src dst (c.args.fixed.now ++ drop 20 bytes) = search rules in
     let all : c.packet-sum.result ≡ segment_sum src dst bytes = sum ∙ ap (segment_sum src dst) (sym c.requires.front) in
     record {
-      same_loan = cc;
+      same_borrow = cc;
       same_length = search rules;
       holds = search (rules, ap (λ n. with_field bytes 128 16 (65535 - n)) all);
     }

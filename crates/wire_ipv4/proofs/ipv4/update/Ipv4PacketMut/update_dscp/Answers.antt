@@ -11,9 +11,9 @@ written : (c : goal.After-update_checksum)
 written c = search rules
 
 pub returns-clause-valid : goal.returns-clause-valid
-returns-clause-valid c header room valid = subst HasChecksum (sym (written c)) (valid-dscp (packet_bytes_mut c.args.self.now) c.args.value (subst AreBytes c.as_bytes.ensures c.octets_fit.ensures) header room valid)
+returns-clause-valid c header room valid = subst HasChecksum (sym (written c)) (valid-dscp (packet_bytes_mut c.args.self.now) c.args.value (subst AreBytes c.as_bytes.ensures c.bytes_fit.ensures) header room valid)
 
 pub returns-clause-reads : goal.returns-clause-reads
 returns-clause-reads c v verified r =
     reads-summed (with_field (packet_bytes_mut c.args.self.now) 8 6 c.args.value) _ _ false verified v (written c)
-    (reads-no_value (packet_bytes_mut c.args.self.now) 8 6 c.args.value verified v (subst AreBytes c.as_bytes.ensures c.octets_fit.ensures) (omega arith) (inl (omega arith, omega arith)) r) (λ on. returns-clause-valid c r.lengths.header (omega (arith, r.lengths.within, r.lengths.whole)) (r.checksum on))
+    (reads-no_value (packet_bytes_mut c.args.self.now) 8 6 c.args.value verified v (subst AreBytes c.as_bytes.ensures c.bytes_fit.ensures) (omega arith) (inl (omega arith, omega arith)) r) (λ on. returns-clause-valid c r.lengths.header (omega (arith, r.lengths.within, r.lengths.whole)) (r.checksum on))

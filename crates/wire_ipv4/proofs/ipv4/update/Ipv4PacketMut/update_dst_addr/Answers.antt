@@ -13,7 +13,7 @@ written c = search rules
 
 pub returns-clause-valid : goal.returns-clause-valid
 returns-clause-valid c header room valid =
-    subst HasChecksum (sym (written c)) (valid-dst_addr (packet_bytes_mut c.args.self.now) c.args.value (subst AreBytes c.as_bytes.ensures c.octets_fit.ensures) (search rules) (search rules) header room valid)
+    subst HasChecksum (sym (written c)) (valid-dst_addr (packet_bytes_mut c.args.self.now) c.args.value (subst AreBytes c.as_bytes.ensures c.bytes_fit.ensures) (search rules) (search rules) header room valid)
 
 pub returns-clause-reads : goal.returns-clause-reads
 returns-clause-reads c v verified r =

@@ -11,7 +11,7 @@ written : (c : goal.After-update_checksum)
 written c = search rules
 
 pub returns-clause-valid : goal.returns-clause-valid
-returns-clause-valid c header room valid = subst HasChecksum (sym (written c)) (valid-hop_limit (packet_bytes_mut c.args.self.now) c.args.value (subst AreBytes c.as_bytes.ensures c.octets_fit.ensures) (search rules) header room valid)
+returns-clause-valid c header room valid = subst HasChecksum (sym (written c)) (valid-hop_limit (packet_bytes_mut c.args.self.now) c.args.value (subst AreBytes c.as_bytes.ensures c.bytes_fit.ensures) (search rules) header room valid)
 
 pub returns-clause-reads : goal.returns-clause-reads
 returns-clause-reads c v verified r =

@@ -22,7 +22,7 @@ returns c =
     } in
     let whole = written-bytes_of old.now v c.requires.room in_range in
     record {
-      same_loan = cc;
+      same_borrow = cc;
       same_length = omega arith;
       holds = c.set_dst_addr.ensures.holds
           ∙ rw (

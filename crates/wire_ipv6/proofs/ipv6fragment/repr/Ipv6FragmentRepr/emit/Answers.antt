@@ -9,7 +9,7 @@ returns c =
     let old = c.args.header.now.buffer.now in
     let whole = with_header old v.frag_offset (flag v.more_frags) v.ident (flag-small v.more_frags) c.requires in
     record {
-      same_loan = cc;
+      same_borrow = cc;
       same_length = omega arith;
       holds = c.set_ident.ensures.holds ∙ rw (c.set_more_frags.ensures.holds, c.set_frag_offset.ensures.holds, c.clear_reserved.ensures.holds) whole;
     }

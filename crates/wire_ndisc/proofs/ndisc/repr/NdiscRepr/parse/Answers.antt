@@ -25,9 +25,9 @@ returns-then-not-is_allowed-clause-value c =
 
 pub returns-then-not-is_allowed-clause-reads : goal.returns-then-not-is_allowed-clause-reads
 returns-then-not-is_allowed-clause-reads c v =
-    let refused : Result NdiscRepr Error = Err (record {}) in
+    let rejected : Result NdiscRepr Error = Err (record {}) in
     let none = ndisc_of-allowed c.args.src_addr.now c.args.dst_addr.now c.args.hop_limit (verifies c.args.caps.now.icmpv6) c.args.packet.now.buffer.now c.in_ok-value.value false (search rules) c.in_ok-value.ensures (search rules) in
-    answer-Reads c.args.src_addr.now c.args.dst_addr.now c.args.hop_limit (verifies c.args.caps.now.icmpv6) c.args.packet.now.buffer.now refused none v
+    answer-Reads c.args.src_addr.now c.args.dst_addr.now c.args.hop_limit (verifies c.args.caps.now.icmpv6) c.args.packet.now.buffer.now rejected none v
 
 pub returns-clause-value : goal.returns-clause-value
 returns-clause-value c =

@@ -1,6 +1,6 @@
 use Rattle.std.proofs.Common.{◌∙◌, arith}
 use Rattle.wire_tcp.specs.TcpRepr.{header_of}
-use Rattle.wire_tcp.proofs.TcpEmitted.{options_behind, written_len}
+use Rattle.wire_tcp.proofs.TcpEmitted.{options_after, written_len}
 use Rattle.wire_tcp.proofs.tcp.repr.TcpRepr.emit_options.Goals as goal
 
 pub emit_sack-acknowledged-requires : goal.emit_sack-acknowledged-requires
@@ -36,8 +36,8 @@ returns c =
     let t = c.emit_timestamp-stamped.ensures in
     let z = c.write_zeros.ensures in
     record {
-      same_loan = z.same_loan ∙ t.written.same_loan ∙ s.written.same_loan ∙ b.written.same_loan ∙ a.written.same_loan;
+      same_borrow = z.same_borrow ∙ t.written.same_borrow ∙ s.written.same_borrow ∙ b.written.same_borrow ∙ a.written.same_borrow;
       same_length = z.same_length ∙ t.written.same_length ∙ s.written.same_length ∙ b.written.same_length ∙ a.written.same_length;
-      holds = options_behind (header_of c.args.self.now) c.args.packet.now.buffer.now _ _ _ _ _ _ _ _ _ c.args.header_len c.requires.value (omega (arith, c.requires.room, c.requires.value, all))
+      holds = options_after (header_of c.args.self.now) c.args.packet.now.buffer.now _ _ _ _ _ _ _ _ _ c.args.header_len c.requires.value (omega (arith, c.requires.room, c.requires.value, all))
           a.end a.written.holds b.end b.written.holds s.end s.written.holds t.end t.written.holds z.holds;
     }

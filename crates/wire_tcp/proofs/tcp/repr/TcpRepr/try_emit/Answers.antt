@@ -9,7 +9,7 @@ use Rattle.std.proofs.lemmas.Bool.Decides.{nat_tests}
 -- what is written into a part that it fills is at the front of the slice, whatever follows it
 filled : (bytes : List ℕ → List ℕ) (old front written rest : List ℕ) (len : ℕ) → len ≤ length old → front ≡ written
     → written ≡ bytes (drop len (take len old)) ++ drop len (take len old) → rest ≡ drop len old → front ++ rest ≡ bytes [] ++ drop len old
-filled bytes old front written rest len room is alone behind = grind (arith, common_steps, nat_tests, append-nil)
+filled bytes old front written rest len room is single following = grind (arith, common_steps, nat_tests, append-nil)
 
 pub returns : goal.returns
 returns c =

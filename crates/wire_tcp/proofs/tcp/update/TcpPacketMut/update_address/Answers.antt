@@ -1,6 +1,6 @@
 use Rattle.std.proofs.Common.{◌≡◌, rules, arith}
 use Rattle.wire_checksum.specs.WordSum.{sum_of_bytes}
-use Rattle.wire_ends.specs.IpAddress.{octets_of}
+use Rattle.wire_ends.specs.IpAddress.{address_bytes}
 use Rattle.wire_tcp.specs.Tcp.{packet_bytes_mut, with_updated_checksum}
 use Rattle.wire_tcp.proofs.Sums.{valid-dst_addr, valid-src_addr}
 use Rattle.wire_tcp.proofs.TcpChanged.{reads-summed}
@@ -9,7 +9,7 @@ use Rattle.std.proofs.lemmas.Grind.{common_steps}
 use Rattle.std.proofs.lemmas.Bool.Decides.{nat_tests}
 
 written : (c : goal.After-update_checksum)
-    → packet_bytes_mut c.update_checksum.new.self ≡ with_updated_checksum (packet_bytes_mut c.args.self.now) (sum_of_bytes (octets_of c.args.old.now)) (sum_of_bytes (octets_of c.args.new.now))
+    → packet_bytes_mut c.update_checksum.new.self ≡ with_updated_checksum (packet_bytes_mut c.args.self.now) (sum_of_bytes (address_bytes c.args.old.now)) (sum_of_bytes (address_bytes c.args.new.now))
 written c = search rules
 
 pub returns-clause-valid_src : goal.returns-clause-valid_src

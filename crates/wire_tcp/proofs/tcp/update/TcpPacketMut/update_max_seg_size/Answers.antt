@@ -16,11 +16,11 @@ returns-in-Some-clause-value c = subst (Becomes c.args.self.now c.replace_size.n
 pub returns-in-Some-clause-valid : goal.returns-in-Some-clause-valid
 returns-in-Some-clause-valid c src dst s d valid =
     subst (Verifies src dst) (sym (returns-in-Some-clause-value c).holds)
-    (valid-resized src dst (packet_bytes_mut c.args.self.now) c.args.value (subst AreBytes c.as_bytes.ensures c.octets_fit.ensures) s d c.requires.begins c.requires.ends valid)
+    (valid-resized src dst (packet_bytes_mut c.args.self.now) c.args.value (subst AreBytes c.as_bytes.ensures c.bytes_fit.ensures) s d c.requires.begins c.requires.ends valid)
 
 pub returns-in-Some-clause-reads : goal.returns-in-Some-clause-reads
 returns-in-Some-clause-reads c src dst verified v payload s d r =
-    let (size, after) = reads-resized src dst (packet_bytes_mut c.args.self.now) c.args.value verified v payload (subst AreBytes c.as_bytes.ensures c.octets_fit.ensures) (search rules) s d r in (
+    let (size, after) = reads-resized src dst (packet_bytes_mut c.args.self.now) c.args.value verified v payload (subst AreBytes c.as_bytes.ensures c.bytes_fit.ensures) (search rules) s d r in (
       returns-in-Some-clause-before c ∙ size,
       subst (λ (l : List ℕ). Reads l src dst verified (record v { max_seg_size = option_map (λ size. c.args.value) v.max_seg_size }) payload) (sym (returns-in-Some-clause-value c).holds) after,
     )
@@ -29,11 +29,11 @@ pub returns-in-None-clause-before : goal.returns-in-None-clause-before
 returns-in-None-clause-before c = (none_found (packet_bytes_mut c.args.self.now) c.args.value (sym c.in-None.ensures.value)).0
 
 pub returns-in-None-clause-value : goal.returns-in-None-clause-value
-returns-in-None-clause-value c = record { same_loan = refl; same_length = refl; holds = (none_found (packet_bytes_mut c.args.self.now) c.args.value (sym c.in-None.ensures.value)).1 }
+returns-in-None-clause-value c = record { same_borrow = refl; same_length = refl; holds = (none_found (packet_bytes_mut c.args.self.now) c.args.value (sym c.in-None.ensures.value)).1 }
 
 pub returns-in-None-clause-reads : goal.returns-in-None-clause-reads
 returns-in-None-clause-reads c src dst verified v payload s d r =
-    let (size, after) = reads-resized src dst (packet_bytes_mut c.args.self.now) c.args.value verified v payload (subst AreBytes c.as_bytes.ensures c.octets_fit.ensures) (search rules) s d r in (
+    let (size, after) = reads-resized src dst (packet_bytes_mut c.args.self.now) c.args.value verified v payload (subst AreBytes c.as_bytes.ensures c.bytes_fit.ensures) (search rules) s d r in (
       returns-in-None-clause-before c ∙ size,
       subst (λ (l : List ℕ). Reads l src dst verified (record v { max_seg_size = option_map (λ size. c.args.value) v.max_seg_size }) payload) (sym (returns-in-None-clause-value c).holds) after,
     )

@@ -12,7 +12,7 @@ written c = search rules
 
 pub returns-clause-valid : goal.returns-clause-valid
 returns-clause-valid c src dst s d valid =
-    subst (Verifies src dst) (sym (written c)) (valid_word src dst (packet_bytes_mut c.args.self.now) 7 c.args.value (subst AreBytes c.as_bytes.ensures c.octets_fit.ensures) (search rules) (omega arith) s d c.requires valid)
+    subst (Verifies src dst) (sym (written c)) (valid_word src dst (packet_bytes_mut c.args.self.now) 7 c.args.value (subst AreBytes c.as_bytes.ensures c.bytes_fit.ensures) (search rules) (omega arith) s d c.requires valid)
 
 pub returns-clause-reads : goal.returns-clause-reads
 returns-clause-reads c src dst verified v payload s d r =

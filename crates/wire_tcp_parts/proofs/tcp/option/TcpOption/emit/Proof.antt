@@ -36,12 +36,12 @@ use Rattle.std.specs.Prelude.{slice_range}
 use Rattle.std.proofs.raw_atomic.Walks.{proved}
 use Rattle.std.proofs.lemmas.List.{append-nil, drop_all, drop_at, take_all, take_at}
 use Rattle.wire_field.specs.Field.{with_range}
-use Rattle.wire_field.specs.declared.lend.Located.{Located}
-use Rattle.wire_field.specs.contracts.lend.Located as L
-use Rattle.wire_field.proofs.lend.Located.TheLaws as L'
-use Rattle.wire_field.specs.contracts.lend.Located.lend as lend
-use Rattle.wire_field.proofs.lend.Located.lend.Met as lend_met
-use Rattle.wire_tcp_parts.specs.TcpOptionLoan.{LocatesRest}
+use Rattle.wire_field.specs.declared.located.Located.{Located}
+use Rattle.wire_field.specs.contracts.located.Located as L
+use Rattle.wire_field.proofs.located.Located.TheLaws as L'
+use Rattle.wire_field.specs.contracts.located.Located.into_slice as into_slice
+use Rattle.wire_field.proofs.located.Located.into_slice.Met as into_slice_met
+use Rattle.wire_tcp_parts.specs.TcpOptionBorrow.{LocatesRest}
 use Rattle.wire_tcp_parts.specs.TcpOption.{IsEmittable, option_len, option_text, rest_after}
 use Rattle.wire_tcp_parts.specs.contracts.tcp.option.TcpOption as O
 use Rattle.wire_tcp_parts.specs.contracts.tcp.option.write_and_locate_rest as locate
@@ -57,17 +57,17 @@ stayed = (
 )
 
 -- the rest after a front, and its bytes
-left_behind : (front behind bytes : List ℕ) (i j : ℕ) (w : List ℕ) → bytes ≡ front ++ behind → i ≡ length front → j ≡ length bytes → with_range bytes i j w ≡ front ++ w
-left_behind front behind bytes i j w holds start end =
-    let head : take i bytes ≡ front = ap (take i) holds ∙ take_at front behind i (sym start) in
+left_after : (front following bytes : List ℕ) (i j : ℕ) (w : List ℕ) → bytes ≡ front ++ following → i ≡ length front → j ≡ length bytes → with_range bytes i j w ≡ front ++ w
+left_after front following bytes i j w holds start end =
+    let head : take i bytes ≡ front = ap (take i) holds ∙ take_at front following i (sym start) in
     let none : drop_list j bytes ≡ [] = drop_all j bytes (omega (arith, end)) in
     rw (head, none) (append-nil (front ++ w))
 
-part_behind : (front behind bytes : List ℕ) (i j : ℕ) → bytes ≡ front ++ behind → i ≡ length front → j ≡ length bytes → slice_range bytes i j ≡ behind
-part_behind front behind bytes i j holds start end =
-    let long : length bytes ≡ length front + length behind = ap length holds ∙ length-append front behind in
-    let tail : drop_list i bytes ≡ behind = ap (drop_list i) holds ∙ drop_at front behind i (sym start) in
-    rw tail (take_all (j - i) behind (omega (arith, long, start, end)))
+part_after : (front following bytes : List ℕ) (i j : ℕ) → bytes ≡ front ++ following → i ≡ length front → j ≡ length bytes → slice_range bytes i j ≡ following
+part_after front following bytes i j holds start end =
+    let long : length bytes ≡ length front + length following = ap length holds ∙ length-append front following in
+    let tail : drop_list i bytes ≡ following = ap (drop_list i) holds ∙ drop_at front following i (sym start) in
+    rw tail (take_all (j - i) following (omega (arith, long, start, end)))
 
 pub emit_spec : {M : Type 1} → statement M
 emit_spec 𝓤 𝓛 𝓜 𝓡 wired =
@@ -79,7 +79,7 @@ emit_spec 𝓤 𝓛 𝓜 𝓡 wired =
     (λ κs qs bounds a n are.
     let κ₀ : Lft = κs.0 in let κ₁ : Lft = κs.1.0 in let κ₂ : Lft = κs.1.1.0 in let q₀ : Share = qs.0 in let q₁ : Share = qs.1.0 in let q₂ : Share = qs.1.1.0 in
     let S : RattleType = ShrRef (named 0) κ₀ (O.the_row (named_lft 3 1 tt κs)) in
-    let buffer : MutBor (List ℕ) = a.1.0 in let front : List ℕ = option_text a.0.now in let behind : List ℕ = rest_after a.0.now buffer.now in
+    let buffer : MutBor (List ℕ) = a.1.0 in let front : List ℕ = option_text a.0.now in let following : List ℕ = rest_after a.0.now buffer.now in
     let rm : Room u8 (length buffer.now) = are.1.0.0.1 in
     let y : W.Ghost = ((κs, qs, bounds, a, (shr_vals a.0, (mut_slice_vals buffer, tt))), n) in
     qed 𝓛 (raw (on_entry 𝓛 f.signature κs qs a y.0.4) ∷ (raw (fact 𝓤 (option_len a.0.now ≤ length buffer.now)) ⊛ raw (fact 𝓤 (IsEmittable a.0.now))) ∷ []) ∵
@@ -100,7 +100,7 @@ emit_spec 𝓤 𝓛 𝓜 𝓡 wired =
     join ! $ move ! (1 ∷ 0 ∷ []) $ use2 𝓛 (raw (G.pre z)) (id⊢ 𝓤 _) $
     calls_at ! (framed 𝓤 𝓛.H 𝓜 𝓣) G (locate_met.met 𝓤 𝓛 𝓜 𝓡 (code.calls-wire_tcp_parts::tcp::option::write_and_locate_rest 𝓡.env wired)) z (and_then ! (get ! refl) (and_then ! (get ! refl) (no_more !))) (λ v.
     use1 𝓛 (later (some (λ (t : Located). ((‵ (flft κ₂ q₂) ⊛ (‵ (flft κ₀ q₀) ⊛ (‵ (flft κ₁ q₁) ⊛ ‵ ftrue))) ⊛ ‵ ((L.the_row (named_lft 3 0 tt κs')).own_val t (v ∷ []))) ⊛
-    some (λ (ws : Lasts locate.ended κs' z.0.3). ‵ (lasts locate.ended κs' z.0.3 ws) ⊛ raw (fact 𝓤 (LocatesRest buffer front behind t)))))) (id⊢ 𝓤 _) $
+    some (λ (ws : Lasts locate.ended κs' z.0.3). ‵ (lasts locate.ended κs' z.0.3 ws) ⊛ raw (fact 𝓤 (LocatesRest buffer front following t)))))) (id⊢ 𝓤 _) $
     await ! tt $ pick ! (λ t. split ! $ split ! $ split ! $ move ! (1 ∷ []) $ split ! $ move ! (1 ∷ []) $ split ! $
     move ! (5 ∷ []) $ pick ! (λ ws. split ! $ drop ! $ heard ! _ (λ is.
     -- [a token; true; two tokens; the located part]
@@ -110,26 +110,26 @@ emit_spec 𝓤 𝓛 𝓜 𝓡 wired =
     let known = LL.owed (L.the_type (named_lft 3 0 tt κs')) (L'.the_laws (named_lft 3 0 tt κs')) t (v ∷ []) at in
     rewrite ! 0 (λ (us : List Val). ‵ (R.own_val t us)) same refl $
     lands_as ! (ap only same) refl ((tt, ((tt, (record { fits = known.0.0.1.0 }, tt)), (record { fits = known.1.0.1 }, (record { fits = known.1.1.0.1 }, tt))))) $
-    let G' = triple_of 𝓛 lend.signature (lend.spec 𝓛 𝓜.mem 𝓡.returns) in
+    let G' = triple_of 𝓛 into_slice.signature (into_slice.spec 𝓛 𝓜.mem 𝓡.returns) in
     let z' : G'.Ghost = (((κ₂, tt), (q₂, tt), tt, (t, tt), (us, tt)), tt) in
-    let long : length t.bytes.now ≡ length front + length behind = ap length is.holds ∙ length-append front behind in
+    let long : length t.bytes.now ≡ length front + length following = ap length is.holds ∙ length-append front following in
     let lo : t.start ≤ t.end = omega (arith, is.start, is.end, long) in
     let hi : t.end ≤ length t.bytes.now = omega (arith, is.end) in
     nothing ! $ move ! (1 ∷ 0 ∷ []) $ join ! $ move ! (4 ∷ 2 ∷ 0 ∷ []) $ join ! $ join ! $
     use0 𝓛 (raw (fact 𝓤 (t.end ≤ length t.bytes.now))) (fact_i 𝓤 (t.end ≤ length t.bytes.now) (emp 𝓤) hi) $
     use0 𝓛 (raw (fact 𝓤 (t.start ≤ t.end))) (fact_i 𝓤 (t.start ≤ t.end) (emp 𝓤) lo) $ join ! $ move ! (1 ∷ 0 ∷ []) $ use2 𝓛 (raw (G'.pre z')) (id⊢ 𝓤 _) $
-    calls_at ! (framed 𝓤 𝓛.H 𝓜 𝓣) G' (lend_met.met 𝓤 𝓛 𝓜 𝓡 (code.calls-wire_field::lend::Located::lend 𝓡.env wired)) z' (and_then ! (get ! refl) (no_more !)) (λ v'.
+    calls_at ! (framed 𝓤 𝓛.H 𝓜 𝓣) G' (into_slice_met.met 𝓤 𝓛 𝓜 𝓡 (code.calls-wire_field::located::Located::into_slice 𝓡.env wired)) z' (and_then ! (get ! refl) (no_more !)) (λ v'.
     use1 𝓛 (later (some (λ (r : MutBor (List ℕ)). ((‵ (flft κ₂ q₂) ⊛ ‵ ftrue) ⊛ ‵ ((MutSlice (named 0) κ₂ u8).own_val r (v' ∷ []))) ⊛
-    some (λ (ws' : Lasts lend.ended (κ₂, tt) z'.0.3). ‵ (lasts lend.ended (κ₂, tt) z'.0.3 ws') ⊛
+    some (λ (ws' : Lasts into_slice.ended (κ₂, tt) z'.0.3). ‵ (lasts into_slice.ended (κ₂, tt) z'.0.3 ws') ⊛
     (‵ (follows (Array u8 0) (Array u8 0) t.bytes.ghost_name r.ghost_name (with_range t.bytes.now t.start t.end)) ⊛ raw (fact 𝓤 (r.now ≡ slice_range t.bytes.now t.start t.end))))))) (id⊢ 𝓤 _) $
     await ! tt $ pick ! (λ r. split ! $ split ! $ split ! $ move ! (3 ∷ []) $ pick ! (λ ws'. split ! $ drop ! $ split ! $ move ! (1 ∷ []) $ heard ! _ (λ part.
     -- [the slice follows the rest; a token; true; the rest; two tokens]
-    rewrite ! 0 (λ (γ : GName). ‵ (follows (Array u8 0) (Array u8 0) γ r.ghost_name (with_range t.bytes.now t.start t.end))) is.same_loan refl $
-    rewrite ! 0 (λ (F : List ℕ → List ℕ). ‵ (follows (Array u8 0) (Array u8 0) buffer.ghost_name r.ghost_name F)) (λ k w. left_behind front behind t.bytes.now t.start t.end w is.holds is.start is.end k) refl $
+    rewrite ! 0 (λ (γ : GName). ‵ (follows (Array u8 0) (Array u8 0) γ r.ghost_name (with_range t.bytes.now t.start t.end))) is.same_borrow refl $
+    rewrite ! 0 (λ (F : List ℕ → List ℕ). ‵ (follows (Array u8 0) (Array u8 0) buffer.ghost_name r.ghost_name F)) (λ k w. left_after front following t.bytes.now t.start t.end w is.holds is.start is.end k) refl $
     move ! (3 ∷ []) $ peeks ! (MutSlice (named 0) κ₂ u8) (Is (MutSlice (named 0) κ₂ u8)) (shows 𝓛 (MutSlice (named 0) κ₂ u8)) r (v' ∷ []) (λ at'.
     rewrite ! 0 (λ (us : List Val). ‵ ((MutSlice (named 0) κ₂ u8).own_val r us)) at'.0.0 refl $
     lands_as ! (ap only at'.0.0) refl (tt, (tt, (record { fits = at'.0.1.0 }, tt))) $
     returns ! (look_at ! 0 refl) $ free_all ! refl $ keep ! (0 ∷ 1 ∷ 2 ∷ 3 ∷ 4 ∷ 5 ∷ []) $
     suffices ! _ (ends_at 𝓛 f.ended stayed c y (slice_val r.ref_ptr (length r.now)) r (tt, (tt, tt)) (tt, (tt, tt))) $
     nothing ! $ nothing ! $ fjoin ! $ nothing ! $ fjoin ! $ join ! $ move ! (5 ∷ 4 ∷ 2 ∷ 3 ∷ []) $ group ! 4 $ join ! $ frame ! $
-    says ! (part ∙ part_behind front behind t.bytes.now t.start t.end is.holds is.start is.end) $ done !))))))))))))))
+    says ! (part ∙ part_after front following t.bytes.now t.start t.end is.holds is.start is.end) $ done !))))))))))))))

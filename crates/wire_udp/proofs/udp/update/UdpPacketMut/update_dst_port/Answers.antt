@@ -12,7 +12,7 @@ written c = search rules
 
 pub returns-clause-valid : goal.returns-clause-valid
 returns-clause-valid c src dst s d lengths valid =
-    subst (HasChecksum src dst) (sym (written c)) (valid-port src dst (packet_bytes_mut c.args.self.now) 1 c.args.value (subst AreBytes c.as_bytes.ensures c.octets_fit.ensures) (search rules) (omega arith) s d lengths valid)
+    subst (HasChecksum src dst) (sym (written c)) (valid-port src dst (packet_bytes_mut c.args.self.now) 1 c.args.value (subst AreBytes c.as_bytes.ensures c.bytes_fit.ensures) (search rules) (omega arith) s d lengths valid)
 
 pub returns-clause-reads : goal.returns-clause-reads
 returns-clause-reads c src dst verified v payload s d some r =
