@@ -35,8 +35,8 @@ LIBDIR ?=
 export FRAMES CRATE REFERENCE_BENCH SEED LINES PREFIX DESTDIR LIBDIR
 
 PROGRAM := crates/ip_frames/out/ip_frames
-CALLS := crates/ip_calls/out/ip_calls
-ARCHIVE := crates/ip_wire_c/out/libip_wire_c.a
+CALLS := crates/test_calls/out/test_calls
+ARCHIVE := crates/c_exports/out/libc_exports.a
 LIBRARY := out/lib/libip_wire.a
 SHARED := out/lib/libip_wire.so.$(shell c/version)
 # The last page that c/pages writes stands for all of them.

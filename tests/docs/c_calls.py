@@ -3,7 +3,7 @@
 
     tests/docs/c_calls.py [TOP]
 
-Each call of the header must be a function of ip_wire_c, c/cpu.c or c/names.c with the same types, and the other way round.
+Each call of the header must be a function of c_exports, c/cpu.c or c/names.c with the same types, and the other way round.
 Each struct with `repr(C)` must have the same fields in the same order, and each enum and each failure the same names and
 numbers. So must each struct that the bindings for Rust and Python and bench/structs.rs declare.
 `lk_append` and its struct are in the header only. Each name `lk_..` in
@@ -26,7 +26,7 @@ FIELDS = {"ethertype": "type", "msg_type": "type"}
 OF_C = ("/c/cpu.c", "/c/names.c")
 HEADER_ONLY = ("lk_out",)
 # The crates of the structs and calls. The first ones are used without C too, and their structs have other names there.
-OF_LIBRARY = ("ip_routes", "ip_flows", "c_structs", "c_icmp", "c_routing", "ip_wire_c")
+OF_LIBRARY = ("app_router", "app_nat", "c_structs", "c_icmp", "c_routing", "c_exports")
 STRUCTS = {"Node": "struct lk_route_node", "Mapping": "struct lk_mapping", "Nat": "struct lk_nat"}
 # The fields of this struct are fields of the one around it in C, and then come the bytes that align it.
 INNER = {"FrameFields": 5}

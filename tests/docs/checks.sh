@@ -7,10 +7,10 @@ has_text() {
 
 # The examples in the documents are files that are proved, or parts of a tested program.
 shows_the_examples() {
-    has_text README.md "$(sed 's/^./    &/' crates/ip_uses/src/read_frame.rt)" &&
+    has_text README.md "$(sed 's/^./    &/' crates/app_short/src/read_frame.rt)" &&
         has_text examples/quick.c "$(sed -n '/^    struct lk_frame/,/^    ptrdiff_t/p' README.md)" &&
         has_text README.md "$(sed 's/^/    /' examples/quick.txt)" &&
-        has_text docs/ARCHITECTURE.md "$(sed 's/^./    &/' crates/ip_uses/src/allow_list.rt)"
+        has_text docs/ARCHITECTURE.md "$(sed 's/^./    &/' crates/app_short/src/allow_list.rt)"
 }
 
 # The files of recorded frames and calls are those that docs/CASES.md lists.

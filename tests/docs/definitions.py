@@ -15,9 +15,9 @@ import os
 import re
 import sys
 
-TESTS = {name: name + "_tests" for name in ("wire", "use")}
+TESTS = {name: "test_" + name for name in ("wire", "apps")}
 PINS = {
-    "promises": "crates/ip_promises/src/{}.rt",
+    "promises": "crates/test_promises/src/{}.rt",
     "cases": "tests/data/cases/{}.hex",
     "calls": "tests/data/calls/{}.call",
     "tests": "tests/{}",

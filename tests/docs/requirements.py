@@ -15,12 +15,12 @@ from sources import Sources
 
 DOCUMENT = "docs/REQUIREMENTS.md"
 # The crates and files of test functions, by the first word of their names in the tables.
-TESTS = {name: name + "_tests" for name in ("wire", "use")} | {"frames": "ip_frames"}
+TESTS = {name: "test_" + name for name in ("wire", "apps")} | {"frames": "ip_frames"}
 LIBRARY = re.compile(r"net_base|ip_wire|wire_\w+")
 # The libraries whose types a Rattle program uses: those of `wire_*` through `ip_wire`.
-SHOWN = re.compile(r"net_base|ip_(?!wire_c)\w+")
+SHOWN = re.compile(r"net_base|(?:ip|app)_\w+")
 # The crates that use the layer through `ip_wire` and `net_base` only. They may name the formats beside `ip_wire` too.
-ABOVE = re.compile(r"ip_(?!wire\b)\w+|use_tests")
+ABOVE = re.compile(r"ip_(?!wire\b)\w+|app_\w+|test_(?!wire\b)\w+")
 BESIDE = ("wire_icmp", "wire_ndisc")
 TEST_FUNCTION = re.compile(r"#\[test\]\n(?: *#.*\n)* *fn (\w+)\(")
 # A function that allocates is given an allocator, and returns one of these types.
@@ -55,7 +55,7 @@ class Statements:
                 for item in module.items:
                     self.add(crate.name, module, item)
             self.definitions |= {f"{path[-1]}.{d.name}" for path, module in crate.specs.items() for d in module.items}
-        self.laws = {name[-1] for crate in ("ip_wire", "ip_nat", "ip_flows", "ip_host", "c_structs")
+        self.laws = {name[-1] for crate in ("ip_wire", "app_nat", "app_host", "c_structs")
                      for name in sources.exports(crate) if name[0] == "laws"}
 
     def add(self, crate, module, item):

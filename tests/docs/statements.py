@@ -7,7 +7,7 @@ The record has a file for each library and program. It has all names that a libr
 public functions with their conditions and promises, the public types and constants, the members of each `impl` and trait,
 all definitions of specs/, and where each imported name that these use is defined. It has no layout, comments, bodies or
 proofs, and no private item that nothing of this names. A law that returns or changes a value is recorded with its body,
-because it promises something of what the body does. So is each function of ip_promises, private ones too. Differences are
+because it promises something of what the body does. So is each function of test_promises, private ones too. Differences are
 printed, and the status is 1 then. `--write` renews the record.
 """
 import difflib
@@ -22,9 +22,9 @@ TOP = os.path.dirname(os.path.dirname(os.path.dirname(os.path.abspath(__file__))
 FOLDER = "docs/statements"
 RENEW = "tests/docs/statements.py --write"
 # Crates that only have tests.
-LEFT_OUT = {"wire_tests", "use_tests"}
+LEFT_OUT = {"test_wire", "test_apps"}
 # The crates whose functions promise something of what their bodies do, beside the laws.
-PROMISES = {"ip_promises"}
+PROMISES = {"test_promises"}
 # Attributes that change no statement.
 PLAIN = re.compile(r"(?:inline|allow|tactic|must_use|cold)\b")
 SHOWN = 40

@@ -63,11 +63,11 @@ CLAUSES = [
     weaker("a law sets another field",
            ("wire_ipv4/src/laws.rt", "Dscp(x) => packet.set_dscp(x)", "Dscp(x) => packet.set_ecn(x)")),
     weaker("a comparison returns one result twice",
-           ("ip_promises/src/calls/tcp.rt", "(control.quash_psh(), quashed)", "(quashed, quashed)")),
+           ("test_promises/src/calls/tcp.rt", "(control.quash_psh(), quashed)", "(quashed, quashed)")),
     weaker("a helper of a comparison returns less",
-           ("ip_promises/src/calls/tcp.rt", "Some(timestamp) => Some(timestamp.tsecr),", "Some(_) => None,")),
+           ("test_promises/src/calls/tcp.rt", "Some(timestamp) => Some(timestamp.tsecr),", "Some(_) => None,")),
     weaker("a frame is emitted without views",
-           ("ip_promises/src/views.rt", "    fill_ethernet(header, &mut frame);\n    fill_ip(inner, middle, caps);\n    fill_udp(",
+           ("test_promises/src/views.rt", "    fill_ethernet(header, &mut frame);\n    fill_ip(inner, middle, caps);\n    fill_udp(",
             "    value.emit(&mut datagram, &src_addr, &dst_addr, payload, caps);\n    fill_udp(")),
     weaker("a law returns numbers in place of constants",
            ("ip_wire/src/laws/constants.rt", "        Ipv4Address::UNSPECIFIED,\n",
@@ -110,7 +110,7 @@ ITEMS = [
             "        ensures { result.now ≡ octets self.now }\n    {\n        &[]\n    }\n")),
     weaker("a default of a ghost member",
            (OCTETS, "ghost octets: { Self → List ℕ };", "ghost octets: { Self → List ℕ } = { λ slice. [] };")),
-    weaker("the name of a C function", ("ip_wire_c/src/rebuild.rt", "#[unsafe(no_mangle)]\n", "")),
+    weaker("the name of a C function", ("c_exports/src/rebuild.rt", "#[unsafe(no_mangle)]\n", "")),
     weaker("an item under a condition",
            ("wire_udp/src/udp.rt", "/// The length of a header in bytes.\n", "#[cfg(feature = \"udp\")]\n")),
 ]
@@ -202,7 +202,7 @@ THE_SAME = [
          (UDP, "ghost use Rattle.wire_udp.specs.UdpText.{value_text};",
           "ghost use Rattle.ip_wire.specs.UdpText.{value_text};")),
     same("a type from a library",
-         ("ip_uses/src/read_frame.rt", "use ip_wire::{Carried, Frame, IpRepr, Transport, UdpRepr};",
+         ("app_short/src/read_frame.rt", "use ip_wire::{Carried, Frame, IpRepr, Transport, UdpRepr};",
           "use ip_wire::{Carried, Frame, IpRepr, Transport};\nuse wire_udp::UdpRepr;")),
 ]
 

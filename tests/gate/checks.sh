@@ -55,7 +55,7 @@ copy_the_tree() {
 
 # Proves the crate of the C library and builds it, which the gate does not do.
 build_the_library() {
-    tests/gate/proved.py rattle build ip_wire_c --crate-type staticlib --toolchain "$(dirname "$(rt doc)")/toolchain" \
+    tests/gate/proved.py rattle build c_exports --crate-type staticlib --toolchain "$(dirname "$(rt doc)")/toolchain" \
         --jobs "$(nproc)" -o "$PWD/$archive"
 }
 

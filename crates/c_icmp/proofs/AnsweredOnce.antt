@@ -1,9 +1,9 @@
 -- The answer of a host has one length, and one value.
 use Rattle.std.proofs.Common.{ℕ, ℤ, pos, ◌≡◌, ◌∙◌, ◌⊎◌, ◌<◌, ◌≤◌, List, Option, None, Some, inl, inr, length, ap, arith, sym}
-use Rattle.ip_host.proofs.HostOnce.{bytes-once}
-use Rattle.ip_host.specs.Host.{RepliesBytes}
-use Rattle.ip_host.specs.declared.host.Host.{Host}
-use Rattle.ip_replies.proofs.RepliesOnce.{IsOne, SameBuffer, written-once}
+use Rattle.app_host.proofs.HostOnce.{bytes-once}
+use Rattle.app_host.specs.Host.{RepliesBytes}
+use Rattle.app_host.specs.declared.host.Host.{Host}
+use Rattle.app_host.proofs.RepliesOnce.{IsOne, SameBuffer, written-once}
 use Rattle.ip_wire.specs.Frame.{Carried}
 use Rattle.ip_wire.specs.Reply.{IsWritten, reply_len}
 use Rattle.ip_wire.specs.Types.{EthernetRepr}

@@ -3,9 +3,9 @@ use Rattle.std.proofs.Common.{◌≡◌, ◌∙◌, ◌≤◌, ◌<◌, inl, inr
 use Rattle.std.proofs.lemmas.Bool.{cases_lt}
 use Rattle.std.proofs.lemmas.Int.{to_z-of_z}
 use Rattle.std.specs.Option.{option_map_or}
-use Rattle.ip_replies.specs.Message.{Gives, IsSent, values_of}
-use Rattle.ip_replies.specs.declared.interface.Interface.{Interface}
-use Rattle.ip_replies.specs.declared.message.MessageFrame.{MessageFrame}
+use Rattle.app_host.specs.Message.{Gives, IsSent, values_of}
+use Rattle.app_host.specs.declared.interface.Interface.{Interface}
+use Rattle.app_host.specs.declared.message.MessageFrame.{MessageFrame}
 use Rattle.ip_wire.specs.Frame.{Carried}
 use Rattle.ip_wire.specs.declared.EthernetRepr.{EthernetRepr}
 use Rattle.c_icmp.specs.Errors.{TellsOf, WritesError}

@@ -3,9 +3,9 @@ use Rattle.std.proofs.Common.{◌≡◌, ◌∙◌, ◌≤◌, ◌<◌, inl, inr
 use Rattle.std.proofs.lemmas.Bool.{cases_lt}
 use Rattle.std.proofs.lemmas.Int.{to_z-of_z}
 use Rattle.std.specs.Option.{option_map_or, unwrap_or}
-use Rattle.ip_replies.specs.Message.{GivesReply, HasValues}
-use Rattle.ip_replies.specs.declared.message.Reply.{Reply}
-use Rattle.ip_replies.specs.declared.message.Reply.TheVariants as reply
+use Rattle.app_host.specs.Message.{GivesReply, HasValues}
+use Rattle.app_host.specs.declared.message.Reply.{Reply}
+use Rattle.app_host.specs.declared.message.Reply.TheVariants as reply
 use Rattle.ip_wire.proofs.Sent.{sends}
 use Rattle.ip_wire.specs.Frame.{Carried}
 use Rattle.ip_wire.specs.Reply as whole

@@ -1,8 +1,8 @@
 -- What C gets for the answer of a host.
 use Rattle.std.proofs.Common.{◌≡◌, inl, inr, ℤ, pos, SFits, to_z, of_z, w64, List, ℕ, Option, Some, subst, sym}
 use Rattle.std.proofs.lemmas.Int.{to_z-of_z}
-use Rattle.ip_host.specs.Host.{IsUnread, RepliesBytes}
-use Rattle.ip_host.specs.declared.host.Host.{Host}
+use Rattle.app_host.specs.Host.{IsUnread, RepliesBytes}
+use Rattle.app_host.specs.declared.host.Host.{Host}
 use Rattle.c_icmp.specs.HostFields.{WritesAnswer}
 use Rattle.c_icmp.specs.Interfaces.{WritesReply}
 

@@ -1,10 +1,10 @@
 -- ICMP errors about frames, with the structs and numbers of C.
 use Rattle.std.specs.Prelude.{ℕ, ℤ, pos, ◌≡◌, if◌then◌else◌, false, List, Option, None, Some}
 use Rattle.std.specs.Ordering.{int_eq}
-use Rattle.ip_forward.specs.IcmpProblem.{Tells}
-use Rattle.ip_forward.specs.declared.problem.Problem.TheVariants as router
-use Rattle.ip_replies.specs.IcmpError.{IsError}
-use Rattle.ip_replies.specs.declared.interface.Interface.{Interface}
+use Rattle.app_router.specs.IcmpProblem.{Tells}
+use Rattle.app_router.specs.declared.problem.Problem.TheVariants as router
+use Rattle.app_host.specs.IcmpError.{IsError}
+use Rattle.app_host.specs.declared.interface.Interface.{Interface}
 use Rattle.ip_wire.specs.Frame.{Carried}
 use Rattle.ip_wire.specs.Types.{EthernetRepr}
 use Rattle.wire_icmp.specs.declared.icmp.reason.Unreachable.TheVariants as unreachable

@@ -1,10 +1,10 @@
 -- A host as the struct of C, and what the call for it returns and writes.
 use Rattle.std.specs.Prelude.{ℤ, ◌≡◌, List, ℕ, Option, None, Some}
 use Rattle.std.specs.Option.{option_map}
-use Rattle.ip_host.specs.Host.{RepliesBytes}
-use Rattle.ip_host.specs.declared.host.Host.{Host}
-use Rattle.ip_replies.specs.declared.interface.Interface.{Interface}
-use Rattle.ip_replies.specs.declared.tcp_reply.Offer.{Offer}
+use Rattle.app_host.specs.Host.{RepliesBytes}
+use Rattle.app_host.specs.declared.host.Host.{Host}
+use Rattle.app_host.specs.declared.interface.Interface.{Interface}
+use Rattle.app_host.specs.declared.tcp_reply.Offer.{Offer}
 use Rattle.ip_wire.specs.TcpRepr.{seq_of}
 use Rattle.c_structs.specs.Headers.{is_yes}
 use Rattle.c_structs.specs.Written.{failure_code}

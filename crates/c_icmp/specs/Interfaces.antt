@@ -1,9 +1,9 @@
 -- The addresses of an interface as structs of C, and replies that are written.
 use Rattle.std.specs.Prelude.{ℕ, ℤ, pos, ◌≡◌, ◌<◌, ◌≤◌, ◌⊎◌, Bool, List, length, Option, None, Some}
 use Rattle.std.specs.Option.{option_and_then}
-use Rattle.ip_replies.specs.Message.{values_of}
-use Rattle.ip_replies.specs.declared.interface.Interface.{Interface}
-use Rattle.ip_replies.specs.declared.message.MessageFrame.{MessageFrame}
+use Rattle.app_host.specs.Message.{values_of}
+use Rattle.app_host.specs.declared.interface.Interface.{Interface}
+use Rattle.app_host.specs.declared.message.MessageFrame.{MessageFrame}
 use Rattle.ip_wire.specs.Frame.{Carried}
 use Rattle.ip_wire.specs.Reply.{IsWritten, reply_len}
 use Rattle.ip_wire.specs.Types.{EthernetRepr, IpAddress}

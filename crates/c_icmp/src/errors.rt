@@ -1,8 +1,8 @@
 //! ICMP errors about frames.
 
 ghost use Rattle.std.specs.Prelude.{◌≡◌};
-ghost use Rattle.ip_replies.specs.IcmpError.{IsError};
-ghost use Rattle.ip_replies.specs.Message.{Gives};
+ghost use Rattle.app_host.specs.IcmpError.{IsError};
+ghost use Rattle.app_host.specs.Message.{Gives};
 ghost use Rattle.wire_icmp.specs.declared.icmp.reason.Unreachable.TheVariants.{Port};
 ghost use Rattle.wire_icmp.specs.declared.icmp.repr.IcmpRepr.TheVariants.{DstUnreachable};
 ghost use Rattle.c_icmp.specs.Errors.{TellsOf, WritesError, own_interface, problem_by};
@@ -10,8 +10,8 @@ ghost use Rattle.c_icmp.specs.Interfaces.{WritesReply};
 
 use crate::interfaces::{interface, write_message};
 use crate::types::InterfaceFields;
+use app_host::{Interface, MessageFrame, icmp_error};
 use c_structs::Failure;
-use ip_replies::{Interface, MessageFrame, icmp_error};
 use wire_icmp::{IcmpRepr, Unreachable};
 
 /// `enum lk_problem`: why a packet was dropped.
@@ -82,20 +82,20 @@ fn error<'a>(
 {
     match problem {
         Problem::None => None,
-        Problem::HopLimitExpired => ip_forward::error(frame, ours, ip_forward::Problem::Expired),
-        Problem::PacketTooBig => ip_forward::error(
+        Problem::HopLimitExpired => app_router::error(frame, ours, app_router::Problem::Expired),
+        Problem::PacketTooBig => app_router::error(
             frame,
             ours,
-            ip_forward::Problem::TooLong { mtu },
+            app_router::Problem::TooLong { mtu },
         ),
-        Problem::RouteMissing => ip_forward::error(frame, ours, ip_forward::Problem::NoRoute),
-        Problem::NeighbourMissing => ip_forward::error(
+        Problem::RouteMissing => app_router::error(frame, ours, app_router::Problem::NoRoute),
+        Problem::NeighbourMissing => app_router::error(
             frame,
             ours,
-            ip_forward::Problem::NoNeighbour,
+            app_router::Problem::NoNeighbour,
         ),
         Problem::PortClosed => port_error(ours, frame),
-        Problem::Prohibited => ip_forward::error(frame, ours, ip_forward::Problem::Prohibited),
+        Problem::Prohibited => app_router::error(frame, ours, app_router::Problem::Prohibited),
     }
 }
 

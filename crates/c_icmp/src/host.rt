@@ -1,15 +1,15 @@
 //! A host with one interface and no connections.
 
 ghost use Rattle.std.specs.Prelude.{◌≡◌, IsSome, pos};
-ghost use Rattle.ip_host.specs.Host.{IsUnread, RepliesBytes};
+ghost use Rattle.app_host.specs.Host.{IsUnread, RepliesBytes};
 ghost use Rattle.c_icmp.specs.HostFields.{WritesAnswer, host_of, offer_of};
 ghost use Rattle.c_icmp.specs.Interfaces.{WritesReply};
 
 use crate::interfaces::{interface, write_reply};
 use crate::types::HostFields;
+use app_host::tcp_reply::Offer;
+use app_host::{Host, reply};
 use c_structs::Failure;
-use ip_host::{Host, reply};
-use ip_replies::tcp_reply::Offer;
 use ip_wire::TcpSeqNumber;
 
 impl<'a> HostFields<'a> {

@@ -2,7 +2,7 @@
 
 ghost use Rattle.std.specs.Prelude.{◌≡◌, ◌<◌, ◌≤◌, ◌^◌, IfSome, None, length, pos};
 ghost use Rattle.std.specs.Option.{option_map_or};
-ghost use Rattle.ip_replies.specs.Message.{HasValues, IsSendable, IsSendableReply, IsSent};
+ghost use Rattle.app_host.specs.Message.{HasValues, IsSendable, IsSendableReply, IsSent};
 ghost use Rattle.ip_wire.specs.Frame.{Carried};
 ghost use Rattle.ip_wire.specs.Reply as whole;
 ghost use Rattle.ip_wire.specs.Types.{EthernetRepr};
@@ -10,8 +10,8 @@ ghost use Rattle.c_icmp.specs.Interfaces.{HasMessage, WritesReply, interface_of}
 ghost use Rattle.c_structs.specs.Written.{failure_code, max_len};
 ghost use Rattle.c_structs.specs.declared.failures.Failure.TheVariants.{NoRoom};
 
+use app_host::{Interface, MessageFrame, Reply};
 use c_structs::{Addr, Failure, MAX_LEN};
-use ip_replies::{Interface, MessageFrame, Reply};
 use ip_wire::{EthernetAddress, Frame, IpAddress, send};
 
 /// The interface with these addresses. `None` if the first is no IPv4 address, or the second no IPv6 address.

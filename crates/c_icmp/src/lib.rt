@@ -1,5 +1,5 @@
 //! ICMP in the structs of `c/ip_wire.h`: messages in frames that are read and written, neighbour discovery, and ICMP
-//! errors. `ip_wire_c` exports it to C.
+//! errors. `c_exports` exports it to C.
 #![tactic(auto)]
 
 mod emit;

@@ -2,10 +2,10 @@
 use Rattle.std.proofs.Common.{ℕ, ℤ, pos, ◌≡◌, ◌≤◌, ◌<◌, ◌+◌, ◌-◌, ◌%◌, ◌↔◌, ◌++◌, ◌∙◌, Bool, true, false, if◌then◌else◌, List, [], Some, Result, Ok, Err, ap, append_assoc, arith, drop, inl, inr, length, length-drop, refl, slice_range, subst, sym, take}
 use Rattle.std.proofs.lemmas.List.{length-take-le, take-append-drop}
 use Rattle.c_structs.specs.Written.{max_len}
-use Rattle.ip_nat.proofs.Headers.{reads-inner, same-inner}
-use Rattle.ip_nat.proofs.Payloads.{drop-front, range-len, range-part, range-same}
-use Rattle.ip_nat.proofs.Translates.{inner-payload, link-stays}
-use Rattle.ip_uses.specs.Clamp.{IsAbove}
+use Rattle.app_nat.proofs.Headers.{reads-inner, same-inner}
+use Rattle.app_nat.proofs.Payloads.{drop-front, range-len, range-part, range-same}
+use Rattle.app_nat.proofs.Translates.{inner-payload, link-stays}
+use Rattle.app_short.specs.Clamp.{IsAbove}
 use Rattle.ip_wire.proofs.Cells.{cells-all}
 use Rattle.ip_wire.proofs.ReadsOnce.{computed-one, frame-once}
 use Rattle.ip_wire.specs.Ethernet as ethernet

@@ -1,7 +1,7 @@
 -- What C gets for a frame that is not forwarded.
 use Rattle.std.proofs.Common.{ℕ, ℤ, pos, ◌≡◌, ◌≤◌, ◌<◌, ◌∙◌, List, [], SFits, Some, inr, length, of_z, refl, subst, sym, to_z, w32}
 use Rattle.std.proofs.lemmas.Int.{to_z-of_z}
-use Rattle.ip_forward.specs.Forward.{fault_of}
+use Rattle.app_router.specs.Forward.{fault_of}
 use Rattle.ip_wire.specs.Ethernet.{ethernet_of}
 use Rattle.ip_wire.specs.Types.{EthernetAddress}
 use Rattle.ip_wire.specs.declared.HeaderFault.{HeaderFault}

@@ -2,15 +2,15 @@
 use Rattle.std.proofs.Common.{ℕ, ℤ, pos, ◌≡◌, ◌∙◌, ◌+◌, ◌-◌, ◌⊎◌, ◌<◌, ◌≤◌, ◌==◌, Bool, true, false, List, [], SFits, arith, if◌then◌else◌, inl, inr, length, min, of_z, refl, subst, subst₂, sym, take, to_z, w32}
 use Rattle.std.proofs.Math.Nat.{zero-min}
 use Rattle.std.proofs.lemmas.Int.{to_z-of_z}
-use Rattle.ip_flows.specs.Table.{Chooses, HasPort}
-use Rattle.ip_flows.specs.Table.Chooses.{kept, made}
-use Rattle.ip_flows.specs.declared.Event.{Event}
-use Rattle.ip_flows.specs.declared.Ipv4Endpoint.{Ipv4Endpoint}
-use Rattle.ip_flows.specs.declared.Mapping.{Mapping}
-use Rattle.ip_flows.specs.declared.Nat.{Nat}
-use Rattle.ip_nat.specs.Flows.{ComesIn, GoesOut, IsKeptInside, IsKeptOutside}
-use Rattle.ip_nat.specs.declared.nat.Rejection.{Rejection}
-use Rattle.ip_nat.specs.declared.nat.Rejection.TheVariants.{NotIpv4}
+use Rattle.app_nat.specs.Table.{Chooses, HasPort}
+use Rattle.app_nat.specs.Table.Chooses.{kept, made}
+use Rattle.app_nat.specs.declared.Event.{Event}
+use Rattle.app_nat.specs.declared.Ipv4Endpoint.{Ipv4Endpoint}
+use Rattle.app_nat.specs.declared.Mapping.{Mapping}
+use Rattle.app_nat.specs.declared.Nat.{Nat}
+use Rattle.app_nat.specs.Flows.{ComesIn, GoesOut, IsKeptInside, IsKeptOutside}
+use Rattle.app_nat.specs.declared.translation.Rejection.{Rejection}
+use Rattle.app_nat.specs.declared.translation.Rejection.TheVariants.{NotIpv4}
 use Rattle.c_structs.specs.Written.{max_len}
 use Rattle.c_routing.proofs.Tables.{IsUnused, IsUsed, part-before, part-stays}
 use Rattle.c_routing.proofs.Translations.{nothing}

@@ -1,7 +1,7 @@
 -- The route that is chosen by the index of the blocks.
 use Rattle.std.proofs.Common.{ℕ, ◌≡◌, ◌<◌, ◌≤◌, All, IsSomeAnd, List, MatchOption, Option, None, Some, arith, length, map, slice_index_or, subst, subst₂, sym}
-use Rattle.ip_routes.specs.Index as index
-use Rattle.ip_routes.specs.Index.{IsChosenAt}
+use Rattle.app_router.specs.Index as index
+use Rattle.app_router.specs.Index.{IsChosenAt}
 use Rattle.ip_wire.specs.IpCidr.{IsIn, block_prefix_len}
 use Rattle.ip_wire.specs.declared.IpAddress.{IpAddress}
 use Rattle.ip_wire.specs.declared.IpCidr.{IpCidr}

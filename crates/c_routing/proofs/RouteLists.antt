@@ -5,8 +5,8 @@ use Rattle.std.proofs.lemmas.List.{get_or-map, length-map}
 use Rattle.std.proofs.Math.Seq.{drop-append_seam, take-append_seam}
 use Rattle.std.specs.List.{list_any}
 use Rattle.std.specs.Option.{option_and_then}
-use Rattle.ip_routes.specs.Index.{IsBlock, IsFilled, IsIndex, block_at, node_at, node_of}
-use Rattle.ip_routes.specs.declared.index.Node.{Node}
+use Rattle.app_router.specs.Index.{IsBlock, IsFilled, IsIndex, block_at, node_at, node_of}
+use Rattle.app_router.specs.declared.index.Node.{Node}
 use Rattle.ip_wire.specs.IpCidr.{block_prefix_len}
 use Rattle.ip_wire.specs.declared.IpAddress.{IpAddress}
 use Rattle.ip_wire.specs.declared.IpAddress.TheVariants.{Ipv4, Ipv6}

@@ -1,10 +1,10 @@
 -- What C gets for a frame that is not translated.
 use Rattle.std.proofs.Common.{ℕ, ℤ, pos, ◌≡◌, ◌≤◌, ◌<◌, ◌∙◌, List, [], SFits, inl, inr, length, of_z, refl, subst, sym, to_z, w32}
 use Rattle.std.proofs.lemmas.Int.{to_z-of_z}
-use Rattle.ip_nat.specs.Nat.{IsRejected, IsUntranslated}
-use Rattle.ip_nat.specs.declared.nat.Rejection.{Rejection}
-use Rattle.ip_nat.specs.declared.nat.Rejection.TheVariants.{NotIpv4}
-use Rattle.ip_nat.specs.declared.nat.Side.{Side}
+use Rattle.app_nat.specs.Nat.{IsRejected, IsUntranslated}
+use Rattle.app_nat.specs.declared.translation.Rejection.{Rejection}
+use Rattle.app_nat.specs.declared.translation.Rejection.TheVariants.{NotIpv4}
+use Rattle.app_nat.specs.declared.translation.Side.{Side}
 use Rattle.ip_wire.specs.Ethernet.{ethernet_of}
 use Rattle.c_structs.specs.Written.{max_len}
 use Rattle.c_structs.specs.declared.types.Endpoint.{Endpoint}

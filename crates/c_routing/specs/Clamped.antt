@@ -1,6 +1,6 @@
 -- What the call that clamps the maximum segment size of a frame returns and writes.
 use Rattle.std.specs.Prelude.{ℕ, ℤ, pos, ◌≡◌, ◌++◌, ◌⊎◌, List, Some, drop, take}
-use Rattle.ip_uses.specs.Clamp.{IsAbove}
+use Rattle.app_short.specs.Clamp.{IsAbove}
 use Rattle.ip_wire.specs.Field.{with_range}
 use Rattle.ip_wire.specs.Frame.{ReadsFrame, ReadsPacket, ReadsTransport, all_checked, packet, packet_payload, segment}
 use Rattle.ip_wire.specs.Ipv4 as ipv4

@@ -1,6 +1,6 @@
 -- What the call that forwards a frame returns and writes.
 use Rattle.std.specs.Prelude.{ℕ, ℤ, pos, ◌≡◌, ◌≤◌, ◌⊎◌, List, Some, length}
-use Rattle.ip_forward.specs.Forward.{IsForwarded, fault_of}
+use Rattle.app_router.specs.Forward.{IsForwarded, fault_of}
 use Rattle.ip_wire.specs.declared.HeaderFault.{HeaderFault}
 use Rattle.ip_wire.specs.Types.{EthernetAddress, IpRepr}
 use Rattle.c_structs.specs.Written.{max_len, within}

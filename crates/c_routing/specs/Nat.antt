@@ -1,9 +1,9 @@
 -- What the calls of a NAT with a table return and write.
 use Rattle.std.specs.Prelude.{ℕ, ℤ, pos, ◌≡◌, ◌≤◌, ◌⊎◌, List, length}
-use Rattle.ip_flows.specs.declared.Mapping.{Mapping}
-use Rattle.ip_flows.specs.declared.Nat.{Nat}
-use Rattle.ip_nat.specs.Flows.{ComesIn, GoesOut, IsKeptInside, IsKeptOutside}
-use Rattle.ip_nat.specs.declared.nat.Rejection.{Rejection}
+use Rattle.app_nat.specs.declared.Mapping.{Mapping}
+use Rattle.app_nat.specs.declared.Nat.{Nat}
+use Rattle.app_nat.specs.Flows.{ComesIn, GoesOut, IsKeptInside, IsKeptOutside}
+use Rattle.app_nat.specs.declared.translation.Rejection.{Rejection}
 use Rattle.c_structs.specs.Written.{max_len, within}
 use Rattle.c_routing.specs.Lengths.{in_bounds}
 use Rattle.c_routing.specs.Rejections.{of_nat, rejection_code}

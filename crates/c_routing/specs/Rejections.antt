@@ -2,10 +2,10 @@
 use Rattle.std.specs.Prelude.{ℕ, None, Option, Some}
 use Rattle.c_routing.specs.declared.rejections.Rejection.{Rejection}
 use Rattle.c_routing.specs.declared.rejections.Rejection.TheVariants as rejection
-use Rattle.ip_nat.specs.declared.nat.Rejection.{Rejection as NatRejection}
-use Rattle.ip_nat.specs.declared.nat.Rejection.TheVariants as nat
-use Rattle.ip_routes.specs.declared.source.SourceFault.{SourceFault}
-use Rattle.ip_routes.specs.declared.source.SourceFault.TheVariants as source
+use Rattle.app_nat.specs.declared.translation.Rejection.{Rejection as NatRejection}
+use Rattle.app_nat.specs.declared.translation.Rejection.TheVariants as nat
+use Rattle.app_router.specs.declared.source.SourceFault.{SourceFault}
+use Rattle.app_router.specs.declared.source.SourceFault.TheVariants as source
 use Rattle.ip_wire.specs.declared.HeaderFault.{HeaderFault}
 use Rattle.ip_wire.specs.declared.HeaderFault.TheVariants as header
 

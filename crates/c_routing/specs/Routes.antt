@@ -1,8 +1,8 @@
 -- Routes as the structs of C, and what the calls with them return and write.
 use Rattle.std.specs.Prelude.{ℕ, ℤ, pos, negsuc, ◌≡◌, ◌<◌, ◌≤◌, ◌⊎◌, ◌^◌, ◌&&◌, All, is_none, nat_le, nat_lt, if◌then◌else◌, List, drop, length, map, slice_index_or, take, IsSomeAnd, MatchOption, Option, None, Some}
 use Rattle.std.specs.List.{list_any}
-use Rattle.ip_routes.specs.Index.{IsIndex}
-use Rattle.ip_routes.specs.declared.index.Node.{Node}
+use Rattle.app_router.specs.Index.{IsIndex}
+use Rattle.app_router.specs.declared.index.Node.{Node}
 use Rattle.ip_wire.specs.IpCidr.{IsIn}
 use Rattle.ip_wire.specs.declared.IpCidr.{IpCidr}
 use Rattle.c_structs.specs.Addresses.{block_of, ip_of, no_addr}

@@ -1,7 +1,7 @@
 -- The sources that a router accepts, with the structs of C.
 use Rattle.std.specs.Prelude.{ℕ, ℤ, pos, ◌≡◌, All, List, MatchOption, Option}
-use Rattle.ip_routes.specs.Source.{ChecksSource}
-use Rattle.ip_routes.specs.declared.source.SourceFault.{SourceFault}
+use Rattle.app_router.specs.Source.{ChecksSource}
+use Rattle.app_router.specs.declared.source.SourceFault.{SourceFault}
 use Rattle.c_structs.specs.Addresses.{ip_of}
 use Rattle.c_structs.specs.declared.types.Addr.{Addr}
 use Rattle.c_routing.specs.Rejections.{rejection_code, source_code}

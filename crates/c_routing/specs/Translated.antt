@@ -1,10 +1,10 @@
 -- What the call that translates a frame returns and writes.
 use Rattle.std.specs.Prelude.{ℕ, ℤ, pos, ◌≡◌, ◌≢◌, ◌≤◌, ◌⊎◌, List, if◌then◌else◌, length, take}
 use Rattle.std.specs.Ordering.{int_eq}
-use Rattle.ip_nat.specs.Nat.{IsTranslated, IsUntranslated}
-use Rattle.ip_nat.specs.declared.nat.Rejection.{Rejection}
-use Rattle.ip_nat.specs.declared.nat.Side.{Side}
-use Rattle.ip_nat.specs.declared.nat.Side.TheVariants.{Source, Destination}
+use Rattle.app_nat.specs.Nat.{IsTranslated, IsUntranslated}
+use Rattle.app_nat.specs.declared.translation.Rejection.{Rejection}
+use Rattle.app_nat.specs.declared.translation.Side.{Side}
+use Rattle.app_nat.specs.declared.translation.Side.TheVariants.{Source, Destination}
 use Rattle.c_structs.specs.Written.{max_len, within}
 use Rattle.c_structs.specs.declared.types.Endpoint.{Endpoint}
 use Rattle.c_routing.specs.Rejections.{of_nat, rejection_code}

@@ -2,14 +2,14 @@
 
 ghost use Rattle.std.specs.Prelude.{◌≡◌, ◌↔◌, IfNone, IfSome, IsTrue, List, ℕ, if◌then◌else◌, true};
 ghost use Rattle.c_routing.specs.Clamped.{CarriesSegment, Clamps, ReadsSegment, clamped, segment_end, segment_start, with_size};
-ghost use Rattle.ip_uses.specs.Clamp.{IsAbove};
+ghost use Rattle.app_short.specs.Clamp.{IsAbove};
 ghost use Rattle.ip_wire.specs.Ip.{ReadsHeader};
 ghost use Rattle.ip_wire.specs.TcpRepr.{TcpHeader};
 ghost use Rattle.ip_wire.specs.Types.{EthernetRepr, IpRepr};
 ghost use Rattle.net_base.specs.declared.Checksum.{Checksum};
 
+use app_short::mss_clamp::clamp;
 use c_structs::MAX_LEN;
-use ip_uses::mss_clamp::clamp;
 use ip_wire::{
     ETHERNET_HEADER_LEN, Frame, IPV6_HEADER_LEN, IpRepr, Ipv4Packet, Ipv6Packet, Transport,
 };

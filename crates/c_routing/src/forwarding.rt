@@ -3,8 +3,8 @@
 ghost use Rattle.c_routing.specs.Forwarded.{Forwards, ethernet_addr};
 
 use crate::rejections::Rejection;
+use app_router::forward;
 use c_structs::MAX_LEN;
-use ip_forward::forward;
 use ip_wire::EthernetAddress;
 
 /// Forwards the packet of a frame between two stations, in place: one hop less, and new link addresses. Returns 0, or

@@ -3,11 +3,11 @@
 ghost use Rattle.std.specs.Prelude.{◌≡◌, ◌<◌, length};
 ghost use Rattle.c_routing.specs.Nat.{TranslatesIn, TranslatesOut};
 ghost use Rattle.c_structs.specs.Written.{max_len};
-ghost use Rattle.ip_flows.specs.Table.{IsTable};
+ghost use Rattle.app_nat.specs.Table.{IsTable};
 
 use crate::rejections::Rejection;
+use app_nat::{Mapping, Nat};
 use c_structs::{MAX_LEN, usable};
-use ip_flows::{Mapping, Nat};
 
 /// Lets a frame go out: replaces the source of its packet, in place. Returns 0, or the number of the reason.
 pub fn translate_out(nat: &Nat, mappings: &mut [Mapping], now: u64, frame: &mut [u8]) -> i32
@@ -18,7 +18,7 @@ pub fn translate_out(nat: &Nat, mappings: &mut [Mapping], now: u64, frame: &mut 
         return Rejection::NotIp.code();
     }
     let count = usable(mappings.len());
-    match ip_nat::translate_out(nat, &mut mappings[..count], now, frame) {
+    match app_nat::translate_out(nat, &mut mappings[..count], now, frame) {
         Ok(()) => 0,
         Err(reason) => Rejection::of_nat(reason).code(),
     }
@@ -34,7 +34,7 @@ pub fn translate_in(nat: &Nat, mappings: &mut [Mapping], now: u64, frame: &mut [
         return Rejection::NotIp.code();
     }
     let count = usable(mappings.len());
-    match ip_nat::translate_in(nat, &mut mappings[..count], now, frame) {
+    match app_nat::translate_in(nat, &mut mappings[..count], now, frame) {
         Ok(()) => 0,
         Err(reason) => Rejection::of_nat(reason).code(),
     }

@@ -3,7 +3,7 @@
 ghost use Rattle.std.specs.Prelude.{◌≡◌, pos};
 ghost use Rattle.c_routing.specs.Rejections.{of_header, of_nat, of_source, rejection_code};
 
-use ip_routes::source::SourceFault;
+use app_router::source::SourceFault;
 use ip_wire::HeaderFault;
 
 /// `enum lk_rejection`: why a frame is not forwarded, translated or accepted. If several reasons apply, it is the
@@ -62,19 +62,19 @@ impl Rejection {
     }
 
     /// The rejection of NAT.
-    pub fn of_nat(reason: ip_nat::Rejection) -> Rejection
+    pub fn of_nat(reason: app_nat::Rejection) -> Rejection
         ensures { result ≡ of_nat reason }
     {
         match reason {
-            ip_nat::Rejection::NotIpv4 => Rejection::NotIp,
-            ip_nat::Rejection::BadHeader => Rejection::BadHeader,
-            ip_nat::Rejection::WrongChecksum => Rejection::WrongChecksum,
-            ip_nat::Rejection::Fragment => Rejection::Fragment,
-            ip_nat::Rejection::OtherProtocol => Rejection::OtherProtocol,
-            ip_nat::Rejection::BadTransport => Rejection::BadTransport,
-            ip_nat::Rejection::ZeroPort => Rejection::ZeroPort,
-            ip_nat::Rejection::NoMapping => Rejection::NoMapping,
-            ip_nat::Rejection::NoFreePort => Rejection::NoFreePort,
+            app_nat::Rejection::NotIpv4 => Rejection::NotIp,
+            app_nat::Rejection::BadHeader => Rejection::BadHeader,
+            app_nat::Rejection::WrongChecksum => Rejection::WrongChecksum,
+            app_nat::Rejection::Fragment => Rejection::Fragment,
+            app_nat::Rejection::OtherProtocol => Rejection::OtherProtocol,
+            app_nat::Rejection::BadTransport => Rejection::BadTransport,
+            app_nat::Rejection::ZeroPort => Rejection::ZeroPort,
+            app_nat::Rejection::NoMapping => Rejection::NoMapping,
+            app_nat::Rejection::NoFreePort => Rejection::NoFreePort,
         }
     }
 

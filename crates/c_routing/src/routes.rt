@@ -5,12 +5,12 @@ ghost use Rattle.std.specs.List.{list_any};
 ghost use Rattle.c_structs.specs.Addresses.{ip_of};
 ghost use Rattle.c_routing.specs.Lengths.{in_bounds};
 ghost use Rattle.c_routing.specs.Routes.{Chooses, Indexes, IsChosen, IsIndexOf, Leads, destinations, index_failure};
-ghost use Rattle.ip_routes.specs.Index.{IsIndex};
+ghost use Rattle.app_router.specs.Index.{IsIndex};
 ghost use Rattle.ip_wire.specs.declared.IpCidr.{IpCidr};
 
 use crate::lengths::in_bounds;
+use app_router::index::{Node, arrange, find};
 use c_structs::{Addr, Block, Failure, usable};
-use ip_routes::index::{Node, arrange, find};
 
 /// `struct lk_route`: a route.
 #[repr(C)]

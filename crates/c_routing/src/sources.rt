@@ -9,9 +9,9 @@ ghost use Rattle.c_routing.specs.Sources.{ChecksAddr, IsBack};
 use crate::lengths::in_bounds;
 use crate::rejections::Rejection;
 use crate::routes::{Route, choose};
+use app_router::index::Node;
+use app_router::source::{SourceFault, check_source};
 use c_structs::Addr;
-use ip_routes::index::Node;
-use ip_routes::source::{SourceFault, check_source};
 
 /// Whether a router accepts a packet from this address that came in by an interface. Returns 0, or the number of the
 /// reason.

@@ -4,8 +4,8 @@ ghost use Rattle.std.specs.Prelude.{◌≡◌};
 ghost use Rattle.c_routing.specs.Translated.{Translates, side_of};
 
 use crate::rejections::Rejection;
+use app_nat::{Side, translate};
 use c_structs::{Endpoint, MAX_LEN};
-use ip_nat::{Side, translate};
 
 /// Writes another address and port into the packet of a frame over IPv4, in place. Returns 0, or the number of the
 /// reason.

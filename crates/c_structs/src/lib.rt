@@ -1,4 +1,4 @@
-//! The structs of `c/ip_wire.h`, and what parses, writes and rebuilds frames with them. `ip_wire_c` exports
+//! The structs of `c/ip_wire.h`, and what parses, writes and rebuilds frames with them. `c_exports` exports
 //! it to C.
 #![tactic(auto)]
 

@@ -4,8 +4,7 @@ use crate::derived::{Frames, half_at};
 use crate::digest::Digest;
 use crate::frames::{Kind, pool};
 use crate::random::Random;
-use ip_flows::{Mapping, Nat};
-use ip_nat::{Rejection, translate_in, translate_out};
+use app_nat::{Mapping, Nat, Rejection, translate_in, translate_out};
 use ip_wire::Ipv4Address;
 use std::alloc::{AllocError, Global};
 

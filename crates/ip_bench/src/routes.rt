@@ -7,10 +7,10 @@ use crate::digest::Digest;
 use crate::frames::{Kind, pool, port, station};
 use crate::random::Random;
 use crate::texts::add_octets;
-use ip_forward::forward;
-use ip_routes::index::{self, Node};
-use ip_routes::route::Route;
-use ip_routes::source::{SourceFault, check_source_by_index};
+use app_router::forward;
+use app_router::index::{self, Node};
+use app_router::route::Route;
+use app_router::source::{SourceFault, check_source_by_index};
 use ip_wire::{HeaderFault as Rejection, IpAddress, IpCidr, IpRepr, Ipv4Address, Ipv6Address};
 use std::alloc::{AllocError, Global};
 

@@ -4,8 +4,8 @@
 use crate::digest::Digest;
 use crate::random::Random;
 use crate::routes::{add_route, make_index};
-use ip_routes::index::{self, Node};
-use ip_routes::route::Route;
+use app_router::index::{self, Node};
+use app_router::route::Route;
 use ip_wire::{IpAddress, IpCidr, Ipv4Address, Ipv6Address};
 use std::alloc::{AllocError, Global};
 

@@ -1,5 +1,5 @@
 use Rattle.std.proofs.Common.{subst, sym}
-use Rattle.ip_replies.specs.Message.{Gives}
+use Rattle.app_host.specs.Message.{Gives}
 use Rattle.c_icmp.specs.Errors.{TellsOf}
 use Rattle.c_icmp.proofs.errors.error.Goals as goal
 

@@ -1,6 +1,6 @@
 use Rattle.std.proofs.Common.{SFits, rules, subst, sym, w64}
 use Rattle.std.proofs.lemmas.Int.{to_z-of_z}
-use Rattle.ip_host.specs.Host.{RepliesBytes}
+use Rattle.app_host.specs.Host.{RepliesBytes}
 use Rattle.c_icmp.proofs.FrameReplies.{no-reply, reply-given}
 use Rattle.c_icmp.proofs.HostAnswers.{unanswered}
 use Rattle.c_icmp.specs.Interfaces.{WritesReply}

@@ -1,7 +1,7 @@
 use Rattle.std.proofs.Common.{◌≡◌, ◌-◌, ◌++◌, ◌∙◌, ap, drop, false, length, rules, slice_range, sym, take}
 use Rattle.c_routing.proofs.Clampings.{header-read, packet-bytes, packet-clamped, payload-range, range-order}
 use Rattle.c_routing.specs.Clamped.{segment_end, segment_start, with_segment}
-use Rattle.ip_nat.proofs.Payloads.{range-split}
+use Rattle.app_nat.proofs.Payloads.{range-split}
 use Rattle.ip_wire.specs.Frame.{packet_payload}
 use Rattle.ip_wire.specs.Ip.{dst_addr_of, src_addr_of}
 use Rattle.net_base.specs.declared.Checksum.TheVariants as checksum

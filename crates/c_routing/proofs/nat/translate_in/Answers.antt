@@ -1,5 +1,5 @@
 use Rattle.std.proofs.Common.{◌++◌, drop, rules}
-use Rattle.ip_flows.specs.Table.{IsTable}
+use Rattle.app_nat.specs.Table.{IsTable}
 use Rattle.c_routing.proofs.NatCalls.{comes-in, long-in, stays-outside}
 use Rattle.c_routing.proofs.Tables.{part-after, part-keeps, parts, stays-beyond}
 use Rattle.c_routing.proofs.nat.translate_in.Goals as goal

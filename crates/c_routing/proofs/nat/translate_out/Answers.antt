@@ -1,5 +1,5 @@
 use Rattle.std.proofs.Common.{◌++◌, drop, rules}
-use Rattle.ip_flows.specs.Table.{IsTable}
+use Rattle.app_nat.specs.Table.{IsTable}
 use Rattle.c_routing.proofs.NatCalls.{goes-out, long-out, stays-inside}
 use Rattle.c_routing.proofs.Tables.{part-keeps, parts}
 use Rattle.c_routing.proofs.nat.translate_out.Goals as goal

@@ -1,0 +1,135 @@
+-- The reply of a host is one of the six kinds of replies.
+use Rattle.std.proofs.Common.{ℕ, ◌≡◌, inl, inr, List, Option, Some, None, arith, ap, refl, subst, sym}
+use Rattle.std.specs.Prelude.{IfSome}
+use Rattle.app_host.specs.Host.{Answers, IsMessageReply, IsReply, IsServed, IsUnread, RepliesBytes, RepliesFrame, RepliesMessage, UnreachableFrame}
+use Rattle.app_host.specs.declared.host.Host.{Host}
+use Rattle.app_host.proofs.RepliesOnce.{IsOne}
+use Rattle.app_host.specs.Arp.{ArpRepliesFrame}
+use Rattle.app_host.specs.IcmpEcho.{RepliesEchoFrame}
+use Rattle.app_host.specs.IcmpError.{IsError}
+use Rattle.app_host.specs.Interface.{IsForUs}
+use Rattle.app_host.specs.Message as message
+use Rattle.app_host.specs.Message.{GivesReply, IsReplySent, values_of}
+use Rattle.app_host.specs.Neighbour.{AdvertisesFrame}
+use Rattle.app_host.specs.TcpReply.{TcpRepliesFrame}
+use Rattle.app_host.specs.UdpEcho.{EchoesFrame}
+use Rattle.app_host.specs.declared.message.MessageFrame.{MessageFrame}
+use Rattle.app_host.specs.declared.message.Reply.{Reply}
+use Rattle.app_host.specs.declared.message.Reply.TheVariants as reply
+use Rattle.ip_wire.proofs.Parsed.{IsParsed}
+use Rattle.ip_wire.proofs.Sent as wire
+use Rattle.ip_wire.specs.Frame.{Carried, datagram, packet}
+use Rattle.ip_wire.specs.FrameValue.{carried_of}
+use Rattle.ip_wire.specs.Reply.{Gives, Sends, reply_len}
+use Rattle.ip_wire.specs.Types.{EthernetRepr, IpRepr, UdpRepr}
+use Rattle.ip_wire.specs.declared.Carried.TheVariants as carried
+use Rattle.ip_wire.specs.declared.Frame.{Frame}
+use Rattle.ip_wire.specs.declared.Transport.TheVariants as transport
+use Rattle.std.specs.Borrow.{Bor}
+use Rattle.wire_icmp.specs.declared.IcmpRepr.TheVariants.{DstUnreachable}
+use Rattle.wire_icmp.specs.declared.Unreachable.TheVariants as unreachable
+
+-- ---- the reply to a frame, as a frame
+
+given : (P Q : EthernetRepr → Carried → Type 0) (f : Frame) → ((h : EthernetRepr) (c : Carried) → P h c → Q h c) → Gives P (Some f) → Gives Q (Some f)
+given P Q f to (sendable, (h, c, values, p)) = (sendable, (h, c, values, to h c p))
+
+by_none : (host : Host) (request : Frame) → Gives (ArpRepliesFrame host.interface request) None → Gives (EchoesFrame host.interface host.echo_port request) None
+    → Gives (TcpRepliesFrame host.interface host.open_ports.now host.offer request) None
+    → (h : EthernetRepr) (c : Carried) → ¬ RepliesFrame host request h c
+by_none host request no_arp no_echo no_tcp h c (asked, is, inl e) = no_arp h c (asked, is, e)
+by_none host request no_arp no_echo no_tcp h c (asked, is, inr (inl e)) = no_echo h c (asked, is, e)
+by_none host request no_arp no_echo no_tcp h c (asked, is, inr (inr e)) = no_tcp h c (asked, is, e)
+
+-- an echo is a reply
+pub by_echo : (host : Host) (request f : Frame) → Gives (EchoesFrame host.interface host.echo_port request) (Some f) → Gives (RepliesFrame host request) (Some f)
+by_echo host request f gives = given (EchoesFrame host.interface host.echo_port request) (RepliesFrame host request) f (λ h c (asked, is, e). (asked, is, inr (inl e))) gives
+
+-- if there is no reply of the first two kinds, it is the reply of TCP
+pub by_tcp : (host : Host) (request : Frame) (result : Option Frame) → Gives (ArpRepliesFrame host.interface request) None
+    → Gives (EchoesFrame host.interface host.echo_port request) None
+    → Gives (TcpRepliesFrame host.interface host.open_ports.now host.offer request) result → Gives (RepliesFrame host request) result
+by_tcp host request None no_arp no_echo no_tcp = by_none host request no_arp no_echo no_tcp
+by_tcp host request (Some f) no_arp no_echo gives =
+    given (TcpRepliesFrame host.interface host.open_ports.now host.offer request) (RepliesFrame host request) f (λ h c (asked, is, e). (asked, is, inr (inr e))) gives
+
+-- ---- with a message
+
+pub by_icmp : (host : Host) (bytes : List ℕ) (request : Frame) (f : MessageFrame) → message.Gives (RepliesEchoFrame host.interface request) (Some f)
+    → message.Gives (RepliesMessage host bytes request) (Some f)
+by_icmp host bytes request f (sendable, (asked, is, e)) = (sendable, (asked, is, inl e))
+
+pub by_neighbour : (host : Host) (bytes : List ℕ) (request : Frame) (f : MessageFrame) → message.Gives (AdvertisesFrame host.interface request) (Some f)
+    → message.Gives (RepliesMessage host bytes request) (Some f)
+by_neighbour host bytes request f (sendable, (asked, is, e)) = (sendable, (asked, is, inr (inl e)))
+
+-- if there is no reply of the first two kinds, it is the error
+pub by_port : (host : Host) (bytes : List ℕ) (request : Frame) (result : Option MessageFrame) → message.Gives (RepliesEchoFrame host.interface request) None
+    → message.Gives (AdvertisesFrame host.interface request) None → message.Gives (UnreachableFrame host bytes request) result
+    → message.Gives (RepliesMessage host bytes request) result
+by_port host bytes request None no_echo no_advert no_error = λ h c (asked, is, r). no_kind h c asked is r
+  where
+    no_kind : (h : EthernetRepr) (c : Carried) (asked : Carried) → carried_of request.carried ≡ Some asked → ¬ IsMessageReply host bytes request.header asked h c
+    no_kind h c asked is (inl e) = no_echo h c (asked, is, e)
+    no_kind h c asked is (inr (inl e)) = no_advert h c (asked, is, e)
+    no_kind h c asked is (inr (inr e)) = no_error h c (asked, is, e)
+by_port host bytes request (Some f) no_echo no_advert (sendable, (asked, is, e)) = (sendable, (asked, is, inr (inr e)))
+
+-- ---- errors about UDP packets
+
+-- a packet for a closed port gets the error about it, if there is one
+pub told : (host : Host) (bytes : List ℕ) (request : Frame) (v : IpRepr) (u : UdpRepr) (payload : Bor (List ℕ)) (result : Option MessageFrame)
+    → request.carried ≡ carried.Packet v (transport.Udp u payload) → IsForUs host.interface request.header v → ¬ IsServed host u.dst_port
+    → message.Gives (IsError host.interface bytes (DstUnreachable unreachable.Port)) result → message.Gives (UnreachableFrame host bytes request) result
+told host bytes request v u payload None is for_us closed none = λ h c (asked, same, e). none h c e.tells
+told host bytes request v u payload (Some f) is for_us closed (sendable, e) = (
+  sendable,
+  (
+    packet v (datagram u payload.now),
+    ap carried_of is,
+    record { ip = v; udp = u; payload = payload.now; asks = refl; for_us = for_us; closed = closed; tells = e },
+  ),
+)
+
+-- ---- both
+
+pub as_frame : (host : Host) (bytes : List ℕ) (request f : Frame) → IsParsed request bytes → Gives (RepliesFrame host request) (Some f) → GivesReply (RepliesBytes host bytes) (Some (reply.Frame f))
+as_frame host bytes request f parsed (sendable, (h, c, values, (asked, is, e))) =
+    (sendable, (h, c, values, (request.header, asked, (parsed request.header asked).0 (refl, is), inl e)))
+
+pub as_message : (host : Host) (bytes : List ℕ) (request : Frame) (f : MessageFrame) → IsParsed request bytes → message.Gives (RepliesMessage host bytes request) (Some f)
+    → GivesReply (RepliesBytes host bytes) (Some (reply.Message f))
+as_message host bytes request f parsed (sendable, (asked, is, e)) =
+    (sendable, (f.header, values_of f, (refl, refl), (request.header, asked, (parsed request.header asked).0 (refl, is), inr e)))
+
+pub no_reply : (host : Host) (bytes : List ℕ) (request : Frame) → IsParsed request bytes → Gives (RepliesFrame host request) None → message.Gives (RepliesMessage host bytes request) None
+    → GivesReply (RepliesBytes host bytes) None
+no_reply host bytes request parsed no_frame no_message = λ h c (header, asked, reads, r). let same = (parsed header asked).1 reads in neither h c asked same.1 (subst (λ x. IsReply host bytes x asked h c) (sym same.0) r)
+  where
+    neither : (h : EthernetRepr) (c asked : Carried) → carried_of request.carried ≡ Some asked → ¬ IsReply host bytes request.header asked h c
+    neither h c asked is (inl e) = no_frame h c (asked, is, e)
+    neither h c asked is (inr e) = no_message h c (asked, is, e)
+
+-- ---- bytes
+
+-- a reply with a message is sent
+message-sent : (P : EthernetRepr → Carried → Type 0) (f : MessageFrame) (old new : List ℕ) (result : Option ℕ) → P f.header (values_of f) → message.IsSent f old new result → IsOne P → Sends P old new result
+message-sent P f old new None p (short, stays) one = (stays, λ k d q. let same = (one f.header k (values_of f) d p q).1 in omega (arith, short, ap reply_len same))
+message-sent P f old new (Some n) p (len, fits, rest, reads) one =
+    record { header = f.header; carried = values_of f; replies = p; reads = reads; size = len; fits = fits; rest = rest }
+
+-- a reply is sent
+pub reply-sent : (P : EthernetRepr → Carried → Type 0) (r : Reply) (old new : List ℕ) (result : Option ℕ) → GivesReply P (Some r) → IsReplySent r old new result → IsOne P → Sends P old new result
+reply-sent P (reply.Frame f) old new result gives sent one = wire.sends P P f old new result gives sent (λ h c p. p) (λ h c p. p) (λ h k c d p q. (one h k c d p q).1)
+reply-sent P (reply.Message f) old new result (sendable, (h, c, (is, same), p)) sent one =
+    message-sent P f old new result (subst (λ x. P x (values_of f)) (sym is) (subst (P h) (sym same) p)) sent one
+
+-- bytes that do not parse with valid checksums get no reply
+pub unanswered : (host : Host) (bytes old new : List ℕ) (result : Option ℕ) → Sends (RepliesBytes host bytes) old new result → IsUnread bytes → result ≡ None
+unanswered host bytes old new None sends none = refl
+unanswered host bytes old new (Some len) sends none = let r = sends.replies in absurd (none r.0 r.1 r.2)
+
+-- a reply that was sent is a reply of the host to the bytes
+pub answers : (host : Host) (bytes old new : List ℕ) (result : Option ℕ) → Sends (RepliesBytes host bytes) old new result → IfSome result (λ len. Answers host bytes new)
+answers host bytes old new None sends = tt
+answers host bytes old new (Some len) sends = record { header = sends.header; carried = sends.carried; replies = sends.replies; reads = sends.reads }

@@ -1,0 +1,73 @@
+-- Errors in frames.
+use Rattle.std.proofs.Common.{ℕ, ◌≡◌, ◌∙◌, ◌≤◌, ◌+◌, List, Some, None, drop, length, length-take, min, refl, ap, subst, true, arith}
+use Rattle.std.specs.Borrow.{Bor}
+use Rattle.ip_wire.specs.Ethernet as ethernet
+use Rattle.ip_wire.specs.Frame.{Carried, other, packet, type_of}
+use Rattle.ip_wire.specs.Ip.{Reads, dst_addr_of, header_before, max_payload_len, src_addr_of, version_of}
+use Rattle.ip_wire.specs.Ipv4 as ipv4
+use Rattle.ip_wire.specs.Ipv6 as ipv6
+use Rattle.ip_wire.specs.Types.{EthernetRepr, IpRepr, Ipv4, Ipv6}
+use Rattle.wire_icmp.specs.Icmp.{bytes_of, protocol_of}
+use Rattle.wire_icmp.specs.declared.IcmpRepr.{IcmpRepr}
+use Rattle.app_host.proofs.Messages.{icmp_values, sendable_icmp, values_icmp}
+use Rattle.app_host.specs.IcmpError.{IsBetweenHosts, IsError, IsToldOf, header_from, quoted}
+use Rattle.app_host.specs.Message.{Gives, message_frame}
+use Rattle.app_host.specs.declared.interface.Interface.{Interface}
+use Rattle.app_host.specs.declared.message.Message.TheVariants.{Icmp}
+
+-- a frame without an Ethernet header, or without an IP header, gets no error
+pub no_link : (ours : Interface) (frame : List ℕ) (message : IcmpRepr) → ((link : EthernetRepr) → ¬ ethernet.Reads frame link) → Gives (IsError ours frame message) None
+no_link ours frame message none h c (v, e) = none e.asked_link e.reads_link
+
+pub no_header : (ours : Interface) (frame : List ℕ) (message : IcmpRepr) → ((v : IpRepr) → ¬ Reads (drop 14 frame) true v) → Gives (IsError ours frame message) None
+no_header ours frame message none h c (v, e) = none v e.reads
+
+-- nor does one that does not go between hosts, or that may not be told of
+pub untold : (ours : Interface) (frame : List ℕ) (message : IcmpRepr) (link : EthernetRepr) (v : IpRepr) → ((l : EthernetRepr) → ethernet.Reads frame l → l ≡ link)
+    → ((w : IpRepr) → Reads (drop 14 frame) true w → w ≡ v) → ¬ (IsBetweenHosts ours link v × IsToldOf v (drop 14 frame)) → Gives (IsError ours frame message) None
+untold ours frame message link v one_link one_header none h c (w, e) =
+    let same = one_header w e.reads in
+    none (subst (IsBetweenHosts ours link) same (subst (λ l. IsBetweenHosts ours l w) (one_link e.asked_link e.reads_link) e.hosts), subst (λ x. IsToldOf x (drop 14 frame)) same e.told_of)
+
+-- a quote is short
+within : (ours : Interface) (v : IpRepr) (bytes : List ℕ) → 8 + length (quoted (version_of v) bytes) ≤ max_payload_len (header_from ours v)
+within ours (Ipv4 v) bytes = omega (arith, length-take (min 548 (ipv4.total_len bytes)) bytes)
+within ours (Ipv6 v) bytes = omega (arith, length-take (min 1232 (ipv6.total_len bytes)) bytes)
+
+same-type : (ours : Interface) (v : IpRepr) → type_of (header_from ours v) ≡ type_of v
+same-type ours (Ipv4 v) = refl
+same-type ours (Ipv6 v) = refl
+
+-- what the frame with an error carries
+abbrev pub error_values : Interface → IpRepr → IcmpRepr → List ℕ → Carried
+error_values ours v message quote =
+    let back = header_from ours v in
+    let bytes = bytes_of message quote (src_addr_of back) (dst_addr_of back) true in
+    packet (header_before back (protocol_of (version_of v)) (length bytes)) (other bytes)
+
+same-values : (ours : Interface) (v : IpRepr) (message : IcmpRepr) (quote : List ℕ)
+    → icmp_values (header_from ours v) message quote (src_addr_of (header_from ours v)) (dst_addr_of (header_from ours v)) ≡ error_values ours v message quote
+same-values ours (Ipv4 v) message quote = refl
+same-values ours (Ipv6 v) message quote = refl
+
+-- any other gets one
+pub told : (ours : Interface) (frame : List ℕ) (message : IcmpRepr) (link : EthernetRepr) (v : IpRepr) (quote : Bor (List ℕ)) → ethernet.Reads frame link → Reads (drop 14 frame) true v
+    → IsBetweenHosts ours link v → IsToldOf v (drop 14 frame) → quote.now ≡ quoted (version_of v) (drop 14 frame)
+    → Gives (IsError ours frame message) (Some (message_frame ours.hardware_addr link.src_addr (header_from ours v) (Icmp message quote)))
+told ours frame message link v quote reads_link reads hosts told_of quotes =
+    let back = header_from ours v in
+    let len : 8 + length quote.now ≤ max_payload_len back = omega (arith, ap length quotes, within ours v (drop 14 frame)) in (
+      sendable_icmp ours.hardware_addr link.src_addr back message quote len,
+      (
+        v,
+        record {
+          asked_link = link;
+          reads_link = reads_link;
+          reads = reads;
+          hosts = hosts;
+          told_of = told_of;
+          link = ap (λ t. record { src_addr = ours.hardware_addr; dst_addr = link.src_addr; ethertype = t }) (same-type ours v);
+          tells = values_icmp ours.hardware_addr link.src_addr back message quote ∙ same-values ours v message quote.now ∙ ap (error_values ours v message) quotes;
+        },
+      ),
+    )

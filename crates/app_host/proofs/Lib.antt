@@ -1,0 +1,13 @@
+pub mod ArpReplies
+pub mod Echoes
+pub mod HostOnce
+pub mod HostReplies
+pub mod IcmpErrors
+pub mod IcmpReplies
+pub mod MessageEnds
+pub mod Messages
+pub mod MessagesOnce
+pub mod Neighbours
+pub mod RepliesOnce
+pub mod ReplyEnds
+pub mod TcpReplies

@@ -1,0 +1,33 @@
+-- The reply to an echo request (RFC 792; RFC 1122, section 3.2.2.6; RFC 4443, section 4.2).
+use Rattle.std.specs.Prelude.{ℕ, ◌≡◌, ◌≤◌, List, Some, length, true}
+use Rattle.ip_wire.specs.Frame.{Carried, other, packet, type_of}
+use Rattle.ip_wire.specs.FrameValue.{carried_of}
+use Rattle.ip_wire.specs.Ip.{dst_addr_of, header_before, max_payload_len, next_header_of, src_addr_of, version_of}
+use Rattle.ip_wire.specs.Types.{EthernetRepr, IpRepr}
+use Rattle.ip_wire.specs.declared.Frame.{Frame}
+use Rattle.wire_icmp.specs.Icmp.{Reads, bytes_of, protocol_of}
+use Rattle.wire_icmp.specs.declared.IcmpRepr.TheVariants.{EchoReply, EchoRequest}
+use Rattle.app_host.specs.Interface.{IsForUs, header_back}
+use Rattle.app_host.specs.declared.interface.Interface.{Interface}
+
+-- A frame with these values is an echo request for us, and the other frame is the reply to it. It has the same
+-- identifier, sequence number and data.
+pub record IsIcmpEcho (ours : Interface) (asked_header : EthernetRepr) (asked : Carried) (header : EthernetRepr) (carried : Carried) : Type 0 where
+  pub ip : IpRepr
+  pub ident : ℕ
+  pub seq_no : ℕ
+  pub payload : List ℕ
+  pub request : List ℕ
+  pub asks : asked ≡ packet ip (other request)
+  pub protocol : next_header_of ip ≡ protocol_of (version_of ip)
+  pub reads : Reads request (src_addr_of ip) (dst_addr_of ip) true (EchoRequest ident seq_no) payload
+  pub for_us : IsForUs ours asked_header ip
+  pub fits : length request ≤ max_payload_len ip
+  pub link : header ≡ record { src_addr = ours.hardware_addr; dst_addr = asked_header.src_addr; ethertype = type_of ip }
+  pub replies : carried ≡ (let reply = bytes_of (EchoReply ident seq_no) payload (dst_addr_of ip) (src_addr_of ip) true in
+      packet (header_before (header_back ip) (protocol_of (version_of ip)) (length reply)) (other reply))
+
+-- the values of our echo reply to a frame
+abbrev pub RepliesEchoFrame : Interface → Frame → EthernetRepr → Carried → Type 0
+RepliesEchoFrame ours request header carried =
+    (asked : Carried) × (carried_of request.carried ≡ Some asked) × IsIcmpEcho ours request.header asked header carried

@@ -1,0 +1,10 @@
+pub mod Arp
+pub mod Host
+pub mod IcmpEcho
+pub mod IcmpError
+pub mod Interface
+pub mod Message
+pub mod Neighbour
+pub mod Source
+pub mod TcpReply
+pub mod UdpEcho

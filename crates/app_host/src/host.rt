@@ -1,0 +1,131 @@
+//! The replies of a host. Each kind has its function in `app_host`.
+
+ghost use Rattle.std.specs.Prelude.{◌≡◌, ◌↔◌, IfSome, IsTrue, None};
+ghost use Rattle.app_host.specs.Host.{Answers, IsServed, IsUnread, RepliesBytes, RepliesFrame, RepliesMessage, UnreachableFrame};
+ghost use Rattle.app_host.specs.Message as message;
+ghost use Rattle.ip_wire.specs.FrameValue.{Fits};
+ghost use Rattle.ip_wire.specs.Reply.{Gives, Sends};
+
+use crate::tcp_reply::Offer;
+use crate::{
+    Interface, MessageFrame, Reply, arp, icmp_echo, icmp_error, neighbour, tcp_answer, udp_echo,
+};
+use ip_wire::{Carried, Frame, Transport};
+use net_base::ChecksumCapabilities;
+use wire_icmp::{IcmpRepr, Unreachable};
+
+/// A host with one interface, and no connections.
+#[derive(Debug, Clone, Copy, PartialEq, Eq)]
+pub struct Host<'a> {
+    pub interface: Interface,
+    /// The UDP port of the echo service. 0 turns the service off: no packet for port 0 parses.
+    pub echo_port: u16,
+    /// The other UDP ports that the host serves. A packet for them gets no reply here.
+    pub open_udp_ports: &'a [u16],
+    /// The open TCP ports.
+    pub open_ports: &'a [u16],
+    /// What the open TCP ports offer.
+    pub offer: Offer,
+}
+
+/// The reply of the host to the bytes of a frame, or `None`. An error quotes the frame.
+pub fn reply<'a>(host: &Host<'_>, frame: &'a [u8]) -> Option<Reply<'a>>
+    ensures { message.GivesReply (RepliesBytes host.now frame.now) result }
+{
+    match Frame::parse(frame, &ChecksumCapabilities::default()) {
+        Ok(request) => {
+            if let Some(reply) = reply_with_frame(host, &request) {
+                return Some(Reply::Frame(reply));
+            }
+            match reply_with_message(host, &request, frame) {
+                Some(reply) => Some(Reply::Message(reply)),
+                None => None,
+            }
+        }
+        Err(_) => None,
+    }
+}
+
+/// Writes the reply of the host to the front of `out`, and returns its length. `None` if there is no
+/// reply or it does not fit; then `out` is unchanged.
+pub fn answer(host: &Host<'_>, frame: &[u8], out: &mut [u8]) -> Option<usize>
+    ensures sends { Sends (RepliesBytes host.now frame.now) out.old out.new result }
+    ensures unread { IsUnread frame.now → result ≡ None }
+    ensures answers { IfSome result (λ len. Answers host.now frame.now out.new) }
+{
+    match reply(host, frame) {
+        Some(reply) => reply.send(out),
+        None => None,
+    }
+}
+
+// The reply to an ARP request, to a UDP packet for the echo port, or to a TCP segment. Inlined, the values of both kinds
+// of replies would be copied.
+#[inline(never)]
+fn reply_with_frame<'a>(host: &Host<'_>, request: &Frame<'a>) -> Option<Frame<'a>>
+    requires { Fits request.now }
+    ensures { Gives (RepliesFrame host.now request.now) result }
+{
+    if let Some(reply) = arp::reply(request, &host.interface) {
+        return Some(reply);
+    }
+    if let Some(echo) = udp_echo::echo(request, &host.interface, host.echo_port) {
+        return Some(echo);
+    }
+    tcp_answer::reply(request, &host.interface, host.open_ports, &host.offer)
+}
+
+// The reply to an echo request, to a neighbour solicitation, or to a UDP packet for a closed port.
+#[inline(never)]
+fn reply_with_message<'a>(
+    host: &Host<'_>,
+    request: &Frame<'a>,
+    frame: &'a [u8],
+) -> Option<MessageFrame<'a>>
+    ensures { message.Gives (RepliesMessage host.now frame.now request.now) result }
+{
+    if let Some(reply) = icmp_echo::reply(request, &host.interface) {
+        return Some(reply);
+    }
+    if let Some(advert) = neighbour::reply(request, &host.interface) {
+        return Some(advert);
+    }
+    port_unreachable(host, request, frame)
+}
+
+// The error about a UDP packet for a port that the host does not serve.
+fn port_unreachable<'a>(
+    host: &Host<'_>,
+    request: &Frame<'_>,
+    frame: &'a [u8],
+) -> Option<MessageFrame<'a>>
+    ensures { message.Gives (UnreachableFrame host.now frame.now request.now) result }
+{
+    match request.carried {
+        Carried::Packet(header, inner) => match inner {
+            Transport::Udp(ports, _) => {
+                if !host.interface.accepts(&request.header, &header) {
+                    return None;
+                }
+                if host.serves(ports.dst_port) {
+                    return None;
+                }
+                let message = IcmpRepr::DstUnreachable {
+                    reason: Unreachable::Port,
+                };
+                icmp_error::error(frame, &host.interface, message)
+            }
+            _ => None,
+        },
+        _ => None,
+    }
+}
+
+impl Host<'_> {
+    // Whether a packet for this UDP port gets no error.
+    fn serves(&self, port: u16) -> bool
+        ensures { IsTrue result ↔ IsServed self.now port }
+    {
+        port == self.echo_port || self.open_udp_ports.contains(&port)
+    }
+}

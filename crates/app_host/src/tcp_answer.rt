@@ -1,0 +1,61 @@
+//! The replies of TCP to a segment without a connection, as frames.
+
+ghost use Rattle.ip_wire.specs.Reply.{Gives, Sends};
+ghost use Rattle.app_host.specs.TcpReply.{TcpRepliesBytes, TcpRepliesFrame};
+ghost use Rattle.ip_wire.specs.FrameValue.{Fits};
+
+use crate::interface::{Interface, header_back};
+use crate::tcp_reply::{Offer, reply_to};
+use ip_wire::{Carried, Frame, Transport, send_reply};
+use net_base::ChecksumCapabilities;
+
+/// The reply to a TCP segment for this interface, if these ports are open: SYN and ACK, or RST. `None`
+/// for any other frame, and if `reply_to` returns `None`.
+pub fn reply<'a>(
+    request: &Frame<'a>,
+    ours: &Interface,
+    ports: &[u16],
+    offer: &Offer,
+) -> Option<Frame<'a>>
+    requires { Fits request.now }
+    ensures { Gives (TcpRepliesFrame ours.now ports.now offer.now request.now) result }
+{
+    match request.carried {
+        Carried::Packet(header, inner) => match inner {
+            Transport::Tcp(segment) => {
+                if !ours.accepts(&request.header, &header) {
+                    return None;
+                }
+                match reply_to(&segment, ports, offer) {
+                    Some(reply) => {
+                        let (src_addr, dst_addr) = (ours.hardware_addr, request.header.src_addr);
+                        match Frame::tcp(src_addr, dst_addr, header_back(&header), reply) {
+                            Ok(reply) => Some(reply),
+                            Err(_) => None,
+                        }
+                    }
+                    None => None,
+                }
+            }
+            _ => None,
+        },
+        _ => None,
+    }
+}
+
+/// Writes the reply to a frame to the front of `out`, and returns its length. `None` if there is no
+/// reply or it does not fit; then `out` is unchanged.
+pub fn answer(
+    bytes: &[u8],
+    ours: &Interface,
+    ports: &[u16],
+    offer: &Offer,
+    out: &mut [u8],
+) -> Option<usize>
+    ensures { Sends (TcpRepliesBytes ours.now ports.now offer.now bytes.now) out.old out.new result }
+{
+    match Frame::parse(bytes, &ChecksumCapabilities::default()) {
+        Ok(request) => send_reply(&reply(&request, ours, ports, offer), out),
+        Err(_) => None,
+    }
+}

@@ -1,0 +1,277 @@
+-- Why a frame is rejected.
+use Rattle.std.proofs.Common.{ℕ, ◌≡◌, ◌≢◌, ◌∙◌, ◌≤◌, ◌==◌, ◌&&◌, not, nat_lt, is_some, if◌then◌else◌, Bool, true, false, List, Option, Some, None, Result, Ok, Err, drop, length, refl, sym, ap, arith}
+use Rattle.std.proofs.lemmas.Bool.{le-ltb}
+use Rattle.std.proofs.lemmas.Bool.Decides.{nat_tests}
+use Rattle.std.specs.Borrow.{Bor}
+use Rattle.std.specs.Option.{option_map, option_map_or, option_or}
+use Rattle.std.specs.Result.{result_ok}
+use Rattle.ip_wire.proofs.EthernetComputed.{ethernet_of-Reads}
+use Rattle.ip_wire.proofs.FrameOf.{transport-only, transport-read}
+use Rattle.ip_wire.proofs.HeaderFaults.{reads-no_fault}
+use Rattle.ip_wire.proofs.Ipv4Computed.{Reads-is}
+use Rattle.ip_wire.proofs.Options.{none_of}
+use Rattle.ip_wire.specs.Ethernet.{ethernet_of}
+use Rattle.ip_wire.specs.Frame as whole
+use Rattle.ip_wire.specs.Frame.{ReadsPacket, ReadsTransport, all_checked, ipv4_payload, transport_by}
+use Rattle.ip_wire.specs.Field.{field}
+use Rattle.ip_wire.specs.FrameValue.{ParsesTransport}
+use Rattle.ip_wire.specs.HeaderFault.{ipv4_fault}
+use Rattle.ip_wire.specs.Ipv4 as ipv4
+use Rattle.ip_wire.specs.Protocol.{protocol_of}
+use Rattle.ip_wire.specs.Types.{Error, EthernetProtocol, EthernetRepr, IpProtocol, Ipv4, Ipv4Repr, UdpRepr}
+use Rattle.ip_wire.specs.WordSum.{sum_of_bytes}
+use Rattle.ip_wire.specs.declared.EthernetProtocol.TheVariants as ethertype
+use Rattle.ip_wire.specs.declared.HeaderFault.{HeaderFault}
+use Rattle.ip_wire.specs.declared.HeaderFault.TheVariants as header
+use Rattle.ip_wire.specs.declared.IpAddress.TheVariants as address
+use Rattle.ip_wire.specs.declared.IpProtocol.TheVariants as protocol
+use Rattle.ip_wire.specs.declared.TcpRepr.{TcpRepr}
+use Rattle.ip_wire.specs.declared.frame.transport.Transport.{Transport as Value}
+use Rattle.ip_wire.specs.declared.frame.transport.Transport.TheVariants as parsed
+use Rattle.wire_icmp.proofs.IcmpComputed.{icmp_of_Reads}
+use Rattle.wire_icmp.specs.Icmp as icmp
+use Rattle.wire_icmp.specs.declared.icmp.repr.IcmpRepr.{IcmpRepr}
+use Rattle.wire_icmp.specs.declared.icmp.repr.IcmpRepr.TheVariants.{EchoRequest, EchoReply}
+use Rattle.app_nat.proofs.Translates.{carried}
+use Rattle.app_nat.specs.Errors.{Quotes, Reports, after_header, end_bit, flow_by, icmp_fault, is_error, is_quoted, message_fault, message_fault_by}
+use Rattle.app_nat.specs.Nat.{Carries, CarriesWhole, IsIpv4Frame, ReadsMessage, ReadsPorts, Transport, addr_at, datagram, echo_fault, frame_fault, is_message, of_header, packet_fault, ports_fault, reply, request, segment, transport_fault, transport_fault_by, whole_fault, whole_fault_by}
+use Rattle.app_nat.specs.declared.translation.Rejection.{Rejection}
+use Rattle.app_nat.specs.declared.translation.Rejection.TheVariants.{NotIpv4, Fragment, OtherProtocol, BadTransport, ZeroPort}
+use Rattle.app_nat.specs.declared.errors.Quoted.{Quoted}
+use Rattle.app_nat.specs.declared.translation.Side.{Side}
+
+-- ---- frames without a whole IPv4 packet
+
+pub unread : (frame : List ℕ) (answer : Result EthernetRepr Error) (error : Error) → ethernet_of frame ≡ result_ok answer → answer ≡ Err error
+    → whole_fault frame ≡ Some NotIpv4
+unread frame answer error found is = rw (found, is) refl
+
+-- the fault of a frame with an Ethernet header
+pub by-type : (frame : List ℕ) (answer : Result EthernetRepr Error) (link : EthernetRepr) → ethernet_of frame ≡ result_ok answer → answer ≡ Ok link
+    → whole_fault frame ≡ whole_fault_by link.ethertype (drop 14 frame)
+by-type frame answer link found is = rw (found, is) refl
+
+-- the same of one with this type
+pub named-type : (frame : List ℕ) (answer : Result EthernetRepr Error) (link : EthernetRepr) (type : EthernetProtocol) → ethernet_of frame ≡ result_ok answer
+    → answer ≡ Ok link → link.ethertype ≡ type → whole_fault frame ≡ whole_fault_by type (drop 14 frame)
+named-type frame answer link type found is named = by-type frame answer link found is ∙ ap (λ t. whole_fault_by t (drop 14 frame)) named
+
+pub other-type : (type : EthernetProtocol) (bytes : List ℕ) → type ≢ ethertype.Ipv4 → whole_fault_by type bytes ≡ Some NotIpv4
+other-type ethertype.Ipv4 bytes other = absurd (other refl)
+other-type _ bytes other = refl
+
+pub fragment : (bytes : List ℕ) (v : Ipv4Repr) → ipv4.Reads bytes true v → ipv4.is_fragment bytes ≡ true → whole_fault_by ethertype.Ipv4 bytes ≡ Some Fragment
+fragment bytes v r part = rw (reads-no_fault bytes v r, part) refl
+
+-- ---- whole packets
+
+no-whole_fault : (frame : List ℕ) (link : EthernetRepr) (v : Ipv4Repr) → IsIpv4Frame frame link → ReadsPacket all_checked (drop 14 frame) (Ipv4 v)
+    → whole_fault frame ≡ None
+no-whole_fault frame link v is reads = rw ((ethernet_of-Reads frame link).1 is.reads, is.names, reads-no_fault (drop 14 frame) v reads.0, reads.1) refl
+
+-- a whole packet has the fault of its payload
+pub payload-fault : (fault_of : Ipv4Repr → List ℕ → Option Rejection) (frame payload : List ℕ) (v : Ipv4Repr) → CarriesWhole frame v payload
+    → frame_fault fault_of frame ≡ fault_of v payload
+payload-fault fault_of frame payload v c =
+    ap (λ o. option_or o (fault_of (ipv4.header_of (drop 14 frame)) (ipv4_payload (drop 14 frame)))) (no-whole_fault frame c.link v c.is c.reads)
+    ∙ (λ i. fault_of (sym (Reads-is true (drop 14 frame) v c.reads.0) i) (sym c.inner i))
+
+-- ---- transports
+
+by-ports : (v : Ipv4Repr) (bytes : List ℕ) → v.next_header ≢ protocol.Icmp
+    → transport_fault v bytes ≡ ports_fault (transport_by all_checked v.next_header (address.Ipv4 v.src_addr) (address.Ipv4 v.dst_addr) bytes)
+by-ports v bytes = by v.next_header
+  where
+    by : (p : IpProtocol) → p ≢ protocol.Icmp
+        → transport_fault_by p v bytes ≡ ports_fault (transport_by all_checked p (address.Ipv4 v.src_addr) (address.Ipv4 v.dst_addr) bytes)
+    by protocol.Icmp no_icmp = absurd (no_icmp refl)
+    by _ no_icmp = refl
+
+-- a value that was parsed as neither UDP nor TCP
+pub neither : (v : Ipv4Repr) (bytes : List ℕ) (t : Value) → v.next_header ≢ protocol.Icmp → ParsesTransport all_checked (Ipv4 v) bytes t
+    → ((u : UdpRepr) (payload : Bor (List ℕ)) → t ≢ parsed.Udp u payload) → ((u : TcpRepr) → t ≢ parsed.Tcp u) → transport_fault v bytes ≡ Some OtherProtocol
+neither v bytes (parsed.Udp u payload) no_icmp (read, is, r) no_udp no_tcp = absurd (no_udp u payload refl)
+neither v bytes (parsed.Tcp u) no_icmp (read, is, r) no_udp no_tcp = absurd (no_tcp u refl)
+neither v bytes (parsed.Other payload) no_icmp (read, is, r) no_udp no_tcp =
+    by-ports v bytes no_icmp
+    ∙ ap ports_fault (transport-read all_checked v.next_header (address.Ipv4 v.src_addr) (address.Ipv4 v.dst_addr) bytes read r ∙ sym is)
+neither v bytes (parsed.Unread payload) no_icmp (read, is, r) no_udp no_tcp = absurd (cc)
+
+pub bad-ports : (v : Ipv4Repr) (bytes : List ℕ) → v.next_header ≢ protocol.Icmp → ((t : whole.Transport) → ¬ ReadsTransport all_checked (Ipv4 v) bytes t)
+    → transport_fault v bytes ≡ Some BadTransport
+bad-ports v bytes no_icmp none =
+    by-ports v bytes no_icmp
+    ∙ ap ports_fault (none_of _ (λ t e. none t (transport-only all_checked v.next_header (address.Ipv4 v.src_addr) (address.Ipv4 v.dst_addr) bytes t e)))
+
+-- the fault of an ICMP message, by the test of its length and its checksum
+abbrev tested : Ipv4Repr → List ℕ → Bool → Option Rejection
+tested v bytes test =
+    if test then echo_fault (icmp.icmp_of (address.Ipv4 v.src_addr) (address.Ipv4 v.dst_addr) false bytes) else Some BadTransport
+
+-- that of one with its checksum
+by-message : (v : Ipv4Repr) (bytes : List ℕ) (m : Option IcmpRepr) → v.next_header ≡ protocol.Icmp → 8 ≤ length bytes → sum_of_bytes bytes ≡ 65535
+    → icmp.icmp_of (address.Ipv4 v.src_addr) (address.Ipv4 v.dst_addr) false bytes ≡ m → transport_fault v bytes ≡ echo_fault m
+by-message v bytes m named long sum is =
+    let test : is_message bytes ≡ true = grind (arith, nat_tests) in
+    ap (λ p. transport_fault_by p v bytes) named ∙ ap (tested v bytes) test ∙ ap echo_fault is
+
+no-echo : (m : IcmpRepr) → ((ident seq_no : ℕ) → m ≢ EchoRequest ident seq_no) → ((ident seq_no : ℕ) → m ≢ EchoReply ident seq_no)
+    → echo_fault (Some m) ≡ Some OtherProtocol
+no-echo (EchoRequest ident seq_no) no_request no_reply = absurd (no_request ident seq_no refl)
+no-echo (EchoReply ident seq_no) no_request no_reply = absurd (no_reply ident seq_no refl)
+no-echo _ no_request no_reply = refl
+
+pub other-message : (v : Ipv4Repr) (bytes : List ℕ) (answer : Result IcmpRepr Error) (m : IcmpRepr) → v.next_header ≡ protocol.Icmp → 8 ≤ length bytes
+    → sum_of_bytes bytes ≡ 65535 → icmp.icmp_of (address.Ipv4 v.src_addr) (address.Ipv4 v.dst_addr) false bytes ≡ result_ok answer → answer ≡ Ok m
+    → ((ident seq_no : ℕ) → m ≢ EchoRequest ident seq_no) → ((ident seq_no : ℕ) → m ≢ EchoReply ident seq_no) → transport_fault v bytes ≡ Some OtherProtocol
+other-message v bytes answer m named long sum found is no_request no_reply =
+    by-message v bytes (Some m) named long sum (found ∙ ap result_ok is) ∙ no-echo m no_request no_reply
+
+pub no-message : (v : Ipv4Repr) (bytes : List ℕ) (answer : Result IcmpRepr Error) (error : Error) → v.next_header ≡ protocol.Icmp → 8 ≤ length bytes
+    → sum_of_bytes bytes ≡ 65535 → icmp.icmp_of (address.Ipv4 v.src_addr) (address.Ipv4 v.dst_addr) false bytes ≡ result_ok answer → answer ≡ Err error
+    → transport_fault v bytes ≡ Some OtherProtocol
+no-message v bytes answer error named long sum found is = by-message v bytes None named long sum (found ∙ ap result_ok is)
+
+-- ---- no fault
+
+read-message : (v : Ipv4Repr) (bytes : List ℕ) (m : IcmpRepr) (payload : List ℕ) → ReadsMessage v bytes m payload → transport_fault v bytes ≡ echo_fault (Some m)
+read-message v bytes m payload (named, r) =
+    by-message v bytes (Some m) named r.least (r.checksum refl)
+    ((icmp_of_Reads (address.Ipv4 v.src_addr) (address.Ipv4 v.dst_addr) false bytes m).1
+    (record { least = r.least; checksum = λ is. absurd (cc); message = r.message; body = refl }))
+
+read-ports : (v : Ipv4Repr) (bytes : List ℕ) (t : Transport) → ReadsPorts v bytes t → transport_fault v bytes ≡ None
+read-ports v bytes (datagram u payload) r =
+    by-ports v bytes (λ is. let differs : protocol.Udp ≡ protocol.Icmp = sym r.0 ∙ is in cc)
+    ∙ ap ports_fault (transport-read all_checked v.next_header (address.Ipv4 v.src_addr) (address.Ipv4 v.dst_addr) bytes (whole.datagram u payload) r)
+read-ports v bytes (segment u payload) r =
+    by-ports v bytes (λ is. let differs : protocol.Tcp ≡ protocol.Icmp = sym r.0 ∙ is in cc)
+    ∙ ap ports_fault (transport-read all_checked v.next_header (address.Ipv4 v.src_addr) (address.Ipv4 v.dst_addr) bytes (whole.segment u payload) r)
+read-ports v bytes (request ident seq_no payload) r = read-message v bytes (EchoRequest ident seq_no) payload r
+read-ports v bytes (reply ident seq_no payload) r = read-message v bytes (EchoReply ident seq_no) payload r
+
+-- a frame that carries one of these transports is rejected for no reason
+pub carries-unrejected : (frame : List ℕ) (link : EthernetRepr) (v : Ipv4Repr) (t : Transport) (r : Rejection) → Carries frame link v t
+    → packet_fault frame ≢ Some r
+carries-unrejected frame link v t r c why =
+    let whole : CarriesWhole frame v (ipv4_payload (drop 14 frame)) = record {
+      link = link;
+      is = record { reads = c.reads.reads_header; names = c.reads.reads_carried.0 };
+      reads = (carried frame link v t c).reads;
+      inner = refl;
+    } in
+    let none = payload-fault transport_fault frame (ipv4_payload (drop 14 frame)) v whole ∙ read-ports v (ipv4_payload (drop 14 frame)) t c.ports in
+    let apart : Some r ≡ None = sym why ∙ none in absurd (cc)
+
+-- ---- errors
+
+not-true : (b : Bool) → ¬ (b ≡ true) → b ≡ false
+not-true true unless = absurd (unless refl)
+not-true false unless = refl
+
+pub by-icmp : (side : Side) (v : Ipv4Repr) (bytes : List ℕ) → v.next_header ≡ protocol.Icmp → message_fault side v bytes ≡ icmp_fault side bytes
+by-icmp side v bytes named = ap (λ p. message_fault_by side p bytes) named
+
+some-value : {A : Type 0} (o : Option A) → is_some o ≡ true → (a : A) × (o ≡ Some a)
+some-value None h = absurd (cc)
+some-value (Some a) h = (a, refl)
+
+-- bytes that an error can quote are quoted as one packet
+quoted-one : (side : Side) (bytes : List ℕ) → is_quoted side bytes ≡ true → (q : Quoted) × Quotes side bytes q
+quoted-one side bytes is =
+    let flows : is_some (flow_by side (protocol_of (field bytes 72 8)) (field (after_header bytes) 0 8)) ≡ true = grind (arith, nat_tests) in
+    let (p, flow) = some-value (flow_by side (protocol_of (field bytes 72 8)) (field (after_header bytes) 0 8)) flows in (
+      record { protocol = p; end = record { addr = addr_at side bytes; port = field (after_header bytes) (end_bit p side) 16 } },
+      record {
+        version = grind (arith, nat_tests);
+        header = grind (arith, nat_tests);
+        room = grind (arith, nat_tests);
+        first = grind (arith, nat_tests);
+        flow = flow;
+        addr = refl;
+        port = refl;
+      },
+    )
+
+pub bad-error : (side : Side) (bytes : List ℕ) → 8 ≤ length bytes → is_error (field bytes 0 8) ≡ true → ((q : Quoted) → ¬ Reports side bytes q)
+    → icmp_fault side bytes ≡ Some BadTransport
+bad-error side bytes long error none =
+    let wrong : (sum_of_bytes bytes == 65535 && is_quoted side (drop 8 bytes)) ≡ false = not-true _ (λ on.
+    let sum : sum_of_bytes bytes ≡ 65535 = grind (arith, nat_tests) in
+    let quoted : is_quoted side (drop 8 bytes) ≡ true = grind (arith, nat_tests) in
+    let (q, quotes) = quoted-one side (drop 8 bytes) quoted in
+    none q (record { error = error; checksum = sum; quotes = quotes })) in
+    rw (le-ltb (length bytes) 8 long, error, wrong) refl
+
+-- ---- no fault is ZeroPort
+
+-- the value is no ZeroPort
+abbrev NotZero : Option Rejection → Type 0
+NotZero fault = fault ≢ Some ZeroPort
+
+either-not_zero : (a b : Option Rejection) → NotZero a → NotZero b → NotZero (option_or a b)
+either-not_zero None b first second = second
+either-not_zero (Some r) b first second = first
+
+header-not_zero : (fault : Option HeaderFault) → NotZero (option_map of_header fault)
+header-not_zero None is = absurd (cc)
+header-not_zero (Some header.NotIp) is = absurd (cc)
+header-not_zero (Some header.BadHeader) is = absurd (cc)
+header-not_zero (Some header.WrongChecksum) is = absurd (cc)
+header-not_zero (Some header.Expired) is = absurd (cc)
+
+fragment-not_zero : (part : Bool) → NotZero (if part then Some Fragment else None)
+fragment-not_zero true is = absurd (cc)
+fragment-not_zero false is = absurd (cc)
+
+type-not_zero : (type : EthernetProtocol) (bytes : List ℕ) → NotZero (whole_fault_by type bytes)
+type-not_zero ethertype.Ipv4 bytes =
+    either-not_zero (option_map of_header (ipv4_fault bytes)) (if ipv4.is_fragment bytes then Some Fragment else None) (header-not_zero (ipv4_fault bytes)) (fragment-not_zero (ipv4.is_fragment bytes))
+type-not_zero _ bytes = λ is. absurd (cc)
+
+link-not_zero : (link : Option EthernetRepr) (bytes : List ℕ) → NotZero (option_map_or (λ v. whole_fault_by v.ethertype bytes) link (Some NotIpv4))
+link-not_zero None bytes = λ is. absurd (cc)
+link-not_zero (Some v) bytes = type-not_zero v.ethertype bytes
+
+-- a frame is rejected for ZeroPort only if its payload is
+pub not-zero : (fault_of : Ipv4Repr → List ℕ → Option Rejection) → ((v : Ipv4Repr) (bytes : List ℕ) → fault_of v bytes ≢ Some ZeroPort) → (frame : List ℕ)
+    → frame_fault fault_of frame ≢ Some ZeroPort
+not-zero fault_of payload frame =
+    either-not_zero (whole_fault frame) (fault_of (ipv4.header_of (drop 14 frame)) (ipv4_payload (drop 14 frame))) (link-not_zero (ethernet_of frame) (drop 14 frame))
+    (payload (ipv4.header_of (drop 14 frame)) (ipv4_payload (drop 14 frame)))
+
+ports-not_zero : (t : Option whole.Transport) → NotZero (ports_fault t)
+ports-not_zero None = λ is. absurd (cc)
+ports-not_zero (Some (whole.datagram u payload)) = λ is. absurd (cc)
+ports-not_zero (Some (whole.segment u payload)) = λ is. absurd (cc)
+ports-not_zero (Some (whole.other payload)) = λ is. absurd (cc)
+
+echo-not_zero : (m : Option IcmpRepr) → NotZero (echo_fault m)
+echo-not_zero (Some (EchoRequest ident seq_no)) = λ is. absurd (cc)
+echo-not_zero (Some (EchoReply ident seq_no)) = λ is. absurd (cc)
+echo-not_zero _ = λ is. absurd (cc)
+
+test-not_zero : (v : Ipv4Repr) (bytes : List ℕ) (test : Bool) → NotZero (tested v bytes test)
+test-not_zero v bytes true = echo-not_zero (icmp.icmp_of (address.Ipv4 v.src_addr) (address.Ipv4 v.dst_addr) false bytes)
+test-not_zero v bytes false = λ is. absurd (cc)
+
+pub transport-not_zero : (v : Ipv4Repr) (bytes : List ℕ) → transport_fault v bytes ≢ Some ZeroPort
+transport-not_zero v bytes = by v.next_header
+  where
+    by : (p : IpProtocol) → NotZero (transport_fault_by p v bytes)
+    by protocol.Icmp = test-not_zero v bytes (is_message bytes)
+    by p = ports-not_zero (transport_by all_checked p (address.Ipv4 v.src_addr) (address.Ipv4 v.dst_addr) bytes)
+
+icmp-not_zero : (short error right : Bool) → NotZero (if short then Some BadTransport else (if not error then Some OtherProtocol else (if right then None else Some BadTransport)))
+icmp-not_zero true error right = λ is. absurd (cc)
+icmp-not_zero false false right = λ is. absurd (cc)
+icmp-not_zero false true true = λ is. absurd (cc)
+icmp-not_zero false true false = λ is. absurd (cc)
+
+pub message-not_zero : (side : Side) (v : Ipv4Repr) (bytes : List ℕ) → message_fault side v bytes ≢ Some ZeroPort
+message-not_zero side v bytes = by v.next_header
+  where
+    by : (p : IpProtocol) → NotZero (message_fault_by side p bytes)
+    by protocol.Icmp =
+        icmp-not_zero (nat_lt (length bytes) 8) (is_error (field bytes 0 8)) (sum_of_bytes bytes == 65535 && is_quoted side (drop 8 bytes))
+    by _ = λ is. absurd (cc)

@@ -1,0 +1,218 @@
+-- What the calls mean: proofs of the laws.
+use Rattle.std.proofs.Common.{ℕ, ◌≡◌, ◌∙◌, ◌<◌, ◌≤◌, inl, inr, Option, Some, None, IfNone, IfSome, List, length, refl, sym, ap, subst, arith}
+use Rattle.std.proofs.Math.ListN.{set, length-set}
+use Rattle.app_nat.proofs.Places.{other-at, place-apart, same-at}
+use Rattle.app_nat.proofs.Tables.{same-end}
+use Rattle.app_nat.specs.Mapping.{IsOf, after_outbound, expiry, is_shared, new_mapping}
+use Rattle.app_nat.specs.State.{byte_of, next_state, protocol_of, shortest_timeout, state_of, timeout_of}
+use Rattle.app_nat.specs.Table.{Chooses, Finds, HasPort, IsFirst, IsFree, IsFull, IsTable, IsUnmapped, MapsTo, Opens, kept, made, mapping_at, place_of}
+use Rattle.app_nat.specs.declared.mapping.Ipv4Endpoint.{Ipv4Endpoint}
+use Rattle.app_nat.specs.declared.mapping.Mapping.{Mapping}
+use Rattle.app_nat.specs.declared.nat.Nat.{Nat}
+use Rattle.app_nat.specs.declared.state.Event.{Event}
+use Rattle.app_nat.specs.declared.state.Protocol.{Protocol}
+use Rattle.app_nat.specs.declared.state.Protocol.TheVariants.{Udp, Tcp, Icmp}
+use Rattle.app_nat.specs.declared.state.TcpState.{TcpState}
+use Rattle.app_nat.specs.declared.state.TcpState.TheVariants.{Opening, Established, Closing}
+
+-- ---- the choice of a port
+
+exists-chosen : (nat : Nat) (old : List Mapping) (now : ℕ) (event : Event) (inside remote : Ipv4Endpoint) (port : ℕ) (m : Mapping)
+    → Chooses nat old now event inside remote port m → HasPort nat (length old) port
+exists-chosen nat old now event inside remote port m (kept first) = first.holds.exists
+exists-chosen nat old now event inside remote port m (made none first) = first.holds.exists
+
+-- the mapping that is written leads to the endpoint
+leads-chosen : (nat : Nat) (old : List Mapping) (now : ℕ) (event : Event) (inside remote : Ipv4Endpoint) (port : ℕ) (m : Mapping)
+    → Chooses nat old now event inside remote port m → IsOf inside m
+leads-chosen nat old now event inside remote port m (kept first) = first.holds.leads
+leads-chosen nat old now event inside remote port m (made none first) = (refl, refl)
+
+state-byte : (s : TcpState) → state_of (byte_of s) ≡ s
+state-byte Opening = refl
+state-byte Established = refl
+state-byte Closing = refl
+
+-- its time-out is that of its state
+restarts : (nat : Nat) (now : ℕ) (event : Event) (remote : Ipv4Endpoint) (m : Mapping)
+    → (after_outbound nat now event remote m).expires ≡ expiry now (timeout_of nat (protocol_of event) (state_of (after_outbound nat now event remote m).state))
+restarts nat now event remote m =
+    ap (λ s. expiry now (timeout_of nat (protocol_of event) s)) (sym (state-byte (next_state (is_shared m remote) (state_of m.state) event)))
+
+restarts-chosen : (nat : Nat) (old : List Mapping) (now : ℕ) (event : Event) (inside remote : Ipv4Endpoint) (port : ℕ) (m : Mapping)
+    → Chooses nat old now event inside remote port m → m.expires ≡ expiry now (timeout_of nat (protocol_of event) (state_of m.state))
+restarts-chosen nat old now event inside remote port m (kept first) = restarts nat now event remote (mapping_at nat old (protocol_of event) port)
+restarts-chosen nat old now event inside remote port m (made none first) = restarts nat now event remote (new_mapping inside remote)
+
+shortest : (nat : Nat) (protocol : Protocol) (s : TcpState) → shortest_timeout nat protocol ≤ timeout_of nat protocol s
+shortest nat Udp s = omega arith
+shortest nat Tcp Opening = omega arith
+shortest nat Tcp Established = omega arith
+shortest nat Tcp Closing = omega arith
+shortest nat Icmp s = omega arith
+
+-- ---- the opened port
+
+pub opened-at : (nat : Nat) (old new : List Mapping) (now : ℕ) (event : Event) (inside remote : Ipv4Endpoint) (port : ℕ) (o : Opens nat old new now event inside remote port)
+    → mapping_at nat new (protocol_of event) port ≡ o.mapping
+opened-at nat old new now event inside remote port o =
+    ap (λ l. mapping_at nat l (protocol_of event) port) o.becomes
+    ∙ same-at nat old (protocol_of event) port o.mapping (exists-chosen nat old now event inside remote port o.mapping o.chosen)
+
+pub opened-restarts : (nat : Nat) (old new : List Mapping) (now : ℕ) (event : Event) (inside remote : Ipv4Endpoint) (port : ℕ) → Opens nat old new now event inside remote port
+    → (mapping_at nat new (protocol_of event) port).expires ≡ expiry now (timeout_of nat (protocol_of event) (state_of (mapping_at nat new (protocol_of event) port).state))
+opened-restarts nat old new now event inside remote port o =
+    let P : Mapping → Type 0 = λ m. m.expires ≡ expiry now (timeout_of nat (protocol_of event) (state_of m.state)) in
+    subst P (sym (opened-at nat old new now event inside remote port o)) (restarts-chosen nat old now event inside remote port o.mapping o.chosen)
+
+pub opened-leads : (nat : Nat) (old new : List Mapping) (now later : ℕ) (event : Event) (inside remote : Ipv4Endpoint) (port : ℕ) → Opens nat old new now event inside remote port
+    → later < expiry now (shortest_timeout nat (protocol_of event)) → MapsTo nat new later (protocol_of event) port inside
+opened-leads nat old new now later event inside remote port o before =
+    let m = mapping_at nat new (protocol_of event) port in
+    let len : length new ≡ length old = ap length o.becomes ∙ length-set old (place_of nat (length old) (protocol_of event) port) o.mapping in
+    let least = shortest nat (protocol_of event) (state_of m.state) in
+    let ends = opened-restarts nat old new now event inside remote port o in
+    record {
+      exists = subst (λ n. HasPort nat n port) (sym len) (exists-chosen nat old now event inside remote port o.mapping o.chosen);
+      live = omega (arith, before, least, ends);
+      leads = subst (IsOf inside) (sym (opened-at nat old new now event inside remote port o)) (leads-chosen nat old now event inside remote port o.mapping o.chosen);
+    }
+
+pub all_restart : (nat : Nat) (old new : List Mapping) (now : ℕ) (event : Event) (inside remote : Ipv4Endpoint) (r : Option ℕ) → IfSome r (Opens nat old new now event inside remote)
+    → IfSome r (λ port. (mapping_at nat new (protocol_of event) port).expires
+    ≡ expiry now (timeout_of nat (protocol_of event) (state_of (mapping_at nat new (protocol_of event) port).state)))
+all_restart nat old new now event inside remote None opens = tt
+all_restart nat old new now event inside remote (Some port) opens = opened-restarts nat old new now event inside remote port opens
+
+-- what `find` gives at a port that leads to an endpoint
+found-is : (nat : Nat) (old new : List Mapping) (later : ℕ) (event : Event) (port : ℕ) (sender inside : Ipv4Endpoint) (r : Option Ipv4Endpoint)
+    → IfSome r (Finds nat old new later event port sender) → IfNone r ((e : Ipv4Endpoint) → ¬ MapsTo nat old later (protocol_of event) port e)
+    → MapsTo nat old later (protocol_of event) port inside → r ≡ Some inside
+found-is nat old new later event port sender inside (Some e) found none mapped =
+    ap Some (same-end (mapping_at nat old (protocol_of event) port) e inside found.mapped.leads mapped.leads)
+found-is nat old new later event port sender inside None found none mapped = absurd (none inside mapped)
+
+pub answered : (nat : Nat) (old new newer : List Mapping) (now later : ℕ) (packet answer : Event) (inside remote sender : Ipv4Endpoint) (port : ℕ) (r : Option Ipv4Endpoint)
+    → Opens nat old new now packet inside remote port → IfSome r (Finds nat new newer later answer port sender)
+    → IfNone r ((e : Ipv4Endpoint) → ¬ MapsTo nat new later (protocol_of answer) port e)
+    → protocol_of answer ≡ protocol_of packet → later < expiry now (shortest_timeout nat (protocol_of packet)) → r ≡ Some inside
+answered nat old new newer now later packet answer inside remote sender port r opens found none same before =
+    found-is nat new newer later answer port sender inside r found none
+    (subst (λ x. MapsTo nat new later x port inside) (sym same) (opened-leads nat old new now later packet inside remote port opens before))
+
+-- ---- port preservation, and one port for all remote endpoints
+
+pub preserved : (nat : Nat) (old new : List Mapping) (now : ℕ) (event : Event) (inside remote : Ipv4Endpoint) (r : Option ℕ) → IfSome r (Opens nat old new now event inside remote)
+    → IfNone r (IsFull nat old now (protocol_of event) inside) → IsUnmapped nat old now (protocol_of event) inside → IsFree nat old now (protocol_of event) inside.port
+    → r ≡ Some inside.port
+preserved nat old new now event inside remote None opens full unmapped free =
+    let live = full inside.port (inl refl) free.exists in absurd (omega (arith, live.0, free.expired))
+preserved nat old new now event inside remote (Some port) opens full unmapped free = ap Some (preserved-port nat old now event inside remote port opens.mapping opens.chosen unmapped free)
+  where
+    preserved-port : (nat : Nat) (old : List Mapping) (now : ℕ) (event : Event) (inside remote : Ipv4Endpoint) (port : ℕ) (m : Mapping) → Chooses nat old now event inside remote port m
+        → IsUnmapped nat old now (protocol_of event) inside → IsFree nat old now (protocol_of event) inside.port → port ≡ inside.port
+    preserved-port nat old now event inside remote port m (kept first) unmapped free = absurd (unmapped port first.candidate first.holds)
+    preserved-port nat old now event inside remote port m (made none first) unmapped free = elim (first.first inside.port (inl refl) free) [
+      | inl same ↦ same
+      | inr following ↦ absurd (following.0 refl)
+    ]
+
+independent-port : (nat : Nat) (old : List Mapping) (now : ℕ) (event : Event) (inside remote : Ipv4Endpoint) (port was : ℕ) (m : Mapping) → Chooses nat old now event inside remote port m
+    → IsTable nat old now → MapsTo nat old now (protocol_of event) was inside → port ≡ was
+independent-port nat old now event inside remote port was m (kept first) table mapped = table.apart (protocol_of event) port was inside first.holds mapped
+independent-port nat old now event inside remote port was m (made none first) table mapped =
+    absurd (none was (table.placed (protocol_of event) was inside mapped) mapped)
+
+pub independent : (nat : Nat) (old new : List Mapping) (now : ℕ) (event : Event) (inside remote : Ipv4Endpoint) (r : Option ℕ) (was : ℕ) → IfSome r (Opens nat old new now event inside remote)
+    → IfNone r (IsFull nat old now (protocol_of event) inside) → IsTable nat old now → MapsTo nat old now (protocol_of event) was inside → r ≡ Some was
+independent nat old new now event inside remote None was opens full table mapped =
+    absurd ((full was (table.placed (protocol_of event) was inside mapped) mapped.exists).1 mapped.leads)
+independent nat old new now event inside remote (Some port) was opens full table mapped =
+    ap Some (independent-port nat old now event inside remote port was opens.mapping opens.chosen table mapped)
+
+-- ---- other mappings
+
+-- the opened port was free, or its mapping led to the endpoint
+not-other : (nat : Nat) (old : List Mapping) (now : ℕ) (event : Event) (inside remote other : Ipv4Endpoint) (port : ℕ) (m : Mapping) → Chooses nat old now event inside remote port m
+    → MapsTo nat old now (protocol_of event) port other → other ≡ inside
+not-other nat old now event inside remote other port m (kept first) mapped =
+    same-end (mapping_at nat old (protocol_of event) port) other inside mapped.leads first.holds.leads
+not-other nat old now event inside remote other port m (made none first) mapped = absurd (omega (arith, mapped.live, first.holds.expired))
+
+opened-other : (nat : Nat) (old new : List Mapping) (now : ℕ) (event : Event) (inside remote other : Ipv4Endpoint) (port q : ℕ) (b : Protocol) → Opens nat old new now event inside remote port
+    → MapsTo nat old now b q other → ¬ ((b ≡ protocol_of event) × (other ≡ inside)) → mapping_at nat new b q ≡ mapping_at nat old b q
+opened-other nat old new now event inside remote other port q b o mapped apart =
+    ap (λ l. mapping_at nat l b q) o.becomes
+    ∙ other-at nat old (protocol_of event) b port q o.mapping (λ same.
+    (let both = place-apart nat (length old) b (protocol_of event) q port mapped.exists (exists-chosen nat old now event inside remote port o.mapping o.chosen) same in
+    let first : MapsTo nat old now (protocol_of event) q other = subst (λ x. MapsTo nat old now x q other) both.0 mapped in
+    let second : MapsTo nat old now (protocol_of event) port other = subst (λ x. MapsTo nat old now (protocol_of event) x other) both.1 first in
+    apart (both.0, not-other nat old now event inside remote other port o.mapping o.chosen second)))
+
+pub others : (nat : Nat) (old new : List Mapping) (now : ℕ) (event : Event) (inside remote : Ipv4Endpoint) (r : Option ℕ) → IfSome r (Opens nat old new now event inside remote)
+    → IfNone r (new ≡ old) → (b : Protocol) (q : ℕ) (other : Ipv4Endpoint) → MapsTo nat old now b q other → ¬ ((b ≡ protocol_of event) × (other ≡ inside))
+    → mapping_at nat new b q ≡ mapping_at nat old b q
+others nat old new now event inside remote None opens same b q other mapped apart = ap (λ l. mapping_at nat l b q) same
+others nat old new now event inside remote (Some port) opens same b q other mapped apart = opened-other nat old new now event inside remote other port q b opens mapped apart
+
+-- ---- one outcome
+
+first-once : (P : ℕ → Type 0) (nat : Nat) (len : ℕ) (inside : Ipv4Endpoint) (p q : ℕ) → IsFirst P nat len inside p → IsFirst P nat len inside q → p ≡ q
+first-once P nat len inside p q a b = elim (a.first q b.candidate b.holds) [
+  | inl own ↦ elim (b.first p a.candidate a.holds) [
+    | inl too ↦ own ∙ sym too
+    | inr following ↦ absurd (following.0 own)
+  ]
+  | inr before ↦ elim (b.first p a.candidate a.holds) [
+    | inl own ↦ absurd (before.0 own)
+    | inr following ↦ omega (arith, before.1, following.1)
+  ]
+]
+
+chosen-port : (nat : Nat) (old : List Mapping) (now : ℕ) (event : Event) (inside remote : Ipv4Endpoint) (p q : ℕ) (m n : Mapping) → Chooses nat old now event inside remote p m
+    → Chooses nat old now event inside remote q n → p ≡ q
+chosen-port nat old now event inside remote p q m n (kept a) (kept b) = first-once (λ x. MapsTo nat old now (protocol_of event) x inside) nat (length old) inside p q a b
+chosen-port nat old now event inside remote p q m n (kept a) (made none b) = absurd (none p a.candidate a.holds)
+chosen-port nat old now event inside remote p q m n (made none a) (kept b) = absurd (none q b.candidate b.holds)
+chosen-port nat old now event inside remote p q m n (made none a) (made too b) = first-once (IsFree nat old now (protocol_of event)) nat (length old) inside p q a b
+
+chosen-mapping : (nat : Nat) (old : List Mapping) (now : ℕ) (event : Event) (inside remote : Ipv4Endpoint) (p q : ℕ) (m n : Mapping) → p ≡ q → Chooses nat old now event inside remote p m
+    → Chooses nat old now event inside remote q n → m ≡ n
+chosen-mapping nat old now event inside remote p q m n same (kept a) (kept b) = ap (λ x. after_outbound nat now event remote (mapping_at nat old (protocol_of event) x)) same
+chosen-mapping nat old now event inside remote p q m n same (kept a) (made none b) = absurd (none p a.candidate a.holds)
+chosen-mapping nat old now event inside remote p q m n same (made none a) (kept b) = absurd (none q b.candidate b.holds)
+chosen-mapping nat old now event inside remote p q m n same (made none a) (made too b) = refl
+
+pub port_once : (nat : Nat) (old new other : List Mapping) (now : ℕ) (event : Event) (inside remote : Ipv4Endpoint) (p q : ℕ) → Opens nat old new now event inside remote p
+    → Opens nat old other now event inside remote q → p ≡ q
+port_once nat old new other now event inside remote p q a b = chosen-port nat old now event inside remote p q a.mapping b.mapping a.chosen b.chosen
+
+pub table_once : (nat : Nat) (old new other : List Mapping) (now : ℕ) (event : Event) (inside remote : Ipv4Endpoint) (p q : ℕ) → Opens nat old new now event inside remote p
+    → Opens nat old other now event inside remote q → new ≡ other
+table_once nat old new other now event inside remote p q a b =
+    let port = port_once nat old new other now event inside remote p q a b in
+    let mapping = chosen-mapping nat old now event inside remote p q a.mapping b.mapping port a.chosen b.chosen in
+    a.becomes ∙ (λ i. set old (place_of nat (length old) (protocol_of event) (port i)) (mapping i)) ∙ sym b.becomes
+
+chosen-room : (nat : Nat) (old : List Mapping) (now : ℕ) (event : Event) (inside remote : Ipv4Endpoint) (p : ℕ) (m : Mapping) → Chooses nat old now event inside remote p m
+    → ¬ IsFull nat old now (protocol_of event) inside
+chosen-room nat old now event inside remote p m (kept a) full = (full p a.candidate a.holds.exists).1 a.holds.leads
+chosen-room nat old now event inside remote p m (made none a) full =
+    let live = full p a.candidate a.holds.exists in omega (arith, live.0, a.holds.expired)
+
+pub room : (nat : Nat) (old new : List Mapping) (now : ℕ) (event : Event) (inside remote : Ipv4Endpoint) (p : ℕ) → Opens nat old new now event inside remote p
+    → ¬ IsFull nat old now (protocol_of event) inside
+room nat old new now event inside remote p o = chosen-room nat old now event inside remote p o.mapping o.chosen
+
+-- ---- time
+
+earlier : (nat : Nat) (mappings : List Mapping) (now later : ℕ) (protocol : Protocol) (port : ℕ) (inside : Ipv4Endpoint) → now ≤ later
+    → MapsTo nat mappings later protocol port inside → MapsTo nat mappings now protocol port inside
+earlier nat mappings now later protocol port inside before mapped =
+    record { exists = mapped.exists; live = omega (arith, before, mapped.live); leads = mapped.leads }
+
+pub later_table : (nat : Nat) (mappings : List Mapping) (now later : ℕ) → now ≤ later → IsTable nat mappings now → IsTable nat mappings later
+later_table nat mappings now later before table = record {
+  placed = λ b q e mapped. table.placed b q e (earlier nat mappings now later b q e before mapped);
+  apart = λ b q r e first second. table.apart b q r e (earlier nat mappings now later b q e before first) (earlier nat mappings now later b r e before second);
+}

@@ -1,0 +1,6 @@
+pub mod Errors
+pub mod Flows
+pub mod Mapping
+pub mod Nat
+pub mod State
+pub mod Table

@@ -1,0 +1,66 @@
+-- One mapping, and how packets change it.
+use Rattle.std.specs.Prelude.{ℕ, ◌≡◌, ◌+◌, ◌-◌, ◌^◌, ◌==◌, min, Bool, not, ◌&&◌, ◌||◌, if◌then◌else◌, [], ◌∷◌}
+use Rattle.std.specs.Str.{bytes_eq}
+use Rattle.app_nat.specs.State.{byte_of, ends_connection, next_state, protocol_of, state_of, timeout_of}
+use Rattle.app_nat.specs.declared.mapping.Ipv4Endpoint.{Ipv4Endpoint}
+use Rattle.app_nat.specs.declared.mapping.Mapping.{Mapping}
+use Rattle.app_nat.specs.declared.nat.Nat.{Nat}
+use Rattle.app_nat.specs.declared.state.Event.{Event}
+use Rattle.app_nat.specs.declared.state.Protocol.TheVariants as protocol
+use Rattle.app_nat.specs.declared.state.TcpState.TheVariants.{Closing}
+
+-- ---- endpoints
+
+-- the inside endpoint of a mapping
+abbrev pub inside_of : Mapping → Ipv4Endpoint
+inside_of m = record { addr = m.inside; port = m.inside_port }
+
+-- this is the inside endpoint of the mapping
+abbrev pub IsOf : Ipv4Endpoint → Mapping → Type 0
+IsOf inside m = (m.inside ≡ inside.addr) × (m.inside_port ≡ inside.port)
+
+-- whether this is the remote endpoint of the mapping
+abbrev pub is_remote : Mapping → Ipv4Endpoint → Bool
+is_remote m remote = bytes_eq m.remote remote.addr && (m.remote_port == remote.port)
+
+-- whether the mapping serves more than one remote endpoint, together with this one
+abbrev pub is_shared : Mapping → Ipv4Endpoint → Bool
+is_shared m remote = not (m.shared == 0) || not (is_remote m remote)
+
+-- ---- packets
+
+-- the end of a time-out that starts now
+abbrev pub expiry : ℕ → ℕ → ℕ
+expiry now timeout = min (now + timeout) (2 ^ 64 - 1)
+
+-- a mapping that no packet used yet
+abbrev pub new_mapping : Ipv4Endpoint → Ipv4Endpoint → Mapping
+new_mapping inside remote = record {
+  expires = 0;
+  inside = inside.addr;
+  remote = remote.addr;
+  inside_port = inside.port;
+  remote_port = remote.port;
+  state = 0;
+  shared = 0;
+  unused = 0 ∷ 0 ∷ [];
+}
+
+-- the mapping after its inside endpoint sent a packet: the time-out starts anew
+abbrev pub after_outbound : Nat → ℕ → Event → Ipv4Endpoint → Mapping → Mapping
+after_outbound nat now event remote m =
+    let shared = is_shared m remote in
+    let state = next_state shared (state_of m.state) event in
+    record m {
+      expires = expiry now (timeout_of nat (protocol_of event) state);
+      state = byte_of state;
+      shared = if shared then 1 else 0;
+    }
+
+-- The mapping after a remote endpoint sent a packet. A FIN or RST of its only remote endpoint ends the connection;
+-- nothing else changes the mapping.
+abbrev pub after_inbound : Nat → ℕ → Event → Ipv4Endpoint → Mapping → Mapping
+after_inbound nat now event remote m =
+    if ends_connection event && not (is_shared m remote)
+    then record m { expires = min m.expires (expiry now (timeout_of nat protocol.Tcp Closing)); state = byte_of Closing }
+    else m

@@ -1,0 +1,250 @@
+//! Network address translation of one address and port (RFC 3022, sections 2.2 and 4.1).
+
+ghost use Rattle.std.specs.Prelude.{◌≡◌, ◌↔◌, ◌≤◌, List, ℕ, IfErr, OnErr, OnOk, length, true};
+ghost use Rattle.app_nat.specs.Nat as nat;
+ghost use Rattle.app_nat.specs.Nat.{AllowsPort, CarriesPorts, IsPacket, IsTranslated, IsUntranslated, ReadsPorts, RejectsPort, Rewrites, Transport, addr_of, of_header, opposite, translated_packet, with_addr, with_address, with_echo_ident, with_end, with_port, with_tcp_end, with_udp_end};
+ghost use Rattle.ip_wire.specs.Ipv4 as ipv4;
+ghost use Rattle.ip_wire.specs.TcpRepr.{TcpHeader};
+ghost use Rattle.ip_wire.specs.Types.{Ipv4Repr, UdpRepr};
+
+use crate::packet::Packet;
+use ip_wire::laws::bytes_fit;
+use ip_wire::{
+    ETHERNET_HEADER_LEN, HeaderFault, IpAddress, IpProtocol, IpRepr, Ipv4Address, Ipv4Packet,
+    Ipv4PacketMut, Ipv4Repr, TcpPacketMut, UdpPacketMut, checksum,
+};
+use wire_icmp::IcmpPacketMut;
+
+/// The end of a packet, source or destination, whose address and port are replaced.
+#[derive(Debug, Clone, Copy, PartialEq, Eq)]
+pub enum Side {
+    Source,
+    Destination,
+}
+
+impl Side {
+    /// The other end.
+    pub fn opposite(self) -> Side
+        ensures { result ≡ opposite self }
+    {
+        match self {
+            Side::Source => Side::Destination,
+            Side::Destination => Side::Source,
+        }
+    }
+
+    // The address of a header on this side. Always inlined, since a call would keep the header in memory.
+    #[inline(always)]
+    fn of(self, header: &Ipv4Repr) -> Ipv4Address
+        ensures { result ≡ addr_of self header.now }
+    {
+        match self {
+            Side::Source => header.src_addr,
+            Side::Destination => header.dst_addr,
+        }
+    }
+}
+
+/// Why a frame is not translated. The checks run in this order: if several reasons apply, the first of
+/// them is returned.
+#[derive(Debug, Clone, Copy, PartialEq, Eq)]
+pub enum Rejection {
+    /// The frame has no Ethernet header, or its EtherType is not IPv4.
+    NotIpv4,
+    /// The version of the IPv4 header is not 4, or its lengths are invalid.
+    BadHeader,
+    /// The checksum of the IPv4 header is wrong.
+    WrongChecksum,
+    /// The packet is a fragment.
+    Fragment,
+    /// The packet carries neither UDP nor TCP, nor an ICMP echo message. `translate_out` and `translate_in`
+    /// also accept ICMP errors.
+    OtherProtocol,
+    /// The UDP or TCP header does not parse, an ICMP message is shorter than 8 octets, or the checksum
+    /// is wrong. Of an ICMP error: it does not quote a whole IPv4 header and 8 octets of UDP, TCP or an echo.
+    BadTransport,
+    /// The port to write is 0, and a receiver would reject it. For `translate_out`: the source port is 0.
+    ZeroPort,
+    /// For `translate_in`: the destination is not the outside address, no live mapping has its port, or
+    /// the packet is an echo request. For `translate_out`: the packet is an echo reply. For both: an ICMP
+    /// error quotes a packet without a live mapping.
+    NoMapping,
+    /// No outside port is free for the source.
+    NoFreePort,
+}
+
+impl Rejection {
+    // The rejection for a fault of an IPv4 header.
+    #[inline(always)]
+    pub(crate) fn of_header(fault: HeaderFault) -> Rejection
+        ensures { result ≡ of_header fault }
+    {
+        match fault {
+            HeaderFault::BadHeader => Rejection::BadHeader,
+            HeaderFault::WrongChecksum => Rejection::WrongChecksum,
+            _ => Rejection::NotIpv4,
+        }
+    }
+}
+
+/// Writes an address and a port into the UDP packet, TCP segment or ICMP echo message of a frame over
+/// IPv4, and updates the checksums (RFC 1624). On either side, the port of an echo message is its identifier; its
+/// checksum is computed anew. A UDP checksum of 0 stays 0. Only the source port of a UDP packet (RFC 768) and an
+/// identifier may be 0. A rejected frame is unchanged.
+pub fn translate(
+    frame: &mut [u8],
+    side: Side,
+    addr: Ipv4Address,
+    port: u16,
+) -> Result<(), Rejection>
+    ensures translated { OnOk result (IsTranslated frame.old frame.new side addr port) }
+    ensures rejected { IfErr result (IsUntranslated frame.old side port) }
+    ensures unchanged { OnErr result (frame.new ≡ frame.old) }
+{
+    let packet = Packet::parse(frame)?;
+    packet.rewrite(frame, side, addr, port)
+}
+
+impl Packet {
+    /// Writes an address and a port into the frame that this packet was parsed from, as `translate` does, without
+    /// parsing it again. Rejects only a port of 0.
+    #[inline(always)]
+    pub fn rewrite(
+        &self,
+        frame: &mut [u8],
+        side: Side,
+        addr: Ipv4Address,
+        port: u16,
+    ) -> Result<(), Rejection>
+        requires { IsPacket frame.old self.now }
+        ensures translated { OnOk result (IsTranslated frame.old frame.new side addr port) }
+        ensures rejected { IfErr result (λ reason. reason ≡ Rejection.ZeroPort) }
+        ensures disallowed { OnErr result (RejectsPort frame.old side port) }
+        ensures unchanged { OnErr result (frame.new ≡ frame.old) }
+    {
+        if !self.allows_port(side, port) {
+            return Err(Rejection::ZeroPort);
+        }
+        bytes_fit(frame);
+        let (_, packet) = frame.split_at_mut(ETHERNET_HEADER_LEN);
+        rewrite_packet(self.header, packet, side, addr, port);
+        Ok(())
+    }
+}
+
+// Writes the address and the port into a packet with this header.
+#[inline(always)]
+fn rewrite_packet(header: Ipv4Repr, packet: &mut [u8], side: Side, addr: Ipv4Address, port: u16)
+    requires carries { (transport : Transport) × CarriesPorts packet.old header transport }
+    ensures carries { (transport : Transport) → AllowsPort side transport port
+        → CarriesPorts packet.old header transport → CarriesPorts packet.new (with_addr side addr header) (with_port side port transport) }
+    ensures bytes { packet.new ≡ translated_packet side addr port packet.old }
+{
+    let view = Ipv4Packet::new_unchecked(packet);
+    let start = usize::from(view.header_len());
+    let end = usize::from(view.total_len());
+    let (_, rest) = packet.split_at_mut(start);
+    let (payload, _) = rest.split_at_mut(end - start);
+    rewrite_transport(header, payload, side, addr, port);
+    set_addr(packet, side, addr);
+}
+
+// Writes the address into an IPv4 packet, and updates the checksum of its header.
+#[inline(always)]
+pub(crate) fn set_addr(packet: &mut [u8], side: Side, addr: Ipv4Address)
+    requires { 20 ≤ length packet.old }
+    ensures reads { (v : Ipv4Repr) → ipv4.Reads packet.old true v → ipv4.Reads packet.new true (with_addr side addr v) }
+    ensures bytes { packet.new ≡ with_address side addr packet.old }
+    ensures summed { 20 ≤ ipv4.header_len packet.old → ipv4.header_len packet.old ≤ length packet.old
+        → ipv4.HasChecksum packet.old ↔ ipv4.HasChecksum packet.new }
+{
+    bytes_fit(packet);
+    let mut packet = Ipv4PacketMut::new_unchecked(packet);
+    let new = checksum::address(&IpAddress::Ipv4(addr));
+    match side {
+        Side::Source => {
+            let old = checksum::address(&IpAddress::Ipv4(packet.src_addr()));
+            packet.set_src_addr(addr);
+            packet.update_checksum(old, new);
+        }
+        Side::Destination => {
+            let old = checksum::address(&IpAddress::Ipv4(packet.dst_addr()));
+            packet.set_dst_addr(addr);
+            packet.update_checksum(old, new);
+        }
+    }
+}
+
+// Writes the address and the port into the payload of such a packet.
+#[inline(always)]
+fn rewrite_transport(header: Ipv4Repr, payload: &mut [u8], side: Side, addr: Ipv4Address, port: u16)
+    requires reads { (transport : Transport) × ReadsPorts header payload.old transport }
+    ensures reads { (transport : Transport) → Rewrites header payload.old payload.new side addr port transport }
+    ensures bytes { payload.new ≡ with_end header.next_header side (addr_of side header) addr port payload.old }
+{
+    let old = side.of(&header);
+    match header.next_header {
+        IpProtocol::Udp => rewrite_udp(payload, side, old, addr, port),
+        IpProtocol::Tcp => rewrite_tcp(payload, side, old, addr, port),
+        IpProtocol::Icmp => rewrite_echo(header, payload, side, addr, port),
+        _ => {}
+    }
+}
+
+// Writes the port into a UDP packet, and updates its checksum for it and the address.
+#[inline(always)]
+pub(crate) fn rewrite_udp(
+    bytes: &mut [u8],
+    side: Side,
+    old: Ipv4Address,
+    new: Ipv4Address,
+    port: u16,
+)
+    requires len { 8 ≤ length bytes.old }
+    ensures reads { (header : Ipv4Repr) (v : UdpRepr) (payload : List ℕ) → length (addr_of (opposite side) header) ≡ 4 → addr_of side header ≡ old
+        → Rewrites header bytes.old bytes.new side new port (nat.datagram v payload) }
+    ensures bytes { bytes.new ≡ with_udp_end side old new port bytes.old }
+{
+    let mut datagram = UdpPacketMut::new_unchecked(bytes);
+    datagram.update_address(&IpAddress::Ipv4(old), &IpAddress::Ipv4(new));
+    match side {
+        Side::Source => datagram.update_src_port(port),
+        Side::Destination => datagram.update_dst_port(port),
+    }
+}
+
+// Writes the port into a TCP segment, and updates its checksum, which must be there, for it and the address.
+#[inline(always)]
+pub(crate) fn rewrite_tcp(
+    bytes: &mut [u8],
+    side: Side,
+    old: Ipv4Address,
+    new: Ipv4Address,
+    port: u16,
+)
+    requires len { 18 ≤ length bytes.old }
+    ensures reads { (header : Ipv4Repr) (v : TcpHeader) (payload : List ℕ) → length (addr_of (opposite side) header) ≡ 4 → addr_of side header ≡ old
+        → Rewrites header bytes.old bytes.new side new port (nat.segment v payload) }
+    ensures bytes { bytes.new ≡ with_tcp_end side old new port bytes.old }
+{
+    let mut segment = TcpPacketMut::new_unchecked(bytes);
+    segment.update_address(&IpAddress::Ipv4(old), &IpAddress::Ipv4(new));
+    match side {
+        Side::Source => segment.update_src_port(port),
+        Side::Destination => segment.update_dst_port(port),
+    }
+}
+
+#[inline(always)]
+fn rewrite_echo(header: Ipv4Repr, bytes: &mut [u8], side: Side, addr: Ipv4Address, port: u16)
+    requires len { 8 ≤ length bytes.old }
+    ensures reads { (transport : Transport) → header.next_header ≡ IpProtocol.Icmp → Rewrites header bytes.old bytes.new side addr port transport }
+    ensures bytes { bytes.new ≡ with_echo_ident addr port bytes.old }
+{
+    bytes_fit(bytes);
+    // Over IPv4 the checksum covers no address.
+    let end = IpAddress::Ipv4(addr);
+    let mut message = IcmpPacketMut::new_unchecked(bytes);
+    message.set_echo_ident(port);
+    message.fill_checksum(&end, &end);
+}

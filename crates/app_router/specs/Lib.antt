@@ -1,0 +1,5 @@
+pub mod Forward
+pub mod IcmpProblem
+pub mod Index
+pub mod Route
+pub mod Source

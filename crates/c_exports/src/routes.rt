@@ -1,0 +1,40 @@
+//! Routes.
+
+ghost use Rattle.std.specs.Prelude.{List};
+ghost use Rattle.c_routing.specs.Lengths.{in_bounds};
+ghost use Rattle.c_routing.specs.Routes.{Chooses, Indexes, IsIndexOf};
+ghost use Rattle.c_routing.specs.Sources.{ChecksAddr};
+ghost use Rattle.c_routing.specs.declared.routes.Route.{Route};
+
+use app_router::index::Node;
+use c_routing::{Route, check_addr, choose_route, index_routes};
+use c_structs::Addr;
+
+/// Writes the index of a list of routes, and returns their number. Fails if a block is no block, or if there is no room.
+#[unsafe(no_mangle)]
+pub extern "C" fn lk_index_routes(routes: &[Route], nodes: &mut [Node]) -> isize
+    ensures { Indexes (in_bounds routes.now) nodes.old nodes.new result }
+{
+    index_routes(routes, nodes)
+}
+
+/// The place of the route with the longest prefix that contains an address, of several the first; -1 if there is none.
+#[unsafe(no_mangle)]
+pub extern "C" fn lk_choose_route(nodes: &[Node], addr: &Addr) -> isize
+    ensures { (routes : List Route) → IsIndexOf routes (in_bounds nodes.now) → Chooses routes addr.now result }
+{
+    choose_route(nodes, addr)
+}
+
+/// Whether a router may accept a packet from an address that came in by an interface. Returns 0, or why it may not.
+#[unsafe(no_mangle)]
+pub extern "C" fn lk_check_source(
+    routes: &[Route],
+    nodes: &[Node],
+    src: &Addr,
+    interface: u16,
+) -> i32
+    ensures { IsIndexOf (in_bounds routes.now) (in_bounds nodes.now) → ChecksAddr (in_bounds routes.now) src.now interface result }
+{
+    check_addr(routes, nodes, src, interface)
+}

@@ -1,4 +1,0 @@
-pub mod Calls
-pub mod Meaning
-pub mod Places
-pub mod Tables

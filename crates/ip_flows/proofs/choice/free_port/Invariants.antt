@@ -1,6 +1,0 @@
-use Rattle.std.proofs.Common.{ℕ, ◌<◌, ◌≤◌}
-use Rattle.ip_flows.specs.Table.{IsFree}
-use Rattle.ip_flows.proofs.choice.free_port.Given as goal
-
-abbrev pub invariant-loop-port : goal.invariant-loop-port
-invariant-loop-port l = (port : ℕ) → l.low ≤ port → port < l.port → ¬ IsFree l.nat l.mappings l.now l.protocol port

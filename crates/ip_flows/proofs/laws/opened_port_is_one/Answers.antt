@@ -1,8 +1,0 @@
-use Rattle.ip_flows.proofs.Meaning.{port_once, table_once}
-use Rattle.ip_flows.proofs.laws.opened_port_is_one.Goals as goal
-
-pub returns-clause-port : goal.returns-clause-port
-returns-clause-port c = λ old new other port second. port_once c.args.nat.now old new other c.args.now c.args.event c.args.inside.now c.args.remote.now port second
-
-pub returns-clause-table : goal.returns-clause-table
-returns-clause-table c = λ old new other port second. table_once c.args.nat.now old new other c.args.now c.args.event c.args.inside.now c.args.remote.now port second

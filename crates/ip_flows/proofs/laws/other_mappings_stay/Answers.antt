@@ -1,5 +1,0 @@
-use Rattle.ip_flows.proofs.Meaning.{others}
-use Rattle.ip_flows.proofs.laws.other_mappings_stay.Goals as goal
-
-pub returns : goal.returns
-returns c = others c.args.nat.now c.args.mappings.now c.open.new.mappings c.args.now c.args.event c.args.inside.now c.args.remote.now c.open.result c.open.ensures.opened c.open.ensures.unchanged

@@ -1,3 +1,0 @@
-pub mod Mapping
-pub mod State
-pub mod Table

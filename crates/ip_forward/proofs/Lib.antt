@@ -1,3 +1,0 @@
-pub mod Forwards
-mod ForwardOnce
-pub mod Problems

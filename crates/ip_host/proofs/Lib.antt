@@ -1,3 +1,0 @@
-pub mod HostOnce
-pub mod HostReplies
-pub mod ReplyEnds

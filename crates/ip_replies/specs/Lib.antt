@@ -1,9 +1,0 @@
-pub mod Arp
-pub mod IcmpEcho
-pub mod IcmpError
-pub mod Interface
-pub mod Message
-pub mod Neighbour
-pub mod Source
-pub mod TcpReply
-pub mod UdpEcho

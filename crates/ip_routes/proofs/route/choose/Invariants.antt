@@ -1,6 +1,0 @@
-use Rattle.std.proofs.Common.{take}
-use Rattle.ip_routes.proofs.RouteSteps.{Chosen}
-use Rattle.ip_routes.proofs.route.choose.Given as goal
-
-abbrev pub invariant-loop-route : goal.invariant-loop-route
-invariant-loop-route l = Chosen (take l.route-index l.routes) l.addr l.chosen

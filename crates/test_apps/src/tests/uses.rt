@@ -1,0 +1,239 @@
+//! Each use, on frames that are listed byte by byte.
+
+use super::captured::{ECHO_REQUEST, SYN};
+use super::change;
+use super::udp_frames::{DST, FRAME, IPV6_FRAME, SRC};
+use app_short::allow_list::is_allowed;
+use app_short::flow_key::{Flow, FlowKey};
+use app_short::mss_clamp::clamp;
+use app_short::read_frame::udp_packet;
+use app_short::verify_checksum::{parse_udp_ports, verified_by_the_device};
+use app_short::write_frame::write_udp;
+use ip_wire::{
+    Frame, IpAddress, IpCidr, IpEndpoint, IpProtocol, IpRepr, Ipv4Address, Ipv4Cidr, Ipv4Repr,
+    Ipv6Address, Ipv6Cidr, Ipv6Repr, UdpRepr,
+};
+use net_base::ChecksumCapabilities;
+
+/// The header of the packet in the first frame.
+fn header() -> IpRepr {
+    IpRepr::Ipv4(Ipv4Repr {
+        src_addr: Ipv4Address::new(192, 168, 1, 1),
+        dst_addr: Ipv4Address::new(192, 168, 1, 2),
+        next_header: IpProtocol::Udp,
+        payload_len: 12,
+        hop_limit: 64,
+    })
+}
+
+/// That of the packet in the second.
+fn ipv6_header() -> IpRepr {
+    IpRepr::Ipv6(Ipv6Repr {
+        src_addr: Ipv6Address::new(0xfe80, 0, 0, 0, 0, 0, 0, 1),
+        dst_addr: Ipv6Address::new(0xff02, 0, 0, 0, 0, 0, 0, 1),
+        next_header: IpProtocol::Udp,
+        payload_len: 12,
+        hop_limit: 64,
+    })
+}
+
+/// The ports of the packet in the first frame, and of that in the second.
+const PORTS: UdpRepr = UdpRepr {
+    src_port: 48896,
+    dst_port: 53,
+};
+
+const IPV6_PORTS: UdpRepr = UdpRepr {
+    src_port: 1,
+    dst_port: 2,
+};
+
+/// Whether the first frame is read with another byte.
+fn reads_with(at: usize, octet: u8) -> bool {
+    let mut frame = FRAME;
+    change(&mut frame, &[(at, octet)]);
+    udp_packet(&frame).is_some()
+}
+
+#[test]
+fn reads_the_packet_of_a_frame(rt: HostRuntime) {
+    let mut padded = [0; 60];
+    padded[..46].copy_from_slice(&FRAME);
+    let found = udp_packet(&padded);
+    assert!(rt; found == Some((header(), PORTS, &FRAME[42..])));
+    for (at, octet) in [(12, 0x86), (14, 0x65), (25, 0x78), (23, 0x06), (45, 0xfe)] {
+        assert!(rt; !reads_with(at, octet), "{at}");
+    }
+    for end in [0, 13, 14, 45] {
+        assert!(rt; udp_packet(&FRAME[..end]).is_none(), "{end}");
+    }
+    let found = udp_packet(&IPV6_FRAME);
+    assert!(rt; found == Some((ipv6_header(), IPV6_PORTS, &IPV6_FRAME[62..])));
+}
+
+#[test]
+fn writes_a_frame(rt: HostRuntime) {
+    let mut expected = [0xa5; 48];
+    expected[..46].copy_from_slice(&FRAME);
+    let mut buffer = [0xa5; 48];
+    let len = write_udp(&mut buffer, SRC, DST, header(), PORTS, &FRAME[42..]);
+    assert!(rt; len == Some(46));
+    assert!(rt; buffer == expected);
+    let len = write_udp(&mut buffer[..45], SRC, DST, header(), PORTS, &FRAME[42..]);
+    assert!(rt; len.is_none());
+    assert!(rt; buffer == expected);
+}
+
+#[test]
+fn writes_a_frame_over_ipv6(rt: HostRuntime) {
+    let mut expected = [0xa5; 68];
+    expected[..66].copy_from_slice(&IPV6_FRAME);
+    let mut buffer = [0xa5; 68];
+    let len = write_udp(&mut buffer, SRC, DST, ipv6_header(), IPV6_PORTS, &[0xff; 4]);
+    assert!(rt; len == Some(66));
+    assert!(rt; buffer == expected);
+}
+
+/// Whether the packet in the first frame is read with this checksum, if checksums are verified and if not.
+fn is_read(checksum: [u8; 2]) -> [bool; 2] {
+    let mut packet = [0; 12];
+    packet.copy_from_slice(&FRAME[34..]);
+    packet[6..8].copy_from_slice(&checksum);
+    let src = Ipv4Address::new(192, 168, 1, 1);
+    let dst = Ipv4Address::new(192, 168, 1, 2);
+    let verify = ChecksumCapabilities::default();
+    [
+        parse_udp_ports(&packet, src, dst, &verify).is_ok(),
+        parse_udp_ports(&packet, src, dst, &verified_by_the_device()).is_ok(),
+    ]
+}
+
+#[test]
+fn rejects_a_wrong_checksum(rt: HostRuntime) {
+    assert!(rt; is_read([0x12, 0x4d]) == [true, true]);
+    assert!(rt; is_read([0x12, 0x4e]) == [false, true]);
+    assert!(rt; is_read([0x00, 0x00]) == [true, true]);
+    assert!(rt; is_read([0x83, 0x71]) == [false, true]);
+}
+
+#[test]
+fn allows_the_addresses_of_its_blocks(rt: HostRuntime) {
+    let list = [
+        IpCidr::Ipv4(Ipv4Cidr::new(Ipv4Address::new(192, 168, 0, 0), 16)),
+        IpCidr::Ipv6(Ipv6Cidr::LINK_LOCAL_PREFIX),
+    ];
+    for (list, addr, allowed) in [
+        (&list[..], IpAddress::v4(192, 168, 1, 1), true),
+        (&list, IpAddress::v4(192, 169, 1, 1), false),
+        (&list, IpAddress::v6(0xfebf, 0, 0, 0, 0, 0, 0, 1), true),
+        (&list, IpAddress::v6(0xfec0, 0, 0, 0, 0, 0, 0, 1), false),
+        (&[], IpAddress::v4(192, 168, 1, 1), false),
+    ] {
+        assert!(rt; is_allowed(list, &addr) == allowed, "{addr}");
+    }
+}
+
+const ECHO_BACK: [u8; 46] = [
+    0x02, 0x00, 0x00, 0x00, 0x00, 0x01, 0x02, 0x00, 0x00, 0x00, 0x00, 0x02, 0x08, 0x00, 0x45, 0x00,
+    0x00, 0x20, 0xe2, 0xdc, 0x40, 0x00, 0x40, 0x11, 0xd3, 0xec, 0xc0, 0x00, 0x02, 0x02, 0xc0, 0x00,
+    0x02, 0x01, 0x00, 0x07, 0xa1, 0x67, 0x00, 0x0c, 0xfb, 0x92, 0x70, 0x69, 0x6e, 0x67,
+];
+
+const SYN_ACK: [u8; 74] = [
+    0x02, 0x00, 0x00, 0x00, 0x00, 0x01, 0x02, 0x00, 0x00, 0x00, 0x00, 0x02, 0x08, 0x00, 0x45, 0x00,
+    0x00, 0x3c, 0x00, 0x00, 0x40, 0x00, 0x40, 0x06, 0xb6, 0xb8, 0xc0, 0x00, 0x02, 0x02, 0xc0, 0x00,
+    0x02, 0x01, 0x00, 0x50, 0xed, 0x70, 0x17, 0x22, 0x9f, 0x6e, 0x80, 0x03, 0xa2, 0x8e, 0xa0, 0x12,
+    0xfe, 0x88, 0xca, 0xbe, 0x00, 0x00, 0x02, 0x04, 0x05, 0xb4, 0x04, 0x02, 0x08, 0x0a, 0xac, 0x74,
+    0xa7, 0x50, 0x39, 0xd3, 0xa6, 0x25, 0x01, 0x03, 0x03, 0x0a,
+];
+
+/// The key of a frame.
+fn key_of(bytes: &[u8]) -> Option<FlowKey> {
+    match Frame::parse(bytes, &ChecksumCapabilities::default()) {
+        Ok(frame) => match Flow::of_frame(&frame) {
+            Some(flow) => Some(flow.key()),
+            None => None,
+        },
+        Err(_) => None,
+    }
+}
+
+/// The key of the packet and its echo.
+fn echo_key() -> FlowKey {
+    FlowKey {
+        protocol: IpProtocol::Udp,
+        low: IpEndpoint::new(IpAddress::v4(192, 0, 2, 1), 41319),
+        high: IpEndpoint::new(IpAddress::v4(192, 0, 2, 2), 7),
+    }
+}
+
+/// The key of the SYN and its reply.
+fn syn_key() -> FlowKey {
+    FlowKey {
+        protocol: IpProtocol::Tcp,
+        low: IpEndpoint::new(IpAddress::v4(192, 0, 2, 1), 60784),
+        high: IpEndpoint::new(IpAddress::v4(192, 0, 2, 2), 80),
+    }
+}
+
+#[test]
+fn gives_both_directions_one_key(rt: HostRuntime) {
+    assert!(rt; key_of(&ECHO_REQUEST) == Some(echo_key()));
+    assert!(rt; key_of(&ECHO_BACK) == Some(echo_key()));
+    assert!(rt; key_of(&SYN) == Some(syn_key()));
+    assert!(rt; key_of(&SYN_ACK) == Some(syn_key()));
+    assert!(rt; key_of(&FRAME[..45]).is_none());
+    assert!(rt; key_of(&IPV6_FRAME).is_some());
+}
+
+/// The key of a flow between two ports of one host.
+fn key_between(protocol: IpProtocol, src_port: u16, dst_port: u16) -> FlowKey {
+    Flow {
+        protocol,
+        src: IpEndpoint::new(IpAddress::v4(192, 0, 2, 1), src_port),
+        dst: IpEndpoint::new(IpAddress::v4(192, 0, 2, 1), dst_port),
+    }
+    .key()
+}
+
+#[test]
+fn tells_flows_apart(rt: HostRuntime) {
+    let udp = IpProtocol::Udp;
+    let equal = [
+        key_of(&SYN) == key_of(&ECHO_REQUEST),
+        key_of(&FRAME) == key_of(&ECHO_REQUEST),
+        key_between(udp, 9, 7) == key_between(udp, 7, 9),
+        key_between(udp, 9, 7) == key_between(IpProtocol::Tcp, 9, 7),
+        key_between(udp, 9, 7) == key_between(udp, 9, 9),
+    ];
+    assert_eq!(rt; equal, [false, false, true, false, false]);
+}
+
+/// The captured SYN with another checksum and maximum segment size.
+fn with_size(checksum: [u8; 2], size: [u8; 2]) -> [u8; 74] {
+    let mut frame = SYN;
+    let ([a, b], [c, d]) = (checksum, size);
+    change(&mut frame, &[(50, a), (51, b), (56, c), (57, d)]);
+    frame
+}
+
+/// Whether the clamp lowers the segment size in a frame, and the frame then.
+fn clamped(frame: [u8; 74], limit: u16) -> (bool, [u8; 74]) {
+    let mut bytes = frame;
+    let lowered = clamp(&mut bytes[34..], limit);
+    (lowered, bytes)
+}
+
+#[test]
+fn a_clamp_lowers_the_segment_size_of_a_syn(rt: HostRuntime) {
+    let mut no_syn = SYN;
+    no_syn[47] = 0x10;
+    let (low, lower) = (
+        with_size([0xd8, 0xbe], [0x05, 0xb3]),
+        with_size([0xd9, 0x5d], [0x05, 0x14]),
+    );
+    assert!(rt; clamped(SYN, 1300) == (true, lower));
+    assert!(rt; clamped(SYN, 1459) == (true, low));
+    assert!(rt; clamped(SYN, 1460) == (false, SYN));
+    assert!(rt; clamped(no_syn, 1300) == (false, no_syn));
+}
