@@ -88,9 +88,9 @@ run_the_gate() {
 rejects_two_borrows() {
     local crate=$copy/crates/two_borrows
     mkdir -p "$crate/src"
-    echo 'two_loans: ip_wire' >> "$copy/crates.txt"
+    echo 'two_borrows: ip_wire' >> "$copy/crates.txt"
     cat > "$crate/src/lib.rt" << 'END'
-//! Two loans of one payload at once.
+//! Two borrows of one payload at once.
 #![tactic(auto)]
 
 use ip_wire::{EthernetFrameMut, Ipv4PacketMut};
@@ -107,10 +107,10 @@ pub fn of_a_packet(packet: &mut Ipv4PacketMut<'_>) {
     first.swap_with_slice(second);
 }
 END
-    "$copy/tests/gate/proved.py" rattle check two_borrows --only '' > "$room/loans.log" 2>&1 && return 1
-    grep -q '^src/lib.rt:8:.*borrow-e0499.*`\*frame` as mutable more than once' "$room/loans.log" &&
-        grep -q '^src/lib.rt:14:.*borrow-e0499.*`\*packet` as mutable more than once' "$room/loans.log" &&
-        [ "$(grep -c 'error\[' "$room/loans.log")" = 2 ]
+    "$copy/tests/gate/proved.py" rattle check two_borrows --only '' > "$room/borrows.log" 2>&1 && return 1
+    grep -q '^src/lib.rt:8:.*borrow-e0499.*`\*frame` as mutable more than once' "$room/borrows.log" &&
+        grep -q '^src/lib.rt:14:.*borrow-e0499.*`\*packet` as mutable more than once' "$room/borrows.log" &&
+        [ "$(grep -c 'error\[' "$room/borrows.log")" = 2 ]
 }
 
 # The last line, and the status.
