@@ -114,7 +114,7 @@ impl IcmpError {
     }
 }
 
-// The packet that is quoted by an ICMP error behind this header.
+// The packet that is quoted by an ICMP error after this header.
 fn parse_message(header: &Ipv4Repr, bytes: &[u8], side: Side) -> Result<Quoted, Rejection>
     ensures icmp { OnOk result (header.now.next_header ≡ IpProtocol.Icmp) }
     ensures reports { IfOk result (Reports side bytes.now) }
@@ -146,7 +146,7 @@ fn is_error(msg_type: u8) -> bool
     matches!(msg_type, 3 | 11 | 12)
 }
 
-// The quoted packet, if its header is whole, and 8 octets follow it. Its checksum is not verified: some routers lower the hop limit
+// The quoted packet, if its header is whole, and 8 bytes follow it. Its checksum is not verified: some routers lower the hop limit
 // and quote the old checksum.
 fn parse_quoted(bytes: &[u8], side: Side) -> Option<Quoted>
     ensures quotes { IfSome result (Quotes side bytes.now) }
@@ -202,7 +202,7 @@ fn protocol_by(side: Side, protocol: IpProtocol, msg_type: u8) -> Option<Protoco
     }
 }
 
-// The port or identifier behind the header of a quoted packet.
+// The port or identifier after the header of a quoted packet.
 fn port_in(after_header: &[u8], protocol: Protocol, side: Side) -> u16
     requires { 8 ≤ length after_header.now }
     ensures { result ≡ field after_header.now (end_bit protocol side) 16 }
@@ -267,7 +267,7 @@ fn rewrite_quoted(protocol: Protocol, bytes: &mut [u8], side: Side, addr: Ipv4Ad
     set_addr(bytes, side, addr);
 }
 
-// Writes the port or identifier behind the header of a quoted packet, and updates the checksum there for it and the address.
+// Writes the port or identifier after the header of a quoted packet, and updates the checksum there for it and the address.
 fn rewrite_end(
     protocol: Protocol,
     bytes: &mut [u8],

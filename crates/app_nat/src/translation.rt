@@ -60,8 +60,8 @@ pub enum Rejection {
     /// The packet carries neither UDP nor TCP, nor an ICMP echo message. `translate_out` and `translate_in`
     /// also accept ICMP errors.
     OtherProtocol,
-    /// The UDP or TCP header does not parse, an ICMP message is shorter than 8 octets, or the checksum
-    /// is wrong. Of an ICMP error: it does not quote a whole IPv4 header and 8 octets of UDP, TCP or an echo.
+    /// The UDP or TCP header does not parse, an ICMP message is shorter than 8 bytes, or the checksum
+    /// is wrong. Of an ICMP error: it does not quote a whole IPv4 header and 8 bytes of UDP, TCP or an echo.
     BadTransport,
     /// The port to write is 0, and a receiver would reject it. For `translate_out`: the source port is 0.
     ZeroPort,

@@ -15,7 +15,7 @@ use wire_icmp::{Exceeded, IcmpRepr, Unreachable};
 pub enum Problem {
     /// The hop limit is 0 or 1.
     Expired,
-    /// The packet is longer than the MTU of the next network, in octets, and may not be fragmented.
+    /// The packet is longer than the MTU of the next network, in bytes, and may not be fragmented.
     TooLong { mtu: u32 },
     /// No route leads to the destination.
     NoRoute,
@@ -82,7 +82,7 @@ impl Problem {
     }
 }
 
-// Whether the packet is longer than this number of octets, and may not be fragmented.
+// Whether the packet is longer than this number of bytes, and may not be fragmented.
 fn is_too_long(mtu: u32, header: &IpRepr, packet: &[u8]) -> bool
     requires { Reads packet.now true header.now }
     ensures { IsTrue result ↔ IsTooLong mtu header.now packet.now }

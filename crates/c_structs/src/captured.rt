@@ -1,5 +1,5 @@
-//! The values of a frame of which only the first octets were captured, stored in the struct of C. The length of
-//! the payload in the struct counts the octets that are missing too.
+//! The values of a frame of which only the first bytes were captured, stored in the struct of C. The length of
+//! the payload in the struct counts the bytes that are missing too.
 
 ghost use Rattle.std.specs.Prelude.{List, ℕ, ◌++◌, ◌≡◌, ◌≤◌, ◌<◌, ◌+◌, ◌-◌, drop, length, take};
 ghost use Rattle.ip_wire.specs.Ethernet as ethernet;
@@ -25,7 +25,7 @@ use ip_wire::{
 use net_base::ChecksumCapabilities;
 
 impl FrameFields {
-    /// Stores the values of a frame of `len` octets of which fewer were captured, up to a header that is
+    /// Stores the values of a frame of `len` bytes of which fewer were captured, up to a header that is
     /// rejected or that was not captured as a whole.
     pub fn read_captured(&mut self, captured: &[u8], len: usize)
         requires part { length captured.now < len }
@@ -57,7 +57,7 @@ impl FrameFields {
         }
     }
 
-    // Stores why a header of at least so many octets is rejected, if fewer were captured.
+    // Stores why a header of at least so many bytes is rejected, if fewer were captured.
     fn reject_cut(&mut self, least: usize)
         ensures { self.new ≡ cut_header self.old least }
     {
@@ -288,7 +288,7 @@ impl FrameFields {
         }
     }
 
-    // Stores a TCP segment, whose checksum covers octets that are missing.
+    // Stores a TCP segment, whose checksum covers bytes that are missing.
     fn store_cut_tcp(&mut self, src_addr: &IpAddress, dst_addr: &IpAddress, bytes: &[u8])
         requires offset { self.old.payload_offset ≤ 74 }
         requires len { length bytes.now < self.old.payload_len }

@@ -108,7 +108,7 @@ fn forwards_a_fragment_with_options(rt: HostRuntime) {
     assert!(rt; frame == FRAGMENT_FORWARDED);
 }
 
-/// Whether the frame over IPv4 with these octets is rejected for this reason, and stays as it is.
+/// Whether the frame over IPv4 with these bytes is rejected for this reason, and stays as it is.
 fn rejects(changes: &[(usize, u8)], reason: HeaderFault) -> bool {
     let mut frame = UDP;
     change(&mut frame, changes);
