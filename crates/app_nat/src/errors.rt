@@ -90,6 +90,7 @@ pub(crate) fn error_out(
 
 impl IcmpError {
     // The error in a frame. `side`: which end of the quoted packet the NAT translates.
+    #[inline(always)]
     fn parse(frame: &[u8], side: Side) -> Result<IcmpError, Rejection>
         ensures error { IfOk result (λ e. CarriesError side frame.now e.header e.quoted) }
         ensures rejected { IfErr result (IsRejectedError side frame.now) }

@@ -34,6 +34,7 @@ pub fn forward(
 }
 
 // The header of the packet in a frame with this EtherType, if it may take a hop.
+#[tactic(auto, using(crate::proofs::Forwards::expired))]
 fn accept(ethertype: EthernetProtocol, packet: &[u8]) -> Result<IpRepr, HeaderFault>
     ensures carries { IfOk result (CarriesAs ethertype packet.now true) }
     ensures alive { IfOk result (λ header. 1 < hop_limit_of header) }
