@@ -1,5 +1,5 @@
 -- A view holds a slice by a `&mut`, and a method of it borrows a part of that slice:
---     pub fn payload_mut(&mut self) -> &mut [u8] { locate_payload(self.buffer).lend() }
+--     pub fn payload_mut(&mut self) -> &mut [u8] { locate_payload(self.buffer).into_slice() }
 -- Here is the walk of each such method. Assumes `Logic`.
 use mathlib.Core.Path.{◌≡◌, refl, sym, ap, ◌∙◌}
 use Prim.Native.Nat.{ℕ, ◌+◌, ◌≤◌}

@@ -1,4 +1,4 @@
--- `lend` borrows the bytes from `start` up to `end`. Assumes `Logic`.
+-- `into_slice` borrows the bytes from `start` up to `end`. Assumes `Logic`.
 use mathlib.Core.Path.{◌≡◌, refl, sym, ap, ◌∙◌}
 use Prim.Native.Nat.{ℕ, ◌+◌, ◌-◌, ◌*◌, ◌≤◌, ◌<◌, ◌^◌}
 use native.Mathlib.Omega.{arith}
