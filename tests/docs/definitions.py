@@ -1,13 +1,11 @@
 #!/usr/bin/env python3
-"""Checks the tables of docs/DEFINITIONS.md and docs/LEMMAS.md against the sources.
+"""Checks the comments of the definitions in crates/*/specs.
 
     tests/docs/definitions.py [TOP]
 
-Each name in the first column must be defined in a module of the heading. Each test, law and file of worked examples in the
-last column must exist. After "too wide:", at the end of a row, there must be at least one of them or a proof of a call, and
-nothing else. What does not exist is printed, and the status is 1 then. Each lemma of docs/LEMMAS.md must be public in its
-module, and a crate above `ip_wire` must reach that module. Each definition of specs/ must have a comment directly above it.
-TOP is the top of the repository.
+Each definition must have a comment directly above it. Each law, call, test and file of worked examples that its lines
+"Pinned by:" name (docs/audit/PINS.md) must exist. After "too wide:" there must be at least one of them or a proof of a
+call, and nothing else. What is missing is printed, and the status is 1 then. TOP is the top of the repository.
 """
 import functools
 import glob
@@ -22,59 +20,52 @@ PINS = {
     "calls": "tests/data/calls/{}.call",
     "tests": "tests/{}",
     "worked": "tests/judge/worked_{}.c",
-} | {pin: "crates/" + crate + "/src/tests/{}.rt" for pin, crate in TESTS.items()}
+}
+PINS.update({pin: "crates/" + crate + "/src/tests/{}.rt" for pin, crate in TESTS.items()})
 FILES = {
     "devices": "crates/ip_frames/src/tests/devices.rt",
     "example.c": "c/example.c",
     "judge": "tests/judge/run",
 }
+HEAD = re.compile(r"(?:abbrev |unfoldable |opaque |record |data |pub )+(?!mod |use )(\S+)")
+MARK = "Pinned by: "
+NAMES = r"((?:`[\w.:]+`(?:, | and )?)+)"
 
 
-@functools.cache
+@functools.lru_cache(maxsize=None)
 def read(path):
     with open(path, encoding="utf-8") as file:
         return file.read()
 
 
-@functools.cache
+@functools.lru_cache(maxsize=None)
 def calls():
     """The names of all functions of the sources."""
-    return {name for path in glob.glob("crates/*/src/**/*.rt", recursive=True) for name in re.findall(r"\bfn (\w+)", read(path))}
+    paths = glob.glob("crates/*/src/**/*.rt", recursive=True)
+    return {name for path in paths for name in re.findall(r"\bfn (\w+)", read(path))}
 
 
-def modules(heading):
-    """The modules that a heading such as "`A` and `B` in `crate`" names, as paths."""
-    for names, crate in re.findall(r"((?:`\w+`(?:, | and )?)+) in `(\w+)`", heading):
-        yield from (f"crates/{crate}/specs/{name}.antt" for name in re.findall(r"`(\w+)`", names))
+@functools.lru_cache(maxsize=None)
+def laws():
+    paths = glob.glob("crates/*/src/laws.rt") + glob.glob("crates/*/src/laws/*.rt")
+    return {law for path in paths for law in re.findall(r"^pub fn (\w+)", read(path), re.M)}
 
 
-def rows(document):
-    """The rows below the headings of modules: the modules, the names of the definitions and the last cell."""
-    paths, heading = [], ""
-    for line in document.split("\n"):
-        cells = re.split(r" \|(?= |$)", line.strip())[:-1]
-        if line.startswith("## "):
-            paths, heading = list(modules(line)), line
-        elif line.startswith("| Definition") and not paths:
-            sys.exit(f"docs/DEFINITIONS.md: no module is named by '{heading}'")
-        elif paths and line.startswith("| ") and "Definition" not in cells[0]:
-            yield paths, [span.split()[0] for span in re.findall(r"`([^`]+)`", cells[0])], cells[-1]
-
-
-def is_defined(name, paths):
-    head = rf"^(?:abbrev |unfoldable |opaque |record |data |pub )+{re.escape(name)}(?![\w'])"
-    return any(re.search(head, read(path), re.M) for path in paths)
-
-
-def uncommented():
-    """The definitions without a comment directly above them."""
-    head = re.compile(r"(?:abbrev |unfoldable |opaque |record |data |pub )+(?!mod |use )(\S+)")
+def definitions():
+    """The path and name of each definition, with the lines of the comment directly above it."""
     for path in sorted(glob.glob("crates/*/specs/**/*.antt", recursive=True)):
-        lines = read(path).split("\n")
-        for above, line in zip(["", *lines], lines):
-            found = head.match(line)
-            if found and not re.match("-- (?!----)", above):
-                yield f"{path}: {found[1]} has no comment"
+        comment = []
+        for line in read(path).split("\n"):
+            found = HEAD.match(line)
+            if found:
+                yield path, found.group(1), comment
+            comment = comment + [line[3:]] if re.match("-- (?!----)", line) else []
+
+
+def pins_of(comment):
+    """Whether the lines of a comment say what the definition means, and what follows "Pinned by:" in the others."""
+    pins = [line[len(MARK):] for line in comment if line.startswith(MARK)]
+    return len(pins) < len(comment), " ".join(pins)
 
 
 def path_of(pin):
@@ -82,63 +73,43 @@ def path_of(pin):
     kind, _, name = pin.partition("/")
     if name:
         return PINS.get(kind, "{}").format(name)
-    return f"crates/*/proofs/{pin}.antt" if pin.endswith(("Worked", "Once")) else FILES.get(pin)
+    return "crates/*/proofs/" + pin + ".antt" if pin.endswith(("Worked", "Once")) else FILES.get(pin)
 
 
-def exists(pin):
-    path = path_of(pin)
-    return path is None or bool(glob.glob(path))
+def wide_faults(wide):
+    """What is wrong with what follows the mark "too wide:", if it is there."""
+    proved = re.findall(r"proof of `(\w+)`", wide)
+    names = re.findall(r"`([^`]+)`", re.sub(r"proof of `\w+`", "", wide))
+    if not names + proved or re.sub(r"(proof of )?`[^`]+`|laws?|and|[,\s]", "", wide):
+        yield "this mark names no law, call, test or file of theorems: too wide:" + wide
+    yield from (f"{name} excludes nothing" for name in names if name not in laws() and path_of(name) is None)
 
 
-def wide_faults(last, laws):
-    """What is wrong with the mark "too wide:" in the last cell of a row, if it has one."""
-    _, mark, pins = last.partition("too wide:")
-    proved = re.findall(r"proof of `(\w+)`", pins)
-    names = re.findall(r"`([^`]+)`", re.sub(r"proof of `\w+`", "", pins))
-    if mark and (not names + proved or re.sub(r"(proof of )?`[^`]+`|laws?|and|[,\s]", "", pins)):
-        yield f"this mark names no law, call, test or file of theorems: {mark}{pins}"
-    yield from (f"{name} excludes nothing" for name in names if name not in laws and path_of(name) is None)
-    yield from (f"there is no call {name}" for name in proved if name not in calls())
-
-
-def reached():
-    """The paths of the modules of proofs that a crate above `ip_wire` reaches, by name."""
-    listed = re.findall(r"^pub (?:mod|use Rattle\.(\w+)\.proofs\.)\s*(\w+)$", read("crates/ip_wire/proofs/Lib.antt"), re.M)
-    return {module: f"crates/{crate or 'ip_wire'}/proofs/{module}.antt" for crate, module in listed}
-
-
-def hidden_lemmas(document):
-    """What is wrong with the lemmas of the document."""
-    modules = reached()
-    for line in document.split("\n"):
-        cells = re.split(r" \|(?= |$)", line.strip())
-        if not line.startswith("| `"):
-            continue
-        names, module = re.findall(r"`([^`]+)`", cells[0]), cells[1].strip("| `")
-        if module not in modules:
-            yield f"ip_wire/proofs does not give on {module}"
-        else:
-            yield from (f"{name} is not public in {modules[module]}" for name in names
-                        if not re.search(rf"^(?:abbrev )?pub {re.escape(name)} :", read(modules[module]), re.M))
+def pin_faults(pins):
+    """What is wrong with the pins of a definition."""
+    paths = ((pin, path_of(pin)) for pin in re.findall(r"`([^`]+)`", pins))
+    yield from (f"there is no {pin}" for pin, path in paths if path and not glob.glob(path))
+    for kind, known in (("law", laws()), ("proof of", calls()), ("proofs of", calls())):
+        for names in re.findall(kind + r"s? " + NAMES, pins):
+            for name in re.findall(r"`([\w.:]+)`", names):
+                if name.split("::")[-1] not in known:
+                    yield f"there is no {kind} {name}"
+    _, mark, wide = pins.partition("too wide:")
+    if mark:
+        yield from wide_faults(wide)
 
 
 def main(top):
     os.chdir(top)
-    paths = glob.glob("crates/*/src/laws.rt") + glob.glob("crates/*/src/laws/*.rt")
-    laws = {law for path in paths for law in re.findall(r"^pub fn (\w+)", read(path), re.M)}
-    missing = []
-    for paths, names, last in rows(read("docs/DEFINITIONS.md")):
-        missing += [f"{name} is not defined in {', '.join(paths)}" for name in names if not is_defined(name, paths)]
-        missing += [f"there is no {pin}" for pin in re.findall(r"`([^`]+)`", last) if not exists(pin)]
-        missing += wide_faults(last, laws)
-        for law in re.findall(r"\blaws? ((?:`\w+`(?:, | and )?)+)", last):
-            missing += [f"there is no law {name}" for name in re.findall(r"`(\w+)`", law) if name not in laws]
-    faults = [f"docs/DEFINITIONS.md: {line}" for line in missing]
-    faults += [f"docs/LEMMAS.md: {line}" for line in hidden_lemmas(read("docs/LEMMAS.md"))]
-    faults += uncommented()
+    faults = []
+    for path, name, comment in definitions():
+        is_commented, pins = pins_of(comment)
+        if not is_commented:
+            faults.append(f"{path}: {name} has no comment")
+        faults += [f"{path}: {name}: {fault}" for fault in pin_faults(pins)]
     print("".join(fault + "\n" for fault in faults), end="")
     return 1 if faults else 0
 
 
 if __name__ == "__main__":
-    sys.exit(main(sys.argv[1] if len(sys.argv) > 1 else os.path.dirname(os.path.dirname(os.path.dirname(os.path.abspath(__file__))))))
+    sys.exit(main(sys.argv[1] if len(sys.argv) > 1 else os.path.join(os.path.dirname(__file__), "../..")))

@@ -10,6 +10,7 @@ use Rattle.wire_icmp.specs.declared.IcmpRepr.TheVariants.{EchoReply, EchoRequest
 use Rattle.app_host.specs.Interface.{IsForUs, header_back}
 use Rattle.app_host.specs.declared.interface.Interface.{Interface}
 
+-- Pinned by: `apps/icmp`; too wide: `MessagesOnce`, `calls/host`
 -- A frame with these values is an echo request for us, and the other frame is the reply to it. It has the same
 -- identifier, sequence number and data.
 pub record IsIcmpEcho (ours : Interface) (asked_header : EthernetRepr) (asked : Carried) (header : EthernetRepr) (carried : Carried) : Type 0 where
@@ -27,6 +28,7 @@ pub record IsIcmpEcho (ours : Interface) (asked_header : EthernetRepr) (asked : 
   pub replies : carried ≡ (let reply = bytes_of (EchoReply ident seq_no) payload (dst_addr_of ip) (src_addr_of ip) true in
       packet (header_before (header_back ip) (protocol_of (version_of ip)) (length reply)) (other reply))
 
+-- Pinned by: `apps/icmp`; too wide: `MessagesOnce`, `calls/host`
 -- the values of our echo reply to a frame
 abbrev pub RepliesEchoFrame : Interface → Frame → EthernetRepr → Carried → Type 0
 RepliesEchoFrame ours request header carried =

@@ -18,29 +18,35 @@ use Rattle.app_host.specs.declared.message.MessageFrame.{MessageFrame}
 use Rattle.app_host.specs.declared.message.Reply.{Reply}
 use Rattle.app_host.specs.declared.message.Reply.TheVariants as reply
 
+-- Pinned by: `apps/icmp`
 -- the bytes of a message in a packet with this header, with its checksum
 abbrev pub message_bytes : IpRepr → Message → List ℕ
 message_bytes v (Icmp value payload) = icmp.bytes_of value payload.now (src_addr_of v) (dst_addr_of v) true
 message_bytes v (Ndisc value) = ndisc.bytes_of value (address_bytes (src_addr_of v)) (address_bytes (dst_addr_of v)) true
 
+-- Pinned by: `apps/icmp`
 -- the number of bytes of a message
 abbrev pub message_len : Message → ℕ
 message_len (Icmp value payload) = 8 + length payload.now
 message_len (Ndisc value) = ndisc.len_of value
 
+-- Pinned by: proof of `send`
 -- a packet with this header can carry the message: neighbour discovery exists only over IPv6
 abbrev pub IsOfVersion : Message → IpRepr → Type 0
 IsOfVersion (Icmp value payload) v = ⊤
 IsOfVersion (Ndisc value) v = version_of v ≡ version.Ipv6
 
+-- Pinned by: `apps/icmp`
 -- the values of what the frame of a message carries
 abbrev pub values_of : MessageFrame → Carried
 values_of f = packet f.ip (other (message_bytes f.ip f.message))
 
+-- Pinned by: `apps/icmp`
 -- the emitted bytes of the frame of a message
 abbrev pub frame_bytes : MessageFrame → List ℕ
 frame_bytes f = ethernet.bytes_of f.header ++ (ip.bytes_of f.ip true ++ message_bytes f.ip f.message)
 
+-- Pinned by: proof of `send`
 -- the frame of a message can be emitted: each header names what follows it, and the lengths fit
 pub record IsSendable (f : MessageFrame) : Type 0 where
   pub ethertype : f.header.ethertype ≡ type_of f.ip
@@ -50,17 +56,20 @@ pub record IsSendable (f : MessageFrame) : Type 0 where
   pub fits : message_len f.message ≤ max_payload_len f.ip
   pub version : IsOfVersion f.message f.ip
 
+-- Pinned by: proof of `send`
 -- a frame of these headers, of the bytes of a message and of any padding parses as their values
 abbrev pub Composes : EthernetRepr → IpRepr → Type 0
 Composes header v =
     (bytes padding : List ℕ) → header.ethertype ≡ type_of v → next_header_of v ≡ protocol_of (version_of v) → payload_len_of v ≡ length bytes
     → IsReadWhole (ethernet.bytes_of header ++ (ip.bytes_of v true ++ bytes) ++ padding) header (packet v (other bytes))
 
+-- Pinned by: `apps/icmp`
 -- the result is a frame with the values of a reply that can be emitted, or there is no reply
 abbrev pub Gives : (EthernetRepr → Carried → Type 0) → Option MessageFrame → Type 0
 Gives IsReply None = (header : EthernetRepr) (carried : Carried) → ¬ IsReply header carried
 Gives IsReply (Some f) = IsSendable f × IsReply f.header (values_of f)
 
+-- Pinned by: proof of `send`
 -- The frame is at the front of the buffer and parses there, and the other bytes are unchanged. If it does not fit,
 -- the whole buffer is unchanged.
 abbrev pub IsSent : MessageFrame → List ℕ → List ℕ → Option ℕ → Type 0
@@ -70,21 +79,25 @@ IsSent f old new (Some len) =
 
 -- ---- replies of both kinds
 
+-- Pinned by: proof of `send`
 -- the reply has this Ethernet header and carries these values
 abbrev pub HasValues : Reply → EthernetRepr → Carried → Type 0
 HasValues (reply.Frame f) header carried = frame.HasValues f header carried
 HasValues (reply.Message f) header carried = (f.header ≡ header) × (values_of f ≡ carried)
 
+-- Pinned by: proof of `send`
 -- the reply can be emitted
 abbrev pub IsSendableReply : Reply → Type 0
 IsSendableReply (reply.Frame f) = frame.IsSendable f
 IsSendableReply (reply.Message f) = IsSendable f
 
+-- Pinned by: `apps/icmp`
 -- the result is a reply with these values that can be emitted, or there is no reply
 abbrev pub GivesReply : (EthernetRepr → Carried → Type 0) → Option Reply → Type 0
 GivesReply IsReply None = (header : EthernetRepr) (carried : Carried) → ¬ IsReply header carried
 GivesReply IsReply (Some r) = IsSendableReply r × ((header : EthernetRepr) × (carried : Carried) × HasValues r header carried × IsReply header carried)
 
+-- Pinned by: proof of `send`
 -- The reply is at the front of the buffer and parses there, and the other bytes are unchanged. If it does not fit,
 -- the whole buffer is unchanged.
 abbrev pub IsReplySent : Reply → List ℕ → List ℕ → Option ℕ → Type 0
@@ -93,6 +106,7 @@ IsReplySent (reply.Message f) old new result = IsSent f old new result
 
 -- ---- frames that are put together
 
+-- Pinned by: `apps/icmp`
 -- the frame between two hosts with this message, in a packet with the addresses and the hop limit of a header
 abbrev pub message_frame : EthernetAddress → EthernetAddress → IpRepr → Message → MessageFrame
 message_frame src dst v m = record {

@@ -13,41 +13,50 @@ use Rattle.net_base.specs.declared.Checksum.TheVariants as checksum
 use Rattle.net_base.specs.declared.ChecksumCapabilities.{ChecksumCapabilities}
 use Rattle.c_structs.specs.Written.{within}
 
+-- Pinned by: `worked/route`
 -- the checksum of TCP is verified or computed by this choice, and every other checksum always
 abbrev pub tcp_as : Checksum → ChecksumCapabilities
 tcp_as choice = record all_checked { tcp = choice }
 
+-- Pinned by: `worked/route`
 -- the bytes are a packet with this header, which carries this TCP segment
 abbrev pub ReadsSegment : Checksum → List ℕ → IpRepr → TcpHeader → List ℕ → Type 0
 ReadsSegment choice bytes header v payload =
     ReadsPacket (tcp_as choice) bytes header × ReadsTransport (tcp_as choice) header (packet_payload header bytes) (segment v payload)
 
+-- Pinned by: `worked/route`
 -- the frame carries this TCP segment
 abbrev pub CarriesSegment : Checksum → List ℕ → EthernetRepr → IpRepr → TcpHeader → List ℕ → Type 0
 CarriesSegment choice frame link header v payload = ReadsFrame (tcp_as choice) frame link (packet header (segment v payload))
 
+-- Pinned by: `worked/route`
 -- the values of a segment with this maximum segment size
 abbrev pub with_size : ℕ → TcpHeader → TcpHeader
 with_size size v = record v { max_seg_size = Some size }
 
+-- Pinned by: `worked/route`
 -- the index where the segment of a packet with this header begins
 abbrev pub segment_start : IpRepr → List ℕ → ℕ
 segment_start (Ipv4 v) bytes = ipv4.header_len bytes
 segment_start (Ipv6 v) bytes = 40
 
+-- Pinned by: `worked/route`
 -- the index where the segment of a packet with this header ends
 abbrev pub segment_end : IpRepr → List ℕ → ℕ
 segment_end (Ipv4 v) bytes = ipv4.total_len bytes
 segment_end (Ipv6 v) bytes = ipv6.total_len bytes
 
+-- Pinned by: `worked/route`
 -- the bytes of a packet with this header and another segment
 abbrev pub with_segment : IpRepr → List ℕ → List ℕ → List ℕ
 with_segment header bytes part = with_range bytes (segment_start header bytes) (segment_end header bytes) part
 
+-- Pinned by: `worked/route`
 -- the bytes of a packet with this header, with this maximum segment size and an updated TCP checksum
 abbrev pub clamped : IpRepr → List ℕ → ℕ → List ℕ
 clamped header bytes size = with_segment header bytes (with_max_seg_size (packet_payload header bytes) size)
 
+-- Pinned by: `worked/route`
 -- the frame carries a SYN with a larger maximum segment size, whether or not its TCP checksum is valid
 pub record IsTooLarge (frame : List ℕ) (limit : ℕ) : Type 0 where
   pub link : EthernetRepr
@@ -57,6 +66,7 @@ pub record IsTooLarge (frame : List ℕ) (limit : ℕ) : Type 0 where
   pub carries : CarriesSegment checksum.None frame link header v payload
   pub above : IsAbove limit v
 
+-- Pinned by: `worked/route`
 -- The old frame carries a SYN with a larger maximum segment size. The new one carries the same values with the limit,
 -- and a TCP checksum that was valid is still valid. These are all the bytes.
 pub record IsClamped (old new : List ℕ) (limit : ℕ) : Type 0 where
@@ -65,6 +75,7 @@ pub record IsClamped (old new : List ℕ) (limit : ℕ) : Type 0 where
       → CarriesSegment choice new before.link before.header (with_size limit before.v) before.payload
   pub bytes : new ≡ take 14 old ++ clamped before.header (drop 14 old) limit
 
+-- Pinned by: `worked/route`
 -- 1 is returned, and the maximum segment size is now the limit; or 0, it was not larger, and the frame is unchanged
 abbrev pub Clamps : List ℕ → List ℕ → ℕ → ℤ → Type 0
 Clamps old new limit answer =

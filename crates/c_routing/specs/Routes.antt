@@ -14,18 +14,22 @@ use Rattle.c_routing.specs.declared.routes.Route.{Route}
 
 -- ---- routes
 
+-- Pinned by: `worked/route`
 -- the block of destinations of a route, if it is valid
 abbrev pub destinations : Route → Option IpCidr
 destinations route = block_of route.block
 
+-- Pinned by: `worked/route`
 -- the route at index i of a list; past its end one without a block
 abbrev pub route_at : List Route → ℕ → Route
 route_at routes i = slice_index_or routes i (record { block = record { addr = no_addr; prefix_len = 0 }; next_hop = no_addr; interface = 0 })
 
+-- Pinned by: `worked/route`
 -- the route has a valid block, which contains the address
 abbrev pub Leads : Addr → Route → Type 0
 Leads addr route = IsSomeAnd (destinations route) (λ block. IsSomeAnd (ip_of addr) (IsIn block))
 
+-- Pinned by: `worked/route`
 -- The block of the route at index i contains the address, and has the longest prefix of those that do. Of several
 -- with that length it is the first.
 pub record IsChosen (routes : List Route) (addr : Addr) (i : ℕ) : Type 0 where
@@ -37,12 +41,14 @@ pub record IsChosen (routes : List Route) (addr : Addr) (i : ℕ) : Type 0 where
 
 -- ---- the index
 
+-- Pinned by: proof of `choose_route`
 -- every route has a block, and these nodes are the index of the blocks
 pub record IsIndexOf (routes : List Route) (nodes : List Node) : Type 0 where
   pub blocks : List IpCidr
   pub listed : map destinations routes ≡ map Some blocks
   pub index : IsIndex blocks nodes
 
+-- Pinned by: `judge`
 -- why these routes get no index in `room` nodes
 abbrev pub index_failure : List Route → ℕ → Option Failure
 index_failure routes room =
@@ -51,12 +57,14 @@ index_failure routes room =
     else if nat_le (length routes) room && nat_lt (length routes) (2 ^ 32) then None
     else Some failure.NoRoom
 
+-- Pinned by: `worked/route`
 -- the index is written to the first nodes, and their number is returned; the other nodes are unchanged
 pub record WritesIndex (routes : List Route) (old new : List Node) (answer : ℤ) : Type 0 where
   pub count : answer ≡ pos (length routes)
   pub index : IsIndexOf routes (take (length routes) new)
   pub following : drop (length routes) new ≡ drop (length routes) old
 
+-- Pinned by: `worked/route`
 -- the index is written, or a failure is returned and the nodes are unchanged
 abbrev pub Indexes : List Route → List Node → List Node → ℤ → Type 0
 Indexes routes old new answer =
@@ -64,6 +72,7 @@ Indexes routes old new answer =
 
 -- ---- look-ups
 
+-- Pinned by: `worked/route`
 -- the index of the chosen route is returned; or -1, and no block contains the address
 abbrev pub Chooses : List Route → Addr → ℤ → Type 0
 Chooses routes addr answer =

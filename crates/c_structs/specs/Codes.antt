@@ -9,6 +9,7 @@ use Rattle.c_structs.specs.declared.codes.TransportKind.TheVariants as transport
 use Rattle.c_structs.specs.declared.codes.Verdict.{Verdict}
 use Rattle.c_structs.specs.declared.codes.Verdict.TheVariants as verdict
 
+-- Pinned by: `worked/read`
 -- the number of a reason why a header is rejected (`enum lk_reason`)
 abbrev pub reason_code : Reason → ℕ
 reason_code reason.Read = 0
@@ -21,6 +22,7 @@ reason_code reason.BadFlags = 6
 reason_code reason.BadOptions = 7
 reason_code reason.HeaderCut = 8
 
+-- Pinned by: `worked/read`
 -- the number of a network protocol (`enum lk_network`)
 abbrev pub network_code : NetworkKind → ℕ
 network_code network.None = 0

@@ -6,11 +6,14 @@ use Rattle.wire_ends.specs.IpAddress.{address_bytes}
 use Rattle.wire_ends.specs.Protocol.{number_of}
 use Rattle.wire_ends.specs.declared.ip_protocol.IpProtocol.{IpProtocol}
 
+-- Pinned by: `wire/checksum`
 -- the pseudo-header: source, destination, a 16-bit word with the protocol number in its low byte, the low 16 bits of
--- the length
+-- the length (RFC 768; RFC 8200, section 8.1)
 abbrev pub pseudo_header_bytes : List ℕ → List ℕ → IpProtocol → ℕ → List ℕ
 pseudo_header_bytes src dst protocol len = src ++ dst ++ (0 ∷ number_of protocol ∷ big_bytes 2 len)
 
+-- Pinned by: `calls/udp`, `calls/tcp`
 -- the bytes that a transport checksum covers: the pseudo-header, then the transport packet
+-- (RFC 768; RFC 8200, section 8.1)
 abbrev pub with_pseudo_header : IpAddress → IpAddress → IpProtocol → List ℕ → List ℕ
 with_pseudo_header src dst protocol packet = pseudo_header_bytes (address_bytes src) (address_bytes dst) protocol (length packet) ++ packet

@@ -3,6 +3,7 @@ use Rattle.std.specs.Prelude.{ℕ, ◌+◌, if◌then◌else◌, List, [], ◌�
 use Rattle.std.specs.Option.{option_map, option_or}
 use Rattle.wire_tcp_parts.specs.TcpItems.{Item, is_of, text}
 
+-- Pinned by: `calls/set`
 -- the index of the data of the last option of kind 2: they follow its kind and its length
 abbrev pub segment_size_at : List Item → Option ℕ
 segment_size_at [] = None

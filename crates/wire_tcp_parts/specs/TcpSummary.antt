@@ -4,6 +4,7 @@ use Rattle.wire_tcp_parts.specs.TcpItems.{Item, IsOptionList, first_blocks, sack
 use Rattle.wire_tcp_parts.specs.declared.tcp.summary.OptionValues.{OptionValues}
 use Rattle.wire_tcp_parts.specs.declared.tcp.summary.TcpOptionSummary.{TcpOptionSummary}
 
+-- Pinned by: `calls/walk`, `calls/worked_transport`; too wide: law `one_summary`
 -- the values of an option list: the last option of each kind counts
 abbrev pub summary_of : List Item → TcpOptionSummary
 summary_of items = record {
@@ -14,10 +15,12 @@ summary_of items = record {
   timestamp = timestamp_of items;
 }
 
+-- Pinned by: `calls/walk`, `calls/worked_transport`; too wide: law `one_summary`
 -- the bytes have an option list with these values
 abbrev pub Summarizes : List ℕ → TcpOptionSummary → Type 0
 Summarizes bytes summary = (items : List Item) × (tail : List ℕ) × IsOptionList bytes items tail × (summary ≡ summary_of items)
 
+-- Pinned by: `calls/walk`, `calls/worked_transport`; too wide: law `one_summary`
 -- the bytes have no option list: an option is malformed
 abbrev pub HasNoList : List ℕ → Type 0
 HasNoList bytes = (items : List Item) (tail : List ℕ) → IsOptionList bytes items tail → ⊥
