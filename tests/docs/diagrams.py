@@ -1,5 +1,5 @@
 #!/usr/bin/env python3
-"""Checks the diagrams of docs/DIAGRAMS.md against the definitions and laws of the sources, and against the recorded calls.
+"""Checks the diagrams of docs/audit/DIAGRAMS.md against the definitions and laws of the sources, and the recorded calls.
 
     tests/docs/diagrams.py [TOP]
 
@@ -57,7 +57,7 @@ def differences(heading, crate, name, files, front, word, drawn):
     calls = set(re.findall(r"pub fn ((?:set|clear|fill|update)_\w+)\(&mut self", source))
     lines = read("tests/data/calls/set.call")
     yield from (f"{heading}: no call of {call} is recorded" for call in sorted(calls) if word and f"set {word} {call} " not in lines)
-    setters = {call.removeprefix("set_") for call in calls if call.startswith("set_")}
+    setters = {call[len("set_") :] for call in calls if call.startswith("set_")}
     written = {snake(row) for row, _ in rows}
     yield from (f"{heading}: the law has no row for set_{setter}" for setter in sorted(setters - written))
     getters = {snake(row) for row in re.findall(r"^(?:read_of|address_of) \w+\.(\w+)", specs, re.M)}
@@ -73,7 +73,7 @@ def main(top):
     wrong = [f"there is no drawing of {view[0]}" for view in VIEWS if view[0] not in fields]
     for view in VIEWS:
         wrong += differences(*view, fields.get(view[0], []))
-    print("".join(f"docs/DIAGRAMS.md: {line}\n" for line in wrong), end="")
+    print("".join(f"docs/audit/DIAGRAMS.md: {line}\n" for line in wrong), end="")
     return 1 if wrong else 0
 
 

@@ -1,4 +1,4 @@
-"""The drawings of headers in docs/DIAGRAMS.md."""
+"""The drawings of headers in docs/audit/DIAGRAMS.md."""
 import os
 import re
 
@@ -29,10 +29,11 @@ def drawings(document):
     """The drawing below each heading, as its lines between the first border and the last."""
     for section in document.split("\n## ")[1:]:
         heading, _, text = section.partition("\n")
-        yield heading, [line[4:] for line in text.split("\n") if re.match(r"    [+|]", line)]
+        block = text.partition("```text\n")[2].partition("```")[0]
+        yield heading, [line for line in block.split("\n") if re.match(r"[+|]", line)]
 
 
 def read(top=TOP):
     """The fields of each drawing, by its heading."""
-    with open(f"{top}/docs/DIAGRAMS.md", encoding="utf-8") as file:
+    with open(f"{top}/docs/audit/DIAGRAMS.md", encoding="utf-8") as file:
         return {heading: fields(drawing) for heading, drawing in drawings(file.read())}

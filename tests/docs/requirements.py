@@ -1,5 +1,5 @@
 #!/usr/bin/env python3
-"""Checks docs/REQUIREMENTS.md against the sources: tests/docs/requirements.py [TOP]
+"""Checks docs/audit/REQUIREMENTS.md against the sources: tests/docs/requirements.py [TOP]
 
 Each statement and test that the tables name must exist, and each row must name one. Each wrong body must have its control.
 Also, no library may name what allocates, each public type of the libraries for Rattle must have Debug, and the crates above
@@ -13,9 +13,9 @@ import sys
 
 from sources import Sources
 
-DOCUMENT = "docs/REQUIREMENTS.md"
+DOCUMENT = "docs/audit/REQUIREMENTS.md"
 # The crates and files of test functions, by the first word of their names in the tables.
-TESTS = {name: "test_" + name for name in ("wire", "apps")} | {"frames": "ip_frames"}
+TESTS = {"wire": "test_wire", "apps": "test_apps", "frames": "ip_frames"}
 LIBRARY = re.compile(r"net_base|ip_wire|wire_\w+")
 # The libraries whose types a Rattle program uses: those of `wire_*` through `ip_wire`.
 SHOWN = re.compile(r"net_base|(?:ip|app)_\w+")
@@ -116,7 +116,7 @@ def is_test(name):
     if kind == "calls":
         return os.path.exists(f"tests/data/calls/{rest}.call") and os.path.exists(f"tests/data/calls/{rest}.txt")
     if name.startswith("wrong "):
-        *crate, edit = name.removeprefix("wrong ").split("/")
+        *crate, edit = name[len("wrong ") :].split("/")
         paths = glob.glob(f"crates/{crate[0] if crate else '*'}/edits.txt")
         return any(re.search(f"^name: +{edit}$", read(path), re.M) for path in paths)
     if name.startswith("tests/all/"):

@@ -1,5 +1,5 @@
 #!/usr/bin/env python3
-"""Compares the statements of the sources with their record in docs/statements/.
+"""Compares the statements of the sources with their record in docs/audit/statements/.
 
     tests/docs/statements.py [--write]
 
@@ -19,7 +19,7 @@ from contracts import ReadError
 from sources import Sources, words_of
 
 TOP = os.path.dirname(os.path.dirname(os.path.dirname(os.path.abspath(__file__))))
-FOLDER = "docs/statements"
+FOLDER = "docs/audit/statements"
 RENEW = "tests/docs/statements.py --write"
 # Crates that only have tests.
 LEFT_OUT = {"test_wire", "test_apps"}
