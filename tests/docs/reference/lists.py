@@ -1,0 +1,246 @@
+"""The pages that list: conditions, laws, definitions with their pins, lemmas, and the index."""
+import glob
+import html
+import re
+
+from model import Call, Module
+from pages import code, doc, first_sentence, page, table
+from words import plain
+import definitions
+from contracts import imports, spec_lines
+
+OPERATORS = {"can_add": "+", "can_sub": "-", "can_add_assign": "+="}
+# The headings of the index, and the crates whose types and calls are below them.
+GROUPS = {
+    "net_base": "Errors and checksum choices", "ip_wire": "Whole frames", "wire_ethernet": "Ethernet",
+    "wire_arp": "ARP", "wire_ip": "IP of either version", "wire_ipv4": "IPv4", "wire_ipv6": "IPv6", "wire_udp": "UDP",
+    "wire_tcp": "TCP", "wire_tcp_parts": "TCP options and sequence numbers", "wire_checksum": "Checksums",
+    "wire_addr": "Addresses and CIDR blocks", "wire_ends": "Either IP version: addresses, blocks, endpoints",
+    "wire_icmp": "ICMP", "wire_ndisc": "Neighbor discovery", "app_short": "Short applications", "app_host": "Host",
+    "app_router": "Router", "app_nat": "NAT",
+}
+# What types come first below a heading, by the end of their names.
+ORDER = "Frame", "Packet", "Header", "Repr", "Address", "Cidr"
+SEARCH = """<script>q.hidden=0;q.oninput=()=>{const w=q.value.toLowerCase();calls.open=w.length>1;
+for(const r of calls.querySelectorAll("tr"))r.hidden=!r.textContent.toLowerCase().includes(w)}</script>"""
+CONDITIONS = """<p>A condition is a fact that the caller must prove before the call. If its conditions are met, every
+call of these libraries returns, and is safe on any bytes. <b>A call without a row has no condition.</b></p>
+<ul><li>A getter of a view requires only the bytes that it reads. After <code>check_len</code> returns <code>Ok</code>,
+every getter may be called, until a length field is written.</li>
+<li><code>parse</code> has no condition on the bytes. For UDP and TCP both addresses must have the same IP version.</li>
+<li>A program can test each condition with a length or with a call of the library. The exception is the clock of a
+timestamp, a function of the caller: only the caller knows when it may be called.</li></ul>
+<p>In the tables, <code>bytes</code> are the bytes under a view, and the marks <code>.now</code> and <code>.old</code>
+of the contract are left out. A view and its mutable view share a row. Each call leads to its contract.</p>"""
+PINS = """<p>If a definition and the code have the same mistake, the checker still proves the code. The pins of a
+definition are the laws and tests that would fail then. In the sources they follow <code>Pinned by:</code>.</p>
+<p>A definition can also be too wide: it holds for a wrong result too. Then every body still passes, and a test of a
+body shows nothing. A definition that computes a value has one result, and cannot be too wide. For a statement, these
+pins can follow <code>too wide:</code></p>
+<ul><li>a theorem that excludes a wrong result, such as “no digit is a number”</li>
+<li>a theorem that only one result fits, since the code is proved to return a result</li>
+<li>a law or a call that has the statement as a premise, since a weaker premise would not prove it</li>
+<li>a test of a call that is proved to return <code>true</code> exactly if the statement holds</li></ul>
+<p>The expected values of tests and recorded data do not come from the definitions. They come from the RFCs, from
+smoltcp's own tests, from a program over smoltcp, or were written by hand.</p>"""
+PIN_MEANINGS = (
+    ("law `NAME`", "a law that compares the definition with other definitions"),
+    ("`NAMEWorked`", "theorems on concrete bytes"),
+    ("`NAMEOnce`", "theorems that only one value fits"),
+    ("`wire/NAME`", "tests of the layer"),
+    ("`apps/NAME`", "tests of the applications"),
+    ("`devices`", "tests of the program"),
+    ("`promises/NAME`", "promises across two or more calls"),
+    ("`cases/NAME`", "recorded frames"),
+    ("`calls/KIND`", "recorded calls"),
+    ("`worked/NAME`", "worked calls of the C library"),
+    ("`judge`", "the model of the C header, on random arguments"),
+    ("`example.c`", "a C program and its output"),
+    ("proof of `CALL`", "the contract of another call, which would no longer be proved"),
+    ("X, not if too wide", "X does not notice a definition that accepts too much"),
+    ("too wide: X", "X fails if the definition holds in too many cases"),
+)
+
+
+# ---- conditions and laws
+
+
+def in_table(pages, call, texts):
+    """Conditions as the tables have them, in words and as text: without times, and `bytes` are those under a view."""
+    texts = [re.sub(r"\.(?:now|old)\b", "", plain(text)) for text in texts]
+    return [("".join(pages.words_of(call, text, texts)), f"<code>{pages.linked(text, call)}</code>") for text in texts]
+
+
+def conditions_of(pages, call):
+    """What the caller of a call must prove."""
+    return in_table(pages, call, [clause.text for clause in call.item.clauses if clause.kind == "requires"])
+
+
+def operators(pages, subject):
+    """The conditions of operators, with their signs and places: the part `can_..` of a trait."""
+    for crate, module, block in pages.reference.blocks(subject):
+        for item in block.items:
+            if item.kind == "ghost" and item.name in OPERATORS:
+                text = item.text.partition(" = ")[2][1:-1].strip()
+                sign = OPERATORS[item.name]
+                key = in_table(pages, Call(crate, module, block, item), [text])[0]
+                yield key, sign, f"{subject.page}#traits", sign
+
+
+def conditions(pages):
+    """Each call with a condition, below its type, and their number. Calls with the same condition share a row."""
+    out, count = [CONDITIONS], 0
+    for subject in sorted(pages.reference.subjects.values(), key=lambda one: one.title):
+        found = [(key, call.item.name, url, url) for of, _, call, url in pages.calls if of is subject
+                 for key in conditions_of(pages, call)]
+        found += operators(pages, subject)
+        count += len({call for _, _, _, call in found})
+        rows = {}
+        for key, name, url, _ in found:
+            rows.setdefault(key, {}).setdefault(name, f'<a href="{url}">{code(name)}</a>')
+        if rows:
+            shown = [(*key, ", ".join(links.values())) for key, links in rows.items()]
+            out.append(f'<h2><a href="{subject.page}">{code(subject.title)}</a></h2>')
+            out.append(table(shown, ("Condition", "In the contract", "Calls")))
+    rows = [(*key, pages.law_row(law)[0]) for law in pages.reference.laws for key in conditions_of(pages, law)]
+    out.append("<h2>Laws</h2><p>A law is a call too: its conditions are its premises.</p>")
+    out.append(table(rows, ("Condition", "In the contract", "Law")))
+    return page("Conditions of the calls", "".join(out)), count
+
+
+def laws(pages):
+    out = ["<p>A law is a proved function. After a call of it the prover knows what it gives. Most laws do nothing; one "
+           "that takes a mutable slice makes the calls that it is about.</p>"]
+    for crate in pages.reference.sources.crates.values():
+        found = [law for law in pages.reference.laws if law.crate is crate]
+        if found:
+            out += [f"<h2>{crate.name}</h2>\n", table(map(pages.law_row, found)), *map(pages.law, found)]
+    return page("Laws", "".join(out))
+
+
+# ---- definitions
+
+
+def pin_link(pages, name):
+    """A law as a link, a test as the name of its file, and any other name as code."""
+    if name in pages.law_urls:
+        return f'<a href="{pages.law_urls[name]}">{code(name)}</a>'
+    pattern = definitions.path_of(name)
+    return ", ".join(map(code, sorted(glob.glob(pattern)))) if pattern else code(name)
+
+
+def definition(pages, one, file):
+    """A definition with its pins. `file` is the text of its file."""
+    head = re.search(rf"^(?:[a-z]+ (?:\d+ )?)+{re.escape(one.item.name)}(?=[\s:])", file, re.M)
+    line = file.count("\n", 0, head.start()) + 1
+    text = "\n  ".join(one.item.lines)
+    pins = re.sub(r"`([^`]+)`", lambda found: pin_link(pages, found[1]), html.escape(one.pins, False))
+    pinned = f'<p class="pins"><a href="pins.html">Pinned by</a>: {pins}</p>' if pins else ""
+    return (f'<section id="{html.escape(one.item.name)}"><h3>{code(one.item.name)}</h3>{doc([one.comment])}'
+            f"<pre>{pages.reference.linked(text, one.crate, one.module)}</pre>{pinned}"
+            f'<p class="src">{one.module.file}:{line}</p></section>\n')
+
+
+def definition_pages(pages):
+    """The pages of the modules of definitions: the file name, the page and the definitions of each."""
+    groups = {}
+    for one in pages.reference.definitions.values():
+        groups.setdefault(one.url.partition("#")[0], []).append(one)
+    given_on = {use.path[1:] for use in pages.reference.sources.crates["ip_wire"].specs[("Lib",)].uses}
+    for url, group in groups.items():
+        module, crate, name = group[0].module, group[0].crate, ".".join(group[0].module.path)
+        text = pages.reference.sources.read(module.file)
+        library = "ip_wire" if (crate.name, "specs", *module.path) in given_on else crate.name
+        body = f'{doc(module.docs)}<p class="src">ghost use Rattle.{library}.specs.{name}.{{..}};</p>'
+        body += "".join(definition(pages, one, text) for one in group)
+        yield url, page(f"{name} in {crate.name}", body), group
+
+
+def definition_index(pages, found):
+    out, crate = ["<p>Contracts and laws cite these definitions, which are never run. Bytes are a list of numbers from "
+                  '0 to 255, byte 0 first. Laws and tests <a href="pins.html">pin</a> the definitions.</p><ul>'], ""
+    for url, _, group in found:
+        out.append(f"</ul><h2>{group[0].crate.name}</h2><ul>" if group[0].crate.name != crate else "")
+        crate, module = group[0].crate.name, group[0].module
+        out.append(f'<li><a href="{url}">{".".join(module.path)}</a> {first_sentence(module.docs)}</li>\n')
+    return page("Definitions", "".join(out) + "</ul>")
+
+
+def pin_page(found):
+    """What pins are, and the definitions without one."""
+    notation = [(doc([pin]), code(definitions.path_of(pin.strip("`")) or ""), says) for pin, says in PIN_MEANINGS]
+    rows, count = [], 0
+    for url, _, group in found:
+        names = [f'<a href="{one.url}">{code(one.item.name)}</a>' for one in group if not one.pins]
+        count += len(names)
+        module = f'<a href="{url}">{".".join(group[0].module.path)}</a> in {group[0].crate.name}'
+        rows += [(module, f"{len(names)} of {len(group)}", ", ".join(names))] if names else []
+    without = f"<h2>Without a pin</h2><p>{count} definitions have none.</p>"
+    rows = table(rows, ("Module", "Without a pin", "Definitions"))
+    return page("What pins a definition", PINS + table(notation, ("Pin", "File", "Meaning")) + without + rows)
+
+
+# ---- lemmas
+
+
+def reached():
+    """The files of the modules of proofs that a crate above `ip_wire` reaches, by name."""
+    text = definitions.read("crates/ip_wire/proofs/Lib.antt")
+    listed = re.findall(r"^pub (?:mod|use Rattle\.(\w+)\.proofs\.)\s*(\w+)$", text, re.M)
+    return {module: f"crates/{crate or 'ip_wire'}/proofs/{module}.antt" for crate, module in listed}
+
+
+def lemmas(pages):
+    """The public lemmas of the modules of proofs that a crate above `ip_wire` reaches, and their number."""
+    out, count = ["<p>The prover finds most proofs of a contract. Where it does not, these lemmas help. A crate that "
+                  "lists <code>ip_wire</code> imports each as its module says.</p>"], 0
+    for name, file in sorted(reached().items()):
+        lines = spec_lines(pages.reference.sources.read(file))
+        uses = [line.partition("use ")[2] for _, line, _ in lines if re.match("(pub )?use ", line)]
+        module = Module(file, (name,), lines[0][2], [], [use for text in uses for use in imports(text, True, False)])
+        crate = pages.reference.sources.crates[file.split("/")[1]]
+        found = [(head, docs) for is_inner, line, docs in lines if not is_inner
+                 for head in [re.match(r"(?:abbrev )?pub (\S+) : (.*)", line)] if head]
+        count += len(found)
+        used = f"use Rattle.ip_wire.proofs.{name}.{{..}};"
+        out.append(f'<h2 id="{name}">{name}</h2>{doc(module.docs)}<p class="src">{used} {file}</p>\n' if found else "")
+        out += [f"<section><h3>{code(head[1])}</h3>{doc(docs)}"
+                f"<pre>{pages.reference.linked(head[2], crate, module)}</pre></section>\n" for head, docs in found]
+    return page("Lemmas", "".join(out)), count
+
+
+# ---- the index
+
+
+def rank(subject):
+    """Views first, then values, other types, modules, functions and constants."""
+    title = subject.title
+    place = next((at for at, end in enumerate(ORDER) if title.endswith(end)), len(ORDER))
+    return title.startswith("constants"), title.startswith("functions"), title[0].islower(), place, title
+
+
+def about(subject):
+    """One line about a subject: the names of constants and functions, or what the doc lines of a module or type say."""
+    view, (module, item) = subject.view(), subject.items[0]
+    if not subject.paths and (" of " in subject.title or not module.docs):
+        return ", ".join(code(item.name) for _, item in subject.items)
+    return first_sentence(view.docs if view else item.docs if subject.paths else module.docs)
+
+
+def index(pages):
+    groups = []
+    for crate, heading in GROUPS.items():
+        found = sorted((one for one in pages.reference.subjects.values() if one.crate.name == crate), key=rank)
+        items = [f'<li><a href="{one.page}">{html.escape(one.title)}</a> <small>{about(one)}</small></li>\n'
+                 for one in found]
+        groups.append(f'<div><h2>{heading}</h2><p class="src">{crate}</p><ul>{"".join(items)}</ul></div>')
+    rows = []
+    for _, owner, call, url in sorted(pages.calls, key=lambda one: (one[1], one[2].item.name)):
+        name = f"{owner}::{call.item.name}" if owner else call.item.name
+        rows.append((f'<a href="{url}">{code(name)}</a>', first_sentence(call.item.docs)))
+    return page("ip_wire reference", f'''<p>Every public type and call of the libraries for Rattle, made from the
+sources. <b>needs</b> is a condition that the caller proves, <b>gives</b> is a promise that the caller then knows. Below
+the words is the text of the contract.</p>
+<p><input id="q" placeholder="Search calls" aria-label="Search calls" hidden></p>
+<details id="calls"><summary>All {len(pages.calls)} calls</summary>{table(rows)}</details>
+<div class="groups">{"".join(groups)}</div>{SEARCH}''')
