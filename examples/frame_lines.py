@@ -18,6 +18,14 @@ class Failure(Exception):
     """Ends the converter with this message."""
 
 
+class WriteFailure(Failure):
+    """Standard output cannot be written."""
+
+    def __init__(self, error):
+        super().__init__(f"cannot write: {error.strerror}")
+        self.errno = error.errno
+
+
 class Parser(argparse.ArgumentParser):
     """A command line whose errors are one line."""
 
@@ -45,14 +53,14 @@ class Output:
             self.flush()
 
     def flush(self):
-        rest = "".join(self.lines).encode()
+        rest = "".join(self.lines).encode(errors="surrogateescape")
         self.lines = []
         self.size = 0
         try:
             while rest:
                 rest = rest[os.write(1, rest) :]
         except OSError as error:
-            raise Failure(f"cannot write: {error.strerror}") from None
+            raise WriteFailure(error) from None
 
 
 def report(message):

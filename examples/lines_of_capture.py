@@ -1,4 +1,4 @@
-#!/usr/bin/env -S sh -c 'test ! -d /dev/stdin || { echo "${0##*/}: cannot read: Is a directory" >&2; exit 1; }; exec python3 "$0" "$@"'
+#!/usr/bin/env -S sh -c 'test ! -d /dev/stdin || { echo "${0##*/}: cannot read: Is a directory" >&2; exit 1; }; exec python3 -B "$0" "$@"'
 # Python does not start if standard input is a directory, so the line above tests for that.
 """Prints the Ethernet frames of a capture as lines of hex digits, one frame per line.
 

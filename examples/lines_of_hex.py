@@ -1,4 +1,4 @@
-#!/usr/bin/env -S sh -c 'test ! -d /dev/stdin || { echo "${0##*/}: cannot read: Is a directory" >&2; exit 1; }; exec python3 "$0" "$@"'
+#!/usr/bin/env -S sh -c 'test ! -d /dev/stdin || { echo "${0##*/}: cannot read: Is a directory" >&2; exit 1; }; exec python3 -B "$0" "$@"'
 # Python does not start if standard input is a directory, so the line above tests for that.
 r"""Prints the frames of a hex dump as lines of hex digits, one frame per line.
 
@@ -15,12 +15,14 @@ The rules, for each line:
 
   1. An empty line and a line that begins with # are skipped.
   2. A line that begins with a time, as 17:03:33.759133 or 1795367013.759133, is tcpdump's
-     summary of a packet. It is skipped, and so are the indented lines behind it, up to the
-     dump. With -v they may have offsets of their own, but are indented deeper than the dump.
+     summary of a packet. So are the lines after it, up to the dump: the inner packet of a
+     tunnel has a line without a time. They are skipped, except an unindented line that is a
+     frame by rule 6. With -v tcpdump also dumps parts of a packet. Such a dump is skipped: it
+     is indented deeper, or a line of the summary or another dump follows.
   3. An offset is four to eight hex digits, perhaps after 0x, with a colon or two spaces
-     behind them. Offset 0 begins a frame. Any other offset must be the number of bytes
+     after them. Offset 0 begins a frame. Any other offset must be the number of bytes
      that the frame has so far, and the line continues that frame.
-  4. Behind an offset the bytes end at the first two spaces. What follows is the text
+  4. After an offset the bytes end at the first two spaces. What follows is the text
      column, which has at most one character for each byte. If one line of a frame has it,
      each line has it. The last line of the input has a line end. Without either of them
      the dump was cut off, which is an error.
@@ -32,8 +34,9 @@ The rules, for each line:
   7. A line in none of these forms is an error.
 
 tcpdump -x and -X leave the Ethernet header out: use -xx or -XX, without -t. The number of frames
-that look so is reported on standard error. xxd -p breaks long frames into lines: use xxd -p -c 0.
-The dumps of hexdump and od are not supported.
+that look so is reported on standard error. Of some frames tcpdump also leaves out the last bytes,
+such as padding; lines_of_capture.py reads them from the capture. xxd -p breaks long frames into
+lines: use xxd -p -c 0. The dumps of hexdump and od are not supported.
 """
 import re
 
@@ -41,7 +44,9 @@ import frame_lines
 from frame_lines import Failure, counted
 
 BYTE = "[0-9a-fA-F]{2}"
-SUMMARY = re.compile(r"\s*(\d+  )?(\d{4}-\d\d-\d\d )?(\d\d:\d\d:\d\d|\d+)\.\d+ ", re.ASCII)
+TIME = r"-?(\d{4}-\d\d-\d\d )?(\d\d:\d\d:\d\d|\d+)\.\d+|\[Error converting time\]"
+SUMMARY = re.compile(rf"\s*(\d+  )?({TIME}) |\[Invalid header: ", re.ASCII)
+TCPDUMP_START = re.compile(r"\t0x0+:")
 DEEPER_THAN_THE_DUMP = re.compile(r"(?:\t| {8})[ \t]")
 OFFSET = re.compile(r"(?:0x)?([0-9a-fA-F]{4,8})(?:: *|  +)(?=\S)")
 VIEW = re.compile(r"(\S.*) \((\d+) bytes?\):", re.ASCII)
@@ -62,6 +67,10 @@ class Reader:
         self.continues = False
         # Whether the last line is a part of tcpdump's summary.
         self.in_summary = False
+        # Whether the lines since tcpdump's last time are of its packet. One of them was perhaps
+        # a dump that is only a part of the packet.
+        self.has_summary = False
+        self.lacks_dump = False
         # The frame has lines with offsets, and one of them has a text column.
         self.is_dumped = False
         self.has_text = False
@@ -83,9 +92,11 @@ class Reader:
             self.is_skipped = not view[1].startswith("Frame")
             self.said_len = int(view[2])
             return
-        if not self.continues and self.is_summary(line, offset):
-            self.in_summary = True
+        if not self.continues and not offset and SUMMARY.match(line):
             yield from self.end()
+            self.in_summary = self.has_summary = True
+            return
+        if self.has_summary and self.is_skipped_in_summary(line, text, offset):
             return
         self.in_summary = False
         if offset and not self.continues:
@@ -93,16 +104,29 @@ class Reader:
         else:
             yield from self.read_single(text)
 
-    def is_summary(self, line, offset):
-        if self.in_summary and line[0] in " \t":
-            return not offset or DEEPER_THAN_THE_DUMP.match(line)
-        return not offset and SUMMARY.match(line)
+    def is_skipped_in_summary(self, line, text, offset):
+        """Whether a line belongs to a summary. It ends a dump that is only a part of the packet."""
+        is_indented = line[0] in " \t"
+        if self.in_summary:
+            return not offset or DEEPER_THAN_THE_DUMP.match(line) if is_indented else not (offset or is_single(text))
+        if not offset and is_indented and not is_single(text):
+            self.drop_dump()
+            self.in_summary = True
+        elif TCPDUMP_START.match(line):
+            self.drop_dump()
+        return self.in_summary
+
+    def drop_dump(self):
+        """Forgets a dump of a part of a packet."""
+        self.frame = bytearray()
+        self.is_dumped = self.has_text = False
+        self.lacks_dump = True
 
     def read_dumped(self, offset, text):
         """A line with an offset: its bytes, and perhaps a text column."""
         octets = BYTES_AFTER_OFFSET.match(text)
         if not octets:
-            raise Failure("no bytes in hex behind the offset")
+            raise Failure("no bytes in hex after the offset")
         data = bytes.fromhex(octets[0])
         column = text[octets.end() :].strip()
         if len(column) > len(data):
@@ -130,6 +154,9 @@ class Reader:
     def end(self):
         """The frame so far, if there is one."""
         frame = bytes(self.frame)
+        if self.lacks_dump and not frame:
+            raise Failure("the dump of a packet is missing")
+        self.lacks_dump = self.has_summary = False
         if frame and self.said_len not in (None, len(frame)):
             raise Failure(f"{counted(len(frame), 'byte')}, but {self.said_len} are expected")
         if frame and not self.is_skipped:
@@ -146,6 +173,11 @@ def is_ip_packet(data):
     if len(data) >= 20 and data[0] >> 4 == 4:
         return int.from_bytes(data[2:4], "big") == len(data)
     return len(data) >= 40 and data[0] >> 4 == 6 and 40 + int.from_bytes(data[4:6], "big") == len(data)
+
+
+def is_single(text):
+    """Whether a line is a frame of its own, or a part of one."""
+    return any(form.fullmatch(text) for form in (STREAM, ESCAPED, SEPARATED))
 
 
 def single_bytes(text):

@@ -19,7 +19,7 @@ from captures import (
 TOP = os.path.dirname(os.path.dirname(os.path.dirname(os.path.abspath(__file__))))
 RECORDED = "tests/data/tools"
 
-# The output is bytes or text, the error is a text or a pattern. A line of an error stands here without the
+# The output is bytes or text, and the error a text. Each may be a pattern instead. A line of an error stands here without the
 # name of the tool and its line feed.
 Case = namedtuple("Case", "name command input output error status")
 
@@ -216,6 +216,19 @@ DUMPS = [
     dump("a comment within a frame", "0000  02 00\n# note\n\n0002  ff\n", "0200ff\n"),
     dump("times", "17:03:33.759133 IP x\n\t0x0000:  0200\n 00:00:00.000110 IP x\n    y\n\t0x0000:  ff\n"
          "1795367013.759133 IP\n\t0x0000:  01\n", "0200\nff\n01\n"),
+    dump("a tunnel", "20:21:44.837063 IP 192.0.2.1.4 > 192.0.2.2.4789: VXLAN, vni 100\nIP 192.0.2.3 > 192.0.2.5: ICMP echo request\n"
+         "\t0x0000:  0200\n20:21:44.8 IP x\nARP, Request\n\t0x0000:  ff\n", "0200\nff\n"),
+    dump("odd times", "[Error converting time] IP x\n\t0x0000:  0200\n-00:00:00.000110 IP x\n\t0x0000:  ff\n", "0200\nff\n"),
+    dump("packets of no bytes", "[Invalid header: caplen==0, len==0]\n17:03:33.7 IP x\n\t0x0000:  02\n[Invalid header: caplen==0]\n", "02\n"),
+    dump("a dump of a part", "17:03:33.7 IP x\n\tMsg: y\n\t0x0000:  3c\n\t0x0001:  35  5\n\t0x0000:  0200 0001\n17:03:33.7 IP x\n"
+         "\t0x0000:  ff\n", "02000001\nff\n"),
+    dump("a dump of a part, then more words", "17:03:33.7 IP x\n\tL1 LSP\n\t0x0000:  831b\n\t  lsp-id: 1\n\t  0x0000:  0061\n\t    Area\n"
+         "\t0x0000:  0200\n", "0200\n"),
+    dump("a summary, then a frame in one line", "17:03:33.7 IP x\nIP y\n0200\nff\n", "0200\nff\n"),
+    bad_dump("only a dump of a part", "17:03:33.7 IP x\n\t0x0000:  3c\n\tMsg\n17:03:33.7 IP x\n\t0x0000:  ff\n",
+             "line 4: the dump of a packet is missing"),
+    bad_dump("only a dump of a part, at the end", "17:03:33.7 IP x\n\t0x0000:  3c\n\tMsg\n", "line 3: the dump of a packet is missing"),
+    bad_dump("words after a dump", "17:03:33.7 IP x\n\t0x0000:  02\nIP y\n\t0x0000:  ff\n", "line 3: not a frame in hex"),
     dump("bytes that were put together", "Frame (3 bytes):\n0000  02 00 01   ...\nReassembled IPv4 (2 bytes):\n0000  0a 0b   ..\n\n"
          "0000  02 00 02   ...\n\nFrame (1 byte):\n0000  03   .\nReassembled TCP (1 byte):\n0000  04   .\n", "020001\n020002\n03\n"),
     dump("tcpdump -x", "\t0x0000:  4500 0016 0000 0000 0111 0000 c000 0201\n\t0x0010:  c000 0202 6162\n"
@@ -235,8 +248,8 @@ DUMPS = [
     bad_dump("an offset alone", "0000:\n", "line 1: not a frame in hex"),
     bad_dump("a summary without a time", "IP 192.0.2.1 > 192.0.2.2\n\t0x0000:  0200\n", "line 1: not a frame in hex"),
     bad_dump("a digit of another script", "0\u0662\n", "line 1: not a frame in hex"),
-    bad_dump("an offset, but no bytes", "0000  0200\n0002  zz\n", "line 2: no bytes in hex behind the offset"),
-    bad_dump("an offset, and half a byte", "0000  02 0\n", "line 1: no bytes in hex behind the offset"),
+    bad_dump("an offset, but no bytes", "0000  0200\n0002  zz\n", "line 2: no bytes in hex after the offset"),
+    bad_dump("an offset, and half a byte", "0000  02 0\n", "line 1: no bytes in hex after the offset"),
     bad_dump("a gap", GAP, "line 2: offset 0004, but 0003 is expected"),
     bad_dump("a gap behind a frame", "0000  01\n" + GAP, "line 3: offset 0004, but 0003 is expected", "01\n"),
     bad_dump("no first line", "ff\n0010  02\n", "line 2: offset 0010, but 0000 is expected", "ff\n"),
@@ -393,22 +406,24 @@ def failure(case):
         return f"status {run.returncode}, but {case.status} is expected; standard error is\n{error}"
     if not is_error:
         return f"standard error is\n{error}but expected is\n{case.error}"
-    if run.stdout != output:
-        return f"standard output is\n{run.stdout[:1000]}\nbut expected is\n{output[:1000]}"
+    if not (output.fullmatch(run.stdout) if isinstance(output, re.Pattern) else output == run.stdout):
+        expected = output.pattern if isinstance(output, re.Pattern) else output
+        return f"standard output is\n{run.stdout[:1000]}\nbut expected is\n{expected[:1000]}"
     return None
 
 
-def main():
+def run_cases(cases):
+    """Runs the cases, prints what fails, and returns the exit status."""
     failed = 0
     with ThreadPoolExecutor(os.cpu_count()) as pool:
-        reasons = list(pool.map(failure, CASES))
-    for case, reason in zip(CASES, reasons):
+        reasons = list(pool.map(failure, cases))
+    for case, reason in zip(cases, reasons):
         if reason:
             failed += 1
             print(f"FAILED: {case.name}\n{reason}")
-    print(f"{len(CASES) - failed} passed, {failed} failed")
-    return 1 if failed or not CASES else 0
+    print(f"{len(cases) - failed} passed, {failed} failed")
+    return 1 if failed or not cases else 0
 
 
 if __name__ == "__main__":
-    sys.exit(main())
+    sys.exit(run_cases(CASES))

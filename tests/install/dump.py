@@ -1,0 +1,251 @@
+#!/usr/bin/env python3
+"""Runs ip_dump on a table of cases, as tools.py runs the converters: tests/install/dump.py
+
+The expected output was written by hand and compared with tshark. A case about a failing ip_frames has a stand-in for
+it. All other cases need the built program.
+"""
+import json
+import re
+import shlex
+import sys
+
+from tools import RECORDED, Case, run_cases
+
+ECHO = "examples/echo.pcap"
+ENDS = ["02-00-00-00-00-01", "02-00-00-00-00-02"]
+
+
+def arp(number, dst, target, op):
+    src = ENDS[number - 1]
+    return (f"{number}: EthernetII src={src} dst={dst} type=ARP\n"
+            f"    ARP type=Ethernet+IPv4 src={src}/192.0.2.{number} tgt={target}/192.0.2.{3 - number} op={op}\n")
+
+
+def ipv4_echo(number, ports, side):
+    """A UDP packet over IPv4. Its identification is 0 in the rebuilt frame, so the header checksum differs too."""
+    src, dst = (1, 2) if side == 0 else (2, 1)
+    return (f"{number}: EthernetII src={ENDS[src - 1]} dst={ENDS[dst - 1]} type=IPv4\n"
+            f"    IPv4 src=192.0.2.{src} dst=192.0.2.{dst} proto=UDP\n"
+            f"    UDP src={ports[0]} dst={ports[1]} len=4 (partial checksum correct)\n"
+            "    rebuilt: bytes 18-19 24-25 differ\n")
+
+
+def ipv6_echo(number, ports, side):
+    """A UDP packet over IPv6. Its flow label is 0 in the rebuilt frame."""
+    src, dst = (1, 2) if side == 0 else (2, 1)
+    return (f"{number}: EthernetII src={ENDS[src - 1]} dst={ENDS[dst - 1]} type=IPv6\n"
+            f"    IPv6 src=2001:db8::{src} dst=2001:db8::{dst} nxt_hdr=UDP hop_limit=64\n"
+            f"    UDP src={ports[0]} dst={ports[1]} len=4 (partial checksum correct)\n"
+            "    rebuilt: bytes 15-17 differ\n")
+
+
+def discovery(number, src, dst, address, group):
+    return (f"{number}: EthernetII src={src} dst={dst} type=IPv6\n"
+            f"    IPv6 src={address} dst={group} nxt_hdr=ICMPv6 hop_limit=255\n")
+
+
+ECHO_FRAMES = [
+    arp(1, "ff-ff-ff-ff-ff-ff", "00-00-00-00-00-00", "Request"),
+    arp(2, ENDS[0], ENDS[0], "Reply"),
+    ipv4_echo(3, (41319, 7), 0),
+    ipv4_echo(4, (7, 41319), 1),
+    discovery(5, ENDS[0], "33-33-ff-00-00-02", "2001:db8::1", "ff02::1:ff00:2"),
+    discovery(6, ENDS[1], ENDS[0], "2001:db8::2", "2001:db8::1"),
+    ipv6_echo(7, (41518, 7), 0),
+    ipv6_echo(8, (7, 41518), 1),
+]
+ECHO_CHANGED = "".join(ECHO_FRAMES[number] for number in (2, 3, 6, 7))
+ECHO_TEXT = "".join(ECHO_FRAMES)
+
+
+def counts(*lines):
+    """The output of --stats, whose lines have their numbers in the first eight columns."""
+    return "".join(f"{number:>8} {name}\n" for number, _, name in (line.partition(" ") for line in lines))
+
+
+ECHO_COUNTS = counts("8 frames", "4 changed", "0 only shorter", "0 not hex")
+ECHO_STATS = ECHO_COUNTS + counts("4 UDP (partial checksum correct)", "2 ARP", "2 IPv6 nxt_hdr=ICMPv6")
+# The 11 frames of examples/frames.hex: six IPv4 packets have an identification, which the rebuilt frames do not have.
+FRAMES_STATS = counts("11 frames", "6 changed", "0 only shorter", "0 not hex", "3 TCP (partial checksum correct)",
+                      "2 ARP", "2 IPv4 proto=ICMP", "2 UDP (partial checksum correct)", "1 IPv6 nxt_hdr=ICMPv6",
+                      "1 fragment")
+
+
+def case(words, output="", error="", status=0, data=b"", name=None):
+    """ip_dump with these words. Each line of the error stands here without its name."""
+    lines = error if isinstance(error, re.Pattern) else "".join(f"ip_dump: {line}\n" for line in error.splitlines())
+    return Case(f"ip_dump: {name or words}", f"examples/ip_dump {words}", data, output, lines, status)
+
+
+FORMS = [
+    case(ECHO, ECHO_TEXT),
+    case(f"< {ECHO}", ECHO_TEXT),
+    case(f"- < {ECHO}", ECHO_TEXT),
+    *[case(f"{RECORDED}/{name}", ECHO_TEXT)
+      for name in ("echo.pcapng", "nanoseconds.pcap", "tcpdump_xx.in", "tcpdump_v_XX.in", "xxd.in", "xxd_i.in",
+                   "tshark.in", "wireshark_dump.in", "wireshark_escaped.in", "echo.lines")],
+    case(f"{RECORDED}/interfaces.pcapng", ECHO_TEXT,
+         f"{RECORDED}/interfaces.pcapng: skipped, not Ethernet (link type 101): 1 packet"),
+    case("", "", name="nothing"),
+    case("", "", data=b"# only a comment\n", name="no frame"),
+    Case("ip_dump: a dump in two writes", "(printf 0000; sleep 0.2; printf '  02 00\\n') | examples/ip_dump", b"",
+         "1: EthernetII (wire::Error)\n", "", 0),
+    Case("ip_dump: lines in two writes", "(printf 02; sleep 0.2; printf '00\\n') | examples/ip_dump", b"",
+         "1: EthernetII (wire::Error)\n", "", 0),
+]
+
+OTHER = ENDS[0].replace("-", "") + ENDS[1].replace("-", "")
+PADDED_ARP = OTHER + "0806000108000604000202000000000" + "2c0000202020000000001c0000201" + "00" * 18
+LINE = OTHER + "88b50102"
+LINE_TEXT = f"EthernetII src={ENDS[1]} dst={ENDS[0]} type=0x88b5\n"
+TCP = ("02000000000202000000000108004500003c53bc4000400662fcc0000201c0000202ed7000508003a28d00000000a002faf084320000"
+       "020405b40402080a39d3a625000000000103030a")
+TCP_REBUILT = TCP.replace("53bc", "0000").replace("62fc", "b6b8")
+TCP_OBJECT = {
+    "file": "-", "frame": 1, "length": 74,
+    "layers": [
+        {"layer": "EthernetII", "src": ENDS[0], "dst": ENDS[1], "type": "IPv4",
+         "text": f"EthernetII src={ENDS[0]} dst={ENDS[1]} type=IPv4"},
+        {"layer": "IPv4", "src": "192.0.2.1", "dst": "192.0.2.2", "proto": "TCP",
+         "text": "IPv4 src=192.0.2.1 dst=192.0.2.2 proto=TCP"},
+        {"layer": "TCP", "src": 60784, "dst": 80, "seq": 2147721869, "win": 64240, "len": 0, "mss": 1460, "ws": 10,
+         "tsval": "39d3a625", "tsecr": "00000000", "words": ["syn", "sACK"],
+         "text": "TCP src=60784 dst=80 syn seq=2147721869 win=64240 len=0 mss=1460 sACK tsval 39d3a625 tsecr 00000000 "
+                 "ws=10 (partial checksum correct)"},
+    ],
+    "notes": ["partial checksum correct"], "rebuilt": TCP_REBUILT, "changed": True, "differs": [[18, 19], [24, 25]],
+    "dropped": 0,
+}
+NOT_HEX = {"file": "-", "frame": 2, "length": None, "layers": [], "notes": ["not hex"], "rebuilt": None,
+           "changed": False, "differs": [], "dropped": 0}
+NO_HEADER = {"file": "-", "frame": 1, "length": 1,
+             "layers": [{"layer": "EthernetII", "text": "EthernetII (wire::Error)"}], "notes": ["wire::Error"],
+             "rebuilt": None, "changed": False, "differs": [], "dropped": 0}
+
+
+# A segment with the ranges 3e8 to 7d0 and bb8 to fa0, and a message whose hardware is not Ethernet.
+RANGES = ("020000000002020000000001080045000040000040004006b6b4c0000201c0000202bf0000500123456789abcdefa0100123a5fd0000"
+          "0512000003e8000007d000000bb800000fa00000aa0000ff")
+MESSAGE = OTHER + "0806000608000604000302000000" + "0001c0000201000000000000c0000202"
+# The last layer of each object, without its text.
+LAST_LAYER = r"""python3 -c '
+import json, sys
+for line in sys.stdin:
+    layer = json.loads(line)["layers"][-1]
+    print([value for key, value in sorted(layer.items()) if key != "text"])'"""
+
+
+def objects(*values):
+    return "".join(json.dumps(value) + "\n" for value in values)
+
+
+OPTIONS = [
+    case(f"--changed {ECHO}", ECHO_CHANGED),
+    case(f"--stats {ECHO}", ECHO_STATS),
+    case("--stats examples/frames.hex", FRAMES_STATS),
+    case(f"{ECHO} --stats --changed", ECHO_COUNTS + counts("4 UDP (partial checksum correct)")),
+    case(f"--stats {ECHO} - < examples/frames.hex",
+         counts("19 frames", "10 changed", "0 only shorter", "0 not hex", "6 UDP (partial checksum correct)", "4 ARP",
+                "3 IPv6 nxt_hdr=ICMPv6", "3 TCP (partial checksum correct)", "2 IPv4 proto=ICMP", "1 fragment")),
+    case("--json", objects(TCP_OBJECT, NOT_HEX), data=f"{TCP}\nzz\n".encode(), name="--json"),
+    case("--json", objects(NO_HEADER), data=b"02\r\n", name="--json of no header"),
+    case(f"--json | {LAST_LAYER}", "[2309737967, 80, 'TCP', 4, [[1000, 2000], [3000, 4000]], 19088743, 48896, 291]\n"
+         "[6, 'Unknown(6)', 'ARP', 'Unknown(3)', 4, 'Ipv4', [2, 0, 0, 0, 0, 1], [192, 0, 2, 1], [0, 0, 0, 0, 0, 0], "
+         "[192, 0, 2, 2]]\n",
+         data=f"{RANGES}\n{MESSAGE}\n".encode(), name="--json of ranges and lists"),
+    case("--json --changed", objects(TCP_OBJECT), data=f"{TCP}\nzz\n{LINE}\n".encode(), name="--json --changed"),
+    case("--json -- examples/frames.hex | python3 -c "
+         "'import json, sys; print(len([json.loads(line) for line in sys.stdin]))'", "11\n"),
+    case("--changed", f"1: EthernetII src={ENDS[1]} dst={ENDS[0]} type=ARP\n"
+         f"    ARP type=Ethernet+IPv4 src={ENDS[1]}/192.0.2.2 tgt={ENDS[0]}/192.0.2.1 op=Reply\n"
+         "    rebuilt: 60 bytes become 42\n", data=PADDED_ARP.encode(), name="padding"),
+    case("--stats", counts("3 frames", "1 changed", "1 only shorter", "1 not hex", "1 ARP", "1 EthernetII type=0x88b5"),
+         data=f"{PADDED_ARP}\n{LINE}\n020\n".encode(), name="--stats of three frames"),
+    case("", f"1: {LINE_TEXT}2: not hex\n3: EthernetII (wire::Error)\n4: {LINE_TEXT}5: not hex\n",
+         data=f"{LINE.upper()}\n02 00\n\n{LINE}\r\n{LINE}\r".encode(), name="lines that are not hex"),
+    case("-- --json", "", "--json: cannot read: No such file or directory", 1),
+    case("--help | head -n 1", "Prints the frames of captures and hex dumps, parsed and rebuilt by ip_frames.\n"),
+    *[case(words, "", error, 2) for words, error in [
+        ("--odd", "unknown option --odd; ip_dump --help lists the options"),
+        ("-x", "unknown option -x; ip_dump --help lists the options"),
+        (f"{ECHO} --js", "unknown option --js; ip_dump --help lists the options"),
+        ("--json --stats", "--json and --stats exclude each other"),
+        ("- -", "standard input is named twice"),
+    ]],
+]
+
+MANY = f"yes {LINE} | head -n 5000"
+FILES = [
+    case(f"/no/such {RECORDED}/echo.lines examples", "".join(f"{RECORDED}/echo.lines:{frame}" for frame in ECHO_FRAMES),
+         "/no/such: cannot read: No such file or directory\nexamples: cannot read: Is a directory", 1),
+    case(f"< <(head -c 300 {ECHO})", "".join(ECHO_FRAMES[:4]), "the last frame is cut off", 1),
+    case(f"<(head -c 300 {ECHO}) 2>&1 | tail -n 1 | sed 's/ .*: / /'", "ip_dump: the last frame is cut off\n",
+         status=1),
+    case("", f"1: {LINE_TEXT}", "line 3: not a frame in hex", 1, f"# note\n{LINE}\nzz\n".encode(), "a bad dump"),
+    case("< /dev/null <&-", "", "cannot read: standard input is closed", 1),
+    case(f"{ECHO} >&-", "", "cannot write: standard output is closed", 1),
+    case("< examples", "", "cannot read: Is a directory", 1),
+    case(f"{ECHO} > /dev/full", "", "cannot write: No space left on device", 1),
+    case("--help > /dev/full", "", "cannot write: No space left on device", 1),
+    Case("ip_dump: a reader that ends", f"{MANY} | examples/ip_dump | head -n 1", b"", f"1: {LINE_TEXT}", "", 141),
+    Case("ip_dump: output before the input ends",
+         f"d=$(mktemp -d) && ({MANY}; sleep 9; touch $d/end) | "
+         "examples/ip_dump | (head -n 1; ls $d; cat > /dev/null); rm -r $d", b"", f"1: {LINE_TEXT}", "", 0),
+    Case("ip_dump: output of a slow input",
+         f"d=$(mktemp -d) && (echo {LINE}; sleep 3; echo {LINE}; sleep 9; touch $d/end) | "
+         "examples/ip_dump | (head -n 2; ls $d; cat > /dev/null); rm -r $d", b"",
+         f"1: {LINE_TEXT}2: {LINE_TEXT}", "", 0),
+    Case("ip_dump: an interrupt", f"(echo {LINE}; sleep 12) | timeout --preserve-status -s INT 8 examples/ip_dump", b"",
+         "", "", 130),
+    Case("ip_dump: a name that is no text", "d=$(mktemp -d) && f=$d/$'\\xff' && echo 02 > $f && "
+         "examples/ip_dump $f /dev/null | sed s,$d/,, && "
+         "examples/ip_dump --json $f | cut -d '\"' -f 4 | sed s,$d/,, && rm -r $d", b"",
+         b"\xff:1: EthernetII (wire::Error)\n\\udcff\n", "", 0),
+]
+
+# Prints what ip_dump --stats writes on a terminal while its input is slow.
+ON_A_TERMINAL = """
+import os, subprocess
+ours, theirs = os.openpty()
+lines = subprocess.Popen("MANY; sleep 3; MANY; sleep 1; MANY", shell=True, stdout=subprocess.PIPE)
+subprocess.run(["examples/ip_dump", "--stats"], stdin=lines.stdout, stdout=subprocess.DEVNULL, stderr=theirs)
+print(os.read(ours, 1000))
+""".replace("MANY", MANY)
+PROGRESS = Case("ip_dump: progress on a terminal", f"python3 -c {shlex.quote(ON_A_TERMINAL)}", b"",
+                re.compile(rb"b'(\d+ frames\\r)+\\x1b\[K'\n"), "", 0)
+
+
+def beside(name, program, error="", words=ECHO, output="", status=1):
+    """A copy of ip_dump in a folder $d, with a stand-in for ip_frames, and with no other one on PATH."""
+    python = shlex.quote(sys.executable)
+    command = ("d=$(mktemp -d) && trap 'rm -r $d' EXIT && cp examples/{ip_dump,*.py} $d && mkdir $d/bin && "
+               f"ln -s $(command -v sh) $d/bin/sh && ln -s {python} $d/bin/python3 && "
+               f"{program} && PATH=$d/bin $d/ip_dump {words}")
+    return Case(f"ip_dump: {name}", command, b"", output, re.compile(f"ip_dump: {error}\n" if error else ""), status)
+
+
+def stand_in(text):
+    return f"printf '#!/bin/sh\\n{text}\\n' > $d/ip_frames && chmod +x $d/ip_frames"
+
+
+PROGRAMS = [
+    beside("no ip_frames", "true", "ip_frames was not found"),
+    beside("an old processor", stand_in("exit 127"),
+           r"ip_frames needs a processor with SSE4.2 and POPCNT \(x86-64-v2\)"),
+    beside("ip_frames fails", stand_in("echo ip_frames: out of memory >&2; exit 1"), "ip_frames: out of memory"),
+    beside("ip_frames fails silently", stand_in("exit 3"), "ip_frames ended with status 3"),
+    beside("ip_frames is killed", stand_in("kill -9 $$"), "ip_frames was ended by signal 9"),
+    beside("another program", stand_in("exit 0"), "/.*/ip_frames does not print one block per frame"),
+    beside("ten ranges", stand_in(f"printf \"EthernetII x\\\\nagain {'0100' * 10}\\\\n\\\\n\""),
+           words=f"<(echo {'00' * 20}) --changed",
+           output="1: EthernetII x\n    rebuilt: bytes 0 2 4 6 8 10 12 14 .. differ\n", status=0),
+    beside("no program at all", "printf x > $d/ip_frames && chmod +x $d/ip_frames",
+           "cannot run /.*/ip_frames: Exec format error"),
+]
+
+# The script names the version of the library.
+VERSION = Case("ip_dump: --version", "examples/ip_dump --version | diff - <(echo ip_dump $(c/version))", b"", "", "", 0)
+CASES = [*FORMS, *OPTIONS, *FILES, PROGRESS, *PROGRAMS, VERSION]
+
+if __name__ == "__main__":
+    sys.exit(run_cases(CASES))
