@@ -1,25 +1,25 @@
-# make run        prints the frames of examples/frames.hex, or of FRAMES=file
-# make build      proves the programs and the C library, and builds them (the library in out/lib, its man
-#                 pages in out/man)
-# make install [PREFIX=/usr/local] [DESTDIR=] [LIBDIR=PREFIX/lib]
-#                 installs the C library, its header and man pages, and ip_frames; first builds what is
-#                 not built yet, and installs nothing if a proof fails
-# make uninstall  removes the files that make install put there, with the same variables
-# make quick      runs the tests and the program without proofs
-# make check CRATE=name
-#                 proves one crate, over the libraries that make test proved if they are unchanged
-# make statements renews docs/statements/, the record of all contracts and definitions
-# make size       prints the lines, functions, definitions and proofs of each crate, in Markdown
-# make test       runs the gate and all other tests; the gate's log is out/test.log
-# make compare REFERENCE=program [SEED=n] [LINES=n]
-#                 feeds generated lines to the built program and to another one, and prints the first difference
-# make compare-calls REFERENCE=program [SEED=n] [LINES=n]
-#                 the same for the program that makes one library call per line
-# make bench [REFERENCE_BENCH=library.so] [REFERENCE=program]
-#                 times the library's calls beside hand-written C (bench/floor.c), and the program, and
-#                 prints the tables in Markdown, with a summary; with a reference, also beside a shared
-#                 library with the same calls (bench/reference.rs wraps smoltcp), and beside a program
-#                 for the same lines
+# make run            prints the frames of examples/frames.hex, or of FRAMES=file
+# make build          proves and builds the programs, the C library and its man pages
+# make install        installs them, with [PREFIX=/usr/local] [LIBDIR=PREFIX/lib] [DESTDIR=]
+# make uninstall      removes the files that make install put there, with the same variables
+# make dist           packs them for use without the kit: out/ip_wire-VERSION-x86_64-linux.tar.gz
+# make quick          runs the tests of the libraries and the two programs without proofs
+# make check          proves one crate, CRATE=name, over the libraries that make test proved
+# make test           runs the gate and all other tests; with ANEW=yes it proves again what it kept
+# make new            makes a crate of your own, CRATE=name, with one proved call
+# make reference      writes the reference as HTML pages to out/reference
+# make statements     renews docs/audit/statements/, the record of all contracts and definitions
+# make size           prints the lines, functions, definitions and proofs of each crate
+# make compare        prints the first line that ip_frames and REFERENCE=program print differently
+# make compare-calls  the same for test_calls, which makes one library call per line
+# make bench          times library and program: [REFERENCE_BENCH=library.so] [REFERENCE=program]
+# make help           prints these lines
+#
+# The library is in out/lib, and its man pages are in out/man. A goal that needs a built file first builds it, if it is
+# older than its sources, and ends if a proof fails. make check also proves the libraries that have changed. make dist
+# needs a make test of these sources; its log is out/test.log. make compare gives both programs LINES generated lines,
+# from SEED on. make bench also times hand-written C (bench/floor.c) and a shared library with the same calls
+# (bench/reference.rs wraps smoltcp). It prints tables in Markdown.
 
 FRAMES ?= examples/frames.hex
 CRATE ?=
@@ -29,10 +29,11 @@ SEED ?= 1
 LINES ?= 100000
 PREFIX ?= /usr/local
 DESTDIR ?=
+ANEW ?=
 LIBDIR ?=
 # Recipes read these as environment variables, so that a value may contain any character. On the command line of make a
 # dollar is written twice.
-export FRAMES CRATE REFERENCE_BENCH SEED LINES PREFIX DESTDIR LIBDIR
+export FRAMES CRATE REFERENCE_BENCH SEED LINES PREFIX DESTDIR LIBDIR ANEW
 
 PROGRAM := crates/ip_frames/out/ip_frames
 CALLS := crates/test_calls/out/test_calls
@@ -43,6 +44,9 @@ SHARED := out/lib/libip_wire.so.$(shell c/version)
 PAGES := out/man/man3/ip_wire.3
 FIND_SOURCES := find crates.txt crates -name out -prune -o \( -name '*.rt' -o -name '*.antt' -o -name crates.txt \)
 SOURCES := $(shell $(FIND_SOURCES) -print)
+
+# Without the packages of the machine. It starts in less time, and Ctrl-C meanwhile would print a traceback.
+PYTHON := python3 -S
 
 # fail MESSAGE: ends the recipe with one line
 fail = { echo "make $(or $(MAKECMDGOALS),run): $(1)" >&2; exit 1; }
@@ -55,8 +59,11 @@ $(error make $(MAKECMDGOALS): name a program, as REFERENCE=program)
 endif
 endif
 
-.DELETE_ON_ERROR:
-.PHONY: run build install uninstall quick check statements size test compare compare-calls bench
+# What makes a file leaves none that is not whole, so make need not delete it.
+.PRECIOUS: $(PROGRAM) $(CALLS) $(ARCHIVE) $(LIBRARY) $(SHARED) $(PAGES)
+# rt uses all processors by itself.
+.NOTPARALLEL:
+.PHONY: run build install uninstall dist quick check new test reference statements size compare compare-calls bench help
 
 run:
 	@test -r "$$FRAMES" && ! test -d "$$FRAMES" || $(call fail,cannot read $$FRAMES)
@@ -65,27 +72,43 @@ run:
 	else \
 		$(HAS_RT); \
 		test -x $(PROGRAM) && why='older than its sources' || why='not built yet'; \
-		echo "$$why, so run without proofs (make build proves first)" >&2; \
-		exec < "$$FRAMES"; cd crates/ip_frames && rt try; \
+		echo "$$why, so run without proofs, in half a minute each time (make build proves first)" >&2; \
+		exec < "$$FRAMES" 3>&1; cd crates/ip_frames || exit; \
+		said=$$(rt try 2>&1 >&3); status=$$?; \
+		printf '%s\n' "$$said" | sed '/^interpreter: ended /d; /^checked: ended /d; /^run=ended /d; /^$$/d' >&2; \
+		exit $$status; \
 	fi
+
+help:
+	@sed -n '/^#$$/q; s/^# //p' $(firstword $(MAKEFILE_LIST))
 
 build: $(PROGRAM) $(CALLS) $(LIBRARY) $(SHARED) $(PAGES)
 	@echo $(PROGRAM)
 	@echo $(CALLS)
 	@echo $(LIBRARY)
 
-install: $(PROGRAM) $(LIBRARY) $(SHARED) $(PAGES)
-	@c/install install
+install: install-places $(PROGRAM) $(LIBRARY) $(SHARED) $(PAGES)
+	@c/alone - c/install install
 
-uninstall: $(PAGES)
-	@c/install uninstall
+uninstall: uninstall-places $(PAGES)
+	@c/alone - c/install uninstall
 
-quick check test: ready
+dist: verdicts $(PROGRAM) $(LIBRARY) $(SHARED) $(PAGES)
+	@c/alone - c/dist out
 
-.PHONY: ready
+quick check new test: ready
+
+# What is looked at before anything is built
+.PHONY: ready install-places uninstall-places verdicts
 ready:
 	@$(HAS_RT)
 	@$(CAN_WRITE)
+
+install-places uninstall-places:
+	@c/install $(@:-places=) places
+
+verdicts: ready
+	@tests/gate/verdicts.py > /dev/null
 
 quick:
 	@tests/gate/quick
@@ -94,6 +117,15 @@ check:
 	@test -n "$$CRATE" && test -d "crates/$$CRATE/src" || $(call fail,name a crate of crates.txt as CRATE=name)
 	@tests/gate/proved.py check "$$CRATE"; status=$$?; [ $$status = 3 ] || exit $$status; cd "crates/$$CRATE" && rt check
 
+new:
+	@tools/new-crate "$$CRATE"
+
+reference:
+	@$(CAN_WRITE)
+	@rm -rf out/reference
+	@tests/docs/reference/make.py out/reference
+	@echo out/reference/index.html
+
 statements:
 	@tests/docs/statements.py --write
 
@@ -101,7 +133,7 @@ size:
 	@tests/docs/size.py
 
 test:
-	@tests/all
+	@c/alone - tests/all
 
 compare: $(PROGRAM)
 	@tests/frames/compare.py $(PROGRAM) "$$SEED" "$$LINES" $(REFERENCE)
@@ -119,17 +151,16 @@ $(PROGRAM) $(CALLS) $(ARCHIVE): $(SOURCES)
 	@$(CAN_WRITE)
 	@echo 'proving $(@F)'
 	@mkdir -p $(@D)
-	@cd $(@D)/.. && ../../tests/gate/progress.py ../../out/$(@F).log rt $(COMMAND)
-	@touch $@
+	@cd $(@D)/.. && exec ../../c/alone $@ $(PYTHON) ../../tests/gate/progress.py ../../out/$(@F).log rt $(COMMAND)
 
 $(PAGES): c/pages c/ip_wire.h man/ip_wire.3
 	@$(CAN_WRITE)
-	@c/pages $(@D)
+	@c/alone $@ $(PYTHON) c/pages $(@D)
 
 # The shared library is made with the static one. It is made again if it is missing.
 $(SHARED): | $(LIBRARY)
-	@test -e $@ || c/link $(ARCHIVE) $(@D)
+	@test -e $@ || exec c/alone $@ c/link $(ARCHIVE) $(@D)
 
 $(LIBRARY): $(ARCHIVE) c/link c/version c/cpu.c c/names.c c/ip_wire.h c/ip_wire.map
 	@$(CAN_WRITE)
-	@c/link $(ARCHIVE) $(@D)
+	@c/alone $@ c/link $(ARCHIVE) $(@D)

@@ -45,7 +45,7 @@ static void print_frame(const uint8_t *ptr, size_t len)
     struct lk_frame frame;
     int reason = lk_read_frame(ptr, len, &frame);
     if (reason != LK_READ)
-        printf("the header at octet %zu is rejected: %s\n", frame.payload_offset, lk_reason_name(reason));
+        printf("the header at byte %zu is rejected: %s\n", frame.payload_offset, lk_reason_name(reason));
     else if (frame.transport != LK_NO_TRANSPORT)
         printf("%s from port %u to %u, payload at %zu, checksum right: %d\n", frame.transport == LK_TCP ? "TCP" : "UDP",
                (unsigned)frame.src.port, (unsigned)frame.dst.port, frame.payload_offset, frame.transport_checksum == LK_RIGHT);
@@ -124,7 +124,7 @@ int main(void)
     print_frame(frame, sizeof frame);
     print_frame(frame, 30);
     print_bytes("rebuilt", out, lk_rebuild(frame, sizeof frame, out, sizeof out));
-    print_bytes("room for 37 octets:", out, lk_rebuild(frame, sizeof frame, out, 37));
+    print_bytes("room for 37 bytes:", out, lk_rebuild(frame, sizeof frame, out, 37));
 
     memset(&ip, 0, sizeof ip);
     ip.protocol = 6;
@@ -142,11 +142,11 @@ int main(void)
     printf("in 192.168.0.0/16: %d\n", lk_contains(&site, &client.addr));
     printf("in fe80::1/64: %d\n", lk_contains(&link, &server6.addr));
     print_addr(&mapped);
-    printf("room for 6 octets: %d\n", lk_print_addr(&client6.addr, (char *)out, 6) == LK_NO_ROOM);
+    printf("room for 6 bytes: %d\n", lk_print_addr(&client6.addr, (char *)out, 6) == LK_NO_ROOM);
 
     print_bytes("UDP over IPv4", out, lk_emit_udp(&client, &server, payload, 4, 1, out, sizeof out));
     print_bytes("UDP over IPv6", out, lk_emit_udp(&client6, &server6, payload, 4, 1, out, sizeof out));
-    print_bytes("room for 11 octets:", out, lk_emit_udp(&client, &server, payload, 4, 1, out, 11));
+    print_bytes("room for 11 bytes:", out, lk_emit_udp(&client, &server, payload, 4, 1, out, 11));
 
     struct lk_tcp syn;
     struct lk_tcp_options options;

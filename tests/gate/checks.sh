@@ -44,7 +44,7 @@ end() {
     return "$status"
 }
 
-# The gate proves everything from nothing, in a copy.
+# The gate proves in a copy. It keeps what it proved on this machine; if ANEW is set, it proves everything again.
 copy_the_tree() {
     mkdir "$copy"
     touch "$room/begun"
@@ -63,7 +63,7 @@ build_the_library() {
 # kept in out/proved.
 run_the_gate() {
     local gate built
-    (cd "$copy" && tests/gate/progress.py "$OLDPWD/out/test.log" rt ci)
+    (cd "$copy" && tests/gate/progress.py "$OLDPWD/out/test.log" rt ci ${ANEW:+--anew})
     gate=$?
     ln -s "$PWD/out" "$copy/out"
     rm -rf "$program" "$calls" "$archive" "${library%/*}"
@@ -73,7 +73,7 @@ run_the_gate() {
     done
     # Dated back to the copy, so that make rebuilds them if a source has changed since.
     touch -c -r "$room/begun" "$program" "$calls" "$archive"
-    [ -e "$archive" ] && c/link "$archive" "${library%/*}"
+    [ -e "$archive" ] && c/link "$archive" "${library%/*}" && c/pages out/man/man3
     if [[ $(tail -n 1 out/test.log) =~ ^([0-9]+)\ passed,\ ([0-9]+)\ failed$ ]]; then
         passed=${BASH_REMATCH[1]}
         failed=${BASH_REMATCH[2]}

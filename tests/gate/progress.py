@@ -3,11 +3,20 @@
 
 LOG gets all that the command says. Of a failure its own lines are printed too. The status is the command's.
 Each library that the gate proves is kept at once in the folder `proved` beside LOG. The file `proved/all` says
-that the gate has ended.
+that the gate has ended, and which sources it proved.
+
+A build in the current folder makes out/NAME, and its LOG is NAME.log. out/NAME gets the time when the build began,
+so that make sees a source that has changed since. If the build fails or is stopped, a half-written out/NAME is removed.
 """
+import _signal
+
+# Before all other imports: Ctrl-C in one would print a traceback. The module `signal` itself imports others.
+_signal.signal(_signal.SIGINT, _signal.SIG_DFL)
+
 import os
 import pathlib
 import re
+import signal
 import subprocess
 import sys
 import time
@@ -18,6 +27,7 @@ TOP = os.path.dirname(os.path.dirname(os.path.dirname(os.path.abspath(__file__))
 # What a log says of what was loaded, proved or left for later.
 QUIET = re.compile(r"(statements|library|crate|logic|note|axioms|empty contracts|linked|fn|struct|enum|trait|impl)\b|.*\bnote: |test .* ok$|$")
 SHOWN = 60
+SIGNALS = signal.SIGINT, signal.SIGTERM, signal.SIGHUP
 START = time.time()
 
 
@@ -44,6 +54,10 @@ def begun(crate):
     """When the gate began with a crate, which is when it made the crate's folder out/ anew."""
     made = subprocess.run(["stat", "-c", "%W", f"{TOP}/crates/{crate}/out"], capture_output=True, text=True).stdout
     return max(int(made.strip() or 0), START)
+
+
+def time_of(file):
+    return file.stat().st_mtime_ns if file.exists() else None
 
 
 class Gate:
@@ -84,7 +98,10 @@ class Gate:
             show(self.lines)
 
     def end(self, _):
-        (self.kept / "all").touch()
+        proved.note_all(self.kept)
+
+    def drop(self):
+        """What was proved before the gate was stopped is kept."""
 
 
 class Build:
@@ -92,8 +109,9 @@ class Build:
 
     BEGUN = re.compile(r"rt: chose --jobs \d+ for (\w+)")
 
-    def __init__(self):
+    def __init__(self, built):
         self.names, self.crate, self.since, self.lines = listed(), None, START, []
+        self.built, self.before = built, time_of(built)
 
     def take(self, line):
         begins = self.BEGUN.match(line)
@@ -108,29 +126,66 @@ class Build:
     def end(self, failed):
         if failed:
             show(self.lines)
+            self.drop()
+        elif self.built.exists():
+            os.utime(self.built, (START, START))
+
+    def drop(self):
+        if time_of(self.built) not in (None, self.before):
+            self.built.unlink()
+
+
+class Stopped(Exception):
+    """A signal came."""
+
+
+def stop(number, _):
+    """Stops once: make passes a signal on that its whole group got."""
+    for each in SIGNALS:
+        signal.signal(each, signal.SIG_IGN)
+    raise Stopped(number)
+
+
+def run_logged(command, file, take):
+    """Runs the command, and returns its status. Ctrl-C reaches the command too; another signal is passed on."""
+    how = {"stdin": subprocess.DEVNULL, "stdout": subprocess.PIPE, "stderr": subprocess.STDOUT, "text": True, "errors": "replace"}
+    with subprocess.Popen(command, **how) as run:
+        for number in SIGNALS:
+            signal.signal(number, stop)
+        try:
+            for line in run.stdout:
+                file.write(line)
+                file.flush()
+                take(line.rstrip("\n"))
+        except Stopped as why:
+            if why.args[0] != signal.SIGINT:
+                run.send_signal(why.args[0])
+            raise
+    return run.returncode
 
 
 def main():
     if len(sys.argv) < 3:
         sys.exit(__doc__.strip())
-    log, command = pathlib.Path(sys.argv[1]).absolute(), sys.argv[2:]
+    log, command = pathlib.Path(os.path.abspath(sys.argv[1])), sys.argv[2:]
     log.parent.mkdir(parents=True, exist_ok=True)
-    teller = Gate(log.parent) if command[1:] == ["ci"] else Build()
+    teller = Gate(log.parent) if command[1:2] == ["ci"] else Build(pathlib.Path("out", log.stem))
     say(f"the log is {log}")
-    how = {"stdin": subprocess.DEVNULL, "stdout": subprocess.PIPE, "stderr": subprocess.STDOUT, "text": True, "errors": "replace"}
-    with open(log, "w", encoding="utf-8") as file, subprocess.Popen(command, **how) as run:
-        for line in run.stdout:
-            file.write(line)
-            file.flush()
-            teller.take(line.rstrip("\n"))
-    teller.end(run.returncode)
-    if run.returncode:
+    with open(log, "w", encoding="utf-8") as file:
+        try:
+            status = run_logged(command, file, teller.take)
+        except Stopped:
+            teller.drop()
+            raise
+    teller.end(status)
+    if status:
         say(f"{' '.join(command)} failed: see {log}")
-    sys.exit(abs(run.returncode))
+    sys.exit(abs(status))
 
 
 if __name__ == "__main__":
     try:
         main()
-    except KeyboardInterrupt:
-        sys.exit(130)
+    except Stopped as why:
+        signal.signal(why.args[0], signal.SIG_DFL)
+        os.kill(os.getpid(), why.args[0])

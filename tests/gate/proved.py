@@ -20,13 +20,13 @@ KEPT = TOP / "out" / "proved"
 STALE = 3
 
 
-@functools.cache
+@functools.lru_cache(maxsize=None)
 def kit():
     told = subprocess.run(["rt", "doc"], check=True, capture_output=True, text=True).stdout
     return pathlib.Path(told.strip()).parent
 
 
-@functools.cache
+@functools.lru_cache(maxsize=None)
 def crates():
     """The kinds and the libraries of the crates in crates.txt, by their names."""
     lines = (line.partition("#")[0].partition(":") for line in (TOP / "crates.txt").read_text().splitlines())
@@ -42,7 +42,7 @@ def below(name):
     return found
 
 
-@functools.cache
+@functools.lru_cache(maxsize=None)
 def sum_of(name):
     """A sum of what the proof of a library reads, beside the libraries under it: the kit, its line of crates.txt, its sources."""
     seen = hashlib.sha256((kit() / "KIT-ID").read_bytes() + repr(crates()[name]).encode())
@@ -59,6 +59,19 @@ def keep(name, folder):
     if built.is_dir():
         shutil.copytree(built, folder / f"{name}.rlib")
         (folder / f"{name}.sum").write_text(sum_of(name))
+
+
+def note_all(folder):
+    """Notes in a file that the gate has ended, with the sum of each crate that it proved."""
+    (folder / "all").write_text("".join(f"{name} {sum_of(name)}\n" for name in crates()))
+
+
+def changed():
+    """The crates that are not as the last gate proved them. None if no gate has ended."""
+    if not (KEPT / "all").exists():
+        return None
+    noted = set((KEPT / "all").read_text().splitlines())
+    return [name for name in crates() if f"{name} {sum_of(name)}" not in noted]
 
 
 def stale(crate):
@@ -95,10 +108,9 @@ def check(crate):
 
 
 if __name__ == "__main__":
-    match sys.argv[1:]:
-        case ["rattle", command, crate, *words]:
-            sys.exit(rattle(command, crate, *words))
-        case ["check", crate]:
-            sys.exit(check(crate))
-        case _:
-            sys.exit(__doc__)
+    mode, *words = sys.argv[1:] or [""]
+    if mode == "rattle" and len(words) >= 2:
+        sys.exit(rattle(*words))
+    if mode == "check" and len(words) == 1:
+        sys.exit(check(*words))
+    sys.exit(__doc__)

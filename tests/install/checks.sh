@@ -18,3 +18,18 @@ reject_bad_input() {
         rejects 'bench/run: /no/such is no checkout' bench/run . /no/such &&
         rejects 'lines_of_capture.py: neither a pcap nor a pcapng file' examples/lines_of_capture.py < README.md
 }
+
+# The manual pages, the bindings and the list of changes name the version of c/ip_wire.h.
+names_one_version() {
+    local version page
+    version=$(c/version)
+    for page in man/*; do
+        grep -qx "\.Os ip_wire $version" "$page" || { echo "$page: .Os is not ip_wire $version"; return 1; }
+    done
+    grep -qx "version = \"$version\"" bindings/rust/Cargo.toml && grep -qx "version = \"$version\"" bindings/rust/Cargo.lock &&
+        grep -qF "\"ip_wire >= $version ip_wire < " bindings/rust/build.rs &&
+        grep -qF "needs version ${version%.*} of the C library" bindings/python/_ip_wire.py &&
+        grep -qF "\"libip_wire.so.${version%.*}\"" bindings/python/_ip_wire.py &&
+        grep -qF "the proved C library ip_wire ${version%.*}." bindings/python/ip_wire.py &&
+        [[ $(grep -m 1 '^## ' CHANGELOG.md) == "## $version ("* ]]
+}
