@@ -1,9 +1,9 @@
 /* Prints the flows of a capture, those with most bytes first. Each is one line, as this:
  *
- *     TCP 192.0.2.1:40000 192.0.2.2:443 packets 3+2 octets 306+440 time 0.050000 s rate 119.4 kbit/s
+ *     TCP 192.0.2.1:40000 192.0.2.2:443 packets 3+2 bytes 306+440 time 0.050000 s rate 119.4 kbit/s
  *         rtt 20.000+0.500 ms syn 2,4,8,1,3+2,4,8,1,3 wrong 1
  *
- * The first end sent the first packet. Each sum has what the first end sent, and what the second sent. `octets` has the
+ * The first end sent the first packet. Each sum has what the first end sent, and what the second sent. `bytes` counts the
  * bytes of the frames, captured or not. `rtt` is the shortest time until the second end echoed a timestamp of the first
  * (RFC 7323), and the other way round: a round trip takes their sum. `syn` has the kinds of the TCP options of SYN, in
  * order. `wrong` counts packets with a wrong checksum, without those whose checksum was left to the device. */
@@ -27,7 +27,7 @@ struct part {
 
 /* What one endpoint sent. */
 struct side {
-    uint64_t packets, octets;
+    uint64_t packets, bytes;
     int64_t sent_at, rtt; /* in nanoseconds; `rtt` is -1 if no timestamp was echoed */
     uint32_t tsval;       /* the last one whose echo was waited for */
     uint8_t echo;         /* an `echo` */
@@ -151,13 +151,13 @@ static void count_tcp(struct side *sender, struct side *receiver, const uint8_t 
         count_timestamp(sender, receiver, &options, tcp->flags & LK_ACK, now);
 }
 
-static void count(struct table *table, const struct lk_frame *frame, const uint8_t *ptr, size_t octets, int64_t now)
+static void count(struct table *table, const struct lk_frame *frame, const uint8_t *ptr, size_t len, int64_t now)
 {
     int side;
     struct flow *flow = flow_of(table, frame, now, &side);
     struct side *sender = &flow->sides[side], *receiver = &flow->sides[!side];
     sender->packets++;
-    sender->octets += octets;
+    sender->bytes += len;
     flow->begin = now < flow->begin ? now : flow->begin;
     flow->end = now > flow->end ? now : flow->end;
     flow->wrong += frame->ipv4_checksum == LK_WRONG || frame->transport_checksum == LK_WRONG;
@@ -252,7 +252,7 @@ static int is_allowed(const struct lk_addr *addr)
 
 static uint64_t bytes_of(const struct flow *flow)
 {
-    return flow->sides[0].octets + flow->sides[1].octets;
+    return flow->sides[0].bytes + flow->sides[1].bytes;
 }
 
 static int by_bytes(const void *a, const void *b)
@@ -288,8 +288,8 @@ static void print_flow(const struct flow *flow, int allowed)
             lk_print_addr(&ends[i].addr, text, sizeof text);
         printf(" %s", text);
     }
-    printf(" packets %" PRIu64 "+%" PRIu64 " octets %" PRIu64 "+%" PRIu64, sides[0].packets, sides[1].packets,
-           sides[0].octets, sides[1].octets);
+    printf(" packets %" PRIu64 "+%" PRIu64 " bytes %" PRIu64 "+%" PRIu64, sides[0].packets, sides[1].packets,
+           sides[0].bytes, sides[1].bytes);
     print_times(flow);
     if (sides[0].option_count + sides[1].option_count > 0)
         printf(" syn ");
@@ -333,7 +333,7 @@ static _Noreturn void explain(void)
 {
     fprintf(stderr,
             "usage: flows [-n COUNT] CAPTURE [BLOCK..]\n"
-            "  -n COUNT  print only the COUNT flows with most octets\n"
+            "  -n COUNT  print only the COUNT flows with most bytes\n"
             "  CAPTURE   a file of Ethernet, raw or cooked packets; - is the standard input\n"
             "  BLOCK     a CIDR block, at most %d of them: a flow with an address outside of all of them is marked\n"
             "            \"not allowed\", and the exit status is then 3\n",

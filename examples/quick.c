@@ -17,6 +17,6 @@ int main(void)
     printf("%.*s from %s\n", (int)f.payload_len, (const char *)frame + f.payload_offset, src);
     lk_reply(&f);
     ptrdiff_t len = lk_emit_udp_frame(&f, (const uint8_t *)"pong", 4, out, sizeof out);
-    printf("the reply has %td octets\n", len);
+    printf("the reply has %td bytes\n", len);
     return len < 0;
 }

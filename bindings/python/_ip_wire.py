@@ -159,7 +159,7 @@ def struct(kind: Type[Any], values: Any, **others: Any) -> Any:
             value = addr(value)
         elif isinstance(value, bytes):
             if len(value) != ctypes.sizeof(field):
-                raise ValueError(f"{name} has {ctypes.sizeof(field)} octets, not {len(value)}")
+                raise ValueError(f"{name} has {ctypes.sizeof(field)} bytes, not {len(value)}")
             value = field(*value)
         elif isinstance(value, int):
             value = fits(field, int(value))

@@ -148,7 +148,7 @@ def parse_ethernet(text: str) -> bytes:
 def print_ethernet(octets: bytes) -> str:
     """Prints six pairs of hex digits, joined by '-'."""
     if len(octets) != 6:
-        raise ValueError("an Ethernet address has 6 octets")
+        raise ValueError("an Ethernet address has 6 bytes")
     return c.written(18, library.lk_print_ethernet, c.octets(octets)).decode()
 
 

@@ -20,8 +20,8 @@ var ping = []byte("\x02\x00\x00\x00\x00\x02\x02\x00\x00\x00\x00\x01\x08\x00" + /
 	"\x45\x00\x00\x20\x00\x00\x40\x00\x40\x11\xb6\xc9\xc0\x00\x02\x01\xc0\x00\x02\x02" + // IPv4
 	"\xb5\xe3\x14\xe9\x00\x0c\x00\x00" + "ping") // UDP
 
-// octets returns the pointer and the length of a slice, as the calls take them.
-func octets(slice []byte) (*C.uint8_t, C.size_t) {
+// memory returns the pointer and the length of a slice, as the calls take them.
+func memory(slice []byte) (*C.uint8_t, C.size_t) {
 	if len(slice) == 0 {
 		return nil, 0
 	}
@@ -31,7 +31,7 @@ func octets(slice []byte) (*C.uint8_t, C.size_t) {
 // readUDP parses a frame with a UDP packet, and returns its values and its payload.
 func readUDP(frame []byte) (*C.struct_lk_frame, []byte, error) {
 	var f C.struct_lk_frame
-	ptr, length := octets(frame)
+	ptr, length := memory(frame)
 	if reason := C.lk_read_frame(ptr, length, &f); reason != C.LK_READ {
 		return nil, nil, errors.New(C.GoString(C.lk_reason_name(reason)))
 	}
@@ -46,8 +46,8 @@ func readUDP(frame []byte) (*C.struct_lk_frame, []byte, error) {
 
 // emitUDP writes a whole frame into out, and returns it.
 func emitUDP(headers *C.struct_lk_frame, payload, out []byte) ([]byte, error) {
-	ptr, length := octets(payload)
-	to, room := octets(out)
+	ptr, length := memory(payload)
+	to, room := memory(out)
 	written := C.lk_emit_udp_frame(headers, ptr, length, to, room)
 	if written < 0 {
 		return nil, errors.New(C.GoString(C.lk_failure_name(written)))
@@ -72,5 +72,5 @@ func main() {
 	if err != nil {
 		log.Fatal(err)
 	}
-	fmt.Printf("the reply has %d octets\n", len(reply))
+	fmt.Printf("the reply has %d bytes\n", len(reply))
 }

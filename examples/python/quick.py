@@ -24,7 +24,7 @@ def main():
         sys.exit("quick.py: the frame has no UDP packet")
     print(f"{frame.payload.decode()} from {frame.src}")
     reply = ip_wire.emit_udp(frame.reply(), b"pong")
-    print(f"the reply has {len(reply)} octets")
+    print(f"the reply has {len(reply)} bytes")
 
 
 if __name__ == "__main__":

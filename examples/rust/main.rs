@@ -20,6 +20,6 @@ fn main() -> Result<(), Box<dyn std::error::Error>> {
     let headers = frame.reply().ok_or("there is no reply")?;
     let mut out = [0; 1514];
     let reply = headers.emit_udp(b"pong", &mut out)?;
-    println!("the reply has {} octets", reply.len());
+    println!("the reply has {} bytes", reply.len());
     Ok(())
 }

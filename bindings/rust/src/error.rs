@@ -41,7 +41,7 @@ numbered! {
         NoHopLimit: "the hop limit is 0",
         BadField: "a field of the IP header has a value that this header has no place for",
         TwoControls: "more than one of SYN, FIN and RST is set",
-        OptionsTooLong: "the TCP options have more than 40 octets, or more than 4 SACK ranges",
+        OptionsTooLong: "the TCP options have more than 40 bytes, or more than 4 SACK ranges",
         PayloadTooLong: "the payload is longer than the length field can say",
         NoHeader: "the frame to be rebuilt is shorter than an Ethernet header",
         NoRoom: "the result is longer than the buffer",
@@ -80,7 +80,7 @@ numbered! {
         Wrong: "the checksum is wrong",
         LeftOut: "the sender computed no checksum (UDP over IPv4)",
         LeftToDevice: "the checksum is of the pseudo-header alone (checksum offload)",
-        ChecksumCut: "not all octets that the checksum covers were captured",
+        ChecksumCut: "not all bytes that the checksum covers were captured",
     }
 }
 
