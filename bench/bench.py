@@ -45,7 +45,7 @@ def frame(digits, rng):
     words = [0x4500, 20 + payload, 0x4000, 0x40FD, 0xC0A8, 0x0101, 0xC0A8, 0x0102]
     total = sum(words)
     checksum = 0xFFFF - ((total & 0xFFFF) + (total >> 16))
-    return HEADERS.format(20 + payload, checksum) + rng.randbytes(payload).hex() + "\n"
+    return HEADERS.format(20 + payload, checksum) + bytes(rng.randrange(256) for _ in range(payload)).hex() + "\n"
 
 
 def write_lines(path, digits, lines):

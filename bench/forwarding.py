@@ -15,9 +15,9 @@ import tempfile
 import time
 
 TOP = os.path.dirname(os.path.dirname(os.path.abspath(__file__)))
-sys.path.insert(0, f"{TOP}/tests")
+sys.path[:0] = [f"{TOP}/tests/frames", f"{TOP}/tests/kernel"]
 import packets  # noqa: E402
-from kernel_links import ELSEWHERE, Namespace  # noqa: E402
+from links import ELSEWHERE, Namespace  # noqa: E402
 
 CONFIG = f"""
 address 10.1.0.1/24 dev left
@@ -129,7 +129,7 @@ def main(rounds=5, seconds=1.0):
 
 
 def table(kind, rows, blast, rounds, seconds):
-    print(f"\n| {kind} | octets | frames/s | to copy | processor, own | kernel |\n|---|---|---|---|---|---|")
+    print(f"\n| {kind} | bytes | frames/s | to copy | processor, own | kernel |\n|---|---|---|---|---|---|")
     for size in SIZES:
         results = {name: [] for name in rows}
         for _ in range(rounds):

@@ -88,7 +88,7 @@ class Library:
         self.sides = next(item for item in everything if item.kind == "enum" and item.name == "Side")
         docs = {item.name: " ".join(item.docs) for item in self.items if item.kind == "struct"}
         names = {rust: re.match(r"`(struct lk_\w+)`", doc) for rust, doc in docs.items()}
-        self.types = NUMBERS | STRUCTS | {rust: found.group(1) for rust, found in names.items() if found}
+        self.types = {**NUMBERS, **STRUCTS, **{rust: found.group(1) for rust, found in names.items() if found}}
         constants = (re.fullmatch(r"const (\w+): usize = (\d+)", item.text) for item in everything if item.visibility == "pub")
         self.constants = dict(found.groups() for found in constants if found)
 
@@ -119,7 +119,7 @@ class Library:
         for item in self.items:
             if item.kind == "struct" and "repr(C)" in item.attributes:
                 if item.name not in INNER:
-                    yield self.name(item.name).removeprefix("struct "), self.struct_fields(item)
+                    yield re.sub("^struct ", "", self.name(item.name)), self.struct_fields(item)
 
     def struct_fields(self, item):
         return [field for member in item.members for field in self.fields(member.text)]
@@ -136,7 +136,7 @@ class Library:
             found = re.match(r"`enum (lk_\w+)`", " ".join(item.docs)) if item.kind == "enum" else None
             if found:
                 name = found.group(1)
-                nothing = "NO_CHECKSUM" if name == "lk_verdict" else "NO_" + name.removeprefix("lk_").upper()
+                nothing = "NO_CHECKSUM" if name == "lk_verdict" else "NO_" + name[len("lk_") :].upper()
                 words = [re.sub(r"\B([A-Z])", r"_\1", member.text).upper() for member in item.members]
                 yield name, {"LK_" + (nothing if word == "NONE" else word): number for number, word in enumerate(words)}
 
@@ -154,7 +154,7 @@ class Library:
                 yield from self.inner(plain)
             elif slice_of:
                 yield "const " + self.name(slice_of) + " *", name, ""
-                yield "size_t", name.removesuffix("s") + "_count", ""
+                yield "size_t", re.sub("s$", "", name) + "_count", ""
             else:
                 yield self.name(array or plain), FIELDS.get(name, name), self.constants.get(length, length)
 
@@ -180,7 +180,7 @@ def python_structs(text):
     for variable, name, body in re.findall(r'^(\w+) = _declare\(\s*"(lk_\w+)",(.*?)\)(?:  # fmt: skip)?$', text, re.S | re.M):
         fields = []
         for field, pointer, kind, length in re.findall(r"(\w+)=(POINTER\()?(\w+)\)?(?: \* (\d+))?", body):
-            plain = names.get(kind) or kind.removeprefix("c_") + "_t"
+            plain = names.get(kind) or re.sub("^c_", "", kind) + "_t"
             fields.append((f"const {plain} *" if pointer else plain, field, "6" if kind == "_Hardware" else length))
         names[variable] = f"struct {name}"
         yield name, fields
@@ -209,7 +209,7 @@ def differences(header, sources):
 
 def unknown_names(top, header):
     """The names `lk_..` of the documents that are not in the header. One that ends in `_` is the beginning of some."""
-    for path in [top + "/README.md", *sorted(glob.glob(top + "/docs/*.md"))]:
+    for path in [top + "/README.md", *sorted(glob.glob(top + "/docs/**/*.md", recursive=True))]:
         for name in sorted(set(re.findall(r"\blk_\w*", read(path)))):
             if not re.search(rf"\b{name}" if name.endswith("_") else rf"\b{name}\b", header):
                 yield f"{os.path.relpath(path, top)}: {name} is not in the header"

@@ -7,8 +7,8 @@ The answers come from the blocks that RFCs define, not from a reference program.
 """
 import ipaddress
 import itertools
-import random
 
+from dice import Random
 from record import write_calls
 
 # The classes in the order of an answer, with the blocks that they are.
@@ -83,7 +83,7 @@ def addresses():
     # Every pair of flags and scope.
     for octet in range(256):
         yield from ends(f"ff{octet:02x}::/16")
-    rng = random.Random("class")
+    rng = Random("class")
     for _ in range(RANDOM_LINES):
         yield ipaddress.ip_address(rng.choice([rng.randbytes(4), rng.randbytes(16), b"\xff" + rng.randbytes(15), b"\xfe\x80" + rng.randbytes(14)]))
 

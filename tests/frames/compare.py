@@ -7,7 +7,6 @@ The lines are made of the recorded frames and of random ones, with fields, bytes
 lengths changed. Each seed gives its own lines, the same in each run.
 """
 import io
-import random
 import shutil
 import subprocess
 import sys
@@ -15,6 +14,7 @@ from itertools import zip_longest
 
 import packets
 import record
+from dice import Random
 
 # How many lines a run of a program is given.
 AT_ONCE = 10000
@@ -89,7 +89,7 @@ def random_arp(rng):
 
 
 def corpus(seed, lines):
-    rng = random.Random(seed)
+    rng = Random(seed)
     known = [frame for make in record.FILES for frame in make() if len(frame) < 300]
     odd = list(record.bytes_lines())
     for _ in range(lines):

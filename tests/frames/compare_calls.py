@@ -5,14 +5,14 @@ tests/frames/compare_calls.py PROGRAM SEED LINES REFERENCE [WORD..]
 
 Each seed gives its own lines, the same in each run.
 """
-import random
 
 import compare
 from call_lines import KINDS
+from dice import Random
 
 
 def corpus(seed, lines):
-    rng = random.Random(seed)
+    rng = Random(seed)
     kinds = list(KINDS.values())
     for kind in rng.choices(kinds, [kind.share for kind in kinds], k=lines):
         yield kind.random(rng).encode(errors="surrogateescape")

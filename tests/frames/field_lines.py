@@ -3,17 +3,17 @@
 
     tests/frames/field_lines.py [FOLDER]
 
-The fields are those of the drawings in docs/DIAGRAMS.md. This program reads and writes their bits itself, and computes the
-checksums by RFC 1071 and RFC 1624. So no answer comes from the library. The lines are the same in each run.
+The fields are those of the drawings in docs/audit/DIAGRAMS.md. This program reads and writes their bits itself, and computes
+the checksums by RFC 1071 and RFC 1624. So no answer comes from the library. The lines are the same in each run.
 """
 import ipaddress
 import itertools
-import random
 import sys
 from collections import namedtuple
 
 sys.path.append(f"{sys.path[0]}/../docs")
 import drawings
+from dice import Random
 from packets import pseudo_header, word_sum
 from record import write_calls
 
@@ -92,7 +92,7 @@ class Header:
         self.size = max(sum(places[field.drawn]) for field in self.fields) // 8
         # Without ARP's addresses, whose places are not fixed.
         self.places = {field: place for field, place in places.items() if sum(place) <= 8 * self.size}
-        self.rng = random.Random(name)
+        self.rng = Random(name)
 
     def olds(self):
         """Bytes to write over: all zeros, all ones, and two random ones, with bytes after the header."""
@@ -173,7 +173,7 @@ def arp_olds(rng, hardware_len, protocol_len):
 
 
 def arp_rows():
-    rng = random.Random("arp addresses")
+    rng = Random("arp addresses")
     for lengths in ARP_LENGTHS:
         for old, (name, (first, last)) in itertools.product(arp_olds(rng, *lengths), arp_places(*lengths).items()):
             pattern = bytes.fromhex("5a3c123480f1")

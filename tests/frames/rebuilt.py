@@ -130,7 +130,10 @@ def recorded():
     """The recorded frames that have a header, each with its rebuilt frame."""
     for path in sorted(glob.glob(f"{TOP}/tests/data/cases/*.hex")):
         with open(path, "rb") as lines, open(path[:-3] + "txt", "rb") as texts:
-            for line, text in zip(lines, texts.read().split(b"\n\n")[:-1], strict=True):
+            frames, blocks = lines.readlines(), texts.read().split(b"\n\n")[:-1]
+            if len(frames) != len(blocks):
+                sys.exit(f"{path}: {len(frames)} frames, but {len(blocks)} blocks")
+            for line, text in zip(frames, blocks):
                 *_, last = text.split(b"\n")
                 if last.startswith(b"again "):
                     yield bytes.fromhex(line.decode()), bytes.fromhex(last[6:].decode())

@@ -4,10 +4,10 @@
 Writes tests/data/calls/KIND.call, lines that ask one call each, and beside each KIND.txt, what the program
 REFERENCE (given the WORDs) answers. The lines are the same in each run.
 """
-import random
 import sys
 
 from call_lines import HAND_WRITTEN, KINDS
+from dice import Random
 from record import DATA, record
 
 # How many random lines of each kind are recorded, after those at the edges and before those by hand.
@@ -15,7 +15,7 @@ RANDOM_LINES = 300
 
 
 def lines(name, kind):
-    rng = random.Random(name)
+    rng = Random(name)
     return dict.fromkeys([*kind.edges(), *(kind.random(rng) for _ in range(RANDOM_LINES)), *HAND_WRITTEN.get(name, [])])
 
 

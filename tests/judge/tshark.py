@@ -58,6 +58,13 @@ def second(field):
     return (field.split(",") + [""])[1]
 
 
+def zip_equal(*lists):
+    """As zip, for lists of one length."""
+    if len({len(one) for one in lists}) > 1:
+        raise ValueError(f"lists of different lengths: {[len(one) for one in lists]}")
+    return zip(*lists)
+
+
 def parsed(capture):
     """The rows that tshark prints. A field that is there more often, as in a payload, counts once, but the second
     addresses are those of a quoted packet."""
@@ -67,7 +74,7 @@ def parsed(capture):
     output = subprocess.run(command, check=True, stdout=subprocess.PIPE, stderr=subprocess.DEVNULL, text=True).stdout
     for line in output.splitlines():
         fields = line.split("\t")
-        found = dict(zip(FIELDS, fields, strict=True))
+        found = dict(zip_equal(FIELDS, fields))
         quoted = [second(found["ip." + side]) or second(found["ipv6." + side]) for side in ("src", "dst")]
         yield [*(normal(field.partition(",")[0]) for field in fields), *quoted]
 
@@ -89,11 +96,11 @@ def compare(command, what, **arguments):
             stored = [line.rstrip("\n").split("\t") for line in file]
         found = list(parsed(capture))
     names, quoted = FIELDS + QUOTED, 0
-    for number, (ours, theirs) in enumerate(zip(stored, found, strict=True), 1):
-        row = dict(zip(names, ours, strict=True))
+    for number, (ours, theirs) in enumerate(zip_equal(stored, found), 1):
+        row = dict(zip_equal(names, ours))
         is_icmp = row["icmp.type"] + row["icmpv6.type"] != ""
         quoted += is_icmp and theirs[-1] != ""
-        for name, our, their in zip(names, ours, theirs, strict=True):
+        for name, our, their in zip_equal(names, ours, theirs):
             if is_compared(name, our, their, is_icmp) and not agree(name, our, their):
                 print(f"tests/judge: frame {number} of {what}: {name}: stored {our!r}, tshark finds {their!r}")
                 return False

@@ -1,7 +1,7 @@
 /* Worked calls of texts, addresses, checksums and sequence numbers. */
 #include "worked.h"
 
-/* The text is read, and printed as this one; `member` says whether 10.255.0.1 is in the block. */
+/* Parses `text` as a block, and prints it as `printed`. The block contains 10.255.0.1 if `member`. */
 static int is_block(const char *text, const char *printed, int member)
 {
     struct lk_block block;

@@ -10,7 +10,6 @@ status is 1 if one was wrong, or if the kernel counted an error.
 """
 import ctypes
 import os
-import random
 import select
 import socket
 import subprocess
@@ -19,6 +18,7 @@ import time
 
 import compare
 from client import check, echoed, kernel_counters, kernel_errors, report, tcp_at_once, wrong
+from dice import ANY as random
 from rebuilt import rebuilt, recorded
 
 SERVERS = ((socket.AF_INET, "10.78.0.2"), (socket.AF_INET6, "fd78::2"))

@@ -14,7 +14,6 @@ Prints how many exchanges were right. The status is 1 if one was wrong, or if th
 """
 import fcntl
 import os
-import random
 import select
 import socket
 import struct
@@ -24,6 +23,7 @@ import threading
 import time
 
 import packets
+from dice import ANY as random
 from packets import word_sum
 
 HOST_HARDWARE = bytes.fromhex("02000000aa07")

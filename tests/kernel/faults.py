@@ -11,7 +11,6 @@ Prints how many exchanges were right. The status is 1 if one was wrong, or if a 
 import contextlib
 import io
 import os
-import random
 import shutil
 import signal
 import socket
@@ -23,6 +22,7 @@ import icmp_tests
 import nat as kernel_nat
 import router as kernel_router
 from client import check, report, wrong
+from dice import ANY as random
 from links import LATEST, SELF, Here, Namespace, WideSide, udp_echo
 from nat import INSIDE, OUTSIDE, bound, nat_frames, seen_by
 from router import ARP, MODEL, SERVERS, make_pairs, random_frames, set_host, start_on_pairs, start_on_taps
@@ -228,7 +228,7 @@ def mappings_end(program, env):
 
 def with_fast_clock(router, nat, clock):
     for program, exchange, factor in ((router, neighbours_grow_old, 30), (nat, mappings_end, 200)):
-        exchange(program, os.environ | {"LD_PRELOAD": clock, "FAST_CLOCK": str(factor)})
+        exchange(program, {**os.environ, "LD_PRELOAD": clock, "FAST_CLOCK": str(factor)})
 
 
 # ---- faulty programs
@@ -244,7 +244,7 @@ NAT_FAULTS = ("another outside port", "the checksum of UDP and TCP is kept", "no
 def wrong_with(start, program, fault, exchange, options=()):
     """How much is wrong with this fault."""
     room, there = Namespace(), Namespace()
-    router = start(room, there, program, options=options, env=os.environ | {"FAULT": str(fault)})
+    router = start(room, there, program, options=options, env={**os.environ, "FAULT": str(fault)})
     sides, before = {"left": WideSide(SELF, "left"), "right": WideSide(there.process, "right")}, len(wrong)
     kernel_router.LATEST = 0.5 if fault or options else LATEST
     with contextlib.redirect_stderr(io.StringIO()), contextlib.suppress(SystemExit):

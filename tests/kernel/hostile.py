@@ -15,7 +15,6 @@ PROCESS is the program on this TAP device. The frames are built here, apart from
 something was wrong.
 """
 import os
-import random
 import select
 import signal
 import socket
@@ -31,6 +30,7 @@ import client
 import packets
 from client import (ACK, ECHO, FIN, HOST_HARDWARE, HOSTS, RST, SYN, TCP, TCP_CLIENT, UDP, UDP_CLIENT, check,
                     segment)
+from dice import ANY as random
 from links import ping
 
 FLOOD, AT_ONCE, CORPUS = 60_000, 250, 3000
@@ -248,6 +248,15 @@ def bridge(device, process):
     ends_in_a_flood(wire, process)
 
 
+def has_ended(process):
+    """Whether there is no such process, or only its status."""
+    try:
+        with open(f"/proc/{process}/stat", encoding="utf-8") as file:
+            return file.read().rpartition(")")[2].split()[0] in "ZX"
+    except (FileNotFoundError, ProcessLookupError):
+        return True
+
+
 def ends_in_a_flood(wire, process):
     """Whether the program ends by SIGTERM while two processes send frames as fast as they can."""
     frame = wire.frame(UDP, struct.pack(">HHHH", UDP_CLIENT, ECHO, 8, 0))
@@ -259,11 +268,13 @@ def ends_in_a_flood(wire, process):
             while time.monotonic() < end:
                 send_all(wire, [frame] * 1000)
             os._exit(0)
-    end = os.pidfd_open(int(process))
     time.sleep(0.1)
     os.kill(int(process), signal.SIGTERM)
     os.kill(int(process), signal.SIGCONT)
-    check("SIGTERM in a flood", select.select([end], [], [], 1)[0])
+    end = time.monotonic() + 1
+    while not has_ended(process) and time.monotonic() < end:
+        time.sleep(0.01)
+    check("SIGTERM in a flood", has_ended(process))
     for sender in senders:
         os.kill(sender, signal.SIGKILL)
         os.waitpid(sender, 0)

@@ -9,7 +9,6 @@ tests/kernel/icmp_tests.py nat PROGRAM      through and with examples/nat.c, on 
 Prints how many exchanges were right. The status is 1 if one was wrong, or if a kernel counted an error.
 """
 import functools
-import random
 import re
 import select
 import shutil
@@ -23,6 +22,7 @@ import icmp
 import nat as kernel_nat
 import packets
 from client import CLOSED, ECHO, HOST_HARDWARE, HOSTS, PROBE, UDP, check, echoed, report
+from dice import ANY as random
 from hostile import wires
 from links import READS_MTU, SELF, Here, Namespace, WideSide, no_errors, ping, settle, udp_error
 from nat import INSIDE, OUTSIDE, bound, seen_by
@@ -40,7 +40,7 @@ NO_LIMIT = "sysctl -qw net.ipv4.icmp_ratelimit=0 net.ipv6.icmp.ratelimit=0"
 PROMPT = NO_LIMIT + " net.ipv6.neigh.{name}.delay_first_probe_time=1"
 
 
-@functools.cache
+@functools.lru_cache(maxsize=None)
 def has(tool):
     """Whether there is this program."""
     if shutil.which(tool) is None:

@@ -111,7 +111,7 @@ class Program:
         found = {}
         for line in self.read_lines():
             front, name, rest = re.fullmatch(r"((?:(.*): )?)(.*)\n", line).groups()
-            for part in rest.removesuffix(", gone").split(", "):
+            for part in re.sub(", gone$", "", rest).split(", "):
                 what, value = part.rsplit(" ", 1)
                 found[what if name in (None, "dropped") else f"{name} {what}"] = int(value)
         return found

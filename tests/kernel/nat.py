@@ -10,13 +10,13 @@ The status is 1 if one was wrong, or if a kernel counted an error.
 import ast
 import copy
 import ipaddress
-import random
 import socket
 import sys
 import time
 
 import packets
 import icmp
+from dice import ANY as random
 from forwarded import (DESTINATION, ICMP, SOURCE, Packet, Router, has_ports, is_icmp_error, port_at, port_of, quoted_end, translated,
                        with_header_checksum, with_quoted)
 from client import check, echoed, report, tcp_at_once, tcp_turns, udp_lengths
@@ -120,7 +120,7 @@ class Nat(Router):
         """A host inside that wrote to the outside address is told by this address."""
         is_hairpin = why in self.errors and came_in == "left" and Packet(frame).dst == self.outside
         other = copy.copy(self)
-        other.first = self.first | ({("left", 4): self.outside.packed} if is_hairpin else {})
+        other.first = {**self.first, **({("left", 4): self.outside.packed} if is_hairpin else {})}
         return Router.error(other, frame, came_in, why)
 
     def known_fate(self, frame, came_in):

@@ -1,10 +1,10 @@
 """Frames for a router or a NAT between the sides left and right: recorded, changed and random ones, and ICMP messages."""
 import functools
-import random
 
 import compare
 import icmp
 import packets
+from dice import ANY as random
 from forwarded import with_header_checksum
 from bridge import is_hex
 from links import ELSEWHERE
@@ -16,7 +16,7 @@ HARDWARE = {"left": bytes.fromhex("02000000aa01"), "right": bytes.fromhex("02000
 RANDOM_FRAMES = 6_000
 
 
-@functools.cache
+@functools.lru_cache(maxsize=None)
 def made_frames():
     """Recorded frames, random ones, and changed ones."""
     lines = (line.strip() for line in compare.corpus(random.randrange(1 << 32), RANDOM_FRAMES))

@@ -8,7 +8,6 @@ This process is a host on one side, and a namespace of its own is the host on th
 were right. The status is 1 if one was wrong, or if a kernel counted an error.
 """
 import ipaddress
-import random
 import socket
 import subprocess
 import sys
@@ -16,6 +15,7 @@ import time
 
 import icmp
 import packets
+from dice import ANY as random
 from forwarded import SYN, TCP, Packet, Router, is_valid
 from bridge import in_namespace
 from client import check, echoed, report, tcp_at_once, tcp_turns, udp_lengths, wrong
@@ -323,7 +323,7 @@ def packed_in(block, number):
 
 def three_interfaces(room, program):
     """Packets from each of three interfaces to each of them."""
-    there, hardware = Namespace(), HARDWARE | {"third": bytes.fromhex("02000000aa03")}
+    there, hardware = Namespace(), {**HARDWARE, "third": bytes.fromhex("02000000aa03")}
     names = list(enumerate(hardware, 1))
     config = "".join(f"address 10.{n}.0.1/24 dev {name}\nlladdr {hardware[name].hex(':')} dev {name}\n"
                      f"route 198.18.{n}.0/24 via 10.{n}.0.9 dev {name}\n"
