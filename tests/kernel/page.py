@@ -3,8 +3,8 @@
 
 tests/kernel/page.py PROGRAMS
 
-PROGRAMS is a folder with the programs router and nat. In the page a command follows `#`, and the lines after it are
-among those that it prints; `..` stands for any text.
+PROGRAMS is a folder with the programs router and nat. In the page a command of root follows `#` in a block of a console,
+and the lines after it are among those that it prints; `..` stands for any text or lines. Commands after `$` are not run.
 """
 import os
 import re
@@ -19,14 +19,17 @@ END = "the end of a command"
 
 def commands(path):
     """The commands, each with the lines that the page shows."""
-    found, is_output = [], False
+    found, shown, is_console = [], [], False
     with open(path, encoding="ascii") as page:
-        for line in page:
-            if line.startswith("    # "):
-                found.append((line[6:].rstrip("\n"), []))
-            elif line.startswith("    ") and is_output:
-                found[-1][1].append(line.strip())
-            is_output = line.startswith("    # ") or (line.startswith("    ") and is_output)
+        for line in map(str.rstrip, page):
+            if line.startswith("```"):
+                is_console = line == "```console"
+            elif is_console and line[:2] in ("# ", "$ "):
+                shown = []
+                if line.startswith("# "):
+                    found.append((line[2:], shown))
+            elif is_console and line != "..":
+                shown.append(line.strip())
     return found
 
 
@@ -56,6 +59,8 @@ def main(programs):
         if f"{END} 0" not in lines[begin:]:
             sys.exit(f"tests/kernel: wrong: {command}\nfails: " + "\n".join(lines[begin:]))
     shell.stdin.close()
+    if count == 0:
+        sys.exit("tests/kernel: wrong: docs/ROUTER.md has no command")
     print(f"docs/ROUTER.md: {count} commands, each prints what the page shows")
 
 
