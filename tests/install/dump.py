@@ -21,22 +21,18 @@ def arp(number, dst, target, op):
             f"    ARP type=Ethernet+IPv4 src={src}/192.0.2.{number} tgt={target}/192.0.2.{3 - number} op={op}\n")
 
 
-def ipv4_echo(number, ports, side):
-    """A UDP packet over IPv4. Its identification is 0 in the rebuilt frame, so the header checksum differs too."""
-    src, dst = (1, 2) if side == 0 else (2, 1)
-    return (f"{number}: EthernetII src={ENDS[src - 1]} dst={ENDS[dst - 1]} type=IPv4\n"
-            f"    IPv4 src=192.0.2.{src} dst=192.0.2.{dst} proto=UDP\n"
+def echo(version, number, src, ports):
+    """A UDP packet from 192.0.2.SRC or 2001:db8::SRC to the other host. Rebuilt, it has the identification 0, and so
+    another header checksum, or the flow label 0."""
+    dst = 3 - src
+    header, differing = {
+        4: (f"IPv4 src=192.0.2.{src} dst=192.0.2.{dst} proto=UDP", "18-19 24-25"),
+        6: (f"IPv6 src=2001:db8::{src} dst=2001:db8::{dst} nxt_hdr=UDP hop_limit=64", "15-17"),
+    }[version]
+    return (f"{number}: EthernetII src={ENDS[src - 1]} dst={ENDS[dst - 1]} type=IPv{version}\n"
+            f"    {header}\n"
             f"    UDP src={ports[0]} dst={ports[1]} len=4 (partial checksum correct)\n"
-            "    rebuilt: bytes 18-19 24-25 differ\n")
-
-
-def ipv6_echo(number, ports, side):
-    """A UDP packet over IPv6. Its flow label is 0 in the rebuilt frame."""
-    src, dst = (1, 2) if side == 0 else (2, 1)
-    return (f"{number}: EthernetII src={ENDS[src - 1]} dst={ENDS[dst - 1]} type=IPv6\n"
-            f"    IPv6 src=2001:db8::{src} dst=2001:db8::{dst} nxt_hdr=UDP hop_limit=64\n"
-            f"    UDP src={ports[0]} dst={ports[1]} len=4 (partial checksum correct)\n"
-            "    rebuilt: bytes 15-17 differ\n")
+            f"    rebuilt: bytes {differing} differ\n")
 
 
 def discovery(number, src, dst, address, group):
@@ -47,12 +43,12 @@ def discovery(number, src, dst, address, group):
 ECHO_FRAMES = [
     arp(1, "ff-ff-ff-ff-ff-ff", "00-00-00-00-00-00", "Request"),
     arp(2, ENDS[0], ENDS[0], "Reply"),
-    ipv4_echo(3, (41319, 7), 0),
-    ipv4_echo(4, (7, 41319), 1),
+    echo(4, 3, 1, (41319, 7)),
+    echo(4, 4, 2, (7, 41319)),
     discovery(5, ENDS[0], "33-33-ff-00-00-02", "2001:db8::1", "ff02::1:ff00:2"),
     discovery(6, ENDS[1], ENDS[0], "2001:db8::2", "2001:db8::1"),
-    ipv6_echo(7, (41518, 7), 0),
-    ipv6_echo(8, (7, 41518), 1),
+    echo(6, 7, 1, (41518, 7)),
+    echo(6, 8, 2, (7, 41518)),
 ]
 ECHO_CHANGED = "".join(ECHO_FRAMES[number] for number in (2, 3, 6, 7))
 ECHO_TEXT = "".join(ECHO_FRAMES)

@@ -32,34 +32,8 @@ every getter may be called, until a length field is written.</li>
 timestamp, a function of the caller: only the caller knows when it may be called.</li></ul>
 <p>In the tables, <code>bytes</code> are the bytes under a view, and the marks <code>.now</code> and <code>.old</code>
 of the contract are left out. A view and its mutable view share a row. Each call leads to its contract.</p>"""
-PINS = """<p>If a definition and the code have the same mistake, the checker still proves the code. The pins of a
-definition are the laws and tests that would fail then. In the sources they follow <code>Pinned by:</code>.</p>
-<p>A definition can also be too wide: it holds for a wrong result too. Then every body still passes, and a test of a
-body shows nothing. A definition that computes a value has one result, and cannot be too wide. For a statement, these
-pins can follow <code>too wide:</code></p>
-<ul><li>a theorem that excludes a wrong result, such as “no digit is a number”</li>
-<li>a theorem that only one result fits, since the code is proved to return a result</li>
-<li>a law or a call that has the statement as a premise, since a weaker premise would not prove it</li>
-<li>a test of a call that is proved to return <code>true</code> exactly if the statement holds</li></ul>
-<p>The expected values of tests and recorded data do not come from the definitions. They come from the RFCs, from
-smoltcp's own tests, from a program over smoltcp, or were written by hand.</p>"""
-PIN_MEANINGS = (
-    ("law `NAME`", "a law that compares the definition with other definitions"),
-    ("`NAMEWorked`", "theorems on concrete bytes"),
-    ("`NAMEOnce`", "theorems that only one value fits"),
-    ("`wire/NAME`", "tests of the layer"),
-    ("`apps/NAME`", "tests of the applications"),
-    ("`devices`", "tests of the program"),
-    ("`promises/NAME`", "promises across two or more calls"),
-    ("`cases/NAME`", "recorded frames"),
-    ("`calls/KIND`", "recorded calls"),
-    ("`worked/NAME`", "worked calls of the C library"),
-    ("`judge`", "the model of the C header, on random arguments"),
-    ("`example.c`", "a C program and its output"),
-    ("proof of `CALL`", "the contract of another call, which would no longer be proved"),
-    ("X, not if too wide", "X does not notice a definition that accepts too much"),
-    ("too wide: X", "X fails if the definition holds in too many cases"),
-)
+PINS = """<p>A pin is a law, a proof or a test that fails if a definition and the code have the same mistake. What
+follows <code>too wide:</code> fails if the definition also accepts a wrong result.</p>"""
 
 
 # ---- conditions and laws
@@ -109,8 +83,8 @@ def conditions(pages):
 
 
 def laws(pages):
-    out = ["<p>A law is a proved function. After a call of it the prover knows what it gives. Most laws do nothing; one "
-           "that takes a mutable slice makes the calls that it is about.</p>"]
+    out = ["<p>A law is a proved function. After a call of it the prover knows what it gives. Most laws do nothing; "
+           "one that takes a mutable slice makes the calls that it is about.</p>"]
     for crate in pages.reference.sources.crates.values():
         found = [law for law in pages.reference.laws if law.crate is crate]
         if found:
@@ -166,9 +140,14 @@ def definition_index(pages, found):
     return page("Definitions", "".join(out) + "</ul>")
 
 
+def pin_meanings():
+    """The rows of the table in docs/audit/PINS.md, without its links."""
+    rows = re.findall(r"^\| (?!Pin |---)(.+?) \| (.+?) \|$", definitions.read("docs/audit/PINS.md"), re.M)
+    return [[doc([re.sub(r"\[([^]]*)\]\([^)]*\)", r"\1", cell)]) for cell in row] for row in rows]
+
+
 def pin_page(found):
     """What pins are, and the definitions without one."""
-    notation = [(doc([pin]), code(definitions.path_of(pin.strip("`")) or ""), says) for pin, says in PIN_MEANINGS]
     rows, count = [], 0
     for url, _, group in found:
         names = [f'<a href="{one.url}">{code(one.item.name)}</a>' for one in group if not one.pins]
@@ -177,7 +156,7 @@ def pin_page(found):
         rows += [(module, f"{len(names)} of {len(group)}", ", ".join(names))] if names else []
     without = f"<h2>Without a pin</h2><p>{count} definitions have none.</p>"
     rows = table(rows, ("Module", "Without a pin", "Definitions"))
-    return page("What pins a definition", PINS + table(notation, ("Pin", "File", "Meaning")) + without + rows)
+    return page("What pins a definition", PINS + table(pin_meanings(), ("Pin", "Meaning")) + without + rows)
 
 
 # ---- lemmas
