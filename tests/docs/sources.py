@@ -183,16 +183,15 @@ class Sources:
     def exports(self, crate):
         """The public names of a library with what they mean, by their paths from the root."""
         found = {}
-        waiting = [((), ())]
+        waiting = [((), (crate,))]
         while waiting:
-            shown, path = waiting.pop()
-            module = self.crates[crate].modules[path]
-            for item in module.items:
-                if item.visibility == "pub" and item.kind != "mod":
-                    found[(*shown, item.name)] = (crate, *path, item.name)
-                elif item.visibility == "pub":
-                    waiting.append(((*shown, item.name), (*path, item.name)))
-            for use in module.uses:
-                if use.is_public and not use.is_ghost:
-                    found[(*shown, use.name)] = self.target(crate, path, use.path)
+            shown, (owner, *path) = waiting.pop()
+            module = self.crates[owner].modules[tuple(path)]
+            named = [(it.name, (owner, *path, it.name)) for it in module.items if it.visibility == "pub"]
+            named += [(use.name, self.target(owner, tuple(path), use.path)) for use in module.uses if use.is_public and not use.is_ghost]
+            for name, target in named:
+                if target[0] in self.crates and target[1:] in self.crates[target[0]].modules:
+                    waiting.append(((*shown, name), target))
+                else:
+                    found[(*shown, name)] = target
         return found

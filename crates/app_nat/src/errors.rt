@@ -12,7 +12,7 @@ ghost use Rattle.ip_wire.specs.Ipv4.{HasChecksum, header_len, total_len};
 use crate::packet::parse_whole;
 use crate::translation::{Rejection, Side, rewrite_tcp, rewrite_udp, set_addr};
 use crate::{Ipv4Endpoint, Mapping, Nat, Protocol, inside_of, port_of};
-use ip_wire::laws::bytes_fit;
+use ip_wire::laws::field::bytes_fit;
 use ip_wire::{
     ETHERNET_HEADER_LEN, IPV4_HEADER_LEN, IpAddress, IpProtocol, Ipv4Address, Ipv4Packet, Ipv4Repr,
     TcpPacketMut, UdpPacket,
@@ -37,8 +37,8 @@ struct IcmpError {
     quoted: Quoted,
 }
 
-// Lets an ICMP error come in: if it is for the outside address, and quotes a packet from an outside port with a live mapping,
-// the inside endpoint replaces the source of the quoted packet, and the destination of the error.
+// Lets an ICMP error come in: if it is for the outside address, and quotes a packet from an outside port with a live
+// mapping, the inside endpoint replaces the source of the quoted packet, and the destination of the error.
 // Not inlined, so that its values take no registers while other packets are translated.
 #[inline(never)]
 pub(crate) fn error_in(
@@ -64,8 +64,8 @@ pub(crate) fn error_in(
     Ok(())
 }
 
-// Lets an ICMP error go out: if it quotes a packet to an inside endpoint with a live mapping, the outside address and port
-// replace the destination of the quoted packet, and the outside address the source of the error.
+// Lets an ICMP error go out: if it quotes a packet to an inside endpoint with a live mapping, the outside address and
+// port replace the destination of the quoted packet, and the outside address the source of the error.
 // Not inlined, as `error_in`.
 #[inline(never)]
 pub(crate) fn error_out(
@@ -104,7 +104,8 @@ impl IcmpError {
         }
     }
 
-    // Writes an address and a port into the quoted packet, and the address on the opposite side of the frame's own packet.
+    // Writes an address and a port into the quoted packet, and the address on the opposite side of the frame's own
+    // packet.
     fn rewrite(&self, frame: &mut [u8], side: Side, addr: Ipv4Address, port: u16)
         requires { CarriesError side frame.old self.now.header self.now.quoted }
         ensures { IsErrorTranslated frame.old frame.new side self.now.header self.now.quoted addr port }
@@ -147,8 +148,8 @@ fn is_error(msg_type: u8) -> bool
     matches!(msg_type, 3 | 11 | 12)
 }
 
-// The quoted packet, if its header is whole, and 8 bytes follow it. Its checksum is not verified: some routers lower the hop limit
-// and quote the old checksum.
+// The quoted packet, if its header is whole, and 8 bytes follow it. Its checksum is not verified: some routers lower
+// the hop limit and quote the old checksum.
 fn parse_quoted(bytes: &[u8], side: Side) -> Option<Quoted>
     ensures quotes { IfSome result (Quotes side bytes.now) }
     ensures none { IfNone result ((q : Quoted) → ¬ Quotes side bytes.now q) }
@@ -268,7 +269,8 @@ fn rewrite_quoted(protocol: Protocol, bytes: &mut [u8], side: Side, addr: Ipv4Ad
     set_addr(bytes, side, addr);
 }
 
-// Writes the port or identifier after the header of a quoted packet, and updates the checksum there for it and the address.
+// Writes the port or identifier after the header of a quoted packet, and updates the checksum there for it and the
+// address.
 fn rewrite_end(
     protocol: Protocol,
     bytes: &mut [u8],

@@ -13,7 +13,7 @@ use crate::packet::Packet;
 use crate::translation::{Rejection, Side, translate};
 use crate::{Mapping, Nat};
 use ip_wire::Ipv4Address;
-use ip_wire::laws::bytes_fit;
+use ip_wire::laws::field::bytes_fit;
 
 /// Translating back to the address and port that the packet had restores the
 /// original bytes. The IPv4 checksum and that of a TCP segment must not be 0xffff. No sender

@@ -8,7 +8,7 @@ ghost use Rattle.ip_wire.specs.TcpRepr.{TcpHeader};
 ghost use Rattle.ip_wire.specs.Types.{Ipv4Repr, UdpRepr};
 
 use crate::packet::Packet;
-use ip_wire::laws::bytes_fit;
+use ip_wire::laws::field::bytes_fit;
 use ip_wire::{
     ETHERNET_HEADER_LEN, HeaderFault, IpAddress, IpProtocol, IpRepr, Ipv4Address, Ipv4Packet,
     Ipv4PacketMut, Ipv4Repr, TcpPacketMut, UdpPacketMut, checksum,

@@ -79,7 +79,7 @@ fn take_hop(header: &IpRepr, packet: &mut [u8])
             packet.update_hop_limit(hop_limit);
         }
         IpRepr::Ipv6(value) => {
-            laws::one_value_changes_ipv6(packet, value, hop_limit, value.src_addr);
+            laws::ipv6::one_value_changes_ipv6(packet, value, hop_limit, value.src_addr);
             let mut packet = Ipv6PacketMut::new_unchecked(packet);
             packet.set_hop_limit(hop_limit);
         }

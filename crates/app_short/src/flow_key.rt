@@ -6,7 +6,8 @@ ghost use Rattle.std.specs.declared.cmp.Ordering.TheVariants.{Equal};
 ghost use Rattle.ip_wire.specs.Endpoint.{endpoint_cmp};
 ghost use Rattle.app_short.specs.Flow.{IsOneFlow, flow_between, flow_of, key_of};
 
-use ip_wire::laws::{endpoint_order, order_agrees};
+use ip_wire::laws::addr::order_agrees;
+use ip_wire::laws::ends::endpoint_order;
 use ip_wire::{Carried, Frame, IpEndpoint, IpProtocol, IpRepr, Transport};
 use std::cmp::Ordering;
 

@@ -9,7 +9,7 @@ ghost use Rattle.ip_wire.specs.TcpRepr.{Reads, TcpHeader};
 ghost use Rattle.ip_wire.specs.TcpSegmentSize.{with_max_seg_size};
 ghost use Rattle.ip_wire.specs.declared.IpAddress.{IpAddress};
 
-use ip_wire::laws::one_option_list;
+use ip_wire::laws::tcp_parts::one_option_list;
 use ip_wire::{TcpPacket, TcpPacketMut};
 
 /// Lowers the maximum segment size of a SYN to `limit` and updates the checksum, in place. Returns

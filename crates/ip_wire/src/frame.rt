@@ -52,7 +52,7 @@ impl<'a> Frame<'a> {
     }
 
     /// As `read`, but an error unless everything was parsed: an ARP packet, or an IP packet with its
-    /// transport. Fragments and unknown EtherTypes are errors.
+    /// transport. IPv4 fragments and unknown EtherTypes are errors.
     #[inline(always)]
     pub fn parse(bytes: &'a [u8], caps: &ChecksumCapabilities) -> Result<Frame<'a>>
         ensures value { IsFrame (frame_of caps.now bytes.now) result }

@@ -161,7 +161,7 @@ pub fn equal_bytes_tcp(
     emit_only_tcp(a, src_addr, dst_addr, a_buffer, &caps);
     emit_only_tcp(b, src_addr, dst_addr, b_buffer, &caps);
     if &*a_buffer == &*b_buffer {
-        laws::equal_bytes(*a, *b, *src_addr, *dst_addr);
+        laws::tcp::equal_bytes(*a, *b, *src_addr, *dst_addr);
         true
     } else {
         false

@@ -19,10 +19,10 @@ pub fn print_then_parse_ethernet(
     ensures { IfOk result (λ parsed. parsed ≡ Some address.now) }
 {
     let text = format!(in alloc; "{address}")?;
-    laws::print_reads_back(*address, Ipv4Address::UNSPECIFIED, Ipv6Address::UNSPECIFIED);
+    laws::addr::print_reads_back(*address, Ipv4Address::UNSPECIFIED, Ipv6Address::UNSPECIFIED);
     match EthernetAddress::parse_ascii(text.as_bytes()) {
         Ok(parsed) => {
-            laws::ethernet_one_reading(text.as_bytes(), *address, parsed);
+            laws::addr::ethernet_one_reading(text.as_bytes(), *address, parsed);
             Ok(Some(parsed))
         }
         Err(()) => Ok(None),
@@ -37,10 +37,10 @@ pub fn print_then_parse_ipv4(
     ensures { IfOk result (λ parsed. parsed ≡ Some address.now) }
 {
     let text = format!(in alloc; "{address}")?;
-    laws::print_reads_back(EthernetAddress([0; 6]), *address, Ipv6Address::UNSPECIFIED);
+    laws::addr::print_reads_back(EthernetAddress([0; 6]), *address, Ipv6Address::UNSPECIFIED);
     match Ipv4Address::parse_ascii(text.as_bytes()) {
         Ok(parsed) => {
-            laws::ipv4_one_reading(text.as_bytes(), *address, parsed);
+            laws::addr::ipv4_one_reading(text.as_bytes(), *address, parsed);
             Ok(Some(parsed))
         }
         Err(()) => Ok(None),
@@ -55,10 +55,10 @@ pub fn print_then_parse_ipv6(
     ensures { IfOk result (λ parsed. parsed ≡ Some address.now) }
 {
     let text = format!(in alloc; "{address}")?;
-    laws::print_reads_back(EthernetAddress([0; 6]), Ipv4Address::UNSPECIFIED, *address);
+    laws::addr::print_reads_back(EthernetAddress([0; 6]), Ipv4Address::UNSPECIFIED, *address);
     match Ipv6Address::parse_ascii(text.as_bytes()) {
         Ok(parsed) => {
-            laws::ipv6_one_reading(text.as_bytes(), *address, parsed);
+            laws::addr::ipv6_one_reading(text.as_bytes(), *address, parsed);
             Ok(Some(parsed))
         }
         Err(()) => Ok(None),
@@ -73,7 +73,7 @@ pub fn print_then_parse_ip(
     ensures { IfOk result (λ parsed. parsed ≡ Some address.now) }
 {
     let text = format!(in alloc; "{address}")?;
-    laws::print_reads_back_ip_address(*address);
+    laws::ends::print_reads_back_ip_address(*address);
     match IpAddress::parse_ascii(text.as_bytes()) {
         Ok(parsed) => {
             one_reading_ip(text.as_bytes(), address, &parsed);
@@ -91,10 +91,10 @@ pub fn print_then_parse_ipv4_cidr(
     ensures { IfOk result (λ parsed. parsed ≡ Some block.now) }
 {
     let text = format!(in alloc; "{block}")?;
-    laws::print_reads_back_ipv4_cidr(*block);
+    laws::addr::print_reads_back_ipv4_cidr(*block);
     match Ipv4Cidr::parse_ascii(text.as_bytes()) {
         Ok(parsed) => {
-            laws::ipv4_cidr_one_reading(text.as_bytes(), *block, parsed);
+            laws::addr::ipv4_cidr_one_reading(text.as_bytes(), *block, parsed);
             Ok(Some(parsed))
         }
         Err(()) => Ok(None),
@@ -109,10 +109,10 @@ pub fn print_then_parse_ipv6_cidr(
     ensures { IfOk result (λ parsed. parsed ≡ Some block.now) }
 {
     let text = format!(in alloc; "{block}")?;
-    laws::print_reads_back_ipv6_cidr(*block);
+    laws::addr::print_reads_back_ipv6_cidr(*block);
     match Ipv6Cidr::parse_ascii(text.as_bytes()) {
         Ok(parsed) => {
-            laws::ipv6_cidr_one_reading(text.as_bytes(), *block, parsed);
+            laws::addr::ipv6_cidr_one_reading(text.as_bytes(), *block, parsed);
             Ok(Some(parsed))
         }
         Err(()) => Ok(None),
@@ -124,7 +124,7 @@ pub fn print_then_parse_ip_cidr(alloc: Global, block: &IpCidr) -> Result<Option<
     ensures { IfOk result (λ parsed. parsed ≡ Some block.now) }
 {
     let text = format!(in alloc; "{block}")?;
-    laws::print_reads_back_ip_cidr(*block);
+    laws::ends::print_reads_back_ip_cidr(*block);
     match IpCidr::parse_ascii(text.as_bytes()) {
         Ok(parsed) => {
             one_reading_ip_cidr(text.as_bytes(), block, &parsed);
@@ -142,7 +142,7 @@ pub fn print_then_parse_ip_endpoint(
     ensures { IfOk result (λ parsed. parsed ≡ Some endpoint.now) }
 {
     let text = format!(in alloc; "{endpoint}")?;
-    laws::print_reads_back_ip_endpoint(*endpoint);
+    laws::ends::print_reads_back_ip_endpoint(*endpoint);
     match IpEndpoint::parse_ascii(text.as_bytes()) {
         Ok(parsed) => {
             one_reading_ip_endpoint(text.as_bytes(), endpoint, &parsed);
@@ -156,19 +156,19 @@ pub fn print_then_parse_ip_endpoint(
 fn one_reading_ip(text: &[u8], a: &IpAddress, b: &IpAddress)
     ensures { ReadsAddress text.now a.now → ReadsAddress text.now b.now → a.now ≡ b.now }
 {
-    laws::ip_address_one_reading(text, *a, *b);
+    laws::ends::ip_address_one_reading(text, *a, *b);
 }
 
 // No text parses as two blocks.
 fn one_reading_ip_cidr(text: &[u8], a: &IpCidr, b: &IpCidr)
     ensures { ReadsCidr text.now a.now → ReadsCidr text.now b.now → a.now ≡ b.now }
 {
-    laws::ip_cidr_one_reading(text, *a, *b);
+    laws::ends::ip_cidr_one_reading(text, *a, *b);
 }
 
 // No text parses as two endpoints.
 fn one_reading_ip_endpoint(text: &[u8], a: &IpEndpoint, b: &IpEndpoint)
     ensures { ReadsEndpoint text.now a.now → ReadsEndpoint text.now b.now → a.now ≡ b.now }
 {
-    laws::ip_endpoint_one_reading(text, *a, *b);
+    laws::ends::ip_endpoint_one_reading(text, *a, *b);
 }

@@ -43,7 +43,7 @@ pub fn emit_then_parse_udp(
     ensures payload { udp.payload_of buffer.new ≡ payload.now }
 {
     let len = UDP_HEADER_LEN + payload.len();
-    laws::emit_reads_back_udp(
+    laws::udp::emit_reads_back_udp(
         value,
         *src_addr,
         *dst_addr,
@@ -67,7 +67,7 @@ pub fn emit_then_parse_arp(value: ArpRepr, buffer: &mut [u8]) -> Result<ArpRepr>
     ensures value { result ≡ Ok (arp.normal value) }
     ensures written { buffer.new ≡ arp.bytes_of value ++ drop 28 buffer.old }
 {
-    laws::emit_reads_back_arp(value, &buffer[28..]);
+    laws::arp::emit_reads_back_arp(value, &buffer[28..]);
     emit_arp(&value, buffer);
     ArpRepr::parse(&ArpPacket::new_unchecked(buffer))
 }
@@ -78,7 +78,7 @@ pub fn emit_then_parse_ethernet(value: EthernetRepr, buffer: &mut [u8]) -> Resul
     ensures value { result ≡ Ok (ethernet.normal value) }
     ensures written { buffer.new ≡ ethernet.bytes_of value ++ drop ETHERNET_HEADER_LEN buffer.old }
 {
-    laws::emit_reads_back_ethernet(value, &buffer[ETHERNET_HEADER_LEN..]);
+    laws::ethernet::emit_reads_back_ethernet(value, &buffer[ETHERNET_HEADER_LEN..]);
     emit_ethernet(&value, buffer);
     EthernetRepr::parse(&EthernetFrame::new_unchecked(buffer))
 }
@@ -98,7 +98,7 @@ pub fn emit_then_parse_ipv4(
     ensures written { buffer.new ≡ ipv4.bytes_of value (computes sent.now.ipv4) ++ drop IPV4_HEADER_LEN buffer.old }
 {
     let rest = &buffer[IPV4_HEADER_LEN..];
-    laws::emit_reads_back_ipv4(value, rest, sent.ipv4.tx(), received.ipv4.rx());
+    laws::ipv4::emit_reads_back_ipv4(value, rest, sent.ipv4.tx(), received.ipv4.rx());
     emit_ipv4(&value, buffer, sent);
     Ipv4Repr::parse(&Ipv4Packet::new_unchecked(buffer), received)
 }
@@ -110,7 +110,7 @@ pub fn emit_then_parse_ipv6(value: Ipv6Repr, buffer: &mut [u8]) -> Result<Ipv6Re
     ensures value { result ≡ Ok (ipv6.normal value) }
     ensures written { buffer.new ≡ ipv6.bytes_of value ++ drop IPV6_HEADER_LEN buffer.old }
 {
-    laws::emit_reads_back_ipv6(value, &buffer[IPV6_HEADER_LEN..]);
+    laws::ipv6::emit_reads_back_ipv6(value, &buffer[IPV6_HEADER_LEN..]);
     emit_ipv6(&value, buffer);
     Ipv6Repr::parse(&Ipv6Packet::new_unchecked(buffer))
 }
@@ -124,7 +124,7 @@ pub fn emit_then_parse_ipv6_fragment(
     ensures value { result ≡ Ok (fragment.normal value) }
     ensures written { buffer.new ≡ fragment.bytes_of value ++ drop 6 buffer.old }
 {
-    laws::emit_reads_back_ipv6_fragment(value, &buffer[6..]);
+    laws::ipv6::emit_reads_back_ipv6_fragment(value, &buffer[6..]);
     emit_ipv6_fragment(&value, buffer);
     Ipv6FragmentRepr::parse(&Ipv6FragmentHeader::new_unchecked(buffer))
 }
@@ -144,7 +144,7 @@ pub fn emit_then_parse_ip(
     ensures payload { drop (ip.header_len_of value) buffer.new ≡ drop (ip.header_len_of value) buffer.old }
 {
     value.emit(buffer, sent);
-    laws::emit_reads_back_ip(
+    laws::ip::emit_reads_back_ip(
         value,
         &buffer[value.header_len()..],
         sent.ipv4.tx(),
@@ -173,14 +173,14 @@ pub fn emit_then_parse_tcp<'b>(
     ensures payload { IsOkAnd result (λ v. v.payload.now ≡ value.now.payload.now) }
 {
     emit_only_tcp(value, src_addr, dst_addr, buffer, sent);
-    laws::emit_reads_back_tcp(
+    laws::tcp::emit_reads_back_tcp(
         *value,
         *src_addr,
         *dst_addr,
         sent.tcp.tx(),
         received.tcp.rx(),
     );
-    laws::one_reading_tcp(buffer, *src_addr, *dst_addr, received.tcp.rx());
+    laws::tcp::one_reading_tcp(buffer, *src_addr, *dst_addr, received.tcp.rx());
     TcpRepr::parse(
         &TcpPacket::new_unchecked(buffer),
         src_addr,

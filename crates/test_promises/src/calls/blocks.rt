@@ -16,7 +16,7 @@ pub fn block_by_mask(
 {
     let first = Ipv6Address::from_octets(a.mask(prefix_len));
     let second = Ipv6Address::from_octets(b.mask(prefix_len));
-    laws::one_masked_address(*b, first, second);
+    laws::addr::one_masked_address(*b, first, second);
     let block = Ipv6Cidr::new(*a, prefix_len);
     (block.contains_addr(b), first, second)
 }

@@ -109,7 +109,7 @@ pub fn scope_by_class(address: &Ipv6Address) -> (Ipv6MulticastScope, Ipv6Multica
 {
     let scope = address.x_multicast_scope();
     let by_class = scope_of_class(address);
-    laws::one_scope(*address, scope, by_class);
+    laws::addr::one_scope(*address, scope, by_class);
     (scope, by_class)
 }
 

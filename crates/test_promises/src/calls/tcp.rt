@@ -56,7 +56,7 @@ pub fn options_of_parse<'a>(
     requires family { version_of src_addr.now ≡ version_of dst_addr.now }
     ensures { IfOk result.0 (λ v. IsOkAnd result.1 (λ s. (v.max_seg_size ≡ s.max_segment_size) × (v.sack_permitted ≡ s.sack_permitted) × (v.sack_ranges ≡ s.sack_ranges))) }
 {
-    laws::one_option_list(packet.options());
+    laws::tcp_parts::one_option_list(packet.options());
     let parsed = TcpRepr::parse(packet, src_addr, dst_addr, caps);
     (parsed, packet.options_summary())
 }

@@ -1,6 +1,6 @@
 //! Types with an order, each with values in ascending order.
 
-use ip_wire::laws::order_agrees;
+use ip_wire::laws::addr::order_agrees;
 use ip_wire::{
     ArpHardware, ArpOperation, EthernetAddress, EthernetProtocol, IpAddress, IpCidr, IpEndpoint,
     IpListenEndpoint, IpProtocol, IpVersion, Ipv4Address, Ipv4Cidr, Ipv4FragKey, Ipv6Address,
