@@ -216,3 +216,13 @@ later_table nat mappings now later before table = record {
   placed = λ b q e mapped. table.placed b q e (earlier nat mappings now later b q e before mapped);
   apart = λ b q r e first second. table.apart b q r e (earlier nat mappings now later b q e before first) (earlier nat mappings now later b r e before second);
 }
+
+-- the port of a live mapping is opened for no other inside endpoint
+pub opened_apart : (nat : Nat) (old new newer : List Mapping) (now : ℕ) (event next : Event) (inside remote other sender : Ipv4Endpoint) (port second : ℕ)
+    → Opens nat old new now event inside remote port → Opens nat new newer now next other sender second
+    → protocol_of next ≡ protocol_of event → now < expiry now (shortest_timeout nat (protocol_of event)) → port ≡ second → other ≡ inside
+opened_apart nat old new newer now event next inside remote other sender port second opens again same before one =
+    let mapped = opened-leads nat old new now now event inside remote port opens before in
+    let moved = subst (λ p. MapsTo nat new now p port inside) (sym same) mapped in
+    let there = subst (λ (n : ℕ). MapsTo nat new now (protocol_of next) n inside) one moved in
+    sym (not-other nat new now next other sender inside second again.mapping again.chosen there)

@@ -106,7 +106,7 @@ impl FullFrame {
         }
     }
 
-    /// Why there can be no frame with an ICMP message with a payload of this length.
+    /// The failure of a frame with an ICMP message with a payload of this length; `None` if it can be emitted.
     #[cold]
     pub fn icmp_failure(&self, payload_len: usize) -> Option<Failure>
         ensures { result ≡ icmp_frame_failure self.now payload_len }

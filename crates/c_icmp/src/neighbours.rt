@@ -174,7 +174,7 @@ impl FullFrame {
         }
     }
 
-    /// Why there can be no frame with a message.
+    /// The failure of a frame with a message; `None` if it can be emitted.
     pub fn ndisc_failure(&self, ndisc: &Ndisc) -> Option<Failure>
         ensures { result ≡ ndisc_failure self.now.fields ndisc.now }
     {

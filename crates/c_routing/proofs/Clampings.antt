@@ -220,17 +220,17 @@ unparsed caps frame result error same-caps found reads is l h v payload carried 
 
 -- the frame is clamped, as its packet
 pub clamps : (old new body : List ℕ) (link : EthernetRepr) (header : IpRepr) (v : TcpHeader) (payload : List ℕ) (limit : ℕ) (answer : ℤ) → answer ≡ pos 1
-    → CarriesSegment checksum.None old link header v payload → IsAbove limit v → new ≡ take 14 old ++ body → body ≡ clamped header (drop 14 old) limit
+    → length old ≤ max_len → CarriesSegment checksum.None old link header v payload → IsAbove limit v → new ≡ take 14 old ++ body → body ≡ clamped header (drop 14 old) limit
     → ((choice : Checksum) → ReadsSegment choice (drop 14 old) header v payload → ReadsSegment choice body header (with_size limit v) payload)
     → Clamps old new limit answer
-clamps old new body link header v payload limit answer one before above at is step =
+clamps old new body link header v payload limit answer one fits before above at is step =
     let done : IsClamped old new limit =
     record {
       before = record { link = link; header = header; v = v; payload = payload; carries = before; above = above };
       after = λ choice r. carries choice old new body link header (with_size limit v) payload at before.reads_header before.reads_carried.0 (step choice (r.reads_carried.1, r.reads_carried.2));
       bytes = at ∙ ap (λ (l : List ℕ). take 14 old ++ l) is;
     } in
-    inl (one, done)
+    inl (one, fits, done)
 
 stays : (frame new : List ℕ) (limit : ℕ) (answer : ℤ) → answer ≡ pos 0 → length frame ≤ max_len → ¬ IsTooLarge frame limit → new ≡ frame → Clamps frame new limit answer
 stays frame new limit answer zero fits small is = inr (zero, subst (λ (l : List ℕ). ¬ IsTooLarge l limit) (sym (within-itself frame fits)) small, is)

@@ -1,5 +1,5 @@
 -- What the call that clamps the maximum segment size of a frame returns and writes.
-use Rattle.std.specs.Prelude.{ℕ, ℤ, pos, ◌≡◌, ◌++◌, ◌⊎◌, List, Some, drop, take}
+use Rattle.std.specs.Prelude.{ℕ, ℤ, pos, ◌≡◌, ◌≤◌, ◌++◌, ◌⊎◌, List, Some, drop, length, take}
 use Rattle.app_short.specs.Clamp.{IsAbove}
 use Rattle.ip_wire.specs.Field.{with_range}
 use Rattle.ip_wire.specs.Frame.{ReadsFrame, ReadsPacket, ReadsTransport, all_checked, packet, packet_payload, segment}
@@ -11,7 +11,7 @@ use Rattle.ip_wire.specs.Types.{EthernetRepr, IpRepr, Ipv4, Ipv6}
 use Rattle.net_base.specs.declared.Checksum.{Checksum}
 use Rattle.net_base.specs.declared.Checksum.TheVariants as checksum
 use Rattle.net_base.specs.declared.ChecksumCapabilities.{ChecksumCapabilities}
-use Rattle.c_structs.specs.Written.{within}
+use Rattle.c_structs.specs.Written.{max_len, within}
 
 -- Pinned by: `worked/route`
 -- the checksum of TCP is verified or computed by this choice, and every other checksum always
@@ -79,5 +79,5 @@ pub record IsClamped (old new : List ℕ) (limit : ℕ) : Type 0 where
 -- 1 is returned, and the maximum segment size is now the limit; or 0, it was not larger, and the frame is unchanged
 abbrev pub Clamps : List ℕ → List ℕ → ℕ → ℤ → Type 0
 Clamps old new limit answer =
-    ((answer ≡ pos 1) × IsClamped old new limit)
+    ((answer ≡ pos 1) × (length old ≤ max_len) × IsClamped old new limit)
     ⊎ ((answer ≡ pos 0) × (¬ IsTooLarge (within old) limit) × (new ≡ old))

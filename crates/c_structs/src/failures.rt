@@ -229,7 +229,7 @@ impl Tcp {
 }
 
 impl FrameFields {
-    /// Why there can be no frame with a packet, by whether its ports are right, and whatever its length is.
+    /// The failure of a frame with a packet of any length, by whether its ports are right; `None` if it can be emitted.
     pub fn failure(&self, has_ports: bool) -> Option<Failure>
         ensures { result ≡ frame_failure self.now has_ports }
     {
@@ -263,7 +263,7 @@ impl FrameFields {
         }
     }
 
-    /// Why there can be no frame with a TCP segment with a payload of this length.
+    /// The failure of a frame with a TCP segment with a payload of this length; `None` if it can be emitted.
     #[cold]
     pub fn tcp_failure(&self, options: &TcpOptions, payload_len: usize) -> Option<Failure>
         ensures { result ≡ tcp_frame_failure self.now options.now payload_len }

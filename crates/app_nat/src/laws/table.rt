@@ -137,6 +137,27 @@ pub fn port_has_one_endpoint(nat: &Nat, mappings: &[Mapping], now: u64)
         → MapsTo nat.now mappings.now now protocol port second → first ≡ second }
 {}
 
+/// Two inside endpoints with live mappings of one protocol have different outside ports (RFC 4787, REQ-3).
+#[tactic(auto, using(crate::proofs::Meaning::opened_apart))]
+pub fn endpoints_have_ports_of_their_own(
+    nat: &Nat,
+    mappings: &mut [Mapping],
+    now: u64,
+    event: Event,
+    inside: &Ipv4Endpoint,
+    remote: &Ipv4Endpoint,
+    other_event: Event,
+    other: &Ipv4Endpoint,
+    other_remote: &Ipv4Endpoint,
+) -> Option<(u16, u16)>
+    ensures { IfSome result (λ (port, second). protocol_of other_event ≡ protocol_of event
+        → now < expiry now (shortest_timeout nat.now (protocol_of event)) → port ≡ second → other.now ≡ inside.now) }
+{
+    let port = open(nat, mappings, now, event, inside, remote)?;
+    let second = open(nat, mappings, now, other_event, other, other_remote)?;
+    Some((port, second))
+}
+
 /// `open` has one possible outcome.
 #[tactic(auto, using(crate::proofs::Meaning::port_once, crate::proofs::Meaning::room, crate::proofs::Meaning::table_once))]
 pub fn opened_port_is_one(

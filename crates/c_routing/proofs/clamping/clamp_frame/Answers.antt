@@ -20,7 +20,7 @@ returns-then-clamp_packet c =
     let yes : c.clamp_packet.result ≡ true = search rules in
     let above = ((rw following at c.clamp_packet.ensures.when) v payload (carried.reads_carried.1, carried.reads_carried.2)).0 yes in
     let is : body ≡ clamped c.in-Some.header (drop 14 frame) c.args.limit = rw (yes, following) at c.clamp_packet.ensures.bytes in
-    clamps frame _ body link c.in-Some.header v payload c.args.limit _ refl carried above (ap (λ (l : List ℕ). l ++ body) front) is
+    clamps frame _ body link c.in-Some.header v payload c.args.limit _ refl (search rules) carried above (ap (λ (l : List ℕ). l ++ body) front) is
     (λ choice r. (rw following at c.clamp_packet.ensures.after) choice v payload above r)
 
 pub returns-else-clamp_packet : goal.returns-else-clamp_packet
