@@ -9,6 +9,8 @@ const SYN: Event = Event::Tcp(TcpControl::Syn);
 
 const ACK: Event = Event::Tcp(TcpControl::None);
 
+const PSH: Event = Event::Tcp(TcpControl::Psh);
+
 const FIN: Event = Event::Tcp(TcpControl::Fin);
 
 const RST: Event = Event::Tcp(TcpControl::Rst);
@@ -177,23 +179,20 @@ fn has_no_port_0(rt: HostRuntime) {
     assert!(rt; find(&nat(0), &mut mappings, 0, Event::Udp, 0, &server(1)) == None);
 }
 
-/// Packets of one TCP mapping: the time, the packet, the last byte of the remote endpoint, whether it goes out, and when
-/// the mapping expires then.
-fn expires(packets: &[(u64, Event, u8, bool, u64)]) -> bool {
+/// Packets of one TCP mapping: the time, the packet, the last byte and the port of the remote endpoint, whether it goes
+/// out, and when the mapping expires then.
+fn expires(packets: &[(u64, Event, (u8, u16), bool, u64)]) -> bool {
     let mut mappings = [Mapping::FREE; 3];
     let nat = nat(FIRST_PORT);
-    for (now, event, last, goes_out, expected) in packets {
+    for (now, event, (last, port), goes_out, expected) in packets {
+        let remote = Ipv4Endpoint {
+            addr: Ipv4Address::new(198, 51, 100, *last),
+            port: *port,
+        };
         let is_right = if *goes_out {
-            open(
-                &nat,
-                &mut mappings,
-                *now,
-                *event,
-                &host(2, 1024),
-                &server(*last),
-            ) == Some(1024)
+            open(&nat, &mut mappings, *now, *event, &host(2, 1024), &remote) == Some(1024)
         } else {
-            find(&nat, &mut mappings, *now, *event, 1024, &server(*last)) == Some(host(2, 1024))
+            find(&nat, &mut mappings, *now, *event, 1024, &remote) == Some(host(2, 1024))
         };
         if !is_right || mappings[1].expires != *expected {
             return false;
@@ -204,33 +203,92 @@ fn expires(packets: &[(u64, Event, u8, bool, u64)]) -> bool {
 
 #[test]
 fn times_tcp_states(rt: HostRuntime) {
+    let one = (1, 80);
     // A connection that the remote host closes.
     assert!(rt;
         expires(&[
-            (0, SYN, 1, true, 240_000),
-            (10, SYN, 1, false, 240_000),
-            (20, ACK, 1, true, 7_440_020),
-            (30, ACK, 1, false, 7_440_020),
-            (40, FIN, 1, false, 240_040),
-            (50, ACK, 1, true, 240_050),
-            (60, FIN, 1, true, 240_060),
-            (70, FIN, 1, false, 240_060),
-            (80, SYN, 1, true, 240_080),
-            (90, ACK, 1, true, 7_440_090),
-            (100, RST, 1, true, 240_100),
+            (0, SYN, one, true, 240_000),
+            (10, SYN, one, false, 240_000),
+            (20, ACK, one, true, 7_440_020),
+            (30, ACK, one, false, 7_440_020),
+            (40, FIN, one, false, 240_040),
+            (50, ACK, one, true, 240_050),
+            (60, FIN, one, true, 240_060),
+            (70, FIN, one, false, 240_060),
+            (80, SYN, one, true, 240_080),
+            (90, ACK, one, true, 7_440_090),
+            (100, RST, one, true, 240_100),
         ])
     );
-    // Neither another remote host nor the end of one of two connections ends the mapping.
+    // PSH is data.
     assert!(rt;
         expires(&[
-            (0, SYN, 1, true, 240_000),
-            (10, ACK, 1, true, 7_440_010),
-            (20, RST, 2, false, 7_440_010),
-            (30, SYN, 2, true, 7_440_030),
-            (40, RST, 1, false, 7_440_030),
-            (50, FIN, 1, true, 7_440_050),
+            (0, SYN, one, true, 240_000),
+            (10, PSH, one, true, 7_440_010),
+            (20, FIN, one, true, 240_020),
+            (30, PSH, one, true, 240_030),
         ])
     );
+}
+
+/// Neither another remote endpoint nor the end of one of two connections ends the mapping.
+#[test]
+fn times_shared_mappings(rt: HostRuntime) {
+    let one = (1, 80);
+    for other in [(2, 80), (1, 81)] {
+        assert!(rt;
+            expires(&[
+                (0, SYN, one, true, 240_000),
+                (10, ACK, one, true, 7_440_010),
+                (20, RST, other, false, 7_440_010),
+                (30, SYN, other, true, 7_440_030),
+                (40, RST, one, false, 7_440_030),
+                (50, FIN, one, true, 7_440_050),
+            ])
+        );
+        // A closing connection, and the data of another.
+        assert!(rt;
+            expires(&[
+                (0, SYN, one, true, 240_000),
+                (10, FIN, one, true, 240_010),
+                (20, FIN, other, true, 240_020),
+                (30, PSH, other, true, 7_440_030),
+            ])
+        );
+    }
+}
+
+/// When a mapping with this state of TCP expires, after a packet at the time 0.
+fn expiry(state: u8, shared: u8, event: Event) -> Option<u64> {
+    let mut mappings = [Mapping::FREE; 3];
+    let nat = nat(FIRST_PORT);
+    let inside = host(2, 1024);
+    let remote = server(1);
+    mappings[1] = Mapping {
+        expires: 1,
+        inside: [192, 168, 0, 2],
+        remote: [198, 51, 100, 1],
+        inside_port: 1024,
+        remote_port: 80,
+        state,
+        shared,
+        unused: [0; 2],
+    };
+    open(&nat, &mut mappings, 0, event, &inside, &remote)?;
+    Some(mappings[1].expires)
+}
+
+/// A byte above 2 is a connection that opens.
+#[test]
+fn knows_the_states_of_any_bytes(rt: HostRuntime) {
+    assert!(rt; expiry(1, 1, FIN) == Some(7_440_000) && expiry(1, 0, ACK) == Some(7_440_000));
+    assert!(rt; expiry(2, 1, FIN) == Some(240_000) && expiry(2, 0, ACK) == Some(240_000));
+    for byte in 0..=255 {
+        if byte != 1 && byte != 2 {
+            assert!(rt; expiry(byte, 1, FIN) == Some(240_000), "{byte}");
+            assert!(rt; expiry(byte, 0, ACK) == Some(7_440_000), "{byte}");
+        }
+    }
 }
 
 /// An echo identifier has a mapping of its own, which lives 60 seconds. 0 is an identifier, but no outside port.

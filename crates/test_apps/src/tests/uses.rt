@@ -114,6 +114,12 @@ fn rejects_a_wrong_checksum(rt: HostRuntime) {
     assert!(rt; is_read([0x12, 0x4e]) == [false, true]);
     assert!(rt; is_read([0x00, 0x00]) == [true, true]);
     assert!(rt; is_read([0x83, 0x71]) == [false, true]);
+    // What is sent still has its checksums computed, and all but UDP's are verified.
+    let caps = verified_by_the_device();
+    assert!(rt; caps.udp.tx() && !caps.udp.rx());
+    for when in [caps.ipv4, caps.tcp, caps.icmpv4, caps.icmpv6] {
+        assert!(rt; when.tx() && when.rx());
+    }
 }
 
 #[test]
@@ -236,4 +242,10 @@ fn a_clamp_lowers_the_segment_size_of_a_syn(rt: HostRuntime) {
     assert!(rt; clamped(SYN, 1459) == (true, low));
     assert!(rt; clamped(SYN, 1460) == (false, SYN));
     assert!(rt; clamped(no_syn, 1300) == (false, no_syn));
+    // The limit 0, and a SYN with ACK.
+    assert!(rt; clamped(SYN, 0) == (true, with_size([0xde, 0x71], [0x00, 0x00])));
+    let (mut syn_ack, mut lower_ack) = (SYN, lower);
+    syn_ack[47] = 0x12;
+    lower_ack[47] = 0x12;
+    assert!(rt; clamped(syn_ack, 1300) == (true, lower_ack));
 }

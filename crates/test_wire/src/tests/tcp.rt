@@ -111,6 +111,11 @@ fn counts_sequence_numbers(rt: HostRuntime) {
     let syn = TcpPacket::new_checked(&SYN).expect(&rt, "a segment");
     let segment = TcpPacket::new_checked(&SEGMENT).expect(&rt, "a segment");
     assert!(rt; [syn.segment_len(), segment.segment_len()] == [5, 5]);
+    // SYN and FIN count one each (RFC 9293, section 3.4).
+    let mut syn_fin = SYN;
+    syn_fin[13] = 0x03;
+    let both = TcpPacket::new_checked(&syn_fin).expect(&rt, "a segment");
+    assert!(rt; both.segment_len() == 6);
 }
 
 /// Whether a flag takes so many sequence numbers, and is this flag without PSH.
