@@ -7,6 +7,7 @@ mod frames;
 mod host;
 mod icmp;
 mod nat;
+mod needs;
 mod numbers;
 mod read_calls;
 mod rebuild;

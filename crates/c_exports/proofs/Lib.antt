@@ -1,0 +1,5 @@
+mod NatsOnce
+mod Once
+mod RepliesOnce
+mod RoutesOnce
+mod RoutingOnce

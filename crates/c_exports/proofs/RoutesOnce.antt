@@ -1,0 +1,124 @@
+-- One route is chosen, and a source has one fault.
+use Rattle.std.proofs.Common.{ℕ, ℤ, pos, negsuc, ◌≡◌, ◌≤◌, ◌∙◌, All, List, MatchOption, Option, None, Some, inl, inr, arith, ap, drop, length, refl, rules, subst, sym, take_all}
+use Rattle.std.proofs.lemmas.Bool.{cases_order}
+use Rattle.std.proofs.lemmas.Option.{none-some, same_Some}
+use Rattle.app_router.specs.Source.{ChecksSource}
+use Rattle.app_router.specs.declared.index.Node.{Node}
+use Rattle.app_router.specs.declared.source.SourceFault.{SourceFault}
+use Rattle.app_router.specs.declared.source.SourceFault.TheVariants.{Martian, NoRoute, OtherInterface}
+use Rattle.ip_wire.specs.declared.IpAddress.{IpAddress}
+use Rattle.c_routing.specs.Lengths.{in_bounds}
+use Rattle.c_routing.specs.Rejections.{rejection_code, source_code}
+use Rattle.c_routing.specs.Routes.{Chooses, Indexes, IsChosen, IsIndexOf, Leads, WritesIndex, index_failure, route_at}
+use Rattle.c_routing.specs.Sources.{ChecksAddr, IsBack}
+use Rattle.c_routing.specs.declared.rejections.Rejection.TheVariants as rejection
+use Rattle.c_routing.specs.declared.routes.Route.{Route}
+use Rattle.c_structs.specs.Addresses.{ip_of}
+use Rattle.c_structs.specs.Written.{failure_code, max_len, usable}
+use Rattle.c_structs.specs.declared.failures.Failure.{Failure}
+use Rattle.c_structs.specs.declared.types.Addr.{Addr}
+
+-- ---- the chosen route
+
+route-once : (routes : List Route) (addr : Addr) (i j : ℕ) → IsChosen routes addr i → IsChosen routes addr j → i ≡ j
+route-once routes addr i j a b = elim (cases_order i j) [
+  | inl same ↦ same
+  | inr (inl less) ↦ absurd (let x = b.shorter i less a.leads in let y = a.no_longer j less b.within b.leads in omega (arith, x, y))
+  | inr (inr more) ↦ absurd (let x = a.shorter j more b.leads in let y = b.no_longer i more a.within a.leads in omega (arith, x, y))
+]
+
+led : (routes : List Route) (addr : Addr) (i : ℕ) → All (λ route. ¬ Leads addr route) routes → ¬ IsChosen routes addr i
+led routes addr i none a = none i _ a.within a.leads
+
+pub chooses_once : (routes : List Route) (addr : Addr) (a b : ℤ) → Chooses routes addr a → Chooses routes addr b → a ≡ b
+chooses_once routes addr a b (inl (i, is, v)) (inl (j, also, w)) = is ∙ ap pos (route-once routes addr i j v w) ∙ sym also
+chooses_once routes addr a b (inl (i, is, v)) (inr (minus, none)) = absurd (led routes addr i none v)
+chooses_once routes addr a b (inr (minus, none)) (inl (j, is, w)) = absurd (led routes addr j none w)
+chooses_once routes addr a b (inr (minus, none)) (inr (also, never)) = minus ∙ sym also
+
+-- ---- the index
+
+-- The same is returned, and nothing is written after the index. After a failure all nodes are the same.
+pub record IsSame (routes : List Route) (new other : List Node) (a b : ℤ) : Type 0 where
+  pub returned : a ≡ b
+  pub following : drop (length routes) new ≡ drop (length routes) other
+  pub failed : (n : ℕ) → a ≡ negsuc n → new ≡ other
+
+index-once : (routes : List Route) (why : Option Failure) (old new other : List Node) (a b : ℤ)
+    → MatchOption why (WritesIndex routes old new a) (λ w. (a ≡ failure_code w) × (new ≡ old))
+    → MatchOption why (WritesIndex routes old other b) (λ w. (b ≡ failure_code w) × (other ≡ old)) → IsSame routes new other a b
+index-once routes None old new other a b v w = record {
+  returned = v.count ∙ sym w.count;
+  following = v.following ∙ sym w.following;
+  failed = λ n is. let apart : pos (length routes) ≡ negsuc n = sym v.count ∙ is in absurd (cc);
+}
+index-once routes (Some why) old new other a b (is, stays) (also, same) = record {
+  returned = is ∙ sym also;
+  following = ap (drop (length routes)) (stays ∙ sym same);
+  failed = λ n _. stays ∙ sym same;
+}
+
+pub indexes_once : (routes : List Route) (old new other : List Node) (a b : ℤ) → Indexes routes old new a → Indexes routes old other b → IsSame routes new other a b
+indexes_once routes old new other a b v w = index-once routes (index_failure routes (usable (length old))) old new other a b v w
+
+all-nodes : (routes : List Route) (why : Option Failure) (old new : List Node) (n : ℕ)
+    → MatchOption why (WritesIndex routes old new (pos n)) (λ w. (pos n ≡ failure_code w) × (new ≡ old)) → length new ≡ length routes → IsIndexOf routes new
+all-nodes routes None old new n v long = subst (IsIndexOf routes) (take_all (length routes) new (omega (arith, long))) v.index
+all-nodes routes (Some why) old new n (is, stays) long = absurd (cc)
+
+in-bounds : {A : Type 0} (list : List A) → length list ≤ max_len → in_bounds list ≡ list
+unfolding in_bounds
+in-bounds list fits = search rules
+
+-- an index that fills all nodes is the index of these nodes
+pub filled : (routes : List Route) (old new : List Node) (n : ℕ) → length routes ≤ max_len → length new ≡ length routes → Indexes (in_bounds routes) old new (pos n)
+    → IsIndexOf routes (in_bounds new)
+filled routes old new n fits long v =
+    let same = in-bounds routes fits in
+    let nodes = in-bounds new (omega (arith, long, fits)) in
+    let index = subst (λ l. Indexes l old new (pos n)) same v in
+    subst (IsIndexOf routes) (sym nodes) (all-nodes routes (index_failure routes (usable (length old))) old new n index long)
+
+-- ---- sources
+
+back-once : (routes : List Route) (addr : Addr) (a b : Option ℕ) → IsBack routes addr a → IsBack routes addr b → a ≡ b
+back-once routes addr None None v w = refl
+back-once routes addr None (Some n) none (i, chosen, is) = absurd (led routes addr i none chosen)
+back-once routes addr (Some n) None (i, chosen, is) none = absurd (led routes addr i none chosen)
+back-once routes addr (Some n) (Some m) (i, chosen, is) (j, again, also) =
+    ap Some (sym is ∙ ap (λ k. (route_at routes k).interface) (route-once routes addr i j chosen again) ∙ also)
+
+fault-once : (src : IpAddress) (interface : ℕ) (back : Option ℕ) (a b : Option SourceFault) → ChecksSource src interface back a → ChecksSource src interface back b
+    → a ≡ b
+fault-once src interface back None None x y = refl
+fault-once src interface back None (Some Martian) x y = absurd (x.0 y)
+fault-once src interface back None (Some NoRoute) x y = absurd (none-some interface (sym y.1 ∙ x.1))
+fault-once src interface back None (Some OtherInterface) x y = absurd (y.1.2 (same_Some y.1.0 interface (sym y.1.1 ∙ x.1)))
+fault-once src interface back (Some Martian) None x y = absurd (y.0 x)
+fault-once src interface back (Some Martian) (Some Martian) x y = refl
+fault-once src interface back (Some Martian) (Some NoRoute) x y = absurd (y.0 x)
+fault-once src interface back (Some Martian) (Some OtherInterface) x y = absurd (y.0 x)
+fault-once src interface back (Some NoRoute) None x y = absurd (none-some interface (sym x.1 ∙ y.1))
+fault-once src interface back (Some NoRoute) (Some Martian) x y = absurd (x.0 y)
+fault-once src interface back (Some NoRoute) (Some NoRoute) x y = refl
+fault-once src interface back (Some NoRoute) (Some OtherInterface) x y = absurd (none-some y.1.0 (sym x.1 ∙ y.1.1))
+fault-once src interface back (Some OtherInterface) None x y = absurd (x.1.2 (same_Some x.1.0 interface (sym x.1.1 ∙ y.1)))
+fault-once src interface back (Some OtherInterface) (Some Martian) x y = absurd (x.0 y)
+fault-once src interface back (Some OtherInterface) (Some NoRoute) x y = absurd (none-some x.1.0 (sym y.1 ∙ x.1.1))
+fault-once src interface back (Some OtherInterface) (Some OtherInterface) x y = refl
+
+-- what is returned for a source that may have no version
+abbrev Checks : List Route → Addr → ℕ → ℤ → Option IpAddress → Type 0
+Checks routes src interface answer ip = MatchOption ip (answer ≡ pos (rejection_code rejection.Martian))
+    (λ addr. (back : Option ℕ) × IsBack routes src back × ((fault : Option SourceFault) × ChecksSource addr interface back fault × (answer ≡ pos (source_code fault))))
+
+check-once : (routes : List Route) (src : Addr) (interface : ℕ) (ip : Option IpAddress) (a b : ℤ) → Checks routes src interface a ip → Checks routes src interface b ip
+    → a ≡ b
+check-once routes src interface None a b is also = is ∙ sym also
+check-once routes src interface (Some addr) a b (back, to, (fault, v, is)) (way, back_to, (why, w, also)) =
+    let same : back ≡ way = back-once routes src back way to back_to in
+    let one : fault ≡ why = fault-once addr interface way fault why (subst (λ x. ChecksSource addr interface x fault) same v) w in
+    is ∙ ap (λ f. pos (source_code f)) one ∙ sym also
+
+pub checks_once : (routes : List Route) (src : Addr) (interface : ℕ) (a b : ℤ) → ChecksAddr routes src interface a → ChecksAddr routes src interface b → a ≡ b
+checks_once routes src interface a b v w = check-once routes src interface (ip_of src) a b v w

@@ -1,0 +1,78 @@
+//! Needs the contracts of calls with numbers.
+
+ghost use Rattle.std.specs.Prelude.{◌≡◌};
+
+use crate::numbers::{
+    lk_add_seq, lk_checksum, lk_compare_seq, lk_subtract_seq, lk_update_checksum,
+    lk_update_checksum_addr, lk_update_udp_checksum, lk_update_udp_checksum_addr,
+};
+use c_structs::Addr;
+
+// Bytes have one checksum.
+fn checksum(bytes: &[u8]) -> (u16, u16)
+    ensures { result.0 ≡ result.1 }
+{
+    (lk_checksum(bytes), lk_checksum(bytes))
+}
+
+// A checksum has one update for a word.
+fn update_checksum(checksum: u16, before: u16, after: u16) -> (u16, u16)
+    ensures { result.0 ≡ result.1 }
+{
+    (
+        lk_update_checksum(checksum, before, after),
+        lk_update_checksum(checksum, before, after),
+    )
+}
+
+// A checksum has one update for an address.
+fn update_checksum_addr(checksum: u16, before: &Addr, after: &Addr) -> (u16, u16)
+    ensures { result.0 ≡ result.1 }
+{
+    (
+        lk_update_checksum_addr(checksum, before, after),
+        lk_update_checksum_addr(checksum, before, after),
+    )
+}
+
+// A UDP checksum has one update for a word.
+fn update_udp_checksum(checksum: u16, before: u16, after: u16) -> (u16, u16)
+    ensures { result.0 ≡ result.1 }
+{
+    (
+        lk_update_udp_checksum(checksum, before, after),
+        lk_update_udp_checksum(checksum, before, after),
+    )
+}
+
+// A UDP checksum has one update for an address.
+fn update_udp_checksum_addr(checksum: u16, before: &Addr, after: &Addr) -> (u16, u16)
+    ensures { result.0 ≡ result.1 }
+{
+    (
+        lk_update_udp_checksum_addr(checksum, before, after),
+        lk_update_udp_checksum_addr(checksum, before, after),
+    )
+}
+
+// A sequence number has one sum with a number of steps.
+fn add_seq(seq: u32, steps: u32) -> (u32, u32)
+    ensures { result.0 ≡ result.1 }
+{
+    (lk_add_seq(seq, steps), lk_add_seq(seq, steps))
+}
+
+// Two sequence numbers have one distance.
+fn subtract_seq(a: u32, b: u32) -> (i32, i32)
+    ensures { result.0 ≡ result.1 }
+{
+    (lk_subtract_seq(a, b), lk_subtract_seq(a, b))
+}
+
+// Two sequence numbers have one order.
+#[tactic(auto, using(crate::proofs::Once::compared))]
+fn compare_seq(a: u32, b: u32) -> (i32, i32)
+    ensures { result.0 ≡ result.1 }
+{
+    (lk_compare_seq(a, b), lk_compare_seq(a, b))
+}

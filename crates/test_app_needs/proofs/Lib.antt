@@ -1,0 +1,3 @@
+mod NatsOnce
+mod RouterOnce
+mod ShortOnce

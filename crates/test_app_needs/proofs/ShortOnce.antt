@@ -1,0 +1,66 @@
+-- The short applications have one answer.
+use Rattle.std.proofs.Common.{ℕ, ◌≡◌, ◌∙◌, ◌↔◌, ◌%◌, ◌++◌, Bool, IfSome, IsTrue, List, Option, None, Some, Result, Ok, Err, if◌then◌else◌, arith, drop, length, refl, subst, sym}
+use Rattle.app_short.specs.Clamp.{IsAbove}
+use Rattle.app_short.specs.Flow.{IsOneFlow, key_of}
+use Rattle.app_short.specs.declared.flow_key.Flow.{Flow}
+use Rattle.app_short.specs.declared.flow_key.FlowKey.{FlowKey}
+use Rattle.ip_wire.specs.Frame.{all_checked}
+use Rattle.ip_wire.specs.FrameValue.{frame_bytes, frame_len}
+use Rattle.ip_wire.specs.IpAddress.{address_bytes}
+use Rattle.ip_wire.specs.TcpRepr as tcp
+use Rattle.ip_wire.specs.TcpRepr.{TcpHeader}
+use Rattle.ip_wire.specs.TcpSegmentSize.{with_max_seg_size}
+use Rattle.ip_wire.specs.Types.{UdpRepr}
+use Rattle.ip_wire.specs.declared.Frame.{Frame}
+use Rattle.ip_wire.specs.declared.IpAddress.{IpAddress}
+use Rattle.ip_wire.specs.declared.IpAddress.TheVariants.{Ipv4}
+use Rattle.ip_wire.specs.declared.TcpControl.TheVariants as control
+use Rattle.net_base.specs.declared.Error.{Error}
+use Rattle.test_app_needs.proofs.RouterOnce.{one_verdict}
+
+pub one_flow : (flow other : Flow) (a b : FlowKey) → ((o : Flow) → (key_of o ≡ a) ↔ IsOneFlow o flow) → b ≡ key_of other → (b ≡ a) ↔ IsOneFlow other flow
+one_flow flow other a b tells is = ((λ same. (tells other).0 (sym is ∙ same)), λ one. is ∙ (tells other).1 one)
+
+-- ---- segments
+
+pub clamp_returned : (old same : List ℕ) (limit : ℕ) (a b : Bool) → old ≡ same
+    → ((src dst : IpAddress) (verified : Bool) (v : TcpHeader) (payload : List ℕ) → tcp.Reads old src dst verified v payload → IsTrue a ↔ IsAbove limit v)
+    → ((src dst : IpAddress) (verified : Bool) (v : TcpHeader) (payload : List ℕ) → tcp.Reads same src dst verified v payload → IsTrue b ↔ IsAbove limit v)
+    → (src dst : IpAddress) (verified : Bool) (v : TcpHeader) (payload : List ℕ) → tcp.Reads old src dst verified v payload → a ≡ b
+clamp_returned old same limit a b e x y src dst verified v payload r =
+    one_verdict (IsAbove limit v) a b (x src dst verified v payload r) (y src dst verified v payload (subst (λ l. tcp.Reads l src dst verified v payload) e r))
+
+pub clamp_segment : (old same new other : List ℕ) (limit : ℕ) (a b : Bool) → old ≡ same
+    → ((src dst : IpAddress) (verified : Bool) (v : TcpHeader) (payload : List ℕ) → tcp.Reads old src dst verified v payload → IsTrue a ↔ IsAbove limit v)
+    → ((src dst : IpAddress) (verified : Bool) (v : TcpHeader) (payload : List ℕ) → tcp.Reads same src dst verified v payload → IsTrue b ↔ IsAbove limit v)
+    → new ≡ (if a then with_max_seg_size old limit else old) → other ≡ (if b then with_max_seg_size same limit else same)
+    → (src dst : IpAddress) (verified : Bool) (v : TcpHeader) (payload : List ℕ) → tcp.Reads old src dst verified v payload → new ≡ other
+clamp_segment old same new other limit a b e x y m n src dst verified v payload r =
+    let one = clamp_returned old same limit a b e x y src dst verified v payload r in
+    m ∙ (λ i. if one i then with_max_seg_size (e i) limit else (e i)) ∙ sym n
+
+pub lowered : (old new src dst : List ℕ) (verified : Bool) (v : TcpHeader) (payload : List ℕ)
+    → ((src dst : IpAddress) (verified : Bool) (v : TcpHeader) (payload : List ℕ) → length (address_bytes src) % 2 ≡ 0 → length (address_bytes dst) % 2 ≡ 0
+    → tcp.Reads old src dst verified v payload → IsAbove 1400 v → tcp.Reads new src dst verified (record v { max_seg_size = Some 1400 }) payload)
+    → length src ≡ 4 → length dst ≡ 4 → v.control ≡ control.Syn → v.max_seg_size ≡ Some 1460 → tcp.Reads old (Ipv4 src) (Ipv4 dst) verified v payload
+    → tcp.Reads new (Ipv4 src) (Ipv4 dst) verified (record v { max_seg_size = Some 1400 }) payload
+lowered old new src dst verified v payload h s d syn size r =
+    h (Ipv4 src) (Ipv4 dst) verified v payload (omega (arith, s)) (omega (arith, d)) r (record { syn = syn; size = 1460; sized = size; above = omega arith })
+
+-- ---- UDP packets
+
+pub one_udp : (P : UdpRepr → Type 0) (a b : Result UdpRepr Error) → ((u : UdpRepr) → (a ≡ Ok u) ↔ P u) → ((u : UdpRepr) → (b ≡ Ok u) ↔ P u) → a ≡ b
+one_udp P (Ok x) b h k = sym ((k x).1 ((h x).0 refl))
+one_udp P (Err x) (Ok y) h k = (h y).1 ((k y).0 refl)
+one_udp P (Err x) (Err y) h k = refl
+
+-- ---- frames
+
+pub one_frame : (f : Frame) (old same new other : List ℕ) (a b : Option ℕ) → old ≡ same
+    → IfSome a (λ len. (len ≡ frame_len f) × (new ≡ frame_bytes all_checked f ++ drop len old))
+    → IfSome b (λ len. (len ≡ frame_len f) × (other ≡ frame_bytes all_checked f ++ drop len same))
+    → IfSome a (λ len. IfSome b (λ more. (len ≡ more) × (new ≡ other)))
+one_frame f old same new other (Some x) (Some y) e (p, q) (r, s) =
+    let one : x ≡ y = p ∙ sym r in (one, q ∙ (λ i. frame_bytes all_checked f ++ drop (one i) (e i)) ∙ sym s)
+one_frame f old same new other (Some x) None e v w = tt
+one_frame f old same new other None b e v w = tt

@@ -1,0 +1,132 @@
+//! Needs the contracts of the calls of the router.
+
+ghost use Rattle.std.specs.Prelude.{◌≡◌, ◌∷◌, [], IsTrue, List, MatchOption, All, length, map};
+ghost use Rattle.app_router.specs.Index.{IsBlock, IsChosenAt, IsFilled, IsIndex, block_of};
+ghost use Rattle.app_router.specs.Route.{IsChosen, Leads};
+ghost use Rattle.ip_wire.specs.IpCidr.{IsIn, block_prefix_len};
+ghost use Rattle.ip_wire.specs.declared.IpAddress.{IpAddress};
+ghost use Rattle.ip_wire.specs.declared.IpCidr.{IpCidr};
+
+use app_router::forward;
+use app_router::index::{Node, arrange, choose, find, index};
+use app_router::route::Route;
+use app_router::source::{SourceFault, check_source, check_source_by_index, is_martian};
+use ip_wire::{EthernetAddress, HeaderFault, IpAddress, IpCidr, IpRepr};
+
+mod routes;
+
+/// A frame is forwarded in one way, or rejected for one fault.
+#[tactic(auto, using(crate::proofs::RouterOnce::forward_returned, crate::proofs::RouterOnce::forward_frame))]
+fn forward_once(
+    frame: &mut [u8],
+    other: &mut [u8],
+    src_addr: EthernetAddress,
+    dst_addr: EthernetAddress,
+) -> (Result<IpRepr, HeaderFault>, Result<IpRepr, HeaderFault>)
+    requires { frame.old ≡ other.old }
+    ensures returned { result.0 ≡ result.1 }
+    ensures frame { frame.new ≡ other.new }
+{
+    (
+        forward(frame, src_addr, dst_addr),
+        forward(other, src_addr, dst_addr),
+    )
+}
+
+/// An index leads to one route, or to none.
+fn choose_once(routes: &[Route], nodes: &[Node], addr: &IpAddress) -> (Option<Route>, Option<Route>)
+    requires { IsIndex (map block_of routes.now) nodes.now }
+    ensures { result.0 ≡ result.1 }
+{
+    (choose(routes, nodes, addr), choose(routes, nodes, addr))
+}
+
+/// An index has one place for an address, or none.
+fn find_once(nodes: &[Node], addr: &IpAddress) -> (Option<u32>, Option<u32>)
+    ensures { (blocks : List IpCidr) → IsIndex blocks nodes.now → result.0 ≡ result.1 }
+{
+    (find(nodes, addr), find(nodes, addr))
+}
+
+/// The index of any routes leads to the longest prefix.
+fn index_leads(routes: &[Route], nodes: &mut [Node], addr: &IpAddress) -> Option<Route>
+    requires len { length nodes.old ≡ length routes.now }
+    requires within { length routes.now ≡ 4294967295 }
+    ensures { MatchOption result (All (λ route. ¬ Leads addr.now route) routes.now) (IsChosen routes.now addr.now) }
+{
+    index(routes, nodes);
+    choose(routes, nodes, addr)
+}
+
+/// The nodes of any blocks are arranged as their index.
+fn arranged(nodes: &mut [Node], addr: &IpAddress) -> Option<u32>
+    requires { length nodes.old ≡ 4294967295 }
+    ensures { (blocks : List IpCidr) → IsFilled blocks nodes.old
+        → MatchOption result (All (λ block. ¬ IsIn block addr.now) blocks) (IsChosenAt blocks addr.now) }
+{
+    arrange(nodes);
+    find(nodes, addr)
+}
+
+/// The node of a block with a prefix of 8 bits, which is the eighth of its list.
+fn new_node(block: &IpCidr) -> Node
+    requires { block_prefix_len block.now ≡ 8 }
+    ensures len { result.prefix_len ≡ 8 }
+    ensures place { result.route ≡ 7 }
+{
+    Node::new(block, 7)
+}
+
+/// The prefix of a block is no longer than its address.
+fn new_node_is_of_a_block(block: &IpCidr) -> Node
+    ensures { IsBlock block.now }
+{
+    Node::new(block, 7)
+}
+
+/// A source has one fault, or none.
+#[tactic(auto, using(crate::proofs::RouterOnce::one_fault))]
+fn check_source_once(
+    src: &IpAddress,
+    interface: u16,
+    back: Option<u16>,
+) -> (Option<SourceFault>, Option<SourceFault>)
+    ensures { result.0 ≡ result.1 }
+{
+    (
+        check_source(src, interface, back),
+        check_source(src, interface, back),
+    )
+}
+
+/// A source has one fault, or none, by an index of routes.
+fn check_source_by_index_once(
+    routes: &[Route],
+    nodes: &[Node],
+    src: &IpAddress,
+    interface: u16,
+) -> (Option<SourceFault>, Option<SourceFault>)
+    requires { IsIndex (map block_of routes.now) nodes.now }
+    ensures { result.0 ≡ result.1 }
+{
+    (
+        check_source_by_index(routes, nodes, src, interface),
+        check_source_by_index(routes, nodes, src, interface),
+    )
+}
+
+/// An address is martian, or it is not.
+#[tactic(auto, using(crate::proofs::RouterOnce::one_verdict))]
+fn is_martian_once(addr: &IpAddress) -> (bool, bool)
+    ensures { result.0 ≡ result.1 }
+{
+    (is_martian(addr), is_martian(addr))
+}
+
+/// No packet may come from 224.0.0.1.
+fn multicast_is_martian(addr: &IpAddress) -> bool
+    requires { addr.now ≡ IpAddress.Ipv4 (224 ∷ 0 ∷ 0 ∷ 1 ∷ []) }
+    ensures { IsTrue result }
+{
+    is_martian(addr)
+}

@@ -1,0 +1,39 @@
+//! Needs the contracts of the choice of a route, and of the errors of the router.
+
+ghost use Rattle.std.specs.Prelude.{◌≡◌, IfSome, MatchOption, None};
+ghost use Rattle.app_host.specs.Message.{IsSendable, values_of};
+
+use app_host::{Interface, MessageFrame};
+use app_router::route::{Route, choose};
+use app_router::{Problem, error};
+use ip_wire::IpAddress;
+
+/// The routes to an address give one, or none.
+fn choose_once(routes: &[Route], addr: &IpAddress) -> (Option<Route>, Option<Route>)
+    ensures { result.0 ≡ result.1 }
+{
+    (choose(routes, addr), choose(routes, addr))
+}
+
+/// There is one error about a packet, with one header and one message, or none.
+fn error_once<'a>(
+    frame: &'a [u8],
+    ours: &Interface,
+    problem: Problem,
+) -> (Option<MessageFrame<'a>>, Option<MessageFrame<'a>>)
+    ensures { MatchOption result.0 (result.1 ≡ None)
+        (λ f. MatchOption result.1 ⊥ (λ g. (f.header ≡ g.header) × (values_of f ≡ values_of g))) }
+{
+    (error(frame, ours, problem), error(frame, ours, problem))
+}
+
+/// The error can be sent.
+fn error_is_sendable<'a>(
+    frame: &'a [u8],
+    ours: &Interface,
+    problem: Problem,
+) -> Option<MessageFrame<'a>>
+    ensures { IfSome result (λ f. IsSendable f) }
+{
+    error(frame, ours, problem)
+}

@@ -1,0 +1,3 @@
+mod FramesWorked
+pub mod Addresses
+pub mod Endpoints
