@@ -6,6 +6,7 @@
 # make quick          runs the tests of the libraries and the two programs without proofs
 # make check          proves one crate, CRATE=name, over the libraries that make test proved
 # make test           runs the gate and all other tests; with ANEW=yes it proves again what it kept
+# make loosen         weakens public statements after make test, and prints what no proof notices
 # make new            makes a crate of your own, CRATE=name, with one proved call
 # make reference      writes the reference as HTML pages to out/reference
 # make statements     renews docs/audit/statements/, the record of all contracts and definitions
@@ -63,7 +64,7 @@ endif
 .PRECIOUS: $(PROGRAM) $(CALLS) $(ARCHIVE) $(LIBRARY) $(SHARED) $(PAGES)
 # rt uses all processors by itself.
 .NOTPARALLEL:
-.PHONY: run build install uninstall dist quick check new test reference statements size compare compare-calls bench help
+.PHONY: run build install uninstall dist quick check loosen new test reference statements size compare compare-calls bench help
 
 run:
 	@test -r "$$FRAMES" && ! test -d "$$FRAMES" || $(call fail,cannot read $$FRAMES)
@@ -96,7 +97,7 @@ uninstall: uninstall-places $(PAGES)
 dist: verdicts $(PROGRAM) $(LIBRARY) $(SHARED) $(PAGES)
 	@c/alone - c/dist out
 
-quick check new test: ready
+quick check loosen new test: ready
 
 # What is looked at before anything is built
 .PHONY: ready install-places uninstall-places verdicts
@@ -116,6 +117,9 @@ quick:
 check:
 	@test -n "$$CRATE" && test -d "crates/$$CRATE/src" || $(call fail,name a crate of crates.txt as CRATE=name)
 	@tests/gate/proved.py check "$$CRATE"; status=$$?; [ $$status = 3 ] || exit $$status; cd "crates/$$CRATE" && rt check
+
+loosen:
+	@tests/gate/loosen.py
 
 new:
 	@tools/new-crate "$$CRATE"

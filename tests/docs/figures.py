@@ -16,10 +16,13 @@ from sources import Sources
 from weakenings import ROWS as WEAKENINGS
 
 TOP = os.path.dirname(os.path.dirname(os.path.dirname(os.path.abspath(__file__))))
+sys.path.append(os.path.join(TOP, "tests/gate"))
+import loosen  # noqa: E402
+
 PAGE = "docs/TRUST.md"
 HEAD = "| What | Number |"
 # Crates that only have tests.
-TESTS = ("test_wire", "test_apps")
+TESTS = ("test_wire", "test_apps", "test_needs", "test_app_needs")
 # The kinds of calls whose answers a script computes by RFCs.
 BY_RFC = ("set", "get", "again", "class", "host")
 
@@ -63,7 +66,8 @@ def functions(items):
 
 
 def of_proofs():
-    crates = [crate for crate in Sources(".").crates.values() if crate.name not in TESTS]
+    sources = Sources(".")
+    crates = [crate for crate in sources.crates.values() if crate.name not in TESTS]
     proved = [it for crate in crates for module in crate.modules.values() for it in functions(module.items)]
     head = r"^(?:(?:abbrev|unfoldable|opaque|record|data|pub) )+(?!mod |use )\S"
     requirement = r"^\| (?!Requirement )[^|]+ \|[^|]*\|[^|]*\|$"
@@ -74,7 +78,9 @@ def of_proofs():
         "Definitions": (count(head, "crates/*/specs/**/*.antt"), "definitions"),
         "Proofs": (lines(files("crates/*/proofs/**/*.antt")), "lines"),
         "Mutants": (count("^name: ", "crates/*/edits.txt"), "mutants"),
-        "Weaker statements": (sum(row.is_noticed for row in WEAKENINGS), "edits"),
+        "Needs": (sum(1 for _ in loosen.needs(sources)), "functions"),
+        "Weaker statements": (sum(1 for it in loosen.statements(sources) for _ in loosen.weakened(it)), "statements"),
+        "Edited statements": (sum(row.is_noticed for row in WEAKENINGS), "edits"),
         "Requirements": (count(requirement, "docs/audit/REQUIREMENTS.md"), "requirements"),
     }
 

@@ -20,7 +20,7 @@ LIBRARY = re.compile(r"net_base|ip_wire|wire_\w+")
 # The libraries whose types a Rattle program uses: those of `wire_*` through `ip_wire`.
 SHOWN = re.compile(r"net_base|(?:ip|app)_\w+")
 # The crates that use the layer through `ip_wire` and `net_base` only. They may name the formats beside `ip_wire` too.
-ABOVE = re.compile(r"ip_(?!wire\b)\w+|app_\w+|test_(?!wire\b)\w+")
+ABOVE = re.compile(r"ip_(?!wire\b)\w+|app_\w+|test_(?!(?:wire|needs)\b)\w+")
 BESIDE = ("wire_icmp", "wire_ndisc")
 TEST_FUNCTION = re.compile(r"#\[test\]\n(?: *#.*\n)* *fn (\w+)\(")
 # A function that allocates is given an allocator, and returns one of these types.
@@ -55,8 +55,8 @@ class Statements:
                 for item in module.items:
                     self.add(crate.name, module, item)
             self.definitions |= {f"{path[-1]}.{d.name}" for path, module in crate.specs.items() for d in module.items}
-        self.laws = {name[-1] for crate in ("ip_wire", "app_nat", "app_host", "c_structs")
-                     for name in sources.exports(crate) if name[0] == "laws"}
+        self.laws = {name[-1] for crate in ("ip_wire", "wire_icmp", "wire_ndisc", "app_nat", "app_host", "c_structs", "c_icmp")
+                     for name, target in sources.exports(crate).items() if name[0] == "laws" and name[-1][0].islower()}
 
     def add(self, crate, module, item):
         if item.kind == "type":
@@ -194,6 +194,8 @@ def main(top):
     for number, _, named, tests in found:
         wrong += [f"{DOCUMENT}:{number}: there is no statement {name}" for name in named if not statements.has(name)]
         wrong += [f"{DOCUMENT}:{number}: there is no test {name}" for name in tests if not is_test(name)]
+    named_laws = {name for _, _, named, _ in found for name in named if name.startswith("law ")}
+    wrong += [f"{DOCUMENT}: no row names law {name}" for name in sorted(statements.laws) if f"law {name}" not in named_laws]
     wrong += [*allocations(sources), *types_without_debug(sources), *wire_crates_named()]
     print("".join(line + "\n" for line in wrong), end="")
     return 1 if wrong or not found else 0

@@ -22,7 +22,7 @@ TOP = os.path.dirname(os.path.dirname(os.path.dirname(os.path.abspath(__file__))
 FOLDER = "docs/audit/statements"
 RENEW = "tests/docs/statements.py --write"
 # Crates that only have tests.
-LEFT_OUT = {"test_wire", "test_apps"}
+LEFT_OUT = {"test_wire", "test_apps", "test_needs", "test_app_needs"}
 # The crates whose functions promise something of what their bodies do, beside the laws.
 PROMISES = {"test_promises"}
 # Attributes that change no statement.

@@ -1,0 +1,445 @@
+#!/usr/bin/env python3
+"""Weakens public statements, and tells which weaker ones nothing notices: tests/gate/loosen.py [NAME..]
+
+A public statement is a law, the contract of a call of the C library, or the condition of a call on a length. It is weakened
+by a false premise (laws), by leaving out a clause (laws, calls of the C library), by allowing one more result (calls of the C
+library), or by asking for one byte more (conditions). Its needs are the functions of test_needs, of test_app_needs and
+of c_exports/src/needs that call it. In a copy of their crate each of them calls a function with the weaker contract instead,
+over the libraries that make test proved. One of them must not be proved then.
+
+A weaker statement that no need notices loses nothing if it implies what it lost, by itself or with the definitions alone. Any
+other one must be in tests/data/unneeded.txt, and nothing else may be there. With names it tries the statements of these
+functions, types or crates. What rattle prints is in out/loosen.log.
+"""
+import collections
+import functools
+import os
+import pathlib
+import re
+import shutil
+import subprocess
+import sys
+import tempfile
+from concurrent.futures import ThreadPoolExecutor
+
+import proved
+
+TOP = proved.TOP
+sys.path.insert(0, str(TOP / "tests/docs"))
+from contracts import Clause  # noqa: E402
+from sources import Sources, words_of  # noqa: E402
+
+# The crates with needs, and the first name of the modules that have them.
+NEEDS = {"test_needs": "", "test_app_needs": "", "c_exports": "needs"}
+LIST = TOP / "tests/data/unneeded.txt"
+# The most rows that it may have. This number only gets smaller.
+MOST = 30
+PROCESSORS = len(os.sched_getaffinity(0))
+# How many weaker statements are tried in one copy of a crate.
+ROUND = 30
+GHOST_USE = re.compile(r"^ghost use [^;]*;\n", re.M)
+# What a clause of a generic view says of its bytes.
+BYTES = re.compile(r"\bB\.octets \(([^()]*)\)")
+# Words that a weaker contract may use besides those that its module imports.
+WORDS = "◌≡◌ ◌<◌ ◌⊎◌ negsuc".split()
+NO_PREMISE = Clause("requires", "never", "⊥")
+# The crates of whose calls each clause is weakened, and not only conditions.
+CALLS = {"c_exports"}
+# One more result, by the type of the result.
+ONE_MORE = {"isize": "result ≡ negsuc 0", "i32": "result ≡ negsuc 0"}
+VERDICT = re.compile(r"^fn \w+::(\S+): (.*)$", re.M)
+NOTICED = re.compile(r"no proof: expected answers|not proved(?!.*; it calls)")
+
+# A public function of a library: its crate, module and item, and the name of its type if it is a method.
+Statement = collections.namedtuple("Statement", "crate module owner item")
+# A statement with weaker clauses, what was done to it, and the clauses that it lost.
+Weaker = collections.namedtuple("Weaker", "statement how clauses lost")
+
+
+def name_of(weaker):
+    crate, module, owner, item = weaker.statement
+    return "::".join(filter(None, (crate, *module.path, owner, item.name))) + f", {weaker.how}"
+
+
+# ---- weaker statements
+
+
+def statements(sources):
+    """The public functions of the libraries: laws, functions and methods of types that a library exports."""
+    for crate in sources.crates.values():
+        if crate.is_program or crate.name.startswith(("test_", "ip_bench")):
+            continue
+        shown = set(sources.exports(crate.name).values())
+        for path, module in crate.modules.items():
+            for item in module.items:
+                if item.kind == "fn" and item.visibility == "pub":
+                    if (crate.name, *path, item.name) in shown or crate.name == "c_exports":
+                        yield Statement(crate.name, module, "", item)
+                elif item.kind == "impl" and not item.trait():
+                    names = {item.owner(), *(it.name for it in module.items if f"= {item.owner()}<" in it.text)}
+                    if any(target[0] == crate.name and target[-1] in names for target in shown):
+                        inner = (it for it in item.items if it.kind == "fn" and it.visibility == "pub")
+                        yield from (Statement(crate.name, module, item.owner(), it) for it in inner)
+
+
+def is_law(statement):
+    return "laws" in statement.module.path
+
+
+def weakened(statement):
+    item = statement.item
+
+    def with_instead(clause, *more):
+        return [it for it in item.clauses if it is not clause] + list(more)
+
+    is_call = statement.crate in CALLS and not is_law(statement)
+    one_more = ONE_MORE.get(re.match(r"\w*", item.text.partition("-> ")[2])[0])
+    if is_law(statement):
+        promises = [clause for clause in item.clauses if clause.kind == "ensures"]
+        yield Weaker(statement, "false premise", [*item.clauses, NO_PREMISE], promises)
+    for clause in item.clauses:
+        label = f" {clause.name}" if clause.name else ""
+        if clause.kind == "ensures" and (is_law(statement) or is_call):
+            yield Weaker(statement, f"without{label or ' its clause'}", with_instead(clause), [clause])
+        if clause.kind == "ensures" and one_more and is_call:
+            wider = Clause("ensures", clause.name, f"({clause.text}) ⊎ ({one_more})")
+            yield Weaker(statement, f"one result more{label}", with_instead(clause, wider), [clause])
+        if clause.kind == "requires" and " ≤ length " in clause.text:
+            longer = Clause("requires", clause.name, clause.text.replace(" ≤ length ", " < length "))
+            yield Weaker(statement, f"one byte more{label}", with_instead(clause, longer), [])
+
+
+# ---- needs
+
+
+@functools.lru_cache(maxsize=None)
+def modules_of_laws(sources):
+    """The public module of each exported item, as a full path, by the full path of the item."""
+    return {
+        target: (name, *shown[:-1]) for name, crate in sources.crates.items() if not crate.is_program
+        for shown, target in sources.exports(name).items() if target[0] == name
+    }
+
+
+class Need:
+    """A function of a crate with needs."""
+
+    def __init__(self, sources, crate, module, item):
+        self.crate, self.path, self.item = crate, module.path, item
+        lines = (TOP / module.file).read_text(encoding="utf-8").split("\n")
+        end = next(at for at in range(item.line - 1, len(lines)) if lines[at] in ("}", "{}"))
+        self.text = "\n".join([*(f"#[{it}]" for it in item.attributes), *lines[item.line - 1 : end + 1]])
+        self.params = dict(re.findall(r"(\w+): (&?(?:mut )?[\w<>'_]+)", item.text))
+        self.means = lambda name: sources.meaning(crate, module.path, name)
+        self.exports = modules_of_laws(sources)
+
+    def call_of(self, statement):
+        """A pattern for what stands before the arguments of a call of this function, and the receiver and its type."""
+        name = re.escape(statement.item.name)
+        if is_law(statement):
+            law = (statement.crate, *statement.module.path, statement.item.name)
+            is_from_there = self.exports.get(law) == self.means("laws")
+            return (rf"\blaws::{name}\(", "", "") if is_from_there else None
+        if not statement.owner:
+            path = (statement.crate, *statement.module.path, statement.item.name)
+            for module in set(re.findall(rf"(?<![\w.:])(?:(\w+)::)?{name}\(", self.text)):
+                found = (*(self.means(module) or ()), statement.item.name) if module else self.means(statement.item.name)
+                if found == path:
+                    return (rf"(?<![\w.:]){module}::{name}\(" if module else rf"(?<![\w.:]){name}\("), "", ""
+            return None
+        for param, kind in self.params.items():
+            if self.is_of(re.sub(r"^&(mut )?|<.*", "", kind), statement) and re.search(rf"\b{param}\.{name}\(", self.text):
+                return rf"\b{param}\.{name}\(", param, kind
+        has_self = re.search(r"\((&mut |&)?(?:'\w+ )?self\b", statement.item.text)
+        for kind in set(re.findall(rf"\b(\w+)::{name}\(", self.text)):
+            if self.is_of(kind, statement) and not has_self:
+                return rf"\b{kind}::{name}\(", "", kind
+        return None
+
+    def is_of(self, kind, statement):
+        """Whether this type, or what it is an alias of, has the function."""
+        found = self.means(kind)
+        if not found or found[0] != statement.crate:
+            return False
+        alias = next((it.text for it in statement.module.items if it.kind == "type" and it.name == found[-1]), "")
+        return found[-1] == statement.owner or f"= {statement.owner}<" in alias
+
+
+def needs(sources):
+    for name, first in NEEDS.items():
+        for path, module in sources.crates[name].modules.items() if name in sources.crates else ():
+            if not first or path[:1] == (first,):
+                yield from (Need(sources, name, module, item) for item in module.items if item.kind == "fn")
+
+
+# ---- a crate whose needs call functions with weaker contracts
+
+
+class Trial:
+    """Weaker statements that are tried in one copy of a crate with needs."""
+
+    def __init__(self, sources, crate, pairs):
+        self.sources, self.crate, self.pairs, self.log = sources, crate, pairs, ""
+        self.modules = {}  # The text of a module of weaker functions, for each module that states them.
+        self.copies = collections.defaultdict(str)  # The copies of needs, by their file.
+        self.answers = {}  # The text of the answers of weaker laws, by their folder.
+        self.answered = []  # The copies of needs: the need, its number, the function that it calls, and the weaker one.
+        self.of = {}  # The weaker statement, by the name of a copy.
+
+    def write(self, folder):
+        for part in ("src", "specs", "proofs"):
+            if (TOP / "crates" / self.crate / part).is_dir():
+                shutil.copytree(TOP / "crates" / self.crate / part, folder / part)
+        for number, (weaker, *need) in enumerate(self.pairs):
+            if need:
+                self.add(number, weaker, *need)
+            else:
+                self.add_alike(number, weaker)
+        for need, number, *names in self.answered:
+            self.copy_answers(folder / "proofs", need, f"{need.item.name}_{number}", *names)
+        for path, text in self.answers.items():
+            (folder / path).mkdir(parents=True)
+            (folder / path / "Answers.antt").write_text(text, encoding="utf-8")
+        for file, text in self.copies.items():
+            with open(folder / file, "a", encoding="utf-8") as module:
+                module.write(text)
+        for name, text in self.modules.values():
+            (folder / f"src/{name}.rt").write_text(text, encoding="utf-8")
+        root = folder / "src/lib.rt"
+        lines = root.read_text(encoding="utf-8").split("\n")
+        first = next(at for at, line in enumerate(lines) if re.match(r"(pub )?mod ", line))
+        lines[first:first] = [f"mod {name};" for name, _ in self.modules.values()]
+        root.write_text("\n".join(lines), encoding="utf-8")
+
+    def add(self, number, weaker, need, call):
+        statement, pattern, receiver, kind = weaker.statement, *call
+        key = statement.module.file
+        module, text = self.modules.setdefault(key, (f"weaker_{len(self.modules)}", self.head(statement)))
+        name = f"{statement.item.name}_{number}"
+        self.modules[key] = (module, text + self.function(weaker, name, receiver, kind))
+        start = f"crate::{module}::{name}("
+        if receiver:
+            start += receiver if kind[0] == "&" else self.borrow(statement) + receiver
+        copy = re.sub(rf"{pattern}(\))?", lambda found: start + (")" if found[1] else ", " if receiver else ""), need.text)
+        copy = re.sub(rf"\bfn {need.item.name}\b", f"fn {need.item.name}_{number}", copy, count=1)
+        file = self.sources.crates[self.crate].modules[need.path].file
+        self.copies[file[len(f"crates/{self.crate}/") :]] += f"\n{copy}\n"
+        self.of["::".join((*need.path, f"{need.item.name}_{number}"))] = weaker
+        self.answered.append((need, number, statement.item.name, name))
+        self.add_answers(weaker, module, name)
+
+    def add_answers(self, weaker, module, name):
+        """Adds the proof of a weaker law: each clause is one of the law's."""
+        law = weaker.statement.item.name
+        kept = [it for it in weaker.clauses if it.kind == "ensures"]
+        if not is_law(weaker.statement) or not kept:
+            return
+        text = f"use Rattle.{self.crate}.proofs.{module}.{name}.Goals as goal\n"
+        for clause in kept:
+            goal = f"returns-clause-{clause.name}" if len(kept) > 1 else "returns"
+            term = f"c.{law}.ensures" + (f".{clause.name}" if clause.name else "")
+            term = f"record {{ {clause.name} = {term} }}" if clause.name and len(kept) == 1 else term
+            text += f"\npub {goal} : goal.{goal}\n{goal} c = {term}\n"
+        self.answers[f"proofs/{module}/{name}"] = text
+
+    @staticmethod
+    def copy_answers(proofs, need, copy, law, name):
+        """Copies the answers of a need for its copy, which cite the weaker function."""
+        old = proofs.joinpath(*need.path, need.item.name)
+        if old.is_dir():
+            for path in shutil.copytree(old, old.with_name(copy)).glob("*.antt"):
+                text = re.sub(rf"\.{need.item.name}\.(?=Goals\b|Given\b)", f".{copy}.", path.read_text(encoding="utf-8"))
+                path.write_text(re.sub(rf"(?<![\w-]){law}(?=[-.])", name, text), encoding="utf-8")
+
+    def add_alike(self, number, weaker):
+        """Adds a function that has what the statement lost, by a call of one with the weaker contract."""
+        statement, item = weaker.statement, weaker.statement.item
+        module, text = self.modules.setdefault(statement.module.file, (f"weaker_{len(self.modules)}", self.head(statement)))
+        name = f"{item.name}_{number}"
+        lost = weaker._replace(clauses=[it for it in item.clauses if it.kind == "requires"] + weaker.lost)
+        alike = self.function(lost, f"{name}_alike", "", "")
+        if NO_PREMISE in weaker.clauses:
+            text += re.sub(r"\{\n.*\n\}\n$", "{\n}\n", alike)
+        else:
+            text += self.function(weaker, name, "", "") + alike.replace(f"{self.path_of(statement, '')}(", f"{name}(")
+            self.add_answers(weaker, module, name)
+        self.modules[statement.module.file] = (module, text)
+        self.of[f"{module}::{name}_alike"] = weaker
+
+    def head(self, statement):
+        """The imports of a module of weaker functions."""
+        source = (TOP / statement.module.file).read_text(encoding="utf-8")
+        ghosts = [use for use in GHOST_USE.findall(source)]
+        named = words_of("".join(ghosts)) | set(re.findall(r"◌\S+◌", "".join(ghosts)))
+        more = ", ".join(word for word in WORDS if word not in named)
+        return f"ghost use Rattle.std.specs.Prelude.{{{more}}};\n" + "".join(ghosts) + "".join(self.uses(statement))
+
+    def uses(self, statement):
+        """Imports of the types that the functions of its module name."""
+        module, crate = statement.module, statement.crate
+        words = set()
+        for item in module.items:
+            for inner in (item, *item.items):
+                words |= words_of(" ".join([inner.text, *(it.text for it in inner.clauses)]))
+        for word in sorted(words):
+            path = self.sources.meaning(crate, module.path, word)
+            public = path and self.public(path)
+            if public and public[-1] == word or path and path[0] == "std" and len(path) > 1:
+                yield f"use {'::'.join(public or path)};\n"
+
+    def public(self, path):
+        """The path by which the copy names this item, if it can."""
+        if path[0] == self.crate:
+            is_public = any(it.name == path[-1] and it.visibility for it in self.sources.items_at(path[0], path[1:-1]))
+            return ("crate", *path[1:]) if is_public else None
+        named = [it for it in proved.crates()[self.crate][1] if it in self.sources.crates]
+        for crate in [path[0]] if path[0] in named else named:
+            for shown, target in self.sources.exports(crate).items():
+                if target == path:
+                    return (crate, *shown)
+        return None
+
+    def borrow(self, statement):
+        """How a method borrows its receiver."""
+        return re.search(r"\((&mut |&)?(?:'\w+ )?self", statement.item.text)[1] or ""
+
+    def function(self, weaker, name, receiver, kind):
+        """A function with the weaker contract, which calls that with the stronger one."""
+        statement, item = weaker.statement, weaker.statement.item
+        params = re.findall(r"(\w+): ", re.sub(r"^([^(<]*)<[^()]*>\(", r"\1(", item.text).partition("->")[0])
+        head = re.sub(rf"^(?:const |unsafe |extern \"C\" )*fn {item.name}", f"pub fn {name}", item.text)
+        clauses = sorted((it for it in weaker.clauses if it.kind != "ensures*"), key=lambda it: it.kind != "requires")
+        is_lost = re.search(r"-> .*[&']", head) and not is_law(statement)
+        body = f"{self.path_of(statement, kind)}({', '.join(params)})"
+        if statement.owner:
+            owner = re.sub(r"^&(mut )?", "", kind)
+            receiver_type = f"this: {self.borrow(statement)}{owner}" if receiver else ""
+            head = re.sub(r"\((?:&mut |&)?(?:'\w+ )?self(, )?", lambda found: f"({receiver_type}{found[1] or ''}", head)
+            head = re.sub(r"\bSelf\b", owner, head.replace("&'a ", "&"))
+            if receiver:
+                body = f"this.{item.name}({', '.join(params)})"
+        if is_lost:
+            head, body = head.partition(" -> ")[0], f"let _ = {body};"
+            clauses = [clause for clause in clauses if clause.kind == "requires"]
+        text = "".join(f"    {it.kind} {it.name or ('given' if it.kind == 'requires' else '')} {{ {it.text} }}\n" for it in clauses)
+        if statement.owner:
+            text = BYTES.sub(r"(\1).now", re.sub(r"\bself\b", "this", text))
+        return f"\n{head}\n{text}{{\n    {body}\n}}\n"
+
+    def path_of(self, statement, kind):
+        if statement.owner:
+            return f"{kind}::{statement.item.name}"
+        path = self.public((statement.crate, *statement.module.path, statement.item.name))
+        return "::".join(path)
+
+    def run(self):
+        with tempfile.TemporaryDirectory() as room:
+            folder = pathlib.Path(room)
+            self.write(folder)
+            only = [word for name in self.of for word in ("--only", name)]
+            words = [*proved.command_line("check", self.crate), *self.more_externs(), *only]
+            ran = subprocess.run(words, cwd=folder, stdin=subprocess.DEVNULL, stdout=subprocess.PIPE, stderr=subprocess.STDOUT, text=True, errors="replace")
+            self.log = ran.stdout
+            for keep in ([KEEP / self.crate] if KEEP else []):
+                shutil.rmtree(keep, ignore_errors=True)
+                shutil.copytree(folder, keep)
+        return self
+
+    def more_externs(self):
+        """The libraries that the weaker contracts name, and the crate with the needs does not."""
+        named = set(re.findall(r"\bRattle\.(\w+)\.", "".join(text for _, text in self.modules.values())))
+        for name in sorted(named - {"std", self.crate, *proved.crates()[self.crate][1]}):
+            folder = proved.KEPT if name in proved.crates() else proved.kit() / "rlibs"
+            yield from ("--extern", f"{name}={folder / name}.rlib")
+
+    def verdicts(self):
+        """What rattle says of each copy, by its weaker statement."""
+        told = dict(VERDICT.findall(self.log))
+        for name, weaker in self.of.items():
+            yield weaker, name, told.get(name, "was not checked")
+
+
+KEEP = pathlib.Path(os.environ["LOOSEN_KEEP"]) if "LOOSEN_KEEP" in os.environ else None
+
+
+def calls_of(weaker, found):
+    """The needs that call what a weaker statement is about, with these calls."""
+    for need in found:
+        call = need.call_of(weaker.statement)
+        if call and re.search(call[0], need.text):
+            yield weaker, need, call
+
+
+def may_be_alike(weaker):
+    """Whether a function can say what the weaker statement lost."""
+    item = weaker.statement.item
+    is_empty = item.body.strip() == "" and "->" not in item.text
+    return weaker.lost and not weaker.statement.owner and (is_empty or NO_PREMISE not in weaker.clauses)
+
+
+def home_of(weaker, *need):
+    """The crate whose copy has the functions."""
+    crate = weaker.statement.crate
+    return need[0].crate if need else next(name for name in NEEDS if name == crate or crate in proved.crates()[name][1])
+
+
+def tried(pool, sources, entries):
+    """Tries weaker statements with a need, or by themselves: what rattle says of each, and all that it prints."""
+    by_crate = collections.defaultdict(list)
+    for entry in entries:
+        by_crate[home_of(*entry)].append(entry)
+    trials = [
+        Trial(sources, crate, some[first : first + ROUND]) for crate, some in by_crate.items() for first in range(0, len(some), ROUND)
+    ]
+    for trial in pool.map(Trial.run, trials):
+        yield from ((name_of(it), name, verdict, trial) for it, name, verdict in trial.verdicts())
+
+
+def unneeded():
+    """The names in the list of what nothing notices."""
+    lines = LIST.read_text(encoding="utf-8").split("\n")
+    return [line.partition("|")[0].strip() for line in lines if "|" in line]
+
+
+def verdicts(sources, weaker):
+    """The names of the weaker statements that needs notice, and that lose nothing, and what went wrong."""
+    noticed, alike, faults, log = set(), set(), [], {}
+    found = list(needs(sources))
+    calls = {name_of(it): list(calls_of(it, found)) for it in weaker}
+    with ThreadPoolExecutor(PROCESSORS) as pool:
+        # The first need of each, and then all others of those that it does not notice.
+        for part in (slice(0, 1), slice(1, None)):
+            entries = [entry for name, its in calls.items() if name not in noticed for entry in its[part]]
+            for name, copy, verdict, trial in tried(pool, sources, entries):
+                log[trial] = trial.log
+                if NOTICED.match(verdict):
+                    noticed.add(name)
+                elif verdict != "proved":
+                    faults.append(f"{name}: {copy}: {verdict}")
+        entries = [(it,) for it in weaker if name_of(it) not in noticed and may_be_alike(it)]
+        for name, _, verdict, trial in tried(pool, sources, entries):
+            log[trial] = trial.log
+            alike |= {name} if verdict == "proved" else set()
+    (TOP / "out").mkdir(exist_ok=True)
+    (TOP / "out/loosen.log").write_text("".join(log.values()), encoding="utf-8")
+    return noticed, alike, faults
+
+
+def main():
+    asked = set(sys.argv[1:])
+    sources, listed = Sources(str(TOP)), set(unneeded())
+    weaker = [it for statement in statements(sources) for it in weakened(statement)]
+    known = {name_of(it) for it in weaker}
+    names = {name_of(it) for it in weaker if not asked or asked & {it.statement.item.name, it.statement.crate, it.statement.owner}}
+    noticed, alike, faults = verdicts(sources, [it for it in weaker if name_of(it) in names])
+    faults += [f"nothing notices {name}" for name in sorted(names - noticed - alike - listed)]
+    faults += [f"{LIST.name} has {name}, which is noticed" for name in sorted(listed & (noticed | alike))]
+    faults += [f"{LIST.name} has {name}, which is no statement" for name in sorted(listed - known)]
+    faults += [f"{LIST.name} has {len(listed)} rows, more than {MOST}"] if len(listed) > MOST else []
+    print("".join(f"FAILED: {fault}\n" for fault in faults) + f"{len(names)} weaker statements: {len(noticed)} are noticed, "
+          f"{len(alike)} lose nothing, {len(names & listed)} are listed")
+    sys.exit(bool(faults))
+
+
+if __name__ == "__main__":
+    main()
