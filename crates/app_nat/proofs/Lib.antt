@@ -4,6 +4,7 @@ pub mod EchoEnds
 pub mod Echoes
 pub mod Ends
 pub mod Faults
+pub mod FlowsOnce
 pub mod Headers
 pub mod Mapped
 pub mod Meaning

@@ -13,7 +13,7 @@ use Rattle.ip_wire.specs.Frame.{ipv4_payload}
 use Rattle.ip_wire.specs.Ipv4 as ipv4
 use Rattle.ip_wire.specs.Types.{EthernetRepr, Ipv4Repr}
 
-translated-once : (old new new' : List ℕ) (side : Side) (addr : List ℕ) (port : ℕ) → IsTranslated old new side addr port → IsTranslated old new' side addr port → new ≡ new'
+pub translated-once : (old new new' : List ℕ) (side : Side) (addr : List ℕ) (port : ℕ) → IsTranslated old new side addr port → IsTranslated old new' side addr port → new ≡ new'
 translated-once old new new' side addr port a b = a.bytes ∙ sym b.bytes
 
 -- ---- what a frame carries
@@ -48,14 +48,18 @@ allowed v bytes Destination port (request ident seq_no payload) r = tt
 allowed v bytes Source port (reply ident seq_no payload) r = tt
 allowed v bytes Destination port (reply ident seq_no payload) r = tt
 
-translated-unrejected : (old new : List ℕ) (side : Side) (addr : List ℕ) (port : ℕ) (r : Rejection) → IsTranslated old new side addr port → ¬ IsUntranslated old side port r
+-- the port of a translated frame is accepted
+pub translated-allowed : (old new : List ℕ) (side : Side) (addr : List ℕ) (port : ℕ) (a : IsTranslated old new side addr port) → AllowsPort side a.transport port
+translated-allowed old new side addr port a =
+    let after = carried new a.link (with_addr side addr a.header) (with_port side port a.transport) a.after in
+    allowed (with_addr side addr a.header) (ipv4_payload (drop 14 new)) side port a.transport after.carries
+
+pub translated-unrejected : (old new : List ℕ) (side : Side) (addr : List ℕ) (port : ℕ) (r : Rejection) → IsTranslated old new side addr port → ¬ IsUntranslated old side port r
 translated-unrejected old new side addr port r a (inl why) = carries-unrejected old a.link a.header a.transport r a.before why
 translated-unrejected old new side addr port r a (inr (is, why)) =
-    let after = carried new a.link (with_addr side addr a.header) (with_port side port a.transport) a.after in
-    let accepts = allowed (with_addr side addr a.header) (ipv4_payload (drop 14 new)) side port a.transport after.carries in
-    why.disallowed (subst (λ t. AllowsPort side t port) (transport-of-one old a.link why.link a.header why.header a.transport why.transport a.before why.carries) accepts)
+    why.disallowed (subst (λ t. AllowsPort side t port) (transport-of-one old a.link why.link a.header why.header a.transport why.transport a.before why.carries) (translated-allowed old new side addr port a))
 
-untranslated-once : (frame : List ℕ) (side : Side) (port : ℕ) (r s : Rejection) → IsUntranslated frame side port r → IsUntranslated frame side port s → r ≡ s
+pub untranslated-once : (frame : List ℕ) (side : Side) (port : ℕ) (r s : Rejection) → IsUntranslated frame side port r → IsUntranslated frame side port s → r ≡ s
 untranslated-once frame side port r s (inl a) (inl b) = computed-one _ r s a b
 untranslated-once frame side port r s (inl a) (inr (is, b)) = absurd (carries-unrejected frame b.link b.header b.transport r b.carries a)
 untranslated-once frame side port r s (inr (is, a)) (inl b) = absurd (carries-unrejected frame a.link a.header a.transport s a.carries b)

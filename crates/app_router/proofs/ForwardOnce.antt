@@ -25,7 +25,7 @@ header-once type bytes verified (Ipv6 v) (Ipv4 w) a b = let apart : ethertype.Ip
 
 -- ---- a hop
 
-forwarded-once : (old new other : List ℕ) (src dst : EthernetAddress) (h k : IpRepr) → IsForwarded old new src dst h → IsForwarded old other src dst k → (new ≡ other) × (h ≡ k)
+pub forwarded-once : (old new other : List ℕ) (src dst : EthernetAddress) (h k : IpRepr) → IsForwarded old new src dst h → IsForwarded old other src dst k → (new ≡ other) × (h ≡ k)
 forwarded-once old new other src dst h k a b =
     let link = link-once old a.from b.from a.carried.reads_link b.carried.reads_link in
     let packet = subst (λ (l : EthernetRepr). CarriesAs l.ethertype (drop 14 old) true a.before) link a.carried.packet in
@@ -36,6 +36,6 @@ forwarded-once old new other src dst h k a b =
 -- ---- no fault
 
 -- a frame that is forwarded has no fault
-forwarded-no_fault : (old new : List ℕ) (src dst : EthernetAddress) (h : IpRepr) → IsForwarded old new src dst h → fault_of old ≡ None
+pub forwarded-no_fault : (old new : List ℕ) (src dst : EthernetAddress) (h : IpRepr) → IsForwarded old new src dst h → fault_of old ≡ None
 forwarded-no_fault old new src dst h a =
     rw ((ethernet_of-Reads old a.from).1 a.carried.reads_link) (no-fault a.from.ethertype (drop 14 old) a.before a.carried.packet a.alive)

@@ -9,14 +9,14 @@ use Rattle.app_router.specs.declared.source.SourceFault.TheVariants.{Martian, No
 use Rattle.ip_wire.specs.declared.IpAddress.{IpAddress}
 use Rattle.ip_wire.specs.declared.IpCidr.{IpCidr}
 
-one_block : (blocks : List IpCidr) (addr : IpAddress) (i j : ℕ) → IsChosenAt blocks addr i → IsChosenAt blocks addr j → i ≡ j
+pub one_block : (blocks : List IpCidr) (addr : IpAddress) (i j : ℕ) → IsChosenAt blocks addr i → IsChosenAt blocks addr j → i ≡ j
 one_block blocks addr i j a b = elim (cases_order i j) [
   | inl same ↦ same
   | inr (inl less) ↦ absurd (let x = b.shorter i less a.leads in let y = a.no_longer j less b.within b.leads in omega (arith, x, y))
   | inr (inr more) ↦ absurd (let x = a.shorter j more b.leads in let y = b.no_longer i more a.within a.leads in omega (arith, x, y))
 ]
 
-one_fault : (src : IpAddress) (interface : ℕ) (back : Option ℕ) (a b : Option SourceFault) → ChecksSource src interface back a → ChecksSource src interface back b
+pub one_fault : (src : IpAddress) (interface : ℕ) (back : Option ℕ) (a b : Option SourceFault) → ChecksSource src interface back a → ChecksSource src interface back b
     → a ≡ b
 one_fault src interface back None None x y = refl
 one_fault src interface back None (Some Martian) x y = absurd (x.0 y)

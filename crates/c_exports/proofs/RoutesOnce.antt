@@ -1,11 +1,11 @@
 -- One route is chosen, and a source has one fault.
 use Rattle.std.proofs.Common.{ℕ, ℤ, pos, negsuc, ◌≡◌, ◌≤◌, ◌∙◌, All, List, MatchOption, Option, None, Some, inl, inr, arith, ap, drop, length, refl, rules, subst, sym, take_all}
 use Rattle.std.proofs.lemmas.Bool.{cases_order}
-use Rattle.std.proofs.lemmas.Option.{none-some, same_Some}
+use Rattle.app_router.proofs.RoutesOnce.{one_fault}
 use Rattle.app_router.specs.Source.{ChecksSource}
 use Rattle.app_router.specs.declared.index.Node.{Node}
 use Rattle.app_router.specs.declared.source.SourceFault.{SourceFault}
-use Rattle.app_router.specs.declared.source.SourceFault.TheVariants.{Martian, NoRoute, OtherInterface}
+use Rattle.app_router.specs.declared.source.SourceFault.TheVariants.{Martian}
 use Rattle.ip_wire.specs.declared.IpAddress.{IpAddress}
 use Rattle.c_routing.specs.Lengths.{in_bounds}
 use Rattle.c_routing.specs.Rejections.{rejection_code, source_code}
@@ -88,25 +88,6 @@ back-once routes addr (Some n) None (i, chosen, is) none = absurd (led routes ad
 back-once routes addr (Some n) (Some m) (i, chosen, is) (j, again, also) =
     ap Some (sym is ∙ ap (λ k. (route_at routes k).interface) (route-once routes addr i j chosen again) ∙ also)
 
-fault-once : (src : IpAddress) (interface : ℕ) (back : Option ℕ) (a b : Option SourceFault) → ChecksSource src interface back a → ChecksSource src interface back b
-    → a ≡ b
-fault-once src interface back None None x y = refl
-fault-once src interface back None (Some Martian) x y = absurd (x.0 y)
-fault-once src interface back None (Some NoRoute) x y = absurd (none-some interface (sym y.1 ∙ x.1))
-fault-once src interface back None (Some OtherInterface) x y = absurd (y.1.2 (same_Some y.1.0 interface (sym y.1.1 ∙ x.1)))
-fault-once src interface back (Some Martian) None x y = absurd (y.0 x)
-fault-once src interface back (Some Martian) (Some Martian) x y = refl
-fault-once src interface back (Some Martian) (Some NoRoute) x y = absurd (y.0 x)
-fault-once src interface back (Some Martian) (Some OtherInterface) x y = absurd (y.0 x)
-fault-once src interface back (Some NoRoute) None x y = absurd (none-some interface (sym x.1 ∙ y.1))
-fault-once src interface back (Some NoRoute) (Some Martian) x y = absurd (x.0 y)
-fault-once src interface back (Some NoRoute) (Some NoRoute) x y = refl
-fault-once src interface back (Some NoRoute) (Some OtherInterface) x y = absurd (none-some y.1.0 (sym x.1 ∙ y.1.1))
-fault-once src interface back (Some OtherInterface) None x y = absurd (x.1.2 (same_Some x.1.0 interface (sym x.1.1 ∙ y.1)))
-fault-once src interface back (Some OtherInterface) (Some Martian) x y = absurd (x.0 y)
-fault-once src interface back (Some OtherInterface) (Some NoRoute) x y = absurd (none-some x.1.0 (sym y.1 ∙ x.1.1))
-fault-once src interface back (Some OtherInterface) (Some OtherInterface) x y = refl
-
 -- what is returned for a source that may have no version
 abbrev Checks : List Route → Addr → ℕ → ℤ → Option IpAddress → Type 0
 Checks routes src interface answer ip = MatchOption ip (answer ≡ pos (rejection_code rejection.Martian))
@@ -117,7 +98,7 @@ check-once : (routes : List Route) (src : Addr) (interface : ℕ) (ip : Option I
 check-once routes src interface None a b is also = is ∙ sym also
 check-once routes src interface (Some addr) a b (back, to, (fault, v, is)) (way, back_to, (why, w, also)) =
     let same : back ≡ way = back-once routes src back way to back_to in
-    let one : fault ≡ why = fault-once addr interface way fault why (subst (λ x. ChecksSource addr interface x fault) same v) w in
+    let one : fault ≡ why = one_fault addr interface way fault why (subst (λ x. ChecksSource addr interface x fault) same v) w in
     is ∙ ap (λ f. pos (source_code f)) one ∙ sym also
 
 pub checks_once : (routes : List Route) (src : Addr) (interface : ℕ) (a b : ℤ) → ChecksAddr routes src interface a → ChecksAddr routes src interface b → a ≡ b

@@ -1,13 +1,13 @@
 -- A router has one answer.
-use Rattle.std.proofs.Common.{ℕ, ◌≡◌, ◌∙◌, ◌↔◌, ◌<◌, ◌≤◌, ◌++◌, ◌∷◌, [], All, Bool, IfErr, IfOk, IsTrue, List, MatchOption, OnErr, Option, None, Some, Result, Ok, Err, true, false, arith, ap, drop, get_or, inl, inr, map, refl, suc, slice_range, subst, sym}
-use Rattle.std.proofs.lemmas.Bool.{cases_order}
+use Rattle.std.proofs.Common.{ℕ, ◌≡◌, ◌∙◌, ◌↔◌, ◌<◌, ◌≤◌, ◌++◌, ◌∷◌, [], All, Bool, IfErr, IfOk, IsTrue, List, MatchOption, OnErr, Option, None, Some, Result, Ok, Err, true, false, arith, ap, drop, get_or, map, refl, suc, subst, sym}
 use Rattle.std.proofs.lemmas.Option.{none-some, same_Some}
 use Rattle.app_host.proofs.MessagesOnce.{error-once}
 use Rattle.app_host.specs.Message.{Gives, values_of}
 use Rattle.app_host.specs.declared.interface.Interface.{Interface}
 use Rattle.app_host.specs.declared.message.MessageFrame.{MessageFrame}
-use Rattle.app_router.proofs.Forwards.{no-fault}
-use Rattle.app_router.specs.Forward.{CarriesAs, IsForwarded, fault_of, one_hop_less, with_hop_limit}
+use Rattle.app_router.proofs.ForwardOnce.{forwarded-no_fault, forwarded-once}
+use Rattle.app_router.proofs.RoutesOnce.{one_block, one_fault}
+use Rattle.app_router.specs.Forward.{IsForwarded, fault_of}
 use Rattle.app_router.specs.IcmpProblem.{Tells, message_of}
 use Rattle.app_router.specs.Index.{IsChosenAt, IsIndex, block_of}
 use Rattle.app_router.specs.Route.{IsChosen, Leads}
@@ -16,16 +16,8 @@ use Rattle.app_router.specs.declared.index.Node.{Node}
 use Rattle.app_router.specs.declared.problem.Problem.{Problem}
 use Rattle.app_router.specs.declared.route.Route.{Route}
 use Rattle.app_router.specs.declared.source.SourceFault.{SourceFault}
-use Rattle.app_router.specs.declared.source.SourceFault.TheVariants.{Martian, NoRoute, OtherInterface}
-use Rattle.ip_wire.proofs.EthernetComputed.{ethernet_of-Reads}
-use Rattle.ip_wire.proofs.Ipv4Computed.{ipv4_of-Reads}
-use Rattle.ip_wire.proofs.Ipv6Computed.{ipv6_of-Reads}
-use Rattle.ip_wire.proofs.ReadsOnce.{computed-one}
-use Rattle.ip_wire.specs.Ethernet as ethernet
-use Rattle.ip_wire.specs.Ip.{hop_limit_of}
 use Rattle.ip_wire.specs.IpCidr.{IsIn, block_prefix_len}
-use Rattle.ip_wire.specs.Types.{EthernetAddress, EthernetProtocol, EthernetRepr, IpRepr, Ipv4, Ipv6}
-use Rattle.ip_wire.specs.declared.EthernetProtocol.TheVariants as ethertype
+use Rattle.ip_wire.specs.Types.{EthernetAddress, IpRepr}
 use Rattle.ip_wire.specs.declared.HeaderFault.{HeaderFault}
 use Rattle.ip_wire.specs.declared.IpAddress.{IpAddress}
 use Rattle.ip_wire.specs.declared.IpCidr.{IpCidr}
@@ -39,37 +31,14 @@ one_verdict P false false h k = refl
 
 -- ---- frames that are forwarded
 
-link-once : (frame : List ℕ) (v w : EthernetRepr) → ethernet.Reads frame v → ethernet.Reads frame w → v ≡ w
-link-once frame v w a b = computed-one _ v w ((ethernet_of-Reads frame v).1 a) ((ethernet_of-Reads frame w).1 b)
-
-header-once : (type : EthernetProtocol) (bytes : List ℕ) (v w : IpRepr) → CarriesAs type bytes true v → CarriesAs type bytes true w → v ≡ w
-header-once type bytes (Ipv4 v) (Ipv4 w) a b =
-    ap Ipv4 (computed-one _ v w ((ipv4_of-Reads true bytes v).1 a.reads) ((ipv4_of-Reads true bytes w).1 b.reads))
-header-once type bytes (Ipv6 v) (Ipv6 w) a b = ap Ipv6 (computed-one _ v w ((ipv6_of-Reads bytes v).1 a.reads) ((ipv6_of-Reads bytes w).1 b.reads))
-header-once type bytes (Ipv4 v) (Ipv6 w) a b = let apart : ethertype.Ipv4 ≡ ethertype.Ipv6 = sym a.names ∙ b.names in absurd (cc)
-header-once type bytes (Ipv6 v) (Ipv4 w) a b = let apart : ethertype.Ipv6 ≡ ethertype.Ipv4 = sym a.names ∙ b.names in absurd (cc)
-
-hop-once : (old new other : List ℕ) (src dst : EthernetAddress) (h k : IpRepr) → IsForwarded old new src dst h → IsForwarded old other src dst k → (h ≡ k) × (new ≡ other)
-hop-once old new other src dst h k a b =
-    let link = link-once old a.from b.from a.carried.reads_link b.carried.reads_link in
-    let packet = subst (λ (l : EthernetRepr). CarriesAs l.ethertype (drop 14 old) true a.before) link a.carried.packet in
-    let before = header-once b.from.ethertype (drop 14 old) a.before b.before packet b.carried.packet in
-    let header : h ≡ k = a.hop ∙ ap one_hop_less before ∙ sym b.hop in
-    (header, a.bytes ∙ (λ i. dst.0 ++ src.0 ++ slice_range old 12 14 ++ with_hop_limit (before i) (drop 14 old) (hop_limit_of (header i))) ∙ sym b.bytes)
-
--- a frame that is forwarded has no fault
-hop-no_fault : (old new : List ℕ) (src dst : EthernetAddress) (h : IpRepr) → IsForwarded old new src dst h → fault_of old ≡ None
-hop-no_fault old new src dst h a =
-    rw ((ethernet_of-Reads old a.from).1 a.carried.reads_link) (no-fault a.from.ethertype (drop 14 old) a.before a.carried.packet a.alive)
-
 forward-results : (old copy new other : List ℕ) (src dst : EthernetAddress) (a b : Result IpRepr HeaderFault) → old ≡ copy
     → IfOk a (IsForwarded old new src dst) → IfErr a (λ fault. fault_of old ≡ Some fault) → OnErr a (new ≡ old)
     → IfOk b (IsForwarded copy other src dst) → IfErr b (λ fault. fault_of copy ≡ Some fault) → OnErr b (other ≡ copy) → (a ≡ b) × (new ≡ other)
 forward-results old copy new other src dst (Ok h) (Ok k) e f r u g s v =
-    let t = hop-once old new other src dst h k f (subst (λ o. IsForwarded o other src dst k) (sym e) g) in (ap Ok t.0, t.1)
-forward-results old copy new other src dst (Ok h) (Err y) e f r u g s v = absurd (none-some y (sym (hop-no_fault old new src dst h f) ∙ ap fault_of e ∙ s))
+    let t = forwarded-once old new other src dst h k f (subst (λ o. IsForwarded o other src dst k) (sym e) g) in (ap Ok t.1, t.0)
+forward-results old copy new other src dst (Ok h) (Err y) e f r u g s v = absurd (none-some y (sym (forwarded-no_fault old new src dst h f) ∙ ap fault_of e ∙ s))
 forward-results old copy new other src dst (Err x) (Ok k) e f r u g s v =
-    absurd (none-some x (sym (hop-no_fault old other src dst k (subst (λ o. IsForwarded o other src dst k) (sym e) g)) ∙ r))
+    absurd (none-some x (sym (forwarded-no_fault old other src dst k (subst (λ o. IsForwarded o other src dst k) (sym e) g)) ∙ r))
 forward-results old copy new other src dst (Err x) (Err y) e f r u g s v = (ap Err (same_Some x y (sym r ∙ ap fault_of e ∙ s)), u ∙ e ∙ sym v)
 
 pub forward_returned : (old copy new other : List ℕ) (src dst : EthernetAddress) (a b : Result IpRepr HeaderFault) → old ≡ copy
@@ -132,13 +101,6 @@ index_route routes nodes addr a b index x y = one_route routes addr a b (x index
 
 -- ---- places
 
-place-once : (blocks : List IpCidr) (addr : IpAddress) (i j : ℕ) → IsChosenAt blocks addr i → IsChosenAt blocks addr j → i ≡ j
-place-once blocks addr i j a b = elim (cases_order i j) [
-  | inl same ↦ same
-  | inr (inl less) ↦ absurd (let x = b.shorter i less a.leads in let y = a.no_longer j less b.within b.leads in omega (arith, x, y))
-  | inr (inr more) ↦ absurd (let x = a.shorter j more b.leads in let y = b.no_longer i more a.within a.leads in omega (arith, x, y))
-]
-
 place-led : (blocks : List IpCidr) (addr : IpAddress) (i : ℕ) → All (λ block. ¬ IsIn block addr) blocks → ¬ IsChosenAt blocks addr i
 place-led blocks addr i none a = none i _ a.within a.leads
 
@@ -146,7 +108,7 @@ pub one_place : (nodes : List Node) (addr : IpAddress) (a b : Option ℕ)
     → ((blocks : List IpCidr) → IsIndex blocks nodes → MatchOption a (All (λ block. ¬ IsIn block addr) blocks) (IsChosenAt blocks addr))
     → ((blocks : List IpCidr) → IsIndex blocks nodes → MatchOption b (All (λ block. ¬ IsIn block addr) blocks) (IsChosenAt blocks addr))
     → (blocks : List IpCidr) → IsIndex blocks nodes → a ≡ b
-one_place nodes addr (Some i) (Some j) x y blocks index = ap Some (place-once blocks addr i j (x blocks index) (y blocks index))
+one_place nodes addr (Some i) (Some j) x y blocks index = ap Some (one_block blocks addr i j (x blocks index) (y blocks index))
 one_place nodes addr (Some i) None x y blocks index = absurd (place-led blocks addr i (y blocks index) (x blocks index))
 one_place nodes addr None (Some j) x y blocks index = absurd (place-led blocks addr j (x blocks index) (y blocks index))
 one_place nodes addr None None x y blocks index = refl
@@ -159,25 +121,6 @@ back-once routes addr None (Some n) none (route, chosen, is) = absurd (led route
 back-once routes addr (Some n) None (route, chosen, is) none = absurd (led routes addr route none chosen)
 back-once routes addr (Some n) (Some m) (r, chosen, is) (s, again, also) =
     ap Some (sym is ∙ ap (λ (o : Route). o.interface) (route-once routes addr r s chosen again) ∙ also)
-
-pub one_fault : (src : IpAddress) (interface : ℕ) (back : Option ℕ) (a b : Option SourceFault) → ChecksSource src interface back a → ChecksSource src interface back b
-    → a ≡ b
-one_fault src interface back None None x y = refl
-one_fault src interface back None (Some Martian) x y = absurd (x.0 y)
-one_fault src interface back None (Some NoRoute) x y = absurd (none-some interface (sym y.1 ∙ x.1))
-one_fault src interface back None (Some OtherInterface) x y = absurd (y.1.2 (same_Some y.1.0 interface (sym y.1.1 ∙ x.1)))
-one_fault src interface back (Some Martian) None x y = absurd (y.0 x)
-one_fault src interface back (Some Martian) (Some Martian) x y = refl
-one_fault src interface back (Some Martian) (Some NoRoute) x y = absurd (y.0 x)
-one_fault src interface back (Some Martian) (Some OtherInterface) x y = absurd (y.0 x)
-one_fault src interface back (Some NoRoute) None x y = absurd (none-some interface (sym x.1 ∙ y.1))
-one_fault src interface back (Some NoRoute) (Some Martian) x y = absurd (x.0 y)
-one_fault src interface back (Some NoRoute) (Some NoRoute) x y = refl
-one_fault src interface back (Some NoRoute) (Some OtherInterface) x y = absurd (none-some y.1.0 (sym x.1 ∙ y.1.1))
-one_fault src interface back (Some OtherInterface) None x y = absurd (x.1.2 (same_Some x.1.0 interface (sym x.1.1 ∙ y.1)))
-one_fault src interface back (Some OtherInterface) (Some Martian) x y = absurd (x.0 y)
-one_fault src interface back (Some OtherInterface) (Some NoRoute) x y = absurd (none-some x.1.0 (sym y.1 ∙ x.1.1))
-one_fault src interface back (Some OtherInterface) (Some OtherInterface) x y = refl
 
 pub index_fault : (routes : List Route) (nodes : List Node) (src : IpAddress) (interface : ℕ) (a b : Option SourceFault) → IsIndex (map block_of routes) nodes
     → (IsIndex (map block_of routes) nodes → (back : Option ℕ) × IsBack routes src back × ChecksSource src interface back a)

@@ -1,17 +1,14 @@
 -- The short applications have one answer.
-use Rattle.std.proofs.Common.{ℕ, ◌≡◌, ◌∙◌, ◌↔◌, ◌%◌, ◌++◌, Bool, IfSome, IsTrue, List, Option, None, Some, Result, Ok, Err, if◌then◌else◌, arith, drop, length, refl, subst, sym}
+use Rattle.std.proofs.Common.{ℕ, ◌≡◌, ◌∙◌, ◌↔◌, ◌%◌, Bool, IsTrue, List, Some, Result, Ok, Err, if◌then◌else◌, arith, length, refl, subst, sym}
 use Rattle.app_short.specs.Clamp.{IsAbove}
 use Rattle.app_short.specs.Flow.{IsOneFlow, key_of}
 use Rattle.app_short.specs.declared.flow_key.Flow.{Flow}
 use Rattle.app_short.specs.declared.flow_key.FlowKey.{FlowKey}
-use Rattle.ip_wire.specs.Frame.{all_checked}
-use Rattle.ip_wire.specs.FrameValue.{frame_bytes, frame_len}
 use Rattle.ip_wire.specs.IpAddress.{address_bytes}
 use Rattle.ip_wire.specs.TcpRepr as tcp
 use Rattle.ip_wire.specs.TcpRepr.{TcpHeader}
 use Rattle.ip_wire.specs.TcpSegmentSize.{with_max_seg_size}
 use Rattle.ip_wire.specs.Types.{UdpRepr}
-use Rattle.ip_wire.specs.declared.Frame.{Frame}
 use Rattle.ip_wire.specs.declared.IpAddress.{IpAddress}
 use Rattle.ip_wire.specs.declared.IpAddress.TheVariants.{Ipv4}
 use Rattle.ip_wire.specs.declared.TcpControl.TheVariants as control
@@ -53,14 +50,3 @@ pub one_udp : (P : UdpRepr → Type 0) (a b : Result UdpRepr Error) → ((u : Ud
 one_udp P (Ok x) b h k = sym ((k x).1 ((h x).0 refl))
 one_udp P (Err x) (Ok y) h k = (h y).1 ((k y).0 refl)
 one_udp P (Err x) (Err y) h k = refl
-
--- ---- frames
-
-pub one_frame : (f : Frame) (old same new other : List ℕ) (a b : Option ℕ) → old ≡ same
-    → IfSome a (λ len. (len ≡ frame_len f) × (new ≡ frame_bytes all_checked f ++ drop len old))
-    → IfSome b (λ len. (len ≡ frame_len f) × (other ≡ frame_bytes all_checked f ++ drop len same))
-    → IfSome a (λ len. IfSome b (λ more. (len ≡ more) × (new ≡ other)))
-one_frame f old same new other (Some x) (Some y) e (p, q) (r, s) =
-    let one : x ≡ y = p ∙ sym r in (one, q ∙ (λ i. frame_bytes all_checked f ++ drop (one i) (e i)) ∙ sym s)
-one_frame f old same new other (Some x) None e v w = tt
-one_frame f old same new other None b e v w = tt

@@ -85,7 +85,7 @@ fn new_node_is_of_a_block(block: &IpCidr) -> Node
 }
 
 /// A source has one fault, or none.
-#[tactic(auto, using(crate::proofs::RouterOnce::one_fault))]
+#[tactic(auto, using(app_router::proofs::RoutesOnce::one_fault))]
 fn check_source_once(
     src: &IpAddress,
     interface: u16,
