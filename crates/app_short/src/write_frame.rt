@@ -1,8 +1,8 @@
 //! A frame with a UDP packet, over IPv4 or IPv6.
 
-ghost use Rattle.std.specs.Prelude.{◌≡◌, ◌++◌, IfSome, None, drop};
+ghost use Rattle.std.specs.Prelude.{◌≡◌, ◌≤◌, ◌↔◌, ◌++◌, IfSome, IsSome, None, drop, length};
 ghost use Rattle.ip_wire.specs.Frame.{all_checked};
-ghost use Rattle.ip_wire.specs.FrameValue.{ReadsNormalOf, frame_around, frame_bytes, frame_len};
+ghost use Rattle.ip_wire.specs.FrameValue.{Agrees, Fits, ReadsNormalOf, frame_around, frame_bytes, frame_len};
 ghost use Rattle.ip_wire.specs.declared.Transport.TheVariants as transport;
 
 use ip_wire::{EthernetAddress, Frame, IpRepr, UdpRepr, laws};
@@ -22,6 +22,8 @@ pub fn write_udp(
         IfSome result (λ len. (len ≡ frame_len frame) × (buffer.new ≡ frame_bytes all_checked frame ++ drop len buffer.old)) }
     ensures reads_back { let frame = frame_around src_addr dst_addr header (transport.Udp ports payload.entry) in
         IfSome result (λ len. ReadsNormalOf all_checked buffer.new frame) }
+    ensures fits { let frame = frame_around src_addr dst_addr header (transport.Udp ports payload.entry) in
+        IsSome result ↔ (Agrees frame × Fits frame × (frame_len frame ≤ length buffer.old)) }
     ensures stays { result ≡ None → buffer.new ≡ buffer.old }
 {
     match Frame::udp(src_addr, dst_addr, header, ports, payload) {

@@ -1,10 +1,10 @@
 //! Needs the contracts of the short applications.
 
-ghost use Rattle.std.specs.Prelude.{◌≡◌, ◌≢◌, ◌↔◌, ◌++◌, Bool, IfSome, IsErr, List, None, Some, drop, length, true, ℕ};
+ghost use Rattle.std.specs.Prelude.{◌≡◌, ◌≢◌, ◌≤◌, ◌↔◌, ◌++◌, Bool, IfSome, IsErr, IsSome, List, None, Some, drop, length, true, ℕ};
 ghost use Rattle.app_short.specs.Flow.{IsOneFlow};
 ghost use Rattle.ip_wire.specs.Field.{field};
 ghost use Rattle.ip_wire.specs.Frame.{IsReadWhole, all_checked, datagram, packet};
-ghost use Rattle.ip_wire.specs.FrameValue.{ReadsNormalOf, frame_around, frame_bytes, frame_len};
+ghost use Rattle.ip_wire.specs.FrameValue.{Agrees, Fits, ReadsNormalOf, frame_around, frame_bytes, frame_len};
 ghost use Rattle.ip_wire.specs.TcpRepr as tcp;
 ghost use Rattle.ip_wire.specs.TcpRepr.{TcpHeader};
 ghost use Rattle.ip_wire.specs.Types.{EthernetRepr, IpRepr, UdpRepr};
@@ -134,6 +134,21 @@ fn write_udp_bytes(
 ) -> Option<usize>
     ensures { let frame = frame_around src_addr dst_addr header (transport.Udp ports payload.entry) in
         IfSome result (λ len. (len ≡ frame_len frame) × (buffer.new ≡ frame_bytes all_checked frame ++ drop len buffer.old)) }
+{
+    write_udp(buffer, src_addr, dst_addr, header, ports, payload)
+}
+
+/// A frame is written if its layers agree, its lengths fit and the buffer has room.
+fn write_udp_fits(
+    buffer: &mut [u8],
+    src_addr: EthernetAddress,
+    dst_addr: EthernetAddress,
+    header: IpRepr,
+    ports: UdpRepr,
+    payload: &[u8],
+) -> Option<usize>
+    ensures { let frame = frame_around src_addr dst_addr header (transport.Udp ports payload.entry) in
+        IsSome result ↔ (Agrees frame × Fits frame × (frame_len frame ≤ length buffer.old)) }
 {
     write_udp(buffer, src_addr, dst_addr, header, ports, payload)
 }
