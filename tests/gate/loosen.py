@@ -1,5 +1,5 @@
 #!/usr/bin/env python3
-"""Weakens public statements, and tells which weaker ones nothing notices: tests/gate/loosen.py [NAME..]
+"""Weakens public statements, and tells which weaker ones nothing notices: tests/gate/loosen.py [--tenth | NAME..]
 
 A public statement is a law, the contract of a call of the C library, or the condition of a call on a length. It is weakened
 by a false premise (laws), by leaving out a clause (laws, calls of the C library), by allowing one more result (calls of the C
@@ -9,7 +9,8 @@ over the libraries that make test proved. One of them must not be proved then.
 
 A weaker statement that no need notices loses nothing if it implies what it lost, by itself or with the definitions alone. Any
 other one must be in tests/data/unneeded.txt, and nothing else may be there. With names it tries the statements of these
-functions, types or crates. What rattle prints is in out/loosen.log.
+functions, types or crates, and with --tenth one in ten of all, others for each commit. What rattle prints is in
+out/loosen.log.
 """
 import collections
 import functools
@@ -430,6 +431,8 @@ def main():
     sources, listed = Sources(str(TOP)), set(unneeded())
     weaker = [it for statement in statements(sources) for it in weakened(statement)]
     known = {name_of(it) for it in weaker}
+    if asked == {"--tenth"}:
+        weaker, asked = proved.one_in(10, weaker), set()
     names = {name_of(it) for it in weaker if not asked or asked & {it.statement.item.name, it.statement.crate, it.statement.owner}}
     noticed, alike, faults = verdicts(sources, [it for it in weaker if name_of(it) in names])
     faults += [f"nothing notices {name}" for name in sorted(names - noticed - alike - listed)]

@@ -53,6 +53,12 @@ def sum_of(name):
     return seen.hexdigest()
 
 
+def one_in(number, items):
+    """One in so many of a list, from a place on that the commit tells: those of other commits are others."""
+    told = subprocess.run(["git", "-C", TOP, "rev-parse", "HEAD"], capture_output=True, text=True)
+    return items[int(told.stdout.strip() or "0", 16) % number :: number]
+
+
 def keep(name, folder):
     """Keeps the library that the gate proved here, in a folder for those of another copy of the repository."""
     built = TOP / "crates" / name / "out" / "rlib" / f"{name}.rlib"

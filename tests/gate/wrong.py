@@ -8,8 +8,8 @@ shows nothing of the contract, and counts as a failure.
 
 A proof of a function cites only the contracts of the functions that it calls. So edits of different
 functions are applied together, and only these functions are checked, over the libraries that
-make test proved. While the gate still runs, each crate is tried as soon as the libraries under it
-are proved. What rattle prints is in out/wrong.log. The last line counts the edits.
+make test proved. Beside the gate each crate is tried as soon as the libraries under it are proved, and one in
+three of its edits, others for each commit. What rattle prints is in out/wrong.log. The last line counts the edits.
 """
 import collections
 import os
@@ -175,7 +175,8 @@ def main():
     unknown = [crate for crate in crates if not (TOP / "crates" / crate / "src").is_dir()]
     if unknown:
         sys.exit(f"tests/gate/wrong.py: there is no crate {', '.join(unknown)}")
-    trials = [Trial(crate, found) for crate in crates if (found := edits(crate))]
+    parts = 3 if beside_gate else 1
+    trials = [Trial(crate, found) for crate in crates if (found := proved.one_in(parts, edits(crate)))]
     trials.sort(key=lambda trial: -len(trial.edits))
     (TOP / "out").mkdir(exist_ok=True)
     with ThreadPoolExecutor(PROCESSORS) as pool:
