@@ -48,6 +48,8 @@ NO_PREMISE = Clause("requires", "never", "⊥")
 CALLS = {"c_exports"}
 # One more result, by the type of the result.
 ONE_MORE = {"isize": "result ≡ negsuc 0", "i32": "result ≡ negsuc 0"}
+# What the proof of such a result cites: it was a number of 32 bits in between.
+IN_32_BITS = ["Common.{SFits, inl, rules, w32}", "lemmas.Int.{to_z-of_z}"]
 VERDICT = re.compile(r"^fn \w+::(\S+): (.*)$", re.M)
 NOTICED = re.compile(r"no proof: expected answers|not proved(?!.*; it calls)")
 
@@ -230,17 +232,25 @@ class Trial:
         self.add_answers(weaker, module, name)
 
     def add_answers(self, weaker, module, name):
-        """Adds the proof of a weaker law: each clause is one of the law's."""
-        law = weaker.statement.item.name
+        """Adds the proof of a weaker law, or of a call with one result more: each clause is one of the stronger function's."""
+        item = weaker.statement.item
         kept = [it for it in weaker.clauses if it.kind == "ensures"]
-        if not is_law(weaker.statement) or not kept:
+        is_wider = weaker.how.startswith("one result more") and "-> i32" in item.text
+        if not kept or not (is_law(weaker.statement) or is_wider):
             return
-        text = f"use Rattle.{self.crate}.proofs.{module}.{name}.Goals as goal\n"
+        text = "".join(f"use Rattle.std.proofs.{it}\n" for it in IN_32_BITS) if is_wider else ""
+        text += f"use Rattle.{self.crate}.proofs.{module}.{name}.Goals as goal\n"
+        # `g` is what a generic function assumes of its types.
+        given = "g c" if re.match(r"[^(]*<(?!')", item.text) else "c"
         for clause in kept:
             goal = f"returns-clause-{clause.name}" if len(kept) > 1 else "returns"
-            term = f"c.{law}.ensures" + (f".{clause.name}" if clause.name else "")
+            term = f"c.{item.name}.ensures" + (f".{clause.name}" if clause.name else "")
+            term = term if clause in item.clauses else f"inl ({term})"
             term = f"record {{ {clause.name} = {term} }}" if clause.name and len(kept) == 1 else term
-            text += f"\npub {goal} : goal.{goal}\n{goal} c = {term}\n"
+            if is_wider and "result" in words_of(clause.text):
+                result = f"c.{item.name}.result"
+                term = f"let fits : SFits w32 {result} = search rules in rw (to_z-of_z w32 {result} fits) ({term})"
+            text += f"\npub {goal} : goal.{goal}\n{goal} {given} = {term}\n"
         self.answers[f"proofs/{module}/{name}"] = text
 
     @staticmethod

@@ -1,6 +1,6 @@
 //! Needs the laws of the NAT's table.
 
-ghost use Rattle.std.specs.Prelude.{◌≡◌, ◌≤◌, ◌+◌, ◌∷◌, [], All, IfSome, Some};
+ghost use Rattle.std.specs.Prelude.{◌≡◌, ◌≢◌, ◌≤◌, ◌+◌, ◌∷◌, [], All, IfSome, Some};
 ghost use Rattle.app_nat.specs.Mapping.{expiry};
 ghost use Rattle.app_nat.specs.State.{protocol_of, shortest_timeout, state_of, timeout_of};
 ghost use Rattle.app_nat.specs.Table.{IsFree, IsFull, IsTable, IsUnmapped, MapsTo, Opens, mapping_at};
@@ -51,6 +51,32 @@ fn answer_comes_back_of_any_protocol(
 {
     laws::answer_comes_back(
         nat, mappings, now, packet, inside, remote, later, answer, sender,
+    )
+}
+
+/// Two endpoints whose UDP mappings live for a millisecond have different ports.
+fn endpoints_have_ports_of_their_own(
+    nat: &Nat,
+    mappings: &mut [Mapping],
+    inside: &Ipv4Endpoint,
+    remote: &Ipv4Endpoint,
+    other: &Ipv4Endpoint,
+    other_remote: &Ipv4Endpoint,
+) -> Option<(u16, u16)>
+    requires timeout { nat.now.udp_timeout ≡ 1 }
+    requires apart { other.now ≢ inside.now }
+    ensures { IfSome result (λ (port, second). port ≢ second) }
+{
+    laws::endpoints_have_ports_of_their_own(
+        nat,
+        mappings,
+        1,
+        Event::Udp,
+        inside,
+        remote,
+        Event::Udp,
+        other,
+        other_remote,
     )
 }
 
