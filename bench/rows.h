@@ -67,6 +67,8 @@ REPEAT(call_update, update_checksum, 0x1234, 0x5678, 0x9abc)
 REPEAT(call_update_addr, update_checksum_addr, 0x1234, &ipv4_headers.src.addr, &ipv4_headers.dst.addr)
 REPEAT(call_update_udp, update_udp_checksum, 0x1234, 0x5678, 0x9abc)
 REPEAT(call_update_udp_addr, update_udp_checksum_addr, 0x1234, &ipv6_headers.src.addr, &ipv6_headers.dst.addr)
+REPEAT(call_update_bytes, update_checksum_bytes, 0x1234, 23, bytes, 2, bytes + 2, 2)
+REPEAT(call_update_udp_bytes, update_udp_checksum_bytes, 0x1234, 8, bytes, 16, bytes + 16, 16)
 
 /* Steps through all options of a header. */
 static uint64_t call_next_options(const struct library *library, const struct row *row, uint64_t times)
@@ -280,6 +282,8 @@ static const struct call update_rows[] = {
     {"update checksum, address", prepare_bytes, call_update_addr},
     {"update UDP checksum", prepare_bytes, call_update_udp},
     {"update UDP checksum, address", prepare_bytes, call_update_udp_addr},
+    {"update checksum, 2 bytes", prepare_bytes, call_update_bytes},
+    {"update UDP checksum, 16 bytes", prepare_bytes, call_update_udp_bytes},
 };
 static const size_t own_sizes[] = {64};
 static const struct block own_block = BLOCK(own_rows, own_sizes, IN_OURS, 1);

@@ -1,16 +1,18 @@
 /* ip_wire: Ethernet II, ARP, IPv4, IPv6, ICMP, UDP and TCP packets for C and C++. `lk_` stands for Lerkvist.
  *
  * The library needs an x86-64-v2 processor (SSE4.2 and POPCNT). Call lk_cpu_supported() first if the
- * program may run on an older one: every other call may stop there with an illegal instruction.
+ * program may run on an older one: every other call may stop there with an illegal instruction. The header needs C99,
+ * GNU C90 or C++, because C90 has no `inline`.
  *
  * - No call allocates memory, keeps a pointer, has state, or accesses memory outside of its arguments.
  *   Calls may run in many threads at once, if none writes memory that another one uses.
  * - What a call writes must not overlap another argument.
  * - A pointer may be null only if its length or `cap` is 0.
- * - A call that writes to `out` returns the number of bytes that it wrote, from `out[0]` on, or a failure,
- *   which is negative. After a failure `out` is unchanged.
- * - A length above LK_MAX_LEN is never used: an input of that length counts as empty, a payload as too long,
- *   and an output as one without room. The counts of routes, nodes and mappings are such lengths too.
+ * - A call that writes to `out` returns the length of its result, which begins at `out[0]`, or a failure, which is
+ *   negative. After a failure `out` is unchanged.
+ * - A length above LK_MAX_LEN is never used: a payload of that length is too long, an output has no room, and any other
+ *   input counts as empty. The counts of routes, nodes and mappings are such lengths too. Where an empty input is no
+ *   failure (lk_answer, lk_emit_icmp_error, lk_index_routes), one of that length is a failure.
  * - lk_is_.., lk_contains and lk_cpu_supported return 1 for yes and 0 for no.
  * - Fields that an initializer leaves out are 0. A 0 in `version`, in a field `has_..` or in a count means
  *   that there is no such value. A hop limit of 0 is a failure, and so is a port of 0 where receivers reject
@@ -29,6 +31,7 @@
  * - A frame with an ICMP message has the transport LK_ICMP. Its payload begins after the ICMP header, which is
  *   in the new field `icmp` of `struct lk_frame`.
  * - A host answers more frames: echo requests, neighbour solicitations, and UDP packets to closed ports.
+ * - A host echoes UDP only to ports above `echo_port`, from 1024 on.
  * - NAT translates ICMP messages, which got LK_OTHER_PROTOCOL. */
 #ifndef IP_WIRE_H
 #define IP_WIRE_H
@@ -55,8 +58,11 @@ int lk_cpu_supported(void);
 /* The longest input or output of a call, in bytes: 2^40 - 1. */
 #define LK_MAX_LEN (((size_t)1 << 40) - 1)
 
-/* Why a call wrote nothing. If several failures apply to a call, it is the first of them in this order. Any sum
- * of a failure and lengths is negative, and as a `size_t` it is above LK_MAX_LEN, so the next call fails too. */
+/* Why a call wrote nothing. If several failures apply to a call, it is the first of them in this order.
+ *
+ * The sum of a failure and lengths is negative too, if these lengths are together at most LK_MAX_LEN. As a `size_t`
+ * the failure and the sum are above LK_MAX_LEN, so no call uses them as a length. lk_failure_name needs the failure
+ * itself. */
 #define LK_FAILURE(number) (-(ptrdiff_t)(number) * ((ptrdiff_t)1 << 40))
 #define LK_NO_VERSION LK_FAILURE(1)       /* an address has another version than the call can write */
 #define LK_TWO_VERSIONS LK_FAILURE(2)     /* one address is IPv4, the other IPv6 */
@@ -67,10 +73,11 @@ int lk_cpu_supported(void);
 #define LK_TWO_CONTROLS LK_FAILURE(7)     /* more than one of SYN, FIN and RST */
 #define LK_OPTIONS_TOO_LONG LK_FAILURE(8) /* TCP options of more than 40 bytes, or more than 4 SACK ranges */
 #define LK_PAYLOAD_TOO_LONG LK_FAILURE(9) /* the payload is longer than the length field can say */
-#define LK_NO_HEADER LK_FAILURE(10)       /* the frame to be rebuilt is shorter than an Ethernet header */
+#define LK_NO_HEADER LK_FAILURE(10)       /* no frame: a length above LK_MAX_LEN, or for lk_rebuild below 14 */
 #define LK_NO_ROOM LK_FAILURE(11)         /* the result is longer than `cap` */
 
-/* Returns the name of a failure, as "LK_NO_ROOM", or "no failure". The text is constant. */
+/* Returns the name of a failure, as "LK_NO_ROOM", or "no failure", also for the sum of a failure and a length. The text
+ * is constant. */
 const char *lk_failure_name(ptrdiff_t failure);
 
 /* A buffer that is filled from front to back:
@@ -104,21 +111,19 @@ static inline void lk_append(struct lk_out *out, ptrdiff_t written)
 
 /* ---- addresses ---- */
 
-/* The next three structs have no padding: two of their values are equal exactly if their bytes are. */
-
-/* An IPv4 or IPv6 address. */
+/* An IPv4 or IPv6 address. The struct has no padding: two values are equal exactly if their bytes are. */
 struct lk_addr {
     uint8_t octets[16]; /* in network byte order; of IPv4 the first 4, and the others are 0 */
     uint16_t version;   /* 4 or 6; 0: no address */
 };
 
-/* An address with a port. */
+/* An address with a port. The struct has no padding. */
 struct lk_endpoint {
     struct lk_addr addr;
     uint16_t port;
 };
 
-/* A CIDR block: the addresses that have the first `prefix_len` bits of `addr`. */
+/* A CIDR block: the addresses that have the first `prefix_len` bits of `addr`. The struct has no padding. */
 struct lk_block {
     struct lk_addr addr;
     uint16_t prefix_len; /* at most 32 for IPv4, 128 for IPv6 */
@@ -128,8 +133,8 @@ struct lk_block {
  * stores nothing if the text does not parse.
  *
  * Hex digits may have either case. Leading zeros are accepted and are decimal. The scope of an IPv6
- * address (%eth0) is rejected. Dotted decimal is accepted only at the end of an IPv4-mapped address
- * (::ffff:192.168.1.1), in which a `::` must stand directly before `ffff`.
+ * address (%eth0) is rejected. Dotted decimal is accepted only at the end of an IPv4-mapped address, as in
+ * ::ffff:192.168.1.1 and 0:0:0:0:0:ffff:192.168.1.1. If such an address has a `::`, `ffff` must follow it directly.
  *
  * lk_print_.. writes a text and returns its length, without a terminating null. It writes the null too if
  * `cap` is more than the length. A buffer of LK_.._TEXT bytes always has room for both. */
@@ -352,7 +357,8 @@ int lk_read_packet(const uint8_t *ptr, size_t len, struct lk_frame *frame);
 
 /* The same two for a frame or packet of `len` bytes of which only the first `captured` are at `ptr`, as in a
  * capture with a snapshot length. Lengths in headers are compared with `len`, and the headers that are there are
- * stored as if all was there. If `captured` is more than `len`, only the first `len` bytes count.
+ * stored as if all was there. If `captured` is more than `len`, only the first `len` bytes count. If one of the two is
+ * above LK_MAX_LEN, it counts as 0.
  *
  * - A header that was not captured as a whole is rejected with LK_HEADER_CUT, unless the frame is too short for it
  *   (LK_TOO_SHORT). Nothing of it is stored. No field of it is tested, but the version by which a packet is read.
@@ -368,8 +374,8 @@ int lk_read_packet(const uint8_t *ptr, size_t len, struct lk_frame *frame);
 int lk_read_captured(const uint8_t *ptr, size_t captured, size_t len, struct lk_frame *frame);
 int lk_read_captured_packet(const uint8_t *ptr, size_t captured, size_t len, struct lk_frame *frame);
 
-/* Stores the options of a TCP header. `ptr` is its first byte and `len` its length: in a frame that was
- * read, `frame + f.transport_offset` and `f.tcp.header_len`. Returns 0 and stores nothing if an option
+/* Stores the options of a TCP header and returns 1. `ptr` is its first byte and `len` its length: in a frame that
+ * was read, `frame + f.transport_offset` and `f.tcp.header_len`. Returns 0 and stores nothing if an option
  * before the end mark is malformed, or the header is shorter than 20 bytes or than it says. Of each
  * kind the last option counts.
  *
@@ -422,7 +428,8 @@ ptrdiff_t lk_emit_tcp_frame(const struct lk_frame *headers, const struct lk_tcp_
 
 /* Writes the headers of a frame with UDP or TCP before a payload that is in `out` already. The payload has `len`
  * bytes. It begins at byte 42 for UDP over IPv4, and 62 over IPv6; for TCP at byte 34 or 54, plus
- * lk_tcp_header_len(options). The result is that of lk_emit_.._frame with the same payload. */
+ * lk_tcp_header_len(options). The result is that of lk_emit_.._frame with the same payload. Returns the length of
+ * the whole frame, with the payload, or a failure. */
 ptrdiff_t lk_wrap_udp_frame(const struct lk_frame *headers, size_t len, uint8_t *out, size_t cap);
 ptrdiff_t lk_wrap_tcp_frame(const struct lk_frame *headers, const struct lk_tcp_options *options,
                             size_t len, uint8_t *out, size_t cap);
@@ -485,15 +492,32 @@ ptrdiff_t lk_emit_icmp(const struct lk_icmp *header, const struct lk_addr *src, 
 uint16_t lk_checksum(const uint8_t *ptr, size_t len);
 
 /* Return the checksum field after a part of what it covers changed from `before` to `after` (RFC 1624): a 16-bit
- * word, as a port, or an address of the pseudo-header or of the IPv4 header, which counts as the sum of its words.
- * Call once for each changed part.
+ * word at an even offset, as a port, or an address of the pseudo-header or of the IPv4 header, which counts as the sum
+ * of its words. Call once for each changed part. For other parts there is lk_update_checksum_bytes.
  *
  * UDP has calls of its own: a field of 0, which means that there is no checksum, stays 0, and a computed 0 becomes
- * 0xffff (RFC 768). The first two calls are for IPv4, TCP and ICMP. */
+ * 0xffff (RFC 768). The first two calls are for IPv4, TCP and ICMP. An ICMP message whose other bytes are all 0, an
+ * echo reply over IPv4, verifies only with 0xffff: in ICMP write 0xffff instead of 0. */
 uint16_t lk_update_checksum(uint16_t checksum, uint16_t before, uint16_t after);
 uint16_t lk_update_checksum_addr(uint16_t checksum, const struct lk_addr *before, const struct lk_addr *after);
 uint16_t lk_update_udp_checksum(uint16_t checksum, uint16_t before, uint16_t after);
 uint16_t lk_update_udp_checksum_addr(uint16_t checksum, const struct lk_addr *before, const struct lk_addr *after);
+
+/* Return the checksum field after bytes that it covers were replaced, at any offset: those at `before` by those at
+ * `after` (RFC 1624). `offset` is that of the first one in the IPv4, TCP, UDP or ICMP header and its payload. If it is
+ * odd, this byte is the low one of a word (RFC 1071, section 2 B), as that of an MSS after one no-operation:
+ *
+ *     const uint8_t before[2] = {option[2], option[3]};
+ *     option[2] = 1220 >> 8;
+ *     option[3] = 1220 & 255;
+ *     checksum = lk_update_checksum_bytes(checksum, (size_t)(option + 2 - tcp), before, 2, option + 2, 2);
+ *
+ * The lengths are equal or differ by an even number, unless nothing follows the bytes. Length fields that change too
+ * have their own calls. The second call is for UDP, as lk_update_udp_checksum. */
+uint16_t lk_update_checksum_bytes(uint16_t checksum, size_t offset, const uint8_t *before, size_t before_len,
+                                  const uint8_t *after, size_t after_len);
+uint16_t lk_update_udp_checksum_bytes(uint16_t checksum, size_t offset, const uint8_t *before, size_t before_len,
+                                      const uint8_t *after, size_t after_len);
 
 /* TCP sequence numbers, modulo 2^32 (RFC 9293, section 3.4). */
 
@@ -589,7 +613,7 @@ struct lk_host {
     struct lk_addr ipv4;            /* an IPv4 address */
     struct lk_addr ipv6;            /* an IPv6 address */
     uint8_t hardware[6];            /* an Ethernet address */
-    uint16_t echo_port;             /* the UDP port that echoes; 0: none */
+    uint16_t echo_port;             /* the UDP port that echoes, to higher ports from 1024 on; 0: none */
     /* what an open port sends */
     uint32_t seq_number;            /* hard to guess, another for each connection (RFC 9293, section 3.4.1) */
     uint32_t tsval;                 /* the timestamp */
@@ -601,7 +625,8 @@ struct lk_host {
 };
 
 /* Writes the answer of a host to an Ethernet frame. Returns its length, or 0 if the frame gets no answer. Fails
- * with LK_NO_VERSION if `ipv4` is no IPv4 address or `ipv6` no IPv6 address, and with LK_NO_ROOM.
+ * with LK_NO_VERSION if `ipv4` is no IPv4 address or `ipv6` no IPv6 address, with LK_NO_HEADER if `len` is above
+ * LK_MAX_LEN, and with LK_NO_ROOM.
  *
  *   frame                                  answer
  *   an ARP request for `ipv4`              an ARP reply
@@ -619,8 +644,9 @@ struct lk_host {
  * - UDP, TCP and ARP from these addresses get no answer: 0.0.0.0/8, 127.0.0.0/8, 224.0.0.0/4, 240.0.0.0/4, `::`,
  *   `::1`, ::ffff:0:0/96, ff00::/8, `ipv4` and `ipv6` (RFC 1122, section 3.2.1.3; RFC 4291, section 2). But an ARP
  *   probe, which is from 0.0.0.0, gets one (RFC 5227, section 2.1.1).
- * - A UDP packet for `echo_port` gets none if its source port is 0 or `echo_port`. So two hosts with one echo port do
- *   not echo for ever.
+ * - A UDP packet for `echo_port` gets none if its source port is below 1024, or not above `echo_port`. So neither two
+ *   hosts nor a host and a service (RFC 862 to 868) reply to each other forever. Choose an `echo_port` below the ports
+ *   of its clients.
  * - SYN and ACK has `max_seg_size`. It has window scale, SACK permitted and timestamp if the SYN has them.
  * - No connection is kept: what follows the SYN gets RST, with window 0 and without options.
  * - The answer is a new IP packet, as that of lk_reply, with DSCP 0.
@@ -652,8 +678,8 @@ enum lk_problem {
 
 /* Writes an Ethernet frame with an ICMP error about a frame that came in by an interface, to its sender. `frame` is as
  * it came in. Returns the length of the error, or 0 if the frame may get none. Fails with LK_NO_VERSION if `ipv4` is no
- * IPv4 address or `ipv6` no IPv6 address, and with LK_NO_ROOM. `mtu` is used for LK_PACKET_TOO_BIG only: the length of
- * the longest packet that the next link takes.
+ * IPv4 address or `ipv6` no IPv6 address, with LK_NO_HEADER if `len` is above LK_MAX_LEN, and with LK_NO_ROOM. `mtu` is
+ * used for LK_PACKET_TOO_BIG only: the length of the longest packet that the next link takes.
  *
  * The error quotes as much of the packet as fits into 576 bytes over IPv4, 1280 over IPv6 (RFC 1812, section 4.3.2.3;
  * RFC 4443, section 2.4 c), so a `cap` of 1294 always suffices. No error is sent in these cases (RFC 1122, section
@@ -701,9 +727,10 @@ const char *lk_rejection_name(int rejection);
 
 /* Forwards the packet of an Ethernet frame by one hop, in place (RFC 1812, section 5.3.1; RFC 8200, section 3). `src`
  * and `dst` are the new Ethernet addresses, 6 bytes each. The hop limit becomes one less, and the checksum of an IPv4
- * header is updated (RFC 1624). All other bytes stay: IPv4 options, the payload and padding are not looked at.
+ * header is updated (RFC 1624). All other bytes stay. IPv4 options are summed for the checksum, and not acted on. The
+ * payload and padding are not looked at.
  *
- * Returns LK_NOT_REJECTED, LK_NOT_IP, LK_BAD_HEADER, LK_WRONG_CHECKSUM or LK_EXPIRED. If it is not 0, the frame is
+ * Returns LK_NOT_REJECTED, or LK_NOT_IP, LK_BAD_HEADER, LK_WRONG_CHECKSUM or LK_EXPIRED; then the frame is
  * unchanged. */
 int lk_forward(uint8_t *frame, size_t len, const uint8_t *src, const uint8_t *dst);
 
@@ -715,8 +742,8 @@ enum lk_side { LK_SOURCE, LK_DESTINATION };
  * of an ICMP echo message counts as its port on either side, and may be 0. Its checksum is computed anew. Other ICMP
  * messages get LK_OTHER_PROTOCOL.
  *
- * Returns LK_NOT_REJECTED, or a rejection from LK_NO_IPV4 to LK_ZERO_PORT, but not LK_EXPIRED. If it is not 0, the
- * frame is unchanged. The source port of UDP may be 0 (RFC 768), so that it gets no LK_ZERO_PORT. */
+ * Returns LK_NOT_REJECTED, or a rejection from LK_NO_IPV4 to LK_ZERO_PORT, but not LK_EXPIRED; then the frame is
+ * unchanged. The source port of UDP may be 0 (RFC 768), so that it gets no LK_ZERO_PORT. */
 int lk_translate(uint8_t *frame, size_t len, int side, const struct lk_endpoint *end);
 
 /* Lowers the maximum segment size of a TCP SYN in an Ethernet frame to `max_seg_size`, in place, and updates the TCP
@@ -755,7 +782,8 @@ struct lk_route_node {
 
 /* Writes the index of a list of routes, one node for each, and returns the number of routes. The index is valid as long
  * as the routes do not change. Fails with LK_NO_VERSION or LK_BAD_PREFIX if the block of a route is invalid, and with
- * LK_NO_ROOM if there are more routes than nodes, or more than 2^32 - 1. After a failure the nodes are unchanged.
+ * LK_NO_ROOM if there are more routes than nodes, more than 2^32 - 1, or if a count is above LK_MAX_LEN. After a
+ * failure the nodes are unchanged.
  *
  * A router checks the source of a frame, and forwards it by the route to its destination. Packets for the router
  * itself, multicast and link-local packets are not forwarded:
@@ -777,7 +805,8 @@ ptrdiff_t lk_index_routes(const struct lk_route *routes, size_t count, struct lk
  * or -1 if none contains it. `count` is the number of routes. An address without a version has no route. */
 ptrdiff_t lk_choose_route(const struct lk_route_node *nodes, size_t count, const struct lk_addr *addr);
 
-/* Whether a router may accept a packet from `src` that came in by `interface`. Returns LK_NOT_REJECTED, or
+/* Whether a router may accept a packet from `src` that came in by `interface`. Returns LK_NOT_REJECTED, or one of
+ * these:
  *
  * - LK_MARTIAN for 0.0.0.0/8, 127.0.0.0/8, 224.0.0.0/4, 240.0.0.0/4, `::`, `::1`, ::ffff:0:0/96, ff00::/8, and an
  *   address without a version (RFC 1122, section 3.2.1.3; RFC 1812, section 5.3.7; RFC 4291, section 2), but not
@@ -818,8 +847,9 @@ struct lk_mapping {
 
 /* Translate the source of a packet that leaves, and the destination of a packet that comes in, in place, as
  * lk_translate does. `mappings` are LK_MAPPINGS(ports), zeros at first, for this many outside ports from `first_port`
- * on. There are `count / LK_MAPPINGS(1)` outside ports, but none above 65535. The table has three parts of
- * `count / LK_MAPPINGS(1)` mappings, for UDP, TCP and ICMP; in each the mapping of port `first_port + n` is number `n`.
+ * on. There are `count / LK_MAPPINGS(1)` outside ports, but none above 65535: mappings of higher ports are not used.
+ * The table has three parts of `count / LK_MAPPINGS(1)` mappings, for UDP, TCP and ICMP; in each the mapping of port
+ * `first_port + n` is number `n`.
  * The identifier of an echo counts as its port. `now` is a clock in milliseconds that never goes back.
  *
  *     enum { FIRST_PORT = 1024, COUNT = LK_MAPPINGS(65536 - FIRST_PORT) };
@@ -833,7 +863,8 @@ struct lk_mapping {
  *     if (rejection == LK_NOT_REJECTED)
  *         ... forward the frame
  *
- * - Both return an `lk_rejection`. If it is not 0, the frame is unchanged. LK_NO_IPV4 and LK_EXPIRED are not among them.
+ * - Both return an `lk_rejection`. If it is not 0, the frame and the mappings are unchanged. LK_NO_IPV4 and LK_EXPIRED
+ *   are not among them.
  * - A mapping belongs to one inside endpoint, whatever the remote endpoints are (RFC 4787, REQ-1). What any remote
  *   endpoint sends to its outside port comes in (REQ-8).
  * - An endpoint without a live mapping gets a new one: for its own port if that is free, else for the first free port
@@ -841,9 +872,15 @@ struct lk_mapping {
  *   all of these have live mappings.
  * - A mapping is live until its time-out has passed since the last packet of its inside endpoint. Packets that come in
  *   do not keep it alive (REQ-6).
- * - A TCP mapping has `tcp_timeout` after its inside endpoint sent a segment without SYN, FIN and RST, and
- *   `tcp_transitory_timeout` before it, after a FIN or RST of either side, and after another SYN. After FIN or RST only
- *   a SYN begins anew. In a mapping of several remote endpoints, FIN, RST and SYN do not end `tcp_timeout`.
+ * - A TCP mapping has `tcp_transitory_timeout` after its inside endpoint sent SYN, FIN or RST, and `tcp_timeout` after
+ *   it sent another segment. After FIN or RST, also of the remote endpoint, such a segment restarts only
+ *   `tcp_transitory_timeout`, until the inside endpoint sends SYN. FIN or RST that comes in restarts no time-out, but
+ *   leaves at most `tcp_transitory_timeout`. From an endpoint to which nothing was sent, it changes nothing.
+ * - When the inside endpoint of a TCP mapping sends to a second remote endpoint, the mapping serves several. From this
+ *   packet on FIN and RST that come in change nothing. SYN, FIN and RST that the inside endpoint sends restart the
+ *   time-out that the mapping has, and another segment gives it `tcp_timeout`.
+ * - A packet from inside to the outside address goes back in by lk_translate_out and then lk_translate_in on the same
+ *   frame (hairpinning, RFC 4787, REQ-9). If the second call rejects it, drop it: its source is translated already.
  * - Echo requests go out, and echo replies come in (RFC 5508, section 3). The others get LK_NO_MAPPING.
  * - An ICMP error is translated with the packet that it quotes, of which at least the IPv4 header and 8 bytes must be
  *   there (RFC 5508, section 4). One that comes in quotes a packet of a live mapping, from its outside port; one that

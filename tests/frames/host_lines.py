@@ -260,14 +260,17 @@ def udp_rows(v):
     for port in [6, 8, 0x0700, 0x8007, 80, 0xFFFF]:
         yield unserved(v, f"{name}-to-port-{port}", ping(v, dst_port=port))
         yield row(f"{name}-to-port-{port}-that-is-served", ping(v, dst_port=port), None, udp=(9, port))
-    # Port 0 is no reply port (RFC 768); a packet from the echo port may be an echo.
-    for port, answered in [(0, False), (ECHO, False), (1, True), (6, True), (8, True), (0x0700, True), (80, True), (0xFFFF, True)]:
-        yield row(f"{name}-from-port-{port}", ping(v, src_port=port), pong(v, dst_port=port) if answered else None)
-    for echo in [1, 8, 80, 0xFFFF]:
-        yield row(f"{name}-port-{echo}-serves", ping(v, dst_port=echo), pong(v, src_port=echo), echo=echo)
+    # Port 0 is no reply port (RFC 768). A packet from a port below 1024 may be the answer of a service (RFC 862 to 868).
+    for port in [0, 1, 6, ECHO, 8, 9, 13, 17, 19, 37, 80, 1023]:
+        yield row(f"{name}-from-port-{port}", ping(v, src_port=port), None)
+    for port in [1024, 0x0700, 0xFFFF]:
+        yield row(f"{name}-from-port-{port}", ping(v, src_port=port), pong(v, dst_port=port))
+    # A packet from a port that is not above the echo port may be an echo.
+    for echo in [1, 8, 80, 1024, 2000, 0xFFFF]:
         yield unserved(v, f"{name}-port-{echo}-not-7", ping(v), echo=echo)
-        yield row(f"{name}-port-{echo}-to-itself", ping(v, src_port=echo, dst_port=echo), None, echo=echo)
-        yield row(f"{name}-port-{echo}-from-7", ping(v, src_port=7, dst_port=echo), pong(v, dst_port=7, src_port=echo), echo=echo)
+        for port in [7, 8, 1023, 1024, 1025, 1999, 2000, 2001, 41319, 0xFFFF]:
+            answer = pong(v, dst_port=port, src_port=echo) if port >= 1024 and port > echo else None
+            yield row(f"{name}-port-{echo}-from-{port}", ping(v, src_port=port, dst_port=echo), answer, echo=echo)
     yield row(f"{name}-port-0-is-off", ping(v, dst_port=0), None, echo=0)
     yield row(f"{name}-no-open-ports", ping(v), pong(v), ports=())
     yield row(f"{name}-open-tcp-port", ping(v), pong(v), ports=(ECHO,))

@@ -226,6 +226,16 @@ NUMBERED(uint16_t, update_checksum_addr, (uint16_t checksum, const struct lk_add
 NUMBERED(uint16_t, update_udp_checksum_addr,
          (uint16_t checksum, const struct lk_addr *old, const struct lk_addr *new), (checksum, old, new),
          (NUMBER(checksum), GIVE(old), GIVE(new)))
+
+#define REPLACED NUMBER(checksum), NUMBER(offset), given("before", old, used_len(old_len)), NUMBER(old_len), \
+                 given("after", new, used_len(new_len)), NUMBER(new_len)
+
+NUMBERED(uint16_t, update_checksum_bytes,
+         (uint16_t checksum, size_t offset, const uint8_t *old, size_t old_len, const uint8_t *new, size_t new_len),
+         (checksum, offset, old, old_len, new, new_len), (REPLACED))
+NUMBERED(uint16_t, update_udp_checksum_bytes,
+         (uint16_t checksum, size_t offset, const uint8_t *old, size_t old_len, const uint8_t *new, size_t new_len),
+         (checksum, offset, old, old_len, new, new_len), (REPLACED))
 NUMBERED(uint32_t, add_seq, (uint32_t seq, uint32_t steps), (seq, steps), (NUMBER(seq), NUMBER(steps)))
 NUMBERED(int32_t, subtract_seq, (uint32_t a, uint32_t b), (a, b), (NUMBER(a), NUMBER(b)))
 NUMBERED(int, compare_seq, (uint32_t a, uint32_t b), (a, b), (NUMBER(a), NUMBER(b)))

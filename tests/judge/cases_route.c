@@ -142,6 +142,8 @@ void choose_route(void)
     fill(nodes, sizeof nodes);
     if (one_in(64))
         both_index_routes(routes, unused_len(), nodes, node_count);
+    if (one_in(64))
+        both_index_routes(routes, 0, nodes, unused_len());
     if (both_index_routes(routes, count, nodes, node_count) < 0)
         return;
     for (int i = 0; i < 4; i++) {

@@ -55,6 +55,49 @@ static void update_addr(void)
     both_update_udp_checksum_addr(checksum, &before, &after);
 }
 
+/* The bytes of a message: random, zeros or ones. */
+static void fill_message(uint8_t *message, size_t len)
+{
+    fill(message, len);
+    if (one_in(4))
+        memset(message, one_in(2) ? 0 : 0xff, len);
+}
+
+/* The checksum of a message must become that of the changed message. */
+static void update_bytes(void)
+{
+    uint8_t message[64], changed[96];
+    size_t len = below(sizeof message + 1), offset = below(len + 1), before_len = below(len - offset + 1);
+    size_t rest = len - offset - before_len, after_len = rest == 0 ? below(32) : before_len % 2 + 2 * below(16);
+    uint16_t checksum, updated, came, came_of_udp;
+    fill_message(message, sizeof message);
+    fill_message(changed, sizeof changed);
+    memcpy(changed, message, offset);
+    memcpy(changed + offset + after_len, message + offset + before_len, rest);
+    checksum = (uint16_t)~model_checksum(message, len);
+    updated = (uint16_t)~model_checksum(changed, offset + after_len + rest);
+    came_of_udp = both_update_udp_checksum_bytes(checksum == 0 ? 0xffff : checksum, offset, message + offset, before_len,
+                                                 changed + offset, after_len);
+    if (updated != 0xffff)
+        same_number("the checksum of UDP", updated == 0 ? 0xffff : updated, came_of_udp);
+    came = both_update_checksum_bytes(checksum, offset, message + offset, before_len, changed + offset, after_len);
+    if (updated != 0xffff)
+        same_number("the checksum", updated, came);
+}
+
+/* Any field, any offset, and lengths that are too long. */
+static void update_any_bytes(void)
+{
+    uint8_t before[32], after[32];
+    size_t before_len = one_in(64) ? unused_len() : below(33), after_len = one_in(64) ? unused_len() : below(33);
+    size_t offset = (size_t)any();
+    uint16_t checksum = any_word();
+    fill_message(before, sizeof before);
+    fill_message(after, sizeof after);
+    both_update_checksum_bytes(checksum, offset, before, before_len, after, after_len);
+    both_update_udp_checksum_bytes(checksum, offset, before, before_len, after, after_len);
+}
+
 void sum_bytes(void)
 {
     static uint8_t octets[MODEL_ROOM];
@@ -67,6 +110,8 @@ void sum_bytes(void)
         both_checksum(octets, unused_len());
     update_word();
     update_addr();
+    update_bytes();
+    update_any_bytes();
 }
 
 /* ---- sequence numbers ---- */

@@ -3,62 +3,10 @@
 #include <stdio.h>
 #include <stdlib.h>
 #include <string.h>
+#include "faults.h"
 #include "ip_wire.h"
 
-enum fault {
-    NO_FAULT,
-    PORTS_SWAPPED,
-    HOP_LIMIT_OFF_BY_ONE,
-    RIGHT_FOR_WRONG,
-    PADDING_IN_PAYLOAD,
-    WINDOW_SCALE_15,
-    BYTE_PAST_THE_END,
-    OUT_CHANGED_AFTER_FAILURE,
-    FAILURES_OUT_OF_ORDER,
-    REASONS_OUT_OF_ORDER,
-    FIVE_SACK_RANGES,
-    URG_KEPT,
-    IDENTIFICATION_KEPT,
-    ANSWER_TO_MULTICAST,
-    TRANSPORT_KEPT,
-    HEADER_CUT_FOR_TOO_SHORT,
-    CHECKSUM_CUT_MISSED,
-    UDP_UPDATE_OF_0,
-    SCOPE_ACCEPTED,
-    TEXT_NOT_SHORTEST,
-    NULL_MISSING,
-    HOSTS_EXCHANGED,
-    HEADER_SUM_LEFT,
-    SIDE_OF_ONE_BYTE,
-    LAST_OF_EQUAL_ROUTES,
-    RESERVED_SOURCE_ACCEPTED,
-    KEPT_ALIVE_BY_INBOUND,
-    FILTERED_BY_REMOTE,
-    LIVE_FOR_TOO_LONG,
-    PSEUDO_HEADER_FORGOTTEN,
-    QUOTED_PACKET_TOO_FAR,
-    SHORT_MESSAGE_READ,
-    ANY_HOP_LIMIT_ACCEPTED,
-    FLAGS_IN_A_SOLICITATION,
-    MTU_LEFT_OUT,
-    ERROR_ABOUT_AN_ERROR,
-    ECHO_FOR_A_UDP_MAPPING,
-    ADVERT_NOT_SOLICITED,
-    QUOTED_PACKET_LEFT,
-    WORD_OF_TWO_HALVES,
-    PROTOCOL_OF_IPV4,
-    HOP_LIMIT_64,
-    SERVED_PORT_CLOSED,
-    OTHER_PROBLEM,
-    ICMP_LIVES_AS_UDP,
-    ECHO_OF_0_REJECTED,
-    QUOTED_CHECKSUM_VERIFIED,
-    SYN_ACK_LEFT,
-    ADVERT_OF_NO_ROUTER,
-    FAULTS
-};
-
-static enum fault fault;
+enum fault fault;
 
 /* Names the fault in the first line of the output. */
 __attribute__((constructor)) static void choose(void)
@@ -84,6 +32,10 @@ __attribute__((constructor)) static void choose(void)
         "an error rejected for a quoted checksum",
         "the segment size of a SYN and ACK left",
         "an advertisement that is never of a router",
+        "no failure for a frame that is too long",
+        "a list of routes that is too long indexed as an empty one",
+        "bytes at an odd offset summed as at an even one",
+        "an echo to a port below 1024",
     };
     const char *number = getenv("FAULT");
     fault = number ? (enum fault)atoi(number) : NO_FAULT;
@@ -107,16 +59,11 @@ ptrdiff_t __real_lk_tcp_header_len(const struct lk_tcp_options *options);
 ptrdiff_t __real_lk_rebuild(const uint8_t *ptr, size_t len, uint8_t *out, size_t cap);
 ptrdiff_t __real_lk_answer(const struct lk_host *host, const uint8_t *ptr, size_t len, uint8_t *out, size_t cap);
 uint16_t __real_lk_update_udp_checksum(uint16_t checksum, uint16_t before, uint16_t after);
+uint16_t __real_lk_update_checksum_bytes(uint16_t checksum, size_t offset, const uint8_t *before, size_t before_len,
+                                         const uint8_t *after, size_t after_len);
 int __real_lk_parse_addr(const char *text, size_t len, struct lk_addr *addr);
 ptrdiff_t __real_lk_print_addr(const struct lk_addr *addr, char *out, size_t cap);
 ptrdiff_t __real_lk_print_endpoint(const struct lk_endpoint *endpoint, char *out, size_t cap);
-int __real_lk_forward(uint8_t *frame, size_t len, const uint8_t *src, const uint8_t *dst);
-int __real_lk_translate(uint8_t *frame, size_t len, int side, const struct lk_endpoint *end);
-int __real_lk_clamp_mss(uint8_t *frame, size_t len, uint16_t max_seg_size);
-ptrdiff_t __real_lk_index_routes(const struct lk_route *routes, size_t count, struct lk_route_node *nodes,
-                                 size_t node_count);
-int __real_lk_check_source(const struct lk_route *routes, size_t route_count, const struct lk_route_node *nodes,
-                           size_t count, const struct lk_addr *src, uint16_t interface);
 ptrdiff_t __real_lk_emit_icmp(const struct lk_icmp *header, const struct lk_addr *src, const struct lk_addr *dst,
                               const uint8_t *ptr, size_t len, int computed, uint8_t *out, size_t cap);
 ptrdiff_t __real_lk_emit_icmp_frame(const struct lk_frame *headers, const uint8_t *ptr, size_t len, uint8_t *out,
@@ -126,10 +73,6 @@ ptrdiff_t __real_lk_emit_ndisc_frame(const struct lk_frame *headers, const struc
 int __real_lk_read_ndisc(const uint8_t *frame, size_t len, struct lk_ndisc *ndisc);
 ptrdiff_t __real_lk_emit_icmp_error(const struct lk_interface *own, int problem, uint32_t mtu, const uint8_t *frame,
                                     size_t len, uint8_t *out, size_t cap);
-int __real_lk_translate_out(const struct lk_nat *nat, struct lk_mapping *mappings, size_t count, uint64_t now,
-                            uint8_t *frame, size_t len);
-int __real_lk_translate_in(const struct lk_nat *nat, struct lk_mapping *mappings, size_t count, uint64_t now,
-                           uint8_t *frame, size_t len);
 
 /* ---- reading ---- */
 
@@ -332,12 +275,36 @@ ptrdiff_t __wrap_lk_emit_icmp_error(const struct lk_interface *own, int problem,
     return result;
 }
 
+/* Answers a UDP packet as if it came from a port above 32767, and sends the answer to its port. */
+static ptrdiff_t answer_service(const struct lk_host *host, const uint8_t *ptr, size_t len, uint8_t *out, size_t cap)
+{
+    static uint8_t copy[0x20000];
+    struct lk_frame f;
+    uint8_t *udp = copy, *echo = out;
+    ptrdiff_t result;
+    __real_lk_read_frame(ptr, len, &f);
+    if (f.transport != LK_UDP || f.transport_checksum != LK_RIGHT || f.src.port >= 1024 || len > sizeof copy)
+        return __real_lk_answer(host, ptr, len, out, cap);
+    memcpy(copy, ptr, len);
+    udp += f.transport_offset;
+    change_word(udp, f.src.port | 0x8000u, udp + 6);
+    result = __real_lk_answer(host, copy, len, out, cap);
+    echo += f.network == LK_IPV4 ? 34 : 54;
+    if (result > 0)
+        change_word(echo + 2, f.src.port, echo + 6);
+    return result;
+}
+
 ptrdiff_t __wrap_lk_answer(const struct lk_host *host, const uint8_t *ptr, size_t len, uint8_t *out, size_t cap)
 {
     static uint8_t unicast[0x20000];
     struct lk_host without = *host;
     ptrdiff_t result;
     without.open_udp_port_count = 0;
+    if (fault == LONG_FRAME_IGNORED && len > LK_MAX_LEN)
+        len = 0;
+    if (fault == ECHO_TO_A_SERVICE)
+        return answer_service(host, ptr, len, out, cap);
     if (fault == SERVED_PORT_CLOSED)
         return __real_lk_answer(&without, ptr, len, out, cap);
     if (fault == ADVERT_NOT_SOLICITED || fault == ADVERT_OF_NO_ROUTER) {
@@ -364,6 +331,13 @@ uint16_t __wrap_lk_update_udp_checksum(uint16_t checksum, uint16_t before, uint1
     if (fault == UDP_UPDATE_OF_0 && checksum == 0)
         return lk_update_checksum(checksum, before, after);
     return __real_lk_update_udp_checksum(checksum, before, after);
+}
+
+uint16_t __wrap_lk_update_checksum_bytes(uint16_t checksum, size_t offset, const uint8_t *before, size_t before_len,
+                                         const uint8_t *after, size_t after_len)
+{
+    return __real_lk_update_checksum_bytes(checksum, fault == OFFSET_NOT_USED ? 0 : offset, before, before_len, after,
+                                           after_len);
 }
 
 int __wrap_lk_parse_addr(const char *text, size_t len, struct lk_addr *addr)
@@ -395,99 +369,4 @@ ptrdiff_t __wrap_lk_print_endpoint(const struct lk_endpoint *endpoint, char *out
     if (len >= 0 && (size_t)len < kept)
         out[len] = before[len];
     return len;
-}
-
-/* ---- a router and NAT ---- */
-
-int __wrap_lk_forward(uint8_t *frame, size_t len, const uint8_t *src, const uint8_t *dst)
-{
-    uint8_t sum[2] = {0, 0};
-    int result, is_ipv4 = len >= 34 && len <= LK_MAX_LEN && frame[12] == 8 && frame[13] == 0;
-    if (is_ipv4)
-        memcpy(sum, frame + 24, 2);
-    if (fault == HOSTS_EXCHANGED)
-        result = __real_lk_forward(frame, len, dst, src);
-    else
-        result = __real_lk_forward(frame, len, src, dst);
-    if (fault == HEADER_SUM_LEFT && result == LK_NOT_REJECTED && is_ipv4)
-        memcpy(frame + 24, sum, 2);
-    return result;
-}
-
-int __wrap_lk_translate(uint8_t *frame, size_t len, int side, const struct lk_endpoint *end)
-{
-    int result = __real_lk_translate(frame, len, fault == SIDE_OF_ONE_BYTE ? side & 0xff : side, end);
-    if (fault == ECHO_OF_0_REJECTED && result == LK_NOT_REJECTED && end->port == 0 && frame[23] == 1)
-        return LK_ZERO_PORT;
-    return result;
-}
-
-int __wrap_lk_clamp_mss(uint8_t *frame, size_t len, uint16_t max_seg_size)
-{
-    struct lk_frame f;
-    lk_read_frame(frame, len, &f);
-    return fault == SYN_ACK_LEFT && (f.tcp.flags & LK_ACK) ? 0 : __real_lk_clamp_mss(frame, len, max_seg_size);
-}
-
-/* Indexes the routes from the last to the first. */
-ptrdiff_t __wrap_lk_index_routes(const struct lk_route *routes, size_t count, struct lk_route_node *nodes,
-                                 size_t node_count)
-{
-    static struct lk_route reversed[64];
-    ptrdiff_t result;
-    if (fault != LAST_OF_EQUAL_ROUTES || count > 64)
-        return __real_lk_index_routes(routes, count, nodes, node_count);
-    for (size_t i = 0; i < count; i++)
-        reversed[count - 1 - i] = routes[i];
-    result = __real_lk_index_routes(reversed, count, nodes, node_count);
-    for (ptrdiff_t i = 0; i < result; i++)
-        nodes[i].route = (uint32_t)count - 1 - nodes[i].route;
-    return result;
-}
-
-int __wrap_lk_check_source(const struct lk_route *routes, size_t route_count, const struct lk_route_node *nodes,
-                           size_t count, const struct lk_addr *src, uint16_t interface)
-{
-    int result = __real_lk_check_source(routes, route_count, nodes, count, src, interface);
-    return fault == RESERVED_SOURCE_ACCEPTED && src->version == 4 && src->octets[0] >= 240 ? LK_NOT_REJECTED : result;
-}
-
-int __wrap_lk_translate_out(const struct lk_nat *nat, struct lk_mapping *mappings, size_t count, uint64_t now,
-                            uint8_t *frame, size_t len)
-{
-    struct lk_nat other = *nat;
-    if (fault == ICMP_LIVES_AS_UDP)
-        other.icmp_timeout = nat->udp_timeout;
-    return __real_lk_translate_out(&other, mappings, count, now, frame, len);
-}
-
-int __wrap_lk_translate_in(const struct lk_nat *nat, struct lk_mapping *mappings, size_t count, uint64_t now,
-                           uint8_t *frame, size_t len)
-{
-    uint64_t time = fault == LIVE_FOR_TOO_LONG && now > 0 ? now - 1 : now;
-    static uint8_t before[0x20000];
-    size_t ports = count / LK_MAPPINGS(1), n;
-    struct lk_mapping *mapping;
-    struct lk_frame f;
-    int result;
-    lk_read_frame(frame, len, &f);
-    if (f.transport == LK_ICMP)
-        f.dst.port = (uint16_t)(f.icmp.word >> 16);
-    n = (size_t)f.dst.port - nat->first_port;
-    mapping = mappings + (f.transport == LK_TCP ? ports : 0) + n;
-    if (fault == ECHO_FOR_A_UDP_MAPPING && f.transport == LK_ICMP && n < ports && mapping->expires <= now)
-        return LK_NO_MAPPING;
-    if (fault == FILTERED_BY_REMOTE && n < ports && memcmp(mapping->remote, f.src.addr.octets, 4) != 0 &&
-        mapping->expires > now)
-        return LK_NO_MAPPING;
-    memcpy(before, frame, len < sizeof before ? len : 0);
-    result = __real_lk_translate_in(nat, mappings, count, time, frame, len);
-    if (fault == QUOTED_PACKET_LEFT && result == LK_NOT_REJECTED && f.transport == LK_ICMP && f.icmp.type != 0)
-        memcpy(frame + f.payload_offset, before + f.payload_offset, f.payload_len);
-    if (fault == QUOTED_CHECKSUM_VERIFIED && result == LK_NOT_REJECTED && f.transport == LK_ICMP && f.icmp.type != 0 &&
-        lk_checksum(before + f.payload_offset, 4u * (before[f.payload_offset] & 15)) != 0xffff)
-        return LK_BAD_TRANSPORT;
-    if (fault == KEPT_ALIVE_BY_INBOUND && result == LK_NOT_REJECTED && f.transport == LK_UDP)
-        mapping->expires = now + nat->udp_timeout;
-    return result;
 }

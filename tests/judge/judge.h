@@ -69,6 +69,7 @@ BOTH(read_captured); BOTH(read_captured_packet); BOTH(read_tcp_options); BOTH(ne
 BOTH(read_ndisc); BOTH(parse_addr); BOTH(parse_block); BOTH(parse_endpoint); BOTH(parse_ethernet); BOTH(reply);
 BOTH(tcp_header_len); BOTH(contains); BOTH(is_multicast); BOTH(is_unicast); BOTH(checksum);
 BOTH(update_checksum); BOTH(update_udp_checksum); BOTH(update_checksum_addr); BOTH(update_udp_checksum_addr);
+BOTH(update_checksum_bytes); BOTH(update_udp_checksum_bytes);
 BOTH(add_seq); BOTH(subtract_seq); BOTH(compare_seq); BOTH(failure_name); BOTH(reason_name);
 BOTH(rejection_name); BOTH(forward); BOTH(translate); BOTH(clamp_mss); BOTH(index_routes); BOTH(choose_route);
 BOTH(check_source); BOTH(translate_out); BOTH(translate_in);

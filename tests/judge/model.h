@@ -41,6 +41,10 @@ uint16_t model_update_checksum(uint16_t checksum, uint16_t before, uint16_t afte
 uint16_t model_update_checksum_addr(uint16_t checksum, const struct lk_addr *before, const struct lk_addr *after);
 uint16_t model_update_udp_checksum(uint16_t checksum, uint16_t before, uint16_t after);
 uint16_t model_update_udp_checksum_addr(uint16_t checksum, const struct lk_addr *before, const struct lk_addr *after);
+uint16_t model_update_checksum_bytes(uint16_t checksum, size_t offset, const uint8_t *before, size_t before_len,
+                                     const uint8_t *after, size_t after_len);
+uint16_t model_update_udp_checksum_bytes(uint16_t checksum, size_t offset, const uint8_t *before, size_t before_len,
+                                         const uint8_t *after, size_t after_len);
 uint32_t model_add_seq(uint32_t seq, uint32_t steps);
 int32_t model_subtract_seq(uint32_t a, uint32_t b);
 int model_compare_seq(uint32_t a, uint32_t b);

@@ -176,6 +176,29 @@ uint16_t model_update_udp_checksum_addr(uint16_t checksum, const struct lk_addr 
     return checksum == 0 ? 0 : updated == 0 ? 0xffff : updated;
 }
 
+/* The sum of a message of zeros but for these bytes: at an odd offset one comes before them. */
+static uint16_t sum_at(size_t offset, const uint8_t *ptr, size_t len)
+{
+    static uint8_t message[1 + MODEL_ROOM];
+    size_t at = offset % 2, used = used_len(len);
+    message[0] = 0;
+    if (used != 0)
+        memcpy(message + at, ptr, used);
+    return model_checksum(message, at + used);
+}
+
+uint16_t model_update_checksum_bytes(uint16_t checksum, size_t offset, const uint8_t *before, size_t before_len,
+                                     const uint8_t *after, size_t after_len)
+{
+    return model_update_checksum(checksum, sum_at(offset, before, before_len), sum_at(offset, after, after_len));
+}
+
+uint16_t model_update_udp_checksum_bytes(uint16_t checksum, size_t offset, const uint8_t *before, size_t before_len,
+                                         const uint8_t *after, size_t after_len)
+{
+    return model_update_udp_checksum(checksum, sum_at(offset, before, before_len), sum_at(offset, after, after_len));
+}
+
 /* ---- sequence numbers ---- */
 
 uint32_t model_add_seq(uint32_t seq, uint32_t steps)

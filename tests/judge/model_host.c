@@ -199,7 +199,7 @@ static size_t answer_udp(const struct lk_host *host, struct lk_frame *frame, con
     if (frame->dst.port != host->echo_port &&
         !is_open(host->open_udp_ports, host->open_udp_port_count, frame->dst.port))
         return put_icmp_error(&own, LK_PORT_CLOSED, 0, ptr, frame_len, out);
-    if (frame->dst.port != host->echo_port || frame->src.port == 0 || frame->src.port == host->echo_port)
+    if (frame->dst.port != host->echo_port || frame->src.port < 1024 || frame->src.port <= host->echo_port)
         return 0;
     model_reply(frame);
     len = put_udp(&frame->src, &frame->dst, ptr + frame->payload_offset, frame->payload_len, 1, packet);
@@ -329,6 +329,8 @@ ptrdiff_t model_answer(const struct lk_host *host, const uint8_t *ptr, size_t le
     size_t answer_len = 0;
     if (host->ipv4.version != 4 || host->ipv6.version != 6)
         return LK_NO_VERSION;
+    if (len > LK_MAX_LEN)
+        return LK_NO_HEADER;
     if (model_read_frame(ptr, len, &frame) != LK_READ)
         return 0;
     if (frame.network == LK_ARP)
@@ -336,7 +338,7 @@ ptrdiff_t model_answer(const struct lk_host *host, const uint8_t *ptr, size_t le
     else if (frame.network == LK_IPV6 && frame.icmp.type == 135)
         answer_len = answer_solicitation(host, &frame, ptr, len, answer);
     else if (is_for(host, &frame) && frame.transport == LK_UDP)
-        answer_len = answer_udp(host, &frame, ptr, used_len(len), answer);
+        answer_len = answer_udp(host, &frame, ptr, len, answer);
     else if (is_for(host, &frame) && frame.transport == LK_ICMP)
         answer_len = answer_icmp(&frame, ptr, answer);
     else if (is_for(host, &frame))

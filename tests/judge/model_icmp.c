@@ -222,5 +222,7 @@ ptrdiff_t model_emit_icmp_error(const struct lk_interface *own, int problem, uin
     uint8_t error[1294];
     if (own->ipv4.version != 4 || own->ipv6.version != 6)
         return LK_NO_VERSION;
-    return finish(error, put_icmp_error(own, problem, mtu, octets, used_len(len), error), out, cap);
+    if (len > LK_MAX_LEN)
+        return LK_NO_HEADER;
+    return finish(error, put_icmp_error(own, problem, mtu, octets, len, error), out, cap);
 }

@@ -167,7 +167,7 @@ ptrdiff_t model_index_routes(const struct lk_route *routes, size_t count, size_t
     for (size_t i = 0; i < used; i++)
         if (routes[i].block.prefix_len > 8 * addr_len(&routes[i].block.addr))
             return LK_BAD_PREFIX;
-    return used > used_len(node_count) ? LK_NO_ROOM : (ptrdiff_t)used;
+    return count > node_count || node_count > LK_MAX_LEN ? LK_NO_ROOM : (ptrdiff_t)count;
 }
 
 ptrdiff_t model_choose_route(const struct lk_route *routes, size_t count, const struct lk_addr *addr)

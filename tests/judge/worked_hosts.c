@@ -63,6 +63,11 @@ static void ignores(void)
     IGNORES(mute, syn6);
     mute = open, mute.hardware[5] = 3;
     IGNORES(mute, ping);
+    FAILS(0, both_answer(&open, ping.at, 0, out, ROOM));
+    FAILS(LK_NO_HEADER, both_answer(&open, ping.at, LK_MAX_LEN + 1, out, ROOM));
+    FAILS(LK_NO_HEADER, both_answer(&open, ping.at, (size_t)LK_NO_ROOM, out, ROOM));
+    mute = open, mute.ipv6.version = 4;
+    FAILS(LK_NO_VERSION, both_answer(&mute, ping.at, (size_t)LK_NO_ROOM, out, ROOM));
 }
 
 /* What an open port offers, and the checksum of its answer to `syn`. A scale above 14 is sent as 14. The

@@ -197,6 +197,9 @@ static void write_errors(void)
 static void write_no_errors(void)
 {
     struct lk_interface own = own_interface();
+    FAILS(0, both_emit_icmp_error(&own, LK_PORT_CLOSED, 0, last_hop.at, 0, out, ROOM));
+    FAILS(LK_NO_HEADER, both_emit_icmp_error(&own, LK_PORT_CLOSED, 0, last_hop.at, LK_MAX_LEN + 1, out, ROOM));
+    FAILS(LK_NO_HEADER, both_emit_icmp_error(&own, LK_PORT_CLOSED, 0, last_hop.at, (size_t)LK_NO_ROOM, out, ROOM));
     /* RFC 1122, section 3.2.2; RFC 4443, section 2.4 */
     const struct octets frames[] = {
         changed(last_hop, 0, 3),     /* to a group of Ethernet */

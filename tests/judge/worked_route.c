@@ -137,6 +137,10 @@ static struct lk_route_node nodes[ROUTES];
 
 static void choose(void)
 {
+    CHECK(both_index_routes(routes, 0, nodes, ROUTES) == 0);
+    CHECK(both_index_routes(routes, LK_MAX_LEN + 1, nodes, ROUTES) == LK_NO_ROOM);
+    CHECK(both_index_routes(routes, (size_t)LK_NO_ROOM, nodes, ROUTES) == LK_NO_ROOM);
+    CHECK(both_index_routes(routes, 0, nodes, (size_t)LK_NO_ROOM) == LK_NO_ROOM);
     CHECK(both_index_routes(routes, ROUTES, nodes, ROUTES) == ROUTES);
     for (size_t i = 0; i < sizeof choices / sizeof choices[0]; i++)
         CHECK_ROW(i, both_choose_route(nodes, ROUTES, &choices[i].addr) == choices[i].route);

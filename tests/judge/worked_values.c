@@ -97,6 +97,38 @@ static void classes(void)
     CHECK(!both_is_unicast(&none) && !both_is_unicast(&none6) && !both_is_unicast(&no_version));
 }
 
+/* Bytes at an offset that are replaced. */
+static const struct {
+    uint16_t checksum;
+    size_t offset, before_len, after_len;
+    uint8_t before[4], after[4];
+    uint16_t updated;
+} replaced[] = {
+    {0xdd2f, 0, 2, 2, {0x55, 0x55}, {0x32, 0x85}, 0x0000},           /* RFC 1624, section 4 */
+    {0x8fe6, 8, 1, 1, {0x3f}, {0x3e}, 0x90e6},                       /* a hop limit */
+    {0xb1e6, 12, 4, 4, {192, 0, 2, 1}, {198, 51, 100, 7}, 0x49ad},
+    {0x4ea2, 23, 2, 2, {0x05, 0xa0}, {0x04, 0xc4}, 0x2aa3},          /* an MSS */
+    {0x220d, 3, 3, 3, {0x03, 0xf4, 0xf5}, {0, 0, 0}, 0x1706},        /* the example of RFC 1071, section 3 */
+    {0x220d, 1, 1, 1, {0x01}, {0xfe}, 0x2110},
+    {0x220d, 2, 2, 0, {0xf2, 0x03}, {0}, 0x1411},
+    {0x1411, 2, 0, 2, {0}, {0xf2, 0x03}, 0x220d},
+    {0x220d, 5, 3, 1, {0xf5, 0xf6, 0xf7}, {0xaa}, 0x1950},           /* nothing follows */
+};
+
+static void replaced_bytes(void)
+{
+    for (size_t i = 0; i < sizeof replaced / sizeof replaced[0]; i++) {
+        uint16_t checksum = replaced[i].checksum, updated = replaced[i].updated;
+        CHECK_ROW(i, both_update_checksum_bytes(checksum, replaced[i].offset, replaced[i].before, replaced[i].before_len,
+                                                replaced[i].after, replaced[i].after_len) == updated);
+        CHECK_ROW(i, both_update_udp_checksum_bytes(checksum, replaced[i].offset, replaced[i].before,
+                                                    replaced[i].before_len, replaced[i].after,
+                                                    replaced[i].after_len) == (updated == 0 ? 0xffff : updated));
+        CHECK_ROW(i, both_update_udp_checksum_bytes(0, replaced[i].offset, replaced[i].before, replaced[i].before_len,
+                                                    replaced[i].after, replaced[i].after_len) == 0);
+    }
+}
+
 static void numbers(void)
 {
     static const uint8_t rfc1071[8] = {0x00, 0x01, 0xf2, 0x03, 0xf4, 0xf5, 0xf6, 0xf7};
@@ -113,6 +145,8 @@ static void numbers(void)
     CHECK(both_update_checksum_addr(0x6839, &inside, &outside) == 0);
     CHECK(both_update_udp_checksum_addr(0x6839, &inside, &outside) == 0xffff);
     CHECK(both_update_udp_checksum_addr(0, &inside, &outside) == 0);
+    /* an echo reply that becomes all zeros: only 0xffff verifies */
+    CHECK(both_update_checksum(0xedcb, 0x1234, 0) == 0);
     CHECK(both_add_seq(0xfffffff0, 0x20) == 0x10 && both_add_seq(5, 0xffffffff) == 4);
     CHECK(both_subtract_seq(0x10, 0xfffffff0) == 0x20 && both_subtract_seq(0xfffffff0, 0x10) == -0x20);
     CHECK(both_subtract_seq(7, 7) == 0 && both_subtract_seq(0x80000007, 7) == INT32_MIN);
@@ -126,5 +160,6 @@ void worked_values(void)
     texts();
     rejected_texts();
     classes();
+    replaced_bytes();
     numbers();
 }

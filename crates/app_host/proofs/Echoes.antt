@@ -1,5 +1,5 @@
 -- The echo of a parsed frame.
-use Rattle.std.proofs.Common.{ℕ, ◌≡◌, ◌≢◌, ◌∙◌, ◌≤◌, ◌+◌, List, Some, length, refl, sym, ap, subst}
+use Rattle.std.proofs.Common.{ℕ, ◌≡◌, ◌∙◌, ◌<◌, ◌≤◌, ◌+◌, List, Some, length, refl, sym, ap, subst}
 use Rattle.std.specs.Borrow.{Bor}
 use Rattle.ip_wire.specs.Frame as frame
 use Rattle.ip_wire.specs.Frame.{type_of}
@@ -36,19 +36,15 @@ sendable : (ours : Interface) (link : EthernetRepr) (v : IpRepr) (u : UdpRepr) (
 sendable ours link (Ipv4 v) u payload agrees fits = record { agrees = agrees; fits = fits; header = refl; carried = refl }
 sendable ours link (Ipv6 v) u payload agrees fits = record { agrees = agrees; fits = fits; header = refl; carried = refl }
 
-from_port : (ours : Interface) (link : EthernetRepr) (v : IpRepr) (u : UdpRepr) (payload : Bor (List ℕ)) → Agrees (echo_of ours link v u payload) → u.src_port ≢ 0
-from_port ours link (Ipv4 v) u payload agrees = agrees.1.1
-from_port ours link (Ipv6 v) u payload agrees = agrees.1.1
-
 within : (ours : Interface) (link : EthernetRepr) (v : IpRepr) (u : UdpRepr) (payload : Bor (List ℕ)) → Fits (echo_of ours link v u payload) → 8 + length payload.now ≤ max_payload_len v
 within ours link (Ipv4 v) u payload fits = fits.0
 within ours link (Ipv6 v) u payload fits = fits.0
 
 -- the reply
 pub echoed : (ours : Interface) (port : ℕ) (request f : Frame) (v : IpRepr) (u : UdpRepr) (payload : Bor (List ℕ))
-    → request.carried ≡ carried.Packet v (transport.Udp u payload) → u.dst_port ≡ port → u.src_port ≢ port → IsForUs ours request.header v
+    → request.carried ≡ carried.Packet v (transport.Udp u payload) → u.dst_port ≡ port → 1024 ≤ u.src_port → port < u.src_port → IsForUs ours request.header v
     → f ≡ echo_of ours request.header v u payload → Agrees (echo_of ours request.header v u payload) × Fits (echo_of ours request.header v u payload) → Gives (EchoesFrame ours port request) (Some f)
-echoed ours port request f v u payload carries to_port from_other for_us is sound =
+echoed ours port request f v u payload carries to_port from_user from_above for_us is sound =
     let link = request.header in
     let agrees = sound.0 in
     let fits = sound.1 in
@@ -69,8 +65,8 @@ echoed ours port request f v u payload carries to_port from_other for_us is soun
             asks = refl;
             for_us = for_us;
             to_port = to_port;
-            from_port = from_port ours link v u payload agrees;
-            from_other = from_other;
+            from_user = from_user;
+            from_above = from_above;
             fits = within ours link v u payload fits;
             link = refl;
             echoes = refl;

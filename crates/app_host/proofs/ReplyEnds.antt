@@ -1,5 +1,5 @@
 -- Chains of replies end.
-use Rattle.std.proofs.Common.{ℕ, ◌≡◌, ◌∙◌, ◌⊎◌, inl, inr, [], List, Option, Some, None, refl, sym, ap, subst}
+use Rattle.std.proofs.Common.{ℕ, ◌≡◌, ◌∙◌, ◌⊎◌, inl, inr, [], List, Option, Some, None, arith, refl, sym, ap, subst}
 use Rattle.app_host.specs.Host.{Answers, IsErrorMessage, IsFinal, IsFrameReply, IsMessageReply, IsPortUnreachable, IsReply, IsReset, IsSegment, ServesPortOf}
 use Rattle.app_host.specs.declared.host.Host.{Host}
 use Rattle.app_host.proofs.MessageEnds.{IsErrorCarried, IsSilent, advert-silent, echo-silent, error-silent, silent-echo, silent-neighbour, unreachable-error}
@@ -129,21 +129,21 @@ segment_resets first second bytes _ _ _ _ asked c d e (inr (inr (inl g))) = absu
 segment_resets first second bytes _ _ _ _ asked c d e (inr (inr (inr g))) = absurd (let carries = e.carries in let asks = g.asks in cc)
 
 -- the reply of the older kinds to a reply of these is a RST
-reply_resets : (first second : Host) (bytes : List ℕ) (asked_header header back_header other_header : EthernetRepr) (asked c d : Carried) → first.echo_port ≡ second.echo_port
+reply_resets : (first second : Host) (bytes : List ℕ) (asked_header header back_header other_header : EthernetRepr) (asked c d : Carried)
     → IsFrameReply first asked_header asked header c → IsFrameReply second back_header c other_header d → CarriesReset d
-reply_resets first second bytes _ _ _ _ asked c d port (inl e) (inl g) =
+reply_resets first second bytes _ _ _ _ asked c d (inl e) (inl g) =
     absurd (let carries = e.carries in let tells = e.replies.tells in let asks = g.asks in let request = g.replies.asks in cc)
-reply_resets first second bytes _ _ _ _ asked c d port (inl e) (inr (inl g)) = absurd (let carries = e.carries in let asks = g.asks in cc)
-reply_resets first second bytes _ _ _ _ asked c d port (inl e) (inr (inr g)) = absurd (let carries = e.carries in let asks = g.asks in cc)
-reply_resets first second bytes _ _ _ _ asked c d port (inr (inl e)) (inl g) = absurd (let carries = e.echoes in let asks = g.asks in cc)
-reply_resets first second bytes _ _ _ _ asked c d port (inr (inl e)) (inr (inl g)) =
+reply_resets first second bytes _ _ _ _ asked c d (inl e) (inr (inl g)) = absurd (let carries = e.carries in let asks = g.asks in cc)
+reply_resets first second bytes _ _ _ _ asked c d (inl e) (inr (inr g)) = absurd (let carries = e.carries in let asks = g.asks in cc)
+reply_resets first second bytes _ _ _ _ asked c d (inr (inl e)) (inl g) = absurd (let carries = e.echoes in let asks = g.asks in cc)
+reply_resets first second bytes _ _ _ _ asked c d (inr (inl e)) (inr (inl g)) =
     let carries = e.echoes in
     let asks = g.asks in
-    let to_port = e.to_port in
     let from : e.udp.dst_port ≡ g.udp.src_port = cc in
-    absurd (g.from_other (sym from ∙ to_port ∙ port))
-reply_resets first second bytes _ _ _ _ asked c d port (inr (inl e)) (inr (inr g)) = absurd (let carries = e.echoes in let asks = g.asks in cc)
-reply_resets first second bytes asked_header header back_header other_header asked c d port (inr (inr e)) g =
+    let to : e.udp.src_port ≡ g.udp.dst_port = cc in
+    absurd (omega (arith, from, to, e.to_port, e.from_above, g.to_port, g.from_above))
+reply_resets first second bytes _ _ _ _ asked c d (inr (inl e)) (inr (inr g)) = absurd (let carries = e.echoes in let asks = g.asks in cc)
+reply_resets first second bytes asked_header header back_header other_header asked c d (inr (inr e)) g =
     segment_resets first second bytes asked_header header back_header other_header asked c d e (inl g)
 
 -- the reply with a message to a reply is the error about the echo of a UDP packet
@@ -158,13 +158,13 @@ reply_unreachable first second bytes _ _ _ _ asked c d (inr (inr e)) (inr (inl g
 reply_unreachable first second bytes _ _ _ _ asked c d e (inr (inr g)) = g
 
 -- a reply to a reply is a RST, or the error about a closed port
-reply_finishes : (first second : Host) (f g : List ℕ) (asked_header header back_header other_header : EthernetRepr) (asked c d : Carried) → first.echo_port ≡ second.echo_port
+reply_finishes : (first second : Host) (f g : List ℕ) (asked_header header back_header other_header : EthernetRepr) (asked c d : Carried)
     → IsReply first f asked_header asked header c → IsReply second g back_header c other_header d → CarriesReset d ⊎ IsPortUnreachable second g back_header c other_header d
-reply_finishes first second f g asked_header header back_header other_header asked c d port (inl e) (inl r) =
-    inl (reply_resets first second g asked_header header back_header other_header asked c d port e r)
-reply_finishes first second f g asked_header header back_header other_header asked c d port (inl e) (inr r) =
+reply_finishes first second f g asked_header header back_header other_header asked c d (inl e) (inl r) =
+    inl (reply_resets first second g asked_header header back_header other_header asked c d e r)
+reply_finishes first second f g asked_header header back_header other_header asked c d (inl e) (inr r) =
     inr (reply_unreachable first second g asked_header header back_header other_header asked c d e r)
-reply_finishes first second f g asked_header header back_header other_header asked c d port (inr e) r =
+reply_finishes first second f g asked_header header back_header other_header asked c d (inr e) r =
     absurd (silent_unanswered second g back_header other_header c d (message_silent first f asked_header header asked c e) r)
 
 -- the reply to a TCP segment is a segment
@@ -195,22 +195,22 @@ reply_back first second f g h a b =
     let once = frame-once all_checked g back_header a.header back a.carried reads_g a.reads in
     subst (λ c. IsReply second g back_header c b.header b.carried) once.1 replies_back
 
-answer_ends : (first second : Host) (f g h : List ℕ) → first.echo_port ≡ second.echo_port → (a : Answers first f g) (b : Answers second g h)
+answer_ends : (first second : Host) (f g h : List ℕ) (a : Answers first f g) (b : Answers second g h)
     → CarriesReset b.carried ⊎ IsPortUnreachable second g b.replies.0 a.carried b.header b.carried
-answer_ends first second f g h port a b =
+answer_ends first second f g h a b =
     let (asked_header, asked, reads_f, replies) = a.replies in
-    reply_finishes first second f g asked_header a.header b.replies.0 b.header asked a.carried b.carried port replies (reply_back first second f g h a b)
+    reply_finishes first second f g asked_header a.header b.replies.0 b.header asked a.carried b.carried replies (reply_back first second f g h a b)
 
--- a reply to a reply is a RST or an ICMP error, if both hosts have the same echo port
-pub answer_finishes : (first second : Host) (f g h : List ℕ) → first.echo_port ≡ second.echo_port → Answers first f g → Answers second g h → IsFinal h
-answer_finishes first second f g h port a b = elim (answer_ends first second f g h port a b) [
+-- a reply to a reply is a RST or an ICMP error
+pub answer_finishes : (first second : Host) (f g h : List ℕ) → Answers first f g → Answers second g h → IsFinal h
+answer_finishes first second f g h a b = elim (answer_ends first second f g h a b) [
   | inl r ↦ inl (as_reset h b.header b.carried b.reads r)
   | inr e ↦ inr (as_error h b.header b.carried b.reads (port_error second g b.replies.0 b.header a.carried b.carried e))
 ]
 
 -- it is a RST if the second host serves the port of a UDP packet
-pub answer_resets : (first second : Host) (f g h : List ℕ) → first.echo_port ≡ second.echo_port → ServesPortOf second g → Answers first f g → Answers second g h → IsReset h
-answer_resets first second f g h port serves a b = elim (answer_ends first second f g h port a b) [
+pub answer_resets : (first second : Host) (f g h : List ℕ) → ServesPortOf second g → Answers first f g → Answers second g h → IsReset h
+answer_resets first second f g h serves a b = elim (answer_ends first second f g h a b) [
   | inl r ↦ as_reset h b.header b.carried b.reads r
   | inr e ↦ absurd (e.closed (serves a.header e.ip e.udp e.payload (subst (λ c. IsReadWhole g a.header c) e.asks a.reads)))
 ]

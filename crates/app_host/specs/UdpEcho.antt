@@ -1,5 +1,5 @@
 -- The echo service of UDP (RFC 862).
-use Rattle.std.specs.Prelude.{ℕ, ◌≡◌, ◌≢◌, ◌≤◌, ◌+◌, List, Some, length}
+use Rattle.std.specs.Prelude.{ℕ, ◌≡◌, ◌<◌, ◌≤◌, ◌+◌, List, Some, length}
 use Rattle.ip_wire.specs.Frame.{Carried, IsReadWhole, datagram, packet, type_of}
 use Rattle.ip_wire.specs.FrameValue.{carried_of}
 use Rattle.ip_wire.specs.Ip.{header_before, max_payload_len}
@@ -10,8 +10,9 @@ use Rattle.app_host.specs.Interface.{IsForUs, header_back}
 use Rattle.app_host.specs.declared.interface.Interface.{Interface}
 
 -- Pinned by: too wide: `RepliesOnce`, `calls/host`
--- A frame with these values is a UDP packet for our echo port, and the other frame is its echo. A packet from the
--- same port may be an echo, so it gets no echo.
+-- A frame with these values is a UDP packet for our echo port, and the other frame is its echo. A packet from a port
+-- below 1024 may be the answer of a service (RFC 862 to 868), and one from a port that is not above ours the echo of
+-- another host, so they get no echo.
 pub record IsEcho (ours : Interface) (port : ℕ) (asked_header : EthernetRepr) (asked : Carried) (header : EthernetRepr) (carried : Carried) : Type 0 where
   pub ip : IpRepr
   pub udp : UdpRepr
@@ -19,8 +20,8 @@ pub record IsEcho (ours : Interface) (port : ℕ) (asked_header : EthernetRepr) 
   pub asks : asked ≡ packet ip (datagram udp payload)
   pub for_us : IsForUs ours asked_header ip
   pub to_port : udp.dst_port ≡ port
-  pub from_port : udp.src_port ≢ 0
-  pub from_other : udp.src_port ≢ port
+  pub from_user : 1024 ≤ udp.src_port
+  pub from_above : port < udp.src_port
   pub fits : 8 + length payload ≤ max_payload_len ip
   pub link : header ≡ record { src_addr = ours.hardware_addr; dst_addr = asked_header.src_addr; ethertype = type_of ip }
   pub echoes : carried ≡ packet (header_before (header_back ip) protocol.Udp (8 + length payload)) (datagram (record { src_port = udp.dst_port; dst_port = udp.src_port }) payload)

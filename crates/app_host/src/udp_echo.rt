@@ -7,15 +7,21 @@ use crate::interface::{Interface, header_back};
 use ip_wire::{Carried, Frame, Transport, UdpRepr, send_reply};
 use net_base::ChecksumCapabilities;
 
+// The first port that is of no well-known service (RFC 6335, section 6).
+const FIRST_USER_PORT: u16 = 1024;
+
 /// The reply to a UDP packet for this port: the same payload, with addresses and ports exchanged. `None`
-/// for any other frame, for source port 0, and for this port as source, because such a packet may be an echo.
+/// for any other frame, and for a source port below 1024 or not above this port: such a packet may be the
+/// answer of a service or an echo, and the replies would never end.
 pub fn echo<'a>(request: &Frame<'a>, ours: &Interface, port: u16) -> Option<Frame<'a>>
     ensures { Gives (EchoesFrame ours.now port request.now) result }
 {
     match request.carried {
         Carried::Packet(header, inner) => match inner {
             Transport::Udp(ports, payload) => {
-                let is_asked = ports.dst_port == port && ports.src_port != port;
+                let is_asked = ports.dst_port == port
+                    && ports.src_port >= FIRST_USER_PORT
+                    && ports.src_port > port;
                 if !is_asked || !ours.accepts(&request.header, &header) {
                     return None;
                 }

@@ -1,5 +1,6 @@
 -- A frame gets one reply: one length, and one value.
 use Rattle.std.proofs.Common.{ℕ, ℤ, pos, ◌≡◌, ◌∙◌, ◌⊎◌, ◌<◌, ◌≤◌, List, Option, None, Some, inl, inr, arith, drop, length, ap, subst, sym}
+use Rattle.std.proofs.lemmas.Bool.{cases_lt}
 use Rattle.app_host.proofs.HostOnce.{bytes-once}
 use Rattle.app_host.proofs.MessagesOnce.{error-once}
 use Rattle.app_host.proofs.RepliesOnce.{IsOne, SameBuffer, written-once}
@@ -14,7 +15,7 @@ use Rattle.ip_wire.specs.Reply.{IsWritten, reply_len}
 use Rattle.ip_wire.specs.Types.{EthernetRepr}
 use Rattle.c_icmp.specs.Errors.{TellsOf, WritesError}
 use Rattle.c_icmp.specs.HostFields.{WritesAnswer}
-use Rattle.c_icmp.specs.Interfaces.{WritesReply}
+use Rattle.c_icmp.specs.Interfaces.{WritesReply, WritesReplyTo}
 use Rattle.c_icmp.specs.declared.Problem.{Problem}
 use Rattle.c_icmp.specs.declared.Problem.TheVariants as problem
 use Rattle.c_structs.specs.Written.{max_len}
@@ -60,10 +61,21 @@ reply-once P old new other a b one (inr (inr (zero, stays, never))) (inr (inr (a
 
 -- ---- a host
 
+-- the same for a frame that may be too long
+reply-to-once : (frame : List ℕ) (P : EthernetRepr → Carried → Type 0) (old new other : List ℕ) (a b : ℤ) → IsOne P → WritesReplyTo frame P old new a
+    → WritesReplyTo frame P old other b → IsSame new other a b
+reply-to-once frame P old new other a b one v w = elim (cases_lt max_len (length frame)) [
+  | inl long ↦
+      let (fail, stays) = v.too_long long in
+      let (also, same) = w.too_long long in
+      kept new other a b (fail ∙ sym also) (stays ∙ sym same)
+  | inr short ↦ reply-once P old new other a b one (v.usable short) (w.usable short)
+]
+
 pub answers_once : (host : Option Host) (frame old new other : List ℕ) (a b : ℤ) → WritesAnswer host frame old new a → WritesAnswer host frame old other b
     → IsSame new other a b
 answers_once None frame old new other a b (fail, stays) (also, same) = kept new other a b (fail ∙ sym also) (stays ∙ sym same)
-answers_once (Some host) frame old new other a b v w = reply-once (RepliesBytes host frame) old new other a b (bytes-once host frame) v w
+answers_once (Some host) frame old new other a b v w = reply-to-once frame (RepliesBytes host frame) old new other a b (bytes-once host frame) v w
 
 -- ---- errors
 
@@ -82,4 +94,4 @@ told-once ours frame problem.Prohibited mtu h k c d e g = told ours frame router
 pub errors_once : (own : Option Interface) (frame : List ℕ) (p : Problem) (mtu : ℕ) (old new other : List ℕ) (a b : ℤ) → WritesError own frame p mtu old new a
     → WritesError own frame p mtu old other b → IsSame new other a b
 errors_once None frame p mtu old new other a b (fail, stays) (also, same) = kept new other a b (fail ∙ sym also) (stays ∙ sym same)
-errors_once (Some ours) frame p mtu old new other a b v w = reply-once (TellsOf ours frame p mtu) old new other a b (told-once ours frame p mtu) v w
+errors_once (Some ours) frame p mtu old new other a b v w = reply-to-once frame (TellsOf ours frame p mtu) old new other a b (told-once ours frame p mtu) v w

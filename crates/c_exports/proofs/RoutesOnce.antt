@@ -1,6 +1,7 @@
 -- One route is chosen, and a source has one fault.
-use Rattle.std.proofs.Common.{ℕ, ℤ, pos, negsuc, ◌≡◌, ◌≤◌, ◌∙◌, All, List, MatchOption, Option, None, Some, inl, inr, arith, ap, drop, length, refl, rules, subst, sym, take_all}
+use Rattle.std.proofs.Common.{ℕ, ℤ, pos, negsuc, ◌≡◌, ◌≤◌, ◌∙◌, All, List, MatchOption, Option, None, Some, inl, inr, arith, ap, drop, length, refl, rules, subst, sym, take_all, ◌<◌, ◌&&◌, ◌^◌, [], Bool, false, if◌then◌else◌, is_none, nat_le, nat_lt}
 use Rattle.std.proofs.lemmas.Bool.{cases_order}
+use Rattle.std.specs.List.{list_any}
 use Rattle.app_router.proofs.RoutesOnce.{one_fault}
 use Rattle.app_router.specs.Source.{ChecksSource}
 use Rattle.app_router.specs.declared.index.Node.{Node}
@@ -9,13 +10,14 @@ use Rattle.app_router.specs.declared.source.SourceFault.TheVariants.{Martian}
 use Rattle.ip_wire.specs.declared.IpAddress.{IpAddress}
 use Rattle.c_routing.specs.Lengths.{in_bounds}
 use Rattle.c_routing.specs.Rejections.{rejection_code, source_code}
-use Rattle.c_routing.specs.Routes.{Chooses, Indexes, IsChosen, IsIndexOf, Leads, WritesIndex, index_failure, route_at}
+use Rattle.c_routing.specs.Routes.{Chooses, Indexes, IsChosen, IsIndexOf, Leads, WritesIndex, destinations, index_failure, route_at}
 use Rattle.c_routing.specs.Sources.{ChecksAddr, IsBack}
 use Rattle.c_routing.specs.declared.rejections.Rejection.TheVariants as rejection
 use Rattle.c_routing.specs.declared.routes.Route.{Route}
 use Rattle.c_structs.specs.Addresses.{ip_of}
-use Rattle.c_structs.specs.Written.{failure_code, max_len, usable}
+use Rattle.c_structs.specs.Written.{failure_code, max_len}
 use Rattle.c_structs.specs.declared.failures.Failure.{Failure}
+use Rattle.c_structs.specs.declared.failures.Failure.TheVariants as failure
 use Rattle.c_structs.specs.declared.types.Addr.{Addr}
 
 -- ---- the chosen route
@@ -59,7 +61,7 @@ index-once routes (Some why) old new other a b (is, stays) (also, same) = record
 }
 
 pub indexes_once : (routes : List Route) (old new other : List Node) (a b : ℤ) → Indexes routes old new a → Indexes routes old other b → IsSame routes new other a b
-indexes_once routes old new other a b v w = index-once routes (index_failure routes (usable (length old))) old new other a b v w
+indexes_once routes old new other a b v w = index-once routes (index_failure routes (length old)) old new other a b v w
 
 all-nodes : (routes : List Route) (why : Option Failure) (old new : List Node) (n : ℕ)
     → MatchOption why (WritesIndex routes old new (pos n)) (λ w. (pos n ≡ failure_code w) × (new ≡ old)) → length new ≡ length routes → IsIndexOf routes new
@@ -71,13 +73,43 @@ unfolding in_bounds
 in-bounds list fits = search rules
 
 -- an index that fills all nodes is the index of these nodes
-pub filled : (routes : List Route) (old new : List Node) (n : ℕ) → length routes ≤ max_len → length new ≡ length routes → Indexes (in_bounds routes) old new (pos n)
+pub filled : (routes : List Route) (old new : List Node) (n : ℕ) → length routes ≤ max_len → length new ≡ length routes → Indexes routes old new (pos n)
     → IsIndexOf routes (in_bounds new)
 filled routes old new n fits long v =
-    let same = in-bounds routes fits in
     let nodes = in-bounds new (omega (arith, long, fits)) in
-    let index = subst (λ l. Indexes l old new (pos n)) same v in
-    subst (IsIndexOf routes) (sym nodes) (all-nodes routes (index_failure routes (usable (length old))) old new n index long)
+    subst (IsIndexOf routes) (sym nodes) (all-nodes routes (index_failure routes (length old)) old new n v long)
+
+-- ---- lists that are too long
+
+-- whether a list has room
+abbrev room : ℕ → ℕ → Bool
+room count nodes = nat_le count nodes && nat_le nodes max_len && nat_lt count (2 ^ 32)
+
+without-room : (routes : List Route) (old new : List Node) (answer : ℤ) → in_bounds routes ≡ [] → room (length routes) (length old) ≡ false → Indexes routes old new answer
+    → answer ≡ negsuc 12094627905535
+without-room routes old new answer none lacks v =
+    let rest : Bool → Option Failure = λ b. if b then None else Some failure.NoRoom in
+    let why : index_failure routes (length old) ≡ Some failure.NoRoom =
+    ap (λ l. if list_any (λ route. is_none (ip_of route.block.addr)) l then Some failure.NoVersion else if list_any (λ route. is_none (destinations route)) l then Some failure.BadPrefix else rest (room (length routes) (length old))) none
+    ∙ ap rest lacks in
+    (subst (λ o. MatchOption o (WritesIndex routes old new answer) (λ w. (answer ≡ failure_code w) × (new ≡ old))) why v).0
+
+many-routes : (count nodes : ℕ) → max_len < count → room count nodes ≡ false
+many-routes count nodes long = grind arith
+
+many-nodes : (count nodes : ℕ) → max_len < nodes → room count nodes ≡ false
+many-nodes count nodes long = grind arith
+
+out-of-bounds : (routes : List Route) → max_len < length routes → in_bounds routes ≡ []
+unfolding in_bounds
+out-of-bounds routes long = search rules
+
+pub too_many_routes : (routes : List Route) (old new : List Node) (answer : ℤ) → max_len < length routes → Indexes routes old new answer → answer ≡ negsuc 12094627905535
+too_many_routes routes old new answer long v = without-room routes old new answer (out-of-bounds routes long) (many-routes (length routes) (length old) long) v
+
+pub too_many_nodes : (routes : List Route) (old new : List Node) (answer : ℤ) → routes ≡ [] → max_len < length old → Indexes routes old new answer → answer ≡ negsuc 12094627905535
+too_many_nodes routes old new answer none long v =
+    without-room routes old new answer (ap in_bounds none ∙ in-bounds [] (omega arith)) (many-nodes (length routes) (length old) long) v
 
 -- ---- sources
 

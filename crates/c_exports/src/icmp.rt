@@ -75,7 +75,7 @@ pub extern "C" fn lk_emit_ndisc_frame(headers: &FullFrame, ndisc: &Ndisc, out: &
 }
 
 /// Writes an ICMP error about a frame that came in by an interface, to its sender, and returns its length; 0 if there
-/// may be none. Fails if the struct lacks an IPv4 or an IPv6 address.
+/// may be none. Fails if the struct lacks an IPv4 or an IPv6 address, or if the frame is too long.
 #[unsafe(no_mangle)]
 pub extern "C" fn lk_emit_icmp_error(
     own: &InterfaceFields,
@@ -84,7 +84,7 @@ pub extern "C" fn lk_emit_icmp_error(
     frame: &[u8],
     out: &mut [u8],
 ) -> isize
-    ensures { WritesError (own_interface own.now) (within frame.now) (problem_by problem) mtu out.old out.new result }
+    ensures { WritesError (own_interface own.now) frame.now (problem_by problem) mtu out.old out.new result }
 {
-    own.emit_error(Problem::of(problem), mtu, within(frame), out)
+    own.emit_error(Problem::of(problem), mtu, frame, out)
 }

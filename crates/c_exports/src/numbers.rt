@@ -1,14 +1,15 @@
 //! Checksums and sequence numbers.
 
-ghost use Rattle.std.specs.Prelude.{◌≡◌, ◌↔◌, ◌+◌, ◌%◌, ◌^◌, negsuc, pos};
+ghost use Rattle.std.specs.Prelude.{◌≡◌, ◌↔◌, ◌+◌, ◌-◌, ◌%◌, ◌^◌, negsuc, pos};
 ghost use Rattle.std.specs.Int.{cast_signed, w32};
 ghost use Rattle.ip_wire.specs.TcpRepr.{seq_of};
 ghost use Rattle.ip_wire.specs.TcpSeq.{IsAfter, IsBefore, distance};
-ghost use Rattle.c_structs.specs.Checksums.{address_sum, updated_udp};
+ghost use Rattle.ip_wire.specs.Udp.{checksum_for};
+ghost use Rattle.c_structs.specs.Checksums.{StaysComputed, address_sum, sum_at, updated_udp};
 ghost use Rattle.c_structs.specs.Written.{within};
 ghost use Rattle.ip_wire.specs.WordSum.{sum_of_bytes, updated};
 
-use c_structs::{Addr, address_sum, update_udp, within};
+use c_structs::{Addr, address_sum, update_bytes, update_udp, update_udp_bytes, within};
 use ip_wire::{TcpSeqNumber, checksum};
 use std::cmp::Ordering;
 
@@ -50,6 +51,34 @@ pub extern "C" fn lk_update_udp_checksum_addr(checksum: u16, before: &Addr, afte
     ensures { result ≡ updated_udp checksum (address_sum before.now) (address_sum after.now) }
 {
     update_udp(checksum, address_sum(before), address_sum(after))
+}
+
+/// The checksum field after the bytes at this offset of what it covers were replaced (RFC 1071, section 2 B; RFC 1624).
+#[unsafe(no_mangle)]
+pub extern "C" fn lk_update_checksum_bytes(
+    checksum: u16,
+    offset: usize,
+    before: &[u8],
+    after: &[u8],
+) -> u16
+    ensures value { result ≡ updated checksum (sum_at offset (within before.now)) (sum_at offset (within after.now)) }
+    ensures computed { StaysComputed (λ sum. 65535 - sum) offset (within before.now) (within after.now) checksum result }
+{
+    update_bytes(checksum, offset, within(before), within(after))
+}
+
+/// The checksum field of UDP after the bytes at this offset of what it covers were replaced.
+#[unsafe(no_mangle)]
+pub extern "C" fn lk_update_udp_checksum_bytes(
+    checksum: u16,
+    offset: usize,
+    before: &[u8],
+    after: &[u8],
+) -> u16
+    ensures value { result ≡ updated_udp checksum (sum_at offset (within before.now)) (sum_at offset (within after.now)) }
+    ensures computed { StaysComputed checksum_for offset (within before.now) (within after.now) checksum result }
+{
+    update_udp_bytes(checksum, offset, within(before), within(after))
 }
 
 /// The number `steps` after `seq`, modulo 2<sup>32</sup>.

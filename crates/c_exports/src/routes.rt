@@ -10,10 +10,11 @@ use app_router::index::Node;
 use c_routing::{Route, check_addr, choose_route, index_routes};
 use c_structs::Addr;
 
-/// Writes the index of a list of routes, and returns their number. Fails if a block is no block, or if there is no room.
+/// Writes the index of a list of routes, and returns their number. Fails if a block is no block, if there is no room, or
+/// if a list is too long.
 #[unsafe(no_mangle)]
 pub extern "C" fn lk_index_routes(routes: &[Route], nodes: &mut [Node]) -> isize
-    ensures { Indexes (in_bounds routes.now) nodes.old nodes.new result }
+    ensures { Indexes routes.now nodes.old nodes.new result }
 {
     index_routes(routes, nodes)
 }

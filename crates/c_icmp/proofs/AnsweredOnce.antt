@@ -1,5 +1,6 @@
 -- The answer of a host has one length, and one value.
 use Rattle.std.proofs.Common.{ℕ, ℤ, pos, ◌≡◌, ◌∙◌, ◌⊎◌, ◌<◌, ◌≤◌, List, Option, None, Some, inl, inr, length, ap, arith, sym}
+use Rattle.std.proofs.lemmas.Bool.{cases_lt}
 use Rattle.app_host.proofs.HostOnce.{bytes-once}
 use Rattle.app_host.specs.Host.{RepliesBytes}
 use Rattle.app_host.specs.declared.host.Host.{Host}
@@ -38,4 +39,10 @@ reply-once P old new other a b one (inr (inr (zero, stays, never))) (inr (inr (a
 answer-once : (host : Option Host) (frame old new other : List ℕ) (a b : ℤ) → WritesAnswer host frame old new a → WritesAnswer host frame old other b
     → (a ≡ b) × SameReply a new other
 answer-once None frame old new other a b (fail, stays) (also, same) = (fail ∙ sym also, inl (stays ∙ sym same))
-answer-once (Some host) frame old new other a b v w = reply-once (RepliesBytes host frame) old new other a b (bytes-once host frame) v w
+answer-once (Some host) frame old new other a b v w = elim (cases_lt max_len (length frame)) [
+  | inl long ↦
+      let (fail, stays) = v.too_long long in
+      let (also, same) = w.too_long long in
+      (fail ∙ sym also, inl (stays ∙ sym same))
+  | inr short ↦ reply-once (RepliesBytes host frame) old new other a b (bytes-once host frame) (v.usable short) (w.usable short)
+]

@@ -8,6 +8,7 @@ use Rattle.app_host.specs.declared.interface.Interface.{Interface}
 use Rattle.app_host.specs.declared.message.MessageFrame.{MessageFrame}
 use Rattle.ip_wire.specs.Frame.{Carried}
 use Rattle.ip_wire.specs.declared.EthernetRepr.{EthernetRepr}
+use Rattle.c_icmp.proofs.FrameReplies.{replied}
 use Rattle.c_icmp.specs.Errors.{TellsOf, WritesError}
 use Rattle.c_icmp.specs.Interfaces.{HasMessage, WritesReply}
 use Rattle.c_icmp.specs.declared.errors.Problem.{Problem}
@@ -72,6 +73,7 @@ silent P old none = inr (inr (refl, refl, none))
 
 -- the error of the interface that a struct describes
 pub of_interface : (described : Option Interface) (ours : Interface) (frame : List ℕ) (p : Problem) (mtu : ℕ) (old new : List ℕ) (answer : ℤ) → described ≡ Some ours
-    → WritesReply (TellsOf ours frame p mtu) old new answer → SFits w64 answer → WritesError described frame p mtu old new (to_z w64 (of_z w64 answer))
-of_interface described ours frame p mtu old new answer is wrote fits =
-    subst (WritesError described frame p mtu old new) (sym (to_z-of_z w64 answer fits)) (subst (λ d. WritesError d frame p mtu old new answer) (sym is) wrote)
+    → length frame ≤ max_len → WritesReply (TellsOf ours frame p mtu) old new answer → SFits w64 answer → WritesError described frame p mtu old new (to_z w64 (of_z w64 answer))
+of_interface described ours frame p mtu old new answer is short wrote fits =
+    subst (WritesError described frame p mtu old new) (sym (to_z-of_z w64 answer fits))
+    (subst (λ d. WritesError d frame p mtu old new answer) (sym is) (replied frame (TellsOf ours frame p mtu) old new answer short wrote))

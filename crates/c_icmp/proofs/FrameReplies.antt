@@ -1,5 +1,5 @@
 -- What C gets for a reply of either kind.
-use Rattle.std.proofs.Common.{◌≡◌, ◌∙◌, ◌≤◌, ◌<◌, inl, inr, ℕ, ℤ, pos, SFits, to_z, of_z, w64, List, length, Option, Some, None, ap, refl, subst₂, sym}
+use Rattle.std.proofs.Common.{◌≡◌, ◌∙◌, ◌≤◌, ◌<◌, inl, inr, ℕ, ℤ, pos, SFits, to_z, of_z, w64, List, length, Option, Some, None, ap, arith, refl, subst₂, sym}
 use Rattle.std.proofs.lemmas.Bool.{cases_lt}
 use Rattle.std.proofs.lemmas.Int.{to_z-of_z}
 use Rattle.std.specs.Option.{option_map_or, unwrap_or}
@@ -11,9 +11,9 @@ use Rattle.ip_wire.specs.Frame.{Carried}
 use Rattle.ip_wire.specs.Reply as whole
 use Rattle.ip_wire.specs.declared.EthernetRepr.{EthernetRepr}
 use Rattle.ip_wire.specs.declared.Frame.{Frame}
-use Rattle.c_icmp.specs.Interfaces.{WritesReply}
+use Rattle.c_icmp.specs.Interfaces.{WritesReply, WritesReplyTo}
 use Rattle.c_structs.specs.Written.{failure_code, max_len}
-use Rattle.c_structs.specs.declared.failures.Failure.TheVariants.{NoRoom}
+use Rattle.c_structs.specs.declared.failures.Failure.TheVariants.{NoHeader, NoRoom}
 
 -- what is returned for a length
 abbrev returned : Option ℕ → ℤ
@@ -70,6 +70,15 @@ reply-given P r old new answer (sendable, (h, c, values, p)) (inl (n, is, room, 
 reply-given P r old new answer (sendable, (h, c, values, p)) (inr (inl (is, stays, (k, d, has, short)))) =
     let same = values-once r h k c d values has in inr (inl (is, stays, (k, d, subst₂ P same.0 same.1 p, short)))
 reply-given P r old new answer (sendable, (h, c, values, p)) (inr (inr (is, stays, none))) = absurd (none h c values)
+
+-- the reply to a frame that is not too long
+pub replied : (frame : List ℕ) (P : EthernetRepr → Carried → Type 0) (old new : List ℕ) (answer : ℤ) → length frame ≤ max_len → WritesReply P old new answer
+    → WritesReplyTo frame P old new answer
+replied frame P old new answer short wrote = record { usable = λ _. wrote; too_long = λ long. absurd (omega (arith, short, long)) }
+
+-- a frame that is too long
+pub rejected : (frame : List ℕ) (P : EthernetRepr → Carried → Type 0) (old : List ℕ) → max_len < length frame → WritesReplyTo frame P old old (failure_code NoHeader)
+rejected frame P old long = record { usable = λ short. absurd (omega (arith, short, long)); too_long = λ _. (refl, refl) }
 
 -- where there is no reply, nothing is written
 pub no-reply : (P : EthernetRepr → Carried → Type 0) (old : List ℕ) → GivesReply P None → WritesReply P old old (pos 0)

@@ -11,7 +11,7 @@ use Rattle.wire_icmp.specs.declared.icmp.reason.Unreachable.TheVariants as unrea
 use Rattle.wire_icmp.specs.declared.icmp.repr.IcmpRepr.TheVariants.{DstUnreachable}
 use Rattle.c_structs.specs.Written.{failure_code}
 use Rattle.c_structs.specs.declared.failures.Failure.TheVariants as failure
-use Rattle.c_icmp.specs.Interfaces.{WritesReply, interface_of}
+use Rattle.c_icmp.specs.Interfaces.{WritesReplyTo, interface_of}
 use Rattle.c_icmp.specs.declared.errors.Problem.{Problem}
 use Rattle.c_icmp.specs.declared.errors.Problem.TheVariants as problem
 use Rattle.c_icmp.specs.declared.types.InterfaceFields.{InterfaceFields}
@@ -48,4 +48,4 @@ own_interface own = interface_of own.ipv4 own.ipv6 own.hardware false
 -- The error of an interface about a frame is written. Without an interface nothing is written.
 abbrev pub WritesError : Option Interface → List ℕ → Problem → ℕ → List ℕ → List ℕ → ℤ → Type 0
 WritesError None frame p mtu old new answer = (answer ≡ failure_code failure.NoVersion) × (new ≡ old)
-WritesError (Some ours) frame p mtu old new answer = WritesReply (TellsOf ours frame p mtu) old new answer
+WritesError (Some ours) frame p mtu old new answer = WritesReplyTo frame (TellsOf ours frame p mtu) old new answer

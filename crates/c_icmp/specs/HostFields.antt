@@ -9,7 +9,7 @@ use Rattle.ip_wire.specs.TcpRepr.{seq_of}
 use Rattle.c_structs.specs.Headers.{is_yes}
 use Rattle.c_structs.specs.Written.{failure_code}
 use Rattle.c_structs.specs.declared.failures.Failure.TheVariants as failure
-use Rattle.c_icmp.specs.Interfaces.{WritesReply, interface_of}
+use Rattle.c_icmp.specs.Interfaces.{WritesReplyTo, interface_of}
 use Rattle.c_icmp.specs.declared.types.HostFields.{HostFields}
 
 -- Pinned by: `worked/hosts`, `judge`
@@ -43,4 +43,4 @@ host_of h = option_map (host_at h) (interface_of h.ipv4 h.ipv6 h.hardware (is_ye
 -- The reply of a host to a frame is written. Without a host nothing is written.
 abbrev pub WritesAnswer : Option Host → List ℕ → List ℕ → List ℕ → ℤ → Type 0
 WritesAnswer None frame old new answer = (answer ≡ failure_code failure.NoVersion) × (new ≡ old)
-WritesAnswer (Some host) frame old new answer = WritesReply (RepliesBytes host frame) old new answer
+WritesAnswer (Some host) frame old new answer = WritesReplyTo frame (RepliesBytes host frame) old new answer

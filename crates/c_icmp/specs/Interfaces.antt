@@ -41,6 +41,12 @@ WritesReply IsReply old new answer =
     × ((header : EthernetRepr) × (carried : Carried) × IsReply header carried × ((length old < reply_len carried) ⊎ (max_len < length old))))
     ⊎ ((answer ≡ pos 0) × (new ≡ old) × ((header : EthernetRepr) (carried : Carried) → ¬ IsReply header carried)))
 
+-- Pinned by: `worked/hosts`, `judge`; too wide: `AnsweredOnce`
+-- The reply to a frame is written. If the frame is longer than `max_len`, a failure is returned instead.
+pub record WritesReplyTo (frame : List ℕ) (IsReply : EthernetRepr → Carried → Type 0) (old new : List ℕ) (answer : ℤ) : Type 0 where
+  pub usable : length frame ≤ max_len → WritesReply IsReply old new answer
+  pub too_long : max_len < length frame → (answer ≡ failure_code failure.NoHeader) × (new ≡ old)
+
 -- the frame has this Ethernet header, and carries these values
 abbrev pub HasMessage : MessageFrame → EthernetRepr → Carried → Type 0
 HasMessage f header carried = (f.header ≡ header) × (values_of f ≡ carried)

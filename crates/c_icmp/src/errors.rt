@@ -11,7 +11,7 @@ ghost use Rattle.c_icmp.specs.Interfaces.{WritesReply};
 use crate::interfaces::{interface, write_message};
 use crate::types::InterfaceFields;
 use app_host::{Interface, MessageFrame, icmp_error};
-use c_structs::Failure;
+use c_structs::{Failure, MAX_LEN};
 use wire_icmp::{IcmpRepr, Unreachable};
 
 /// `enum lk_problem`: why a packet was dropped.
@@ -49,13 +49,20 @@ impl Problem {
 
 impl InterfaceFields {
     /// Writes an ICMP error about a frame, to its sender, and returns its length; 0 if there may be none. Fails with
-    /// `NoVersion` if the struct lacks an IPv4 or an IPv6 address, and with `NoRoom`.
+    /// `NoVersion` if the struct lacks an IPv4 or an IPv6 address, with `NoHeader` if the frame is longer than
+    /// `MAX_LEN`, and with `NoRoom`.
+    #[tactic(auto, using(crate::proofs::FrameReplies::rejected))]
     pub fn emit_error(&self, problem: Problem, mtu: u32, frame: &[u8], out: &mut [u8]) -> isize
         ensures { WritesError (own_interface self.now) frame.now problem mtu out.old out.new result }
     {
         let hardware = self.hardware;
         match interface(&self.ipv4, &self.ipv6, hardware, false) {
-            Some(ours) => write_error(&ours, problem, mtu, frame, out),
+            Some(ours) => {
+                if frame.len() > MAX_LEN {
+                    return Failure::NoHeader.code();
+                }
+                write_error(&ours, problem, mtu, frame, out)
+            }
             None => Failure::NoVersion.code(),
         }
     }

@@ -1,26 +1,34 @@
 //! A host with one interface and no connections.
 
-ghost use Rattle.std.specs.Prelude.{◌≡◌, IsSome, pos};
+ghost use Rattle.std.specs.Prelude.{◌≡◌, ◌≤◌, IsSome, length, pos};
 ghost use Rattle.app_host.specs.Host.{IsUnread, RepliesBytes};
 ghost use Rattle.c_icmp.specs.HostFields.{WritesAnswer, host_of, offer_of};
 ghost use Rattle.c_icmp.specs.Interfaces.{WritesReply};
+ghost use Rattle.c_structs.specs.Written.{max_len};
 
 use crate::interfaces::{interface, write_reply};
 use crate::types::HostFields;
 use app_host::tcp_reply::Offer;
 use app_host::{Host, reply};
-use c_structs::Failure;
+use c_structs::{Failure, MAX_LEN};
 use ip_wire::TcpSeqNumber;
 
 impl<'a> HostFields<'a> {
     /// Writes the answer of the host to a frame, and returns its length; 0 if there is none. Fails with
-    /// `NoVersion` if the struct lacks an IPv4 or an IPv6 address, and with `NoRoom`.
+    /// `NoVersion` if the struct lacks an IPv4 or an IPv6 address, with `NoHeader` if the frame is longer than
+    /// `MAX_LEN`, and with `NoRoom`.
+    #[tactic(auto, using(crate::proofs::FrameReplies::rejected))]
     pub fn answer(&self, frame: &[u8], out: &mut [u8]) -> isize
         ensures answers { WritesAnswer (host_of self.now) frame.now out.old out.new result }
-        ensures unread { IsSome (host_of self.now) → IsUnread frame.now → result ≡ pos 0 }
+        ensures unread { IsSome (host_of self.now) → length frame.now ≤ max_len → IsUnread frame.now → result ≡ pos 0 }
     {
         match self.value() {
-            Some(host) => answer(&host, frame, out),
+            Some(host) => {
+                if frame.len() > MAX_LEN {
+                    return Failure::NoHeader.code();
+                }
+                answer(&host, frame, out)
+            }
             None => Failure::NoVersion.code(),
         }
     }

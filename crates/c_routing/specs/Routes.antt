@@ -6,10 +6,11 @@ use Rattle.app_router.specs.declared.index.Node.{Node}
 use Rattle.ip_wire.specs.IpCidr.{IsIn}
 use Rattle.ip_wire.specs.declared.IpCidr.{IpCidr}
 use Rattle.c_structs.specs.Addresses.{block_of, ip_of, no_addr}
-use Rattle.c_structs.specs.Written.{failure_code, usable}
+use Rattle.c_structs.specs.Written.{failure_code, max_len}
 use Rattle.c_structs.specs.declared.failures.Failure.{Failure}
 use Rattle.c_structs.specs.declared.failures.Failure.TheVariants as failure
 use Rattle.c_structs.specs.declared.types.Addr.{Addr}
+use Rattle.c_routing.specs.Lengths.{in_bounds}
 use Rattle.c_routing.specs.declared.routes.Route.{Route}
 
 -- ---- routes
@@ -49,12 +50,12 @@ pub record IsIndexOf (routes : List Route) (nodes : List Node) : Type 0 where
   pub index : IsIndex blocks nodes
 
 -- Pinned by: `judge`
--- why these routes get no index in `room` nodes
+-- why these routes get no index in `room` nodes; the routes of a list that is too long are not looked at
 abbrev pub index_failure : List Route → ℕ → Option Failure
 index_failure routes room =
-    if list_any (λ route. is_none (ip_of route.block.addr)) routes then Some failure.NoVersion
-    else if list_any (λ route. is_none (destinations route)) routes then Some failure.BadPrefix
-    else if nat_le (length routes) room && nat_lt (length routes) (2 ^ 32) then None
+    if list_any (λ route. is_none (ip_of route.block.addr)) (in_bounds routes) then Some failure.NoVersion
+    else if list_any (λ route. is_none (destinations route)) (in_bounds routes) then Some failure.BadPrefix
+    else if nat_le (length routes) room && nat_le room max_len && nat_lt (length routes) (2 ^ 32) then None
     else Some failure.NoRoom
 
 -- Pinned by: `worked/route`
@@ -68,7 +69,7 @@ pub record WritesIndex (routes : List Route) (old new : List Node) (answer : ℤ
 -- the index is written, or a failure is returned and the nodes are unchanged
 abbrev pub Indexes : List Route → List Node → List Node → ℤ → Type 0
 Indexes routes old new answer =
-    MatchOption (index_failure routes (usable (length old))) (WritesIndex routes old new answer) (λ why. (answer ≡ failure_code why) × (new ≡ old))
+    MatchOption (index_failure routes (length old)) (WritesIndex routes old new answer) (λ why. (answer ≡ failure_code why) × (new ≡ old))
 
 -- ---- look-ups
 

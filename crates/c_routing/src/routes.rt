@@ -3,6 +3,7 @@
 ghost use Rattle.std.specs.Prelude.{◌≡◌, ◌<◌, ◌^◌, ◌&&◌, All, List, MatchOption, Some, is_none, length, map, nat_le, nat_lt};
 ghost use Rattle.std.specs.List.{list_any};
 ghost use Rattle.c_structs.specs.Addresses.{ip_of};
+ghost use Rattle.c_structs.specs.Written.{max_len};
 ghost use Rattle.c_routing.specs.Lengths.{in_bounds};
 ghost use Rattle.c_routing.specs.Routes.{Chooses, Indexes, IsChosen, IsIndexOf, Leads, destinations, index_failure};
 ghost use Rattle.app_router.specs.Index.{IsIndex};
@@ -10,7 +11,7 @@ ghost use Rattle.ip_wire.specs.declared.IpCidr.{IpCidr};
 
 use crate::lengths::in_bounds;
 use app_router::index::{Node, arrange, find};
-use c_structs::{Addr, Block, Failure, usable};
+use c_structs::{Addr, Block, Failure, MAX_LEN};
 
 /// `struct lk_route`: a route.
 #[repr(C)]
@@ -27,10 +28,9 @@ pub struct Route {
 /// Writes the index of a list of routes, one node for each, and returns their number. Fails with `NoVersion`,
 /// `BadPrefix` and `NoRoom`; then the nodes are unchanged.
 pub fn index_routes(routes: &[Route], nodes: &mut [Node]) -> isize
-    ensures { Indexes (in_bounds routes.now) nodes.old nodes.new result }
+    ensures { Indexes routes.now nodes.old nodes.new result }
 {
-    let routes = in_bounds(routes);
-    if let Some(failure) = index_failure(routes, usable(nodes.len())) {
+    if let Some(failure) = index_failure(routes, nodes.len()) {
         return failure.code();
     }
     let count = routes.len();
@@ -38,13 +38,13 @@ pub fn index_routes(routes: &[Route], nodes: &mut [Node]) -> isize
     count as isize
 }
 
-// Why these routes get no index of so many nodes.
+// Why these routes get no index of so many nodes. The routes of a list that is too long are not looked at.
 fn index_failure(routes: &[Route], room: usize) -> Option<Failure>
     ensures { result ≡ index_failure routes.now room }
 {
-    if lacks_version(routes) {
+    if lacks_version(in_bounds(routes)) {
         Some(Failure::NoVersion)
-    } else if lacks_block(routes) {
+    } else if lacks_block(in_bounds(routes)) {
         Some(Failure::BadPrefix)
     } else if has_room(routes.len(), room) {
         None
@@ -66,9 +66,9 @@ fn lacks_block(routes: &[Route]) -> bool
 }
 
 fn has_room(count: usize, room: usize) -> bool
-    ensures { result ≡ nat_le count room && nat_lt count (2 ^ 32) }
+    ensures { result ≡ nat_le count room && nat_le room max_len && nat_lt count (2 ^ 32) }
 {
-    count <= room && count <= u32::MAX as usize
+    count <= room && room <= MAX_LEN && count <= u32::MAX as usize
 }
 
 // Makes the index of routes that have blocks.

@@ -18,6 +18,7 @@ pub mod InFrame
 mod Ipv4Words
 mod Ipv6Words
 mod Numbered
+mod PlacedSums
 mod RejectedApart
 mod Steps
 mod StoredFrame

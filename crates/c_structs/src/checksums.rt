@@ -1,7 +1,9 @@
 //! Checksum fields after a part of what they cover changed (RFC 1624).
 
-ghost use Rattle.std.specs.Prelude.{◌≡◌};
-ghost use Rattle.c_structs.specs.Checksums.{address_sum, updated_udp};
+ghost use Rattle.std.specs.Prelude.{◌≡◌, ◌-◌};
+ghost use Rattle.c_structs.specs.Checksums.{StaysComputed, address_sum, sum_at, updated_udp};
+ghost use Rattle.ip_wire.specs.Udp.{checksum_for};
+ghost use Rattle.ip_wire.specs.WordSum.{updated};
 
 use crate::types::Addr;
 use ip_wire::checksum;
@@ -27,5 +29,33 @@ pub fn update_udp(field: u16, before: u16, after: u16) -> u16
     match checksum::update(field, before, after) {
         0 => 0xffff,
         checksum => checksum,
+    }
+}
+
+/// The checksum field after the bytes at this offset of what it covers were replaced.
+pub fn update_bytes(field: u16, offset: usize, before: &[u8], after: &[u8]) -> u16
+    ensures value { result ≡ updated field (sum_at offset before.now) (sum_at offset after.now) }
+    ensures computed { StaysComputed (λ sum. 65535 - sum) offset before.now after.now field result }
+{
+    checksum::update(field, sum_at(offset, before), sum_at(offset, after))
+}
+
+/// The checksum field of a UDP packet after the bytes at this offset of what it covers were replaced.
+pub fn update_udp_bytes(field: u16, offset: usize, before: &[u8], after: &[u8]) -> u16
+    ensures value { result ≡ updated_udp field (sum_at offset before.now) (sum_at offset after.now) }
+    ensures computed { StaysComputed checksum_for offset before.now after.now field result }
+{
+    update_udp(field, sum_at(offset, before), sum_at(offset, after))
+}
+
+// The sum of bytes from this offset of a message on.
+fn sum_at(offset: usize, bytes: &[u8]) -> u16
+    ensures { result ≡ sum_at offset bytes.now }
+{
+    let sum = checksum::data(bytes);
+    if offset % 2 == 0 {
+        sum
+    } else {
+        sum.swap_bytes()
     }
 }

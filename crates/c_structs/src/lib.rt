@@ -27,7 +27,7 @@ mod udp;
 mod verdicts;
 
 pub use addresses::{print_address, print_block};
-pub use checksums::{address_sum, update_udp};
+pub use checksums::{address_sum, update_bytes, update_udp, update_udp_bytes};
 pub use codes::{NetworkKind, TransportKind, Verdict};
 pub use emit::{emit_tcp, emit_udp};
 pub use failures::{

@@ -1,11 +1,10 @@
 //! Needs the law of hosts.
 
-ghost use Rattle.std.specs.Prelude.{◌≡◌};
 ghost use Rattle.app_host.specs.Host.{Answers, IsFinal, IsReset, IsSegment, ServesPortOf};
 
 use app_host::{Host, laws};
 
-/// The reply to a reply is a RST or an ICMP error if both hosts have one echo port. No host replies to it.
+/// The reply to a reply is a RST or an ICMP error. No host replies to it.
 fn answers_end(
     first: &Host<'_>,
     second: &Host<'_>,
@@ -15,7 +14,6 @@ fn answers_end(
     last: &[u8],
     other: &[u8],
 )
-    requires ports { first.now.echo_port ≡ second.now.echo_port }
     requires replies { Answers first.now request.now reply.now }
     requires replies_again { Answers second.now reply.now last.now }
     ensures finishes { IsFinal last.now }
@@ -33,7 +31,6 @@ fn answers_end_with_a_reset(
     reply: &[u8],
     last: &[u8],
 )
-    requires ports { first.now.echo_port ≡ second.now.echo_port }
     requires serves { ServesPortOf second.now reply.now }
     requires replies { Answers first.now request.now reply.now }
     requires replies_again { Answers second.now reply.now last.now }
@@ -42,7 +39,7 @@ fn answers_end_with_a_reset(
     laws::answers_end(first, second, third);
 }
 
-/// It is a RST if the first frame is a TCP segment, whatever the echo ports are.
+/// It is a RST if the first frame is a TCP segment.
 fn answers_end_of_segments(
     first: &Host<'_>,
     second: &Host<'_>,

@@ -1,6 +1,6 @@
 //! Needs the contract of the call for a host.
 
-ghost use Rattle.std.specs.Prelude.{◌≡◌, ◌≤◌, ◌⊎◌, IsSome, drop, length, pos, ℕ};
+ghost use Rattle.std.specs.Prelude.{◌≡◌, ◌≤◌, ◌<◌, ◌⊎◌, IsSome, drop, length, negsuc, pos, ℕ};
 ghost use Rattle.app_host.specs.Host.{IsUnread};
 ghost use Rattle.c_icmp.specs.HostFields.{host_of};
 ghost use Rattle.ip_wire.specs.Frame.{Carried, IsReadWhole};
@@ -21,12 +21,21 @@ fn answer(host: &HostFields<'_>, frame: &[u8], out: &mut [u8], other: &mut [u8])
 }
 
 // A frame that does not parse gets no answer.
-#[tactic(auto, using(crate::proofs::Once::short_bytes))]
 fn no_answer(host: &HostFields<'_>, frame: &[u8], out: &mut [u8]) -> isize
     requires host { IsSome (host_of host.now) }
     requires unread { IsUnread frame.now }
     requires usable { length frame.now ≤ 1099511627775 }
     ensures { result ≡ pos 0 }
+{
+    lk_answer(host, frame, out)
+}
+
+// A frame that is too long gets a failure, and nothing is written.
+fn too_long(host: &HostFields<'_>, frame: &[u8], out: &mut [u8]) -> isize
+    requires host { IsSome (host_of host.now) }
+    requires unusable { 1099511627775 < length frame.now }
+    ensures failed { result ≡ negsuc 10995116277759 }
+    ensures kept { out.new ≡ out.old }
 {
     lk_answer(host, frame, out)
 }

@@ -1,6 +1,7 @@
 //! Needs the contracts of calls with ICMP messages.
 
-ghost use Rattle.std.specs.Prelude.{◌≡◌, ◌⊎◌, drop, pos, ℕ};
+ghost use Rattle.std.specs.Prelude.{◌≡◌, ◌<◌, ◌⊎◌, IsSome, drop, length, negsuc, pos, ℕ};
+ghost use Rattle.c_icmp.specs.Errors.{own_interface};
 ghost use Rattle.ip_wire.specs.Frame.{Carried, IsReadWhole};
 ghost use Rattle.ip_wire.specs.Types.{EthernetRepr};
 
@@ -95,4 +96,14 @@ fn emit_icmp_error(
         lk_emit_icmp_error(own, problem, mtu, frame, out),
         lk_emit_icmp_error(own, problem, mtu, frame, other),
     )
+}
+
+// A frame that is too long gets a failure, and nothing is written.
+fn too_long(own: &InterfaceFields, problem: i32, mtu: u32, frame: &[u8], out: &mut [u8]) -> isize
+    requires own { IsSome (own_interface own.now) }
+    requires unusable { 1099511627775 < length frame.now }
+    ensures failed { result ≡ negsuc 10995116277759 }
+    ensures kept { out.new ≡ out.old }
+{
+    lk_emit_icmp_error(own, problem, mtu, frame, out)
 }

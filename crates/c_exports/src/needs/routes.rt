@@ -1,6 +1,6 @@
 //! Needs the contracts of the calls with routes.
 
-ghost use Rattle.std.specs.Prelude.{◌≡◌, ◌≤◌, drop, length, negsuc, ℕ};
+ghost use Rattle.std.specs.Prelude.{◌≡◌, ◌≤◌, ◌<◌, [], drop, length, negsuc, ℕ};
 ghost use Rattle.c_routing.specs.Lengths.{in_bounds};
 ghost use Rattle.c_routing.specs.Routes.{IsIndexOf};
 
@@ -15,12 +15,33 @@ fn index_routes(routes: &[Route], nodes: &mut [Node], other: &mut [Node]) -> (is
     requires { nodes.old ≡ other.old }
     ensures returned { result.0 ≡ result.1 }
     ensures failed { (n : ℕ) → result.0 ≡ negsuc n → nodes.new ≡ other.new }
-    ensures following { drop (length (in_bounds routes.now)) nodes.new ≡ drop (length (in_bounds routes.now)) other.new }
+    ensures following { drop (length routes.now) nodes.new ≡ drop (length routes.now) other.new }
 {
     (
         lk_index_routes(routes, nodes),
         lk_index_routes(routes, other),
     )
+}
+
+// A list that is too long has no room, and nothing is written.
+#[tactic(auto, using(crate::proofs::RoutesOnce::too_many_routes))]
+fn too_many_routes(routes: &[Route], nodes: &mut [Node]) -> isize
+    requires { 1099511627775 < length routes.now }
+    ensures failed { result ≡ negsuc 12094627905535 }
+    ensures kept { nodes.new ≡ nodes.old }
+{
+    lk_index_routes(routes, nodes)
+}
+
+// Nor has an empty list in too many nodes.
+#[tactic(auto, using(crate::proofs::RoutesOnce::too_many_nodes))]
+fn too_many_nodes(routes: &[Route], nodes: &mut [Node]) -> isize
+    requires none { routes.now ≡ [] }
+    requires unusable { 1099511627775 < length nodes.old }
+    ensures failed { result ≡ negsuc 12094627905535 }
+    ensures kept { nodes.new ≡ nodes.old }
+{
+    lk_index_routes(routes, nodes)
 }
 
 // By the indexes of two calls the same route is chosen.

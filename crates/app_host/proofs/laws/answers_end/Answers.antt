@@ -7,5 +7,5 @@ returns c = record {
   resets = answer_resets c.args.first.now c.args.second.now;
   segments = segment_answered c.args.first.now c.args.second.now;
   final_ends = final_unanswered c.args.third.now;
-  ends = λ f g h k port a b. final_unanswered c.args.third.now h k (answer_finishes c.args.first.now c.args.second.now f g h port a b);
+  ends = λ f g h k a b. final_unanswered c.args.third.now h k (answer_finishes c.args.first.now c.args.second.now f g h a b);
 }

@@ -1,0 +1,15 @@
+use Rattle.std.proofs.Common.{◌≡◌, ◌∙◌, ◌+◌, ◌*◌, ◌/◌, ◌%◌, ◌==◌, ◌∷◌, ap, arith, false, if◌then◌else◌, rules, sum, sym}
+use Rattle.ip_wire.specs.WordSum.{sum_of_bytes, words}
+use Rattle.wire_checksum.proofs.Residues.{residue-bound}
+use Rattle.c_structs.proofs.PlacedSums.{swapped}
+use Rattle.c_structs.proofs.checksums.sum_at.Goals as goal
+
+pub returns-else-offset-eq0 : goal.returns-else-offset-eq0
+returns-else-offset-eq0 c =
+    let bytes = c.args.bytes.now in
+    let r = c.data-sum.result in
+    let bound = residue-bound (sum (words bytes)) in
+    let odd : (c.args.offset % 2 == 0) ≡ false = search rules in
+    c.swap_bytes.ensures
+    ∙ let turned : r % 256 * 256 + r / 256 % 256 ≡ 256 * (r % 256) + r / 256 = omega (arith, c.data-sum.ensures, bound) in turned
+    ∙ sym (swapped bytes r c.data-sum.ensures) ∙ ap (λ b. sum_of_bytes (if b then bytes else 0 ∷ bytes)) (sym odd)

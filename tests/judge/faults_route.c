@@ -1,0 +1,115 @@
+/* Faults of the calls of a router and NAT. */
+#include <string.h>
+#include "faults.h"
+#include "ip_wire.h"
+
+/* ---- the calls of the library itself ---- */
+
+int __real_lk_forward(uint8_t *frame, size_t len, const uint8_t *src, const uint8_t *dst);
+int __real_lk_translate(uint8_t *frame, size_t len, int side, const struct lk_endpoint *end);
+int __real_lk_clamp_mss(uint8_t *frame, size_t len, uint16_t max_seg_size);
+ptrdiff_t __real_lk_index_routes(const struct lk_route *routes, size_t count, struct lk_route_node *nodes,
+                                 size_t node_count);
+int __real_lk_check_source(const struct lk_route *routes, size_t route_count, const struct lk_route_node *nodes,
+                           size_t count, const struct lk_addr *src, uint16_t interface);
+int __real_lk_translate_out(const struct lk_nat *nat, struct lk_mapping *mappings, size_t count, uint64_t now,
+                            uint8_t *frame, size_t len);
+int __real_lk_translate_in(const struct lk_nat *nat, struct lk_mapping *mappings, size_t count, uint64_t now,
+                           uint8_t *frame, size_t len);
+
+/* ---- a router and NAT ---- */
+
+int __wrap_lk_forward(uint8_t *frame, size_t len, const uint8_t *src, const uint8_t *dst)
+{
+    uint8_t sum[2] = {0, 0};
+    int result, is_ipv4 = len >= 34 && len <= LK_MAX_LEN && frame[12] == 8 && frame[13] == 0;
+    if (is_ipv4)
+        memcpy(sum, frame + 24, 2);
+    if (fault == HOSTS_EXCHANGED)
+        result = __real_lk_forward(frame, len, dst, src);
+    else
+        result = __real_lk_forward(frame, len, src, dst);
+    if (fault == HEADER_SUM_LEFT && result == LK_NOT_REJECTED && is_ipv4)
+        memcpy(frame + 24, sum, 2);
+    return result;
+}
+
+int __wrap_lk_translate(uint8_t *frame, size_t len, int side, const struct lk_endpoint *end)
+{
+    int result = __real_lk_translate(frame, len, fault == SIDE_OF_ONE_BYTE ? side & 0xff : side, end);
+    if (fault == ECHO_OF_0_REJECTED && result == LK_NOT_REJECTED && end->port == 0 && frame[23] == 1)
+        return LK_ZERO_PORT;
+    return result;
+}
+
+int __wrap_lk_clamp_mss(uint8_t *frame, size_t len, uint16_t max_seg_size)
+{
+    struct lk_frame f;
+    lk_read_frame(frame, len, &f);
+    return fault == SYN_ACK_LEFT && (f.tcp.flags & LK_ACK) ? 0 : __real_lk_clamp_mss(frame, len, max_seg_size);
+}
+
+/* Indexes the routes from the last to the first. */
+ptrdiff_t __wrap_lk_index_routes(const struct lk_route *routes, size_t count, struct lk_route_node *nodes,
+                                 size_t node_count)
+{
+    static struct lk_route reversed[64];
+    ptrdiff_t result;
+    if (fault == LONG_LIST_INDEXED && count > LK_MAX_LEN)
+        count = 0;
+    if (fault != LAST_OF_EQUAL_ROUTES || count > 64)
+        return __real_lk_index_routes(routes, count, nodes, node_count);
+    for (size_t i = 0; i < count; i++)
+        reversed[count - 1 - i] = routes[i];
+    result = __real_lk_index_routes(reversed, count, nodes, node_count);
+    for (ptrdiff_t i = 0; i < result; i++)
+        nodes[i].route = (uint32_t)count - 1 - nodes[i].route;
+    return result;
+}
+
+int __wrap_lk_check_source(const struct lk_route *routes, size_t route_count, const struct lk_route_node *nodes,
+                           size_t count, const struct lk_addr *src, uint16_t interface)
+{
+    int result = __real_lk_check_source(routes, route_count, nodes, count, src, interface);
+    return fault == RESERVED_SOURCE_ACCEPTED && src->version == 4 && src->octets[0] >= 240 ? LK_NOT_REJECTED : result;
+}
+
+int __wrap_lk_translate_out(const struct lk_nat *nat, struct lk_mapping *mappings, size_t count, uint64_t now,
+                            uint8_t *frame, size_t len)
+{
+    struct lk_nat other = *nat;
+    if (fault == ICMP_LIVES_AS_UDP)
+        other.icmp_timeout = nat->udp_timeout;
+    return __real_lk_translate_out(&other, mappings, count, now, frame, len);
+}
+
+int __wrap_lk_translate_in(const struct lk_nat *nat, struct lk_mapping *mappings, size_t count, uint64_t now,
+                           uint8_t *frame, size_t len)
+{
+    uint64_t time = fault == LIVE_FOR_TOO_LONG && now > 0 ? now - 1 : now;
+    static uint8_t before[0x20000];
+    size_t ports = count / LK_MAPPINGS(1), n;
+    struct lk_mapping *mapping;
+    struct lk_frame f;
+    int result;
+    lk_read_frame(frame, len, &f);
+    if (f.transport == LK_ICMP)
+        f.dst.port = (uint16_t)(f.icmp.word >> 16);
+    n = (size_t)f.dst.port - nat->first_port;
+    mapping = mappings + (f.transport == LK_TCP ? ports : 0) + n;
+    if (fault == ECHO_FOR_A_UDP_MAPPING && f.transport == LK_ICMP && n < ports && mapping->expires <= now)
+        return LK_NO_MAPPING;
+    if (fault == FILTERED_BY_REMOTE && n < ports && memcmp(mapping->remote, f.src.addr.octets, 4) != 0 &&
+        mapping->expires > now)
+        return LK_NO_MAPPING;
+    memcpy(before, frame, len < sizeof before ? len : 0);
+    result = __real_lk_translate_in(nat, mappings, count, time, frame, len);
+    if (fault == QUOTED_PACKET_LEFT && result == LK_NOT_REJECTED && f.transport == LK_ICMP && f.icmp.type != 0)
+        memcpy(frame + f.payload_offset, before + f.payload_offset, f.payload_len);
+    if (fault == QUOTED_CHECKSUM_VERIFIED && result == LK_NOT_REJECTED && f.transport == LK_ICMP && f.icmp.type != 0 &&
+        lk_checksum(before + f.payload_offset, 4u * (before[f.payload_offset] & 15)) != 0xffff)
+        return LK_BAD_TRANSPORT;
+    if (fault == KEPT_ALIVE_BY_INBOUND && result == LK_NOT_REJECTED && f.transport == LK_UDP)
+        mapping->expires = now + nat->udp_timeout;
+    return result;
+}
