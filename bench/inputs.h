@@ -23,7 +23,7 @@ enum {
     X(parse_endpoint) X(parse_ethernet) X(print_ethernet) X(read_packet) X(read_captured)              \
     X(next_tcp_option) X(wrap_udp_frame) X(wrap_tcp_frame) X(update_checksum) X(update_checksum_addr)  \
     X(update_udp_checksum) X(update_udp_checksum_addr) X(update_checksum_bytes)                        \
-    X(update_udp_checksum_bytes) X(emit_icmp_error) X(clamp_mss)
+    X(update_udp_checksum_bytes) X(emit_icmp_error) X(clamp_mss) X(read_link) X(read_linktype)
 #define CALL(name) __typeof__(lk_##name) *name;
 
 struct library {
@@ -77,6 +77,7 @@ static volatile uint64_t sink;
 /* What the calls store. */
 static struct {
     struct lk_frame frame;
+    struct lk_link link;
     struct lk_tcp_options options;
     struct lk_ndisc ndisc;
     uint8_t bytes[ADDRESSES * MOST_TEXT];

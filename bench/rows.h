@@ -61,6 +61,8 @@ REPEAT(call_contains_ipv6, contains, &block_of_ipv6, &ipv6_headers.dst.addr)
 /* Calls that only ours has. */
 REPEAT(call_read_packet, read_packet, bytes + 14, frame_len - 14, &out.frame)
 REPEAT(call_read_captured, read_captured, bytes, 64, frame_len, &out.frame)
+REPEAT(call_read_link, read_link, 1, bytes, frame_len, &out.link)
+REPEAT(call_read_linktype, read_linktype, 1, bytes, frame_len, frame_len, &out.frame)
 REPEAT(call_wrap_udp_frame, wrap_udp_frame, &ipv4_headers, row->size, OUT)
 REPEAT(call_wrap_tcp_frame, wrap_tcp_frame, &tcp_headers, &row->header->options, row->size, OUT)
 REPEAT(call_update, update_checksum, 0x1234, 0x5678, 0x9abc)
@@ -271,6 +273,8 @@ static const struct call own_rows[] = {
     {"read packet UDP/IPv4", prepare_udp_ipv4, call_read_packet},
     {"read captured UDP/IPv4", prepare_udp_ipv4, call_read_captured},
     {"read captured ICMP/IPv4", prepare_echo_ipv4, call_read_captured},
+    {"read link Ethernet", prepare_udp_ipv4, call_read_link},
+    {"read link type UDP/IPv4", prepare_udp_ipv4, call_read_linktype},
     {"wrap frame UDP/IPv4", prepare_udp_ipv4, call_wrap_udp_frame},
 };
 static const struct call own_tcp_rows[] = {

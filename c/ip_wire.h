@@ -287,7 +287,8 @@ enum lk_reason {
     LK_PORT_ZERO,    /* UDP: destination port 0; TCP: a port 0 */
     LK_BAD_FLAGS,    /* TCP: more than one of SYN, FIN and RST */
     LK_BAD_OPTIONS,  /* TCP: a malformed option before the end mark */
-    LK_HEADER_CUT    /* the header was not captured as a whole */
+    LK_HEADER_CUT,   /* the header was not captured as a whole */
+    LK_UNKNOWN_LINK  /* lk_read_link does not know the link type */
 };
 
 /* Returns the name of a reason, as "LK_PORT_ZERO", or "no reason". The text is constant. */
@@ -374,6 +375,74 @@ int lk_read_packet(const uint8_t *ptr, size_t len, struct lk_frame *frame);
 int lk_read_captured(const uint8_t *ptr, size_t captured, size_t len, struct lk_frame *frame);
 int lk_read_captured_packet(const uint8_t *ptr, size_t captured, size_t len, struct lk_frame *frame);
 
+/* A link-layer header. */
+struct lk_link {
+    size_t offset;     /* where the packet begins: the length of the header and its VLAN tags, in bytes */
+    uint16_t type;     /* the EtherType of the packet; 0: the header has none */
+    uint16_t tags[2];  /* the control information of each tag, the outer one first: its low 12 bits are the VLAN */
+    uint8_t tag_count; /* at most 2; the others of `tags` are 0 */
+};
+
+/* Parses the link-layer header of a packet of which `captured` bytes are at `ptr`, stores it and returns LK_READ.
+ * `link_type` is the number that a capture file has, or that pcap_datalink() returns
+ * (www.tcpdump.org/linktypes.html):
+ *
+ *   link type    name        header
+ *   0            NULL        an address family, in either byte order
+ *   1            ETHERNET    an Ethernet header
+ *   12, 14, 101  RAW         none: the IP version is in the first byte of the packet
+ *   108          LOOP        an address family, in network byte order
+ *   113          LINUX_SLL   the header of Linux cooked captures, 16 bytes
+ *   228, 229     IPV4, IPV6  none
+ *   276          LINUX_SLL2  the second version of LINUX_SLL, 20 bytes
+ *
+ * - `type` is 0x0800 for the address family 2, 0x86dd for 10, 24, 28 and 30, and 0 for others.
+ * - Of a cooked header it is the protocol field. It is 0 if the packet comes from a device for frame relay, radiotap
+ *   or netlink (ARPHRD 770, 803 and 824), whose protocol field has another meaning.
+ * - Up to two VLAN tags are skipped, of the types 0x8100, 0x88a8 and 0x9100 (IEEE 802.1Q). Before a third tag `type` is
+ *   one of these, and the packet begins at the control information of that tag.
+ *
+ * Returns LK_UNKNOWN_LINK, LK_TOO_SHORT if the header or a tag is not there as a whole, or LK_BAD_VERSION for a raw
+ * packet of neither version. Then nothing is stored. */
+int lk_read_link(uint32_t link_type, const uint8_t *ptr, size_t captured, struct lk_link *link);
+
+/* The same as lk_read_captured for a packet of any link type that lk_read_link knows. Offsets count from `ptr`.
+ * `ethernet.type` is the EtherType after any VLAN tags. The Ethernet addresses are 0 for other link types than 1.
+ *
+ * A header is rejected together with its tags, and the payload begins at `ptr` then. The reasons are those of
+ * lk_read_link, and LK_HEADER_CUT instead of LK_TOO_SHORT if `len` has room for the header.
+ *
+ *     uint32_t link_type = (uint32_t)pcap_datalink(capture);
+ *     while (pcap_next_ex(capture, &header, &bytes) == 1)
+ *         if (lk_read_linktype(link_type, bytes, header->caplen, header->len, &frame) == LK_READ)
+ *             ... bytes + frame.payload_offset ... */
+int lk_read_linktype(uint32_t link_type, const uint8_t *ptr, size_t captured, size_t len, struct lk_frame *frame);
+
+/* Where a header of an IPv6 packet is. */
+struct lk_ipv6_header {
+    uint32_t offset;  /* of its first byte in the packet */
+    uint16_t len;     /* of the whole header, in bytes; 0: before the first header */
+    uint8_t protocol; /* its own number; 41: the IPv6 header */
+    uint8_t next;     /* the number of what follows it; 59: nothing */
+};
+
+/* Steps to the next header of an IPv6 packet, and returns 1: first to the IPv6 header, then to its extension headers
+ * (RFC 8200, section 4): hop-by-hop options (0), routing (43), fragment (44), destination options (60). `ptr` is the
+ * first byte of the packet. Begin with a struct of zeros. Returns 0 if no extension header follows, or -1 if the IPv6
+ * header is not there as a whole or has another version, or if the next header does not end within the packet and its
+ * `len` captured bytes; then `header` is unchanged.
+ *
+ * After 0 the packet of protocol `next` begins at `offset + len`. After the header of a fragment that is not the first
+ * `next` is 59, because there the payload begins in the middle of the packet.
+ *
+ *     struct lk_ipv6_header header = {0, 0, 0, 0};
+ *     int found;
+ *     while ((found = lk_next_ipv6_header(ptr, len, &header)) == 1)
+ *         ... ptr[header.offset] ...
+ *     if (found == 0 && header.next == 17)
+ *         ... ptr[header.offset + header.len] ... */
+int lk_next_ipv6_header(const uint8_t *ptr, size_t len, struct lk_ipv6_header *header);
+
 /* Stores the options of a TCP header and returns 1. `ptr` is its first byte and `len` its length: in a frame that
  * was read, `frame + f.transport_offset` and `f.tcp.header_len`. Returns 0 and stores nothing if an option
  * before the end mark is malformed, or the header is shorter than 20 bytes or than it says. Of each
@@ -403,9 +472,9 @@ int lk_next_tcp_option(const uint8_t *ptr, size_t len, struct lk_tcp_option *opt
 /* ---- writing ---- */
 
 /* Turns a frame that was read into its reply, in place: Ethernet addresses, endpoints and ARP's hardware addresses
- * are exchanged. The IP header becomes that of a new packet: hop limit 64, ECN 0, identification 0 with DF (a bit
- * that IPv6 does not have), no flow label, no fragment. All else stays, DSCP and the fields of ARP, TCP and ICMP
- * among it. */
+ * are exchanged. The IP header becomes that of a new packet: hop limit 64, ECN 0, identification 0 with DF, no flow
+ * label, no fragment. These values are stored for ARP and IPv6 too, where `dont_fragment` is not used. All else stays,
+ * DSCP and the fields of ARP, TCP and ICMP among it. */
 void lk_reply(struct lk_frame *frame);
 
 /* Writes a whole frame with a UDP packet: Ethernet header, IPv4 or IPv6 header, UDP header and the `len`
@@ -643,7 +712,7 @@ struct lk_host {
  *   sender hardware address in ARP must be unicast, and the reply goes to it.
  * - UDP, TCP and ARP from these addresses get no answer: 0.0.0.0/8, 127.0.0.0/8, 224.0.0.0/4, 240.0.0.0/4, `::`,
  *   `::1`, ::ffff:0:0/96, ff00::/8, `ipv4` and `ipv6` (RFC 1122, section 3.2.1.3; RFC 4291, section 2). But an ARP
- *   probe, which is from 0.0.0.0, gets one (RFC 5227, section 2.1.1).
+ *   probe, which is from 0.0.0.0, gets one (RFC 5227, section 2.1.1), also if `ipv4` is 0.0.0.0.
  * - A UDP packet for `echo_port` gets none if its source port is below 1024, or not above `echo_port`. So neither two
  *   hosts nor a host and a service (RFC 862 to 868) reply to each other forever. Choose an `echo_port` below the ports
  *   of its clients.

@@ -144,6 +144,12 @@ WRITER(print_ethernet, (const uint8_t *octets, char *out, size_t cap), (octets, 
 #define CAPTURED given("captured octets", ptr, used_len(captured)), NUMBER(captured), NUMBER(len)
 #define TEXT given("text", text, used_len(len)), NUMBER(len)
 
+static void same_link(const struct lk_link *a, const struct lk_link *b)
+{
+    same_number("offset", (ptrdiff_t)a->offset, (ptrdiff_t)b->offset);
+    same_bytes("type and tags", &a->type, &b->type, 7);
+}
+
 static void same_ndisc(const struct lk_ndisc *a, const struct lk_ndisc *b)
 {
     same_bytes("target", a->target.octets, b->target.octets, 16);
@@ -162,11 +168,21 @@ READER(read_captured, same_frame, struct lk_frame, frame,
 READER(read_captured_packet, same_frame, struct lk_frame, frame,
        (const uint8_t *ptr, size_t captured, size_t len, struct lk_frame *frame), (ptr, captured, len, &stored),
        (CAPTURED, room_of_it))
+READER(read_linktype, same_frame, struct lk_frame, frame,
+       (uint32_t link_type, const uint8_t *ptr, size_t captured, size_t len, struct lk_frame *frame),
+       (link_type, ptr, captured, len, &stored), (NUMBER(link_type), CAPTURED, room_of_it))
+READER(read_link, same_link, struct lk_link, link,
+       (uint32_t link_type, const uint8_t *ptr, size_t captured, struct lk_link *link),
+       (link_type, ptr, captured, &stored),
+       (NUMBER(link_type), given("captured octets", ptr, used_len(captured)), NUMBER(captured), room_of_it))
 READER(read_tcp_options, same_options, struct lk_tcp_options, options,
        (const uint8_t *ptr, size_t len, struct lk_tcp_options *options), (ptr, len, &stored), (INPUT, room_of_it))
 READER(next_tcp_option, SAME_VALUE, struct lk_tcp_option, option,
        (const uint8_t *ptr, size_t len, struct lk_tcp_option *option), (ptr, len, &stored),
        (INPUT, (given("option before", option, sizeof *option), room_of_it)))
+READER(next_ipv6_header, SAME_VALUE, struct lk_ipv6_header, header,
+       (const uint8_t *ptr, size_t len, struct lk_ipv6_header *header), (ptr, len, &stored),
+       (INPUT, (given("header before", header, sizeof *header), room_of_it)))
 READER(read_ndisc, same_ndisc, struct lk_ndisc, ndisc, (const uint8_t *ptr, size_t len, struct lk_ndisc *ndisc),
        (ptr, len, &stored), (INPUT, room_of_it))
 READER(parse_addr, SAME_VALUE, struct lk_addr, addr, (const char *text, size_t len, struct lk_addr *addr),

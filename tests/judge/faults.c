@@ -36,6 +36,8 @@ __attribute__((constructor)) static void choose(void)
         "a list of routes that is too long indexed as an empty one",
         "bytes at an odd offset summed as at an even one",
         "an echo to a port below 1024",
+        "the inner of two VLAN tags lost", "an address family in one byte order only",
+        "a header after that of a later fragment",
     };
     const char *number = getenv("FAULT");
     fault = number ? (enum fault)atoi(number) : NO_FAULT;
@@ -47,6 +49,10 @@ __attribute__((constructor)) static void choose(void)
 
 int __real_lk_read_frame(const uint8_t *ptr, size_t len, struct lk_frame *frame);
 int __real_lk_read_captured(const uint8_t *ptr, size_t captured, size_t len, struct lk_frame *frame);
+int __real_lk_read_link(uint32_t link_type, const uint8_t *ptr, size_t captured, struct lk_link *link);
+int __real_lk_read_linktype(uint32_t link_type, const uint8_t *ptr, size_t captured, size_t len,
+                            struct lk_frame *frame);
+int __real_lk_next_ipv6_header(const uint8_t *ptr, size_t len, struct lk_ipv6_header *header);
 int __real_lk_read_tcp_options(const uint8_t *ptr, size_t len, struct lk_tcp_options *options);
 ptrdiff_t __real_lk_emit_udp(const struct lk_endpoint *src, const struct lk_endpoint *dst, const uint8_t *ptr,
                              size_t len, int computed, uint8_t *out, size_t cap);
@@ -126,6 +132,30 @@ int __wrap_lk_read_captured(const uint8_t *ptr, size_t captured, size_t len, str
     if (fault == HEADER_CUT_FOR_TOO_SHORT || fault == CHECKSUM_CUT_MISSED)
         spoil_frame(frame, len);
     return frame->reason;
+}
+
+int __wrap_lk_read_link(uint32_t link_type, const uint8_t *ptr, size_t captured, struct lk_link *link)
+{
+    int reason = __real_lk_read_link(link_type, ptr, captured, link);
+    if (fault == INNER_TAG_LOST && reason == LK_READ)
+        link->tags[1] = 0;
+    return reason;
+}
+
+int __wrap_lk_read_linktype(uint32_t link_type, const uint8_t *ptr, size_t captured, size_t len, struct lk_frame *frame)
+{
+    int reason = __real_lk_read_linktype(link_type, ptr, captured, len, frame);
+    if (fault == FAMILY_IN_ONE_ORDER && link_type == 0 && reason == LK_READ && ptr[0] == 0)
+        frame->network = LK_NO_NETWORK;
+    return reason;
+}
+
+int __wrap_lk_next_ipv6_header(const uint8_t *ptr, size_t len, struct lk_ipv6_header *header)
+{
+    int result = __real_lk_next_ipv6_header(ptr, len, header);
+    if (fault == LATER_FRAGMENT_FOLLOWED && result == 1 && header->protocol == 44)
+        header->next = ptr[header->offset];
+    return result;
 }
 
 int __wrap_lk_read_tcp_options(const uint8_t *ptr, size_t len, struct lk_tcp_options *options)

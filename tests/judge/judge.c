@@ -20,12 +20,14 @@ static void run_case(uint64_t seed, uint64_t number)
     static void (*const cases[])(void) = {
         read_whole, rebuild_frame, answer_frame, emit_frame, wrap_frame, emit_layer, reply_frame, read_options,
         parse_text, print_text, sum_bytes, classify_addr, name_number, choose_route, answer_frame, forward_frame,
-        emit_icmp, read_ndisc, emit_error,
+        emit_icmp, read_ndisc, emit_error, step_ipv6_headers,
     };
     const size_t count = sizeof cases / sizeof *cases;
     begin_case(seed, number);
     if (number % 128 == 127)
         read_cut();
+    else if (number % 128 == 31)
+        read_links();
     else if (number % 128 == 63)
         translate_frames();
     else

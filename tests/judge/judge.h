@@ -66,8 +66,9 @@ BOTH(wrap_udp_frame); BOTH(wrap_tcp_frame); BOTH(emit_ethernet); BOTH(emit_arp);
 BOTH(emit_tcp); BOTH(emit_icmp); BOTH(emit_icmp_error); BOTH(rebuild); BOTH(answer); BOTH(print_addr);
 BOTH(print_block); BOTH(print_endpoint); BOTH(print_ethernet); BOTH(read_frame); BOTH(read_packet);
 BOTH(read_captured); BOTH(read_captured_packet); BOTH(read_tcp_options); BOTH(next_tcp_option);
-BOTH(read_ndisc); BOTH(parse_addr); BOTH(parse_block); BOTH(parse_endpoint); BOTH(parse_ethernet); BOTH(reply);
-BOTH(tcp_header_len); BOTH(contains); BOTH(is_multicast); BOTH(is_unicast); BOTH(checksum);
+BOTH(next_ipv6_header); BOTH(read_link); BOTH(read_linktype); BOTH(read_ndisc); BOTH(parse_addr); BOTH(parse_block);
+BOTH(parse_endpoint); BOTH(parse_ethernet); BOTH(reply); BOTH(tcp_header_len); BOTH(contains); BOTH(is_multicast);
+BOTH(is_unicast); BOTH(checksum);
 BOTH(update_checksum); BOTH(update_udp_checksum); BOTH(update_checksum_addr); BOTH(update_udp_checksum_addr);
 BOTH(update_checksum_bytes); BOTH(update_udp_checksum_bytes);
 BOTH(add_seq); BOTH(subtract_seq); BOTH(compare_seq); BOTH(failure_name); BOTH(reason_name);
@@ -109,12 +110,14 @@ void make_valid(void);
 /* The same, and then changes fields before the checksums, and bits and the length after them. */
 void make_frame(void);
 
-/* ---- cases_read.c, cases_write.c, cases_text.c, cases_sums.c, cases_route.c,
+/* ---- cases_read.c, cases_link.c, cases_write.c, cases_text.c, cases_sums.c, cases_route.c,
  * cases_nat.c, cases_icmp.c ---- */
 
 void read_whole(void);
 void read_cut(void);
 void read_options(void);
+void read_links(void);
+void step_ipv6_headers(void);
 void rebuild_frame(void);
 void answer_frame(void);
 void emit_frame(void);

@@ -81,6 +81,16 @@ int model_read_frame(const uint8_t *ptr, size_t len, struct lk_frame *frame);
 int model_read_packet(const uint8_t *ptr, size_t len, struct lk_frame *frame);
 int model_read_captured(const uint8_t *ptr, size_t captured, size_t len, struct lk_frame *frame);
 int model_read_captured_packet(const uint8_t *ptr, size_t captured, size_t len, struct lk_frame *frame);
+int model_read_linktype(uint32_t link_type, const uint8_t *ptr, size_t captured, size_t len, struct lk_frame *frame);
+
+/* ---- model_link.c ---- */
+
+/* Finds a link-layer header in the `known` first bytes, and returns its reason. `needed` is how many bytes it needs at
+ * least, but of an unknown link type. */
+int find_link(uint32_t link_type, const uint8_t *ptr, size_t known, struct lk_link *link, size_t *needed);
+
+int model_next_ipv6_header(const uint8_t *ptr, size_t len, struct lk_ipv6_header *header);
+int model_read_link(uint32_t link_type, const uint8_t *ptr, size_t captured, struct lk_link *link);
 
 /* ---- model_emit.c ---- */
 

@@ -58,9 +58,9 @@ const char *model_reason_name(int reason)
 {
     static const char *const names[] = {
         "LK_READ", "LK_TOO_SHORT", "LK_BAD_VERSION", "LK_BAD_LENGTH", "LK_OTHER_ARP", "LK_PORT_ZERO",
-        "LK_BAD_FLAGS", "LK_BAD_OPTIONS", "LK_HEADER_CUT",
+        "LK_BAD_FLAGS", "LK_BAD_OPTIONS", "LK_HEADER_CUT", "LK_UNKNOWN_LINK",
     };
-    return reason >= LK_READ && reason <= LK_HEADER_CUT ? names[reason] : "no reason"; /* Open: LK_READ. */
+    return reason >= LK_READ && reason <= LK_UNKNOWN_LINK ? names[reason] : "no reason"; /* Open: LK_READ. */
 }
 
 const char *model_rejection_name(int rejection)

@@ -322,6 +322,18 @@ static struct capture begin(const uint8_t *ptr, size_t captured, size_t len, str
     return capture;
 }
 
+/* Reads the packet at `at`, by the EtherType that is stored. */
+static void read_carried(const struct capture *capture, struct lk_frame *frame, size_t at)
+{
+    carries(frame, at, capture->len - at);
+    if (frame->ethernet.type == 0x0806)
+        read_arp(capture, frame, at);
+    else if (frame->ethernet.type == 0x0800)
+        read_ipv4(capture, frame, at);
+    else if (frame->ethernet.type == 0x86dd)
+        read_ipv6(capture, frame, at);
+}
+
 int model_read_captured(const uint8_t *ptr, size_t captured, size_t len, struct lk_frame *frame)
 {
     struct capture capture = begin(ptr, captured, len, frame);
@@ -332,13 +344,25 @@ int model_read_captured(const uint8_t *ptr, size_t captured, size_t len, struct 
     memcpy(frame->ethernet.dst, ptr, 6);
     memcpy(frame->ethernet.src, ptr + 6, 6);
     frame->ethernet.type = (uint16_t)get_word(ptr + 12);
-    carries(frame, 14, capture.len - 14);
-    if (frame->ethernet.type == 0x0806)
-        read_arp(&capture, frame, 14);
-    else if (frame->ethernet.type == 0x0800)
-        read_ipv4(&capture, frame, 14);
-    else if (frame->ethernet.type == 0x86dd)
-        read_ipv6(&capture, frame, 14);
+    read_carried(&capture, frame, 14);
+    return frame->reason;
+}
+
+int model_read_linktype(uint32_t link_type, const uint8_t *ptr, size_t captured, size_t len, struct lk_frame *frame)
+{
+    struct capture capture = begin(ptr, captured, len, frame);
+    struct lk_link link;
+    size_t needed = 0;
+    int reason = find_link(link_type, ptr, capture.captured, &link, &needed);
+    reject(frame, reason == LK_TOO_SHORT && needed <= capture.len ? LK_HEADER_CUT : reason);
+    if (reason != LK_READ)
+        return frame->reason;
+    if (link_type == 1) {
+        memcpy(frame->ethernet.dst, ptr, 6);
+        memcpy(frame->ethernet.src, ptr + 6, 6);
+    }
+    frame->ethernet.type = link.type;
+    read_carried(&capture, frame, link.offset);
     return frame->reason;
 }
 

@@ -79,6 +79,7 @@ void make_worked_calls(void)
 #include "worked_frames.inc"
 #undef FRAME
     worked_read();
+    worked_link();
     worked_options();
     worked_write();
     worked_values();

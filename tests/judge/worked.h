@@ -66,6 +66,7 @@ extern const struct octets nothing;
 /* ---- worked_NAME.c ---- */
 
 void worked_read(void);
+void worked_link(void);
 void worked_options(void);
 void worked_write(void);
 void worked_values(void);

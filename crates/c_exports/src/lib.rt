@@ -6,6 +6,7 @@ mod emit;
 mod frames;
 mod host;
 mod icmp;
+mod links;
 mod nat;
 mod needs;
 mod numbers;

@@ -5,6 +5,7 @@ mod emit;
 mod frames;
 mod host;
 mod icmp;
+mod links;
 mod nat;
 mod numbers;
 mod read_calls;

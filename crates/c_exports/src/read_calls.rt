@@ -4,12 +4,13 @@ ghost use Rattle.std.specs.Prelude.{List, ℕ, ◌++◌, ◌≡◌, ◌≤◌, �
 ghost use Rattle.c_icmp.specs.Messages.{IsCutFrame, with_icmp};
 ghost use Rattle.c_structs.specs.Captured.{captured_of, captured_packet_of};
 ghost use Rattle.c_structs.specs.FrameFields.{fields_of, packet_fields_of};
+ghost use Rattle.c_structs.specs.Ipv6Steps as ipv6_steps;
 ghost use Rattle.c_structs.specs.TcpOptions.{ReadsItems, tcp_options_of};
 ghost use Rattle.c_structs.specs.TcpSteps.{step};
 ghost use Rattle.c_structs.specs.Written.{IsRead, max_len, usable, within};
 
 use c_icmp::FullFrame;
-use c_structs::{TcpOptionPlace, TcpOptions, usable, within};
+use c_structs::{Ipv6HeaderPlace, TcpOptionPlace, TcpOptions, usable, within};
 
 const VERSION_MAJOR: u32 = 0;
 
@@ -128,4 +129,14 @@ pub extern "C" fn lk_next_tcp_option(header: &[u8], option: &mut TcpOptionPlace)
     ensures stored { option.new ≡ (step (within header.now) option.old).1 }
 {
     option.step(within(header))
+}
+
+/// Steps to the next header of an IPv6 packet, and returns 1. Returns 0 if no extension header follows, and -1 if there
+/// is no IPv6 header or the next one is cut, and stores nothing then.
+#[unsafe(no_mangle)]
+pub extern "C" fn lk_next_ipv6_header(packet: &[u8], header: &mut Ipv6HeaderPlace) -> i32
+    ensures returned { result ≡ (ipv6_steps.step (within packet.now) header.old).0 }
+    ensures stored { header.new ≡ (ipv6_steps.step (within packet.now) header.old).1 }
+{
+    header.step(within(packet))
 }

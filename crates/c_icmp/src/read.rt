@@ -3,6 +3,7 @@
 ghost use Rattle.std.specs.Prelude.{List, ℕ, ◌++◌, ◌≡◌, ◌≤◌, ◌<◌, ◌+◌, ◌-◌, ◌^◌, drop, length, take};
 ghost use Rattle.c_structs.specs.Captured.{captured_of, captured_packet_of};
 ghost use Rattle.c_structs.specs.FrameFields.{fields_of, packet_fields_of};
+ghost use Rattle.c_structs.specs.Links.{linked_of};
 ghost use Rattle.c_icmp.specs.Messages.{IsCutFrame, carries_icmp, header_of, icmp_verdict, no_icmp, payload_in, with_icmp, with_message};
 
 use crate::types::{FullFrame, Icmp};
@@ -84,6 +85,17 @@ impl FullFrame {
         ensures within { self.new.fields.payload_offset + self.new.fields.payload_len ≤ len }
     {
         self.fields.read_captured_packet(captured, len);
+        self.store_icmp(captured);
+    }
+
+    /// The same for a packet with a link-layer header of the type with this number. The first bytes of its `len`
+    /// bytes were captured.
+    pub fn read_linked(&mut self, number: u32, captured: &[u8], len: usize)
+        requires part { length captured.now ≤ len }
+        ensures value { self.new ≡ with_icmp captured.now (linked_of number captured.now len) }
+        ensures within { self.new.fields.payload_offset + self.new.fields.payload_len ≤ len }
+    {
+        self.fields.read_linked(number, captured, len);
         self.store_icmp(captured);
     }
 

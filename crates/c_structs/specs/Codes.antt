@@ -21,6 +21,7 @@ reason_code reason.PortZero = 5
 reason_code reason.BadFlags = 6
 reason_code reason.BadOptions = 7
 reason_code reason.HeaderCut = 8
+reason_code reason.UnknownLink = 9
 
 -- Pinned by: `worked/read`
 -- the number of a network protocol (`enum lk_network`)

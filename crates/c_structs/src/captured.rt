@@ -58,7 +58,7 @@ impl FrameFields {
     }
 
     // Stores why a header of at least so many bytes is rejected, if fewer were captured.
-    fn reject_cut(&mut self, least: usize)
+    pub(super) fn reject_cut(&mut self, least: usize)
         ensures { self.new ≡ cut_header self.old least }
     {
         let reason = if self.payload_len < least {
@@ -90,7 +90,7 @@ impl FrameFields {
 
     // Stores an IP packet of either version.
     fn store_cut_packet(&mut self, bytes: &[u8])
-        requires offset { self.old.payload_offset ≤ 14 }
+        requires offset { self.old.payload_offset ≤ 28 }
         requires len { length bytes.now < self.old.payload_len }
         requires version { 1 ≤ length bytes.now }
         ensures value { self.new ≡ cut_packet self.old bytes.now }
@@ -105,8 +105,8 @@ impl FrameFields {
 
     // Stores an ARP packet.
     #[inline(never)]
-    fn store_cut_arp(&mut self, bytes: &[u8])
-        requires offset { self.old.payload_offset ≤ 14 }
+    pub(super) fn store_cut_arp(&mut self, bytes: &[u8])
+        requires offset { self.old.payload_offset ≤ 28 }
         requires len { length bytes.now < self.old.payload_len }
         ensures value { self.new ≡ cut_arp self.old bytes.now }
         ensures within { self.new.payload_offset + self.new.payload_len ≤ self.old.payload_offset + self.old.payload_len }
@@ -121,8 +121,8 @@ impl FrameFields {
     // Stores an IPv4 packet. If it was captured as a whole, or its header is wrong, it is stored as in a
     // whole frame.
     #[inline(never)]
-    fn store_cut_ipv4(&mut self, bytes: &[u8])
-        requires offset { self.old.payload_offset ≤ 14 }
+    pub(super) fn store_cut_ipv4(&mut self, bytes: &[u8])
+        requires offset { self.old.payload_offset ≤ 28 }
         requires len { length bytes.now < self.old.payload_len }
         ensures value { self.new ≡ cut_ipv4 self.old bytes.now }
         ensures within { self.new.payload_offset + self.new.payload_len ≤ self.old.payload_offset + self.old.payload_len }
@@ -150,7 +150,7 @@ impl FrameFields {
 
     // Stores an IPv4 packet whose header was captured, but not all of its payload.
     fn store_begun_ipv4(&mut self, bytes: &[u8])
-        requires offset { self.old.payload_offset ≤ 14 }
+        requires offset { self.old.payload_offset ≤ 28 }
         requires least { 20 ≤ length bytes.now }
         requires header { ipv4.header_len bytes.now ≤ length bytes.now }
         requires len { length bytes.now < ipv4.total_len bytes.now }
@@ -178,8 +178,8 @@ impl FrameFields {
     // Stores an IPv6 packet. If it was captured as a whole, or its header is wrong, it is stored as in a
     // whole frame.
     #[inline(never)]
-    fn store_cut_ipv6(&mut self, bytes: &[u8])
-        requires offset { self.old.payload_offset ≤ 14 }
+    pub(super) fn store_cut_ipv6(&mut self, bytes: &[u8])
+        requires offset { self.old.payload_offset ≤ 28 }
         requires len { length bytes.now < self.old.payload_len }
         ensures value { self.new ≡ cut_ipv6 self.old bytes.now }
         ensures within { self.new.payload_offset + self.new.payload_len ≤ self.old.payload_offset + self.old.payload_len }
@@ -200,7 +200,7 @@ impl FrameFields {
 
     // Stores an IPv6 packet whose header was captured, but not all of its payload.
     fn store_begun_ipv6(&mut self, bytes: &[u8])
-        requires offset { self.old.payload_offset ≤ 14 }
+        requires offset { self.old.payload_offset ≤ 28 }
         requires header { 40 ≤ length bytes.now }
         requires len { length bytes.now < ipv6.total_len bytes.now }
         ensures value { self.new ≡ begun_ipv6 self.old bytes.now }
@@ -250,7 +250,7 @@ impl FrameFields {
         dst_addr: &IpAddress,
         bytes: &[u8],
     )
-        requires offset { self.old.payload_offset ≤ 74 }
+        requires offset { self.old.payload_offset ≤ 88 }
         requires len { length bytes.now < self.old.payload_len }
         requires family { version_of src_addr.now ≡ version_of dst_addr.now }
         ensures value { self.new ≡ cut_transport_by self.old (protocol_of protocol) src_addr.now dst_addr.now bytes.now }
@@ -266,7 +266,7 @@ impl FrameFields {
     // Stores a UDP packet. If it was captured as a whole, or its length is wrong, it is stored as in a
     // whole frame.
     fn store_cut_udp(&mut self, src_addr: &IpAddress, dst_addr: &IpAddress, bytes: &[u8])
-        requires offset { self.old.payload_offset ≤ 74 }
+        requires offset { self.old.payload_offset ≤ 88 }
         requires len { length bytes.now < self.old.payload_len }
         requires family { version_of src_addr.now ≡ version_of dst_addr.now }
         ensures value { self.new ≡ cut_udp self.old src_addr.now dst_addr.now bytes.now }
@@ -290,7 +290,7 @@ impl FrameFields {
 
     // Stores a TCP segment, whose checksum covers bytes that are missing.
     fn store_cut_tcp(&mut self, src_addr: &IpAddress, dst_addr: &IpAddress, bytes: &[u8])
-        requires offset { self.old.payload_offset ≤ 74 }
+        requires offset { self.old.payload_offset ≤ 88 }
         requires len { length bytes.now < self.old.payload_len }
         requires family { version_of src_addr.now ≡ version_of dst_addr.now }
         ensures value { self.new ≡ cut_tcp self.old src_addr.now dst_addr.now bytes.now }

@@ -18,6 +18,8 @@ pub enum Reason {
     BadOptions,
     /// Not all bytes of the header were captured.
     HeaderCut,
+    /// The link type is not known.
+    UnknownLink,
 }
 
 impl Reason {

@@ -85,7 +85,7 @@ impl FrameFields {
     // Stores an IP packet of either version.
     #[inline(always)]
     fn store_packet(&mut self, bytes: &[u8])
-        requires offset { self.old.payload_offset ≤ 14 }
+        requires offset { self.old.payload_offset ≤ 28 }
         requires len { self.old.payload_len ≡ length bytes.now }
         requires version { 1 ≤ length bytes.now }
         ensures value { self.new ≡ with_packet self.old bytes.now }
@@ -204,7 +204,7 @@ impl FrameFields {
 
     // Stores an ARP packet.
     pub(super) fn store_arp(&mut self, bytes: &[u8])
-        requires offset { self.old.payload_offset ≤ 14 }
+        requires offset { self.old.payload_offset ≤ 28 }
         requires len { length bytes.now ≤ self.old.payload_len }
         ensures value { self.new ≡ with_arp self.old bytes.now }
         ensures within { self.new.payload_offset + self.new.payload_len ≤ self.old.payload_offset + self.old.payload_len }
@@ -218,7 +218,7 @@ impl FrameFields {
     // Stores the values of an ARP packet for Ethernet and IPv4, after which there is only padding. They
     // are copied from the packet one by one.
     fn store_message(&mut self, bytes: &[u8])
-        requires offset { self.old.payload_offset ≤ 14 }
+        requires offset { self.old.payload_offset ≤ 28 }
         requires whole { 28 ≤ length bytes.now }
         ensures value { self.new ≡ with_message self.old (arp.value_of bytes.now) }
         ensures offset { self.new.payload_offset ≡ self.old.payload_offset + 28 }
@@ -239,7 +239,7 @@ impl FrameFields {
     // Stores an IPv4 packet. The payload of a fragment is not parsed.
     #[inline(always)]
     pub(super) fn store_ipv4(&mut self, bytes: &[u8])
-        requires offset { self.old.payload_offset ≤ 14 }
+        requires offset { self.old.payload_offset ≤ 28 }
         requires len { length bytes.now ≤ self.old.payload_len }
         ensures value { self.new ≡ with_ipv4 self.old bytes.now }
         ensures within { self.new.payload_offset + self.new.payload_len ≤ self.old.payload_offset + self.old.payload_len }
@@ -268,7 +268,7 @@ impl FrameFields {
         header: &Ipv4Repr,
         payload_len: usize,
     )
-        requires offset { self.old.payload_offset ≤ 14 }
+        requires offset { self.old.payload_offset ≤ 28 }
         requires least { 20 ≤ length (ipv4.packet_bytes packet.now) }
         requires header { ipv4.header_len (ipv4.packet_bytes packet.now) ≤ length (ipv4.packet_bytes packet.now) }
         ensures { self.new ≡ with_ipv4_fields self.old (ipv4.packet_bytes packet.now) header.now payload_len }
@@ -295,7 +295,7 @@ impl FrameFields {
     // Stores an IPv6 packet. The payload after a fragment header is not parsed.
     #[inline(always)]
     pub(super) fn store_ipv6(&mut self, bytes: &[u8])
-        requires offset { self.old.payload_offset ≤ 14 }
+        requires offset { self.old.payload_offset ≤ 28 }
         requires len { length bytes.now ≤ self.old.payload_len }
         ensures value { self.new ≡ with_ipv6 self.old bytes.now }
         ensures within { self.new.payload_offset + self.new.payload_len ≤ self.old.payload_offset + self.old.payload_len }
@@ -323,7 +323,7 @@ impl FrameFields {
         header: &Ipv6Repr,
         payload_len: usize,
     )
-        requires offset { self.old.payload_offset ≤ 14 }
+        requires offset { self.old.payload_offset ≤ 28 }
         requires header { 40 ≤ length (ipv6.packet_bytes packet.now) }
         ensures { self.new ≡ with_ipv6_fields self.old (ipv6.packet_bytes packet.now) header.now payload_len }
     {

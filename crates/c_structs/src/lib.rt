@@ -13,7 +13,9 @@ mod faults;
 mod frame_fields;
 mod frames;
 mod ip;
+mod ipv6_steps;
 pub mod laws;
+mod links;
 mod rebuild;
 mod results;
 mod tcp;
@@ -33,9 +35,10 @@ pub use emit::{emit_tcp, emit_udp};
 pub use failures::{
     Failure, arp_failure, most_payload, pair_failure, rebuild_failure, udp_failure,
 };
+pub use links::read_link;
 pub use rebuild::rebuild_frame;
 pub use results::{MAX_LEN, failed, is_set, print, usable, within};
 pub use types::{
-    Addr, Arp, Block, Endpoint, Ethernet, FrameFields, Ip, SackRange, Tcp, TcpOptionPlace,
-    TcpOptions,
+    Addr, Arp, Block, Endpoint, Ethernet, FrameFields, Ip, Ipv6HeaderPlace, SackRange, Tcp,
+    TcpOptionPlace, TcpOptions,
 };

@@ -27,7 +27,7 @@ impl FrameFields {
         dst_addr: &IpAddress,
         bytes: &[u8],
     )
-        requires offset { self.old.payload_offset ≤ 74 }
+        requires offset { self.old.payload_offset ≤ 88 }
         requires len { self.old.payload_len ≡ length bytes.now }
         requires family { version_of src_addr.now ≡ version_of dst_addr.now }
         ensures value { self.new ≡ with_transport_by self.old (protocol_of protocol) src_addr.now dst_addr.now bytes.now }
@@ -43,7 +43,7 @@ impl FrameFields {
     // Stores a UDP packet. A rejected header is stored too, if it is there as a whole.
     #[inline(always)]
     pub(super) fn store_udp(&mut self, src_addr: &IpAddress, dst_addr: &IpAddress, bytes: &[u8])
-        requires offset { self.old.payload_offset ≤ 74 }
+        requires offset { self.old.payload_offset ≤ 88 }
         requires len { length bytes.now ≤ self.old.payload_len }
         requires family { version_of src_addr.now ≡ version_of dst_addr.now }
         ensures value { self.new ≡ with_udp self.old src_addr.now dst_addr.now bytes.now }
@@ -112,7 +112,7 @@ impl FrameFields {
     // Stores a TCP segment. A rejected header is stored too, if it is there as a whole.
     #[inline(always)]
     fn store_tcp(&mut self, src_addr: &IpAddress, dst_addr: &IpAddress, bytes: &[u8])
-        requires offset { self.old.payload_offset ≤ 74 }
+        requires offset { self.old.payload_offset ≤ 88 }
         requires len { self.old.payload_len ≡ length bytes.now }
         requires family { version_of src_addr.now ≡ version_of dst_addr.now }
         ensures value { self.new ≡ with_tcp self.old src_addr.now dst_addr.now bytes.now }

@@ -121,6 +121,20 @@ pub struct TcpOptionPlace {
     pub len: u8,
 }
 
+/// `struct lk_ipv6_header`: where a header of an IPv6 packet is.
+#[repr(C)]
+#[derive(Clone, Copy)]
+pub struct Ipv6HeaderPlace {
+    /// Of its first byte in the packet.
+    pub offset: u32,
+    /// Of the whole header, in bytes; 0 before the first header.
+    pub len: u16,
+    /// Its own number: 41 for the IPv6 header.
+    pub protocol: u8,
+    /// The number of what follows it.
+    pub next: u8,
+}
+
 /// The fields of `struct lk_frame` before those of ICMP: the values of a frame, and where its headers and its payload
 /// are.
 #[repr(C)]

@@ -7,6 +7,7 @@ mod flows;
 mod hop_guard;
 mod host;
 mod icmp;
+mod links;
 mod nat;
 mod nat_echo;
 mod nat_errors;

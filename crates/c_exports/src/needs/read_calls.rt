@@ -5,11 +5,11 @@ ghost use Rattle.c_icmp.specs.Messages.{IsCutFrame};
 ghost use Rattle.c_structs.specs.FrameFields.{fields_of, packet_fields_of};
 
 use crate::read_calls::{
-    lk_next_tcp_option, lk_read_captured, lk_read_captured_packet, lk_read_frame, lk_read_packet,
-    lk_read_tcp_options, lk_version,
+    lk_next_ipv6_header, lk_next_tcp_option, lk_read_captured, lk_read_captured_packet,
+    lk_read_frame, lk_read_packet, lk_read_tcp_options, lk_version,
 };
 use c_icmp::FullFrame;
-use c_structs::{TcpOptionPlace, TcpOptions};
+use c_structs::{Ipv6HeaderPlace, TcpOptionPlace, TcpOptions};
 
 // The library has one version.
 fn version() -> (u32, u32)
@@ -95,6 +95,22 @@ fn next_tcp_option(
     (
         lk_next_tcp_option(header, option),
         lk_next_tcp_option(header, other),
+    )
+}
+
+// A header of an IPv6 packet has one successor.
+fn next_ipv6_header(
+    packet: &[u8],
+    header: &mut Ipv6HeaderPlace,
+    other: &mut Ipv6HeaderPlace,
+) -> (i32, i32)
+    requires { header.old ≡ other.old }
+    ensures returned { result.0 ≡ result.1 }
+    ensures written { header.new ≡ other.new }
+{
+    (
+        lk_next_ipv6_header(packet, header),
+        lk_next_ipv6_header(packet, other),
     )
 }
 
