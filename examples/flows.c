@@ -6,24 +6,19 @@
  * The first end sent the first packet. Each sum has what the first end sent, and what the second sent. `bytes` counts the
  * bytes of the frames, captured or not. `rtt` is the shortest time until the second end echoed a timestamp of the first
  * (RFC 7323), and the other way round: a round trip takes their sum. `syn` has the kinds of the TCP options of SYN, in
- * order. `wrong` counts packets with a wrong checksum, without those whose checksum was left to the device. */
+ * order. `wrong` counts packets with a wrong checksum, without those whose checksum was left to the device.
+ *
+ * A time more than 2^32 seconds before or after 1970 counts as that far, so that all differences fit into 64 bits. */
+#define _GNU_SOURCE
+#include "process.h"
 #include <ip_wire.h>
 #include <inttypes.h>
 #include <pcap/pcap.h>
-#include <stdio.h>
 #include <stdlib.h>
-#include <string.h>
 #include <sys/random.h>
-#include <unistd.h>
 
-enum { MOST_BLOCKS = 256, MOST_OPTIONS = 40, REASONS = LK_HEADER_CUT + 1 };
+enum { MOST_BLOCKS = 256, MOST_OPTIONS = 40, REASONS = LK_UNKNOWN_LINK + 1 };
 enum echo { NO_TIMESTAMP, WAITS, ECHOED };
-
-/* What is left of a frame: `captured` of its `len` bytes are at `ptr`. */
-struct part {
-    const uint8_t *ptr;
-    size_t captured, len;
-};
 
 /* What one endpoint sent. */
 struct side {
@@ -55,6 +50,14 @@ struct table {
     size_t size, used; /* `size` is a power of 2 */
 };
 
+static const char help[] =
+    "usage: flows [-n COUNT] CAPTURE [BLOCK..]\n"
+    "Prints the flows of a capture, those with most bytes first.\n"
+    "  -n COUNT  prints only COUNT flows\n"
+    "  CAPTURE   a file of Ethernet, raw or cooked packets; - is the standard input\n"
+    "  BLOCK     a CIDR block, at most 256 of them: a flow with an address outside of all is marked\n"
+    "            \"not allowed\", and the exit status is then 3\n"
+    "  --help    prints this\n";
 static struct lk_block blocks[MOST_BLOCKS];
 static size_t block_count;
 static uint64_t seed[2];
@@ -165,75 +168,32 @@ static void count(struct table *table, const struct lk_frame *frame, const uint8
         count_tcp(sender, receiver, ptr + frame->transport_offset, &frame->tcp, now);
 }
 
-/* The links that are known: the length of the header, and where it has the EtherType; -1: it has none. */
-static const struct link {
-    int number;
-    size_t header_len;
-    int type_at;
-} links[] = {{DLT_EN10MB, 14, 12}, {DLT_LINUX_SLL, 16, 14}, {DLT_LINUX_SLL2, 20, 0}, {DLT_NULL, 4, -1},
-             {DLT_LOOP, 4, -1},    {DLT_RAW, 0, -1},        {DLT_IPV4, 0, -1},       {DLT_IPV6, 0, -1}};
-
-/* Returns NULL if the link is not known. */
-static const struct link *link_of(int number)
+static int64_t within(int64_t value, int64_t most)
 {
-    for (size_t i = 0; i < sizeof links / sizeof links[0]; i++)
-        if (links[i].number == number)
-            return &links[i];
-    return NULL;
+    return value > most ? most : value < -most ? -most : value;
 }
 
-/* Skips the header of the link and VLAN tags. Returns the EtherType, 0 if there is none, or -1 if a header is cut. */
-static int skip_headers(const struct link *link, struct part *part)
+/* In nanoseconds. Classic captures have up to 2^32 microseconds after a second. */
+static int64_t time_of(const struct pcap_pkthdr *header)
 {
-    size_t header_len = link->header_len;
-    int type, type_at = link->type_at;
-    do {
-        if (part->captured < header_len)
-            return -1;
-        type = type_at < 0 ? 0 : part->ptr[type_at] << 8 | part->ptr[type_at + 1];
-        part->ptr += header_len;
-        part->captured -= header_len;
-        part->len -= header_len;
-        header_len = 4;
-        type_at = 2;
-    } while (type == 0x8100 || type == 0x88a8);
-    return type;
-}
-
-/* Parses a frame of the capture, and returns its reason. Then `part` begins with what was parsed. */
-static int read_part(const struct link *link, struct part *part, struct lk_frame *frame)
-{
-    struct part packet = *part;
-    int type = skip_headers(link, &packet);
-    if (link->number == DLT_EN10MB && type >= 0 && packet.ptr - part->ptr == 14) /* no tag */
-        return lk_read_captured(part->ptr, part->captured, part->len, frame);
-    memset(frame, 0, sizeof *frame);
-    if (type < 0)
-        return packet.captured < packet.len ? LK_HEADER_CUT : LK_TOO_SHORT;
-    if (type != 0 && type != 0x0800 && type != 0x86dd)
-        return LK_READ;
-    *part = packet;
-    int reason = lk_read_captured_packet(part->ptr, part->captured, part->len, frame);
-    int is_other = frame->network == (type == 0x0800 ? LK_IPV6 : LK_IPV4);
-    return type != 0 && is_other ? LK_BAD_VERSION : reason;
+    return within(header->ts.tv_sec, INT64_C(1) << 32) * 1000000000 + within(header->ts.tv_usec, INT64_C(1) << 42);
 }
 
 /* Returns whether the capture was read to its end. */
-static int count_capture(pcap_t *capture, const struct link *link, struct table *table)
+static int count_capture(pcap_t *capture, uint32_t link_type, struct table *table)
 {
     struct pcap_pkthdr *header;
     const u_char *bytes;
     int next;
     while ((next = pcap_next_ex(capture, &header, &bytes)) == 1) {
         struct lk_frame frame;
-        struct part part = {bytes, header->caplen < header->len ? header->caplen : header->len, header->len};
-        int64_t now = (int64_t)header->ts.tv_sec * 1000000000 + header->ts.tv_usec;
-        int reason = read_part(link, &part, &frame);
+        int64_t now = time_of(header);
+        int reason = lk_read_linktype(link_type, bytes, header->caplen, header->len, &frame);
         int has_ports = reason == LK_READ || (reason == LK_HEADER_CUT && frame.rejected != LK_NO_TRANSPORT);
         if (!has_ports)
             rejected[reason]++;
         else if (frame.network == LK_IPV4 || frame.network == LK_IPV6)
-            count(table, &frame, part.ptr, header->len, now);
+            count(table, &frame, bytes, header->len, now);
         else
             others++;
     }
@@ -329,32 +289,21 @@ static void print_sums(const struct table *table)
     putchar('\n');
 }
 
-static _Noreturn void explain(void)
-{
-    fprintf(stderr,
-            "usage: flows [-n COUNT] CAPTURE [BLOCK..]\n"
-            "  -n COUNT  print only the COUNT flows with most bytes\n"
-            "  CAPTURE   a file of Ethernet, raw or cooked packets; - is the standard input\n"
-            "  BLOCK     a CIDR block, at most %d of them: a flow with an address outside of all of them is marked\n"
-            "            \"not allowed\", and the exit status is then 3\n",
-            MOST_BLOCKS);
-    exit(2);
-}
-
 /* Returns how many flows are to be printed, and stores the blocks. The capture is argv[optind]. */
 static size_t read_arguments(int argc, char **argv)
 {
     size_t most = SIZE_MAX;
     char *end = "";
+    opterr = 0;
     for (int letter; (letter = getopt(argc, argv, "n:")) != -1;) {
         if (letter != 'n')
-            explain();
+            exit(print_help(help, 0));
         most = strtoul(optarg, &end, 10);
         if (*optarg < '0' || *optarg > '9' || *end != '\0')
             give_up(optarg, "not a count");
     }
     if (optind == argc || argc - optind - 1 > MOST_BLOCKS)
-        explain();
+        exit(print_help(help, 0));
     for (int i = optind + 1; i < argc; i++)
         if (!lk_parse_block(argv[i], strlen(argv[i]), &blocks[block_count++]))
             give_up(argv[i], "not a CIDR block, as 192.0.2.0/24 or 2001:db8::/32");
@@ -365,6 +314,8 @@ int main(int argc, char **argv)
 {
     char error[PCAP_ERRBUF_SIZE];
     struct table table = {NULL, NULL, 0, 0};
+    if (asks_for_help(argc, argv))
+        return print_help(help, 1);
     if (!lk_cpu_supported())
         give_up("processor", "it has no SSE4.2 or no POPCNT");
     size_t most = read_arguments(argc, argv);
@@ -372,13 +323,14 @@ int main(int argc, char **argv)
     pcap_t *capture = pcap_open_offline_with_tstamp_precision(name, PCAP_TSTAMP_PRECISION_NANO, error);
     if (capture == NULL)
         give_up("capture", error);
-    const struct link *link = link_of(pcap_datalink(capture));
-    if (link == NULL)
+    uint32_t link_type = (uint32_t)pcap_datalink(capture);
+    struct lk_link unused;
+    if (lk_read_link(link_type, NULL, 0, &unused) == LK_UNKNOWN_LINK)
         give_up(name, "neither Ethernet nor raw nor cooked packets");
     if (getentropy(seed, sizeof seed) != 0)
         give_up("random numbers", "there are none");
     resize(&table, 1024);
-    int is_whole = count_capture(capture, link, &table);
+    int is_whole = count_capture(capture, link_type, &table);
     size_t outside = print_flows(&table, most);
     print_sums(&table);
     if (!is_whole)

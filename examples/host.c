@@ -9,25 +9,23 @@
 #define _GNU_SOURCE
 #include "error_limit.h"
 #include "host_tcp.h"
-#include <errno.h>
-#include <fcntl.h>
-#include <linux/if_tun.h>
-#include <net/if.h>
-#include <poll.h>
-#include <signal.h>
-#include <stdio.h>
-#include <string.h>
-#include <sys/ioctl.h>
-#include <sys/signalfd.h>
+#include "process.h"
+#include "tap.h"
 #include <sys/socket.h>
-#include <unistd.h>
 
-enum { LONGEST_FRAME = 65535 + 18, FRAMES_AT_ONCE = 64 };
+static const char help[] =
+    "usage: host DEVICE HARDWARE_ADDRESS IPV4_ADDRESS IPV6_ADDRESS\n"
+    "Is a host on a TAP device, which echoes what comes to port 7 by UDP and TCP.\n"
+    "  DEVICE            the name of the TAP device; it is made unless it exists\n"
+    "  HARDWARE_ADDRESS  the Ethernet address of the host, as 02-00-00-00-aa-07\n"
+    "  IPV4_ADDRESS, IPV6_ADDRESS  its addresses, as 10.77.0.2 and fd77::2\n"
+    "  --help            prints this\n"
+    "SIGINT and SIGTERM end it, and it prints counts.\n";
 
 size_t mtu;
 static struct lk_host own = {.echo_port = ECHO_PORT};
 static struct error_limit limit;
-static int device, signals;
+static int device;
 static uint8_t out[LONGEST_FRAME];
 static unsigned long frames_in, frames_out, rejected, wrong_checksums;
 
@@ -89,32 +87,18 @@ static void on_frame(const uint8_t *frame, size_t len)
         on_tcp(&in, frame);
 }
 
-static int read_own(char **words)
+/* Reads the MTU of the device. */
+static int read_mtu(const char *name)
 {
-    return lk_parse_ethernet(words[0], strlen(words[0]), own.hardware)
-           && lk_parse_addr(words[1], strlen(words[1]), &own.ipv4) && own.ipv4.version == 4
-           && lk_parse_addr(words[2], strlen(words[2]), &own.ipv6) && own.ipv6.version == 6;
-}
-
-/* Stores its MTU too. SIGINT and SIGTERM are read from `signals` from now on. */
-static int open_device(const char *name)
-{
-    sigset_t ends;
-    struct ifreq request = {.ifr_flags = IFF_TAP | IFF_NO_PI};
-    int any = socket(AF_INET, SOCK_DGRAM, 0);
-    snprintf(request.ifr_name, sizeof request.ifr_name, "%s", name);
-    device = open("/dev/net/tun", O_RDWR | O_NONBLOCK | O_CLOEXEC);
-    sigemptyset(&ends);
-    sigaddset(&ends, SIGINT);
-    sigaddset(&ends, SIGTERM);
-    sigprocmask(SIG_BLOCK, &ends, NULL);
-    signals = signalfd(-1, &ends, SFD_CLOEXEC);
-    if (any < 0 || device < 0 || signals < 0 || ioctl(device, TUNSETIFF, &request) < 0
-        || ioctl(any, SIOCGIFMTU, &request) < 0)
-        return 0;
-    mtu = (size_t)request.ifr_mtu;
+    struct ifreq request = {.ifr_flags = 0};
+    int any = socket(AF_INET, SOCK_DGRAM | SOCK_CLOEXEC, 0);
+    strcpy(request.ifr_name, name);
+    int is_read = any >= 0 && ioctl(any, SIOCGIFMTU, &request) == 0;
+    mtu = is_read ? (size_t)request.ifr_mtu : 0;
+    if (!is_read)
+        fprintf(stderr, "host: %s: %s\n", name, strerror(errno));
     close(any);
-    return 1;
+    return is_read;
 }
 
 /* Reads some frames, so that signals and timers have their turn. Returns 0 if the device has been deleted. */
@@ -124,24 +108,24 @@ static int read_frames(void)
     for (int count = 0; count < FRAMES_AT_ONCE; count++) {
         ssize_t len = read(device, frame, sizeof frame);
         if (len < 0)
-            return errno == EAGAIN || errno == EINTR || errno == EIO;
+            return is_there();
         frames_in++;
         on_frame(frame, (size_t)len);
     }
     return 1;
 }
 
-static int serve(const char *name)
+/* Returns the status of the program. */
+static int serve(const char *name, int signals)
 {
+    struct output errors = open_output(STDERR_FILENO);
     struct pollfd fds[2] = {{.fd = signals, .events = POLLIN}, {.fd = device, .events = POLLIN}};
-    printf("ready\n");
-    fflush(stdout);
     for (;;) {
         poll(fds, 2, run_timers());
         if (fds[0].revents != 0)
             return 0;
         if ((fds[1].revents & (POLLERR | POLLHUP | POLLNVAL)) || !read_frames()) {
-            fprintf(stderr, "host: %s: the device was deleted\n", name);
+            print(&errors, "host: %s: the device was deleted\n", name);
             return 1;
         }
     }
@@ -149,16 +133,28 @@ static int serve(const char *name)
 
 int main(int argc, char **argv)
 {
-    if (argc != 5 || !lk_cpu_supported() || !read_own(argv + 2)) {
-        fprintf(stderr, "usage: host DEVICE HARDWARE_ADDRESS IPV4_ADDRESS IPV6_ADDRESS\n");
-        return 2;
-    }
-    if (!open_device(argv[1])) {
-        perror(argv[1]);
+    static const int no_others[] = {0};
+    prepare();
+    if (argc != 5 || asks_for_help(argc, argv))
+        return print_help(help, asks_for_help(argc, argv));
+    if (!lk_cpu_supported()) {
+        fprintf(stderr, "host: the processor has no SSE4.2 or no POPCNT\n");
         return 1;
     }
-    int status = serve(argv[1]);
-    printf("frames read %lu, written %lu, rejected %lu, wrong checksums %lu\n", frames_in, frames_out, rejected,
-           wrong_checksums);
+    if (!read_host("host", argv + 2, &own))
+        return 2;
+    device = open_tap("host", argv[1]);
+    if (device < 0 || !read_mtu(argv[1]))
+        return 1;
+    struct output output = open_output(STDOUT_FILENO);
+    int signals = open_signals(no_others);
+    if (signals < 0) {
+        perror("host: signalfd");
+        return 1;
+    }
+    print(&output, "ready\n");
+    int status = serve(argv[1], signals);
+    print(&output, "frames read %lu, written %lu, rejected %lu, wrong checksums %lu\n", frames_in, frames_out,
+          rejected, wrong_checksums);
     return status;
 }

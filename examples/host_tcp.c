@@ -5,11 +5,11 @@
  * learns by SACK (RFC 2018), window scale and timestamps (RFC 7323), challenge acknowledgements (RFC 5961).
  *
  * Not supported: congestion control (it sends what the peer's window takes), keep-alive, PAWS, urgent data. */
+#define _GNU_SOURCE
 #include "host_tcp.h"
+#include "process.h"
 #include <stddef.h>
-#include <string.h>
 #include <sys/random.h>
-#include <time.h>
 
 enum { SCALE = 3, BUFFER = 1 << 18, CONNECTIONS = 64, DUPLICATES = 3, SEGMENTS_PER_ACK = 2 };
 /* In milliseconds. A silent peer is dropped after 3 minutes, a half-open one after 1. */
@@ -59,13 +59,6 @@ void reset(const struct lk_frame *in, size_t payload_len)
         reply.tcp.ack_number = lk_add_seq(in->tcp.seq_number, len);
     }
     send_tcp(&reply, &none, NULL, 0);
-}
-
-int64_t milliseconds(void)
-{
-    struct timespec now;
-    clock_gettime(CLOCK_MONOTONIC, &now);
-    return (int64_t)now.tv_sec * 1000 + now.tv_nsec / 1000000;
 }
 
 static size_t least(size_t a, size_t b)

@@ -13,9 +13,6 @@ void on_tcp(const struct lk_frame *in, const uint8_t *frame);
 /* Rejects a segment of no connection (RFC 9293, section 3.10.7.1). */
 void reset(const struct lk_frame *in, size_t payload_len);
 
-/* Returns the time of a clock that never goes back. */
-int64_t milliseconds(void);
-
 /* Runs the timers that are due. Returns how long the next one runs, in milliseconds; -1 if none does. */
 int run_timers(void);
 

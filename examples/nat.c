@@ -1,21 +1,32 @@
 /* A NAT on TAP devices and on interfaces of the kernel (Linux). docs/ROUTER.md shows how to start it.
- *     nat FILE OUTSIDE INSIDE..
+ *     nat [-m COUNT] FILE OUTSIDE INSIDE..
  * The interfaces and FILE are those of router.c. Packets to OUTSIDE get its first IPv4 address, and ports of this
  * address lead back to the hosts inside. Between inside interfaces packets are routed as they are. Only UDP, TCP, ping
- * and ICMP errors over IPv4 pass OUTSIDE: fragments, other ICMP messages and IPv6 are dropped. */
+ * and ICMP errors over IPv4 pass OUTSIDE: fragments, other ICMP messages and IPv6 are dropped. -m: the most ports and
+ * echo identifiers that one inside address has at a time (RFC 6888, REQ-4). */
+#define _GNU_SOURCE
 #include "routing/router.h"
 
-#include <stdio.h>
 #include <stdlib.h>
-#include <string.h>
 #include <sys/random.h>
 
-enum { OUTSIDE = 0, FIRST_PORT = 1024, MAPPINGS = LK_MAPPINGS(65536 - FIRST_PORT), ECHO_REQUEST = 8 };
+enum { OUTSIDE = 0, FIRST_PORT = 1024, PORTS = 65536 - FIRST_PORT, MAPPINGS = LK_MAPPINGS(PORTS), MOST_OF_ONE = 4096 };
+enum { UDP = 17, TCP = 6, ECHO_REQUEST = 8 };
+
+static const char help[] =
+    "usage: nat [-m COUNT] FILE OUTSIDE INSIDE..\n"
+    "Gives packets to the interface OUTSIDE its IPv4 address, and forwards them.\n"
+    "  -m COUNT  the most ports that one inside address has at a time, 4096 by default\n"
+    "  FILE      has addresses, routes and neighbours: docs/ROUTER.md\n"
+    "  OUTSIDE, INSIDE  packet:NAME, an interface of the kernel, or tap:NAME, a TAP device\n"
+    "  --help    prints this\n"
+    "SIGUSR1 prints counters, SIGHUP reads FILE again, SIGINT and SIGTERM end it.\n";
 
 static struct lk_nat nat = {
     .udp_timeout = 300000, .tcp_timeout = 7440000, .tcp_transitory_timeout = 240000, .icmp_timeout = 60000,
     .first_port = FIRST_PORT};
 static struct lk_mapping *mappings;
+static struct limit *limit;
 
 typedef int translate(const struct lk_nat *nat, struct lk_mapping *mappings, size_t count, uint64_t now, uint8_t *frame,
                       size_t len);
@@ -28,6 +39,25 @@ static int translated(translate *call, const struct router *router, struct packe
     if (rejection == LK_NOT_REJECTED)
         uncomplete_checksum(packet);
     return rejection;
+}
+
+/* The place of the mapping that gave a packet its outside port. MAPPINGS: the packet is an ICMP error. */
+static size_t place_of(const uint8_t *frame)
+{
+    const uint8_t *header = frame + ETHERNET_LEN, *transport = header + header[0] % 16 * 4;
+    size_t part = header[9] == UDP ? 0 : header[9] == TCP ? 1 : 2;
+    const uint8_t *place = part < 2 ? transport : transport + 4;
+    size_t port = (size_t)place[0] << 8 | place[1];
+    int is_error = part == 2 && transport[0] != ECHO_REQUEST;
+    return is_error || port < FIRST_PORT ? MAPPINGS : part * PORTS + port - FIRST_PORT;
+}
+
+static int translated_out(const struct router *router, struct packet *packet)
+{
+    int rejection = translated(lk_translate_out, router, packet);
+    size_t place = rejection == LK_NOT_REJECTED ? place_of(packet->frame) : MAPPINGS;
+    int is_within = place == MAPPINGS || is_within_limit(limit, mappings, place, (uint64_t)router->now);
+    return is_within ? rejection : ABOVE_LIMIT;
 }
 
 static void store_dst(const struct packet *packet, struct lk_addr *dst)
@@ -50,7 +80,7 @@ static int before_route(struct router *router, uint16_t from, const struct lk_fr
     if (is_to_outside ? in->transport == LK_ICMP && in->icmp.type == ECHO_REQUEST : from != OUTSIDE)
         return LK_NOT_REJECTED;
     if (from != OUTSIDE)
-        rejection = translated(lk_translate_out, router, packet);
+        rejection = translated_out(router, packet);
     if (rejection == LK_NOT_REJECTED)
         rejection = translated(lk_translate_in, router, packet);
     if (rejection == LK_NOT_REJECTED)
@@ -62,7 +92,7 @@ static int before_send(struct router *router, uint16_t from, uint16_t to, struct
 {
     if (from == OUTSIDE)
         return to == OUTSIDE ? LK_NO_MAPPING : LK_NOT_REJECTED;
-    return to == OUTSIDE ? translated(lk_translate_out, router, packet) : LK_NOT_REJECTED;
+    return to == OUTSIDE ? translated_out(router, packet) : LK_NOT_REJECTED;
 }
 
 /* An error quotes a packet whose addresses were translated. Its sender gets the addresses that it used, whether it is
@@ -78,33 +108,57 @@ static int before_error(struct router *router, uint16_t to, struct packet *error
     return rejection == LK_NOT_REJECTED && is_hairpin ? translated(lk_translate_in, router, error) : rejection;
 }
 
-static int find_outside_address(const struct router *router)
+/* With another outside address all mappings end. */
+static const char *find_outside_address(const struct router *router, const struct config *config)
 {
-    for (size_t i = 0; i < router->address_count; i++) {
-        const struct address *one = &router->addresses[i];
-        if (one->interface == OUTSIDE && one->block.addr.version == 4) {
-            memcpy(nat.outside, one->block.addr.octets, 4);
-            return 1;
-        }
+    static char fault[IFNAMSIZ + 32];
+    for (size_t i = 0; i < config->address_count; i++) {
+        const struct address *one = &config->addresses[i];
+        if (one->interface != OUTSIDE || one->block.addr.version != 4)
+            continue;
+        if (memcmp(nat.outside, one->block.addr.octets, 4) != 0)
+            memset(mappings, 0, MAPPINGS * sizeof *mappings);
+        memcpy(nat.outside, one->block.addr.octets, 4);
+        return NULL;
     }
-    fprintf(stderr, "nat: %s has no IPv4 address\n", router->interfaces[OUTSIDE].name);
+    snprintf(fault, sizeof fault, "%s has no IPv4 address", router->interfaces[OUTSIDE].name);
+    return fault;
+}
+
+/* Reads a number from 1 to MAPPINGS. Returns 0 if it is none, with a message. */
+static size_t read_count(const char *word)
+{
+    char *end;
+    unsigned long count = strtoul(word, &end, 10);
+    if (*word >= '0' && *word <= '9' && *end == 0 && count > 0 && count <= MAPPINGS)
+        return count;
+    fprintf(stderr, "nat: %s: not a count from 1 to %zu\n", word, (size_t)MAPPINGS);
     return 0;
 }
 
 int main(int argc, char **argv)
 {
-    static struct router router = {
-        .name = "nat", .before_route = before_route, .before_send = before_send, .before_error = before_error};
-    if (argc < 4) {
-        fprintf(stderr, "usage: nat FILE OUTSIDE INSIDE..\n");
-        return 2;
+    static struct router router = {.name = "nat", .before_route = before_route, .before_send = before_send,
+                                   .before_error = before_error, .on_config = find_outside_address};
+    size_t most = MOST_OF_ONE;
+    prepare();
+    opterr = 0;
+    int is_help = asks_for_help(argc, argv);
+    for (int letter; !is_help && (letter = getopt(argc, argv, "+m:")) != -1;) {
+        if (letter != 'm')
+            return print_help(help, 0);
+        if ((most = read_count(optarg)) == 0)
+            return 2;
     }
-    if (!start(&router, argv[1], argv + 2, (size_t)(argc - 2)) || !find_outside_address(&router))
-        return 1;
+    if (is_help || argc - optind < 3)
+        return print_help(help, is_help);
     mappings = calloc(MAPPINGS, sizeof *mappings);
-    if (mappings == NULL || getrandom(nat.key, sizeof nat.key, 0) != sizeof nat.key) {
+    limit = make_limit(most, MAPPINGS);
+    if (mappings == NULL || limit == NULL || getrandom(nat.key, sizeof nat.key, 0) != sizeof nat.key) {
         perror("nat");
         return 1;
     }
+    if (!start(&router, argv[optind], argv + optind + 1, (size_t)(argc - optind - 1)))
+        return 1;
     return serve(&router);
 }

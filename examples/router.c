@@ -4,22 +4,33 @@
  * FILE has their addresses, and static routes and neighbours. -n: take packets that come from elsewhere than the route
  * back to their source leads.
  *
- * Prints "ready", and its counters at SIGUSR1. SIGINT and SIGTERM end it. */
+ * Prints "ready", and its counters at SIGUSR1. SIGHUP: it reads FILE again. SIGINT and SIGTERM end it. */
+#define _GNU_SOURCE
 #include "routing/router.h"
 
-#include <stdio.h>
-#include <string.h>
+static const char help[] =
+    "usage: router [-n] FILE INTERFACE..\n"
+    "Forwards IPv4 and IPv6 packets between interfaces.\n"
+    "  -n         takes packets from elsewhere than the route back to their source leads\n"
+    "  FILE       has addresses, routes and neighbours: docs/ROUTER.md\n"
+    "  INTERFACE  packet:NAME, an interface of the kernel, or tap:NAME, a TAP device\n"
+    "  --help     prints this\n"
+    "SIGUSR1 prints counters, SIGHUP reads FILE again, SIGINT and SIGTERM end it.\n";
 
 int main(int argc, char **argv)
 {
     static struct router router = {.name = "router"};
-    int options = argc > 1 && strcmp(argv[1], "-n") == 0;
-    if (argc < 3 + options) {
-        fprintf(stderr, "usage: router [-n] FILE tap:NAME|packet:NAME..\n");
-        return 2;
+    prepare();
+    opterr = 0;
+    int is_help = asks_for_help(argc, argv);
+    for (int letter; !is_help && (letter = getopt(argc, argv, "+n")) != -1;) {
+        if (letter != 'n')
+            return print_help(help, 0);
+        router.takes_any_way = 1;
     }
-    router.takes_any_way = options;
-    if (!start(&router, argv[1 + options], argv + 2 + options, (size_t)(argc - 2 - options)))
+    if (is_help || argc - optind < 2)
+        return print_help(help, is_help);
+    if (!start(&router, argv[optind], argv + optind + 1, (size_t)(argc - optind - 1)))
         return 1;
     return serve(&router);
 }

@@ -1,5 +1,5 @@
 #!/usr/bin/env python3
-"""Reads a frame, as examples/quick.c does, by the module ip_wire of bindings/python:
+"""Reads a frame, as examples/quick.c does, by the package ip_wire of bindings/python:
 
     PYTHONPATH=bindings/python examples/python/quick.py
 """

@@ -1,7 +1,6 @@
 /* What a router sends of its own: answers to packets for its addresses, and ICMP errors about packets that it drops. */
+#define _GNU_SOURCE
 #include "router.h"
-
-#include <string.h>
 
 static const struct virtio_net_hdr no_offload;
 

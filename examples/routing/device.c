@@ -5,17 +5,14 @@
 
 #include <arpa/inet.h>
 #include <errno.h>
-#include <fcntl.h>
+#include <linux/if_arp.h>
 #include <linux/if_ether.h>
 #include <linux/if_packet.h>
 #include <linux/if_tun.h>
-#include <stdio.h>
-#include <string.h>
 #include <sys/ioctl.h>
 #include <sys/random.h>
 #include <sys/socket.h>
 #include <sys/uio.h>
-#include <unistd.h>
 
 enum { HEADER = sizeof(struct virtio_net_hdr), PARTS = 2, SOCKET_ROOM = 1 << 24 };
 
@@ -54,53 +51,67 @@ static int open_socket(struct interface *interface)
 }
 
 /* Reads the MTU, and the Ethernet address of a socket's interface. A TAP device that was moved to another network
- * namespace keeps the MTU that it had. */
-static int read_settings(struct interface *interface)
+ * namespace keeps the MTU that it had. Returns what is wrong, or null. */
+static const char *read_settings(struct interface *interface)
 {
     struct ifreq request = {.ifr_flags = 0};
-    int any = socket(AF_INET, SOCK_DGRAM | SOCK_CLOEXEC, 0), is_read = 1;
+    const char *fault = NULL;
+    int any = socket(AF_INET, SOCK_DGRAM | SOCK_CLOEXEC, 0);
     memcpy(request.ifr_name, interface->name, IFNAMSIZ);
     if (any >= 0 && ioctl(any, SIOCGIFMTU, &request) == 0)
         interface->mtu = (size_t)request.ifr_mtu;
     if (!interface->is_tap) {
-        is_read = any >= 0 && ioctl(any, SIOCGIFHWADDR, &request) == 0 && request.ifr_hwaddr.sa_family == 1;
-        if (is_read)
+        if (any < 0 || ioctl(any, SIOCGIFHWADDR, &request) < 0)
+            fault = strerror(errno);
+        else if (request.ifr_hwaddr.sa_family != ARPHRD_ETHER)
+            fault = "not an Ethernet interface";
+        else
             memcpy(interface->own.hardware, request.ifr_hwaddr.sa_data, 6);
     }
     close(any);
-    return is_read;
+    return fault;
 }
 
-static int open_device(struct interface *interface)
+/* Returns what is wrong, or null. */
+static const char *open_device(struct interface *interface)
 {
-    if ((interface->is_tap ? open_tap : open_socket)(interface) && read_settings(interface))
-        return 1;
-    if (interface->device >= 0)
+    int is_open = (interface->is_tap ? open_tap : open_socket)(interface);
+    const char *fault = is_open ? read_settings(interface) : strerror(errno);
+    if (fault != NULL && interface->device >= 0) {
         close(interface->device);
-    interface->device = -1;
-    return 0;
+        interface->device = -1;
+    }
+    return fault;
 }
 
-int open_interface(const char *program, const char *word, struct interface *interface)
+/* Reads the word of an interface. Returns what is wrong, or null. */
+static const char *read_word(const char *word, struct interface *interface)
 {
     const char *colon = strchr(word, ':');
     size_t kind_len = colon ? (size_t)(colon - word) : 0;
     *interface = (struct interface){.device = -1, .is_tap = kind_len == 3 && memcmp(word, "tap", 3) == 0};
     if ((!interface->is_tap && !(kind_len == 6 && memcmp(word, "packet", 6) == 0)) || strlen(colon + 1) >= IFNAMSIZ
-        || colon[1] == 0) {
-        fprintf(stderr, "%s: %s: neither tap:NAME nor packet:NAME\n", program, word);
-        return 0;
-    }
+        || colon[1] == 0)
+        return "neither tap:NAME nor packet:NAME";
     strcpy(interface->name, colon + 1);
+    return NULL;
+}
+
+int open_interface(struct router *router, const char *word, struct interface *interface)
+{
+    const char *fault = read_word(word, interface);
     /* A locally administered address, if the file does not name another one. */
-    if (getrandom(interface->own.hardware, 6, 0) != 6)
-        return 0;
+    if (fault == NULL && getrandom(interface->own.hardware, 6, 0) != 6)
+        fault = strerror(errno);
     interface->own.hardware[0] = 2;
-    if (!open_device(interface)) {
-        fprintf(stderr, "%s: %s: %s\n", program, word, strerror(errno));
-        return 0;
-    }
-    return 1;
+    if (fault == NULL)
+        fault = open_device(interface);
+    for (size_t i = 0; i < router->interface_count && fault == NULL; i++)
+        if (router->interfaces[i].index == interface->index)
+            fault = "the same interface twice";
+    if (fault != NULL)
+        print(&router->errors, "%s: %s: %s\n", router->name, word, fault);
+    return fault == NULL;
 }
 
 static int is_there(const struct interface *interface)
@@ -120,16 +131,16 @@ void count_missed(struct interface *interface)
         interface->missed += stats.tp_drops;
 }
 
-void check_interface(const char *program, struct interface *interface)
+void check_interface(struct router *router, struct interface *interface)
 {
     if (interface->device >= 0 && !is_there(interface)) {
         close(interface->device);
         interface->device = -1;
-        fprintf(stderr, "%s: %s: the device is gone\n", program, interface->name);
+        print(&router->errors, "%s: %s: the device is gone\n", router->name, interface->name);
     } else if (interface->device >= 0) {
         read_settings(interface);
-    } else if (if_nametoindex(interface->name) != 0 && open_device(interface)) {
-        fprintf(stderr, "%s: %s: the device is back\n", program, interface->name);
+    } else if (if_nametoindex(interface->name) != 0 && open_device(interface) == NULL) {
+        print(&router->errors, "%s: %s: the device is back\n", router->name, interface->name);
     }
 }
 

@@ -1,8 +1,6 @@
 /* The way of a packet through a router (RFC 1812, section 5.2.1). */
+#define _GNU_SOURCE
 #include "router.h"
-
-#include <stdio.h>
-#include <string.h>
 
 /* The longest IP header and 8 bytes, with the Ethernet header before them. Nothing after them is parsed, so no
  * payload is summed. */
@@ -10,24 +8,18 @@ enum { LONGEST_HEADERS = ETHERNET_LEN + 60 + 8 };
 
 static const uint8_t no_hardware[6];
 
-void drop(struct router *router, enum drop why)
+void drop(struct router *router, int why)
 {
     router->drops[why]++;
 }
 
-static void reject(struct router *router, int rejection)
-{
-    router->rejections[rejection]++;
-}
-
-static int is_link_local(const struct lk_addr *addr)
+int is_link_local(const struct lk_addr *addr)
 {
     const uint8_t *octets = addr->octets;
     return addr->version == 4 ? octets[0] == 169 && octets[1] == 254 : octets[0] == 0xfe && (octets[1] & 0xc0) == 0x80;
 }
 
-/* An address to which no router forwards (RFC 1812, section 5.3.7; RFC 4291, section 2.5). */
-static int is_reserved(const struct lk_addr *addr)
+int is_reserved(const struct lk_addr *addr)
 {
     static const uint8_t zeros[15];
     const uint8_t *octets = addr->octets;
@@ -54,11 +46,12 @@ static int may_pass(struct router *router, uint16_t from, const struct lk_frame 
     } else if (is_reserved(&in->dst.addr)) {
         drop(router, RESERVED);
     } else {
-        int rejection = lk_check_source(router->routes, router->route_count, router->nodes, router->route_count,
+        const struct config *config = &router->config;
+        int rejection = lk_check_source(config->routes, config->route_count, config->nodes, config->route_count,
                                         &in->src.addr, from);
         if (rejection == LK_NOT_REJECTED || (router->takes_any_way && rejection != LK_MARTIAN))
             return 1;
-        reject(router, rejection);
+        drop(router, rejection);
     }
     return 0;
 }
@@ -118,7 +111,7 @@ static void send_by(struct router *router, uint16_t from, const struct lk_route 
     else if (rejection == LK_NOT_REJECTED && router->before_send != NULL)
         rejection = router->before_send(router, from, route->interface, packet);
     if (rejection != LK_NOT_REJECTED) {
-        reject(router, rejection);
+        drop(router, rejection);
         return;
     }
     clamp(&router->interfaces[from], packet);
@@ -131,15 +124,15 @@ static void send_by(struct router *router, uint16_t from, const struct lk_route 
 
 void send_on(struct router *router, uint16_t from, struct packet *packet, const struct lk_addr *dst)
 {
-    ptrdiff_t place = lk_choose_route(router->nodes, router->route_count, dst);
-    int to = place < 0 ? -1 : router->routes[place].interface;
+    ptrdiff_t place = lk_choose_route(router->config.nodes, router->config.route_count, dst);
+    int to = place < 0 ? -1 : router->config.routes[place].interface;
     if (to < 0) {
         drop(router, NO_WAY);
         send_error(router, from, LK_ROUTE_MISSING, packet, 0);
     } else if (to == TO_BROADCAST) {
         drop(router, GROUP);
     } else if (to != TO_ROUTER) {
-        send_by(router, from, &router->routes[place], packet, dst);
+        send_by(router, from, &router->config.routes[place], packet, dst);
     } else if (answer(router, from, dst, packet)) {
         router->answered++;
     } else {
@@ -164,9 +157,9 @@ void on_frame(struct router *router, uint16_t from, struct packet *packet)
         if (reason == LK_READ)
             on_arp(router, from, &in, packet);
     } else if (in.network == LK_NO_NETWORK) {
-        reject(router, is_ip_type(in.ethernet.type) ? LK_BAD_HEADER : LK_NOT_IP);
+        drop(router, is_ip_type(in.ethernet.type) ? LK_BAD_HEADER : LK_NOT_IP);
     } else if (in.ipv4_checksum == LK_WRONG) {
-        reject(router, LK_WRONG_CHECKSUM);
+        drop(router, LK_WRONG_CHECKSUM);
     } else if (in.network == LK_IPV6 && in.transport == LK_ICMP && on_ndisc(router, from, &in, packet)) {
         router->ndisc++;
     } else if (may_pass(router, from, &in)) {
@@ -176,34 +169,36 @@ void on_frame(struct router *router, uint16_t from, struct packet *packet)
         if (router->before_route != NULL)
             rejection = router->before_route(router, from, &in, packet, &dst);
         if (rejection != LK_NOT_REJECTED)
-            reject(router, rejection);
+            drop(router, rejection);
         else
             send_on(router, from, packet, &dst);
     }
 }
 
+static const char *name_of(int why)
+{
+    static const char *const names[] = {
+        "other link address", "VLAN tag", "group or broadcast", "link-local",   "reserved address", "for the router",
+        "no route",           "too long", "unfragmented",       "no neighbour", "above the limit of mappings",
+    };
+    return why < OTHER_LINK ? lk_rejection_name(why) : names[why - OTHER_LINK];
+}
+
 void print_counts(struct router *router)
 {
-    static const char *const names[DROPS] = {
-        "other link address", "VLAN tag", "group or broadcast", "link-local",  "reserved address",
-        "for the router",     "no route", "too long",           "unfragmented", "no neighbour",
-    };
-    printf("frames %lu, forwarded %lu, answered %lu, ARP %lu, ND %lu\n", router->frames, router->forwarded,
-           router->answered, router->arp, router->ndisc);
+    struct output *out = &router->out;
+    print(out, "frames %lu, forwarded %lu, answered %lu, ARP %lu, ND %lu\n", router->frames, router->forwarded,
+          router->answered, router->arp, router->ndisc);
     if (router->withheld != 0)
-        printf("ICMP errors above the limit %lu\n", router->withheld);
+        print(out, "ICMP errors above the limit %lu\n", router->withheld);
     if (router->untold != 0)
-        printf("dropped without an ICMP error %lu\n", router->untold);
+        print(out, "dropped without an ICMP error %lu\n", router->untold);
     for (int why = 0; why < DROPS; why++)
         if (router->drops[why] != 0)
-            printf("dropped: %s %lu\n", names[why], router->drops[why]);
-    for (int why = 0; why < REJECTIONS; why++)
-        if (router->rejections[why] != 0)
-            printf("dropped: %s %lu\n", lk_rejection_name(why), router->rejections[why]);
+            print(out, "dropped: %s %lu\n", name_of(why), router->drops[why]);
     for (struct interface *one = router->interfaces; one < router->interfaces + router->interface_count; one++) {
         count_missed(one);
-        printf("%s: received %lu, sent %lu, lost %lu, missed %lu%s\n", one->name, one->received, one->sent, one->lost,
-               one->missed, one->device < 0 ? ", gone" : "");
+        print(out, "%s: received %lu, sent %lu, lost %lu, missed %lu%s\n", one->name, one->received, one->sent,
+              one->lost, one->missed, one->device < 0 ? ", gone" : "");
     }
-    fflush(stdout);
 }

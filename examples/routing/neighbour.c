@@ -1,9 +1,9 @@
 /* The neighbour cache: ARP (RFC 826) with the rules of RFC 1122, section 2.3.2, and neighbour discovery (RFC 4861,
  * section 7.2). */
+#define _GNU_SOURCE
 #include "router.h"
 
 #include <stdlib.h>
-#include <string.h>
 #include <sys/random.h>
 
 enum { ARP_REQUEST = 1 };
@@ -33,7 +33,7 @@ struct neighbour {
     struct lk_addr addr;
     uint16_t interface;
     uint8_t hardware[6];
-    enum { FREE, ASKED, KNOWN, FIXED } state;
+    enum { FREE, ASKED, KNOWN } state;
     int requests;         /* since the last reply */
     int64_t asked_at;
     int64_t confirmed_at;
@@ -108,42 +108,39 @@ static void give_up(struct router *router, struct neighbour *neighbour)
 }
 
 /* The place of a set for a new neighbour: a free one, or that of the neighbour which was not heard of for longest,
- * first of those that never replied. Null: all are in the file. */
+ * first of those that never replied. */
 static struct neighbour *place_in(struct neighbour *set)
 {
-    struct neighbour *place = NULL;
-    for (int way = 0; way < WAYS; way++) {
-        struct neighbour *one = &set[way];
-        if (one->state != FIXED
-            && (place == NULL || one->state < place->state
-                || (one->state == place->state && one->confirmed_at < place->confirmed_at)))
+    struct neighbour *place = set;
+    for (struct neighbour *one = set; one < set + WAYS; one++)
+        if (one->state < place->state || (one->state == place->state && one->confirmed_at < place->confirmed_at))
             place = one;
-    }
     return place;
 }
 
 static struct neighbour *add(struct router *router, uint16_t interface, const struct lk_addr *addr)
 {
     struct neighbour *place = place_in(set_of(router->neighbours, interface, addr));
-    if (place == NULL)
-        return NULL;
     give_up(router, place);
     *place = (struct neighbour){.addr = *addr, .interface = interface, .state = ASKED, .confirmed_at = router->now,
                                 .asked_at = router->now - BETWEEN_REQUESTS, .end = &place->first};
     return place;
 }
 
-int add_neighbour(struct neighbours *neighbours, uint16_t interface, const struct lk_addr *addr,
-                  const uint8_t *hardware)
+int compare_fixed(const void *a, const void *b)
 {
-    struct neighbour *place = find(neighbours, interface, addr);
-    if (place == NULL)
-        place = place_in(set_of(neighbours, interface, addr));
-    if (place == NULL)
-        return 0;
-    *place = (struct neighbour){.addr = *addr, .interface = interface, .state = FIXED, .end = &place->first};
-    memcpy(place->hardware, hardware, 6);
-    return 1;
+    const struct fixed_neighbour *x = a, *y = b;
+    int order = (x->interface > y->interface) - (x->interface < y->interface);
+    return order != 0 ? order : memcmp(&x->addr, &y->addr, sizeof x->addr);
+}
+
+/* The Ethernet address that the file has for a neighbour, or null. */
+static const uint8_t *fixed_hardware(const struct config *config, uint16_t interface, const struct lk_addr *addr)
+{
+    struct fixed_neighbour wanted = {.addr = *addr, .interface = interface}, *found = NULL;
+    if (config->neighbour_count > 0)
+        found = bsearch(&wanted, config->neighbours, config->neighbour_count, sizeof wanted, compare_fixed);
+    return found != NULL ? found->hardware : NULL;
 }
 
 /* ---- sending ---- */
@@ -152,8 +149,8 @@ int add_neighbour(struct neighbours *neighbours, uint16_t interface, const struc
 static const struct lk_addr *own_address(const struct router *router, uint16_t interface, const struct lk_addr *addr)
 {
     const struct lk_addr *any = NULL;
-    for (size_t i = 0; i < router->address_count; i++) {
-        const struct address *own = &router->addresses[i];
+    for (size_t i = 0; i < router->config.address_count; i++) {
+        const struct address *own = &router->config.addresses[i];
         if (own->interface != interface || own->block.addr.version != addr->version)
             continue;
         any = &own->block.addr;
@@ -231,6 +228,9 @@ static void hold(struct router *router, struct neighbour *neighbour, const struc
 
 const uint8_t *hardware_of(struct router *router, uint16_t interface, const struct lk_addr *addr)
 {
+    const uint8_t *fixed = fixed_hardware(&router->config, interface, addr);
+    if (fixed != NULL)
+        return fixed;
     struct neighbour *neighbour = find(router->neighbours, interface, addr);
     if (neighbour == NULL || neighbour->state == ASKED)
         return NULL;
@@ -252,10 +252,6 @@ void wait_for_neighbour(struct router *router, uint16_t to, const struct lk_addr
     struct neighbour *neighbour = find(router->neighbours, to, addr);
     if (neighbour == NULL)
         neighbour = add(router, to, addr);
-    if (neighbour == NULL) {
-        drop(router, NO_NEIGHBOUR);
-        return;
-    }
     hold(router, neighbour, packet, dst, from);
     ask(router, neighbour);
 }
@@ -300,8 +296,8 @@ static void learn(struct router *router, struct neighbour *neighbour, const uint
 static const struct address *address_with(const struct router *router, uint16_t interface, const struct lk_addr *addr,
                                           int is_own)
 {
-    for (size_t i = 0; i < router->address_count; i++) {
-        const struct address *one = &router->addresses[i];
+    for (size_t i = 0; i < router->config.address_count; i++) {
+        const struct address *one = &router->config.addresses[i];
         if (one->interface == interface
             && (is_own ? memcmp(&one->block.addr, addr, sizeof *addr) == 0 : lk_contains(&one->block, addr)))
             return one;
@@ -318,7 +314,7 @@ static void hear(struct router *router, uint16_t from, const struct lk_addr *add
                   && (neighbour != NULL || address_with(router, from, addr, 0) != NULL);
     if (neighbour == NULL && is_for_us && is_host)
         neighbour = add(router, from, addr);
-    if (neighbour != NULL && neighbour->state != FIXED && is_host)
+    if (neighbour != NULL && is_host)
         learn(router, neighbour, hardware, is_confirmed);
 }
 
@@ -335,7 +331,7 @@ void on_arp(struct router *router, uint16_t from, const struct lk_frame *in, str
 static void on_advert(struct router *router, uint16_t from, const struct lk_ndisc *advert)
 {
     struct neighbour *neighbour = find(router->neighbours, from, &advert->target);
-    if (neighbour == NULL || neighbour->state == FIXED || (advert->has_hardware && (advert->hardware[0] & 1)))
+    if (neighbour == NULL || (advert->has_hardware && (advert->hardware[0] & 1)))
         return;
     const uint8_t *hardware = advert->has_hardware ? advert->hardware : neighbour->hardware;
     int is_other = memcmp(hardware, neighbour->hardware, 6) != 0;

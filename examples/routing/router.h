@@ -3,6 +3,7 @@
 #define ROUTER_H
 
 #include "../error_limit.h"
+#include "../process.h"
 
 #include <ip_wire.h>
 #include <linux/virtio_net.h>
@@ -41,53 +42,80 @@ struct address {
     uint16_t interface;
 };
 
+/* A neighbour that is never asked for its Ethernet address. */
+struct fixed_neighbour {
+    struct lk_addr addr;
+    uint16_t interface;
+    uint8_t hardware[6];
+    unsigned long line; /* of the file */
+};
+
+/* What the file says of an interface. */
+struct setting {
+    int clamps;
+    int has_hardware;
+    uint8_t hardware[6];
+};
+
+/* What the file says. */
+struct config {
+    struct address *addresses;
+    size_t address_count;
+    struct lk_route *routes; /* those of the addresses, then those of the file */
+    struct lk_route_node *nodes;
+    size_t route_count;
+    struct fixed_neighbour *neighbours; /* by compare_fixed */
+    size_t neighbour_count;
+    struct setting *settings; /* of each interface */
+};
+
 /* Numbers of routes that lead to no interface: the router's own addresses, and directed broadcasts. */
 enum { TO_ROUTER = 65535, TO_BROADCAST = 65534, MOST_INTERFACES = 65534 };
 
-/* Why a packet is dropped, beside the reasons of `lk_rejection`. */
+/* Why a packet is dropped, after the reasons of `lk_rejection`. */
 enum drop {
-    OTHER_LINK,   /* another Ethernet address */
-    TAGGED,       /* a VLAN tag */
-    GROUP,        /* for a group or a broadcast, or its Ethernet address is one */
-    LINK_LOCAL,   /* from or for a link-local address */
-    RESERVED,     /* for 0.0.0.0/8, 127.0.0.0/8, 240.0.0.0/4, ::, ::1 */
-    FOR_ROUTER,   /* for an address of the router, which does not answer */
-    NO_WAY,       /* no route */
-    TOO_LONG,     /* longer than the MTU of the next link */
-    UNFRAGMENTED, /* the same, but it may be fragmented, so that its sender is not told */
-    NO_NEIGHBOUR, /* the next hop does not reply to ARP or neighbour solicitations */
+    OTHER_LINK = LK_OTHER_INTERFACE + 1, /* another Ethernet address */
+    TAGGED,                              /* a VLAN tag */
+    GROUP,                               /* for a group or a broadcast, or its Ethernet address is one */
+    LINK_LOCAL,                          /* from or for a link-local address */
+    RESERVED,                            /* for an address of `is_reserved` */
+    FOR_ROUTER,                          /* for an address of the router, which does not answer */
+    NO_WAY,                              /* no route */
+    TOO_LONG,                            /* longer than the MTU of the next link */
+    UNFRAGMENTED,                        /* the same, but it may be fragmented, so that its sender is not told */
+    NO_NEIGHBOUR,                        /* the next hop does not reply to ARP or neighbour solicitations */
+    ABOVE_LIMIT,                         /* it needs a mapping, and its sender has as many as it may have */
     DROPS
 };
 
-enum { REJECTIONS = LK_OTHER_INTERFACE + 1 };
-
 struct router {
-    const char *name;             /* of the program */
+    const char *name; /* of the program */
+    const char *path; /* of the file */
+    struct output out, errors;
     struct interface *interfaces;
     size_t interface_count;
-    struct address *addresses;
-    size_t address_count;
-    struct lk_route *routes;
-    struct lk_route_node *nodes;
-    size_t route_count;
+    struct config config;
     struct neighbours *neighbours;
-    int64_t now;                  /* in milliseconds */
-    int takes_any_way;            /* a packet may come from elsewhere than the route back to its source leads */
+    int64_t now;       /* in milliseconds */
+    int takes_any_way; /* a packet may come from elsewhere than the route back to its source leads */
     unsigned long frames, forwarded, answered, arp, ndisc;
     unsigned long withheld; /* ICMP errors above the limit */
     unsigned long untold;   /* packets that are dropped, but may get no ICMP error */
-    unsigned long drops[DROPS], rejections[REJECTIONS];
-    /* Steps of a NAT; null: none. Each returns an lk_rejection. `in` is the packet as it was read. */
+    unsigned long drops[DROPS];
+    /* Steps of a NAT; null: none. Each returns why the packet is dropped, or LK_NOT_REJECTED. `in` is the packet as it
+     * was read. */
     int (*before_route)(struct router *router, uint16_t from, const struct lk_frame *in, struct packet *packet,
                         struct lk_addr *dst);
     int (*before_send)(struct router *router, uint16_t from, uint16_t to, struct packet *packet);
     int (*before_error)(struct router *router, uint16_t to, struct packet *error);
+    /* Takes a file that is right otherwise. Returns what is wrong with it, or null. */
+    const char *(*on_config)(const struct router *router, const struct config *config);
 };
 
 /* ---- device.c ---- */
 
 /* Reads "tap:NAME" or "packet:NAME", and opens it. Returns 0 if that fails, with a message. */
-int open_interface(const char *program, const char *word, struct interface *interface);
+int open_interface(struct router *router, const char *word, struct interface *interface);
 /* Reads at most FRAMES_AT_ONCE frames, and returns their number. */
 size_t receive(struct interface *interface, struct packet *packets);
 /* Keeps a packet for the next `flush`. Until then the packet must stay. */
@@ -97,7 +125,7 @@ void send_now(struct interface *interface, const struct virtio_net_hdr *offload,
 /* Fills a frame up to the shortest length of Ethernet, and returns its length. There must be room for it. */
 size_t pad(uint8_t *frame, size_t len);
 /* Looks whether the device is gone or has come back, and reads its MTU again. */
-void check_interface(const char *program, struct interface *interface);
+void check_interface(struct router *router, struct interface *interface);
 /* Adds to `missed` what the kernel has counted since the last call. */
 void count_missed(struct interface *interface);
 /* Computes the UDP or TCP checksum that the sender left to the device. */
@@ -110,9 +138,8 @@ void clamp(const struct interface *interface, struct packet *packet);
 /* ---- neighbour.c ---- */
 
 struct neighbours *make_neighbours(void);
-/* Returns 0 if there is no room. */
-int add_neighbour(struct neighbours *neighbours, uint16_t interface, const struct lk_addr *addr,
-                  const uint8_t *hardware);
+/* The order of fixed neighbours: by their interface and address. For qsort and bsearch. */
+int compare_fixed(const void *a, const void *b);
 /* Returns the Ethernet address of a neighbour, or null if it is not known. */
 const uint8_t *hardware_of(struct router *router, uint16_t interface, const struct lk_addr *addr);
 /* Keeps a copy of a packet for `dst` until the neighbour has replied. Then `send_on` gets the packet again. */
@@ -126,8 +153,9 @@ void ask_again(struct router *router);
 
 /* ---- config.c ---- */
 
-/* Reads the file with addresses, routes and neighbours. Returns 0 if that fails, with a message. */
-int read_config(struct router *router, const char *path);
+/* Reads the file with addresses, routes and neighbours, at the start or again. Returns 0 if that fails, with a message.
+ * Then the router keeps what it has. */
+int read_config(struct router *router, int is_again);
 
 /* ---- forward.c ---- */
 
@@ -135,7 +163,12 @@ int read_config(struct router *router, const char *path);
 void on_frame(struct router *router, uint16_t from, struct packet *packet);
 /* The rest of the way of a packet, from the choice of a route on. */
 void send_on(struct router *router, uint16_t from, struct packet *packet, const struct lk_addr *dst);
-void drop(struct router *router, enum drop why);
+/* Counts a packet that is dropped: `why` is an `lk_rejection` or a `drop`. */
+void drop(struct router *router, int why);
+int is_link_local(const struct lk_addr *addr);
+/* 0.0.0.0/8, 127.0.0.0/8, 240.0.0.0/4, ::, ::1: to these no router forwards (RFC 1812, section 5.3.7; RFC 4291, section
+ * 2.5). */
+int is_reserved(const struct lk_addr *addr);
 void print_counts(struct router *router);
 
 /* ---- answer.c ---- */
@@ -151,8 +184,16 @@ void send_error(struct router *router, uint16_t from, enum lk_problem problem, s
 /* ---- serve.c ---- */
 
 /* Opens the interfaces, and reads the file. Returns 0 if that fails, with a message. */
-int start(struct router *router, const char *config, char **words, size_t count);
+int start(struct router *router, const char *path, char **words, size_t count);
 /* Forwards until SIGTERM or SIGINT. Returns the status of the program. */
 int serve(struct router *router);
+
+/* ---- limit.c ---- */
+
+/* Makes a limit of `most` live mappings for each inside address, in a table of `count`. Null: out of memory. */
+struct limit *make_limit(size_t most, size_t count);
+/* Counts the mapping at `place` if lk_translate_out has opened it. Returns 0, and frees it, if its inside address has
+ * too many. */
+int is_within_limit(struct limit *limit, struct lk_mapping *mappings, size_t place, uint64_t now);
 
 #endif

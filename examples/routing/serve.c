@@ -2,63 +2,47 @@
 #define _GNU_SOURCE
 #include "router.h"
 
-#include <poll.h>
-#include <signal.h>
-#include <stdio.h>
+#include <errno.h>
 #include <stdlib.h>
-#include <sys/signalfd.h>
-#include <time.h>
-#include <unistd.h>
 
 enum { BETWEEN_CHECKS = 1000 }; /* in milliseconds */
 
-static int64_t milliseconds(void)
+int start(struct router *router, const char *path, char **words, size_t count)
 {
-    struct timespec now;
-    clock_gettime(CLOCK_MONOTONIC, &now);
-    return (int64_t)now.tv_sec * 1000 + now.tv_nsec / 1000000;
-}
-
-/* SIGINT, SIGTERM and SIGUSR1 are read from the file that this returns. */
-static int open_signals(void)
-{
-    sigset_t wanted;
-    sigemptyset(&wanted);
-    sigaddset(&wanted, SIGINT);
-    sigaddset(&wanted, SIGTERM);
-    sigaddset(&wanted, SIGUSR1);
-    sigprocmask(SIG_BLOCK, &wanted, NULL);
-    return signalfd(-1, &wanted, SFD_CLOEXEC | SFD_NONBLOCK);
-}
-
-int start(struct router *router, const char *config, char **words, size_t count)
-{
+    signal(SIGHUP, SIG_IGN); /* until `serve` reads them */
+    signal(SIGUSR1, SIG_IGN);
+    router->out = open_output(STDOUT_FILENO);
+    router->errors = open_output(STDERR_FILENO);
+    router->path = path;
+    router->now = milliseconds();
     if (!lk_cpu_supported()) {
-        fprintf(stderr, "%s: the processor has no SSE4.2 or no POPCNT\n", router->name);
+        print(&router->errors, "%s: the processor has no SSE4.2 or no POPCNT\n", router->name);
         return 0;
     }
-    router->now = milliseconds();
+    if (count > MOST_INTERFACES) {
+        print(&router->errors, "%s: more than %d interfaces\n", router->name, MOST_INTERFACES);
+        return 0;
+    }
     router->neighbours = make_neighbours();
-    router->interfaces = count > 0 && count <= MOST_INTERFACES ? calloc(count, sizeof *router->interfaces) : NULL;
+    router->interfaces = calloc(count, sizeof *router->interfaces);
     if (router->neighbours == NULL || router->interfaces == NULL) {
-        fprintf(stderr, "%s: out of memory\n", router->name);
+        print(&router->errors, "%s: out of memory\n", router->name);
         return 0;
     }
     for (; router->interface_count < count; router->interface_count++)
-        if (!open_interface(router->name, words[router->interface_count], &router->interfaces[router->interface_count]))
+        if (!open_interface(router, words[router->interface_count], &router->interfaces[router->interface_count]))
             return 0;
-    return read_config(router, config);
+    return read_config(router, 0);
 }
 
-static void print_interfaces(const struct router *router)
+static void print_interfaces(struct router *router)
 {
-    printf("ready\n");
+    print(&router->out, "ready\n");
     for (const struct interface *one = router->interfaces; one < router->interfaces + router->interface_count; one++) {
         char hardware[LK_ETHERNET_TEXT];
         lk_print_ethernet(one->own.hardware, hardware, sizeof hardware);
-        printf("%s: %s, MTU %zu\n", one->name, hardware, one->mtu);
+        print(&router->out, "%s: %s, MTU %zu\n", one->name, hardware, one->mtu);
     }
-    fflush(stdout);
 }
 
 /* Returns 0 if the program is to end. */
@@ -66,9 +50,12 @@ static int take_signals(struct router *router, int signals)
 {
     struct signalfd_siginfo signal;
     while (read(signals, &signal, sizeof signal) == sizeof signal) {
-        if (signal.ssi_signo != SIGUSR1)
+        if (signal.ssi_signo == SIGUSR1)
+            print_counts(router);
+        else if (signal.ssi_signo != SIGHUP)
             return 0;
-        print_counts(router);
+        else if (read_config(router, 1))
+            print(&router->errors, "%s: %s: read again\n", router->name, router->path);
     }
     return 1;
 }
@@ -88,18 +75,19 @@ static void take_frames(struct router *router, uint16_t from)
 static void check_interfaces(struct router *router, struct pollfd *files)
 {
     for (size_t i = 0; i < router->interface_count; i++) {
-        check_interface(router->name, &router->interfaces[i]);
+        check_interface(router, &router->interfaces[i]);
         files[i] = (struct pollfd){.fd = router->interfaces[i].device, .events = POLLIN};
     }
 }
 
 int serve(struct router *router)
 {
+    static const int others[] = {SIGUSR1, SIGHUP, 0};
     size_t count = router->interface_count;
     struct pollfd *files = calloc(count + 1, sizeof *files);
-    int signals = open_signals();
+    int signals = open_signals(others);
     if (files == NULL || signals < 0) {
-        perror(router->name);
+        print(&router->errors, "%s: %s\n", router->name, strerror(errno));
         return 1;
     }
     print_interfaces(router);

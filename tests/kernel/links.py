@@ -70,30 +70,41 @@ class Here(Namespace):
 
 
 class Program:
-    """A router or NAT that runs in a namespace, on these interfaces."""
+    """A router or NAT that runs in a namespace, on these interfaces. `wrap` is a command that runs it."""
 
-    def __init__(self, namespace, program, config, interfaces, options=(), env=None):
+    def __init__(self, namespace, program, config, interfaces, options=(), env=None, wrap=()):
         self.last, self.errors = interfaces[-1].split(":")[1], f"{program}.err"
         self.config = f"{program}.config"
-        with open(self.config, "w", encoding="ascii") as file:
-            file.write(config)
-        command = ["nsenter", "--target", namespace.process, "--net", program, *options, self.config, *interfaces]
+        self.write(config)
+        command = ["nsenter", "--target", namespace.process, "--net", *wrap, program, *options, self.config, *interfaces]
         with open(self.errors, "w", encoding="ascii") as errors:
             self.process = subprocess.Popen(command, stdout=subprocess.PIPE, stderr=errors, text=True, env=env)
         if self.process.stdout.readline() != "ready\n":
             sys.exit(f"tests/kernel: {program} does not start: {self.messages()}")
         self.read_lines()
 
+    def write(self, config):
+        self.text = config
+        with open(self.config, "w", encoding="ascii") as file:
+            file.write(config)
+
+    def has_again(self, config):
+        """It reads its file again, which has another text."""
+        self.write(config)
+        self.process.send_signal(signal.SIGHUP)
+
     def messages(self):
         with open(self.errors, encoding="ascii") as errors:
             return errors.read()
 
-    def waits_for(self, message):
-        """Whether it prints this message within 5 s."""
+    def waits_for(self, message, lines=0):
+        """Whether it prints this message within 5 s, after so many lines."""
         end = time.monotonic() + LATEST
-        while message not in self.messages() and time.monotonic() < end:
+        while True:
+            found = message in "\n".join(self.messages().split("\n")[lines:])
+            if found or time.monotonic() > end:
+                return found
             time.sleep(0.02)
-        return message in self.messages()
 
     def read_lines(self):
         """The lines up to that of the last interface."""

@@ -9,7 +9,6 @@ were right. The status is 1 if one was wrong, or if a kernel counted an error.
 """
 import ipaddress
 import socket
-import subprocess
 import sys
 import time
 
@@ -17,7 +16,6 @@ import icmp
 import packets
 from dice import ANY as random
 from forwarded import SYN, TCP, Packet, Router, is_valid
-from bridge import in_namespace
 from client import check, echoed, report, tcp_at_once, tcp_turns, udp_lengths, wrong
 from links import (ELSEWHERE, LATEST, MTU_DISCOVER, PMTUDISC_INTERFACE, PMTUDISC_PROBE, READS_MTU, SELF, Here, Namespace, Program, WideSide,
                    no_errors, ping, settle, udp_echo)
@@ -294,33 +292,6 @@ def arp_replies(sides):
         compare_lists("ARP", expected, [frame for frame in side.came_out if frame[12:14] == ARP])
 
 
-def many_routes(room, program):
-    """The longest prefix of 10,000 routes, half of which lead back to the left."""
-    routes = {}
-    while len(routes) < 10_000:
-        length = random.choice((8, 12, 16, 20, 24, 24, 24, 28, 32))
-        number = random.randrange(0x0B << 24, 0x40 << 24) >> 32 - length << 32 - length
-        routes[f"{ipaddress.ip_address(number)}/{length}"] = random.choice((("10.1.0.9", "left"), ("10.2.0.9", "right")))
-    lines = "".join(f"route {block} via {hop} dev {name}\n" for block, (hop, name) in routes.items())
-    there = Namespace()
-    router = start_on_taps(room, there, program, OF_TAPS + lines)
-    model = Router(HARDWARE, ADDRESSES, [(block, ELSEWHERE, name) for block, (_, name) in routes.items()], {})
-    sides, source = {"left": WideSide(SELF, "left"), "right": WideSide(there.process, "right")}, bytes([10, 1, 0, 2])
-    blocks = random.sample(list(routes), 1000)
-    for _ in range(10):
-        addresses = [(random.choice(blocks), random.randrange(0x0B << 24, 0x40 << 24)) for _ in range(AT_ONCE)]
-        chunk = [packets.packet(b"", src=source, dst=packed_in(block, number)) for block, number in addresses]
-        send_chunk(sides, "left", [HARDWARE["left"] + HOSTS["left"] + frame[12:] for frame in chunk], model, [])
-    router.ends("with many routes")
-
-
-def packed_in(block, number):
-    """An address of the block, mostly, else any one."""
-    block = ipaddress.ip_network(block)
-    inside = int(block[0]) | number & int(block.hostmask)
-    return (inside if number % 4 else number).to_bytes(4, "big")
-
-
 def three_interfaces(room, program):
     """Packets from each of three interfaces to each of them."""
     there, hardware = Namespace(), {**HARDWARE, "third": bytes.fromhex("02000000aa03")}
@@ -342,38 +313,8 @@ def three_interfaces(room, program):
     router.ends("with three interfaces")
 
 
-BAD_LINES = (
-    ("address 10.1.0.1 dev left", "not an address with a prefix length"),
-    ("route 10.1.0.0/33 dev left", "not a block"),
-    ("route 10.0.0.0/8 via fd01::9 dev left", "not the address of a next hop"),
-    ("neighbour 10.1.0.2 lladdr 02:00 dev left", "not an address and an Ethernet address"),
-    ("lladdr 01:00:00:00:00:01 dev left", "not an Ethernet address of a host"),
-    ("address 10.1.0.1/24 dev middle", "no such interface"),
-    ("address 10.1.0.1/24", "the line does not end in: dev NAME"),
-    ("gateway 10.1.0.1 dev left", "not a line of this file"),
-    ("route 10.0.0.0/8 by 10.1.0.9 dev left", "not a line of this file"),
-    ("clamp 1400 dev left", "not a line of this file"),
-    ("# " + 600 * "x", "the line is too long"),
-    (" ".join("x" * 9), "too many words"),
-)
-
-
-def bad_files(room, program):
-    """A line that is wrong ends the program, with a message."""
-    for line, message in BAD_LINES:
-        with open(f"{program}.bad", "w", encoding="ascii") as file:
-            file.write(f"# a comment\n\naddress 10.1.0.1/24 dev left\n{line}\n")
-        got = in_namespace(room.process, program, f"{program}.bad", "tap:left", stderr=subprocess.PIPE).communicate()[1]
-        check("a wrong line", got == f"router: {program}.bad:4: {message}\n", (line, got))
-    for word in ("left", "tap:", "veth:left", "packet:left", "tap:" + 16 * "x"):
-        got = in_namespace(room.process, program, f"{program}.bad", word, stderr=subprocess.PIPE).communicate()[1]
-        check("a wrong interface", got.startswith(f"router: {word}: ") and got.count("\n") == 1, (word, got))
-
-
 def on_taps(program):
     room, there = Namespace(), Namespace()
-    bad_files(room, program)
-    many_routes(room, program)
     three_interfaces(room, program)
     router = start_on_taps(room, there, program)
     server = there.serve(*(address for _, address in SERVERS))

@@ -1,0 +1,7 @@
+module quick
+
+go 1.19
+
+require lerkvist.example/ipwire v0.3.0
+
+replace lerkvist.example/ipwire => ../../bindings/go
