@@ -7,19 +7,22 @@ use core::fmt;
 use core::net::{IpAddr, Ipv4Addr, Ipv6Addr, SocketAddr};
 use core::str::{from_utf8, FromStr};
 
-impl From<IpAddr> for sys::Addr {
-    fn from(addr: IpAddr) -> Self {
+impl<A: Into<IpAddr>> From<A> for sys::Addr {
+    fn from(addr: A) -> Self {
         let mut octets = [0; 16];
-        match addr {
-            IpAddr::V4(addr) => octets[..4].copy_from_slice(&addr.octets()),
-            IpAddr::V6(addr) => octets = addr.octets(),
+        match addr.into() {
+            IpAddr::V4(addr) => {
+                octets[..4].copy_from_slice(&addr.octets());
+                Self { octets, version: 4 }
+            }
+            IpAddr::V6(addr) => Self { octets: addr.octets(), version: 6 },
         }
-        Self { octets, version: if addr.is_ipv4() { 4 } else { 6 } }
     }
 }
 
-impl From<SocketAddr> for sys::Endpoint {
-    fn from(endpoint: SocketAddr) -> Self {
+impl<E: Into<SocketAddr>> From<E> for sys::Endpoint {
+    fn from(endpoint: E) -> Self {
+        let endpoint = endpoint.into();
         Self { addr: endpoint.ip().into(), port: endpoint.port() }
     }
 }
@@ -37,6 +40,11 @@ impl sys::Addr {
 }
 
 impl sys::Endpoint {
+    /// The address with port 0.
+    pub fn of_addr(addr: impl Into<IpAddr>) -> Self {
+        Self { addr: addr.into().into(), port: 0 }
+    }
+
     /// The address with its port, if there is one.
     pub fn socket_addr(&self) -> Option<SocketAddr> {
         Some(SocketAddr::new(self.addr.ip()?, self.port))
@@ -77,6 +85,10 @@ fn print(f: &mut fmt::Formatter<'_>, call: impl FnOnce(Library, *mut c_char, usi
 
 /// Parses an IPv4 or IPv6 address. Other than by `core`, leading zeros are accepted and are decimal.
 ///
+/// # Errors
+///
+/// [`ParseError`] if the text is no address, or has more than an address, such as a scope.
+///
 /// ```
 /// assert_eq!(ip_wire::parse_addr("192.0.2.010").unwrap().to_string(), "192.0.2.10");
 /// assert!(ip_wire::parse_addr("fe80::1%eth0").is_err());
@@ -88,6 +100,10 @@ pub fn parse_addr(text: &str) -> Result<IpAddr, ParseError> {
 }
 
 /// Parses an address, ':' and a port, with an IPv6 address in brackets; or an address by itself, with port 0.
+///
+/// # Errors
+///
+/// [`ParseError`] if the text is neither, or the port is above 65535.
 ///
 /// ```
 /// assert_eq!(ip_wire::parse_endpoint("[2001:db8::1]:53").unwrap().port(), 53);
@@ -101,6 +117,7 @@ pub fn parse_endpoint(text: &str) -> Result<SocketAddr, ParseError> {
 }
 
 /// Whether the address is neither multicast, nor unspecified (0.0.0.0, ::), nor 255.255.255.255.
+#[must_use]
 pub fn is_unicast(addr: IpAddr) -> bool {
     // SAFETY: the call reads only the address.
     unsafe { library().lk_is_unicast(&addr.into()) != 0 }
@@ -159,7 +176,11 @@ pub struct Block {
 }
 
 impl Block {
-    /// Fails with [`Error::BadPrefix`] if the prefix is longer than the address.
+    /// The block of this address and prefix length.
+    ///
+    /// # Errors
+    ///
+    /// [`Error::BadPrefix`] if the prefix is longer than the address.
     pub fn new(addr: IpAddr, prefix_len: u8) -> Result<Self, Error> {
         let most = if addr.is_ipv4() { 32 } else { 128 };
         if prefix_len > most {
@@ -169,23 +190,40 @@ impl Block {
     }
 
     /// The address, with all its bits.
+    #[must_use]
     pub fn addr(&self) -> IpAddr {
         self.addr
     }
 
     /// At most 32 for IPv4, 128 for IPv6.
+    #[must_use]
     pub fn prefix_len(&self) -> u8 {
         self.prefix_len
     }
 
     /// Whether the address is in the block. No address is in a block of the other version.
+    #[must_use]
     pub fn contains(&self, addr: IpAddr) -> bool {
         // SAFETY: the call reads only both values.
-        unsafe { library().lk_contains(&self.to_c(), &addr.into()) != 0 }
+        unsafe { library().lk_contains(&(*self).into(), &addr.into()) != 0 }
+    }
+}
+
+impl From<Block> for sys::Block {
+    fn from(block: Block) -> Self {
+        Self { addr: block.addr.into(), prefix_len: block.prefix_len.into() }
+    }
+}
+
+impl sys::Block {
+    /// The block, if it has an address and its prefix is not too long.
+    pub fn block(&self) -> Option<Block> {
+        Block::new(self.addr.ip()?, self.prefix_len.try_into().ok()?).ok()
     }
 
-    fn to_c(self) -> sys::Block {
-        sys::Block { addr: self.addr.into(), prefix_len: self.prefix_len.into() }
+    /// The block of a value that was made from one.
+    pub fn valid(&self) -> Block {
+        self.block().expect("an address and its prefix")
     }
 }
 
@@ -204,14 +242,13 @@ impl FromStr for Block {
         // SAFETY: the text has `len` bytes, and only `block` is written.
         let block: sys::Block =
             parse(text, |c, ptr, len, block| unsafe { c.lk_parse_block(ptr, len, block) })?;
-        let prefix_len = block.prefix_len.try_into().map_err(|_| ParseError)?;
-        Self::new(block.addr.ip().ok_or(ParseError)?, prefix_len).map_err(|_| ParseError)
+        block.block().ok_or(ParseError)
     }
 }
 
 impl fmt::Display for Block {
     fn fmt(&self, f: &mut fmt::Formatter<'_>) -> fmt::Result {
         // SAFETY: the call reads only the block, and there are `cap` bytes at `out`.
-        print(f, |c, out, cap| unsafe { c.lk_print_block(&self.to_c(), out, cap) })
+        print(f, |c, out, cap| unsafe { c.lk_print_block(&(*self).into(), out, cap) })
     }
 }

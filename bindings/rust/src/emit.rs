@@ -2,33 +2,31 @@
 
 use crate::sys::{self, library, Library};
 use crate::{Arp, Error, Ethernet, Headers, Icmp, Tcp, TcpOptions};
-use core::net::IpAddr;
 
 /// Writes by a call that returns the length of what it wrote, or a failure.
 pub(crate) fn write(
     out: &mut [u8],
     call: impl FnOnce(Library, *mut u8, usize) -> isize,
 ) -> Result<&mut [u8], Error> {
-    let written = call(library(), out.as_mut_ptr(), out.len());
-    match usize::try_from(written) {
-        Ok(len) => Ok(&mut out[..len]),
-        Err(_) => Err(Error::of_failure(written)),
-    }
+    let len = Error::check(call(library(), out.as_mut_ptr(), out.len()))?;
+    Ok(&mut out[..len])
 }
 
 /// Each call returns the frame at the beginning of `out`. EtherType, protocol, lengths and checksums are
-/// filled in. After a failure `out` is unchanged:
-///
-/// - [`Error::TwoVersions`],
-/// - [`Error::NoPort`]: the destination port is 0, or the source port of TCP,
-/// - [`Error::NoHopLimit`],
-/// - [`Error::BadField`]: a field of `ip` has more bits than the header, or says that this is a fragment,
-/// - [`Error::TwoControls`], [`Error::OptionsTooLong`] and [`Error::PayloadTooLong`],
-/// - [`Error::NoRoom`].
+/// filled in. After a failure `out` is unchanged.
 ///
 /// The frame without its first 14 bytes is the packet, for example for a TUN device.
 impl Headers {
     /// Writes a whole frame with a UDP packet.
+    ///
+    /// # Errors
+    ///
+    /// - [`Error::TwoVersions`]
+    /// - [`Error::NoPort`]: the destination port is 0.
+    /// - [`Error::NoHopLimit`]
+    /// - [`Error::BadField`]: a field of `ip` has more bits than the header, or says that this is a fragment.
+    /// - [`Error::PayloadTooLong`]: more than 65507 bytes over IPv4, or 65527 over IPv6.
+    /// - [`Error::NoRoom`]
     ///
     /// ```
     /// use ip_wire::{Error, Ethernet, Headers, Ip};
@@ -51,6 +49,11 @@ impl Headers {
     }
 
     /// Writes a whole frame with a TCP segment.
+    ///
+    /// # Errors
+    ///
+    /// Those of [`Headers::emit_udp`], also [`Error::NoPort`] for a source port of 0. Header and payload have at most
+    /// 65515 bytes over IPv4, 65535 over IPv6. Also [`Error::TwoControls`] and [`Error::OptionsTooLong`].
     pub fn emit_tcp<'o>(
         &self,
         tcp: &Tcp,
@@ -66,6 +69,10 @@ impl Headers {
     }
 
     /// Writes a whole frame with an ICMP message. The ports are not used.
+    ///
+    /// # Errors
+    ///
+    /// Those of [`Headers::emit_udp`], but no [`Error::NoPort`].
     pub fn emit_icmp<'o>(
         &self,
         icmp: &Icmp,
@@ -80,16 +87,25 @@ impl Headers {
     }
 
     /// Where the payload of a UDP packet begins: at 42 over IPv4, at 62 over IPv6.
+    #[must_use]
     pub fn udp_payload_offset(&self) -> usize {
         self.transport_offset() + 8
     }
 
-    /// Where the payload of a TCP segment with these options begins. Fails with [`Error::OptionsTooLong`].
+    /// Where the payload of a TCP segment with these options begins.
+    ///
+    /// # Errors
+    ///
+    /// [`Error::OptionsTooLong`]
     pub fn tcp_payload_offset(&self, options: &TcpOptions) -> Result<usize, Error> {
         Ok(self.transport_offset() + options.header_len()?)
     }
 
     /// Writes the headers before a payload that is in `out` already, at [`Headers::udp_payload_offset`].
+    ///
+    /// # Errors
+    ///
+    /// Those of [`Headers::emit_udp`].
     ///
     /// ```
     /// # use ip_wire::{Ethernet, Headers, Ip};
@@ -109,6 +125,10 @@ impl Headers {
     }
 
     /// Writes the headers before a payload that is in `out` already, at [`Headers::tcp_payload_offset`].
+    ///
+    /// # Errors
+    ///
+    /// Those of [`Headers::emit_tcp`].
     pub fn wrap_tcp<'o>(
         &self,
         tcp: &Tcp,
@@ -135,7 +155,11 @@ impl Headers {
 }
 
 impl Arp {
-    /// Writes a whole frame of 42 bytes, with EtherType ARP. Fails with [`Error::NoRoom`].
+    /// Writes a whole frame of 42 bytes, with EtherType ARP.
+    ///
+    /// # Errors
+    ///
+    /// [`Error::NoRoom`]
     ///
     /// ```
     /// use ip_wire::{Arp, Ethernet, EthernetAddr, Frame};
@@ -153,16 +177,11 @@ impl Arp {
     /// assert_eq!(Frame::parse(frame).arp(), Some(arp));
     /// ```
     pub fn emit<'o>(&self, ethernet: &Ethernet, out: &'o mut [u8]) -> Result<&'o mut [u8], Error> {
-        let endpoint = |addr| sys::Endpoint { addr: IpAddr::V4(addr).into(), port: 0 };
         let fields = sys::Frame {
             ethernet: (*ethernet).into(),
-            arp: sys::Arp {
-                operation: self.operation,
-                src_hardware: self.src_hardware.0,
-                dst_hardware: self.dst_hardware.0,
-            },
-            src: endpoint(self.src),
-            dst: endpoint(self.dst),
+            arp: (*self).into(),
+            src: sys::Endpoint::of_addr(self.src),
+            dst: sys::Endpoint::of_addr(self.dst),
             ..sys::Frame::default()
         };
         // SAFETY: the call reads only the headers, and there are `cap` bytes at `out`.
@@ -173,15 +192,10 @@ impl Arp {
 /// Parses an Ethernet frame, and emits each header again from its values, with new lengths and checksums and
 /// without padding. `ip_wire.h` has the table of what changes. The rebuilt frame is at most as long as the frame.
 ///
-/// Fails with [`Error::NoHeader`] if the frame has less than 14 bytes, and with [`Error::NoRoom`].
+/// # Errors
+///
+/// [`Error::NoHeader`] if the frame has fewer than 14 bytes, and [`Error::NoRoom`].
 pub fn rebuild<'o>(frame: &[u8], out: &'o mut [u8]) -> Result<&'o mut [u8], Error> {
     // SAFETY: there are `len` bytes at `ptr`, and `cap` bytes at `out`.
     write(out, |c, out, cap| unsafe { c.lk_rebuild(frame.as_ptr(), frame.len(), out, cap) })
-}
-
-/// Lowers the maximum segment size of a TCP SYN in an Ethernet frame to `max_seg_size`, in place, and updates the TCP
-/// checksum. Returns `false` if there is no larger one. Then the frame is unchanged.
-pub fn clamp_mss(frame: &mut [u8], max_seg_size: u16) -> bool {
-    // SAFETY: there are `len` bytes at `frame`.
-    unsafe { library().lk_clamp_mss(frame.as_mut_ptr(), frame.len(), max_seg_size) != 0 }
 }

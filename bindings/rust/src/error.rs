@@ -1,5 +1,6 @@
 //! The enums: what the library says in numbers.
 
+use core::ffi::c_int;
 use core::fmt;
 
 /// Declares an enum whose values have the numbers from 1 on in C, and texts.
@@ -51,9 +52,10 @@ numbered! {
 impl core::error::Error for Error {}
 
 impl Error {
-    /// The failure that a call returned, which is below 0.
-    pub(crate) fn of_failure(failure: isize) -> Self {
-        Self::of_number(failure.unsigned_abs() >> 40).expect("a failure of ip_wire.h")
+    /// The length or count that a call returned. A number below 0 is a failure.
+    pub(crate) fn check(returned: isize) -> Result<usize, Self> {
+        let failure = |_| Self::of_number(returned.unsigned_abs() >> 40).expect("a failure of ip_wire.h");
+        usize::try_from(returned).map_err(failure)
     }
 }
 
@@ -68,10 +70,40 @@ numbered! {
         BadFlags: "TCP has more than one of SYN, FIN and RST",
         BadOptions: "a TCP option is malformed",
         HeaderCut: "the header was not captured as a whole",
+        UnknownLink: "the link type is unknown",
     }
 }
 
 impl core::error::Error for Reason {}
+
+numbered! {
+    /// Why a frame is not forwarded, translated or accepted. If several reasons apply, it is the first of them.
+    enum Rejection {
+        NoIpv4: "the endpoint to be written has no IPv4 address",
+        NotIp: "the frame has no IPv4 or IPv6 packet, or for NAT no IPv4 packet",
+        BadHeader: "the version of the IP header does not match the EtherType, or its lengths do not fit",
+        WrongChecksum: "the checksum of the IPv4 header is wrong",
+        Expired: "the hop limit is 0 or 1",
+        Fragment: "the packet is a fragment, which NAT does not translate",
+        OtherProtocol: "the packet has no UDP, no TCP and no ICMP message that is translated",
+        BadTransport: "the UDP or TCP header is rejected, a checksum is wrong, or an ICMP error quotes too little",
+        ZeroPort: "a port is 0",
+        NoMapping: "no live mapping has this outside address and port",
+        NoFreePort: "no outside port is free for this endpoint",
+        Martian: "no host may send from this address",
+        NoRoute: "there is no route back to the source",
+        OtherInterface: "the route back to the source leads to another interface",
+    }
+}
+
+impl core::error::Error for Rejection {}
+
+impl Rejection {
+    /// What a call returned: 0, or why the frame is rejected.
+    pub(crate) fn check(returned: c_int) -> Result<(), Self> {
+        Self::of_number(returned.unsigned_abs() as usize).map_or(Ok(()), Err)
+    }
+}
 
 numbered! {
     /// What a checksum says.
@@ -79,7 +111,7 @@ numbered! {
         Right: "the checksum is right",
         Wrong: "the checksum is wrong",
         LeftOut: "the sender computed no checksum (UDP over IPv4)",
-        LeftToDevice: "the checksum is of the pseudo-header alone (checksum offload)",
+        LeftToDevice: "only the pseudo-header is summed (checksum offload)",
         ChecksumCut: "not all bytes that the checksum covers were captured",
     }
 }

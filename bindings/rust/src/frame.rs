@@ -1,9 +1,11 @@
 //! Parsed frames and packets.
 
 use crate::sys::{self, library, Library};
-use crate::{Arp, Defect, Ethernet, Headers, Icmp, Ip, Network, Reason, Tcp, TcpOptions, Transport, Verdict};
+use crate::{
+    link, Arp, Defect, Ethernet, Headers, Icmp, Ip, Network, Reason, Tcp, TcpOptions, Transport, Verdict,
+};
 use core::ffi::c_int;
-use core::net::{IpAddr, SocketAddr};
+use core::net::SocketAddr;
 
 /// A parsed frame or packet. It borrows the bytes.
 ///
@@ -13,6 +15,7 @@ use core::net::{IpAddr, SocketAddr};
 /// - The payload begins after the last header that was read. It ends at the length in this header or in
 ///   one before it, so padding is no payload.
 /// - After an unknown EtherType or protocol all bytes are payload, and so are IPv6 extension headers.
+///   [`Ipv6Headers`](crate::Ipv6Headers) steps through them.
 /// - IPv4 options are skipped.
 /// - If an IPv6 fragment header follows the IPv6 header, its values are there. The payload begins at it.
 ///
@@ -23,7 +26,7 @@ use core::net::{IpAddr, SocketAddr};
 /// let frame = ip_wire::Frame::parse(&bytes);
 /// let _ = ip_wire::rebuild(frame.payload(), &mut bytes);
 /// ```
-#[derive(Clone, Copy, Debug)]
+#[derive(Clone, Copy, Debug, PartialEq, Eq, Hash)]
 pub struct Frame<'a> {
     bytes: &'a [u8],
     fields: sys::Frame,
@@ -32,6 +35,7 @@ pub struct Frame<'a> {
 
 impl<'a> Frame<'a> {
     /// Parses an Ethernet frame.
+    #[must_use]
     pub fn parse(bytes: &'a [u8]) -> Self {
         // SAFETY: there are `len` bytes at `ptr`, and only `fields` is written.
         Self::read(bytes, false, |c, fields| unsafe { c.lk_read_frame(bytes.as_ptr(), bytes.len(), fields) })
@@ -39,6 +43,7 @@ impl<'a> Frame<'a> {
 
     /// Parses a packet that begins with its IPv4 or IPv6 header: of a TUN device, of a capture of raw
     /// packets, or after VLAN tags.
+    #[must_use]
     pub fn parse_packet(bytes: &'a [u8]) -> Self {
         // SAFETY: there are `len` bytes at `ptr`, and only `fields` is written.
         Self::read(bytes, true, |c, fields| unsafe { c.lk_read_packet(bytes.as_ptr(), bytes.len(), fields) })
@@ -48,6 +53,7 @@ impl<'a> Frame<'a> {
     /// past `len`.
     ///
     /// A header that was not captured as a whole is rejected with [`Reason::HeaderCut`].
+    #[must_use]
     pub fn parse_captured(captured: &'a [u8], len: usize) -> Self {
         let bytes = &captured[..captured.len().min(len)];
         // SAFETY: there are `bytes.len()` bytes at `ptr`, and only `fields` is written.
@@ -57,11 +63,37 @@ impl<'a> Frame<'a> {
     }
 
     /// The same for a packet that begins with its IPv4 or IPv6 header.
+    #[must_use]
     pub fn parse_captured_packet(captured: &'a [u8], len: usize) -> Self {
         let bytes = &captured[..captured.len().min(len)];
         // SAFETY: there are `bytes.len()` bytes at `ptr`, and only `fields` is written.
         Self::read(bytes, true, |c, fields| unsafe {
             c.lk_read_captured_packet(bytes.as_ptr(), bytes.len(), len, fields)
+        })
+    }
+
+    /// The same for a packet of any link type that [`Link`](crate::Link) knows. Offsets count from the first byte.
+    ///
+    /// A link-layer header is rejected together with its VLAN tags, and the payload begins at the first byte then. The
+    /// reasons are those of [`Link::parse`](crate::Link::parse), and [`Reason::HeaderCut`] instead of
+    /// [`Reason::TooShort`] if `len` has room for the header.
+    ///
+    /// ```
+    /// # use ip_wire::{Frame, Reason};
+    /// // A capture of the loopback device of BSD: the address family of IPv4, and the packet.
+    /// # let mut captured = [0; 24];
+    /// # captured[..8].copy_from_slice(&[2, 0, 0, 0, 0x45, 0, 0, 20]);
+    /// # captured[12] = 64;
+    /// let frame = Frame::parse_linktype(0, &captured, captured.len());
+    /// assert_eq!((frame.rejected(), frame.network_offset()), (None, Some(4)));
+    /// assert_eq!(Frame::parse_linktype(105, &captured, 24).rejected(), Some(Reason::UnknownLink));
+    /// ```
+    #[must_use]
+    pub fn parse_linktype(link_type: u32, captured: &'a [u8], len: usize) -> Self {
+        let bytes = &captured[..captured.len().min(len)];
+        // SAFETY: there are `bytes.len()` bytes at `ptr`, and only `fields` is written.
+        Self::read(bytes, link_type != link::ETHERNET, |c, fields| unsafe {
+            c.lk_read_linktype(link_type, bytes.as_ptr(), bytes.len(), len, fields)
         })
     }
 
@@ -73,11 +105,16 @@ impl<'a> Frame<'a> {
     }
 
     /// The bytes that were parsed.
+    #[must_use]
     pub fn bytes(&self) -> &'a [u8] {
         self.bytes
     }
 
-    /// Fails if a header was rejected, or a checksum is wrong.
+    /// Whether a receiver may trust the frame.
+    ///
+    /// # Errors
+    ///
+    /// [`Defect::Rejected`] if a header was rejected, or [`Defect::WrongChecksum`].
     pub fn check(&self) -> Result<(), Defect> {
         match self.rejected() {
             Some(reason) => Err(Defect::Rejected(reason)),
@@ -87,93 +124,103 @@ impl<'a> Frame<'a> {
     }
 
     /// Why a header was rejected, if one was.
+    #[must_use]
     pub fn rejected(&self) -> Option<Reason> {
         Reason::of_number(self.fields.reason.into())
     }
 
     /// Whether the checksum of IPv4, UDP, TCP or ICMP is wrong.
+    #[must_use]
     pub fn has_wrong_checksum(&self) -> bool {
         [self.ipv4_checksum(), self.transport_checksum()].contains(&Some(Verdict::Wrong))
     }
 
     /// The checksum of the IPv4 header. `None`: there is no such header.
+    #[must_use]
     pub fn ipv4_checksum(&self) -> Option<Verdict> {
         Verdict::of_number(self.fields.ipv4_checksum.into())
     }
 
     /// The checksum of UDP, TCP or ICMP. `None`: there is no such header, or a UDP header whose length field does
     /// not fit.
+    #[must_use]
     pub fn transport_checksum(&self) -> Option<Verdict> {
         Verdict::of_number(self.fields.transport_checksum.into())
     }
 
-    /// The Ethernet header. `None`: the frame is too short, or a packet was parsed.
+    /// The Ethernet header. After [`Frame::parse_linktype`] its EtherType is that after any VLAN tags. `None`: the
+    /// frame is too short, or it is a packet, or of another link type, whose EtherType is in [`Link`](crate::Link).
+    #[must_use]
     pub fn ethernet(&self) -> Option<Ethernet> {
         let is_there = !self.is_packet && self.fields.payload_offset >= 14;
         is_there.then(|| self.fields.ethernet.into())
     }
 
     /// The protocol of the ARP or IP header that was read.
+    #[must_use]
     pub fn network(&self) -> Option<Network> {
         Network::of_number(self.fields.network.into())
     }
 
     /// The ARP packet that was read.
+    #[must_use]
     pub fn arp(&self) -> Option<Arp> {
-        let fields = &self.fields;
-        match (self.network()?, fields.src.addr.ip()?, fields.dst.addr.ip()?) {
-            (Network::Arp, IpAddr::V4(src), IpAddr::V4(dst)) => Some(Arp {
-                operation: fields.arp.operation,
-                src_hardware: fields.arp.src_hardware.into(),
-                dst_hardware: fields.arp.dst_hardware.into(),
-                src,
-                dst,
-            }),
-            _ => None,
+        if self.network()? != Network::Arp {
+            return None;
         }
+        Arp::of_fields(&self.fields)
     }
 
     /// The IP header that was read.
+    #[must_use]
     pub fn ip(&self) -> Option<Ip> {
         (self.network()? != Network::Arp).then(|| self.fields.ip.into())
     }
 
     /// The sender in the ARP or IP header. The port is 0 unless a UDP or TCP header is there.
+    #[must_use]
     pub fn src(&self) -> Option<SocketAddr> {
         self.fields.src.socket_addr()
     }
 
     /// The receiver in the ARP or IP header. The port is 0 unless a UDP or TCP header is there.
+    #[must_use]
     pub fn dst(&self) -> Option<SocketAddr> {
         self.fields.dst.socket_addr()
     }
 
     /// Whether this is a part of an IP packet, so that its payload is not parsed.
+    #[must_use]
     pub fn is_fragment(&self) -> bool {
         self.fields.is_fragment != 0
     }
 
     /// The protocol of the UDP, TCP or ICMP header that was read.
+    #[must_use]
     pub fn transport(&self) -> Option<Transport> {
         Transport::of_number(self.fields.transport.into())
     }
 
     /// The protocol of the UDP or TCP header that was rejected, but whose ports are in `src` and `dst`.
+    #[must_use]
     pub fn rejected_transport(&self) -> Option<Transport> {
         Transport::of_number(self.fields.rejected.into())
     }
 
     /// The TCP header that was read.
+    #[must_use]
     pub fn tcp(&self) -> Option<Tcp> {
         (self.transport()? == Transport::Tcp).then(|| self.fields.tcp.into())
     }
 
     /// The TCP header that was rejected, if it is not too short. RFC 9293 needs it for RST.
+    #[must_use]
     pub fn rejected_tcp(&self) -> Option<Tcp> {
         (self.rejected_transport()? == Transport::Tcp).then(|| self.fields.tcp.into())
     }
 
     /// The ICMP header that was read.
+    #[must_use]
     pub fn icmp(&self) -> Option<Icmp> {
         (self.transport()? == Transport::Icmp).then(|| self.fields.icmp.into())
     }
@@ -181,6 +228,7 @@ impl<'a> Frame<'a> {
     /// The bytes of the TCP header that was read, with its options: for [`RawOptions::new`].
     ///
     /// [`RawOptions::new`]: crate::RawOptions::new
+    #[must_use]
     pub fn tcp_header(&self) -> Option<&'a [u8]> {
         self.tcp()?;
         let start = self.fields.transport_offset;
@@ -188,37 +236,44 @@ impl<'a> Frame<'a> {
     }
 
     /// The options of the TCP header that was read.
+    #[must_use]
     pub fn tcp_options(&self) -> Option<TcpOptions> {
         TcpOptions::parse(self.tcp_header()?)
     }
 
     /// Where the ARP or IP header begins. `None` if there is none.
+    #[must_use]
     pub fn network_offset(&self) -> Option<usize> {
         self.network().map(|_| self.fields.network_offset)
     }
 
     /// Where the UDP, TCP or ICMP header begins, also a rejected one. `None` if there is none.
+    #[must_use]
     pub fn transport_offset(&self) -> Option<usize> {
         self.transport().or(self.rejected_transport()).map(|_| self.fields.transport_offset)
     }
 
     /// Where the payload begins.
+    #[must_use]
     pub fn payload_offset(&self) -> usize {
         self.fields.payload_offset
     }
 
     /// The length of the payload in the whole frame, also of what was not captured.
+    #[must_use]
     pub fn payload_len(&self) -> usize {
         self.fields.payload_len
     }
 
     /// The payload, as far as it was captured.
+    #[must_use]
     pub fn payload(&self) -> &'a [u8] {
         let rest = self.bytes.get(self.fields.payload_offset..).unwrap_or(&[]);
         &rest[..rest.len().min(self.fields.payload_len)]
     }
 
     /// The headers that were read, to emit them again. `None` unless it is an IP packet.
+    #[must_use]
     pub fn headers(&self) -> Option<Headers> {
         self.ip()?;
         Headers::of_fields(&self.fields)
@@ -226,11 +281,34 @@ impl<'a> Frame<'a> {
 
     /// The headers of the reply: the addresses and ports are exchanged. The IP header is that of a new packet,
     /// with the same DSCP. `None` unless it is an IP packet.
+    #[must_use]
     pub fn reply(&self) -> Option<Headers> {
         self.ip()?;
+        Headers::of_fields(&self.replied())
+    }
+
+    /// The ARP packet of the reply with its Ethernet header: the addresses are exchanged, and the operation stays. A
+    /// request does not have the hardware address of the reply. `None` unless it is an ARP packet.
+    ///
+    /// ```
+    /// # use ip_wire::{Arp, Ethernet, EthernetAddr, Frame};
+    /// fn answer<'o>(request: &Frame, own: EthernetAddr, out: &'o mut [u8]) -> Option<&'o mut [u8]> {
+    ///     let (ethernet, arp) = request.reply_arp()?;
+    ///     let arp = Arp { operation: Arp::REPLY, src_hardware: own, ..arp };
+    ///     arp.emit(&Ethernet::new(own, ethernet.dst), out).ok()
+    /// }
+    /// ```
+    #[must_use]
+    pub fn reply_arp(&self) -> Option<(Ethernet, Arp)> {
+        self.arp()?;
+        let fields = self.replied();
+        Some((fields.ethernet.into(), Arp::of_fields(&fields)?))
+    }
+
+    fn replied(&self) -> sys::Frame {
         let mut fields = self.fields;
         // SAFETY: the call writes only to the copy.
         unsafe { library().lk_reply(&mut fields) };
-        Headers::of_fields(&fields)
+        fields
     }
 }

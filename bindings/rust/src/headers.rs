@@ -1,7 +1,7 @@
 //! The values of headers.
 
 use crate::{sys, EthernetAddr};
-use core::net::{Ipv4Addr, SocketAddr};
+use core::net::{IpAddr, Ipv4Addr, SocketAddr};
 
 /// An Ethernet header.
 #[derive(Clone, Copy, Debug, Default, PartialEq, Eq, Hash)]
@@ -16,6 +16,7 @@ pub struct Ethernet {
 
 impl Ethernet {
     /// A header with EtherType 0.
+    #[must_use]
     pub fn new(src: EthernetAddr, dst: EthernetAddr) -> Self {
         Self { src, dst, ethertype: 0 }
     }
@@ -117,6 +118,27 @@ impl From<sys::Ethernet> for Ethernet {
 impl From<Ethernet> for sys::Ethernet {
     fn from(header: Ethernet) -> Self {
         Self { src: header.src.0, dst: header.dst.0, r#type: header.ethertype }
+    }
+}
+
+impl From<Arp> for sys::Arp {
+    fn from(arp: Arp) -> Self {
+        Self { operation: arp.operation, src_hardware: arp.src_hardware.0, dst_hardware: arp.dst_hardware.0 }
+    }
+}
+
+impl Arp {
+    pub(crate) fn of_fields(fields: &sys::Frame) -> Option<Self> {
+        let (IpAddr::V4(src), IpAddr::V4(dst)) = (fields.src.addr.ip()?, fields.dst.addr.ip()?) else {
+            return None;
+        };
+        Some(Self {
+            operation: fields.arp.operation,
+            src_hardware: fields.arp.src_hardware.into(),
+            dst_hardware: fields.arp.dst_hardware.into(),
+            src,
+            dst,
+        })
     }
 }
 

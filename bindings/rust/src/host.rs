@@ -2,7 +2,7 @@
 
 use crate::emit::write;
 use crate::{sys, Error, EthernetAddr, SeqNumber};
-use core::net::{IpAddr, Ipv4Addr, Ipv6Addr};
+use core::net::{Ipv4Addr, Ipv6Addr};
 
 /// A host with one interface and no connections.
 #[derive(Clone, Copy, Debug, PartialEq, Eq, Hash)]
@@ -34,20 +34,23 @@ pub struct Host<'a> {
 }
 
 impl Host<'_> {
-    /// Writes the answer to an Ethernet frame. `None`: the frame gets no answer. Fails with
-    /// [`Error::NoRoom`].
+    /// Writes the answer to an Ethernet frame. `None`: the frame gets no answer.
     ///
     /// It replies to ARP for `ipv4`, neighbour solicitations for `ipv6` and echo requests, echoes UDP, answers SYN to an
     /// open port with SYN and ACK, other segments with RST, and UDP to a closed port with an ICMP error. `ip_wire.h` has
     /// the whole table.
+    ///
+    /// # Errors
+    ///
+    /// [`Error::NoRoom`]
     pub fn answer<'o>(&self, frame: &[u8], out: &'o mut [u8]) -> Result<Option<&'o mut [u8]>, Error> {
         let host = sys::Host {
             open_ports: self.open_ports.as_ptr(),
             open_port_count: self.open_ports.len(),
             open_udp_ports: self.open_udp_ports.as_ptr(),
             open_udp_port_count: self.open_udp_ports.len(),
-            ipv4: IpAddr::V4(self.ipv4).into(),
-            ipv6: IpAddr::V6(self.ipv6).into(),
+            ipv4: self.ipv4.into(),
+            ipv6: self.ipv6.into(),
             hardware: self.hardware.0,
             echo_port: self.echo_port.unwrap_or(0),
             seq_number: self.seq_number.0,

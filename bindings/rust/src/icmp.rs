@@ -13,25 +13,31 @@ pub struct Ndisc {
     pub target: Ipv6Addr,
     /// The link-layer address option: of the source in a solicitation, else of the target.
     pub hardware: Option<EthernetAddr>,
-    /// Whether it is an advertisement. A solicitation has no flags.
-    pub is_advert: bool,
-    /// The flag R: the sender is a router.
+    /// The flags of an advertisement. `None`: it is a solicitation.
+    pub advert: Option<AdvertFlags>,
+}
+
+/// The flags of a neighbour advertisement.
+#[derive(Clone, Copy, Debug, Default, PartialEq, Eq, Hash)]
+pub struct AdvertFlags {
+    /// R: the sender is a router.
     pub is_router: bool,
-    /// The flag S: it answers a solicitation.
+    /// S: it answers a solicitation.
     pub is_solicited: bool,
-    /// The flag O: the address replaces one that is known.
+    /// O: the hardware address replaces one that is known.
     pub overrides: bool,
 }
 
 impl Ndisc {
     /// A solicitation with the hardware address of its sender.
+    #[must_use]
     pub fn solicitation(target: Ipv6Addr, own: EthernetAddr) -> Self {
-        let hardware = Some(own);
-        Self { target, hardware, is_advert: false, is_router: false, is_solicited: false, overrides: false }
+        Self { target, hardware: Some(own), advert: None }
     }
 
     /// Parses the message in an Ethernet frame. `None`: the frame has none that is valid (RFC 4861, sections 7.1.1
     /// and 7.1.2).
+    #[must_use]
     pub fn parse(frame: &[u8]) -> Option<Self> {
         let mut fields = sys::Ndisc::default();
         // SAFETY: there are `len` bytes at `ptr`, and only `fields` is written.
@@ -40,16 +46,21 @@ impl Ndisc {
             IpAddr::V6(target) if found == 1 => Some(Self {
                 target,
                 hardware: (fields.has_hardware != 0).then(|| fields.hardware.into()),
-                is_advert: fields.is_advert != 0,
-                is_router: fields.is_router != 0,
-                is_solicited: fields.is_solicited != 0,
-                overrides: fields.overrides != 0,
+                advert: (fields.is_advert != 0).then_some(AdvertFlags {
+                    is_router: fields.is_router != 0,
+                    is_solicited: fields.is_solicited != 0,
+                    overrides: fields.overrides != 0,
+                }),
             }),
             _ => None,
         }
     }
 
-    /// Writes a whole frame, of 78 bytes or 86. The hop limit is 255. Fails with [`Error::NoRoom`].
+    /// Writes a whole frame, of 78 bytes or 86. The hop limit is 255.
+    ///
+    /// # Errors
+    ///
+    /// [`Error::NoRoom`]
     ///
     /// ```
     /// use ip_wire::{Ethernet, EthernetAddr, Ndisc};
@@ -68,21 +79,21 @@ impl Ndisc {
         dst: Ipv6Addr,
         out: &'o mut [u8],
     ) -> Result<&'o mut [u8], Error> {
-        let endpoint = |addr| sys::Endpoint { addr: IpAddr::V6(addr).into(), port: 0 };
         let headers = sys::Frame {
             ethernet: (*ethernet).into(),
-            src: endpoint(src),
-            dst: endpoint(dst),
+            src: sys::Endpoint::of_addr(src),
+            dst: sys::Endpoint::of_addr(dst),
             ..sys::Frame::default()
         };
+        let flags = self.advert.unwrap_or_default();
         let fields = sys::Ndisc {
-            target: IpAddr::V6(self.target).into(),
+            target: self.target.into(),
             hardware: self.hardware.unwrap_or_default().0,
             has_hardware: self.hardware.is_some().into(),
-            is_advert: self.is_advert.into(),
-            is_router: self.is_router.into(),
-            is_solicited: self.is_solicited.into(),
-            overrides: self.overrides.into(),
+            is_advert: self.advert.is_some().into(),
+            is_router: flags.is_router.into(),
+            is_solicited: flags.is_solicited.into(),
+            overrides: flags.overrides.into(),
         };
         // SAFETY: the call reads only headers and message, and there are `cap` bytes at `out`.
         write(out, |c, out, cap| unsafe { c.lk_emit_ndisc_frame(&headers, &fields, out, cap) })
@@ -133,20 +144,21 @@ pub struct Interface {
 
 impl Interface {
     /// Writes an Ethernet frame with an ICMP error about a frame that came in by the interface, to its sender. `None`:
-    /// the frame may get none; `ip_wire.h` has the cases. Fails with [`Error::NoRoom`], but not with 1294 bytes.
+    /// the frame may get none; `ip_wire.h` has the cases.
     ///
     /// The caller limits the rate (RFC 1812, section 4.3.2.8; RFC 4443, section 2.4 f).
+    ///
+    /// # Errors
+    ///
+    /// [`Error::NoRoom`]. A buffer of 1294 bytes always suffices.
     pub fn emit_error<'o>(
         &self,
         problem: Problem,
         frame: &[u8],
         out: &'o mut [u8],
     ) -> Result<Option<&'o mut [u8]>, Error> {
-        let own = sys::Interface {
-            ipv4: IpAddr::V4(self.ipv4).into(),
-            ipv6: IpAddr::V6(self.ipv6).into(),
-            hardware: self.hardware.0,
-        };
+        let own =
+            sys::Interface { ipv4: self.ipv4.into(), ipv6: self.ipv6.into(), hardware: self.hardware.0 };
         let mtu = if let Problem::PacketTooBig(mtu) = problem { mtu } else { 0 };
         // SAFETY: the call reads only the interface and the `len` bytes at `ptr`, and there are `cap` bytes at `out`.
         let error = write(out, |c, out, cap| unsafe {

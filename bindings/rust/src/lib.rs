@@ -1,9 +1,17 @@
 //! Ethernet II, ARP, IPv4, IPv6, ICMP, UDP and TCP packets: safe calls of the C library `ip_wire`, every
 //! contract of which is proved. `man 3 ip_wire` and `ip_wire.h` describe its behaviour in full.
 //!
-//! The crate is `no_std`, has no dependencies and allocates nothing. It is used by its path, as
-//! `ip_wire = { path = "bindings/rust" }`. It needs the installed C library (`make install`), which
-//! `build.rs` finds by `pkg-config` and links statically, or as a shared library if `IP_WIRE_SHARED=1` is set.
+//! The crate is `no_std`, has no dependencies and allocates nothing. It links the C library: the one in its folder
+//! `bundled`, or else the installed one, which `build.rs` finds by `pkg-config`.
+//!
+//! | To | There is |
+//! |---|---|
+//! | parse a frame, packet or capture | [`Frame`], [`Link`], [`Ipv6Headers`], [`RawOptions`], [`Ndisc::parse`] |
+//! | write a frame | [`Headers`], [`Arp`], [`Ndisc`], [`rebuild`], [`layer`] |
+//! | answer as a host | [`Host`], [`Interface::emit_error`] |
+//! | route and translate | [`RouteTable`], [`forward`], [`clamp_mss`], [`Nat`], [`translate`] |
+//! | parse and print addresses | [`parse_addr`], [`parse_endpoint`], [`Block`], [`EthernetAddr`] |
+//! | compute checksums | [`checksum`] |
 //!
 //! ```
 //! use ip_wire::{Frame, Transport};
@@ -42,7 +50,7 @@
 #![warn(missing_docs)]
 
 #[cfg(not(all(target_arch = "x86_64", target_pointer_width = "64")))]
-compile_error!("the C library ip_wire is for x86-64 alone");
+compile_error!("the C library ip_wire is only for x86-64");
 
 #[cfg(test)]
 extern crate std;
@@ -53,28 +61,41 @@ mod emit;
 mod error;
 mod frame;
 mod headers;
+mod hop;
 mod host;
 mod icmp;
+mod ipv6;
+pub mod layer;
+mod link;
+mod nat;
+mod routes;
 mod sys;
 mod tcp;
 
 pub use addr::{is_unicast, parse_addr, parse_endpoint, Block, EthernetAddr, ParseError};
-pub use emit::{clamp_mss, rebuild};
-pub use error::{Defect, Error, Network, Reason, Transport, Verdict};
+pub use emit::rebuild;
+pub use error::{Defect, Error, Network, Reason, Rejection, Transport, Verdict};
 pub use frame::Frame;
 pub use headers::{Arp, Ethernet, Headers, Icmp, Ip};
+pub use hop::{clamp_mss, forward, translate, Side};
 pub use host::Host;
-pub use icmp::{Interface, Ndisc, Problem};
+pub use icmp::{AdvertFlags, Interface, Ndisc, Problem};
+pub use ipv6::{Ipv6Header, Ipv6Headers};
+pub use link::Link;
+pub use nat::{Mapping, Nat, NatConfig};
+pub use routes::{InterfaceId, Route, RouteNode, RouteTable};
 pub use tcp::{
     RawOption, RawOptions, SackRange, SackRanges, SeqNumber, Tcp, TcpFlags, TcpOptions, Timestamp,
 };
 
 /// Whether the processor has what the library needs.
+#[must_use]
 pub fn cpu_supported() -> bool {
     sys::cpu_supported()
 }
 
 /// The version of the C library that is linked: major, minor and patch.
+#[must_use]
 pub fn version() -> (u32, u32, u32) {
     sys::version()
 }

@@ -12,7 +12,7 @@ macro_rules! structs {
         $(
             $(#[$meta])*
             #[repr(C)]
-            #[derive(Clone, Copy, Debug)]
+            #[derive(Clone, Copy, Debug, PartialEq, Eq, Hash)]
             pub struct $name {
                 $(pub $field: $type,)*
             }
@@ -35,6 +35,7 @@ macro_rules! calls {
             }
         }
 
+        #[allow(clippy::too_many_arguments, reason = "they are those of C")]
         impl Library {
             $(
                 #[inline]
@@ -169,6 +170,22 @@ structs! {
     }
 
     #[derive(Default)]
+    struct Link = lk_link {
+        offset: usize,
+        r#type: u16,
+        tags: [u16; 2],
+        tag_count: u8,
+    }
+
+    #[derive(Default)]
+    struct Ipv6Header = lk_ipv6_header {
+        offset: u32,
+        len: u16,
+        protocol: u8,
+        next: u8,
+    }
+
+    #[derive(Default)]
     struct Ndisc = lk_ndisc {
         target: Addr,
         hardware: [u8; 6],
@@ -201,55 +218,142 @@ structs! {
         window_scale: u8,
         is_router: u8,
     }
+
+    struct Route = lk_route {
+        block: Block,
+        next_hop: Addr,
+        interface: u16,
+    }
+
+    #[derive(Default)]
+    struct RouteNode = lk_route_node {
+        high: u64,
+        low: u64,
+        route: u32,
+        above: u32,
+        version: u8,
+        prefix_len: u8,
+        unused: [u8; 2],
+        hint: u32,
+    }
+
+    struct Nat = lk_nat {
+        key: [u64; 2],
+        udp_timeout: u64,
+        tcp_timeout: u64,
+        tcp_transitory_timeout: u64,
+        icmp_timeout: u64,
+        outside: [u8; 4],
+        first_port: u16,
+        unused: u16,
+    }
+
+    struct Mapping = lk_mapping {
+        expires: u64,
+        inside: [u8; 4],
+        remote: [u8; 4],
+        inside_port: u16,
+        remote_port: u16,
+        state: u8,
+        shared: u8,
+        unused: [u8; 2],
+    }
 }
 
 calls! {
-    fn lk_parse_addr(text: *const c_char, len: usize, addr: *mut Addr) -> c_int;
-    fn lk_parse_block(text: *const c_char, len: usize, block: *mut Block) -> c_int;
-    fn lk_print_block(block: *const Block, out: *mut c_char, cap: usize) -> isize;
-    fn lk_contains(block: *const Block, addr: *const Addr) -> c_int;
-    fn lk_parse_endpoint(text: *const c_char, len: usize, endpoint: *mut Endpoint) -> c_int;
+    fn lk_parse_addr(text: *const c_char, len: usize, addr: &mut Addr) -> c_int;
+    fn lk_parse_block(text: *const c_char, len: usize, block: &mut Block) -> c_int;
+    fn lk_print_block(block: &Block, out: *mut c_char, cap: usize) -> isize;
+    fn lk_contains(block: &Block, addr: &Addr) -> c_int;
+    fn lk_parse_endpoint(text: *const c_char, len: usize, endpoint: &mut Endpoint) -> c_int;
     fn lk_parse_ethernet(text: *const c_char, len: usize, octets: *mut u8) -> c_int;
     fn lk_print_ethernet(octets: *const u8, out: *mut c_char, cap: usize) -> isize;
-    fn lk_is_unicast(addr: *const Addr) -> c_int;
-    fn lk_read_frame(ptr: *const u8, len: usize, frame: *mut Frame) -> c_int;
-    fn lk_read_packet(ptr: *const u8, len: usize, frame: *mut Frame) -> c_int;
-    fn lk_read_captured(ptr: *const u8, captured: usize, len: usize, frame: *mut Frame) -> c_int;
-    fn lk_read_captured_packet(ptr: *const u8, captured: usize, len: usize, frame: *mut Frame) -> c_int;
-    fn lk_read_tcp_options(ptr: *const u8, len: usize, options: *mut TcpOptions) -> c_int;
-    fn lk_next_tcp_option(ptr: *const u8, len: usize, option: *mut TcpOption) -> c_int;
-    fn lk_reply(frame: *mut Frame);
+    fn lk_is_unicast(addr: &Addr) -> c_int;
+    fn lk_read_frame(ptr: *const u8, len: usize, frame: &mut Frame) -> c_int;
+    fn lk_read_packet(ptr: *const u8, len: usize, frame: &mut Frame) -> c_int;
+    fn lk_read_captured(ptr: *const u8, captured: usize, len: usize, frame: &mut Frame) -> c_int;
+    fn lk_read_captured_packet(ptr: *const u8, captured: usize, len: usize, frame: &mut Frame) -> c_int;
+    fn lk_read_link(link_type: u32, ptr: *const u8, captured: usize, link: &mut Link) -> c_int;
+    fn lk_read_linktype(
+        link_type: u32, ptr: *const u8, captured: usize, len: usize, frame: &mut Frame
+    ) -> c_int;
+    fn lk_next_ipv6_header(ptr: *const u8, len: usize, header: &mut Ipv6Header) -> c_int;
+    fn lk_read_tcp_options(ptr: *const u8, len: usize, options: &mut TcpOptions) -> c_int;
+    fn lk_next_tcp_option(ptr: *const u8, len: usize, option: &mut TcpOption) -> c_int;
+    fn lk_reply(frame: &mut Frame);
     fn lk_emit_udp_frame(
-        headers: *const Frame, ptr: *const u8, len: usize, out: *mut u8, cap: usize
+        headers: &Frame, ptr: *const u8, len: usize, out: *mut u8, cap: usize
     ) -> isize;
     fn lk_emit_tcp_frame(
-        headers: *const Frame, options: *const TcpOptions, ptr: *const u8, len: usize, out: *mut u8, cap: usize
+        headers: &Frame, options: &TcpOptions, ptr: *const u8, len: usize, out: *mut u8, cap: usize
     ) -> isize;
-    fn lk_wrap_udp_frame(headers: *const Frame, len: usize, out: *mut u8, cap: usize) -> isize;
+    fn lk_wrap_udp_frame(headers: &Frame, len: usize, out: *mut u8, cap: usize) -> isize;
     fn lk_wrap_tcp_frame(
-        headers: *const Frame, options: *const TcpOptions, len: usize, out: *mut u8, cap: usize
+        headers: &Frame, options: &TcpOptions, len: usize, out: *mut u8, cap: usize
     ) -> isize;
-    fn lk_tcp_header_len(options: *const TcpOptions) -> isize;
+    fn lk_tcp_header_len(options: &TcpOptions) -> isize;
     fn lk_emit_icmp_frame(
-        headers: *const Frame, ptr: *const u8, len: usize, out: *mut u8, cap: usize
+        headers: &Frame, ptr: *const u8, len: usize, out: *mut u8, cap: usize
     ) -> isize;
-    fn lk_emit_arp_frame(headers: *const Frame, out: *mut u8, cap: usize) -> isize;
+    fn lk_emit_arp_frame(headers: &Frame, out: *mut u8, cap: usize) -> isize;
+    fn lk_emit_ethernet(header: &Ethernet, out: *mut u8, cap: usize) -> isize;
+    fn lk_emit_arp(
+        header: &Arp, src: &Addr, dst: &Addr, out: *mut u8, cap: usize
+    ) -> isize;
+    fn lk_emit_ip(
+        header: &Ip, src: &Addr, dst: &Addr, payload_len: usize, computed: c_int, out: *mut u8,
+        cap: usize
+    ) -> isize;
+    fn lk_emit_udp(
+        src: &Endpoint, dst: &Endpoint, ptr: *const u8, len: usize, computed: c_int, out: *mut u8,
+        cap: usize
+    ) -> isize;
+    fn lk_emit_tcp(
+        header: &Tcp, options: &TcpOptions, src: &Endpoint, dst: &Endpoint,
+        ptr: *const u8, len: usize, computed: c_int, out: *mut u8, cap: usize
+    ) -> isize;
+    fn lk_emit_icmp(
+        header: &Icmp, src: &Addr, dst: &Addr, ptr: *const u8, len: usize, computed: c_int,
+        out: *mut u8, cap: usize
+    ) -> isize;
     fn lk_checksum(ptr: *const u8, len: usize) -> u16;
     fn lk_update_checksum(checksum: u16, before: u16, after: u16) -> u16;
-    fn lk_update_checksum_addr(checksum: u16, before: *const Addr, after: *const Addr) -> u16;
+    fn lk_update_checksum_addr(checksum: u16, before: &Addr, after: &Addr) -> u16;
     fn lk_update_udp_checksum(checksum: u16, before: u16, after: u16) -> u16;
-    fn lk_update_udp_checksum_addr(checksum: u16, before: *const Addr, after: *const Addr) -> u16;
+    fn lk_update_udp_checksum_addr(checksum: u16, before: &Addr, after: &Addr) -> u16;
+    fn lk_update_checksum_bytes(
+        checksum: u16, offset: usize, before: *const u8, before_len: usize, after: *const u8, after_len: usize
+    ) -> u16;
+    fn lk_update_udp_checksum_bytes(
+        checksum: u16, offset: usize, before: *const u8, before_len: usize, after: *const u8, after_len: usize
+    ) -> u16;
     fn lk_add_seq(seq: u32, steps: u32) -> u32;
     fn lk_subtract_seq(a: u32, b: u32) -> i32;
     fn lk_compare_seq(a: u32, b: u32) -> c_int;
     fn lk_rebuild(ptr: *const u8, len: usize, out: *mut u8, cap: usize) -> isize;
-    fn lk_read_ndisc(frame: *const u8, len: usize, ndisc: *mut Ndisc) -> c_int;
-    fn lk_emit_ndisc_frame(headers: *const Frame, ndisc: *const Ndisc, out: *mut u8, cap: usize) -> isize;
+    fn lk_read_ndisc(frame: *const u8, len: usize, ndisc: &mut Ndisc) -> c_int;
+    fn lk_emit_ndisc_frame(headers: &Frame, ndisc: &Ndisc, out: *mut u8, cap: usize) -> isize;
     fn lk_emit_icmp_error(
-        own: *const Interface, problem: c_int, mtu: u32, frame: *const u8, len: usize, out: *mut u8, cap: usize
+        own: &Interface, problem: c_int, mtu: u32, frame: *const u8, len: usize, out: *mut u8, cap: usize
     ) -> isize;
-    fn lk_answer(host: *const Host, ptr: *const u8, len: usize, out: *mut u8, cap: usize) -> isize;
+    fn lk_answer(host: &Host, ptr: *const u8, len: usize, out: *mut u8, cap: usize) -> isize;
+    fn lk_forward(frame: *mut u8, len: usize, src: *const u8, dst: *const u8) -> c_int;
+    fn lk_translate(frame: *mut u8, len: usize, side: c_int, end: &Endpoint) -> c_int;
     fn lk_clamp_mss(frame: *mut u8, len: usize, max_seg_size: u16) -> c_int;
+    fn lk_index_routes(
+        routes: *const Route, count: usize, nodes: *mut RouteNode, node_count: usize
+    ) -> isize;
+    fn lk_choose_route(nodes: *const RouteNode, count: usize, addr: &Addr) -> isize;
+    fn lk_check_source(
+        routes: *const Route, route_count: usize, nodes: *const RouteNode, count: usize, src: &Addr,
+        interface: u16
+    ) -> c_int;
+    fn lk_translate_out(
+        nat: &Nat, mappings: *mut Mapping, count: usize, now: u64, frame: *mut u8, len: usize
+    ) -> c_int;
+    fn lk_translate_in(
+        nat: &Nat, mappings: *mut Mapping, count: usize, now: u64, frame: *mut u8, len: usize
+    ) -> c_int;
 }
 
 extern "C" {

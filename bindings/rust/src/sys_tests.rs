@@ -1,9 +1,10 @@
 //! Compares the declarations with `ip_wire.h`, by a C compiler.
 
-use super::{CALLS, STRUCTS};
-use crate::{Error, Network, Problem, Reason, Transport, Verdict};
+use super::{Addr, Endpoint, CALLS, STRUCTS};
+use crate::{Error, Network, Problem, Reason, Rejection, Side, Transport, Verdict};
 use core::ffi::{c_char, c_int, CStr};
-use std::fmt::Write;
+use core::net::{IpAddr, SocketAddr};
+use std::fmt::{Debug, Write};
 use std::process::Command;
 use std::string::{String, ToString};
 use std::{env, format, fs, println, vec::Vec};
@@ -11,21 +12,47 @@ use std::{env, format, fs, println, vec::Vec};
 extern "C" {
     fn lk_failure_name(failure: isize) -> *const c_char;
     fn lk_reason_name(reason: c_int) -> *const c_char;
+    fn lk_rejection_name(rejection: c_int) -> *const c_char;
+    fn lk_print_addr(addr: &Addr, out: *mut c_char, cap: usize) -> isize;
+    fn lk_print_endpoint(endpoint: &Endpoint, out: *mut c_char, cap: usize) -> isize;
+    fn lk_is_multicast(addr: &Addr) -> c_int;
+}
+
+/// The calls of the header that `CALLS` does not have, and what a program has instead.
+const OTHERS: &[(&str, &str)] = &[
+    ("lk_append", "slices"),
+    ("lk_cpu_supported", "`cpu_supported`"),
+    ("lk_failure_name", "`Debug` of `Error`"),
+    ("lk_is_multicast", "`IpAddr::is_multicast`"),
+    ("lk_print_addr", "`Display` of `IpAddr`"),
+    ("lk_print_endpoint", "`Display` of `SocketAddr`"),
+    ("lk_reason_name", "`Debug` of `Reason`"),
+    ("lk_rejection_name", "`Debug` of `Rejection`"),
+    ("lk_version", "`version`"),
+];
+
+/// The names of the calls in a header.
+fn calls_of(header: &str) -> Vec<&str> {
+    let heads = header.lines().filter(|line| line.starts_with(|c: char| c.is_ascii_lowercase()));
+    let names = heads.filter_map(|line| line.split_once('(')?.0.rsplit([' ', '*']).next());
+    names.filter(|name| name.starts_with("lk_")).collect()
 }
 
 /// The C type of a type in `sys.rs`.
 fn c_type(rust: &str) -> String {
-    if let Some(target) = rust.strip_prefix("*const ") {
-        return format!("const {} *", c_type(target));
-    }
-    if let Some(target) = rust.strip_prefix("*mut ") {
+    let strip = |prefixes: [&str; 2]| prefixes.iter().find_map(|prefix| rust.strip_prefix(prefix));
+    if let Some(target) = strip(["*mut ", "&mut "]) {
         return format!("{} *", c_type(target));
+    }
+    if let Some(target) = strip(["*const ", "&"]) {
+        return format!("const {} *", c_type(target));
     }
     let plain = match rust {
         "" => "void",
         "u8" => "uint8_t",
         "u16" => "uint16_t",
         "u32" => "uint32_t",
+        "u64" => "uint64_t",
         "i32" => "int32_t",
         "usize" => "size_t",
         "isize" => "ptrdiff_t",
@@ -54,30 +81,50 @@ fn assertions() -> String {
 }
 
 /// The name in C of a variant, as `LK_NO_ROOM` of `NoRoom`.
-fn c_name(variant: &str) -> String {
-    let words = variant.chars().flat_map(|c| {
+fn c_name(variant: impl Debug) -> String {
+    let variant = format!("{variant:?}");
+    let words = variant.trim_end_matches("(0)").chars().flat_map(|c| {
         let blank = if c.is_uppercase() { "_" } else { "" };
         blank.chars().chain(c.to_uppercase())
     });
     words.fold(String::from("LK"), |name, c| name + &c.to_string())
 }
 
-/// The name and the number of each variant of an enum, from 1 on.
-fn numbers<T: core::fmt::Debug + Copy>(of_number: fn(usize) -> Option<T>, count: usize) -> String {
-    (1..=count).fold(String::new(), |c, number| {
-        let name = c_name(&format!("{:?}", of_number(number).unwrap()));
-        c + &format!("_Static_assert({name} == {number}, \"{name}\");\n")
-    })
+/// Assertions that a name of the header has this number.
+fn assert_numbers(names: impl IntoIterator<Item = (String, c_int)>) -> String {
+    let assertion = |(name, number)| format!("_Static_assert({name} == {number}, \"{name}\");\n");
+    names.into_iter().map(assertion).collect()
 }
 
-/// The same of each problem.
-fn problems() -> String {
-    use Problem::*;
-    let all = [HopLimitExpired, PacketTooBig(0), RouteMissing, NeighbourMissing, PortClosed, Prohibited];
-    all.iter().fold(String::new(), |c, problem| {
-        let name = c_name(format!("{problem:?}").trim_end_matches("(0)"));
-        c + &format!("_Static_assert({name} == {}, \"{name}\");\n", problem.number())
-    })
+/// The same of each variant of an enum, from 1 on.
+fn numbers<T: Debug>(of_number: fn(usize) -> Option<T>, count: usize) -> String {
+    assert_numbers((1..=count).map(|number| c_name(of_number(number).unwrap())).zip(1..))
+}
+
+/// The same of enums that have numbers of their own.
+fn own_numbers() -> String {
+    let problems = [
+        Problem::HopLimitExpired,
+        Problem::PacketTooBig(0),
+        Problem::RouteMissing,
+        Problem::NeighbourMissing,
+        Problem::PortClosed,
+        Problem::Prohibited,
+    ];
+    let sides = [Side::Source, Side::Destination];
+    assert_numbers(problems.map(|problem| (c_name(problem), problem.number())))
+        + &assert_numbers(sides.map(|side| (c_name(side), side.number())))
+}
+
+#[test]
+fn each_call_of_the_header_is_here() {
+    let header = fs::read_to_string(concat!(env!("IP_WIRE_INCLUDE"), "/ip_wire.h")).unwrap();
+    let mut expected = calls_of(&header);
+    let mut found: Vec<_> = CALLS.iter().map(|(name, ..)| *name).collect();
+    found.extend(OTHERS.iter().map(|(name, _)| name));
+    expected.sort_unstable();
+    found.sort_unstable();
+    assert_eq!(found, expected);
 }
 
 #[test]
@@ -88,11 +135,12 @@ fn declarations_are_those_of_the_header() {
         return;
     }
     let numbers = [
-        numbers(Reason::of_number, 8),
+        numbers(Reason::of_number, 9),
         numbers(Verdict::of_number, 5),
         numbers(Network::of_number, 3),
         numbers(Transport::of_number, 3),
-        problems(),
+        numbers(Rejection::of_number, 14),
+        own_numbers(),
     ];
     let folder = env::temp_dir().join(format!("ip_wire_{}", std::process::id()));
     fs::create_dir_all(&folder).unwrap();
@@ -105,19 +153,66 @@ fn declarations_are_those_of_the_header() {
     assert!(output.status.success(), "{}", String::from_utf8_lossy(&output.stderr));
 }
 
+/// A name that the library gives.
+fn text(ptr: *const c_char) -> &'static str {
+    // SAFETY: the text is constant, and ends in a null.
+    unsafe { CStr::from_ptr(ptr) }.to_str().unwrap()
+}
+
 #[test]
 fn failures_and_reasons_have_their_names() {
     for number in 1..=11 {
         let failure = -(number << 40);
-        // SAFETY: the text is constant, and ends in a null.
-        let name = unsafe { CStr::from_ptr(lk_failure_name(failure)) };
-        assert_eq!(name.to_str().unwrap(), c_name(&format!("{:?}", Error::of_failure(failure))));
+        let error = Error::check(failure).unwrap_err();
+        // SAFETY: these calls take only a number.
+        assert_eq!(text(unsafe { lk_failure_name(failure) }), c_name(error));
     }
-    for number in 1..=8 {
-        // SAFETY: the text is constant, and ends in a null.
-        let name = unsafe { CStr::from_ptr(lk_reason_name(number)) };
-        let reason = Reason::of_number(number as usize).unwrap();
-        assert_eq!(name.to_str().unwrap(), c_name(&format!("{reason:?}")));
+    for (number, c_number) in (1..=9).zip(1..) {
+        let reason = Reason::of_number(number).unwrap();
+        assert_eq!(text(unsafe { lk_reason_name(c_number) }), c_name(reason));
     }
-    assert_eq!(Reason::of_number(0), None);
+    for number in 1..=14 {
+        let rejection = Rejection::check(number).unwrap_err();
+        assert_eq!(text(unsafe { lk_rejection_name(number) }), c_name(rejection));
+    }
+    assert_eq!((Error::check(0), Reason::of_number(0), Rejection::check(0)), (Ok(0), None, Ok(())));
+}
+
+/// What a call prints.
+fn printed(call: impl FnOnce(*mut c_char, usize) -> isize) -> String {
+    let mut out = [0u8; 48];
+    let len = Error::check(call(out.as_mut_ptr().cast(), out.len())).unwrap();
+    String::from_utf8(out[..len].to_vec()).unwrap()
+}
+
+/// So this crate needs no calls for it.
+#[test]
+fn core_says_the_same_of_addresses() {
+    for text in [
+        "0.0.0.0",
+        "223.255.255.255",
+        "224.0.0.1",
+        "240.0.0.1",
+        "::",
+        "::1",
+        "::192.0.2.1",
+        "::ffff:192.0.2.1",
+        "::ffff:0:1",
+        "1:0:0:2:0:0:0:3",
+        "1:0:0:2:3:0:0:4",
+        "1:0:2:3:4:5:6:7",
+        "2001:db8::ABCD",
+        "fe80::",
+        "ff02::1:ff00:2",
+    ] {
+        let addr: IpAddr = text.parse().unwrap();
+        let endpoint = SocketAddr::new(addr, 53);
+        // SAFETY: the calls read only the value, and there are `cap` bytes at `out`.
+        assert_eq!(printed(|out, cap| unsafe { lk_print_addr(&addr.into(), out, cap) }), addr.to_string());
+        assert_eq!(
+            printed(|out, cap| unsafe { lk_print_endpoint(&endpoint.into(), out, cap) }),
+            endpoint.to_string()
+        );
+        assert_eq!(unsafe { lk_is_multicast(&addr.into()) } != 0, addr.is_multicast());
+    }
 }

@@ -4,7 +4,7 @@ use crate::sys::{self, library};
 use crate::{Error, Reason};
 use core::fmt;
 use core::iter::FusedIterator;
-use core::ops::{Add, BitOr, Deref, Sub};
+use core::ops::{Add, BitAnd, BitAndAssign, BitOr, BitOrAssign, Deref, Not, Sub};
 
 /// A sequence number, modulo 2^32. There is no order on them, only a distance (RFC 9293, section 3.4).
 ///
@@ -20,6 +20,7 @@ pub struct SeqNumber(pub u32);
 
 impl SeqNumber {
     /// Whether this number is before the other. At a distance of 2^31 each is before the other.
+    #[must_use]
     pub fn is_before(self, other: Self) -> bool {
         // SAFETY: this call takes only numbers.
         unsafe { library().lk_compare_seq(self.0, other.0) < 0 }
@@ -52,6 +53,7 @@ impl Sub for SeqNumber {
 ///
 /// let flags = TcpFlags::SYN | TcpFlags::ACK;
 /// assert!(flags.contains(TcpFlags::SYN) && !flags.contains(TcpFlags::RST));
+/// assert_eq!(flags & !TcpFlags::ACK, TcpFlags::SYN);
 /// assert_eq!(flags.to_string(), "SYN ACK");
 /// ```
 #[derive(Clone, Copy, Debug, Default, PartialEq, Eq, Hash)]
@@ -70,16 +72,19 @@ flags! { FIN: 0, SYN: 1, RST: 2, PSH: 3, ACK: 4, URG: 5, ECE: 6, CWR: 7, }
 
 impl TcpFlags {
     /// The flags of these bits, with FIN as the lowest.
+    #[must_use]
     pub const fn from_bits(bits: u8) -> Self {
         Self(bits)
     }
 
     /// The bits, with FIN as the lowest.
+    #[must_use]
     pub const fn bits(self) -> u8 {
         self.0
     }
 
     /// Whether all these flags are set.
+    #[must_use]
     pub const fn contains(self, flags: Self) -> bool {
         self.0 & flags.0 == flags.0
     }
@@ -90,6 +95,34 @@ impl BitOr for TcpFlags {
 
     fn bitor(self, flags: Self) -> Self {
         Self(self.0 | flags.0)
+    }
+}
+
+impl BitAnd for TcpFlags {
+    type Output = Self;
+
+    fn bitand(self, flags: Self) -> Self {
+        Self(self.0 & flags.0)
+    }
+}
+
+impl Not for TcpFlags {
+    type Output = Self;
+
+    fn not(self) -> Self {
+        Self(!self.0)
+    }
+}
+
+impl BitOrAssign for TcpFlags {
+    fn bitor_assign(&mut self, flags: Self) {
+        *self = *self | flags;
+    }
+}
+
+impl BitAndAssign for TcpFlags {
+    fn bitand_assign(&mut self, flags: Self) {
+        *self = *self & flags;
     }
 }
 
@@ -159,14 +192,14 @@ pub struct SackRange {
 #[derive(Clone, Copy, Debug, Default, PartialEq, Eq, Hash)]
 pub struct SackRanges {
     ranges: [SackRange; 4], // zeros after `len`
-    len: usize,
+    len: u8,
 }
 
 impl Deref for SackRanges {
     type Target = [SackRange];
 
     fn deref(&self) -> &[SackRange] {
-        &self.ranges[..self.len]
+        &self.ranges[..self.len.into()]
     }
 }
 
@@ -175,7 +208,8 @@ impl TryFrom<&[SackRange]> for SackRanges {
 
     /// Fails with [`Error::OptionsTooLong`] if there are more than 4.
     fn try_from(ranges: &[SackRange]) -> Result<Self, Error> {
-        let mut result = Self { len: ranges.len(), ..Self::default() };
+        let len = u8::try_from(ranges.len()).map_err(|_| Error::OptionsTooLong)?;
+        let mut result = Self { len, ..Self::default() };
         result.ranges.get_mut(..ranges.len()).ok_or(Error::OptionsTooLong)?.copy_from_slice(ranges);
         Ok(result)
     }
@@ -208,6 +242,7 @@ pub struct TcpOptions {
 impl TcpOptions {
     /// Parses the options of a TCP header. `None` if an option before the end mark is malformed, or the header
     /// is shorter than 20 bytes or than it says. Of each kind the last option counts.
+    #[must_use]
     pub fn parse(header: &[u8]) -> Option<Self> {
         let mut options = sys::TcpOptions::default();
         // SAFETY: there are `len` bytes at `ptr`, and only `options` is written.
@@ -215,19 +250,22 @@ impl TcpOptions {
         (is_stored != 0).then(|| options.into())
     }
 
-    /// The length of a TCP header with these options, 20 to 60. Fails with [`Error::OptionsTooLong`].
+    /// The length of a TCP header with these options, 20 to 60.
+    ///
+    /// # Errors
+    ///
+    /// [`Error::OptionsTooLong`]
     pub fn header_len(&self) -> Result<usize, Error> {
         // SAFETY: the call reads only the options.
-        let len = unsafe { library().lk_tcp_header_len(&(*self).into()) };
-        usize::try_from(len).map_err(|_| Error::of_failure(len))
+        Error::check(unsafe { library().lk_tcp_header_len(&(*self).into()) })
     }
 }
 
 impl From<sys::TcpOptions> for TcpOptions {
     fn from(options: sys::TcpOptions) -> Self {
-        let len = usize::from(options.sack_range_count).min(4);
+        let len = options.sack_range_count.min(4);
         let mut sack_ranges = SackRanges { len, ..SackRanges::default() };
-        for (range, from) in sack_ranges.ranges[..len].iter_mut().zip(options.sack_ranges) {
+        for (range, from) in sack_ranges.ranges[..len.into()].iter_mut().zip(options.sack_ranges) {
             *range = SackRange { left: SeqNumber(from.left), right: SeqNumber(from.right) };
         }
         Self {
@@ -254,7 +292,7 @@ impl From<TcpOptions> for sys::TcpOptions {
             max_seg_size: options.max_seg_size.unwrap_or_default(),
             window_scale: options.window_scale.unwrap_or_default(),
             sack_permitted: options.sack_permitted.into(),
-            sack_range_count: options.sack_ranges.len as u8,
+            sack_range_count: options.sack_ranges.len,
             has_max_seg_size: options.max_seg_size.is_some().into(),
             has_window_scale: options.window_scale.is_some().into(),
             has_timestamp: options.timestamp.is_some().into(),
@@ -292,6 +330,7 @@ pub struct RawOptions<'a> {
 
 impl<'a> RawOptions<'a> {
     /// The options of a TCP header, which [`Frame::tcp_header`](crate::Frame::tcp_header) gives.
+    #[must_use]
     pub fn new(header: &'a [u8]) -> Self {
         Self { header, last: Some(sys::TcpOption::default()) }
     }

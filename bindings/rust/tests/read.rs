@@ -131,6 +131,16 @@ fn a_captured_frame_is_cut() {
     assert_eq!(Frame::parse_captured(&bytes, usize::MAX).bytes(), &bytes[..]);
 }
 
+#[test]
+fn frames_compare_bytes_and_how_they_were_parsed() {
+    let bytes = udp(&ipv4(), b"ping");
+    let frame = Frame::parse(&bytes);
+    assert_eq!(frame, Frame::parse(&bytes.clone()));
+    assert_ne!(frame, Frame::parse_packet(&bytes));
+    assert_ne!(frame, Frame::parse(&udp(&ipv4(), b"pong")));
+    assert_ne!(Frame::parse(&bytes[..44]), Frame::parse_captured(&bytes[..44], bytes.len()));
+}
+
 /// The address of the first byte of a slice, and the one after its last byte.
 fn ends(bytes: &[u8]) -> (*const u8, *const u8) {
     let range = bytes.as_ptr_range();
@@ -147,6 +157,10 @@ fn look_at(frame: &Frame, bytes: &[u8]) {
     let options = RawOptions::new(frame.tcp_header().unwrap_or(frame.payload()));
     for option in options.flatten().filter(|option| !option.data.is_empty()) {
         assert!(ends(option.data).0 >= start && ends(option.data).1 <= end);
+    }
+    let packet = &frame.bytes()[frame.network_offset().unwrap_or(0)..];
+    for header in Ipv6Headers::new(packet).flatten() {
+        assert_eq!(header.bytes, &packet[header.offset..header.end()]);
     }
     let _ = format!("{frame:?} {:?} {:?} {:?}", frame.check(), frame.arp(), frame.tcp_options());
     if let Some(headers) = frame.headers() {
@@ -172,12 +186,15 @@ fn any_bytes_are_parsed() {
             for whole in [0, len / 2, len, bytes.len(), 1 << 40, usize::MAX] {
                 look_at(&Frame::parse_captured(&bytes[..len], whole), bytes);
                 look_at(&Frame::parse_captured_packet(&bytes[14.min(len)..len], whole), bytes);
+                for link_type in [0, 1, 101, 108, 113, 228, 229, 276, 277] {
+                    look_at(&Frame::parse_linktype(link_type, &bytes[..len], whole), bytes);
+                }
             }
         }
         for _ in 0..5000 {
             let mut changed = bytes.clone();
             for _ in 0..2 {
-                random = random.wrapping_mul(1664525).wrapping_add(1013904223);
+                random = random.wrapping_mul(1_664_525).wrapping_add(1_013_904_223);
                 let at = (random >> 8) as usize % changed.len();
                 changed[at] = (random >> 24) as u8;
             }

@@ -72,6 +72,61 @@ fn checksums_are_updated() {
     assert_eq!(checksum::update_udp(1, 0, 1), 0xffff);
 }
 
+/// RFC 1071, section 3, and RFC 1624, section 4.
+#[test]
+fn checksums_are_those_of_the_rfcs() {
+    assert_eq!(checksum::sum(&[0x00, 0x01, 0xf2, 0x03, 0xf4, 0xf5, 0xf6, 0xf7]), 0xddf2);
+    assert_eq!(checksum::update(0xdd2f, 0x5555, 0x3285), 0x0000);
+}
+
+/// A checksum, an offset, the bytes there and those that replace them, and the checksum then.
+type Replaced = (u16, usize, &'static [u8], &'static [u8], u16);
+
+/// RFC 1624, section 4; the bytes of RFC 1071, section 3; and the headers of a packet whose hop limit, address or MSS
+/// changes.
+#[test]
+fn checksums_are_updated_at_any_offset() {
+    let rows: &[Replaced] = &[
+        (0xdd2f, 0, &[0x55, 0x55], &[0x32, 0x85], 0x0000),
+        (0x8fe6, 8, &[0x3f], &[0x3e], 0x90e6),
+        (0xb1e6, 12, &[192, 0, 2, 1], &[198, 51, 100, 7], 0x49ad),
+        (0x4ea2, 23, &[0x05, 0xa0], &[0x04, 0xc4], 0x2aa3),
+        (0x220d, 3, &[0x03, 0xf4, 0xf5], &[0, 0, 0], 0x1706),
+        (0x220d, 1, &[0x01], &[0xfe], 0x2110),
+        (0x220d, 2, &[0xf2, 0x03], &[], 0x1411),
+        (0x1411, 2, &[], &[0xf2, 0x03], 0x220d),
+        (0x220d, 5, &[0xf5, 0xf6, 0xf7], &[0xaa], 0x1950), // nothing follows
+    ];
+    for &(checksum, offset, before, after, updated) in rows {
+        assert_eq!(checksum::update_bytes(checksum, offset, before, after), updated);
+        let of_udp = if updated == 0 { 0xffff } else { updated };
+        assert_eq!(checksum::update_udp_bytes(checksum, offset, before, after), of_udp);
+        assert_eq!(checksum::update_udp_bytes(0, offset, before, after), 0);
+    }
+}
+
+#[test]
+fn flags_are_sets() {
+    let both = TcpFlags::SYN | TcpFlags::ACK;
+    for (flags, bits, text) in [
+        (both, 0x12, "SYN ACK"),
+        (both & TcpFlags::ACK, 0x10, "ACK"),
+        (both & !TcpFlags::ACK, 0x02, "SYN"),
+        (!both, 0xed, "FIN RST PSH URG ECE CWR"),
+        (both & TcpFlags::FIN, 0, ""),
+    ] {
+        assert_eq!(
+            (flags.bits(), flags, flags.to_string().as_str()),
+            (bits, TcpFlags::from_bits(bits), text)
+        );
+    }
+    let mut flags = TcpFlags::SYN;
+    flags |= TcpFlags::ACK;
+    assert_eq!(flags, both);
+    flags &= TcpFlags::SYN;
+    assert_eq!(flags, TcpFlags::SYN);
+}
+
 #[test]
 fn sequence_numbers_wrap() {
     let (a, b) = (SeqNumber(u32::MAX), SeqNumber(3));

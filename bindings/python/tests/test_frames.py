@@ -1,25 +1,14 @@
-"""Tests the module ip_wire: python3 -m unittest discover bindings/python
-
-IP_WIRE_HEADER is the path of ip_wire.h, if it is not that of the source tree.
-"""
-import ctypes
-import os
+"""Tests frames and packets: parsing, writing, hosts."""
 import random
-import re
-import subprocess
-import sys
 import unittest
 from dataclasses import replace
-from ipaddress import IPv4Address, IPv6Address, ip_address, ip_interface
+from ipaddress import IPv4Address, IPv6Address, ip_address
 
-import _ip_wire as c
 import ip_wire
+import model
 from ip_wire import Arp, Endpoint, Ethernet, Headers, Host, Icmp, Interface, Ip, Ndisc, Network, Problem, Reason, Rejected
 from ip_wire import Tcp, TcpFlag, TcpOptions, Transport, Verdict, WireError
-
-FOLDER = os.path.dirname(os.path.abspath(__file__))
-HEADER = os.environ.get("IP_WIRE_HEADER", os.path.join(FOLDER, "..", "..", "c", "ip_wire.h"))
-CLIENT, SERVER = bytes.fromhex("020000000001"), bytes.fromhex("020000000002")
+from model import CLIENT, SERVER
 
 
 def headers_of(src, dst):
@@ -29,51 +18,8 @@ def headers_of(src, dst):
 IPV4 = headers_of("192.0.2.1", "192.0.2.2")
 IPV6 = headers_of("2001:db8::1", "2001:db8::2")
 OPTIONS = TcpOptions(1460, 7, True, (), (3, 4))
-
-
-class Declarations(unittest.TestCase):
-    """The calls and numbers are those of ip_wire.h."""
-
-    @classmethod
-    def setUpClass(cls):
-        with open(HEADER, encoding="ascii") as file:
-            cls.header = re.sub(r"/\*.*?\*/", " ", file.read(), flags=re.S)
-
-    def test_calls(self):
-        plain = {"int": ctypes.c_int, "size_t": ctypes.c_size_t, "ptrdiff_t": ctypes.c_ssize_t, "void": None,
-                 "uint16_t": ctypes.c_uint16, "uint32_t": ctypes.c_uint32, "uint64_t": ctypes.c_uint64,
-                 "int32_t": ctypes.c_int32,
-                 "const char *": ctypes.c_char_p, "const uint8_t *": ctypes.c_char_p,
-                 "char *": ctypes.c_void_p, "uint8_t *": ctypes.c_void_p}  # fmt: skip
-
-        def kind(text):
-            words = " ".join(re.findall(r"\w+|\*", text))
-            struct = re.fullmatch(r"(?:const )?struct (\w+) \*", words)
-            return "pointer to " + struct.group(1) if struct else plain[words]
-
-        def declared(kind):
-            is_pointer = kind is not None and issubclass(kind, ctypes._Pointer)
-            return "pointer to " + kind._type_.__name__ if is_pointer else kind
-
-        found = {}
-        for result, name, parameters in re.findall(r"^([a-z]\w*(?: \w+)* \*?)(lk_\w+)\(([^()]*)\);", self.header, re.M):
-            types = [re.sub(r"\w+\s*$", "", p) for p in parameters.split(",")] if parameters != "void" else []
-            found[name] = [kind(text) for text in [result, *types]]
-        for name, types in c.CALLS.items():
-            with self.subTest(name):
-                self.assertEqual([declared(kind) for kind in types], found[name])
-
-    def test_numbers(self):
-        enums = {"lk_reason": (Reason, 1), "lk_network": (Network, 1), "lk_transport": (Transport, 1),
-                 "lk_verdict": (Verdict, 0), "lk_problem": (Problem, 1)}  # fmt: skip
-        for name, (enum, first) in enums.items():
-            words = re.findall(r"LK_(\w+)", re.search(rf"enum {name} {{(.*?)}}", self.header, re.S).group(1))
-            self.assertEqual([member.name for member in enum], words[first:])
-            self.assertEqual([member.value for member in enum], list(range(first, len(words))))
-        flags = re.findall(r"LK_(\w+) = (\d+)", self.header)
-        self.assertEqual([(member.name, str(member.value)) for member in TcpFlag], flags)
-        for reason in Reason:
-            self.assertEqual(c.library.lk_reason_name(reason), b"LK_" + reason.name.encode())
+# The same by RFC 9293, section 3.2, RFC 7323, section 2.2, and RFC 2018, section 2: in the order of their kinds.
+OPTION_BYTES = bytes.fromhex("020405b4 030307 0402 080a 00000003 00000004 00")
 
 
 class Reading(unittest.TestCase):
@@ -252,56 +198,52 @@ class Writing(unittest.TestCase):
         data = ip_wire.emit_udp(IPV4, b"ping")
         self.assertEqual(ip_wire.rebuild(data + bytes(20)), data)
 
-    def test_clamp_mss(self):
+    def test_wrap(self):
+        """The payload is in the buffer already, and what follows the frame stays."""
+        for headers, start in [(IPV4, 42), (IPV6, 62)]:
+            out = bytearray(start) + b"ping!"
+            self.assertEqual(ip_wire.wrap_udp(headers, 4, out), start + 4)
+            self.assertEqual(out, ip_wire.emit_udp(headers, b"ping") + b"!")
+        for headers, start in [(IPV4, 34), (IPV6, 54)]:
+            out = bytearray(start + ip_wire.tcp_header_len(OPTIONS)) + b"data"
+            length = ip_wire.wrap_tcp(headers, Tcp(1, 2, 3, TcpFlag.ACK), OPTIONS, 4, memoryview(out))
+            self.assertEqual(out, ip_wire.emit_tcp(headers, Tcp(1, 2, 3, TcpFlag.ACK), OPTIONS, b"data"))
+            self.assertEqual(length, len(out))
+        self.assertRaisesRegex(WireError, "LK_NO_ROOM", ip_wire.wrap_udp, IPV4, 4, bytearray(45))
+        self.assertRaises(TypeError, ip_wire.wrap_udp, IPV4, 4, bytes(46))
+
+
+class Layers(unittest.TestCase):
+    """What is written is what tests/model.py computes by the RFCs."""
+
+    def test_layers(self):
+        tcp, fields = Tcp(7, 8, 9, TcpFlag.PSH | TcpFlag.ACK), (7, 8, 0x18, 9)
         for headers in (IPV4, IPV6):
-            larger, smaller = (
-                ip_wire.emit_tcp(headers, Tcp(flags=TcpFlag.SYN), TcpOptions(max_seg_size=size)) for size in (1460, 1260)
-            )
-            self.assertEqual(ip_wire.clamp_mss(larger, 1260), smaller)
-            self.assertEqual(ip_wire.clamp_mss(larger, 1460), larger)
-        self.assertEqual(ip_wire.clamp_mss(b"", 0), b"")
-        self.assertRaises(ValueError, ip_wire.clamp_mss, b"", 65536)
+            src, dst, (client, server) = headers.src, headers.dst, (headers.src.addr, headers.dst.addr)
+            udp, segment = model.udp(src, dst, b"odd"), model.tcp(src, dst, *fields, OPTION_BYTES, b"odd")
+            message = model.icmp(client, server, 8, 0, 0x12340001, b"odd")
+            cases = [
+                (udp, ip_wire.emit_udp_packet(src, dst, b"odd")),
+                (segment, ip_wire.emit_tcp_segment(tcp, src, dst, OPTIONS, b"odd")),
+                (message, ip_wire.emit_icmp_message(Icmp(8, 0, 0x12340001), client, server, b"odd")),
+                (udp[:6] + b"\0\0odd", ip_wire.emit_udp_packet(src, dst, b"odd", computed=False)),
+                (model.ip(client, server, 17, b"", 9), ip_wire.emit_ip_header(Ip(9, protocol=17), client, server, 0)),
+                (model.udp_frame(src, dst, b"odd"), ip_wire.emit_udp(headers, b"odd")),
+                (model.tcp_frame(src, dst, *fields, OPTION_BYTES, b"odd"), ip_wire.emit_tcp(headers, tcp, OPTIONS, b"odd")),
+                (model.icmp_frame(client, server, 1, 0, 5, b"odd"), ip_wire.emit_icmp(headers, Icmp(1, 0, 5), b"odd")),
+            ]
+            for wanted, found in cases:
+                self.assertEqual(found.hex(), wanted.hex())
+        self.assertEqual(ip_wire.emit_ethernet_header(Ethernet(CLIENT, SERVER, 0x88B5)), SERVER + CLIENT + b"\x88\xb5")
+        self.assertEqual(len(OPTION_BYTES) + 20, ip_wire.tcp_header_len(OPTIONS))
 
-
-class Values(unittest.TestCase):
-    def test_texts(self):
-        for text in ("0.0.0.0", "255.255.255.255", "::", "2001:db8::1:0:0:1", "fe80::"):
-            addr = ip_address(text)
-            self.assertEqual(ip_wire.parse_addr(text), addr)
-            self.assertEqual(ip_wire.parse_endpoint(str(Endpoint(addr, 80))), Endpoint(addr, 80))
-            self.assertEqual(ip_wire.parse_block(text + "/20"), ip_interface(text + "/20"))
-        self.assertEqual(str(IPV6.src), "[2001:db8::1]:46563")
-        self.assertEqual(ip_wire.print_ethernet(ip_wire.parse_ethernet("AB:cd:ef:0:00:1")), "ab-cd-ef-00-00-01")
-        for parse in (ip_wire.parse_addr, ip_wire.parse_endpoint, ip_wire.parse_block, ip_wire.parse_ethernet):
-            for text in ("", "1.2.3", "::1%lo", "1.2.3.4\0", "\udc80", "10.0.0.0/33"):
-                self.assertRaises(ValueError, parse, text)
-        self.assertRaises(ValueError, ip_wire.print_ethernet, b"12345")
-
-    def test_blocks(self):
-        block = ip_wire.parse_block("192.0.2.77/24")
-        self.assertTrue(ip_wire.contains(block, IPv4Address("192.0.2.255")))
-        self.assertFalse(ip_wire.contains(block, IPv4Address("192.0.3.0")))
-        self.assertFalse(ip_wire.contains(ip_interface("::/0"), IPv4Address("192.0.2.1")))
-        self.assertTrue(ip_wire.is_unicast(IPv4Address("192.0.2.1")))
-        self.assertFalse(ip_wire.is_unicast(IPv6Address("ff02::1")))
-
-    def test_numbers(self):
-        before, after = bytes.fromhex("45000020c0000201"), bytes.fromhex("45000054c6336409")
-        field = ip_wire.update_checksum(ip_wire.checksum(before) ^ 0xFFFF, 0x20, 0x54)
-        field = ip_wire.update_checksum(field, IPv4Address("192.0.2.1"), IPv4Address("198.51.100.9"))
-        self.assertEqual(field, ip_wire.checksum(after) ^ 0xFFFF)
-        self.assertEqual(ip_wire.update_checksum(0, 1, 2, udp=True), 0)
-        self.assertEqual((ip_wire.add_seq(2**32 - 1, 2), ip_wire.subtract_seq(1, 2**32 - 1)), (1, 2))
-
-
-class Importing(unittest.TestCase):
-    def test_no_library(self):
-        environment = {**os.environ, "IP_WIRE_LIBRARY": "/no/such/libip_wire.so"}
-        command = [sys.executable, "-c", "import ip_wire"]
-        run = subprocess.run(command, cwd=FOLDER, env=environment, text=True, capture_output=True, check=False)
-        self.assertEqual(run.returncode, 1)
-        self.assertIn("ImportError: the C library ip_wire is not found: /no/such/libip_wire.so", run.stderr)
-        self.assertIn("set IP_WIRE_LIBRARY", run.stderr)
+    def test_arp(self):
+        """RFC 826."""
+        arp = Arp(1, CLIENT, bytes(6), IPv4Address("192.0.2.1"), IPv4Address("192.0.2.2"))
+        packet = bytes.fromhex("0001 0800 06 04 0001") + CLIENT + arp.src.packed + bytes(6) + arp.dst.packed
+        self.assertEqual(ip_wire.emit_arp_packet(arp), packet)
+        self.assertEqual(ip_wire.emit_arp(Ethernet(CLIENT, SERVER), arp), SERVER + CLIENT + b"\x08\x06" + packet)
+        self.assertEqual(ip_wire.parse_frame(SERVER + CLIENT + b"\x08\x06" + packet).arp, arp)
 
 
 if __name__ == "__main__":

@@ -1,0 +1,51 @@
+package ipwire
+
+/*
+#include <ip_wire.h>
+*/
+import "C"
+
+// EmitUDP writes a whole frame with a UDP packet to the beginning of out, and returns this part of it. EtherType,
+// protocol, lengths and checksums are filled in. The error is a Failure; out is unchanged then. A frame is at most 62
+// bytes longer than its payload.
+func (h *Headers) EmitUDP(payload, out []byte) ([]byte, error) {
+	frame := h.c()
+	ptr, length := memory(payload)
+	to, room := memory(out)
+	return written(out, C.lk_emit_udp_frame(&frame, ptr, length, to, room))
+}
+
+// EmitTCP does the same with a TCP segment. A frame is at most 114 bytes longer than its payload.
+func (h *Headers) EmitTCP(options *TCPOptions, payload, out []byte) ([]byte, error) {
+	frame := h.c()
+	set, err := options.c()
+	if err != nil {
+		return nil, err
+	}
+	ptr, length := memory(payload)
+	to, room := memory(out)
+	return written(out, C.lk_emit_tcp_frame(&frame, &set, ptr, length, to, room))
+}
+
+// EmitICMP does the same with an ICMP message. No port is used. A frame is at most 62 bytes longer than its payload.
+func (h *Headers) EmitICMP(payload, out []byte) ([]byte, error) {
+	frame := h.c()
+	ptr, length := memory(payload)
+	to, room := memory(out)
+	return written(out, C.lk_emit_icmp_frame(&frame, ptr, length, to, room))
+}
+
+// EmitARP does the same with an ARP packet, in 42 bytes. Its IPv4 addresses are those of Src and Dst.
+func (h *Headers) EmitARP(out []byte) ([]byte, error) {
+	frame := h.c()
+	to, room := memory(out)
+	return written(out, C.lk_emit_arp_frame(&frame, to, room))
+}
+
+// Rebuild parses an Ethernet frame, emits each header again from its values to the beginning of out, and returns this
+// part of it. It is no longer than the frame. The comment of lk_rebuild in ip_wire.h lists what changes.
+func Rebuild(frame, out []byte) ([]byte, error) {
+	ptr, length := memory(frame)
+	to, room := memory(out)
+	return written(out, C.lk_rebuild(ptr, length, to, room))
+}

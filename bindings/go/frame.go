@@ -1,0 +1,155 @@
+package ipwire
+
+/*
+#include <ip_wire.h>
+*/
+import "C"
+
+import "errors"
+
+// ErrChecksum is returned by Check for a frame with a wrong checksum.
+var ErrChecksum = errors.New("ipwire: a checksum is wrong")
+
+// Network is the protocol after the Ethernet header.
+type Network uint8
+
+// Transport is the protocol after the IP header.
+type Transport uint8
+
+// The protocols. The zero values are no header.
+const (
+	NetworkARP    Network   = C.LK_ARP
+	NetworkIPv4   Network   = C.LK_IPV4
+	NetworkIPv6   Network   = C.LK_IPV6
+	TransportUDP  Transport = C.LK_UDP
+	TransportTCP  Transport = C.LK_TCP
+	TransportICMP Transport = C.LK_ICMP
+)
+
+// Reason is why a header was rejected. Its zero value is no reason.
+type Reason uint8
+
+// The reasons. If several apply to a header, it is the first of them in this order.
+const (
+	TooShort    Reason = C.LK_TOO_SHORT    // fewer bytes than the shortest header
+	BadVersion  Reason = C.LK_BAD_VERSION  // another version than the EtherType names; a packet of neither version
+	BadLength   Reason = C.LK_BAD_LENGTH   // a length field that does not fit
+	OtherARP    Reason = C.LK_OTHER_ARP    // ARP for other addresses than Ethernet and IPv4
+	PortZero    Reason = C.LK_PORT_ZERO    // UDP: destination port 0; TCP: a port 0
+	BadFlags    Reason = C.LK_BAD_FLAGS    // TCP: more than one of SYN, FIN and RST
+	BadOptions  Reason = C.LK_BAD_OPTIONS  // TCP: a malformed option before the end mark
+	HeaderCut   Reason = C.LK_HEADER_CUT   // the header was not captured as a whole
+	UnknownLink Reason = C.LK_UNKNOWN_LINK // ReadLink does not know the link type
+)
+
+// Error returns the name of the reason in ip_wire.h, as "ipwire: LK_PORT_ZERO".
+func (r Reason) Error() string {
+	return "ipwire: " + C.GoString(C.lk_reason_name(C.int(r)))
+}
+
+// Verdict is what a checksum says. Its zero value is that there is none.
+type Verdict uint8
+
+// The verdicts.
+const (
+	Right        Verdict = C.LK_RIGHT
+	Wrong        Verdict = C.LK_WRONG
+	LeftOut      Verdict = C.LK_LEFT_OUT       // UDP over IPv4: the sender computed none
+	LeftToDevice Verdict = C.LK_LEFT_TO_DEVICE // only the pseudo-header is summed: checksum offload
+	ChecksumCut  Verdict = C.LK_CHECKSUM_CUT   // not all bytes that it covers were captured
+)
+
+// Frame is a frame or packet that was read. The headers before a rejected one are there, and the payload begins at
+// the rejected header. So call Check first, if the payload is to be trusted.
+type Frame struct {
+	Headers
+	Reason            Reason    // 0: no header was rejected
+	Network           Network   // the header that was read
+	Transport         Transport // the header that was read
+	Rejected          Transport // the header that was rejected, but whose fields are in Headers
+	IsFragment        bool      // a part of an IP packet, so its payload is not parsed
+	IPv4Checksum      Verdict
+	TransportChecksum Verdict
+	NetworkOffset     int    // of the ARP or IP header, from the first byte of the frame or packet
+	TransportOffset   int    // of the UDP, TCP or ICMP header
+	PayloadOffset     int    // of the payload
+	PayloadLen        int    // of the whole frame: the payload may end past the captured bytes
+	Payload           []byte // a part of what was read, as far as it was captured
+	TCPHeader         []byte // a TCP header that was read, with its options; else nil
+}
+
+// ReadFrame parses an Ethernet frame.
+func ReadFrame(frame []byte) Frame {
+	var f C.struct_lk_frame
+	ptr, length := memory(frame)
+	C.lk_read_frame(ptr, length, &f)
+	return frameOf(frame, &f)
+}
+
+// ReadPacket parses a packet that begins with its IPv4 or IPv6 header.
+func ReadPacket(packet []byte) Frame {
+	var f C.struct_lk_frame
+	ptr, length := memory(packet)
+	C.lk_read_packet(ptr, length, &f)
+	return frameOf(packet, &f)
+}
+
+// ReadCaptured parses an Ethernet frame of this length, of which only the first bytes were captured.
+func ReadCaptured(captured []byte, length int) Frame {
+	var f C.struct_lk_frame
+	ptr, count := memory(captured)
+	C.lk_read_captured(ptr, count, C.size_t(length), &f)
+	return frameOf(captured, &f)
+}
+
+// ReadCapturedPacket does the same with a packet that begins with its IPv4 or IPv6 header.
+func ReadCapturedPacket(captured []byte, length int) Frame {
+	var f C.struct_lk_frame
+	ptr, count := memory(captured)
+	C.lk_read_captured_packet(ptr, count, C.size_t(length), &f)
+	return frameOf(captured, &f)
+}
+
+func frameOf(data []byte, f *C.struct_lk_frame) Frame {
+	frame := Frame{
+		Headers:           headersOf(f),
+		Reason:            Reason(f.reason),
+		Network:           Network(f.network),
+		Transport:         Transport(f.transport),
+		Rejected:          Transport(f.rejected),
+		IsFragment:        f.is_fragment != 0,
+		IPv4Checksum:      Verdict(f.ipv4_checksum),
+		TransportChecksum: Verdict(f.transport_checksum),
+		NetworkOffset:     int(f.network_offset),
+		TransportOffset:   int(f.transport_offset),
+		PayloadOffset:     int(f.payload_offset),
+		PayloadLen:        int(f.payload_len),
+	}
+	frame.Payload = part(data, frame.PayloadOffset, frame.PayloadLen)
+	if frame.Transport == TransportTCP {
+		frame.TCPHeader = part(data, frame.TransportOffset, int(f.tcp.header_len))
+	}
+	return frame
+}
+
+// part returns the bytes from a place on, as far as they are there.
+func part(data []byte, from, length int) []byte {
+	if from > len(data) {
+		from = len(data)
+	}
+	if length > len(data)-from {
+		length = len(data) - from
+	}
+	return data[from : from+length]
+}
+
+// Check returns the Reason if a header was rejected, ErrChecksum if a checksum is wrong, and else nil.
+func (f *Frame) Check() error {
+	if f.Reason != 0 {
+		return f.Reason
+	}
+	if f.IPv4Checksum == Wrong || f.TransportChecksum == Wrong {
+		return ErrChecksum
+	}
+	return nil
+}

@@ -1,0 +1,3 @@
+module lerkvist.example/ipwire
+
+go 1.19

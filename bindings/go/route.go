@@ -1,0 +1,97 @@
+package ipwire
+
+/*
+#include <ip_wire.h>
+*/
+import "C"
+
+import "net/netip"
+
+// Rejection is why a frame is not forwarded or accepted. Its zero value is no rejection.
+type Rejection uint8
+
+// The rejections of the calls of this package. If several apply, it is the first in this order.
+const (
+	NotIP          Rejection = C.LK_NOT_IP          // no Ethernet header, or an EtherType other than IPv4 and IPv6
+	BadHeader      Rejection = C.LK_BAD_HEADER      // the version of the IP header or its lengths do not fit
+	WrongChecksum  Rejection = C.LK_WRONG_CHECKSUM  // of the IPv4 header
+	Expired        Rejection = C.LK_EXPIRED         // the hop limit is 0 or 1
+	Martian        Rejection = C.LK_MARTIAN         // no host may send from this address
+	NoRoute        Rejection = C.LK_NO_ROUTE        // there is no route back
+	OtherInterface Rejection = C.LK_OTHER_INTERFACE // the route back leads to another interface
+)
+
+// Error returns the name of the rejection in ip_wire.h, as "ipwire: LK_EXPIRED".
+func (r Rejection) Error() string {
+	return "ipwire: " + C.GoString(C.lk_rejection_name(C.int(r)))
+}
+
+func rejection(number C.int) error {
+	if number == C.LK_NOT_REJECTED {
+		return nil
+	}
+	return Rejection(number)
+}
+
+// Forward forwards the packet of an Ethernet frame by one hop, in place (RFC 1812, section 5.3.1): src and dst are the
+// new Ethernet addresses, and the hop limit becomes one less. The error is NotIP, BadHeader, WrongChecksum or Expired;
+// the frame is unchanged then.
+func Forward(frame []byte, src, dst HardwareAddr) error {
+	ptr, length := memory(frame)
+	return rejection(C.lk_forward(ptr, length, src.ptr(), dst.ptr()))
+}
+
+// ClampMSS lowers the maximum segment size of a TCP SYN in an Ethernet frame, in place. It tells whether the size was
+// larger.
+func ClampMSS(frame []byte, maxSegSize uint16) bool {
+	ptr, length := memory(frame)
+	return C.lk_clamp_mss(ptr, length, C.uint16_t(maxSegSize)) != 0
+}
+
+// Route is a route to the addresses of a block.
+type Route struct {
+	Block     netip.Prefix
+	NextHop   netip.Addr // the next router; zero: the destinations are on the link
+	Interface uint16     // a number that the caller chooses
+}
+
+// Routes is a list of routes with an index, by which a search takes few steps.
+type Routes struct {
+	routes []C.struct_lk_route
+	nodes  []C.struct_lk_route_node
+}
+
+// NewRoutes makes the index of a list of routes. The error is NoVersion or BadPrefix if a block is invalid.
+func NewRoutes(routes []Route) (*Routes, error) {
+	r := &Routes{make([]C.struct_lk_route, len(routes)), make([]C.struct_lk_route_node, len(routes))}
+	for place, route := range routes {
+		r.routes[place] = C.struct_lk_route{
+			block:      cBlock(route.Block),
+			next_hop:   cAddr(route.NextHop),
+			_interface: C.uint16_t(route.Interface),
+		}
+	}
+	list, count := first(r.routes)
+	nodes, room := first(r.nodes)
+	if indexed := C.lk_index_routes(list, count, nodes, room); indexed < 0 {
+		return nil, Failure(indexed)
+	}
+	return r, nil
+}
+
+// Choose returns the place in the list of the route with the longest prefix that contains the address, of several the
+// first, or -1 if none contains it.
+func (r *Routes) Choose(addr netip.Addr) int {
+	nodes, count := first(r.nodes)
+	value := cAddr(addr)
+	return int(C.lk_choose_route(nodes, count, &value))
+}
+
+// CheckSource tells whether a router may accept a packet from src that came in by an interface (strict reverse path
+// forwarding, RFC 3704, section 2.2). The error is Martian, NoRoute or OtherInterface.
+func (r *Routes) CheckSource(src netip.Addr, interfaceNumber uint16) error {
+	list, count := first(r.routes)
+	nodes, nodeCount := first(r.nodes)
+	value := cAddr(src)
+	return rejection(C.lk_check_source(list, count, nodes, nodeCount, &value, C.uint16_t(interfaceNumber)))
+}

@@ -1,0 +1,90 @@
+package ipwire
+
+/*
+#include <ip_wire.h>
+*/
+import "C"
+
+// SackRange is a range of received data (RFC 2018), from Left up to Right, without Right.
+type SackRange struct {
+	Left, Right uint32
+}
+
+// Timestamp is the option of RFC 7323.
+type Timestamp struct {
+	Value, Reply uint32
+}
+
+// TCPOptions has the options of a TCP header (RFC 9293, RFC 2018, RFC 7323). A nil is an option that is not there.
+type TCPOptions struct {
+	MaxSegSize    *uint16 // in bytes
+	WindowScale   *uint8  // in bits; at most 14 is read
+	SackPermitted bool
+	SackRanges    []SackRange // at most 4
+	Timestamp     *Timestamp
+}
+
+// ReadTCPOptions parses the options of a TCP header, such as Frame.TCPHeader. The error is BadOptions if one is
+// malformed, or the header is shorter than 20 bytes or than it says.
+func ReadTCPOptions(header []byte) (TCPOptions, error) {
+	var set C.struct_lk_tcp_options
+	ptr, length := memory(header)
+	if C.lk_read_tcp_options(ptr, length, &set) == 0 {
+		return TCPOptions{}, BadOptions
+	}
+	options := TCPOptions{SackPermitted: set.sack_permitted != 0}
+	if set.has_max_seg_size != 0 {
+		size := uint16(set.max_seg_size)
+		options.MaxSegSize = &size
+	}
+	if set.has_window_scale != 0 {
+		scale := uint8(set.window_scale)
+		options.WindowScale = &scale
+	}
+	if set.has_timestamp != 0 {
+		options.Timestamp = &Timestamp{uint32(set.tsval), uint32(set.tsecr)}
+	}
+	for _, it := range set.sack_ranges[:set.sack_range_count] {
+		options.SackRanges = append(options.SackRanges, SackRange{uint32(it.left), uint32(it.right)})
+	}
+	return options, nil
+}
+
+// HeaderLen returns the length of a TCP header with these options, 20 to 60 bytes. The error is OptionsTooLong.
+func (o *TCPOptions) HeaderLen() (int, error) {
+	set, err := o.c()
+	if err != nil {
+		return 0, err
+	}
+	length := C.lk_tcp_header_len(&set)
+	if length < 0 {
+		return 0, Failure(length)
+	}
+	return int(length), nil
+}
+
+// c returns the struct of the options. Those of nil are none.
+func (o *TCPOptions) c() (set C.struct_lk_tcp_options, err error) {
+	if o == nil {
+		return set, nil
+	}
+	if len(o.SackRanges) > len(set.sack_ranges) {
+		return set, OptionsTooLong
+	}
+	for place, it := range o.SackRanges {
+		set.sack_ranges[place] = C.struct_lk_sack_range{left: C.uint32_t(it.Left), right: C.uint32_t(it.Right)}
+	}
+	set.sack_range_count = C.uint8_t(len(o.SackRanges))
+	set.sack_permitted = flag(o.SackPermitted)
+	if o.MaxSegSize != nil {
+		set.max_seg_size, set.has_max_seg_size = C.uint16_t(*o.MaxSegSize), 1
+	}
+	if o.WindowScale != nil {
+		set.window_scale, set.has_window_scale = C.uint8_t(*o.WindowScale), 1
+	}
+	if o.Timestamp != nil {
+		set.tsval, set.tsecr = C.uint32_t(o.Timestamp.Value), C.uint32_t(o.Timestamp.Reply)
+		set.has_timestamp = 1
+	}
+	return set, nil
+}

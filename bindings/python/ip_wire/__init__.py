@@ -1,0 +1,48 @@
+"""Ethernet II, ARP, IPv4, IPv6, ICMP, UDP and TCP packets, by the proved C library ip_wire.
+
+    frame = ip_wire.parse_frame(data)
+    frame.check()                           # raises Rejected
+    print(frame.src, frame.payload)
+    data = ip_wire.emit_udp(frame.reply(), b"pong")
+
+It needs Python 3.8 or later, and no other package. The shared library is the file that the environment variable
+IP_WIRE_LIBRARY names, else the one in this package, else the installed one. The import fails if there is none, or if
+the processor is older than x86-64-v2.
+
+Data is `bytes`, an Ethernet address too. IP addresses are objects of the module `ipaddress`. An argument of a wrong
+type raises TypeError. A value that does not fit into its field raises ValueError, and a failure of the library raises
+WireError, which is a ValueError too. `man ip_wire` and ip_wire.h describe the calls.
+"""
+from ._c import VERSION as __version__
+from ._convert import Address, AnyBlock, Block, Data, WireError
+from .addresses import (
+    Endpoint, contains, is_multicast, is_unicast, parse_addr, parse_block, parse_endpoint, parse_ethernet, print_addr,
+    print_block, print_ethernet,
+)  # fmt: skip
+from .arithmetic import add_seq, checksum, compare_seq, subtract_seq, update_checksum, update_checksum_bytes
+from .frames import (
+    Frame, Link, Network, Transport, Verdict, parse_captured, parse_frame, parse_link, parse_linktype, parse_packet,
+)  # fmt: skip
+from .headers import (
+    Arp, Ethernet, Headers, Icmp, Ip, Ipv6Header, RawOption, Reason, Rejected, Rejection, Tcp, TcpFlag, TcpOptions,
+    ipv6_headers, parse_tcp_options, raw_tcp_options, tcp_header_len,
+)  # fmt: skip
+from .hosts import Host, Interface, Ndisc, Problem, emit_ndisc, parse_ndisc
+from .routing import Nat, Route, Routes, Side, clamp_mss, forward, translate
+from .writing import (
+    emit_arp, emit_arp_packet, emit_ethernet_header, emit_icmp, emit_icmp_message, emit_ip_header, emit_tcp,
+    emit_tcp_segment, emit_udp, emit_udp_packet, rebuild, wrap_tcp, wrap_udp,
+)  # fmt: skip
+
+__all__ = [
+    "__version__", "Address", "AnyBlock", "Arp", "Block", "Data", "Endpoint", "Ethernet", "Frame", "Headers",
+    "Host", "Icmp", "Interface", "Ip", "Ipv6Header", "Link", "Nat", "Ndisc", "Network", "Problem", "RawOption",
+    "Reason", "Rejected", "Rejection", "Route", "Routes", "Side", "Tcp", "TcpFlag", "TcpOptions", "Transport",
+    "Verdict", "WireError", "add_seq", "checksum", "clamp_mss", "compare_seq", "contains", "emit_arp",
+    "emit_arp_packet", "emit_ethernet_header", "emit_icmp", "emit_icmp_message", "emit_ip_header", "emit_ndisc",
+    "emit_tcp", "emit_tcp_segment", "emit_udp", "emit_udp_packet", "forward", "ipv6_headers", "is_multicast",
+    "is_unicast", "parse_addr", "parse_block", "parse_captured", "parse_endpoint", "parse_ethernet",
+    "parse_frame", "parse_link", "parse_linktype", "parse_ndisc", "parse_packet", "parse_tcp_options",
+    "print_addr", "print_block", "print_ethernet", "raw_tcp_options", "rebuild", "subtract_seq",
+    "tcp_header_len", "translate", "update_checksum", "update_checksum_bytes", "wrap_tcp", "wrap_udp",
+]  # fmt: skip

@@ -1,0 +1,71 @@
+"""Addresses, endpoints and blocks, and their texts."""
+from __future__ import annotations
+
+from ipaddress import ip_interface
+from typing import Any, NamedTuple
+
+from . import _c as c
+from ._convert import Address, AnyBlock, Block, address_of, call, from_c, parsed, represents, written
+
+
+@represents(c.Endpoint)
+class Endpoint(NamedTuple):
+    """An address with a port."""
+
+    addr: Address
+    port: int
+
+    def __str__(self) -> str:
+        return written(48, "lk_print_endpoint", self).decode()
+
+
+def parse_addr(text: str) -> Address:
+    """Parses an address. Other than by `ipaddress`, leading zeros are accepted, and a scope (%eth0) is rejected."""
+    addr: Address = address_of(parsed(c.Addr(), "lk_parse_addr", text))
+    return addr
+
+
+def print_addr(addr: Address) -> str:
+    """Prints an address, by RFC 5952. IPv4-mapped addresses have dotted decimal: ::ffff:192.0.2.1."""
+    return written(40, "lk_print_addr", addr).decode()
+
+
+def parse_endpoint(text: str) -> Endpoint:
+    """Parses `address:port`, with an IPv6 address in brackets; or an address by itself, with port 0."""
+    return from_c(Endpoint, parsed(c.Endpoint(), "lk_parse_endpoint", text))
+
+
+def parse_block(text: str) -> Block:
+    """Parses a CIDR block. It keeps all bits of its address."""
+    block: Any = parsed(c.Block(), "lk_parse_block", text)
+    return ip_interface((address_of(block.addr), block.prefix_len))
+
+
+def print_block(block: AnyBlock) -> str:
+    """Prints a CIDR block, with all bits of its address."""
+    return written(44, "lk_print_block", block).decode()
+
+
+def contains(block: AnyBlock, addr: Address) -> bool:
+    """Whether the address is in the block. No address is in a block of the other version."""
+    return bool(call("lk_contains", block, addr))
+
+
+def is_multicast(addr: Address) -> bool:
+    """Whether the address is a multicast address (224.0.0.0/4, ff00::/8)."""
+    return bool(call("lk_is_multicast", addr))
+
+
+def is_unicast(addr: Address) -> bool:
+    """Whether the address is neither multicast, nor unspecified (0.0.0.0, ::), nor 255.255.255.255."""
+    return bool(call("lk_is_unicast", addr))
+
+
+def parse_ethernet(text: str) -> bytes:
+    """Parses six groups of 1 or 2 hex digits, all joined by '-' or all by ':'."""
+    return bytes(parsed(c.Hardware(), "lk_parse_ethernet", text))
+
+
+def print_ethernet(octets: bytes) -> str:
+    """Prints six pairs of hex digits, joined by '-'."""
+    return written(18, "lk_print_ethernet", octets).decode()

@@ -1,0 +1,239 @@
+"""Tests the declarations, texts, numbers, and arguments that are wrong.
+
+IP_WIRE_HEADER is the path of ip_wire.h, if it is not that of the source tree or of the release archive.
+"""
+import ctypes
+import os
+import re
+import subprocess
+import sys
+import unittest
+from dataclasses import fields, replace
+from ipaddress import IPv4Address, IPv6Address, ip_address, ip_interface, ip_network
+
+import ip_wire
+import model
+from ip_wire import Arp, Endpoint, Ethernet, Headers, Host, Icmp, Interface, Ip, Ndisc, Network, Problem, Reason
+from ip_wire import Rejection, Side, Tcp, TcpFlag, TcpOptions, Transport, Verdict
+from ip_wire import _c as c
+
+TOP = os.path.join(os.path.dirname(os.path.abspath(__file__)), "..", "..", "..")
+HEADERS = [os.path.join(TOP, folder, "ip_wire.h") for folder in ("c", "include")]
+HEADER = os.environ.get("IP_WIRE_HEADER") or next(filter(os.path.exists, HEADERS), HEADERS[0])
+UNBOUND = []  # the calls of the header that the package lacks
+
+
+class Declarations(unittest.TestCase):
+    """The calls and numbers are those of ip_wire.h."""
+
+    @classmethod
+    def setUpClass(cls):
+        with open(HEADER, encoding="ascii") as file:
+            cls.header = re.sub(r"/\*.*?\*/", " ", file.read(), flags=re.S)
+
+    def test_calls(self):
+        plain = {"int": ctypes.c_int, "size_t": ctypes.c_size_t, "ptrdiff_t": ctypes.c_ssize_t, "void": None,
+                 "uint16_t": ctypes.c_uint16, "uint32_t": ctypes.c_uint32, "uint64_t": ctypes.c_uint64,
+                 "int32_t": ctypes.c_int32}  # fmt: skip
+
+        def kind(text):
+            words = " ".join(re.findall(r"\w+|\*", text))
+            struct = re.fullmatch(r"(?:const )?struct (\w+) \*", words)
+            return "pointer to " + struct.group(1) if struct else "bytes" if words.endswith("*") else plain[words]
+
+        def declared(kind):
+            if kind in (ctypes.c_char_p, ctypes.c_void_p, ctypes.POINTER(ctypes.c_uint8)):
+                return "bytes"
+            is_pointer = kind is not None and issubclass(kind, ctypes._Pointer)
+            return "pointer to " + kind._type_.__name__ if is_pointer else kind
+
+        found = {}
+        for result, name, parameters in re.findall(r"^([a-z]\w*(?: \w+)* \*?)(lk_\w+)\(([^()]*)\);", self.header, re.M):
+            types = [re.sub(r"\w+\s*$", "", p) for p in parameters.split(",")] if parameters != "void" else []
+            found[name] = [kind(text) for text in [result, *types]]
+        self.assertEqual(sorted([*c.CALLS, *UNBOUND]), sorted(found))
+        for name, (result, *kinds) in c.CALLS.items():
+            with self.subTest(name):
+                self.assertEqual([declared(kind) for kind in (result, *c.argument_types(kinds))], found[name])
+
+    def test_numbers(self):
+        enums = {"lk_reason": (Reason, 1), "lk_network": (Network, 1), "lk_transport": (Transport, 1),
+                 "lk_verdict": (Verdict, 0), "lk_problem": (Problem, 1), "lk_rejection": (Rejection, 1),
+                 "lk_side": (Side, 0)}  # fmt: skip
+        for name, (enum, first) in enums.items():
+            words = re.findall(r"LK_(\w+)", re.search(rf"enum {name} {{(.*?)}}", self.header, re.S).group(1))
+            self.assertEqual([member.name for member in enum], words[first:])
+            self.assertEqual([member.value for member in enum], list(range(first, len(words))))
+        flags = re.findall(r"LK_(\w+) = (\d+)", self.header)
+        self.assertEqual([(member.name, str(member.value)) for member in TcpFlag], flags)
+        for enum, name_of in [(Reason, c.library.lk_reason_name), (Rejection, c.library.lk_rejection_name)]:
+            self.assertEqual([name_of(member) for member in enum], [b"LK_" + member.name.encode() for member in enum])
+        self.assertEqual(set(ip_wire.__all__), {name for name in vars(ip_wire) if name in ip_wire.__all__})
+
+
+class Texts(unittest.TestCase):
+    def test_against_ipaddress(self):
+        for text in ("0.0.0.0", "255.255.255.255", "::", "2001:db8::1:0:0:1", "fe80::", "224.0.0.1", "ff02::1", "::1"):
+            addr = ip_address(text)
+            self.assertEqual((ip_wire.parse_addr(text), ip_wire.print_addr(addr)), (addr, text))
+            self.assertEqual(ip_wire.parse_endpoint(str(Endpoint(addr, 80))), Endpoint(addr, 80))
+            block = ip_interface(text + "/20")
+            self.assertEqual((ip_wire.parse_block(text + "/20"), ip_wire.print_block(block)), (block, text + "/20"))
+            self.assertEqual(ip_wire.is_multicast(addr), addr.is_multicast)
+            others = addr.is_multicast or addr.is_unspecified or addr == IPv4Address("255.255.255.255")
+            self.assertEqual(ip_wire.is_unicast(addr), not others)
+
+    def test_recommended_texts(self):
+        """RFC 5952: section 4.1, 4.2.2, 4.2.3 twice, 4.3, 5, and of an endpoint 6."""
+        for text, printed in [
+            ("2001:0db8::0001", "2001:db8::1"),
+            ("2001:db8:0:1:1:1:1:1", "2001:db8:0:1:1:1:1:1"),
+            ("2001:0:0:1:0:0:0:1", "2001:0:0:1::1"),
+            ("2001:db8:0:0:1:0:0:1", "2001:db8::1:0:0:1"),
+            ("2001:DB8::AAAA", "2001:db8::aaaa"),
+            ("::ffff:192.0.2.1", "::ffff:192.0.2.1"),
+        ]:
+            self.assertEqual(ip_wire.print_addr(ip_wire.parse_addr(text)), printed)
+        self.assertEqual(str(ip_wire.parse_endpoint("[2001:DB8::1]:80")), "[2001:db8::1]:80")
+
+    def test_ethernet(self):
+        octets = bytes.fromhex("abcdef000001")
+        self.assertEqual(ip_wire.parse_ethernet("AB:cd:ef:0:00:1"), octets)
+        self.assertEqual(ip_wire.print_ethernet(bytearray(octets)), "ab-cd-ef-00-00-01")
+
+    def test_rejected(self):
+        for parse in (ip_wire.parse_addr, ip_wire.parse_endpoint, ip_wire.parse_block, ip_wire.parse_ethernet):
+            for text in ("", "1.2.3", "::1%lo", "1.2.3.4\0", "\udc80", "10.0.0.0/33"):
+                with self.subTest(text=text):
+                    self.assertRaisesRegex(ValueError, "does not parse", parse, text)
+
+    def test_blocks(self):
+        block = ip_wire.parse_block("192.0.2.77/24")
+        for addr, is_in in [("192.0.2.255", True), ("192.0.3.0", False), ("::1", False)]:
+            self.assertEqual(ip_wire.contains(block, ip_address(addr)), is_in)
+            self.assertEqual(ip_wire.contains(ip_network("192.0.2.0/24"), ip_address(addr)), is_in)
+
+
+class Numbers(unittest.TestCase):
+    def test_checksums(self):
+        """RFC 1071, section 3, and RFC 1624, section 4."""
+        self.assertEqual(ip_wire.checksum(bytes.fromhex("0001f203f4f5f6f7")), 0xDDF2)
+        self.assertEqual(ip_wire.update_checksum(0xDD2F, 0x5555, 0x3285), 0)
+        self.assertEqual(ip_wire.update_checksum(0xDD2F, 0x5555, 0x3285, udp=True), 0xFFFF)
+        self.assertEqual(ip_wire.update_checksum(0, 1, 2, udp=True), 0)
+        before, after = IPv4Address("192.0.2.1"), IPv4Address("198.51.100.9")
+        field = ip_wire.checksum(b"\x12\x34" + before.packed) ^ 0xFFFF
+        self.assertEqual(ip_wire.update_checksum(field, before, after), ip_wire.checksum(b"\x12\x34" + after.packed) ^ 0xFFFF)
+
+    def test_replaced_bytes(self):
+        """RFC 1624, and RFC 1071, section 2 B: the sum of all bytes afterwards, at each offset."""
+        data = bytes(range(7, 40))
+        for offset in range(8):
+            for before, after in [(1, b"\xff"), (2, b"\x01\x02"), (4, b"\x80\x81"), (0, b"")]:
+                changed = data[:offset] + after + data[offset + before :]
+                if (before - len(after)) % 2 == 0:
+                    field = ip_wire.update_checksum_bytes(model.checksum(data), offset, data[offset : offset + before], after)
+                    self.assertEqual(field, model.checksum(changed))
+        self.assertEqual(ip_wire.update_checksum_bytes(0, 1, b"a", b"b", udp=True), 0)
+
+    def test_sequence_numbers(self):
+        """RFC 9293, section 3.4."""
+        for a, steps, b in [(0, 1, 1), (2**32 - 1, 2, 1), (2**31, 2**31 - 1, 2**32 - 1)]:
+            self.assertEqual((ip_wire.add_seq(a, steps), ip_wire.subtract_seq(b, a)), (b, steps))
+            self.assertEqual((ip_wire.compare_seq(a, b), ip_wire.compare_seq(b, a), ip_wire.compare_seq(a, a)), (-1, 1, 0))
+
+
+ENDPOINT, HARDWARE, IPV6 = Endpoint(IPv4Address("192.0.2.1"), 7), b"123456", IPv6Address("2001:db8::1")
+HEADERS = Headers(Ethernet(HARDWARE, HARDWARE), ENDPOINT, ENDPOINT)
+ADDR, BLOCK = ENDPOINT.addr, ip_interface("192.0.2.1/24")
+ARP, HOST, OWN = Arp(1, HARDWARE, HARDWARE, ADDR, ADDR), Host(HARDWARE, ADDR, IPV6, 1), Interface(HARDWARE)
+OPTIONS = TcpOptions(1460, 7, True, ((1, 2),), (3, 4))
+ROUTES, NAT = ip_wire.Routes([]), ip_wire.Nat(ADDR, ports=1)
+# Of each call good arguments.
+ARGUMENTS = [
+    (ip_wire.parse_addr, "::"), (ip_wire.parse_endpoint, "::"), (ip_wire.parse_block, "::/0"),
+    (ip_wire.parse_ethernet, "1-2-3-4-5-6"), (ip_wire.print_addr, ADDR), (ip_wire.print_block, BLOCK),
+    (ip_wire.print_ethernet, HARDWARE), (ip_wire.contains, BLOCK, ADDR), (ip_wire.is_multicast, ADDR),
+    (ip_wire.is_unicast, ADDR), (ip_wire.parse_frame, b""), (ip_wire.parse_packet, b""), (ip_wire.parse_captured, b"", 0),
+    (ip_wire.parse_link, 228, b""), (ip_wire.parse_linktype, 1, b""),
+    (ip_wire.parse_tcp_options, b""), (ip_wire.tcp_header_len, OPTIONS), (ip_wire.emit_udp, HEADERS, b""),
+    (ip_wire.emit_tcp, HEADERS, Tcp(), OPTIONS, b""), (ip_wire.emit_icmp, HEADERS, Icmp(8), b""),
+    (ip_wire.emit_arp, HEADERS.ethernet, ARP), (ip_wire.emit_ethernet_header, HEADERS.ethernet),
+    (ip_wire.emit_arp_packet, ARP), (ip_wire.emit_ip_header, Ip(), ADDR, ADDR, 0),
+    (ip_wire.emit_udp_packet, ENDPOINT, ENDPOINT, b""),
+    (ip_wire.emit_tcp_segment, Tcp(), ENDPOINT, ENDPOINT, OPTIONS, b""),
+    (ip_wire.emit_icmp_message, Icmp(8), ADDR, ADDR, b""), (ip_wire.wrap_udp, HEADERS, 0, bytearray(42)),
+    (ip_wire.wrap_tcp, HEADERS, Tcp(), OPTIONS, 0, bytearray(114)), (ip_wire.rebuild, bytes(14)),
+    (ip_wire.parse_ndisc, b""), (ip_wire.emit_ndisc, HEADERS.ethernet, IPV6, IPV6, Ndisc(IPV6)),
+    (OWN.emit_error, Problem.ROUTE_MISSING, b"", 0), (HOST.answer, b""), (ip_wire.clamp_mss, b"", 0),
+    (ROUTES.choose, ADDR), (NAT.translate_out, b""), (ip_wire.checksum, b""), (ip_wire.update_checksum, 0, 0, 0),
+    (ip_wire.update_checksum, 0, ADDR, ADDR), (ip_wire.update_checksum_bytes, 0, 0, b"", b""), (ip_wire.add_seq, 0, 0), (ip_wire.subtract_seq, 0, 0),
+    (ip_wire.compare_seq, 0, 0), (ip_wire.forward, b"", HARDWARE, HARDWARE),
+    (ip_wire.translate, b"", Side.SOURCE, ENDPOINT), (ROUTES.check_source, ADDR, 0), (NAT.translate_in, b"", 0),
+]  # fmt: skip
+# Of each class a good object, and a call that writes it.
+OBJECTS = [
+    (HEADERS.ethernet, ip_wire.emit_ethernet_header), (ARP, ip_wire.emit_arp_packet), (OPTIONS, ip_wire.tcp_header_len),
+    (HEADERS, lambda it: ip_wire.emit_udp(it, b"")), (Ip(), lambda it: ip_wire.emit_ip_header(it, ADDR, ADDR, 0)),
+    (Tcp(), lambda it: ip_wire.emit_tcp(HEADERS, it)), (Icmp(8), lambda it: ip_wire.emit_icmp(HEADERS, it)),
+    (Ndisc(IPV6, HARDWARE), lambda it: ip_wire.emit_ndisc(HEADERS.ethernet, IPV6, IPV6, it)),
+    (OWN, lambda it: it.emit_error(Problem.ROUTE_MISSING, b"")), (HOST, lambda it: it.answer(b"")),
+    (ip_wire.Route(BLOCK, 1, ADDR), lambda it: ip_wire.Routes([it])),
+]  # fmt: skip
+
+
+class WrongArguments(unittest.TestCase):
+    """What is no text, number, address or object raises TypeError, and numbers out of range raise ValueError."""
+
+    def test_arguments(self):
+        for call, *good in ARGUMENTS:
+            for place, value in enumerate(good):
+                wrong = [(None, TypeError), (1.5, TypeError), (object(), TypeError)]
+                if isinstance(value, int):
+                    wrong += [("7", TypeError), (b"7", TypeError), (-1 if call != NAT.translate_in else 1 << 64, ValueError),
+                              (1 << 64, ValueError)]  # fmt: skip
+                for bad, error in wrong:
+                    if (call, place, bad) != (NAT.translate_in, 1, None):
+                        with self.subTest(call.__name__, place=place, bad=bad):
+                            self.assertRaises(error, call, *good[:place], bad, *good[place + 1 :])
+
+    def test_fields(self):
+        for good, write in OBJECTS:
+            write(good)
+            for field in fields(good):
+                value = getattr(good, field.name)
+                wrong = [(1.5, TypeError), (object(), TypeError)]
+                wrong += [(None, TypeError)] if not str(field.type).startswith("Optional") else []
+                wrong += [(-1, ValueError), (1 << 64, ValueError)] if isinstance(value, int) else []
+                wrong += [(b"12345", ValueError), ("123456", TypeError)] if isinstance(value, bytes) else []
+                for bad, error in wrong:
+                    with self.subTest(type(good).__name__, field=field.name, bad=bad):
+                        self.assertRaises(error, write, replace(good, **{field.name: bad}))
+
+    def test_messages(self):
+        """One line that names the field or the call."""
+        for call, arguments, error, message in [
+            (ip_wire.add_seq, (-1, 2), ValueError, "add_seq: -1 is out of range"),
+            (ip_wire.emit_ethernet_header, (Ethernet(b"12345", HARDWARE),), ValueError, "src: 6 bytes are needed, not 5"),
+            (ip_wire.emit_udp, (None, b""), TypeError, "headers: Headers is needed, not NoneType"),
+            (ip_wire.parse_addr, (b"::",), TypeError, "parse_addr: a text is needed, not bytes"),
+            (ip_wire.print_addr, ("::",), TypeError, "print_addr: an IP address is needed, not str"),
+            (ip_wire.parse_frame, ("text",), TypeError, "data: bytes is needed, not str"),
+        ]:
+            with self.assertRaises(error) as caught:
+                call(*arguments)
+            self.assertEqual(str(caught.exception), message)
+
+
+class Importing(unittest.TestCase):
+    def test_no_library(self):
+        environment = {**os.environ, "IP_WIRE_LIBRARY": "/no/such/libip_wire.so", "PYTHONPATH": os.pathsep.join(sys.path)}
+        command = [sys.executable, "-c", "import ip_wire"]
+        run = subprocess.run(command, env=environment, text=True, capture_output=True, check=False)
+        self.assertEqual(run.returncode, 1)
+        self.assertIn("ImportError: the C library ip_wire is not found: /no/such/libip_wire.so", run.stderr)
+        self.assertIn("set IP_WIRE_LIBRARY", run.stderr)
+
+
+if __name__ == "__main__":
+    unittest.main()

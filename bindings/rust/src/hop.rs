@@ -1,0 +1,71 @@
+//! One hop, NAT of one packet, and the MSS clamp. Each call changes a frame in place.
+
+use crate::sys::library;
+use crate::{EthernetAddr, Rejection};
+use core::ffi::c_int;
+use core::net::SocketAddrV4;
+
+/// Forwards the packet of an Ethernet frame by one hop (RFC 1812, section 5.3.1; RFC 8200, section 3): writes the new
+/// Ethernet addresses, lowers the hop limit by one, and updates the checksum of an IPv4 header. All other bytes stay.
+///
+/// # Errors
+///
+/// [`Rejection::NotIp`], [`Rejection::BadHeader`], [`Rejection::WrongChecksum`] or [`Rejection::Expired`]. The frame is
+/// unchanged then. For an expired one a router sends [`Problem::HopLimitExpired`](crate::Problem::HopLimitExpired).
+///
+/// ```
+/// # use ip_wire::{forward, Ethernet, EthernetAddr, Frame, Headers, Ip, Rejection};
+/// # let ip = Ip { hop_limit: 2, ..Ip::default() };
+/// # let (src, dst) = ("192.0.2.1:4000".parse().unwrap(), "198.51.100.7:53".parse().unwrap());
+/// # let mut out = [0; 64];
+/// # let frame = Headers { ethernet: Ethernet::default(), src, dst, ip }.emit_udp(b"ping", &mut out).unwrap();
+/// let (own, next) = (EthernetAddr([2, 0, 0, 0, 0, 1]), EthernetAddr([2, 0, 0, 0, 0, 2]));
+/// forward(frame, own, next)?;
+/// assert_eq!(Frame::parse(frame).ip().unwrap().hop_limit, 1);
+/// assert_eq!(forward(frame, own, next), Err(Rejection::Expired));
+/// # Ok::<(), Rejection>(())
+/// ```
+pub fn forward(frame: &mut [u8], src: EthernetAddr, dst: EthernetAddr) -> Result<(), Rejection> {
+    let (ptr, len) = (frame.as_mut_ptr(), frame.len());
+    // SAFETY: there are `len` bytes at `ptr`, and the 6 bytes of each address.
+    Rejection::check(unsafe { library().lk_forward(ptr, len, src.0.as_ptr(), dst.0.as_ptr()) })
+}
+
+/// The end of a packet whose address and port [`translate`] replaces.
+#[derive(Clone, Copy, Debug, PartialEq, Eq, Hash)]
+pub enum Side {
+    /// The sender.
+    Source,
+    /// The receiver.
+    Destination,
+}
+
+impl Side {
+    pub(crate) fn number(self) -> c_int {
+        match self {
+            Self::Source => 0,
+            Self::Destination => 1,
+        }
+    }
+}
+
+/// Writes an IPv4 address and a port into the UDP or TCP packet of an Ethernet frame (RFC 3022), and updates the
+/// checksums. The identifier of an ICMP echo message counts as its port on either side, and may be 0.
+/// [`Nat`](crate::Nat) keeps a table of the endpoints.
+///
+/// # Errors
+///
+/// Any [`Rejection`] from [`NotIp`](Rejection::NotIp) to [`ZeroPort`](Rejection::ZeroPort) but
+/// [`Expired`](Rejection::Expired). The frame is unchanged then. The source port of UDP may be 0.
+pub fn translate(frame: &mut [u8], side: Side, end: SocketAddrV4) -> Result<(), Rejection> {
+    let (ptr, len) = (frame.as_mut_ptr(), frame.len());
+    // SAFETY: there are `len` bytes at `ptr`, and the call reads only the endpoint.
+    Rejection::check(unsafe { library().lk_translate(ptr, len, side.number(), &end.into()) })
+}
+
+/// Lowers the maximum segment size of a TCP SYN in an Ethernet frame to `max_seg_size`, and updates the TCP checksum.
+/// Returns `false` if there is no larger one. Then the frame is unchanged.
+pub fn clamp_mss(frame: &mut [u8], max_seg_size: u16) -> bool {
+    // SAFETY: there are `len` bytes at `frame`.
+    unsafe { library().lk_clamp_mss(frame.as_mut_ptr(), frame.len(), max_seg_size) != 0 }
+}
