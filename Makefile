@@ -2,7 +2,9 @@
 # make build          proves and builds the programs, the C library and its man pages
 # make install        installs them, with [PREFIX=/usr/local] [LIBDIR=PREFIX/lib] [DESTDIR=]
 # make uninstall      removes the files that make install put there, with the same variables
+# make crate          makes a Rust crate with the library in it: out/crate
 # make dist           packs them for use without the kit: out/ip_wire-VERSION-x86_64-linux.tar.gz
+# make deb            packs them as Debian packages in out/deb, with dpkg-dev
 # make quick          runs the tests of the libraries and the two programs without proofs
 # make check          proves one crate, CRATE=name, over the libraries that make test proved
 # make test           runs the gate and all other tests; with ANEW=yes it proves again what it kept
@@ -64,7 +66,8 @@ endif
 .PRECIOUS: $(PROGRAM) $(CALLS) $(ARCHIVE) $(LIBRARY) $(SHARED) $(PAGES)
 # rt uses all processors by itself.
 .NOTPARALLEL:
-.PHONY: run build install uninstall dist quick check loosen new test reference statements size compare compare-calls bench help
+.PHONY: run build install uninstall crate dist deb quick check loosen new test reference statements size compare \
+	compare-calls bench help
 
 run:
 	@test -r "$$FRAMES" && ! test -d "$$FRAMES" || $(call fail,cannot read $$FRAMES)
@@ -94,19 +97,28 @@ install: install-places $(PROGRAM) $(LIBRARY) $(SHARED) $(PAGES)
 uninstall: uninstall-places $(PAGES)
 	@c/alone - c/install uninstall
 
+crate: $(LIBRARY)
+	@c/alone - c/crate out/crate
+
 dist: verdicts $(PROGRAM) $(LIBRARY) $(SHARED) $(PAGES)
 	@c/alone - c/dist out
+
+deb: has-dpkg-dev $(PROGRAM) $(LIBRARY) $(SHARED) $(PAGES)
+	@c/alone - c/deb out/deb
 
 quick check loosen new test: ready
 
 # What is looked at before anything is built
-.PHONY: ready install-places uninstall-places verdicts
+.PHONY: ready install-places uninstall-places verdicts has-dpkg-dev
 ready:
 	@$(HAS_RT)
 	@$(CAN_WRITE)
 
 install-places uninstall-places:
 	@c/install $(@:-places=) places
+
+has-dpkg-dev:
+	@command -v dpkg-gensymbols > /dev/null || $(call fail,dpkg-gensymbols is not on the path; it comes with dpkg-dev)
 
 verdicts: ready
 	@tests/gate/verdicts.py > /dev/null

@@ -384,7 +384,7 @@ struct lk_link {
 };
 
 /* Parses the link-layer header of a packet of which `captured` bytes are at `ptr`, stores it and returns LK_READ.
- * `link_type` is the number that a capture file has, or that pcap_datalink() returns
+ * `link_type` is the number that a capture file has, or that `pcap_datalink` of libpcap returns
  * (www.tcpdump.org/linktypes.html):
  *
  *   link type    name        header

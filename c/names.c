@@ -5,7 +5,7 @@ const char *lk_reason_name(int reason)
 {
     static const char *const names[] = {
         "LK_READ",      "LK_TOO_SHORT", "LK_BAD_VERSION", "LK_BAD_LENGTH", "LK_OTHER_ARP",
-        "LK_PORT_ZERO", "LK_BAD_FLAGS", "LK_BAD_OPTIONS", "LK_HEADER_CUT",
+        "LK_PORT_ZERO", "LK_BAD_FLAGS", "LK_BAD_OPTIONS", "LK_HEADER_CUT", "LK_UNKNOWN_LINK",
     };
     const int count = sizeof names / sizeof names[0];
     return reason >= 0 && reason < count ? names[reason] : "no reason";

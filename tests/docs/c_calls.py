@@ -26,7 +26,7 @@ FIELDS = {"ethertype": "type", "msg_type": "type"}
 OF_C = ("/c/cpu.c", "/c/names.c")
 HEADER_ONLY = ("lk_out",)
 # The crates of the structs and calls. The first ones are used without C too, and their structs have other names there.
-OF_LIBRARY = ("app_router", "app_nat", "c_structs", "c_icmp", "c_routing", "c_exports")
+OF_LIBRARY = ("app_link", "app_router", "app_nat", "c_structs", "c_icmp", "c_routing", "c_exports")
 STRUCTS = {"Node": "struct lk_route_node", "Mapping": "struct lk_mapping", "Nat": "struct lk_nat"}
 # The fields of this struct are fields of the one around it in C, and then come the bytes that align it.
 INNER = {"FrameFields": 5}
@@ -176,18 +176,18 @@ def rust_structs(text):
 
 def python_structs(text):
     """The same for the structs of ctypes."""
-    names = {"_Hardware": "uint8_t", "c_size_t": "size_t"}
+    names = {"Hardware": "uint8_t", "c_size_t": "size_t"}
     for variable, name, body in re.findall(r'^(\w+) = _declare\(\s*"(lk_\w+)",(.*?)\)(?:  # fmt: skip)?$', text, re.S | re.M):
         fields = []
         for field, pointer, kind, length in re.findall(r"(\w+)=(POINTER\()?(\w+)\)?(?: \* (\d+))?", body):
             plain = names.get(kind) or re.sub("^c_", "", kind) + "_t"
-            fields.append((f"const {plain} *" if pointer else plain, field, "6" if kind == "_Hardware" else length))
+            fields.append((f"const {plain} *" if pointer else plain, field, "6" if kind == "Hardware" else length))
         names[variable] = f"struct {name}"
         yield name, fields
 
 
 # The files that declare structs of the header by hand.
-DECLARATIONS = {"bindings/rust/src/sys.rs": rust_structs, "bench/structs.rs": rust_structs, "bindings/python/_ip_wire.py": python_structs}
+DECLARATIONS = {"bindings/rust/src/sys.rs": rust_structs, "bench/structs.rs": rust_structs, "bindings/python/ip_wire/_c.py": python_structs}
 
 
 def declared_differences(top, structs):

@@ -109,7 +109,8 @@ def of_the_library():
     without_check = count('"no reverse-path check"', "tests/kernel/faults.py")
     floods = [int(found("^FLOOD, .* = ([0-9_]+),", f"tests/kernel/{name}.py")) for name in ("hostile", "faults")]
     cpus = found(r"for cpu in ([^;]+);", "tests/install/run").split()
-    bindings = count(r"^ *#\[test\]$", "bindings/rust/**/*.rs") + count("^ *def test_", "bindings/python/*.py")
+    bindings = count(r"^ *#\[test\]$", "bindings/rust/**/*.rs") + count("^ *def test_", "bindings/python/**/*.py")
+    bindings += count("^func (?:Test|Example)", "bindings/go/*.go")
     return {
         "Worked frames in C": (count(r"^ *FRAME\(", "tests/judge/worked_frames.inc"), "frames"),
         "Random calls in C": (int(found("^seconds=([0-9]+)$", judge)), "seconds"),

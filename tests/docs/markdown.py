@@ -25,14 +25,16 @@ LONGEST = {
     "docs/GUIDE.md": 220,
     "docs/CONTRACTS.md": 200,
     "docs/USES.md": 300,
-    "docs/ROUTER.md": 170,
+    "docs/ROUTER.md": 200,
     "docs/DIFFERENCES.md": 150,
     "docs/TRUST.md": 180,
     "docs/CONTRIBUTING.md": 230,
     "docs/FORMAT.md": 120,
     "docs/DECISIONS.md": 400,
     "docs/PERF.md": 200,
-    "examples/go/README.md": 40,
+    "bindings/rust/README.md": 50,
+    "bindings/python/README.md": 100,
+    "bindings/go/README.md": 60,
 }
 MOST = 2600
 # Names of old commits, of smoltcp, of the standard library and of Linux.
@@ -41,10 +43,10 @@ FOREIGN = {"ip_nat", "pretty_print", "AsMut", "is_private", "to_ipv6_mapped", "C
 # Pages of old names, and of names that another test compares.
 UNNAMED = {"CHANGELOG.md", "docs/audit/REQUIREMENTS.md"}
 EXCERPTS = {
-    "rust": ["crates/**/*.rt", "crates/**/*.antt", "bindings/rust/**/*.rs", "crates.txt"],
+    "rust": ["crates/**/*.rt", "crates/**/*.antt", "bindings/rust/**/*.rs", "examples/rust/*.rs", "crates.txt"],
     "c": ["c/*.[ch]", "examples/**/*.[ch]", "bench/*.[ch]"],
-    "python": ["bindings/python/*.py", "examples/**/*.py"],
-    "go": ["examples/go/*.go"],
+    "python": ["bindings/python/**/*.py", "examples/**/*.py"],
+    "go": ["bindings/go/*.go", "examples/go/*"],
 }
 LANGUAGES = {*EXCERPTS, "console", "sh", "text"}
 BUILT = {".git", "out", "target", "__pycache__"}

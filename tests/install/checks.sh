@@ -26,10 +26,11 @@ names_one_version() {
     for page in man/*; do
         grep -qx "\.Os ip_wire $version" "$page" || { echo "$page: .Os is not ip_wire $version"; return 1; }
     done
-    grep -qx "version = \"$version\"" bindings/rust/Cargo.toml && grep -qx "version = \"$version\"" bindings/rust/Cargo.lock &&
+    grep -qF "find_package(ip_wire ${version%.*} REQUIRED)" examples/cmake/CMakeLists.txt &&
+        grep -qx "version = \"$version\"" bindings/rust/Cargo.toml &&
+        grep -qx "version = \"$version\"" bindings/rust/Cargo.lock &&
         grep -qF "\"ip_wire >= $version ip_wire < " bindings/rust/build.rs &&
-        grep -qF "needs version ${version%.*} of the C library" bindings/python/_ip_wire.py &&
-        grep -qF "\"libip_wire.so.${version%.*}\"" bindings/python/_ip_wire.py &&
-        grep -qF "the proved C library ip_wire ${version%.*}." bindings/python/ip_wire.py &&
+        grep -qx "VERSION = \"$version\"" bindings/python/ip_wire/_c.py &&
+        grep -qx "require lerkvist.example/ipwire v$version" examples/go/go.mod &&
         [[ $(grep -m 1 '^## ' CHANGELOG.md) == "## $version ("* ]]
 }

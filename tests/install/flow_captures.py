@@ -3,7 +3,7 @@
 
     tests/install/flow_captures.py FOLDER
 
-Each but crafted.pcap has a TCP connection in five packets, as frames of one link: opened, a request of 100 bytes, and a
+Each but crafted.pcap and those of odd times has a TCP connection in five packets, as frames of one link: opened, a request of 100 bytes, and a
 reply of 300. The checksum of the request is left to the device, and that of the reply is wrong. Each part of the round trip
 has one time: 20 ms to the server and back, 0.5 ms to the client and back.
 """
@@ -123,6 +123,34 @@ def crafted(count=80000):
                     return
 
 
+def block(kind, body):
+    """A block of pcapng (draft-ietf-opsawg-pcapng, section 3.1)."""
+    body += bytes(-len(body) % 4)
+    return struct.pack("<II", kind, 12 + len(body)) + body + struct.pack("<I", 12 + len(body))
+
+
+def first_frames():
+    """The SYN of the client and the reply."""
+    return [packets.ethernet(0x0800) + in_ipv4(*rest) for _, *rest in CONNECTION[:2]]
+
+
+def far_times():
+    """Two interfaces whose times are whole seconds (if_tsresol 0), from 2^62 before 1970 and after it on (if_tsoffset)."""
+    file = block(0x0A0D0D0A, struct.pack("<IHHq", 0x1A2B3C4D, 1, 0, -1))
+    for offset in (-(1 << 62), 1 << 62):
+        options = struct.pack("<HHB3xHHqHH", 9, 1, 0, 14, 8, offset, 0, 0)
+        file += block(1, struct.pack("<HHI", ETHERNET, 0, 65535) + options)
+    for interface, frame in enumerate(first_frames()):
+        file += block(6, struct.pack("<IIIII", interface, 0, 7, len(frame), len(frame)) + frame)
+    return file
+
+
+def negative_times():
+    """Seconds and microseconds of 32 bits with the highest one set, after the last ones without."""
+    times = ((0x7FFFFFFF, 0x7FFFFFFF), (0x80000000, 0xFFFFFFFF))
+    return capture(ETHERNET, [struct.pack("<IIII", *time, len(frame), len(frame)) + frame for time, frame in zip(times, first_frames())])
+
+
 CAPTURES = {
     "cut": (ETHERNET, cut),
     "tags": (ETHERNET, tags),
@@ -141,6 +169,9 @@ def main():
     for name, (link, records) in CAPTURES.items():
         with open(os.path.join(sys.argv[1], name + ".pcap"), "wb") as file:
             file.write(capture(link, records()))
+    for name, make in (("far_times.pcapng", far_times), ("negative_times.pcap", negative_times)):
+        with open(os.path.join(sys.argv[1], name), "wb") as file:
+            file.write(make())
 
 
 if __name__ == "__main__":
