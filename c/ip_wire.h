@@ -300,7 +300,7 @@ enum lk_verdict {
     LK_RIGHT,
     LK_WRONG,
     LK_LEFT_OUT,        /* UDP over IPv4: the sender computed none */
-    LK_LEFT_TO_DEVICE,  /* only the pseudo-header is summed: checksum offload; wrong for lk_rebuild and lk_answer */
+    LK_LEFT_TO_DEVICE,  /* only the pseudo-header is summed: checksum offload; wrong for lk_rebuild, lk_answer, NAT */
     LK_CHECKSUM_CUT     /* not all bytes that it covers were captured */
 };
 
@@ -566,7 +566,10 @@ uint16_t lk_checksum(const uint8_t *ptr, size_t len);
  *
  * UDP has calls of its own: a field of 0, which means that there is no checksum, stays 0, and a computed 0 becomes
  * 0xffff (RFC 768). The first two calls are for IPv4, TCP and ICMP. An ICMP message whose other bytes are all 0, an
- * echo reply over IPv4, verifies only with 0xffff: in ICMP write 0xffff instead of 0. */
+ * echo reply over IPv4, verifies only with 0xffff: in ICMP write 0xffff instead of 0.
+ *
+ * A field of LK_LEFT_TO_DEVICE is the sum of the pseudo-header, and not its complement. After an address changed it is
+ * `(uint16_t)~lk_update_checksum_addr((uint16_t)~field, &before, &after)`. Ports and payload are not in it. */
 uint16_t lk_update_checksum(uint16_t checksum, uint16_t before, uint16_t after);
 uint16_t lk_update_checksum_addr(uint16_t checksum, const struct lk_addr *before, const struct lk_addr *after);
 uint16_t lk_update_udp_checksum(uint16_t checksum, uint16_t before, uint16_t after);
@@ -779,8 +782,8 @@ enum lk_rejection {
     LK_EXPIRED,        /* the hop limit is 0 or 1 */
     LK_FRAGMENT,       /* NAT: the packet is a fragment */
     LK_OTHER_PROTOCOL, /* NAT: the packet carries neither UDP nor TCP, nor an ICMP message that is translated */
-    LK_BAD_TRANSPORT,  /* NAT: the UDP or TCP header is rejected (lk_reason), or the checksum is wrong, also of ICMP; an
-                        * ICMP error quotes less than an IPv4 header and 8 bytes */
+    LK_BAD_TRANSPORT,  /* NAT: the UDP or TCP header is rejected (lk_reason), or the checksum is wrong or left to the
+                        * device, also of ICMP; an ICMP error quotes less than an IPv4 header and 8 bytes */
     LK_ZERO_PORT,      /* NAT: the port to be written is 0, and a receiver would reject the packet; lk_translate_out:
                         * the source port is 0, so that no answer could come back */
     LK_NO_MAPPING,     /* lk_translate_in: no live mapping has this outside address and port; also of a packet that an

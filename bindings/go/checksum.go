@@ -19,7 +19,8 @@ func UpdateChecksum(checksum, before, after uint16) uint16 {
 	return uint16(C.lk_update_checksum(C.uint16_t(checksum), C.uint16_t(before), C.uint16_t(after)))
 }
 
-// UpdateChecksumAddr does the same after an address changed.
+// UpdateChecksumAddr does the same after an address changed. A field that was left to the device is the complement of
+// another one, and covers only the pseudo-header: ^UpdateChecksumAddr(^field, before, after).
 func UpdateChecksumAddr(checksum uint16, before, after netip.Addr) uint16 {
 	from, to := cAddr(before), cAddr(after)
 	return uint16(C.lk_update_checksum_addr(C.uint16_t(checksum), &from, &to))

@@ -12,7 +12,8 @@ def checksum(data: Data) -> int:
 
 
 def update_checksum(field: int, before: Union[int, Address], after: Union[int, Address], *, udp: bool = False) -> int:
-    """The checksum field after a 16-bit word or an address that it covers changed (RFC 1624)."""
+    """The checksum field after a 16-bit word or an address that it covers changed (RFC 1624). A field that was left to
+    the device is the complement of another one, and covers only the pseudo-header."""
     name = "lk_update_udp_checksum" if udp else "lk_update_checksum"
     return call(name if isinstance(before, int) else name + "_addr", field, before, after)
 

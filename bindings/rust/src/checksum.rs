@@ -31,6 +31,9 @@ pub fn update(checksum: u16, before: u16, after: u16) -> u16 {
 }
 
 /// After an address of the pseudo-header or of the IPv4 header changed. For IPv4, TCP and ICMP.
+///
+/// A field that was left to the device is the complement of another one, and covers only the pseudo-header:
+/// `!update_addr(!field, before, after)`.
 #[must_use]
 pub fn update_addr(checksum: u16, before: IpAddr, after: IpAddr) -> u16 {
     // SAFETY: the call reads only both addresses.
