@@ -1,7 +1,7 @@
 -- Link-layer headers of captured packets, by the link type of the capture (www.tcpdump.org/linktypes.html).
 use Rattle.std.specs.Prelude.{ℕ, ◌+◌, ◌==◌, ◌||◌, not, nat_lt, if◌then◌else◌, Bool, List, [], ◌∷◌, drop, length, slice_index, Option, Some, None, Result, Ok, Err}
 use Rattle.byteorder.specs.Endian.{little_number}
-use Rattle.ip_wire.specs.Field.{field}
+use Rattle.wire_field.specs.Field.{field}
 use Rattle.app_link.specs.declared.link.Link.{Link}
 use Rattle.app_link.specs.declared.link.LinkFault.{LinkFault}
 use Rattle.app_link.specs.declared.link.LinkFault.TheVariants as fault
