@@ -6,6 +6,7 @@
 # make dist           packs them for use without the kit: out/ip_wire-VERSION-x86_64-linux.tar.gz
 # make deb            packs them as Debian packages in out/deb, with dpkg-dev
 # make quick          runs the tests of the libraries and the two programs without proofs
+# make sketch         compiles the C library with rustc, without proofs, in out/sketch
 # make check          proves one crate, CRATE=name, over the libraries that make test proved
 # make test           runs the gate and all other tests; with ANEW=yes it proves again what it kept
 # make loosen         weakens public statements after make test, and prints what no proof notices
@@ -66,8 +67,8 @@ endif
 .PRECIOUS: $(PROGRAM) $(CALLS) $(ARCHIVE) $(LIBRARY) $(SHARED) $(PAGES)
 # rt uses all processors by itself.
 .NOTPARALLEL:
-.PHONY: run build install uninstall crate dist deb quick check loosen new test reference statements size compare \
-	compare-calls bench help
+.PHONY: run build install uninstall crate dist deb quick sketch check loosen new test reference statements size \
+	compare compare-calls bench help
 
 run:
 	@test -r "$$FRAMES" && ! test -d "$$FRAMES" || $(call fail,cannot read $$FRAMES)
@@ -125,6 +126,10 @@ verdicts: ready
 
 quick:
 	@tests/gate/quick
+
+sketch:
+	@$(CAN_WRITE)
+	@tools/sketch
 
 check:
 	@test -n "$$CRATE" && test -d "crates/$$CRATE/src" || $(call fail,name a crate of crates.txt as CRATE=name)
