@@ -194,6 +194,8 @@ static void write_quoted(const struct quoted *quoted, const struct lk_endpoint *
         if (quoted->transport != LK_ICMP)
             update_sum(field, is_udp, &quoted->end.addr, &end->addr);
         write_port(quoted->port_at, field, is_udp, end->port);
+        if (quoted->transport == LK_ICMP && get_word(field) == 0)
+            put_word(field, 0xffff); /* as the header says of ICMP */
     }
     memcpy(quoted->header + (quoted->side == LK_SOURCE ? 12 : 16), end->addr.octets, 4);
     update_sum(quoted->header + 10, 0, &quoted->end.addr, &end->addr);
