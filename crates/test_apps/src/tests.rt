@@ -2,22 +2,15 @@
 
 ghost use Rattle.std.specs.Prelude.{◌≡◌};
 
-mod captured;
-mod flows;
 mod hop_guard;
 mod host;
 mod icmp;
 mod links;
-mod nat;
-mod nat_echo;
-mod nat_errors;
-mod nat_table;
 mod promises;
 mod replies;
 mod router;
 mod routes;
 mod sack;
-mod udp_frames;
 mod uses;
 mod views;
 
@@ -43,12 +36,3 @@ const OFFER: Offer = Offer {
     window_scale: 7,
     clock: 0x5566_7788,
 };
-
-/// Writes bytes to some places of a frame.
-fn change(frame: &mut [u8], octets: &[(usize, u8)]) {
-    for (at, octet) in octets {
-        if let Some(changed) = frame.get_mut(*at) {
-            *changed = *octet;
-        }
-    }
-}

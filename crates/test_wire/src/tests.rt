@@ -7,36 +7,21 @@ mod arp;
 mod checksum;
 mod common;
 mod ethernet;
-mod ethernet_address;
 mod frame;
-mod hardware_address;
-mod icmp;
 mod ip;
-mod ip_address;
-mod ip_cidr;
-mod ip_endpoint;
-mod ip_version;
 mod ipv4;
-mod ipv4_address;
 mod ipv6;
-mod ipv6_address;
-mod ipv6_cidr;
 mod ipv6fragment;
-mod ndisc;
 mod nested;
 mod orders;
-mod printed;
-mod protocol;
-mod raw_hardware_address;
 mod sums;
 mod support;
 mod tcp;
 mod tcp_options;
 mod tcp_repr;
-mod texts;
 mod udp;
 
-use ip_wire::{EthernetAddress, IpAddress, IpProtocol, Ipv6Address, Ipv6Repr};
+use ip_wire::{IpAddress, IpProtocol, Ipv6Address, Ipv6Repr};
 
 /// A fragment of an IPv4 packet from 17.18.19.20 to 33.34.35.36, of 30 bytes.
 const IPV4_FRAGMENT: [u8; 30] = [
@@ -71,12 +56,6 @@ const IPV6_FRAGMENT: [u8; 48] = [
     0x00, 0x00, 0x00, 0x00, 0x00, 0x00, 0x00, 0x01, 0xff, 0x02, 0x00, 0x00, 0x00, 0x00, 0x00, 0x00,
     0x00, 0x00, 0x00, 0x00, 0x00, 0x00, 0x00, 0x01, 0x11, 0x00, 0x0a, 0x00, 0x00, 0x01, 0x09, 0x32,
 ];
-
-/// The receiver of each frame.
-const FRAME_DST: EthernetAddress = EthernetAddress([0x01, 0x02, 0x03, 0x04, 0x05, 0x06]);
-
-/// The sender of each frame.
-const FRAME_SRC: EthernetAddress = EthernetAddress([0x11, 0x12, 0x13, 0x14, 0x15, 0x16]);
 
 /// 192.168.1.1 and 192.168.1.2.
 fn ipv4_ends() -> (IpAddress, IpAddress)

@@ -1,8 +1,9 @@
 //! The hop limit check. A neighbour sends with hop limit 255 (RFC 5082, section 3).
 
-use super::captured::{ARP_REQUEST, ECHO_REQUEST, SYN};
-use super::change;
 use app_short::hop_guard::is_near;
+use test_support::bytes::change;
+use test_support::captured::{ARP_REQUEST, ECHO_REQUEST, SYN};
+use test_support::udp_frames::IPV6_FRAME;
 
 /// The packet to the echo port with another hop limit, and the checksum of its IPv4 header.
 fn with_hop_limit(hop_limit: u8, checksum: [u8; 2]) -> [u8; 46] {
@@ -31,7 +32,7 @@ fn accepts_packets_over_few_routers(rt: HostRuntime) {
 
 #[test]
 fn accepts_neighbours_over_ipv6(rt: HostRuntime) {
-    let mut frame = super::udp_frames::IPV6_FRAME;
+    let mut frame = IPV6_FRAME;
     frame[21] = 255;
     assert!(rt; is_near(&frame, 0));
     frame[21] = 254;

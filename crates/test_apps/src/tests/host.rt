@@ -1,9 +1,11 @@
 //! A host and its neighbour, bytes to bytes. The frames are as Linux sent them, with their checksums
 //! completed; the replies to them follow from the RFCs. `tests/data/calls/worked_replies.call` has more examples.
 
-use super::captured::{ARP_REPLY, ARP_REQUEST, ECHO_REPLY, ECHO_REQUEST, SYN, SYN_ACK, SYN_RESET};
 use super::{OFFER, ours};
 use app_host::{Host, answer};
+use test_support::captured::{
+    ARP_REPLY, ARP_REQUEST, ECHO_REPLY, ECHO_REQUEST, SYN, SYN_ACK, SYN_RESET,
+};
 
 /// The host, which has these open ports.
 fn host(open_ports: &[u16]) -> Host<'_> {

@@ -1,11 +1,12 @@
 //! ICMP and neighbour discovery, bytes to bytes. The frames are put together as the RFCs say, with checksums
 //! of another program.
 
-use super::{change, ours};
+use super::ours;
 use app_host::{Interface, icmp_echo, neighbour};
 use app_router::{Problem, error};
 use ip_wire::Frame;
 use net_base::ChecksumCapabilities;
+use test_support::bytes::change;
 
 /// An echo request for 192.0.2.2.
 const PING: [u8; 54] = [

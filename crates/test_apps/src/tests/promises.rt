@@ -1,6 +1,5 @@
 //! A call of each kind.
 
-use super::udp_frames::FRAME;
 use ip_wire::{
     Carried, EthernetAddress, EthernetProtocol, EthernetRepr, Frame, IpAddress, IpCidr, IpEndpoint,
     Ipv4Address, Ipv4Cidr, Ipv4Packet, Ipv6Address, Ipv6Cidr, SACK_BLOCKS, TcpControl, TcpOption,
@@ -22,6 +21,7 @@ use test_promises::texts::{
     print_then_parse_ipv6, print_then_parse_ipv6_cidr,
 };
 use test_promises::values::emit_then_parse_udp;
+use test_support::udp_frames::FRAME;
 
 #[test]
 fn texts_of_addresses_are_parsed(rt: HostRuntime) -> Result<(), Fail> {

@@ -1,8 +1,8 @@
 //! A reply of each kind. `tests/data/calls/worked_replies.call` has more examples.
 
-use super::captured::{ARP_REPLY, ARP_REQUEST, ECHO_REPLY, ECHO_REQUEST, SYN, SYN_ACK};
 use super::{OFFER, ours};
 use app_host::{arp, tcp_answer, udp_echo};
+use test_support::captured::{ARP_REPLY, ARP_REQUEST, ECHO_REPLY, ECHO_REQUEST, SYN, SYN_ACK};
 
 #[test]
 fn replies_to_a_request(rt: HostRuntime) {

@@ -1,10 +1,10 @@
 //! One hop of a router. The expected frames have checksums that were computed anew.
 
-use super::change;
 use app_router::forward;
 use ip_wire::{
     EthernetAddress, HeaderFault, IpProtocol, IpRepr, Ipv4Address, Ipv4Packet, Ipv4Repr,
 };
+use test_support::bytes::change;
 
 const SRC: EthernetAddress = EthernetAddress([0x02, 0x00, 0x00, 0x00, 0x00, 0x11]);
 

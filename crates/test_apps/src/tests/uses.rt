@@ -1,8 +1,5 @@
 //! Each use, on frames that are listed byte by byte.
 
-use super::captured::{ECHO_REQUEST, SYN};
-use super::change;
-use super::udp_frames::{DST, FRAME, IPV6_FRAME, SRC};
 use app_short::allow_list::is_allowed;
 use app_short::flow_key::{Flow, FlowKey};
 use app_short::mss_clamp::clamp;
@@ -14,6 +11,9 @@ use ip_wire::{
     Ipv6Address, Ipv6Cidr, Ipv6Repr, UdpRepr,
 };
 use net_base::ChecksumCapabilities;
+use test_support::bytes::change;
+use test_support::captured::{ECHO_REQUEST, SYN};
+use test_support::udp_frames::{DST, FRAME, IPV6_FRAME, SRC};
 
 /// The header of the packet in the first frame.
 fn header() -> IpRepr {

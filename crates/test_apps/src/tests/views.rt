@@ -1,12 +1,12 @@
 //! Frames that are written through three views.
 
-use super::udp_frames::{DST, FRAME, SRC};
 use ip_wire::{
     Carried, EthernetProtocol, EthernetRepr, Frame, IpProtocol, IpRepr, Ipv4Address, Ipv4Repr,
     Ipv6Address, Ipv6Repr, SACK_BLOCKS, TcpControl, TcpRepr, TcpSeqNumber, Transport, UdpRepr,
 };
 use net_base::ChecksumCapabilities;
 use test_promises::views::{emit_then_parse_tcp_frame, emit_then_parse_udp_frame};
+use test_support::udp_frames::{DST, FRAME, SRC};
 
 #[test]
 fn a_udp_packet_is_written_view_by_view(rt: HostRuntime) {

@@ -1,10 +1,11 @@
 //! ARP packets. `tests/data/calls/worked_headers.call` has more examples.
 
-use super::support::{OLD, has_front, prints};
 use ip_wire::{
     ArpHardware, ArpOperation, ArpPacket, ArpPacketMut, ArpRepr, Error, EthernetAddress,
     Ipv4Address,
 };
+use test_support::bytes::{OLD, has_front};
+use test_support::texts::prints;
 
 /// A request from 33.34.35.36 for the hardware address of 65.66.67.68.
 const PACKET: [u8; 28] = [

@@ -1,9 +1,9 @@
 //! Shared by all layers: the error and the checksum capabilities.
 
-use super::support::prints;
 use ip_wire::{Error, IPV4_MIN_MTU, IPV6_MIN_MTU};
 use net_base::{Checksum, ChecksumCapabilities, Medium};
 use std::error::Error as StdError;
+use test_support::texts::prints;
 
 /// Whether an error prints as this text.
 fn is_an_error_that_prints<E: StdError>(error: &E, text: &str) -> bool {

@@ -1,10 +1,11 @@
 //! Ethernet frames. `tests/data/calls/worked_headers.call` has more examples.
 
-use super::support::{OLD, copy_to, has_front, prints};
-use super::{FRAME_DST, FRAME_SRC};
 use ip_wire::{
     ETHERNET_HEADER_LEN, EthernetFrame, EthernetFrameMut, EthernetProtocol, EthernetRepr,
 };
+use test_support::bytes::{OLD, copy_to, has_front};
+use test_support::texts::prints;
+use test_support::udp_frames::{DST, SRC};
 
 /// A frame with EtherType IPv4, of 64 bytes.
 const IPV4_FRAME: [u8; 64] = [
@@ -25,8 +26,8 @@ const IPV6_FRAME: [u8; 54] = [
 /// The values of a header with this EtherType.
 fn header(ethertype: EthernetProtocol) -> EthernetRepr {
     EthernetRepr {
-        src_addr: FRAME_SRC,
-        dst_addr: FRAME_DST,
+        src_addr: SRC,
+        dst_addr: DST,
         ethertype,
     }
 }

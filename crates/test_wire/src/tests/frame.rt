@@ -1,30 +1,15 @@
 //! Whole frames.
 
-use super::support::{has_front, prints};
 use super::tcp_repr::syn;
-use super::{FRAME_DST, FRAME_SRC};
 use ip_wire::{
     ArpOperation, ArpRepr, Carried, EthernetAddress, EthernetProtocol, Frame, IpProtocol, IpRepr,
     Ipv4Address, Ipv4Repr, Ipv6Address, Ipv6Repr, Packet, TcpControl, TcpRepr, TcpSeqNumber,
     TcpTimestampRepr, Transport, UdpRepr,
 };
 use net_base::ChecksumCapabilities;
-
-/// A UDP packet from 192.168.1.1 to 192.168.1.2 with four bytes.
-const UDP: [u8; 46] = [
-    0x01, 0x02, 0x03, 0x04, 0x05, 0x06, 0x11, 0x12, 0x13, 0x14, 0x15, 0x16, 0x08, 0x00, 0x45, 0x00,
-    0x00, 0x20, 0x00, 0x00, 0x40, 0x00, 0x40, 0x11, 0xb7, 0x79, 0xc0, 0xa8, 0x01, 0x01, 0xc0, 0xa8,
-    0x01, 0x02, 0xbf, 0x00, 0x00, 0x35, 0x00, 0x0c, 0x12, 0x4d, 0xaa, 0x00, 0x00, 0xff,
-];
-
-/// A UDP packet from `fe80::1` to `ff02::1` with four bytes.
-const UDP_OVER_IPV6: [u8; 66] = [
-    0x01, 0x02, 0x03, 0x04, 0x05, 0x06, 0x11, 0x12, 0x13, 0x14, 0x15, 0x16, 0x86, 0xdd, 0x60, 0x00,
-    0x00, 0x00, 0x00, 0x0c, 0x11, 0x40, 0xfe, 0x80, 0x00, 0x00, 0x00, 0x00, 0x00, 0x00, 0x00, 0x00,
-    0x00, 0x00, 0x00, 0x00, 0x00, 0x01, 0xff, 0x02, 0x00, 0x00, 0x00, 0x00, 0x00, 0x00, 0x00, 0x00,
-    0x00, 0x00, 0x00, 0x00, 0x00, 0x01, 0x00, 0x01, 0x00, 0x02, 0x00, 0x0c, 0x02, 0x4e, 0xff, 0xff,
-    0xff, 0xff,
-];
+use test_support::bytes::has_front;
+use test_support::texts::prints;
+use test_support::udp_frames::{DST, FRAME as UDP, IPV6_FRAME as UDP_OVER_IPV6, SRC};
 
 /// A SYN with a maximum segment size of 1,460 bytes.
 const SYN: [u8; 58] = [
@@ -122,7 +107,7 @@ const SEGMENT: TcpRepr<'static> = TcpRepr {
 fn request() -> ArpRepr {
     ArpRepr::EthernetIpv4 {
         operation: ArpOperation::Request,
-        source_hardware_addr: FRAME_SRC,
+        source_hardware_addr: SRC,
         source_protocol_addr: Ipv4Address::new(33, 34, 35, 36),
         target_hardware_addr: EthernetAddress([0x31, 0x32, 0x33, 0x34, 0x35, 0x36]),
         target_protocol_addr: Ipv4Address::new(65, 66, 67, 68),
@@ -243,18 +228,12 @@ fn parses_an_ipv6_packet_without_an_ethernet_header(rt: HostRuntime) {
 fn puts_layers_together(rt: HostRuntime) {
     let caps = ChecksumCapabilities::default();
     let unknown = IpProtocol::Unknown(99);
-    let udp = Frame::udp(FRAME_SRC, FRAME_DST, ipv4(unknown, 0), PORTS, &UDP[42..]);
-    let udp_over_ipv6 = Frame::udp(
-        FRAME_SRC,
-        FRAME_DST,
-        ipv6(unknown, 0),
-        PORTS_OVER_IPV6,
-        &[0xff; 4],
-    );
-    let tcp = Frame::tcp(FRAME_SRC, FRAME_DST, ipv4(unknown, 0), SEGMENT);
+    let udp = Frame::udp(SRC, DST, ipv4(unknown, 0), PORTS, &UDP[42..]);
+    let udp_over_ipv6 = Frame::udp(SRC, DST, ipv6(unknown, 0), PORTS_OVER_IPV6, &[0xff; 4]);
+    let tcp = Frame::tcp(SRC, DST, ipv4(unknown, 0), SEGMENT);
     let other = Transport::Other(&ECHO[34..]);
-    let echo = Frame::packet(FRAME_SRC, FRAME_DST, ipv4(IpProtocol::Icmp, 0), other);
-    let arp = Frame::arp(FRAME_SRC, FRAME_DST, request());
+    let echo = Frame::packet(SRC, DST, ipv4(IpProtocol::Icmp, 0), other);
+    let arp = Frame::arp(SRC, DST, request());
     let built = [
         udp == Frame::parse(&UDP, &caps),
         udp_over_ipv6 == Frame::parse(&UDP_OVER_IPV6, &caps),
@@ -267,7 +246,7 @@ fn puts_layers_together(rt: HostRuntime) {
 
 /// Whether a frame with this IP header can hold what it carries.
 fn holds(header: &IpRepr, transport: Transport<'_>) -> bool {
-    Frame::packet(FRAME_SRC, FRAME_DST, *header, transport).is_ok()
+    Frame::packet(SRC, DST, *header, transport).is_ok()
 }
 
 /// Whether a frame with this IP header can hold a UDP packet with these ports and so many bytes of payload.

@@ -3,10 +3,11 @@
 ghost use Rattle.std.specs.Prelude.{◌≡◌, ◌≤◌};
 ghost use Rattle.ip_wire.specs.Ip.{max_payload_len, payload_len_of};
 
-use super::support::{IPV4_PACKET, OLD, has_front, ipv4_header};
+use super::support::{IPV4_PACKET, ipv4_header};
 use super::{IPV4_FRAGMENT, IPV6_FRAGMENT, IPV6_PACKET, ipv4, ipv6, ipv6_header};
 use ip_wire::{Error, IpAddress, IpPacket, IpProtocol, IpRepr, IpVersion};
 use net_base::ChecksumCapabilities;
+use test_support::bytes::{OLD, has_front};
 
 /// The value that the bytes parse as, with the checksum verified.
 fn parse(bytes: &[u8]) -> Result<IpRepr, Error> {

@@ -1,9 +1,11 @@
 //! IPv4 headers. `tests/data/calls/worked_headers.call` has more examples.
 
 use super::IPV4_FRAGMENT;
-use super::support::{IPV4_PACKET, OLD, has_front, ipv4_header, prints};
+use super::support::{IPV4_PACKET, ipv4_header};
 use ip_wire::{IPV4_HEADER_LEN, IpProtocol, Ipv4FragKey, Ipv4Packet, Ipv4PacketMut, Ipv4Repr};
 use net_base::ChecksumCapabilities;
+use test_support::bytes::{OLD, has_front};
+use test_support::texts::prints;
 
 /// The header of the packet with TCP.
 const TCP_HEADER: [u8; 20] = [

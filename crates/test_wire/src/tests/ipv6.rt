@@ -1,8 +1,9 @@
 //! IPv6 headers. `tests/data/calls/worked_headers.call` has more examples.
 
-use super::support::{OLD, has_front, prints};
 use super::{IPV6_PACKET, ipv6_header};
 use ip_wire::{IPV6_HEADER_LEN, Ipv6Packet, Ipv6PacketMut, Ipv6Repr};
+use test_support::bytes::{OLD, has_front};
+use test_support::texts::prints;
 
 #[test]
 fn a_mutable_view_borrows_the_payload(rt: HostRuntime) {

@@ -1,7 +1,8 @@
 //! IPv6 fragment headers. `tests/data/calls/worked_headers.call` has more examples.
 
-use super::support::{OLD, has_front, prints};
 use ip_wire::{Ipv6FragmentHeader, Ipv6FragmentHeaderMut, Ipv6FragmentRepr};
+use test_support::bytes::{OLD, has_front};
+use test_support::texts::prints;
 
 /// The header of a last fragment.
 const LAST: [u8; 6] = [0x0a, 0x00, 0x00, 0x01, 0x09, 0x32];

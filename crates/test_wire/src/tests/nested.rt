@@ -1,15 +1,17 @@
 //! Views on payloads that other views borrow.
 
-use super::support::{IPV4_PACKET, copy_to, ipv4_header};
+use super::ipv4_ends;
+use super::support::{IPV4_PACKET, ipv4_header};
 use super::tcp::SYN;
 use super::tcp_repr::syn;
-use super::{FRAME_DST, FRAME_SRC, ipv4_ends};
 use ip_wire::{
     EthernetFrame, EthernetFrameMut, EthernetProtocol, EthernetRepr, IpProtocol, Ipv4Address,
     Ipv4Packet, Ipv4PacketMut, Ipv4Repr, Ipv6Address, Ipv6FragmentHeaderMut, Ipv6FragmentRepr,
     Ipv6PacketMut, Ipv6Repr, Result, TcpPacket, TcpPacketMut,
 };
 use net_base::ChecksumCapabilities;
+use test_support::bytes::copy_to;
+use test_support::udp_frames::{DST, SRC};
 
 /// A packet in a frame, with two bytes of padding after it.
 const FRAME: [u8; 40] = [
@@ -23,8 +25,8 @@ fn a_frame_is_written_view_by_view(rt: HostRuntime) {
     let mut buffer = [0xa5; 40];
     let mut frame = EthernetFrameMut::new_unchecked(&mut buffer);
     let header = EthernetRepr {
-        src_addr: FRAME_SRC,
-        dst_addr: FRAME_DST,
+        src_addr: SRC,
+        dst_addr: DST,
         ethertype: EthernetProtocol::Ipv4,
     };
     header.emit(&mut frame);
@@ -114,8 +116,8 @@ fn a_segment_is_written_through_three_views(rt: HostRuntime) {
     let mut buffer = [0xa5; 60];
     let mut frame = EthernetFrameMut::new_unchecked(&mut buffer);
     let header = EthernetRepr {
-        src_addr: FRAME_SRC,
-        dst_addr: FRAME_DST,
+        src_addr: SRC,
+        dst_addr: DST,
         ethertype: EthernetProtocol::Ipv4,
     };
     header.emit(&mut frame);

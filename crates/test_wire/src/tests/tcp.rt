@@ -1,11 +1,11 @@
 //! TCP segments and sequence numbers.
 
 use super::ipv4_ends;
-use super::support::copy_to;
 use ip_wire::{
     TcpControl, TcpPacket, TcpPacketMut, TcpSeqNumber, TcpTimestampGenerator, TcpTimestampRepr,
 };
 use std::cmp::Ordering;
+use test_support::bytes::copy_to;
 
 /// A segment with two flags and an option, from 192.168.1.1 to 192.168.1.2.
 pub(super) const SEGMENT: [u8; 28] = [

@@ -1,7 +1,8 @@
 //! The options of TCP segments.
 
-use super::support::{copy_to, prints};
 use ip_wire::{SACK_BLOCKS, TcpOption, TcpPacket};
+use test_support::bytes::copy_to;
+use test_support::texts::prints;
 
 /// No ranges.
 pub(super) const NO_RANGES: [Option<(u32, u32)>; SACK_BLOCKS] = [None; SACK_BLOCKS];

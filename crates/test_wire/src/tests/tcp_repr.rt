@@ -1,11 +1,11 @@
 //! The values of TCP segments.
 
 use super::ipv4_ends;
-use super::support::prints;
 use super::tcp::{SEGMENT, SYN};
 use super::tcp_options::{FOUR_RANGES, NO_RANGES};
 use ip_wire::{TcpControl, TcpPacket, TcpPacketMut, TcpRepr, TcpSeqNumber, TcpTimestampRepr};
 use net_base::ChecksumCapabilities;
+use test_support::texts::prints;
 
 /// The values of the segment with SYN and no option.
 pub(super) fn syn() -> TcpRepr<'static> {

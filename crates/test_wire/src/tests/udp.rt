@@ -1,9 +1,10 @@
 //! UDP packets.
 
-use super::support::{OLD, copy_to, has_front, prints};
 use super::{IPV6_PACKET, ipv4_ends, ipv6_ends};
 use ip_wire::{UDP_HEADER_LEN, UdpPacket, UdpPacketMut, UdpRepr};
 use net_base::ChecksumCapabilities;
+use test_support::bytes::{OLD, copy_to, has_front};
+use test_support::texts::prints;
 
 /// A packet from 192.168.1.1 to 192.168.1.2.
 pub(super) const PACKET: [u8; 12] = [

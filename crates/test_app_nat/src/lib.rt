@@ -1,0 +1,5 @@
+//! Tests of the NAT.
+#![tactic(auto)]
+
+#[cfg(test)]
+mod tests;

@@ -1,0 +1,12 @@
+use Rattle.std.proofs.Common.{ap}
+use Rattle.c_structs.specs.declared.types.FrameFields.{FrameFields}
+use Rattle.test_c_needs.proofs.icmp.messages_are_stored_beside_others.Goals as goal
+
+pub returns-clause-src : goal.returns-clause-src
+returns-clause-src c f = ap (λ (g : FrameFields). g.src) (c.messages_are_stored.ensures.others f)
+
+pub returns-clause-ip : goal.returns-clause-ip
+returns-clause-ip c f = ap (λ (g : FrameFields). g.ip) (c.messages_are_stored.ensures.others f)
+
+pub returns-clause-network : goal.returns-clause-network
+returns-clause-network c f = ap (λ (g : FrameFields). g.network) (c.messages_are_stored.ensures.others f)

@@ -1,3 +1,0 @@
-mod FramesWorked
-pub mod Addresses
-pub mod Endpoints
