@@ -2,6 +2,7 @@
 
 ghost use Rattle.std.specs.Prelude.{◌≤◌, length};
 ghost use Rattle.ip_wire.specs.Arp as arp;
+ghost use Rattle.ip_wire.specs.Ipv4 as ipv4;
 ghost use Rattle.ip_wire.specs.Tcp as tcp;
 
 use crate::operands::Operands;
@@ -96,24 +97,41 @@ fn ipv4(call: &str, operands: &mut Operands<'_>, bytes: &mut [u8]) {
         return operands.reject();
     }
     let mut packet = Ipv4PacketMut::new_unchecked(bytes);
-    let is_whole = usize::from(packet.header_len()) <= packet.as_bytes().len();
     match call {
         "set_version" => packet.set_version(operands.number()),
         "set_header_len" => packet.set_header_len(operands.number()),
         "set_dscp" => packet.set_dscp(operands.number()),
         "set_ecn" => packet.set_ecn(operands.number()),
         "set_total_len" => packet.set_total_len(operands.number()),
+        "set_hop_limit" => packet.set_hop_limit(operands.number()),
+        "set_next_header" => packet.set_next_header(operands.number::<u8>().into()),
+        "set_src_addr" => packet.set_src_addr(operands.ipv4()),
+        "set_dst_addr" => packet.set_dst_addr(operands.ipv4()),
+        _ => ipv4_fragment(call, operands, &mut packet),
+    }
+}
+
+// Writes a field of the fragmentation, or a checksum.
+fn ipv4_fragment(call: &str, operands: &mut Operands<'_>, packet: &mut Ipv4PacketMut<'_>)
+    requires { 20 ≤ length (ipv4.packet_bytes_mut packet.old) }
+{
+    let is_whole = usize::from(packet.header_len()) <= packet.as_bytes().len();
+    match call {
         "set_ident" => packet.set_ident(operands.number()),
         "set_dont_frag" => packet.set_dont_frag(operands.flag()),
         "set_more_frags" => packet.set_more_frags(operands.flag()),
         "set_frag_offset" => packet.set_frag_offset(operands.number()),
-        "set_hop_limit" => packet.set_hop_limit(operands.number()),
-        "set_next_header" => packet.set_next_header(operands.number::<u8>().into()),
-        "set_checksum" => packet.set_checksum(operands.number()),
-        "set_src_addr" => packet.set_src_addr(operands.ipv4()),
-        "set_dst_addr" => packet.set_dst_addr(operands.ipv4()),
         "clear_flags" => packet.clear_flags(),
+        "set_checksum" => packet.set_checksum(operands.number()),
         "fill_checksum" if is_whole => packet.fill_checksum(),
+        _ => ipv4_update(call, operands, packet),
+    }
+}
+
+fn ipv4_update(call: &str, operands: &mut Operands<'_>, packet: &mut Ipv4PacketMut<'_>)
+    requires { 20 ≤ length (ipv4.packet_bytes_mut packet.old) }
+{
+    match call {
         "update_dscp" => packet.update_dscp(operands.number()),
         "update_ecn" => packet.update_ecn(operands.number()),
         "update_hop_limit" => packet.update_hop_limit(operands.number()),
@@ -187,7 +205,6 @@ fn tcp(call: &str, operands: &mut Operands<'_>, bytes: &mut [u8]) {
         return operands.reject();
     }
     let mut packet = TcpPacketMut::new_unchecked(bytes);
-    let is_whole = packet.check_len().is_ok();
     match call {
         "set_src_port" => packet.set_src_port(operands.number()),
         "set_dst_port" => packet.set_dst_port(operands.number()),
@@ -195,9 +212,19 @@ fn tcp(call: &str, operands: &mut Operands<'_>, bytes: &mut [u8]) {
         "set_ack_number" => packet.set_ack_number(operands.seq_number()),
         "set_header_len" => packet.set_header_len(operands.number()),
         "set_window_len" => packet.set_window_len(operands.number()),
-        "set_checksum" => packet.set_checksum(operands.number()),
         "set_urgent_at" => packet.set_urgent_at(operands.number()),
         "clear_flags" => packet.clear_flags(),
+        _ => tcp_checksum(call, operands, &mut packet),
+    }
+}
+
+// Writes or updates the checksum, or a flag.
+fn tcp_checksum(call: &str, operands: &mut Operands<'_>, packet: &mut TcpPacketMut<'_>)
+    requires { 20 ≤ length (tcp.packet_bytes_mut packet.old) }
+{
+    let is_whole = packet.check_len().is_ok();
+    match call {
+        "set_checksum" => packet.set_checksum(operands.number()),
         "fill_checksum" => {
             let (src_addr, dst_addr) = operands.addresses();
             packet.fill_checksum(&src_addr, &dst_addr)
@@ -213,7 +240,7 @@ fn tcp(call: &str, operands: &mut Operands<'_>, bytes: &mut [u8]) {
             packet.update_address(&old, &new)
         }
         "update_checksum" => packet.update_checksum(operands.number(), operands.number()),
-        _ => tcp_flag(call, operands, &mut packet),
+        _ => tcp_flag(call, operands, packet),
     }
 }
 
