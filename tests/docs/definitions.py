@@ -13,15 +13,15 @@ import os
 import re
 import sys
 
-TESTS = {name: "test_" + name for name in ("wire", "apps")}
 PINS = {
+    "wire": "crates/test_wire*/src/tests/{}.rt",
+    "apps": "crates/test_app*/src/tests/{}.rt",
     "promises": "crates/test_promises/src/{}.rt",
     "cases": "tests/data/cases/{}.hex",
     "calls": "tests/data/calls/{}.call",
     "tests": "tests/{}",
     "worked": "tests/judge/worked_{}.c",
 }
-PINS.update({pin: "crates/" + crate + "/src/tests/{}.rt" for pin, crate in TESTS.items()})
 FILES = {
     "devices": "crates/ip_frames/src/tests/devices.rt",
     "example.c": "c/example.c",

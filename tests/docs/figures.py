@@ -21,8 +21,6 @@ import loosen  # noqa: E402
 
 PAGE = "docs/TRUST.md"
 HEAD = "| What | Number |"
-# Crates that only have tests.
-TESTS = ("test_wire", "test_apps", "test_needs", "test_app_needs")
 # The kinds of calls whose answers a script computes by RFCs.
 BY_RFC = ("set", "get", "again", "class", "host")
 
@@ -67,7 +65,7 @@ def functions(items):
 
 def of_proofs():
     sources = Sources(".")
-    crates = [crate for crate in sources.crates.values() if crate.name not in TESTS]
+    crates = [crate for crate in sources.crates.values() if not crate.is_for_tests]
     proved = [it for crate in crates for module in crate.modules.values() for it in functions(module.items)]
     head = r"^(?:(?:abbrev|unfoldable|opaque|record|data|pub) )+(?!mod |use )\S"
     requirement = r"^\| (?!Requirement )[^|]+ \|[^|]*\|[^|]*\|$"

@@ -14,13 +14,14 @@ import sys
 from sources import Sources
 
 DOCUMENT = "docs/audit/REQUIREMENTS.md"
-# The crates and files of test functions, by the first word of their names in the tables.
-TESTS = {"wire": "test_wire", "apps": "test_apps", "frames": "ip_frames"}
+# The crates with test functions, by the first word of their names in the tables.
+TESTS = {"wire": "test_wire*", "apps": "test_app*", "frames": "ip_frames"}
 LIBRARY = re.compile(r"net_base|ip_wire|wire_\w+")
 # The libraries whose types a Rattle program uses: those of `wire_*` through `ip_wire`.
 SHOWN = re.compile(r"net_base|(?:ip|app)_\w+")
 # The crates that use the layer through `ip_wire` and `net_base` only. They may name the formats beside `ip_wire` too.
-ABOVE = re.compile(r"ip_(?!wire\b)\w+|app_\w+|test_(?!(?:wire|needs)\b)\w+")
+# `app_link` uses bit fields only. Crates with tests or needs of the layer name what they test, so that they are proved early.
+ABOVE = re.compile(r"ip_(?!wire\b)\w+|app_(?!link\b)\w+|test_(?!wire|support\b|(?:base|ip|transport|frame)_needs\b)\w+")
 BESIDE = ("wire_icmp", "wire_ndisc")
 TEST_FUNCTION = re.compile(r"#\[test\]\n(?: *#.*\n)* *fn (\w+)\(")
 # A function that allocates is given an allocator, and returns one of these types.
@@ -97,11 +98,11 @@ class Statements:
 
 
 def test_functions(path):
-    """The test functions of a file below src/tests, with or without the first word of its crate."""
+    """The test functions of a file below src/tests, with or without the first word of its crates."""
     kind, _, file = path.partition("/")
     crates = [TESTS[kind]] if file and kind in TESTS else sorted(TESTS.values())
-    paths = [f"crates/{crate}/src/tests/{file or kind}.rt" for crate in crates]
-    found = [TEST_FUNCTION.findall(read(p)) for p in paths if os.path.exists(p)]
+    paths = [p for crate in crates for p in glob.glob(f"crates/{crate}/src/tests/{file or kind}.rt")]
+    found = [TEST_FUNCTION.findall(read(p)) for p in paths]
     return found[0] if len(found) == 1 else []
 
 

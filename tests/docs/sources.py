@@ -33,6 +33,11 @@ class Crate:
     modules: dict  # By path; the root is the empty path.
     specs: dict  # By name; the root is Lib.
 
+    @property
+    def is_for_tests(self):
+        """Whether it has only tests, needs and what these share."""
+        return self.name.startswith("test_") and self.name not in ("test_promises", "test_calls")
+
 
 def words_of(text):
     return set(WORD.findall(text))

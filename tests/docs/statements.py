@@ -21,8 +21,6 @@ from sources import Sources, words_of
 TOP = os.path.dirname(os.path.dirname(os.path.dirname(os.path.abspath(__file__))))
 FOLDER = "docs/audit/statements"
 RENEW = "tests/docs/statements.py --write"
-# Crates that only have tests.
-LEFT_OUT = {"test_wire", "test_apps", "test_needs", "test_app_needs"}
 # The crates whose functions promise something of what their bodies do, beside the laws.
 PROMISES = {"test_promises"}
 # Attributes that change no statement.
@@ -148,7 +146,7 @@ def record(sources):
     """The text of each file of the record, by its path."""
     return {
         f"{FOLDER}/{name}.txt": "\n".join(Record(sources, crate).lines()) + "\n"
-        for name, crate in sources.crates.items() if name not in LEFT_OUT
+        for name, crate in sources.crates.items() if not crate.is_for_tests
     }
 
 

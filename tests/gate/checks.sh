@@ -50,30 +50,37 @@ copy_the_tree() {
     touch "$room/begun"
     tar --exclude=out --exclude=.git -cf - . | tar -xf - -C "$copy"
     mkdir -p out "${program%/*}" "${calls%/*}" "${archive%/*}"
-    rm -rf out/test.log out/proved
+    rm -rf out/test.log out/proved "$program" "$calls" "$archive" "${library%/*}"
 }
 
-# Proves the crate of the C library and builds it, which the gate does not do.
+# Proves the crate of the C library and builds it, which the gate does not do: beside it, once the libraries under the crate
+# are proved.
 build_the_library() {
-    tests/gate/proved.py rattle build c_exports --crate-type staticlib --toolchain "$(dirname "$(rt doc)")/toolchain" \
-        --jobs "$(nproc)" -o "$PWD/$archive"
+    tests/gate/proved.py wait c_exports &&
+        tests/gate/proved.py rattle build c_exports --crate-type staticlib \
+            --toolchain "$(dirname "$(rt doc)")/toolchain" --jobs 2 -o "$PWD/$archive" > out/library.log 2>&1 &&
+        touch -r "$room/begun" "$archive" && c/link "$archive" "${library%/*}" && c/pages out/man/man3 && return
+    tail -n 3 out/library.log
+    return 1
 }
 
-# Runs the gate, builds the programs and the library, and counts the checks of the gate. The libraries that it proved are
-# kept in out/proved.
+# after_library COMMAND..: runs the command once the library is built, or cannot be
+after_library() {
+    tail --pid="${begun[library]}" -f /dev/null
+    "$@"
+}
+
+# Runs the gate, and counts its checks. The libraries that it proved are kept in out/proved.
 run_the_gate() {
     local gate built
     (cd "$copy" && tests/gate/progress.py "$OLDPWD/out/test.log" rt ci ${ANEW:+--anew})
     gate=$?
     ln -s "$PWD/out" "$copy/out"
-    rm -rf "$program" "$calls" "$archive" "${library%/*}"
-    build_the_library > out/library.log 2>&1 || tail -n 3 out/library.log
     for built in "$program" "$calls"; do
         [ -x "$copy/$built" ] && cp "$copy/$built" "$built"
     done
     # Dated back to the copy, so that make rebuilds them if a source has changed since.
-    touch -c -r "$room/begun" "$program" "$calls" "$archive"
-    [ -e "$archive" ] && c/link "$archive" "${library%/*}" && c/pages out/man/man3
+    touch -c -r "$room/begun" "$program" "$calls"
     if [[ $(tail -n 1 out/test.log) =~ ^([0-9]+)\ passed,\ ([0-9]+)\ failed$ ]]; then
         passed=${BASH_REMATCH[1]}
         failed=${BASH_REMATCH[2]}

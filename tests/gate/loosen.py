@@ -1,16 +1,16 @@
 #!/usr/bin/env python3
-"""Weakens public statements, and tells which weaker ones nothing notices: tests/gate/loosen.py [--tenth | NAME..]
+"""Weakens public statements, and tells which weaker ones nothing notices: tests/gate/loosen.py [--beside-gate | NAME..]
 
 A public statement is a law, the contract of a call of the C library, or the condition of a call on a length. It is weakened
 by a false premise (laws), by leaving out a clause (laws, calls of the C library), by allowing one more result (calls of the C
-library), or by asking for one byte more (conditions). Its needs are the functions of test_needs, of test_app_needs and
-of c_exports/src/needs that call it. In a copy of their crate each of them calls a function with the weaker contract instead,
+library), or by asking for one byte more (conditions). Its needs are the functions of the crates test_*_needs and of
+c_exports/src/needs that call it. In a copy of their crate each of them calls a function with the weaker contract instead,
 over the libraries that make test proved. One of them must not be proved then.
 
 A weaker statement that no need notices loses nothing if it implies what it lost, by itself or with the definitions alone. Any
 other one must be in tests/data/unneeded.txt, and nothing else may be there. With names it tries the statements of these
-functions, types or crates, and with --tenth one in ten of all, others for each commit. What rattle prints is in
-out/loosen.log.
+functions, types or crates. Beside the gate it tries one in ten of all, others for each commit, as soon as the libraries under
+their needs are proved. What rattle prints is in out/loosen.log.
 """
 import collections
 import functools
@@ -30,8 +30,8 @@ sys.path.insert(0, str(TOP / "tests/docs"))
 from contracts import Clause  # noqa: E402
 from sources import Sources, words_of  # noqa: E402
 
-# The crates with needs, and the first name of the modules that have them.
-NEEDS = {"test_needs": "", "test_app_needs": "", "c_exports": "needs"}
+# The crates with needs in the order in which they can be tried, and the first name of the modules that have them.
+NEEDS = {**{name: "" for name in proved.crates() if name.endswith("_needs")}, "c_exports": "needs"}
 LIST = TOP / "tests/data/unneeded.txt"
 # The most rows that it may have. This number only gets smaller.
 MOST = 30
@@ -343,12 +343,13 @@ class Trial:
         path = self.public((statement.crate, *statement.module.path, statement.item.name))
         return "::".join(path)
 
-    def run(self):
+    def run(self, kept):
+        """Runs rattle over what the trials of this crate before it kept in a folder."""
         with tempfile.TemporaryDirectory() as room:
             folder = pathlib.Path(room)
             self.write(folder)
             only = [word for name in self.of for word in ("--only", name)]
-            words = [*proved.command_line("check", self.crate), *self.more_externs(), *only]
+            words = [*proved.command_line("check", self.crate), *self.more_externs(), "--incremental", kept, *only]
             ran = subprocess.run(words, cwd=folder, stdin=subprocess.DEVNULL, stdout=subprocess.PIPE, stderr=subprocess.STDOUT, text=True, errors="replace")
             self.log = ran.stdout
             for keep in ([KEEP / self.crate] if KEEP else []):
@@ -394,16 +395,22 @@ def home_of(weaker, *need):
     return need[0].crate if need else next(name for name in NEEDS if name == crate or crate in proved.crates()[name][1])
 
 
-def tried(pool, sources, entries):
+def tried(pool, sources, entries, beside_gate):
     """Tries weaker statements with a need, or by themselves: what rattle says of each, and all that it prints."""
     by_crate = collections.defaultdict(list)
     for entry in entries:
         by_crate[home_of(*entry)].append(entry)
-    trials = [
-        Trial(sources, crate, some[first : first + ROUND]) for crate, some in by_crate.items() for first in range(0, len(some), ROUND)
-    ]
-    for trial in pool.map(Trial.run, trials):
-        yield from ((name_of(it), name, verdict, trial) for it, name, verdict in trial.verdicts())
+
+    def run(crate):
+        some = by_crate[crate]
+        if beside_gate:
+            proved.wait(crate)
+        with tempfile.TemporaryDirectory() as kept:
+            return [Trial(sources, crate, some[first : first + ROUND]).run(kept) for first in range(0, len(some), ROUND)]
+
+    for trials in pool.map(run, [name for name in NEEDS if name in by_crate]):
+        for trial in trials:
+            yield from ((name_of(it), name, verdict, trial) for it, name, verdict in trial.verdicts())
 
 
 def unneeded():
@@ -412,7 +419,7 @@ def unneeded():
     return [line.partition("|")[0].strip() for line in lines if "|" in line]
 
 
-def verdicts(sources, weaker):
+def verdicts(sources, weaker, beside_gate):
     """The names of the weaker statements that needs notice, and that lose nothing, and what went wrong."""
     noticed, alike, faults, log = set(), set(), [], {}
     found = list(needs(sources))
@@ -421,14 +428,14 @@ def verdicts(sources, weaker):
         # The first need of each, and then all others of those that it does not notice.
         for part in (slice(0, 1), slice(1, None)):
             entries = [entry for name, its in calls.items() if name not in noticed for entry in its[part]]
-            for name, copy, verdict, trial in tried(pool, sources, entries):
+            for name, copy, verdict, trial in tried(pool, sources, entries, beside_gate):
                 log[trial] = trial.log
                 if NOTICED.match(verdict):
                     noticed.add(name)
                 elif verdict != "proved":
                     faults.append(f"{name}: {copy}: {verdict}")
         entries = [(it,) for it in weaker if name_of(it) not in noticed and may_be_alike(it)]
-        for name, _, verdict, trial in tried(pool, sources, entries):
+        for name, _, verdict, trial in tried(pool, sources, entries, beside_gate):
             log[trial] = trial.log
             alike |= {name} if verdict == "proved" else set()
     (TOP / "out").mkdir(exist_ok=True)
@@ -441,10 +448,11 @@ def main():
     sources, listed = Sources(str(TOP)), set(unneeded())
     weaker = [it for statement in statements(sources) for it in weakened(statement)]
     known = {name_of(it) for it in weaker}
-    if asked == {"--tenth"}:
+    beside_gate = asked == {"--beside-gate"}
+    if beside_gate:
         weaker, asked = proved.one_in(10, weaker), set()
     names = {name_of(it) for it in weaker if not asked or asked & {it.statement.item.name, it.statement.crate, it.statement.owner}}
-    noticed, alike, faults = verdicts(sources, [it for it in weaker if name_of(it) in names])
+    noticed, alike, faults = verdicts(sources, [it for it in weaker if name_of(it) in names], beside_gate)
     faults += [f"nothing notices {name}" for name in sorted(names - noticed - alike - listed)]
     faults += [f"{LIST.name} has {name}, which is noticed" for name in sorted(listed & (noticed | alike))]
     faults += [f"{LIST.name} has {name}, which is no statement" for name in sorted(listed - known)]

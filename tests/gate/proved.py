@@ -4,6 +4,7 @@
     tests/gate/proved.py rattle COMMAND CRATE WORD..
                                            runs `rattle COMMAND` on crates/CRATE over the kept libraries
     tests/gate/proved.py check CRATE            proves crates/CRATE, and keeps what it proved for the next check
+    tests/gate/proved.py wait CRATE             beside the gate: waits until it has proved the libraries below crates/CRATE
 
 The status is 3 if a library below the crate has changed since it was kept, or was not kept.
 """
@@ -14,6 +15,7 @@ import pathlib
 import shutil
 import subprocess
 import sys
+import time
 
 TOP = pathlib.Path(__file__).resolve().parents[2]
 KEPT = TOP / "out" / "proved"
@@ -74,7 +76,7 @@ def note_all(folder):
 
 def changed():
     """The crates that are not as the last gate proved them. None if no gate has ended."""
-    if not (KEPT / "all").exists():
+    if not is_over():
         return None
     noted = set((KEPT / "all").read_text().splitlines())
     return [name for name in crates() if f"{name} {sum_of(name)}" not in noted]
@@ -87,6 +89,18 @@ def stale(crate):
         return kept.exists() and kept.read_text() == sum_of(name)
 
     return [name for name in sorted(below(crate)) if not is_kept(name)]
+
+
+def is_over():
+    """Whether the gate has ended."""
+    return (KEPT / "all").exists()
+
+
+def wait(crate):
+    """Waits until the libraries under a crate are kept, or the gate has ended."""
+    while stale(crate) and not is_over():
+        time.sleep(1)
+    return STALE if stale(crate) else 0
 
 
 def command_line(command, crate):
@@ -117,6 +131,6 @@ if __name__ == "__main__":
     mode, *words = sys.argv[1:] or [""]
     if mode == "rattle" and len(words) >= 2:
         sys.exit(rattle(*words))
-    if mode == "check" and len(words) == 1:
-        sys.exit(check(*words))
+    if mode in ("check", "wait") and len(words) == 1:
+        sys.exit({"check": check, "wait": wait}[mode](*words))
     sys.exit(__doc__)

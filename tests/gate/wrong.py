@@ -157,7 +157,7 @@ def ready(trials, beside_gate):
     """The trials, each when the libraries under its crate are kept."""
     left = list(trials)
     while left:
-        is_over = not beside_gate or (proved.KEPT / "all").exists()
+        is_over = not beside_gate or proved.is_over()
         begins = [trial for trial in left if not proved.stale(trial.crate)]
         yield from begins
         left = [trial for trial in left if trial not in begins]
