@@ -823,8 +823,8 @@ int lk_translate(uint8_t *frame, size_t len, int side, const struct lk_endpoint 
  * less 40 over IPv4, and less 60 over IPv6.
  *
  * - Of several such options the last counts. A SYN without one stays as it is.
- * - The TCP checksum is not verified. A valid one stays valid, and a wrong one stays wrong. One that is left to the device
- *   (LK_LEFT_TO_DEVICE) must not change, so the caller writes it back.
+ * - A valid TCP checksum stays valid, and a wrong one stays wrong. A field that lk_read_frame calls LK_LEFT_TO_DEVICE is
+ *   unchanged, because it does not cover the option.
  * - A frame stays as it is if lk_read_frame rejects a header, and if it is a fragment, has a wrong IPv4 header checksum,
  *   or has IPv6 extension headers before TCP.
  *

@@ -41,8 +41,8 @@ func Forward(frame []byte, src, dst HardwareAddr) error {
 	return rejection(C.lk_forward(ptr, length, src.ptr(), dst.ptr()))
 }
 
-// ClampMSS lowers the maximum segment size of a TCP SYN in an Ethernet frame, in place. It tells whether the size was
-// larger.
+// ClampMSS lowers the maximum segment size of a TCP SYN in an Ethernet frame, in place, and updates the TCP checksum. One
+// that is LeftToDevice is unchanged. It tells whether the size was larger.
 func ClampMSS(frame []byte, maxSegSize uint16) bool {
 	ptr, length := memory(frame)
 	return C.lk_clamp_mss(ptr, length, C.uint16_t(maxSegSize)) != 0

@@ -308,7 +308,8 @@ void uncomplete_checksum(struct packet *packet)
     store_word(place, lk_checksum(pseudo, sizeof pseudo));
 }
 
-/* A checksum that is left to the device stays: it covers no segment yet. */
+/* A checksum that is left to the device stays. lk_clamp_mss leaves it too, but one in 65536 is valid by chance, and then
+ * only the device's flag tells. */
 void clamp(const struct interface *interface, struct packet *packet)
 {
     size_t headers = packet->frame[ETHERNET_LEN] >> 4 == 4 ? 40 : 60; /* of IP and TCP, without options */

@@ -38,6 +38,7 @@ __attribute__((constructor)) static void choose(void)
         "an echo to a port below 1024",
         "the inner of two VLAN tags lost", "an address family in one byte order only",
         "a header after that of a later fragment",
+        "the segment size of a SYN updated in a partial checksum",
     };
     const char *number = getenv("FAULT");
     fault = number ? (enum fault)atoi(number) : NO_FAULT;

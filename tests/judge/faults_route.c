@@ -45,8 +45,14 @@ int __wrap_lk_translate(uint8_t *frame, size_t len, int side, const struct lk_en
 int __wrap_lk_clamp_mss(uint8_t *frame, size_t len, uint16_t max_seg_size)
 {
     struct lk_frame f;
+    int result;
     lk_read_frame(frame, len, &f);
-    return fault == SYN_ACK_LEFT && (f.tcp.flags & LK_ACK) ? 0 : __real_lk_clamp_mss(frame, len, max_seg_size);
+    if (fault == SYN_ACK_LEFT && (f.tcp.flags & LK_ACK))
+        return 0;
+    result = __real_lk_clamp_mss(frame, len, max_seg_size);
+    if (fault == PARTIAL_SUM_UPDATED && result == 1 && f.transport_checksum == LK_LEFT_TO_DEVICE)
+        frame[f.transport_offset + 16] ^= 1;
+    return result;
 }
 
 /* Indexes the routes from the last to the first. */

@@ -97,8 +97,9 @@ int model_clamp_mss(uint8_t *octets, size_t len, uint16_t max_seg_size)
         return 0;
     before = model_checksum(header + 20, options_len);
     put_word(size, max_seg_size);
-    put_word(header + 16, model_update_checksum((uint16_t)get_word(header + 16), before,
-                                                model_checksum(header + 20, options_len)));
+    if (frame.transport_checksum != LK_LEFT_TO_DEVICE)
+        put_word(header + 16, model_update_checksum((uint16_t)get_word(header + 16), before,
+                                                    model_checksum(header + 20, options_len)));
     return 1;
 }
 

@@ -37,7 +37,10 @@ def forward(frame: Data, src: bytes, dst: bytes) -> bytes:
 
 
 def clamp_mss(frame: Data, max_seg_size: int) -> bytes:
-    """The Ethernet frame, where the maximum segment size of a TCP SYN is `max_seg_size` at most."""
+    """The Ethernet frame, where the maximum segment size of a TCP SYN is `max_seg_size` at most.
+
+    The TCP checksum is updated. One that is left to the device (`Verdict.LEFT_TO_DEVICE`) is unchanged.
+    """
     out = _copied(frame)
     call("lk_clamp_mss", out, max_seg_size)
     return bytes(out)

@@ -64,7 +64,8 @@ pub fn translate(frame: &mut [u8], side: Side, end: SocketAddrV4) -> Result<(), 
 }
 
 /// Lowers the maximum segment size of a TCP SYN in an Ethernet frame to `max_seg_size`, and updates the TCP checksum.
-/// Returns `false` if there is no larger one. Then the frame is unchanged.
+/// One that is left to the device ([`Verdict::LeftToDevice`](crate::Verdict::LeftToDevice)) is unchanged. Returns `false`
+/// if there is no larger size. Then the frame is unchanged.
 pub fn clamp_mss(frame: &mut [u8], max_seg_size: u16) -> bool {
     // SAFETY: there are `len` bytes at `frame`.
     unsafe { library().lk_clamp_mss(frame.as_mut_ptr(), frame.len(), max_seg_size) != 0 }

@@ -1,5 +1,6 @@
 -- A packet with another TCP segment, a frame with such a packet, and what C gets for it.
-use Rattle.std.proofs.Common.{ℕ, ℤ, pos, ◌≡◌, ◌≤◌, ◌<◌, ◌+◌, ◌-◌, ◌%◌, ◌↔◌, ◌++◌, ◌∙◌, Bool, true, false, if◌then◌else◌, List, [], Some, Result, Ok, Err, ap, append_assoc, arith, drop, inl, inr, length, length-drop, refl, slice_range, subst, sym, take}
+use Rattle.std.proofs.Common.{ℕ, ℤ, pos, ◌≡◌, ◌≢◌, ◌≤◌, ◌<◌, ◌+◌, ◌-◌, ◌%◌, ◌↔◌, ◌++◌, ◌∙◌, Bool, true, false, if◌then◌else◌, List, [], Some, Result, Ok, Err, ap, append_assoc, arith, drop, inl, inr, length, length-drop, refl, slice_range, subst, sym, take}
+use Rattle.std.proofs.lemmas.Bool.Decides.{nat_tests}
 use Rattle.std.proofs.lemmas.List.{length-take-le, take-append-drop}
 use Rattle.c_structs.specs.Written.{max_len}
 use Rattle.app_nat.proofs.Headers.{reads-inner, same-inner}
@@ -9,7 +10,8 @@ use Rattle.app_short.specs.Clamp.{IsAbove}
 use Rattle.ip_wire.proofs.Cells.{cells-all}
 use Rattle.ip_wire.proofs.ReadsOnce.{computed-one, frame-once}
 use Rattle.ip_wire.specs.Ethernet as ethernet
-use Rattle.ip_wire.specs.Field.{field, with_range}
+use Rattle.ip_wire.proofs.TcpChanged.{reads-summed}
+use Rattle.ip_wire.specs.Field.{field, with_field, with_range}
 use Rattle.ip_wire.specs.Frame.{ReadsFrame, ReadsPacket, Transport, packet, packet_payload, segment, type_of}
 use Rattle.ip_wire.specs.FrameValue.{transport_of}
 use Rattle.ip_wire.specs.Ip.{ReadsHeader, dst_addr_of, src_addr_of}
@@ -18,9 +20,12 @@ use Rattle.ip_wire.specs.Ipv4 as ipv4
 use Rattle.ip_wire.specs.Ipv6 as ipv6
 use Rattle.ip_wire.specs.Packet.{IsPacket, packet_of}
 use Rattle.ip_wire.specs.Protocol.{protocol_of}
-use Rattle.ip_wire.specs.TcpRepr.{Reads, TcpHeader, header_of}
+use Rattle.ip_wire.specs.Tcp as tcp
+use Rattle.ip_wire.specs.Tcp.{Verifies}
+use Rattle.ip_wire.specs.TcpRepr.{HasControl, Reads, TcpHeader, header_of}
 use Rattle.ip_wire.specs.TcpSegmentSize.{with_max_seg_size}
 use Rattle.ip_wire.specs.Types.{Error, EthernetRepr, IpAddress, IpRepr, Ipv4, Ipv6, Ipv6Repr}
+use Rattle.ip_wire.specs.declared.TcpControl.TheVariants as control
 use Rattle.ip_wire.specs.declared.TcpRepr.{TcpRepr}
 use Rattle.ip_wire.specs.declared.frame.transport.Transport as value
 use Rattle.ip_wire.specs.declared.frame.transport.Transport.TheVariants as transport
@@ -29,7 +34,7 @@ use Rattle.net_base.specs.declared.Checksum.{Checksum}
 use Rattle.net_base.specs.declared.Checksum.TheVariants as checksum
 use Rattle.net_base.specs.declared.ChecksumCapabilities.{ChecksumCapabilities}
 use Rattle.c_routing.proofs.Within.{within-itself, within-nothing}
-use Rattle.c_routing.specs.Clamped.{CarriesSegment, Clamps, IsClamped, IsTooLarge, ReadsSegment, clamped, segment_end, segment_start, tcp_as, with_segment, with_size}
+use Rattle.c_routing.specs.Clamped.{CarriesSegment, Clamps, IsClamped, IsTooLarge, ReadsSegment, clamped, is_left_to_device, resized, segment_end, segment_start, tcp_as, with_segment, with_size}
 
 -- ---- where the segment is
 
@@ -135,7 +140,8 @@ even-ends choice bytes (Ipv6 v) r =
 -- the segment that was clamped is read in its packet
 pub packet-clamped : (choice : Checksum) (bytes part new : List ℕ) (header : IpRepr) (v : TcpHeader) (payload : List ℕ) (limit : ℕ)
     → new ≡ with_segment header bytes part → length part ≡ length (packet_payload header bytes)
-    → ((src dst : IpAddress) (verified : Bool) → IsEven src → IsEven dst → Reads (packet_payload header bytes) src dst verified v payload → Reads part src dst verified (with_size limit v) payload)
+    → ((verified : Bool) → IsEven (src_addr_of header) → IsEven (dst_addr_of header) → Reads (packet_payload header bytes) (src_addr_of header) (dst_addr_of header) verified v payload
+    → Reads part (src_addr_of header) (dst_addr_of header) verified (with_size limit v) payload)
     → ReadsSegment choice bytes header v payload → ReadsSegment choice new header (with_size limit v) payload
 packet-clamped choice bytes part new header v payload limit is e lowered r =
     let even = even-ends choice bytes header r.0 in
@@ -147,17 +153,50 @@ packet-clamped choice bytes part new header v payload limit is e lowered r =
       (
         r.1.0,
         subst (λ (l : List ℕ). Reads l src dst (verifies choice) (with_size limit v) payload) (sym placed)
-            (lowered src dst (verifies choice) even.0 even.1 r.1.1),
+            (lowered (verifies choice) even.0 even.1 r.1.1),
       ),
     )
 
 pub packet-bytes : (header : IpRepr) (bytes part : List ℕ) (limit : ℕ) (done : Bool) → ReadsHeader bytes true header
-    → part ≡ (if done then with_max_seg_size (packet_payload header bytes) limit else packet_payload header bytes)
+    → part ≡ (if done then resized (src_addr_of header) (dst_addr_of header) (packet_payload header bytes) limit else packet_payload header bytes)
     → with_segment header bytes part ≡ (if done then clamped header bytes limit else bytes)
 packet-bytes header bytes part limit true r is = ap (with_segment header bytes) is
 packet-bytes header bytes part limit false r is =
     ap (with_segment header bytes) (is ∙ payload-range bytes header)
     ∙ range-same bytes (segment_start header bytes) (segment_end header bytes) (range-order bytes header r)
+
+-- ---- a checksum that is left to the device
+
+pub is-syn : (bytes : List ℕ) (src dst : IpAddress) (verified : Bool) (v : TcpHeader) (payload : List ℕ) (limit : ℕ) → IsAbove limit v → Reads bytes src dst verified v payload → field bytes 110 1 ≡ 1
+is-syn bytes src dst verified v payload limit above r = let flags : HasControl bytes control.Syn = subst (HasControl bytes) above.syn r.control in flags.syn
+
+pub left-partial : (src dst : IpAddress) (bytes : List ℕ) → field bytes 128 16 ≡ tcp.pseudo_header_sum src dst bytes → ¬ Verifies src dst bytes → is_left_to_device src dst bytes ≡ true
+left-partial src dst bytes partial wrong = grind (arith, nat_tests)
+
+pub not-partial : (src dst : IpAddress) (bytes : List ℕ) → field bytes 128 16 ≢ tcp.pseudo_header_sum src dst bytes → is_left_to_device src dst bytes ≡ false
+not-partial src dst bytes other = grind (arith, nat_tests)
+
+pub valid-stays : (src dst : IpAddress) (bytes : List ℕ) → Verifies src dst bytes → is_left_to_device src dst bytes ≡ false
+valid-stays src dst bytes valid = grind (arith, nat_tests)
+
+pub some-left : (src dst : IpAddress) (bytes part : List ℕ) (sum limit : ℕ) → part ≡ with_max_seg_size bytes limit → sum ≡ field bytes 128 16
+    → is_left_to_device src dst bytes ≡ true → with_field part 128 16 sum ≡ resized src dst bytes limit
+some-left src dst bytes part sum limit is same left =
+    let new = with_max_seg_size bytes limit in
+    (λ i. with_field (is i) 128 16 (same i)) ∙ sym (ap (λ (b : Bool). if b then with_field new 128 16 (field bytes 128 16) else new) left)
+
+pub none-left : (src dst : IpAddress) (bytes part : List ℕ) (limit : ℕ) → part ≡ with_max_seg_size bytes limit
+    → is_left_to_device src dst bytes ≡ false → part ≡ resized src dst bytes limit
+none-left src dst bytes part limit is other =
+    let new = with_max_seg_size bytes limit in
+    is ∙ sym (ap (λ (b : Bool). if b then with_field new 128 16 (field bytes 128 16) else new) other)
+
+-- the segment is still read when its old checksum is put back, which was not valid
+pub put-back : (src dst : IpAddress) (bytes part new : List ℕ) (sum : ℕ) (verified : Bool) (v w : TcpHeader) (payload : List ℕ) → new ≡ with_field part 128 16 sum
+    → is_left_to_device src dst bytes ≡ true → Reads bytes src dst verified v payload → Reads part src dst verified w payload → Reads new src dst verified w payload
+put-back src dst bytes part new sum verified v w payload is left before r =
+    reads-summed part new sum src dst src dst verified verified w payload is r
+    (λ on. let other = valid-stays src dst bytes (before.checksum on) in absurd (cc))
 
 -- ---- a frame with another packet
 

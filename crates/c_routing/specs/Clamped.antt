@@ -1,17 +1,21 @@
 -- What the call that clamps the maximum segment size of a frame returns and writes.
-use Rattle.std.specs.Prelude.{ℕ, ℤ, pos, ◌≡◌, ◌≤◌, ◌++◌, ◌⊎◌, List, Some, drop, length, take}
+use Rattle.std.specs.Prelude.{ℕ, ℤ, pos, ◌≡◌, ◌≤◌, ◌==◌, ◌++◌, ◌⊎◌, if◌then◌else◌, Bool, List, Some, drop, length, take}
 use Rattle.app_short.specs.Clamp.{IsAbove}
-use Rattle.ip_wire.specs.Field.{with_range}
+use Rattle.ip_wire.specs.Field.{field, with_field, with_range}
 use Rattle.ip_wire.specs.Frame.{ReadsFrame, ReadsPacket, ReadsTransport, all_checked, packet, packet_payload, segment}
+use Rattle.ip_wire.specs.Ip.{dst_addr_of, src_addr_of}
 use Rattle.ip_wire.specs.Ipv4 as ipv4
 use Rattle.ip_wire.specs.Ipv6 as ipv6
 use Rattle.ip_wire.specs.TcpRepr.{TcpHeader}
 use Rattle.ip_wire.specs.TcpSegmentSize.{with_max_seg_size}
-use Rattle.ip_wire.specs.Types.{EthernetRepr, IpRepr, Ipv4, Ipv6}
+use Rattle.ip_wire.specs.Types.{EthernetRepr, IpAddress, IpRepr, Ipv4, Ipv6}
 use Rattle.net_base.specs.declared.Checksum.{Checksum}
 use Rattle.net_base.specs.declared.Checksum.TheVariants as checksum
 use Rattle.net_base.specs.declared.ChecksumCapabilities.{ChecksumCapabilities}
+use Rattle.c_structs.specs.Codes.{verdict_code}
+use Rattle.c_structs.specs.FrameFields.{tcp_verdict}
 use Rattle.c_structs.specs.Written.{max_len, within}
+use Rattle.c_structs.specs.declared.codes.Verdict.TheVariants as verdict
 
 -- Pinned by: `worked/route`
 -- the checksum of TCP is verified or computed by this choice, and every other checksum always
@@ -52,9 +56,23 @@ abbrev pub with_segment : IpRepr → List ℕ → List ℕ → List ℕ
 with_segment header bytes part = with_range bytes (segment_start header bytes) (segment_end header bytes) part
 
 -- Pinned by: `worked/route`
--- the bytes of a packet with this header, with this maximum segment size and an updated TCP checksum
+-- the TCP checksum of a segment between two addresses is left to the device, as `lk_read_frame` says
+abbrev pub is_left_to_device : IpAddress → IpAddress → List ℕ → Bool
+is_left_to_device src dst bytes = verdict_code (tcp_verdict src dst bytes) == verdict_code verdict.LeftToDevice
+
+-- Pinned by: `worked/route`
+-- the bytes of a segment between two addresses with this maximum segment size and an updated checksum; one that is left
+-- to the device stays
+abbrev pub resized : IpAddress → IpAddress → List ℕ → ℕ → List ℕ
+resized src dst bytes size =
+    let new = with_max_seg_size bytes size in
+    if is_left_to_device src dst bytes then with_field new 128 16 (field bytes 128 16) else new
+
+-- Pinned by: `worked/route`
+-- the bytes of a packet with this header, whose segment has this maximum segment size
 abbrev pub clamped : IpRepr → List ℕ → ℕ → List ℕ
-clamped header bytes size = with_segment header bytes (with_max_seg_size (packet_payload header bytes) size)
+clamped header bytes size =
+    with_segment header bytes (resized (src_addr_of header) (dst_addr_of header) (packet_payload header bytes) size)
 
 -- Pinned by: `worked/route`
 -- the frame carries a SYN with a larger maximum segment size, whether or not its TCP checksum is valid
@@ -68,7 +86,7 @@ pub record IsTooLarge (frame : List ℕ) (limit : ℕ) : Type 0 where
 
 -- Pinned by: `worked/route`
 -- The old frame carries a SYN with a larger maximum segment size. The new one carries the same values with the limit,
--- and a TCP checksum that was valid is still valid. These are all the bytes.
+-- and a TCP checksum that was valid is still valid. One that is left to the device stays. These are all the bytes.
 pub record IsClamped (old new : List ℕ) (limit : ℕ) : Type 0 where
   pub before : IsTooLarge old limit
   pub after : (choice : Checksum) → CarriesSegment choice old before.link before.header before.v before.payload

@@ -1,22 +1,25 @@
 //! The MSS clamp: it lowers the maximum segment size of connections over a link with a small MTU.
 
-ghost use Rattle.std.specs.Prelude.{◌≡◌, ◌↔◌, IfNone, IfSome, IsTrue, List, ℕ, if◌then◌else◌, true};
-ghost use Rattle.c_routing.specs.Clamped.{CarriesSegment, Clamps, ReadsSegment, clamped, segment_end, segment_start, with_size};
+ghost use Rattle.std.specs.Prelude.{◌≡◌, ◌≤◌, ◌%◌, ◌↔◌, Bool, IfNone, IfSome, IsTrue, List, None, ℕ, if◌then◌else◌, length, false, true};
+ghost use Rattle.c_routing.specs.Clamped.{CarriesSegment, Clamps, ReadsSegment, clamped, is_left_to_device, resized, segment_end, segment_start, with_size};
 ghost use Rattle.app_short.specs.Clamp.{IsAbove};
-ghost use Rattle.ip_wire.specs.Ip.{ReadsHeader};
-ghost use Rattle.ip_wire.specs.TcpRepr.{TcpHeader};
+ghost use Rattle.ip_wire.specs.Field.{field};
+ghost use Rattle.ip_wire.specs.Ip.{ReadsHeader, dst_addr_of, src_addr_of};
+ghost use Rattle.ip_wire.specs.IpAddress.{address_bytes};
+ghost use Rattle.ip_wire.specs.TcpRepr.{Reads, TcpHeader};
 ghost use Rattle.ip_wire.specs.Types.{EthernetRepr, IpRepr};
 ghost use Rattle.net_base.specs.declared.Checksum.{Checksum};
 
 use app_short::mss_clamp::clamp;
 use c_structs::MAX_LEN;
 use ip_wire::{
-    ETHERNET_HEADER_LEN, Frame, IPV6_HEADER_LEN, IpRepr, Ipv4Packet, Ipv6Packet, Transport,
+    ETHERNET_HEADER_LEN, Frame, IPV6_HEADER_LEN, IpRepr, Ipv4Packet, Ipv6Packet, TcpPacket,
+    TcpPacketMut, Transport,
 };
 use net_base::{Checksum, ChecksumCapabilities};
 
-/// Lowers the maximum segment size of a SYN in a frame to `limit`, and updates the TCP checksum, in place. Returns 1 if
-/// it was larger, else 0; then the frame is unchanged.
+/// Lowers the maximum segment size of a SYN in a frame to `limit`, and updates the TCP checksum, in place. A checksum that
+/// is left to the device stays. Returns 1 if the size was larger, else 0; then the frame is unchanged.
 pub fn clamp_frame(frame: &mut [u8], limit: u16) -> i32
     ensures { Clamps frame.old frame.new limit result }
 {
@@ -65,7 +68,49 @@ fn clamp_packet(header: &IpRepr, packet: &mut [u8], limit: u16) -> bool
     let (start, end) = segment_range(header, packet);
     let (_, rest) = packet.split_at_mut(start);
     let (segment, _) = rest.split_at_mut(end - start);
-    clamp(segment, limit)
+    clamp_segment(header, segment, limit)
+}
+
+// Clamps the segment of a packet with this header.
+#[inline(always)]
+fn clamp_segment(header: &IpRepr, segment: &mut [u8], limit: u16) -> bool
+    requires { (v : TcpHeader) × (payload : List ℕ) × Reads segment.old (src_addr_of header.now) (dst_addr_of header.now) false v payload }
+    ensures when { (v : TcpHeader) (payload : List ℕ)
+        → Reads segment.old (src_addr_of header.now) (dst_addr_of header.now) false v payload → IsTrue result ↔ IsAbove limit v }
+    ensures lowered { let src = src_addr_of header.now in
+        let dst = dst_addr_of header.now in
+        (verified : Bool) (v : TcpHeader) (payload : List ℕ) → length (address_bytes src) % 2 ≡ 0 → length (address_bytes dst) % 2 ≡ 0
+        → Reads segment.old src dst verified v payload → IsAbove limit v → Reads segment.new src dst verified (with_size limit v) payload }
+    ensures bytes { segment.new ≡ (if result then resized (src_addr_of header.now) (dst_addr_of header.now) segment.old limit else segment.old) }
+{
+    let left = sum_left_to_device(header, segment);
+    if !clamp(segment, limit) {
+        return false;
+    }
+    if let Some(sum) = left {
+        TcpPacketMut::new_unchecked(segment).set_checksum(sum);
+    }
+    true
+}
+
+// The checksum of a SYN in a packet with this header, if it is left to the device. Of other segments none is left.
+fn sum_left_to_device(header: &IpRepr, segment: &[u8]) -> Option<u16>
+    requires { 20 ≤ length segment.now }
+    ensures some { IfSome result (λ sum. (sum ≡ field segment.now 128 16)
+        × IsTrue (is_left_to_device (src_addr_of header.now) (dst_addr_of header.now) segment.now)) }
+    ensures none { result ≡ None → field segment.now 110 1 ≡ 1
+        → is_left_to_device (src_addr_of header.now) (dst_addr_of header.now) segment.now ≡ false }
+{
+    let packet = TcpPacket::new_unchecked(segment);
+    if !packet.syn() {
+        return None;
+    }
+    let (src, dst) = (header.src_addr(), header.dst_addr());
+    if packet.verify_partial_checksum(&src, &dst) && !packet.verify_checksum(&src, &dst) {
+        Some(packet.checksum())
+    } else {
+        None
+    }
 }
 
 // Where the segment of a packet with this header begins and ends.
