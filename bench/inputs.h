@@ -23,7 +23,8 @@ enum {
     X(parse_endpoint) X(parse_ethernet) X(print_ethernet) X(read_packet) X(read_captured)              \
     X(next_tcp_option) X(wrap_udp_frame) X(wrap_tcp_frame) X(update_checksum) X(update_checksum_addr)  \
     X(update_udp_checksum) X(update_udp_checksum_addr) X(update_checksum_bytes)                        \
-    X(update_udp_checksum_bytes) X(emit_icmp_error) X(clamp_mss) X(read_link) X(read_linktype)
+    X(update_udp_checksum_bytes) X(emit_icmp_error) X(clamp_mss) X(read_link) X(read_linktype)         \
+    X(print_frame)
 #define CALL(name) __typeof__(lk_##name) *name;
 
 struct library {

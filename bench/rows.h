@@ -122,6 +122,7 @@ PRINT(print_addr, endpoint.addr)
 PRINT(print_block, block)
 PRINT(print_endpoint, endpoint)
 PRINT(print_ethernet, hardware[0])
+REPEAT(call_print_frame, print_frame, &out.frame, (char *)OUT)
 
 static const struct call checksum_rows[] = {{"checksum", prepare_bytes, call_checksum}};
 static const size_t checksum_sizes[] = {20, 28, 40, 60, 64, 100, 128, 256, 512, 1500, 4096, 9000};
@@ -269,6 +270,21 @@ static const struct block tcp_blocks[] = {
 };
 static const struct block address_block = BLOCK(address_rows, address_counts, IN_REFERENCE, 1);
 
+/* The frame whose line is printed */
+static void store_frame(void) { lk_read_frame(bytes, frame_len, &out.frame); }
+
+static void prepare_udp_line(const struct row *row)
+{
+    prepare_udp_ipv4(row);
+    store_frame();
+}
+
+static void prepare_tcp_line(const struct row *row)
+{
+    prepare_tcp_ipv4(row);
+    store_frame();
+}
+
 static const struct call own_rows[] = {
     {"read packet UDP/IPv4", prepare_udp_ipv4, call_read_packet},
     {"read captured UDP/IPv4", prepare_udp_ipv4, call_read_captured},
@@ -276,10 +292,12 @@ static const struct call own_rows[] = {
     {"read link Ethernet", prepare_udp_ipv4, call_read_link},
     {"read link type UDP/IPv4", prepare_udp_ipv4, call_read_linktype},
     {"wrap frame UDP/IPv4", prepare_udp_ipv4, call_wrap_udp_frame},
+    {"print frame UDP/IPv4", prepare_udp_line, call_print_frame},
 };
 static const struct call own_tcp_rows[] = {
     {"wrap frame TCP/IPv4", prepare_tcp_ipv4, call_wrap_tcp_frame},
     {"next options", prepare_tcp_ipv4, call_next_options},
+    {"print frame TCP/IPv4", prepare_tcp_line, call_print_frame},
 };
 static const struct call update_rows[] = {
     {"update checksum", prepare_bytes, call_update},

@@ -39,11 +39,14 @@ static void print_addr(const struct lk_addr *addr)
         printf("address %.*s\n", (int)len, text);
 }
 
-/* Says what a frame carries, and where its payload is. */
+/* Prints a frame as a line, and where its payload is. */
 static void print_frame(const uint8_t *ptr, size_t len)
 {
     struct lk_frame frame;
+    char line[LK_FRAME_TEXT];
     int reason = lk_read_frame(ptr, len, &frame);
+    lk_print_frame(&frame, line, sizeof line);
+    printf("%s\n", line);
     if (reason != LK_READ)
         printf("the header at byte %zu is rejected: %s\n", frame.payload_offset, lk_reason_name(reason));
     else if (frame.transport != LK_NO_TRANSPORT)

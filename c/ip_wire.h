@@ -418,6 +418,37 @@ int lk_read_link(uint32_t link_type, const uint8_t *ptr, size_t captured, struct
  *             ... bytes + frame.payload_offset ... */
 int lk_read_linktype(uint32_t link_type, const uint8_t *ptr, size_t captured, size_t len, struct lk_frame *frame);
 
+#define LK_FRAME_TEXT 276
+
+/* Prints one line of text for a frame that was read, and returns its length, without a terminating null. The null is
+ * written too if `cap` is more than the length. A buffer of LK_FRAME_TEXT bytes always has room for both. Fails with
+ * LK_NO_ROOM.
+ *
+ *     IPv4 192.0.2.1:46563 > 192.0.2.2:5353 UDP len=4 (partial checksum correct)
+ *     IPv6 [2001:db8::2]:80 > [2001:db8::1]:60784 TCP syn seq=287454020 ack=2147721870 win=64240 len=0
+ *     IPv4 192.0.2.1 > 192.0.2.2 ICMP type=8 code=0 len=5
+ *     IPv4 192.0.2.1 > 192.0.2.2 proto=17 fragment=1480+ len=1480
+ *     ARP 192.0.2.1 > 192.0.2.2 op=1 hardware=02-00-00-00-00-01 len=0
+ *     Ethernet 02-00-00-00-00-01 > 02-00-00-00-00-02 type=0x0800 len=19 (too short)
+ *
+ * - The sender is before the receiver. There are ports if a UDP or TCP header is stored, also a rejected one. Without an
+ *   ARP or IP header the line has the Ethernet addresses and the EtherType.
+ * - Of the TCP flags `syn`, `fin`, `rst`, `psh`, `ece` and `cwr` are printed. `ack` and `urg` come with their numbers.
+ * - `hardware` is that of the sender. `fragment` is the offset in bytes, with `+` if more fragments follow.
+ * - `len` is `payload_len`.
+ * - Notes are in parentheses: (header checksum incorrect) for IPv4; then (checksum incorrect), (no checksum) for
+ *   LK_LEFT_OUT, (partial checksum correct) for LK_LEFT_TO_DEVICE, or (checksum cut); then the reason why a header was
+ *   rejected, as (bad length) for LK_BAD_LENGTH. */
+ptrdiff_t lk_print_frame(const struct lk_frame *frame, char *out, size_t cap);
+
+/* Return the name of an IP protocol, as "UDP" for 17, or of an EtherType, as "IPv6" for 0x86dd, or "unknown". The texts
+ * are constant. Protocols have the keywords of IANA. */
+const char *lk_protocol_name(int protocol);
+const char *lk_ethertype_name(int type);
+
+/* Returns the name of one flag of `lk_tcp_flag`, as "SYN", or "unknown". The text is constant. */
+const char *lk_tcp_flag_name(int flag);
+
 /* Where a header of an IPv6 packet is. */
 struct lk_ipv6_header {
     uint32_t offset;  /* of its first byte in the packet */

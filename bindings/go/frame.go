@@ -153,3 +153,29 @@ func (f *Frame) Check() error {
 	}
 	return nil
 }
+
+// String returns one line: the addresses, the innermost header, the length of the payload and what is wrong.
+func (f Frame) String() string {
+	value := f.Headers.c()
+	value.reason = C.uint8_t(f.Reason)
+	value.network = C.uint8_t(f.Network)
+	value.transport = C.uint8_t(f.Transport)
+	value.rejected = C.uint8_t(f.Rejected)
+	value.is_fragment = flag(f.IsFragment)
+	value.ipv4_checksum = C.uint8_t(f.IPv4Checksum)
+	value.transport_checksum = C.uint8_t(f.TransportChecksum)
+	value.payload_len = C.size_t(f.PayloadLen)
+	var out [C.LK_FRAME_TEXT]C.char
+	C.lk_print_frame(&value, &out[0], C.size_t(len(out)))
+	return C.GoString(&out[0])
+}
+
+// ProtocolName returns the name of an IP protocol, as "UDP" for 17, or "unknown".
+func ProtocolName(protocol uint8) string {
+	return C.GoString(C.lk_protocol_name(C.int(protocol)))
+}
+
+// EtherTypeName returns the name of an EtherType, as "IPv6" for 0x86dd, or "unknown".
+func EtherTypeName(etherType uint16) string {
+	return C.GoString(C.lk_ethertype_name(C.int(etherType)))
+}

@@ -133,6 +133,25 @@ func TestReading(t *testing.T) {
 	}
 }
 
+func TestLines(t *testing.T) {
+	const hosts = "Ethernet 02-00-00-00-00-01 > 02-00-00-00-00-02 "
+	const ends = "IPv4 192.0.2.1:46563 > 192.0.2.2:5353 UDP "
+	for _, it := range []struct{ frame, line string }{
+		{ethernet + header + ports + "0000" + "70696e67", ends + "len=4 (no checksum)"},
+		{ethernet + header + ports + "8421" + "70696e67", ends + "len=4 (partial checksum correct)"},
+		{ethernet + header + ports + "1234" + "70696e67", ends + "len=4 (checksum incorrect)"},
+		{ethernet + header + ports[:8] + "000d" + "0000" + "70696e67", ends + "len=12 (bad length)"},
+		{ethernet + header[:24], hosts + "type=0x0800 len=12 (too short)"},
+	} {
+		if line := fmt.Sprint(ReadFrame(unhex(t, it.frame))); line != it.line {
+			t.Errorf("%s: %s", it.frame, line)
+		}
+	}
+	if names := ProtocolName(58) + " " + EtherTypeName(0x88cc) + " " + EtherTypeName(0); names != "IPv6-ICMP LLDP unknown" {
+		t.Error(names)
+	}
+}
+
 func TestWriting(t *testing.T) {
 	read := ReadFrame(unhex(t, ethernet+header+ports+"0000"+"70696e67"))
 	out := make([]byte, 100)

@@ -120,6 +120,8 @@ WRITER(print_endpoint, (const struct lk_endpoint *endpoint, char *out, size_t ca
        (GIVE(endpoint), OUT))
 WRITER(print_ethernet, (const uint8_t *octets, char *out, size_t cap), (octets, (char *)wanted, cap),
        (given("octets", octets, 6), OUT))
+WRITER(print_frame, (const struct lk_frame *frame, char *out, size_t cap), (frame, (char *)wanted, cap),
+       (GIVE(frame), OUT))
 
 /* ---- calls that store a value ---- */
 
@@ -269,6 +271,9 @@ NUMBERED(int, compare_seq, (uint32_t a, uint32_t b), (a, b), (NUMBER(a), NUMBER(
 NAMED(failure_name, ptrdiff_t)
 NAMED(reason_name, int)
 NAMED(rejection_name, int)
+NAMED(protocol_name, int)
+NAMED(ethertype_name, int)
+NAMED(tcp_flag_name, int)
 
 /* ---- calls that change a frame ---- */
 

@@ -162,6 +162,9 @@ void name_number(void)
     both_reason_name((int)any());
     both_rejection_name((int)below(18) - 1);
     both_rejection_name((int)any());
+    both_protocol_name((int)(one_in(8) ? any() : below(256)));
+    both_ethertype_name((int)(one_in(2) ? 0x0800 + below(0x50) : 0x8000 + below(0x1200)));
+    both_tcp_flag_name((int)(one_in(2) ? below(257) : 1u << below(8)));
     tell_version();
     append_headers();
 }

@@ -191,7 +191,7 @@ static struct lk_addr any_printed_addr(void)
 }
 
 /* Room for the text: mostly enough, and mostly for the null too. */
-static char out[120];
+static char out[300];
 
 static size_t any_text_cap(ptrdiff_t len)
 {
@@ -218,4 +218,24 @@ void print_text(void)
     PRINT(block, &block, LK_BLOCK_TEXT);
     PRINT(endpoint, &endpoint, LK_ENDPOINT_TEXT);
     PRINT(ethernet, hardware, LK_ETHERNET_TEXT);
+}
+
+/* A frame that was read, and then any values. */
+void print_frame(void)
+{
+    struct lk_frame frame;
+    make_frame();
+    model_read_captured(made.octets, one_in(4) ? below(made.len + 1) : made.len, made.len, &frame);
+    PRINT(frame, &frame, LK_FRAME_TEXT);
+    fill(&frame, sizeof frame);
+    frame.src.addr = any_addr(any_version());
+    frame.dst.addr = any_addr(one_in(8) ? any_version() : frame.src.addr.version);
+    frame.network = (uint8_t)below(LK_IPV6 + 1);
+    frame.transport = (uint8_t)below(LK_ICMP + 1);
+    frame.rejected = (uint8_t)below(LK_ICMP + 1);
+    frame.is_fragment = (uint8_t)below(2);
+    frame.reason = (uint8_t)below(LK_UNKNOWN_LINK + 1);
+    frame.ipv4_checksum = (uint8_t)below(LK_CHECKSUM_CUT + 1);
+    frame.transport_checksum = (uint8_t)below(LK_CHECKSUM_CUT + 1);
+    PRINT(frame, &frame, LK_FRAME_TEXT);
 }

@@ -39,6 +39,7 @@ __attribute__((constructor)) static void choose(void)
         "the inner of two VLAN tags lost", "an address family in one byte order only",
         "a header after that of a later fragment",
         "the segment size of a SYN updated in a partial checksum",
+        "the note about a wrong checksum missing", "a fragment offset in units of 8 bytes",
     };
     const char *number = getenv("FAULT");
     fault = number ? (enum fault)atoi(number) : NO_FAULT;
@@ -71,6 +72,7 @@ uint16_t __real_lk_update_checksum_bytes(uint16_t checksum, size_t offset, const
 int __real_lk_parse_addr(const char *text, size_t len, struct lk_addr *addr);
 ptrdiff_t __real_lk_print_addr(const struct lk_addr *addr, char *out, size_t cap);
 ptrdiff_t __real_lk_print_endpoint(const struct lk_endpoint *endpoint, char *out, size_t cap);
+ptrdiff_t __real_lk_print_frame(const struct lk_frame *frame, char *out, size_t cap);
 ptrdiff_t __real_lk_emit_icmp(const struct lk_icmp *header, const struct lk_addr *src, const struct lk_addr *dst,
                               const uint8_t *ptr, size_t len, int computed, uint8_t *out, size_t cap);
 ptrdiff_t __real_lk_emit_icmp_frame(const struct lk_frame *headers, const uint8_t *ptr, size_t len, uint8_t *out,
@@ -400,4 +402,14 @@ ptrdiff_t __wrap_lk_print_endpoint(const struct lk_endpoint *endpoint, char *out
     if (len >= 0 && (size_t)len < kept)
         out[len] = before[len];
     return len;
+}
+
+ptrdiff_t __wrap_lk_print_frame(const struct lk_frame *frame, char *out, size_t cap)
+{
+    struct lk_frame other = *frame;
+    if (fault == NOTE_MISSING && frame->transport_checksum == LK_WRONG)
+        other.transport_checksum = LK_RIGHT;
+    if (fault == OFFSET_IN_UNITS)
+        other.ip.fragment_offset /= 8;
+    return __real_lk_print_frame(&other, out, cap);
 }

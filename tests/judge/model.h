@@ -33,6 +33,9 @@ uint16_t icmp_sum(const struct lk_addr *src, const struct lk_addr *dst, const ui
 const char *model_failure_name(ptrdiff_t failure);
 const char *model_reason_name(int reason);
 const char *model_rejection_name(int rejection);
+const char *model_protocol_name(int protocol);
+const char *model_ethertype_name(int type);
+const char *model_tcp_flag_name(int flag);
 int model_contains(const struct lk_block *block, const struct lk_addr *addr);
 int model_is_multicast(const struct lk_addr *addr);
 int model_is_unicast(const struct lk_addr *addr);
@@ -59,6 +62,7 @@ ptrdiff_t model_print_addr(const struct lk_addr *addr, char *out, size_t cap);
 ptrdiff_t model_print_block(const struct lk_block *block, char *out, size_t cap);
 ptrdiff_t model_print_endpoint(const struct lk_endpoint *endpoint, char *out, size_t cap);
 ptrdiff_t model_print_ethernet(const uint8_t *octets, char *out, size_t cap);
+ptrdiff_t model_print_frame(const struct lk_frame *frame, char *out, size_t cap);
 
 /* ---- model_options.c ---- */
 

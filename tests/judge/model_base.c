@@ -74,6 +74,52 @@ const char *model_rejection_name(int rejection)
     return rejection >= LK_NOT_REJECTED && rejection <= LK_OTHER_INTERFACE ? names[rejection] : "no rejection";
 }
 
+struct named {
+    int number;
+    const char *name;
+};
+
+static const char *name_in(const struct named *names, size_t count, int number)
+{
+    for (size_t i = 0; i < count; i++)
+        if (names[i].number == number)
+            return names[i].name;
+    return "unknown";
+}
+
+/* Open: which numbers have names. */
+const char *model_protocol_name(int protocol)
+{
+    static const struct named names[] = {
+        {0, "HOPOPT"},      {1, "ICMP"},        {2, "IGMP"},     {4, "IPv4"},    {6, "TCP"},     {8, "EGP"},
+        {17, "UDP"},        {33, "DCCP"},       {41, "IPv6"},    {46, "RSVP"},   {47, "GRE"},    {43, "IPv6-Route"},
+        {44, "IPv6-Frag"},  {58, "IPv6-ICMP"},  {50, "ESP"},     {51, "AH"},     {88, "EIGRP"},  {59, "IPv6-NoNxt"},
+        {60, "IPv6-Opts"},  {89, "OSPF"},       {103, "PIM"},    {112, "VRRP"},  {115, "L2TP"},  {132, "SCTP"},
+        {136, "UDPLite"},   {137, "MPLS-in-IP"},
+    };
+    return name_in(names, sizeof names / sizeof *names, protocol);
+}
+
+const char *model_ethertype_name(int type)
+{
+    static const struct named names[] = {
+        {0x0800, "IPv4"},            {0x0806, "ARP"},           {0x86dd, "IPv6"},   {0x8035, "RARP"},
+        {0x8100, "802.1Q"},          {0x88a8, "802.1ad"},       {0x9100, "QinQ"},   {0x8847, "MPLS"},
+        {0x8848, "MPLS multicast"},  {0x8863, "PPPoE discovery"}, {0x88cc, "LLDP"}, {0x8864, "PPPoE session"},
+        {0x888e, "EAPOL"},           {0x88e5, "MACsec"},        {0x88f7, "PTP"},    {0x0842, "Wake-on-LAN"},
+        {0x8809, "slow protocols"},
+    };
+    return name_in(names, sizeof names / sizeof *names, type);
+}
+
+const char *model_tcp_flag_name(int flag)
+{
+    static const struct named names[] = {
+        {1, "FIN"}, {2, "SYN"}, {4, "RST"}, {8, "PSH"}, {16, "ACK"}, {32, "URG"}, {64, "ECE"}, {128, "CWR"},
+    };
+    return name_in(names, sizeof names / sizeof *names, flag);
+}
+
 /* ---- addresses ---- */
 
 static int get_bit(const uint8_t *octets, size_t bit)

@@ -300,3 +300,80 @@ ptrdiff_t model_print_ethernet(const uint8_t *octets, char *out, size_t cap)
     sprintf(text, "%02x-%02x-%02x-%02x-%02x-%02x", octets[0], octets[1], octets[2], octets[3], octets[4], octets[5]);
     return finish(text, out, cap);
 }
+
+/* ---- the line of a frame ---- */
+
+static void write_side(const struct lk_endpoint *end, int has_port, char *text, size_t room)
+{
+    if (has_port)
+        model_print_endpoint(end, text, room);
+    else
+        model_print_addr(&end->addr, text, room);
+}
+
+static void write_ends(const struct lk_frame *frame, unsigned transport, char *text)
+{
+    static const char *const networks[] = {"", "ARP ", "IPv4 ", "IPv6 "};
+    int has_ports = transport == LK_UDP || transport == LK_TCP;
+    char src[80], dst[80];
+    if (addr_len(&frame->src.addr) == 0 || addr_len(&frame->dst.addr) == 0) {
+        model_print_ethernet(frame->ethernet.src, src, sizeof src);
+        model_print_ethernet(frame->ethernet.dst, dst, sizeof dst);
+        sprintf(text, "Ethernet %s > %s type=0x%04x", src, dst, frame->ethernet.type);
+        return;
+    }
+    write_side(&frame->src, has_ports, src, sizeof src);
+    write_side(&frame->dst, has_ports, dst, sizeof dst);
+    sprintf(text, "%s%s > %s", networks[frame->network], src, dst);
+}
+
+static void write_tcp(const struct lk_tcp *tcp, char *text)
+{
+    unsigned flags = tcp->flags;
+    sprintf(text, " TCP%s%s%s%s%s%s seq=%u", flags & LK_SYN ? " syn" : "", flags & LK_FIN ? " fin" : "",
+            flags & LK_RST ? " rst" : "", flags & LK_PSH ? " psh" : "", flags & LK_ECE ? " ece" : "",
+            flags & LK_CWR ? " cwr" : "", tcp->seq_number);
+    if (flags & LK_ACK)
+        sprintf(text + strlen(text), " ack=%u", tcp->ack_number);
+    sprintf(text + strlen(text), " win=%u", tcp->window_len);
+    if (flags & LK_URG)
+        sprintf(text + strlen(text), " urg=%u", tcp->urgent_at);
+}
+
+static void write_network(const struct lk_frame *frame, char *text)
+{
+    char hardware[40];
+    model_print_ethernet(frame->arp.src_hardware, hardware, sizeof hardware);
+    text[0] = 0;
+    if (frame->network == LK_ARP)
+        sprintf(text, " op=%u hardware=%s", frame->arp.operation, hardware);
+    if (frame->network == LK_IPV4 || frame->network == LK_IPV6)
+        sprintf(text, " proto=%u", frame->ip.protocol);
+    if (frame->is_fragment && text[1] == 'p')
+        sprintf(text + strlen(text), " fragment=%u%s", frame->ip.fragment_offset, frame->ip.more_fragments ? "+" : "");
+}
+
+/* Open: what a line says of a struct that no call has read. */
+ptrdiff_t model_print_frame(const struct lk_frame *frame, char *out, size_t cap)
+{
+    static const char *const verdicts[] = {
+        "", "", " (checksum incorrect)", " (no checksum)", " (partial checksum correct)", " (checksum cut)",
+    };
+    static const char *const reasons[] = {
+        "", " (too short)", " (bad version)", " (bad length)", " (other ARP)", " (port zero)",
+        " (bad flags)", " (bad options)", " (header cut)", " (unknown link)",
+    };
+    unsigned transport = frame->transport ? frame->transport : frame->rejected;
+    char text[400], header[120] = " UDP";
+    write_ends(frame, transport, text);
+    if (transport == LK_TCP)
+        write_tcp(&frame->tcp, header);
+    else if (transport == LK_ICMP)
+        sprintf(header, " ICMP type=%u code=%u", frame->icmp.type, frame->icmp.code);
+    else if (transport == LK_NO_TRANSPORT)
+        write_network(frame, header);
+    sprintf(text + strlen(text), "%s len=%zu%s%s%s", header, frame->payload_len,
+            frame->ipv4_checksum == LK_WRONG ? " (header checksum incorrect)" : "",
+            verdicts[frame->transport_checksum], reasons[frame->reason]);
+    return finish(text, out, cap);
+}

@@ -87,4 +87,5 @@ void make_worked_calls(void)
     worked_nat();
     worked_icmp();
     worked_hosts();
+    worked_summary();
 }

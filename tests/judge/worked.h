@@ -74,5 +74,6 @@ void worked_route(void);
 void worked_nat(void);
 void worked_icmp(void);
 void worked_hosts(void);
+void worked_summary(void);
 
 #endif

@@ -1,13 +1,13 @@
 """Frames and packets that are parsed."""
 from __future__ import annotations
 
-from ctypes import c_size_t
+from ctypes import c_int, c_size_t
 from dataclasses import dataclass, field
 from enum import IntEnum
-from typing import Any, Optional, Tuple
+from typing import Any, Callable, Optional, Tuple
 
 from . import _c as c
-from ._convert import Data, address_of, call, data_of, from_c, number_of, to_c
+from ._convert import Data, address_of, call, data_of, from_c, number_of, to_c, written
 from .addresses import Endpoint
 from .headers import Arp, Ethernet, Headers, Icmp, Ip, Reason, Rejected, Tcp
 
@@ -76,6 +76,11 @@ class Frame:
     transport_offset: Optional[int]
     payload_offset: int
     payload_len: int  # of the whole frame: the payload may end past the captured bytes
+    _struct: Any = field(repr=False, compare=False)
+
+    def __str__(self) -> str:
+        """One line: the addresses, the innermost header, the length of the payload and what is wrong."""
+        return written(275, "lk_print_frame", self._struct).decode()
 
     @property
     def payload(self) -> bytes:
@@ -141,6 +146,7 @@ def _frame_of(frame: Any, data: bytes, is_ethernet: bool) -> Frame:
         transport_offset=start if transport or rejected else None,
         payload_offset=frame.payload_offset,
         payload_len=frame.payload_len,
+        _struct=frame,
     )
 
 
@@ -181,3 +187,17 @@ def parse_linktype(link_type: int, data: Data, length: Optional[int] = None) -> 
     frame = c.Frame()
     call("lk_read_linktype", link_type, captured, length, frame)
     return _frame_of(frame, captured, link_type == 1)
+
+
+def _name(name_of: Callable[[int], bytes], number: int, what: str) -> str:
+    return name_of(number_of(c_int, number, what)).decode()
+
+
+def protocol_name(protocol: int) -> str:
+    """The name of an IP protocol, as "UDP" for 17, or "unknown"."""
+    return _name(c.library.lk_protocol_name, protocol, "protocol")
+
+
+def ethertype_name(ethertype: int) -> str:
+    """The name of an EtherType, as "IPv6" for 0x86dd, or "unknown"."""
+    return _name(c.library.lk_ethertype_name, ethertype, "ethertype")

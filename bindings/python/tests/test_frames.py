@@ -44,6 +44,17 @@ class Reading(unittest.TestCase):
         options = {option.kind: option.data for option in ip_wire.raw_tcp_options(frame.tcp_header)}
         self.assertEqual((options[2], options[3]), ((1460).to_bytes(2, "big"), b"\7"))
 
+    def test_lines(self):
+        tcp = Tcp(seq_number=7, window_len=9, flags=TcpFlag.SYN)
+        udp = ip_wire.emit_udp(IPV4, b"ping")
+        for data, line in [
+            (udp, "IPv4 192.0.2.1:46563 > 192.0.2.2:7 UDP len=4"),
+            (udp[:-1] + b"!", "IPv4 192.0.2.1:46563 > 192.0.2.2:7 UDP len=4 (checksum incorrect)"),
+            (ip_wire.emit_tcp(IPV6, tcp), "IPv6 [2001:db8::1]:46563 > [2001:db8::2]:7 TCP syn seq=7 win=9 len=0"),
+            (b"", "Ethernet 00-00-00-00-00-00 > 00-00-00-00-00-00 type=0x0000 len=0 (too short)"),
+        ]:
+            self.assertEqual(str(ip_wire.parse_frame(data)), line)
+
     def test_icmp(self):
         for headers, protocol, kind in [(IPV4, 1, 8), (IPV6, 58, 128)]:
             echo = Icmp(kind, 0, 0x12340001)

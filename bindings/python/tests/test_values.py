@@ -68,6 +68,7 @@ class Declarations(unittest.TestCase):
         self.assertEqual([(member.name, str(member.value)) for member in TcpFlag], flags)
         for enum, name_of in [(Reason, c.library.lk_reason_name), (Rejection, c.library.lk_rejection_name)]:
             self.assertEqual([name_of(member) for member in enum], [b"LK_" + member.name.encode() for member in enum])
+        self.assertEqual([c.library.lk_tcp_flag_name(flag) for flag in TcpFlag], [flag.name.encode() for flag in TcpFlag])
         self.assertEqual(set(ip_wire.__all__), {name for name in vars(ip_wire) if name in ip_wire.__all__})
 
 
@@ -100,6 +101,12 @@ class Texts(unittest.TestCase):
         octets = bytes.fromhex("abcdef000001")
         self.assertEqual(ip_wire.parse_ethernet("AB:cd:ef:0:00:1"), octets)
         self.assertEqual(ip_wire.print_ethernet(bytearray(octets)), "ab-cd-ef-00-00-01")
+
+    def test_names(self):
+        protocols = [(6, "TCP"), (17, "UDP"), (58, "IPv6-ICMP"), (255, "unknown"), (-1, "unknown")]
+        self.assertEqual([(number, ip_wire.protocol_name(number)) for number, _ in protocols], protocols)
+        types = [(0x0800, "IPv4"), (0x86DD, "IPv6"), (0x88CC, "LLDP"), (0, "unknown")]
+        self.assertEqual([(number, ip_wire.ethertype_name(number)) for number, _ in types], types)
 
     def test_rejected(self):
         for parse in (ip_wire.parse_addr, ip_wire.parse_endpoint, ip_wire.parse_block, ip_wire.parse_ethernet):

@@ -75,9 +75,12 @@ fn parse<T: Default>(
     }
 }
 
-/// Formats what a call prints, which has less than 48 bytes.
-fn print(f: &mut fmt::Formatter<'_>, call: impl FnOnce(Library, *mut c_char, usize) -> isize) -> fmt::Result {
-    let mut out = [0u8; 48];
+/// Formats what a call prints, which has at most `CAP` bytes.
+pub(crate) fn print<const CAP: usize>(
+    f: &mut fmt::Formatter<'_>,
+    call: impl FnOnce(Library, *mut c_char, usize) -> isize,
+) -> fmt::Result {
+    let mut out = [0u8; CAP];
     let len = usize::try_from(call(library(), out.as_mut_ptr().cast(), out.len()));
     let text = out.get(..len.map_err(|_| fmt::Error)?).ok_or(fmt::Error)?;
     f.pad(from_utf8(text).map_err(|_| fmt::Error)?)
@@ -158,7 +161,7 @@ impl FromStr for EthernetAddr {
 impl fmt::Display for EthernetAddr {
     fn fmt(&self, f: &mut fmt::Formatter<'_>) -> fmt::Result {
         // SAFETY: there are the 6 bytes that are read, and `cap` bytes at `out`.
-        print(f, |c, out, cap| unsafe { c.lk_print_ethernet(self.0.as_ptr(), out, cap) })
+        print::<17>(f, |c, out, cap| unsafe { c.lk_print_ethernet(self.0.as_ptr(), out, cap) })
     }
 }
 
@@ -249,6 +252,6 @@ impl FromStr for Block {
 impl fmt::Display for Block {
     fn fmt(&self, f: &mut fmt::Formatter<'_>) -> fmt::Result {
         // SAFETY: the call reads only the block, and there are `cap` bytes at `out`.
-        print(f, |c, out, cap| unsafe { c.lk_print_block(&(*self).into(), out, cap) })
+        print::<43>(f, |c, out, cap| unsafe { c.lk_print_block(&(*self).into(), out, cap) })
     }
 }

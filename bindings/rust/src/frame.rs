@@ -1,10 +1,12 @@
 //! Parsed frames and packets.
 
+use crate::addr::print;
 use crate::sys::{self, library, Library};
 use crate::{
     link, Arp, Defect, Ethernet, Headers, Icmp, Ip, Network, Reason, Tcp, TcpOptions, Transport, Verdict,
 };
 use core::ffi::c_int;
+use core::fmt;
 use core::net::SocketAddr;
 
 /// A parsed frame or packet. It borrows the bytes.
@@ -310,5 +312,24 @@ impl<'a> Frame<'a> {
         // SAFETY: the call writes only to the copy.
         unsafe { library().lk_reply(&mut fields) };
         fields
+    }
+}
+
+/// One line: the addresses, the innermost header, the length of the payload and what is wrong.
+///
+/// ```
+/// # let mut bytes = [0; 42];
+/// # bytes[12..14].copy_from_slice(&[8, 6]);
+/// # bytes[14..22].copy_from_slice(&[0, 1, 8, 0, 6, 4, 0, 1]);
+/// # bytes[28..32].copy_from_slice(&[192, 0, 2, 1]);
+/// # bytes[38..42].copy_from_slice(&[192, 0, 2, 2]);
+/// # bytes[22..28].copy_from_slice(&[2, 0, 0, 0, 0, 1]);
+/// let line = ip_wire::Frame::parse(&bytes).to_string();
+/// assert_eq!(line, "ARP 192.0.2.1 > 192.0.2.2 op=1 hardware=02-00-00-00-00-01 len=0");
+/// ```
+impl fmt::Display for Frame<'_> {
+    fn fmt(&self, f: &mut fmt::Formatter<'_>) -> fmt::Result {
+        // SAFETY: there are `cap` bytes at `out`.
+        print::<275>(f, |c, out, cap| unsafe { c.lk_print_frame(&self.fields, out, cap) })
     }
 }

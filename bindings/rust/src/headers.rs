@@ -1,6 +1,8 @@
 //! The values of headers.
 
-use crate::{sys, EthernetAddr};
+use crate::sys::{self, library};
+use crate::EthernetAddr;
+use core::ffi::{c_char, CStr};
 use core::net::{IpAddr, Ipv4Addr, SocketAddr};
 
 /// An Ethernet header.
@@ -205,4 +207,32 @@ impl Headers {
             ..sys::Frame::default()
         }
     }
+}
+
+/// A constant text of the library.
+fn name(text: *const c_char) -> &'static str {
+    // SAFETY: the text is constant, and ends in a null.
+    unsafe { CStr::from_ptr(text) }.to_str().unwrap_or("unknown")
+}
+
+/// The name of an IP protocol in the registry of IANA, or `"unknown"`.
+///
+/// ```
+/// assert_eq!((ip_wire::protocol_name(17), ip_wire::protocol_name(255)), ("UDP", "unknown"));
+/// ```
+#[must_use]
+pub fn protocol_name(protocol: u8) -> &'static str {
+    // SAFETY: the call takes only a number.
+    name(unsafe { library().lk_protocol_name(protocol.into()) })
+}
+
+/// The name of an EtherType, or `"unknown"`.
+///
+/// ```
+/// assert_eq!((ip_wire::ethertype_name(0x86dd), ip_wire::ethertype_name(0)), ("IPv6", "unknown"));
+/// ```
+#[must_use]
+pub fn ethertype_name(ethertype: u16) -> &'static str {
+    // SAFETY: the call takes only a number.
+    name(unsafe { library().lk_ethertype_name(ethertype.into()) })
 }

@@ -76,7 +76,7 @@ pub use addr::{is_unicast, parse_addr, parse_endpoint, Block, EthernetAddr, Pars
 pub use emit::rebuild;
 pub use error::{Defect, Error, Network, Reason, Rejection, Transport, Verdict};
 pub use frame::Frame;
-pub use headers::{Arp, Ethernet, Headers, Icmp, Ip};
+pub use headers::{ethertype_name, protocol_name, Arp, Ethernet, Headers, Icmp, Ip};
 pub use hop::{clamp_mss, forward, translate, Side};
 pub use host::Host;
 pub use icmp::{AdvertFlags, Interface, Ndisc, Problem};

@@ -277,6 +277,9 @@ calls! {
     fn lk_read_linktype(
         link_type: u32, ptr: *const u8, captured: usize, len: usize, frame: &mut Frame
     ) -> c_int;
+    fn lk_print_frame(frame: &Frame, out: *mut c_char, cap: usize) -> isize;
+    fn lk_protocol_name(protocol: c_int) -> *const c_char;
+    fn lk_ethertype_name(ethertype: c_int) -> *const c_char;
     fn lk_next_ipv6_header(ptr: *const u8, len: usize, header: &mut Ipv6Header) -> c_int;
     fn lk_read_tcp_options(ptr: *const u8, len: usize, options: &mut TcpOptions) -> c_int;
     fn lk_next_tcp_option(ptr: *const u8, len: usize, option: &mut TcpOption) -> c_int;

@@ -28,6 +28,7 @@ const OTHERS: &[(&str, &str)] = &[
     ("lk_print_endpoint", "`Display` of `SocketAddr`"),
     ("lk_reason_name", "`Debug` of `Reason`"),
     ("lk_rejection_name", "`Debug` of `Rejection`"),
+    ("lk_tcp_flag_name", "the constants of `TcpFlags`"),
     ("lk_version", "`version`"),
 ];
 

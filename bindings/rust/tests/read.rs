@@ -202,3 +202,20 @@ fn any_bytes_are_parsed() {
         }
     }
 }
+
+#[test]
+fn a_frame_is_a_line() {
+    let (mut bytes, ports) = (udp(&ipv4(), b"ping"), (ipv4().src.port(), ipv4().dst.port()));
+    let line = format!("IPv4 192.0.2.1:{} > 192.0.2.2:{} UDP len=4", ports.0, ports.1);
+    assert_eq!(Frame::parse(&bytes).to_string(), line);
+    *bytes.last_mut().unwrap() ^= 1;
+    assert_eq!(Frame::parse(&bytes).to_string(), line + " (checksum incorrect)");
+    let bytes = tcp(&ipv6(), TcpFlags::SYN | TcpFlags::PSH, &TcpOptions::default());
+    let line = Frame::parse(&bytes).to_string();
+    assert!(
+        line.starts_with("IPv6 [2001:db8::1]:") && line.ends_with(" TCP syn psh seq=7 win=1000 len=4"),
+        "{line}"
+    );
+    let nothing = "Ethernet 00-00-00-00-00-00 > 00-00-00-00-00-00 type=0x0000 len=0 (too short)";
+    assert_eq!(Frame::parse(&[]).to_string(), nothing);
+}

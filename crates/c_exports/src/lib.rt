@@ -14,3 +14,4 @@ mod read_calls;
 mod rebuild;
 mod routes;
 mod routing;
+mod summary;

@@ -12,3 +12,4 @@ mod read_calls;
 mod rebuild;
 mod routes;
 mod routing;
+mod summary;

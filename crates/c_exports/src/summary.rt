@@ -1,0 +1,16 @@
+//! A frame as a line of text.
+
+ghost use Rattle.std.specs.Prelude.{◌≡◌, None, Some};
+ghost use Rattle.c_structs.specs.Written.{Prints};
+ghost use Rattle.c_summary.specs.Summary.{frame_line};
+
+use c_icmp::FullFrame;
+use c_summary::print_frame;
+
+/// Prints a frame in one line.
+#[unsafe(no_mangle)]
+pub extern "C" fn lk_print_frame(frame: &FullFrame, out: &mut [u8]) -> isize
+    ensures { Prints (Some (frame_line frame.now.fields frame.now.icmp.msg_type frame.now.icmp.code)) None out.old out.new result }
+{
+    print_frame(&frame.fields, frame.icmp.msg_type, frame.icmp.code, out)
+}
