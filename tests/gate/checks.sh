@@ -50,15 +50,16 @@ copy_the_tree() {
     touch "$room/begun"
     tar --exclude=out --exclude=.git -cf - . | tar -xf - -C "$copy"
     mkdir -p out "${program%/*}" "${calls%/*}" "${archive%/*}"
-    rm -rf out/test.log out/proved "$program" "$calls" "$archive" "${library%/*}"
+    rm -rf out/test.log out/proved
 }
 
 # Proves the crate of the C library and builds it, which the gate does not do: beside it, once the libraries under the crate
 # are proved.
 build_the_library() {
-    tests/gate/proved.py wait c_exports &&
-        tests/gate/proved.py rattle build c_exports --crate-type staticlib \
-            --toolchain "$(dirname "$(rt doc)")/toolchain" --jobs 2 -o "$PWD/$archive" > out/library.log 2>&1 &&
+    tests/gate/proved.py wait c_exports
+    rm -rf "$archive" "${library%/*}"
+    tests/gate/proved.py rattle build c_exports --crate-type staticlib --toolchain "$(dirname "$(rt doc)")/toolchain" \
+        --jobs 2 -o "$PWD/$archive" > out/library.log 2>&1 &&
         touch -r "$room/begun" "$archive" && c/link "$archive" "${library%/*}" && c/pages out/man/man3 && return
     tail -n 3 out/library.log
     return 1
@@ -76,6 +77,7 @@ run_the_gate() {
     (cd "$copy" && tests/gate/progress.py "$OLDPWD/out/test.log" rt ci ${ANEW:+--anew})
     gate=$?
     ln -s "$PWD/out" "$copy/out"
+    rm -rf "$program" "$calls"
     for built in "$program" "$calls"; do
         [ -x "$copy/$built" ] && cp "$copy/$built" "$built"
     done
