@@ -7,7 +7,8 @@ ghost use Rattle.c_summary.specs.Summary.{end_text, ends_text, ethernet_text, ha
 
 use arrayvec::ArrayString;
 use c_structs::{Ethernet, FrameFields};
-use ip_wire::{EthernetAddress, IpAddress, IpEndpoint};
+use ip_wire::{EthernetAddress, IpAddress};
+use itoa::Buffer;
 
 /// The IP addresses with their ports, or the Ethernet addresses with the EtherType.
 pub(crate) fn ends_text(frame: &FrameFields) -> ArrayString<102>
@@ -56,16 +57,23 @@ fn network_word(network: u8) -> &'static str
     }
 }
 
+// Not `IpEndpoint::text`: with a second caller it is no longer inlined into `lk_print_endpoint`.
 fn end_text(ported: bool, addr: &IpAddress, port: u16) -> ArrayString<47>
     ensures { result.bytes ≡ end_text ported addr.now port }
 {
-    if ported {
-        return IpEndpoint::new(*addr, port).text();
-    }
+    let (open, close) = if ported { ("[", "]") } else { ("", "") };
     let mut text = ArrayString::new();
     match addr {
         IpAddress::Ipv4(addr) => text.push_str(addr.text().as_str()),
-        IpAddress::Ipv6(addr) => text.push_str(addr.text().as_str()),
+        IpAddress::Ipv6(addr) => {
+            text.push_str(open);
+            text.push_str(addr.text().as_str());
+            text.push_str(close);
+        }
+    }
+    if ported {
+        text.push_str(":");
+        text.push_str(Buffer::new().format(port));
     }
     text
 }

@@ -14,8 +14,8 @@ use itoa::Buffer;
 // The length of the longest line, in bytes.
 const MAX_LINE_LEN: usize = 275;
 
-/// Prints a frame in one line: its addresses, its innermost header, the length of its payload in bytes, and what is wrong.
-/// The type and code are those of its ICMP message, if it has one.
+/// Prints a frame in one line: its addresses, its innermost header, the length of its payload in bytes, and what
+/// is wrong. The type and code are those of its ICMP message, if it has one.
 pub fn print_frame(frame: &FrameFields, icmp_type: u8, icmp_code: u8, out: &mut [u8]) -> isize
     ensures { Prints (Some (frame_line frame.now icmp_type icmp_code)) None out.old out.new result }
 {
