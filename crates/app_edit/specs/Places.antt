@@ -1,0 +1,185 @@
+-- Where the fields of a packet are in its Ethernet frame. All places count from the first byte of the frame.
+use Rattle.std.specs.Prelude.{ℕ, ◌≡◌, ◌≤◌, ◌+◌, ◌%◌, ◌==◌, ◌&&◌, not, nat_le, nat_lt, min, if◌then◌else◌, Bool, true, false, List, Option, None, Some, drop, length, slice_index}
+use Rattle.byteorder.specs.Endian.{big_number}
+use Rattle.ip_wire.specs.Ethernet as ethernet
+use Rattle.ip_wire.specs.Field.{field}
+use Rattle.ip_wire.specs.Ipv4 as ipv4
+use Rattle.ip_wire.specs.Ipv6 as ipv6
+use Rattle.ip_wire.specs.Protocol.{protocol_of}
+use Rattle.ip_wire.specs.Types.{EthernetProtocol, IpProtocol, IpVersion}
+use Rattle.ip_wire.specs.declared.EthernetProtocol.TheVariants as ethertype
+use Rattle.ip_wire.specs.declared.IpProtocol.TheVariants as protocol
+use Rattle.ip_wire.specs.declared.IpVersion.TheVariants as version
+use Rattle.app_edit.specs.declared.places.Carried.{Carried}
+use Rattle.app_edit.specs.declared.places.Carried.TheVariants as carried
+use Rattle.app_edit.specs.declared.places.Places.{Places}
+use Rattle.app_edit.specs.declared.places.Segment.{Segment}
+
+-- ---- protocols
+
+-- Pinned by: `apps/edits`
+-- whether this is IPv4
+abbrev pub is_ipv4 : IpVersion → Bool
+is_ipv4 version.Ipv4 = true
+is_ipv4 version.Ipv6 = false
+
+-- Pinned by: `apps/edits`
+-- whether it is the protocol of a transport packet with a checksum: TCP, UDP, ICMP over IPv4, ICMPv6 over IPv6
+abbrev pub has_checksum : Bool → IpProtocol → Bool
+has_checksum over_ipv4 protocol.Tcp = true
+has_checksum over_ipv4 protocol.Udp = true
+has_checksum over_ipv4 protocol.Icmp = over_ipv4
+has_checksum over_ipv4 protocol.Icmpv6 = not over_ipv4
+has_checksum over_ipv4 _ = false
+
+-- Pinned by: `apps/edits`
+-- whether it is the number of a header after which the transport packet is not looked for: the authentication header
+-- (RFC 4302), and over IPv6 hop-by-hop options, routing, fragment, destination options (RFC 8200, section 4)
+abbrev pub hides_next : Bool → IpProtocol → Bool
+hides_next over_ipv4 protocol.HopByHop = not over_ipv4
+hides_next over_ipv4 protocol.Ipv6Route = not over_ipv4
+hides_next over_ipv4 protocol.Ipv6Frag = not over_ipv4
+hides_next over_ipv4 protocol.Ipv6Opts = not over_ipv4
+hides_next over_ipv4 protocol.IpSecAh = true
+hides_next over_ipv4 _ = false
+
+-- Pinned by: `apps/edits`
+-- the offset of the checksum field in a transport header (RFC 9293, RFC 768, RFC 792, RFC 4443)
+abbrev pub checksum_offset : IpProtocol → ℕ
+checksum_offset protocol.Tcp = 16
+checksum_offset protocol.Udp = 6
+checksum_offset _ = 2
+
+-- Pinned by: `apps/edits`
+-- the place of the checksum field of a transport packet
+abbrev pub checksum_place : Segment → ℕ
+checksum_place s = s.start + checksum_offset s.protocol
+
+-- ---- what a packet carries
+
+-- Pinned by: `apps/edits`
+-- the length field of a UDP packet at this place
+abbrev pub datagram_len : List ℕ → ℕ → ℕ
+datagram_len frame start = big_number 2 (drop (start + 4) frame)
+
+-- Pinned by: `apps/edits`
+-- the UDP packet from `start` on: its checksum covers as many bytes as its length field says
+abbrev pub datagram_at : List ℕ → ℕ → ℕ → Bool → Carried
+datagram_at frame start end whole =
+    if nat_lt (datagram_len frame start) 8 then carried.Hidden
+    else carried.Segment (record {
+      protocol = protocol.Udp;
+      start = start;
+      end = min end (start + datagram_len frame start);
+      is_whole = whole && nat_le (start + datagram_len frame start) end;
+    })
+
+-- Pinned by: `apps/edits`
+-- the transport packet of a protocol with a checksum, from `start` up to `end`
+abbrev pub segment_at : List ℕ → IpProtocol → ℕ → ℕ → Bool → Carried
+segment_at frame protocol.Udp start end whole = if nat_lt end (start + 8) then carried.Hidden else datagram_at frame start end whole
+segment_at frame p start end whole =
+    if nat_lt end (start + checksum_offset p + 2) then carried.Hidden
+    else carried.Segment (record { protocol = p; start = start; end = end; is_whole = whole })
+
+-- Pinned by: `apps/edits`
+-- what a packet of this protocol carries from `start` up to `end`, if it is no later fragment
+abbrev pub carried_by : List ℕ → Bool → IpProtocol → ℕ → ℕ → Bool → Carried
+carried_by frame over_ipv4 p start end whole =
+    if has_checksum over_ipv4 p then segment_at frame p start end whole
+    else if hides_next over_ipv4 p then carried.Hidden
+    else carried.Other
+
+-- ---- the places in a frame
+
+-- Pinned by: `apps/edits`
+-- what an IPv4 packet carries from `start` up to `end`
+abbrev pub ipv4_carried : List ℕ → ℕ → ℕ → Carried
+ipv4_carried frame start end =
+    let bytes = drop 14 frame in
+    if ipv4.fragment_offset bytes == 0 then carried_by frame true (protocol_of (field bytes 72 8)) start end (not (field bytes 50 1 == 1))
+    else carried.Fragment
+
+-- Pinned by: `apps/edits`
+-- the places in a frame with the EtherType of IPv4, if its header parses; its checksum is not verified
+abbrev pub ipv4_places : List ℕ → Option Places
+ipv4_places frame =
+    let start = 14 + ipv4.header_len (drop 14 frame) in
+    let end = 14 + ipv4.total_len (drop 14 frame) in
+    if ipv4.is_read false (drop 14 frame) then Some (record { version = version.Ipv4; start = start; end = end; carried = ipv4_carried frame start end })
+    else None
+
+-- Pinned by: `apps/edits`
+-- what an IPv6 packet with a fragment header right after the IPv6 header carries (RFC 8200, section 4.5)
+abbrev pub fragment_carried : List ℕ → ℕ → Carried
+fragment_carried frame end =
+    if field (drop 56 frame) 0 13 == 0 then carried_by frame false (protocol_of (slice_index frame 54)) 62 end (not (field (drop 56 frame) 15 1 == 1))
+    else carried.Fragment
+
+-- Pinned by: `apps/edits`
+-- the places of an IPv6 packet with this next header and length in bytes
+abbrev pub places_after : List ℕ → IpProtocol → ℕ → Places
+places_after frame protocol.Ipv6Frag len =
+    if nat_le 48 len then record { version = version.Ipv6; start = 62; end = 14 + len; carried = fragment_carried frame (14 + len) }
+    else record { version = version.Ipv6; start = 54; end = 14 + len; carried = carried_by frame false protocol.Ipv6Frag 54 (14 + len) true }
+places_after frame p len = record { version = version.Ipv6; start = 54; end = 14 + len; carried = carried_by frame false p 54 (14 + len) true }
+
+-- Pinned by: `apps/edits`
+-- the places in a frame with the EtherType of IPv6, if its header parses
+abbrev pub ipv6_places : List ℕ → Option Places
+ipv6_places frame =
+    let bytes = drop 14 frame in
+    if ipv6.is_read bytes then Some (places_after frame (protocol_of (field bytes 48 8)) (ipv6.total_len bytes)) else None
+
+-- Pinned by: `apps/edits`
+-- the places in a frame with this EtherType
+abbrev pub places_by : EthernetProtocol → List ℕ → Option Places
+places_by ethertype.Ipv4 frame = ipv4_places frame
+places_by ethertype.Ipv6 frame = ipv6_places frame
+places_by _ frame = None
+
+-- Pinned by: `apps/edits`
+-- the places in an Ethernet II frame, if its packet is IPv4 or IPv6
+unfoldable pub places_of : List ℕ → Option Places
+places_of frame = if nat_lt (length frame) 14 then None else places_by (ethernet.protocol_of (field frame 96 16)) frame
+
+-- ---- places that are in a frame
+
+-- Pinned by: `apps/edits`
+-- where the two addresses begin (RFC 791, section 3.1; RFC 8200, section 3)
+abbrev pub addresses_start : IpVersion → ℕ
+addresses_start v = if is_ipv4 v then 26 else 22
+
+-- Pinned by: `apps/edits`
+-- where they end
+abbrev pub addresses_end : IpVersion → ℕ
+addresses_end v = if is_ipv4 v then 34 else 54
+
+-- Pinned by: proof of `set_bytes`
+-- a transport packet is in the frame, with its checksum field and after the addresses; its words are words of the frame
+pub record InFrame (v : IpVersion) (s : Segment) (frame : List ℕ) : Type 0 where
+  pub starts : addresses_end v ≤ s.start
+  pub even : s.start % 2 ≡ 0
+  pub least : checksum_place s + 2 ≤ s.end
+  pub inside : s.end ≤ length frame
+
+-- Pinned by: proof of `set_bytes`
+-- what a packet carries from `start` on is in the frame
+abbrev pub HoldsCarried : Carried → IpVersion → ℕ → List ℕ → Type 0
+HoldsCarried (carried.Segment s) v start frame = InFrame v s frame × (s.start ≡ start)
+HoldsCarried _ v start frame = start ≡ start
+
+-- Pinned by: proof of `set_bytes`
+-- the places are in the frame
+pub record Holds (p : Places) (frame : List ℕ) : Type 0 where
+  pub header : addresses_end p.version ≤ p.start
+  pub even : p.start % 2 ≡ 0
+  pub inside : p.start ≤ p.end
+  pub whole : p.end ≤ length frame
+  pub carried : HoldsCarried p.carried p.version p.start frame
+
+-- Pinned by: proof of `set_bytes`
+-- where the transport packet begins, if there is one
+abbrev pub carried_start : Carried → ℕ
+carried_start (carried.Segment s) = s.start
+carried_start _ = 0

@@ -1,0 +1,255 @@
+//! Edits of the fields of a packet. Each returns `true` if it wrote, else the frame is unchanged.
+
+ghost use Rattle.std.specs.Prelude.{◌≡◌, ◌≤◌, ◌<◌, ◌^◌, is_some, length, true};
+ghost use Rattle.std.specs.Option.{unwrap_or};
+ghost use Rattle.app_edit.specs.Edited.{addr_set, address_place, allows, bytes_set, dscp_set, edited, hop_limit_place, hop_limit_set, is_apart, keeps_carried, keeps_header, keeps_segment, port_place, port_set, takes_address, with_dscp};
+ghost use Rattle.app_edit.specs.Places.{Holds, carried_start};
+ghost use Rattle.ip_wire.specs.IpAddress.{address_bytes};
+
+use crate::places::{Carried, Places};
+use crate::replace::can_be_left;
+use app_nat::Side;
+use ip_wire::{IpAddress, IpProtocol, IpVersion, Ipv4PacketMut, Ipv6PacketMut};
+
+/// Writes the TTL of IPv4 (RFC 791, section 3.1) or the hop limit of IPv6.
+#[tactic(auto, unfolding(crate::specs::Edited::hop_limit_set))]
+pub fn set_hop_limit(frame: &mut [u8], hop_limit: u8) -> bool
+    ensures done { result ≡ is_some (hop_limit_set frame.old hop_limit) }
+    ensures bytes { frame.new ≡ unwrap_or (hop_limit_set frame.old hop_limit) frame.old }
+{
+    let Some(places) = Places::of(frame) else {
+        return false;
+    };
+    places.replace(frame, hop_limit_place(places.version), &[hop_limit]);
+    true
+}
+
+// The place of the TTL or hop limit.
+fn hop_limit_place(version: IpVersion) -> usize
+    ensures { result ≡ hop_limit_place version }
+{
+    match version {
+        IpVersion::Ipv4 => 22,
+        IpVersion::Ipv6 => 21,
+    }
+}
+
+/// Writes the DSCP, of 6 bits (RFC 2474, section 3). A larger number is rejected. The ECN stays.
+#[tactic(auto, unfolding(crate::specs::Edited::dscp_set))]
+pub fn set_dscp(frame: &mut [u8], dscp: u8) -> bool
+    ensures done { result ≡ is_some (dscp_set frame.old dscp) }
+    ensures bytes { frame.new ≡ unwrap_or (dscp_set frame.old dscp) frame.old }
+{
+    if dscp > 63 {
+        return false;
+    }
+    let Some(places) = Places::of(frame) else {
+        return false;
+    };
+    let mut bytes = [0; 2];
+    bytes.copy_from_slice(&frame[14..16]);
+    write_dscp(places.version, &mut bytes, dscp);
+    places.replace(frame, 14, &bytes);
+    true
+}
+
+// Writes the DSCP into the first two bytes of an IP header. The traffic class of IPv6 has the ECN below it.
+fn write_dscp(version: IpVersion, bytes: &mut [u8], dscp: u8)
+    requires len { 2 ≤ length bytes.old }
+    requires fits { dscp ≤ 63 }
+    ensures { bytes.new ≡ with_dscp version bytes.old dscp }
+{
+    match version {
+        IpVersion::Ipv4 => Ipv4PacketMut::new_unchecked(bytes).set_dscp(dscp),
+        IpVersion::Ipv6 => {
+            let mut packet = Ipv6PacketMut::new_unchecked(bytes);
+            let ecn = packet.traffic_class() % 4;
+            packet.set_traffic_class(4 * dscp + ecn);
+        }
+    }
+}
+
+/// Writes the source or destination address. Rejected: an address of the other version, and a packet whose transport
+/// checksum covers it and is not found (`Carried::Hidden`). Of a later fragment only the IP header is updated.
+#[tactic(auto, unfolding(crate::specs::Edited::addr_set))]
+pub fn set_addr(frame: &mut [u8], side: Side, addr: &IpAddress) -> bool
+    ensures done { result ≡ is_some (addr_set frame.old side addr.now) }
+    ensures bytes { frame.new ≡ unwrap_or (addr_set frame.old side addr.now) frame.old }
+{
+    let Some(places) = Places::of(frame) else {
+        return false;
+    };
+    if !takes_address(&places, addr) {
+        return false;
+    }
+    write_address(&places, frame, side, addr);
+    true
+}
+
+// Whether a packet can have this address.
+fn takes_address(places: &Places, addr: &IpAddress) -> bool
+    ensures { result ≡ takes_address places.now addr.now }
+{
+    match places.carried {
+        Carried::Hidden => false,
+        _ => match (places.version, addr) {
+            (IpVersion::Ipv4, IpAddress::Ipv4(_)) | (IpVersion::Ipv6, IpAddress::Ipv6(_)) => true,
+            _ => false,
+        },
+    }
+}
+
+// The place of an address.
+fn address_place(side: Side, version: IpVersion) -> usize
+    ensures { result ≡ address_place side version }
+{
+    match (side, version) {
+        (Side::Source, IpVersion::Ipv4) => 26,
+        (Side::Source, IpVersion::Ipv6) => 22,
+        (Side::Destination, IpVersion::Ipv4) => 30,
+        (Side::Destination, IpVersion::Ipv6) => 38,
+    }
+}
+
+// Writes an address that the packet can have, and updates the checksums.
+fn write_address(places: &Places, frame: &mut [u8], side: Side, addr: &IpAddress)
+    requires places { Holds places.now frame.old }
+    requires takes { takes_address places.now addr.now ≡ true }
+    ensures { frame.new ≡ edited places.now frame.old (address_place side places.now.version) (address_bytes addr.now) }
+{
+    let at = address_place(side, places.version);
+    match addr {
+        IpAddress::Ipv4(addr) => places.replace(frame, at, &addr.octets()),
+        IpAddress::Ipv6(addr) => places.replace(frame, at, &addr.octets()),
+    }
+}
+
+/// Writes the source or destination port of TCP or UDP, also in a first fragment. Any port is allowed.
+#[tactic(auto, unfolding(crate::specs::Edited::port_set))]
+pub fn set_port(frame: &mut [u8], side: Side, port: u16) -> bool
+    ensures done { result ≡ is_some (port_set frame.old side port) }
+    ensures bytes { frame.new ≡ unwrap_or (port_set frame.old side port) frame.old }
+{
+    let Some(places) = Places::of(frame) else {
+        return false;
+    };
+    match port_place(side, places.carried) {
+        Some(at) => {
+            places.replace(frame, at, &port.to_be_bytes());
+            true
+        }
+        None => false,
+    }
+}
+
+// The place of a port.
+fn port_place(side: Side, carried: Carried) -> Option<usize>
+    requires { carried_start carried < 2 ^ 63 }
+    ensures { result ≡ port_place side carried }
+{
+    match carried {
+        Carried::Segment(segment) if can_be_left(segment.protocol) => match side {
+            Side::Source => Some(segment.start),
+            Side::Destination => Some(segment.start + 2),
+        },
+        _ => None,
+    }
+}
+
+/// Writes bytes of the packet or of the padding after it, from byte `at` of the frame on: addresses, ports, options,
+/// payload and other fields. Rejected: bytes past the end of the frame, and bytes that say where the layers are, or
+/// whose transport checksum is not found. These are
+///
+/// - the Ethernet header;
+/// - the version and header length, the total length to the fragment offset, protocol and checksum of IPv4;
+/// - the version, payload length and next header of IPv6, and a fragment header right after it;
+/// - the transport checksum, the data offset of TCP, the length of UDP;
+/// - the payload of a later fragment;
+/// - all from the addresses on, if the transport checksum is not found (`Carried::Hidden`).
+#[tactic(auto, unfolding(crate::specs::Edited::bytes_set))]
+pub fn set_bytes(frame: &mut [u8], at: usize, bytes: &[u8]) -> bool
+    ensures done { result ≡ is_some (bytes_set frame.old at bytes.now) }
+    ensures bytes { frame.new ≡ unwrap_or (bytes_set frame.old at bytes.now) frame.old }
+{
+    if at > frame.len() || bytes.len() > frame.len() - at {
+        return false;
+    }
+    let Some(places) = Places::of(frame) else {
+        return false;
+    };
+    if !places.allows(at, at + bytes.len()) {
+        return false;
+    }
+    places.replace(frame, at, bytes);
+    true
+}
+
+impl Places {
+    // Whether an edit of these bytes is allowed.
+    fn allows(&self, at: usize, end: usize) -> bool
+        requires { carried_start self.now.carried < 2 ^ 63 }
+        ensures { result ≡ allows self.now at end }
+    {
+        self.keeps_header(at, end) && self.keeps_carried(at, end)
+    }
+
+    fn keeps_header(&self, at: usize, end: usize) -> bool
+        ensures { result ≡ keeps_header self.now.version self.now.start at end }
+    {
+        match self.version {
+            IpVersion::Ipv4 => {
+                is_apart(at, end, 0, 15) && is_apart(at, end, 16, 22) && is_apart(at, end, 23, 26)
+            }
+            IpVersion::Ipv6 => {
+                is_apart(at, end, 0, 15)
+                    && is_apart(at, end, 18, 21)
+                    && is_apart(at, end, 54, self.start)
+            }
+        }
+    }
+
+    fn keeps_carried(&self, at: usize, end: usize) -> bool
+        requires { carried_start self.now.carried < 2 ^ 63 }
+        ensures { result ≡ keeps_carried self.now.carried self.now at end }
+    {
+        match self.carried {
+            Carried::Segment(segment) => keeps_segment(segment.protocol, segment.start, at, end),
+            Carried::Other => true,
+            Carried::Fragment => {
+                let first = match self.version {
+                    IpVersion::Ipv4 => self.start,
+                    IpVersion::Ipv6 => 54,
+                };
+                is_apart(at, end, first, self.end)
+            }
+            Carried::Hidden => {
+                let first = match self.version {
+                    IpVersion::Ipv4 => 23,
+                    IpVersion::Ipv6 => 22,
+                };
+                is_apart(at, end, first, self.end)
+            }
+        }
+    }
+}
+
+// Whether an edit keeps the fields of a transport header that it may not replace.
+fn keeps_segment(protocol: IpProtocol, start: usize, at: usize, end: usize) -> bool
+    requires { start < 2 ^ 63 }
+    ensures { result ≡ keeps_segment protocol start at end }
+{
+    match protocol {
+        IpProtocol::Tcp => {
+            is_apart(at, end, start + 12, start + 13) && is_apart(at, end, start + 16, start + 18)
+        }
+        IpProtocol::Udp => is_apart(at, end, start + 4, start + 8),
+        _ => is_apart(at, end, start + 2, start + 4),
+    }
+}
+
+// Whether the bytes from `at` up to `end` have none of those from `first` up to `last`.
+fn is_apart(at: usize, end: usize, first: usize, last: usize) -> bool
+    ensures { result ≡ is_apart at end first last }
+{
+    end <= first || last <= at || last <= first
+}

@@ -1,0 +1,317 @@
+//! Where the fields of a packet are in its Ethernet frame.
+
+ghost use Rattle.std.specs.Prelude.{◌≡◌, ◌≤◌, ◌+◌, ◌%◌, ◌^◌, IfSome, length};
+ghost use Rattle.app_edit.specs.Places as place;
+ghost use Rattle.app_edit.specs.Places.{Holds, HoldsCarried, addresses_end, checksum_offset, checksum_place, has_checksum, hides_next, is_ipv4, places_of};
+ghost use Rattle.ip_wire.specs.declared.IpVersion.TheVariants as version;
+
+use byteorder::{ByteOrder, NetworkEndian};
+use ip_wire::{
+    ETHERNET_HEADER_LEN, EthernetFrame, EthernetProtocol, IPV6_HEADER_LEN, IpProtocol, IpVersion,
+    Ipv4Packet, Ipv6FragmentHeader, Ipv6Packet, UDP_HEADER_LEN,
+};
+
+// The length of an IPv6 fragment header.
+const FRAGMENT_HEADER_LEN: usize = 8;
+
+/// A transport packet whose checksum field is in the frame. All places count from the first byte of the frame.
+#[derive(Debug, Clone, Copy, PartialEq, Eq)]
+pub struct Segment {
+    /// TCP, UDP, ICMP over IPv4, or ICMPv6 over IPv6.
+    pub protocol: IpProtocol,
+    /// Where its header begins.
+    pub start: usize,
+    /// The end of the bytes that its checksum covers and that are in the frame.
+    pub end: usize,
+    /// Whether the frame has all bytes that its checksum covers: it is not a fragment.
+    pub is_whole: bool,
+}
+
+/// What a packet carries.
+#[derive(Debug, Clone, Copy, PartialEq, Eq)]
+pub enum Carried {
+    /// A transport packet, or its first fragment.
+    Segment(Segment),
+    /// Another protocol. None of its checksums is known.
+    Other,
+    /// A fragment that is not the first. The checksum of its bytes is in the first one.
+    Fragment,
+    /// A transport packet whose checksum field is not found: it is cut, the length of UDP is below 8, or there is an
+    /// authentication header or an IPv6 extension header before it, other than one fragment header right after the IPv6
+    /// header.
+    Hidden,
+}
+
+/// Where the parts of an IP packet are. All places count from the first byte of the frame.
+#[derive(Debug, Clone, Copy, PartialEq, Eq)]
+pub struct Places {
+    pub version: IpVersion,
+    /// The end of the IP header, or of the fragment header that follows an IPv6 header.
+    pub start: usize,
+    /// The end of the packet. Later bytes are padding.
+    pub end: usize,
+    pub carried: Carried,
+}
+
+impl Segment {
+    /// The place of the checksum field.
+    pub fn checksum(&self) -> usize
+        requires { checksum_place self.now ≤ 2 ^ 63 }
+        ensures { result ≡ checksum_place self.now }
+    {
+        self.start + checksum_offset(self.protocol)
+    }
+}
+
+impl Places {
+    /// The places in an Ethernet II frame whose packet is IPv4 or IPv6. `None` if the EtherType is another one (such as
+    /// a VLAN tag), or if the version or a length of the IP header is wrong. The checksum of an IPv4 header is not
+    /// verified.
+    #[tactic(auto, unfolding(crate::specs::Places::places_of))]
+    pub fn of(frame: &[u8]) -> Option<Places>
+        ensures value { result ≡ places_of frame.now }
+        ensures holds { IfSome result (λ places. Holds places frame.now) }
+    {
+        if frame.len() < ETHERNET_HEADER_LEN {
+            return None;
+        }
+        match EthernetFrame::new_unchecked(frame).ethertype() {
+            EthernetProtocol::Ipv4 => ipv4_places(frame),
+            EthernetProtocol::Ipv6 => ipv6_places(frame),
+            _ => None,
+        }
+    }
+}
+
+// The offset of the checksum field in a transport header.
+fn checksum_offset(protocol: IpProtocol) -> usize
+    ensures { result ≡ checksum_offset protocol }
+{
+    match protocol {
+        IpProtocol::Tcp => 16,
+        IpProtocol::Udp => 6,
+        _ => 2,
+    }
+}
+
+// The places of a frame with the EtherType of IPv4.
+fn ipv4_places(frame: &[u8]) -> Option<Places>
+    requires { 14 ≤ length frame.now }
+    ensures value { result ≡ place.ipv4_places frame.now }
+    ensures holds { IfSome result (λ places. Holds places frame.now) }
+{
+    let (_, bytes) = frame.split_at(ETHERNET_HEADER_LEN);
+    let Ok(packet) = Ipv4Packet::new_checked(bytes) else {
+        return None;
+    };
+    if packet.version() != 4 {
+        return None;
+    }
+    let start = ETHERNET_HEADER_LEN + usize::from(packet.header_len());
+    let end = ETHERNET_HEADER_LEN + usize::from(packet.total_len());
+    Some(Places {
+        version: IpVersion::Ipv4,
+        start,
+        end,
+        carried: ipv4_carried(frame, start, end),
+    })
+}
+
+// What an IPv4 packet carries from `start` up to `end`.
+fn ipv4_carried(frame: &[u8], start: usize, end: usize) -> Carried
+    requires begins { 34 ≤ start }
+    requires even { start % 2 ≡ 0 }
+    requires order { start ≤ end }
+    requires ends { end ≤ length frame.now }
+    ensures value { result ≡ place.ipv4_carried frame.now start end }
+    ensures holds { HoldsCarried result version.Ipv4 start frame.now }
+{
+    let (_, bytes) = frame.split_at(ETHERNET_HEADER_LEN);
+    let packet = Ipv4Packet::new_unchecked(bytes);
+    if packet.frag_offset() != 0 {
+        return Carried::Fragment;
+    }
+    let is_whole = !packet.more_frags();
+    carried_by(
+        frame,
+        IpVersion::Ipv4,
+        packet.next_header(),
+        start,
+        end,
+        is_whole,
+    )
+}
+
+// The places of a frame with the EtherType of IPv6.
+fn ipv6_places(frame: &[u8]) -> Option<Places>
+    requires { 14 ≤ length frame.now }
+    ensures value { result ≡ place.ipv6_places frame.now }
+    ensures holds { IfSome result (λ places. Holds places frame.now) }
+{
+    let (_, bytes) = frame.split_at(ETHERNET_HEADER_LEN);
+    let Ok(packet) = Ipv6Packet::new_checked(bytes) else {
+        return None;
+    };
+    if packet.version() != 6 {
+        return None;
+    }
+    Some(places_after(frame, packet.next_header(), packet.total_len()))
+}
+
+// The places of an IPv6 packet with this next header and length.
+fn places_after(frame: &[u8], protocol: IpProtocol, len: usize) -> Places
+    requires header { 40 ≤ len }
+    requires ends { 14 + len ≤ length frame.now }
+    ensures value { result ≡ place.places_after frame.now protocol len }
+    ensures holds { Holds result frame.now }
+{
+    let version = IpVersion::Ipv6;
+    let end = ETHERNET_HEADER_LEN + len;
+    match protocol {
+        IpProtocol::Ipv6Frag if len >= IPV6_HEADER_LEN + FRAGMENT_HEADER_LEN => Places {
+            version,
+            start: 62,
+            end,
+            carried: fragment_carried(frame, end),
+        },
+        _ => Places {
+            version,
+            start: 54,
+            end,
+            carried: carried_by(frame, version, protocol, 54, end, true),
+        },
+    }
+}
+
+// What an IPv6 packet with a fragment header right after the IPv6 header carries.
+fn fragment_carried(frame: &[u8], end: usize) -> Carried
+    requires begins { 62 ≤ end }
+    requires ends { end ≤ length frame.now }
+    ensures value { result ≡ place.fragment_carried frame.now end }
+    ensures holds { HoldsCarried result version.Ipv6 62 frame.now }
+{
+    let header = Ipv6FragmentHeader::new_unchecked(&frame[56..]);
+    if header.frag_offset() != 0 {
+        return Carried::Fragment;
+    }
+    let protocol = IpProtocol::from(frame[54]);
+    let is_whole = !header.more_frags();
+    carried_by(frame, IpVersion::Ipv6, protocol, 62, end, is_whole)
+}
+
+// What a packet of this protocol carries from `start` up to `end`, if it is no later fragment.
+fn carried_by(
+    frame: &[u8],
+    version: IpVersion,
+    protocol: IpProtocol,
+    start: usize,
+    end: usize,
+    is_whole: bool,
+) -> Carried
+    requires begins { addresses_end version ≤ start }
+    requires even { start % 2 ≡ 0 }
+    requires order { start ≤ end }
+    requires ends { end ≤ length frame.now }
+    ensures value { result ≡ place.carried_by frame.now (is_ipv4 version) protocol start end is_whole }
+    ensures holds { HoldsCarried result version start frame.now }
+{
+    if has_checksum(version, protocol) {
+        segment_at(frame, version, protocol, start, end, is_whole)
+    } else if hides_next(version, protocol) {
+        Carried::Hidden
+    } else {
+        Carried::Other
+    }
+}
+
+// Whether it is the protocol of a transport packet with a checksum.
+fn has_checksum(version: IpVersion, protocol: IpProtocol) -> bool
+    ensures { result ≡ has_checksum (is_ipv4 version) protocol }
+{
+    match protocol {
+        IpProtocol::Tcp | IpProtocol::Udp => true,
+        IpProtocol::Icmp => is_ipv4(version),
+        IpProtocol::Icmpv6 => !is_ipv4(version),
+        _ => false,
+    }
+}
+
+// Whether it is the number of an IPv6 extension header (RFC 8200, section 4), or of the authentication header.
+fn hides_next(version: IpVersion, protocol: IpProtocol) -> bool
+    ensures { result ≡ hides_next (is_ipv4 version) protocol }
+{
+    match protocol {
+        IpProtocol::HopByHop
+        | IpProtocol::Ipv6Route
+        | IpProtocol::Ipv6Frag
+        | IpProtocol::Ipv6Opts => !is_ipv4(version),
+        IpProtocol::IpSecAh => true,
+        _ => false,
+    }
+}
+
+fn is_ipv4(version: IpVersion) -> bool
+    ensures { result ≡ is_ipv4 version }
+{
+    match version {
+        IpVersion::Ipv4 => true,
+        IpVersion::Ipv6 => false,
+    }
+}
+
+// The transport packet with a checksum from `start` up to `end`.
+fn segment_at(
+    frame: &[u8],
+    version: IpVersion,
+    protocol: IpProtocol,
+    start: usize,
+    end: usize,
+    is_whole: bool,
+) -> Carried
+    requires begins { addresses_end version ≤ start }
+    requires even { start % 2 ≡ 0 }
+    requires order { start ≤ end }
+    requires ends { end ≤ length frame.now }
+    ensures value { result ≡ place.segment_at frame.now protocol start end is_whole }
+    ensures holds { HoldsCarried result version start frame.now }
+{
+    if end < start + checksum_offset(protocol) + 2 {
+        return Carried::Hidden;
+    }
+    match protocol {
+        IpProtocol::Udp => datagram_at(frame, version, start, end, is_whole),
+        _ => Carried::Segment(Segment {
+            protocol,
+            start,
+            end,
+            is_whole,
+        }),
+    }
+}
+
+// The UDP packet from `start` on. Its checksum covers as many bytes as its length field says.
+fn datagram_at(
+    frame: &[u8],
+    version: IpVersion,
+    start: usize,
+    end: usize,
+    is_whole: bool,
+) -> Carried
+    requires begins { addresses_end version ≤ start }
+    requires even { start % 2 ≡ 0 }
+    requires room { start + 8 ≤ end }
+    requires ends { end ≤ length frame.now }
+    ensures value { result ≡ place.datagram_at frame.now start end is_whole }
+    ensures holds { HoldsCarried result version start frame.now }
+{
+    let len = usize::from(NetworkEndian::read_u16(&frame[start + 4..]));
+    if len < UDP_HEADER_LEN {
+        return Carried::Hidden;
+    }
+    Carried::Segment(Segment {
+        protocol: IpProtocol::Udp,
+        start,
+        end: end.min(start + len),
+        is_whole: is_whole && start + len <= end,
+    })
+}

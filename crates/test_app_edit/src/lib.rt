@@ -1,0 +1,5 @@
+//! Tests of the edits of frames.
+#![tactic(auto)]
+
+#[cfg(test)]
+mod tests;

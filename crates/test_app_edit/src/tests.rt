@@ -1,0 +1,3 @@
+//! Worked examples, frame by frame.
+
+mod edits;
