@@ -60,6 +60,28 @@ static uint64_t call_clamp_mss(const struct library *library, const struct row *
     return answers;
 }
 
+/* The value is one of two by turns. */
+#define EDIT(name, ...)                                                                               \
+    static uint64_t call_##name(const struct library *library, const struct row *row, uint64_t times) \
+    {                                                                                                 \
+        uint64_t answers = 0;                                                                         \
+        (void)row;                                                                                    \
+        for (uint64_t i = 0; i < times; i++) {                                                        \
+            uint8_t *frame = next_on_its_way();                                                       \
+            answers += (uint64_t)library->name(frame, frame_len __VA_ARGS__);                         \
+        }                                                                                             \
+        return answers;                                                                               \
+    }
+#define TURN (next_frame / 32 % 2)
+static const struct lk_addr edit_addrs[] = {IPV4(7), IPV4(8)};
+static const uint8_t edit_bytes[][4] = {"abcd", "efgh"};
+EDIT(set_hop_limit, , (uint8_t)(63 + TURN))
+EDIT(set_dscp, , (uint8_t)(45 + TURN))
+EDIT(set_addr, , LK_SOURCE, &edit_addrs[TURN])
+EDIT(set_port, , LK_SOURCE, (uint16_t)(40000 + TURN))
+EDIT(set_bytes, , frame_len - 5, edit_bytes[TURN], 4)
+EDIT(fill_checksum, )
+
 #define NEXT_DESTINATION &destinations[next_frame++ % DESTINATIONS]
 REPEAT(call_choose_route, choose_route, nodes, row->size, NEXT_DESTINATION)
 REPEAT(call_check_source, check_source, routes, row->size, nodes, row->size, NEXT_DESTINATION, 1)
@@ -157,6 +179,15 @@ static const struct call host_rows[] = {
     {"clamp the MSS of data", prepare_data, call_clamp_mss},
 };
 static const size_t host_sizes[] = {0};
+static const struct call edit_rows[] = {
+    {"set hop limit UDP/IPv4", prepare_udp_ipv4, call_set_hop_limit},
+    {"set DSCP UDP/IPv4", prepare_udp_ipv4, call_set_dscp},
+    {"set address UDP/IPv4", prepare_udp_ipv4, call_set_addr},
+    {"set port UDP/IPv4", prepare_udp_ipv4, call_set_port},
+    {"set port TCP/IPv4", prepare_data, call_set_port},
+    {"set 4 bytes UDP/IPv4", prepare_udp_ipv4, call_set_bytes},
+    {"fill checksum UDP/IPv4", prepare_udp_ipv4, call_fill_checksum},
+};
 static const struct call message_rows[] = {
     {"answer echo/IPv4", prepare_echo_ipv4, call_answer},
     {"answer echo/IPv6", prepare_ping_ipv6, call_answer},
@@ -179,4 +210,5 @@ static const struct block routing_blocks[] = {
     BLOCK(index_rows, index_counts, IN_OURS, 1),     BLOCK(index_rows, many_routes, IN_OURS, 0),
     BLOCK(nat_rows, nat_sizes, IN_OURS, 64),         BLOCK(host_rows, host_sizes, IN_OURS, 1),
     BLOCK(message_rows, message_sizes, IN_OURS, 1),  BLOCK(ndisc_rows, host_sizes, IN_FLOOR, 1),
+    BLOCK(edit_rows, nat_sizes, IN_OURS, 1),
 };

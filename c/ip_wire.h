@@ -296,11 +296,12 @@ const char *lk_reason_name(int reason);
 
 /* What a checksum says. */
 enum lk_verdict {
-    LK_NO_CHECKSUM,     /* there is no such header, or a UDP header whose length field does not fit */
+    LK_NO_CHECKSUM,     /* no such header was parsed, or only a UDP header whose length field does not fit */
     LK_RIGHT,
     LK_WRONG,
     LK_LEFT_OUT,        /* UDP over IPv4: the sender computed none */
-    LK_LEFT_TO_DEVICE,  /* only the pseudo-header is summed: checksum offload; wrong for lk_rebuild, lk_answer, NAT */
+    LK_LEFT_TO_DEVICE,  /* only the pseudo-header is summed: checksum offload (lk_fill_checksum sums the rest); it is
+                         * wrong for lk_rebuild, lk_answer and NAT */
     LK_CHECKSUM_CUT     /* not all bytes that it covers were captured */
 };
 
@@ -339,10 +340,12 @@ struct lk_frame {
  *   9293 needs them for RST. For a UDP header that is rejected as LK_BAD_LENGTH the verdict is
  *   LK_NO_CHECKSUM, because it does not say which bytes are summed.
  * - After an unknown EtherType or protocol all bytes are payload, and so are IPv6 extension headers.
- *   IPv4 options are skipped.
+ *   IPv4 options are skipped. If a source route among them has hops left (RFC 791), the checksum of UDP or TCP is
+ *   LK_WRONG, because it covers the last address of the route.
  * - An ICMP message is a packet of protocol 1 over IPv4, or 58 over IPv6, with at least 8 bytes. Its payload begins
  *   after these 8 bytes: it is the data of an echo, or the packet that an error quotes. No type or code is rejected,
- *   and the checksum is LK_RIGHT or LK_WRONG. A shorter message has no transport: all of it is payload.
+ *   and the checksum is LK_RIGHT or LK_WRONG. A shorter message has no transport: all of it is payload. A packet that is
+ *   quoted is a beginning: lk_read_captured_packet reads it, with LK_MAX_LEN as `len`.
  * - If an IPv6 fragment header follows the IPv6 header directly and is there as a whole, its values are stored.
  *   The payload begins at it. `is_fragment` is 0 if it is of an atomic fragment, which is a whole packet
  *   (RFC 6946), but what follows the fragment header is not parsed either.
@@ -384,8 +387,7 @@ struct lk_link {
 };
 
 /* Parses the link-layer header of a packet of which `captured` bytes are at `ptr`, stores it and returns LK_READ.
- * `link_type` is the number that a capture file has, or that `pcap_datalink` of libpcap returns
- * (www.tcpdump.org/linktypes.html):
+ * `link_type` is the number in a capture file, or from `pcap_datalink` of libpcap (www.tcpdump.org/linktypes.html):
  *
  *   link type    name        header
  *   0            NULL        an address family, in either byte order
@@ -396,14 +398,15 @@ struct lk_link {
  *   228, 229     IPV4, IPV6  none
  *   276          LINUX_SLL2  the second version of LINUX_SLL, 20 bytes
  *
- * - `type` is 0x0800 for the address family 2, 0x86dd for 10, 24, 28 and 30, and 0 for others.
+ * - `type` is 0x0800 for the address family 2, 0x86dd for 10, 24, 28 and 30, and 0 for others. Without a header it is
+ *   that of the IP version.
  * - Of a cooked header it is the protocol field. It is 0 if the packet comes from a device for frame relay, radiotap
  *   or netlink (ARPHRD 770, 803 and 824), whose protocol field has another meaning.
  * - Up to two VLAN tags are skipped, of the types 0x8100, 0x88a8 and 0x9100 (IEEE 802.1Q). Before a third tag `type` is
  *   one of these, and the packet begins at the control information of that tag.
  *
  * Returns LK_UNKNOWN_LINK, LK_TOO_SHORT if the header or a tag is not there as a whole, or LK_BAD_VERSION for a raw
- * packet of neither version. Then nothing is stored. */
+ * packet of neither version; then nothing is stored. */
 int lk_read_link(uint32_t link_type, const uint8_t *ptr, size_t captured, struct lk_link *link);
 
 /* The same as lk_read_captured for a packet of any link type that lk_read_link knows. Offsets count from `ptr`.
@@ -432,7 +435,7 @@ int lk_read_linktype(uint32_t link_type, const uint8_t *ptr, size_t captured, si
  *     Ethernet 02-00-00-00-00-01 > 02-00-00-00-00-02 type=0x0800 len=19 (too short)
  *
  * - The sender is before the receiver. There are ports if a UDP or TCP header is stored, also a rejected one. Without an
- *   ARP or IP header the line has the Ethernet addresses and the EtherType.
+ *   ARP or IP header the line has the Ethernet addresses and the EtherType, which are 0 for other links.
  * - Of the TCP flags `syn`, `fin`, `rst`, `psh`, `ece` and `cwr` are printed. `ack` and `urg` come with their numbers.
  * - `hardware` is that of the sender. `fragment` is the offset in bytes, with `+` if more fragments follow.
  * - `len` is `payload_len`.
@@ -600,7 +603,8 @@ uint16_t lk_checksum(const uint8_t *ptr, size_t len);
  * echo reply over IPv4, verifies only with 0xffff: in ICMP write 0xffff instead of 0.
  *
  * A field of LK_LEFT_TO_DEVICE is the sum of the pseudo-header, and not its complement. After an address changed it is
- * `(uint16_t)~lk_update_checksum_addr((uint16_t)~field, &before, &after)`. Ports and payload are not in it. */
+ * `(uint16_t)~lk_update_checksum_addr((uint16_t)~field, &before, &after)`. Ports and payload are not in it. The calls
+ * lk_set_.. know such a field. */
 uint16_t lk_update_checksum(uint16_t checksum, uint16_t before, uint16_t after);
 uint16_t lk_update_checksum_addr(uint16_t checksum, const struct lk_addr *before, const struct lk_addr *after);
 uint16_t lk_update_udp_checksum(uint16_t checksum, uint16_t before, uint16_t after);
@@ -843,7 +847,7 @@ enum lk_side { LK_SOURCE, LK_DESTINATION };
 /* Writes an IPv4 address and a port into the UDP or TCP packet of an Ethernet frame, in place (RFC 3022), and updates
  * the checksums, as lk_update_.. do. A UDP checksum of 0 stays 0. Any `side` but 0 is the destination. The identifier
  * of an ICMP echo message counts as its port on either side, and may be 0. Its checksum is computed anew. Other ICMP
- * messages get LK_OTHER_PROTOCOL.
+ * messages get LK_OTHER_PROTOCOL. A checksum of LK_LEFT_TO_DEVICE gets LK_BAD_TRANSPORT: call lk_fill_checksum before.
  *
  * Returns LK_NOT_REJECTED, or a rejection from LK_NO_IPV4 to LK_ZERO_PORT, but not LK_EXPIRED; then the frame is
  * unchanged. The source port of UDP may be 0 (RFC 768), so that it gets no LK_ZERO_PORT. */
@@ -861,6 +865,52 @@ int lk_translate(uint8_t *frame, size_t len, int side, const struct lk_endpoint 
  *
  * Returns 1 if the size was larger, else 0; then the frame is unchanged. */
 int lk_clamp_mss(uint8_t *frame, size_t len, uint16_t max_seg_size);
+
+/* ---- edits in place ---- */
+
+/* Each call of this section writes one field of the packet in an Ethernet frame, in place, and updates the checksums that
+ * cover it (RFC 1624): that of the IPv4 header, and that of TCP, UDP, ICMP or ICMPv6. No other byte changes.
+ *
+ * - A valid checksum stays valid, and a wrong one stays wrong. One that is left to the device (LK_LEFT_TO_DEVICE) stays
+ *   so: an address changes it, as part of the pseudo-header, and nothing else does. UDP's 0 over IPv4 stays 0. The
+ *   exception is an ICMP message whose other bytes are all 0 (lk_update_checksum).
+ * - lk_read_frame must read the IP header. Of TCP, UDP or ICMP only the bytes up to the checksum field must be there,
+ *   also in the first of several fragments. Append zeros to a packet that was cut, up to its length: only
+ *   lk_fill_checksum needs the bytes themselves.
+ * - Of the Ethernet header only the EtherType is used. For a frame with VLAN tags give `frame + link.offset - 14`, where
+ *   `link` is that of lk_read_link. lk_clamp_mss takes these too.
+ * - A checksum of TCP or UDP covers the destination of the IP header. If an IPv4 source route has hops left, it covers
+ *   another one.
+ * - Any `side` but LK_SOURCE is the destination.
+ *
+ * Returns 1, or 0 if the packet has no such field; then the frame is unchanged. */
+
+/* Writes the TTL of IPv4, or the hop limit of IPv6. */
+int lk_set_hop_limit(uint8_t *frame, size_t len, uint8_t hop_limit);
+
+/* Writes the DSCP, 6 bits (RFC 2474). ECN stays. Returns 0 for numbers above 63. */
+int lk_set_dscp(uint8_t *frame, size_t len, uint8_t dscp);
+
+/* Writes an address. Returns 0 if the packet has another version, and if the checksum of its TCP, UDP or ICMP is not found:
+ * it is cut, or after an authentication header or an IPv6 extension header other than one fragment header. */
+int lk_set_addr(uint8_t *frame, size_t len, int side, const struct lk_addr *addr);
+
+/* Writes a port of TCP or UDP. Port 0 is written too. */
+int lk_set_port(uint8_t *frame, size_t len, int side, uint16_t port);
+
+/* Writes the `count` bytes at `ptr` from byte `offset` of the frame on, as an option, an address or payload. Returns 0 if
+ * the frame does not have all of them, or if they would replace one of these bytes, or be between two of them:
+ *
+ * - the Ethernet header, and of the IP header the version, the header length, the lengths, the fields of fragments, the
+ *   protocol and the checksum,
+ * - the transport checksum, the data offset of TCP, and the length of UDP,
+ * - the payload of a fragment that is not the first, whose checksum is in the first one,
+ * - all from the addresses on, if lk_set_addr does not find the transport checksum. */
+int lk_set_bytes(uint8_t *frame, size_t len, size_t offset, const uint8_t *ptr, size_t count);
+
+/* Computes the TCP, UDP, ICMP or ICMPv6 checksum anew, as a device does for LK_LEFT_TO_DEVICE, also where UDP has none.
+ * Returns 0 for fragments, and for UDP whose length does not fit. */
+int lk_fill_checksum(uint8_t *frame, size_t len);
 
 /* ---- routes ---- */
 
@@ -933,7 +983,8 @@ struct lk_nat {
     uint16_t unused;
 };
 
-/* A mapping. It is private: only lk_translate_out and lk_translate_in write it. Zeros: a free one. */
+/* A mapping. It is private: only lk_translate_out and lk_translate_in write it, but the caller may free one with
+ * zeros. */
 struct lk_mapping {
     uint64_t expires;
     uint8_t inside[4];

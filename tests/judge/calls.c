@@ -296,6 +296,16 @@ CHANGER(translate, (uint8_t *frame, size_t len, int side, const struct lk_endpoi
         (FRAME, NUMBER(side), GIVE(end)))
 CHANGER(clamp_mss, (uint8_t *frame, size_t len, uint16_t max_seg_size), (wanted, len, max_seg_size),
         (FRAME, NUMBER(max_seg_size)))
+CHANGER(set_hop_limit, (uint8_t *frame, size_t len, uint8_t hop_limit), (wanted, len, hop_limit),
+        (FRAME, NUMBER(hop_limit)))
+CHANGER(set_dscp, (uint8_t *frame, size_t len, uint8_t dscp), (wanted, len, dscp), (FRAME, NUMBER(dscp)))
+CHANGER(set_addr, (uint8_t *frame, size_t len, int side, const struct lk_addr *addr), (wanted, len, side, addr),
+        (FRAME, NUMBER(side), GIVE(addr)))
+CHANGER(set_port, (uint8_t *frame, size_t len, int side, uint16_t port), (wanted, len, side, port),
+        (FRAME, NUMBER(side), NUMBER(port)))
+CHANGER(set_bytes, (uint8_t *frame, size_t len, size_t offset, const uint8_t *ptr, size_t count),
+        (wanted, len, offset, ptr, count), (FRAME, NUMBER(offset), given("ptr", ptr, used_len(count)), NUMBER(count)))
+CHANGER(fill_checksum, (uint8_t *frame, size_t len), (wanted, len), (FRAME))
 
 /* ---- routes: the model searches those that were indexed last ---- */
 

@@ -40,6 +40,9 @@ __attribute__((constructor)) static void choose(void)
         "a header after that of a later fragment",
         "the segment size of a SYN updated in a partial checksum",
         "the note about a wrong checksum missing", "a fragment offset in units of 8 bytes",
+        "ECN cleared with the DSCP", "a checksum left to the device updated as a computed one",
+        "the checksum in a first fragment not updated", "the protocol replaced as other bytes",
+        "no checksum filled in where UDP has none",
     };
     const char *number = getenv("FAULT");
     fault = number ? (enum fault)atoi(number) : NO_FAULT;

@@ -72,8 +72,10 @@ BOTH(is_unicast); BOTH(checksum);
 BOTH(update_checksum); BOTH(update_udp_checksum); BOTH(update_checksum_addr); BOTH(update_udp_checksum_addr);
 BOTH(update_checksum_bytes); BOTH(update_udp_checksum_bytes);
 BOTH(add_seq); BOTH(subtract_seq); BOTH(compare_seq); BOTH(failure_name); BOTH(reason_name);
-BOTH(rejection_name); BOTH(protocol_name); BOTH(ethertype_name); BOTH(tcp_flag_name); BOTH(forward); BOTH(translate); BOTH(clamp_mss); BOTH(index_routes); BOTH(choose_route);
-BOTH(check_source); BOTH(translate_out); BOTH(translate_in);
+BOTH(rejection_name); BOTH(forward); BOTH(translate); BOTH(clamp_mss); BOTH(index_routes); BOTH(choose_route);
+BOTH(check_source); BOTH(translate_out); BOTH(translate_in); BOTH(set_hop_limit); BOTH(set_dscp); BOTH(set_addr);
+BOTH(set_port); BOTH(set_bytes); BOTH(fill_checksum); BOTH(protocol_name); BOTH(ethertype_name);
+BOTH(tcp_flag_name);
 
 /* The model of NAT has a table of its own: it is empty then. */
 void forget_mappings(void);
@@ -111,7 +113,7 @@ void make_valid(void);
 void make_frame(void);
 
 /* ---- cases_read.c, cases_link.c, cases_write.c, cases_text.c, cases_sums.c, cases_route.c,
- * cases_nat.c, cases_icmp.c ---- */
+ * cases_nat.c, cases_icmp.c, cases_edit.c ---- */
 
 void read_whole(void);
 void read_cut(void);
@@ -136,6 +138,7 @@ void translate_frames(void);
 void emit_icmp(void);
 void read_ndisc(void);
 void emit_error(void);
+void edit_frame(void);
 
 /* ---- worked.c ---- */
 

@@ -188,6 +188,15 @@ ptrdiff_t model_index_routes(const struct lk_route *routes, size_t count, size_t
 ptrdiff_t model_choose_route(const struct lk_route *routes, size_t count, const struct lk_addr *addr);
 int model_check_source(const struct lk_route *routes, size_t count, const struct lk_addr *src, unsigned interface);
 
+/* ---- model_edit.c ---- */
+
+int model_set_hop_limit(uint8_t *octets, size_t len, uint8_t hop_limit);
+int model_set_dscp(uint8_t *octets, size_t len, uint8_t dscp);
+int model_set_addr(uint8_t *octets, size_t len, int side, const struct lk_addr *addr);
+int model_set_port(uint8_t *octets, size_t len, int side, uint16_t port);
+int model_set_bytes(uint8_t *octets, size_t len, size_t offset, const uint8_t *ptr, size_t count);
+int model_fill_checksum(uint8_t *octets, size_t len);
+
 /* ---- model_nat.c ---- */
 
 enum model_phase { MODEL_OPENING, MODEL_ESTABLISHED, MODEL_CLOSING };

@@ -86,6 +86,7 @@ void make_worked_calls(void)
     worked_route();
     worked_nat();
     worked_icmp();
+    worked_edit();
     worked_hosts();
     worked_summary();
 }

@@ -73,6 +73,7 @@ void worked_values(void);
 void worked_route(void);
 void worked_nat(void);
 void worked_icmp(void);
+void worked_edit(void);
 void worked_hosts(void);
 void worked_summary(void);
 

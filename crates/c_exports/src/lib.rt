@@ -2,6 +2,7 @@
 #![tactic(auto)]
 
 mod addresses;
+mod edits;
 mod emit;
 mod frames;
 mod host;

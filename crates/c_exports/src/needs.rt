@@ -1,6 +1,7 @@
 //! Needs the contracts of the exported functions: calls with equal arguments return and write the same.
 
 mod addresses;
+mod edits;
 mod emit;
 mod frames;
 mod host;

@@ -1,4 +1,5 @@
 mod Clampings
+mod Editing
 mod Forwards
 mod NatCalls
 mod RouteChoice

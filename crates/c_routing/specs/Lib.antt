@@ -1,4 +1,5 @@
 pub mod Clamped
+pub mod Edited
 pub mod Forwarded
 pub mod Lengths
 pub mod Nat

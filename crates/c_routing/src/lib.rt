@@ -1,7 +1,8 @@
-//! The steps of a router and of NAT on frames, as the calls of `c/ip_wire.h` make them. `c_exports` exports them to C.
+//! The steps of a router and of NAT on frames, and edits of single fields, as the calls of `c/ip_wire.h` make them. `c_exports` exports them to C.
 #![tactic(auto)]
 
 mod clamping;
+mod edits;
 mod forwarding;
 mod lengths;
 mod nat;
@@ -11,6 +12,7 @@ mod sources;
 mod translation;
 
 pub use clamping::clamp_frame;
+pub use edits::{fill_checksum, set_addr, set_bytes, set_dscp, set_hop_limit, set_port};
 pub use forwarding::forward_frame;
 pub use nat::{translate_in, translate_out};
 pub use rejections::Rejection;

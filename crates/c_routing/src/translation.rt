@@ -25,7 +25,7 @@ pub fn translate_frame(frame: &mut [u8], side: i32, end: &Endpoint) -> i32
 }
 
 // The side with this number: any number but 0 is the destination.
-fn side_of(number: i32) -> Side
+pub(crate) fn side_of(number: i32) -> Side
     ensures { result ≡ side_of number }
 {
     if number == 0 {

@@ -1,0 +1,83 @@
+/* Faults of the edits in place. */
+#include <string.h>
+#include "faults.h"
+#include "ip_wire.h"
+
+/* ---- the calls of the library itself ---- */
+
+int __real_lk_set_dscp(uint8_t *frame, size_t len, uint8_t dscp);
+int __real_lk_set_addr(uint8_t *frame, size_t len, int side, const struct lk_addr *addr);
+int __real_lk_set_port(uint8_t *frame, size_t len, int side, uint16_t port);
+int __real_lk_set_bytes(uint8_t *frame, size_t len, size_t offset, const uint8_t *ptr, size_t count);
+int __real_lk_fill_checksum(uint8_t *frame, size_t len);
+
+/* Reads a frame before it is edited, and says where its UDP or TCP checksum is; 0: nowhere. */
+static size_t sum_of(const uint8_t *frame, size_t len, struct lk_frame *f)
+{
+    lk_read_frame(frame, len, f);
+    if (f->transport != LK_UDP && f->transport != LK_TCP)
+        return 0;
+    return f->transport_offset + (f->transport == LK_UDP ? 6 : 16);
+}
+
+int __wrap_lk_set_dscp(uint8_t *frame, size_t len, uint8_t dscp)
+{
+    int result = __real_lk_set_dscp(frame, len, dscp);
+    if (fault == ECN_CLEARED && result == 1)
+        __real_lk_set_bytes(frame, len, 15, &(uint8_t){frame[15] & (frame[12] == 8 ? 0xfc : 0xcf)}, 1);
+    return result;
+}
+
+/* A checksum that is left to the device is updated as one that is computed. */
+int __wrap_lk_set_addr(uint8_t *frame, size_t len, int side, const struct lk_addr *addr)
+{
+    struct lk_frame f;
+    size_t at = sum_of(frame, len, &f);
+    int result, is_left = fault == LEFT_SUM_COMPLEMENTED && at != 0 && f.transport_checksum == LK_LEFT_TO_DEVICE;
+    uint16_t sum = is_left ? (uint16_t)(frame[at] << 8 | frame[at + 1]) : 0;
+    result = __real_lk_set_addr(frame, len, side, addr);
+    if (is_left && result == 1) {
+        sum = lk_update_checksum_addr(sum, side == LK_SOURCE ? &f.src.addr : &f.dst.addr, addr);
+        frame[at] = (uint8_t)(sum >> 8);
+        frame[at + 1] = (uint8_t)sum;
+    }
+    return result;
+}
+
+/* The checksum in a first fragment stays. */
+int __wrap_lk_set_port(uint8_t *frame, size_t len, int side, uint16_t port)
+{
+    struct lk_frame f;
+    uint8_t sum[2] = {0, 0};
+    size_t at;
+    int result, is_known;
+    lk_read_frame(frame, len, &f);
+    at = f.payload_offset + (f.network == LK_IPV6 ? 8 : 0) + (f.ip.protocol == 17 ? 6 : 16);
+    is_known = fault == FIRST_FRAGMENT_LEFT && f.network == LK_IPV4 && f.is_fragment && at + 2 <= len;
+    if (is_known)
+        memcpy(sum, frame + at, 2);
+    result = __real_lk_set_port(frame, len, side, port);
+    if (is_known && result == 1)
+        memcpy(frame + at, sum, 2);
+    return result;
+}
+
+/* The protocol of the IPv4 header may be replaced. */
+int __wrap_lk_set_bytes(uint8_t *frame, size_t len, size_t offset, const uint8_t *ptr, size_t count)
+{
+    struct lk_frame f;
+    lk_read_frame(frame, len, &f);
+    if (fault == PROTOCOL_REPLACED && f.network == LK_IPV4 && offset <= 23 && count > 23 - offset && count <= len - offset) {
+        memcpy(frame + offset, ptr, count);
+        return 1;
+    }
+    return __real_lk_set_bytes(frame, len, offset, ptr, count);
+}
+
+/* A packet without a UDP checksum gets none. */
+int __wrap_lk_fill_checksum(uint8_t *frame, size_t len)
+{
+    struct lk_frame f;
+    sum_of(frame, len, &f);
+    return fault == LEFT_OUT_NOT_FILLED && f.transport_checksum == LK_LEFT_OUT ? 0 : __real_lk_fill_checksum(frame, len);
+}

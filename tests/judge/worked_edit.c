@@ -1,0 +1,122 @@
+/* Worked calls of the edits in place. Scapy packed the edited frames, but for the checksums of fragments, of wrong ones and
+ * of those that are left to the device, which are the sums of RFC 1624 and RFC 768. */
+#include "worked.h"
+
+enum { HOP_LIMIT, DSCP, ADDR, PORT, BYTES, FILL, MORE_CHANGES = 12 };
+
+/* `before`: changes of the frame. `text`: an address, or the bytes. `after`: what the call changes then; none: it
+ * returns 0. */
+static const struct {
+    const struct octets *frame;
+    struct change before[CHANGES];
+    int field;
+    size_t number; /* the side of an address or port, the offset of bytes */
+    const char *text;
+    unsigned value;
+    struct change after[MORE_CHANGES];
+} edited[] = {
+    {&ping, {{0, 0}}, HOP_LIMIT, 0, 0, 1, {{22, 0x01}, {24, 0xd4}}},
+    {&syn, {{0, 0}}, HOP_LIMIT, 0, 0, 255, {{22, 0xff}, {24, 0xa3}, {25, 0xfb}}},
+    {&ping6, {{0, 0}}, HOP_LIMIT, 0, 0, 0, {{21, 0x00}}},
+    {&echo_request, {{0, 0}}, HOP_LIMIT, 0, 0, 63, {{22, 0x3f}, {24, 0xa5}}},
+    {&ping, {{25, 0x96}}, HOP_LIMIT, 0, 0, 1, {{22, 0x01}, {24, 0xd4}}}, /* a wrong checksum stays wrong */
+    {&ping, {{12, 0x81}}, HOP_LIMIT, 0, 0, 1, {{0, 0}}},                 /* VLAN tags */
+    {&ping, {{14, 0x65}}, HOP_LIMIT, 0, 0, 1, {{0, 0}}},
+    {&arp4, {{0, 0}}, HOP_LIMIT, 0, 0, 1, {{0, 0}}},
+    {&ping, {{0, 0}}, DSCP, 0, 0, 46, {{15, 0xb8}, {24, 0x94}, {25, 0xb1}}},
+    {&syn, {{0, 0}}, DSCP, 0, 0, 63, {{15, 0xfc}, {25, 0x00}}},
+    {&ping6, {{0, 0}}, DSCP, 0, 0, 46, {{14, 0x6b}, {15, 0x80}}},
+    {&udp4_left_to_device, {{0, 0}}, DSCP, 0, 0, 0, {{15, 0x01}, {25, 0xdb}}},
+    {&ping, {{0, 0}}, DSCP, 0, 0, 64, {{0, 0}}},
+    {&ping, {{0, 0}}, ADDR, 0, "203.0.113.9", 0,
+     {{24, 0x1b}, {25, 0x61}, {26, 0xcb}, {28, 0x71}, {29, 0x09}, {40, 0x81}, {41, 0x8a}}},
+    {&syn, {{0, 0}}, ADDR, 1, "198.51.100.7", 0,
+     {{24, 0xfa}, {25, 0xc3}, {30, 0xc6}, {31, 0x33}, {32, 0x64}, {33, 0x07}, {50, 0x70}, {51, 0x85}}},
+    {&ping6, {{0, 0}}, ADDR, 0, "2001:db8::9", 0, {{37, 0x09}, {61, 0x1a}}},
+    {&syn6, {{0, 0}}, ADDR, 2, "2001:db8:1::7", 0, {{43, 0x01}, {53, 0x07}, {71, 0x5b}}},
+    {&echo_request, {{0, 0}}, ADDR, 0, "203.0.113.9", 0, {{24, 0x2a}, {25, 0x9c}, {26, 0xcb}, {28, 0x71}, {29, 0x09}}},
+    {&echo_request6, {{0, 0}}, ADDR, 1, "2001:db8:1::7", 0, {{43, 0x01}, {53, 0x07}, {57, 0x81}}},
+    {&tcp4_left_to_device, {{0, 0}}, ADDR, 1, "198.51.100.7", 0,
+     {{24, 0x7b}, {25, 0x3f}, {30, 0xc6}, {31, 0x33}, {32, 0x64}, {33, 0x07}, {50, 0x60}, {51, 0x90}}},
+    {&udp4_left_to_device, {{0, 0}}, ADDR, 0, "203.0.113.9", 0,
+     {{24, 0x49}, {25, 0x51}, {26, 0xcb}, {27, 0x00}, {28, 0x71}, {29, 0x09}, {40, 0x92}, {41, 0x7e}}},
+    {&ping, {{0, 0}}, ADDR, 0, "2001:db8::9", 0, {{0, 0}}},
+    {&ping6, {{0, 0}}, ADDR, 0, "203.0.113.9", 0, {{0, 0}}},
+    {&syn_ack_of_1440, {{20, 0}}, ADDR, 1, "2001:db8:1::7", 0, {{0, 0}}}, /* an extension header */
+    {&syn, {{23, 51}}, ADDR, 1, "198.51.100.7", 0, {{0, 0}}},            /* an authentication header */
+    {&ping, {{0, 0}}, PORT, 0, 0, 5353, {{34, 0x14}, {35, 0xe9}, {40, 0x88}, {41, 0x11}}},
+    {&syn, {{0, 0}}, PORT, 1, 0, 8080, {{36, 0x1f}, {37, 0x90}, {50, 0xb9}, {51, 0x7d}}},
+    {&ping6, {{0, 0}}, PORT, 1, 0, 7777, {{56, 0x1e}, {57, 0x61}, {60, 0x05}, {61, 0xc8}}},
+    {&syn6, {{0, 0}}, PORT, 0, 0, 0, {{54, 0x00}, {55, 0x00}, {70, 0xee}, {71, 0xd1}}},
+    {&ping, {{41, 0xfc}}, PORT, 1, 0, 9, {{37, 0x09}, {41, 0xfa}}}, /* a wrong checksum stays wrong */
+    {&udp4_left_out, {{0, 0}}, PORT, 1, 0, 53, {{36, 0x00}, {37, 0x35}}},
+    {&tcp4_left_to_device, {{0, 0}}, PORT, 1, 0, 80, {{36, 0x00}, {37, 0x50}}},
+    {&fragment4_first, {{0, 0}}, PORT, 1, 0, 53, {{36, 0x00}, {37, 0x35}, {40, 0x5c}, {41, 0xed}}},
+    {&fragment4_middle, {{0, 0}}, PORT, 1, 0, 53, {{0, 0}}},
+    {&echo_request, {{0, 0}}, PORT, 1, 0, 53, {{0, 0}}},
+    {&ping, {{0, 0}}, BYTES, 42, "706f6e67", 0, {{41, 0x8c}, {43, 0x6f}}},
+    {&syn, {{0, 0}}, BYTES, 56, "04ec", 0, {{50, 0xd9}, {51, 0x85}, {56, 0x04}, {57, 0xec}}},
+    {&syn_ack_of_1440, {{0, 0}}, BYTES, 77, "04c4", 0, {{70, 0x1a}, {71, 0xa3}, {77, 0x04}, {78, 0xc4}}},
+    {&ping6, {{0, 0}}, BYTES, 15, "012345", 0, {{15, 0x01}, {16, 0x23}, {17, 0x45}}},
+    {&ping, {{0, 0}}, BYTES, 26, "cb007109", 0,
+     {{24, 0x1b}, {25, 0x61}, {26, 0xcb}, {28, 0x71}, {29, 0x09}, {40, 0x81}, {41, 0x8a}}},
+    {&tcp4, {{0, 0}}, BYTES, 61, "0102", 0, {{61, 0x01}, {62, 0x02}}}, /* padding */
+    {&ping, {{0, 0}}, BYTES, 43, "69", 0, {{43, 0x69}}},
+    {&ping, {{0, 0}}, BYTES, 43, "69696969", 0, {{0, 0}}},
+    {&ping, {{0, 0}}, BYTES, 13, "00", 0, {{0, 0}}},
+    {&ping, {{0, 0}}, BYTES, 17, "20", 0, {{0, 0}}},
+    {&ping, {{0, 0}}, BYTES, 23, "11", 0, {{0, 0}}},
+    {&ping, {{0, 0}}, BYTES, 24, "95", 0, {{0, 0}}},
+    {&ping, {{0, 0}}, BYTES, 39, "0c", 0, {{0, 0}}},
+    {&syn, {{0, 0}}, BYTES, 46, "a0", 0, {{0, 0}}},
+    {&syn, {{0, 0}}, BYTES, 51, "bd", 0, {{0, 0}}},
+    {&ping6, {{0, 0}}, BYTES, 20, "11", 0, {{0, 0}}},
+    {&echo_request, {{0, 0}}, BYTES, 37, "44", 0, {{0, 0}}},
+    {&fragment6_middle, {{0, 0}}, BYTES, 62, "f1", 0, {{0, 0}}},
+    {&tcp4_left_to_device, {{0, 0}}, FILL, 0, 0, 0, {{50, 0x96}, {51, 0x9e}}},
+    {&udp4_left_to_device, {{0, 0}}, FILL, 0, 0, 0, {{40, 0x1b}, {41, 0xe0}}},
+    {&udp6_left_to_device, {{0, 0}}, FILL, 0, 0, 0, {{60, 0xb5}, {61, 0x6d}}},
+    {&udp4_left_out, {{0, 0}}, FILL, 0, 0, 0, {{40, 0x1b}, {41, 0xe0}}},
+    {&tcp4_wrong, {{0, 0}}, FILL, 0, 0, 0, {{50, 0x96}}},
+    {&echo_request, {{36, 0x00}, {37, 0x00}}, FILL, 0, 0, 0, {{36, 0x42}, {37, 0x44}}},
+    {&echo_request6, {{56, 0x00}}, FILL, 0, 0, 0, {{56, 0x6e}}},
+    {&fragment4_first, {{0, 0}}, FILL, 0, 0, 0, {{0, 0}}},
+    {&arp4, {{0, 0}}, FILL, 0, 0, 0, {{0, 0}}},
+};
+
+/* Makes the call of a row. */
+static int edits(size_t row, struct octets *frame)
+{
+    const char *text = edited[row].text;
+    unsigned value = edited[row].value;
+    int side = (int)edited[row].number;
+    struct lk_addr to = {{0}, 0};
+    struct octets bytes = nothing;
+    switch (edited[row].field) {
+    case HOP_LIMIT:
+        return both_set_hop_limit(frame->at, frame->len, (uint8_t)value);
+    case DSCP:
+        return both_set_dscp(frame->at, frame->len, (uint8_t)value);
+    case ADDR:
+        to = addr(text);
+        return both_set_addr(frame->at, frame->len, side, &to);
+    case PORT:
+        return both_set_port(frame->at, frame->len, side, (uint16_t)value);
+    case BYTES:
+        bytes = octets(text);
+        return both_set_bytes(frame->at, frame->len, edited[row].number, bytes.at, bytes.len);
+    default:
+        return both_fill_checksum(frame->at, frame->len);
+    }
+}
+
+void worked_edit(void)
+{
+    for (size_t i = 0; i < sizeof edited / sizeof edited[0]; i++) {
+        struct octets frame = cut(edited[i].frame, edited[i].frame->len, edited[i].before), expected = frame;
+        for (int j = 0; j < MORE_CHANGES && edited[i].after[j].at; j++)
+            expected.at[edited[i].after[j].at] = edited[i].after[j].octet;
+        CHECK_ROW(i, edits(i, &frame) == (edited[i].after[0].at != 0));
+        CHECK_ROW(i, memcmp(frame.at, expected.at, frame.len) == 0);
+    }
+}
