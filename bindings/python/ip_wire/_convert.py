@@ -203,6 +203,12 @@ def call(name: str, *values: Any) -> int:
     return result
 
 
+def copied(frame: Data) -> Any:
+    """A copy of the frame, for a call that changes it."""
+    data = data_of(frame)
+    return (c_uint8 * len(data)).from_buffer_copy(data)
+
+
 def succeeded(result: int) -> int:
     """The result of a call, unless it is a failure."""
     if result < 0:

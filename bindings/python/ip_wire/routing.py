@@ -13,15 +13,9 @@ from ipaddress import IPv4Address
 from typing import Any, Iterable, Optional, Tuple
 
 from . import _c as c
-from ._convert import Address, AnyBlock, Data, call, data_of, member_of, number_of, represents, succeeded, to_c
+from ._convert import Address, AnyBlock, Data, call, copied, data_of, member_of, number_of, represents, succeeded, to_c
 from .addresses import Endpoint
 from .headers import Rejected, Rejection
-
-
-def _copied(frame: Data) -> Any:
-    """A copy of the frame, for a call that changes it."""
-    data = data_of(frame)
-    return (ctypes.c_uint8 * len(data)).from_buffer_copy(data)
 
 
 def _accept(rejection: int) -> None:
@@ -31,7 +25,7 @@ def _accept(rejection: int) -> None:
 
 def forward(frame: Data, src: bytes, dst: bytes) -> bytes:
     """The Ethernet frame one hop later: with these Ethernet addresses, and a hop limit that is one less."""
-    out = _copied(frame)
+    out = copied(frame)
     _accept(call("lk_forward", out, src, dst))
     return bytes(out)
 
@@ -41,7 +35,7 @@ def clamp_mss(frame: Data, max_seg_size: int) -> bytes:
 
     The TCP checksum is updated. One that is left to the device (`Verdict.LEFT_TO_DEVICE`) is unchanged.
     """
-    out = _copied(frame)
+    out = copied(frame)
     call("lk_clamp_mss", out, max_seg_size)
     return bytes(out)
 
@@ -98,7 +92,7 @@ class Side(IntEnum):
 def translate(frame: Data, side: Side, end: Endpoint) -> bytes:
     """The Ethernet frame with another IPv4 address and UDP or TCP port (RFC 3022). The identifier of an ICMP echo
     counts as its port."""
-    out = _copied(frame)
+    out = copied(frame)
     _accept(call("lk_translate", out, member_of(Side, side, "side"), end))
     return bytes(out)
 
@@ -141,7 +135,7 @@ class Nat:
         return self._translated("lk_translate_in", frame, now)
 
     def _translated(self, name: str, frame: Data, now: Optional[int]) -> bytes:
-        out = _copied(frame)
+        out = copied(frame)
         milliseconds = time.monotonic_ns() // 1_000_000 if now is None else now
         _accept(call(name, self._nat, self._mappings, milliseconds, out))
         return bytes(out)

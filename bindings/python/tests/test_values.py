@@ -33,7 +33,7 @@ class Declarations(unittest.TestCase):
 
     def test_calls(self):
         plain = {"int": ctypes.c_int, "size_t": ctypes.c_size_t, "ptrdiff_t": ctypes.c_ssize_t, "void": None,
-                 "uint16_t": ctypes.c_uint16, "uint32_t": ctypes.c_uint32, "uint64_t": ctypes.c_uint64,
+                 "uint8_t": ctypes.c_uint8, "uint16_t": ctypes.c_uint16, "uint32_t": ctypes.c_uint32, "uint64_t": ctypes.c_uint64,
                  "int32_t": ctypes.c_int32}  # fmt: skip
 
         def kind(text):

@@ -10,6 +10,7 @@
 //! | write a frame | [`Headers`], [`Arp`], [`Ndisc`], [`rebuild`], [`layer`] |
 //! | answer as a host | [`Host`], [`Interface::emit_error`] |
 //! | route and translate | [`RouteTable`], [`forward`], [`clamp_mss`], [`Nat`], [`translate`] |
+//! | edit a frame in place | [`edit`] |
 //! | parse and print addresses | [`parse_addr`], [`parse_endpoint`], [`Block`], [`EthernetAddr`] |
 //! | compute checksums | [`checksum`] |
 //!
@@ -57,6 +58,7 @@ extern crate std;
 
 mod addr;
 pub mod checksum;
+pub mod edit;
 mod emit;
 mod error;
 mod frame;

@@ -1,0 +1,61 @@
+"""Tests the edits of single fields: the frames of tests/model.py before and after."""
+import unittest
+
+import ip_wire
+import model
+from ip_wire import Side, TcpFlag
+from model import end
+
+ENDS = [
+    (end("192.0.2.1", 4000), end("198.51.100.7", 53), end("203.0.113.9", 5353)),
+    (end("2001:db8::1", 4000), end("2001:db8:1::7", 53), end("2001:db8::9", 5353)),
+]
+
+
+class Editing(unittest.TestCase):
+    def test_hop_limit(self):
+        for src, dst, _ in ENDS:
+            frame = model.udp_frame(src, dst, b"data", 64)
+            self.assertEqual(ip_wire.set_hop_limit(frame, 1), model.udp_frame(src, dst, b"data", 1))
+
+    def test_dscp(self):
+        # An IPv6 header without extension headers has no checksum: its first bytes are 6, the traffic class and the flow label.
+        frame = model.udp_frame(*ENDS[1][:2], b"data")
+        self.assertEqual(ip_wire.set_dscp(frame, 46), frame[:14] + b"\x6b\x80" + frame[16:])
+        edited = ip_wire.parse_frame(ip_wire.set_dscp(model.udp_frame(*ENDS[0][:2], b"data"), 46))
+        edited.check()
+        self.assertEqual((edited.ip.dscp, edited.ip.ecn), (46, 0))
+
+    def test_addresses_and_ports(self):
+        for src, dst, other in ENDS:
+            for make in (
+                lambda src, dst: model.udp_frame(src, dst, b"data"),
+                lambda src, dst: model.tcp_frame(src, dst, 1, 2, TcpFlag.ACK, 9, b"", b"data"),
+            ):
+                source = ip_wire.set_port(ip_wire.set_addr(make(src, dst), Side.SOURCE, other[0]), Side.SOURCE, other[1])
+                self.assertEqual(source, make(other, dst))
+                there = ip_wire.set_addr(make(src, dst), Side.DESTINATION, other[0])
+                self.assertEqual(ip_wire.set_port(there, Side.DESTINATION, other[1]), make(src, other))
+
+    def test_bytes_and_checksum(self):
+        for src, dst, _ in ENDS:
+            frame, other = (model.udp_frame(src, dst, data) for data in (b"data", b"more"))
+            self.assertEqual(ip_wire.set_bytes(frame, len(frame) - 4, b"more"), other)
+            field = len(frame) - 6
+            self.assertEqual(ip_wire.fill_checksum(frame[:field] + b"\xab\xcd" + frame[-4:]), frame)
+
+    def test_no_such_field(self):
+        udp = model.udp_frame(*ENDS[0][:2], b"data")
+        for edit in [
+            lambda: ip_wire.set_hop_limit(b"", 1),
+            lambda: ip_wire.set_dscp(udp, 64),
+            lambda: ip_wire.set_addr(udp, Side.SOURCE, ENDS[1][0][0]),
+            lambda: ip_wire.set_bytes(udp, len(udp), b"x"),
+            lambda: ip_wire.set_bytes(udp, 23, b"\x06"),
+        ]:
+            with self.assertRaisesRegex(ValueError, "no such field"):
+                edit()
+
+
+if __name__ == "__main__":
+    unittest.main()

@@ -1,0 +1,56 @@
+//! Fields are written in place, and the checksums that cover them updated. Scapy packed the frames after each edit.
+
+mod worked;
+
+use ip_wire::{edit, Side};
+use std::net::IpAddr;
+use worked::{changed, frame};
+
+/// Makes an edit of the frame: these bytes change, or none, and then it returns `false`.
+fn edits(name: &str, edit: impl Fn(&mut [u8]) -> bool, changes: &[(usize, u8)]) {
+    let mut bytes = frame(name);
+    assert_eq!(edit(&mut bytes), !changes.is_empty(), "{name}");
+    assert_eq!(bytes, changed(name, changes), "{name}");
+}
+
+fn addr(text: &str) -> IpAddr {
+    text.parse().unwrap()
+}
+
+#[test]
+fn header_fields_are_written() {
+    edits("ping", |bytes| edit::set_hop_limit(bytes, 1), &[(22, 0x01), (24, 0xd4)]);
+    edits("ping6", |bytes| edit::set_hop_limit(bytes, 0), &[(21, 0x00)]);
+    edits("arp_request", |bytes| edit::set_hop_limit(bytes, 1), &[]);
+    edits("ping", |bytes| edit::set_dscp(bytes, 46), &[(15, 0xb8), (24, 0x94), (25, 0xb1)]);
+    edits("ping6", |bytes| edit::set_dscp(bytes, 46), &[(14, 0x6b), (15, 0x80)]);
+    edits("ping", |bytes| edit::set_dscp(bytes, 64), &[]);
+}
+
+#[test]
+fn addresses_and_ports_are_written() {
+    let after = [(24, 0x1b), (25, 0x61), (26, 0xcb), (28, 0x71), (29, 0x09), (40, 0x81), (41, 0x8a)];
+    edits("ping", |bytes| edit::set_addr(bytes, Side::Source, addr("203.0.113.9")), &after);
+    let after = [(43, 0x01), (53, 0x07), (71, 0x5b)];
+    edits("syn6", |bytes| edit::set_addr(bytes, Side::Destination, addr("2001:db8:1::7")), &after);
+    edits("syn6", |bytes| edit::set_addr(bytes, Side::Destination, addr("203.0.113.9")), &[]);
+    let after = [(34, 0x14), (35, 0xe9), (40, 0x88), (41, 0x11)];
+    edits("ping", |bytes| edit::set_port(bytes, Side::Source, 5353), &after);
+    let after = [(36, 0x1f), (37, 0x90), (50, 0xb9), (51, 0x7d)];
+    edits("syn", |bytes| edit::set_port(bytes, Side::Destination, 8080), &after);
+    edits("echo_request", |bytes| edit::set_port(bytes, Side::Source, 1), &[]);
+}
+
+#[test]
+fn other_bytes_are_written() {
+    edits("ping", |bytes| edit::set_bytes(bytes, 42, b"pong"), &[(41, 0x8c), (43, 0x6f)]);
+    edits("ping", |bytes| edit::set_bytes(bytes, 43, b"pong"), &[]);
+    edits("ping", |bytes| edit::set_bytes(bytes, 23, &[6]), &[]);
+}
+
+#[test]
+fn checksums_are_filled_in() {
+    edits("tcp4_left_to_device", edit::fill_checksum, &[(50, 0x96), (51, 0x9e)]);
+    edits("udp6_left_to_device", edit::fill_checksum, &[(60, 0xb5), (61, 0x6d)]);
+    edits("fragment4_first", edit::fill_checksum, &[]);
+}
