@@ -1,9 +1,9 @@
 -- A UDP packet that is read with a checksum is emitted unchanged.
-use Rattle.std.proofs.Common.{ℕ, ◌≡◌, ◌≢◌, ◌∙◌, ◌≤◌, ◌<◌, ◌+◌, ◌*◌, ◌-◌, ◌/◌, ◌%◌, ◌++◌, inl, inr, true, List, [], ◌∷◌, Some, ap, arith, length, length-append, refl, slice_index, slice_range, sum, sym, take}
-use Rattle.std.proofs.Math.Seq.{take-add}
+use Rattle.std.proofs.Common.{ℕ, ◌≡◌, ◌≢◌, ◌∙◌, ◌≤◌, ◌<◌, ◌+◌, ◌*◌, ◌-◌, ◌/◌, ◌%◌, ◌++◌, inl, inr, true, List, [], ◌∷◌, Option, None, Some, ap, arith, length, length-append, refl, slice_index, slice_range, sum, sym, take}
+use Rattle.std.proofs.Math.Seq.{take-add, take-length}
 use Rattle.byteorder.specs.Endian.{big_bytes}
 use Rattle.ip_wire.proofs.Layers.{length-part}
-use Rattle.ip_wire.proofs.UdpLayer.{AreWords, rebuilt-udp}
+use Rattle.ip_wire.proofs.UdpLayer.{AreWords, rebuilt-udp, rebuilt-udp-copied}
 use Rattle.ip_wire.specs.Frame.{rebuilt_transport_by}
 use Rattle.wire_checksum.proofs.Residues.{residue-bound, residue-quotient}
 use Rattle.wire_checksum.proofs.WordLists.{sum-words-append}
@@ -107,3 +107,12 @@ pub rebuilt-udp-kept : (src dst : IpAddress) (bytes : List ℕ) (v : UdpRepr) �
     → field bytes 48 16 ≢ 0 → rebuilt_transport_by protocol.Udp src dst bytes ≡ take (packet_len bytes) bytes
 rebuilt-udp-kept src dst bytes v h whole read some =
     rebuilt-udp src dst bytes v read ∙ bytes_of-read src dst bytes v h whole ((udp_of-Reads src dst true bytes v).0 read) some
+
+-- a packet with a checksum and no padding after it is rebuilt unchanged, whether it parses or not
+pub rebuilt-udp-whole : (src dst : IpAddress) (bytes : List ℕ) → AreBytes bytes → AreWords src dst → packet_len bytes ≡ length bytes
+    → field bytes 48 16 ≢ 0 → rebuilt_transport_by protocol.Udp src dst bytes ≡ bytes
+rebuilt-udp-whole src dst bytes h whole len some = by (udp_of src dst true bytes) refl
+  where
+    by : (o : Option UdpRepr) → udp_of src dst true bytes ≡ o → rebuilt_transport_by protocol.Udp src dst bytes ≡ bytes
+    by None unread = rebuilt-udp-copied src dst bytes unread
+    by (Some v) read = rebuilt-udp-kept src dst bytes v h whole read some ∙ ap (λ (n : ℕ). take n bytes) len ∙ take-length bytes

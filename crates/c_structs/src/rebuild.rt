@@ -1,9 +1,11 @@
 //! Rebuilding a whole frame.
 
-ghost use Rattle.std.specs.Prelude.{◌≡◌, ◌≤◌, Some, length};
+ghost use Rattle.std.specs.Prelude.{◌≡◌, ◌≢◌, ◌≤◌, IsTrue, Some, length};
+ghost use Rattle.ip_wire.specs.Field.{field};
 ghost use Rattle.ip_wire.specs.Frame.{rebuilt_transport_by, rebuilt_packet, rebuilt_payload, rebuilt_transport};
 ghost use Rattle.ip_wire.specs.Ip.{dst_addr_of, max_payload_len, next_header_of, src_addr_of};
 ghost use Rattle.ip_wire.specs.Protocol.{protocol_of};
+ghost use Rattle.ip_wire.specs.Udp.{packet_len};
 ghost use Rattle.ip_wire.specs.declared.EthernetProtocol.TheVariants.{Arp, Ipv4, Ipv6};
 ghost use Rattle.ip_wire.specs.declared.IpProtocol.TheVariants.{Tcp, Udp};
 ghost use Rattle.c_structs.specs.Frames.{rebuilt_of};
@@ -12,7 +14,8 @@ ghost use Rattle.c_structs.specs.Written.{Fills};
 use crate::tcp;
 use ip_wire::{
     ArpPacket, ArpRepr, ETHERNET_HEADER_LEN, EthernetFrame, EthernetProtocol, IpProtocol, IpRepr,
-    Ipv4Packet, Ipv4Repr, Ipv6Packet, Ipv6Repr, TcpPacket, TcpRepr, UdpPacket, UdpRepr,
+    Ipv4Packet, Ipv4Repr, Ipv6Packet, Ipv6Repr, TcpPacket, TcpRepr, UDP_HEADER_LEN, UdpPacket,
+    UdpRepr,
 };
 use net_base::ChecksumCapabilities;
 use wire_field::{array_at, try_copy, write_front};
@@ -139,6 +142,18 @@ fn rebuild_transport(header: &IpRepr, protocol: u8, bytes: &[u8], out: &mut [u8]
     }
 }
 
+// Whether a UDP packet has a checksum, and no padding after it.
+#[inline(always)]
+fn is_whole_udp(bytes: &[u8]) -> bool
+    ensures { IsTrue result → (packet_len bytes.now ≡ length bytes.now) × (field bytes.now 48 16 ≢ 0) }
+{
+    if bytes.len() < UDP_HEADER_LEN {
+        return false;
+    }
+    let packet = UdpPacket::new_unchecked(bytes);
+    usize::from(packet.len()) == bytes.len() && packet.checksum() != 0
+}
+
 // Rebuilds a UDP packet; copies it if it does not parse with its checksum.
 #[inline(always)]
 fn rebuild_udp(ip_header: &IpRepr, bytes: &[u8], out: &mut [u8]) -> Option<usize>
@@ -147,6 +162,10 @@ fn rebuild_udp(ip_header: &IpRepr, bytes: &[u8], out: &mut [u8]) -> Option<usize
 {
     let src_addr = ip_header.src_addr();
     let dst_addr = ip_header.dst_addr();
+    // Such a packet is copied whether it parses or not, so it is not summed.
+    if is_whole_udp(bytes) {
+        return try_copy(out, bytes);
+    }
     let caps = ChecksumCapabilities::default();
     let packet = UdpPacket::new_unchecked(bytes);
     match UdpRepr::parse(&packet, &src_addr, &dst_addr, &caps) {

@@ -1,4 +1,4 @@
-use Rattle.std.proofs.Common.{◌≡◌, ◌≢◌, ◌∙◌, ◌+◌, Some, None, length, rules, subst, sym, true}
+use Rattle.std.proofs.Common.{◌≡◌, ◌≢◌, ◌∙◌, ◌+◌, Some, None, length, refl, rules, subst, sym, true}
 use Rattle.ip_wire.proofs.UdpLayer.{AreWords, rebuilt-udp, rebuilt-udp-copied}
 use Rattle.ip_wire.specs.Field.{field}
 use Rattle.ip_wire.specs.Ip.{dst_addr_of, src_addr_of}
@@ -7,8 +7,18 @@ use Rattle.net_base.specs.Checksum.{computes, verifies}
 use Rattle.wire_field.proofs.Spelled.{AreBytes}
 use Rattle.wire_field.specs.Filled as filled
 use Rattle.c_structs.proofs.Framed.{length-udp}
-use Rattle.c_structs.proofs.UdpKept.{rebuilt-udp-kept}
+use Rattle.c_structs.proofs.UdpKept.{rebuilt-udp-kept, rebuilt-udp-whole}
 use Rattle.c_structs.proofs.rebuild.rebuild_udp.Goals as goal
+
+pub returns-then-is_whole_udp : goal.returns-then-is_whole_udp
+returns-then-is_whole_udp c =
+    let src = src_addr_of c.args.ip_header.now in
+    let dst = dst_addr_of c.args.ip_header.now in
+    let bytes = c.args.bytes.now in
+    let are : AreBytes bytes = λ i. (c.type_inv.bytes i).fits in
+    let words : AreWords src dst = record { src_bytes = search rules; dst_bytes = search rules } in
+    let (len, some) = c.if-is_whole_udp.ensures refl in
+    rw (rebuilt-udp-whole src dst bytes are words len some) c.try_copy.ensures
 
 pub returns-in-Ok : goal.returns-in-Ok
 returns-in-Ok c =
@@ -36,7 +46,7 @@ returns-in-Ok-2 c =
     let sum : c.checksum.result ≡ field bytes 48 16 = rw c.new_unchecked-packet.ensures at c.checksum.ensures in
     let some : field bytes 48 16 ≢ 0 = rw (← sum) c.if-checksum-eq0.false in
     let len : c.from.result ≡ packet_len bytes = c.from.ensures ∙ rw c.new_unchecked-packet.ensures at c.len.ensures in
-    rw (rebuilt-udp-kept src dst bytes c.in-Ok.header are words read some, ← len) c.try_copy.ensures
+    rw (rebuilt-udp-kept src dst bytes c.in-Ok.header are words read some, ← len) c.try_copy-in-Ok-2.ensures
 
 pub returns-in-Err : goal.returns-in-Err
 returns-in-Err c =
