@@ -25,6 +25,7 @@ mod StoredFrame
 mod StoredHeaders
 mod StoredParts
 mod TcpFronts
+mod TcpKept
 mod TcpResummed
 mod UdpKept
 mod WrittenOnce

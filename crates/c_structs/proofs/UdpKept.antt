@@ -52,7 +52,7 @@ sum-words-checksum v src dst payload checksum whole fits =
     )
 
 -- the bytes of a number that two bytes spell
-pair : (a b n : ℕ) → a < 256 → b < 256 → n ≡ 256 * a + b → big_bytes 2 n ≡ a ∷ b ∷ []
+pub pair : (a b n : ℕ) → a < 256 → b < 256 → n ≡ 256 * a + b → big_bytes 2 n ≡ a ∷ b ∷ []
 pair a b n fits_a fits_b is =
     let high : n / 256 % 256 ≡ a = omega (arith, is, fits_a, fits_b) in
     let low : n % 256 ≡ b = omega (arith, is, fits_a, fits_b) in

@@ -20,6 +20,7 @@ mod rebuild;
 mod results;
 mod tcp;
 mod tcp_bytes;
+mod tcp_kept;
 mod tcp_len;
 mod tcp_options;
 mod tcp_steps;

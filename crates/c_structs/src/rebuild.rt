@@ -11,7 +11,7 @@ ghost use Rattle.ip_wire.specs.declared.IpProtocol.TheVariants.{Tcp, Udp};
 ghost use Rattle.c_structs.specs.Frames.{rebuilt_of};
 ghost use Rattle.c_structs.specs.Written.{Fills};
 
-use crate::tcp;
+use crate::{tcp, tcp_kept};
 use ip_wire::{
     ArpPacket, ArpRepr, ETHERNET_HEADER_LEN, EthernetFrame, EthernetProtocol, IpProtocol, IpRepr,
     Ipv4Packet, Ipv4Repr, Ipv6Packet, Ipv6Repr, TcpPacket, TcpRepr, UDP_HEADER_LEN, UdpPacket,
@@ -186,6 +186,10 @@ fn rebuild_tcp(ip_header: &IpRepr, bytes: &[u8], out: &mut [u8]) -> Option<usize
 {
     let src_addr = ip_header.src_addr();
     let dst_addr = ip_header.dst_addr();
+    // Such a segment is copied whether it parses or not, so it is not summed.
+    if tcp_kept::is_bare(bytes) {
+        return try_copy(out, bytes);
+    }
     let caps = ChecksumCapabilities::default();
     let packet = TcpPacket::new_unchecked(bytes);
     match TcpRepr::parse(&packet, &src_addr, &dst_addr, &caps) {

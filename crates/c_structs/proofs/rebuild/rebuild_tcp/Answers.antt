@@ -1,12 +1,24 @@
-use Rattle.std.proofs.Common.{◌≡◌, ◌∙◌, Some, None, false, true, rules}
+use Rattle.std.proofs.Common.{◌≡◌, ◌∙◌, Some, None, false, refl, true, rules}
 use Rattle.ip_wire.proofs.TcpLayer.{rebuilt-tcp, rebuilt-tcp-copied}
 use Rattle.ip_wire.proofs.UdpLayer.{AreWords}
 use Rattle.ip_wire.specs.Ip.{dst_addr_of, src_addr_of}
 use Rattle.ip_wire.specs.Tcp.{header_len, payload_of}
 use Rattle.ip_wire.specs.TcpRepr.{Reads, header_of, tcp_of}
 use Rattle.net_base.specs.Checksum.{computes, verifies}
+use Rattle.wire_field.proofs.Spelled.{AreBytes}
+use Rattle.c_structs.proofs.TcpKept.{rebuilt-bare}
 use Rattle.c_structs.proofs.TcpResummed.{fills-None, fills-Some, header-room}
 use Rattle.c_structs.proofs.rebuild.rebuild_tcp.Goals as goal
+
+pub returns-then-is_bare : goal.returns-then-is_bare
+returns-then-is_bare c =
+    let src = src_addr_of c.args.ip_header.now in
+    let dst = dst_addr_of c.args.ip_header.now in
+    let bytes = c.args.bytes.now in
+    let are : AreBytes bytes = λ i. (c.type_inv.bytes i).fits in
+    let words : AreWords src dst = record { src_bytes = search rules; dst_bytes = search rules } in
+    let (plain, size) = c.if-is_bare.ensures refl in
+    rw (rebuilt-bare src dst bytes are words plain size) c.try_copy.ensures
 
 pub returns-in-Some : goal.returns-in-Some
 returns-in-Some c =
@@ -50,4 +62,4 @@ returns-in-Err c =
     let bytes = c.args.bytes.now in
     let verified : verifies c.default-caps.result.tcp ≡ true = search rules in
     let unread : tcp_of src dst true bytes ≡ None = rw (verified, c.new_unchecked-packet.ensures, c.src_addr-src_addr.ensures, c.dst_addr-dst_addr.ensures) at c.in-Err.ensures.value in
-    rw (rebuilt-tcp-copied src dst bytes unread) c.try_copy.ensures
+    rw (rebuilt-tcp-copied src dst bytes unread) c.try_copy-in-Err.ensures
