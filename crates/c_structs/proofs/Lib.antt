@@ -27,5 +27,6 @@ mod StoredParts
 mod TcpFronts
 mod TcpKept
 mod TcpResummed
+mod TcpStamped
 mod UdpKept
 mod WrittenOnce

@@ -1,8 +1,11 @@
 -- A TCP segment that is emitted as it was read.
-use Rattle.std.proofs.Common.{ℕ, ◌≡◌, ◌∙◌, ◌≤◌, ◌<◌, ◌+◌, ◌*◌, ◌-◌, ◌%◌, ◌++◌, inl, inr, true, List, [], ◌∷◌, Option, None, Some, ap, append-nil, arith, drop, length, length-append, refl, slice_index, slice_range, sum, sym, take, w32}
+use Rattle.std.proofs.Common.{ℕ, ◌≡◌, ◌∙◌, ◌≤◌, ◌<◌, ◌+◌, ◌*◌, ◌-◌, ◌%◌, ◌++◌, ◌⊎◌, inl, inr, true, List, [], ◌∷◌, Option, None, Some, ap, append_assoc, append-nil, arith, drop, length, length-append, refl, slice_index, slice_range, sum, sym, take, w32}
 use Rattle.std.proofs.lemmas.Bool.{cases_lt}
 use Rattle.std.proofs.lemmas.Int.{of_z-to_z}
-use Rattle.byteorder.specs.Endian.{big_bytes}
+use Rattle.std.proofs.lemmas.Bool.Decides.{nat_tests}
+use Rattle.std.proofs.lemmas.Grind.{common_steps}
+use Rattle.std.proofs.lemmas.List.{drop-drop, take-append-drop}
+use Rattle.byteorder.specs.Endian.{big_bytes, big_number}
 use Rattle.ip_wire.proofs.TcpLayer.{rebuilt-tcp, rebuilt-tcp-copied}
 use Rattle.ip_wire.proofs.UdpLayer.{AreWords}
 use Rattle.ip_wire.specs.Frame.{rebuilt_transport_by}
@@ -20,22 +23,22 @@ use Rattle.wire_tcp.proofs.TcpComputed.{reads-with, reads_once, tcp_of-Reads}
 use Rattle.wire_tcp.proofs.TcpEmitted.{length-header_bytes}
 use Rattle.wire_tcp.specs.Tcp.{header_len, options_of, payload_of, segment_sum}
 use Rattle.wire_tcp.specs.TcpRepr.{HasControl, Reads, TcpHeader, ack_bits, bytes_of, flag_of, header_bytes, header_with, offset_and_flags, option_bytes, segment_with, seq_of, tcp_of}
-use Rattle.wire_tcp_parts.specs.TcpItems.{IsOptionList, Item}
+use Rattle.wire_tcp_parts.specs.TcpItems.{IsItem, IsOptionList, Item, item}
 use Rattle.wire_tcp_parts.specs.TcpSeq.{number}
 use Rattle.wire_tcp_parts.specs.declared.tcp.control.TcpControl.{TcpControl}
 use Rattle.wire_tcp_parts.specs.declared.tcp.control.TcpControl.TheVariants as control
 use Rattle.c_structs.proofs.UdpKept.{pair}
-use Rattle.c_structs.specs.TcpKept.{IsAck, IsPlain}
+use Rattle.c_structs.specs.TcpKept.{HasStamp, IsAck, IsPlain}
 
 -- ---- the values that are read
 
 -- the flags are those of ACK and of a control
-record HasAck (bytes : List ℕ) (asked : TcpControl) : Type 0 where
+pub record HasAck (bytes : List ℕ) (asked : TcpControl) : Type 0 where
   pub control : HasControl bytes asked
   pub flags : field bytes 100 12 ≡ 16 + flag_of asked
   pub ack : field bytes 107 1 ≡ 1
 
-control-of : (bytes : List ℕ) → AreBytes bytes → IsAck (field bytes 100 12) → (asked : TcpControl) × HasAck bytes asked
+pub control-of : (bytes : List ℕ) → AreBytes bytes → IsAck (field bytes 100 12) → (asked : TcpControl) × HasAck bytes asked
 control-of bytes h is = elim is [
   | inl none ↦ (control.None, record { control = (record { rst = omega (arith, none); syn = omega (arith, none); fin = omega (arith, none) }, omega (arith, none)); flags = none; ack = omega (arith, none) })
   | inr (inl fin) ↦ (control.Fin, record { control = record { rst = omega (arith, fin); syn = omega (arith, fin); fin = omega (arith, fin) }; flags = fin; ack = omega (arith, fin) })
@@ -45,7 +48,7 @@ control-of bytes h is = elim is [
 ]
 
 -- the values of a header with ACK, this control and these items
-abbrev acked : List ℕ → TcpControl → List Item → TcpHeader
+abbrev pub acked : List ℕ → TcpControl → List Item → TcpHeader
 acked bytes asked items = record (header_with bytes asked items) { ack_number = Some (seq_of (field bytes 64 32)) }
 
 values-read : (src dst : IpAddress) (bytes tail : List ℕ) (v : TcpHeader) (asked : TcpControl) (items : List Item) → Reads bytes src dst true v (payload_of bytes)
@@ -58,7 +61,7 @@ values-read src dst bytes tail v asked items r has list =
 -- ---- the header that is emitted for them
 
 -- the bytes of a number that four bytes spell
-quad : (a b c d n : ℕ) → a < 256 → b < 256 → c < 256 → d < 256 → n ≡ 16777216 * a + 65536 * b + 256 * c + d → big_bytes 4 n ≡ a ∷ b ∷ c ∷ d ∷ []
+pub quad : (a b c d n : ℕ) → a < 256 → b < 256 → c < 256 → d < 256 → n ≡ 16777216 * a + 65536 * b + 256 * c + d → big_bytes 4 n ≡ a ∷ b ∷ c ∷ d ∷ []
 quad a b c d n fits_a fits_b fits_c fits_d is = grind (arith, fits_a, fits_b, fits_c, fits_d, is)
 
 -- the number of a sequence number
@@ -69,9 +72,9 @@ joined : (s d q k o w s' d' q' k' o' w' rest : List ℕ) → s ≡ s' → d ≡ 
     → s ++ d ++ q ++ k ++ o ++ w ++ rest ≡ s' ++ d' ++ q' ++ k' ++ o' ++ w' ++ rest
 joined s d q k o w s' d' q' k' o' w' rest es ed eq ek eo ew = rw (es, ed, eq, ek, eo, ew) refl
 
-header_bytes-read : (bytes : List ℕ) (asked : TcpControl) (items : List Item) (x : ℕ) → AreBytes bytes → 20 ≤ length bytes
+pub header_bytes-read : (bytes : List ℕ) (asked : TcpControl) (items : List Item) (x : ℕ) → AreBytes bytes → 20 ≤ length bytes
     → offset_and_flags (acked bytes asked items) ≡ field bytes 96 16
-    → header_bytes (acked bytes asked items) x ≡ take 16 bytes ++ big_bytes 2 x ++ 0 ∷ 0 ∷ option_bytes (acked bytes asked items)
+    → header_bytes (acked bytes asked items) x ≡ take 16 bytes ++ (big_bytes 2 x ++ 0 ∷ 0 ∷ option_bytes (acked bytes asked items))
 header_bytes-read bytes asked items x h least offset =
     let v = acked bytes asked items in
     let at = slice_index bytes in
@@ -110,7 +113,7 @@ sum-words-header v checksum fits =
 length-segment : (v : TcpHeader) (p : List ℕ) (x : ℕ) → length (segment_with v p x) ≡ length (segment_with v p 0)
 length-segment v p x = length-append (header_bytes v x) p ∙ ap (λ (n : ℕ). n + length p) (length-header_bytes v x ∙ sym (length-header_bytes v 0)) ∙ sym (length-append (header_bytes v 0) p)
 
-sum-words-checksum : (v : TcpHeader) (src dst : IpAddress) (p : List ℕ) (checksum : ℕ) → AreWords src dst → checksum < 65536
+pub sum-words-checksum : (v : TcpHeader) (src dst : IpAddress) (p : List ℕ) (checksum : ℕ) → AreWords src dst → checksum < 65536
     → sum (words (with_pseudo_header src dst protocol.Tcp (segment_with v p checksum))) ≡ sum (words (with_pseudo_header src dst protocol.Tcp (segment_with v p 0))) + checksum
 sum-words-checksum v src dst p checksum whole fits =
     let even : (x : ℕ) → length (header_bytes v x) % 2 ≡ 0 = λ x. ap (λ (m : ℕ). m % 2) (length-header_bytes v x) ∙ omega arith in
@@ -125,7 +128,7 @@ sum-words-checksum v src dst p checksum whole fits =
     )
 
 -- at most one number but 0xffff completes a total to 0xffff
-only_checksum : (total c : ℕ) → c < 65535 → residue (total + c) ≡ 65535 → 65535 - residue total ≡ c
+pub only_checksum : (total c : ℕ) → c < 65535 → residue (total + c) ≡ 65535 → 65535 - residue total ≡ c
 only_checksum total c fits full =
     let (k, before) = residue-quotient total in
     let (j, after) = residue-quotient (total + c) in
@@ -148,37 +151,107 @@ bytes_of-read v src dst p bytes c whole fits same valid =
     ap (λ (l : List ℕ). 65535 - segment_sum src dst l) (append-nil (segment_with v p 0)) ∙ only_checksum total c fits full in
     ap (segment_with v p) is ∙ same
 
--- ---- a header without options
+-- ---- a segment whose options are those that are emitted
 
-bare-segment : (bytes : List ℕ) (asked : TcpControl) → AreBytes bytes → IsPlain bytes → header_len bytes ≡ 20 → HasAck bytes asked
-    → segment_with (acked bytes asked []) (payload_of bytes) (field bytes 128 16) ≡ bytes
-bare-segment bytes asked h plain size has =
+-- two parts that meet
+from-20 : (bytes : List ℕ) (n : ℕ) → 20 ≤ n → slice_range bytes 20 n ++ drop n bytes ≡ drop 20 bytes
+from-20 bytes n some =
+    ap (λ (l : List ℕ). take (n - 20) (drop 20 bytes) ++ l) (ap (λ (k : ℕ). drop k bytes) (omega (arith, some)) ∙ sym (drop-drop (n - 20) 20 bytes))
+    ∙ take-append-drop (n - 20) (drop 20 bytes)
+
+segment-read : (bytes : List ℕ) (asked : TcpControl) (items : List Item) → AreBytes bytes → IsPlain bytes → 20 ≤ header_len bytes
+    → offset_and_flags (acked bytes asked items) ≡ field bytes 96 16 → option_bytes (acked bytes asked items) ≡ options_of bytes
+    → segment_with (acked bytes asked items) (payload_of bytes) (field bytes 128 16) ≡ bytes
+segment-read bytes asked items h plain size offset options =
     let least = plain.least in
-    let offset : offset_and_flags (acked bytes asked []) ≡ field bytes 96 16 = omega (arith, size, has.flags) in
-    let sum : big_bytes 2 (field bytes 128 16) ≡ slice_index bytes 16 ∷ slice_index bytes 17 ∷ [] = pair (slice_index bytes 16) (slice_index bytes 17) _ (h 16) (h 17) (omega arith) in
-    let high : slice_index bytes 18 ≡ 0 = omega (arith, plain.urgent_at) in
-    let low : slice_index bytes 19 ≡ 0 = omega (arith, plain.urgent_at) in
-    ap (λ (l : List ℕ). l ++ payload_of bytes) (header_bytes-read bytes asked [] (field bytes 128 16) h least offset)
-    ∙ ap (λ (w : List ℕ). (take 16 bytes ++ w ++ 0 ∷ 0 ∷ []) ++ payload_of bytes) sum
-    ∙ ap (λ (n : ℕ). (take 16 bytes ++ (slice_index bytes 16 ∷ slice_index bytes 17 ∷ []) ++ 0 ∷ 0 ∷ []) ++ drop n bytes) size
-    ∙ ap (λ (n : ℕ). (take 16 bytes ++ (slice_index bytes 16 ∷ slice_index bytes 17 ∷ []) ++ n ∷ 0 ∷ []) ++ drop 20 bytes) (sym high)
-    ∙ ap (λ (n : ℕ). (take 16 bytes ++ (slice_index bytes 16 ∷ slice_index bytes 17 ∷ []) ++ slice_index bytes 18 ∷ n ∷ []) ++ drop 20 bytes) (sym low)
-    ∙ rw (cells-drop 20 bytes least) refl
+    let at = slice_index bytes in
+    let sum : big_bytes 2 (field bytes 128 16) ≡ at 16 ∷ at 17 ∷ [] = pair (at 16) (at 17) _ (h 16) (h 17) (omega arith) in
+    let high : at 18 ≡ 0 = omega (arith, plain.urgent_at) in
+    let low : at 19 ≡ 0 = omega (arith, plain.urgent_at) in
+    let header : header_bytes (acked bytes asked items) (field bytes 128 16) ≡ take 16 bytes ++ at 16 ∷ at 17 ∷ at 18 ∷ at 19 ∷ options_of bytes =
+    header_bytes-read bytes asked items (field bytes 128 16) h least offset
+    ∙ ap (λ (w : List ℕ). take 16 bytes ++ (w ++ 0 ∷ 0 ∷ option_bytes (acked bytes asked items))) sum
+    ∙ ap (λ (m : ℕ). take 16 bytes ++ at 16 ∷ at 17 ∷ m ∷ 0 ∷ option_bytes (acked bytes asked items)) (sym high)
+    ∙ ap (λ (m : ℕ). take 16 bytes ++ at 16 ∷ at 17 ∷ at 18 ∷ m ∷ option_bytes (acked bytes asked items)) (sym low)
+    ∙ ap (λ (l : List ℕ). take 16 bytes ++ at 16 ∷ at 17 ∷ at 18 ∷ at 19 ∷ l) options in
+    let whole : take 16 bytes ++ at 16 ∷ at 17 ∷ at 18 ∷ at 19 ∷ drop 20 bytes ≡ bytes = rw (cells-drop 20 bytes least) refl in
+    ap (λ (l : List ℕ). l ++ payload_of bytes) header
+    ∙ append_assoc (take 16 bytes) (at 16 ∷ at 17 ∷ at 18 ∷ at 19 ∷ options_of bytes) (payload_of bytes)
+    ∙ ap (λ (l : List ℕ). take 16 bytes ++ at 16 ∷ at 17 ∷ at 18 ∷ at 19 ∷ l) (from-20 bytes (header_len bytes) size)
+    ∙ whole
 
-no-options : (bytes : List ℕ) → header_len bytes ≡ 20 → IsOptionList (options_of bytes) [] []
-no-options bytes size = record { each = search; joined = ap (λ (n : ℕ). slice_range bytes 20 n) size; ended = search }
-
--- a segment without options and with a plain header is rebuilt unchanged, whether it parses or not
-pub rebuilt-bare : (src dst : IpAddress) (bytes : List ℕ) → AreBytes bytes → AreWords src dst → IsPlain bytes → header_len bytes ≡ 20
+-- such a segment is rebuilt unchanged, whether it parses or not
+rebuilt-read : (src dst : IpAddress) (bytes : List ℕ) (asked : TcpControl) (items : List Item) (tail : List ℕ) → AreBytes bytes → AreWords src dst → IsPlain bytes → HasAck bytes asked
+    → 20 ≤ header_len bytes → IsOptionList (options_of bytes) items tail → offset_and_flags (acked bytes asked items) ≡ field bytes 96 16 → option_bytes (acked bytes asked items) ≡ options_of bytes
     → rebuilt_transport_by protocol.Tcp src dst bytes ≡ bytes
-rebuilt-bare src dst bytes h whole plain size = by (tcp_of src dst true bytes) refl
+rebuilt-read src dst bytes asked items tail h whole plain has size list offset options = by (tcp_of src dst true bytes) refl
   where
     by : (o : Option TcpHeader) → tcp_of src dst true bytes ≡ o → rebuilt_transport_by protocol.Tcp src dst bytes ≡ bytes
     by None unread = rebuilt-tcp-copied src dst bytes unread
     by (Some v) read =
         let r = (tcp_of-Reads src dst true bytes v).0 read in
-        let (asked, has) = control-of bytes h plain.flags in
-        let is = values-read src dst bytes [] v asked [] r has (no-options bytes size) in
+        let is = values-read src dst bytes tail v asked items r has list in
         let fits : field bytes 128 16 < 65535 = omega (arith, plain.checksum) in
         rebuilt-tcp src dst bytes v read ∙ ap (λ (w : TcpHeader). bytes_of w (payload_of bytes) src dst true []) is
-        ∙ bytes_of-read (acked bytes asked []) src dst (payload_of bytes) bytes (field bytes 128 16) whole fits (bare-segment bytes asked h plain size has) (r.checksum refl)
+        ∙ bytes_of-read (acked bytes asked items) src dst (payload_of bytes) bytes (field bytes 128 16) whole fits (segment-read bytes asked items h plain size offset options) (r.checksum refl)
+
+-- ---- no options, or a timestamp
+
+bare-list : (bytes : List ℕ) → header_len bytes ≡ 20 → IsOptionList (options_of bytes) [] []
+bare-list bytes size = record { each = search; joined = ap (λ (n : ℕ). slice_range bytes 20 n) size; ended = search }
+
+rebuilt-bare : (src dst : IpAddress) (bytes : List ℕ) → AreBytes bytes → AreWords src dst → IsPlain bytes → header_len bytes ≡ 20
+    → rebuilt_transport_by protocol.Tcp src dst bytes ≡ bytes
+rebuilt-bare src dst bytes h whole plain size =
+    let (asked, has) = control-of bytes h plain.flags in
+    rebuilt-read src dst bytes asked [] [] h whole plain has (omega (arith, size)) (bare-list bytes size)
+    (omega (arith, size, has.flags)) (ap (λ (n : ℕ). slice_range bytes 20 n) (sym size))
+
+-- eight bytes from index n on
+abbrev pub eight : List ℕ → ℕ → List ℕ
+eight bytes n =
+    slice_index bytes n ∷ slice_index bytes (n + 1) ∷ slice_index bytes (n + 2) ∷ slice_index bytes (n + 3)
+    ∷ slice_index bytes (n + 4) ∷ slice_index bytes (n + 5) ∷ slice_index bytes (n + 6) ∷ slice_index bytes (n + 7) ∷ []
+
+-- the option that is emitted for a timestamp with these bytes
+pub stamp-bytes : (bytes : List ℕ) (n : ℕ) → AreBytes bytes
+    → big_bytes 4 (big_number 4 (eight bytes n)) ++ big_bytes 4 (big_number 4 (drop 4 (eight bytes n))) ≡ eight bytes n
+stamp-bytes bytes n h =
+    let at = slice_index bytes in
+    let value = quad (at n) (at (n + 1)) (at (n + 2)) (at (n + 3)) (big_number 4 (eight bytes n)) (h n) (h (n + 1)) (h (n + 2)) (h (n + 3)) (omega arith) in
+    let echo = quad (at (n + 4)) (at (n + 5)) (at (n + 6)) (at (n + 7)) (big_number 4 (drop 4 (eight bytes n))) (h (n + 4)) (h (n + 5)) (h (n + 6)) (h (n + 7)) (omega arith) in
+    ap (λ (l : List ℕ). l ++ big_bytes 4 (big_number 4 (drop 4 (eight bytes n)))) value
+    ∙ ap (λ (l : List ℕ). (at n ∷ at (n + 1) ∷ at (n + 2) ∷ at (n + 3) ∷ []) ++ l) echo
+
+pub IsItem-stamp : (t : List ℕ) → length t ≡ 8 → IsItem (item 8 t)
+IsItem-stamp t size = grind (arith, common_steps, nat_tests)
+
+stamp-options : (bytes : List ℕ) → AreBytes bytes → HasStamp bytes → options_of bytes ≡ 8 ∷ 10 ∷ (eight bytes 22 ++ 0 ∷ 0 ∷ [])
+stamp-options bytes h s =
+    let whole = s.whole in
+    let at = slice_index bytes in
+    let cells : slice_range bytes 20 32 ≡ at 20 ∷ at 21 ∷ (eight bytes 22 ++ at 30 ∷ at 31 ∷ []) = rw (cells-drop 32 bytes whole) refl in
+    let kind : at 20 ≡ 8 = omega (arith, s.kind, h 20, h 21) in
+    let size : at 21 ≡ 10 = omega (arith, s.kind, h 20, h 21) in
+    let high : at 30 ≡ 0 = omega (arith, s.ended, h 30, h 31) in
+    let low : at 31 ≡ 0 = omega (arith, s.ended, h 30, h 31) in
+    ap (λ (n : ℕ). slice_range bytes 20 n) s.size ∙ cells ∙ ap (λ (k : ℕ). k ∷ at 21 ∷ (eight bytes 22 ++ at 30 ∷ at 31 ∷ [])) kind
+    ∙ ap (λ (k : ℕ). 8 ∷ k ∷ (eight bytes 22 ++ at 30 ∷ at 31 ∷ [])) size ∙ ap (λ (k : ℕ). 8 ∷ 10 ∷ (eight bytes 22 ++ k ∷ at 31 ∷ [])) high
+    ∙ ap (λ (k : ℕ). 8 ∷ 10 ∷ (eight bytes 22 ++ 0 ∷ k ∷ [])) low
+
+rebuilt-stamp : (src dst : IpAddress) (bytes : List ℕ) → AreBytes bytes → AreWords src dst → IsPlain bytes → HasStamp bytes
+    → rebuilt_transport_by protocol.Tcp src dst bytes ≡ bytes
+rebuilt-stamp src dst bytes h whole plain s =
+    let (asked, has) = control-of bytes h plain.flags in
+    let stamp = item 8 (eight bytes 22) in
+    let list : IsOptionList (options_of bytes) (stamp ∷ []) (0 ∷ 0 ∷ []) = record { each = (IsItem-stamp (eight bytes 22) refl, search); joined = stamp-options bytes h s; ended = refl } in
+    let size = s.size in
+    let options : option_bytes (acked bytes asked (stamp ∷ [])) ≡ 8 ∷ 10 ∷ (eight bytes 22 ++ 0 ∷ 0 ∷ []) =
+    ap (λ (t : List ℕ). 8 ∷ 10 ∷ (t ++ 0 ∷ 0 ∷ [])) (stamp-bytes bytes 22 h) in
+    rebuilt-read src dst bytes asked (stamp ∷ []) (0 ∷ 0 ∷ []) h whole plain has (omega (arith, size)) list (omega (arith, size, has.flags))
+    (options ∙ sym (stamp-options bytes h s))
+
+pub rebuilt-kept : (src dst : IpAddress) (bytes : List ℕ) → AreBytes bytes → AreWords src dst → IsPlain bytes → (header_len bytes ≡ 20) ⊎ HasStamp bytes
+    → rebuilt_transport_by protocol.Tcp src dst bytes ≡ bytes
+rebuilt-kept src dst bytes h whole plain (inl size) = rebuilt-bare src dst bytes h whole plain size
+rebuilt-kept src dst bytes h whole plain (inr s) = rebuilt-stamp src dst bytes h whole plain s

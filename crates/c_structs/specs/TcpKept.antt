@@ -1,6 +1,9 @@
 -- TCP headers that are rebuilt from their bytes.
-use Rattle.std.specs.Prelude.{ℕ, ◌≡◌, ◌≢◌, ◌≤◌, ◌⊎◌, List, length}
-use Rattle.ip_wire.specs.Field.{field}
+use Rattle.std.specs.Prelude.{ℕ, ◌≡◌, ◌≢◌, ◌≤◌, ◌⊎◌, List, [], ◌∷◌, length, slice_range}
+use Rattle.ip_wire.specs.Field.{field, with_field, with_range}
+use Rattle.ip_wire.specs.Tcp.{Verifies, header_len}
+use Rattle.ip_wire.specs.WordSum.{updated}
+use Rattle.ip_wire.specs.declared.IpAddress.{IpAddress}
 
 -- Pinned by: proof of `rebuild_frame`; `judge`
 -- the flags are ACK and at most one of PSH, RST, SYN and FIN
@@ -15,3 +18,33 @@ pub record IsPlain (bytes : List ℕ) : Type 0 where
   pub flags : IsAck (field bytes 100 12)
   pub urgent_at : field bytes 144 16 ≡ 0
   pub checksum : field bytes 128 16 ≢ 0xffff
+
+-- Pinned by: proof of `rebuild_frame`; `judge`
+-- the segment has a header, its ports are not 0, and its checksum is valid
+pub record IsSound (src dst : IpAddress) (bytes : List ℕ) : Type 0 where
+  pub least : 20 ≤ length bytes
+  pub sender : field bytes 0 16 ≢ 0
+  pub receiver : field bytes 16 16 ≢ 0
+  pub checksum : Verifies src dst bytes
+
+-- Pinned by: proof of `rebuild_frame`; `judge`
+-- the options are a timestamp and two zeros, as they are emitted
+pub record HasStamp (bytes : List ℕ) : Type 0 where
+  pub whole : 32 ≤ length bytes
+  pub size : header_len bytes ≡ 32
+  pub kind : field bytes 160 16 ≡ 0x080a
+  pub ended : field bytes 240 16 ≡ 0
+
+-- Pinned by: proof of `rebuild_frame`; `judge`
+-- the options are two bytes of no operation and a timestamp (RFC 7323, appendix A)
+pub record HasPaddedStamp (bytes : List ℕ) : Type 0 where
+  pub whole : 32 ≤ length bytes
+  pub size : header_len bytes ≡ 32
+  pub kinds : field bytes 160 32 ≡ 0x0101080a
+
+-- Pinned by: proof of `rebuild_frame`; `judge`
+-- the segment with two zeros after the timestamp instead of the bytes of no operation before it
+abbrev pub with_stamp_first : List ℕ → List ℕ → List ℕ
+with_stamp_first header bytes =
+    let moved = with_range (with_range bytes 20 30 (slice_range header 22 32)) 30 32 (0 ∷ 0 ∷ []) in
+    with_field moved 128 16 (updated (field header 128 16) 0x0101 0)

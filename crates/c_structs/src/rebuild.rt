@@ -186,24 +186,27 @@ fn rebuild_tcp(ip_header: &IpRepr, bytes: &[u8], out: &mut [u8]) -> Option<usize
 {
     let src_addr = ip_header.src_addr();
     let dst_addr = ip_header.dst_addr();
-    // Such a segment is copied whether it parses or not, so it is not summed.
-    if tcp_kept::is_bare(bytes) {
+    // A segment that is kept is copied whether it parses or not, so it is not summed.
+    if tcp_kept::is_kept(bytes) {
         return try_copy(out, bytes);
     }
-    let caps = ChecksumCapabilities::default();
+    if !tcp_kept::is_sound(bytes, &src_addr, &dst_addr) {
+        return try_copy(out, bytes);
+    }
+    if tcp_kept::is_stamped(bytes) {
+        return tcp_kept::copy_stamped(bytes, out);
+    }
+    let unsummed = ChecksumCapabilities::ignored();
     let packet = TcpPacket::new_unchecked(bytes);
-    match TcpRepr::parse(&packet, &src_addr, &dst_addr, &caps) {
-        Ok(segment) => {
-            let unsummed = ChecksumCapabilities::ignored();
-            match segment.try_emit(out, &src_addr, &dst_addr, &unsummed) {
-                Some(len) => {
-                    let old = &bytes[..usize::from(packet.header_len())];
-                    tcp::put_checksum(old, bytes.len(), segment.header_len(), len, out);
-                    Some(len)
-                }
-                None => None,
+    match TcpRepr::parse(&packet, &src_addr, &dst_addr, &unsummed) {
+        Ok(segment) => match segment.try_emit(out, &src_addr, &dst_addr, &unsummed) {
+            Some(len) => {
+                let old = &bytes[..usize::from(packet.header_len())];
+                tcp::put_checksum(old, bytes.len(), segment.header_len(), len, out);
+                Some(len)
             }
-        }
+            None => None,
+        },
         Err(_) => try_copy(out, bytes),
     }
 }
