@@ -1,3 +1,4 @@
+mod ArpKept
 pub mod CapturedOf
 mod CutArp
 mod CutBytes

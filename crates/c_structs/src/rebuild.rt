@@ -20,6 +20,9 @@ use ip_wire::{
 use net_base::ChecksumCapabilities;
 use wire_field::{array_at, try_copy, write_front};
 
+// The length of an ARP packet for Ethernet and IPv4.
+const ARP_LEN: usize = 28;
+
 // The byte of the protocol number in an IPv4 header (RFC 791, section 3.1), and of the next header in an
 // IPv6 header (RFC 8200, section 3).
 const IPV4_PROTOCOL: usize = 9;
@@ -63,7 +66,8 @@ fn rebuild_arp(bytes: &[u8], out: &mut [u8]) -> Option<usize>
     ensures { Fills (Some (rebuilt_payload Arp bytes.now)) out.old out.new result }
 {
     match ArpRepr::parse(&ArpPacket::new_unchecked(bytes)) {
-        Ok(value) => value.try_emit(out),
+        // It is emitted as it was read, without padding.
+        Ok(_) => try_copy(out, &bytes[..ARP_LEN]),
         Err(_) => try_copy(out, bytes),
     }
 }
