@@ -19,6 +19,7 @@ pub mod InFrame
 mod Ipv4Words
 mod Ipv6Words
 mod Numbered
+mod OnlyTimestamp
 mod PlacedSums
 mod RejectedApart
 mod Steps

@@ -15,6 +15,11 @@ pub record ReadsItems (bytes : List ℕ) (items : List Item) : Type 0 where
   pub tail : List ℕ
   pub list : IsOptionList (options_of bytes) items tail
 
+-- Pinned by: proof of `read`; `worked/options`
+-- the bytes are a list of these items
+abbrev pub IsListed : List ℕ → List Item → Type 0
+IsListed bytes items = (tail : List ℕ) × IsOptionList bytes items tail
+
 -- Pinned by: `worked/options`, `worked/write`
 -- the struct of a SACK range; zeros if there is none
 abbrev pub range_of : Option (ℕ × ℕ) → SackRange

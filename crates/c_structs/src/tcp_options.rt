@@ -1,16 +1,26 @@
 //! The options of a TCP header, stored in the struct of C.
 
-ghost use Rattle.std.specs.Prelude.{◌≡◌, List, pos};
-ghost use Rattle.ip_wire.specs.TcpItems.{Item};
-ghost use Rattle.ip_wire.specs.TcpSummary.{summary_of};
-ghost use Rattle.c_structs.specs.TcpOptions.{ReadsItems, range_of, tcp_options_of};
+ghost use Rattle.std.specs.Prelude.{◌≡◌, [], ◌∷◌, IfSome, List, length, pos};
+ghost use Rattle.ip_wire.specs.TcpItems.{Item, item};
+ghost use Rattle.ip_wire.specs.TcpSummary.{Summarizes, summary_of};
+ghost use Rattle.c_structs.specs.TcpOptions.{IsListed, ReadsItems, range_of, tcp_options_of};
 ghost use Rattle.c_structs.specs.Written.{IsRead, flag};
 
 use crate::types::{SackRange, TcpOptions};
+use byteorder::{ByteOrder, NetworkEndian};
 use ip_wire::{TcpOptionSummary, TcpPacket};
+use wire_tcp_parts::summarize;
 
 // The largest window scale (RFC 7323, section 2.3).
 const MAX_WINDOW_SCALE: u8 = 14;
+
+// The bytes of a timestamp and of two more.
+const STAMP_LIST_LEN: usize = 12;
+
+// The kind and the length of a timestamp, and two bytes of no operation before them.
+const STAMP: u32 = 0x080a;
+
+const PADDED_STAMP: u32 = 0x0101_080a;
 
 impl SackRange {
     // The range in this place, or zeros.
@@ -34,12 +44,27 @@ impl TcpOptions {
             Ok(packet) => packet,
             Err(_) => return false,
         };
-        // The common case has stores of its own, which the compiler does not merge with those of a walk.
-        if packet.options().is_empty() {
+        let options = packet.options();
+        // The common cases have stores of their own, which the compiler does not merge with those of a walk.
+        if options.is_empty() {
             *self = TcpOptions::of(&TcpOptionSummary::default());
             return true;
         }
-        match packet.options_summary() {
+        match only_timestamp(options) {
+            Some(summary) => {
+                *self = TcpOptions::of(&summary);
+                true
+            }
+            None => self.read_list(options),
+        }
+    }
+
+    // Stores the options of a list. The call keeps the registers of a walk out of `read`.
+    #[inline(never)]
+    fn read_list(&mut self, options: &[u8]) -> bool
+        ensures { IsRead IsListed tcp_options_of options.now self.old self.new (pos (flag result)) }
+    {
+        match summarize(options) {
             Ok(summary) => {
                 *self = TcpOptions::of(&summary);
                 true
@@ -75,5 +100,37 @@ impl TcpOptions {
             has_window_scale: u8::from(summary.window_scale.is_some()),
             has_timestamp: u8::from(summary.timestamp.is_some()),
         }
+    }
+}
+
+// The values of a timestamp that is the only option. `None` if the list is not one of the usual two.
+#[inline(always)]
+fn only_timestamp(options: &[u8]) -> Option<TcpOptionSummary>
+    ensures { IfSome result (Summarizes options.now) }
+{
+    if options.len() != STAMP_LIST_LEN {
+        return None;
+    }
+    let first = NetworkEndian::read_u32(&options[..4]);
+    if first == PADDED_STAMP {
+        Some(timestamp_in(&options[4..12]))
+    } else if first / 65_536 == STAMP && options[10] == 0 {
+        Some(timestamp_in(&options[2..10]))
+    } else {
+        None
+    }
+}
+
+// The values of a list whose only option is a timestamp with these data.
+#[inline(always)]
+fn timestamp_in(data: &[u8]) -> TcpOptionSummary
+    requires { length data.now ≡ 8 }
+    ensures { result ≡ summary_of (item 8 data.now ∷ []) }
+{
+    let tsval = NetworkEndian::read_u32(data);
+    let tsecr = NetworkEndian::read_u32(&data[4..]);
+    TcpOptionSummary {
+        timestamp: Some((tsval, tsecr)),
+        ..TcpOptionSummary::default()
     }
 }
